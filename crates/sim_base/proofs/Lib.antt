@@ -1,0 +1,6 @@
+pub mod RootLemmas
+pub mod NumberTextLemmas
+pub mod PrintedNumbers
+pub mod Examples
+pub mod ExampleMatches
+pub mod ExampleWalks

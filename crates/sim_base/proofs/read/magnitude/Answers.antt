@@ -1,0 +1,10 @@
+use Rattle.std.proofs.Common.{arith}
+use Rattle.std.proofs.lemmas.Grind.{common_steps}
+use Rattle.sim_base.proofs.NumberTextLemmas.{magnitude_of-whole, magnitude_of-refused}
+use Rattle.sim_base.proofs.read.magnitude.Goals as goal
+
+pub returns-in_err-digits-in-Some-2-clause-value : goal.returns-in_err-digits-in-Some-2-clause-value
+returns-in_err-digits-in-Some-2-clause-value c = grind (arith, common_steps, magnitude_of-refused c.args.text.now c.in-Some.at)
+
+pub returns-in_ok-digits-in-None-clause-value : goal.returns-in_ok-digits-in-None-clause-value
+returns-in_ok-digits-in-None-clause-value c = grind (arith, common_steps, magnitude_of-whole c.args.text.now)

@@ -1,0 +1,19 @@
+-- Numbers as bytes, the lowest byte first. They stay closed, so that no proof computes with single bytes by chance.
+use Rattle.std.specs.Prelude.{ℕ, Bool, ℤ, List, [], ◌∷◌, if◌then◌else◌}
+use Rattle.std.specs.Int.{to_le_bytes, w16, w32, w64, cast_unsigned}
+
+unfoldable pub u16_bytes : ℕ → List ℕ
+u16_bytes n = to_le_bytes w16 n
+
+unfoldable pub u32_bytes : ℕ → List ℕ
+u32_bytes n = to_le_bytes w32 n
+
+unfoldable pub u64_bytes : ℕ → List ℕ
+u64_bytes n = to_le_bytes w64 n
+
+unfoldable pub i32_bytes : ℤ → List ℕ
+i32_bytes z = to_le_bytes w32 (cast_unsigned w32 z)
+
+-- one byte, 1 for yes
+abbrev pub flag_bytes : Bool → List ℕ
+flag_bytes b = (if b then 1 else 0) ∷ []

@@ -1,0 +1,72 @@
+-- What a change makes of a state.
+use Rattle.std.specs.Prelude.{ℕ, ◌+◌, false, ◌==◌, not, ℤ, List, [], ◌∷◌, ◌++◌, map, filter, fold, Option, Some, None, option_map, slice_get, if◌then◌else◌}
+use Rattle.sim_base.specs.declared.place.Point.{Point}
+use Rattle.sim_base.specs.declared.template.Template.{Template}
+use Rattle.sim_base.specs.declared.template.Arms.{Arms}
+use Rattle.sim_base.specs.declared.setup.Setup.{Setup}
+use Rattle.sim_base.specs.declared.state.Motion.{Motion}
+use Rattle.sim_base.specs.declared.state.Motion.TheVariants.{Still}
+use Rattle.sim_base.specs.declared.state.Aim.{Aim}
+use Rattle.sim_base.specs.declared.state.Row.{Row}
+use Rattle.sim_base.specs.declared.state.State.{State}
+use Rattle.sim_base.specs.declared.change.Change.{Change}
+use Rattle.sim_base.specs.declared.change.Change.TheVariants as change
+use Rattle.sim_base.specs.Rows.{target_of}
+
+-- a row with another target
+abbrev pub aimed_at : ℕ → Row → Row
+aimed_at target row = record row { attack = option_map (λ (aim : Aim). record aim { target = target }) row.attack }
+
+-- a row that stands still, if it can move at all
+abbrev pub halted : Row → Row
+halted row = record row { motion = option_map (λ (motion : Motion). Still) row.motion }
+
+-- the target becomes none, and a motion becomes still
+abbrev pub released : Row → Row
+released row = halted (aimed_at 0 row)
+
+-- the row with this id is changed
+abbrev pub with_row : ℕ → (Row → Row) → State → State
+with_row id changed state = record state { rows = map (λ row. if row.id == id then changed row else row) state.rows }
+
+-- the row leaves, and the rows whose target it was are released
+abbrev pub removed : ℕ → State → State
+removed id state =
+    record state { rows = map (λ row. if target_of row == id then released row else row) (filter (λ row. not (row.id == id)) state.rows) }
+
+-- a new row is unhurt, stands still and has no target
+abbrev pub new_row : ℕ → ℕ → Point → ℕ → Template → Row
+new_row id number p owner template =
+    record {
+      id = id;
+      template = number;
+      at = p;
+      owner = owner;
+      health = template.health;
+      motion = option_map (λ (speed : ℤ). Still) template.speed;
+      attack = option_map (λ (arms : Arms). record { target = 0; cooldown = 0; hold = false }) template.arms;
+    }
+
+-- a new row of a template that is known has the next id
+abbrev pub with_new : ℕ → Point → ℕ → Option Template → State → State
+with_new number p owner None state = state
+with_new number p owner (Some template) state =
+    record state { next = state.next + 1; rows = state.rows ++ new_row state.next number p owner template ∷ [] }
+
+abbrev pub created : Setup → State → ℕ → Point → ℕ → State
+created setup state number p owner = with_new number p owner (slice_get setup.templates number) state
+
+abbrev pub applied : Setup → State → Change → State
+applied setup state (change.Move id p) = with_row id (λ row. record row { at = p }) state
+applied setup state (change.Motion id motion) = with_row id (λ row. record row { motion = Some motion }) state
+applied setup state (change.Attack id aim) = with_row id (λ row. record row { attack = Some aim }) state
+applied setup state (change.Health id health) = with_row id (λ row. record row { health = Some health }) state
+applied setup state (change.Owner id owner) = with_row id (λ row. record row { owner = owner }) state
+applied setup state (change.Remove id) = removed id state
+applied setup state (change.Create number p owner) = created setup state number p owner
+applied setup state (change.Word word) = record state { word = word }
+applied setup state change.Tick = record state { turn = state.turn + 1 }
+
+-- changes are made in order
+abbrev pub applied_all : Setup → State → List Change → State
+applied_all setup = fold (applied setup)

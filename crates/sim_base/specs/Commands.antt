@@ -1,0 +1,100 @@
+-- What a command of a player makes of a state. A command whose condition fails leaves it.
+use Rattle.std.specs.Prelude.{ℕ, Bool, true, false, ◌&&◌, nat_lt, ◌==◌, List, [], length, map, filter, fold, Option, Some, None, is_some, is_none, slice_get, if◌then◌else◌}
+use Rattle.std.specs.List.{list_any}
+use Rattle.sim_base.specs.declared.place.Point.{Point}
+use Rattle.sim_base.specs.declared.place.Cell.{Cell}
+use Rattle.sim_base.specs.declared.template.Template.{Template}
+use Rattle.sim_base.specs.declared.template.Base.{Base}
+use Rattle.sim_base.specs.declared.command.Command.{Command}
+use Rattle.sim_base.specs.declared.command.Command.TheVariants.{Walk, Stop, Attack, Delete, Place, Train, Resign}
+use Rattle.sim_base.specs.declared.command.PlayerCommand.{PlayerCommand}
+use Rattle.sim_base.specs.declared.setup.Setup.{Setup}
+use Rattle.sim_base.specs.declared.state.Motion.{Motion}
+use Rattle.sim_base.specs.declared.state.Motion.TheVariants.{Going}
+use Rattle.sim_base.specs.declared.state.Aim.{Aim}
+use Rattle.sim_base.specs.declared.state.Row.{Row}
+use Rattle.sim_base.specs.declared.state.State.{State}
+use Rattle.sim_base.specs.Places.{is_inside, rect_of, centre_of}
+use Rattle.sim_base.specs.Rows.{id_of, row_of, template_of, size_of, in_mask, enemies_of}
+use Rattle.sim_base.specs.Filters.{is_free_rect, population, spot}
+use Rattle.sim_base.specs.Changes.{aimed_at, halted, released, removed, created}
+
+-- a row is ordered where the commander owns it and its id is among those named, however often
+abbrev pub is_ordered : ℕ → List ℕ → Row → Bool
+is_ordered player ids row = row.owner == player && list_any (λ id. id == row.id) ids
+
+-- each row that is ordered is changed
+abbrev pub with_ordered : ℕ → List ℕ → (Row → Row) → State → State
+with_ordered player ids changed state =
+    record state { rows = map (λ row. if is_ordered player ids row then changed row else row) state.rows }
+
+-- a row that can move goes to a point, by a way that is still to be asked, and forgets its target
+abbrev pub sent : Point → Row → Row
+sent p row = sent_by p row row.motion
+  where
+    sent_by : Point → Row → Option Motion → Row
+    sent_by p row None = row
+    sent_by p row (Some motion) = record (aimed_at 0 row) { motion = Some (Going p [] false) }
+
+-- a row that can attack takes a target, and stands still
+abbrev pub set_on : ℕ → Row → Row
+set_on target row = set_on_by target row row.attack
+  where
+    set_on_by : ℕ → Row → Option Aim → Row
+    set_on_by target row None = row
+    set_on_by target row (Some aim) = halted (aimed_at target row)
+
+-- a row that may be attacked: it has health, and its owner is an enemy
+abbrev pub is_enemy : Setup → ℕ → Option Row → Bool
+is_enemy setup player None = false
+is_enemy setup player (Some row) = is_some row.health && in_mask (enemies_of setup player) row.owner
+
+-- a new row may be made for a player
+abbrev pub has_room : Setup → State → ℕ → Bool
+has_room setup state player =
+    nat_lt (length state.rows) 4096 && nat_lt state.next 0x20000000 && nat_lt (population state player) setup.cap
+
+-- an obstruction may be placed: its rectangle is free
+abbrev pub is_placeable : Setup → State → Point → Option Template → Bool
+is_placeable setup state p None = false
+is_placeable setup state p (Some template) = has_free_base template.obstruct
+  where
+    has_free_base : Option Base → Bool
+    has_free_base None = false
+    has_free_base (Some base) = is_inside (size_of setup.land) p && is_free_rect setup state (rect_of p base.width base.depth)
+
+-- the building trains templates of this number, and these are no obstructions
+abbrev pub trains : Option Template → ℕ → Option Template → Bool
+trains (Some building) number (Some template) = lists number building.train && is_none template.obstruct
+  where
+    lists : ℕ → Option (List ℕ) → Bool
+    lists number None = false
+    lists number (Some numbers) = list_any (λ n. n == number) numbers
+trains None number template = false
+trains (Some building) number None = false
+
+abbrev pub placed_on : Setup → State → ℕ → ℕ → Option Cell → State
+placed_on setup state player number None = state
+placed_on setup state player number (Some c) = created setup state number (centre_of c) player
+
+-- a building trains a new row beside itself
+abbrev pub trained : Setup → State → ℕ → ℕ → Option Row → State
+trained setup state player number None = state
+trained setup state player number (Some building) = trained_if (building.owner == player && trains (template_of setup building) number (slice_get setup.templates number) && has_room setup state player)
+  where
+    trained_if : Bool → State
+    trained_if false = state
+    trained_if true = placed_on setup state player number (spot setup state building.at)
+
+abbrev pub commanded_by : Setup → State → ℕ → Command → State
+commanded_by setup state player (Walk ids p) = if is_inside (size_of setup.land) p then with_ordered player ids (sent p) state else state
+commanded_by setup state player (Stop ids) = with_ordered player ids released state
+commanded_by setup state player (Attack ids target) = if is_enemy setup player (row_of state target) then with_ordered player ids (set_on target) state else state
+commanded_by setup state player (Delete ids) = fold (λ s id. removed id s) state (map id_of (filter (is_ordered player ids) state.rows))
+commanded_by setup state player (Place number p) =
+    if is_placeable setup state p (slice_get setup.templates number) && has_room setup state player then created setup state number p player else state
+commanded_by setup state player (Train building number) = trained setup state player number (row_of state building)
+commanded_by setup state player Resign = record state { rows = map (λ (row : Row). if row.owner == player then record row { owner = 0 } else row) state.rows }
+
+abbrev pub commanded : Setup → State → PlayerCommand → State
+commanded setup state order = commanded_by setup state order.player order.command

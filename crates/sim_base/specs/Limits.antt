@@ -1,0 +1,102 @@
+-- The limits that the setup of every match meets.
+use Rattle.std.specs.Prelude.{◌≡◌, ◌≢◌, ℕ, ◌+◌, ◌^◌, ◌<◌, ◌≤◌, Bool, false, ◌&&◌, ◌==◌, IsTrue, ℤ, pos, ◌≤ℤ◌, List, length, map, count_by, All, AllPairs, EachIndex, IfSome, IsSome, IsNone, slice_index}
+use Rattle.std.specs.List.Sorted.{IsNonDecreasing}
+use Rattle.sim_base.specs.declared.place.Rect.{Rect}
+use Rattle.sim_base.specs.declared.template.Template.{Template}
+use Rattle.sim_base.specs.declared.template.Resist.{Resist}
+use Rattle.sim_base.specs.declared.template.Arms.{Arms}
+use Rattle.sim_base.specs.declared.template.Base.{Base}
+use Rattle.sim_base.specs.declared.command.Command.{Command}
+use Rattle.sim_base.specs.declared.command.Command.TheVariants.{Walk, Stop, Attack, Delete, Place, Train, Resign}
+use Rattle.sim_base.specs.declared.setup.Land.{Land}
+use Rattle.sim_base.specs.declared.setup.First.{First}
+use Rattle.sim_base.specs.declared.setup.Timed.{Timed}
+use Rattle.sim_base.specs.declared.setup.Setup.{Setup}
+use Rattle.sim_base.specs.Names.{is_name}
+use Rattle.sim_base.specs.Places.{is_inside, is_rect_inside}
+use Rattle.sim_base.specs.Rows.{size_of, in_mask}
+
+abbrev pub IsFrom : ℕ → ℕ → ℕ → Type 0
+IsFrom low high n = (low ≤ n) × (n ≤ high)
+
+abbrev pub IsRawFrom : ℕ → ℕ → ℤ → Type 0
+IsRawFrom low high raw = (pos low ≤ℤ raw) × (raw ≤ℤ pos high)
+
+pub record IsClosed (land : Land) (r : Rect) : Type 0 where
+  pub ordered_x : r.x0 ≤ℤ r.x1
+  pub ordered_z : r.z0 ≤ℤ r.z1
+  pub inside : IsTrue (is_rect_inside (size_of land) r)
+
+-- a mask has bits for owners alone, and none for its own owner
+pub record IsMask (owners owner mask : ℕ) : Type 0 where
+  pub owners_alone : mask < 2 ^ owners
+  pub not_itself : in_mask mask owner ≡ false
+
+pub record IsLand (land : Land) : Type 0 where
+  pub width : IsFrom 1 256 land.width
+  pub depth : IsFrom 1 256 land.depth
+  pub few_closed : length land.closed ≤ 4096
+  pub closed : All (IsClosed land) land.closed
+  pub players : IsFrom 2 9 (length land.masks)
+  pub gaia : slice_index land.masks 0 ≡ 0
+  pub masks : EachIndex land.masks (λ owner. IsMask (length land.masks) owner (slice_index land.masks owner))
+
+pub record IsArms (arms : Arms) : Type 0 where
+  pub hack : IsRawFrom 0 65536000 arms.harm.hack
+  pub pierce : IsRawFrom 0 65536000 arms.harm.pierce
+  pub crush : IsRawFrom 0 65536000 arms.harm.crush
+  pub range : IsRawFrom 0 16777216 arms.range
+  pub vision : IsRawFrom 0 16777216 arms.vision
+  pub repeat : arms.repeat ≤ 1000
+  pub accuracy : arms.accuracy ≤ 100
+
+-- a template of a match that has so many
+pub record IsTemplate (count : ℕ) (t : Template) : Type 0 where
+  pub name : IsTrue (is_name t.name)
+  pub health : IfSome t.health (IsRawFrom 1 1048576000)
+  pub resist : (t.resist.hack ≤ 40) × (t.resist.pierce ≤ 40) × (t.resist.crush ≤ 40)
+  pub speed : IfSome t.speed (IsRawFrom 5 6553600)
+  pub obstruct : IfSome t.obstruct (λ base. IsFrom 1 16 base.width × IsFrom 1 16 base.depth)
+  pub arms : IfSome t.arms IsArms
+  pub train : IfSome t.train (λ numbers. (length numbers ≤ 64) × All (λ n. n < count) numbers)
+  pub moves_or_obstructs : IsSome t.speed → IsNone t.obstruct
+
+pub record IsFirst (setup : Setup) (first : First) : Type 0 where
+  pub template : first.template < length setup.templates
+  pub owner : first.owner ≤ setup.players
+  pub at : IsTrue (is_inside (size_of setup.land) first.at)
+
+-- how many entities a command names at most
+abbrev pub HasFewIds : Command → Type 0
+HasFewIds (Walk ids to) = length ids ≤ 256
+HasFewIds (Stop ids) = length ids ≤ 256
+HasFewIds (Attack ids target) = length ids ≤ 256
+HasFewIds (Delete ids) = length ids ≤ 256
+HasFewIds (Place template at) = Unit {0}
+HasFewIds (Train building template) = Unit {0}
+HasFewIds Resign = Unit {0}
+
+pub record IsTimed (setup : Setup) (timed : Timed) : Type 0 where
+  pub turn : IsFrom 1 setup.turns timed.turn
+  pub player : IsFrom 1 setup.players timed.order.player
+  pub ids : HasFewIds timed.order.command
+
+abbrev pub is_given : ℕ → ℕ → Timed → Bool
+is_given turn player timed = timed.turn == turn && timed.order.player == player
+
+pub record IsSetup (setup : Setup) : Type 0 where
+  pub id : length setup.id ≡ 16
+  pub land : IsLand setup.land
+  pub players : setup.players + 1 ≡ length setup.land.masks
+  pub cap : setup.cap ≤ 4096
+  pub delay : IsFrom 1 8 setup.delay
+  pub turns : setup.turns ≤ 65535
+  pub seed : setup.seed < 2 ^ 48
+  pub few_templates : length setup.templates ≤ 256
+  pub templates : All (IsTemplate (length setup.templates)) setup.templates
+  pub names : AllPairs (λ a b. a ≢ b) (map (λ (t : Template). t.name) setup.templates)
+  pub few_first : length setup.first ≤ 4096
+  pub first : All (IsFirst setup) setup.first
+  pub commands : All (IsTimed setup) setup.commands
+  pub in_order : IsNonDecreasing (map (λ (timed : Timed). timed.turn) setup.commands)
+  pub not_crowded : (turn player : ℕ) → count_by (is_given turn player) setup.commands ≤ 64

@@ -1,0 +1,83 @@
+-- The phase in which rows move. Each is moved by the one state before the phase.
+use Rattle.std.specs.Prelude.{ℕ, ◌-◌, ◌/◌, Bool, true, false, ◌&&◌, nat_le, ℤ, pos, ◌+ℤ◌, ◌-ℤ◌, ◌*ℤ◌, int_div, unsigned_abs, List, [], ◌∷◌, map, Option, Some, None, if◌then◌else◌}
+use Rattle.std.specs.Ordering.{int_eq}
+use Rattle.sim_base.specs.declared.place.Point.{Point}
+use Rattle.sim_base.specs.declared.template.Arms.{Arms}
+use Rattle.sim_base.specs.declared.setup.Setup.{Setup}
+use Rattle.sim_base.specs.declared.state.Motion.{Motion}
+use Rattle.sim_base.specs.declared.state.Motion.TheVariants.{Still, Going}
+use Rattle.sim_base.specs.declared.state.Row.{Row}
+use Rattle.sim_base.specs.declared.state.State.{State}
+use Rattle.sim_base.specs.Numbers.{root}
+use Rattle.sim_base.specs.Places.{square}
+use Rattle.sim_base.specs.Ways.{Way}
+use Rattle.sim_base.specs.WayOf.{way_of}
+use Rattle.sim_base.specs.Rows.{row_of, target_of, speed_of, arms_of}
+use Rattle.sim_base.specs.Filters.{field_of, is_near}
+
+abbrev pub same_point : Point → Point → Bool
+same_point p q = int_eq p.x q.x && int_eq p.z q.z
+
+-- on its way to a point: one that goes just there goes on, any other asks a way
+abbrev pub headed : Point → Motion → Motion
+headed p Still = Going p [] false
+headed p (Going goal way whole) = if same_point goal p then Going goal way whole else Going p [] false
+
+-- a fighter stands still where its target is in range, and else goes after it
+abbrev pub chasing : Row → Motion → Option Row → Option Arms → Motion
+chasing row motion (Some target) (Some arms) = if is_near target.at row.at arms.range then Still else headed target.at motion
+chasing row motion (Some target) None = motion
+chasing row motion None arms = motion
+
+-- each coordinate changes by its share of the budget, truncated towards zero
+abbrev pub toward : Point → Point → ℕ → ℕ → Point
+toward p q budget distance =
+    record {
+      x = p.x +ℤ int_div ((q.x -ℤ p.x) *ℤ pos budget) (pos distance);
+      z = p.z +ℤ int_div ((q.z -ℤ p.z) *ℤ pos budget) (pos distance);
+    }
+
+-- where a row has come to, and the waypoints that are left
+pub record Walked : Type 0 where
+  pub at : Point
+  pub way : List Point
+
+-- waypoints are reached as far as the budget goes, and the rest of it leads toward the next one
+abbrev pub walked : Point → ℕ → List Point → Walked
+walked p budget [] = record { at = p; way = [] }
+walked p budget (q ∷ way) =
+    let distance = root (square p q) in
+    if nat_le distance budget then walked q (budget - distance) way else record { at = toward p q budget distance; way = q ∷ way }
+
+-- at the end of a whole way a row stands still, and at the end of another it asks again in the next turn
+abbrev pub after_walk : Point → Bool → List Point → Motion
+after_walk goal true [] = Still
+after_walk goal false [] = Going goal [] false
+after_walk goal whole (q ∷ way) = Going goal (q ∷ way) whole
+
+abbrev pub along : Row → ℕ → Point → List Point → Bool → Row
+along row budget goal way whole =
+    let w = walked row.at budget way in
+    record row { at = w.at; motion = Some (after_walk goal whole w.way) }
+
+-- a row whose way leads nowhere stands still
+abbrev pub along_found : Row → ℕ → Point → List Point → Bool → Row
+along_found row budget goal [] whole = record row { motion = Some Still }
+along_found row budget goal (q ∷ way) whole = along row budget goal (q ∷ way) whole
+
+-- a row that goes without a way asks one
+abbrev pub moved_by : Setup → State → Row → ℕ → Motion → Row
+moved_by setup state row budget Still = record row { motion = Some Still }
+moved_by setup state row budget (Going goal [] false) = let way = way_of (field_of setup state) row.at goal in along_found row budget goal way.points way.whole
+moved_by setup state row budget (Going goal [] true) = along row budget goal [] true
+moved_by setup state row budget (Going goal (q ∷ way) whole) = along row budget goal (q ∷ way) whole
+
+-- a turn is a fifth of a second
+abbrev pub moved_row : Setup → State → Row → Option Motion → Option ℤ → Row
+moved_row setup state row (Some motion) (Some speed) =
+    moved_by setup state row (unsigned_abs speed / 5) (chasing row motion (row_of state (target_of row)) (arms_of setup row))
+moved_row setup state row (Some motion) None = row
+moved_row setup state row None speed = row
+
+abbrev pub moved : Setup → State → State
+moved setup state = record state { rows = map (λ row. moved_row setup state row row.motion (speed_of setup row)) state.rows }

@@ -1,0 +1,55 @@
+-- What is read of a row, by itself and beside its template.
+use Rattle.std.specs.Prelude.{ℕ, ◌/◌, ◌%◌, ◌^◌, Bool, true, false, ◌==◌, ℤ, List, find, Option, Some, None, option_map, option_and_then, unwrap_or, slice_get, slice_index}
+use Rattle.sim_base.specs.declared.place.Rect.{Rect}
+use Rattle.sim_base.specs.declared.template.Template.{Template}
+use Rattle.sim_base.specs.declared.template.Arms.{Arms}
+use Rattle.sim_base.specs.declared.template.Base.{Base}
+use Rattle.sim_base.specs.declared.setup.Land.{Land}
+use Rattle.sim_base.specs.declared.setup.Setup.{Setup}
+use Rattle.sim_base.specs.declared.state.Motion.{Motion}
+use Rattle.sim_base.specs.declared.state.Motion.TheVariants.{Still, Going}
+use Rattle.sim_base.specs.declared.state.Aim.{Aim}
+use Rattle.sim_base.specs.declared.state.Row.{Row}
+use Rattle.sim_base.specs.declared.state.State.{State}
+use Rattle.sim_base.specs.Places.{Size, rect_of}
+
+abbrev pub id_of : Row → ℕ
+id_of row = row.id
+
+-- whom a row attacks, or 0
+abbrev pub target_of : Row → ℕ
+target_of row = unwrap_or (option_map (λ (aim : Aim). aim.target) row.attack) 0
+
+abbrev pub is_going : Option Motion → Bool
+is_going None = false
+is_going (Some Still) = false
+is_going (Some (Going goal way whole)) = true
+
+-- the row with this id, if it is alive
+abbrev pub row_of : State → ℕ → Option Row
+row_of state id = find (λ row. row.id == id) state.rows
+
+abbrev pub template_of : Setup → Row → Option Template
+template_of setup row = slice_get setup.templates row.template
+
+abbrev pub speed_of : Setup → Row → Option ℤ
+speed_of setup row = option_and_then (λ (t : Template). t.speed) (template_of setup row)
+
+abbrev pub arms_of : Setup → Row → Option Arms
+arms_of setup row = option_and_then (λ (t : Template). t.arms) (template_of setup row)
+
+-- where a row lies, if it is an obstruction
+abbrev pub rect_of_row : Setup → Row → Option Rect
+rect_of_row setup row =
+    option_map (λ (base : Base). rect_of row.at base.width base.depth) (option_and_then (λ (t : Template). t.obstruct) (template_of setup row))
+
+abbrev pub size_of : Land → Size
+size_of land = record { width = land.width; depth = land.depth }
+
+-- bit p of a mask stands for owner p
+abbrev pub in_mask : ℕ → ℕ → Bool
+in_mask mask owner = mask / 2 ^ owner % 2 == 1
+
+-- the enemies of an owner, as a mask
+abbrev pub enemies_of : Setup → ℕ → ℕ
+enemies_of setup owner = slice_index setup.land.masks owner

@@ -1,0 +1,74 @@
+-- A turn, and what a match has come to after a past.
+use Rattle.std.specs.Prelude.{ℕ, zero, suc, ◌+◌, Bool, true, false, ◌&&◌, ◌==◌, ℤ, pos, int_le, List, [], ◌∷◌, map, filter, fold, Option, Some, None, option_and_then, if◌then◌else◌}
+use Rattle.sim_base.specs.declared.template.Template.{Template}
+use Rattle.sim_base.specs.declared.command.PlayerCommand.{PlayerCommand}
+use Rattle.sim_base.specs.declared.setup.First.{First}
+use Rattle.sim_base.specs.declared.setup.Timed.{Timed}
+use Rattle.sim_base.specs.declared.setup.Setup.{Setup}
+use Rattle.sim_base.specs.declared.state.Row.{Row}
+use Rattle.sim_base.specs.declared.state.State.{State}
+use Rattle.sim_base.specs.Rows.{row_of, template_of}
+use Rattle.sim_base.specs.Changes.{with_row, created}
+use Rattle.sim_base.specs.Commands.{commanded}
+use Rattle.sim_base.specs.Aim.{aimed}
+use Rattle.sim_base.specs.Move.{moved}
+use Rattle.sim_base.specs.Hit.{hit, gone}
+
+-- the entities of the match file are made one by one, with ids from 2
+abbrev pub first_state : Setup → State
+first_state setup =
+    fold (λ s (first : First). created setup s first.template first.at first.owner) (record { turn = 0; next = 2; word = setup.seed; rows = [] }) setup.first
+
+abbrev pub ticked : State → State
+ticked state = record state { turn = state.turn + 1 }
+
+-- the commands in order, and then the phases
+abbrev pub turn : Setup → State → List PlayerCommand → State
+turn setup state orders = ticked (gone (hit setup (moved setup (aimed setup (fold (commanded setup) state orders)))))
+
+-- something that happened to a match: a turn with its commands, or an entity's health bent
+pub data Item : Type 0 where
+  Turn : List PlayerCommand → Item
+  Bend : ℕ → ℤ → Item
+
+-- what happened, the newest first
+abbrev pub Past : Type 0
+Past = List Item
+
+abbrev pub is_health_of : ℤ → Option ℤ → Option ℤ → Bool
+is_health_of health (Some old) (Some most) = int_le (pos 1) health && int_le health most
+is_health_of health (Some old) None = false
+is_health_of health None most = false
+
+-- a bend is enabled where the entity is alive with health, and may have the new one
+abbrev pub may_bend : Setup → ℤ → Option Row → Bool
+may_bend setup health None = false
+may_bend setup health (Some row) = is_health_of health row.health (option_and_then (λ (t : Template). t.health) (template_of setup row))
+
+abbrev pub bent : Setup → State → ℕ → ℤ → State
+bent setup state id health = if may_bend setup health (row_of state id) then with_row id (λ row. record row { health = Some health }) state else state
+
+abbrev pub happened : Setup → State → Item → State
+happened setup state (Turn orders) = turn setup state orders
+happened setup state (Bend id health) = bent setup state id health
+
+-- a state after what happened since
+abbrev pub from : Setup → State → Past → State
+from setup state [] = state
+from setup state (item ∷ past) = happened setup (from setup state past) item
+
+abbrev pub after : Setup → Past → State
+after setup = from setup (first_state setup)
+
+abbrev pub is_turn : Item → Bool
+is_turn (Turn orders) = true
+is_turn (Bend id health) = false
+
+-- the commands of a list that are given in a turn, in its order
+abbrev pub orders_at : ℕ → List Timed → List PlayerCommand
+orders_at t timeds = map (λ (timed : Timed). timed.order) (filter (λ (timed : Timed). timed.turn == t) timeds)
+
+-- so many turns of the match file above a turn
+abbrev pub own_turns : Setup → ℕ → ℕ → Past
+own_turns setup start zero = []
+own_turns setup start (suc n) = Turn (orders_at (start + suc n) setup.commands) ∷ own_turns setup start n

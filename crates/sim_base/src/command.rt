@@ -1,0 +1,98 @@
+//! The seven commands that a player may give.
+
+ghost use Rattle.std.specs.Prelude.{◌≡◌, IfOk};
+
+use crate::items::Ids;
+use crate::memory::OutOfMemory;
+use crate::place::Point;
+
+/// What a player orders: entities by their ids, and a point, a target or a template by its number.
+#[derive(Debug, Drop)]
+pub enum Command {
+    Walk { ids: Ids, to: Point },
+    Stop { ids: Ids },
+    Attack { ids: Ids, target: u32 },
+    Delete { ids: Ids },
+    Place { template: u16, at: Point },
+    Train { building: u32, template: u16 },
+    Resign,
+}
+
+impl Command {
+    /// The same command, in memory of its own.
+    pub fn copy(&self) -> Result<Command, OutOfMemory>
+        ensures { IfOk result (λ copied. copied ≡ self.now) }
+    {
+        match self {
+            Command::Walk { ids, to } => Ok(Command::Walk {
+                ids: ids.copy()?,
+                to: *to,
+            }),
+            Command::Stop { ids } => Ok(Command::Stop { ids: ids.copy()? }),
+            Command::Attack { ids, target } => Ok(Command::Attack {
+                ids: ids.copy()?,
+                target: *target,
+            }),
+            Command::Delete { ids } => Ok(Command::Delete { ids: ids.copy()? }),
+            Command::Place { template, at } => Ok(Command::Place {
+                template: *template,
+                at: *at,
+            }),
+            Command::Train { building, template } => Ok(Command::Train {
+                building: *building,
+                template: *template,
+            }),
+            Command::Resign => Ok(Command::Resign),
+        }
+    }
+}
+
+/// A command and the player who gives it, from 1 to 8.
+#[derive(Debug, Drop)]
+pub struct PlayerCommand {
+    pub player: u8,
+    pub command: Command,
+}
+
+impl PlayerCommand {
+    /// The same, in memory of its own.
+    pub fn copy(&self) -> Result<PlayerCommand, OutOfMemory>
+        ensures { IfOk result (λ copied. copied ≡ self.now) }
+    {
+        Ok(PlayerCommand {
+            player: self.player,
+            command: self.command.copy()?,
+        })
+    }
+}
+
+#[cfg(test)]
+mod tests {
+    use super::*;
+    use crate::fixed::Fixed;
+    use crate::items::Items;
+    use std::test::Fail;
+
+    #[test]
+    fn copies(rt: HostRuntime) -> Result<(), Fail> {
+        let at = Point {
+            x: Fixed::from_raw(65536),
+            z: Fixed::from_raw(-1),
+        };
+        let ids = Items::from_items(vec![in rt.alloc(); 2, 3]?);
+        let walk = PlayerCommand {
+            player: 1,
+            command: Command::Walk { ids, to: at },
+        };
+        let place = Command::Place { template: 4, at };
+        assert_eq!(rt;
+            format!(in rt.alloc(); "{:?}", walk.copy()?)?.as_str(),
+            "PlayerCommand { player: 1, command: Walk { ids: Items { items: [2, 3] }, to: Point { x: Fixed(65536), z: Fixed(-1) } } }"
+        );
+        assert_eq!(rt;
+            format!(in rt.alloc(); "{:?}", place.copy()?)?.as_str(),
+            "Place { template: 4, at: Point { x: Fixed(65536), z: Fixed(-1) } }"
+        );
+        Ok(())
+    }
+}

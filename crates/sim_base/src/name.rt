@@ -1,0 +1,86 @@
+//! Names of templates, of their parts and of the children of a tree: short words of printed ASCII, which need no
+//! quotes in any text of the program.
+
+ghost use Rattle.std.specs.Prelude.{◌≡◌, true, false, IsTrue, IfOk, MatchOption};
+ghost use Rattle.std.specs.List.{list_all};
+ghost use Rattle.sim_base.specs.Names.{is_name, is_name_byte};
+
+use crate::memory::OutOfMemory;
+use std::alloc::Global;
+use std::marker::Model;
+
+/// A word of 1 to 64 bytes from 0x21 to 0x7E, which contracts see as its bytes.
+#[derive(Debug, Drop)]
+pub struct Name {
+    text: String,
+}
+
+impl Model for Name {
+    ghost use Rattle.std.specs.Prelude.{List, ℕ, IsTrue, string_bytes};
+    ghost use Rattle.sim_base.specs.Names.{is_name};
+
+    ghost Value = { List ℕ };
+
+    ghost view = { λ name. string_bytes name.text };
+
+    ghost invariant = { λ name. IsTrue (is_name (string_bytes name.text)) };
+}
+
+impl Name {
+    /// The name that this text is, or None where it is none.
+    pub fn of(alloc: Global, text: &str) -> Result<Option<Name>, OutOfMemory>
+        ensures { IfOk result (λ found.
+            MatchOption found (is_name text.now ≡ false) (λ name. (is_name text.now ≡ true) × (name ≡ text.now))) }
+    {
+        if !is_name_text(text.as_bytes()) {
+            return Ok(None);
+        }
+        Ok(Some(Name {
+            text: String::from_str(alloc, text)?,
+        }))
+    }
+
+    /// Lends the text.
+    pub fn text(&self) -> &str
+        ensures bytes { result.now ≡ self.now }
+        ensures is_name { IsTrue (is_name self.now) }
+    {
+        self.text.as_str()
+    }
+}
+
+fn is_name_text(bytes: &[u8]) -> bool
+    ensures { result ≡ is_name bytes.now }
+{
+    1 <= bytes.len() && bytes.len() <= 64 && are_name_bytes(bytes)
+}
+
+fn are_name_bytes(bytes: &[u8]) -> bool
+    ensures { result ≡ list_all is_name_byte bytes.now }
+{
+    bytes.iter().all(|byte| byte.is_ascii_graphic())
+}
+
+#[cfg(test)]
+mod tests {
+    use super::*;
+    use std::test::Fail;
+
+    // 64 bytes.
+    const LONGEST: &str = "0123456789abcdef0123456789abcdef0123456789abcdef0123456789abcdef";
+
+    #[test]
+    fn names(rt: HostRuntime) -> Result<(), Fail> {
+        for text in ["a", "units/infantry", "!~", LONGEST] {
+            match Name::of(rt.alloc(), text)? {
+                Some(name) => assert_eq!(rt; name.text(), text),
+                None => panic!(rt; "no name: {text}"),
+            }
+        }
+        let longer = format!(in rt.alloc(); "{LONGEST}0")?;
+        for text in ["", "two words", "a\n", "a\x7F", "\u{e9}", longer.as_str()] {
+            assert!(rt; Name::of(rt.alloc(), text)?.is_none(), "at {text}");
+        }
+        Ok(())
+    }
+}

@@ -1,0 +1,12 @@
+-- Which texts are hexadecimal.
+use Rattle.std.specs.Prelude.{◌≡◌, ℕ, ◌%◌, Bool, ◌&&◌, ◌||◌, nat_le, IsTrue, List, length}
+use Rattle.std.specs.List.{list_all}
+
+-- one of 0 to 9 and a to f
+abbrev pub is_digit : ℕ → Bool
+is_digit c = (nat_le 48 c && nat_le c 57) || (nat_le 97 c && nat_le c 102)
+
+-- pairs of digits
+pub record IsHex (text : List ℕ) : Type 0 where
+  pub pairs : length text % 2 ≡ 0
+  pub digits : IsTrue (list_all is_digit text)

@@ -1,0 +1,10 @@
+-- The clock has sixteen bytes.
+use Rattle.std.proofs.Common.{◌≡◌, ◌++◌, length, arith, length-append}
+use Rattle.sim_base.specs.declared.state.State.{State}
+use Rattle.sim_base.specs.Bytes.{u32_bytes, u64_bytes}
+use Rattle.sim_base.specs.Spelling.{clock_bytes}
+use Rattle.sim_bytes.specs.Numbers.{length-u32_bytes, length-u64_bytes}
+
+pub length-clock_bytes : (s : State) → length (clock_bytes s) ≡ 16
+length-clock_bytes s =
+    omega (arith, length-append (u32_bytes s.turn) (u32_bytes s.next ++ u64_bytes s.word), length-append (u32_bytes s.next) (u64_bytes s.word), length-u32_bytes s.turn, length-u32_bytes s.next, length-u64_bytes s.word)

@@ -1,0 +1,10 @@
+pub mod Checked
+pub mod Places
+pub mod Told
+pub mod Fits
+pub mod Back
+pub mod Loop
+pub mod Standing
+pub mod Clock
+pub mod OfEntity
+pub mod ShortWays

@@ -1,0 +1,7 @@
+-- The clock has room in the buffer.
+use Rattle.std.proofs.Common.{[], Some, ap, arith}
+use Rattle.sim_codec.proofs.Clock.{length-clock_bytes}
+use Rattle.sim_codec.proofs.bits.bits_of_clock.Goals as goal
+
+pub returns : goal.returns
+returns c = ap Some (c.in-Ok.ensures [] [] (λ _. c.new-buffer.ensures) (omega (arith, length-clock_bytes c.args.state.now)))

@@ -1,0 +1,6 @@
+-- The two clauses are the lemmas of short ways and few rows.
+use Rattle.sim_codec.proofs.ShortWays.{short_ways, few_rows}
+use Rattle.sim_codec.proofs.laws.states_can_be_told.Goals as goal
+
+pub returns : goal.returns
+returns c = record { short = short_ways; few = few_rows }

@@ -1,0 +1,8 @@
+-- The hasher holds what it was told.
+use Rattle.std.proofs.Common.{[]}
+use Rattle.sim_base.specs.Spelling.{digest}
+use Rattle.sim_codec.proofs.spelling.digest.Goals as goal
+
+pub returns : goal.returns
+unfolding digest
+returns c = c.finalize.ensures _ (c.in-Ok.ensures [] [] c.new-hasher.ensures)

@@ -1,0 +1,6 @@
+-- The rows so far passed.
+use Rattle.std.proofs.Common.{◌≤◌, ◌<◌, All, take}
+use Rattle.sim_codec.proofs.validity.are_ids_below.Given as goal
+
+abbrev pub invariant-loop-row : goal.invariant-loop-row
+invariant-loop-row l = All (λ row. (2 ≤ row.id) × (row.id < l.next)) (take l.row-index l.rows)

@@ -1,0 +1,181 @@
+//! The bytes of one entity in one section. Two states are compared by them, entity by entity and part by part.
+
+ghost use Rattle.std.specs.Prelude.{◌≡◌, ◌≤◌, [], All, length, map, Some, None, option_map};
+ghost use Rattle.sim_base.specs.Spelling.{clock_bytes};
+ghost use Rattle.std.specs.List.Sorted.{IsStrictlyIncreasing};
+ghost use Rattle.sim_base.specs.Rows.{id_of};
+ghost use Rattle.sim_sections.specs.Rows.{HasShortWay};
+ghost use Rattle.sim_codec.specs.Bits.{bits, clock_bits, row_bits};
+
+use crate::look_up::place_of;
+use crate::spelling::tell_clock;
+use sim_base::{Row, State};
+use sim_bytes::ByteSink;
+use sim_sections::{AttackRow, EntityRow, HealthRow, MotionRow, OwnerRow, PositionRow, RowForm};
+use std::convert::Infallible;
+use std::marker::Model;
+
+/// What may be said of an entity: a section, or the clock, which entity 1 has in place of a row.
+#[derive(Clone, Copy, Debug, PartialEq, Eq)]
+pub enum Part {
+    Clock,
+    Entity,
+    Position,
+    Owner,
+    Health,
+    Motion,
+    Attack,
+}
+
+// A list of at most 527 bytes in place, which is as many as a row of a section has. What does not fit is passed over.
+#[derive(Drop)]
+struct Buffer {
+    bytes: [u8; 527],
+    count: usize,
+}
+
+impl Model for Buffer {
+    ghost use Rattle.std.specs.Prelude.{List, ℕ, ◌≤◌, take};
+
+    ghost Value = { List ℕ };
+
+    ghost view = { λ buffer. take buffer.count buffer.bytes };
+
+    ghost invariant = { λ buffer. buffer.count ≤ 527 };
+}
+
+impl Buffer {
+    fn new() -> Buffer
+        ensures { result ≡ [] }
+    {
+        Buffer {
+            bytes: [0; 527],
+            count: 0,
+        }
+    }
+
+    fn bytes(&self) -> &[u8]
+        ensures { result.now ≡ self.now }
+    {
+        &self.bytes[..self.count]
+    }
+}
+
+impl ByteSink for Buffer {
+    type Fault = Infallible;
+
+    ghost use Rattle.std.specs.Prelude.{◌≡◌, ◌≤◌, length};
+
+    ghost holds = { λ buffer about told. length told ≤ 527 → buffer ≡ told };
+
+    fn tell(&mut self, bytes: &[u8]) -> Result<(), Infallible> {
+        if bytes.len() <= 527 - self.count {
+            let end = self.count + bytes.len();
+            self.bytes[self.count..end].copy_from_slice(bytes);
+            self.count = end;
+        }
+        Ok(())
+    }
+}
+
+/// The bytes of an entity in a section, at most 527 in place, or that it has none there.
+#[derive(Drop)]
+pub struct Bits {
+    found: Option<Buffer>,
+}
+
+impl Model for Bits {
+    ghost use Rattle.std.specs.Prelude.{List, ℕ, Option};
+
+    ghost Value = { Option (List ℕ) };
+
+    ghost view = { λ bits. bits.found };
+}
+
+impl Bits {
+    /// The bytes, or None where the entity has none in the section.
+    pub fn bytes(&self) -> Option<&[u8]>
+        ensures { option_map (λ bytes. bytes.now) result ≡ self.now }
+    {
+        match &self.found {
+            None => None,
+            Some(buffer) => Some(buffer.bytes()),
+        }
+    }
+
+    fn absent() -> Bits
+        ensures { result ≡ None }
+    {
+        Bits { found: None }
+    }
+}
+
+fn bits_of_clock(state: &State) -> Bits
+    ensures { result ≡ Some (clock_bytes state.now) }
+{
+    let mut buffer = Buffer::new();
+    match tell_clock(&mut buffer, state) {
+        Ok(()) => Bits {
+            found: Some(buffer),
+        },
+        Err(never) => match never {},
+    }
+}
+
+fn bits_of_first(state: &State, part: Part) -> Bits
+    ensures { result ≡ clock_bits state.now part }
+{
+    match part {
+        Part::Clock => bits_of_clock(state),
+        Part::Entity | Part::Position | Part::Owner | Part::Health | Part::Motion | Part::Attack =>
+            Bits::absent(),
+    }
+}
+
+fn bits_in<R: RowForm>(row: &Row) -> Bits
+    requires { HasShortWay row.now }
+    ensures { result ≡ option_map R.spelled (R.in_row row.now) }
+{
+    let found = match R::of(row) {
+        None => return Bits::absent(),
+        Some(found) => found,
+    };
+    let mut buffer = Buffer::new();
+    match found.tell(&mut buffer) {
+        Ok(()) => Bits {
+            found: Some(buffer),
+        },
+        Err(never) => match never {},
+    }
+}
+
+fn bits_of_row(row: &Row, part: Part) -> Bits
+    requires { HasShortWay row.now }
+    ensures { result ≡ row_bits part row.now }
+{
+    match part {
+        Part::Clock => Bits::absent(),
+        Part::Entity => bits_in::<EntityRow>(row),
+        Part::Position => bits_in::<PositionRow>(row),
+        Part::Owner => bits_in::<OwnerRow>(row),
+        Part::Health => bits_in::<HealthRow>(row),
+        Part::Motion => bits_in::<MotionRow>(row),
+        Part::Attack => bits_in::<AttackRow>(row),
+    }
+}
+
+/// The bytes of an entity in a section, or that it has none there. Entity 1 has the clock alone. It takes no memory.
+pub fn bits_of(state: &State, entity: u32, part: Part) -> Bits
+    requires ascending { IsStrictlyIncreasing (map id_of state.now.rows) }
+    requires short { All HasShortWay state.now.rows }
+    ensures { result ≡ bits state.now entity part }
+{
+    if entity == 1 {
+        return bits_of_first(state, part);
+    }
+    let rows = state.rows.as_slice();
+    match place_of(rows, entity) {
+        None => Bits::absent(),
+        Some(at) => bits_of_row(&rows[at], part),
+    }
+}

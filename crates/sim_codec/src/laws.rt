@@ -1,0 +1,30 @@
+//! Theorems about the definitions, each the contract of a function that does nothing.
+
+ghost use Rattle.std.specs.Prelude.{◌≡◌, ◌<◌, ◌^◌, ℕ, List, length, drop, All, Some, None};
+ghost use Rattle.sim_base.specs.declared.setup.Setup.{Setup};
+ghost use Rattle.sim_base.specs.declared.state.State.{State};
+ghost use Rattle.sim_base.specs.Limits.{IsSetup};
+ghost use Rattle.sim_base.specs.Spelling.{spelling};
+ghost use Rattle.sim_base.specs.Validity.{IsState, IsValid};
+ghost use Rattle.sim_sections.specs.Rows.{HasShortWay};
+ghost use Rattle.sim_codec.specs.Loading.{head_fault, StandsFor};
+ghost use Rattle.sim_codec.specs.Reading.{state_at};
+
+/// In a state that is valid, or valid but for healths of 0, no way is too long to be told and the rows can be counted:
+/// with the least health 1 or 0, this is what a spelling and a digest ask for.
+pub fn states_can_be_told()
+    ensures short { (least : ℕ) (setup : Setup) (state : State) → IsState least setup state → All HasShortWay state.rows }
+    ensures few { (least : ℕ) (setup : Setup) (state : State) → IsState least setup state → length state.rows < 2 ^ 32 }
+{}
+
+/// The spelling of a valid state is refused for nothing in its head, and read back as that state.
+pub fn spellings_are_read_back()
+    ensures head { (setup : Setup) (state : State) → IsSetup setup → IsValid setup state → head_fault setup (spelling setup state) ≡ None }
+    ensures state { (setup : Setup) (state : State) → IsSetup setup → IsValid setup state → state_at setup (drop 24 (spelling setup state)) ≡ Some state }
+{}
+
+/// Bytes stand for at most one state of a match, so two valid states with one spelling are the same.
+pub fn bytes_stand_for_one_state()
+    ensures bytes { (setup : Setup) (bytes : List ℕ) (s t : State) → IsSetup setup → StandsFor setup bytes s → StandsFor setup bytes t → s ≡ t }
+    ensures spellings { (setup : Setup) (s t : State) → IsSetup setup → IsValid setup s → IsValid setup t → spelling setup s ≡ spelling setup t → s ≡ t }
+{}

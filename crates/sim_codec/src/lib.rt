@@ -1,0 +1,60 @@
+//! The codec of a stored state: which states are valid, their one spelling in bytes, the digest of it, and the state
+//! that bytes stand for.
+//!
+//! It promises that bytes are loaded exactly where they are the spelling of a valid state, and then as that state; so a
+//! valid state that is spelled and loaded is the same again, and two valid states of one match have two spellings.
+//! It stands on `sim_sections` for the rows, and on `sim_bytes` for the numbers.
+//!
+//! The bytes, numbers with the lowest byte first:
+//!
+//! ```text
+//!  0  "RSIM"                 magic
+//!  4  u32                    version, 1
+//!  8  16 bytes               the id of the match
+//! 24  u32                    turn
+//! 28  u32                    the id of the next new entity
+//! 32  u64                    random word
+//! 40  six sections, one behind the other, and nothing behind the last:
+//!
+//!     0  u8                  tag
+//!     1  u32                 number of rows
+//!     5  rows, ascending by id
+//!
+//! tag 1  Entity    6 bytes   0 id u32   4 template u16
+//! tag 2  Position 12 bytes   0 id u32   4 x i32           8 z i32
+//! tag 3  Owner     5 bytes   0 id u32   4 owner u8
+//! tag 4  Health    8 bytes   0 id u32   4 health i32
+//! tag 5  Motion   15 bytes   0 id u32   4 mode u8         5 goal x i32   9 goal z i32   13 whole u8   14 count u8
+//!                 and behind it count times x i32, z i32; count is at most 64
+//! tag 6  Attack   10 bytes   0 id u32   4 target u32      8 cooldown u16
+//! ```
+//!
+//! Sections 1 to 3 have a row for each entity, 4 to 6 for each that has the part. Points and health are raws, units of
+//! 1/65536. Mode is 0 for still and 1 for going; a still row has zeros behind its id. Whole is 0 or 1.
+//!
+//! - `look_up`: the place of a row by its id.
+//! - `validity`: the test of a state.
+//! - `spelling`: the writer, into a list, a digest or a comparison.
+//! - `fault`: why bytes are not loaded.
+//! - `reading`, `loading`: the reader, and the state that bytes stand for.
+//! - `bits`: the bytes of one entity in one section.
+//! - `laws`: theorems about the definitions, each the contract of a function that does nothing.
+#![tactic(auto)]
+
+mod bits;
+mod fault;
+mod laws;
+mod loading;
+mod look_up;
+mod reading;
+mod spelling;
+#[cfg(test)]
+mod tests;
+mod validity;
+
+pub use bits::{Bits, Part, bits_of};
+pub use fault::StateFault;
+pub use laws::{bytes_stand_for_one_state, spellings_are_read_back, states_can_be_told};
+pub use loading::load;
+pub use spelling::{digest, spell};
+pub use validity::is_valid;

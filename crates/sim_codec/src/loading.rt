@@ -1,0 +1,60 @@
+//! The state that bytes stand for. The reader is lax: what it read is tested as a state, and spelled again and compared.
+//! So it is enough that it reads back what is spelled.
+
+ghost use Rattle.std.specs.Prelude.{◌≡◌, ◌↔◌, IsTrue, drop, None, Some, IfOk, IfErr, MatchResult};
+ghost use Rattle.sim_base.specs.declared.state.State.{State};
+ghost use Rattle.sim_base.specs.Limits.{IsSetup};
+ghost use Rattle.sim_codec.specs.Loading.{head_fault, StandsFor, Loads, RefusedFor};
+
+use crate::fault::StateFault;
+use crate::reading::state_from;
+use crate::spelling::is_spelled;
+use crate::validity::is_valid;
+use sim_base::{Setup, State};
+use std::alloc::Global;
+
+// The magic "RSIM" and the version 1.
+const START: [u8; 8] = [82, 83, 73, 77, 1, 0, 0, 0];
+
+// What follows the magic, the version and the id of the match.
+#[tactic(auto, unfolding(crate::specs::Loading::head_fault))]
+fn behind_head<'a>(setup: &Setup, bytes: &'a [u8]) -> Result<&'a [u8], StateFault>
+    ensures { MatchResult result (λ rest. (head_fault setup.now bytes.now ≡ None) × (rest.now ≡ drop 24 bytes.now)) (λ fault. head_fault setup.now bytes.now ≡ Some fault) }
+{
+    if bytes.len() < 24 {
+        return Err(StateFault::NotState);
+    }
+    let (start, after) = bytes.split_at(8);
+    if start != START.as_slice() {
+        return Err(StateFault::NotState);
+    }
+    let (id, rest) = after.split_at(16);
+    if id != setup.id.as_slice() {
+        return Err(StateFault::OtherMatch);
+    }
+    Ok(rest)
+}
+
+// Whether the bytes stand for this state.
+fn stands_for(setup: &Setup, state: &State, bytes: &[u8]) -> bool
+    ensures { IsTrue result ↔ StandsFor setup.now bytes.now state.now }
+{
+    is_valid(setup, state) && is_spelled(setup, state, bytes)
+}
+
+/// The one valid state of the match that spells the bytes. It need not be one that the match reaches.
+///
+/// Memory is taken row by row as rows are found, however many the bytes announce.
+pub fn load(alloc: Global, setup: &Setup, bytes: &[u8]) -> Result<State, StateFault>
+    requires { IsSetup setup.now }
+    ensures ok { IfOk result (StandsFor setup.now bytes.now) }
+    ensures loads { (state : State) → StandsFor setup.now bytes.now state → Loads state result }
+    ensures err { IfErr result (RefusedFor setup.now bytes.now) }
+{
+    let rest = behind_head(setup, bytes)?;
+    let state = state_from(alloc, setup, rest)?;
+    if !stands_for(setup, &state, bytes) {
+        return Err(StateFault::Grammar);
+    }
+    Ok(state)
+}

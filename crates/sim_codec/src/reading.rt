@@ -1,0 +1,106 @@
+//! Rows and a state as they are read: the readers in the sections go on together, and each row gets memory of its own.
+
+ghost use Rattle.std.specs.Prelude.{◌≡◌, IfOk};
+ghost use Rattle.sim_sections.specs.Walking.{row_of};
+ghost use Rattle.sim_codec.specs.Reading.{row_at, rows_at, state_at, Gives, GivesState};
+
+use crate::fault::StateFault;
+use sim_base::{Aim, Items, Motion, Row, Rows, Setup, State, Template};
+use sim_bytes::Take;
+use sim_sections::{MotionRow, Parts, Walk, locate, take_parts};
+use std::alloc::{AllocError, Global};
+
+// A motion, its way in memory of its own.
+fn motion_of(alloc: Global, row: MotionRow) -> Result<Motion, AllocError>
+    ensures { IfOk result (λ motion. motion ≡ row.1) }
+{
+    if !row.going {
+        return Ok(Motion::Still);
+    }
+    let points = Vec::from_slice(alloc, &row.way[..row.count])?;
+    Ok(Motion::Going {
+        goal: row.goal,
+        way: Items::from_items(points),
+        whole: row.whole,
+    })
+}
+
+fn row_from(alloc: Global, parts: Parts) -> Result<Row, AllocError>
+    ensures { IfOk result (λ row. row ≡ row_of parts) }
+{
+    let Parts {
+        entity,
+        position,
+        owner,
+        health,
+        motion,
+        attack,
+    } = parts;
+    let motion = match motion {
+        None => None,
+        Some(row) => Some(motion_of(alloc, row)?),
+    };
+    let health = match health {
+        None => None,
+        Some(row) => Some(row.health),
+    };
+    let attack = match attack {
+        None => None,
+        Some(row) => Some(Aim {
+            target: row.target,
+            cooldown: row.cooldown,
+            hold: false,
+        }),
+    };
+    Ok(Row {
+        id: entity.id,
+        template: entity.template,
+        at: position.at,
+        owner: owner.owner,
+        health,
+        motion,
+        attack,
+    })
+}
+
+#[tactic(auto, unfolding(crate::specs::Reading::row_at))]
+fn next_row(alloc: Global, templates: &[Template], walk: &mut Walk<'_>) -> Result<Row, StateFault>
+    ensures { Gives (row_at templates.now) walk.old result walk.new }
+{
+    let parts = take_parts(templates, walk)?;
+    Ok(row_from(alloc, parts)?)
+}
+
+fn rows_from(
+    alloc: Global,
+    templates: &[Template],
+    count: u32,
+    walk: &mut Walk<'_>,
+) -> Result<Rows, StateFault>
+    ensures { Gives (rows_at templates.now count) walk.old result walk.new }
+{
+    let mut rows = Items::new(alloc);
+    for _ in 0..count {
+        rows.push(next_row(alloc, templates, walk)?)?;
+    }
+    Ok(rows)
+}
+
+/// The state of which these may be the bytes behind the id of the match.
+#[tactic(auto, unfolding(crate::specs::Reading::state_at))]
+pub fn state_from(alloc: Global, setup: &Setup, bytes: &[u8]) -> Result<State, StateFault>
+    ensures { GivesState (state_at setup.now bytes.now) result }
+{
+    let mut from = Take::new(bytes);
+    let turn = from.u32()?;
+    let next = from.u32()?;
+    let word = from.u64()?;
+    let (count, mut walk) = locate(&mut from)?;
+    let rows = rows_from(alloc, setup.templates.as_slice(), count, &mut walk)?;
+    Ok(State {
+        turn,
+        next,
+        word,
+        rows,
+    })
+}

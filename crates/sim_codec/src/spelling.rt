@@ -1,0 +1,90 @@
+//! The spelling of a state. It is told once, piece by piece, into a list, into a digest or into a comparison, so that
+//! the three cannot differ.
+
+ghost use Rattle.std.specs.Prelude.{◌≡◌, ◌↔◌, ◌<◌, ◌^◌, All, length, OnOk, IfOk, IsTrue, [], ◌∷◌, ◌++◌, codes};
+ghost use Rattle.sim_base.specs.Bytes.{u32_bytes};
+ghost use Rattle.sim_base.specs.Spelling.{clock_bytes, sections, spelling, digest as digest_of};
+ghost use Rattle.sim_bytes.specs.Telling.{Tells};
+ghost use Rattle.sim_sections.specs.Rows.{HasShortWay};
+
+use md5::{Digest, Md5};
+use sim_base::{OutOfMemory, Row, Setup, State};
+use sim_bytes::{ByteSink, Comparing, tell_u32, tell_u64};
+use sim_sections::{
+    AttackRow, EntityRow, HealthRow, MotionRow, OwnerRow, PositionRow, tell_section,
+};
+use std::alloc::Global;
+
+// The version of the layout.
+const VERSION: u32 = 1;
+
+/// Tells the turn, the next id and the word.
+pub fn tell_clock<K: ByteSink>(out: &mut K, state: &State) -> Result<(), K::Fault>
+    ensures { OnOk result (Tells K.holds out.old out.new (clock_bytes state.now)) }
+{
+    tell_u32(out, state.turn)?;
+    tell_u32(out, state.next)?;
+    tell_u64(out, state.word)
+}
+
+fn tell_sections<K: ByteSink>(out: &mut K, rows: &[Row]) -> Result<(), K::Fault>
+    requires short { All HasShortWay rows.now }
+    requires few { length rows.now < 2 ^ 32 }
+    ensures { OnOk result (Tells K.holds out.old out.new (sections rows.now)) }
+{
+    tell_section::<K, EntityRow>(out, rows)?;
+    tell_section::<K, PositionRow>(out, rows)?;
+    tell_section::<K, OwnerRow>(out, rows)?;
+    tell_section::<K, HealthRow>(out, rows)?;
+    tell_section::<K, MotionRow>(out, rows)?;
+    tell_section::<K, AttackRow>(out, rows)
+}
+
+fn tell_state<K: ByteSink>(out: &mut K, setup: &Setup, state: &State) -> Result<(), K::Fault>
+    requires short { All HasShortWay state.now.rows }
+    requires few { length state.now.rows < 2 ^ 32 }
+    ensures { OnOk result (Tells K.holds out.old out.new (spelling setup.now state.now)) }
+{
+    out.tell(b"RSIM")?;
+    tell_u32(out, VERSION)?;
+    out.tell(&setup.id)?;
+    tell_clock(out, state)?;
+    tell_sections(out, state.rows.as_slice())
+}
+
+/// The bytes of a state. A valid state meets both conditions.
+pub fn spell(alloc: Global, setup: &Setup, state: &State) -> Result<Vec<u8>, OutOfMemory>
+    requires short { All HasShortWay state.now.rows }
+    requires few { length state.now.rows < 2 ^ 32 }
+    ensures { IfOk result (λ bytes. bytes.items ≡ spelling setup.now state.now) }
+{
+    let mut out = Vec::new(alloc);
+    tell_state(&mut out, setup, state)?;
+    Ok(out)
+}
+
+/// MD5 of the bytes of a state, which are never there at once. A valid state meets both conditions.
+pub fn digest(setup: &Setup, state: &State) -> [u8; 16]
+    requires short { All HasShortWay state.now.rows }
+    requires few { length state.now.rows < 2 ^ 32 }
+    ensures { result ≡ digest_of setup.now state.now }
+{
+    let mut hasher = Md5::new();
+    match tell_state(&mut hasher, setup, state) {
+        Ok(()) => hasher.finalize(),
+        Err(never) => match never {},
+    }
+}
+
+/// Whether these are the bytes of the state. A valid state meets both conditions.
+pub fn is_spelled(setup: &Setup, state: &State, bytes: &[u8]) -> bool
+    requires short { All HasShortWay state.now.rows }
+    requires few { length state.now.rows < 2 ^ 32 }
+    ensures { IsTrue result ↔ (bytes.now ≡ spelling setup.now state.now) }
+{
+    let mut comparing = Comparing::new(bytes);
+    match tell_state(&mut comparing, setup, state) {
+        Ok(()) => comparing.is_same(),
+        Err(never) => match never {},
+    }
+}

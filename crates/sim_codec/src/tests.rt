@@ -1,0 +1,436 @@
+//! What no clause says: the bytes of worked states, that calls succeed with ample memory, and that bytes with one change
+//! are refused or stand for the state that they spell.
+
+ghost use Rattle.std.specs.Prelude.{◌≡◌, codes, length, map, All, IfOk};
+ghost use Rattle.std.specs.List.Sorted.{IsStrictlyIncreasing};
+ghost use Rattle.sim_base.specs.Rows.{id_of};
+ghost use Rattle.sim_sections.specs.Rows.{HasShortWay};
+ghost use Rattle.sim_base.specs.Limits.{IsLand, IsSetup, IsTemplate};
+
+use super::*;
+use sim_base::{
+    Aim, Arms, Base, Fixed, Harm, Items, Land, Motion, Name, OutOfMemory, Point, Resist, Row,
+    Setup, State, Template,
+};
+use std::alloc::Global;
+use std::test::Fail;
+
+const EMPTY_ID: [u8; 16] = [
+    227, 252, 218, 66, 18, 133, 196, 220, 129, 124, 251, 13, 248, 187, 104, 104,
+];
+
+// The state of an empty match before its first turn.
+const EMPTY: [u8; 70] = [
+    82, 83, 73, 77, 1, 0, 0, 0, 227, 252, 218, 66, 18, 133, 196, 220, 129, 124, 251, 13, 248, 187,
+    104, 104, 0, 0, 0, 0, 2, 0, 0, 0, 0, 0, 0, 0, 0, 0, 0, 0, 1, 0, 0, 0, 0, 2, 0, 0, 0, 0, 3, 0,
+    0, 0, 0, 4, 0, 0, 0, 0, 5, 0, 0, 0, 0, 6, 0, 0, 0, 0,
+];
+
+const POSTS_ID: [u8; 16] = [
+    48, 69, 96, 137, 178, 57, 176, 219, 239, 97, 208, 118, 253, 238, 204, 125,
+];
+
+// The state of a match of two posts after the turn in which the first was deleted.
+const POSTS: [u8; 101] = [
+    82, 83, 73, 77, 1, 0, 0, 0, 48, 69, 96, 137, 178, 57, 176, 219, 239, 97, 208, 118, 253, 238,
+    204, 125, 1, 0, 0, 0, 4, 0, 0, 0, 0, 0, 0, 0, 0, 0, 0, 0, 1, 1, 0, 0, 0, 3, 0, 0, 0, 0, 0, 2,
+    1, 0, 0, 0, 3, 0, 0, 0, 0, 0, 2, 0, 0, 0, 2, 0, 3, 1, 0, 0, 0, 3, 0, 0, 0, 2, 4, 1, 0, 0, 0, 3,
+    0, 0, 0, 0, 0, 50, 0, 5, 0, 0, 0, 0, 6, 0, 0, 0, 0,
+];
+
+const FIGHT_ID: [u8; 16] = [7; 16];
+
+// Three rows in all six sections: a guard that goes and attacks, a post, and a guard that stands inside the post.
+const FIGHT: [u8; 229] = [
+    // the head and the clock
+    82, 83, 73, 77, 1, 0, 0, 0, 7, 7, 7, 7, 7, 7, 7, 7, 7, 7, 7, 7, 7, 7, 7, 7, 2, 0, 0, 0, 5, 0,
+    0, 0, 0xBC, 0x9A, 0x78, 0x56, 0x34, 0x12, 0, 0,
+    // entities
+    1, 3, 0, 0, 0, 2, 0, 0, 0, 1, 0, 3, 0, 0, 0, 0, 0, 4, 0, 0, 0, 1, 0,
+    // positions
+    2, 3, 0, 0, 0, 2, 0, 0, 0, 0, 128, 1, 0, 0, 128, 2, 0, 3, 0, 0, 0, 0, 0, 4, 0, 0, 0, 4, 0, 4,
+    0, 0, 0, 0, 0, 4, 0, 0, 128, 4, 0,
+    // owners
+    3, 3, 0, 0, 0, 2, 0, 0, 0, 1, 3, 0, 0, 0, 2, 4, 0, 0, 0, 0,
+    // healths
+    4, 3, 0, 0, 0, 2, 0, 0, 0, 1, 0, 1, 0, 3, 0, 0, 0, 0, 0, 50, 0, 4, 0, 0, 0, 0, 0, 10, 0,
+    // motions
+    5, 2, 0, 0, 0, 2, 0, 0, 0, 1, 0, 0, 3, 0, 0, 0, 4, 0, 1, 2, 0, 128, 2, 0, 0, 128, 3, 0, 0, 0,
+    3, 0, 0, 0, 4, 0, 4, 0, 0, 0, 0, 0, 0, 0, 0, 0, 0, 0, 0, 0, 0,
+    // attacks
+    6, 2, 0, 0, 0, 2, 0, 0, 0, 3, 0, 0, 0, 3, 0, 4, 0, 0, 0, 0, 0, 0, 0, 0, 0,
+];
+
+fn raw(raw: i32) -> Fixed
+    ensures { result ≡ raw }
+{
+    Fixed::from_raw(raw)
+}
+
+fn point(x: i32, z: i32) -> Point {
+    Point {
+        x: raw(x),
+        z: raw(z),
+    }
+}
+
+// An obstruction with health 50.
+fn post(alloc: Global) -> Result<Template, OutOfMemory>
+    ensures name { IfOk result (λ template. template.name ≡ codes "post") }
+    ensures template { IfOk result (IsTemplate 2) }
+{
+    Ok(Template {
+        name: Name::of(alloc, "post")?.ok_or(OutOfMemory)?,
+        health: Some(raw(3276800)),
+        resist: Resist {
+            hack: 0,
+            pierce: 0,
+            crush: 0,
+        },
+        speed: None,
+        obstruct: Some(Base { width: 4, depth: 4 }),
+        arms: None,
+        train: None,
+    })
+}
+
+// A fighter with health 10.
+fn guard(alloc: Global) -> Result<Template, OutOfMemory>
+    ensures name { IfOk result (λ template. template.name ≡ codes "guard") }
+    ensures template { IfOk result (IsTemplate 2) }
+{
+    Ok(Template {
+        name: Name::of(alloc, "guard")?.ok_or(OutOfMemory)?,
+        health: Some(raw(655360)),
+        resist: Resist {
+            hack: 0,
+            pierce: 0,
+            crush: 0,
+        },
+        speed: Some(raw(655360)),
+        obstruct: None,
+        arms: Some(Arms {
+            harm: Harm {
+                hack: raw(65536),
+                pierce: raw(0),
+                crush: raw(0),
+            },
+            range: raw(131072),
+            vision: raw(655360),
+            repeat: 3,
+            accuracy: 100,
+        }),
+        train: None,
+    })
+}
+
+// Ground of 16 by 16 cells with two players, where nothing stands at first and the cap lets nothing be made.
+fn open_land(alloc: Global) -> Result<Land, OutOfMemory>
+    ensures land { IfOk result IsLand }
+    ensures masks { IfOk result (λ land. length land.masks ≡ 3) }
+{
+    Ok(Land {
+        width: 16,
+        depth: 16,
+        closed: Items::new(alloc),
+        masks: Items::from_items(vec![in alloc; 0, 0, 0]?),
+    })
+}
+
+fn open_match(alloc: Global, id: [u8; 16]) -> Result<Setup, OutOfMemory>
+    ensures { IfOk result IsSetup }
+{
+    Ok(Setup {
+        id,
+        land: open_land(alloc)?,
+        players: 2,
+        cap: 0,
+        delay: 1,
+        turns: 2,
+        seed: 0,
+        templates: Items::from_items(vec![in alloc; post(alloc)?, guard(alloc)?]?),
+        first: Items::new(alloc),
+        commands: Items::new(alloc),
+    })
+}
+
+fn empty_state(alloc: Global) -> State {
+    State {
+        turn: 0,
+        next: 2,
+        word: 0,
+        rows: Items::new(alloc),
+    }
+}
+
+fn post_row(id: u32, owner: u8, at: Point) -> Row {
+    Row {
+        id,
+        template: 0,
+        at,
+        owner,
+        health: Some(raw(3276800)),
+        motion: None,
+        attack: None,
+    }
+}
+
+fn guard_row(id: u32, owner: u8, at: Point, health: i32, motion: Motion, aim: Aim) -> Row {
+    Row {
+        id,
+        template: 1,
+        at,
+        owner,
+        health: Some(raw(health)),
+        motion: Some(motion),
+        attack: Some(aim),
+    }
+}
+
+fn posts_state(alloc: Global) -> Result<State, OutOfMemory> {
+    let rows = vec![in alloc; post_row(3, 2, point(131072, 131072))]?;
+    Ok(State {
+        turn: 1,
+        next: 4,
+        word: 0,
+        rows: Items::from_items(rows),
+    })
+}
+
+fn fight_state(alloc: Global) -> Result<State, OutOfMemory> {
+    let way = vec![in alloc; point(0x28000, 0x38000), point(0x30000, 0x40000)]?;
+    let going = Motion::Going {
+        goal: point(0x30000, 0x40000),
+        way: Items::from_items(way),
+        whole: true,
+    };
+    let aims = Aim {
+        target: 3,
+        cooldown: 3,
+        hold: false,
+    };
+    let rests = Aim {
+        target: 0,
+        cooldown: 0,
+        hold: false,
+    };
+    let mut rows = Items::new(alloc);
+    rows.push(guard_row(2, 1, point(0x18000, 0x28000), 0x10001, going, aims))?;
+    rows.push(post_row(3, 2, point(0x40000, 0x40000)))?;
+    rows.push(guard_row(4, 0, point(0x40000, 0x48000), 655360, Motion::Still, rests))?;
+    Ok(State {
+        turn: 2,
+        next: 5,
+        word: 0x1234_5678_9ABC,
+        rows,
+    })
+}
+
+// The cause for which the bytes are refused, or None where they are loaded.
+fn fault_of(alloc: Global, setup: &Setup, bytes: &[u8]) -> Option<StateFault>
+    requires { IsSetup setup.now }
+{
+    match load(alloc, setup, bytes) {
+        Ok(_) => None,
+        Err(fault) => Some(fault),
+    }
+}
+
+// Whether the state has these bytes and this digest, and is loaded from the bytes.
+fn is_told_so(
+    alloc: Global,
+    setup: &Setup,
+    state: &State,
+    bytes: &[u8],
+    sum: [u8; 16],
+) -> Result<bool, OutOfMemory>
+    requires { IsSetup setup.now }
+{
+    if !is_valid(setup, state) || spell(alloc, setup, state)?.as_slice() != bytes {
+        return Ok(false);
+    }
+    match load(alloc, setup, bytes) {
+        Ok(loaded) => Ok(digest(setup, state) == sum && digest(setup, &loaded) == sum),
+        Err(_) => Ok(false),
+    }
+}
+
+#[test]
+fn worked_states_have_their_bytes(rt: HostRuntime) -> Result<(), Fail> {
+    let alloc = rt.alloc();
+    let empty = open_match(alloc, EMPTY_ID)?;
+    let sum = [
+        186, 212, 73, 217, 164, 62, 108, 167, 24, 44, 158, 124, 21, 191, 95, 122,
+    ];
+    assert!(rt; is_told_so(alloc, &empty, &empty_state(alloc), &EMPTY, sum)?);
+    let posts = open_match(alloc, POSTS_ID)?;
+    let sum = [
+        91, 166, 204, 206, 110, 192, 33, 108, 204, 170, 247, 24, 26, 48, 183, 137,
+    ];
+    assert!(rt; is_told_so(alloc, &posts, &posts_state(alloc)?, &POSTS, sum)?);
+    let fight = open_match(alloc, FIGHT_ID)?;
+    let sum = [
+        181, 8, 77, 40, 177, 144, 6, 111, 87, 95, 105, 91, 135, 214, 53, 100,
+    ];
+    assert!(rt; is_told_so(alloc, &fight, &fight_state(alloc)?, &FIGHT, sum)?);
+    Ok(())
+}
+
+// One byte of the fight changed.
+fn changed(alloc: Global, at: usize, new: u8) -> Result<Vec<u8>, OutOfMemory> {
+    let mut bytes = Vec::from_slice(alloc, &FIGHT)?;
+    if let Some(byte) = bytes.get_mut(at) {
+        *byte = new;
+    }
+    Ok(bytes)
+}
+
+#[test]
+fn a_state_with_one_rule_broken_is_refused(rt: HostRuntime) -> Result<(), Fail> {
+    let alloc = rt.alloc();
+    let setup = open_match(alloc, FIGHT_ID)?;
+    let broken = [
+        ("a turn past the last", 26, 1),
+        ("a next id out of range", 31, 64),
+        ("a word of 49 bits", 38, 1),
+        ("another tag", 40, 2),
+        ("too few rows", 41, 2),
+        ("too many rows", 41, 4),
+        ("very many rows", 44, 255),
+        ("an id twice", 45, 3),
+        ("an id below 2", 45, 1),
+        ("an id past the next", 57, 5),
+        ("an unknown template", 49, 2),
+        ("a point outside", 74, 16),
+        ("a point below 0", 75, 128),
+        ("an unknown owner", 113, 3),
+        ("another id in a section", 109, 3),
+        ("too much health", 135, 11),
+        ("no health", 143, 0),
+        ("a goal outside", 165, 16),
+        ("a waypoint outside", 183, 16),
+        ("too many waypoints", 172, 65),
+        ("a third mode", 162, 2),
+        ("a third whole", 171, 2),
+        ("a goal of a row that is still", 194, 1),
+        ("a whole of a row that is still", 202, 1),
+        ("itself as target", 213, 2),
+        ("nobody as target", 213, 6),
+        ("a cooldown above the repeat", 217, 4),
+    ];
+    for (what, at, new) in broken {
+        let bytes = changed(alloc, at, new)?;
+        assert_eq!(rt;
+            fault_of(alloc, &setup, &bytes),
+            Some(StateFault::Grammar),
+            "{what}"
+        );
+    }
+    Ok(())
+}
+
+#[test]
+fn a_state_that_no_match_reaches_is_loaded(rt: HostRuntime) -> Result<(), Fail> {
+    let alloc = rt.alloc();
+    let setup = open_match(alloc, FIGHT_ID)?;
+    assert_eq!(rt; fault_of(alloc, &setup, &FIGHT), None);
+    Ok(())
+}
+
+#[test]
+fn bytes_of_another_length_are_refused(rt: HostRuntime) -> Result<(), Fail> {
+    let alloc = rt.alloc();
+    let setup = open_match(alloc, FIGHT_ID)?;
+    for end in 0..FIGHT.len() {
+        let fault = if end < 24 {
+            StateFault::NotState
+        } else {
+            StateFault::Grammar
+        };
+        assert_eq!(rt;
+            fault_of(alloc, &setup, &FIGHT[..end]),
+            Some(fault),
+            "up to {end}"
+        );
+    }
+    let mut longer = Vec::from_slice(alloc, &FIGHT)?;
+    longer.push(0)?;
+    assert_eq!(rt; fault_of(alloc, &setup, &longer), Some(StateFault::Grammar));
+    Ok(())
+}
+
+// Whether the bytes, of which the one at this place was changed, are refused for that, or loaded as the state that they
+// spell.
+fn is_read_well(alloc: Global, setup: &Setup, bytes: &[u8], at: usize) -> Result<bool, OutOfMemory>
+    requires { IsSetup setup.now }
+{
+    match load(alloc, setup, bytes) {
+        Ok(state) => {
+            let again = spell(alloc, setup, &state)?;
+            Ok(at >= 24 && is_valid(setup, &state) && again.as_slice() == bytes)
+        }
+        Err(StateFault::NotState) => Ok(at < 8),
+        Err(StateFault::OtherMatch) => Ok(8 <= at && at < 24),
+        Err(StateFault::Grammar) => Ok(at >= 24),
+        Err(StateFault::OutOfMemory) => Err(OutOfMemory),
+    }
+}
+
+#[test]
+fn each_changed_bit_is_refused_or_spelled_so(rt: HostRuntime) -> Result<(), Fail> {
+    let alloc = rt.alloc();
+    let setup = open_match(alloc, FIGHT_ID)?;
+    let bits: [u8; 8] = [1, 2, 4, 8, 16, 32, 64, 128];
+    for at in 0..FIGHT.len() {
+        for bit in bits {
+            let bytes = changed(alloc, at, FIGHT[at] ^ bit)?;
+            assert!(rt;
+                is_read_well(alloc, &setup, &bytes, at)?,
+                "bit {bit} at {at}"
+            );
+        }
+    }
+    Ok(())
+}
+
+// Whether an entity has just these bytes in a section, where no bytes say that it has none there.
+fn has_bits(state: &State, entity: u32, part: Part, wanted: &[u8]) -> bool
+    requires ascending { IsStrictlyIncreasing (map id_of state.now.rows) }
+    requires short { All HasShortWay state.now.rows }
+{
+    match bits_of(state, entity, part).bytes() {
+        None => wanted.is_empty(),
+        Some(bytes) => bytes == wanted,
+    }
+}
+
+#[test]
+fn an_entity_has_its_bytes_of_each_section(rt: HostRuntime) -> Result<(), Fail> {
+    let alloc = rt.alloc();
+    let setup = open_match(alloc, FIGHT_ID)?;
+    let state = fight_state(alloc)?;
+    assert!(rt; is_valid(&setup, &state));
+    let places = [
+        (1, Part::Clock, 24, 40),
+        (2, Part::Entity, 45, 51),
+        (2, Part::Position, 68, 80),
+        (2, Part::Owner, 109, 114),
+        (2, Part::Health, 129, 137),
+        (2, Part::Motion, 158, 189),
+        (2, Part::Attack, 209, 219),
+        (4, Part::Attack, 219, 229),
+        (1, Part::Entity, 0, 0),
+        (2, Part::Clock, 0, 0),
+        (3, Part::Motion, 0, 0),
+        (3, Part::Attack, 0, 0),
+        (5, Part::Entity, 0, 0),
+    ];
+    for (entity, part, from, to) in places {
+        let wanted = FIGHT.get(from..to).ok_or("out of range")?;
+        assert!(rt;
+            has_bits(&state, entity, part, wanted),
+            "{part:?} of {entity}"
+        );
+    }
+    Ok(())
+}

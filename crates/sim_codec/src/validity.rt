@@ -1,0 +1,190 @@
+//! The test of a state: whether all holds of it that holds between two turns of its match. It takes no memory, and goes
+//! over the rows once but for the look-ups of targets.
+
+ghost use Rattle.std.specs.Prelude.{◌≡◌, ◌≢◌, ◌^◌, ◌≤◌, ◌<◌, ◌↔◌, IsTrue, ℤ, ◌≤ℤ◌, pos, All, length, map, MatchOption};
+ghost use Rattle.std.specs.List.Sorted.{IsStrictlyIncreasing};
+ghost use Rattle.sim_base.specs.Places.{is_within};
+ghost use Rattle.sim_base.specs.Rows.{id_of};
+ghost use Rattle.sim_base.specs.Validity.{IsInside, has_health, IsValidMotion, Both, IsValidAim, IsValidRow, IsKnownRow, IsValid};
+
+use crate::look_up::place_of;
+use sim_base::{Aim, Arms, Fixed, Motion, Point, Row, Setup, State, Template};
+
+fn is_within_cells(raw: i32, cells: u16) -> bool
+    ensures { result ≡ is_within raw cells }
+{
+    0 <= raw && i64::from(raw) < i64::from(cells) * 65536
+}
+
+fn is_inside_setup(setup: &Setup, point: Point) -> bool
+    ensures { IsTrue result ↔ IsInside setup.now point }
+{
+    is_within_cells(point.x.raw(), setup.land.width)
+        && is_within_cells(point.z.raw(), setup.land.depth)
+}
+
+fn are_inside(setup: &Setup, points: &[Point]) -> bool
+    ensures { IsTrue result ↔ All (IsInside setup.now) points.now }
+{
+    for point in points {
+        if !is_inside_setup(setup, *point) {
+            return false;
+        }
+    }
+    true
+}
+
+fn is_valid_motion(setup: &Setup, motion: &Motion) -> bool
+    ensures { IsTrue result ↔ IsValidMotion setup.now motion.now }
+{
+    match motion {
+        Motion::Still => true,
+        Motion::Going {
+            goal,
+            way,
+            whole: _,
+        } => {
+            let points = way.as_slice();
+            is_inside_setup(setup, *goal) && points.len() <= 64 && are_inside(setup, points)
+        }
+    }
+}
+
+fn is_alive(rows: &[Row], id: u32) -> bool
+    requires { IsStrictlyIncreasing (map id_of rows.now) }
+    ensures { result ≡ has_health rows.now id }
+{
+    match place_of(rows, id) {
+        None => false,
+        Some(at) => rows[at].health.is_some(),
+    }
+}
+
+fn is_valid_aim(rows: &[Row], id: u32, aim: Aim, arms: Arms) -> bool
+    requires { IsStrictlyIncreasing (map id_of rows.now) }
+    ensures { IsTrue result ↔ IsValidAim rows.now id aim arms }
+{
+    if aim.hold || aim.cooldown > arms.repeat {
+        return false;
+    }
+    aim.target == 0 || (aim.target != id && is_alive(rows, aim.target))
+}
+
+fn has_valid_health(health: Option<Fixed>, most: Option<Fixed>) -> bool
+    ensures { IsTrue result ↔ Both health most (λ health most. (pos 1 ≤ℤ health) × (health ≤ℤ most)) }
+{
+    match health {
+        None => most.is_none(),
+        Some(health) => match most {
+            None => false,
+            Some(most) => 1 <= health.raw() && health.raw() <= most.raw(),
+        },
+    }
+}
+
+fn has_valid_motion(setup: &Setup, motion: &Option<Motion>, speed: Option<Fixed>) -> bool
+    ensures { IsTrue result ↔ Both motion.now speed (λ motion speed. IsValidMotion setup.now motion) }
+{
+    match motion {
+        None => speed.is_none(),
+        Some(motion) => match speed {
+            None => false,
+            Some(_) => is_valid_motion(setup, motion),
+        },
+    }
+}
+
+fn has_valid_attack(rows: &[Row], id: u32, attack: Option<Aim>, arms: Option<Arms>) -> bool
+    requires { IsStrictlyIncreasing (map id_of rows.now) }
+    ensures { IsTrue result ↔ Both attack arms (IsValidAim rows.now id) }
+{
+    match attack {
+        None => arms.is_none(),
+        Some(aim) => match arms {
+            None => false,
+            Some(arms) => is_valid_aim(rows, id, aim, arms),
+        },
+    }
+}
+
+fn is_valid_row(setup: &Setup, rows: &[Row], row: &Row, template: &Template) -> bool
+    requires { IsStrictlyIncreasing (map id_of rows.now) }
+    ensures { IsTrue result ↔ IsValidRow 1 setup.now rows.now row.now template.now }
+{
+    is_inside_setup(setup, row.at)
+        && row.owner <= setup.players
+        && has_valid_health(row.health, template.health)
+        && has_valid_motion(setup, &row.motion, template.speed)
+        && has_valid_attack(rows, row.id, row.attack, template.arms)
+}
+
+fn is_known_row(setup: &Setup, rows: &[Row], row: &Row) -> bool
+    requires { IsStrictlyIncreasing (map id_of rows.now) }
+    ensures { IsTrue result ↔ IsKnownRow 1 setup.now rows.now row.now }
+{
+    match setup.templates.as_slice().get(row.template as usize) {
+        None => false,
+        Some(template) => is_valid_row(setup, rows, row, template),
+    }
+}
+
+fn are_known(setup: &Setup, rows: &[Row]) -> bool
+    requires { IsStrictlyIncreasing (map id_of rows.now) }
+    ensures { IsTrue result ↔ All (IsKnownRow 1 setup.now rows.now) rows.now }
+{
+    for row in rows {
+        if !is_known_row(setup, rows, row) {
+            return false;
+        }
+    }
+    true
+}
+
+fn is_valid_clock(setup: &Setup, state: &State) -> bool
+    ensures { IsTrue result ↔ ((state.now.turn ≤ setup.now.turns) × ((2 ≤ state.now.next) × (state.now.next ≤ 0x20000000)) × (state.now.word < 2 ^ 48)) }
+{
+    state.turn <= setup.turns
+        && 2 <= state.next
+        && state.next <= 0x2000_0000
+        && state.word < 0x1_0000_0000_0000
+}
+
+fn are_ascending(rows: &[Row]) -> bool
+    ensures { IsTrue result ↔ IsStrictlyIncreasing (map id_of rows.now) }
+{
+    for i in 1..rows.len() {
+        if rows[i - 1].id >= rows[i].id {
+            return false;
+        }
+    }
+    true
+}
+
+fn is_id_below(row: &Row, next: u32) -> bool
+    ensures { IsTrue result ↔ ((2 ≤ row.now.id) × (row.now.id < next)) }
+{
+    2 <= row.id && row.id < next
+}
+
+fn are_ids_below(rows: &[Row], next: u32) -> bool
+    ensures { IsTrue result ↔ All (λ row. (2 ≤ row.id) × (row.id < next)) rows.now }
+{
+    for row in rows {
+        if !is_id_below(row, next) {
+            return false;
+        }
+    }
+    true
+}
+
+/// Whether the state is valid in the match. It takes no memory.
+pub fn is_valid(setup: &Setup, state: &State) -> bool
+    ensures { IsTrue result ↔ IsValid setup.now state.now }
+{
+    let rows = state.rows.as_slice();
+    is_valid_clock(setup, state)
+        && rows.len() <= 4096
+        && are_ascending(rows)
+        && are_ids_below(rows, state.next)
+        && are_known(setup, rows)
+}

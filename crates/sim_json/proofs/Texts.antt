@@ -1,0 +1,24 @@
+-- What a reader of texts says, in the words of the definitions.
+use Rattle.std.proofs.Common.{◌≡◌, List, [], ◌∷◌, map, ap, ℕ, Bool, true, false, refl, Option, Some, None, if◌then◌else◌}
+use Rattle.std.specs.Str.{IsUtf8, is_utf8}
+use Rattle.std.proofs.lemmas.Str.{IsUtf8-from_is_utf8, is_utf8-from_IsUtf8}
+use Rattle.serde_json.specs.Data.{Data}
+use Rattle.serde_json.specs.Read.{read}
+use Rattle.serde_json.specs.View.{view, items_view}
+use Rattle.serde_json.specs.declared.value.Value.{Value}
+use Rattle.sim_json.specs.Values.{value_of, listed}
+
+pub value_of_utf8 : (bytes : List ℕ) (value : Data) → IsUtf8 bytes → read bytes ≡ Some value → value_of bytes ≡ Some value
+value_of_utf8 bytes value utf8 reads = rw (is_utf8-from_IsUtf8 bytes utf8) reads
+
+none_if : (b : Bool) (o : Option Data) → (b ≡ true → o ≡ None) → (if b then o else None) ≡ None
+none_if true o refused = refused refl
+none_if false o refused = refl
+
+pub no_value : (bytes : List ℕ) → (IsUtf8 bytes → read bytes ≡ None) → value_of bytes ≡ None
+no_value bytes refused = none_if (is_utf8 bytes) (read bytes) (λ h. refused (IsUtf8-from_is_utf8 bytes h))
+
+-- the items of a list, seen one by one
+pub listed_view : (values : List Value) → listed (items_view values) ≡ map view values
+listed_view [] = refl
+listed_view (v ∷ values) = ap (λ ds. view v ∷ ds) (listed_view values)

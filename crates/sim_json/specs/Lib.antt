@@ -1,0 +1,5 @@
+pub mod Values
+pub mod Kinds
+pub mod Keys
+pub mod Records
+pub mod Least

@@ -1,0 +1,58 @@
+-- Values of JSON: what a text stands for, and the lists, texts and whole numbers in it.
+use Rattle.std.specs.Prelude.{ℕ, ◌&&◌, nat_le, List, [], ◌∷◌, Option, Some, None, option_map, option_and_then, if◌then◌else◌}
+use Rattle.std.specs.Str.{is_utf8}
+use Rattle.serde_json.specs.Data.{Data, Items, no_items, item}
+use Rattle.serde_json.specs.Read.{read}
+use Rattle.serde_json.specs.Find.{get, as_number, as_u64, as_str, as_array}
+
+-- the value of a text, where the bytes are UTF-8 and a text that has one
+abbrev pub value_of : List ℕ → Option Data
+value_of bytes = if is_utf8 bytes then read bytes else None
+
+-- the items of a list
+abbrev pub listed : Items → List Data
+listed no_items = []
+listed (item d ds) = d ∷ listed ds
+
+-- the items of a value, if it is a list
+abbrev pub list_of : Data → Option (List Data)
+list_of d = option_map listed (as_array d)
+
+-- the items of the list under a key
+abbrev pub list_at : List ℕ → Data → Option (List Data)
+list_at key d = option_and_then list_of (get key d)
+
+-- the text under a key
+abbrev pub text_at : List ℕ → Data → Option (List ℕ)
+text_at key d = option_and_then as_str (get key d)
+
+-- the whole number that a value is, if it is none below 0
+abbrev pub natural : Data → Option ℕ
+natural d = option_and_then as_u64 (as_number d)
+
+-- a number, where it is within the limits
+abbrev pub if_within : ℕ → ℕ → ℕ → Option ℕ
+if_within low high n = if nat_le low n && nat_le n high then Some n else None
+
+-- a whole number within the limits
+abbrev pub natural_in : ℕ → ℕ → Data → Option ℕ
+natural_in low high d = option_and_then (if_within low high) (natural d)
+
+-- the same, under a key
+abbrev pub natural_at : ℕ → ℕ → List ℕ → Data → Option ℕ
+natural_at low high key d = option_and_then (natural_in low high) (get key d)
+
+-- the items of a list that has exactly two
+abbrev pub two : List Data → Option (Data × Data)
+two (a ∷ b ∷ []) = Some (a, b)
+two other = None
+
+-- the items of a list that has exactly four
+abbrev pub four : List Data → Option (Data × Data × Data × Data)
+four (a ∷ b ∷ c ∷ d ∷ []) = Some (a, b, c, d)
+four other = None
+
+-- the first two items of a list and the others
+abbrev pub front_two : List Data → Option (Data × Data × List Data)
+front_two (a ∷ b ∷ rest) = Some (a, b, rest)
+front_two other = None

@@ -1,0 +1,24 @@
+//! Reading JSON: the value of a text, its lists and numbers, its kinds and keys.
+//!
+//! It promises that each reader answers what its definition says of the value, and that nothing but the text itself
+//! asks for memory. It stands on `serde_json` for the value, and on `sim_base` for the name of want of memory. Its
+//! `specs/` also have the two ways in which a list of records is read, as a whole or up to the first item that is
+//! refused; every reader of a list meets one of them.
+//!
+//! - `values`: texts, lists, whole numbers.
+//! - `kinds`: of which kind a value is.
+//! - `keys`: which keys an object has.
+#![tactic(auto)]
+
+mod keys;
+mod kinds;
+mod values;
+
+pub use keys::other_key;
+pub use kinds::{has_list, has_row, has_table, has_table_of, has_whole};
+pub use values::{
+    four, front_two, list_at, list_of, natural, natural_at, natural_in, text_at, two, value_of,
+};
+
+#[cfg(test)]
+mod tests;

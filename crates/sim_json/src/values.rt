@@ -1,0 +1,102 @@
+//! Texts, lists and whole numbers of JSON. A reader answers None where the value is something else.
+
+ghost use Rattle.std.specs.Prelude.{◌≡◌, ◌≤◌, map, option_map, IfOk, IfSome};
+ghost use Rattle.serde_json.specs.View.{view};
+ghost use Rattle.sim_json.specs.Values.{value_of as value_of_bytes, list_of as list_of_data, list_at as list_at_key, text_at as text_at_key, natural as natural_of, natural_in as natural_within, natural_at as natural_at_key, two as two_of, four as four_of, front_two as front_two_of};
+
+use serde_json::{Category, Value};
+use sim_base::OutOfMemory;
+use std::alloc::Global;
+
+/// The value of a text in UTF-8, or None where the bytes are none.
+#[tactic(auto, using(crate::proofs::Texts::value_of_utf8, crate::proofs::Texts::no_value))]
+pub fn value_of(alloc: Global, bytes: &[u8]) -> Result<Option<Value>, OutOfMemory>
+    ensures { IfOk result (λ found. option_map view found ≡ value_of_bytes bytes.now) }
+{
+    match Value::from_slice(alloc, bytes) {
+        Ok(value) => Ok(Some(value)),
+        Err(error) => match error.classify() {
+            Category::Memory => Err(OutOfMemory),
+            _ => Ok(None),
+        },
+    }
+}
+
+/// The items of a list.
+#[tactic(auto, using(crate::proofs::Texts::listed_view))]
+pub fn list_of(value: &Value) -> Option<&[Value]>
+    ensures { option_map (λ items. map view items.now) result ≡ list_of_data (view value.now) }
+{
+    match value.as_array() {
+        Some(items) => Some(items.as_slice()),
+        None => None,
+    }
+}
+
+/// The items of the list under a key.
+pub fn list_at<'v>(value: &'v Value, key: &str) -> Option<&'v [Value]>
+    ensures { option_map (λ items. map view items.now) result ≡ list_at_key key.now (view value.now) }
+{
+    list_of(value.get(key)?)
+}
+
+/// The text under a key.
+pub fn text_at<'v>(value: &'v Value, key: &str) -> Option<&'v str>
+    ensures { option_map (λ text. text.now) result ≡ text_at_key key.now (view value.now) }
+{
+    value.get(key)?.as_str()
+}
+
+/// A whole number that is not below 0.
+pub fn natural(value: &Value) -> Option<u64>
+    ensures { result ≡ natural_of (view value.now) }
+{
+    value.as_u64()
+}
+
+/// A whole number from `low` to `high`.
+pub fn natural_in(value: &Value, low: u64, high: u64) -> Option<u64>
+    ensures value { result ≡ natural_within low high (view value.now) }
+    ensures within { IfSome result (λ n. (low ≤ n) × (n ≤ high)) }
+{
+    let n = natural(value)?;
+    if low <= n && n <= high { Some(n) } else { None }
+}
+
+/// A whole number from `low` to `high` under a key.
+pub fn natural_at(value: &Value, low: u64, high: u64, key: &str) -> Option<u64>
+    ensures value { result ≡ natural_at_key low high key.now (view value.now) }
+    ensures within { IfSome result (λ n. (low ≤ n) × (n ≤ high)) }
+{
+    natural_in(value.get(key)?, low, high)
+}
+
+/// The two items of a list of exactly two.
+pub fn two(items: &[Value]) -> Option<(&Value, &Value)>
+    ensures { option_map (λ p. (view p.0.now, view p.1.now)) result ≡ two_of (map view items.now) }
+{
+    match items {
+        [a, b] => Some((a, b)),
+        _ => None,
+    }
+}
+
+/// The four items of a list of exactly four.
+pub fn four(items: &[Value]) -> Option<(&Value, &Value, &Value, &Value)>
+    ensures { option_map (λ p. (view p.0.now, view p.1.now, view p.2.now, view p.3.now)) result ≡ four_of (map view items.now) }
+{
+    match items {
+        [a, b, c, d] => Some((a, b, c, d)),
+        _ => None,
+    }
+}
+
+/// The first two items of a list, and the others.
+pub fn front_two(items: &[Value]) -> Option<(&Value, &Value, &[Value])>
+    ensures { option_map (λ p. (view p.0.now, view p.1.now, map view p.2.now)) result ≡ front_two_of (map view items.now) }
+{
+    match items {
+        [a, b, rest @ ..] => Some((a, b, rest)),
+        _ => None,
+    }
+}

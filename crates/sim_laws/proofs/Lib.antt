@@ -1,0 +1,16 @@
+pub mod Keys
+pub mod OneWay
+pub mod Members
+pub mod LeastMember
+pub mod Ground
+pub mod Neighbours
+pub mod Sources
+pub mod Trips
+pub mod Rounds
+pub mod Trails
+pub mod WayIs
+pub mod WayInside
+pub mod WayByGround
+pub mod Examples
+pub mod Root
+pub mod Validity

@@ -1,0 +1,14 @@
+-- What the laws of states say.
+use Rattle.sim_base.specs.declared.setup.Setup.{Setup}
+use Rattle.sim_base.specs.declared.state.State.{State}
+use Rattle.sim_base.specs.Limits.{IsSetup}
+use Rattle.sim_base.specs.Validity.{IsValid, IsLooselyValid}
+use Rattle.sim_base.specs.Turn.{first_state}
+
+-- what is valid between two turns is valid inside a turn
+abbrev pub ValidIsLooselyValid : Type 0
+ValidIsLooselyValid = (setup : Setup) (state : State) → IsValid setup state → IsLooselyValid setup state
+
+-- a match within the limits begins with a valid state
+abbrev pub FirstStateIsValid : Type 0
+FirstStateIsValid = (setup : Setup) → IsSetup setup → IsValid setup (first_state setup)

@@ -1,0 +1,57 @@
+-- Steps of the loops over rows.
+use Rattle.std.proofs.Common.{◌≡◌, ℕ, suc, ◌+◌, ◌-◌, ◌<◌, ◌≤◌, List, [], ◌∷◌, ◌++◌, length, take, get_or, Option, Some, None, true, false, refl, sym, ◌∙◌, append_assoc, arith}
+use Rattle.std.specs.Prelude.{is_some}
+use Rattle.sim_bytes.specs.Reading.{Reader}
+use Rattle.sim_sections.specs.Sections.{skipped}
+use Rattle.std.specs.List.{flat_map, filter_map, cons_option}
+use Rattle.std.proofs.lemmas.List.{take_more, append-nil, length-append}
+use Rattle.std.proofs.lemmas.List.Elements.{filter_map-append}
+use Rattle.std.proofs.lemmas.List.Concat.{flat_map-append}
+
+pub filter_map_more : {X Y : Type 0} (h : X → Option Y) (xs : List X) (i : ℕ) (x : X) (o : Option Y) → i < length xs → x ≡ get_or xs i x → o ≡ h x
+    → filter_map h (take (i + 1) xs) ≡ filter_map h (take i xs) ++ cons_option o []
+filter_map_more h xs i x o lt is o-is =
+    rw (take_more xs i x lt, ← is, filter_map-append h (take i xs) (x ∷ []), ← o-is) refl
+
+pub count_some : {X Y : Type 0} (h : X → Option Y) (xs : List X) (i n : ℕ) (x : X) (o : Option Y) → i < length xs → x ≡ get_or xs i x → o ≡ h x → true ≡ is_some o → n ≡ length (filter_map h (take i xs))
+    → n + 1 ≡ length (filter_map h (take (i + 1) xs))
+count_some h xs i n x (Some y) lt is o-is there so_far = rw (filter_map_more h xs i x (Some y) lt is o-is) (omega (arith, so_far, length-append (filter_map h (take i xs)) (y ∷ [])))
+count_some h xs i n x None lt is o-is there so_far = absurd cc
+
+pub count_none : {X Y : Type 0} (h : X → Option Y) (xs : List X) (i n : ℕ) (x : X) (o : Option Y) → i < length xs → x ≡ get_or xs i x → o ≡ h x → false ≡ is_some o → n ≡ length (filter_map h (take i xs))
+    → n ≡ length (filter_map h (take (i + 1) xs))
+count_none h xs i n x None lt is o-is there so_far = rw (filter_map_more h xs i x None lt is o-is, append-nil (filter_map h (take i xs))) so_far
+count_none h xs i n x (Some y) lt is o-is there so_far = absurd cc
+
+pub bytes_some : {X Y : Type 0} (spelled : Y → List ℕ) (h : X → Option Y) (xs : List X) (i : ℕ) (x : X) (y : Y) (told : List ℕ) → i < length xs → x ≡ get_or xs i x → Some y ≡ h x
+    → (told ++ flat_map spelled (filter_map h (take i xs))) ++ spelled y ≡ told ++ flat_map spelled (filter_map h (take (i + 1) xs))
+bytes_some spelled h xs i x y told lt is o-is =
+    rw (filter_map_more h xs i x (Some y) lt is o-is, flat_map-append spelled (filter_map h (take i xs)) (y ∷ []), append-nil (spelled y)) (append_assoc told (flat_map spelled (filter_map h (take i xs))) (spelled y))
+
+pub bytes_none : {X Y : Type 0} (spelled : Y → List ℕ) (h : X → Option Y) (xs : List X) (i : ℕ) (x : X) (told : List ℕ) → i < length xs → x ≡ get_or xs i x → None ≡ h x
+    → told ++ flat_map spelled (filter_map h (take i xs)) ≡ told ++ flat_map spelled (filter_map h (take (i + 1) xs))
+bytes_none spelled h xs i x told lt is o-is = rw (filter_map_more h xs i x None lt is o-is, append-nil (filter_map h (take i xs))) refl
+
+-- passing over one row more
+pub skip_on : {X : Type 0} (at : Reader X) (count i : ℕ) (bytes after : List ℕ) (x : X) (total : Option (List ℕ)) → i < count → at bytes ≡ Some (x, after)
+    → skipped at (count - i) bytes ≡ total → skipped at (count - (i + 1)) after ≡ total
+unfolding skipped
+skip_on at count i bytes after x total lt h so_far =
+    let k : count - i ≡ suc (count - (i + 1)) = omega arith in
+    let one : skipped at (count - i) bytes ≡ skipped at (count - (i + 1)) after = rw (k, h) refl in
+    sym one ∙ so_far
+
+pub skip_ends : {X : Type 0} (at : Reader X) (count i : ℕ) (bytes : List ℕ) (total : Option (List ℕ)) → i < count → at bytes ≡ None
+    → skipped at (count - i) bytes ≡ total → total ≡ None
+unfolding skipped
+skip_ends at count i bytes total lt h so_far =
+    let k : count - i ≡ suc (count - (i + 1)) = omega arith in
+    let one : skipped at (count - i) bytes ≡ None = rw (k, h) refl in
+    sym so_far ∙ one
+
+pub skip_done : {X : Type 0} (at : Reader X) (count i : ℕ) (bytes : List ℕ) (total : Option (List ℕ)) → count ≤ i → skipped at (count - i) bytes ≡ total → total ≡ Some bytes
+unfolding skipped
+skip_done at count i bytes total le so_far =
+    let k : count - i ≡ 0 = omega arith in
+    let one : skipped at (count - i) bytes ≡ Some bytes = rw k refl in
+    sym so_far ∙ one

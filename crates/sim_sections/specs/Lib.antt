@@ -1,0 +1,6 @@
+pub mod Rows
+pub mod Laws
+pub mod Lengths
+pub mod Sections
+pub mod SectionLaws
+pub mod Walking

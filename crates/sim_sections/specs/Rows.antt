@@ -1,0 +1,101 @@
+-- The rows of the sections as they are read: for each an id and a part, with the bytes that follow.
+use Rattle.std.specs.Prelude.{ℕ, zero, suc, ◌^◌, ◌<◌, ◌≤◌, Bool, not, ◌==◌, nat_lt, if◌then◌else◌, ℤ, FitsSigned, List, [], ◌∷◌, length, Option, None, Some, IfSome, option_map}
+use Rattle.std.specs.Int.{w16, w32}
+use Rattle.std.specs.List.{AllByRecursion}
+use Rattle.sim_base.specs.declared.place.Point.{Point}
+use Rattle.sim_base.specs.declared.state.Row.{Row}
+use Rattle.sim_base.specs.declared.state.Motion.{Motion}
+use Rattle.sim_base.specs.declared.state.Motion.TheVariants.{Still, Going}
+use Rattle.sim_bytes.specs.Reading.{Reader, ◌>>=◌, number_at, byte_at, signed_at}
+
+-- a part beside the id of its row
+abbrev pub with_id : {X : Type 0} → (Row → Option X) → Row → Option (ℕ × X)
+with_id part row = option_map (λ x. (row.id, x)) (part row)
+
+-- a way of at most 64 waypoints
+abbrev pub IsShort : Motion → Type 0
+IsShort Still = Unit {0}
+IsShort (Going goal way whole) = length way ≤ 64
+
+-- a row that has no way of more than 64 waypoints
+abbrev pub HasShortWay : Row → Type 0
+HasShortWay row = IfSome row.motion IsShort
+
+-- ---- entity
+
+pub record IsEntity (r : ℕ × ℕ) : Type 0 where
+  pub id : r.0 < 2 ^ 32
+  pub template : r.1 < 2 ^ 16
+
+unfoldable pub entity_at : Reader (ℕ × ℕ)
+entity_at bytes = number_at w32 bytes >>= λ id. number_at w16 id.1 >>= λ template. Some ((id.0, template.0), template.1)
+
+-- ---- position
+
+pub record IsPoint (p : Point) : Type 0 where
+  pub x : FitsSigned w32 p.x
+  pub z : FitsSigned w32 p.z
+
+unfoldable pub point_at : Reader Point
+point_at bytes = signed_at bytes >>= λ x. signed_at x.1 >>= λ z. Some (record { x = x.0; z = z.0 }, z.1)
+
+pub record IsPosition (r : ℕ × Point) : Type 0 where
+  pub id : r.0 < 2 ^ 32
+  pub at : IsPoint r.1
+
+unfoldable pub position_at : Reader (ℕ × Point)
+position_at bytes = number_at w32 bytes >>= λ id. point_at id.1 >>= λ at. Some ((id.0, at.0), at.1)
+
+-- ---- owner
+
+pub record IsOwner (r : ℕ × ℕ) : Type 0 where
+  pub id : r.0 < 2 ^ 32
+  pub owner : r.1 < 2 ^ 8
+
+unfoldable pub owner_at : Reader (ℕ × ℕ)
+owner_at bytes = number_at w32 bytes >>= λ id. byte_at id.1 >>= λ owner. Some ((id.0, owner.0), owner.1)
+
+-- ---- health
+
+pub record IsHealth (r : ℕ × ℤ) : Type 0 where
+  pub id : r.0 < 2 ^ 32
+  pub health : FitsSigned w32 r.1
+
+unfoldable pub health_at : Reader (ℕ × ℤ)
+health_at bytes = number_at w32 bytes >>= λ id. signed_at id.1 >>= λ health. Some ((id.0, health.0), health.1)
+
+-- ---- motion
+
+abbrev pub IsMotion : Motion → Type 0
+IsMotion Still = Unit {0}
+IsMotion (Going goal way whole) = IsPoint goal × AllByRecursion IsPoint way × (length way ≤ 64)
+
+pub record IsMoving (r : ℕ × Motion) : Type 0 where
+  pub id : r.0 < 2 ^ 32
+  pub motion : IsMotion r.1
+
+unfoldable pub points_at : ℕ → Reader (List Point)
+points_at zero bytes = Some ([], bytes)
+points_at (suc n) bytes = point_at bytes >>= λ first. points_at n first.1 >>= λ others. Some (first.0 ∷ others.0, others.1)
+
+abbrev pub made_motion : Bool → Point → List Point → Bool → Motion
+made_motion going goal way whole = if going then Going goal way whole else Still
+
+-- every mode but 0 is read as going, and every whole but 0 as yes
+unfoldable pub motion_at : Reader Motion
+motion_at bytes =
+    byte_at bytes >>= λ mode. point_at mode.1 >>= λ goal. byte_at goal.1 >>= λ whole. byte_at whole.1 >>= λ count.
+    if nat_lt 64 count.0 then None else (points_at count.0 count.1 >>= λ way. Some (made_motion (not (mode.0 == 0)) goal.0 way.0 (not (whole.0 == 0)), way.1))
+
+unfoldable pub moving_at : Reader (ℕ × Motion)
+moving_at bytes = number_at w32 bytes >>= λ id. motion_at id.1 >>= λ motion. Some ((id.0, motion.0), motion.1)
+
+-- ---- attack
+
+pub record IsAttack (r : ℕ × (ℕ × ℕ)) : Type 0 where
+  pub id : r.0 < 2 ^ 32
+  pub target : r.1.0 < 2 ^ 32
+  pub cooldown : r.1.1 < 2 ^ 16
+
+unfoldable pub attack_at : Reader (ℕ × (ℕ × ℕ))
+attack_at bytes = number_at w32 bytes >>= λ id. number_at w32 id.1 >>= λ target. number_at w16 target.1 >>= λ cooldown. Some ((id.0, (target.0, cooldown.0)), cooldown.1)

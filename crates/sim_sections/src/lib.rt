@@ -1,0 +1,23 @@
+//! The sections of a stored state: the form of a row in each of them, and how sections are told and taken.
+//!
+//! It promises that the bytes of a row are taken again as that row, and that no row's bytes begin another's in its
+//! section. A new section is one more form: nothing here counts them but the walk.
+//!
+//! - `form`: what a row of any section can do, with its two laws.
+//! - `rows`: the rows of fixed length: entity, position, owner, health and attack.
+//! - `motion`: the row of a motion, whose length depends on its way.
+//! - `section`: a section told, passed over, and taken row by row.
+//! - `walk`: a reader in each section, and what stands of one entity in all of them.
+#![tactic(auto)]
+
+mod form;
+mod motion;
+mod rows;
+mod section;
+mod walk;
+
+pub use form::RowForm;
+pub use motion::MotionRow;
+pub use rows::{AttackRow, EntityRow, HealthRow, OwnerRow, PositionRow};
+pub use section::{open_section, take_if, tell_section};
+pub use walk::{Parts, Walk, locate, take_parts};

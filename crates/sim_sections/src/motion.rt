@@ -1,0 +1,207 @@
+//! The row of a motion: its length depends on the way. The way stands in place, so that a row is read and told without
+//! memory.
+
+ghost use Rattle.std.specs.Prelude.{◌≡◌, ◌≤◌, ℕ, List, length, take, OnOk};
+ghost use Rattle.std.specs.List.{flat_map};
+ghost use Rattle.sim_base.specs.Spelling.{point_bytes, motion_bytes};
+ghost use Rattle.sim_base.specs.Bytes.{flag_bytes};
+ghost use Rattle.sim_base.specs.declared.state.Motion.TheVariants.{Still, Going};
+ghost use Rattle.sim_bytes.specs.Reading.{Reads, ReadsBy};
+ghost use Rattle.sim_bytes.specs.Telling.{Tells};
+ghost use Rattle.sim_sections.specs.Rows.{point_at, points_at};
+
+use crate::form::RowForm;
+use sim_base::{Fixed, Motion, Point, Row};
+use sim_bytes::{ByteSink, Short, Take, tell_i32, tell_u8, tell_u32};
+use std::marker::Model;
+
+/// Whether an entity moves: one that does not has no goal, no way and is not whole. The way is the first `count` points.
+#[derive(Drop)]
+pub struct MotionRow {
+    pub id: u32,
+    pub going: bool,
+    pub goal: Point,
+    pub whole: bool,
+    pub count: usize,
+    pub way: [Point; 64],
+}
+
+impl Model for MotionRow {
+    ghost use Rattle.std.specs.Prelude.{ℕ, ◌≤◌, take, if◌then◌else◌};
+    ghost use Rattle.sim_base.specs.declared.state.Motion.{Motion};
+    ghost use Rattle.sim_base.specs.declared.state.Motion.TheVariants.{Still, Going};
+
+    ghost Value = { ℕ × Motion };
+
+    ghost view = { λ row. (row.id, if row.going then Going row.goal (take row.count row.way) row.whole else Still) };
+
+    ghost invariant = { λ row. row.count ≤ 64 };
+}
+
+/// Takes a point.
+#[tactic(auto, unfolding(crate::specs::Rows::point_at))]
+pub fn take_point(from: &mut Take<'_>) -> Result<Point, Short>
+    ensures { Reads point_at from.old result from.new }
+{
+    let x = from.i32()?;
+    let z = from.i32()?;
+    Ok(Point {
+        x: Fixed::from_raw(x),
+        z: Fixed::from_raw(z),
+    })
+}
+
+fn no_point() -> Point {
+    Point {
+        x: Fixed::from_raw(0),
+        z: Fixed::from_raw(0),
+    }
+}
+
+fn take_way(from: &mut Take<'_>, count: usize) -> Result<[Point; 64], Short>
+    requires { count ≤ 64 }
+    ensures { ReadsBy (λ way. take count way) (points_at count) from.old result from.new }
+{
+    let mut way = [no_point(); 64];
+    for i in 0..count {
+        way[i] = take_point(from)?;
+    }
+    Ok(way)
+}
+
+/// Tells a point.
+pub fn tell_point<K: ByteSink>(out: &mut K, point: Point) -> Result<(), K::Fault>
+    ensures { OnOk result (Tells K.holds out.old out.new (point_bytes point)) }
+{
+    tell_i32(out, point.x.raw())?;
+    tell_i32(out, point.z.raw())
+}
+
+fn tell_points<K: ByteSink>(out: &mut K, points: &[Point]) -> Result<(), K::Fault>
+    ensures { OnOk result (Tells K.holds out.old out.new (flat_map point_bytes points.now)) }
+{
+    for point in points {
+        tell_point(out, *point)?;
+    }
+    Ok(())
+}
+
+fn tell_flag<K: ByteSink>(out: &mut K, flag: bool) -> Result<(), K::Fault>
+    ensures { OnOk result (Tells K.holds out.old out.new (flag_bytes flag)) }
+{
+    if flag {
+        tell_u8(out, 1)
+    } else {
+        tell_u8(out, 0)
+    }
+}
+
+fn tell_going<K: ByteSink>(
+    out: &mut K,
+    goal: Point,
+    whole: bool,
+    way: &[Point],
+) -> Result<(), K::Fault>
+    requires { length way.now ≤ 64 }
+    ensures { OnOk result (Tells K.holds out.old out.new (motion_bytes (Going goal way.now whole))) }
+{
+    tell_u8(out, 1)?;
+    tell_point(out, goal)?;
+    tell_flag(out, whole)?;
+    tell_u8(out, way.len() as u8)?;
+    tell_points(out, way)
+}
+
+fn tell_still<K: ByteSink>(out: &mut K) -> Result<(), K::Fault>
+    ensures { OnOk result (Tells K.holds out.old out.new (motion_bytes Still)) }
+{
+    tell_u8(out, 0)?;
+    tell_i32(out, 0)?;
+    tell_i32(out, 0)?;
+    tell_flag(out, false)?;
+    tell_u8(out, 0)
+}
+
+impl RowForm for MotionRow {
+    ghost use Rattle.sim_base.specs.Spelling.{moving_bytes, motion_part};
+    ghost use Rattle.sim_sections.specs.Rows.{with_id, IsMoving, moving_at};
+    ghost use Rattle.sim_sections.specs.Laws.{moving_back, prefix_nil};
+    ghost use Rattle.sim_sections.specs.Lengths.{moving_few};
+
+    const TAG: u8 = 5;
+
+    ghost TAG = { 5 };
+
+    ghost is_row = { IsMoving };
+
+    ghost spelled = { moving_bytes };
+
+    ghost row_at = { moving_at };
+
+    ghost in_row = { with_id motion_part };
+
+    fn of(row: &Row) -> Option<MotionRow> {
+        match &row.motion {
+            None => None,
+            Some(Motion::Still) => Some(MotionRow {
+                id: row.id,
+                going: false,
+                goal: no_point(),
+                whole: false,
+                count: 0,
+                way: [no_point(); 64],
+            }),
+            Some(Motion::Going { goal, way, whole }) => {
+                let points = way.as_slice();
+                let count = points.len();
+                let mut copy = [no_point(); 64];
+                copy[..count].copy_from_slice(points);
+                Some(MotionRow {
+                    id: row.id,
+                    going: true,
+                    goal: *goal,
+                    whole: *whole,
+                    count,
+                    way: copy,
+                })
+            }
+        }
+    }
+
+    #[tactic(auto, unfolding(crate::specs::Rows::moving_at, crate::specs::Rows::motion_at))]
+    fn take(from: &mut Take<'_>) -> Result<MotionRow, Short> {
+        let id = from.u32()?;
+        let mode = from.u8()?;
+        let goal = take_point(from)?;
+        let whole = from.u8()?;
+        let count = from.u8()?;
+        if count > 64 {
+            return Err(Short);
+        }
+        let count = count as usize;
+        let way = take_way(from, count)?;
+        Ok(MotionRow {
+            id,
+            going: mode != 0,
+            goal,
+            whole: whole != 0,
+            count,
+            way,
+        })
+    }
+
+    fn tell<K: ByteSink>(&self, out: &mut K) -> Result<(), K::Fault> {
+        tell_u32(out, self.id)?;
+        if self.going {
+            tell_going(out, self.goal, self.whole, &self.way[..self.count])
+        } else {
+            tell_still(out)
+        }
+    }
+
+    ghost read_back = { moving_back };
+
+    ghost no_prefix = { prefix_nil moving_at moving_bytes IsMoving moving_back };
+
+    ghost few_bytes = { moving_few };
+}

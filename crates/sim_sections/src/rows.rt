@@ -1,0 +1,319 @@
+//! The rows of fixed length. Each is an id and a part, and contracts see it as that pair.
+
+ghost use Rattle.std.specs.Prelude.{◌≡◌, ℕ, List};
+
+use crate::form::RowForm;
+use crate::motion::{take_point, tell_point};
+use sim_base::{Fixed, Point, Row};
+use sim_bytes::{ByteSink, Short, Take, tell_i32, tell_u8, tell_u16, tell_u32};
+use std::marker::Model;
+
+/// The number of an entity's template.
+#[derive(Drop)]
+pub struct EntityRow {
+    pub id: u32,
+    pub template: u16,
+}
+
+impl Model for EntityRow {
+    ghost use Rattle.std.specs.Prelude.{ℕ};
+
+    ghost Value = { ℕ × ℕ };
+
+    ghost view = { λ row. (row.id, row.template) };
+}
+
+impl RowForm for EntityRow {
+    ghost use Rattle.sim_base.specs.Spelling.{entity_bytes, entity_part};
+    ghost use Rattle.sim_sections.specs.Rows.{with_id, IsEntity, entity_at};
+    ghost use Rattle.sim_sections.specs.Laws.{entity_back, prefix_nil};
+    ghost use Rattle.sim_sections.specs.Lengths.{entity_few};
+
+    const TAG: u8 = 1;
+
+    ghost TAG = { 1 };
+
+    ghost is_row = { IsEntity };
+
+    ghost spelled = { entity_bytes };
+
+    ghost row_at = { entity_at };
+
+    ghost in_row = { with_id entity_part };
+
+    fn of(row: &Row) -> Option<EntityRow> {
+        Some(EntityRow {
+            id: row.id,
+            template: row.template,
+        })
+    }
+
+    #[tactic(auto, unfolding(crate::specs::Rows::entity_at))]
+    fn take(from: &mut Take<'_>) -> Result<EntityRow, Short> {
+        let id = from.u32()?;
+        let template = from.u16()?;
+        Ok(EntityRow { id, template })
+    }
+
+    fn tell<K: ByteSink>(&self, out: &mut K) -> Result<(), K::Fault> {
+        tell_u32(out, self.id)?;
+        tell_u16(out, self.template)
+    }
+
+    ghost read_back = { entity_back };
+
+    ghost no_prefix = { prefix_nil entity_at entity_bytes IsEntity entity_back };
+
+    ghost few_bytes = { entity_few };
+}
+
+/// Where an entity is.
+#[derive(Drop)]
+pub struct PositionRow {
+    pub id: u32,
+    pub at: Point,
+}
+
+impl Model for PositionRow {
+    ghost use Rattle.std.specs.Prelude.{ℕ};
+    ghost use Rattle.sim_base.specs.declared.place.Point.{Point};
+
+    ghost Value = { ℕ × Point };
+
+    ghost view = { λ row. (row.id, row.at) };
+}
+
+impl RowForm for PositionRow {
+    ghost use Rattle.sim_base.specs.Spelling.{position_bytes, position_part};
+    ghost use Rattle.sim_sections.specs.Rows.{with_id, IsPosition, position_at};
+    ghost use Rattle.sim_sections.specs.Laws.{position_back, prefix_nil};
+    ghost use Rattle.sim_sections.specs.Lengths.{position_few};
+
+    const TAG: u8 = 2;
+
+    ghost TAG = { 2 };
+
+    ghost is_row = { IsPosition };
+
+    ghost spelled = { position_bytes };
+
+    ghost row_at = { position_at };
+
+    ghost in_row = { with_id position_part };
+
+    fn of(row: &Row) -> Option<PositionRow> {
+        Some(PositionRow {
+            id: row.id,
+            at: row.at,
+        })
+    }
+
+    #[tactic(auto, unfolding(crate::specs::Rows::position_at))]
+    fn take(from: &mut Take<'_>) -> Result<PositionRow, Short> {
+        let id = from.u32()?;
+        let at = take_point(from)?;
+        Ok(PositionRow { id, at })
+    }
+
+    fn tell<K: ByteSink>(&self, out: &mut K) -> Result<(), K::Fault> {
+        tell_u32(out, self.id)?;
+        tell_point(out, self.at)
+    }
+
+    ghost read_back = { position_back };
+
+    ghost no_prefix = { prefix_nil position_at position_bytes IsPosition position_back };
+
+    ghost few_bytes = { position_few };
+}
+
+/// Whose an entity is.
+#[derive(Drop)]
+pub struct OwnerRow {
+    pub id: u32,
+    pub owner: u8,
+}
+
+impl Model for OwnerRow {
+    ghost use Rattle.std.specs.Prelude.{ℕ};
+
+    ghost Value = { ℕ × ℕ };
+
+    ghost view = { λ row. (row.id, row.owner) };
+}
+
+impl RowForm for OwnerRow {
+    ghost use Rattle.sim_base.specs.Spelling.{owner_bytes, owner_part};
+    ghost use Rattle.sim_sections.specs.Rows.{with_id, IsOwner, owner_at};
+    ghost use Rattle.sim_sections.specs.Laws.{owner_back, prefix_nil};
+    ghost use Rattle.sim_sections.specs.Lengths.{owner_few};
+
+    const TAG: u8 = 3;
+
+    ghost TAG = { 3 };
+
+    ghost is_row = { IsOwner };
+
+    ghost spelled = { owner_bytes };
+
+    ghost row_at = { owner_at };
+
+    ghost in_row = { with_id owner_part };
+
+    fn of(row: &Row) -> Option<OwnerRow> {
+        Some(OwnerRow {
+            id: row.id,
+            owner: row.owner,
+        })
+    }
+
+    #[tactic(auto, unfolding(crate::specs::Rows::owner_at))]
+    fn take(from: &mut Take<'_>) -> Result<OwnerRow, Short> {
+        let id = from.u32()?;
+        let owner = from.u8()?;
+        Ok(OwnerRow { id, owner })
+    }
+
+    fn tell<K: ByteSink>(&self, out: &mut K) -> Result<(), K::Fault> {
+        tell_u32(out, self.id)?;
+        tell_u8(out, self.owner)
+    }
+
+    ghost read_back = { owner_back };
+
+    ghost no_prefix = { prefix_nil owner_at owner_bytes IsOwner owner_back };
+
+    ghost few_bytes = { owner_few };
+}
+
+/// The health of an entity that has one.
+#[derive(Drop)]
+pub struct HealthRow {
+    pub id: u32,
+    pub health: Fixed,
+}
+
+impl Model for HealthRow {
+    ghost use Rattle.std.specs.Prelude.{ℕ, ℤ};
+
+    ghost Value = { ℕ × ℤ };
+
+    ghost view = { λ row. (row.id, row.health) };
+}
+
+impl RowForm for HealthRow {
+    ghost use Rattle.sim_base.specs.Spelling.{health_bytes, health_part};
+    ghost use Rattle.sim_sections.specs.Rows.{with_id, IsHealth, health_at};
+    ghost use Rattle.sim_sections.specs.Laws.{health_back, prefix_nil};
+    ghost use Rattle.sim_sections.specs.Lengths.{health_few};
+
+    const TAG: u8 = 4;
+
+    ghost TAG = { 4 };
+
+    ghost is_row = { IsHealth };
+
+    ghost spelled = { health_bytes };
+
+    ghost row_at = { health_at };
+
+    ghost in_row = { with_id health_part };
+
+    fn of(row: &Row) -> Option<HealthRow> {
+        match row.health {
+            None => None,
+            Some(health) => Some(HealthRow { id: row.id, health }),
+        }
+    }
+
+    #[tactic(auto, unfolding(crate::specs::Rows::health_at))]
+    fn take(from: &mut Take<'_>) -> Result<HealthRow, Short> {
+        let id = from.u32()?;
+        let raw = from.i32()?;
+        Ok(HealthRow {
+            id,
+            health: Fixed::from_raw(raw),
+        })
+    }
+
+    fn tell<K: ByteSink>(&self, out: &mut K) -> Result<(), K::Fault> {
+        tell_u32(out, self.id)?;
+        tell_i32(out, self.health.raw())
+    }
+
+    ghost read_back = { health_back };
+
+    ghost no_prefix = { prefix_nil health_at health_bytes IsHealth health_back };
+
+    ghost few_bytes = { health_few };
+}
+
+/// Whom an entity attacks, or 0, and the turns until it may hit again. Whether it holds its place is not stored.
+#[derive(Drop)]
+pub struct AttackRow {
+    pub id: u32,
+    pub target: u32,
+    pub cooldown: u16,
+}
+
+impl Model for AttackRow {
+    ghost use Rattle.std.specs.Prelude.{ℕ};
+
+    ghost Value = { ℕ × (ℕ × ℕ) };
+
+    ghost view = { λ row. (row.id, (row.target, row.cooldown)) };
+}
+
+impl RowForm for AttackRow {
+    ghost use Rattle.sim_base.specs.Spelling.{attack_bytes, attack_part};
+    ghost use Rattle.sim_sections.specs.Rows.{with_id, IsAttack, attack_at};
+    ghost use Rattle.sim_sections.specs.Laws.{attack_back, prefix_nil};
+    ghost use Rattle.sim_sections.specs.Lengths.{attack_few};
+
+    const TAG: u8 = 6;
+
+    ghost TAG = { 6 };
+
+    ghost is_row = { IsAttack };
+
+    ghost spelled = { attack_bytes };
+
+    ghost row_at = { attack_at };
+
+    ghost in_row = { with_id attack_part };
+
+    fn of(row: &Row) -> Option<AttackRow> {
+        match row.attack {
+            None => None,
+            Some(aim) => Some(AttackRow {
+                id: row.id,
+                target: aim.target,
+                cooldown: aim.cooldown,
+            }),
+        }
+    }
+
+    #[tactic(auto, unfolding(crate::specs::Rows::attack_at))]
+    fn take(from: &mut Take<'_>) -> Result<AttackRow, Short> {
+        let id = from.u32()?;
+        let target = from.u32()?;
+        let cooldown = from.u16()?;
+        Ok(AttackRow {
+            id,
+            target,
+            cooldown,
+        })
+    }
+
+    fn tell<K: ByteSink>(&self, out: &mut K) -> Result<(), K::Fault> {
+        tell_u32(out, self.id)?;
+        tell_u32(out, self.target)?;
+        tell_u16(out, self.cooldown)
+    }
+
+    ghost read_back = { attack_back };
+
+    ghost no_prefix = { prefix_nil attack_at attack_bytes IsAttack attack_back };
+
+    ghost few_bytes = { attack_few };
+}

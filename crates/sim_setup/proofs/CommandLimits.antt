@@ -1,0 +1,131 @@
+-- What holds of the commands of a match file.
+use Rattle.std.proofs.Common.{◌≡◌, ℕ, zero, suc, ◌+◌, ◌<◌, ◌≤◌, Bool, true, false, nat_le, nat_lt, List, [], ◌∷◌, ◌++◌, length, codes, count_by, map, All, Option, Some, None, option_map, option_and_then, Result, Ok, refl, sym, ap, ◌∙◌, subst, arith, cond, if◌then◌else◌, get_or}
+use Rattle.std.specs.Str.{bytes_eq}
+use Rattle.std.specs.List.Sorted.{IsNonDecreasing}
+use Rattle.std.proofs.lemmas.Bool.{leb-true, ltb-true, ltb-false}
+use Rattle.std.proofs.lemmas.List.Elements.{All-cons}
+use Rattle.serde_json.specs.Data.{Data}
+use Rattle.serde_json.specs.Find.{as_str}
+use Rattle.sim_base.specs.declared.command.Command.{Command}
+use Rattle.sim_base.specs.declared.command.Command.TheVariants.{Delete}
+use Rattle.sim_base.specs.declared.setup.Timed.{Timed}
+use Rattle.sim_base.specs.Limits.{IsFrom, HasFewIds, is_given}
+use Rattle.sim_json.specs.Values.{list_of, natural_in, front_two}
+use Rattle.sim_json.specs.Records.{records, numbered}
+use Rattle.sim_json.proofs.Readers.{next_some, and_then_some, map_some, if_some, then_some, natural_in-within}
+use Rattle.sim_json.proofs.Reading.{numbered-keeps, numbered-length, numbered_from_records}
+use Rattle.sim_setup.specs.Posts.{IsDelete}
+use Rattle.sim_setup.specs.Commands.{id_in, ids_from, ids_of, delete_from, command_by, command_from, crowd, if_room, timed_from, timed_of, falls_at}
+use Rattle.sim_setup.proofs.Tally.{push_counted, both_same}
+
+-- ---- what is ordered
+
+ids_of-few : (d : Data) (ids : List ℕ) → ids_of d ≡ Some ids → length ids ≤ 256
+ids_of-few d ids e =
+    let ds = and_then_some (list_of d) ids_from ids e in
+    let kept = then_some (nat_le (length ds.0) 256) (records (λ done. id_in) [] ds.0) ids ds.2 in
+    let few : length ds.0 ≤ 256 = leb-true (length ds.0) 256 kept.0 in
+    omega (arith, few, numbered-length (λ done. id_in) [] ds.0 ids (numbered_from_records (λ done. id_in) [] ds.0 ids kept.1))
+
+-- a command that is read deletes, and names few entities
+record IsSmallDelete (command : Command) : Type 0 where
+  deletes : IsDelete command
+  few : HasFewIds command
+
+delete_from-is : (rest : List Data) (command : Command) → delete_from rest ≡ Some command → IsSmallDelete command
+delete_from-is [] command e = absurd cc
+delete_from-is (d ∷ []) command e =
+    let ids = map_some (ids_of d) Delete command e in
+    subst IsSmallDelete ids.2 (record { deletes = tt; few = ids_of-few d ids.0 ids.1 })
+delete_from-is (d ∷ e ∷ rest) command none = absurd cc
+
+command_from-is : (items : List Data) (command : Command) → command_from items ≡ Some command → IsSmallDelete command
+command_from-is [] command e = absurd cc
+command_from-is (kind ∷ rest) command e =
+    let word = next_some (as_str kind) _ command e in
+    delete_from-is rest command (then_some (bytes_eq word.0 (codes "delete")) (delete_from rest) command word.2).1
+
+-- ---- who orders, and when
+
+pub record IsRead (turns players : ℕ) (done : List Timed) (timed : Timed) : Type 0 where
+  pub turn : IsFrom 1 turns timed.turn
+  pub player : IsFrom 1 players timed.order.player
+  pub deletes : IsDelete timed.order.command
+  pub ids : HasFewIds timed.order.command
+  pub room : crowd timed.turn timed.order.player done < 64
+
+timed_from-is : (turns players : ℕ) (done : List Timed) (p : Data × Data × List Data) (timed : Timed) → timed_from turns players done p ≡ Some timed → IsRead turns players done timed
+timed_from-is turns players done p timed e =
+    let turn = next_some (natural_in 1 turns p.0) _ timed e in
+    let player = next_some (natural_in 1 players p.1) _ timed turn.2 in
+    let command = next_some (command_from p.2) _ timed player.2 in
+    let small = command_from-is p.2 command.0 command.1 in
+    let kept = if_some (nat_lt (crowd turn.0 player.0 done) 64) _ timed command.2 in
+    subst (IsRead turns players done) kept.1 (record {
+      turn = natural_in-within 1 turns p.0 turn.0 turn.1;
+      player = natural_in-within 1 players p.1 player.0 player.1;
+      deletes = small.deletes;
+      ids = small.few;
+      room = ltb-true (crowd turn.0 player.0 done) 64 kept.0;
+    })
+
+pub timed_of-is : (turns players : ℕ) (done : List Timed) (d : Data) (timed : Timed) → timed_of turns players done d ≡ Some timed → IsRead turns players done timed
+unfolding timed_of
+timed_of-is turns players done d timed e =
+    let p = and_then_some (option_and_then front_two (list_of d)) (timed_from turns players done) timed e in
+    timed_from-is turns players done p.0 timed p.2
+
+-- ---- at most 64 of one player in one turn
+
+abbrev NotCrowded : List Timed → Type 0
+NotCrowded done = (turn player : ℕ) → crowd turn player done ≤ 64
+
+more_crowded : (done : List Timed) (timed : Timed) → crowd timed.turn timed.order.player done < 64 → NotCrowded done → NotCrowded (done ++ timed ∷ [])
+more_crowded done timed room so_far = λ turn player. by turn player (is_given turn player timed) refl
+  where
+    by : (turn player : ℕ) (given : Bool) → is_given turn player timed ≡ given → crowd turn player (done ++ timed ∷ []) ≤ 64
+    by turn player false is = omega (arith, push_counted turn player done timed false is, so_far turn player)
+    by turn player true is =
+        let same = both_same timed.turn turn timed.order.player player is in
+        let fewer = subst (λ n. crowd turn n done < 64) same.1 (subst (λ n. crowd n timed.order.player done < 64) same.0 room) in
+        omega (arith, push_counted turn player done timed true is, fewer)
+
+pub timeds-not_crowded : (turns players : ℕ) (ds : List Data) (commands : List Timed) → numbered (timed_of turns players) [] ds ≡ Ok commands
+    → (turn player : ℕ) → count_by (is_given turn player) commands ≤ 64
+timeds-not_crowded turns players ds commands e =
+    numbered-keeps (timed_of turns players) (λ front done. NotCrowded done)
+    (λ front done d timed is so_far. more_crowded done timed (timed_of-is turns players done d timed is).room so_far) [] [] ds commands e (λ turn player. omega arith)
+
+-- ---- turns that do not fall
+
+abbrev turns_of : List Timed → List ℕ
+turns_of commands = map (λ (timed : Timed). timed.turn) commands
+
+one_before : (n : ℕ) (ns : List ℕ) → All (λ m. n ≤ m) ns → IsNonDecreasing ns → IsNonDecreasing (n ∷ ns)
+one_before n ns above so_far zero zero d before within = omega arith
+one_before n ns above so_far zero (suc j) d before within = above j d (omega arith)
+one_before n ns above so_far (suc i) zero d before within = absurd (omega arith)
+one_before n ns above so_far (suc i) (suc j) d before within = so_far i j d (omega arith) (omega arith)
+
+-- no number is less than one that stands before the list, nor than one before it in the list
+record Rises (before : ℕ) (ns : List ℕ) : Type 0 where
+  above : All (λ n. before ≤ n) ns
+  each : IsNonDecreasing ns
+
+rises : (before i : ℕ) (commands : List Timed) → falls_at before i commands ≡ None → Rises before (turns_of commands)
+rises before i [] e = record { above = λ k d within. absurd (omega arith); each = λ j k d up within. absurd (omega arith) }
+rises before i (timed ∷ rest) e = by (nat_lt timed.turn before) refl e (rises timed.turn (i + 1) rest)
+  where
+    by : (falls : Bool) → nat_lt timed.turn before ≡ falls → (if falls then Some i else falls_at timed.turn (i + 1) rest) ≡ None
+        → (falls_at timed.turn (i + 1) rest ≡ None → Rises timed.turn (turns_of rest)) → Rises before (turns_of (timed ∷ rest))
+    by true is e later = absurd cc
+    by false is e later =
+        let so_far = later e in
+        let up : before ≤ timed.turn = ltb-false timed.turn before is in
+        record {
+          above = All-cons (λ n. before ≤ n) timed.turn (turns_of rest) up (λ k d within. omega (arith, up, so_far.above k d within));
+          each = one_before timed.turn (turns_of rest) so_far.above so_far.each;
+        }
+
+pub in_order-IsNonDecreasing : (commands : List Timed) → falls_at 0 0 commands ≡ None → IsNonDecreasing (map (λ (timed : Timed). timed.turn) commands)
+in_order-IsNonDecreasing commands e = (rises 0 0 commands e).each

@@ -1,0 +1,16 @@
+use Rattle.std.proofs.Common.{◌≡◌, map, length, []}
+use Rattle.serde_json.specs.View.{view}
+use Rattle.sim_json.specs.Records.{numbered}
+use Rattle.sim_setup.specs.Commands.{timed_of}
+use Rattle.sim_setup.specs.Crowds.{Tallies, Covers}
+use Rattle.sim_setup.proofs.commands.timeds_from.Given as goal
+
+abbrev pub invariant-loop-rest : goal.invariant-loop-rest
+invariant-loop-rest l = record {
+  same : numbered (timed_of l.turns l.players) l.found.items (map view l.rest) ≡ numbered (timed_of l.turns l.players) [] (map view l.items);
+  tallies : Tallies l.crowd l.found.items;
+  covers : Covers l.crowd l.turns;
+}
+
+abbrev pub decreases-loop-rest : goal.decreases-loop-rest
+decreases-loop-rest l = length l.rest

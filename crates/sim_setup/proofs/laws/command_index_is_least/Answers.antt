@@ -1,0 +1,7 @@
+use Rattle.std.proofs.Common.{[]}
+use Rattle.sim_json.proofs.Reading.{is_least}
+use Rattle.sim_setup.specs.Commands.{timed_of}
+use Rattle.sim_setup.proofs.laws.command_index_is_least.Goals as goal
+
+pub returns : goal.returns
+returns c = λ turns players ds i refused. is_least (timed_of turns players) [] ds i refused

@@ -1,0 +1,10 @@
+use Rattle.std.proofs.Common.{◌≡◌, map, length}
+use Rattle.serde_json.specs.View.{view}
+use Rattle.sim_setup.specs.Players.{mask_from}
+use Rattle.sim_setup.proofs.players.mask_from.Given as goal
+
+abbrev pub invariant-loop-rest : goal.invariant-loop-rest
+invariant-loop-rest l = mask_from l.players l.player l.mask (map view l.rest) ≡ mask_from l.players l.player 0 (map view l.items)
+
+abbrev pub decreases-loop-rest : goal.decreases-loop-rest
+decreases-loop-rest l = length l.rest

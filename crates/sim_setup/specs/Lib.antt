@@ -1,0 +1,13 @@
+pub mod Refusals
+pub mod Shape
+pub mod Players
+pub mod Ground
+pub mod Rules
+pub mod Templates
+pub mod Entities
+pub mod Commands
+pub mod Setups
+pub mod Meets
+pub mod Crowds
+pub mod Posts
+pub mod Laws

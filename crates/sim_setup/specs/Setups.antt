@@ -1,0 +1,63 @@
+-- The setup of a match file, or why it has none: the passes over the file, in the order of their codes.
+use Rattle.std.specs.Prelude.{ℕ, ◌-◌, List, length, codes, Option, Result, Ok}
+use Rattle.serde_json.specs.Data.{Data}
+use Rattle.md5.specs.Md5.{md5}
+use Rattle.sim_base.specs.declared.setup.Land.{Land}
+use Rattle.sim_base.specs.declared.setup.Timed.{Timed}
+use Rattle.sim_base.specs.declared.setup.Setup.{Setup}
+use Rattle.sim_json.specs.Values.{value_of, list_at}
+use Rattle.sim_setup.specs.declared.rules.Rules.{Rules}
+use Rattle.sim_setup.specs.declared.passes.Lists.{Lists}
+use Rattle.sim_setup.specs.Refusals.{Refusal, need, after, unless_at}
+use Rattle.sim_setup.specs.Shape.{misplaced}
+use Rattle.sim_setup.specs.Ground.{land_in}
+use Rattle.sim_setup.specs.Rules.{rules_in}
+use Rattle.sim_setup.specs.Templates.{templates_in, templates_from}
+use Rattle.sim_setup.specs.Entities.{entities_in, firsts_from}
+use Rattle.sim_setup.specs.Commands.{timeds_from, in_order}
+
+-- all owners but Gaia
+abbrev pub players_of : Land → ℕ
+players_of land = length land.masks - 1
+
+-- codes 9 and 10; that the commands are a list was seen before
+abbrev pub commands_in : Land → Rules → Data → Result (List Timed) Refusal
+commands_in land rules d = need 2 9 (list_at (codes "commands") d) (λ ds. after (timeds_from rules.turns (players_of land) ds) in_order)
+
+-- codes 7 to 10
+abbrev pub items_in : Land → Rules → List Data → List Data → Data → Result Lists Refusal
+items_in land rules templates entities d =
+    after (templates_from templates) (λ templates. after (firsts_from templates land (players_of land) entities) (λ first.
+    after (commands_in land rules d) (λ commands. Ok (record { templates = templates; first = first; commands = commands }))))
+
+-- code 3 for the lengths of lists, and codes 7 to 10
+abbrev pub lists_in : Land → Rules → Data → Result Lists Refusal
+lists_in land rules d = need 3 7 (templates_in d) (λ templates. need 3 8 (entities_in d) (λ entities. items_in land rules templates entities d))
+
+-- a setup from its parts
+abbrev pub setup_with : List ℕ → Land → Rules → Lists → Setup
+setup_with id land rules lists =
+    record {
+      id = id;
+      land = land;
+      players = players_of land;
+      cap = rules.cap;
+      delay = rules.delay;
+      turns = rules.turns;
+      seed = rules.seed;
+      templates = lists.templates;
+      first = lists.first;
+      commands = lists.commands;
+    }
+
+-- codes 3 to 10
+abbrev pub limits_in : List ℕ → Data → Result Setup Refusal
+limits_in id d = after (land_in d) (λ land. after (rules_in d) (λ rules. after (lists_in land rules d) (λ lists. Ok (setup_with id land rules lists))))
+
+-- codes 2 to 10
+abbrev pub setup_in : List ℕ → Data → Result Setup Refusal
+setup_in id d = unless_at 2 (misplaced d) (limits_in id d)
+
+-- the setup of the bytes of a file; its id is MD5 of them
+abbrev pub setup_of : List ℕ → Result Setup Refusal
+setup_of bytes = need 1 0 (value_of bytes) (setup_in (md5 bytes))

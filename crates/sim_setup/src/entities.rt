@@ -1,0 +1,136 @@
+//! Codes 3 and 8 at the key `entities`. Coordinates are whole metres so far.
+
+ghost use Rattle.std.specs.Prelude.{◌≡◌, ◌<◌, ◌≤◌, map, length, option_map, option_and_then, IfSome};
+ghost use Rattle.serde_json.specs.View.{view};
+ghost use Rattle.serde_json.specs.Find.{as_str};
+ghost use Rattle.sim_base.specs.Places.{is_inside as is_inside_size, is_within as is_within_cells};
+ghost use Rattle.sim_base.specs.Rows.{size_of};
+ghost use Rattle.sim_json.specs.Values.{list_of as list_of_data, four as four_of};
+ghost use Rattle.sim_setup.specs.Entities.{entities_in as entities_in_data, coordinate as coordinate_data, point_of as point_of_data, if_inside, is_called as is_called_template, number_of as number_of_name, first_of as first_of_data, firsts_from as firsts_from_data};
+ghost use Rattle.sim_setup.specs.Meets.{Meets};
+
+use crate::fault::{SetupFault, refused};
+use serde_json::Value;
+use sim_base::{First, Firsts, Fixed, Land, Point, Template};
+use sim_json::{four, list_at, list_of, natural_in};
+use std::alloc::Global;
+
+/// The items of the list, where there are at most 4096.
+pub fn entities_in(value: &Value) -> Option<&[Value]>
+    ensures { option_map (λ items. map view items.now) result ≡ entities_in_data (view value.now) }
+{
+    let items = list_at(value, "entities")?;
+    if items.len() <= 4096 {
+        Some(items)
+    } else {
+        None
+    }
+}
+
+/// The entities, or the refusal of the first item that is none.
+pub fn firsts_from(
+    alloc: Global,
+    templates: &[Template],
+    land: &Land,
+    players: u8,
+    items: &[Value],
+) -> Result<Firsts, SetupFault>
+    requires { length templates.now ≤ 256 }
+    ensures { Meets result (firsts_from_data templates.now land.now players (map view items.now)) }
+{
+    let mut found = Vec::new(alloc);
+    let mut rest = items;
+    while let [item, more @ ..] = rest {
+        match first_of(templates, land, players, item) {
+            Some(first) => found.push(first)?,
+            None => return Err(refused(8, found.len())),
+        }
+        rest = more;
+    }
+    Ok(Firsts::from_items(found))
+}
+
+#[tactic(auto, unfolding(crate::specs::Entities::first_of))]
+fn first_of(templates: &[Template], land: &Land, players: u8, item: &Value) -> Option<First>
+    requires { length templates.now ≤ 256 }
+    ensures { result ≡ first_of_data templates.now land.now players (view item.now) }
+{
+    let (name, owner, x, z) = four(list_of(item)?)?;
+    let template = number_in(templates, name)?;
+    let owner = natural_in(owner, 0, u64::from(players))?;
+    let at = point_in(land, x, z)?;
+    let owner = owner as u8;
+    Some(First {
+        template,
+        owner,
+        at,
+    })
+}
+
+fn number_in(templates: &[Template], name: &Value) -> Option<u16>
+    requires { length templates.now ≤ 256 }
+    ensures { result ≡ option_and_then (number_of_name templates.now) (as_str (view name.now)) }
+{
+    number_of(templates, name.as_str()?)
+}
+
+fn number_of(templates: &[Template], name: &str) -> Option<u16>
+    requires { length templates.now ≤ 256 }
+    ensures { result ≡ number_of_name templates.now name.now }
+{
+    match place_of(templates, name) {
+        Some(number) => Some(number as u16),
+        None => None,
+    }
+}
+
+fn place_of(templates: &[Template], name: &str) -> Option<usize>
+    ensures value { result ≡ number_of_name templates.now name.now }
+    ensures within { IfSome result (λ number. number < length templates.now) }
+{
+    templates
+        .iter()
+        .position(|template| is_called(template, name))
+}
+
+fn is_called(template: &Template, name: &str) -> bool
+    ensures { result ≡ is_called_template name.now template.now }
+{
+    template.name.text() == name
+}
+
+fn point_in(land: &Land, x: &Value, z: &Value) -> Option<Point>
+    ensures { result ≡ option_and_then (if_inside land.now) (point_of_data (view x.now) (view z.now)) }
+{
+    let at = point_of(x, z)?;
+    if is_inside(land, &at) { Some(at) } else { None }
+}
+
+fn is_inside(land: &Land, at: &Point) -> bool
+    ensures { result ≡ is_inside_size (size_of land.now) at.now }
+{
+    is_within(at.x, land.width) && is_within(at.z, land.depth)
+}
+
+fn is_within(coordinate: Fixed, cells: u16) -> bool
+    ensures { result ≡ is_within_cells coordinate cells }
+{
+    let raw = i64::from(coordinate.raw());
+    0 <= raw && raw < i64::from(cells) * 65_536
+}
+
+fn point_of(x: &Value, z: &Value) -> Option<Point>
+    ensures { result ≡ point_of_data (view x.now) (view z.now) }
+{
+    let x = coordinate(x)?;
+    let z = coordinate(z)?;
+    Some(Point { x, z })
+}
+
+// A whole number of metres.
+fn coordinate(value: &Value) -> Option<Fixed>
+    ensures { result ≡ coordinate_data (view value.now) }
+{
+    let metres = natural_in(value, 0, 32_767)?;
+    Some(Fixed::from_raw(metres as i32 * 65_536))
+}

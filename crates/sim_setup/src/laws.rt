@@ -1,0 +1,19 @@
+//! What the index of a refusal says of a list: the items before it are read, and the one at it is not, beside their
+//! records. Each function does nothing; its contract is the law.
+
+ghost use Rattle.sim_setup.specs.Laws.{TemplateIndexIsLeast, EntityIndexIsLeast, CommandIndexIsLeast};
+
+/// The index of a template that is refused is the least.
+pub fn template_index_is_least()
+    ensures { TemplateIndexIsLeast }
+{}
+
+/// The index of an entity that is refused is the least.
+pub fn entity_index_is_least()
+    ensures { EntityIndexIsLeast }
+{}
+
+/// The index of a command that is refused is the least.
+pub fn command_index_is_least()
+    ensures { CommandIndexIsLeast }
+{}

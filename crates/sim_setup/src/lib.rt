@@ -1,0 +1,38 @@
+//! Reading match files: the setup that the bytes of a file stand for, or the one code and index by which they are
+//! refused.
+//!
+//! It promises that the answer is exactly that of its definition, that every setup meets the limits that the crates
+//! above count on, and that the index of a refusal is the least. It stands on `serde_json` for the text, on `md5` for
+//! the id of a match, and on `sim_json` for values. So far it reads matches of posts: templates with health alone,
+//! coordinates of whole metres, and commands that delete.
+//!
+//! One module has the passes of one code or key, in the order in which they run:
+//!
+//! - `fault`: how a file is refused.
+//! - `shape`: code 2, the ten keys and the kinds of their values.
+//! - `ground`, `players`, `rules`: code 3, numbers and lists within their limits.
+//! - `templates`: codes 3 and 7.
+//! - `entities`: codes 3 and 8.
+//! - `commands`, `crowd`: codes 9 and 10.
+//! - `passes`: all of them, one after another.
+//! - `laws`: what the index of a refusal says of a list.
+#![tactic(auto)]
+
+mod commands;
+mod crowd;
+mod entities;
+mod fault;
+mod ground;
+mod laws;
+mod passes;
+mod players;
+mod rules;
+mod shape;
+mod templates;
+
+pub use fault::SetupFault;
+pub use laws::{command_index_is_least, entity_index_is_least, template_index_is_least};
+pub use passes::setup_of;
+
+#[cfg(test)]
+mod tests;

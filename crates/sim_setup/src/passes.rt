@@ -1,0 +1,146 @@
+//! The passes over a match file, one after another in the order of their codes, so that the first code that applies is
+//! the answer.
+
+ghost use Rattle.std.specs.Prelude.{◌≡◌, ◌≤◌, map, length, IfOk};
+ghost use Rattle.serde_json.specs.View.{view};
+ghost use Rattle.sim_base.specs.Limits.{IsSetup};
+ghost use Rattle.sim_setup.specs.Meets.{Meets};
+ghost use Rattle.sim_setup.specs.Posts.{IsOfPosts};
+ghost use Rattle.sim_setup.specs.Setups.{players_of as players_of_land, commands_in as commands_in_data, items_in as items_in_data, lists_in as lists_in_data, setup_with as setup_with_parts, limits_in as limits_in_data, setup_in as setup_in_data, setup_of as setup_of_bytes};
+
+use crate::commands::{in_order, timeds_from};
+use crate::entities::{entities_in, firsts_from};
+use crate::fault::SetupFault;
+use crate::ground::land_in;
+use crate::rules::{Rules, rules_in};
+use crate::shape::misplaced;
+use crate::templates::{templates_from, templates_in};
+use md5::{Digest, Md5};
+use serde_json::Value;
+use sim_base::{Firsts, Land, Setup, Templates, Timeds};
+use sim_json::{list_at, value_of};
+use std::alloc::Global;
+
+/// The lists of a match, as a setup has them.
+#[derive(Debug, Drop)]
+pub struct Lists {
+    pub templates: Templates,
+    pub first: Firsts,
+    pub commands: Timeds,
+}
+
+/// The setup of the bytes of a match file, or the first code that refuses them, with the least index at which it
+/// applies.
+pub fn setup_of(alloc: Global, bytes: &[u8]) -> Result<Setup, SetupFault>
+    ensures answers { Meets result (setup_of_bytes bytes.now) }
+    ensures limits { IfOk result IsSetup }
+    ensures posts { IfOk result IsOfPosts }
+{
+    let Some(value) = value_of(alloc, bytes)? else {
+        return Err(SetupFault::Refused { code: 1, index: 0 });
+    };
+    setup_in(alloc, Md5::digest(bytes), &value)
+}
+
+fn setup_in(alloc: Global, id: [u8; 16], value: &Value) -> Result<Setup, SetupFault>
+    ensures { Meets result (setup_in_data id (view value.now)) }
+{
+    if let Some(index) = misplaced(value) {
+        return Err(SetupFault::Refused { code: 2, index });
+    }
+    limits_in(alloc, id, value)
+}
+
+fn limits_in(alloc: Global, id: [u8; 16], value: &Value) -> Result<Setup, SetupFault>
+    ensures { Meets result (limits_in_data id (view value.now)) }
+{
+    let land = land_in(alloc, value)?;
+    let rules = rules_in(value)?;
+    let lists = lists_in(alloc, &land, rules, value)?;
+    Ok(setup_with(id, land, rules, lists))
+}
+
+fn setup_with(id: [u8; 16], land: Land, rules: Rules, lists: Lists) -> Setup
+    requires { length land.masks ≤ 9 }
+    ensures { result ≡ setup_with_parts id land rules lists }
+{
+    let players = players_of(&land);
+    Setup {
+        id,
+        land,
+        players,
+        cap: rules.cap,
+        delay: rules.delay,
+        turns: rules.turns,
+        seed: rules.seed,
+        templates: lists.templates,
+        first: lists.first,
+        commands: lists.commands,
+    }
+}
+
+fn lists_in(alloc: Global, land: &Land, rules: Rules, value: &Value) -> Result<Lists, SetupFault>
+    requires players { length land.now.masks ≤ 9 }
+    requires turns { rules.turns ≤ 65535 }
+    ensures { Meets result (lists_in_data land.now rules (view value.now)) }
+{
+    let Some(templates) = templates_in(value) else {
+        return Err(SetupFault::Refused { code: 3, index: 7 });
+    };
+    let Some(entities) = entities_in(value) else {
+        return Err(SetupFault::Refused { code: 3, index: 8 });
+    };
+    items_in(alloc, land, rules, templates, entities, value)
+}
+
+fn items_in(
+    alloc: Global,
+    land: &Land,
+    rules: Rules,
+    templates: &[Value],
+    entities: &[Value],
+    value: &Value,
+) -> Result<Lists, SetupFault>
+    requires players { length land.now.masks ≤ 9 }
+    requires turns { rules.turns ≤ 65535 }
+    requires templates { length templates.now ≤ 256 }
+    ensures { Meets result (items_in_data land.now rules (map view templates.now) (map view entities.now) (view value.now)) }
+{
+    let templates = templates_from(alloc, templates)?;
+    let first = firsts_from(
+        alloc,
+        templates.as_slice(),
+        land,
+        players_of(land),
+        entities,
+    )?;
+    let commands = commands_in(alloc, land, rules, value)?;
+    Ok(Lists {
+        templates,
+        first,
+        commands,
+    })
+}
+
+fn commands_in(
+    alloc: Global,
+    land: &Land,
+    rules: Rules,
+    value: &Value,
+) -> Result<Timeds, SetupFault>
+    requires players { length land.now.masks ≤ 9 }
+    requires turns { rules.turns ≤ 65535 }
+    ensures { Meets result (commands_in_data land.now rules (view value.now)) }
+{
+    let Some(items) = list_at(value, "commands") else {
+        return Err(SetupFault::Refused { code: 2, index: 9 });
+    };
+    in_order(timeds_from(alloc, rules.turns, players_of(land), items)?)
+}
+
+fn players_of(land: &Land) -> u8
+    requires { length land.now.masks ≤ 9 }
+    ensures { result ≡ players_of_land land.now }
+{
+    land.masks.as_slice().len().saturating_sub(1) as u8
+}

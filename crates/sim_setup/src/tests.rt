@@ -1,0 +1,384 @@
+//! Match files that are read or refused. The codes and indices are those of the format's table, seen again in another
+//! program's answers.
+
+use crate::{SetupFault, setup_of};
+use std::alloc::{AllocError, Global};
+use std::test::Fail;
+
+// Two posts of two players, of which one is deleted.
+static POSTS: [(&str, &str); 10] = [
+    ("size", "[4,4]"),
+    ("closed", "[]"),
+    ("players", "[[],[]]"),
+    ("cap", "0"),
+    ("delay", "1"),
+    ("turns", "2"),
+    ("seed", "0"),
+    ("templates", r#"[{"@name":"post","Health":{"Max":50}}]"#),
+    ("entities", r#"[["post",1,1,1],["post",2,2,2]]"#),
+    ("commands", r#"[[1,1,"delete",[2,3,2]]]"#),
+];
+
+// That match with another value under one key.
+fn posts_with(alloc: Global, key: &str, value: &str) -> Result<String, AllocError> {
+    let mut text = String::from_str(alloc, "{")?;
+    for (i, (name, usual)) in POSTS.iter().enumerate() {
+        let value = if *name == key { value } else { *usual };
+        let comma = if i == 0 { "" } else { "," };
+        let member = format!(in alloc; "{comma}\"{name}\":{value}")?;
+        text.push_str(member.as_str())?;
+    }
+    text.push_str("}")?;
+    Ok(text)
+}
+
+// A list of so many items.
+fn repeated(alloc: Global, item: &str, count: usize) -> Result<String, AllocError> {
+    let mut text = String::from_str(alloc, "[")?;
+    for i in 0..count {
+        text.push_str(if i == 0 { "" } else { "," })?;
+        text.push_str(item)?;
+    }
+    text.push_str("]")?;
+    Ok(text)
+}
+
+fn refusal(alloc: Global, bytes: &[u8]) -> Option<SetupFault> {
+    setup_of(alloc, bytes).err()
+}
+
+fn refused(code: u8, index: u32) -> Option<SetupFault> {
+    Some(SetupFault::Refused { code, index })
+}
+
+#[test]
+fn reads_two_posts(rt: HostRuntime) -> Result<(), Fail> {
+    let alloc = rt.alloc();
+    let text = posts_with(alloc, "", "")?;
+    let Ok(setup) = setup_of(alloc, text.as_bytes()) else {
+        panic!(&rt; "refused");
+    };
+    let id = [
+        48, 69, 96, 137, 178, 57, 176, 219, 239, 97, 208, 118, 253, 238, 204, 125,
+    ];
+    let numbers = (
+        setup.players,
+        setup.cap,
+        setup.delay,
+        setup.turns,
+        setup.seed,
+    );
+    assert_eq!(rt; setup.id, id);
+    assert_eq!(rt; numbers, (2, 0, 1, 2, 0));
+    let land = format!(in alloc; "{:?}", setup.land)?;
+    let land_read =
+        "Land { width: 4, depth: 4, closed: Items { items: [] }, masks: Items { items: [0, 0, 0] } }";
+    assert_eq!(rt; land.as_str(), land_read);
+    let templates = format!(in alloc; "{:?}", setup.templates)?;
+    let templates_read =
+        "Items { items: [Template { name: Name { text: \"post\" }, health: Some(Fixed(3276800)), resist: Resist { hack: 0, pierce: 0, crush: 0 }, speed: None, obstruct: None, arms: None, train: None }] }";
+    assert_eq!(rt; templates.as_str(), templates_read);
+    let first = format!(in alloc; "{:?}", setup.first)?;
+    let first_read =
+        "Items { items: [First { template: 0, owner: 1, at: Point { x: Fixed(65536), z: Fixed(65536) } }, First { template: 0, owner: 2, at: Point { x: Fixed(131072), z: Fixed(131072) } }] }";
+    assert_eq!(rt; first.as_str(), first_read);
+    let commands = format!(in alloc; "{:?}", setup.commands)?;
+    let commands_read =
+        "Items { items: [Timed { turn: 1, order: PlayerCommand { player: 1, command: Delete { ids: Items { items: [2, 3, 2] } } } }] }";
+    assert_eq!(rt; commands.as_str(), commands_read);
+    Ok(())
+}
+
+#[test]
+fn reads_values_at_their_limits(rt: HostRuntime) -> Result<(), Fail> {
+    let alloc = rt.alloc();
+    let text =
+        r#"{"size":[256,3],"closed":[[0,0,255,2],[5,1,5,1]],"players":[[2,0],[1,3,3],[]],"cap":4096,"delay":8,"turns":65535,"seed":281474976710655,"templates":[{"Health":{"Max":16000},"@name":"~"},{"@name":"!","Health":{"Max":1}}],"entities":[["!",0,255,0],["~",3,0,2]],"commands":[[65535,3,"delete",[]],[65535,1,"delete",[4294967295,0]]]}"#;
+    let Ok(setup) = setup_of(alloc, text.as_bytes()) else {
+        panic!(&rt; "refused");
+    };
+    let id = [
+        18, 20, 160, 238, 172, 22, 189, 177, 42, 212, 76, 14, 200, 181, 252, 55,
+    ];
+    let numbers = (
+        setup.players,
+        setup.cap,
+        setup.delay,
+        setup.turns,
+        setup.seed,
+    );
+    assert_eq!(rt; setup.id, id);
+    assert_eq!(rt; numbers, (3, 4096, 8, 65535, 281_474_976_710_655));
+    let land = format!(in alloc; "{:?}", setup.land)?;
+    let land_read =
+        "Land { width: 256, depth: 3, closed: Items { items: [Rect { x0: 0, z0: 0, x1: 255, z1: 2 }, Rect { x0: 5, z0: 1, x1: 5, z1: 1 }] }, masks: Items { items: [0, 5, 10, 0] } }";
+    assert_eq!(rt; land.as_str(), land_read);
+    let templates = format!(in alloc; "{:?}", setup.templates)?;
+    let templates_read =
+        "Items { items: [Template { name: Name { text: \"~\" }, health: Some(Fixed(1048576000)), resist: Resist { hack: 0, pierce: 0, crush: 0 }, speed: None, obstruct: None, arms: None, train: None }, Template { name: Name { text: \"!\" }, health: Some(Fixed(65536)), resist: Resist { hack: 0, pierce: 0, crush: 0 }, speed: None, obstruct: None, arms: None, train: None }] }";
+    assert_eq!(rt; templates.as_str(), templates_read);
+    let first = format!(in alloc; "{:?}", setup.first)?;
+    let first_read =
+        "Items { items: [First { template: 1, owner: 0, at: Point { x: Fixed(16711680), z: Fixed(0) } }, First { template: 0, owner: 3, at: Point { x: Fixed(0), z: Fixed(131072) } }] }";
+    assert_eq!(rt; first.as_str(), first_read);
+    let commands = format!(in alloc; "{:?}", setup.commands)?;
+    let commands_read =
+        "Items { items: [Timed { turn: 65535, order: PlayerCommand { player: 3, command: Delete { ids: Items { items: [] } } } }, Timed { turn: 65535, order: PlayerCommand { player: 1, command: Delete { ids: Items { items: [4294967295, 0] } } } }] }";
+    assert_eq!(rt; commands.as_str(), commands_read);
+    Ok(())
+}
+
+#[test]
+fn refuses_files_that_are_no_match(rt: HostRuntime) -> Result<(), Fail> {
+    let alloc = rt.alloc();
+    let files: [(&[u8], u8, u32); 8] = [
+        (b"", 1, 0),
+        (b"{\"size\":[4,4]", 1, 0),
+        (b"\xff", 1, 0),
+        (b"{\"size\":\"\xff\"}", 1, 0),
+        (b"\xef\xbb\xbf{}", 1, 0),
+        (b"[]", 2, 0),
+        (b"null", 2, 0),
+        (b"{}", 2, 0),
+    ];
+    for (bytes, code, index) in files {
+        assert_eq!(rt; refusal(alloc, bytes), refused(code, index), "at {bytes:?}");
+    }
+    Ok(())
+}
+
+// Members put behind the last one, and the answer; code 0 where there is a setup.
+static ADDED: [(&str, &str, u8, u32); 4] = [
+    ("0", ",\"x\":1}", 2, 10),
+    ("9", ",\"x\":1}", 2, 10),
+    ("1", ",\"delay\":9}", 3, 4),
+    ("9", ",\"\\u0064elay\":1}", 0, 0),
+];
+
+#[test]
+fn keeps_the_last_of_two_members(rt: HostRuntime) -> Result<(), Fail> {
+    let alloc = rt.alloc();
+    for (delay, added, code, index) in ADDED.iter() {
+        let mut text = posts_with(alloc, "delay", delay)?;
+        let _brace = text.pop();
+        text.push_str(added)?;
+        let wanted = if *code == 0 {
+            None
+        } else {
+            refused(*code, *index)
+        };
+        assert_eq!(rt; refusal(alloc, text.as_bytes()), wanted, "at {text}");
+    }
+    Ok(())
+}
+
+// A key, its value, and the code and index that refuse it.
+static CASES: [(&str, &str, u8, u32); 72] = [
+    ("size", "[4,4,4]", 2, 0),
+    ("size", "[4,4.0]", 2, 0),
+    ("size", "null", 2, 0),
+    ("closed", "[[0,0,1]]", 2, 1),
+    ("closed", "[0,0,1,1]", 2, 1),
+    ("players", "[1]", 2, 2),
+    ("players", "[[],[1.5]]", 2, 2),
+    ("cap", "1.0", 2, 3),
+    ("cap", "-0", 2, 3),
+    ("delay", r#""1""#, 2, 4),
+    ("turns", "[2]", 2, 5),
+    ("seed", "18446744073709551616", 2, 6),
+    ("templates", "{}", 2, 7),
+    ("entities", "0", 2, 8),
+    ("commands", "null", 2, 9),
+    ("size", "[0,4]", 3, 0),
+    ("size", "[4,257]", 3, 0),
+    ("size", "[-4,4]", 3, 0),
+    ("closed", "[[0,0,4,0]]", 3, 1),
+    ("closed", "[[0,0,0,4]]", 3, 1),
+    ("closed", "[[1,0,0,0]]", 3, 1),
+    ("closed", "[[0,1,0,0]]", 3, 1),
+    ("closed", "[[-1,0,0,0]]", 3, 1),
+    ("players", "[]", 3, 2),
+    ("players", "[[],[],[],[],[],[],[],[],[]]", 3, 2),
+    ("players", "[[1],[]]", 3, 2),
+    ("players", "[[],[3]]", 3, 2),
+    ("players", "[[],[-1]]", 3, 2),
+    ("cap", "4097", 3, 3),
+    ("cap", "-1", 3, 3),
+    ("delay", "0", 3, 4),
+    ("delay", "9", 3, 4),
+    ("turns", "65536", 3, 5),
+    ("seed", "281474976710656", 3, 6),
+    ("seed", "18446744073709551615", 3, 6),
+    (
+        "templates",
+        r#"[{"@name":"a"},{"@name":"b"},{"@name":"a"}]"#,
+        3,
+        7,
+    ),
+    (
+        "templates",
+        r#"[{"@name":"post","Health":{"Max":50},"Motion":{"Speed":9}}]"#,
+        7,
+        0,
+    ),
+    ("templates", "[null]", 7, 0),
+    ("templates", r#"[{"@name":"post"}]"#, 7, 0),
+    (
+        "templates",
+        r#"[{"@name":"po st","Health":{"Max":50}}]"#,
+        7,
+        0,
+    ),
+    ("templates", r#"[{"@name":"","Health":{"Max":50}}]"#, 7, 0),
+    (
+        "templates",
+        r#"[{"@name":"post","Health":{"Max":0}}]"#,
+        7,
+        0,
+    ),
+    (
+        "templates",
+        r#"[{"@name":"post","Health":{"Max":16001}}]"#,
+        7,
+        0,
+    ),
+    (
+        "templates",
+        r#"[{"@name":"post","Health":{"Max":"50"}}]"#,
+        7,
+        0,
+    ),
+    (
+        "templates",
+        r#"[{"@name":"post","Health":{"Max":50,"Now":1}}]"#,
+        7,
+        0,
+    ),
+    ("templates", r#"[{"@name":"post","Health":50}]"#, 7, 0),
+    (
+        "templates",
+        r#"[{"@name":"post","Health":{"Max":50}},{"@name":5,"Health":{"Max":50}}]"#,
+        7,
+        1,
+    ),
+    ("entities", r#"[["pos",1,1,1]]"#, 8, 0),
+    ("entities", r#"[["post",3,1,1]]"#, 8, 0),
+    ("entities", r#"[["post",-1,1,1]]"#, 8, 0),
+    ("entities", r#"[["post",1,4,1]]"#, 8, 0),
+    ("entities", r#"[["post",1,1,4]]"#, 8, 0),
+    ("entities", r#"[["post",1,-1,1]]"#, 8, 0),
+    ("entities", r#"[["post",1,1,"1"]]"#, 8, 0),
+    ("entities", r#"[["post",1,1.0,1]]"#, 8, 0),
+    ("entities", r#"[["post",1,1]]"#, 8, 0),
+    ("entities", r#"[["post",1,1,1],["post",1,1,1,1]]"#, 8, 1),
+    ("entities", r#"[["post",0,3,3],5]"#, 8, 1),
+    ("commands", r#"[[1,1,"walk",[2,3,2]]]"#, 9, 0),
+    ("commands", r#"[[0,1,"delete",[]]]"#, 9, 0),
+    ("commands", r#"[[3,1,"delete",[]]]"#, 9, 0),
+    ("commands", r#"[[1,0,"delete",[]]]"#, 9, 0),
+    ("commands", r#"[[1,3,"delete",[]]]"#, 9, 0),
+    ("commands", r#"[[1,1,"delete"]]"#, 9, 0),
+    ("commands", r#"[[1,1,"delete",[],1]]"#, 9, 0),
+    ("commands", r#"[[1,1,"delete",2]]"#, 9, 0),
+    ("commands", r#"[[1,1,"delete",[-1]]]"#, 9, 0),
+    ("commands", r#"[[1,1,"delete",[4294967296]]]"#, 9, 0),
+    ("commands", "[[1,1]]", 9, 0),
+    ("commands", "[[1,1,5,[]]]", 9, 0),
+    (
+        "commands",
+        r#"[[2,1,"delete",[]],[1,1,"delete",[]],7]"#,
+        9,
+        2,
+    ),
+    (
+        "commands",
+        r#"[[1,1,"delete",[]],[2,1,"delete",[]],[1,2,"delete",[]]]"#,
+        10,
+        2,
+    ),
+];
+
+#[test]
+fn refuses_a_value(rt: HostRuntime) -> Result<(), Fail> {
+    let alloc = rt.alloc();
+    for (key, value, code, index) in CASES.iter() {
+        let text = posts_with(alloc, key, value)?;
+        assert_eq!(rt;
+            refusal(alloc, text.as_bytes()),
+            refused(*code, *index),
+            "at {text}"
+        );
+    }
+    Ok(())
+}
+
+// Lists of as many items as there may be, what stands around them, and the code and index that refuse one more.
+static LONGEST: [(&str, &str, &str, &str, usize, u8, u32); 5] = [
+    ("closed", "", "[0,0,3,3]", "", 4096, 3, 1),
+    ("players", "", "[]", "", 8, 3, 2),
+    ("entities", "", r#"["post",1,1,1]"#, "", 4096, 3, 8),
+    ("commands", "", r#"[1,1,"delete",[]]"#, "", 64, 9, 64),
+    ("commands", r#"[[1,1,"delete","#, "2", "]]", 256, 9, 0),
+];
+
+#[test]
+fn refuses_one_item_too_many(rt: HostRuntime) -> Result<(), Fail> {
+    let alloc = rt.alloc();
+    for (key, before, item, after, most, code, index) in LONGEST.iter() {
+        let items = repeated(alloc, item, *most)?;
+        let text = posts_with(
+            alloc,
+            key,
+            format!(in alloc; "{before}{items}{after}")?.as_str(),
+        )?;
+        assert_eq!(rt; refusal(alloc, text.as_bytes()), None, "at {key}");
+        let items = repeated(alloc, item, *most + 1)?;
+        let text = posts_with(
+            alloc,
+            key,
+            format!(in alloc; "{before}{items}{after}")?.as_str(),
+        )?;
+        assert_eq!(rt;
+            refusal(alloc, text.as_bytes()),
+            refused(*code, *index),
+            "at {key}"
+        );
+    }
+    Ok(())
+}
+
+#[test]
+fn refuses_too_many_templates_before_a_bad_one(rt: HostRuntime) -> Result<(), Fail> {
+    let alloc = rt.alloc();
+    for (count, code, index) in [(256, 7, 0), (257, 3, 7)] {
+        let text = posts_with(alloc, "templates", repeated(alloc, "0", count)?.as_str())?;
+        assert_eq!(rt;
+            refusal(alloc, text.as_bytes()),
+            refused(code, index),
+            "at {count}"
+        );
+    }
+    Ok(())
+}
+
+#[test]
+fn counts_commands_by_player_and_turn(rt: HostRuntime) -> Result<(), Fail> {
+    let alloc = rt.alloc();
+    let mut items = repeated(alloc, r#"[1,1,"delete",[]]"#, 64)?;
+    let _bracket = items.pop();
+    let others = r#"[1,2,"delete",[]],[2,1,"delete",[]]"#;
+    let text = posts_with(
+        alloc,
+        "commands",
+        format!(in alloc; "{items},{others}]")?.as_str(),
+    )?;
+    assert_eq!(rt; refusal(alloc, text.as_bytes()), None);
+    let more = r#"[1,1,"delete",[]]"#;
+    let text = posts_with(
+        alloc,
+        "commands",
+        format!(in alloc; "{items},{others},{more}]")?.as_str(),
+    )?;
+    assert_eq!(rt; refusal(alloc, text.as_bytes()), refused(9, 66));
+    Ok(())
+}

@@ -1,0 +1,37 @@
+-- Small cases of the definitions, each with the value that a reader expects, found by computing.
+use Rattle.std.proofs.Common.{◌≡◌, ◌-◌, ◌^◌, List, [], ◌∷◌, Some, Ok, Err, refl, codes}
+use Rattle.sim_store.specs.Counts.{raised, no_counts, after_giving, after_miss}
+use Rattle.sim_store.specs.Files.{File, file_in}
+use Rattle.sim_store.specs.Reading.{reading_of}
+use Rattle.sim_store.specs.declared.fault.StoreFault.TheVariants.{NoFile}
+
+files : List File
+files =
+    record { name = codes "a"; bytes = 1 ∷ 2 ∷ [] }
+    ∷ record { name = codes "b"; bytes = [] }
+    ∷ record { name = codes "a"; bytes = 3 ∷ [] }
+    ∷ []
+
+first_of_a_name : file_in files (codes "a") ≡ Some (1 ∷ 2 ∷ [])
+unfolding files
+first_of_a_name = refl
+
+empty_and_held : reading_of (file_in files (codes "b")) ≡ Ok []
+unfolding files
+empty_and_held = refl
+
+not_held : reading_of (file_in files (codes "c")) ≡ Err NoFile
+unfolding files
+not_held = refl
+
+one_more : raised 1 6 ≡ 7
+one_more = refl
+
+up_to_the_last_value : raised 5 (2 ^ 64 - 3) ≡ 2 ^ 64 - 1
+up_to_the_last_value = refl
+
+still_at_the_last_value : raised 1 (2 ^ 64 - 1) ≡ 2 ^ 64 - 1
+still_at_the_last_value = refl
+
+counted : after_miss (after_giving 9 no_counts) ≡ record { given = 9; misses = 1; read_faults = 0; write_faults = 0 }
+counted = refl

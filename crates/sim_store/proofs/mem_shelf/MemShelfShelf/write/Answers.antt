@@ -1,0 +1,10 @@
+-- A piece added to the first file is what the name of the file that is being made holds more.
+use Rattle.std.proofs.Common.{rules}
+use Rattle.sim_store.specs.Held.{files_of, AddsFirst}
+use Rattle.sim_store.proofs.Kept.{HeldGrows-AddsFirst}
+use Rattle.sim_store.proofs.mem_shelf.MemShelfShelf.write.Goals as goal
+
+pub returns-clause-held : goal.returns-clause-held
+returns-clause-held c =
+    let added : AddsFirst c.args.piece.now (files_of c.args.self.now.files.items) (files_of c.add_to_first.new.files.items) = search rules in
+    HeldGrows-AddsFirst c.args.self.now.files.items _ c.args.piece.now added

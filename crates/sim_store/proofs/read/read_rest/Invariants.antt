@@ -1,0 +1,20 @@
+-- What was read so far: it is the beginning of what was left, it is counted, and it is within the limit.
+use Rattle.std.proofs.Common.{◌≡◌, ◌≤◌, ◌-◌, length, IsTrue}
+use Rattle.std.specs.Io.KnownBytes.{Consumes}
+use Rattle.sim_store.specs.Counts.{after_giving}
+use Rattle.sim_store.specs.declared.read.TheConstants.{MAX_FILE}
+use Rattle.sim_store.proofs.read.read_rest.Given as goal
+
+abbrev pub invariant-pieces : goal.invariant-pieces
+invariant-pieces g l = record {
+  within : length l.bytes.items ≤ MAX_FILE;
+  told : Consumes (g.S.Shelf.rest l.fn.shelf) (g.S.Shelf.rest l.shelf) l.bytes.items;
+  counts : g.S.Shelf.counts l.shelf ≡ after_giving (length l.bytes.items) (g.S.Shelf.counts l.fn.shelf);
+  opened : IsTrue (g.S.Shelf.is_open l.shelf);
+  held : g.S.Shelf.held l.shelf ≡ g.S.Shelf.held l.fn.shelf;
+  making : g.S.Shelf.is_making l.shelf ≡ g.S.Shelf.is_making l.fn.shelf;
+  name : g.S.Shelf.made_name l.shelf ≡ g.S.Shelf.made_name l.fn.shelf;
+}
+
+abbrev pub decreases-pieces : goal.decreases-pieces
+decreases-pieces g l = MAX_FILE - length l.bytes.items

@@ -1,0 +1,18 @@
+-- One more piece written keeps the invariant: the beginning of the bytes grows by what the shelf took.
+use Rattle.std.proofs.Common.{arith, length-drop, ◌∙◌}
+use Rattle.sim_store.proofs.Pieces.{HeldSet-HeldGrows}
+use Rattle.sim_store.proofs.write.fill.Goals as goal
+
+pub loop-done-preserved : goal.loop-done-preserved
+loop-done-preserved g c =
+    let step = c.in_ok-done.ensures in
+    let before = c.loop-done.invariant in
+    record {
+      within = omega (arith, step.takes.0, length-drop c.loop-done.done c.args.bytes.now);
+      held = HeldSet-HeldGrows _ _ _ _ c.args.bytes.now c.loop-done.done c.in_ok-done.field-0 before.held (rw before.name at step.held);
+      counts = step.counts ∙ before.counts;
+      making = step.making;
+      name = step.name ∙ before.name;
+      opened = step.opened ∙ before.opened;
+      rest = step.rest ∙ before.rest;
+    }

@@ -1,0 +1,11 @@
+pub mod Counts
+pub mod Files
+pub mod Pieces
+pub mod Shelf
+pub mod Sink
+pub mod Reading
+pub mod Writing
+pub mod Held
+pub mod OpenFile
+pub mod MemShelf
+pub mod MemSink

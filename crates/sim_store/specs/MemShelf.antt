@@ -1,0 +1,35 @@
+-- What a shelf in memory means.
+use Rattle.std.specs.Prelude.{ℕ, List, Bool, Option, is_some, option_map}
+use Rattle.sim_store.specs.Files.{File}
+use Rattle.sim_store.specs.Held.{files_of, first_name}
+use Rattle.sim_store.specs.OpenFile.{bytes_left}
+use Rattle.sim_store.specs.declared.counts.Counts.{Counts}
+use Rattle.sim_store.specs.declared.mem_shelf.MemShelf.{MemShelf}
+
+-- the files that the shelf holds
+abbrev pub files_on : MemShelf → List File
+files_on shelf = files_of shelf.files.items
+
+-- how many bytes a file that is made on the shelf may have
+abbrev pub room_on : MemShelf → ℕ
+room_on shelf = shelf.room
+
+-- what is left of the file that is open for reading
+abbrev pub rest_on : MemShelf → Option (List ℕ)
+rest_on shelf = option_map bytes_left shelf.reading
+
+-- whether a file is open for reading
+abbrev pub is_open_on : MemShelf → Bool
+is_open_on shelf = is_some shelf.reading
+
+-- whether a file is being made
+abbrev pub is_making_on : MemShelf → Bool
+is_making_on shelf = shelf.is_making
+
+-- the name of the file that is being made
+abbrev pub made_name_on : MemShelf → List ℕ
+made_name_on shelf = first_name shelf.files.items
+
+-- what the shelf counted
+abbrev pub counts_on : MemShelf → Counts
+counts_on shelf = shelf.counts

@@ -1,0 +1,9 @@
+-- What a sink counts.
+use Rattle.std.specs.Prelude.{◌≡◌, ℕ, Result, Ok, Err}
+use Rattle.sim_store.specs.Counts.{raised}
+use Rattle.sim_store.specs.declared.fault.Failed.{Failed}
+
+-- a write that fails is a fault
+abbrev pub SinkCounts : Result ℕ Failed → ℕ → ℕ → Type 0
+SinkCounts (Ok count) old new = new ≡ old
+SinkCounts (Err failed) old new = new ≡ raised 1 old

@@ -1,0 +1,192 @@
+//! A shelf in memory. Whoever wants to run the program without files, tests above all, hands it in; its room makes a
+//! full disk at any place.
+
+ghost use Rattle.std.specs.Prelude.{◌≡◌, ◌≢◌, ◌+◌, ◌<◌, ◌≤◌, ◌↔◌, ℕ, List, [], length, OnOk, OnErr, IfOk, IsOk, IsTrue, false, Some, is_ok, option_copied, vec_len};
+ghost use Rattle.std.specs.Io.{ReadsAtMost};
+ghost use Rattle.std.specs.Io.KnownBytes.{ReadConsumes};
+ghost use Rattle.sim_store.specs.Counts.{no_counts};
+ghost use Rattle.sim_store.specs.Files.{file_in, FileSet};
+ghost use Rattle.sim_store.specs.Held.{first_bytes, first_capacity};
+ghost use Rattle.sim_store.specs.Pieces.{TakesSome};
+ghost use Rattle.sim_store.specs.Shelf.{opens, OpenTells, OpenCounts, ReadCounts, MakeHolds, MakeCounts, WriteHolds, WriteCounts};
+
+use crate::counts::Counts;
+use crate::fault::{Failed, ShelfFault};
+use crate::held::{Held, add_to_first, find, put_first};
+use crate::open_file::OpenFile;
+use crate::shelf::Shelf;
+use sim_base::OutOfMemory;
+use std::alloc::Global;
+
+/// Files in memory. A made file has room for as many bytes as was said at first, and one that was put has no limit.
+#[derive(Drop)]
+pub struct MemShelf {
+    alloc: Global,
+    room: usize,
+    // The newest first, and of files with one name the first counts. The one that is being made is the first.
+    files: Vec<Held>,
+    reading: Option<OpenFile>,
+    is_making: bool,
+    counts: Counts,
+    ghost made_first: { IsTrue is_making → 0 < vec_len files },
+    ghost within: { IsTrue is_making → length (first_bytes files.items) ≤ room },
+    ghost has_memory: { IsTrue is_making → room ≤ first_capacity files.items },
+}
+
+impl MemShelf {
+    ghost use Rattle.sim_store.specs.MemShelf.{files_on, room_on, rest_on, is_open_on, is_making_on, counts_on};
+
+    /// A shelf that holds nothing. It keeps the allocator, and each file that is made on it has this room.
+    pub fn new(alloc: Global, room: usize) -> Result<MemShelf, OutOfMemory>
+        ensures files { IfOk result (λ shelf. files_on shelf ≡ []) }
+        ensures room { IfOk result (λ shelf. room_on shelf ≡ room) }
+        ensures counts { IfOk result (λ shelf. counts_on shelf ≡ no_counts) }
+        ensures opened { IfOk result (λ shelf. is_open_on shelf ≡ false) }
+        ensures making { IfOk result (λ shelf. is_making_on shelf ≡ false) }
+    {
+        Ok(MemShelf {
+            alloc,
+            room,
+            files: Vec::new(alloc),
+            reading: None,
+            is_making: false,
+            counts: Counts::default(),
+        })
+    }
+
+    /// Holds these bytes under the name, in place of what the name held. If a file is being made, that ends, and its
+    /// name holds what was written so far.
+    pub fn put(&mut self, name: &str, bytes: &[u8]) -> Result<(), OutOfMemory>
+        ensures ok { OnOk result (FileSet name.now bytes.now (files_on self.old) (files_on self.new)) }
+        ensures err { OnErr result (files_on self.new ≡ files_on self.old) }
+        ensures making { is_making_on self.new ≡ false }
+        ensures room { room_on self.new ≡ room_on self.old }
+        ensures counts { counts_on self.new ≡ counts_on self.old }
+        ensures opened { is_open_on self.new ≡ is_open_on self.old }
+        ensures rest { rest_on self.new ≡ rest_on self.old }
+    {
+        self.is_making = false;
+        let bytes = bytes.to_vec(self.alloc)?;
+        put_first(self.alloc, &mut self.files, name, bytes)?;
+        Ok(())
+    }
+
+    /// The bytes that are held under the name.
+    pub fn held(&self, name: &str) -> Option<&[u8]>
+        ensures { option_copied result ≡ file_in (files_on self.now) name.now }
+    {
+        find(&self.files, name)
+    }
+}
+
+impl Shelf for MemShelf {
+    ghost use Rattle.sim_store.specs.MemShelf.{files_on, room_on, rest_on, is_open_on, is_making_on, made_name_on, counts_on};
+
+    ghost held = { λ shelf. Some (files_on shelf) };
+
+    ghost rest = { rest_on };
+
+    ghost is_open = { is_open_on };
+
+    ghost is_making = { is_making_on };
+
+    ghost made_name = { made_name_on };
+
+    ghost counts = { counts_on };
+
+    /// Never fails, but for want of memory: it copies the file.
+    fn open(&mut self, name: &str) -> Result<bool, ShelfFault>
+        ensures sound { result ≢ Err ShelfFault.Failed }
+        ensures room { room_on self.new ≡ room_on self.old }
+        ensures opened { is_open_on self.new ≡ opens result }
+        ensures tells { OpenTells result (file_in (files_on self.old) name.now) (rest_on self.new) }
+        ensures counts { OpenCounts result (counts_on self.old) (counts_on self.new) }
+        ensures held { files_on self.new ≡ files_on self.old }
+        ensures making { is_making_on self.new ≡ is_making_on self.old }
+        ensures name { made_name_on self.new ≡ made_name_on self.old }
+    {
+        self.reading = None;
+        let Some(bytes) = find(&self.files, name) else {
+            self.counts.add_miss();
+            return Ok(false);
+        };
+        self.reading = Some(OpenFile::new(bytes.to_vec(self.alloc)?));
+        Ok(true)
+    }
+
+    /// Never fails.
+    fn read(&mut self, into: &mut [u8]) -> Result<usize, Failed>
+        requires { IsTrue (is_open_on self.old) }
+        ensures sound { IsOk result }
+        ensures room { room_on self.new ≡ room_on self.old }
+        ensures bound { ReadsAtMost result into.new }
+        ensures bytes { ReadConsumes (rest_on self.old) (rest_on self.new) result into.new }
+        ensures opened { IsTrue (is_open_on self.new) }
+        ensures counts { ReadCounts result (counts_on self.old) (counts_on self.new) }
+        ensures held { files_on self.new ≡ files_on self.old }
+        ensures making { is_making_on self.new ≡ is_making_on self.old }
+        ensures name { made_name_on self.new ≡ made_name_on self.old }
+    {
+        let Some(file) = &mut self.reading else {
+            unreachable!()
+        };
+        let count = file.read(into);
+        self.counts.add_given(count);
+        Ok(count)
+    }
+
+    /// Never fails, but for want of memory: it takes all the memory that the file will need.
+    fn make(&mut self, name: &str) -> Result<(), ShelfFault>
+        ensures sound { result ≢ Err ShelfFault.Failed }
+        ensures room { room_on self.new ≡ room_on self.old }
+        ensures making { is_making_on self.new ≡ is_ok result }
+        ensures name { OnOk result (made_name_on self.new ≡ name.now) }
+        ensures held { MakeHolds result name.now (Some (files_on self.old)) (Some (files_on self.new)) }
+        ensures counts { MakeCounts result (counts_on self.old) (counts_on self.new) }
+        ensures opened { is_open_on self.new ≡ is_open_on self.old }
+        ensures rest { rest_on self.new ≡ rest_on self.old }
+    {
+        self.is_making = false;
+        let bytes = Vec::with_capacity(self.alloc, self.room)?;
+        put_first(self.alloc, &mut self.files, name, bytes)?;
+        self.is_making = true;
+        Ok(())
+    }
+
+    /// Takes the whole piece, or fails where that would take the file past the room. It takes no memory.
+    fn write(&mut self, piece: &[u8]) -> Result<usize, Failed>
+        requires { IsTrue (is_making_on self.old) }
+        ensures fits { (bytes : List ℕ) → file_in (files_on self.old) (made_name_on self.old) ≡ Some bytes
+            → (IsOk result ↔ (length bytes + length piece.now ≤ room_on self.old)) }
+        ensures whole { IfOk result (λ count. count ≡ length piece.now) }
+        ensures room { room_on self.new ≡ room_on self.old }
+        ensures takes { TakesSome result piece.now }
+        ensures held { WriteHolds result (made_name_on self.old) piece.now (Some (files_on self.old)) (Some (files_on self.new)) }
+        ensures making { IsTrue (is_making_on self.new) }
+        ensures name { made_name_on self.new ≡ made_name_on self.old }
+        ensures counts { WriteCounts result (counts_on self.old) (counts_on self.new) }
+        ensures opened { is_open_on self.new ≡ is_open_on self.old }
+        ensures rest { rest_on self.new ≡ rest_on self.old }
+    {
+        if add_to_first(&mut self.files, self.room, piece).is_err() {
+            self.counts.add_write_fault();
+            return Err(Failed);
+        }
+        Ok(piece.len())
+    }
+
+    /// Never fails.
+    fn close(&mut self) -> Result<(), Failed>
+        requires { IsTrue (is_making_on self.old) }
+        ensures sound { IsOk result }
+        ensures room { room_on self.new ≡ room_on self.old }
+        ensures making { is_making_on self.new ≡ false }
+        ensures held { files_on self.new ≡ files_on self.old }
+        ensures counts { WriteCounts result (counts_on self.old) (counts_on self.new) }
+        ensures opened { is_open_on self.new ≡ is_open_on self.old }
+        ensures rest { rest_on self.new ≡ rest_on self.old }
+    {
+        self.is_making = false;
+        Ok(())
+    }
+}

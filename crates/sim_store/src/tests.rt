@@ -1,0 +1,180 @@
+//! What no contract says: that calls succeed where there is memory, that the limit is the one that was meant, and that
+//! whole files and texts come through in many short moves.
+
+mod slow;
+
+use crate::*;
+use slow::{SlowShelf, SlowSink};
+use std::alloc::Global;
+use std::process::Abort;
+use std::test::Fail;
+
+// A shelf with two files, whose made files have room for four bytes.
+fn two_files(alloc: Global) -> Result<MemShelf, Fail> {
+    let mut shelf = MemShelf::new(alloc, 4)?;
+    shelf.put("greeting", b"hello")?;
+    shelf.put("nothing", b"")?;
+    Ok(shelf)
+}
+
+fn holds(shelf: &MemShelf, name: &str, bytes: &[u8]) -> bool {
+    shelf.held(name) == Some(bytes)
+}
+
+fn check_reading<S: Shelf>(rt: &impl Abort, alloc: Global, shelf: &mut S) {
+    let cases = [
+        ("greeting", Ok(b"hello".as_slice())),
+        ("nothing", Ok(b"".as_slice())),
+        ("missing", Err(StoreFault::NoFile)),
+        ("greeting", Ok(b"hello".as_slice())),
+    ];
+    for (name, wanted) in cases {
+        let bytes = read_file(alloc, shelf, name);
+        assert_eq!(rt;
+            bytes.as_deref().map_err(|fault| *fault),
+            wanted,
+            "at {name}"
+        );
+    }
+}
+
+#[test]
+fn whole_files_are_read(rt: HostRuntime) -> Result<(), Fail> {
+    let alloc = rt.alloc();
+    check_reading(&rt, alloc, &mut two_files(alloc)?);
+    check_reading(&rt, alloc, &mut SlowShelf::new(two_files(alloc)?, 100));
+    Ok(())
+}
+
+#[test]
+fn a_file_may_be_as_long_as_the_limit(rt: HostRuntime) -> Result<(), Fail> {
+    let alloc = rt.alloc();
+    let mut bytes = Vec::with_capacity(alloc, MAX_FILE + 1)?;
+    for place in 0..MAX_FILE {
+        bytes.push((place % 251) as u8)?;
+    }
+    let mut shelf = MemShelf::new(alloc, 0)?;
+    shelf.put("long", &bytes)?;
+    assert!(rt; read_file(alloc, &mut shelf, "long")?.as_slice() == bytes.as_slice());
+    bytes.push(7)?;
+    shelf.put("long", &bytes)?;
+    assert_eq!(rt;
+        read_file(alloc, &mut shelf, "long").err(),
+        Some(StoreFault::TooLong)
+    );
+    Ok(())
+}
+
+#[test]
+fn a_read_that_fails_in_the_middle_is_a_fault(rt: HostRuntime) -> Result<(), Fail> {
+    let alloc = rt.alloc();
+    for moves in 0..4 {
+        let mut shelf = SlowShelf::new(two_files(alloc)?, moves);
+        let fault = read_file(alloc, &mut shelf, "greeting").err();
+        assert_eq!(rt; fault, Some(StoreFault::ReadFault), "after {moves}");
+        assert_eq!(rt; shelf.counts.read_faults, 1, "after {moves}");
+    }
+    Ok(())
+}
+
+#[test]
+fn a_text_is_written_up_to_the_room(rt: HostRuntime) -> Result<(), Fail> {
+    let alloc = rt.alloc();
+    let fault = Err(StoreFault::WriteFault);
+    let cases = [
+        (6, Ok(()), "hello", "hello"),
+        (5, Ok(()), "hello", "hello"),
+        (4, fault, "", "hell"),
+        (3, fault, "", "he"),
+        (0, fault, "", ""),
+    ];
+    for (room, wanted, at_once, by_twos) in cases {
+        let mut sink = MemSink::new(alloc, room)?;
+        assert_eq!(rt; write_out(&mut sink, b"hello"), wanted, "at {room}");
+        assert_eq!(rt; sink.told(), at_once.as_bytes(), "at {room}");
+        let mut slow = SlowSink::new(MemSink::new(alloc, room)?);
+        assert_eq!(rt; write_out(&mut slow, b"hello"), wanted, "by twos at {room}");
+        assert_eq!(rt; slow.sink.told(), by_twos.as_bytes(), "by twos at {room}");
+    }
+    Ok(())
+}
+
+#[test]
+fn a_file_is_written_up_to_the_room(rt: HostRuntime) -> Result<(), Fail> {
+    let alloc = rt.alloc();
+    let fault = Err(StoreFault::WriteFault);
+    let cases = [
+        ("made", "four", Ok(()), "four", "four"),
+        ("greeting", "four", Ok(()), "four", "four"),
+        ("made", "", Ok(()), "", ""),
+        ("greeting", "fives", fault, "", "five"),
+    ];
+    for (name, bytes, wanted, at_once, by_twos) in cases {
+        let mut shelf = two_files(alloc)?;
+        assert_eq!(rt;
+            write_file(&mut shelf, name, bytes.as_bytes()),
+            wanted,
+            "at {bytes}"
+        );
+        assert!(rt; holds(&shelf, name, at_once.as_bytes()), "at {bytes}");
+        assert!(rt; holds(&shelf, "nothing", b""), "at {bytes}");
+        let mut slow = SlowShelf::new(two_files(alloc)?, 100);
+        assert_eq!(rt;
+            write_file(&mut slow, name, bytes.as_bytes()),
+            wanted,
+            "by twos at {bytes}"
+        );
+        assert!(rt;
+            holds(&slow.shelf, name, by_twos.as_bytes()),
+            "by twos at {bytes}"
+        );
+    }
+    Ok(())
+}
+
+#[test]
+fn opening_again_begins_anew(rt: HostRuntime) -> Result<(), Fail> {
+    let mut shelf = two_files(rt.alloc())?;
+    let mut buffer = [0; 3];
+    for (name, found) in [("greeting", true), ("missing", false), ("greeting", true)] {
+        let opened = shelf.open(name)?;
+        assert_eq!(rt; opened, found, "at {name}");
+        if opened {
+            assert_eq!(rt; shelf.read(&mut buffer), Ok(3));
+            assert_eq!(rt; buffer.as_slice(), b"hel".as_slice());
+        }
+    }
+    Ok(())
+}
+
+#[test]
+fn a_made_file_holds_what_was_written_so_far(rt: HostRuntime) -> Result<(), Fail> {
+    let mut shelf = two_files(rt.alloc())?;
+    shelf.make("greeting")?;
+    assert!(rt; holds(&shelf, "greeting", b""));
+    assert_eq!(rt; shelf.write(b"hey"), Ok(3));
+    assert!(rt; holds(&shelf, "greeting", b"hey"));
+    assert_eq!(rt; shelf.write(b"you"), Err(Failed));
+    assert_eq!(rt; shelf.close(), Ok(()));
+    assert!(rt; holds(&shelf, "greeting", b"hey"));
+    assert!(rt; shelf.held("missing").is_none());
+    Ok(())
+}
+
+#[test]
+fn counts_stand_still_at_their_last_value(rt: HostRuntime) {
+    for (before, after) in [(0, 1), (u64::MAX - 1, u64::MAX), (u64::MAX, u64::MAX)] {
+        let all = |count| Counts {
+            given: count,
+            misses: count,
+            read_faults: count,
+            write_faults: count,
+        };
+        let mut counts = all(before);
+        counts.add_given(1);
+        counts.add_miss();
+        counts.add_read_fault();
+        counts.add_write_fault();
+        assert_eq!(rt; counts, all(after), "after {before}");
+    }
+}

@@ -1,0 +1,4 @@
+pub mod Quiet
+pub mod Lines
+pub mod Outcome
+pub mod Answers

@@ -1,0 +1,43 @@
+//! How a run ends. The numbers stand here and nowhere else.
+
+ghost use Rattle.std.specs.Prelude.{◌≡◌};
+ghost use Rattle.sim_top.specs.Answers.{status_number};
+
+/// How a run ends.
+#[derive(Clone, Copy, Debug, PartialEq, Eq)]
+pub enum Status {
+    /// All was done.
+    Done,
+    /// The words are none of a command.
+    Usage,
+    /// A file could not be read.
+    ReadFault,
+    /// A file or the text could not be written.
+    WriteFault,
+    /// A file has more bytes than a file may have.
+    TooLong,
+    /// The match file is refused.
+    MatchRefused,
+    /// Memory was refused.
+    OutOfMemory,
+    /// A file is not there.
+    NoFile,
+}
+
+impl Status {
+    /// The number that the process ends with.
+    pub fn number(self) -> u8
+        ensures { result ≡ status_number self }
+    {
+        match self {
+            Status::Done => 0,
+            Status::Usage => 2,
+            Status::ReadFault => 3,
+            Status::WriteFault => 4,
+            Status::TooLong => 5,
+            Status::MatchRefused => 6,
+            Status::OutOfMemory => 9,
+            Status::NoFile => 11,
+        }
+    }
+}

@@ -1,0 +1,118 @@
+#!/usr/bin/env python3
+"""The built program on real files: what no contract can say of the system.
+
+Usage: python3 tests/edge.py [PROGRAM]
+
+PROGRAM is by default the one that the gate leaves in crates/simcore/out. One line a case, and a last line
+'N passed, M failed'. The exit status is 0 where none failed. The digests were worked out apart from the program, as
+MD5 of the bytes that docs/FORMATS.md lays out.
+"""
+
+import os
+import pathlib
+import subprocess
+import sys
+import tempfile
+
+TOP = pathlib.Path(__file__).resolve().parent.parent
+PROGRAM = pathlib.Path(sys.argv[1] if len(sys.argv) > 1 else TOP / "crates/simcore/out/simcore").resolve()
+MAX_FILE = 16_777_216
+
+EMPTY = (b'{"size":[4,4],"closed":[],"players":[[]],"cap":0,"delay":1,"turns":2,"seed":0,'
+         b'"templates":[],"entities":[],"commands":[]}')
+EMPTY_LINES = (b"turn 0 bad449d9a43e6ca7182c9e7c15bf5f7a\n"
+               b"turn 1 ddb86dde1b179a734a0503c602c2ff12\n"
+               b"turn 2 98ea2cc6081e00a0d7341a0ee8f682e1\n")
+POSTS = (b'{"size":[4,4],"closed":[],"players":[[],[]],"cap":0,"delay":1,"turns":2,"seed":0,'
+         b'"templates":[{"@name":"post","Health":{"Max":50}}],'
+         b'"entities":[["post",1,1,1],["post",2,2,2]],"commands":[[1,1,"delete",[2,3,2]]]}')
+POSTS_LINES = (b"turn 0 6c55afdc0e61faf6e75ba31d1bd8428e\n"
+               b"turn 1 5ba6ccce6ec0216cccaaf7181a30b789\n"
+               b"turn 2 846656bc95c044d1dd6d2f3f26ab5406\n")
+USAGE = b"""usage: simcore play MATCH
+       simcore state MATCH TURN OUT
+       simcore resume MATCH STATE
+       simcore rejoin MATCH TURN
+       simcore serve SCHEDULE
+       simcore session MATCH STEPS
+       simcore compare MATCH A B
+       simcore show MATCH STATE
+       simcore trial SEED UNITS TURNS
+"""
+
+passed = failed = 0
+
+
+def run(words, folder, stdout=subprocess.PIPE, before=None):
+    """The status, standard output and standard error of the program in that folder."""
+    done = subprocess.run([PROGRAM, *words], cwd=folder, stdin=subprocess.DEVNULL, stdout=stdout,
+                          stderr=subprocess.PIPE, preexec_fn=before, timeout=120)
+    return done.returncode, done.stdout, done.stderr
+
+
+def case(name, got, status, text):
+    """One line for one case: the status and the text are the wanted ones, and nothing is on standard error."""
+    global passed, failed
+    good = got == (status, text, b"")
+    passed, failed = passed + good, failed + (not good)
+    print(f"{'ok    ' if good else 'FAILED'} {name}" + ("" if good else f": {got}"))
+
+
+def files(folder):
+    """Every file of the folder with its bytes, so that a case can show that none has changed."""
+    return {path.name: path.read_bytes() for path in folder.iterdir() if path.is_file()}
+
+
+def main():
+    if not PROGRAM.is_file():
+        print(f"there is no program {PROGRAM}: build it first, as the README says")
+        print("0 passed, 1 failed")
+        return 1
+    with tempfile.TemporaryDirectory() as name:
+        folder = pathlib.Path(name)
+        (folder / "empty.json").write_bytes(EMPTY)
+        (folder / "posts.json").write_bytes(POSTS)
+        (folder / "folder").mkdir()
+        (folder / "nothing.json").write_bytes(b"")
+        (folder / "late.json").write_bytes(EMPTY.replace(b'"delay":1', b'"delay":9'))
+        (folder / "words.json").write_bytes(b"\xff")
+        (folder / "long.json").write_bytes(b" " * (MAX_FILE + 1))
+        (folder / "full.json").write_bytes(b" " * MAX_FILE)
+        (folder / "padded.json").write_bytes(POSTS + b" " * (MAX_FILE - len(POSTS)))
+        before = files(folder)
+
+        case("a match without entities is played", run(["play", "empty.json"], folder), 0, EMPTY_LINES)
+        case("a match of posts is played", run(["play", "posts.json"], folder), 0, POSTS_LINES)
+        case("a missing file", run(["play", "none.json"], folder), 11, b"")
+        case("a name that is empty", run(["play", ""], folder), 11, b"")
+        case("a folder in place of a file", run(["play", "folder"], folder), 3, b"")
+        case("a name below a file", run(["play", "posts.json/x"], folder), 3, b"")
+        case("an empty file", run(["play", "nothing.json"], folder), 6, b"match refused 1 0\n")
+        case("a file that is no text", run(["play", "words.json"], folder), 6, b"match refused 1 0\n")
+        case("a delay past its limit", run(["play", "late.json"], folder), 6, b"match refused 3 4\n")
+        case("a file one byte too long", run(["play", "long.json"], folder), 5, b"")
+        case("a file of the greatest length", run(["play", "full.json"], folder), 6, b"match refused 1 0\n")
+        status, text, error = run(["play", "padded.json"], folder)
+        case("a match of the greatest length", (status, b"%d lines" % text.count(b"\n"), error), 0, b"3 lines")
+        case("no words", run([], folder), 2, USAGE)
+        case("an unknown word", run(["fly", "posts.json"], folder), 2, USAGE)
+        case("a word too many", run(["play", "posts.json", "x"], folder), 2, USAGE)
+        case("a command that is still to come", run(["show", "posts.json", "s"], folder), 2, USAGE)
+        status, text, error = run(["play", b"\xff\xfe"], folder)
+        case("a word that is not UTF-8", (status, b"", error), 2, b"")
+        with open("/dev/full", "wb") as full:
+            case("a full standard output", run(["play", "posts.json"], folder, full), 4, None)
+            case("a full standard output, and nothing to write", run(["play", "none.json"], folder, full), 11, None)
+        case("a closed standard output", run(["play", "posts.json"], folder, None, lambda: os.close(1)), 4, None)
+        reader, writer = os.pipe()
+        os.close(reader)
+        with os.fdopen(writer, "wb") as pipe:
+            got = run(["play", "posts.json"], folder, pipe)
+            case("a pipe that nobody reads", (4 if got[0] in (4, -13) else got[0], got[1], got[2]), 4, None)
+        case("no file has changed", (0, b"", b""), 0, b"" if files(folder) == before else b"changed")
+    print(f"{passed} passed, {failed} failed")
+    return 1 if failed else 0
+
+
+if __name__ == "__main__":
+    sys.exit(main())
