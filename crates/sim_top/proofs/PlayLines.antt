@@ -4,7 +4,8 @@ use Rattle.std.specs.Prelude.{codes}
 use Rattle.sim_base.specs.declared.setup.Setup.{Setup}
 use Rattle.sim_base.specs.Turn.{after, own_turns, orders_at, turn}
 use Rattle.sim_base.specs.Spelling.{digest}
-use Rattle.sim_top.specs.Lines.{turn_line, turn_lines}
+use Rattle.sim_report.specs.Lines.{turn_line}
+use Rattle.sim_top.specs.Lines.{turn_lines}
 
 pub after_more : (setup : Setup) (n : ℕ) → after setup (own_turns setup 0 (n + 1)) ≡ turn setup (after setup (own_turns setup 0 n)) (orders_at (n + 1) setup.commands)
 after_more setup n =

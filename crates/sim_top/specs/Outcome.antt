@@ -9,7 +9,10 @@ use Rattle.sim_store.specs.declared.fault.StoreFault.{StoreFault}
 use Rattle.sim_store.specs.declared.fault.StoreFault.TheVariants as store
 use Rattle.sim_setup.specs.Refusals.{Refusal}
 use Rattle.sim_setup.specs.Setups.{setup_of}
-use Rattle.sim_top.specs.Lines.{usage_text, play_text, refusal_text}
+use Rattle.sim_report.specs.declared.refusal.Refusal.TheVariants.{Match}
+use Rattle.sim_report.specs.Lines.{usage_text}
+use Rattle.sim_report.specs.Refusals.{refusal_text}
+use Rattle.sim_top.specs.Lines.{play_text}
 use Rattle.sim_top.specs.declared.status.Status.{Status}
 use Rattle.sim_top.specs.declared.status.Status.TheVariants.{Done, Usage, ReadFault, TooLong, MatchRefused, NoFile}
 
@@ -32,7 +35,7 @@ match_named other = None
 -- a match that is read is played, and any other is refused with its place
 abbrev pub played : Result Setup Refusal → Outcome
 played (Ok setup) = outcome Done (play_text setup)
-played (Err refusal) = outcome MatchRefused (refusal_text refusal.code refusal.index)
+played (Err refusal) = outcome MatchRefused (refusal_text (Match refusal.code refusal.index))
 
 unfoldable pub played_bytes : Result (List ℕ) StoreFault → Outcome
 played_bytes (Ok bytes) = played (setup_of bytes)

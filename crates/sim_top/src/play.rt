@@ -6,9 +6,9 @@ ghost use Rattle.sim_setup.specs.Posts.{IsOfPosts};
 ghost use Rattle.sim_top.specs.Lines.{play_text};
 
 use crate::posts::{first_state, play_turn};
-use crate::text::push_turn;
 use sim_base::{OutOfMemory, Setup};
 use sim_codec::digest;
+use sim_report::push_turn;
 use std::alloc::Global;
 
 /// Appends a line for each turn of the match.
@@ -18,11 +18,11 @@ pub fn push_play(alloc: Global, setup: &Setup, out: &mut String) -> Result<(), O
     ensures { OnOk result (string_bytes out.new ≡ string_bytes out.old ++ play_text setup.now) }
 {
     let mut state = first_state(alloc, setup)?;
-    push_turn(alloc, 0, &digest(setup, &state), out)?;
+    push_turn(alloc, "turn", 0, &digest(setup, &state), out)?;
     let mut ahead = setup.commands.as_slice();
     for turn in 0..setup.turns {
         ahead = play_turn(alloc, &mut state, ahead);
-        push_turn(alloc, turn + 1, &digest(setup, &state), out)?;
+        push_turn(alloc, "turn", turn + 1, &digest(setup, &state), out)?;
     }
     Ok(())
 }

@@ -6,14 +6,17 @@ ghost use Rattle.std.specs.Io.KnownBytes.{Appends};
 ghost use Rattle.sim_base.specs.Limits.{IsSetup};
 ghost use Rattle.sim_setup.specs.Posts.{IsOfPosts};
 ghost use Rattle.sim_setup.specs.Setups.{setup_of as setup_of_bytes};
-ghost use Rattle.sim_top.specs.Lines.{usage_text as text_of_usage, play_text as text_of_play, refusal_text as text_of_refusal};
+ghost use Rattle.sim_report.specs.declared.refusal.Refusal.TheVariants.{Match};
+ghost use Rattle.sim_report.specs.Lines.{usage_text as text_of_usage};
+ghost use Rattle.sim_report.specs.Refusals.{refusal_text as text_of_refusal};
+ghost use Rattle.sim_top.specs.Lines.{play_text as text_of_play};
 ghost use Rattle.sim_top.specs.Outcome.{words_of, match_named as match_named_in, played, outcome_of};
 ghost use Rattle.sim_top.specs.Answers.{MeetsBefore, Meets, ShelfCauses, SinkCauses, IsSilent, IsAnswered, status_of};
 
 use crate::play::push_play;
 use crate::status::Status;
-use crate::text::{push_refusal, push_usage};
 use sim_base::{OutOfMemory, Setup};
+use sim_report::{Refusal, push_refusal, push_usage};
 use sim_setup::{SetupFault, setup_of};
 use sim_store::{Shelf, Sink, StoreFault, read_file, write_out};
 use std::alloc::Global;
@@ -142,9 +145,9 @@ fn play_text(alloc: Global, setup: &Setup) -> Result<String, OutOfMemory>
 }
 
 fn refusal_text(alloc: Global, code: u8, index: u32) -> Result<String, OutOfMemory>
-    ensures { IfOk result (λ text. string_bytes text ≡ text_of_refusal code index) }
+    ensures { IfOk result (λ text. string_bytes text ≡ text_of_refusal (Match code index)) }
 {
     let mut text = String::new(alloc);
-    push_refusal(alloc, code, index, &mut text)?;
+    push_refusal(&Refusal::Match { code, index }, &mut text)?;
     Ok(text)
 }

@@ -3,7 +3,7 @@ use Rattle.std.specs.Prelude.{codes}
 use Rattle.sim_base.specs.declared.state.State.{State}
 use Rattle.sim_base.specs.Turn.{orders_at, turn}
 use Rattle.sim_base.specs.Spelling.{digest}
-use Rattle.sim_top.specs.Lines.{turn_line}
+use Rattle.sim_report.specs.Lines.{turn_line}
 use Rattle.sim_top.specs.Quiet.{AreAhead}
 use Rattle.sim_top.proofs.Quiet.{short_ways}
 use Rattle.sim_top.proofs.OrdersAhead.{begins_ahead}

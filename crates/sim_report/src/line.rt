@@ -1,7 +1,7 @@
-//! The texts of the program, each appended as its definition says.
+//! The texts of one piece: how the program is called, and the lines that name a turn by its digest.
 
-ghost use Rattle.std.specs.Prelude.{◌≡◌, ◌++◌, OnOk, codes, string_bytes};
-ghost use Rattle.sim_top.specs.Lines.{usage_text, turn_line, refusal_text};
+ghost use Rattle.std.specs.Prelude.{◌≡◌, ◌++◌, OnOk, string_bytes};
+ghost use Rattle.sim_report.specs.Lines.{usage_text, turn_line, saved_line};
 
 use sim_base::OutOfMemory;
 use std::alloc::Global;
@@ -25,31 +25,32 @@ pub fn push_usage(out: &mut String) -> Result<(), OutOfMemory>
     Ok(())
 }
 
-/// Appends the line of a turn.
+/// Appends the line of a turn that a command's word, as `turn` or `first`, stands before.
 pub fn push_turn(
     alloc: Global,
+    word: &str,
     turn: u32,
     digest: &[u8; 16],
     out: &mut String,
 ) -> Result<(), OutOfMemory>
-    ensures { OnOk result (string_bytes out.new ≡ string_bytes out.old ++ turn_line (codes "turn") turn digest.now) }
+    ensures { OnOk result (string_bytes out.new ≡ string_bytes out.old ++ turn_line word.now turn digest.now) }
 {
     let hex = hex::encode(alloc, digest.as_slice())?;
-    let line = format!(in alloc; "turn {turn} {hex}\n")?;
-    out.push_str(line.as_str())?;
+    writeln!(out, "{word} {turn} {hex}")?;
     Ok(())
 }
 
-/// Appends why a match is refused.
-pub fn push_refusal(
+/// Appends the line of a state that was stored in so many bytes.
+pub fn push_saved(
     alloc: Global,
-    code: u8,
-    index: u32,
+    turn: u32,
+    length: usize,
+    digest: &[u8; 16],
     out: &mut String,
 ) -> Result<(), OutOfMemory>
-    ensures { OnOk result (string_bytes out.new ≡ string_bytes out.old ++ refusal_text code index) }
+    ensures { OnOk result (string_bytes out.new ≡ string_bytes out.old ++ saved_line turn length digest.now) }
 {
-    let line = format!(in alloc; "match refused {code} {index}\n")?;
-    out.push_str(line.as_str())?;
+    let hex = hex::encode(alloc, digest.as_slice())?;
+    writeln!(out, "state {turn} {length} {hex}")?;
     Ok(())
 }

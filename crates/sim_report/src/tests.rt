@@ -1,0 +1,208 @@
+//! The texts of worked cases, whole, and that each call succeeds with ample memory.
+
+ghost use Rattle.std.specs.Prelude.{◌≡◌, ◌<◌, length, IfOk};
+
+use super::*;
+use sim_base::{
+    Aim, Fixed, Items, Land, Motion, Name, OutOfMemory, Point, Resist, Row, Setup, State, Template,
+};
+use std::alloc::Global;
+use std::test::Fail;
+
+const DIGEST: [u8; 16] = [
+    0, 1, 9, 10, 15, 16, 127, 128, 159, 160, 171, 205, 239, 240, 254, 255,
+];
+
+const DIGITS: &str = "0001090a0f107f809fa0abcdeff0feff";
+
+#[test]
+fn prints_the_usage(rt: HostRuntime) -> Result<(), Fail> {
+    let mut out = String::new(rt.alloc());
+    push_usage(&mut out)?;
+    let lines = [
+        "usage: simcore play MATCH\n",
+        "       simcore state MATCH TURN OUT\n",
+        "       simcore resume MATCH STATE\n",
+        "       simcore rejoin MATCH TURN\n",
+        "       simcore serve SCHEDULE\n",
+        "       simcore session MATCH STEPS\n",
+        "       simcore compare MATCH A B\n",
+        "       simcore show MATCH STATE\n",
+        "       simcore trial SEED UNITS TURNS\n",
+    ];
+    let mut usage = String::new(rt.alloc());
+    for line in lines {
+        usage.push_str(line)?;
+    }
+    assert_eq!(rt; out.as_str(), usage.as_str());
+    Ok(())
+}
+
+#[test]
+fn appends_lines_of_digests(rt: HostRuntime) -> Result<(), Fail> {
+    let mut out = String::from_str(rt.alloc(), "before\n")?;
+    push_turn(rt.alloc(), "second", 17, &DIGEST, &mut out)?;
+    push_saved(rt.alloc(), 1, 101, &DIGEST, &mut out)?;
+    let text = format!(in rt.alloc(); "before\nsecond 17 {DIGITS}\nstate 1 101 {DIGITS}\n")?;
+    assert_eq!(rt; out.as_str(), text.as_str());
+    Ok(())
+}
+
+#[test]
+fn prints_refusals(rt: HostRuntime) -> Result<(), Fail> {
+    let cases = [
+        (
+            Refusal::Match { code: 2, index: 19 },
+            "match refused 2 19\n",
+        ),
+        (
+            Refusal::Stored {
+                code: 3,
+                name: "a file",
+            },
+            "state refused 3 a file\n",
+        ),
+        (Refusal::List { index: 0 }, "list refused 0\n"),
+        (Refusal::Turn { asked: 3, turns: 2 }, "no turn 3 of 2\n"),
+    ];
+    for (refusal, line) in cases {
+        let mut out = String::new(rt.alloc());
+        push_refusal(&refusal, &mut out)?;
+        assert_eq!(rt; out.as_str(), line);
+    }
+    Ok(())
+}
+
+#[test]
+fn shows_states(rt: HostRuntime) -> Result<(), Fail> {
+    let mut post = bare_row(3, 0, 2, point(131072, 131072));
+    post.health = Some(Fixed::from_raw(3276800));
+    assert_eq!(rt;
+        shown(rt.alloc(), 4, post)?.as_str(),
+        "turn 1 next 4 word 0 rows 1\n\
+         entity 3 template post owner 2 at 2 2 health 50\n"
+    );
+
+    let mut walker = bare_row(2, 1, 1, point(294912, 163840));
+    walker.motion = Some(Motion::Still);
+    assert_eq!(rt;
+        shown(rt.alloc(), 3, walker)?.as_str(),
+        "turn 1 next 3 word 0 rows 1\n\
+         entity 2 template walker owner 1 at 4.50000 2.50000 motion still\n"
+    );
+
+    let mut going = bare_row(2, 1, 1, point(294912, 163840));
+    going.motion = Some(eastward(rt.alloc())?);
+    assert_eq!(rt;
+        shown(rt.alloc(), 3, going)?.as_str(),
+        "turn 1 next 3 word 0 rows 1\n\
+         entity 2 template walker owner 1 at 4.50000 2.50000 motion going 6.50000 2.50000 way 2 whole 1\n"
+    );
+
+    let mut guard = bare_row(4, 2, 2, point(491520, 360448));
+    guard.health = Some(Fixed::from_raw(983040));
+    guard.attack = Some(Aim {
+        target: 0,
+        cooldown: 0,
+        hold: false,
+    });
+    assert_eq!(rt;
+        shown(rt.alloc(), 5, guard)?.as_str(),
+        "turn 1 next 5 word 0 rows 1\n\
+         entity 4 template guard owner 2 at 7.50000 5.50000 health 15 attack target 0 cooldown 0\n"
+    );
+    Ok(())
+}
+
+fn point(x: i32, z: i32) -> Point {
+    Point {
+        x: Fixed::from_raw(x),
+        z: Fixed::from_raw(z),
+    }
+}
+
+// A row without parts.
+fn bare_row(id: u32, template: u16, owner: u8, at: Point) -> Row
+    ensures { result.template ≡ template }
+{
+    Row {
+        id,
+        template,
+        at,
+        owner,
+        health: None,
+        motion: None,
+        attack: None,
+    }
+}
+
+// Two waypoints ahead, to the goal.
+fn eastward(alloc: Global) -> Result<Motion, OutOfMemory> {
+    let way = vec![in alloc; point(360448, 163840), point(425984, 163840)]?;
+    Ok(Motion::Going {
+        goal: point(425984, 163840),
+        way: Items::from_items(way),
+        whole: true,
+    })
+}
+
+// A template of this name. What it says of its parts is not printed.
+fn named(alloc: Global, name: &str) -> Result<Template, OutOfMemory> {
+    Ok(Template {
+        name: Name::of(alloc, name)?.ok_or(OutOfMemory)?,
+        health: None,
+        resist: Resist {
+            hack: 0,
+            pierce: 0,
+            crush: 0,
+        },
+        speed: None,
+        obstruct: None,
+        arms: None,
+        train: None,
+    })
+}
+
+// A match with three templates.
+fn three_kinds(alloc: Global) -> Result<Setup, OutOfMemory>
+    ensures { IfOk result (λ setup. length setup.templates ≡ 3) }
+{
+    let templates = vec![in alloc;
+        named(alloc, "post")?,
+        named(alloc, "walker")?,
+        named(alloc, "guard")?,
+    ]?;
+    Ok(Setup {
+        id: [0; 16],
+        land: Land {
+            width: 8,
+            depth: 8,
+            closed: Items::new(alloc),
+            masks: Items::from_items(vec![in alloc; 0, 0, 0]?),
+        },
+        players: 2,
+        cap: 0,
+        delay: 1,
+        turns: 2,
+        seed: 0,
+        templates: Items::from_items(templates),
+        first: Items::new(alloc),
+        commands: Items::new(alloc),
+    })
+}
+
+// The text of a state after turn 1 that has this row alone.
+fn shown(alloc: Global, next: u32, row: Row) -> Result<String, OutOfMemory>
+    requires { row.template < 3 }
+{
+    let setup = three_kinds(alloc)?;
+    let state = State {
+        turn: 1,
+        next,
+        word: 0,
+        rows: Items::from_items(vec![in alloc; row]?),
+    };
+    let mut out = String::new(alloc);
+    push_show(alloc, &setup, &state, &mut out)?;
+    Ok(out)
+}
