@@ -17,6 +17,8 @@ use Rattle.sim_base.specs.Aim.{aimed}
 use Rattle.sim_base.specs.Move.{moved}
 use Rattle.sim_base.specs.Hit.{hit, gone}
 use Rattle.sim_base.specs.Turn.{first_state, turn, ticked}
+use Rattle.sim_base.specs.Bytes.{u32_bytes, i32_bytes}
+use Rattle.sim_base.specs.Spelling.{moving_bytes}
 use Rattle.sim_base.proofs.RootLemmas.{root_is}
 use Rattle.sim_base.proofs.ExampleMatches.{mid, order, walker, hut, alone, first, row, still}
 
@@ -43,6 +45,12 @@ straight = refl
 
 walk_one : turn walking (first_state walking) (order 1 (Walk (2 ∷ []) (mid 6 2)) ∷ []) ≡ after_one
 walk_one = simp (straight, metre)
+
+-- the bytes of its motion between the two turns
+way_bytes : moving_bytes (2, Going (mid 6 2) (mid 5 2 ∷ mid 6 2 ∷ []) true)
+    ≡ 2 ∷ 0 ∷ 0 ∷ 0 ∷ 1 ∷ 0 ∷ 0x80 ∷ 6 ∷ 0 ∷ 0 ∷ 0x80 ∷ 2 ∷ 0 ∷ 1 ∷ 2 ∷ 0 ∷ 0x80 ∷ 5 ∷ 0 ∷ 0 ∷ 0x80 ∷ 2 ∷ 0 ∷ 0 ∷ 0x80 ∷ 6 ∷ 0 ∷ 0 ∷ 0x80 ∷ 2 ∷ 0 ∷ []
+unfolding u32_bytes i32_bytes
+way_bytes = refl
 
 walk_two : turn walking after_one [] ≡ record { turn = 2; next = 3; word = 0; rows = still 2 (mid 6 2) ∷ [] }
 walk_two = simp metre
