@@ -5,11 +5,15 @@
 //!
 //! - `take`: the reader.
 //! - `put`: numbers at the end of a list.
-//! - `sink`: places to which bytes are told: a list, a digest, a comparison.
+//! - `sink`: places to which bytes are told: a list, a comparison.
+//! - `buffer`: a short list of bytes in place.
+//! - `digesting`: the MD5 of bytes that are told in small pieces.
 //! - `hexadecimal`: hexadecimal text.
 //! - `laws`: theorems about the definitions, each the contract of a function that does nothing.
 #![tactic(auto)]
 
+mod buffer;
+mod digesting;
 mod hexadecimal;
 mod laws;
 mod put;
@@ -18,6 +22,8 @@ mod take;
 #[cfg(test)]
 mod tests;
 
+pub use buffer::Buffer;
+pub use digesting::Digesting;
 pub use hexadecimal::{push_hex, read_hex};
 pub use laws::numbers_are_read_back;
 pub use put::{put_i32, put_u8, put_u16, put_u32, put_u64};

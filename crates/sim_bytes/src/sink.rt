@@ -5,7 +5,6 @@ ghost use Rattle.std.specs.Prelude.{◌≡◌, ◌↔◌, ℕ, List, [], ◌∷�
 ghost use Rattle.sim_base.specs.Bytes.{u16_bytes, u32_bytes, u64_bytes, i32_bytes};
 ghost use Rattle.sim_bytes.specs.Telling.{Tells, Compared};
 
-use md5::{Digest, Md5};
 use sim_base::OutOfMemory;
 use std::convert::Infallible;
 
@@ -29,19 +28,6 @@ impl ByteSink for Vec<u8> {
 
     fn tell(&mut self, bytes: &[u8]) -> Result<(), OutOfMemory> {
         self.extend_from_slice(bytes)?;
-        Ok(())
-    }
-}
-
-impl ByteSink for Md5 {
-    type Fault = Infallible;
-
-    ghost use Rattle.md5.specs.Md5.{Holds};
-
-    ghost holds = { λ hasher about told. Holds hasher told };
-
-    fn tell(&mut self, bytes: &[u8]) -> Result<(), Infallible> {
-        self.update(bytes);
         Ok(())
     }
 }

@@ -10,9 +10,8 @@ ghost use Rattle.sim_codec.specs.Bits.{bits, clock_bits, row_bits};
 use crate::look_up::place_of;
 use crate::spelling::tell_clock;
 use sim_base::{Row, State};
-use sim_bytes::ByteSink;
+use sim_bytes::Buffer;
 use sim_sections::{AttackRow, EntityRow, HealthRow, MotionRow, OwnerRow, PositionRow, RowForm};
-use std::convert::Infallible;
 use std::marker::Model;
 
 /// What may be said of an entity: a section, or the clock, which entity 1 has in place of a row.
@@ -27,61 +26,10 @@ pub enum Part {
     Attack,
 }
 
-// A list of at most 527 bytes in place, which is as many as a row of a section has. What does not fit is passed over.
-#[derive(Drop)]
-struct Buffer {
-    bytes: [u8; 527],
-    count: usize,
-}
-
-impl Model for Buffer {
-    ghost use Rattle.std.specs.Prelude.{List, ℕ, ◌≤◌, take};
-
-    ghost Value = { List ℕ };
-
-    ghost view = { λ buffer. take buffer.count buffer.bytes };
-
-    ghost invariant = { λ buffer. buffer.count ≤ 527 };
-}
-
-impl Buffer {
-    fn new() -> Buffer
-        ensures { result ≡ [] }
-    {
-        Buffer {
-            bytes: [0; 527],
-            count: 0,
-        }
-    }
-
-    fn bytes(&self) -> &[u8]
-        ensures { result.now ≡ self.now }
-    {
-        &self.bytes[..self.count]
-    }
-}
-
-impl ByteSink for Buffer {
-    type Fault = Infallible;
-
-    ghost use Rattle.std.specs.Prelude.{◌≡◌, ◌≤◌, length};
-
-    ghost holds = { λ buffer about told. length told ≤ 527 → buffer ≡ told };
-
-    fn tell(&mut self, bytes: &[u8]) -> Result<(), Infallible> {
-        if bytes.len() <= 527 - self.count {
-            let end = self.count + bytes.len();
-            self.bytes[self.count..end].copy_from_slice(bytes);
-            self.count = end;
-        }
-        Ok(())
-    }
-}
-
 /// The bytes of an entity in a section, at most 527 in place, or that it has none there.
 #[derive(Drop)]
 pub struct Bits {
-    found: Option<Buffer>,
+    found: Option<Buffer<527>>,
 }
 
 impl Model for Bits {

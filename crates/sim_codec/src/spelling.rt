@@ -7,9 +7,8 @@ ghost use Rattle.sim_base.specs.Spelling.{clock_bytes, sections, spelling, diges
 ghost use Rattle.sim_bytes.specs.Telling.{Tells};
 ghost use Rattle.sim_sections.specs.Rows.{HasShortWay};
 
-use md5::{Digest, Md5};
 use sim_base::{OutOfMemory, Row, Setup, State};
-use sim_bytes::{ByteSink, Comparing, tell_u32, tell_u64};
+use sim_bytes::{ByteSink, Comparing, Digesting, tell_u32, tell_u64};
 use sim_sections::{
     AttackRow, EntityRow, HealthRow, MotionRow, OwnerRow, PositionRow, tell_section,
 };
@@ -69,9 +68,9 @@ pub fn digest(setup: &Setup, state: &State) -> [u8; 16]
     requires few { length state.now.rows < 2 ^ 32 }
     ensures { result ≡ digest_of setup.now state.now }
 {
-    let mut hasher = Md5::new();
-    match tell_state(&mut hasher, setup, state) {
-        Ok(()) => hasher.finalize(),
+    let mut digesting = Digesting::new();
+    match tell_state(&mut digesting, setup, state) {
+        Ok(()) => digesting.finalize(),
         Err(never) => match never {},
     }
 }

@@ -1,6 +1,7 @@
 //! The rows of fixed length. Each is an id and a part, and contracts see it as that pair.
 
 ghost use Rattle.std.specs.Prelude.{◌≡◌, ℕ, List};
+ghost use Rattle.sim_base.specs.Spelling.{position_bytes};
 
 use crate::form::RowForm;
 use crate::motion::{take_point, tell_point};
@@ -55,9 +56,11 @@ impl RowForm for EntityRow {
         Ok(EntityRow { id, template })
     }
 
+    #[tactic(auto, unfolding(sim_base::specs::Bytes::u32_bytes, sim_base::specs::Bytes::u16_bytes))]
     fn tell<K: ByteSink>(&self, out: &mut K) -> Result<(), K::Fault> {
-        tell_u32(out, self.id)?;
-        tell_u16(out, self.template)
+        let [a, b, c, d] = self.id.to_le_bytes();
+        let [e, f] = self.template.to_le_bytes();
+        out.tell(&[a, b, c, d, e, f])
     }
 
     ghost read_back = { entity_back };
@@ -116,8 +119,7 @@ impl RowForm for PositionRow {
     }
 
     fn tell<K: ByteSink>(&self, out: &mut K) -> Result<(), K::Fault> {
-        tell_u32(out, self.id)?;
-        tell_point(out, self.at)
+        out.tell(&position_piece(self.id, self.at))
     }
 
     ghost read_back = { position_back };
@@ -125,6 +127,16 @@ impl RowForm for PositionRow {
     ghost no_prefix = { prefix_nil position_at position_bytes IsPosition position_back };
 
     ghost few_bytes = { position_few };
+}
+
+#[tactic(auto, unfolding(sim_base::specs::Bytes::u32_bytes, sim_base::specs::Bytes::i32_bytes))]
+fn position_piece(id: u32, at: Point) -> [u8; 12]
+    ensures { result ≡ position_bytes (id, at) }
+{
+    let [a, b, c, d] = id.to_le_bytes();
+    let [e, f, g, h] = at.x.raw().to_le_bytes();
+    let [i, j, k, l] = at.z.raw().to_le_bytes();
+    [a, b, c, d, e, f, g, h, i, j, k, l]
 }
 
 /// Whose an entity is.
@@ -174,9 +186,10 @@ impl RowForm for OwnerRow {
         Ok(OwnerRow { id, owner })
     }
 
+    #[tactic(auto, unfolding(sim_base::specs::Bytes::u32_bytes))]
     fn tell<K: ByteSink>(&self, out: &mut K) -> Result<(), K::Fault> {
-        tell_u32(out, self.id)?;
-        tell_u8(out, self.owner)
+        let [a, b, c, d] = self.id.to_le_bytes();
+        out.tell(&[a, b, c, d, self.owner])
     }
 
     ghost read_back = { owner_back };
@@ -236,9 +249,11 @@ impl RowForm for HealthRow {
         })
     }
 
+    #[tactic(auto, unfolding(sim_base::specs::Bytes::u32_bytes, sim_base::specs::Bytes::i32_bytes))]
     fn tell<K: ByteSink>(&self, out: &mut K) -> Result<(), K::Fault> {
-        tell_u32(out, self.id)?;
-        tell_i32(out, self.health.raw())
+        let [a, b, c, d] = self.id.to_le_bytes();
+        let [e, f, g, h] = self.health.raw().to_le_bytes();
+        out.tell(&[a, b, c, d, e, f, g, h])
     }
 
     ghost read_back = { health_back };
@@ -305,10 +320,12 @@ impl RowForm for AttackRow {
         })
     }
 
+    #[tactic(auto, unfolding(sim_base::specs::Bytes::u32_bytes, sim_base::specs::Bytes::u16_bytes))]
     fn tell<K: ByteSink>(&self, out: &mut K) -> Result<(), K::Fault> {
-        tell_u32(out, self.id)?;
-        tell_u32(out, self.target)?;
-        tell_u16(out, self.cooldown)
+        let [a, b, c, d] = self.id.to_le_bytes();
+        let [e, f, g, h] = self.target.to_le_bytes();
+        let [i, j] = self.cooldown.to_le_bytes();
+        out.tell(&[a, b, c, d, e, f, g, h, i, j])
     }
 
     ghost read_back = { attack_back };

@@ -49,6 +49,9 @@ pub fn tell_section<K: ByteSink, R: RowForm>(out: &mut K, rows: &[Row]) -> Resul
     let found = count::<R>(rows) as u32;
     tell_u8(out, R::TAG)?;
     tell_u32(out, found)?;
+    if found == 0 {
+        return Ok(());
+    }
     tell_rows::<K, R>(out, rows)
 }
 

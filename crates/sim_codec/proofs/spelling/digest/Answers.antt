@@ -5,4 +5,4 @@ use Rattle.sim_codec.proofs.spelling.digest.Goals as goal
 
 pub returns : goal.returns
 unfolding digest
-returns c = c.finalize.ensures _ (c.in-Ok.ensures [] [] c.new-hasher.ensures)
+returns c = c.finalize.ensures _ (c.in-Ok.ensures [] [] c.new-digesting.ensures)
