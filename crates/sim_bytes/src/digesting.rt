@@ -43,26 +43,15 @@ impl Digesting {
         hasher.finalize()
     }
 
-    // Hands on what is waiting.
+    // Hands on what is waiting. It is kept out of line, and is not handed the piece that is told, so that small pieces go
+    // from registers into the room.
+    #[inline(never)]
     fn flush(&mut self)
         ensures same { (told : List ℕ) → Gathers self.old told → Gathers self.new told }
         ensures empty { self.new.waiting ≡ [] }
     {
         self.hasher.update(self.waiting.bytes());
         self.waiting.clear();
-    }
-
-    // Makes room, or hands the piece on as it is where it is larger than the room.
-    #[inline(never)]
-    fn tell_slowly(&mut self, bytes: &[u8])
-        ensures { (told : List ℕ) → Gathers self.old told → Gathers self.new (told ++ bytes.now) }
-    {
-        self.flush();
-        if bytes.len() <= ROOM {
-            self.waiting.add(bytes);
-        } else {
-            self.hasher.update(bytes);
-        }
     }
 }
 
@@ -75,11 +64,15 @@ impl ByteSink for Digesting {
 
     #[inline]
     fn tell(&mut self, bytes: &[u8]) -> Result<(), Infallible> {
-        if bytes.len() <= self.waiting.room() {
-            self.waiting.add(bytes);
-        } else {
-            self.tell_slowly(bytes);
+        if bytes.len() > ROOM {
+            self.flush();
+            self.hasher.update(bytes);
+            return Ok(());
         }
+        if bytes.len() > self.waiting.room() {
+            self.flush();
+        }
+        self.waiting.add(bytes);
         Ok(())
     }
 }

@@ -4,3 +4,6 @@ pub mod QuietDeletes
 pub mod QuietStart
 pub mod OrdersAhead
 pub mod PlayLines
+pub mod ValidStates
+pub mod Stopping
+pub mod Finishing

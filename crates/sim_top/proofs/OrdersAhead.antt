@@ -1,8 +1,8 @@
 -- Commands that ascend by their turns: those of a turn stand before those of later turns.
-use Rattle.std.proofs.Common.{◌≡◌, ◌≢◌, ℕ, ◌+◌, ◌<◌, ◌≤◌, List, [], ◌∷◌, length, get_or, map, suc, All, refl, ap, ◌∙◌, arith}
+use Rattle.std.proofs.Common.{◌≡◌, ◌≢◌, ℕ, ◌+◌, ◌<◌, ◌≤◌, List, [], ◌∷◌, ◌-◌, length, get_or, map, suc, take, drop, All, refl, sym, ap, ◌∙◌, subst, arith}
 use Rattle.std.proofs.lemmas.Bool.{ne_eqb}
 use Rattle.std.specs.List.Sorted.{IsNonDecreasing}
-use Rattle.std.proofs.lemmas.List.{get_or-map, length-map}
+use Rattle.std.proofs.lemmas.List.{get_or-map, length-map, take_all}
 use Rattle.std.proofs.lemmas.List.Elements.{All-head, All-tail, All-weaker}
 use Rattle.sim_base.specs.declared.setup.Timed.{Timed}
 use Rattle.sim_base.specs.declared.setup.Setup.{Setup}
@@ -30,6 +30,42 @@ later_turns turn (timed ∷ more) first some is other ahead =
 
 pub none_due : (turn : ℕ) (timeds : List Timed) (first : Timed) → 1 ≤ length timeds → first ≡ get_or timeds 0 first → first.turn ≢ turn → AreAhead turn timeds → orders_at turn timeds ≡ []
 none_due turn timeds first some is other ahead = none_before (turn + 1) turn timeds (omega arith) (later_turns turn timeds first some is other ahead)
+
+-- commands of later turns are also of turns above a lower one
+ahead_of_lower : (low high : ℕ) (timeds : List Timed) → low ≤ high → AreAhead high timeds → AreAhead low timeds
+ahead_of_lower low high [] h ahead = tt
+ahead_of_lower low high (timed ∷ more) h ahead = (omega (arith, ahead.0), ahead.1, ahead.2)
+
+-- behind a command stand those of its turn and of later ones
+pub behind_first : (low : ℕ) (timed : Timed) (more : List Timed) → AreAhead low (timed ∷ more) → AreAhead low more
+behind_first low timed more ahead = ahead_of_lower low timed.turn more ahead.0 ahead.2
+
+-- where the first command is of a turn above this one, they all are
+pub all_above : (low turn : ℕ) (timeds : List Timed) (first : Timed) → 1 ≤ length timeds → first ≡ get_or timeds 0 first → turn < first.turn → AreAhead low timeds → AreAhead (turn + 1) timeds
+all_above low turn [] first some is above ahead = absurd (omega arith)
+all_above low turn (timed ∷ more) first some is above ahead =
+    let e : first.turn ≡ timed.turn = ap (λ (t : Timed). t.turn) is in
+    (omega (arith, above, e), ahead.1, ahead.2)
+
+pub none_left : (turn : ℕ) (timeds : List Timed) → length timeds < 1 → AreAhead turn timeds
+none_left turn [] h = tt
+none_left turn (timed ∷ more) h = absurd (omega arith)
+
+-- behind a first command of a turn up to this one, those of the turns above are the same
+pub record IsBehind (turn : ℕ) (all timeds : List Timed) : Type 0 where
+  pub ahead : AreAhead 1 timeds
+  pub orders : (u : ℕ) → turn < u → orders_at u timeds ≡ orders_at u all
+
+pub goes_on : (turn : ℕ) (all timeds : List Timed) (first : Timed) → 1 ≤ length timeds → first ≡ get_or timeds 0 first → first.turn ≤ turn → IsBehind turn all timeds
+    → IsBehind turn all (take (length timeds - 1) (drop 1 timeds))
+goes_on turn all [] first some is due behind = absurd (omega arith)
+goes_on turn all (timed ∷ more) first some is due behind =
+    let e : first.turn ≡ timed.turn = ap (λ (t : Timed). t.turn) is in
+    let rest : take (length (timed ∷ more) - 1) more ≡ more = take_all _ more (omega arith) in
+    subst (IsBehind turn all) (sym rest) (record {
+      ahead = behind_first 1 timed more behind.ahead;
+      orders = λ u h. sym (orders_at-other u timed more (λ (f : timed.turn ≡ u). omega (arith, due, e, f, h))) ∙ behind.orders u h;
+    })
 
 -- ---- the commands of a match that only deletes
 

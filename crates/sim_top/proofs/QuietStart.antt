@@ -3,6 +3,7 @@ use Rattle.std.proofs.Common.{◌≡◌, ℕ, ◌+◌, ◌<◌, ◌≤◌, ℤ, 
 use Rattle.std.specs.Prelude.{option_map}
 use Rattle.std.specs.List.{AllByRecursion}
 use Rattle.std.proofs.lemmas.Option.{slice_get_read}
+use Rattle.std.proofs.lemmas.List.Elements.{All-weaker}
 use Rattle.sim_base.specs.declared.template.Template.{Template}
 use Rattle.sim_base.specs.declared.template.Arms.{Arms}
 use Rattle.sim_base.specs.declared.setup.First.{First}
@@ -12,6 +13,7 @@ use Rattle.sim_base.specs.declared.state.Row.{Row}
 use Rattle.sim_base.specs.declared.state.State.{State}
 use Rattle.sim_base.specs.Limits.{IsSetup, IsTemplate, IsFirst, IsRawFrom}
 use Rattle.sim_base.specs.Changes.{created, with_new, new_row}
+use Rattle.sim_setup.specs.Posts.{IsPost, IsOfPosts}
 use Rattle.sim_top.specs.Quiet.{IsQuietRow, IsQuietState}
 use Rattle.sim_top.proofs.Quiet.{AreQuiet-push}
 
@@ -81,3 +83,7 @@ one_more setup limits still i state first t rows inside is known made quiet =
 
 pub begins_quiet : (word : ℕ) → IsQuietState (record { turn = 0; next = 2; word = word; rows = [] })
 begins_quiet word = record { rows = tt; below = tt; next = omega arith }
+
+-- the templates of a match of posts stand still
+pub still_templates : (setup : Setup) → IsOfPosts setup → All StandsStill setup.templates
+still_templates setup posts = All-weaker IsPost StandsStill (λ t post. record { speed = post.speed; arms = post.arms }) setup.templates posts.templates

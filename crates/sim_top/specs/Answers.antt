@@ -1,44 +1,97 @@
--- What an answer of the program says: that it is the wanted one, or else which fault came between.
-use Rattle.std.specs.Prelude.{◌≡◌, ℕ, ◌+◌, ◌<◌, List, [], length, take, Option, Result, Ok, Err, String, string_bytes}
-use Rattle.std.specs.declared.alloc.Global.{Global}
+-- What an answer of the program says: that it is an outcome of the words, or else which fault came between.
+use Rattle.std.specs.Prelude.{◌≡◌, ◌≢◌, ◌⊎◌, ℕ, ◌+◌, ◌<◌, ◌≤◌, List, [], length, take, Option, Some, None}
 use Rattle.std.specs.Io.KnownBytes.{Appends}
-use Rattle.sim_base.specs.declared.memory.OutOfMemory.{OutOfMemory as NoMemory}
-use Rattle.sim_store.specs.Counts.{raised, RoseBy, after_miss}
+use Rattle.sim_store.specs.Counts.{raised, Rose, RoseBy, after_miss}
+use Rattle.sim_store.specs.Files.{File, file_in}
 use Rattle.sim_store.specs.Reading.{OnlyGave, GaveThenFailed}
+use Rattle.sim_store.specs.Shelf.{HeldSet}
 use Rattle.sim_store.specs.declared.counts.Counts.{Counts}
-use Rattle.sim_store.specs.declared.fault.StoreFault.{StoreFault}
-use Rattle.sim_store.specs.declared.fault.StoreFault.TheVariants as store
 use Rattle.sim_store.specs.declared.read.TheConstants.{MAX_FILE}
+use Rattle.sim_top.specs.Outcome.{Outcome, IsOutcome}
 use Rattle.sim_top.specs.declared.status.Status.{Status}
-use Rattle.sim_top.specs.declared.status.Status.TheVariants.{Done, Usage, ReadFault, WriteFault, TooLong, MatchRefused, OutOfMemory, NoFile}
-use Rattle.sim_top.specs.Outcome.{Outcome, outcome}
+use Rattle.sim_top.specs.declared.status.Status.TheVariants.{Done, Usage, ReadFault, WriteFault, TooLong, MatchRefused, StateRefused, OutOfMemory, NoSuchTurn, NoFile}
 
--- an answer before it is written is the wanted one, or a read fault or want of memory came between
-abbrev pub MeetsBefore : Status → List ℕ → Outcome → Type 0
-MeetsBefore ReadFault text wanted = text ≡ []
-MeetsBefore OutOfMemory text wanted = text ≡ []
-MeetsBefore WriteFault text wanted = ⊥
-MeetsBefore status text wanted = wanted ≡ outcome status text
+-- what the shelf holds and the sink was told, where they tell it
+pub record Scene : Type 0 where
+  pub held : Option (List File)
+  pub told : Option (List ℕ)
 
--- the status is the wanted one, and all of its text was told; or a fault or want of memory came between, and of the text a prefix or nothing was told
-abbrev pub Meets : Status → Option (List ℕ) → Option (List ℕ) → Outcome → Type 0
-Meets ReadFault old new wanted = Appends old new []
-Meets OutOfMemory old new wanted = Appends old new []
-Meets WriteFault old new wanted = (part : ℕ) × (part < length wanted.text) × Appends old new (take part wanted.text)
-Meets status old new wanted = (wanted.status ≡ status) × Appends old new wanted.text
+abbrev pub scene : Option (List File) → Option (List ℕ) → Scene
+scene held told = record { held = held; told = told }
 
--- what the shelf counted, by the status
-abbrev pub ShelfCauses : Status → Counts → Counts → Type 0
-ShelfCauses ReadFault old new = GaveThenFailed old new
-ShelfCauses NoFile old new = new ≡ after_miss old
-ShelfCauses TooLong old new = OnlyGave old new × RoseBy (MAX_FILE + 1) old.given new.given
-ShelfCauses Usage old new = new ≡ old
-ShelfCauses status old new = OnlyGave old new
+-- nothing was told, and all files are as they were
+pub record IsUntouched (before now : Scene) : Type 0 where
+  pub text : Appends before.told now.told []
+  pub files : now.held ≡ before.held
 
--- what the sink counted: a fault, exactly where a write fault is answered
-abbrev pub SinkCauses : Status → ℕ → ℕ → Type 0
-SinkCauses WriteFault old new = new ≡ raised 1 old
-SinkCauses status old new = new ≡ old
+-- the file of an outcome is held whole, and all others as they were
+abbrev pub Saves : Option File → Option (List File) → Option (List File) → Type 0
+Saves None old new = new ≡ old
+Saves (Some file) old new = HeldSet file.name file.bytes old new
+
+-- the file of an outcome is as it was, or holds a prefix of its bytes, and all others are as they were
+abbrev pub SavesPart : Option File → Option (List File) → Option (List File) → Type 0
+SavesPart None old new = ⊥
+SavesPart (Some file) old new = (new ≡ old) ⊎ ((part : ℕ) × HeldSet file.name (take part file.bytes) old new)
+
+-- all of an outcome was done
+pub record IsDone (wanted : Outcome) (before now : Scene) : Type 0 where
+  pub text : Appends before.told now.told wanted.text
+  pub files : Saves wanted.saved before.held now.held
+
+-- the file could not be written, and nothing was told
+pub record IsUnsaved (wanted : Outcome) (before now : Scene) : Type 0 where
+  pub text : Appends before.told now.told []
+  pub files : SavesPart wanted.saved before.held now.held
+
+-- the text could not be told to its end, and the file, if there is one, is saved
+pub record IsUntold (wanted : Outcome) (before now : Scene) : Type 0 where
+  pub part : ℕ
+  pub less : part < length wanted.text
+  pub text : Appends before.told now.told (take part wanted.text)
+  pub files : Saves wanted.saved before.held now.held
+
+-- the status is that of an outcome of the words, all of which was done; or a fault or want of memory came between
+abbrev pub Meets : Status → List (List ℕ) → List File → Scene → Scene → Type 0
+Meets ReadFault words files before now = IsUntouched before now
+Meets OutOfMemory words files before now = IsUntouched before now
+Meets WriteFault words files before now = (wanted : Outcome) × IsOutcome words files wanted × (IsUnsaved wanted before now ⊎ IsUntold wanted before now)
+Meets status words files before now = (wanted : Outcome) × IsOutcome words files wanted × (wanted.status ≡ status) × IsDone wanted before now
+
+-- ---- what was counted
+
+-- bytes may have been given out, then a name was not found, and nothing else was counted
+abbrev pub GaveThenMissed : Counts → Counts → Type 0
+GaveThenMissed old new = (old.given ≤ new.given) × (new ≡ after_miss (record old { given = new.given }))
+
+-- bytes may have been given out, then writing the file failed, and nothing else was counted
+abbrev pub GaveThenUnsaved : Counts → Counts → Type 0
+GaveThenUnsaved old new = (old.given ≤ new.given) × Rose old.write_faults new.write_faults × (new ≡ record old { given = new.given; write_faults = new.write_faults })
+
+-- what the shelf counted before anything was written, by the status
+abbrev pub ReadCauses : Status → Counts → Counts → Type 0
+ReadCauses ReadFault old new = GaveThenFailed old new
+ReadCauses NoFile old new = GaveThenMissed old new
+ReadCauses TooLong old new = OnlyGave old new × RoseBy (MAX_FILE + 1) old.given new.given
+ReadCauses Usage old new = new ≡ old
+ReadCauses status old new = OnlyGave old new
+
+-- what the shelf and the sink counted: a write fault exactly where one is answered, of the one or of the other
+abbrev pub Causes : Status → Counts → Counts → ℕ → ℕ → Type 0
+Causes WriteFault old new faults now = (GaveThenUnsaved old new × (now ≡ faults)) ⊎ (OnlyGave old new × (now ≡ raised 1 faults))
+Causes status old new faults now = ReadCauses status old new × (now ≡ faults)
+
+-- ---- where the shelf need not tell what it holds
+
+-- every file but the one that is to be written is as it was
+abbrev pub KeepsOthers : List ℕ → Option (List File) → Option (List File) → Type 0
+KeepsOthers out None new = new ≡ None
+KeepsOthers out (Some files) None = ⊥
+KeepsOthers out (Some files) (Some files') = (other : List ℕ) → other ≢ out → file_in files' other ≡ file_in files other
+
+abbrev pub KeepsAllBut : Option (List ℕ) → Option (List File) → Option (List File) → Type 0
+KeepsAllBut None old new = new ≡ old
+KeepsAllBut (Some out) old new = KeepsOthers out old new
 
 -- nothing is told with these statuses
 abbrev pub IsSilent : Status → Type 0
@@ -48,18 +101,6 @@ IsSilent OutOfMemory = Unit {0}
 IsSilent NoFile = Unit {0}
 IsSilent other = ⊥
 
-abbrev pub status_of : StoreFault → Status
-status_of store.ReadFault = ReadFault
-status_of store.WriteFault = WriteFault
-status_of store.TooLong = TooLong
-status_of store.NoFile = NoFile
-status_of store.OutOfMemory = OutOfMemory
-
--- the status with its text, where there was memory for the text
-abbrev pub IsAnswered : Status → List ℕ → Status → Result (String Global) NoMemory → Type 0
-IsAnswered status text wanted (Ok made) = (status ≡ wanted) × (text ≡ string_bytes made)
-IsAnswered status text wanted (Err e) = (status ≡ OutOfMemory) × (text ≡ [])
-
 -- what the process ends with
 abbrev pub status_number : Status → ℕ
 status_number Done = 0
@@ -68,5 +109,7 @@ status_number ReadFault = 3
 status_number WriteFault = 4
 status_number TooLong = 5
 status_number MatchRefused = 6
+status_number StateRefused = 7
 status_number OutOfMemory = 9
+status_number NoSuchTurn = 10
 status_number NoFile = 11

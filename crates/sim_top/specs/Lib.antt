@@ -1,4 +1,7 @@
 pub mod Quiet
 pub mod Lines
+pub mod Words
 pub mod Outcome
 pub mod Answers
+pub mod Stops
+pub mod Making

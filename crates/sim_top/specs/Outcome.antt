@@ -1,52 +1,113 @@
--- What the words ask for: a status and a text, by the files that are held.
-use Rattle.std.specs.Prelude.{ℕ, List, [], ◌∷◌, map, codes, Option, Some, None, Result, Ok, Err, if◌then◌else◌, String, string_bytes}
-use Rattle.std.specs.declared.alloc.Global.{Global}
-use Rattle.std.specs.Str.{bytes_eq}
+-- What the words ask for: a status, a text and perhaps a file that is saved, by the files that are held. A stored state is
+-- the one that its bytes stand for, or the first cause for which they stand for none.
+use Rattle.std.specs.Prelude.{◌≡◌, ℕ, nat_lt, List, [], length, Option, Some, None, Result, Ok, Err, if◌then◌else◌}
 use Rattle.sim_base.specs.declared.setup.Setup.{Setup}
+use Rattle.sim_base.specs.declared.state.State.{State}
+use Rattle.sim_base.specs.Turn.{after, own_turns}
+use Rattle.sim_base.specs.Spelling.{spelling, digest}
 use Rattle.sim_store.specs.Files.{File, file_in}
 use Rattle.sim_store.specs.Reading.{reading_of}
 use Rattle.sim_store.specs.declared.fault.StoreFault.{StoreFault}
 use Rattle.sim_store.specs.declared.fault.StoreFault.TheVariants as store
 use Rattle.sim_setup.specs.Refusals.{Refusal}
 use Rattle.sim_setup.specs.Setups.{setup_of}
-use Rattle.sim_report.specs.declared.refusal.Refusal.TheVariants.{Match}
-use Rattle.sim_report.specs.Lines.{usage_text}
-use Rattle.sim_report.specs.Refusals.{refusal_text}
-use Rattle.sim_top.specs.Lines.{play_text}
+use Rattle.sim_codec.specs.declared.fault.StateFault.{StateFault}
+use Rattle.sim_codec.specs.declared.fault.StateFault.TheVariants as stored
+use Rattle.sim_codec.specs.Loading.{StandsFor, RefusedFor}
+use Rattle.sim_report.specs.declared.refusal.Refusal.TheVariants.{Match, Turn}
+use Rattle.sim_report.specs.Lines.{usage_text, saved_line}
+use Rattle.sim_report.specs.Refusals.{refusal_text, stored_text}
+use Rattle.sim_report.specs.Show.{show_text}
+use Rattle.sim_top.specs.Words.{Asked, to_play, to_store, to_resume, to_show, asked_by}
+use Rattle.sim_top.specs.Lines.{play_text, resume_text}
 use Rattle.sim_top.specs.declared.status.Status.{Status}
-use Rattle.sim_top.specs.declared.status.Status.TheVariants.{Done, Usage, ReadFault, TooLong, MatchRefused, NoFile}
+use Rattle.sim_top.specs.declared.status.Status.TheVariants.{Done, Usage, ReadFault, TooLong, MatchRefused, StateRefused, NoSuchTurn, NoFile}
 
 pub record Outcome : Type 0 where
   pub status : Status
   pub text : List ℕ
+  pub saved : Option File
 
-abbrev pub outcome : Status → List ℕ → Outcome
-outcome status text = record { status = status; text = text }
+-- a text alone
+abbrev pub printed : Status → List ℕ → Outcome
+printed status text = record { status = status; text = text; saved = None }
 
--- the words as bytes
-abbrev pub words_of : List (String Global) → List (List ℕ)
-words_of words = map string_bytes words
+-- ---- what is read on the way, or the outcome with which it ends there
 
--- the match that the words name, if they are in the table
-abbrev pub match_named : List (List ℕ) → Option (List ℕ)
-match_named (command ∷ name ∷ []) = if bytes_eq command (codes "play") then Some name else None
-match_named other = None
+abbrev pub bytes_by : Result (List ℕ) StoreFault → Result (List ℕ) Outcome
+bytes_by (Ok bytes) = Ok bytes
+bytes_by (Err store.NoFile) = Err (printed NoFile [])
+bytes_by (Err store.TooLong) = Err (printed TooLong [])
+bytes_by (Err other) = Err (printed ReadFault [])
 
--- a match that is read is played, and any other is refused with its place
-abbrev pub played : Result Setup Refusal → Outcome
-played (Ok setup) = outcome Done (play_text setup)
-played (Err refusal) = outcome MatchRefused (refusal_text (Match refusal.code refusal.index))
+-- the bytes of a file
+unfoldable pub bytes_in : List File → List ℕ → Result (List ℕ) Outcome
+bytes_in files name = bytes_by (reading_of (file_in files name))
 
-unfoldable pub played_bytes : Result (List ℕ) StoreFault → Outcome
-played_bytes (Ok bytes) = played (setup_of bytes)
-played_bytes (Err store.NoFile) = outcome NoFile []
-played_bytes (Err store.TooLong) = outcome TooLong []
-played_bytes (Err other) = outcome ReadFault []
+abbrev pub setup_by : Result Setup Refusal → Result Setup Outcome
+setup_by (Ok setup) = Ok setup
+setup_by (Err refusal) = Err (printed MatchRefused (refusal_text (Match refusal.code refusal.index)))
 
-abbrev pub outcome_by : List File → Option (List ℕ) → Outcome
-outcome_by files None = outcome Usage usage_text
-outcome_by files (Some name) = played_bytes (reading_of (file_in files name))
+abbrev pub match_by : Result (List ℕ) Outcome → Result Setup Outcome
+match_by (Ok bytes) = setup_by (setup_of bytes)
+match_by (Err ended) = Err ended
+
+-- the match of a file
+unfoldable pub match_in : List File → List ℕ → Result Setup Outcome
+match_in files name = match_by (bytes_in files name)
+
+-- an outcome of what comes next, or the one with which it ended before
+abbrev pub Then : {X : Type 0} → Result X Outcome → (X → Outcome → Type 0) → Outcome → Type 0
+Then (Ok x) next wanted = next x wanted
+Then (Err ended) next wanted = wanted ≡ ended
+
+-- the state that bytes stand for, or the first cause for which they stand for none
+abbrev pub IsStored : Setup → List ℕ → Result State StateFault → Type 0
+IsStored setup bytes (Ok state) = StandsFor setup bytes state
+IsStored setup bytes (Err stored.OutOfMemory) = ⊥
+IsStored setup bytes (Err fault) = RefusedFor setup bytes fault
+
+abbrev pub code_of : StateFault → ℕ
+code_of stored.NotState = 1
+code_of stored.OtherMatch = 2
+code_of stored.Grammar = 3
+code_of stored.OutOfMemory = 0
+
+abbrev pub state_by : List ℕ → Result State StateFault → Result State Outcome
+state_by name (Ok state) = Ok state
+state_by name (Err fault) = Err (printed StateRefused (stored_text (code_of fault) name))
+
+-- an outcome of what comes next for the state that the bytes of a file stand for
+pub record ThenStored (setup : Setup) (name bytes : List ℕ) (next : State → Outcome → Type 0) (wanted : Outcome) : Type 0 where
+  pub found : Result State StateFault
+  pub stored : IsStored setup bytes found
+  pub goes_on : Then (state_by name found) next wanted
+
+-- ---- the commands
+
+abbrev pub stored_at : Setup → ℕ → List ℕ → State → Outcome
+stored_at setup turn out state = record {
+  status = Done;
+  text = saved_line turn (length (spelling setup state)) (digest setup state);
+  saved = Some (record { name = out; bytes = spelling setup state });
+}
+
+-- the state of a turn, which is `after` the match's own turns
+abbrev pub store_outcome : Setup → ℕ → List ℕ → Outcome
+store_outcome setup turn out =
+    if nat_lt setup.turns turn then printed NoSuchTurn (refusal_text (Turn turn setup.turns))
+    else stored_at setup turn out (after setup (own_turns setup 0 turn))
+
+-- an outcome of what is asked for
+abbrev pub IsOutcomeOf : List File → Option Asked → Outcome → Type 0
+IsOutcomeOf files None wanted = wanted ≡ printed Usage usage_text
+IsOutcomeOf files (Some (to_play game)) wanted = Then (match_in files game) (λ setup wanted. wanted ≡ printed Done (play_text setup)) wanted
+IsOutcomeOf files (Some (to_store game turn out)) wanted = Then (match_in files game) (λ setup wanted. wanted ≡ store_outcome setup turn out) wanted
+IsOutcomeOf files (Some (to_resume game name)) wanted =
+    Then (match_in files game) (λ setup. Then (bytes_in files name) (λ bytes. ThenStored setup name bytes (λ state wanted. wanted ≡ printed Done (resume_text setup state)))) wanted
+IsOutcomeOf files (Some (to_show game name)) wanted =
+    Then (match_in files game) (λ setup. Then (bytes_in files name) (λ bytes. ThenStored setup name bytes (λ state wanted. wanted ≡ printed Done (show_text setup state)))) wanted
 
 -- the outcome of the words over the held files
-abbrev pub outcome_of : List (List ℕ) → List File → Outcome
-outcome_of words files = outcome_by files (match_named words)
+abbrev pub IsOutcome : List (List ℕ) → List File → Outcome → Type 0
+IsOutcome words files wanted = IsOutcomeOf files (asked_by words) wanted

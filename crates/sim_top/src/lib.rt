@@ -1,19 +1,27 @@
 //! The program without its edge: the words, a shelf and a sink come in, and a status goes out.
 //!
-//! It promises that the words' command does what its definition says over the files that are held: for `play`, the
-//! digest printed after each turn is that of the turn function folded over the match's own turns. It stands on the
-//! shelf and the sink, on the reader of match files, on the printed texts, and on the definitions of the base crate.
+//! It promises that the words' command does what its definition says over the files that are held: the digest printed
+//! after each turn is that of the turn function folded over the match's own turns, from the first state or from the one
+//! that a stored state's bytes stand for. It stands on the shelf and the sink, on the reader of match files, on the
+//! codec, on the printed texts, and on the definitions of the base crate.
 //!
-//! - `status`: how a run ends.
+//! - `words`: what the words ask for.
+//! - `status`, `stop`: how a run ends, and why a command ends before it has its text.
+//! - `inputs`: the match and the stored state that a command reads.
 //! - `posts`: matches whose entities only stand and are deleted, turn by turn.
-//! - `play`: the lines of a match.
+//! - `play`: the lines of a match, and the state of a turn of it.
+//! - `commands`: what each command makes of its files.
 //! - `top`: the top call.
 #![tactic(auto)]
 
+mod commands;
+mod inputs;
 mod play;
 mod posts;
 mod status;
+mod stop;
 mod top;
+mod words;
 
 pub use status::Status;
 pub use top::run;

@@ -18,8 +18,12 @@ pub enum Status {
     TooLong,
     /// The match file is refused.
     MatchRefused,
+    /// A stored state is refused.
+    StateRefused,
     /// Memory was refused.
     OutOfMemory,
+    /// The match has not as many turns as were asked for.
+    NoSuchTurn,
     /// A file is not there.
     NoFile,
 }
@@ -36,7 +40,9 @@ impl Status {
             Status::WriteFault => 4,
             Status::TooLong => 5,
             Status::MatchRefused => 6,
+            Status::StateRefused => 7,
             Status::OutOfMemory => 9,
+            Status::NoSuchTurn => 10,
             Status::NoFile => 11,
         }
     }

@@ -45,17 +45,48 @@ const MOVING: &str =
 const WALKING: &str =
     "{\"size\":[4,4],\"closed\":[],\"players\":[[],[]],\"cap\":0,\"delay\":1,\"turns\":2,\"seed\":0,\"templates\":[{\"@name\":\"post\",\"Health\":{\"Max\":50}}],\"entities\":[[\"post\",1,1,1],[\"post\",2,2,2]],\"commands\":[[1,1,\"walk\",[2,3,2]]]}";
 
-// Runs the words over a shelf that holds one file, with so much room in the sink.
+// The state of POSTS at turn 1, which docs/FORMATS.md lays out: 101 bytes, of which 16 are the match's id.
+const STORED: [u8; 101] = [
+    82, 83, 73, 77, 1, 0, 0, 0, 48, 69, 96, 137, 178, 57, 176, 219, 239, 97, 208, 118, 253, 238,
+    204, 125, 1, 0, 0, 0, 4, 0, 0, 0, 0, 0, 0, 0, 0, 0, 0, 0, 1, 1, 0, 0, 0, 3, 0, 0, 0, 0, 0, 2,
+    1, 0, 0, 0, 3, 0, 0, 0, 0, 0, 2, 0, 0, 0, 2, 0, 3, 1, 0, 0, 0, 3, 0, 0, 0, 2, 4, 1, 0, 0, 0, 3,
+    0, 0, 0, 0, 0, 50, 0, 5, 0, 0, 0, 0, 6, 0, 0, 0, 0,
+];
+
+const RESUMED_LINES: &str = "turn 1 5ba6ccce6ec0216cccaaf7181a30b789
+turn 2 846656bc95c044d1dd6d2f3f26ab5406
+";
+
+const SHOWN: &str = "turn 1 next 4 word 0 rows 1
+entity 3 template post owner 2 at 2 2 health 50
+";
+
+// Runs the words over a shelf that holds a match, with so much room in the sink.
 fn ran(alloc: Global, words: &[&str], text: &str, room: usize) -> Result<(Status, MemSink), Fail> {
-    let mut shelf = MemShelf::new(alloc, 0)?;
+    let (status, _, out) = ran_beside(alloc, words, text, None, room)?;
+    Ok((status, out))
+}
+
+// The same, where the shelf also may hold a stored state.
+fn ran_beside(
+    alloc: Global,
+    words: &[&str],
+    text: &str,
+    stored: Option<&[u8]>,
+    room: usize,
+) -> Result<(Status, MemShelf, MemSink), Fail> {
+    let mut shelf = MemShelf::new(alloc, 200)?;
     shelf.put("m", text.as_bytes())?;
+    if let Some(bytes) = stored {
+        shelf.put("s", bytes)?;
+    }
     let mut out = MemSink::new(alloc, room)?;
     let mut owned = Vec::new(alloc);
     for word in words {
         owned.push(String::from_str(alloc, word)?)?;
     }
     let status = run(alloc, &owned, &mut shelf, &mut out);
-    Ok((status, out))
+    Ok((status, shelf, out))
 }
 
 #[test]
@@ -80,12 +111,106 @@ fn words_and_files_give_their_status_and_text(rt: HostRuntime) -> Result<(), Fai
         (&[], POSTS, Status::Usage, USAGE),
         (&["play"], POSTS, Status::Usage, USAGE),
         (&["play", "m", "m"], POSTS, Status::Usage, USAGE),
-        (&["show", "m", "m"], POSTS, Status::Usage, USAGE),
+        (&["state", "m", "1"], POSTS, Status::Usage, USAGE),
+        (&["state", "m", "+1", "s"], POSTS, Status::Usage, USAGE),
+        (&["state", "m", "", "s"], POSTS, Status::Usage, USAGE),
+        (
+            &["state", "m", "0000000001", "s"],
+            POSTS,
+            Status::Usage,
+            USAGE,
+        ),
+        (
+            &["state", "m", "3", "s"],
+            POSTS,
+            Status::NoSuchTurn,
+            "no turn 3 of 2\n",
+        ),
+        (&["state", "x", "3", "s"], POSTS, Status::NoFile, ""),
+        (
+            &["state", "m", "3", "s"],
+            "",
+            Status::MatchRefused,
+            "match refused 1 0\n",
+        ),
+        (&["resume", "m", "s"], POSTS, Status::NoFile, ""),
+        (&["show", "m", "s"], POSTS, Status::NoFile, ""),
     ];
     for (words, file, status, text) in cases {
-        let (ended, out) = ran(rt.alloc(), words, file, 1000)?;
+        let (ended, shelf, out) = ran_beside(rt.alloc(), words, file, None, 1000)?;
         assert_eq!(rt; ended, status, "with {words:?} on {file}");
         assert_eq!(rt; out.told(), text.as_bytes(), "with {words:?} on {file}");
+        assert_eq!(rt; shelf.held("s"), None, "with {words:?} on {file}");
+    }
+    Ok(())
+}
+
+#[test]
+fn a_state_is_stored_shown_and_played_on(rt: HostRuntime) -> Result<(), Fail> {
+    let line = "state 1 101 5ba6ccce6ec0216cccaaf7181a30b789\n";
+    for turn in ["1", "000000001"] {
+        let words = ["state", "m", turn, "s"];
+        let (ended, shelf, out) = ran_beside(rt.alloc(), &words, POSTS, None, 100)?;
+        assert_eq!(rt; ended, Status::Done, "at {turn}");
+        assert_eq!(rt; out.told(), line.as_bytes(), "at {turn}");
+        assert_eq!(rt; shelf.held("s"), Some(STORED.as_slice()), "at {turn}");
+    }
+    for (command, text) in [("show", SHOWN), ("resume", RESUMED_LINES)] {
+        let words = [command, "m", "s"];
+        let (ended, shelf, out) = ran_beside(rt.alloc(), &words, POSTS, Some(&STORED), 100)?;
+        assert_eq!(rt; ended, Status::Done, "for {command}");
+        assert_eq!(rt; out.told(), text.as_bytes(), "for {command}");
+        assert_eq!(rt; shelf.held("s"), Some(STORED.as_slice()), "for {command}");
+    }
+    Ok(())
+}
+
+#[test]
+fn damaged_states_are_refused(rt: HostRuntime) -> Result<(), Fail> {
+    let mut longer = STORED.to_vec(rt.alloc())?;
+    longer.push(0)?;
+    let mut other = STORED.to_vec(rt.alloc())?;
+    other[8] ^= 1;
+    let mut healthier = STORED.to_vec(rt.alloc())?;
+    healthier[89] = 51;
+    let cases: [(&[u8], &str); 7] = [
+        (&[], "state refused 1 s\n"),
+        (&STORED[..23], "state refused 1 s\n"),
+        (&other, "state refused 2 s\n"),
+        (&STORED[..24], "state refused 3 s\n"),
+        (&STORED[..100], "state refused 3 s\n"),
+        (&longer, "state refused 3 s\n"),
+        (&healthier, "state refused 3 s\n"),
+    ];
+    for (bytes, text) in cases {
+        for command in ["resume", "show"] {
+            let words = [command, "m", "s"];
+            let (ended, _, out) = ran_beside(rt.alloc(), &words, POSTS, Some(bytes), 100)?;
+            assert_eq!(rt; ended, Status::StateRefused, "of {} bytes", bytes.len());
+            assert_eq!(rt; out.told(), text.as_bytes(), "of {} bytes", bytes.len());
+        }
+    }
+    Ok(())
+}
+
+#[test]
+fn a_file_without_room_is_saved_in_part(rt: HostRuntime) -> Result<(), Fail> {
+    let mut owned = Vec::new(rt.alloc());
+    for word in ["state", "m", "1", "s"] {
+        owned.push(String::from_str(rt.alloc(), word)?)?;
+    }
+    let mut shelf = MemShelf::new(rt.alloc(), 100)?;
+    shelf.put("m", POSTS.as_bytes())?;
+    let mut out = MemSink::new(rt.alloc(), 100)?;
+    assert_eq!(rt;
+        run(rt.alloc(), &owned, &mut shelf, &mut out),
+        Status::WriteFault
+    );
+    assert!(rt; out.told().is_empty());
+    assert_eq!(rt; shelf.held("m"), Some(POSTS.as_bytes()));
+    match shelf.held("s") {
+        None => {}
+        Some(part) => assert!(rt; STORED.starts_with(part)),
     }
     Ok(())
 }
@@ -139,7 +264,9 @@ fn statuses_have_their_numbers(rt: HostRuntime) {
         (Status::WriteFault, 4),
         (Status::TooLong, 5),
         (Status::MatchRefused, 6),
+        (Status::StateRefused, 7),
         (Status::OutOfMemory, 9),
+        (Status::NoSuchTurn, 10),
         (Status::NoFile, 11),
     ];
     for (status, number) in numbers {

@@ -1,128 +1,121 @@
-//! The top call: from the words to a status. The whole text is made before any of it is written, so that a refusal or
-//! want of memory leaves the sink as it was.
+//! The top call: from the words to a status. All files are read and the whole text is made before anything is written,
+//! so that a refusal or want of memory leaves the sink and the files as they were.
 
-ghost use Rattle.std.specs.Prelude.{◌≡◌, ◌≢◌, IfSome, IfOk, Some, None, [], option_copied, string_bytes};
+ghost use Rattle.std.specs.Prelude.{◌≡◌, ◌≢◌, ℕ, List, Option, IfSome, IfOk, IsOk, None, [], option_map, string_bytes};
 ghost use Rattle.std.specs.Io.KnownBytes.{Appends};
-ghost use Rattle.sim_base.specs.Limits.{IsSetup};
-ghost use Rattle.sim_setup.specs.Posts.{IsOfPosts};
-ghost use Rattle.sim_setup.specs.Setups.{setup_of as setup_of_bytes};
-ghost use Rattle.sim_report.specs.declared.refusal.Refusal.TheVariants.{Match};
 ghost use Rattle.sim_report.specs.Lines.{usage_text as text_of_usage};
-ghost use Rattle.sim_report.specs.Refusals.{refusal_text as text_of_refusal};
-ghost use Rattle.sim_top.specs.Lines.{play_text as text_of_play};
-ghost use Rattle.sim_top.specs.Outcome.{words_of, match_named as match_named_in, played, outcome_of};
-ghost use Rattle.sim_top.specs.Answers.{MeetsBefore, Meets, ShelfCauses, SinkCauses, IsSilent, IsAnswered, status_of};
+ghost use Rattle.sim_store.specs.Writing.{FileCauses};
+ghost use Rattle.sim_store.specs.declared.counts.Counts.{Counts as AllCounts};
+ghost use Rattle.sim_top.specs.Words.{words_of, asked_by, out_of};
+ghost use Rattle.sim_top.specs.Answers.{scene, Meets, Causes, ReadCauses, KeepsAllBut, IsSilent};
+ghost use Rattle.sim_top.specs.Making.{MeetsBefore, SavesIfDone, IsSavedAs, IsAnswered, SaveMeets, Tells, file_of};
+ghost use Rattle.sim_top.specs.Stops.{stop_text as text_of_stop, status_of};
 
-use crate::play::push_play;
+use crate::commands::{Answer, Saved, answer_to};
 use crate::status::Status;
-use sim_base::{OutOfMemory, Setup};
+use crate::stop::Stop;
+use crate::words::request_of;
+use sim_base::OutOfMemory;
 use sim_report::{Refusal, push_refusal, push_usage};
-use sim_setup::{SetupFault, setup_of};
-use sim_store::{Shelf, Sink, StoreFault, read_file, write_out};
+use sim_store::{Shelf, Sink, StoreFault, write_file, write_out};
 use std::alloc::Global;
 
 /// Does what the words say, over the files of the shelf, and writes its text to the sink.
 pub fn run<S: Shelf, K: Sink>(alloc: Global, words: &[String], shelf: &mut S, out: &mut K) -> Status
-    // Where the shelf tells its files, the status and the text are those of the words, or a fault came between.
-    ensures answers { IfSome (S.held shelf.old) (λ files. Meets result (K.told out.old) (K.told out.new)
-        (outcome_of (words_of words.now) files)) }
-    ensures usage { result ≡ Status.Usage → match_named_in (words_of words.now) ≡ None }
+    // Where the shelf tells its files, the status, the text and the saved file are those of the words, or a fault or
+    // want of memory came between.
+    ensures answers { IfSome (S.held shelf.old) (λ files. Meets result (words_of words.now) files
+        (scene (S.held shelf.old) (K.told out.old)) (scene (S.held shelf.new) (K.told out.new))) }
+    ensures usage { result ≡ Status.Usage → asked_by (words_of words.now) ≡ None }
     ensures silent { IsSilent result → Appends (K.told out.old) (K.told out.new) [] }
 
-    // A fault is answered exactly where one was counted.
-    ensures shelf { ShelfCauses result (S.counts shelf.old) (S.counts shelf.new) }
-    ensures sink { SinkCauses result (K.faults out.old) (K.faults out.new) }
-    ensures held { S.held shelf.new ≡ S.held shelf.old }
+    // A fault is answered exactly where one was counted, and no file but the one to be written changes.
+    ensures causes { Causes result (S.counts shelf.old) (S.counts shelf.new) (K.faults out.old) (K.faults out.new) }
+    ensures others { KeepsAllBut (out_of (asked_by (words_of words.now))) (S.held shelf.old) (S.held shelf.new) }
 {
     let answer = made_answer(alloc, words, shelf);
-    if answer.text.is_empty() {
-        return answer.status;
-    }
-    match write_out(out, answer.text.as_bytes()) {
-        Ok(()) => answer.status,
+    finish(shelf, out, &answer)
+}
+
+// Writes what was made: the file that is to be saved, and then the text.
+fn finish<S: Shelf, K: Sink>(shelf: &mut S, out: &mut K, answer: &Answer<'_>) -> Status
+    requires unwritten { answer.now.status ≢ Status.WriteFault }
+    requires done { SavesIfDone answer.now.saved answer.now.status }
+    requires silent { IsSilent answer.now.status → string_bytes answer.now.text ≡ [] }
+    ensures answers { (words : List (List ℕ)) → IfSome (S.held shelf.old) (λ files.
+        MeetsBefore answer.now.status words files (string_bytes answer.now.text) (option_map file_of answer.now.saved)
+        → Meets result words files (scene (S.held shelf.old) (K.told out.old)) (scene (S.held shelf.new) (K.told out.new))) }
+    ensures usage { result ≡ Status.Usage → answer.now.status ≡ Status.Usage }
+    ensures silent { IsSilent result → Appends (K.told out.old) (K.told out.new) [] }
+    ensures causes { (before : AllCounts) → ReadCauses answer.now.status before (S.counts shelf.old)
+        → Causes result before (S.counts shelf.new) (K.faults out.old) (K.faults out.new) }
+    ensures others { (name : Option (List ℕ)) → IsSavedAs name answer.now.saved → KeepsAllBut name (S.held shelf.old) (S.held shelf.new) }
+{
+    match save(shelf, &answer.saved) {
+        Ok(()) => tell(out, answer.status, answer.text.as_str()),
+        Err(StoreFault::OutOfMemory) => Status::OutOfMemory,
         Err(_) => Status::WriteFault,
     }
 }
 
-// A status, and the text that is to be written with it.
-#[derive(Drop)]
-struct Answer {
-    status: Status,
-    text: String,
+// Writes the text, and answers the status that it has where that succeeds.
+fn tell<K: Sink>(out: &mut K, status: Status, text: &str) -> Status
+    ensures { Tells result status text.now (K.told out.old) (K.told out.new) (K.faults out.old) (K.faults out.new) }
+{
+    match write_out(out, text.as_bytes()) {
+        Ok(()) => status,
+        Err(_) => Status::WriteFault,
+    }
 }
 
-#[tactic(auto, unfolding(crate::specs::Outcome::played_bytes))]
-fn made_answer<S: Shelf>(alloc: Global, words: &[String], shelf: &mut S) -> Answer
-    ensures answers { IfSome (S.held shelf.old) (λ files. MeetsBefore result.status (string_bytes result.text)
-        (outcome_of (words_of words.now) files)) }
-    ensures usage { result.status ≡ Status.Usage → match_named_in (words_of words.now) ≡ None }
+// Writes the file that is to be saved, if there is one.
+fn save<S: Shelf>(shelf: &mut S, saved: &Option<Saved<'_>>) -> Result<(), StoreFault>
+    ensures held { SaveMeets result (option_map file_of saved.now) (S.held shelf.old) (S.held shelf.new) }
+    ensures causes { FileCauses result (S.counts shelf.old) (S.counts shelf.new) }
+{
+    match saved {
+        None => Ok(()),
+        Some(saved) => write_file(shelf, saved.name, &saved.bytes),
+    }
+}
+
+// The status, the text and the file that the words come to.
+fn made_answer<'w, S: Shelf>(alloc: Global, words: &'w [String], shelf: &mut S) -> Answer<'w>
+    ensures answers { IfSome (S.held shelf.old) (λ files. MeetsBefore result.status (words_of words.now) files
+        (string_bytes result.text) (option_map file_of result.saved)) }
+    ensures usage { result.status ≡ Status.Usage → asked_by (words_of words.now) ≡ None }
     ensures silent { IsSilent result.status → string_bytes result.text ≡ [] }
+    ensures done { SavesIfDone result.saved result.status }
+    ensures saved { IsSavedAs (out_of (asked_by (words_of words.now))) result.saved }
     ensures unwritten { result.status ≢ Status.WriteFault }
-    ensures shelf { ShelfCauses result.status (S.counts shelf.old) (S.counts shelf.new) }
+    ensures causes { ReadCauses result.status (S.counts shelf.old) (S.counts shelf.new) }
     ensures held { S.held shelf.new ≡ S.held shelf.old }
 {
-    let Some(name) = match_named(words) else {
+    let Some(request) = request_of(words) else {
         return answered(alloc, Status::Usage, usage_text(alloc));
     };
-    match read_file(alloc, shelf, name) {
-        Ok(bytes) => play(alloc, &bytes),
-        Err(fault) => silent(alloc, fault),
-    }
-}
-
-fn match_named(words: &[String]) -> Option<&str>
-    ensures { option_copied result ≡ match_named_in (words_of words.now) }
-{
-    match words {
-        [command, name] if command.as_str() == "play" => Some(name.as_str()),
-        _ => None,
-    }
-}
-
-// Plays the match of a file, or refuses it.
-fn play(alloc: Global, bytes: &[u8]) -> Answer
-    ensures answers { MeetsBefore result.status (string_bytes result.text) (played (setup_of_bytes bytes.now)) }
-    ensures no_usage { result.status ≢ Status.Usage }
-    ensures no_read { (result.status ≢ Status.ReadFault) × (result.status ≢ Status.NoFile) × (result.status ≢ Status.TooLong) }
-{
-    match setup_of(alloc, bytes) {
-        Ok(setup) => answered(alloc, Status::Done, play_text(alloc, &setup)),
-        Err(SetupFault::Refused { code, index }) => {
-            answered(
-                alloc,
-                Status::MatchRefused,
-                refusal_text(alloc, code, index),
-            )
-        }
-        Err(SetupFault::OutOfMemory) => answered(alloc, Status::Done, Err(OutOfMemory)),
-    }
-}
-
-// No text, with the status of a fault.
-fn silent(alloc: Global, fault: StoreFault) -> Answer
-    ensures text { string_bytes result.text ≡ [] }
-    ensures status { result.status ≡ status_of fault }
-{
-    let status = match fault {
-        StoreFault::ReadFault => Status::ReadFault,
-        StoreFault::WriteFault => Status::WriteFault,
-        StoreFault::TooLong => Status::TooLong,
-        StoreFault::NoFile => Status::NoFile,
-        StoreFault::OutOfMemory => Status::OutOfMemory,
-    };
-    Answer {
-        status,
-        text: String::new(alloc),
+    match answer_to(alloc, request, shelf) {
+        Ok(answer) => answer,
+        Err(stop) => answered(alloc, stop.status(), stop_text(alloc, &stop)),
     }
 }
 
 // The text with its status, or want of memory.
-fn answered(alloc: Global, status: Status, text: Result<String, OutOfMemory>) -> Answer
-    ensures { IsAnswered result.status (string_bytes result.text) status text }
+fn answered<'w>(alloc: Global, status: Status, text: Result<String, OutOfMemory>) -> Answer<'w>
+    ensures answer { IsAnswered result.status (string_bytes result.text) status text }
+    ensures saved { result.saved ≡ None }
 {
     match text {
-        Ok(text) => Answer { status, text },
-        Err(_) => silent(alloc, StoreFault::OutOfMemory),
+        Ok(text) => Answer {
+            status,
+            text,
+            saved: None,
+        },
+        Err(_) => Answer {
+            status: Status::OutOfMemory,
+            text: String::new(alloc),
+            saved: None,
+        },
     }
 }
 
@@ -134,20 +127,20 @@ fn usage_text(alloc: Global) -> Result<String, OutOfMemory>
     Ok(text)
 }
 
-fn play_text(alloc: Global, setup: &Setup) -> Result<String, OutOfMemory>
-    requires limits { IsSetup setup.now }
-    requires posts { IsOfPosts setup.now }
-    ensures { IfOk result (λ text. string_bytes text ≡ text_of_play setup.now) }
+// The line that says why a command ended, or nothing where a fault or want of memory did.
+fn stop_text(alloc: Global, stop: &Stop<'_>) -> Result<String, OutOfMemory>
+    ensures text { IfOk result (λ text. string_bytes text ≡ text_of_stop stop.now) }
+    ensures silent { IsSilent (status_of stop.now) → IsOk result }
 {
+    let refusal = match *stop {
+        Stop::MatchRefused { code, index } => Refusal::Match { code, index },
+        Stop::StateRefused { code, name } => Refusal::Stored { code, name },
+        Stop::NoSuchTurn { asked, turns } => Refusal::Turn { asked, turns },
+        Stop::ReadFault | Stop::TooLong | Stop::NoFile | Stop::OutOfMemory => {
+            return Ok(String::new(alloc));
+        }
+    };
     let mut text = String::new(alloc);
-    push_play(alloc, setup, &mut text)?;
-    Ok(text)
-}
-
-fn refusal_text(alloc: Global, code: u8, index: u32) -> Result<String, OutOfMemory>
-    ensures { IfOk result (λ text. string_bytes text ≡ text_of_refusal (Match code index)) }
-{
-    let mut text = String::new(alloc);
-    push_refusal(&Refusal::Match { code, index }, &mut text)?;
+    push_refusal(&refusal, &mut text)?;
     Ok(text)
 }

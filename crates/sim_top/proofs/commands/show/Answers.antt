@@ -1,0 +1,40 @@
+use Rattle.std.proofs.Common.{◌≡◌, ℕ, List, None, Some, Ok, Err, ap, sym, subst, ◌∙◌, IfSome, string_bytes}
+use Rattle.sim_base.specs.declared.setup.Setup.{Setup}
+use Rattle.sim_base.specs.declared.state.State.{State}
+use Rattle.sim_report.specs.Show.{show_text}
+use Rattle.sim_store.specs.Files.{File}
+use Rattle.sim_top.specs.Words.{to_show}
+use Rattle.sim_top.specs.Outcome.{Outcome, IsOutcomeOf, printed, match_in, bytes_in}
+use Rattle.sim_top.specs.Making.{Makes, outcome_made}
+use Rattle.sim_top.specs.Stops.{Reads, ReadsState}
+use Rattle.sim_top.specs.declared.status.Status.TheVariants.{Done}
+use Rattle.sim_top.proofs.Stopping.{state_ends, state_goes_on, Told-both, printed_is}
+use Rattle.sim_top.proofs.commands.show.Goals as goal
+
+abbrev shown : Setup → State → Outcome → Type 0
+shown setup state wanted = wanted ≡ printed Done (show_text setup state)
+
+pub returns-in-Ok-clause-answers : goal.returns-in-Ok-clause-answers
+returns-in-Ok-clause-answers g c =
+    let game = c.args.game.now in
+    let name = c.args.name.now in
+    let setup = c.in_ok-setup.setup in
+    let state = c.in-Ok.state in
+    let made = c.printed.result in
+    let is : outcome_made made ≡ printed Done (show_text setup state) =
+    printed_is made (show_text setup state) c.printed.ensures.status (c.printed.ensures.text ∙ c.in_ok-show_text-in-Ok.ensures) c.printed.ensures.saved in
+    Told-both (λ files. match_in files game ≡ Ok setup) (λ files. ReadsState (Ok state) setup name (bytes_in files name)) (λ files. IsOutcomeOf files (Some (to_show game name)) (outcome_made made)) _
+    (λ files e s. state_goes_on setup name state (match_in files game) (bytes_in files name) shown (outcome_made made) e s is)
+    c.in_ok-setup.ensures.tells
+    (subst (λ held. IfSome held (λ files. ReadsState (Ok state) setup name (bytes_in files name))) c.read_match.ensures.held c.in-Ok.ensures.tells)
+
+pub returns-clause-answers : goal.returns-clause-answers
+returns-clause-answers g c =
+    let game = c.args.game.now in
+    let name = c.args.name.now in
+    let setup = c.in_ok-setup.setup in
+    let stop = c.in-Err.stop in
+    Told-both (λ files. match_in files game ≡ Ok setup) (λ files. ReadsState (Err stop) setup name (bytes_in files name)) (λ files. Makes (Err stop) (IsOutcomeOf files (Some (to_show game name)))) _
+    (λ files e h. state_ends stop setup name (match_in files game) (bytes_in files name) shown e h)
+    c.in_ok-setup.ensures.tells
+    (subst (λ held. IfSome held (λ files. ReadsState (Err stop) setup name (bytes_in files name))) c.read_match.ensures.held c.in-Err.ensures.tells)

@@ -1,0 +1,75 @@
+-- What a command has made when it has read its files: an outcome that is still to be written, or why it ends before.
+use Rattle.std.specs.Prelude.{◌≡◌, ◌≢◌, ◌⊎◌, ℕ, ◌<◌, List, [], length, take, Option, Some, None, option_map, Result, Ok, Err, String, string_bytes, ⊤}
+use Rattle.std.specs.declared.alloc.Global.{Global}
+use Rattle.sim_base.specs.declared.memory.OutOfMemory.{OutOfMemory as NoMemory}
+use Rattle.std.specs.Io.KnownBytes.{Appends}
+use Rattle.sim_store.specs.Counts.{raised}
+use Rattle.sim_store.specs.Files.{File}
+use Rattle.sim_store.specs.declared.fault.StoreFault.{StoreFault}
+use Rattle.sim_store.specs.declared.fault.StoreFault.TheVariants as store
+use Rattle.sim_top.specs.Outcome.{Outcome, IsOutcome}
+use Rattle.sim_top.specs.Answers.{Saves, SavesPart}
+use Rattle.sim_top.specs.declared.status.Status.{Status}
+use Rattle.sim_top.specs.declared.status.Status.TheVariants.{Done, ReadFault, WriteFault, OutOfMemory}
+use Rattle.sim_top.specs.Stops.{Stopped}
+use Rattle.sim_top.specs.declared.stop.Stop.{Stop}
+use Rattle.sim_top.specs.declared.commands.Saved.{Saved}
+use Rattle.sim_top.specs.declared.commands.Answer.{Answer}
+
+abbrev pub file_of : Saved → File
+file_of saved = record { name = saved.name.now; bytes = saved.bytes.items }
+
+abbrev pub outcome_made : Answer → Outcome
+outcome_made answer = record { status = answer.status; text = string_bytes answer.text; saved = option_map file_of answer.saved }
+
+-- an outcome as it is wanted, or why the command ends before
+abbrev pub Makes : Result Answer Stop → (Outcome → Type 0) → Type 0
+Makes (Ok answer) wanted = wanted (outcome_made answer)
+Makes (Err stop) wanted = Stopped stop wanted
+
+-- a file is saved under this name alone, if at all
+abbrev pub IsSavedAs : Option (List ℕ) → Option Saved → Type 0
+IsSavedAs out None = Unit {0}
+IsSavedAs None (Some saved) = ⊥
+IsSavedAs (Some out) (Some saved) = saved.name.now ≡ out
+
+-- an outcome that is still to be written is one of the words, or a read fault or want of memory came between
+abbrev pub MeetsBefore : Status → List (List ℕ) → List File → List ℕ → Option File → Type 0
+MeetsBefore ReadFault words files text saved = (text ≡ []) × (saved ≡ None)
+MeetsBefore OutOfMemory words files text saved = (text ≡ []) × (saved ≡ None)
+MeetsBefore WriteFault words files text saved = ⊥
+MeetsBefore status words files text saved = IsOutcome words files (record { status = status; text = text; saved = saved })
+
+-- a file is saved only where all was done
+abbrev pub SavesIfDone : Option Saved → Status → Type 0
+SavesIfDone None status = Unit {0}
+SavesIfDone (Some saved) status = status ≡ Done
+
+-- the text of a status, or nothing for want of memory
+abbrev pub IsAnswered : Status → List ℕ → Status → Result (String Global) NoMemory → Type 0
+IsAnswered status text wanted (Ok made) = (status ≡ wanted) × (text ≡ string_bytes made)
+IsAnswered status text wanted (Err e) = (status ≡ OutOfMemory) × (text ≡ [])
+
+-- the file, if there is one, is saved whole; or after a fault in part or not at all, and without memory not at all
+abbrev pub SaveMeets : Result ⊤ StoreFault → Option File → Option (List File) → Option (List File) → Type 0
+SaveMeets (Ok saved) file old new = Saves file old new
+SaveMeets (Err store.WriteFault) file old new = SavesPart file old new
+SaveMeets (Err store.OutOfMemory) file old new = (new ≡ old) × (file ≢ None)
+SaveMeets (Err other) file old new = ⊥
+
+-- the text could not be told to its end, for a fault that was counted
+pub record IsCutShort (result : Status) (text : List ℕ) (told told' : Option (List ℕ)) (faults faults' : ℕ) : Type 0 where
+  pub status : result ≡ WriteFault
+  pub part : ℕ
+  pub less : part < length text
+  pub text_told : Appends told told' (take part text)
+  pub counted : faults' ≡ raised 1 faults
+
+-- the status stays, and the whole text was told
+pub record IsWhole (result status : Status) (text : List ℕ) (told told' : Option (List ℕ)) (faults faults' : ℕ) : Type 0 where
+  pub same : result ≡ status
+  pub text_told : Appends told told' text
+  pub uncounted : faults' ≡ faults
+
+abbrev pub Tells : Status → Status → List ℕ → Option (List ℕ) → Option (List ℕ) → ℕ → ℕ → Type 0
+Tells result status text told told' faults faults' = IsWhole result status text told told' faults faults' ⊎ IsCutShort result text told told' faults faults'

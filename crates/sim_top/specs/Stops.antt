@@ -1,0 +1,89 @@
+-- Why a command ends before it has its text, and what a call that may end so answers.
+use Rattle.std.specs.Prelude.{◌≡◌, ℕ, List, [], Result, Ok, Err, Vec}
+use Rattle.std.specs.declared.alloc.Global.{Global}
+use Rattle.sim_base.specs.declared.setup.Setup.{Setup}
+use Rattle.sim_base.specs.declared.state.State.{State}
+use Rattle.sim_store.specs.Reading.{OnlyGave}
+use Rattle.sim_store.specs.declared.counts.Counts.{Counts}
+use Rattle.sim_codec.specs.declared.fault.StateFault.{StateFault}
+use Rattle.sim_codec.specs.Loading.{StandsFor}
+use Rattle.sim_report.specs.declared.refusal.Refusal.TheVariants.{Match, Turn}
+use Rattle.sim_report.specs.Refusals.{refusal_text, stored_text}
+use Rattle.sim_top.specs.Outcome.{Outcome, printed, Then, IsStored, state_by}
+use Rattle.sim_top.specs.Answers.{ReadCauses}
+use Rattle.sim_top.specs.declared.status.Status.{Status}
+use Rattle.sim_top.specs.declared.status.Status.TheVariants as status
+use Rattle.sim_top.specs.declared.stop.Stop.{Stop}
+use Rattle.sim_top.specs.declared.stop.Stop.TheVariants.{ReadFault, TooLong, NoFile, OutOfMemory, MatchRefused, StateRefused, NoSuchTurn}
+
+abbrev pub status_of : Stop → Status
+status_of ReadFault = status.ReadFault
+status_of TooLong = status.TooLong
+status_of NoFile = status.NoFile
+status_of OutOfMemory = status.OutOfMemory
+status_of (MatchRefused code index) = status.MatchRefused
+status_of (StateRefused code name) = status.StateRefused
+status_of (NoSuchTurn asked turns) = status.NoSuchTurn
+
+abbrev pub stop_text : Stop → List ℕ
+stop_text ReadFault = []
+stop_text TooLong = []
+stop_text NoFile = []
+stop_text OutOfMemory = []
+stop_text (MatchRefused code index) = refusal_text (Match code index)
+stop_text (StateRefused code name) = stored_text code name.now
+stop_text (NoSuchTurn asked turns) = refusal_text (Turn asked turns)
+
+-- the outcome with which a command ends there
+abbrev pub ended_by : Stop → Outcome
+ended_by stop = printed (status_of stop) (stop_text stop)
+
+-- the outcome is a wanted one, or a read fault or want of memory came between
+abbrev pub Stopped : Stop → (Outcome → Type 0) → Type 0
+Stopped ReadFault wanted = Unit {0}
+Stopped OutOfMemory wanted = Unit {0}
+Stopped stop wanted = wanted (ended_by stop)
+
+-- what is read on the way is the wanted thing, or the command ends
+abbrev pub Reads : {X : Type 0} → Result X Stop → Result X Outcome → Type 0
+Reads (Ok x) wanted = wanted ≡ Ok x
+Reads (Err stop) wanted = Stopped stop (λ ended. wanted ≡ Err ended)
+
+-- the same of the bytes of a file
+abbrev pub ReadsBytes : Result (Vec ℕ Global) Stop → Result (List ℕ) Outcome → Type 0
+ReadsBytes (Ok bytes) wanted = wanted ≡ Ok bytes.items
+ReadsBytes (Err stop) wanted = Stopped stop (λ ended. wanted ≡ Err ended)
+
+-- the bytes stand for no state, and the command ends for the first cause
+pub record IsRefused (setup : Setup) (name bytes : List ℕ) (wanted : Outcome) : Type 0 where
+  pub fault : StateFault
+  pub stored : IsStored setup bytes (Err fault)
+  pub ended : state_by name (Err fault) ≡ Err wanted
+
+-- the bytes of a file stand for this state
+pub record IsState (setup : Setup) (file : Result (List ℕ) Outcome) (state : State) : Type 0 where
+  pub bytes : List ℕ
+  pub read : file ≡ Ok bytes
+  pub stored : StandsFor setup bytes state
+
+-- the state that bytes stand for, or the command ends
+abbrev pub LoadsState : Result State Stop → Setup → List ℕ → List ℕ → Type 0
+LoadsState (Ok state) setup name bytes = StandsFor setup bytes state
+LoadsState (Err stop) setup name bytes = Stopped stop (IsRefused setup name bytes)
+
+-- the state that the bytes of a file stand for, or the command ends
+abbrev pub ReadsState : Result State Stop → Setup → List ℕ → Result (List ℕ) Outcome → Type 0
+ReadsState (Ok state) setup name file = IsState setup file state
+ReadsState (Err stop) setup name file = Stopped stop (Then file (IsRefused setup name))
+
+-- a command ends for what a file says, or for want of memory, and not for a fault of the shelf
+abbrev pub IsOfContent : Stop → Type 0
+IsOfContent ReadFault = ⊥
+IsOfContent TooLong = ⊥
+IsOfContent NoFile = ⊥
+IsOfContent other = Unit {0}
+
+-- what the shelf counted while something was read
+abbrev pub CausesOf : {X : Type 0} → Result X Stop → Counts → Counts → Type 0
+CausesOf (Ok x) old new = OnlyGave old new
+CausesOf (Err stop) old new = ReadCauses (status_of stop) old new

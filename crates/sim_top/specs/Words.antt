@@ -1,0 +1,59 @@
+-- The words after the program's name, and what they ask for.
+use Rattle.std.specs.Prelude.{ℕ, ◌+◌, ◌-◌, ◌*◌, ◌&&◌, nat_le, List, [], ◌∷◌, length, map, codes, Option, Some, None, option_map, if◌then◌else◌, String, string_bytes}
+use Rattle.std.specs.declared.alloc.Global.{Global}
+use Rattle.std.specs.Str.{bytes_eq}
+use Rattle.sim_base.specs.NumberText.{is_digit}
+use Rattle.sim_top.specs.declared.words.Request.{Request}
+use Rattle.sim_top.specs.declared.words.Request.TheVariants.{Play, State, Resume, Show}
+
+-- what is asked for: to play a match; to store the state of a turn of it in a file; to play on from a stored state; to show one
+pub data Asked : Type 0 where
+  to_play : List ℕ → Asked
+  to_store : List ℕ → ℕ → List ℕ → Asked
+  to_resume : List ℕ → List ℕ → Asked
+  to_show : List ℕ → List ℕ → Asked
+
+-- the request of the code, with its names as bytes
+abbrev pub asked : Request → Asked
+asked (Play game) = to_play game.now
+asked (State game turn out) = to_store game.now turn out.now
+asked (Resume game stored) = to_resume game.now stored.now
+asked (Show game stored) = to_show game.now stored.now
+
+-- the words as bytes
+abbrev pub words_of : List (String Global) → List (List ℕ)
+words_of words = map string_bytes words
+
+-- the number that digits spell behind those of `n`
+abbrev pub digits_from : ℕ → List ℕ → Option ℕ
+digits_from n [] = Some n
+digits_from n (c ∷ cs) = if is_digit c then digits_from (n * 10 + (c - 48)) cs else None
+
+-- a turn: one to nine digits
+abbrev pub turn_in : List ℕ → Option ℕ
+turn_in text = if nat_le 1 (length text) && nat_le (length text) 9 then digits_from 0 text else None
+
+abbrev pub asked_of_one : List ℕ → List ℕ → Option Asked
+asked_of_one command game = if bytes_eq command (codes "play") then Some (to_play game) else None
+
+abbrev pub asked_of_two : List ℕ → List ℕ → List ℕ → Option Asked
+asked_of_two command game stored =
+    if bytes_eq command (codes "resume") then Some (to_resume game stored) else if bytes_eq command (codes "show") then Some (to_show game stored) else None
+
+abbrev pub asked_of_three : List ℕ → List ℕ → List ℕ → List ℕ → Option Asked
+asked_of_three command game turn out = if bytes_eq command (codes "state") then option_map (λ n. to_store game n out) (turn_in turn) else None
+
+-- what the words ask for, if they are in the table of commands
+abbrev pub asked_by : List (List ℕ) → Option Asked
+asked_by (command ∷ a ∷ []) = asked_of_one command a
+asked_by (command ∷ a ∷ b ∷ []) = asked_of_two command a b
+asked_by (command ∷ a ∷ b ∷ c ∷ []) = asked_of_three command a b c
+asked_by other = None
+
+-- the file that is to be written
+abbrev pub out_of : Option Asked → Option (List ℕ)
+out_of None = None
+out_of (Some (to_play game)) = None
+out_of (Some (to_store game turn out)) = Some out
+out_of (Some (to_resume game stored)) = None
+out_of (Some (to_show game stored)) = None

@@ -1,0 +1,205 @@
+//! What each command makes of its files: the whole text that it prints, and the bytes of the file that it saves. Nothing
+//! is written here.
+
+ghost use Rattle.std.specs.Prelude.{◌≡◌, ◌≤◌, IfSome, IfOk, Some, None, length, string_bytes};
+ghost use Rattle.sim_base.specs.Limits.{IsSetup};
+ghost use Rattle.sim_base.specs.Validity.{IsValid};
+ghost use Rattle.sim_base.specs.Spelling.{spelling, digest as digest_of};
+ghost use Rattle.sim_report.specs.Lines.{saved_line};
+ghost use Rattle.sim_report.specs.Show.{show_text as text_of_show};
+ghost use Rattle.sim_setup.specs.Posts.{IsOfPosts};
+ghost use Rattle.sim_top.specs.Words.{to_play, to_store, to_resume, to_show, asked, out_of};
+ghost use Rattle.sim_top.specs.Lines.{play_text as text_of_play, resume_text as text_of_resume};
+ghost use Rattle.sim_top.specs.Outcome.{IsOutcomeOf};
+ghost use Rattle.sim_top.specs.Quiet.{AreQuiet};
+ghost use Rattle.sim_top.specs.Stops.{CausesOf};
+ghost use Rattle.sim_top.specs.Making.{Makes, IsSavedAs};
+
+use crate::inputs::{read_match, read_state};
+use crate::play::{push_turns, state_at};
+use crate::posts::first_state;
+use crate::status::Status;
+use crate::stop::Stop;
+use crate::words::Request;
+use sim_base::{OutOfMemory, Setup, State};
+use sim_codec::{digest, spell};
+use sim_report::{push_saved, push_show};
+use sim_store::Shelf;
+use std::alloc::Global;
+
+/// A file that is to be written.
+#[derive(Drop)]
+pub struct Saved<'w> {
+    pub name: &'w str,
+    pub bytes: Vec<u8>,
+}
+
+/// What a run is to write: a text, and perhaps a file before it.
+#[derive(Drop)]
+pub struct Answer<'w> {
+    pub status: Status,
+    pub text: String,
+    pub saved: Option<Saved<'w>>,
+}
+
+/// What the request comes to, or why it ends before.
+pub fn answer_to<'w, S: Shelf>(
+    alloc: Global,
+    request: Request<'w>,
+    shelf: &mut S,
+) -> Result<Answer<'w>, Stop<'w>>
+    ensures answers { IfSome (S.held shelf.old) (λ files. Makes result (IsOutcomeOf files (Some (asked request.entry)))) }
+    ensures saved { IfOk result (λ answer. IsSavedAs (out_of (Some (asked request.entry))) answer.saved) }
+    ensures done { IfOk result (λ answer. answer.status ≡ Status.Done) }
+    ensures causes { CausesOf result (S.counts shelf.old) (S.counts shelf.new) }
+    ensures held { S.held shelf.new ≡ S.held shelf.old }
+{
+    match request {
+        Request::Play { game } => play(alloc, shelf, game),
+        Request::State { game, turn, out } => store(alloc, shelf, game, turn, out),
+        Request::Resume { game, stored } => resume(alloc, shelf, game, stored),
+        Request::Show { game, stored } => show(alloc, shelf, game, stored),
+    }
+}
+
+fn play<'w, S: Shelf>(alloc: Global, shelf: &mut S, game: &'w str) -> Result<Answer<'w>, Stop<'w>>
+    ensures answers { IfSome (S.held shelf.old) (λ files. Makes result (IsOutcomeOf files (Some (to_play game.now)))) }
+    ensures saved { IfOk result (λ answer. answer.saved ≡ None) }
+    ensures done { IfOk result (λ answer. answer.status ≡ Status.Done) }
+    ensures causes { CausesOf result (S.counts shelf.old) (S.counts shelf.new) }
+    ensures held { S.held shelf.new ≡ S.held shelf.old }
+{
+    let setup = read_match(alloc, shelf, game)?;
+    let text = play_text(alloc, &setup)?;
+    Ok(printed(text))
+}
+
+fn store<'w, S: Shelf>(
+    alloc: Global,
+    shelf: &mut S,
+    game: &'w str,
+    turn: u32,
+    out: &'w str,
+) -> Result<Answer<'w>, Stop<'w>>
+    ensures answers { IfSome (S.held shelf.old) (λ files. Makes result (IsOutcomeOf files (Some (to_store game.now turn out.now)))) }
+    ensures saved { IfOk result (λ answer. IsSavedAs (Some out.now) answer.saved) }
+    ensures done { IfOk result (λ answer. answer.status ≡ Status.Done) }
+    ensures causes { CausesOf result (S.counts shelf.old) (S.counts shelf.new) }
+    ensures held { S.held shelf.new ≡ S.held shelf.old }
+{
+    let setup = read_match(alloc, shelf, game)?;
+    if turn > setup.turns {
+        return Err(Stop::NoSuchTurn {
+            asked: turn,
+            turns: setup.turns,
+        });
+    }
+    let state = state_at(alloc, &setup, turn)?;
+    let (bytes, text) = stored(alloc, &setup, &state)?;
+    Ok(Answer {
+        status: Status::Done,
+        text,
+        saved: Some(Saved { name: out, bytes }),
+    })
+}
+
+fn resume<'w, S: Shelf>(
+    alloc: Global,
+    shelf: &mut S,
+    game: &'w str,
+    name: &'w str,
+) -> Result<Answer<'w>, Stop<'w>>
+    ensures answers { IfSome (S.held shelf.old) (λ files. Makes result (IsOutcomeOf files (Some (to_resume game.now name.now)))) }
+    ensures saved { IfOk result (λ answer. answer.saved ≡ None) }
+    ensures done { IfOk result (λ answer. answer.status ≡ Status.Done) }
+    ensures causes { CausesOf result (S.counts shelf.old) (S.counts shelf.new) }
+    ensures held { S.held shelf.new ≡ S.held shelf.old }
+{
+    let setup = read_match(alloc, shelf, game)?;
+    match read_state(alloc, shelf, &setup, name) {
+        Ok(state) => Ok(printed(resume_text(alloc, &setup, state)?)),
+        Err(stop) => Err(stop),
+    }
+}
+
+fn show<'w, S: Shelf>(
+    alloc: Global,
+    shelf: &mut S,
+    game: &'w str,
+    name: &'w str,
+) -> Result<Answer<'w>, Stop<'w>>
+    ensures answers { IfSome (S.held shelf.old) (λ files. Makes result (IsOutcomeOf files (Some (to_show game.now name.now)))) }
+    ensures saved { IfOk result (λ answer. answer.saved ≡ None) }
+    ensures done { IfOk result (λ answer. answer.status ≡ Status.Done) }
+    ensures causes { CausesOf result (S.counts shelf.old) (S.counts shelf.new) }
+    ensures held { S.held shelf.new ≡ S.held shelf.old }
+{
+    let setup = read_match(alloc, shelf, game)?;
+    match read_state(alloc, shelf, &setup, name) {
+        Ok(state) => Ok(printed(show_text(alloc, &setup, &state)?)),
+        Err(stop) => Err(stop),
+    }
+}
+
+// A text alone.
+fn printed<'w>(text: String) -> Answer<'w>
+    ensures status { result.status ≡ Status.Done }
+    ensures text { string_bytes result.text ≡ string_bytes text }
+    ensures saved { result.saved ≡ None }
+{
+    Answer {
+        status: Status::Done,
+        text,
+        saved: None,
+    }
+}
+
+fn play_text(alloc: Global, setup: &Setup) -> Result<String, OutOfMemory>
+    requires limits { IsSetup setup.now }
+    requires posts { IsOfPosts setup.now }
+    ensures { IfOk result (λ text. string_bytes text ≡ text_of_play setup.now) }
+{
+    let start = first_state(alloc, setup)?;
+    let mut text = String::new(alloc);
+    push_turns(alloc, setup, start, &mut text)?;
+    Ok(text)
+}
+
+// The bytes of a state, and the line that is printed of it.
+fn stored(alloc: Global, setup: &Setup, state: &State) -> Result<(Vec<u8>, String), OutOfMemory>
+    requires few { length state.now.rows ≤ 4096 }
+    requires quiet { AreQuiet 2 state.now.rows }
+    ensures bytes { IfOk result (λ made. made.0.items ≡ spelling setup.now state.now) }
+    ensures text { IfOk result (λ made. string_bytes made.1 ≡ saved_line state.now.turn (length (spelling setup.now state.now)) (digest_of setup.now state.now)) }
+{
+    let bytes = spell(alloc, setup, state)?;
+    let mut text = String::new(alloc);
+    push_saved(
+        alloc,
+        state.turn,
+        bytes.len(),
+        &digest(setup, state),
+        &mut text,
+    )?;
+    Ok((bytes, text))
+}
+
+fn resume_text(alloc: Global, setup: &Setup, state: State) -> Result<String, OutOfMemory>
+    requires limits { IsSetup setup.now }
+    requires posts { IsOfPosts setup.now }
+    requires valid { IsValid setup.now state }
+    ensures { IfOk result (λ text. string_bytes text ≡ text_of_resume setup.now state) }
+{
+    let mut text = String::new(alloc);
+    push_turns(alloc, setup, state, &mut text)?;
+    Ok(text)
+}
+
+fn show_text(alloc: Global, setup: &Setup, state: &State) -> Result<String, OutOfMemory>
+    requires { IsValid setup.now state.now }
+    ensures { IfOk result (λ text. string_bytes text ≡ text_of_show setup.now state.now) }
+{
+    let mut text = String::new(alloc);
+    push_show(alloc, setup, state, &mut text)?;
+    Ok(text)
+}

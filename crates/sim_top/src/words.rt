@@ -1,0 +1,105 @@
+//! The words after the program's name, and the request that they make. A word that is out of place makes none.
+
+ghost use Rattle.std.specs.Prelude.{◌≡◌, ◌≤◌, length, option_map};
+ghost use Rattle.sim_top.specs.Words.{asked, words_of, asked_by, asked_of_one, asked_of_two, asked_of_three, turn_in, digits_from};
+
+/// What the words ask for, with the names of files as they were given.
+#[derive(Clone, Copy, Debug, PartialEq, Eq)]
+pub enum Request<'w> {
+    /// To play a match.
+    Play {
+        game: &'w str,
+    },
+    /// To store the state of a turn of a match in a file.
+    State {
+        game: &'w str,
+        turn: u32,
+        out: &'w str,
+    },
+    /// To play a match on from a stored state.
+    Resume {
+        game: &'w str,
+        stored: &'w str,
+    },
+    /// To show a stored state of a match.
+    Show {
+        game: &'w str,
+        stored: &'w str,
+    },
+}
+
+/// The request of the words, if they make one.
+pub fn request_of(words: &[String]) -> Option<Request<'_>>
+    ensures { option_map asked result ≡ asked_by (words_of words.now) }
+{
+    match words {
+        [command, a] => request_of_one(command.as_str(), a.as_str()),
+        [command, a, b] => request_of_two(command.as_str(), a.as_str(), b.as_str()),
+        [command, a, b, c] => {
+            request_of_three(command.as_str(), a.as_str(), b.as_str(), c.as_str())
+        }
+        _ => None,
+    }
+}
+
+fn request_of_one<'w>(command: &str, game: &'w str) -> Option<Request<'w>>
+    ensures { option_map asked result ≡ asked_of_one command.now game.now }
+{
+    if command == "play" {
+        return Some(Request::Play { game });
+    }
+    None
+}
+
+fn request_of_two<'w>(command: &str, game: &'w str, stored: &'w str) -> Option<Request<'w>>
+    ensures { option_map asked result ≡ asked_of_two command.now game.now stored.now }
+{
+    if command == "resume" {
+        return Some(Request::Resume { game, stored });
+    }
+    if command == "show" {
+        return Some(Request::Show { game, stored });
+    }
+    None
+}
+
+fn request_of_three<'w>(
+    command: &str,
+    game: &'w str,
+    turn: &str,
+    out: &'w str,
+) -> Option<Request<'w>>
+    ensures { option_map asked result ≡ asked_of_three command.now game.now turn.now out.now }
+{
+    if command == "state" {
+        let turn = turn_of(turn)?;
+        return Some(Request::State { game, turn, out });
+    }
+    None
+}
+
+// The turn that a word of one to nine digits is.
+fn turn_of(word: &str) -> Option<u32>
+    ensures { result ≡ turn_in word.now }
+{
+    let digits = word.as_bytes();
+    if 1 <= digits.len() && digits.len() <= 9 {
+        number_of(digits)
+    } else {
+        None
+    }
+}
+
+fn number_of(digits: &[u8]) -> Option<u32>
+    requires { length digits.now ≤ 9 }
+    ensures { result ≡ digits_from 0 digits.now }
+{
+    let mut number = 0u32;
+    for digit in digits {
+        if !digit.is_ascii_digit() {
+            return None;
+        }
+        number = number * 10 + u32::from(*digit - b'0');
+    }
+    Some(number)
+}
