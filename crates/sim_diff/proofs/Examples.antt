@@ -3,7 +3,7 @@ use Rattle.std.proofs.Common.{◌≡◌, ℕ, ◌*◌, pos, refl, Some, None, Li
 use Rattle.sim_base.specs.declared.state.Row.{Row}
 use Rattle.sim_base.specs.declared.state.State.{State}
 use Rattle.sim_base.specs.declared.state.Motion.TheVariants.{Still}
-use Rattle.sim_codec.specs.declared.bits.Part.TheVariants.{Clock, Entity, Position, Owner, Health, Motion, Attack}
+use Rattle.sim_codec.specs.declared.bits.Part.TheVariants.{Clock, Entity, Owner, Health, Motion}
 use Rattle.sim_base.specs.Bytes.{u16_bytes, u32_bytes, u64_bytes, i32_bytes}
 use Rattle.sim_diff.specs.Difference.{difference_of}
 

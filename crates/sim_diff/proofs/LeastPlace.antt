@@ -1,19 +1,17 @@
 -- What the definition answers is the least place over every entity and part, and there is one least place at most.
-use Rattle.std.proofs.Common.{◌≡◌, ◌≢◌, ℕ, ◌<◌, ◌≤◌, Bool, true, false, cond, List, [], ◌∷◌, ◌++◌, map, filter, Option, Some, None, refl, sym, ap, ◌∙◌, ◌⊎◌, inl, inr, arith, flat_map, find, option_and_then}
-use Rattle.std.specs.Prelude.{◌==◌, IfSome, IsNone, ◌↔◌}
-use Rattle.std.specs.Ordering.{nat_cmp, is_lt}
-use Rattle.std.specs.Cmp.Lexicographic.{slice_cmp}
-use Rattle.std.proofs.lemmas.Bool.{true≢false, cases_eq, cases_order, lt-ltb, le-ltb, eq-eqb, ne_eqb, eqb-true, eqb-false}
-use Rattle.std.proofs.lemmas.Option.{same_Some, none-some}
+use Rattle.std.proofs.Common.{◌≡◌, ◌≢◌, ℕ, ◌<◌, Bool, true, false, cond, List, [], ◌∷◌, map, filter, Option, Some, None, refl, sym, ap, ◌∙◌, ◌⊎◌, inl, inr, arith, find, option_and_then}
+use Rattle.std.specs.Prelude.{◌==◌}
+use Rattle.std.proofs.lemmas.Bool.{true≢false, cases_eq, cases_order, lt-ltb, le-ltb, eq-eqb, ne_eqb, eqb-true}
+use Rattle.std.proofs.lemmas.Option.{none-some}
 use Rattle.sim_base.specs.declared.state.Row.{Row}
 use Rattle.sim_base.specs.declared.state.State.{State}
-use Rattle.sim_base.specs.Least.{is_before, least_of}
+use Rattle.sim_base.specs.Least.{is_before}
 use Rattle.sim_base.specs.Rows.{id_of, row_of}
 use Rattle.sim_laws.proofs.Members.{Has, Has-append_left, Has-append_right, Has-map, Has-of_map, Has-flat_map, Has-of_flat_map}
-use Rattle.sim_laws.proofs.LeastMember.{IsLeast, least_of-some, least_of-has}
+use Rattle.sim_laws.proofs.LeastMember.{least_of-some, least_of-has}
 use Rattle.sim_codec.specs.declared.bits.Part.{Part}
 use Rattle.sim_codec.specs.declared.bits.Part.TheVariants.{Clock, Entity, Position, Owner, Health, Motion, Attack}
-use Rattle.sim_codec.specs.Bits.{bits, clock_bits, row_bits}
+use Rattle.sim_codec.specs.Bits.{bits, row_bits}
 use Rattle.sim_diff.specs.declared.place.Place.{Place}
 use Rattle.sim_diff.specs.Difference.{parts, number_of, place_at, is_different, entities, places, key_of, difference_of, IsBefore, IsLeastDifference, HaveSameBits}
 use Rattle.sim_diff.proofs.Parts.{different_not_same, not_different_same, number_of-one}

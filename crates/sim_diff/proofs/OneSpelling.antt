@@ -1,6 +1,6 @@
 -- Two states that have the same bytes of every part of every entity have one spelling: their rows have the same ids, and so each section the same rows.
 use Rattle.std.proofs.Common.{◌≡◌, ℕ, ◌<◌, ◌≤◌, List, [], ◌∷◌, ◌++◌, length, map, Option, Some, None, refl, sym, ap, ◌∙◌, ◌⊎◌, inl, inr, arith, option_and_then, flat_map, filter_map, find}
-use Rattle.std.specs.Prelude.{◌==◌, option_map, ◌≢◌}
+use Rattle.std.specs.Prelude.{◌==◌, option_map}
 use Rattle.std.specs.List.{cons_option}
 use Rattle.std.proofs.lemmas.Bool.{cases_eq, cases_lt, cases_order, eq-eqb, ne_eqb}
 use Rattle.std.proofs.lemmas.List.{length-map}
@@ -9,7 +9,6 @@ use Rattle.sim_base.specs.declared.setup.Setup.{Setup}
 use Rattle.sim_base.specs.declared.state.Row.{Row}
 use Rattle.sim_base.specs.declared.state.State.{State}
 use Rattle.sim_base.specs.Bytes.{u32_bytes}
-use Rattle.sim_base.specs.Rows.{row_of}
 use Rattle.sim_base.specs.Spelling.{section, sections, rows_with, spelling, clock_bytes, entity_part, entity_bytes, position_part, position_bytes, owner_part, owner_bytes, health_part, health_bytes, motion_part, moving_bytes, attack_part, attack_bytes}
 use Rattle.sim_base.specs.Limits.{IsSetup}
 use Rattle.sim_base.specs.Validity.{IsValid}

@@ -1,19 +1,18 @@
 -- A step of the walk: what is behind the next entity, and that all that was passed is the same.
-use Rattle.std.proofs.Common.{◌≡◌, ℕ, ◌+◌, ◌<◌, ◌≤◌, min, Bool, true, false, cond, List, [], ◌∷◌, length, Option, Some, None, refl, sym, ap, ◌∙◌, ◌⊎◌, inl, inr, arith, option_and_then}
+use Rattle.std.proofs.Common.{◌≡◌, ℕ, ◌+◌, ◌<◌, ◌≤◌, min, Bool, true, false, cond, List, [], ◌∷◌, length, Some, None, refl, sym, ap, ◌∙◌, ◌⊎◌, inl, inr, arith, option_and_then}
 use Rattle.std.specs.Prelude.{◌==◌}
 use Rattle.std.proofs.lemmas.Bool.{cases_eq, cases_lt, eqb-true, eq-eqb}
 use Rattle.std.proofs.lemmas.Option.{same_Some, none-some}
 use Rattle.sim_base.specs.declared.state.Row.{Row}
 use Rattle.sim_base.specs.declared.state.State.{State}
 use Rattle.sim_codec.specs.declared.bits.Part.{Part}
-use Rattle.sim_base.specs.Rows.{row_of}
 use Rattle.sim_codec.specs.Bits.{bits, row_bits}
 use Rattle.sim_diff.specs.declared.place.Place.{Place}
-use Rattle.sim_diff.specs.Difference.{number_of, IsBefore, IsLeastDifference, HaveSameBits}
+use Rattle.sim_diff.specs.Difference.{IsBefore, IsLeastDifference, HaveSameBits}
 use Rattle.sim_diff.specs.Merge.{next_id, rows_behind}
 use Rattle.sim_diff.proofs.Parts.{IsFirst}
 use Rattle.sim_diff.proofs.LeastPlace.{bits-row}
-use Rattle.sim_diff.proofs.Rising.{Above, Rising, Lacks, above-lacks, lacks-none}
+use Rattle.sim_diff.proofs.Rising.{Rising, Lacks, above-lacks, lacks-none}
 
 -- ---- what is behind an entity
 

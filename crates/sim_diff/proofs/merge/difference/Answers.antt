@@ -3,7 +3,7 @@ use Rattle.std.proofs.Common.{◌∙◌, sym, arith}
 use Rattle.sim_diff.proofs.Parts.{first-is_first, no_first-same}
 use Rattle.sim_diff.proofs.LeastPlace.{least-difference_of, same-difference_of}
 use Rattle.sim_diff.proofs.Rising.{rising}
-use Rattle.sim_diff.proofs.Walk.{rising_behind, fewer_behind, same_more, same_below, same_behind, same_at_first, same_at_last, first_is_least}
+use Rattle.sim_diff.proofs.Walk.{rising_behind, same_more, same_below, same_behind, same_at_first, same_at_last, first_is_least}
 use Rattle.sim_diff.proofs.merge.difference.Goals as goal
 
 pub returns-in-Some-clause-least : goal.returns-in-Some-clause-least
