@@ -5,6 +5,7 @@ ghost use Rattle.std.specs.Prelude.{◌≡◌, All, map};
 ghost use Rattle.std.specs.List.Sorted.{IsStrictlyIncreasing};
 ghost use Rattle.sim_base.specs.Rows.{id_of};
 ghost use Rattle.sim_sections.specs.Rows.{HasShortWay};
+ghost use Rattle.sim_diff.specs.Difference.{place_at, is_different as is_different_place, difference_in};
 
 use sim_base::State;
 use sim_codec::{Bits, Part, bits_of};
@@ -30,8 +31,6 @@ pub struct Place {
 }
 
 impl Place {
-    ghost use Rattle.sim_diff.specs.Difference.{place_at, is_different};
-
     fn of(left: &State, right: &State, entity: u32, part: Part) -> Place
         requires left_ascending { IsStrictlyIncreasing (map id_of left.now.rows) }
         requires left_short { All HasShortWay left.now.rows }
@@ -48,13 +47,11 @@ impl Place {
     }
 
     fn is_different(&self) -> bool
-        ensures { result ≡ is_different self.now }
+        ensures { result ≡ is_different_place self.now }
     {
         self.left.bytes() != self.right.bytes()
     }
 }
-
-ghost use Rattle.sim_diff.specs.Difference.{difference_in};
 
 /// The first part of the entity that differs.
 pub fn first_difference(left: &State, right: &State, entity: u32) -> Option<Place>
