@@ -1,19 +1,22 @@
 //! The texts that the program prints, each appended to a text just as its definition says.
 //!
-//! It promises the exact bytes, and nothing of how they come out. It stands on the records of `sim_base` and on
-//! crate `hex`. Each call that appends answers want of memory alone, and the text may then have a part of the new one.
+//! It promises the exact bytes, and nothing of how they come out. It stands on the records of `sim_base`, on `sim_codec`
+//! and `sim_diff` for the place at which two states differ, and on crate `hex`. Each call that appends answers want of memory alone, and the text may then have a part of the new one.
 //!
 //! - `line`: how the program is called, and the lines of a turn and of a stored state.
 //! - `show`: a state, row by row.
 //! - `refusal`: why something is refused.
+//! - `place`: where two states differ.
 #![tactic(auto)]
 
 mod line;
+mod place;
 mod refusal;
 mod show;
 #[cfg(test)]
 mod tests;
 
 pub use line::{push_saved, push_turn, push_usage};
+pub use place::push_place;
 pub use refusal::{Refusal, push_refusal};
 pub use show::push_show;

@@ -1,11 +1,13 @@
 //! The texts of worked cases, whole, and that each call succeeds with ample memory.
 
-ghost use Rattle.std.specs.Prelude.{◌≡◌, ◌<◌, length, IfOk};
+ghost use Rattle.std.specs.Prelude.{◌≡◌, ◌<◌, [], None, length, IfOk};
 
 use super::*;
 use sim_base::{
     Aim, Fixed, Items, Land, Motion, Name, OutOfMemory, Point, Resist, Row, Setup, State, Template,
 };
+use sim_codec::{Part, bits_of};
+use sim_diff::{Place, difference};
 use std::alloc::Global;
 use std::test::Fail;
 
@@ -114,6 +116,75 @@ fn shows_states(rt: HostRuntime) -> Result<(), Fail> {
     Ok(())
 }
 
+// The name of each part, over a clock with word 11 on one side and nothing on the other.
+#[test]
+fn tells_where_states_differ(rt: HostRuntime) -> Result<(), Fail> {
+    let alloc = rt.alloc();
+    let state = clock(alloc, 11);
+    let names = [
+        (Part::Clock, "Clock"),
+        (Part::Entity, "Entity"),
+        (Part::Position, "Position"),
+        (Part::Owner, "Owner"),
+        (Part::Health, "Health"),
+        (Part::Motion, "Motion"),
+        (Part::Attack, "Attack"),
+    ];
+    for (part, name) in names {
+        let place = Place {
+            entity: 4294967295,
+            part,
+            left: bits_of(&state, 1, Part::Clock),
+            right: bits_of(&state, 5, Part::Entity),
+        };
+        let mut out = String::from_str(alloc, "before\n")?;
+        push_place(alloc, &place, &mut out)?;
+        let text = format!(in alloc;
+            "before\ndiffer entity 4294967295 part {name}\nleft 00000000020000000b00000000000000\nright absent\n"
+        )?;
+        assert_eq!(rt; out.as_str(), text.as_str());
+    }
+    Ok(())
+}
+
+// The places of two pairs of states, one of which has another word, and one an entity more.
+#[test]
+fn tells_the_least_difference(rt: HostRuntime) -> Result<(), Fail> {
+    let alloc = rt.alloc();
+    let none = clock(alloc, 0);
+    let place = difference(&none, &clock(alloc, 11)).ok_or("no difference")?;
+    let mut out = String::new(alloc);
+    push_place(alloc, &place, &mut out)?;
+    assert_eq!(rt;
+        out.as_str(),
+        "differ entity 1 part Clock\n\
+         left 00000000020000000000000000000000\n\
+         right 00000000020000000b00000000000000\n"
+    );
+    let mut one = clock(alloc, 0);
+    one.rows = Items::from_items(vec![in alloc; bare_row(5, 0, 1, point(131072, 131072))]?);
+    let place = difference(&one, &none).ok_or("no difference")?;
+    let mut out = String::new(alloc);
+    push_place(alloc, &place, &mut out)?;
+    assert_eq!(rt;
+        out.as_str(),
+        "differ entity 5 part Entity\nleft 050000000000\nright absent\n"
+    );
+    Ok(())
+}
+
+// A state without entities before its first turn.
+fn clock(alloc: Global, word: u64) -> State
+    ensures { result.rows ≡ [] }
+{
+    State {
+        turn: 0,
+        next: 2,
+        word,
+        rows: Items::new(alloc),
+    }
+}
+
 fn point(x: i32, z: i32) -> Point {
     Point {
         x: Fixed::from_raw(x),
@@ -123,7 +194,8 @@ fn point(x: i32, z: i32) -> Point {
 
 // A row without parts.
 fn bare_row(id: u32, template: u16, owner: u8, at: Point) -> Row
-    ensures { result.template ≡ template }
+    ensures template { result.template ≡ template }
+    ensures motion { result.motion ≡ None }
 {
     Row {
         id,

@@ -1,4 +1,5 @@
 pub mod Counts
+pub mod Calls
 pub mod Files
 pub mod Pieces
 pub mod Shelf

@@ -3,6 +3,7 @@ use Rattle.std.specs.Prelude.{ℕ, List, Bool, Option, is_some, option_map}
 use Rattle.sim_store.specs.Files.{File}
 use Rattle.sim_store.specs.Held.{files_of, first_name}
 use Rattle.sim_store.specs.OpenFile.{bytes_left}
+use Rattle.sim_store.specs.Calls.{calls_in, listed_in, is_next_listed}
 use Rattle.sim_store.specs.declared.counts.Counts.{Counts}
 use Rattle.sim_store.specs.declared.mem_shelf.MemShelf.{MemShelf}
 
@@ -33,3 +34,15 @@ made_name_on shelf = first_name shelf.files.items
 -- what the shelf counted
 abbrev pub counts_on : MemShelf → Counts
 counts_on shelf = shelf.counts
+
+-- how many calls of the shelf there were since it was made
+abbrev pub calls_on : MemShelf → ℕ
+calls_on shelf = calls_in shelf.calls
+
+-- the numbers of the calls that are to fail, the first since the shelf was made being 1
+abbrev pub failing_on : MemShelf → List ℕ
+failing_on shelf = listed_in shelf.calls
+
+-- whether the next call of the shelf is to fail
+abbrev pub fails_next_on : MemShelf → Bool
+fails_next_on shelf = is_next_listed shelf.calls

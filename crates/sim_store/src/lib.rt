@@ -9,9 +9,11 @@
 //! - `shelf`, `sink`: the two traits.
 //! - `read`, `write`: whole files and whole texts, over any shelf and sink.
 //! - `held`, `open_file`: files in memory.
+//! - `calls`: calls that are counted, some of which are to fail.
 //! - `mem_shelf`, `mem_sink`: the shelf and the sink in memory.
 #![tactic(auto)]
 
+mod calls;
 mod counts;
 mod fault;
 mod held;

@@ -1,15 +1,16 @@
 //! A shelf in memory. Whoever wants to run the program without files, tests above all, hands it in; its room makes a
-//! full disk at any place.
+//! full disk at any place, and its list of calls makes any call fail.
 
-ghost use Rattle.std.specs.Prelude.{◌≡◌, ◌≢◌, ◌+◌, ◌<◌, ◌≤◌, ◌↔◌, ℕ, List, [], length, OnOk, OnErr, IfOk, IsOk, IsTrue, false, Some, is_ok, option_copied, vec_len};
+ghost use Rattle.std.specs.Prelude.{◌≡◌, ◌+◌, ◌++◌, ◌<◌, ◌≤◌, ◌↔◌, ℕ, List, [], ◌∷◌, length, OnOk, OnErr, IfOk, IsOk, IsErr, IsTrue, IsFalse, false, Some, is_ok, option_copied, vec_len};
 ghost use Rattle.std.specs.Io.{ReadsAtMost};
 ghost use Rattle.std.specs.Io.KnownBytes.{ReadConsumes};
-ghost use Rattle.sim_store.specs.Counts.{no_counts};
+ghost use Rattle.sim_store.specs.Counts.{no_counts, raised};
 ghost use Rattle.sim_store.specs.Files.{file_in, FileSet};
 ghost use Rattle.sim_store.specs.Held.{first_bytes, first_capacity};
 ghost use Rattle.sim_store.specs.Pieces.{TakesSome};
 ghost use Rattle.sim_store.specs.Shelf.{opens, OpenTells, OpenCounts, ReadCounts, MakeHolds, MakeCounts, WriteHolds, WriteCounts};
 
+use crate::calls::Calls;
 use crate::counts::Counts;
 use crate::fault::{Failed, ShelfFault};
 use crate::held::{Held, add_to_first, find, put_first};
@@ -28,13 +29,14 @@ pub struct MemShelf {
     reading: Option<OpenFile>,
     is_making: bool,
     counts: Counts,
+    calls: Calls,
     ghost made_first: { IsTrue is_making → 0 < vec_len files },
     ghost within: { IsTrue is_making → length (first_bytes files.items) ≤ room },
     ghost has_memory: { IsTrue is_making → room ≤ first_capacity files.items },
 }
 
 impl MemShelf {
-    ghost use Rattle.sim_store.specs.MemShelf.{files_on, room_on, rest_on, is_open_on, is_making_on, counts_on};
+    ghost use Rattle.sim_store.specs.MemShelf.{files_on, room_on, rest_on, is_open_on, is_making_on, made_name_on, counts_on, calls_on, failing_on};
 
     /// A shelf that holds nothing. It keeps the allocator, and each file that is made on it has this room.
     pub fn new(alloc: Global, room: usize) -> Result<MemShelf, OutOfMemory>
@@ -43,6 +45,8 @@ impl MemShelf {
         ensures counts { IfOk result (λ shelf. counts_on shelf ≡ no_counts) }
         ensures opened { IfOk result (λ shelf. is_open_on shelf ≡ false) }
         ensures making { IfOk result (λ shelf. is_making_on shelf ≡ false) }
+        ensures calls { IfOk result (λ shelf. calls_on shelf ≡ 0) }
+        ensures failing { IfOk result (λ shelf. failing_on shelf ≡ []) }
     {
         Ok(MemShelf {
             alloc,
@@ -51,6 +55,7 @@ impl MemShelf {
             reading: None,
             is_making: false,
             counts: Counts::default(),
+            calls: Calls::new(alloc),
         })
     }
 
@@ -64,6 +69,8 @@ impl MemShelf {
         ensures counts { counts_on self.new ≡ counts_on self.old }
         ensures opened { is_open_on self.new ≡ is_open_on self.old }
         ensures rest { rest_on self.new ≡ rest_on self.old }
+        ensures calls { calls_on self.new ≡ calls_on self.old }
+        ensures failing { failing_on self.new ≡ failing_on self.old }
     {
         self.is_making = false;
         let bytes = bytes.to_vec(self.alloc)?;
@@ -77,10 +84,35 @@ impl MemShelf {
     {
         find(&self.files, name)
     }
+
+    /// Lists a call to fail, by its number among the calls of `Shelf` since the shelf was made, the first being 1. Any
+    /// number of calls may be listed.
+    pub fn fail_at(&mut self, call: u64) -> Result<(), OutOfMemory>
+        ensures ok { OnOk result (failing_on self.new ≡ failing_on self.old ++ call ∷ []) }
+        ensures err { OnErr result (failing_on self.new ≡ failing_on self.old) }
+        ensures calls { calls_on self.new ≡ calls_on self.old }
+        ensures files { files_on self.new ≡ files_on self.old }
+        ensures room { room_on self.new ≡ room_on self.old }
+        ensures counts { counts_on self.new ≡ counts_on self.old }
+        ensures opened { is_open_on self.new ≡ is_open_on self.old }
+        ensures rest { rest_on self.new ≡ rest_on self.old }
+        ensures making { is_making_on self.new ≡ is_making_on self.old }
+        ensures name { made_name_on self.new ≡ made_name_on self.old }
+    {
+        self.calls.list(call)?;
+        Ok(())
+    }
+
+    /// How many calls of `Shelf` there were since the shelf was made.
+    pub fn calls(&self) -> u64
+        ensures { result ≡ calls_on self.now }
+    {
+        self.calls.made()
+    }
 }
 
 impl Shelf for MemShelf {
-    ghost use Rattle.sim_store.specs.MemShelf.{files_on, room_on, rest_on, is_open_on, is_making_on, made_name_on, counts_on};
+    ghost use Rattle.sim_store.specs.MemShelf.{files_on, room_on, rest_on, is_open_on, is_making_on, made_name_on, counts_on, calls_on, failing_on, fails_next_on};
 
     ghost held = { λ shelf. Some (files_on shelf) };
 
@@ -94,9 +126,11 @@ impl Shelf for MemShelf {
 
     ghost counts = { counts_on };
 
-    /// Never fails, but for want of memory: it copies the file.
+    /// Fails where the call is listed, and for want of memory: it copies the file.
     fn open(&mut self, name: &str) -> Result<bool, ShelfFault>
-        ensures sound { result ≢ Err ShelfFault.Failed }
+        ensures fails { (result ≡ Err ShelfFault.Failed) ↔ IsTrue (fails_next_on self.old) }
+        ensures calls { calls_on self.new ≡ raised 1 (calls_on self.old) }
+        ensures failing { failing_on self.new ≡ failing_on self.old }
         ensures room { room_on self.new ≡ room_on self.old }
         ensures opened { is_open_on self.new ≡ opens result }
         ensures tells { OpenTells result (file_in (files_on self.old) name.now) (rest_on self.new) }
@@ -106,6 +140,10 @@ impl Shelf for MemShelf {
         ensures name { made_name_on self.new ≡ made_name_on self.old }
     {
         self.reading = None;
+        if self.calls.count() {
+            self.counts.add_read_fault();
+            return Err(ShelfFault::Failed);
+        }
         let Some(bytes) = find(&self.files, name) else {
             self.counts.add_miss();
             return Ok(false);
@@ -114,10 +152,12 @@ impl Shelf for MemShelf {
         Ok(true)
     }
 
-    /// Never fails.
+    /// Fails where the call is listed.
     fn read(&mut self, into: &mut [u8]) -> Result<usize, Failed>
         requires { IsTrue (is_open_on self.old) }
-        ensures sound { IsOk result }
+        ensures fails { IsErr result ↔ IsTrue (fails_next_on self.old) }
+        ensures calls { calls_on self.new ≡ raised 1 (calls_on self.old) }
+        ensures failing { failing_on self.new ≡ failing_on self.old }
         ensures room { room_on self.new ≡ room_on self.old }
         ensures bound { ReadsAtMost result into.new }
         ensures bytes { ReadConsumes (rest_on self.old) (rest_on self.new) result into.new }
@@ -127,6 +167,10 @@ impl Shelf for MemShelf {
         ensures making { is_making_on self.new ≡ is_making_on self.old }
         ensures name { made_name_on self.new ≡ made_name_on self.old }
     {
+        if self.calls.count() {
+            self.counts.add_read_fault();
+            return Err(Failed);
+        }
         let Some(file) = &mut self.reading else {
             unreachable!()
         };
@@ -135,9 +179,11 @@ impl Shelf for MemShelf {
         Ok(count)
     }
 
-    /// Never fails, but for want of memory: it takes all the memory that the file will need.
+    /// Fails where the call is listed, and for want of memory: it takes all the memory that the file will need.
     fn make(&mut self, name: &str) -> Result<(), ShelfFault>
-        ensures sound { result ≢ Err ShelfFault.Failed }
+        ensures fails { (result ≡ Err ShelfFault.Failed) ↔ IsTrue (fails_next_on self.old) }
+        ensures calls { calls_on self.new ≡ raised 1 (calls_on self.old) }
+        ensures failing { failing_on self.new ≡ failing_on self.old }
         ensures room { room_on self.new ≡ room_on self.old }
         ensures making { is_making_on self.new ≡ is_ok result }
         ensures name { OnOk result (made_name_on self.new ≡ name.now) }
@@ -147,17 +193,24 @@ impl Shelf for MemShelf {
         ensures rest { rest_on self.new ≡ rest_on self.old }
     {
         self.is_making = false;
+        if self.calls.count() {
+            self.counts.add_write_fault();
+            return Err(ShelfFault::Failed);
+        }
         let bytes = Vec::with_capacity(self.alloc, self.room)?;
         put_first(self.alloc, &mut self.files, name, bytes)?;
         self.is_making = true;
         Ok(())
     }
 
-    /// Takes the whole piece, or fails where that would take the file past the room. It takes no memory.
+    /// Takes the whole piece, or fails where the call is listed or that would take the file past the room. It takes no
+    /// memory.
     fn write(&mut self, piece: &[u8]) -> Result<usize, Failed>
         requires { IsTrue (is_making_on self.old) }
         ensures fits { (bytes : List ℕ) → file_in (files_on self.old) (made_name_on self.old) ≡ Some bytes
-            → (IsOk result ↔ (length bytes + length piece.now ≤ room_on self.old)) }
+            → (IsOk result ↔ (IsFalse (fails_next_on self.old) × (length bytes + length piece.now ≤ room_on self.old))) }
+        ensures calls { calls_on self.new ≡ raised 1 (calls_on self.old) }
+        ensures failing { failing_on self.new ≡ failing_on self.old }
         ensures whole { IfOk result (λ count. count ≡ length piece.now) }
         ensures room { room_on self.new ≡ room_on self.old }
         ensures takes { TakesSome result piece.now }
@@ -168,17 +221,19 @@ impl Shelf for MemShelf {
         ensures opened { is_open_on self.new ≡ is_open_on self.old }
         ensures rest { rest_on self.new ≡ rest_on self.old }
     {
-        if add_to_first(&mut self.files, self.room, piece).is_err() {
+        if self.calls.count() || add_to_first(&mut self.files, self.room, piece).is_err() {
             self.counts.add_write_fault();
             return Err(Failed);
         }
         Ok(piece.len())
     }
 
-    /// Never fails.
+    /// Fails where the call is listed.
     fn close(&mut self) -> Result<(), Failed>
         requires { IsTrue (is_making_on self.old) }
-        ensures sound { IsOk result }
+        ensures fails { IsErr result ↔ IsTrue (fails_next_on self.old) }
+        ensures calls { calls_on self.new ≡ raised 1 (calls_on self.old) }
+        ensures failing { failing_on self.new ≡ failing_on self.old }
         ensures room { room_on self.new ≡ room_on self.old }
         ensures making { is_making_on self.new ≡ false }
         ensures held { files_on self.new ≡ files_on self.old }
@@ -187,6 +242,10 @@ impl Shelf for MemShelf {
         ensures rest { rest_on self.new ≡ rest_on self.old }
     {
         self.is_making = false;
+        if self.calls.count() {
+            self.counts.add_write_fault();
+            return Err(Failed);
+        }
         Ok(())
     }
 }

@@ -1,11 +1,13 @@
 //! A sink in memory, which keeps what it is told. Whoever wants the text of a program without a terminal, tests above
-//! all, hands it in; its room makes a full disk at any place.
+//! all, hands it in; its room makes a full disk at any place, and its list of calls makes any write fail.
 
-ghost use Rattle.std.specs.Prelude.{◌≡◌, ◌+◌, ◌≤◌, ◌↔◌, [], Some, IsOk, IfOk, length, vec_len, vec_capacity};
+ghost use Rattle.std.specs.Prelude.{◌≡◌, ◌+◌, ◌++◌, ◌≤◌, ◌↔◌, [], ◌∷◌, Some, IsOk, IfOk, IsFalse, OnOk, OnErr, length, vec_len, vec_capacity};
 ghost use Rattle.std.specs.Io.KnownBytes.{WriteAppends};
+ghost use Rattle.sim_store.specs.Counts.{raised};
 ghost use Rattle.sim_store.specs.Pieces.{TakesSome};
 ghost use Rattle.sim_store.specs.Sink.{SinkCounts};
 
+use crate::calls::Calls;
 use crate::counts::one_more;
 use crate::fault::Failed;
 use crate::sink::Sink;
@@ -18,23 +20,27 @@ pub struct MemSink {
     room: usize,
     told: Vec<u8>,
     faults: u64,
+    calls: Calls,
     ghost within: { vec_len told ≤ room },
     ghost has_memory: { room ≤ vec_capacity told },
 }
 
 impl MemSink {
-    ghost use Rattle.sim_store.specs.MemSink.{bytes_told, room_in, faults_of};
+    ghost use Rattle.sim_store.specs.MemSink.{bytes_told, room_in, faults_of, calls_of, failing_of};
 
     /// A sink that was told nothing, with the memory for this many bytes.
     pub fn new(alloc: Global, room: usize) -> Result<MemSink, OutOfMemory>
         ensures told { IfOk result (λ sink. bytes_told sink ≡ []) }
         ensures room { IfOk result (λ sink. room_in sink ≡ room) }
         ensures faults { IfOk result (λ sink. faults_of sink ≡ 0) }
+        ensures calls { IfOk result (λ sink. calls_of sink ≡ 0) }
+        ensures failing { IfOk result (λ sink. failing_of sink ≡ []) }
     {
         Ok(MemSink {
             room,
             told: Vec::with_capacity(alloc, room)?,
             faults: 0,
+            calls: Calls::new(alloc),
         })
     }
 
@@ -44,25 +50,49 @@ impl MemSink {
     {
         &self.told
     }
+
+    /// Lists a write to fail, by its number among those since the sink was made, the first being 1. Any number of writes
+    /// may be listed.
+    pub fn fail_at(&mut self, call: u64) -> Result<(), OutOfMemory>
+        ensures ok { OnOk result (failing_of self.new ≡ failing_of self.old ++ call ∷ []) }
+        ensures err { OnErr result (failing_of self.new ≡ failing_of self.old) }
+        ensures calls { calls_of self.new ≡ calls_of self.old }
+        ensures told { bytes_told self.new ≡ bytes_told self.old }
+        ensures room { room_in self.new ≡ room_in self.old }
+        ensures faults { faults_of self.new ≡ faults_of self.old }
+    {
+        self.calls.list(call)?;
+        Ok(())
+    }
+
+    /// How many writes there were since the sink was made.
+    pub fn calls(&self) -> u64
+        ensures { result ≡ calls_of self.now }
+    {
+        self.calls.made()
+    }
 }
 
 impl Sink for MemSink {
-    ghost use Rattle.sim_store.specs.MemSink.{bytes_told, room_in, faults_of};
+    ghost use Rattle.sim_store.specs.MemSink.{bytes_told, room_in, faults_of, calls_of, failing_of, fails_next_of};
 
     ghost told = { λ sink. Some (bytes_told sink) };
 
     ghost faults = { faults_of };
 
-    /// Takes the whole piece, or fails where that is more than the room that is left. It takes no memory.
+    /// Takes the whole piece, or fails where the call is listed or the piece is more than the room that is left. It takes
+    /// no memory.
     fn write(&mut self, piece: &[u8]) -> Result<usize, Failed>
-        ensures fits { IsOk result ↔ (length (bytes_told self.old) + length piece.now ≤ room_in self.old) }
+        ensures fits { IsOk result ↔ (IsFalse (fails_next_of self.old) × (length (bytes_told self.old) + length piece.now ≤ room_in self.old)) }
+        ensures calls { calls_of self.new ≡ raised 1 (calls_of self.old) }
+        ensures failing { failing_of self.new ≡ failing_of self.old }
         ensures whole { IfOk result (λ count. count ≡ length piece.now) }
         ensures room { room_in self.new ≡ room_in self.old }
         ensures takes { TakesSome result piece.now }
         ensures told { WriteAppends (Some (bytes_told self.old)) (Some (bytes_told self.new)) result piece.now }
         ensures counts { SinkCounts result (faults_of self.old) (faults_of self.new) }
     {
-        if piece.len() > self.room - self.told.len() {
+        if self.calls.count() || piece.len() > self.room - self.told.len() {
             self.faults = one_more(self.faults);
             return Err(Failed);
         }

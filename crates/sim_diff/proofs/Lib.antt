@@ -1,0 +1,6 @@
+pub mod Parts
+pub mod LeastPlace
+pub mod Rising
+pub mod Walk
+pub mod OneSpelling
+pub mod Examples

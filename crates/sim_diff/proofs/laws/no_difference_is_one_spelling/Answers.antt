@@ -1,0 +1,16 @@
+-- From no difference to one spelling, from there to one state, and back.
+use Rattle.sim_diff.proofs.LeastPlace.{difference_of-none}
+use Rattle.sim_diff.proofs.OneSpelling.{same_bits-spelling, spelling-same, same-no_difference}
+use Rattle.sim_diff.proofs.laws.no_difference_is_one_spelling.Goals as goal
+
+pub returns : goal.returns
+returns c = record {
+  spelling = λ setup left right is l r. (
+    λ none. same_bits-spelling setup left right l r (difference_of-none left right none),
+    λ same. same-no_difference left right (spelling-same setup left right is l r same),
+  );
+  state = λ setup left right is l r. (
+    λ none. spelling-same setup left right is l r (same_bits-spelling setup left right l r (difference_of-none left right none)),
+    same-no_difference left right,
+  );
+}

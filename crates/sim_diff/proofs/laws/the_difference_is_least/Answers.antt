@@ -1,0 +1,10 @@
+-- Both ways of both clauses are lemmas.
+use Rattle.std.proofs.Common.{sym}
+use Rattle.sim_diff.proofs.LeastPlace.{difference_of-some, difference_of-none, least-difference_of, same-difference_of}
+use Rattle.sim_diff.proofs.laws.the_difference_is_least.Goals as goal
+
+pub returns : goal.returns
+returns c = record {
+  least = λ left right place. (difference_of-some left right place, λ least. sym (least-difference_of left right place least));
+  none = λ left right. (difference_of-none left right, λ same. sym (same-difference_of left right same));
+}

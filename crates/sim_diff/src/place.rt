@@ -1,0 +1,68 @@
+//! A part of an entity in two states, and the first part of one entity that differs. It stands apart from the walk over
+//! the entities, which knows nothing of parts.
+
+ghost use Rattle.std.specs.Prelude.{◌≡◌, All, map};
+ghost use Rattle.std.specs.List.Sorted.{IsStrictlyIncreasing};
+ghost use Rattle.sim_base.specs.Rows.{id_of};
+ghost use Rattle.sim_sections.specs.Rows.{HasShortWay};
+ghost use Rattle.sim_diff.specs.Difference.{place_at, is_different as is_different_place, difference_in};
+
+use sim_base::State;
+use sim_codec::{Bits, Part, bits_of};
+
+// The parts in their order.
+const PARTS: [Part; 7] = [
+    Part::Clock,
+    Part::Entity,
+    Part::Position,
+    Part::Owner,
+    Part::Health,
+    Part::Motion,
+    Part::Attack,
+];
+
+/// A part of an entity, with its bytes in two states. Entity 1 has the clock, and no other part.
+#[derive(Drop)]
+pub struct Place {
+    pub entity: u32,
+    pub part: Part,
+    pub left: Bits,
+    pub right: Bits,
+}
+
+impl Place {
+    fn of(left: &State, right: &State, entity: u32, part: Part) -> Place
+        requires left_ascending { IsStrictlyIncreasing (map id_of left.now.rows) }
+        requires left_short { All HasShortWay left.now.rows }
+        requires right_ascending { IsStrictlyIncreasing (map id_of right.now.rows) }
+        requires right_short { All HasShortWay right.now.rows }
+        ensures { result ≡ place_at left.now right.now entity part }
+    {
+        Place {
+            entity,
+            part,
+            left: bits_of(left, entity, part),
+            right: bits_of(right, entity, part),
+        }
+    }
+
+    fn is_different(&self) -> bool
+        ensures { result ≡ is_different_place self.now }
+    {
+        self.left.bytes() != self.right.bytes()
+    }
+}
+
+/// The first part of the entity that differs.
+pub fn first_difference(left: &State, right: &State, entity: u32) -> Option<Place>
+    requires left_ascending { IsStrictlyIncreasing (map id_of left.now.rows) }
+    requires left_short { All HasShortWay left.now.rows }
+    requires right_ascending { IsStrictlyIncreasing (map id_of right.now.rows) }
+    requires right_short { All HasShortWay right.now.rows }
+    ensures { result ≡ difference_in left.now right.now entity }
+{
+    PARTS
+        .iter()
+        .map(|part| Place::of(left, right, entity, *part))
+        .find(|place| place.is_different())
+}
