@@ -14,7 +14,7 @@ use Rattle.sim_top.specs.declared.stop.Stop.{Stop}
 use Rattle.sim_top.specs.declared.stop.Stop.TheVariants as stops
 use Rattle.sim_top.specs.Outcome.{IsOutcome}
 use Rattle.sim_top.specs.declared.status.Status.{Status}
-use Rattle.sim_top.specs.declared.status.Status.TheVariants.{Done, Usage, ReadFault, WriteFault, TooLong, MatchRefused, StateRefused, OutOfMemory, NoSuchTurn, NoFile}
+use Rattle.sim_top.specs.declared.status.Status.TheVariants.{Done, Differs, Usage, ReadFault, WriteFault, TooLong, MatchRefused, StateRefused, OutOfMemory, NoSuchTurn, NoFile}
 
 untouched : (before now : Scene) (text : List ℕ) (saved : Option File) → text ≡ [] → saved ≡ None → Appends before.told now.told text → Saves saved before.held now.held → IsUntouched before now
 untouched before now text saved none unsaved told held = record {
@@ -28,6 +28,7 @@ done_meets ReadFault words files text saved before now h told held = untouched b
 done_meets OutOfMemory words files text saved before now h told held = untouched before now text saved h.0 h.1 told held
 done_meets WriteFault words files text saved before now h told held = absurd h
 done_meets Done words files text saved before now h told held = (_, h, refl, record { text = told; files = held })
+done_meets Differs words files text saved before now h told held = (_, h, refl, record { text = told; files = held })
 done_meets Usage words files text saved before now h told held = (_, h, refl, record { text = told; files = held })
 done_meets TooLong words files text saved before now h told held = (_, h, refl, record { text = told; files = held })
 done_meets MatchRefused words files text saved before now h told held = (_, h, refl, record { text = told; files = held })
@@ -44,6 +45,7 @@ untold_meets ReadFault words files text saved before now part h less told held =
 untold_meets OutOfMemory words files text saved before now part h less told held = absurd (none_told part text less h.0)
 untold_meets WriteFault words files text saved before now part h less told held = absurd h
 untold_meets Done words files text saved before now part h less told held = (_, h, inr (record { part = part; less = less; text = told; files = held }))
+untold_meets Differs words files text saved before now part h less told held = (_, h, inr (record { part = part; less = less; text = told; files = held }))
 untold_meets Usage words files text saved before now part h less told held = (_, h, inr (record { part = part; less = less; text = told; files = held }))
 untold_meets TooLong words files text saved before now part h less told held = (_, h, inr (record { part = part; less = less; text = told; files = held }))
 untold_meets MatchRefused words files text saved before now part h less told held = (_, h, inr (record { part = part; less = less; text = told; files = held }))
@@ -60,6 +62,7 @@ unsaved_meets ReadFault words files text saved before now h told held = absurd (
 unsaved_meets OutOfMemory words files text saved before now h told held = absurd (no_part saved before.held now.held h.1 held)
 unsaved_meets WriteFault words files text saved before now h told held = absurd h
 unsaved_meets Done words files text saved before now h told held = (_, h, inl (record { text = told; files = held }))
+unsaved_meets Differs words files text saved before now h told held = (_, h, inl (record { text = told; files = held }))
 unsaved_meets Usage words files text saved before now h told held = (_, h, inl (record { text = told; files = held }))
 unsaved_meets TooLong words files text saved before now h told held = (_, h, inl (record { text = told; files = held }))
 unsaved_meets MatchRefused words files text saved before now h told held = (_, h, inl (record { text = told; files = held }))
@@ -95,6 +98,7 @@ loud_gave ReadFault old new loud h = absurd (loud tt)
 loud_gave OutOfMemory old new loud h = h
 loud_gave WriteFault old new loud h = h
 loud_gave Done old new loud h = h
+loud_gave Differs old new loud h = h
 loud_gave Usage old new loud h = gave_nothing old new h
 loud_gave TooLong old new loud h = absurd (loud tt)
 loud_gave MatchRefused old new loud h = h
@@ -107,6 +111,7 @@ whole_causes ReadFault old new faults now other h same = (h, same)
 whole_causes OutOfMemory old new faults now other h same = (h, same)
 whole_causes WriteFault old new faults now other h same = absurd (other refl)
 whole_causes Done old new faults now other h same = (h, same)
+whole_causes Differs old new faults now other h same = (h, same)
 whole_causes Usage old new faults now other h same = (h, same)
 whole_causes TooLong old new faults now other h same = (h, same)
 whole_causes MatchRefused old new faults now other h same = (h, same)

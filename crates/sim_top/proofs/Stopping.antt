@@ -4,7 +4,7 @@ use Rattle.std.specs.Prelude.{option_map}
 use Rattle.sim_base.specs.declared.setup.Setup.{Setup}
 use Rattle.sim_base.specs.declared.state.State.{State}
 use Rattle.sim_top.specs.Outcome.{Outcome, Then, ThenStored, state_by, printed}
-use Rattle.sim_top.specs.Making.{file_of, outcome_made}
+use Rattle.sim_top.specs.Making.{file_of, outcome_made, Makes}
 use Rattle.sim_top.specs.declared.commands.Answer.{Answer}
 use Rattle.sim_top.specs.declared.commands.Saved.{Saved}
 use Rattle.sim_top.specs.declared.status.Status.{Status}
@@ -56,6 +56,22 @@ state_goes_on setup name state found file next o e s h =
     Then-read found setup (λ s. Then file (λ bytes. ThenStored s name bytes (next s))) o e
     (Then-read file s.bytes (λ bytes. ThenStored setup name bytes (next setup)) o s.read (record { found = Ok state; stored = s.stored; goes_on = h }))
 
+-- the state of a file was read, or it could not be
+pub file_goes_on : (setup : Setup) (name : List ℕ) (state : State) (file : Result (List ℕ) Outcome) (next : State → Outcome → Type 0) (o : Outcome) → IsState setup file state → next state o
+    → Then file (λ bytes. ThenStored setup name bytes next) o
+file_goes_on setup name state file next o s h = Then-read file s.bytes (λ bytes. ThenStored setup name bytes next) o s.read (record { found = Ok state; stored = s.stored; goes_on = h })
+
+pub file_ends : (stop : Stop) (setup : Setup) (name : List ℕ) (file : Result (List ℕ) Outcome) (next : State → Outcome → Type 0) → Stopped stop (Then file (IsRefused setup name))
+    → Stopped stop (Then file (λ bytes. ThenStored setup name bytes next))
+file_ends stop setup name file next h =
+    Stopped-weaker stop (Then file (IsRefused setup name)) (Then file (λ bytes. ThenStored setup name bytes next))
+    (λ o r. Then-weaker file (IsRefused setup name) (λ bytes. ThenStored setup name bytes next) (λ bytes p. refused_ends setup name bytes next p) o r) h
+
+-- what a later part of a command makes is what the whole command makes
+pub Makes-weaker : (made : Result Answer Stop) (P Q : Outcome → Type 0) → ((o : Outcome) → P o → Q o) → Makes made P → Makes made Q
+Makes-weaker (Ok answer) P Q f h = f (outcome_made answer) h
+Makes-weaker (Err stop) P Q f h = Stopped-weaker stop P Q f h
+
 -- ---- where the shelf tells its files
 
 pub Told : {X : Type 0} (P Q : X → Type 0) (held : Option X) → ((x : X) → P x → Q x) → IfSome held P → IfSome held Q
@@ -65,6 +81,10 @@ Told P Q (Some x) f h = f x h
 pub Told-both : {X : Type 0} (P Q R : X → Type 0) (held : Option X) → ((x : X) → P x → Q x → R x) → IfSome held P → IfSome held Q → IfSome held R
 Told-both P Q R None f h k = tt
 Told-both P Q R (Some x) f h k = f x h k
+
+pub Told-all : {X : Type 0} (P Q R S : X → Type 0) (held : Option X) → ((x : X) → P x → Q x → R x → S x) → IfSome held P → IfSome held Q → IfSome held R → IfSome held S
+Told-all P Q R S None f h k l = tt
+Told-all P Q R S (Some x) f h k l = f x h k l
 
 -- ---- what is made
 

@@ -9,7 +9,7 @@ use Rattle.sim_store.specs.declared.counts.Counts.{Counts}
 use Rattle.sim_store.specs.declared.read.TheConstants.{MAX_FILE}
 use Rattle.sim_top.specs.Outcome.{Outcome, IsOutcome}
 use Rattle.sim_top.specs.declared.status.Status.{Status}
-use Rattle.sim_top.specs.declared.status.Status.TheVariants.{Done, Usage, ReadFault, WriteFault, TooLong, MatchRefused, StateRefused, OutOfMemory, NoSuchTurn, NoFile}
+use Rattle.sim_top.specs.declared.status.Status.TheVariants.{Done, Differs, Usage, ReadFault, WriteFault, TooLong, MatchRefused, StateRefused, OutOfMemory, NoSuchTurn, NoFile}
 
 -- what the shelf holds and the sink was told, where they tell it
 pub record Scene : Type 0 where
@@ -104,6 +104,7 @@ IsSilent other = ⊥
 -- what the process ends with
 abbrev pub status_number : Status → ℕ
 status_number Done = 0
+status_number Differs = 1
 status_number Usage = 2
 status_number ReadFault = 3
 status_number WriteFault = 4

@@ -10,7 +10,7 @@ use Rattle.sim_store.specs.declared.fault.StoreFault.TheVariants as store
 use Rattle.sim_top.specs.Outcome.{Outcome, IsOutcome}
 use Rattle.sim_top.specs.Answers.{Saves, SavesPart}
 use Rattle.sim_top.specs.declared.status.Status.{Status}
-use Rattle.sim_top.specs.declared.status.Status.TheVariants.{Done, ReadFault, WriteFault, OutOfMemory}
+use Rattle.sim_top.specs.declared.status.Status.TheVariants.{Done, Differs, ReadFault, WriteFault, OutOfMemory}
 use Rattle.sim_top.specs.Stops.{Stopped}
 use Rattle.sim_top.specs.declared.stop.Stop.{Stop}
 use Rattle.sim_top.specs.declared.commands.Saved.{Saved}
@@ -39,6 +39,13 @@ MeetsBefore ReadFault words files text saved = (text ≡ []) × (saved ≡ None)
 MeetsBefore OutOfMemory words files text saved = (text ≡ []) × (saved ≡ None)
 MeetsBefore WriteFault words files text saved = ⊥
 MeetsBefore status words files text saved = IsOutcome words files (record { status = status; text = text; saved = saved })
+
+-- a command that has its text ends as done; or, where nothing is saved, as one that found a difference
+abbrev pub IsFinished : Option Saved → Status → Type 0
+IsFinished saved Done = Unit {0}
+IsFinished None Differs = Unit {0}
+IsFinished (Some saved) Differs = ⊥
+IsFinished saved other = ⊥
 
 -- a file is saved only where all was done
 abbrev pub SavesIfDone : Option Saved → Status → Type 0

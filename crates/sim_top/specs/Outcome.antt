@@ -1,6 +1,6 @@
 -- What the words ask for: a status, a text and perhaps a file that is saved, by the files that are held. A stored state is
 -- the one that its bytes stand for, or the first cause for which they stand for none.
-use Rattle.std.specs.Prelude.{◌≡◌, ℕ, nat_lt, List, [], length, Option, Some, None, Result, Ok, Err, if◌then◌else◌}
+use Rattle.std.specs.Prelude.{◌≡◌, ℕ, nat_lt, List, [], length, codes, Option, Some, None, Result, Ok, Err, if◌then◌else◌}
 use Rattle.sim_base.specs.declared.setup.Setup.{Setup}
 use Rattle.sim_base.specs.declared.state.State.{State}
 use Rattle.sim_base.specs.Turn.{after, own_turns}
@@ -18,10 +18,13 @@ use Rattle.sim_report.specs.declared.refusal.Refusal.TheVariants.{Match, Turn}
 use Rattle.sim_report.specs.Lines.{usage_text, saved_line}
 use Rattle.sim_report.specs.Refusals.{refusal_text, stored_text}
 use Rattle.sim_report.specs.Show.{show_text}
-use Rattle.sim_top.specs.Words.{Asked, to_play, to_store, to_resume, to_show, asked_by}
+use Rattle.sim_report.specs.Places.{place_text}
+use Rattle.sim_diff.specs.Difference.{difference_of}
+use Rattle.sim_diff.specs.declared.place.Place.{Place}
+use Rattle.sim_top.specs.Words.{Asked, to_play, to_store, to_resume, to_show, to_compare, asked_by}
 use Rattle.sim_top.specs.Lines.{play_text, resume_text}
 use Rattle.sim_top.specs.declared.status.Status.{Status}
-use Rattle.sim_top.specs.declared.status.Status.TheVariants.{Done, Usage, ReadFault, TooLong, MatchRefused, StateRefused, NoSuchTurn, NoFile}
+use Rattle.sim_top.specs.declared.status.Status.TheVariants.{Done, Differs, Usage, ReadFault, TooLong, MatchRefused, StateRefused, NoSuchTurn, NoFile}
 
 pub record Outcome : Type 0 where
   pub status : Status
@@ -98,6 +101,16 @@ store_outcome setup turn out =
     if nat_lt setup.turns turn then printed NoSuchTurn (refusal_text (Turn turn setup.turns))
     else stored_at setup turn out (after setup (own_turns setup 0 turn))
 
+-- the least place at which two states differ, or that they are the same
+abbrev pub compare_by : Option Place → Outcome
+compare_by None = printed Done (codes "same\n")
+compare_by (Some place) = printed Differs (place_text place)
+
+-- the outcome of comparing a state with the one that the bytes of a file stand for
+abbrev pub IsCompared : Setup → List ℕ → State → Result (List ℕ) Outcome → Outcome → Type 0
+IsCompared setup name state file wanted =
+    Then file (λ bytes. ThenStored setup name bytes (λ other wanted. wanted ≡ compare_by (difference_of state other))) wanted
+
 -- an outcome of what is asked for
 abbrev pub IsOutcomeOf : List File → Option Asked → Outcome → Type 0
 IsOutcomeOf files None wanted = wanted ≡ printed Usage usage_text
@@ -107,6 +120,8 @@ IsOutcomeOf files (Some (to_resume game name)) wanted =
     Then (match_in files game) (λ setup. Then (bytes_in files name) (λ bytes. ThenStored setup name bytes (λ state wanted. wanted ≡ printed Done (resume_text setup state)))) wanted
 IsOutcomeOf files (Some (to_show game name)) wanted =
     Then (match_in files game) (λ setup. Then (bytes_in files name) (λ bytes. ThenStored setup name bytes (λ state wanted. wanted ≡ printed Done (show_text setup state)))) wanted
+IsOutcomeOf files (Some (to_compare game left right)) wanted =
+    Then (match_in files game) (λ setup. Then (bytes_in files left) (λ bytes. ThenStored setup left bytes (λ state. IsCompared setup right state (bytes_in files right)))) wanted
 
 -- the outcome of the words over the held files
 abbrev pub IsOutcome : List (List ℕ) → List File → Outcome → Type 0

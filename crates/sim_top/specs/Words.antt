@@ -4,14 +4,16 @@ use Rattle.std.specs.declared.alloc.Global.{Global}
 use Rattle.std.specs.Str.{bytes_eq}
 use Rattle.sim_base.specs.NumberText.{is_digit}
 use Rattle.sim_top.specs.declared.words.Request.{Request}
-use Rattle.sim_top.specs.declared.words.Request.TheVariants.{Play, State, Resume, Show}
+use Rattle.sim_top.specs.declared.words.Request.TheVariants.{Play, State, Resume, Show, Compare}
 
--- what is asked for: to play a match; to store the state of a turn of it in a file; to play on from a stored state; to show one
+-- what is asked for: to play a match; to store the state of a turn of it in a file; to play on from a stored state; to show one;
+-- to compare two
 pub data Asked : Type 0 where
   to_play : List ℕ → Asked
   to_store : List ℕ → ℕ → List ℕ → Asked
   to_resume : List ℕ → List ℕ → Asked
   to_show : List ℕ → List ℕ → Asked
+  to_compare : List ℕ → List ℕ → List ℕ → Asked
 
 -- the request of the code, with its names as bytes
 abbrev pub asked : Request → Asked
@@ -19,6 +21,7 @@ asked (Play game) = to_play game.now
 asked (State game turn out) = to_store game.now turn out.now
 asked (Resume game stored) = to_resume game.now stored.now
 asked (Show game stored) = to_show game.now stored.now
+asked (Compare game left right) = to_compare game.now left.now right.now
 
 -- the words as bytes
 abbrev pub words_of : List (String Global) → List (List ℕ)
@@ -41,7 +44,9 @@ asked_of_two command game stored =
     if bytes_eq command (codes "resume") then Some (to_resume game stored) else if bytes_eq command (codes "show") then Some (to_show game stored) else None
 
 abbrev pub asked_of_three : List ℕ → List ℕ → List ℕ → List ℕ → Option Asked
-asked_of_three command game turn out = if bytes_eq command (codes "state") then option_map (λ n. to_store game n out) (turn_in turn) else None
+asked_of_three command game b c =
+    if bytes_eq command (codes "state") then option_map (λ n. to_store game n c) (turn_in b)
+    else if bytes_eq command (codes "compare") then Some (to_compare game b c) else None
 
 -- what the words ask for, if they are in the table of commands
 abbrev pub asked_by : List (List ℕ) → Option Asked
@@ -57,3 +62,4 @@ out_of (Some (to_play game)) = None
 out_of (Some (to_store game turn out)) = Some out
 out_of (Some (to_resume game stored)) = None
 out_of (Some (to_show game stored)) = None
+out_of (Some (to_compare game left right)) = None

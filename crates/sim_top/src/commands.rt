@@ -8,12 +8,13 @@ ghost use Rattle.sim_base.specs.Spelling.{spelling, digest as digest_of};
 ghost use Rattle.sim_report.specs.Lines.{saved_line};
 ghost use Rattle.sim_report.specs.Show.{show_text as text_of_show};
 ghost use Rattle.sim_setup.specs.Posts.{IsOfPosts};
-ghost use Rattle.sim_top.specs.Words.{to_play, to_store, to_resume, to_show, asked, out_of};
+ghost use Rattle.sim_top.specs.Words.{to_play, to_store, to_resume, to_show, to_compare, asked, out_of};
 ghost use Rattle.sim_top.specs.Lines.{play_text as text_of_play, resume_text as text_of_resume};
-ghost use Rattle.sim_top.specs.Outcome.{IsOutcomeOf};
+ghost use Rattle.sim_diff.specs.Difference.{difference_of};
+ghost use Rattle.sim_top.specs.Outcome.{IsOutcomeOf, bytes_in, compare_by, IsCompared};
 ghost use Rattle.sim_top.specs.Quiet.{AreQuiet};
 ghost use Rattle.sim_top.specs.Stops.{CausesOf};
-ghost use Rattle.sim_top.specs.Making.{Makes, IsSavedAs};
+ghost use Rattle.sim_top.specs.Making.{Makes, IsSavedAs, IsFinished, outcome_made};
 
 use crate::inputs::{read_match, read_state};
 use crate::play::{push_turns, state_at};
@@ -23,7 +24,8 @@ use crate::stop::Stop;
 use crate::words::Request;
 use sim_base::{OutOfMemory, Setup, State};
 use sim_codec::{digest, spell};
-use sim_report::{push_saved, push_show};
+use sim_diff::difference;
+use sim_report::{push_place, push_saved, push_show};
 use sim_store::Shelf;
 use std::alloc::Global;
 
@@ -50,7 +52,7 @@ pub fn answer_to<'w, S: Shelf>(
 ) -> Result<Answer<'w>, Stop<'w>>
     ensures answers { IfSome (S.held shelf.old) (λ files. Makes result (IsOutcomeOf files (Some (asked request.entry)))) }
     ensures saved { IfOk result (λ answer. IsSavedAs (out_of (Some (asked request.entry))) answer.saved) }
-    ensures done { IfOk result (λ answer. answer.status ≡ Status.Done) }
+    ensures done { IfOk result (λ answer. IsFinished answer.saved answer.status) }
     ensures causes { CausesOf result (S.counts shelf.old) (S.counts shelf.new) }
     ensures held { S.held shelf.new ≡ S.held shelf.old }
 {
@@ -59,13 +61,14 @@ pub fn answer_to<'w, S: Shelf>(
         Request::State { game, turn, out } => store(alloc, shelf, game, turn, out),
         Request::Resume { game, stored } => resume(alloc, shelf, game, stored),
         Request::Show { game, stored } => show(alloc, shelf, game, stored),
+        Request::Compare { game, left, right } => compare(alloc, shelf, game, left, right),
     }
 }
 
 fn play<'w, S: Shelf>(alloc: Global, shelf: &mut S, game: &'w str) -> Result<Answer<'w>, Stop<'w>>
     ensures answers { IfSome (S.held shelf.old) (λ files. Makes result (IsOutcomeOf files (Some (to_play game.now)))) }
     ensures saved { IfOk result (λ answer. answer.saved ≡ None) }
-    ensures done { IfOk result (λ answer. answer.status ≡ Status.Done) }
+    ensures done { IfOk result (λ answer. IsFinished answer.saved answer.status) }
     ensures causes { CausesOf result (S.counts shelf.old) (S.counts shelf.new) }
     ensures held { S.held shelf.new ≡ S.held shelf.old }
 {
@@ -83,7 +86,7 @@ fn store<'w, S: Shelf>(
 ) -> Result<Answer<'w>, Stop<'w>>
     ensures answers { IfSome (S.held shelf.old) (λ files. Makes result (IsOutcomeOf files (Some (to_store game.now turn out.now)))) }
     ensures saved { IfOk result (λ answer. IsSavedAs (Some out.now) answer.saved) }
-    ensures done { IfOk result (λ answer. answer.status ≡ Status.Done) }
+    ensures done { IfOk result (λ answer. IsFinished answer.saved answer.status) }
     ensures causes { CausesOf result (S.counts shelf.old) (S.counts shelf.new) }
     ensures held { S.held shelf.new ≡ S.held shelf.old }
 {
@@ -111,7 +114,7 @@ fn resume<'w, S: Shelf>(
 ) -> Result<Answer<'w>, Stop<'w>>
     ensures answers { IfSome (S.held shelf.old) (λ files. Makes result (IsOutcomeOf files (Some (to_resume game.now name.now)))) }
     ensures saved { IfOk result (λ answer. answer.saved ≡ None) }
-    ensures done { IfOk result (λ answer. answer.status ≡ Status.Done) }
+    ensures done { IfOk result (λ answer. IsFinished answer.saved answer.status) }
     ensures causes { CausesOf result (S.counts shelf.old) (S.counts shelf.new) }
     ensures held { S.held shelf.new ≡ S.held shelf.old }
 {
@@ -130,7 +133,7 @@ fn show<'w, S: Shelf>(
 ) -> Result<Answer<'w>, Stop<'w>>
     ensures answers { IfSome (S.held shelf.old) (λ files. Makes result (IsOutcomeOf files (Some (to_show game.now name.now)))) }
     ensures saved { IfOk result (λ answer. answer.saved ≡ None) }
-    ensures done { IfOk result (λ answer. answer.status ≡ Status.Done) }
+    ensures done { IfOk result (λ answer. IsFinished answer.saved answer.status) }
     ensures causes { CausesOf result (S.counts shelf.old) (S.counts shelf.new) }
     ensures held { S.held shelf.new ≡ S.held shelf.old }
 {
@@ -138,6 +141,78 @@ fn show<'w, S: Shelf>(
     match read_state(alloc, shelf, &setup, name) {
         Ok(state) => Ok(printed(show_text(alloc, &setup, &state)?)),
         Err(stop) => Err(stop),
+    }
+}
+
+fn compare<'w, S: Shelf>(
+    alloc: Global,
+    shelf: &mut S,
+    game: &'w str,
+    left: &'w str,
+    right: &'w str,
+) -> Result<Answer<'w>, Stop<'w>>
+    ensures answers { IfSome (S.held shelf.old) (λ files. Makes result (IsOutcomeOf files (Some (to_compare game.now left.now right.now)))) }
+    ensures saved { IfOk result (λ answer. answer.saved ≡ None) }
+    ensures done { IfOk result (λ answer. IsFinished answer.saved answer.status) }
+    ensures causes { CausesOf result (S.counts shelf.old) (S.counts shelf.new) }
+    ensures held { S.held shelf.new ≡ S.held shelf.old }
+{
+    let setup = read_match(alloc, shelf, game)?;
+    match read_state(alloc, shelf, &setup, left) {
+        Ok(state) => compare_with(alloc, shelf, &setup, &state, right),
+        Err(stop) => Err(stop),
+    }
+}
+
+// Compares a state with the one that is stored in a file.
+fn compare_with<'w, S: Shelf>(
+    alloc: Global,
+    shelf: &mut S,
+    setup: &Setup,
+    state: &State,
+    name: &'w str,
+) -> Result<Answer<'w>, Stop<'w>>
+    requires limits { IsSetup setup.now }
+    requires valid { IsValid setup.now state.now }
+    ensures answers { IfSome (S.held shelf.old) (λ files. Makes result (IsCompared setup.now name.now state.now (bytes_in files name.now))) }
+    ensures saved { IfOk result (λ answer. answer.saved ≡ None) }
+    ensures done { IfOk result (λ answer. IsFinished answer.saved answer.status) }
+    ensures causes { CausesOf result (S.counts shelf.old) (S.counts shelf.new) }
+    ensures held { S.held shelf.new ≡ S.held shelf.old }
+{
+    match read_state(alloc, shelf, setup, name) {
+        Ok(other) => Ok(compared(alloc, setup, state, &other)?),
+        Err(stop) => Err(stop),
+    }
+}
+
+// The place at which two states differ, or that they are the same.
+fn compared<'w>(
+    alloc: Global,
+    setup: &Setup,
+    left: &State,
+    right: &State,
+) -> Result<Answer<'w>, OutOfMemory>
+    requires left { IsValid setup.now left.now }
+    requires right { IsValid setup.now right.now }
+    ensures made { IfOk result (λ answer. outcome_made answer ≡ compare_by (difference_of left.now right.now)) }
+    ensures saved { IfOk result (λ answer. answer.saved ≡ None) }
+    ensures done { IfOk result (λ answer. IsFinished answer.saved answer.status) }
+{
+    let mut text = String::new(alloc);
+    match difference(left, right) {
+        None => {
+            text.push_str("same\n")?;
+            Ok(printed(text))
+        }
+        Some(place) => {
+            push_place(alloc, &place, &mut text)?;
+            Ok(Answer {
+                status: Status::Differs,
+                text,
+                saved: None,
+            })
+        }
     }
 }
 

@@ -8,6 +8,8 @@ ghost use Rattle.sim_top.specs.Answers.{status_number};
 pub enum Status {
     /// All was done.
     Done,
+    /// All was done, and the two states that were compared differ.
+    Differs,
     /// The words are none of a command.
     Usage,
     /// A file could not be read.
@@ -35,6 +37,7 @@ impl Status {
     {
         match self {
             Status::Done => 0,
+            Status::Differs => 1,
             Status::Usage => 2,
             Status::ReadFault => 3,
             Status::WriteFault => 4,

@@ -26,6 +26,12 @@ pub enum Request<'w> {
         game: &'w str,
         stored: &'w str,
     },
+    /// To compare two stored states of a match.
+    Compare {
+        game: &'w str,
+        left: &'w str,
+        right: &'w str,
+    },
 }
 
 /// The request of the words, if they make one.
@@ -66,14 +72,21 @@ fn request_of_two<'w>(command: &str, game: &'w str, stored: &'w str) -> Option<R
 fn request_of_three<'w>(
     command: &str,
     game: &'w str,
-    turn: &str,
-    out: &'w str,
+    b: &'w str,
+    c: &'w str,
 ) -> Option<Request<'w>>
-    ensures { option_map asked result ≡ asked_of_three command.now game.now turn.now out.now }
+    ensures { option_map asked result ≡ asked_of_three command.now game.now b.now c.now }
 {
     if command == "state" {
-        let turn = turn_of(turn)?;
-        return Some(Request::State { game, turn, out });
+        let turn = turn_of(b)?;
+        return Some(Request::State { game, turn, out: c });
+    }
+    if command == "compare" {
+        return Some(Request::Compare {
+            game,
+            left: b,
+            right: c,
+        });
     }
     None
 }
