@@ -81,12 +81,17 @@ fn ran_beside(
         shelf.put("s", bytes)?;
     }
     let mut out = MemSink::new(alloc, room)?;
+    let words = owned(alloc, words)?;
+    let status = run(alloc, &words, &mut shelf, &mut out);
+    Ok((status, shelf, out))
+}
+
+fn owned(alloc: Global, words: &[&str]) -> Result<Vec<String>, Fail> {
     let mut owned = Vec::new(alloc);
     for word in words {
         owned.push(String::from_str(alloc, word)?)?;
     }
-    let status = run(alloc, &owned, &mut shelf, &mut out);
-    Ok((status, shelf, out))
+    Ok(owned)
 }
 
 #[test]
@@ -195,15 +200,12 @@ fn damaged_states_are_refused(rt: HostRuntime) -> Result<(), Fail> {
 
 #[test]
 fn a_file_without_room_is_saved_in_part(rt: HostRuntime) -> Result<(), Fail> {
-    let mut owned = Vec::new(rt.alloc());
-    for word in ["state", "m", "1", "s"] {
-        owned.push(String::from_str(rt.alloc(), word)?)?;
-    }
+    let words = owned(rt.alloc(), &["state", "m", "1", "s"])?;
     let mut shelf = MemShelf::new(rt.alloc(), 100)?;
     shelf.put("m", POSTS.as_bytes())?;
     let mut out = MemSink::new(rt.alloc(), 100)?;
     assert_eq!(rt;
-        run(rt.alloc(), &owned, &mut shelf, &mut out),
+        run(rt.alloc(), &words, &mut shelf, &mut out),
         Status::WriteFault
     );
     assert!(rt; out.told().is_empty());
@@ -255,10 +257,157 @@ fn a_file_may_not_be_longer_than_the_limit(rt: HostRuntime) -> Result<(), Fail> 
     Ok(())
 }
 
+// Four posts of one player.
+const FOUR: &str =
+    "{\"size\":[4,4],\"closed\":[],\"players\":[[]],\"cap\":0,\"delay\":1,\"turns\":2,\"seed\":0,\"templates\":[{\"@name\":\"post\",\"Health\":{\"Max\":50}}],\"entities\":[[\"post\",1,0,0],[\"post\",1,1,1],[\"post\",1,2,2],[\"post\",1,3,3]],\"commands\":[]}";
+
+// Their state at turn 0, and one without the last of them, with the id of the next new entity as it was.
+const WITH_FOUR: [u8; 194] = [
+    82, 83, 73, 77, 1, 0, 0, 0, 81, 138, 24, 254, 116, 139, 181, 114, 201, 43, 152, 82, 140, 38,
+    226, 36, 0, 0, 0, 0, 6, 0, 0, 0, 0, 0, 0, 0, 0, 0, 0, 0, 1, 4, 0, 0, 0, 2, 0, 0, 0, 0, 0, 3, 0,
+    0, 0, 0, 0, 4, 0, 0, 0, 0, 0, 5, 0, 0, 0, 0, 0, 2, 4, 0, 0, 0, 2, 0, 0, 0, 0, 0, 0, 0, 0, 0, 0,
+    0, 3, 0, 0, 0, 0, 0, 1, 0, 0, 0, 1, 0, 4, 0, 0, 0, 0, 0, 2, 0, 0, 0, 2, 0, 5, 0, 0, 0, 0, 0, 3,
+    0, 0, 0, 3, 0, 3, 4, 0, 0, 0, 2, 0, 0, 0, 1, 3, 0, 0, 0, 1, 4, 0, 0, 0, 1, 5, 0, 0, 0, 1, 4, 4,
+    0, 0, 0, 2, 0, 0, 0, 0, 0, 50, 0, 3, 0, 0, 0, 0, 0, 50, 0, 4, 0, 0, 0, 0, 0, 50, 0, 5, 0, 0, 0,
+    0, 0, 50, 0, 5, 0, 0, 0, 0, 6, 0, 0, 0, 0,
+];
+
+const WITH_THREE: [u8; 163] = [
+    82, 83, 73, 77, 1, 0, 0, 0, 81, 138, 24, 254, 116, 139, 181, 114, 201, 43, 152, 82, 140, 38,
+    226, 36, 0, 0, 0, 0, 6, 0, 0, 0, 0, 0, 0, 0, 0, 0, 0, 0, 1, 3, 0, 0, 0, 2, 0, 0, 0, 0, 0, 3, 0,
+    0, 0, 0, 0, 4, 0, 0, 0, 0, 0, 2, 3, 0, 0, 0, 2, 0, 0, 0, 0, 0, 0, 0, 0, 0, 0, 0, 3, 0, 0, 0, 0,
+    0, 1, 0, 0, 0, 1, 0, 4, 0, 0, 0, 0, 0, 2, 0, 0, 0, 2, 0, 3, 3, 0, 0, 0, 2, 0, 0, 0, 1, 3, 0, 0,
+    0, 1, 4, 0, 0, 0, 1, 4, 3, 0, 0, 0, 2, 0, 0, 0, 0, 0, 50, 0, 3, 0, 0, 0, 0, 0, 50, 0, 4, 0, 0,
+    0, 0, 0, 50, 0, 5, 0, 0, 0, 0, 6, 0, 0, 0, 0,
+];
+
+// The states of a match, A and B, compared.
+fn compared(alloc: Global, a: &[u8], b: &[u8]) -> Result<(Status, MemSink), Fail> {
+    let mut shelf = MemShelf::new(alloc, 0)?;
+    shelf.put("m", FOUR.as_bytes())?;
+    shelf.put("a", a)?;
+    shelf.put("b", b)?;
+    let mut out = MemSink::new(alloc, 200)?;
+    let words = owned(alloc, &["compare", "m", "a", "b"])?;
+    let status = run(alloc, &words, &mut shelf, &mut out);
+    Ok((status, out))
+}
+
+#[test]
+fn the_first_difference_of_two_states_is_named(rt: HostRuntime) -> Result<(), Fail> {
+    let mut other_word = WITH_FOUR.to_vec(rt.alloc())?;
+    other_word[32] = 11;
+    let mut cut = WITH_FOUR.to_vec(rt.alloc())?;
+    let _ = cut.pop();
+    let cases: [(&[u8], &[u8], Status, &str); 6] = [
+        (&WITH_FOUR, &WITH_FOUR, Status::Done, "same\n"),
+        (
+            &WITH_FOUR,
+            &WITH_THREE,
+            Status::Differs,
+            "differ entity 5 part Entity\nleft 050000000000\nright absent\n",
+        ),
+        (
+            &WITH_THREE,
+            &WITH_FOUR,
+            Status::Differs,
+            "differ entity 5 part Entity\nleft absent\nright 050000000000\n",
+        ),
+        (
+            &other_word,
+            &WITH_THREE,
+            Status::Differs,
+            "differ entity 1 part Clock\nleft 00000000060000000b00000000000000\nright 00000000060000000000000000000000\n",
+        ),
+        (&cut, &cut, Status::StateRefused, "state refused 3 a\n"),
+        (
+            &WITH_FOUR,
+            &cut,
+            Status::StateRefused,
+            "state refused 3 b\n",
+        ),
+    ];
+    for (a, b, status, text) in cases {
+        let (ended, out) = compared(rt.alloc(), a, b)?;
+        assert_eq!(rt; ended, status, "for {text}");
+        assert_eq!(rt; out.told(), text.as_bytes(), "for {text}");
+    }
+    Ok(())
+}
+
+// Runs the words over the files of FOUR, where one call of the shelf and one write of the sink may be listed to fail.
+fn ran_failing(
+    alloc: Global,
+    words: &[&str],
+    call: u64,
+    write: u64,
+) -> Result<(Status, MemShelf, MemSink), Fail> {
+    let mut shelf = MemShelf::new(alloc, 200)?;
+    shelf.put("m", FOUR.as_bytes())?;
+    shelf.put("a", &WITH_FOUR)?;
+    shelf.put("b", &WITH_FOUR)?;
+    shelf.fail_at(call)?;
+    let mut out = MemSink::new(alloc, 500)?;
+    out.fail_at(write)?;
+    let words = owned(alloc, words)?;
+    let status = run(alloc, &words, &mut shelf, &mut out);
+    Ok((status, shelf, out))
+}
+
+const COMMANDS: [&[&str]; 5] = [
+    &["play", "m"],
+    &["state", "m", "0", "s"],
+    &["resume", "m", "a"],
+    &["show", "m", "a"],
+    &["compare", "m", "a", "b"],
+];
+
+#[test]
+fn every_call_of_the_shelf_may_fail(rt: HostRuntime) -> Result<(), Fail> {
+    for words in COMMANDS {
+        let (done, healthy, _) = ran_failing(rt.alloc(), words, 0, 0)?;
+        assert_eq!(rt; done, Status::Done, "for {words:?}");
+        for call in 1..=healthy.calls() {
+            let (ended, shelf, out) = ran_failing(rt.alloc(), words, call, 0)?;
+            let is_fault = ended == Status::ReadFault || ended == Status::WriteFault;
+            assert!(rt; is_fault, "for {words:?} at call {call}");
+            assert!(rt; out.told().is_empty(), "for {words:?} at call {call}");
+            assert_eq!(rt; shelf.held("m"), Some(FOUR.as_bytes()));
+            assert_eq!(rt; shelf.held("a"), Some(WITH_FOUR.as_slice()));
+            if let Some(part) = shelf.held("s") {
+                assert!(rt; WITH_FOUR.starts_with(part), "for {words:?} at call {call}");
+            }
+        }
+    }
+    Ok(())
+}
+
+#[test]
+fn every_write_of_the_sink_may_fail(rt: HostRuntime) -> Result<(), Fail> {
+    for words in COMMANDS {
+        let (done, _, whole) = ran_failing(rt.alloc(), words, 0, 0)?;
+        assert_eq!(rt; done, Status::Done, "for {words:?}");
+        assert!(rt; 0 < whole.calls(), "for {words:?}");
+        for write in 1..=whole.calls() {
+            let (ended, shelf, out) = ran_failing(rt.alloc(), words, 0, write)?;
+            assert_eq!(rt; ended, Status::WriteFault, "for {words:?} at write {write}");
+            assert!(rt;
+                whole.told().starts_with(out.told()),
+                "for {words:?} at write {write}"
+            );
+            if let Some(saved) = shelf.held("s") {
+                assert_eq!(rt; saved, WITH_FOUR.as_slice());
+            }
+        }
+    }
+    Ok(())
+}
+
 #[test]
 fn statuses_have_their_numbers(rt: HostRuntime) {
     let numbers = [
         (Status::Done, 0),
+        (Status::Differs, 1),
         (Status::Usage, 2),
         (Status::ReadFault, 3),
         (Status::WriteFault, 4),

@@ -69,12 +69,7 @@ fn request_of_two<'w>(command: &str, game: &'w str, stored: &'w str) -> Option<R
     None
 }
 
-fn request_of_three<'w>(
-    command: &str,
-    game: &'w str,
-    b: &'w str,
-    c: &'w str,
-) -> Option<Request<'w>>
+fn request_of_three<'w>(command: &str, game: &'w str, b: &'w str, c: &'w str) -> Option<Request<'w>>
     ensures { option_map asked result ≡ asked_of_three command.now game.now b.now c.now }
 {
     if command == "state" {

@@ -24,7 +24,7 @@ returns-in-Ok-clause-answers g c =
     Told-all (λ files. match_in files game ≡ Ok setup) (λ files. ReadsState (Ok state) setup left (bytes_in files left)) (λ files. Makes made (compared files right setup state))
     (λ files. Makes made (IsOutcomeOf files (Some (to_compare game left right)))) _
     (λ files e s m. Makes-weaker made (compared files right setup state) (IsOutcomeOf files (Some (to_compare game left right)))
-        (λ o h. state_goes_on setup left state (match_in files game) (bytes_in files left) (compared files right) o e s h) m)
+    (λ o h. state_goes_on setup left state (match_in files game) (bytes_in files left) (compared files right) o e s h) m)
     c.in_ok-setup.ensures.tells
     (subst (λ (held : Option (List File)). IfSome held (λ files. ReadsState (Ok state) setup left (bytes_in files left))) c.read_match.ensures.held c.in-Ok.ensures.tells)
     (subst (λ (held : Option (List File)). IfSome held (λ files. Makes made (compared files right setup state))) (c.in-Ok.ensures.held ∙ c.read_match.ensures.held) c.compare_with.ensures.answers)
