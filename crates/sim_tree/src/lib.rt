@@ -1,0 +1,16 @@
+//! Trees of values by name, in which a match file describes its templates.
+//!
+//! It stands on `sim_base` for names, numbers and want of memory, and on `sim_json` and `serde_json` for what is read.
+//!
+//! - `text`: a text that contracts see as its bytes.
+//! - `tree`: the tree.
+//! - `source`: a template as it is described.
+#![tactic(auto)]
+
+mod source;
+mod text;
+mod tree;
+
+pub use source::Source;
+pub use text::Text;
+pub use tree::{Child, Tree, TreeMark};
