@@ -1,3 +1,4 @@
 pub mod Heights
 pub mod Ascends
 pub mod Forms
+pub mod Levels

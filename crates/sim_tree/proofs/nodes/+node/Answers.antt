@@ -1,10 +1,9 @@
-use Rattle.std.proofs.Common.{◌≡◌, ◌++◌, ◌∷◌, [], true, string_bytes, rules, append_assoc, append-nil, List, ℕ, sym, ap, ◌∙◌, subst, map}
+use Rattle.std.proofs.Common.{◌≡◌, ◌++◌, [], true, string_bytes, rules, append-nil, List, ℕ, ap, ◌∙◌, subst, map}
 use Rattle.serde_json.specs.View.{view, members_view}
-use Rattle.serde_json.specs.Data.{member}
 use Rattle.sim_tree.specs.Trees.{named_of, node_of}
 use Rattle.sim_tree.specs.Nodes.{node_in, named_in, is_child_key, is_node}
 use Rattle.sim_tree.proofs.Ascends.{keys_in, name_of, ascends, sorted_ascends, ascends_skip, ascends-more, all_sound-push, sound_children}
-use Rattle.sim_tree.proofs.Forms.{kind_ok}
+use Rattle.sim_tree.proofs.Forms.{kind_ok, named-more}
 use Rattle.sim_tree.proofs.nodes.+node.Goals as goal
 
 pub read_children-loop-key-init : goal.read_children-loop-key-init
@@ -23,13 +22,11 @@ read_children-loop-key-preserved-in-Continue-branch-4 t c =
     let d = view c.in-Some.value.now in
     let old = map named_of l.found.items in
     let new = map named_of c.push_child.new.children.items in
-    let rest = named_in (members_view c.next.new.self) in
     let named : c.in-Some-2.name ≡ key = search rules in
     let child : is_child_key key ≡ true = search rules in
     let read = kind_ok (is_node d) (node_in d) (node_of c.in_ok-tree.tree) c.in_ok-tree.ensures.tree in
     let added = c.in_ok-push_child.ensures in
-    let more : old ++ named_in (member key d (members_view c.next.new.self)) ≡ new ++ rest =
-    rw (child, added, named, ← read.1) (sym (append_assoc old ((key, node_in d) ∷ []) rest)) in
+    let more = named-more old new c.in-Some-2.name key (node_of c.in_ok-tree.tree) d (members_view c.next.new.self) child added named read.1 in
     record {
       fit = search rules;
       order = ascends-more old new (c.in-Some-2.name, node_of c.in_ok-tree.tree) key (keys_in c.next.new.self) added named here;
