@@ -2,3 +2,4 @@ pub mod Heights
 pub mod Ascends
 pub mod Forms
 pub mod Levels
+pub mod Steps

@@ -11,6 +11,7 @@
 mod fault;
 mod leaves;
 mod nodes;
+mod paths;
 mod read;
 mod source;
 mod text;
