@@ -1,0 +1,5 @@
+pub mod Meets
+pub mod Table
+pub mod Fields
+pub mod Units
+pub mod Parts
