@@ -50,13 +50,13 @@ pub record Entry : Type 0 where
   pub mark : Option TreeMark
 
 abbrev pub value_of : Node → Option (List ℕ)
-value_of (node value mark children) = value
+value_of (node value mark cs) = value
 
 abbrev pub mark_of : Node → Option TreeMark
-mark_of (node value mark children) = mark
+mark_of (node value mark cs) = mark
 
 abbrev pub under : Node → Children
-under (node value mark children) = children
+under (node value mark cs) = cs
 
 -- the child of a name, if there is one
 abbrev pub child_named : List ℕ → Children → Option Node
@@ -66,8 +66,8 @@ child_named name (child other n cs) = if bytes_eq other name then Some n else ch
 abbrev mutual
   -- what stands at a path from a node on, if the path is there
   pub at : Node → List (List ℕ) → Option Entry
-  at (node value mark children) [] = Some (record { value = value; mark = mark })
-  at (node value mark children) (name ∷ path) = at_child children name path
+  at (node value mark cs) [] = Some (record { value = value; mark = mark })
+  at (node value mark cs) (name ∷ path) = at_child cs name path
 
   pub at_child : Children → List ℕ → List (List ℕ) → Option Entry
   at_child no_children name path = None
@@ -92,15 +92,15 @@ bears (Some Mul) value no_children = is_some value
 bears (Some Mul) value (child name n cs) = false
 bears (Some Tokens) value no_children = is_some value
 bears (Some Tokens) value (child name n cs) = false
-bears (Some Disable) value children = true
-bears (Some Replace) value children = true
-bears (Some Merge) value children = true
-bears None value children = true
+bears (Some Disable) value cs = true
+bears (Some Replace) value cs = true
+bears (Some Merge) value cs = true
+bears None value cs = true
 
 abbrev mutual
   -- the children of each node ascend by name, and each node bears its mark
   pub is_sound : Node → Bool
-  is_sound (node value mark children) = bears mark value children && are_sound children
+  is_sound (node value mark cs) = bears mark value cs && are_sound cs
 
   pub are_sound : Children → Bool
   are_sound no_children = true
@@ -109,7 +109,7 @@ abbrev mutual
 abbrev mutual
   -- no node has a mark
   pub is_plain : Node → Bool
-  is_plain (node value mark children) = is_none mark && are_plain children
+  is_plain (node value mark cs) = is_none mark && are_plain cs
 
   pub are_plain : Children → Bool
   are_plain no_children = true
@@ -118,7 +118,7 @@ abbrev mutual
 abbrev mutual
   -- how many levels of nodes there are, the root being one
   pub levels : Node → ℕ
-  levels (node value mark children) = suc (levels_under children)
+  levels (node value mark cs) = suc (levels_under cs)
 
   pub levels_under : Children → ℕ
   levels_under no_children = 0
