@@ -2,7 +2,7 @@
 use Rattle.std.specs.Prelude.{ℕ, ◌&&◌, Bool, true, false, List, [], ◌∷◌, ◌++◌, find, Option, Some, None, is_none, codes}
 use Rattle.std.specs.Str.{bytes_eq}
 use Rattle.sim_json.specs.Keys.{among}
-use Rattle.sim_tree.specs.Trees.{Node, node, Children, no_children, child, value_of, under}
+use Rattle.sim_tree.specs.Trees.{Node, Children, no_children, child, value_of, under}
 
 -- a part: its number, its name, the children that it must have, and those that it may have
 pub record Part : Type 0 where
@@ -39,15 +39,15 @@ train_part = record { number = 6; name = codes "Train"; needed = codes "Units" �
 abbrev pub table : List Part
 table = health_part ∷ resist_part ∷ motion_part ∷ obstruct_part ∷ attack_part ∷ train_part ∷ []
 
--- a node without children
-abbrev pub is_leaf : Node → Bool
-is_leaf (node value mark no_children) = true
-is_leaf (node value mark (child name n cs)) = false
+-- there is no child
+abbrev pub are_none : Children → Bool
+are_none no_children = true
+are_none (child name n cs) = false
 
 -- the children have these names alone, and no children of their own
 abbrev pub are_leaves : List (List ℕ) → Children → Bool
 are_leaves names no_children = true
-are_leaves names (child name n cs) = among name names && is_leaf n && are_leaves names cs
+are_leaves names (child name n cs) = among name names && are_none (under n) && are_leaves names cs
 
 -- a node is a part with nothing beside what the table lists
 abbrev pub is_known : Node → Option Part → Bool

@@ -5,5 +5,8 @@ mod fault;
 mod fields;
 mod parts;
 mod table;
+mod template;
+mod units;
 
 pub use fault::TraitFault;
+pub use template::template_of;

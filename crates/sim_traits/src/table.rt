@@ -4,7 +4,7 @@
 ghost use Rattle.std.specs.Prelude.{◌≡◌, ◌&&◌, is_none};
 ghost use Rattle.sim_json.specs.Keys.{among, texts_of};
 ghost use Rattle.sim_tree.specs.Trees.{node_of, nodes_of, value_of, under};
-ghost use Rattle.sim_traits.specs.Table.{has_known_parts as has_known_parts_data, are_known as are_known_data, is_known as is_known_data, part_named, is_leaf as is_leaf_data, are_leaves as are_leaves_data};
+ghost use Rattle.sim_traits.specs.Table.{has_known_parts as has_known_parts_data, are_known as are_known_data, is_known as is_known_data, part_named, are_none as are_none_data, are_leaves as are_leaves_data};
 
 use sim_tree::{Child, Tree};
 
@@ -72,15 +72,16 @@ fn are_leaves(children: &[Child], names: &[&str]) -> bool
 }
 
 fn is_leaf_of(name: &str, tree: &Tree, names: &[&str]) -> bool
-    ensures { result ≡ (among name.now (texts_of names.now) && is_leaf_data (node_of tree.now)) }
+    ensures { result ≡ (among name.now (texts_of names.now) && are_none_data (under (node_of tree.now))) }
 {
-    is_among(name, names) && is_leaf(tree)
+    is_among(name, names) && are_none(tree.children.as_slice())
 }
 
-fn is_leaf(tree: &Tree) -> bool
-    ensures { result ≡ is_leaf_data (node_of tree.now) }
+#[tactic(auto, using(crate::proofs::Leaves::are_none_some))]
+fn are_none(children: &[Child]) -> bool
+    ensures { result ≡ are_none_data (nodes_of children.now) }
 {
-    match tree.children.as_slice() {
+    match children {
         [] => true,
         _ => false,
     }
