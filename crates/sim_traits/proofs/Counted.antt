@@ -1,14 +1,13 @@
 -- Numbers of words: what a list of them has, and what one part of a text adds.
-use Rattle.std.proofs.Common.{◌≡◌, ℕ, ◌+◌, ◌≤◌, ◌<◌, List, [], ◌∷◌, ◌++◌, length, take, drop, get_or, suc, Bool, true, false, ◌&&◌, Option, Some, None, is_some, filter, refl, ap, ◌∙◌, sym, ◌⊎◌, inl, inr, arith, lit≤, append-nil, append_assoc, length-append}
+use Rattle.std.proofs.Common.{◌≡◌, ℕ, ◌+◌, ◌≤◌, ◌<◌, List, [], ◌∷◌, ◌++◌, length, take, drop, get_or, suc, Bool, true, false, ◌&&◌, Option, Some, None, is_some, filter, refl, ap, ◌∙◌, sym, ◌⊎◌, inl, inr, arith, lit≤, append-nil, length-append}
 use Rattle.std.specs.Prelude.{All, nat_lt, nat_le}
-use Rattle.std.specs.List.{list_all, filter_map, cons_option, position}
+use Rattle.std.specs.List.{list_all, filter_map, cons_option}
 use Rattle.std.proofs.Math.Seq.{drop-cons}
 use Rattle.std.proofs.lemmas.List.{take-append-drop}
 use Rattle.std.proofs.lemmas.List.Elements.{All-nil, All-cons, filter_map-append, filter-append}
 use Rattle.std.proofs.lemmas.List.Folds.{list_all-append}
 use Rattle.std.proofs.lemmas.List.Quantifiers.{position-Some}
 use Rattle.std.proofs.lemmas.Bool.Decides.{nat_tests}
-use Rattle.std.proofs.lemmas.Grind.{common_steps}
 use Rattle.std.specs.Str.{bytes_eq}
 use Rattle.sim_tree.specs.Tokens.{is_word}
 use Rattle.sim_traits.specs.Units.{number_in, is_named, numbers_in, is_admitted}
@@ -84,7 +83,7 @@ refused_word names words more numbers word counted (inl full) =
     rw long refl
 refused_word names words more numbers word counted (inr unknown) =
     let some_unknown : list_all (is_named names) (words ++ word ∷ more) ≡ false =
-      list_all-append (is_named names) words (word ∷ more) ∙ rw (counted.known, unknown) refl in
+    list_all-append (is_named names) words (word ∷ more) ∙ rw (counted.known, unknown) refl in
     rw (either_false (nat_le (length (words ++ word ∷ more)) 64) (list_all (is_named names) (words ++ word ∷ more)) some_unknown) refl
 
 -- a part that is not
@@ -104,7 +103,7 @@ pub refused_part : (names texts : List (List ℕ)) (numbers part : List ℕ) (n 
     → is_admitted names (length numbers) part ≡ false → numbers_in names (filter is_word texts) ≡ None
 refused_part names texts numbers part n counted below there e =
     let split : texts ≡ take n texts ++ part ∷ drop (suc n) texts =
-      sym (take-append-drop n texts) ∙ ap (λ rest. take n texts ++ rest) (drop-cons texts n part below ∙ ap (λ (p : List ℕ). p ∷ drop (suc n) texts) (sym there)) in
+    sym (take-append-drop n texts) ∙ ap (λ rest. take n texts ++ rest) (drop-cons texts n part below ∙ ap (λ (p : List ℕ). p ∷ drop (suc n) texts) (sym there)) in
     ap (λ (ts : List (List ℕ)). numbers_in names (filter is_word ts)) split
     ∙ rw (filter-append is_word (take n texts) (part ∷ drop (suc n) texts)) (refused names (filter is_word (take n texts)) (drop (suc n) texts) numbers part counted e)
 
@@ -118,7 +117,7 @@ numbers_below : (names words : List (List ℕ)) → All (λ n. n < length names)
 numbers_below names [] = All-nil (λ n. n < length names)
 numbers_below names (word ∷ words) =
     cons_option_within (λ n. n < length names) (number_in names word) (filter_map (number_in names) words)
-      (λ n e. (position-Some (bytes_eq word) names n [] e).0) (numbers_below names words)
+    (λ n e. (position-Some (bytes_eq word) names n [] e).0) (numbers_below names words)
 
 pub numbers_within : (names words : List (List ℕ)) (numbers : List ℕ) → Counted names words numbers → (length numbers ≤ 64) × All (λ n. n < length names) numbers
 numbers_within names words numbers counted =

@@ -4,7 +4,6 @@ use Rattle.std.specs.List.{list_any}
 use Rattle.sim_base.specs.Numbers.{unit}
 use Rattle.sim_base.specs.NumberText.{number_of}
 use Rattle.sim_tree.specs.Trees.{Node, value_of, under, child_named}
-use Rattle.sim_traits.specs.Table.{Part}
 
 -- the value of a node that is there, and else what stands for it, if something does
 abbrev pub value_or : Option (List ℕ) → Option Node → Option (List ℕ)

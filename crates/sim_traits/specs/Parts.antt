@@ -47,15 +47,15 @@ template_of_parts name root names =
     after (part_of attack_part arms_in root) (λ arms.
     after (part_of train_part (train_in names) root) (λ numbers.
     unless_clash
-      (record {
-         name = name;
-         health = most;
-         resist = unwrap_or levels unarmoured;
-         speed = speed;
-         obstruct = base;
-         arms = arms;
-         train = numbers;
-       })))))))
+    (record {
+      name = name;
+      health = most;
+      resist = unwrap_or levels unarmoured;
+      speed = speed;
+      obstruct = base;
+      arms = arms;
+      train = numbers;
+    })))))))
 
 -- the template of a name and a tree, among templates of these names
 unfoldable pub template_in : List ℕ → Node → List (List ℕ) → Result Template TraitFault

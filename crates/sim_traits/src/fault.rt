@@ -2,7 +2,6 @@
 
 use sim_base::OutOfMemory;
 
-
 /// Why a tree is no template; or memory was refused.
 #[derive(Clone, Copy, Debug, PartialEq, Eq)]
 pub enum TraitFault {

@@ -27,7 +27,12 @@ const UNARMOURED: Resist = Resist {
 /// The first refusal is the answer: `UnknownPart`; then for each part, in the order of their numbers, `Missing` and
 /// after it `OutOfRange`; and last `Clash`.
 #[tactic(auto, unfolding(crate::specs::Parts::template_in))]
-pub fn template_of(alloc: Global, name: &Name, tree: &Tree, names: &Library) -> Result<Template, TraitFault>
+pub fn template_of(
+    alloc: Global,
+    name: &Name,
+    tree: &Tree,
+    names: &Library,
+) -> Result<Template, TraitFault>
     ensures answers { Meets result (template_in name.now (node_of tree.now) names.now.names) }
     ensures limits { IfOk result (IsTemplate (length names.now.names)) }
 {
