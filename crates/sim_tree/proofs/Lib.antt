@@ -1,0 +1,5 @@
+pub mod Heights
+pub mod Ascends
+pub mod Forms
+pub mod Levels
+pub mod Steps
