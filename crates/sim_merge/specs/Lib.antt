@@ -1,0 +1,2 @@
+pub mod NodeCodes
+pub mod Libraries
