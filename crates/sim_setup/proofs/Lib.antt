@@ -1,4 +1,3 @@
-pub mod Names
 pub mod Tally
 pub mod Refused
 pub mod LandLimits

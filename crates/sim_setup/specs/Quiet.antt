@@ -1,18 +1,15 @@
--- What is read so far: posts, which have health and nothing else, and commands that delete.
-use Rattle.std.specs.Prelude.{◌≡◌, All, IsSome, None}
+-- What is read so far: templates that neither move nor fight, and commands that delete.
+use Rattle.std.specs.Prelude.{◌≡◌, All, None}
 use Rattle.sim_base.specs.declared.command.Command.{Command}
 use Rattle.sim_base.specs.declared.command.Command.TheVariants.{Walk, Stop, Attack, Delete, Place, Train, Resign}
 use Rattle.sim_base.specs.declared.template.Template.{Template}
 use Rattle.sim_base.specs.declared.setup.Timed.{Timed}
 use Rattle.sim_base.specs.declared.setup.Setup.{Setup}
 
--- a template has health, and does not move, stand in the way, fight or train
-pub record IsPost (t : Template) : Type 0 where
-  pub health : IsSome t.health
+-- a template neither moves nor fights
+pub record IsQuiet (t : Template) : Type 0 where
   pub speed : t.speed ≡ None
-  pub obstruct : t.obstruct ≡ None
   pub arms : t.arms ≡ None
-  pub train : t.train ≡ None
 
 -- a command deletes
 abbrev pub IsDelete : Command → Type 0
@@ -24,7 +21,7 @@ IsDelete (Place template at) = ⊥
 IsDelete (Train building template) = ⊥
 IsDelete Resign = ⊥
 
--- a match has posts alone, which are but deleted
-pub record IsOfPosts (setup : Setup) : Type 0 where
-  pub templates : All IsPost setup.templates
+-- a match has quiet templates alone, and entities are but deleted
+pub record IsQuietMatch (setup : Setup) : Type 0 where
+  pub templates : All IsQuiet setup.templates
   pub commands : All (λ (timed : Timed). IsDelete timed.order.command) setup.commands
