@@ -1,2 +1,5 @@
 pub mod TextLemmas
 pub mod ListLemmas
+pub mod NameOrder
+pub mod ChildrenLemmas
+pub mod NodeLemmas

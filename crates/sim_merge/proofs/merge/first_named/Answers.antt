@@ -1,0 +1,8 @@
+use Rattle.std.proofs.Common.{sym, ◌∙◌}
+use Rattle.sim_merge.proofs.NodeLemmas.{first_named-other}
+use Rattle.sim_merge.proofs.merge.first_named.Goals as goal
+
+pub returns-else-is_named : goal.returns-else-is_named
+returns-else-is_named c =
+    sym (first_named-other c.args.children.now c.child-item.result c.args.name.now c.in-len1-up.len_at_least c.child-item.is c.requires.sound c.requires.none_before
+        (sym c.is_named.ensures ∙ c.if-is_named.false))
