@@ -8,10 +8,10 @@ use Rattle.sim_tree.specs.declared.tree.Child.{Child}
 use Rattle.sim_tree.specs.declared.tree.Child.TheOpen.{Tree-F, Child-F}
 use Rattle.sim_tree.specs.declared.tree.Child.TheViews.{out-Tree, roll-Tree, out-Child, roll-Child}
 use Rattle.sim_tree.specs.declared.tree.Child.TheFolds.{fold_out-Tree, fold_out-Child, fold-roll-Tree, fold-roll-Child}
-use Rattle.sim_tree.specs.Trees.{Node, Children, node, child, no_children, node_of, named_of, nodes_of, children_of, child_step, node_step, child_named, is_before, are_sound}
+use Rattle.sim_tree.specs.Trees.{Node, Children, node, child, no_children, node_of, named_of, nodes_of, children_of, child_step, node_step, child_named, is_before, is_sound, are_sound}
 use Rattle.sim_merge.specs.Laying.{before, behind, followed_by}
 use Rattle.sim_merge.specs.Merging.{IsPast}
-use Rattle.sim_merge.proofs.ChildrenLemmas.{children_of-append, followed_by-assoc, followed_by-end, child_named-stopped, behind-stopped, behind-same, before-stopped, before-passed, child_named-passed, behind-passed, are_sound-rest}
+use Rattle.sim_merge.proofs.ChildrenLemmas.{children_of-append, followed_by-assoc, followed_by-end, child_named-stopped, behind-stopped, behind-same, before-stopped, before-passed, child_named-passed, behind-passed, are_sound-rest, is_sound-first}
 
 pub named_of-roll : (c : Child-F Child Tree) → named_of (roll-Child c) ≡ (c.name, node_of c.tree)
 named_of-roll = fold-roll-Child (List ℕ × Node) Node child_step node_step
@@ -21,6 +21,9 @@ named_of-out c = fold_out-Child (List ℕ × Node) Node child_step node_step c
 
 pub node_of-out : (t : Tree) → node_of t ≡ node (out-Tree t).value (out-Tree t).mark (nodes_of (out-Tree t).children.items)
 node_of-out t = fold_out-Tree (List ℕ × Node) Node child_step node_step t
+
+pub node_of-roll : (t : Tree-F Child Tree) → node_of (roll-Tree t) ≡ node t.value t.mark (nodes_of t.children.items)
+node_of-roll = fold-roll-Tree (List ℕ × Node) Node child_step node_step
 
 pub nodes_of-append : (xs ys : List Child) → nodes_of (xs ++ ys) ≡ followed_by (nodes_of xs) (nodes_of ys)
 nodes_of-append xs ys = ap children_of (map-append named_of xs ys) ∙ children_of-append (map named_of xs) (map named_of ys)
@@ -62,17 +65,23 @@ pub are_sound-drop : (xs : List Child) (i : ℕ) (c : Child) → i < length xs �
 are_sound-drop xs i c within is sound =
     are_sound-rest (named_of c).0 (named_of c).1 (nodes_of (drop (i + 1) xs)) (ap are_sound (sym (nodes_of-at xs i c within is)) ∙ sound)
 
+-- the tree of the first child is sound
+pub is_sound-first_named : (xs : List Child) (c : Child) → 0 < length xs → c ≡ get_or xs 0 c → are_sound (nodes_of xs) ≡ true → is_sound (node_of (out-Child c).tree) ≡ true
+is_sound-first_named xs c within is sound =
+    ap (λ (p : List ℕ × Node). is_sound p.1) (sym (named_of-out c))
+    ∙ is_sound-first (named_of c).0 (named_of c).1 (nodes_of (drop 1 xs)) (ap are_sound (sym (nodes_of-first xs c within is)) ∙ sound)
+
 -- ---- the children before a name
 
 pub past : (name : List ℕ) (old out lower rest : Children) → followed_by out (before name rest) ≡ followed_by old (before name lower) → before name rest ≡ no_children →
     child_named name rest ≡ child_named name lower → behind name rest ≡ behind name lower → are_sound rest ≡ true → IsPast name old out lower rest
 past name old out lower rest passed none named behind sound = record {
-    passed = sym (followed_by-end out) ∙ ap (followed_by out) (sym none) ∙ passed;
-    none_before = none;
-    named = named;
-    behind = behind;
-    sound = sound;
-  }
+  passed = sym (followed_by-end out) ∙ ap (followed_by out) (sym none) ∙ passed;
+  none_before = none;
+  named = named;
+  behind = behind;
+  sound = sound;
+}
 
 pub before-at : (xs : List Child) (i : ℕ) (c : Child) (name : List ℕ) → i < length xs → c ≡ get_or xs i c → is_before (named_of c).0 name ≡ true →
     before name (nodes_of (drop i xs)) ≡ child (named_of c).0 (named_of c).1 (before name (nodes_of (drop (i + 1) xs)))

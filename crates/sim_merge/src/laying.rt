@@ -9,7 +9,9 @@ ghost use Rattle.sim_merge.specs.Laying.{refused, there, laid, laid_under, lower
 ghost use Rattle.sim_merge.specs.Merging.{node_if, is_sound_if, laying_of, laid_unmarked, IsMerged};
 
 use crate::fault::OverlayFault;
-use crate::merge::{behind, children_of, copies, first_named, push_before, push_copies, push_laid, value_of};
+use crate::merge::{
+    behind, children_of, copies, first_named, push_before, push_copies, push_laid, value_of,
+};
 use crate::operation::{Operation, operated_value};
 use crate::words::words_over;
 use sim_base::OutOfMemory;
@@ -30,7 +32,7 @@ pub fn overlay(alloc: Global, lower: &Tree, upper: &Tree) -> Result<Tree, Overla
 // The upper tree laid over the lower one, if there is a lower one, or nothing.
 #[cycle(laying)]
 fn lay(alloc: Global, upper: &Tree, lower: Option<&Tree>) -> Result<Option<Tree>, OverlayFault>
-    requires { is_sound_if (node_if lower.entry) ≡ true }
+    requires { is_sound_if (node_if lower) ≡ true }
     ensures { MatchResult result
         (λ found. laid (node_if lower.entry) (node_of upper.now) ≡ laying_of found)
         (λ fault. IfBadOp fault (laid (node_if lower.entry) (node_of upper.now) ≡ refused)) }
@@ -55,7 +57,7 @@ fn lay(alloc: Global, upper: &Tree, lower: Option<&Tree>) -> Result<Option<Tree>
 // The upper tree as if its root had no mark.
 #[cycle(laying)]
 fn unmarked(alloc: Global, upper: &Tree, lower: Option<&Tree>) -> Result<Tree, OverlayFault>
-    requires { is_sound_if (node_if lower.entry) ≡ true }
+    requires { is_sound_if (node_if lower) ≡ true }
     ensures { MatchResult result
         (λ tree. laid_unmarked (node_if lower.entry) (node_of upper.now) ≡ there (node_of tree))
         (λ fault. IfBadOp fault (laid_unmarked (node_if lower.entry) (node_of upper.now) ≡ refused)) }
@@ -89,12 +91,17 @@ fn merged(alloc: Global, upper: &[Child], lower: &[Child]) -> Result<Vec<Child>,
 // Adds the lower children up to a name and what becomes of the upper child there, and answers the lower children that
 // are left.
 #[cycle(laying)]
-fn push_merged<'t>(alloc: Global, upper: &Child, lower: &'t [Child], children: &mut Vec<Child>) -> Result<&'t [Child], OverlayFault>
+fn push_merged<'t>(
+    alloc: Global,
+    upper: &Child,
+    lower: &'t [Child],
+    children: &mut Vec<Child>,
+) -> Result<&'t [Child], OverlayFault>
     requires { are_sound (nodes_of lower.now) ≡ true }
     ensures { MatchResult result
         (λ rest. IsMerged (named_of upper.now).0 (named_of upper.now).1 (nodes_of children.old.items) (nodes_of children.new.items) (nodes_of lower.now) (nodes_of rest.now))
         (λ fault. IfBadOp fault ((more : Children) →
-            laid_under (nodes_of lower.now) (child (named_of upper.now).0 (named_of upper.now).1 more) ≡ None)) }
+        laid_under (nodes_of lower.now) (child (named_of upper.now).0 (named_of upper.now).1 more) ≡ None)) }
 {
     let name = upper.name.text();
     let rest = push_before(alloc, children, lower, name)?;
@@ -104,7 +111,11 @@ fn push_merged<'t>(alloc: Global, upper: &Child, lower: &'t [Child], children: &
 }
 
 // The value of the upper tree, or that of the lower one where it has none.
-fn value_over(alloc: Global, upper: &Tree, lower: Option<&Tree>) -> Result<Option<Text>, OutOfMemory>
+fn value_over(
+    alloc: Global,
+    upper: &Tree,
+    lower: Option<&Tree>,
+) -> Result<Option<Text>, OutOfMemory>
     ensures { IfOk result (λ value. value ≡ value_over_value (value_of_node (node_of upper.now)) (lower_value (node_if lower.entry))) }
 {
     match &upper.value {
@@ -117,7 +128,12 @@ fn value_over(alloc: Global, upper: &Tree, lower: Option<&Tree>) -> Result<Optio
 }
 
 // The lower tree with the result of an operation as its value.
-fn operated(alloc: Global, operation: Operation, upper: &Tree, lower: Option<&Tree>) -> Result<Tree, OverlayFault>
+fn operated(
+    alloc: Global,
+    operation: Operation,
+    upper: &Tree,
+    lower: Option<&Tree>,
+) -> Result<Tree, OverlayFault>
     ensures { let value = value_by (function_of operation) (lower_value (node_if lower.entry)) (value_of_node (node_of upper.now)) in
         MatchResult result
         (λ tree. with_value value (lower_children (node_if lower.entry)) ≡ there (node_of tree))

@@ -12,12 +12,12 @@
 #![tactic(auto)]
 
 mod fault;
+mod laying;
 mod library;
 mod merge;
 mod operation;
-mod laying;
 mod words;
 
 pub use fault::{MergeFault, OverlayFault};
-pub use library::Library;
 pub use laying::overlay;
+pub use library::Library;

@@ -5,7 +5,7 @@ ghost use Rattle.std.specs.Option.{option_copied};
 ghost use Rattle.std.specs.Str.{bytes_eq};
 ghost use Rattle.sim_tree.specs.Trees.{Children, node_of, nodes_of, named_of, is_before, child, no_children, child_named, are_sound};
 ghost use Rattle.sim_merge.specs.Laying.{before, behind as nodes_behind, followed_by, with_lower, with_laid, lower_value, lower_children};
-ghost use Rattle.sim_merge.specs.Merging.{node_if, laying_of, IsPast};
+ghost use Rattle.sim_merge.specs.Merging.{node_if, is_sound_if, laying_of, IsPast};
 
 use sim_base::{Name, OutOfMemory};
 use sim_tree::{Child, Text, Tree, copy_name};
@@ -41,7 +41,11 @@ pub fn copies(alloc: Global, children: &[Child]) -> Result<Vec<Child>, OutOfMemo
 }
 
 /// Adds copies of children.
-pub fn push_copies(alloc: Global, out: &mut Vec<Child>, children: &[Child]) -> Result<(), OutOfMemory>
+pub fn push_copies(
+    alloc: Global,
+    out: &mut Vec<Child>,
+    children: &[Child],
+) -> Result<(), OutOfMemory>
     ensures { OnOk result (nodes_of out.new.items ≡ followed_by (nodes_of out.old.items) (nodes_of children.now)) }
 {
     for child in children {
@@ -56,7 +60,12 @@ fn push_copy(alloc: Global, out: &mut Vec<Child>, child: &Child) -> Result<(), O
     push_child(alloc, out, &child.name, child.tree.copy(alloc)?)
 }
 
-fn push_child(alloc: Global, out: &mut Vec<Child>, name: &Name, tree: Tree) -> Result<(), OutOfMemory>
+fn push_child(
+    alloc: Global,
+    out: &mut Vec<Child>,
+    name: &Name,
+    tree: Tree,
+) -> Result<(), OutOfMemory>
     ensures { OnOk result (nodes_of out.new.items ≡ followed_by (nodes_of out.old.items) (child name.now (node_of tree) no_children)) }
 {
     let name = copy_name(alloc, name)?;
@@ -65,7 +74,12 @@ fn push_child(alloc: Global, out: &mut Vec<Child>, name: &Name, tree: Tree) -> R
 }
 
 /// Adds a tree under a name, if there is a tree.
-pub fn push_laid(alloc: Global, out: &mut Vec<Child>, name: &Name, tree: Option<Tree>) -> Result<(), OutOfMemory>
+pub fn push_laid(
+    alloc: Global,
+    out: &mut Vec<Child>,
+    name: &Name,
+    tree: Option<Tree>,
+) -> Result<(), OutOfMemory>
     ensures { OnOk result ((more : Option Children) →
         with_lower (nodes_of out.old.items) (with_laid name.now (laying_of tree) more) ≡ with_lower (nodes_of out.new.items) more) }
 {
@@ -93,7 +107,12 @@ fn is_named(child: &Child, name: &str) -> bool
 }
 
 /// Adds copies of the children before a name, and answers the others.
-pub fn push_before<'t>(alloc: Global, out: &mut Vec<Child>, children: &'t [Child], name: &str) -> Result<&'t [Child], OutOfMemory>
+pub fn push_before<'t>(
+    alloc: Global,
+    out: &mut Vec<Child>,
+    children: &'t [Child],
+    name: &str,
+) -> Result<&'t [Child], OutOfMemory>
     requires { are_sound (nodes_of children.now) ≡ true }
     ensures { IfOk result (λ rest.
         IsPast name.now (nodes_of out.old.items) (nodes_of out.new.items) (nodes_of children.now) (nodes_of rest.now)) }
@@ -111,7 +130,8 @@ pub fn push_before<'t>(alloc: Global, out: &mut Vec<Child>, children: &'t [Child
 pub fn first_named<'t>(children: &'t [Child], name: &str) -> Option<&'t Tree>
     requires sound { are_sound (nodes_of children.now) ≡ true }
     requires none_before { before name.now (nodes_of children.now) ≡ no_children }
-    ensures { node_if result ≡ child_named name.now (nodes_of children.now) }
+    ensures named { node_if result ≡ child_named name.now (nodes_of children.now) }
+    ensures sound { is_sound_if (node_if result) ≡ true }
 {
     match children {
         [child, ..] => {

@@ -20,7 +20,12 @@ pub enum Operation {
 }
 
 /// The result of an operation on two values, where both are there.
-pub fn operated_value(alloc: Global, operation: Operation, lower: Option<&Text>, upper: Option<&Text>) -> Result<Text, OverlayFault>
+pub fn operated_value(
+    alloc: Global,
+    operation: Operation,
+    lower: Option<&Text>,
+    upper: Option<&Text>,
+) -> Result<Text, OverlayFault>
     ensures { MatchResult result
         (λ text. value_by (function_of operation) (option_copied lower.entry) (option_copied upper.entry) ≡ Some text)
         (λ fault. IfBadOp fault (value_by (function_of operation) (option_copied lower.entry) (option_copied upper.entry) ≡ None)) }
@@ -35,7 +40,12 @@ pub fn operated_value(alloc: Global, operation: Operation, lower: Option<&Text>,
 }
 
 // The printed result of an operation on the numbers that two texts spell.
-fn operate(alloc: Global, operation: Operation, lower: &str, upper: &str) -> Result<Text, OverlayFault>
+fn operate(
+    alloc: Global,
+    operation: Operation,
+    lower: &str,
+    upper: &str,
+) -> Result<Text, OverlayFault>
     ensures { MatchResult result
         (λ text. text_by (function_of operation) lower.now upper.now ≡ Some text)
         (λ fault. IfBadOp fault (text_by (function_of operation) lower.now upper.now ≡ None)) }

@@ -1,6 +1,6 @@
 //! Lists of words, which stand in a value with spaces between them, and what another list adds and takes away.
 
-ghost use Rattle.std.specs.Prelude.{◌≡◌, ◌++◌, fold, IfOk, OnOk, map, string_bytes, drop, Some, None, MatchOption, true, false};
+ghost use Rattle.std.specs.Prelude.{◌≡◌, ◌++◌, ◌∷◌, if◌then◌else◌, fold, IfOk, OnOk, map, string_bytes, drop, Some, None, MatchOption, true, false};
 ghost use Rattle.std.specs.List.{join_with_byte, list_any};
 ghost use Rattle.std.specs.Str.{bytes_eq};
 ghost use Rattle.std.specs.Option.{option_copied};
@@ -12,12 +12,17 @@ use sim_tree::{Names, Text, tokens_in};
 use std::alloc::Global;
 
 /// The words of the lower value, after each word of the upper value added or took away words.
-pub fn words_over(alloc: Global, upper: Option<&Text>, lower: Option<&Text>) -> Result<Text, OutOfMemory>
+#[tactic(auto, unfolding(crate::specs::Values::words_over))]
+pub fn words_over(
+    alloc: Global,
+    upper: Option<&Text>,
+    lower: Option<&Text>,
+) -> Result<Text, OutOfMemory>
     ensures { IfOk result (λ text. text ≡ words_over_words (option_copied upper.entry) (option_copied lower.entry)) }
 {
     let upper = words_in(alloc, upper)?;
     let found = with_words(alloc, words_in(alloc, lower)?, upper.as_slice())?;
-    joined(alloc, found.as_slice())
+    Ok(joined(alloc, found.as_slice())?)
 }
 
 // The words of a value, and none where there is no value.
@@ -89,10 +94,18 @@ fn joined(alloc: Global, words: &[Text]) -> Result<Text, OutOfMemory>
 {
     let mut text = String::new(alloc);
     for (place, word) in words.iter().enumerate() {
-        if place > 0 {
-            text.push_str(" ")?;
-        }
-        text.push_str(word.as_str())?;
+        push_word(&mut text, place == 0, word.as_str())?;
     }
     Ok(Text::of_string(text))
+}
+
+// Adds a word, with a space before it where it is not the first one.
+fn push_word(text: &mut String, is_first: bool, word: &str) -> Result<(), OutOfMemory>
+    ensures { OnOk result (string_bytes text.new ≡ string_bytes text.old ++ (if is_first then word.now else 0x20 ∷ word.now)) }
+{
+    if !is_first {
+        text.push_str(" ")?;
+    }
+    text.push_str(word)?;
+    Ok(())
 }

@@ -13,4 +13,4 @@ returns-then-is_named-clause-rest c =
 pub returns-else-is_named-clause-rest : goal.returns-else-is_named-clause-rest
 returns-else-is_named-clause-rest c =
     sym (behind-other c.args.children.now c.child-item.result c.args.name.now c.in-len1-up.len_at_least c.child-item.is c.requires.sound c.requires.none_before
-        (sym c.is_named.ensures ∙ c.if-is_named.false))
+    (sym c.is_named.ensures ∙ c.if-is_named.false))

@@ -34,8 +34,8 @@ returns c =
     let rest = nodes_of (drop c.loop-i.i xs) in
     let gone : rest ≡ no_children = ap nodes_of none in
     past c.args.name.now (nodes_of c.args.out.now.items) (nodes_of c.loop-i.out.items) (nodes_of xs) no_children
-        (ap (λ cs. followed_by (nodes_of c.loop-i.out.items) (before c.args.name.now cs)) (sym gone) ∙ c.loop-i.invariant.passed) refl
-        (ap (child_named c.args.name.now) (sym gone) ∙ c.loop-i.invariant.named) (ap (behind c.args.name.now) (sym gone) ∙ c.loop-i.invariant.behind) refl
+    (ap (λ cs. followed_by (nodes_of c.loop-i.out.items) (before c.args.name.now cs)) (sym gone) ∙ c.loop-i.invariant.passed) refl
+    (ap (child_named c.args.name.now) (sym gone) ∙ c.loop-i.invariant.named) (ap (behind c.args.name.now) (sym gone) ∙ c.loop-i.invariant.behind) refl
 
 pub returns-then-not-precedes : goal.returns-then-not-precedes
 returns-then-not-precedes c =

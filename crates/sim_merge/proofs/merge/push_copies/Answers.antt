@@ -13,9 +13,9 @@ loop-child-preserved c =
     let i = c.loop-child.child-index in
     let out = nodes_of c.loop-child.out.items in
     ap (λ cs. followed_by cs (nodes_of (drop (i + 1) xs))) c.in_ok-push_copy.ensures
-        ∙ followed_by-assoc out (child (named_of x).0 (named_of x).1 no_children) (nodes_of (drop (i + 1) xs))
-        ∙ ap (followed_by out) (sym (nodes_of-at xs i x c.loop-child-test.true c.child-item.is))
-        ∙ c.loop-child.invariant
+    ∙ followed_by-assoc out (child (named_of x).0 (named_of x).1 no_children) (nodes_of (drop (i + 1) xs))
+    ∙ ap (followed_by out) (sym (nodes_of-at xs i x c.loop-child-test.true c.child-item.is))
+    ∙ c.loop-child.invariant
 
 pub returns : goal.returns
 returns c =

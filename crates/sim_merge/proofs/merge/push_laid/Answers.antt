@@ -11,6 +11,6 @@ returns-in_ok-push_child-in-Some c =
     let name = c.args.name.now in
     let n = node_of c.in-Some.tree in
     λ more. ap (λ tree. with_lower old (with_laid name (laying_of tree) more)) c.in-Some.is
-        ∙ ap (with_lower old) (sym (with_lower-child name n more))
-        ∙ sym (with_lower-followed_by old (child name n no_children) more)
-        ∙ ap (λ cs. with_lower cs more) (sym c.in_ok-push_child.ensures)
+    ∙ ap (with_lower old) (sym (with_lower-child name n more))
+    ∙ sym (with_lower-followed_by old (child name n no_children) more)
+    ∙ ap (λ cs. with_lower cs more) (sym c.in_ok-push_child-in-Some.ensures)
