@@ -4,9 +4,20 @@
 //! tree of each template, or names the first template that has none. It stands on `sim_tree` for trees, on `sim_base`
 //! for names and numbers, and on `indexmap` for names with numbers.
 //!
+//! - `fault`: what keeps a tree from being laid over another one, and templates from being resolved.
+//! - `operation`, `words`: what becomes of values.
+//! - `merge`: children by name.
+//! - `laying`: a tree laid over another one.
 //! - `library`: the resolved templates by number.
 #![tactic(auto)]
 
+mod fault;
+mod laying;
 mod library;
+mod merge;
+mod operation;
+mod words;
 
+pub use fault::{MergeFault, OverlayFault};
+pub use laying::overlay;
 pub use library::Library;
