@@ -162,7 +162,7 @@ module _ (land : Land) (rules : Rules) where
       entity : (done : List First) (d : Data) (first : First) → first_of (map name_in is.origins) land (players_of land) d ≡ Some first → IsFirst (setup_with id land rules lists) first
       entity done d first e =
           let on = first_of-is (map name_in is.origins) land (players_of land) d first e in
-          record { template = omega (arith, on.template, length-map name_in is.origins, counted lists is); owner = on.owner; at = on.at }
+          record { template = omega (arith, on.template, length-map is.origins name_in, counted lists is); owner = on.owner; at = on.at }
 
       command : (done : List Timed) (d : Data) (timed : Timed) → timed_of rules.turns (players_of land) done d ≡ Some timed → IsTimed (setup_with id land rules lists) timed
       command done d timed e =

@@ -1,5 +1,5 @@
 -- What holds of the templates of a match file.
-use Rattle.std.proofs.Common.{◌≡◌, ◌≢◌, ℕ, ◌<◌, ◌≤◌, ◌&&◌, ◌||◌, not, Bool, true, false, List, [], ◌∷◌, ◌++◌, length, map, All, AllPairs, Option, Some, None, is_some, is_none, option_and_then, slice_get, Result, Ok, Err, refl, sym, ap, ◌∙◌, subst, arith, true≢false, if◌then◌else◌}
+use Rattle.std.proofs.Common.{◌≡◌, ◌≢◌, ℕ, ◌<◌, ◌≤◌, ◌&&◌, ◌||◌, not, Bool, true, false, List, [], ◌∷◌, ◌++◌, length, map, All, AllPairs, Option, Some, None, is_some, is_none, option_and_then, slice_get, unwrap_or, Result, Ok, Err, refl, sym, ap, ◌∙◌, subst, arith, true≢false, if◌then◌else◌}
 use Rattle.std.specs.Str.{bytes_eq}
 use Rattle.std.specs.List.{list_any}
 use Rattle.std.proofs.lemmas.List.{map-append}
@@ -16,8 +16,9 @@ use Rattle.sim_tree.specs.Sources.{Origin}
 use Rattle.sim_merge.specs.Resolution.{name_in}
 use Rattle.sim_traits.specs.declared.fault.TraitFault.{TraitFault}
 use Rattle.sim_traits.specs.declared.fault.TraitFault.TheVariants.{Clash, UnknownPart}
-use Rattle.sim_traits.specs.Table.{has_known_parts}
-use Rattle.sim_traits.specs.Parts.{after, unless_clash, template_of_parts, template_in}
+use Rattle.sim_traits.specs.Table.{health_part, resist_part, motion_part, obstruct_part, attack_part, train_part, has_known_parts}
+use Rattle.sim_traits.specs.Values.{health_in, resist_in, speed_in, base_in, arms_in, train_in}
+use Rattle.sim_traits.specs.Parts.{part_of, after, unarmoured, template_of_parts, template_in}
 use Rattle.sim_setup.specs.Quiet.{IsQuiet}
 use Rattle.sim_setup.specs.Templates.{are_distinct, is_quiet, if_quiet, template_at, next_template}
 
@@ -37,13 +38,23 @@ known false r t e = absurd cc
 
 parts-named : (name : List ℕ) (root : Node) (names : List (List ℕ)) (t : Template) → template_of_parts name root names ≡ Ok t → t.name ≡ name
 parts-named name root names t e =
-    let health = part_ok _ _ t e in
-    let resist = part_ok _ _ t health.1 in
-    let speed = part_ok _ _ t resist.1 in
-    let base = part_ok _ _ t speed.1 in
-    let arms = part_ok _ _ t base.1 in
-    let train = part_ok _ _ t arms.1 in
-    ap (λ (u : Template). u.name) (sym (no_clash _ _ t train.1))
+    let most = part_ok (part_of health_part health_in root) _ t e in
+    let levels = part_ok (part_of resist_part resist_in root) _ t most.1 in
+    let speed = part_ok (part_of motion_part speed_in root) _ t levels.1 in
+    let base = part_ok (part_of obstruct_part base_in root) _ t speed.1 in
+    let arms = part_ok (part_of attack_part arms_in root) _ t base.1 in
+    let numbers = part_ok (part_of train_part (train_in names) root) _ t arms.1 in
+    let made : Template =
+        record {
+          name = name;
+          health = most.0;
+          resist = unwrap_or levels.0 unarmoured;
+          speed = speed.0;
+          obstruct = base.0;
+          arms = arms.0;
+          train = numbers.0;
+        } in
+    ap (λ (u : Template). u.name) (sym (no_clash (is_some made.speed && is_some made.obstruct) made t numbers.1))
 
 -- it goes by the name that was given
 template_in-named : (name : List ℕ) (root : Node) (names : List (List ℕ)) (t : Template) → template_in name root names ≡ Ok t → t.name ≡ name
@@ -72,6 +83,11 @@ template_at-is names roots number origin t e =
     let root = and_then_some (slice_get roots number) (λ root. if_quiet (template_in origin.name root names)) t e in
     let is = quiet_ok (template_in origin.name root.0 names) t root.2 in
     record { named = template_in-named origin.name root.0 names t is.0; quiet = is.1 }
+
+-- one more record, where it is read
+pub more_read : {X D : Type 0} (read : List X → D → Option X) (done : List X) (d : D) (x : X) (ds : List D) (all : Result (List X) ℕ)
+    → read done d ≡ Some x → numbered read done (d ∷ ds) ≡ all → numbered read (done ++ x ∷ []) ds ≡ all
+more_read read done d x ds all is e = rw is at e
 
 -- ---- the names
 

@@ -21,6 +21,7 @@ pub fn templates_from(
     sources: &[Source],
     library: &Library,
 ) -> Result<Templates, SetupFault>
+    requires few { length sources.now ≤ 256 }
     requires names { library.now.names ≡ map name_in (map origin_of sources.now) }
     ensures value { Meets result (templates_from_sources (map origin_of sources.now) library.now.roots) }
     ensures limits { IfOk result (λ templates. All (IsTemplate (length templates)) templates) }

@@ -1,4 +1,4 @@
-use Rattle.std.proofs.Common.{◌≡◌, map, drop, [], vec_len, length, All}
+use Rattle.std.proofs.Common.{◌≡◌, map, drop, [], length, All}
 use Rattle.sim_base.specs.Limits.{IsTemplate}
 use Rattle.sim_json.specs.Records.{numbered}
 use Rattle.sim_tree.specs.Sources.{origin_of}
@@ -9,6 +9,6 @@ abbrev pub invariant-loop-number : goal.invariant-loop-number
 invariant-loop-number l = record {
   same : numbered (next_template l.library.names l.library.roots) l.found.items (map origin_of (drop l.number l.sources))
       ≡ numbered (next_template l.library.names l.library.roots) [] (map origin_of l.sources);
-  count : vec_len l.found ≡ l.number;
+  count : length l.found.items ≡ l.number;
   limits : All (IsTemplate (length l.sources)) l.found.items;
 }
