@@ -8,12 +8,22 @@
 //! - `source`: a template as it is described.
 #![tactic(auto)]
 
+mod fault;
+mod leaves;
+mod nodes;
+mod paths;
+mod read;
 mod source;
 mod text;
 mod tokens;
 mod tree;
+mod walks;
 
+pub use fault::TreeFault;
 pub use source::Source;
 pub use text::Text;
 pub use tokens::{Names, tokens_in};
 pub use tree::{Child, Tree, TreeMark, copy_name};
+
+#[cfg(test)]
+mod tests;
