@@ -1,6 +1,7 @@
 //! Chains of parents: the numbers of parents, and the first template whose chain has no good end.
 
 ghost use Rattle.std.specs.Prelude.{◌≡◌, ◌≤◌, true, IfOk, OnOk, length, map, position, string_bytes, List, ℕ};
+ghost use Rattle.std.specs.Str.{bytes_eq};
 ghost use Rattle.sim_tree.specs.Sources.{origin_of};
 ghost use Rattle.sim_merge.specs.Libraries.{are_distinct};
 ghost use Rattle.sim_merge.specs.Resolution.{name_in, number_of_name, parent_of as parent_in, parents_of as parents_in, lacks_parent, members as members_in, numbers, repeats as repeats_in, is_endless as is_endless_chain};
@@ -50,6 +51,7 @@ fn parent_of(names: &IndexSet<String>, source: &Source) -> Option<usize>
 
 /// The place of a name among names.
 pub fn place_of(names: &IndexSet<String>, name: &str) -> Option<usize>
+    ensures { result ≡ position (bytes_eq name.now) (map string_bytes names.now.keys) }
 {
     names.get_index_of(name)
 }
