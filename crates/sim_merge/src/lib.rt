@@ -8,14 +8,20 @@
 //! - `operation`, `words`: what becomes of values.
 //! - `merge`: children by name.
 //! - `laying`: a tree laid over another one.
+//! - `chains`: chains of parents.
+//! - `resolve`: templates with all that they inherit.
 //! - `library`: the resolved templates by number.
 #![tactic(auto)]
 
+mod chains;
 mod fault;
 mod laying;
 mod library;
 mod merge;
 mod operation;
+mod resolve;
+#[cfg(test)]
+mod tests;
 mod words;
 
 pub use fault::{MergeFault, OverlayFault};
