@@ -6,3 +6,5 @@ pub mod NodeLemmas
 pub mod OperationLemmas
 pub mod WordLemmas
 pub mod LayingLemmas
+pub mod Examples
+pub mod ResolutionLemmas

@@ -7,3 +7,4 @@ pub mod Laying
 pub mod Merging
 pub mod Overlay
 pub mod Resolution
+pub mod Keeping

@@ -1,31 +1,46 @@
 -- The resolved trees of templates, each with all that it inherits, or the first template that has none.
-use Rattle.std.specs.Prelude.{ℕ, zero, suc, Bool, true, false, ◌&&◌, ◌||◌, nat_lt, ◌==◌, List, [], ◌∷◌, length, map, position, filter_map, Option, Some, None, is_some, is_none, option_map, option_and_then, slice_get, unwrap_or, Result, Ok, Err, if◌then◌else◌}
+use Rattle.std.specs.Prelude.{ℕ, zero, suc, Bool, true, false, ◌&&◌, not, ◌||◌, nat_lt, ◌==◌, List, [], ◌∷◌, length, map, position, filter_map, Option, Some, None, is_some, is_none, option_map, option_and_then, slice_get, unwrap_or, Result, Ok, Err, if◌then◌else◌}
 use Rattle.std.specs.List.{list_any, range_with_len}
 use Rattle.std.specs.Str.{bytes_eq}
 use Rattle.sim_tree.specs.Trees.{Node, node, no_children}
-use Rattle.sim_tree.specs.Sources.{Origin}
+use Rattle.sim_tree.specs.declared.source.Source.{Source}
+use Rattle.sim_tree.specs.Sources.{Origin, origin_of}
 use Rattle.sim_merge.specs.declared.fault.MergeFault.{MergeFault}
 use Rattle.sim_merge.specs.declared.fault.MergeFault.TheVariants.{NoParent, Cycle, ChainTooLong, BadOp}
 use Rattle.sim_merge.specs.Laying.{Laying, refused, absent, there, laid}
 
--- ---- parents, as numbers of templates
+-- ---- names
+
+abbrev pub origins_of : List Source → List Origin
+origins_of sources = map origin_of sources
 
 abbrev pub name_in : Origin → List ℕ
 name_in origin = origin.name
 
-abbrev pub number_of_name : List Origin → List ℕ → Option ℕ
-number_of_name origins name = position (bytes_eq name) (map name_in origins)
+abbrev pub names_in : List Origin → List (List ℕ)
+names_in origins = map name_in origins
 
--- the number of the parent, if there is a parent among the templates
-abbrev pub parent_of : List Origin → Origin → Option ℕ
-parent_of origins origin = option_and_then (number_of_name origins) origin.parent
+-- no name stands twice
+abbrev pub are_distinct : List (List ℕ) → Bool
+are_distinct [] = true
+are_distinct (name ∷ names) = not (list_any (bytes_eq name) names) && are_distinct names
 
-abbrev pub parents_of : List Origin → List (Option ℕ)
-parents_of origins = map (parent_of origins) origins
+-- ---- parents, as numbers of templates
 
--- a parent is named, and is not among the templates
-abbrev pub lacks_parent : List Origin → Origin → Bool
-lacks_parent origins origin = is_some origin.parent && is_none (parent_of origins origin)
+-- the number of a template's parent, if it has a parent among these names
+abbrev pub parent_among : List (List ℕ) → Origin → Option ℕ
+parent_among names origin = option_and_then (λ name. position (bytes_eq name) names) origin.parent
+
+abbrev pub parents_in : List Origin → List (Option ℕ)
+parents_in origins = map (parent_among (names_in origins)) origins
+
+-- a template has a parent, and none among these names
+abbrev pub is_orphan : List (List ℕ) → Origin → Bool
+is_orphan names origin = is_some origin.parent && is_none (parent_among names origin)
+
+-- the first template whose parent is not there
+abbrev pub orphan_refusal : List Origin → Option MergeFault
+orphan_refusal origins = option_map NoParent (position (is_orphan (names_in origins)) origins)
 
 -- ---- chains
 
@@ -40,7 +55,7 @@ abbrev pub most_members : ℕ
 most_members = 16
 
 -- the first 17 members
-abbrev pub members : List (Option ℕ) → ℕ → List ℕ
+unfoldable pub members : List (Option ℕ) → ℕ → List ℕ
 members parents number = chain_from parents (suc most_members) (Some number)
 
 abbrev pub numbers : List (Option ℕ) → List ℕ
@@ -57,6 +72,11 @@ is_endless chain = repeats chain || nat_lt most_members (length chain)
 
 abbrev pub chain_fault : ℕ → List ℕ → MergeFault
 chain_fault number chain = if repeats chain then Cycle number else ChainTooLong number
+
+-- the first template whose chain is endless
+abbrev pub chain_refusal : List (Option ℕ) → Option MergeFault
+chain_refusal parents =
+    option_map (λ number. chain_fault number (members parents number)) (position (λ number. is_endless (members parents number)) (numbers parents))
 
 -- ---- trees
 
@@ -83,31 +103,34 @@ root_in origin = origin.root
 abbrev pub layings : List (Option ℕ) → List Node → List Laying
 layings parents roots = map (λ number. chain_root roots (members parents number)) (numbers parents)
 
-abbrev pub has_no_root : Laying → Bool
-has_no_root refused = true
-has_no_root absent = true
-has_no_root (there n) = false
+abbrev pub is_missing : Laying → Bool
+is_missing refused = true
+is_missing absent = true
+is_missing (there n) = false
 
 abbrev pub root_there : Laying → Option Node
 root_there refused = None
 root_there absent = None
 root_there (there n) = Some n
 
+-- the first template with a refused operation in its tree, or in one that it inherits
+abbrev pub root_refusal : List Laying → Option MergeFault
+root_refusal trees = option_map BadOp (position is_missing trees)
+
 -- ---- all together
 
-abbrev pub with_layings : List Laying → Option ℕ → Result (List Node) MergeFault
-with_layings trees (Some number) = Err (BadOp number)
-with_layings trees None = Ok (filter_map root_there trees)
+-- a refusal, or else what comes behind it
+abbrev pub unless : Option MergeFault → Result (List Node) MergeFault → Result (List Node) MergeFault
+unless (Some fault) more = Err fault
+unless None more = more
 
-abbrev pub with_chains : List (Option ℕ) → List Node → Option ℕ → Result (List Node) MergeFault
-with_chains parents roots (Some number) = Err (chain_fault number (members parents number))
-with_chains parents roots None = with_layings (layings parents roots) (position has_no_root (layings parents roots))
+abbrev pub with_roots : List Laying → Result (List Node) MergeFault
+with_roots trees = unless (root_refusal trees) (Ok (filter_map root_there trees))
 
-abbrev pub with_parents : List (Option ℕ) → List Node → Option ℕ → Result (List Node) MergeFault
-with_parents parents roots (Some number) = Err (NoParent number)
-with_parents parents roots None = with_chains parents roots (position (λ number. is_endless (members parents number)) (numbers parents))
+abbrev pub with_chains : List (Option ℕ) → List Node → Result (List Node) MergeFault
+with_chains parents roots = unless (chain_refusal parents) (with_roots (layings parents roots))
 
--- the resolved trees, or the first template without a parent, else the first with an endless chain, else the first with
+-- the resolved trees, or the first template without its parent, else the first with an endless chain, else the first with
 -- a refused operation
 abbrev pub resolution_of : List Origin → Result (List Node) MergeFault
-resolution_of origins = with_parents (parents_of origins) (map root_in origins) (position (lacks_parent origins) origins)
+resolution_of origins = unless (orphan_refusal origins) (with_chains (parents_in origins) (map root_in origins))

@@ -19,9 +19,6 @@ mod laying;
 mod library;
 mod merge;
 mod operation;
-mod resolve;
-#[cfg(test)]
-mod tests;
 mod words;
 
 pub use fault::{MergeFault, OverlayFault};
