@@ -200,124 +200,132 @@ fn refuses_trees(rt: HostRuntime) -> Result<(), Fail> {
     Ok(())
 }
 
-// A part's number, its text before and behind the value of one child, values within the limits, and values past them.
-const BORDERS: [(u8, &str, &str, [&str; 2], [&str; 3]); 14] = [
+// Whether each of these values of a child makes a template. The text of the part ends behind the value.
+fn all_read(alloc: Global, library: &Library, front: &str, values: &[&str]) -> Result<bool, Fail> {
+    for value in values {
+        let text = format!(in alloc; "{front}{value}\"}}}}")?;
+        if read(alloc, library, text.as_str())?.is_err() {
+            return Ok(false);
+        }
+    }
+    Ok(true)
+}
+
+// Whether each of these values of a child is out of range.
+fn none_read(
+    alloc: Global,
+    library: &Library,
+    front: &str,
+    values: &[&str],
+    part: u8,
+) -> Result<bool, Fail> {
+    for value in values {
+        let text = format!(in alloc; "{front}{value}\"}}}}")?;
+        match read(alloc, library, text.as_str())? {
+            Err(TraitFault::OutOfRange { part: found }) if found == part => {}
+            _ => return Ok(false),
+        }
+    }
+    Ok(true)
+}
+
+// A part's text up to the value of one child, values within the limits, values past them, and the part's number.
+const BORDERS: [(&str, &[&str], &[&str], u8); 14] = [
     (
-        1,
         r#"{"Health":{"Max":""#,
-        r#""}}"#,
-        ["0.00002", "16000"],
-        ["0.00001", "16000.00002", "-1"],
+        &["0.00002", "16000"],
+        &["0.00001", "16000.00002", "-1"],
+        1,
     ),
     (
-        2,
         r#"{"Resist":{"Hack":""#,
-        r#""}}"#,
-        ["0", "40"],
-        ["-1", "41", "1.5"],
+        &["0", "40"],
+        &["-1", "41", "1.5"],
+        2,
     ),
     (
-        2,
         r#"{"Resist":{"Pierce":""#,
-        r#""}}"#,
-        ["-0.00001", "40.00001"],
-        ["-0.00002", "40.00002", "x"],
-    ),
-    (
+        &["-0.00001", "40.00001"],
+        &["-0.00002", "40.00002", "x"],
         2,
+    ),
+    (
         r#"{"Resist":{"Crush":""#,
-        r#""}}"#,
-        ["0", "40"],
-        ["-1", "41", ""],
+        &["0", "40"],
+        &["-1", "41", ""],
+        2,
     ),
     (
-        3,
         r#"{"Motion":{"Speed":""#,
-        r#""}}"#,
-        ["0.00008", "100"],
-        ["0.00007", "100.00002", "-9"],
+        &["0.00008", "100"],
+        &["0.00007", "100.00002", "-9"],
+        3,
     ),
     (
-        4,
         r#"{"Obstruct":{"Depth":16,"Width":""#,
-        r#""}}"#,
-        ["1", "16"],
-        ["0", "17", "0.99999"],
-    ),
-    (
+        &["1", "16"],
+        &["0", "17", "0.99999"],
         4,
+    ),
+    (
         r#"{"Obstruct":{"Width":16,"Depth":""#,
-        r#""}}"#,
-        ["1", "16"],
-        ["0", "17", "15.5"],
+        &["1", "16"],
+        &["0", "17", "15.5"],
+        4,
     ),
     (
-        5,
         r#"{"Attack":{"Range":1,"Vision":1,"Repeat":1,"Hack":""#,
-        r#""}}"#,
-        ["0", "1000"],
-        ["-0.00002", "1000.00002", "1."],
+        &["0", "1000"],
+        &["-0.00002", "1000.00002", "1."],
+        5,
     ),
     (
-        5,
         r#"{"Attack":{"Range":1,"Vision":1,"Repeat":1,"Pierce":""#,
-        r#""}}"#,
-        ["0", "1000"],
-        ["-1", "1001", ".5"],
+        &["0", "1000"],
+        &["-1", "1001", ".5"],
+        5,
     ),
     (
-        5,
         r#"{"Attack":{"Range":1,"Vision":1,"Repeat":1,"Crush":""#,
-        r#""}}"#,
-        ["0", "1000"],
-        ["-1", "1001", "+1"],
+        &["0", "1000"],
+        &["-1", "1001", "+1"],
+        5,
     ),
     (
-        5,
         r#"{"Attack":{"Vision":1,"Repeat":1,"Range":""#,
-        r#""}}"#,
-        ["0", "256"],
-        ["-0.00002", "256.00002", "1e1"],
+        &["0", "256"],
+        &["-0.00002", "256.00002", "1e1"],
+        5,
     ),
     (
-        5,
         r#"{"Attack":{"Range":1,"Repeat":1,"Vision":""#,
-        r#""}}"#,
-        ["0", "256"],
-        ["-1", "257", "1 2"],
+        &["0", "256"],
+        &["-1", "257", "1 2"],
+        5,
     ),
     (
-        5,
         r#"{"Attack":{"Range":1,"Vision":1,"Repeat":""#,
-        r#""}}"#,
-        ["0", "1000"],
-        ["-1", "1001", "2.5"],
+        &["0", "1000"],
+        &["-1", "1001", "2.5"],
+        5,
     ),
     (
-        5,
         r#"{"Attack":{"Range":1,"Vision":1,"Repeat":1,"Accuracy":""#,
-        r#""}}"#,
-        ["0", "100"],
-        ["-1", "101", "99.5"],
+        &["0", "100"],
+        &["-1", "101", "99.5"],
+        5,
     ),
 ];
 
 #[test]
 fn keeps_to_the_limits(rt: HostRuntime) -> Result<(), Fail> {
     let library = library(rt.alloc())?;
-    for (part, front, back, good, bad) in BORDERS {
-        for value in good {
-            let text = format!(in rt.alloc(); "{front}{value}{back}")?;
-            let found = read(rt.alloc(), &library, text.as_str())?;
-            assert!(rt; found.is_ok(), "at {text}");
-        }
-        for value in bad {
-            let text = format!(in rt.alloc(); "{front}{value}{back}")?;
-            match read(rt.alloc(), &library, text.as_str())? {
-                Ok(_) => panic!(rt; "a template at {text}"),
-                Err(fault) => assert_eq!(rt; fault, TraitFault::OutOfRange { part }, "at {text}"),
-            }
-        }
+    for (front, good, bad, part) in BORDERS {
+        assert!(rt; all_read(rt.alloc(), &library, front, good)?, "at {front}");
+        assert!(rt;
+            none_read(rt.alloc(), &library, front, bad, part)?,
+            "at {front}"
+        );
     }
     Ok(())
 }
