@@ -36,3 +36,6 @@ mod units;
 
 pub use fault::TraitFault;
 pub use template::template_of;
+
+#[cfg(test)]
+mod tests;
