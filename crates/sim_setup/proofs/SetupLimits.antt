@@ -24,9 +24,9 @@ use Rattle.sim_setup.specs.Ground.{land_in}
 use Rattle.sim_setup.specs.Rules.{rules_in}
 use Rattle.sim_tree.specs.Trees.{Node}
 use Rattle.sim_tree.specs.Sources.{Origin}
-use Rattle.sim_merge.specs.Resolution.{name_in, resolution_of}
+use Rattle.sim_merge.specs.Resolution.{name_in, names_in, are_distinct, resolution_of}
 use Rattle.sim_setup.specs.Sources.{sources_in}
-use Rattle.sim_setup.specs.Templates.{are_distinct, few_sources, merged, templates_from, next_template}
+use Rattle.sim_setup.specs.Templates.{few_sources, merged, templates_from, next_template}
 use Rattle.sim_setup.specs.Entities.{entities_within, entities_in, firsts_from, first_of}
 use Rattle.sim_setup.specs.Commands.{timeds_from, timed_of, in_order, falls_at}
 use Rattle.sim_setup.specs.Quiet.{IsQuiet, IsDelete, IsQuietMatch}
@@ -92,17 +92,17 @@ module _ (land : Land) (rules : Rules) where
     commands : List Data
     few_templates : length origins ≤ 256
     few_entities : length entities ≤ 4096
-    distinct : are_distinct (map name_in origins) ≡ true
-    read : numbered (next_template (map name_in origins) roots) [] origins ≡ Ok lists.templates
-    firsts : numbered (λ done. first_of (map name_in origins) land (players_of land)) [] entities ≡ Ok lists.first
+    distinct : are_distinct (names_in origins) ≡ true
+    read : numbered (next_template (names_in origins) roots) [] origins ≡ Ok lists.templates
+    firsts : numbered (λ done. first_of (names_in origins) land (players_of land)) [] entities ≡ Ok lists.first
     timeds : AreRead commands lists.commands
 
-  items_in-is : (os : List Origin) (es : List Data) (d : Data) (lists : Lists) → length os ≤ 256 → length es ≤ 4096 → are_distinct (map name_in os) ≡ true
+  items_in-is : (os : List Origin) (es : List Data) (d : Data) (lists : Lists) → length os ≤ 256 → length es ≤ 4096 → are_distinct (names_in os) ≡ true
       → items_in land rules os es d ≡ Ok lists → IsRead lists
   items_in-is os es d lists few_templates few_entities distinct e =
       let roots = after_ok (merged (resolution_of os)) _ lists e in
       let templates = after_ok (templates_from os roots.0) _ lists roots.2 in
-      let first = after_ok (firsts_from (map name_in os) land (players_of land) es) _ lists templates.2 in
+      let first = after_ok (firsts_from (names_in os) land (players_of land) es) _ lists templates.2 in
       let commands = after_ok (commands_in land rules d) _ lists first.2 in
       let ds = commands_in-are d commands.0 commands.1 in
       subst IsRead (ok_same (record { templates = templates.0; first = first.0; commands = commands.0 }) lists commands.2) (record {
@@ -113,8 +113,8 @@ module _ (land : Land) (rules : Rules) where
         few_templates = few_templates;
         few_entities = few_entities;
         distinct = distinct;
-        read = coded_ok 7 (numbered (next_template (map name_in os) roots.0) [] os) templates.0 templates.1;
-        firsts = coded_ok 8 (numbered (λ done. first_of (map name_in os) land (players_of land)) [] es) first.0 first.1;
+        read = coded_ok 7 (numbered (next_template (names_in os) roots.0) [] os) templates.0 templates.1;
+        firsts = coded_ok 8 (numbered (λ done. first_of (names_in os) land (players_of land)) [] es) first.0 first.1;
         timeds = ds.1;
       })
 
@@ -122,21 +122,21 @@ module _ (land : Land) (rules : Rules) where
   lists_in-is origins d lists e =
       let few = need_ok 3 7 (few_sources origins) _ lists e in
       let entities = need_ok 3 8 (entities_in d) _ lists few.2 in
-      let kept = if_some (nat_le (length origins) 256 && are_distinct (map name_in origins)) origins few.0 few.1 in
-      let tests = both_true (nat_le (length origins) 256) (are_distinct (map name_in origins)) kept.0 in
+      let kept = if_some (nat_le (length origins) 256 && are_distinct (names_in origins)) origins few.0 few.1 in
+      let tests = both_true (nat_le (length origins) 256) (are_distinct (names_in origins)) kept.0 in
       let es = and_then_some (list_at (codes "entities") d) entities_within entities.0 entities.1 in
       let short = if_some (nat_le (length es.0) 4096) es.0 entities.0 es.2 in
       items_in-is few.0 entities.0 d lists
       (subst (λ (os : List Origin). length os ≤ 256) kept.1 (leb-true (length origins) 256 tests.0))
       (subst (λ ds. length ds ≤ 4096) short.1 (leb-true (length es.0) 4096 short.0))
-      (subst (λ (os : List Origin). are_distinct (map name_in os) ≡ true) kept.1 tests.1)
+      (subst (λ (os : List Origin). are_distinct (names_in os) ≡ true) kept.1 tests.1)
       entities.2
 
   -- ---- all of it
 
   counted : (lists : Lists) (is : IsRead lists) → length lists.templates ≡ length is.origins
   counted lists is =
-      let same = numbered-length (next_template (map name_in is.origins) is.roots) [] is.origins lists.templates is.read in
+      let same = numbered-length (next_template (names_in is.origins) is.roots) [] is.origins lists.templates is.read in
       omega (arith, same)
 
   setup_with-limits : (id : List ℕ) (lists : Lists) → length id ≡ 16 → IsLand land → AreRules rules → IsRead lists → All (IsTemplate (length lists.templates)) lists.templates
@@ -151,17 +151,17 @@ module _ (land : Land) (rules : Rules) where
     seed = limits.seed;
     few_templates = omega (arith, is.few_templates, counted lists is);
     templates = templates;
-    names = names-differ (map name_in is.origins) is.roots is.origins lists.templates is.distinct is.read;
-    few_first = omega (arith, is.few_entities, numbered-length (λ done. first_of (map name_in is.origins) land (players_of land)) [] is.entities lists.first is.firsts);
-    first = numbered-All (λ done. first_of (map name_in is.origins) land (players_of land)) (IsFirst (setup_with id land rules lists)) entity is.entities lists.first is.firsts;
+    names = names-differ (names_in is.origins) is.roots is.origins lists.templates is.distinct is.read;
+    few_first = omega (arith, is.few_entities, numbered-length (λ done. first_of (names_in is.origins) land (players_of land)) [] is.entities lists.first is.firsts);
+    first = numbered-All (λ done. first_of (names_in is.origins) land (players_of land)) (IsFirst (setup_with id land rules lists)) entity is.entities lists.first is.firsts;
     commands = numbered-All (timed_of rules.turns (players_of land)) (IsTimed (setup_with id land rules lists)) command is.commands lists.commands is.timeds.each;
     in_order = in_order-IsNonDecreasing lists.commands is.timeds.ordered;
     not_crowded = timeds-not_crowded rules.turns (players_of land) is.commands lists.commands is.timeds.each;
   }
     where
-      entity : (done : List First) (d : Data) (first : First) → first_of (map name_in is.origins) land (players_of land) d ≡ Some first → IsFirst (setup_with id land rules lists) first
+      entity : (done : List First) (d : Data) (first : First) → first_of (names_in is.origins) land (players_of land) d ≡ Some first → IsFirst (setup_with id land rules lists) first
       entity done d first e =
-          let on = first_of-is (map name_in is.origins) land (players_of land) d first e in
+          let on = first_of-is (names_in is.origins) land (players_of land) d first e in
           record { template = omega (arith, on.template, length-map is.origins name_in, counted lists is); owner = on.owner; at = on.at }
 
       command : (done : List Timed) (d : Data) (timed : Timed) → timed_of rules.turns (players_of land) done d ≡ Some timed → IsTimed (setup_with id land rules lists) timed
@@ -171,8 +171,8 @@ module _ (land : Land) (rules : Rules) where
 
   setup_with-quiet : (id : List ℕ) (lists : Lists) → IsRead lists → IsQuietMatch (setup_with id land rules lists)
   setup_with-quiet id lists is = record {
-    templates = numbered-All (next_template (map name_in is.origins) is.roots) IsQuiet
-        (λ done origin t e. (template_at-is (map name_in is.origins) is.roots (length done) origin t e).quiet) is.origins lists.templates is.read;
+    templates = numbered-All (next_template (names_in is.origins) is.roots) IsQuiet
+        (λ done origin t e. (template_at-is (names_in is.origins) is.roots (length done) origin t e).quiet) is.origins lists.templates is.read;
     commands = numbered-All (timed_of rules.turns (players_of land)) (λ (timed : Timed). IsDelete timed.order.command)
         (λ done d timed e. (timed_of-is rules.turns (players_of land) done d timed e).deletes) is.commands lists.commands is.timeds.each;
   }

@@ -7,20 +7,19 @@ use Rattle.std.proofs.lemmas.List.Elements.{All-cons}
 use Rattle.std.proofs.lemmas.List.Kept.{AllPairs-cons}
 use Rattle.std.proofs.lemmas.Slice.Eq.{bytes_eq-Decides}
 use Rattle.sim_base.specs.declared.template.Template.{Template}
-use Rattle.sim_json.specs.Keys.{among}
 use Rattle.sim_json.specs.Records.{numbered}
 use Rattle.sim_json.proofs.Readers.{and_then_some, if_some, both_true}
 use Rattle.sim_json.proofs.Reading.{numbered-keeps}
 use Rattle.sim_tree.specs.Trees.{Node}
 use Rattle.sim_tree.specs.Sources.{Origin}
-use Rattle.sim_merge.specs.Resolution.{name_in}
+use Rattle.sim_merge.specs.Resolution.{name_in, names_in, are_distinct}
 use Rattle.sim_traits.specs.declared.fault.TraitFault.{TraitFault}
 use Rattle.sim_traits.specs.declared.fault.TraitFault.TheVariants.{Clash, UnknownPart}
 use Rattle.sim_traits.specs.Table.{health_part, resist_part, motion_part, obstruct_part, attack_part, train_part, has_known_parts}
 use Rattle.sim_traits.specs.Values.{health_in, resist_in, speed_in, base_in, arms_in, train_in}
 use Rattle.sim_traits.specs.Parts.{part_of, after, unarmoured, template_of_parts, template_in}
 use Rattle.sim_setup.specs.Quiet.{IsQuiet}
-use Rattle.sim_setup.specs.Templates.{are_distinct, is_quiet, if_quiet, template_at, next_template}
+use Rattle.sim_setup.specs.Templates.{is_quiet, if_quiet, template_at, next_template}
 
 -- ---- a template that is read
 
@@ -111,20 +110,20 @@ not_true : (a : Bool) → not a ≡ true → a ≡ false
 not_true true e = absurd cc
 not_true false e = refl
 
-differs : (text : List ℕ) (texts : List (List ℕ)) → among text texts ≡ false → All (λ other. text ≢ other) texts
+differs : (text : List ℕ) (texts : List (List ℕ)) → list_any (bytes_eq text) texts ≡ false → All (λ other. text ≢ other) texts
 differs text [] e = λ k d within. absurd (omega arith)
 differs text (other ∷ texts) e =
-    let parts = either_false (bytes_eq text other) (among text texts) e in
+    let parts = either_false (bytes_eq text other) (list_any (bytes_eq text) texts) e in
     All-cons (λ x. text ≢ x) other texts (λ same. true≢false (sym ((bytes_eq-Decides text other).1 same) ∙ parts.0)) (differs text texts parts.1)
 
 differ : (texts : List (List ℕ)) → are_distinct texts ≡ true → AllPairs (λ a b. a ≢ b) texts
 differ [] e = λ i j d before within. absurd (omega arith)
 differ (text ∷ texts) e =
-    let parts = both_true (not (among text texts)) (are_distinct texts) e in
-    AllPairs-cons (λ a b. a ≢ b) text texts (differs text texts (not_true (among text texts) parts.0)) (differ texts parts.1)
+    let parts = both_true (not (list_any (bytes_eq text) texts)) (are_distinct texts) e in
+    AllPairs-cons (λ a b. a ≢ b) text texts (differs text texts (not_true (list_any (bytes_eq text) texts) parts.0)) (differ texts parts.1)
 
 -- the templates of sources with different names have different names
-pub names-differ : (names : List (List ℕ)) (roots : List Node) (origins : List Origin) (templates : List Template) → are_distinct (map name_in origins) ≡ true
+pub names-differ : (names : List (List ℕ)) (roots : List Node) (origins : List Origin) (templates : List Template) → are_distinct (names_in origins) ≡ true
     → numbered (next_template names roots) [] origins ≡ Ok templates → AllPairs (λ a b. a ≢ b) (map (λ (t : Template). t.name) templates)
 names-differ names roots origins templates distinct e =
     let same = numbered-keeps (next_template names roots) named

@@ -1,11 +1,11 @@
 -- What a call that reads a match file answers. It may run out of memory, and is else what a definition says.
-use Rattle.std.specs.Prelude.{◌≡◌, ℕ, List, map, Result, Ok, Err, Vec}
+use Rattle.std.specs.Prelude.{◌≡◌, ℕ, List, Result, Ok, Err, Vec}
 use Rattle.std.specs.declared.alloc.Global.{Global}
 use Rattle.sim_tree.specs.declared.source.Source.{Source}
 use Rattle.sim_tree.specs.Trees.{Node}
-use Rattle.sim_tree.specs.Sources.{Origin, origin_of}
+use Rattle.sim_tree.specs.Sources.{Origin}
 use Rattle.sim_merge.specs.Libraries.{Holding}
-use Rattle.sim_merge.specs.Resolution.{name_in}
+use Rattle.sim_merge.specs.Resolution.{names_in, origins_of}
 use Rattle.sim_setup.specs.declared.fault.SetupFault.{SetupFault}
 use Rattle.sim_setup.specs.declared.fault.SetupFault.TheVariants.{Refused, OutOfMemory}
 use Rattle.sim_setup.specs.Refusals.{Refusal, refusal}
@@ -23,12 +23,12 @@ Tells OutOfMemory wanted_code wanted_index = Unit {0}
 
 -- the same for sources
 abbrev pub SourcesMeet : Result (Vec Source Global) SetupFault → Result (List Origin) Refusal → Type 0
-SourcesMeet (Ok sources) wanted = wanted ≡ Ok (map origin_of sources.items)
+SourcesMeet (Ok sources) wanted = wanted ≡ Ok (origins_of sources.items)
 SourcesMeet (Err (Refused code index)) wanted = wanted ≡ Err (refusal code index)
 SourcesMeet (Err OutOfMemory) wanted = Unit {0}
 
 -- the same for a library, which has the names of these sources and the wanted trees
 abbrev pub LibraryMeets : Result Holding SetupFault → List Origin → Result (List Node) Refusal → Type 0
-LibraryMeets (Ok library) origins wanted = (library.names ≡ map name_in origins) × (wanted ≡ Ok library.roots)
+LibraryMeets (Ok library) origins wanted = (library.names ≡ names_in origins) × (wanted ≡ Ok library.roots)
 LibraryMeets (Err (Refused code index)) origins wanted = wanted ≡ Err (refusal code index)
 LibraryMeets (Err OutOfMemory) origins wanted = Unit {0}

@@ -1,5 +1,5 @@
 -- The setup of a match file, or why it has none: the passes over the file, in the order of their codes.
-use Rattle.std.specs.Prelude.{ℕ, ◌-◌, List, length, map, codes, Option, Result, Ok}
+use Rattle.std.specs.Prelude.{ℕ, ◌-◌, List, length, codes, Option, Result, Ok}
 use Rattle.serde_json.specs.Data.{Data}
 use Rattle.md5.specs.Md5.{md5}
 use Rattle.sim_base.specs.declared.setup.Land.{Land}
@@ -13,7 +13,7 @@ use Rattle.sim_setup.specs.Shape.{misplaced}
 use Rattle.sim_setup.specs.Ground.{land_in}
 use Rattle.sim_setup.specs.Rules.{rules_in}
 use Rattle.sim_tree.specs.Sources.{Origin}
-use Rattle.sim_merge.specs.Resolution.{name_in, resolution_of}
+use Rattle.sim_merge.specs.Resolution.{names_in, resolution_of}
 use Rattle.sim_setup.specs.Sources.{sources_in}
 use Rattle.sim_setup.specs.Templates.{few_sources, merged, templates_from}
 use Rattle.sim_setup.specs.Entities.{entities_in, firsts_from}
@@ -31,7 +31,7 @@ commands_in land rules d = need 2 9 (list_at (codes "commands") d) (λ ds. after
 abbrev pub items_in : Land → Rules → List Origin → List Data → Data → Result Lists Refusal
 items_in land rules origins entities d =
     after (merged (resolution_of origins)) (λ roots. after (templates_from origins roots) (λ templates.
-    after (firsts_from (map name_in origins) land (players_of land) entities) (λ first.
+    after (firsts_from (names_in origins) land (players_of land) entities) (λ first.
     after (commands_in land rules d) (λ commands. Ok (record { templates = templates; first = first; commands = commands })))))
 
 -- code 3 for the lengths of lists, and codes 4 to 10

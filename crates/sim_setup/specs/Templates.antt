@@ -1,26 +1,20 @@
 -- The templates of a match file: each source with all that it inherits, read as a template. So far none may move or
 -- fight.
-use Rattle.std.specs.Prelude.{ℕ, ◌&&◌, not, nat_le, Bool, true, List, [], ◌∷◌, length, map, slice_get, Option, Some, None, is_none, option_and_then, Result, Ok, Err, if◌then◌else◌}
+use Rattle.std.specs.Prelude.{ℕ, ◌&&◌, nat_le, Bool, List, [], length, slice_get, Option, Some, None, is_none, option_and_then, Result, Ok, Err, if◌then◌else◌}
 use Rattle.sim_base.specs.declared.template.Template.{Template}
-use Rattle.sim_json.specs.Keys.{among}
 use Rattle.sim_json.specs.Records.{numbered}
 use Rattle.sim_tree.specs.Trees.{Node}
 use Rattle.sim_tree.specs.Sources.{Origin}
 use Rattle.sim_merge.specs.declared.fault.MergeFault.{MergeFault}
 use Rattle.sim_merge.specs.declared.fault.MergeFault.TheVariants.{NoParent, Cycle, ChainTooLong, BadOp, OutOfMemory}
-use Rattle.sim_merge.specs.Resolution.{name_in}
+use Rattle.sim_merge.specs.Resolution.{names_in, are_distinct}
 use Rattle.sim_traits.specs.declared.fault.TraitFault.{TraitFault}
 use Rattle.sim_traits.specs.Parts.{template_in}
 use Rattle.sim_setup.specs.Refusals.{Refusal, refusal, coded}
 
--- no two texts are equal
-abbrev pub are_distinct : List (List ℕ) → Bool
-are_distinct [] = true
-are_distinct (text ∷ texts) = not (among text texts) && are_distinct texts
-
 -- at most 256 sources, of which no two have the same name
 abbrev pub few_sources : List Origin → Option (List Origin)
-few_sources origins = if nat_le (length origins) 256 && are_distinct (map name_in origins) then Some origins else None
+few_sources origins = if nat_le (length origins) 256 && are_distinct (names_in origins) then Some origins else None
 
 -- codes 4 to 6, by what keeps a template from being resolved; want of memory is none of them
 abbrev pub merge_refusal : MergeFault → Refusal
@@ -54,4 +48,4 @@ next_template names roots done origin = template_at names roots (length done) or
 
 -- the templates, or the first that is refused
 abbrev pub templates_from : List Origin → List Node → Result (List Template) Refusal
-templates_from origins roots = coded 7 (numbered (next_template (map name_in origins) roots) [] origins)
+templates_from origins roots = coded 7 (numbered (next_template (names_in origins) roots) [] origins)

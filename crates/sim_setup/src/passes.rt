@@ -4,12 +4,10 @@
 ghost use Rattle.std.specs.Prelude.{◌≡◌, ◌≤◌, true, All, map, length, IfOk};
 ghost use Rattle.serde_json.specs.View.{view};
 ghost use Rattle.sim_base.specs.Limits.{IsSetup, IsTemplate};
-ghost use Rattle.sim_tree.specs.Sources.{origin_of};
-ghost use Rattle.sim_merge.specs.Resolution.{name_in};
+ghost use Rattle.sim_merge.specs.Resolution.{names_in, origins_of, are_distinct};
 ghost use Rattle.sim_setup.specs.Meets.{Meets};
 ghost use Rattle.sim_setup.specs.Quiet.{IsQuietMatch};
 ghost use Rattle.sim_setup.specs.Sources.{IsReadySource};
-ghost use Rattle.sim_setup.specs.Templates.{are_distinct};
 ghost use Rattle.sim_setup.specs.Setups.{players_of as players_of_land, commands_in as commands_in_data, items_in as items_in_data, lists_in as lists_in_data, setup_with as setup_with_parts, limits_in as limits_in_data, setup_in as setup_in_data, setup_of as setup_of_bytes};
 
 use crate::commands::{in_order, timeds_from};
@@ -67,7 +65,7 @@ fn limits_in(
     value: &Value,
 ) -> Result<Setup, SetupFault>
     requires { All IsReadySource sources.now }
-    ensures value { Meets result (limits_in_data id (map origin_of sources.now) (view value.now)) }
+    ensures value { Meets result (limits_in_data id (origins_of sources.now) (view value.now)) }
     ensures templates { IfOk result (λ setup. All (IsTemplate (length setup.templates)) setup.templates) }
 {
     let land = land_in(alloc, value)?;
@@ -105,7 +103,7 @@ fn lists_in(
     requires players { length land.now.masks ≤ 9 }
     requires turns { rules.turns ≤ 65535 }
     requires ready { All IsReadySource sources.now }
-    ensures value { Meets result (lists_in_data land.now rules (map origin_of sources.now) (view value.now)) }
+    ensures value { Meets result (lists_in_data land.now rules (origins_of sources.now) (view value.now)) }
     ensures templates { IfOk result (λ lists. All (IsTemplate (length lists.templates)) lists.templates) }
 {
     if !are_few(sources) {
@@ -128,9 +126,9 @@ fn items_in(
     requires players { length land.now.masks ≤ 9 }
     requires turns { rules.turns ≤ 65535 }
     requires few { length sources.now ≤ 256 }
-    requires distinct { are_distinct (map name_in (map origin_of sources.now)) ≡ true }
+    requires distinct { are_distinct (names_in (origins_of sources.now)) ≡ true }
     requires ready { All IsReadySource sources.now }
-    ensures value { Meets result (items_in_data land.now rules (map origin_of sources.now) (map view entities.now) (view value.now)) }
+    ensures value { Meets result (items_in_data land.now rules (origins_of sources.now) (map view entities.now) (view value.now)) }
     ensures templates { IfOk result (λ lists. All (IsTemplate (length lists.templates)) lists.templates) }
 {
     let library = resolved(alloc, sources)?;

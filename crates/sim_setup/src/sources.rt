@@ -2,13 +2,13 @@
 //! have different names. All items are read before any limit is looked at.
 
 ghost use Rattle.std.specs.Prelude.{◌≡◌, ◌+◌, ◌&&◌, nat_le, All, length, map, option_map, option_and_then, IfOk, IfSome};
+ghost use Rattle.std.specs.List.{list_any};
+ghost use Rattle.std.specs.Str.{bytes_eq};
 ghost use Rattle.serde_json.specs.View.{view};
-ghost use Rattle.sim_json.specs.Keys.{among};
 ghost use Rattle.sim_tree.specs.Sources.{origin_of};
-ghost use Rattle.sim_merge.specs.Resolution.{name_in};
+ghost use Rattle.sim_merge.specs.Resolution.{names_in, origins_of, are_distinct};
 ghost use Rattle.sim_setup.specs.Meets.{SourcesMeet, Tells};
 ghost use Rattle.sim_setup.specs.Sources.{IsReadySource, source_of as source_of_data, sources_from as sources_from_data, sources_in as sources_in_data};
-ghost use Rattle.sim_setup.specs.Templates.{are_distinct};
 
 use crate::fault::{SetupFault, refused};
 use serde_json::Value;
@@ -71,13 +71,13 @@ fn source_of(alloc: Global, item: &Value) -> Result<Option<Source>, OutOfMemory>
 
 /// Whether there are at most 256 sources, of which no two have the same name.
 pub fn are_few(sources: &[Source]) -> bool
-    ensures { result ≡ (nat_le (length sources.now) 256 && are_distinct (map name_in (map origin_of sources.now))) }
+    ensures { result ≡ (nat_le (length sources.now) 256 && are_distinct (names_in (origins_of sources.now))) }
 {
     sources.len() <= 256 && are_apart(sources)
 }
 
 fn are_apart(sources: &[Source]) -> bool
-    ensures { result ≡ are_distinct (map name_in (map origin_of sources.now)) }
+    ensures { result ≡ are_distinct (names_in (origins_of sources.now)) }
 {
     let mut rest = sources;
     while let [source, more @ ..] = rest {
@@ -90,7 +90,7 @@ fn are_apart(sources: &[Source]) -> bool
 }
 
 fn is_among(name: &str, sources: &[Source]) -> bool
-    ensures { result ≡ among name.now (map name_in (map origin_of sources.now)) }
+    ensures { result ≡ list_any (bytes_eq name.now) (names_in (origins_of sources.now)) }
 {
     let mut rest = sources;
     while let [source, more @ ..] = rest {

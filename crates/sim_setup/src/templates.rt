@@ -1,10 +1,10 @@
 //! Code 7: the templates of resolved sources. A template that moves or fights is refused too, until there are moves and
 //! fights.
 
-ghost use Rattle.std.specs.Prelude.{◌≡◌, ◌<◌, ◌≤◌, All, length, map, IfOk, IfSome};
+ghost use Rattle.std.specs.Prelude.{◌≡◌, ◌<◌, ◌≤◌, All, length, IfOk, IfSome};
 ghost use Rattle.sim_base.specs.Limits.{IsTemplate};
 ghost use Rattle.sim_tree.specs.Sources.{origin_of};
-ghost use Rattle.sim_merge.specs.Resolution.{name_in};
+ghost use Rattle.sim_merge.specs.Resolution.{names_in, origins_of};
 ghost use Rattle.sim_setup.specs.Meets.{Meets};
 ghost use Rattle.sim_setup.specs.Templates.{is_quiet as is_quiet_template, template_at as template_at_number, templates_from as templates_from_sources};
 
@@ -22,8 +22,8 @@ pub fn templates_from(
     library: &Library,
 ) -> Result<Templates, SetupFault>
     requires few { length sources.now ≤ 256 }
-    requires names { library.now.names ≡ map name_in (map origin_of sources.now) }
-    ensures value { Meets result (templates_from_sources (map origin_of sources.now) library.now.roots) }
+    requires names { library.now.names ≡ names_in (origins_of sources.now) }
+    ensures value { Meets result (templates_from_sources (origins_of sources.now) library.now.roots) }
     ensures limits { IfOk result (λ templates. All (IsTemplate (length templates)) templates) }
 {
     let mut found = Vec::new(alloc);
