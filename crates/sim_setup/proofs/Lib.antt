@@ -5,3 +5,4 @@ pub mod TemplateLimits
 pub mod EntityLimits
 pub mod CommandLimits
 pub mod SetupLimits
+pub mod SourceLimits

@@ -4,6 +4,8 @@ use Rattle.std.specs.declared.alloc.Global.{Global}
 use Rattle.sim_tree.specs.declared.source.Source.{Source}
 use Rattle.sim_tree.specs.Trees.{Node}
 use Rattle.sim_tree.specs.Sources.{Origin}
+use Rattle.sim_merge.specs.declared.fault.MergeFault.{MergeFault}
+use Rattle.sim_merge.specs.declared.fault.MergeFault.TheVariants as merge
 use Rattle.sim_merge.specs.Libraries.{Holding}
 use Rattle.sim_merge.specs.Resolution.{names_in, origins_of}
 use Rattle.sim_setup.specs.declared.fault.SetupFault.{SetupFault}
@@ -32,3 +34,11 @@ abbrev pub LibraryMeets : Result Holding SetupFault → List Origin → Result (
 LibraryMeets (Ok library) origins wanted = (library.names ≡ names_in origins) × (wanted ≡ Ok library.roots)
 LibraryMeets (Err (Refused code index)) origins wanted = wanted ≡ Err (refusal code index)
 LibraryMeets (Err OutOfMemory) origins wanted = Unit {0}
+
+-- a fault is the refusal for this cause, or memory ran out in both
+abbrev pub Refuses : SetupFault → MergeFault → Type 0
+Refuses fault merge.OutOfMemory = fault ≡ OutOfMemory
+Refuses fault (merge.NoParent index) = fault ≡ Refused 4 index
+Refuses fault (merge.Cycle index) = fault ≡ Refused 5 index
+Refuses fault (merge.ChainTooLong index) = fault ≡ Refused 5 index
+Refuses fault (merge.BadOp index) = fault ≡ Refused 6 index

@@ -2,12 +2,12 @@
 
 ghost use Rattle.std.specs.Prelude.{◌≡◌, ◌≤◌, true, All, length};
 ghost use Rattle.sim_merge.specs.Resolution.{names_in, origins_of, are_distinct, resolution_of};
-ghost use Rattle.sim_setup.specs.Meets.{LibraryMeets};
+ghost use Rattle.sim_setup.specs.Meets.{LibraryMeets, Refuses};
 ghost use Rattle.sim_setup.specs.Sources.{IsReadySource};
 ghost use Rattle.sim_setup.specs.Templates.{merged};
 
 use crate::fault::SetupFault;
-use sim_merge::Library;
+use sim_merge::{Library, MergeFault};
 use sim_tree::Source;
 use std::alloc::Global;
 
@@ -18,6 +18,20 @@ pub fn resolved(alloc: Global, sources: &[Source]) -> Result<Library, SetupFault
     requires ready { All IsReadySource sources.now }
     ensures { LibraryMeets result (origins_of sources.now) (merged (resolution_of (origins_of sources.now))) }
 {
-    let _unused = (alloc, sources.len());
-    Err(SetupFault::OutOfMemory)
+    match Library::resolve(alloc, sources) {
+        Ok(library) => Ok(library),
+        Err(fault) => Err(refusal(fault)),
+    }
+}
+
+fn refusal(fault: MergeFault) -> SetupFault
+    ensures { Refuses result fault }
+{
+    match fault {
+        MergeFault::NoParent { index } => SetupFault::Refused { code: 4, index },
+        MergeFault::Cycle { index } => SetupFault::Refused { code: 5, index },
+        MergeFault::ChainTooLong { index } => SetupFault::Refused { code: 5, index },
+        MergeFault::BadOp { index } => SetupFault::Refused { code: 6, index },
+        MergeFault::OutOfMemory => SetupFault::OutOfMemory,
+    }
 }
