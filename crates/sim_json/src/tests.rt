@@ -2,8 +2,8 @@
 //! exponent that fits 64 bits.
 
 use crate::{
-    fixed, four, front_two, has_list, has_row, has_table, has_table_of, has_whole, list_at, natural_at,
-    natural_in, other_key, text_at, two, value_of,
+    fixed, four, front_two, has_list, has_row, has_table, has_table_of, has_whole, list_at,
+    natural_at, natural_in, other_key, text_at, two, value_of,
 };
 use serde_json::Value;
 use sim_base::Fixed;
