@@ -255,16 +255,17 @@ fn finds_what_stands_at_a_path(rt: HostRuntime) -> Result<(), Fail> {
     )?;
     let a = name(alloc, "a")?;
     let b = copy_name(alloc, &name(alloc, "b")?)?;
-    let path = [a, b, name(alloc, "c")?];
+    let names = [a, b, name(alloc, "c")?];
+    let path = names.as_slice();
     assert_eq!(rt; tree.at(&path[..0]), Some("root"));
     assert_eq!(rt; tree.at(&path[..1]), Some("1.5"));
     assert_eq!(rt; tree.at(&path[..2]), None);
-    assert_eq!(rt; tree.at(&path), Some("  x -y  x "));
+    assert_eq!(rt; tree.at(path), Some("  x -y  x "));
     assert_eq!(rt; tree.at(&path[1..]), None);
     assert_eq!(rt; tree.number(&path[..1]), Some(Fixed::from_raw(98_304)));
-    assert_eq!(rt; tree.number(&path), None);
+    assert_eq!(rt; tree.number(path), None);
     assert_eq!(rt; tree.tokens(alloc, &path[..2])?.as_slice().len(), 0);
-    let words = tree.tokens(alloc, &path)?;
+    let words = tree.tokens(alloc, path)?;
     let mut joined = String::new(alloc);
     for word in words.as_slice() {
         joined.push_str(word.as_str())?;
