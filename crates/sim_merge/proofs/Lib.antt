@@ -8,3 +8,4 @@ pub mod WordLemmas
 pub mod LayingLemmas
 pub mod Examples
 pub mod ResolutionLemmas
+pub mod FitLemmas
