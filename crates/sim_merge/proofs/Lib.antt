@@ -9,3 +9,5 @@ pub mod LayingLemmas
 pub mod Examples
 pub mod ResolutionLemmas
 pub mod FitLemmas
+pub mod ResolvedLemmas
+pub mod KeepingLemmas
