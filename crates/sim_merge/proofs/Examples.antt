@@ -2,6 +2,7 @@
 use Rattle.std.proofs.Common.{◌≡◌, ℕ, List, [], ◌∷◌, Option, Some, None, Ok, Err, true, false, refl}
 use Rattle.std.specs.Prelude.{codes, map}
 use Rattle.std.specs.List.{range_with_len}
+use Rattle.std.specs.Fmt.{digits}
 use Rattle.sim_tree.specs.declared.tree.TreeMark.{TreeMark}
 use Rattle.sim_tree.specs.declared.tree.TreeMark.TheVariants.{Disable, Replace, Merge, Add, Mul, Tokens}
 use Rattle.sim_tree.specs.Trees.{Node, Children, node, child, no_children}
@@ -42,7 +43,7 @@ with_each_mark : laid (Some lower) upper ≡ there (over None
     (child (codes "A") (over None (child (codes "Z") (leaf (codes "3")) no_children))
     (child (codes "B") (leaf (codes "15"))
     (child (codes "C") (leaf (codes "p q y")) no_children))))
-unfolding text_by words_over lower upper
+unfolding text_by words_over lower upper digits
 with_each_mark = refl
 
 -- ---- operations that are hidden or met

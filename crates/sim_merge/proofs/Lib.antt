@@ -8,3 +8,6 @@ pub mod WordLemmas
 pub mod LayingLemmas
 pub mod Examples
 pub mod ResolutionLemmas
+pub mod FitLemmas
+pub mod ResolvedLemmas
+pub mod KeepingLemmas

@@ -1,13 +1,12 @@
 -- Facts of parents and chains.
-use Rattle.std.proofs.Common.{◌≡◌, ℕ, zero, suc, ◌+◌, ◌-◌, ◌<◌, ◌≤◌, Bool, true, false, not, nat_lt, List, [], ◌∷◌, ◌++◌, length, map, get_or, position, Option, Some, None, refl, sym, ap, ◌∙◌, arith, cond, true≢false, zero-add}
-use Rattle.std.specs.Prelude.{option_map, slice_get, unwrap_or}
+use Rattle.std.proofs.Common.{◌≡◌, ℕ, zero, suc, ◌+◌, ◌-◌, ◌<◌, ◌≤◌, Bool, true, false, not, ◌||◌, nat_lt, List, [], ◌∷◌, ◌++◌, length, map, get_or, position, Option, Some, None, refl, sym, ap, ◌∙◌, arith, cond, true≢false, zero-add}
+use Rattle.std.specs.Prelude.{option_map}
 use Rattle.std.specs.List.{prefix_len, position_or_len, range_with_len}
 use Rattle.std.proofs.lemmas.Bool.{cond-true, cond-false}
 use Rattle.std.proofs.lemmas.Bool.Decides.{nat_tests}
-use Rattle.std.proofs.lemmas.Option.{unwrap_or-slice_get}
 use Rattle.std.proofs.lemmas.List.Sums.{position_or_len_is}
 use Rattle.std.proofs.lemmas.List.FromFn.{get_or-range_with_len, length-range_with_len}
-use Rattle.sim_merge.specs.Resolution.{is_endless, chain_from, members, chain_fault, chain_refusal}
+use Rattle.sim_merge.specs.Resolution.{is_endless, repeats, most_members, chain_from, members, chain_fault, chain_refusal}
 use Rattle.sim_merge.specs.Faults.{IfRefusal}
 use Rattle.sim_merge.specs.declared.fault.MergeFault.{MergeFault}
 use Rattle.sim_merge.specs.declared.fault.MergeFault.TheVariants.{NoParent, Cycle, ChainTooLong, BadOp, OutOfMemory}
@@ -78,4 +77,32 @@ pub chain_from-next : (parents : List (Option ℕ)) (seen member : ℕ) → seen
     chain_from parents (17 - seen) (Some member) ≡ member ∷ chain_from parents (17 - (seen + 1)) (get_or parents member None)
 chain_from-next parents seen member within =
     let one : 17 - seen ≡ suc (17 - (seen + 1)) = omega arith in
-    ap (λ n. chain_from parents n (Some member)) one ∙ ap (λ o. member ∷ chain_from parents (17 - (seen + 1)) o) (unwrap_or-slice_get parents member None)
+    ap (λ n. chain_from parents n (Some member)) one
+
+-- ---- the chain of a parent
+
+chain_from-more : (parents : List (Option ℕ)) (k : ℕ) (o : Option ℕ) → length (chain_from parents k o) < k → chain_from parents (suc k) o ≡ chain_from parents k o
+chain_from-more parents zero o few = absurd (omega arith)
+chain_from-more parents (suc k) None few = refl
+chain_from-more parents (suc k) (Some number) few =
+    ap (λ chain. number ∷ chain) (chain_from-more parents k (get_or parents number None) (omega (arith, few)))
+
+few-members : (chain : List ℕ) → is_endless chain ≡ false → length chain ≤ 16
+few-members chain e = by (repeats chain) e
+  where
+    by : (b : Bool) → (b || nat_lt 16 (length chain)) ≡ false → length chain ≤ 16
+    by true e = absurd (true≢false e)
+    by false e = grind (arith, nat_tests)
+
+pub members-parent : (parents : List (Option ℕ)) (number parent : ℕ) → is_endless (members parents number) ≡ false → get_or parents number None ≡ Some parent →
+    members parents number ≡ number ∷ members parents parent
+unfolding members
+members-parent parents number parent ended is =
+    let first : chain_from parents 17 (Some number) ≡ number ∷ chain_from parents 16 (Some parent) = ap (λ o. number ∷ chain_from parents 16 o) is in
+    let few : length (chain_from parents 17 (Some number)) ≤ 16 = few-members (chain_from parents 17 (Some number)) ended in
+    let fewer : length (chain_from parents 16 (Some parent)) < 16 = omega (arith, few, ap length first) in
+    first ∙ ap (λ chain. number ∷ chain) (sym (chain_from-more parents 16 (Some parent) fewer))
+
+pub members-first : (parents : List (Option ℕ)) (number : ℕ) → get_or parents number None ≡ None → members parents number ≡ number ∷ []
+unfolding members
+members-first parents number is = ap (λ o. number ∷ chain_from parents 16 o) is

@@ -1,10 +1,12 @@
 -- What the steps of an overlay do to lists of children: the words in which its functions speak of trees in memory.
-use Rattle.std.specs.Prelude.{◌≡◌, ℕ, Bool, true, List, Option, Some, None}
+use Rattle.std.specs.Prelude.{◌≡◌, ℕ, Bool, true, List, Option, Some, None, Result, Ok, Err}
 use Rattle.std.specs.Borrow.{Bor}
 use Rattle.sim_tree.specs.declared.tree.Tree.{Tree}
 use Rattle.sim_tree.specs.Trees.{Node, Children, node, child, no_children, node_of, under, value_of, child_named, is_sound, are_sound}
+use Rattle.sim_merge.specs.declared.fault.OverlayFault.{OverlayFault}
+use Rattle.sim_merge.specs.Faults.{IfBadOp}
 use Rattle.sim_merge.specs.Values.{Value, value_over}
-use Rattle.sim_merge.specs.Laying.{Laying, absent, there, lower_value, lower_children, before, behind, followed_by, with_lower, over_children, laid_under}
+use Rattle.sim_merge.specs.Laying.{Laying, refused, absent, there, lower_value, lower_children, before, behind, followed_by, with_lower, over_children, laid_under}
 
 -- the node behind a reference, if there is a tree
 abbrev pub node_if : Option (Bor Tree) → Option Node
@@ -19,6 +21,11 @@ is_sound_if (Some n) = is_sound n
 abbrev pub laying_of : Option Tree → Laying
 laying_of None = absent
 laying_of (Some tree) = there (node_of tree)
+
+-- a tree is that of a laying, or the laying is refused
+abbrev pub IsTreeOf : Result Tree OverlayFault → Laying → Type 0
+IsTreeOf (Ok tree) laying = laying ≡ there (node_of tree)
+IsTreeOf (Err fault) laying = IfBadOp fault (laying ≡ refused)
 
 -- an upper node laid over a lower one as if it had no mark
 abbrev pub laid_unmarked : Option Node → Node → Laying

@@ -1,5 +1,5 @@
 -- The resolved trees of templates, each with all that it inherits, or the first template that has none.
-use Rattle.std.specs.Prelude.{ℕ, zero, suc, Bool, true, false, ◌&&◌, not, ◌||◌, nat_lt, ◌==◌, List, [], ◌∷◌, length, map, position, filter_map, Option, Some, None, is_some, is_none, option_map, option_and_then, slice_get, unwrap_or, Result, Ok, Err, if◌then◌else◌}
+use Rattle.std.specs.Prelude.{ℕ, zero, suc, Bool, true, false, ◌&&◌, not, ◌||◌, nat_lt, ◌==◌, List, [], ◌∷◌, length, map, position, filter_map, Option, Some, None, is_some, is_none, option_map, option_and_then, slice_get, slice_index_or, Result, Ok, Err, if◌then◌else◌}
 use Rattle.std.specs.List.{list_any, range_with_len}
 use Rattle.std.specs.Str.{bytes_eq}
 use Rattle.sim_tree.specs.Trees.{Node, node, no_children}
@@ -48,7 +48,7 @@ orphan_refusal origins = option_map NoParent (position (is_orphan (names_in orig
 abbrev pub chain_from : List (Option ℕ) → ℕ → Option ℕ → List ℕ
 chain_from parents zero number = []
 chain_from parents (suc more) None = []
-chain_from parents (suc more) (Some number) = number ∷ chain_from parents more (unwrap_or (slice_get parents number) None)
+chain_from parents (suc more) (Some number) = number ∷ chain_from parents more (slice_index_or parents number None)
 
 -- how many members a chain has at most
 abbrev pub most_members : ℕ
@@ -99,6 +99,9 @@ chain_root roots (number ∷ chain) = inherited (chain_root roots chain) (slice_
 abbrev pub root_in : Origin → Node
 root_in origin = origin.root
 
+abbrev pub roots_in : List Origin → List Node
+roots_in origins = map root_in origins
+
 -- the tree of each template
 abbrev pub layings : List (Option ℕ) → List Node → List Laying
 layings parents roots = map (λ number. chain_root roots (members parents number)) (numbers parents)
@@ -133,4 +136,4 @@ with_chains parents roots = unless (chain_refusal parents) (with_roots (layings 
 -- the resolved trees, or the first template without its parent, else the first with an endless chain, else the first with
 -- a refused operation
 abbrev pub resolution_of : List Origin → Result (List Node) MergeFault
-resolution_of origins = unless (orphan_refusal origins) (with_chains (parents_in origins) (map root_in origins))
+resolution_of origins = unless (orphan_refusal origins) (with_chains (parents_in origins) (roots_in origins))

@@ -6,7 +6,7 @@ ghost use Rattle.std.specs.Str.{bytes_eq};
 ghost use Rattle.sim_tree.specs.Sources.{origin_of};
 ghost use Rattle.sim_merge.specs.Faults.{IfRefusal};
 ghost use Rattle.sim_merge.specs.Resolution.{origins_of, names_in, are_distinct, parent_among, parents_in, is_orphan as is_orphan_among, orphan_refusal, members, repeats as repeats_in, chain_refusal};
-ghost use Rattle.sim_merge.specs.Keeping.{AreWithin, ChainMeets};
+ghost use Rattle.sim_merge.specs.Keeping.{AreWithin, IsForest, ChainMeets};
 
 use crate::fault::MergeFault;
 use indexmap::IndexSet;
@@ -104,7 +104,8 @@ pub fn place_of(names: &IndexSet<String>, name: &str) -> Option<usize>
 pub fn check_chains(alloc: Global, parents: &[Option<usize>]) -> Result<(), MergeFault>
     requires few { length parents.now ≤ 256 }
     requires within { AreWithin parents.now }
-    ensures { MatchResult result
+    ensures ended { OnOk result (IsForest parents.now) }
+    ensures refused { MatchResult result
         (λ _. chain_refusal parents.now ≡ None)
         (λ fault. IfRefusal fault (chain_refusal parents.now ≡ Some fault)) }
 {

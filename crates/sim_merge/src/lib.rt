@@ -19,6 +19,7 @@ mod laying;
 mod library;
 mod merge;
 mod operation;
+mod resolve;
 mod words;
 
 pub use fault::{MergeFault, OverlayFault};

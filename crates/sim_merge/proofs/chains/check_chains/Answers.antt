@@ -4,8 +4,8 @@ use Rattle.sim_merge.specs.Resolution.{members, is_endless, chain_fault, chain_r
 use Rattle.sim_merge.proofs.ResolutionLemmas.{chain_refusal-at, chain_refusal-none, IfRefusal-from}
 use Rattle.sim_merge.proofs.chains.check_chains.Goals as goal
 
-pub returns-in_err-check_chain : goal.returns-in_err-check_chain
-returns-in_err-check_chain c =
+pub returns-in_err-check_chain-clause-refused : goal.returns-in_err-check_chain-clause-refused
+returns-in_err-check_chain-clause-refused c =
     let parents = c.args.parents.now in
     let number = c.loop-number.number in
     let fault = c.in_err-check_chain.field-0.0 in
@@ -24,5 +24,5 @@ loop-number-preserved c =
     let chain : c.as_slice.result.now ≡ members parents number = c.as_slice.ensures.value ∙ c.in_ok-put_members.ensures in
     below_more (λ k. is_endless (members parents k) ≡ false) number c.loop-number.invariant (ap is_endless (sym chain) ∙ c.in_ok-check_chain.ensures)
 
-pub returns : goal.returns
-returns c = chain_refusal-none c.args.parents.now (λ k h. c.loop-number.invariant k (omega (arith, c.loop-number-test.false)))
+pub returns-clause-refused : goal.returns-clause-refused
+returns-clause-refused c = chain_refusal-none c.args.parents.now (λ k h. c.loop-number.invariant k (omega (arith, c.loop-number-test.false)))

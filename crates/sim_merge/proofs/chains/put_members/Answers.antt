@@ -1,5 +1,4 @@
 use Rattle.std.proofs.Common.{◌≡◌, ◌+◌, ◌-◌, ◌<◌, ℕ, [], ◌∷◌, ◌++◌, get_or, append_assoc, None, Some, Option, sym, ap, ◌∙◌, arith}
-use Rattle.std.proofs.lemmas.Option.{slice_get-get_or}
 use Rattle.sim_merge.specs.Resolution.{members, chain_from}
 use Rattle.sim_merge.proofs.ResolutionLemmas.{chain_from-next}
 use Rattle.sim_merge.proofs.chains.put_members.Goals as goal
@@ -24,6 +23,5 @@ loop-seen-preserved c =
           ∙ ap (λ xs. chain ++ xs) (sym (chain_from-next parents seen member c.loop-seen-test.true))
           ∙ ap (λ o. chain ++ chain_from parents (17 - seen) o) (sym c.in-Some.is)
           ∙ c.loop-seen.invariant.chain;
-      within = λ parent e. c.requires.within.within member parent
-          (slice_get-get_or parents member None (c.loop-seen.invariant.within member c.in-Some.is) ∙ ap Some e);
+      within = λ parent e. c.requires.within.within member parent e;
     }
