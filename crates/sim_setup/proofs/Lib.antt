@@ -6,3 +6,4 @@ pub mod EntityLimits
 pub mod CommandLimits
 pub mod SetupLimits
 pub mod SourceLimits
+pub mod Examples
