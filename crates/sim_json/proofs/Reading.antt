@@ -1,13 +1,12 @@
 -- What holds of the records of a list, from what holds of each.
-use Rattle.std.proofs.Common.{◌≡◌, ℕ, ◌+◌, All, List, [], ◌∷◌, ◌++◌, length, Option, None, Some, Result, Ok, Err, refl, sym, ap, ◌∙◌, subst, arith, length-append, append_assoc}
+use Rattle.std.proofs.Common.{◌≡◌, ℕ, ◌+◌, All, List, [], ◌∷◌, ◌++◌, length, Option, None, Some, Ok, Err, refl, sym, ap, subst, arith, length-append, append_assoc}
 use Rattle.std.proofs.lemmas.List.{append-nil, length_push}
 use Rattle.std.proofs.lemmas.List.Elements.{All-push}
-use Rattle.serde_json.specs.Data.{Data}
 use Rattle.sim_json.specs.Records.{next_or, records, numbered}
 use Rattle.sim_json.specs.Least.{IsLeast}
 
-module _ {X : Type 0} (read : List X → Data → Option X) where
-  with_item : (done : List X) (d : Data) (ds : List Data) (i : ℕ) (x : X) → read done d ≡ Some x → IsLeast read (done ++ x ∷ []) ds i → IsLeast read done (d ∷ ds) i
+module _ {X D : Type 0} (read : List X → D → Option X) where
+  with_item : (done : List X) (d : D) (ds : List D) (i : ℕ) (x : X) → read done d ≡ Some x → IsLeast read (done ++ x ∷ []) ds i → IsLeast read done (d ∷ ds) i
   with_item done d ds i x is least = record {
     front = d ∷ least.front;
     refused = least.refused;
@@ -20,7 +19,7 @@ module _ {X : Type 0} (read : List X → Data → Option X) where
   }
 
   -- the number of a refusal is the least
-  pub is_least : (done : List X) (ds : List Data) (i : ℕ) → numbered read done ds ≡ Err i → IsLeast read done ds i
+  pub is_least : (done : List X) (ds : List D) (i : ℕ) → numbered read done ds ≡ Err i → IsLeast read done ds i
   is_least done [] i e = absurd cc
   is_least done (d ∷ ds) i e = by (read done d) refl e (λ x. is_least (done ++ x ∷ []) ds i)
     where
@@ -39,9 +38,9 @@ module _ {X : Type 0} (read : List X → Data → Option X) where
       by (Some x) is e later = with_item done d ds i x is (later x e)
 
   -- what each record keeps, beside the items that are read, holds of all
-  pub numbered-keeps : (Keeps : List Data → List X → Type 0)
-      → ((front : List Data) (done : List X) (d : Data) (x : X) → read done d ≡ Some x → Keeps front done → Keeps (front ++ d ∷ []) (done ++ x ∷ []))
-      → (front : List Data) (done : List X) (ds : List Data) (xs : List X) → numbered read done ds ≡ Ok xs → Keeps front done → Keeps (front ++ ds) xs
+  pub numbered-keeps : (Keeps : List D → List X → Type 0)
+      → ((front : List D) (done : List X) (d : D) (x : X) → read done d ≡ Some x → Keeps front done → Keeps (front ++ d ∷ []) (done ++ x ∷ []))
+      → (front : List D) (done : List X) (ds : List D) (xs : List X) → numbered read done ds ≡ Ok xs → Keeps front done → Keeps (front ++ ds) xs
   numbered-keeps Keeps step front done [] xs e kept =
       let same : done ≡ xs = cc in
       subst (λ ys. Keeps (front ++ []) ys) same (subst (λ ds. Keeps ds done) (sym (append-nil front)) kept)
@@ -55,7 +54,7 @@ module _ {X : Type 0} (read : List X → Data → Option X) where
           subst (λ es. Keeps es xs) (append_assoc front (d ∷ []) ds) (later x e (step front done d x is kept))
 
   -- a list that is read as a whole has no item that is refused
-  pub numbered_from_records : (done : List X) (ds : List Data) (xs : List X) → records read done ds ≡ Some xs → numbered read done ds ≡ Ok xs
+  pub numbered_from_records : (done : List X) (ds : List D) (xs : List X) → records read done ds ≡ Some xs → numbered read done ds ≡ Ok xs
   numbered_from_records done [] xs e = let same : done ≡ xs = cc in ap Ok same
   numbered_from_records done (d ∷ ds) xs e = by (read done d) e (λ x. numbered_from_records (done ++ x ∷ []) ds xs)
     where
@@ -66,14 +65,14 @@ module _ {X : Type 0} (read : List X → Data → Option X) where
       by (Some x) e later = later x e
 
   -- there are as many records as items
-  pub numbered-length : (done : List X) (ds : List Data) (xs : List X) → numbered read done ds ≡ Ok xs → length xs ≡ length done + length ds
+  pub numbered-length : (done : List X) (ds : List D) (xs : List X) → numbered read done ds ≡ Ok xs → length xs ≡ length done + length ds
   numbered-length done ds xs e =
       numbered-keeps (λ front ys. length ys ≡ length done + length front)
       (λ front ys d y is same. omega (arith, same, length_push ys y, length_push front d))
       [] done ds xs e (omega arith)
 
   -- what each record has, all have
-  pub numbered-All : (P : X → Type 0) → ((done : List X) (d : Data) (x : X) → read done d ≡ Some x → P x)
-      → (ds : List Data) (xs : List X) → numbered read [] ds ≡ Ok xs → All P xs
+  pub numbered-All : (P : X → Type 0) → ((done : List X) (d : D) (x : X) → read done d ≡ Some x → P x)
+      → (ds : List D) (xs : List X) → numbered read [] ds ≡ Ok xs → All P xs
   numbered-All P each ds xs e =
       numbered-keeps (λ front ys. All P ys) (λ front ys d y is all. All-push P ys y all (each ys d y is)) [] [] ds xs e (λ k d within. absurd (omega arith))

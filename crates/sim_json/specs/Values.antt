@@ -1,9 +1,11 @@
 -- Values of JSON: what a text stands for, and the lists, texts and whole numbers in it.
-use Rattle.std.specs.Prelude.{ℕ, ◌&&◌, nat_le, List, [], ◌∷◌, Option, Some, None, option_map, option_and_then, if◌then◌else◌}
+use Rattle.std.specs.Prelude.{ℕ, ℤ, pos, ◌*ℤ◌, ◌&&◌, nat_le, List, [], ◌∷◌, Option, Some, None, option_map, option_and_then, is_some, if◌then◌else◌}
 use Rattle.std.specs.Str.{is_utf8}
 use Rattle.serde_json.specs.Data.{Data, Items, no_items, item}
 use Rattle.serde_json.specs.Read.{read}
-use Rattle.serde_json.specs.Find.{get, as_number, as_u64, as_str, as_array}
+use Rattle.serde_json.specs.Find.{get, as_number, as_u64, as_i64, as_str, as_array}
+use Rattle.sim_base.specs.Numbers.{unit}
+use Rattle.sim_base.specs.NumberText.{number_of, in_range}
 
 -- the value of a text, where the bytes are UTF-8 and a text that has one
 abbrev pub value_of : List ℕ → Option Data
@@ -41,6 +43,18 @@ natural_in low high d = option_and_then (if_within low high) (natural d)
 -- the same, under a key
 abbrev pub natural_at : ℕ → ℕ → List ℕ → Data → Option ℕ
 natural_at low high key d = option_and_then (natural_in low high) (get key d)
+
+-- the raw of so many whole metres, where it is one
+abbrev pub metres : ℤ → Option ℤ
+metres whole = in_range (whole *ℤ pos unit)
+
+-- the raw of a text that spells a number
+abbrev pub spelled : Option (List ℕ) → Option ℤ
+spelled text = option_and_then number_of text
+
+-- the raw of a value: of a text that spells a number, or of a whole number of metres
+abbrev pub fixed : Data → Option ℤ
+fixed d = if is_some (as_str d) then spelled (as_str d) else option_and_then metres (option_and_then as_i64 (as_number d))
 
 -- the items of a list that has exactly two
 abbrev pub two : List Data → Option (Data × Data)

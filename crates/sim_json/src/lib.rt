@@ -5,7 +5,7 @@
 //! `specs/` also have the two ways in which a list of records is read, as a whole or up to the first item that is
 //! refused; every reader of a list meets one of them.
 //!
-//! - `values`: texts, lists, whole numbers.
+//! - `values`: texts, lists, numbers.
 //! - `kinds`: of which kind a value is.
 //! - `keys`: which keys an object has.
 #![tactic(auto)]
@@ -17,7 +17,8 @@ mod values;
 pub use keys::other_key;
 pub use kinds::{has_list, has_row, has_table, has_table_of, has_whole};
 pub use values::{
-    four, front_two, list_at, list_of, natural, natural_at, natural_in, text_at, two, value_of,
+    fixed, four, front_two, list_at, list_of, natural, natural_at, natural_in, text_at, two,
+    value_of,
 };
 
 #[cfg(test)]

@@ -2,10 +2,11 @@
 //! exponent that fits 64 bits.
 
 use crate::{
-    four, front_two, has_list, has_row, has_table, has_table_of, has_whole, list_at, natural_at,
-    natural_in, other_key, text_at, two, value_of,
+    fixed, four, front_two, has_list, has_row, has_table, has_table_of, has_whole, list_at,
+    natural_at, natural_in, other_key, text_at, two, value_of,
 };
 use serde_json::Value;
+use sim_base::Fixed;
 use std::alloc::Global;
 use std::test::Fail;
 
@@ -93,6 +94,34 @@ fn tells_lists_and_keys(rt: HostRuntime) -> Result<(), Fail> {
     ];
     assert_eq!(rt; other_key(&value, &keys), false);
     assert_eq!(rt; other_key(&value, &["zero", "twice"]), true);
+    Ok(())
+}
+
+#[test]
+fn tells_numbers_with_a_fraction(rt: HostRuntime) -> Result<(), Fail> {
+    let cases = [
+        ("0", Some(0)),
+        ("-32768", Some(-2_147_483_648)),
+        ("32767", Some(2_147_418_112)),
+        ("32768", None),
+        ("-32769", None),
+        ("18446744073709551615", None),
+        ("1.0", None),
+        ("-0", None),
+        (r#""1.5""#, Some(98_304)),
+        (r#""-0""#, Some(0)),
+        (r#""-0.00001""#, Some(0)),
+        (r#""32767.999999""#, Some(2_147_483_647)),
+        (r#""32768""#, None),
+        (r#""00000000001""#, None),
+        (r#"" 1""#, None),
+        ("[1]", None),
+        ("null", None),
+    ];
+    for (text, raw) in cases {
+        let value = value_of(rt.alloc(), text.as_bytes())?.ok_or("no value")?;
+        assert_eq!(rt; fixed(&value).map(Fixed::raw), raw, "at {text}");
+    }
     Ok(())
 }
 

@@ -2,10 +2,10 @@
 
 ghost use Rattle.std.specs.Prelude.{◌≡◌, ◌≤◌, map, option_map, IfOk, IfSome};
 ghost use Rattle.serde_json.specs.View.{view};
-ghost use Rattle.sim_json.specs.Values.{value_of as value_of_bytes, list_of as list_of_data, list_at as list_at_key, text_at as text_at_key, natural as natural_of, natural_in as natural_within, natural_at as natural_at_key, two as two_of, four as four_of, front_two as front_two_of};
+ghost use Rattle.sim_json.specs.Values.{value_of as value_of_bytes, list_of as list_of_data, list_at as list_at_key, text_at as text_at_key, natural as natural_of, natural_in as natural_within, natural_at as natural_at_key, fixed as fixed_of, metres as metres_of, two as two_of, four as four_of, front_two as front_two_of};
 
 use serde_json::{Category, Value};
-use sim_base::OutOfMemory;
+use sim_base::{Fixed, OutOfMemory};
 use std::alloc::Global;
 
 /// The value of a text in UTF-8, or None where the bytes are none.
@@ -69,6 +69,23 @@ pub fn natural_at(value: &Value, low: u64, high: u64, key: &str) -> Option<u64>
     ensures within { IfSome result (λ n. (low ≤ n) × (n ≤ high)) }
 {
     natural_in(value.get(key)?, low, high)
+}
+
+/// A number with a fraction: a text that spells one, or a whole number.
+pub fn fixed(value: &Value) -> Option<Fixed>
+    ensures { result ≡ fixed_of (view value.now) }
+{
+    match value.as_str() {
+        Some(text) => Fixed::read_text(text),
+        None => metres(value.as_i64()?),
+    }
+}
+
+fn metres(whole: i64) -> Option<Fixed>
+    ensures { result ≡ metres_of whole }
+{
+    let whole = i16::try_from(whole).ok()?;
+    Some(Fixed::from_raw(i32::from(whole) * 65_536))
 }
 
 /// The two items of a list of exactly two.

@@ -14,7 +14,7 @@ use Rattle.sim_json.specs.Values.{list_of, natural_in, front_two}
 use Rattle.sim_json.specs.Records.{records, numbered}
 use Rattle.sim_json.proofs.Readers.{next_some, and_then_some, map_some, if_some, then_some, natural_in-within}
 use Rattle.sim_json.proofs.Reading.{numbered-keeps, numbered-length, numbered_from_records}
-use Rattle.sim_setup.specs.Posts.{IsDelete}
+use Rattle.sim_setup.specs.Quiet.{IsDelete}
 use Rattle.sim_setup.specs.Commands.{id_in, ids_from, ids_of, delete_from, command_by, command_from, crowd, if_room, timed_from, timed_of, falls_at}
 use Rattle.sim_setup.proofs.Tally.{push_counted, both_same}
 

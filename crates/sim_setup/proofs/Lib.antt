@@ -1,4 +1,3 @@
-pub mod Names
 pub mod Tally
 pub mod Refused
 pub mod LandLimits
@@ -6,3 +5,5 @@ pub mod TemplateLimits
 pub mod EntityLimits
 pub mod CommandLimits
 pub mod SetupLimits
+pub mod SourceLimits
+pub mod Examples

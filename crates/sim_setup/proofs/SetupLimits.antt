@@ -1,6 +1,7 @@
--- Every setup that is read meets the limits of a match, and is of posts.
+-- Every setup that is read meets the limits of a match, and is quiet.
 use Rattle.std.proofs.Common.{◌≡◌, ◌≢◌, ℕ, ◌+◌, ◌-◌, ◌^◌, ◌<◌, ◌≤◌, ◌&&◌, true, nat_le, List, [], ◌∷◌, length, map, codes, All, AllPairs, Option, Some, None, option_and_then, Result, Ok, Err, IfOk, refl, subst, arith, length-append}
-use Rattle.std.specs.List.{filter_map}
+use Rattle.std.proofs.lemmas.List.{length-map}
+use Rattle.sim_setup.specs.Refusals.{after}
 use Rattle.std.proofs.lemmas.Bool.{leb-true}
 use Rattle.serde_json.specs.Data.{Data}
 use Rattle.md5.specs.Md5.{md5, digest_bytes, hash_after, padded_message}
@@ -21,14 +22,18 @@ use Rattle.sim_setup.specs.Meets.{Meets}
 use Rattle.sim_setup.specs.Shape.{misplaced}
 use Rattle.sim_setup.specs.Ground.{land_in}
 use Rattle.sim_setup.specs.Rules.{rules_in}
-use Rattle.sim_setup.specs.Templates.{name_in, are_distinct, templates_within, templates_in, templates_from, post_of}
+use Rattle.sim_tree.specs.Trees.{Node}
+use Rattle.sim_tree.specs.Sources.{Origin}
+use Rattle.sim_merge.specs.Resolution.{name_in, names_in, are_distinct, resolution_of}
+use Rattle.sim_setup.specs.Sources.{sources_in}
+use Rattle.sim_setup.specs.Templates.{few_sources, merged, templates_from, next_template}
 use Rattle.sim_setup.specs.Entities.{entities_within, entities_in, firsts_from, first_of}
 use Rattle.sim_setup.specs.Commands.{timeds_from, timed_of, in_order, falls_at}
-use Rattle.sim_setup.specs.Posts.{IsPost, IsDelete, IsOfPosts}
+use Rattle.sim_setup.specs.Quiet.{IsQuiet, IsDelete, IsQuietMatch}
 use Rattle.sim_setup.specs.Setups.{players_of, commands_in, items_in, lists_in, setup_with, limits_in, setup_in, setup_of}
 use Rattle.sim_setup.proofs.Refused.{need_ok, after_ok, unless_ok, coded_ok, ok_same}
 use Rattle.sim_setup.proofs.LandLimits.{land_in-limits}
-use Rattle.sim_setup.proofs.TemplateLimits.{post_of-limits, post_of-post, names-differ}
+use Rattle.sim_setup.proofs.TemplateLimits.{template_at-is, names-differ}
 use Rattle.sim_setup.proofs.EntityLimits.{first_of-is}
 use Rattle.sim_setup.proofs.CommandLimits.{timed_of-is, timeds-not_crowded, in_order-IsNonDecreasing}
 
@@ -81,54 +86,62 @@ module _ (land : Land) (rules : Rules) where
 
   -- the lists that were read
   record IsRead (lists : Lists) : Type 0 where
-    templates : List Data
+    origins : List Origin
+    roots : List Node
     entities : List Data
     commands : List Data
-    few_templates : length templates ≤ 256
+    few_templates : length origins ≤ 256
     few_entities : length entities ≤ 4096
-    distinct : are_distinct (filter_map name_in templates) ≡ true
-    posts : numbered (λ done. post_of) [] templates ≡ Ok lists.templates
-    firsts : numbered (λ done. first_of lists.templates land (players_of land)) [] entities ≡ Ok lists.first
+    distinct : are_distinct (names_in origins) ≡ true
+    read : numbered (next_template (names_in origins) roots) [] origins ≡ Ok lists.templates
+    firsts : numbered (λ done. first_of (names_in origins) land (players_of land)) [] entities ≡ Ok lists.first
     timeds : AreRead commands lists.commands
 
-  items_in-is : (ts es : List Data) (d : Data) (lists : Lists) → length ts ≤ 256 → length es ≤ 4096 → are_distinct (filter_map name_in ts) ≡ true
-      → items_in land rules ts es d ≡ Ok lists → IsRead lists
-  items_in-is ts es d lists few_templates few_entities distinct e =
-      let templates = after_ok (templates_from ts) _ lists e in
-      let first = after_ok (firsts_from templates.0 land (players_of land) es) _ lists templates.2 in
+  items_in-is : (os : List Origin) (es : List Data) (d : Data) (lists : Lists) → length os ≤ 256 → length es ≤ 4096 → are_distinct (names_in os) ≡ true
+      → items_in land rules os es d ≡ Ok lists → IsRead lists
+  items_in-is os es d lists few_templates few_entities distinct e =
+      let roots = after_ok (merged (resolution_of os)) _ lists e in
+      let templates = after_ok (templates_from os roots.0) _ lists roots.2 in
+      let first = after_ok (firsts_from (names_in os) land (players_of land) es) _ lists templates.2 in
       let commands = after_ok (commands_in land rules d) _ lists first.2 in
       let ds = commands_in-are d commands.0 commands.1 in
       subst IsRead (ok_same (record { templates = templates.0; first = first.0; commands = commands.0 }) lists commands.2) (record {
-        templates = ts;
+        origins = os;
+        roots = roots.0;
         entities = es;
         commands = ds.0;
         few_templates = few_templates;
         few_entities = few_entities;
         distinct = distinct;
-        posts = coded_ok 7 (numbered (λ done. post_of) [] ts) templates.0 templates.1;
-        firsts = coded_ok 8 (numbered (λ done. first_of templates.0 land (players_of land)) [] es) first.0 first.1;
+        read = coded_ok 7 (numbered (next_template (names_in os) roots.0) [] os) templates.0 templates.1;
+        firsts = coded_ok 8 (numbered (λ done. first_of (names_in os) land (players_of land)) [] es) first.0 first.1;
         timeds = ds.1;
       })
 
-  lists_in-is : (d : Data) (lists : Lists) → lists_in land rules d ≡ Ok lists → IsRead lists
-  lists_in-is d lists e =
-      let templates = need_ok 3 7 (templates_in d) _ lists e in
-      let entities = need_ok 3 8 (entities_in d) _ lists templates.2 in
-      let ts = and_then_some (list_at (codes "templates") d) templates_within templates.0 templates.1 in
-      let kept = if_some (nat_le (length ts.0) 256 && are_distinct (filter_map name_in ts.0)) ts.0 templates.0 ts.2 in
-      let tests = both_true (nat_le (length ts.0) 256) (are_distinct (filter_map name_in ts.0)) kept.0 in
+  lists_in-is : (origins : List Origin) (d : Data) (lists : Lists) → lists_in land rules origins d ≡ Ok lists → IsRead lists
+  lists_in-is origins d lists e =
+      let few = need_ok 3 7 (few_sources origins) _ lists e in
+      let entities = need_ok 3 8 (entities_in d) _ lists few.2 in
+      let kept = if_some (nat_le (length origins) 256 && are_distinct (names_in origins)) origins few.0 few.1 in
+      let tests = both_true (nat_le (length origins) 256) (are_distinct (names_in origins)) kept.0 in
       let es = and_then_some (list_at (codes "entities") d) entities_within entities.0 entities.1 in
-      let few = if_some (nat_le (length es.0) 4096) es.0 entities.0 es.2 in
-      items_in-is templates.0 entities.0 d lists
-      (subst (λ ds. length ds ≤ 256) kept.1 (leb-true (length ts.0) 256 tests.0))
-      (subst (λ ds. length ds ≤ 4096) few.1 (leb-true (length es.0) 4096 few.0))
-      (subst (λ ds. are_distinct (filter_map name_in ds) ≡ true) kept.1 tests.1)
+      let short = if_some (nat_le (length es.0) 4096) es.0 entities.0 es.2 in
+      items_in-is few.0 entities.0 d lists
+      (subst (λ (os : List Origin). length os ≤ 256) kept.1 (leb-true (length origins) 256 tests.0))
+      (subst (λ ds. length ds ≤ 4096) short.1 (leb-true (length es.0) 4096 short.0))
+      (subst (λ (os : List Origin). are_distinct (names_in os) ≡ true) kept.1 tests.1)
       entities.2
 
   -- ---- all of it
 
-  setup_with-limits : (id : List ℕ) (lists : Lists) → length id ≡ 16 → IsLand land → AreRules rules → IsRead lists → IsSetup (setup_with id land rules lists)
-  setup_with-limits id lists long ground limits is = record {
+  counted : (lists : Lists) (is : IsRead lists) → length lists.templates ≡ length is.origins
+  counted lists is =
+      let same = numbered-length (next_template (names_in is.origins) is.roots) [] is.origins lists.templates is.read in
+      omega (arith, same)
+
+  setup_with-limits : (id : List ℕ) (lists : Lists) → length id ≡ 16 → IsLand land → AreRules rules → IsRead lists → All (IsTemplate (length lists.templates)) lists.templates
+      → IsSetup (setup_with id land rules lists)
+  setup_with-limits id lists long ground limits is templates = record {
     id = long;
     land = ground;
     players = omega (arith, ground.players);
@@ -136,57 +149,63 @@ module _ (land : Land) (rules : Rules) where
     delay = limits.delay;
     turns = limits.turns;
     seed = limits.seed;
-    few_templates = omega (arith, is.few_templates, numbered-length (λ done. post_of) [] is.templates lists.templates is.posts);
-    templates = numbered-All (λ done. post_of) (IsTemplate (length lists.templates)) (λ done d t e. post_of-limits (length lists.templates) d t e) is.templates lists.templates is.posts;
-    names = names-differ is.templates lists.templates is.distinct is.posts;
-    few_first = omega (arith, is.few_entities, numbered-length (λ done. first_of lists.templates land (players_of land)) [] is.entities lists.first is.firsts);
-    first = numbered-All (λ done. first_of lists.templates land (players_of land)) (IsFirst (setup_with id land rules lists)) entity is.entities lists.first is.firsts;
+    few_templates = omega (arith, is.few_templates, counted lists is);
+    templates = templates;
+    names = names-differ (names_in is.origins) is.roots is.origins lists.templates is.distinct is.read;
+    few_first = omega (arith, is.few_entities, numbered-length (λ done. first_of (names_in is.origins) land (players_of land)) [] is.entities lists.first is.firsts);
+    first = numbered-All (λ done. first_of (names_in is.origins) land (players_of land)) (IsFirst (setup_with id land rules lists)) entity is.entities lists.first is.firsts;
     commands = numbered-All (timed_of rules.turns (players_of land)) (IsTimed (setup_with id land rules lists)) command is.commands lists.commands is.timeds.each;
     in_order = in_order-IsNonDecreasing lists.commands is.timeds.ordered;
     not_crowded = timeds-not_crowded rules.turns (players_of land) is.commands lists.commands is.timeds.each;
   }
     where
-      entity : (done : List First) (d : Data) (first : First) → first_of lists.templates land (players_of land) d ≡ Some first → IsFirst (setup_with id land rules lists) first
+      entity : (done : List First) (d : Data) (first : First) → first_of (names_in is.origins) land (players_of land) d ≡ Some first → IsFirst (setup_with id land rules lists) first
       entity done d first e =
-          let on = first_of-is lists.templates land (players_of land) d first e in
-          record { template = on.template; owner = on.owner; at = on.at }
+          let on = first_of-is (names_in is.origins) land (players_of land) d first e in
+          record { template = omega (arith, on.template, length-map is.origins name_in, counted lists is); owner = on.owner; at = on.at }
 
       command : (done : List Timed) (d : Data) (timed : Timed) → timed_of rules.turns (players_of land) done d ≡ Some timed → IsTimed (setup_with id land rules lists) timed
       command done d timed e =
           let read = timed_of-is rules.turns (players_of land) done d timed e in
           record { turn = read.turn; player = read.player; ids = read.ids }
 
-  setup_with-posts : (id : List ℕ) (lists : Lists) → IsRead lists → IsOfPosts (setup_with id land rules lists)
-  setup_with-posts id lists is = record {
-    templates = numbered-All (λ done. post_of) IsPost (λ done d t e. post_of-post d t e) is.templates lists.templates is.posts;
+  setup_with-quiet : (id : List ℕ) (lists : Lists) → IsRead lists → IsQuietMatch (setup_with id land rules lists)
+  setup_with-quiet id lists is = record {
+    templates = numbered-All (next_template (names_in is.origins) is.roots) IsQuiet
+        (λ done origin t e. (template_at-is (names_in is.origins) is.roots (length done) origin t e).quiet) is.origins lists.templates is.read;
     commands = numbered-All (timed_of rules.turns (players_of land)) (λ (timed : Timed). IsDelete timed.order.command)
         (λ done d timed e. (timed_of-is rules.turns (players_of land) done d timed e).deletes) is.commands lists.commands is.timeds.each;
   }
 
-record IsWhole (setup : Setup) : Type 0 where
-  limits : IsSetup setup
-  posts : IsOfPosts setup
+abbrev HasTemplates : Setup → Type 0
+HasTemplates setup = All (IsTemplate (length setup.templates)) setup.templates
 
-limits_in-is : (id : List ℕ) (d : Data) (setup : Setup) → length id ≡ 16 → limits_in id d ≡ Ok setup → IsWhole setup
-limits_in-is id d setup long e =
+record IsWhole (setup : Setup) : Type 0 where
+  limits : HasTemplates setup → IsSetup setup
+  quiet : IsQuietMatch setup
+
+limits_in-is : (id : List ℕ) (origins : List Origin) (d : Data) (setup : Setup) → length id ≡ 16 → limits_in id origins d ≡ Ok setup → IsWhole setup
+limits_in-is id origins d setup long e =
     let land = after_ok (land_in d) _ setup e in
     let rules = after_ok (rules_in d) _ setup land.2 in
-    let lists = after_ok (lists_in land.0 rules.0 d) _ setup rules.2 in
-    let is = lists_in-is land.0 rules.0 d lists.0 lists.1 in
+    let lists = after_ok (lists_in land.0 rules.0 origins d) _ setup rules.2 in
+    let is = lists_in-is land.0 rules.0 origins d lists.0 lists.1 in
     subst IsWhole (ok_same (setup_with id land.0 rules.0 lists.0) setup lists.2) (record {
-      limits = setup_with-limits land.0 rules.0 id lists.0 long (land_in-limits d land.0 land.1) (rules_in-limits d rules.0 rules.1) is;
-      posts = setup_with-posts land.0 rules.0 id lists.0 is;
+      limits = λ templates. setup_with-limits land.0 rules.0 id lists.0 long (land_in-limits d land.0 land.1) (rules_in-limits d rules.0 rules.1) is templates;
+      quiet = setup_with-quiet land.0 rules.0 id lists.0 is;
     })
 
 setup_of-is : (bytes : List ℕ) (setup : Setup) → setup_of bytes ≡ Ok setup → IsWhole setup
 setup_of-is bytes setup e =
     let d = need_ok 1 0 (value_of bytes) (setup_in (md5 bytes)) setup e in
-    limits_in-is (md5 bytes) d.0 setup (md5-length bytes) (unless_ok 2 (misplaced d.0) (limits_in (md5 bytes) d.0) setup d.2).1
+    let shaped = unless_ok 2 (misplaced d.0) (after (sources_in d.0) (λ origins. limits_in (md5 bytes) origins d.0)) setup d.2 in
+    let origins = after_ok (sources_in d.0) (λ origins. limits_in (md5 bytes) origins d.0) setup shaped.1 in
+    limits_in-is (md5 bytes) origins.0 d.0 setup (md5-length bytes) origins.2
 
-pub meets-limits : (bytes : List ℕ) (result : Result Setup SetupFault) → Meets result (setup_of bytes) → IfOk result IsSetup
-meets-limits bytes (Ok setup) e = (setup_of-is bytes setup e).limits
-meets-limits bytes (Err fault) e = tt
+pub meets-limits : (bytes : List ℕ) (result : Result Setup SetupFault) → Meets result (setup_of bytes) → IfOk result HasTemplates → IfOk result IsSetup
+meets-limits bytes (Ok setup) e templates = (setup_of-is bytes setup e).limits templates
+meets-limits bytes (Err fault) e templates = tt
 
-pub meets-posts : (bytes : List ℕ) (result : Result Setup SetupFault) → Meets result (setup_of bytes) → IfOk result IsOfPosts
-meets-posts bytes (Ok setup) e = (setup_of-is bytes setup e).posts
-meets-posts bytes (Err fault) e = tt
+pub meets-quiet : (bytes : List ℕ) (result : Result Setup SetupFault) → Meets result (setup_of bytes) → IfOk result IsQuietMatch
+meets-quiet bytes (Ok setup) e = (setup_of-is bytes setup e).quiet
+meets-quiet bytes (Err fault) e = tt

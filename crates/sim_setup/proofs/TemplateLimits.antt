@@ -1,95 +1,106 @@
 -- What holds of the templates of a match file.
-use Rattle.std.proofs.Common.{◌≡◌, ◌≢◌, ℕ, ◌+◌, ◌*◌, ◌<◌, ◌≤◌, ◌&&◌, ◌||◌, not, Bool, true, false, ℤ, pos, List, [], ◌∷◌, ◌++◌, length, map, codes, All, AllPairs, Option, Some, None, option_map, option_and_then, Result, Ok, IsTrue, refl, sym, ap, ◌∙◌, subst, arith, true≢false, get_or, bytes_eq}
-use Rattle.std.specs.List.{filter_map, list_any}
-use Rattle.std.proofs.lemmas.Int.{ints}
+use Rattle.std.proofs.Common.{◌≡◌, ◌≢◌, ℕ, ◌<◌, ◌≤◌, ◌&&◌, ◌||◌, not, Bool, true, false, List, [], ◌∷◌, ◌++◌, length, map, All, AllPairs, Option, Some, None, is_some, is_none, option_and_then, slice_get, unwrap_or, Result, Ok, Err, refl, sym, ap, ◌∙◌, subst, arith, true≢false, if◌then◌else◌}
+use Rattle.std.specs.Str.{bytes_eq}
+use Rattle.std.specs.List.{list_any}
 use Rattle.std.proofs.lemmas.List.{map-append}
-use Rattle.std.proofs.lemmas.List.Elements.{filter_map-append, All-cons}
+use Rattle.std.proofs.lemmas.List.Elements.{All-cons}
 use Rattle.std.proofs.lemmas.List.Kept.{AllPairs-cons}
 use Rattle.std.proofs.lemmas.Slice.Eq.{bytes_eq-Decides}
-use Rattle.serde_json.specs.Data.{Data}
-use Rattle.serde_json.specs.Find.{get}
 use Rattle.sim_base.specs.declared.template.Template.{Template}
-use Rattle.sim_base.specs.Limits.{IsRawFrom, IsTemplate}
-use Rattle.sim_base.specs.Names.{is_name}
-use Rattle.sim_base.specs.Numbers.{unit}
-use Rattle.sim_json.specs.Keys.{among, other_key}
-use Rattle.sim_json.specs.Values.{natural_at}
 use Rattle.sim_json.specs.Records.{numbered}
-use Rattle.sim_json.proofs.Readers.{next_some, and_then_some, map_some, if_some, else_some, both_true, natural_at-within}
-use Rattle.sim_json.proofs.Reading.{numbered-keeps, numbered-All}
-use Rattle.sim_setup.specs.Posts.{IsPost}
-use Rattle.sim_setup.specs.Templates.{name_in, are_distinct, if_name, health_of, post, post_from, post_of}
+use Rattle.sim_json.proofs.Readers.{and_then_some, if_some, both_true}
+use Rattle.sim_json.proofs.Reading.{numbered-keeps}
+use Rattle.sim_tree.specs.Trees.{Node}
+use Rattle.sim_tree.specs.Sources.{Origin}
+use Rattle.sim_merge.specs.Resolution.{name_in, names_in, are_distinct}
+use Rattle.sim_traits.specs.declared.fault.TraitFault.{TraitFault}
+use Rattle.sim_traits.specs.declared.fault.TraitFault.TheVariants.{Clash, UnknownPart}
+use Rattle.sim_traits.specs.Table.{health_part, resist_part, motion_part, obstruct_part, attack_part, train_part, has_known_parts}
+use Rattle.sim_traits.specs.Values.{health_in, resist_in, speed_in, base_in, arms_in, train_in}
+use Rattle.sim_traits.specs.Parts.{part_of, after, unarmoured, template_of_parts, template_in}
+use Rattle.sim_setup.specs.Quiet.{IsQuiet}
+use Rattle.sim_setup.specs.Templates.{is_quiet, if_quiet, template_at, next_template}
 
-some_same : {X : Type 0} (x y : X) → Some x ≡ Some y → x ≡ y
-some_same x y e = cc
+-- ---- a template that is read
 
--- ---- a post
+part_ok : {X Y : Type 0} (r : Result X TraitFault) (next : X → Result Y TraitFault) (y : Y) → after r next ≡ Ok y → (x : X) × (next x ≡ Ok y)
+part_ok (Err fault) next y e = absurd cc
+part_ok (Ok x) next y e = (x, e)
 
-health_of-limits : (d : Data) (health : ℤ) → health_of d ≡ Some health → IsRawFrom 1 1048576000 health
-health_of-limits d health e =
-    let most = else_some (other_key (codes "Max" ∷ []) d) (option_map (λ n. pos (n * unit)) (natural_at 1 16000 (codes "Max") d)) health e in
-    let n = map_some (natural_at 1 16000 (codes "Max") d) (λ n. pos (n * unit)) health most.1 in
-    let within = natural_at-within 1 16000 (codes "Max") d n.0 n.1 in
-    subst (IsRawFrom 1 1048576000) n.2 (omega (arith, ints, within.0), omega (arith, ints, within.1))
+no_clash : (clash : Bool) (t u : Template) → ◌≡◌ {A = Result Template TraitFault} (if clash then Err Clash else Ok t) (Ok u) → t ≡ u
+no_clash true t u e = absurd cc
+no_clash false t u e = cc
 
--- a template that is read goes by the name that it has in the file
-pub record IsRead (d : Data) (t : Template) : Type 0 where
-  pub health : ℤ
-  pub named : name_in d ≡ Some t.name
-  pub name : IsTrue (is_name t.name)
-  pub range : IsRawFrom 1 1048576000 health
-  pub whole : t ≡ post t.name health
+known : (fits : Bool) (r : Result Template TraitFault) (t : Template) → (if fits then r else Err UnknownPart) ≡ Ok t → r ≡ Ok t
+known true r t e = e
+known false r t e = absurd cc
 
-post_from-is : (d : Data) (t : Template) → post_from d ≡ Some t → IsRead d t
-post_from-is d t e =
-    let name = next_some (option_and_then if_name (name_in d)) _ t e in
-    let health = next_some (option_and_then health_of (get (codes "Health") d)) _ t name.2 in
-    let text = and_then_some (name_in d) if_name name.0 name.1 in
-    let kept = if_some (is_name text.0) text.0 name.0 text.2 in
-    let node = and_then_some (get (codes "Health") d) health_of health.0 health.1 in
-    let same = some_same (post name.0 health.0) t health.2 in
-    subst (IsRead d) same (record {
-      health = health.0;
-      named = text.1 ∙ ap Some kept.1;
-      name = subst (λ bytes. IsTrue (is_name bytes)) kept.1 kept.0;
-      range = health_of-limits node.0 health.0 node.2;
-      whole = refl;
-    })
+parts-named : (name : List ℕ) (root : Node) (names : List (List ℕ)) (t : Template) → template_of_parts name root names ≡ Ok t → t.name ≡ name
+parts-named name root names t e =
+    let most = part_ok (part_of health_part health_in root) _ t e in
+    let levels = part_ok (part_of resist_part resist_in root) _ t most.1 in
+    let speed = part_ok (part_of motion_part speed_in root) _ t levels.1 in
+    let base = part_ok (part_of obstruct_part base_in root) _ t speed.1 in
+    let arms = part_ok (part_of attack_part arms_in root) _ t base.1 in
+    let numbers = part_ok (part_of train_part (train_in names) root) _ t arms.1 in
+    let made : Template =
+        record {
+          name = name;
+          health = most.0;
+          resist = unwrap_or levels.0 unarmoured;
+          speed = speed.0;
+          obstruct = base.0;
+          arms = arms.0;
+          train = numbers.0;
+        } in
+    ap (λ (u : Template). u.name) (sym (no_clash (is_some made.speed && is_some made.obstruct) made t numbers.1))
 
-pub post_of-is : (d : Data) (t : Template) → post_of d ≡ Some t → IsRead d t
-unfolding post_of
-post_of-is d t e = post_from-is d t (else_some (other_key (codes "@name" ∷ codes "Health" ∷ []) d) (post_from d) t e).1
+-- it goes by the name that was given
+template_in-named : (name : List ℕ) (root : Node) (names : List (List ℕ)) (t : Template) → template_in name root names ≡ Ok t → t.name ≡ name
+unfolding template_in
+template_in-named name root names t e = parts-named name root names t (known (has_known_parts root) (template_of_parts name root names) t e)
 
-post-limits : (count : ℕ) (name : List ℕ) (health : ℤ) → IsTrue (is_name name) → IsRawFrom 1 1048576000 health → IsTemplate count (post name health)
-post-limits count name health is range = record {
-  name = is;
-  health = range;
-  resist = (omega arith, omega arith, omega arith);
-  speed = tt;
-  obstruct = tt;
-  arms = tt;
-  train = tt;
-  moves_or_obstructs = λ moves. refl;
-}
+is_None : {X : Type 0} (o : Option X) → is_none o ≡ true → o ≡ None
+is_None None e = refl
+is_None (Some x) e = absurd (true≢false (sym e))
 
-pub post_of-limits : (count : ℕ) (d : Data) (t : Template) → post_of d ≡ Some t → IsTemplate count t
-post_of-limits count d t e =
-    let is = post_of-is d t e in
-    subst (IsTemplate count) (sym is.whole) (post-limits count t.name is.health is.name is.range)
+quiet_ok : (r : Result Template TraitFault) (t : Template) → if_quiet r ≡ Some t → (r ≡ Ok t) × IsQuiet t
+quiet_ok (Err fault) t e = absurd cc
+quiet_ok (Ok u) t e =
+    let kept = if_some (is_quiet u) u t e in
+    let still = both_true (is_none u.speed) (is_none u.arms) kept.0 in
+    (ap Ok kept.1, subst IsQuiet kept.1 (record { speed = is_None u.speed still.0; arms = is_None u.arms still.1 }))
 
-pub post_of-post : (d : Data) (t : Template) → post_of d ≡ Some t → IsPost t
-post_of-post d t e =
-    let is = post_of-is d t e in
-    subst IsPost (sym is.whole) (record { health = refl; speed = refl; obstruct = refl; arms = refl; train = refl })
+-- a template that is read has the name of its source, and is quiet
+pub record IsRead (origin : Origin) (t : Template) : Type 0 where
+  pub named : t.name ≡ origin.name
+  pub quiet : IsQuiet t
+
+pub template_at-is : (names : List (List ℕ)) (roots : List Node) (number : ℕ) (origin : Origin) (t : Template) → template_at names roots number origin ≡ Some t → IsRead origin t
+unfolding template_at
+template_at-is names roots number origin t e =
+    let root = and_then_some (slice_get roots number) (λ root. if_quiet (template_in origin.name root names)) t e in
+    let is = quiet_ok (template_in origin.name root.0 names) t root.2 in
+    record { named = template_in-named origin.name root.0 names t is.0; quiet = is.1 }
+
+-- one more record, where it is read
+pub more_read : {X D : Type 0} (read : List X → D → Option X) (done : List X) (d : D) (x : X) (ds : List D) (all : Result (List X) ℕ)
+    → read done d ≡ Some x → numbered read done (d ∷ ds) ≡ all → numbered read (done ++ x ∷ []) ds ≡ all
+more_read read done d x ds all is e = rw is at e
 
 -- ---- the names
 
--- the names of the templates are the texts by which they call themselves
-abbrev named : List Data → List Template → Type 0
-named front done = filter_map name_in front ≡ map (λ (t : Template). t.name) done
+abbrev name_of : Template → List ℕ
+name_of t = t.name
 
-more_named : (front : List Data) (done : List Template) (d : Data) (t : Template) → name_in d ≡ Some t.name → named front done → named (front ++ d ∷ []) (done ++ t ∷ [])
-more_named front done d t is so_far = rw (filter_map-append, map-append, is, so_far)
+-- the names of the templates are those of their sources
+abbrev named : List Origin → List Template → Type 0
+named front done = map name_in front ≡ map name_of done
+
+more_named : (front : List Origin) (done : List Template) (origin : Origin) (t : Template) → t.name ≡ origin.name → named front done → named (front ++ origin ∷ []) (done ++ t ∷ [])
+more_named front done origin t is so_far =
+    map-append name_in front (origin ∷ []) ∙ ap (λ names. names ++ origin.name ∷ []) so_far ∙ ap (λ name. map name_of done ++ name ∷ []) (sym is)
+    ∙ sym (map-append name_of done (t ∷ []))
 
 either_false : (a b : Bool) → (a || b) ≡ false → (a ≡ false) × (b ≡ false)
 either_false true b e = absurd cc
@@ -99,21 +110,22 @@ not_true : (a : Bool) → not a ≡ true → a ≡ false
 not_true true e = absurd cc
 not_true false e = refl
 
-differs : (text : List ℕ) (texts : List (List ℕ)) → among text texts ≡ false → All (λ other. text ≢ other) texts
+differs : (text : List ℕ) (texts : List (List ℕ)) → list_any (bytes_eq text) texts ≡ false → All (λ other. text ≢ other) texts
 differs text [] e = λ k d within. absurd (omega arith)
 differs text (other ∷ texts) e =
-    let parts = either_false (bytes_eq text other) (among text texts) e in
+    let parts = either_false (bytes_eq text other) (list_any (bytes_eq text) texts) e in
     All-cons (λ x. text ≢ x) other texts (λ same. true≢false (sym ((bytes_eq-Decides text other).1 same) ∙ parts.0)) (differs text texts parts.1)
 
 differ : (texts : List (List ℕ)) → are_distinct texts ≡ true → AllPairs (λ a b. a ≢ b) texts
 differ [] e = λ i j d before within. absurd (omega arith)
 differ (text ∷ texts) e =
-    let parts = both_true (not (among text texts)) (are_distinct texts) e in
-    AllPairs-cons (λ a b. a ≢ b) text texts (differs text texts (not_true (among text texts) parts.0)) (differ texts parts.1)
+    let parts = both_true (not (list_any (bytes_eq text) texts)) (are_distinct texts) e in
+    AllPairs-cons (λ a b. a ≢ b) text texts (differs text texts (not_true (list_any (bytes_eq text) texts) parts.0)) (differ texts parts.1)
 
--- templates that are read call themselves by their names, and these differ
-pub names-differ : (ds : List Data) (templates : List Template) → are_distinct (filter_map name_in ds) ≡ true → numbered (λ done. post_of) [] ds ≡ Ok templates
-    → AllPairs (λ a b. a ≢ b) (map (λ (t : Template). t.name) templates)
-names-differ ds templates distinct e =
-    let same = numbered-keeps (λ done. post_of) named (λ front done d t is so_far. more_named front done d t (post_of-is d t is).named so_far) [] [] ds templates e refl in
-    differ (map (λ (t : Template). t.name) templates) (subst (λ texts. are_distinct texts ≡ true) same distinct)
+-- the templates of sources with different names have different names
+pub names-differ : (names : List (List ℕ)) (roots : List Node) (origins : List Origin) (templates : List Template) → are_distinct (names_in origins) ≡ true
+    → numbered (next_template names roots) [] origins ≡ Ok templates → AllPairs (λ a b. a ≢ b) (map (λ (t : Template). t.name) templates)
+names-differ names roots origins templates distinct e =
+    let same = numbered-keeps (next_template names roots) named
+        (λ front done origin t is so_far. more_named front done origin t (template_at-is names roots (length done) origin t is).named so_far) [] [] origins templates e refl in
+    differ (map name_of templates) (subst (λ texts. are_distinct texts ≡ true) same distinct)

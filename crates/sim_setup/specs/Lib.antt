@@ -1,5 +1,6 @@
 pub mod Refusals
 pub mod Shape
+pub mod Sources
 pub mod Players
 pub mod Ground
 pub mod Rules
@@ -9,5 +10,5 @@ pub mod Commands
 pub mod Setups
 pub mod Meets
 pub mod Crowds
-pub mod Posts
+pub mod Quiet
 pub mod Laws

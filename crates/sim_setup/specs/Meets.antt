@@ -1,5 +1,13 @@
 -- What a call that reads a match file answers. It may run out of memory, and is else what a definition says.
-use Rattle.std.specs.Prelude.{◌≡◌, ℕ, Result, Ok, Err}
+use Rattle.std.specs.Prelude.{◌≡◌, ℕ, List, Result, Ok, Err, Vec}
+use Rattle.std.specs.declared.alloc.Global.{Global}
+use Rattle.sim_tree.specs.declared.source.Source.{Source}
+use Rattle.sim_tree.specs.Trees.{Node}
+use Rattle.sim_tree.specs.Sources.{Origin}
+use Rattle.sim_merge.specs.declared.fault.MergeFault.{MergeFault}
+use Rattle.sim_merge.specs.declared.fault.MergeFault.TheVariants as merge
+use Rattle.sim_merge.specs.Libraries.{Holding}
+use Rattle.sim_merge.specs.Resolution.{names_in, origins_of}
 use Rattle.sim_setup.specs.declared.fault.SetupFault.{SetupFault}
 use Rattle.sim_setup.specs.declared.fault.SetupFault.TheVariants.{Refused, OutOfMemory}
 use Rattle.sim_setup.specs.Refusals.{Refusal, refusal}
@@ -14,3 +22,23 @@ Meets (Err OutOfMemory) wanted = Unit {0}
 abbrev pub Tells : SetupFault → ℕ → ℕ → Type 0
 Tells (Refused code index) wanted_code wanted_index = (code ≡ wanted_code) × (index ≡ wanted_index)
 Tells OutOfMemory wanted_code wanted_index = Unit {0}
+
+-- the same for sources
+abbrev pub SourcesMeet : Result (Vec Source Global) SetupFault → Result (List Origin) Refusal → Type 0
+SourcesMeet (Ok sources) wanted = wanted ≡ Ok (origins_of sources.items)
+SourcesMeet (Err (Refused code index)) wanted = wanted ≡ Err (refusal code index)
+SourcesMeet (Err OutOfMemory) wanted = Unit {0}
+
+-- the same for a library, which has the names of these sources and the wanted trees
+abbrev pub LibraryMeets : Result Holding SetupFault → List Origin → Result (List Node) Refusal → Type 0
+LibraryMeets (Ok library) origins wanted = (library.names ≡ names_in origins) × (wanted ≡ Ok library.roots)
+LibraryMeets (Err (Refused code index)) origins wanted = wanted ≡ Err (refusal code index)
+LibraryMeets (Err OutOfMemory) origins wanted = Unit {0}
+
+-- a fault is the refusal for this cause, or memory ran out in both
+abbrev pub Refuses : SetupFault → MergeFault → Type 0
+Refuses fault merge.OutOfMemory = fault ≡ OutOfMemory
+Refuses fault (merge.NoParent index) = fault ≡ Refused 4 index
+Refuses fault (merge.Cycle index) = fault ≡ Refused 5 index
+Refuses fault (merge.ChainTooLong index) = fault ≡ Refused 5 index
+Refuses fault (merge.BadOp index) = fault ≡ Refused 6 index

@@ -1,5 +1,5 @@
 -- Why a match file has no setup, and how the passes over it follow one another: the first refusal is the answer.
-use Rattle.std.specs.Prelude.{ℕ, Option, Some, None, Result, Ok, Err}
+use Rattle.std.specs.Prelude.{ℕ, ◌+◌, Option, Some, None, Result, Ok, Err}
 
 -- a code from 1 to 10, and where in the file it applies
 pub record Refusal : Type 0 where
@@ -28,3 +28,8 @@ unless_at code (Some index) wanted = Err (refusal code index)
 abbrev pub coded : {X : Type 0} → ℕ → Result X ℕ → Result X Refusal
 coded code (Ok x) = Ok x
 coded code (Err index) = Err (refusal code index)
+
+-- the same, where items are counted from a number on
+abbrev pub placed : {X : Type 0} → ℕ → ℕ → Result X ℕ → Result X Refusal
+placed code first (Ok x) = Ok x
+placed code first (Err index) = Err (refusal code (first + index))

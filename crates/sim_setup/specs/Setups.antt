@@ -12,7 +12,10 @@ use Rattle.sim_setup.specs.Refusals.{Refusal, need, after, unless_at}
 use Rattle.sim_setup.specs.Shape.{misplaced}
 use Rattle.sim_setup.specs.Ground.{land_in}
 use Rattle.sim_setup.specs.Rules.{rules_in}
-use Rattle.sim_setup.specs.Templates.{templates_in, templates_from}
+use Rattle.sim_tree.specs.Sources.{Origin}
+use Rattle.sim_merge.specs.Resolution.{names_in, resolution_of}
+use Rattle.sim_setup.specs.Sources.{sources_in}
+use Rattle.sim_setup.specs.Templates.{few_sources, merged, templates_from}
 use Rattle.sim_setup.specs.Entities.{entities_in, firsts_from}
 use Rattle.sim_setup.specs.Commands.{timeds_from, in_order}
 
@@ -24,15 +27,16 @@ players_of land = length land.masks - 1
 abbrev pub commands_in : Land → Rules → Data → Result (List Timed) Refusal
 commands_in land rules d = need 2 9 (list_at (codes "commands") d) (λ ds. after (timeds_from rules.turns (players_of land) ds) in_order)
 
--- codes 7 to 10
-abbrev pub items_in : Land → Rules → List Data → List Data → Data → Result Lists Refusal
-items_in land rules templates entities d =
-    after (templates_from templates) (λ templates. after (firsts_from templates land (players_of land) entities) (λ first.
-    after (commands_in land rules d) (λ commands. Ok (record { templates = templates; first = first; commands = commands }))))
+-- codes 4 to 10
+abbrev pub items_in : Land → Rules → List Origin → List Data → Data → Result Lists Refusal
+items_in land rules origins entities d =
+    after (merged (resolution_of origins)) (λ roots. after (templates_from origins roots) (λ templates.
+    after (firsts_from (names_in origins) land (players_of land) entities) (λ first.
+    after (commands_in land rules d) (λ commands. Ok (record { templates = templates; first = first; commands = commands })))))
 
--- code 3 for the lengths of lists, and codes 7 to 10
-abbrev pub lists_in : Land → Rules → Data → Result Lists Refusal
-lists_in land rules d = need 3 7 (templates_in d) (λ templates. need 3 8 (entities_in d) (λ entities. items_in land rules templates entities d))
+-- code 3 for the lengths of lists, and codes 4 to 10
+abbrev pub lists_in : Land → Rules → List Origin → Data → Result Lists Refusal
+lists_in land rules origins d = need 3 7 (few_sources origins) (λ few. need 3 8 (entities_in d) (λ entities. items_in land rules few entities d))
 
 -- a setup from its parts
 abbrev pub setup_with : List ℕ → Land → Rules → Lists → Setup
@@ -51,12 +55,13 @@ setup_with id land rules lists =
     }
 
 -- codes 3 to 10
-abbrev pub limits_in : List ℕ → Data → Result Setup Refusal
-limits_in id d = after (land_in d) (λ land. after (rules_in d) (λ rules. after (lists_in land rules d) (λ lists. Ok (setup_with id land rules lists))))
+abbrev pub limits_in : List ℕ → List Origin → Data → Result Setup Refusal
+limits_in id origins d =
+    after (land_in d) (λ land. after (rules_in d) (λ rules. after (lists_in land rules origins d) (λ lists. Ok (setup_with id land rules lists))))
 
 -- codes 2 to 10
 abbrev pub setup_in : List ℕ → Data → Result Setup Refusal
-setup_in id d = unless_at 2 (misplaced d) (limits_in id d)
+setup_in id d = unless_at 2 (misplaced d) (after (sources_in d) (λ origins. limits_in id origins d))
 
 -- the setup of the bytes of a file; its id is MD5 of them
 abbrev pub setup_of : List ℕ → Result Setup Refusal

@@ -1,75 +1,51 @@
--- The templates of a match file. So far each is a post: it has health and nothing else.
-use Rattle.std.specs.Prelude.{ℕ, ◌*◌, ◌&&◌, not, nat_le, ℤ, pos, Bool, true, false, List, [], ◌∷◌, length, codes, Option, Some, None, option_map, option_and_then, Result, if◌then◌else◌}
-use Rattle.std.specs.List.{filter_map}
-use Rattle.std.specs.Str.{bytes_eq}
-use Rattle.serde_json.specs.Data.{Data}
-use Rattle.serde_json.specs.Find.{get}
+-- The templates of a match file: each source with all that it inherits, read as a template. So far none may move or
+-- fight.
+use Rattle.std.specs.Prelude.{ℕ, ◌&&◌, nat_le, Bool, List, [], length, slice_get, Option, Some, None, is_none, option_and_then, Result, Ok, Err, if◌then◌else◌}
 use Rattle.sim_base.specs.declared.template.Template.{Template}
-use Rattle.sim_base.specs.Names.{is_name}
-use Rattle.sim_base.specs.Numbers.{unit}
-use Rattle.sim_json.specs.Values.{list_at, text_at, natural_at}
-use Rattle.sim_json.specs.Keys.{among, other_key}
-use Rattle.sim_json.specs.Records.{next_or, numbered}
-use Rattle.sim_setup.specs.Refusals.{Refusal, coded}
+use Rattle.sim_json.specs.Records.{numbered}
+use Rattle.sim_tree.specs.Trees.{Node}
+use Rattle.sim_tree.specs.Sources.{Origin}
+use Rattle.sim_merge.specs.declared.fault.MergeFault.{MergeFault}
+use Rattle.sim_merge.specs.declared.fault.MergeFault.TheVariants.{NoParent, Cycle, ChainTooLong, BadOp, OutOfMemory}
+use Rattle.sim_merge.specs.Resolution.{names_in, are_distinct}
+use Rattle.sim_traits.specs.declared.fault.TraitFault.{TraitFault}
+use Rattle.sim_traits.specs.Parts.{template_in}
+use Rattle.sim_setup.specs.Refusals.{Refusal, refusal, coded}
 
--- what a template calls itself, be it a good name or not
-abbrev pub name_in : Data → Option (List ℕ)
-name_in d = text_at (codes "@name") d
+-- at most 256 sources, of which no two have the same name
+abbrev pub few_sources : List Origin → Option (List Origin)
+few_sources origins = if nat_le (length origins) 256 && are_distinct (names_in origins) then Some origins else None
 
--- a template calls itself so
-abbrev pub is_named : List ℕ → Option (List ℕ) → Bool
-is_named text None = false
-is_named text (Some name) = bytes_eq text name
+-- codes 4 to 6, by what keeps a template from being resolved; want of memory is none of them
+abbrev pub merge_refusal : MergeFault → Refusal
+merge_refusal (NoParent index) = refusal 4 index
+merge_refusal (Cycle index) = refusal 5 index
+merge_refusal (ChainTooLong index) = refusal 5 index
+merge_refusal (BadOp index) = refusal 6 index
+merge_refusal OutOfMemory = refusal 0 0
 
--- a template calls itself by one of these texts
-abbrev pub is_repeated : Option (List ℕ) → List (List ℕ) → Bool
-is_repeated None texts = false
-is_repeated (Some name) texts = among name texts
+-- resolved trees, or the refusal
+abbrev pub merged : {X : Type 0} → Result X MergeFault → Result X Refusal
+merged (Ok x) = Ok x
+merged (Err fault) = Err (merge_refusal fault)
 
--- no two texts are equal
-abbrev pub are_distinct : List (List ℕ) → Bool
-are_distinct [] = true
-are_distinct (text ∷ texts) = not (among text texts) && are_distinct texts
+-- a template neither moves nor fights
+abbrev pub is_quiet : Template → Bool
+is_quiet template = is_none template.speed && is_none template.arms
 
--- at most 256 templates, of which no two call themselves the same
-abbrev pub templates_within : List Data → Option (List Data)
-templates_within ds = if nat_le (length ds) 256 && are_distinct (filter_map name_in ds) then Some ds else None
+-- a template that is read, where it is quiet
+abbrev pub if_quiet : Result Template TraitFault → Option Template
+if_quiet (Ok template) = if is_quiet template then Some template else None
+if_quiet (Err fault) = None
 
--- those of the file
-abbrev pub templates_in : Data → Option (List Data)
-templates_in d = option_and_then templates_within (list_at (codes "templates") d)
+-- the template of this number: of the source of that number, whose resolved tree stands at the same place
+unfoldable pub template_at : List (List ℕ) → List Node → ℕ → Origin → Option Template
+template_at names roots number origin = option_and_then (λ root. if_quiet (template_in origin.name root names)) (slice_get roots number)
 
--- the text, where it is a name
-abbrev pub if_name : List ℕ → Option (List ℕ)
-if_name text = if is_name text then Some text else None
+-- the same, once all templates before it are read
+abbrev pub next_template : List (List ℕ) → List Node → List Template → Origin → Option Template
+next_template names roots done origin = template_at names roots (length done) origin
 
--- the health of an object with the one key `Max`: a whole number from 1 to 16000, as its raw
-abbrev pub health_of : Data → Option ℤ
-health_of d = if other_key (codes "Max" ∷ []) d then None else option_map (λ n. pos (n * unit)) (natural_at 1 16000 (codes "Max") d)
-
--- a template that has health alone
-abbrev pub post : List ℕ → ℤ → Template
-post name health =
-    record {
-      name = name;
-      health = Some health;
-      resist = record { hack = 0; pierce = 0; crush = 0 };
-      speed = None;
-      obstruct = None;
-      arms = None;
-      train = None;
-    }
-
--- the post of a name and a health
-abbrev pub post_from : Data → Option Template
-post_from d =
-    next_or (option_and_then if_name (name_in d)) None (λ name. next_or (option_and_then health_of (get (codes "Health") d)) None (λ health.
-    Some (post name health)))
-
--- the post of an object with these two keys alone
-unfoldable pub post_of : Data → Option Template
-post_of d = if other_key (codes "@name" ∷ codes "Health" ∷ []) d then None else post_from d
-
--- the templates, or the first that is none
-abbrev pub templates_from : List Data → Result (List Template) Refusal
-templates_from ds = coded 7 (numbered (λ done. post_of) [] ds)
+-- the templates, or the first that is refused
+abbrev pub templates_from : List Origin → List Node → Result (List Template) Refusal
+templates_from origins roots = coded 7 (numbered (next_template (names_in origins) roots) [] origins)

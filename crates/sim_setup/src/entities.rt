@@ -1,18 +1,19 @@
-//! Codes 3 and 8 at the key `entities`. Coordinates are whole metres so far.
+//! Codes 3 and 8 at the key `entities`.
 
-ghost use Rattle.std.specs.Prelude.{◌≡◌, ◌<◌, ◌≤◌, map, length, option_map, option_and_then, IfSome};
+ghost use Rattle.std.specs.Prelude.{◌≡◌, map, option_map, option_and_then};
 ghost use Rattle.serde_json.specs.View.{view};
 ghost use Rattle.serde_json.specs.Find.{as_str};
 ghost use Rattle.sim_base.specs.Places.{is_inside as is_inside_size, is_within as is_within_cells};
 ghost use Rattle.sim_base.specs.Rows.{size_of};
 ghost use Rattle.sim_json.specs.Values.{list_of as list_of_data, four as four_of};
-ghost use Rattle.sim_setup.specs.Entities.{entities_in as entities_in_data, coordinate as coordinate_data, point_of as point_of_data, if_inside, is_called as is_called_template, number_of as number_of_name, first_of as first_of_data, firsts_from as firsts_from_data};
+ghost use Rattle.sim_setup.specs.Entities.{entities_in as entities_in_data, point_of as point_of_data, if_inside, number_of as number_of_name, first_of as first_of_data, firsts_from as firsts_from_data};
 ghost use Rattle.sim_setup.specs.Meets.{Meets};
 
 use crate::fault::{SetupFault, refused};
 use serde_json::Value;
-use sim_base::{First, Firsts, Fixed, Land, Point, Template};
-use sim_json::{four, list_at, list_of, natural_in};
+use sim_base::{First, Firsts, Fixed, Land, Point};
+use sim_json::{fixed, four, list_at, list_of, natural_in};
+use sim_merge::Library;
 use std::alloc::Global;
 
 /// The items of the list, where there are at most 4096.
@@ -30,18 +31,17 @@ pub fn entities_in(value: &Value) -> Option<&[Value]>
 /// The entities, or the refusal of the first item that is none.
 pub fn firsts_from(
     alloc: Global,
-    templates: &[Template],
+    library: &Library,
     land: &Land,
     players: u8,
     items: &[Value],
 ) -> Result<Firsts, SetupFault>
-    requires { length templates.now ≤ 256 }
-    ensures { Meets result (firsts_from_data templates.now land.now players (map view items.now)) }
+    ensures { Meets result (firsts_from_data library.now.names land.now players (map view items.now)) }
 {
     let mut found = Vec::new(alloc);
     let mut rest = items;
     while let [item, more @ ..] = rest {
-        match first_of(templates, land, players, item) {
+        match first_of(library, land, players, item) {
             Some(first) => found.push(first)?,
             None => return Err(refused(8, found.len())),
         }
@@ -51,12 +51,11 @@ pub fn firsts_from(
 }
 
 #[tactic(auto, unfolding(crate::specs::Entities::first_of))]
-fn first_of(templates: &[Template], land: &Land, players: u8, item: &Value) -> Option<First>
-    requires { length templates.now ≤ 256 }
-    ensures { result ≡ first_of_data templates.now land.now players (view item.now) }
+fn first_of(library: &Library, land: &Land, players: u8, item: &Value) -> Option<First>
+    ensures { result ≡ first_of_data library.now.names land.now players (view item.now) }
 {
     let (name, owner, x, z) = four(list_of(item)?)?;
-    let template = number_in(templates, name)?;
+    let template = number_in(library, name)?;
     let owner = natural_in(owner, 0, u64::from(players))?;
     let at = point_in(land, x, z)?;
     let owner = owner as u8;
@@ -67,36 +66,10 @@ fn first_of(templates: &[Template], land: &Land, players: u8, item: &Value) -> O
     })
 }
 
-fn number_in(templates: &[Template], name: &Value) -> Option<u16>
-    requires { length templates.now ≤ 256 }
-    ensures { result ≡ option_and_then (number_of_name templates.now) (as_str (view name.now)) }
+fn number_in(library: &Library, name: &Value) -> Option<u16>
+    ensures { result ≡ option_and_then (number_of_name library.now.names) (as_str (view name.now)) }
 {
-    number_of(templates, name.as_str()?)
-}
-
-fn number_of(templates: &[Template], name: &str) -> Option<u16>
-    requires { length templates.now ≤ 256 }
-    ensures { result ≡ number_of_name templates.now name.now }
-{
-    match place_of(templates, name) {
-        Some(number) => Some(number as u16),
-        None => None,
-    }
-}
-
-fn place_of(templates: &[Template], name: &str) -> Option<usize>
-    ensures value { result ≡ number_of_name templates.now name.now }
-    ensures within { IfSome result (λ number. number < length templates.now) }
-{
-    templates
-        .iter()
-        .position(|template| is_called(template, name))
-}
-
-fn is_called(template: &Template, name: &str) -> bool
-    ensures { result ≡ is_called_template name.now template.now }
-{
-    template.name.text() == name
+    library.number_of(name.as_str()?)
 }
 
 fn point_in(land: &Land, x: &Value, z: &Value) -> Option<Point>
@@ -122,15 +95,7 @@ fn is_within(coordinate: Fixed, cells: u16) -> bool
 fn point_of(x: &Value, z: &Value) -> Option<Point>
     ensures { result ≡ point_of_data (view x.now) (view z.now) }
 {
-    let x = coordinate(x)?;
-    let z = coordinate(z)?;
+    let x = fixed(x)?;
+    let z = fixed(z)?;
     Some(Point { x, z })
-}
-
-// A whole number of metres.
-fn coordinate(value: &Value) -> Option<Fixed>
-    ensures { result ≡ coordinate_data (view value.now) }
-{
-    let metres = natural_in(value, 0, 32_767)?;
-    Some(Fixed::from_raw(metres as i32 * 65_536))
 }

@@ -1,7 +1,12 @@
 //! What the index of a refusal says of a list: the items before it are read, and the one at it is not, beside their
 //! records. Each function does nothing; its contract is the law.
 
-ghost use Rattle.sim_setup.specs.Laws.{TemplateIndexIsLeast, EntityIndexIsLeast, CommandIndexIsLeast};
+ghost use Rattle.sim_setup.specs.Laws.{SourceIndexIsLeast, TemplateIndexIsLeast, EntityIndexIsLeast, CommandIndexIsLeast};
+
+/// The index of a source that is refused is the least, behind the places of the keys.
+pub fn source_index_is_least()
+    ensures { SourceIndexIsLeast }
+{}
 
 /// The index of a template that is refused is the least.
 pub fn template_index_is_least()

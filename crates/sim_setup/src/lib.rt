@@ -3,15 +3,17 @@
 //!
 //! It promises that the answer is exactly that of its definition, that every setup meets the limits that the crates
 //! above count on, and that the index of a refusal is the least. It stands on `serde_json` for the text, on `md5` for
-//! the id of a match, and on `sim_json` for values. So far it reads matches of posts: templates with health alone,
-//! coordinates of whole metres, and commands that delete.
+//! the id of a match, on `sim_json` for values, and on `sim_tree`, `sim_merge` and `sim_traits` for templates. So far
+//! templates neither move nor fight, and commands delete.
 //!
 //! One module has the passes of one code or key, in the order in which they run:
 //!
 //! - `fault`: how a file is refused.
 //! - `shape`: code 2, the ten keys and the kinds of their values.
+//! - `sources`: code 2 at each template, and code 3 for them all.
 //! - `ground`, `players`, `rules`: code 3, numbers and lists within their limits.
-//! - `templates`: codes 3 and 7.
+//! - `resolved`: codes 4 to 6, templates with all that they inherit.
+//! - `templates`: code 7.
 //! - `entities`: codes 3 and 8.
 //! - `commands`, `crowd`: codes 9 and 10.
 //! - `passes`: all of them, one after another.
@@ -26,12 +28,16 @@ mod ground;
 mod laws;
 mod passes;
 mod players;
+mod resolved;
 mod rules;
 mod shape;
+mod sources;
 mod templates;
 
 pub use fault::SetupFault;
-pub use laws::{command_index_is_least, entity_index_is_least, template_index_is_least};
+pub use laws::{
+    command_index_is_least, entity_index_is_least, source_index_is_least, template_index_is_least,
+};
 pub use passes::setup_of;
 
 #[cfg(test)]

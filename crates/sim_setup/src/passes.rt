@@ -1,24 +1,29 @@
 //! The passes over a match file, one after another in the order of their codes, so that the first code that applies is
 //! the answer.
 
-ghost use Rattle.std.specs.Prelude.{◌≡◌, ◌≤◌, map, length, IfOk};
+ghost use Rattle.std.specs.Prelude.{◌≡◌, ◌≤◌, true, All, map, length, IfOk};
 ghost use Rattle.serde_json.specs.View.{view};
-ghost use Rattle.sim_base.specs.Limits.{IsSetup};
+ghost use Rattle.sim_base.specs.Limits.{IsSetup, IsTemplate};
+ghost use Rattle.sim_merge.specs.Resolution.{names_in, origins_of, are_distinct};
 ghost use Rattle.sim_setup.specs.Meets.{Meets};
-ghost use Rattle.sim_setup.specs.Posts.{IsOfPosts};
+ghost use Rattle.sim_setup.specs.Quiet.{IsQuietMatch};
+ghost use Rattle.sim_setup.specs.Sources.{IsReadySource};
 ghost use Rattle.sim_setup.specs.Setups.{players_of as players_of_land, commands_in as commands_in_data, items_in as items_in_data, lists_in as lists_in_data, setup_with as setup_with_parts, limits_in as limits_in_data, setup_in as setup_in_data, setup_of as setup_of_bytes};
 
 use crate::commands::{in_order, timeds_from};
 use crate::entities::{entities_in, firsts_from};
 use crate::fault::SetupFault;
 use crate::ground::land_in;
+use crate::resolved::resolved;
 use crate::rules::{Rules, rules_in};
 use crate::shape::misplaced;
-use crate::templates::{templates_from, templates_in};
+use crate::sources::{are_few, sources_in};
+use crate::templates::templates_from;
 use md5::{Digest, Md5};
 use serde_json::Value;
 use sim_base::{Firsts, Land, Setup, Templates, Timeds};
 use sim_json::{list_at, value_of};
+use sim_tree::Source;
 use std::alloc::Global;
 
 /// The lists of a match, as a setup has them.
@@ -34,7 +39,7 @@ pub struct Lists {
 pub fn setup_of(alloc: Global, bytes: &[u8]) -> Result<Setup, SetupFault>
     ensures answers { Meets result (setup_of_bytes bytes.now) }
     ensures limits { IfOk result IsSetup }
-    ensures posts { IfOk result IsOfPosts }
+    ensures quiet { IfOk result IsQuietMatch }
 {
     let Some(value) = value_of(alloc, bytes)? else {
         return Err(SetupFault::Refused { code: 1, index: 0 });
@@ -43,20 +48,29 @@ pub fn setup_of(alloc: Global, bytes: &[u8]) -> Result<Setup, SetupFault>
 }
 
 fn setup_in(alloc: Global, id: [u8; 16], value: &Value) -> Result<Setup, SetupFault>
-    ensures { Meets result (setup_in_data id (view value.now)) }
+    ensures value { Meets result (setup_in_data id (view value.now)) }
+    ensures templates { IfOk result (λ setup. All (IsTemplate (length setup.templates)) setup.templates) }
 {
     if let Some(index) = misplaced(value) {
         return Err(SetupFault::Refused { code: 2, index });
     }
-    limits_in(alloc, id, value)
+    let sources = sources_in(alloc, value)?;
+    limits_in(alloc, id, sources.as_slice(), value)
 }
 
-fn limits_in(alloc: Global, id: [u8; 16], value: &Value) -> Result<Setup, SetupFault>
-    ensures { Meets result (limits_in_data id (view value.now)) }
+fn limits_in(
+    alloc: Global,
+    id: [u8; 16],
+    sources: &[Source],
+    value: &Value,
+) -> Result<Setup, SetupFault>
+    requires { All IsReadySource sources.now }
+    ensures value { Meets result (limits_in_data id (origins_of sources.now) (view value.now)) }
+    ensures templates { IfOk result (λ setup. All (IsTemplate (length setup.templates)) setup.templates) }
 {
     let land = land_in(alloc, value)?;
     let rules = rules_in(value)?;
-    let lists = lists_in(alloc, &land, rules, value)?;
+    let lists = lists_in(alloc, &land, rules, sources, value)?;
     Ok(setup_with(id, land, rules, lists))
 }
 
@@ -79,41 +93,47 @@ fn setup_with(id: [u8; 16], land: Land, rules: Rules, lists: Lists) -> Setup
     }
 }
 
-fn lists_in(alloc: Global, land: &Land, rules: Rules, value: &Value) -> Result<Lists, SetupFault>
+fn lists_in(
+    alloc: Global,
+    land: &Land,
+    rules: Rules,
+    sources: &[Source],
+    value: &Value,
+) -> Result<Lists, SetupFault>
     requires players { length land.now.masks ≤ 9 }
     requires turns { rules.turns ≤ 65535 }
-    ensures { Meets result (lists_in_data land.now rules (view value.now)) }
+    requires ready { All IsReadySource sources.now }
+    ensures value { Meets result (lists_in_data land.now rules (origins_of sources.now) (view value.now)) }
+    ensures templates { IfOk result (λ lists. All (IsTemplate (length lists.templates)) lists.templates) }
 {
-    let Some(templates) = templates_in(value) else {
+    if !are_few(sources) {
         return Err(SetupFault::Refused { code: 3, index: 7 });
-    };
+    }
     let Some(entities) = entities_in(value) else {
         return Err(SetupFault::Refused { code: 3, index: 8 });
     };
-    items_in(alloc, land, rules, templates, entities, value)
+    items_in(alloc, land, rules, sources, entities, value)
 }
 
 fn items_in(
     alloc: Global,
     land: &Land,
     rules: Rules,
-    templates: &[Value],
+    sources: &[Source],
     entities: &[Value],
     value: &Value,
 ) -> Result<Lists, SetupFault>
     requires players { length land.now.masks ≤ 9 }
     requires turns { rules.turns ≤ 65535 }
-    requires templates { length templates.now ≤ 256 }
-    ensures { Meets result (items_in_data land.now rules (map view templates.now) (map view entities.now) (view value.now)) }
+    requires few { length sources.now ≤ 256 }
+    requires distinct { are_distinct (names_in (origins_of sources.now)) ≡ true }
+    requires ready { All IsReadySource sources.now }
+    ensures value { Meets result (items_in_data land.now rules (origins_of sources.now) (map view entities.now) (view value.now)) }
+    ensures templates { IfOk result (λ lists. All (IsTemplate (length lists.templates)) lists.templates) }
 {
-    let templates = templates_from(alloc, templates)?;
-    let first = firsts_from(
-        alloc,
-        templates.as_slice(),
-        land,
-        players_of(land),
-        entities,
-    )?;
+    let library = resolved(alloc, sources)?;
+    let templates = templates_from(alloc, sources, &library)?;
+    let first = firsts_from(alloc, &library, land, players_of(land), entities)?;
     let commands = commands_in(alloc, land, rules, value)?;
     Ok(Lists {
         templates,

@@ -173,7 +173,7 @@ fn keeps_the_last_of_two_members(rt: HostRuntime) -> Result<(), Fail> {
 }
 
 // A key, its value, and the code and index that refuse it.
-static CASES: [(&str, &str, u8, u32); 72] = [
+static CASES: [(&str, &str, u8, u32); 68] = [
     ("size", "[4,4,4]", 2, 0),
     ("size", "[4,4.0]", 2, 0),
     ("size", "null", 2, 0),
@@ -217,21 +217,6 @@ static CASES: [(&str, &str, u8, u32); 72] = [
     ),
     (
         "templates",
-        r#"[{"@name":"post","Health":{"Max":50},"Motion":{"Speed":9}}]"#,
-        7,
-        0,
-    ),
-    ("templates", "[null]", 7, 0),
-    ("templates", r#"[{"@name":"post"}]"#, 7, 0),
-    (
-        "templates",
-        r#"[{"@name":"po st","Health":{"Max":50}}]"#,
-        7,
-        0,
-    ),
-    ("templates", r#"[{"@name":"","Health":{"Max":50}}]"#, 7, 0),
-    (
-        "templates",
         r#"[{"@name":"post","Health":{"Max":0}}]"#,
         7,
         0,
@@ -244,30 +229,21 @@ static CASES: [(&str, &str, u8, u32); 72] = [
     ),
     (
         "templates",
-        r#"[{"@name":"post","Health":{"Max":"50"}}]"#,
-        7,
-        0,
-    ),
-    (
-        "templates",
         r#"[{"@name":"post","Health":{"Max":50,"Now":1}}]"#,
         7,
         0,
     ),
     ("templates", r#"[{"@name":"post","Health":50}]"#, 7, 0),
-    (
-        "templates",
-        r#"[{"@name":"post","Health":{"Max":50}},{"@name":5,"Health":{"Max":50}}]"#,
-        7,
-        1,
-    ),
     ("entities", r#"[["pos",1,1,1]]"#, 8, 0),
     ("entities", r#"[["post",3,1,1]]"#, 8, 0),
     ("entities", r#"[["post",-1,1,1]]"#, 8, 0),
     ("entities", r#"[["post",1,4,1]]"#, 8, 0),
     ("entities", r#"[["post",1,1,4]]"#, 8, 0),
     ("entities", r#"[["post",1,-1,1]]"#, 8, 0),
-    ("entities", r#"[["post",1,1,"1"]]"#, 8, 0),
+    ("entities", r#"[["post",1,1,"1x"]]"#, 8, 0),
+    ("entities", r#"[["post",1,"4",1]]"#, 8, 0),
+    ("entities", r#"[["post",1,"-0.00002",1]]"#, 8, 0),
+    ("entities", r#"[["post",1,1,18446744073709551615]]"#, 8, 0),
     ("entities", r#"[["post",1,1.0,1]]"#, 8, 0),
     ("entities", r#"[["post",1,1]]"#, 8, 0),
     ("entities", r#"[["post",1,1,1],["post",1,1,1,1]]"#, 8, 1),
@@ -347,17 +323,157 @@ fn refuses_one_item_too_many(rt: HostRuntime) -> Result<(), Fail> {
     Ok(())
 }
 
+// Templates, and the code and index that refuse them; code 0 where there is a setup.
+static TEMPLATES: [(&str, u8, u32); 33] = [
+    ("null", 2, 16),
+    (r#"{"Health":{"Max":50}}"#, 2, 16),
+    (r#"{"@name":"po st"}"#, 2, 16),
+    (r#"{"@name":""}"#, 2, 16),
+    (r#"{"@name":"a"},{"@name":5}"#, 2, 17),
+    (r#"{"@name":"a"},{"@name":"b","_":1},{"@name":"c","d":1.5}"#, 2, 17),
+    (r#"{"@name":"a"},{"@name":"b"},{"@name":"a","@parent":"c"}"#, 3, 7),
+    (r#"{"@name":"a","@parent":"b"}"#, 4, 0),
+    (r#"{"@name":"a","@parent":"a"},{"@name":"b","@parent":"c"}"#, 4, 1),
+    (r#"{"@name":"a","@parent":"a"}"#, 5, 0),
+    (r#"{"@name":"a","@parent":"b"},{"@name":"b","@parent":"b"}"#, 5, 0),
+    (
+        r#"{"@name":"a","b":{"@op":"add","_":1}},{"@name":"c","@parent":"d"},{"@name":"d","@parent":"c"}"#,
+        5,
+        1,
+    ),
+    (r#"{"@name":"a","Motion":{"Speed":9}},{"@name":"b","c":{"@op":"add","_":1}}"#, 6, 1),
+    (
+        r#"{"@name":"a","@parent":"b"},{"@name":"b","Health":{"Max":{"@op":"mul","_":2}}}"#,
+        6,
+        0,
+    ),
+    (
+        r#"{"@name":"post","Health":{"Max":50}},{"@name":"big","@parent":"post","Health":{"Max":{"@op":"mul","_":"x"}}}"#,
+        6,
+        1,
+    ),
+    (r#"{"@name":"a","Motion":{"Speed":9}}"#, 7, 0),
+    (r#"{"@name":"a","Attack":{"Range":1,"Vision":1,"Repeat":0}}"#, 7, 0),
+    (
+        r#"{"@name":"a"},{"@name":"b","Motion":{"Speed":9}},{"@name":"c","@parent":"b","Motion":{"@disable":1},"Health":5}"#,
+        7,
+        1,
+    ),
+    (
+        r#"{"@name":"a"},{"@name":"b","Health":5},{"@name":"c","Motion":{"Speed":9}}"#,
+        7,
+        1,
+    ),
+    (r#"{"@name":"a","Health":{"Max":0}}"#, 7, 0),
+    (r#"{"@name":"a","Health":{"Max":"16000.00002"}}"#, 7, 0),
+    (r#"{"@name":"a","Health":{"Max":"x"}}"#, 7, 0),
+    (r#"{"@name":"a","Health":{}}"#, 7, 0),
+    (r#"{"@name":"a","Health":{"Max":50,"Now":1}}"#, 7, 0),
+    (r#"{"@name":"a","Healt":{"Max":50}}"#, 7, 0),
+    (r#"{"@name":"a","Resist":{"Hack":41}}"#, 7, 0),
+    (r#"{"@name":"a","Obstruct":{"Width":17,"Depth":1}}"#, 7, 0),
+    (r#"{"@name":"a","Train":{"Units":"a b"}}"#, 7, 0),
+    (r#"{"@name":"a"}"#, 0, 0),
+    (r#"{"@name":"a","Train":{"Units":" b a  a"}},{"@name":"b"}"#, 0, 0),
+    (
+        r#"{"@name":"b","@parent":"a"},{"@name":"a","Obstruct":{"Width":2,"Depth":"2.00001"}}"#,
+        0,
+        0,
+    ),
+    (
+        r#"{"@name":"a","@parent":"b","Health":{"@disable":1}},{"@name":"b","Health":{"Max":"0.00002"}}"#,
+        0,
+        0,
+    ),
+    (
+        r#"{"@name":"a","Health":{"@disable":1,"Max":{"@op":"add","_":1}}}"#,
+        0,
+        0,
+    ),
+];
+
+// The answer to the match with these templates and no entities.
+fn templates_answer(alloc: Global, items: &str) -> Result<Option<SetupFault>, AllocError> {
+    let text = posts_with(alloc, "templates", format!(in alloc; "[{items}]")?.as_str())?;
+    let text = text.replace(alloc, r#"[["post",1,1,1],["post",2,2,2]]"#, "[]")?;
+    Ok(refusal(alloc, text.as_bytes()))
+}
+
 #[test]
-fn refuses_too_many_templates_before_a_bad_one(rt: HostRuntime) -> Result<(), Fail> {
+fn refuses_templates(rt: HostRuntime) -> Result<(), Fail> {
     let alloc = rt.alloc();
-    for (count, code, index) in [(256, 7, 0), (257, 3, 7)] {
-        let text = posts_with(alloc, "templates", repeated(alloc, "0", count)?.as_str())?;
-        assert_eq!(rt;
-            refusal(alloc, text.as_bytes()),
-            refused(code, index),
-            "at {count}"
-        );
+    for (items, code, index) in TEMPLATES.iter() {
+        let wanted = if *code == 0 {
+            None
+        } else {
+            refused(*code, *index)
+        };
+        assert_eq!(rt; templates_answer(alloc, items)?, wanted, "at {items}");
     }
+    Ok(())
+}
+
+// So many templates, each the parent of the next one.
+fn chain(alloc: Global, count: usize) -> Result<String, AllocError> {
+    let mut items = String::from_str(alloc, r#"{"@name":"0"}"#)?;
+    for i in 1..count {
+        let parent = i - 1;
+        let item = format!(in alloc; ",{{\"@name\":\"{i}\",\"@parent\":\"{parent}\"}}")?;
+        items.push_str(item.as_str())?;
+    }
+    Ok(items)
+}
+
+// So many templates with different names, and then another item.
+fn named(alloc: Global, count: usize, last: &str) -> Result<String, AllocError> {
+    let mut items = String::new(alloc);
+    for i in 0..count {
+        items.push_str(format!(in alloc; "{{\"@name\":\"{i}\"}},")?.as_str())?;
+    }
+    items.push_str(last)?;
+    Ok(items)
+}
+
+#[test]
+fn refuses_long_lists_of_templates(rt: HostRuntime) -> Result<(), Fail> {
+    let alloc = rt.alloc();
+    assert_eq!(rt; templates_answer(alloc, chain(alloc, 16)?.as_str())?, None);
+    let wanted = refused(5, 16);
+    assert_eq!(rt; templates_answer(alloc, chain(alloc, 17)?.as_str())?, wanted);
+    assert_eq!(rt; templates_answer(alloc, chain(alloc, 18)?.as_str())?, wanted);
+    let lists = [
+        (255, r#"{"@name":"x"}"#, None),
+        (256, r#"{"@name":"x"}"#, refused(3, 7)),
+        (255, r#"{"@name":"7"}"#, refused(3, 7)),
+        (290, "0", refused(2, 306)),
+    ];
+    for (count, last, wanted) in lists {
+        let items = named(alloc, count, last)?;
+        assert_eq!(rt; templates_answer(alloc, items.as_str())?, wanted, "at {count} {last}");
+    }
+    Ok(())
+}
+
+#[test]
+fn reads_what_is_inherited(rt: HostRuntime) -> Result<(), Fail> {
+    let alloc = rt.alloc();
+    let text = posts_with(
+        alloc,
+        "templates",
+        r#"[{"@name":"big","@parent":"post","Health":{"Max":{"@op":"mul","_":"1.5"}},"Train":{"Units":"post big"}},{"@name":"post","Health":{"Max":50},"Resist":{"Crush":40}}]"#,
+    )?;
+    let text = text.replace(alloc, r#"["post",2,2,2]"#, r#"["big",0,"3.99999","0"]"#)?;
+    let Ok(setup) = setup_of(alloc, text.as_bytes()) else {
+        panic!(&rt; "refused");
+    };
+    let templates = format!(in alloc; "{:?}", setup.templates)?;
+    let templates_read =
+        "Items { items: [Template { name: Name { text: \"big\" }, health: Some(Fixed(4915200)), resist: Resist { hack: 0, pierce: 0, crush: 40 }, speed: None, obstruct: None, arms: None, train: Some(Items { items: [1, 0] }) }, Template { name: Name { text: \"post\" }, health: Some(Fixed(3276800)), resist: Resist { hack: 0, pierce: 0, crush: 40 }, speed: None, obstruct: None, arms: None, train: None }] }";
+    assert_eq!(rt; templates.as_str(), templates_read);
+    let first = format!(in alloc; "{:?}", setup.first)?;
+    let first_read =
+        "Items { items: [First { template: 1, owner: 1, at: Point { x: Fixed(65536), z: Fixed(65536) } }, First { template: 0, owner: 0, at: Point { x: Fixed(262143), z: Fixed(0) } }] }";
+    assert_eq!(rt; first.as_str(), first_read);
     Ok(())
 }
 

@@ -1,14 +1,14 @@
-use Rattle.std.proofs.Common.{◌≡◌, ◌+◌, map, length, [], vec_len}
-use Rattle.serde_json.specs.View.{view}
+use Rattle.std.proofs.Common.{◌≡◌, map, drop, [], length, All}
+use Rattle.sim_base.specs.Limits.{IsTemplate}
 use Rattle.sim_json.specs.Records.{numbered}
-use Rattle.sim_setup.specs.Templates.{post_of}
+use Rattle.sim_tree.specs.Sources.{origin_of}
+use Rattle.sim_setup.specs.Templates.{next_template}
 use Rattle.sim_setup.proofs.templates.templates_from.Given as goal
 
-abbrev pub invariant-loop-rest : goal.invariant-loop-rest
-invariant-loop-rest l = record {
-  same : numbered (λ done. post_of) l.found.items (map view l.rest) ≡ numbered (λ done. post_of) [] (map view l.items);
-  count : vec_len l.found + length l.rest ≡ length l.items;
+abbrev pub invariant-loop-number : goal.invariant-loop-number
+invariant-loop-number l = record {
+  same : numbered (next_template l.library.names l.library.roots) l.found.items (map origin_of (drop l.number l.sources))
+      ≡ numbered (next_template l.library.names l.library.roots) [] (map origin_of l.sources);
+  count : length l.found.items ≡ l.number;
+  limits : All (IsTemplate (length l.sources)) l.found.items;
 }
-
-abbrev pub decreases-loop-rest : goal.decreases-loop-rest
-decreases-loop-rest l = length l.rest

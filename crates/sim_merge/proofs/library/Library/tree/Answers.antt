@@ -1,0 +1,15 @@
+use Rattle.std.proofs.Common.{◌<◌, length, map, arith, ap, sym, ◌∙◌}
+use Rattle.std.proofs.lemmas.List.{length-map, get_or-map}
+use Rattle.sim_tree.specs.Trees.{node_of}
+use Rattle.sim_merge.specs.Libraries.{Holding, is_resolved}
+use Rattle.sim_merge.proofs.ListLemmas.{list_all-get_or}
+use Rattle.sim_merge.proofs.library.Library.tree.Goals as goal
+
+pub returns-clause-resolved : goal.returns-clause-resolved
+returns-clause-resolved c =
+    let trees = c.self.inside.trees.items in
+    let tree = c.index.result.now in
+    let counted : c.args.number < length (map node_of trees) = omega (arith, c.self.invariant.paired, ap (λ (h : Holding). length h.names) c.self.view_is) in
+    let within : c.args.number < length trees = omega (arith, length-map trees node_of) in
+    ap is_resolved (ap node_of c.index.ensures ∙ sym (get_or-map node_of trees c.args.number tree (node_of tree) within))
+    ∙ list_all-get_or is_resolved (map node_of trees) c.args.number (node_of tree) counted c.self.invariant.resolved

@@ -1,0 +1,72 @@
+-- Worked examples of templates, computed from the definitions.
+use Rattle.std.proofs.Common.{◌≡◌, ℕ, ℤ, pos, List, [], ◌∷◌, Option, Some, None, Result, Ok, Err, refl}
+use Rattle.std.specs.Prelude.{codes}
+use Rattle.std.specs.Fmt.{digits}
+use Rattle.serde_json.specs.Data.{null, string, object, no_members, member}
+use Rattle.sim_base.specs.declared.template.Template.{Template}
+use Rattle.sim_tree.specs.declared.tree.TreeMark.{TreeMark}
+use Rattle.sim_tree.specs.declared.tree.TreeMark.TheVariants.{Mul}
+use Rattle.sim_tree.specs.Trees.{Node, node, no_children, child}
+use Rattle.sim_tree.specs.Sources.{Origin}
+use Rattle.sim_tree.specs.Reading.{source_in}
+use Rattle.sim_merge.specs.Values.{text_by}
+use Rattle.sim_merge.specs.Resolution.{members, resolution_of}
+use Rattle.sim_traits.specs.Parts.{template_in}
+use Rattle.sim_setup.specs.Refusals.{refusal, after}
+use Rattle.sim_setup.specs.Sources.{source_of, sources_from}
+use Rattle.sim_setup.specs.Templates.{merged, template_at, templates_from}
+
+-- a part with one child
+abbrev part : List ℕ → List ℕ → Option TreeMark → List ℕ → Node
+part name key mark text = node None None (child name (node None None (child key (node (Some text) mark no_children) no_children)) no_children)
+
+abbrev source : List ℕ → Option (List ℕ) → Node → Origin
+source name parent root = record { name = name; parent = parent; root = root }
+
+abbrev post : Origin
+post = source (codes "post") None (part (codes "Health") (codes "Max") None (codes "50"))
+
+-- half as much health again, or as much as `text` says
+abbrev big : List ℕ → Origin
+big text = source (codes "big") (Some (codes "post")) (part (codes "Health") (codes "Max") (Some Mul) text)
+
+abbrev with_health : List ℕ → ℕ → Template
+with_health name health =
+    record {
+      name = name;
+      health = Some (pos health);
+      resist = record { hack = 0; pierce = 0; crush = 0 };
+      speed = None;
+      obstruct = None;
+      arms = None;
+      train = None;
+    }
+
+-- ---- codes 4 to 7
+
+half_again : after (merged (resolution_of (post ∷ big (codes "1.5") ∷ []))) (templates_from (post ∷ big (codes "1.5") ∷ []))
+    ≡ Ok (with_health (codes "post") 3276800 ∷ with_health (codes "big") 4915200 ∷ [])
+unfolding digits text_by members template_in template_at
+half_again = refl
+
+no_number : merged (resolution_of (post ∷ big (codes "x") ∷ [])) ≡ Err (refusal 6 1)
+unfolding digits text_by members
+no_number = refl
+
+no_parent : merged (resolution_of (big (codes "1.5") ∷ [])) ≡ Err (refusal 4 0)
+no_parent = refl
+
+own_parent : merged (resolution_of (source (codes "a") (Some (codes "a")) (node None None no_children) ∷ [])) ≡ Err (refusal 5 0)
+unfolding members
+own_parent = refl
+
+mover : templates_from (post ∷ source (codes "a") None (part (codes "Motion") (codes "Speed") None (codes "9")) ∷ [])
+    (post.root ∷ part (codes "Motion") (codes "Speed") None (codes "9") ∷ []) ≡ Err (refusal 7 1)
+unfolding template_in template_at
+mover = refl
+
+-- ---- code 2
+
+second_item : sources_from (object (member (codes "@name") (string (codes "a")) no_members) ∷ null ∷ []) ≡ Err (refusal 2 17)
+unfolding source_of source_in
+second_item = refl

@@ -1,0 +1,11 @@
+use Rattle.std.proofs.Common.{◌≡◌, length}
+use Rattle.std.specs.List.{list_any}
+use Rattle.std.specs.Str.{bytes_eq}
+use Rattle.sim_merge.specs.Resolution.{names_in, origins_of}
+use Rattle.sim_setup.proofs.sources.is_among.Given as goal
+
+abbrev pub invariant-loop-rest : goal.invariant-loop-rest
+invariant-loop-rest l = list_any (bytes_eq l.name) (names_in (origins_of l.rest)) ≡ list_any (bytes_eq l.name) (names_in (origins_of l.sources))
+
+abbrev pub decreases-loop-rest : goal.decreases-loop-rest
+decreases-loop-rest l = length l.rest

@@ -1,0 +1,15 @@
+use Rattle.std.proofs.Common.{◌≡◌, map, length, [], All}
+use Rattle.serde_json.specs.View.{view}
+use Rattle.sim_json.specs.Records.{numbered}
+use Rattle.sim_tree.specs.Sources.{origin_of}
+use Rattle.sim_setup.specs.Sources.{source_of, IsReadySource}
+use Rattle.sim_setup.proofs.sources.sources_from.Given as goal
+
+abbrev pub invariant-loop-rest : goal.invariant-loop-rest
+invariant-loop-rest l = record {
+  same : numbered (λ done. source_of) (map origin_of l.found.items) (map view l.rest) ≡ numbered (λ done. source_of) [] (map view l.items);
+  ready : All IsReadySource l.found.items;
+}
+
+abbrev pub decreases-loop-rest : goal.decreases-loop-rest
+decreases-loop-rest l = length l.rest

@@ -1,0 +1,32 @@
+-- The sources of the templates of a match file.
+use Rattle.std.specs.Prelude.{◌≡◌, ℕ, ◌≤◌, true, List, [], codes, Option, None, Result}
+use Rattle.std.specs.Result.{result_ok}
+use Rattle.serde_json.specs.Data.{Data}
+use Rattle.sim_json.specs.Values.{list_at}
+use Rattle.sim_json.specs.Records.{numbered}
+use Rattle.sim_tree.specs.declared.source.Source.{Source}
+use Rattle.sim_tree.specs.Trees.{Node, node_of, mark_of, is_sound, levels}
+use Rattle.sim_tree.specs.Sources.{Origin}
+use Rattle.sim_tree.specs.Reading.{source_in}
+use Rattle.sim_setup.specs.Refusals.{Refusal, need, placed}
+
+-- the source that an item is
+unfoldable pub source_of : Data → Option Origin
+source_of d = result_ok (source_in d)
+
+-- the sources, or the first item that is none, counted behind the places of the keys
+abbrev pub sources_from : List Data → Result (List Origin) Refusal
+sources_from ds = placed 2 16 (numbered (λ done. source_of) [] ds)
+
+-- those of the file; that the templates are a list was seen before
+abbrev pub sources_in : Data → Result (List Origin) Refusal
+sources_in d = need 2 7 (list_at (codes "templates") d) sources_from
+
+-- a tree that can be laid over another one: its root has no mark, its children ascend, and its levels are few
+pub record IsReady (n : Node) : Type 0 where
+  pub unmarked : mark_of n ≡ None
+  pub sound : is_sound n ≡ true
+  pub levels : levels n ≤ 32
+
+abbrev pub IsReadySource : Source → Type 0
+IsReadySource source = IsReady (node_of source.tree)

@@ -1,0 +1,37 @@
+//! Codes 4 to 6: the sources with all that they inherit.
+
+ghost use Rattle.std.specs.Prelude.{◌≡◌, ◌≤◌, true, All, length};
+ghost use Rattle.sim_merge.specs.Resolution.{names_in, origins_of, are_distinct, resolution_of};
+ghost use Rattle.sim_setup.specs.Meets.{LibraryMeets, Refuses};
+ghost use Rattle.sim_setup.specs.Sources.{IsReadySource};
+ghost use Rattle.sim_setup.specs.Templates.{merged};
+
+use crate::fault::SetupFault;
+use sim_merge::{Library, MergeFault};
+use sim_tree::Source;
+use std::alloc::Global;
+
+/// The library of these sources, or the refusal of the first that has no resolved tree.
+pub fn resolved(alloc: Global, sources: &[Source]) -> Result<Library, SetupFault>
+    requires few { length sources.now ≤ 256 }
+    requires distinct { are_distinct (names_in (origins_of sources.now)) ≡ true }
+    requires ready { All IsReadySource sources.now }
+    ensures { LibraryMeets result (origins_of sources.now) (merged (resolution_of (origins_of sources.now))) }
+{
+    match Library::resolve(alloc, sources) {
+        Ok(library) => Ok(library),
+        Err(fault) => Err(refusal(fault)),
+    }
+}
+
+fn refusal(fault: MergeFault) -> SetupFault
+    ensures { Refuses result fault }
+{
+    match fault {
+        MergeFault::NoParent { index } => SetupFault::Refused { code: 4, index },
+        MergeFault::Cycle { index } => SetupFault::Refused { code: 5, index },
+        MergeFault::ChainTooLong { index } => SetupFault::Refused { code: 5, index },
+        MergeFault::BadOp { index } => SetupFault::Refused { code: 6, index },
+        MergeFault::OutOfMemory => SetupFault::OutOfMemory,
+    }
+}

@@ -1,0 +1,103 @@
+//! Code 2 at the items of `templates`, and code 3 at that key: the sources of the templates, which may be at most 256 and
+//! have different names. All items are read before any limit is looked at.
+
+ghost use Rattle.std.specs.Prelude.{◌≡◌, ◌+◌, ◌&&◌, nat_le, All, length, map, option_map, option_and_then, IfOk, IfSome};
+ghost use Rattle.std.specs.List.{list_any};
+ghost use Rattle.std.specs.Str.{bytes_eq};
+ghost use Rattle.serde_json.specs.View.{view};
+ghost use Rattle.sim_tree.specs.Sources.{origin_of};
+ghost use Rattle.sim_merge.specs.Resolution.{names_in, origins_of, are_distinct};
+ghost use Rattle.sim_setup.specs.Meets.{SourcesMeet, Tells};
+ghost use Rattle.sim_setup.specs.Sources.{IsReadySource, source_of as source_of_data, sources_from as sources_from_data, sources_in as sources_in_data};
+
+use crate::fault::{SetupFault, refused};
+use serde_json::Value;
+use sim_base::OutOfMemory;
+use sim_json::list_at;
+use sim_tree::{Source, TreeFault};
+use std::alloc::Global;
+
+// Items are counted from here on, behind the places of the keys.
+const FIRST: usize = 16;
+
+/// The sources of the file, or the refusal of the first item that is none.
+pub fn sources_in(alloc: Global, value: &Value) -> Result<Vec<Source>, SetupFault>
+    ensures value { SourcesMeet result (sources_in_data (view value.now)) }
+    ensures ready { IfOk result (λ sources. All IsReadySource sources.items) }
+{
+    match list_at(value, "templates") {
+        Some(items) => sources_from(alloc, items),
+        None => Err(SetupFault::Refused { code: 2, index: 7 }),
+    }
+}
+
+fn sources_from(alloc: Global, items: &[Value]) -> Result<Vec<Source>, SetupFault>
+    ensures value { SourcesMeet result (sources_from_data (map view items.now)) }
+    ensures ready { IfOk result (λ sources. All IsReadySource sources.items) }
+{
+    let mut found = Vec::new(alloc);
+    let mut rest = items;
+    while let [item, more @ ..] = rest {
+        match source_of(alloc, item)? {
+            Some(source) => found.push(source)?,
+            None => return Err(refused_item(found.len())),
+        }
+        rest = more;
+    }
+    Ok(found)
+}
+
+// The refusal of an item by its number.
+fn refused_item(number: usize) -> SetupFault
+    ensures { Tells result 2 (16 + number) }
+{
+    match number.checked_add(FIRST) {
+        Some(index) => refused(2, index),
+        None => SetupFault::OutOfMemory,
+    }
+}
+
+#[tactic(auto, unfolding(crate::specs::Sources::source_of))]
+fn source_of(alloc: Global, item: &Value) -> Result<Option<Source>, OutOfMemory>
+    ensures value { IfOk result (λ source. option_map origin_of source ≡ source_of_data (view item.now)) }
+    ensures ready { IfOk result (λ source. IfSome source IsReadySource) }
+{
+    match Source::from_json(alloc, item) {
+        Ok(source) => Ok(Some(source)),
+        Err(TreeFault::OutOfMemory) => Err(OutOfMemory),
+        Err(TreeFault::WrongKind | TreeFault::NotWhole | TreeFault::TooDeep) => Ok(None),
+    }
+}
+
+/// Whether there are at most 256 sources, of which no two have the same name.
+pub fn are_few(sources: &[Source]) -> bool
+    ensures { result ≡ (nat_le (length sources.now) 256 && are_distinct (names_in (origins_of sources.now))) }
+{
+    sources.len() <= 256 && are_apart(sources)
+}
+
+fn are_apart(sources: &[Source]) -> bool
+    ensures { result ≡ are_distinct (names_in (origins_of sources.now)) }
+{
+    let mut rest = sources;
+    while let [source, more @ ..] = rest {
+        if is_among(source.name.text(), more) {
+            return false;
+        }
+        rest = more;
+    }
+    true
+}
+
+fn is_among(name: &str, sources: &[Source]) -> bool
+    ensures { result ≡ list_any (bytes_eq name.now) (names_in (origins_of sources.now)) }
+{
+    let mut rest = sources;
+    while let [source, more @ ..] = rest {
+        if name == source.name.text() {
+            return true;
+        }
+        rest = more;
+    }
+    false
+}

@@ -1,0 +1,9 @@
+-- Children that are there.
+use Rattle.std.proofs.Common.{◌≡◌, ◌≤◌, List, [], ◌∷◌, length, false, refl, arith}
+use Rattle.sim_tree.specs.declared.tree.Child.{Child}
+use Rattle.sim_tree.specs.Trees.{nodes_of}
+use Rattle.sim_traits.specs.Table.{are_none}
+
+pub are_none_some : (cs : List Child) → 1 ≤ length cs → are_none (nodes_of cs) ≡ false
+are_none_some [] h = absurd (omega arith)
+are_none_some (c ∷ cs) h = refl

@@ -1,0 +1,8 @@
+use Rattle.std.proofs.Common.{map, filter, List, ℕ}
+use Rattle.std.specs.Borrow.{Bor}
+use Rattle.sim_tree.specs.Tokens.{is_word}
+use Rattle.sim_traits.proofs.Counted.{Counted}
+use Rattle.sim_traits.proofs.units.units_in.Given as goal
+
+abbrev pub invariant-loop-part : goal.invariant-loop-part
+invariant-loop-part l = Counted l.names.names (filter is_word (map (λ (part : Bor (List ℕ)). part.now) l.yielded)) l.numbers

@@ -1,0 +1,92 @@
+-- A tree has no more levels than the value that it is read from.
+use Rattle.std.proofs.Common.{◌≡◌, ℕ, ◌≤◌, max, nat_lt, Bool, true, false, List, ◌∷◌, if◌then◌else◌, Option, Some, None, option_and_then, codes, Result, Ok, Err, IfOk, refl, ap, subst, arith}
+use Rattle.std.proofs.lemmas.Bool.Decides.{nat_tests}
+use Rattle.serde_json.specs.Data.{Data, null, boolean, number, string, array, object, Members, no_members, member}
+use Rattle.sim_tree.specs.declared.tree.Tree.{Tree}
+use Rattle.sim_tree.specs.declared.source.Source.{Source}
+use Rattle.sim_tree.specs.declared.fault.TreeFault.{TreeFault}
+use Rattle.sim_tree.specs.Trees.{Node, node, children_of, node_of, levels, levels_under, mark_of, value_of}
+use Rattle.sim_tree.specs.Walks.{height, members_height}
+use Rattle.sim_tree.specs.Nodes.{is_node, is_child_key, node_in, named_in, children_in}
+use Rattle.serde_json.specs.Find.{get, as_object}
+use Rattle.sim_json.proofs.Readers.{next_some}
+use Rattle.sim_tree.specs.Sources.{Origin, origin_in, origin_of, root_in, name_in, parent_in, are_root_members}
+use Rattle.sim_tree.proofs.Forms.{kind_ok}
+use Rattle.sim_tree.specs.Reading.{of_kind, kind_of, TreeMeets, SourceMeets}
+
+-- a child, or none
+either_way : (child : Bool) (k : List ℕ) (n : Node) (ps : List (List ℕ × Node)) (h m : ℕ) → levels n ≤ h → levels_under (children_of ps) ≤ m
+    → levels_under (children_of (if child then (k, n) ∷ ps else ps)) ≤ max h m
+either_way true k n ps h m e f = omega (arith, e, f)
+either_way false k n ps h m e f = omega (arith, e, f)
+
+mutual
+  pub levels_in : (d : Data) → levels (node_in d) ≤ height d
+  levels_in null = omega arith
+  levels_in (boolean b) = omega arith
+  levels_in (number x) = omega arith
+  levels_in (string s) = omega arith
+  levels_in (array ds) = omega arith
+  levels_in (object ms) = omega (arith, levels_in_members ms)
+
+  pub levels_in_members : (ms : Members) → levels_under (children_of (named_in ms)) ≤ members_height ms
+  levels_in_members no_members = omega arith
+  levels_in_members (member k d ms) =
+      either_way (is_child_key k) k (node_in d) (named_in ms) (height d) (members_height ms) (levels_in d) (levels_in_members ms)
+
+-- what is known of a tree that is read of a value of few levels
+pub tree_levels : (r : Result Tree TreeFault) (d : Data) → nat_lt 32 (height d) ≡ false → TreeMeets r (of_kind (is_node d) (node_in d)) → IfOk r (λ tree. levels (node_of tree) ≤ 32)
+tree_levels (Ok tree) d e h =
+    let few : height d ≤ 32 = grind (arith, nat_tests) in
+    subst (λ n. levels n ≤ 32) (kind_ok (is_node d) (node_in d) (node_of tree) h).1 (omega (arith, levels_in d))
+tree_levels (Err fault) d e h = tt
+
+-- ---- the root of a source
+
+-- a root without value and mark, and of few levels
+pub record IsRoot (n : Node) : Type 0 where
+  pub value : value_of n ≡ None
+  pub mark : mark_of n ≡ None
+  pub levels : levels n ≤ 32
+
+some_same : {X : Type 0} {x y : X} → Some x ≡ Some y → x ≡ y
+some_same e = cc
+
+root_is : (fits : Bool) (name : List ℕ) (parent : Option (List ℕ)) (n : Node) (o : Origin)
+    → (if fits then Some (record { name = name; parent = parent; root = n }) else None) ≡ Some o → n ≡ o.root
+root_is true name parent n o e = ap (λ (p : Origin). p.root) (some_same e)
+root_is false name parent n o e = absurd cc
+
+an_object : (d : Data) (ms : Members) → as_object d ≡ Some ms → d ≡ object ms
+an_object null ms e = absurd cc
+an_object (boolean b) ms e = absurd cc
+an_object (number x) ms e = absurd cc
+an_object (string s) ms e = absurd cc
+an_object (array ds) ms e = absurd cc
+an_object (object ns) ms e = ap object (some_same e)
+
+origin_root : (d : Data) (o : Origin) → origin_in d ≡ Some o → height d ≤ 32 → IsRoot o.root
+origin_root d o e few =
+    let named = next_some (option_and_then name_in (get (codes "@name") d)) _ o e in
+    let parent = next_some (parent_in (get (codes "@parent") d)) _ o named.2 in
+    let members = next_some (as_object d) (root_in named.0 parent.0) o parent.2 in
+    let root = root_is (are_root_members members.0) named.0 parent.0 (node None None (children_in members.0)) o members.2 in
+    let tall : height (object members.0) ≤ 32 = subst (λ v. height v ≤ 32) (an_object d members.0 members.1) few in
+    subst IsRoot root (record { value = refl; mark = refl; levels = omega (arith, levels_in_members members.0, tall) })
+
+origin_ok : (r : Option Origin) (o : Origin) → kind_of r ≡ Ok o → r ≡ Some o
+origin_ok None o e = absurd cc
+origin_ok (Some p) o e = cc
+
+pub source_root : (r : Result Source TreeFault) (d : Data) → nat_lt 32 (height d) ≡ false → SourceMeets r (kind_of (origin_in d)) → IfOk r (λ source. IsRoot (node_of source.tree))
+source_root (Ok source) d e h =
+    let few : height d ≤ 32 = grind (arith, nat_tests) in
+    origin_root d (origin_of source) (origin_ok (origin_in d) (origin_of source) h) few
+source_root (Err fault) d e h = tt
+
+some_levels : (r : Result Source TreeFault) → IfOk r (λ source. IsRoot (node_of source.tree)) → IfOk r (λ source. levels (node_of source.tree) ≤ 32)
+some_levels (Ok source) h = h.levels
+some_levels (Err fault) h = tt
+
+pub source_levels : (r : Result Source TreeFault) (d : Data) → nat_lt 32 (height d) ≡ false → SourceMeets r (kind_of (origin_in d)) → IfOk r (λ source. levels (node_of source.tree) ≤ 32)
+source_levels r d e h = some_levels r (source_root r d e h)

@@ -1,0 +1,7 @@
+use Rattle.std.proofs.Common.{◌≡◌, ◌+◌, if◌then◌else◌}
+use Rattle.serde_json.specs.View.{members_view}
+use Rattle.sim_tree.specs.Nodes.{marks_in}
+use Rattle.sim_tree.proofs.nodes.has_few_marks.Given as goal
+
+abbrev pub invariant-loop-key : goal.invariant-loop-key
+invariant-loop-key l = marks_in (members_view l.fn.members.entries) ≡ marks_in (members_view l.key-iterator) + (if l.seen then 1 else 0)

@@ -1,0 +1,10 @@
+use Rattle.std.proofs.Common.{◌≡◌, false, nat_lt, rules}
+use Rattle.serde_json.specs.View.{view}
+use Rattle.sim_tree.specs.Walks.{height}
+use Rattle.sim_tree.proofs.Levels.{source_levels}
+use Rattle.sim_tree.proofs.source.Source.from_json.Goals as goal
+
+pub returns-clause-levels : goal.returns-clause-levels
+returns-clause-levels c =
+    let few : nat_lt 32 (height (view c.args.value.now)) ≡ false = search rules in
+    source_levels c.read_source.result (view c.args.value.now) few c.read_source.ensures.source

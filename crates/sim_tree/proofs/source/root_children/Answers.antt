@@ -1,0 +1,56 @@
+use Rattle.std.proofs.Common.{◌≡◌, ◌++◌, [], true, string_bytes, rules, append-nil, List, ℕ, ap, ◌∙◌, subst, map}
+use Rattle.serde_json.specs.View.{view, members_view}
+use Rattle.sim_tree.specs.Trees.{named_of, node_of}
+use Rattle.sim_tree.specs.Nodes.{node_in, named_in, is_child_key, is_node}
+use Rattle.sim_tree.specs.Sources.{is_root_key}
+use Rattle.sim_tree.proofs.Ascends.{keys_in, name_of, ascends, sorted_ascends, ascends_skip, ascends-more, all_sound-push, sound_children}
+use Rattle.sim_tree.proofs.Forms.{kind_ok, named-more, root_key_alone}
+use Rattle.sim_tree.proofs.source.root_children.Goals as goal
+
+pub loop-key-init : goal.loop-key-init
+loop-key-init c =
+    let entries = c.args.members.now.entries in
+    let sorted = sorted_ascends entries c.iter-key-items.ensures.ordered in
+    let none : map named_of c.new-found.result.items ≡ [] = ap (map named_of) c.new-found.ensures.items in
+    let same : c.into_iter-key-iterator.result ≡ entries = search rules in
+    record { fit = search rules; order = rw (none, same) sorted; below = rw none; made = search rules }
+
+pub loop-key-preserved-then-is_root_key : goal.loop-key-preserved-then-is_root_key
+loop-key-preserved-then-is_root_key c =
+    let l = c.loop-key in
+    let here = subst (λ es. ascends (map name_of (map named_of l.found.items) ++ keys_in es) ≡ true) c.in-Some.ensures.steps l.invariant.order in
+    let root : is_root_key (string_bytes c.in-Some.key.now) ≡ true = search rules in
+    let alone = root_key_alone (string_bytes c.in-Some.key.now) root in
+    record {
+      fit = search rules;
+      order = ascends_skip (map name_of (map named_of l.found.items)) (string_bytes c.in-Some.key.now) (keys_in c.next.new.self) here;
+      below = l.invariant.below;
+      made = search rules;
+    }
+
+pub loop-key-preserved : goal.loop-key-preserved
+loop-key-preserved c =
+    let l = c.loop-key in
+    let here = subst (λ es. ascends (map name_of (map named_of l.found.items) ++ keys_in es) ≡ true) c.in-Some.ensures.steps l.invariant.order in
+    let key = string_bytes c.in-Some.key.now in
+    let d = view c.in-Some.value.now in
+    let old = map named_of l.found.items in
+    let new = map named_of c.push_child.new.children.items in
+    let named : c.in-Some-2.name ≡ key = search rules in
+    let child : is_child_key key ≡ true = search rules in
+    let read = kind_ok (is_node d) (node_in d) (node_of c.in_ok-tree.tree) c.in_ok-tree.ensures.tree in
+    let added = c.in_ok-push_child.ensures in
+    let more = named-more old new c.in-Some-2.name key (node_of c.in_ok-tree.tree) d (members_view c.next.new.self) child added named read.1 in
+    record {
+      fit = search rules;
+      order = ascends-more old new (c.in-Some-2.name, node_of c.in_ok-tree.tree) key (keys_in c.next.new.self) added named here;
+      below = rw added (all_sound-push old (c.in-Some-2.name, node_of c.in_ok-tree.tree) l.invariant.below c.in_ok-tree.ensures.sound);
+      made = l.invariant.made ∙ ap (λ es. old ++ named_in (members_view es)) c.in-Some.ensures.steps ∙ more;
+    }
+
+pub returns-clause-sound : goal.returns-clause-sound
+returns-clause-sound c =
+    let ps = map named_of c.loop-key.found.items in
+    let none : keys_in c.loop-key.key-iterator ≡ [] = search rules in
+    let order : ascends (map name_of ps ++ []) ≡ true = rw (← none) c.loop-key.invariant.order in
+    sound_children ps (subst (λ (names : List (List ℕ)). ascends names ≡ true) (append-nil (map name_of ps)) order) c.loop-key.invariant.below

@@ -1,0 +1,7 @@
+use Rattle.std.proofs.Common.{◌≡◌, map, filter, List, ℕ}
+use Rattle.std.specs.Borrow.{Bor}
+use Rattle.sim_tree.specs.Tokens.{is_word}
+use Rattle.sim_tree.proofs.tokens.tokens_in.Given as goal
+
+abbrev pub invariant-loop-part : goal.invariant-loop-part
+invariant-loop-part l = l.found ≡ filter is_word (map (λ (part : Bor (List ℕ)). part.now) l.yielded)

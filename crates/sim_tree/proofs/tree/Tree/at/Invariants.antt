@@ -1,0 +1,7 @@
+use Rattle.std.proofs.Common.{◌≡◌, drop}
+use Rattle.sim_tree.specs.Trees.{node_of}
+use Rattle.sim_tree.specs.Paths.{value_at}
+use Rattle.sim_tree.proofs.tree.Tree.at.Given as goal
+
+abbrev pub invariant-loop-name : goal.invariant-loop-name
+invariant-loop-name l = value_at (node_of l.tree) (drop l.name-index l.path) ≡ value_at (node_of l.self) l.path

@@ -1,0 +1,10 @@
+use Rattle.std.proofs.Common.{◌≡◌, drop}
+use Rattle.serde_json.specs.View.{items_view, members_view}
+use Rattle.sim_tree.specs.Walks.{items_float, members_float}
+use Rattle.sim_tree.proofs.walks.+float.Given as goal
+
+abbrev pub invariant-items_float-loop-item : goal.invariant-items_float-loop-item
+invariant-items_float-loop-item l = items_float (items_view (drop l.item-index l.item-items)) ≡ items_float (items_view l.item-items)
+
+abbrev pub invariant-members_float-loop-member : goal.invariant-members_float-loop-member
+invariant-members_float-loop-member l = members_float (members_view l.fn.members.entries) ≡ members_float (members_view l.member-iterator)

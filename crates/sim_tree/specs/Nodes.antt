@@ -1,0 +1,60 @@
+-- The tree that a value of JSON is. A text or a whole number is a node with that value; an object is a node, whose keys
+-- are `_` for its value, those that begin with `@` for its mark, and else the names of its children.
+use Rattle.std.specs.Prelude.{ℕ, ◌+◌, ◌&&◌, Bool, true, false, not, List, [], ◌∷◌, nat_le, Option, Some, None, is_some, if◌then◌else◌}
+use Rattle.serde_json.specs.Data.{Data, null, boolean, number, string, array, object, Members, no_members, member}
+use Rattle.sim_base.specs.Names.{is_name}
+use Rattle.sim_tree.specs.declared.tree.TreeMark.{TreeMark}
+use Rattle.sim_tree.specs.Trees.{Node, node, Children, no_children, children_of, bears}
+use Rattle.sim_tree.specs.Leaves.{number_text, is_own_key, is_mark_key, mark_from, own_of, is_plain_member}
+
+-- how many marks an object has
+abbrev pub marks_in : Members → ℕ
+marks_in no_members = 0
+marks_in (member k d ms) = if is_mark_key k then marks_in ms + 1 else marks_in ms
+
+-- the first mark
+abbrev pub mark_in : Members → Option TreeMark
+mark_in no_members = None
+mark_in (member k d ms) = if is_mark_key k then mark_from k d else mark_in ms
+
+-- the key of a child
+abbrev pub is_child_key : List ℕ → Bool
+is_child_key key = not (is_own_key key) && not (is_mark_key key)
+
+abbrev mutual
+  -- the node that a value is, if it is one
+  pub node_in : Data → Node
+  node_in null = node None None no_children
+  node_in (boolean b) = node None None no_children
+  node_in (number x) = node (number_text x) None no_children
+  node_in (string s) = node (Some s) None no_children
+  node_in (array ds) = node None None no_children
+  node_in (object ms) = node (own_of ms) (mark_in ms) (children_of (named_in ms))
+
+  -- the children of an object by name, in the order of its keys
+  pub named_in : Members → List (List ℕ × Node)
+  named_in no_members = []
+  named_in (member k d ms) = if is_child_key k then (k, node_in d) ∷ named_in ms else named_in ms
+
+-- those children
+abbrev pub children_in : Members → Children
+children_in ms = children_of (named_in ms)
+
+-- at most one mark, and what it asks for
+abbrev pub is_whole_node : Members → Bool
+is_whole_node ms = nat_le (marks_in ms) 1 && bears (mark_in ms) (own_of ms) (children_in ms)
+
+abbrev mutual
+  -- a value is a node
+  pub is_node : Data → Bool
+  is_node null = false
+  is_node (boolean b) = false
+  is_node (number x) = is_some (number_text x)
+  is_node (string s) = true
+  is_node (array ds) = false
+  is_node (object ms) = are_members ms && is_whole_node ms
+
+  -- each member of an object is a child with a good name, the value or a mark
+  pub are_members : Members → Bool
+  are_members no_members = true
+  are_members (member k d ms) = (if is_child_key k then is_name k && is_node d else is_plain_member k d) && are_members ms

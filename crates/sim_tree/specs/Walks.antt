@@ -1,0 +1,41 @@
+-- What is asked of all values within a value of JSON, wherever they stand: on which levels they lie, and whether a number
+-- is not whole.
+use Rattle.std.specs.Prelude.{ℕ, suc, max, ◌||◌, Bool, false}
+use Rattle.serde_json.specs.Data.{Data, null, boolean, number, string, array, object, Items, no_items, item, Members, no_members, member}
+use Rattle.serde_json.specs.Find.{is_float}
+
+abbrev mutual
+  -- how many levels of values there are, the value itself being on the first
+  pub height : Data → ℕ
+  height null = 1
+  height (boolean b) = 1
+  height (number x) = 1
+  height (string s) = 1
+  height (array ds) = suc (items_height ds)
+  height (object ms) = suc (members_height ms)
+
+  pub items_height : Items → ℕ
+  items_height no_items = 0
+  items_height (item d ds) = max (height d) (items_height ds)
+
+  pub members_height : Members → ℕ
+  members_height no_members = 0
+  members_height (member k d ms) = max (height d) (members_height ms)
+
+abbrev mutual
+  -- a number in it is not whole
+  pub has_float : Data → Bool
+  has_float null = false
+  has_float (boolean b) = false
+  has_float (number x) = is_float x
+  has_float (string s) = false
+  has_float (array ds) = items_float ds
+  has_float (object ms) = members_float ms
+
+  pub items_float : Items → Bool
+  items_float no_items = false
+  items_float (item d ds) = has_float d || items_float ds
+
+  pub members_float : Members → Bool
+  members_float no_members = false
+  members_float (member k d ms) = has_float d || members_float ms

@@ -1,0 +1,51 @@
+//! What stands at a path of a tree: a value as a text, as a number or as words.
+
+ghost use Rattle.std.specs.Prelude.{◌≡◌, IfOk, option_map};
+ghost use Rattle.sim_tree.specs.Paths.{value_at, number_at};
+ghost use Rattle.sim_tree.specs.Tokens.{tokens_in as tokens_in_value};
+ghost use Rattle.sim_tree.specs.Trees.{node_of, value_of};
+
+use crate::tokens::{Names, tokens_in};
+use crate::tree::Tree;
+use sim_base::{Fixed, Name, OutOfMemory};
+use std::alloc::Global;
+
+impl Tree {
+    /// The value at the path, if one stands there.
+    pub fn at(&self, path: &[Name]) -> Option<&str>
+        ensures { option_map (λ text. text.now) result ≡ value_at (node_of self.now) path.now }
+    {
+        let mut tree = self;
+        for name in path {
+            tree = tree.child(name.text())?;
+        }
+        tree.text()
+    }
+
+    /// The number that the value at the path spells.
+    pub fn number(&self, path: &[Name]) -> Option<Fixed>
+        ensures { result ≡ number_at (node_of self.now) path.now }
+    {
+        Fixed::read_text(self.at(path)?)
+    }
+
+    /// The words of the value at the path, and none where no value stands there.
+    pub fn tokens(&self, alloc: Global, path: &[Name]) -> Result<Names, OutOfMemory>
+        ensures { IfOk result (λ words. words ≡ tokens_in_value (value_at (node_of self.now) path.now)) }
+    {
+        match self.at(path) {
+            Some(text) => tokens_in(alloc, text),
+            None => Ok(Names::new(alloc)),
+        }
+    }
+
+    // The value of the root.
+    fn text(&self) -> Option<&str>
+        ensures { option_map (λ text. text.now) result ≡ value_of (node_of self.now) }
+    {
+        match &self.value {
+            Some(text) => Some(text.as_str()),
+            None => None,
+        }
+    }
+}

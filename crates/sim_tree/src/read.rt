@@ -1,0 +1,30 @@
+//! A tree read from JSON: the three refusals in their order, one walk each.
+
+ghost use Rattle.std.specs.Prelude.{◌≡◌, ◌≤◌, true, IfOk};
+ghost use Rattle.serde_json.specs.View.{view};
+ghost use Rattle.sim_tree.specs.Reading.{TreeMeets, tree_in};
+ghost use Rattle.sim_tree.specs.Trees.{node_of, is_sound, levels};
+
+use crate::fault::TreeFault;
+use crate::nodes::read_node;
+use crate::tree::Tree;
+use crate::walks::{has_float, lies_beyond};
+use serde_json::Value;
+use std::alloc::Global;
+
+impl Tree {
+    /// The tree that a value is, or the first refusal that applies. `docs/FORMATS.md` has the form.
+    pub fn from_json(alloc: Global, value: &Value) -> Result<Tree, TreeFault>
+        ensures tree { TreeMeets result (tree_in (view value.now)) }
+        ensures sound { IfOk result (λ tree. is_sound (node_of tree) ≡ true) }
+        ensures levels { IfOk result (λ tree. levels (node_of tree) ≤ 32) }
+    {
+        if lies_beyond(value, 32) {
+            return Err(TreeFault::TooDeep);
+        }
+        if has_float(value) {
+            return Err(TreeFault::NotWhole);
+        }
+        read_node(alloc, value)
+    }
+}

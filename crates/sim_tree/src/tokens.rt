@@ -1,0 +1,38 @@
+//! The words of a text: lists of names stand in a tree as one text with spaces between them.
+
+ghost use Rattle.std.specs.Prelude.{◌≡◌, IfOk, OnOk, ◌++◌, filter, [], ◌∷◌};
+ghost use Rattle.sim_tree.specs.Tokens.{tokens_of, is_word as is_word_of_bytes};
+
+use crate::text::Text;
+use sim_base::{Items, OutOfMemory};
+use std::alloc::Global;
+
+/// A list of texts.
+pub type Names = Items<Text>;
+
+/// The parts of a text between spaces, without the empty ones.
+pub fn tokens_in(alloc: Global, text: &str) -> Result<Names, OutOfMemory>
+    ensures { IfOk result (λ names. names ≡ tokens_of text.now) }
+{
+    let mut found = Names::new(alloc);
+    for part in text.split(' ') {
+        add_word(alloc, &mut found, part)?;
+    }
+    Ok(found)
+}
+
+// Adds a part that is not empty.
+fn add_word(alloc: Global, found: &mut Names, part: &str) -> Result<(), OutOfMemory>
+    ensures { OnOk result (found.new ≡ found.old ++ filter is_word_of_bytes (part.now ∷ [])) }
+{
+    if is_word(part) {
+        found.push(Text::of(alloc, part)?)?;
+    }
+    Ok(())
+}
+
+fn is_word(part: &str) -> bool
+    ensures { result ≡ is_word_of_bytes part.now }
+{
+    !part.is_empty()
+}

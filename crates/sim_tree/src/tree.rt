@@ -1,0 +1,115 @@
+//! The tree: each node has perhaps a value, at most one mark, and children by name. A tree without marks is plain; in
+//! a tree that is laid over another one a mark says what becomes of what lies below it.
+
+ghost use Rattle.std.specs.Prelude.{◌≡◌, ◌++◌, ◌∷◌, [], map, IfOk, OnOk, option_map, IsTrue};
+ghost use Rattle.sim_tree.specs.Trees.{node_of, nodes_of, named_of, under, child_named};
+
+use crate::text::Text;
+use sim_base::{Name, OutOfMemory};
+use std::alloc::Global;
+
+/// What becomes of the node below, where a node with this mark is laid over it.
+#[derive(Clone, Copy, Debug, PartialEq, Eq)]
+pub enum TreeMark {
+    /// It goes.
+    Disable,
+    /// It goes, and the node with the mark stands in its place.
+    Replace,
+    /// As without a mark; but where nothing lies below, nothing comes of it.
+    Merge,
+    /// The sum of the two numbers.
+    Add,
+    /// The product of the two numbers.
+    Mul,
+    /// The list of words below, with words added and removed.
+    Tokens,
+}
+
+/// A node and all that is under it: its value, its mark, and its children, which ascend by name.
+#[cycle(tree)]
+#[derive(Debug, Drop)]
+pub struct Tree {
+    pub value: Option<Text>,
+    pub mark: Option<TreeMark>,
+    pub children: Vec<Child>,
+}
+
+/// A node that is under another one, with its name there.
+#[cycle(tree)]
+#[derive(Debug, Drop)]
+pub struct Child {
+    pub name: Name,
+    pub tree: Tree,
+}
+
+impl Tree {
+    /// The child of this name, if there is one.
+    pub fn child(&self, name: &str) -> Option<&Tree>
+        ensures { option_map (λ tree. node_of tree.now) result ≡ child_named name.now (under (node_of self.now)) }
+    {
+        child_in(self.children.as_slice(), name)
+    }
+
+    /// The same tree, in memory of its own.
+    #[cycle(copy)]
+    pub fn copy(&self, alloc: Global) -> Result<Tree, OutOfMemory>
+        ensures { IfOk result (λ copied. node_of copied ≡ node_of self.now) }
+    {
+        Ok(Tree {
+            value: copy_value(alloc, &self.value)?,
+            mark: self.mark,
+            children: copy_children(alloc, &self.children)?,
+        })
+    }
+}
+
+fn child_in<'t>(children: &'t [Child], name: &str) -> Option<&'t Tree>
+    ensures { option_map (λ tree. node_of tree.now) result ≡ child_named name.now (nodes_of children.now) }
+{
+    for child in children {
+        if child.name.text() == name {
+            return Some(&child.tree);
+        }
+    }
+    None
+}
+
+fn copy_value(alloc: Global, value: &Option<Text>) -> Result<Option<Text>, OutOfMemory>
+    ensures { IfOk result (λ copied. copied ≡ value.now) }
+{
+    match value {
+        Some(text) => Ok(Some(Text::of(alloc, text.as_str())?)),
+        None => Ok(None),
+    }
+}
+
+#[cycle(copy)]
+fn copy_children(alloc: Global, children: &Vec<Child>) -> Result<Vec<Child>, OutOfMemory>
+    ensures { IfOk result (λ copied. nodes_of copied.items ≡ nodes_of children.now.items) }
+{
+    let mut copied = Vec::new(alloc);
+    for child in children {
+        let tree = child.tree.copy(alloc)?;
+        let name = copy_name(alloc, &child.name)?;
+        push_child(&mut copied, name, tree)?;
+    }
+    Ok(copied)
+}
+
+/// Adds a child behind the others.
+pub fn push_child(children: &mut Vec<Child>, name: Name, tree: Tree) -> Result<(), OutOfMemory>
+    ensures { OnOk result (map named_of children.new.items ≡ map named_of children.old.items ++ (name, node_of tree) ∷ []) }
+{
+    children.push(Child { name, tree })?;
+    Ok(())
+}
+
+/// The same name, in memory of its own.
+pub fn copy_name(alloc: Global, name: &Name) -> Result<Name, OutOfMemory>
+    ensures { IfOk result (λ copied. copied ≡ name.now) }
+{
+    match Name::of(alloc, name.text())? {
+        Some(copied) => Ok(copied),
+        None => Err(OutOfMemory),
+    }
+}
