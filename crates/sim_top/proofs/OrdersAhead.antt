@@ -7,7 +7,7 @@ use Rattle.std.proofs.lemmas.List.Elements.{All-head, All-tail, All-weaker}
 use Rattle.sim_base.specs.declared.setup.Timed.{Timed}
 use Rattle.sim_base.specs.declared.setup.Setup.{Setup}
 use Rattle.sim_base.specs.Limits.{IsSetup, IsTimed}
-use Rattle.sim_setup.specs.Posts.{IsOfPosts, IsDelete}
+use Rattle.sim_setup.specs.Quiet.{IsQuietMatch, IsDelete}
 use Rattle.sim_base.specs.Turn.{orders_at}
 use Rattle.sim_top.specs.Quiet.{AreAhead}
 
@@ -89,6 +89,6 @@ ahead_from turn (timed ∷ more) low ascends deletes = (
     all_above : (ts : List Timed) → IsNonDecreasing (turns (timed ∷ ts)) → All (λ t. timed.turn ≤ t.turn) ts
     all_above ts h k d l = omega (arith, h 0 (suc k) 0 (omega arith) (omega (arith, length-map ts (λ (t : Timed). t.turn))), get_or-map (λ (t : Timed). t.turn) ts k d 0 l)
 
-pub begins_ahead : (setup : Setup) → IsSetup setup → IsOfPosts setup → AreAhead 1 setup.commands
+pub begins_ahead : (setup : Setup) → IsSetup setup → IsQuietMatch setup → AreAhead 1 setup.commands
 begins_ahead setup limits posts =
     ahead_from 1 setup.commands (All-weaker (IsTimed setup) (λ (t : Timed). 1 ≤ t.turn) (λ t h. h.turn.0) setup.commands limits.commands) limits.in_order posts.commands

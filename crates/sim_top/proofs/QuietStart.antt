@@ -3,7 +3,6 @@ use Rattle.std.proofs.Common.{◌≡◌, ℕ, ◌+◌, ◌<◌, ◌≤◌, ℤ, 
 use Rattle.std.specs.Prelude.{option_map}
 use Rattle.std.specs.List.{AllByRecursion}
 use Rattle.std.proofs.lemmas.Option.{slice_get_read}
-use Rattle.std.proofs.lemmas.List.Elements.{All-weaker}
 use Rattle.sim_base.specs.declared.template.Template.{Template}
 use Rattle.sim_base.specs.declared.template.Arms.{Arms}
 use Rattle.sim_base.specs.declared.setup.First.{First}
@@ -13,20 +12,15 @@ use Rattle.sim_base.specs.declared.state.Row.{Row}
 use Rattle.sim_base.specs.declared.state.State.{State}
 use Rattle.sim_base.specs.Limits.{IsSetup, IsTemplate, IsFirst, IsRawFrom}
 use Rattle.sim_base.specs.Changes.{created, with_new, new_row}
-use Rattle.sim_setup.specs.Posts.{IsPost, IsOfPosts}
+use Rattle.sim_setup.specs.Quiet.{IsQuiet}
 use Rattle.sim_top.specs.Quiet.{IsQuietRow, IsQuietState}
 use Rattle.sim_top.proofs.Quiet.{AreQuiet-push}
-
--- a template whose entities neither move nor attack
-pub record StandsStill (t : Template) : Type 0 where
-  pub speed : t.speed ≡ None
-  pub arms : t.arms ≡ None
 
 below_more : (rows : List Row) (row : Row) (n : ℕ) → AllByRecursion (λ r. r.id < n) rows → row.id < n + 1 → AllByRecursion (λ r. r.id < n + 1) (rows ++ row ∷ [])
 below_more [] row n h l = (l, tt)
 below_more (r ∷ rows) row n h l = (omega (arith, h.0), below_more rows row n h.1 l)
 
-new_is_quiet : (id number : ℕ) (first : First) (count : ℕ) (t : Template) → 2 ≤ id → StandsStill t → IsTemplate count t → IsQuietRow 2 (new_row id number first.at first.owner t)
+new_is_quiet : (id number : ℕ) (first : First) (count : ℕ) (t : Template) → 2 ≤ id → IsQuiet t → IsTemplate count t → IsQuietRow 2 (new_row id number first.at first.owner t)
 new_is_quiet id number first count t h still is_template =
     record {
       id = h;
@@ -52,14 +46,14 @@ made_is setup state first t rows known is made =
     ap (λ (o : Option Template). with_new first.template first.at first.owner o state) (slice_get_read setup.templates (length setup.templates) first.template t refl known is)
     ∙ ap (with_more state) (sym made)
 
-stays_quiet : (setup : Setup) → IsSetup setup → All StandsStill setup.templates → (state : State) (first : First) (t : Template) → IsFirst setup first → t ≡ get_or setup.templates first.template t →
+stays_quiet : (setup : Setup) → IsSetup setup → All IsQuiet setup.templates → (state : State) (first : First) (t : Template) → IsFirst setup first → t ≡ get_or setup.templates first.template t →
     IsQuietState state → IsQuietState (with_more state (state.rows ++ new_row state.next first.template first.at first.owner t ∷ []))
 stays_quiet setup limits still state first t is_first is quiet =
     let row = new_row state.next first.template first.at first.owner t in
     let P : Template → Type 0 = IsTemplate (length setup.templates) in
     record {
       rows = AreQuiet-push 2 state.rows row quiet.rows quiet.below
-          (new_is_quiet state.next first.template first (length setup.templates) t quiet.next (subst StandsStill (sym is) (still first.template t is_first.template)) (subst P (sym is) (limits.templates first.template t is_first.template)));
+          (new_is_quiet state.next first.template first (length setup.templates) t quiet.next (subst IsQuiet (sym is) (still first.template t is_first.template)) (subst P (sym is) (limits.templates first.template t is_first.template)));
       below = below_more state.rows row state.next quiet.below (omega arith);
       next = omega (arith, quiet.next);
     }
@@ -69,7 +63,7 @@ pub record IsOneMore (setup : Setup) (i : ℕ) (state more : State) : Type 0 whe
   pub made : fold (make setup) state (drop i setup.first) ≡ fold (make setup) more (drop (i + 1) setup.first)
   pub quiet : IsQuietState more
 
-pub one_more : (setup : Setup) → IsSetup setup → All StandsStill setup.templates → (i : ℕ) (state : State) (first : First) (t : Template) (rows : List Row) →
+pub one_more : (setup : Setup) → IsSetup setup → All IsQuiet setup.templates → (i : ℕ) (state : State) (first : First) (t : Template) (rows : List Row) →
     i < length setup.first → first ≡ get_or setup.first i first → t ≡ get_or setup.templates first.template t →
     rows ≡ state.rows ++ new_row state.next first.template first.at first.owner t ∷ [] → IsQuietState state → IsOneMore setup i state (with_more state rows)
 one_more setup limits still i state first t rows inside is known made quiet =
@@ -83,7 +77,3 @@ one_more setup limits still i state first t rows inside is known made quiet =
 
 pub begins_quiet : (word : ℕ) → IsQuietState (record { turn = 0; next = 2; word = word; rows = [] })
 begins_quiet word = record { rows = tt; below = tt; next = omega arith }
-
--- the templates of a match of posts stand still
-pub still_templates : (setup : Setup) → IsOfPosts setup → All StandsStill setup.templates
-still_templates setup posts = All-weaker IsPost StandsStill (λ t post. record { speed = post.speed; arms = post.arms }) setup.templates posts.templates

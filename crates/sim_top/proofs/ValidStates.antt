@@ -11,8 +11,8 @@ use Rattle.sim_base.specs.declared.state.Row.{Row}
 use Rattle.sim_base.specs.declared.state.State.{State}
 use Rattle.sim_base.specs.Rows.{id_of, template_of}
 use Rattle.sim_base.specs.Validity.{Both, IsValidRow, IsKnownRow, IsValid}
+use Rattle.sim_setup.specs.Quiet.{IsQuiet}
 use Rattle.sim_top.specs.Quiet.{IsQuietRow, AreQuiet}
-use Rattle.sim_top.proofs.QuietStart.{StandsStill}
 
 neither : {X Y : Type 0} (P : X → Y → Type 0) (x : Option X) (y : Option Y) → y ≡ None → Both x y P → x ≡ None
 neither P None y none both = refl
@@ -28,11 +28,11 @@ the_first P Q f (Some x) (Some y) both = f x y both
 found_is : {X : Type 0} (P : X → Type 0) (xs : List X) (i : ℕ) (x : X) → All P xs → slice_get xs i ≡ Some x → P x
 found_is P xs i x all found = subst P (get_or_from_slice_get xs i x x found) (all i x (slice_get_within xs i x found))
 
-row_is_quiet : (setup : Setup) (rows : List Row) (low : ℕ) (row : Row) (found : Option Template) → All StandsStill setup.templates → template_of setup row ≡ found → low ≤ row.id
+row_is_quiet : (setup : Setup) (rows : List Row) (low : ℕ) (row : Row) (found : Option Template) → All IsQuiet setup.templates → template_of setup row ≡ found → low ≤ row.id
     → MatchOption found ⊥ (IsValidRow 1 setup rows row) → IsQuietRow low row
 row_is_quiet setup rows low row None still is h valid = absurd valid
 row_is_quiet setup rows low row (Some t) still is h valid =
-    let stands : StandsStill t = found_is StandsStill setup.templates row.template t still is in
+    let stands : IsQuiet t = found_is IsQuiet setup.templates row.template t still is in
     record {
       id = h;
       motion = neither _ row.motion t.speed stands.speed valid.motion;
@@ -55,7 +55,7 @@ the_rest row rows ascends k inside =
     let next : suc k + 1 ≡ suc (k + 1) = omega arith in
     subst (λ (j : ℕ). slice_index (map id_of rows) k < slice_index (map id_of (row ∷ rows)) j) next (ascends (suc k) (omega (arith, inside)))
 
-rows_are_quiet : (setup : Setup) (all : List Row) (low : ℕ) (rows : List Row) → All StandsStill setup.templates → AboveFirst low rows → IsStrictlyIncreasing (map id_of rows) → All (IsKnownRow 1 setup all) rows
+rows_are_quiet : (setup : Setup) (all : List Row) (low : ℕ) (rows : List Row) → All IsQuiet setup.templates → AboveFirst low rows → IsStrictlyIncreasing (map id_of rows) → All (IsKnownRow 1 setup all) rows
     → AreQuiet low rows
 unfolding AboveFirst
 rows_are_quiet setup all low [] still above ascends known = tt
@@ -69,5 +69,5 @@ unfolding AboveFirst
 first_above state [] ids = tt
 first_above state (row ∷ rows) ids = (ids 0 row (omega arith)).0
 
-pub valid_is_quiet : (setup : Setup) (state : State) → All StandsStill setup.templates → IsValid setup state → AreQuiet 2 state.rows
+pub valid_is_quiet : (setup : Setup) (state : State) → All IsQuiet setup.templates → IsValid setup state → AreQuiet 2 state.rows
 valid_is_quiet setup state still valid = rows_are_quiet setup state.rows 2 state.rows still (first_above state state.rows valid.ids) valid.ascending valid.rows

@@ -4,7 +4,7 @@ use Rattle.std.specs.List.{AllByRecursion}
 use Rattle.sim_base.specs.declared.setup.Timed.{Timed}
 use Rattle.sim_base.specs.declared.state.Row.{Row}
 use Rattle.sim_base.specs.declared.state.State.{State}
-use Rattle.sim_setup.specs.Posts.{IsDelete}
+use Rattle.sim_setup.specs.Quiet.{IsDelete}
 
 -- from this id on, with health where there is any, and without motion and attack
 pub record IsQuietRow (low : ℕ) (row : Row) : Type 0 where

@@ -7,7 +7,7 @@ ghost use Rattle.sim_base.specs.Validity.{IsValid};
 ghost use Rattle.sim_base.specs.Spelling.{spelling, digest as digest_of};
 ghost use Rattle.sim_report.specs.Lines.{saved_line};
 ghost use Rattle.sim_report.specs.Show.{show_text as text_of_show};
-ghost use Rattle.sim_setup.specs.Posts.{IsOfPosts};
+ghost use Rattle.sim_setup.specs.Quiet.{IsQuietMatch};
 ghost use Rattle.sim_top.specs.Words.{to_play, to_store, to_resume, to_show, to_compare, asked, out_of};
 ghost use Rattle.sim_top.specs.Lines.{play_text as text_of_play, resume_text as text_of_resume};
 ghost use Rattle.sim_diff.specs.Difference.{difference_of};
@@ -231,7 +231,7 @@ fn printed<'w>(text: String) -> Answer<'w>
 
 fn play_text(alloc: Global, setup: &Setup) -> Result<String, OutOfMemory>
     requires limits { IsSetup setup.now }
-    requires posts { IsOfPosts setup.now }
+    requires quiet_match { IsQuietMatch setup.now }
     ensures { IfOk result (λ text. string_bytes text ≡ text_of_play setup.now) }
 {
     let start = first_state(alloc, setup)?;
@@ -261,7 +261,7 @@ fn stored(alloc: Global, setup: &Setup, state: &State) -> Result<(Vec<u8>, Strin
 
 fn resume_text(alloc: Global, setup: &Setup, state: State) -> Result<String, OutOfMemory>
     requires limits { IsSetup setup.now }
-    requires posts { IsOfPosts setup.now }
+    requires quiet_match { IsQuietMatch setup.now }
     requires valid { IsValid setup.now state }
     ensures { IfOk result (λ text. string_bytes text ≡ text_of_resume setup.now state) }
 {

@@ -3,7 +3,7 @@
 ghost use Rattle.std.specs.Prelude.{◌≡◌, IfSome, IfOk, IfErr};
 ghost use Rattle.sim_base.specs.Limits.{IsSetup};
 ghost use Rattle.sim_base.specs.Validity.{IsValid};
-ghost use Rattle.sim_setup.specs.Posts.{IsOfPosts};
+ghost use Rattle.sim_setup.specs.Quiet.{IsQuietMatch};
 ghost use Rattle.sim_setup.specs.Setups.{setup_of as setup_of_bytes};
 ghost use Rattle.sim_top.specs.Outcome.{bytes_in, match_in, setup_by};
 ghost use Rattle.sim_top.specs.Stops.{Reads, ReadsBytes, ReadsState, LoadsState, CausesOf, IsOfContent};
@@ -36,7 +36,7 @@ fn read_bytes<'w, S: Shelf>(alloc: Global, shelf: &mut S, name: &str) -> Result<
 fn match_of<'w>(alloc: Global, bytes: &[u8]) -> Result<Setup, Stop<'w>>
     ensures tells { Reads result (setup_by (setup_of_bytes bytes.now)) }
     ensures limits { IfOk result IsSetup }
-    ensures posts { IfOk result IsOfPosts }
+    ensures quiet { IfOk result IsQuietMatch }
     ensures content { IfErr result IsOfContent }
 {
     match setup_of(alloc, bytes) {
@@ -51,7 +51,7 @@ fn match_of<'w>(alloc: Global, bytes: &[u8]) -> Result<Setup, Stop<'w>>
 pub fn read_match<'w, S: Shelf>(alloc: Global, shelf: &mut S, name: &str) -> Result<Setup, Stop<'w>>
     ensures tells { IfSome (S.held shelf.old) (λ files. Reads result (match_in files name.now)) }
     ensures limits { IfOk result IsSetup }
-    ensures posts { IfOk result IsOfPosts }
+    ensures quiet { IfOk result IsQuietMatch }
     ensures causes { CausesOf result (S.counts shelf.old) (S.counts shelf.new) }
     ensures held { S.held shelf.new ≡ S.held shelf.old }
 {

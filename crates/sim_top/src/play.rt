@@ -5,7 +5,7 @@ ghost use Rattle.sim_base.specs.Limits.{IsSetup};
 ghost use Rattle.sim_base.specs.Turn.{after, own_turns, orders_at};
 ghost use Rattle.sim_base.specs.Spelling.{digest as digest_of};
 ghost use Rattle.sim_report.specs.Lines.{turn_line as line_of_turn};
-ghost use Rattle.sim_setup.specs.Posts.{IsOfPosts};
+ghost use Rattle.sim_setup.specs.Quiet.{IsQuietMatch};
 ghost use Rattle.sim_top.specs.Quiet.{AreQuiet, AreAhead};
 ghost use Rattle.sim_top.specs.Lines.{turn_lines};
 
@@ -23,7 +23,7 @@ pub fn push_turns(
     out: &mut String,
 ) -> Result<(), OutOfMemory>
     requires limits { IsSetup setup.now }
-    requires posts { IsOfPosts setup.now }
+    requires quiet_match { IsQuietMatch setup.now }
     requires turn { start.turn ≤ setup.now.turns }
     requires few { length start.rows ≤ 4096 }
     requires quiet { AreQuiet 2 start.rows }
@@ -59,7 +59,7 @@ fn push_line(
 /// The state of a turn of the match.
 pub fn state_at(alloc: Global, setup: &Setup, turn: u32) -> Result<State, OutOfMemory>
     requires limits { IsSetup setup.now }
-    requires posts { IsOfPosts setup.now }
+    requires quiet_match { IsQuietMatch setup.now }
     requires turn { turn ≤ setup.now.turns }
     ensures value { IfOk result (λ state. state ≡ after setup.now (own_turns setup.now 0 turn)) }
     ensures turn { IfOk result (λ state. state.turn ≡ turn) }
@@ -78,7 +78,7 @@ pub fn state_at(alloc: Global, setup: &Setup, turn: u32) -> Result<State, OutOfM
 #[tactic(auto, using(crate::proofs::OrdersAhead::all_above, crate::proofs::OrdersAhead::begins_ahead, crate::proofs::OrdersAhead::none_left))]
 fn ahead_of(setup: &Setup, turn: u32) -> &[Timed]
     requires limits { IsSetup setup.now }
-    requires posts { IsOfPosts setup.now }
+    requires quiet_match { IsQuietMatch setup.now }
     ensures ahead { AreAhead (turn + 1) result.now }
     ensures orders { (u : ℕ) → turn < u → orders_at u result.now ≡ orders_at u setup.now.commands }
 {

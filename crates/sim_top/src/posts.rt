@@ -8,7 +8,7 @@ ghost use Rattle.sim_base.specs.Limits.{IsSetup};
 ghost use Rattle.sim_base.specs.Changes.{new_row as row_made};
 ghost use Rattle.sim_base.specs.Commands.{commanded, is_ordered as is_ordered_by};
 ghost use Rattle.sim_base.specs.Turn.{first_state as state_at_first, turn as turned, orders_at};
-ghost use Rattle.sim_setup.specs.Posts.{IsOfPosts, IsDelete};
+ghost use Rattle.sim_setup.specs.Quiet.{IsQuietMatch, IsDelete};
 ghost use Rattle.sim_top.specs.Quiet.{AreQuiet, AreAhead};
 
 use sim_base::{
@@ -20,7 +20,7 @@ use std::alloc::Global;
 /// The state in which a match begins.
 pub fn first_state(alloc: Global, setup: &Setup) -> Result<State, OutOfMemory>
     requires limits { IsSetup setup.now }
-    requires posts { IsOfPosts setup.now }
+    requires quiet_match { IsQuietMatch setup.now }
     ensures value { IfOk result (λ state. state ≡ state_at_first setup.now) }
     ensures turn { IfOk result (λ state. state.turn ≡ 0) }
     ensures quiet { IfOk result (λ state. AreQuiet 2 state.rows) }

@@ -3,14 +3,14 @@ use Rattle.sim_base.specs.declared.setup.First.{First}
 use Rattle.sim_base.specs.declared.template.Template.{Template}
 use Rattle.sim_base.specs.declared.state.Row.{Row}
 use Rattle.sim_base.specs.declared.state.State.{State}
-use Rattle.sim_top.proofs.QuietStart.{still_templates, one_more}
+use Rattle.sim_top.proofs.QuietStart.{one_more}
 use Rattle.sim_top.proofs.posts.first_state.Goals as goal
 
 pub loop-first-preserved : goal.loop-first-preserved
 loop-first-preserved c =
     let setup = c.args.setup.now in
     let state : State = record { turn = 0; next = c.loop-first.next; word = setup.seed; rows = c.loop-first.rows.items } in
-    let still = still_templates setup c.requires.posts in
+    let still = c.requires.quiet_match.templates in
     let more = one_more setup c.requires.limits still c.loop-first.first-index state c.first-item.result c.index-templates-first.result c.push.new.self.items
     (omega (arith, ap (λ (l : List First). length l) c.as_slice-firsts.ensures))
     (c.first-item.is ∙ ap (λ (l : List First). get_or l c.loop-first.first-index c.first-item.result) c.as_slice-firsts.ensures)
