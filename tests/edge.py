@@ -8,6 +8,7 @@ PROGRAM is by default the one that the gate leaves in crates/simcore/out. One li
 MD5 of the bytes that docs/FORMATS.md lays out.
 """
 
+import hashlib
 import os
 import pathlib
 import subprocess
@@ -29,6 +30,14 @@ POSTS = (b'{"size":[4,4],"closed":[],"players":[[],[]],"cap":0,"delay":1,"turns"
 POSTS_LINES = (b"turn 0 6c55afdc0e61faf6e75ba31d1bd8428e\n"
                b"turn 1 5ba6ccce6ec0216cccaaf7181a30b789\n"
                b"turn 2 846656bc95c044d1dd6d2f3f26ab5406\n")
+STORED_ID = hashlib.md5(POSTS).digest()
+# The state of POSTS at turn 1, section by section.
+STORED = (b"RSIM\x01\0\0\0" + STORED_ID + b"\x01\0\0\0\x04\0\0\0" + bytes(8)
+          + bytes.fromhex("0101000000030000000000") + bytes.fromhex("0201000000030000000000020000000200")
+          + bytes.fromhex("03010000000300000002") + bytes.fromhex("04010000000300000000003200")
+          + bytes.fromhex("05000000000600000000"))
+RESUMED_LINES = b"".join(POSTS_LINES.splitlines(True)[1:])
+SHOWN = b"turn 1 next 4 word 0 rows 1\nentity 3 template post owner 2 at 2 2 health 50\n"
 USAGE = b"""usage: simcore play MATCH
        simcore state MATCH TURN OUT
        simcore resume MATCH STATE
@@ -61,6 +70,42 @@ def case(name, got, status, text):
 def files(folder):
     """Every file of the folder with its bytes, so that a case can show that none has changed."""
     return {path.name: path.read_bytes() for path in folder.iterdir() if path.is_file()}
+
+
+def stored_states(folder):
+    """Stored states on real files: written, read again, compared and refused."""
+    line = b"state 1 101 5ba6ccce6ec0216cccaaf7181a30b789\n"
+    case("a state is stored", run(["state", "posts.json", "1", "s"], folder), 0, line)
+    held = (folder / "s").read_bytes() if (folder / "s").exists() else b""
+    case("its bytes are the worked ones", (0, held, b""), 0, STORED)
+    case("a stored state is shown", run(["show", "posts.json", "s"], folder), 0, SHOWN)
+    case("a stored state is played on", run(["resume", "posts.json", "s"], folder), 0, RESUMED_LINES)
+    case("a state is stored in place of another", run(["state", "posts.json", "2", "s"], folder), 0,
+         b"state 2 101 846656bc95c044d1dd6d2f3f26ab5406\n")
+    case("the last turn is played on", run(["resume", "posts.json", "s"], folder), 0, POSTS_LINES.splitlines(True)[2])
+    (folder / "s").write_bytes(STORED)
+    (folder / "cut").write_bytes(STORED[:-1])
+    (folder / "other").write_bytes(STORED[:8] + b"\0" * 16 + STORED[24:])
+    (folder / "hurt").write_bytes(STORED.replace(bytes.fromhex("0300000000003200"), bytes.fromhex("0300000000003100")))
+    case("a turn that the match lacks", run(["state", "posts.json", "3", "t"], folder), 10, b"no turn 3 of 2\n")
+    case("and nothing is stored", (0, b"" if not (folder / "t").exists() else b"made", b""), 0, b"")
+    case("a place that is no folder", run(["state", "posts.json", "1", "none/t"], folder), 4, b"")
+    case("a folder as the place", run(["state", "posts.json", "1", "folder"], folder), 4, b"")
+    case("an empty stored state", run(["show", "posts.json", "nothing.json"], folder), 7, b"state refused 1 nothing.json\n")
+    case("a state of another match", run(["show", "posts.json", "other"], folder), 7, b"state refused 2 other\n")
+    case("a state that is cut", run(["resume", "posts.json", "cut"], folder), 7, b"state refused 3 cut\n")
+    case("a missing state", run(["resume", "posts.json", "none"], folder), 11, b"")
+    case("two equal states", run(["compare", "posts.json", "s", "s"], folder), 0, b"same\n")
+    case("two states that differ", run(["compare", "posts.json", "s", "hurt"], folder), 1,
+         b"differ entity 3 part Health\nleft 0300000000003200\nright 0300000000003100\n")
+    case("the second of two is refused", run(["compare", "posts.json", "s", "cut"], folder), 7, b"state refused 3 cut\n")
+    with open("/dev/full", "wb") as full:
+        case("a state is stored, and its line finds no room", run(["state", "posts.json", "1", "u"], folder, full), 4, None)
+    held = (folder / "u").read_bytes() if (folder / "u").exists() else b""
+    case("then its file is whole", (0, held, b""), 0, STORED)
+    (folder / "over.json").write_bytes(POSTS)
+    case("a match is read before its file is written over", run(["state", "over.json", "1", "over.json"], folder), 0, line)
+    case("then its file is the state", (0, (folder / "over.json").read_bytes(), b""), 0, STORED)
 
 
 def main():
@@ -97,7 +142,7 @@ def main():
         case("no words", run([], folder), 2, USAGE)
         case("an unknown word", run(["fly", "posts.json"], folder), 2, USAGE)
         case("a word too many", run(["play", "posts.json", "x"], folder), 2, USAGE)
-        case("a command that is still to come", run(["show", "posts.json", "s"], folder), 2, USAGE)
+        case("a command that is still to come", run(["serve", "posts.json"], folder), 2, USAGE)
         status, text, error = run(["play", b"\xff\xfe"], folder)
         case("a word that is not UTF-8", (status, b"", error), 2, b"")
         with open("/dev/full", "wb") as full:
@@ -110,6 +155,7 @@ def main():
             got = run(["play", "posts.json"], folder, pipe)
             case("a pipe that nobody reads", (4 if got[0] in (4, -13) else got[0], got[1], got[2]), 4, None)
         case("no file has changed", (0, b"", b""), 0, b"" if files(folder) == before else b"changed")
+        stored_states(folder)
     print(f"{passed} passed, {failed} failed")
     return 1 if failed else 0
 
