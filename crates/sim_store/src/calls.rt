@@ -1,5 +1,5 @@
-//! The calls of a shelf or a sink in memory: they are counted, and each may be listed to fail. They stand apart since
-//! both lists are alike, and since every call of the two begins by counting itself.
+//! The calls of a shelf or a sink in memory: they are counted, and each may be listed to fail. They stand apart since the
+//! two count and fail alike: every call begins by counting itself here.
 
 ghost use Rattle.std.specs.Prelude.{◌≡◌, ◌++◌, ◌∷◌, [], OnOk, OnErr};
 ghost use Rattle.sim_store.specs.Counts.{raised};

@@ -207,6 +207,7 @@ impl Shelf for MemShelf {
     /// memory.
     fn write(&mut self, piece: &[u8]) -> Result<usize, Failed>
         requires { IsTrue (is_making_on self.old) }
+        ensures fails { IsTrue (fails_next_on self.old) → IsErr result }
         ensures fits { (bytes : List ℕ) → file_in (files_on self.old) (made_name_on self.old) ≡ Some bytes
             → (IsOk result ↔ (IsFalse (fails_next_on self.old) × (length bytes + length piece.now ≤ room_on self.old))) }
         ensures calls { calls_on self.new ≡ raised 1 (calls_on self.old) }
