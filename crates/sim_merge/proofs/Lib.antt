@@ -11,3 +11,4 @@ pub mod ResolutionLemmas
 pub mod FitLemmas
 pub mod ResolvedLemmas
 pub mod KeepingLemmas
+pub mod PathLemmas

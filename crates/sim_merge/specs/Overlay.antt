@@ -3,8 +3,9 @@
 use Rattle.std.specs.Prelude.{ℕ, Bool, true, false, ◌&&◌, List, [], ◌∷◌, Option, Some, None, is_some, is_none, option_map, option_and_then, if◌then◌else◌}
 use Rattle.sim_tree.specs.declared.tree.TreeMark.{TreeMark}
 use Rattle.sim_tree.specs.declared.tree.TreeMark.TheVariants.{Disable, Replace, Merge, Add, Mul, Tokens}
-use Rattle.sim_tree.specs.Trees.{Entry}
+use Rattle.sim_tree.specs.Trees.{Node, Entry, at}
 use Rattle.sim_merge.specs.Values.{Value, value_over, sum_of, product_of, words_over}
+use Rattle.sim_merge.specs.Laying.{Laying, refused, absent, there}
 
 abbrev pub Path : Type 0
 Path = List (List ℕ)
@@ -123,3 +124,16 @@ is_bad (Some e) lower = bad_by e.mark e.value lower
 -- a path is met, and what stands there is an operation without result
 abbrev pub is_refused_at : Option Paths → Paths → Path → Bool
 is_refused_at lower upper path = is_met lower upper path && is_bad (upper path) (lower_at lower upper path)
+
+-- ---- nodes as maps from paths
+
+-- the map of a node, if there is a node
+abbrev pub paths_if : Option Node → Option Paths
+paths_if None = None
+paths_if (Some n) = Some (at n)
+
+-- what a laying has at a path
+abbrev pub laying_at : Laying → Paths
+laying_at refused path = None
+laying_at absent path = None
+laying_at (there n) path = at n path
