@@ -12,3 +12,4 @@ pub mod FitLemmas
 pub mod ResolvedLemmas
 pub mod KeepingLemmas
 pub mod PathLemmas
+pub mod RefusalLemmas

@@ -75,7 +75,7 @@ child_named-not_before name first (child other n cs) e = by (bytes_eq other name
     by false f true g rest = cond-false (bytes_eq other name) _ _ f ∙ rest
     by b f false g rest = rest
 
-child_named-behind : (name first : List ℕ) (cs : Children) → is_before first name ≡ true → child_named name (behind first cs) ≡ child_named name cs
+pub child_named-behind : (name first : List ℕ) (cs : Children) → is_before first name ≡ true → child_named name (behind first cs) ≡ child_named name cs
 child_named-behind name first no_children e = refl
 child_named-behind name first (child other n cs) e = by (bytes_eq other name) refl (is_before first other) refl (child_named-behind name first cs e)
   where
@@ -190,7 +190,7 @@ named-laid_under name lower (child first o os) cs sound e =
 
 -- ---- nodes as maps
 
-at_child-named : (cs : Children) (name : List ℕ) (path : Path) → at_child cs name path ≡ at_if (paths_if (child_named name cs)) path
+pub at_child-named : (cs : Children) (name : List ℕ) (path : Path) → at_child cs name path ≡ at_if (paths_if (child_named name cs)) path
 at_child-named no_children name path = refl
 at_child-named (child other n cs) name path = by (bytes_eq other name) (at_child-named cs name path)
   where
@@ -214,7 +214,7 @@ pub below_if-paths_if : (name : List ℕ) (lower : Option Node) → below_if nam
 below_if-paths_if name None = refl
 below_if-paths_if name (Some n) = below-at name n
 
-root_value-paths_if : (lower : Option Node) → root_value (paths_if lower) ≡ lower_value lower
+pub root_value-paths_if : (lower : Option Node) → root_value (paths_if lower) ≡ lower_value lower
 root_value-paths_if None = refl
 root_value-paths_if (Some (node value mark cs)) = refl
 
@@ -241,7 +241,7 @@ plain-children : (lower : Option Node) → IsPlainIf lower → are_plain (lower_
 plain-children None e = refl
 plain-children (Some (node value mark cs)) e = and_right (is_none mark) (are_plain cs) e
 
-sound-named : (name : List ℕ) (cs : Children) → are_sound cs ≡ true → IfNode (λ n. is_sound n ≡ true) (child_named name cs)
+pub sound-named : (name : List ℕ) (cs : Children) → are_sound cs ≡ true → IfNode (λ n. is_sound n ≡ true) (child_named name cs)
 sound-named name no_children e = tt
 sound-named name (child other n cs) e = by (bytes_eq other name) (sound-named name cs (are_sound-rest other n cs e))
   where
@@ -252,10 +252,10 @@ sound-named name (child other n cs) e = by (bytes_eq other name) (sound-named na
 -- ---- the law at a path below a name
 
 -- what is known of the rest of a path
-abbrev Law : Path → Type 0
+abbrev pub Law : Path → Type 0
 Law path = (lower : Option Node) (upper : Node) → IsPlainIf lower → is_sound upper ≡ true → (laid lower upper ≡ refused → ⊥) → laying_at (laid lower upper) path ≡ lay (paths_if lower) (at upper) path
 
-unrefused : (o : Option Node) (l : Laying) → found o ≡ l → l ≡ refused → ⊥
+pub unrefused : (o : Option Node) (l : Laying) → found o ≡ l → l ≡ refused → ⊥
 unrefused None l e f = differ (e ∙ f)
   where
     differ : absent ≡ refused → ⊥
@@ -294,3 +294,74 @@ below-law name path law value mark lower os cs plain sound e =
             ∙ law (child_named name (lower_children lower)) o (plain-named name (lower_children lower) (plain-children lower plain)) fits stands
             ∙ ap (λ b. lay b (at o) path) (sym (below_if-paths_if name lower)) ∙ ap (λ (u : Paths). lay (below_if name (paths_if lower)) u path) (sym upper)
             ∙ sym (cond-true (is_some (at_child os name [])) _ _ (ap is_some (at_child-named os name [] ∙ ap (λ m. at_if (paths_if m) []) is) ∙ is_there o))
+
+-- ---- the law at a root
+
+over-root : (value : Value) (m : Option Children) → (over_children value m ≡ refused → ⊥) → laying_at (over_children value m) [] ≡ plain value
+over-root value None stands = absurd (stands refl)
+over-root value (Some cs) stands = refl
+
+with-root : (value : Value) (cs : Children) → (with_value value cs ≡ refused → ⊥) → laying_at (with_value value cs) [] ≡ plain value
+with-root None cs stands = absurd (stands refl)
+with-root (Some text) cs stands = refl
+
+none-mark : (mark : Option TreeMark) → is_none mark ≡ true → mark ≡ None
+none-mark None e = refl
+none-mark (Some m) e = absurd (true≢false (sym e))
+
+abbrev entry_of : Value → Option TreeMark → Option Entry
+entry_of value mark = Some (record { value = value; mark = mark })
+
+-- another value at the root of a plain tree
+root_with-plain : (value : Value) (n : Node) → is_plain n ≡ true → plain value ≡ root_with value (Some (at n))
+root_with-plain value (node own mark cs) e = ap (entry_of value) (sym (none-mark mark (and_left (is_none mark) (are_plain cs) e)))
+
+root-law : (lower : Option Node) (upper : Node) → IsPlainIf lower → (laid lower upper ≡ refused → ⊥) →
+    laying_at (laid lower upper) [] ≡ root_by (root_mark (at upper)) (root_value (Some (at upper))) (paths_if lower)
+root-law lower (node value None os) plainly stands =
+    over-root (value_over value (lower_value lower)) (laid_under (lower_children lower) os) stands ∙ ap (λ v. plain (value_over value v)) (sym (root_value-paths_if lower))
+root-law lower (node value (Some Disable) os) plainly stands = refl
+root-law lower (node value (Some Replace) os) plainly stands = over-root value (laid_under no_children os) stands
+root-law None (node value (Some Merge) os) plainly stands = refl
+root-law (Some lower) (node value (Some Merge) os) plainly stands =
+    over-root (value_over value (value_of lower)) (laid_under (under lower) os) stands ∙ ap (λ v. plain (value_over value v)) (sym (root_value-paths_if (Some lower)))
+root-law None (node value (Some Add) os) plainly stands = absurd (stands refl)
+root-law (Some lower) (node value (Some Add) os) plainly stands =
+    with-root (sum_of (value_of lower) value) (under lower) stands
+        ∙ ap (λ v. plain (sum_of v value)) (sym (root_value-paths_if (Some lower))) ∙ root_with-plain (sum_of (root_value (Some (at lower))) value) lower plainly
+root-law None (node value (Some Mul) os) plainly stands = absurd (stands refl)
+root-law (Some lower) (node value (Some Mul) os) plainly stands =
+    with-root (product_of (value_of lower) value) (under lower) stands
+        ∙ ap (λ v. plain (product_of v value)) (sym (root_value-paths_if (Some lower))) ∙ root_with-plain (product_of (root_value (Some (at lower))) value) lower plainly
+root-law lower (node value (Some Tokens) os) plainly stands = ap (λ v. plain (Some (words_over value v))) (sym (root_value-paths_if lower))
+
+-- ---- the law
+
+over-below : (name : List ℕ) (path : Path) → Law path → (v value : Value) (mark : Option TreeMark) (lower : Option Node) (os : Children) → IsPlainIf lower → are_sound os ≡ true →
+    (m : Option Children) → laid_under (lower_children lower) os ≡ m → (over_children v m ≡ refused → ⊥) →
+    laying_at (over_children v m) (name ∷ path) ≡ unmarked_below (at (node value mark os)) (paths_if lower) name path (λ b. lay b (λ more. at_child os name more) path)
+over-below name path law v value mark lower os plainly sound None e stands = absurd (stands refl)
+over-below name path law v value mark lower os plainly sound (Some cs) e stands = below-law name path law value mark lower os cs plainly sound e
+
+with-below : (name : List ℕ) (path : Path) (value : Value) (lower : Option Node) → (with_value value (lower_children lower) ≡ refused → ⊥) →
+    laying_at (with_value value (lower_children lower)) (name ∷ path) ≡ at_if (paths_if lower) (name ∷ path)
+with-below name path None lower stands = absurd (stands refl)
+with-below name path (Some text) lower stands = sym (at_if-below lower name path)
+
+step-law : (name : List ℕ) (path : Path) → Law path → Law (name ∷ path)
+step-law name path law lower (node value None os) plainly sound stands =
+    over-below name path law (value_over value (lower_value lower)) value None lower os plainly sound (laid_under (lower_children lower) os) refl stands
+step-law name path law lower (node value (Some Disable) os) plainly sound stands = refl
+step-law name path law lower (node value (Some Replace) os) plainly sound stands =
+    over-below name path law value value (Some Replace) None os tt sound (laid_under no_children os) refl stands
+step-law name path law None (node value (Some Merge) os) plainly sound stands = refl
+step-law name path law (Some lower) (node value (Some Merge) os) plainly sound stands =
+    over-below name path law (value_over value (value_of lower)) value (Some Merge) (Some lower) os plainly sound (laid_under (under lower) os) refl stands
+step-law name path law lower (node value (Some Add) os) plainly sound stands = with-below name path (sum_of (lower_value lower) value) lower stands
+step-law name path law lower (node value (Some Mul) os) plainly sound stands = with-below name path (product_of (lower_value lower) value) lower stands
+step-law name path law lower (node value (Some Tokens) os) plainly sound stands = sym (at_if-below lower name path)
+
+-- what is laid has at each path what the map says
+pub lay-laid : (path : Path) → Law path
+lay-laid [] lower upper plainly sound stands = root-law lower upper plainly stands
+lay-laid (name ∷ path) lower upper plainly sound stands = step-law name path (lay-laid path) lower upper plainly sound stands

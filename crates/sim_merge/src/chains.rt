@@ -17,6 +17,31 @@ use std::alloc::Global;
 // How many members of a chain are looked at: one more than it may have.
 const MOST_SEEN: usize = 17;
 
+/// Whether no two templates have one name.
+pub fn names_differ(sources: &[Source]) -> bool
+    ensures { result ≡ are_distinct (names_in (origins_of sources.now)) }
+{
+    let mut rest = sources;
+    while let [source, more @ ..] = rest {
+        if has_name(more, source.name.text()) {
+            return false;
+        }
+        rest = more;
+    }
+    true
+}
+
+fn has_name(sources: &[Source], name: &str) -> bool
+    ensures { result ≡ list_any (bytes_eq name.now) (names_in (origins_of sources.now)) }
+{
+    for source in sources {
+        if name == source.name.text() {
+            return true;
+        }
+    }
+    false
+}
+
 /// The names of templates, by number.
 pub fn names_of(alloc: Global, sources: &[Source]) -> Result<IndexSet<String>, OutOfMemory>
     requires { are_distinct (names_in (origins_of sources.now)) ≡ true }
