@@ -140,24 +140,24 @@ merged-step name first lower os rest o laying stands is least known = by (bytes_
         let not_behind : is_before first name ≡ false = ap (λ x. is_before x name) same ∙ is_before-irrefl name in
         let no_other : child_named name os ≡ None = child_named-least name os (ap (λ x. is_least x os) (sym same) ∙ least) in
         let none : child_named name rest ≡ None =
-            none-found (child_named name rest) (known ∙ ap (λ m. merged m (child_named name (behind first lower))) no_other ∙ ap found (child_named-not_behind name first lower not_behind)) in
+        none-found (child_named name rest) (known ∙ ap (λ m. merged m (child_named name (behind first lower))) no_other ∙ ap found (child_named-not_behind name first lower not_behind)) in
         open_ ∙ ap (λ l. found (or_else l (child_named name (behind_first first laying rest)))) (child_named-not_before name first lower not_before)
-            ∙ here laying stands e none ∙ sym is ∙ ap (λ x. laid (child_named x lower) o) same
-            ∙ ap (λ m. merged m (child_named name lower)) (sym (cond-true (bytes_eq first name) _ _ e))
+        ∙ here laying stands e none ∙ sym is ∙ ap (λ x. laid (child_named x lower) o) same
+        ∙ ap (λ m. merged m (child_named name lower)) (sym (cond-true (bytes_eq first name) _ _ e))
     by false e true f =
         let not_behind : is_before first name ≡ false = is_before-asym name first f in
         let no_other : child_named name os ≡ None = child_named-least name os (is_least-before name first os f least) in
         let none : child_named name (behind_first first laying rest) ≡ None =
-            skip laying e ∙ none-found (child_named name rest) (known ∙ ap (λ m. merged m (child_named name (behind first lower))) no_other ∙ ap found (child_named-not_behind name first lower not_behind)) in
+        skip laying e ∙ none-found (child_named name rest) (known ∙ ap (λ m. merged m (child_named name (behind first lower))) no_other ∙ ap found (child_named-not_behind name first lower not_behind)) in
         open_ ∙ ap (λ l. found (or_else l (child_named name (behind_first first laying rest)))) (child_named-before name first lower f)
-            ∙ keeps (child_named name lower) (child_named name (behind_first first laying rest)) (λ g. none)
-            ∙ ap (λ m. merged m (child_named name lower)) (sym (cond-false (bytes_eq first name) _ _ e ∙ no_other))
+        ∙ keeps (child_named name lower) (child_named name (behind_first first laying rest)) (λ g. none)
+        ∙ ap (λ m. merged m (child_named name lower)) (sym (cond-false (bytes_eq first name) _ _ e ∙ no_other))
     by false e false f =
         let is_behind : is_before first name ≡ true = is_before-total name first f (bytes_eq-swap first name e) in
         open_ ∙ ap (λ l. found (or_else l (child_named name (behind_first first laying rest)))) (child_named-not_before name first lower f)
-            ∙ ap found (skip laying e) ∙ known
-            ∙ ap (λ l. merged (child_named name os) l) (child_named-behind name first lower is_behind)
-            ∙ ap (λ m. merged m (child_named name lower)) (sym (cond-false (bytes_eq first name) _ _ e))
+        ∙ ap found (skip laying e) ∙ known
+        ∙ ap (λ l. merged (child_named name os) l) (child_named-behind name first lower is_behind)
+        ∙ ap (λ m. merged m (child_named name lower)) (sym (cond-false (bytes_eq first name) _ _ e))
 
 -- the parts of what children come to, if they are not refused
 record Parts (first : List ℕ) (lower cs : Children) (laying : Laying) (more : Option Children) : Type 0 where
@@ -185,8 +185,8 @@ named-laid_under name lower no_children cs sound e = ap (λ ds. found (child_nam
 named-laid_under name lower (child first o os) cs sound e =
     let p = parts first lower cs (laid (child_named first lower) o) (laid_under (behind first lower) os) e in
     ap (λ ds. found (child_named name ds)) p.is
-        ∙ merged-step name first lower os p.rest o (laid (child_named first lower) o) p.stands refl (is_least-rest first o os sound)
-            (named-laid_under name (behind first lower) os p.rest (are_sound-rest first o os sound) p.more-is)
+    ∙ merged-step name first lower os p.rest o (laid (child_named first lower) o) p.stands refl (is_least-rest first o os sound)
+    (named-laid_under name (behind first lower) os p.rest (are_sound-rest first o os sound) p.more-is)
 
 -- ---- nodes as maps
 
@@ -270,7 +270,7 @@ below-law : (name : List ℕ) (path : Path) → Law path → (value : Value) (ma
     at_child cs name path ≡ unmarked_below (at (node value mark os)) (paths_if lower) name path (λ b. lay b (λ more. at_child os name more) path)
 below-law name path law value mark lower os cs plain sound e =
     at_child-named cs name path ∙ sym (laying_at-found (child_named name cs) path) ∙ ap (λ l. laying_at l path) known
-        ∙ by (child_named name os) refl (sound-named name os sound)
+    ∙ by (child_named name os) refl (sound-named name os sound)
   where
     lc : Children
     lc = lower_children lower
@@ -282,18 +282,18 @@ below-law name path law value mark lower os cs plain sound e =
         ≡ (if is_some (at_child os name []) then lay (below_if name (paths_if lower)) (λ more. at_child os name more) path else at_if (paths_if lower) (name ∷ path))
     by None is fit =
         ap (λ m. laying_at (merged m (child_named name (lower_children lower))) path) is
-            ∙ laying_at-found (child_named name (lower_children lower)) path ∙ sym (at_child-named (lower_children lower) name path) ∙ sym (at_if-below lower name path)
-            ∙ sym (cond-false (is_some (at_child os name [])) _ _ (ap is_some (at_child-named os name [] ∙ ap (λ m. at_if (paths_if m) []) is)))
+        ∙ laying_at-found (child_named name (lower_children lower)) path ∙ sym (at_child-named (lower_children lower) name path) ∙ sym (at_if-below lower name path)
+        ∙ sym (cond-false (is_some (at_child os name [])) _ _ (ap is_some (at_child-named os name [] ∙ ap (λ m. at_if (paths_if m) []) is)))
     by (Some o) is fit =
         let P : Option Node → Type 0 = λ m. IfNode (λ n. is_sound n ≡ true) m in
         let fits : is_sound o ≡ true = subst P is fit in
         let upper : (λ more. at_child os name more) ≡ at o = fun_ext (λ more. at_child-named os name more ∙ ap (λ m. at_if (paths_if m) more) is) in
         let stands : laid (child_named name (lower_children lower)) o ≡ refused → ⊥ =
-            unrefused (child_named name cs) (laid (child_named name (lower_children lower)) o) (known ∙ ap (λ m. merged m (child_named name (lower_children lower))) is) in
+        unrefused (child_named name cs) (laid (child_named name (lower_children lower)) o) (known ∙ ap (λ m. merged m (child_named name (lower_children lower))) is) in
         ap (λ m. laying_at (merged m (child_named name (lower_children lower))) path) is
-            ∙ law (child_named name (lower_children lower)) o (plain-named name (lower_children lower) (plain-children lower plain)) fits stands
-            ∙ ap (λ b. lay b (at o) path) (sym (below_if-paths_if name lower)) ∙ ap (λ (u : Paths). lay (below_if name (paths_if lower)) u path) (sym upper)
-            ∙ sym (cond-true (is_some (at_child os name [])) _ _ (ap is_some (at_child-named os name [] ∙ ap (λ m. at_if (paths_if m) []) is) ∙ is_there o))
+        ∙ law (child_named name (lower_children lower)) o (plain-named name (lower_children lower) (plain-children lower plain)) fits stands
+        ∙ ap (λ b. lay b (at o) path) (sym (below_if-paths_if name lower)) ∙ ap (λ (u : Paths). lay (below_if name (paths_if lower)) u path) (sym upper)
+        ∙ sym (cond-true (is_some (at_child os name [])) _ _ (ap is_some (at_child-named os name [] ∙ ap (λ m. at_if (paths_if m) []) is) ∙ is_there o))
 
 -- ---- the law at a root
 
@@ -328,11 +328,11 @@ root-law (Some lower) (node value (Some Merge) os) plainly stands =
 root-law None (node value (Some Add) os) plainly stands = absurd (stands refl)
 root-law (Some lower) (node value (Some Add) os) plainly stands =
     with-root (sum_of (value_of lower) value) (under lower) stands
-        ∙ ap (λ v. plain (sum_of v value)) (sym (root_value-paths_if (Some lower))) ∙ root_with-plain (sum_of (root_value (Some (at lower))) value) lower plainly
+    ∙ ap (λ v. plain (sum_of v value)) (sym (root_value-paths_if (Some lower))) ∙ root_with-plain (sum_of (root_value (Some (at lower))) value) lower plainly
 root-law None (node value (Some Mul) os) plainly stands = absurd (stands refl)
 root-law (Some lower) (node value (Some Mul) os) plainly stands =
     with-root (product_of (value_of lower) value) (under lower) stands
-        ∙ ap (λ v. plain (product_of v value)) (sym (root_value-paths_if (Some lower))) ∙ root_with-plain (product_of (root_value (Some (at lower))) value) lower plainly
+    ∙ ap (λ v. plain (product_of v value)) (sym (root_value-paths_if (Some lower))) ∙ root_with-plain (product_of (root_value (Some (at lower))) value) lower plainly
 root-law lower (node value (Some Tokens) os) plainly stands = ap (λ v. plain (Some (words_over value v))) (sym (root_value-paths_if lower))
 
 -- ---- the law

@@ -25,7 +25,7 @@ into-named : (name : List ℕ) (path : Path) (lower : Option Node) (os : Childre
 into-named name path lower os o is =
     let upper : (λ more. at_child os name more) ≡ at o = fun_ext (λ more. at_child-named os name more ∙ ap (λ m. at_if (paths_if m) more) is) in
     ap (λ b. is_refused_at b (λ more. at_child os name more) path) (below_if-paths_if name lower)
-        ∙ ap (λ (u : Paths). is_refused_at (paths_if (child_named name (lower_children lower))) u path) upper
+    ∙ ap (λ (u : Paths). is_refused_at (paths_if (child_named name (lower_children lower))) u path) upper
 
 and-false : (a b : Bool) → b ≡ false → (a && b) ≡ false
 and-false true b e = e
@@ -74,7 +74,7 @@ below-refuses name path refuses v lower os sound e = by (child_named name os) re
         let P : Option Node → Type 0 = λ m. IfNode (λ n. is_sound n ≡ true) m in
         ap (over_children v)
         (under-refused name (lower_children lower) os o sound is
-            (refuses (child_named name (lower_children lower)) o (subst P is fit) (sym (into-named name path lower os o is) ∙ e)))
+        (refuses (child_named name (lower_children lower)) o (subst P is fit) (sym (into-named name path lower os o is) ∙ e)))
 
 step-refuses : (name : List ℕ) (path : Path) → Refuses path → Refuses (name ∷ path)
 step-refuses name path refuses lower (node value None os) sound e = below-refuses name path refuses (value_over value (lower_value lower)) lower os sound e
@@ -148,12 +148,12 @@ least-named first name (child other n os) o least is = by (bytes_eq other name) 
 
 here-refused : (first : List ℕ) (o : Node) (lower os : Children) → RefusedAt (child_named first lower) o → RefusedBelow lower (child first o os)
 here-refused first o lower os at_path = record {
-    name = first;
-    upper = o;
-    path = at_path.0;
-    is = cond-true (bytes_eq first first) _ _ ((bytes_eq-Decides first first).1 refl);
-    refused = at_path.1;
-  }
+  name = first;
+  upper = o;
+  path = at_path.0;
+  is = cond-true (bytes_eq first first) _ _ ((bytes_eq-Decides first first).1 refl);
+  refused = at_path.1;
+}
 
 later-refused : (first : List ℕ) (o : Node) (lower os : Children) → is_least first os ≡ true → RefusedBelow (behind first lower) os → RefusedBelow lower (child first o os)
 later-refused first o lower os least b =
@@ -196,10 +196,10 @@ mutual
 
 pub has-laid : (lower upper n : Node) → is_resolved lower ≡ true → is_layable upper ≡ true → laid (Some lower) upper ≡ there n → HasLaid lower upper n
 has-laid lower upper n resolved layable e = record {
-    laid = λ path. ap (λ l. laying_at l path) (sym e)
-        ∙ lay-laid path (Some lower) upper (fit-is_resolved lower resolved).plain (is_sound-layable upper layable) (λ f. not-refused n (sym e ∙ f));
-    met = λ path. false_from_ne_true _ (λ f. not-refused n (sym e ∙ refuses path (Some lower) upper (is_sound-layable upper layable) f));
-  }
+  laid = λ path. ap (λ l. laying_at l path) (sym e)
+      ∙ lay-laid path (Some lower) upper (fit-is_resolved lower resolved).plain (is_sound-layable upper layable) (λ f. not-refused n (sym e ∙ f));
+  met = λ path. false_from_ne_true _ (λ f. not-refused n (sym e ∙ refuses path (Some lower) upper (is_sound-layable upper layable) f));
+}
 
 pub is-refused : (lower upper : Node) → is_layable upper ≡ true → laid (Some lower) upper ≡ refused → IsRefused lower upper
 is-refused lower upper layable e = refused-path (Some lower) upper (is_sound-layable upper layable) e

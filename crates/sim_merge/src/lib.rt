@@ -22,6 +22,8 @@ mod library;
 mod merge;
 mod operation;
 mod resolve;
+#[cfg(test)]
+mod tests;
 mod words;
 
 pub use chains::names_differ;

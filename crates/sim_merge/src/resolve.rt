@@ -37,7 +37,11 @@ impl Library {
 }
 
 // The resolved tree of each template, in order.
-fn trees_of(alloc: Global, sources: &[Source], parents: &[Option<usize>]) -> Result<Vec<Tree>, MergeFault>
+fn trees_of(
+    alloc: Global,
+    sources: &[Source],
+    parents: &[Option<usize>],
+) -> Result<Vec<Tree>, MergeFault>
     requires few { length parents.now ≤ 256 }
     requires forest { IsForest parents.now }
     requires same { length sources.now ≡ length parents.now }
@@ -78,7 +82,13 @@ fn taken(alloc: Global, kept: Vec<Option<Tree>>) -> Result<Vec<Tree>, OutOfMemor
 }
 
 // Resolves a template, or refuses it by its number.
-fn keep_or_refuse(alloc: Global, sources: &[Source], parents: &[Option<usize>], kept: &mut Vec<Option<Tree>>, number: usize) -> Result<(), MergeFault>
+fn keep_or_refuse(
+    alloc: Global,
+    sources: &[Source],
+    parents: &[Option<usize>],
+    kept: &mut Vec<Option<Tree>>,
+    number: usize,
+) -> Result<(), MergeFault>
     requires few { length parents.now ≤ 256 }
     requires number { number < length parents.now }
     requires forest { IsForest parents.now }
@@ -102,7 +112,13 @@ fn keep_or_refuse(alloc: Global, sources: &[Source], parents: &[Option<usize>], 
 
 // Resolves a template and all that it inherits, unless that is done, and keeps the results.
 #[cycle(keeping)]
-fn keep(alloc: Global, sources: &[Source], parents: &[Option<usize>], kept: &mut Vec<Option<Tree>>, number: usize) -> Result<(), OverlayFault>
+fn keep(
+    alloc: Global,
+    sources: &[Source],
+    parents: &[Option<usize>],
+    kept: &mut Vec<Option<Tree>>,
+    number: usize,
+) -> Result<(), OverlayFault>
     requires number { number < length parents.now }
     requires forest { IsForest parents.now }
     requires same { length sources.now ≡ length parents.now }
@@ -134,7 +150,13 @@ fn has(kept: &[Option<Tree>], number: usize) -> bool
 
 // The tree of a template, after all that it inherits was resolved and kept.
 #[cycle(keeping)]
-fn resolved(alloc: Global, sources: &[Source], parents: &[Option<usize>], kept: &mut Vec<Option<Tree>>, number: usize) -> Result<Tree, OverlayFault>
+fn resolved(
+    alloc: Global,
+    sources: &[Source],
+    parents: &[Option<usize>],
+    kept: &mut Vec<Option<Tree>>,
+    number: usize,
+) -> Result<Tree, OverlayFault>
     requires number { number < length parents.now }
     requires forest { IsForest parents.now }
     requires same { length sources.now ≡ length parents.now }
@@ -154,7 +176,12 @@ fn resolved(alloc: Global, sources: &[Source], parents: &[Option<usize>], kept: 
 }
 
 // The tree of a template without a parent.
-fn over_nothing(alloc: Global, sources: &[Source], parents: &[Option<usize>], number: usize) -> Result<Tree, OverlayFault>
+fn over_nothing(
+    alloc: Global,
+    sources: &[Source],
+    parents: &[Option<usize>],
+    number: usize,
+) -> Result<Tree, OverlayFault>
     requires number { number < length sources.now }
     requires layable { list_all is_layable (roots_in (origins_of sources.now)) ≡ true }
     requires first { slice_index_or parents.now number None ≡ None }
@@ -164,7 +191,14 @@ fn over_nothing(alloc: Global, sources: &[Source], parents: &[Option<usize>], nu
 }
 
 // The tree of a template whose parent's tree is kept.
-fn over_parent(alloc: Global, sources: &[Source], parents: &[Option<usize>], kept: &[Option<Tree>], number: usize, parent: usize) -> Result<Tree, OverlayFault>
+fn over_parent(
+    alloc: Global,
+    sources: &[Source],
+    parents: &[Option<usize>],
+    kept: &[Option<Tree>],
+    number: usize,
+    parent: usize,
+) -> Result<Tree, OverlayFault>
     requires number { number < length sources.now }
     requires layable { list_all is_layable (roots_in (origins_of sources.now)) ≡ true }
     requires parent { slice_index_or parents.now number None ≡ Some parent }

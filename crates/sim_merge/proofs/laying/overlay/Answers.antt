@@ -29,5 +29,5 @@ returns-in_err-tree-clause-bad c =
     let upper = node_of c.args.upper.now in
     let fault = c.in_err-tree.field-0.0 in
     let told : IfBadOp fault (IsRefused lower upper) =
-        IfBadOp-weaker fault _ _ (λ e. is-refused lower upper c.requires.upper (laid-unmarked (Some lower) upper (mark_of-layable upper c.requires.upper) ∙ e)) c.in_err-tree.ensures in
+    IfBadOp-weaker fault _ _ (λ e. is-refused lower upper c.requires.upper (laid-unmarked (Some lower) upper (mark_of-layable upper c.requires.upper) ∙ e)) c.in_err-tree.ensures in
     search rules

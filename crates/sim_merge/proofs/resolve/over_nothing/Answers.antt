@@ -14,5 +14,5 @@ returns c =
     let own = node_of c.own_at.result.now in
     IsTreeOf-same c.overlay.result _ _
     (chain_root-first c.args.parents.now (roots_in (origins_of c.args.sources.now)) c.args.number own c.requires.first c.own_at.ensures.own
-        ∙ ap (λ lower. laid (Some lower) own) (sym c.bare.ensures))
+    ∙ ap (λ lower. laid (Some lower) own) (sym c.bare.ensures))
     c.overlay.ensures.laid

@@ -16,5 +16,5 @@ pub returns : goal.returns
 returns c =
     IsTreeOf-same c.overlay.result _ _
     (chain_root-parent c.args.parents.now (roots_in (origins_of c.args.sources.now)) c.args.number c.args.parent (node_of c.tree_at.result.now) (node_of c.own_at.result.now)
-        c.requires.ended c.requires.parent (c.requires.kept.trees c.args.parent c.tree_at.result.now c.tree_at.ensures) c.own_at.ensures.own)
+    c.requires.ended c.requires.parent (c.requires.kept.trees c.args.parent c.tree_at.result.now c.tree_at.ensures) c.own_at.ensures.own)
     c.overlay.ensures.laid

@@ -8,10 +8,10 @@ pub loop-slot-preserved-in-Continue-1 : goal.loop-slot-preserved-in-Continue-1
 loop-slot-preserved-in-Continue-1 c =
     let past = filter_map (λ slot. slot) c.loop-slot.yielded in
     c.in_ok-push.ensures.items ∙ ap (λ ts. ts ++ c.in-Some-slot.tree ∷ []) c.loop-slot.invariant
-        ∙ ap (λ s. past ++ cons_option s []) (sym c.in-Some-slot.is) ∙ sym (filter_map-push c.loop-slot.yielded c.in-Some.slot)
+    ∙ ap (λ s. past ++ cons_option s []) (sym c.in-Some-slot.is) ∙ sym (filter_map-push c.loop-slot.yielded c.in-Some.slot)
 
 pub loop-slot-preserved : goal.loop-slot-preserved
 loop-slot-preserved c =
     let past = filter_map (λ slot. slot) c.loop-slot.yielded in
     c.loop-slot.invariant ∙ sym (append-nil past)
-        ∙ ap (λ s. past ++ cons_option s []) (sym c.in_default.is) ∙ sym (filter_map-push c.loop-slot.yielded c.in-Some.slot)
+    ∙ ap (λ s. past ++ cons_option s []) (sym c.in_default.is) ∙ sym (filter_map-push c.loop-slot.yielded c.in-Some.slot)
