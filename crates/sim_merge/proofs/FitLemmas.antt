@@ -1,12 +1,10 @@
 -- A sound tree laid over a resolved one is resolved: it ascends by name, has no marks, and has no more levels.
-use Rattle.std.proofs.Common.{◌≡◌, ℕ, zero, suc, ◌+◌, ◌<◌, ◌≤◌, Bool, true, false, ◌&&◌, max, List, Option, Some, None, refl, sym, ap, ◌∙◌, arith, true≢false, if◌then◌else◌, cond}
+use Rattle.std.proofs.Common.{◌≡◌, ℕ, zero, suc, ◌≤◌, Bool, true, false, ◌&&◌, List, Option, Some, None, refl, arith, if◌then◌else◌}
 use Rattle.std.specs.Str.{bytes_eq}
-use Rattle.sim_tree.specs.declared.tree.TreeMark.{TreeMark}
 use Rattle.sim_tree.specs.declared.tree.TreeMark.TheVariants.{Disable, Replace, Merge, Add, Mul, Tokens}
 use Rattle.sim_tree.specs.Trees.{Node, Children, node, child, no_children, under, value_of, child_named, is_before, is_least, bears, is_sound, are_sound, is_plain, are_plain, levels, levels_under}
 use Rattle.sim_merge.specs.Values.{Value, value_over, sum_of, product_of, words_over}
 use Rattle.sim_merge.specs.Laying.{Laying, refused, absent, there, laid, laid_under, lower_value, lower_children, before, behind, followed_by, with_lower, with_laid, over_children, with_value}
-use Rattle.sim_merge.proofs.NameOrder.{is_before-trans}
 use Rattle.sim_merge.proofs.ChildrenLemmas.{and_left, and_right, and_both, is_least-before, is_least-rest, is_sound-first, are_sound-rest}
 
 -- ---- what a resolved tree meets, with so many levels at most

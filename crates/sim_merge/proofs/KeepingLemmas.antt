@@ -1,8 +1,8 @@
 -- Trees that are kept while templates are resolved.
-use Rattle.std.proofs.Common.{◌≡◌, ℕ, zero, suc, ◌+◌, ◌<◌, ◌≤◌, ◌≢◌, nat_eq, Bool, true, false, ◌&&◌, List, [], ◌∷◌, ◌++◌, length, map, get_or, set, position, Option, Some, None, Result, Ok, Err, refl, sym, ap, ◌∙◌, arith, subst, replicate, add-one, zero-add}
+use Rattle.std.proofs.Common.{◌≡◌, ℕ, zero, suc, ◌+◌, ◌<◌, ◌≢◌, nat_eq, Bool, true, false, List, [], ◌∷◌, ◌++◌, length, map, get_or, set, position, Option, Some, None, Result, refl, sym, ap, ◌∙◌, arith, subst, replicate, zero-add}
 use Rattle.std.specs.Prelude.{slice_get, filter_map, option_and_then, option_map}
 use Rattle.std.specs.List.{list_all, range_with_len, cons_option}
-use Rattle.std.proofs.lemmas.List.{length-map, length-set, length-replicate, get_or-map, get_or-set_same, get_or-set_other, get_or_default}
+use Rattle.std.proofs.lemmas.List.{length-map, length-set, length-replicate, get_or-map, get_or-set_same, get_or-set_other}
 use Rattle.std.proofs.lemmas.Option.{slice_get-get_or}
 use Rattle.std.proofs.lemmas.List.Elements.{filter_map-append}
 use Rattle.std.proofs.lemmas.Bool.Decides.{nat_tests}
@@ -15,9 +15,9 @@ use Rattle.sim_tree.specs.Sources.{Origin, origin_of}
 use Rattle.sim_merge.specs.declared.fault.MergeFault.{MergeFault}
 use Rattle.sim_merge.specs.declared.fault.MergeFault.TheVariants as merge
 use Rattle.sim_merge.specs.declared.fault.OverlayFault.{OverlayFault}
-use Rattle.sim_merge.specs.Faults.{IfBadOp, IfRefusal}
+use Rattle.sim_merge.specs.Faults.{IfRefusal}
 use Rattle.sim_merge.specs.Libraries.{is_resolved, is_layable}
-use Rattle.sim_merge.specs.Laying.{Laying, refused, absent, there, laid}
+use Rattle.sim_merge.specs.Laying.{Laying, refused, there, laid}
 use Rattle.sim_merge.specs.Resolution.{origins_of, names_in, name_in, parents_in, parent_among, roots_in, root_in, bare, members, is_endless, inherited, chain_root, layings, is_missing, root_there, root_refusal}
 use Rattle.sim_merge.specs.Merging.{IsTreeOf}
 use Rattle.sim_merge.specs.Keeping.{AreWithin, Has, IsKept, KeepsAll, AreResolved}

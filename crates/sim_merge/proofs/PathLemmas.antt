@@ -1,5 +1,5 @@
 -- What is laid over a tree has at each path what the map from paths says.
-use Rattle.std.proofs.Common.{◌≡◌, ℕ, Bool, true, false, ◌&&◌, List, [], ◌∷◌, Option, Some, None, refl, sym, ap, ◌∙◌, subst, true≢false, if◌then◌else◌, cond}
+use Rattle.std.proofs.Common.{◌≡◌, ℕ, Bool, true, false, List, [], ◌∷◌, Option, Some, None, refl, sym, ap, ◌∙◌, subst, true≢false, if◌then◌else◌}
 use Rattle.std.specs.Prelude.{is_some, is_none}
 use Rattle.std.specs.Str.{bytes_eq}
 use Rattle.std.proofs.lemmas.Bool.{cond-true, cond-false, false_from_ne_true}
@@ -7,11 +7,11 @@ use Rattle.std.proofs.Math.Path.{fun_ext}
 use Rattle.std.proofs.lemmas.Slice.Eq.{bytes_eq-Decides}
 use Rattle.sim_tree.specs.declared.tree.TreeMark.{TreeMark}
 use Rattle.sim_tree.specs.declared.tree.TreeMark.TheVariants.{Disable, Replace, Merge, Add, Mul, Tokens}
-use Rattle.sim_tree.specs.Trees.{Node, Children, Entry, node, child, no_children, at, at_child, child_named, value_of, mark_of, under, is_before, is_least, bears, is_sound, are_sound, is_plain, are_plain}
+use Rattle.sim_tree.specs.Trees.{Node, Children, Entry, node, child, no_children, at, at_child, child_named, value_of, under, is_before, is_least, is_sound, are_sound, is_plain, are_plain}
 use Rattle.sim_merge.specs.Values.{Value, value_over, sum_of, product_of, words_over}
 use Rattle.sim_merge.specs.Laying.{Laying, refused, absent, there, laid, laid_under, lower_value, lower_children, before, behind, followed_by, with_lower, with_laid, over_children, with_value}
-use Rattle.sim_merge.specs.Overlay.{Path, Paths, at_if, below, below_if, root_value, root_mark, plain, root_with, root_by, below_by, unmarked_below, lay, paths_if, laying_at}
-use Rattle.sim_merge.proofs.NameOrder.{is_before-asym, is_before-irrefl, bytes_eq-before, bytes_eq-behind, is_before-total}
+use Rattle.sim_merge.specs.Overlay.{Path, Paths, at_if, below, below_if, root_value, root_mark, plain, root_with, root_by, unmarked_below, lay, paths_if, laying_at}
+use Rattle.sim_merge.proofs.NameOrder.{is_before-asym, is_before-irrefl, is_before-total}
 use Rattle.sim_merge.proofs.ChildrenLemmas.{and_left, and_right, is_least-before, is_least-rest, is_sound-first, are_sound-rest, child_named-least}
 use Rattle.sim_merge.proofs.FitLemmas.{IfNode}
 

@@ -1,22 +1,21 @@
 -- What is laid over a tree is refused exactly where an operation at a met path is.
-use Rattle.std.proofs.Common.{◌≡◌, ℕ, Bool, true, false, ◌&&◌, List, [], ◌∷◌, Option, Some, None, refl, sym, ap, ◌∙◌, subst, inl, inr, ⊎_elim, ◌⊎◌, true≢false, if◌then◌else◌, cond}
-use Rattle.std.specs.Prelude.{is_some, is_none}
+use Rattle.std.proofs.Common.{◌≡◌, ℕ, Bool, true, false, ◌&&◌, List, [], ◌∷◌, Option, Some, None, refl, sym, ap, ◌∙◌, subst, inl, inr, ⊎_elim, ◌⊎◌, true≢false}
+use Rattle.std.specs.Prelude.{is_none}
 use Rattle.std.specs.Str.{bytes_eq}
 use Rattle.std.proofs.Math.Path.{fun_ext}
 use Rattle.std.proofs.lemmas.Bool.{cond-true, cond-false, false_from_ne_true}
 use Rattle.std.proofs.lemmas.Slice.Eq.{bytes_eq-Decides}
-use Rattle.sim_tree.specs.declared.tree.TreeMark.{TreeMark}
 use Rattle.sim_tree.specs.declared.tree.TreeMark.TheVariants.{Disable, Replace, Merge, Add, Mul, Tokens}
-use Rattle.sim_tree.specs.Trees.{Node, Children, Entry, node, child, no_children, at, at_child, child_named, value_of, under, is_before, is_least, bears, is_sound, are_sound}
-use Rattle.sim_merge.specs.Values.{Value, value_over, sum_of, product_of, words_over}
+use Rattle.sim_tree.specs.Trees.{Node, Children, node, child, no_children, at, at_child, child_named, value_of, under, is_before, is_least, is_sound, are_sound}
+use Rattle.sim_merge.specs.Values.{Value, value_over, sum_of, product_of}
 use Rattle.sim_merge.specs.Laying.{Laying, refused, absent, there, laid, laid_under, lower_value, lower_children, before, behind, with_lower, with_laid, over_children, with_value}
-use Rattle.sim_merge.specs.Overlay.{HasLaid, IsRefused, laying_at, Path, Paths, at_if, below_if, root_value, paths_if, is_met, is_bad, lower_at, is_refused_at}
+use Rattle.sim_merge.specs.Overlay.{HasLaid, IsRefused, laying_at, Path, Paths, at_if, below_if, paths_if, is_bad, lower_at, is_refused_at}
 use Rattle.sim_merge.proofs.NameOrder.{bytes_eq-before}
 use Rattle.sim_merge.proofs.ChildrenLemmas.{and_left, and_right, is_least-rest, is_sound-first, are_sound-rest}
 use Rattle.sim_merge.proofs.FitLemmas.{IfNode}
 use Rattle.sim_merge.specs.Libraries.{is_resolved, is_layable}
 use Rattle.sim_merge.proofs.ResolvedLemmas.{fit-is_resolved, is_sound-layable}
-use Rattle.sim_merge.proofs.PathLemmas.{lay-laid, found, merged, unrefused, named-laid_under, at_child-named, below_if-paths_if, root_value-paths_if, sound-named, child_named-behind}
+use Rattle.sim_merge.proofs.PathLemmas.{lay-laid, merged, unrefused, named-laid_under, at_child-named, below_if-paths_if, root_value-paths_if, sound-named, child_named-behind}
 
 -- ---- below a name
 

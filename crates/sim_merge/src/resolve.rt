@@ -1,7 +1,7 @@
 //! Templates with all that they inherit: each tree is laid over that of its parent, parents before children.
 
-ghost use Rattle.std.specs.Prelude.{◌≡◌, ◌<◌, ◌≤◌, true, false, None, Some, Ok, Err, IsTrue, IfOk, IfErr, OnOk, MatchResult, length, replicate, slice_index_or, slice_get, filter_map};
-ghost use Rattle.std.specs.List.{list_all};
+ghost use Rattle.std.specs.Prelude.{[], ◌++◌, ◌≡◌, ◌<◌, ◌≤◌, true, false, None, Some, Ok, Err, IsTrue, IfOk, IfErr, OnOk, MatchResult, length, replicate, slice_index_or, slice_get, filter_map};
+ghost use Rattle.std.specs.List.{list_all, cons_option};
 ghost use Rattle.sim_tree.specs.Trees.{node_of};
 ghost use Rattle.sim_merge.specs.Faults.{IfBadOp, IfRefusal};
 ghost use Rattle.sim_merge.specs.Libraries.{is_layable};
@@ -74,11 +74,22 @@ fn taken(alloc: Global, kept: Vec<Option<Tree>>) -> Result<Vec<Tree>, OutOfMemor
 {
     let mut trees = Vec::new(alloc);
     for slot in kept {
-        if let Some(tree) = slot {
-            trees.push(tree)?;
-        }
+        push_if(&mut trees, slot)?;
     }
     Ok(trees)
+}
+
+// Adds a tree, if there is one.
+fn push_if(trees: &mut Vec<Tree>, slot: Option<Tree>) -> Result<(), OutOfMemory>
+    ensures { OnOk result (trees.new.items ≡ trees.old.items ++ cons_option slot []) }
+{
+    match slot {
+        Some(tree) => {
+            trees.push(tree)?;
+            Ok(())
+        }
+        None => Ok(()),
+    }
 }
 
 // Resolves a template, or refuses it by its number.

@@ -1,7 +1,6 @@
-use Rattle.std.proofs.Common.{◌≡◌, ◌<◌, ◌≤◌, ℕ, Bool, true, false, length, map, get_or, None, [], sym, ap, ◌∙◌, string_bytes, position, rules, arith, below_more}
+use Rattle.std.proofs.Common.{◌≡◌, ◌<◌, false, length, map, get_or, None, [], sym, ap, ◌∙◌, string_bytes, arith, below_more}
 use Rattle.std.proofs.lemmas.List.{length-map, get_or-map}
 use Rattle.sim_tree.specs.Sources.{Origin, origin_of}
-use Rattle.sim_tree.specs.Trees.{node, no_children}
 use Rattle.sim_merge.specs.Resolution.{origins_of, is_orphan, bare}
 use Rattle.sim_merge.proofs.ResolutionLemmas.{position-at, position-none}
 use Rattle.sim_merge.proofs.chains.first_orphan.Goals as goal

@@ -1,4 +1,4 @@
-use Rattle.std.proofs.Common.{◌≡◌, ◌+◌, ◌-◌, ◌<◌, ℕ, [], ◌∷◌, ◌++◌, get_or, append_assoc, None, Some, Option, sym, ap, ◌∙◌, arith}
+use Rattle.std.proofs.Common.{◌≡◌, ◌+◌, ◌-◌, [], ◌∷◌, ◌++◌, get_or, append_assoc, None, Some, sym, ap, ◌∙◌, arith}
 use Rattle.sim_merge.specs.Resolution.{members, chain_from}
 use Rattle.sim_merge.proofs.ResolutionLemmas.{chain_from-next}
 use Rattle.sim_merge.proofs.chains.put_members.Goals as goal

@@ -1,4 +1,3 @@
-use Rattle.std.proofs.Common.{◌≡◌, true, Some, sym, ap, ◌∙◌}
 use Rattle.sim_tree.specs.Trees.{node_of}
 use Rattle.sim_merge.specs.Resolution.{origins_of, roots_in, members, chain_root}
 use Rattle.sim_merge.proofs.ResolvedLemmas.{there-resolved, chain_root-resolved}
