@@ -4,7 +4,7 @@ use Rattle.std.specs.Str.{bytes_eq}
 use Rattle.std.proofs.lemmas.Bool.{cond-true, cond-false}
 use Rattle.std.proofs.lemmas.Slice.Eq.{bytes_eq-Decides}
 use Rattle.sim_tree.specs.Trees.{Node, Children, child, no_children, children_of, child_named, is_before, is_least, is_sound, are_sound}
-use Rattle.sim_merge.specs.Laying.{Laying, refused, absent, there, before, behind, followed_by, with_lower, with_laid}
+use Rattle.sim_merge.specs.Laying.{there, before, behind, followed_by, with_lower, with_laid}
 use Rattle.sim_merge.proofs.NameOrder.{is_before-trans, is_before-asym, is_before-irrefl, bytes_eq-before, bytes_eq-behind, is_before-total}
 
 -- ---- one behind another

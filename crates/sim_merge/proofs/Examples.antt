@@ -1,5 +1,5 @@
 -- Worked overlays and chains, computed from the definitions.
-use Rattle.std.proofs.Common.{◌≡◌, ℕ, List, [], ◌∷◌, Option, Some, None, Ok, Err, true, false, refl}
+use Rattle.std.proofs.Common.{◌≡◌, ℕ, List, [], ◌∷◌, Option, Some, None, Err, true, false, refl}
 use Rattle.std.specs.Prelude.{codes, map}
 use Rattle.std.specs.List.{range_with_len}
 use Rattle.std.specs.Fmt.{digits}
@@ -7,10 +7,10 @@ use Rattle.sim_tree.specs.declared.tree.TreeMark.{TreeMark}
 use Rattle.sim_tree.specs.declared.tree.TreeMark.TheVariants.{Disable, Replace, Merge, Add, Mul, Tokens}
 use Rattle.sim_tree.specs.Trees.{Node, Children, node, child, no_children}
 use Rattle.sim_tree.specs.Sources.{Origin}
-use Rattle.sim_merge.specs.declared.fault.MergeFault.TheVariants.{NoParent, Cycle, ChainTooLong, BadOp}
-use Rattle.sim_merge.specs.Values.{text_by, words_over, sum_of, product_of}
-use Rattle.sim_merge.specs.Laying.{refused, absent, there, laid}
-use Rattle.sim_merge.specs.Resolution.{resolution_of, chain_from, members, is_endless, bare}
+use Rattle.sim_merge.specs.declared.fault.MergeFault.TheVariants.{NoParent, Cycle, BadOp}
+use Rattle.sim_merge.specs.Values.{text_by, words_over}
+use Rattle.sim_merge.specs.Laying.{refused, there, laid}
+use Rattle.sim_merge.specs.Resolution.{resolution_of, members, is_endless, bare}
 
 abbrev leaf : List ℕ → Node
 leaf text = node (Some text) None no_children

@@ -1,12 +1,10 @@
 -- A sound tree laid over a resolved one is resolved: it ascends by name, has no marks, and has no more levels.
-use Rattle.std.proofs.Common.{◌≡◌, ℕ, zero, suc, ◌+◌, ◌<◌, ◌≤◌, Bool, true, false, ◌&&◌, max, List, Option, Some, None, refl, sym, ap, ◌∙◌, arith, true≢false, if◌then◌else◌, cond}
+use Rattle.std.proofs.Common.{◌≡◌, ℕ, zero, suc, ◌≤◌, Bool, true, false, ◌&&◌, List, Option, Some, None, refl, arith, if◌then◌else◌}
 use Rattle.std.specs.Str.{bytes_eq}
-use Rattle.sim_tree.specs.declared.tree.TreeMark.{TreeMark}
 use Rattle.sim_tree.specs.declared.tree.TreeMark.TheVariants.{Disable, Replace, Merge, Add, Mul, Tokens}
 use Rattle.sim_tree.specs.Trees.{Node, Children, node, child, no_children, under, value_of, child_named, is_before, is_least, bears, is_sound, are_sound, is_plain, are_plain, levels, levels_under}
 use Rattle.sim_merge.specs.Values.{Value, value_over, sum_of, product_of, words_over}
 use Rattle.sim_merge.specs.Laying.{Laying, refused, absent, there, laid, laid_under, lower_value, lower_children, before, behind, followed_by, with_lower, with_laid, over_children, with_value}
-use Rattle.sim_merge.proofs.NameOrder.{is_before-trans}
 use Rattle.sim_merge.proofs.ChildrenLemmas.{and_left, and_right, and_both, is_least-before, is_least-rest, is_sound-first, are_sound-rest}
 
 -- ---- what a resolved tree meets, with so many levels at most
@@ -53,10 +51,10 @@ fit-node k value cs fit = record { sound = fit.sound; plain = fit.plain; few = o
 
 fit-under-node : (k : ℕ) (n : Node) → IsFit (suc k) n → AreFit k (under n)
 fit-under-node k (node value mark cs) fit = record {
-    sound = and_right (bears mark value cs) (are_sound cs) fit.sound;
-    plain = and_right _ (are_plain cs) fit.plain;
-    few = omega (arith, fit.few);
-  }
+  sound = and_right (bears mark value cs) (are_sound cs) fit.sound;
+  plain = and_right _ (are_plain cs) fit.plain;
+  few = omega (arith, fit.few);
+}
 
 fit-lower : (k : ℕ) (lower : Option Node) → IfNode (IsFit (suc k)) lower → AreFit k (lower_children lower)
 fit-lower k None fit = none_fit k
@@ -64,24 +62,24 @@ fit-lower k (Some n) fit = fit-under-node k n fit
 
 fit-first : (k : ℕ) (name : List ℕ) (n : Node) (cs : Children) → AreFit k (child name n cs) → IsFit k n
 fit-first k name n cs fit = record {
-    sound = is_sound-first name n cs fit.sound;
-    plain = and_left (is_plain n) (are_plain cs) fit.plain;
-    few = omega (arith, fit.few);
-  }
+  sound = is_sound-first name n cs fit.sound;
+  plain = and_left (is_plain n) (are_plain cs) fit.plain;
+  few = omega (arith, fit.few);
+}
 
 fit-rest : (k : ℕ) (name : List ℕ) (n : Node) (cs : Children) → AreFit k (child name n cs) → AreFit k cs
 fit-rest k name n cs fit = record {
-    sound = are_sound-rest name n cs fit.sound;
-    plain = and_right (is_plain n) (are_plain cs) fit.plain;
-    few = omega (arith, fit.few);
-  }
+  sound = are_sound-rest name n cs fit.sound;
+  plain = and_right (is_plain n) (are_plain cs) fit.plain;
+  few = omega (arith, fit.few);
+}
 
 fit-child : (k : ℕ) (name : List ℕ) (n : Node) (cs : Children) → IsFit k n → AreFit k cs → is_least name cs ≡ true → AreFit k (child name n cs)
 fit-child k name n cs fit rest least = record {
-    sound = and_both (is_least name cs) (is_sound n && are_sound cs) least (and_both (is_sound n) (are_sound cs) fit.sound rest.sound);
-    plain = and_both (is_plain n) (are_plain cs) fit.plain rest.plain;
-    few = omega (arith, fit.few, rest.few);
-  }
+  sound = and_both (is_least name cs) (is_sound n && are_sound cs) least (and_both (is_sound n) (are_sound cs) fit.sound rest.sound);
+  plain = and_both (is_plain n) (are_plain cs) fit.plain rest.plain;
+  few = omega (arith, fit.few, rest.few);
+}
 
 -- ---- the children before and behind a name
 
@@ -160,11 +158,11 @@ step : (k : ℕ) (name : List ℕ) (lower os : Children) (o : Node) (laying : La
 step k name lower os o refused more fit ahead here rest = tt
 step k name lower os o absent None fit ahead here rest = tt
 step k name lower os o absent (Some cs) fit ahead here rest = record {
-    fit = fit-followed_by k name (before name lower) cs (fit-before k name lower fit) (all_before-before name lower) rest.fit
-        (λ x e. is_least-before x name cs e (rest.least name (is_least-behind name lower) ahead));
-    least = λ x e f. is_least-followed_by x (before name lower) cs (is_least-before-name x name lower e)
-        (rest.least x (is_least-behind-name x name lower e) (and_right (is_before x name) (is_least x os) f));
-  }
+  fit = fit-followed_by k name (before name lower) cs (fit-before k name lower fit) (all_before-before name lower) rest.fit
+      (λ x e. is_least-before x name cs e (rest.least name (is_least-behind name lower) ahead));
+  least = λ x e f. is_least-followed_by x (before name lower) cs (is_least-before-name x name lower e)
+      (rest.least x (is_least-behind-name x name lower e) (and_right (is_before x name) (is_least x os) f));
+}
 step k name lower os o (there n) None fit ahead here rest = tt
 step k name lower os o (there n) (Some cs) fit ahead here rest =
     let least_here : is_least name cs ≡ true = rest.least name (is_least-behind name lower) ahead in
@@ -174,7 +172,7 @@ step k name lower os o (there n) (Some cs) fit ahead here rest =
           (λ x e. and_both (is_before x name) (is_least x cs) e (is_least-before x name cs e least_here));
       least = λ x e f. is_least-followed_by x (before name lower) (child name n cs) (is_least-before-name x name lower e)
           (and_both (is_before x name) (is_least x cs) (and_left (is_before x name) (is_least x os) f)
-              (rest.least x (is_least-behind-name x name lower e) (and_right (is_before x name) (is_least x os) f)));
+          (rest.least x (is_least-behind-name x name lower e) (and_right (is_before x name) (is_least x os) f)));
     }
 
 over-fit : (k : ℕ) (value : Value) (lower os : Children) (laying : Option Children) → IfLaid k lower os laying → IfThere (IsFit (suc k)) (over_children value laying)

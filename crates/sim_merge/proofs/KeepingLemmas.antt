@@ -1,8 +1,8 @@
 -- Trees that are kept while templates are resolved.
-use Rattle.std.proofs.Common.{◌≡◌, ℕ, zero, suc, ◌+◌, ◌<◌, ◌≤◌, ◌≢◌, nat_eq, Bool, true, false, ◌&&◌, List, [], ◌∷◌, ◌++◌, length, map, get_or, set, position, Option, Some, None, Result, Ok, Err, refl, sym, ap, ◌∙◌, arith, subst, replicate, add-one, zero-add}
+use Rattle.std.proofs.Common.{◌≡◌, ℕ, zero, suc, ◌+◌, ◌<◌, ◌≢◌, nat_eq, Bool, true, false, List, [], ◌∷◌, ◌++◌, length, map, get_or, set, position, Option, Some, None, Result, refl, sym, ap, ◌∙◌, arith, subst, replicate, zero-add}
 use Rattle.std.specs.Prelude.{slice_get, filter_map, option_and_then, option_map}
 use Rattle.std.specs.List.{list_all, range_with_len, cons_option}
-use Rattle.std.proofs.lemmas.List.{length-map, length-set, length-replicate, get_or-map, get_or-set_same, get_or-set_other, get_or_default}
+use Rattle.std.proofs.lemmas.List.{length-map, length-set, length-replicate, get_or-map, get_or-set_same, get_or-set_other}
 use Rattle.std.proofs.lemmas.Option.{slice_get-get_or}
 use Rattle.std.proofs.lemmas.List.Elements.{filter_map-append}
 use Rattle.std.proofs.lemmas.Bool.Decides.{nat_tests}
@@ -15,13 +15,13 @@ use Rattle.sim_tree.specs.Sources.{Origin, origin_of}
 use Rattle.sim_merge.specs.declared.fault.MergeFault.{MergeFault}
 use Rattle.sim_merge.specs.declared.fault.MergeFault.TheVariants as merge
 use Rattle.sim_merge.specs.declared.fault.OverlayFault.{OverlayFault}
-use Rattle.sim_merge.specs.Faults.{IfBadOp, IfRefusal}
+use Rattle.sim_merge.specs.Faults.{IfRefusal}
 use Rattle.sim_merge.specs.Libraries.{is_resolved, is_layable}
-use Rattle.sim_merge.specs.Laying.{Laying, refused, absent, there, laid}
+use Rattle.sim_merge.specs.Laying.{Laying, refused, there, laid}
 use Rattle.sim_merge.specs.Resolution.{origins_of, names_in, name_in, parents_in, parent_among, roots_in, root_in, bare, members, is_endless, inherited, chain_root, layings, is_missing, root_there, root_refusal}
 use Rattle.sim_merge.specs.Merging.{IsTreeOf}
 use Rattle.sim_merge.specs.Keeping.{AreWithin, Has, IsKept, KeepsAll, AreResolved}
-use Rattle.sim_merge.proofs.ChildrenLemmas.{and_both}
+use Rattle.sim_merge.proofs.ChildrenLemmas.{and_left, and_right, and_both}
 use Rattle.sim_merge.proofs.FitLemmas.{IfNode, IfThere}
 use Rattle.sim_merge.proofs.ResolvedLemmas.{IsGood, chain_root-resolved, there-resolved, if-all}
 use Rattle.sim_merge.proofs.ResolutionLemmas.{members-parent, members-first, position-map, position-number, position-no_number}
@@ -38,7 +38,7 @@ pub chain_root-parent : (parents : List (Option ℕ)) (roots : List Node) (numbe
     chain_root roots (members parents number) ≡ laid (Some lower) own
 chain_root-parent parents roots number parent lower own ended next below is =
     ap (chain_root roots) (members-parent parents number parent ended next)
-        ∙ ap (λ l. inherited l (slice_get roots number)) below ∙ ap (inherited (there lower)) is
+    ∙ ap (λ l. inherited l (slice_get roots number)) below ∙ ap (inherited (there lower)) is
 
 pub chain_root-refused : (parents : List (Option ℕ)) (roots : List Node) (number parent : ℕ) → is_endless (members parents number) ≡ false →
     get_or parents number None ≡ Some parent → chain_root roots (members parents parent) ≡ refused → chain_root roots (members parents number) ≡ refused
@@ -56,8 +56,8 @@ roots_in-at sources number source within is =
     let counted : number < length (origins_of sources) = omega (arith, length-map sources origin_of) in
     let all : number < length (roots_in (origins_of sources)) = omega (arith, length-map (origins_of sources) root_in) in
     slice_get-get_or (roots_in (origins_of sources)) number (node_of source.tree) all
-        ∙ ap Some (get_or-map root_in (origins_of sources) number (origin_of source) (node_of source.tree) counted
-            ∙ ap root_in (get_or-map origin_of sources number source (origin_of source) within) ∙ ap (λ (s : Source). node_of s.tree) (sym is))
+    ∙ ap Some (get_or-map root_in (origins_of sources) number (origin_of source) (node_of source.tree) counted
+    ∙ ap root_in (get_or-map origin_of sources number source (origin_of source) within) ∙ ap (λ (s : Source). node_of s.tree) (sym is))
 
 pub is_layable-at : (roots : List Node) (number : ℕ) (n : Node) → list_all is_layable roots ≡ true → slice_get roots number ≡ Some n → is_layable n ≡ true
 is_layable-at roots number n all is =
@@ -83,9 +83,9 @@ Has-set kept number tree within = record { tree = tree; is = get_or-set_same kep
 pub IsKept-set : (parents : List (Option ℕ)) (roots : List Node) (kept : List (Option Tree)) (number : ℕ) (tree : Tree) → number < length kept → IsKept parents roots kept →
     chain_root roots (members parents number) ≡ there (node_of tree) → IsKept parents roots (set kept number (Some tree))
 IsKept-set parents roots kept number tree within is new = record {
-    same = length-set kept number (Some tree) ∙ is.same;
-    trees = λ other t e. by other t e (nat_eq other number) refl;
-  }
+  same = length-set kept number (Some tree) ∙ is.same;
+  trees = λ other t e. by other t e (nat_eq other number) refl;
+}
   where
     some-same : (s t : Tree) → Some s ≡ Some t → s ≡ t
     some-same s t e = cc
@@ -101,9 +101,9 @@ IsKept-set parents roots kept number tree within is new = record {
 
 pub nothing-kept : (parents : List (Option ℕ)) (roots : List Node) (kept : List (Option Tree)) → kept ≡ replicate (length parents) None → IsKept parents roots kept
 nothing-kept parents roots kept is = record {
-    same = ap length is ∙ length-replicate (length parents) None;
-    trees = λ number tree e. absurd (differ tree (sym (ap (λ ks. get_or ks number None) is ∙ none (length parents) number) ∙ e));
-  }
+  same = ap length is ∙ length-replicate (length parents) None;
+  trees = λ number tree e. absurd (differ tree (sym (ap (λ ks. get_or ks number None) is ∙ none (length parents) number) ∙ e));
+}
   where
     differ : (tree : Tree) → None ≡ Some tree → ⊥
     differ tree e = cc
@@ -133,8 +133,8 @@ collected (None ∷ kept) a f has are good = absurd (differ (has 0 (omega arith)
     differ tree e = cc
 collected (Some tree ∷ kept) a f has are good =
     let rest = collected kept (a + 1) f
-        (λ k h. let there = has (suc k) (omega (arith, h)) in record { tree = there.tree; is = there.is })
-        (λ k t e. ap f (let same : a + 1 + k ≡ a + suc k = omega arith in same) ∙ are (suc k) t e) good in
+    (λ k h. let there = has (suc k) (omega (arith, h)) in record { tree = there.tree; is = there.is })
+    (λ k t e. ap f (let same : a + 1 + k ≡ a + suc k = omega arith in same) ∙ are (suc k) t e) good in
     let here : f a ≡ there (node_of tree) = ap f (let same : a ≡ a + 0 = omega arith in same) ∙ are 0 tree refl in
     record {
       count = ap suc rest.count;
@@ -147,7 +147,7 @@ pub all-collected : (parents : List (Option ℕ)) (roots : List Node) (kept : Li
     list_all is_layable roots ≡ true → trees ≡ filter_map (λ s. s) kept → AreResolved parents roots trees
 all-collected parents roots kept trees is has layable made =
     let all = collected kept 0 (λ n. chain_root roots (members parents n)) (λ k h. has k (omega (arith, is.same)))
-        (λ k t e. ap (λ n. chain_root roots (members parents n)) (zero-add k) ∙ is.trees k t e) (λ k. chain_root-resolved roots (members parents k) layable) in
+    (λ k t e. ap (λ n. chain_root roots (members parents n)) (zero-add k) ∙ is.trees k t e) (λ k. chain_root-resolved roots (members parents k) layable) in
     record {
       count = ap length made ∙ all.count ∙ is.same;
       is = ap (map node_of) made ∙ all.is ∙ ap (λ n. filter_map root_there (map (λ k. chain_root roots (members parents k)) (range_with_len 0 n))) is.same;
@@ -162,15 +162,15 @@ pub root_refusal-at : (parents : List (Option ℕ)) (roots : List Node) (kept : 
 root_refusal-at parents roots kept number within is has here =
     ap (option_map merge.BadOp)
     (position-map (λ n. chain_root roots (members parents n)) is_missing (range_with_len 0 (length parents))
-        ∙ position-number (λ n. is_missing (chain_root roots (members parents n))) (length parents) number within (ap is_missing here)
-            (λ k h. is_missing-kept parents roots kept is k (has k h)))
+    ∙ position-number (λ n. is_missing (chain_root roots (members parents n))) (length parents) number within (ap is_missing here)
+    (λ k h. is_missing-kept parents roots kept is k (has k h)))
 
 pub root_refusal-none : (parents : List (Option ℕ)) (roots : List Node) (kept : List (Option Tree)) → IsKept parents roots kept →
     ((k : ℕ) → k < length parents → Has kept k) → root_refusal (layings parents roots) ≡ None
 root_refusal-none parents roots kept is has =
     ap (option_map merge.BadOp)
     (position-map (λ n. chain_root roots (members parents n)) is_missing (range_with_len 0 (length parents))
-        ∙ position-no_number (λ n. is_missing (chain_root roots (members parents n))) (length parents) (λ k h. is_missing-kept parents roots kept is k (has k h)))
+    ∙ position-no_number (λ n. is_missing (chain_root roots (members parents n))) (length parents) (λ k h. is_missing-kept parents roots kept is k (has k h)))
 
 pub IfRefusal-weaker : (fault : MergeFault) (P Q : Type 0) → (P → Q) → IfRefusal fault P → IfRefusal fault Q
 IfRefusal-weaker (merge.NoParent index) P Q f p = f p
@@ -198,8 +198,17 @@ within-map f n bound (x ∷ xs) (suc i) r e = within-map f n bound xs i r e
 
 pub AreWithin-parents_in : (origins : List Origin) → AreWithin (parents_in origins)
 AreWithin-parents_in origins = record {
-    within = λ number parent e.
-        let small : parent < length (names_in origins) =
-            within-map (parent_among (names_in origins)) (length (names_in origins)) (λ o r f. parent_among-within (names_in origins) o.parent r f) origins number parent e in
-        omega (arith, length-map origins name_in, length-map origins (parent_among (names_in origins)));
-  }
+  within = λ number parent e.
+      let small : parent < length (names_in origins) =
+      within-map (parent_among (names_in origins)) (length (names_in origins)) (λ o r f. parent_among-within (names_in origins) o.parent r f) origins number parent e in
+      omega (arith, length-map origins name_in, length-map origins (parent_among (names_in origins)));
+}
+
+-- a source more whose tree may be laid
+pub layable-push : (sources : List Source) (source : Source) → list_all is_layable (roots_in (origins_of sources)) ≡ true → is_layable (node_of source.tree) ≡ true →
+    list_all is_layable (roots_in (origins_of (sources ++ source ∷ []))) ≡ true
+layable-push [] source all one = and_both (is_layable (node_of source.tree)) true one refl
+layable-push (s ∷ sources) source all one =
+    and_both (is_layable (node_of s.tree)) (list_all is_layable (roots_in (origins_of (sources ++ source ∷ []))))
+    (and_left (is_layable (node_of s.tree)) (list_all is_layable (roots_in (origins_of sources))) all)
+    (layable-push sources source (and_right (is_layable (node_of s.tree)) (list_all is_layable (roots_in (origins_of sources))) all) one)

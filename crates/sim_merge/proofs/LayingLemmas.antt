@@ -1,18 +1,18 @@
 -- The steps of an overlay, as steps of its definition.
-use Rattle.std.proofs.Common.{◌≡◌, ℕ, Bool, true, List, Option, Some, None, refl, sym, ap, ◌∙◌, subst}
+use Rattle.std.proofs.Common.{◌≡◌, ℕ, true, List, Option, Some, None, refl, sym, ap, ◌∙◌}
 use Rattle.sim_tree.specs.declared.tree.Tree.{Tree}
 use Rattle.sim_tree.specs.declared.tree.Child.{Child}
-use Rattle.sim_tree.specs.declared.tree.Child.TheOpen.{Tree-F, Child-F}
-use Rattle.sim_tree.specs.declared.tree.Child.TheViews.{out-Tree, roll-Tree, out-Child}
-use Rattle.sim_tree.specs.Trees.{Node, Children, node, child, no_children, node_of, nodes_of, named_of, under, value_of, child_named, are_sound}
+use Rattle.sim_tree.specs.declared.tree.Child.TheOpen.{Tree-F}
+use Rattle.sim_tree.specs.declared.tree.Child.TheViews.{out-Tree, roll-Tree}
+use Rattle.sim_tree.specs.Trees.{Node, Children, node, child, node_of, nodes_of, under, value_of, child_named, are_sound}
 use Rattle.sim_merge.specs.Values.{Value, value_over}
 use Rattle.sim_merge.specs.declared.fault.OverlayFault.{OverlayFault}
 use Rattle.sim_merge.specs.declared.fault.OverlayFault.TheVariants.{BadOp, OutOfMemory}
 use Rattle.sim_merge.specs.Faults.{IfBadOp}
-use Rattle.sim_merge.specs.Laying.{Laying, refused, absent, there, laid, laid_under, lower_value, lower_children, before, behind, followed_by, with_lower, with_laid, over_children}
+use Rattle.sim_merge.specs.Laying.{Laying, refused, there, laid, laid_under, lower_value, lower_children, before, behind, followed_by, with_lower, with_laid, over_children}
 use Rattle.sim_merge.specs.Merging.{IsPast, IsMerged, laid_unmarked}
 use Rattle.sim_merge.proofs.ChildrenLemmas.{with_lower-followed_by}
-use Rattle.sim_merge.proofs.NodeLemmas.{node_of-out, node_of-roll, named_of-out}
+use Rattle.sim_merge.proofs.NodeLemmas.{node_of-out, node_of-roll}
 
 pub IfBadOp-weaker : (fault : OverlayFault) (P Q : Type 0) → (P → Q) → IfBadOp fault P → IfBadOp fault Q
 IfBadOp-weaker BadOp P Q f p = f p

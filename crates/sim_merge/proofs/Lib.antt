@@ -11,3 +11,5 @@ pub mod ResolutionLemmas
 pub mod FitLemmas
 pub mod ResolvedLemmas
 pub mod KeepingLemmas
+pub mod PathLemmas
+pub mod RefusalLemmas

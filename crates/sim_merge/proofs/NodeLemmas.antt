@@ -1,8 +1,7 @@
 -- The nodes that lists of children in memory stand for.
-use Rattle.std.proofs.Common.{◌≡◌, ℕ, suc, ◌+◌, ◌-◌, ◌<◌, ◌≤◌, Bool, true, false, List, [], ◌∷◌, ◌++◌, length, map, take, drop, get_or, Option, Some, None, refl, sym, ap, ◌∙◌, subst, arith, rules}
+use Rattle.std.proofs.Common.{◌≡◌, ℕ, ◌+◌, ◌<◌, true, false, List, [], ◌∷◌, ◌++◌, length, map, drop, get_or, None, sym, ap, ◌∙◌, subst}
 use Rattle.std.specs.Str.{bytes_eq}
-use Rattle.std.proofs.lemmas.List.{at_drop_more, map-append, take_all}
-use Rattle.sim_base.specs.declared.name.Name.{Name}
+use Rattle.std.proofs.lemmas.List.{at_drop_more, map-append}
 use Rattle.sim_tree.specs.declared.tree.Tree.{Tree}
 use Rattle.sim_tree.specs.declared.tree.Child.{Child}
 use Rattle.sim_tree.specs.declared.tree.Child.TheOpen.{Tree-F, Child-F}
@@ -11,7 +10,7 @@ use Rattle.sim_tree.specs.declared.tree.Child.TheFolds.{fold_out-Tree, fold_out-
 use Rattle.sim_tree.specs.Trees.{Node, Children, node, child, no_children, node_of, named_of, nodes_of, children_of, child_step, node_step, child_named, is_before, is_sound, are_sound}
 use Rattle.sim_merge.specs.Laying.{before, behind, followed_by}
 use Rattle.sim_merge.specs.Merging.{IsPast}
-use Rattle.sim_merge.proofs.ChildrenLemmas.{children_of-append, followed_by-assoc, followed_by-end, child_named-stopped, behind-stopped, behind-same, before-stopped, before-passed, child_named-passed, behind-passed, are_sound-rest, is_sound-first}
+use Rattle.sim_merge.proofs.ChildrenLemmas.{children_of-append, followed_by-end, child_named-stopped, behind-stopped, behind-same, before-stopped, before-passed, child_named-passed, behind-passed, are_sound-rest, is_sound-first}
 
 pub named_of-roll : (c : Child-F Child Tree) → named_of (roll-Child c) ≡ (c.name, node_of c.tree)
 named_of-roll = fold-roll-Child (List ℕ × Node) Node child_step node_step

@@ -1,14 +1,14 @@
 -- Trees of a library, and trees that may be laid over them.
-use Rattle.std.proofs.Common.{◌≡◌, ℕ, zero, suc, ◌<◌, ◌≤◌, ◌&&◌, Bool, true, false, nat_le, List, [], ◌∷◌, Option, Some, None, refl, sym, ap, ◌∙◌, arith, subst, true≢false, length}
+use Rattle.std.proofs.Common.{◌≡◌, ℕ, zero, suc, ◌≤◌, ◌&&◌, Bool, true, nat_le, List, [], ◌∷◌, Option, Some, None, refl, sym, ◌∙◌, arith, subst, true≢false}
 use Rattle.std.specs.Prelude.{is_none, slice_get}
 use Rattle.std.specs.List.{list_all}
 use Rattle.std.proofs.lemmas.Bool.Decides.{nat_tests}
 use Rattle.sim_tree.specs.declared.tree.TreeMark.{TreeMark}
-use Rattle.sim_tree.specs.Trees.{Node, Children, node, mark_of, is_sound, is_plain, levels}
+use Rattle.sim_tree.specs.Trees.{Node, node, mark_of, is_sound, is_plain, levels}
 use Rattle.sim_merge.specs.Laying.{Laying, refused, absent, there, laid}
 use Rattle.sim_merge.specs.Libraries.{is_resolved, is_layable}
 use Rattle.sim_merge.specs.Merging.{laid_unmarked}
-use Rattle.sim_merge.specs.Resolution.{bare, inherited, chain_root}
+use Rattle.sim_merge.specs.Resolution.{inherited, chain_root}
 use Rattle.sim_merge.proofs.ChildrenLemmas.{and_left, and_right, and_both}
 use Rattle.sim_merge.proofs.FitLemmas.{IsFit, IfNode, IfThere, fit-laid}
 

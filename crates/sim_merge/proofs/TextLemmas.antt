@@ -1,5 +1,5 @@
 -- Texts in a set beside the list of their bytes.
-use Rattle.std.proofs.Common.{◌≡◌, ℕ, suc, ◌+◌, ◌&&◌, ◌||◌, not, Bool, true, false, List, [], ◌∷◌, ◌++◌, length, map, position, String, Global, string_bytes, refl, sym, ap, ◌∙◌, subst, true≢false, if◌then◌else◌, cond, append_assoc}
+use Rattle.std.proofs.Common.{◌≡◌, ℕ, suc, ◌+◌, ◌||◌, not, Bool, true, false, List, [], ◌∷◌, ◌++◌, length, map, position, String, Global, string_bytes, refl, sym, ap, ◌∙◌, subst, true≢false, cond, append_assoc}
 use Rattle.std.specs.List.{list_any, prefix_len}
 use Rattle.std.specs.Str.{bytes_eq}
 use Rattle.std.specs.String.{string_eq}

@@ -1,5 +1,5 @@
 -- What is known of parents, chains and trees while templates are resolved.
-use Rattle.std.specs.Prelude.{◌≡◌, ℕ, ◌<◌, Bool, true, false, List, length, map, filter_map, Option, Some, None, slice_index_or, Result, Ok, Err}
+use Rattle.std.specs.Prelude.{◌≡◌, ℕ, ◌<◌, true, false, List, length, map, filter_map, Option, Some, None, slice_index_or, Result, Ok, Err}
 use Rattle.std.specs.List.{list_all}
 use Rattle.sim_tree.specs.declared.tree.Tree.{Tree}
 use Rattle.sim_tree.specs.Trees.{Node, node_of}

@@ -2,10 +2,10 @@
 use Rattle.std.specs.Prelude.{◌≡◌, ℕ, Bool, true, List, Option, Some, None, Result, Ok, Err}
 use Rattle.std.specs.Borrow.{Bor}
 use Rattle.sim_tree.specs.declared.tree.Tree.{Tree}
-use Rattle.sim_tree.specs.Trees.{Node, Children, node, child, no_children, node_of, under, value_of, child_named, is_sound, are_sound}
+use Rattle.sim_tree.specs.Trees.{Node, Children, child, no_children, node_of, under, value_of, child_named, is_sound, are_sound}
 use Rattle.sim_merge.specs.declared.fault.OverlayFault.{OverlayFault}
 use Rattle.sim_merge.specs.Faults.{IfBadOp}
-use Rattle.sim_merge.specs.Values.{Value, value_over}
+use Rattle.sim_merge.specs.Values.{value_over}
 use Rattle.sim_merge.specs.Laying.{Laying, refused, absent, there, lower_value, lower_children, before, behind, followed_by, with_lower, over_children, laid_under}
 
 -- the node behind a reference, if there is a tree

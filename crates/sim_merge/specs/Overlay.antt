@@ -1,10 +1,12 @@
 -- What a tree laid over another one has at each path, with one line for each mark. A tree is here a map from paths,
 -- which are lists of names, to what stands there.
-use Rattle.std.specs.Prelude.{ℕ, Bool, true, false, ◌&&◌, List, [], ◌∷◌, Option, Some, None, is_some, is_none, option_map, option_and_then, if◌then◌else◌}
+use Rattle.std.specs.Prelude.{◌≡◌, IsTrue, ℕ, Bool, true, false, ◌&&◌, List, [], ◌∷◌, Option, Some, None, is_some, is_none, option_map, option_and_then, if◌then◌else◌}
 use Rattle.sim_tree.specs.declared.tree.TreeMark.{TreeMark}
 use Rattle.sim_tree.specs.declared.tree.TreeMark.TheVariants.{Disable, Replace, Merge, Add, Mul, Tokens}
-use Rattle.sim_tree.specs.Trees.{Entry}
+use Rattle.sim_tree.specs.Trees.{Node, Entry, at}
 use Rattle.sim_merge.specs.Values.{Value, value_over, sum_of, product_of, words_over}
+use Rattle.sim_merge.specs.Laying.{Laying, refused, absent, there, laid}
+use Rattle.sim_merge.specs.Libraries.{is_resolved, is_layable}
 
 abbrev pub Path : Type 0
 Path = List (List ℕ)
@@ -123,3 +125,33 @@ is_bad (Some e) lower = bad_by e.mark e.value lower
 -- a path is met, and what stands there is an operation without result
 abbrev pub is_refused_at : Option Paths → Paths → Path → Bool
 is_refused_at lower upper path = is_met lower upper path && is_bad (upper path) (lower_at lower upper path)
+
+-- ---- nodes as maps from paths
+
+-- the map of a node, if there is a node
+abbrev pub paths_if : Option Node → Option Paths
+paths_if None = None
+paths_if (Some n) = Some (at n)
+
+-- what a laying has at a path
+abbrev pub laying_at : Laying → Paths
+laying_at refused path = None
+laying_at absent path = None
+laying_at (there n) path = at n path
+
+-- ---- the law of overlays
+
+-- a node has at each path what an upper node laid over a lower one has there, and at no met path an operation is refused
+pub record HasLaid (lower upper n : Node) : Type 0 where
+  pub laid : (path : Path) → at n path ≡ lay (Some (at lower)) (at upper) path
+  pub met : (path : Path) → is_refused_at (Some (at lower)) (at upper) path ≡ false
+
+-- the operation at some met path is refused
+abbrev pub IsRefused : Node → Node → Type 0
+IsRefused lower upper = (path : Path) × IsTrue (is_refused_at (Some (at lower)) (at upper) path)
+
+-- for trees that may be laid over one another, the recursion gives at each path what the map from paths says, and it is
+-- refused exactly where an operation at a met path is
+pub record LaidByPath : Type 0 where
+  pub stands : (lower upper n : Node) → IsTrue (is_resolved lower) → IsTrue (is_layable upper) → laid (Some lower) upper ≡ there n → HasLaid lower upper n
+  pub refuses : (lower upper : Node) → IsTrue (is_resolved lower) → IsTrue (is_layable upper) → laid (Some lower) upper ≡ refused → IsRefused lower upper

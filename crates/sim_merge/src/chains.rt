@@ -17,6 +17,31 @@ use std::alloc::Global;
 // How many members of a chain are looked at: one more than it may have.
 const MOST_SEEN: usize = 17;
 
+/// Whether no two templates have one name.
+pub fn names_differ(sources: &[Source]) -> bool
+    ensures { result ≡ are_distinct (names_in (origins_of sources.now)) }
+{
+    let mut rest = sources;
+    while let [source, more @ ..] = rest {
+        if has_name(more, source.name.text()) {
+            return false;
+        }
+        rest = more;
+    }
+    true
+}
+
+fn has_name(sources: &[Source], name: &str) -> bool
+    ensures { result ≡ list_any (bytes_eq name.now) (names_in (origins_of sources.now)) }
+{
+    for source in sources {
+        if name == source.name.text() {
+            return true;
+        }
+    }
+    false
+}
+
 /// The names of templates, by number.
 pub fn names_of(alloc: Global, sources: &[Source]) -> Result<IndexSet<String>, OutOfMemory>
     requires { are_distinct (names_in (origins_of sources.now)) ≡ true }
@@ -40,7 +65,11 @@ fn add_name(alloc: Global, names: &mut IndexSet<String>, name: &Name) -> Result<
 }
 
 /// The number of each template's parent, or the first template whose parent is not there.
-pub fn parents_of(alloc: Global, names: &IndexSet<String>, sources: &[Source]) -> Result<Vec<Option<usize>>, MergeFault>
+pub fn parents_of(
+    alloc: Global,
+    names: &IndexSet<String>,
+    sources: &[Source],
+) -> Result<Vec<Option<usize>>, MergeFault>
     requires few { length sources.now ≤ 256 }
     requires names { map string_bytes names.now.keys ≡ names_in (origins_of sources.now) }
     ensures parents { IfOk result (λ parents. parents.items ≡ parents_in (origins_of sources.now)) }
@@ -74,7 +103,11 @@ fn is_orphan(names: &IndexSet<String>, source: &Source) -> bool
     source.parent.is_some() && parent_of(names, source).is_none()
 }
 
-fn numbers_of(alloc: Global, names: &IndexSet<String>, sources: &[Source]) -> Result<Vec<Option<usize>>, OutOfMemory>
+fn numbers_of(
+    alloc: Global,
+    names: &IndexSet<String>,
+    sources: &[Source],
+) -> Result<Vec<Option<usize>>, OutOfMemory>
     ensures { IfOk result (λ parents. parents.items ≡ map (parent_among (map string_bytes names.now.keys)) (origins_of sources.now)) }
 {
     let mut parents = Vec::new(alloc);
@@ -131,7 +164,11 @@ fn check_chain(chain: &[usize], index: u32) -> Result<(), MergeFault>
 }
 
 // The first 17 members of a chain.
-fn put_members(chain: &mut Vec<usize>, parents: &[Option<usize>], number: usize) -> Result<(), OutOfMemory>
+fn put_members(
+    chain: &mut Vec<usize>,
+    parents: &[Option<usize>],
+    number: usize,
+) -> Result<(), OutOfMemory>
     requires within { AreWithin parents.now }
     requires number { number < length parents.now }
     ensures { OnOk result (chain.new.items ≡ members parents.now number) }

@@ -1,12 +1,13 @@
 //! A tree laid over another one: the two are walked at once, by their marks and by the names of their children.
 
-ghost use Rattle.std.specs.Prelude.{◌≡◌, true, IsTrue, Some, None, MatchResult, IfOk, Option};
+ghost use Rattle.std.specs.Prelude.{◌≡◌, true, IsTrue, Some, None, MatchResult, IfOk, IfErr, Option};
 ghost use Rattle.sim_tree.specs.Trees.{node_of, nodes_of, named_of, is_sound, are_sound, mark_of, value_of as value_of_node, Children, child, node};
 ghost use Rattle.sim_merge.specs.Libraries.{is_resolved, is_layable};
 ghost use Rattle.sim_merge.specs.Faults.{IfBadOp};
 ghost use Rattle.sim_merge.specs.Values.{value_over as value_over_value, value_by, words_over as words_over_words};
 ghost use Rattle.sim_merge.specs.Operations.{function_of};
 ghost use Rattle.sim_merge.specs.Laying.{refused, there, laid, laid_under, lower_value, lower_children, with_value};
+ghost use Rattle.sim_merge.specs.Overlay.{HasLaid, IsRefused};
 ghost use Rattle.sim_merge.specs.Merging.{node_if, is_sound_if, laying_of, laid_unmarked, IsMerged, IsTreeOf};
 
 use crate::fault::OverlayFault;
@@ -24,6 +25,8 @@ pub fn overlay(alloc: Global, lower: &Tree, upper: &Tree) -> Result<Tree, Overla
     requires lower { IsTrue (is_resolved (node_of lower.now)) }
     requires upper { IsTrue (is_layable (node_of upper.now)) }
     ensures resolved { IfOk result (λ tree. IsTrue (is_resolved (node_of tree))) }
+    ensures paths { IfOk result (λ tree. HasLaid (node_of lower.now) (node_of upper.now) (node_of tree)) }
+    ensures bad { IfErr result (λ fault. IfBadOp fault (IsRefused (node_of lower.now) (node_of upper.now))) }
     ensures laid { IsTreeOf result (laid (Some (node_of lower.now)) (node_of upper.now)) }
 {
     let tree = unmarked(alloc, upper, Some(lower))?;

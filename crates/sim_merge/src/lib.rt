@@ -8,6 +8,7 @@
 //! - `operation`, `words`: what becomes of values.
 //! - `merge`: children by name.
 //! - `laying`: a tree laid over another one.
+//! - `laws`: the theorem that ties the two definitions of an overlay, as the contract of a function that does nothing.
 //! - `chains`: chains of parents.
 //! - `resolve`: templates with all that they inherit.
 //! - `library`: the resolved templates by number.
@@ -15,13 +16,18 @@
 
 mod chains;
 mod fault;
+mod laws;
 mod laying;
 mod library;
 mod merge;
 mod operation;
 mod resolve;
+#[cfg(test)]
+mod tests;
 mod words;
 
+pub use chains::names_differ;
 pub use fault::{MergeFault, OverlayFault};
+pub use laws::laid_by_path;
 pub use laying::overlay;
 pub use library::Library;

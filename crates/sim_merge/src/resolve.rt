@@ -1,7 +1,7 @@
 //! Templates with all that they inherit: each tree is laid over that of its parent, parents before children.
 
-ghost use Rattle.std.specs.Prelude.{◌≡◌, ◌<◌, ◌≤◌, true, false, None, Some, Ok, Err, IsTrue, IfOk, IfErr, OnOk, MatchResult, length, replicate, slice_index_or, slice_get, filter_map};
-ghost use Rattle.std.specs.List.{list_all};
+ghost use Rattle.std.specs.Prelude.{[], ◌++◌, ◌≡◌, ◌<◌, ◌≤◌, true, false, None, Some, Ok, Err, IsTrue, IfOk, IfErr, OnOk, MatchResult, length, replicate, slice_index_or, slice_get, filter_map};
+ghost use Rattle.std.specs.List.{list_all, cons_option};
 ghost use Rattle.sim_tree.specs.Trees.{node_of};
 ghost use Rattle.sim_merge.specs.Faults.{IfBadOp, IfRefusal};
 ghost use Rattle.sim_merge.specs.Libraries.{is_layable};
@@ -37,7 +37,11 @@ impl Library {
 }
 
 // The resolved tree of each template, in order.
-fn trees_of(alloc: Global, sources: &[Source], parents: &[Option<usize>]) -> Result<Vec<Tree>, MergeFault>
+fn trees_of(
+    alloc: Global,
+    sources: &[Source],
+    parents: &[Option<usize>],
+) -> Result<Vec<Tree>, MergeFault>
     requires few { length parents.now ≤ 256 }
     requires forest { IsForest parents.now }
     requires same { length sources.now ≡ length parents.now }
@@ -70,15 +74,32 @@ fn taken(alloc: Global, kept: Vec<Option<Tree>>) -> Result<Vec<Tree>, OutOfMemor
 {
     let mut trees = Vec::new(alloc);
     for slot in kept {
-        if let Some(tree) = slot {
-            trees.push(tree)?;
-        }
+        push_if(&mut trees, slot)?;
     }
     Ok(trees)
 }
 
+// Adds a tree, if there is one.
+fn push_if(trees: &mut Vec<Tree>, slot: Option<Tree>) -> Result<(), OutOfMemory>
+    ensures { OnOk result (trees.new.items ≡ trees.old.items ++ cons_option slot []) }
+{
+    match slot {
+        Some(tree) => {
+            trees.push(tree)?;
+            Ok(())
+        }
+        None => Ok(()),
+    }
+}
+
 // Resolves a template, or refuses it by its number.
-fn keep_or_refuse(alloc: Global, sources: &[Source], parents: &[Option<usize>], kept: &mut Vec<Option<Tree>>, number: usize) -> Result<(), MergeFault>
+fn keep_or_refuse(
+    alloc: Global,
+    sources: &[Source],
+    parents: &[Option<usize>],
+    kept: &mut Vec<Option<Tree>>,
+    number: usize,
+) -> Result<(), MergeFault>
     requires few { length parents.now ≤ 256 }
     requires number { number < length parents.now }
     requires forest { IsForest parents.now }
@@ -102,7 +123,13 @@ fn keep_or_refuse(alloc: Global, sources: &[Source], parents: &[Option<usize>], 
 
 // Resolves a template and all that it inherits, unless that is done, and keeps the results.
 #[cycle(keeping)]
-fn keep(alloc: Global, sources: &[Source], parents: &[Option<usize>], kept: &mut Vec<Option<Tree>>, number: usize) -> Result<(), OverlayFault>
+fn keep(
+    alloc: Global,
+    sources: &[Source],
+    parents: &[Option<usize>],
+    kept: &mut Vec<Option<Tree>>,
+    number: usize,
+) -> Result<(), OverlayFault>
     requires number { number < length parents.now }
     requires forest { IsForest parents.now }
     requires same { length sources.now ≡ length parents.now }
@@ -134,7 +161,13 @@ fn has(kept: &[Option<Tree>], number: usize) -> bool
 
 // The tree of a template, after all that it inherits was resolved and kept.
 #[cycle(keeping)]
-fn resolved(alloc: Global, sources: &[Source], parents: &[Option<usize>], kept: &mut Vec<Option<Tree>>, number: usize) -> Result<Tree, OverlayFault>
+fn resolved(
+    alloc: Global,
+    sources: &[Source],
+    parents: &[Option<usize>],
+    kept: &mut Vec<Option<Tree>>,
+    number: usize,
+) -> Result<Tree, OverlayFault>
     requires number { number < length parents.now }
     requires forest { IsForest parents.now }
     requires same { length sources.now ≡ length parents.now }
@@ -154,7 +187,12 @@ fn resolved(alloc: Global, sources: &[Source], parents: &[Option<usize>], kept: 
 }
 
 // The tree of a template without a parent.
-fn over_nothing(alloc: Global, sources: &[Source], parents: &[Option<usize>], number: usize) -> Result<Tree, OverlayFault>
+fn over_nothing(
+    alloc: Global,
+    sources: &[Source],
+    parents: &[Option<usize>],
+    number: usize,
+) -> Result<Tree, OverlayFault>
     requires number { number < length sources.now }
     requires layable { list_all is_layable (roots_in (origins_of sources.now)) ≡ true }
     requires first { slice_index_or parents.now number None ≡ None }
@@ -164,7 +202,14 @@ fn over_nothing(alloc: Global, sources: &[Source], parents: &[Option<usize>], nu
 }
 
 // The tree of a template whose parent's tree is kept.
-fn over_parent(alloc: Global, sources: &[Source], parents: &[Option<usize>], kept: &[Option<Tree>], number: usize, parent: usize) -> Result<Tree, OverlayFault>
+fn over_parent(
+    alloc: Global,
+    sources: &[Source],
+    parents: &[Option<usize>],
+    kept: &[Option<Tree>],
+    number: usize,
+    parent: usize,
+) -> Result<Tree, OverlayFault>
     requires number { number < length sources.now }
     requires layable { list_all is_layable (roots_in (origins_of sources.now)) ≡ true }
     requires parent { slice_index_or parents.now number None ≡ Some parent }

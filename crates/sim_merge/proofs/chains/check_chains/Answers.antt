@@ -1,4 +1,4 @@
-use Rattle.std.proofs.Common.{◌≡◌, ◌<◌, ℕ, true, false, Some, sym, ap, ◌∙◌, rules, below_more, arith}
+use Rattle.std.proofs.Common.{◌≡◌, false, Some, sym, ap, ◌∙◌, rules, below_more, arith}
 use Rattle.sim_merge.specs.Faults.{IfRefusal}
 use Rattle.sim_merge.specs.Resolution.{members, is_endless, chain_fault, chain_refusal}
 use Rattle.sim_merge.proofs.ResolutionLemmas.{chain_refusal-at, chain_refusal-none, IfRefusal-from}
@@ -12,9 +12,9 @@ returns-in_err-check_chain-clause-refused c =
     let h = c.in_err-check_chain.ensures in
     let chain : c.as_slice.result.now ≡ members parents number = c.as_slice.ensures.value ∙ c.in_ok-put_members.ensures in
     let told : IfRefusal fault (chain_refusal parents ≡ Some fault) =
-        IfRefusal-from fault _
-        (chain_refusal-at parents number c.loop-number-test.true (ap is_endless (sym chain) ∙ h.0) c.loop-number.invariant
-            ∙ ap Some (ap (chain_fault number) (sym chain) ∙ sym h.1)) in
+    IfRefusal-from fault _
+    (chain_refusal-at parents number c.loop-number-test.true (ap is_endless (sym chain) ∙ h.0) c.loop-number.invariant
+    ∙ ap Some (ap (chain_fault number) (sym chain) ∙ sym h.1)) in
     search rules
 
 pub loop-number-preserved : goal.loop-number-preserved

@@ -1,4 +1,4 @@
-use Rattle.std.proofs.Common.{◌≡◌, ◌+◌, ◌-◌, ◌<◌, ℕ, [], ◌∷◌, ◌++◌, get_or, append_assoc, None, Some, Option, sym, ap, ◌∙◌, arith}
+use Rattle.std.proofs.Common.{◌≡◌, ◌+◌, ◌-◌, [], ◌∷◌, ◌++◌, get_or, append_assoc, None, Some, sym, ap, ◌∙◌, arith}
 use Rattle.sim_merge.specs.Resolution.{members, chain_from}
 use Rattle.sim_merge.proofs.ResolutionLemmas.{chain_from-next}
 use Rattle.sim_merge.proofs.chains.put_members.Goals as goal
@@ -6,9 +6,9 @@ use Rattle.sim_merge.proofs.chains.put_members.Goals as goal
 pub loop-seen-init : goal.loop-seen-init
 unfolding members
 loop-seen-init c = record {
-    chain = ap (λ xs. xs ++ chain_from c.args.parents.now 17 (Some c.args.number)) c.clear.ensures.items;
-    within = λ member e. let same : c.args.number ≡ member = cc in omega (arith, c.requires.number);
-  }
+  chain = ap (λ xs. xs ++ chain_from c.args.parents.now 17 (Some c.args.number)) c.clear.ensures.items;
+  within = λ member e. let same : c.args.number ≡ member = cc in omega (arith, c.requires.number);
+}
 
 pub loop-seen-preserved : goal.loop-seen-preserved
 loop-seen-preserved c =

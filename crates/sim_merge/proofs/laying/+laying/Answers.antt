@@ -1,11 +1,11 @@
-use Rattle.std.proofs.Common.{◌≡◌, ℕ, List, Some, None, Option, refl, sym, ap, ◌∙◌, subst, rules}
-use Rattle.sim_tree.specs.Trees.{Node, Children, node_of, nodes_of, named_of, child_named}
-use Rattle.sim_tree.specs.declared.tree.Child.TheViews.{out-Child, out-Tree}
+use Rattle.std.proofs.Common.{◌≡◌, ℕ, List, refl, sym, ap, ◌∙◌, subst, rules}
+use Rattle.sim_tree.specs.Trees.{Node, node_of, nodes_of, child_named}
+use Rattle.sim_tree.specs.declared.tree.Child.TheViews.{out-Child}
 use Rattle.sim_merge.specs.Faults.{IfBadOp}
-use Rattle.sim_merge.specs.Laying.{refused, there, laid, laid_under, behind, lower_value, lower_children}
-use Rattle.sim_merge.specs.Merging.{node_if, is_sound_if, laying_of, laid_unmarked, IsMerged, IsPast}
+use Rattle.sim_merge.specs.Laying.{refused, laid, laid_under, behind, lower_children}
+use Rattle.sim_merge.specs.Merging.{node_if, laying_of, laid_unmarked, IsMerged, IsPast}
 use Rattle.sim_merge.proofs.NodeLemmas.{named_of-out}
-use Rattle.sim_merge.proofs.LayingLemmas.{IfBadOp-weaker, merged-step, refused-step, unmarked-there, unmarked-refused}
+use Rattle.sim_merge.proofs.LayingLemmas.{IfBadOp-weaker, merged-step, unmarked-there, unmarked-refused}
 use Rattle.sim_merge.proofs.laying.+laying.Goals as goal
 
 pub push_merged-returns : goal.push_merged-returns

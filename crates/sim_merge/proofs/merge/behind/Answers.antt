@@ -1,5 +1,5 @@
 use Rattle.std.proofs.lemmas.List.{take_all}
-use Rattle.std.proofs.Common.{arith, length-drop, ◌≡◌, ◌-◌, length, take, drop, sym, ap, ◌∙◌, rules}
+use Rattle.std.proofs.Common.{arith, length-drop, ◌≡◌, ◌-◌, length, take, drop, sym, ap, ◌∙◌}
 use Rattle.sim_tree.specs.Trees.{nodes_of}
 use Rattle.sim_merge.proofs.NodeLemmas.{behind-other, behind-first}
 use Rattle.sim_merge.proofs.merge.behind.Goals as goal

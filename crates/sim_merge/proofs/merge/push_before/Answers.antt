@@ -1,6 +1,6 @@
-use Rattle.std.proofs.Common.{◌≡◌, true, List, [], ◌+◌, ◌-◌, ◌≤◌, length, length-drop, take, drop, subst, sym, ap, ◌∙◌, rules, arith, refl}
+use Rattle.std.proofs.Common.{◌≡◌, List, [], ◌+◌, ◌-◌, length, length-drop, take, drop, subst, sym, ap, ◌∙◌, arith, refl}
 use Rattle.std.proofs.lemmas.List.{drop_all, take_all}
-use Rattle.sim_tree.specs.Trees.{nodes_of, named_of, child, no_children, child_named, are_sound}
+use Rattle.sim_tree.specs.Trees.{nodes_of, named_of, child, no_children, child_named}
 use Rattle.sim_merge.specs.Laying.{before, behind, followed_by}
 use Rattle.sim_tree.specs.declared.tree.Child.{Child}
 use Rattle.sim_merge.specs.Merging.{IsPast}

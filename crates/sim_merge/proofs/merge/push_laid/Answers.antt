@@ -1,4 +1,4 @@
-use Rattle.std.proofs.Common.{◌≡◌, ap, sym, ◌∙◌}
+use Rattle.std.proofs.Common.{ap, sym, ◌∙◌}
 use Rattle.sim_tree.specs.Trees.{nodes_of, node_of, child, no_children}
 use Rattle.sim_merge.specs.Laying.{with_lower, with_laid}
 use Rattle.sim_merge.specs.Merging.{laying_of}

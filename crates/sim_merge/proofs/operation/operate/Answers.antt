@@ -1,7 +1,7 @@
-use Rattle.std.proofs.Common.{◌≡◌, Some, None, sym, ap, ◌∙◌}
+use Rattle.std.proofs.Common.{Some, sym, ap, ◌∙◌}
 use Rattle.std.specs.Prelude.{option_map}
 use Rattle.sim_base.specs.NumberText.{text_of}
-use Rattle.sim_merge.specs.Operations.{function_of, number_by}
+use Rattle.sim_merge.specs.Operations.{function_of}
 use Rattle.sim_merge.proofs.OperationLemmas.{text_by-number_by}
 use Rattle.sim_merge.proofs.operation.operate.Goals as goal
 

@@ -1,4 +1,3 @@
-use Rattle.std.proofs.Common.{◌≡◌, true, Some, sym, ap, ◌∙◌}
 use Rattle.sim_tree.specs.Trees.{node_of}
 use Rattle.sim_merge.specs.Resolution.{origins_of, roots_in, members, chain_root}
 use Rattle.sim_merge.proofs.ResolvedLemmas.{there-resolved, chain_root-resolved}
@@ -16,5 +15,5 @@ pub returns : goal.returns
 returns c =
     IsTreeOf-same c.overlay.result _ _
     (chain_root-parent c.args.parents.now (roots_in (origins_of c.args.sources.now)) c.args.number c.args.parent (node_of c.tree_at.result.now) (node_of c.own_at.result.now)
-        c.requires.ended c.requires.parent (c.requires.kept.trees c.args.parent c.tree_at.result.now c.tree_at.ensures) c.own_at.ensures.own)
+    c.requires.ended c.requires.parent (c.requires.kept.trees c.args.parent c.tree_at.result.now c.tree_at.ensures) c.own_at.ensures.own)
     c.overlay.ensures.laid

@@ -10,10 +10,10 @@ returns-in_err-keep_or_refuse-clause-refused c =
     let roots = roots_in (origins_of c.args.sources.now) in
     let fault = c.in_err-keep_or_refuse.field-0.0 in
     let told : IfRefusal fault (root_refusal (layings parents roots) ≡ Some fault) =
-        IfRefusal-weaker fault _ _
-        (λ h. root_refusal-at parents roots c.loop-number.kept.items c.loop-number.number c.loop-number-test.true c.loop-number.invariant.kept c.loop-number.invariant.has h.1
-            ∙ ap Some (sym h.0))
-        c.in_err-keep_or_refuse.ensures.refused in
+    IfRefusal-weaker fault _ _
+    (λ h. root_refusal-at parents roots c.loop-number.kept.items c.loop-number.number c.loop-number-test.true c.loop-number.invariant.kept c.loop-number.invariant.has h.1
+    ∙ ap Some (sym h.0))
+    c.in_err-keep_or_refuse.ensures.refused in
     search rules
 
 pub returns-clause-resolved : goal.returns-clause-resolved
