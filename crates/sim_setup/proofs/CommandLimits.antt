@@ -1,5 +1,5 @@
 -- What holds of the commands of a match file.
-use Rattle.std.proofs.Common.{◌≡◌, ℕ, zero, suc, ◌+◌, ◌<◌, ◌≤◌, Bool, true, false, nat_le, nat_lt, List, [], ◌∷◌, ◌++◌, length, codes, count_by, map, All, Option, Some, None, option_map, option_and_then, Result, Ok, refl, sym, ap, ◌∙◌, subst, arith, cond, if◌then◌else◌, get_or}
+use Rattle.std.proofs.Common.{◌≡◌, ℕ, zero, suc, ◌+◌, ◌<◌, ◌≤◌, Bool, true, false, nat_le, nat_lt, List, [], ◌∷◌, ◌++◌, length, codes, count_by, map, All, Some, None, option_and_then, Ok, refl, subst, arith, if◌then◌else◌}
 use Rattle.std.specs.Str.{bytes_eq}
 use Rattle.std.specs.List.Sorted.{IsNonDecreasing}
 use Rattle.std.proofs.lemmas.Bool.{leb-true, ltb-true, ltb-false}
@@ -15,7 +15,7 @@ use Rattle.sim_json.specs.Records.{records, numbered}
 use Rattle.sim_json.proofs.Readers.{next_some, and_then_some, map_some, if_some, then_some, natural_in-within}
 use Rattle.sim_json.proofs.Reading.{numbered-keeps, numbered-length, numbered_from_records}
 use Rattle.sim_setup.specs.Quiet.{IsDelete}
-use Rattle.sim_setup.specs.Commands.{id_in, ids_from, ids_of, delete_from, command_by, command_from, crowd, if_room, timed_from, timed_of, falls_at}
+use Rattle.sim_setup.specs.Commands.{id_in, ids_from, ids_of, delete_from, command_from, crowd, timed_from, timed_of, falls_at}
 use Rattle.sim_setup.proofs.Tally.{push_counted, both_same}
 
 -- ---- what is ordered

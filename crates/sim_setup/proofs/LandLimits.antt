@@ -1,6 +1,6 @@
 -- What holds of the land of a match file.
-use Rattle.std.proofs.Common.{◌≡◌, ◌≢◌, ℕ, ◌+◌, ◌-◌, ◌*◌, ◌/◌, ◌%◌, ◌^◌, ◌<◌, ◌≤◌, max, ◌==◌, ◌&&◌, Bool, true, false, ℤ, pos, ◌≤ℤ◌, ◌<ℤ◌, int_le, int_lt, nat_le, nat_lt, bit_or, List, [], ◌∷◌, ◌++◌, length, codes, All, EachIndex, Option, Some, None, option_and_then, Result, Ok, refl, sym, ap, ◌∙◌, subst, arith, slice_index, get_or, cond, true≢false, eqb-true, eq-eqb, ◌⊎◌, inl, inr}
-use Rattle.std.proofs.lemmas.Bool.{leb-true, ltb-true, cases_lt}
+use Rattle.std.proofs.Common.{◌≡◌, ◌≢◌, ℕ, ◌+◌, ◌^◌, ◌<◌, ◌≤◌, max, ◌==◌, ◌&&◌, Bool, true, nat_le, nat_lt, bit_or, List, [], ◌∷◌, ◌++◌, length, codes, All, EachIndex, Some, option_and_then, Ok, refl, sym, ap, ◌∙◌, subst, arith, slice_index, true≢false, eq-eqb, ◌⊎◌, inl, inr}
+use Rattle.std.proofs.lemmas.Bool.{leb-true, cases_lt}
 use Rattle.std.proofs.lemmas.List.{length_push, get_or_append_left}
 use Rattle.std.proofs.Math.Seq.{get_or-append_seam}
 use Rattle.std.proofs.lemmas.Int.{ints}
@@ -13,7 +13,6 @@ use Rattle.serde_json.specs.Data.{Data}
 use Rattle.sim_base.specs.declared.place.Rect.{Rect}
 use Rattle.sim_base.specs.declared.setup.Land.{Land}
 use Rattle.sim_base.specs.Limits.{IsFrom, IsClosed, IsMask, IsLand}
-use Rattle.sim_base.specs.Rows.{in_mask}
 use Rattle.sim_json.specs.Values.{list_of, list_at, natural, natural_in, two, four}
 use Rattle.sim_json.specs.Records.{records}
 use Rattle.sim_json.proofs.Readers.{next_some, and_then_some, if_some, then_some, else_some, both_true, natural_in-within}

@@ -1,6 +1,6 @@
 -- What is known where a pass refuses nothing: no step of it has refused.
 use Rattle.std.proofs.Common.{◌≡◌, ℕ, Option, Some, None, Result, Ok, Err, refl, ap}
-use Rattle.sim_setup.specs.Refusals.{Refusal, refusal, need, after, unless_at, coded}
+use Rattle.sim_setup.specs.Refusals.{Refusal, need, after, unless_at, coded}
 
 pub need_ok : {X Y : Type 0} (code index : ℕ) (o : Option X) (next : X → Result Y Refusal) (y : Y) → need code index o next ≡ Ok y → (x : X) × (o ≡ Some x) × (next x ≡ Ok y)
 need_ok code index None next y e = absurd cc

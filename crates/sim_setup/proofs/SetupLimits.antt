@@ -1,11 +1,10 @@
 -- Every setup that is read meets the limits of a match, and is quiet.
-use Rattle.std.proofs.Common.{◌≡◌, ◌≢◌, ℕ, ◌+◌, ◌-◌, ◌^◌, ◌<◌, ◌≤◌, ◌&&◌, true, nat_le, List, [], ◌∷◌, length, map, codes, All, AllPairs, Option, Some, None, option_and_then, Result, Ok, Err, IfOk, refl, subst, arith, length-append}
+use Rattle.std.proofs.Common.{◌≡◌, ℕ, ◌-◌, ◌^◌, ◌<◌, ◌≤◌, ◌&&◌, true, nat_le, List, [], length, codes, All, Some, None, Result, Ok, Err, IfOk, subst, arith, length-append}
 use Rattle.std.proofs.lemmas.List.{length-map}
 use Rattle.sim_setup.specs.Refusals.{after}
 use Rattle.std.proofs.lemmas.Bool.{leb-true}
 use Rattle.serde_json.specs.Data.{Data}
-use Rattle.md5.specs.Md5.{md5, digest_bytes, hash_after, padded_message}
-use Rattle.sim_base.specs.declared.template.Template.{Template}
+use Rattle.md5.specs.Md5.{md5, digest_bytes}
 use Rattle.sim_base.specs.declared.setup.Land.{Land}
 use Rattle.sim_base.specs.declared.setup.First.{First}
 use Rattle.sim_base.specs.declared.setup.Timed.{Timed}

@@ -1,11 +1,11 @@
 -- What holds of the sources of a match file, in the words of the library.
-use Rattle.std.proofs.Common.{◌≡◌, ℕ, ◌≤◌, ◌&&◌, nat_le, Bool, true, List, [], ◌∷◌, map, All, Option, None, is_none, Result, Ok, Err, refl, ap}
+use Rattle.std.proofs.Common.{◌≡◌, ◌&&◌, nat_le, Bool, true, List, [], ◌∷◌, All, is_none, refl, ap}
 use Rattle.std.specs.List.{list_all}
 use Rattle.std.proofs.lemmas.Bool.{le-leb}
 use Rattle.std.proofs.lemmas.List.Elements.{All-head, All-tail}
 use Rattle.sim_tree.specs.declared.source.Source.{Source}
 use Rattle.sim_tree.specs.Trees.{Node, node_of, mark_of, is_sound, levels}
-use Rattle.sim_merge.specs.Libraries.{Holding, is_layable}
+use Rattle.sim_merge.specs.Libraries.{is_layable}
 use Rattle.sim_merge.specs.Resolution.{origins_of, roots_in}
 use Rattle.sim_setup.specs.Sources.{IsReady, IsReadySource}
 

@@ -1,5 +1,5 @@
 -- The table of counts, one more command at a time.
-use Rattle.std.proofs.Common.{◌≡◌, ◌≢◌, ℕ, zero, suc, ◌+◌, ◌*◌, ◌<◌, ◌≤◌, ◌==◌, ◌&&◌, Bool, true, false, List, [], ◌∷◌, ◌++◌, length, get_or, set, count_by, refl, sym, ap, ◌∙◌, arith, ◌⊎◌, inl, inr, true≢false, eqb-true, eq-eqb, get_or-set_same, get_or-set_other, cond, replicate, nat_lt, add-zero, length-set, lt-ltb, subst, slice_index}
+use Rattle.std.proofs.Common.{◌≡◌, ℕ, zero, suc, ◌+◌, ◌*◌, ◌<◌, ◌≤◌, ◌==◌, ◌&&◌, Bool, true, false, List, [], ◌∷◌, ◌++◌, length, get_or, set, refl, sym, ap, ◌∙◌, arith, ◌⊎◌, inl, inr, true≢false, eqb-true, eq-eqb, get_or-set_same, get_or-set_other, cond, replicate, add-zero, length-set, lt-ltb, subst, slice_index}
 use Rattle.std.specs.List.{sum_by}
 use Rattle.std.proofs.lemmas.List.Sums.{sum_by-append}
 use Rattle.std.proofs.lemmas.Bool.{cases_eq, false_from_ne_true}
@@ -7,7 +7,7 @@ use Rattle.sim_base.specs.declared.command.Command.{Command}
 use Rattle.sim_base.specs.declared.setup.Timed.{Timed}
 use Rattle.sim_base.specs.Limits.{is_given}
 use Rattle.sim_setup.specs.Commands.{crowd}
-use Rattle.sim_setup.specs.Crowds.{Tallies, timed, Counts, place_of}
+use Rattle.sim_setup.specs.Crowds.{Tallies, timed, Counts}
 
 one_more : (f : Timed → ℕ) (done : List Timed) (t : Timed) → sum_by f (done ++ t ∷ []) ≡ sum_by f done + f t
 one_more f done t = grind (arith, sum_by-append)

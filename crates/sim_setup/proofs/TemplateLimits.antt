@@ -1,5 +1,5 @@
 -- What holds of the templates of a match file.
-use Rattle.std.proofs.Common.{◌≡◌, ◌≢◌, ℕ, ◌<◌, ◌≤◌, ◌&&◌, ◌||◌, not, Bool, true, false, List, [], ◌∷◌, ◌++◌, length, map, All, AllPairs, Option, Some, None, is_some, is_none, option_and_then, slice_get, unwrap_or, Result, Ok, Err, refl, sym, ap, ◌∙◌, subst, arith, true≢false, if◌then◌else◌}
+use Rattle.std.proofs.Common.{◌≡◌, ◌≢◌, ℕ, ◌&&◌, ◌||◌, not, Bool, true, false, List, [], ◌∷◌, ◌++◌, length, map, All, AllPairs, Option, Some, None, is_some, is_none, slice_get, unwrap_or, Result, Ok, Err, refl, sym, ap, ◌∙◌, subst, arith, true≢false, if◌then◌else◌}
 use Rattle.std.specs.Str.{bytes_eq}
 use Rattle.std.specs.List.{list_any}
 use Rattle.std.proofs.lemmas.List.{map-append}
@@ -44,15 +44,15 @@ parts-named name root names t e =
     let arms = part_ok (part_of attack_part arms_in root) _ t base.1 in
     let numbers = part_ok (part_of train_part (train_in names) root) _ t arms.1 in
     let made : Template =
-        record {
-          name = name;
-          health = most.0;
-          resist = unwrap_or levels.0 unarmoured;
-          speed = speed.0;
-          obstruct = base.0;
-          arms = arms.0;
-          train = numbers.0;
-        } in
+    record {
+      name = name;
+      health = most.0;
+      resist = unwrap_or levels.0 unarmoured;
+      speed = speed.0;
+      obstruct = base.0;
+      arms = arms.0;
+      train = numbers.0;
+    } in
     ap (λ (u : Template). u.name) (sym (no_clash (is_some made.speed && is_some made.obstruct) made t numbers.1))
 
 -- it goes by the name that was given
@@ -127,5 +127,5 @@ pub names-differ : (names : List (List ℕ)) (roots : List Node) (origins : List
     → numbered (next_template names roots) [] origins ≡ Ok templates → AllPairs (λ a b. a ≢ b) (map (λ (t : Template). t.name) templates)
 names-differ names roots origins templates distinct e =
     let same = numbered-keeps (next_template names roots) named
-        (λ front done origin t is so_far. more_named front done origin t (template_at-is names roots (length done) origin t is).named so_far) [] [] origins templates e refl in
+    (λ front done origin t is so_far. more_named front done origin t (template_at-is names roots (length done) origin t is).named so_far) [] [] origins templates e refl in
     differ (map name_of templates) (subst (λ texts. are_distinct texts ≡ true) same distinct)

@@ -1,5 +1,5 @@
 -- The setup of a match file, or why it has none: the passes over the file, in the order of their codes.
-use Rattle.std.specs.Prelude.{ℕ, ◌-◌, List, length, codes, Option, Result, Ok}
+use Rattle.std.specs.Prelude.{ℕ, ◌-◌, List, length, codes, Result, Ok}
 use Rattle.serde_json.specs.Data.{Data}
 use Rattle.md5.specs.Md5.{md5}
 use Rattle.sim_base.specs.declared.setup.Land.{Land}

@@ -1,5 +1,5 @@
 -- The sources of the templates of a match file.
-use Rattle.std.specs.Prelude.{◌≡◌, ℕ, ◌≤◌, true, List, [], codes, Option, None, Result}
+use Rattle.std.specs.Prelude.{◌≡◌, ◌≤◌, true, List, [], codes, Option, None, Result}
 use Rattle.std.specs.Result.{result_ok}
 use Rattle.serde_json.specs.Data.{Data}
 use Rattle.sim_json.specs.Values.{list_at}

@@ -330,18 +330,38 @@ static TEMPLATES: [(&str, u8, u32); 33] = [
     (r#"{"@name":"po st"}"#, 2, 16),
     (r#"{"@name":""}"#, 2, 16),
     (r#"{"@name":"a"},{"@name":5}"#, 2, 17),
-    (r#"{"@name":"a"},{"@name":"b","_":1},{"@name":"c","d":1.5}"#, 2, 17),
-    (r#"{"@name":"a"},{"@name":"b"},{"@name":"a","@parent":"c"}"#, 3, 7),
+    (
+        r#"{"@name":"a"},{"@name":"b","_":1},{"@name":"c","d":1.5}"#,
+        2,
+        17,
+    ),
+    (
+        r#"{"@name":"a"},{"@name":"b"},{"@name":"a","@parent":"c"}"#,
+        3,
+        7,
+    ),
     (r#"{"@name":"a","@parent":"b"}"#, 4, 0),
-    (r#"{"@name":"a","@parent":"a"},{"@name":"b","@parent":"c"}"#, 4, 1),
+    (
+        r#"{"@name":"a","@parent":"a"},{"@name":"b","@parent":"c"}"#,
+        4,
+        1,
+    ),
     (r#"{"@name":"a","@parent":"a"}"#, 5, 0),
-    (r#"{"@name":"a","@parent":"b"},{"@name":"b","@parent":"b"}"#, 5, 0),
+    (
+        r#"{"@name":"a","@parent":"b"},{"@name":"b","@parent":"b"}"#,
+        5,
+        0,
+    ),
     (
         r#"{"@name":"a","b":{"@op":"add","_":1}},{"@name":"c","@parent":"d"},{"@name":"d","@parent":"c"}"#,
         5,
         1,
     ),
-    (r#"{"@name":"a","Motion":{"Speed":9}},{"@name":"b","c":{"@op":"add","_":1}}"#, 6, 1),
+    (
+        r#"{"@name":"a","Motion":{"Speed":9}},{"@name":"b","c":{"@op":"add","_":1}}"#,
+        6,
+        1,
+    ),
     (
         r#"{"@name":"a","@parent":"b"},{"@name":"b","Health":{"Max":{"@op":"mul","_":2}}}"#,
         6,
@@ -353,7 +373,11 @@ static TEMPLATES: [(&str, u8, u32); 33] = [
         1,
     ),
     (r#"{"@name":"a","Motion":{"Speed":9}}"#, 7, 0),
-    (r#"{"@name":"a","Attack":{"Range":1,"Vision":1,"Repeat":0}}"#, 7, 0),
+    (
+        r#"{"@name":"a","Attack":{"Range":1,"Vision":1,"Repeat":0}}"#,
+        7,
+        0,
+    ),
     (
         r#"{"@name":"a"},{"@name":"b","Motion":{"Speed":9}},{"@name":"c","@parent":"b","Motion":{"@disable":1},"Health":5}"#,
         7,
@@ -374,7 +398,11 @@ static TEMPLATES: [(&str, u8, u32); 33] = [
     (r#"{"@name":"a","Obstruct":{"Width":17,"Depth":1}}"#, 7, 0),
     (r#"{"@name":"a","Train":{"Units":"a b"}}"#, 7, 0),
     (r#"{"@name":"a"}"#, 0, 0),
-    (r#"{"@name":"a","Train":{"Units":" b a  a"}},{"@name":"b"}"#, 0, 0),
+    (
+        r#"{"@name":"a","Train":{"Units":" b a  a"}},{"@name":"b"}"#,
+        0,
+        0,
+    ),
     (
         r#"{"@name":"b","@parent":"a"},{"@name":"a","Obstruct":{"Width":2,"Depth":"2.00001"}}"#,
         0,
@@ -439,8 +467,14 @@ fn refuses_long_lists_of_templates(rt: HostRuntime) -> Result<(), Fail> {
     let alloc = rt.alloc();
     assert_eq!(rt; templates_answer(alloc, chain(alloc, 16)?.as_str())?, None);
     let wanted = refused(5, 16);
-    assert_eq!(rt; templates_answer(alloc, chain(alloc, 17)?.as_str())?, wanted);
-    assert_eq!(rt; templates_answer(alloc, chain(alloc, 18)?.as_str())?, wanted);
+    assert_eq!(rt;
+        templates_answer(alloc, chain(alloc, 17)?.as_str())?,
+        wanted
+    );
+    assert_eq!(rt;
+        templates_answer(alloc, chain(alloc, 18)?.as_str())?,
+        wanted
+    );
     let lists = [
         (255, r#"{"@name":"x"}"#, None),
         (256, r#"{"@name":"x"}"#, refused(3, 7)),
@@ -449,7 +483,11 @@ fn refuses_long_lists_of_templates(rt: HostRuntime) -> Result<(), Fail> {
     ];
     for (count, last, wanted) in lists {
         let items = named(alloc, count, last)?;
-        assert_eq!(rt; templates_answer(alloc, items.as_str())?, wanted, "at {count} {last}");
+        assert_eq!(rt;
+            templates_answer(alloc, items.as_str())?,
+            wanted,
+            "at {count} {last}"
+        );
     }
     Ok(())
 }

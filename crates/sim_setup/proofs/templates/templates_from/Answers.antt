@@ -1,4 +1,4 @@
-use Rattle.std.proofs.Common.{◌≡◌, ℕ, ◌+◌, List, ◌∷◌, ◌++◌, [], rules, length, map, drop, Option, Some, IfSome, All, sym, ap, ◌∙◌, subst, arith}
+use Rattle.std.proofs.Common.{◌≡◌, ◌+◌, List, ◌∷◌, ◌++◌, [], rules, length, map, drop, Option, Some, IfSome, sym, ap, ◌∙◌, subst, arith}
 use Rattle.std.proofs.lemmas.List.{drop_more, length-map, length_push}
 use Rattle.std.proofs.lemmas.List.Elements.{All-push}
 use Rattle.sim_base.specs.declared.template.Template.{Template}
@@ -21,7 +21,7 @@ loop-number-preserved c =
     let rest : List Source = drop (l.number + 1) c.args.sources.now in
     let next : drop l.number c.args.sources.now ≡ source ∷ rest = drop_more c.args.sources.now l.number source c.loop-number-test.true ∙ ap (λ (s : Source). s ∷ rest) (sym c.index-sources-number.is) in
     let read : next_template names roots l.found.items (origin_of source) ≡ Some template =
-        ap (λ n. template_at names roots n (origin_of source)) l.invariant.count ∙ sym c.in_ok-template.ensures.value ∙ c.in-Some.is in
+    ap (λ n. template_at names roots n (origin_of source)) l.invariant.count ∙ sym c.in_ok-template.ensures.value ∙ c.in-Some.is in
     let here = subst (λ (ss : List Source). numbered (next_template names roots) l.found.items (map origin_of ss) ≡ numbered (next_template names roots) [] (map origin_of c.args.sources.now)) next l.invariant.same in
     let sized : length names ≡ length c.args.sources.now = ap length c.requires.names ∙ length-map (map origin_of c.args.sources.now) name_in ∙ length-map c.args.sources.now origin_of in
     let limits : IsTemplate (length names) template = subst (λ (o : Option Template). IfSome o (IsTemplate (length names))) c.in-Some.is c.in_ok-template.ensures.limits in
