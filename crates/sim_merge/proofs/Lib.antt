@@ -1,2 +1,15 @@
 pub mod TextLemmas
 pub mod ListLemmas
+pub mod NameOrder
+pub mod ChildrenLemmas
+pub mod NodeLemmas
+pub mod OperationLemmas
+pub mod WordLemmas
+pub mod LayingLemmas
+pub mod Examples
+pub mod ResolutionLemmas
+pub mod FitLemmas
+pub mod ResolvedLemmas
+pub mod KeepingLemmas
+pub mod PathLemmas
+pub mod RefusalLemmas

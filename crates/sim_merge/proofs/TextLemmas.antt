@@ -1,7 +1,13 @@
 -- Texts in a set beside the list of their bytes.
-use Rattle.std.proofs.Common.{◌≡◌, ℕ, suc, ◌+◌, not, List, [], ◌∷◌, length, map, position, String, Global, string_bytes, refl, ap, cond}
-use Rattle.std.specs.List.{prefix_len}
+use Rattle.std.proofs.Common.{◌≡◌, ℕ, suc, ◌+◌, ◌&&◌, ◌||◌, not, Bool, true, false, List, [], ◌∷◌, ◌++◌, length, map, position, String, Global, string_bytes, refl, sym, ap, ◌∙◌, subst, true≢false, if◌then◌else◌, cond, append_assoc}
+use Rattle.std.specs.List.{list_any, prefix_len}
 use Rattle.std.specs.Str.{bytes_eq}
+use Rattle.std.specs.String.{string_eq}
+use Rattle.std.proofs.lemmas.Bool.{false_from_ne_true}
+use Rattle.std.proofs.lemmas.Slice.Eq.{bytes_eq-Decides}
+use Rattle.indexmap.specs.IndexSet.{insert_key}
+use Rattle.sim_merge.specs.Resolution.{are_distinct}
+use Rattle.sim_merge.proofs.ChildrenLemmas.{and_left, and_right}
 
 -- the bytes of each text
 abbrev pub texts_of : List (String Global) → List (List ℕ)
@@ -20,3 +26,47 @@ prefix_len-texts_of name (k ∷ keys) = ap (λ n. cond (not (bytes_eq name (stri
 pub position-texts_of : (name : List ℕ) (keys : List (String Global)) →
     position (λ k. bytes_eq name (string_bytes k)) keys ≡ position (bytes_eq name) (texts_of keys)
 position-texts_of name keys = rw (prefix_len-texts_of name keys, length-texts_of keys)
+
+-- ---- names that differ
+
+differ_sym : (xs ys : List ℕ) → bytes_eq xs ys ≡ false → bytes_eq ys xs ≡ false
+differ_sym xs ys e = false_from_ne_true (bytes_eq ys xs) (λ h. true≢false (sym ((bytes_eq-Decides xs ys).1 (sym ((bytes_eq-Decides ys xs).0 h))) ∙ e))
+
+or_left : (a b : Bool) → (a || b) ≡ false → a ≡ false
+or_left true b e = e
+or_left false b e = refl
+
+or_right : (a b : Bool) → (a || b) ≡ false → b ≡ false
+or_right true b e = absurd (true≢false e)
+or_right false b e = e
+
+not_true : (a : Bool) → not a ≡ true → a ≡ false
+not_true true e = sym e
+not_true false e = refl
+
+differs_from : (d name : List ℕ) (done rest : List (List ℕ)) → list_any (bytes_eq d) (done ++ name ∷ rest) ≡ false → bytes_eq d name ≡ false
+differs_from d name [] rest e = or_left (bytes_eq d name) (list_any (bytes_eq d) rest) e
+differs_from d name (x ∷ done) rest e = differs_from d name done rest (or_right (bytes_eq d x) _ e)
+
+-- a name of distinct ones is not among those before it
+fresh : (done : List (List ℕ)) (name : List ℕ) (rest : List (List ℕ)) → are_distinct (done ++ name ∷ rest) ≡ true → list_any (bytes_eq name) done ≡ false
+fresh [] name rest e = refl
+fresh (d ∷ done) name rest e =
+    let here : bytes_eq name d ≡ false = differ_sym d name (differs_from d name done rest (not_true _ (and_left (not (list_any (bytes_eq d) (done ++ name ∷ rest))) _ e))) in
+    let later : list_any (bytes_eq name) done ≡ false = fresh done name rest (and_right (not (list_any (bytes_eq d) (done ++ name ∷ rest))) _ e) in
+    rw (here, later)
+
+list_any-texts_of : (k : String Global) (keys : List (String Global)) → list_any (string_eq k) keys ≡ list_any (bytes_eq (string_bytes k)) (texts_of keys)
+list_any-texts_of k [] = refl
+list_any-texts_of k (x ∷ keys) = ap (λ b. bytes_eq (string_bytes k) (string_bytes x) || b) (list_any-texts_of k keys)
+
+texts_of-push : (keys : List (String Global)) (k : String Global) → texts_of (keys ++ k ∷ []) ≡ texts_of keys ++ string_bytes k ∷ []
+texts_of-push [] k = refl
+texts_of-push (x ∷ keys) k = ap (λ ts. string_bytes x ∷ ts) (texts_of-push keys k)
+
+-- a name that differs from those before it goes last
+pub goes_last : (names : List (List ℕ)) (keys : List (String Global)) (k : String Global) (more : List (List ℕ)) → are_distinct names ≡ true →
+    names ≡ texts_of keys ++ string_bytes k ∷ more → names ≡ texts_of (insert_key string_eq keys k) ++ more
+goes_last names keys k more distinct made =
+    let new : list_any (string_eq k) keys ≡ false = list_any-texts_of k keys ∙ fresh (texts_of keys) (string_bytes k) more (subst (λ ns. are_distinct ns ≡ true) made distinct) in
+    made ∙ rw (new, texts_of-push keys k) (sym (append_assoc (texts_of keys) (string_bytes k ∷ []) more))

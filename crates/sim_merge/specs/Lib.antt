@@ -1,2 +1,10 @@
 pub mod NodeCodes
 pub mod Libraries
+pub mod Faults
+pub mod Values
+pub mod Operations
+pub mod Laying
+pub mod Merging
+pub mod Overlay
+pub mod Resolution
+pub mod Keeping

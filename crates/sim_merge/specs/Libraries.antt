@@ -1,8 +1,8 @@
 -- What a library holds: templates by name, each with its resolved tree.
-use Rattle.std.specs.Prelude.{◌≡◌, ℕ, ◌≤◌, Bool, ◌&&◌, nat_le, IsTrue, List, length, refl}
+use Rattle.std.specs.Prelude.{◌≡◌, ℕ, ◌≤◌, Bool, ◌&&◌, nat_le, is_none, IsTrue, List, length, refl}
 use Rattle.std.specs.Coded.{Coded, code_by, coded×, coded_ℕ, coded_list}
 use Rattle.std.specs.List.{list_all}
-use Rattle.sim_tree.specs.Trees.{Node, is_sound, is_plain, levels}
+use Rattle.sim_tree.specs.Trees.{Node, mark_of, is_sound, is_plain, levels}
 use Rattle.sim_merge.specs.NodeCodes.{node_code}
 
 -- the names of templates, and beside each name the root of its tree
@@ -23,6 +23,10 @@ most_levels = 32
 -- a tree as it stands in a library: sound, without marks, and of at most 32 levels
 abbrev pub is_resolved : Node → Bool
 is_resolved n = is_sound n && (is_plain n && nat_le (levels n) most_levels)
+
+-- a tree that may be laid over another one: sound, without a mark at its root, and of at most 32 levels
+abbrev pub is_layable : Node → Bool
+is_layable n = is_sound n && (is_none (mark_of n) && nat_le (levels n) most_levels)
 
 -- a tree for each name, at most 256, each one resolved
 pub record IsLibrary (names : List (List ℕ)) (roots : List Node) : Type 0 where

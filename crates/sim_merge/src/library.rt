@@ -3,8 +3,9 @@
 ghost use Rattle.std.specs.Prelude.{◌≡◌, ◌<◌, ◌≤◌, Some, IsTrue, position, length, map, slice_get, string_bytes};
 ghost use Rattle.std.specs.Str.{bytes_eq};
 ghost use Rattle.sim_tree.specs.Trees.{node_of};
-ghost use Rattle.sim_merge.specs.Libraries.{is_resolved};
+ghost use Rattle.sim_merge.specs.Libraries.{is_resolved, IsLibrary};
 
+use crate::chains::place_of;
 use indexmap::IndexSet;
 use sim_tree::Tree;
 use std::marker::Model;
@@ -32,6 +33,14 @@ impl Model for Library {
 }
 
 impl Library {
+    // The library of these names and trees.
+    pub(crate) fn of(names: IndexSet<String>, trees: Vec<Tree>) -> Library
+        requires { IsLibrary (map string_bytes names.keys) (map node_of trees.items) }
+        ensures { result ≡ record { names = map string_bytes names.keys; roots = map node_of trees.items } }
+    {
+        Library { names, trees }
+    }
+
     /// The number of the template of this name.
     pub fn number_of(&self, name: &str) -> Option<u16>
         ensures { result ≡ position (bytes_eq name.now) self.now.names }
@@ -56,12 +65,4 @@ impl Library {
     {
         &self.trees[number as usize]
     }
-}
-
-// The place of a name among names.
-fn place_of(names: &IndexSet<String>, name: &str) -> Option<usize>
-    requires { length names.now.keys ≤ 256 }
-    ensures { result ≡ position (bytes_eq name.now) (map string_bytes names.now.keys) }
-{
-    names.get_index_of(name)
 }

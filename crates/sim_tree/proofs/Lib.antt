@@ -3,3 +3,4 @@ pub mod Ascends
 pub mod Forms
 pub mod Levels
 pub mod Steps
+pub mod Examples

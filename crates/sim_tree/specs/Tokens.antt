@@ -16,6 +16,6 @@ abbrev pub tokens_of : List ℕ → List (List ℕ)
 tokens_of text = filter is_word (slice_split is_space text)
 
 -- the words of a value, and none where there is no value
-abbrev pub value_tokens : Option (List ℕ) → List (List ℕ)
-value_tokens None = []
-value_tokens (Some text) = tokens_of text
+abbrev pub tokens_in : Option (List ℕ) → List (List ℕ)
+tokens_in None = []
+tokens_in (Some text) = tokens_of text

@@ -2,7 +2,7 @@
 
 ghost use Rattle.std.specs.Prelude.{◌≡◌, IfOk, option_map};
 ghost use Rattle.sim_tree.specs.Paths.{value_at, number_at};
-ghost use Rattle.sim_tree.specs.Tokens.{value_tokens};
+ghost use Rattle.sim_tree.specs.Tokens.{tokens_in as tokens_in_value};
 ghost use Rattle.sim_tree.specs.Trees.{node_of, value_of};
 
 use crate::tokens::{Names, tokens_in};
@@ -31,7 +31,7 @@ impl Tree {
 
     /// The words of the value at the path, and none where no value stands there.
     pub fn tokens(&self, alloc: Global, path: &[Name]) -> Result<Names, OutOfMemory>
-        ensures { IfOk result (λ words. words ≡ value_tokens (value_at (node_of self.now) path.now)) }
+        ensures { IfOk result (λ words. words ≡ tokens_in_value (value_at (node_of self.now) path.now)) }
     {
         match self.at(path) {
             Some(text) => tokens_in(alloc, text),

@@ -1,6 +1,6 @@
 use Rattle.std.proofs.Common.{◌∙◌}
 use Rattle.sim_merge.proofs.TextLemmas.{position-texts_of}
-use Rattle.sim_merge.proofs.library.place_of.Goals as goal
+use Rattle.sim_merge.proofs.chains.place_of.Goals as goal
 
 pub returns : goal.returns
 returns c = c.get_index_of.ensures.index ∙ position-texts_of c.args.name.now c.args.names.now.keys

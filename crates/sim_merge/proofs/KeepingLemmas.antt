@@ -1,0 +1,205 @@
+-- Trees that are kept while templates are resolved.
+use Rattle.std.proofs.Common.{◌≡◌, ℕ, zero, suc, ◌+◌, ◌<◌, ◌≤◌, ◌≢◌, nat_eq, Bool, true, false, ◌&&◌, List, [], ◌∷◌, ◌++◌, length, map, get_or, set, position, Option, Some, None, Result, Ok, Err, refl, sym, ap, ◌∙◌, arith, subst, replicate, add-one, zero-add}
+use Rattle.std.specs.Prelude.{slice_get, filter_map, option_and_then, option_map}
+use Rattle.std.specs.List.{list_all, range_with_len, cons_option}
+use Rattle.std.proofs.lemmas.List.{length-map, length-set, length-replicate, get_or-map, get_or-set_same, get_or-set_other, get_or_default}
+use Rattle.std.proofs.lemmas.Option.{slice_get-get_or}
+use Rattle.std.proofs.lemmas.List.Elements.{filter_map-append}
+use Rattle.std.proofs.lemmas.Bool.Decides.{nat_tests}
+use Rattle.std.proofs.lemmas.List.Quantifiers.{position-Some}
+use Rattle.std.specs.Str.{bytes_eq}
+use Rattle.sim_tree.specs.declared.tree.Tree.{Tree}
+use Rattle.sim_tree.specs.declared.source.Source.{Source}
+use Rattle.sim_tree.specs.Trees.{Node, node_of}
+use Rattle.sim_tree.specs.Sources.{Origin, origin_of}
+use Rattle.sim_merge.specs.declared.fault.MergeFault.{MergeFault}
+use Rattle.sim_merge.specs.declared.fault.MergeFault.TheVariants as merge
+use Rattle.sim_merge.specs.declared.fault.OverlayFault.{OverlayFault}
+use Rattle.sim_merge.specs.Faults.{IfBadOp, IfRefusal}
+use Rattle.sim_merge.specs.Libraries.{is_resolved, is_layable}
+use Rattle.sim_merge.specs.Laying.{Laying, refused, absent, there, laid}
+use Rattle.sim_merge.specs.Resolution.{origins_of, names_in, name_in, parents_in, parent_among, roots_in, root_in, bare, members, is_endless, inherited, chain_root, layings, is_missing, root_there, root_refusal}
+use Rattle.sim_merge.specs.Merging.{IsTreeOf}
+use Rattle.sim_merge.specs.Keeping.{AreWithin, Has, IsKept, KeepsAll, AreResolved}
+use Rattle.sim_merge.proofs.ChildrenLemmas.{and_both}
+use Rattle.sim_merge.proofs.FitLemmas.{IfNode, IfThere}
+use Rattle.sim_merge.proofs.ResolvedLemmas.{IsGood, chain_root-resolved, there-resolved, if-all}
+use Rattle.sim_merge.proofs.ResolutionLemmas.{members-parent, members-first, position-map, position-number, position-no_number}
+
+-- ---- chains
+
+pub chain_root-first : (parents : List (Option ℕ)) (roots : List Node) (number : ℕ) (own : Node) → get_or parents number None ≡ None → slice_get roots number ≡ Some own →
+    chain_root roots (members parents number) ≡ laid (Some bare) own
+chain_root-first parents roots number own first is =
+    ap (chain_root roots) (members-first parents number first) ∙ ap (inherited (there bare)) is
+
+pub chain_root-parent : (parents : List (Option ℕ)) (roots : List Node) (number parent : ℕ) (lower own : Node) → is_endless (members parents number) ≡ false →
+    get_or parents number None ≡ Some parent → chain_root roots (members parents parent) ≡ there lower → slice_get roots number ≡ Some own →
+    chain_root roots (members parents number) ≡ laid (Some lower) own
+chain_root-parent parents roots number parent lower own ended next below is =
+    ap (chain_root roots) (members-parent parents number parent ended next)
+        ∙ ap (λ l. inherited l (slice_get roots number)) below ∙ ap (inherited (there lower)) is
+
+pub chain_root-refused : (parents : List (Option ℕ)) (roots : List Node) (number parent : ℕ) → is_endless (members parents number) ≡ false →
+    get_or parents number None ≡ Some parent → chain_root roots (members parents parent) ≡ refused → chain_root roots (members parents number) ≡ refused
+chain_root-refused parents roots number parent ended next below =
+    ap (chain_root roots) (members-parent parents number parent ended next) ∙ ap (λ l. inherited l (slice_get roots number)) below
+
+pub IsTreeOf-same : (result : Result Tree OverlayFault) (l m : Laying) → l ≡ m → IsTreeOf result m → IsTreeOf result l
+IsTreeOf-same result l m e is = let P : Laying → Type 0 = λ x. IsTreeOf result x in subst P (sym e) is
+
+-- ---- own trees
+
+pub roots_in-at : (sources : List Source) (number : ℕ) (source : Source) → number < length sources → source ≡ get_or sources number source →
+    slice_get (roots_in (origins_of sources)) number ≡ Some (node_of source.tree)
+roots_in-at sources number source within is =
+    let counted : number < length (origins_of sources) = omega (arith, length-map sources origin_of) in
+    let all : number < length (roots_in (origins_of sources)) = omega (arith, length-map (origins_of sources) root_in) in
+    slice_get-get_or (roots_in (origins_of sources)) number (node_of source.tree) all
+        ∙ ap Some (get_or-map root_in (origins_of sources) number (origin_of source) (node_of source.tree) counted
+            ∙ ap root_in (get_or-map origin_of sources number source (origin_of source) within) ∙ ap (λ (s : Source). node_of s.tree) (sym is))
+
+pub is_layable-at : (roots : List Node) (number : ℕ) (n : Node) → list_all is_layable roots ≡ true → slice_get roots number ≡ Some n → is_layable n ≡ true
+is_layable-at roots number n all is =
+    let P : Option Node → Type 0 = λ o. IfNode (λ m. is_layable m ≡ true) o in subst P is (if-all is_layable roots number all)
+
+-- ---- keeping a tree more
+
+has-set : (kept : List (Option Tree)) (number other : ℕ) (tree : Tree) → number < length kept → Has kept other → Has (set kept number (Some tree)) other
+has-set kept number other tree within has = by (nat_eq other number) refl
+  where
+    by : (b : Bool) → nat_eq other number ≡ b → Has (set kept number (Some tree)) other
+    by true e = let same : other ≡ number = grind (arith, nat_tests) in
+        record { tree = tree; is = ap (λ k. get_or (set kept number (Some tree)) k None) same ∙ get_or-set_same kept number (Some tree) None within }
+    by false e = let differ : other ≢ number = grind (arith, nat_tests) in
+        record { tree = has.tree; is = get_or-set_other kept number other (Some tree) None differ ∙ has.is }
+
+pub KeepsAll-set : (old kept : List (Option Tree)) (number : ℕ) (tree : Tree) → number < length kept → KeepsAll old kept → KeepsAll old (set kept number (Some tree))
+KeepsAll-set old kept number tree within keeps = record { stays = λ other has. has-set kept number other tree within (keeps.stays other has) }
+
+pub Has-set : (kept : List (Option Tree)) (number : ℕ) (tree : Tree) → number < length kept → Has (set kept number (Some tree)) number
+Has-set kept number tree within = record { tree = tree; is = get_or-set_same kept number (Some tree) None within }
+
+pub IsKept-set : (parents : List (Option ℕ)) (roots : List Node) (kept : List (Option Tree)) (number : ℕ) (tree : Tree) → number < length kept → IsKept parents roots kept →
+    chain_root roots (members parents number) ≡ there (node_of tree) → IsKept parents roots (set kept number (Some tree))
+IsKept-set parents roots kept number tree within is new = record {
+    same = length-set kept number (Some tree) ∙ is.same;
+    trees = λ other t e. by other t e (nat_eq other number) refl;
+  }
+  where
+    some-same : (s t : Tree) → Some s ≡ Some t → s ≡ t
+    some-same s t e = cc
+
+    by : (other : ℕ) (t : Tree) → get_or (set kept number (Some tree)) other None ≡ Some t → (b : Bool) → nat_eq other number ≡ b → chain_root roots (members parents other) ≡ there (node_of t)
+    by other t e true f =
+        let same : other ≡ number = grind (arith, nat_tests) in
+        let tree-is : tree ≡ t = some-same tree t (sym (ap (λ k. get_or (set kept number (Some tree)) k None) same ∙ get_or-set_same kept number (Some tree) None within) ∙ e) in
+        ap (λ k. chain_root roots (members parents k)) same ∙ new ∙ ap (λ s. there (node_of s)) tree-is
+    by other t e false f =
+        let differ : other ≢ number = grind (arith, nat_tests) in
+        is.trees other t (sym (get_or-set_other kept number other (Some tree) None differ) ∙ e)
+
+pub nothing-kept : (parents : List (Option ℕ)) (roots : List Node) (kept : List (Option Tree)) → kept ≡ replicate (length parents) None → IsKept parents roots kept
+nothing-kept parents roots kept is = record {
+    same = ap length is ∙ length-replicate (length parents) None;
+    trees = λ number tree e. absurd (differ tree (sym (ap (λ ks. get_or ks number None) is ∙ none (length parents) number) ∙ e));
+  }
+  where
+    differ : (tree : Tree) → None ≡ Some tree → ⊥
+    differ tree e = cc
+
+    none : (n number : ℕ) → get_or (replicate {A = Option Tree} n None) number None ≡ None
+    none zero number = refl
+    none (suc n) zero = refl
+    none (suc n) (suc number) = none n number
+
+-- ---- the trees of all
+
+pub filter_map-push : (kept : List (Option Tree)) (slot : Option Tree) → filter_map (λ s. s) (kept ++ slot ∷ []) ≡ filter_map (λ s. s) kept ++ cons_option slot []
+filter_map-push kept slot = filter_map-append (λ s. s) kept (slot ∷ [])
+
+record IsCollected (n : ℕ) (ls : List Laying) (trees : List Tree) : Type 0 where
+  pub count : length trees ≡ n
+  pub is : map node_of trees ≡ filter_map root_there ls
+  pub resolved : list_all is_resolved (map node_of trees) ≡ true
+
+collected : (kept : List (Option Tree)) (a : ℕ) (f : ℕ → Laying) → ((k : ℕ) → k < length kept → Has kept k) →
+    ((k : ℕ) (tree : Tree) → get_or kept k None ≡ Some tree → f (a + k) ≡ there (node_of tree)) → ((k : ℕ) → IfThere IsGood (f k)) →
+    IsCollected (length kept) (map f (range_with_len a (length kept))) (filter_map (λ s. s) kept)
+collected [] a f has are good = record { count = refl; is = refl; resolved = refl }
+collected (None ∷ kept) a f has are good = absurd (differ (has 0 (omega arith)).tree (has 0 (omega arith)).is)
+  where
+    differ : (tree : Tree) → None ≡ Some tree → ⊥
+    differ tree e = cc
+collected (Some tree ∷ kept) a f has are good =
+    let rest = collected kept (a + 1) f
+        (λ k h. let there = has (suc k) (omega (arith, h)) in record { tree = there.tree; is = there.is })
+        (λ k t e. ap f (let same : a + 1 + k ≡ a + suc k = omega arith in same) ∙ are (suc k) t e) good in
+    let here : f a ≡ there (node_of tree) = ap f (let same : a ≡ a + 0 = omega arith in same) ∙ are 0 tree refl in
+    record {
+      count = ap suc rest.count;
+      is = ap (λ ns. node_of tree ∷ ns) rest.is ∙ ap (λ l. cons_option (root_there l) (filter_map root_there (map f (range_with_len (a + 1) (length kept))))) (sym here);
+      resolved = and_both (is_resolved (node_of tree)) (list_all is_resolved (map node_of (filter_map (λ s. s) kept)))
+          (there-resolved (f a) (node_of tree) here (good a)) rest.resolved;
+    }
+
+pub all-collected : (parents : List (Option ℕ)) (roots : List Node) (kept : List (Option Tree)) (trees : List Tree) → IsKept parents roots kept → ((k : ℕ) → k < length parents → Has kept k) →
+    list_all is_layable roots ≡ true → trees ≡ filter_map (λ s. s) kept → AreResolved parents roots trees
+all-collected parents roots kept trees is has layable made =
+    let all = collected kept 0 (λ n. chain_root roots (members parents n)) (λ k h. has k (omega (arith, is.same)))
+        (λ k t e. ap (λ n. chain_root roots (members parents n)) (zero-add k) ∙ is.trees k t e) (λ k. chain_root-resolved roots (members parents k) layable) in
+    record {
+      count = ap length made ∙ all.count ∙ is.same;
+      is = ap (map node_of) made ∙ all.is ∙ ap (λ n. filter_map root_there (map (λ k. chain_root roots (members parents k)) (range_with_len 0 n))) is.same;
+      resolved = ap (λ ts. list_all is_resolved (map node_of ts)) made ∙ all.resolved;
+    }
+
+is_missing-kept : (parents : List (Option ℕ)) (roots : List Node) (kept : List (Option Tree)) → IsKept parents roots kept → (k : ℕ) → Has kept k → is_missing (chain_root roots (members parents k)) ≡ false
+is_missing-kept parents roots kept is k has = ap is_missing (is.trees k has.tree has.is)
+
+pub root_refusal-at : (parents : List (Option ℕ)) (roots : List Node) (kept : List (Option Tree)) (number : ℕ) → number < length parents → IsKept parents roots kept →
+    ((k : ℕ) → k < number → Has kept k) → chain_root roots (members parents number) ≡ refused → root_refusal (layings parents roots) ≡ Some (merge.BadOp number)
+root_refusal-at parents roots kept number within is has here =
+    ap (option_map merge.BadOp)
+    (position-map (λ n. chain_root roots (members parents n)) is_missing (range_with_len 0 (length parents))
+        ∙ position-number (λ n. is_missing (chain_root roots (members parents n))) (length parents) number within (ap is_missing here)
+            (λ k h. is_missing-kept parents roots kept is k (has k h)))
+
+pub root_refusal-none : (parents : List (Option ℕ)) (roots : List Node) (kept : List (Option Tree)) → IsKept parents roots kept →
+    ((k : ℕ) → k < length parents → Has kept k) → root_refusal (layings parents roots) ≡ None
+root_refusal-none parents roots kept is has =
+    ap (option_map merge.BadOp)
+    (position-map (λ n. chain_root roots (members parents n)) is_missing (range_with_len 0 (length parents))
+        ∙ position-no_number (λ n. is_missing (chain_root roots (members parents n))) (length parents) (λ k h. is_missing-kept parents roots kept is k (has k h)))
+
+pub IfRefusal-weaker : (fault : MergeFault) (P Q : Type 0) → (P → Q) → IfRefusal fault P → IfRefusal fault Q
+IfRefusal-weaker (merge.NoParent index) P Q f p = f p
+IfRefusal-weaker (merge.Cycle index) P Q f p = f p
+IfRefusal-weaker (merge.ChainTooLong index) P Q f p = f p
+IfRefusal-weaker (merge.BadOp index) P Q f p = f p
+IfRefusal-weaker merge.OutOfMemory P Q f p = tt
+
+-- ---- parents are templates
+
+parent_among-within : (names : List (List ℕ)) (parent : Option (List ℕ)) (number : ℕ) → option_and_then (λ name. position (bytes_eq name) names) parent ≡ Some number → number < length names
+parent_among-within names None number e = absurd (differ number e)
+  where
+    differ : (number : ℕ) → None ≡ Some number → ⊥
+    differ number e = cc
+parent_among-within names (Some name) number e = (position-Some (bytes_eq name) names number [] e).0
+
+within-map : {X : Type 0} (f : X → Option ℕ) (n : ℕ) → ((x : X) (r : ℕ) → f x ≡ Some r → r < n) → (xs : List X) (i r : ℕ) → get_or (map f xs) i None ≡ Some r → r < n
+within-map f n bound [] i r e = absurd (differ r e)
+  where
+    differ : (r : ℕ) → None ≡ Some r → ⊥
+    differ r e = cc
+within-map f n bound (x ∷ xs) zero r e = bound x r e
+within-map f n bound (x ∷ xs) (suc i) r e = within-map f n bound xs i r e
+
+pub AreWithin-parents_in : (origins : List Origin) → AreWithin (parents_in origins)
+AreWithin-parents_in origins = record {
+    within = λ number parent e.
+        let small : parent < length (names_in origins) =
+            within-map (parent_among (names_in origins)) (length (names_in origins)) (λ o r f. parent_among-within (names_in origins) o.parent r f) origins number parent e in
+        omega (arith, length-map origins name_in, length-map origins (parent_among (names_in origins)));
+  }

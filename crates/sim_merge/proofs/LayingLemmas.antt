@@ -1,0 +1,72 @@
+-- The steps of an overlay, as steps of its definition.
+use Rattle.std.proofs.Common.{◌≡◌, ℕ, Bool, true, List, Option, Some, None, refl, sym, ap, ◌∙◌, subst}
+use Rattle.sim_tree.specs.declared.tree.Tree.{Tree}
+use Rattle.sim_tree.specs.declared.tree.Child.{Child}
+use Rattle.sim_tree.specs.declared.tree.Child.TheOpen.{Tree-F, Child-F}
+use Rattle.sim_tree.specs.declared.tree.Child.TheViews.{out-Tree, roll-Tree, out-Child}
+use Rattle.sim_tree.specs.Trees.{Node, Children, node, child, no_children, node_of, nodes_of, named_of, under, value_of, child_named, are_sound}
+use Rattle.sim_merge.specs.Values.{Value, value_over}
+use Rattle.sim_merge.specs.declared.fault.OverlayFault.{OverlayFault}
+use Rattle.sim_merge.specs.declared.fault.OverlayFault.TheVariants.{BadOp, OutOfMemory}
+use Rattle.sim_merge.specs.Faults.{IfBadOp}
+use Rattle.sim_merge.specs.Laying.{Laying, refused, absent, there, laid, laid_under, lower_value, lower_children, before, behind, followed_by, with_lower, with_laid, over_children}
+use Rattle.sim_merge.specs.Merging.{IsPast, IsMerged, laid_unmarked}
+use Rattle.sim_merge.proofs.ChildrenLemmas.{with_lower-followed_by}
+use Rattle.sim_merge.proofs.NodeLemmas.{node_of-out, node_of-roll, named_of-out}
+
+pub IfBadOp-weaker : (fault : OverlayFault) (P Q : Type 0) → (P → Q) → IfBadOp fault P → IfBadOp fault Q
+IfBadOp-weaker BadOp P Q f p = f p
+IfBadOp-weaker OutOfMemory P Q f p = tt
+
+-- an upper child, once the lower children before it are passed
+laid_under-past : (name : List ℕ) (upper : Node) (old pushed lower rest : Children) → IsPast name old pushed lower rest → (more : Children) →
+    with_lower old (laid_under lower (child name upper more)) ≡ with_lower pushed (with_laid name (laid (child_named name rest) upper) (laid_under (behind name rest) more))
+laid_under-past name upper old pushed lower rest past more =
+    sym (with_lower-followed_by old (before name lower) (with_laid name (laid (child_named name lower) upper) (laid_under (behind name lower) more)))
+    ∙ ap (λ cs. with_lower cs (with_laid name (laid (child_named name lower) upper) (laid_under (behind name lower) more))) (sym past.passed)
+    ∙ ap (λ n. with_lower pushed (with_laid name (laid n upper) (laid_under (behind name lower) more))) (sym past.named)
+    ∙ ap (λ cs. with_lower pushed (with_laid name (laid (child_named name rest) upper) (laid_under cs more))) (sym past.behind)
+
+pub merged-step : (name : List ℕ) (upper : Node) (old pushed new lower rest left : Children) (laying : Laying) → IsPast name old pushed lower rest →
+    laid (child_named name rest) upper ≡ laying → ((more : Option Children) → with_lower pushed (with_laid name laying more) ≡ with_lower new more) →
+    left ≡ behind name rest → are_sound left ≡ true → IsMerged name upper old new lower left
+merged-step name upper old pushed new lower rest left laying past is added is_behind sound = record {
+  merged = λ more. laid_under-past name upper old pushed lower rest past more
+      ∙ ap (λ l. with_lower pushed (with_laid name l (laid_under (behind name rest) more))) is
+      ∙ added (laid_under (behind name rest) more)
+      ∙ ap (λ cs. with_lower new (laid_under cs more)) (sym is_behind);
+  sound = sound;
+}
+
+none_from-with_lower : (cs : Children) (more : Option Children) → with_lower cs more ≡ None → more ≡ None
+none_from-with_lower cs None e = refl
+none_from-with_lower cs (Some more) e = absurd (differ (followed_by cs more) e)
+  where
+    differ : (ds : Children) → Some ds ≡ None → ⊥
+    differ ds e = cc
+
+pub refused-step : (name : List ℕ) (upper : Node) (old pushed lower rest : Children) → IsPast name old pushed lower rest →
+    laid (child_named name rest) upper ≡ refused → (more : Children) → laid_under lower (child name upper more) ≡ None
+refused-step name upper old pushed lower rest past is more =
+    none_from-with_lower old (laid_under lower (child name upper more))
+    (laid_under-past name upper old pushed lower rest past more ∙ ap (λ l. with_lower pushed (with_laid name l (laid_under (behind name rest) more))) is)
+
+-- ---- a node whose root has no mark
+
+under-out : (t : Tree) → under (node_of t) ≡ nodes_of (out-Tree t).children.items
+under-out t = ap under (node_of-out t)
+
+pub unmarked-there : (lower : Option Node) (upper : Tree) (made : Tree-F Child Tree) → made.value ≡ value_over (value_of (node_of upper)) (lower_value lower) → made.mark ≡ None →
+    laid_under (lower_children lower) (nodes_of (out-Tree upper).children.items) ≡ Some (nodes_of made.children.items) → laid_unmarked lower (node_of upper) ≡ there (node_of (roll-Tree made))
+unmarked-there lower upper made value mark children =
+    ap (λ os. over_children (value_over (value_of (node_of upper)) (lower_value lower)) (laid_under (lower_children lower) os)) (under-out upper)
+    ∙ ap (over_children (value_over (value_of (node_of upper)) (lower_value lower))) children
+    ∙ ap (λ (v : Value). there (node v None (nodes_of made.children.items))) (sym value)
+    ∙ ap (λ m. there (node made.value m (nodes_of made.children.items))) (sym mark)
+    ∙ ap there (sym (node_of-roll made))
+
+pub unmarked-refused : (lower : Option Node) (upper : Tree) → laid_under (lower_children lower) (nodes_of (out-Tree upper).children.items) ≡ None →
+    laid_unmarked lower (node_of upper) ≡ refused
+unmarked-refused lower upper children =
+    ap (λ os. over_children (value_over (value_of (node_of upper)) (lower_value lower)) (laid_under (lower_children lower) os)) (under-out upper)
+    ∙ ap (over_children (value_over (value_of (node_of upper)) (lower_value lower))) children

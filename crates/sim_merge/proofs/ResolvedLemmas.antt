@@ -1,0 +1,91 @@
+-- Trees of a library, and trees that may be laid over them.
+use Rattle.std.proofs.Common.{◌≡◌, ℕ, zero, suc, ◌<◌, ◌≤◌, ◌&&◌, Bool, true, false, nat_le, List, [], ◌∷◌, Option, Some, None, refl, sym, ap, ◌∙◌, arith, subst, true≢false, length}
+use Rattle.std.specs.Prelude.{is_none, slice_get}
+use Rattle.std.specs.List.{list_all}
+use Rattle.std.proofs.lemmas.Bool.Decides.{nat_tests}
+use Rattle.sim_tree.specs.declared.tree.TreeMark.{TreeMark}
+use Rattle.sim_tree.specs.Trees.{Node, Children, node, mark_of, is_sound, is_plain, levels}
+use Rattle.sim_merge.specs.Laying.{Laying, refused, absent, there, laid}
+use Rattle.sim_merge.specs.Libraries.{is_resolved, is_layable}
+use Rattle.sim_merge.specs.Merging.{laid_unmarked}
+use Rattle.sim_merge.specs.Resolution.{bare, inherited, chain_root}
+use Rattle.sim_merge.proofs.ChildrenLemmas.{and_left, and_right, and_both}
+use Rattle.sim_merge.proofs.FitLemmas.{IsFit, IfNode, IfThere, fit-laid}
+
+le-true : (n k : ℕ) → nat_le n k ≡ true → n ≤ k
+le-true n k e = grind (arith, nat_tests)
+
+true-le : (n k : ℕ) → n ≤ k → nat_le n k ≡ true
+true-le n k e = grind (arith, nat_tests)
+
+pub fit-is_resolved : (n : Node) → is_resolved n ≡ true → IsFit 32 n
+fit-is_resolved n e =
+    let rest = and_right (is_sound n) (is_plain n && nat_le (levels n) 32) e in
+    record {
+      sound = and_left (is_sound n) (is_plain n && nat_le (levels n) 32) e;
+      plain = and_left (is_plain n) (nat_le (levels n) 32) rest;
+      few = le-true (levels n) 32 (and_right (is_plain n) (nat_le (levels n) 32) rest);
+    }
+
+is_resolved-fit : (n : Node) → IsFit 32 n → is_resolved n ≡ true
+is_resolved-fit n fit =
+    and_both (is_sound n) (is_plain n && nat_le (levels n) 32) fit.sound (and_both (is_plain n) (nat_le (levels n) 32) fit.plain (true-le (levels n) 32 fit.few))
+
+pub is_sound-layable : (n : Node) → is_layable n ≡ true → is_sound n ≡ true
+is_sound-layable n e = and_left (is_sound n) (is_none (mark_of n) && nat_le (levels n) 32) e
+
+none-is_none : (mark : Option TreeMark) → is_none mark ≡ true → mark ≡ None
+none-is_none None e = refl
+none-is_none (Some mark) e = absurd (true≢false (sym e))
+
+pub mark_of-layable : (n : Node) → is_layable n ≡ true → mark_of n ≡ None
+mark_of-layable n e =
+    none-is_none (mark_of n) (and_left (is_none (mark_of n)) (nat_le (levels n) 32) (and_right (is_sound n) (is_none (mark_of n) && nat_le (levels n) 32) e))
+
+levels-layable : (n : Node) → is_layable n ≡ true → levels n ≤ 32
+levels-layable n e =
+    le-true (levels n) 32 (and_right (is_none (mark_of n)) (nat_le (levels n) 32) (and_right (is_sound n) (is_none (mark_of n) && nat_le (levels n) 32) e))
+
+abbrev pub IsGood : Node → Type 0
+IsGood n = is_resolved n ≡ true
+
+weaker : (laying : Laying) → IfThere (IsFit 32) laying → IfThere IsGood laying
+weaker refused fit = tt
+weaker absent fit = tt
+weaker (there n) fit = is_resolved-fit n fit
+
+-- what is laid over a resolved tree is resolved
+pub laid-resolved : (lower upper : Node) → is_resolved lower ≡ true → is_layable upper ≡ true → IfThere IsGood (laid (Some lower) upper)
+laid-resolved lower upper e f = weaker (laid (Some lower) upper) (fit-laid 32 (Some lower) upper (fit-is_resolved lower e) (is_sound-layable upper f) (levels-layable upper f))
+
+pub there-resolved : (laying : Laying) (n : Node) → laying ≡ there n → IfThere IsGood laying → is_resolved n ≡ true
+there-resolved laying n e good = let P : Laying → Type 0 = λ l. IfThere IsGood l in subst P e good
+
+-- an upper node without a mark
+laid-by_mark : (lower : Option Node) (upper : Node) (mark : Option TreeMark) → mark_of upper ≡ mark → mark ≡ None → laid lower upper ≡ laid_unmarked lower upper
+laid-by_mark lower (node value None os) mark e f = refl
+laid-by_mark lower (node value (Some m) os) mark e f = absurd (differ m (e ∙ f))
+  where
+    differ : (m : TreeMark) → Some m ≡ None → ⊥
+    differ m e = cc
+
+pub laid-unmarked : (lower : Option Node) (upper : Node) → mark_of upper ≡ None → laid lower upper ≡ laid_unmarked lower upper
+laid-unmarked lower upper e = laid-by_mark lower upper None e refl
+
+-- ---- the tree of a chain
+
+pub if-all : (p : Node → Bool) (roots : List Node) (number : ℕ) → list_all p roots ≡ true → IfNode (λ n. p n ≡ true) (slice_get roots number)
+if-all p [] number all = tt
+if-all p (root ∷ roots) zero all = and_left (p root) (list_all p roots) all
+if-all p (root ∷ roots) (suc number) all = if-all p roots number (and_right (p root) (list_all p roots) all)
+
+inherited-resolved : (lower : Laying) (own : Option Node) → IfThere IsGood lower → IfNode (λ n. is_layable n ≡ true) own → IfThere IsGood (inherited lower own)
+inherited-resolved refused own good layable = tt
+inherited-resolved absent own good layable = tt
+inherited-resolved (there lower) None good layable = tt
+inherited-resolved (there lower) (Some own) good layable = laid-resolved lower own good layable
+
+pub chain_root-resolved : (roots : List Node) (chain : List ℕ) → list_all is_layable roots ≡ true → IfThere IsGood (chain_root roots chain)
+chain_root-resolved roots [] all = refl
+chain_root-resolved roots (number ∷ chain) all =
+    inherited-resolved (chain_root roots chain) (slice_get roots number) (chain_root-resolved roots chain all) (if-all is_layable roots number all)

@@ -1,0 +1,6 @@
+use Rattle.std.proofs.Common.{◌≡◌, ◌++◌, map, drop, string_bytes}
+use Rattle.sim_merge.specs.Resolution.{origins_of, names_in}
+use Rattle.sim_merge.proofs.chains.names_of.Given as goal
+
+abbrev pub invariant-loop-source : goal.invariant-loop-source
+invariant-loop-source l = names_in (origins_of l.sources) ≡ map string_bytes l.names.keys ++ names_in (origins_of (drop l.source-index l.sources))

@@ -1,0 +1,9 @@
+use Rattle.std.proofs.Common.{◌≡◌, ◌++◌, ◌-◌, ◌<◌, length, ℕ, Some}
+use Rattle.sim_merge.specs.Resolution.{chain_from, members}
+use Rattle.sim_merge.proofs.chains.put_members.Given as goal
+
+abbrev pub invariant-loop-seen : goal.invariant-loop-seen
+invariant-loop-seen l = record {
+  chain : l.chain.items ++ chain_from l.parents (17 - l.seen) l.next ≡ members l.parents l.number;
+  within : (member : ℕ) → l.next ≡ Some member → member < length l.parents;
+}

@@ -1,0 +1,24 @@
+use Rattle.std.proofs.Common.{◌≡◌, ◌+◌, [], drop, sym, ap, ◌∙◌, rules, arith}
+use Rattle.std.proofs.lemmas.List.{drop_all}
+use Rattle.sim_tree.specs.Trees.{nodes_of, named_of, child, no_children}
+use Rattle.sim_merge.specs.Laying.{followed_by}
+use Rattle.sim_merge.proofs.ChildrenLemmas.{followed_by-assoc, followed_by-end}
+use Rattle.sim_merge.proofs.NodeLemmas.{nodes_of-at}
+use Rattle.sim_merge.proofs.merge.push_copies.Goals as goal
+
+pub loop-child-preserved : goal.loop-child-preserved
+loop-child-preserved c =
+    let xs = c.args.children.now in
+    let x = c.child-item.result in
+    let i = c.loop-child.child-index in
+    let out = nodes_of c.loop-child.out.items in
+    ap (λ cs. followed_by cs (nodes_of (drop (i + 1) xs))) c.in_ok-push_copy.ensures
+    ∙ followed_by-assoc out (child (named_of x).0 (named_of x).1 no_children) (nodes_of (drop (i + 1) xs))
+    ∙ ap (followed_by out) (sym (nodes_of-at xs i x c.loop-child-test.true c.child-item.is))
+    ∙ c.loop-child.invariant
+
+pub returns : goal.returns
+returns c =
+    let out = nodes_of c.loop-child.out.items in
+    let none : drop c.loop-child.child-index c.args.children.now ≡ [] = drop_all c.loop-child.child-index c.args.children.now c.loop-child-test.false in
+    sym (followed_by-end out) ∙ ap (λ xs. followed_by out (nodes_of xs)) (sym none) ∙ c.loop-child.invariant

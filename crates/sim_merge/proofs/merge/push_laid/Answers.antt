@@ -1,0 +1,16 @@
+use Rattle.std.proofs.Common.{◌≡◌, ap, sym, ◌∙◌}
+use Rattle.sim_tree.specs.Trees.{nodes_of, node_of, child, no_children}
+use Rattle.sim_merge.specs.Laying.{with_lower, with_laid}
+use Rattle.sim_merge.specs.Merging.{laying_of}
+use Rattle.sim_merge.proofs.ChildrenLemmas.{with_lower-followed_by, with_lower-child}
+use Rattle.sim_merge.proofs.merge.push_laid.Goals as goal
+
+pub returns-in_ok-push_child-in-Some : goal.returns-in_ok-push_child-in-Some
+returns-in_ok-push_child-in-Some c =
+    let old = nodes_of c.args.out.now.items in
+    let name = c.args.name.now in
+    let n = node_of c.in-Some.tree in
+    λ more. ap (λ tree. with_lower old (with_laid name (laying_of tree) more)) c.in-Some.is
+    ∙ ap (with_lower old) (sym (with_lower-child name n more))
+    ∙ sym (with_lower-followed_by old (child name n no_children) more)
+    ∙ ap (λ cs. with_lower cs more) (sym c.in_ok-push_child-in-Some.ensures)

@@ -1,0 +1,21 @@
+use Rattle.std.proofs.Common.{sym, ap, ◌∙◌, ◌+ℤ◌}
+use Rattle.sim_base.specs.Numbers.{product}
+use Rattle.sim_merge.specs.Operations.{function_of, number_by}
+use Rattle.sim_merge.proofs.OperationLemmas.{in_range-SomeIff, number_by-some}
+use Rattle.sim_merge.proofs.operation.number_of.Goals as goal
+
+pub returns-in-Sum : goal.returns-in-Sum
+returns-in-Sum c =
+    let lower = c.args.lower.now in
+    let upper = c.args.upper.now in
+    in_range-SomeIff c.checked_add.result _ c.checked_add.ensures
+    ∙ number_by-some (λ x y. x +ℤ y) lower upper c.in_ok-lower.lower c.in_ok-upper.upper c.in_ok-lower.ensures c.in_ok-upper.ensures
+    ∙ ap (λ operation. number_by (function_of operation) lower upper) (sym c.in-Sum.is)
+
+pub returns-in-Product : goal.returns-in-Product
+returns-in-Product c =
+    let lower = c.args.lower.now in
+    let upper = c.args.upper.now in
+    in_range-SomeIff c.checked_mul.result _ c.checked_mul.ensures
+    ∙ number_by-some product lower upper c.in_ok-lower.lower c.in_ok-upper.upper c.in_ok-lower.ensures c.in_ok-upper.ensures
+    ∙ ap (λ operation. number_by (function_of operation) lower upper) (sym c.in-Product.is)

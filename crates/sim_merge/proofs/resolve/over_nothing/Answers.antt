@@ -1,0 +1,18 @@
+use Rattle.std.proofs.Common.{◌≡◌, true, Some, sym, ap, ◌∙◌}
+use Rattle.sim_tree.specs.Trees.{node_of}
+use Rattle.sim_merge.specs.Libraries.{is_resolved}
+use Rattle.sim_merge.specs.Laying.{laid}
+use Rattle.sim_merge.specs.Resolution.{origins_of, roots_in, members, chain_root}
+use Rattle.sim_merge.proofs.KeepingLemmas.{chain_root-first, IsTreeOf-same}
+use Rattle.sim_merge.proofs.resolve.over_nothing.Goals as goal
+
+pub overlay-requires-clause-lower : goal.overlay-requires-clause-lower
+overlay-requires-clause-lower c = ap is_resolved c.bare.ensures
+
+pub returns : goal.returns
+returns c =
+    let own = node_of c.own_at.result.now in
+    IsTreeOf-same c.overlay.result _ _
+    (chain_root-first c.args.parents.now (roots_in (origins_of c.args.sources.now)) c.args.number own c.requires.first c.own_at.ensures.own
+        ∙ ap (λ lower. laid (Some lower) own) (sym c.bare.ensures))
+    c.overlay.ensures.laid

@@ -1,0 +1,6 @@
+use Rattle.std.proofs.Common.{◌≡◌}
+use Rattle.std.specs.Prelude.{filter_map}
+use Rattle.sim_merge.proofs.resolve.taken.Given as goal
+
+abbrev pub invariant-loop-slot : goal.invariant-loop-slot
+invariant-loop-slot l = l.trees.items ≡ filter_map (λ slot. slot) l.yielded

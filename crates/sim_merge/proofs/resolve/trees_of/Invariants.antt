@@ -1,0 +1,10 @@
+use Rattle.std.proofs.Common.{◌<◌, ℕ}
+use Rattle.sim_merge.specs.Resolution.{origins_of, roots_in}
+use Rattle.sim_merge.specs.Keeping.{IsKept, Has}
+use Rattle.sim_merge.proofs.resolve.trees_of.Given as goal
+
+abbrev pub invariant-loop-number : goal.invariant-loop-number
+invariant-loop-number l = record {
+  kept : IsKept l.parents (roots_in (origins_of l.sources)) l.kept.items;
+  has : (k : ℕ) → k < l.number → Has l.kept.items k;
+}

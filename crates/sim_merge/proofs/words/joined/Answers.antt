@@ -1,0 +1,12 @@
+use Rattle.std.proofs.Common.{◌++◌, ◌∷◌, sym, ap, ◌∙◌, string_bytes, if◌then◌else◌, ◌==◌}
+use Rattle.sim_merge.proofs.WordLemmas.{joined-next}
+use Rattle.sim_merge.proofs.words.joined.Goals as goal
+
+pub loop-place-preserved : goal.loop-place-preserved
+loop-place-preserved c =
+    let place = c.loop-place.place in
+    let word = c.index-words-place.result in
+    c.in_ok-push_word.ensures
+    ∙ ap (λ w. string_bytes c.loop-place.text ++ (if place == 0 then w else 0x20 ∷ w)) c.as_str.ensures
+    ∙ ap (λ text. text ++ (if place == 0 then word else 0x20 ∷ word)) c.loop-place.invariant
+    ∙ sym (joined-next c.args.words.now place word c.loop-place-test.true c.index-words-place.is)

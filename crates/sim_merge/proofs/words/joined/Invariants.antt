@@ -1,0 +1,6 @@
+use Rattle.std.proofs.Common.{◌≡◌, take, string_bytes}
+use Rattle.std.specs.List.{join_with_byte}
+use Rattle.sim_merge.proofs.words.joined.Given as goal
+
+abbrev pub invariant-loop-place : goal.invariant-loop-place
+invariant-loop-place l = string_bytes l.text ≡ join_with_byte 0x20 (take l.place l.words)

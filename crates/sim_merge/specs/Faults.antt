@@ -1,0 +1,16 @@
+-- What faults tell: a refusal tells a fact, and want of memory tells nothing.
+use Rattle.sim_merge.specs.declared.fault.OverlayFault.{OverlayFault}
+use Rattle.sim_merge.specs.declared.fault.OverlayFault.TheVariants as overlay
+use Rattle.sim_merge.specs.declared.fault.MergeFault.{MergeFault}
+use Rattle.sim_merge.specs.declared.fault.MergeFault.TheVariants as merge
+
+abbrev pub IfBadOp : OverlayFault → Type 0 → Type 0
+IfBadOp overlay.BadOp fact = fact
+IfBadOp overlay.OutOfMemory fact = Unit {0}
+
+abbrev pub IfRefusal : MergeFault → Type 0 → Type 0
+IfRefusal (merge.NoParent index) fact = fact
+IfRefusal (merge.Cycle index) fact = fact
+IfRefusal (merge.ChainTooLong index) fact = fact
+IfRefusal (merge.BadOp index) fact = fact
+IfRefusal merge.OutOfMemory fact = Unit {0}

@@ -1,0 +1,139 @@
+-- The resolved trees of templates, each with all that it inherits, or the first template that has none.
+use Rattle.std.specs.Prelude.{ℕ, zero, suc, Bool, true, false, ◌&&◌, not, ◌||◌, nat_lt, ◌==◌, List, [], ◌∷◌, length, map, position, filter_map, Option, Some, None, is_some, is_none, option_map, option_and_then, slice_get, slice_index_or, Result, Ok, Err, if◌then◌else◌}
+use Rattle.std.specs.List.{list_any, range_with_len}
+use Rattle.std.specs.Str.{bytes_eq}
+use Rattle.sim_tree.specs.Trees.{Node, node, no_children}
+use Rattle.sim_tree.specs.declared.source.Source.{Source}
+use Rattle.sim_tree.specs.Sources.{Origin, origin_of}
+use Rattle.sim_merge.specs.declared.fault.MergeFault.{MergeFault}
+use Rattle.sim_merge.specs.declared.fault.MergeFault.TheVariants.{NoParent, Cycle, ChainTooLong, BadOp}
+use Rattle.sim_merge.specs.Laying.{Laying, refused, absent, there, laid}
+
+-- ---- names
+
+abbrev pub origins_of : List Source → List Origin
+origins_of sources = map origin_of sources
+
+abbrev pub name_in : Origin → List ℕ
+name_in origin = origin.name
+
+abbrev pub names_in : List Origin → List (List ℕ)
+names_in origins = map name_in origins
+
+-- no name stands twice
+abbrev pub are_distinct : List (List ℕ) → Bool
+are_distinct [] = true
+are_distinct (name ∷ names) = not (list_any (bytes_eq name) names) && are_distinct names
+
+-- ---- parents, as numbers of templates
+
+-- the number of a template's parent, if it has a parent among these names
+abbrev pub parent_among : List (List ℕ) → Origin → Option ℕ
+parent_among names origin = option_and_then (λ name. position (bytes_eq name) names) origin.parent
+
+abbrev pub parents_in : List Origin → List (Option ℕ)
+parents_in origins = map (parent_among (names_in origins)) origins
+
+-- a template has a parent, and none among these names
+abbrev pub is_orphan : List (List ℕ) → Origin → Bool
+is_orphan names origin = is_some origin.parent && is_none (parent_among names origin)
+
+-- the first template whose parent is not there
+abbrev pub orphan_refusal : List Origin → Option MergeFault
+orphan_refusal origins = option_map NoParent (position (is_orphan (names_in origins)) origins)
+
+-- ---- chains
+
+-- a template, its parent, and so on, so many at most
+abbrev pub chain_from : List (Option ℕ) → ℕ → Option ℕ → List ℕ
+chain_from parents zero number = []
+chain_from parents (suc more) None = []
+chain_from parents (suc more) (Some number) = number ∷ chain_from parents more (slice_index_or parents number None)
+
+-- how many members a chain has at most
+abbrev pub most_members : ℕ
+most_members = 16
+
+-- the first 17 members
+unfoldable pub members : List (Option ℕ) → ℕ → List ℕ
+members parents number = chain_from parents (suc most_members) (Some number)
+
+abbrev pub numbers : List (Option ℕ) → List ℕ
+numbers parents = range_with_len 0 (length parents)
+
+-- a member stands twice
+abbrev pub repeats : List ℕ → Bool
+repeats [] = false
+repeats (number ∷ chain) = list_any (λ other. other == number) chain || repeats chain
+
+-- the members repeat, or are too many
+abbrev pub is_endless : List ℕ → Bool
+is_endless chain = repeats chain || nat_lt most_members (length chain)
+
+abbrev pub chain_fault : ℕ → List ℕ → MergeFault
+chain_fault number chain = if repeats chain then Cycle number else ChainTooLong number
+
+-- the first template whose chain is endless
+abbrev pub chain_refusal : List (Option ℕ) → Option MergeFault
+chain_refusal parents =
+    option_map (λ number. chain_fault number (members parents number)) (position (λ number. is_endless (members parents number)) (numbers parents))
+
+-- ---- trees
+
+-- a node with nothing to it
+abbrev pub bare : Node
+bare = node None None no_children
+
+-- a template's own tree laid over that of its parent
+abbrev pub inherited : Laying → Option Node → Laying
+inherited (there lower) (Some own) = laid (Some lower) own
+inherited (there lower) None = refused
+inherited refused own = refused
+inherited absent own = refused
+
+-- the tree of a chain
+abbrev pub chain_root : List Node → List ℕ → Laying
+chain_root roots [] = there bare
+chain_root roots (number ∷ chain) = inherited (chain_root roots chain) (slice_get roots number)
+
+abbrev pub root_in : Origin → Node
+root_in origin = origin.root
+
+abbrev pub roots_in : List Origin → List Node
+roots_in origins = map root_in origins
+
+-- the tree of each template
+abbrev pub layings : List (Option ℕ) → List Node → List Laying
+layings parents roots = map (λ number. chain_root roots (members parents number)) (numbers parents)
+
+abbrev pub is_missing : Laying → Bool
+is_missing refused = true
+is_missing absent = true
+is_missing (there n) = false
+
+abbrev pub root_there : Laying → Option Node
+root_there refused = None
+root_there absent = None
+root_there (there n) = Some n
+
+-- the first template with a refused operation in its tree, or in one that it inherits
+abbrev pub root_refusal : List Laying → Option MergeFault
+root_refusal trees = option_map BadOp (position is_missing trees)
+
+-- ---- all together
+
+-- a refusal, or else what comes behind it
+abbrev pub unless : Option MergeFault → Result (List Node) MergeFault → Result (List Node) MergeFault
+unless (Some fault) more = Err fault
+unless None more = more
+
+abbrev pub with_roots : List Laying → Result (List Node) MergeFault
+with_roots trees = unless (root_refusal trees) (Ok (filter_map root_there trees))
+
+abbrev pub with_chains : List (Option ℕ) → List Node → Result (List Node) MergeFault
+with_chains parents roots = unless (chain_refusal parents) (with_roots (layings parents roots))
+
+-- the resolved trees, or the first template without its parent, else the first with an endless chain, else the first with
+-- a refused operation
+abbrev pub resolution_of : List Origin → Result (List Node) MergeFault
+resolution_of origins = unless (orphan_refusal origins) (with_chains (parents_in origins) (roots_in origins))

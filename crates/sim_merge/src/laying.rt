@@ -1,0 +1,165 @@
+//! A tree laid over another one: the two are walked at once, by their marks and by the names of their children.
+
+ghost use Rattle.std.specs.Prelude.{◌≡◌, true, IsTrue, Some, None, MatchResult, IfOk, IfErr, Option};
+ghost use Rattle.sim_tree.specs.Trees.{node_of, nodes_of, named_of, is_sound, are_sound, mark_of, value_of as value_of_node, Children, child, node};
+ghost use Rattle.sim_merge.specs.Libraries.{is_resolved, is_layable};
+ghost use Rattle.sim_merge.specs.Faults.{IfBadOp};
+ghost use Rattle.sim_merge.specs.Values.{value_over as value_over_value, value_by, words_over as words_over_words};
+ghost use Rattle.sim_merge.specs.Operations.{function_of};
+ghost use Rattle.sim_merge.specs.Laying.{refused, there, laid, laid_under, lower_value, lower_children, with_value};
+ghost use Rattle.sim_merge.specs.Overlay.{HasLaid, IsRefused};
+ghost use Rattle.sim_merge.specs.Merging.{node_if, is_sound_if, laying_of, laid_unmarked, IsMerged, IsTreeOf};
+
+use crate::fault::OverlayFault;
+use crate::merge::{
+    behind, children_of, copies, first_named, push_before, push_copies, push_laid, value_of,
+};
+use crate::operation::{Operation, operated_value};
+use crate::words::words_over;
+use sim_base::OutOfMemory;
+use sim_tree::{Child, Text, Tree, TreeMark};
+use std::alloc::Global;
+
+/// The upper tree laid over the lower one, by its marks.
+pub fn overlay(alloc: Global, lower: &Tree, upper: &Tree) -> Result<Tree, OverlayFault>
+    requires lower { IsTrue (is_resolved (node_of lower.now)) }
+    requires upper { IsTrue (is_layable (node_of upper.now)) }
+    ensures resolved { IfOk result (λ tree. IsTrue (is_resolved (node_of tree))) }
+    ensures paths { IfOk result (λ tree. HasLaid (node_of lower.now) (node_of upper.now) (node_of tree)) }
+    ensures bad { IfErr result (λ fault. IfBadOp fault (IsRefused (node_of lower.now) (node_of upper.now))) }
+    ensures laid { IsTreeOf result (laid (Some (node_of lower.now)) (node_of upper.now)) }
+{
+    let tree = unmarked(alloc, upper, Some(lower))?;
+    Ok(tree)
+}
+
+// The upper tree laid over the lower one, if there is a lower one, or nothing.
+#[cycle(laying)]
+fn lay(alloc: Global, upper: &Tree, lower: Option<&Tree>) -> Result<Option<Tree>, OverlayFault>
+    requires { is_sound_if (node_if lower) ≡ true }
+    ensures { MatchResult result
+        (λ found. laid (node_if lower.entry) (node_of upper.now) ≡ laying_of found)
+        (λ fault. IfBadOp fault (laid (node_if lower.entry) (node_of upper.now) ≡ refused)) }
+{
+    let mark = match upper.mark {
+        None => return Ok(Some(unmarked(alloc, upper, lower)?)),
+        Some(mark) => mark,
+    };
+    match mark {
+        TreeMark::Disable => Ok(None),
+        TreeMark::Replace => Ok(Some(unmarked(alloc, upper, None)?)),
+        TreeMark::Merge => match lower {
+            None => Ok(None),
+            Some(tree) => Ok(Some(unmarked(alloc, upper, Some(tree))?)),
+        },
+        TreeMark::Add => Ok(Some(operated(alloc, Operation::Sum, upper, lower)?)),
+        TreeMark::Mul => Ok(Some(operated(alloc, Operation::Product, upper, lower)?)),
+        TreeMark::Tokens => Ok(Some(listed(alloc, upper, lower)?)),
+    }
+}
+
+// The upper tree as if its root had no mark.
+#[cycle(laying)]
+fn unmarked(alloc: Global, upper: &Tree, lower: Option<&Tree>) -> Result<Tree, OverlayFault>
+    requires { is_sound_if (node_if lower) ≡ true }
+    ensures { MatchResult result
+        (λ tree. laid_unmarked (node_if lower.entry) (node_of upper.now) ≡ there (node_of tree))
+        (λ fault. IfBadOp fault (laid_unmarked (node_if lower.entry) (node_of upper.now) ≡ refused)) }
+{
+    let children = merged(alloc, upper.children.as_slice(), children_of(lower))?;
+    let value = value_over(alloc, upper, lower)?;
+    Ok(Tree {
+        value,
+        mark: None,
+        children,
+    })
+}
+
+// Children over those of the lower tree. Both ascend by name, so each is walked once.
+#[cycle(laying)]
+fn merged(alloc: Global, upper: &[Child], lower: &[Child]) -> Result<Vec<Child>, OverlayFault>
+    requires { are_sound (nodes_of lower.now) ≡ true }
+    ensures { MatchResult result
+        (λ children. laid_under (nodes_of lower.now) (nodes_of upper.now) ≡ Some (nodes_of children.items))
+        (λ fault. IfBadOp fault (laid_under (nodes_of lower.now) (nodes_of upper.now) ≡ None)) }
+{
+    let mut children = Vec::new(alloc);
+    let mut rest = lower;
+    for child in upper {
+        rest = push_merged(alloc, child, rest, &mut children)?;
+    }
+    push_copies(alloc, &mut children, rest)?;
+    Ok(children)
+}
+
+// Adds the lower children up to a name and what becomes of the upper child there, and answers the lower children that
+// are left.
+#[cycle(laying)]
+fn push_merged<'t>(
+    alloc: Global,
+    upper: &Child,
+    lower: &'t [Child],
+    children: &mut Vec<Child>,
+) -> Result<&'t [Child], OverlayFault>
+    requires { are_sound (nodes_of lower.now) ≡ true }
+    ensures { MatchResult result
+        (λ rest. IsMerged (named_of upper.now).0 (named_of upper.now).1 (nodes_of children.old.items) (nodes_of children.new.items) (nodes_of lower.now) (nodes_of rest.now))
+        (λ fault. IfBadOp fault ((more : Children) →
+        laid_under (nodes_of lower.now) (child (named_of upper.now).0 (named_of upper.now).1 more) ≡ None)) }
+{
+    let name = upper.name.text();
+    let rest = push_before(alloc, children, lower, name)?;
+    let laid = lay(alloc, &upper.tree, first_named(rest, name))?;
+    push_laid(alloc, children, &upper.name, laid)?;
+    Ok(behind(rest, name))
+}
+
+// The value of the upper tree, or that of the lower one where it has none.
+fn value_over(
+    alloc: Global,
+    upper: &Tree,
+    lower: Option<&Tree>,
+) -> Result<Option<Text>, OutOfMemory>
+    ensures { IfOk result (λ value. value ≡ value_over_value (value_of_node (node_of upper.now)) (lower_value (node_if lower.entry))) }
+{
+    match &upper.value {
+        Some(text) => Ok(Some(Text::of(alloc, text.as_str())?)),
+        None => match value_of(lower) {
+            Some(text) => Ok(Some(Text::of(alloc, text.as_str())?)),
+            None => Ok(None),
+        },
+    }
+}
+
+// The lower tree with the result of an operation as its value.
+fn operated(
+    alloc: Global,
+    operation: Operation,
+    upper: &Tree,
+    lower: Option<&Tree>,
+) -> Result<Tree, OverlayFault>
+    ensures { let value = value_by (function_of operation) (lower_value (node_if lower.entry)) (value_of_node (node_of upper.now)) in
+        MatchResult result
+        (λ tree. with_value value (lower_children (node_if lower.entry)) ≡ there (node_of tree))
+        (λ fault. IfBadOp fault (with_value value (lower_children (node_if lower.entry)) ≡ refused)) }
+{
+    let value = operated_value(alloc, operation, value_of(lower), upper.value.as_ref())?;
+    Ok(Tree {
+        value: Some(value),
+        mark: None,
+        children: copies(alloc, children_of(lower))?,
+    })
+}
+
+// The lower tree with the words of both as its value.
+fn listed(alloc: Global, upper: &Tree, lower: Option<&Tree>) -> Result<Tree, OutOfMemory>
+    ensures { IfOk result (λ tree. node_of tree ≡
+        node (Some (words_over_words (value_of_node (node_of upper.now)) (lower_value (node_if lower.entry)))) None (lower_children (node_if lower.entry))) }
+{
+    let value = words_over(alloc, upper.value.as_ref(), value_of(lower))?;
+    Ok(Tree {
+        value: Some(value),
+        mark: None,
+        children: copies(alloc, children_of(lower))?,
+    })
+}

@@ -1,0 +1,165 @@
+//! Children by name: copies of them, and the places that a name has among children that ascend.
+
+ghost use Rattle.std.specs.Prelude.{◌≡◌, true, [], ◌∷◌, Some, None, IfOk, OnOk, Option};
+ghost use Rattle.std.specs.Option.{option_copied};
+ghost use Rattle.std.specs.Str.{bytes_eq};
+ghost use Rattle.sim_tree.specs.Trees.{Children, node_of, nodes_of, named_of, is_before, child, no_children, child_named, are_sound};
+ghost use Rattle.sim_merge.specs.Laying.{before, behind as nodes_behind, followed_by, with_lower, with_laid, lower_value, lower_children};
+ghost use Rattle.sim_merge.specs.Merging.{node_if, is_sound_if, laying_of, IsPast};
+
+use sim_base::{Name, OutOfMemory};
+use sim_tree::{Child, Text, Tree, copy_name};
+use std::alloc::Global;
+
+/// The children of a tree, and none where there is no tree.
+pub fn children_of(tree: Option<&Tree>) -> &[Child]
+    ensures { nodes_of result.now ≡ lower_children (node_if tree.entry) }
+{
+    match tree {
+        Some(tree) => tree.children.as_slice(),
+        None => &[],
+    }
+}
+
+/// The value of a tree, if there is a tree and it has one.
+pub fn value_of(tree: Option<&Tree>) -> Option<&Text>
+    ensures { option_copied result ≡ lower_value (node_if tree.entry) }
+{
+    match tree {
+        Some(tree) => tree.value.as_ref(),
+        None => None,
+    }
+}
+
+/// Copies of children.
+pub fn copies(alloc: Global, children: &[Child]) -> Result<Vec<Child>, OutOfMemory>
+    ensures { IfOk result (λ copied. nodes_of copied.items ≡ nodes_of children.now) }
+{
+    let mut copied = Vec::new(alloc);
+    push_copies(alloc, &mut copied, children)?;
+    Ok(copied)
+}
+
+/// Adds copies of children.
+pub fn push_copies(
+    alloc: Global,
+    out: &mut Vec<Child>,
+    children: &[Child],
+) -> Result<(), OutOfMemory>
+    ensures { OnOk result (nodes_of out.new.items ≡ followed_by (nodes_of out.old.items) (nodes_of children.now)) }
+{
+    for child in children {
+        push_copy(alloc, out, child)?;
+    }
+    Ok(())
+}
+
+fn push_copy(alloc: Global, out: &mut Vec<Child>, child: &Child) -> Result<(), OutOfMemory>
+    ensures { OnOk result (nodes_of out.new.items ≡ followed_by (nodes_of out.old.items) (nodes_of (child.now ∷ []))) }
+{
+    push_child(alloc, out, &child.name, child.tree.copy(alloc)?)
+}
+
+fn push_child(
+    alloc: Global,
+    out: &mut Vec<Child>,
+    name: &Name,
+    tree: Tree,
+) -> Result<(), OutOfMemory>
+    ensures { OnOk result (nodes_of out.new.items ≡ followed_by (nodes_of out.old.items) (child name.now (node_of tree) no_children)) }
+{
+    let name = copy_name(alloc, name)?;
+    out.push(Child { name, tree })?;
+    Ok(())
+}
+
+/// Adds a tree under a name, if there is a tree.
+pub fn push_laid(
+    alloc: Global,
+    out: &mut Vec<Child>,
+    name: &Name,
+    tree: Option<Tree>,
+) -> Result<(), OutOfMemory>
+    ensures { OnOk result ((more : Option Children) →
+        with_lower (nodes_of out.old.items) (with_laid name.now (laying_of tree) more) ≡ with_lower (nodes_of out.new.items) more) }
+{
+    match tree {
+        Some(tree) => {
+            push_child(alloc, out, name, tree)?;
+            Ok(())
+        }
+        None => Ok(()),
+    }
+}
+
+// The child's name stands before this one.
+fn precedes(child: &Child, name: &str) -> bool
+    ensures { result ≡ is_before (named_of child.now).0 name.now }
+{
+    child.name.text() < name
+}
+
+// The child has this name.
+fn is_named(child: &Child, name: &str) -> bool
+    ensures { result ≡ bytes_eq (named_of child.now).0 name.now }
+{
+    child.name.text() == name
+}
+
+/// Adds copies of the children before a name, and answers the others.
+pub fn push_before<'t>(
+    alloc: Global,
+    out: &mut Vec<Child>,
+    children: &'t [Child],
+    name: &str,
+) -> Result<&'t [Child], OutOfMemory>
+    requires { are_sound (nodes_of children.now) ≡ true }
+    ensures { IfOk result (λ rest.
+        IsPast name.now (nodes_of out.old.items) (nodes_of out.new.items) (nodes_of children.now) (nodes_of rest.now)) }
+{
+    for (i, child) in children.iter().enumerate() {
+        if !precedes(child, name) {
+            return Ok(&children[i..]);
+        }
+        push_copy(alloc, out, child)?;
+    }
+    Ok(&[])
+}
+
+/// The tree of the first child, if that child has the name.
+pub fn first_named<'t>(children: &'t [Child], name: &str) -> Option<&'t Tree>
+    requires sound { are_sound (nodes_of children.now) ≡ true }
+    requires none_before { before name.now (nodes_of children.now) ≡ no_children }
+    ensures named { node_if result ≡ child_named name.now (nodes_of children.now) }
+    ensures sound { is_sound_if (node_if result) ≡ true }
+{
+    match children {
+        [child, ..] => {
+            if is_named(child, name) {
+                Some(&child.tree)
+            } else {
+                None
+            }
+        }
+        [] => None,
+    }
+}
+
+/// The children without the first one, if that has the name.
+pub fn behind<'t>(children: &'t [Child], name: &str) -> &'t [Child]
+    requires sound { are_sound (nodes_of children.now) ≡ true }
+    requires none_before { before name.now (nodes_of children.now) ≡ no_children }
+    ensures rest { nodes_of result.now ≡ nodes_behind name.now (nodes_of children.now) }
+    ensures sound { are_sound (nodes_of result.now) ≡ true }
+{
+    match children {
+        [child, rest @ ..] => {
+            if is_named(child, name) {
+                rest
+            } else {
+                children
+            }
+        }
+        [] => children,
+    }
+}

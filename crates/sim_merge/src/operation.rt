@@ -1,0 +1,77 @@
+//! Sums and products of values, which are read as numbers and printed again.
+
+ghost use Rattle.std.specs.Prelude.{◌≡◌, Some, None, MatchResult, IfOk, IfSome, MatchOption, option_map, string_bytes};
+ghost use Rattle.std.specs.Option.{option_copied};
+ghost use Rattle.sim_base.specs.NumberText.{text_of};
+ghost use Rattle.sim_merge.specs.Faults.{IfBadOp};
+ghost use Rattle.sim_merge.specs.Values.{text_by, value_by};
+ghost use Rattle.sim_merge.specs.Operations.{function_of, number_by};
+
+use crate::fault::OverlayFault;
+use sim_base::{Fixed, OutOfMemory};
+use sim_tree::Text;
+use std::alloc::Global;
+
+/// What is made of two numbers.
+#[derive(Clone, Copy, Debug, PartialEq, Eq)]
+pub enum Operation {
+    Sum,
+    Product,
+}
+
+/// The result of an operation on two values, where both are there.
+pub fn operated_value(
+    alloc: Global,
+    operation: Operation,
+    lower: Option<&Text>,
+    upper: Option<&Text>,
+) -> Result<Text, OverlayFault>
+    ensures { MatchResult result
+        (λ text. value_by (function_of operation) (option_copied lower.entry) (option_copied upper.entry) ≡ Some text)
+        (λ fault. IfBadOp fault (value_by (function_of operation) (option_copied lower.entry) (option_copied upper.entry) ≡ None)) }
+{
+    match lower {
+        None => Err(OverlayFault::BadOp),
+        Some(lower) => match upper {
+            None => Err(OverlayFault::BadOp),
+            Some(upper) => operate(alloc, operation, lower.as_str(), upper.as_str()),
+        },
+    }
+}
+
+// The printed result of an operation on the numbers that two texts spell.
+fn operate(
+    alloc: Global,
+    operation: Operation,
+    lower: &str,
+    upper: &str,
+) -> Result<Text, OverlayFault>
+    ensures { MatchResult result
+        (λ text. text_by (function_of operation) lower.now upper.now ≡ Some text)
+        (λ fault. IfBadOp fault (text_by (function_of operation) lower.now upper.now ≡ None)) }
+{
+    match number_of(operation, lower, upper) {
+        Some(number) => Ok(printed(alloc, number)?),
+        None => Err(OverlayFault::BadOp),
+    }
+}
+
+// The result, where both texts spell a number and it is in range.
+fn number_of(operation: Operation, lower: &str, upper: &str) -> Option<Fixed>
+    ensures { result ≡ number_by (function_of operation) lower.now upper.now }
+{
+    let lower = Fixed::read_text(lower)?;
+    let upper = Fixed::read_text(upper)?;
+    match operation {
+        Operation::Sum => lower.checked_add(upper),
+        Operation::Product => lower.checked_mul(upper),
+    }
+}
+
+fn printed(alloc: Global, number: Fixed) -> Result<Text, OutOfMemory>
+    ensures { IfOk result (λ text. text ≡ text_of number) }
+{
+    let mut text = String::new(alloc);
+    number.push_text(alloc, &mut text)?;
+    Ok(Text::of_string(text))
+}
