@@ -2,8 +2,6 @@
 //! have different names. All items are read before any limit is looked at.
 
 ghost use Rattle.std.specs.Prelude.{◌≡◌, ◌+◌, ◌&&◌, nat_le, All, length, map, option_map, option_and_then, IfOk, IfSome};
-ghost use Rattle.std.specs.List.{list_any};
-ghost use Rattle.std.specs.Str.{bytes_eq};
 ghost use Rattle.serde_json.specs.View.{view};
 ghost use Rattle.sim_tree.specs.Sources.{origin_of};
 ghost use Rattle.sim_merge.specs.Resolution.{names_in, origins_of, are_distinct};
@@ -14,6 +12,7 @@ use crate::fault::{SetupFault, refused};
 use serde_json::Value;
 use sim_base::OutOfMemory;
 use sim_json::list_at;
+use sim_merge::names_differ;
 use sim_tree::{Source, TreeFault};
 use std::alloc::Global;
 
@@ -73,31 +72,5 @@ fn source_of(alloc: Global, item: &Value) -> Result<Option<Source>, OutOfMemory>
 pub fn are_few(sources: &[Source]) -> bool
     ensures { result ≡ (nat_le (length sources.now) 256 && are_distinct (names_in (origins_of sources.now))) }
 {
-    sources.len() <= 256 && are_apart(sources)
-}
-
-fn are_apart(sources: &[Source]) -> bool
-    ensures { result ≡ are_distinct (names_in (origins_of sources.now)) }
-{
-    let mut rest = sources;
-    while let [source, more @ ..] = rest {
-        if is_among(source.name.text(), more) {
-            return false;
-        }
-        rest = more;
-    }
-    true
-}
-
-fn is_among(name: &str, sources: &[Source]) -> bool
-    ensures { result ≡ list_any (bytes_eq name.now) (names_in (origins_of sources.now)) }
-{
-    let mut rest = sources;
-    while let [source, more @ ..] = rest {
-        if name == source.name.text() {
-            return true;
-        }
-        rest = more;
-    }
-    false
+    sources.len() <= 256 && names_differ(sources)
 }

@@ -1,9 +1,0 @@
-use Rattle.std.proofs.Common.{◌≡◌, length}
-use Rattle.sim_merge.specs.Resolution.{names_in, origins_of, are_distinct}
-use Rattle.sim_setup.proofs.sources.are_apart.Given as goal
-
-abbrev pub invariant-loop-rest : goal.invariant-loop-rest
-invariant-loop-rest l = are_distinct (names_in (origins_of l.rest)) ≡ are_distinct (names_in (origins_of l.sources))
-
-abbrev pub decreases-loop-rest : goal.decreases-loop-rest
-decreases-loop-rest l = length l.rest
