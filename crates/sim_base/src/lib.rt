@@ -40,6 +40,6 @@ pub use name::Name;
 pub use number::{next_word, root};
 pub use place::{Cell, Point, Points, Rect, Rects, cell_of, centre_of, rect_of, square};
 pub use setup::{First, Firsts, Land, Setup, Timed, Timeds};
-pub use state::{Aim, Motion, Row, Rows, State};
+pub use state::{Aim, MAX_STATE, Motion, Row, Rows, State};
 pub use step::{Event, Events, Step, Steps};
 pub use template::{Arms, Base, Harm, Resist, Template, Templates};

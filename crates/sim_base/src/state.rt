@@ -59,6 +59,10 @@ pub struct Row {
 /// The entities, ascending by id.
 pub type Rows = Items<Row>;
 
+/// How many bytes a stored state has at most: 70, and 568 for each of 4096 entities with all parts and a way of 64
+/// waypoints. `docs/FORMATS.md` has the layout.
+pub const MAX_STATE: usize = 2_326_598;
+
 /// A match at a turn: how many turns were played, the id of the next new entity, the random word, and the entities.
 #[derive(Debug, Drop)]
 pub struct State {

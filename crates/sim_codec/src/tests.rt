@@ -9,8 +9,8 @@ ghost use Rattle.sim_base.specs.Limits.{IsLand, IsSetup, IsTemplate};
 
 use super::*;
 use sim_base::{
-    Aim, Arms, Base, Fixed, Harm, Items, Land, Motion, Name, OutOfMemory, Point, Resist, Row,
-    Setup, State, Template,
+    Aim, Arms, Base, Fixed, Harm, Items, Land, MAX_STATE, Motion, Name, OutOfMemory, Point, Resist,
+    Row, Setup, State, Template,
 };
 use std::alloc::Global;
 use std::test::Fail;
@@ -36,6 +36,17 @@ const POSTS: [u8; 101] = [
     204, 125, 1, 0, 0, 0, 4, 0, 0, 0, 0, 0, 0, 0, 0, 0, 0, 0, 1, 1, 0, 0, 0, 3, 0, 0, 0, 0, 0, 2,
     1, 0, 0, 0, 3, 0, 0, 0, 0, 0, 2, 0, 0, 0, 2, 0, 3, 1, 0, 0, 0, 3, 0, 0, 0, 2, 4, 1, 0, 0, 0, 3,
     0, 0, 0, 0, 0, 50, 0, 5, 0, 0, 0, 0, 6, 0, 0, 0, 0,
+];
+
+const WALK_ID: [u8; 16] = [9; 16];
+
+// A walker between two waypoints.
+const WALK: [u8; 124] = [
+    82, 83, 73, 77, 1, 0, 0, 0, 9, 9, 9, 9, 9, 9, 9, 9, 9, 9, 9, 9, 9, 9, 9, 9, 1, 0, 0, 0, 3, 0,
+    0, 0, 0, 0, 0, 0, 0, 0, 0, 0, 1, 1, 0, 0, 0, 2, 0, 0, 0, 0, 0, 2, 1, 0, 0, 0, 2, 0, 0, 0, 0,
+    128, 4, 0, 0, 128, 2, 0, 3, 1, 0, 0, 0, 2, 0, 0, 0, 1, 4, 0, 0, 0, 0, 5, 1, 0, 0, 0, 2, 0, 0,
+    0, 1, 0, 128, 6, 0, 0, 128, 2, 0, 1, 2, 0, 128, 5, 0, 0, 128, 2, 0, 0, 128, 6, 0, 0, 128, 2, 0,
+    6, 0, 0, 0, 0,
 ];
 
 const FIGHT_ID: [u8; 16] = [7; 16];
@@ -154,6 +165,67 @@ fn open_match(alloc: Global, id: [u8; 16]) -> Result<Setup, OutOfMemory>
     })
 }
 
+// A template that moves and does nothing else.
+fn walker(alloc: Global) -> Result<Template, OutOfMemory>
+    ensures { IfOk result (IsTemplate 1) }
+{
+    Ok(Template {
+        name: Name::of(alloc, "walker")?.ok_or(OutOfMemory)?,
+        health: None,
+        resist: Resist {
+            hack: 0,
+            pierce: 0,
+            crush: 0,
+        },
+        speed: Some(raw(655360)),
+        obstruct: None,
+        arms: None,
+        train: None,
+    })
+}
+
+fn walkers(alloc: Global) -> Result<Setup, OutOfMemory>
+    ensures { IfOk result IsSetup }
+{
+    Ok(Setup {
+        id: WALK_ID,
+        land: open_land(alloc)?,
+        players: 2,
+        cap: 0,
+        delay: 1,
+        turns: 2,
+        seed: 0,
+        templates: Items::from_items(vec![in alloc; walker(alloc)?]?),
+        first: Items::new(alloc),
+        commands: Items::new(alloc),
+    })
+}
+
+fn walk_state(alloc: Global) -> Result<State, OutOfMemory> {
+    let goal = point(0x68000, 0x28000);
+    let way = vec![in alloc; point(0x58000, 0x28000), goal]?;
+    let motion = Motion::Going {
+        goal,
+        way: Items::from_items(way),
+        whole: true,
+    };
+    let row = Row {
+        id: 2,
+        template: 0,
+        at: point(0x48000, 0x28000),
+        owner: 1,
+        health: None,
+        motion: Some(motion),
+        attack: None,
+    };
+    Ok(State {
+        turn: 1,
+        next: 3,
+        word: 0,
+        rows: Items::from_items(vec![in alloc; row]?),
+    })
+}
+
 fn empty_state(alloc: Global) -> State {
     State {
         turn: 0,
@@ -268,6 +340,11 @@ fn worked_states_have_their_bytes(rt: HostRuntime) -> Result<(), Fail> {
         91, 166, 204, 206, 110, 192, 33, 108, 204, 170, 247, 24, 26, 48, 183, 137,
     ];
     assert!(rt; is_told_so(alloc, &posts, &posts_state(alloc)?, &POSTS, sum)?);
+    let walk = walkers(alloc)?;
+    let sum = [
+        146, 131, 11, 234, 245, 66, 181, 41, 237, 66, 136, 90, 222, 155, 133, 56,
+    ];
+    assert!(rt; is_told_so(alloc, &walk, &walk_state(alloc)?, &WALK, sum)?);
     let fight = open_match(alloc, FIGHT_ID)?;
     let sum = [
         181, 8, 77, 40, 177, 144, 6, 111, 87, 95, 105, 91, 135, 214, 53, 100,
@@ -432,5 +509,46 @@ fn an_entity_has_its_bytes_of_each_section(rt: HostRuntime) -> Result<(), Fail> 
             "{part:?} of {entity}"
         );
     }
+    Ok(())
+}
+
+// A guard with a way of 64 waypoints.
+fn long_row(alloc: Global, id: u32) -> Result<Row, OutOfMemory> {
+    let way = vec![in alloc; point(0x28000, 0x38000); 64]?;
+    let motion = Motion::Going {
+        goal: point(0x28000, 0x38000),
+        way: Items::from_items(way),
+        whole: false,
+    };
+    let aim = Aim {
+        target: 0,
+        cooldown: 0,
+        hold: false,
+    };
+    Ok(guard_row(id, 1, point(0x28000, 0x38000), 655360, motion, aim))
+}
+
+fn longest_state(alloc: Global) -> Result<State, OutOfMemory> {
+    let mut rows = Vec::new(alloc);
+    for id in 2..4098u32 {
+        rows.push(long_row(alloc, id)?)?;
+    }
+    Ok(State {
+        turn: 1,
+        next: 4098,
+        word: 0,
+        rows: Items::from_items(rows),
+    })
+}
+
+#[test]
+fn the_longest_state_has_as_many_bytes_as_a_state_may_have(rt: HostRuntime) -> Result<(), Fail> {
+    let alloc = rt.alloc();
+    let setup = open_match(alloc, FIGHT_ID)?;
+    let state = longest_state(alloc)?;
+    assert!(rt; is_valid(&setup, &state));
+    let bytes = spell(alloc, &setup, &state)?;
+    assert_eq!(rt; bytes.len(), MAX_STATE);
+    assert_eq!(rt; fault_of(alloc, &setup, &bytes), None);
     Ok(())
 }
