@@ -67,7 +67,7 @@ word_first : (t : List ℕ) (ts : List (List ℕ)) →
     (lower : List (List ℕ)) (takes goes : Bool) → removes ts t ≡ goes →
     fold with_word (if takes then without (drop 1 t) lower else including t lower) ts
     ≡ fold with_added (staying (λ word. list_any (bytes_eq word) (map (drop 1) (if takes then t ∷ filter is_removal ts else filter is_removal ts))) lower)
-        (if takes || goes then survivors ts else t ∷ survivors ts)
+    (if takes || goes then survivors ts else t ∷ survivors ts)
 word_first t ts later lower true goes is = later (without (drop 1 t) lower) ∙ ap (λ found. fold with_added found (survivors ts)) (sym (staying_twice (drop 1 t) (removes ts) lower))
 word_first t ts later lower false true is = later (including t lower) ∙ ap (λ found. fold with_added found (survivors ts)) (including_gone (removes ts) t lower is)
 word_first t ts later lower false false is = later (including t lower) ∙ ap (λ found. fold with_added found (survivors ts)) (including_staying (removes ts) t lower is)

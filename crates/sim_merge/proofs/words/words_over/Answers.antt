@@ -15,8 +15,8 @@ returns c =
     let lower = c.in_ok-words_in-2.field-0 in
     let changes = c.in_ok-changes.changes in
     c.in_ok-joined.ensures ∙ ap (join_with_byte 0x20) (c.as_slice.ensures
-        ∙ c.in_ok-found.ensures
-        ∙ ap (λ words. fold with_added words (reverse changes.added)) c.leaving_out-found.ensures
-        ∙ words_by_changes upper lower changes.added (contains_text changes.removed) c.in_ok-changes.ensures
-        ∙ ap (λ words. fold with_word words upper) c.in_ok-words_in-2.ensures
-        ∙ ap (fold with_word (tokens_in (option_copied c.args.lower))) c.in_ok-words_in.ensures)
+    ∙ c.in_ok-found.ensures
+    ∙ ap (λ words. fold with_added words (reverse changes.added)) c.leaving_out-found.ensures
+    ∙ words_by_changes upper lower changes.added (contains_text changes.removed) c.in_ok-changes.ensures
+    ∙ ap (λ words. fold with_word words upper) c.in_ok-words_in-2.ensures
+    ∙ ap (fold with_word (tokens_in (option_copied c.args.lower))) c.in_ok-words_in.ensures)
