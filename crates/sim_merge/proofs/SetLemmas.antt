@@ -1,6 +1,5 @@
--- A set of texts, and whether it has the words of a list.
-use Rattle.std.proofs.Common.{◌≡◌, ℕ, ◌||◌, Bool, true, false, List, [], ◌∷◌, ◌++◌, String, string_bytes, refl, sym, ap, ◌∙◌, cond, true≢false}
-use Rattle.std.specs.List.{list_any}
+-- A set of texts, and what it has once a text is put in.
+use Rattle.std.proofs.Common.{◌≡◌, ℕ, ◌||◌, Bool, true, false, List, String, string_bytes, refl, sym, ap, ◌∙◌, cond, true≢false}
 use Rattle.std.specs.Str.{bytes_eq}
 use Rattle.std.specs.String.{string_eq}
 use Rattle.std.specs.HashSet.{HashSet, UpdatesBy, contains_text}
@@ -10,7 +9,7 @@ use Rattle.std.proofs.lemmas.Slice.Eq.{bytes_eq-Decides}
 
 -- ---- equal bytes, and or
 
-pub bytes_eq-swap : (xs ys : List ℕ) → bytes_eq xs ys ≡ bytes_eq ys xs
+bytes_eq-swap : (xs ys : List ℕ) → bytes_eq xs ys ≡ bytes_eq ys xs
 bytes_eq-swap xs ys = by (bytes_eq xs ys) refl
   where
     by : (b : Bool) → bytes_eq xs ys ≡ b → b ≡ bytes_eq ys xs
@@ -31,13 +30,3 @@ contains_after bytes old new updates other =
     hash_set_updates_text bytes old new true updates other
     ∙ cond_or (bytes_eq bytes other) (contains_text old other)
     ∙ ap (λ b. b || contains_text old other) (bytes_eq-swap bytes other)
-
--- a word is in a list with one word more where it is that word, or is in the list
-pub list_any-last : (word other : List ℕ) (words : List (List ℕ)) → list_any (bytes_eq other) (words ++ word ∷ []) ≡ (bytes_eq other word || list_any (bytes_eq other) words)
-list_any-last word other [] = refl
-list_any-last word other (x ∷ xs) = ap (λ b. bytes_eq other x || b) (list_any-last word other xs) ∙ turn (bytes_eq other x) (bytes_eq other word) (list_any (bytes_eq other) xs)
-  where
-    turn : (a b c : Bool) → (a || (b || c)) ≡ (b || (a || c))
-    turn true true c = refl
-    turn true false c = refl
-    turn false b c = refl
