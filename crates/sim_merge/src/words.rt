@@ -1,7 +1,7 @@
 //! Lists of words, which stand in a value with spaces between them, and what another list adds and takes away.
 //!
 //! The upper words are read from the back, beside a set of the words that are taken away further on. So each word is
-//! looked up in a set and never in a list, and a long list takes no longer for each of its words than a short one.
+//! looked up in a set and never in a list.
 
 ghost use Rattle.std.specs.Prelude.{◌≡◌, ◌++◌, ◌∷◌, ◌||◌, not, ℕ, List, if◌then◌else◌, filter, fold, reverse, IfOk, OnOk, string_bytes, drop, Some, None, MatchOption, true, false};
 ghost use Rattle.std.specs.List.{join_with_byte};
