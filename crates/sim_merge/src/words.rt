@@ -1,21 +1,22 @@
 //! Lists of words, which stand in a value with spaces between them, and what another list adds and takes away.
 //!
 //! The upper words are read from the back, beside a set of the words that are taken away further on. So each word is
-//! looked up in a set and never in a list.
+//! looked up in a set and never in a list, and n words take about n steps times their logarithm. The sets are ordered
+//! trees: whoever writes a match picks its words, and could pick ones that a hash with a known seed gives one place.
 
 ghost use Rattle.std.specs.Prelude.{◌≡◌, ◌++◌, ◌∷◌, ◌||◌, not, ℕ, List, if◌then◌else◌, filter, fold, reverse, IfOk, OnOk, string_bytes, drop, Some, None, MatchOption, true, false};
 ghost use Rattle.std.specs.List.{join_with_byte};
 ghost use Rattle.std.specs.Str.{bytes_eq};
 ghost use Rattle.std.specs.Option.{option_copied};
-ghost use Rattle.indexmap.specs.IndexSet.{contains_text};
+ghost use Rattle.std.specs.BTreeSet.{contains_text};
 ghost use Rattle.sim_tree.specs.Tokens.{tokens_in as words_of_value};
 ghost use Rattle.sim_merge.specs.Values.{words_over as words_over_words, including, is_removal};
 ghost use Rattle.sim_merge.specs.Survivors.{TellsWords, AreChanges, with_added as with_added_word};
 
-use indexmap::IndexSet;
 use sim_base::OutOfMemory;
 use sim_tree::{Names, Text, tokens_in};
 use std::alloc::Global;
+use std::collections::BTreeSet;
 
 // What the words of an upper list do to a lower one.
 #[derive(Drop)]
@@ -23,7 +24,7 @@ struct Changes {
     // The words that it adds and does not take away further on, the last one first.
     added: Names,
     // The words that it takes away.
-    removed: IndexSet<String>,
+    removed: BTreeSet<String>,
 }
 
 /// The words of the lower value, after each word of the upper value added or took away words.
@@ -56,7 +57,7 @@ fn changes_of(alloc: Global, upper: Names) -> Result<Changes, OutOfMemory>
     let mut words = upper.into_items();
     let mut changes = Changes {
         added: Names::new(alloc),
-        removed: IndexSet::new(alloc),
+        removed: BTreeSet::new(alloc),
     };
     while let Some(word) = words.pop() {
         put_before(alloc, &mut changes, word)?;
@@ -91,7 +92,7 @@ fn removed_by(word: &str) -> Option<&str>
     }
 }
 
-fn leaving_out(found: Names, removed: &IndexSet<String>) -> Names
+fn leaving_out(found: Names, removed: &BTreeSet<String>) -> Names
     ensures { result ≡ filter (λ word. not (contains_text removed.now word)) found }
 {
     let mut words = found.into_items();
@@ -116,7 +117,7 @@ fn with_added(alloc: Global, lower: Names, added: Names) -> Result<Names, OutOfM
 fn include(
     alloc: Global,
     found: &mut Names,
-    present: &mut IndexSet<String>,
+    present: &mut BTreeSet<String>,
     word: Text,
 ) -> Result<(), OutOfMemory>
     ensures found { OnOk result (TellsWords (contains_text present.old) found.old → found.new ≡ including word found.old) }
@@ -129,17 +130,17 @@ fn include(
     Ok(())
 }
 
-fn set_of(alloc: Global, words: &[Text]) -> Result<IndexSet<String>, OutOfMemory>
+fn set_of(alloc: Global, words: &[Text]) -> Result<BTreeSet<String>, OutOfMemory>
     ensures { IfOk result (λ set. TellsWords (contains_text set) words.now) }
 {
-    let mut set = IndexSet::new(alloc);
+    let mut set = BTreeSet::new(alloc);
     for word in words {
         add_word(alloc, &mut set, word.as_str())?;
     }
     Ok(set)
 }
 
-fn add_word(alloc: Global, set: &mut IndexSet<String>, word: &str) -> Result<(), OutOfMemory>
+fn add_word(alloc: Global, set: &mut BTreeSet<String>, word: &str) -> Result<(), OutOfMemory>
     ensures { OnOk result ((other : List ℕ) → contains_text set.new other ≡ (bytes_eq other word.now || contains_text set.old other)) }
 {
     set.insert(String::from_str(alloc, word)?)?;

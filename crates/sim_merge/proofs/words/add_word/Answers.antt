@@ -1,6 +1,6 @@
 use Rattle.std.proofs.Common.{◌||◌, ◌∙◌, ap, string_bytes}
 use Rattle.std.specs.Str.{bytes_eq}
-use Rattle.indexmap.specs.IndexSet.{contains_text}
+use Rattle.std.specs.BTreeSet.{contains_text}
 use Rattle.sim_merge.proofs.SetLemmas.{contains_after}
 use Rattle.sim_merge.proofs.words.add_word.Goals as goal
 

@@ -1,6 +1,6 @@
 use Rattle.std.proofs.Common.{not, filter, ap, ◌∙◌, rules}
 use Rattle.std.proofs.lemmas.Fn.{filter_same}
-use Rattle.indexmap.specs.IndexSet.{contains_text}
+use Rattle.std.specs.BTreeSet.{contains_text}
 use Rattle.sim_merge.proofs.words.leaving_out.Goals as goal
 
 pub returns : goal.returns

@@ -1,5 +1,5 @@
 use Rattle.std.proofs.Common.{take}
-use Rattle.indexmap.specs.IndexSet.{contains_text}
+use Rattle.std.specs.BTreeSet.{contains_text}
 use Rattle.sim_merge.specs.Survivors.{TellsWords}
 use Rattle.sim_merge.proofs.words.set_of.Given as goal
 

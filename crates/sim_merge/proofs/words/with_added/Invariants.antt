@@ -1,5 +1,5 @@
 use Rattle.std.proofs.Common.{◌≡◌, fold, reverse, length}
-use Rattle.indexmap.specs.IndexSet.{contains_text}
+use Rattle.std.specs.BTreeSet.{contains_text}
 use Rattle.sim_merge.specs.Survivors.{TellsWords, with_added}
 use Rattle.sim_merge.proofs.words.with_added.Given as goal
 

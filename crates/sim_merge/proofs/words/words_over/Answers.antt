@@ -1,7 +1,7 @@
 use Rattle.std.proofs.Common.{fold, reverse, ap, ◌∙◌}
 use Rattle.std.specs.List.{join_with_byte}
 use Rattle.std.specs.Option.{option_copied}
-use Rattle.indexmap.specs.IndexSet.{contains_text}
+use Rattle.std.specs.BTreeSet.{contains_text}
 use Rattle.sim_tree.specs.Tokens.{tokens_in}
 use Rattle.sim_merge.specs.Values.{words_over, with_word}
 use Rattle.sim_merge.specs.Survivors.{with_added}
