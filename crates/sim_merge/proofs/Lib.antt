@@ -5,6 +5,8 @@ pub mod ChildrenLemmas
 pub mod NodeLemmas
 pub mod OperationLemmas
 pub mod WordLemmas
+pub mod SurvivorLemmas
+pub mod SetLemmas
 pub mod LayingLemmas
 pub mod Examples
 pub mod ResolutionLemmas

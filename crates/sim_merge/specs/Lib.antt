@@ -2,6 +2,7 @@ pub mod NodeCodes
 pub mod Libraries
 pub mod Faults
 pub mod Values
+pub mod Survivors
 pub mod Operations
 pub mod Laying
 pub mod Merging

@@ -1,18 +1,33 @@
 //! Lists of words, which stand in a value with spaces between them, and what another list adds and takes away.
+//!
+//! The upper words are read from the back, beside a set of the words that are taken away further on. So each word is
+//! looked up in a set and never in a list, and n words take about n steps times their logarithm. The sets are ordered
+//! trees: whoever writes a match picks its words, and could pick ones that a hash with a known seed gives one place.
 
-ghost use Rattle.std.specs.Prelude.{◌≡◌, ◌++◌, ◌∷◌, if◌then◌else◌, fold, IfOk, OnOk, map, string_bytes, drop, Some, None, MatchOption, true, false};
-ghost use Rattle.std.specs.List.{join_with_byte, list_any};
+ghost use Rattle.std.specs.Prelude.{◌≡◌, ◌++◌, ◌∷◌, ◌||◌, not, ℕ, List, if◌then◌else◌, filter, fold, reverse, IfOk, OnOk, string_bytes, drop, Some, None, MatchOption, true, false};
+ghost use Rattle.std.specs.List.{join_with_byte};
 ghost use Rattle.std.specs.Str.{bytes_eq};
 ghost use Rattle.std.specs.Option.{option_copied};
+ghost use Rattle.std.specs.BTreeSet.{contains_text};
 ghost use Rattle.sim_tree.specs.Tokens.{tokens_in as words_of_value};
-ghost use Rattle.sim_merge.specs.Values.{words_over as words_over_words, with_word, without, including, is_removal};
+ghost use Rattle.sim_merge.specs.Values.{words_over as words_over_words, including, is_removal};
+ghost use Rattle.sim_merge.specs.Survivors.{TellsWords, AreChanges, with_added as with_added_word};
 
 use sim_base::OutOfMemory;
 use sim_tree::{Names, Text, tokens_in};
 use std::alloc::Global;
+use std::collections::BTreeSet;
+
+// What the words of an upper list do to a lower one.
+#[derive(Drop)]
+struct Changes {
+    // The words that it adds and does not take away further on, the last one first.
+    added: Names,
+    // The words that it takes away.
+    removed: BTreeSet<String>,
+}
 
 /// The words of the lower value, after each word of the upper value added or took away words.
-#[tactic(auto, unfolding(crate::specs::Values::words_over))]
 pub fn words_over(
     alloc: Global,
     upper: Option<&Text>,
@@ -20,8 +35,9 @@ pub fn words_over(
 ) -> Result<Text, OutOfMemory>
     ensures { IfOk result (λ text. text ≡ words_over_words (option_copied upper.entry) (option_copied lower.entry)) }
 {
-    let upper = words_in(alloc, upper)?;
-    let found = with_words(alloc, words_in(alloc, lower)?, upper.as_slice())?;
+    let changes = changes_of(alloc, words_in(alloc, upper)?)?;
+    let found = leaving_out(words_in(alloc, lower)?, &changes.removed);
+    let found = with_added(alloc, found, changes.added)?;
     Ok(joined(alloc, found.as_slice())?)
 }
 
@@ -35,23 +51,35 @@ fn words_in(alloc: Global, value: Option<&Text>) -> Result<Names, OutOfMemory>
     }
 }
 
-fn with_words(alloc: Global, lower: Names, upper: &[Text]) -> Result<Names, OutOfMemory>
-    ensures { IfOk result (λ words. words ≡ fold with_word lower upper.now) }
+fn changes_of(alloc: Global, upper: Names) -> Result<Changes, OutOfMemory>
+    ensures { IfOk result (λ changes. AreChanges changes.added (contains_text changes.removed) upper) }
 {
-    let mut found = lower;
-    for word in upper {
-        found = with_one(alloc, found, word.as_str())?;
+    let mut words = upper.into_items();
+    let mut changes = Changes {
+        added: Names::new(alloc),
+        removed: BTreeSet::new(alloc),
+    };
+    while let Some(word) = words.pop() {
+        put_before(alloc, &mut changes, word)?;
     }
-    Ok(found)
+    Ok(changes)
 }
 
-fn with_one(alloc: Global, found: Names, word: &str) -> Result<Names, OutOfMemory>
-    ensures { IfOk result (λ words. words ≡ with_word found word.now) }
+// Takes in the word that stands before those that were taken in.
+fn put_before(alloc: Global, changes: &mut Changes, word: Text) -> Result<(), OutOfMemory>
+    ensures { OnOk result ((later : List (List ℕ)) →
+        AreChanges changes.old.added (contains_text changes.old.removed) later →
+        AreChanges changes.new.added (contains_text changes.new.removed) (word ∷ later)) }
 {
-    match removed_by(word) {
-        Some(other) => Ok(leaving_out(found, other)),
-        None => including_one(alloc, found, word),
+    match removed_by(word.as_str()) {
+        Some(other) => add_word(alloc, &mut changes.removed, other)?,
+        None => {
+            if !changes.removed.contains(word.as_str()) {
+                changes.added.push(word)?;
+            }
+        }
     }
+    Ok(())
 }
 
 // The word that a minus sign and the word take away.
@@ -64,28 +92,59 @@ fn removed_by(word: &str) -> Option<&str>
     }
 }
 
-fn leaving_out(found: Names, word: &str) -> Names
-    ensures { result ≡ without word.now found }
+fn leaving_out(found: Names, removed: &BTreeSet<String>) -> Names
+    ensures { result ≡ filter (λ word. not (contains_text removed.now word)) found }
 {
     let mut words = found.into_items();
-    words.retain(|other| other.as_str() != word);
+    words.retain(|word| !removed.contains(word.as_str()));
     Names::from_items(words)
 }
 
-fn including_one(alloc: Global, found: Names, word: &str) -> Result<Names, OutOfMemory>
-    ensures { IfOk result (λ words. words ≡ including word.now found) }
+// A list with each word that it lacks, from the last one to the first.
+fn with_added(alloc: Global, lower: Names, added: Names) -> Result<Names, OutOfMemory>
+    ensures { IfOk result (λ words. words ≡ fold with_added_word lower (reverse added)) }
 {
-    let mut words = found;
-    if !has(words.as_slice(), word) {
-        words.push(Text::of(alloc, word)?)?;
+    let mut present = set_of(alloc, lower.as_slice())?;
+    let mut found = lower;
+    let mut words = added.into_items();
+    while let Some(word) = words.pop() {
+        include(alloc, &mut found, &mut present, word)?;
     }
-    Ok(words)
+    Ok(found)
 }
 
-fn has(words: &[Text], word: &str) -> bool
-    ensures { result ≡ list_any (bytes_eq word.now) words.now }
+// Adds a word at the end of a list that lacks it, where the set has the words of the list.
+fn include(
+    alloc: Global,
+    found: &mut Names,
+    present: &mut BTreeSet<String>,
+    word: Text,
+) -> Result<(), OutOfMemory>
+    ensures found { OnOk result (TellsWords (contains_text present.old) found.old → found.new ≡ including word found.old) }
+    ensures present { OnOk result (TellsWords (contains_text present.old) found.old → TellsWords (contains_text present.new) found.new) }
 {
-    words.iter().any(|other| word == other.as_str())
+    if !present.contains(word.as_str()) {
+        add_word(alloc, present, word.as_str())?;
+        found.push(word)?;
+    }
+    Ok(())
+}
+
+fn set_of(alloc: Global, words: &[Text]) -> Result<BTreeSet<String>, OutOfMemory>
+    ensures { IfOk result (λ set. TellsWords (contains_text set) words.now) }
+{
+    let mut set = BTreeSet::new(alloc);
+    for word in words {
+        add_word(alloc, &mut set, word.as_str())?;
+    }
+    Ok(set)
+}
+
+fn add_word(alloc: Global, set: &mut BTreeSet<String>, word: &str) -> Result<(), OutOfMemory>
+    ensures { OnOk result ((other : List ℕ) → contains_text set.new other ≡ (bytes_eq other word.now || contains_text set.old other)) }
+{
+    set.insert(String::from_str(alloc, word)?)?;
+    Ok(())
 }
 
 // The words with single spaces between them.

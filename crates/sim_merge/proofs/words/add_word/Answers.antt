@@ -1,0 +1,10 @@
+use Rattle.std.proofs.Common.{◌||◌, ◌∙◌, ap, string_bytes}
+use Rattle.std.specs.Str.{bytes_eq}
+use Rattle.std.specs.BTreeSet.{contains_text}
+use Rattle.sim_merge.proofs.SetLemmas.{contains_after}
+use Rattle.sim_merge.proofs.words.add_word.Goals as goal
+
+pub returns : goal.returns
+returns c = λ other.
+    contains_after (string_bytes c.in_ok-from_str.field-0) c.args.set.now c.insert.new.self c.in_ok-insert.ensures.updates other
+    ∙ ap (λ bytes. bytes_eq other bytes || contains_text c.args.set.now other) c.in_ok-from_str.ensures.ok

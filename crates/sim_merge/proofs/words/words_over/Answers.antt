@@ -1,0 +1,22 @@
+use Rattle.std.proofs.Common.{fold, reverse, ap, ◌∙◌}
+use Rattle.std.specs.List.{join_with_byte}
+use Rattle.std.specs.Option.{option_copied}
+use Rattle.std.specs.BTreeSet.{contains_text}
+use Rattle.sim_tree.specs.Tokens.{tokens_in}
+use Rattle.sim_merge.specs.Values.{words_over, with_word}
+use Rattle.sim_merge.specs.Survivors.{with_added}
+use Rattle.sim_merge.proofs.SurvivorLemmas.{words_by_changes}
+use Rattle.sim_merge.proofs.words.words_over.Goals as goal
+
+pub returns : goal.returns
+unfolding words_over
+returns c =
+    let upper = c.in_ok-words_in.field-0 in
+    let lower = c.in_ok-words_in-2.field-0 in
+    let changes = c.in_ok-changes.changes in
+    c.in_ok-joined.ensures ∙ ap (join_with_byte 0x20) (c.as_slice.ensures
+    ∙ c.in_ok-found.ensures
+    ∙ ap (λ words. fold with_added words (reverse changes.added)) c.leaving_out-found.ensures
+    ∙ words_by_changes upper lower changes.added (contains_text changes.removed) c.in_ok-changes.ensures
+    ∙ ap (λ words. fold with_word words upper) c.in_ok-words_in-2.ensures
+    ∙ ap (fold with_word (tokens_in (option_copied c.args.lower))) c.in_ok-words_in.ensures)
