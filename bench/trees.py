@@ -44,6 +44,14 @@ def deep(levels):
     return {"@name": "deep", "y": tree}
 
 
+def listed(words):
+    """A list of so many words over another: a third of them takes words away, the others are added."""
+    lower = " ".join(f"{i:06}" for i in range(words))
+    upper = " ".join(f"-{i:06}" if i % 3 == 0 else f"x{i:06}" for i in range(words))
+    return [{"@name": "lower", "Train": {"Units": lower}},
+            {"@name": "upper", "@parent": "lower", "Train": {"Units": {"@tokens": 1, "_": upper}}}]
+
+
 CASES = [
     ("256 templates, chains of 16, 200 nodes", match(chained(200))),
     ("the same with 20 nodes", match(chained(20))),
@@ -54,6 +62,8 @@ CASES = [
     ("100,000 templates of one part", match([{"@name": f"t{i}", "Health": {"Max": 50}} for i in range(100_000)])),
     ("a tree of 20,000 children", match([{"@name": "wide", "Health": {f"c{i:06}": i for i in range(20_000)}}])),
     ("2,000 trees of 30 levels", match([deep(28) for _ in range(2_000)])),
+    ("100,000 words over 100,000", match(listed(100_000))),
+    ("1,000,000 words over 1,000,000", match(listed(1_000_000))),
     ("a list of 1,000,000 words", match([{"@name": "w", "Train": {"Units": "w " * 1_000_000}}])),
 ]
 
