@@ -37,14 +37,14 @@ refused_for setup bytes faults.Grammar e = absurd (no_grammar (ltb (length bytes
 refused_for setup bytes faults.OutOfMemory e = tt
 
 -- of a spelling nothing is refused in the first 24 bytes, and the rest is read as the state
-pub stands_head : (setup : Setup) (bytes : List ℕ) (s : State) → IsSetup setup → StandsFor setup bytes s → head_fault setup bytes ≡ None
+pub stands_head : (setup : Setup) (bytes : List ℕ) (s : State) → length setup.id ≡ 16 → StandsFor setup bytes s → head_fault setup bytes ≡ None
 unfolding head_fault
-stands_head setup bytes s is_setup stands =
+stands_head setup bytes s sixteen stands =
     let tail = clock_bytes s ++ sections s.rows in
     let is : bytes ≡ start_bytes ++ (setup.id ++ tail) = stands.spelled ∙ parts setup s in
-    let long : ltb (length (start_bytes ++ (setup.id ++ tail))) 24 ≡ false = le-ltb _ _ (omega (arith, length-append setup.id tail, is_setup.id)) in
+    let long : ltb (length (start_bytes ++ (setup.id ++ tail))) 24 ≡ false = le-ltb _ _ (omega (arith, length-append setup.id tail, sixteen)) in
     let front = take_at start_bytes (setup.id ++ tail) 8 refl in
-    let id : take 16 (drop 8 (start_bytes ++ (setup.id ++ tail))) ≡ setup.id = take_at setup.id tail 16 is_setup.id in
+    let id : take 16 (drop 8 (start_bytes ++ (setup.id ++ tail))) ≡ setup.id = take_at setup.id tail 16 sixteen in
     let one : bytes_eq (take 8 (start_bytes ++ (setup.id ++ tail))) start_bytes ≡ true = ap (λ (x : List ℕ). bytes_eq x start_bytes) front ∙ (bytes_eq-Decides start_bytes start_bytes).1 refl in
     let two : bytes_eq (take 16 (drop 8 (start_bytes ++ (setup.id ++ tail)))) setup.id ≡ true = ap (λ (x : List ℕ). bytes_eq x setup.id) id ∙ (bytes_eq-Decides setup.id setup.id).1 refl in
     ap (head_fault setup) is ∙ no_test (ltb (length (start_bytes ++ (setup.id ++ tail))) 24) (bytes_eq (take 8 (start_bytes ++ (setup.id ++ tail))) start_bytes) (bytes_eq (take 16 (drop 8 (start_bytes ++ (setup.id ++ tail)))) setup.id) long one two
@@ -86,8 +86,8 @@ pub no_other : (setup : Setup) (bytes rest : List ℕ) (t : State) (answer : Boo
 no_other setup bytes rest t answer is_setup rest-is read says was s stands =
     false≢true (sym was ∙ says.1 (subst (StandsFor setup bytes) (sym (same_state setup bytes rest s t is_setup rest-is read stands)) stands))
 
-pub no_fault : (setup : Setup) (bytes : List ℕ) (fault : StateFault) → IsSetup setup → head_fault setup bytes ≡ Some fault → (s : State) → StandsFor setup bytes s → ⊥
-no_fault setup bytes fault is_setup e s stands = differ fault (head_fault setup bytes) (stands_head setup bytes s is_setup stands) e
+pub no_fault : (setup : Setup) (bytes : List ℕ) (fault : StateFault) → length setup.id ≡ 16 → head_fault setup bytes ≡ Some fault → (s : State) → StandsFor setup bytes s → ⊥
+no_fault setup bytes fault sixteen e s stands = differ fault (head_fault setup bytes) (stands_head setup bytes s sixteen stands) e
   where
     differ : (x : StateFault) (o : Option StateFault) → o ≡ None → o ≡ Some x → ⊥
     differ x o e f = cc

@@ -180,6 +180,7 @@ abbrev HasTemplates : Setup → Type 0
 HasTemplates setup = All (IsTemplate (length setup.templates)) setup.templates
 
 record IsWhole (setup : Setup) : Type 0 where
+  id : length setup.id ≡ 16
   limits : HasTemplates setup → IsSetup setup
   quiet : IsQuietMatch setup
 
@@ -190,6 +191,7 @@ limits_in-is id origins d setup long e =
     let lists = after_ok (lists_in land.0 rules.0 origins d) _ setup rules.2 in
     let is = lists_in-is land.0 rules.0 origins d lists.0 lists.1 in
     subst IsWhole (ok_same (setup_with id land.0 rules.0 lists.0) setup lists.2) (record {
+      id = long;
       limits = λ templates. setup_with-limits land.0 rules.0 id lists.0 long (land_in-limits d land.0 land.1) (rules_in-limits d rules.0 rules.1) is templates;
       quiet = setup_with-quiet land.0 rules.0 id lists.0 is;
     })
@@ -200,6 +202,9 @@ setup_of-is bytes setup e =
     let shaped = unless_ok 2 (misplaced d.0) (after (sources_in d.0) (λ origins. limits_in (md5 bytes) origins d.0)) setup d.2 in
     let origins = after_ok (sources_in d.0) (λ origins. limits_in (md5 bytes) origins d.0) setup shaped.1 in
     limits_in-is (md5 bytes) origins.0 d.0 setup (md5-length bytes) origins.2
+
+pub setup_of-id : (bytes : List ℕ) (setup : Setup) → setup_of bytes ≡ Ok setup → length setup.id ≡ 16
+setup_of-id bytes setup e = (setup_of-is bytes setup e).id
 
 pub meets-limits : (bytes : List ℕ) (result : Result Setup SetupFault) → Meets result (setup_of bytes) → IfOk result HasTemplates → IfOk result IsSetup
 meets-limits bytes (Ok setup) e templates = (setup_of-is bytes setup e).limits templates

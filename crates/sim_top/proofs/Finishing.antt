@@ -3,12 +3,13 @@ use Rattle.std.proofs.Common.{◌≡◌, ℕ, ◌<◌, List, [], length, take, O
 use Rattle.std.specs.Io.KnownBytes.{Appends}
 use Rattle.std.proofs.lemmas.Bool.{false≢true}
 use Rattle.sim_store.specs.Files.{File}
+use Rattle.sim_store.specs.Counts.{Rose}
 use Rattle.sim_store.specs.Reading.{OnlyGave}
-use Rattle.sim_top.specs.Answers.{Scene, IsUntouched, Saves, SavesPart, IsDone, IsUnsaved, IsUntold, Meets, ReadCauses, Causes, IsSilent}
+use Rattle.sim_top.specs.Answers.{Scene, FailsToSave, FailsToTell, IsUntouched, Saves, SavesPart, IsDone, IsUnsaved, IsUntold, Meets, GaveThenUnsaved, CountsBefore, Causes, IsSilent}
 use Rattle.std.specs.declared.alloc.Global.{Global}
 use Rattle.sim_base.specs.declared.memory.OutOfMemory.{OutOfMemory as NoMemory}
 use Rattle.sim_store.specs.declared.counts.Counts.{Counts}
-use Rattle.sim_top.specs.Making.{MeetsBefore, IsAnswered, Tells}
+use Rattle.sim_top.specs.Making.{MeetsBefore, IsAnswered, IsCutShort, Tells}
 use Rattle.sim_top.specs.Stops.{status_of}
 use Rattle.sim_top.specs.declared.stop.Stop.{Stop}
 use Rattle.sim_top.specs.declared.stop.Stop.TheVariants as stops
@@ -40,39 +41,39 @@ none_told : (part : ℕ) (text : List ℕ) → part < length text → text ≡ [
 none_told part text less none = let none_long : length text ≡ 0 = ap length none in omega (arith, less, none_long)
 
 pub untold_meets : (status : Status) (words : List (List ℕ)) (files : List File) (text : List ℕ) (saved : Option File) (before now : Scene) (part : ℕ) → MeetsBefore status words files text saved
-    → part < length text → Appends before.told now.told (take part text) → Saves saved before.held now.held → Meets WriteFault words files before now
-untold_meets ReadFault words files text saved before now part h less told held = absurd (none_told part text less h.0)
-untold_meets OutOfMemory words files text saved before now part h less told held = absurd (none_told part text less h.0)
-untold_meets WriteFault words files text saved before now part h less told held = absurd h
-untold_meets Done words files text saved before now part h less told held = (_, h, inr (record { part = part; less = less; text = told; files = held }))
-untold_meets Differs words files text saved before now part h less told held = (_, h, inr (record { part = part; less = less; text = told; files = held }))
-untold_meets Usage words files text saved before now part h less told held = (_, h, inr (record { part = part; less = less; text = told; files = held }))
-untold_meets TooLong words files text saved before now part h less told held = (_, h, inr (record { part = part; less = less; text = told; files = held }))
-untold_meets MatchRefused words files text saved before now part h less told held = (_, h, inr (record { part = part; less = less; text = told; files = held }))
-untold_meets StateRefused words files text saved before now part h less told held = (_, h, inr (record { part = part; less = less; text = told; files = held }))
-untold_meets NoSuchTurn words files text saved before now part h less told held = (_, h, inr (record { part = part; less = less; text = told; files = held }))
-untold_meets NoFile words files text saved before now part h less told held = (_, h, inr (record { part = part; less = less; text = told; files = held }))
+    → FailsToTell before now → part < length text → Appends before.told now.told (take part text) → Saves saved before.held now.held → Meets WriteFault words files before now
+untold_meets ReadFault words files text saved before now part h fails less told held = absurd (none_told part text less h.0)
+untold_meets OutOfMemory words files text saved before now part h fails less told held = absurd (none_told part text less h.0)
+untold_meets WriteFault words files text saved before now part h fails less told held = absurd h
+untold_meets Done words files text saved before now part h fails less told held = (_, h, inr (record { fails = fails; part = part; less = less; text = told; files = held }))
+untold_meets Differs words files text saved before now part h fails less told held = (_, h, inr (record { fails = fails; part = part; less = less; text = told; files = held }))
+untold_meets Usage words files text saved before now part h fails less told held = (_, h, inr (record { fails = fails; part = part; less = less; text = told; files = held }))
+untold_meets TooLong words files text saved before now part h fails less told held = (_, h, inr (record { fails = fails; part = part; less = less; text = told; files = held }))
+untold_meets MatchRefused words files text saved before now part h fails less told held = (_, h, inr (record { fails = fails; part = part; less = less; text = told; files = held }))
+untold_meets StateRefused words files text saved before now part h fails less told held = (_, h, inr (record { fails = fails; part = part; less = less; text = told; files = held }))
+untold_meets NoSuchTurn words files text saved before now part h fails less told held = (_, h, inr (record { fails = fails; part = part; less = less; text = told; files = held }))
+untold_meets NoFile words files text saved before now part h fails less told held = (_, h, inr (record { fails = fails; part = part; less = less; text = told; files = held }))
 
 no_part : (file : Option File) (old new : Option (List File)) → file ≡ None → SavesPart file old new → ⊥
 no_part file old new none part = subst (λ (f : Option File). SavesPart f old new) none part
 
 pub unsaved_meets : (status : Status) (words : List (List ℕ)) (files : List File) (text : List ℕ) (saved : Option File) (before now : Scene) → MeetsBefore status words files text saved
-    → Appends before.told now.told [] → SavesPart saved before.held now.held → Meets WriteFault words files before now
-unsaved_meets ReadFault words files text saved before now h told held = absurd (no_part saved before.held now.held h.1 held)
-unsaved_meets OutOfMemory words files text saved before now h told held = absurd (no_part saved before.held now.held h.1 held)
-unsaved_meets WriteFault words files text saved before now h told held = absurd h
-unsaved_meets Done words files text saved before now h told held = (_, h, inl (record { text = told; files = held }))
-unsaved_meets Differs words files text saved before now h told held = (_, h, inl (record { text = told; files = held }))
-unsaved_meets Usage words files text saved before now h told held = (_, h, inl (record { text = told; files = held }))
-unsaved_meets TooLong words files text saved before now h told held = (_, h, inl (record { text = told; files = held }))
-unsaved_meets MatchRefused words files text saved before now h told held = (_, h, inl (record { text = told; files = held }))
-unsaved_meets StateRefused words files text saved before now h told held = (_, h, inl (record { text = told; files = held }))
-unsaved_meets NoSuchTurn words files text saved before now h told held = (_, h, inl (record { text = told; files = held }))
-unsaved_meets NoFile words files text saved before now h told held = (_, h, inl (record { text = told; files = held }))
+    → FailsToSave before now → SavesPart saved before.held now.held → Meets WriteFault words files before now
+unsaved_meets ReadFault words files text saved before now h fails held = absurd (no_part saved before.held now.held h.1 held)
+unsaved_meets OutOfMemory words files text saved before now h fails held = absurd (no_part saved before.held now.held h.1 held)
+unsaved_meets WriteFault words files text saved before now h fails held = absurd h
+unsaved_meets Done words files text saved before now h fails held = (_, h, inl (record { fails = fails; files = held }))
+unsaved_meets Differs words files text saved before now h fails held = (_, h, inl (record { fails = fails; files = held }))
+unsaved_meets Usage words files text saved before now h fails held = (_, h, inl (record { fails = fails; files = held }))
+unsaved_meets TooLong words files text saved before now h fails held = (_, h, inl (record { fails = fails; files = held }))
+unsaved_meets MatchRefused words files text saved before now h fails held = (_, h, inl (record { fails = fails; files = held }))
+unsaved_meets StateRefused words files text saved before now h fails held = (_, h, inl (record { fails = fails; files = held }))
+unsaved_meets NoSuchTurn words files text saved before now h fails held = (_, h, inl (record { fails = fails; files = held }))
+unsaved_meets NoFile words files text saved before now h fails held = (_, h, inl (record { fails = fails; files = held }))
 
 -- ---- what was counted where a command ended and its line found no memory
 
-without_memory : (stop : Stop) (old new : Counts) → (IsSilent (status_of stop) → ⊥) → ReadCauses (status_of stop) old new → ReadCauses OutOfMemory old new
+without_memory : (stop : Stop) (old new : Counts) → (IsSilent (status_of stop) → ⊥) → CountsBefore (status_of stop) old new → CountsBefore OutOfMemory old new
 without_memory stops.ReadFault old new loud h = absurd (loud tt)
 without_memory stops.TooLong old new loud h = absurd (loud tt)
 without_memory stops.NoFile old new loud h = absurd (loud tt)
@@ -82,9 +83,9 @@ without_memory (stops.StateRefused code name) old new loud h = h
 without_memory (stops.NoSuchTurn asked turns) old new loud h = h
 
 pub answered_causes : (stop : Stop) (status : Status) (text : List ℕ) (made : Result (String Global) NoMemory) (old new : Counts) → IsAnswered status text (status_of stop) made → (IsSilent (status_of stop) → IsOk made)
-    → ReadCauses (status_of stop) old new → ReadCauses status old new
-answered_causes stop status text (Ok made) old new is sure h = subst (λ (s : Status). ReadCauses s old new) (sym is.0) h
-answered_causes stop status text (Err e) old new is sure h = subst (λ (s : Status). ReadCauses s old new) (sym is.0) (without_memory stop old new (λ silent. false≢true (sure silent)) h)
+    → CountsBefore (status_of stop) old new → CountsBefore status old new
+answered_causes stop status text (Ok made) old new is sure h = subst (λ (s : Status). CountsBefore s old new) (sym is.0) h
+answered_causes stop status text (Err e) old new is sure h = subst (λ (s : Status). CountsBefore s old new) (sym is.0) (without_memory stop old new (λ silent. false≢true (sure silent)) h)
 
 -- ---- what was counted where the text was written
 
@@ -93,7 +94,7 @@ gave_nothing old new same =
     let given : new.given ≡ old.given = ap (λ (c : Counts). c.given) same in
     (omega (arith, given), same ∙ ap (λ (n : ℕ). record old { given = n }) (sym given))
 
-loud_gave : (status : Status) (old new : Counts) → (IsSilent status → ⊥) → ReadCauses status old new → OnlyGave old new
+loud_gave : (status : Status) (old new : Counts) → (IsSilent status → ⊥) → CountsBefore status old new → OnlyGave old new
 loud_gave ReadFault old new loud h = absurd (loud tt)
 loud_gave OutOfMemory old new loud h = h
 loud_gave WriteFault old new loud h = h
@@ -106,31 +107,51 @@ loud_gave StateRefused old new loud h = h
 loud_gave NoSuchTurn old new loud h = h
 loud_gave NoFile old new loud h = absurd (loud tt)
 
-whole_causes : (status : Status) (old new : Counts) (faults now : ℕ) → status ≢ WriteFault → ReadCauses status old new → now ≡ faults → Causes status old new faults now
-whole_causes ReadFault old new faults now other h same = (h, same)
-whole_causes OutOfMemory old new faults now other h same = (h, same)
-whole_causes WriteFault old new faults now other h same = absurd (other refl)
-whole_causes Done old new faults now other h same = (h, same)
-whole_causes Differs old new faults now other h same = (h, same)
-whole_causes Usage old new faults now other h same = (h, same)
-whole_causes TooLong old new faults now other h same = (h, same)
-whole_causes MatchRefused old new faults now other h same = (h, same)
-whole_causes StateRefused old new faults now other h same = (h, same)
-whole_causes NoSuchTurn old new faults now other h same = (h, same)
-whole_causes NoFile old new faults now other h same = (h, same)
+whole_causes : (status : Status) (before now : Scene) → status ≢ WriteFault → CountsBefore status before.counts now.counts → now.faults ≡ before.faults → Causes status before now
+whole_causes ReadFault before now other h same = (h, same)
+whole_causes OutOfMemory before now other h same = (h, same)
+whole_causes WriteFault before now other h same = absurd (other refl)
+whole_causes Done before now other h same = (h, same)
+whole_causes Differs before now other h same = (h, same)
+whole_causes Usage before now other h same = (h, same)
+whole_causes TooLong before now other h same = (h, same)
+whole_causes MatchRefused before now other h same = (h, same)
+whole_causes StateRefused before now other h same = (h, same)
+whole_causes NoSuchTurn before now other h same = (h, same)
+whole_causes NoFile before now other h same = (h, same)
+
+-- a text that was cut short is that of a status which is not silent
+cut_short : (result status : Status) (text : List ℕ) (before now : Scene) → (IsSilent status → text ≡ []) → CountsBefore status before.counts now.counts
+    → IsCutShort result text before.told now.told before.faults now.faults → FailsToTell before now
+cut_short result status text before now silent h w = record {
+  shelf = loud_gave status before.counts now.counts (λ s. none_told w.part text w.less (silent s)) h;
+  sink = w.counted;
+}
 
 -- the text was told, or cut short, and the file was saved
-pub told_causes : (result status : Status) (text : List ℕ) (told told' : Option (List ℕ)) (faults faults' : ℕ) (old new : Counts) → status ≢ WriteFault → (IsSilent status → text ≡ [])
-    → Tells result status text told told' faults faults' → ReadCauses status old new → Causes result old new faults faults'
-told_causes result status text told told' faults faults' old new other silent (inl w) h = subst (λ (s : Status). Causes s old new faults faults') (sym w.same) (whole_causes status old new faults faults' other h w.uncounted)
-told_causes result status text told told' faults faults' old new other silent (inr w) h =
-    subst (λ (s : Status). Causes s old new faults faults') (sym w.status) (inr (loud_gave status old new (λ s. none_told w.part text w.less (silent s)) h, w.counted))
+pub told_causes : (result status : Status) (text : List ℕ) (before now : Scene) → status ≢ WriteFault → (IsSilent status → text ≡ [])
+    → Tells result status text before.told now.told before.faults now.faults → CountsBefore status before.counts now.counts → Causes result before now
+told_causes result status text before now other silent (inl w) h = subst (λ (s : Status). Causes s before now) (sym w.same) (whole_causes status before now other h w.uncounted)
+told_causes result status text before now other silent (inr w) h =
+    subst (λ (s : Status). Causes s before now) (sym w.status) (inr (cut_short result status text before now silent h w))
 
-pub told_meets : (result status : Status) (words : List (List ℕ)) (files : List File) (text : List ℕ) (saved : Option File) (before now : Scene) (faults faults' : ℕ) → MeetsBefore status words files text saved
-    → Tells result status text before.told now.told faults faults' → Saves saved before.held now.held → Meets result words files before now
-told_meets result status words files text saved before now faults faults' h (inl w) held = subst (λ (s : Status). Meets s words files before now) (sym w.same) (done_meets status words files text saved before now h w.text_told held)
-told_meets result status words files text saved before now faults faults' h (inr w) held =
-    subst (λ (s : Status). Meets s words files before now) (sym w.status) (untold_meets status words files text saved before now w.part h w.less w.text_told held)
+pub told_meets : (result status : Status) (words : List (List ℕ)) (files : List File) (text : List ℕ) (saved : Option File) (before now : Scene) → (IsSilent status → text ≡ [])
+    → MeetsBefore status words files text saved → CountsBefore status before.counts now.counts → Tells result status text before.told now.told before.faults now.faults → Saves saved before.held now.held → Meets result words files before now
+told_meets result status words files text saved before now silent h counts (inl w) held = subst (λ (s : Status). Meets s words files before now) (sym w.same) (done_meets status words files text saved before now h w.text_told held)
+told_meets result status words files text saved before now silent h counts (inr w) held =
+    subst (λ (s : Status). Meets s words files before now) (sym w.status) (untold_meets status words files text saved before now w.part h (cut_short result status text before now silent counts w) w.less w.text_told held)
+
+-- ---- what was counted where the file could not be written
+
+pub gave_then_unsaved : (old middle new : Counts) → OnlyGave old middle → Rose middle.write_faults new.write_faults → new ≡ record middle { write_faults = new.write_faults } → GaveThenUnsaved old new
+gave_then_unsaved old middle new gave rose is =
+    let given : new.given ≡ middle.given = ap (λ (c : Counts). c.given) is in
+    let written : middle.write_faults ≡ old.write_faults = ap (λ (c : Counts). c.write_faults) gave.1 in
+    (
+      omega (arith, given, gave.0),
+      subst (λ (n : ℕ). Rose n new.write_faults) written rose,
+      is ∙ ap (λ (c : Counts). record c { write_faults = new.write_faults }) gave.1 ∙ ap (λ (n : ℕ). record old { given = n; write_faults = new.write_faults }) (sym given),
+    )
 
 pub all_told : {X : Type 0} (P : X → Type 0) (held : Option X) → ((x : X) → P x) → IfSome held P
 all_told P None f = tt

@@ -7,3 +7,4 @@ pub mod PlayLines
 pub mod ValidStates
 pub mod Stopping
 pub mod Finishing
+pub mod Completeness

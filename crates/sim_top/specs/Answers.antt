@@ -11,13 +11,58 @@ use Rattle.sim_top.specs.Outcome.{Outcome, IsOutcome}
 use Rattle.sim_top.specs.declared.status.Status.{Status}
 use Rattle.sim_top.specs.declared.status.Status.TheVariants.{Done, Differs, Usage, ReadFault, WriteFault, TooLong, MatchRefused, StateRefused, OutOfMemory, NoSuchTurn, NoFile}
 
--- what the shelf holds and the sink was told, where they tell it
+-- what the shelf holds and the sink was told, where they tell it, and what both have counted
 pub record Scene : Type 0 where
   pub held : Option (List File)
   pub told : Option (List ℕ)
+  pub counts : Counts
+  pub faults : ℕ
 
-abbrev pub scene : Option (List File) → Option (List ℕ) → Scene
-scene held told = record { held = held; told = told }
+abbrev pub scene : Option (List File) → Option (List ℕ) → Counts → ℕ → Scene
+scene held told counts faults = record { held = held; told = told; counts = counts; faults = faults }
+
+-- ---- what was counted
+
+-- bytes may have been given out, then a name was not found, and nothing else was counted
+abbrev pub GaveThenMissed : Counts → Counts → Type 0
+GaveThenMissed old new = (old.given ≤ new.given) × (new ≡ after_miss (record old { given = new.given }))
+
+-- bytes may have been given out, then writing the file failed, and nothing else was counted
+abbrev pub GaveThenUnsaved : Counts → Counts → Type 0
+GaveThenUnsaved old new = (old.given ≤ new.given) × Rose old.write_faults new.write_faults × (new ≡ record old { given = new.given; write_faults = new.write_faults })
+
+-- what the shelf counted before anything was written, by the status
+abbrev pub CountsBefore : Status → Counts → Counts → Type 0
+CountsBefore ReadFault old new = GaveThenFailed old new
+CountsBefore NoFile old new = GaveThenMissed old new
+CountsBefore TooLong old new = OnlyGave old new × RoseBy (MAX_FILE + 1) old.given new.given
+CountsBefore Usage old new = new ≡ old
+CountsBefore status old new = OnlyGave old new
+
+-- the file could not be written, which the shelf counted and the sink did not; nothing was told
+pub record FailsToSave (before now : Scene) : Type 0 where
+  pub shelf : GaveThenUnsaved before.counts now.counts
+  pub sink : now.faults ≡ before.faults
+  pub text : Appends before.told now.told []
+
+-- the text could not be told, which the sink counted and the shelf did not
+pub record FailsToTell (before now : Scene) : Type 0 where
+  pub shelf : OnlyGave before.counts now.counts
+  pub sink : now.faults ≡ raised 1 before.faults
+
+-- a write fault is answered exactly where one was counted, by the shelf or by the sink
+abbrev pub Causes : Status → Scene → Scene → Type 0
+Causes WriteFault before now = FailsToSave before now ⊎ FailsToTell before now
+Causes status before now = CountsBefore status before.counts now.counts × (now.faults ≡ before.faults)
+
+-- what may be answered where the words are not in the table of commands
+abbrev pub IsForNoWords : Status → Type 0
+IsForNoWords Usage = Unit {0}
+IsForNoWords WriteFault = Unit {0}
+IsForNoWords OutOfMemory = Unit {0}
+IsForNoWords other = ⊥
+
+-- ---- what was done, where the shelf tells what it holds
 
 -- nothing was told, and all files are as they were
 pub record IsUntouched (before now : Scene) : Type 0 where
@@ -39,13 +84,14 @@ pub record IsDone (wanted : Outcome) (before now : Scene) : Type 0 where
   pub text : Appends before.told now.told wanted.text
   pub files : Saves wanted.saved before.held now.held
 
--- the file could not be written, and nothing was told
+-- the file could not be written
 pub record IsUnsaved (wanted : Outcome) (before now : Scene) : Type 0 where
-  pub text : Appends before.told now.told []
+  pub fails : FailsToSave before now
   pub files : SavesPart wanted.saved before.held now.held
 
 -- the text could not be told to its end, and the file, if there is one, is saved
 pub record IsUntold (wanted : Outcome) (before now : Scene) : Type 0 where
+  pub fails : FailsToTell before now
   pub part : ℕ
   pub less : part < length wanted.text
   pub text : Appends before.told now.told (take part wanted.text)
@@ -57,29 +103,6 @@ Meets ReadFault words files before now = IsUntouched before now
 Meets OutOfMemory words files before now = IsUntouched before now
 Meets WriteFault words files before now = (wanted : Outcome) × IsOutcome words files wanted × (IsUnsaved wanted before now ⊎ IsUntold wanted before now)
 Meets status words files before now = (wanted : Outcome) × IsOutcome words files wanted × (wanted.status ≡ status) × IsDone wanted before now
-
--- ---- what was counted
-
--- bytes may have been given out, then a name was not found, and nothing else was counted
-abbrev pub GaveThenMissed : Counts → Counts → Type 0
-GaveThenMissed old new = (old.given ≤ new.given) × (new ≡ after_miss (record old { given = new.given }))
-
--- bytes may have been given out, then writing the file failed, and nothing else was counted
-abbrev pub GaveThenUnsaved : Counts → Counts → Type 0
-GaveThenUnsaved old new = (old.given ≤ new.given) × Rose old.write_faults new.write_faults × (new ≡ record old { given = new.given; write_faults = new.write_faults })
-
--- what the shelf counted before anything was written, by the status
-abbrev pub ReadCauses : Status → Counts → Counts → Type 0
-ReadCauses ReadFault old new = GaveThenFailed old new
-ReadCauses NoFile old new = GaveThenMissed old new
-ReadCauses TooLong old new = OnlyGave old new × RoseBy (MAX_FILE + 1) old.given new.given
-ReadCauses Usage old new = new ≡ old
-ReadCauses status old new = OnlyGave old new
-
--- what the shelf and the sink counted: a write fault exactly where one is answered, of the one or of the other
-abbrev pub Causes : Status → Counts → Counts → ℕ → ℕ → Type 0
-Causes WriteFault old new faults now = (GaveThenUnsaved old new × (now ≡ faults)) ⊎ (OnlyGave old new × (now ≡ raised 1 faults))
-Causes status old new faults now = ReadCauses status old new × (now ≡ faults)
 
 -- ---- where the shelf need not tell what it holds
 

@@ -10,7 +10,7 @@ use Rattle.sim_codec.specs.Loading.{StandsFor}
 use Rattle.sim_report.specs.declared.refusal.Refusal.TheVariants.{Match, Turn}
 use Rattle.sim_report.specs.Refusals.{refusal_text, stored_text}
 use Rattle.sim_top.specs.Outcome.{Outcome, printed, Then, IsStored, state_by}
-use Rattle.sim_top.specs.Answers.{ReadCauses}
+use Rattle.sim_top.specs.Answers.{CountsBefore}
 use Rattle.sim_top.specs.declared.status.Status.{Status}
 use Rattle.sim_top.specs.declared.status.Status.TheVariants as status
 use Rattle.sim_top.specs.declared.stop.Stop.{Stop}
@@ -86,4 +86,4 @@ IsOfContent other = Unit {0}
 -- what the shelf counted while something was read
 abbrev pub CausesOf : {X : Type 0} → Result X Stop → Counts → Counts → Type 0
 CausesOf (Ok x) old new = OnlyGave old new
-CausesOf (Err stop) old new = ReadCauses (status_of stop) old new
+CausesOf (Err stop) old new = CountsBefore (status_of stop) old new

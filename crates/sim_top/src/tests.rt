@@ -1,8 +1,11 @@
 //! The program over a shelf and a sink in memory. The digests were worked out apart from it, as MD5 of the bytes that
 //! `docs/FORMATS.md` lays out; a program that always answers want of memory is refused here.
 
+ghost use Rattle.std.specs.Prelude.{None};
+ghost use Rattle.sim_store.specs.MemSink.{faults_of};
+
 use crate::{Status, run};
-use sim_store::{MAX_FILE, MemShelf, MemSink};
+use sim_store::{Failed, MemShelf, MemSink, Sink};
 use std::alloc::Global;
 use std::test::Fail;
 
@@ -61,14 +64,8 @@ const SHOWN: &str = "turn 1 next 4 word 0 rows 1
 entity 3 template post owner 2 at 2 2 health 50
 ";
 
-// Runs the words over a shelf that holds a match, with so much room in the sink.
-fn ran(alloc: Global, words: &[&str], text: &str, room: usize) -> Result<(Status, MemSink), Fail> {
-    let (status, _, out) = ran_beside(alloc, words, text, None, room)?;
-    Ok((status, out))
-}
-
-// The same, where the shelf also may hold a stored state.
-fn ran_beside(
+// Runs the words over a shelf that holds a match and perhaps a stored state, with so much room in the sink.
+fn ran(
     alloc: Global,
     words: &[&str],
     text: &str,
@@ -142,7 +139,7 @@ fn words_and_files_give_their_status_and_text(rt: HostRuntime) -> Result<(), Fai
         (&["show", "m", "s"], POSTS, Status::NoFile, ""),
     ];
     for (words, file, status, text) in cases {
-        let (ended, shelf, out) = ran_beside(rt.alloc(), words, file, None, 1000)?;
+        let (ended, shelf, out) = ran(rt.alloc(), words, file, None, 1000)?;
         assert_eq!(rt; ended, status, "with {words:?} on {file}");
         assert_eq!(rt; out.told(), text.as_bytes(), "with {words:?} on {file}");
         assert_eq!(rt; shelf.held("s"), None, "with {words:?} on {file}");
@@ -155,14 +152,14 @@ fn a_state_is_stored_shown_and_played_on(rt: HostRuntime) -> Result<(), Fail> {
     let line = "state 1 101 5ba6ccce6ec0216cccaaf7181a30b789\n";
     for turn in ["1", "000000001"] {
         let words = ["state", "m", turn, "s"];
-        let (ended, shelf, out) = ran_beside(rt.alloc(), &words, POSTS, None, 100)?;
+        let (ended, shelf, out) = ran(rt.alloc(), &words, POSTS, None, 100)?;
         assert_eq!(rt; ended, Status::Done, "at {turn}");
         assert_eq!(rt; out.told(), line.as_bytes(), "at {turn}");
         assert_eq!(rt; shelf.held("s"), Some(STORED.as_slice()), "at {turn}");
     }
     for (command, text) in [("show", SHOWN), ("resume", RESUMED_LINES)] {
         let words = [command, "m", "s"];
-        let (ended, shelf, out) = ran_beside(rt.alloc(), &words, POSTS, Some(&STORED), 100)?;
+        let (ended, shelf, out) = ran(rt.alloc(), &words, POSTS, Some(&STORED), 100)?;
         assert_eq!(rt; ended, Status::Done, "for {command}");
         assert_eq!(rt; out.told(), text.as_bytes(), "for {command}");
         assert_eq!(rt; shelf.held("s"), Some(STORED.as_slice()), "for {command}");
@@ -190,7 +187,7 @@ fn damaged_states_are_refused(rt: HostRuntime) -> Result<(), Fail> {
     for (bytes, text) in cases {
         for command in ["resume", "show"] {
             let words = [command, "m", "s"];
-            let (ended, _, out) = ran_beside(rt.alloc(), &words, POSTS, Some(bytes), 100)?;
+            let (ended, _, out) = ran(rt.alloc(), &words, POSTS, Some(bytes), 100)?;
             assert_eq!(rt; ended, Status::StateRefused, "of {} bytes", bytes.len());
             assert_eq!(rt; out.told(), text.as_bytes(), "of {} bytes", bytes.len());
         }
@@ -199,7 +196,7 @@ fn damaged_states_are_refused(rt: HostRuntime) -> Result<(), Fail> {
 }
 
 #[test]
-fn a_file_without_room_is_saved_in_part(rt: HostRuntime) -> Result<(), Fail> {
+fn a_file_without_room_is_left_empty(rt: HostRuntime) -> Result<(), Fail> {
     let words = owned(rt.alloc(), &["state", "m", "1", "s"])?;
     let mut shelf = MemShelf::new(rt.alloc(), 100)?;
     shelf.put("m", POSTS.as_bytes())?;
@@ -209,31 +206,49 @@ fn a_file_without_room_is_saved_in_part(rt: HostRuntime) -> Result<(), Fail> {
         Status::WriteFault
     );
     assert!(rt; out.told().is_empty());
-    assert_eq!(rt; shelf.held("m"), Some(POSTS.as_bytes()));
-    match shelf.held("s") {
-        None => {}
-        Some(part) => assert!(rt; STORED.starts_with(part)),
-    }
+    assert!(rt; has_file(&shelf, "m", POSTS.as_bytes()));
+    assert!(rt; has_file(&shelf, "s", b""));
     Ok(())
 }
 
+/// A sink that takes at most two bytes at a time. It tells nothing, as the real one does.
+#[derive(Drop)]
+struct SlowSink {
+    sink: MemSink,
+}
+
+impl Sink for SlowSink {
+    ghost told = { λ _. None };
+
+    ghost faults = { λ slow. faults_of slow.sink };
+
+    fn write(&mut self, piece: &[u8]) -> Result<usize, Failed> {
+        let most = piece.len().min(2);
+        self.sink.write(&piece[..most])
+    }
+}
+
 #[test]
-fn a_sink_without_room_gets_a_prefix(rt: HostRuntime) -> Result<(), Fail> {
-    for room in 0..EMPTY_LINES.len() {
-        let (ended, out) = ran(rt.alloc(), &["play", "m"], EMPTY, room)?;
-        assert_eq!(rt; ended, Status::WriteFault, "with room for {room}");
-        assert!(rt;
-            EMPTY_LINES.as_bytes().starts_with(out.told()),
-            "with room for {room}"
-        );
+fn a_text_is_cut_short_where_its_sink_fails(rt: HostRuntime) -> Result<(), Fail> {
+    let words = owned(rt.alloc(), &["play", "m"])?;
+    let mut shelf = MemShelf::new(rt.alloc(), 0)?;
+    shelf.put("m", EMPTY.as_bytes())?;
+    for told in (0..EMPTY_LINES.len()).step_by(2) {
+        let mut out = SlowSink {
+            sink: MemSink::new(rt.alloc(), EMPTY_LINES.len())?,
+        };
+        out.sink.fail_at(told as u64 / 2 + 1)?;
+        let ended = run(rt.alloc(), &words, &mut shelf, &mut out);
+        assert_eq!(rt; ended, Status::WriteFault, "after {told}");
+        assert_eq!(rt; Some(out.sink.told()), EMPTY_LINES.as_bytes().get(..told));
     }
     Ok(())
 }
 
 #[test]
 fn a_file_may_not_be_longer_than_the_limit(rt: HostRuntime) -> Result<(), Fail> {
-    let mut bytes = Vec::with_capacity(rt.alloc(), MAX_FILE + 1)?;
-    for _ in 0..MAX_FILE {
+    let mut bytes = Vec::with_capacity(rt.alloc(), 16_777_217)?;
+    for _ in 0..16_777_216 {
         bytes.push(b' ')?;
     }
     let mut shelf = MemShelf::new(rt.alloc(), 0)?;
@@ -335,23 +350,32 @@ fn the_first_difference_of_two_states_is_named(rt: HostRuntime) -> Result<(), Fa
     Ok(())
 }
 
-// Runs the words over the files of FOUR, where one call of the shelf and one write of the sink may be listed to fail.
-fn ran_failing(
-    alloc: Global,
-    words: &[&str],
-    call: u64,
-    write: u64,
-) -> Result<(Status, MemShelf, MemSink), Fail> {
+// What OUT holds before a command saves a state there.
+const BEFORE: &[u8] = b"before";
+
+// The files of FOUR, where one call of the shelf is listed to fail, or none with 0.
+fn four_files(alloc: Global, call: u64) -> Result<MemShelf, Fail> {
     let mut shelf = MemShelf::new(alloc, 200)?;
     shelf.put("m", FOUR.as_bytes())?;
     shelf.put("a", &WITH_FOUR)?;
     shelf.put("b", &WITH_FOUR)?;
+    shelf.put("s", BEFORE)?;
     shelf.fail_at(call)?;
+    Ok(shelf)
+}
+
+// Runs the words, where one write of the sink is listed to fail, or none with 0.
+fn ran_over(
+    alloc: Global,
+    words: &[&str],
+    shelf: &mut MemShelf,
+    write: u64,
+) -> Result<(Status, MemSink), Fail> {
     let mut out = MemSink::new(alloc, 500)?;
     out.fail_at(write)?;
     let words = owned(alloc, words)?;
-    let status = run(alloc, &words, &mut shelf, &mut out);
-    Ok((status, shelf, out))
+    let status = run(alloc, &words, shelf, &mut out);
+    Ok((status, out))
 }
 
 fn has_file(shelf: &MemShelf, name: &str, bytes: &[u8]) -> bool {
@@ -361,35 +385,56 @@ fn has_file(shelf: &MemShelf, name: &str, bytes: &[u8]) -> bool {
     }
 }
 
-const COMMANDS: [&[&str]; 5] = [
-    &["play", "m"],
-    &["state", "m", "0", "s"],
-    &["resume", "m", "a"],
-    &["show", "m", "a"],
-    &["compare", "m", "a", "b"],
+// Whether each file that is read is as it was.
+fn are_inputs_kept(shelf: &MemShelf) -> bool {
+    has_file(shelf, "m", FOUR.as_bytes())
+        && has_file(shelf, "a", &WITH_FOUR)
+        && has_file(shelf, "b", &WITH_FOUR)
+}
+
+/// Words, how many calls of the shelf read their files, and what they save in OUT, if anything.
+type Case = (&'static [&'static str], u64, Option<&'static [u8]>);
+
+// Each file that is read takes three calls: it is opened, it is read whole, and it has come to its end.
+const COMMANDS: [Case; 5] = [
+    (&["play", "m"], 3, None),
+    (&["state", "m", "0", "s"], 3, Some(&WITH_FOUR)),
+    (&["resume", "m", "a"], 6, None),
+    (&["show", "m", "a"], 6, None),
+    (&["compare", "m", "a", "b"], 9, None),
 ];
+
+// Whether OUT is as it was, or holds the beginning of what is saved there.
+fn is_saved_in_part(shelf: &MemShelf, saved: Option<&[u8]>) -> bool {
+    match (shelf.held("s"), saved) {
+        (Some(held), Some(saved)) => held == BEFORE || saved.starts_with(held),
+        (Some(held), None) => held == BEFORE,
+        (None, _) => false,
+    }
+}
 
 #[test]
 fn every_call_of_the_shelf_may_fail(rt: HostRuntime) -> Result<(), Fail> {
-    for words in COMMANDS {
-        let (done, healthy, _) = ran_failing(rt.alloc(), words, 0, 0)?;
+    for (words, reads, saved) in COMMANDS {
+        let mut healthy = four_files(rt.alloc(), 0)?;
+        let (done, whole) = ran_over(rt.alloc(), words, &mut healthy, 0)?;
         assert_eq!(rt; done, Status::Done, "for {words:?}");
+        assert!(rt; reads <= healthy.calls(), "for {words:?}");
         for call in 1..=healthy.calls() {
-            let (ended, shelf, out) = ran_failing(rt.alloc(), words, call, 0)?;
-            let is_fault = ended == Status::ReadFault || ended == Status::WriteFault;
-            assert!(rt; is_fault, "for {words:?} at call {call}");
+            let fault = if call <= reads {
+                Status::ReadFault
+            } else {
+                Status::WriteFault
+            };
+            let mut shelf = four_files(rt.alloc(), call)?;
+            let (ended, out) = ran_over(rt.alloc(), words, &mut shelf, 0)?;
+            assert_eq!(rt; ended, fault, "for {words:?} at call {call}");
             assert!(rt; out.told().is_empty(), "for {words:?} at call {call}");
-            assert!(rt;
-                has_file(&shelf, "m", FOUR.as_bytes()),
-                "for {words:?} at call {call}"
-            );
-            assert!(rt;
-                has_file(&shelf, "a", &WITH_FOUR),
-                "for {words:?} at call {call}"
-            );
-            if let Some(part) = shelf.held("s") {
-                assert!(rt; WITH_FOUR.starts_with(part), "for {words:?} at call {call}");
-            }
+            assert!(rt; are_inputs_kept(&shelf), "for {words:?} at call {call}");
+            assert!(rt; is_saved_in_part(&shelf, saved), "for {words:?} at call {call}");
+            let (again, out) = ran_over(rt.alloc(), words, &mut shelf, 0)?;
+            assert_eq!(rt; again, Status::Done, "for {words:?} after call {call}");
+            assert_eq!(rt; out.told(), whole.told(), "for {words:?} after call {call}");
         }
     }
     Ok(())
@@ -397,20 +442,19 @@ fn every_call_of_the_shelf_may_fail(rt: HostRuntime) -> Result<(), Fail> {
 
 #[test]
 fn every_write_of_the_sink_may_fail(rt: HostRuntime) -> Result<(), Fail> {
-    for words in COMMANDS {
-        let (done, _, whole) = ran_failing(rt.alloc(), words, 0, 0)?;
+    for (words, _, saved) in COMMANDS {
+        let mut healthy = four_files(rt.alloc(), 0)?;
+        let (done, whole) = ran_over(rt.alloc(), words, &mut healthy, 0)?;
         assert_eq!(rt; done, Status::Done, "for {words:?}");
         assert!(rt; 0 < whole.calls(), "for {words:?}");
         for write in 1..=whole.calls() {
-            let (ended, shelf, out) = ran_failing(rt.alloc(), words, 0, write)?;
+            let mut shelf = four_files(rt.alloc(), 0)?;
+            let (ended, out) = ran_over(rt.alloc(), words, &mut shelf, write)?;
             assert_eq!(rt; ended, Status::WriteFault, "for {words:?} at write {write}");
-            assert!(rt;
-                whole.told().starts_with(out.told()),
-                "for {words:?} at write {write}"
-            );
-            if let Some(saved) = shelf.held("s") {
-                assert_eq!(rt; saved, WITH_FOUR.as_slice());
-            }
+            assert!(rt; whole.told().starts_with(out.told()), "for {words:?} at write {write}");
+            assert!(rt; are_inputs_kept(&shelf), "for {words:?} at write {write}");
+            let held = saved.unwrap_or(BEFORE);
+            assert!(rt; has_file(&shelf, "s", held), "for {words:?} at write {write}");
         }
     }
     Ok(())

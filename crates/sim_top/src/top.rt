@@ -7,7 +7,8 @@ ghost use Rattle.sim_report.specs.Lines.{usage_text as text_of_usage};
 ghost use Rattle.sim_store.specs.Writing.{FileCauses};
 ghost use Rattle.sim_store.specs.declared.counts.Counts.{Counts as AllCounts};
 ghost use Rattle.sim_top.specs.Words.{words_of, asked_by, out_of};
-ghost use Rattle.sim_top.specs.Answers.{scene, Meets, Causes, ReadCauses, KeepsAllBut, IsSilent};
+ghost use Rattle.sim_top.specs.Answers.{scene, Meets, Causes, CountsBefore, IsForNoWords, KeepsAllBut, IsSilent};
+ghost use Rattle.sim_top.specs.Readiness.{IsReady, IsFaultless, IsFinal};
 ghost use Rattle.sim_top.specs.Making.{MeetsBefore, SavesIfDone, IsSavedAs, IsAnswered, SaveMeets, Tells, file_of};
 ghost use Rattle.sim_top.specs.Stops.{stop_text as text_of_stop, status_of};
 
@@ -25,12 +26,24 @@ pub fn run<S: Shelf, K: Sink>(alloc: Global, words: &[String], shelf: &mut S, ou
     // Where the shelf tells its files, the status, the text and the saved file are those of the words, or a fault or
     // want of memory came between.
     ensures answers { IfSome (S.held shelf.old) (λ files. Meets result (words_of words.now) files
-        (scene (S.held shelf.old) (K.told out.old)) (scene (S.held shelf.new) (K.told out.new))) }
+        (scene (S.held shelf.old) (K.told out.old) (S.counts shelf.old) (K.faults out.old))
+        (scene (S.held shelf.new) (K.told out.new) (S.counts shelf.new) (K.faults out.new))) }
+    // Where each file that is read is good and no fault is counted, the command comes to its end, or there is no memory.
+    ensures complete { IfSome (S.held shelf.old) (λ files. IsReady files (asked_by (words_of words.now))
+        → IsFaultless (scene (S.held shelf.old) (K.told out.old) (S.counts shelf.old) (K.faults out.old))
+            (scene (S.held shelf.new) (K.told out.new) (S.counts shelf.new) (K.faults out.new))
+        → IsFinal result) }
+
+    // Where the shelf tells nothing, this much of it is still known.
     ensures usage { result ≡ Status.Usage → asked_by (words_of words.now) ≡ None }
+    ensures unasked { asked_by (words_of words.now) ≡ None → IsForNoWords result × (S.counts shelf.new ≡ S.counts shelf.old) }
     ensures silent { IsSilent result → Appends (K.told out.old) (K.told out.new) [] }
 
     // A fault is answered exactly where one was counted, and no file but the one to be written changes.
-    ensures causes { Causes result (S.counts shelf.old) (S.counts shelf.new) (K.faults out.old) (K.faults out.new) }
+    ensures causes { Causes result
+        (scene (S.held shelf.old) (K.told out.old) (S.counts shelf.old) (K.faults out.old))
+        (scene (S.held shelf.new) (K.told out.new) (S.counts shelf.new) (K.faults out.new)) }
+    ensures unsaved { out_of (asked_by (words_of words.now)) ≡ None → (S.counts shelf.new).write_faults ≡ (S.counts shelf.old).write_faults }
     ensures others { KeepsAllBut (out_of (asked_by (words_of words.now))) (S.held shelf.old) (S.held shelf.new) }
 {
     let answer = made_answer(alloc, words, shelf);
@@ -42,13 +55,17 @@ fn finish<S: Shelf, K: Sink>(shelf: &mut S, out: &mut K, answer: &Answer<'_>) ->
     requires unwritten { answer.now.status ≢ Status.WriteFault }
     requires done { SavesIfDone answer.now.saved answer.now.status }
     requires silent { IsSilent answer.now.status → string_bytes answer.now.text ≡ [] }
-    ensures answers { (words : List (List ℕ)) → IfSome (S.held shelf.old) (λ files.
-        MeetsBefore answer.now.status words files (string_bytes answer.now.text) (option_map file_of answer.now.saved)
-        → Meets result words files (scene (S.held shelf.old) (K.told out.old)) (scene (S.held shelf.new) (K.told out.new))) }
+    ensures answers { (words : List (List ℕ)) (before : AllCounts) → CountsBefore answer.now.status before (S.counts shelf.old)
+        → IfSome (S.held shelf.old) (λ files. MeetsBefore answer.now.status words files (string_bytes answer.now.text) (option_map file_of answer.now.saved)
+            → Meets result words files (scene (S.held shelf.old) (K.told out.old) before (K.faults out.old))
+                (scene (S.held shelf.new) (K.told out.new) (S.counts shelf.new) (K.faults out.new))) }
     ensures usage { result ≡ Status.Usage → answer.now.status ≡ Status.Usage }
+    ensures unasked { IsForNoWords answer.now.status → IsForNoWords result }
     ensures silent { IsSilent result → Appends (K.told out.old) (K.told out.new) [] }
-    ensures causes { (before : AllCounts) → ReadCauses answer.now.status before (S.counts shelf.old)
-        → Causes result before (S.counts shelf.new) (K.faults out.old) (K.faults out.new) }
+    ensures causes { (before : AllCounts) → CountsBefore answer.now.status before (S.counts shelf.old)
+        → Causes result (scene (S.held shelf.old) (K.told out.old) before (K.faults out.old))
+            (scene (S.held shelf.new) (K.told out.new) (S.counts shelf.new) (K.faults out.new)) }
+    ensures unsaved { answer.now.saved ≡ None → S.counts shelf.new ≡ S.counts shelf.old }
     ensures others { (name : Option (List ℕ)) → IsSavedAs name answer.now.saved → KeepsAllBut name (S.held shelf.old) (S.held shelf.new) }
 {
     match save(shelf, &answer.saved) {
@@ -84,11 +101,12 @@ fn made_answer<'w, S: Shelf>(alloc: Global, words: &'w [String], shelf: &mut S) 
     ensures answers { IfSome (S.held shelf.old) (λ files. MeetsBefore result.status (words_of words.now) files
         (string_bytes result.text) (option_map file_of result.saved)) }
     ensures usage { result.status ≡ Status.Usage → asked_by (words_of words.now) ≡ None }
+    ensures unasked { asked_by (words_of words.now) ≡ None → IsForNoWords result.status × (S.counts shelf.new ≡ S.counts shelf.old) }
     ensures silent { IsSilent result.status → string_bytes result.text ≡ [] }
     ensures done { SavesIfDone result.saved result.status }
     ensures saved { IsSavedAs (out_of (asked_by (words_of words.now))) result.saved }
     ensures unwritten { result.status ≢ Status.WriteFault }
-    ensures causes { ReadCauses result.status (S.counts shelf.old) (S.counts shelf.new) }
+    ensures causes { CountsBefore result.status (S.counts shelf.old) (S.counts shelf.new) }
     ensures held { S.held shelf.new ≡ S.held shelf.old }
 {
     let Some(request) = request_of(words) else {

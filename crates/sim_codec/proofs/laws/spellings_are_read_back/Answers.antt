@@ -6,6 +6,6 @@ use Rattle.sim_codec.proofs.laws.spellings_are_read_back.Goals as goal
 
 pub returns : goal.returns
 returns c = record {
-  head = λ setup state is valid. stands_head setup (spelling setup state) state is (record { valid = valid; spelled = refl });
+  head = λ setup state is valid. stands_head setup (spelling setup state) state is.id (record { valid = valid; spelled = refl });
   state = λ setup state is valid. stands_read setup (spelling setup state) (drop 24 (spelling setup state)) state is refl (record { valid = valid; spelled = refl });
 }

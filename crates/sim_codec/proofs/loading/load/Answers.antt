@@ -5,7 +5,7 @@ use Rattle.sim_codec.proofs.loading.load.Goals as goal
 
 pub returns-in_err-rest-clause-loads : goal.returns-in_err-rest-clause-loads
 returns-in_err-rest-clause-loads c =
-    λ s stands. absurd (no_fault c.args.setup.now c.args.bytes.now c.in_err-rest.field-0.0 c.requires c.in_err-rest.ensures s stands)
+    λ s stands. absurd (no_fault c.args.setup.now c.args.bytes.now c.in_err-rest.field-0.0 c.requires.id c.in_err-rest.ensures s stands)
 
 pub returns-in_err-rest-clause-err : goal.returns-in_err-rest-clause-err
 returns-in_err-rest-clause-err c =

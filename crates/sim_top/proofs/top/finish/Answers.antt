@@ -1,28 +1,32 @@
+-- The file was saved, and then the text told or cut short; or the file could not be saved, which the shelf counted.
 use Rattle.std.proofs.Common.{List, ℕ, Option, sym, subst, string_bytes}
 use Rattle.std.specs.Prelude.{option_map}
 use Rattle.sim_store.specs.Files.{File}
 use Rattle.sim_store.specs.declared.counts.Counts.{Counts}
-use Rattle.sim_top.specs.Answers.{scene, Meets, ReadCauses}
+use Rattle.sim_top.specs.Answers.{scene, Meets, CountsBefore}
 use Rattle.sim_top.specs.Making.{MeetsBefore, Tells, file_of}
 use Rattle.sim_top.proofs.Finishing.{told_meets, told_causes, all_told}
 use Rattle.sim_top.proofs.top.finish.Goals as goal
 
 pub returns-in-Ok-clause-answers : goal.returns-in-Ok-clause-answers
 returns-in-Ok-clause-answers g c =
-    λ words.
+    λ words old reads.
     let answer = c.args.answer.now in
     let text = string_bytes answer.text in
     let saved = option_map file_of answer.saved in
-    let before = scene (g.S.Shelf.held c.args.shelf.now) (g.K.Sink.told c.args.out.now) in
-    let now = scene (g.S.Shelf.held c.save.new.shelf) (g.K.Sink.told c.tell.new.out) in
-    let told = subst (λ (t : List ℕ). Tells c.tell.result answer.status t before.told now.told (g.K.Sink.faults c.args.out.now) (g.K.Sink.faults c.tell.new.out)) c.as_str.ensures.value c.tell.ensures in
+    let before = scene (g.S.Shelf.held c.args.shelf.now) (g.K.Sink.told c.args.out.now) old (g.K.Sink.faults c.args.out.now) in
+    let now = scene (g.S.Shelf.held c.save.new.shelf) (g.K.Sink.told c.tell.new.out) (g.S.Shelf.counts c.save.new.shelf) (g.K.Sink.faults c.tell.new.out) in
+    let told = subst (λ (t : List ℕ). Tells c.tell.result answer.status t before.told now.told before.faults now.faults) c.as_str.ensures.value c.tell.ensures in
+    let counts = subst (λ (new : Counts). CountsBefore answer.status old new) (sym c.in-Ok.ensures.causes) reads in
     all_told (λ files. MeetsBefore answer.status words files text saved → Meets c.tell.result words files before now) _
-    (λ files h. told_meets c.tell.result answer.status words files text saved before now _ _ h told c.in-Ok.ensures.held)
+    (λ files h. told_meets c.tell.result answer.status words files text saved before now c.requires.silent h counts told c.in-Ok.ensures.held)
 
 pub returns-in-Ok-clause-causes : goal.returns-in-Ok-clause-causes
 returns-in-Ok-clause-causes g c =
     λ old reads.
     let answer = c.args.answer.now in
-    let told = subst (λ (t : List ℕ). Tells c.tell.result answer.status t (g.K.Sink.told c.args.out.now) (g.K.Sink.told c.tell.new.out) (g.K.Sink.faults c.args.out.now) (g.K.Sink.faults c.tell.new.out)) c.as_str.ensures.value c.tell.ensures in
-    told_causes c.tell.result answer.status (string_bytes answer.text) _ _ _ _ old (g.S.Shelf.counts c.save.new.shelf) c.requires.unwritten c.requires.silent told
-    (subst (λ (new : Counts). ReadCauses answer.status old new) (sym c.in-Ok.ensures.causes) reads)
+    let before = scene (g.S.Shelf.held c.args.shelf.now) (g.K.Sink.told c.args.out.now) old (g.K.Sink.faults c.args.out.now) in
+    let now = scene (g.S.Shelf.held c.save.new.shelf) (g.K.Sink.told c.tell.new.out) (g.S.Shelf.counts c.save.new.shelf) (g.K.Sink.faults c.tell.new.out) in
+    let told = subst (λ (t : List ℕ). Tells c.tell.result answer.status t before.told now.told before.faults now.faults) c.as_str.ensures.value c.tell.ensures in
+    told_causes c.tell.result answer.status (string_bytes answer.text) before now c.requires.unwritten c.requires.silent told
+    (subst (λ (new : Counts). CountsBefore answer.status old new) (sym c.in-Ok.ensures.causes) reads)

@@ -1,13 +1,15 @@
+-- The shelf holds the same before anything is written.
 use Rattle.std.proofs.Common.{List, ℕ, Option, sym, subst, string_bytes, IfSome}
 use Rattle.std.specs.Prelude.{option_map}
 use Rattle.sim_store.specs.Files.{File}
-use Rattle.sim_top.specs.Words.{words_of}
-use Rattle.sim_top.specs.Answers.{scene, Meets}
+use Rattle.sim_top.specs.Words.{words_of, asked_by}
+use Rattle.sim_top.specs.Answers.{scene, Meets, Causes}
+use Rattle.sim_top.specs.Readiness.{IsReady, IsFaultless, IsFinal}
 use Rattle.sim_top.specs.Making.{MeetsBefore, file_of}
-use Rattle.sim_top.proofs.Stopping.{Told-both}
+use Rattle.sim_top.proofs.Stopping.{Told, Told-both}
+use Rattle.sim_top.proofs.Completeness.{final}
 use Rattle.sim_top.proofs.top.run.Goals as goal
 
--- the shelf holds the same before anything is written
 pub returns-clause-answers : goal.returns-clause-answers
 returns-clause-answers g c =
     let words = words_of c.args.words.now in
@@ -15,9 +17,29 @@ returns-clause-answers g c =
     let text = string_bytes answer.text in
     let saved = option_map file_of answer.saved in
     let told = g.K.Sink.told c.args.out.now in
-    let now = scene (g.S.Shelf.held c.finish.new.shelf) (g.K.Sink.told c.finish.new.out) in
-    let written = subst (λ (held : Option (List File)). IfSome held (λ files. MeetsBefore answer.status words files text saved → Meets c.finish.result words files (scene held told) now))
-    c.made_answer-answer.ensures.held (c.finish.ensures.answers words) in
-    Told-both (λ files. MeetsBefore answer.status words files text saved) (λ files. MeetsBefore answer.status words files text saved → Meets c.finish.result words files (scene (g.S.Shelf.held c.args.shelf.now) told) now)
-    (λ files. Meets c.finish.result words files (scene (g.S.Shelf.held c.args.shelf.now) told) now) _
+    let counts = g.S.Shelf.counts c.args.shelf.now in
+    let faults = g.K.Sink.faults c.args.out.now in
+    let before = scene (g.S.Shelf.held c.args.shelf.now) told counts faults in
+    let now = scene (g.S.Shelf.held c.finish.new.shelf) (g.K.Sink.told c.finish.new.out) (g.S.Shelf.counts c.finish.new.shelf) (g.K.Sink.faults c.finish.new.out) in
+    let written = subst (λ (held : Option (List File)). IfSome held (λ files. MeetsBefore answer.status words files text saved → Meets c.finish.result words files (scene held told counts faults) now))
+    c.made_answer-answer.ensures.held (c.finish.ensures.answers words counts c.made_answer-answer.ensures.causes) in
+    Told-both (λ files. MeetsBefore answer.status words files text saved) (λ files. MeetsBefore answer.status words files text saved → Meets c.finish.result words files before now)
+    (λ files. Meets c.finish.result words files before now) _
     (λ files h f. f h) c.made_answer-answer.ensures.answers written
+
+pub returns-clause-causes : goal.returns-clause-causes
+returns-clause-causes g c =
+    let told = g.K.Sink.told c.args.out.now in
+    let counts = g.S.Shelf.counts c.args.shelf.now in
+    let faults = g.K.Sink.faults c.args.out.now in
+    let now = scene (g.S.Shelf.held c.finish.new.shelf) (g.K.Sink.told c.finish.new.out) (g.S.Shelf.counts c.finish.new.shelf) (g.K.Sink.faults c.finish.new.out) in
+    subst (λ (held : Option (List File)). Causes c.finish.result (scene held told counts faults) now)
+    c.made_answer-answer.ensures.held (c.finish.ensures.causes counts c.made_answer-answer.ensures.causes)
+
+pub returns-clause-complete : goal.returns-clause-complete
+returns-clause-complete g c =
+    let words = words_of c.args.words.now in
+    let before = scene (g.S.Shelf.held c.args.shelf.now) (g.K.Sink.told c.args.out.now) (g.S.Shelf.counts c.args.shelf.now) (g.K.Sink.faults c.args.out.now) in
+    let now = scene (g.S.Shelf.held c.finish.new.shelf) (g.K.Sink.told c.finish.new.out) (g.S.Shelf.counts c.finish.new.shelf) (g.K.Sink.faults c.finish.new.out) in
+    Told (λ files. Meets c.finish.result words files before now) (λ files. IsReady files (asked_by words) → IsFaultless before now → IsFinal c.finish.result) _
+    (λ files h ready faultless. final c.finish.result words files before now h (returns-clause-causes g c) ready faultless) (returns-clause-answers g c)

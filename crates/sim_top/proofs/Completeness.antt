@@ -1,0 +1,123 @@
+-- Where each file that is read is good and no fault was counted, a run came to its end or there was no memory.
+use Rattle.std.proofs.Common.{◌≡◌, ℕ, ◌<◌, ◌≤◌, List, length, Option, Some, None, Result, Ok, Err, refl, sym, ap, ◌∙◌, subst, ◌⊎◌, inl, inr, arith}
+use Rattle.std.proofs.lemmas.Bool.{le-ltb}
+use Rattle.sim_base.specs.declared.setup.Setup.{Setup}
+use Rattle.sim_base.specs.declared.state.State.{State}
+use Rattle.sim_store.specs.Counts.{raised}
+use Rattle.sim_store.specs.Files.{File}
+use Rattle.sim_store.specs.declared.counts.Counts.{Counts}
+use Rattle.sim_codec.specs.declared.fault.StateFault.{StateFault}
+use Rattle.sim_codec.specs.declared.fault.StateFault.TheVariants as stored
+use Rattle.sim_codec.specs.Loading.{StandsFor}
+use Rattle.sim_codec.proofs.Standing.{no_fault}
+use Rattle.sim_setup.specs.Setups.{setup_of}
+use Rattle.sim_setup.proofs.SetupLimits.{setup_of-id}
+use Rattle.sim_diff.specs.Difference.{difference_of}
+use Rattle.sim_diff.specs.declared.place.Place.{Place}
+use Rattle.sim_top.specs.Words.{Asked, asked_by, to_play, to_store, to_resume, to_show, to_compare}
+use Rattle.sim_top.specs.Outcome.{Outcome, Then, ThenStored, IsStored, IsOutcomeOf, IsCompared, bytes_in, match_in, match_by, bytes_by, setup_by, compare_by, state_by, store_outcome, stored_at}
+use Rattle.sim_top.specs.Answers.{Scene, Meets, Causes, FailsToSave, FailsToTell}
+use Rattle.sim_top.specs.Readiness.{HoldsState, HoldsMatch, IsReady, IsFaultless, IsFinal}
+use Rattle.sim_top.specs.declared.status.Status.{Status}
+use Rattle.sim_top.specs.declared.status.Status.TheVariants.{Done, Differs, Usage, ReadFault, WriteFault, TooLong, MatchRefused, StateRefused, OutOfMemory, NoSuchTurn, NoFile}
+
+-- an outcome with which a command comes to its end
+abbrev Ends : Outcome → Type 0
+Ends wanted = (wanted.status ≡ Done) ⊎ (wanted.status ≡ Differs)
+
+done : (wanted other : Outcome) → other.status ≡ Done → wanted ≡ other → Ends wanted
+done wanted other is same = inl (ap (λ (o : Outcome). o.status) same ∙ is)
+
+after_reading : {X : Type 0} (r : Result X Outcome) (x : X) (next : X → Outcome → Type 0) (wanted : Outcome) → r ≡ Ok x → Then r next wanted → next x wanted
+after_reading {X} r x next wanted is h = subst (λ (q : Result X Outcome). Then q next wanted) is h
+
+-- ---- a state that bytes stand for is not refused
+
+id_of_match : (files : List File) (game : List ℕ) (setup : Setup) → match_in files game ≡ Ok setup → length setup.id ≡ 16
+unfolding match_in
+id_of_match files game setup is = by (bytes_in files game) is
+  where
+    of_bytes : (bytes : List ℕ) (r : Result Setup _) → setup_of bytes ≡ r → setup_by r ≡ Ok setup → length setup.id ≡ 16
+    of_bytes bytes (Ok other) e same = setup_of-id bytes setup (e ∙ cc)
+    of_bytes bytes (Err refusal) e same = cc
+
+    by : (r : Result (List ℕ) Outcome) → match_by r ≡ Ok setup → length setup.id ≡ 16
+    by (Ok bytes) e = of_bytes bytes (setup_of bytes) refl e
+    by (Err ended) e = cc
+
+not_refused : (setup : Setup) (bytes : List ℕ) (state : State) (fault : StateFault) → length setup.id ≡ 16 → StandsFor setup bytes state → IsStored setup bytes (Err fault) → ⊥
+not_refused setup bytes state stored.NotState id stands refused = no_fault setup bytes stored.NotState id refused state stands
+not_refused setup bytes state stored.OtherMatch id stands refused = no_fault setup bytes stored.OtherMatch id refused state stands
+not_refused setup bytes state stored.Grammar id stands refused = refused.1 state stands
+not_refused setup bytes state stored.OutOfMemory id stands refused = refused
+
+after_loading : (setup : Setup) (name bytes : List ℕ) (state : State) (next : State → Outcome → Type 0) (wanted : Outcome) → length setup.id ≡ 16 → StandsFor setup bytes state
+    → ThenStored setup name bytes next wanted → (found : State) × next found wanted
+after_loading setup name bytes state next wanted id stands h = by h.found h.stored h.goes_on
+  where
+    by : (found : Result State StateFault) → IsStored setup bytes found → Then (state_by name found) next wanted → (s : State) × next s wanted
+    by (Ok s) is goes_on = (s, goes_on)
+    by (Err fault) is goes_on = absurd (not_refused setup bytes state fault id stands is)
+
+after_state : (files : List File) (setup : Setup) (name : List ℕ) (next : State → Outcome → Type 0) (wanted : Outcome) → length setup.id ≡ 16 → HoldsState files setup name
+    → Then (bytes_in files name) (λ bytes. ThenStored setup name bytes next) wanted → (found : State) × next found wanted
+after_state files setup name next wanted id holds h =
+    after_loading setup name holds.bytes holds.state next wanted id holds.stands
+    (after_reading (bytes_in files name) holds.bytes (λ bytes. ThenStored setup name bytes next) wanted holds.read h)
+
+-- ---- the commands
+
+ends_compared : (wanted : Outcome) (place : Option Place) → wanted ≡ compare_by place → Ends wanted
+ends_compared wanted None same = inl (ap (λ (o : Outcome). o.status) same)
+ends_compared wanted (Some place) same = inr (ap (λ (o : Outcome). o.status) same)
+
+store_is_done : (setup : Setup) (turn : ℕ) (out : List ℕ) → turn ≤ setup.turns → (store_outcome setup turn out).status ≡ Done
+store_is_done setup turn out within = rw (le-ltb setup.turns turn within) refl
+
+ready_ends : (files : List File) (asked : Option Asked) (wanted : Outcome) → IsReady files asked → IsOutcomeOf files asked wanted → Ends wanted
+ready_ends files None wanted ready h = absurd ready
+ready_ends files (Some (to_play game)) wanted ready h = done wanted _ refl (after_reading (match_in files game) ready.setup _ wanted ready.read h)
+ready_ends files (Some (to_store game turn out)) wanted ready h =
+    done wanted (store_outcome ready.setup turn out) (store_is_done ready.setup turn out ready.more) (after_reading (match_in files game) ready.setup _ wanted ready.read h)
+ready_ends files (Some (to_resume game name)) wanted ready h =
+    let id = id_of_match files game ready.setup ready.read in
+    let found = after_state files ready.setup name _ wanted id ready.more (after_reading (match_in files game) ready.setup _ wanted ready.read h) in
+    done wanted _ refl found.1
+ready_ends files (Some (to_show game name)) wanted ready h =
+    let id = id_of_match files game ready.setup ready.read in
+    let found = after_state files ready.setup name _ wanted id ready.more (after_reading (match_in files game) ready.setup _ wanted ready.read h) in
+    done wanted _ refl found.1
+ready_ends files (Some (to_compare game left right)) wanted ready h =
+    let id = id_of_match files game ready.setup ready.read in
+    let first = after_state files ready.setup left _ wanted id ready.more.0 (after_reading (match_in files game) ready.setup _ wanted ready.read h) in
+    let second = after_state files ready.setup right _ wanted id ready.more.1 first.1 in
+    ends_compared wanted (difference_of first.0 second.0) second.1
+
+-- ---- the run
+
+no_write_fault : (before now : Scene) → IsFaultless before now → Causes WriteFault before now → ⊥
+no_write_fault before now faultless (inl saves) = omega (arith, faultless.saving, saves.shelf.1)
+no_write_fault before now faultless (inr tells) = omega (arith, faultless.telling, tells.sink)
+
+no_read_fault : (before now : Scene) → IsFaultless before now → Causes ReadFault before now → ⊥
+no_read_fault before now faultless caused =
+    let rose : now.counts.read_faults ≡ raised 1 before.counts.read_faults = ap (λ (c : Counts). c.read_faults) caused.0.1 in
+    omega (arith, faultless.reading, rose)
+
+no_end : (wanted : Outcome) (status : Status) → wanted.status ≡ status → (Done ≡ status → ⊥) → (Differs ≡ status → ⊥) → Ends wanted → ⊥
+no_end wanted status is one two (inl ends) = one (sym ends ∙ is)
+no_end wanted status is one two (inr ends) = two (sym ends ∙ is)
+
+pub final : (result : Status) (words : List (List ℕ)) (files : List File) (before now : Scene) → Meets result words files before now → Causes result before now
+    → IsReady files (asked_by words) → IsFaultless before now → IsFinal result
+final Done words files before now h caused ready faultless = tt
+final Differs words files before now h caused ready faultless = tt
+final OutOfMemory words files before now h caused ready faultless = tt
+final ReadFault words files before now h caused ready faultless = absurd (no_read_fault before now faultless caused)
+final WriteFault words files before now h caused ready faultless = absurd (no_write_fault before now faultless caused)
+final Usage words files before now (wanted, is, status, done) caused ready faultless = absurd (no_end wanted Usage status (λ e. cc) (λ e. cc) (ready_ends files (asked_by words) wanted ready is))
+final TooLong words files before now (wanted, is, status, done) caused ready faultless = absurd (no_end wanted TooLong status (λ e. cc) (λ e. cc) (ready_ends files (asked_by words) wanted ready is))
+final MatchRefused words files before now (wanted, is, status, done) caused ready faultless = absurd (no_end wanted MatchRefused status (λ e. cc) (λ e. cc) (ready_ends files (asked_by words) wanted ready is))
+final StateRefused words files before now (wanted, is, status, done) caused ready faultless = absurd (no_end wanted StateRefused status (λ e. cc) (λ e. cc) (ready_ends files (asked_by words) wanted ready is))
+final NoSuchTurn words files before now (wanted, is, status, done) caused ready faultless = absurd (no_end wanted NoSuchTurn status (λ e. cc) (λ e. cc) (ready_ends files (asked_by words) wanted ready is))
+final NoFile words files before now (wanted, is, status, done) caused ready faultless = absurd (no_end wanted NoFile status (λ e. cc) (λ e. cc) (ready_ends files (asked_by words) wanted ready is))

@@ -1,0 +1,47 @@
+-- When a run comes to its end: each file that is read is there and good, and no fault comes between.
+use Rattle.std.specs.Prelude.{◌≡◌, ℕ, ◌≤◌, ◌<◌, List, Option, Some, None, Result, Ok}
+use Rattle.sim_base.specs.declared.setup.Setup.{Setup}
+use Rattle.sim_base.specs.declared.state.State.{State}
+use Rattle.sim_store.specs.Counts.{raised}
+use Rattle.sim_store.specs.Files.{File}
+use Rattle.sim_codec.specs.Loading.{StandsFor}
+use Rattle.sim_top.specs.Words.{Asked, to_play, to_store, to_resume, to_show, to_compare}
+use Rattle.sim_top.specs.Outcome.{bytes_in, match_in}
+use Rattle.sim_top.specs.Answers.{Scene}
+use Rattle.sim_top.specs.declared.status.Status.{Status}
+use Rattle.sim_top.specs.declared.status.Status.TheVariants.{Done, Differs, OutOfMemory}
+
+-- a file is held and within its limit, and its bytes stand for a state of the match
+pub record HoldsState (files : List File) (setup : Setup) (name : List ℕ) : Type 0 where
+  pub bytes : List ℕ
+  pub state : State
+  pub read : bytes_in files name ≡ Ok bytes
+  pub stands : StandsFor setup bytes state
+
+-- a file is held and within its limit, and is that of a match of which more holds
+pub record HoldsMatch (files : List File) (name : List ℕ) (And : Setup → Type 0) : Type 0 where
+  pub setup : Setup
+  pub read : match_in files name ≡ Ok setup
+  pub more : And setup
+
+-- each file that is to be read is good, and the match has the turn that is asked for
+abbrev pub IsReady : List File → Option Asked → Type 0
+IsReady files None = ⊥
+IsReady files (Some (to_play game)) = HoldsMatch files game (λ setup. Unit {0})
+IsReady files (Some (to_store game turn out)) = HoldsMatch files game (λ setup. turn ≤ setup.turns)
+IsReady files (Some (to_resume game name)) = HoldsMatch files game (λ setup. HoldsState files setup name)
+IsReady files (Some (to_show game name)) = HoldsMatch files game (λ setup. HoldsState files setup name)
+IsReady files (Some (to_compare game left right)) = HoldsMatch files game (λ setup. HoldsState files setup left × HoldsState files setup right)
+
+-- no count of faults rose, nor stands at its last value
+pub record IsFaultless (before now : Scene) : Type 0 where
+  pub reading : now.counts.read_faults < raised 1 before.counts.read_faults
+  pub saving : now.counts.write_faults < raised 1 before.counts.write_faults
+  pub telling : now.faults < raised 1 before.faults
+
+-- a command came to its end, or there was no memory
+abbrev pub IsFinal : Status → Type 0
+IsFinal Done = Unit {0}
+IsFinal Differs = Unit {0}
+IsFinal OutOfMemory = Unit {0}
+IsFinal other = ⊥
