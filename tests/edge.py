@@ -143,8 +143,7 @@ def main():
         case("an unknown word", run(["fly", "posts.json"], folder), 2, USAGE)
         case("a word too many", run(["play", "posts.json", "x"], folder), 2, USAGE)
         case("a command that is still to come", run(["serve", "posts.json"], folder), 2, USAGE)
-        status, text, error = run(["play", b"\xff\xfe"], folder)
-        case("a word that is not UTF-8", (status, b"", error), 2, b"")
+        case("a word that is not UTF-8", run(["play", b"\xff\xfe"], folder), 2, USAGE)
         with open("/dev/full", "wb") as full:
             case("a full standard output", run(["play", "posts.json"], folder, full), 4, None)
             case("a full standard output, and nothing to write", run(["play", "none.json"], folder, full), 11, None)

@@ -1,9 +1,10 @@
 -- Small cases of the definitions, each with the value that a reader expects, found by computing.
-use Rattle.std.proofs.Common.{◌≡◌, ◌-◌, ◌^◌, List, [], ◌∷◌, Some, Ok, Err, refl, codes}
+use Rattle.std.proofs.Common.{◌≡◌, ◌-◌, ◌*◌, ◌^◌, List, [], ◌∷◌, Some, Ok, Err, refl, codes}
 use Rattle.sim_store.specs.Counts.{raised, no_counts, after_giving, after_miss}
 use Rattle.sim_store.specs.Files.{File, file_in}
 use Rattle.sim_store.specs.Reading.{reading_of}
 use Rattle.sim_store.specs.declared.fault.StoreFault.TheVariants.{NoFile}
+use Rattle.sim_store.specs.declared.read.TheConstants.{MAX_FILE}
 
 files : List File
 files =
@@ -23,6 +24,9 @@ empty_and_held = refl
 not_held : reading_of (file_in files (codes "c")) ≡ Err NoFile
 unfolding files
 not_held = refl
+
+sixteen_mebibytes : MAX_FILE ≡ 16 * 2 ^ 20
+sixteen_mebibytes = refl
 
 one_more : raised 1 6 ≡ 7
 one_more = refl

@@ -55,8 +55,8 @@ fn whole_files_are_read(rt: HostRuntime) -> Result<(), Fail> {
 #[test]
 fn a_file_may_be_as_long_as_the_limit(rt: HostRuntime) -> Result<(), Fail> {
     let alloc = rt.alloc();
-    let mut bytes = Vec::with_capacity(alloc, MAX_FILE + 1)?;
-    for place in 0..MAX_FILE {
+    let mut bytes = Vec::with_capacity(alloc, 16_777_217)?;
+    for place in 0..16_777_216usize {
         bytes.push((place % 251) as u8)?;
     }
     let mut shelf = MemShelf::new(alloc, 0)?;

@@ -4,6 +4,7 @@
 
 ghost use Rattle.std.specs.Prelude.{[], None, is_some};
 ghost use Rattle.std.specs.Io.{ReadsAtMost, WritesAtMost};
+ghost use Rattle.sim_store.specs.Pieces.{TakesSome};
 
 use sim_store::{Counts, Failed, Shelf, ShelfFault, Sink, one_more};
 use std::io::{Read, Write};
@@ -106,8 +107,8 @@ impl<R: Files> Shelf for FileShelf<'_, R> {
             unreachable!()
         };
         match write_some(file, piece) {
-            Ok(count) if count > 0 || piece.is_empty() => Ok(count),
-            _ => {
+            Ok(count) => Ok(count),
+            Err(Failed) => {
                 self.counts.add_write_fault();
                 Err(Failed)
             }
@@ -134,16 +135,27 @@ fn read_some<F: Read>(file: &mut F, into: &mut [u8]) -> io::Result<usize>
 }
 
 // One write, made again where a signal interrupted it.
-fn write_some<F: Write>(file: &mut F, piece: &[u8]) -> io::Result<usize>
-    ensures { WritesAtMost result piece.now }
+fn write_some<F: Write>(file: &mut F, piece: &[u8]) -> Result<usize, Failed>
+    ensures { TakesSome result piece.now }
 {
     for _ in 0..TRIES {
         match file.write(piece) {
             Err(error) if error.kind() == io::ErrorKind::Interrupted => {}
-            answer => return answer,
+            answer => return taken(answer, piece),
         }
     }
-    file.write(piece)
+    taken(file.write(piece), piece)
+}
+
+// How much of the piece a write took. One that took nothing of it would be made again for ever, so it is a failed one.
+fn taken(answer: io::Result<usize>, piece: &[u8]) -> Result<usize, Failed>
+    requires { WritesAtMost answer piece.now }
+    ensures { TakesSome result piece.now }
+{
+    match answer {
+        Ok(count) if count > 0 || piece.is_empty() => Ok(count),
+        _ => Err(Failed),
+    }
 }
 
 /// Standard output, or any other writer.
@@ -167,8 +179,8 @@ impl<W: Write> Sink for OutSink<W> {
 
     fn write(&mut self, piece: &[u8]) -> Result<usize, Failed> {
         match write_some(&mut self.writer, piece) {
-            Ok(count) if count > 0 || piece.is_empty() => Ok(count),
-            _ => {
+            Ok(count) => Ok(count),
+            Err(Failed) => {
                 self.faults = one_more(self.faults);
                 Err(Failed)
             }

@@ -5,28 +5,25 @@
 mod edge;
 
 use edge::{FileShelf, OutSink};
+use sim_base::OutOfMemory;
 use sim_top::{Status, run};
 use std::process::ExitCode;
 use std::{env, io};
 
 fn main(rt: HostRuntime) -> ExitCode {
-    let alloc = rt.alloc();
-    let arguments = match env::args(&rt) {
-        Ok(arguments) => arguments,
-        Err(error) => return ExitCode::from(status_of(&error).number()),
-    };
-    let Ok(words) = arguments.skip(1).collect::<Vec<String>>(alloc) else {
+    let Ok(words) = words_of(&rt) else {
         return ExitCode::from(Status::OutOfMemory.number());
     };
     let mut shelf = FileShelf::new(&rt);
     let mut out = OutSink::new(io::writer(&rt));
-    ExitCode::from(run(alloc, &words, &mut shelf, &mut out).number())
+    ExitCode::from(run(rt.alloc(), &words, &mut shelf, &mut out).number())
 }
 
-// Arguments that cannot be had are no words of the program, unless it was memory that was refused.
-fn status_of(error: &io::Error) -> Status {
-    match error.kind() {
-        io::ErrorKind::OutOfMemory => Status::OutOfMemory,
-        _ => Status::Usage,
+// The words after the program's name. Where one of them is no text there are none, which no command has either.
+fn words_of(rt: &HostRuntime) -> Result<Vec<String>, OutOfMemory> {
+    match env::args(rt) {
+        Ok(arguments) => Ok(arguments.skip(1).collect::<Vec<String>>(rt.alloc())?),
+        Err(error) if error.kind() == io::ErrorKind::OutOfMemory => Err(OutOfMemory),
+        Err(_) => Ok(Vec::new(rt.alloc())),
     }
 }
