@@ -1,5 +1,6 @@
 pub mod RootLemmas
 pub mod NumberTextLemmas
+pub mod AppendedTexts
 pub mod PrintedNumbers
 pub mod Examples
 pub mod ExampleMatches

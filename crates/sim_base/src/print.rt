@@ -1,58 +1,101 @@
 //! Prints a number: a minus sign where it is negative, the whole metres, and where it is not whole a point and five
 //! digits, rounded up in magnitude, so that reading them gives the same number again.
 
-ghost use Rattle.std.specs.Prelude.{◌≡◌, ◌<◌, ◌++◌, Some, OnOk, string_bytes, decimal};
+ghost use Rattle.std.specs.Prelude.{◌≡◌, ◌<◌, ◌+◌, ◌∷◌, [], ◌++◌, length, take, drop, codes, Some, OnOk, OnErr, string_bytes, decimal};
 ghost use Rattle.sim_base.specs.NumberText.{number_of, text_of, magnitude_text, five_digits};
 
 use crate::fixed::Fixed;
 use crate::memory::OutOfMemory;
-use std::alloc::Global;
 
 impl Fixed {
-    /// Appends the number as text. `docs/FORMATS.md` has the spelling. After an error the text may have a part of it.
-    pub fn push_text(self, alloc: Global, out: &mut String) -> Result<(), OutOfMemory>
+    /// Appends the number as text, or leaves the text as it was. `docs/FORMATS.md` has the spelling.
+    pub fn push_text(self, out: &mut String) -> Result<(), OutOfMemory>
         ensures appended { OnOk result (string_bytes out.new ≡ string_bytes out.old ++ text_of self) }
+        ensures err { OnErr result (string_bytes out.new ≡ string_bytes out.old) }
         ensures reads_back { number_of (text_of self) ≡ Some self }
     {
-        if self.raw() < 0 {
-            out.push_str("-")?;
+        let length = out.len();
+        match push_signed(out, self) {
+            Ok(()) => Ok(()),
+            Err(stop) => {
+                out.truncate(length);
+                Err(stop)
+            }
         }
-        push_magnitude(alloc, out, self.raw().unsigned_abs())
     }
 }
 
-// The whole metres, and where there is more a point and five digits.
-fn push_magnitude(alloc: Global, out: &mut String, n: u32) -> Result<(), OutOfMemory>
-    ensures { OnOk result (string_bytes out.new ≡ string_bytes out.old ++ magnitude_text n) }
+// After an error a part of the number may stand behind the old text, here and below.
+fn push_signed(out: &mut String, number: Fixed) -> Result<(), OutOfMemory>
+    ensures ok { OnOk result (string_bytes out.new ≡ string_bytes out.old ++ text_of number) }
+    ensures err { OnErr result (take (length (string_bytes out.old)) (string_bytes out.new) ≡ string_bytes out.old) }
 {
-    push_decimal(alloc, out, n / 65536)?;
+    if number.raw() < 0 {
+        out.push_str("-")?;
+    }
+    push_magnitude(out, number.raw().unsigned_abs())
+}
+
+// The whole metres, and where there is more a point and five digits.
+fn push_magnitude(out: &mut String, n: u32) -> Result<(), OutOfMemory>
+    ensures ok { OnOk result (string_bytes out.new ≡ string_bytes out.old ++ magnitude_text n) }
+    ensures err { OnErr result (take (length (string_bytes out.old)) (string_bytes out.new) ≡ string_bytes out.old) }
+{
+    push_decimal(out, n / 65536)?;
     let fraction = n % 65536;
     if fraction != 0 {
         let parts = (u64::from(fraction) * 100000).div_ceil(65536) as u32;
         out.push_str(".")?;
-        push_five(alloc, out, parts)?;
+        push_five(out, parts)?;
     }
-    Ok(())
-}
-
-fn push_decimal(alloc: Global, out: &mut String, n: u32) -> Result<(), OutOfMemory>
-    ensures { OnOk result (string_bytes out.new ≡ string_bytes out.old ++ decimal n) }
-{
-    let text = format!(in alloc; "{n}")?;
-    out.push_str(text.as_str())?;
     Ok(())
 }
 
 // Five digits, with leading zeros.
-fn push_five(alloc: Global, out: &mut String, n: u32) -> Result<(), OutOfMemory>
+fn push_five(out: &mut String, n: u32) -> Result<(), OutOfMemory>
     requires { n < 100000 }
-    ensures { OnOk result (string_bytes out.new ≡ string_bytes out.old ++ five_digits n) }
+    ensures ok { OnOk result (string_bytes out.new ≡ string_bytes out.old ++ five_digits n) }
+    ensures err { OnErr result (take (length (string_bytes out.old)) (string_bytes out.new) ≡ string_bytes out.old) }
 {
-    let text = format!(in alloc; "{n}")?;
-    for _ in text.len()..5 {
-        out.push_str("0")?;
+    out.push_str(zeros_before(n))?;
+    push_decimal(out, n)
+}
+
+// The zeros that five digits have before this number.
+fn zeros_before(n: u32) -> &'static str
+    requires { n < 100000 }
+    ensures { result.now ≡ drop (length (decimal n)) (codes "00000") }
+{
+    if n < 10 {
+        "0000"
+    } else if n < 100 {
+        "000"
+    } else if n < 1000 {
+        "00"
+    } else if n < 10000 {
+        "0"
+    } else {
+        ""
     }
-    out.push_str(text.as_str())?;
+}
+
+fn push_decimal(out: &mut String, n: u32) -> Result<(), OutOfMemory>
+    ensures ok { OnOk result (string_bytes out.new ≡ string_bytes out.old ++ decimal n) }
+    ensures err { OnErr result (take (length (string_bytes out.old)) (string_bytes out.new) ≡ string_bytes out.old) }
+{
+    if n < 10 {
+        return push_digit(out, n);
+    }
+    push_decimal(out, n / 10)?;
+    push_digit(out, n % 10)
+}
+
+fn push_digit(out: &mut String, digit: u32) -> Result<(), OutOfMemory>
+    requires { digit < 10 }
+    ensures ok { OnOk result (string_bytes out.new ≡ string_bytes out.old ++ (48 + digit) ∷ []) }
+    ensures err { OnErr result (string_bytes out.new ≡ string_bytes out.old) }
+{
+    out.push(char::from(48 + digit as u8))?;
     Ok(())
 }
 
@@ -76,7 +119,7 @@ mod tests {
         for (raw, text) in cases {
             let number = Fixed::from_raw(raw);
             let mut out = String::from_str(rt.alloc(), "x ")?;
-            number.push_text(rt.alloc(), &mut out)?;
+            number.push_text(&mut out)?;
             assert_eq!(rt; out.as_str().strip_prefix("x "), Some(text), "at {raw}");
             assert_eq!(rt; Fixed::read_text(text), Some(number), "at {raw}");
         }

@@ -72,6 +72,6 @@ fn printed(alloc: Global, number: Fixed) -> Result<Text, OutOfMemory>
     ensures { IfOk result (λ text. text ≡ text_of number) }
 {
     let mut text = String::new(alloc);
-    number.push_text(alloc, &mut text)?;
+    number.push_text(&mut text)?;
     Ok(Text::of_string(text))
 }
