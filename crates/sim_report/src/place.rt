@@ -1,21 +1,33 @@
 //! The place at which two states differ, as text: which part of which entity, and the bytes that each state has of it.
 
-ghost use Rattle.std.specs.Prelude.{◌≡◌, ◌++◌, OnOk, string_bytes};
+ghost use Rattle.std.specs.Prelude.{◌≡◌, ◌++◌, OnOk, OnErr, string_bytes};
 ghost use Rattle.sim_report.specs.Places.{place_text, part_name as name_of_part, bits_line};
 
 use sim_base::OutOfMemory;
+use sim_bytes::push_hex;
 use sim_codec::{Bits, Part};
 use sim_diff::Place;
-use std::alloc::Global;
 
-/// Appends a place at which two states differ, with what the left and the right one have there.
-pub fn push_place(alloc: Global, place: &Place, out: &mut String) -> Result<(), OutOfMemory>
-    ensures { OnOk result (string_bytes out.new ≡ string_bytes out.old ++ place_text place.now) }
+/// Appends a place at which two states differ, with what the left and the right one have there, or leaves the text as it
+/// was.
+pub fn push_place(place: &Place, out: &mut String) -> Result<(), OutOfMemory>
+    ensures ok { OnOk result (string_bytes out.new ≡ string_bytes out.old ++ place_text place.now) }
+    ensures err { OnErr result (string_bytes out.new ≡ string_bytes out.old) }
+{
+    let mut lines = String::new(*out.allocator());
+    write_place(place, &mut lines)?;
+    out.push_str(lines.as_str())?;
+    Ok(())
+}
+
+// After an error a part of the lines may stand there, here and below.
+fn write_place(place: &Place, lines: &mut String) -> Result<(), OutOfMemory>
+    ensures { OnOk result (string_bytes lines.new ≡ string_bytes lines.old ++ place_text place.now) }
 {
     let part = part_name(place.part);
-    writeln!(out, "differ entity {} part {part}", place.entity)?;
-    push_bits(alloc, "left", &place.left, out)?;
-    push_bits(alloc, "right", &place.right, out)
+    writeln!(lines, "differ entity {} part {part}", place.entity)?;
+    write_bits("left", &place.left, lines)?;
+    write_bits("right", &place.right, lines)
 }
 
 fn part_name(part: Part) -> &'static str
@@ -32,14 +44,15 @@ fn part_name(part: Part) -> &'static str
     }
 }
 
-fn push_bits(alloc: Global, side: &str, bits: &Bits, out: &mut String) -> Result<(), OutOfMemory>
-    ensures { OnOk result (string_bytes out.new ≡ string_bytes out.old ++ bits_line side.now bits.now) }
+fn write_bits(side: &str, bits: &Bits, lines: &mut String) -> Result<(), OutOfMemory>
+    ensures { OnOk result (string_bytes lines.new ≡ string_bytes lines.old ++ bits_line side.now bits.now) }
 {
     match bits.bytes() {
-        None => writeln!(out, "{side} absent")?,
+        None => writeln!(lines, "{side} absent")?,
         Some(bytes) => {
-            let hex = hex::encode(alloc, bytes)?;
-            writeln!(out, "{side} {hex}")?;
+            write!(lines, "{side} ")?;
+            push_hex(lines, bytes)?;
+            lines.push_str("\n")?;
         }
     }
     Ok(())

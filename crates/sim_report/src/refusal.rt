@@ -1,7 +1,7 @@
 //! Why something is refused, as a line of its own. The four causes are one type, since a refused run of the program
 //! prints one of them and no more.
 
-ghost use Rattle.std.specs.Prelude.{◌≡◌, ◌++◌, OnOk, string_bytes};
+ghost use Rattle.std.specs.Prelude.{◌≡◌, ◌++◌, OnOk, OnErr, string_bytes};
 ghost use Rattle.sim_report.specs.Refusals.{refusal_text};
 
 use sim_base::OutOfMemory;
@@ -16,15 +16,26 @@ pub enum Refusal<'a> {
     Turn { asked: u32, turns: u32 },
 }
 
-/// Appends the line of a refusal.
+/// Appends the line of a refusal, or leaves the text as it was.
 pub fn push_refusal(refusal: &Refusal, out: &mut String) -> Result<(), OutOfMemory>
-    ensures { OnOk result (string_bytes out.new ≡ string_bytes out.old ++ refusal_text refusal.now) }
+    ensures ok { OnOk result (string_bytes out.new ≡ string_bytes out.old ++ refusal_text refusal.now) }
+    ensures err { OnErr result (string_bytes out.new ≡ string_bytes out.old) }
+{
+    let mut line = String::new(*out.allocator());
+    write_refusal(refusal, &mut line)?;
+    out.push_str(line.as_str())?;
+    Ok(())
+}
+
+// After an error nothing is said of the line.
+fn write_refusal(refusal: &Refusal, line: &mut String) -> Result<(), OutOfMemory>
+    ensures { OnOk result (string_bytes line.new ≡ string_bytes line.old ++ refusal_text refusal.now) }
 {
     match refusal {
-        Refusal::Match { code, index } => writeln!(out, "match refused {code} {index}")?,
-        Refusal::Stored { code, name } => writeln!(out, "state refused {code} {name}")?,
-        Refusal::List { index } => writeln!(out, "list refused {index}")?,
-        Refusal::Turn { asked, turns } => writeln!(out, "no turn {asked} of {turns}")?,
+        Refusal::Match { code, index } => writeln!(line, "match refused {code} {index}")?,
+        Refusal::Stored { code, name } => writeln!(line, "state refused {code} {name}")?,
+        Refusal::List { index } => writeln!(line, "list refused {index}")?,
+        Refusal::Turn { asked, turns } => writeln!(line, "no turn {asked} of {turns}")?,
     }
     Ok(())
 }

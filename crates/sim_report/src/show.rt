@@ -1,96 +1,122 @@
 //! A state as text: a line of its clock, and a line of each row with the parts that the row has.
 
-ghost use Rattle.std.specs.Prelude.{◌≡◌, ◌++◌, All, OnOk, string_bytes};
+ghost use Rattle.std.specs.Prelude.{◌≡◌, ◌++◌, All, length, take, OnOk, OnErr, string_bytes};
 ghost use Rattle.sim_report.specs.Show.{HasTemplate, show_text, clock_line, row_line, row_head, point_text, health_text, motion_text, attack_text};
 
 use sim_base::{Aim, Fixed, Motion, OutOfMemory, Point, Row, Setup, State};
-use std::alloc::Global;
 
-/// Appends what a match has come to, its entities ascending by id as the state has them.
-pub fn push_show(
-    alloc: Global,
-    setup: &Setup,
-    state: &State,
-    out: &mut String,
-) -> Result<(), OutOfMemory>
+/// Appends what a match has come to, its entities ascending by id as the state has them, or leaves the text as it was.
+pub fn push_show(setup: &Setup, state: &State, out: &mut String) -> Result<(), OutOfMemory>
     requires { All (HasTemplate setup.now) state.now.rows }
-    ensures { OnOk result (string_bytes out.new ≡ string_bytes out.old ++ show_text setup.now state.now) }
+    ensures ok { OnOk result (string_bytes out.new ≡ string_bytes out.old ++ show_text setup.now state.now) }
+    ensures err { OnErr result (string_bytes out.new ≡ string_bytes out.old) }
+{
+    let length = out.len();
+    match push_lines(setup, state, out) {
+        Ok(()) => Ok(()),
+        Err(stop) => {
+            out.truncate(length);
+            Err(stop)
+        }
+    }
+}
+
+// After an error some of the lines may stand behind the old text.
+fn push_lines(setup: &Setup, state: &State, out: &mut String) -> Result<(), OutOfMemory>
+    requires { All (HasTemplate setup.now) state.now.rows }
+    ensures ok { OnOk result (string_bytes out.new ≡ string_bytes out.old ++ show_text setup.now state.now) }
+    ensures err { OnErr result (take (length (string_bytes out.old)) (string_bytes out.new) ≡ string_bytes out.old) }
 {
     push_clock(state, out)?;
     for row in state.rows.as_slice() {
-        push_row(alloc, setup, row, out)?;
+        push_row(setup, row, out)?;
     }
     Ok(())
 }
 
 fn push_clock(state: &State, out: &mut String) -> Result<(), OutOfMemory>
-    ensures { OnOk result (string_bytes out.new ≡ string_bytes out.old ++ clock_line state.now) }
+    ensures ok { OnOk result (string_bytes out.new ≡ string_bytes out.old ++ clock_line state.now) }
+    ensures err { OnErr result (string_bytes out.new ≡ string_bytes out.old) }
 {
     let rows = state.rows.as_slice().len();
+    let mut line = String::new(*out.allocator());
     writeln!(
-        out,
+        line,
         "turn {} next {} word {} rows {rows}",
         state.turn, state.next, state.word
     )?;
+    out.push_str(line.as_str())?;
     Ok(())
 }
 
-fn push_row(alloc: Global, setup: &Setup, row: &Row, out: &mut String) -> Result<(), OutOfMemory>
+fn push_row(setup: &Setup, row: &Row, out: &mut String) -> Result<(), OutOfMemory>
     requires { HasTemplate setup.now row.now }
-    ensures { OnOk result (string_bytes out.new ≡ string_bytes out.old ++ row_line setup.now row.now) }
+    ensures ok { OnOk result (string_bytes out.new ≡ string_bytes out.old ++ row_line setup.now row.now) }
+    ensures err { OnErr result (string_bytes out.new ≡ string_bytes out.old) }
 {
-    push_head(setup, row, out)?;
-    push_point(alloc, row.at, out)?;
-    push_health(alloc, row.health, out)?;
-    push_motion(alloc, &row.motion, out)?;
-    push_attack(row.attack, out)?;
-    out.push_str("\n")?;
+    let mut line = String::new(*out.allocator());
+    write_row(setup, row, &mut line)?;
+    out.push_str(line.as_str())?;
     Ok(())
 }
 
-fn push_head(setup: &Setup, row: &Row, out: &mut String) -> Result<(), OutOfMemory>
+// A row's line is written as a text of its own, of which nothing is said after an error, here and below.
+fn write_row(setup: &Setup, row: &Row, line: &mut String) -> Result<(), OutOfMemory>
     requires { HasTemplate setup.now row.now }
-    ensures { OnOk result (string_bytes out.new ≡ string_bytes out.old ++ row_head setup.now row.now) }
+    ensures { OnOk result (string_bytes line.new ≡ string_bytes line.old ++ row_line setup.now row.now) }
+{
+    write_head(setup, row, line)?;
+    write_point(row.at, line)?;
+    write_health(row.health, line)?;
+    write_motion(&row.motion, line)?;
+    write_attack(row.attack, line)?;
+    line.push_str("\n")?;
+    Ok(())
+}
+
+fn write_head(setup: &Setup, row: &Row, line: &mut String) -> Result<(), OutOfMemory>
+    requires { HasTemplate setup.now row.now }
+    ensures { OnOk result (string_bytes line.new ≡ string_bytes line.old ++ row_head setup.now row.now) }
 {
     let template = &setup.templates.as_slice()[usize::from(row.template)];
     let name = template.name.text();
     write!(
-        out,
+        line,
         "entity {} template {name} owner {} at ",
         row.id, row.owner
     )?;
     Ok(())
 }
 
-fn push_point(alloc: Global, point: Point, out: &mut String) -> Result<(), OutOfMemory>
-    ensures { OnOk result (string_bytes out.new ≡ string_bytes out.old ++ point_text point) }
+fn write_point(point: Point, line: &mut String) -> Result<(), OutOfMemory>
+    ensures { OnOk result (string_bytes line.new ≡ string_bytes line.old ++ point_text point) }
 {
-    point.x.push_text(alloc, out)?;
-    out.push_str(" ")?;
-    point.z.push_text(alloc, out)
+    point.x.push_text(line)?;
+    line.push_str(" ")?;
+    point.z.push_text(line)
 }
 
-fn push_health(alloc: Global, health: Option<Fixed>, out: &mut String) -> Result<(), OutOfMemory>
-    ensures { OnOk result (string_bytes out.new ≡ string_bytes out.old ++ health_text health) }
+fn write_health(health: Option<Fixed>, line: &mut String) -> Result<(), OutOfMemory>
+    ensures { OnOk result (string_bytes line.new ≡ string_bytes line.old ++ health_text health) }
 {
     if let Some(health) = health {
-        out.push_str(" health ")?;
-        health.push_text(alloc, out)?;
+        line.push_str(" health ")?;
+        health.push_text(line)?;
     }
     Ok(())
 }
 
-fn push_motion(alloc: Global, motion: &Option<Motion>, out: &mut String) -> Result<(), OutOfMemory>
-    ensures { OnOk result (string_bytes out.new ≡ string_bytes out.old ++ motion_text motion.now) }
+fn write_motion(motion: &Option<Motion>, line: &mut String) -> Result<(), OutOfMemory>
+    ensures { OnOk result (string_bytes line.new ≡ string_bytes line.old ++ motion_text motion.now) }
 {
     match motion {
         None => {}
-        Some(Motion::Still) => out.push_str(" motion still")?,
+        Some(Motion::Still) => line.push_str(" motion still")?,
         Some(Motion::Going { goal, way, whole }) => {
-            out.push_str(" motion going ")?;
-            push_point(alloc, *goal, out)?;
+            line.push_str(" motion going ")?;
+            write_point(*goal, line)?;
             write!(
-                out,
+                line,
                 " way {} whole {}",
                 way.as_slice().len(),
                 u8::from(*whole)
@@ -100,12 +126,12 @@ fn push_motion(alloc: Global, motion: &Option<Motion>, out: &mut String) -> Resu
     Ok(())
 }
 
-fn push_attack(attack: Option<Aim>, out: &mut String) -> Result<(), OutOfMemory>
-    ensures { OnOk result (string_bytes out.new ≡ string_bytes out.old ++ attack_text attack) }
+fn write_attack(attack: Option<Aim>, line: &mut String) -> Result<(), OutOfMemory>
+    ensures { OnOk result (string_bytes line.new ≡ string_bytes line.old ++ attack_text attack) }
 {
     if let Some(aim) = attack {
         write!(
-            out,
+            line,
             " attack target {} cooldown {}",
             aim.target, aim.cooldown
         )?;

@@ -43,8 +43,8 @@ fn prints_the_usage(rt: HostRuntime) -> Result<(), Fail> {
 #[test]
 fn appends_lines_of_digests(rt: HostRuntime) -> Result<(), Fail> {
     let mut out = String::from_str(rt.alloc(), "before\n")?;
-    push_turn(rt.alloc(), "second", 17, &DIGEST, &mut out)?;
-    push_saved(rt.alloc(), 1, 101, &DIGEST, &mut out)?;
+    push_turn("second", 17, &DIGEST, &mut out)?;
+    push_saved(1, 101, &DIGEST, &mut out)?;
     let text = format!(in rt.alloc(); "before\nsecond 17 {DIGITS}\nstate 1 101 {DIGITS}\n")?;
     assert_eq!(rt; out.as_str(), text.as_str());
     Ok(())
@@ -138,7 +138,7 @@ fn tells_where_states_differ(rt: HostRuntime) -> Result<(), Fail> {
             right: bits_of(&state, 5, Part::Entity),
         };
         let mut out = String::from_str(alloc, "before\n")?;
-        push_place(alloc, &place, &mut out)?;
+        push_place(&place, &mut out)?;
         let text = format!(in alloc;
             "before\ndiffer entity 4294967295 part {name}\nleft 00000000020000000b00000000000000\nright absent\n"
         )?;
@@ -154,7 +154,7 @@ fn tells_the_least_difference(rt: HostRuntime) -> Result<(), Fail> {
     let none = clock(alloc, 0);
     let place = difference(&none, &clock(alloc, 11)).ok_or("no difference")?;
     let mut out = String::new(alloc);
-    push_place(alloc, &place, &mut out)?;
+    push_place(&place, &mut out)?;
     assert_eq!(rt;
         out.as_str(),
         "differ entity 1 part Clock\n\
@@ -165,7 +165,7 @@ fn tells_the_least_difference(rt: HostRuntime) -> Result<(), Fail> {
     one.rows = Items::from_items(vec![in alloc; bare_row(5, 0, 1, point(131072, 131072))]?);
     let place = difference(&one, &none).ok_or("no difference")?;
     let mut out = String::new(alloc);
-    push_place(alloc, &place, &mut out)?;
+    push_place(&place, &mut out)?;
     assert_eq!(rt;
         out.as_str(),
         "differ entity 5 part Entity\nleft 050000000000\nright absent\n"
@@ -275,6 +275,6 @@ fn shown(alloc: Global, next: u32, row: Row) -> Result<String, OutOfMemory>
         rows: Items::from_items(vec![in alloc; row]?),
     };
     let mut out = String::new(alloc);
-    push_show(alloc, &setup, &state, &mut out)?;
+    push_show(&setup, &state, &mut out)?;
     Ok(out)
 }

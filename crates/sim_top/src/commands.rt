@@ -206,7 +206,7 @@ fn compared<'w>(
             Ok(printed(text))
         }
         Some(place) => {
-            push_place(alloc, &place, &mut text)?;
+            push_place(&place, &mut text)?;
             Ok(Answer {
                 status: Status::Differs,
                 text,
@@ -249,13 +249,7 @@ fn stored(alloc: Global, setup: &Setup, state: &State) -> Result<(Vec<u8>, Strin
 {
     let bytes = spell(alloc, setup, state)?;
     let mut text = String::new(alloc);
-    push_saved(
-        alloc,
-        state.turn,
-        bytes.len(),
-        &digest(setup, state),
-        &mut text,
-    )?;
+    push_saved(state.turn, bytes.len(), &digest(setup, state), &mut text)?;
     Ok((bytes, text))
 }
 
@@ -275,6 +269,6 @@ fn show_text(alloc: Global, setup: &Setup, state: &State) -> Result<String, OutO
     ensures { IfOk result (λ text. string_bytes text ≡ text_of_show setup.now state.now) }
 {
     let mut text = String::new(alloc);
-    push_show(alloc, setup, state, &mut text)?;
+    push_show(setup, state, &mut text)?;
     Ok(text)
 }

@@ -32,28 +32,23 @@ pub fn push_turns(
 {
     let mut state = start;
     let first = state.turn;
-    push_line(alloc, setup, &state, out)?;
+    push_line(setup, &state, out)?;
     let mut ahead = ahead_of(setup, first);
     for _ in first..setup.turns {
         ahead = play_turn(alloc, &mut state, ahead);
-        push_line(alloc, setup, &state, out)?;
+        push_line(setup, &state, out)?;
     }
     Ok(())
 }
 
 // Appends the line of the turn at which the state stands.
-fn push_line(
-    alloc: Global,
-    setup: &Setup,
-    state: &State,
-    out: &mut String,
-) -> Result<(), OutOfMemory>
+fn push_line(setup: &Setup, state: &State, out: &mut String) -> Result<(), OutOfMemory>
     requires few { length state.now.rows ≤ 4096 }
     requires quiet { AreQuiet 2 state.now.rows }
     ensures { OnOk result (string_bytes out.new ≡ string_bytes out.old
         ++ line_of_turn (codes "turn") state.now.turn (digest_of setup.now state.now)) }
 {
-    push_turn(alloc, "turn", state.turn, &digest(setup, state), out)
+    push_turn("turn", state.turn, &digest(setup, state), out)
 }
 
 /// The state of a turn of the match.

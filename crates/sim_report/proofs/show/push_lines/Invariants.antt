@@ -2,7 +2,7 @@
 use Rattle.std.proofs.Common.{◌≡◌, ◌++◌, take}
 use Rattle.std.specs.Prelude.{string_bytes, flat_map}
 use Rattle.sim_report.specs.Show.{row_line}
-use Rattle.sim_report.proofs.show.push_show.Given as goal
+use Rattle.sim_report.proofs.show.push_lines.Given as goal
 
 abbrev pub invariant-loop-row : goal.invariant-loop-row
 invariant-loop-row l =
