@@ -108,3 +108,14 @@ module _ (left right : State) (entity : ℕ) where
 
   pub no_first-same : None ≡ difference_in left right entity → (part : Part) → bits left entity part ≡ bits right entity part
   no_first-same e part = let all : Finds 0 None = subst (Finds 0) (sym e) difference_in-finds in all part (omega arith)
+
+  alike : (part : Part) → bits left entity part ≡ bits right entity part → is_different (place_at left right entity part) ≡ false
+  alike part same = by (is_different (place_at left right entity part)) refl
+    where
+      by : (b : Bool) → is_different (place_at left right entity part) ≡ b → b ≡ false
+      by false e = refl
+      by true e = absurd (different_not_same (place_at left right entity part) e same)
+
+  pub same-no_first : ((part : Part) → bits left entity part ≡ bits right entity part) → None ≡ difference_in left right entity
+  same-no_first same =
+      rw (alike Clock (same Clock), alike Entity (same Entity), alike Position (same Position), alike Owner (same Owner), alike Health (same Health), alike Motion (same Motion), alike Attack (same Attack)) refl

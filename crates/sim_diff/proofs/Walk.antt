@@ -1,15 +1,16 @@
 -- A step of the walk: what is behind the next entity, and that all that was passed is the same.
 use Rattle.std.proofs.Common.{◌≡◌, ℕ, ◌+◌, ◌<◌, ◌≤◌, min, Bool, true, false, cond, List, [], ◌∷◌, length, Some, None, refl, sym, ap, ◌∙◌, ◌⊎◌, inl, inr, arith, option_and_then}
 use Rattle.std.specs.Prelude.{◌==◌}
-use Rattle.std.proofs.lemmas.Bool.{cases_eq, cases_lt, eqb-true, eq-eqb}
+use Rattle.std.proofs.lemmas.Bool.{cases_eq, cases_lt, eqb-true, eq-eqb, ne_eqb}
 use Rattle.std.proofs.lemmas.Option.{same_Some, none-some}
 use Rattle.sim_base.specs.declared.state.Row.{Row}
 use Rattle.sim_base.specs.declared.state.State.{State}
+use Rattle.sim_base.specs.Rows.{row_of}
 use Rattle.sim_codec.specs.declared.bits.Part.{Part}
 use Rattle.sim_codec.specs.Bits.{bits, row_bits}
 use Rattle.sim_diff.specs.declared.place.Place.{Place}
 use Rattle.sim_diff.specs.Difference.{IsBefore, IsLeastDifference, HaveSameBits}
-use Rattle.sim_diff.specs.Merge.{next_id, rows_behind}
+use Rattle.sim_diff.specs.Merge.{next_id, rows_behind, HaveSameFirst, AreRowsOf}
 use Rattle.sim_diff.proofs.Parts.{IsFirst}
 use Rattle.sim_diff.proofs.LeastPlace.{bits-row}
 use Rattle.sim_diff.proofs.Rising.{Rising, Lacks, above-lacks, lacks-none}
@@ -128,3 +129,43 @@ pub same_below : (left right : State) (lefts rights : List Row) (entity : ℕ) �
 same_below left right lefts rights entity next l r elsewhere id below part =
     let lacks = none_below lefts rights entity id next l r below in
     elsewhere id lacks.0 lacks.1 part
+
+-- ---- rows of a state
+
+pub rows_of_all : (state : State) → AreRowsOf state state.rows
+rows_of_all state id row found = found
+
+pub rows_of_behind : (state : State) (entity : ℕ) (rows : List Row) → Rising rows → AreRowsOf state rows → AreRowsOf state (rows_behind entity rows)
+rows_of_behind state entity [] up are = are
+rows_of_behind state entity (row ∷ rows) up are = by (row.id == entity)
+  where
+    behind_first : AreRowsOf state rows
+    behind_first id other found = by_first (cases_lt row.id id)
+      where
+        by_first : (row.id < id) ⊎ (id ≤ row.id) → row_of state id ≡ Some other
+        by_first (inl above) = are id other (rw (ne_eqb row.id id (λ e. omega arith)) found)
+        by_first (inr below) = absurd (none-some other (sym (lacks-none rows id (above-lacks row.id id rows below up.0)) ∙ found))
+
+    by : (b : Bool) → AreRowsOf state (cond b rows (row ∷ rows))
+    by true = behind_first
+    by false = are
+
+-- of an entity of which both lists begin with the same row all is the same
+pub same_first-bits : (left right : State) (lefts rights : List Row) (entity : ℕ) → 1 < entity → AreRowsOf left lefts → AreRowsOf right rights → next_id lefts rights ≡ Some entity → HaveSameFirst lefts rights
+    → (part : Part) → bits left entity part ≡ bits right entity part
+same_first-bits left right [] rights entity above l r next same part = absurd same
+same_first-bits left right (x ∷ xs) [] entity above l r next same part = absurd same
+same_first-bits left right (x ∷ xs) (y ∷ ys) entity above l r next same part =
+    bits-row left entity part (λ e. omega arith) ∙ ap (option_and_then (row_bits part)) (in_left ∙ sym in_right) ∙ sym (bits-row right entity part (λ e. omega arith))
+  where
+    least : min x.id y.id ≡ entity
+    least = same_Some _ _ next
+
+    ids : x.id ≡ y.id
+    ids = ap (λ (row : Row). row.id) same
+
+    in_left : row_of left entity ≡ Some y
+    in_left = l entity y (rw (eq-eqb x.id entity (omega (arith, least, ids))) (ap Some same))
+
+    in_right : row_of right entity ≡ Some y
+    in_right = r entity y (rw (eq-eqb y.id entity (omega (arith, least, ids))) refl)

@@ -1,6 +1,9 @@
--- A step of the walk over the rows of two states: the entity that comes next, and the rows behind it.
-use Rattle.std.specs.Prelude.{ℕ, min, ◌==◌, if◌then◌else◌, List, [], ◌∷◌, Option, Some, None}
+-- A step of the walk over the rows of two states: the entity that comes next, the rows behind it, and whether both lists
+-- begin with one row.
+use Rattle.std.specs.Prelude.{◌≡◌, ℕ, min, ◌==◌, if◌then◌else◌, List, [], ◌∷◌, find, Option, Some, None}
 use Rattle.sim_base.specs.declared.state.Row.{Row}
+use Rattle.sim_base.specs.declared.state.State.{State}
+use Rattle.sim_base.specs.Rows.{row_of}
 
 -- the lesser of the first ids
 abbrev pub next_id : List Row → List Row → Option ℕ
@@ -13,3 +16,13 @@ next_id (row ∷ rows) (row' ∷ rows') = Some (min row.id row'.id)
 abbrev pub rows_behind : ℕ → List Row → List Row
 rows_behind entity [] = []
 rows_behind entity (row ∷ rows) = if row.id == entity then rows else row ∷ rows
+
+-- both lists begin with the same row
+abbrev pub HaveSameFirst : List Row → List Row → Type 0
+HaveSameFirst [] rights = ⊥
+HaveSameFirst (row ∷ rows) [] = ⊥
+HaveSameFirst (row ∷ rows) (row' ∷ rows') = row ≡ row'
+
+-- what is found among the rows is the row of the state
+abbrev pub AreRowsOf : State → List Row → Type 0
+AreRowsOf state rows = (id : ℕ) (row : Row) → find (λ (r : Row). r.id == id) rows ≡ Some row → row_of state id ≡ Some row

@@ -5,6 +5,7 @@
 //! memory. It stands on `sim_codec` for the bytes of a part, and on `sim_laws` for what a least member is.
 //!
 //! - `place`: a part of an entity with its bytes in both states, and the first such place of one entity that differs.
+//! - `same`: whether two rows are the same.
 //! - `merge`: the walk over the entities of both states.
 //! - `laws`: theorems about the definition, each the contract of a function that does nothing.
 #![tactic(auto)]
@@ -12,6 +13,7 @@
 mod laws;
 mod merge;
 mod place;
+mod same;
 #[cfg(test)]
 mod tests;
 

@@ -1,13 +1,14 @@
 //! The walk over the entities of two states: one pass over both lists of rows, which ascend by id.
 
-ghost use Rattle.std.specs.Prelude.{◌≡◌, ◌↔◌, All, map, IsNone, IfSome};
+ghost use Rattle.std.specs.Prelude.{◌≡◌, ◌↔◌, All, map, Some, IsNone, IfSome};
 ghost use Rattle.std.specs.List.Sorted.{IsStrictlyIncreasing};
 ghost use Rattle.sim_base.specs.Rows.{id_of};
 ghost use Rattle.sim_sections.specs.Rows.{HasShortWay};
-ghost use Rattle.sim_diff.specs.Difference.{difference_of, IsLeastDifference, HaveSameBits};
-ghost use Rattle.sim_diff.specs.Merge.{next_id, rows_behind};
+ghost use Rattle.sim_diff.specs.Difference.{difference_in, difference_of, IsLeastDifference, HaveSameBits};
+ghost use Rattle.sim_diff.specs.Merge.{next_id, rows_behind, AreRowsOf};
 
 use crate::place::{Place, first_difference};
+use crate::same::have_same_first;
 use sim_base::{Row, State};
 
 // The entity that comes next in either list.
@@ -32,6 +33,29 @@ fn behind(rows: &[Row], entity: u32) -> &[Row]
     }
 }
 
+// The first part that differs of the next entity. Where both lists begin with the same row, no bytes are told.
+fn next_difference(
+    left: &State,
+    right: &State,
+    lefts: &[Row],
+    rights: &[Row],
+    entity: u32,
+) -> Option<Place>
+    requires left_ascending { IsStrictlyIncreasing (map id_of left.now.rows) }
+    requires left_short { All HasShortWay left.now.rows }
+    requires right_ascending { IsStrictlyIncreasing (map id_of right.now.rows) }
+    requires right_short { All HasShortWay right.now.rows }
+    requires lefts { AreRowsOf left.now lefts.now }
+    requires rights { AreRowsOf right.now rights.now }
+    requires next { next_id lefts.now rights.now ≡ Some entity }
+    ensures { result ≡ difference_in left.now right.now entity }
+{
+    if 1 < entity && have_same_first(lefts, rights) {
+        return None;
+    }
+    first_difference(left, right, entity)
+}
+
 /// The least place at which the bytes of two states differ, the entities by their number and the parts of each in their
 /// order. Entity 1 has the clock. States that are valid meet the conditions. It takes no memory.
 pub fn difference(left: &State, right: &State) -> Option<Place>
@@ -52,7 +76,7 @@ pub fn difference(left: &State, right: &State) -> Option<Place>
     let mut lefts = left.rows.as_slice();
     let mut rights = right.rows.as_slice();
     'rows: while let Some(entity) = next_entity(lefts, rights) {
-        if let Some(place) = first_difference(left, right, entity) {
+        if let Some(place) = next_difference(left, right, lefts, rights, entity) {
             return Some(place);
         }
         lefts = behind(lefts, entity);

@@ -3,7 +3,7 @@ use Rattle.std.proofs.Common.{◌∙◌, sym, arith}
 use Rattle.sim_diff.proofs.Parts.{first-is_first, no_first-same}
 use Rattle.sim_diff.proofs.LeastPlace.{least-difference_of, same-difference_of}
 use Rattle.sim_diff.proofs.Rising.{rising}
-use Rattle.sim_diff.proofs.Walk.{rising_behind, same_more, same_below, same_behind, same_at_first, same_at_last, first_is_least}
+use Rattle.sim_diff.proofs.Walk.{rising_behind, same_more, same_below, same_behind, same_at_first, same_at_last, first_is_least, rows_of_all, rows_of_behind}
 use Rattle.sim_diff.proofs.merge.difference.Goals as goal
 
 pub returns-in-Some-clause-least : goal.returns-in-Some-clause-least
@@ -28,21 +28,23 @@ rows-init c =
     rw (c.as_slice-lefts.ensures, c.as_slice-rights.ensures) (record {
       left_rising = rising left.rows c.requires.left_ascending;
       right_rising = rising right.rows c.requires.right_ascending;
+      left_rows = rows_of_all left;
+      right_rows = rows_of_all right;
       elsewhere = same_at_first left right (λ id below. c.first.invariant id (omega arith));
     })
 
-pub returns-in-Some-first_difference-clause-least : goal.returns-in-Some-first_difference-clause-least
-returns-in-Some-first_difference-clause-least c =
+pub returns-in-Some-next_difference-clause-least : goal.returns-in-Some-next_difference-clause-least
+returns-in-Some-next_difference-clause-least c =
     let left = c.args.left.now in
     let right = c.args.right.now in
     let entity = c.in-Some-next_entity.entity in
-    let place = c.in-Some-first_difference.place in
+    let place = c.in-Some-next_difference.place in
     let next = sym c.in-Some-next_entity.ensures in
-    first_is_least left right entity place (first-is_first left right entity place (c.in-Some-first_difference.ensures))
+    first_is_least left right entity place (first-is_first left right entity place (c.in-Some-next_difference.ensures))
     (same_below left right c.rows.lefts.now c.rows.rights.now entity next c.rows.invariant.left_rising c.rows.invariant.right_rising c.rows.invariant.elsewhere)
 
-pub returns-in-Some-first_difference-clause-place : goal.returns-in-Some-first_difference-clause-place
-returns-in-Some-first_difference-clause-place c = least-difference_of c.args.left.now c.args.right.now c.in-Some-first_difference.place (returns-in-Some-first_difference-clause-least c)
+pub returns-in-Some-next_difference-clause-place : goal.returns-in-Some-next_difference-clause-place
+returns-in-Some-next_difference-clause-place c = least-difference_of c.args.left.now c.args.right.now c.in-Some-next_difference.place (returns-in-Some-next_difference-clause-least c)
 
 pub rows-preserved : goal.rows-preserved
 rows-preserved c =
@@ -53,7 +55,9 @@ rows-preserved c =
     rw (c.behind-lefts.ensures, c.behind-rights.ensures) (record {
       left_rising = rising_behind entity c.rows.lefts.now before.left_rising;
       right_rising = rising_behind entity c.rows.rights.now before.right_rising;
-      elsewhere = same_behind left right c.rows.lefts.now c.rows.rights.now entity before.elsewhere (no_first-same left right entity (c.in_default-first_difference.ensures));
+      left_rows = rows_of_behind left entity c.rows.lefts.now before.left_rising before.left_rows;
+      right_rows = rows_of_behind right entity c.rows.rights.now before.right_rising before.right_rows;
+      elsewhere = same_behind left right c.rows.lefts.now c.rows.rights.now entity before.elsewhere (no_first-same left right entity (c.in_default-next_difference.ensures));
     })
 
 pub returns-clause-place : goal.returns-clause-place

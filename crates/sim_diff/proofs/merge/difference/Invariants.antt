@@ -2,6 +2,7 @@
 use Rattle.std.proofs.Common.{◌≡◌, ℕ, ◌+◌, ◌<◌, length}
 use Rattle.sim_codec.specs.declared.bits.Part.{Part}
 use Rattle.sim_codec.specs.Bits.{bits}
+use Rattle.sim_diff.specs.Merge.{AreRowsOf}
 use Rattle.sim_diff.proofs.Rising.{Rising}
 use Rattle.sim_diff.proofs.Walk.{IsSameElsewhere}
 use Rattle.sim_diff.proofs.merge.difference.Given as goal
@@ -13,6 +14,8 @@ abbrev pub invariant-rows : goal.invariant-rows
 invariant-rows l = record {
   left_rising : Rising l.lefts;
   right_rising : Rising l.rights;
+  left_rows : AreRowsOf l.left l.lefts;
+  right_rows : AreRowsOf l.right l.rights;
   elsewhere : IsSameElsewhere l.left l.right l.lefts l.rights;
 }
 
