@@ -1,4 +1,5 @@
-//! Theorems about the definitions, each the contract of a function that does nothing.
+//! Theorems about the definitions, each the contract of a function that does nothing; and that what one call spells is
+//! loaded by the other, which is the contract of a function that makes both calls.
 
 ghost use Rattle.std.specs.Prelude.{◌≡◌, ◌<◌, ◌^◌, ℕ, List, length, drop, All, Some, None};
 ghost use Rattle.sim_base.specs.declared.setup.Setup.{Setup};
@@ -7,8 +8,14 @@ ghost use Rattle.sim_base.specs.Limits.{IsSetup};
 ghost use Rattle.sim_base.specs.Spelling.{spelling};
 ghost use Rattle.sim_base.specs.Validity.{IsState, IsValid};
 ghost use Rattle.sim_sections.specs.Rows.{HasShortWay};
-ghost use Rattle.sim_codec.specs.Loading.{head_fault, StandsFor};
+ghost use Rattle.sim_codec.specs.Loading.{head_fault, StandsFor, Loads};
 ghost use Rattle.sim_codec.specs.Reading.{state_at};
+
+use crate::fault::StateFault;
+use crate::loading::load;
+use crate::spelling::spell;
+use sim_base::{Setup, State};
+use std::alloc::Global;
 
 /// In a state that is valid, or valid but for healths of 0, no way is too long to be told and the rows can be counted:
 /// with the least health 1 or 0, this is what a spelling and a digest ask for.
@@ -28,3 +35,17 @@ pub fn bytes_stand_for_one_state()
     ensures bytes { (setup : Setup) (bytes : List ℕ) (s t : State) → IsSetup setup → StandsFor setup bytes s → StandsFor setup bytes t → s ≡ t }
     ensures spellings { (setup : Setup) (s t : State) → IsSetup setup → IsValid setup s → IsValid setup t → spelling setup s ≡ spelling setup t → s ≡ t }
 {}
+
+/// A valid state that is spelled is loaded as it was, or memory is refused.
+pub fn a_spelled_state_is_loaded(
+    alloc: Global,
+    setup: &Setup,
+    state: &State,
+) -> Result<State, StateFault>
+    requires setup { IsSetup setup.now }
+    requires valid { IsValid setup.now state.now }
+    ensures { Loads state.now result }
+{
+    let bytes = spell(alloc, setup, state)?;
+    load(alloc, setup, &bytes)
+}

@@ -38,7 +38,8 @@
 //! - `fault`: why bytes are not loaded.
 //! - `reading`, `loading`: the reader, and the state that bytes stand for.
 //! - `bits`: the bytes of one entity in one section.
-//! - `laws`: theorems about the definitions, each the contract of a function that does nothing.
+//! - `laws`: theorems about the definitions, each the contract of a function that does nothing, and that what is spelled
+//!   is loaded.
 #![tactic(auto)]
 
 mod bits;
@@ -54,7 +55,10 @@ mod validity;
 
 pub use bits::{Bits, Part, bits_of};
 pub use fault::StateFault;
-pub use laws::{bytes_stand_for_one_state, spellings_are_read_back, states_can_be_told};
+pub use laws::{
+    a_spelled_state_is_loaded, bytes_stand_for_one_state, spellings_are_read_back,
+    states_can_be_told,
+};
 pub use loading::load;
 pub use spelling::{digest, spell};
 pub use validity::is_valid;

@@ -88,7 +88,7 @@ fn point(x: i32, z: i32) -> Point {
 // An obstruction with health 50.
 fn post(alloc: Global) -> Result<Template, OutOfMemory>
     ensures name { IfOk result (λ template. template.name ≡ codes "post") }
-    ensures template { IfOk result (IsTemplate 2) }
+    ensures template { IfOk result (IsTemplate 3) }
 {
     Ok(Template {
         name: Name::of(alloc, "post")?.ok_or(OutOfMemory)?,
@@ -108,11 +108,41 @@ fn post(alloc: Global) -> Result<Template, OutOfMemory>
 // A fighter with health 10.
 fn guard(alloc: Global) -> Result<Template, OutOfMemory>
     ensures name { IfOk result (λ template. template.name ≡ codes "guard") }
-    ensures template { IfOk result (IsTemplate 2) }
+    ensures template { IfOk result (IsTemplate 3) }
 {
     Ok(Template {
         name: Name::of(alloc, "guard")?.ok_or(OutOfMemory)?,
         health: Some(raw(655360)),
+        resist: Resist {
+            hack: 0,
+            pierce: 0,
+            crush: 0,
+        },
+        speed: Some(raw(655360)),
+        obstruct: None,
+        arms: Some(Arms {
+            harm: Harm {
+                hack: raw(65536),
+                pierce: raw(0),
+                crush: raw(0),
+            },
+            range: raw(131072),
+            vision: raw(655360),
+            repeat: 3,
+            accuracy: 100,
+        }),
+        train: None,
+    })
+}
+
+// A fighter without health.
+fn wisp(alloc: Global) -> Result<Template, OutOfMemory>
+    ensures name { IfOk result (λ template. template.name ≡ codes "wisp") }
+    ensures template { IfOk result (IsTemplate 3) }
+{
+    Ok(Template {
+        name: Name::of(alloc, "wisp")?.ok_or(OutOfMemory)?,
+        health: None,
         resist: Resist {
             hack: 0,
             pierce: 0,
@@ -159,7 +189,7 @@ fn open_match(alloc: Global, id: [u8; 16]) -> Result<Setup, OutOfMemory>
         delay: 1,
         turns: 2,
         seed: 0,
-        templates: Items::from_items(vec![in alloc; post(alloc)?, guard(alloc)?]?),
+        templates: Items::from_items(vec![in alloc; post(alloc)?, guard(alloc)?, wisp(alloc)?]?),
         first: Items::new(alloc),
         commands: Items::new(alloc),
     })
@@ -353,11 +383,27 @@ fn worked_states_have_their_bytes(rt: HostRuntime) -> Result<(), Fail> {
     Ok(())
 }
 
-// One byte of the fight changed.
-fn changed(alloc: Global, at: usize, new: u8) -> Result<Vec<u8>, OutOfMemory> {
-    let mut bytes = Vec::from_slice(alloc, &FIGHT)?;
-    if let Some(byte) = bytes.get_mut(at) {
-        *byte = new;
+// The fight with these bytes changed.
+fn changed(alloc: Global, changes: &[(usize, u8)]) -> Result<Vec<u8>, OutOfMemory> {
+    spliced(alloc, (0, 0), &[], changes)
+}
+
+// The fight with a piece in place of the bytes between two places, and then these bytes changed.
+fn spliced(
+    alloc: Global,
+    between: (usize, usize),
+    piece: &[u8],
+    changes: &[(usize, u8)],
+) -> Result<Vec<u8>, OutOfMemory> {
+    let (from, to) = between;
+    let mut bytes = Vec::new(alloc);
+    bytes.extend_from_slice(FIGHT.get(..from).unwrap_or(&[]))?;
+    bytes.extend_from_slice(piece)?;
+    bytes.extend_from_slice(FIGHT.get(to..).unwrap_or(&[]))?;
+    for (at, new) in changes {
+        if let Some(byte) = bytes.get_mut(*at) {
+            *byte = *new;
+        }
     }
     Ok(bytes)
 }
@@ -367,36 +413,53 @@ fn a_state_with_one_rule_broken_is_refused(rt: HostRuntime) -> Result<(), Fail> 
     let alloc = rt.alloc();
     let setup = open_match(alloc, FIGHT_ID)?;
     let broken = [
-        ("a turn past the last", 26, 1),
-        ("a next id out of range", 31, 64),
-        ("a word of 49 bits", 38, 1),
-        ("another tag", 40, 2),
-        ("too few rows", 41, 2),
-        ("too many rows", 41, 4),
-        ("very many rows", 44, 255),
-        ("an id twice", 45, 3),
-        ("an id below 2", 45, 1),
-        ("an id past the next", 57, 5),
-        ("an unknown template", 49, 2),
-        ("a point outside", 74, 16),
-        ("a point below 0", 75, 128),
-        ("an unknown owner", 113, 3),
-        ("another id in a section", 109, 3),
-        ("too much health", 135, 11),
-        ("no health", 143, 0),
-        ("a goal outside", 165, 16),
-        ("a waypoint outside", 183, 16),
-        ("too many waypoints", 172, 65),
-        ("a third mode", 162, 2),
-        ("a third whole", 171, 2),
-        ("a goal of a row that is still", 194, 1),
-        ("a whole of a row that is still", 202, 1),
-        ("itself as target", 213, 2),
-        ("nobody as target", 213, 6),
-        ("a cooldown above the repeat", 217, 4),
+        ("a turn past the last", [(26, 1)].as_slice()),
+        ("a next id out of range", &[(31, 64)]),
+        ("a word of 49 bits", &[(38, 1)]),
+        ("another tag", &[(40, 2)]),
+        ("too few rows", &[(41, 2)]),
+        ("too many rows", &[(41, 4)]),
+        ("very many rows", &[(44, 255)]),
+        (
+            "an id twice",
+            &[(57, 3), (92, 3), (119, 3), (145, 3), (189, 3), (219, 3)],
+        ),
+        (
+            "ids out of order",
+            &[(28, 6), (51, 5), (80, 5), (114, 5), (137, 5), (213, 5)],
+        ),
+        (
+            "an id below 2",
+            &[(45, 1), (68, 1), (109, 1), (129, 1), (158, 1), (209, 1)],
+        ),
+        ("an id that is not below the next", &[(28, 4)]),
+        ("an unknown template", &[(49, 3)]),
+        ("a point outside", &[(74, 16)]),
+        ("a point below 0", &[(75, 128)]),
+        ("an unknown owner", &[(113, 3)]),
+        ("another id in a section", &[(109, 3)]),
+        ("too few healths", &[(125, 2)]),
+        ("too many healths", &[(125, 4)]),
+        ("too much health", &[(135, 11)]),
+        ("no health", &[(143, 0)]),
+        ("a health by no template", &[(61, 2)]),
+        ("too few motions", &[(154, 1)]),
+        ("too many motions", &[(154, 3)]),
+        ("a goal outside", &[(165, 16)]),
+        ("a waypoint outside", &[(183, 16)]),
+        ("too many waypoints", &[(172, 65)]),
+        ("a third mode", &[(162, 2)]),
+        ("a third whole", &[(171, 2)]),
+        ("a goal of a row that is still", &[(194, 1)]),
+        ("a whole of a row that is still", &[(202, 1)]),
+        ("too few attacks", &[(205, 1)]),
+        ("too many attacks", &[(205, 3)]),
+        ("itself as target", &[(213, 2)]),
+        ("nobody as target", &[(213, 6)]),
+        ("a cooldown above the repeat", &[(217, 4)]),
     ];
-    for (what, at, new) in broken {
-        let bytes = changed(alloc, at, new)?;
+    for (what, changes) in broken {
+        let bytes = changed(alloc, changes)?;
         assert_eq!(rt;
             fault_of(alloc, &setup, &bytes),
             Some(StateFault::Grammar),
@@ -407,10 +470,62 @@ fn a_state_with_one_rule_broken_is_refused(rt: HostRuntime) -> Result<(), Fail> 
 }
 
 #[test]
+fn rows_stand_only_where_the_template_has_the_part(rt: HostRuntime) -> Result<(), Fail> {
+    let alloc = rt.alloc();
+    let setup = open_match(alloc, FIGHT_ID)?;
+    // Each with the count of its section put right.
+    let broken = [
+        ("a motion of a post", (189, 189), 15, (154, 3)),
+        ("no motion of a guard", (189, 204), 0, (154, 1)),
+        ("an attack of a post", (219, 219), 10, (205, 3)),
+        ("no attack of a guard", (219, 229), 0, (205, 1)),
+        ("no health of a guard", (145, 153), 0, (125, 2)),
+    ];
+    let row = [3, 0, 0, 0, 0, 0, 0, 0, 0, 0, 0, 0, 0, 0, 0];
+    for (what, between, length, count) in broken {
+        let bytes = spliced(alloc, between, row.get(..length).unwrap_or(&[]), &[count])?;
+        assert_eq!(rt;
+            fault_of(alloc, &setup, &bytes),
+            Some(StateFault::Grammar),
+            "{what}"
+        );
+    }
+    Ok(())
+}
+
+// The last entity is a wisp, which has no row among the healths.
+#[test]
+fn a_target_without_health_is_refused(rt: HostRuntime) -> Result<(), Fail> {
+    let alloc = rt.alloc();
+    let setup = open_match(alloc, FIGHT_ID)?;
+    let other = spliced(alloc, (145, 153), &[], &[(61, 2), (125, 2), (205, 3)])?;
+    assert_eq!(rt; fault_of(alloc, &setup, &other), None);
+    let wisp = spliced(alloc, (145, 153), &[], &[(61, 2), (125, 2), (205, 4)])?;
+    assert_eq!(rt; fault_of(alloc, &setup, &wisp), Some(StateFault::Grammar));
+    Ok(())
+}
+
+#[test]
 fn a_state_that_no_match_reaches_is_loaded(rt: HostRuntime) -> Result<(), Fail> {
     let alloc = rt.alloc();
     let setup = open_match(alloc, FIGHT_ID)?;
     assert_eq!(rt; fault_of(alloc, &setup, &FIGHT), None);
+    Ok(())
+}
+
+#[test]
+fn a_spelled_state_is_loaded(rt: HostRuntime) -> Result<(), Fail> {
+    let alloc = rt.alloc();
+    let setup = open_match(alloc, FIGHT_ID)?;
+    let state = fight_state(alloc)?;
+    assert!(rt; is_valid(&setup, &state));
+    match crate::a_spelled_state_is_loaded(alloc, &setup, &state) {
+        Ok(loaded) => {
+            assert!(rt; is_valid(&setup, &loaded));
+            assert_eq!(rt; spell(alloc, &setup, &loaded)?.as_slice(), FIGHT.as_slice());
+        }
+        Err(fault) => panic!(rt; "{fault:?}"),
+    }
     Ok(())
 }
 
@@ -430,27 +545,55 @@ fn bytes_of_another_length_are_refused(rt: HostRuntime) -> Result<(), Fail> {
             "up to {end}"
         );
     }
-    let mut longer = Vec::from_slice(alloc, &FIGHT)?;
-    longer.push(0)?;
-    assert_eq!(rt; fault_of(alloc, &setup, &longer), Some(StateFault::Grammar));
+    let more = [
+        ("a zero", [0].as_slice()),
+        ("a further section", &[7, 0, 0, 0, 0]),
+        ("the last row again", &[4, 0, 0, 0, 0, 0, 0, 0, 0, 0]),
+        ("the state again", &FIGHT),
+    ];
+    for (what, piece) in more {
+        let bytes = spliced(alloc, (229, 229), piece, &[])?;
+        assert_eq!(rt;
+            fault_of(alloc, &setup, &bytes),
+            Some(StateFault::Grammar),
+            "{what}"
+        );
+    }
     Ok(())
 }
 
-// Whether the bytes, of which the one at this place was changed, are refused for that, or loaded as the state that they
+// How bytes of which the one at this place was changed are read: refused for that, or loaded as the state that they
 // spell.
-fn is_read_well(alloc: Global, setup: &Setup, bytes: &[u8], at: usize) -> Result<bool, OutOfMemory>
+#[derive(Clone, Copy, Debug, PartialEq, Eq)]
+enum Reading {
+    Loaded,
+    Refused,
+    Wrong,
+}
+
+fn reading_of(alloc: Global, setup: &Setup, bytes: &[u8], at: usize) -> Result<Reading, OutOfMemory>
     requires { IsSetup setup.now }
 {
-    match load(alloc, setup, bytes) {
+    let is_well_refused = match load(alloc, setup, bytes) {
         Ok(state) => {
             let again = spell(alloc, setup, &state)?;
-            Ok(at >= 24 && is_valid(setup, &state) && again.as_slice() == bytes)
+            let is_well = at >= 24 && is_valid(setup, &state) && again.as_slice() == bytes;
+            return Ok(if is_well {
+                Reading::Loaded
+            } else {
+                Reading::Wrong
+            });
         }
-        Err(StateFault::NotState) => Ok(at < 8),
-        Err(StateFault::OtherMatch) => Ok(8 <= at && at < 24),
-        Err(StateFault::Grammar) => Ok(at >= 24),
-        Err(StateFault::OutOfMemory) => Err(OutOfMemory),
-    }
+        Err(StateFault::NotState) => at < 8,
+        Err(StateFault::OtherMatch) => 8 <= at && at < 24,
+        Err(StateFault::Grammar) => at >= 24,
+        Err(StateFault::OutOfMemory) => return Err(OutOfMemory),
+    };
+    Ok(if is_well_refused {
+        Reading::Refused
+    } else {
+        Reading::Wrong
+    })
 }
 
 #[test]
@@ -458,15 +601,19 @@ fn each_changed_bit_is_refused_or_spelled_so(rt: HostRuntime) -> Result<(), Fail
     let alloc = rt.alloc();
     let setup = open_match(alloc, FIGHT_ID)?;
     let bits: [u8; 8] = [1, 2, 4, 8, 16, 32, 64, 128];
+    let mut loaded = 0u64;
     for at in 0..FIGHT.len() {
         for bit in bits {
-            let bytes = changed(alloc, at, FIGHT[at] ^ bit)?;
-            assert!(rt;
-                is_read_well(alloc, &setup, &bytes, at)?,
-                "bit {bit} at {at}"
-            );
+            let bytes = changed(alloc, &[(at, FIGHT[at] ^ bit)])?;
+            let reading = reading_of(alloc, &setup, &bytes, at)?;
+            assert!(rt; reading != Reading::Wrong, "bit {bit} at {at}");
+            if reading == Reading::Loaded {
+                loaded = loaded.wrapping_add(1);
+            }
         }
     }
+    // Of 1832 files.
+    assert_eq!(rt; loaded, 352);
     Ok(())
 }
 
@@ -550,5 +697,10 @@ fn the_longest_state_has_as_many_bytes_as_a_state_may_have(rt: HostRuntime) -> R
     let bytes = spell(alloc, &setup, &state)?;
     assert_eq!(rt; bytes.len(), MAX_STATE);
     assert_eq!(rt; fault_of(alloc, &setup, &bytes), None);
+    // Far more bytes than are gathered before they are hashed.
+    let sum = [
+        196, 10, 43, 253, 173, 246, 244, 122, 173, 137, 134, 194, 91, 34, 171, 53,
+    ];
+    assert_eq!(rt; digest(&setup, &state), sum);
     Ok(())
 }
