@@ -5,11 +5,12 @@ use Rattle.std.specs.List.{range_with_len}
 use Rattle.std.specs.Fmt.{digits}
 use Rattle.sim_tree.specs.declared.tree.TreeMark.{TreeMark}
 use Rattle.sim_tree.specs.declared.tree.TreeMark.TheVariants.{Disable, Replace, Merge, Add, Mul, Tokens}
-use Rattle.sim_tree.specs.Trees.{Node, Children, node, child, no_children}
+use Rattle.sim_tree.specs.Trees.{Node, Children, Entry, node, child, no_children, at}
 use Rattle.sim_tree.specs.Sources.{Origin}
 use Rattle.sim_merge.specs.declared.fault.MergeFault.TheVariants.{NoParent, Cycle, BadOp}
 use Rattle.sim_merge.specs.Values.{text_by, words_over}
 use Rattle.sim_merge.specs.Laying.{refused, there, laid}
+use Rattle.sim_merge.specs.Overlay.{Path, plain, lay, is_refused_at}
 use Rattle.sim_merge.specs.Resolution.{resolution_of, members, is_endless, bare}
 
 abbrev leaf : List ℕ → Node
@@ -21,7 +22,7 @@ marked mark text = node (Some text) (Some mark) no_children
 abbrev over : Option TreeMark → Children → Node
 over mark cs = node None mark cs
 
--- ---- an overlay with each mark
+-- ---- a worked overlay, by the recursion over nodes
 
 lower : Node
 lower = over None
@@ -39,12 +40,77 @@ upper = over None
     (child (codes "E") (over (Some Disable) no_children)
     (child (codes "F") (over (Some Merge) (child (codes "V") (leaf (codes "9")) no_children)) no_children))))))
 
-with_each_mark : laid (Some lower) upper ≡ there (over None
+laid_over : laid (Some lower) upper ≡ there (over None
     (child (codes "A") (over None (child (codes "Z") (leaf (codes "3")) no_children))
     (child (codes "B") (leaf (codes "15"))
     (child (codes "C") (leaf (codes "p q y")) no_children))))
 unfolding text_by words_over lower upper digits
-with_each_mark = refl
+laid_over = refl
+
+-- a sum, whose children stay, and a merge where there is a lower node
+sum_and_merge : laid (Some (over None
+    (child (codes "A") (node (Some (codes "1.5")) None (child (codes "K") (leaf (codes "x")) no_children))
+    (child (codes "B") (over None (child (codes "K") (leaf (codes "1")) no_children)) no_children))))
+    (over None (child (codes "A") (marked Add (codes "2"))
+    (child (codes "B") (over (Some Merge) (child (codes "L") (leaf (codes "2")) no_children)) no_children)))
+    ≡ there (over None
+    (child (codes "A") (node (Some (codes "3.50000")) None (child (codes "K") (leaf (codes "x")) no_children))
+    (child (codes "B") (over None (child (codes "K") (leaf (codes "1")) (child (codes "L") (leaf (codes "2")) no_children))) no_children)))
+unfolding text_by digits
+sum_and_merge = refl
+
+-- ---- the same overlay, by the map from paths
+
+laid_at : Path → Option Entry
+laid_at path = lay (Some (at lower)) (at upper) path
+
+at_the_root : laid_at [] ≡ plain None
+unfolding laid_at lower upper
+at_the_root = refl
+
+replaced : laid_at (codes "A" ∷ []) ≡ plain None
+unfolding laid_at lower upper
+replaced = refl
+
+below_replace : laid_at (codes "A" ∷ codes "Z" ∷ []) ≡ plain (Some (codes "3"))
+unfolding laid_at lower upper
+below_replace = refl
+
+lower_replaced : laid_at (codes "A" ∷ codes "X" ∷ []) ≡ None
+unfolding laid_at lower upper
+lower_replaced = refl
+
+multiplied : laid_at (codes "B" ∷ []) ≡ plain (Some (codes "15"))
+unfolding laid_at text_by lower upper digits
+multiplied = refl
+
+listed : laid_at (codes "C" ∷ []) ≡ plain (Some (codes "p q y"))
+unfolding laid_at words_over lower upper
+listed = refl
+
+disabled : laid_at (codes "D" ∷ []) ≡ None
+unfolding laid_at lower upper
+disabled = refl
+
+below_disable : laid_at (codes "D" ∷ codes "K" ∷ []) ≡ None
+unfolding laid_at lower upper
+below_disable = refl
+
+disabled_upon_nothing : laid_at (codes "E" ∷ []) ≡ None
+unfolding laid_at lower upper
+disabled_upon_nothing = refl
+
+merged_upon_nothing : laid_at (codes "F" ∷ []) ≡ None
+unfolding laid_at lower upper
+merged_upon_nothing = refl
+
+below_merge_upon_nothing : laid_at (codes "F" ∷ codes "V" ∷ []) ≡ None
+unfolding laid_at lower upper
+below_merge_upon_nothing = refl
+
+not_refused : is_refused_at (Some (at lower)) (at upper) (codes "B" ∷ []) ≡ false
+unfolding text_by lower upper
+not_refused = refl
 
 -- ---- operations that are hidden or met
 
