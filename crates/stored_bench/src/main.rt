@@ -144,7 +144,7 @@ fn show(alloc: Global, setup: &Setup, state: &State)
     requires { IsValid setup.now state.now }
 {
     let mut text = String::new(alloc);
-    let _ = push_show(alloc, setup, state, &mut text);
+    let _ = push_show(setup, state, &mut text);
 }
 
 // A match of one player on 64 by 64 cells, with one template.
