@@ -3,9 +3,9 @@
 
 Usage: python3 bench/play.py [PROGRAM]
 
-PROGRAM is by default the one that ./simcore has built. It prints figures and asserts nothing. The reference is MD5
-alone over as many bytes: by OpenSSL, through Python's hashlib, and at the 460 MB/s that the MD5 of the kit was
-measured at.
+PROGRAM is by default the one that ./simcore has built. It prints figures, and stops where the program fails. The
+reference is MD5 alone over as many bytes: by OpenSSL, through Python's hashlib, and at the 460 MB/s that the MD5 of
+the kit was measured at.
 """
 
 import hashlib

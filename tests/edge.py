@@ -11,6 +11,7 @@ MD5 of the bytes that docs/FORMATS.md lays out.
 import hashlib
 import os
 import pathlib
+import re
 import subprocess
 import sys
 import tempfile
@@ -38,6 +39,10 @@ STORED = (b"RSIM\x01\0\0\0" + STORED_ID + b"\x01\0\0\0\x04\0\0\0" + bytes(8)
           + bytes.fromhex("05000000000600000000"))
 RESUMED_LINES = b"".join(POSTS_LINES.splitlines(True)[1:])
 SHOWN = b"turn 1 next 4 word 0 rows 1\nentity 3 template post owner 2 at 2 2 health 50\n"
+# Seventeen templates, each the child of the one before it.
+CHAIN = b",".join(b'{"@name":"t%d"%s,"Health":{"Max":50}}' % (i, b',"@parent":"t%d"' % (i - 1) if i else b"") for i in range(17))
+# A template that takes half as much again, where it can.
+BIG = b'{"@name":"post","Health":{"Max":50}},{"@name":"big","@parent":"post","Health":{"Max":{"@op":"mul","_":"1.5"}}}'
 USAGE = b"""usage: simcore play MATCH
        simcore state MATCH TURN OUT
        simcore resume MATCH STATE
@@ -72,8 +77,43 @@ def files(folder):
     return {path.name: path.read_bytes() for path in folder.iterdir() if path.is_file()}
 
 
+def templates(folder):
+    """Matches whose templates inherit."""
+    listed = b'"templates":[%s]'
+    (folder / "chain.json").write_bytes(EMPTY.replace(listed % b"", listed % CHAIN))
+    (folder / "short.json").write_bytes(EMPTY.replace(listed % b"", listed % CHAIN.rpartition(b",{")[0]))
+    (folder / "big.json").write_bytes(EMPTY.replace(listed % b"", listed % BIG))
+    (folder / "bad.json").write_bytes(EMPTY.replace(listed % b"", listed % BIG.replace(b"1.5", b"x")))
+    case("a chain of seventeen templates", run(["play", "chain.json"], folder), 6, b"match refused 5 16\n")
+    status, text, error = run(["play", "short.json"], folder)
+    case("a chain of sixteen", (status, b"%d lines" % text.count(b"\n"), error), 0, b"3 lines")
+    case("half as much again of a word", run(["play", "bad.json"], folder), 6, b"match refused 6 1\n")
+    status, text, error = run(["play", "big.json"], folder)
+    case("half as much again of a number", (status, b"%d lines" % text.count(b"\n"), error), 0, b"3 lines")
+
+
+def sessions(page):
+    """The commands that a page shows at a prompt, each with the lines that follow it there."""
+    for block in re.findall(r"^```\n(.*?)^```", (TOP / page).read_text(), re.M | re.S):
+        for part in re.split(r"^\$ ", block, flags=re.M)[1:]:
+            command, _, lines = part.partition("\n")
+            yield command, lines
+
+
+def pages(folder):
+    """What the pages show is what the program prints, in a folder that looks like the top of the repository."""
+    (folder / "simcore").symlink_to(PROGRAM)
+    (folder / "examples").symlink_to(TOP / "examples")
+    for page in ("examples/README.md", "docs/DESYNC.md"):
+        for command, lines in sessions(page):
+            done = subprocess.run(["bash", "-c", command.replace("/tmp/", "")], cwd=folder, stdin=subprocess.DEVNULL,
+                                  stdout=subprocess.PIPE, stderr=subprocess.PIPE, timeout=120)
+            case(f"{page}: {command[:60]}", (0, done.stdout, done.stderr), 0, lines.encode())
+
+
 def stored_states(folder):
     """Stored states on real files: written, read again, compared and refused."""
+    before = files(folder)
     line = b"state 1 101 5ba6ccce6ec0216cccaaf7181a30b789\n"
     case("a state is stored", run(["state", "posts.json", "1", "s"], folder), 0, line)
     held = (folder / "s").read_bytes() if (folder / "s").exists() else b""
@@ -106,6 +146,8 @@ def stored_states(folder):
     (folder / "over.json").write_bytes(POSTS)
     case("a match is read before its file is written over", run(["state", "over.json", "1", "over.json"], folder), 0, line)
     case("then its file is the state", (0, (folder / "over.json").read_bytes(), b""), 0, STORED)
+    kept = {name: held for name, held in files(folder).items() if name in before}
+    case("no file but those that were stored has changed", (0, b"", b""), 0, b"" if kept == before else b"changed")
 
 
 def main():
@@ -155,6 +197,8 @@ def main():
             case("a pipe that nobody reads", (4 if got[0] in (4, -13) else got[0], got[1], got[2]), 4, None)
         case("no file has changed", (0, b"", b""), 0, b"" if files(folder) == before else b"changed")
         stored_states(folder)
+        templates(folder)
+        pages(folder)
     print(f"{passed} passed, {failed} failed")
     return 1 if failed else 0
 
