@@ -32,6 +32,7 @@ target_for setup state row arms = unwrap_or (least_of (λ id. square_to state ro
 abbrev pub is_idle : Row → Bool
 is_idle row = is_some row.attack && target_of row == 0 && not (is_going row.motion)
 
+-- a row that may look for a target takes the one that it finds
 abbrev pub looking : Setup → State → Row → Bool → Option Arms → Row
 looking setup state row true (Some arms) = aimed_at (target_for setup state row arms) row
 looking setup state row true None = row
@@ -41,5 +42,6 @@ looking setup state row false arms = row
 abbrev pub with_targets : Setup → State → State
 with_targets setup state = record state { rows = map (λ row. looking setup state row (is_idle row) (arms_of setup row)) state.rows }
 
+-- the phase: friends are let go, and then targets are taken
 abbrev pub aimed : Setup → State → State
 aimed setup state = with_targets setup (without_friends setup state)

@@ -2,15 +2,19 @@
 use Rattle.std.specs.Prelude.{ℕ, Bool, ℤ, List, [], ◌∷◌, if◌then◌else◌}
 use Rattle.std.specs.Int.{to_le_bytes, w16, w32, w64, cast_unsigned}
 
+-- two bytes
 unfoldable pub u16_bytes : ℕ → List ℕ
 u16_bytes n = to_le_bytes w16 n
 
+-- four bytes
 unfoldable pub u32_bytes : ℕ → List ℕ
 u32_bytes n = to_le_bytes w32 n
 
+-- eight bytes
 unfoldable pub u64_bytes : ℕ → List ℕ
 u64_bytes n = to_le_bytes w64 n
 
+-- four bytes, a negative number by its two's complement
 unfoldable pub i32_bytes : ℤ → List ℕ
 i32_bytes z = to_le_bytes w32 (cast_unsigned w32 z)
 

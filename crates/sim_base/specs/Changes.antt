@@ -53,9 +53,11 @@ with_new number p owner None state = state
 with_new number p owner (Some template) state =
     record state { next = state.next + 1; rows = state.rows ++ new_row state.next number p owner template ∷ [] }
 
+-- the state with a new row of a known template; of an unknown one, the state as it is
 abbrev pub created : Setup → State → ℕ → Point → ℕ → State
 created setup state number p owner = with_new number p owner (slice_get setup.templates number) state
 
+-- the state after one change
 abbrev pub applied : Setup → State → Change → State
 applied setup state (change.Move id p) = with_row id (λ row. record row { at = p }) state
 applied setup state (change.Motion id motion) = with_row id (λ row. record row { motion = Some motion }) state

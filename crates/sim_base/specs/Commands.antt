@@ -73,6 +73,7 @@ trains (Some building) number (Some template) = lists number building.train && i
 trains None number template = false
 trains (Some building) number None = false
 
+-- a new row in the middle of a cell, if there is one
 abbrev pub placed_on : Setup → State → ℕ → ℕ → Option Cell → State
 placed_on setup state player number None = state
 placed_on setup state player number (Some c) = created setup state number (centre_of c) player
@@ -86,6 +87,7 @@ trained setup state player number (Some building) = trained_if (building.owner =
     trained_if false = state
     trained_if true = placed_on setup state player number (spot setup state building.at)
 
+-- the state after a player's command
 abbrev pub commanded_by : Setup → State → ℕ → Command → State
 commanded_by setup state player (Walk ids p) = if is_inside (size_of setup.land) p then with_ordered player ids (sent p) state else state
 commanded_by setup state player (Stop ids) = with_ordered player ids released state
@@ -96,5 +98,6 @@ commanded_by setup state player (Place number p) =
 commanded_by setup state player (Train building number) = trained setup state player number (row_of state building)
 commanded_by setup state player Resign = record state { rows = map (λ (row : Row). if row.owner == player then record row { owner = 0 } else row) state.rows }
 
+-- the same of a command beside its player
 abbrev pub commanded : Setup → State → PlayerCommand → State
 commanded setup state order = commanded_by setup state order.player order.command

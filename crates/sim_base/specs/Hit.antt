@@ -41,16 +41,20 @@ pub record Hitting : Type 0 where
 abbrev pub lands : ℕ → ℕ → Bool
 lands word accuracy = nat_lt (word / 2 ^ 17 % 100) accuracy
 
+-- levels of 0
 abbrev pub no_resist : Resist
 no_resist = record { hack = 0; pierce = 0; crush = 0 }
 
+-- the levels of a row's template
 abbrev pub resist_of : Setup → Row → Resist
 resist_of setup row = unwrap_or (option_map (λ (t : Template). t.resist) (template_of setup row)) no_resist
 
+-- the hit that a row lands with this word, if it does
 abbrev pub landed : Setup → Row → Arms → ℕ → List Hit
 landed setup target arms word =
     if lands word arms.accuracy then record { target = target.id; taken = taken arms.harm (resist_of setup target) } ∷ [] else []
 
+-- a row whose aim must wait so many turns
 abbrev pub with_cooldown : Row → Aim → ℕ → Row
 with_cooldown row aim cooldown = record row { attack = Some (record aim { cooldown = cooldown }) }
 
@@ -96,11 +100,13 @@ taken_from id hits = sum_by (λ (h : Hit). h.taken) (filter (λ (h : Hit). h.tar
 abbrev pub hurt : List Hit → Row → Row
 hurt hits row = record row { health = option_map (λ (health : ℤ). int_max (health -ℤ pos (taken_from row.id hits)) (pos 0)) row.health }
 
+-- the phase: all rows hit by the state before it, and then each health falls
 abbrev pub hit : Setup → State → State
 hit setup state =
     let done = hitting setup state in
     record state { word = done.word; rows = map (hurt done.hits) done.rows }
 
+-- a health that has come to 0
 abbrev pub is_spent : Option ℤ → Bool
 is_spent None = false
 is_spent (Some health) = int_le health (pos 0)

@@ -16,12 +16,15 @@ use Rattle.sim_base.specs.Names.{is_name}
 use Rattle.sim_base.specs.Places.{is_inside, is_rect_inside}
 use Rattle.sim_base.specs.Rows.{size_of, in_mask}
 
+-- a number within two bounds, both included
 abbrev pub IsFrom : ℕ → ℕ → ℕ → Type 0
 IsFrom low high n = (low ≤ n) × (n ≤ high)
 
+-- the same of a raw
 abbrev pub IsRawFrom : ℕ → ℕ → ℤ → Type 0
 IsRawFrom low high raw = (pos low ≤ℤ raw) × (raw ≤ℤ pos high)
 
+-- a closed rectangle lies on the ground, its corners in order
 pub record IsClosed (land : Land) (r : Rect) : Type 0 where
   pub ordered_x : r.x0 ≤ℤ r.x1
   pub ordered_z : r.z0 ≤ℤ r.z1
@@ -32,6 +35,7 @@ pub record IsMask (owners owner mask : ℕ) : Type 0 where
   pub owners_alone : mask < 2 ^ owners
   pub not_itself : in_mask mask owner ≡ false
 
+-- the ground of a match, and the enemies of each owner
 pub record IsLand (land : Land) : Type 0 where
   pub width : IsFrom 1 256 land.width
   pub depth : IsFrom 1 256 land.depth
@@ -41,6 +45,7 @@ pub record IsLand (land : Land) : Type 0 where
   pub gaia : slice_index land.masks 0 ≡ 0
   pub masks : EachIndex land.masks (λ owner. IsMask (length land.masks) owner (slice_index land.masks owner))
 
+-- the limits of an attack
 pub record IsArms (arms : Arms) : Type 0 where
   pub hack : IsRawFrom 0 65536000 arms.harm.hack
   pub pierce : IsRawFrom 0 65536000 arms.harm.pierce
@@ -61,6 +66,7 @@ pub record IsTemplate (count : ℕ) (t : Template) : Type 0 where
   pub train : IfSome t.train (λ numbers. (length numbers ≤ 64) × All (λ n. n < count) numbers)
   pub moves_or_obstructs : IsSome t.speed → IsNone t.obstruct
 
+-- a first entity is of a known template, of Gaia or a player, and inside
 pub record IsFirst (setup : Setup) (first : First) : Type 0 where
   pub template : first.template < length setup.templates
   pub owner : first.owner ≤ setup.players
@@ -76,14 +82,17 @@ HasFewIds (Place template at) = Unit {0}
 HasFewIds (Train building template) = Unit {0}
 HasFewIds Resign = Unit {0}
 
+-- a command is of a turn and of a player of the match
 pub record IsTimed (setup : Setup) (timed : Timed) : Type 0 where
   pub turn : IsFrom 1 setup.turns timed.turn
   pub player : IsFrom 1 setup.players timed.order.player
   pub ids : HasFewIds timed.order.command
 
+-- a command is given in this turn by this player
 abbrev pub is_given : ℕ → ℕ → Timed → Bool
 is_given turn player timed = timed.turn == turn && timed.order.player == player
 
+-- the limits of a match
 pub record IsSetup (setup : Setup) : Type 0 where
   pub id : length setup.id ≡ 16
   pub land : IsLand setup.land

@@ -55,6 +55,7 @@ after_walk goal true [] = Still
 after_walk goal false [] = Going goal [] false
 after_walk goal whole (q ∷ way) = Going goal (q ∷ way) whole
 
+-- a row that has walked along its way as far as its budget goes
 abbrev pub along : Row → ℕ → Point → List Point → Bool → Row
 along row budget goal way whole =
     let w = walked row.at budget way in
@@ -79,5 +80,6 @@ moved_row setup state row (Some motion) (Some speed) =
 moved_row setup state row (Some motion) None = row
 moved_row setup state row None speed = row
 
+-- the phase: each row moves by the state before it
 abbrev pub moved : Setup → State → State
 moved setup state = record state { rows = map (λ row. moved_row setup state row row.motion (speed_of setup row)) state.rows }

@@ -20,6 +20,7 @@ id_of row = row.id
 abbrev pub target_of : Row → ℕ
 target_of row = unwrap_or (option_map (λ (aim : Aim). aim.target) row.attack) 0
 
+-- a motion that has a goal
 abbrev pub is_going : Option Motion → Bool
 is_going None = false
 is_going (Some Still) = false
@@ -29,12 +30,15 @@ is_going (Some (Going goal way whole)) = true
 abbrev pub row_of : State → ℕ → Option Row
 row_of state id = find (λ row. row.id == id) state.rows
 
+-- the template of a row, if its number is known
 abbrev pub template_of : Setup → Row → Option Template
 template_of setup row = slice_get setup.templates row.template
 
+-- the speed of a row that can move
 abbrev pub speed_of : Setup → Row → Option ℤ
 speed_of setup row = option_and_then (λ (t : Template). t.speed) (template_of setup row)
 
+-- the attack of a row that can attack
 abbrev pub arms_of : Setup → Row → Option Arms
 arms_of setup row = option_and_then (λ (t : Template). t.arms) (template_of setup row)
 
@@ -43,6 +47,7 @@ abbrev pub rect_of_row : Setup → Row → Option Rect
 rect_of_row setup row =
     option_map (λ (base : Base). rect_of row.at base.width base.depth) (option_and_then (λ (t : Template). t.obstruct) (template_of setup row))
 
+-- the size of a ground
 abbrev pub size_of : Land → Size
 size_of land = record { width = land.width; depth = land.depth }
 

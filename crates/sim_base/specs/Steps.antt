@@ -18,9 +18,11 @@ pub record IsOnGround (size : Size) (c : Cell) : Type 0 where
 abbrev pub forward : ℤ
 forward = pos 1
 
+-- no step along an axis
 abbrev pub level : ℤ
 level = pos 0
 
+-- one step back along an axis
 abbrev pub back : ℤ
 back = neg_ℤ (pos 1)
 

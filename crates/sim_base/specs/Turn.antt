@@ -19,6 +19,7 @@ abbrev pub first_state : Setup → State
 first_state setup =
     fold (λ s (first : First). created setup s first.template first.at first.owner) (record { turn = 0; next = 2; word = setup.seed; rows = [] }) setup.first
 
+-- one turn more was played
 abbrev pub ticked : State → State
 ticked state = record state { turn = state.turn + 1 }
 
@@ -35,6 +36,7 @@ pub data Item : Type 0 where
 abbrev pub Past : Type 0
 Past = List Item
 
+-- a health from 1 to the greatest of a row that has health
 abbrev pub is_health_of : ℤ → Option ℤ → Option ℤ → Bool
 is_health_of health (Some old) (Some most) = int_le (pos 1) health && int_le health most
 is_health_of health (Some old) None = false
@@ -45,9 +47,11 @@ abbrev pub may_bend : Setup → ℤ → Option Row → Bool
 may_bend setup health None = false
 may_bend setup health (Some row) = is_health_of health row.health (option_and_then (λ (t : Template). t.health) (template_of setup row))
 
+-- the state with a row's health set, where it may be; else as it is
 abbrev pub bent : Setup → State → ℕ → ℤ → State
 bent setup state id health = if may_bend setup health (row_of state id) then with_row id (λ row. record row { health = Some health }) state else state
 
+-- the state after one item of a past
 abbrev pub happened : Setup → State → Item → State
 happened setup state (Turn orders) = turn setup state orders
 happened setup state (Bend id health) = bent setup state id health
@@ -57,9 +61,11 @@ abbrev pub from : Setup → State → Past → State
 from setup state [] = state
 from setup state (item ∷ past) = happened setup (from setup state past) item
 
+-- the state after a past, from the first state of the match
 abbrev pub after : Setup → Past → State
 after setup = from setup (first_state setup)
 
+-- an item that is no bend
 abbrev pub is_turn : Item → Bool
 is_turn (Turn orders) = true
 is_turn (Bend id health) = false

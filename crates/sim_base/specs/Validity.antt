@@ -14,6 +14,7 @@ use Rattle.sim_base.specs.declared.state.State.{State}
 use Rattle.sim_base.specs.Places.{is_inside}
 use Rattle.sim_base.specs.Rows.{id_of, size_of, template_of}
 
+-- a point lies on the ground of the match
 abbrev pub IsInside : Setup → Point → Type 0
 IsInside setup p = IsTrue (is_inside (size_of setup.land) p)
 
@@ -51,6 +52,7 @@ pub record IsValidRow (least : ℕ) (setup : Setup) (rows : List Row) (row : Row
 abbrev pub IsKnownRow : ℕ → Setup → List Row → Row → Type 0
 IsKnownRow least setup rows row = MatchOption (template_of setup row) ⊥ (IsValidRow least setup rows row)
 
+-- what holds of a state between two turns, or between two changes where `least` is 0: it is the least health allowed
 pub record IsState (least : ℕ) (setup : Setup) (state : State) : Type 0 where
   pub turn : state.turn ≤ setup.turns
   pub next : (2 ≤ state.next) × (state.next ≤ 0x20000000)
