@@ -4,10 +4,12 @@ use Rattle.sim_merge.specs.declared.fault.OverlayFault.TheVariants as overlay
 use Rattle.sim_merge.specs.declared.fault.MergeFault.{MergeFault}
 use Rattle.sim_merge.specs.declared.fault.MergeFault.TheVariants as merge
 
+-- a fact of a refused overlay
 abbrev pub IfBadOp : OverlayFault → Type 0 → Type 0
 IfBadOp overlay.BadOp fact = fact
 IfBadOp overlay.OutOfMemory fact = Unit {0}
 
+-- a fact of a refused resolution
 abbrev pub IfRefusal : MergeFault → Type 0 → Type 0
 IfRefusal (merge.NoParent index) fact = fact
 IfRefusal (merge.Cycle index) fact = fact

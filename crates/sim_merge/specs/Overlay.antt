@@ -8,9 +8,11 @@ use Rattle.sim_merge.specs.Values.{Value, value_over, sum_of, product_of, words_
 use Rattle.sim_merge.specs.Laying.{Laying, refused, absent, there, laid}
 use Rattle.sim_merge.specs.Libraries.{is_resolved, is_layable}
 
+-- names, from the root on
 abbrev pub Path : Type 0
 Path = List (List ℕ)
 
+-- a tree as a map: what stands at each path, if anything does
 abbrev pub Paths : Type 0
 Paths = Path → Option Entry
 
@@ -23,15 +25,19 @@ at_if (Some tree) path = tree path
 abbrev pub below : List ℕ → Paths → Option Paths
 below name tree = if is_some (tree (name ∷ [])) then Some (λ path. tree (name ∷ path)) else None
 
+-- the same of a tree that may be absent
 abbrev pub below_if : List ℕ → Option Paths → Option Paths
 below_if name lower = option_and_then (below name) lower
 
+-- the value at the root, if there is a tree and it has one
 abbrev pub root_value : Option Paths → Value
 root_value tree = option_and_then (λ (e : Entry). e.value) (at_if tree [])
 
+-- the mark at the root
 abbrev pub root_mark : Paths → Option TreeMark
 root_mark tree = option_and_then (λ (e : Entry). e.mark) (tree [])
 
+-- a node with this value and no mark
 abbrev pub plain : Value → Option Entry
 plain value = Some (record { value = value; mark = None })
 
@@ -74,7 +80,7 @@ lay lower upper (name ∷ path) =
 
 -- ---- refusals
 
--- the lower tree at a path of the upper one: absent below each `Replace`
+-- a mark under which the lower tree is absent
 abbrev pub replaces : Option TreeMark → Bool
 replaces None = false
 replaces (Some Replace) = true
@@ -84,9 +90,11 @@ replaces (Some Add) = false
 replaces (Some Mul) = false
 replaces (Some Tokens) = false
 
+-- the lower tree below a name: absent below a `Replace`
 abbrev pub lower_below : Option Paths → Paths → List ℕ → Option Paths
 lower_below lower upper name = if replaces (root_mark upper) then None else below_if name lower
 
+-- the lower tree at a path of the upper one
 abbrev pub lower_at : Option Paths → Paths → Path → Option Paths
 lower_at lower upper [] = lower
 lower_at lower upper (name ∷ path) = lower_at (lower_below lower upper name) (λ more. upper (name ∷ more)) path

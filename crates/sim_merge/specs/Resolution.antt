@@ -11,12 +11,15 @@ use Rattle.sim_merge.specs.Laying.{Laying, refused, absent, there, laid}
 
 -- ---- names
 
+-- what each source is
 abbrev pub origins_of : List Source → List Origin
 origins_of sources = map origin_of sources
 
+-- the name of a template
 abbrev pub name_in : Origin → List ℕ
 name_in origin = origin.name
 
+-- the names, by their numbers
 abbrev pub names_in : List Origin → List (List ℕ)
 names_in origins = map name_in origins
 
@@ -31,6 +34,7 @@ are_distinct (name ∷ names) = not (list_any (bytes_eq name) names) && are_dist
 abbrev pub parent_among : List (List ℕ) → Origin → Option ℕ
 parent_among names origin = option_and_then (λ name. position (bytes_eq name) names) origin.parent
 
+-- each template's parent, as its number
 abbrev pub parents_in : List Origin → List (Option ℕ)
 parents_in origins = map (parent_among (names_in origins)) origins
 
@@ -58,6 +62,7 @@ most_members = 16
 unfoldable pub members : List (Option ℕ) → ℕ → List ℕ
 members parents number = chain_from parents (suc most_members) (Some number)
 
+-- the numbers of all templates
 abbrev pub numbers : List (Option ℕ) → List ℕ
 numbers parents = range_with_len 0 (length parents)
 
@@ -70,6 +75,7 @@ repeats (number ∷ chain) = list_any (λ other. other == number) chain || repea
 abbrev pub is_endless : List ℕ → Bool
 is_endless chain = repeats chain || nat_lt most_members (length chain)
 
+-- why a chain is endless
 abbrev pub chain_fault : ℕ → List ℕ → MergeFault
 chain_fault number chain = if repeats chain then Cycle number else ChainTooLong number
 
@@ -96,9 +102,11 @@ abbrev pub chain_root : List Node → List ℕ → Laying
 chain_root roots [] = there bare
 chain_root roots (number ∷ chain) = inherited (chain_root roots chain) (slice_get roots number)
 
+-- the root of a template's own tree
 abbrev pub root_in : Origin → Node
 root_in origin = origin.root
 
+-- the roots, by their numbers
 abbrev pub roots_in : List Origin → List Node
 roots_in origins = map root_in origins
 
@@ -106,11 +114,13 @@ roots_in origins = map root_in origins
 abbrev pub layings : List (Option ℕ) → List Node → List Laying
 layings parents roots = map (λ number. chain_root roots (members parents number)) (numbers parents)
 
+-- a laying that has no tree
 abbrev pub is_missing : Laying → Bool
 is_missing refused = true
 is_missing absent = true
 is_missing (there n) = false
 
+-- the tree of a laying, if it has one
 abbrev pub root_there : Laying → Option Node
 root_there refused = None
 root_there absent = None
@@ -127,9 +137,11 @@ abbrev pub unless : Option MergeFault → Result (List Node) MergeFault → Resu
 unless (Some fault) more = Err fault
 unless None more = more
 
+-- the trees, unless one has a refused operation
 abbrev pub with_roots : List Laying → Result (List Node) MergeFault
 with_roots trees = unless (root_refusal trees) (Ok (filter_map root_there trees))
 
+-- the same, unless a chain is endless
 abbrev pub with_chains : List (Option ℕ) → List Node → Result (List Node) MergeFault
 with_chains parents roots = unless (chain_refusal parents) (with_roots (layings parents roots))
 

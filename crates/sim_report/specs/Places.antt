@@ -5,6 +5,7 @@ use Rattle.sim_codec.specs.declared.bits.Part.{Part}
 use Rattle.sim_codec.specs.declared.bits.Part.TheVariants.{Clock, Entity, Position, Owner, Health, Motion, Attack}
 use Rattle.sim_diff.specs.declared.place.Place.{Place}
 
+-- how a part is printed
 abbrev pub part_name : Part → List ℕ
 part_name Clock = codes "Clock"
 part_name Entity = codes "Entity"

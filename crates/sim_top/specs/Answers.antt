@@ -18,6 +18,7 @@ pub record Scene : Type 0 where
   pub counts : Counts
   pub faults : ℕ
 
+-- a scene of these
 abbrev pub scene : Option (List File) → Option (List ℕ) → Counts → ℕ → Scene
 scene held told counts faults = record { held = held; told = told; counts = counts; faults = faults }
 
@@ -112,6 +113,7 @@ KeepsOthers out None new = new ≡ None
 KeepsOthers out (Some files) None = ⊥
 KeepsOthers out (Some files) (Some files') = (other : List ℕ) → other ≢ out → file_in files' other ≡ file_in files other
 
+-- every file but OUT, if there is an OUT, is as it was
 abbrev pub KeepsAllBut : Option (List ℕ) → Option (List File) → Option (List File) → Type 0
 KeepsAllBut None old new = new ≡ old
 KeepsAllBut (Some out) old new = KeepsOthers out old new

@@ -16,9 +16,11 @@ use Rattle.sim_top.specs.declared.stop.Stop.{Stop}
 use Rattle.sim_top.specs.declared.commands.Saved.{Saved}
 use Rattle.sim_top.specs.declared.commands.Answer.{Answer}
 
+-- the file that is to be saved
 abbrev pub file_of : Saved → File
 file_of saved = record { name = saved.name.now; bytes = saved.bytes.items }
 
+-- the outcome that an answer is
 abbrev pub outcome_made : Answer → Outcome
 outcome_made answer = record { status = answer.status; text = string_bytes answer.text; saved = option_map file_of answer.saved }
 
@@ -78,5 +80,6 @@ pub record IsWhole (result status : Status) (text : List ℕ) (told told' : Opti
   pub text_told : Appends told told' text
   pub uncounted : faults' ≡ faults
 
+-- the text was told whole, or it was cut short
 abbrev pub Tells : Status → Status → List ℕ → Option (List ℕ) → Option (List ℕ) → ℕ → ℕ → Type 0
 Tells result status text told told' faults faults' = IsWhole result status text told told' faults faults' ⊎ IsCutShort result text told told' faults faults'

@@ -26,6 +26,7 @@ use Rattle.sim_top.specs.Lines.{play_text, resume_text}
 use Rattle.sim_top.specs.declared.status.Status.{Status}
 use Rattle.sim_top.specs.declared.status.Status.TheVariants.{Done, Differs, Usage, ReadFault, TooLong, MatchRefused, StateRefused, NoSuchTurn, NoFile}
 
+-- what a run comes to: a status, the whole text, and the file that it saves, if any
 pub record Outcome : Type 0 where
   pub status : Status
   pub text : List ℕ
@@ -37,6 +38,7 @@ printed status text = record { status = status; text = text; saved = None }
 
 -- ---- what is read on the way, or the outcome with which it ends there
 
+-- the bytes that were read, or the outcome where there are none
 abbrev pub bytes_by : Result (List ℕ) StoreFault → Result (List ℕ) Outcome
 bytes_by (Ok bytes) = Ok bytes
 bytes_by (Err store.NoFile) = Err (printed NoFile [])
@@ -47,10 +49,12 @@ bytes_by (Err other) = Err (printed ReadFault [])
 unfoldable pub bytes_in : List File → List ℕ → Result (List ℕ) Outcome
 bytes_in files name = bytes_by (reading_of (file_in files name))
 
+-- the match that was read, or the outcome of its refusal
 abbrev pub setup_by : Result Setup Refusal → Result Setup Outcome
 setup_by (Ok setup) = Ok setup
 setup_by (Err refusal) = Err (printed MatchRefused (refusal_text (Match refusal.code refusal.index)))
 
+-- the match that bytes are, if they were read
 abbrev pub match_by : Result (List ℕ) Outcome → Result Setup Outcome
 match_by (Ok bytes) = setup_by (setup_of bytes)
 match_by (Err ended) = Err ended
@@ -70,12 +74,14 @@ IsStored setup bytes (Ok state) = StandsFor setup bytes state
 IsStored setup bytes (Err stored.OutOfMemory) = ⊥
 IsStored setup bytes (Err fault) = RefusedFor setup bytes fault
 
+-- the number that is printed of a cause
 abbrev pub code_of : StateFault → ℕ
 code_of stored.NotState = 1
 code_of stored.OtherMatch = 2
 code_of stored.Grammar = 3
 code_of stored.OutOfMemory = 0
 
+-- the state that was loaded, or the outcome of its refusal
 abbrev pub state_by : List ℕ → Result State StateFault → Result State Outcome
 state_by name (Ok state) = Ok state
 state_by name (Err fault) = Err (printed StateRefused (stored_text (code_of fault) name))
@@ -88,6 +94,7 @@ pub record ThenStored (setup : Setup) (name bytes : List ℕ) (next : State → 
 
 -- ---- the commands
 
+-- the outcome of a state that is stored
 abbrev pub stored_at : Setup → ℕ → List ℕ → State → Outcome
 stored_at setup turn out state = record {
   status = Done;

@@ -16,6 +16,7 @@ use Rattle.sim_top.specs.declared.status.Status.TheVariants as status
 use Rattle.sim_top.specs.declared.stop.Stop.{Stop}
 use Rattle.sim_top.specs.declared.stop.Stop.TheVariants.{ReadFault, TooLong, NoFile, OutOfMemory, MatchRefused, StateRefused, NoSuchTurn}
 
+-- the status with which a command ends there
 abbrev pub status_of : Stop → Status
 status_of ReadFault = status.ReadFault
 status_of TooLong = status.TooLong
@@ -25,6 +26,7 @@ status_of (MatchRefused code index) = status.MatchRefused
 status_of (StateRefused code name) = status.StateRefused
 status_of (NoSuchTurn asked turns) = status.NoSuchTurn
 
+-- the text that it prints
 abbrev pub stop_text : Stop → List ℕ
 stop_text ReadFault = []
 stop_text TooLong = []

@@ -36,13 +36,16 @@ digits_from n (c ∷ cs) = if is_digit c then digits_from (n * 10 + (c - 48)) cs
 abbrev pub turn_in : List ℕ → Option ℕ
 turn_in text = if nat_le 1 (length text) && nat_le (length text) 9 then digits_from 0 text else None
 
+-- what a command asks of one file
 abbrev pub asked_of_one : List ℕ → List ℕ → Option Asked
 asked_of_one command game = if bytes_eq command (codes "play") then Some (to_play game) else None
 
+-- what it asks of two
 abbrev pub asked_of_two : List ℕ → List ℕ → List ℕ → Option Asked
 asked_of_two command game stored =
     if bytes_eq command (codes "resume") then Some (to_resume game stored) else if bytes_eq command (codes "show") then Some (to_show game stored) else None
 
+-- what it asks of three words
 abbrev pub asked_of_three : List ℕ → List ℕ → List ℕ → List ℕ → Option Asked
 asked_of_three command game b c =
     if bytes_eq command (codes "state") then option_map (λ n. to_store game n c) (turn_in b)

@@ -11,18 +11,23 @@ pub record Part : Type 0 where
   pub needed : List (List ℕ)
   pub optional : List (List ℕ)
 
+-- how much it can take
 abbrev pub health_part : Part
 health_part = record { number = 1; name = codes "Health"; needed = codes "Max" ∷ []; optional = [] }
 
+-- its levels of resistance
 abbrev pub resist_part : Part
 resist_part = record { number = 2; name = codes "Resist"; needed = []; optional = codes "Hack" ∷ codes "Pierce" ∷ codes "Crush" ∷ [] }
 
+-- how fast it moves
 abbrev pub motion_part : Part
 motion_part = record { number = 3; name = codes "Motion"; needed = codes "Speed" ∷ []; optional = [] }
 
+-- the rectangle that it closes
 abbrev pub obstruct_part : Part
 obstruct_part = record { number = 4; name = codes "Obstruct"; needed = codes "Width" ∷ codes "Depth" ∷ []; optional = [] }
 
+-- how it hits
 abbrev pub attack_part : Part
 attack_part =
     record {
@@ -32,6 +37,7 @@ attack_part =
       optional = codes "Hack" ∷ codes "Pierce" ∷ codes "Crush" ∷ codes "Accuracy" ∷ [];
     }
 
+-- what it makes
 abbrev pub train_part : Part
 train_part = record { number = 6; name = codes "Train"; needed = codes "Units" ∷ []; optional = [] }
 

@@ -13,6 +13,7 @@ abbrev pub given : {X Y : Type 0} → Option X → (X → Option Y) → Option Y
 given None next = None
 given (Some x) next = next x
 
+-- from the least health to 16,000
 abbrev pub health_in : Node → Option ℤ
 health_in part = given (text_at (codes "Max") part) (raw_in 1 1048576000)
 
@@ -20,11 +21,13 @@ health_in part = given (text_at (codes "Max") part) (raw_in 1 1048576000)
 abbrev pub level_in : List ℕ → Node → Option ℕ
 level_in name part = given (text_or (codes "0") name part) (whole_in 0 40)
 
+-- the three levels
 abbrev pub resist_in : Node → Option Resist
 resist_in part =
     given (level_in (codes "Hack") part) (λ hack. given (level_in (codes "Pierce") part) (λ pierce. given (level_in (codes "Crush") part) (λ crush.
     Some (record { hack = hack; pierce = pierce; crush = crush }))))
 
+-- in metres for each second, at most 100
 abbrev pub speed_in : Node → Option ℤ
 speed_in part = given (text_at (codes "Speed") part) (raw_in 5 6553600)
 
@@ -32,6 +35,7 @@ speed_in part = given (text_at (codes "Speed") part) (raw_in 5 6553600)
 abbrev pub side_in : List ℕ → Node → Option ℕ
 side_in name part = given (text_at name part) (whole_in 1 16)
 
+-- both sides
 abbrev pub base_in : Node → Option Base
 base_in part =
     given (side_in (codes "Width") part) (λ width. given (side_in (codes "Depth") part) (λ depth.
@@ -41,6 +45,7 @@ base_in part =
 abbrev pub damage_in : List ℕ → Node → Option ℤ
 damage_in name part = given (text_or (codes "0") name part) (raw_in 0 65536000)
 
+-- the three kinds of damage
 abbrev pub harm_in : Node → Option Harm
 harm_in part =
     given (damage_in (codes "Hack") part) (λ hack. given (damage_in (codes "Pierce") part) (λ pierce. given (damage_in (codes "Crush") part) (λ crush.
@@ -50,6 +55,7 @@ harm_in part =
 abbrev pub distance_in : List ℕ → Node → Option ℤ
 distance_in name part = given (text_at name part) (raw_in 0 16777216)
 
+-- how many turns it waits after a hit
 abbrev pub repeat_in : Node → Option ℕ
 repeat_in part = given (text_at (codes "Repeat") part) (whole_in 0 1000)
 
@@ -57,11 +63,13 @@ repeat_in part = given (text_at (codes "Repeat") part) (whole_in 0 1000)
 abbrev pub accuracy_in : Node → Option ℕ
 accuracy_in part = given (text_or (codes "100") (codes "Accuracy") part) (whole_in 0 100)
 
+-- the whole attack
 abbrev pub arms_in : Node → Option Arms
 arms_in part =
     given (harm_in part) (λ harm. given (distance_in (codes "Range") part) (λ range. given (distance_in (codes "Vision") part) (λ vision.
     given (repeat_in part) (λ repeat. given (accuracy_in part) (λ accuracy.
     Some (record { harm = harm; range = range; vision = vision; repeat = repeat; accuracy = accuracy }))))))
 
+-- templates that are known
 abbrev pub train_in : List (List ℕ) → Node → Option (List ℕ)
 train_in names part = given (text_at (codes "Units") part) (units_in names)

@@ -20,13 +20,16 @@ mutual
 
 -- ---- the tree that the code has
 
+-- a list of named nodes, as children
 abbrev pub children_of : List (List ℕ × Node) → Children
 children_of [] = no_children
 children_of (c ∷ cs) = child c.0 c.1 (children_of cs)
 
+-- the node of a tree whose children are nodes already
 abbrev pub node_step : Tree-F (List ℕ × Node) Node → Node
 node_step t = node t.value t.mark (children_of t.children.items)
 
+-- a child beside its name
 abbrev pub child_step : Child-F (List ℕ × Node) Node → List ℕ × Node
 child_step c = (c.name, c.tree)
 
@@ -49,12 +52,15 @@ pub record Entry : Type 0 where
   pub value : Option (List ℕ)
   pub mark : Option TreeMark
 
+-- the value of a node
 abbrev pub value_of : Node → Option (List ℕ)
 value_of (node value mark cs) = value
 
+-- the mark of a node
 abbrev pub mark_of : Node → Option TreeMark
 mark_of (node value mark cs) = mark
 
+-- the children of a node
 abbrev pub under : Node → Children
 under (node value mark cs) = cs
 
