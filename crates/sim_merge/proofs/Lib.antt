@@ -7,6 +7,7 @@ pub mod OperationLemmas
 pub mod WordLemmas
 pub mod SurvivorLemmas
 pub mod SetLemmas
+pub mod LackingLemmas
 pub mod LayingLemmas
 pub mod Examples
 pub mod ResolutionLemmas

@@ -1,5 +1,5 @@
 -- A set of texts, and what it has once a text is put in.
-use Rattle.std.proofs.Common.{◌≡◌, ℕ, ◌||◌, Bool, true, false, List, String, string_bytes, refl, sym, ap, ◌∙◌, cond, true≢false}
+use Rattle.std.proofs.Common.{◌≡◌, ℕ, ◌&&◌, ◌||◌, not, Bool, true, false, List, String, string_bytes, refl, sym, ap, ◌∙◌, cond, true≢false}
 use Rattle.std.specs.Str.{bytes_eq}
 use Rattle.std.specs.String.{string_cmp}
 use Rattle.std.specs.Ordering.{nat_cmp}
@@ -9,7 +9,7 @@ use Rattle.std.proofs.lemmas.Bool.{false_from_ne_true}
 use Rattle.std.proofs.lemmas.Map.Text.{btree_set_updates_text}
 use Rattle.std.proofs.lemmas.Slice.Eq.{bytes_eq-Decides}
 
--- ---- equal bytes, and or
+-- ---- equal bytes, and the cases of a change
 
 bytes_eq-swap : (xs ys : List ℕ) → bytes_eq xs ys ≡ bytes_eq ys xs
 bytes_eq-swap xs ys = by (bytes_eq xs ys) refl
@@ -17,6 +17,12 @@ bytes_eq-swap xs ys = by (bytes_eq xs ys) refl
     by : (b : Bool) → bytes_eq xs ys ≡ b → b ≡ bytes_eq ys xs
     by true is = sym ((bytes_eq-Decides ys xs).1 (sym ((bytes_eq-Decides xs ys).0 is)))
     by false is = sym (false_from_ne_true (bytes_eq ys xs) (λ h. true≢false (sym ((bytes_eq-Decides xs ys).1 (sym ((bytes_eq-Decides ys xs).0 h))) ∙ is)))
+
+cond_and : (a b : Bool) → cond a false b ≡ (b && not a)
+cond_and true true = refl
+cond_and true false = refl
+cond_and false true = refl
+cond_and false false = refl
 
 cond_or : (a b : Bool) → cond a true b ≡ (a || b)
 cond_or true b = refl
@@ -32,3 +38,14 @@ contains_after bytes old new updates other =
     btree_set_updates_text bytes old new true updates other
     ∙ cond_or (bytes_eq bytes other) (contains_text old other)
     ∙ ap (λ b. b || contains_text old other) (bytes_eq-swap bytes other)
+
+-- ---- a text less
+
+-- a set has what it had, without a text that was taken out
+pub contains_left : {Y : Type 0} (bytes : List ℕ) (old new : BTreeSet (String Y)) →
+    UpdatesBy string_cmp (λ key. slice_cmp nat_cmp bytes (string_bytes key)) old new false →
+    (other : List ℕ) → contains_text new other ≡ (contains_text old other && not (bytes_eq other bytes))
+contains_left bytes old new updates other =
+    btree_set_updates_text bytes old new false updates other
+    ∙ cond_and (bytes_eq bytes other) (contains_text old other)
+    ∙ ap (λ b. contains_text old other && not b) (bytes_eq-swap bytes other)

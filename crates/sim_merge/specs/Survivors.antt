@@ -1,5 +1,5 @@
 -- Lists of words read from the back: which words of an upper list take words away, and which of its words stay.
-use Rattle.std.specs.Prelude.{◌≡◌, ℕ, Bool, ◌||◌, List, [], ◌∷◌, drop, map, filter, reverse, if◌then◌else◌}
+use Rattle.std.specs.Prelude.{◌≡◌, ℕ, Bool, ◌&&◌, ◌||◌, not, List, [], ◌∷◌, drop, map, filter, reverse, if◌then◌else◌}
 use Rattle.std.specs.List.{list_any}
 use Rattle.std.specs.Str.{bytes_eq}
 use Rattle.sim_merge.specs.Values.{is_removal, including}
@@ -24,6 +24,10 @@ with_added found word = including word found
 -- the test passes the words of the list, and no others
 abbrev pub TellsWords : (List ℕ → Bool) → List (List ℕ) → Type 0
 TellsWords test words = (word : List ℕ) → test word ≡ list_any (bytes_eq word) words
+
+-- the test passes those of the words that the list lacks, and no others
+abbrev pub TellsLacking : (List ℕ → Bool) → List (List ℕ) → List (List ℕ) → Type 0
+TellsLacking test words found = (word : List ℕ) → test word ≡ (list_any (bytes_eq word) words && not (list_any (bytes_eq word) found))
 
 -- what the words of an upper list do: the words that it adds for good, the last one first, and a test for those that it takes away
 abbrev pub AreChanges : List (List ℕ) → (List ℕ → Bool) → List (List ℕ) → Type 0

@@ -1,17 +1,18 @@
 //! Lists of words, which stand in a value with spaces between them, and what another list adds and takes away.
 //!
-//! The upper words are read from the back, beside a set of the words that are taken away further on. So each word is
-//! looked up in a set and never in a list, and n words take about n steps times their logarithm. The sets are ordered
-//! trees: whoever writes a match picks its words, and could pick ones that a hash with a known seed gives one place.
+//! The upper words are read from the back, beside a set of the words that are taken away further on. Those that stay are
+//! put into another set, and the lower words are taken out of it, so that a short list over a long one costs one walk. So
+//! each word is looked up in a set and never in a list, and n words take about n steps times their logarithm. The sets are
+//! ordered trees: whoever writes a match picks its words, and could pick ones that a hash with a known seed gives one place.
 
-ghost use Rattle.std.specs.Prelude.{◌≡◌, ◌++◌, ◌∷◌, ◌||◌, not, ℕ, List, if◌then◌else◌, filter, fold, reverse, IfOk, OnOk, string_bytes, drop, Some, None, MatchOption, true, false};
-ghost use Rattle.std.specs.List.{join_with_byte};
+ghost use Rattle.std.specs.Prelude.{◌≡◌, ◌++◌, ◌∷◌, [], ◌&&◌, ◌||◌, not, ℕ, List, if◌then◌else◌, filter, fold, reverse, IfOk, OnOk, string_bytes, drop, Some, None, MatchOption, true, false};
+ghost use Rattle.std.specs.List.{list_any, join_with_byte};
 ghost use Rattle.std.specs.Str.{bytes_eq};
 ghost use Rattle.std.specs.Option.{option_copied};
 ghost use Rattle.std.specs.BTreeSet.{contains_text};
 ghost use Rattle.sim_tree.specs.Tokens.{tokens_in as words_of_value};
 ghost use Rattle.sim_merge.specs.Values.{words_over as words_over_words, including, is_removal};
-ghost use Rattle.sim_merge.specs.Survivors.{TellsWords, AreChanges, with_added as with_added_word};
+ghost use Rattle.sim_merge.specs.Survivors.{TellsWords, TellsLacking, AreChanges, with_added as with_added_word};
 
 use sim_base::OutOfMemory;
 use sim_tree::{Names, Text, tokens_in};
@@ -104,30 +105,44 @@ fn leaving_out(found: Names, removed: &BTreeSet<String>) -> Names
 fn with_added(alloc: Global, lower: Names, added: Names) -> Result<Names, OutOfMemory>
     ensures { IfOk result (λ words. words ≡ fold with_added_word lower (reverse added)) }
 {
-    let mut present = set_of(alloc, lower.as_slice())?;
+    let mut lacking = set_of(alloc, added.as_slice())?;
+    take_words(&mut lacking, lower.as_slice());
     let mut found = lower;
     let mut words = added.into_items();
     while let Some(word) = words.pop() {
-        include(alloc, &mut found, &mut present, word)?;
+        include(&mut found, &mut lacking, word)?;
     }
     Ok(found)
 }
 
-// Adds a word at the end of a list that lacks it, where the set has the words of the list.
-fn include(
-    alloc: Global,
-    found: &mut Names,
-    present: &mut BTreeSet<String>,
-    word: Text,
-) -> Result<(), OutOfMemory>
-    ensures found { OnOk result (TellsWords (contains_text present.old) found.old → found.new ≡ including word found.old) }
-    ensures present { OnOk result (TellsWords (contains_text present.old) found.old → TellsWords (contains_text present.new) found.new) }
+// Adds a word at the end of a list that lacks it, where the set has what the list lacks of this word and those to come.
+fn include(found: &mut Names, lacking: &mut BTreeSet<String>, word: Text) -> Result<(), OutOfMemory>
+    ensures found { OnOk result ((more : List (List ℕ)) → TellsLacking (contains_text lacking.old) (more ++ word ∷ []) found.old → found.new ≡ including word found.old) }
+    ensures lacking { OnOk result ((more : List (List ℕ)) → TellsLacking (contains_text lacking.old) (more ++ word ∷ []) found.old → TellsLacking (contains_text lacking.new) more found.new) }
 {
-    if !present.contains(word.as_str()) {
-        add_word(alloc, present, word.as_str())?;
+    if take_word(lacking, word.as_str()) {
         found.push(word)?;
     }
     Ok(())
+}
+
+// Takes these words out of a set.
+fn take_words(set: &mut BTreeSet<String>, words: &[Text])
+    ensures { (other : List ℕ) → contains_text set.new other ≡ (contains_text set.old other && not (list_any (bytes_eq other) words.now)) }
+{
+    let mut rest = words;
+    while let [word, more @ ..] = rest {
+        let _was_there = take_word(set, word.as_str());
+        rest = more;
+    }
+}
+
+// Takes a word out of a set, and answers whether it was there.
+fn take_word(set: &mut BTreeSet<String>, word: &str) -> bool
+    ensures found { result ≡ contains_text set.old word.now }
+    ensures left { (other : List ℕ) → contains_text set.new other ≡ (contains_text set.old other && not (bytes_eq other word.now)) }
+{
+    set.remove(word)
 }
 
 fn set_of(alloc: Global, words: &[Text]) -> Result<BTreeSet<String>, OutOfMemory>

@@ -1,11 +1,11 @@
 use Rattle.std.proofs.Common.{◌≡◌, fold, reverse, length}
 use Rattle.std.specs.BTreeSet.{contains_text}
-use Rattle.sim_merge.specs.Survivors.{TellsWords, with_added}
+use Rattle.sim_merge.specs.Survivors.{TellsLacking, with_added}
 use Rattle.sim_merge.proofs.words.with_added.Given as goal
 
 abbrev pub invariant-loop-word : goal.invariant-loop-word
 invariant-loop-word l = record {
-  present : TellsWords (contains_text l.present) l.found;
+  lacking : TellsLacking (contains_text l.lacking) l.words.items l.found;
   same : fold with_added l.found (reverse l.words.items) ≡ fold with_added l.fn.lower (reverse l.fn.added);
 }
 
