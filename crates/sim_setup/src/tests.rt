@@ -32,6 +32,22 @@ fn posts_with(alloc: Global, key: &str, value: &str) -> Result<String, AllocErro
     Ok(text)
 }
 
+// That match without one key.
+fn posts_without(alloc: Global, key: &str) -> Result<String, AllocError> {
+    let mut text = String::from_str(alloc, "{")?;
+    let mut is_first = true;
+    for (name, usual) in POSTS.iter() {
+        if *name != key {
+            let comma = if is_first { "" } else { "," };
+            let member = format!(in alloc; "{comma}\"{name}\":{usual}")?;
+            text.push_str(member.as_str())?;
+            is_first = false;
+        }
+    }
+    text.push_str("}")?;
+    Ok(text)
+}
+
 // A list of so many items.
 fn repeated(alloc: Global, item: &str, count: usize) -> Result<String, AllocError> {
     let mut text = String::from_str(alloc, "[")?;
@@ -143,6 +159,21 @@ fn refuses_files_that_are_no_match(rt: HostRuntime) -> Result<(), Fail> {
     ];
     for (bytes, code, index) in files {
         assert_eq!(rt; refusal(alloc, bytes), refused(code, index), "at {bytes:?}");
+    }
+    Ok(())
+}
+
+#[test]
+fn each_of_the_ten_keys_must_be_there(rt: HostRuntime) -> Result<(), Fail> {
+    let alloc = rt.alloc();
+    assert_eq!(rt; refusal(alloc, posts_without(alloc, "")?.as_bytes()), None);
+    for (place, (key, _)) in POSTS.iter().enumerate() {
+        let text = posts_without(alloc, key)?;
+        assert_eq!(rt;
+            refusal(alloc, text.as_bytes()),
+            refused(2, place as u32),
+            "at {key}"
+        );
     }
     Ok(())
 }
@@ -275,7 +306,7 @@ static CASES: [(&str, &str, u8, u32); 68] = [
 ];
 
 #[test]
-fn refuses_a_value(rt: HostRuntime) -> Result<(), Fail> {
+fn each_key_refuses_values_by_its_code(rt: HostRuntime) -> Result<(), Fail> {
     let alloc = rt.alloc();
     for (key, value, code, index) in CASES.iter() {
         let text = posts_with(alloc, key, value)?;
@@ -298,7 +329,7 @@ static LONGEST: [(&str, &str, &str, &str, usize, u8, u32); 5] = [
 ];
 
 #[test]
-fn refuses_one_item_too_many(rt: HostRuntime) -> Result<(), Fail> {
+fn one_item_more_than_the_most_is_refused(rt: HostRuntime) -> Result<(), Fail> {
     let alloc = rt.alloc();
     for (key, before, item, after, most, code, index) in LONGEST.iter() {
         let items = repeated(alloc, item, *most)?;
@@ -324,7 +355,7 @@ fn refuses_one_item_too_many(rt: HostRuntime) -> Result<(), Fail> {
 }
 
 // Templates, and the code and index that refuse them; code 0 where there is a setup.
-static TEMPLATES: [(&str, u8, u32); 33] = [
+static TEMPLATES: [(&str, u8, u32); 40] = [
     ("null", 2, 16),
     (r#"{"Health":{"Max":50}}"#, 2, 16),
     (r#"{"@name":"po st"}"#, 2, 16),
@@ -335,6 +366,7 @@ static TEMPLATES: [(&str, u8, u32); 33] = [
         2,
         17,
     ),
+    (r#"{"@name":"a","b":1.5}"#, 2, 16),
     (
         r#"{"@name":"a"},{"@name":"b"},{"@name":"a","@parent":"c"}"#,
         3,
@@ -372,6 +404,16 @@ static TEMPLATES: [(&str, u8, u32); 33] = [
         6,
         1,
     ),
+    (
+        r#"{"@name":"a","Health":{"Max":16000}},{"@name":"b","@parent":"a","Health":{"Max":{"@op":"mul","_":3}}}"#,
+        6,
+        1,
+    ),
+    (
+        r#"{"@name":"a","Health":{"Max":50}},{"@name":"b","@parent":"a","Health":{"@replace":1,"Max":{"@op":"add","_":1}}}"#,
+        6,
+        1,
+    ),
     (r#"{"@name":"a","Motion":{"Speed":9}}"#, 7, 0),
     (
         r#"{"@name":"a","Attack":{"Range":1,"Vision":1,"Repeat":0}}"#,
@@ -395,6 +437,7 @@ static TEMPLATES: [(&str, u8, u32); 33] = [
     (r#"{"@name":"a","Health":{"Max":50,"Now":1}}"#, 7, 0),
     (r#"{"@name":"a","Healt":{"Max":50}}"#, 7, 0),
     (r#"{"@name":"a","Resist":{"Hack":41}}"#, 7, 0),
+    (r#"{"@name":"a","Resist":{"Hack":{}}}"#, 7, 0),
     (r#"{"@name":"a","Obstruct":{"Width":17,"Depth":1}}"#, 7, 0),
     (r#"{"@name":"a","Train":{"Units":"a b"}}"#, 7, 0),
     (r#"{"@name":"a"}"#, 0, 0),
@@ -418,17 +461,36 @@ static TEMPLATES: [(&str, u8, u32); 33] = [
         0,
         0,
     ),
+    (
+        r#"{"@name":"a","Health":{"Max":50},"Resist":{"Hack":1}},{"@name":"b","@parent":"a","Resist":{"@disable":1,"Hack":{"@op":"mul","_":"x"}}}"#,
+        0,
+        0,
+    ),
+    (
+        r#"{"@name":"b","@name":"a","Health":5,"Health":{"Max":50}}"#,
+        0,
+        0,
+    ),
+    (
+        r#"{"@name":"a","Train":{"Units":"a b a"}},{"@name":"b","@parent":"a","Train":{"Units":{"@tokens":1,"_":"-a b c"}}},{"@name":"c"}"#,
+        0,
+        0,
+    ),
 ];
 
-// The answer to the match with these templates and no entities.
-fn templates_answer(alloc: Global, items: &str) -> Result<Option<SetupFault>, AllocError> {
+// The match with these templates and no entities.
+fn with_templates(alloc: Global, items: &str) -> Result<String, AllocError> {
     let text = posts_with(alloc, "templates", format!(in alloc; "[{items}]")?.as_str())?;
-    let text = text.replace(alloc, r#"[["post",1,1,1],["post",2,2,2]]"#, "[]")?;
+    text.replace(alloc, r#"[["post",1,1,1],["post",2,2,2]]"#, "[]")
+}
+
+fn templates_answer(alloc: Global, items: &str) -> Result<Option<SetupFault>, AllocError> {
+    let text = with_templates(alloc, items)?;
     Ok(refusal(alloc, text.as_bytes()))
 }
 
 #[test]
-fn refuses_templates(rt: HostRuntime) -> Result<(), Fail> {
+fn templates_are_read_or_refused_by_their_code(rt: HostRuntime) -> Result<(), Fail> {
     let alloc = rt.alloc();
     for (items, code, index) in TEMPLATES.iter() {
         let wanted = if *code == 0 {
@@ -437,6 +499,34 @@ fn refuses_templates(rt: HostRuntime) -> Result<(), Fail> {
             refused(*code, *index)
         };
         assert_eq!(rt; templates_answer(alloc, items)?, wanted, "at {items}");
+    }
+    Ok(())
+}
+
+// A template with so many objects within one another below its root.
+fn nested(alloc: Global, count: usize) -> Result<String, AllocError> {
+    let mut item = String::from_str(alloc, r#"{"@name":"a","b":"#)?;
+    for _ in 0..count {
+        item.push_str(r#"{"c":"#)?;
+    }
+    item.push_str("1}")?;
+    for _ in 0..count {
+        item.push_str("}")?;
+    }
+    Ok(item)
+}
+
+#[test]
+fn a_template_has_32_levels_at_most(rt: HostRuntime) -> Result<(), Fail> {
+    let alloc = rt.alloc();
+    let levels = [(30, refused(7, 0)), (31, refused(2, 16))];
+    for (count, wanted) in levels {
+        let item = nested(alloc, count)?;
+        assert_eq!(rt;
+            templates_answer(alloc, item.as_str())?,
+            wanted,
+            "at {count}"
+        );
     }
     Ok(())
 }
@@ -512,6 +602,26 @@ fn reads_what_is_inherited(rt: HostRuntime) -> Result<(), Fail> {
     let first_read =
         "Items { items: [First { template: 1, owner: 1, at: Point { x: Fixed(65536), z: Fixed(65536) } }, First { template: 0, owner: 0, at: Point { x: Fixed(262143), z: Fixed(0) } }] }";
     assert_eq!(rt; first.as_str(), first_read);
+    Ok(())
+}
+
+#[test]
+fn reads_units_that_are_removed_and_added(rt: HostRuntime) -> Result<(), Fail> {
+    let alloc = rt.alloc();
+    let text = with_templates(
+        alloc,
+        r#"{"@name":"a","Train":{"Units":"a b a"}},{"@name":"b","@parent":"a","Train":{"Units":{"@tokens":1,"_":"-a b c"}}},{"@name":"c"}"#,
+    )?;
+    let Ok(setup) = setup_of(alloc, text.as_bytes()) else {
+        panic!(&rt; "refused");
+    };
+    let mut units = String::new(alloc);
+    for template in setup.templates.as_slice() {
+        let text = format!(in alloc; "{:?};", template.train)?;
+        units.push_str(text.as_str())?;
+    }
+    let units_read = "Some(Items { items: [0, 1, 0] });Some(Items { items: [1, 2] });None;";
+    assert_eq!(rt; units.as_str(), units_read);
     Ok(())
 }
 
