@@ -46,11 +46,10 @@ pub fn put_u64(out: &mut Vec<u8>, value: u64) -> Result<(), OutOfMemory>
 }
 
 /// Appends four bytes, in two's complement.
-#[tactic(auto, unfolding(sim_base::specs::Bytes::i32_bytes))]
+#[tactic(auto, unfolding(sim_base::specs::Bytes::i32_bytes, sim_base::specs::Bytes::u32_bytes))]
 pub fn put_i32(out: &mut Vec<u8>, value: i32) -> Result<(), OutOfMemory>
     ensures ok { OnOk result (out.new.items ≡ out.old.items ++ i32_bytes value) }
     ensures err { OnErr result (out.new.items ≡ out.old.items) }
 {
-    out.extend_from_slice(&value.to_le_bytes())?;
-    Ok(())
+    put_u32(out, value.cast_unsigned())
 }
