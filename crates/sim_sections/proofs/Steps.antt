@@ -13,15 +13,21 @@ pub filter_map_more : {X Y : Type 0} (h : X → Option Y) (xs : List X) (i : ℕ
 filter_map_more h xs i x o lt is o-is =
     rw (take_more xs i x lt, ← is, filter_map-append h (take i xs) (x ∷ []), ← o-is) refl
 
-pub count_some : {X Y : Type 0} (h : X → Option Y) (xs : List X) (i n : ℕ) (x : X) (o : Option Y) → i < length xs → x ≡ get_or xs i x → o ≡ h x → true ≡ is_some o → n ≡ length (filter_map h (take i xs))
+pub count_some : {X Y : Type 0} (h : X → Option Y) (xs : List X) (i n : ℕ) (x : X) → i < length xs → x ≡ get_or xs i x → true ≡ is_some (h x) → n ≡ length (filter_map h (take i xs))
     → n + 1 ≡ length (filter_map h (take (i + 1) xs))
-count_some h xs i n x (Some y) lt is o-is there so_far = rw (filter_map_more h xs i x (Some y) lt is o-is) (omega (arith, so_far, length-append (filter_map h (take i xs)) (y ∷ [])))
-count_some h xs i n x None lt is o-is there so_far = absurd cc
+count_some {Y = Y} h xs i n x lt is there so_far = by (h x) refl there
+  where
+    by : (o : Option Y) → o ≡ h x → true ≡ is_some o → n + 1 ≡ length (filter_map h (take (i + 1) xs))
+    by (Some y) o-is there = rw (filter_map_more h xs i x (Some y) lt is o-is) (omega (arith, so_far, length-append (filter_map h (take i xs)) (y ∷ [])))
+    by None o-is there = absurd cc
 
-pub count_none : {X Y : Type 0} (h : X → Option Y) (xs : List X) (i n : ℕ) (x : X) (o : Option Y) → i < length xs → x ≡ get_or xs i x → o ≡ h x → false ≡ is_some o → n ≡ length (filter_map h (take i xs))
+pub count_none : {X Y : Type 0} (h : X → Option Y) (xs : List X) (i n : ℕ) (x : X) → i < length xs → x ≡ get_or xs i x → false ≡ is_some (h x) → n ≡ length (filter_map h (take i xs))
     → n ≡ length (filter_map h (take (i + 1) xs))
-count_none h xs i n x None lt is o-is there so_far = rw (filter_map_more h xs i x None lt is o-is, append-nil (filter_map h (take i xs))) so_far
-count_none h xs i n x (Some y) lt is o-is there so_far = absurd cc
+count_none {Y = Y} h xs i n x lt is there so_far = by (h x) refl there
+  where
+    by : (o : Option Y) → o ≡ h x → false ≡ is_some o → n ≡ length (filter_map h (take (i + 1) xs))
+    by None o-is there = rw (filter_map_more h xs i x None lt is o-is, append-nil (filter_map h (take i xs))) so_far
+    by (Some y) o-is there = absurd cc
 
 pub bytes_some : {X Y : Type 0} (spelled : Y → List ℕ) (h : X → Option Y) (xs : List X) (i : ℕ) (x : X) (y : Y) (told : List ℕ) → i < length xs → x ≡ get_or xs i x → Some y ≡ h x
     → (told ++ flat_map spelled (filter_map h (take i xs))) ++ spelled y ≡ told ++ flat_map spelled (filter_map h (take (i + 1) xs))

@@ -62,9 +62,12 @@ length-motion_bytes (Going goal way whole) short =
     let rest = flag_bytes whole ++ length way ∷ points in
     omega (arith, length-append (point_bytes goal) rest, length-point_bytes goal, length-append (flag_bytes whole) (length way ∷ points), length-points way)
 
+pub length-moving_bytes : (r : ℕ × Motion) → IsShort r.1 → length (moving_bytes r) ≤ 527
+length-moving_bytes r short = omega (arith, length-append (u32_bytes r.0) (motion_bytes r.1), length-u32_bytes r.0, length-motion_bytes r.1 short)
+
 pub moving_few : (row : Row) → HasShortWay row → IsFew moving_bytes (with_id motion_part row)
 moving_few row short = few_of moving_bytes row.id row.motion (by_part row.motion short)
   where
     by_part : (part : Option Motion) → IfSome part IsShort → IfSome part (λ m. length (moving_bytes (row.id, m)) ≤ 527)
     by_part None h = tt
-    by_part (Some m) h = omega (arith, length-append (u32_bytes row.id) (motion_bytes m), length-u32_bytes row.id, length-motion_bytes m h)
+    by_part (Some m) h = length-moving_bytes (row.id, m) h

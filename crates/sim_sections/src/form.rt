@@ -1,7 +1,7 @@
 //! What the rows of every section have in common. Writers and readers are written once over this trait, so that a new
 //! section is one more form and no change of theirs.
 
-ghost use Rattle.std.specs.Prelude.{◌≡◌, ◌≤◌, ℕ, List, [], ◌++◌, length, Option, Some, IfSome, OnOk};
+ghost use Rattle.std.specs.Prelude.{◌≡◌, ◌≤◌, ℕ, List, [], ◌++◌, length, Option, Some, IfSome, is_some, OnOk};
 ghost use Rattle.sim_base.specs.declared.state.Row.{Row};
 ghost use Rattle.sim_bytes.specs.Reading.{Reader, Reads};
 ghost use Rattle.sim_bytes.specs.Telling.{Tells};
@@ -33,6 +33,10 @@ pub trait RowForm: Sized + Drop {
     fn of(row: &Row) -> Option<Self>
         requires { HasShortWay row.now }
         ensures { result ≡ in_row row.now };
+
+    /// Whether a row of a state has anything in this section.
+    fn is_in(row: &Row) -> bool
+        ensures { result ≡ is_some (in_row row.now) };
 
     /// Takes a row, and may take part of one that is cut short.
     fn take(from: &mut Take<'_>) -> Result<Self, Short>

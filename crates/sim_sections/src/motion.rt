@@ -3,16 +3,16 @@
 
 ghost use Rattle.std.specs.Prelude.{◌≡◌, ◌≤◌, ℕ, List, length, take, OnOk};
 ghost use Rattle.std.specs.List.{flat_map};
-ghost use Rattle.sim_base.specs.Spelling.{point_bytes, motion_bytes};
+ghost use Rattle.sim_base.specs.Spelling.{point_bytes, motion_bytes, moving_bytes};
 ghost use Rattle.sim_base.specs.Bytes.{flag_bytes};
 ghost use Rattle.sim_base.specs.declared.state.Motion.TheVariants.{Still, Going};
 ghost use Rattle.sim_bytes.specs.Reading.{Reads, ReadsBy};
 ghost use Rattle.sim_bytes.specs.Telling.{Tells};
-ghost use Rattle.sim_sections.specs.Rows.{point_at, points_at};
+ghost use Rattle.sim_sections.specs.Rows.{IsShort, point_at, points_at};
 
 use crate::form::RowForm;
 use sim_base::{Fixed, Motion, Point, Row};
-use sim_bytes::{ByteSink, Short, Take, tell_i32, tell_u8, tell_u32};
+use sim_bytes::{Buffer, ByteSink, Short, Take, tell_i32, tell_u8, tell_u32};
 use std::marker::Model;
 
 /// Whether an entity moves: one that does not has no goal, no way and is not whole. The way is the first `count` points.
@@ -70,11 +70,13 @@ fn take_way(from: &mut Take<'_>, count: usize) -> Result<[Point; 64], Short>
 }
 
 /// Tells a point.
+#[tactic(auto, unfolding(sim_base::specs::Bytes::i32_bytes))]
 pub fn tell_point<K: ByteSink>(out: &mut K, point: Point) -> Result<(), K::Fault>
     ensures { OnOk result (Tells K.holds out.old out.new (point_bytes point)) }
 {
-    tell_i32(out, point.x.raw())?;
-    tell_i32(out, point.z.raw())
+    let [a, b, c, d] = point.x.raw().to_le_bytes();
+    let [e, f, g, h] = point.z.raw().to_le_bytes();
+    out.tell(&[a, b, c, d, e, f, g, h])
 }
 
 fn tell_points<K: ByteSink>(out: &mut K, points: &[Point]) -> Result<(), K::Fault>
@@ -120,6 +122,19 @@ fn tell_still<K: ByteSink>(out: &mut K) -> Result<(), K::Fault>
     tell_i32(out, 0)?;
     tell_flag(out, false)?;
     tell_u8(out, 0)
+}
+
+// Tells a row piece by piece, up to 66 of them. They are gathered before they go further.
+fn tell_pieces<K: ByteSink>(out: &mut K, row: &MotionRow) -> Result<(), K::Fault>
+    ensures told { OnOk result (Tells K.holds out.old out.new (moving_bytes row.now)) }
+    ensures short { IsShort row.now.1 }
+{
+    tell_u32(out, row.id)?;
+    if row.going {
+        tell_going(out, row.goal, row.whole, &row.way[..row.count])
+    } else {
+        tell_still(out)
+    }
 }
 
 impl RowForm for MotionRow {
@@ -168,6 +183,10 @@ impl RowForm for MotionRow {
         }
     }
 
+    fn is_in(row: &Row) -> bool {
+        row.motion.is_some()
+    }
+
     #[tactic(auto, unfolding(crate::specs::Rows::moving_at, crate::specs::Rows::motion_at))]
     fn take(from: &mut Take<'_>) -> Result<MotionRow, Short> {
         let id = from.u32()?;
@@ -191,11 +210,10 @@ impl RowForm for MotionRow {
     }
 
     fn tell<K: ByteSink>(&self, out: &mut K) -> Result<(), K::Fault> {
-        tell_u32(out, self.id)?;
-        if self.going {
-            tell_going(out, self.goal, self.whole, &self.way[..self.count])
-        } else {
-            tell_still(out)
+        let mut gathered = Buffer::<527>::new();
+        match tell_pieces(&mut gathered, self) {
+            Ok(()) => out.tell(gathered.bytes()),
+            Err(never) => match never {},
         }
     }
 

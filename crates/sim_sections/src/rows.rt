@@ -49,6 +49,10 @@ impl RowForm for EntityRow {
         })
     }
 
+    fn is_in(_: &Row) -> bool {
+        true
+    }
+
     #[tactic(auto, unfolding(crate::specs::Rows::entity_at))]
     fn take(from: &mut Take<'_>) -> Result<EntityRow, Short> {
         let id = from.u32()?;
@@ -109,6 +113,10 @@ impl RowForm for PositionRow {
             id: row.id,
             at: row.at,
         })
+    }
+
+    fn is_in(_: &Row) -> bool {
+        true
     }
 
     #[tactic(auto, unfolding(crate::specs::Rows::position_at))]
@@ -179,6 +187,10 @@ impl RowForm for OwnerRow {
         })
     }
 
+    fn is_in(_: &Row) -> bool {
+        true
+    }
+
     #[tactic(auto, unfolding(crate::specs::Rows::owner_at))]
     fn take(from: &mut Take<'_>) -> Result<OwnerRow, Short> {
         let id = from.u32()?;
@@ -237,6 +249,10 @@ impl RowForm for HealthRow {
             None => None,
             Some(health) => Some(HealthRow { id: row.id, health }),
         }
+    }
+
+    fn is_in(row: &Row) -> bool {
+        row.health.is_some()
     }
 
     #[tactic(auto, unfolding(crate::specs::Rows::health_at))]
@@ -306,6 +322,10 @@ impl RowForm for AttackRow {
                 cooldown: aim.cooldown,
             }),
         }
+    }
+
+    fn is_in(row: &Row) -> bool {
+        row.attack.is_some()
     }
 
     #[tactic(auto, unfolding(crate::specs::Rows::attack_at))]

@@ -14,13 +14,12 @@ use sim_bytes::{ByteSink, Short, Take, tell_u8, tell_u32};
 
 // How many rows have this part.
 fn count<R: RowForm>(rows: &[Row]) -> usize
-    requires { All HasShortWay rows.now }
     ensures value { result ≡ length (filter_map R.in_row rows.now) }
     ensures few { result ≤ length rows.now }
 {
     let mut found = 0usize;
     for row in rows {
-        if R::of(row).is_some() {
+        if R::is_in(row) {
             found += 1;
         }
     }

@@ -2,16 +2,16 @@
 use Rattle.std.proofs.Common.{arith, ◌∙◌}
 use Rattle.sim_sections.proofs.Steps.{count_some, count_none}
 use Rattle.sim_sections.proofs.section.count.Goals as goal
-use Rattle.sim_sections.proofs.section.count.Goals.{then-is_some, else-is_some}
+use Rattle.sim_sections.proofs.section.count.Goals.{then-is_in, else-is_in}
 
 pub loop-row-preserved : goal.loop-row-preserved
-loop-row-preserved g c = elim c.if-is_some.branch [
-  | then-is_some w ↦ record {
-    found = w.found-is ∙ count_some g.R.RowForm.in_row c.args.rows.now c.loop-row.row-index c.loop-row.found c.row-item.result c.of.result c.loop-row-test.true c.row-item.is c.of.ensures w.if-is_some.ensures c.loop-row.invariant.found;
+loop-row-preserved g c = elim c.if-is_in.branch [
+  | then-is_in w ↦ record {
+    found = w.found-is ∙ count_some g.R.RowForm.in_row c.args.rows.now c.loop-row.row-index c.loop-row.found c.row-item.result c.loop-row-test.true c.row-item.is w.if-is_in.ensures c.loop-row.invariant.found;
     few = omega (arith, w.found-is, c.loop-row.invariant.few);
   }
-  | else-is_some w ↦ record {
-    found = w.found-is ∙ count_none g.R.RowForm.in_row c.args.rows.now c.loop-row.row-index c.loop-row.found c.row-item.result c.of.result c.loop-row-test.true c.row-item.is c.of.ensures w.if-is_some.ensures c.loop-row.invariant.found;
+  | else-is_in w ↦ record {
+    found = w.found-is ∙ count_none g.R.RowForm.in_row c.args.rows.now c.loop-row.row-index c.loop-row.found c.row-item.result c.loop-row-test.true c.row-item.is w.if-is_in.ensures c.loop-row.invariant.found;
     few = omega (arith, w.found-is, c.loop-row.invariant.few);
   }
 ]
