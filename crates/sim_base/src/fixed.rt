@@ -97,3 +97,48 @@ fn wide_quotient(a: i32, b: i32) -> i64
 {
     i64::from(a) * 65536 / i64::from(b)
 }
+
+#[cfg(test)]
+mod tests {
+    use super::*;
+    use std::test::Fail;
+
+    // Two raws, and those of their sum and their difference.
+    #[test]
+    fn adds_and_subtracts(rt: HostRuntime) -> Result<(), Fail> {
+        let cases = [
+            (98304, -163840, Some(-65536), Some(262144)),
+            (i32::MAX, 1, None, Some(2147483646)),
+            (i32::MIN, 1, Some(-2147483647), None),
+        ];
+        for (a, b, sum, difference) in cases {
+            let x = Fixed::from_raw(a);
+            let y = Fixed::from_raw(b);
+            assert_eq!(rt; x.checked_add(y).map(Fixed::raw), sum, "{a} and {b}");
+            assert_eq!(rt; x.checked_sub(y).map(Fixed::raw), difference, "{a} and {b}");
+        }
+        Ok(())
+    }
+
+    // Two raws, and those of their product and their quotient.
+    #[test]
+    fn multiplies_and_divides(rt: HostRuntime) -> Result<(), Fail> {
+        let cases = [
+            (98304, 98304, Some(147456), Some(65536)),
+            (-1, 32768, Some(-1), Some(-2)),
+            (65536, 196608, Some(196608), Some(21845)),
+            (-1, 131072, Some(-2), Some(0)),
+            (i32::MIN, -65536, None, None),
+            (98304, 0, Some(0), None),
+            (0, 0, Some(0), None),
+            (i32::MAX, 131072, None, Some(1073741823)),
+        ];
+        for (a, b, product, quotient) in cases {
+            let x = Fixed::from_raw(a);
+            let y = Fixed::from_raw(b);
+            assert_eq!(rt; x.checked_mul(y).map(Fixed::raw), product, "{a} and {b}");
+            assert_eq!(rt; x.checked_div(y).map(Fixed::raw), quotient, "{a} and {b}");
+        }
+        Ok(())
+    }
+}
