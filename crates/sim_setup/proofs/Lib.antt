@@ -1,5 +1,6 @@
 pub mod Tally
 pub mod Refused
+pub mod Falls
 pub mod LandLimits
 pub mod TemplateLimits
 pub mod EntityLimits

@@ -1,7 +1,8 @@
 -- What the index of a refusal says of a list, for each list of a match file.
-use Rattle.std.specs.Prelude.{◌≡◌, ℕ, List, [], Err}
+use Rattle.std.specs.Prelude.{◌≡◌, ℕ, zero, suc, ◌<◌, nat_lt, Bool, true, false, List, [], ◌∷◌, map, Some, Err}
 use Rattle.serde_json.specs.Data.{Data}
 use Rattle.sim_base.specs.declared.setup.Land.{Land}
+use Rattle.sim_base.specs.declared.setup.Timed.{Timed}
 use Rattle.sim_json.specs.Records.{numbered}
 use Rattle.sim_json.specs.Least.{IsLeast}
 use Rattle.sim_tree.specs.Trees.{Node}
@@ -9,7 +10,7 @@ use Rattle.sim_tree.specs.Sources.{Origin}
 use Rattle.sim_setup.specs.Sources.{source_of}
 use Rattle.sim_setup.specs.Templates.{next_template}
 use Rattle.sim_setup.specs.Entities.{first_of}
-use Rattle.sim_setup.specs.Commands.{timed_of}
+use Rattle.sim_setup.specs.Commands.{timed_of, falls_at}
 
 abbrev pub SourceIndexIsLeast : Type 0
 SourceIndexIsLeast = (ds : List Data) (i : ℕ) → numbered (λ done. source_of) [] ds ≡ Err i → IsLeast (λ done. source_of) [] ds i
@@ -25,3 +26,20 @@ EntityIndexIsLeast = (names : List (List ℕ)) (land : Land) (players : ℕ) (ds
 abbrev pub CommandIndexIsLeast : Type 0
 CommandIndexIsLeast = (turns players : ℕ) (ds : List Data) (i : ℕ)
     → numbered (timed_of turns players) [] ds ≡ Err i → IsLeast (timed_of turns players) [] ds i
+
+abbrev pub turns_of : List Timed → List ℕ
+turns_of commands = map (λ (timed : Timed). timed.turn) commands
+
+-- the turn at a place is less than the one before it, which is `before` for the first
+abbrev pub falls : ℕ → List ℕ → ℕ → Bool
+falls before [] i = false
+falls before (turn ∷ turns) zero = nat_lt turn before
+falls before (turn ∷ turns) (suc i) = falls turn turns i
+
+-- a turn falls at this place, and none does at a lesser one
+pub record IsLeastFall (turns : List ℕ) (i : ℕ) : Type 0 where
+  pub here : falls 0 turns i ≡ true
+  pub none_before : (j : ℕ) → j < i → falls 0 turns j ≡ false
+
+abbrev pub FallIndexIsLeast : Type 0
+FallIndexIsLeast = (commands : List Timed) (i : ℕ) → falls_at 0 0 commands ≡ Some i → IsLeastFall (turns_of commands) i

@@ -2,8 +2,9 @@
 //! refused.
 //!
 //! It promises that the answer is exactly that of its definition, that every setup meets the limits that the crates
-//! above count on, and that the index of a refusal is the least. It stands on `serde_json` for the text, on `md5` for
-//! the id of a match, on `sim_json` for values, and on `sim_tree`, `sim_merge` and `sim_traits` for templates. So far
+//! above count on, and that the index of a refusal is the least. It stands on `sim_base` for what a setup is, on
+//! `serde_json` for the text, on `md5` for the id of a match, on `sim_json` for values, and on `sim_tree`, `sim_merge`
+//! and `sim_traits` for templates. So far
 //! templates neither move nor fight, and commands delete.
 //!
 //! One module has the passes of one code or key, in the order in which they run:
@@ -36,7 +37,8 @@ mod templates;
 
 pub use fault::SetupFault;
 pub use laws::{
-    command_index_is_least, entity_index_is_least, source_index_is_least, template_index_is_least,
+    command_index_is_least, entity_index_is_least, fall_index_is_least, source_index_is_least,
+    template_index_is_least,
 };
 pub use passes::setup_of;
 

@@ -1,7 +1,10 @@
 //! Match files that are read or refused. The codes and indices are those of the format's table, seen again in another
 //! program's answers.
 
-use crate::{SetupFault, setup_of};
+use crate::{
+    SetupFault, command_index_is_least, entity_index_is_least, fall_index_is_least, setup_of,
+    source_index_is_least, template_index_is_least,
+};
 use std::alloc::{AllocError, Global};
 use std::test::Fail;
 
@@ -645,4 +648,13 @@ fn counts_commands_by_player_and_turn(rt: HostRuntime) -> Result<(), Fail> {
     )?;
     assert_eq!(rt; refusal(alloc, text.as_bytes()), refused(9, 66));
     Ok(())
+}
+
+#[test]
+fn the_laws_of_the_least_index_hold() {
+    source_index_is_least();
+    template_index_is_least();
+    entity_index_is_least();
+    command_index_is_least();
+    fall_index_is_least();
 }
