@@ -1,8 +1,9 @@
 -- The bytes of a valid state are read as that state.
-use Rattle.std.proofs.Common.{◌≡◌, ℕ, suc, ◌+◌, ◌^◌, ◌<◌, ◌≤◌, false, List, [], ◌∷◌, ◌++◌, length, Option, Some, None, refl, sym, ap, ◌∙◌, append_assoc, arith, ℤ, subst}
+use Rattle.std.proofs.Common.{◌≡◌, ℕ, suc, ◌+◌, ◌^◌, ◌<◌, ◌≤◌, false, ltb, List, [], ◌∷◌, ◌++◌, length, Option, Some, None, refl, sym, ap, ◌∙◌, append_assoc, arith, ℤ, subst}
 use Rattle.std.specs.Prelude.{IfSome, FitsSigned, MatchOption, is_some, slice_get, option_map}
 use Rattle.std.specs.Int.{w32}
 use Rattle.std.specs.List.{flat_map, cons_option, AllByRecursion}
+use Rattle.std.proofs.lemmas.Bool.{le-ltb}
 use Rattle.std.proofs.lemmas.List.{append-nil}
 use Rattle.std.proofs.lemmas.List.Elements.{recursion_from_All}
 use Rattle.sim_base.specs.declared.state.Row.{Row}
@@ -254,6 +255,7 @@ state_back setup s is valid =
     let turn : s.turn < 2 ^ 32 = omega (arith, valid.turn, is.turns) in
     let next : s.next < 2 ^ 32 = omega (arith, valid.next.1) in
     let word : s.word < 2 ^ 64 = omega (arith, valid.word) in
+    let few : ltb 4096 (length s.rows) ≡ false = le-ltb 4096 (length s.rows) valid.few in
     let regrouped : clock_bytes s ++ sections s.rows ≡ u32_bytes s.turn ++ (u32_bytes s.next ++ (u64_bytes s.word ++ sections s.rows)) =
     append_assoc (u32_bytes s.turn) (u32_bytes s.next ++ u64_bytes s.word) (sections s.rows) ∙ ap (λ (x : List ℕ). u32_bytes s.turn ++ x) (append_assoc (u32_bytes s.next) (u64_bytes s.word) (sections s.rows)) in
-    ap (state_at setup) regrouped ∙ rw (u32_back s.turn (u32_bytes s.next ++ (u64_bytes s.word ++ sections s.rows)) turn, u32_back s.next (u64_bytes s.word ++ sections s.rows) next, u64_back s.word (sections s.rows) word, found.1, rows.1) refl
+    ap (state_at setup) regrouped ∙ rw (u32_back s.turn (u32_bytes s.next ++ (u64_bytes s.word ++ sections s.rows)) turn, u32_back s.next (u64_bytes s.word ++ sections s.rows) next, u64_back s.word (sections s.rows) word, found.1, few, rows.1) refl

@@ -1,5 +1,5 @@
 -- In a state that is valid, or loosely valid, no way is too long to be told.
-use Rattle.std.proofs.Common.{◌≡◌, ℕ, ◌≤◌, ◌<◌, ◌^◌, List, length, get_or, All, Option, Some, None, refl, arith}
+use Rattle.std.proofs.Common.{ℕ, ◌<◌, ◌^◌, List, length, get_or, All, Option, Some, None, arith}
 use Rattle.std.specs.Prelude.{IfSome, MatchOption, slice_get}
 use Rattle.sim_base.specs.declared.setup.Setup.{Setup}
 use Rattle.sim_base.specs.declared.state.Motion.{Motion}
@@ -7,7 +7,7 @@ use Rattle.sim_base.specs.declared.state.Motion.TheVariants.{Still, Going}
 use Rattle.sim_base.specs.declared.state.Row.{Row}
 use Rattle.sim_base.specs.declared.state.State.{State}
 use Rattle.sim_base.specs.declared.template.Template.{Template}
-use Rattle.sim_base.specs.Validity.{Both, IsValidMotion, IsValidRow, IsKnownRow, IsState}
+use Rattle.sim_base.specs.Validity.{Both, IsValidMotion, IsValidRow, IsState}
 use Rattle.sim_sections.specs.Rows.{IsShort, HasShortWay}
 
 by_motion : {X : Type 0} (setup : Setup) (motion : Option Motion) (speed : Option X) → Both motion speed (λ motion speed. IsValidMotion setup motion) → IfSome motion IsShort

@@ -1,5 +1,5 @@
 -- A state as it is read: the numbers of the clock, then the sections, and then each row put together from all of them.
-use Rattle.std.specs.Prelude.{◌≡◌, ℕ, zero, suc, List, [], ◌∷◌, Option, Some, None, Result, Ok, Err}
+use Rattle.std.specs.Prelude.{◌≡◌, ℕ, zero, suc, nat_lt, if◌then◌else◌, List, [], ◌∷◌, Option, Some, None, Result, Ok, Err}
 use Rattle.std.specs.Int.{w32, w64}
 use Rattle.sim_base.specs.declared.state.Row.{Row}
 use Rattle.sim_base.specs.declared.state.State.{State}
@@ -20,11 +20,11 @@ unfoldable pub rows_at : List Template → ℕ → Walk → Option (List Row × 
 rows_at templates zero w = Some ([], w)
 rows_at templates (suc n) w = row_at templates w >>= λ r. rows_at templates n r.1 >>= λ rs. Some (r.0 ∷ rs.0, rs.1)
 
--- the state behind the id of the match; what follows its rows is not looked at
+-- the state behind the id of the match, if it has few rows; what follows its rows is not looked at
 unfoldable pub state_at : Setup → List ℕ → Option State
 state_at setup bytes =
     number_at w32 bytes >>= λ turn. number_at w32 turn.1 >>= λ next. number_at w64 next.1 >>= λ word. sections_at word.1 >>= λ found.
-    rows_at setup.templates found.0.0 found.0.1 >>= λ rs. Some (record { turn = turn.0; next = next.0; word = word.0; rows = rs.0 })
+    if nat_lt 4096 found.0.0 then None else rows_at setup.templates found.0.0 found.0.1 >>= λ rs. Some (record { turn = turn.0; next = next.0; word = word.0; rows = rs.0 })
 
 -- a call fails for want of memory, or because there is nothing to be read
 abbrev pub Fails : {X : Type 0} → Option X → StateFault → Type 0

@@ -1,13 +1,13 @@
 //! Rows and a state as they are read: the readers in the sections go on together, and each row gets memory of its own.
 
-ghost use Rattle.std.specs.Prelude.{◌≡◌, IfOk};
+ghost use Rattle.std.specs.Prelude.{◌≡◌, false, IfOk};
 ghost use Rattle.sim_sections.specs.Walking.{row_of};
 ghost use Rattle.sim_codec.specs.Reading.{row_at, rows_at, state_at, Gives, GivesState};
 
 use crate::fault::StateFault;
 use sim_base::{Aim, Items, Motion, Row, Rows, Setup, State, Template};
 use sim_bytes::Take;
-use sim_sections::{MotionRow, Parts, Walk, locate, take_parts};
+use sim_sections::{AttackRow, MotionRow, Parts, Walk, locate, take_parts};
 use std::alloc::{AllocError, Global};
 
 // A motion, its way in memory of its own.
@@ -25,6 +25,17 @@ fn motion_of(alloc: Global, row: MotionRow) -> Result<Motion, AllocError>
     })
 }
 
+// Whom it attacks. No bytes say whether it holds its place.
+fn aim_of(row: AttackRow) -> Aim
+    ensures { result ≡ record { target = row.1.0; cooldown = row.1.1; hold = false } }
+{
+    Aim {
+        target: row.target,
+        cooldown: row.cooldown,
+        hold: false,
+    }
+}
+
 fn row_from(alloc: Global, parts: Parts) -> Result<Row, AllocError>
     ensures { IfOk result (λ row. row ≡ row_of parts) }
 {
@@ -40,26 +51,14 @@ fn row_from(alloc: Global, parts: Parts) -> Result<Row, AllocError>
         None => None,
         Some(row) => Some(motion_of(alloc, row)?),
     };
-    let health = match health {
-        None => None,
-        Some(row) => Some(row.health),
-    };
-    let attack = match attack {
-        None => None,
-        Some(row) => Some(Aim {
-            target: row.target,
-            cooldown: row.cooldown,
-            hold: false,
-        }),
-    };
     Ok(Row {
         id: entity.id,
         template: entity.template,
         at: position.at,
         owner: owner.owner,
-        health,
+        health: health.map(|row| row.health),
         motion,
-        attack,
+        attack: attack.map(aim_of),
     })
 }
 
@@ -96,6 +95,10 @@ pub fn state_from(alloc: Global, setup: &Setup, bytes: &[u8]) -> Result<State, S
     let next = from.u32()?;
     let word = from.u64()?;
     let (count, mut walk) = locate(&mut from)?;
+    // A valid state has no more, so that no memory is taken for others.
+    if count > 4096 {
+        return Err(StateFault::Grammar);
+    }
     let rows = rows_from(alloc, setup.templates.as_slice(), count, &mut walk)?;
     Ok(State {
         turn,
