@@ -4,17 +4,22 @@
 ghost use Rattle.std.specs.Prelude.{◌≡◌, ◌↔◌, IsTrue, drop, None, Some, IfOk, IfErr, MatchResult};
 ghost use Rattle.sim_base.specs.declared.state.State.{State};
 ghost use Rattle.sim_base.specs.Limits.{IsSetup};
-ghost use Rattle.sim_codec.specs.Loading.{head_fault, StandsFor, Loads, RefusedFor};
+ghost use Rattle.sim_codec.specs.Loading.{start_bytes, head_fault, StandsFor, Loads, RefusedFor};
 
 use crate::fault::StateFault;
 use crate::reading::state_from;
-use crate::spelling::is_spelled;
+use crate::spelling::{VERSION, is_spelled};
 use crate::validity::is_valid;
 use sim_base::{Setup, State};
 use std::alloc::Global;
 
-// The magic "RSIM" and the version 1.
-const START: [u8; 8] = [82, 83, 73, 77, 1, 0, 0, 0];
+// The magic "RSIM" and the version.
+fn start_of_state() -> [u8; 8]
+    ensures { result ≡ start_bytes }
+{
+    let [a, b, c, d] = VERSION.to_le_bytes();
+    [82, 83, 73, 77, a, b, c, d]
+}
 
 // What follows the magic, the version and the id of the match.
 #[tactic(auto, unfolding(crate::specs::Loading::head_fault))]
@@ -25,7 +30,7 @@ fn behind_head<'a>(setup: &Setup, bytes: &'a [u8]) -> Result<&'a [u8], StateFaul
         return Err(StateFault::NotState);
     }
     let (start, after) = bytes.split_at(8);
-    if start != START.as_slice() {
+    if start != start_of_state().as_slice() {
         return Err(StateFault::NotState);
     }
     let (id, rest) = after.split_at(16);

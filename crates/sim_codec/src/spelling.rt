@@ -14,8 +14,8 @@ use sim_sections::{
 };
 use std::alloc::Global;
 
-// The version of the layout.
-const VERSION: u32 = 1;
+/// The version of the layout.
+pub const VERSION: u32 = 1;
 
 /// Tells the turn, the next id and the word.
 pub fn tell_clock<K: ByteSink>(out: &mut K, state: &State) -> Result<(), K::Fault>
