@@ -1,8 +1,8 @@
 //! The texts that the program prints, each appended to a text just as its definition says.
 //!
 //! It promises the exact bytes, and nothing of how they come out. Each call that appends answers want of memory alone,
-//! and the text is then as it was. It stands on the records of `sim_base`, on `sim_codec` and `sim_diff` for the place at
-//! which two states differ, and on `sim_bytes` for bytes in hexadecimal.
+//! and the text is then as it was. It stands on the records of `sim_base`, on `sim_codec` and `sim_diff` for the place
+//! at which two states differ, and on `sim_bytes` for bytes in hexadecimal.
 //!
 //! - `line`: how the program is called, and the lines of a turn and of a stored state.
 //! - `show`: a state, row by row.

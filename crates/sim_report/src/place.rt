@@ -8,8 +8,8 @@ use sim_bytes::push_hex;
 use sim_codec::{Bits, Part};
 use sim_diff::Place;
 
-/// Appends a place at which two states differ, with what the left and the right one have there, or leaves the text as it
-/// was.
+/// Appends a place at which two states differ, with what the left and the right one have there, or leaves the text as
+/// it was.
 pub fn push_place(place: &Place, out: &mut String) -> Result<(), OutOfMemory>
     ensures ok { OnOk result (string_bytes out.new ≡ string_bytes out.old ++ place_text place.now) }
     ensures err { OnErr result (string_bytes out.new ≡ string_bytes out.old) }
@@ -20,7 +20,7 @@ pub fn push_place(place: &Place, out: &mut String) -> Result<(), OutOfMemory>
     Ok(())
 }
 
-// After an error a part of the lines may stand there, here and below.
+// The lines are written as a text of their own, of which nothing is said after an error, here and below.
 fn write_place(place: &Place, lines: &mut String) -> Result<(), OutOfMemory>
     ensures { OnOk result (string_bytes lines.new ≡ string_bytes lines.old ++ place_text place.now) }
 {

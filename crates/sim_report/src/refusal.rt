@@ -27,7 +27,7 @@ pub fn push_refusal(refusal: &Refusal, out: &mut String) -> Result<(), OutOfMemo
     Ok(())
 }
 
-// After an error nothing is said of the line.
+// The line is written as a text of its own, of which nothing is said after an error.
 fn write_refusal(refusal: &Refusal, line: &mut String) -> Result<(), OutOfMemory>
     ensures { OnOk result (string_bytes line.new ≡ string_bytes line.old ++ refusal_text refusal.now) }
 {
