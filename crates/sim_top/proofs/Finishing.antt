@@ -146,8 +146,7 @@ told_meets result status words files text saved before now silent h counts (inr 
 pub gave_then_unsaved : (old middle new : Counts) → OnlyGave old middle → Rose middle.write_faults new.write_faults → new ≡ record middle { write_faults = new.write_faults } → GaveThenUnsaved old new
 gave_then_unsaved old middle new gave rose is =
     let given : new.given ≡ middle.given = ap (λ (c : Counts). c.given) is in
-    let written : middle.write_faults ≡ old.write_faults = ap (λ (c : Counts). c.write_faults) gave.1 in
-    (
+    let written : middle.write_faults ≡ old.write_faults = ap (λ (c : Counts). c.write_faults) gave.1 in (
       omega (arith, given, gave.0),
       subst (λ (n : ℕ). Rose n new.write_faults) written rose,
       is ∙ ap (λ (c : Counts). record c { write_faults = new.write_faults }) gave.1 ∙ ap (λ (n : ℕ). record old { given = n; write_faults = new.write_faults }) (sym given),

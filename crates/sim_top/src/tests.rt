@@ -431,7 +431,10 @@ fn every_call_of_the_shelf_may_fail(rt: HostRuntime) -> Result<(), Fail> {
             assert_eq!(rt; ended, fault, "for {words:?} at call {call}");
             assert!(rt; out.told().is_empty(), "for {words:?} at call {call}");
             assert!(rt; are_inputs_kept(&shelf), "for {words:?} at call {call}");
-            assert!(rt; is_saved_in_part(&shelf, saved), "for {words:?} at call {call}");
+            assert!(rt;
+                is_saved_in_part(&shelf, saved),
+                "for {words:?} at call {call}"
+            );
             let (again, out) = ran_over(rt.alloc(), words, &mut shelf, 0)?;
             assert_eq!(rt; again, Status::Done, "for {words:?} after call {call}");
             assert_eq!(rt; out.told(), whole.told(), "for {words:?} after call {call}");
@@ -451,10 +454,16 @@ fn every_write_of_the_sink_may_fail(rt: HostRuntime) -> Result<(), Fail> {
             let mut shelf = four_files(rt.alloc(), 0)?;
             let (ended, out) = ran_over(rt.alloc(), words, &mut shelf, write)?;
             assert_eq!(rt; ended, Status::WriteFault, "for {words:?} at write {write}");
-            assert!(rt; whole.told().starts_with(out.told()), "for {words:?} at write {write}");
+            assert!(rt;
+                whole.told().starts_with(out.told()),
+                "for {words:?} at write {write}"
+            );
             assert!(rt; are_inputs_kept(&shelf), "for {words:?} at write {write}");
             let held = saved.unwrap_or(BEFORE);
-            assert!(rt; has_file(&shelf, "s", held), "for {words:?} at write {write}");
+            assert!(rt;
+                has_file(&shelf, "s", held),
+                "for {words:?} at write {write}"
+            );
         }
     }
     Ok(())

@@ -31,7 +31,7 @@ pub fn run<S: Shelf, K: Sink>(alloc: Global, words: &[String], shelf: &mut S, ou
     // Where each file that is read is good and no fault is counted, the command comes to its end, or there is no memory.
     ensures complete { IfSome (S.held shelf.old) (λ files. IsReady files (asked_by (words_of words.now))
         → IsFaultless (scene (S.held shelf.old) (K.told out.old) (S.counts shelf.old) (K.faults out.old))
-            (scene (S.held shelf.new) (K.told out.new) (S.counts shelf.new) (K.faults out.new))
+        (scene (S.held shelf.new) (K.told out.new) (S.counts shelf.new) (K.faults out.new))
         → IsFinal result) }
 
     // Where the shelf tells nothing, this much of it is still known.
@@ -57,14 +57,14 @@ fn finish<S: Shelf, K: Sink>(shelf: &mut S, out: &mut K, answer: &Answer<'_>) ->
     requires silent { IsSilent answer.now.status → string_bytes answer.now.text ≡ [] }
     ensures answers { (words : List (List ℕ)) (before : AllCounts) → CountsBefore answer.now.status before (S.counts shelf.old)
         → IfSome (S.held shelf.old) (λ files. MeetsBefore answer.now.status words files (string_bytes answer.now.text) (option_map file_of answer.now.saved)
-            → Meets result words files (scene (S.held shelf.old) (K.told out.old) before (K.faults out.old))
-                (scene (S.held shelf.new) (K.told out.new) (S.counts shelf.new) (K.faults out.new))) }
+        → Meets result words files (scene (S.held shelf.old) (K.told out.old) before (K.faults out.old))
+        (scene (S.held shelf.new) (K.told out.new) (S.counts shelf.new) (K.faults out.new))) }
     ensures usage { result ≡ Status.Usage → answer.now.status ≡ Status.Usage }
     ensures unasked { IsForNoWords answer.now.status → IsForNoWords result }
     ensures silent { IsSilent result → Appends (K.told out.old) (K.told out.new) [] }
     ensures causes { (before : AllCounts) → CountsBefore answer.now.status before (S.counts shelf.old)
         → Causes result (scene (S.held shelf.old) (K.told out.old) before (K.faults out.old))
-            (scene (S.held shelf.new) (K.told out.new) (S.counts shelf.new) (K.faults out.new)) }
+        (scene (S.held shelf.new) (K.told out.new) (S.counts shelf.new) (K.faults out.new)) }
     ensures unsaved { answer.now.saved ≡ None → S.counts shelf.new ≡ S.counts shelf.old }
     ensures others { (name : Option (List ℕ)) → IsSavedAs name answer.now.saved → KeepsAllBut name (S.held shelf.old) (S.held shelf.new) }
 {

@@ -8,8 +8,8 @@ ghost use Rattle.sim_base.specs.Limits.{IsLand, IsSetup, IsTemplate};
 ghost use Rattle.sim_base.specs.Validity.{IsValid};
 
 use sim_base::{
-    Aim, Arms, Fixed, Harm, Items, Land, Motion, Name, OutOfMemory, Point, Resist, Row, Setup, State,
-    Template,
+    Aim, Arms, Fixed, Harm, Items, Land, Motion, Name, OutOfMemory, Point, Resist, Row, Setup,
+    State, Template,
 };
 use sim_codec::{digest, is_valid, load, spell};
 use sim_diff::difference;
@@ -85,7 +85,11 @@ fn measure_all(
     requires state { IsValid setup.now state.now }
     requires other { IsValid setup.now other.now }
 {
-    println!(rt; "{} bytes, {} rows", bytes.len(), state.rows.as_slice().len())?;
+    println!(rt;
+        "{} bytes, {} rows",
+        bytes.len(),
+        state.rows.as_slice().len()
+    )?;
     for work in WORKS {
         let best = best_of_calls(rt, work, setup, bytes, state, other)?;
         println!(rt; "{work:?}: {best} us")?;
