@@ -1,20 +1,17 @@
 -- Worked matches, by computation: what turns make of a few rows, and the bytes of small states. Each value is one that was worked out by
 -- hand, so that a definition that says something else is refused here.
-use Rattle.std.proofs.Common.{◌≡◌, ℕ, ◌*◌, ◌+◌, ℤ, pos, negsuc, refl, Some, None, List, [], ◌∷◌, ◌++◌, Bool, true, false, Option, length}
+use Rattle.std.proofs.Common.{◌≡◌, ℕ, ◌*◌, ◌+◌, pos, refl, Some, None, List, [], ◌∷◌, false}
 use Rattle.std.specs.Prelude.{codes, map}
 use Rattle.std.specs.List.{range_with_len}
 use Rattle.sim_base.specs.declared.place.Point.{Point}
 use Rattle.sim_base.specs.declared.template.Template.{Template}
-use Rattle.sim_base.specs.declared.template.Resist.{Resist}
-use Rattle.sim_base.specs.declared.template.Arms.{Arms}
 use Rattle.sim_base.specs.declared.template.Harm.{Harm}
 use Rattle.sim_base.specs.declared.command.Command.{Command}
-use Rattle.sim_base.specs.declared.command.Command.TheVariants.{Walk, Stop, Attack, Delete, Place, Train, Resign}
+use Rattle.sim_base.specs.declared.command.Command.TheVariants.{Attack, Delete, Place, Train, Resign}
 use Rattle.sim_base.specs.declared.command.PlayerCommand.{PlayerCommand}
 use Rattle.sim_base.specs.declared.setup.First.{First}
 use Rattle.sim_base.specs.declared.setup.Setup.{Setup}
-use Rattle.sim_base.specs.declared.state.Motion.{Motion}
-use Rattle.sim_base.specs.declared.state.Motion.TheVariants.{Still, Going}
+use Rattle.sim_base.specs.declared.state.Motion.TheVariants.{Still}
 use Rattle.sim_base.specs.declared.state.Row.{Row}
 use Rattle.sim_base.specs.declared.state.State.{State}
 use Rattle.sim_base.specs.Hit.{no_resist}

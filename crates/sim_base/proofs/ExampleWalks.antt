@@ -1,15 +1,13 @@
 -- Worked matches with a walker, by computation. The root stays closed, and is given by its square and the next one.
-use Rattle.std.proofs.Common.{◌≡◌, ℕ, ◌*◌, ◌+◌, ℤ, pos, negsuc, refl, ap, ◌∙◌, fold, Some, None, List, [], ◌∷◌, ◌++◌, Bool, true, false, Option, length, lit≤, lit<}
+use Rattle.std.proofs.Common.{◌≡◌, ℕ, refl, ap, ◌∙◌, fold, Some, List, [], ◌∷◌, true, false, lit≤, lit<}
 use Rattle.sim_base.specs.declared.place.Point.{Point}
 use Rattle.sim_base.specs.declared.command.Command.TheVariants.{Walk, Place}
 use Rattle.sim_base.specs.declared.command.PlayerCommand.{PlayerCommand}
 use Rattle.sim_base.specs.declared.setup.Setup.{Setup}
-use Rattle.sim_base.specs.declared.state.Motion.{Motion}
-use Rattle.sim_base.specs.declared.state.Motion.TheVariants.{Still, Going}
+use Rattle.sim_base.specs.declared.state.Motion.TheVariants.{Going}
 use Rattle.sim_base.specs.declared.state.Row.{Row}
 use Rattle.sim_base.specs.declared.state.State.{State}
 use Rattle.sim_base.specs.Numbers.{root}
-use Rattle.sim_base.specs.Ways.{Way}
 use Rattle.sim_base.specs.WayOf.{way_of}
 use Rattle.sim_base.specs.Filters.{field_of}
 use Rattle.sim_base.specs.Commands.{commanded}

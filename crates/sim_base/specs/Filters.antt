@@ -1,5 +1,5 @@
 -- What is asked of a state: each answer is a filter, a count or a least member over all rows or all cells.
-use Rattle.std.specs.Prelude.{ℕ, ◌*◌, Bool, true, false, not, ◌&&◌, ◌||◌, nat_le, ◌==◌, ℤ, unsigned_abs, List, [], ◌∷◌, map, filter, count_by, Option, Some, None, is_some, unwrap_or, option_map}
+use Rattle.std.specs.Prelude.{ℕ, ◌*◌, Bool, false, not, ◌&&◌, ◌||◌, nat_le, ◌==◌, ℤ, unsigned_abs, List, [], ◌∷◌, map, filter, count_by, Option, Some, None, is_some}
 use Rattle.std.specs.List.{list_any, list_all}
 use Rattle.sim_base.specs.declared.place.Point.{Point}
 use Rattle.sim_base.specs.declared.place.Cell.{Cell}

@@ -1,11 +1,9 @@
 -- The limits that the setup of every match meets.
-use Rattle.std.specs.Prelude.{◌≡◌, ◌≢◌, ℕ, ◌+◌, ◌^◌, ◌<◌, ◌≤◌, Bool, false, ◌&&◌, ◌==◌, IsTrue, ℤ, pos, ◌≤ℤ◌, List, length, map, count_by, All, AllPairs, EachIndex, IfSome, IsSome, IsNone, slice_index}
+use Rattle.std.specs.Prelude.{◌≡◌, ◌≢◌, ℕ, ◌+◌, ◌^◌, ◌<◌, ◌≤◌, Bool, false, ◌&&◌, ◌==◌, IsTrue, ℤ, pos, ◌≤ℤ◌, length, map, count_by, All, AllPairs, EachIndex, IfSome, IsSome, IsNone, slice_index}
 use Rattle.std.specs.List.Sorted.{IsNonDecreasing}
 use Rattle.sim_base.specs.declared.place.Rect.{Rect}
 use Rattle.sim_base.specs.declared.template.Template.{Template}
-use Rattle.sim_base.specs.declared.template.Resist.{Resist}
 use Rattle.sim_base.specs.declared.template.Arms.{Arms}
-use Rattle.sim_base.specs.declared.template.Base.{Base}
 use Rattle.sim_base.specs.declared.command.Command.{Command}
 use Rattle.sim_base.specs.declared.command.Command.TheVariants.{Walk, Stop, Attack, Delete, Place, Train, Resign}
 use Rattle.sim_base.specs.declared.setup.Land.{Land}

@@ -10,7 +10,6 @@ use Rattle.sim_base.specs.declared.state.Row.{Row}
 use Rattle.sim_base.specs.declared.state.State.{State}
 use Rattle.sim_base.specs.Numbers.{root}
 use Rattle.sim_base.specs.Places.{square}
-use Rattle.sim_base.specs.Ways.{Way}
 use Rattle.sim_base.specs.WayOf.{way_of}
 use Rattle.sim_base.specs.Rows.{row_of, target_of, speed_of, arms_of}
 use Rattle.sim_base.specs.Filters.{field_of, is_near}

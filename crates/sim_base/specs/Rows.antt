@@ -1,5 +1,5 @@
 -- What is read of a row, by itself and beside its template.
-use Rattle.std.specs.Prelude.{ℕ, ◌/◌, ◌%◌, ◌^◌, Bool, true, false, ◌==◌, ℤ, List, find, Option, Some, None, option_map, option_and_then, unwrap_or, slice_get, slice_index}
+use Rattle.std.specs.Prelude.{ℕ, ◌/◌, ◌%◌, ◌^◌, Bool, true, false, ◌==◌, ℤ, find, Option, Some, None, option_map, option_and_then, unwrap_or, slice_get, slice_index}
 use Rattle.sim_base.specs.declared.place.Rect.{Rect}
 use Rattle.sim_base.specs.declared.template.Template.{Template}
 use Rattle.sim_base.specs.declared.template.Arms.{Arms}

@@ -1,5 +1,5 @@
 -- Which states are valid in a match.
-use Rattle.std.specs.Prelude.{◌≡◌, ℕ, ◌^◌, ◌<◌, ◌≤◌, ◌≢◌, ◌⊎◌, Bool, false, ◌&&◌, ◌==◌, IsTrue, ℤ, pos, ◌≤ℤ◌, List, length, map, All, Option, Some, None, is_some, MatchOption}
+use Rattle.std.specs.Prelude.{◌≡◌, ℕ, ◌^◌, ◌<◌, ◌≤◌, ◌≢◌, ◌⊎◌, Bool, false, ◌&&◌, ◌==◌, IsTrue, pos, ◌≤ℤ◌, List, length, map, All, Option, Some, None, is_some, MatchOption}
 use Rattle.std.specs.List.{list_any}
 use Rattle.std.specs.List.Sorted.{IsStrictlyIncreasing}
 use Rattle.sim_base.specs.declared.place.Point.{Point}
