@@ -57,23 +57,60 @@ fn reads_leaves(rt: HostRuntime) {
     }
 }
 
-#[test]
-fn reads_marks(rt: HostRuntime) {
-    let marks = [
-        (r#"{"@disable":1}"#, TreeMark::Disable),
-        (r#"{"@replace":1,"_":"x","a":2}"#, TreeMark::Replace),
-        (r#"{"@merge":1}"#, TreeMark::Merge),
-        (r#"{"@op":"add","_":"x"}"#, TreeMark::Add),
-        (r#"{"@op":"mul","_":2}"#, TreeMark::Mul),
-        (r#"{"@op":"mul","@op":"add","_":2}"#, TreeMark::Add),
-        (r#"{"@tokens":1,"_":""}"#, TreeMark::Tokens),
-    ];
-    for (text, wanted) in marks {
-        match tree_of(rt.alloc(), text) {
-            Ok(tree) => assert_eq!(rt; tree.mark, Some(wanted), "at {text}"),
-            Err(fault) => panic!(rt; "{fault:?} at {text}"),
-        }
+// The value of a tree behind a sign, and its children by name between brackets.
+fn show(tree: &Tree, out: &mut String) -> Result<(), AllocError> {
+    if let Some(text) = &tree.value {
+        out.push_str("=")?;
+        out.push_str(text.as_str())?;
     }
+    for child in &tree.children {
+        out.push_str("(")?;
+        out.push_str(child.name.text())?;
+        show(&child.tree, out)?;
+        out.push_str(")")?;
+    }
+    Ok(())
+}
+
+// Trees with a mark, and what they have beside it.
+static MARKED: [(&str, TreeMark, &str); 9] = [
+    (r#"{"@disable":1}"#, TreeMark::Disable, ""),
+    (
+        r#"{"@disable":1,"_":5,"a":{"b":1}}"#,
+        TreeMark::Disable,
+        "=5(a(b=1))",
+    ),
+    (
+        r#"{"@replace":1,"_":"x","a":2}"#,
+        TreeMark::Replace,
+        "=x(a=2)",
+    ),
+    (r#"{"@merge":1}"#, TreeMark::Merge, ""),
+    (
+        r#"{"b":{},"@merge":1,"a":{"@op":"add","_":1}}"#,
+        TreeMark::Merge,
+        "(a=1)(b)",
+    ),
+    (r#"{"@op":"add","_":"x"}"#, TreeMark::Add, "=x"),
+    (r#"{"@op":"mul","_":2}"#, TreeMark::Mul, "=2"),
+    (
+        r#"{"@op":"mul","@op":"add","_":3,"_":2}"#,
+        TreeMark::Add,
+        "=2",
+    ),
+    (r#"{"@tokens":1,"_":""}"#, TreeMark::Tokens, "="),
+];
+
+#[test]
+fn reads_marks_with_values_and_children(rt: HostRuntime) -> Result<(), Fail> {
+    for (text, mark, wanted) in MARKED.iter() {
+        let tree = tree_of(rt.alloc(), text)?;
+        assert_eq!(rt; tree.mark, Some(*mark), "at {text}");
+        let mut shown = String::new(rt.alloc());
+        show(&tree, &mut shown)?;
+        assert_eq!(rt; shown.as_str(), *wanted, "at {text}");
+    }
+    Ok(())
 }
 
 #[test]
