@@ -116,85 +116,87 @@ fn reads_templates(rt: HostRuntime) -> Result<(), Fail> {
     Ok(())
 }
 
+// Trees that are no templates, and why.
+static REFUSED: [(&str, TraitFault); 25] = [
+    (r#""5""#, TraitFault::UnknownPart),
+    (r#"{"_":5}"#, TraitFault::UnknownPart),
+    (r#"{"health":{"Max":5}}"#, TraitFault::UnknownPart),
+    (r#"{"Health":{"Max":5},"Heal":{}}"#, TraitFault::UnknownPart),
+    (r#"{"Health":5}"#, TraitFault::UnknownPart),
+    (r#"{"Health":{"_":5,"Max":5}}"#, TraitFault::UnknownPart),
+    (r#"{"Health":{"Max":5,"Min":1}}"#, TraitFault::UnknownPart),
+    (
+        r#"{"Health":{"Max":{"_":5,"x":1}}}"#,
+        TraitFault::UnknownPart,
+    ),
+    (
+        r#"{"Health":{},"Motion":{"Accuracy":5}}"#,
+        TraitFault::UnknownPart,
+    ),
+    (r#"{"Health":{}}"#, TraitFault::Missing { part: 1 }),
+    (r#"{"Health":{"Max":{}}}"#, TraitFault::Missing { part: 1 }),
+    (
+        r#"{"Resist":{"Hack":41,"Crush":{}}}"#,
+        TraitFault::Missing { part: 2 },
+    ),
+    (
+        r#"{"Motion":{},"Health":{"Max":0}}"#,
+        TraitFault::OutOfRange { part: 1 },
+    ),
+    (
+        r#"{"Motion":{},"Health":{"Max":1}}"#,
+        TraitFault::Missing { part: 3 },
+    ),
+    (
+        r#"{"Obstruct":{"Width":17}}"#,
+        TraitFault::Missing { part: 4 },
+    ),
+    (
+        r#"{"Obstruct":{"Depth":1}}"#,
+        TraitFault::Missing { part: 4 },
+    ),
+    (
+        r#"{"Attack":{"Vision":-1,"Repeat":1}}"#,
+        TraitFault::Missing { part: 5 },
+    ),
+    (
+        r#"{"Attack":{"Range":1,"Repeat":1}}"#,
+        TraitFault::Missing { part: 5 },
+    ),
+    (
+        r#"{"Attack":{"Range":1,"Vision":1}}"#,
+        TraitFault::Missing { part: 5 },
+    ),
+    (
+        r#"{"Attack":{"Range":1,"Vision":1,"Repeat":1,"Accuracy":{}}}"#,
+        TraitFault::Missing { part: 5 },
+    ),
+    (
+        r#"{"Attack":{"Range":1,"Vision":1,"Repeat":1001},"Train":{}}"#,
+        TraitFault::OutOfRange { part: 5 },
+    ),
+    (r#"{"Train":{}}"#, TraitFault::Missing { part: 6 }),
+    (
+        r#"{"Train":{"Units":"5 6"}}"#,
+        TraitFault::OutOfRange { part: 6 },
+    ),
+    (
+        r#"{"Motion":{"Speed":1},"Obstruct":{"Width":1,"Depth":1},"Train":{"Units":"-5"}}"#,
+        TraitFault::OutOfRange { part: 6 },
+    ),
+    (
+        r#"{"Motion":{"Speed":1},"Obstruct":{"Width":1,"Depth":1}}"#,
+        TraitFault::Clash,
+    ),
+];
+
 #[test]
-fn refuses_trees(rt: HostRuntime) -> Result<(), Fail> {
-    let refused = [
-        (r#""5""#, TraitFault::UnknownPart),
-        (r#"{"_":5}"#, TraitFault::UnknownPart),
-        (r#"{"health":{"Max":5}}"#, TraitFault::UnknownPart),
-        (r#"{"Health":{"Max":5},"Heal":{}}"#, TraitFault::UnknownPart),
-        (r#"{"Health":5}"#, TraitFault::UnknownPart),
-        (r#"{"Health":{"_":5,"Max":5}}"#, TraitFault::UnknownPart),
-        (r#"{"Health":{"Max":5,"Min":1}}"#, TraitFault::UnknownPart),
-        (
-            r#"{"Health":{"Max":{"_":5,"x":1}}}"#,
-            TraitFault::UnknownPart,
-        ),
-        (
-            r#"{"Health":{},"Motion":{"Accuracy":5}}"#,
-            TraitFault::UnknownPart,
-        ),
-        (r#"{"Health":{}}"#, TraitFault::Missing { part: 1 }),
-        (r#"{"Health":{"Max":{}}}"#, TraitFault::Missing { part: 1 }),
-        (
-            r#"{"Resist":{"Hack":41,"Crush":{}}}"#,
-            TraitFault::Missing { part: 2 },
-        ),
-        (
-            r#"{"Motion":{},"Health":{"Max":0}}"#,
-            TraitFault::OutOfRange { part: 1 },
-        ),
-        (
-            r#"{"Motion":{},"Health":{"Max":1}}"#,
-            TraitFault::Missing { part: 3 },
-        ),
-        (
-            r#"{"Obstruct":{"Width":17}}"#,
-            TraitFault::Missing { part: 4 },
-        ),
-        (
-            r#"{"Obstruct":{"Depth":1}}"#,
-            TraitFault::Missing { part: 4 },
-        ),
-        (
-            r#"{"Attack":{"Vision":-1,"Repeat":1}}"#,
-            TraitFault::Missing { part: 5 },
-        ),
-        (
-            r#"{"Attack":{"Range":1,"Repeat":1}}"#,
-            TraitFault::Missing { part: 5 },
-        ),
-        (
-            r#"{"Attack":{"Range":1,"Vision":1}}"#,
-            TraitFault::Missing { part: 5 },
-        ),
-        (
-            r#"{"Attack":{"Range":1,"Vision":1,"Repeat":1,"Accuracy":{}}}"#,
-            TraitFault::Missing { part: 5 },
-        ),
-        (
-            r#"{"Attack":{"Range":1,"Vision":1,"Repeat":1001},"Train":{}}"#,
-            TraitFault::OutOfRange { part: 5 },
-        ),
-        (r#"{"Train":{}}"#, TraitFault::Missing { part: 6 }),
-        (
-            r#"{"Train":{"Units":"5 6"}}"#,
-            TraitFault::OutOfRange { part: 6 },
-        ),
-        (
-            r#"{"Motion":{"Speed":1},"Obstruct":{"Width":1,"Depth":1},"Train":{"Units":"-5"}}"#,
-            TraitFault::OutOfRange { part: 6 },
-        ),
-        (
-            r#"{"Motion":{"Speed":1},"Obstruct":{"Width":1,"Depth":1}}"#,
-            TraitFault::Clash,
-        ),
-    ];
+fn refuses_trees_by_the_first_rule_that_they_break(rt: HostRuntime) -> Result<(), Fail> {
     let library = library(rt.alloc())?;
-    for (text, wanted) in refused {
+    for (text, wanted) in REFUSED.iter() {
         match read(rt.alloc(), &library, text)? {
             Ok(_) => panic!(rt; "a template at {text}"),
-            Err(fault) => assert_eq!(rt; fault, wanted, "at {text}"),
+            Err(fault) => assert_eq!(rt; fault, *wanted, "at {text}"),
         }
     }
     Ok(())
