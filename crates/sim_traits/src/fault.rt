@@ -13,6 +13,7 @@ pub enum TraitFault {
     UnknownPart,
     /// It would move and obstruct.
     Clash,
+    /// Memory was refused.
     OutOfMemory,
 }
 
