@@ -1,5 +1,5 @@
 -- Where each file that is read is good and no fault was counted, a run came to its end or there was no memory.
-use Rattle.std.proofs.Common.{◌≡◌, ℕ, ◌<◌, ◌≤◌, List, length, Option, Some, None, Result, Ok, Err, refl, sym, ap, ◌∙◌, subst, ◌⊎◌, inl, inr, arith}
+use Rattle.std.proofs.Common.{◌≡◌, ℕ, ◌≤◌, List, length, Option, Some, None, Result, Ok, Err, refl, sym, ap, ◌∙◌, subst, ◌⊎◌, inl, inr, arith}
 use Rattle.std.proofs.lemmas.Bool.{le-ltb}
 use Rattle.sim_base.specs.declared.setup.Setup.{Setup}
 use Rattle.sim_base.specs.declared.state.State.{State}
@@ -15,9 +15,9 @@ use Rattle.sim_setup.proofs.SetupLimits.{setup_of-id}
 use Rattle.sim_diff.specs.Difference.{difference_of}
 use Rattle.sim_diff.specs.declared.place.Place.{Place}
 use Rattle.sim_top.specs.Words.{Asked, asked_by, to_play, to_store, to_resume, to_show, to_compare}
-use Rattle.sim_top.specs.Outcome.{Outcome, Then, ThenStored, IsStored, IsOutcomeOf, IsCompared, bytes_in, match_in, match_by, bytes_by, setup_by, compare_by, state_by, store_outcome, stored_at}
-use Rattle.sim_top.specs.Answers.{Scene, Meets, Causes, FailsToSave, FailsToTell}
-use Rattle.sim_top.specs.Readiness.{HoldsState, HoldsMatch, IsReady, IsFaultless, IsFinal}
+use Rattle.sim_top.specs.Outcome.{Outcome, Then, ThenStored, IsStored, IsOutcomeOf, bytes_in, match_in, match_by, setup_by, compare_by, state_by, store_outcome}
+use Rattle.sim_top.specs.Answers.{Scene, Meets, Causes}
+use Rattle.sim_top.specs.Readiness.{HoldsState, IsReady, IsFaultless, IsFinal}
 use Rattle.sim_top.specs.declared.status.Status.{Status}
 use Rattle.sim_top.specs.declared.status.Status.TheVariants.{Done, Differs, Usage, ReadFault, WriteFault, TooLong, MatchRefused, StateRefused, OutOfMemory, NoSuchTurn, NoFile}
 

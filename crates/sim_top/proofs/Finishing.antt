@@ -1,11 +1,11 @@
 -- What is made is written: by the status of what was made.
-use Rattle.std.proofs.Common.{◌≡◌, ℕ, ◌<◌, List, [], length, take, Option, Some, None, ◌≢◌, ◌≤◌, refl, sym, subst, inl, inr, ◌⊎◌, arith, ap, ◌∙◌, IfSome, Result, Ok, Err, IsOk, String}
+use Rattle.std.proofs.Common.{◌≡◌, ℕ, ◌<◌, List, [], length, take, Option, Some, None, ◌≢◌, refl, sym, subst, inl, inr, arith, ap, ◌∙◌, IfSome, Result, Ok, Err, IsOk, String}
 use Rattle.std.specs.Io.KnownBytes.{Appends}
 use Rattle.std.proofs.lemmas.Bool.{false≢true}
 use Rattle.sim_store.specs.Files.{File}
 use Rattle.sim_store.specs.Counts.{Rose}
 use Rattle.sim_store.specs.Reading.{OnlyGave}
-use Rattle.sim_top.specs.Answers.{Scene, FailsToSave, FailsToTell, IsUntouched, Saves, SavesPart, IsDone, IsUnsaved, IsUntold, Meets, GaveThenUnsaved, CountsBefore, Causes, IsSilent}
+use Rattle.sim_top.specs.Answers.{Scene, FailsToSave, FailsToTell, IsUntouched, Saves, SavesPart, Meets, GaveThenUnsaved, CountsBefore, Causes, IsSilent}
 use Rattle.std.specs.declared.alloc.Global.{Global}
 use Rattle.sim_base.specs.declared.memory.OutOfMemory.{OutOfMemory as NoMemory}
 use Rattle.sim_store.specs.declared.counts.Counts.{Counts}
@@ -13,7 +13,6 @@ use Rattle.sim_top.specs.Making.{MeetsBefore, IsAnswered, IsCutShort, Tells}
 use Rattle.sim_top.specs.Stops.{status_of}
 use Rattle.sim_top.specs.declared.stop.Stop.{Stop}
 use Rattle.sim_top.specs.declared.stop.Stop.TheVariants as stops
-use Rattle.sim_top.specs.Outcome.{IsOutcome}
 use Rattle.sim_top.specs.declared.status.Status.{Status}
 use Rattle.sim_top.specs.declared.status.Status.TheVariants.{Done, Differs, Usage, ReadFault, WriteFault, TooLong, MatchRefused, StateRefused, OutOfMemory, NoSuchTurn, NoFile}
 

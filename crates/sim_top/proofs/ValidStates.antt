@@ -1,6 +1,6 @@
 -- A valid state of a match whose templates neither move nor attack is quiet: it may be played on, be it one that the match
 -- reaches or not.
-use Rattle.std.proofs.Common.{◌≡◌, ℕ, ◌+◌, ◌<◌, ◌≤◌, ℤ, pos, ◌≤ℤ◌, List, [], ◌∷◌, length, map, get_or, suc, Option, Some, None, refl, sym, ap, ◌∙◌, subst, arith, IfSome, All}
+use Rattle.std.proofs.Common.{◌≡◌, ℕ, ◌+◌, ◌<◌, ◌≤◌, ℤ, pos, ◌≤ℤ◌, List, [], ◌∷◌, map, suc, Option, Some, None, refl, subst, arith, IfSome, All}
 use Rattle.std.specs.Prelude.{MatchOption, slice_get, slice_index}
 use Rattle.std.specs.List.Sorted.{IsStrictlyIncreasing}
 use Rattle.std.proofs.lemmas.Option.{get_or_from_slice_get, slice_get_within}

@@ -1,4 +1,4 @@
-use Rattle.std.proofs.Common.{◌≡◌, ℕ, List, Ok, Err, IfSome}
+use Rattle.std.proofs.Common.{◌≡◌, Ok, Err}
 use Rattle.sim_base.specs.declared.state.State.{State}
 use Rattle.sim_diff.specs.Difference.{difference_of}
 use Rattle.sim_top.specs.Outcome.{Outcome, bytes_in, compare_by, IsCompared}

@@ -1,12 +1,11 @@
-use Rattle.std.proofs.Common.{◌≡◌, ℕ, List, None, Some, Ok, Err, ap, sym, subst, ◌∙◌, IfSome, string_bytes}
+use Rattle.std.proofs.Common.{◌≡◌, Some, Ok, Err, subst, ◌∙◌, IfSome}
 use Rattle.sim_base.specs.declared.setup.Setup.{Setup}
 use Rattle.sim_base.specs.declared.state.State.{State}
 use Rattle.sim_top.specs.Lines.{resume_text}
-use Rattle.sim_store.specs.Files.{File}
 use Rattle.sim_top.specs.Words.{to_resume}
 use Rattle.sim_top.specs.Outcome.{Outcome, IsOutcomeOf, printed, match_in, bytes_in}
 use Rattle.sim_top.specs.Making.{Makes, outcome_made}
-use Rattle.sim_top.specs.Stops.{Reads, ReadsState}
+use Rattle.sim_top.specs.Stops.{ReadsState}
 use Rattle.sim_top.specs.declared.status.Status.TheVariants.{Done}
 use Rattle.sim_top.proofs.Stopping.{state_ends, state_goes_on, Told-both, printed_is}
 use Rattle.sim_top.proofs.commands.resume.Goals as goal

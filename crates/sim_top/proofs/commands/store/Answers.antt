@@ -1,4 +1,4 @@
-use Rattle.std.proofs.Common.{◌≡◌, ℕ, List, length, Some, None, Ok, ap, sym, ◌∙◌, arith, ◌≤◌, ltb, Bool, false, string_bytes}
+use Rattle.std.proofs.Common.{◌≡◌, ℕ, List, length, Some, Ok, ap, sym, ◌∙◌, arith, ltb, false, string_bytes}
 use Rattle.std.proofs.lemmas.Bool.{cond-false, le-ltb}
 use Rattle.sim_base.specs.declared.setup.Setup.{Setup}
 use Rattle.sim_base.specs.declared.state.State.{State}
@@ -6,7 +6,7 @@ use Rattle.sim_base.specs.Spelling.{spelling, digest}
 use Rattle.sim_base.specs.Turn.{after, own_turns}
 use Rattle.sim_report.specs.Lines.{saved_line}
 use Rattle.sim_top.specs.Words.{to_store}
-use Rattle.sim_top.specs.Outcome.{Outcome, IsOutcomeOf, match_in, store_outcome, stored_at}
+use Rattle.sim_top.specs.Outcome.{Outcome, IsOutcomeOf, match_in, store_outcome}
 use Rattle.sim_top.specs.declared.status.Status.TheVariants.{Done}
 use Rattle.sim_top.proofs.Stopping.{Then-read, Told}
 use Rattle.sim_top.proofs.commands.store.Goals as goal

@@ -1,4 +1,4 @@
-use Rattle.std.proofs.Common.{◌≤◌, arith}
+use Rattle.std.proofs.Common.{arith}
 use Rattle.sim_top.proofs.OrdersAhead.{goes_on}
 use Rattle.sim_top.proofs.play.ahead_of.Goals as goal
 

@@ -1,4 +1,4 @@
-use Rattle.std.proofs.Common.{◌≡◌, ℕ, suc, ◌+◌, ◌-◌, List, ◌++◌, ap, ◌∙◌, sym, subst, arith, string_bytes}
+use Rattle.std.proofs.Common.{◌≡◌, ℕ, suc, ◌+◌, ◌-◌, ◌++◌, ap, ◌∙◌, sym, subst, arith, string_bytes}
 use Rattle.sim_base.specs.declared.state.State.{State}
 use Rattle.sim_base.specs.Turn.{from, own_turns, orders_at, turn}
 use Rattle.sim_base.specs.Spelling.{digest}

@@ -1,7 +1,6 @@
 -- The file was saved, and then the text told or cut short; or the file could not be saved, which the shelf counted.
-use Rattle.std.proofs.Common.{List, ℕ, Option, sym, subst, string_bytes}
+use Rattle.std.proofs.Common.{List, ℕ, sym, subst, string_bytes}
 use Rattle.std.specs.Prelude.{option_map}
-use Rattle.sim_store.specs.Files.{File}
 use Rattle.sim_store.specs.declared.counts.Counts.{Counts}
 use Rattle.sim_top.specs.Answers.{scene, Meets, CountsBefore}
 use Rattle.sim_top.specs.Making.{MeetsBefore, Tells, file_of}

@@ -1,4 +1,4 @@
-use Rattle.std.proofs.Common.{subst, List, ℕ, string_bytes}
+use Rattle.std.proofs.Common.{subst, string_bytes}
 use Rattle.sim_top.specs.declared.status.Status.{Status}
 use Rattle.sim_top.specs.Making.{IsAnswered}
 use Rattle.sim_top.proofs.Finishing.{answered_causes}

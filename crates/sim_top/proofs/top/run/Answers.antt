@@ -1,5 +1,5 @@
 -- The shelf holds the same before anything is written.
-use Rattle.std.proofs.Common.{List, ℕ, Option, sym, subst, string_bytes, IfSome}
+use Rattle.std.proofs.Common.{List, Option, subst, string_bytes, IfSome}
 use Rattle.std.specs.Prelude.{option_map}
 use Rattle.sim_store.specs.Files.{File}
 use Rattle.sim_top.specs.Words.{words_of, asked_by}
