@@ -193,8 +193,7 @@ def main():
         reader, writer = os.pipe()
         os.close(reader)
         with os.fdopen(writer, "wb") as pipe:
-            got = run(["play", "posts.json"], folder, pipe)
-            case("a pipe that nobody reads", (4 if got[0] in (4, -13) else got[0], got[1], got[2]), 4, None)
+            case("a pipe that nobody reads", run(["play", "posts.json"], folder, pipe), 4, None)
         case("no file has changed", (0, b"", b""), 0, b"" if files(folder) == before else b"changed")
         stored_states(folder)
         templates(folder)
