@@ -28,8 +28,9 @@ fn push_lines(setup: &Setup, state: &State, out: &mut String) -> Result<(), OutO
     ensures err { OnErr result (take (length (string_bytes out.old)) (string_bytes out.new) ≡ string_bytes out.old) }
 {
     push_clock(state, out)?;
+    let mut line = String::new(*out.allocator());
     for row in state.rows.as_slice() {
-        push_row(setup, row, out)?;
+        push_row(setup, row, &mut line, out)?;
     }
     Ok(())
 }
@@ -49,13 +50,19 @@ fn push_clock(state: &State, out: &mut String) -> Result<(), OutOfMemory>
     Ok(())
 }
 
-fn push_row(setup: &Setup, row: &Row, out: &mut String) -> Result<(), OutOfMemory>
+// Appends the line of a row, which is made in the room of the line before it.
+fn push_row(
+    setup: &Setup,
+    row: &Row,
+    line: &mut String,
+    out: &mut String,
+) -> Result<(), OutOfMemory>
     requires { HasTemplate setup.now row.now }
     ensures ok { OnOk result (string_bytes out.new ≡ string_bytes out.old ++ row_line setup.now row.now) }
     ensures err { OnErr result (string_bytes out.new ≡ string_bytes out.old) }
 {
-    let mut line = String::new(*out.allocator());
-    write_row(setup, row, &mut line)?;
+    line.clear();
+    write_row(setup, row, line)?;
     out.push_str(line.as_str())?;
     Ok(())
 }
