@@ -29,20 +29,22 @@ with_ordered player ids changed state =
     record state { rows = map (λ row. if is_ordered player ids row then changed row else row) state.rows }
 
 -- a row that can move goes to a point, by a way that is still to be asked, and forgets its target
+abbrev pub sent_by : Point → Row → Option Motion → Row
+sent_by p row None = row
+sent_by p row (Some motion) = record (aimed_at 0 row) { motion = Some (Going p [] false) }
+
+-- the same by the row's own motion
 abbrev pub sent : Point → Row → Row
 sent p row = sent_by p row row.motion
-  where
-    sent_by : Point → Row → Option Motion → Row
-    sent_by p row None = row
-    sent_by p row (Some motion) = record (aimed_at 0 row) { motion = Some (Going p [] false) }
 
 -- a row that can attack takes a target, and stands still
+abbrev pub set_on_by : ℕ → Row → Option Aim → Row
+set_on_by target row None = row
+set_on_by target row (Some aim) = halted (aimed_at target row)
+
+-- the same by the row's own attack
 abbrev pub set_on : ℕ → Row → Row
 set_on target row = set_on_by target row row.attack
-  where
-    set_on_by : ℕ → Row → Option Aim → Row
-    set_on_by target row None = row
-    set_on_by target row (Some aim) = halted (aimed_at target row)
 
 -- a row that may be attacked: it has health, and its owner is an enemy
 abbrev pub is_enemy : Setup → ℕ → Option Row → Bool
@@ -54,22 +56,24 @@ abbrev pub has_room : Setup → State → ℕ → Bool
 has_room setup state player =
     nat_lt (length state.rows) 4096 && nat_lt state.next 0x20000000 && nat_lt (population state player) setup.cap
 
--- an obstruction may be placed: its rectangle is free
+-- there is an obstruction, and its rectangle at a point is free
+abbrev pub has_free_base : Setup → State → Point → Option Base → Bool
+has_free_base setup state p None = false
+has_free_base setup state p (Some base) = is_inside (size_of setup.land) p && is_free_rect setup state (rect_of p base.width base.depth)
+
+-- a template may be placed: it is known, and its rectangle is free
 abbrev pub is_placeable : Setup → State → Point → Option Template → Bool
 is_placeable setup state p None = false
-is_placeable setup state p (Some template) = has_free_base template.obstruct
-  where
-    has_free_base : Option Base → Bool
-    has_free_base None = false
-    has_free_base (Some base) = is_inside (size_of setup.land) p && is_free_rect setup state (rect_of p base.width base.depth)
+is_placeable setup state p (Some template) = has_free_base setup state p template.obstruct
+
+-- a number is among those that a building trains, if it trains any
+abbrev pub lists : ℕ → Option (List ℕ) → Bool
+lists number None = false
+lists number (Some numbers) = list_any (λ n. n == number) numbers
 
 -- the building trains templates of this number, and these are no obstructions
 abbrev pub trains : Option Template → ℕ → Option Template → Bool
 trains (Some building) number (Some template) = lists number building.train && is_none template.obstruct
-  where
-    lists : ℕ → Option (List ℕ) → Bool
-    lists number None = false
-    lists number (Some numbers) = list_any (λ n. n == number) numbers
 trains None number template = false
 trains (Some building) number None = false
 
@@ -78,14 +82,16 @@ abbrev pub placed_on : Setup → State → ℕ → ℕ → Option Cell → State
 placed_on setup state player number None = state
 placed_on setup state player number (Some c) = created setup state number (centre_of c) player
 
+-- a new row stands on the spot of a building, where it may be trained
+abbrev pub trained_if : Setup → State → ℕ → ℕ → Row → Bool → State
+trained_if setup state player number building false = state
+trained_if setup state player number building true = placed_on setup state player number (spot setup state building.at)
+
 -- a building trains a new row beside itself
 abbrev pub trained : Setup → State → ℕ → ℕ → Option Row → State
 trained setup state player number None = state
-trained setup state player number (Some building) = trained_if (building.owner == player && trains (template_of setup building) number (slice_get setup.templates number) && has_room setup state player)
-  where
-    trained_if : Bool → State
-    trained_if false = state
-    trained_if true = placed_on setup state player number (spot setup state building.at)
+trained setup state player number (Some building) =
+    trained_if setup state player number building (building.owner == player && trains (template_of setup building) number (slice_get setup.templates number) && has_room setup state player)
 
 -- the state after a player's command
 abbrev pub commanded_by : Setup → State → ℕ → Command → State

@@ -1,0 +1,5 @@
+use Rattle.sim_plans.proofs.RowByRow.{row_by_row_is}
+use Rattle.sim_plans.proofs.changes.rows_are_changed_one_by_one.Goals as goal
+
+pub returns : goal.returns
+returns c = row_by_row_is

@@ -1,0 +1,5 @@
+use Rattle.sim_plans.proofs.CommandPlan.{command_is_planned, command_is_own}
+use Rattle.sim_plans.proofs.commands.a_command_is_planned.Goals as goal
+
+pub returns : goal.returns
+returns c = record { planned = command_is_planned; own = command_is_own }

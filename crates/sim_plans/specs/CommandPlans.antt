@@ -1,0 +1,67 @@
+-- The changes that make up a command.
+use Rattle.std.specs.Prelude.{ℕ, false, ◌&&◌, ◌==◌, List, [], ◌∷◌, map, filter, Option, Some, None, slice_get, if◌then◌else◌}
+use Rattle.std.specs.List.{flat_map}
+use Rattle.sim_base.specs.declared.place.Point.{Point}
+use Rattle.sim_base.specs.declared.place.Cell.{Cell}
+use Rattle.sim_base.specs.declared.command.Command.{Command}
+use Rattle.sim_base.specs.declared.command.Command.TheVariants.{Walk, Stop, Attack, Delete, Place, Train, Resign}
+use Rattle.sim_base.specs.declared.command.PlayerCommand.{PlayerCommand}
+use Rattle.sim_base.specs.declared.setup.Setup.{Setup}
+use Rattle.sim_base.specs.declared.state.Motion.{Motion}
+use Rattle.sim_base.specs.declared.state.Motion.TheVariants.{Going}
+use Rattle.sim_base.specs.declared.state.Aim.{Aim}
+use Rattle.sim_base.specs.declared.state.Row.{Row}
+use Rattle.sim_base.specs.declared.state.State.{State}
+use Rattle.sim_base.specs.declared.change.Change.{Change}
+use Rattle.sim_base.specs.declared.change.Change.TheVariants as change
+use Rattle.sim_base.specs.Places.{is_inside, centre_of}
+use Rattle.sim_base.specs.Rows.{id_of, row_of, template_of, size_of}
+use Rattle.sim_base.specs.Filters.{spot}
+use Rattle.sim_base.specs.Commands.{is_ordered, is_enemy, has_room, is_placeable, trains}
+use Rattle.sim_plans.specs.RowPlans.{target_changes, turn_changes, release_changes}
+
+-- the changes of each row that is ordered
+abbrev pub ordered_changes : ℕ → List ℕ → (Row → List Change) → State → List Change
+ordered_changes player ids changes state = flat_map (λ row. if is_ordered player ids row then changes row else []) state.rows
+
+-- a row that can move goes to a point, and forgets its target
+abbrev pub sent_changes_by : Point → ℕ → Option Motion → Option Aim → List Change
+sent_changes_by p id None aim = []
+sent_changes_by p id (Some motion) aim = change.Motion id (Going p [] false) ∷ target_changes 0 id aim
+
+abbrev pub sent_changes : Point → Row → List Change
+sent_changes p row = sent_changes_by p row.id row.motion row.attack
+
+-- a row that can attack takes a target, and stands still
+abbrev pub set_on_changes_by : ℕ → Row → Option Aim → List Change
+set_on_changes_by target row None = []
+set_on_changes_by target row (Some aim) = turn_changes target row
+
+abbrev pub set_on_changes : ℕ → Row → List Change
+set_on_changes target row = set_on_changes_by target row row.attack
+
+-- a new row in the middle of a cell, if there is one
+abbrev pub place_changes : ℕ → ℕ → Option Cell → List Change
+place_changes player number None = []
+place_changes player number (Some c) = change.Create number (centre_of c) player ∷ []
+
+-- a building trains a new row beside itself
+abbrev pub train_changes : Setup → State → ℕ → ℕ → Option Row → List Change
+train_changes setup state player number None = []
+train_changes setup state player number (Some building) =
+    if building.owner == player && trains (template_of setup building) number (slice_get setup.templates number) && has_room setup state player
+    then place_changes player number (spot setup state building.at)
+    else []
+
+abbrev pub command_plan_by : Setup → State → ℕ → Command → List Change
+command_plan_by setup state player (Walk ids p) = if is_inside (size_of setup.land) p then ordered_changes player ids (sent_changes p) state else []
+command_plan_by setup state player (Stop ids) = ordered_changes player ids release_changes state
+command_plan_by setup state player (Attack ids target) = if is_enemy setup player (row_of state target) then ordered_changes player ids (set_on_changes target) state else []
+command_plan_by setup state player (Delete ids) = map (λ id. change.Remove id) (map id_of (filter (is_ordered player ids) state.rows))
+command_plan_by setup state player (Place number p) =
+    if is_placeable setup state p (slice_get setup.templates number) && has_room setup state player then change.Create number p player ∷ [] else []
+command_plan_by setup state player (Train building number) = train_changes setup state player number (row_of state building)
+command_plan_by setup state player Resign = flat_map (λ row. if row.owner == player then change.Owner row.id 0 ∷ [] else []) state.rows
+
+abbrev pub command_plan : Setup → State → PlayerCommand → List Change
+command_plan setup state order = command_plan_by setup state order.player order.command

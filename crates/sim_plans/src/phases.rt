@@ -1,0 +1,27 @@
+//! Laws of the changes of a phase.
+
+ghost use Rattle.sim_base.specs.Aim.{aimed};
+ghost use Rattle.sim_base.specs.Move.{moved};
+ghost use Rattle.sim_base.specs.Hit.{hit, gone};
+ghost use Rattle.sim_plans.specs.Plans.{aim_plan, move_plan, hit_plan, gone_plan};
+ghost use Rattle.sim_plans.specs.PlanLaws.{Plans};
+
+/// The changes by which fighters choose their targets.
+pub fn aims_are_planned()
+    ensures { Plans aim_plan aimed }
+{}
+
+/// The changes by which rows move.
+pub fn moves_are_planned()
+    ensures { Plans move_plan moved }
+{}
+
+/// The changes by which fighters hit.
+pub fn hits_are_planned()
+    ensures { Plans hit_plan hit }
+{}
+
+/// The changes by which those without health leave.
+pub fn leaving_is_planned()
+    ensures { Plans (λ setup state. gone_plan state) (λ setup state. gone state) }
+{}

@@ -1,0 +1,8 @@
+//! Laws of the changes of a turn.
+
+ghost use Rattle.sim_plans.specs.TurnPlans.{TurnIsPlanned};
+
+/// The changes of a turn, each plan made for the state which those before it leave.
+pub fn a_turn_is_planned()
+    ensures { TurnIsPlanned }
+{}
