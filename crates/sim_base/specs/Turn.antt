@@ -65,10 +65,11 @@ from setup state (item ∷ past) = happened setup (from setup state past) item
 abbrev pub after : Setup → Past → State
 after setup = from setup (first_state setup)
 
--- an item that is no bend
-abbrev pub is_turn : Item → Bool
-is_turn (Turn orders) = true
-is_turn (Bend id health) = false
+-- how many turns a past has
+abbrev pub turns_in : Past → ℕ
+turns_in [] = 0
+turns_in (Turn orders ∷ past) = suc (turns_in past)
+turns_in (Bend id health ∷ past) = turns_in past
 
 -- the commands of a list that are given in a turn, in its order
 abbrev pub orders_at : ℕ → List Timed → List PlayerCommand

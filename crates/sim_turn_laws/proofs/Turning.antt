@@ -5,7 +5,6 @@ use Rattle.std.proofs.lemmas.Bool.{cond_both, and_parts, eqb-true, cases_Bool}
 use Rattle.std.proofs.lemmas.Int.{ints}
 use Rattle.std.proofs.lemmas.List.{map-append}
 use Rattle.std.proofs.lemmas.List.Elements.{All-nil, All-cons, All-head, All-tail, All-map, All-filter, All-weaker}
-use Rattle.std.proofs.lemmas.List.Sums.{sum_by-cons}
 use Rattle.sim_base.specs.declared.place.Point.{Point}
 use Rattle.sim_base.specs.declared.place.Cell.{Cell}
 use Rattle.sim_base.specs.declared.template.Template.{Template}
@@ -29,12 +28,12 @@ use Rattle.sim_base.specs.Commands.{is_ordered, with_ordered, sent, set_on, is_e
 use Rattle.sim_base.specs.Aim.{aimed}
 use Rattle.sim_base.specs.Move.{moved}
 use Rattle.sim_base.specs.Hit.{hit}
-use Rattle.sim_base.specs.Turn.{first_state, Item, Turn, Bend, Past, is_health_of, may_bend, happened, from, is_turn, orders_at, own_turns}
+use Rattle.sim_base.specs.Turn.{first_state, Turn, Bend, is_health_of, may_bend, from, orders_at, own_turns}
 use Rattle.sim_laws.proofs.Members.{Has}
 use Rattle.sim_laws.proofs.Validity.{valid_is_loose, first_state_is_valid}
 use Rattle.sim_turn_laws.specs.CommandLaws.{IsOrderOf, CommandKeepsValid, CommandKeepsLoose, CommandKeepsTurn, KeepsOrder, CommandKeepsOrder}
 use Rattle.sim_turn_laws.specs.PhaseLaws.{GoneKeepsTurn}
-use Rattle.sim_turn_laws.specs.TurnLaws.{TurnKeepsValid, TurnIsCounted, BendKeepsValid, BendKeepsTurn, IsItemOf, turns_in, FromKeepsValid, FromCountsTurns, AfterIsValid, AfterCountsTurns, OwnTurnsAreOfPlayers, OwnTurnsAreSoMany}
+use Rattle.sim_turn_laws.specs.TurnLaws.{TurnKeepsValid, TurnIsCounted, BendKeepsValid, BendKeepsTurn, IsItemOf, FromKeepsValid, FromCountsTurns, AfterIsValid, AfterCountsTurns, OwnTurnsAreOfPlayers, OwnTurnsAreSoMany}
 use Rattle.sim_turn_laws.proofs.Rows.{map-map, map_agree, apart, same_row, found_row}
 use Rattle.sim_turn_laws.proofs.RowWise.{Stays, mapped_is_state}
 use Rattle.sim_turn_laws.proofs.Removing.{same_stays, removed_all, removed_all-turn, removed-ids, spent_ids, gone_is_valid}
@@ -225,27 +224,19 @@ bend_keeps_turn setup state id health = by (may_bend setup health (row_of state 
 
 -- ---- a past
 
-turns_in-cons : (item : Item) (past : Past) → turns_in (item ∷ past) ≡ cond (is_turn item) 1 0 + turns_in past
-turns_in-cons item past = sum_by-cons (λ (i : Item). cond (is_turn i) 1 0) item past
-
-happened-turn : (setup : Setup) (state : State) (item : Item) → (happened setup state item).turn ≡ state.turn + cond (is_turn item) 1 0
-happened-turn setup state (Turn orders) = turn_is_counted setup state orders
-happened-turn setup state (Bend id health) = omega (arith, bend_keeps_turn setup state id health)
-
 pub from_counts_turns : FromCountsTurns
 from_counts_turns setup state [] = omega arith
-from_counts_turns setup state (item ∷ past) = omega (arith, happened-turn setup (from setup state past) item, from_counts_turns setup state past, turns_in-cons item past)
-
-happened_is_valid : (setup : Setup) (state : State) (item : Item) → IsSetup setup → IsItemOf setup item → IsValid setup state → state.turn + cond (is_turn item) 1 0 ≤ setup.turns → IsValid setup (happened setup state item)
-happened_is_valid setup state (Turn orders) limits of_players valid room = turn_keeps_valid setup state orders limits of_players valid (omega (arith, room))
-happened_is_valid setup state (Bend id health) limits of_players valid room = bend_keeps_valid setup state id health valid
+from_counts_turns setup state (Turn orders ∷ past) = omega (arith, turn_is_counted setup (from setup state past) orders, from_counts_turns setup state past)
+from_counts_turns setup state (Bend id health ∷ past) = omega (arith, bend_keeps_turn setup (from setup state past) id health, from_counts_turns setup state past)
 
 pub from_keeps_valid : FromKeepsValid
 from_keeps_valid setup state [] limits of_players valid room = valid
-from_keeps_valid setup state (item ∷ past) limits of_players valid room =
-    happened_is_valid setup (from setup state past) item limits (All-head (IsItemOf setup) item past of_players)
-    (from_keeps_valid setup state past limits (All-tail (IsItemOf setup) item past of_players) valid (omega (arith, room, turns_in-cons item past)))
-    (omega (arith, room, turns_in-cons item past, from_counts_turns setup state past))
+from_keeps_valid setup state (Turn orders ∷ past) limits of_players valid room =
+    turn_keeps_valid setup (from setup state past) orders limits (All-head (IsItemOf setup) (Turn orders) past of_players)
+    (from_keeps_valid setup state past limits (All-tail (IsItemOf setup) (Turn orders) past of_players) valid (omega (arith, room)))
+    (omega (arith, room, from_counts_turns setup state past))
+from_keeps_valid setup state (Bend id health ∷ past) limits of_players valid room =
+    bend_keeps_valid setup (from setup state past) id health (from_keeps_valid setup state past limits (All-tail (IsItemOf setup) (Bend id health) past of_players) valid room)
 
 first-turn : (setup : Setup) → (first_state setup).turn ≡ 0
 first-turn setup = by setup.first (record { turn = 0; next = 2; word = setup.seed; rows = [] })
@@ -275,4 +266,4 @@ own_turns_are_of_players setup start (suc n) limits =
 
 pub own_turns_are_so_many : OwnTurnsAreSoMany
 own_turns_are_so_many setup start zero = refl
-own_turns_are_so_many setup start (suc n) = omega (arith, turns_in-cons (Turn (orders_at (start + suc n) setup.commands)) (own_turns setup start n), own_turns_are_so_many setup start n)
+own_turns_are_so_many setup start (suc n) = omega (arith, own_turns_are_so_many setup start n)

@@ -1,11 +1,11 @@
 -- What the laws of turns and pasts say.
-use Rattle.std.specs.Prelude.{◌≡◌, ℕ, ◌+◌, ◌<◌, ◌≤◌, ℤ, List, All, count_by}
+use Rattle.std.specs.Prelude.{◌≡◌, ℕ, ◌+◌, ◌<◌, ◌≤◌, ℤ, List, All}
 use Rattle.sim_base.specs.declared.command.PlayerCommand.{PlayerCommand}
 use Rattle.sim_base.specs.declared.setup.Setup.{Setup}
 use Rattle.sim_base.specs.declared.state.State.{State}
 use Rattle.sim_base.specs.Limits.{IsSetup}
 use Rattle.sim_base.specs.Validity.{IsValid}
-use Rattle.sim_base.specs.Turn.{turn, Item, Turn, Bend, Past, bent, from, after, is_turn, own_turns}
+use Rattle.sim_base.specs.Turn.{turn, Item, Turn, Bend, Past, bent, from, after, turns_in, own_turns}
 use Rattle.sim_turn_laws.specs.CommandLaws.{IsOrderOf}
 
 -- a turn below the last one, with commands of players of the match, keeps a state valid
@@ -34,10 +34,6 @@ IsItemOf setup (Bend id health) = Unit {0}
 abbrev pub IsPastOf : Setup → Past → Type 0
 IsPastOf setup past = All (IsItemOf setup) past
 
--- how many turns a past has
-abbrev pub turns_in : Past → ℕ
-turns_in past = count_by is_turn past
-
 -- a past that does not lead beyond the last turn keeps a state valid
 abbrev pub FromKeepsValid : Type 0
 FromKeepsValid =
@@ -55,9 +51,10 @@ AfterIsValid = (setup : Setup) (past : Past) → IsSetup setup → IsPastOf setu
 abbrev pub AfterCountsTurns : Type 0
 AfterCountsTurns = (setup : Setup) (past : Past) → (after setup past).turn ≡ turns_in past
 
--- the match's own turns are such a past, of so many turns
+-- the match's own turns are such a past
 abbrev pub OwnTurnsAreOfPlayers : Type 0
 OwnTurnsAreOfPlayers = (setup : Setup) (start n : ℕ) → IsSetup setup → IsPastOf setup (own_turns setup start n)
 
+-- and there are as many as were asked for
 abbrev pub OwnTurnsAreSoMany : Type 0
 OwnTurnsAreSoMany = (setup : Setup) (start n : ℕ) → turns_in (own_turns setup start n) ≡ n
