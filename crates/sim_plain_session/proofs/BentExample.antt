@@ -1,0 +1,62 @@
+-- A session in which a client is bent, with digests computed: its report and that of the client who loads from it differ from the first.
+use Rattle.std.proofs.Common.{◌≡◌, ℕ, pos, refl, List, [], ◌∷◌, false}
+use Rattle.std.specs.Str.{bytes_eq}
+use Rattle.md5.specs.Md5.{block_words, rounds, compress, hash_after, digest_bytes, md5}
+use Rattle.sim_base.specs.declared.setup.Setup.{Setup}
+use Rattle.sim_base.specs.declared.step.Step.{Step}
+use Rattle.sim_base.specs.declared.step.Step.TheVariants as step
+use Rattle.sim_base.specs.declared.step.Event.TheVariants as event
+use Rattle.sim_plain.specs.declared.message.UpOf.TheVariants as up
+use Rattle.sim_plain.specs.declared.message.DownOf.TheVariants as down
+use Rattle.sim_base.specs.Bytes.{u16_bytes, u32_bytes, u64_bytes, i32_bytes}
+use Rattle.sim_base.specs.Turn.{Past, Turn, Bend, after}
+use Rattle.sim_base.specs.Spelling.{digest}
+use Rattle.sim_base.proofs.ExampleMatches.{setup_of, no_id, post, first, at_metre}
+use Rattle.sim_plain_session.specs.Printed.{session_events}
+use Rattle.sim_plain_session.specs.Sessions.{session}
+
+abbrev guarded : Setup
+guarded = record (setup_of no_id 16 (0 ∷ 0 ∷ 0 ∷ 0 ∷ []) 3 0 (post ∷ []) (first 0 1 (at_metre 2) ∷ [])) { delay = 2; turns = 3 }
+
+-- the health of the post is bent to 1
+abbrev bend : Past
+bend = Bend 2 (pos 65536) ∷ []
+
+-- the digests at turn 0 and 1, with and without the bend
+abbrev begin : List ℕ
+begin = digest guarded (after guarded [])
+
+abbrev begin_bent : List ℕ
+begin_bent = digest guarded (after guarded bend)
+
+abbrev one : List ℕ
+one = digest guarded (after guarded (Turn [] ∷ []))
+
+abbrev one_bent : List ℕ
+one_bent = digest guarded (after guarded (Turn [] ∷ bend))
+
+they_differ : bytes_eq one one_bent ≡ false
+unfolding digest u16_bytes u32_bytes u64_bytes i32_bytes block_words rounds compress hash_after digest_bytes md5
+they_differ = refl
+
+abbrev bending : List Step
+bending =
+    step.Bend 1 2 (pos 65536) ∷ step.Join 3 ∷ step.Up 3 ∷ step.Down 1 ∷ step.Up 1 ∷ step.Down 3 ∷ step.Down 3
+    ∷ step.Play 2 ∷ step.Up 2 ∷ step.Play 1 ∷ step.Up 1 ∷ step.Play 3 ∷ step.Up 3 ∷ []
+
+bending_events : session_events guarded 2 bending
+    ≡ event.Start 1 begin ∷ event.Start 2 begin ∷ event.Bend 1 0 begin_bent ∷ event.Join 3 ∷ event.Load 3 0 begin_bent
+    ∷ event.Play 2 1 one ∷ event.Play 1 1 one_bent ∷ event.Notice 1 1 ∷ event.Play 3 1 one_bent ∷ event.Notice 1 3 ∷ []
+unfolding digest u16_bytes u32_bytes u64_bytes i32_bytes block_words rounds compress hash_after digest_bytes md5
+bending_events = refl
+
+bending_ups : (session guarded 2 bending).ups 3 ≡ up.Done 3 ∷ []
+unfolding digest u16_bytes u32_bytes u64_bytes i32_bytes block_words rounds compress hash_after digest_bytes md5
+bending_ups = refl
+
+bending_downs : (session guarded 2 bending).downs 1 ≡ down.Notice 1 1 ∷ down.Notice 1 3 ∷ []
+unfolding digest u16_bytes u32_bytes u64_bytes i32_bytes block_words rounds compress hash_after digest_bytes md5
+bending_downs = refl
+
+bending_released : (session guarded 2 bending).server.released ≡ 2
+bending_released = refl

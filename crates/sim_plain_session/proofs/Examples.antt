@@ -1,0 +1,131 @@
+-- Sessions as they come out.
+use Rattle.std.proofs.Common.{◌≡◌, ℕ, zero, suc, ◌++◌, length, ◌+◌, ◌*◌, pos, refl, List, [], ◌∷◌}
+use Rattle.sim_base.specs.declared.place.Point.{Point}
+use Rattle.sim_base.specs.declared.command.Command.TheVariants.{Walk, Stop, Resign}
+use Rattle.sim_base.specs.declared.command.PlayerCommand.{PlayerCommand}
+use Rattle.sim_base.specs.declared.setup.Setup.{Setup}
+use Rattle.sim_base.specs.declared.step.Step.{Step}
+use Rattle.sim_base.specs.declared.step.Step.TheVariants as step
+use Rattle.sim_base.specs.declared.step.Event.TheVariants as event
+use Rattle.sim_base.specs.Turn.{Past, Turn, after}
+use Rattle.sim_base.specs.Spelling.{digest}
+use Rattle.sim_base.proofs.ExampleMatches.{setup_of, no_id, walker, first, order}
+use Rattle.sim_plain.specs.declared.message.UpOf.TheVariants as up
+use Rattle.sim_plain.specs.declared.message.DownOf.TheVariants as down
+use Rattle.sim_plain_session.specs.Clients.{Phase, Off, Joining, On}
+use Rattle.sim_plain_session.specs.Printed.{events, session_events}
+use Rattle.sim_plain_session.specs.Sessions.{session}
+
+-- the point half a metre behind these metres
+abbrev half : ℕ → ℕ → Point
+half x z = record { x = pos (x * 65536 + 32768); z = pos (z * 65536 + 32768) }
+
+-- the digest after a past
+abbrev shown : Setup → Past → List ℕ
+shown setup past = digest setup (after setup past)
+
+-- the past of a client, and its turns
+abbrev past_of : Phase → Past
+past_of Off = []
+past_of Joining = []
+past_of (On seat) = seat.past
+
+-- ---- two clients order and play a turn each
+
+abbrev two : Setup
+two = record (setup_of no_id 16 (0 ∷ 0 ∷ 0 ∷ []) 2 0 (walker ∷ []) (first 0 1 (half 2 2) ∷ first 0 2 (half 2 8) ∷ [])) { delay = 2; turns = 5 }
+
+abbrev walks : PlayerCommand
+walks = order 1 (Walk (2 ∷ []) (half 6 2))
+
+abbrev stops : PlayerCommand
+stops = order 2 (Stop (3 ∷ []))
+
+abbrev ordering : List Step
+ordering = step.Order 1 walks.command ∷ step.Up 1 ∷ step.Order 2 stops.command ∷ step.Up 2 ∷ step.Play 1 ∷ step.Play 2 ∷ []
+
+ordering_events : session_events two 2 ordering
+    ≡ event.Start 1 (shown two []) ∷ event.Start 2 (shown two []) ∷ event.Order 1 3 ∷ event.Order 2 3
+    ∷ event.Play 1 1 (shown two (Turn [] ∷ [])) ∷ event.Play 2 1 (shown two (Turn [] ∷ [])) ∷ []
+ordering_events = refl
+
+ordering_released : (session two 2 ordering).server.released ≡ 2
+ordering_released = refl
+
+ordering_kept : (session two 2 ordering).server.kept 3 ≡ walks ∷ stops ∷ []
+ordering_kept = refl
+
+ordering_end : past_of ((session two 2 ordering).client 2) ≡ Turn [] ∷ []
+ordering_end = refl
+
+ordering_ups : (session two 2 ordering).ups 1 ≡ up.Report 1 (shown two (Turn [] ∷ [])) ∷ up.Done 3 ∷ []
+ordering_ups = refl
+
+ordering_downs : (session two 2 ordering).downs 1 ≡ down.Command 3 walks ∷ down.Command 3 stops ∷ []
+ordering_downs = refl
+
+-- ---- a turn that is not released is not played
+
+unreleased_events : session_events two 2 (step.Play 1 ∷ step.Play 1 ∷ step.Play 1 ∷ [])
+    ≡ event.Start 1 (shown two []) ∷ event.Start 2 (shown two [])
+    ∷ event.Play 1 1 (shown two (Turn [] ∷ [])) ∷ event.Play 1 2 (shown two (Turn [] ∷ Turn [] ∷ [])) ∷ []
+unreleased_events = refl
+
+-- ---- a donor that is cut, and another one that is asked
+
+abbrev three : Setup
+three = record two { players = 3; land = record two.land { masks = 0 ∷ 0 ∷ 0 ∷ 0 ∷ [] } }
+
+abbrev donors : List Step
+donors = step.Join 3 ∷ step.Up 3 ∷ step.Cut 1 ∷ step.Down 2 ∷ step.Up 2 ∷ step.Down 3 ∷ []
+
+donors_events : session_events three 2 donors
+    ≡ event.Start 1 (shown three []) ∷ event.Start 2 (shown three []) ∷ event.Join 3 ∷ event.Cut 1 ∷ event.Load 3 0 (shown three []) ∷ []
+donors_events = refl
+
+donors_asked : (session three 2 (step.Join 3 ∷ step.Up 3 ∷ step.Cut 1 ∷ [])).downs 2 ≡ down.Ask 3 ∷ []
+donors_asked = refl
+
+-- ---- nobody is left to ask
+
+abbrev alone : List Step
+alone = step.Cut 1 ∷ step.Join 2 ∷ step.Up 2 ∷ step.Down 2 ∷ []
+
+alone_events : session_events two 1 alone ≡ event.Start 1 (shown two []) ∷ event.Cut 1 ∷ event.Join 2 ∷ event.Refused 2 4 ∷ []
+alone_events = refl
+
+alone_end : (session two 1 alone).client 2 ≡ Off
+alone_end = refl
+
+alone_pipes : (session two 1 alone).ups 2 ≡ []
+alone_pipes = refl
+
+-- ---- an order that is one too many, since a client forgets at a load how many it has given
+
+abbrev times : ℕ → List Step → List Step
+times zero steps = []
+times (suc n) steps = steps ++ times n steps
+
+abbrev crowding : List Step
+crowding =
+    times 64 (step.Order 1 Resign ∷ step.Up 1 ∷ []) ++ (step.Cut 1 ∷ step.Join 1 ∷ step.Up 1 ∷ []) ++ times 65 (step.Down 2 ∷ [])
+    ++ (step.Up 2 ∷ []) ++ times 66 (step.Down 1 ∷ []) ++ (step.Order 1 Resign ∷ step.Up 1 ∷ [])
+
+crowding_refused : events two (session two 2 crowding) (step.Down 1) ≡ event.Refused 1 3 ∷ []
+crowding_refused = refl
+
+crowding_kept : length ((session two 2 crowding).server.kept 3) ≡ 64
+crowding_kept = refl
+
+-- ---- a state for a wish that was cut serves the next wish, and the state for that is dropped
+
+abbrev again : List Step
+again =
+    step.Join 3 ∷ step.Up 3 ∷ step.Cut 3 ∷ step.Join 3 ∷ step.Up 3 ∷ step.Down 1 ∷ step.Down 1 ∷ step.Up 1 ∷ step.Up 1 ∷ step.Down 3 ∷ []
+
+again_events : session_events three 2 again
+    ≡ event.Start 1 (shown three []) ∷ event.Start 2 (shown three []) ∷ event.Join 3 ∷ event.Cut 3 ∷ event.Join 3 ∷ event.Load 3 0 (shown three []) ∷ []
+again_events = refl
+
+again_downs : (session three 2 again).downs 3 ≡ down.Release 2 ∷ []
+again_downs = refl

@@ -1,0 +1,46 @@
+-- A client with a state goes on standing for one with a past.
+use Rattle.std.proofs.Common.{◌≡◌, ◌⊎◌, inl, inr, ℕ, suc, ◌<◌, List, [], ◌∷◌, ◌++◌, refl, sym, ap, ◌∙◌, subst, arith}
+use Rattle.std.proofs.lemmas.Bool.{cases_eq}
+use Rattle.sim_base.specs.declared.command.PlayerCommand.{PlayerCommand}
+use Rattle.sim_base.specs.declared.state.State.{State}
+use Rattle.sim_base.specs.Turn.{turn, bent, turns_in}
+use Rattle.sim_base.specs.Spelling.{digest}
+use Rattle.sim_plain.specs.Functions.{put}
+use Rattle.sim_turn_laws.proofs.Turning.{after_counts_turns}
+use Rattle.sim_plain_session.proofs.Functions.{put_same, put_other}
+use Rattle.sim_plain_session.specs.Players.{SameTurn, BeginningStands, PlayingStands, BendingStands, LearningStands}
+
+pub same_turn : SameTurn
+same_turn setup player seat s =
+    (ap (λ (state : State). state.turn) s.state ∙ after_counts_turns setup seat.past, ap (digest setup) s.state)
+
+pub beginning_stands : BeginningStands
+beginning_stands setup done released past = record { state = refl; known = λ t above. refl; released = refl; done = refl; orders = refl }
+
+pub playing_stands : PlayingStands
+playing_stands setup player seat known s same =
+    let at : player.state.turn ≡ turns_in seat.past = (same_turn setup player seat s).0 in
+    let orders : player.known (suc player.state.turn) ≡ seat.known (suc (turns_in seat.past)) =
+    ap (λ n. player.known (suc n)) at ∙ s.known (suc (turns_in seat.past)) (omega arith) in
+    record {
+      state = λ i. turn setup (s.state i) (orders i);
+      known = λ t above. same t (omega (arith, at, above)) ∙ s.known t (omega (arith, above));
+      released = s.released;
+      done = s.done;
+      orders = s.orders;
+    }
+
+pub bending_stands : BendingStands
+bending_stands setup player seat id health s =
+    record { state = ap (λ (state : State). bent setup state id health) s.state; known = s.known; released = s.released; done = s.done; orders = s.orders }
+
+pub learning_stands : LearningStands
+learning_stands setup player seat t order s above =
+    record { state = s.state; known = λ u over. by u over (cases_eq u t); released = s.released; done = s.done; orders = s.orders }
+  where
+    by : (u : ℕ) → turns_in seat.past < u → (u ≡ t) ⊎ (u ≡ t → ⊥) → put t (player.known t ++ order ∷ []) player.known u ≡ put t (seat.known t ++ order ∷ []) seat.known u
+    by u over (inl e) =
+        subst (λ v. put t (player.known t ++ order ∷ []) player.known v ≡ put t (seat.known t ++ order ∷ []) seat.known v) (sym e)
+        (put_same t (player.known t ++ order ∷ []) player.known ∙ ap (λ (l : List PlayerCommand). l ++ order ∷ []) (s.known t above) ∙ sym (put_same t (seat.known t ++ order ∷ []) seat.known))
+    by u over (inr apart) =
+        put_other t (player.known t ++ order ∷ []) player.known u apart ∙ s.known u over ∙ sym (put_other t (seat.known t ++ order ∷ []) seat.known u apart)

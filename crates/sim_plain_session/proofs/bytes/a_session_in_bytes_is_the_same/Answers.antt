@@ -1,0 +1,5 @@
+use Rattle.sim_plain_session.proofs.InBytes.{server_hears_bytes, server_is_after_bytes, bytes_go_down, bytes_go_up}
+use Rattle.sim_plain_session.proofs.bytes.a_session_in_bytes_is_the_same.Goals as goal
+
+pub returns : goal.returns
+returns c = record { heard = server_hears_bytes; server = server_is_after_bytes; down = bytes_go_down; up = bytes_go_up }

@@ -1,0 +1,7 @@
+pub mod Pasts
+pub mod Clients
+pub mod Sessions
+pub mod Printed
+pub mod Players
+pub mod Bytes
+pub mod Laws

@@ -1,0 +1,199 @@
+-- A client is cut.
+use Rattle.std.proofs.Common.{◌≡◌, ◌⊎◌, inl, inr, ℕ, ◌≤◌, Bool, true, false, true≢false, List, [], ◌∷◌, ◌++◌, map, refl, sym, ap, ◌∙◌, subst, append-nil, append_assoc, nat_lt, Option, Some, None, filter}
+use Rattle.std.proofs.lemmas.Bool.{cases_eq, and_right, eq-eqb, ne_eqb, cond-true, cond-false}
+use Rattle.sim_base.specs.declared.setup.Setup.{Setup}
+use Rattle.sim_base.specs.Turn.{Past}
+use Rattle.sim_plain.specs.declared.message.DownOf.TheVariants as down
+use Rattle.sim_plain.specs.declared.status.Status.{Status}
+use Rattle.sim_plain.specs.declared.status.Status.TheVariants.{Out, Waiting, In}
+use Rattle.sim_plain.specs.Functions.{up_to}
+use Rattle.sim_plain.specs.Server.{Server, is_in, waits_for, donor, seat, with_status, raised, reseated}
+use Rattle.sim_plain.specs.Posts.{release, asked}
+use Rattle.sim_plain_session.proofs.Functions.{put_same, put_other}
+use Rattle.sim_plain_session.specs.Clients.{Up, Down, Phase, Off, Joining, On}
+use Rattle.sim_plain_session.specs.Pasts.{rules_of, is_client}
+use Rattle.sim_plain_session.specs.Sessions.{Session, cut, leaves}
+use Rattle.sim_session_laws.proofs.ClientSteps.{fits_as}
+use Rattle.sim_session_laws.proofs.Invariant.{Plays, Fits, Sound, Holds}
+use Rattle.sim_session_laws.proofs.ServerLemmas.{Told, fits_told, IsQuiet, Stay, told_quiet, quiet_none, quiet_asks, release_is, told_raised, Goes, fits_goes, goes_one}
+use Rattle.sim_session_laws.proofs.UpSteps.{sound_status, sound_raised, ins_high, waits_is, donor_in}
+
+in_waits_not : (c : ℕ) (st : Status) → is_in st ≡ true → waits_for c st ≡ false
+in_waits_not c Out e = absurd (true≢false (sym e))
+in_waits_not c (Waiting j) e = absurd (true≢false (sym e))
+in_waits_not c (In done) e = refl
+
+-- ---- the statuses after the cut
+
+pub reseated_stays : (setup : Setup) (c : ℕ) (s : Server) (d : ℕ) → waits_for c (s.status d) ≡ false → (reseated (rules_of setup) c s).status d ≡ s.status d
+reseated_stays setup c s d e = cond-false _ (seat (donor (rules_of setup) s)) (s.status d) e
+
+pub reseated_moves : (setup : Setup) (c : ℕ) (s : Server) (d : ℕ) → waits_for c (s.status d) ≡ true → (reseated (rules_of setup) c s).status d ≡ seat (donor (rules_of setup) s)
+reseated_moves setup c s d e = cond-true _ (seat (donor (rules_of setup) s)) (s.status d) e
+
+pub reseated_in : (setup : Setup) (c : ℕ) (s : Server) → Stay s (reseated (rules_of setup) c s)
+reseated_in setup c s j e = ap is_in (reseated_stays setup c s j (in_waits_not c (s.status j) e)) ∙ e
+
+sound_reseated : (setup : Setup) (c : ℕ) (s : Server) → Sound setup s → Sound setup (reseated (rules_of setup) c s)
+sound_reseated setup c s sound =
+    record {
+      released = sound.released;
+      players = sound.players;
+      inside = sound.inside;
+      clients = λ d none. let out = sound.clients d none in reseated_stays setup c s d (ap (waits_for c) out) ∙ out;
+    }
+
+-- ---- what each other client sees
+
+abbrev turned_away : List Down
+turned_away = down.Refused 4 ∷ []
+
+-- c is out
+told_out : (setup : Setup) (s : Server) (c : ℕ) (st : Status) → waits_for c st ≡ false → Told setup s (with_status c Out s) st []
+told_out setup s c Out e = refl
+told_out setup s c (Waiting j) e = (refl, λ h. ap is_in (put_other c Out s.status j (λ f. true≢false (sym (eq-eqb j c f) ∙ e))) ∙ h)
+told_out setup s c (In done) e = λ o ups downs p. subst (λ (l : List Down). Plays setup s.released s.kept done o ups l) (sym (append-nil downs)) p
+
+-- the released turns have risen, and those that waited for c are seated anew
+goes_reseated : (setup : Setup) (c : ℕ) (s : Server) (who : List ℕ) (d : ℕ) → waits_for c (s.status d) ≡ false → Goes setup s (reseated (rules_of setup) c s) (asked (donor (rules_of setup) s) who (λ j. waits_for c (s.status j)) d) d
+goes_reseated setup c s who d e = by (donor (rules_of setup) s) refl
+  where
+    s' : Server
+    s' = reseated (rules_of setup) c s
+
+    by : (o : Option ℕ) → donor (rules_of setup) s ≡ o → Goes setup s s' (asked o who (λ j. waits_for c (s.status j)) d) d
+    by None f =
+        let none = cond-false (waits_for c (s.status d)) turned_away [] e in
+        record { same = reseated_stays setup c s d e; told = told_quiet setup s s' (s.status d) _ refl refl (reseated_in setup c s) (subst (λ (l : List Down). IsQuiet setup l) (sym none) (quiet_none setup)) (λ g. none) }
+    by (Some k) f = goes_one setup s s' k d (map down.Ask who) refl refl (reseated_in setup c s) (reseated_stays setup c s d e) (donor_in setup s k f) (quiet_asks setup who)
+
+fits_other : (setup : Setup) (s : Server) (c : ℕ) (who : List ℕ) (d : ℕ) (ph : Phase) (ups : List Up) (downs : List Down) → Sound setup (with_status c Out s) → (d ≡ c → ⊥) → waits_for c (s.status d) ≡ false → Fits setup s (s.status d) ph ups downs → (let s1 = with_status c Out s in let s2 = raised (rules_of setup) s1 in Fits setup (reseated (rules_of setup) c s2) ((reseated (rules_of setup) c s2).status d) ph ups (downs ++ (release s1.status s1.released s2.released d ++ asked (donor (rules_of setup) s1) who (λ j. waits_for c (s1.status j)) d)))
+fits_other setup s c who d ph ups downs sound apart e h =
+    fits_as setup s3 _ _ _ _ _ _ _ _ refl refl refl (append_assoc downs told asks) third
+  where
+    s1 : Server
+    s1 = with_status c Out s
+
+    s2 : Server
+    s2 = raised (rules_of setup) s1
+
+    s3 : Server
+    s3 = reseated (rules_of setup) c s2
+
+    told : List Down
+    told = release s1.status s1.released s2.released d
+
+    asks : List Down
+    asks = asked (donor (rules_of setup) s1) who (λ j. waits_for c (s1.status j)) d
+
+    same : s1.status d ≡ s.status d
+    same = put_other c Out s.status d apart
+
+    first : Fits setup s1 (s1.status d) ph ups downs
+    first = fits_as setup s1 _ _ _ _ _ _ _ _ (sym same) refl refl (append-nil downs) (fits_told setup s s1 (s.status d) [] ph ups downs (told_out setup s c (s.status d) e) h)
+
+    second : Fits setup s2 (s2.status d) ph ups (downs ++ told)
+    second = fits_told setup s1 s2 (s1.status d) told ph ups downs (told_raised setup s1 d sound.clients) first
+
+    third : Fits setup s3 (s3.status d) ph ups ((downs ++ told) ++ asks)
+    third = fits_goes setup s2 s3 asks d ph ups (downs ++ told) (goes_reseated setup c s2 who d (ap (waits_for c) same ∙ e)) second
+
+-- nothing is released to a client that is not In
+no_release : (s : Server) (r d : ℕ) → is_in (s.status d) ≡ false → release {B = Past} s.status s.released r d ≡ []
+no_release s r d e = release_is s.status s.released r d ∙ cond-false _ (down.Release r ∷ []) [] (and_right (nat_lt s.released r) _ e)
+
+waits_not_in : (c : ℕ) (st : Status) → waits_for c st ≡ true → is_in st ≡ false
+waits_not_in c st e = ap is_in (waits_is c st e)
+
+not_donor : (setup : Setup) (s : Server) (d k : ℕ) → donor (rules_of setup) s ≡ Some k → is_in (s.status d) ≡ false → d ≡ k → ⊥
+not_donor setup s d k e out same = true≢false (sym (donor_in setup s k e) ∙ subst (λ x. is_in (s.status x) ≡ false) same out)
+
+-- who waited for c is joining, and its pipes are empty
+was_waiting : (setup : Setup) (s : Server) (c : ℕ) (st : Status) (ph : Phase) (ups : List Up) (downs : List Down) → st ≡ Waiting c → Fits setup s st ph ups downs → (ph ≡ Joining) × (ups ≡ []) × (downs ≡ [])
+was_waiting setup s c Out ph ups downs e h = absurd (cc)
+was_waiting setup s c (In done) ph ups downs e h = absurd (cc)
+was_waiting setup s c (Waiting j) Off ups downs e h = absurd h
+was_waiting setup s c (Waiting j) (On o) ups downs e h = absurd h
+was_waiting setup s c (Waiting j) Joining ups downs e h = (refl, h.nothing.no_ups, h.nothing.no_downs)
+
+fits_waited : (setup : Setup) (c : ℕ) (s1 : Server) (r : ℕ) (who : List ℕ) (d : ℕ) (ph : Phase) (ups : List Up) (downs : List Down) → waits_for c (s1.status d) ≡ true → (ph ≡ Joining) × (ups ≡ []) × (downs ≡ []) → (let s2 = raised (rules_of setup) s1 in Fits setup (reseated (rules_of setup) c s2) ((reseated (rules_of setup) c s2).status d) ph ups (downs ++ (release s1.status s1.released r d ++ asked (donor (rules_of setup) s1) who (λ j. waits_for c (s1.status j)) d)))
+fits_waited setup c s1 r who d ph ups downs e empty = by (donor (rules_of setup) s1) refl
+  where
+    s3 : Server
+    s3 = reseated (rules_of setup) c (raised (rules_of setup) s1)
+
+    none : release {B = Past} s1.status s1.released r d ≡ []
+    none = no_release s1 r d (waits_not_in c (s1.status d) e)
+
+    by : (o : Option ℕ) → donor (rules_of setup) s1 ≡ o → Fits setup s3 (s3.status d) ph ups (downs ++ (release s1.status s1.released r d ++ asked o who (λ j. waits_for c (s1.status j)) d))
+    by None f =
+        fits_as setup s3 _ _ _ _ _ _ _ _ (sym (reseated_moves setup c (raised (rules_of setup) s1) d e ∙ ap seat f)) (sym empty.0) refl (λ i. (sym empty.2) i ++ ((sym none) i ++ (sym (cond-true (waits_for c (s1.status d)) turned_away [] e)) i))
+        (inr (empty.1, refl))
+    by (Some k) f =
+        fits_as setup s3 _ _ _ _ _ _ _ _ (sym (reseated_moves setup c (raised (rules_of setup) s1) d e ∙ ap seat f)) (sym empty.0) refl (λ i. (sym empty.2) i ++ ((sym none) i ++ (sym (cond-false _ (map down.Ask who) [] (ne_eqb d k (not_donor setup s1 d k f (waits_not_in c (s1.status d) e))))) i))
+        (record { nothing = record { no_ups = empty.1; no_downs = refl }; there = reseated_in setup c (raised (rules_of setup) s1) k (donor_in setup s1 k f) })
+
+-- the client that is cut is sent nothing
+fits_cut : (setup : Setup) (c : ℕ) (s1 : Server) (r : ℕ) (who : List ℕ) → s1.status c ≡ Out → (let s2 = raised (rules_of setup) s1 in Fits setup (reseated (rules_of setup) c s2) ((reseated (rules_of setup) c s2).status c) Off [] (release s1.status s1.released r c ++ asked (donor (rules_of setup) s1) who (λ j. waits_for c (s1.status j)) c))
+fits_cut setup c s1 r who out = by (donor (rules_of setup) s1) refl
+  where
+    s3 : Server
+    s3 = reseated (rules_of setup) c (raised (rules_of setup) s1)
+
+    waits : waits_for c (s1.status c) ≡ false
+    waits = ap (waits_for c) out
+
+    out_still : s3.status c ≡ Out
+    out_still = reseated_stays setup c (raised (rules_of setup) s1) c waits ∙ out
+
+    none : release {B = Past} s1.status s1.released r c ≡ []
+    none = no_release s1 r c (ap is_in out)
+
+    by : (o : Option ℕ) → donor (rules_of setup) s1 ≡ o → Fits setup s3 (s3.status c) Off [] (release s1.status s1.released r c ++ asked o who (λ j. waits_for c (s1.status j)) c)
+    by None f = fits_as setup s3 _ _ _ _ _ _ _ _ (sym out_still) refl refl (λ i. (sym none) i ++ (sym (cond-false (waits_for c (s1.status c)) turned_away [] waits)) i) (record { no_ups = refl; no_downs = refl })
+    by (Some k) f = fits_as setup s3 _ _ _ _ _ _ _ _ (sym out_still) refl refl (λ i. (sym none) i ++ (sym (cond-false _ (map down.Ask who) [] (ne_eqb c k (not_donor setup s1 c k f (ap is_in out))))) i) (record { no_ups = refl; no_downs = refl })
+
+-- ---- the session
+
+holds_cut : (setup : Setup) (s : Session) (c : ℕ) → is_client setup c ≡ true → Holds setup s → Holds setup (cut setup c s)
+holds_cut setup s c client h = record { server = sound_reseated setup c (raised (rules_of setup) s1) (sound_raised setup s1 sound high); each = λ d. by d (cases_eq d c) }
+  where
+    s1 : Server
+    s1 = with_status c Out s.server
+
+    sound : Sound setup s1
+    sound = sound_status setup s.server c Out h.server client
+
+    who : List ℕ
+    who = filter (λ j. waits_for c (s1.status j)) (up_to setup.players)
+
+    high_at : (d done : ℕ) → (d ≡ c) ⊎ (d ≡ c → ⊥) → s1.status d ≡ In done → done ≤ setup.turns
+    high_at d done (inl same) e = let out : s1.status d ≡ Out = subst (λ x. s1.status x ≡ Out) (sym same) (put_same c Out s.server.status) in absurd (cc)
+    high_at d done (inr apart) e = ins_high setup s.server s.client s.ups s.downs h.each d done (sym (put_other c Out s.server.status d apart) ∙ e)
+
+    high : (d done : ℕ) → s1.status d ≡ In done → done ≤ setup.turns
+    high d done e = high_at d done (cases_eq d c) e
+
+    s' : Session
+    s' = cut setup c s
+
+    other : (d : ℕ) → (d ≡ c → ⊥) → (b : Bool) → waits_for c (s.server.status d) ≡ b → Fits setup s'.server (s'.server.status d) (s.client d) (s.ups d) (s.downs d ++ (release s1.status s1.released (raised (rules_of setup) s1).released d ++ asked (donor (rules_of setup) s1) who (λ j. waits_for c (s1.status j)) d))
+    other d apart false e = fits_other setup s.server c who d (s.client d) (s.ups d) (s.downs d) sound apart e (h.each d)
+    other d apart true e = fits_waited setup c s1 (raised (rules_of setup) s1).released who d (s.client d) (s.ups d) (s.downs d) (ap (waits_for c) (put_other c Out s.server.status d apart) ∙ e) (was_waiting setup s.server c (s.server.status d) (s.client d) (s.ups d) (s.downs d) (waits_is c (s.server.status d) e) (h.each d))
+
+    by : (d : ℕ) → (d ≡ c) ⊎ (d ≡ c → ⊥) → Fits setup s'.server (s'.server.status d) (s'.client d) (s'.ups d) (s'.downs d)
+    by d (inl e) =
+        subst (λ z. Fits setup s'.server (s'.server.status z) (s'.client z) (s'.ups z) (s'.downs z)) (sym e)
+        (fits_as setup s'.server _ _ _ _ _ _ _ _ refl (sym (put_same c Off s.client)) (sym (put_same c [] s.ups)) (λ i. (sym (put_same c [] s.downs)) i ++ (release s1.status s1.released (raised (rules_of setup) s1).released c ++ asked (donor (rules_of setup) s1) who (λ j. waits_for c (s1.status j)) c))
+        (fits_cut setup c s1 (raised (rules_of setup) s1).released who (put_same c Out s.server.status)))
+    by d (inr apart) =
+        fits_as setup s'.server _ _ _ _ _ _ _ _ refl (sym (put_other c Off s.client d apart)) (sym (put_other c [] s.ups d apart)) (λ i. (sym (put_other c [] s.downs d apart)) i ++ (release s1.status s1.released (raised (rules_of setup) s1).released d ++ asked (donor (rules_of setup) s1) who (λ j. waits_for c (s1.status j)) d))
+        (other d apart (waits_for c (s.server.status d)) refl)
+
+pub holds_leaves : (setup : Setup) (s : Session) (c : ℕ) → is_client setup c ≡ true → Holds setup s → Holds setup (leaves setup c (s.client c) s)
+holds_leaves setup s c client h = by (s.client c)
+  where
+    by : (ph : Phase) → Holds setup (leaves setup c ph s)
+    by Off = h
+    by Joining = holds_cut setup s c client h
+    by (On o) = holds_cut setup s c client h

@@ -1,0 +1,15 @@
+pub mod Invariant
+pub mod Basics
+pub mod PlaysLemmas
+pub mod ClientSteps
+pub mod ServerLemmas
+pub mod LoadLemmas
+pub mod UpSteps
+pub mod CutSteps
+pub mod Runs
+pub mod GoodPipes
+pub mod Fitting
+pub mod StandingFacts
+pub mod TurnNumberFacts
+pub mod PastFacts
+pub mod Final

@@ -1,0 +1,54 @@
+-- Valid states, and who stands where.
+use Rattle.std.proofs.Common.{inl, inr, List, refl, sym, ap, subst, arith}
+use Rattle.sim_base.specs.declared.setup.Setup.{Setup}
+use Rattle.sim_plain.specs.declared.message.DownOf.TheVariants as down
+use Rattle.sim_plain.specs.declared.status.Status.TheVariants.{Out, Waiting}
+use Rattle.sim_plain.specs.Server.{is_in, donor, seat}
+use Rattle.sim_base.specs.Limits.{IsSetup}
+use Rattle.sim_turn_laws.proofs.Turning.{after_counts_turns, after_is_valid}
+use Rattle.sim_plain_session.specs.Clients.{Down, Joining}
+use Rattle.sim_plain_session.specs.Laws.{Carries}
+use Rattle.sim_plain_session.specs.Sessions.{Session, session}
+use Rattle.sim_session_laws.proofs.Invariant.{Waits, Holds}
+use Rattle.sim_session_laws.proofs.Runs.{holds_session}
+use Rattle.sim_session_laws.specs.Always.{Always}
+use Rattle.sim_session_laws.specs.Standing.{PastsAreValid, KnownAreOfPlayers, StatesHaveTurns, NoStateIsRefused, OffIsOut, OnIsIn, OutHasWish, WaitingHasDonor, InHasState, StrangersAreOut}
+use Rattle.sim_session_laws.proofs.Fitting.{good_on, off_is, fits_at, good_pasts, loads_at, Follows}
+
+pub known_are_of_players : Follows KnownAreOfPlayers
+known_are_of_players setup s h c t seat e = (good_on setup s c seat h e).2.players t
+
+pub off_is_out : Follows OffIsOut
+off_is_out setup s h c e = off_is setup s.server (s.server.status c) (s.client c) (s.ups c) (s.downs c) e (h.each c)
+
+pub on_is_in : Follows OnIsIn
+on_is_in setup s h c seat e = ap is_in ((good_on setup s c seat h e).1)
+
+pub out_has_wish : Follows OutHasWish
+out_has_wish setup s h c e out = fits_at setup s c Joining Out h e out
+
+pub waiting_has_donor : Follows WaitingHasDonor
+waiting_has_donor setup s h c donor e w = let f : Waits s.server donor (s.ups c) (s.downs c) = fits_at setup s c Joining (Waiting donor) h e w in (f.nothing.no_ups, f.nothing.no_downs, f.there)
+
+pub in_has_state : Follows InHasState
+in_has_state setup s h c done e w = let f = loads_at setup s c done h e w in (f.empty, done, f.carried, f.rest, f.first)
+
+pub strangers_are_out : Follows StrangersAreOut
+strangers_are_out setup s h = h.server.clients
+
+pub states_have_turns : Follows StatesHaveTurns
+states_have_turns setup s h past is = after_counts_turns setup past
+
+pub pasts_are_valid : (setup : Setup) (s : Session) → IsSetup setup → Holds setup s → PastsAreValid setup s
+pasts_are_valid setup s limits h past is =
+    let good = good_pasts setup s past h is in after_is_valid setup past limits good.players (omega (arith, good.turn, h.server.released))
+
+pub no_state_is_refused : (setup : Setup) (s : Session) → IsSetup setup → Holds setup s → NoStateIsRefused setup s
+no_state_is_refused setup s limits h c done past rest at =
+    pasts_are_valid setup s limits h past (inr (inr (c, done, subst (λ (downs : List Down). Carries downs (down.State done past)) (sym at) (inl refl))))
+
+pub pasts_are_always_valid : Always PastsAreValid
+pasts_are_always_valid setup active steps limits few = pasts_are_valid setup (session setup active steps) limits (holds_session setup active steps few)
+
+pub no_state_is_ever_refused : Always NoStateIsRefused
+no_state_is_ever_refused setup active steps limits few = no_state_is_refused setup (session setup active steps) limits (holds_session setup active steps few)

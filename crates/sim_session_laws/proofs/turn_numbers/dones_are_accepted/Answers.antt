@@ -1,0 +1,14 @@
+use Rattle.sim_session_laws.specs.TurnNumbers.{DonesAreTurns, DonesAreCounted, DonesGoOn, DonesAreNear, StateHasDone}
+use Rattle.sim_session_laws.proofs.TurnNumberFacts.{dones_are_counted, dones_are_near, dones_are_turns, dones_go_on, state_has_done}
+use Rattle.sim_session_laws.proofs.Fitting.{always}
+use Rattle.sim_session_laws.proofs.turn_numbers.dones_are_accepted.Goals as goal
+
+pub returns : goal.returns
+returns c =
+    record {
+      turns = always DonesAreTurns dones_are_turns;
+      counted = always DonesAreCounted dones_are_counted;
+      go_on = always DonesGoOn dones_go_on;
+      near = always DonesAreNear dones_are_near;
+      loads = always StateHasDone state_has_done;
+    }

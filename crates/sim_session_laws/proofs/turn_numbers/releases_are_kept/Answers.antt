@@ -1,0 +1,17 @@
+use Rattle.sim_session_laws.specs.TurnNumbers.{StampsAreTurns, ReleasedAreTurns, ReleasesAreReleased, TurnsAreReleased, CarriedAreReleased}
+use Rattle.sim_session_laws.proofs.TurnNumberFacts.{stamps_are_turns, carried_are_released, released_are_turns, releases_are_released, turns_are_released}
+use Rattle.sim_session_laws.proofs.Fitting.{always}
+use Rattle.sim_session_laws.proofs.Final.{released_are_final, released_only_rise}
+use Rattle.sim_session_laws.proofs.turn_numbers.releases_are_kept.Goals as goal
+
+pub returns : goal.returns
+returns c =
+    record {
+      turns = always ReleasedAreTurns released_are_turns;
+      messages = always ReleasesAreReleased releases_are_released;
+      clients = always TurnsAreReleased turns_are_released;
+      carried = always CarriedAreReleased carried_are_released;
+      commands = released_are_final;
+      rise = released_only_rise;
+      stamps = always StampsAreTurns stamps_are_turns;
+    }

@@ -1,0 +1,5 @@
+pub mod Always
+pub mod Pipes
+pub mod Standing
+pub mod TurnNumbers
+pub mod Commands

@@ -1,0 +1,23 @@
+//! Valid pasts, and who stands where.
+
+ghost use Rattle.sim_session_laws.specs.Standing.{StrangersAreOut, PastsAreValid, StatesHaveTurns, NoStateIsRefused, KnownAreOfPlayers, OffIsOut, OnIsIn, OutHasWish, WaitingHasDonor, InHasState};
+ghost use Rattle.sim_session_laws.specs.Always.{Always};
+
+/// The state after every past in a session is valid and at the turn that the past has, and so no state that a client
+/// hears is refused. Every command that a client knows is by a player of the match.
+pub fn pasts_lead_to_valid_states()
+    ensures valid { Always PastsAreValid }
+    ensures turns { Always StatesHaveTurns }
+    ensures heard { Always NoStateIsRefused }
+    ensures known { Always KnownAreOfPlayers }
+{}
+
+/// What a client is, and what lies in its pipes, fits what it is to the server.
+pub fn clients_stand_where_the_server_sees_them()
+    ensures off { Always OffIsOut }
+    ensures on { Always OnIsIn }
+    ensures wishes { Always OutHasWish }
+    ensures waits { Always WaitingHasDonor }
+    ensures loads { Always InHasState }
+    ensures strangers { Always StrangersAreOut }
+{}
