@@ -1,0 +1,19 @@
+-- When a scene stands.
+use Rattle.sim_base.specs.declared.setup.Setup.{Setup}
+use Rattle.sim_base.specs.declared.state.State.{State}
+use Rattle.sim_base.specs.Limits.{IsSetup}
+use Rattle.sim_base.specs.Validity.{IsLooselyValid}
+use Rattle.sim_system.specs.declared.system.System.{Ghosts}
+use Rattle.sim_system.specs.Meanings.{Systems, AreFed}
+use Rattle.sim_system.specs.RigWords.{systems_of}
+use Rattle.sim_scene.specs.declared.scene.Scene.{Scene}
+
+-- the setup is within its limits, the state loosely valid, and the systems were told of it
+pub record IsStanding (setup : Setup) (state : State) (s : Systems) : Type 0 where
+  pub limits : IsSetup setup
+  pub valid : IsLooselyValid setup state
+  pub fed : AreFed setup state s
+
+-- so it is with the setup, the state and the systems of a scene
+abbrev pub Stands : {X : Type 0} {F : X → Type 0} → Scene X F → ((i : X) → Ghosts (F i)) → Type 0
+Stands scene sys = IsStanding scene.setup.now scene.state.now (systems_of scene.rig.now sys)

@@ -1,0 +1,14 @@
+-- The meanings of the systems of a rig. A clause passes ⟦<dyn System as System>⟧ for `sys`.
+use Rattle.sim_system.specs.declared.system.System.{Ghosts}
+use Rattle.sim_system.specs.Meanings.{Meaning, Systems, four}
+use Rattle.sim_system.specs.declared.rig.Rig.{Rig}
+
+-- the meanings of its four systems
+abbrev pub systems_by : {X : Type 0} {F : X → Type 0} → Rig X F → ((i : X) → F i → Meaning) → Systems
+systems_by rig meaning =
+    four (meaning rig.ground.vtable rig.ground.value) (meaning rig.range.vtable rig.range.value) (meaning rig.watch.vtable rig.watch.value)
+    (meaning rig.census.vtable rig.census.value)
+
+-- the same, as a clause has it
+abbrev pub systems_of : {X : Type 0} {F : X → Type 0} → Rig X F → ((i : X) → Ghosts (F i)) → Systems
+systems_of rig sys = systems_by rig (λ i v. (sys i).meaning v)
