@@ -5,7 +5,8 @@ ghost use Rattle.sim_base.specs.Places.{is_inside};
 
 mod plain;
 
-use crate::answer::way;
+use crate::answer::{Searcher, way, way_with};
+use crate::labels::labels_of;
 use plain::Plain;
 use sim_base::{Cell, Fixed, Point};
 use sim_grid::Grid;
@@ -78,7 +79,15 @@ fn way_on(
     let to_on = is_on(grid, to);
     assert!(rt; from_on);
     assert!(rt; to_on);
-    Ok(way(alloc, grid, *from, *to)?)
+    let found = way(alloc, grid, *from, *to)?;
+    let labels = labels_of(alloc, grid)?;
+    let with = way_with(alloc, grid, &labels, *from, *to)?;
+    assert!(rt; is_equal(&found, &with));
+    Ok(found)
+}
+
+fn is_equal(found: &Way, other: &Way) -> bool {
+    found.whole == other.whole && found.points.as_slice() == other.points.as_slice()
 }
 
 #[test]
@@ -132,6 +141,13 @@ fn takes_the_way_of_the_other_program(rt: HostRuntime) -> Result<(), Fail> {
             start: (6, 6),
             goal: (14, 3),
             points: &[(10, 2), (14, 3)],
+        },
+        // A closed start between two regions.
+        Case {
+            rows: &["..#.."],
+            start: (10, 2),
+            goal: (18, 2),
+            points: &[(14, 2), (18, 2)],
         },
         // One column.
         Case {
@@ -219,6 +235,48 @@ fn takes_the_way_of_the_plain_program(rt: HostRuntime) -> Result<(), Fail> {
                             "from {x} {z} to {goal_x} {goal_z}"
                         );
                     }
+                }
+            }
+        }
+    }
+    Ok(())
+}
+
+#[test]
+fn labels_two_regions(rt: HostRuntime) -> Result<(), Fail> {
+    let grid = grid_of(&rt, rt.alloc(), &["..#.."])?;
+    let labels = labels_of(rt.alloc(), &grid)?;
+    let wanted = [Some(0), Some(0), None, Some(3), Some(3)];
+    let mut x = 0u16;
+    for label in wanted {
+        assert_eq!(rt; labels.of(Cell { x, z: 0 }), label);
+        x = x.wrapping_add(1);
+    }
+    Ok(())
+}
+
+// One searcher goes on from ground to ground, of one size and of others.
+#[test]
+fn keeps_its_rooms(rt: HostRuntime) -> Result<(), Fail> {
+    let grounds: [&[&str]; 4] = [
+        &["......", ".####.", ".#..#.", "...##."],
+        &["......", "..#...", ".#....", "......"],
+        &["...", "##.", "...", ".##", "..."],
+        &["......", ".####.", ".#..#.", ".####."],
+    ];
+    let mut searcher = Searcher::new();
+    for rows in grounds {
+        let grid = grid_of(&rt, rt.alloc(), rows)?;
+        let labels = labels_of(rt.alloc(), &grid)?;
+        for start in [(2, 2), (10, 6), (10, 18), (22, 10)] {
+            for goal in [(22, 14), (10, 10), (9, 18), (2, 2)] {
+                let (from, to) = (&point(start), &point(goal));
+                let from_on = is_on(&grid, from);
+                let to_on = is_on(&grid, to);
+                if from_on && to_on {
+                    let found = way(rt.alloc(), &grid, *from, *to)?;
+                    let kept = searcher.way(rt.alloc(), &grid, &labels, *from, *to)?;
+                    assert!(rt; is_equal(&found, &kept));
                 }
             }
         }

@@ -3,11 +3,14 @@
 #![tactic(auto)]
 
 ghost use Rattle.std.specs.Prelude.{◌≡◌, ◌≤◌, IsTrue};
+ghost use Rattle.sim_grid.specs.Grids.{field_of_grid};
+ghost use Rattle.sim_path.specs.Regions.{AreLabels};
+ghost use Rattle.sim_path.specs.Floods.{label_in};
 ghost use Rattle.sim_base.specs.Places.{is_inside, is_within as is_within_cells};
 
 use sim_base::{Cell, Fixed, Point};
 use sim_grid::Grid;
-use sim_path::way;
+use sim_path::{Labels, Searcher, labels_of, way, way_with};
 use std::time::Instant;
 use std::{env, io};
 
@@ -19,6 +22,7 @@ enum Ground {
     Open,
     Scattered,
     Corridors,
+    Buildings,
 }
 
 fn main(rt: HostRuntime) -> io::Result<()> {
@@ -30,7 +34,12 @@ fn main(rt: HostRuntime) -> io::Result<()> {
     }
     for size in [128u16, 256] {
         if 1 <= size && size <= 256 {
-            for ground in [Ground::Open, Ground::Scattered, Ground::Corridors] {
+            for ground in [
+                Ground::Open,
+                Ground::Scattered,
+                Ground::Corridors,
+                Ground::Buildings,
+            ] {
                 measure(&rt, size, ground)?;
             }
         }
@@ -38,34 +47,94 @@ fn main(rt: HostRuntime) -> io::Result<()> {
     Ok(())
 }
 
-// Prints what the fastest of some calls took, from one corner to the other.
+// Prints what the fastest of some calls took: to the far corner, and to a cell that is near.
 fn measure(rt: &HostRuntime, size: u16, ground: Ground) -> io::Result<()>
-    requires least { 1 ≤ size }
+    requires least { 100 ≤ size }
     requires most { size ≤ 256 }
 {
     let Ok(mut grid) = Grid::new(rt.alloc(), size, size) else {
         return Ok(());
     };
     close_cells(&mut grid, ground);
-    let start = centre(0, 0);
-    let goal = centre(size - 1, size - 1);
-    if is_on(&grid, &start) && is_on(&grid, &goal) {
-        let best = best_of_calls(rt, &grid, start, goal)?;
-        println!(rt; "{size} by {size}, {ground:?}: {best} us")?;
+    let begin = Instant::now(rt)?;
+    let Ok(labels) = labels_of(rt.alloc(), &grid) else {
+        return Ok(());
+    };
+    let taken = begin.elapsed(rt)?.as_nanos();
+    println!(rt; "{size} by {size}, {ground:?}: labels {taken} ns")?;
+    let (grid, labels) = (&grid, &labels);
+    compare(rt, grid, labels, "far", (1, 0, size - 1, size - 2))?;
+    compare(rt, grid, labels, "middle", (20, 20, 60, 44))?;
+    compare(rt, grid, labels, "near", (50, 40, 60, 44))?;
+    compare(rt, grid, labels, "into a building", (20, 20, 71, 55))?;
+    compare(rt, grid, labels, "near, into a building", (58, 52, 71, 55))?;
+    Ok(())
+}
+
+// Prints what the searches take between two cells, whose coordinates are x and z of the start and the goal.
+fn compare(
+    rt: &HostRuntime,
+    grid: &Grid,
+    labels: &Labels,
+    name: &str,
+    between: (u16, u16, u16, u16),
+) -> io::Result<()>
+    requires { AreLabels (field_of_grid grid.now) (label_in labels.now) }
+{
+    let (x, z, u, w) = between;
+    if x <= 255 && z <= 255 && u <= 255 && w <= 255 {
+        let start = centre(x, z);
+        let goal = centre(u, w);
+        if is_on(grid, &start) && is_on(grid, &goal) {
+            let (start, goal) = (&start, &goal);
+            let plain = best_of_calls(rt, grid, labels, start, goal, Search::Plain)?;
+            let labelled = best_of_calls(rt, grid, labels, start, goal, Search::Labelled)?;
+            let kept = best_of_calls(rt, grid, labels, start, goal, Search::Kept)?;
+            println!(rt;
+                "    {name}: way {plain}, with labels {labelled}, in kept rooms {kept} ns"
+            )?;
+        }
     }
     Ok(())
 }
 
-// The microseconds of the fastest call.
-fn best_of_calls(rt: &HostRuntime, grid: &Grid, start: Point, goal: Point) -> io::Result<u128>
-    requires start { IsTrue (is_inside grid.now.size start) }
-    requires goal { IsTrue (is_inside grid.now.size goal) }
+/// Which search is measured.
+#[derive(Clone, Copy, Debug)]
+enum Search {
+    Plain,
+    Labelled,
+    Kept,
+}
+
+// The nanoseconds of the fastest call.
+fn best_of_calls(
+    rt: &HostRuntime,
+    grid: &Grid,
+    labels: &Labels,
+    start: &Point,
+    goal: &Point,
+    search: Search,
+) -> io::Result<u128>
+    requires labels { AreLabels (field_of_grid grid.now) (label_in labels.now) }
+    requires start { IsTrue (is_inside grid.now.size start.now) }
+    requires goal { IsTrue (is_inside grid.now.size goal.now) }
 {
+    let mut searcher = Searcher::new();
     let mut best = u128::MAX;
     for _ in 0..CALLS {
         let begin = Instant::now(rt)?;
-        let _ = way(rt.alloc(), grid, start, goal);
-        best = best.min(begin.elapsed(rt)?.as_micros());
+        match search {
+            Search::Plain => {
+                let _ = way(rt.alloc(), grid, *start, *goal);
+            }
+            Search::Labelled => {
+                let _ = way_with(rt.alloc(), grid, labels, *start, *goal);
+            }
+            Search::Kept => {
+                let _ = searcher.way(rt.alloc(), grid, labels, *start, *goal);
+            }
+        }
+        best = best.min(begin.elapsed(rt)?.as_nanos());
     }
     Ok(best)
 }
@@ -95,6 +164,7 @@ fn is_free(ground: Ground, size: u16, x: u16, z: u16) -> bool {
             };
             z % 2 == 0 || x == end
         }
+        Ground::Buildings => !(x % 16 >= 6 && x % 16 < 10 && z % 16 >= 6 && z % 16 < 10),
     }
 }
 
