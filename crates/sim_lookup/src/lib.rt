@@ -1,0 +1,21 @@
+//! What is read of a match and a state: a row by its id, a template by its number, who is an enemy of whom, and how
+//! points lie to one another.
+//!
+//! It promises the row or number of the definition, without memory; a row is found by halves, since ids ascend. It stands
+//! on the definitions of `sim_base` and on the laws of valid states, by which a row that is found lies on the ground.
+//!
+//! - `rows`: a row by its id, or its place.
+//! - `templates`: what the template of a row says.
+//! - `owners`: enemies.
+//! - `points`: points on the ground.
+#![tactic(auto)]
+
+mod owners;
+mod points;
+mod rows;
+mod templates;
+
+pub use owners::is_enemy_of;
+pub use points::{is_inside, is_near, same_point};
+pub use rows::{find_row, is_going, place_of, target_of};
+pub use templates::{arms_of, resist_of, speed_of, template_at};

@@ -1,0 +1,52 @@
+//! A row by its id. Ids ascend, so it is found by halves.
+
+ghost use Rattle.std.specs.Prelude.{◌≡◌, ◌<◌, None, Some, length, map, option_copied, MatchOption};
+ghost use Rattle.std.specs.List.{HoldsAt};
+ghost use Rattle.std.specs.List.Sorted.{IsStrictlyIncreasing};
+ghost use Rattle.sim_base.specs.Rows.{id_of, row_of, target_of as target_by, is_going as is_going_by};
+ghost use Rattle.sim_lookup.specs.Found.{found};
+
+use sim_base::{Motion, Row, State};
+
+/// The row with this id, if it is alive.
+pub fn find_row(state: &State, id: u32) -> Option<&Row>
+    requires { IsStrictlyIncreasing (map id_of state.now.rows) }
+    ensures { option_copied result ≡ row_of state.now id }
+{
+    let rows = state.rows.as_slice();
+    match place_of(rows, id) {
+        Some(at) => Some(&rows[at]),
+        None => None,
+    }
+}
+
+/// The place of the row with this id, from 0.
+pub fn place_of(rows: &[Row], id: u32) -> Option<usize>
+    requires { IsStrictlyIncreasing (map id_of rows.now) }
+    ensures { MatchOption result (found rows.now id ≡ None) (λ at. (at < length rows.now) × HoldsAt (λ row. found rows.now id ≡ Some row) rows.now at) }
+{
+    match rows.binary_search_by_key(&id, |row| row.id) {
+        Ok(at) => Some(at),
+        Err(_) => None,
+    }
+}
+
+/// Whom a row attacks, or 0.
+pub fn target_of(row: &Row) -> u32
+    ensures { result ≡ target_by row.now }
+{
+    match row.attack {
+        Some(aim) => aim.target,
+        None => 0,
+    }
+}
+
+/// Whether a row is on its way to a goal.
+pub fn is_going(row: &Row) -> bool
+    ensures { result ≡ is_going_by row.now.motion }
+{
+    match &row.motion {
+        Some(Motion::Going { .. }) => true,
+        _ => false,
+    }
+}

@@ -1,0 +1,30 @@
+-- Ids that ascend are searched by halves, and sorted ids name the same rows.
+use Rattle.std.proofs.Common.{◌≡◌, ℕ, ◌<◌, ◌≤◌, List, length, get_or, Result, Ok, Err, inl, inr, sym, ap, ◌∙◌, arith}
+use Rattle.std.specs.Prelude.{◌==◌, ◌&&◌, is_ok}
+use Rattle.std.specs.List.{list_any}
+use Rattle.std.specs.List.Sorted.{IsNonDecreasing, IsPermutation, IsBinarySearchResult}
+use Rattle.std.specs.Ordering.{nat_cmp}
+use Rattle.std.proofs.lemmas.Bool.{eq-eqb, ne_eqb, cases_lt}
+use Rattle.std.proofs.lemmas.List.{get_or_default}
+use Rattle.std.proofs.lemmas.List.Folds.{list_any_at, list_any_none}
+use Rattle.std.proofs.lemmas.List.Sorted.{searched, list_any-IsPermutation}
+use Rattle.sim_base.specs.Commands.{is_ordered}
+
+-- a search by halves finds an id exactly where it is named
+pub named_by_halves : (ids : List ℕ) (id : ℕ) (r : Result ℕ ℕ) → IsNonDecreasing ids → IsBinarySearchResult (λ n. nat_cmp n id) ids r → is_ok r ≡ list_any (λ n. n == id) ids
+named_by_halves ids id (Ok i) up search_is =
+    let (within, at) = searched ids id (Ok i) search_is (λ a b le lt. up a b 0 le lt) in
+    sym (list_any_at (λ n. n == id) ids i 0 within (eq-eqb (get_or ids i 0) id at))
+named_by_halves ids id (Err i) up search_is =
+    let (le, before, after) = searched ids id (Err i) search_is (λ a b le lt. up a b 0 le lt) in
+    sym (list_any_none (λ n. n == id) ids (λ k d lt. ap (λ n. n == id) (get_or_default ids k d 0 lt) ∙ ne_eqb (get_or ids k 0) id (other k lt before after)))
+  where
+    other : (k : ℕ) → k < length ids → ((k : ℕ) → k < i → get_or ids k 0 < id) → ((k : ℕ) → i ≤ k → k < length ids → id < get_or ids k 0) → get_or ids k 0 ≡ id → ⊥
+    other k lt before after e = elim (cases_lt k i) [
+      | inl less ↦ omega (arith, before k less, e)
+      | inr more ↦ omega (arith, after k more lt, e)
+    ]
+
+-- a row is ordered by sorted ids where it is ordered by the ids
+pub sorted_order : (player : ℕ) (ids sorted : List ℕ) → IsPermutation ids sorted → is_ordered player sorted ≡ is_ordered player ids
+sorted_order player ids sorted p = λ i row. (row.owner == player) && sym (list_any-IsPermutation (λ n. n == row.id) ids sorted p) i

@@ -1,0 +1,3 @@
+pub mod Halves
+pub mod Planning
+pub mod Spots

@@ -1,0 +1,9 @@
+-- What a sort of numbers ensures is that they ascend.
+use Rattle.std.proofs.Common.{List, ℕ, sym, subst}
+use Rattle.std.specs.List.Sorted.{IsNonDecreasing}
+use Rattle.std.proofs.lemmas.List.Sorted.{IsNonDecreasingBy-from_sort}
+use Rattle.sim_orders.proofs.named.sorted.Goals as goal
+
+pub returns-clause-ascending : goal.returns-clause-ascending
+returns-clause-ascending c =
+    subst (λ (ids : List ℕ). IsNonDecreasing ids) (sym c.from_items.ensures) (IsNonDecreasingBy-from_sort (λ n. n) _ c.sort_unstable.ensures.sorted)

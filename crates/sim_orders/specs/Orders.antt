@@ -1,0 +1,42 @@
+-- What a planner of commands may be asked, and what it has to answer. All of it is plain data, and knows of no boxes.
+use Rattle.std.specs.Prelude.{◌≡◌, ℕ, List, All, Result}
+use Rattle.std.specs.Result.{ForOk}
+use Rattle.sim_base.specs.declared.memory.OutOfMemory.{OutOfMemory}
+use Rattle.sim_base.specs.declared.command.Command.{Command}
+use Rattle.sim_base.specs.declared.command.Command.TheVariants.{Walk, Stop, Attack, Delete, Place, Train, Resign}
+use Rattle.sim_base.specs.declared.setup.Setup.{Setup}
+use Rattle.sim_base.specs.declared.state.State.{State}
+use Rattle.sim_base.specs.declared.change.Change.{Change}
+use Rattle.sim_base.specs.Limits.{IsFrom, IsSetup}
+use Rattle.sim_base.specs.Validity.{IsLooselyValid}
+use Rattle.sim_base.specs.Commands.{commanded_by}
+use Rattle.sim_plans.specs.PlanLaws.{IsPlanOf, IsOwnChange}
+use Rattle.sim_orders.specs.declared.help.Help.{Help}
+use Rattle.sim_orders.specs.Helps.{IsHelp}
+
+-- the number of a command's kind
+abbrev pub kind_of : Command → ℕ
+kind_of (Walk ids to) = 1
+kind_of (Stop ids) = 2
+kind_of (Attack ids target) = 3
+kind_of (Delete ids) = 4
+kind_of (Place template at) = 5
+kind_of (Train building template) = 6
+kind_of Resign = 7
+
+-- a command of this kind is given by a player of the match, in a state that is loosely valid, and the help is that of these
+pub record IsGiven (kind : ℕ) (setup : Setup) (state : State) (help : Help) (player : ℕ) (command : Command) : Type 0 where
+  pub limits : IsSetup setup
+  pub valid : IsLooselyValid setup state
+  pub player_is : IsFrom 1 setup.players player
+  pub help_is : IsHelp setup state player command help
+  pub kind_is : kind_of command ≡ kind
+
+-- the changes fit in order and give the state after the command, and each names a live row of the player or makes one for him
+pub record IsPlanned (setup : Setup) (state : State) (player : ℕ) (command : Command) (changes : List Change) : Type 0 where
+  pub plan : IsPlanOf setup state changes (commanded_by setup state player command)
+  pub own : All (IsOwnChange state player) changes
+
+-- what is answered is planned so, or there was no memory
+abbrev pub Obeys : Setup → State → ℕ → Command → Result (List Change) OutOfMemory → Type 0
+Obeys setup state player command result = ForOk result (IsPlanned setup state player command)

@@ -1,0 +1,136 @@
+//! The changes of the rows that a command orders, row by row. The ids ascend.
+
+ghost use Rattle.std.specs.Prelude.{◌≡◌, ◌==◌, ◌++◌, [], ◌∷◌, map, filter, OnOk, IfOk, if◌then◌else◌};
+ghost use Rattle.std.specs.List.{flat_map};
+ghost use Rattle.std.specs.List.Sorted.{IsNonDecreasing};
+ghost use Rattle.sim_base.specs.declared.state.Row.{Row as AnyRow};
+ghost use Rattle.sim_base.specs.declared.change.Change.TheVariants.{Remove, Owner};
+ghost use Rattle.sim_base.specs.Rows.{id_of};
+ghost use Rattle.sim_base.specs.Commands.{is_ordered as is_ordered_by};
+ghost use Rattle.sim_plans.specs.RowPlans.{release_changes};
+ghost use Rattle.sim_plans.specs.CommandPlans.{sent_changes, set_on_changes};
+
+use crate::named::is_ordered;
+use sim_base::{Change, Changes, Items, Motion, OutOfMemory, Point, Row};
+use sim_plans::{push_target, push_turn};
+use std::alloc::Global;
+
+/// The player's rows that are named are sent to a point.
+pub fn sent(
+    alloc: Global,
+    rows: &[Row],
+    player: u8,
+    ids: &[u32],
+    to: &Point,
+) -> Result<Changes, OutOfMemory>
+    requires { IsNonDecreasing ids.now }
+    ensures { IfOk result (λ changes. changes ≡ flat_map (λ row. if is_ordered_by player ids.now row then sent_changes to.now row else []) rows.now) }
+{
+    let mut changes = Items::new(alloc);
+    for row in rows {
+        if is_ordered(player, ids, row) {
+            push_sent(alloc, &mut changes, to, row)?;
+        }
+    }
+    Ok(changes)
+}
+
+// The row goes to a point, if it can move, and forgets its target.
+fn push_sent(alloc: Global, changes: &mut Changes, to: &Point, row: &Row) -> Result<(), OutOfMemory>
+    ensures { OnOk result (changes.new ≡ changes.old ++ sent_changes to.now row.now) }
+{
+    if row.motion.is_none() {
+        return Ok(());
+    }
+    let motion = Motion::Going {
+        goal: *to,
+        way: Items::new(alloc),
+        whole: false,
+    };
+    changes.push(Change::Motion { id: row.id, motion })?;
+    push_target(changes, 0, row)
+}
+
+/// The player's rows that are named are released.
+pub fn released(
+    alloc: Global,
+    rows: &[Row],
+    player: u8,
+    ids: &[u32],
+) -> Result<Changes, OutOfMemory>
+    requires { IsNonDecreasing ids.now }
+    ensures { IfOk result (λ changes. changes ≡ flat_map (λ row. if is_ordered_by player ids.now row then release_changes row else []) rows.now) }
+{
+    let mut changes = Items::new(alloc);
+    for row in rows {
+        if is_ordered(player, ids, row) {
+            push_turn(&mut changes, 0, row)?;
+        }
+    }
+    Ok(changes)
+}
+
+/// The player's rows that are named are set on a target.
+pub fn set_on(
+    alloc: Global,
+    rows: &[Row],
+    player: u8,
+    ids: &[u32],
+    target: u32,
+) -> Result<Changes, OutOfMemory>
+    requires { IsNonDecreasing ids.now }
+    ensures { IfOk result (λ changes. changes ≡ flat_map (λ row. if is_ordered_by player ids.now row then set_on_changes target row else []) rows.now) }
+{
+    let mut changes = Items::new(alloc);
+    for row in rows {
+        if is_ordered(player, ids, row) {
+            push_set_on(&mut changes, target, row)?;
+        }
+    }
+    Ok(changes)
+}
+
+// The row takes a target and stands still, if it can attack.
+fn push_set_on(changes: &mut Changes, target: u32, row: &Row) -> Result<(), OutOfMemory>
+    ensures { OnOk result (changes.new ≡ changes.old ++ set_on_changes target row.now) }
+{
+    if row.attack.is_none() {
+        return Ok(());
+    }
+    push_turn(changes, target, row)
+}
+
+/// The player's rows that are named leave.
+pub fn deleted(
+    alloc: Global,
+    rows: &[Row],
+    player: u8,
+    ids: &[u32],
+) -> Result<Changes, OutOfMemory>
+    requires { IsNonDecreasing ids.now }
+    ensures { IfOk result (λ changes. changes ≡ map (λ id. Remove id) (map id_of (filter (is_ordered_by player ids.now) rows.now))) }
+{
+    let mut changes = Items::new(alloc);
+    for row in rows {
+        if is_ordered(player, ids, row) {
+            changes.push(Change::Remove { id: row.id })?;
+        }
+    }
+    Ok(changes)
+}
+
+/// The player's rows become Gaia's.
+pub fn resigned(alloc: Global, rows: &[Row], player: u8) -> Result<Changes, OutOfMemory>
+    ensures { IfOk result (λ changes. changes ≡ flat_map (λ (row : AnyRow). if row.owner == player then Owner row.id 0 ∷ [] else []) rows.now) }
+{
+    let mut changes = Items::new(alloc);
+    for row in rows {
+        if row.owner == player {
+            changes.push(Change::Owner {
+                id: row.id,
+                owner: 0,
+            })?;
+        }
+    }
+    Ok(changes)
+}
