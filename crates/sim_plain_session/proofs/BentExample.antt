@@ -15,7 +15,7 @@ use Rattle.sim_base.proofs.ExampleMatches.{setup_of, no_id, post, first, at_metr
 use Rattle.sim_plain_session.specs.Printed.{session_events}
 use Rattle.sim_plain_session.specs.Sessions.{session}
 
-abbrev guarded : Setup
+abbrev pub guarded : Setup
 guarded = record (setup_of no_id 16 (0 ∷ 0 ∷ 0 ∷ 0 ∷ []) 3 0 (post ∷ []) (first 0 1 (at_metre 2) ∷ [])) { delay = 2; turns = 3 }
 
 -- the health of the post is bent to 1
@@ -23,13 +23,13 @@ abbrev bend : Past
 bend = Bend 2 (pos 65536) ∷ []
 
 -- the digests at turn 0 and 1, with and without the bend
-abbrev begin : List ℕ
+abbrev pub begin : List ℕ
 begin = digest guarded (after guarded [])
 
 abbrev begin_bent : List ℕ
 begin_bent = digest guarded (after guarded bend)
 
-abbrev one : List ℕ
+abbrev pub one : List ℕ
 one = digest guarded (after guarded (Turn [] ∷ []))
 
 abbrev one_bent : List ℕ

@@ -1,4 +1,4 @@
--- Sessions as they come out.
+-- Sessions, computed step by step.
 use Rattle.std.proofs.Common.{◌≡◌, ℕ, zero, suc, ◌++◌, length, ◌+◌, ◌*◌, pos, refl, List, [], ◌∷◌}
 use Rattle.sim_base.specs.declared.place.Point.{Point}
 use Rattle.sim_base.specs.declared.command.Command.TheVariants.{Walk, Stop, Resign}
@@ -17,22 +17,28 @@ use Rattle.sim_plain_session.specs.Printed.{events, session_events}
 use Rattle.sim_plain_session.specs.Sessions.{session}
 
 -- the point half a metre behind these metres
-abbrev half : ℕ → ℕ → Point
+abbrev pub half : ℕ → ℕ → Point
 half x z = record { x = pos (x * 65536 + 32768); z = pos (z * 65536 + 32768) }
 
 -- the digest after a past
 abbrev shown : Setup → Past → List ℕ
 shown setup past = digest setup (after setup past)
 
--- the past of a client, and its turns
+-- the past of a client
 abbrev past_of : Phase → Past
 past_of Off = []
 past_of Joining = []
 past_of (On seat) = seat.past
 
+-- the commands of a turn that a client knows
+abbrev known_of : Phase → ℕ → List PlayerCommand
+known_of Off t = []
+known_of Joining t = []
+known_of (On seat) t = seat.known t
+
 -- ---- two clients order and play a turn each
 
-abbrev two : Setup
+abbrev pub two : Setup
 two = record (setup_of no_id 16 (0 ∷ 0 ∷ 0 ∷ []) 2 0 (walker ∷ []) (first 0 1 (half 2 2) ∷ first 0 2 (half 2 8) ∷ [])) { delay = 2; turns = 5 }
 
 abbrev walks : PlayerCommand
@@ -73,7 +79,7 @@ unreleased_events = refl
 
 -- ---- a donor that is cut, and another one that is asked
 
-abbrev three : Setup
+abbrev pub three : Setup
 three = record two { players = 3; land = record two.land { masks = 0 ∷ 0 ∷ 0 ∷ 0 ∷ [] } }
 
 abbrev donors : List Step
@@ -85,6 +91,37 @@ donors_events = refl
 
 donors_asked : (session three 2 (step.Join 3 ∷ step.Up 3 ∷ step.Cut 1 ∷ [])).downs 2 ≡ down.Ask 3 ∷ []
 donors_asked = refl
+
+-- ---- a donor that is cut after it has answered: its state is lost, and another one is asked
+
+abbrev answering : List Step
+answering = step.Join 3 ∷ step.Up 3 ∷ step.Down 1 ∷ step.Cut 1 ∷ step.Down 2 ∷ step.Up 2 ∷ step.Down 3 ∷ []
+
+answering_lost : (session three 2 (step.Join 3 ∷ step.Up 3 ∷ step.Down 1 ∷ [])).ups 1 ≡ up.State 3 0 [] ∷ []
+answering_lost = refl
+
+answering_events : session_events three 2 answering
+    ≡ event.Start 1 (shown three []) ∷ event.Start 2 (shown three []) ∷ event.Join 3 ∷ event.Cut 1 ∷ event.Load 3 0 (shown three []) ∷ []
+answering_events = refl
+
+-- ---- a client that is cut and loads again: the command that it knew comes once more, and it plays on
+
+abbrev reloading : List Step
+reloading =
+    step.Order 1 walks.command ∷ step.Up 1 ∷ step.Down 2 ∷ step.Play 1 ∷ step.Up 1 ∷ step.Up 1 ∷ step.Play 2 ∷ step.Cut 2 ∷ step.Join 2 ∷ step.Up 2
+    ∷ step.Down 1 ∷ step.Down 1 ∷ step.Down 1 ∷ step.Up 1 ∷ step.Down 2 ∷ step.Down 2 ∷ step.Down 2 ∷ step.Play 2 ∷ []
+
+reloading_events : session_events two 2 reloading
+    ≡ event.Start 1 (shown two []) ∷ event.Start 2 (shown two []) ∷ event.Order 1 3 ∷ event.Play 1 1 (shown two (Turn [] ∷ []))
+    ∷ event.Play 2 1 (shown two (Turn [] ∷ [])) ∷ event.Cut 2 ∷ event.Join 2 ∷ event.Load 2 1 (shown two (Turn [] ∷ []))
+    ∷ event.Play 2 2 (shown two (Turn [] ∷ Turn [] ∷ [])) ∷ []
+reloading_events = refl
+
+reloading_knows : known_of ((session two 2 reloading).client 2) 3 ≡ walks ∷ []
+reloading_knows = refl
+
+reloading_ups : (session two 2 reloading).ups 2 ≡ up.Report 2 (shown two (Turn [] ∷ Turn [] ∷ [])) ∷ up.Done 4 ∷ []
+reloading_ups = refl
 
 -- ---- nobody is left to ask
 

@@ -6,6 +6,7 @@ pub mod PlayerLemmas
 pub mod InBytes
 pub mod Examples
 pub mod BentExample
+pub mod WrongPrints
 pub mod Left
 pub mod GeneratedPosts
 pub mod GeneratedGuards

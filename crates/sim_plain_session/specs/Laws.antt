@@ -35,7 +35,7 @@ abbrev pub NoticesAreOfArrivals : Type 0
 NoticesAreOfArrivals =
     (setup : Setup) (active : ℕ) (steps : List Step) → notices_in (events_after setup (opened setup active) steps) ≡ notices (rules_of setup) active (session setup active steps).arrivals
 
--- this is one of the messages of a pipe
+-- this is one of a list
 abbrev pub Carries : {X : Type 0} → List X → X → Type 0
 Carries [] x = ⊥
 Carries (y ∷ ys) x = (y ≡ x) ⊎ Carries ys x

@@ -8,7 +8,11 @@
 //!
 //! - `bytes`: the same session with the bytes of states in its messages.
 //! - `players`: a client with a state in place of a past.
-//! - `printed`: the server and the notices of all arrivals, and what each event shows.
+//! - `printed`: the server and the notices of all arrivals, and what each event shows. This excludes a server that compares
+//!   a report with the one before it in place of the first of its turn, and a client that prints the digest of the state
+//!   before the turn (`proofs/WrongPrints.antt`).
+//!
+//! `proofs/Generated*.antt` compute thirty generated sessions to what an independent program gave for them.
 #![tactic(auto)]
 
 mod bytes;

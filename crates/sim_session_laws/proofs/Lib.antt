@@ -13,3 +13,4 @@ pub mod StandingFacts
 pub mod TurnNumberFacts
 pub mod PastFacts
 pub mod Final
+pub mod WrongProtocols

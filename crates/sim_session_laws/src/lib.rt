@@ -4,9 +4,15 @@
 //! over every list of steps. They are proved together, by one invariant that each step keeps. It stands on the definition
 //! of a session (`sim_plain_session`) and on the laws of turns (`sim_turn_laws`).
 //!
-//! - `standing`: whose past is valid, and who stands where.
-//! - `turn_numbers`: what is released, and how far clients may be ahead.
-//! - `pasts`: which commands clients know, and what their pasts are.
+//! - `standing`: whose past is valid, and who stands where. This excludes a cut after which old messages still come, and a
+//!   server that takes a client's word for who gives a command.
+//! - `turn_numbers`: what is released, and how far clients may be ahead. This excludes a server that releases a turn when
+//!   most clients are done with it, a client that plays a turn before its release, and one that is done with more turns
+//!   than the delay allows.
+//! - `pasts`: which commands clients know, and what their pasts are. This excludes a server that hands a state on without the
+//!   commands that it kept above its turn, and a client that at a load keeps what it knew.
+//!
+//! `proofs/WrongProtocols.antt` has each of these protocols, led by a few steps to a session of which the law is false.
 #![tactic(auto)]
 
 mod pasts;
