@@ -1,5 +1,5 @@
 -- Protocols that are wrong, each with the law whose words it breaks: a few steps lead it to a session of which the law is false.
-use Rattle.std.proofs.Common.{◌≡◌, inl, inr, ℕ, suc, ◌+◌, ◌≤◌, min, max, List, [], ◌∷◌, ◌++◌, refl, arith}
+use Rattle.std.proofs.Common.{◌≡◌, inl, inr, ℕ, ◌≤◌, min, max, List, [], ◌∷◌, ◌++◌, refl, arith}
 use Rattle.std.proofs.lemmas.List.Elements.{All-head}
 use Rattle.sim_base.specs.declared.command.Command.TheVariants.{Resign}
 use Rattle.sim_base.specs.declared.command.PlayerCommand.{PlayerCommand}
@@ -16,7 +16,7 @@ use Rattle.sim_plain.specs.declared.status.Status.TheVariants.{Out, Waiting, In}
 use Rattle.sim_plain.specs.Functions.{put}
 use Rattle.sim_plain.specs.Server.{Server, keeps}
 use Rattle.sim_plain_session.specs.Clients.{Down, Seat, Phase, Off, Joining, On, Acted, idle, begun, told, played}
-use Rattle.sim_plain_session.specs.Sessions.{Session, opened, acts, arrives, stepped, after_steps, session}
+use Rattle.sim_plain_session.specs.Sessions.{Session, opened, acts, stepped, after_steps, session}
 use Rattle.sim_plain_session.proofs.Examples.{two, three}
 use Rattle.sim_session_laws.specs.Standing.{OffIsOut}
 use Rattle.sim_session_laws.specs.TurnNumbers.{DonesAreTurns, DonesAreNear, TurnsAreReleased}
