@@ -16,6 +16,7 @@ use Rattle.sim_base.specs.declared.state.Row.{Row}
 use Rattle.sim_base.specs.declared.state.State.{State}
 use Rattle.sim_base.specs.Places.{is_inside, rect_of, centre_of}
 use Rattle.sim_base.specs.Rows.{id_of, row_of, template_of, size_of, in_mask, enemies_of}
+use Rattle.sim_base.specs.Limits.{row_limit}
 use Rattle.sim_base.specs.Filters.{is_free_rect, population, spot}
 use Rattle.sim_base.specs.Changes.{aimed_at, halted, released, removed, created}
 
@@ -54,7 +55,7 @@ is_enemy setup player (Some row) = is_some row.health && in_mask (enemies_of set
 -- a new row may be made for a player
 abbrev pub has_room : Setup → State → ℕ → Bool
 has_room setup state player =
-    nat_lt (length state.rows) 4096 && nat_lt state.next 0x20000000 && nat_lt (population state player) setup.cap
+    nat_lt (length state.rows) row_limit && nat_lt state.next 0x20000000 && nat_lt (population state player) setup.cap
 
 -- there is an obstruction, and its rectangle at a point is free
 abbrev pub has_free_base : Setup → State → Point → Option Base → Bool

@@ -1,4 +1,4 @@
--- The limits that the setup of every match meets.
+-- How many rows, waypoints and bytes there may be, and the limits that the setup of every match meets.
 use Rattle.std.specs.Prelude.{◌≡◌, ◌≢◌, ℕ, ◌+◌, ◌^◌, ◌<◌, ◌≤◌, Bool, false, ◌&&◌, ◌==◌, IsTrue, ℤ, pos, ◌≤ℤ◌, length, map, count_by, All, AllPairs, EachIndex, IfSome, IsSome, IsNone, slice_index}
 use Rattle.std.specs.List.Sorted.{IsNonDecreasing}
 use Rattle.sim_base.specs.declared.place.Rect.{Rect}
@@ -13,6 +13,18 @@ use Rattle.sim_base.specs.declared.setup.Setup.{Setup}
 use Rattle.sim_base.specs.Names.{is_name}
 use Rattle.sim_base.specs.Places.{is_inside, is_rect_inside}
 use Rattle.sim_base.specs.Rows.{size_of, in_mask}
+
+-- how many rows a state has at most
+abbrev pub row_limit : ℕ
+row_limit = 4096
+
+-- how many waypoints a way has at most
+abbrev pub waypoint_limit : ℕ
+waypoint_limit = 64
+
+-- how many bytes a file has at most that is read
+abbrev pub file_limit : ℕ
+file_limit = 16777216
 
 -- a number within two bounds, both included
 abbrev pub IsFrom : ℕ → ℕ → ℕ → Type 0
@@ -95,14 +107,14 @@ pub record IsSetup (setup : Setup) : Type 0 where
   pub id : length setup.id ≡ 16
   pub land : IsLand setup.land
   pub players : setup.players + 1 ≡ length setup.land.masks
-  pub cap : setup.cap ≤ 4096
+  pub cap : setup.cap ≤ row_limit
   pub delay : IsFrom 1 8 setup.delay
   pub turns : setup.turns ≤ 65535
   pub seed : setup.seed < 2 ^ 48
   pub few_templates : length setup.templates ≤ 256
   pub templates : All (IsTemplate (length setup.templates)) setup.templates
   pub names : AllPairs (λ a b. a ≢ b) (map (λ (t : Template). t.name) setup.templates)
-  pub few_first : length setup.first ≤ 4096
+  pub few_first : length setup.first ≤ row_limit
   pub first : All (IsFirst setup) setup.first
   pub commands : All (IsTimed setup) setup.commands
   pub in_order : IsNonDecreasing (map (λ (timed : Timed). timed.turn) setup.commands)

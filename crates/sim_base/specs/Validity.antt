@@ -13,6 +13,7 @@ use Rattle.sim_base.specs.declared.state.Row.{Row}
 use Rattle.sim_base.specs.declared.state.State.{State}
 use Rattle.sim_base.specs.Places.{is_inside}
 use Rattle.sim_base.specs.Rows.{id_of, size_of, template_of}
+use Rattle.sim_base.specs.Limits.{row_limit, waypoint_limit}
 
 -- a point lies on the ground of the match
 abbrev pub IsInside : Setup → Point → Type 0
@@ -22,10 +23,10 @@ IsInside setup p = IsTrue (is_inside (size_of setup.land) p)
 abbrev pub has_health : List Row → ℕ → Bool
 has_health rows id = list_any (λ row. row.id == id && is_some row.health) rows
 
--- a way has at most 64 waypoints
+-- the goal and the waypoints of a motion are inside, and these are few
 abbrev pub IsValidMotion : Setup → Motion → Type 0
 IsValidMotion setup Still = Unit {0}
-IsValidMotion setup (Going goal way whole) = IsInside setup goal × All (IsInside setup) way × (length way ≤ 64)
+IsValidMotion setup (Going goal way whole) = IsInside setup goal × All (IsInside setup) way × (length way ≤ waypoint_limit)
 
 -- the target is none, or another row that has health
 pub record IsValidAim (rows : List Row) (id : ℕ) (aim : Aim) (arms : Arms) : Type 0 where
@@ -57,7 +58,7 @@ pub record IsState (least : ℕ) (setup : Setup) (state : State) : Type 0 where
   pub turn : state.turn ≤ setup.turns
   pub next : (2 ≤ state.next) × (state.next ≤ 0x20000000)
   pub word : state.word < 2 ^ 48
-  pub few : length state.rows ≤ 4096
+  pub few : length state.rows ≤ row_limit
   pub ascending : IsStrictlyIncreasing (map id_of state.rows)
   pub ids : All (λ row. (2 ≤ row.id) × (row.id < state.next)) state.rows
   pub rows : All (IsKnownRow least setup state.rows) state.rows

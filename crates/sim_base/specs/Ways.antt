@@ -3,6 +3,7 @@ use Rattle.std.specs.Prelude.{◌≡◌, ◌≢◌, ℕ, ◌+◌, ◌<◌, Bool,
 use Rattle.sim_base.specs.declared.place.Cell.{Cell}
 use Rattle.sim_base.specs.declared.place.Point.{Point}
 use Rattle.sim_base.specs.Places.{cell_of, centre_of, same_cell}
+use Rattle.sim_base.specs.Limits.{waypoint_limit}
 use Rattle.sim_base.specs.Least.{is_before}
 use Rattle.sim_base.specs.Walks.{IsLeastCost}
 use Rattle.sim_base.specs.Steps.{Field, IsStep, neighbour, octile}
@@ -49,9 +50,9 @@ pub record Way : Type 0 where
   pub points : List Point
   pub whole : Bool
 
--- the first 64 points are kept
+-- the first points are kept, as many as a way may have
 abbrev pub first_points : List Point → Way
-first_points points = record { points = take 64 points; whole = nat_le (length points) 64 }
+first_points points = record { points = take waypoint_limit points; whole = nat_le (length points) waypoint_limit }
 
 -- the way has the points of the trail from the end, in the order from the start
 pub record IsFound (field : Field) (from goal : Point) (way : Way) : Type 0 where

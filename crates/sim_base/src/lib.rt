@@ -6,6 +6,7 @@
 //! way is, what a turn makes of a state, and how a state is spelled in bytes. Theorems about them are in `sim_laws`.
 //!
 //! - `memory`: the one error of a call that takes memory.
+//! - `decimal`: whole numbers as text.
 //! - `fixed`, `read`, `print`: fixed-point numbers, and their texts.
 //! - `number`: the root, and the steps of the random word.
 //! - `items`: the one list type under all plural names.
@@ -18,6 +19,7 @@
 
 mod change;
 mod command;
+mod decimal;
 mod fixed;
 mod items;
 mod memory;
@@ -33,6 +35,7 @@ mod template;
 
 pub use change::{Change, Changes};
 pub use command::{Command, PlayerCommand};
+pub use decimal::push_decimal;
 pub use fixed::Fixed;
 pub use items::{Ids, Items};
 pub use memory::OutOfMemory;
@@ -40,6 +43,6 @@ pub use name::Name;
 pub use number::{next_word, root};
 pub use place::{Cell, Point, Points, Rect, Rects, cell_of, centre_of, rect_of, square};
 pub use setup::{First, Firsts, Land, Setup, Timed, Timeds};
-pub use state::{Aim, MAX_STATE, Motion, Row, Rows, State};
+pub use state::{Aim, MAX_ROWS, MAX_STATE, MAX_WAYPOINTS, Motion, Row, Rows, State};
 pub use step::{Event, Events, Step, Steps};
 pub use template::{Arms, Base, Harm, Resist, Template, Templates};

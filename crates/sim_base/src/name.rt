@@ -29,8 +29,9 @@ impl Model for Name {
 impl Name {
     /// The name that this text is, or None where it is none.
     pub fn of(alloc: Global, text: &str) -> Result<Option<Name>, OutOfMemory>
-        ensures { IfOk result (λ found.
+        ensures ok { IfOk result (λ found.
             MatchOption found (is_name text.now ≡ false) (λ name. (is_name text.now ≡ true) × (name ≡ text.now))) }
+        ensures no_name { is_name text.now ≡ false → result ≡ Ok None }
     {
         if !is_name_text(text.as_bytes()) {
             return Ok(None);

@@ -1,9 +1,10 @@
 //! Prints a number: a minus sign where it is negative, the whole metres, and where it is not whole a point and five
 //! digits, rounded up in magnitude, so that reading them gives the same number again.
 
-ghost use Rattle.std.specs.Prelude.{◌≡◌, ◌<◌, ◌+◌, ◌∷◌, [], ◌++◌, length, take, drop, codes, Some, OnOk, OnErr, string_bytes, decimal};
+ghost use Rattle.std.specs.Prelude.{◌≡◌, ◌<◌, ◌++◌, length, take, drop, codes, Some, OnOk, OnErr, string_bytes, decimal};
 ghost use Rattle.sim_base.specs.NumberText.{number_of, text_of, magnitude_text, five_digits};
 
+use crate::decimal::push_digits;
 use crate::fixed::Fixed;
 use crate::memory::OutOfMemory;
 
@@ -41,7 +42,7 @@ fn push_magnitude(out: &mut String, n: u32) -> Result<(), OutOfMemory>
     ensures ok { OnOk result (string_bytes out.new ≡ string_bytes out.old ++ magnitude_text n) }
     ensures err { OnErr result (take (length (string_bytes out.old)) (string_bytes out.new) ≡ string_bytes out.old) }
 {
-    push_decimal(out, n / 65536)?;
+    push_digits(out, u64::from(n / 65536))?;
     let fraction = n % 65536;
     if fraction != 0 {
         let parts = (u64::from(fraction) * 100000).div_ceil(65536) as u32;
@@ -58,7 +59,7 @@ fn push_five(out: &mut String, n: u32) -> Result<(), OutOfMemory>
     ensures err { OnErr result (take (length (string_bytes out.old)) (string_bytes out.new) ≡ string_bytes out.old) }
 {
     out.push_str(zeros_before(n))?;
-    push_decimal(out, n)
+    push_digits(out, u64::from(n))
 }
 
 // The zeros that five digits have before this number.
@@ -77,26 +78,6 @@ fn zeros_before(n: u32) -> &'static str
     } else {
         ""
     }
-}
-
-fn push_decimal(out: &mut String, n: u32) -> Result<(), OutOfMemory>
-    ensures ok { OnOk result (string_bytes out.new ≡ string_bytes out.old ++ decimal n) }
-    ensures err { OnErr result (take (length (string_bytes out.old)) (string_bytes out.new) ≡ string_bytes out.old) }
-{
-    if n < 10 {
-        return push_digit(out, n);
-    }
-    push_decimal(out, n / 10)?;
-    push_digit(out, n % 10)
-}
-
-fn push_digit(out: &mut String, digit: u32) -> Result<(), OutOfMemory>
-    requires { digit < 10 }
-    ensures ok { OnOk result (string_bytes out.new ≡ string_bytes out.old ++ (48 + digit) ∷ []) }
-    ensures err { OnErr result (string_bytes out.new ≡ string_bytes out.old) }
-{
-    out.push(char::from(48 + digit as u8))?;
-    Ok(())
 }
 
 #[cfg(test)]

@@ -59,6 +59,12 @@ pub struct Row {
 /// The entities, ascending by id.
 pub type Rows = Items<Row>;
 
+/// How many entities may be alive at a time.
+pub const MAX_ROWS: usize = 4096;
+
+/// How many waypoints a way has at most.
+pub const MAX_WAYPOINTS: usize = 64;
+
 /// How many bytes a stored state has at most: 70, and 568 for each of 4096 entities with all parts and a way of 64
 /// waypoints. `docs/FORMATS.md` has the layout.
 pub const MAX_STATE: usize = 2_326_598;

@@ -39,6 +39,13 @@ impl<'a> Take<'a> {
         Take { rest: self.rest }
     }
 
+    /// Lends the bytes that are left.
+    pub fn bytes(&self) -> &'a [u8]
+        ensures { result.now ≡ self.now }
+    {
+        self.rest
+    }
+
     /// How many bytes are left.
     pub fn left(&self) -> usize
         ensures { result ≡ length self.now }

@@ -4,6 +4,7 @@ use Rattle.sim_base.specs.declared.place.Cell.{Cell}
 use Rattle.sim_base.specs.declared.place.Point.{Point}
 use Rattle.sim_base.specs.Places.{Size, is_inside, cell_of}
 use Rattle.sim_base.specs.Steps.{Field, IsOnGround}
+use Rattle.sim_base.specs.Limits.{waypoint_limit}
 use Rattle.sim_base.specs.Ways.{Way, IsWay}
 use Rattle.sim_base.specs.WayOf.{way_of}
 
@@ -27,9 +28,9 @@ InsideIsOnGround = (size : Size) (p : Point) → IsTrue (is_inside size p) → I
 abbrev pub WayOfStaysInside : Type 0
 WayOfStaysInside = (field : Field) (from goal : Point) → IsOnGround field.size (cell_of from) → IsTrue (is_inside field.size goal) → All (λ p. IsTrue (is_inside field.size p)) (way_of field from goal).points
 
--- a way has at most 64 points
+-- a way has no more points than it may have
 abbrev pub WayOfIsShort : Type 0
-WayOfIsShort = (field : Field) (from goal : Point) → length (way_of field from goal).points ≤ 64
+WayOfIsShort = (field : Field) (from goal : Point) → length (way_of field from goal).points ≤ waypoint_limit
 
 -- where two tests agree on the cells of the ground, the ways are the same
 abbrev pub WayOfByGround : Type 0

@@ -6,6 +6,6 @@ use Rattle.sim_base.proofs.print.push_magnitude.Goals as goal
 
 pub returns-in_err-push_five-clause-err : goal.returns-in_err-push_five-clause-err
 returns-in_err-push_five-clause-err c =
-    let pointed : take (length (string_bytes c.push_decimal.new.out)) (string_bytes c.push_five.new.out) ≡ string_bytes c.push_decimal.new.out = take-appended_more _ _ _ _ c.in_ok-push_str.ensures.bytes c.in_err-push_five.ensures.err in
-    let kept : take (length (string_bytes c.args.out.now)) (string_bytes c.push_five.new.out) ≡ string_bytes c.args.out.now = take-appended_more _ _ _ _ c.in_ok-push_decimal.ensures.ok pointed in
+    let pointed : take (length (string_bytes c.push_digits.new.out)) (string_bytes c.push_five.new.out) ≡ string_bytes c.push_digits.new.out = take-appended_more _ _ _ _ c.in_ok-push_str.ensures.bytes c.in_err-push_five.ensures.err in
+    let kept : take (length (string_bytes c.args.out.now)) (string_bytes c.push_five.new.out) ≡ string_bytes c.args.out.now = take-appended_more _ _ _ _ c.in_ok-push_digits.ensures.ok pointed in
     search rules

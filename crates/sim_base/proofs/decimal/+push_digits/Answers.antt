@@ -2,7 +2,7 @@
 use Rattle.std.proofs.Common.{◌≡◌, ℕ, ◌+◌, ◌/◌, ◌%◌, ◌^◌, ◌≤◌, ◌<◌, List, [], ◌∷◌, ◌++◌, sym, ap, ◌∙◌, arith, append_assoc}
 use Rattle.std.specs.Prelude.{decimal}
 use Rattle.std.proofs.lemmas.Fmt.{decimal_digit, decimal_step}
-use Rattle.sim_base.proofs.print.+push_decimal.Goals as goal
+use Rattle.sim_base.proofs.decimal.+push_digits.Goals as goal
 
 last-digit : (old mid : List ℕ) (n : ℕ) → 10 ≤ n → n < 2 ^ 64 → mid ≡ old ++ decimal (n / 10) → mid ++ ((48 + n % 10) ∷ []) ≡ old ++ decimal n
 last-digit old mid n least fits e =
@@ -14,5 +14,5 @@ returns-then-n-lt10-clause-ok t c = rw (decimal_digit c.args.n (omega (arith, c.
 pub returns-clause-ok : goal.returns-clause-ok
 returns-clause-ok t c =
     let fits = c.ranges.n.fits in
-    let all = last-digit _ _ c.args.n (omega (arith, c.if-n-lt10.false)) (omega arith) c.in_ok-push_decimal.ensures.ok in
+    let all = last-digit _ _ c.args.n (omega (arith, c.if-n-lt10.false)) (omega arith) c.in_ok-push_digits.ensures.ok in
     rw (sym all) c.push_digit-2.ensures.ok
