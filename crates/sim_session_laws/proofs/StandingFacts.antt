@@ -1,7 +1,11 @@
 -- Valid states, and who stands where.
-use Rattle.std.proofs.Common.{inl, inr, List, refl, sym, ap, subst, arith}
+use Rattle.std.proofs.Common.{◌≡◌, ℕ, inl, inr, List, [], ◌∷◌, map, refl, sym, ap, subst, arith}
 use Rattle.sim_base.specs.declared.setup.Setup.{Setup}
+use Rattle.sim_plain.specs.declared.message.DownOf.{DownOf}
 use Rattle.sim_plain.specs.declared.message.DownOf.TheVariants as down
+use Rattle.sim_plain.specs.Messages.{carry_down}
+use Rattle.sim_base.specs.Turn.{Past, after}
+use Rattle.sim_plain_session.specs.Bytes.{spelled}
 use Rattle.sim_plain.specs.declared.status.Status.TheVariants.{Out, Waiting}
 use Rattle.sim_plain.specs.Server.{is_in, donor, seat}
 use Rattle.sim_base.specs.Limits.{IsSetup}
@@ -12,7 +16,7 @@ use Rattle.sim_plain_session.specs.Sessions.{Session, session}
 use Rattle.sim_session_laws.proofs.Invariant.{Waits, Holds}
 use Rattle.sim_session_laws.proofs.Runs.{holds_session}
 use Rattle.sim_session_laws.specs.Always.{Always}
-use Rattle.sim_session_laws.specs.Standing.{PastsAreValid, KnownAreOfPlayers, StatesHaveTurns, NoStateIsRefused, OffIsOut, OnIsIn, OutHasWish, WaitingHasDonor, InHasState, StrangersAreOut}
+use Rattle.sim_session_laws.specs.Standing.{PastsAreValid, KnownAreOfPlayers, StatesHaveTurns, NoStateIsRefused, HeardBytesSpellAState, OffIsOut, OnIsIn, OutHasWish, WaitingHasDonor, InHasState, StrangersAreOut}
 use Rattle.sim_session_laws.proofs.Fitting.{good_on, off_is, fits_at, good_pasts, loads_at, Follows}
 
 pub known_are_of_players : Follows KnownAreOfPlayers
@@ -52,3 +56,20 @@ pasts_are_always_valid setup active steps limits few = pasts_are_valid setup (se
 
 pub no_state_is_ever_refused : Always NoStateIsRefused
 no_state_is_ever_refused setup active steps limits few = no_state_is_refused setup (session setup active steps) limits (holds_session setup active steps few)
+
+-- what is heard in bytes is what is heard of a past
+bytes_of_past : (setup : Setup) (downs : List Down) (done : ℕ) (bytes : List ℕ) (rest : List (DownOf (List ℕ))) → map (carry_down (spelled setup)) downs ≡ down.State done bytes ∷ rest
+    → (past : Past) × (others : List Down) × (downs ≡ down.State done past ∷ others) × (bytes ≡ spelled setup past)
+bytes_of_past setup [] done bytes rest e = absurd (cc)
+bytes_of_past setup (down.Ask j ∷ downs) done bytes rest e = absurd (cc)
+bytes_of_past setup (down.State d past ∷ downs) done bytes rest e = let same : d ≡ done = cc in (past, downs, ap (λ n. down.State n past ∷ downs) same, (cc))
+bytes_of_past setup (down.Command t x ∷ downs) done bytes rest e = absurd (cc)
+bytes_of_past setup (down.Release t ∷ downs) done bytes rest e = absurd (cc)
+bytes_of_past setup (down.Notice t j ∷ downs) done bytes rest e = absurd (cc)
+bytes_of_past setup (down.Refused code ∷ downs) done bytes rest e = absurd (cc)
+
+pub heard_bytes_spell_a_state : Always HeardBytesSpellAState
+heard_bytes_spell_a_state setup active steps limits few c done bytes rest at =
+    let s = session setup active steps in
+    let (past, others, first, spells) = bytes_of_past setup (s.downs c) done bytes rest at in
+    (after setup past, no_state_is_ever_refused setup active steps limits few c done past others first, spells)

@@ -5,10 +5,14 @@ use Rattle.sim_base.specs.declared.setup.Setup.{Setup}
 use Rattle.sim_base.specs.Turn.{Past, after, turns_in}
 use Rattle.sim_base.specs.Validity.{IsValid}
 use Rattle.sim_plain.specs.declared.message.UpOf.TheVariants as up
+use Rattle.sim_plain.specs.declared.message.DownOf.{DownOf}
 use Rattle.sim_plain.specs.declared.message.DownOf.TheVariants as down
+use Rattle.sim_base.specs.declared.state.State.{State}
+use Rattle.sim_base.specs.Spelling.{spelling}
 use Rattle.sim_plain.specs.declared.status.Status.TheVariants.{Out, Waiting, In}
 use Rattle.sim_plain.specs.Server.{is_in}
 use Rattle.sim_turn_laws.specs.CommandLaws.{IsOrderOf}
+use Rattle.sim_plain_session.specs.Bytes.{downs_of}
 use Rattle.sim_plain_session.specs.Clients.{Down, Seat, Off, Joining, On, orders}
 use Rattle.sim_plain_session.specs.Pasts.{is_client}
 use Rattle.sim_session_laws.specs.Always.{Fact}
@@ -29,6 +33,12 @@ StatesHaveTurns setup s = (past : Past) → IsPast s past → (after setup past)
 -- a state that a client is to hear next is valid, so that no bytes of it are refused
 abbrev pub NoStateIsRefused : Fact
 NoStateIsRefused setup s = (c done : ℕ) (past : Past) (rest : List Down) → s.downs c ≡ down.State done past ∷ rest → IsValid setup (after setup past)
+
+-- where messages carry bytes, those that a client is to hear next spell a valid state
+abbrev pub HeardBytesSpellAState : Fact
+HeardBytesSpellAState setup s =
+    (c done : ℕ) (bytes : List ℕ) (rest : List (DownOf (List ℕ))) → downs_of setup s c ≡ down.State done bytes ∷ rest
+    → (state : State) × IsValid setup state × (bytes ≡ spelling setup state)
 
 -- every command that a client knows is by a player of the match
 abbrev pub KnownAreOfPlayers : Fact

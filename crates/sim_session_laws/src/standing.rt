@@ -1,14 +1,15 @@
 //! Valid pasts, and who stands where.
 
-ghost use Rattle.sim_session_laws.specs.Standing.{StrangersAreOut, PastsAreValid, StatesHaveTurns, NoStateIsRefused, KnownAreOfPlayers, OffIsOut, OnIsIn, OutHasWish, WaitingHasDonor, InHasState};
+ghost use Rattle.sim_session_laws.specs.Standing.{StrangersAreOut, PastsAreValid, StatesHaveTurns, NoStateIsRefused, HeardBytesSpellAState, KnownAreOfPlayers, OffIsOut, OnIsIn, OutHasWish, WaitingHasDonor, InHasState};
 ghost use Rattle.sim_session_laws.specs.Always.{Always};
 
 /// The state after every past in a session is valid and at the turn that the past has, and so no state that a client
-/// hears is refused. Every command that a client knows is by a player of the match.
+/// hears is refused: in bytes, it is the spelling of a valid state. Every command that a client knows is by a player of the match.
 pub fn pasts_lead_to_valid_states()
     ensures valid { Always PastsAreValid }
     ensures turns { Always StatesHaveTurns }
     ensures heard { Always NoStateIsRefused }
+    ensures bytes { Always HeardBytesSpellAState }
     ensures known { Always KnownAreOfPlayers }
 {}
 
