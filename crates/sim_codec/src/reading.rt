@@ -5,7 +5,7 @@ ghost use Rattle.sim_sections.specs.Walking.{row_of};
 ghost use Rattle.sim_codec.specs.Reading.{row_at, rows_at, state_at, Gives, GivesState};
 
 use crate::fault::StateFault;
-use sim_base::{Aim, Items, Motion, Row, Rows, Setup, State, Template};
+use sim_base::{Aim, Items, MAX_ROWS, Motion, Row, Rows, Setup, State, Template};
 use sim_bytes::Take;
 use sim_sections::{AttackRow, MotionRow, Parts, Walk, locate, take_parts};
 use std::alloc::{AllocError, Global};
@@ -96,7 +96,7 @@ pub fn state_from(alloc: Global, setup: &Setup, bytes: &[u8]) -> Result<State, S
     let word = from.u64()?;
     let (count, mut walk) = locate(&mut from)?;
     // A valid state has no more, so that no memory is taken for others.
-    if count > 4096 {
+    if count as usize > MAX_ROWS {
         return Err(StateFault::Grammar);
     }
     let rows = rows_from(alloc, setup.templates.as_slice(), count, &mut walk)?;

@@ -8,7 +8,9 @@ ghost use Rattle.sim_base.specs.Rows.{id_of};
 ghost use Rattle.sim_base.specs.Validity.{IsInside, has_health, IsValidMotion, Both, IsValidAim, IsValidRow, IsKnownRow, IsValid};
 
 use crate::look_up::place_of;
-use sim_base::{Aim, Arms, Fixed, Motion, Point, Row, Setup, State, Template};
+use sim_base::{
+    Aim, Arms, Fixed, MAX_ROWS, MAX_WAYPOINTS, Motion, Point, Row, Setup, State, Template,
+};
 
 fn is_within_cells(raw: i32, cells: u16) -> bool
     ensures { result ≡ is_within raw cells }
@@ -45,7 +47,9 @@ fn is_valid_motion(setup: &Setup, motion: &Motion) -> bool
             whole: _,
         } => {
             let points = way.as_slice();
-            is_inside_setup(setup, *goal) && points.len() <= 64 && are_inside(setup, points)
+            is_inside_setup(setup, *goal)
+                && points.len() <= MAX_WAYPOINTS
+                && are_inside(setup, points)
         }
     }
 }
@@ -183,7 +187,7 @@ pub fn is_valid(setup: &Setup, state: &State) -> bool
 {
     let rows = state.rows.as_slice();
     is_valid_clock(setup, state)
-        && rows.len() <= 4096
+        && rows.len() <= MAX_ROWS
         && are_ascending(rows)
         && are_ids_below(rows, state.next)
         && are_known(setup, rows)

@@ -15,10 +15,18 @@ usage_text =
     (codes "       simcore show MATCH STATE\n" ++
     codes "       simcore trial SEED UNITS TURNS\n")))))))
 
+-- a number behind a space
+abbrev pub spaced_number : ℕ → List ℕ
+spaced_number n = codes " " ++ decimal n
+
+-- a digest behind a space, at the end of a line
+abbrev pub line_end : List ℕ → List ℕ
+line_end digest = codes " " ++ (encode_lower digest ++ codes "\n")
+
 -- a word, a turn and a digest
 abbrev pub turn_line : List ℕ → ℕ → List ℕ → List ℕ
-turn_line word turn digest = word ++ (codes " " ++ (decimal turn ++ (codes " " ++ (encode_lower digest ++ codes "\n"))))
+turn_line word turn digest = word ++ (spaced_number turn ++ line_end digest)
 
 -- a stored state: its turn, how many bytes it has, and its digest
 abbrev pub saved_line : ℕ → ℕ → List ℕ → List ℕ
-saved_line turn length digest = codes "state " ++ (decimal turn ++ (codes " " ++ (decimal length ++ (codes " " ++ (encode_lower digest ++ codes "\n")))))
+saved_line turn length digest = codes "state" ++ (spaced_number turn ++ (spaced_number length ++ line_end digest))

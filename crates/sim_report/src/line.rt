@@ -1,9 +1,9 @@
 //! The texts of one piece: how the program is called, and the lines that name a turn by its digest.
 
-ghost use Rattle.std.specs.Prelude.{◌≡◌, ◌++◌, OnOk, OnErr, string_bytes};
-ghost use Rattle.sim_report.specs.Lines.{usage_text, turn_line, saved_line};
+ghost use Rattle.std.specs.Prelude.{◌≡◌, ◌++◌, length, take, OnOk, OnErr, string_bytes};
+ghost use Rattle.sim_report.specs.Lines.{usage_text, spaced_number, line_end, turn_line, saved_line};
 
-use sim_base::OutOfMemory;
+use sim_base::{OutOfMemory, push_decimal};
 use sim_bytes::push_hex;
 
 const USAGE: &str = "usage: simcore play MATCH
@@ -36,11 +36,48 @@ pub fn push_turn(
     ensures ok { OnOk result (string_bytes out.new ≡ string_bytes out.old ++ turn_line word.now turn digest.now) }
     ensures err { OnErr result (string_bytes out.new ≡ string_bytes out.old) }
 {
-    let mut line = String::new(*out.allocator());
-    write!(line, "{word} {turn} ")?;
-    push_hex(&mut line, digest.as_slice())?;
-    line.push_str("\n")?;
-    out.push_str(line.as_str())?;
+    let length = out.len();
+    match append_turn(word, turn, digest, out) {
+        Ok(()) => Ok(()),
+        Err(stop) => {
+            out.truncate(length);
+            Err(stop)
+        }
+    }
+}
+
+// After an error a part of the line may stand behind the old text, here and below.
+fn append_turn(
+    word: &str,
+    turn: u32,
+    digest: &[u8; 16],
+    out: &mut String,
+) -> Result<(), OutOfMemory>
+    ensures ok { OnOk result (string_bytes out.new ≡ string_bytes out.old ++ turn_line word.now turn digest.now) }
+    ensures err { OnErr result (take (length (string_bytes out.old)) (string_bytes out.new) ≡ string_bytes out.old) }
+{
+    out.push_str(word)?;
+    append_number(u64::from(turn), out)?;
+    append_digest(digest, out)
+}
+
+// A space and a number.
+fn append_number(number: u64, out: &mut String) -> Result<(), OutOfMemory>
+    ensures ok { OnOk result (string_bytes out.new ≡ string_bytes out.old ++ spaced_number number) }
+    ensures err { OnErr result (take (length (string_bytes out.old)) (string_bytes out.new) ≡ string_bytes out.old) }
+{
+    out.push_str(" ")?;
+    push_decimal(number, out)
+}
+
+// A space, the digest, and the end of the line.
+fn append_digest(digest: &[u8; 16], out: &mut String) -> Result<(), OutOfMemory>
+    ensures ok { OnOk result (string_bytes out.new ≡ string_bytes out.old ++ line_end digest.now) }
+    ensures err { OnErr result (take (length (string_bytes out.old)) (string_bytes out.new) ≡ string_bytes out.old) }
+{
+    out.push_str(" ")?;
+    push_hex(out, digest.as_slice())?;
+    out.push_str("\n")?;
     Ok(())
 }
 
@@ -54,10 +91,27 @@ pub fn push_saved(
     ensures ok { OnOk result (string_bytes out.new ≡ string_bytes out.old ++ saved_line turn length digest.now) }
     ensures err { OnErr result (string_bytes out.new ≡ string_bytes out.old) }
 {
-    let mut line = String::new(*out.allocator());
-    write!(line, "state {turn} {length} ")?;
-    push_hex(&mut line, digest.as_slice())?;
-    line.push_str("\n")?;
-    out.push_str(line.as_str())?;
-    Ok(())
+    let before = out.len();
+    match append_saved(turn, length, digest, out) {
+        Ok(()) => Ok(()),
+        Err(stop) => {
+            out.truncate(before);
+            Err(stop)
+        }
+    }
+}
+
+fn append_saved(
+    turn: u32,
+    size: usize,
+    digest: &[u8; 16],
+    out: &mut String,
+) -> Result<(), OutOfMemory>
+    ensures ok { OnOk result (string_bytes out.new ≡ string_bytes out.old ++ saved_line turn size digest.now) }
+    ensures err { OnErr result (take (length (string_bytes out.old)) (string_bytes out.new) ≡ string_bytes out.old) }
+{
+    out.push_str("state")?;
+    append_number(u64::from(turn), out)?;
+    append_number(size as u64, out)?;
+    append_digest(digest, out)
 }

@@ -6,18 +6,19 @@ use Rattle.sim_base.specs.declared.place.Point.{Point}
 use Rattle.sim_base.specs.declared.state.Row.{Row}
 use Rattle.sim_base.specs.declared.state.Motion.{Motion}
 use Rattle.sim_base.specs.declared.state.Motion.TheVariants.{Still, Going}
+use Rattle.sim_base.specs.Limits.{waypoint_limit}
 use Rattle.sim_bytes.specs.Reading.{Reader, ◌>>=◌, number_at, byte_at, signed_at}
 
 -- a part beside the id of its row
 abbrev pub with_id : {X : Type 0} → (Row → Option X) → Row → Option (ℕ × X)
 with_id part row = option_map (λ x. (row.id, x)) (part row)
 
--- a way of at most 64 waypoints
+-- a way of no more waypoints than it may have
 abbrev pub IsShort : Motion → Type 0
 IsShort Still = Unit {0}
-IsShort (Going goal way whole) = length way ≤ 64
+IsShort (Going goal way whole) = length way ≤ waypoint_limit
 
--- a row that has no way of more than 64 waypoints
+-- a row that has no longer way
 abbrev pub HasShortWay : Row → Type 0
 HasShortWay row = IfSome row.motion IsShort
 
@@ -79,7 +80,7 @@ health_at bytes = number_at w32 bytes >>= λ id. signed_at id.1 >>= λ health. S
 -- the points fit, and the way is short
 abbrev pub IsMotion : Motion → Type 0
 IsMotion Still = Unit {0}
-IsMotion (Going goal way whole) = IsPoint goal × AllByRecursion IsPoint way × (length way ≤ 64)
+IsMotion (Going goal way whole) = IsPoint goal × AllByRecursion IsPoint way × (length way ≤ waypoint_limit)
 
 -- the id and the motion fit
 pub record IsMoving (r : ℕ × Motion) : Type 0 where
@@ -99,7 +100,7 @@ made_motion going goal way whole = if going then Going goal way whole else Still
 unfoldable pub motion_at : Reader Motion
 motion_at bytes =
     byte_at bytes >>= λ mode. point_at mode.1 >>= λ goal. byte_at goal.1 >>= λ whole. byte_at whole.1 >>= λ count.
-    if nat_lt 64 count.0 then None else (points_at count.0 count.1 >>= λ way. Some (made_motion (not (mode.0 == 0)) goal.0 way.0 (not (whole.0 == 0)), way.1))
+    if nat_lt waypoint_limit count.0 then None else (points_at count.0 count.1 >>= λ way. Some (made_motion (not (mode.0 == 0)) goal.0 way.0 (not (whole.0 == 0)), way.1))
 
 -- reads an id and a motion
 unfoldable pub moving_at : Reader (ℕ × Motion)

@@ -5,13 +5,14 @@ ghost use Rattle.std.specs.Prelude.{◌≡◌, ◌≤◌, ℕ, List, length, tak
 ghost use Rattle.std.specs.List.{flat_map};
 ghost use Rattle.sim_base.specs.Spelling.{point_bytes, motion_bytes, moving_bytes};
 ghost use Rattle.sim_base.specs.Bytes.{flag_bytes};
+ghost use Rattle.sim_base.specs.Limits.{waypoint_limit};
 ghost use Rattle.sim_base.specs.declared.state.Motion.TheVariants.{Still, Going};
 ghost use Rattle.sim_bytes.specs.Reading.{Reads, ReadsBy};
 ghost use Rattle.sim_bytes.specs.Telling.{Tells};
 ghost use Rattle.sim_sections.specs.Rows.{IsShort, point_at, points_at};
 
 use crate::form::RowForm;
-use sim_base::{Fixed, Motion, Point, Row};
+use sim_base::{Fixed, MAX_WAYPOINTS, Motion, Point, Row};
 use sim_bytes::{Buffer, ByteSink, Short, Take, tell_i32, tell_u8, tell_u32};
 use std::marker::Model;
 
@@ -23,11 +24,12 @@ pub struct MotionRow {
     pub goal: Point,
     pub whole: bool,
     pub count: usize,
-    pub way: [Point; 64],
+    pub way: [Point; MAX_WAYPOINTS],
 }
 
 impl Model for MotionRow {
     ghost use Rattle.std.specs.Prelude.{ℕ, ◌≤◌, take, if◌then◌else◌};
+    ghost use Rattle.sim_base.specs.Limits.{waypoint_limit};
     ghost use Rattle.sim_base.specs.declared.state.Motion.{Motion};
     ghost use Rattle.sim_base.specs.declared.state.Motion.TheVariants.{Still, Going};
 
@@ -35,7 +37,7 @@ impl Model for MotionRow {
 
     ghost view = { λ row. (row.id, if row.going then Going row.goal (take row.count row.way) row.whole else Still) };
 
-    ghost invariant = { λ row. row.count ≤ 64 };
+    ghost invariant = { λ row. row.count ≤ waypoint_limit };
 }
 
 /// Takes a point.
@@ -58,11 +60,11 @@ fn no_point() -> Point {
     }
 }
 
-fn take_way(from: &mut Take<'_>, count: usize) -> Result<[Point; 64], Short>
-    requires { count ≤ 64 }
+fn take_way(from: &mut Take<'_>, count: usize) -> Result<[Point; MAX_WAYPOINTS], Short>
+    requires { count ≤ waypoint_limit }
     ensures { ReadsBy (λ way. take count way) (points_at count) from.old result from.new }
 {
-    let mut way = [no_point(); 64];
+    let mut way = [no_point(); MAX_WAYPOINTS];
     for i in 0..count {
         way[i] = take_point(from)?;
     }
@@ -104,7 +106,7 @@ fn tell_going<K: ByteSink>(
     whole: bool,
     way: &[Point],
 ) -> Result<(), K::Fault>
-    requires { length way.now ≤ 64 }
+    requires { length way.now ≤ waypoint_limit }
     ensures { OnOk result (Tells K.holds out.old out.new (motion_bytes (Going goal way.now whole))) }
 {
     tell_u8(out, 1)?;
@@ -164,12 +166,12 @@ impl RowForm for MotionRow {
                 goal: no_point(),
                 whole: false,
                 count: 0,
-                way: [no_point(); 64],
+                way: [no_point(); MAX_WAYPOINTS],
             }),
             Some(Motion::Going { goal, way, whole }) => {
                 let points = way.as_slice();
                 let count = points.len();
-                let mut copy = [no_point(); 64];
+                let mut copy = [no_point(); MAX_WAYPOINTS];
                 copy[..count].copy_from_slice(points);
                 Some(MotionRow {
                     id: row.id,
@@ -193,11 +195,10 @@ impl RowForm for MotionRow {
         let mode = from.u8()?;
         let goal = take_point(from)?;
         let whole = from.u8()?;
-        let count = from.u8()?;
-        if count > 64 {
+        let count = usize::from(from.u8()?);
+        if count > MAX_WAYPOINTS {
             return Err(Short);
         }
-        let count = count as usize;
         let way = take_way(from, count)?;
         Ok(MotionRow {
             id,
