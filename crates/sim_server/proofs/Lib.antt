@@ -1,0 +1,5 @@
+pub mod Lists
+pub mod Said
+pub mod Made
+pub mod Whole
+pub mod Smallness

@@ -1,0 +1,99 @@
+//! Frames made and read. The reader is lax: what it read is framed again and compared. So it is enough that it reads back
+//! what is framed.
+
+ghost use Rattle.std.specs.Prelude.{◌≡◌, ◌↔◌, ℕ, List, IsTrue, IfOk, IfErr};
+ghost use Rattle.sim_plain.specs.declared.message.UpOf.{UpOf};
+ghost use Rattle.sim_plain.specs.declared.message.DownOf.{DownOf};
+ghost use Rattle.sim_wire.specs.Fits.{IsSmallUp, IsSmallDown, IsUpFrame, IsDownFrame};
+ghost use Rattle.sim_wire.specs.Refusals.{RefusedFor, GivesMessage};
+
+use crate::fault::WireFault;
+use crate::message::{Down, Up};
+use crate::take::{take_down, take_up};
+use crate::tell::{tell_down, tell_up};
+use sim_base::OutOfMemory;
+use sim_bytes::{Comparing, Take};
+use std::alloc::Global;
+
+/// How many bytes a frame has at most.
+pub const MAX_FRAME: usize = 2_400_000;
+
+/// The frame of what a client says.
+pub fn frame_up(alloc: Global, up: &Up) -> Result<Vec<u8>, OutOfMemory>
+    requires { IsSmallUp up.now }
+    ensures { IfOk result (λ bytes. IsUpFrame bytes.items up.now) }
+{
+    let mut out = Vec::new(alloc);
+    tell_up(&mut out, up)?;
+    Ok(out)
+}
+
+/// The frame of what the server says.
+pub fn frame_down(alloc: Global, down: &Down) -> Result<Vec<u8>, OutOfMemory>
+    requires { IsSmallDown down.now }
+    ensures { IfOk result (λ bytes. IsDownFrame bytes.items down.now) }
+{
+    let mut out = Vec::new(alloc);
+    tell_down(&mut out, down)?;
+    Ok(out)
+}
+
+// Whether these bytes are the frame of what a client says.
+fn is_up_frame(up: &Up, bytes: &[u8]) -> bool
+    requires { IsSmallUp up.now }
+    ensures { IsTrue result ↔ IsUpFrame bytes.now up.now }
+{
+    let mut comparing = Comparing::new(bytes);
+    match tell_up(&mut comparing, up) {
+        Ok(()) => comparing.is_same(),
+        Err(never) => match never {},
+    }
+}
+
+// Whether these bytes are the frame of what the server says.
+fn is_down_frame(down: &Down, bytes: &[u8]) -> bool
+    requires { IsSmallDown down.now }
+    ensures { IsTrue result ↔ IsDownFrame bytes.now down.now }
+{
+    let mut comparing = Comparing::new(bytes);
+    match tell_down(&mut comparing, down) {
+        Ok(()) => comparing.is_same(),
+        Err(never) => match never {},
+    }
+}
+
+/// What the client says of which these bytes are the frame.
+pub fn unframe_up(alloc: Global, bytes: &[u8]) -> Result<Up, WireFault>
+    ensures ok { IfOk result (IsUpFrame bytes.now) }
+    ensures small { IfOk result IsSmallUp }
+    ensures reads { (up : UpOf (List ℕ)) → IsUpFrame bytes.now up → GivesMessage up result }
+    ensures err { IfErr result (RefusedFor IsUpFrame bytes.now) }
+{
+    if bytes.len() > MAX_FRAME {
+        return Err(WireFault::TooLong);
+    }
+    let mut from = Take::new(bytes);
+    let up = take_up(alloc, &mut from)?;
+    if !is_up_frame(&up, bytes) {
+        return Err(WireFault::NotFrame);
+    }
+    Ok(up)
+}
+
+/// What the server says of which these bytes are the frame.
+pub fn unframe_down(alloc: Global, bytes: &[u8]) -> Result<Down, WireFault>
+    ensures ok { IfOk result (IsDownFrame bytes.now) }
+    ensures small { IfOk result IsSmallDown }
+    ensures reads { (down : DownOf (List ℕ)) → IsDownFrame bytes.now down → GivesMessage down result }
+    ensures err { IfErr result (RefusedFor IsDownFrame bytes.now) }
+{
+    if bytes.len() > MAX_FRAME {
+        return Err(WireFault::TooLong);
+    }
+    let mut from = Take::new(bytes);
+    let down = take_down(alloc, &mut from)?;
+    if !is_down_frame(&down, bytes) {
+        return Err(WireFault::NotFrame);
+    }
+    Ok(down)
+}

@@ -1,0 +1,72 @@
+//! Frames read and made again, cut short, and with a byte behind them.
+
+use crate::fault::WireFault;
+use crate::frame::{frame_down, frame_up, unframe_down, unframe_up};
+use crate::laws::{a_framed_down_is_read, a_framed_up_is_read};
+use std::test::Fail;
+
+// What clients say: that they join, are done, report, and hand a state on; and a command of each kind.
+static UP: [&[u8]; 11] = [
+    &[1, 0, 0, 0, 1],
+    &[5, 0, 0, 0, 3, 7, 0, 0, 0],
+    &[
+        21, 0, 0, 0, 4, 2, 1, 0, 0, 0, 1, 2, 3, 4, 5, 6, 7, 8, 9, 10, 11, 12, 13, 14, 15,
+    ],
+    &[9, 0, 0, 0, 5, 3, 0, 0, 1, 0, 9, 8, 7],
+    &[
+        20, 0, 0, 0, 2, 2, 0, 0, 0, 1, 1, 0, 2, 0, 0, 0, 0, 128, 6, 0, 0, 128, 253, 255,
+    ],
+    &[8, 0, 0, 0, 2, 2, 0, 0, 0, 2, 0, 0],
+    &[
+        20, 0, 0, 0, 2, 2, 0, 0, 0, 3, 2, 0, 2, 0, 0, 0, 112, 17, 1, 0, 255, 255, 255, 255,
+    ],
+    &[16, 0, 0, 0, 2, 2, 0, 0, 0, 4, 2, 0, 2, 0, 0, 0, 3, 0, 0, 0],
+    &[
+        16, 0, 0, 0, 2, 2, 0, 0, 0, 5, 1, 2, 0, 0, 1, 0, 255, 255, 255, 255,
+    ],
+    &[12, 0, 0, 0, 2, 2, 0, 0, 0, 6, 5, 0, 0, 0, 1, 0],
+    &[6, 0, 0, 0, 2, 255, 255, 255, 255, 7],
+];
+
+// What the server says, each message once.
+static DOWN: [&[u8]; 6] = [
+    &[2, 0, 0, 0, 1, 3],
+    &[8, 0, 0, 0, 2, 2, 0, 0, 0, 9, 8, 7],
+    &[
+        21, 0, 0, 0, 3, 2, 0, 0, 0, 1, 1, 1, 0, 2, 0, 0, 0, 0, 128, 6, 0, 0, 128, 253, 255,
+    ],
+    &[5, 0, 0, 0, 4, 2, 0, 0, 0],
+    &[6, 0, 0, 0, 5, 2, 0, 0, 0, 1],
+    &[2, 0, 0, 0, 6, 4],
+];
+
+#[test]
+fn frames_of_clients_are_read(rt: HostRuntime) -> Result<(), Fail> {
+    let alloc = rt.alloc();
+    for frame in UP {
+        let up = unframe_up(alloc, frame)?;
+        let up = a_framed_up_is_read(alloc, &up)?;
+        let again = frame_up(alloc, &up)?;
+        assert_eq!(rt; again.as_slice(), frame);
+        for end in 0..frame.len() {
+            let cut = unframe_up(alloc, &frame[..end]);
+            assert!(rt; matches!(cut, Err(WireFault::NotFrame)));
+        }
+    }
+    Ok(())
+}
+
+#[test]
+fn frames_of_the_server_are_read(rt: HostRuntime) -> Result<(), Fail> {
+    let alloc = rt.alloc();
+    for frame in DOWN {
+        let down = unframe_down(alloc, frame)?;
+        let down = a_framed_down_is_read(alloc, &down)?;
+        let mut again = frame_down(alloc, &down)?;
+        assert_eq!(rt; again.as_slice(), frame);
+        again.push(0)?;
+        let longer = unframe_down(alloc, &again);
+        assert!(rt; matches!(longer, Err(WireFault::NotFrame)));
+    }
+    Ok(())
+}
