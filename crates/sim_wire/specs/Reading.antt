@@ -10,6 +10,7 @@ use Rattle.sim_plain.specs.declared.message.UpOf.{UpOf}
 use Rattle.sim_plain.specs.declared.message.UpOf.TheVariants as up
 use Rattle.sim_plain.specs.declared.message.DownOf.{DownOf}
 use Rattle.sim_plain.specs.declared.message.DownOf.TheVariants as down
+use Rattle.sim_wire.specs.Fits.{state_limit}
 use Rattle.sim_wire.specs.declared.fault.WireFault.{WireFault}
 use Rattle.sim_wire.specs.declared.fault.WireFault.TheVariants as faults
 
@@ -68,7 +69,7 @@ digest_at bytes = if nat_lt (length bytes) 16 then None else Some (take 16 bytes
 
 -- all that is left, if it is no longer than a state
 unfoldable pub state_at : Reader (List ℕ)
-state_at bytes = if nat_lt 2326598 (length bytes) then None else Some (bytes, bytes)
+state_at bytes = if nat_lt state_limit (length bytes) then None else Some (bytes, bytes)
 
 -- ---- what a client says
 
