@@ -27,7 +27,8 @@ arrived_rises : (setup : Setup) (active c : ℕ) (ups : List Up) (s : Session) �
 arrived_rises setup active c [] s h = h
 arrived_rises setup active c (x ∷ rest) s h = ap (λ (y : Server). heard (rules_of setup) y (Heard c x)) h
 
-arrived_falls : (setup : Setup) (active c : ℕ) (downs : List Down) (s : Session) → Arrived setup active s → Arrived setup active (falls setup c downs s)
+arrived_falls : (setup : Setup) (active c : ℕ) (downs : List Down) (s : Session) → Arrived setup active s
+    → Arrived setup active (falls setup c downs s)
 arrived_falls setup active c [] s h = h
 arrived_falls setup active c (x ∷ rest) s h = h
 
@@ -121,21 +122,24 @@ notices_by : (setup : Setup) (active : ℕ) (s : Session) (x : Step) → Arrived
 notices_by setup active s (step.Order c x) h = sym (append-nil _) ∙ ap (λ l. notices_given (rules_of setup) active s.arrivals ++ l) (sym (quiet_orders setup c x (s.client c)))
 notices_by setup active s (step.Up c) h = by (s.ups c)
   where
-    by : (ups : List Up) → notices_given (rules_of setup) active (rises setup c ups s).arrivals ≡ notices_given (rules_of setup) active s.arrivals ++ notices_in (rise_events setup s.server c ups)
+    by : (ups : List Up)
+        → notices_given (rules_of setup) active (rises setup c ups s).arrivals ≡ notices_given (rules_of setup) active s.arrivals ++ notices_in (rise_events setup s.server c ups)
     by [] = sym (append-nil _)
     by (x ∷ rest) =
         ap (λ l. notices_given (rules_of setup) active s.arrivals ++ l)
         (ap (λ (y : Server). noticed (rules_of setup) y (Heard c x)) (sym h) ∙ sym (noticed_are (noticed (rules_of setup) s.server (Heard c x))))
 notices_by setup active s (step.Down c) h = by (s.downs c)
   where
-    by : (downs : List Down) → notices_given (rules_of setup) active (falls setup c downs s).arrivals ≡ notices_given (rules_of setup) active s.arrivals ++ notices_in (fall_events setup c (s.client c) downs)
+    by : (downs : List Down)
+        → notices_given (rules_of setup) active (falls setup c downs s).arrivals ≡ notices_given (rules_of setup) active s.arrivals ++ notices_in (fall_events setup c (s.client c) downs)
     by [] = sym (append-nil _)
     by (x ∷ rest) = sym (append-nil _) ∙ ap (λ l. notices_given (rules_of setup) active s.arrivals ++ l) (sym (quiet_hears setup c (s.client c) x))
 notices_by setup active s (step.Play c) h = sym (append-nil _) ∙ ap (λ l. notices_given (rules_of setup) active s.arrivals ++ l) (sym (quiet_plays setup c (s.client c)))
 notices_by setup active s (step.Join c) h = sym (append-nil _) ∙ ap (λ l. notices_given (rules_of setup) active s.arrivals ++ l) (sym (quiet_joins c (s.client c)))
 notices_by setup active s (step.Cut c) h = by (s.client c)
   where
-    by : (ph : Phase) → notices_given (rules_of setup) active (leaves setup c ph s).arrivals ≡ notices_given (rules_of setup) active s.arrivals ++ notices_in (leave_events c ph)
+    by : (ph : Phase)
+        → notices_given (rules_of setup) active (leaves setup c ph s).arrivals ≡ notices_given (rules_of setup) active s.arrivals ++ notices_in (leave_events c ph)
     by Off = sym (append-nil _)
     by Joining = refl
     by (On o) = refl
@@ -157,7 +161,8 @@ notices_stepped : (setup : Setup) (active : ℕ) (s : Session) (x : Step) → Ar
     notices_given (rules_of setup) active (stepped setup s x).arrivals ≡ notices_given (rules_of setup) active s.arrivals ++ notices_in (events setup s x)
 notices_stepped setup active s x h = by (is_client setup (client_of x))
   where
-    by : (b : Bool) → notices_given (rules_of setup) active (if b then stepped_by setup s x else s).arrivals ≡ notices_given (rules_of setup) active s.arrivals ++ notices_in (if b then events_by setup s x else [])
+    by : (b : Bool)
+        → notices_given (rules_of setup) active (if b then stepped_by setup s x else s).arrivals ≡ notices_given (rules_of setup) active s.arrivals ++ notices_in (if b then events_by setup s x else [])
     by true = notices_by setup active s x h
     by false = sym (append-nil _)
 

@@ -6,14 +6,16 @@ use Rattle.sim_plain_session.specs.Laws.{SessionGoesOn, EventsGoOn}
 use Rattle.sim_plain_session.specs.Printed.{start_events, events, events_after}
 use Rattle.sim_plain_session.specs.Sessions.{Session, opened, stepped, after_steps, session}
 
-pub after_steps-append : (setup : Setup) (s : Session) (xs ys : List Step) → after_steps setup s (xs ++ ys) ≡ after_steps setup (after_steps setup s xs) ys
+pub after_steps-append : (setup : Setup) (s : Session) (xs ys : List Step)
+    → after_steps setup s (xs ++ ys) ≡ after_steps setup (after_steps setup s xs) ys
 after_steps-append setup s [] ys = refl
 after_steps-append setup s (x ∷ xs) ys = after_steps-append setup (stepped setup s x) xs ys
 
 pub session_goes_on : SessionGoesOn
 session_goes_on setup active steps x = after_steps-append setup (opened setup active) steps (x ∷ [])
 
-events_after-append : (setup : Setup) (s : Session) (xs ys : List Step) → events_after setup s (xs ++ ys) ≡ events_after setup s xs ++ events_after setup (after_steps setup s xs) ys
+events_after-append : (setup : Setup) (s : Session) (xs ys : List Step)
+    → events_after setup s (xs ++ ys) ≡ events_after setup s xs ++ events_after setup (after_steps setup s xs) ys
 events_after-append setup s [] ys = refl
 events_after-append setup s (x ∷ xs) ys =
     ap (λ l. events setup s x ++ l) (events_after-append setup (stepped setup s x) xs ys)

@@ -13,7 +13,8 @@ use Rattle.sim_plain_session.specs.Clients.{Up}
 use Rattle.sim_plain_session.specs.Pasts.{rules_of}
 use Rattle.sim_plain_session.specs.Sessions.{session}
 
-server_after-carried : {A B : Type 0} (f : A → B) (rules : Rules) (active : ℕ) (h : List (Arrival A)) → server_after rules active (map (carry_arrival f) h) ≡ server_after rules active h
+server_after-carried : {A B : Type 0} (f : A → B) (rules : Rules) (active : ℕ) (h : List (Arrival A))
+    → server_after rules active (map (carry_arrival f) h) ≡ server_after rules active h
 server_after-carried f rules active [] = refl
 server_after-carried f rules active (a ∷ h) =
     heard_carry f rules (server_after rules active (map (carry_arrival f) h)) a ∙ ap (λ (s : Server). heard rules s a) (server_after-carried f rules active h)

@@ -38,7 +38,8 @@ pub learning_stands : LearningStands
 learning_stands setup player seat t order s above =
     record { state = s.state; known = λ u over. by u over (cases_eq u t); released = s.released; done = s.done; orders = s.orders }
   where
-    by : (u : ℕ) → turns_in seat.past < u → (u ≡ t) ⊎ (u ≡ t → ⊥) → put t (player.known t ++ order ∷ []) player.known u ≡ put t (seat.known t ++ order ∷ []) seat.known u
+    by : (u : ℕ) → turns_in seat.past < u → (u ≡ t) ⊎ (u ≡ t → ⊥)
+        → put t (player.known t ++ order ∷ []) player.known u ≡ put t (seat.known t ++ order ∷ []) seat.known u
     by u over (inl e) =
         subst (λ v. put t (player.known t ++ order ∷ []) player.known v ≡ put t (seat.known t ++ order ∷ []) seat.known v) (sym e)
         (put_same t (player.known t ++ order ∷ []) player.known ∙ ap (λ (l : List PlayerCommand). l ++ order ∷ []) (s.known t above) ∙ sym (put_same t (seat.known t ++ order ∷ []) seat.known))

@@ -52,7 +52,8 @@ at_phase setup s c t g Off is h = absurd h
 at_phase setup s c t g Joining is h = absurd h
 at_phase setup s c t g (On o) is h = (o, is, h.0, h.1)
 
-at_client : (setup : Setup) (s : Session) (c d t : ℕ) (g : List ℕ) (ph : Phase) → s.client c ≡ ph → (c ≡ d) × AtPhase setup ph t g → IsAt setup s d t g
+at_client : (setup : Setup) (s : Session) (c d t : ℕ) (g : List ℕ) (ph : Phase) → s.client c ≡ ph → (c ≡ d) × AtPhase setup ph t g
+    → IsAt setup s d t g
 at_client setup s c d t g ph is h = subst (λ x. IsAt setup s x t g) h.0 (at_phase setup s c t g ph is h.1)
 
 shown_at : (setup : Setup) (s : Session) (c : ℕ) (ph : Phase) (e : Event) → s.client c ≡ ph → ShownBy setup c ph e → IsShown setup s e
@@ -115,12 +116,14 @@ shows_hears setup c (On o) (down.Release t) = tt
 shows_hears setup c (On o) (down.Notice t j) = tt
 shows_hears setup c (On o) (down.Refused code) = (tt, tt)
 
-acts_shown : (setup : Setup) (s : Session) (c : ℕ) (acted : Acted) (e : Event) → Shows setup c acted → Carries acted.events e → IsShown setup (acts c acted s) e
+acts_shown : (setup : Setup) (s : Session) (c : ℕ) (acted : Acted) (e : Event) → Shows setup c acted → Carries acted.events e
+    → IsShown setup (acts c acted s) e
 acts_shown setup s c acted e h has = shown_at setup (acts c acted s) c acted.phase e (put_same c acted.phase s.client) (one_shown setup c acted.phase acted.events e h has)
 
 -- ---- a step
 
-notices_shown : (setup : Setup) (s : Session) (ns : List (ℕ × ℕ)) (e : Event) → Carries (map (λ (n : ℕ × ℕ). event.Notice n.0 n.1) ns) e → IsShown setup s e
+notices_shown : (setup : Setup) (s : Session) (ns : List (ℕ × ℕ)) (e : Event) → Carries (map (λ (n : ℕ × ℕ). event.Notice n.0 n.1) ns) e
+    → IsShown setup s e
 notices_shown setup s [] e has = absurd has
 notices_shown setup s (n ∷ ns) e (inl same) = subst (λ (y : Event). IsShown setup s y) same tt
 notices_shown setup s (n ∷ ns) e (inr has) = notices_shown setup s ns e has
@@ -183,7 +186,8 @@ starts_to setup active (suc n) e le has = by (carries_either (start_events setup
     shown : IsShown setup (opened setup active) first
     shown = (begun (min setup.turns setup.delay) (min setup.turns setup.delay) [], cond-true _ _ _ here, refl, refl)
 
-    by : Carries (start_events setup n) e ⊎ Carries (first ∷ []) e → (Carries (start_events setup n) e → IsShown setup (opened setup active) e) → IsShown setup (opened setup active) e
+    by : Carries (start_events setup n) e ⊎ Carries (first ∷ []) e → (Carries (start_events setup n) e → IsShown setup (opened setup active) e)
+        → IsShown setup (opened setup active) e
     by (inl more) rec = rec more
     by (inr (inl same)) rec = subst (λ (y : Event). IsShown setup (opened setup active) y) same shown
     by (inr (inr none)) rec = absurd none

@@ -68,13 +68,14 @@ abbrev pub may_order : Setup → Seat → Bool
 may_order setup seat = nat_lt seat.done setup.turns && nat_lt seat.orders 64
 
 -- the command goes up, for that turn
+abbrev pub ordered : ℕ → Command → Seat → Acted
+ordered c command seat = record { phase = On (record seat { orders = suc seat.orders }); says = up.Command (suc seat.done) command ∷ []; events = event.Order c (suc seat.done) ∷ [] }
+
+-- a client that is on gives a command, where it may
 abbrev pub orders : Setup → ℕ → Command → Phase → Acted
 orders setup c command Off = idle Off
 orders setup c command Joining = idle Joining
-orders setup c command (On seat) =
-    if may_order setup seat
-    then record { phase = On (record seat { orders = suc seat.orders }); says = up.Command (suc seat.done) command ∷ []; events = event.Order c (suc seat.done) ∷ [] }
-    else idle (On seat)
+orders setup c command (On seat) = if may_order setup seat then ordered c command seat else idle (On seat)
 
 -- ---- a client plays a turn
 
@@ -98,14 +99,24 @@ report_of setup seat = up.Report (turns_in seat.past) (digest_of setup seat)
 abbrev pub play_event : Setup → ℕ → Seat → Event
 play_event setup c seat = event.Play c (turns_in seat.past) (digest_of setup seat)
 
--- a report, and behind it a done where there is room for one
-abbrev pub told : Setup → ℕ → Seat → Acted
-told setup c seat =
-    if may_tell_done setup seat
-    then record { phase = On (record seat { done = suc seat.done; orders = 0 }); says = report_of setup seat ∷ up.Done (suc seat.done) ∷ []; events = play_event setup c seat ∷ [] }
-    else record { phase = On seat; says = report_of setup seat ∷ []; events = play_event setup c seat ∷ [] }
+-- a report goes up, and behind it a done
+abbrev pub told_with_done : Setup → ℕ → Seat → Acted
+told_with_done setup c seat =
+    record {
+      phase = On (record seat { done = suc seat.done; orders = 0 });
+      says = report_of setup seat ∷ up.Done (suc seat.done) ∷ [];
+      events = play_event setup c seat ∷ [];
+    }
 
--- the turn is played and told
+-- a report goes up alone
+abbrev pub told_alone : Setup → ℕ → Seat → Acted
+told_alone setup c seat = record { phase = On seat; says = report_of setup seat ∷ []; events = play_event setup c seat ∷ [] }
+
+-- a turn that was played is told
+abbrev pub told : Setup → ℕ → Seat → Acted
+told setup c seat = if may_tell_done setup seat then told_with_done setup c seat else told_alone setup c seat
+
+-- a client that is on plays the next turn and tells it, where it may
 abbrev pub plays : Setup → ℕ → Phase → Acted
 plays setup c Off = idle Off
 plays setup c Joining = idle Joining
@@ -129,14 +140,16 @@ bent_seat id health seat = record seat { past = Bend id health ∷ seat.past }
 abbrev pub bend_event : Setup → ℕ → Seat → Event
 bend_event setup c seat = event.Bend c (turns_in seat.past) (digest_of setup seat)
 
+-- nothing goes up
+abbrev pub shows_bend : Setup → ℕ → Seat → Acted
+shows_bend setup c seat = record { phase = On seat; says = []; events = bend_event setup c seat ∷ [] }
+
 -- the bend happens where the health may be that
 abbrev pub bends : Setup → ℕ → ℕ → ℤ → Phase → Acted
 bends setup c id health Off = idle Off
 bends setup c id health Joining = idle Joining
 bends setup c id health (On seat) =
-    if may_bend setup health (row_of (state_of setup seat) id)
-    then record { phase = On (bent_seat id health seat); says = []; events = bend_event setup c (bent_seat id health seat) ∷ [] }
-    else idle (On seat)
+    if may_bend setup health (row_of (state_of setup seat) id) then shows_bend setup c (bent_seat id health seat) else idle (On seat)
 
 -- ---- a client hears a message
 

@@ -7,7 +7,7 @@ use Rattle.sim_base.specs.Turn.{Past}
 use Rattle.sim_plain.specs.Functions.{put}
 use Rattle.sim_plain.specs.Messages.{Arrival, Heard, Cut}
 use Rattle.sim_plain.specs.Server.{Server, opening, heard}
-use Rattle.sim_plain.specs.Posts.{posts}
+use Rattle.sim_plain.specs.Posts.{Posts, posts}
 use Rattle.sim_plain_session.specs.Clients.{Up, Down, Phase, Off, Joining, On, Acted, begun, orders, plays, joins, bends, hears}
 use Rattle.sim_plain_session.specs.Pasts.{rules_of, is_client}
 
@@ -40,14 +40,13 @@ opened setup active =
 abbrev pub acts : ℕ → Acted → Session → Session
 acts c acted s = record s { client = put c acted.phase s.client; ups = put c (s.ups c ++ acted.says) s.ups }
 
--- something arrives at the server, and what it says goes down
+-- something has arrived, the server is this, and what it says goes down
+abbrev pub taken : Arrival Past → Server → Posts Past → Session → Session
+taken a server said s = record s { server = server; arrivals = a ∷ s.arrivals; downs = λ d. s.downs d ++ said d }
+
+-- something arrives at the server
 abbrev pub arrives : Setup → Arrival Past → Session → Session
-arrives setup a s =
-    record s {
-      server = heard (rules_of setup) s.server a;
-      arrivals = a ∷ s.arrivals;
-      downs = λ d. s.downs d ++ posts (rules_of setup) s.server a d;
-    }
+arrives setup a s = taken a (heard (rules_of setup) s.server a) (posts (rules_of setup) s.server a) s
 
 -- the server hears the first message of a client
 abbrev pub rises : Setup → ℕ → List Up → Session → Session

@@ -23,14 +23,16 @@ pub record Grows (released : ℕ) (kept : ℕ → List PlayerCommand) (released'
 pub grows_same : (released : ℕ) (kept : ℕ → List PlayerCommand) → Grows released kept released kept
 grows_same released kept = record { more = omega arith; final = λ t h. refl }
 
-pub kept_turns_final : (released released' : ℕ) (kept kept' : ℕ → List PlayerCommand) (n : ℕ) → Grows released kept released' kept' → n ≤ released → kept_turns kept' n ≡ kept_turns kept n
+pub kept_turns_final : (released released' : ℕ) (kept kept' : ℕ → List PlayerCommand) (n : ℕ) → Grows released kept released' kept' → n ≤ released
+    → kept_turns kept' n ≡ kept_turns kept n
 kept_turns_final released released' kept kept' zero g h = refl
 kept_turns_final released released' kept kept' (suc n) g h =
     let now = g.final (suc n) h in
     let rest = kept_turns_final released released' kept kept' n g (omega arith) in
     λ i. Turn (now i) ∷ rest i
 
-pub good_past_grows : (setup : Setup) (released released' : ℕ) (kept kept' : ℕ → List PlayerCommand) (past : Past) → Grows released kept released' kept' → GoodPast setup released kept past → GoodPast setup released' kept' past
+pub good_past_grows : (setup : Setup) (released released' : ℕ) (kept kept' : ℕ → List PlayerCommand) (past : Past)
+    → Grows released kept released' kept' → GoodPast setup released kept past → GoodPast setup released' kept' past
 good_past_grows setup released released' kept kept' past g good =
     record {
       players = good.players;
@@ -38,7 +40,8 @@ good_past_grows setup released released' kept kept' past g good =
       unbent = λ e. good.unbent e ∙ sym (kept_turns_final released released' kept kept' (turns_in past) g good.turn);
     }
 
-pub good_ups_grows : (setup : Setup) (released released' : ℕ) (kept kept' : ℕ → List PlayerCommand) (from own : ℕ) (ups : List Up) → Grows released kept released' kept' → GoodUps setup released kept from own ups → GoodUps setup released' kept' from own ups
+pub good_ups_grows : (setup : Setup) (released released' : ℕ) (kept kept' : ℕ → List PlayerCommand) (from own : ℕ) (ups : List Up)
+    → Grows released kept released' kept' → GoodUps setup released kept from own ups → GoodUps setup released' kept' from own ups
 good_ups_grows setup r r' k k' from own [] g h = h
 good_ups_grows setup r r' k k' from own (up.Join ∷ ups) g h = good_ups_grows setup r r' k k' from own ups g h
 good_ups_grows setup r r' k k' from own (up.Command t x ∷ ups) g h = good_ups_grows setup r r' k k' from own ups g h
@@ -46,7 +49,8 @@ good_ups_grows setup r r' k k' from own (up.Done t ∷ ups) g h = (h.0, h.1, (le
 good_ups_grows setup r r' k k' from own (up.Report t d ∷ ups) g h = good_ups_grows setup r r' k k' from own ups g h
 good_ups_grows setup r r' k k' from own (up.State j t past ∷ ups) g h = (h.0, good_past_grows setup r r' k k' past g h.1, good_ups_grows setup r r' k k' from own ups g h.2)
 
-pub good_downs_grows : (setup : Setup) (released released' : ℕ) (kept kept' : ℕ → List PlayerCommand) (low : ℕ) (downs : List Down) → Grows released kept released' kept' → GoodDowns setup released kept low downs → GoodDowns setup released' kept' low downs
+pub good_downs_grows : (setup : Setup) (released released' : ℕ) (kept kept' : ℕ → List PlayerCommand) (low : ℕ) (downs : List Down)
+    → Grows released kept released' kept' → GoodDowns setup released kept low downs → GoodDowns setup released' kept' low downs
 good_downs_grows setup r r' k k' low [] g h = h
 good_downs_grows setup r r' k k' low (down.Ask j ∷ downs) g h = good_downs_grows setup r r' k k' low downs g h
 good_downs_grows setup r r' k k' low (down.State done past ∷ downs) g h = (good_past_grows setup r r' k k' past g h.0, good_downs_grows setup r r' k k' low downs g h.1)
@@ -56,7 +60,8 @@ good_downs_grows setup r r' k k' low (down.Notice t j ∷ downs) g h = good_down
 good_downs_grows setup r r' k k' low (down.Refused code ∷ downs) g h = good_downs_grows setup r r' k k' low downs g h
 
 -- a pipe that is good, and more that is good behind any release
-pub good_downs_append : (setup : Setup) (r : ℕ) (k : ℕ → List PlayerCommand) (low : ℕ) (downs news : List Down) → low ≤ r → GoodDowns setup r k low downs → ((l : ℕ) → l ≤ r → GoodDowns setup r k l news) → GoodDowns setup r k low (downs ++ news)
+pub good_downs_append : (setup : Setup) (r : ℕ) (k : ℕ → List PlayerCommand) (low : ℕ) (downs news : List Down) → low ≤ r
+    → GoodDowns setup r k low downs → ((l : ℕ) → l ≤ r → GoodDowns setup r k l news) → GoodDowns setup r k low (downs ++ news)
 good_downs_append setup r k low [] news le h more = more low le
 good_downs_append setup r k low (down.Ask j ∷ downs) news le h more = good_downs_append setup r k low downs news le h more
 good_downs_append setup r k low (down.State done past ∷ downs) news le h more = (h.0, good_downs_append setup r k low downs news le h.1 more)
@@ -71,7 +76,8 @@ commands_at-append u (down.Ask j ∷ downs) news = commands_at-append u downs ne
 commands_at-append u (down.State done past ∷ downs) news = commands_at-append u downs news
 commands_at-append u (down.Command t x ∷ downs) news = by (t == u) (commands_at-append u downs news)
   where
-    by : (b : Bool) → commands_at u (downs ++ news) ≡ commands_at u downs ++ commands_at u news → (if b then x ∷ commands_at u (downs ++ news) else commands_at u (downs ++ news)) ≡ (if b then x ∷ commands_at u downs else commands_at u downs) ++ commands_at u news
+    by : (b : Bool) → commands_at u (downs ++ news) ≡ commands_at u downs ++ commands_at u news
+        → (if b then x ∷ commands_at u (downs ++ news) else commands_at u (downs ++ news)) ≡ (if b then x ∷ commands_at u downs else commands_at u downs) ++ commands_at u news
     by true e = ap (λ (l : List PlayerCommand). x ∷ l) e
     by false e = e
 commands_at-append u (down.Release t ∷ downs) news = commands_at-append u downs news
@@ -94,7 +100,8 @@ player_is setup x e =
     let low : 0 < x.player = ltb-true 0 x.player both.0 in
     ((omega arith), leb-true x.player setup.players both.1)
 
-pub all_players_append : (setup : Setup) (xs : List PlayerCommand) (x : PlayerCommand) → AllPlayers setup xs → IsOrderOf setup x → AllPlayers setup (xs ++ x ∷ [])
+pub all_players_append : (setup : Setup) (xs : List PlayerCommand) (x : PlayerCommand) → AllPlayers setup xs → IsOrderOf setup x
+    → AllPlayers setup (xs ++ x ∷ [])
 all_players_append setup xs x h e = All-append (IsOrderOf setup) xs (x ∷ []) h (All-cons (IsOrderOf setup) x [] e (All-nil (IsOrderOf setup)))
 
 -- what holds of all of two lists holds of all of each

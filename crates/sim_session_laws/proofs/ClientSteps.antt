@@ -16,44 +16,51 @@ use Rattle.sim_plain_session.specs.Sessions.{Session, acts, falls}
 use Rattle.sim_session_laws.proofs.Invariant.{Plays, Fits, Sound, Holds}
 use Rattle.sim_session_laws.proofs.PlaysLemmas.{PlaysThen, plays_heard, plays_ordered, plays_plays, plays_bends}
 
-pub fits_as : (setup : Setup) (s : Server) (st st' : Status) (ph ph' : Phase) (ups ups' : List Up) (downs downs' : List Down) → st ≡ st' → ph ≡ ph' → ups ≡ ups' → downs ≡ downs' → Fits setup s st ph ups downs → Fits setup s st' ph' ups' downs'
+pub fits_as : (setup : Setup) (s : Server) (st st' : Status) (ph ph' : Phase) (ups ups' : List Up) (downs downs' : List Down) → st ≡ st' → ph ≡ ph'
+    → ups ≡ ups' → downs ≡ downs' → Fits setup s st ph ups downs → Fits setup s st' ph' ups' downs'
 fits_as setup s st st' ph ph' ups ups' downs downs' a b c d h = subst (λ (x : Status × Phase × List Up × List Down). Fits setup s x.0 x.1 x.2 x.3) (λ i. (a i, b i, c i, d i)) h
 
 -- an action and what it leaves
 abbrev pub FitsThen : Setup → Server → Status → List Up → List Down → Acted → Type 0
 FitsThen setup s st ups downs a = Fits setup s st a.phase (ups ++ a.says) downs
 
-fits_idle : (setup : Setup) (s : Server) (st : Status) (ph : Phase) (ups : List Up) (downs : List Down) → Fits setup s st ph ups downs → FitsThen setup s st ups downs (idle ph)
+fits_idle : (setup : Setup) (s : Server) (st : Status) (ph : Phase) (ups : List Up) (downs : List Down) → Fits setup s st ph ups downs
+    → FitsThen setup s st ups downs (idle ph)
 fits_idle setup s st ph ups downs h = fits_as setup s st st ph ph ups (ups ++ []) downs downs refl refl (sym (append-nil ups)) refl h
 
 -- who plays goes on playing
-fits_then : (setup : Setup) (s : Server) (done : ℕ) (ups : List Up) (downs : List Down) (ph : Phase) (says : List Up) → PlaysThen setup s.released s.kept done ups downs ph says → Fits setup s (In done) ph (ups ++ says) downs
+fits_then : (setup : Setup) (s : Server) (done : ℕ) (ups : List Up) (downs : List Down) (ph : Phase) (says : List Up)
+    → PlaysThen setup s.released s.kept done ups downs ph says → Fits setup s (In done) ph (ups ++ says) downs
 fits_then setup s done ups downs Off says h = absurd h
 fits_then setup s done ups downs Joining says h = absurd h
 fits_then setup s done ups downs (On o) says h = h
 
-fits_orders : (setup : Setup) (s : Server) (c : ℕ) (x : Command) (st : Status) (ph : Phase) (ups : List Up) (downs : List Down) → Fits setup s st ph ups downs → FitsThen setup s st ups downs (orders setup c x ph)
+fits_orders : (setup : Setup) (s : Server) (c : ℕ) (x : Command) (st : Status) (ph : Phase) (ups : List Up) (downs : List Down)
+    → Fits setup s st ph ups downs → FitsThen setup s st ups downs (orders setup c x ph)
 fits_orders setup s c x st Off ups downs h = fits_idle setup s st Off ups downs h
 fits_orders setup s c x st Joining ups downs h = fits_idle setup s st Joining ups downs h
 fits_orders setup s c x Out (On o) ups downs h = absurd h
 fits_orders setup s c x (Waiting j) (On o) ups downs h = absurd h
 fits_orders setup s c x (In done) (On o) ups downs h = fits_then setup s done ups downs _ _ (plays_ordered setup s.released s.kept done c x o ups downs h)
 
-fits_plays : (setup : Setup) (s : Server) (c : ℕ) (st : Status) (ph : Phase) (ups : List Up) (downs : List Down) → Fits setup s st ph ups downs → FitsThen setup s st ups downs (plays setup c ph)
+fits_plays : (setup : Setup) (s : Server) (c : ℕ) (st : Status) (ph : Phase) (ups : List Up) (downs : List Down) → Fits setup s st ph ups downs
+    → FitsThen setup s st ups downs (plays setup c ph)
 fits_plays setup s c st Off ups downs h = fits_idle setup s st Off ups downs h
 fits_plays setup s c st Joining ups downs h = fits_idle setup s st Joining ups downs h
 fits_plays setup s c Out (On o) ups downs h = absurd h
 fits_plays setup s c (Waiting j) (On o) ups downs h = absurd h
 fits_plays setup s c (In done) (On o) ups downs h = fits_then setup s done ups downs _ _ (plays_plays setup s.released s.kept done c o ups downs h)
 
-fits_bends : (setup : Setup) (s : Server) (c e : ℕ) (g : ℤ) (st : Status) (ph : Phase) (ups : List Up) (downs : List Down) → Fits setup s st ph ups downs → FitsThen setup s st ups downs (bends setup c e g ph)
+fits_bends : (setup : Setup) (s : Server) (c e : ℕ) (g : ℤ) (st : Status) (ph : Phase) (ups : List Up) (downs : List Down)
+    → Fits setup s st ph ups downs → FitsThen setup s st ups downs (bends setup c e g ph)
 fits_bends setup s c e g st Off ups downs h = fits_idle setup s st Off ups downs h
 fits_bends setup s c e g st Joining ups downs h = fits_idle setup s st Joining ups downs h
 fits_bends setup s c e g Out (On o) ups downs h = absurd h
 fits_bends setup s c e g (Waiting j) (On o) ups downs h = absurd h
 fits_bends setup s c e g (In done) (On o) ups downs h = fits_then setup s done ups downs _ _ (plays_bends setup s.released s.kept done c e g o ups downs h)
 
-fits_joins : (setup : Setup) (s : Server) (c : ℕ) (st : Status) (ph : Phase) (ups : List Up) (downs : List Down) → Fits setup s st ph ups downs → FitsThen setup s st ups downs (joins c ph)
+fits_joins : (setup : Setup) (s : Server) (c : ℕ) (st : Status) (ph : Phase) (ups : List Up) (downs : List Down) → Fits setup s st ph ups downs
+    → FitsThen setup s st ups downs (joins c ph)
 fits_joins setup s c Out Off ups downs h = inl ((ap (λ (l : List Up). l ++ up.Join ∷ []) h.no_ups), h.no_downs)
 fits_joins setup s c (Waiting j) Off ups downs h = absurd h
 fits_joins setup s c (In done) Off ups downs h = absurd h
@@ -61,7 +68,8 @@ fits_joins setup s c st Joining ups downs h = fits_idle setup s st Joining ups d
 fits_joins setup s c st (On o) ups downs h = fits_idle setup s st (On o) ups downs h
 
 -- the first message of a down pipe is heard
-fits_hears : (setup : Setup) (s : Server) (c : ℕ) (st : Status) (ph : Phase) (ups : List Up) (x : Down) (downs : List Down) → Sound setup s → Fits setup s st ph ups (x ∷ downs) → FitsThen setup s st ups downs (hears setup c ph x)
+fits_hears : (setup : Setup) (s : Server) (c : ℕ) (st : Status) (ph : Phase) (ups : List Up) (x : Down) (downs : List Down) → Sound setup s
+    → Fits setup s st ph ups (x ∷ downs) → FitsThen setup s st ups downs (hears setup c ph x)
 fits_hears setup s c Out Off ups x downs sound h = let e = h.no_downs in absurd (cc)
 fits_hears setup s c Out Joining ups x downs sound (inl h) = let e = h.1 in absurd (cc)
 fits_hears setup s c Out Joining ups x downs sound (inr h) =
@@ -85,25 +93,33 @@ fits_hears setup s c (In done) (On o) ups x downs sound h = fits_then setup s do
 -- ---- the session
 
 -- one client acts, and its down pipe may have changed
-holds_acts : (setup : Setup) (s : Session) (c : ℕ) (a : Acted) (downs : List Down) → Holds setup s → FitsThen setup s.server (s.server.status c) (s.ups c) downs a → Holds setup (acts c a (record s { downs = put c downs s.downs }))
+holds_acts : (setup : Setup) (s : Session) (c : ℕ) (a : Acted) (downs : List Down) → Holds setup s
+    → FitsThen setup s.server (s.server.status c) (s.ups c) downs a → Holds setup (acts c a (record s { downs = put c downs s.downs }))
 holds_acts setup s c a downs h own = record { server = h.server; each = λ d. by d (cases_eq d c) }
   where
     s' : Session
     s' = acts c a (record s { downs = put c downs s.downs })
 
     by : (d : ℕ) → (d ≡ c) ⊎ (d ≡ c → ⊥) → Fits setup s'.server (s'.server.status d) (s'.client d) (s'.ups d) (s'.downs d)
-    by d (inl e) = subst (λ z. Fits setup s'.server (s'.server.status z) (s'.client z) (s'.ups z) (s'.downs z)) (sym e) (fits_as setup s.server _ _ _ _ _ _ _ _ refl (sym (put_same c a.phase s.client)) (sym (put_same c (s.ups c ++ a.says) s.ups)) (sym (put_same c downs s.downs)) own)
-    by d (inr apart) = fits_as setup s.server _ _ _ _ _ _ _ _ refl (sym (put_other c a.phase s.client d apart)) (sym (put_other c (s.ups c ++ a.says) s.ups d apart)) (sym (put_other c downs s.downs d apart)) (h.each d)
+    by d (inl e) =
+        subst (λ z. Fits setup s'.server (s'.server.status z) (s'.client z) (s'.ups z) (s'.downs z)) (sym e)
+        (fits_as setup s.server _ _ _ _ _ _ _ _ refl (sym (put_same c a.phase s.client)) (sym (put_same c (s.ups c ++ a.says) s.ups)) (sym (put_same c downs s.downs)) own)
+    by d (inr apart) =
+        fits_as setup s.server _ _ _ _ _ _ _ _ refl (sym (put_other c a.phase s.client d apart)) (sym (put_other c (s.ups c ++ a.says) s.ups d apart))
+        (sym (put_other c downs s.downs d apart)) (h.each d)
 
 -- the same where it leaves its down pipe alone
-holds_acts_alone : (setup : Setup) (s : Session) (c : ℕ) (a : Acted) → Holds setup s → FitsThen setup s.server (s.server.status c) (s.ups c) (s.downs c) a → Holds setup (acts c a s)
+holds_acts_alone : (setup : Setup) (s : Session) (c : ℕ) (a : Acted) → Holds setup s
+    → FitsThen setup s.server (s.server.status c) (s.ups c) (s.downs c) a → Holds setup (acts c a s)
 holds_acts_alone setup s c a h own = record { server = h.server; each = λ d. by d (cases_eq d c) }
   where
     s' : Session
     s' = acts c a s
 
     by : (d : ℕ) → (d ≡ c) ⊎ (d ≡ c → ⊥) → Fits setup s'.server (s'.server.status d) (s'.client d) (s'.ups d) (s'.downs d)
-    by d (inl e) = subst (λ z. Fits setup s'.server (s'.server.status z) (s'.client z) (s'.ups z) (s'.downs z)) (sym e) (fits_as setup s.server _ _ _ _ _ _ _ _ refl (sym (put_same c a.phase s.client)) (sym (put_same c (s.ups c ++ a.says) s.ups)) refl own)
+    by d (inl e) =
+        subst (λ z. Fits setup s'.server (s'.server.status z) (s'.client z) (s'.ups z) (s'.downs z)) (sym e)
+        (fits_as setup s.server _ _ _ _ _ _ _ _ refl (sym (put_same c a.phase s.client)) (sym (put_same c (s.ups c ++ a.says) s.ups)) refl own)
     by d (inr apart) = fits_as setup s.server _ _ _ _ _ _ _ _ refl (sym (put_other c a.phase s.client d apart)) (sym (put_other c (s.ups c ++ a.says) s.ups d apart)) refl (h.each d)
 
 pub holds_order : (setup : Setup) (s : Session) (c : ℕ) (x : Command) → Holds setup s → Holds setup (acts c (orders setup c x (s.client c)) s)

@@ -8,7 +8,7 @@ use Rattle.sim_plain.specs.declared.status.Status.{Status}
 use Rattle.sim_plain.specs.declared.status.Status.TheVariants.{Out, Waiting, In}
 use Rattle.sim_plain.specs.Functions.{up_to}
 use Rattle.sim_plain.specs.Server.{Server, is_in, waits_for, donor, seat, with_status, raised, reseated}
-use Rattle.sim_plain.specs.Posts.{release, asked}
+use Rattle.sim_plain.specs.Posts.{cut_posts, release, asked}
 use Rattle.sim_plain_session.proofs.Functions.{put_same, put_other}
 use Rattle.sim_plain_session.specs.Clients.{Up, Down, Phase, Off, Joining, On}
 use Rattle.sim_plain_session.specs.Pasts.{rules_of, is_client}
@@ -25,10 +25,12 @@ in_waits_not c (In done) e = refl
 
 -- ---- the statuses after the cut
 
-pub reseated_stays : (setup : Setup) (c : ℕ) (s : Server) (d : ℕ) → waits_for c (s.status d) ≡ false → (reseated (rules_of setup) c s).status d ≡ s.status d
+pub reseated_stays : (setup : Setup) (c : ℕ) (s : Server) (d : ℕ) → waits_for c (s.status d) ≡ false
+    → (reseated (rules_of setup) c s).status d ≡ s.status d
 reseated_stays setup c s d e = cond-false _ (seat (donor (rules_of setup) s)) (s.status d) e
 
-pub reseated_moves : (setup : Setup) (c : ℕ) (s : Server) (d : ℕ) → waits_for c (s.status d) ≡ true → (reseated (rules_of setup) c s).status d ≡ seat (donor (rules_of setup) s)
+pub reseated_moves : (setup : Setup) (c : ℕ) (s : Server) (d : ℕ) → waits_for c (s.status d) ≡ true
+    → (reseated (rules_of setup) c s).status d ≡ seat (donor (rules_of setup) s)
 reseated_moves setup c s d e = cond-true _ (seat (donor (rules_of setup) s)) (s.status d) e
 
 pub reseated_in : (setup : Setup) (c : ℕ) (s : Server) → Stay s (reseated (rules_of setup) c s)
@@ -45,6 +47,18 @@ sound_reseated setup c s sound =
 
 -- ---- what each other client sees
 
+-- the server after a cut of c, which in s is out already
+abbrev settled : Setup → ℕ → Server → Server
+settled setup c s = reseated (rules_of setup) c (raised (rules_of setup) s)
+
+-- a client that is this fits after that cut, with what it is told
+abbrev FitsAfter : Setup → ℕ → Server → ℕ → Phase → List Up → List Down → Type 0
+FitsAfter setup c s d ph ups downs = Fits setup (settled setup c s) ((settled setup c s).status d) ph ups (downs ++ cut_posts (rules_of setup) c s d)
+
+-- who waited for c
+abbrev waiting : Setup → ℕ → Server → List ℕ
+waiting setup c s = filter (λ j. waits_for c (s.status j)) (up_to setup.players)
+
 abbrev turned_away : List Down
 turned_away = down.Refused 4 ∷ []
 
@@ -55,7 +69,8 @@ told_out setup s c (Waiting j) e = (refl, λ h. ap is_in (put_other c Out s.stat
 told_out setup s c (In done) e = λ o ups downs p. subst (λ (l : List Down). Plays setup s.released s.kept done o ups l) (sym (append-nil downs)) p
 
 -- the released turns have risen, and those that waited for c are seated anew
-goes_reseated : (setup : Setup) (c : ℕ) (s : Server) (who : List ℕ) (d : ℕ) → waits_for c (s.status d) ≡ false → Goes setup s (reseated (rules_of setup) c s) (asked (donor (rules_of setup) s) who (λ j. waits_for c (s.status j)) d) d
+goes_reseated : (setup : Setup) (c : ℕ) (s : Server) (who : List ℕ) (d : ℕ) → waits_for c (s.status d) ≡ false
+    → Goes setup s (reseated (rules_of setup) c s) (asked (donor (rules_of setup) s) who (λ j. waits_for c (s.status j)) d) d
 goes_reseated setup c s who d e = by (donor (rules_of setup) s) refl
   where
     s' : Server
@@ -64,11 +79,15 @@ goes_reseated setup c s who d e = by (donor (rules_of setup) s) refl
     by : (o : Option ℕ) → donor (rules_of setup) s ≡ o → Goes setup s s' (asked o who (λ j. waits_for c (s.status j)) d) d
     by None f =
         let none = cond-false (waits_for c (s.status d)) turned_away [] e in
-        record { same = reseated_stays setup c s d e; told = told_quiet setup s s' (s.status d) _ refl refl (reseated_in setup c s) (subst (λ (l : List Down). IsQuiet setup l) (sym none) (quiet_none setup)) (λ g. none) }
+        record {
+          same = reseated_stays setup c s d e;
+          told = told_quiet setup s s' (s.status d) _ refl refl (reseated_in setup c s) (subst (λ (l : List Down). IsQuiet setup l) (sym none) (quiet_none setup)) (λ g. none);
+        }
     by (Some k) f = goes_one setup s s' k d (map down.Ask who) refl refl (reseated_in setup c s) (reseated_stays setup c s d e) (donor_in setup s k f) (quiet_asks setup who)
 
-fits_other : (setup : Setup) (s : Server) (c : ℕ) (who : List ℕ) (d : ℕ) (ph : Phase) (ups : List Up) (downs : List Down) → Sound setup (with_status c Out s) → (d ≡ c → ⊥) → waits_for c (s.status d) ≡ false → Fits setup s (s.status d) ph ups downs → (let s1 = with_status c Out s in let s2 = raised (rules_of setup) s1 in Fits setup (reseated (rules_of setup) c s2) ((reseated (rules_of setup) c s2).status d) ph ups (downs ++ (release s1.status s1.released s2.released d ++ asked (donor (rules_of setup) s1) who (λ j. waits_for c (s1.status j)) d)))
-fits_other setup s c who d ph ups downs sound apart e h =
+fits_other : (setup : Setup) (s : Server) (c d : ℕ) (ph : Phase) (ups : List Up) (downs : List Down) → Sound setup (with_status c Out s)
+    → (d ≡ c → ⊥) → waits_for c (s.status d) ≡ false → Fits setup s (s.status d) ph ups downs → FitsAfter setup c (with_status c Out s) d ph ups downs
+fits_other setup s c d ph ups downs sound apart e h =
     fits_as setup s3 _ _ _ _ _ _ _ _ refl refl refl (append_assoc downs told asks) third
   where
     s1 : Server
@@ -84,7 +103,7 @@ fits_other setup s c who d ph ups downs sound apart e h =
     told = release s1.status s1.released s2.released d
 
     asks : List Down
-    asks = asked (donor (rules_of setup) s1) who (λ j. waits_for c (s1.status j)) d
+    asks = asked (donor (rules_of setup) s1) (waiting setup c s1) (λ j. waits_for c (s1.status j)) d
 
     same : s1.status d ≡ s.status d
     same = put_other c Out s.status d apart
@@ -96,7 +115,7 @@ fits_other setup s c who d ph ups downs sound apart e h =
     second = fits_told setup s1 s2 (s1.status d) told ph ups downs (told_raised setup s1 d sound.clients) first
 
     third : Fits setup s3 (s3.status d) ph ups ((downs ++ told) ++ asks)
-    third = fits_goes setup s2 s3 asks d ph ups (downs ++ told) (goes_reseated setup c s2 who d (ap (waits_for c) same ∙ e)) second
+    third = fits_goes setup s2 s3 asks d ph ups (downs ++ told) (goes_reseated setup c s2 (waiting setup c s1) d (ap (waits_for c) same ∙ e)) second
 
 -- nothing is released to a client that is not In
 no_release : (s : Server) (r d : ℕ) → is_in (s.status d) ≡ false → release {B = Past} s.status s.released r d ≡ []
@@ -109,34 +128,53 @@ not_donor : (setup : Setup) (s : Server) (d k : ℕ) → donor (rules_of setup) 
 not_donor setup s d k e out same = true≢false (sym (donor_in setup s k e) ∙ subst (λ x. is_in (s.status x) ≡ false) same out)
 
 -- who waited for c is joining, and its pipes are empty
-was_waiting : (setup : Setup) (s : Server) (c : ℕ) (st : Status) (ph : Phase) (ups : List Up) (downs : List Down) → st ≡ Waiting c → Fits setup s st ph ups downs → (ph ≡ Joining) × (ups ≡ []) × (downs ≡ [])
+was_waiting : (setup : Setup) (s : Server) (c : ℕ) (st : Status) (ph : Phase) (ups : List Up) (downs : List Down) → st ≡ Waiting c
+    → Fits setup s st ph ups downs → (ph ≡ Joining) × (ups ≡ []) × (downs ≡ [])
 was_waiting setup s c Out ph ups downs e h = absurd (cc)
 was_waiting setup s c (In done) ph ups downs e h = absurd (cc)
 was_waiting setup s c (Waiting j) Off ups downs e h = absurd h
 was_waiting setup s c (Waiting j) (On o) ups downs e h = absurd h
 was_waiting setup s c (Waiting j) Joining ups downs e h = (refl, h.nothing.no_ups, h.nothing.no_downs)
 
-fits_waited : (setup : Setup) (c : ℕ) (s1 : Server) (r : ℕ) (who : List ℕ) (d : ℕ) (ph : Phase) (ups : List Up) (downs : List Down) → waits_for c (s1.status d) ≡ true → (ph ≡ Joining) × (ups ≡ []) × (downs ≡ []) → (let s2 = raised (rules_of setup) s1 in Fits setup (reseated (rules_of setup) c s2) ((reseated (rules_of setup) c s2).status d) ph ups (downs ++ (release s1.status s1.released r d ++ asked (donor (rules_of setup) s1) who (λ j. waits_for c (s1.status j)) d)))
-fits_waited setup c s1 r who d ph ups downs e empty = by (donor (rules_of setup) s1) refl
+fits_waited : (setup : Setup) (c : ℕ) (s1 : Server) (d : ℕ) (ph : Phase) (ups : List Up) (downs : List Down) → waits_for c (s1.status d) ≡ true
+    → (ph ≡ Joining) × (ups ≡ []) × (downs ≡ []) → FitsAfter setup c s1 d ph ups downs
+fits_waited setup c s1 d ph ups downs e empty = by (donor (rules_of setup) s1) refl
   where
+    r : ℕ
+    r = (raised (rules_of setup) s1).released
+
+    who : List ℕ
+    who = waiting setup c s1
+
+    moved : (o : Option ℕ) → donor (rules_of setup) s1 ≡ o → seat o ≡ (settled setup c s1).status d
+    moved o f = sym (reseated_moves setup c (raised (rules_of setup) s1) d e ∙ ap seat f)
+
     s3 : Server
     s3 = reseated (rules_of setup) c (raised (rules_of setup) s1)
 
     none : release {B = Past} s1.status s1.released r d ≡ []
     none = no_release s1 r d (waits_not_in c (s1.status d) e)
 
-    by : (o : Option ℕ) → donor (rules_of setup) s1 ≡ o → Fits setup s3 (s3.status d) ph ups (downs ++ (release s1.status s1.released r d ++ asked o who (λ j. waits_for c (s1.status j)) d))
+    by : (o : Option ℕ) → donor (rules_of setup) s1 ≡ o
+        → Fits setup s3 (s3.status d) ph ups (downs ++ (release s1.status s1.released r d ++ asked o who (λ j. waits_for c (s1.status j)) d))
     by None f =
-        fits_as setup s3 _ _ _ _ _ _ _ _ (sym (reseated_moves setup c (raised (rules_of setup) s1) d e ∙ ap seat f)) (sym empty.0) refl (λ i. (sym empty.2) i ++ ((sym none) i ++ (sym (cond-true (waits_for c (s1.status d)) turned_away [] e)) i))
-        (inr (empty.1, refl))
+        let away = cond-true (waits_for c (s1.status d)) turned_away [] e in
+        fits_as setup s3 _ _ _ _ _ _ _ _ (moved None f) (sym empty.0) refl (λ i. (sym empty.2) i ++ ((sym none) i ++ (sym away) i)) (inr (empty.1, refl))
     by (Some k) f =
-        fits_as setup s3 _ _ _ _ _ _ _ _ (sym (reseated_moves setup c (raised (rules_of setup) s1) d e ∙ ap seat f)) (sym empty.0) refl (λ i. (sym empty.2) i ++ ((sym none) i ++ (sym (cond-false _ (map down.Ask who) [] (ne_eqb d k (not_donor setup s1 d k f (waits_not_in c (s1.status d) e))))) i))
+        let not_asked = cond-false _ (map down.Ask who) [] (ne_eqb d k (not_donor setup s1 d k f (waits_not_in c (s1.status d) e))) in
+        fits_as setup s3 _ _ _ _ _ _ _ _ (moved (Some k) f) (sym empty.0) refl (λ i. (sym empty.2) i ++ ((sym none) i ++ (sym not_asked) i))
         (record { nothing = record { no_ups = empty.1; no_downs = refl }; there = reseated_in setup c (raised (rules_of setup) s1) k (donor_in setup s1 k f) })
 
 -- the client that is cut is sent nothing
-fits_cut : (setup : Setup) (c : ℕ) (s1 : Server) (r : ℕ) (who : List ℕ) → s1.status c ≡ Out → (let s2 = raised (rules_of setup) s1 in Fits setup (reseated (rules_of setup) c s2) ((reseated (rules_of setup) c s2).status c) Off [] (release s1.status s1.released r c ++ asked (donor (rules_of setup) s1) who (λ j. waits_for c (s1.status j)) c))
-fits_cut setup c s1 r who out = by (donor (rules_of setup) s1) refl
+fits_cut : (setup : Setup) (c : ℕ) (s1 : Server) → s1.status c ≡ Out → FitsAfter setup c s1 c Off [] []
+fits_cut setup c s1 out = by (donor (rules_of setup) s1) refl
   where
+    r : ℕ
+    r = (raised (rules_of setup) s1).released
+
+    who : List ℕ
+    who = waiting setup c s1
+
     s3 : Server
     s3 = reseated (rules_of setup) c (raised (rules_of setup) s1)
 
@@ -149,23 +187,29 @@ fits_cut setup c s1 r who out = by (donor (rules_of setup) s1) refl
     none : release {B = Past} s1.status s1.released r c ≡ []
     none = no_release s1 r c (ap is_in out)
 
-    by : (o : Option ℕ) → donor (rules_of setup) s1 ≡ o → Fits setup s3 (s3.status c) Off [] (release s1.status s1.released r c ++ asked o who (λ j. waits_for c (s1.status j)) c)
-    by None f = fits_as setup s3 _ _ _ _ _ _ _ _ (sym out_still) refl refl (λ i. (sym none) i ++ (sym (cond-false (waits_for c (s1.status c)) turned_away [] waits)) i) (record { no_ups = refl; no_downs = refl })
-    by (Some k) f = fits_as setup s3 _ _ _ _ _ _ _ _ (sym out_still) refl refl (λ i. (sym none) i ++ (sym (cond-false _ (map down.Ask who) [] (ne_eqb c k (not_donor setup s1 c k f (ap is_in out))))) i) (record { no_ups = refl; no_downs = refl })
+    by : (o : Option ℕ) → donor (rules_of setup) s1 ≡ o
+        → Fits setup s3 (s3.status c) Off [] (release s1.status s1.released r c ++ asked o who (λ j. waits_for c (s1.status j)) c)
+    by None f =
+        let not_refused = cond-false (waits_for c (s1.status c)) turned_away [] waits in
+        fits_as setup s3 _ _ _ _ _ _ _ _ (sym out_still) refl refl (λ i. (sym none) i ++ (sym not_refused) i) (record { no_ups = refl; no_downs = refl })
+    by (Some k) f =
+        let not_asked = cond-false _ (map down.Ask who) [] (ne_eqb c k (not_donor setup s1 c k f (ap is_in out))) in
+        fits_as setup s3 _ _ _ _ _ _ _ _ (sym out_still) refl refl (λ i. (sym none) i ++ (sym not_asked) i) (record { no_ups = refl; no_downs = refl })
 
 -- ---- the session
 
 holds_cut : (setup : Setup) (s : Session) (c : ℕ) → is_client setup c ≡ true → Holds setup s → Holds setup (cut setup c s)
-holds_cut setup s c client h = record { server = sound_reseated setup c (raised (rules_of setup) s1) (sound_raised setup s1 sound high); each = λ d. by d (cases_eq d c) }
+holds_cut setup s c client h =
+    record {
+      server = sound_reseated setup c (raised (rules_of setup) s1) (sound_raised setup s1 sound high);
+      each = λ d. by d (cases_eq d c);
+    }
   where
     s1 : Server
     s1 = with_status c Out s.server
 
     sound : Sound setup s1
     sound = sound_status setup s.server c Out h.server client
-
-    who : List ℕ
-    who = filter (λ j. waits_for c (s1.status j)) (up_to setup.players)
 
     high_at : (d done : ℕ) → (d ≡ c) ⊎ (d ≡ c → ⊥) → s1.status d ≡ In done → done ≤ setup.turns
     high_at d done (inl same) e = let out : s1.status d ≡ Out = subst (λ x. s1.status x ≡ Out) (sym same) (put_same c Out s.server.status) in absurd (cc)
@@ -177,18 +221,23 @@ holds_cut setup s c client h = record { server = sound_reseated setup c (raised 
     s' : Session
     s' = cut setup c s
 
-    other : (d : ℕ) → (d ≡ c → ⊥) → (b : Bool) → waits_for c (s.server.status d) ≡ b → Fits setup s'.server (s'.server.status d) (s.client d) (s.ups d) (s.downs d ++ (release s1.status s1.released (raised (rules_of setup) s1).released d ++ asked (donor (rules_of setup) s1) who (λ j. waits_for c (s1.status j)) d))
-    other d apart false e = fits_other setup s.server c who d (s.client d) (s.ups d) (s.downs d) sound apart e (h.each d)
-    other d apart true e = fits_waited setup c s1 (raised (rules_of setup) s1).released who d (s.client d) (s.ups d) (s.downs d) (ap (waits_for c) (put_other c Out s.server.status d apart) ∙ e) (was_waiting setup s.server c (s.server.status d) (s.client d) (s.ups d) (s.downs d) (waits_is c (s.server.status d) e) (h.each d))
+    told : ℕ → List Down
+    told d = cut_posts (rules_of setup) c s1 d
+
+    other : (d : ℕ) → (d ≡ c → ⊥) → (b : Bool) → waits_for c (s.server.status d) ≡ b → FitsAfter setup c s1 d (s.client d) (s.ups d) (s.downs d)
+    other d apart false e = fits_other setup s.server c d (s.client d) (s.ups d) (s.downs d) sound apart e (h.each d)
+    other d apart true e =
+        fits_waited setup c s1 d (s.client d) (s.ups d) (s.downs d) (ap (waits_for c) (put_other c Out s.server.status d apart) ∙ e)
+        (was_waiting setup s.server c (s.server.status d) (s.client d) (s.ups d) (s.downs d) (waits_is c (s.server.status d) e) (h.each d))
 
     by : (d : ℕ) → (d ≡ c) ⊎ (d ≡ c → ⊥) → Fits setup s'.server (s'.server.status d) (s'.client d) (s'.ups d) (s'.downs d)
     by d (inl e) =
         subst (λ z. Fits setup s'.server (s'.server.status z) (s'.client z) (s'.ups z) (s'.downs z)) (sym e)
-        (fits_as setup s'.server _ _ _ _ _ _ _ _ refl (sym (put_same c Off s.client)) (sym (put_same c [] s.ups)) (λ i. (sym (put_same c [] s.downs)) i ++ (release s1.status s1.released (raised (rules_of setup) s1).released c ++ asked (donor (rules_of setup) s1) who (λ j. waits_for c (s1.status j)) c))
-        (fits_cut setup c s1 (raised (rules_of setup) s1).released who (put_same c Out s.server.status)))
+        (fits_as setup s'.server _ _ _ _ _ _ _ _ refl (sym (put_same c Off s.client)) (sym (put_same c [] s.ups)) (λ i. (sym (put_same c [] s.downs)) i ++ told c)
+        (fits_cut setup c s1 (put_same c Out s.server.status)))
     by d (inr apart) =
-        fits_as setup s'.server _ _ _ _ _ _ _ _ refl (sym (put_other c Off s.client d apart)) (sym (put_other c [] s.ups d apart)) (λ i. (sym (put_other c [] s.downs d apart)) i ++ (release s1.status s1.released (raised (rules_of setup) s1).released d ++ asked (donor (rules_of setup) s1) who (λ j. waits_for c (s1.status j)) d))
-        (other d apart (waits_for c (s.server.status d)) refl)
+        fits_as setup s'.server _ _ _ _ _ _ _ _ refl (sym (put_other c Off s.client d apart)) (sym (put_other c [] s.ups d apart))
+        (λ i. (sym (put_other c [] s.downs d apart)) i ++ told d) (other d apart (waits_for c (s.server.status d)) refl)
 
 pub holds_leaves : (setup : Setup) (s : Session) (c : ℕ) → is_client setup c ≡ true → Holds setup s → Holds setup (leaves setup c (s.client c) s)
 holds_leaves setup s c client h = by (s.client c)

@@ -25,7 +25,8 @@ use Rattle.sim_session_laws.proofs.ServerLemmas.{raised_more}
 use Rattle.sim_session_laws.specs.TurnNumbers.{ReleasedAreFinal, ReleasedOnlyRise}
 
 -- an accepted command is of a turn that is not released, where no client that is in is done with less than that
-command_above : (setup : Setup) (released : ℕ) (kept : List PlayerCommand) (c t : ℕ) (st : Status) → ((done : ℕ) → st ≡ In done → released ≤ done) → command_fault (rules_of setup) kept c t st ≡ None → released < t
+command_above : (setup : Setup) (released : ℕ) (kept : List PlayerCommand) (c t : ℕ) (st : Status) → ((done : ℕ) → st ≡ In done → released ≤ done)
+    → command_fault (rules_of setup) kept c t st ≡ None → released < t
 command_above setup released kept c t Out low f = absurd (cc)
 command_above setup released kept c t (Waiting j) low f = absurd (cc)
 command_above setup released kept c t (In n) low f = test (t == suc n && nat_le t setup.turns) refl f
@@ -38,7 +39,8 @@ command_above setup released kept c t (In n) low f = test (t == suc n && nat_le 
 abbrev Grown : Server → Server → Type 0
 Grown s s' = Grows s.released s.kept s'.released s'.kept
 
-heard_grows : (setup : Setup) (s : Server) (a : Arrival Past) → ((c done : ℕ) → s.status c ≡ In done → s.released ≤ done) → Grown s (heard (rules_of setup) s a)
+heard_grows : (setup : Setup) (s : Server) (a : Arrival Past) → ((c done : ℕ) → s.status c ≡ In done → s.released ≤ done)
+    → Grown s (heard (rules_of setup) s a)
 heard_grows setup s (Heard c up.Join) low = by (is_out (s.status c))
   where
     by : (b : Bool) → Grown s (if b then with_status c (seat (donor (rules_of setup) s)) s else s)
@@ -69,7 +71,8 @@ heard_grows setup s (Heard c (up.State j t past)) low = by (takes_state s.releas
     by false = grows_same s.released s.kept
 heard_grows setup s (Cut c) low = record { more = raised_more s.released (least_done (put c Out s.status) setup.players); final = λ u h. refl }
 
-rises_grow : (setup : Setup) (c : ℕ) (ups : List Up) (s : Session) → ((d done : ℕ) → s.server.status d ≡ In done → s.server.released ≤ done) → Grown s.server (rises setup c ups s).server
+rises_grow : (setup : Setup) (c : ℕ) (ups : List Up) (s : Session) → ((d done : ℕ) → s.server.status d ≡ In done → s.server.released ≤ done)
+    → Grown s.server (rises setup c ups s).server
 rises_grow setup c [] s low = grows_same s.server.released s.server.kept
 rises_grow setup c (x ∷ rest) s low = heard_grows setup s.server (Heard c x) low
 
@@ -77,12 +80,14 @@ falls_grow : (setup : Setup) (c : ℕ) (downs : List Down) (s : Session) → Gro
 falls_grow setup c [] s = grows_same s.server.released s.server.kept
 falls_grow setup c (x ∷ rest) s = grows_same s.server.released s.server.kept
 
-leaves_grow : (setup : Setup) (c : ℕ) (phase : Phase) (s : Session) → ((d done : ℕ) → s.server.status d ≡ In done → s.server.released ≤ done) → Grown s.server (leaves setup c phase s).server
+leaves_grow : (setup : Setup) (c : ℕ) (phase : Phase) (s : Session) → ((d done : ℕ) → s.server.status d ≡ In done → s.server.released ≤ done)
+    → Grown s.server (leaves setup c phase s).server
 leaves_grow setup c Off s low = grows_same s.server.released s.server.kept
 leaves_grow setup c Joining s low = heard_grows setup s.server (Cut c) low
 leaves_grow setup c (On o) s low = heard_grows setup s.server (Cut c) low
 
-stepped_by_grows : (setup : Setup) (s : Session) (x : Step) → ((d done : ℕ) → s.server.status d ≡ In done → s.server.released ≤ done) → Grown s.server (stepped_by setup s x).server
+stepped_by_grows : (setup : Setup) (s : Session) (x : Step) → ((d done : ℕ) → s.server.status d ≡ In done → s.server.released ≤ done)
+    → Grown s.server (stepped_by setup s x).server
 stepped_by_grows setup s (step.Order c x) low = grows_same s.server.released s.server.kept
 stepped_by_grows setup s (step.Up c) low = rises_grow setup c (s.ups c) s low
 stepped_by_grows setup s (step.Down c) low = falls_grow setup c (s.downs c) s
@@ -99,7 +104,11 @@ stepped_grows setup s x h = by (is_client setup (client_of x))
     by false = grows_same s.server.released s.server.kept
 
 grown_then : (a b c : Server) → Grown a b → Grown b c → Grown a c
-grown_then a b c g h = record { more = (let x = g.more in let y = h.more in omega arith); final = λ t le. h.final t (let x = g.more in omega arith) ∙ g.final t le }
+grown_then a b c g h =
+    record {
+      more = (let x = g.more in let y = h.more in omega arith);
+      final = λ t le. h.final t (let x = g.more in omega arith) ∙ g.final t le;
+    }
 
 after_grows : (setup : Setup) (s : Session) (xs : List Step) → Holds setup s → Grown s.server (after_steps setup s xs).server
 after_grows setup s [] h = same
@@ -109,7 +118,8 @@ after_grows setup s [] h = same
 after_grows setup s (x ∷ xs) h =
     grown_then s.server (stepped setup s x).server (after_steps setup (stepped setup s x) xs).server (stepped_grows setup s x h) (after_grows setup (stepped setup s x) xs (holds_stepped setup s x h))
 
-session_grows : (setup : Setup) (active : ℕ) (steps more : List Step) → active ≤ setup.players → Grown (session setup active steps).server (session setup active (steps ++ more)).server
+session_grows : (setup : Setup) (active : ℕ) (steps more : List Step) → active ≤ setup.players
+    → Grown (session setup active steps).server (session setup active (steps ++ more)).server
 session_grows setup active steps more few =
     subst (λ (s : Session). Grown (session setup active steps).server s.server) (sym (after_steps-append setup (opened setup active) steps more)) (after_grows setup (session setup active steps) more (holds_session setup active steps few))
 

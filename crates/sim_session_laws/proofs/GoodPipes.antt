@@ -49,7 +49,8 @@ module _ (setup : Setup) (released : ℕ) (kept : ℕ → List PlayerCommand) wh
   lower low t (down.Notice u j) h = h
   lower low t (down.Refused code) h = h
 
-  pub good_down : (low : ℕ) (downs : List Down) (x : Down) → GoodDowns setup released kept low downs → Carries downs x → IsGoodDown setup released kept low x
+  pub good_down : (low : ℕ) (downs : List Down) (x : Down) → GoodDowns setup released kept low downs → Carries downs x
+      → IsGoodDown setup released kept low x
   good_down low [] x h has = absurd has
   good_down low (down.Ask j ∷ downs) x h (inl e) = subst (IsGoodDown setup released kept low) e tt
   good_down low (down.Ask j ∷ downs) x h (inr has) = good_down low downs x h has
@@ -64,7 +65,8 @@ module _ (setup : Setup) (released : ℕ) (kept : ℕ → List PlayerCommand) wh
   good_down low (down.Refused code ∷ downs) x h (inl e) = subst (IsGoodDown setup released kept low) e tt
   good_down low (down.Refused code ∷ downs) x h (inr has) = good_down low downs x h has
 
-  pub good_behind : (low : ℕ) (downs rest : List Down) (t : ℕ) (x : Down) → GoodDowns setup released kept low downs → Behind downs (down.Release t) rest → Carries rest x → IsGoodDown setup released kept t x
+  pub good_behind : (low : ℕ) (downs rest : List Down) (t : ℕ) (x : Down) → GoodDowns setup released kept low downs
+      → Behind downs (down.Release t) rest → Carries rest x → IsGoodDown setup released kept t x
   good_behind low [] rest t x h at has = absurd at
   good_behind low (down.Ask j ∷ downs) rest t x h (inl e) has = let f = e.0 in absurd (cc)
   good_behind low (down.Ask j ∷ downs) rest t x h (inr at) has = good_behind low downs rest t x h at has

@@ -16,11 +16,13 @@ use Rattle.sim_session_laws.proofs.Basics.{commands_at-append}
 use Rattle.sim_session_laws.proofs.Invariant.{GoodPast, GoodDowns, Plays, Sound}
 use Rattle.sim_session_laws.specs.Pipes.{commands_at}
 
-good_ordered : (setup : Setup) (r : ℕ) (k : ℕ → List PlayerCommand) (low u : ℕ) (xs : List PlayerCommand) (tail : List Down) → low < u → GoodDowns setup r k low tail → GoodDowns setup r k low (map (down.Command u) xs ++ tail)
+good_ordered : (setup : Setup) (r : ℕ) (k : ℕ → List PlayerCommand) (low u : ℕ) (xs : List PlayerCommand) (tail : List Down) → low < u
+    → GoodDowns setup r k low tail → GoodDowns setup r k low (map (down.Command u) xs ++ tail)
 good_ordered setup r k low u [] tail h good = good
 good_ordered setup r k low u (x ∷ xs) tail h good = (h, good_ordered setup r k low u xs tail h good)
 
-good_above : (setup : Setup) (r : ℕ) (k : ℕ → List PlayerCommand) (t n : ℕ) (tail : List Down) → GoodDowns setup r k t tail → GoodDowns setup r k t (kept_above k t n ++ tail)
+good_above : (setup : Setup) (r : ℕ) (k : ℕ → List PlayerCommand) (t n : ℕ) (tail : List Down) → GoodDowns setup r k t tail
+    → GoodDowns setup r k t (kept_above k t n ++ tail)
 good_above setup r k t zero tail good = good
 good_above setup r k t (suc n) tail good =
     subst (λ (l : List Down). GoodDowns setup r k t l) (sym (append_assoc (kept_above k t n) (map (down.Command (suc (t + n))) (k (suc (t + n)))) tail))
@@ -48,12 +50,15 @@ at_above k t (suc n) u low high =
     v : ℕ
     v = suc (t + n)
 
-    by : (u ≡ v) ⊎ (u ≡ v → ⊥) → (u ≤ t + n → commands_at u (kept_above k t n) ≡ k u) → commands_at u (kept_above k t n) ++ commands_at u (map (down.Command v) (k v)) ≡ k u
+    by : (u ≡ v) ⊎ (u ≡ v → ⊥) → (u ≤ t + n → commands_at u (kept_above k t n) ≡ k u)
+        → commands_at u (kept_above k t n) ++ commands_at u (map (down.Command v) (k v)) ≡ k u
     by (inl e) rec = ap (λ (l : List PlayerCommand). l ++ commands_at u (map (down.Command v) (k v))) (past_above k t n u (omega arith)) ∙ subst (λ x. commands_at u (map (down.Command x) (k x)) ≡ k u) e (at_ordered u (k u))
     by (inr apart) rec = ap (λ (l : List PlayerCommand). commands_at u (kept_above k t n) ++ l) (at_other u v (k v) (λ e. apart (sym e))) ∙ append-nil _ ∙ rec (omega arith)
 
 -- as soon as it hears its state, it plays
-pub plays_begun : (setup : Setup) (s : Server) (past : Past) → Sound setup s → GoodPast setup s.released s.kept past → Plays setup s.released s.kept (entry_done (rules_of setup) s.released (turns_in past)) (begun (entry_done (rules_of setup) s.released (turns_in past)) (turns_in past) past) [] (kept_above s.kept (turns_in past) (setup.turns - turns_in past) ++ down.Release s.released ∷ [])
+pub plays_begun : (setup : Setup) (s : Server) (past : Past) → Sound setup s → GoodPast setup s.released s.kept past
+    → Plays setup s.released s.kept (entry_done (rules_of setup) s.released (turns_in past)) (begun (entry_done (rules_of setup) s.released (turns_in past)) (turns_in past) past) []
+    (kept_above s.kept (turns_in past) (setup.turns - turns_in past) ++ down.Release s.released ∷ [])
 plays_begun setup s past sound good =
     record {
       low = omega arith;

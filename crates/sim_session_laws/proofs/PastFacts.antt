@@ -15,7 +15,8 @@ use Rattle.sim_session_laws.specs.Pipes.{commands_at}
 use Rattle.sim_session_laws.proofs.GoodPipes.{good_down}
 use Rattle.sim_session_laws.proofs.Fitting.{good_on, each_behind_is_good, good_pasts, Follows}
 
-loads_of : (setup : Setup) (s : Server) (st : Status) (ph : Phase) (ups : List Up) (downs rest : List Down) (done t : ℕ) (past : Past) → ph ≡ Joining → downs ≡ down.State done past ∷ rest → turns_in past < t → Fits setup s st ph ups downs → commands_at t rest ≡ s.kept t
+loads_of : (setup : Setup) (s : Server) (st : Status) (ph : Phase) (ups : List Up) (downs rest : List Down) (done t : ℕ) (past : Past) → ph ≡ Joining
+    → downs ≡ down.State done past ∷ rest → turns_in past < t → Fits setup s st ph ups downs → commands_at t rest ≡ s.kept t
 loads_of setup s st Off ups downs rest done t past e at above h = absurd (cc)
 loads_of setup s st (On o) ups downs rest done t past e at above h = absurd (cc)
 loads_of setup s Out Joining ups downs rest done t past e at above (inl h) = let f = h.1 in absurd (cc)

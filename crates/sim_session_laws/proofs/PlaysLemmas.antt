@@ -5,7 +5,6 @@ use Rattle.std.proofs.lemmas.Bool.{eq-eqb, ne_eqb, cases_eq, and_parts, and_from
 use Rattle.sim_base.specs.declared.command.Command.{Command}
 use Rattle.sim_base.specs.declared.command.PlayerCommand.{PlayerCommand}
 use Rattle.sim_base.specs.declared.setup.Setup.{Setup}
-use Rattle.sim_base.specs.declared.step.Event.TheVariants as event
 use Rattle.sim_base.specs.Rows.{row_of}
 use Rattle.sim_base.specs.Turn.{Past, Turn, Bend, may_bend, turns_in}
 use Rattle.sim_plain.specs.declared.message.UpOf.TheVariants as up
@@ -14,7 +13,7 @@ use Rattle.sim_plain.specs.Functions.{put}
 use Rattle.sim_turn_laws.specs.CommandLaws.{IsOrderOf}
 use Rattle.sim_turn_laws.specs.TurnLaws.{IsItemOf}
 use Rattle.sim_plain_session.proofs.Functions.{put_same, put_other}
-use Rattle.sim_plain_session.specs.Clients.{Up, Down, Seat, Phase, Off, Joining, On, Acted, idle, state_of, may_order, orders, may_play, played, may_tell_done, report_of, play_event, told, plays, bent_seat, bend_event, bends, learns, hears}
+use Rattle.sim_plain_session.specs.Clients.{Up, Down, Seat, Phase, Off, Joining, On, Acted, idle, state_of, may_order, orders, may_play, played, may_tell_done, report_of, told, plays, bent_seat, shows_bend, ordered, told_with_done, told_alone, bends, learns, hears}
 use Rattle.sim_session_laws.proofs.Basics.{Grows, grows_same, good_past_grows, good_ups_grows, good_downs_grows, good_downs_append, commands_at-append, client_is, all_players_append, all_right}
 use Rattle.sim_session_laws.proofs.Invariant.{GoodPast, GoodUps, GoodDowns, Plays}
 use Rattle.sim_session_laws.specs.Pipes.{commands_at}
@@ -23,7 +22,9 @@ use Rattle.sim_session_laws.specs.Standing.{AllPlayers}
 -- ---- what the server does, as a client sees it
 
 -- The server went on, and this client was told what that means for it.
-pub plays_told : (setup : Setup) (r r' : ℕ) (k k' : ℕ → List PlayerCommand) (done : ℕ) (o : Seat) (ups : List Up) (downs news : List Down) → Plays setup r k done o ups downs → Grows r k r' k' → r' ≤ done → ((l : ℕ) → l ≤ r' → GoodDowns setup r' k' l news) → ((t : ℕ) → k t ++ commands_at t news ≡ k' t) → Plays setup r' k' done o ups (downs ++ news)
+pub plays_told : (setup : Setup) (r r' : ℕ) (k k' : ℕ → List PlayerCommand) (done : ℕ) (o : Seat) (ups : List Up) (downs news : List Down)
+    → Plays setup r k done o ups downs → Grows r k r' k' → r' ≤ done → ((l : ℕ) → l ≤ r' → GoodDowns setup r' k' l news)
+    → ((t : ℕ) → k t ++ commands_at t news ≡ k' t) → Plays setup r' k' done o ups (downs ++ news)
 plays_told setup r r' k k' done o ups downs news p g le good same =
     record {
       low = le;
@@ -42,7 +43,9 @@ plays_told setup r r' k k' done o ups downs news p g le good same =
     }
 
 -- messages without a command, a release or a past
-pub plays_posted : (setup : Setup) (r : ℕ) (k : ℕ → List PlayerCommand) (done : ℕ) (o : Seat) (ups : List Up) (downs news : List Down) → Plays setup r k done o ups downs → ((l : ℕ) → GoodDowns setup r k l news) → ((t : ℕ) → commands_at t news ≡ []) → Plays setup r k done o ups (downs ++ news)
+pub plays_posted : (setup : Setup) (r : ℕ) (k : ℕ → List PlayerCommand) (done : ℕ) (o : Seat) (ups : List Up) (downs news : List Down)
+    → Plays setup r k done o ups downs → ((l : ℕ) → GoodDowns setup r k l news) → ((t : ℕ) → commands_at t news ≡ [])
+    → Plays setup r k done o ups (downs ++ news)
 plays_posted setup r k done o ups downs news p good none =
     plays_told setup r r k k done o ups downs news p (grows_same r k) p.low (λ l h. good l) (λ t. ap (λ (l : List PlayerCommand). k t ++ l) (none t) ∙ append-nil (k t))
 
@@ -50,25 +53,30 @@ pub keeps_final : (r : ℕ) (k : ℕ → List PlayerCommand) (t : ℕ) (x : Play
 keeps_final r k t x h = record { more = omega arith; final = λ u le. put_other t (k t ++ x ∷ []) k u (λ e. absurd (omega arith)) }
 
 -- a command is kept, and each In client gets it
-pub plays_kept : (setup : Setup) (r : ℕ) (k : ℕ → List PlayerCommand) (done : ℕ) (o : Seat) (ups : List Up) (downs : List Down) (t : ℕ) (item : PlayerCommand) → r < t → Plays setup r k done o ups downs → Plays setup r (put t (k t ++ item ∷ []) k) done o ups (downs ++ down.Command t item ∷ [])
+pub plays_kept : (setup : Setup) (r : ℕ) (k : ℕ → List PlayerCommand) (done : ℕ) (o : Seat) (ups : List Up) (downs : List Down) (t : ℕ) (item : PlayerCommand)
+    → r < t → Plays setup r k done o ups downs → Plays setup r (put t (k t ++ item ∷ []) k) done o ups (downs ++ down.Command t item ∷ [])
 plays_kept setup r k done o ups downs t item h p =
     plays_told setup r r k (put t (k t ++ item ∷ []) k) done o ups downs (down.Command t item ∷ []) p (keeps_final r k t item h) p.low (λ l le. ((let a = h in omega arith), tt)) same
   where
     by : (u : ℕ) → (t ≡ u) ⊎ (t ≡ u → ⊥) → k u ++ commands_at u (down.Command t item ∷ []) ≡ put t (k t ++ item ∷ []) k u
-    by u (inl e) = subst (λ v. k v ++ commands_at v (down.Command t item ∷ []) ≡ put t (k t ++ item ∷ []) k v) e (ap (λ (l : List PlayerCommand). k t ++ l) (cond-true _ (item ∷ []) [] (eq-eqb t t refl)) ∙ sym (put_same t (k t ++ item ∷ []) k))
+    by u (inl e) =
+        subst (λ v. k v ++ commands_at v (down.Command t item ∷ []) ≡ put t (k t ++ item ∷ []) k v) e
+        (ap (λ (l : List PlayerCommand). k t ++ l) (cond-true _ (item ∷ []) [] (eq-eqb t t refl)) ∙ sym (put_same t (k t ++ item ∷ []) k))
     by u (inr apart) = ap (λ (l : List PlayerCommand). k u ++ l) (cond-false _ (item ∷ []) [] (ne_eqb t u apart)) ∙ append-nil (k u) ∙ sym (put_other t (k t ++ item ∷ []) k u (λ e. apart (sym e)))
 
     same : (u : ℕ) → k u ++ commands_at u (down.Command t item ∷ []) ≡ put t (k t ++ item ∷ []) k u
     same u = by u (cases_eq t u)
 
 -- the released turn rises, and each In client gets it
-pub plays_released : (setup : Setup) (r r' : ℕ) (k : ℕ → List PlayerCommand) (done : ℕ) (o : Seat) (ups : List Up) (downs : List Down) → r ≤ r' → r' ≤ done → Plays setup r k done o ups downs → Plays setup r' k done o ups (downs ++ down.Release r' ∷ [])
+pub plays_released : (setup : Setup) (r r' : ℕ) (k : ℕ → List PlayerCommand) (done : ℕ) (o : Seat) (ups : List Up) (downs : List Down) → r ≤ r'
+    → r' ≤ done → Plays setup r k done o ups downs → Plays setup r' k done o ups (downs ++ down.Release r' ∷ [])
 plays_released setup r r' k done o ups downs le high p =
     plays_told setup r r' k k done o ups downs (down.Release r' ∷ []) p (record { more = le; final = λ t h. refl }) high (λ l h. ((omega arith), tt)) (λ t. append-nil (k t))
 
 -- ---- what the client does itself
 
-good_ups_append : (setup : Setup) (r : ℕ) (k : ℕ → List PlayerCommand) (from own own' : ℕ) (ups news : List Up) → GoodUps setup r k from own ups → GoodUps setup r k own own' news → GoodUps setup r k from own' (ups ++ news)
+good_ups_append : (setup : Setup) (r : ℕ) (k : ℕ → List PlayerCommand) (from own own' : ℕ) (ups news : List Up) → GoodUps setup r k from own ups
+    → GoodUps setup r k own own' news → GoodUps setup r k from own' (ups ++ news)
 good_ups_append setup r k from own own' [] news h more = subst (λ n. GoodUps setup r k n own' news) (sym h) more
 good_ups_append setup r k from own own' (up.Join ∷ ups) news h more = good_ups_append setup r k from own own' ups news h more
 good_ups_append setup r k from own own' (up.Command t x ∷ ups) news h more = good_ups_append setup r k from own own' ups news h more
@@ -77,7 +85,9 @@ good_ups_append setup r k from own own' (up.Report t d ∷ ups) news h more = go
 good_ups_append setup r k from own own' (up.State j t past ∷ ups) news h more = (h.0, h.1, good_ups_append setup r k from own own' ups news h.2 more)
 
 -- it says something, and its own done becomes `own`
-pub plays_said : (setup : Setup) (r : ℕ) (k : ℕ → List PlayerCommand) (done : ℕ) (o o' : Seat) (ups news : List Up) (downs : List Down) → Plays setup r k done o ups downs → o'.past ≡ o.past → o'.known ≡ o.known → o'.released ≡ o.released → GoodUps setup r k o.done o'.done news → Plays setup r k done o' (ups ++ news) downs
+pub plays_said : (setup : Setup) (r : ℕ) (k : ℕ → List PlayerCommand) (done : ℕ) (o o' : Seat) (ups news : List Up) (downs : List Down)
+    → Plays setup r k done o ups downs → o'.past ≡ o.past → o'.known ≡ o.known → o'.released ≡ o.released → GoodUps setup r k o.done o'.done news
+    → Plays setup r k done o' (ups ++ news) downs
 plays_said setup r k done o o' ups news downs p same_past same_known same_released good =
     record {
       low = p.low;
@@ -95,7 +105,8 @@ plays_said setup r k done o o' ups news downs p same_past same_known same_releas
     subst₂' h = subst (λ n. turns_in o'.past ≤ n) (sym same_released) (subst (λ (x : Past). turns_in x ≤ o.released) (sym same_past) h)
 
 -- no command of a turn up to the greatest release is on its way
-pub none_below : (setup : Setup) (r : ℕ) (k : ℕ → List PlayerCommand) (low u : ℕ) (downs : List Down) → u ≤ low → GoodDowns setup r k low downs → commands_at u downs ≡ []
+pub none_below : (setup : Setup) (r : ℕ) (k : ℕ → List PlayerCommand) (low u : ℕ) (downs : List Down) → u ≤ low → GoodDowns setup r k low downs
+    → commands_at u downs ≡ []
 none_below setup r k low u [] le h = refl
 none_below setup r k low u (down.Ask j ∷ downs) le h = none_below setup r k low u downs le h
 none_below setup r k low u (down.State done past ∷ downs) le h = none_below setup r k low u downs le h.1
@@ -105,13 +116,15 @@ none_below setup r k low u (down.Notice t j ∷ downs) le h = none_below setup r
 none_below setup r k low u (down.Refused code ∷ downs) le h = none_below setup r k low u downs le h
 
 -- what it knows of its next turn is all that is kept of it
-knows_next : (setup : Setup) (r : ℕ) (k : ℕ → List PlayerCommand) (done : ℕ) (o : Seat) (ups : List Up) (downs : List Down) → Plays setup r k done o ups downs → turns_in o.past < o.released → o.known (suc (turns_in o.past)) ≡ k (suc (turns_in o.past))
+knows_next : (setup : Setup) (r : ℕ) (k : ℕ → List PlayerCommand) (done : ℕ) (o : Seat) (ups : List Up) (downs : List Down)
+    → Plays setup r k done o ups downs → turns_in o.past < o.released → o.known (suc (turns_in o.past)) ≡ k (suc (turns_in o.past))
 knows_next setup r k done o ups downs p h =
     let next = suc (turns_in o.past) in
     let none = none_below setup r k o.released next downs h p.pipe in
     sym (append-nil (o.known next)) ∙ ap (λ (l : List PlayerCommand). o.known next ++ l) (sym none) ∙ p.commands next (omega arith)
 
-pub plays_played : (setup : Setup) (r : ℕ) (k : ℕ → List PlayerCommand) (done : ℕ) (o : Seat) (ups : List Up) (downs : List Down) → turns_in o.past < o.released → Plays setup r k done o ups downs → Plays setup r k done (played o) ups downs
+pub plays_played : (setup : Setup) (r : ℕ) (k : ℕ → List PlayerCommand) (done : ℕ) (o : Seat) (ups : List Up) (downs : List Down)
+    → turns_in o.past < o.released → Plays setup r k done o ups downs → Plays setup r k done (played o) ups downs
 plays_played setup r k done o ups downs released p =
     let next = suc (turns_in o.past) in
     let known = knows_next setup r k done o ups downs p released in
@@ -131,7 +144,8 @@ plays_played setup r k done o ups downs released p =
       commands = λ t above. p.commands t (omega arith);
     }
 
-pub plays_bent : (setup : Setup) (r : ℕ) (k : ℕ → List PlayerCommand) (done : ℕ) (o : Seat) (ups : List Up) (downs : List Down) (e : ℕ) (h : ℤ) → Plays setup r k done o ups downs → Plays setup r k done (record o { past = Bend e h ∷ o.past }) ups downs
+pub plays_bent : (setup : Setup) (r : ℕ) (k : ℕ → List PlayerCommand) (done : ℕ) (o : Seat) (ups : List Up) (downs : List Down) (e : ℕ) (h : ℤ)
+    → Plays setup r k done o ups downs → Plays setup r k done (record o { past = Bend e h ∷ o.past }) ups downs
 plays_bent setup r k done o ups downs e h p =
     record {
       low = p.low;
@@ -148,10 +162,13 @@ plays_bent setup r k done o ups downs e h p =
 -- ---- what it hears
 
 -- a command on the way is one of the kept ones
-player_in : (setup : Setup) (xs : List PlayerCommand) (x : PlayerCommand) (ys : List PlayerCommand) → AllPlayers setup (xs ++ x ∷ ys) → IsOrderOf setup x
+player_in : (setup : Setup) (xs : List PlayerCommand) (x : PlayerCommand) (ys : List PlayerCommand) → AllPlayers setup (xs ++ x ∷ ys)
+    → IsOrderOf setup x
 player_in setup xs x ys h = All-head (IsOrderOf setup) x ys (all_right (IsOrderOf setup) xs (x ∷ ys) h)
 
-pub plays_learned : (setup : Setup) (r : ℕ) (k : ℕ → List PlayerCommand) (done : ℕ) (o : Seat) (ups : List Up) (t : ℕ) (item : PlayerCommand) (downs : List Down) → ((u : ℕ) → AllPlayers setup (k u)) → Plays setup r k done o ups (down.Command t item ∷ downs) → Plays setup r k done (learns setup t item o) ups downs
+pub plays_learned : (setup : Setup) (r : ℕ) (k : ℕ → List PlayerCommand) (done : ℕ) (o : Seat) (ups : List Up) (t : ℕ) (item : PlayerCommand) (downs : List Down)
+    → ((u : ℕ) → AllPlayers setup (k u)) → Plays setup r k done o ups (down.Command t item ∷ downs)
+    → Plays setup r k done (learns setup t item o) ups downs
 plays_learned setup r k done o ups t item downs players p =
     subst (λ (y : Seat). Plays setup r k done y ups downs) (sym takes) now
   where
@@ -171,11 +188,18 @@ plays_learned setup r k done o ups t item downs players p =
     takes = cond-true _ more o (and_from _ _ (lt-ltb (turns_in o.past) t above) (client_is setup item is_one))
 
     by : (u : ℕ) → turns_in o.past < u → (t ≡ u) ⊎ (t ≡ u → ⊥) → more.known u ++ commands_at u downs ≡ k u
-    by u over (inl e) = subst (λ v. more.known v ++ commands_at v downs ≡ k v) e (ap (λ (l : List PlayerCommand). l ++ commands_at t downs) (put_same t (o.known t ++ item ∷ []) o.known) ∙ append_assoc (o.known t) (item ∷ []) (commands_at t downs) ∙ here)
-    by u over (inr apart) = ap (λ (l : List PlayerCommand). l ++ commands_at u downs) (put_other t (o.known t ++ item ∷ []) o.known u (λ e. apart (sym e))) ∙ ap (λ (l : List PlayerCommand). o.known u ++ l) (sym (cond-false _ (item ∷ commands_at u downs) (commands_at u downs) (ne_eqb t u apart))) ∙ p.commands u over
+    by u over (inl e) =
+        subst (λ v. more.known v ++ commands_at v downs ≡ k v) e
+        (ap (λ (l : List PlayerCommand). l ++ commands_at t downs) (put_same t (o.known t ++ item ∷ []) o.known) ∙ append_assoc (o.known t) (item ∷ []) (commands_at t downs) ∙ here)
+    by u over (inr apart) =
+        ap (λ (l : List PlayerCommand). l ++ commands_at u downs) (put_other t (o.known t ++ item ∷ []) o.known u (λ e. apart (sym e)))
+        ∙ ap (λ (l : List PlayerCommand). o.known u ++ l) (sym (cond-false _ (item ∷ commands_at u downs) (commands_at u downs) (ne_eqb t u apart)))
+        ∙ p.commands u over
 
     known : (u : ℕ) → (u ≡ t) ⊎ (u ≡ t → ⊥) → AllPlayers setup (more.known u)
-    known u (inl e) = subst (λ v. AllPlayers setup (more.known v)) (sym e) (subst (λ (l : List PlayerCommand). AllPlayers setup l) (sym (put_same t (o.known t ++ item ∷ []) o.known)) (all_players_append setup (o.known t) item (p.players t) is_one))
+    known u (inl e) =
+        subst (λ v. AllPlayers setup (more.known v)) (sym e)
+        (subst (λ (l : List PlayerCommand). AllPlayers setup l) (sym (put_same t (o.known t ++ item ∷ []) o.known)) (all_players_append setup (o.known t) item (p.players t) is_one))
     known u (inr apart) = subst (λ (l : List PlayerCommand). AllPlayers setup l) (sym (put_other t (o.known t ++ item ∷ []) o.known u apart)) (p.players u)
 
     now : Plays setup r k done more ups downs
@@ -193,7 +217,9 @@ plays_learned setup r k done o ups t item downs players p =
         }
 
 -- a message that a playing client hears and that does nothing to it
-heard_nothing : (setup : Setup) (r : ℕ) (k : ℕ → List PlayerCommand) (done : ℕ) (o : Seat) (ups : List Up) (x : Down) (downs : List Down) → Plays setup r k done o ups (x ∷ downs) → GoodDowns setup r k o.released downs → ((u : ℕ) → commands_at u (x ∷ downs) ≡ commands_at u downs) → Plays setup r k done o ups downs
+heard_nothing : (setup : Setup) (r : ℕ) (k : ℕ → List PlayerCommand) (done : ℕ) (o : Seat) (ups : List Up) (x : Down) (downs : List Down)
+    → Plays setup r k done o ups (x ∷ downs) → GoodDowns setup r k o.released downs → ((u : ℕ) → commands_at u (x ∷ downs) ≡ commands_at u downs)
+    → Plays setup r k done o ups downs
 heard_nothing setup r k done o ups x downs p good same =
     record {
       low = p.low;
@@ -207,7 +233,8 @@ heard_nothing setup r k done o ups x downs p good same =
       commands = λ u over. ap (λ (l : List PlayerCommand). o.known u ++ l) (sym (same u)) ∙ p.commands u over;
     }
 
-heard_release : (setup : Setup) (r : ℕ) (k : ℕ → List PlayerCommand) (done : ℕ) (o : Seat) (ups : List Up) (t : ℕ) (downs : List Down) → Plays setup r k done o ups (down.Release t ∷ downs) → Plays setup r k done (record o { released = max o.released t }) ups downs
+heard_release : (setup : Setup) (r : ℕ) (k : ℕ → List PlayerCommand) (done : ℕ) (o : Seat) (ups : List Up) (t : ℕ) (downs : List Down)
+    → Plays setup r k done o ups (down.Release t ∷ downs) → Plays setup r k done (record o { released = max o.released t }) ups downs
 heard_release setup r k done o ups t downs p =
     record {
       low = p.low;
@@ -221,7 +248,8 @@ heard_release setup r k done o ups t downs p =
       commands = p.commands;
     }
 
-says_nothing : (setup : Setup) (r : ℕ) (k : ℕ → List PlayerCommand) (done : ℕ) (o : Seat) (ups : List Up) (downs : List Down) → Plays setup r k done o ups downs → Plays setup r k done o (ups ++ []) downs
+says_nothing : (setup : Setup) (r : ℕ) (k : ℕ → List PlayerCommand) (done : ℕ) (o : Seat) (ups : List Up) (downs : List Down)
+    → Plays setup r k done o ups downs → Plays setup r k done o (ups ++ []) downs
 says_nothing setup r k done o ups downs p = subst (λ (l : List Up). Plays setup r k done o l downs) (sym (append-nil ups)) p
 
 -- A phase that plays, after what was done.
@@ -230,7 +258,13 @@ PlaysThen setup r k done ups downs Off says = ⊥
 PlaysThen setup r k done ups downs Joining says = ⊥
 PlaysThen setup r k done ups downs (On o) says = Plays setup r k done o (ups ++ says) downs
 
-pub plays_heard : (setup : Setup) (r : ℕ) (k : ℕ → List PlayerCommand) (done c : ℕ) (o : Seat) (ups : List Up) (x : Down) (downs : List Down) → ((u : ℕ) → AllPlayers setup (k u)) → Plays setup r k done o ups (x ∷ downs) → PlaysThen setup r k done ups downs (hears setup c (On o) x).phase (hears setup c (On o) x).says
+-- the same of a client that acted
+abbrev pub PlaysAfter : Setup → ℕ → (ℕ → List PlayerCommand) → ℕ → List Up → List Down → Acted → Type 0
+PlaysAfter setup r k done ups downs acted = PlaysThen setup r k done ups downs acted.phase acted.says
+
+pub plays_heard : (setup : Setup) (r : ℕ) (k : ℕ → List PlayerCommand) (done c : ℕ) (o : Seat) (ups : List Up) (x : Down) (downs : List Down)
+    → ((u : ℕ) → AllPlayers setup (k u)) → Plays setup r k done o ups (x ∷ downs)
+    → PlaysAfter setup r k done ups downs (hears setup c (On o) x)
 plays_heard setup r k done c o ups (down.Ask j) downs players p =
     plays_said setup r k done o o ups (up.State j (turns_in o.past) o.past ∷ []) downs (heard_nothing setup r k done o ups (down.Ask j) downs p p.pipe (λ u. refl)) refl refl refl (refl, p.past, refl)
 plays_heard setup r k done c o ups (down.State d past) downs players p = says_nothing setup r k done o ups downs (heard_nothing setup r k done o ups (down.State d past) downs p p.pipe.1 (λ u. refl))
@@ -239,35 +273,39 @@ plays_heard setup r k done c o ups (down.Release t) downs players p = says_nothi
 plays_heard setup r k done c o ups (down.Notice t j) downs players p = says_nothing setup r k done o ups downs (heard_nothing setup r k done o ups (down.Notice t j) downs p p.pipe (λ u. refl))
 plays_heard setup r k done c o ups (down.Refused code) downs players p = says_nothing setup r k done o ups downs (heard_nothing setup r k done o ups (down.Refused code) downs p p.pipe (λ u. refl))
 
-pub plays_ordered : (setup : Setup) (r : ℕ) (k : ℕ → List PlayerCommand) (done c : ℕ) (x : Command) (o : Seat) (ups : List Up) (downs : List Down) → Plays setup r k done o ups downs → PlaysThen setup r k done ups downs (orders setup c x (On o)).phase (orders setup c x (On o)).says
+pub plays_ordered : (setup : Setup) (r : ℕ) (k : ℕ → List PlayerCommand) (done c : ℕ) (x : Command) (o : Seat) (ups : List Up) (downs : List Down)
+    → Plays setup r k done o ups downs → PlaysAfter setup r k done ups downs (orders setup c x (On o))
 plays_ordered setup r k done c x o ups downs p = by (may_order setup o)
   where
-    by : (b : Bool) → (let a : Acted = (if b then record { phase = On (record o { orders = suc o.orders }); says = up.Command (suc o.done) x ∷ []; events = event.Order c (suc o.done) ∷ [] } else idle (On o)) in PlaysThen setup r k done ups downs a.phase a.says)
+    by : (b : Bool) → PlaysAfter setup r k done ups downs (if b then ordered c x o else idle (On o))
     by true = plays_said setup r k done o (record o { orders = suc o.orders }) ups (up.Command (suc o.done) x ∷ []) downs p refl refl refl refl
     by false = says_nothing setup r k done o ups downs p
 
 -- the report, and the done where there is room for one
-pub plays_told_up : (setup : Setup) (r : ℕ) (k : ℕ → List PlayerCommand) (done c : ℕ) (o : Seat) (ups : List Up) (downs : List Down) → Plays setup r k done o ups downs → PlaysThen setup r k done ups downs (told setup c o).phase (told setup c o).says
+pub plays_told_up : (setup : Setup) (r : ℕ) (k : ℕ → List PlayerCommand) (done c : ℕ) (o : Seat) (ups : List Up) (downs : List Down)
+    → Plays setup r k done o ups downs → PlaysAfter setup r k done ups downs (told setup c o)
 plays_told_up setup r k done c o ups downs p = by (may_tell_done setup o) refl
   where
-    by : (b : Bool) → may_tell_done setup o ≡ b → (let a : Acted = (if b then record { phase = On (record o { done = suc o.done; orders = 0 }); says = report_of setup o ∷ up.Done (suc o.done) ∷ []; events = play_event setup c o ∷ [] } else record { phase = On o; says = report_of setup o ∷ []; events = play_event setup c o ∷ [] }) in PlaysThen setup r k done ups downs a.phase a.says)
+    by : (b : Bool) → may_tell_done setup o ≡ b → PlaysAfter setup r k done ups downs (if b then told_with_done setup c o else told_alone setup c o)
     by true e =
         let room : o.done < min setup.turns (turns_in o.past + setup.delay) = ltb-true _ _ e in
         plays_said setup r k done o (record o { done = suc o.done; orders = 0 }) ups (report_of setup o ∷ up.Done (suc o.done) ∷ []) downs p refl refl refl (refl, (omega arith), (let a = p.past.turn in omega arith), refl)
     by false e = plays_said setup r k done o o ups (report_of setup o ∷ []) downs p refl refl refl refl
 
-pub plays_plays : (setup : Setup) (r : ℕ) (k : ℕ → List PlayerCommand) (done c : ℕ) (o : Seat) (ups : List Up) (downs : List Down) → Plays setup r k done o ups downs → PlaysThen setup r k done ups downs (plays setup c (On o)).phase (plays setup c (On o)).says
+pub plays_plays : (setup : Setup) (r : ℕ) (k : ℕ → List PlayerCommand) (done c : ℕ) (o : Seat) (ups : List Up) (downs : List Down)
+    → Plays setup r k done o ups downs → PlaysAfter setup r k done ups downs (plays setup c (On o))
 plays_plays setup r k done c o ups downs p = by (may_play setup o) refl
   where
-    by : (b : Bool) → may_play setup o ≡ b → (let a : Acted = (if b then told setup c (played o) else idle (On o)) in PlaysThen setup r k done ups downs a.phase a.says)
+    by : (b : Bool) → may_play setup o ≡ b → PlaysAfter setup r k done ups downs (if b then told setup c (played o) else idle (On o))
     by true e =
         let both = and_parts _ _ e in
         plays_told_up setup r k done c (played o) ups downs (plays_played setup r k done o ups downs (ltb-true _ _ both.1) p)
     by false e = says_nothing setup r k done o ups downs p
 
-pub plays_bends : (setup : Setup) (r : ℕ) (k : ℕ → List PlayerCommand) (done c e : ℕ) (h : ℤ) (o : Seat) (ups : List Up) (downs : List Down) → Plays setup r k done o ups downs → PlaysThen setup r k done ups downs (bends setup c e h (On o)).phase (bends setup c e h (On o)).says
+pub plays_bends : (setup : Setup) (r : ℕ) (k : ℕ → List PlayerCommand) (done c e : ℕ) (h : ℤ) (o : Seat) (ups : List Up) (downs : List Down)
+    → Plays setup r k done o ups downs → PlaysAfter setup r k done ups downs (bends setup c e h (On o))
 plays_bends setup r k done c e h o ups downs p = by (may_bend setup h (row_of (state_of setup o) e))
   where
-    by : (b : Bool) → (let a : Acted = (if b then record { phase = On (bent_seat e h o); says = []; events = bend_event setup c (bent_seat e h o) ∷ [] } else idle (On o)) in PlaysThen setup r k done ups downs a.phase a.says)
+    by : (b : Bool) → PlaysAfter setup r k done ups downs (if b then shows_bend setup c (bent_seat e h o) else idle (On o))
     by true = says_nothing setup r k done _ ups downs (plays_bent setup r k done o ups downs e h p)
     by false = says_nothing setup r k done o ups downs p

@@ -49,7 +49,8 @@ holds_opened setup active few =
           commands = λ t above. refl;
         }
 
-holds_stepped_by : (setup : Setup) (s : Session) (x : Step) → is_client setup (client_of x) ≡ true → Holds setup s → Holds setup (stepped_by setup s x)
+holds_stepped_by : (setup : Setup) (s : Session) (x : Step) → is_client setup (client_of x) ≡ true → Holds setup s
+    → Holds setup (stepped_by setup s x)
 holds_stepped_by setup s (step.Order c x) client h = holds_order setup s c x h
 holds_stepped_by setup s (step.Up c) client h = holds_up setup s c client h
 holds_stepped_by setup s (step.Down c) client h = holds_down setup s c h

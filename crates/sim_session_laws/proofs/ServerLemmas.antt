@@ -25,7 +25,8 @@ use Rattle.sim_session_laws.specs.Pipes.{commands_at}
 in_not_out : (st : Status) (done : ℕ) → st ≡ In done → is_in st ≡ true
 in_not_out st done e = ap is_in e
 
-pub first_or_in : (status : ℕ → Status) (o : Option ℕ) (b : Bool) (d k : ℕ) → is_in (status d) ≡ b → ((c : ℕ) → o ≡ Some c → is_in (status c) ≡ true) → first_or o b d ≡ Some k → is_in (status k) ≡ true
+pub first_or_in : (status : ℕ → Status) (o : Option ℕ) (b : Bool) (d k : ℕ) → is_in (status d) ≡ b → ((c : ℕ) → o ≡ Some c → is_in (status c) ≡ true)
+    → first_or o b d ≡ Some k → is_in (status k) ≡ true
 first_or_in status (Some c) b d k e h same = h k same
 first_or_in status None true d k e h same = let n : d ≡ k = cc in subst (λ x. is_in (status x) ≡ true) n e
 first_or_in status None false d k e h same = absurd (cc)
@@ -62,20 +63,23 @@ least_done_le status (suc n) d done pos le e = by (cases_eq d (suc n)) (λ (h : 
     by (inl same) rec = lesser_here (status (suc n)) (least_done status n) done (subst (λ x. status x ≡ In done) same e)
     by (inr apart) rec = lesser_there (status (suc n)) (least_done status n) done (rec (omega arith))
 
-pub raised_le : (status : ℕ → Status) (setup : Setup) (r d done : ℕ) → is_client setup d ≡ true → status d ≡ In done → r ≤ done → raised_to r (least_done status setup.players) ≤ done
+pub raised_le : (status : ℕ → Status) (setup : Setup) (r d done : ℕ) → is_client setup d ≡ true → status d ≡ In done → r ≤ done
+    → raised_to r (least_done status setup.players) ≤ done
 raised_le status setup r d done client e le =
     let both = and_parts _ _ client in
     let most = least_done_le status setup.players d done (ltb-true _ _ both.0) (leb-true _ _ both.1) e in
     subst (λ (o : Option ℕ). raised_to r o ≤ done) (sym most.1) (let h = most.2 in omega arith)
 
 -- a bound of each done bounds the released turn
-lesser_bound : (st : Status) (o : Option ℕ) (r top : ℕ) → r ≤ top → ((done : ℕ) → st ≡ In done → done ≤ top) → raised_to r o ≤ top → raised_to r (lesser st o) ≤ top
+lesser_bound : (st : Status) (o : Option ℕ) (r top : ℕ) → r ≤ top → ((done : ℕ) → st ≡ In done → done ≤ top) → raised_to r o ≤ top
+    → raised_to r (lesser st o) ≤ top
 lesser_bound (In x) (Some v) r top le h rest = let a = h x refl in omega arith
 lesser_bound (In x) None r top le h rest = let a = h x refl in omega arith
 lesser_bound Out o r top le h rest = rest
 lesser_bound (Waiting j) o r top le h rest = rest
 
-pub raised_bound : (status : ℕ → Status) (n r top : ℕ) → r ≤ top → ((d done : ℕ) → status d ≡ In done → done ≤ top) → raised_to r (least_done status n) ≤ top
+pub raised_bound : (status : ℕ → Status) (n r top : ℕ) → r ≤ top → ((d done : ℕ) → status d ≡ In done → done ≤ top)
+    → raised_to r (least_done status n) ≤ top
 raised_bound status zero r top le h = le
 raised_bound status (suc n) r top le h = lesser_bound (status (suc n)) (least_done status n) r top le (h (suc n)) (raised_bound status n r top le h)
 
@@ -87,7 +91,8 @@ Told setup s s' Out news = news ≡ []
 Told setup s s' (Waiting j) news = (news ≡ []) × (is_in (s.status j) ≡ true → is_in (s'.status j) ≡ true)
 Told setup s s' (In done) news = (o : Seat) (ups : List Up) (downs : List Down) → Plays setup s.released s.kept done o ups downs → Plays setup s'.released s'.kept done o ups (downs ++ news)
 
-pub fits_told : (setup : Setup) (s s' : Server) (st : Status) (news : List Down) (ph : Phase) (ups : List Up) (downs : List Down) → Told setup s s' st news → Fits setup s st ph ups downs → Fits setup s' st ph ups (downs ++ news)
+pub fits_told : (setup : Setup) (s s' : Server) (st : Status) (news : List Down) (ph : Phase) (ups : List Up) (downs : List Down)
+    → Told setup s s' st news → Fits setup s st ph ups downs → Fits setup s' st ph ups (downs ++ news)
 fits_told setup s s' Out news Off ups downs t h = record { no_ups = h.no_ups; no_downs = λ i. h.no_downs i ++ t i }
 fits_told setup s s' Out news Joining ups downs t (inl h) = inl (h.0, λ i. h.1 i ++ t i)
 fits_told setup s s' Out news Joining ups downs t (inr h) = inr (h.0, λ i. h.1 i ++ t i)
@@ -96,7 +101,14 @@ fits_told setup s s' (Waiting j) news Off ups downs t h = absurd h
 fits_told setup s s' (Waiting j) news Joining ups downs t h = record { nothing = record { no_ups = h.nothing.no_ups; no_downs = λ i. h.nothing.no_downs i ++ t.0 i }; there = t.1 h.there }
 fits_told setup s s' (Waiting j) news (On o) ups downs t h = absurd h
 fits_told setup s s' (In done) news Off ups downs t h = absurd h
-fits_told setup s s' (In done) news Joining ups downs t h = record { carried = h.carried; rest = h.rest ++ news; empty = h.empty; first = ap (λ (l : List Down). l ++ news) h.first; soon = t (begun done (turns_in h.carried) h.carried) [] h.rest h.soon }
+fits_told setup s s' (In done) news Joining ups downs t h =
+    record {
+      carried = h.carried;
+      rest = h.rest ++ news;
+      empty = h.empty;
+      first = ap (λ (l : List Down). l ++ news) h.first;
+      soon = t (begun done (turns_in h.carried) h.carried) [] h.rest h.soon;
+    }
 fits_told setup s s' (In done) news (On o) ups downs t h = t o ups downs h
 
 -- Messages without a command, a release or a past.
@@ -107,12 +119,17 @@ pub record IsQuiet (setup : Setup) (news : List Down) : Type 0 where
 abbrev pub Stay : Server → Server → Type 0
 Stay s s' = (j : ℕ) → is_in (s.status j) ≡ true → is_in (s'.status j) ≡ true
 
-pub told_quiet : (setup : Setup) (s s' : Server) (st : Status) (news : List Down) → s'.released ≡ s.released → s'.kept ≡ s.kept → Stay s s' → IsQuiet setup news → (is_in st ≡ false → news ≡ []) → Told setup s s' st news
+pub told_quiet : (setup : Setup) (s s' : Server) (st : Status) (news : List Down) → s'.released ≡ s.released → s'.kept ≡ s.kept → Stay s s'
+    → IsQuiet setup news → (is_in st ≡ false → news ≡ []) → Told setup s s' st news
 told_quiet setup s s' Out news a b stay quiet none = none refl
 told_quiet setup s s' (Waiting j) news a b stay quiet none = (none refl, stay j)
-told_quiet setup s s' (In done) news a b stay quiet none = λ o ups downs p. subst (λ (x : ℕ × (ℕ → List PlayerCommand)). Plays setup x.0 x.1 done o ups (downs ++ news)) (λ i. (sym a i, sym b i)) (plays_posted setup s.released s.kept done o ups downs news p (quiet.good s.released s.kept) quiet.none)
+told_quiet setup s s' (In done) news a b stay quiet none = λ o ups downs p.
+    subst (λ (x : ℕ × (ℕ → List PlayerCommand)). Plays setup x.0 x.1 done o ups (downs ++ news)) (λ i. (sym a i, sym b i))
+    (plays_posted setup s.released s.kept done o ups downs news p (quiet.good s.released s.kept) quiet.none)
 
-pub told_all : (setup : Setup) (s s' : Server) (st : Status) (x : Down) → Stay s s' → ((done : ℕ) (o : Seat) (ups : List Up) (downs : List Down) → st ≡ In done → Plays setup s.released s.kept done o ups downs → Plays setup s'.released s'.kept done o ups (downs ++ x ∷ [])) → Told setup s s' st (if is_in st then x ∷ [] else [])
+pub told_all : (setup : Setup) (s s' : Server) (st : Status) (x : Down) → Stay s s'
+    → ((done : ℕ) (o : Seat) (ups : List Up) (downs : List Down) → st ≡ In done → Plays setup s.released s.kept done o ups downs → Plays setup s'.released s'.kept done o ups (downs ++ x ∷ []))
+    → Told setup s s' st (if is_in st then x ∷ [] else [])
 told_all setup s s' Out x stay h = refl
 told_all setup s s' (Waiting j) x stay h = (refl, stay j)
 told_all setup s s' (In done) x stay h = λ o ups downs p. h done o ups downs refl p
@@ -131,15 +148,18 @@ quiet_asks setup [] = quiet_none setup
 quiet_asks setup (j ∷ who) = let rest = quiet_asks setup who in record { good = λ r k l. rest.good r k l; none = λ t. rest.none t }
 
 -- a release is told to those that are in, where it is one
-pub release_is : (status : ℕ → Status) (r r' d : ℕ) → release {B = Past} status r r' d ≡ (if nat_lt r r' && is_in (status d) then down.Release r' ∷ [] else [])
+pub release_is : (status : ℕ → Status) (r r' d : ℕ)
+    → release {B = Past} status r r' d ≡ (if nat_lt r r' && is_in (status d) then down.Release r' ∷ [] else [])
 release_is status r r' d = by (nat_lt r r')
   where
-    by : (b : Bool) → (if b then to_all {B = Past} status (down.Release r') else nobody) d ≡ (if b && is_in (status d) then down.Release r' ∷ [] else [])
+    by : (b : Bool)
+        → (if b then to_all {B = Past} status (down.Release r') else nobody) d ≡ (if b && is_in (status d) then down.Release r' ∷ [] else [])
     by true = refl
     by false = refl
 
 -- released turns rise
-pub told_raised : (setup : Setup) (s : Server) (d : ℕ) → ((c : ℕ) → is_client setup c ≡ false → s.status c ≡ Out) → Told setup s (raised (rules_of setup) s) (s.status d) (release s.status s.released (raised (rules_of setup) s).released d)
+pub told_raised : (setup : Setup) (s : Server) (d : ℕ) → ((c : ℕ) → is_client setup c ≡ false → s.status c ≡ Out)
+    → Told setup s (raised (rules_of setup) s) (s.status d) (release s.status s.released (raised (rules_of setup) s).released d)
 told_raised setup s d inside =
     subst (λ (l : List Down). Told setup s (raised (rules_of setup) s) (s.status d) l) (sym (release_is s.status s.released r' d)) (by (s.status d) refl (nat_lt s.released r') refl)
   where
@@ -153,13 +173,17 @@ told_raised setup s d inside =
     least : (done : ℕ) → s.status d ≡ In done → s.released ≤ done → r' ≤ done
     least done e le = raised_le s.status setup s.released d done (client done e (is_client setup d) refl) e le
 
-    by : (st : Status) → s.status d ≡ st → (b : Bool) → nat_lt s.released r' ≡ b → Told setup s (raised (rules_of setup) s) st (if b && is_in st then down.Release r' ∷ [] else [])
+    by : (st : Status) → s.status d ≡ st → (b : Bool) → nat_lt s.released r' ≡ b
+        → Told setup s (raised (rules_of setup) s) st (if b && is_in st then down.Release r' ∷ [] else [])
     by Out e true f = refl
     by Out e false f = refl
     by (Waiting j) e true f = (refl, λ x. x)
     by (Waiting j) e false f = (refl, λ x. x)
-    by (In done) e true f = λ o ups downs p. plays_released setup s.released r' s.kept done o ups downs (raised_more s.released (least_done s.status setup.players)) (least done e p.low) p
-    by (In done) e false f = λ o ups downs p. plays_told setup s.released r' s.kept s.kept done o ups downs [] p (record { more = raised_more s.released (least_done s.status setup.players); final = λ t h. refl }) (least done e p.low) (λ l h. tt) (λ t. append-nil (s.kept t))
+    by (In done) e true f = λ o ups downs p.
+        plays_released setup s.released r' s.kept done o ups downs (raised_more s.released (least_done s.status setup.players)) (least done e p.low) p
+    by (In done) e false f = λ o ups downs p.
+        plays_told setup s.released r' s.kept s.kept done o ups downs [] p
+        (record { more = raised_more s.released (least_done s.status setup.players); final = λ t h. refl }) (least done e p.low) (λ l h. tt) (λ t. append-nil (s.kept t))
 
 -- ---- one arrival
 
@@ -168,14 +192,16 @@ pub record Goes (setup : Setup) (s s' : Server) (news : List Down) (d : ℕ) : T
   pub same : s'.status d ≡ s.status d
   pub told : Told setup s s' (s.status d) news
 
-pub fits_goes : (setup : Setup) (s s' : Server) (news : List Down) (d : ℕ) (ph : Phase) (ups : List Up) (downs : List Down) → Goes setup s s' news d → Fits setup s (s.status d) ph ups downs → Fits setup s' (s'.status d) ph ups (downs ++ news)
+pub fits_goes : (setup : Setup) (s s' : Server) (news : List Down) (d : ℕ) (ph : Phase) (ups : List Up) (downs : List Down) → Goes setup s s' news d
+    → Fits setup s (s.status d) ph ups downs → Fits setup s' (s'.status d) ph ups (downs ++ news)
 fits_goes setup s s' news d ph ups downs g h = subst (λ (st : Status). Fits setup s' st ph ups (downs ++ news)) (sym g.same) (fits_told setup s s' (s.status d) news ph ups downs g.told h)
 
 pub goes_nothing : (setup : Setup) (s : Server) (d : ℕ) → Goes setup s s [] d
 goes_nothing setup s d = record { same = refl; told = told_quiet setup s s (s.status d) [] refl refl (λ j h. h) (quiet_none setup) (λ e. refl) }
 
 -- quiet messages to one client that is In
-pub goes_one : (setup : Setup) (s s' : Server) (c d : ℕ) (news : List Down) → s'.released ≡ s.released → s'.kept ≡ s.kept → Stay s s' → s'.status d ≡ s.status d → is_in (s.status c) ≡ true → IsQuiet setup news → Goes setup s s' (if d == c then news else []) d
+pub goes_one : (setup : Setup) (s s' : Server) (c d : ℕ) (news : List Down) → s'.released ≡ s.released → s'.kept ≡ s.kept → Stay s s'
+    → s'.status d ≡ s.status d → is_in (s.status c) ≡ true → IsQuiet setup news → Goes setup s s' (if d == c then news else []) d
 goes_one setup s s' c d news a b stay same here quiet = by (cases_eq d c)
   where
     out : List Down
@@ -185,13 +211,20 @@ goes_one setup s s' c d news a b stay same here quiet = by (cases_eq d c)
     by (inl e) =
         let now : out ≡ news = cond-true _ news [] (eq-eqb d c e) in
         let in_here : is_in (s.status d) ≡ true = subst (λ x. is_in (s.status x) ≡ true) (sym e) here in
-        record { same = same; told = told_quiet setup s s' (s.status d) out a b stay (subst (λ (l : List Down). IsQuiet setup l) (sym now) quiet) (λ f. absurd (true≢false (sym in_here ∙ f))) }
+        record {
+          same = same;
+          told = told_quiet setup s s' (s.status d) out a b stay (subst (λ (l : List Down). IsQuiet setup l) (sym now) quiet) (λ f. absurd (true≢false (sym in_here ∙ f)));
+        }
     by (inr apart) =
         let now : out ≡ [] = cond-false _ news [] (ne_eqb d c apart) in
-        record { same = same; told = told_quiet setup s s' (s.status d) out a b stay (subst (λ (l : List Down). IsQuiet setup l) (sym now) (quiet_none setup)) (λ f. now) }
+        record {
+          same = same;
+          told = told_quiet setup s s' (s.status d) out a b stay (subst (λ (l : List Down). IsQuiet setup l) (sym now) (quiet_none setup)) (λ f. now);
+        }
 
 -- A command.
-pub goes_command : (setup : Setup) (s : Server) (c t d done : ℕ) (x : Command) → s.status c ≡ In done → s.released ≤ done → Goes setup s (heard {B = Past} (rules_of setup) s (Heard c (up.Command t x))) (posts {B = Past} (rules_of setup) s (Heard c (up.Command t x)) d) d
+pub goes_command : (setup : Setup) (s : Server) (c t d done : ℕ) (x : Command) → s.status c ≡ In done → s.released ≤ done
+    → Goes setup s (heard {B = Past} (rules_of setup) s (Heard c (up.Command t x))) (posts {B = Past} (rules_of setup) s (Heard c (up.Command t x)) d) d
 goes_command setup s c t d done x e low = by (command_fault (rules_of setup) (s.kept t) c t (s.status c)) refl
   where
     item : PlayerCommand
@@ -206,27 +239,40 @@ goes_command setup s c t d done x e low = by (command_fault (rules_of setup) (s.
         test same true k g = let next : t ≡ suc n = eqb-true t (suc n) ((and_parts _ _ k).0) in omega arith
         test same false k g = absurd (cc)
 
-    by : (fault : Option ℕ) → command_fault (rules_of setup) (s.kept t) c t (s.status c) ≡ fault → Goes setup s (unless fault (keeps t item s) s) (refusal c fault (to_all s.status (down.Command t item)) d) d
-    by None f = record { same = refl; told = told_all setup s (keeps t item s) (s.status d) (down.Command t item) (λ j h. h) (λ n o ups downs k p. plays_kept setup s.released s.kept n o ups downs t item (above (s.status c) e f) p) }
+    by : (fault : Option ℕ) → command_fault (rules_of setup) (s.kept t) c t (s.status c) ≡ fault
+        → Goes setup s (unless fault (keeps t item s) s) (refusal c fault (to_all s.status (down.Command t item)) d) d
+    by None f =
+        record {
+          same = refl;
+          told = told_all setup s (keeps t item s) (s.status d) (down.Command t item) (λ j h. h) (λ n o ups downs k p. plays_kept setup s.released s.kept n o ups downs t item (above (s.status c) e f) p);
+        }
     by (Some code) f = goes_one setup s s c d (down.Refused code ∷ []) refl refl (λ j h. h) refl (ap is_in e) (quiet_refused setup code)
 
 -- A report.
-pub goes_report : (setup : Setup) (s : Server) (c t : ℕ) (g : List ℕ) (d : ℕ) → is_in (s.status c) ≡ true → Goes setup s (heard {B = Past} (rules_of setup) s (Heard c (up.Report t g))) (posts {B = Past} (rules_of setup) s (Heard c (up.Report t g)) d) d
+pub goes_report : (setup : Setup) (s : Server) (c t : ℕ) (g : List ℕ) (d : ℕ) → is_in (s.status c) ≡ true
+    → Goes setup s (heard {B = Past} (rules_of setup) s (Heard c (up.Report t g))) (posts {B = Past} (rules_of setup) s (Heard c (up.Report t g)) d) d
 goes_report setup s c t g d here = by (report_fault s.released t (s.status c)) (differs (s.reference t) g)
   where
     s1 : Server
     s1 = reported t g s
 
-    by : (fault : Option ℕ) (b : Bool) → Goes setup s (unless fault s1 s) (refusal c fault (if b then to_all s.status (down.Notice t c) else nobody) d) d
-    by None true = record { same = refl; told = told_all setup s s1 (s.status d) (down.Notice t c) (λ j h. h) (λ n o ups downs k p. plays_posted setup s.released s.kept n o ups downs (down.Notice t c ∷ []) p (λ l. tt) (λ u. refl)) }
+    by : (fault : Option ℕ) (b : Bool)
+        → Goes setup s (unless fault s1 s) (refusal c fault (if b then to_all s.status (down.Notice t c) else nobody) d) d
+    by None true =
+        record {
+          same = refl;
+          told = told_all setup s s1 (s.status d) (down.Notice t c) (λ j h. h) (λ n o ups downs k p. plays_posted setup s.released s.kept n o ups downs (down.Notice t c ∷ []) p (λ l. tt) (λ u. refl));
+        }
     by None false = record { same = refl; told = told_quiet setup s s1 (s.status d) [] refl refl (λ j h. h) (quiet_none setup) (λ e. refl) }
     by (Some code) b = goes_one setup s s c d (down.Refused code ∷ []) refl refl (λ j h. h) refl here (quiet_refused setup code)
 
 -- A join of a client that is not out.
-pub goes_join_again : (setup : Setup) (s : Server) (c d : ℕ) → is_out (s.status c) ≡ false → Goes setup s (heard {B = Past} (rules_of setup) s (Heard c up.Join)) (posts {B = Past} (rules_of setup) s (Heard c up.Join) d) d
+pub goes_join_again : (setup : Setup) (s : Server) (c d : ℕ) → is_out (s.status c) ≡ false
+    → Goes setup s (heard {B = Past} (rules_of setup) s (Heard c up.Join)) (posts {B = Past} (rules_of setup) s (Heard c up.Join) d) d
 goes_join_again setup s c d e = by (is_out (s.status c)) e
   where
-    by : (b : Bool) → b ≡ false → Goes setup s (if b then with_status c (seat (donor (rules_of setup) s)) s else s) ((if b then asked {B = Past} (donor (rules_of setup) s) (c ∷ []) (λ x. x == c) else nobody) d) d
+    by : (b : Bool) → b ≡ false
+        → Goes setup s (if b then with_status c (seat (donor (rules_of setup) s)) s else s) ((if b then asked {B = Past} (donor (rules_of setup) s) (c ∷ []) (λ x. x == c) else nobody) d) d
     by true f = absurd (true≢false f)
     by false f = goes_nothing setup s d
 
@@ -240,8 +286,12 @@ stay_put s c st h j e = by (cases_eq j c)
     by (inr apart) = ap is_in (put_other c st s.status j apart) ∙ e
 
 -- A state that is accepted, for a client other than the one that loads.
-pub goes_state : (setup : Setup) (s : Server) (j d entry : ℕ) (news : List Down) → (d ≡ j → ⊥) → Goes setup s (with_status j (In entry) s) (if d == j then news else []) d
+pub goes_state : (setup : Setup) (s : Server) (j d entry : ℕ) (news : List Down) → (d ≡ j → ⊥)
+    → Goes setup s (with_status j (In entry) s) (if d == j then news else []) d
 goes_state setup s j d entry news apart =
     let now : (if d == j then news else []) ≡ [] = cond-false _ news [] (ne_eqb d j apart) in
     let same : put j (In entry) s.status d ≡ s.status d = put_other j (In entry) s.status d apart in
-    record { same = same; told = told_quiet setup s (with_status j (In entry) s) (s.status d) _ refl refl (stay_put s j (In entry) (λ h. refl)) (subst (λ (l : List Down). IsQuiet setup l) (sym now) (quiet_none setup)) (λ f. now) }
+    record {
+      same = same;
+      told = told_quiet setup s (with_status j (In entry) s) (s.status d) _ refl refl (stay_put s j (In entry) (λ h. refl)) (subst (λ (l : List Down). IsQuiet setup l) (sym now) (quiet_none setup)) (λ f. now);
+    }

@@ -58,7 +58,8 @@ pub no_state_is_ever_refused : Always NoStateIsRefused
 no_state_is_ever_refused setup active steps limits few = no_state_is_refused setup (session setup active steps) limits (holds_session setup active steps few)
 
 -- what is heard in bytes is what is heard of a past
-bytes_of_past : (setup : Setup) (downs : List Down) (done : ℕ) (bytes : List ℕ) (rest : List (DownOf (List ℕ))) → map (carry_down (spelled setup)) downs ≡ down.State done bytes ∷ rest
+bytes_of_past : (setup : Setup) (downs : List Down) (done : ℕ) (bytes : List ℕ) (rest : List (DownOf (List ℕ)))
+    → map (carry_down (spelled setup)) downs ≡ down.State done bytes ∷ rest
     → (past : Past) × (others : List Down) × (downs ≡ down.State done past ∷ others) × (bytes ≡ spelled setup past)
 bytes_of_past setup [] done bytes rest e = absurd (cc)
 bytes_of_past setup (down.Ask j ∷ downs) done bytes rest e = absurd (cc)

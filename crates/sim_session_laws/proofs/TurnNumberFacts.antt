@@ -13,7 +13,8 @@ use Rattle.sim_session_laws.specs.Pipes.{dones_in, GoOn}
 use Rattle.sim_session_laws.specs.TurnNumbers.{ReleasedAreTurns, DonesAreTurns, DonesAreCounted, DonesGoOn, DonesAreNear, StateHasDone, ReleasesAreReleased, TurnsAreReleased, CarriedAreReleased, StampsAreTurns}
 use Rattle.sim_session_laws.proofs.Fitting.{good_on, fits_at, each_up_is_good, each_down_is_good, good_pasts, loads_at, plays_at, Follows}
 
-count_dones : (setup : Setup) (r : ℕ) (k : ℕ → List PlayerCommand) (from own : ℕ) (ups : List Up) → GoodUps setup r k from own ups → own ≡ from + length (dones_in ups)
+count_dones : (setup : Setup) (r : ℕ) (k : ℕ → List PlayerCommand) (from own : ℕ) (ups : List Up) → GoodUps setup r k from own ups
+    → own ≡ from + length (dones_in ups)
 count_dones setup r k from own [] h = sym h ∙ (omega arith)
 count_dones setup r k from own (up.Join ∷ ups) h = count_dones setup r k from own ups h
 count_dones setup r k from own (up.Command t x ∷ ups) h = count_dones setup r k from own ups h
@@ -21,7 +22,8 @@ count_dones setup r k from own (up.Done t ∷ ups) h = let rest = count_dones se
 count_dones setup r k from own (up.Report t g ∷ ups) h = count_dones setup r k from own ups h
 count_dones setup r k from own (up.State j t past ∷ ups) h = count_dones setup r k from own ups h.2
 
-go_on : (setup : Setup) (r : ℕ) (k : ℕ → List PlayerCommand) (from own : ℕ) (ups : List Up) → GoodUps setup r k from own ups → GoOn from (dones_in ups)
+go_on : (setup : Setup) (r : ℕ) (k : ℕ → List PlayerCommand) (from own : ℕ) (ups : List Up) → GoodUps setup r k from own ups
+    → GoOn from (dones_in ups)
 go_on setup r k from own [] h = tt
 go_on setup r k from own (up.Join ∷ ups) h = go_on setup r k from own ups h
 go_on setup r k from own (up.Command t x ∷ ups) h = go_on setup r k from own ups h
@@ -29,12 +31,14 @@ go_on setup r k from own (up.Done t ∷ ups) h = (h.0, go_on setup r k t own ups
 go_on setup r k from own (up.Report t g ∷ ups) h = go_on setup r k from own ups h
 go_on setup r k from own (up.State j t past ∷ ups) h = go_on setup r k from own ups h.2
 
-dones_of : (setup : Setup) (s : Server) (done : ℕ) (ph : Phase) (ups : List Up) (downs : List Down) → Fits setup s (In done) ph ups downs → (s.released ≤ done) × (done ≤ setup.turns)
+dones_of : (setup : Setup) (s : Server) (done : ℕ) (ph : Phase) (ups : List Up) (downs : List Down) → Fits setup s (In done) ph ups downs
+    → (s.released ≤ done) × (done ≤ setup.turns)
 dones_of setup s done Off ups downs h = absurd h
 dones_of setup s done Joining ups downs h = (h.soon.low, h.soon.high)
 dones_of setup s done (On o) ups downs h = (h.low, h.high)
 
-state_done : (setup : Setup) (s : Server) (ups : List Up) (downs rest : List Down) (done first : ℕ) (past : Past) → downs ≡ down.State first past ∷ rest → Loads setup s.released s.kept done ups downs → first ≡ done
+state_done : (setup : Setup) (s : Server) (ups : List Up) (downs rest : List Down) (done first : ℕ) (past : Past)
+    → downs ≡ down.State first past ∷ rest → Loads setup s.released s.kept done ups downs → first ≡ done
 state_done setup s ups downs rest done first past at h = let f = h.first in cc
 
 pub released_are_turns : Follows ReleasedAreTurns

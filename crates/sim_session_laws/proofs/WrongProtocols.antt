@@ -54,7 +54,8 @@ hasty_is_ahead : DonesAreTurns three (hasty (opened three 3) two_are_done) → �
 hasty_is_ahead law = let low : 3 ≤ 2 = (law 3 2 refl).0 in omega arith
 
 -- and so a command of a released turn comes, and what is kept of it is not final
-hasty_is_not_final : ((t : ℕ) → t ≤ (hasty (opened three 3) two_are_done).server.released → (hasty (opened three 3) (two_are_done ++ step.Order 3 Resign ∷ step.Up 3 ∷ [])).server.kept t ≡ (hasty (opened three 3) two_are_done).server.kept t) → ⊥
+hasty_is_not_final : let s = hasty (opened three 3) two_are_done in let more = hasty (opened three 3) (two_are_done ++ step.Order 3 Resign ∷ step.Up 3 ∷ []) in
+    ((t : ℕ) → t ≤ s.server.released → more.server.kept t ≡ s.server.kept t) → ⊥
 hasty_is_not_final law = let taken : resigns 3 ∷ [] ≡ [] = law 3 (omega arith) in cc
 
 -- ---- a server that hands a state on without the commands that it kept above its turn

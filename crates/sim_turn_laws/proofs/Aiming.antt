@@ -50,7 +50,8 @@ module _ (least : ℕ) (setup : Setup) (state : State) (valid : IsState least se
   pub with_targets_is_state : IsState least setup (with_targets setup state)
   with_targets_is_state = mapped_is_state least least setup state (λ (row : Row). looking setup state row (is_idle row) (arms_of setup row)) valid (λ row t h e v. by row t v (is_idle row) (arms_of setup row))
     where
-      by : (row : Row) (t : Template) → IsValidRow least setup state.rows row t → (idle : Bool) (arms : Option Arms) → Stays least setup state.rows row (looking setup state row idle arms) t
+      by : (row : Row) (t : Template) → IsValidRow least setup state.rows row t → (idle : Bool) (arms : Option Arms)
+          → Stays least setup state.rows row (looking setup state row idle arms) t
       by row t v true (Some arms) = aimed_at_stays least setup state.rows row t v (target_for setup state row arms) (target_for_is_target setup state row arms)
       by row t v true None = same_stays least setup state.rows row t v
       by row t v false arms = same_stays least setup state.rows row t v

@@ -34,7 +34,8 @@ use Rattle.sim_turn_laws.proofs.RowWise.{Stays, mapped_is_state}
 use Rattle.sim_turn_laws.proofs.Removing.{IsTarget, aimed_at_is_valid, same_stays, turned_on_stays, released_stays, removed_all_is_state}
 
 -- a template of a known number is one of the match
-pub known_template : (setup : Setup) (number : ℕ) (t : Template) → IsSetup setup → slice_get setup.templates number ≡ Some t → IsTemplate (length setup.templates) t
+pub known_template : (setup : Setup) (number : ℕ) (t : Template) → IsSetup setup → slice_get setup.templates number ≡ Some t
+    → IsTemplate (length setup.templates) t
 known_template setup number t limits e =
     subst (IsTemplate (length setup.templates)) (get_or_from_slice_get setup.templates number t t e)
     (limits.templates number t (slice_get_within setup.templates number t e))
@@ -67,23 +68,28 @@ module _ (least : ℕ) (setup : Setup) (limits : IsSetup setup) (state : State) 
       (λ holds. let (own, named) = and_parts (row.owner == player) (list_any (λ (id : ℕ). id == row.id) ids) holds in each row t h (eqb-true row.owner player own) e v)
       (λ fails. same_stays least setup state.rows row t v))
 
-  sent_stays : (p : Point) → IsInside setup p → (row : Row) (t : Template) → IsValidRow least setup state.rows row t → Stays least setup state.rows row (sent p row) t
+  sent_stays : (p : Point) → IsInside setup p → (row : Row) (t : Template) → IsValidRow least setup state.rows row t
+      → Stays least setup state.rows row (sent p row) t
   sent_stays p inside row t v = by row.motion v
     where
-      going : (o : Option ℤ) (m : Motion) → Both (Some m) o (λ m s. IsValidMotion setup m) → Both (Some (Going p [] false)) o (λ m s. IsValidMotion setup m)
+      going : (o : Option ℤ) (m : Motion) → Both (Some m) o (λ m s. IsValidMotion setup m)
+          → Both (Some (Going p [] false)) o (λ m s. IsValidMotion setup m)
       going None m h = h
       going (Some speed) m h = (inside, All-nil (IsInside setup), omega arith)
 
-      by : (m : Option Motion) → IsValidRow least setup state.rows (record row { motion = m }) t → Stays least setup state.rows (record row { motion = m }) (sent p (record row { motion = m })) t
+      by : (m : Option Motion) → IsValidRow least setup state.rows (record row { motion = m }) t
+          → Stays least setup state.rows (record row { motion = m }) (sent p (record row { motion = m })) t
       by None w = same_stays least setup state.rows (record row { motion = None }) t w
       by (Some m) w =
           let a = aimed_at_is_valid least setup state.rows (record row { motion = Some m }) t 0 (inl refl) w in
           record { id = refl; template = refl; valid = record { at = w.at; owner = w.owner; health = w.health; motion = going t.speed m w.motion; attack = a.attack } }
 
-  set_on_stays : (target : ℕ) (row : Row) (t : Template) → IsTarget state.rows row target → IsValidRow least setup state.rows row t → Stays least setup state.rows row (set_on target row) t
+  set_on_stays : (target : ℕ) (row : Row) (t : Template) → IsTarget state.rows row target → IsValidRow least setup state.rows row t
+      → Stays least setup state.rows row (set_on target row) t
   set_on_stays target row t may v = by row.attack v
     where
-      by : (a : Option Aim) → IsValidRow least setup state.rows (record row { attack = a }) t → Stays least setup state.rows (record row { attack = a }) (set_on target (record row { attack = a })) t
+      by : (a : Option Aim) → IsValidRow least setup state.rows (record row { attack = a }) t
+          → Stays least setup state.rows (record row { attack = a }) (set_on target (record row { attack = a })) t
       by None w = same_stays least setup state.rows (record row { attack = None }) t w
       by (Some aim) w = turned_on_stays least setup state.rows (record row { attack = Some aim }) t w target may
 
@@ -117,7 +123,8 @@ module _ (least : ℕ) (setup : Setup) (limits : IsSetup setup) (state : State) 
       )
 
   -- a new row where there is room
-  pub created_is_state : least ≤ 1 → player ≤ setup.players → (number : ℕ) (p : Point) (t : Template) → slice_get setup.templates number ≡ Some t → IsInside setup p → has_room setup state player ≡ true →
+  pub created_is_state : least ≤ 1 → player ≤ setup.players → (number : ℕ) (p : Point) (t : Template) → slice_get setup.templates number ≡ Some t
+      → IsInside setup p → has_room setup state player ≡ true →
       IsState least setup (created setup state number p player)
   created_is_state low known number p t e inside room =
       let (first, capped) = and_parts (nat_lt (length state.rows) 4096 && nat_lt state.next 0x20000000) _ room in
@@ -136,13 +143,15 @@ module _ (least : ℕ) (setup : Setup) (limits : IsSetup setup) (state : State) 
       by (Some base) e = (and_parts (is_inside (size_of setup.land) p) _ e).0
 
   -- what is trained is of a known template
-  pub trained_template : (building : Option Template) (number : ℕ) (o : Option Template) → trains building number o ≡ true → (t : Template) × (o ≡ Some t)
+  pub trained_template : (building : Option Template) (number : ℕ) (o : Option Template) → trains building number o ≡ true
+      → (t : Template) × (o ≡ Some t)
   trained_template (Some building) number (Some t) holds = (t, refl)
   trained_template (Some building) number None holds = absurd (cc)
   trained_template None number o holds = absurd (cc)
 
   module _ (low : least ≤ 1) (known : player ≤ setup.players) where
-    placed_on_is_state : (number : ℕ) (t : Template) → slice_get setup.templates number ≡ Some t → has_room setup state player ≡ true → (p : Point) → IsState least setup (placed_on setup state player number (spot setup state p))
+    placed_on_is_state : (number : ℕ) (t : Template) → slice_get setup.templates number ≡ Some t → has_room setup state player ≡ true → (p : Point)
+        → IsState least setup (placed_on setup state player number (spot setup state p))
     placed_on_is_state number t e room p = by (spot setup state p) refl
       where
         by : (o : Option Cell) → spot setup state p ≡ o → IsState least setup (placed_on setup state player number o)
@@ -155,14 +164,16 @@ module _ (least : ℕ) (setup : Setup) (limits : IsSetup setup) (state : State) 
         let c = building.owner == player && trains (template_of setup building) number (slice_get setup.templates number) && has_room setup state player in
         ⊎_elim (λ (holds : c ≡ true). rw holds (yes_case holds)) (λ (fails : c ≡ false). rw fails valid) (cases_Bool c)
       where
-        yes_case : (building.owner == player && trains (template_of setup building) number (slice_get setup.templates number) && has_room setup state player) ≡ true → IsState least setup (placed_on setup state player number (spot setup state building.at))
+        yes_case : (building.owner == player && trains (template_of setup building) number (slice_get setup.templates number) && has_room setup state player) ≡ true
+            → IsState least setup (placed_on setup state player number (spot setup state building.at))
         yes_case holds =
             let (first, room) = and_parts (building.owner == player && trains (template_of setup building) number (slice_get setup.templates number)) (has_room setup state player) holds in
             let (own, can) = and_parts (building.owner == player) (trains (template_of setup building) number (slice_get setup.templates number)) first in
             let (t, e) = trained_template (template_of setup building) number (slice_get setup.templates number) can in
             placed_on_is_state number t e room building.at
 
-    resigned_stays : (row : Row) (t : Template) → IsValidRow least setup state.rows row t → Stays least setup state.rows row (record row { owner = 0 }) t
+    resigned_stays : (row : Row) (t : Template) → IsValidRow least setup state.rows row t
+        → Stays least setup state.rows row (record row { owner = 0 }) t
     resigned_stays row t v = record { id = refl; template = refl; valid = record { at = v.at; owner = omega arith; health = v.health; motion = v.motion; attack = v.attack } }
 
     pub commanded_by_is_state : (command : Command) → IsState least setup (commanded_by setup state player command)

@@ -43,18 +43,22 @@ record IsStep (before after : Hitting) (row : Row) : Type 0 where
 rests_is_step : (so_far : Hitting) (row : Row) → IsStep so_far (rests so_far row) row
 rests_is_step so_far row = record { rows = refl; word = λ h. h }
 
-near_is_step : (setup : Setup) (so_far : Hitting) (row : Row) (aim : Aim) (arms : Arms) (o : Option Row) → IsStep so_far (strikes_near setup so_far row aim arms o) (struck row aim arms o)
+near_is_step : (setup : Setup) (so_far : Hitting) (row : Row) (aim : Aim) (arms : Arms) (o : Option Row)
+    → IsStep so_far (strikes_near setup so_far row aim arms o) (struck row aim arms o)
 near_is_step setup so_far row aim arms None = rests_is_step so_far row
 near_is_step setup so_far row aim arms (Some target) = by (is_near target.at row.at arms.range)
   where
-    by : (b : Bool) → IsStep so_far (cond b (strikes setup so_far row aim arms target) (rests so_far row)) (cond b (with_cooldown row aim arms.repeat) row)
+    by : (b : Bool)
+        → IsStep so_far (cond b (strikes setup so_far row aim arms target) (rests so_far row)) (cond b (with_cooldown row aim arms.repeat) row)
     by true = record { rows = refl; word = λ h. mod_below (so_far.word * 0x5DEECE66D + 0xB) (2 ^ 48) (omega arith) }
     by false = rests_is_step so_far row
 
-fights_is_step : (setup : Setup) (state : State) (so_far : Hitting) (row : Row) (a : Option Aim) (b : Option Arms) → IsStep so_far (fights setup state so_far row a b) (fought_by state row a b)
+fights_is_step : (setup : Setup) (state : State) (so_far : Hitting) (row : Row) (a : Option Aim) (b : Option Arms)
+    → IsStep so_far (fights setup state so_far row a b) (fought_by state row a b)
 fights_is_step setup state so_far row (Some aim) (Some arms) = by (aim.cooldown == 0)
   where
-    by : (b : Bool) → IsStep so_far (cond b (strikes_near setup so_far row aim arms (row_of state aim.target)) (rests so_far (with_cooldown row aim (aim.cooldown - 1))))
+    by : (b : Bool)
+        → IsStep so_far (cond b (strikes_near setup so_far row aim arms (row_of state aim.target)) (rests so_far (with_cooldown row aim (aim.cooldown - 1))))
         (cond b (struck row aim arms (row_of state aim.target)) (with_cooldown row aim (aim.cooldown - 1)))
     by true = near_is_step setup so_far row aim arms (row_of state aim.target)
     by false = rests_is_step so_far (with_cooldown row aim (aim.cooldown - 1))
@@ -95,7 +99,8 @@ module _ (setup : Setup) (state : State) where
 -- ---- the rows stay valid
 
 module _ (least : ℕ) (setup : Setup) (rows : List Row) (row : Row) (t : Template) where
-  with_cooldown_is_valid : (aim : Aim) (arms : Arms) (cooldown : ℕ) → row.attack ≡ Some aim → t.arms ≡ Some arms → cooldown ≤ arms.repeat → IsValidRow least setup rows row t → IsValidRow least setup rows (with_cooldown row aim cooldown) t
+  with_cooldown_is_valid : (aim : Aim) (arms : Arms) (cooldown : ℕ) → row.attack ≡ Some aim → t.arms ≡ Some arms → cooldown ≤ arms.repeat
+      → IsValidRow least setup rows row t → IsValidRow least setup rows (with_cooldown row aim cooldown) t
   with_cooldown_is_valid aim arms cooldown is_aim is_arms within v =
       record { at = v.at; owner = v.owner; health = v.health; motion = v.motion; attack = subst (λ (o : Option Arms). Both (Some (record aim { cooldown = cooldown })) o (IsValidAim rows row.id)) (sym is_arms) ok }
     where
@@ -105,19 +110,23 @@ module _ (least : ℕ) (setup : Setup) (rows : List Row) (row : Row) (t : Templa
       ok : IsValidAim rows row.id (record aim { cooldown = cooldown }) arms
       ok = let h = both row.attack t.arms is_aim is_arms v.attack in record { target = h.target; cooldown = within; hold = h.hold }
 
-  pub waits : (aim : Aim) (arms : Arms) → row.attack ≡ Some aim → t.arms ≡ Some arms → IsValidRow least setup rows row t → IsValidAim rows row.id aim arms
+  pub waits : (aim : Aim) (arms : Arms) → row.attack ≡ Some aim → t.arms ≡ Some arms → IsValidRow least setup rows row t
+      → IsValidAim rows row.id aim arms
   waits aim arms e f v = subst (λ (o : Option Aim). Both o (Some arms) (IsValidAim rows row.id)) e (subst (λ (o : Option Arms). Both row.attack o (IsValidAim rows row.id)) f v.attack)
 
-pub fought_stays : (least : ℕ) (setup : Setup) (state : State) (row : Row) (t : Template) → template_of setup row ≡ Some t → IsValidRow least setup state.rows row t → Stays least setup state.rows row (fought setup state row) t
+pub fought_stays : (least : ℕ) (setup : Setup) (state : State) (row : Row) (t : Template) → template_of setup row ≡ Some t
+    → IsValidRow least setup state.rows row t → Stays least setup state.rows row (fought setup state row) t
 fought_stays least setup state row t e v = by row.attack (arms_of setup row) refl arms_are
   where
     arms_are : arms_of setup row ≡ t.arms
     arms_are = ap (λ (o : Option Template). option_and_then (λ (u : Template). u.arms) o) e
 
-    waiting : (aim : Aim) (arms : Arms) (cooldown : ℕ) → row.attack ≡ Some aim → t.arms ≡ Some arms → cooldown ≤ arms.repeat → Stays least setup state.rows row (with_cooldown row aim cooldown) t
+    waiting : (aim : Aim) (arms : Arms) (cooldown : ℕ) → row.attack ≡ Some aim → t.arms ≡ Some arms → cooldown ≤ arms.repeat
+        → Stays least setup state.rows row (with_cooldown row aim cooldown) t
     waiting aim arms cooldown f g within = record { id = refl; template = refl; valid = with_cooldown_is_valid least setup state.rows row t aim arms cooldown f g within v }
 
-    struck_stays : (aim : Aim) (arms : Arms) → row.attack ≡ Some aim → t.arms ≡ Some arms → (o : Option Row) → Stays least setup state.rows row (struck row aim arms o) t
+    struck_stays : (aim : Aim) (arms : Arms) → row.attack ≡ Some aim → t.arms ≡ Some arms → (o : Option Row)
+        → Stays least setup state.rows row (struck row aim arms o) t
     struck_stays aim arms f g None = same_stays least setup state.rows row t v
     struck_stays aim arms f g (Some target) =
         cond_both (is_near target.at row.at arms.range) (with_cooldown row aim arms.repeat) row (λ (new : Row). Stays least setup state.rows row new t)
@@ -131,7 +140,8 @@ fought_stays least setup state row t e v = by row.attack (arms_of setup row) ref
     by (Some aim) None f g = same_stays least setup state.rows row t v
     by None b f g = same_stays least setup state.rows row t v
 
-pub hurt_stays : (setup : Setup) (rows : List Row) (row new : Row) (t : Template) (hits : List Hit) → Stays 0 setup rows row new t → Stays 0 setup rows row (hurt hits new) t
+pub hurt_stays : (setup : Setup) (rows : List Row) (row new : Row) (t : Template) (hits : List Hit) → Stays 0 setup rows row new t
+    → Stays 0 setup rows row (hurt hits new) t
 hurt_stays setup rows row new t hits s =
     record {
       id = s.id;
@@ -139,13 +149,15 @@ hurt_stays setup rows row new t hits s =
       valid = record { at = s.valid.at; owner = s.valid.owner; health = by new.health t.health s.valid.health; motion = s.valid.motion; attack = s.valid.attack };
     }
   where
-    by : (a b : Option ℤ) → Both a b (λ h m. (pos 0 ≤ℤ h) × (h ≤ℤ m)) → Both (option_map (λ (health : ℤ). int_max (health -ℤ pos (taken_from new.id hits)) (pos 0)) a) b (λ h m. (pos 0 ≤ℤ h) × (h ≤ℤ m))
+    by : (a b : Option ℤ) → Both a b (λ h m. (pos 0 ≤ℤ h) × (h ≤ℤ m))
+        → Both (option_map (λ (health : ℤ). int_max (health -ℤ pos (taken_from new.id hits)) (pos 0)) a) b (λ h m. (pos 0 ≤ℤ h) × (h ≤ℤ m))
     by None None h = tt
     by None (Some most) h = absurd h
     by (Some health) None h = absurd h
     by (Some health) (Some most) h = (omega (arith, ints, clamps, h.0, h.1), omega (arith, ints, clamps, h.0, h.1))
 
-pub with_word : (least : ℕ) (setup : Setup) (state : State) (word : ℕ) → word < 2 ^ 48 → IsState least setup state → IsState least setup (record state { word = word })
+pub with_word : (least : ℕ) (setup : Setup) (state : State) (word : ℕ) → word < 2 ^ 48 → IsState least setup state
+    → IsState least setup (record state { word = word })
 with_word least setup state word h v = record { turn = v.turn; next = v.next; word = h; few = v.few; ascending = v.ascending; ids = v.ids; rows = v.rows }
 
 pub hit_is_state : (setup : Setup) (state : State) → IsLooselyValid setup state → IsLooselyValid setup (hit setup state)

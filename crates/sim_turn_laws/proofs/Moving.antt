@@ -43,7 +43,8 @@ within_pos : (x cells : ℕ) → is_within (pos x) cells ≡ true → x < cells 
 within_pos x cells h = let (low, high) = and_parts (leb 0 x) (ltb x (cells * 65536)) h in ltb-true x (cells * 65536) high
 
 -- from x by a share of a difference z that leads to y
-between_at : (x y k d cells : ℕ) (z : ℤ) → pos y -ℤ pos x ≡ z → k ≤ d → x < cells * 65536 → y < cells * 65536 → is_within (pos x +ℤ int_div (z *ℤ pos k) (pos d)) cells ≡ true
+between_at : (x y k d cells : ℕ) (z : ℤ) → pos y -ℤ pos x ≡ z → k ≤ d → x < cells * 65536 → y < cells * 65536
+    → is_within (pos x +ℤ int_div (z *ℤ pos k) (pos d)) cells ≡ true
 between_at x y k d cells (pos m) e h in_x in_y = within_at (x + m * k / d) cells (omega (arith, ints, share_le m k d h, e))
 between_at x y k d cells (negsuc m) e h in_x in_y =
     let q = suc m * k / d in
@@ -55,12 +56,14 @@ between_at x y k d cells (negsuc m) e h in_x in_y =
     minus : (a b : ℕ) → b ≤ a → pos a +ℤ neg_ℤ (pos b) ≡ pos (a - b)
     minus a b h = omega (arith, ints)
 
-pub within_between : (a b : ℤ) (k d cells : ℕ) → k ≤ d → is_within a cells ≡ true → is_within b cells ≡ true → is_within (a +ℤ int_div ((b -ℤ a) *ℤ pos k) (pos d)) cells ≡ true
+pub within_between : (a b : ℤ) (k d cells : ℕ) → k ≤ d → is_within a cells ≡ true → is_within b cells ≡ true
+    → is_within (a +ℤ int_div ((b -ℤ a) *ℤ pos k) (pos d)) cells ≡ true
 within_between (pos x) (pos y) k d cells h in_a in_b = between_at x y k d cells (pos y -ℤ pos x) refl h (within_pos x cells in_a) (within_pos y cells in_b)
 within_between (pos x) (negsuc y) k d cells h in_a in_b = absurd (cc)
 within_between (negsuc x) b k d cells h in_a in_b = absurd (cc)
 
-pub toward_inside : (size : Size) (p q : Point) (budget distance : ℕ) → budget ≤ distance → is_inside size p ≡ true → is_inside size q ≡ true → is_inside size (toward p q budget distance) ≡ true
+pub toward_inside : (size : Size) (p q : Point) (budget distance : ℕ) → budget ≤ distance → is_inside size p ≡ true → is_inside size q ≡ true
+    → is_inside size (toward p q budget distance) ≡ true
 toward_inside size p q budget distance h in_p in_q =
     let (px, pz) = and_parts (is_within p.x size.width) (is_within p.z size.depth) in_p in
     let (qx, qz) = and_parts (is_within q.x size.width) (is_within q.z size.depth) in_q in
@@ -78,7 +81,8 @@ pub record IsInsideWalk (size : Size) (most : ℕ) (w : Walked) : Type 0 where
   pub way : All (In size) w.way
   pub short : length w.way ≤ most
 
-pub walked_inside : (size : Size) (most : ℕ) (way : List Point) (p : Point) (budget : ℕ) → In size p → All (In size) way → length way ≤ most → IsInsideWalk size most (walked p budget way)
+pub walked_inside : (size : Size) (most : ℕ) (way : List Point) (p : Point) (budget : ℕ) → In size p → All (In size) way → length way ≤ most
+    → IsInsideWalk size most (walked p budget way)
 walked_inside size most [] p budget at all short = record { at = at; way = all; short = short }
 walked_inside size most (q ∷ way) p budget at all short =
     let distance = root (square p q) in
@@ -87,18 +91,21 @@ walked_inside size most (q ∷ way) p budget at all short =
     (λ reached. walked_inside size most way q (budget - distance) on_q (All-tail (In size) q way all) (omega arith))
     (λ far. record { at = toward_inside size p q budget distance (omega (arith, leb-false distance budget far)) at on_q; way = all; short = short })
 
-after_walk_is_valid : (setup : Setup) (goal : Point) (whole : Bool) (way : List Point) → IsInside setup goal → All (IsInside setup) way → length way ≤ 64 → IsValidMotion setup (after_walk goal whole way)
+after_walk_is_valid : (setup : Setup) (goal : Point) (whole : Bool) (way : List Point) → IsInside setup goal → All (IsInside setup) way
+    → length way ≤ 64 → IsValidMotion setup (after_walk goal whole way)
 after_walk_is_valid setup goal true [] on all short = tt
 after_walk_is_valid setup goal false [] on all short = (on, All-nil (IsInside setup), omega arith)
 after_walk_is_valid setup goal whole (q ∷ way) on all short = (on, all, short)
 
-headed_is_valid : (setup : Setup) (p : Point) (motion : Motion) → IsInside setup p → IsValidMotion setup motion → IsValidMotion setup (headed p motion)
+headed_is_valid : (setup : Setup) (p : Point) (motion : Motion) → IsInside setup p → IsValidMotion setup motion
+    → IsValidMotion setup (headed p motion)
 headed_is_valid setup p Still on v = (on, All-nil (IsInside setup), omega arith)
 headed_is_valid setup p (Going goal way whole) on v =
     cond_both (same_point goal p) (Going goal way whole) (Going p [] false) (IsValidMotion setup) (λ same. v) (λ other. (on, All-nil (IsInside setup), omega arith))
 
 module _ (least : ℕ) (setup : Setup) (state : State) (valid : IsState least setup state) where
-  chasing_is_valid : (row : Row) (motion : Motion) (o : Option Row) → ((target : Row) → o ≡ Some target → IsInside setup target.at) → (arms : Option Arms) → IsValidMotion setup motion → IsValidMotion setup (chasing row motion o arms)
+  chasing_is_valid : (row : Row) (motion : Motion) (o : Option Row) → ((target : Row) → o ≡ Some target → IsInside setup target.at)
+      → (arms : Option Arms) → IsValidMotion setup motion → IsValidMotion setup (chasing row motion o arms)
   chasing_is_valid row motion (Some target) on (Some arms) v =
       cond_both (is_near target.at row.at arms.range) Still (headed target.at motion) (IsValidMotion setup) (λ near. tt) (λ far. headed_is_valid setup target.at motion (on target refl) v)
   chasing_is_valid row motion (Some target) on None v = v
@@ -111,7 +118,8 @@ module _ (least : ℕ) (setup : Setup) (state : State) (valid : IsState least se
       v.at
 
   module _ (row : Row) (t : Template) (v : IsValidRow least setup state.rows row t) (speed : ℤ) (has_speed : t.speed ≡ Some speed) where
-    set_motion : (at : Point) (motion : Motion) → IsInside setup at → IsValidMotion setup motion → Stays least setup state.rows row (record row { at = at; motion = Some motion }) t
+    set_motion : (at : Point) (motion : Motion) → IsInside setup at → IsValidMotion setup motion
+        → Stays least setup state.rows row (record row { at = at; motion = Some motion }) t
     set_motion at motion on ok =
         record {
           id = refl;
@@ -125,16 +133,19 @@ module _ (least : ℕ) (setup : Setup) (state : State) (valid : IsState least se
           };
         }
 
-    along_stays : (budget : ℕ) (goal : Point) (way : List Point) (whole : Bool) → IsInside setup goal → All (IsInside setup) way → length way ≤ 64 → Stays least setup state.rows row (along row budget goal way whole) t
+    along_stays : (budget : ℕ) (goal : Point) (way : List Point) (whole : Bool) → IsInside setup goal → All (IsInside setup) way → length way ≤ 64
+        → Stays least setup state.rows row (along row budget goal way whole) t
     along_stays budget goal way whole on all short =
         let w = walked_inside (size_of setup.land) 64 way row.at budget v.at all short in
         set_motion (walked row.at budget way).at (after_walk goal whole (walked row.at budget way).way) w.at (after_walk_is_valid setup goal whole (walked row.at budget way).way on w.way w.short)
 
-    along_found_stays : (budget : ℕ) (goal : Point) (way : List Point) (whole : Bool) → IsInside setup goal → All (IsInside setup) way → length way ≤ 64 → Stays least setup state.rows row (along_found row budget goal way whole) t
+    along_found_stays : (budget : ℕ) (goal : Point) (way : List Point) (whole : Bool) → IsInside setup goal → All (IsInside setup) way
+        → length way ≤ 64 → Stays least setup state.rows row (along_found row budget goal way whole) t
     along_found_stays budget goal [] whole on all short = set_motion row.at Still v.at tt
     along_found_stays budget goal (q ∷ way) whole on all short = along_stays budget goal (q ∷ way) whole on all short
 
-    moved_by_stays : (budget : ℕ) (motion : Motion) → IsValidMotion setup motion → Stays least setup state.rows row (moved_by setup state row budget motion) t
+    moved_by_stays : (budget : ℕ) (motion : Motion) → IsValidMotion setup motion
+        → Stays least setup state.rows row (moved_by setup state row budget motion) t
     moved_by_stays budget Still ok = set_motion row.at Still v.at tt
     moved_by_stays budget (Going goal [] false) ok =
         let field = field_of setup state in
@@ -143,14 +154,16 @@ module _ (least : ℕ) (setup : Setup) (state : State) (valid : IsState least se
     moved_by_stays budget (Going goal [] true) ok = along_stays budget goal [] true ok.0 ok.1 ok.2
     moved_by_stays budget (Going goal (q ∷ way) whole) ok = along_stays budget goal (q ∷ way) whole ok.0 ok.1 ok.2
 
-  pub moved_row_stays : (row : Row) (t : Template) → template_of setup row ≡ Some t → IsValidRow least setup state.rows row t → Stays least setup state.rows row (moved_row setup state row row.motion (speed_of setup row)) t
+  pub moved_row_stays : (row : Row) (t : Template) → template_of setup row ≡ Some t → IsValidRow least setup state.rows row t
+      → Stays least setup state.rows row (moved_row setup state row row.motion (speed_of setup row)) t
   moved_row_stays row t e v =
       subst (λ (o : Option ℤ). Stays least setup state.rows row (moved_row setup state row row.motion o) t) (sym speed_is) (by row.motion t.speed refl v.motion)
     where
       speed_is : speed_of setup row ≡ t.speed
       speed_is = ap (λ (o : Option Template). option_and_then (λ (u : Template). u.speed) o) e
 
-      by : (m : Option Motion) (s : Option ℤ) → t.speed ≡ s → Both m s (λ motion speed. IsValidMotion setup motion) → Stays least setup state.rows row (moved_row setup state row m s) t
+      by : (m : Option Motion) (s : Option ℤ) → t.speed ≡ s → Both m s (λ motion speed. IsValidMotion setup motion)
+          → Stays least setup state.rows row (moved_row setup state row m s) t
       by None s f ok = same_stays least setup state.rows row t v
       by (Some motion) None f ok = same_stays least setup state.rows row t v
       by (Some motion) (Some speed) f ok =

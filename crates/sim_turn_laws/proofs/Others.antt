@@ -24,13 +24,15 @@ use Rattle.sim_turn_laws.proofs.Removing.{let_go, others, removed_all, left_all}
 use Rattle.sim_turn_laws.proofs.Turning.{command_keeps_loose}
 
 -- a row stays as it is where another one leaves that is not its target
-left_alone : (id : ℕ) (state : State) (row : Row) → Has state.rows row → (row.id ≡ id → ⊥) → (target_of row ≡ id → ⊥) → Has (removed id state).rows row
+left_alone : (id : ℕ) (state : State) (row : Row) → Has state.rows row → (row.id ≡ id → ⊥) → (target_of row ≡ id → ⊥)
+    → Has (removed id state).rows row
 left_alone id state row h other elsewhere =
     let passes : others id row ≡ true = ap not (ne_eqb row.id id other) in
     let same : let_go id row ≡ row = ap (λ (b : Bool). cond b (released row) row) (ne_eqb (target_of row) id elsewhere) in
     subst (Has (removed id state).rows) same (Has-map (let_go id) (filter (others id) state.rows) row (Has-filter (others id) state.rows row h passes))
 
-all_left_alone : (ids : List ℕ) (state : State) (row : Row) → Has state.rows row → (Has ids row.id → ⊥) → (Has ids (target_of row) → ⊥) → Has (removed_all state ids).rows row
+all_left_alone : (ids : List ℕ) (state : State) (row : Row) → Has state.rows row → (Has ids row.id → ⊥) → (Has ids (target_of row) → ⊥)
+    → Has (removed_all state ids).rows row
 all_left_alone [] state row h other elsewhere = h
 all_left_alone (id ∷ ids) state row h other elsewhere =
     all_left_alone ids (removed id state) row (left_alone id state row h (λ e. other (inl (sym e))) (λ e. elsewhere (inl (sym e)))) (λ m. other (inr m)) (λ m. elsewhere (inr m))
@@ -43,7 +45,8 @@ module _ (setup : Setup) (state : State) (valid : IsLooselyValid setup state) (p
   not_owned : (row.owner == player) ≡ false
   not_owned = ne_eqb row.owner player not_own
 
-  unchanged : (rows : List Row) (test : Row → Bool) (f : Row → Row) → Has rows row → test row ≡ false → Has (map (λ r. cond (test r) (f r) r) rows) row
+  unchanged : (rows : List Row) (test : Row → Bool) (f : Row → Row) → Has rows row → test row ≡ false
+      → Has (map (λ r. cond (test r) (f r) r) rows) row
   unchanged rows test f h e =
       let same : cond (test row) (f row) row ≡ row = ap (λ (b : Bool). cond b (f row) row) e in
       subst (Has (map (λ r. cond (test r) (f r) r) rows)) same (Has-map (λ r. cond (test r) (f r) r) rows row h)
@@ -69,7 +72,8 @@ module _ (setup : Setup) (state : State) (valid : IsLooselyValid setup state) (p
       let c = building.owner == player && trains (template_of setup building) number (slice_get setup.templates number) && has_room setup state player in
       ⊎_elim (λ (holds : c ≡ true). rw holds (placed number (spot setup state building.at))) (λ (fails : c ≡ false). rw fails here) (cases_Bool c)
 
-  deleted : (ids : List ℕ) → HasTargetIn (removed_all state (map id_of (filter (is_ordered player ids) state.rows))) → Has (removed_all state (map id_of (filter (is_ordered player ids) state.rows))).rows row
+  deleted : (ids : List ℕ) → HasTargetIn (removed_all state (map id_of (filter (is_ordered player ids) state.rows)))
+      → Has (removed_all state (map id_of (filter (is_ordered player ids) state.rows))).rows row
   deleted ids target = all_left_alone (map id_of (filter (is_ordered player ids) state.rows)) state row here not_deleted (target_stays target)
     where
       owned : (r : Row) → is_ordered player ids r ≡ true → (r.owner == player) ≡ false → ⊥
@@ -82,7 +86,8 @@ module _ (setup : Setup) (state : State) (valid : IsLooselyValid setup state) (p
           let same : q ≡ row = same_row state.rows q row (apart state.rows valid.ascending) l here e in
           owned row (ap (is_ordered player ids) (sym same) ∙ holds) not_owned
 
-      target_stays : HasTargetIn (removed_all state (map id_of (filter (is_ordered player ids) state.rows))) → Has (map id_of (filter (is_ordered player ids) state.rows)) (target_of row) → ⊥
+      target_stays : HasTargetIn (removed_all state (map id_of (filter (is_ordered player ids) state.rows)))
+          → Has (map id_of (filter (is_ordered player ids) state.rows)) (target_of row) → ⊥
       target_stays (inl none) m =
           let (q, k, e) = Has-of_map id_of (filter (is_ordered player ids) state.rows) (target_of row) m in
           let (l, holds) = Has-of_filter (is_ordered player ids) state.rows q k in
@@ -90,14 +95,16 @@ module _ (setup : Setup) (state : State) (valid : IsLooselyValid setup state) (p
           absurd (omega (arith, low.0, e, none))
       target_stays (inr some) m = by (row_of (removed_all state (map id_of (filter (is_ordered player ids) state.rows))) (target_of row)) refl some
         where
-          by : (o : Option Row) → row_of (removed_all state (map id_of (filter (is_ordered player ids) state.rows))) (target_of row) ≡ o → is_some o ≡ true → ⊥
+          by : (o : Option Row) → row_of (removed_all state (map id_of (filter (is_ordered player ids) state.rows))) (target_of row) ≡ o
+              → is_some o ≡ true → ⊥
           by None e s = absurd (cc)
           by (Some q) e s =
               let (k, is_id) = found_row (removed_all state (map id_of (filter (is_ordered player ids) state.rows))) (target_of row) q e in
               let from = left_all (map id_of (filter (is_ordered player ids) state.rows)) state q k in
               from.not_removed (subst (Has (map id_of (filter (is_ordered player ids) state.rows))) (sym is_id) m)
 
-  pub stays_there : (command : Command) → HasTargetIn (commanded_by setup state player command) → Has (commanded_by setup state player command).rows row
+  pub stays_there : (command : Command) → HasTargetIn (commanded_by setup state player command)
+      → Has (commanded_by setup state player command).rows row
   stays_there (Walk ids p) target = either (is_inside (size_of setup.land) p) (with_ordered player ids (sent p) state) (ordered ids (sent p))
   stays_there (Stop ids) target = ordered ids released
   stays_there (Attack ids enemy) target = either (is_enemy setup player (row_of state enemy)) (with_ordered player ids (set_on enemy) state) (ordered ids (set_on enemy))

@@ -30,10 +30,12 @@ abbrev pub IsTarget : List Row → Row → ℕ → Type 0
 IsTarget rows row target = (target ≡ 0) ⊎ ((target ≢ row.id) × IsTrue (has_health rows target))
 
 module _ (least : ℕ) (setup : Setup) (rows : List Row) (row : Row) (t : Template) where
-  pub aimed_at_is_valid : (target : ℕ) → IsTarget rows row target → IsValidRow least setup rows row t → IsValidRow least setup rows (aimed_at target row) t
+  pub aimed_at_is_valid : (target : ℕ) → IsTarget rows row target → IsValidRow least setup rows row t
+      → IsValidRow least setup rows (aimed_at target row) t
   aimed_at_is_valid target may h = record { at = h.at; owner = h.owner; health = h.health; motion = h.motion; attack = by row.attack t.arms h.attack }
     where
-      by : (a : Option Aim) (b : Option Arms) → Both a b (IsValidAim rows row.id) → Both (option_map (λ (aim : Aim). record aim { target = target }) a) b (IsValidAim rows row.id)
+      by : (a : Option Aim) (b : Option Arms) → Both a b (IsValidAim rows row.id)
+          → Both (option_map (λ (aim : Aim). record aim { target = target }) a) b (IsValidAim rows row.id)
       by None None v = tt
       by None (Some arms) v = absurd v
       by (Some aim) None v = absurd v
@@ -42,7 +44,8 @@ module _ (least : ℕ) (setup : Setup) (rows : List Row) (row : Row) (t : Templa
   pub halted_is_valid : IsValidRow least setup rows row t → IsValidRow least setup rows (halted row) t
   halted_is_valid h = record { at = h.at; owner = h.owner; health = h.health; motion = by row.motion t.speed h.motion; attack = h.attack }
     where
-      by : (a : Option Motion) (b : Option ℤ) → Both a b (λ m s. IsValidMotion setup m) → Both (option_map (λ (m : Motion). Still) a) b (λ m s. IsValidMotion setup m)
+      by : (a : Option Motion) (b : Option ℤ) → Both a b (λ m s. IsValidMotion setup m)
+          → Both (option_map (λ (m : Motion). Still) a) b (λ m s. IsValidMotion setup m)
       by None None v = tt
       by None (Some speed) v = absurd v
       by (Some motion) None v = absurd v
@@ -70,7 +73,8 @@ map-filter : {X Y : Type 0} (f : X → Y) (p : Y → Bool) (xs : List X) → map
 map-filter f p [] = refl
 map-filter f p (x ∷ xs) = by (p (f x)) (map-filter f p xs)
   where
-    by : (b : Bool) → map f (filter (λ x. p (f x)) xs) ≡ filter p (map f xs) → map f (cond b (x ∷ filter (λ x. p (f x)) xs) (filter (λ x. p (f x)) xs)) ≡ cond b (f x ∷ filter p (map f xs)) (filter p (map f xs))
+    by : (b : Bool) → map f (filter (λ x. p (f x)) xs) ≡ filter p (map f xs)
+        → map f (cond b (x ∷ filter (λ x. p (f x)) xs) (filter (λ x. p (f x)) xs)) ≡ cond b (f x ∷ filter p (map f xs)) (filter p (map f xs))
     by true e = ap (λ ys. f x ∷ ys) e
     by false e = e
 
@@ -131,15 +135,18 @@ module _ (least : ℕ) (setup : Setup) (state : State) (id : ℕ) (valid : IsSta
       (has_health_of rest (let_go id row) (Has-map (let_go id) left row (Has-filter (others id) state.rows row m passes)) (ap is_some (let_go-health id row) ∙ k))
 
   -- a row whose target stays, or that has none, is valid beside the rows that stay
-  valid_after : (row : Row) (t : Template) → (target_of row ≡ 0) ⊎ (target_of row ≡ id → ⊥) → IsValidRow least setup state.rows row t → IsValidRow least setup rest row t
+  valid_after : (row : Row) (t : Template) → (target_of row ≡ 0) ⊎ (target_of row ≡ id → ⊥) → IsValidRow least setup state.rows row t
+      → IsValidRow least setup rest row t
   valid_after row t elsewhere h = record { at = h.at; owner = h.owner; health = h.health; motion = h.motion; attack = by row.attack t.arms elsewhere h.attack }
     where
-      target_kept : (target : ℕ) → (target ≡ 0) ⊎ (target ≡ id → ⊥) → (target ≡ 0) ⊎ ((target ≢ row.id) × IsTrue (has_health state.rows target)) → (target ≡ 0) ⊎ ((target ≢ row.id) × IsTrue (has_health rest target))
+      target_kept : (target : ℕ) → (target ≡ 0) ⊎ (target ≡ id → ⊥) → (target ≡ 0) ⊎ ((target ≢ row.id) × IsTrue (has_health state.rows target))
+          → (target ≡ 0) ⊎ ((target ≢ row.id) × IsTrue (has_health rest target))
       target_kept target (inl none) v = inl none
       target_kept target (inr other) (inl none) = inl none
       target_kept target (inr other) (inr v) = inr (v.0, still_has_health target other v.1)
 
-      by : (a : Option Aim) (b : Option Arms) → (unwrap_or (option_map (λ (aim : Aim). aim.target) a) 0 ≡ 0) ⊎ (unwrap_or (option_map (λ (aim : Aim). aim.target) a) 0 ≡ id → ⊥) →
+      by : (a : Option Aim) (b : Option Arms)
+          → (unwrap_or (option_map (λ (aim : Aim). aim.target) a) 0 ≡ 0) ⊎ (unwrap_or (option_map (λ (aim : Aim). aim.target) a) 0 ≡ id → ⊥) →
           Both a b (IsValidAim state.rows row.id) → Both a b (IsValidAim rest row.id)
       by None None e v = tt
       by None (Some arms) e v = absurd v
@@ -174,7 +181,8 @@ module _ (least : ℕ) (setup : Setup) (state : State) (id : ℕ) (valid : IsSta
 abbrev pub removed_all : State → List ℕ → State
 removed_all = fold (λ s id. removed id s)
 
-pub removed_all_is_state : (least : ℕ) (setup : Setup) (ids : List ℕ) (state : State) → IsState least setup state → IsState least setup (removed_all state ids)
+pub removed_all_is_state : (least : ℕ) (setup : Setup) (ids : List ℕ) (state : State) → IsState least setup state
+    → IsState least setup (removed_all state ids)
 removed_all_is_state least setup [] state valid = valid
 removed_all_is_state least setup (id ∷ ids) state valid = removed_all_is_state least setup ids (removed id state) (removed_is_state least setup state id valid)
 
@@ -218,7 +226,8 @@ left_all (id ∷ ids) state row h =
 
 -- ---- those whose health is spent are gone
 
-not_spent : (health most : Option ℤ) → is_spent health ≡ false → Both health most (λ h m. (pos 0 ≤ℤ h) × (h ≤ℤ m)) → Both health most (λ h m. (pos 1 ≤ℤ h) × (h ≤ℤ m))
+not_spent : (health most : Option ℤ) → is_spent health ≡ false → Both health most (λ h m. (pos 0 ≤ℤ h) × (h ≤ℤ m))
+    → Both health most (λ h m. (pos 1 ≤ℤ h) × (h ≤ℤ m))
 not_spent None None e v = tt
 not_spent None (Some most) e v = absurd v
 not_spent (Some health) None e v = absurd v

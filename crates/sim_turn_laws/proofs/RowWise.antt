@@ -48,7 +48,8 @@ module _ (old least : ℕ) (setup : Setup) (state : State) (f : Row → Row) whe
   EachStays = (row : Row) (t : Template) → Has state.rows row → template_of setup row ≡ Some t → IsValidRow old setup state.rows row t → Stays least setup state.rows row (f row) t
 
   module _ (valid : IsState old setup state) (each : EachStays) where
-    stays : (row : Row) → Has state.rows row → (t : Template) × (template_of setup row ≡ Some t) × IsValidRow old setup state.rows row t × Stays least setup state.rows row (f row) t
+    stays : (row : Row) → Has state.rows row
+        → (t : Template) × (template_of setup row ≡ Some t) × IsValidRow old setup state.rows row t × Stays least setup state.rows row (f row) t
     stays row h =
         let (t, e, v) = known_row old setup state.rows row (all_at (IsKnownRow old setup state.rows) state.rows row valid.rows h) in
         (t, e, v, each row t h e v)

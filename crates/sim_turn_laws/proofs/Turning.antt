@@ -114,7 +114,8 @@ filter-filter : {X : Type 0} (p q : X → Bool) (xs : List X) → filter p (filt
 filter-filter p q [] = refl
 filter-filter p q (x ∷ xs) = by (q x) (filter-filter p q xs)
   where
-    by : (b : Bool) → filter p (filter q xs) ≡ filter (λ x. q x && p x) xs → filter p (cond b (x ∷ filter q xs) (filter q xs)) ≡ cond (b && p x) (x ∷ filter (λ x. q x && p x) xs) (filter (λ x. q x && p x) xs)
+    by : (b : Bool) → filter p (filter q xs) ≡ filter (λ x. q x && p x) xs
+        → filter p (cond b (x ∷ filter q xs) (filter q xs)) ≡ cond (b && p x) (x ∷ filter (λ x. q x && p x) xs) (filter (λ x. q x && p x) xs)
     by true e = rw e refl
     by false e = e
 
@@ -152,7 +153,8 @@ command_keeps_order setup state order =
 
 -- ---- a turn
 
-all_commanded : (setup : Setup) (limits : IsSetup setup) (orders : List PlayerCommand) → All (IsOrderOf setup) orders → (state : State) → IsValid setup state → IsValid setup (fold (commanded setup) state orders)
+all_commanded : (setup : Setup) (limits : IsSetup setup) (orders : List PlayerCommand) → All (IsOrderOf setup) orders → (state : State)
+    → IsValid setup state → IsValid setup (fold (commanded setup) state orders)
 all_commanded setup limits [] of_players state valid = valid
 all_commanded setup limits (order ∷ orders) of_players state valid =
     all_commanded setup limits orders (All-tail (IsOrderOf setup) order orders of_players) (commanded setup state order)
@@ -195,7 +197,8 @@ module _ (setup : Setup) (state : State) (id : ℕ) (health : ℤ) (valid : IsVa
   abbrev bend : Row → Row
   bend row = record row { health = Some health }
 
-  bend_stays : (found : Row) → row_of state id ≡ Some found → may_bend setup health (Some found) ≡ true → (row : Row) (t : Template) → Has state.rows row → template_of setup row ≡ Some t →
+  bend_stays : (found : Row) → row_of state id ≡ Some found → may_bend setup health (Some found) ≡ true → (row : Row) (t : Template)
+      → Has state.rows row → template_of setup row ≡ Some t →
       IsValidRow 1 setup state.rows row t → row.id ≡ id → Stays 1 setup state.rows row (bend row) t
   bend_stays found e may row t h known v same =
       let (m, is_id) = found_row state id found e in
@@ -204,7 +207,8 @@ module _ (setup : Setup) (state : State) (id : ℕ) (health : ℤ) (valid : IsVa
       let fits : is_health_of health row.health t.health ≡ true = subst (λ (o : Option Template). is_health_of health row.health (option_and_then (λ (u : Template). u.health) o) ≡ true) known may_row in
       record { id = refl; template = refl; valid = record { at = v.at; owner = v.owner; health = bent_health health row.health t.health fits; motion = v.motion; attack = v.attack } }
 
-  bent_is_valid : (o : Option Row) → row_of state id ≡ o → (b : Bool) → may_bend setup health o ≡ b → IsValid setup (cond b (with_row id bend state) state)
+  bent_is_valid : (o : Option Row) → row_of state id ≡ o → (b : Bool) → may_bend setup health o ≡ b
+      → IsValid setup (cond b (with_row id bend state) state)
   bent_is_valid o e false may = valid
   bent_is_valid None e true may = absurd (cc)
   bent_is_valid (Some found) e true may =
@@ -241,7 +245,8 @@ from_keeps_valid setup state (Bend id health ∷ past) limits of_players valid r
 first-turn : (setup : Setup) → (first_state setup).turn ≡ 0
 first-turn setup = by setup.first (record { turn = 0; next = 2; word = setup.seed; rows = [] })
   where
-    by : (firsts : List First) (state : State) → (fold (λ s (first : First). created setup s first.template first.at first.owner) state firsts).turn ≡ state.turn
+    by : (firsts : List First) (state : State)
+        → (fold (λ s (first : First). created setup s first.template first.at first.owner) state firsts).turn ≡ state.turn
     by [] state = refl
     by (first ∷ firsts) state = by firsts (created setup state first.template first.at first.owner) ∙ with_new-turn state first.template first.at first.owner (slice_get setup.templates first.template)
 
