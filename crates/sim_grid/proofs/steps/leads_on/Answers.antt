@@ -1,0 +1,6 @@
+use Rattle.std.proofs.Common.{sym, ◌∙◌}
+use Rattle.sim_laws.proofs.Neighbours.{neighbour-on}
+use Rattle.sim_grid.proofs.steps.leads_on.Goals as goal
+
+pub open-requires : goal.open-requires
+open-requires c = neighbour-on c.args.cells.now.size c.args.from c.in-Some.to c.args.which (sym c.neighbour.ensures ∙ c.in-Some.is)

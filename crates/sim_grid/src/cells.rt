@@ -1,0 +1,170 @@
+//! Which cells of a ground are open: one truth value for each, row by row. It stands below the grid, which keeps beside
+//! it what steps they leave.
+
+ghost use Rattle.std.specs.Prelude.{◌≡◌, ◌≢◌, ◌≤◌, ◌<◌, ◌*◌, ◌↔◌, IsTrue, IfOk, Some, None, pos, ◌+ℤ◌, ◌≤ℤ◌, true, replicate, slice_get, slice_set};
+ghost use Rattle.sim_base.specs.Steps.{IsOnGround, neighbour as neighbour_of, cell_at as cell_of_numbers, offsets};
+ghost use Rattle.sim_grid.specs.Grids.{IsGrid, IsOneOff, is_open_at, place_of};
+
+use sim_base::{Cell, OutOfMemory};
+use std::alloc::Global;
+use std::marker::Model;
+
+/// The open cells of a ground. Contracts see the ground's size, and a list of truth values by z, then x.
+#[derive(Debug, Drop)]
+pub struct Cells {
+    width: u16,
+    depth: u16,
+    cells: Vec<bool>,
+}
+
+impl Model for Cells {
+    ghost use Rattle.sim_grid.specs.Grids.{OpenCells, IsGrid};
+
+    ghost Value = { OpenCells };
+
+    ghost view = { λ g. record { size = record { width = g.width; depth = g.depth }; cells = g.cells.items } };
+
+    ghost invariant = { λ g. IsGrid (record { size = record { width = g.width; depth = g.depth }; cells = g.cells.items }) };
+}
+
+impl Cells {
+    /// The cells of a ground of so many, all open.
+    pub fn new(alloc: Global, width: u16, depth: u16) -> Result<Cells, OutOfMemory>
+        requires wide { 1 ≤ width }
+        requires narrow { width ≤ 256 }
+        requires deep { 1 ≤ depth }
+        requires shallow { depth ≤ 256 }
+        ensures { IfOk result (λ g. g ≡ record { size = record { width = width; depth = depth }; cells = replicate (width * depth) true }) }
+    {
+        let count = usize::from(width) * usize::from(depth);
+        Ok(Cells {
+            width,
+            depth,
+            cells: vec![in alloc; true; count]?,
+        })
+    }
+
+    /// How many cells the ground has from west to east.
+    pub fn width(&self) -> u16
+        ensures width { result ≡ self.now.size.width }
+        ensures grid { IsGrid self.now }
+    {
+        self.width
+    }
+
+    /// How many cells the ground has from south to north.
+    pub fn depth(&self) -> u16
+        ensures depth { result ≡ self.now.size.depth }
+        ensures grid { IsGrid self.now }
+    {
+        self.depth
+    }
+
+    /// Whether the ground has this cell.
+    pub fn has(&self, cell: Cell) -> bool
+        ensures { IsTrue result ↔ IsOnGround self.now.size cell }
+    {
+        cell.x < self.width && cell.z < self.depth
+    }
+
+    /// Whether the cell is open.
+    pub fn open(&self, cell: Cell) -> bool
+        requires { IsOnGround self.now.size cell }
+        ensures { result ≡ is_open_at self.now cell }
+    {
+        self.cells[self.place(cell)]
+    }
+
+    /// Opens or closes the cell.
+    pub fn set(&mut self, cell: Cell, free: bool)
+        requires { IsOnGround self.old.size cell }
+        ensures { self.new ≡ record self.old { cells = slice_set self.old.cells (place_of self.old.size cell) free } }
+    {
+        let place = self.place(cell);
+        self.cells[place] = free;
+    }
+
+    /// The cell beside this one in one of the eight directions: E, N, W, S, NE, NW, SW, SE.
+    pub fn neighbour(&self, cell: Cell, which: u8) -> Option<Cell>
+        requires { which < 8 }
+        ensures { result ≡ neighbour_of self.now.size cell which }
+    {
+        let (x, z) = offset(which);
+        self.cell_from(cell, x, z)
+    }
+
+    /// The cell beside this one in one of the eight directions, where the ground has it.
+    pub fn beside(&self, cell: Cell, which: u8) -> Cell
+        requires which { which < 8 }
+        requires there { neighbour_of self.now.size cell which ≢ None }
+        ensures { neighbour_of self.now.size cell which ≡ Some result }
+    {
+        let _ = &self.width;
+        let (x, z) = offset(which);
+        Cell {
+            x: moved(cell.x, x),
+            z: moved(cell.z, z),
+        }
+    }
+
+    // The cell so far east and north of this one, if the ground has it.
+    fn cell_from(&self, cell: Cell, x: i32, z: i32) -> Option<Cell>
+        requires x { IsOneOff x }
+        requires z { IsOneOff z }
+        ensures { result ≡ cell_of_numbers self.now.size (pos cell.x +ℤ x) (pos cell.z +ℤ z) }
+    {
+        self.cell_at(i32::from(cell.x) + x, i32::from(cell.z) + z)
+    }
+
+    // The cell at these two numbers, if the ground has one.
+    fn cell_at(&self, x: i32, z: i32) -> Option<Cell>
+        ensures { result ≡ cell_of_numbers self.now.size x z }
+    {
+        if 0 <= x && x < i32::from(self.width) && 0 <= z && z < i32::from(self.depth) {
+            Some(Cell {
+                x: x as u16,
+                z: z as u16,
+            })
+        } else {
+            None
+        }
+    }
+
+    /// Where the cell stands in the list.
+    pub fn place(&self, cell: Cell) -> usize
+        requires { IsOnGround self.now.size cell }
+        ensures place { result ≡ place_of self.now.size cell }
+        ensures below { result < self.now.size.width * self.now.size.depth }
+    {
+        usize::from(cell.z) * usize::from(self.width) + usize::from(cell.x)
+    }
+}
+
+// How far a direction goes east and north.
+fn offset(which: u8) -> (i32, i32)
+    requires { which < 8 }
+    ensures offset { slice_get offsets which ≡ Some result }
+    ensures x { IsOneOff result.0 }
+    ensures z { IsOneOff result.1 }
+{
+    match which {
+        0 => (1, 0),
+        1 => (0, 1),
+        2 => (-1, 0),
+        3 => (0, -1),
+        4 => (1, 1),
+        5 => (-1, 1),
+        6 => (-1, -1),
+        _ => (1, -1),
+    }
+}
+
+// A coordinate, one more, one less or as it was.
+fn moved(from: u16, by: i32) -> u16
+    requires by { IsOneOff by }
+    requires least { pos 0 ≤ℤ (pos from +ℤ by) }
+    requires most { (pos from +ℤ by) ≤ℤ pos 255 }
+    ensures { pos result ≡ pos from +ℤ by }
+{
+    (i32::from(from) + by) as u16
+}
