@@ -24,10 +24,6 @@ list_of d = option_map listed (as_array d)
 abbrev pub list_at : List ℕ → Data → Option (List Data)
 list_at key d = option_and_then list_of (get key d)
 
--- the text under a key
-abbrev pub text_at : List ℕ → Data → Option (List ℕ)
-text_at key d = option_and_then as_str (get key d)
-
 -- the whole number that a value is, if it is none below 0
 abbrev pub natural : Data → Option ℕ
 natural d = option_and_then as_u64 (as_number d)

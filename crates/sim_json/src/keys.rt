@@ -27,7 +27,8 @@ fn other_member_in(members: &Map<String, Value>, keys: &[&str]) -> bool
     false
 }
 
-fn is_among(key: &str, keys: &[&str]) -> bool
+/// Whether a text is one of these.
+pub fn is_among(key: &str, keys: &[&str]) -> bool
     ensures { result ≡ among key.now (texts_of keys.now) }
 {
     let mut rest = keys;

@@ -14,11 +14,10 @@ mod keys;
 mod kinds;
 mod values;
 
-pub use keys::other_key;
+pub use keys::{is_among, other_key};
 pub use kinds::{has_list, has_row, has_table, has_table_of, has_whole};
 pub use values::{
-    fixed, four, front_two, list_at, list_of, natural, natural_at, natural_in, text_at, two,
-    value_of,
+    fixed, four, front_two, list_at, list_of, natural, natural_at, natural_in, two, value_of,
 };
 
 #[cfg(test)]

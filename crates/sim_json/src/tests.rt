@@ -3,7 +3,7 @@
 
 use crate::{
     fixed, four, front_two, has_list, has_row, has_table, has_table_of, has_whole, list_at,
-    natural_at, natural_in, other_key, text_at, two, value_of,
+    natural_at, natural_in, other_key, two, value_of,
 };
 use serde_json::Value;
 use sim_base::Fixed;
@@ -86,8 +86,6 @@ fn tells_lists_and_keys(rt: HostRuntime) -> Result<(), Fail> {
         assert_eq!(rt; has_table_of(&value, key, 2), is_table_of_two, "at {key}");
     }
     assert_eq!(rt; has_row(&value, "row", 3), false);
-    assert_eq!(rt; text_at(&value, "text"), Some("9"));
-    assert_eq!(rt; text_at(&value, "zero"), None);
     let keys = [
         "zero", "less", "most", "least", "more", "point", "minus", "text", "row", "table", "pairs",
         "twice",

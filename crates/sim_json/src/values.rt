@@ -1,10 +1,11 @@
 //! Texts, lists and whole numbers of JSON. A reader answers None where the value is something else.
 
-ghost use Rattle.std.specs.Prelude.{◌≡◌, ◌≤◌, map, option_map, IfOk, IfSome};
+ghost use Rattle.std.specs.Prelude.{◌≡◌, ◌≤◌, None, map, option_map, IfOk, IsErr, IfSome};
+ghost use Rattle.serde_json.specs.Errors.{IsMemory};
 ghost use Rattle.serde_json.specs.View.{view};
-ghost use Rattle.sim_json.specs.Values.{value_of as value_of_bytes, list_of as list_of_data, list_at as list_at_key, text_at as text_at_key, natural as natural_of, natural_in as natural_within, natural_at as natural_at_key, fixed as fixed_of, metres as metres_of, two as two_of, four as four_of, front_two as front_two_of};
+ghost use Rattle.sim_json.specs.Values.{value_of as value_of_bytes, list_of as list_of_data, list_at as list_at_key, natural as natural_of, natural_in as natural_within, natural_at as natural_at_key, fixed as fixed_of, metres as metres_of, two as two_of, four as four_of, front_two as front_two_of};
 
-use serde_json::{Category, Value};
+use serde_json::{Category, Error, Value};
 use sim_base::{Fixed, OutOfMemory};
 use std::alloc::Global;
 
@@ -15,10 +16,18 @@ pub fn value_of(alloc: Global, bytes: &[u8]) -> Result<Option<Value>, OutOfMemor
 {
     match Value::from_slice(alloc, bytes) {
         Ok(value) => Ok(Some(value)),
-        Err(error) => match error.classify() {
-            Category::Memory => Err(OutOfMemory),
-            _ => Ok(None),
-        },
+        Err(error) => no_value(error),
+    }
+}
+
+// What comes of a text that was not read: it has no value, or memory was refused.
+fn no_value(error: Error) -> Result<Option<Value>, OutOfMemory>
+    ensures memory { IsMemory error → IsErr result }
+    ensures text { ¬ IsMemory error → result ≡ Ok None }
+{
+    match error.classify() {
+        Category::Memory => Err(OutOfMemory),
+        _ => Ok(None),
     }
 }
 
@@ -38,13 +47,6 @@ pub fn list_at<'v>(value: &'v Value, key: &str) -> Option<&'v [Value]>
     ensures { option_map (λ items. map view items.now) result ≡ list_at_key key.now (view value.now) }
 {
     list_of(value.get(key)?)
-}
-
-/// The text under a key.
-pub fn text_at<'v>(value: &'v Value, key: &str) -> Option<&'v str>
-    ensures { option_map (λ text. text.now) result ≡ text_at_key key.now (view value.now) }
-{
-    value.get(key)?.as_str()
 }
 
 /// A whole number that is not below 0.

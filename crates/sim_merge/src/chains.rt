@@ -1,6 +1,6 @@
 //! Chains of parents: the numbers of parents, and the first template whose chain has no end.
 
-ghost use Rattle.std.specs.Prelude.{◌≡◌, ◌<◌, ◌≤◌, ◌++◌, ◌∷◌, ◌==◌, true, None, Some, ℕ, List, IfOk, OnOk, MatchResult, IsOk, length, map, position, slice_get, string_bytes};
+ghost use Rattle.std.specs.Prelude.{◌≡◌, ◌<◌, ◌≤◌, ◌++◌, ◌∷◌, ◌==◌, true, None, Some, ℕ, List, IfOk, IfSome, OnOk, MatchResult, IsOk, length, map, position, slice_get, string_bytes};
 ghost use Rattle.std.specs.List.{list_any};
 ghost use Rattle.std.specs.Str.{bytes_eq};
 ghost use Rattle.sim_tree.specs.Sources.{origin_of};
@@ -72,6 +72,7 @@ pub fn parents_of(
 ) -> Result<Vec<Option<usize>>, MergeFault>
     requires few { length sources.now ≤ 256 }
     requires names { map string_bytes names.now.keys ≡ names_in (origins_of sources.now) }
+    ensures orphan { IfSome (orphan_refusal (origins_of sources.now)) (λ fault. result ≡ Err fault) }
     ensures parents { IfOk result (λ parents. parents.items ≡ parents_in (origins_of sources.now)) }
     ensures refused { MatchResult result
         (λ parents. orphan_refusal (origins_of sources.now) ≡ None)

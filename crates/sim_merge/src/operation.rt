@@ -26,7 +26,8 @@ pub fn operated_value(
     lower: Option<&Text>,
     upper: Option<&Text>,
 ) -> Result<Text, OverlayFault>
-    ensures { MatchResult result
+    ensures bad { value_by (function_of operation) (option_copied lower.entry) (option_copied upper.entry) ≡ None → result ≡ Err OverlayFault.BadOp }
+    ensures value { MatchResult result
         (λ text. value_by (function_of operation) (option_copied lower.entry) (option_copied upper.entry) ≡ Some text)
         (λ fault. IfBadOp fault (value_by (function_of operation) (option_copied lower.entry) (option_copied upper.entry) ≡ None)) }
 {
@@ -46,7 +47,8 @@ fn operate(
     lower: &str,
     upper: &str,
 ) -> Result<Text, OverlayFault>
-    ensures { MatchResult result
+    ensures bad { text_by (function_of operation) lower.now upper.now ≡ None → result ≡ Err OverlayFault.BadOp }
+    ensures value { MatchResult result
         (λ text. text_by (function_of operation) lower.now upper.now ≡ Some text)
         (λ fault. IfBadOp fault (text_by (function_of operation) lower.now upper.now ≡ None)) }
 {

@@ -37,6 +37,17 @@ unarmoured = record { hack = 0; pierce = 0; crush = 0 }
 abbrev pub unless_clash : Template → Result Template TraitFault
 unless_clash template = if is_some template.speed && is_some template.obstruct then Err Clash else Ok template
 
+-- what is refused of a tree before any memory is taken: that is, before its list of templates is read
+abbrev pub early_in : Node → Result (Unit {0}) TraitFault
+early_in root =
+    if has_known_parts root
+    then after (part_of health_part health_in root) (λ most.
+    after (part_of resist_part resist_in root) (λ levels.
+    after (part_of motion_part speed_in root) (λ speed.
+    after (part_of obstruct_part base_in root) (λ base.
+    after (part_of attack_part arms_in root) (λ arms. Ok tt)))))
+    else Err UnknownPart
+
 -- the template of a tree with known parts
 abbrev pub template_of_parts : List ℕ → Node → List (List ℕ) → Result Template TraitFault
 template_of_parts name root names =

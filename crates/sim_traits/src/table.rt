@@ -6,6 +6,7 @@ ghost use Rattle.sim_json.specs.Keys.{among, texts_of};
 ghost use Rattle.sim_tree.specs.Trees.{node_of, nodes_of, value_of, under};
 ghost use Rattle.sim_traits.specs.Table.{has_known_parts as has_known_parts_data, are_known as are_known_data, is_known as is_known_data, part_named, are_none as are_none_data, are_leaves as are_leaves_data};
 
+use sim_json::is_among;
 use sim_tree::{Child, Tree};
 
 /// Whether the root has no value, and under it stands nothing that no part has a place for.
@@ -85,17 +86,4 @@ fn are_none(children: &[Child]) -> bool
         [] => true,
         _ => false,
     }
-}
-
-fn is_among(name: &str, names: &[&str]) -> bool
-    ensures { result ≡ among name.now (texts_of names.now) }
-{
-    let mut rest = names;
-    while let [first, more @ ..] = rest {
-        if name == *first {
-            return true;
-        }
-        rest = more;
-    }
-    false
 }

@@ -1,10 +1,10 @@
 //! A whole template, part after part in the order of the table.
 
-ghost use Rattle.std.specs.Prelude.{length, IfOk};
+ghost use Rattle.std.specs.Prelude.{◌≡◌, length, IfOk, IfErr};
 ghost use Rattle.sim_base.specs.Limits.{IsTemplate};
 ghost use Rattle.sim_tree.specs.Trees.{node_of};
 ghost use Rattle.sim_traits.specs.Meets.{Meets};
-ghost use Rattle.sim_traits.specs.Parts.{template_in};
+ghost use Rattle.sim_traits.specs.Parts.{template_in, early_in};
 
 use crate::fault::TraitFault;
 use crate::parts::{arms_of, base_of, health_of, resist_of, speed_of};
@@ -33,6 +33,7 @@ pub fn template_of(
     tree: &Tree,
     names: &Library,
 ) -> Result<Template, TraitFault>
+    ensures early { IfErr (early_in (node_of tree.now)) (λ fault. result ≡ Err fault) }
     ensures answers { Meets result (template_in name.now (node_of tree.now) names.now.names) }
     ensures limits { IfOk result (IsTemplate (length names.now.names)) }
 {

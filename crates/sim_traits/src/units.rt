@@ -1,7 +1,7 @@
 //! The templates that a template trains, which is the one part that takes memory. The walk over the list ends at the
 //! first word that is no name, and at the 65th that is one.
 
-ghost use Rattle.std.specs.Prelude.{◌≡◌, ◌≤◌, ◌<◌, ◌++◌, [], ◌∷◌, true, All, length, filter, IfOk, IfSome};
+ghost use Rattle.std.specs.Prelude.{◌≡◌, ◌≤◌, ◌<◌, ◌++◌, [], ◌∷◌, true, false, All, length, filter, IfOk, IfSome};
 ghost use Rattle.std.specs.List.{filter_map};
 ghost use Rattle.sim_tree.specs.Trees.{node_of};
 ghost use Rattle.sim_tree.specs.Tokens.{is_word};
@@ -23,6 +23,7 @@ const MOST: usize = 64;
 
 /// The numbers of the templates that it trains.
 pub fn train_of(alloc: Global, root: &Tree, names: &Library) -> Result<Option<Ids>, TraitFault>
+    ensures missing { part_of train_part (train_in_node names.now.names) (node_of root.now) ≡ Err (TraitFault.Missing 6) → result ≡ Err (TraitFault.Missing 6) }
     ensures value { Meets result (part_of train_part (train_in_node names.now.names) (node_of root.now)) }
     ensures within { IfOk result (λ found. IfSome found (λ numbers. (length numbers ≤ 64) × All (λ n. n < length names.now.names) numbers)) }
 {
@@ -64,6 +65,7 @@ fn units_in(alloc: Global, text: &str, names: &Library) -> Result<Option<Ids>, O
 // Puts the number of a word behind the others, if it is a name and there is room. A part without bytes is no word.
 fn admit(numbers: &mut Ids, part: &str, names: &Library) -> Result<bool, OutOfMemory>
     ensures admitted { IfOk result (λ admitted. admitted ≡ is_admitted names.now.names (length numbers.old) part.now) }
+    ensures refused { is_admitted names.now.names (length numbers.old) part.now ≡ false → result ≡ Ok false }
     ensures numbers { result ≡ Ok true → numbers.new ≡ numbers.old ++ filter_map (number_in names.now.names) (filter is_word (part.now ∷ [])) }
 {
     if part.is_empty() {

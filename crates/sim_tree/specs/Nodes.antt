@@ -44,6 +44,15 @@ children_in ms = children_of (named_in ms)
 abbrev pub is_whole_node : Members → Bool
 is_whole_node ms = nat_le (marks_in ms) 1 && bears (mark_in ms) (own_of ms) (children_in ms)
 
+-- a value is a text, a whole number or an object
+abbrev pub has_kind : Data → Bool
+has_kind null = false
+has_kind (boolean b) = false
+has_kind (number x) = is_some (number_text x)
+has_kind (string s) = true
+has_kind (array ds) = false
+has_kind (object ms) = true
+
 abbrev mutual
   -- a value is a node
   pub is_node : Data → Bool

@@ -1,6 +1,6 @@
 //! What stands at a node itself, read from JSON: its value, its mark, and which keys of an object speak of them.
 
-ghost use Rattle.std.specs.Prelude.{◌≡◌, codes, is_some, IfOk};
+ghost use Rattle.std.specs.Prelude.{◌≡◌, codes, None, is_some, IfOk};
 ghost use Rattle.serde_json.specs.Find.{get};
 ghost use Rattle.serde_json.specs.View.{view};
 ghost use Rattle.sim_tree.specs.Leaves.{leaf_text as leaf_text_data, is_own_key as is_own_key_bytes, is_mark_key as is_mark_key_bytes, whole_mark as whole_mark_of, text_mark as text_mark_of, mark_from as mark_from_data, own_in, is_plain_member as is_plain_member_data};
@@ -14,7 +14,8 @@ use std::alloc::Global;
 
 /// A text, or a whole number in decimal.
 pub fn leaf_text(alloc: Global, value: &Value) -> Result<Option<Text>, OutOfMemory>
-    ensures { IfOk result (λ text. text ≡ leaf_text_data (view value.now)) }
+    ensures text { IfOk result (λ text. text ≡ leaf_text_data (view value.now)) }
+    ensures no_text { leaf_text_data (view value.now) ≡ None → result ≡ Ok None }
 {
     if let Some(text) = value.as_str() {
         return Ok(Some(Text::of(alloc, text)?));
@@ -30,7 +31,8 @@ pub fn leaf_text(alloc: Global, value: &Value) -> Result<Option<Text>, OutOfMemo
 
 /// The value of an object's node, which stands under `_`.
 pub fn own(alloc: Global, value: &Value) -> Result<Option<Text>, OutOfMemory>
-    ensures { IfOk result (λ text. text ≡ own_in (get (codes "_") (view value.now))) }
+    ensures text { IfOk result (λ text. text ≡ own_in (get (codes "_") (view value.now))) }
+    ensures no_text { own_in (get (codes "_") (view value.now)) ≡ None → result ≡ Ok None }
 {
     match value.get("_") {
         Some(leaf) => leaf_text(alloc, leaf),

@@ -1,11 +1,11 @@
 //! A node of a tree, read from JSON, and those below it. That the value has few levels and whole numbers alone was seen
 //! before.
 
-ghost use Rattle.std.specs.Prelude.{◌≡◌, ◌&&◌, nat_le, is_some, true, IfOk, Some, None};
+ghost use Rattle.std.specs.Prelude.{◌≡◌, ◌≢◌, ◌&&◌, nat_le, is_some, true, false, IfOk, Some, None};
 ghost use Rattle.serde_json.specs.View.{view, members_view};
 ghost use Rattle.sim_tree.specs.declared.tree.TreeMark.TheVariants.{Add, Mul, Tokens};
 ghost use Rattle.sim_tree.specs.Leaves.{leaf_text as leaf_text_data};
-ghost use Rattle.sim_tree.specs.Nodes.{mark_in as mark_in_data, marks_in, is_node, node_in, are_members, children_in};
+ghost use Rattle.sim_tree.specs.Nodes.{mark_in as mark_in_data, marks_in, has_kind, is_node, node_in, are_members, children_in};
 ghost use Rattle.sim_tree.specs.Reading.{TreeMeets, ChildrenMeet, of_kind};
 ghost use Rattle.sim_tree.specs.Trees.{node, no_children, nodes_of, node_of, bears as bears_parts, is_sound, are_sound};
 
@@ -21,6 +21,7 @@ use std::alloc::Global;
 #[cycle(node)]
 pub fn read_node(alloc: Global, value: &Value) -> Result<Tree, TreeFault>
     ensures tree { TreeMeets result (of_kind (is_node (view value.now)) (node_in (view value.now))) }
+    ensures early { has_kind (view value.now) ≡ false → result ≡ Err TreeFault.WrongKind }
     ensures sound { IfOk result (λ tree. is_sound (node_of tree) ≡ true) }
 {
     match value {
@@ -61,6 +62,7 @@ fn read_children(alloc: Global, members: &Map<String, Value>) -> Result<Vec<Chil
 // A node with a value alone.
 fn read_leaf(alloc: Global, value: &Value) -> Result<Tree, TreeFault>
     ensures tree { TreeMeets result (of_kind (is_some (leaf_text_data (view value.now))) (node (leaf_text_data (view value.now)) None no_children)) }
+    ensures early { leaf_text_data (view value.now) ≡ None → result ≡ Err TreeFault.WrongKind }
     ensures sound { IfOk result (λ tree. is_sound (node_of tree) ≡ true) }
 {
     match leaf_text(alloc, value)? {
@@ -82,6 +84,7 @@ fn finished(
     ensures tree { TreeMeets result (of_kind
         (nat_le (marks_in (members_view members.now.entries)) 1 && bears_parts (mark_in_data (members_view members.now.entries)) value (nodes_of children.items))
         (node value (mark_in_data (members_view members.now.entries)) (nodes_of children.items))) }
+    ensures memory { result ≢ Err TreeFault.OutOfMemory }
     ensures sound { are_sound (nodes_of children.items) ≡ true → IfOk result (λ tree. is_sound (node_of tree) ≡ true) }
 {
     let mark = mark_in(members);

@@ -1,8 +1,8 @@
 //! A tree read from JSON: the three refusals in their order, one walk each.
 
-ghost use Rattle.std.specs.Prelude.{◌≡◌, ◌≤◌, true, IfOk};
+ghost use Rattle.std.specs.Prelude.{◌≡◌, ◌≤◌, true, IfOk, IfSome};
 ghost use Rattle.serde_json.specs.View.{view};
-ghost use Rattle.sim_tree.specs.Reading.{TreeMeets, tree_in};
+ghost use Rattle.sim_tree.specs.Reading.{TreeMeets, tree_in, early_tree_fault};
 ghost use Rattle.sim_tree.specs.Trees.{node_of, is_sound, levels};
 
 use crate::fault::TreeFault;
@@ -16,6 +16,7 @@ impl Tree {
     /// The tree that a value is, or the first refusal that applies. `docs/FORMATS.md` has the form.
     pub fn from_json(alloc: Global, value: &Value) -> Result<Tree, TreeFault>
         ensures tree { TreeMeets result (tree_in (view value.now)) }
+        ensures early { IfSome (early_tree_fault (view value.now)) (λ fault. result ≡ Err fault) }
         ensures sound { IfOk result (λ tree. is_sound (node_of tree) ≡ true) }
         ensures levels { IfOk result (λ tree. levels (node_of tree) ≤ 32) }
     {

@@ -1,10 +1,10 @@
 //! The source of a template: what a match file says of it before its parent's tree is taken into account.
 
-ghost use Rattle.std.specs.Prelude.{◌≡◌, ◌≤◌, true, None, codes, IfOk, option_map, option_and_then};
+ghost use Rattle.std.specs.Prelude.{◌≡◌, ◌≤◌, true, None, codes, IfOk, IfSome, option_map, option_and_then};
 ghost use Rattle.serde_json.specs.Find.{get};
 ghost use Rattle.serde_json.specs.View.{view, members_view};
 ghost use Rattle.sim_tree.specs.Nodes.{children_in};
-ghost use Rattle.sim_tree.specs.Reading.{SourceMeets, ChildrenMeet, of_kind, kind_of, source_in};
+ghost use Rattle.sim_tree.specs.Reading.{SourceMeets, ChildrenMeet, of_kind, kind_of, source_in, early_source_fault};
 ghost use Rattle.sim_tree.specs.Sources.{is_root_key as is_root_key_bytes, are_root_members, name_in as name_in_data, parent_in as parent_in_data, root_in as root_in_members, origin_in};
 ghost use Rattle.sim_tree.specs.Trees.{node_of, nodes_of, mark_of, value_of, is_sound, are_sound, levels};
 
@@ -31,6 +31,7 @@ impl Source {
     #[tactic(auto, unfolding(crate::specs::Reading::source_in))]
     pub fn from_json(alloc: Global, value: &Value) -> Result<Source, TreeFault>
         ensures source { SourceMeets result (source_in (view value.now)) }
+        ensures early { IfSome (early_source_fault (view value.now)) (λ fault. result ≡ Err fault) }
         ensures sound { IfOk result (λ source. is_sound (node_of source.tree) ≡ true) }
         ensures levels { IfOk result (λ source. levels (node_of source.tree) ≤ 32) }
         ensures unmarked { IfOk result (λ source. mark_of (node_of source.tree) ≡ None) }
@@ -48,6 +49,7 @@ impl Source {
 
 fn read_source(alloc: Global, value: &Value) -> Result<Source, TreeFault>
     ensures source { SourceMeets result (kind_of (origin_in (view value.now))) }
+    ensures no_name { option_and_then name_in_data (get (codes "@name") (view value.now)) ≡ None → result ≡ Err TreeFault.WrongKind }
     ensures sound { IfOk result (λ source. is_sound (node_of source.tree) ≡ true) }
 {
     let Some(name) = name_at(alloc, value)? else {
@@ -112,7 +114,8 @@ fn is_root_key(key: &str) -> bool
 }
 
 fn name_at(alloc: Global, value: &Value) -> Result<Option<Name>, OutOfMemory>
-    ensures { IfOk result (λ name. name ≡ option_and_then name_in_data (get (codes "@name") (view value.now))) }
+    ensures name { IfOk result (λ name. name ≡ option_and_then name_in_data (get (codes "@name") (view value.now))) }
+    ensures no_name { option_and_then name_in_data (get (codes "@name") (view value.now)) ≡ None → result ≡ Ok None }
 {
     match value.get("@name") {
         Some(name) => name_in(alloc, name),
@@ -122,7 +125,8 @@ fn name_at(alloc: Global, value: &Value) -> Result<Option<Name>, OutOfMemory>
 
 // The parent's name, where there is one; or None where it is no name.
 fn parent_at(alloc: Global, value: &Value) -> Result<Option<Option<Name>>, OutOfMemory>
-    ensures { IfOk result (λ parent. parent ≡ parent_in_data (get (codes "@parent") (view value.now))) }
+    ensures parent { IfOk result (λ parent. parent ≡ parent_in_data (get (codes "@parent") (view value.now))) }
+    ensures no_name { parent_in_data (get (codes "@parent") (view value.now)) ≡ None → result ≡ Ok None }
 {
     match value.get("@parent") {
         Some(parent) => match name_in(alloc, parent)? {
@@ -134,7 +138,8 @@ fn parent_at(alloc: Global, value: &Value) -> Result<Option<Option<Name>>, OutOf
 }
 
 fn name_in(alloc: Global, value: &Value) -> Result<Option<Name>, OutOfMemory>
-    ensures { IfOk result (λ name. name ≡ name_in_data (view value.now)) }
+    ensures name { IfOk result (λ name. name ≡ name_in_data (view value.now)) }
+    ensures no_name { name_in_data (view value.now) ≡ None → result ≡ Ok None }
 {
     match value.as_str() {
         Some(text) => Name::of(alloc, text),

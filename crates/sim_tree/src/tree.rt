@@ -110,6 +110,6 @@ pub fn copy_name(alloc: Global, name: &Name) -> Result<Name, OutOfMemory>
 {
     match Name::of(alloc, name.text())? {
         Some(copied) => Ok(copied),
-        None => Err(OutOfMemory),
+        None => unreachable!(),
     }
 }
