@@ -10,16 +10,24 @@
 //! - `named`: the ids that a command names.
 //! - `ordered`: the changes of the rows that are ordered, row by row.
 //! - `planners`: the seven planners.
+//! - `kind`: the kinds of commands by their numbers.
+//! - `asks`: the help of a command, made by asking a scene.
+//! - `table`: the stored planners.
 #![tactic(auto)]
 
+mod asks;
 mod checks;
 mod help;
+mod kind;
 mod named;
 mod ordered;
 mod planners;
+mod table;
 
 pub use help::Help;
+pub use kind::kind_of;
 pub use planners::{
     attack_changes, delete_changes, place_changes, resign_changes, stop_changes, train_changes,
     walk_changes,
 };
+pub use table::{Handler, OrderTable, Planner};

@@ -101,12 +101,7 @@ fn push_set_on(changes: &mut Changes, target: u32, row: &Row) -> Result<(), OutO
 }
 
 /// The player's rows that are named leave.
-pub fn deleted(
-    alloc: Global,
-    rows: &[Row],
-    player: u8,
-    ids: &[u32],
-) -> Result<Changes, OutOfMemory>
+pub fn deleted(alloc: Global, rows: &[Row], player: u8, ids: &[u32]) -> Result<Changes, OutOfMemory>
     requires { IsNonDecreasing ids.now }
     ensures { IfOk result (λ changes. changes ≡ map (λ id. Remove id) (map id_of (filter (is_ordered_by player ids.now) rows.now))) }
 {

@@ -72,7 +72,13 @@ pub fn attack_changes(
         return Ok(Items::new(alloc));
     }
     let ids = sorted(ids)?;
-    set_on(alloc, state.rows.as_slice(), player, ids.as_slice(), *target)
+    set_on(
+        alloc,
+        state.rows.as_slice(),
+        player,
+        ids.as_slice(),
+        *target,
+    )
 }
 
 /// The changes of a delete: each named row leaves.
