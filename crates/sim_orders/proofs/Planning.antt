@@ -39,10 +39,6 @@ pub plan_obeys : (kind : ℕ) (setup : Setup) (state : State) (help : Help) (pla
     ((changes : List Change) → result ≡ Ok changes → changes ≡ command_plan_by setup state player command) → Obeys setup state player command result
 plan_obeys kind setup state help player command result given is = λ changes e. plan_is_planned kind setup state help player command changes given (is changes e)
 
--- what is said of an answer where it is one
-pub of_answer : (P : List Change → Type 0) (result : Result (List Change) OutOfMemory) (changes : List Change) → result ≡ Ok changes → IfOk result P → P changes
-of_answer P result changes e h = subst (λ (r : Result (List Change) OutOfMemory). IfOk r P) e h
-
 -- the changes of the rows that are ordered by sorted ids are those of the ids
 pub sorted_changes : (player : ℕ) (ids sorted : List ℕ) (f : Row → List Change) (rows : List Row) (state : State) (changes : List Change) → IsPermutation ids sorted → rows ≡ state.rows →
     changes ≡ flat_map (λ row. cond (is_ordered player sorted row) (f row) []) rows → changes ≡ ordered_changes player ids f state

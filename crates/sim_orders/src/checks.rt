@@ -1,12 +1,12 @@
 //! The conditions of commands: who may be attacked, what is trained, and whether there is room.
 
 ghost use Rattle.std.specs.Prelude.{◌≡◌, ◌<◌, ◌&&◌, nat_lt, length, slice_get};
-ghost use Rattle.sim_base.specs.Limits.{IsFrom, IsSetup};
+ghost use Rattle.sim_base.specs.Limits.{IsFrom, IsSetup, row_limit};
 ghost use Rattle.sim_base.specs.Rows.{row_of, template_of};
 ghost use Rattle.sim_base.specs.Validity.{IsLooselyValid};
 ghost use Rattle.sim_base.specs.Commands.{is_enemy as is_enemy_by, trains as trains_by, lists as lists_by};
 
-use sim_base::{Row, Setup, State, Template};
+use sim_base::{MAX_ROWS, Row, Setup, State, Template};
 use sim_lookup::{find_row, is_enemy_of, template_at};
 
 /// Whether the player may attack the row with this id: it is alive, has health, and is an enemy's.
@@ -47,7 +47,9 @@ fn lists(trainer: &Template, number: u16) -> bool
 
 /// Whether a row may be made for a player who has so many.
 pub fn has_room(setup: &Setup, state: &State, count: u32) -> bool
-    ensures { result ≡ (nat_lt (length state.now.rows) 4096 && nat_lt state.now.next 0x20000000 && nat_lt count setup.now.cap) }
+    ensures { result ≡ (nat_lt (length state.now.rows) row_limit && nat_lt state.now.next 0x20000000 && nat_lt count setup.now.cap) }
 {
-    state.rows.as_slice().len() < 4096 && state.next < 0x2000_0000 && count < u32::from(setup.cap)
+    state.rows.as_slice().len() < MAX_ROWS
+        && state.next < 0x2000_0000
+        && count < u32::from(setup.cap)
 }

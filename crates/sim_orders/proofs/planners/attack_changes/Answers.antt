@@ -4,7 +4,8 @@ use Rattle.std.proofs.lemmas.Bool.{cond-true}
 use Rattle.sim_base.specs.Rows.{row_of}
 use Rattle.sim_base.specs.Commands.{is_enemy}
 use Rattle.sim_plans.specs.CommandPlans.{set_on_changes, ordered_changes, command_plan_by}
-use Rattle.sim_orders.proofs.Planning.{plan_obeys, of_answer, sorted_changes}
+use Rattle.sim_plans.proofs.Answered.{of_answer}
+use Rattle.sim_orders.proofs.Planning.{plan_obeys, sorted_changes}
 use Rattle.sim_orders.proofs.planners.attack_changes.Goals as goal
 
 pub returns : goal.returns

@@ -3,7 +3,8 @@ use Rattle.std.specs.Prelude.{◌==◌}
 use Rattle.sim_base.specs.declared.state.Row.{Row}
 use Rattle.sim_base.specs.declared.change.Change.TheVariants.{Owner}
 use Rattle.sim_plans.specs.CommandPlans.{command_plan_by}
-use Rattle.sim_orders.proofs.Planning.{resigns, plan_obeys, of_answer}
+use Rattle.sim_plans.proofs.Answered.{of_answer}
+use Rattle.sim_orders.proofs.Planning.{resigns, plan_obeys}
 use Rattle.sim_orders.proofs.planners.resign_changes.Goals as goal
 
 pub returns : goal.returns

@@ -2,7 +2,8 @@ use Rattle.std.proofs.Common.{sym, ap, ◌∙◌, subst}
 use Rattle.std.specs.List.Sorted.{IsPermutation}
 use Rattle.sim_plans.specs.RowPlans.{release_changes}
 use Rattle.sim_plans.specs.CommandPlans.{command_plan_by}
-use Rattle.sim_orders.proofs.Planning.{plan_obeys, of_answer, sorted_changes}
+use Rattle.sim_plans.proofs.Answered.{of_answer}
+use Rattle.sim_orders.proofs.Planning.{plan_obeys, sorted_changes}
 use Rattle.sim_orders.proofs.planners.stop_changes.Goals as goal
 
 pub returns : goal.returns

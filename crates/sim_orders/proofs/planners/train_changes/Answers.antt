@@ -9,7 +9,8 @@ use Rattle.sim_base.specs.Commands.{trains, has_room}
 use Rattle.sim_plans.specs.CommandPlans.{command_plan_by}
 use Rattle.sim_orders.specs.Helps.{spot_for}
 use Rattle.sim_orders.proofs.Spots.{spot_small}
-use Rattle.sim_orders.proofs.Planning.{train_there, plan_obeys, of_answer}
+use Rattle.sim_plans.proofs.Answered.{of_answer}
+use Rattle.sim_orders.proofs.Planning.{train_there, plan_obeys}
 use Rattle.sim_orders.proofs.planners.train_changes.Goals as goal
 
 pub centre_of-requires-clause-x : goal.centre_of-requires-clause-x

@@ -4,7 +4,8 @@ use Rattle.std.proofs.lemmas.Bool.{cond-true}
 use Rattle.sim_base.specs.Places.{is_inside}
 use Rattle.sim_base.specs.Rows.{size_of}
 use Rattle.sim_plans.specs.CommandPlans.{sent_changes, ordered_changes, command_plan_by}
-use Rattle.sim_orders.proofs.Planning.{plan_obeys, of_answer, sorted_changes}
+use Rattle.sim_plans.proofs.Answered.{of_answer}
+use Rattle.sim_orders.proofs.Planning.{plan_obeys, sorted_changes}
 use Rattle.sim_orders.proofs.planners.walk_changes.Goals as goal
 
 pub returns : goal.returns

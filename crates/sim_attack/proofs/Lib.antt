@@ -1,0 +1,4 @@
+mod Loops
+mod Sums
+mod Fighting
+mod Nearer

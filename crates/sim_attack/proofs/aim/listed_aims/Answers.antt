@@ -1,0 +1,16 @@
+-- Each row is found by its id.
+use Rattle.std.proofs.Common.{◌≡◌, ◌<◌, List, length, get_or, sym, ap, ◌∙◌, arith}
+use Rattle.std.proofs.lemmas.List.{get_or_default}
+use Rattle.sim_base.specs.declared.state.Row.{Row}
+use Rattle.sim_base.specs.Rows.{id_of}
+use Rattle.sim_lookup.proofs.Places.{row_there}
+use Rattle.sim_attack.proofs.aim.listed_aims.Goals as goal
+
+pub push_aim-requires-clause-found : goal.push_aim-requires-clause-found
+push_aim-requires-clause-found g c =
+    let rows = c.args.scene.now.state.now.rows in
+    let n = c.loop-row.row-index in
+    let row = c.row-item.result in
+    let lt : n < length rows = omega (arith, ap (λ (rs : List Row). length rs) c.as_slice-row-items.ensures) in
+    let is : row ≡ get_or rows n row = c.row-item.is ∙ ap (λ (rs : List Row). get_or rs n row) c.as_slice-row-items.ensures in
+    row_there rows row.id n row c.requires.valid.ascending lt is (λ d. ap id_of (sym (is ∙ get_or_default rows n row d lt)))

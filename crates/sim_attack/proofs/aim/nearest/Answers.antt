@@ -1,0 +1,15 @@
+use Rattle.std.proofs.Common.{◌+◌, ◌<◌, Some, length, get_or, refl, sym, subst, arith}
+use Rattle.sim_attack.specs.declared.aim.Candidate.{Candidate}
+use Rattle.sim_attack.specs.Nearest.{StandsFor}
+use Rattle.sim_attack.proofs.Nearer.{least_first, nearer_more}
+use Rattle.sim_attack.proofs.aim.nearest.Goals as goal
+
+pub loop-id-preserved : goal.loop-id-preserved
+loop-id-preserved c =
+    let state = c.args.state.now in
+    let row = c.args.row.now in
+    let ids = c.args.ids.now in
+    let n = c.loop-id.id-index in
+    let lt : n < length ids = omega arith in
+    subst (λ (seen : Candidate). StandsFor state row (Some seen) (least_first state row (n + 1) ids)) (sym c.better.ensures)
+    (nearer_more state row ids n (get_or ids n 0) c.square_to-far.result c.loop-id.best lt refl c.square_to-far.ensures c.loop-id.invariant)

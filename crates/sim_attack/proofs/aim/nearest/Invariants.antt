@@ -1,0 +1,6 @@
+use Rattle.sim_attack.specs.Nearest.{StandsFor}
+use Rattle.sim_attack.proofs.Nearer.{least_first}
+use Rattle.sim_attack.proofs.aim.nearest.Given as goal
+
+abbrev pub invariant-loop-id : goal.invariant-loop-id
+invariant-loop-id l = StandsFor l.state l.row l.best (least_first l.state l.row l.id-index l.ids)

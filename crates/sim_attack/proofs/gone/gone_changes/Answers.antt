@@ -1,0 +1,11 @@
+use Rattle.sim_base.specs.Hit.{gone}
+use Rattle.sim_plans.specs.Plans.{gone_plan}
+use Rattle.sim_plans.proofs.Answered.{answered}
+use Rattle.sim_plans.proofs.RemovePlan.{gone_plan_is}
+use Rattle.sim_attack.proofs.gone.gone_changes.Goals as goal
+
+pub returns : goal.returns
+returns g c =
+    let setup = c.args.scene.now.setup.now in
+    let state = c.args.scene.now.state.now in
+    answered c.removals.result setup state (gone state) (gone_plan state) c.removals.ensures (gone_plan_is setup state c.requires.valid)

@@ -1,0 +1,11 @@
+use Rattle.sim_base.specs.Hit.{hit}
+use Rattle.sim_plans.specs.Plans.{hit_plan}
+use Rattle.sim_plans.proofs.Answered.{answered}
+use Rattle.sim_plans.proofs.HitPlan.{hit_plan_is}
+use Rattle.sim_attack.proofs.hit.hit_changes.Goals as goal
+
+pub returns : goal.returns
+returns g c =
+    let setup = c.args.scene.now.setup.now in
+    let state = c.args.scene.now.state.now in
+    answered c.listed_hits.result setup state (hit setup state) (hit_plan setup state) c.listed_hits.ensures (hit_plan_is setup state c.requires.valid)

@@ -1,0 +1,2 @@
+pub mod Fights
+pub mod Nearest

@@ -1,0 +1,157 @@
+//! The phase in which fighters choose their targets.
+//!
+//! All is found from the state as it was: that friends are let go first changes no place, no owner and no health.
+
+ghost use Rattle.std.specs.Prelude.{◌≡◌, ◌++◌, IfOk, OnOk, IsSome, MatchOption, Some};
+ghost use Rattle.std.specs.Result.{ForOk};
+ghost use Rattle.sim_base.specs.Limits.{IsSetup};
+ghost use Rattle.sim_base.specs.Rows.{row_of, target_of as target_by, arms_of as arms_by};
+ghost use Rattle.sim_base.specs.Validity.{IsKnownRow, IsLooselyValid};
+ghost use Rattle.sim_base.specs.Aim.{aimed, aims_at_friend as aims_at_friend_by, is_idle as is_idle_by, square_to as square_to_by};
+ghost use Rattle.sim_system.specs.Answers.{seen_from};
+ghost use Rattle.sim_plans.specs.Plans.{aim_changes_of, aim_plan, next_target};
+ghost use Rattle.sim_plans.specs.PlanLaws.{IsPlanOf};
+ghost use Rattle.sim_scene.specs.SceneWords.{Stands};
+ghost use Rattle.sim_attack.specs.Nearest.{nearest_of, better_of};
+
+use sim_base::{Changes, Ids, Items, OutOfMemory, Row, Setup, State, square};
+use sim_lookup::{arms_of, find_row, is_enemy_of, is_going, target_of};
+use sim_plans::{push_target, push_turn};
+use sim_scene::Scene;
+use sim_system::{Answer, Ask, System};
+use std::alloc::Global;
+
+/// The changes by which fighters choose their targets. They fit in order, and give the phase.
+pub fn aim_changes(alloc: Global, scene: &Scene<'_>) -> Result<Changes, OutOfMemory>
+    requires { Stands scene.now ⟦<dyn System as System>⟧ }
+    ensures { ForOk result (λ changes. IsPlanOf scene.now.setup.now scene.now.state.now changes (aimed scene.now.setup.now scene.now.state.now)) }
+{
+    listed_aims(alloc, scene)
+}
+
+// The changes of all rows, row by row.
+fn listed_aims(alloc: Global, scene: &Scene<'_>) -> Result<Changes, OutOfMemory>
+    requires { Stands scene.now ⟦<dyn System as System>⟧ }
+    ensures { IfOk result (λ changes. changes ≡ aim_plan scene.now.setup.now scene.now.state.now) }
+{
+    let mut changes = Items::new(alloc);
+    for row in scene.state.rows.as_slice() {
+        push_aim(&mut changes, scene, row)?;
+    }
+    Ok(changes)
+}
+
+// A row that aims at a friend stands still and looks for another target, and an idle one looks for one.
+fn push_aim(changes: &mut Changes, scene: &Scene<'_>, row: &Row) -> Result<(), OutOfMemory>
+    requires stands { Stands scene.now ⟦<dyn System as System>⟧ }
+    requires row { IsKnownRow 0 scene.now.setup.now scene.now.state.now.rows row.now }
+    requires found { row_of scene.now.state.now row.now.id ≡ Some row.now }
+    ensures { OnOk result (changes.new ≡ changes.old ++ aim_changes_of scene.now.setup.now scene.now.state.now row.now) }
+{
+    if aims_at_friend(scene.setup, scene.state, row) {
+        let target = next_target_of(scene, row)?;
+        return push_turn(changes, target, row);
+    }
+    if is_idle(row) {
+        let target = next_target_of(scene, row)?;
+        return push_target(changes, target, row);
+    }
+    Ok(())
+}
+
+// The nearest enemy that the row sees, or 0.
+fn next_target_of(scene: &Scene<'_>, row: &Row) -> Result<u32, OutOfMemory>
+    requires stands { Stands scene.now ⟦<dyn System as System>⟧ }
+    requires row { IsKnownRow 0 scene.now.setup.now scene.now.state.now.rows row.now }
+    requires found { row_of scene.now.state.now row.now.id ≡ Some row.now }
+    ensures { IfOk result (λ target. target ≡ next_target scene.now.setup.now scene.now.state.now row.now (arms_by scene.now.setup.now row.now)) }
+{
+    if arms_of(scene.setup, row).is_none() {
+        return Ok(0);
+    }
+    let ids = seen_by(scene, row.id)?;
+    Ok(nearest(scene.setup, scene.state, row, ids.as_slice()))
+}
+
+// The enemies that a row with arms sees, ascending by id.
+fn seen_by(scene: &Scene<'_>, id: u32) -> Result<Ids, OutOfMemory>
+    requires stands { Stands scene.now ⟦<dyn System as System>⟧ }
+    requires armed { MatchOption (row_of scene.now.state.now id) ⊥ (λ row. IsSome (arms_by scene.now.setup.now row)) }
+    ensures { IfOk result (λ ids. ids ≡ seen_from scene.now.setup.now scene.now.state.now (row_of scene.now.state.now id)) }
+{
+    match scene.ask(&Ask::Seen { id })? {
+        Answer::Many { ids } => Ok(ids),
+        _ => unreachable!(),
+    }
+}
+
+// The nearest of these rows, of several the one with the least id, or 0.
+fn nearest(setup: &Setup, state: &State, row: &Row, ids: &[u32]) -> u32
+    requires limits { IsSetup setup.now }
+    requires valid { IsLooselyValid setup.now state.now }
+    requires row { IsKnownRow 0 setup.now state.now.rows row.now }
+    ensures { result ≡ nearest_of state.now row.now ids.now }
+{
+    let mut best = None;
+    for id in ids {
+        let far = square_to(setup, state, row, *id);
+        best = Some(better(best, far, *id));
+    }
+    match best {
+        Some(seen) => seen.id,
+        None => 0,
+    }
+}
+
+// One that is seen, and the square of its distance.
+#[derive(Clone, Copy, Debug)]
+struct Candidate {
+    far: u64,
+    id: u32,
+}
+
+// The nearer of the best so far and another one.
+fn better(best: Option<Candidate>, far: u64, id: u32) -> Candidate
+    ensures { result ≡ better_of best far id }
+{
+    match best {
+        Some(seen) if (seen.far, seen.id) <= (far, id) => seen,
+        _ => Candidate { far, id },
+    }
+}
+
+// The square of the distance to the row with this id, 0 where it is not there.
+fn square_to(setup: &Setup, state: &State, row: &Row, id: u32) -> u64
+    requires limits { IsSetup setup.now }
+    requires valid { IsLooselyValid setup.now state.now }
+    requires row { IsKnownRow 0 setup.now state.now.rows row.now }
+    ensures { result ≡ square_to_by state.now row.now id }
+{
+    match find_row(state, id) {
+        Some(other) => square(other.at, row.at),
+        None => 0,
+    }
+}
+
+// Whether the row aims at one that is no enemy of its owner.
+fn aims_at_friend(setup: &Setup, state: &State, row: &Row) -> bool
+    requires limits { IsSetup setup.now }
+    requires valid { IsLooselyValid setup.now state.now }
+    requires row { IsKnownRow 0 setup.now state.now.rows row.now }
+    ensures { result ≡ aims_at_friend_by setup.now row.now (row_of state.now (target_by row.now)) }
+{
+    match find_row(state, target_of(row)) {
+        Some(target) => !is_enemy_of(setup, row.owner, target.owner),
+        None => false,
+    }
+}
+
+// Whether the row is a fighter without a target that is not on its way.
+fn is_idle(row: &Row) -> bool
+    ensures { result ≡ is_idle_by row.now }
+{
+    match row.attack {
+        Some(aim) => aim.target == 0 && !is_going(row),
+        None => false,
+    }
+}

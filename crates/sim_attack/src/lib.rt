@@ -1,0 +1,20 @@
+//! The phases of a fight as changes: fighters choose their targets, hit them, and those without health leave.
+//!
+//! It promises changes that fit the state in order and give the phase of the rule, each phase by the state before it. Whom
+//! a row sees is asked of the scene only for a row that looks for a target. It stands on `sim_plans`, which has the changes
+//! as lists, and on `sim_scene`.
+//!
+//! - `aim`: whom a row takes as target, and the phase in which fighters aim.
+//! - `damage`: what a hit takes.
+//! - `hit`: the phase in which fighters hit.
+//! - `gone`: the phase in which those without health leave.
+#![tactic(auto)]
+
+mod aim;
+mod damage;
+mod gone;
+mod hit;
+
+pub use aim::aim_changes;
+pub use gone::gone_changes;
+pub use hit::hit_changes;

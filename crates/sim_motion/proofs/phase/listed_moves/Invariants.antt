@@ -1,0 +1,6 @@
+use Rattle.std.proofs.Common.{◌≡◌, flat_map, take}
+use Rattle.sim_plans.specs.Plans.{move_changes_of}
+use Rattle.sim_motion.proofs.phase.listed_moves.Given as goal
+
+abbrev pub invariant-loop-row : goal.invariant-loop-row
+invariant-loop-row g l = l.changes ≡ flat_map (move_changes_of l.scene.setup.now l.scene.state.now) (take l.row-index l.scene.state.now.rows)

@@ -1,0 +1,11 @@
+use Rattle.sim_base.specs.Move.{moved}
+use Rattle.sim_plans.specs.Plans.{move_plan}
+use Rattle.sim_plans.proofs.Answered.{answered}
+use Rattle.sim_plans.proofs.MovePlan.{move_plan_is}
+use Rattle.sim_motion.proofs.phase.motion_changes.Goals as goal
+
+pub returns : goal.returns
+returns g c =
+    let setup = c.args.scene.now.setup.now in
+    let state = c.args.scene.now.state.now in
+    answered c.listed_moves.result setup state (moved setup state) (move_plan setup state) c.listed_moves.ensures (move_plan_is setup state c.requires.valid)

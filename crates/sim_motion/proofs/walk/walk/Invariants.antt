@@ -1,0 +1,16 @@
+-- The rest of the walk gives the walk.
+use Rattle.std.proofs.Common.{◌≡◌, All, length}
+use Rattle.sim_base.specs.Places.{IsPlaced}
+use Rattle.sim_base.specs.Move.{walked}
+use Rattle.sim_motion.proofs.walk.walk.Given as goal
+
+abbrev pub invariant-loop-rest : goal.invariant-loop-rest
+invariant-loop-rest l =
+    record {
+      walk : walked l.at l.budget l.rest ≡ walked l.fn.from l.fn.budget l.fn.way;
+      at : IsPlaced l.at;
+      rest : All IsPlaced l.rest;
+    }
+
+abbrev pub decreases-loop-rest : goal.decreases-loop-rest
+decreases-loop-rest l = length l.rest

@@ -1,0 +1,38 @@
+-- How the code speaks of rows that move.
+use Rattle.std.specs.Prelude.{ℕ, [], false, Some}
+use Rattle.sim_base.specs.declared.place.Point.{Point}
+use Rattle.sim_base.specs.declared.setup.Setup.{Setup}
+use Rattle.sim_base.specs.declared.state.Motion.{Motion}
+use Rattle.sim_base.specs.declared.state.Motion.TheVariants.{Still, Going}
+use Rattle.sim_base.specs.declared.state.Row.{Row}
+use Rattle.sim_base.specs.Validity.{IsInside}
+use Rattle.sim_base.specs.Ways as ways
+use Rattle.sim_base.specs.Move.{along_found}
+use Rattle.sim_system.specs.declared.Way.{Way}
+use Rattle.sim_motion.specs.declared.chase.Chase.{Chase}
+use Rattle.sim_motion.specs.declared.chase.Chase.TheVariants.{Stay, Keep, Go}
+use Rattle.sim_motion.specs.declared.moves.Moved.{Moved}
+
+-- the way that an answer stands for
+abbrev pub way_in : Way → ways.Way
+way_in way = record { points = way.points; whole = way.whole }
+
+-- the motion after a chase
+abbrev pub chased : Motion → Chase → Motion
+chased motion Stay = Still
+chased motion Keep = motion
+chased motion (Go p) = Going p [] false
+
+-- the row at its new place, with its new motion
+abbrev pub row_moved : Row → Moved → Row
+row_moved row new = record row { at = new.at; motion = Some new.motion }
+
+-- a row goes along the way that it found
+abbrev pub along_way : Row → ℕ → Point → ways.Way → Row
+along_way row budget goal way = along_found row budget goal way.points way.whole
+
+-- where a chase leads, if it leads to a point, lies inside
+abbrev pub LeadsInside : Setup → Chase → Type 0
+LeadsInside setup Stay = Unit {0}
+LeadsInside setup Keep = Unit {0}
+LeadsInside setup (Go p) = IsInside setup p

@@ -1,0 +1,133 @@
+//! Where a row comes to, and how it goes on.
+
+ghost use Rattle.std.specs.Prelude.{◌≡◌, All, IfOk, IsTrue, Some};
+ghost use Rattle.sim_base.specs.declared.state.Motion.TheVariants.{Still};
+ghost use Rattle.sim_base.specs.Places.{IsPlaced, is_inside};
+ghost use Rattle.sim_base.specs.Rows.{row_of, size_of, target_of as target_by, arms_of as arms_by};
+ghost use Rattle.sim_base.specs.Filters.{field_of};
+ghost use Rattle.sim_base.specs.Validity.{IsKnownRow};
+ghost use Rattle.sim_base.specs.WayOf.{way_of};
+ghost use Rattle.sim_base.specs.Move.{chasing, moved_by, along as along_by};
+ghost use Rattle.sim_scene.specs.SceneWords.{Stands};
+ghost use Rattle.sim_motion.specs.Moves.{way_in, row_moved, along_way};
+
+use crate::chase::{Chase, chase_of};
+use crate::walk::walk;
+use sim_base::{Items, Motion, OutOfMemory, Point, Row};
+use sim_scene::Scene;
+use sim_system::{Answer, Ask, System, Way};
+use std::alloc::Global;
+
+/// Where a row has come to, and how it goes on.
+#[derive(Drop)]
+pub struct Moved {
+    pub at: Point,
+    pub motion: Motion,
+}
+
+/// Where a row with this budget comes to, and how it goes on.
+pub fn move_of(
+    alloc: Global,
+    scene: &Scene<'_>,
+    row: &Row,
+    motion: &Motion,
+    budget: u32,
+) -> Result<Moved, OutOfMemory>
+    requires stands { Stands scene.now ⟦<dyn System as System>⟧ }
+    requires row { IsKnownRow 0 scene.now.setup.now scene.now.state.now.rows row.now }
+    requires motion { row.now.motion ≡ Some motion.now }
+    ensures { IfOk result (λ new. row_moved row.now new ≡ moved_by scene.now.setup.now scene.now.state.now row.now budget (chasing row.now motion.now (row_of scene.now.state.now (target_by row.now)) (arms_by scene.now.setup.now row.now))) }
+{
+    match chase_of(scene.setup, scene.state, row, motion) {
+        Chase::Stay => Ok(stay(row)),
+        Chase::Go(goal) => go(alloc, scene, row, budget, &goal),
+        Chase::Keep => match motion {
+            Motion::Still => Ok(stay(row)),
+            Motion::Going { goal, way, whole } => {
+                let points = way.as_slice();
+                if points.is_empty() && !*whole {
+                    go(alloc, scene, row, budget, goal)
+                } else {
+                    along(alloc, row, budget, goal, points, *whole)
+                }
+            }
+        },
+    }
+}
+
+fn stay(row: &Row) -> Moved
+    ensures { row_moved row.now result ≡ record row.now { motion = Some Still } }
+{
+    Moved {
+        at: row.at,
+        motion: Motion::Still,
+    }
+}
+
+// The row asks a way, and goes along it; if it leads nowhere, the row stands still.
+fn go(
+    alloc: Global,
+    scene: &Scene<'_>,
+    row: &Row,
+    budget: u32,
+    goal: &Point,
+) -> Result<Moved, OutOfMemory>
+    requires stands { Stands scene.now ⟦<dyn System as System>⟧ }
+    requires at { IsTrue (is_inside (size_of scene.now.setup.now.land) row.now.at) }
+    requires goal { IsTrue (is_inside (size_of scene.now.setup.now.land) goal.now) }
+    ensures { IfOk result (λ new. row_moved row.now new ≡ along_way row.now budget goal.now (way_of (field_of scene.now.setup.now scene.now.state.now) row.now.at goal.now)) }
+{
+    let way = way(scene, &row.at, goal)?;
+    let points = way.points.as_slice();
+    if points.is_empty() {
+        Ok(stay(row))
+    } else {
+        along(alloc, row, budget, goal, points, way.whole)
+    }
+}
+
+// The way from a point of the ground to another.
+fn way(scene: &Scene<'_>, start: &Point, goal: &Point) -> Result<Way, OutOfMemory>
+    requires stands { Stands scene.now ⟦<dyn System as System>⟧ }
+    requires start { IsTrue (is_inside (size_of scene.now.setup.now.land) start.now) }
+    requires goal { IsTrue (is_inside (size_of scene.now.setup.now.land) goal.now) }
+    ensures { IfOk result (λ way. way_in way ≡ way_of (field_of scene.now.setup.now scene.now.state.now) start.now goal.now) }
+{
+    let asked = Ask::Way {
+        start: *start,
+        goal: *goal,
+    };
+    match scene.ask(&asked)? {
+        Answer::Found { way } => Ok(way),
+        _ => unreachable!(),
+    }
+}
+
+// The row goes along a way as far as its budget leads.
+fn along(
+    alloc: Global,
+    row: &Row,
+    budget: u32,
+    goal: &Point,
+    way: &[Point],
+    whole: bool,
+) -> Result<Moved, OutOfMemory>
+    requires at { IsPlaced row.now.at }
+    requires way { All IsPlaced way.now }
+    ensures { IfOk result (λ new. row_moved row.now new ≡ along_by row.now budget goal.now way.now whole) }
+{
+    let (at, left) = walk(&row.at, budget, way);
+    if whole && left.is_empty() {
+        return Ok(Moved {
+            at,
+            motion: Motion::Still,
+        });
+    }
+    let way = Items::from_items(Vec::from_slice(alloc, left)?);
+    let motion = Motion::Going {
+        goal: *goal,
+        way,
+        whole,
+    };
+    Ok(Moved { at, motion })
+}

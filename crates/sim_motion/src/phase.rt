@@ -1,0 +1,83 @@
+//! The changes of the phase in which rows move.
+
+ghost use Rattle.std.specs.Prelude.{◌≡◌, ◌++◌, IfOk, OnOk, IsSome, Some};
+ghost use Rattle.std.specs.Result.{ForOk};
+ghost use Rattle.sim_base.specs.Move.{moved};
+ghost use Rattle.sim_base.specs.Validity.{IsKnownRow};
+ghost use Rattle.sim_plans.specs.RowPlans.{step_changes, motion_changes as motion_changes_by};
+ghost use Rattle.sim_plans.specs.Plans.{move_changes_of, move_plan};
+ghost use Rattle.sim_plans.specs.PlanLaws.{IsPlanOf};
+ghost use Rattle.sim_scene.specs.SceneWords.{Stands};
+ghost use Rattle.sim_motion.specs.Moves.{row_moved};
+
+use crate::moves::{Moved, move_of};
+use sim_base::{Change, Changes, Items, Motion, OutOfMemory, Row};
+use sim_lookup::{same_point, speed_of};
+use sim_scene::Scene;
+use sim_system::System;
+use std::alloc::Global;
+
+/// The changes by which rows move, all by the state of the scene. They fit in order, and give the phase.
+pub fn motion_changes(alloc: Global, scene: &Scene<'_>) -> Result<Changes, OutOfMemory>
+    requires { Stands scene.now ⟦<dyn System as System>⟧ }
+    ensures { ForOk result (λ changes. IsPlanOf scene.now.setup.now scene.now.state.now changes (moved scene.now.setup.now scene.now.state.now)) }
+{
+    listed_moves(alloc, scene)
+}
+
+// The changes of all rows, row by row.
+fn listed_moves(alloc: Global, scene: &Scene<'_>) -> Result<Changes, OutOfMemory>
+    requires { Stands scene.now ⟦<dyn System as System>⟧ }
+    ensures { IfOk result (λ changes. changes ≡ move_plan scene.now.setup.now scene.now.state.now) }
+{
+    let mut changes = Items::new(alloc);
+    for row in scene.state.rows.as_slice() {
+        push_move(alloc, &mut changes, scene, row)?;
+    }
+    Ok(changes)
+}
+
+// The row moves, if it can.
+fn push_move(
+    alloc: Global,
+    changes: &mut Changes,
+    scene: &Scene<'_>,
+    row: &Row,
+) -> Result<(), OutOfMemory>
+    requires stands { Stands scene.now ⟦<dyn System as System>⟧ }
+    requires row { IsKnownRow 0 scene.now.setup.now scene.now.state.now.rows row.now }
+    ensures { OnOk result (changes.new ≡ changes.old ++ move_changes_of scene.now.setup.now scene.now.state.now row.now) }
+{
+    let Some(motion) = &row.motion else {
+        return Ok(());
+    };
+    let Some(speed) = speed_of(scene.setup, row) else {
+        return Ok(());
+    };
+    let budget = speed.raw().unsigned_abs() / 5;
+    let new = move_of(alloc, scene, row, motion, budget)?;
+    push_step(changes, row, new)
+}
+
+// The row comes to its new place, if it is another, and goes on.
+fn push_step(changes: &mut Changes, row: &Row, new: Moved) -> Result<(), OutOfMemory>
+    requires { IsSome row.now.motion }
+    ensures { OnOk result (changes.new ≡ changes.old ++ step_changes row.now (row_moved row.now new)) }
+{
+    let Moved { at, motion } = new;
+    if !same_point(&row.at, &at) {
+        changes.push(Change::Move { id: row.id, at })?;
+    }
+    push_motion(changes, row, motion)
+}
+
+// The row's motion becomes another one, if it is not still and stays so.
+fn push_motion(changes: &mut Changes, row: &Row, motion: Motion) -> Result<(), OutOfMemory>
+    requires { IsSome row.now.motion }
+    ensures { OnOk result (changes.new ≡ changes.old ++ motion_changes_by row.now.id row.now.motion (Some motion)) }
+{
+    match (&row.motion, &motion) {
+        (Some(Motion::Still), Motion::Still) => Ok(()),
+        _ => changes.push(Change::Motion { id: row.id, motion }),
+    }
+}
