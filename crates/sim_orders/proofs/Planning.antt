@@ -1,6 +1,6 @@
 -- The plan of a command is what a planner has to answer.
 use Rattle.std.proofs.Common.{◌≡◌, ℕ, Bool, true, List, [], ◌∷◌, cond, map, filter, flat_map, Some, Result, Ok, refl, sym, ap, ◌∙◌, subst, arith}
-use Rattle.std.specs.Prelude.{◌==◌, ◌&&◌, IfOk}
+use Rattle.std.specs.Prelude.{◌==◌, ◌&&◌}
 use Rattle.std.specs.Prelude.{slice_get, option_and_then}
 use Rattle.std.proofs.lemmas.Bool.{cond-true}
 use Rattle.sim_base.specs.declared.memory.OutOfMemory.{OutOfMemory}
