@@ -10,11 +10,11 @@ use Rattle.sim_tree.specs.Trees.{Node, node, no_children, child}
 use Rattle.sim_tree.specs.Sources.{Origin}
 use Rattle.sim_tree.specs.Reading.{source_in}
 use Rattle.sim_merge.specs.Values.{text_by}
-use Rattle.sim_merge.specs.Resolution.{members, resolution_of}
+use Rattle.sim_merge.specs.Resolution.{members}
 use Rattle.sim_traits.specs.Parts.{template_in}
 use Rattle.sim_setup.specs.Refusals.{refusal, after}
 use Rattle.sim_setup.specs.Sources.{source_of, sources_from}
-use Rattle.sim_setup.specs.Templates.{merged, template_at, templates_from}
+use Rattle.sim_setup.specs.Templates.{roots_of, template_at, templates_from}
 
 -- a part with one child
 abbrev part : List ℕ → List ℕ → Option TreeMark → List ℕ → Node
@@ -44,19 +44,19 @@ with_health name health =
 
 -- ---- codes 4 to 7
 
-half_again : after (merged (resolution_of (post ∷ big (codes "1.5") ∷ []))) (templates_from (post ∷ big (codes "1.5") ∷ []))
+half_again : after (roots_of (post ∷ big (codes "1.5") ∷ [])) (templates_from (post ∷ big (codes "1.5") ∷ []))
     ≡ Ok (with_health (codes "post") 3276800 ∷ with_health (codes "big") 4915200 ∷ [])
 unfolding digits text_by members template_in template_at
 half_again = refl
 
-no_number : merged (resolution_of (post ∷ big (codes "x") ∷ [])) ≡ Err (refusal 6 1)
+no_number : roots_of (post ∷ big (codes "x") ∷ []) ≡ Err (refusal 6 1)
 unfolding digits text_by members
 no_number = refl
 
-no_parent : merged (resolution_of (big (codes "1.5") ∷ [])) ≡ Err (refusal 4 0)
+no_parent : roots_of (big (codes "1.5") ∷ []) ≡ Err (refusal 4 0)
 no_parent = refl
 
-own_parent : merged (resolution_of (source (codes "a") (Some (codes "a")) (node None None no_children) ∷ [])) ≡ Err (refusal 5 0)
+own_parent : roots_of (source (codes "a") (Some (codes "a")) (node None None no_children) ∷ []) ≡ Err (refusal 5 0)
 unfolding members
 own_parent = refl
 

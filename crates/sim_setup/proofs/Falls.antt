@@ -1,5 +1,5 @@
 -- The first command whose turn falls, by its place.
-use Rattle.std.proofs.Common.{◌≡◌, ℕ, zero, suc, ◌+◌, ◌<◌, Bool, true, false, List, [], ◌∷◌, Some, refl, subst, arith, if◌then◌else◌}
+use Rattle.std.proofs.Common.{◌≡◌, ℕ, zero, suc, ◌+◌, ◌<◌, Bool, true, false, List, [], ◌∷◌, length, Some, refl, subst, arith, if◌then◌else◌}
 use Rattle.std.specs.Prelude.{nat_lt}
 use Rattle.sim_base.specs.declared.setup.Timed.{Timed}
 use Rattle.sim_setup.specs.Commands.{falls_at}
@@ -36,3 +36,12 @@ falls_least commands i e =
     let place = place_of 0 0 commands i e in
     let at : place.far ≡ i = omega (arith, place.is) in
     subst (IsLeastFall (turns_of commands)) at (record { here = place.here; none_before = place.none_before })
+
+pub falls_within : (before n : ℕ) (commands : List Timed) (i : ℕ) → falls_at before n commands ≡ Some i → i < n + length commands
+falls_within before n [] i e = absurd cc
+falls_within before n (timed ∷ rest) i e = by (nat_lt timed.turn before) (falls_within timed.turn (n + 1) rest i) e
+  where
+    by : (b : Bool) → (falls_at timed.turn (n + 1) rest ≡ Some i → i < n + 1 + length rest) →
+        (if b then Some n else falls_at timed.turn (n + 1) rest) ≡ Some i → i < n + length (timed ∷ rest)
+    by true behind e = let same : n ≡ i = cc in omega (arith, same)
+    by false behind e = omega (arith, behind e)

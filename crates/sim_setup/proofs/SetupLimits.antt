@@ -25,7 +25,7 @@ use Rattle.sim_tree.specs.Trees.{Node}
 use Rattle.sim_tree.specs.Sources.{Origin}
 use Rattle.sim_merge.specs.Resolution.{name_in, names_in, are_distinct, resolution_of}
 use Rattle.sim_setup.specs.Sources.{sources_in}
-use Rattle.sim_setup.specs.Templates.{few_sources, merged, templates_from, next_template}
+use Rattle.sim_setup.specs.Templates.{few_sources, roots_of, templates_from, next_template}
 use Rattle.sim_setup.specs.Entities.{entities_within, entities_in, firsts_from, first_of}
 use Rattle.sim_setup.specs.Commands.{timeds_from, timed_of, in_order, falls_at}
 use Rattle.sim_setup.specs.Quiet.{IsQuiet, IsDelete, IsQuietMatch}
@@ -99,7 +99,7 @@ module _ (land : Land) (rules : Rules) where
   items_in-is : (os : List Origin) (es : List Data) (d : Data) (lists : Lists) → length os ≤ 256 → length es ≤ 4096 → are_distinct (names_in os) ≡ true
       → items_in land rules os es d ≡ Ok lists → IsRead lists
   items_in-is os es d lists few_templates few_entities distinct e =
-      let roots = after_ok (merged (resolution_of os)) _ lists e in
+      let roots = after_ok (roots_of os) _ lists e in
       let templates = after_ok (templates_from os roots.0) _ lists roots.2 in
       let first = after_ok (firsts_from (names_in os) land (players_of land) es) _ lists templates.2 in
       let commands = after_ok (commands_in land rules d) _ lists first.2 in

@@ -8,13 +8,14 @@ use Rattle.sim_base.specs.declared.setup.Land.{Land}
 use Rattle.sim_base.specs.declared.setup.First.{First}
 use Rattle.sim_base.specs.Places.{is_inside}
 use Rattle.sim_base.specs.Rows.{size_of}
+use Rattle.sim_base.specs.Limits.{row_limit}
 use Rattle.sim_json.specs.Values.{list_of, list_at, natural_in, fixed, four}
 use Rattle.sim_json.specs.Records.{next_or, numbered}
 use Rattle.sim_setup.specs.Refusals.{Refusal, coded}
 
--- at most 4096 entities
+-- no more entities than rows
 abbrev pub entities_within : List Data → Option (List Data)
-entities_within ds = if nat_le (length ds) 4096 then Some ds else None
+entities_within ds = if nat_le (length ds) row_limit then Some ds else None
 
 -- those of the file
 abbrev pub entities_in : Data → Option (List Data)

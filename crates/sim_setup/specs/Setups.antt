@@ -13,9 +13,9 @@ use Rattle.sim_setup.specs.Shape.{misplaced}
 use Rattle.sim_setup.specs.Ground.{land_in}
 use Rattle.sim_setup.specs.Rules.{rules_in}
 use Rattle.sim_tree.specs.Sources.{Origin}
-use Rattle.sim_merge.specs.Resolution.{names_in, resolution_of}
+use Rattle.sim_merge.specs.Resolution.{names_in}
 use Rattle.sim_setup.specs.Sources.{sources_in}
-use Rattle.sim_setup.specs.Templates.{few_sources, merged, templates_from}
+use Rattle.sim_setup.specs.Templates.{few_sources, roots_of, templates_from}
 use Rattle.sim_setup.specs.Entities.{entities_in, firsts_from}
 use Rattle.sim_setup.specs.Commands.{timeds_from, in_order}
 
@@ -30,7 +30,7 @@ commands_in land rules d = need 2 9 (list_at (codes "commands") d) (λ ds. after
 -- codes 4 to 10
 abbrev pub items_in : Land → Rules → List Origin → List Data → Data → Result Lists Refusal
 items_in land rules origins entities d =
-    after (merged (resolution_of origins)) (λ roots. after (templates_from origins roots) (λ templates.
+    after (roots_of origins) (λ roots. after (templates_from origins roots) (λ templates.
     after (firsts_from (names_in origins) land (players_of land) entities) (λ first.
     after (commands_in land rules d) (λ commands. Ok (record { templates = templates; first = first; commands = commands })))))
 

@@ -1,33 +1,37 @@
 -- The templates of a match file: each source with all that it inherits, read as a template. So far none may move or
 -- fight.
-use Rattle.std.specs.Prelude.{ℕ, ◌&&◌, nat_le, Bool, List, [], length, slice_get, Option, Some, None, is_none, option_and_then, Result, Ok, Err, if◌then◌else◌}
+use Rattle.std.specs.Prelude.{ℕ, ◌&&◌, nat_le, Bool, List, [], length, slice_get, position, filter_map, Option, Some, None, is_none, option_and_then, Result, Ok, Err, if◌then◌else◌}
 use Rattle.sim_base.specs.declared.template.Template.{Template}
 use Rattle.sim_json.specs.Records.{numbered}
 use Rattle.sim_tree.specs.Trees.{Node}
 use Rattle.sim_tree.specs.Sources.{Origin}
-use Rattle.sim_merge.specs.declared.fault.MergeFault.{MergeFault}
-use Rattle.sim_merge.specs.declared.fault.MergeFault.TheVariants.{NoParent, Cycle, ChainTooLong, BadOp, OutOfMemory}
-use Rattle.sim_merge.specs.Resolution.{names_in, are_distinct}
+use Rattle.sim_merge.specs.Laying.{Laying}
+use Rattle.sim_merge.specs.Resolution.{names_in, are_distinct, parents_in, roots_in, is_orphan, members, numbers, is_endless, layings, is_missing, root_there}
 use Rattle.sim_traits.specs.declared.fault.TraitFault.{TraitFault}
 use Rattle.sim_traits.specs.Parts.{template_in}
-use Rattle.sim_setup.specs.Refusals.{Refusal, refusal, coded}
+use Rattle.sim_setup.specs.Refusals.{Refusal, coded, unless_at}
 
 -- at most 256 sources, of which no two have the same name
 abbrev pub few_sources : List Origin → Option (List Origin)
 few_sources origins = if nat_le (length origins) 256 && are_distinct (names_in origins) then Some origins else None
 
--- codes 4 to 6, by what keeps a template from being resolved; want of memory is none of them
-abbrev pub merge_refusal : MergeFault → Refusal
-merge_refusal (NoParent index) = refusal 4 index
-merge_refusal (Cycle index) = refusal 5 index
-merge_refusal (ChainTooLong index) = refusal 5 index
-merge_refusal (BadOp index) = refusal 6 index
-merge_refusal OutOfMemory = refusal 0 0
+-- the first template whose parent is not there
+abbrev pub orphan_in : List Origin → Option ℕ
+orphan_in origins = position (is_orphan (names_in origins)) origins
 
--- resolved trees, or the refusal
-abbrev pub merged : {X : Type 0} → Result X MergeFault → Result X Refusal
-merged (Ok x) = Ok x
-merged (Err fault) = Err (merge_refusal fault)
+-- the first template whose chain of parents is endless
+abbrev pub endless_in : List (Option ℕ) → Option ℕ
+endless_in parents = position (λ number. is_endless (members parents number)) (numbers parents)
+
+-- the trees with all that they inherit, where none has a refused operation
+abbrev pub roots_there : List Laying → Result (List Node) Refusal
+roots_there trees = unless_at 6 (position is_missing trees) (Ok (filter_map root_there trees))
+
+-- codes 4 to 6: the resolved trees, or the first template that has none
+abbrev pub roots_of : List Origin → Result (List Node) Refusal
+roots_of origins =
+    unless_at 4 (orphan_in origins)
+    (unless_at 5 (endless_in (parents_in origins)) (roots_there (layings (parents_in origins) (roots_in origins))))
 
 -- a template neither moves nor fights
 abbrev pub is_quiet : Template → Bool

@@ -1,6 +1,6 @@
 //! Codes 9 and 10 at the key `commands`. The one kind of command is `delete` so far.
 
-ghost use Rattle.std.specs.Prelude.{◌≡◌, ◌≤◌, List, map, length, option_map, option_and_then, IfOk};
+ghost use Rattle.std.specs.Prelude.{◌≡◌, ◌≢◌, ◌<◌, ◌≤◌, ◌^◌, List, map, length, option_map, option_and_then, None, IfOk};
 ghost use Rattle.serde_json.specs.View.{view};
 ghost use Rattle.sim_base.specs.declared.setup.Timed.{Timed};
 ghost use Rattle.sim_json.specs.Values.{list_of as list_of_data, front_two as front_two_of};
@@ -115,7 +115,8 @@ fn delete_from(alloc: Global, rest: &[Value]) -> Result<Option<Command>, OutOfMe
 }
 
 fn ids_of(alloc: Global, value: &Value) -> Result<Option<Ids>, OutOfMemory>
-    ensures { IfOk result (λ ids. ids ≡ ids_of_data (view value.now)) }
+    ensures value { IfOk result (λ ids. ids ≡ ids_of_data (view value.now)) }
+    ensures no_list { list_of_data (view value.now) ≡ None → result ≡ Ok None }
 {
     match list_of(value) {
         Some(items) => ids_from(alloc, items),
@@ -124,7 +125,8 @@ fn ids_of(alloc: Global, value: &Value) -> Result<Option<Ids>, OutOfMemory>
 }
 
 fn ids_from(alloc: Global, items: &[Value]) -> Result<Option<Ids>, OutOfMemory>
-    ensures { IfOk result (λ ids. ids ≡ ids_from_data (map view items.now)) }
+    ensures value { IfOk result (λ ids. ids ≡ ids_from_data (map view items.now)) }
+    ensures many { 256 < length items.now → result ≡ Ok None }
 {
     if items.len() > 256 {
         return Ok(None);
@@ -152,7 +154,8 @@ fn id_in(value: &Value) -> Option<u32>
 
 /// The commands, or the refusal of the first whose turn is less than that of the one before it.
 pub fn in_order(commands: Timeds) -> Result<Timeds, SetupFault>
-    ensures { Meets result (in_order_of commands) }
+    ensures value { Meets result (in_order_of commands) }
+    ensures memory { length commands < 2 ^ 32 → result ≢ Err SetupFault.OutOfMemory }
 {
     match falls_at(commands.as_slice()) {
         Some(index) => Err(refused(10, index)),

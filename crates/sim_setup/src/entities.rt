@@ -11,17 +11,17 @@ ghost use Rattle.sim_setup.specs.Meets.{Meets};
 
 use crate::fault::{SetupFault, refused};
 use serde_json::Value;
-use sim_base::{First, Firsts, Fixed, Land, Point};
+use sim_base::{First, Firsts, Fixed, Land, MAX_ROWS, Point};
 use sim_json::{fixed, four, list_at, list_of, natural_in};
 use sim_merge::Library;
 use std::alloc::Global;
 
-/// The items of the list, where there are at most 4096.
+/// The items of the list, where there are no more than a state may have entities.
 pub fn entities_in(value: &Value) -> Option<&[Value]>
     ensures { option_map (λ items. map view items.now) result ≡ entities_in_data (view value.now) }
 {
     let items = list_at(value, "entities")?;
-    if items.len() <= 4096 {
+    if items.len() <= MAX_ROWS {
         Some(items)
     } else {
         None

@@ -1,5 +1,6 @@
 //! How a match file is refused. It stands apart since each pass refuses in its own code.
 
+ghost use Rattle.std.specs.Prelude.{◌≢◌, ◌<◌, ◌^◌};
 ghost use Rattle.sim_setup.specs.Meets.{Tells};
 
 use sim_base::OutOfMemory;
@@ -48,7 +49,8 @@ impl<T: Drop> From<AllocFailed<T>> for SetupFault {
 
 /// The refusal of an item by its number. A number past 32 bits, which no file in memory reaches, is want of memory.
 pub fn refused(code: u8, index: usize) -> SetupFault
-    ensures { Tells result code index }
+    ensures tells { Tells result code index }
+    ensures told { index < 2 ^ 32 → result ≢ SetupFault.OutOfMemory }
 {
     match u32::try_from(index) {
         Ok(index) => SetupFault::Refused { code, index },

@@ -1,6 +1,6 @@
 //! Code 3 at the keys `size` and `closed`; and with the players' masks the land of a match.
 
-ghost use Rattle.std.specs.Prelude.{◌≡◌, ◌≤◌, map, length, option_and_then, IfOk, IfSome};
+ghost use Rattle.std.specs.Prelude.{◌≡◌, ◌<◌, ◌≤◌, None, codes, map, length, option_and_then, IfOk, IfSome};
 ghost use Rattle.serde_json.specs.View.{view};
 ghost use Rattle.sim_json.specs.Values.{list_of as list_of_data, list_at as list_at_key, two as two_of, four as four_of};
 ghost use Rattle.sim_setup.specs.Ground.{size_from as size_from_data, size_in as size_in_data, rect_on as rect_on_size, rect_from as rect_from_data, rect_of as rect_of_data, rects_from as rects_from_data, closed_in as closed_in_data, land_in as land_in_data};
@@ -23,6 +23,7 @@ pub struct Size {
 /// The land, or the refusal of the key that is past its limits.
 pub fn land_in(alloc: Global, value: &Value) -> Result<Land, SetupFault>
     ensures value { Meets result (land_in_data (view value.now)) }
+    ensures no_size { size_in_data (view value.now) ≡ None → result ≡ Err (SetupFault.Refused 3 0) }
     ensures players { IfOk result (λ land. length land.masks ≤ 9) }
 {
     let Some(size) = size_in(value) else {
@@ -55,7 +56,8 @@ fn size_in(value: &Value) -> Option<Size>
 }
 
 fn closed_in(alloc: Global, size: Size, value: &Value) -> Result<Option<Rects>, OutOfMemory>
-    ensures { IfOk result (λ closed. closed ≡ closed_in_data size (view value.now)) }
+    ensures value { IfOk result (λ closed. closed ≡ closed_in_data size (view value.now)) }
+    ensures no_list { list_at_key (codes "closed") (view value.now) ≡ None → result ≡ Ok None }
 {
     match list_at(value, "closed") {
         Some(items) => rects_from(alloc, size, items),
@@ -64,7 +66,8 @@ fn closed_in(alloc: Global, size: Size, value: &Value) -> Result<Option<Rects>, 
 }
 
 fn rects_from(alloc: Global, size: Size, items: &[Value]) -> Result<Option<Rects>, OutOfMemory>
-    ensures { IfOk result (λ closed. closed ≡ rects_from_data size (map view items.now)) }
+    ensures value { IfOk result (λ closed. closed ≡ rects_from_data size (map view items.now)) }
+    ensures many { 4096 < length items.now → result ≡ Ok None }
 {
     if items.len() > 4096 {
         return Ok(None);

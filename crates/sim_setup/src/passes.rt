@@ -1,13 +1,16 @@
 //! The passes over a match file, one after another in the order of their codes, so that the first code that applies is
 //! the answer.
 
-ghost use Rattle.std.specs.Prelude.{◌≡◌, ◌≤◌, true, All, map, length, IfOk};
+ghost use Rattle.std.specs.Prelude.{◌≡◌, ◌≢◌, ◌≤◌, true, None, All, map, length, IfOk, IfSome};
 ghost use Rattle.serde_json.specs.View.{view};
 ghost use Rattle.sim_base.specs.Limits.{IsSetup, IsTemplate};
 ghost use Rattle.sim_merge.specs.Resolution.{names_in, origins_of, are_distinct};
 ghost use Rattle.sim_setup.specs.Meets.{Meets};
 ghost use Rattle.sim_setup.specs.Quiet.{IsQuietMatch};
+ghost use Rattle.sim_setup.specs.Entities.{entities_in as entities_in_data};
+ghost use Rattle.sim_setup.specs.Shape.{misplaced as misplaced_in};
 ghost use Rattle.sim_setup.specs.Sources.{IsReadySource};
+ghost use Rattle.sim_setup.specs.Templates.{few_sources};
 ghost use Rattle.sim_setup.specs.Setups.{players_of as players_of_land, commands_in as commands_in_data, items_in as items_in_data, lists_in as lists_in_data, setup_with as setup_with_parts, limits_in as limits_in_data, setup_in as setup_in_data, setup_of as setup_of_bytes};
 
 use crate::commands::{in_order, timeds_from};
@@ -49,6 +52,7 @@ pub fn setup_of(alloc: Global, bytes: &[u8]) -> Result<Setup, SetupFault>
 
 fn setup_in(alloc: Global, id: [u8; 16], value: &Value) -> Result<Setup, SetupFault>
     ensures value { Meets result (setup_in_data id (view value.now)) }
+    ensures shape { IfSome (misplaced_in (view value.now)) (λ index. result ≡ Err (SetupFault.Refused 2 index)) }
     ensures templates { IfOk result (λ setup. All (IsTemplate (length setup.templates)) setup.templates) }
 {
     if let Some(index) = misplaced(value) {
@@ -104,6 +108,8 @@ fn lists_in(
     requires turns { rules.turns ≤ 65535 }
     requires ready { All IsReadySource sources.now }
     ensures value { Meets result (lists_in_data land.now rules (origins_of sources.now) (view value.now)) }
+    ensures many { few_sources (origins_of sources.now) ≡ None → result ≡ Err (SetupFault.Refused 3 7) }
+    ensures crowded { (few_sources (origins_of sources.now) ≢ None) × (entities_in_data (view value.now) ≡ None) → result ≡ Err (SetupFault.Refused 3 8) }
     ensures templates { IfOk result (λ lists. All (IsTemplate (length lists.templates)) lists.templates) }
 {
     if !are_few(sources) {

@@ -1,7 +1,8 @@
 //! Code 3 at the key `players`: the enemies of each player, as masks.
 
-ghost use Rattle.std.specs.Prelude.{◌≡◌, ◌≤◌, map, length, IfOk, IfSome};
+ghost use Rattle.std.specs.Prelude.{◌≡◌, ◌<◌, ◌≤◌, None, codes, map, length, IfOk, IfSome};
 ghost use Rattle.serde_json.specs.View.{view};
+ghost use Rattle.sim_json.specs.Values.{list_at as list_at_key};
 ghost use Rattle.sim_setup.specs.Players.{enemy_in as enemy_in_data, mask_from as mask_from_data, mask_of as mask_of_data, masks_from as masks_from_data, masks_in as masks_in_data};
 
 use serde_json::Value;
@@ -12,6 +13,7 @@ use std::alloc::Global;
 /// The masks of Gaia and the players, where there are 1 to 8 players and each has enemies alone that there are.
 pub fn masks_in(alloc: Global, value: &Value) -> Result<Option<Ids>, OutOfMemory>
     ensures value { IfOk result (λ masks. masks ≡ masks_in_data (view value.now)) }
+    ensures no_list { list_at_key (codes "players") (view value.now) ≡ None → result ≡ Ok None }
     ensures few { IfOk result (λ masks. IfSome masks (λ masks. length masks ≤ 9)) }
 {
     match list_at(value, "players") {
@@ -22,6 +24,8 @@ pub fn masks_in(alloc: Global, value: &Value) -> Result<Option<Ids>, OutOfMemory
 
 fn masks_from(alloc: Global, items: &[Value]) -> Result<Option<Ids>, OutOfMemory>
     ensures value { IfOk result (λ masks. masks ≡ masks_from_data (map view items.now)) }
+    ensures none { length items.now ≡ 0 → result ≡ Ok None }
+    ensures many { 8 < length items.now → result ≡ Ok None }
     ensures few { IfOk result (λ masks. IfSome masks (λ masks. length masks ≤ 9)) }
 {
     if items.is_empty() || items.len() > 8 {

@@ -1,10 +1,10 @@
 //! Codes 4 to 6: the sources with all that they inherit.
 
 ghost use Rattle.std.specs.Prelude.{◌≡◌, ◌≤◌, true, All, length};
-ghost use Rattle.sim_merge.specs.Resolution.{names_in, origins_of, are_distinct, resolution_of};
+ghost use Rattle.sim_merge.specs.Resolution.{names_in, origins_of, are_distinct};
 ghost use Rattle.sim_setup.specs.Meets.{LibraryMeets, Refuses};
 ghost use Rattle.sim_setup.specs.Sources.{IsReadySource};
-ghost use Rattle.sim_setup.specs.Templates.{merged};
+ghost use Rattle.sim_setup.specs.Templates.{roots_of};
 
 use crate::fault::SetupFault;
 use sim_merge::{Library, MergeFault};
@@ -16,7 +16,7 @@ pub fn resolved(alloc: Global, sources: &[Source]) -> Result<Library, SetupFault
     requires few { length sources.now ≤ 256 }
     requires distinct { are_distinct (names_in (origins_of sources.now)) ≡ true }
     requires ready { All IsReadySource sources.now }
-    ensures { LibraryMeets result (origins_of sources.now) (merged (resolution_of (origins_of sources.now))) }
+    ensures { LibraryMeets result (origins_of sources.now) (roots_of (origins_of sources.now)) }
 {
     match Library::resolve(alloc, sources) {
         Ok(library) => Ok(library),

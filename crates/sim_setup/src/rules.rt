@@ -1,12 +1,13 @@
 //! Code 3 at the keys `cap`, `delay`, `turns` and `seed`.
 
-ghost use Rattle.std.specs.Prelude.{◌≤◌, IfOk};
+ghost use Rattle.std.specs.Prelude.{◌≢◌, ◌≤◌, IfOk};
 ghost use Rattle.serde_json.specs.View.{view};
 ghost use Rattle.sim_setup.specs.Meets.{Meets};
 ghost use Rattle.sim_setup.specs.Rules.{rules_in as rules_in_data};
 
 use crate::fault::SetupFault;
 use serde_json::Value;
+use sim_base::MAX_ROWS;
 use sim_json::natural_at;
 
 const MAX_SEED: u64 = 0xFFFF_FFFF_FFFF;
@@ -23,9 +24,10 @@ pub struct Rules {
 /// The rules, or the refusal of the key that is past its limits.
 pub fn rules_in(value: &Value) -> Result<Rules, SetupFault>
     ensures value { Meets result (rules_in_data (view value.now)) }
+    ensures memory { result ≢ Err SetupFault.OutOfMemory }
     ensures turns { IfOk result (λ rules. rules.turns ≤ 65535) }
 {
-    let Some(cap) = natural_at(value, 0, 4096, "cap") else {
+    let Some(cap) = natural_at(value, 0, MAX_ROWS as u64, "cap") else {
         return Err(SetupFault::Refused { code: 3, index: 3 });
     };
     let Some(delay) = natural_at(value, 1, 8, "delay") else {

@@ -1,7 +1,7 @@
 //! Code 2 at the items of `templates`, and code 3 at that key: the sources of the templates, which may be at most 256 and
 //! have different names. All items are read before any limit is looked at.
 
-ghost use Rattle.std.specs.Prelude.{◌≡◌, ◌+◌, ◌&&◌, nat_le, All, length, map, option_map, option_and_then, IfOk, IfSome};
+ghost use Rattle.std.specs.Prelude.{◌≡◌, ◌≢◌, ◌+◌, ◌^◌, ◌<◌, ◌&&◌, nat_le, All, length, map, option_map, option_and_then, IfOk, IfErr, IsErr, IfSome};
 ghost use Rattle.serde_json.specs.View.{view};
 ghost use Rattle.sim_tree.specs.Sources.{origin_of};
 ghost use Rattle.sim_merge.specs.Resolution.{names_in, origins_of, are_distinct};
@@ -48,7 +48,8 @@ fn sources_from(alloc: Global, items: &[Value]) -> Result<Vec<Source>, SetupFaul
 
 // The refusal of an item by its number.
 fn refused_item(number: usize) -> SetupFault
-    ensures { Tells result 2 (16 + number) }
+    ensures tells { Tells result 2 (16 + number) }
+    ensures told { 16 + number < 2 ^ 32 → result ≢ SetupFault.OutOfMemory }
 {
     match number.checked_add(FIRST) {
         Some(index) => refused(2, index),
@@ -61,7 +62,16 @@ fn source_of(alloc: Global, item: &Value) -> Result<Option<Source>, OutOfMemory>
     ensures value { IfOk result (λ source. option_map origin_of source ≡ source_of_data (view item.now)) }
     ensures ready { IfOk result (λ source. IfSome source IsReadySource) }
 {
-    match Source::from_json(alloc, item) {
+    source_read(Source::from_json(alloc, item))
+}
+
+// What is read of an item: every refusal of a tree is one answer.
+fn source_read(read: Result<Source, TreeFault>) -> Result<Option<Source>, OutOfMemory>
+    ensures ok { IfOk read (λ source. result ≡ Ok (Some source)) }
+    ensures refused { IfErr read (λ fault. fault ≢ TreeFault.OutOfMemory → result ≡ Ok None) }
+    ensures memory { IfErr read (λ fault. fault ≡ TreeFault.OutOfMemory → IsErr result) }
+{
+    match read {
         Ok(source) => Ok(Some(source)),
         Err(TreeFault::OutOfMemory) => Err(OutOfMemory),
         Err(TreeFault::WrongKind | TreeFault::NotWhole | TreeFault::TooDeep) => Ok(None),

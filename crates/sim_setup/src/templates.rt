@@ -1,7 +1,7 @@
 //! Code 7: the templates of resolved sources. A template that moves or fights is refused too, until there are moves and
 //! fights.
 
-ghost use Rattle.std.specs.Prelude.{◌≡◌, ◌<◌, ◌≤◌, All, length, IfOk, IfSome};
+ghost use Rattle.std.specs.Prelude.{◌≡◌, ◌≢◌, ◌<◌, ◌≤◌, All, length, Some, None, if◌then◌else◌, IfOk, IfErr, IsErr, IfSome};
 ghost use Rattle.sim_base.specs.Limits.{IsTemplate};
 ghost use Rattle.sim_tree.specs.Sources.{origin_of};
 ghost use Rattle.sim_merge.specs.Resolution.{names_in, origins_of};
@@ -47,7 +47,16 @@ fn template_at(
     ensures value { IfOk result (λ found. found ≡ template_at_number library.now.names library.now.roots number (origin_of source.now)) }
     ensures limits { IfOk result (λ found. IfSome found (IsTemplate (length library.now.names))) }
 {
-    match template_of(alloc, &source.name, library.tree(number), library) {
+    template_read(template_of(alloc, &source.name, library.tree(number), library))
+}
+
+// What is read of a tree: every refusal of a template is one answer, and so is a template that moves or fights.
+fn template_read(read: Result<Template, TraitFault>) -> Result<Option<Template>, OutOfMemory>
+    ensures ok { IfOk read (λ template. result ≡ Ok (if is_quiet_template template then Some template else None)) }
+    ensures refused { IfErr read (λ fault. fault ≢ TraitFault.OutOfMemory → result ≡ Ok None) }
+    ensures memory { IfErr read (λ fault. fault ≡ TraitFault.OutOfMemory → IsErr result) }
+{
+    match read {
         Ok(template) => {
             if is_quiet(&template) {
                 Ok(Some(template))
