@@ -1,0 +1,170 @@
+-- Every other soldier is a player's, so that his ids go up by two; and a group of them is a part of that list.
+use Rattle.std.proofs.Common.{◌≡◌, ◌≢◌, ℕ, zero, suc, ◌+◌, ◌-◌, ◌*◌, ◌/◌, ◌%◌, ◌≤◌, min, Bool, true, false, cond, List, [], ◌∷◌, ◌++◌, map, take, drop, refl, sym, ap, ◌∙◌, arith, add-one, append-nil, ◌==◌}
+use Rattle.std.specs.Prelude.{decimal, filter}
+use Rattle.std.specs.List.{range_with_len, join_with_byte}
+use Rattle.std.specs.Int.{div_ceil}
+use Rattle.std.specs.Fork.{slice_chunk}
+use Rattle.std.proofs.lemmas.Bool.{eqb-true, eqb-false, ne_eqb}
+use Rattle.std.proofs.lemmas.List.{take-map, drop-map}
+use Rattle.std.proofs.lemmas.List.Elements.{filter-append}
+use Rattle.std.proofs.lemmas.List.FromFn.{map-range_with_len_more, length-map-range_with_len}
+use Rattle.sim_trial.specs.Trial.{player_of, ids_of, group_size, groups_of, walk_text, walks_of, comma, commands_text}
+use Rattle.sim_trial.specs.Joined.{joined_after}
+use Rattle.sim_trial.specs.Owned.{id_at, ids_between}
+use Rattle.sim_trial.proofs.Pieces.{join-append}
+
+-- how many of the soldiers are a player's
+abbrev pub owned_by : ℕ → ℕ → ℕ
+owned_by player units = (units + 2 - player) / 2
+
+player_of-is : (place : ℕ) → player_of place ≡ place % 2 + 1
+player_of-is place = by (place % 2 == 0) refl
+  where
+    by : (b : Bool) → (place % 2 == 0) ≡ b → cond b 1 2 ≡ place % 2 + 1
+    by true e = omega (arith, eqb-true (place % 2) 0 e)
+    by false e =
+        let odd : place % 2 ≢ 0 = eqb-false (place % 2) 0 e in
+        omega arith
+
+range_with_len_more : (a n : ℕ) → range_with_len a (n + 1) ≡ range_with_len a n ++ (a + n) ∷ []
+range_with_len_more a n = map-is _ ∙ map-range_with_len_more (λ (k : ℕ). k) a n (a + n) refl ∙ ap (λ (xs : List ℕ). xs ++ (a + n) ∷ []) (sym (map-is _))
+  where
+    map-is : (xs : List ℕ) → xs ≡ map (λ (k : ℕ). k) xs
+    map-is [] = refl
+    map-is (x ∷ xs) = ap (λ (ys : List ℕ). x ∷ ys) (map-is xs)
+
+-- his ids, one soldier more
+ids_of-more : (player units : ℕ) → ids_of player (units + 1) ≡ ids_of player units ++ cond (player_of units == player) ((units + 2) ∷ []) []
+ids_of-more player units =
+    let test : ℕ → Bool = λ id. player_of (id - 2) == player in
+    let id_is : units + 2 ≡ 2 + units = omega arith in
+    let place_is : units + 2 - 2 ≡ units = omega arith in
+    ap (filter test) (range_with_len_more 2 units)
+    ∙ filter-append test (range_with_len 2 units) ((2 + units) ∷ [])
+    ∙ ap (λ (id : ℕ). ids_of player units ++ cond (test id) (id ∷ []) []) (sym id_is)
+    ∙ ap (λ (place : ℕ). ids_of player units ++ cond (player_of place == player) ((units + 2) ∷ []) []) place_is
+
+-- his last one
+id_at-last : (player units : ℕ) → player_of units ≡ player → id_at player (owned_by player units) ≡ units + 2
+id_at-last player units his =
+    let is : units % 2 + 1 ≡ player = sym (player_of-is units) ∙ his in
+    omega arith
+
+owned_by-his : (player units : ℕ) → player_of units ≡ player → owned_by player (units + 1) ≡ owned_by player units + 1
+owned_by-his player units his =
+    let is : units % 2 + 1 ≡ player = sym (player_of-is units) ∙ his in
+    omega arith
+
+owned_by-other : (player units : ℕ) → 1 ≤ player → player ≤ 2 → player_of units ≢ player → owned_by player (units + 1) ≡ owned_by player units
+owned_by-other player units first last other =
+    let apart : units % 2 + 1 ≢ player = λ e. other (player_of-is units ∙ e) in
+    omega arith
+
+-- his ids are those that go up by two
+ids-is : (player units : ℕ) → 1 ≤ player → player ≤ 2 → ids_of player units ≡ map (id_at player) (range_with_len 0 (owned_by player units))
+ids-is player zero first last = ap (λ (n : ℕ). map (id_at player) (range_with_len 0 n)) none
+  where
+    none : 0 ≡ owned_by player 0
+    none = omega arith
+ids-is player (suc units) first last = ap (ids_of player) (sym (add-one units)) ∙ ids_of-more player units ∙ by (ids-is player units first last) (player_of units == player) refl ∙ ap (λ (n : ℕ). map (id_at player) (range_with_len 0 (owned_by player n))) (add-one units)
+  where
+    by : ids_of player units ≡ map (id_at player) (range_with_len 0 (owned_by player units)) → (b : Bool) → (player_of units == player) ≡ b → ids_of player units ++ cond b ((units + 2) ∷ []) [] ≡ map (id_at player) (range_with_len 0 (owned_by player (units + 1)))
+    by so_far true e =
+        let his = eqb-true (player_of units) player e in
+        ap (λ (xs : List ℕ). xs ++ (units + 2) ∷ []) so_far
+        ∙ ap (λ (id : ℕ). map (id_at player) (range_with_len 0 (owned_by player units)) ++ id ∷ []) (sym (id_at-last player units his))
+        ∙ sym (map-range_with_len_more (id_at player) 0 (owned_by player units) (owned_by player units) (omega arith))
+        ∙ ap (λ (n : ℕ). map (id_at player) (range_with_len 0 n)) (sym (owned_by-his player units his))
+    by so_far false e =
+        append-nil _ ∙ so_far ∙ ap (λ (n : ℕ). map (id_at player) (range_with_len 0 n)) (sym (owned_by-other player units first last (eqb-false (player_of units) player e)))
+
+-- ---- a group of numbers that follow one another
+
+drop-range : (k a n : ℕ) → drop k (range_with_len a n) ≡ range_with_len (a + k) (n - k)
+drop-range zero a n = ap (λ (m : ℕ). range_with_len m n) start ∙ ap (range_with_len (a + 0)) count
+  where
+    start : a ≡ a + 0
+    start = omega arith
+
+    count : n ≡ n - 0
+    count = omega arith
+drop-range (suc k) a zero = ap (range_with_len (a + suc k)) none
+  where
+    none : 0 ≡ 0 - suc k
+    none = omega arith
+drop-range (suc k) a (suc n) = drop-range k (a + 1) n ∙ ap (λ (m : ℕ). range_with_len m (n - k)) start ∙ ap (range_with_len (a + suc k)) count
+  where
+    start : a + 1 + k ≡ a + suc k
+    start = omega arith
+
+    count : n - k ≡ suc n - suc k
+    count = omega arith
+
+take-range : (k a n : ℕ) → take k (range_with_len a n) ≡ range_with_len a (min k n)
+take-range zero a n = ap (range_with_len a) none
+  where
+    none : 0 ≡ min 0 n
+    none = omega arith
+take-range (suc k) a zero = ap (range_with_len a) none
+  where
+    none : 0 ≡ min (suc k) 0
+    none = omega arith
+take-range (suc k) a (suc n) = ap (λ (xs : List ℕ). a ∷ xs) (take-range k (a + 1) n) ∙ ap (range_with_len a) count
+  where
+    count : suc (min k n) ≡ min (suc k) (suc n)
+    count = omega arith
+
+chunk-is : (player owned group : ℕ) → slice_chunk (map (id_at player) (range_with_len 0 owned)) group_size group ≡ ids_between player (group * 256) (min owned (group * 256 + 256))
+chunk-is player owned group =
+    ap (take 256) (drop-map (id_at player) (group * 256) (range_with_len 0 owned))
+    ∙ take-map (id_at player) 256 (drop (group * 256) (range_with_len 0 owned))
+    ∙ ap (map (id_at player)) (ap (take 256) (drop-range (group * 256) 0 owned) ∙ take-range 256 (0 + group * 256) (owned - group * 256) ∙ ap (λ (from : ℕ). range_with_len from (min 256 (owned - group * 256))) start ∙ ap (range_with_len (group * 256)) count)
+  where
+    start : 0 + group * 256 ≡ group * 256
+    start = omega arith
+
+    count : min 256 (owned - group * 256) ≡ min owned (group * 256 + 256) - group * 256
+    count = omega arith
+
+map-map : {X Y Z : Type 0} (f : Y → Z) (g : X → Y) (xs : List X) → map f (map g xs) ≡ map (λ x. f (g x)) xs
+map-map f g [] = refl
+map-map f g (x ∷ xs) = ap (λ (ys : List _). f (g x) ∷ ys) (map-map f g xs)
+
+map-same : {X Y : Type 0} (f g : X → Y) → ((x : X) → f x ≡ g x) → (xs : List X) → map f xs ≡ map g xs
+map-same f g same [] = refl
+map-same f g same (x ∷ xs) = ap (λ (y : _). y ∷ map f xs) (same x) ∙ ap (λ (ys : List _). g x ∷ ys) (map-same f g same xs)
+
+-- ids as texts, by their places
+pub id_texts-is : (player from to : ℕ) → map decimal (ids_between player from to) ≡ map (λ place. decimal (id_at player place)) (range_with_len from (to - from))
+id_texts-is player from to = map-map decimal (id_at player) (range_with_len from (to - from))
+
+-- the command for one group
+abbrev pub group_walk : ℕ → ℕ → ℕ → List ℕ
+group_walk player owned group = walk_text player (ids_between player (group * 256) (min owned (group * 256 + 256)))
+
+-- the commands of a player, group by group
+pub walks_of-is : (player units : ℕ) → 1 ≤ player → player ≤ 2 → walks_of player units ≡ map (group_walk player (owned_by player units)) (range_with_len 0 (div_ceil (owned_by player units) 256))
+walks_of-is player units first last =
+    let owned = owned_by player units in
+    let ids : List ℕ = map (id_at player) (range_with_len 0 owned) in
+    ap (λ (xs : List ℕ). map (walk_text player) (groups_of xs)) (ids-is player units first last)
+    ∙ ap (λ (n : ℕ). map (walk_text player) (map (slice_chunk ids group_size) (range_with_len 0 (div_ceil n 256)))) (length-map-range_with_len (id_at player) 0 owned)
+    ∙ map-map (walk_text player) (slice_chunk ids group_size) (range_with_len 0 (div_ceil owned 256))
+    ∙ map-same _ (group_walk player owned) (λ group. ap (walk_text player) (chunk-is player owned group)) (range_with_len 0 (div_ceil owned 256))
+
+-- player 1 has a command, and those of player 2 stand behind it
+pub both_walk : (units turns : ℕ) → 1 ≤ units → turns ≢ 0 → joined_after false (walks_of 1 units) ++ joined_after true (walks_of 2 units) ≡ commands_text units turns
+both_walk units turns some played =
+    ap (λ (xs : List (List ℕ)). joined_after false xs ++ joined_after true (walks_of 2 units)) first_is
+    ∙ join-append _ _ (walks_of 2 units)
+    ∙ ap (λ (xs : List (List ℕ)). join_with_byte comma (xs ++ walks_of 2 units)) (sym first_is)
+    ∙ ap (λ (b : Bool). cond b [] (join_with_byte comma (walks_of 1 units ++ walks_of 2 units))) (sym (ne_eqb turns 0 played))
+  where
+    owned : ℕ
+    owned = owned_by 1 units
+
+    groups : suc (div_ceil owned 256 - 1) ≡ div_ceil owned 256
+    groups = omega arith
+
+    first_is : walks_of 1 units ≡ group_walk 1 owned 0 ∷ map (group_walk 1 owned) (range_with_len 1 (div_ceil owned 256 - 1))
+    first_is = walks_of-is 1 units (omega arith) (omega arith) ∙ ap (λ (n : ℕ). map (group_walk 1 owned) (range_with_len 0 n)) (sym groups)

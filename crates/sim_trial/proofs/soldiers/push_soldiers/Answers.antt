@@ -1,0 +1,21 @@
+-- One soldier more takes two steps more.
+use Rattle.std.proofs.Common.{◌≡◌, ℕ, suc, ◌+◌, ◌*◌, ◌++◌, false, refl, ap, ◌∙◌, arith}
+use Rattle.std.specs.Prelude.{string_bytes, nat_lt}
+use Rattle.sim_base.specs.Numbers.{next_word}
+use Rattle.sim_trial.specs.Trial.{word_after, soldier_text}
+use Rattle.sim_trial.proofs.Pieces.{pieces_more}
+use Rattle.sim_trial.proofs.soldiers.push_soldiers.Goals as goal
+
+pub loop-place-preserved : goal.loop-place-preserved
+loop-place-preserved c =
+    let so_far = c.loop-place.invariant in
+    let place = c.loop-place.place in
+    let piece = λ (k : ℕ). soldier_text k (word_after c.args.seed (2 * k)) in
+    let steps : suc (suc (2 * place)) ≡ 2 * (place + 1) = omega arith in
+    let added : string_bytes c.push_soldier.new.text ≡ string_bytes c.push_comma.new.text ++ piece place =
+    c.in_ok-word.ensures.text ∙ ap (λ (word : ℕ). string_bytes c.push_comma.new.text ++ soldier_text place word) so_far.word_is in
+    record {
+      written = pieces_more false piece 0 place place (omega arith) _ _ _ _ (nat_lt 0 place) so_far.written refl c.in_ok-push_comma.ensures added;
+      word_is = c.in_ok-word.ensures.word ∙ ap (λ (word : ℕ). next_word (next_word word)) so_far.word_is ∙ ap (word_after c.args.seed) steps;
+      word_fits = omega (arith, c.in_ok-word.ensures.word);
+    }

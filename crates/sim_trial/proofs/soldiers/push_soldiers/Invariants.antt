@@ -1,0 +1,12 @@
+-- The text has the soldiers so far, and the word is the one after their steps.
+use Rattle.std.proofs.Common.{◌≡◌, ◌++◌, ◌*◌, ◌^◌, ◌<◌}
+use Rattle.std.specs.Prelude.{string_bytes}
+use Rattle.sim_trial.specs.Trial.{word_after, soldiers_text}
+use Rattle.sim_trial.proofs.soldiers.push_soldiers.Given as goal
+
+abbrev pub invariant-loop-place : goal.invariant-loop-place
+invariant-loop-place l = record {
+  written : string_bytes l.text ≡ string_bytes l.initial.text ++ soldiers_text l.seed l.place;
+  word_is : l.word ≡ word_after l.seed (2 * l.place);
+  word_fits : l.word < 2 ^ 48;
+}
