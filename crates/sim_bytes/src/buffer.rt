@@ -1,7 +1,8 @@
 //! A short list of bytes that is kept in place, where memory is not to be asked for: the bytes of one row, and bytes
 //! that wait to be hashed.
 
-ghost use Rattle.std.specs.Prelude.{◌≡◌, ◌+◌, ◌≤◌, [], ◌++◌, length};
+ghost use Rattle.std.specs.Prelude.{◌≡◌, ◌+◌, ◌<◌, ◌≤◌, [], ◌++◌, length, OnOk};
+ghost use Rattle.sim_bytes.specs.Telling.{Tells, RoomHolds};
 
 use crate::sink::ByteSink;
 use std::convert::Infallible;
@@ -73,11 +74,14 @@ impl<const ROOM: usize> Buffer<ROOM> {
 impl<const ROOM: usize> ByteSink for Buffer<ROOM> {
     type Fault = Infallible;
 
-    ghost use Rattle.std.specs.Prelude.{◌≡◌, ◌≤◌, length};
+    ghost use Rattle.sim_bytes.specs.Telling.{RoomHolds};
 
-    ghost holds = { λ buffer about told. length told ≤ ROOM → buffer ≡ told };
+    ghost holds = { RoomHolds ROOM };
 
-    fn tell(&mut self, bytes: &[u8]) -> Result<(), Infallible> {
+    fn tell(&mut self, bytes: &[u8]) -> Result<(), Infallible>
+        ensures ok { OnOk result (Tells (RoomHolds ROOM) self.old self.new bytes.now) }
+        ensures full { ROOM < length self.old + length bytes.now → self.new ≡ self.old }
+    {
         if bytes.len() <= self.room() {
             self.add(bytes);
         }

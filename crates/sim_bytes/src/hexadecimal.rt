@@ -1,6 +1,6 @@
 //! Hexadecimal text: two digits a byte, in lower case alone, so that bytes have one text.
 
-ghost use Rattle.std.specs.Prelude.{◌≡◌, ◌↔◌, ◌++◌, Ok, OnOk, OnErr, IfOk, IsSome, IfSome, IsTrue};
+ghost use Rattle.std.specs.Prelude.{◌≡◌, ◌↔◌, ◌++◌, Ok, None, OnOk, OnErr, IfOk, IsSome, IfSome, IsTrue};
 ghost use Rattle.std.specs.List.{list_all};
 ghost use Rattle.std.specs.String.{string_bytes};
 ghost use Rattle.hex.specs.Hex.{encode_lower, decode_of};
@@ -40,6 +40,7 @@ fn is_hex(text: &str) -> bool
 /// The bytes of a text of pairs of digits, or None where it is none.
 pub fn read_hex(alloc: Global, text: &str) -> Result<Option<Vec<u8>>, OutOfMemory>
     ensures found { IfOk result (λ found. IsSome found ↔ IsHex text.now) }
+    ensures no_hex { ¬ IsHex text.now → result ≡ Ok None }
     ensures value { IfOk result (λ found. IfSome found (λ bytes. decode_of text.now ≡ Ok bytes.items)) }
 {
     if !is_hex(text) {

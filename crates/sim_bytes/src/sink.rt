@@ -1,9 +1,9 @@
 //! Places to which bytes are told piece by piece. One writer serves them all: what is spelled into a list is also what
 //! is digested and what is compared, with no copy between.
 
-ghost use Rattle.std.specs.Prelude.{◌≡◌, ◌↔◌, ℕ, List, [], ◌∷◌, OnOk, IsTrue};
+ghost use Rattle.std.specs.Prelude.{◌≡◌, ◌↔◌, ℕ, List, [], ◌∷◌, OnOk, OnErr, IsTrue};
 ghost use Rattle.sim_base.specs.Bytes.{u16_bytes, u32_bytes, u64_bytes, i32_bytes};
-ghost use Rattle.sim_bytes.specs.Telling.{Tells, Compared};
+ghost use Rattle.sim_bytes.specs.Telling.{Tells, ListHolds, Compared};
 
 use sim_base::OutOfMemory;
 use std::convert::Infallible;
@@ -24,9 +24,12 @@ pub trait ByteSink {
 impl ByteSink for Vec<u8> {
     type Fault = OutOfMemory;
 
-    ghost holds = { λ list about told. list.items ≡ told };
+    ghost holds = { ListHolds };
 
-    fn tell(&mut self, bytes: &[u8]) -> Result<(), OutOfMemory> {
+    fn tell(&mut self, bytes: &[u8]) -> Result<(), OutOfMemory>
+        ensures ok { OnOk result (Tells ListHolds self.old self.new bytes.now) }
+        ensures err { OnErr result (self.new.items ≡ self.old.items) }
+    {
         self.extend_from_slice(bytes)?;
         Ok(())
     }

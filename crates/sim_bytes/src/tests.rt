@@ -43,6 +43,7 @@ fn a_number_that_is_cut_short_is_not_taken(rt: HostRuntime) {
     assert_eq!(rt; take.i32(), Err(Short));
     assert_eq!(rt; take.u16(), Ok(0x0201));
     assert_eq!(rt; take.u16(), Err(Short));
+    assert_eq!(rt; take.bytes(), [3].as_slice());
     assert_eq!(rt; take.left(), 1);
 }
 

@@ -1,7 +1,7 @@
 //! The state that bytes stand for. The reader is lax: what it read is tested as a state, and spelled again and compared.
 //! So it is enough that it reads back what is spelled.
 
-ghost use Rattle.std.specs.Prelude.{◌≡◌, ◌↔◌, IsTrue, drop, None, Some, IfOk, IfErr, MatchResult};
+ghost use Rattle.std.specs.Prelude.{◌≡◌, ◌↔◌, IsTrue, drop, None, Some, IfOk, IfErr, IfSome, MatchResult};
 ghost use Rattle.sim_base.specs.declared.state.State.{State};
 ghost use Rattle.sim_base.specs.Limits.{IsSetup};
 ghost use Rattle.sim_codec.specs.Loading.{start_bytes, head_fault, StandsFor, Loads, RefusedFor};
@@ -52,6 +52,7 @@ fn stands_for(setup: &Setup, state: &State, bytes: &[u8]) -> bool
 /// Memory is taken row by row as rows are found, however many the bytes announce.
 pub fn load(alloc: Global, setup: &Setup, bytes: &[u8]) -> Result<State, StateFault>
     requires { IsSetup setup.now }
+    ensures head { IfSome (head_fault setup.now bytes.now) (λ fault. result ≡ Err fault) }
     ensures ok { IfOk result (StandsFor setup.now bytes.now) }
     ensures loads { (state : State) → StandsFor setup.now bytes.now state → Loads state result }
     ensures err { IfErr result (RefusedFor setup.now bytes.now) }

@@ -1,8 +1,8 @@
 //! Rows and a state as they are read: the readers in the sections go on together, and each row gets memory of its own.
 
-ghost use Rattle.std.specs.Prelude.{◌≡◌, false, IfOk};
+ghost use Rattle.std.specs.Prelude.{◌≡◌, false, None, IfOk};
 ghost use Rattle.sim_sections.specs.Walking.{row_of};
-ghost use Rattle.sim_codec.specs.Reading.{row_at, rows_at, state_at, Gives, GivesState};
+ghost use Rattle.sim_codec.specs.Reading.{row_at, rows_at, start_at, state_at, Gives, GivesState};
 
 use crate::fault::StateFault;
 use sim_base::{Aim, Items, MAX_ROWS, Motion, Row, Rows, Setup, State, Template};
@@ -64,7 +64,8 @@ fn row_from(alloc: Global, parts: Parts) -> Result<Row, AllocError>
 
 #[tactic(auto, unfolding(crate::specs::Reading::row_at))]
 fn next_row(alloc: Global, templates: &[Template], walk: &mut Walk<'_>) -> Result<Row, StateFault>
-    ensures { Gives (row_at templates.now) walk.old result walk.new }
+    ensures row { Gives (row_at templates.now) walk.old result walk.new }
+    ensures no_row { row_at templates.now walk.old ≡ None → result ≡ Err StateFault.Grammar }
 {
     let parts = take_parts(templates, walk)?;
     Ok(row_from(alloc, parts)?)
@@ -88,7 +89,8 @@ fn rows_from(
 /// The state of which these may be the bytes behind the id of the match.
 #[tactic(auto, unfolding(crate::specs::Reading::state_at))]
 pub fn state_from(alloc: Global, setup: &Setup, bytes: &[u8]) -> Result<State, StateFault>
-    ensures { GivesState (state_at setup.now bytes.now) result }
+    ensures state { GivesState (state_at setup.now bytes.now) result }
+    ensures no_start { start_at bytes.now ≡ None → result ≡ Err StateFault.Grammar }
 {
     let mut from = Take::new(bytes);
     let turn = from.u32()?;
