@@ -1,6 +1,6 @@
 //! The way from a point to another, by its points.
 
-ghost use Rattle.std.specs.Prelude.{◌≡◌, ◌<◌, ◌∷◌, [], All, IfOk, IsTrue, true, reverse, if◌then◌else◌};
+ghost use Rattle.std.specs.Prelude.{◌≡◌, ◌<◌, ◌∷◌, [], All, OnOk, IfOk, IsTrue, true, reverse, if◌then◌else◌};
 ghost use Rattle.sim_base.specs.Places.{IsPlaced, is_inside, centre_of as centre_at, same_cell, cell_of as cell_at};
 ghost use Rattle.sim_base.specs.Steps.{IsOnGround};
 ghost use Rattle.sim_base.specs.Ways.{IsEnd, IsFound, IsWay, first_points, waypoints};
@@ -18,7 +18,7 @@ use crate::end::{best_of, end_of};
 use crate::estimate::Aim;
 use crate::labels::Labels;
 use crate::marks::Marks;
-use crate::nearest::nearest;
+use crate::nearest::{is_reached, nearest};
 use crate::search::Search;
 use crate::straight::straight_to;
 use crate::trail::trail_from;
@@ -57,12 +57,11 @@ fn way_within(alloc: Global, goal: &Point) -> Result<Way, OutOfMemory>
     })
 }
 
-// The cells of a trail in the order from the start.
-fn forwards(mut trail: Vec<Cell>) -> Vec<Cell>
-    ensures { result.items ≡ reverse trail.items }
+// Turns a trail round, so that it goes from the start on.
+fn turn(trail: &mut Vec<Cell>)
+    ensures { trail.new.items ≡ reverse trail.old.items }
 {
     trail.as_mut_slice().reverse();
-    trail
 }
 
 // The way through these cells.
@@ -71,13 +70,13 @@ fn way_along(alloc: Global, cells: &[Cell], goal: &Point) -> Result<Way, OutOfMe
     requires goal { IsPlaced goal.now }
     ensures { IfOk result (λ way. way_in way ≡ first_points (waypoints goal.now cells.now)) }
 {
-    let mut points = Points::new(alloc);
     let kept = &cells[..cells.len().min(KEPT)];
+    let mut points = Vec::with_capacity(alloc, kept.len())?;
     for cell in kept {
         points.push(waypoint(*cell, goal))?;
     }
     Ok(Way {
-        points,
+        points: Points::from_items(points),
         whole: cells.len() <= KEPT,
     })
 }
@@ -86,38 +85,36 @@ fn way_along(alloc: Global, cells: &[Cell], goal: &Point) -> Result<Way, OutOfMe
 fn way_forwards(
     alloc: Global,
     grid: &Grid,
-    trail: Vec<Cell>,
+    trail: &mut Vec<Cell>,
     start: &Point,
     goal: &Point,
 ) -> Result<Way, OutOfMemory>
     requires start { IsTrue (is_inside grid.now.size start.now) }
     requires goal { IsTrue (is_inside grid.now.size goal.now) }
-    requires trail { IsTrailToEnd (field_of_grid grid.now) (cell_at start.now) (cell_at goal.now) trail.items }
+    requires trail { IsTrailToEnd (field_of_grid grid.now) (cell_at start.now) (cell_at goal.now) trail.old.items }
     ensures { IfOk result (λ way. IsFound (field_of_grid grid.now) start.now goal.now (way_in way)) }
 {
     let _ = grid.cell_of(*start);
-    let cells = forwards(trail);
-    way_along(alloc, cells.as_slice(), goal)
+    turn(trail);
+    way_along(alloc, trail.as_slice(), goal)
 }
 
-// The way back from the end, turned round.
-fn way_back(
-    alloc: Global,
+// Makes the trail back from the end.
+fn trail_back(
     grid: &Grid,
     costs: &Costs,
+    trail: &mut Vec<Cell>,
     end: Reached,
     start: &Point,
     goal: &Point,
-) -> Result<Way, OutOfMemory>
+) -> Result<(), OutOfMemory>
     requires start { IsTrue (is_inside grid.now.size start.now) }
-    requires goal { IsTrue (is_inside grid.now.size goal.now) }
     requires end { IsEnd (field_of_grid grid.now) (cell_at start.now) (cell_at goal.now) end.cell end.cost }
     requires back { LeadBack (field_of_grid grid.now) (cell_at start.now) (cost_in costs.now) end }
-    ensures { IfOk result (λ way. IsFound (field_of_grid grid.now) start.now goal.now (way_in way)) }
+    ensures { OnOk result (IsTrailToEnd (field_of_grid grid.now) (cell_at start.now) (cell_at goal.now) trail.new.items) }
 {
     let from = grid.cell_of(*start);
-    let trail = trail_from(alloc, grid, costs, from, end)?;
-    way_forwards(alloc, grid, trail, start, goal)
+    trail_from(grid, costs, trail, from, end)
 }
 
 /// The shortest way over the open cells of the grid, of at most 64 points. The start counts as open. Where the goal
@@ -136,35 +133,9 @@ pub fn way(alloc: Global, grid: &Grid, start: Point, goal: Point) -> Result<Way,
     }
     let costs = least_costs(alloc, grid, from)?;
     let end = end_of(&costs, from, to);
-    way_back(alloc, grid, &costs, end, start, goal)
-}
-
-// The way to the best of these ends, or where none is reached, to the best of all reached cells.
-fn way_by(
-    searcher: &mut Searcher,
-    alloc: Global,
-    grid: &Grid,
-    near: u32,
-    ends: &[Cell],
-    start: &Point,
-    goal: &Point,
-) -> Result<Way, OutOfMemory>
-    requires start { IsTrue (is_inside grid.now.size start.now) }
-    requires goal { IsTrue (is_inside grid.now.size goal.now) }
-    requires ends { AreEnds (field_of_grid grid.now) (cell_at start.now) (cell_at goal.now) near ends.now }
-    ensures { IfOk result (λ way. IsFound (field_of_grid grid.now) start.now goal.now (way_in way)) }
-{
-    let from = grid.cell_of(*start);
-    let to = grid.cell_of(*goal);
-    let rooms = searcher.rooms.take();
-    let search = costs_to(alloc, grid, rooms, Aim { goal: to, near }, ends, from)?;
-    let end = match best_of(&search.costs, ends, to) {
-        Some(end) => end,
-        None => end_of(&search.costs, from, to),
-    };
-    let way = way_back(alloc, grid, &search.costs, end, start, goal);
-    searcher.rooms = Some(search);
-    way
+    let mut trail = Vec::new(alloc);
+    trail_back(grid, &costs, &mut trail, end, start, goal)?;
+    way_forwards(alloc, grid, &mut trail, start, goal)
 }
 
 /// The rooms of searches, which are kept from one to the next. What they hold changes no answer.
@@ -172,14 +143,16 @@ fn way_by(
 pub struct Searcher {
     rooms: Option<Search>,
     marks: Option<Marks>,
+    trail: Option<Vec<Cell>>,
 }
 
 impl Searcher {
-    ghost use Rattle.std.specs.Prelude.{◌≡◌, IfOk, IsTrue};
-    ghost use Rattle.sim_base.specs.Places.{is_inside};
-    ghost use Rattle.sim_base.specs.Ways.{IsWay};
+    ghost use Rattle.std.specs.Prelude.{◌≡◌, OnOk, IfOk, IsTrue};
+    ghost use Rattle.sim_base.specs.Places.{is_inside, cell_of as cell_at};
+    ghost use Rattle.sim_base.specs.Ways.{IsFound, IsWay};
     ghost use Rattle.sim_base.specs.WayOf.{way_of};
     ghost use Rattle.sim_grid.specs.Grids.{field_of_grid};
+    ghost use Rattle.sim_path.specs.Comes.{AreEnds, IsTrailToEnd};
     ghost use Rattle.sim_path.specs.Regions.{AreLabels};
     ghost use Rattle.sim_path.specs.Floods.{label_in};
     ghost use Rattle.sim_path.specs.Answers.{way_in};
@@ -189,10 +162,12 @@ impl Searcher {
         Searcher {
             rooms: None,
             marks: None,
+            trail: None,
         }
     }
 
-    /// The same way, found by a search that goes to the reached cells nearest to the goal, which the labels tell.
+    /// The same way as that of `way`, found by a search that goes to the reached cells nearest to the goal, which the
+    /// labels tell.
     pub fn way(
         &mut self,
         alloc: Global,
@@ -213,34 +188,108 @@ impl Searcher {
         if from == to {
             return way_within(alloc, goal);
         }
-        let ends = nearest(alloc, grid, labels, from, to)?;
-        let mut dead = blank_marks(alloc, self.marks.take(), grid.width(), grid.depth())?;
-        let straight = straight_to(
-            alloc,
-            grid,
-            &mut dead,
-            ends.near,
-            ends.cells.as_slice(),
-            from,
-            to,
-        )?;
-        self.marks = Some(dead);
-        if let Some(trail) = straight {
-            return way_forwards(alloc, grid, trail, start, goal);
+        if is_reached(grid, labels, from, to) {
+            return self.way_to(alloc, grid, 0, &[to], start, goal);
         }
-        way_by(
-            self,
+        let ends = nearest(alloc, grid, labels, from, to)?;
+        self.way_to(alloc, grid, ends.near, ends.cells.as_slice(), start, goal)
+    }
+
+    // The way to the best of these ends.
+    fn way_to(
+        &mut self,
+        alloc: Global,
+        grid: &Grid,
+        near: u32,
+        ends: &[Cell],
+        start: &Point,
+        goal: &Point,
+    ) -> Result<Way, OutOfMemory>
+        requires start { IsTrue (is_inside grid.now.size start.now) }
+        requires goal { IsTrue (is_inside grid.now.size goal.now) }
+        requires ends { AreEnds (field_of_grid grid.now) (cell_at start.now) (cell_at goal.now) near ends.now }
+        ensures { IfOk result (λ way. IsFound (field_of_grid grid.now) start.now goal.now (way_in way)) }
+    {
+        let mut trail = room_of(alloc, self.trail.take());
+        self.find(alloc, grid, &mut trail, near, ends, start, goal)?;
+        let way = way_forwards(alloc, grid, &mut trail, start, goal);
+        self.trail = Some(trail);
+        way
+    }
+
+    // Makes the trail back from the best of these ends, with no search where the way is straight.
+    fn find(
+        &mut self,
+        alloc: Global,
+        grid: &Grid,
+        trail: &mut Vec<Cell>,
+        near: u32,
+        ends: &[Cell],
+        start: &Point,
+        goal: &Point,
+    ) -> Result<(), OutOfMemory>
+        requires start { IsTrue (is_inside grid.now.size start.now) }
+        requires goal { IsTrue (is_inside grid.now.size goal.now) }
+        requires ends { AreEnds (field_of_grid grid.now) (cell_at start.now) (cell_at goal.now) near ends.now }
+        ensures { OnOk result (IsTrailToEnd (field_of_grid grid.now) (cell_at start.now) (cell_at goal.now) trail.new.items) }
+    {
+        let from = grid.cell_of(*start);
+        let to = grid.cell_of(*goal);
+        let mut dead = blank_marks(alloc, self.marks.take(), grid.width(), grid.depth())?;
+        let straight = straight_to(grid, &mut dead, trail, near, ends, from, to)?;
+        self.marks = Some(dead);
+        if straight {
+            return Ok(());
+        }
+        self.search(alloc, grid, trail, near, ends, start, goal)
+    }
+
+    // Makes the trail back from the best of these ends by a search, or where none is reached, from the best of all
+    // reached cells.
+    fn search(
+        &mut self,
+        alloc: Global,
+        grid: &Grid,
+        trail: &mut Vec<Cell>,
+        near: u32,
+        ends: &[Cell],
+        start: &Point,
+        goal: &Point,
+    ) -> Result<(), OutOfMemory>
+        requires start { IsTrue (is_inside grid.now.size start.now) }
+        requires goal { IsTrue (is_inside grid.now.size goal.now) }
+        requires ends { AreEnds (field_of_grid grid.now) (cell_at start.now) (cell_at goal.now) near ends.now }
+        ensures { OnOk result (IsTrailToEnd (field_of_grid grid.now) (cell_at start.now) (cell_at goal.now) trail.new.items) }
+    {
+        let from = grid.cell_of(*start);
+        let to = grid.cell_of(*goal);
+        let search = costs_to(
             alloc,
             grid,
-            ends.near,
-            ends.cells.as_slice(),
-            start,
-            goal,
-        )
+            self.rooms.take(),
+            Aim { goal: to, near },
+            ends,
+            from,
+        )?;
+        let end = match best_of(&search.costs, ends, to) {
+            Some(end) => end,
+            None => end_of(&search.costs, from, to),
+        };
+        let found = trail_back(grid, &search.costs, trail, end, start, goal);
+        self.rooms = Some(search);
+        found
     }
 }
 
-/// The same way, in rooms of its own.
+// An earlier trail's room, or a new one that takes no memory yet.
+fn room_of(alloc: Global, trail: Option<Vec<Cell>>) -> Vec<Cell> {
+    match trail {
+        Some(trail) => trail,
+        None => Vec::new(alloc),
+    }
+}
+
+/// The same way as that of `Searcher::way`, in rooms of its own.
 pub fn way_with(
     alloc: Global,
     grid: &Grid,

@@ -67,9 +67,11 @@ fn grid_of(rt: &impl Abort, alloc: Global, rows: &[&str]) -> Result<Grid, Fail> 
     Ok(grid)
 }
 
+// The way by the whole search, if the searches by labels find the same one.
 fn way_on(
     rt: &impl Abort,
     alloc: Global,
+    searcher: &mut Searcher,
     grid: &Grid,
     start: Point,
     goal: Point,
@@ -82,7 +84,9 @@ fn way_on(
     let found = way(alloc, grid, *from, *to)?;
     let labels = labels_of(alloc, grid)?;
     let with = way_with(alloc, grid, &labels, *from, *to)?;
+    let kept = searcher.way(alloc, grid, &labels, *from, *to)?;
     assert!(rt; is_equal(&found, &with));
+    assert!(rt; is_equal(&found, &kept));
     Ok(found)
 }
 
@@ -164,9 +168,17 @@ fn takes_the_way_of_the_other_program(rt: HostRuntime) -> Result<(), Fail> {
             points: &[(10, 2), (6, 2), (2, 2)],
         },
     ];
+    let mut searcher = Searcher::new();
     for case in &cases {
         let grid = grid_of(&rt, rt.alloc(), case.rows)?;
-        let found = way_on(&rt, rt.alloc(), &grid, point(case.start), point(case.goal))?;
+        let found = way_on(
+            &rt,
+            rt.alloc(),
+            &mut searcher,
+            &grid,
+            point(case.start),
+            point(case.goal),
+        )?;
         assert!(rt; found.whole);
         assert_eq!(rt; found.points.as_slice().len(), case.points.len());
         for (at, wanted) in found.points.as_slice().iter().zip(case.points) {
@@ -184,9 +196,17 @@ fn keeps_64_points(rt: HostRuntime) -> Result<(), Fail> {
         (66, 1, (261, 3), (258, 2), false),
         (256, 256, (1022, 1022), (258, 258), false),
     ];
+    let mut searcher = Searcher::new();
     for (width, depth, goal, last, whole) in cases {
         let grid = open_grid(&rt, rt.alloc(), width, depth)?;
-        let found = way_on(&rt, rt.alloc(), &grid, point((2, 2)), point(goal))?;
+        let found = way_on(
+            &rt,
+            rt.alloc(),
+            &mut searcher,
+            &grid,
+            point((2, 2)),
+            point(goal),
+        )?;
         assert_eq!(rt; found.points.as_slice().len(), 64);
         assert_eq!(rt; found.whole, whole);
         assert!(rt; found.points.as_slice().last() == Some(&point(last)));
@@ -194,20 +214,31 @@ fn keeps_64_points(rt: HostRuntime) -> Result<(), Fail> {
     Ok(())
 }
 
+// A ground, and the plain program on it.
+#[derive(Drop)]
+struct Site {
+    grid: Grid,
+    plain: Plain,
+}
+
+// Whether the whole search, the search by labels and the kept searcher find the way of the plain program.
 fn is_same(
     rt: &impl Abort,
     alloc: Global,
-    grid: &Grid,
-    plain: &Plain,
+    searcher: &mut Searcher,
+    site: &Site,
     from: (i32, i32),
     to: (i32, i32),
 ) -> Result<bool, Fail> {
-    let middle = |cell: (i32, i32)| (
-        cell.0.wrapping_mul(4).wrapping_add(2),
-        cell.1.wrapping_mul(4).wrapping_add(2),
-    );
-    let found = way_on(rt, alloc, grid, point(middle(from)), point(middle(to)))?;
-    let wanted = plain.way(alloc, from, to)?;
+    let found = way_on(
+        rt,
+        alloc,
+        searcher,
+        &site.grid,
+        point(middle(from)),
+        point(middle(to)),
+    )?;
+    let wanted = site.plain.way(alloc, from, to)?;
     let mut same = found.points.as_slice().len() == wanted.len();
     for (at, cell) in found.points.as_slice().iter().zip(&wanted) {
         same = same && *at == point(middle(*cell));
@@ -215,23 +246,41 @@ fn is_same(
     Ok(same)
 }
 
+fn middle(cell: (i32, i32)) -> (i32, i32) {
+    (
+        cell.0.wrapping_mul(4).wrapping_add(2),
+        cell.1.wrapping_mul(4).wrapping_add(2),
+    )
+}
+
+// One searcher goes on from ground to ground, of one size and of others.
 #[test]
 fn takes_the_way_of_the_plain_program(rt: HostRuntime) -> Result<(), Fail> {
-    let grounds: [&[&str]; 4] = [
+    let grounds: [&[&str]; 5] = [
         &["....", ".#..", "..#.", "...."],
         &["..#.", ".#..", "...#", "#..."],
         &[".....", ".###.", ".#.#.", "..#.."],
         &["......", ".####.", "......"],
+        &["...", "##.", "...", ".##", "..."],
     ];
+    let mut searcher = Searcher::new();
     for rows in grounds {
         let grid = grid_of(&rt, rt.alloc(), rows)?;
         let plain = Plain::of(rt.alloc(), &grid)?;
-        for z in 0..i32::from(grid.depth()) {
-            for x in 0..i32::from(grid.width()) {
-                for goal_z in 0..i32::from(grid.depth()) {
-                    for goal_x in 0..i32::from(grid.width()) {
+        let site = Site { grid, plain };
+        for z in 0..i32::from(site.grid.depth()) {
+            for x in 0..i32::from(site.grid.width()) {
+                for goal_z in 0..i32::from(site.grid.depth()) {
+                    for goal_x in 0..i32::from(site.grid.width()) {
                         assert!(rt;
-                            is_same(&rt, rt.alloc(), &grid, &plain, (x, z), (goal_x, goal_z))?,
+                            is_same(
+                                &rt,
+                                rt.alloc(),
+                                &mut searcher,
+                                &site,
+                                (x, z),
+                                (goal_x, goal_z)
+                            )?,
                             "from {x} {z} to {goal_x} {goal_z}"
                         );
                     }
@@ -251,35 +300,6 @@ fn labels_two_regions(rt: HostRuntime) -> Result<(), Fail> {
     for label in wanted {
         assert_eq!(rt; labels.of(Cell { x, z: 0 }), label);
         x = x.wrapping_add(1);
-    }
-    Ok(())
-}
-
-// One searcher goes on from ground to ground, of one size and of others.
-#[test]
-fn keeps_its_rooms(rt: HostRuntime) -> Result<(), Fail> {
-    let grounds: [&[&str]; 4] = [
-        &["......", ".####.", ".#..#.", "...##."],
-        &["......", "..#...", ".#....", "......"],
-        &["...", "##.", "...", ".##", "..."],
-        &["......", ".####.", ".#..#.", ".####."],
-    ];
-    let mut searcher = Searcher::new();
-    for rows in grounds {
-        let grid = grid_of(&rt, rt.alloc(), rows)?;
-        let labels = labels_of(rt.alloc(), &grid)?;
-        for start in [(2, 2), (10, 6), (10, 18), (22, 10)] {
-            for goal in [(22, 14), (10, 10), (9, 18), (2, 2)] {
-                let (from, to) = (&point(start), &point(goal));
-                let from_on = is_on(&grid, from);
-                let to_on = is_on(&grid, to);
-                if from_on && to_on {
-                    let found = way(rt.alloc(), &grid, *from, *to)?;
-                    let kept = searcher.way(rt.alloc(), &grid, &labels, *from, *to)?;
-                    assert!(rt; is_equal(&found, &kept));
-                }
-            }
-        }
     }
     Ok(())
 }
