@@ -2,3 +2,4 @@ pub mod Lines
 pub mod Places
 pub mod Refusals
 pub mod Show
+pub mod Downs

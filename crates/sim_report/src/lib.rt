@@ -2,22 +2,28 @@
 //!
 //! It promises the exact bytes, and nothing of how they come out. Each call that appends answers want of memory alone,
 //! and the text is then as it was. It stands on the records of `sim_base`, on `sim_codec` and `sim_diff` for the place
-//! at which two states differ, and on `sim_bytes` for bytes in hexadecimal.
+//! at which two states differ, on `sim_wire` for messages, and on `sim_bytes` for bytes in hexadecimal.
 //!
 //! - `line`: how the program is called, and the lines of a turn and of a stored state.
 //! - `show`: a state, row by row.
+//! - `down`: a message of the server.
+//! - `served`: the lines of a server.
 //! - `refusal`: why something is refused.
 //! - `place`: where two states differ.
 #![tactic(auto)]
 
+mod down;
 mod line;
 mod place;
 mod refusal;
+mod served;
 mod show;
 #[cfg(test)]
 mod tests;
 
+pub use down::push_down;
 pub use line::{push_saved, push_turn, push_usage};
 pub use place::push_place;
 pub use refusal::{Refusal, push_refusal};
+pub use served::{push_kept, push_post, push_released};
 pub use show::push_show;

@@ -1,6 +1,7 @@
 //! A state as text: a line of its clock, and a line of each row with the parts that the row has.
 
 ghost use Rattle.std.specs.Prelude.{◌≡◌, ◌++◌, All, length, take, OnOk, OnErr, string_bytes};
+ghost use Rattle.sim_base.specs.NumberText.{text_of};
 ghost use Rattle.sim_report.specs.Show.{HasTemplate, show_text, clock_line, row_line, row_head, point_text, health_text, motion_text, attack_text};
 
 use sim_base::{Aim, Fixed, Motion, OutOfMemory, Point, Row, Setup, State};
@@ -95,12 +96,22 @@ fn write_head(setup: &Setup, row: &Row, line: &mut String) -> Result<(), OutOfMe
     Ok(())
 }
 
-fn write_point(point: Point, line: &mut String) -> Result<(), OutOfMemory>
-    ensures { OnOk result (string_bytes line.new ≡ string_bytes line.old ++ point_text point) }
+/// Appends both coordinates. After an error a part of them may stand behind the old text.
+pub fn write_point(point: Point, line: &mut String) -> Result<(), OutOfMemory>
+    ensures ok { OnOk result (string_bytes line.new ≡ string_bytes line.old ++ point_text point) }
+    ensures err { OnErr result (take (length (string_bytes line.old)) (string_bytes line.new) ≡ string_bytes line.old) }
 {
-    point.x.push_text(line)?;
-    line.push_str(" ")?;
-    point.z.push_text(line)
+    write_fixed("", point.x, line)?;
+    write_fixed(" ", point.z, line)
+}
+
+// A word and a number with a fraction. After an error a part of them may stand behind the old text.
+fn write_fixed(word: &str, number: Fixed, line: &mut String) -> Result<(), OutOfMemory>
+    ensures ok { OnOk result (string_bytes line.new ≡ string_bytes line.old ++ (word.now ++ text_of number)) }
+    ensures err { OnErr result (take (length (string_bytes line.old)) (string_bytes line.new) ≡ string_bytes line.old) }
+{
+    line.push_str(word)?;
+    number.push_text(line)
 }
 
 fn write_health(health: Option<Fixed>, line: &mut String) -> Result<(), OutOfMemory>

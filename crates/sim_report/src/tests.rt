@@ -4,10 +4,13 @@ ghost use Rattle.std.specs.Prelude.{◌≡◌, ◌<◌, [], None, length, IfOk};
 
 use super::*;
 use sim_base::{
-    Aim, Fixed, Items, Land, Motion, Name, OutOfMemory, Point, Resist, Row, Setup, State, Template,
+    Aim, Command, Fixed, Items, Land, Motion, Name, OutOfMemory, PlayerCommand, Point, Resist, Row,
+    Setup, State, Template,
 };
 use sim_codec::{Part, bits_of};
 use sim_diff::{Place, difference};
+use sim_plain::PostOf;
+use sim_wire::Down;
 use std::alloc::Global;
 use std::test::Fail;
 
@@ -277,4 +280,83 @@ fn shown(alloc: Global, next: u32, row: Row) -> Result<String, OutOfMemory>
     let mut out = String::new(alloc);
     push_show(&setup, &state, &mut out)?;
     Ok(out)
+}
+
+fn order(turn: u32, player: u8, command: Command) -> Down {
+    let order = PlayerCommand { player, command };
+    Down::Command { turn, order }
+}
+
+fn point(x: i32, z: i32) -> Point {
+    let x = Fixed::from_raw(x);
+    let z = Fixed::from_raw(z);
+    Point { x, z }
+}
+
+fn messages(alloc: Global) -> Result<Vec<(Down, &'static str)>, OutOfMemory> {
+    let bytes = Items::from_items(vec![in alloc; 97u8, 98, 99]?);
+    let ids = Items::from_items(vec![in alloc; 2u32, 3]?);
+    let last = Items::from_items(vec![in alloc; u32::MAX, 0]?);
+    let none = Items::new(alloc);
+    let to = point(425_984, -163_840);
+    let walk = Command::Walk { ids, to };
+    let target = u32::MAX;
+    let ids = Items::from_items(vec![in alloc; 2u32]?);
+    let attack = Command::Attack { ids, target };
+    let at = point(65_536, 1);
+    let place = Command::Place { template: 513, at };
+    let train = Command::Train {
+        building: 5,
+        template: 65_535,
+    };
+    let messages = vec![in alloc;
+        (Down::Ask { client: 3 }, "ask 3"),
+        (Down::State { done: 2, bytes }, "state done 2 bytes 3"),
+        (
+            order(2, 1, walk),
+            "command turn 2 player 1 walk 2,3 to 6.50000 -2.50000"
+        ),
+        (
+            order(2, 8, Command::Stop { ids: none }),
+            "command turn 2 player 8 stop -"
+        ),
+        (
+            order(65_535, 1, attack),
+            "command turn 65535 player 1 attack 2 on 4294967295"
+        ),
+        (
+            order(1, 1, Command::Delete { ids: last }),
+            "command turn 1 player 1 delete 4294967295,0"
+        ),
+        (
+            order(1, 1, place),
+            "command turn 1 player 1 place 513 at 1 0.00002"
+        ),
+        (order(1, 1, train), "command turn 1 player 1 train 5 65535"),
+        (
+            order(1, 1, Command::Resign),
+            "command turn 1 player 1 resign"
+        ),
+        (Down::Release { turn: 0 }, "release 0"),
+        (Down::Notice { turn: 2, client: 1 }, "notice 2 1"),
+        (Down::Refused { code: 4 }, "refused 4"),
+    ]?;
+    Ok(messages)
+}
+
+#[test]
+fn prints_what_a_server_says(rt: HostRuntime) -> Result<(), Fail> {
+    let alloc = rt.alloc();
+    for (down, wanted) in messages(alloc)? {
+        let mut out = String::from_str(alloc, "to ")?;
+        push_down(&down, &mut out)?;
+        assert_eq!(rt; out.as_str().strip_prefix("to "), Some(wanted));
+    }
+    let mut out = String::new(alloc);
+    let down = Down::Release { turn: 2 };
+    push_post(&PostOf { to: 8, down }, &mut out)?;
+    push_released(2, &mut out)?;
+    push_kept(3, 64, &mut out)?;
+    assert_eq!(rt; out.as_str(), "to 8 release 2\nreleased 2\nkept 3 64\n");
+    Ok(())
 }

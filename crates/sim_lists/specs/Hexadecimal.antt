@@ -1,0 +1,22 @@
+-- Texts of hexadecimal digits as bytes.
+use Rattle.std.specs.Prelude.{ℕ, ◌%◌, ◌==◌, ◌&&◌, nat_le, Bool, List, length, Option, None, if◌then◌else◌}
+use Rattle.std.specs.List.{list_all}
+use Rattle.std.specs.Result.{result_ok}
+use Rattle.hex.specs.Hex.{decode_of}
+use Rattle.sim_bytes.specs.Hex.{is_digit}
+
+-- pairs of lower-case digits
+abbrev pub is_hex : List ℕ → Bool
+is_hex text = (length text % 2 == 0) && list_all is_digit text
+
+-- the bytes of a text of such pairs
+abbrev pub hex_of : List ℕ → Option (List ℕ)
+hex_of text = if is_hex text then result_ok (decode_of text) else None
+
+-- the 16 bytes of a digest, from a text of 32 digits
+abbrev pub digest_of : List ℕ → Option (List ℕ)
+digest_of text = if length text == 32 then hex_of text else None
+
+-- the bytes of a state, of which there are at most 2,326,598
+abbrev pub state_of : List ℕ → Option (List ℕ)
+state_of text = if nat_le (length text) 4653196 then hex_of text else None

@@ -1,0 +1,5 @@
+pub mod Hexadecimal
+pub mod Arrivals
+pub mod Schedules
+pub mod Meets
+pub mod Laws

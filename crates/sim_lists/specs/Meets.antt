@@ -1,0 +1,15 @@
+-- What a call that reads a list answers. It may run out of memory, and is else what a definition says.
+use Rattle.std.specs.Prelude.{◌≡◌, ℕ, ◌+◌, Result, Ok, Err}
+use Rattle.sim_lists.specs.declared.fault.ListFault.{ListFault}
+use Rattle.sim_lists.specs.declared.fault.ListFault.TheVariants.{Refused, OutOfMemory}
+
+-- an answer is the wanted one, or memory ran out
+abbrev pub Meets : {X : Type 0} → Result X ListFault → Result X ℕ → Type 0
+Meets (Ok x) wanted = wanted ≡ Ok x
+Meets (Err (Refused index)) wanted = wanted ≡ Err index
+Meets (Err OutOfMemory) wanted = Unit {0}
+
+-- a fault is the refusal of this item, counted from 1, or memory ran out
+abbrev pub Tells : ListFault → ℕ → Type 0
+Tells (Refused index) item = index ≡ item + 1
+Tells OutOfMemory item = Unit {0}

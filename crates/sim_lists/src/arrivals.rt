@@ -1,0 +1,195 @@
+//! One arrival of a schedule. Each reader is handed what follows its word.
+
+ghost use Rattle.std.specs.Prelude.{◌≡◌, map, option_map, option_and_then, IfOk, IfSome};
+ghost use Rattle.serde_json.specs.View.{view};
+ghost use Rattle.serde_json.specs.Find.{as_str};
+ghost use Rattle.sim_json.specs.Values.{list_of as list_of_data, front_two as front_two_of};
+ghost use Rattle.sim_lists.specs.Hexadecimal.{digest_of as digest_of_text, state_of as state_of_text};
+ghost use Rattle.sim_lists.specs.Arrivals.{turn_in as turn_in_data, join_from as join_from_data, command_from as command_from_data, done_from as done_from_data, report_from as report_from_data, state_from as state_from_data, up_by as up_by_word, cut_from as cut_from_data, arrival_by as arrival_by_word, arrival_of as arrival_of_data};
+ghost use Rattle.sim_lists.specs.Schedules.{IsFromClient};
+
+use crate::hexadecimal::{digest_of, state_of};
+use crate::schedule::Arrival;
+use serde_json::Value;
+use sim_base::OutOfMemory;
+use sim_commands::{command_of, three};
+use sim_json::{front_two, list_of, natural_in, two};
+use sim_wire::{Bytes, Up};
+use std::alloc::Global;
+
+/// An arrival from one of so many clients, or None where the item is none.
+#[tactic(auto, unfolding(crate::specs::Arrivals::arrival_of))]
+pub fn arrival_of(alloc: Global, clients: u8, item: &Value) -> Result<Option<Arrival>, OutOfMemory>
+    ensures value { IfOk result (λ arrival. arrival ≡ arrival_of_data clients (view item.now)) }
+    ensures client { IfOk result (λ found. IfSome found (IsFromClient clients)) }
+{
+    let Some((from, word, rest)) = parts_of(item) else {
+        return Ok(None);
+    };
+    let Some(from) = natural_in(from, 1, u64::from(clients)) else {
+        return Ok(None);
+    };
+    let Some(word) = word.as_str() else {
+        return Ok(None);
+    };
+    arrival_by(alloc, from as u8, word, rest)
+}
+
+fn parts_of(item: &Value) -> Option<(&Value, &Value, &[Value])>
+    ensures { option_map (λ p. (view p.0.now, view p.1.now, map view p.2.now)) result ≡ option_and_then front_two_of (list_of_data (view item.now)) }
+{
+    front_two(list_of(item)?)
+}
+
+fn arrival_by(
+    alloc: Global,
+    from: u8,
+    word: &str,
+    rest: &[Value],
+) -> Result<Option<Arrival>, OutOfMemory>
+    ensures value { IfOk result (λ arrival. arrival ≡ arrival_by_word from word.now (map view rest.now)) }
+    ensures client { IfOk result (λ found. IfSome found (λ arrival. arrival.from ≡ from)) }
+{
+    if word == "cut" {
+        return Ok(cut_from(from, rest));
+    }
+    let Some(up) = up_by(alloc, word, rest)? else {
+        return Ok(None);
+    };
+    let said = Some(up);
+    Ok(Some(Arrival { from, said }))
+}
+
+fn cut_from(from: u8, rest: &[Value]) -> Option<Arrival>
+    ensures value { result ≡ cut_from_data from (map view rest.now) }
+    ensures client { IfSome result (λ arrival. arrival.from ≡ from) }
+{
+    match rest {
+        [] => Some(Arrival { from, said: None }),
+        _ => None,
+    }
+}
+
+fn up_by(alloc: Global, word: &str, rest: &[Value]) -> Result<Option<Up>, OutOfMemory>
+    ensures { IfOk result (λ up. up ≡ up_by_word word.now (map view rest.now)) }
+{
+    if word == "join" {
+        return Ok(join_from(rest));
+    }
+    if word == "command" {
+        return command_from(alloc, rest);
+    }
+    if word == "done" {
+        return Ok(done_from(rest));
+    }
+    if word == "report" {
+        return report_from(alloc, rest);
+    }
+    if word == "state" {
+        return state_from(alloc, rest);
+    }
+    Ok(None)
+}
+
+fn join_from(rest: &[Value]) -> Option<Up>
+    ensures { result ≡ join_from_data (map view rest.now) }
+{
+    match rest {
+        [] => Some(Up::Join),
+        _ => None,
+    }
+}
+
+fn command_from(alloc: Global, rest: &[Value]) -> Result<Option<Up>, OutOfMemory>
+    ensures { IfOk result (λ up. up ≡ command_from_data (map view rest.now)) }
+{
+    match rest {
+        [turn, command @ ..] => {
+            let Some(turn) = turn_in(turn) else {
+                return Ok(None);
+            };
+            let Some(command) = command_of(alloc, command)? else {
+                return Ok(None);
+            };
+            Ok(Some(Up::Command { turn, command }))
+        }
+        [] => Ok(None),
+    }
+}
+
+fn done_from(rest: &[Value]) -> Option<Up>
+    ensures { result ≡ done_from_data (map view rest.now) }
+{
+    match rest {
+        [turn] => {
+            let turn = turn_in(turn)?;
+            Some(Up::Done { turn })
+        }
+        _ => None,
+    }
+}
+
+fn report_from(alloc: Global, rest: &[Value]) -> Result<Option<Up>, OutOfMemory>
+    ensures { IfOk result (λ up. up ≡ report_from_data (map view rest.now)) }
+{
+    let Some((turn, digest)) = two(rest) else {
+        return Ok(None);
+    };
+    let Some(turn) = turn_in(turn) else {
+        return Ok(None);
+    };
+    let Some(digest) = digest_in(alloc, digest)? else {
+        return Ok(None);
+    };
+    Ok(Some(Up::Report { turn, digest }))
+}
+
+fn state_from(alloc: Global, rest: &[Value]) -> Result<Option<Up>, OutOfMemory>
+    ensures { IfOk result (λ up. up ≡ state_from_data (map view rest.now)) }
+{
+    let Some((client, turn, bytes)) = three(rest) else {
+        return Ok(None);
+    };
+    let Some(client) = natural_in(client, 0, u64::from(u8::MAX)) else {
+        return Ok(None);
+    };
+    let Some(turn) = turn_in(turn) else {
+        return Ok(None);
+    };
+    let Some(bytes) = bytes_in(alloc, bytes)? else {
+        return Ok(None);
+    };
+    let client = client as u8;
+    Ok(Some(Up::State {
+        client,
+        turn,
+        bytes,
+    }))
+}
+
+fn turn_in(value: &Value) -> Option<u32>
+    ensures { result ≡ turn_in_data (view value.now) }
+{
+    match natural_in(value, 0, u64::from(u32::MAX)) {
+        Some(turn) => Some(turn as u32),
+        None => None,
+    }
+}
+
+fn digest_in(alloc: Global, value: &Value) -> Result<Option<[u8; 16]>, OutOfMemory>
+    ensures { IfOk result (λ digest. digest ≡ option_and_then digest_of_text (as_str (view value.now))) }
+{
+    match value.as_str() {
+        Some(text) => digest_of(alloc, text),
+        None => Ok(None),
+    }
+}
+
+fn bytes_in(alloc: Global, value: &Value) -> Result<Option<Bytes>, OutOfMemory>
+    ensures { IfOk result (λ bytes. bytes ≡ option_and_then state_of_text (as_str (view value.now))) }
+{
+    match value.as_str() {
+        Some(text) => state_of(alloc, text),
+        None => Ok(None),
+    }
+}

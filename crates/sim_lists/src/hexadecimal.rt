@@ -1,0 +1,44 @@
+//! Digests and states as text.
+
+ghost use Rattle.std.specs.Prelude.{◌≡◌, IfOk};
+ghost use Rattle.sim_lists.specs.Hexadecimal.{hex_of, digest_of as digest_of_text, state_of as state_of_text};
+
+use sim_base::{Items, MAX_STATE, OutOfMemory};
+use sim_bytes::read_hex;
+use sim_wire::Bytes;
+use std::alloc::Global;
+
+// The bytes of a text of pairs of digits.
+fn bytes_of(alloc: Global, text: &str) -> Result<Option<Bytes>, OutOfMemory>
+    ensures { IfOk result (λ found. found ≡ hex_of text.now) }
+{
+    match read_hex(alloc, text)? {
+        Some(bytes) => Ok(Some(Items::from_items(bytes))),
+        None => Ok(None),
+    }
+}
+
+/// The digest that a text of 32 digits spells.
+pub fn digest_of(alloc: Global, text: &str) -> Result<Option<[u8; 16]>, OutOfMemory>
+    ensures { IfOk result (λ found. found ≡ digest_of_text text.now) }
+{
+    if text.len() != 32 {
+        return Ok(None);
+    }
+    let Some(bytes) = bytes_of(alloc, text)? else {
+        return Ok(None);
+    };
+    let mut digest = [0; 16];
+    digest.copy_from_slice(bytes.as_slice());
+    Ok(Some(digest))
+}
+
+/// The bytes of a state that a text spells, of which there are not more than any state has.
+pub fn state_of(alloc: Global, text: &str) -> Result<Option<Bytes>, OutOfMemory>
+    ensures { IfOk result (λ found. found ≡ state_of_text text.now) }
+{
+    if text.len() > 2 * MAX_STATE {
+        return Ok(None);
+    }
+    bytes_of(alloc, text)
+}

@@ -1,0 +1,142 @@
+//! The messages of the server as text.
+
+ghost use Rattle.std.specs.Prelude.{◌≡◌, ◌++◌, length, take, flat_map, codes, decimal, OnOk, OnErr, string_bytes};
+ghost use Rattle.sim_report.specs.Show.{point_text};
+ghost use Rattle.sim_report.specs.Downs.{next_id, ids_text, command_text, order_text, down_text};
+
+use crate::show::write_point;
+use sim_base::{Command, Ids, OutOfMemory, PlayerCommand, Point, push_decimal};
+use sim_wire::Down;
+
+/// Appends a message of the server, without an end of its line, or leaves the text as it was.
+pub fn push_down(message: &Down, out: &mut String) -> Result<(), OutOfMemory>
+    ensures ok { OnOk result (string_bytes out.new ≡ string_bytes out.old ++ down_text message.now) }
+    ensures err { OnErr result (string_bytes out.new ≡ string_bytes out.old) }
+{
+    let length = out.len();
+    match append_down(message, out) {
+        Ok(()) => Ok(()),
+        Err(stop) => {
+            out.truncate(length);
+            Err(stop)
+        }
+    }
+}
+
+/// Appends a message; after an error a part of it may stand behind the old text, here and below.
+pub fn append_down(message: &Down, out: &mut String) -> Result<(), OutOfMemory>
+    ensures ok { OnOk result (string_bytes out.new ≡ string_bytes out.old ++ down_text message.now) }
+    ensures err { OnErr result (take (length (string_bytes out.old)) (string_bytes out.new) ≡ string_bytes out.old) }
+{
+    match message {
+        Down::Ask { client } => append_number("ask ", u64::from(*client), out),
+        Down::State { done, bytes } => {
+            append_number("state done ", u64::from(*done), out)?;
+            append_number(" bytes ", bytes.as_slice().len() as u64, out)
+        }
+        Down::Command { turn, order } => {
+            append_number("command turn ", u64::from(*turn), out)?;
+            append_order(order, out)
+        }
+        Down::Release { turn } => append_number("release ", u64::from(*turn), out),
+        Down::Notice { turn, client } => {
+            append_number("notice ", u64::from(*turn), out)?;
+            append_number(" ", u64::from(*client), out)
+        }
+        Down::Refused { code } => append_number("refused ", u64::from(*code), out),
+    }
+}
+
+/// Appends a word and a number.
+pub fn append_number(word: &str, number: u64, out: &mut String) -> Result<(), OutOfMemory>
+    ensures ok { OnOk result (string_bytes out.new ≡ string_bytes out.old ++ (word.now ++ decimal number)) }
+    ensures err { OnErr result (take (length (string_bytes out.old)) (string_bytes out.new) ≡ string_bytes out.old) }
+{
+    out.push_str(word)?;
+    push_decimal(number, out)
+}
+
+fn append_order(order: &PlayerCommand, out: &mut String) -> Result<(), OutOfMemory>
+    ensures ok { OnOk result (string_bytes out.new ≡ string_bytes out.old ++ order_text order.now) }
+    ensures err { OnErr result (take (length (string_bytes out.old)) (string_bytes out.new) ≡ string_bytes out.old) }
+{
+    append_number(" player ", u64::from(order.player), out)?;
+    append_spaced(&order.command, out)
+}
+
+// A space and a command.
+fn append_spaced(command: &Command, out: &mut String) -> Result<(), OutOfMemory>
+    ensures ok { OnOk result (string_bytes out.new ≡ string_bytes out.old ++ (codes " " ++ command_text command.now)) }
+    ensures err { OnErr result (take (length (string_bytes out.old)) (string_bytes out.new) ≡ string_bytes out.old) }
+{
+    out.push_str(" ")?;
+    append_command(command, out)
+}
+
+fn append_command(command: &Command, out: &mut String) -> Result<(), OutOfMemory>
+    ensures ok { OnOk result (string_bytes out.new ≡ string_bytes out.old ++ command_text command.now) }
+    ensures err { OnErr result (take (length (string_bytes out.old)) (string_bytes out.new) ≡ string_bytes out.old) }
+{
+    match command {
+        Command::Walk { ids, to } => {
+            append_ids("walk ", ids, out)?;
+            append_point(" to ", *to, out)
+        }
+        Command::Stop { ids } => append_ids("stop ", ids, out),
+        Command::Attack { ids, target } => {
+            append_ids("attack ", ids, out)?;
+            append_number(" on ", u64::from(*target), out)
+        }
+        Command::Delete { ids } => append_ids("delete ", ids, out),
+        Command::Place { template, at } => {
+            append_number("place ", u64::from(*template), out)?;
+            append_point(" at ", *at, out)
+        }
+        Command::Train { building, template } => {
+            append_number("train ", u64::from(*building), out)?;
+            append_number(" ", u64::from(*template), out)
+        }
+        Command::Resign => {
+            out.push_str("resign")?;
+            Ok(())
+        }
+    }
+}
+
+// A word and both coordinates.
+fn append_point(word: &str, point: Point, out: &mut String) -> Result<(), OutOfMemory>
+    ensures ok { OnOk result (string_bytes out.new ≡ string_bytes out.old ++ (word.now ++ point_text point)) }
+    ensures err { OnErr result (take (length (string_bytes out.old)) (string_bytes out.new) ≡ string_bytes out.old) }
+{
+    out.push_str(word)?;
+    write_point(point, out)
+}
+
+// A word and ids.
+fn append_ids(word: &str, ids: &Ids, out: &mut String) -> Result<(), OutOfMemory>
+    ensures ok { OnOk result (string_bytes out.new ≡ string_bytes out.old ++ (word.now ++ ids_text ids.now)) }
+    ensures err { OnErr result (take (length (string_bytes out.old)) (string_bytes out.new) ≡ string_bytes out.old) }
+{
+    match ids.as_slice() {
+        [] => {
+            out.push_str(word)?;
+            out.push_str("-")?;
+            Ok(())
+        }
+        [first, others @ ..] => {
+            append_number(word, u64::from(*first), out)?;
+            append_more(others, out)
+        }
+    }
+}
+
+// Each id behind a comma.
+fn append_more(ids: &[u32], out: &mut String) -> Result<(), OutOfMemory>
+    ensures ok { OnOk result (string_bytes out.new ≡ string_bytes out.old ++ flat_map next_id ids.now) }
+    ensures err { OnErr result (take (length (string_bytes out.old)) (string_bytes out.new) ≡ string_bytes out.old) }
+{
+    for id in ids {
+        append_number(",", u64::from(*id), out)?;
+    }
+    Ok(())
+}

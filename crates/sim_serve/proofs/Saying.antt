@@ -1,0 +1,57 @@
+-- A client that reports is told its own notice.
+use Rattle.std.proofs.Common.{◌≡◌, ℕ, Bool, true, false, List, [], ◌∷◌, ◌++◌, map, refl, sym, ap, ◌∙◌, if◌then◌else◌, Option, Some, None, is_none, true≢false}
+use Rattle.std.specs.Prelude.{filter_map, filter}
+use Rattle.sim_plain.specs.declared.message.UpOf.TheVariants as up
+use Rattle.sim_plain.specs.declared.rules.Rules.{Rules}
+use Rattle.sim_plain.specs.declared.status.Status.{Status}
+use Rattle.sim_plain.specs.declared.status.Status.TheVariants.{Out, Waiting, In}
+use Rattle.sim_plain.specs.Messages.{Arrival, Heard, Cut, sender}
+use Rattle.sim_plain.specs.Server.{Server, is_in, is_out, command_fault, done_fault, report_fault, takes_state, server_after}
+use Rattle.sim_plain.specs.Posts.{posts, differs}
+use Rattle.sim_plain.specs.Notices.{Report, notice_in, noticed, notices, notices_given}
+use Rattle.sim_plain.proofs.Told.{notices_are_told}
+use Rattle.sim_plain.proofs.Notices.{notices_are}
+use Rattle.sim_serve.specs.Laws.{told_to_senders}
+
+abbrev Bytes : Type 0
+Bytes = List ℕ
+
+-- a report as turn and client
+abbrev pair : Report → ℕ × ℕ
+pair r = (r.0, r.1.0)
+
+-- the notices of reports
+abbrev told : Server → List Report → List (ℕ × ℕ)
+told s reports = map pair (filter (λ (r : Report). differs (s.reference r.0) r.1.1) reports)
+
+none_told : (s : Server) (accepted : Bool) → told s (if accepted then [] else []) ≡ []
+none_told s true = refl
+none_told s false = refl
+
+-- what one says that is not in gives no notice
+none_outside : (rules : Rules) (s : Server) (a : Arrival Bytes) → is_in (s.status (sender a)) ≡ false → noticed rules s a ≡ []
+none_outside rules s (Heard c up.Join) out = none_told s (is_out (s.status c))
+none_outside rules s (Heard c (up.Command t x)) out = none_told s (is_none (command_fault rules (s.kept t) c t (s.status c)))
+none_outside rules s (Heard c (up.Done t)) out = none_told s (is_none (done_fault rules s.released t (s.status c)))
+none_outside rules s (Heard c (up.Report t g)) out = by (s.status c) out
+  where
+    by : (st : Status) → is_in st ≡ false → told s (if is_none (report_fault s.released t st) then (t, (c, g)) ∷ [] else []) ≡ []
+    by Out e = refl
+    by (Waiting j) e = refl
+    by (In done) e = absurd (true≢false e)
+none_outside rules s (Heard c (up.State j t carried)) out = none_told s (takes_state s.released c t (s.status j))
+none_outside rules s (Cut c) out = none_told s true
+
+own_notice : (rules : Rules) (s : Server) (a : Arrival Bytes) → filter_map notice_in (posts rules s a (sender a)) ≡ noticed rules s a
+own_notice rules s a = notices_are_told rules s a (sender a) ∙ by (is_in (s.status (sender a))) refl
+  where
+    by : (b : Bool) → is_in (s.status (sender a)) ≡ b → (if b then noticed rules s a else []) ≡ noticed rules s a
+    by true e = refl
+    by false e = sym (none_outside rules s a e)
+
+told_one_by_one : (rules : Rules) (active : ℕ) (h : List (Arrival Bytes)) → told_to_senders rules active h ≡ notices_given rules active h
+told_one_by_one rules active [] = refl
+told_one_by_one rules active (a ∷ h) = (λ i. told_one_by_one rules active h i ++ own_notice rules (server_after rules active h) a i)
+
+pub notices_are_said : (rules : Rules) (active : ℕ) (h : List (Arrival Bytes)) → told_to_senders rules active h ≡ notices rules active h
+notices_are_said rules active h = told_one_by_one rules active h ∙ notices_are rules active h

@@ -1,0 +1,8 @@
+-- The text so far has the lines of the messages so far.
+use Rattle.std.proofs.Common.{◌≡◌, ◌++◌, take}
+use Rattle.std.specs.Prelude.{string_bytes, flat_map}
+use Rattle.sim_report.specs.Downs.{post_line}
+use Rattle.sim_serve.proofs.serve.push_posts.Given as goal
+
+abbrev pub invariant-loop-post : goal.invariant-loop-post
+invariant-loop-post l = string_bytes l.text ≡ string_bytes l.initial.text ++ flat_map post_line (take l.post-index l.post-items)

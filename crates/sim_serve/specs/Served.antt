@@ -1,0 +1,46 @@
+-- What is printed of a schedule: all that the server says at its arrivals, and what the server has come to.
+use Rattle.std.specs.Prelude.{ℕ, zero, suc, ◌==◌, if◌then◌else◌, List, [], ◌∷◌, ◌++◌, length, map, flat_map}
+use Rattle.sim_base.specs.declared.command.PlayerCommand.{PlayerCommand}
+use Rattle.sim_plain.specs.Messages.{Arrival}
+use Rattle.sim_plain.specs.declared.rules.Rules.{Rules}
+use Rattle.sim_plain.specs.Server.{Server, server_after}
+use Rattle.sim_plain.specs.Posts.{served}
+use Rattle.sim_lists.specs.declared.schedule.Schedule.{Schedule}
+use Rattle.sim_lists.specs.Arrivals.{plain_arrival}
+use Rattle.sim_report.specs.Downs.{post_line, released_line, kept_line}
+
+-- arrivals behind those that came before, the newest first
+abbrev pub history : {B : Type 0} → List (Arrival B) → List (Arrival B) → List (Arrival B)
+history h [] = h
+history h (a ∷ rest) = history (a ∷ h) rest
+
+-- what the server must know of the match of a schedule
+abbrev pub rules_of : Schedule → Rules
+rules_of schedule = record { clients = schedule.clients; delay = schedule.delay; turns = schedule.turns }
+
+-- the arrivals of a schedule, in order
+abbrev pub arrivals_of : Schedule → List (Arrival (List ℕ))
+arrivals_of schedule = map plain_arrival schedule.arrivals
+
+-- the server after all of them
+abbrev pub server_of : Schedule → Server
+server_of schedule = server_after (rules_of schedule) schedule.active (history [] (arrivals_of schedule))
+
+-- the line of a turn, if commands are kept of it: so many
+abbrev pub kept_of : ℕ → ℕ → List ℕ
+kept_of turn count = if count == 0 then [] else kept_line turn count
+
+-- the lines of turns 1 to n
+abbrev pub kept_lines : (ℕ → List PlayerCommand) → ℕ → List ℕ
+kept_lines kept zero = []
+kept_lines kept (suc n) = kept_lines kept n ++ kept_of (suc n) (length (kept (suc n)))
+
+-- a line of each message, by arrival and then by receiver
+abbrev pub said_lines : Rules → ℕ → List (Arrival (List ℕ)) → List (Arrival (List ℕ)) → List ℕ
+said_lines rules active h arrivals = flat_map post_line (served rules active h arrivals)
+
+-- the whole text
+abbrev pub served_text : Schedule → List ℕ
+served_text schedule =
+    said_lines (rules_of schedule) schedule.active [] (arrivals_of schedule)
+    ++ (released_line (server_of schedule).released ++ kept_lines (server_of schedule).kept schedule.turns)
