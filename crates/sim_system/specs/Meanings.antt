@@ -35,7 +35,7 @@ built land facts m = record m { land = Some land; facts = kept_of m.kind facts }
 
 -- it was built once more; the count stands still at the end of its type
 abbrev pub one_more : ℕ → ℕ
-one_more count = min (count + 1) (2 ^ 64 - 1)
+one_more count = count + min 1 (2 ^ 64 - 1 - count)
 
 abbrev pub counted : Meaning → Meaning
 counted m = record m { rebuilds = one_more m.rebuilds }

@@ -1,0 +1,6 @@
+pub mod Feeding
+pub mod Beginning
+pub mod Setting
+pub mod Letting
+pub mod Standing
+pub mod Counting

@@ -1,0 +1,10 @@
+use Rattle.sim_system.specs.RigWords.{systems_by}
+use Rattle.sim_board.specs.BoardWords.{AreKept}
+use Rattle.sim_board.proofs.Feeding.{AreLetGo}
+use Rattle.sim_board.proofs.post.release.Given as goal
+
+-- the first of them are let go
+abbrev pub invariant-loop-watcher : goal.invariant-loop-watcher
+invariant-loop-watcher g l =
+    AreLetGo l.setup l.state l.id l.ids l.watcher-index (systems_by l.rig (λ i v. (goal.System-dyn g (i, v)).meaning v))
+    × AreKept (systems_by l.initial.rig (λ i v. (goal.System-dyn g (i, v)).meaning v)) (systems_by l.rig (λ i v. (goal.System-dyn g (i, v)).meaning v))

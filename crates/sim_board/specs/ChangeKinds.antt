@@ -1,0 +1,27 @@
+-- Changes that are made in one way or another.
+use Rattle.sim_base.specs.declared.change.Change.{Change}
+use Rattle.sim_base.specs.declared.change.Change.TheVariants as change
+
+-- a motion, a health, the word and the turn are set without memory, and no system is told
+abbrev pub NeedsNoMemory : Change → Type 0
+NeedsNoMemory (change.Move id p) = ⊥
+NeedsNoMemory (change.Motion id motion) = Unit {0}
+NeedsNoMemory (change.Attack id aim) = ⊥
+NeedsNoMemory (change.Health id health) = Unit {0}
+NeedsNoMemory (change.Owner id owner) = ⊥
+NeedsNoMemory (change.Remove id) = ⊥
+NeedsNoMemory (change.Create number p owner) = ⊥
+NeedsNoMemory (change.Word word) = Unit {0}
+NeedsNoMemory change.Tick = Unit {0}
+
+-- no row leaves
+abbrev pub IsNoRemoval : Change → Type 0
+IsNoRemoval (change.Move id p) = Unit {0}
+IsNoRemoval (change.Motion id motion) = Unit {0}
+IsNoRemoval (change.Attack id aim) = Unit {0}
+IsNoRemoval (change.Health id health) = Unit {0}
+IsNoRemoval (change.Owner id owner) = Unit {0}
+IsNoRemoval (change.Remove id) = ⊥
+IsNoRemoval (change.Create number p owner) = Unit {0}
+IsNoRemoval (change.Word word) = Unit {0}
+IsNoRemoval change.Tick = Unit {0}

@@ -1,0 +1,4 @@
+pub mod BoardWords
+pub mod ChangeKinds
+pub mod Hearing
+pub mod Letting

@@ -1,0 +1,150 @@
+//! The calls of a board.
+
+ghost use Rattle.std.specs.Prelude.{◌≡◌, OnOk, OnErr, IsOk, true, false};
+ghost use Rattle.sim_base.specs.Limits.{IsSetup};
+ghost use Rattle.sim_base.specs.Validity.{IsValid};
+ghost use Rattle.sim_base.specs.Changes.{applied};
+ghost use Rattle.sim_base.specs.Turn.{first_state as first_state_of};
+ghost use Rattle.sim_plans.specs.Fits.{Fits};
+ghost use Rattle.sim_board.specs.ChangeKinds.{NeedsNoMemory};
+ghost use Rattle.sim_system.specs.Meanings.{HaveKinds, AreBuiltOnce, AreBuiltOnceAtMost};
+ghost use Rattle.sim_scene.specs.SceneWords.{Stands};
+ghost use Rattle.sim_board.specs.BoardWords.{setup_in, state_in, is_whole, rig_in, systems, IsWhole, AreKept};
+
+use crate::build::build;
+use crate::first::first_state;
+use crate::step::step;
+use sim_base::{Change, Items, OutOfMemory, Setup, State};
+use sim_scene::Scene;
+use sim_system::{Rig, System};
+use std::alloc::Global;
+
+/// A match in progress: its state, and the systems that are told of each change. It is whole while they stand for the
+/// state.
+#[derive(Drop)]
+pub struct Board<'a> {
+    alloc: Global,
+    setup: &'a Setup,
+    state: State,
+    rig: Rig,
+    whole: bool,
+}
+
+impl<'a> Board<'a> {
+    /// A board that is not whole.
+    pub fn new(alloc: Global, setup: &'a Setup, rig: Rig) -> Board<'a>
+        ensures whole { is_whole result ≡ false }
+        ensures rig { rig_in result ≡ rig }
+        ensures setup { setup_in result ≡ setup.now }
+    {
+        let state = State {
+            turn: 0,
+            next: 2,
+            word: 0,
+            rows: Items::new(alloc),
+        };
+        Board {
+            alloc,
+            setup,
+            state,
+            rig,
+            whole: false,
+        }
+    }
+
+    /// Whether it may be changed and asked.
+    pub fn whole(&self) -> bool
+        ensures { result ≡ is_whole self.now }
+    {
+        self.whole
+    }
+
+    /// Takes the state in which the match begins, and has each system built once.
+    pub fn start(&mut self) -> Result<(), OutOfMemory>
+        requires limits { IsSetup (setup_in self.old) }
+        requires kinds { HaveKinds (systems self.old ⟦<dyn System as System>⟧) }
+        ensures state { OnOk result (state_in self.new ≡ first_state_of (setup_in self.old)) }
+        ensures whole { OnOk result (IsWhole self.new ⟦<dyn System as System>⟧) }
+        ensures err { OnErr result (is_whole self.new ≡ false) }
+        ensures kinds { HaveKinds (systems self.new ⟦<dyn System as System>⟧) }
+        ensures once { OnOk result (AreBuiltOnce (systems self.old ⟦<dyn System as System>⟧) (systems self.new ⟦<dyn System as System>⟧)) }
+        ensures most { AreBuiltOnceAtMost (systems self.old ⟦<dyn System as System>⟧) (systems self.new ⟦<dyn System as System>⟧) }
+        ensures setup { setup_in self.new ≡ setup_in self.old }
+    {
+        self.whole = false;
+        let state = first_state(self.alloc, self.setup)?;
+        self.adopt(state)
+    }
+
+    /// Takes this state, and has each system built once.
+    pub fn adopt(&mut self, state: State) -> Result<(), OutOfMemory>
+        requires limits { IsSetup (setup_in self.old) }
+        requires valid { IsValid (setup_in self.old) state }
+        requires kinds { HaveKinds (systems self.old ⟦<dyn System as System>⟧) }
+        ensures state { OnOk result (state_in self.new ≡ state) }
+        ensures whole { OnOk result (IsWhole self.new ⟦<dyn System as System>⟧) }
+        ensures err { OnErr result (is_whole self.new ≡ false) }
+        ensures kinds { HaveKinds (systems self.new ⟦<dyn System as System>⟧) }
+        ensures once { OnOk result (AreBuiltOnce (systems self.old ⟦<dyn System as System>⟧) (systems self.new ⟦<dyn System as System>⟧)) }
+        ensures most { AreBuiltOnceAtMost (systems self.old ⟦<dyn System as System>⟧) (systems self.new ⟦<dyn System as System>⟧) }
+        ensures setup { setup_in self.new ≡ setup_in self.old }
+    {
+        self.whole = false;
+        self.state = state;
+        build(self.alloc, self.setup, &self.state, &mut self.rig)?;
+        self.whole = true;
+        Ok(())
+    }
+
+    /// Makes a change that fits, and tells the systems of it.
+    pub fn apply(&mut self, change: Change) -> Result<(), OutOfMemory>
+        requires whole { IsWhole self.old ⟦<dyn System as System>⟧ }
+        requires fits { Fits (setup_in self.old) (state_in self.old) change }
+        ensures state { OnOk result (state_in self.new ≡ applied (setup_in self.old) (state_in self.old) change) }
+        ensures whole { OnOk result (IsWhole self.new ⟦<dyn System as System>⟧) }
+        ensures err { OnErr result (is_whole self.new ≡ false) }
+        ensures sure { NeedsNoMemory change → IsOk result }
+        ensures kept { AreKept (systems self.old ⟦<dyn System as System>⟧) (systems self.new ⟦<dyn System as System>⟧) }
+        ensures setup { setup_in self.new ≡ setup_in self.old }
+    {
+        self.whole = false;
+        step(
+            self.alloc,
+            self.setup,
+            &mut self.state,
+            &mut self.rig,
+            change,
+        )?;
+        self.whole = true;
+        Ok(())
+    }
+
+    /// The moment, which can be asked.
+    pub fn scene(&self) -> Scene<'_>
+        requires { IsWhole self.now ⟦<dyn System as System>⟧ }
+        ensures stands { Stands result ⟦<dyn System as System>⟧ }
+        ensures setup { result.setup.now ≡ setup_in self.now }
+        ensures state { result.state.now ≡ state_in self.now }
+    {
+        Scene {
+            setup: self.setup,
+            state: &self.state,
+            rig: &self.rig,
+        }
+    }
+
+    /// Gives back the state and the rig.
+    pub fn finish(self) -> (State, Rig)
+        ensures state { result.0 ≡ state_in self.entry }
+        ensures rig { result.1 ≡ rig_in self.entry }
+    {
+        let Board {
+            alloc: _,
+            setup: _,
+            state,
+            rig,
+            whole: _,
+        } = self;
+        (state, rig)
+    }
+}

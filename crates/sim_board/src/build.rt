@@ -1,0 +1,31 @@
+//! The systems are built from a state.
+
+ghost use Rattle.std.specs.Prelude.{OnOk};
+ghost use Rattle.sim_base.specs.Limits.{IsSetup};
+ghost use Rattle.sim_base.specs.Validity.{IsLooselyValid};
+ghost use Rattle.sim_system.specs.Meanings.{HaveKinds, AreBuiltOnce, AreBuiltOnceAtMost, AreFed};
+ghost use Rattle.sim_system.specs.RigWords.{systems_of};
+
+use crate::row::told;
+use sim_base::{OutOfMemory, Setup, State};
+use sim_system::{Rig, System, boxed};
+use std::alloc::Global;
+
+/// Builds each of the four once.
+pub fn build(alloc: Global, setup: &Setup, state: &State, rig: &mut Rig) -> Result<(), OutOfMemory>
+    requires limits { IsSetup setup.now }
+    requires valid { IsLooselyValid setup.now state.now }
+    requires kinds { HaveKinds (systems_of rig.old ⟦<dyn System as System>⟧) }
+    ensures fed { OnOk result (AreFed setup.now state.now (systems_of rig.new ⟦<dyn System as System>⟧)) }
+    ensures kinds { HaveKinds (systems_of rig.new ⟦<dyn System as System>⟧) }
+    ensures once { OnOk result (AreBuiltOnce (systems_of rig.old ⟦<dyn System as System>⟧) (systems_of rig.new ⟦<dyn System as System>⟧)) }
+    ensures most { AreBuiltOnceAtMost (systems_of rig.old ⟦<dyn System as System>⟧) (systems_of rig.new ⟦<dyn System as System>⟧) }
+{
+    let facts = told(alloc, setup, state)?;
+    let facts = facts.as_slice();
+    boxed::rebuild(&mut rig.ground, &setup.land, facts)?;
+    boxed::rebuild(&mut rig.range, &setup.land, facts)?;
+    boxed::rebuild(&mut rig.watch, &setup.land, facts)?;
+    boxed::rebuild(&mut rig.census, &setup.land, facts)?;
+    Ok(())
+}

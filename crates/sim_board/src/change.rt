@@ -1,0 +1,122 @@
+//! The state after a change. No system is told here.
+
+ghost use Rattle.std.specs.Prelude.{◌≡◌, ◌<◌, [], length, map, OnOk, IsOk};
+ghost use Rattle.std.specs.List.Sorted.{IsStrictlyIncreasing};
+ghost use Rattle.sim_base.specs.Limits.{IsSetup};
+ghost use Rattle.sim_base.specs.Validity.{IsLooselyValid};
+ghost use Rattle.sim_base.specs.Changes.{applied, created};
+ghost use Rattle.sim_base.specs.Rows.{id_of};
+ghost use Rattle.sim_plans.specs.Fits.{Fits};
+ghost use Rattle.sim_board.specs.Letting.{left_by};
+ghost use Rattle.sim_board.specs.ChangeKinds.{NeedsNoMemory, IsNoRemoval};
+
+use crate::edit::{
+    add_row, release_rows, set_at, set_attack, set_health, set_motion, set_owner, take_row,
+};
+use sim_base::{Change, Items, OutOfMemory, Point, Row, Setup, State};
+use std::alloc::Global;
+
+/// The state after a change that fits it, where no row leaves.
+pub fn make(
+    alloc: Global,
+    setup: &Setup,
+    state: &mut State,
+    change: Change,
+) -> Result<(), OutOfMemory>
+    requires limits { IsSetup setup.now }
+    requires valid { IsLooselyValid setup.now state.old }
+    requires fits { Fits setup.now state.old change }
+    requires stays { IsNoRemoval change }
+    ensures applied { OnOk result (state.new ≡ applied setup.now state.old change) }
+    ensures sure { NeedsNoMemory change → IsOk result }
+{
+    match change {
+        Change::Move { id, at } => {
+            let mut rows = take_rows(alloc, state);
+            set_at(&mut rows, id, &at);
+            state.rows = Items::from_items(rows);
+            Ok(())
+        }
+        Change::Motion { id, motion } => {
+            let mut rows = take_rows(alloc, state);
+            set_motion(&mut rows, id, motion);
+            state.rows = Items::from_items(rows);
+            Ok(())
+        }
+        Change::Attack { id, aim } => {
+            let mut rows = take_rows(alloc, state);
+            set_attack(&mut rows, id, aim);
+            state.rows = Items::from_items(rows);
+            Ok(())
+        }
+        Change::Health { id, health } => {
+            let mut rows = take_rows(alloc, state);
+            set_health(&mut rows, id, health);
+            state.rows = Items::from_items(rows);
+            Ok(())
+        }
+        Change::Owner { id, owner } => {
+            let mut rows = take_rows(alloc, state);
+            set_owner(&mut rows, id, owner);
+            state.rows = Items::from_items(rows);
+            Ok(())
+        }
+        Change::Create {
+            template,
+            at,
+            owner,
+        } => create(alloc, setup, state, template, &at, owner),
+        Change::Word { word } => {
+            state.word = word;
+            Ok(())
+        }
+        Change::Tick => {
+            state.turn += 1;
+            Ok(())
+        }
+        Change::Remove { .. } => unreachable!(),
+    }
+}
+
+/// The rows of these watchers are released, and then the row with the id leaves.
+pub fn remove(alloc: Global, state: &mut State, id: u32, watchers: &[u32])
+    requires { IsStrictlyIncreasing (map id_of state.old.rows) }
+    ensures { state.new ≡ left_by id watchers.now state.old }
+{
+    let mut rows = take_rows(alloc, state);
+    release_rows(&mut rows, watchers);
+    take_row(&mut rows, id);
+    state.rows = Items::from_items(rows);
+}
+
+// Takes the rows out of a state.
+fn take_rows(alloc: Global, state: &mut State) -> Vec<Row>
+    ensures rows { result.items ≡ state.old.rows }
+    ensures state { state.new ≡ record state.old { rows = [] } }
+{
+    let rows = std::mem::replace(&mut state.rows, Items::new(alloc));
+    rows.into_items()
+}
+
+/// A new row of a known template.
+pub fn create(
+    alloc: Global,
+    setup: &Setup,
+    state: &mut State,
+    number: u16,
+    at: &Point,
+    owner: u8,
+) -> Result<(), OutOfMemory>
+    requires number { number < length setup.now.templates }
+    requires next { state.old.next < 0x20000000 }
+    ensures { OnOk result (state.new ≡ created setup.now state.old number at.now owner) }
+{
+    let template = &setup.templates.as_slice()[usize::from(number)];
+    let id = state.next;
+    let mut rows = take_rows(alloc, state);
+    let added = add_row(&mut rows, id, number, at, owner, template);
+    state.rows = Items::from_items(rows);
+    added?;
+    state.next = id + 1;
+    Ok(())
+}

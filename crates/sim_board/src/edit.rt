@@ -1,0 +1,131 @@
+//! One part of one row is set, or a row is released, leaves or is made. A row is found by halves, and no other is touched.
+
+ghost use Rattle.std.specs.Prelude.{◌≡◌, ◌++◌, [], ◌∷◌, not, ◌==◌, map, filter, Some, OnOk, if◌then◌else◌};
+ghost use Rattle.std.specs.List.Sorted.{IsStrictlyIncreasing};
+ghost use Rattle.sim_base.specs.declared.state.Row.{Row as AnyRow};
+ghost use Rattle.sim_base.specs.Rows.{id_of};
+ghost use Rattle.sim_base.specs.Changes.{released as released_by, new_row as row_made};
+ghost use Rattle.sim_board.specs.Letting.{row_released, rows_released};
+
+use sim_base::{Aim, Fixed, Motion, OutOfMemory, Point, Row, Template};
+use sim_lookup::place_of;
+
+/// The row with this id stands at a point.
+pub fn set_at(rows: &mut Vec<Row>, id: u32, at: &Point)
+    requires { IsStrictlyIncreasing (map id_of rows.old.items) }
+    ensures { rows.new.items ≡ map (λ (row : AnyRow). if row.id == id then record row { at = at.now } else row) rows.old.items }
+{
+    if let Some(place) = place_of(rows.as_slice(), id) {
+        rows[place].at = *at;
+    }
+}
+
+/// The row with this id moves so.
+pub fn set_motion(rows: &mut Vec<Row>, id: u32, motion: Motion)
+    requires { IsStrictlyIncreasing (map id_of rows.old.items) }
+    ensures { rows.new.items ≡ map (λ (row : AnyRow). if row.id == id then record row { motion = Some motion } else row) rows.old.items }
+{
+    if let Some(place) = place_of(rows.as_slice(), id) {
+        rows[place].motion = Some(motion);
+    }
+}
+
+/// The row with this id attacks so.
+pub fn set_attack(rows: &mut Vec<Row>, id: u32, aim: Aim)
+    requires { IsStrictlyIncreasing (map id_of rows.old.items) }
+    ensures { rows.new.items ≡ map (λ (row : AnyRow). if row.id == id then record row { attack = Some aim } else row) rows.old.items }
+{
+    if let Some(place) = place_of(rows.as_slice(), id) {
+        rows[place].attack = Some(aim);
+    }
+}
+
+/// The row with this id has this health.
+pub fn set_health(rows: &mut Vec<Row>, id: u32, health: Fixed)
+    requires { IsStrictlyIncreasing (map id_of rows.old.items) }
+    ensures { rows.new.items ≡ map (λ (row : AnyRow). if row.id == id then record row { health = Some health } else row) rows.old.items }
+{
+    if let Some(place) = place_of(rows.as_slice(), id) {
+        rows[place].health = Some(health);
+    }
+}
+
+/// The row with this id is this owner's.
+pub fn set_owner(rows: &mut Vec<Row>, id: u32, owner: u8)
+    requires { IsStrictlyIncreasing (map id_of rows.old.items) }
+    ensures { rows.new.items ≡ map (λ (row : AnyRow). if row.id == id then record row { owner = owner } else row) rows.old.items }
+{
+    if let Some(place) = place_of(rows.as_slice(), id) {
+        rows[place].owner = owner;
+    }
+}
+
+// The row is released.
+fn release(row: &mut Row)
+    ensures { row.new ≡ released_by row.old }
+{
+    if let Some(aim) = row.attack {
+        row.attack = Some(Aim { target: 0, ..aim });
+    }
+    if row.motion.is_some() {
+        row.motion = Some(Motion::Still);
+    }
+}
+
+// The row with this id is released.
+fn release_row(rows: &mut Vec<Row>, id: u32)
+    requires { IsStrictlyIncreasing (map id_of rows.old.items) }
+    ensures { rows.new.items ≡ row_released rows.old.items id }
+{
+    if let Some(place) = place_of(rows.as_slice(), id) {
+        release(&mut rows[place]);
+    }
+}
+
+/// The rows with these ids are released.
+pub fn release_rows(rows: &mut Vec<Row>, ids: &[u32])
+    requires { IsStrictlyIncreasing (map id_of rows.old.items) }
+    ensures rows { rows.new.items ≡ rows_released ids.now rows.old.items }
+    ensures ids { map id_of rows.new.items ≡ map id_of rows.old.items }
+{
+    for id in ids {
+        release_row(rows, *id);
+    }
+}
+
+/// The row with this id leaves.
+pub fn take_row(rows: &mut Vec<Row>, id: u32)
+    requires { IsStrictlyIncreasing (map id_of rows.old.items) }
+    ensures { rows.new.items ≡ filter (λ (row : AnyRow). not (row.id == id)) rows.old.items }
+{
+    if let Some(place) = place_of(rows.as_slice(), id) {
+        rows.remove(place);
+    }
+}
+
+/// A new row of a template comes last.
+pub fn add_row(
+    rows: &mut Vec<Row>,
+    id: u32,
+    number: u16,
+    at: &Point,
+    owner: u8,
+    template: &Template,
+) -> Result<(), OutOfMemory>
+    ensures { OnOk result (rows.new.items ≡ rows.old.items ++ row_made id number at.now owner template.now ∷ []) }
+{
+    rows.push(Row {
+        id,
+        template: number,
+        at: *at,
+        owner,
+        health: template.health,
+        motion: template.speed.map(|_| Motion::Still),
+        attack: template.arms.map(|_| Aim {
+            target: 0,
+            cooldown: 0,
+            hold: false,
+        }),
+    })?;
+    Ok(())
+}

@@ -1,0 +1,35 @@
+//! The state in which a match begins.
+
+ghost use Rattle.std.specs.Prelude.{◌≡◌, IfOk};
+ghost use Rattle.sim_base.specs.Limits.{IsSetup};
+ghost use Rattle.sim_base.specs.Validity.{IsValid};
+ghost use Rattle.sim_base.specs.Turn.{first_state as first_state_of};
+
+use crate::change::create;
+use sim_base::{Items, OutOfMemory, Setup, State};
+use std::alloc::Global;
+
+/// The entities of the match file are made one by one.
+pub fn first_state(alloc: Global, setup: &Setup) -> Result<State, OutOfMemory>
+    requires { IsSetup setup.now }
+    ensures state { IfOk result (λ state. state ≡ first_state_of setup.now) }
+    ensures valid { IfOk result (IsValid setup.now) }
+{
+    let mut state = State {
+        turn: 0,
+        next: 2,
+        word: setup.seed,
+        rows: Items::new(alloc),
+    };
+    for first in setup.first.as_slice() {
+        create(
+            alloc,
+            setup,
+            &mut state,
+            first.template,
+            &first.at,
+            first.owner,
+        )?;
+    }
+    Ok(state)
+}

@@ -1,0 +1,66 @@
+//! A board over a list of changes: whatever is applied after a start or an adoption, its scene stands.
+
+ghost use Rattle.std.specs.Prelude.{◌≡◌, OnOk};
+ghost use Rattle.sim_base.specs.Limits.{IsSetup};
+ghost use Rattle.sim_base.specs.Validity.{IsValid};
+ghost use Rattle.sim_base.specs.Changes.{applied_all};
+ghost use Rattle.sim_base.specs.Turn.{first_state};
+ghost use Rattle.sim_plans.specs.Fits.{AllFit};
+ghost use Rattle.sim_system.specs.Meanings.{HaveKinds, AreBuiltOnce, AreBuiltOnceAtMost};
+ghost use Rattle.sim_board.specs.BoardWords.{setup_in, state_in, systems, IsWhole, AreKept};
+
+use crate::board::Board;
+use sim_base::{Changes, OutOfMemory, State};
+use sim_system::System;
+
+/// Makes changes that fit in order. No system is built.
+pub fn apply_all(board: &mut Board<'_>, changes: Changes) -> Result<(), OutOfMemory>
+    requires whole { IsWhole board.old ⟦<dyn System as System>⟧ }
+    requires fit { AllFit (setup_in board.old) (state_in board.old) changes }
+    ensures state { OnOk result (state_in board.new ≡ applied_all (setup_in board.old) (state_in board.old) changes) }
+    ensures whole { OnOk result (IsWhole board.new ⟦<dyn System as System>⟧) }
+    ensures kept { AreKept (systems board.old ⟦<dyn System as System>⟧) (systems board.new ⟦<dyn System as System>⟧) }
+    ensures setup { setup_in board.new ≡ setup_in board.old }
+{
+    for change in changes.into_items() {
+        board.apply(change)?;
+    }
+    Ok(())
+}
+
+/// Starts the board, and makes changes. Each system is built once, by the start.
+pub fn start_and_apply(board: &mut Board<'_>, changes: Changes) -> Result<(), OutOfMemory>
+    requires limits { IsSetup (setup_in board.old) }
+    requires kinds { HaveKinds (systems board.old ⟦<dyn System as System>⟧) }
+    requires fit { AllFit (setup_in board.old) (first_state (setup_in board.old)) changes }
+    ensures state { OnOk result (state_in board.new ≡ applied_all (setup_in board.old) (first_state (setup_in board.old)) changes) }
+    ensures whole { OnOk result (IsWhole board.new ⟦<dyn System as System>⟧) }
+    ensures once { OnOk result (AreBuiltOnce (systems board.old ⟦<dyn System as System>⟧) (systems board.new ⟦<dyn System as System>⟧)) }
+    ensures most { AreBuiltOnceAtMost (systems board.old ⟦<dyn System as System>⟧) (systems board.new ⟦<dyn System as System>⟧) }
+    ensures kinds { HaveKinds (systems board.new ⟦<dyn System as System>⟧) }
+    ensures setup { setup_in board.new ≡ setup_in board.old }
+{
+    board.start()?;
+    apply_all(board, changes)
+}
+
+/// Has the board take a state, and makes changes. Each system is built once, by the adoption.
+pub fn adopt_and_apply(
+    board: &mut Board<'_>,
+    state: State,
+    changes: Changes,
+) -> Result<(), OutOfMemory>
+    requires limits { IsSetup (setup_in board.old) }
+    requires valid { IsValid (setup_in board.old) state }
+    requires kinds { HaveKinds (systems board.old ⟦<dyn System as System>⟧) }
+    requires fit { AllFit (setup_in board.old) state changes }
+    ensures state { OnOk result (state_in board.new ≡ applied_all (setup_in board.old) state changes) }
+    ensures whole { OnOk result (IsWhole board.new ⟦<dyn System as System>⟧) }
+    ensures once { OnOk result (AreBuiltOnce (systems board.old ⟦<dyn System as System>⟧) (systems board.new ⟦<dyn System as System>⟧)) }
+    ensures most { AreBuiltOnceAtMost (systems board.old ⟦<dyn System as System>⟧) (systems board.new ⟦<dyn System as System>⟧) }
+    ensures kinds { HaveKinds (systems board.new ⟦<dyn System as System>⟧) }
+    ensures setup { setup_in board.new ≡ setup_in board.old }
+{
+    board.adopt(state)?;
+    apply_all(board, changes)
+}

@@ -1,0 +1,98 @@
+//! A living row, and what systems are told of it.
+
+ghost use Rattle.std.specs.Prelude.{◌≡◌, ◌<◌, Some, IsSome, IfOk, length, map, slice_get};
+ghost use Rattle.std.specs.List.Sorted.{IsStrictlyIncreasing};
+ghost use Rattle.sim_base.specs.declared.template.Template.{Template as AnyTemplate};
+ghost use Rattle.sim_base.specs.Places.{IsPlaced};
+ghost use Rattle.sim_base.specs.Changes.{new_row};
+ghost use Rattle.sim_base.specs.Limits.{IsSetup};
+ghost use Rattle.sim_base.specs.Rows.{id_of, row_of, rect_of_row};
+ghost use Rattle.sim_base.specs.Validity.{IsLooselyValid};
+ghost use Rattle.sim_system.specs.Facts.{fact_of as fact_by, vision_of as vision_by, told_of};
+
+use sim_base::{Fixed, OutOfMemory, Point, Rect, Row, Setup, State, rect_of};
+use sim_lookup::{arms_of, find_row, target_of, template_at};
+use sim_system::{Fact, Facts};
+use std::alloc::Global;
+
+/// The row with this id, which is alive.
+pub fn living(state: &State, id: u32) -> &Row
+    requires ids { IsStrictlyIncreasing (map id_of state.now.rows) }
+    requires alive { IsSome (row_of state.now id) }
+    ensures { row_of state.now id ≡ Some result.now }
+{
+    match find_row(state, id) {
+        Some(row) => row,
+        None => unreachable!(),
+    }
+}
+
+// How far a row sees, if it can attack.
+fn vision_of(setup: &Setup, row: &Row) -> Option<Fixed>
+    ensures { result ≡ vision_by setup.now row.now }
+{
+    arms_of(setup, row).map(|arms| arms.vision)
+}
+
+// Where a row lies, if it is an obstruction.
+fn rect_at(setup: &Setup, row: &Row) -> Option<Rect>
+    requires { IsPlaced row.now.at }
+    ensures { result ≡ rect_of_row setup.now row.now }
+{
+    match template_at(setup, row.template) {
+        Some(template) => match template.obstruct {
+            Some(base) => Some(rect_of(row.at, base.width, base.depth)),
+            None => None,
+        },
+        None => None,
+    }
+}
+
+/// What systems are told of a row.
+pub fn fact_of(setup: &Setup, row: &Row) -> Fact
+    requires { IsPlaced row.now.at }
+    ensures { result ≡ fact_by setup.now row.now }
+{
+    Fact {
+        id: row.id,
+        at: row.at,
+        owner: row.owner,
+        health: row.health.is_some(),
+        vision: vision_of(setup, row),
+        rect: rect_at(setup, row),
+        target: target_of(row),
+    }
+}
+
+/// What systems are told of a state.
+pub fn told(alloc: Global, setup: &Setup, state: &State) -> Result<Facts, OutOfMemory>
+    requires limits { IsSetup setup.now }
+    requires valid { IsLooselyValid setup.now state.now }
+    ensures { IfOk result (λ facts. facts ≡ told_of setup.now state.now) }
+{
+    let mut facts = Facts::new(alloc);
+    for row in state.rows.as_slice() {
+        facts.push(fact_of(setup, row))?;
+    }
+    Ok(facts)
+}
+
+/// What systems are told of a new row of a known template.
+pub fn born(setup: &Setup, id: u32, number: u16, at: &Point, owner: u8) -> Fact
+    requires number { number < length setup.now.templates }
+    requires at { IsPlaced at.now }
+    ensures { (t : AnyTemplate) → slice_get setup.now.templates number ≡ Some t → result ≡ fact_by setup.now (new_row id number at.now owner t) }
+{
+    let template = &setup.templates.as_slice()[usize::from(number)];
+    Fact {
+        id,
+        at: *at,
+        owner,
+        health: template.health.is_some(),
+        vision: template.arms.map(|arms| arms.vision),
+        rect: template
+            .obstruct
+            .map(|base| rect_of(*at, base.width, base.depth)),
+        target: 0,
+    }
+}

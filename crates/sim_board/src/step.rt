@@ -1,0 +1,77 @@
+//! A change with its notes. The notes come first, while the state is as it was: they alone may want memory that is not
+//! there, but for a new row.
+
+ghost use Rattle.std.specs.Prelude.{◌≡◌, OnOk, IsOk};
+ghost use Rattle.sim_base.specs.declared.change.Change.TheVariants as change;
+ghost use Rattle.sim_base.specs.Changes.{applied};
+ghost use Rattle.sim_plans.specs.Fits.{Fits};
+ghost use Rattle.sim_system.specs.RigWords.{systems_of};
+ghost use Rattle.sim_scene.specs.SceneWords.{IsStanding};
+ghost use Rattle.sim_board.specs.BoardWords.{AreKept};
+ghost use Rattle.sim_board.specs.ChangeKinds.{NeedsNoMemory, IsNoRemoval};
+
+use crate::change::{make, remove};
+use crate::post::{post, removed};
+use sim_base::{Change, OutOfMemory, Setup, State};
+use sim_system::{Rig, System};
+use std::alloc::Global;
+
+// A change by which no row leaves.
+fn change_row(
+    alloc: Global,
+    setup: &Setup,
+    state: &mut State,
+    rig: &mut Rig,
+    change: Change,
+) -> Result<(), OutOfMemory>
+    requires stands { IsStanding setup.now state.old (systems_of rig.old ⟦<dyn System as System>⟧) }
+    requires fits { Fits setup.now state.old change }
+    requires stays { IsNoRemoval change }
+    ensures state { OnOk result (state.new ≡ applied setup.now state.old change) }
+    ensures stands { OnOk result (IsStanding setup.now state.new (systems_of rig.new ⟦<dyn System as System>⟧)) }
+    ensures sure { NeedsNoMemory change → IsOk result }
+    ensures kept { AreKept (systems_of rig.old ⟦<dyn System as System>⟧) (systems_of rig.new ⟦<dyn System as System>⟧) }
+{
+    post(setup, state, rig, &change)?;
+    make(alloc, setup, state, change)
+}
+
+// A row leaves.
+fn remove_row(
+    alloc: Global,
+    setup: &Setup,
+    state: &mut State,
+    rig: &mut Rig,
+    id: u32,
+) -> Result<(), OutOfMemory>
+    requires stands { IsStanding setup.now state.old (systems_of rig.old ⟦<dyn System as System>⟧) }
+    requires fits { Fits setup.now state.old (change.Remove id) }
+    ensures state { OnOk result (state.new ≡ applied setup.now state.old (change.Remove id)) }
+    ensures stands { OnOk result (IsStanding setup.now state.new (systems_of rig.new ⟦<dyn System as System>⟧)) }
+    ensures kept { AreKept (systems_of rig.old ⟦<dyn System as System>⟧) (systems_of rig.new ⟦<dyn System as System>⟧) }
+{
+    let watchers = removed(setup, state, rig, id)?;
+    remove(alloc, state, id, watchers.as_slice());
+    Ok(())
+}
+
+/// Makes a change that fits, and tells the systems of it.
+pub fn step(
+    alloc: Global,
+    setup: &Setup,
+    state: &mut State,
+    rig: &mut Rig,
+    change: Change,
+) -> Result<(), OutOfMemory>
+    requires stands { IsStanding setup.now state.old (systems_of rig.old ⟦<dyn System as System>⟧) }
+    requires fits { Fits setup.now state.old change }
+    ensures state { OnOk result (state.new ≡ applied setup.now state.old change) }
+    ensures stands { OnOk result (IsStanding setup.now state.new (systems_of rig.new ⟦<dyn System as System>⟧)) }
+    ensures sure { NeedsNoMemory change → IsOk result }
+    ensures kept { AreKept (systems_of rig.old ⟦<dyn System as System>⟧) (systems_of rig.new ⟦<dyn System as System>⟧) }
+{
+    match change {
+        Change::Remove { id } => remove_row(alloc, setup, state, rig, id),
+        change => change_row(alloc, setup, state, rig, change),
+    }
+}

@@ -1,0 +1,132 @@
+-- The facts that a system holds stay such.
+use Rattle.std.proofs.Common.{◌≡◌, ℕ, ◌≤◌, Bool, true, false, cond, not, ℤ, List, [], ◌∷◌, length, Option, Some, None, refl, sym, subst, arith, All}
+use Rattle.std.specs.Prelude.{Result, Ok, Err, OnOk, OnErr, IsTrue, IfSome, MatchOption, ◌==◌, nat_lt}
+use Rattle.std.specs.List.{cons_option}
+use Rattle.std.proofs.lemmas.Bool.{cond_both}
+use Rattle.std.proofs.lemmas.List.Elements.{All-nil, All-cons, All-head, All-tail}
+use Rattle.sim_base.specs.declared.setup.Land.{Land}
+use Rattle.sim_base.specs.Places.{is_inside}
+use Rattle.sim_base.specs.Rows.{size_of}
+use Rattle.sim_base.specs.Limits.{IsLand, IsRawFrom}
+use Rattle.sim_system.specs.declared.fact.Fact.{Fact}
+use Rattle.sim_system.specs.declared.kind.Kind.{Kind}
+use Rattle.sim_system.specs.declared.kind.Kind.TheVariants.{Ground, Range, Watch, Census}
+use Rattle.sim_system.specs.declared.note.Note.{Note}
+use Rattle.sim_system.specs.declared.note.Note.TheVariants.{Born, Gone, Moved, Owned, Aimed}
+use Rattle.sim_system.specs.Facts.{origin, keeps, part_for, kept, kept_of}
+use Rattle.sim_system.specs.Ranges.{IsInRange, AreInRange}
+use Rattle.sim_system.specs.Notes.{noted, placed, without, with_kept, with_changed, aim_of, NoteFits}
+use Rattle.sim_fact_lists.specs.Places.{IsHeld, AreHeld, Holds, HoldsIfAny}
+
+module _ (land : Land) (limits : IsLand land) where
+  origin_inside : IsTrue (is_inside (size_of land) origin)
+  origin_inside = grind (arith, limits.width.0, limits.depth.0)
+
+  sees : (o : Option ℤ) → IfSome o (IsRawFrom 0 16777216) → (raw : ℤ) → o ≡ Some raw → IsRawFrom 0 16777216 raw
+  sees None h raw e = absurd (cc)
+  sees (Some vision) h raw e = let same : vision ≡ raw = cc in subst (IsRawFrom 0 16777216) same h
+
+  part_held : (kind : Kind) (fact : Fact) → IsInRange land fact → IsHeld land (part_for kind fact)
+  part_held Ground fact h = record { at = origin_inside; owner = omega (arith, limits.players.0); vision = λ raw e. absurd (cc) }
+  part_held Range fact h = record { at = h.at; owner = h.owner; vision = sees fact.vision h.vision }
+  part_held Watch fact h = record { at = origin_inside; owner = omega (arith, limits.players.0); vision = λ raw e. absurd (cc) }
+  part_held Census fact h = record { at = origin_inside; owner = h.owner; vision = λ raw e. absurd (cc) }
+
+  kept_held : (kind : Kind) (fact : Fact) → IsInRange land fact → IfSome (kept kind fact) (IsHeld land)
+  kept_held kind fact h = by (keeps kind fact)
+    where
+      by : (b : Bool) → IfSome (cond b (Some (part_for kind fact)) None) (IsHeld land)
+      by true = part_held kind fact h
+      by false = tt
+
+  -- ---- a list of facts
+
+  all_held : (kind : Kind) (facts : List Fact) → All (IsInRange land) facts → All (IsHeld land) (kept_of kind facts)
+  all_held kind [] all = All-nil (IsHeld land)
+  all_held kind (fact ∷ facts) all = by (kept kind fact) (kept_held kind fact (All-head (IsInRange land) fact facts all)) (all_held kind facts (All-tail (IsInRange land) fact facts all))
+    where
+      by : (o : Option Fact) → IfSome o (IsHeld land) → All (IsHeld land) (kept_of kind facts) → All (IsHeld land) (cons_option o (kept_of kind facts))
+      by None h rest = rest
+      by (Some f) h rest = All-cons (IsHeld land) f (kept_of kind facts) h rest
+
+  kept_of-length : (kind : Kind) (facts : List Fact) → length (kept_of kind facts) ≤ length facts
+  kept_of-length kind [] = omega arith
+  kept_of-length kind (fact ∷ facts) = by (kept kind fact) (kept_of-length kind facts)
+    where
+      by : (o : Option Fact) → length (kept_of kind facts) ≤ length facts → length (cons_option o (kept_of kind facts)) ≤ length (fact ∷ facts)
+      by None h = omega arith
+      by (Some f) h = omega arith
+
+  pub rebuilt_held : (kind : Kind) (facts : List Fact) → AreInRange land facts → AreHeld land (kept_of kind facts)
+  rebuilt_held kind facts h = record { few = omega (arith, kept_of-length kind facts, h.few); each = all_held kind facts h.each }
+
+  placed_held : (f : Fact) (facts : List Fact) → IsHeld land f → All (IsHeld land) facts → All (IsHeld land) (placed f facts)
+  placed_held f [] h all = All-cons (IsHeld land) f [] h all
+  placed_held f (g ∷ facts) h all =
+      cond_both (nat_lt f.id g.id) (f ∷ g ∷ facts) (g ∷ placed f facts) (All (IsHeld land)) (λ less. All-cons (IsHeld land) f (g ∷ facts) h all)
+      (λ more. All-cons (IsHeld land) g (placed f facts) (All-head (IsHeld land) g facts all) (placed_held f facts h (All-tail (IsHeld land) g facts all)))
+
+  with_kept_held : (o : Option Fact) (facts : List Fact) → IfSome o (IsHeld land) → All (IsHeld land) facts → All (IsHeld land) (with_kept o facts)
+  with_kept_held None facts h all = all
+  with_kept_held (Some f) facts h all = placed_held f facts h all
+
+  without_held : (id : ℕ) (facts : List Fact) → All (IsHeld land) facts → All (IsHeld land) (without id facts)
+  without_held id [] all = all
+  without_held id (f ∷ facts) all = by (not (f.id == id)) (without_held id facts (All-tail (IsHeld land) f facts all))
+    where
+      by : (b : Bool) → All (IsHeld land) (without id facts) → All (IsHeld land) (cond b (f ∷ without id facts) (without id facts))
+      by true rest = All-cons (IsHeld land) f (without id facts) (All-head (IsHeld land) f facts all) rest
+      by false rest = rest
+
+  changed_held : (id : ℕ) (changed : Fact → Fact) (facts : List Fact) → ((f : Fact) → IsHeld land f → IsHeld land (changed f)) → All (IsHeld land) facts → All (IsHeld land) (with_changed id changed facts)
+  changed_held id changed [] each all = all
+  changed_held id changed (f ∷ facts) each all =
+      let h = All-head (IsHeld land) f facts all in
+      All-cons (IsHeld land) (cond (f.id == id) (changed f) f) (with_changed id changed facts) (cond_both (f.id == id) (changed f) f (IsHeld land) (λ same. each f h) (λ other. h)) (changed_held id changed facts each (All-tail (IsHeld land) f facts all))
+
+  each_held : (kind : Kind) (facts : List Fact) (note : Note) → NoteFits kind land facts note → All (IsHeld land) facts → All (IsHeld land) (noted kind facts note)
+  each_held kind facts (Born fact) fits all = with_kept_held (kept kind fact) facts (kept_held kind fact fits.agrees.0) all
+  each_held kind facts (Gone fact) fits all = without_held fact.id facts all
+  each_held Ground facts (Moved id from to) fits all = all
+  each_held Range facts (Moved id from to) fits all = changed_held id (λ (f : Fact). record f { at = to }) facts (λ f h. record { at = fits.agrees.1; owner = h.owner; vision = h.vision }) all
+  each_held Watch facts (Moved id from to) fits all = all
+  each_held Census facts (Moved id from to) fits all = all
+  each_held Ground facts (Owned id from to) fits all = all
+  each_held Range facts (Owned id from to) fits all = changed_held id (λ (f : Fact). record f { owner = to }) facts (λ f h. record { at = h.at; owner = fits.agrees.1; vision = h.vision }) all
+  each_held Watch facts (Owned id from to) fits all = all
+  each_held Census facts (Owned id from to) fits all = changed_held id (λ (f : Fact). record f { owner = to }) facts (λ f h. record { at = h.at; owner = fits.agrees.1; vision = h.vision }) all
+  each_held Ground facts (Aimed id from to) fits all = all
+  each_held Range facts (Aimed id from to) fits all = all
+  each_held Watch facts (Aimed id from to) fits all = with_kept_held (kept Watch (aim_of id to)) (without id facts) (aim_held id to) (without_held id facts all)
+    where
+      aim_held : (id to : ℕ) → IfSome (kept Watch (aim_of id to)) (IsHeld land)
+      aim_held id to = by (not (to == 0))
+        where
+          by : (b : Bool) → IfSome (cond b (Some (part_for Watch (aim_of id to))) None) (IsHeld land)
+          by true = record { at = origin_inside; owner = omega (arith, limits.players.0); vision = λ raw e. absurd (cc) }
+          by false = tt
+  each_held Census facts (Aimed id from to) fits all = all
+
+  pub noted_held : (kind : Kind) (facts : List Fact) (note : Note) → NoteFits kind land facts note → AreHeld land facts → AreHeld land (noted kind facts note)
+  noted_held kind facts note fits h = record { few = fits.few; each = each_held kind facts note fits h.each }
+
+-- after a note that may not have been taken up, whatever the land
+pub still_held : {E : Type 0} (r : Result (Unit {0}) E) (kind : Kind) (land : Option Land) (facts after : List Fact) (note : Note) → MatchOption land ⊥ (λ (l : Land). NoteFits kind l facts note) → HoldsIfAny land facts →
+    OnOk r (after ≡ noted kind facts note) → OnErr r (after ≡ facts) → HoldsIfAny land after
+still_held r kind None facts after note fits h ok err l same = absurd fits
+still_held (Ok u) kind (Some land) facts after note fits h is err l same =
+    let known = h land refl in
+    let one : land ≡ l = cc in
+    subst (λ (m : Land). Holds m after) one (subst (Holds land) (sym is) (record { limits = known.limits; held = noted_held land known.limits kind facts note fits known.held }))
+still_held (Err e) kind (Some land) facts after note fits h ok is l same = subst (Holds l) (sym is) (h l same)
+
+-- after a rebuild
+pub newly_held : (kind : Kind) (land copied : Land) (facts after : List Fact) → IsLand land → AreInRange land facts → copied ≡ land → after ≡ kept_of kind facts → HoldsIfAny (Some copied) after
+newly_held kind land copied facts after limits h copy is l same =
+    let one : land ≡ l = cc in
+    subst (λ (m : Land). Holds m after) one (subst (Holds land) (sym is) (record { limits = limits; held = rebuilt_held land limits kind facts h }))
+
+-- where there is a land, it is within its limits and the facts are held on it
+pub holds_where : (land : Option Land) (facts : List Fact) (P : Land → Type 0) → HoldsIfAny land facts → MatchOption land ⊥ P → (l : Land) × (land ≡ Some l) × Holds l facts × P l
+holds_where None facts P h p = absurd p
+holds_where (Some l) facts P h p = (l, refl, h l refl, p)

@@ -1,0 +1,106 @@
+//! What a kind of system keeps of a fact.
+
+ghost use Rattle.std.specs.Prelude.{◌≡◌, None, false, IfOk};
+ghost use Rattle.sim_system.specs.declared.kind.Kind.TheVariants.{Watch};
+ghost use Rattle.sim_system.specs.Notes.{aim_of};
+ghost use Rattle.sim_system.specs.Facts.{keeps as keeps_of, part_for as part_of, kept as kept_part, kept_of, origin as origin_at};
+
+use sim_base::{Fixed, OutOfMemory, Point};
+use sim_system::{Fact, Facts, Kind};
+use std::alloc::Global;
+
+// Whether a kind keeps anything of an entity.
+fn keeps(kind: Kind, fact: &Fact) -> bool
+    ensures { result ≡ keeps_of kind fact.now }
+{
+    match kind {
+        Kind::Ground => fact.rect.is_some(),
+        Kind::Range => fact.health || fact.vision.is_some(),
+        Kind::Watch => fact.target != 0,
+        Kind::Census => true,
+    }
+}
+
+// Stands in a fact for a place that is not kept.
+fn origin() -> Point
+    ensures { result ≡ origin_at }
+{
+    Point {
+        x: Fixed::from_raw(0),
+        z: Fixed::from_raw(0),
+    }
+}
+
+// A fact that has an id, and nothing else.
+fn bare(id: u32) -> Fact
+    ensures { result ≡ record { id = id; at = origin_at; owner = 0; health = false; vision = None; rect = None; target = 0 } }
+{
+    Fact {
+        id,
+        at: origin(),
+        owner: 0,
+        health: false,
+        vision: None,
+        rect: None,
+        target: 0,
+    }
+}
+
+// The fields that a kind keeps.
+fn part_for(kind: Kind, fact: &Fact) -> Fact
+    ensures { result ≡ part_of kind fact.now }
+{
+    let bare = bare(fact.id);
+    match kind {
+        Kind::Ground => Fact {
+            rect: fact.rect,
+            ..bare
+        },
+        Kind::Range => Fact {
+            at: fact.at,
+            owner: fact.owner,
+            health: fact.health,
+            vision: fact.vision,
+            ..bare
+        },
+        Kind::Watch => Fact {
+            target: fact.target,
+            ..bare
+        },
+        Kind::Census => Fact {
+            owner: fact.owner,
+            ..bare
+        },
+    }
+}
+
+/// What a kind keeps of an entity, if anything.
+pub fn kept(kind: Kind, fact: &Fact) -> Option<Fact>
+    ensures { result ≡ kept_part kind fact.now }
+{
+    if keeps(kind, fact) {
+        Some(part_for(kind, fact))
+    } else {
+        None
+    }
+}
+
+/// What Watch keeps of an entity with this target.
+pub fn kept_aim(id: u32, target: u32) -> Option<Fact>
+    ensures { result ≡ kept_part Watch (aim_of id target) }
+{
+    kept(Kind::Watch, &Fact { target, ..bare(id) })
+}
+
+/// What a kind keeps of several entities.
+pub fn all_kept(alloc: Global, kind: Kind, facts: &[Fact]) -> Result<Vec<Fact>, OutOfMemory>
+    ensures { IfOk result (λ all. all.items ≡ kept_of kind facts.now) }
+{
+    let mut all = Facts::new(alloc);
+    for fact in facts {
+        if let Some(part) = kept(kind, fact) {
+            all.push(part)?;
+        }
+    }
+    Ok(all.into_items())
+}
