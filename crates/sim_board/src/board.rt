@@ -52,6 +52,13 @@ impl<'a> Board<'a> {
         }
     }
 
+    /// The match that it is about.
+    pub fn setup(&self) -> &'a Setup
+        ensures { result.now ≡ setup_in self.now }
+    {
+        self.setup
+    }
+
     /// Whether it may be changed and asked.
     pub fn whole(&self) -> bool
         ensures { result ≡ is_whole self.now }
