@@ -8,8 +8,10 @@ use std::alloc::Global;
 use std::test::Fail;
 
 fn read(alloc: Global, text: &str) -> Result<Option<Command>, OutOfMemory> {
-    let value = value_of(alloc, text.as_bytes())?;
-    match value.as_ref().and_then(list_of) {
+    let Some(value) = value_of(alloc, text.as_bytes())? else {
+        return Ok(None);
+    };
+    match list_of(&value) {
         Some(items) => command_of(alloc, items),
         None => Ok(None),
     }

@@ -31,8 +31,11 @@ fn said(up: &Up) -> (u8, u32) {
         Up::Join => (1, 0),
         Up::Command { turn, command } => (if is_stop(command) { 2 } else { 0 }, *turn),
         Up::Done { turn } => (3, *turn),
-        Up::Report { turn, digest } => (4 + digest[15], *turn),
-        Up::State { client, bytes, .. } => (*client, bytes.as_slice().len() as u32),
+        Up::Report { turn, digest } => (digest[15].saturating_add(4), *turn),
+        Up::State { client, bytes, .. } => (
+            *client,
+            u32::try_from(bytes.as_slice().len()).unwrap_or(u32::MAX),
+        ),
     }
 }
 

@@ -287,12 +287,6 @@ fn order(turn: u32, player: u8, command: Command) -> Down {
     Down::Command { turn, order }
 }
 
-fn point(x: i32, z: i32) -> Point {
-    let x = Fixed::from_raw(x);
-    let z = Fixed::from_raw(z);
-    Point { x, z }
-}
-
 fn messages(alloc: Global) -> Result<Vec<(Down, &'static str)>, OutOfMemory> {
     let bytes = Items::from_items(vec![in alloc; 97u8, 98, 99]?);
     let ids = Items::from_items(vec![in alloc; 2u32, 3]?);
