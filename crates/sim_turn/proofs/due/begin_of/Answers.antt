@@ -1,0 +1,13 @@
+-- The test of the closure parts a list that ascends by turns.
+use Rattle.std.proofs.Common.{rules}
+use Rattle.std.specs.Prelude.{nat_lt}
+use Rattle.std.proofs.lemmas.List.Sorted.{IsPartitionedBy-ltb, IsPartitionPoint-from_clause}
+use Rattle.sim_base.specs.declared.setup.Timed.{Timed}
+use Rattle.sim_turn.proofs.Stretches.{rising}
+use Rattle.sim_turn.proofs.due.begin_of.Goals as goal
+
+pub returns-clause-point : goal.returns-clause-point
+returns-clause-point c =
+    let timeds = c.args.timeds.now in
+    IsPartitionPoint-from_clause (λ (timed : Timed). nat_lt timed.turn c.args.turn) timeds c.partition_point.result c.partition_point.ensures.partitioned
+    (IsPartitionedBy-ltb (λ (timed : Timed). timed.turn) timeds c.args.turn (rising timeds c.requires)) (λ a r f called. search rules)

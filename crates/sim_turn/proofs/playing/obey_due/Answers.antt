@@ -1,0 +1,17 @@
+use Rattle.std.proofs.Common.{◌<◌, length, sym, subst, arith}
+use Rattle.sim_base.specs.declared.setup.Setup.{Setup}
+use Rattle.sim_base.specs.declared.setup.Timed.{Timed}
+use Rattle.sim_base.specs.Limits.{IsFrom}
+use Rattle.sim_turn_laws.specs.CommandLaws.{IsOrderOf}
+use Rattle.sim_board.specs.BoardWords.{setup_in}
+use Rattle.sim_turn.proofs.Counting.{all_mapped}
+use Rattle.sim_turn.proofs.playing.obey_due.Goals as goal
+
+pub obey-requires-clause-player : goal.obey-requires-clause-player
+obey-requires-clause-player g c =
+    let due = c.args.due.now in
+    let at = c.loop-timed.timed-index in
+    let item = c.timed-item.result in
+    let lt : at < length due = omega arith in
+    subst (λ (s : Setup). IsFrom 1 s.players item.order.player) (sym c.loop-timed.invariant.same)
+    (all_mapped (IsOrderOf (setup_in c.args.board.now)) (λ (timed : Timed). timed.order) due at item c.requires.players lt c.timed-item.is)
