@@ -1,0 +1,9 @@
+-- The match stays.
+use Rattle.std.proofs.Common.{◌≡◌}
+use Rattle.server_bench.proofs.time_of.Given as goal
+
+abbrev pub invariant-loop-arrival : goal.invariant-loop-arrival
+invariant-loop-arrival l =
+    (goal.iterator-loop-arrival).can_next l.arrival-iterator
+    × (goal.iterator-loop-arrival).is_finite l.arrival-iterator
+    × (l.server.rules ≡ l.fn.server.rules)
