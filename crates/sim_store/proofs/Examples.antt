@@ -1,5 +1,6 @@
 -- Small cases of the definitions, each with the value that a reader expects, found by computing.
 use Rattle.std.proofs.Common.{◌≡◌, ◌-◌, ◌*◌, ◌^◌, List, [], ◌∷◌, Some, Ok, Err, refl, codes}
+use Rattle.sim_base.specs.Limits.{file_limit}
 use Rattle.sim_store.specs.Counts.{raised, no_counts, after_giving, after_miss}
 use Rattle.sim_store.specs.Files.{File, file_in}
 use Rattle.sim_store.specs.Reading.{reading_of}
@@ -25,7 +26,10 @@ not_held : reading_of (file_in files (codes "c")) ≡ Err NoFile
 unfolding files
 not_held = refl
 
-sixteen_mebibytes : MAX_FILE ≡ 16 * 2 ^ 20
+limit_of_the_code : MAX_FILE ≡ file_limit
+limit_of_the_code = refl
+
+sixteen_mebibytes : file_limit ≡ 16 * 2 ^ 20
 sixteen_mebibytes = refl
 
 one_more : raised 1 6 ≡ 7

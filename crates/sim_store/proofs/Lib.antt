@@ -1,3 +1,4 @@
 pub mod Pieces
 pub mod Kept
+pub mod Given
 pub mod Examples

@@ -1,43 +1,58 @@
 -- What reading a whole file answers, and why.
-use Rattle.std.specs.Prelude.{◌≡◌, ℕ, ◌+◌, ◌≤◌, List, length, nat_le, Option, Some, None, Result, Ok, Err, if◌then◌else◌, Vec}
+use Rattle.std.specs.Prelude.{◌≡◌, ◌≢◌, ℕ, ◌+◌, ◌<◌, ◌≤◌, Bool, IsTrue, IsFalse, List, length, nat_le, Option, Some, None, Result, Ok, Err, if◌then◌else◌, Vec}
 use Rattle.std.specs.declared.alloc.Global.{Global}
-use Rattle.sim_store.specs.Counts.{RoseBy, after_giving, after_miss, after_read_fault}
+use Rattle.sim_base.specs.Limits.{file_limit}
+use Rattle.sim_store.specs.Counts.{after_giving, after_miss, after_read_fault}
 use Rattle.sim_store.specs.declared.counts.Counts.{Counts}
-use Rattle.sim_store.specs.declared.read.TheConstants.{MAX_FILE}
 use Rattle.sim_store.specs.declared.fault.StoreFault.{StoreFault}
 use Rattle.sim_store.specs.declared.fault.StoreFault.TheVariants.{ReadFault, WriteFault, TooLong, NoFile, OutOfMemory}
 
 -- the bytes, unless they are more than a file may have
 abbrev pub within_limit : List ℕ → Result (List ℕ) StoreFault
-within_limit bytes = if nat_le (length bytes) MAX_FILE then Ok bytes else Err TooLong
+within_limit bytes = if nat_le (length bytes) file_limit then Ok bytes else Err TooLong
 
 -- what reading gives of the bytes that are held under a name, if any are
 abbrev pub reading_of : Option (List ℕ) → Result (List ℕ) StoreFault
 reading_of None = Err NoFile
 reading_of (Some bytes) = within_limit bytes
 
--- an answer is the wanted one, or a read fault or want of memory came between
+-- an answer is the wanted one, or a read fault came between, or want of memory where there is a file
 abbrev pub ReadMeets : Result (Vec ℕ Global) StoreFault → Result (List ℕ) StoreFault → Type 0
 ReadMeets (Ok bytes) wanted = wanted ≡ Ok bytes.items
 ReadMeets (Err NoFile) wanted = wanted ≡ Err NoFile
 ReadMeets (Err TooLong) wanted = wanted ≡ Err TooLong
 ReadMeets (Err ReadFault) wanted = Unit {0}
-ReadMeets (Err OutOfMemory) wanted = Unit {0}
+ReadMeets (Err OutOfMemory) wanted = wanted ≢ Err NoFile
 ReadMeets (Err WriteFault) wanted = ⊥
 
--- bytes may have been given out, and nothing else was counted
-abbrev pub OnlyGave : Counts → Counts → Type 0
-OnlyGave old new = (old.given ≤ new.given) × (new ≡ record old { given = new.given })
+-- the most bytes that are asked for at once
+abbrev pub most_at_once : ℕ
+most_at_once = 4096
 
--- bytes may have been given out, then there was one read fault, and nothing else was counted
-abbrev pub GaveThenFailed : Counts → Counts → Type 0
-GaveThenFailed old new = (old.given ≤ new.given) × (new ≡ after_read_fault (record old { given = new.given }))
+-- at most so many bytes were given out, and nothing else was counted
+abbrev pub GaveAtMost : ℕ → Counts → Counts → Type 0
+GaveAtMost most old new = (bytes : ℕ) × (bytes ≤ most) × (new ≡ after_giving bytes old)
+
+-- at most so many bytes were given out, then there was one read fault, and nothing else was counted
+abbrev pub GaveThenFailed : ℕ → Counts → Counts → Type 0
+GaveThenFailed most old new = (bytes : ℕ) × (bytes ≤ most) × (new ≡ after_read_fault (after_giving bytes old))
+
+-- more bytes were given out than a file may have, by at most one piece, and nothing else was counted
+abbrev pub GaveTooMany : Counts → Counts → Type 0
+GaveTooMany old new = (bytes : ℕ) × (file_limit < bytes) × (bytes ≤ file_limit + most_at_once) × (new ≡ after_giving bytes old)
 
 -- what was counted while a file was read, by the answer
 abbrev pub ReadCauses : Result (Vec ℕ Global) StoreFault → Counts → Counts → Type 0
 ReadCauses (Ok bytes) old new = new ≡ after_giving (length bytes.items) old
 ReadCauses (Err NoFile) old new = new ≡ after_miss old
-ReadCauses (Err TooLong) old new = OnlyGave old new × RoseBy (MAX_FILE + 1) old.given new.given
-ReadCauses (Err ReadFault) old new = GaveThenFailed old new
-ReadCauses (Err OutOfMemory) old new = OnlyGave old new
+ReadCauses (Err TooLong) old new = GaveTooMany old new
+ReadCauses (Err ReadFault) old new = GaveThenFailed file_limit old new
+ReadCauses (Err OutOfMemory) old new = GaveAtMost file_limit old new
 ReadCauses (Err WriteFault) old new = ⊥
+
+-- whether a file is still open: one that was found is, and after a fault or without memory none need be
+abbrev pub LeavesOpen : Result (Vec ℕ Global) StoreFault → Bool → Type 0
+LeavesOpen (Ok bytes) open_now = IsTrue open_now
+LeavesOpen (Err TooLong) open_now = IsTrue open_now
+LeavesOpen (Err NoFile) open_now = IsFalse open_now
+LeavesOpen (Err other) open_now = Unit {0}

@@ -1,5 +1,5 @@
 -- What each call of a shelf does, by cases on its answer.
-use Rattle.std.specs.Prelude.{◌≡◌, ℕ, List, [], ◌++◌, take, Bool, true, false, Option, Some, None, Result, Ok, Err, ⊤}
+use Rattle.std.specs.Prelude.{◌≡◌, ◌≢◌, ℕ, List, [], ◌++◌, take, Bool, true, false, Option, Some, None, Result, Ok, Err, ⊤}
 use Rattle.sim_store.specs.Counts.{after_giving, after_miss, after_read_fault, after_write_fault}
 use Rattle.sim_store.specs.Files.{File, file_in, FileSet}
 use Rattle.sim_store.specs.declared.counts.Counts.{Counts}
@@ -12,11 +12,13 @@ abbrev pub opens : Result Bool ShelfFault → Bool
 opens (Ok found) = found
 opens (Err refused) = false
 
--- an `open` finds what is held, all of which is then left to read, and misses only what is not held
+-- an `open` finds what is held, all of which is then left to read, misses only what is not held, and lacks memory only for
+-- what is held
 abbrev pub OpenTells : Result Bool ShelfFault → Option (List ℕ) → Option (List ℕ) → Type 0
 OpenTells (Ok true) held rest = (bytes : List ℕ) × (held ≡ Some bytes) × (rest ≡ Some bytes)
 OpenTells (Ok false) held rest = held ≡ None
-OpenTells (Err refused) held rest = Unit {0}
+OpenTells (Err fault.Failed) held rest = Unit {0}
+OpenTells (Err fault.OutOfMemory) held rest = held ≢ None
 
 -- an `open` that answers false is a miss, and one that fails is a read fault
 abbrev pub OpenCounts : Result Bool ShelfFault → Counts → Counts → Type 0

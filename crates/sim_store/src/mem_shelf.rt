@@ -1,7 +1,7 @@
 //! A shelf in memory. Whoever wants to run the program without files, tests above all, hands it in; its room makes a
 //! full disk at any place, and its list of calls makes any call fail.
 
-ghost use Rattle.std.specs.Prelude.{◌≡◌, ◌+◌, ◌++◌, ◌<◌, ◌≤◌, ◌↔◌, ℕ, List, [], ◌∷◌, length, OnOk, OnErr, IfOk, IsOk, IsErr, IsTrue, IsFalse, false, Some, is_ok, option_copied, vec_len};
+ghost use Rattle.std.specs.Prelude.{◌≡◌, ◌+◌, ◌++◌, ◌<◌, ◌≤◌, ◌↔◌, ℕ, List, [], ◌∷◌, length, OnOk, OnErr, IfOk, IsOk, IsErr, IsTrue, IsFalse, false, Some, is_ok, min, option_copied, vec_len};
 ghost use Rattle.std.specs.Io.{ReadsAtMost};
 ghost use Rattle.std.specs.Io.KnownBytes.{ReadConsumes};
 ghost use Rattle.sim_store.specs.Counts.{no_counts, raised};
@@ -38,8 +38,10 @@ pub struct MemShelf {
 impl MemShelf {
     ghost use Rattle.sim_store.specs.MemShelf.{files_on, room_on, rest_on, is_open_on, is_making_on, made_name_on, counts_on, calls_on, failing_on};
 
-    /// A shelf that holds nothing. It keeps the allocator, and each file that is made on it has this room.
+    /// A shelf that holds nothing. It keeps the allocator, and each file that is made on it has this room. It takes no
+    /// memory yet.
     pub fn new(alloc: Global, room: usize) -> Result<MemShelf, OutOfMemory>
+        ensures ok { IsOk result }
         ensures files { IfOk result (λ shelf. files_on shelf ≡ []) }
         ensures room { IfOk result (λ shelf. room_on shelf ≡ room) }
         ensures counts { IfOk result (λ shelf. counts_on shelf ≡ no_counts) }
@@ -60,11 +62,13 @@ impl MemShelf {
     }
 
     /// Holds these bytes under the name, in place of what the name held. If a file is being made, that ends, and its
-    /// name holds what was written so far.
+    /// name holds what was written so far. Without memory nothing changes.
     pub fn put(&mut self, name: &str, bytes: &[u8]) -> Result<(), OutOfMemory>
         ensures ok { OnOk result (FileSet name.now bytes.now (files_on self.old) (files_on self.new)) }
         ensures err { OnErr result (files_on self.new ≡ files_on self.old) }
-        ensures making { is_making_on self.new ≡ false }
+        ensures ends { OnOk result (is_making_on self.new ≡ false) }
+        ensures making { OnErr result (is_making_on self.new ≡ is_making_on self.old) }
+        ensures name { OnErr result (made_name_on self.new ≡ made_name_on self.old) }
         ensures room { room_on self.new ≡ room_on self.old }
         ensures counts { counts_on self.new ≡ counts_on self.old }
         ensures opened { is_open_on self.new ≡ is_open_on self.old }
@@ -72,9 +76,9 @@ impl MemShelf {
         ensures calls { calls_on self.new ≡ calls_on self.old }
         ensures failing { failing_on self.new ≡ failing_on self.old }
     {
-        self.is_making = false;
         let bytes = bytes.to_vec(self.alloc)?;
         put_first(self.alloc, &mut self.files, name, bytes)?;
+        self.is_making = false;
         Ok(())
     }
 
@@ -152,7 +156,7 @@ impl Shelf for MemShelf {
         Ok(true)
     }
 
-    /// Fails where the call is listed.
+    /// Moves as many bytes as are left and fit, or fails where the call is listed.
     fn read(&mut self, into: &mut [u8]) -> Result<usize, Failed>
         requires { IsTrue (is_open_on self.old) }
         ensures fails { IsErr result ↔ IsTrue (fails_next_on self.old) }
@@ -161,6 +165,7 @@ impl Shelf for MemShelf {
         ensures room { room_on self.new ≡ room_on self.old }
         ensures bound { ReadsAtMost result into.new }
         ensures bytes { ReadConsumes (rest_on self.old) (rest_on self.new) result into.new }
+        ensures gives { (left : List ℕ) → rest_on self.old ≡ Some left → IfOk result (λ count. count ≡ min (length left) (length into.new)) }
         ensures opened { IsTrue (is_open_on self.new) }
         ensures counts { ReadCounts result (counts_on self.old) (counts_on self.new) }
         ensures held { files_on self.new ≡ files_on self.old }

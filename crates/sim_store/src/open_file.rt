@@ -1,6 +1,6 @@
 //! A file in memory that is being read: its bytes, and how far reading has come.
 
-ghost use Rattle.std.specs.Prelude.{◌≡◌, ◌≤◌, ◌<◌, ◌++◌, [], length, vec_len, take};
+ghost use Rattle.std.specs.Prelude.{◌≡◌, ◌≤◌, ◌++◌, length, min, vec_len, take};
 
 /// A copy of the bytes of a file, so that making a file of that name does not disturb who reads the old one.
 #[derive(Drop)]
@@ -22,9 +22,8 @@ impl OpenFile {
 
     /// Moves the next bytes to the buffer's start, as many as there are and fit, and answers how many.
     pub fn read(&mut self, into: &mut [u8]) -> usize
-        ensures bound { result ≤ length into.new }
+        ensures count { result ≡ min (length (bytes_left self.old)) (length into.new) }
         ensures bytes { bytes_left self.old ≡ take result into.new ++ bytes_left self.new }
-        ensures end { result ≡ 0 → 0 < length into.new → bytes_left self.new ≡ [] }
     {
         let left = &self.bytes[self.at..];
         let count = left.len().min(into.len());

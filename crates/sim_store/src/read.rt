@@ -1,9 +1,10 @@
 //! Reading a whole file, over any shelf. It is the one way by which a file's bytes come into the program, so the limit
 //! on a file's length is kept here.
 
-ghost use Rattle.std.specs.Prelude.{◌≡◌, ◌≢◌, IfSome, IsTrue};
+ghost use Rattle.std.specs.Prelude.{◌≡◌, ◌≢◌, IfSome, IsTrue, OnOk};
+ghost use Rattle.std.specs.Io.KnownBytes.{IsAtEnd};
 ghost use Rattle.sim_store.specs.Files.{file_in};
-ghost use Rattle.sim_store.specs.Reading.{reading_of, within_limit, ReadMeets, ReadCauses};
+ghost use Rattle.sim_store.specs.Reading.{reading_of, within_limit, ReadMeets, ReadCauses, LeavesOpen};
 
 use crate::fault::{ShelfFault, StoreFault};
 use crate::shelf::Shelf;
@@ -15,10 +16,12 @@ pub const MAX_FILE: usize = 16_777_216;
 // How many bytes are asked for at once.
 const PIECE: usize = 4096;
 
-/// The whole file of this name.
+/// The whole file of this name. It stays open, read to its end.
 pub fn read_file<S: Shelf>(alloc: Global, shelf: &mut S, name: &str) -> Result<Vec<u8>, StoreFault>
     ensures tells { IfSome (S.held shelf.old) (λ files. ReadMeets result (reading_of (file_in files name.now))) }
     ensures causes { ReadCauses result (S.counts shelf.old) (S.counts shelf.new) }
+    ensures opened { LeavesOpen result (S.is_open shelf.new) }
+    ensures end { OnOk result (IsAtEnd (S.rest shelf.new)) }
     ensures held { S.held shelf.new ≡ S.held shelf.old }
     ensures making { S.is_making shelf.new ≡ S.is_making shelf.old }
     ensures name { S.made_name shelf.new ≡ S.made_name shelf.old }
@@ -37,6 +40,8 @@ fn read_rest<S: Shelf>(alloc: Global, shelf: &mut S) -> Result<Vec<u8>, StoreFau
     ensures tells { IfSome (S.rest shelf.old) (λ left. ReadMeets result (within_limit left)) }
     ensures causes { ReadCauses result (S.counts shelf.old) (S.counts shelf.new) }
     ensures found { result ≢ Err StoreFault.NoFile }
+    ensures opened { IsTrue (S.is_open shelf.new) }
+    ensures end { OnOk result (IsAtEnd (S.rest shelf.new)) }
     ensures held { S.held shelf.new ≡ S.held shelf.old }
     ensures making { S.is_making shelf.new ≡ S.is_making shelf.old }
     ensures name { S.made_name shelf.new ≡ S.made_name shelf.old }

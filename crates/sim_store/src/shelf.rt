@@ -32,8 +32,8 @@ pub trait Shelf {
     /// What was handed out, missed and failed so far.
     ghost counts: { Self → Counts };
 
-    /// Begins to read a file at its start, in place of another that is open. False says that no such file is held.
-    /// After every other answer than true no file is open.
+    /// Begins to read a file at its start, in place of another that is open. False says that no such file is held, which
+    /// takes no memory to find out. After every other answer than true no file is open.
     fn open(&mut self, name: &str) -> Result<bool, ShelfFault>
         ensures opened { is_open self.new ≡ opens result }
         ensures tells { IfSome (held self.old) (λ files. OpenTells result (file_in files name.now) (rest self.new)) }

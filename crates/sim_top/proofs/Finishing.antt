@@ -4,8 +4,7 @@ use Rattle.std.specs.Io.KnownBytes.{Appends}
 use Rattle.std.proofs.lemmas.Bool.{false≢true}
 use Rattle.sim_store.specs.Files.{File}
 use Rattle.sim_store.specs.Counts.{Rose}
-use Rattle.sim_store.specs.Reading.{OnlyGave}
-use Rattle.sim_top.specs.Answers.{Scene, FailsToSave, FailsToTell, IsUntouched, Saves, SavesPart, Meets, GaveThenUnsaved, CountsBefore, Causes, IsSilent}
+use Rattle.sim_top.specs.Answers.{OnlyGave, Scene, FailsToSave, FailsToTell, IsUntouched, Saves, SavesPart, Meets, GaveThenUnsaved, CountsBefore, Causes, IsSilent}
 use Rattle.std.specs.declared.alloc.Global.{Global}
 use Rattle.sim_base.specs.declared.memory.OutOfMemory.{OutOfMemory as NoMemory}
 use Rattle.sim_store.specs.declared.counts.Counts.{Counts}
@@ -36,7 +35,7 @@ done_meets StateRefused words files text saved before now h told held = (_, h, r
 done_meets NoSuchTurn words files text saved before now h told held = (_, h, refl, record { text = told; files = held })
 done_meets NoFile words files text saved before now h told held = (_, h, refl, record { text = told; files = held })
 
-none_told : (part : ℕ) (text : List ℕ) → part < length text → text ≡ [] → ⊥
+pub none_told : (part : ℕ) (text : List ℕ) → part < length text → text ≡ [] → ⊥
 none_told part text less none = let none_long : length text ≡ 0 = ap length none in omega (arith, less, none_long)
 
 pub untold_meets : (status : Status) (words : List (List ℕ)) (files : List File) (text : List ℕ) (saved : Option File) (before now : Scene) (part : ℕ) → MeetsBefore status words files text saved

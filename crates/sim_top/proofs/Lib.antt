@@ -8,3 +8,5 @@ pub mod ValidStates
 pub mod Stopping
 pub mod Finishing
 pub mod Completeness
+pub mod Counting
+pub mod Ending

@@ -1,13 +1,13 @@
 -- What an answer of the program says: that it is an outcome of the words, or else which fault came between.
-use Rattle.std.specs.Prelude.{◌≡◌, ◌≢◌, ◌⊎◌, ℕ, ◌+◌, ◌<◌, ◌≤◌, List, [], length, take, Option, Some, None}
+use Rattle.std.specs.Prelude.{◌≡◌, ◌≢◌, ◌⊎◌, IsTrue, ℕ, ◌+◌, ◌<◌, ◌≤◌, List, [], length, take, Option, Some, None}
 use Rattle.std.specs.Io.KnownBytes.{Appends}
-use Rattle.sim_store.specs.Counts.{raised, Rose, RoseBy, after_miss}
+use Rattle.sim_base.specs.Limits.{file_limit}
+use Rattle.sim_store.specs.Counts.{raised, Rose, RoseBy, after_miss, after_read_fault}
 use Rattle.sim_store.specs.Files.{File, file_in}
-use Rattle.sim_store.specs.Reading.{OnlyGave, GaveThenFailed}
 use Rattle.sim_store.specs.Shelf.{HeldSet}
 use Rattle.sim_store.specs.declared.counts.Counts.{Counts}
-use Rattle.sim_store.specs.declared.read.TheConstants.{MAX_FILE}
 use Rattle.sim_top.specs.Outcome.{Outcome, IsOutcome}
+use Rattle.sim_top.specs.Words.{Asked, is_comparison, has_turn, loads_state}
 use Rattle.sim_top.specs.declared.status.Status.{Status}
 use Rattle.sim_top.specs.declared.status.Status.TheVariants.{Done, Differs, Usage, ReadFault, WriteFault, TooLong, MatchRefused, StateRefused, OutOfMemory, NoSuchTurn, NoFile}
 
@@ -24,6 +24,14 @@ scene held told counts faults = record { held = held; told = told; counts = coun
 
 -- ---- what was counted
 
+-- bytes may have been given out, and nothing else was counted
+abbrev pub OnlyGave : Counts → Counts → Type 0
+OnlyGave old new = (old.given ≤ new.given) × (new ≡ record old { given = new.given })
+
+-- bytes may have been given out, then there was one read fault, and nothing else was counted
+abbrev pub GaveThenFailed : Counts → Counts → Type 0
+GaveThenFailed old new = (old.given ≤ new.given) × (new ≡ after_read_fault (record old { given = new.given }))
+
 -- bytes may have been given out, then a name was not found, and nothing else was counted
 abbrev pub GaveThenMissed : Counts → Counts → Type 0
 GaveThenMissed old new = (old.given ≤ new.given) × (new ≡ after_miss (record old { given = new.given }))
@@ -36,7 +44,7 @@ GaveThenUnsaved old new = (old.given ≤ new.given) × Rose old.write_faults new
 abbrev pub CountsBefore : Status → Counts → Counts → Type 0
 CountsBefore ReadFault old new = GaveThenFailed old new
 CountsBefore NoFile old new = GaveThenMissed old new
-CountsBefore TooLong old new = OnlyGave old new × RoseBy (MAX_FILE + 1) old.given new.given
+CountsBefore TooLong old new = OnlyGave old new × RoseBy (file_limit + 1) old.given new.given
 CountsBefore Usage old new = new ≡ old
 CountsBefore status old new = OnlyGave old new
 
@@ -56,12 +64,30 @@ abbrev pub Causes : Status → Scene → Scene → Type 0
 Causes WriteFault before now = FailsToSave before now ⊎ FailsToTell before now
 Causes status before now = CountsBefore status before.counts now.counts × (now.faults ≡ before.faults)
 
--- what may be answered where the words are not in the table of commands
-abbrev pub IsForNoWords : Status → Type 0
-IsForNoWords Usage = Unit {0}
-IsForNoWords WriteFault = Unit {0}
-IsForNoWords OutOfMemory = Unit {0}
-IsForNoWords other = ⊥
+-- ---- which statuses there may be
+
+-- a command that ends so
+abbrev pub MayAnswer : Asked → Status → Type 0
+MayAnswer asked Usage = ⊥
+MayAnswer asked Differs = IsTrue (is_comparison asked)
+MayAnswer asked NoSuchTurn = IsTrue (has_turn asked)
+MayAnswer asked StateRefused = IsTrue (loads_state asked)
+MayAnswer asked other = Unit {0}
+
+-- words that are answered so
+abbrev pub MayEnd : Option Asked → Status → Type 0
+MayEnd (Some asked) status = MayAnswer asked status
+MayEnd None Usage = Unit {0}
+MayEnd None WriteFault = Unit {0}
+MayEnd None OutOfMemory = Unit {0}
+MayEnd None other = ⊥
+
+-- the whole text was told, or a part of it after a fault, or nothing without memory
+abbrev pub IsUsageTold : List ℕ → Status → Option (List ℕ) → Option (List ℕ) → Type 0
+IsUsageTold text Usage told told' = Appends told told' text
+IsUsageTold text WriteFault told told' = (part : ℕ) × (part < length text) × Appends told told' (take part text)
+IsUsageTold text OutOfMemory told told' = Appends told told' []
+IsUsageTold text other told told' = ⊥
 
 -- ---- what was done, where the shelf tells what it holds
 

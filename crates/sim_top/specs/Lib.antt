@@ -1,6 +1,7 @@
 pub mod Quiet
 pub mod Lines
 pub mod Words
+pub mod Reads
 pub mod Outcome
 pub mod Answers
 pub mod Readiness

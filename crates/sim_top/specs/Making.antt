@@ -10,8 +10,8 @@ use Rattle.sim_store.specs.declared.fault.StoreFault.TheVariants as store
 use Rattle.sim_top.specs.Outcome.{Outcome, IsOutcome}
 use Rattle.sim_top.specs.Answers.{Saves, SavesPart}
 use Rattle.sim_top.specs.declared.status.Status.{Status}
-use Rattle.sim_top.specs.declared.status.Status.TheVariants.{Done, Differs, ReadFault, WriteFault, OutOfMemory}
-use Rattle.sim_top.specs.Stops.{Stopped}
+use Rattle.sim_top.specs.declared.status.Status.TheVariants.{Done, Differs, Usage, ReadFault, WriteFault, OutOfMemory}
+use Rattle.sim_top.specs.Stops.{Stopped, status_of}
 use Rattle.sim_top.specs.declared.stop.Stop.{Stop}
 use Rattle.sim_top.specs.declared.commands.Saved.{Saved}
 use Rattle.sim_top.specs.declared.commands.Answer.{Answer}
@@ -28,6 +28,11 @@ outcome_made answer = record { status = answer.status; text = string_bytes answe
 abbrev pub Makes : Result Answer Stop → (Outcome → Type 0) → Type 0
 Makes (Ok answer) wanted = wanted (outcome_made answer)
 Makes (Err stop) wanted = Stopped stop wanted
+
+-- the status of what a command made
+abbrev pub status_made : Result Answer Stop → Status
+status_made (Ok answer) = answer.status
+status_made (Err stop) = status_of stop
 
 -- a file is saved under this name alone, if at all
 abbrev pub IsSavedAs : Option (List ℕ) → Option Saved → Type 0
@@ -48,6 +53,12 @@ IsFinished saved Done = Unit {0}
 IsFinished None Differs = Unit {0}
 IsFinished (Some saved) Differs = ⊥
 IsFinished saved other = ⊥
+
+-- words that are in no table make the usage text, or nothing without memory
+abbrev pub IsUsageMade : List ℕ → Status → List ℕ → Type 0
+IsUsageMade usage Usage text = text ≡ usage
+IsUsageMade usage OutOfMemory text = text ≡ []
+IsUsageMade usage other text = ⊥
 
 -- a file is saved only where all was done
 abbrev pub SavesIfDone : Option Saved → Status → Type 0

@@ -1,16 +1,22 @@
 -- Why a command ends before it has its text, and what a call that may end so answers.
-use Rattle.std.specs.Prelude.{◌≡◌, ℕ, List, [], Result, Ok, Err, Vec}
+use Rattle.std.specs.Prelude.{◌≡◌, ℕ, List, [], length, Result, Ok, Err, Vec}
 use Rattle.std.specs.declared.alloc.Global.{Global}
 use Rattle.sim_base.specs.declared.setup.Setup.{Setup}
 use Rattle.sim_base.specs.declared.state.State.{State}
-use Rattle.sim_store.specs.Reading.{OnlyGave}
+use Rattle.sim_base.specs.Limits.{file_limit}
+use Rattle.sim_store.specs.Counts.{after_giving, after_miss}
+use Rattle.sim_store.specs.Reading.{GaveAtMost, GaveTooMany, GaveThenFailed}
 use Rattle.sim_store.specs.declared.counts.Counts.{Counts}
 use Rattle.sim_codec.specs.declared.fault.StateFault.{StateFault}
+use Rattle.sim_codec.specs.declared.fault.StateFault.TheVariants as stored
+use Rattle.sim_setup.specs.declared.fault.SetupFault.{SetupFault}
+use Rattle.sim_setup.specs.declared.fault.SetupFault.TheVariants as setup
 use Rattle.sim_codec.specs.Loading.{StandsFor}
 use Rattle.sim_report.specs.declared.refusal.Refusal.TheVariants.{Match, Turn}
 use Rattle.sim_report.specs.Refusals.{refusal_text, stored_text}
-use Rattle.sim_top.specs.Outcome.{Outcome, printed, Then, IsStored, state_by}
-use Rattle.sim_top.specs.Answers.{CountsBefore}
+use Rattle.sim_top.specs.Outcome.{Outcome, printed, Then, IsStored, code_of, state_by}
+use Rattle.sim_top.specs.Answers.{OnlyGave, CountsBefore}
+use Rattle.sim_top.specs.Reads.{IsUnfound}
 use Rattle.sim_top.specs.declared.status.Status.{Status}
 use Rattle.sim_top.specs.declared.status.Status.TheVariants as status
 use Rattle.sim_top.specs.declared.stop.Stop.{Stop}
@@ -78,12 +84,42 @@ abbrev pub ReadsState : Result State Stop → Setup → List ℕ → Result (Lis
 ReadsState (Ok state) setup name file = IsState setup file state
 ReadsState (Err stop) setup name file = Stopped stop (Then file (IsRefused setup name))
 
+-- why a command ends whose match is refused
+abbrev pub setup_stop : SetupFault → Stop
+setup_stop (setup.Refused code index) = MatchRefused code index
+setup_stop setup.OutOfMemory = OutOfMemory
+
+-- a command ends for this cause, for which the state in the file of this name is refused
+abbrev pub IsStateStop : StateFault → List ℕ → Stop → Type 0
+IsStateStop stored.OutOfMemory name stop = stop ≡ OutOfMemory
+IsStateStop fault name stop = ended_by stop ≡ printed status.StateRefused (stored_text (code_of fault) name)
+
+-- what the shelf counted while the bytes of a file were read, by the answer
+abbrev pub ReadsCounting : Result (Vec ℕ Global) Stop → Counts → Counts → Type 0
+ReadsCounting (Ok bytes) old new = new ≡ after_giving (length bytes.items) old
+ReadsCounting (Err NoFile) old new = new ≡ after_miss old
+ReadsCounting (Err TooLong) old new = GaveTooMany old new
+ReadsCounting (Err ReadFault) old new = GaveThenFailed file_limit old new
+ReadsCounting (Err OutOfMemory) old new = GaveAtMost file_limit old new
+ReadsCounting (Err other) old new = ⊥
+
 -- a command ends for what a file says, or for want of memory, and not for a fault of the shelf
 abbrev pub IsOfContent : Stop → Type 0
 IsOfContent ReadFault = ⊥
 IsOfContent TooLong = ⊥
 IsOfContent NoFile = ⊥
 IsOfContent other = Unit {0}
+
+-- a command ends for a turn that the match lacks, or for want of memory
+abbrev pub IsOfTurn : Stop → Type 0
+IsOfTurn OutOfMemory = Unit {0}
+IsOfTurn (NoSuchTurn asked turns) = Unit {0}
+IsOfTurn other = ⊥
+
+-- a command ends since a file was not there, or for a read fault
+abbrev pub IsMissed : {X : Type 0} → Result X Stop → Type 0
+IsMissed (Ok x) = ⊥
+IsMissed (Err stop) = IsUnfound (status_of stop)
 
 -- what the shelf counted while something was read
 abbrev pub CausesOf : {X : Type 0} → Result X Stop → Counts → Counts → Type 0

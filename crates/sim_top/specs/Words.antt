@@ -1,5 +1,5 @@
 -- The words after the program's name, and what they ask for.
-use Rattle.std.specs.Prelude.{ℕ, ◌+◌, ◌-◌, ◌*◌, ◌&&◌, nat_le, List, [], ◌∷◌, length, map, codes, Option, Some, None, option_map, if◌then◌else◌, String, string_bytes}
+use Rattle.std.specs.Prelude.{ℕ, ◌+◌, ◌-◌, ◌*◌, Bool, true, false, ◌&&◌, nat_le, List, [], ◌∷◌, length, map, codes, Option, Some, None, option_map, if◌then◌else◌, String, string_bytes}
 use Rattle.std.specs.declared.alloc.Global.{Global}
 use Rattle.std.specs.Str.{bytes_eq}
 use Rattle.sim_base.specs.NumberText.{is_digit}
@@ -66,3 +66,27 @@ out_of (Some (to_store game turn out)) = Some out
 out_of (Some (to_resume game stored)) = None
 out_of (Some (to_show game stored)) = None
 out_of (Some (to_compare game left right)) = None
+
+-- whether it is to compare two states
+abbrev pub is_comparison : Asked → Bool
+is_comparison (to_play game) = false
+is_comparison (to_store game turn out) = false
+is_comparison (to_resume game stored) = false
+is_comparison (to_show game stored) = false
+is_comparison (to_compare game left right) = true
+
+-- whether it names a turn
+abbrev pub has_turn : Asked → Bool
+has_turn (to_play game) = false
+has_turn (to_store game turn out) = true
+has_turn (to_resume game stored) = false
+has_turn (to_show game stored) = false
+has_turn (to_compare game left right) = false
+
+-- whether it names a file with a stored state
+abbrev pub loads_state : Asked → Bool
+loads_state (to_play game) = false
+loads_state (to_store game turn out) = false
+loads_state (to_resume game stored) = true
+loads_state (to_show game stored) = true
+loads_state (to_compare game left right) = true

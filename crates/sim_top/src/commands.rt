@@ -1,20 +1,24 @@
 //! What each command makes of its files: the whole text that it prints, and the bytes of the file that it saves. Nothing
 //! is written here.
 
-ghost use Rattle.std.specs.Prelude.{◌≡◌, ◌≤◌, IfSome, IfOk, Some, None, length, string_bytes};
-ghost use Rattle.sim_base.specs.Limits.{IsSetup};
+ghost use Rattle.std.specs.Prelude.{◌≡◌, ◌<◌, ◌≤◌, List, IsTrue, IfSome, IfOk, IfErr, Some, None, length, string_bytes};
+ghost use Rattle.sim_base.specs.Limits.{IsSetup, row_limit};
 ghost use Rattle.sim_base.specs.Validity.{IsValid};
 ghost use Rattle.sim_base.specs.Spelling.{spelling, digest as digest_of};
 ghost use Rattle.sim_report.specs.Lines.{saved_line};
 ghost use Rattle.sim_report.specs.Show.{show_text as text_of_show};
 ghost use Rattle.sim_setup.specs.Quiet.{IsQuietMatch};
-ghost use Rattle.sim_top.specs.Words.{to_play, to_store, to_resume, to_show, to_compare, asked, out_of};
+ghost use Rattle.sim_store.specs.Counts.{after_giving};
+ghost use Rattle.sim_store.specs.Files.{File, file_in};
+ghost use Rattle.sim_top.specs.Words.{Asked, to_play, to_store, to_resume, to_show, to_compare, asked, out_of, is_comparison, loads_state};
+ghost use Rattle.sim_top.specs.Reads.{game_of, length_in, length_read};
 ghost use Rattle.sim_top.specs.Lines.{play_text as text_of_play, resume_text as text_of_resume};
 ghost use Rattle.sim_diff.specs.Difference.{difference_of};
-ghost use Rattle.sim_top.specs.Outcome.{IsOutcomeOf, bytes_in, compare_by, IsCompared};
+ghost use Rattle.sim_top.specs.Outcome.{IsOutcomeOf, bytes_in, store_outcome, compare_by, IsCompared};
+ghost use Rattle.sim_top.specs.Answers.{MayAnswer};
 ghost use Rattle.sim_top.specs.Quiet.{AreQuiet};
-ghost use Rattle.sim_top.specs.Stops.{CausesOf};
-ghost use Rattle.sim_top.specs.Making.{Makes, IsSavedAs, IsFinished, outcome_made};
+ghost use Rattle.sim_top.specs.Stops.{CausesOf, IsOfTurn, IsMissed};
+ghost use Rattle.sim_top.specs.Making.{Makes, IsSavedAs, IsFinished, outcome_made, status_made};
 
 use crate::inputs::{read_match, read_state};
 use crate::play::{push_turns, state_at};
@@ -54,6 +58,9 @@ pub fn answer_to<'w, S: Shelf>(
     ensures saved { IfOk result (λ answer. IsSavedAs (out_of (Some (asked request.entry))) answer.saved) }
     ensures done { IfOk result (λ answer. IsFinished answer.saved answer.status) }
     ensures causes { CausesOf result (S.counts shelf.old) (S.counts shelf.new) }
+    ensures statuses { MayAnswer (asked request.entry) (status_made result) }
+    ensures missing { (files : List File) → S.held shelf.old ≡ Some files → file_in files (game_of (asked request.entry)) ≡ None → IsMissed result }
+    ensures given { (files : List File) → S.held shelf.old ≡ Some files → IfOk result (λ _. S.counts shelf.new ≡ after_giving (length_read files (asked request.entry)) (S.counts shelf.old)) }
     ensures held { S.held shelf.new ≡ S.held shelf.old }
 {
     match request {
@@ -70,6 +77,9 @@ fn play<'w, S: Shelf>(alloc: Global, shelf: &mut S, game: &'w str) -> Result<Ans
     ensures saved { IfOk result (λ answer. answer.saved ≡ None) }
     ensures done { IfOk result (λ answer. IsFinished answer.saved answer.status) }
     ensures causes { CausesOf result (S.counts shelf.old) (S.counts shelf.new) }
+    ensures statuses { MayAnswer (to_play game.now) (status_made result) }
+    ensures missing { (files : List File) → S.held shelf.old ≡ Some files → file_in files game.now ≡ None → IsMissed result }
+    ensures given { (files : List File) → S.held shelf.old ≡ Some files → IfOk result (λ _. S.counts shelf.new ≡ after_giving (length_read files (to_play game.now)) (S.counts shelf.old)) }
     ensures held { S.held shelf.new ≡ S.held shelf.old }
 {
     let setup = read_match(alloc, shelf, game)?;
@@ -88,17 +98,38 @@ fn store<'w, S: Shelf>(
     ensures saved { IfOk result (λ answer. IsSavedAs (Some out.now) answer.saved) }
     ensures done { IfOk result (λ answer. IsFinished answer.saved answer.status) }
     ensures causes { CausesOf result (S.counts shelf.old) (S.counts shelf.new) }
+    ensures statuses { MayAnswer (to_store game.now turn out.now) (status_made result) }
+    ensures missing { (files : List File) → S.held shelf.old ≡ Some files → file_in files game.now ≡ None → IsMissed result }
+    ensures given { (files : List File) → S.held shelf.old ≡ Some files → IfOk result (λ _. S.counts shelf.new ≡ after_giving (length_read files (to_store game.now turn out.now)) (S.counts shelf.old)) }
     ensures held { S.held shelf.new ≡ S.held shelf.old }
 {
     let setup = read_match(alloc, shelf, game)?;
+    stored_at(alloc, &setup, turn, out)
+}
+
+// Stores the state of a turn. One past the end of the match takes no memory to refuse.
+fn stored_at<'w>(
+    alloc: Global,
+    setup: &Setup,
+    turn: u32,
+    out: &'w str,
+) -> Result<Answer<'w>, Stop<'w>>
+    requires limits { IsSetup setup.now }
+    requires quiet_match { IsQuietMatch setup.now }
+    ensures answers { Makes result (λ wanted. wanted ≡ store_outcome setup.now turn out.now) }
+    ensures past { setup.now.turns < turn → result ≡ Err (Stop.NoSuchTurn turn setup.now.turns) }
+    ensures stops { IfErr result IsOfTurn }
+    ensures saved { IfOk result (λ answer. IsSavedAs (Some out.now) answer.saved) }
+    ensures done { IfOk result (λ answer. answer.status ≡ Status.Done) }
+{
     if turn > setup.turns {
         return Err(Stop::NoSuchTurn {
             asked: turn,
             turns: setup.turns,
         });
     }
-    let state = state_at(alloc, &setup, turn)?;
-    let (bytes, text) = stored(alloc, &setup, &state)?;
+    let state = state_at(alloc, setup, turn)?;
+    let (bytes, text) = stored(alloc, setup, &state)?;
     Ok(Answer {
         status: Status::Done,
         text,
@@ -116,6 +147,9 @@ fn resume<'w, S: Shelf>(
     ensures saved { IfOk result (λ answer. answer.saved ≡ None) }
     ensures done { IfOk result (λ answer. IsFinished answer.saved answer.status) }
     ensures causes { CausesOf result (S.counts shelf.old) (S.counts shelf.new) }
+    ensures statuses { MayAnswer (to_resume game.now name.now) (status_made result) }
+    ensures missing { (files : List File) → S.held shelf.old ≡ Some files → file_in files game.now ≡ None → IsMissed result }
+    ensures given { (files : List File) → S.held shelf.old ≡ Some files → IfOk result (λ _. S.counts shelf.new ≡ after_giving (length_read files (to_resume game.now name.now)) (S.counts shelf.old)) }
     ensures held { S.held shelf.new ≡ S.held shelf.old }
 {
     let setup = read_match(alloc, shelf, game)?;
@@ -135,6 +169,9 @@ fn show<'w, S: Shelf>(
     ensures saved { IfOk result (λ answer. answer.saved ≡ None) }
     ensures done { IfOk result (λ answer. IsFinished answer.saved answer.status) }
     ensures causes { CausesOf result (S.counts shelf.old) (S.counts shelf.new) }
+    ensures statuses { MayAnswer (to_show game.now name.now) (status_made result) }
+    ensures missing { (files : List File) → S.held shelf.old ≡ Some files → file_in files game.now ≡ None → IsMissed result }
+    ensures given { (files : List File) → S.held shelf.old ≡ Some files → IfOk result (λ _. S.counts shelf.new ≡ after_giving (length_read files (to_show game.now name.now)) (S.counts shelf.old)) }
     ensures held { S.held shelf.new ≡ S.held shelf.old }
 {
     let setup = read_match(alloc, shelf, game)?;
@@ -155,6 +192,9 @@ fn compare<'w, S: Shelf>(
     ensures saved { IfOk result (λ answer. answer.saved ≡ None) }
     ensures done { IfOk result (λ answer. IsFinished answer.saved answer.status) }
     ensures causes { CausesOf result (S.counts shelf.old) (S.counts shelf.new) }
+    ensures statuses { MayAnswer (to_compare game.now left.now right.now) (status_made result) }
+    ensures missing { (files : List File) → S.held shelf.old ≡ Some files → file_in files game.now ≡ None → IsMissed result }
+    ensures given { (files : List File) → S.held shelf.old ≡ Some files → IfOk result (λ _. S.counts shelf.new ≡ after_giving (length_read files (to_compare game.now left.now right.now)) (S.counts shelf.old)) }
     ensures held { S.held shelf.new ≡ S.held shelf.old }
 {
     let setup = read_match(alloc, shelf, game)?;
@@ -178,6 +218,8 @@ fn compare_with<'w, S: Shelf>(
     ensures saved { IfOk result (λ answer. answer.saved ≡ None) }
     ensures done { IfOk result (λ answer. IsFinished answer.saved answer.status) }
     ensures causes { CausesOf result (S.counts shelf.old) (S.counts shelf.new) }
+    ensures statuses { (asked : Asked) → IsTrue (loads_state asked) → IsTrue (is_comparison asked) → MayAnswer asked (status_made result) }
+    ensures given { (files : List File) → S.held shelf.old ≡ Some files → IfOk result (λ _. S.counts shelf.new ≡ after_giving (length_in files name.now) (S.counts shelf.old)) }
     ensures held { S.held shelf.new ≡ S.held shelf.old }
 {
     match read_state(alloc, shelf, setup, name) {
@@ -242,7 +284,7 @@ fn play_text(alloc: Global, setup: &Setup) -> Result<String, OutOfMemory>
 
 // The bytes of a state, and the line that is printed of it.
 fn stored(alloc: Global, setup: &Setup, state: &State) -> Result<(Vec<u8>, String), OutOfMemory>
-    requires few { length state.now.rows ≤ 4096 }
+    requires few { length state.now.rows ≤ row_limit }
     requires quiet { AreQuiet 2 state.now.rows }
     ensures bytes { IfOk result (λ made. made.0.items ≡ spelling setup.now state.now) }
     ensures text { IfOk result (λ made. string_bytes made.1 ≡ saved_line state.now.turn (length (spelling setup.now state.now)) (digest_of setup.now state.now)) }

@@ -1,17 +1,23 @@
 //! What a command reads: the match of a file, and a stored state of that match.
 
-ghost use Rattle.std.specs.Prelude.{◌≡◌, IfSome, IfOk, IfErr};
+ghost use Rattle.std.specs.Prelude.{◌≡◌, List, Some, None, IsTrue, IfSome, IfOk, IfErr, IsErrAnd, length};
 ghost use Rattle.sim_base.specs.Limits.{IsSetup};
 ghost use Rattle.sim_base.specs.Validity.{IsValid};
+ghost use Rattle.sim_codec.specs.Loading.{head_fault};
 ghost use Rattle.sim_setup.specs.Quiet.{IsQuietMatch};
 ghost use Rattle.sim_setup.specs.Setups.{setup_of as setup_of_bytes};
+ghost use Rattle.sim_store.specs.Counts.{after_giving};
+ghost use Rattle.sim_store.specs.Files.{File, file_in};
+ghost use Rattle.sim_top.specs.Words.{Asked, loads_state};
+ghost use Rattle.sim_top.specs.Reads.{length_in};
 ghost use Rattle.sim_top.specs.Outcome.{bytes_in, match_in, setup_by};
-ghost use Rattle.sim_top.specs.Stops.{Reads, ReadsBytes, ReadsState, LoadsState, CausesOf, IsOfContent};
+ghost use Rattle.sim_top.specs.Answers.{MayAnswer};
+ghost use Rattle.sim_top.specs.Stops.{Reads, ReadsBytes, ReadsState, LoadsState, IsStateStop, IsOfContent, IsMissed, ReadsCounting, CausesOf, status_of};
 
 use crate::stop::Stop;
 use sim_base::{Setup, State};
-use sim_codec::{StateFault, load};
-use sim_setup::{SetupFault, setup_of};
+use sim_codec::load;
+use sim_setup::setup_of;
 use sim_store::{Shelf, StoreFault, read_file};
 use std::alloc::Global;
 
@@ -19,7 +25,8 @@ use std::alloc::Global;
 #[tactic(auto, unfolding(crate::specs::Outcome::bytes_in))]
 fn read_bytes<'w, S: Shelf>(alloc: Global, shelf: &mut S, name: &str) -> Result<Vec<u8>, Stop<'w>>
     ensures tells { IfSome (S.held shelf.old) (λ files. ReadsBytes result (bytes_in files name.now)) }
-    ensures causes { CausesOf result (S.counts shelf.old) (S.counts shelf.new) }
+    ensures missing { (files : List File) → S.held shelf.old ≡ Some files → file_in files name.now ≡ None → IsMissed result }
+    ensures causes { ReadsCounting result (S.counts shelf.old) (S.counts shelf.new) }
     ensures held { S.held shelf.new ≡ S.held shelf.old }
 {
     match read_file(alloc, shelf, name) {
@@ -37,13 +44,10 @@ fn match_of<'w>(alloc: Global, bytes: &[u8]) -> Result<Setup, Stop<'w>>
     ensures tells { Reads result (setup_by (setup_of_bytes bytes.now)) }
     ensures limits { IfOk result IsSetup }
     ensures quiet { IfOk result IsQuietMatch }
+    ensures stops { IfErr result (λ stop. (asked : Asked) → MayAnswer asked (status_of stop)) }
     ensures content { IfErr result IsOfContent }
 {
-    match setup_of(alloc, bytes) {
-        Ok(setup) => Ok(setup),
-        Err(SetupFault::Refused { code, index }) => Err(Stop::MatchRefused { code, index }),
-        Err(SetupFault::OutOfMemory) => Err(Stop::OutOfMemory),
-    }
+    Ok(setup_of(alloc, bytes)?)
 }
 
 /// Reads the match of a file.
@@ -52,14 +56,17 @@ pub fn read_match<'w, S: Shelf>(alloc: Global, shelf: &mut S, name: &str) -> Res
     ensures tells { IfSome (S.held shelf.old) (λ files. Reads result (match_in files name.now)) }
     ensures limits { IfOk result IsSetup }
     ensures quiet { IfOk result IsQuietMatch }
+    ensures missing { (files : List File) → S.held shelf.old ≡ Some files → file_in files name.now ≡ None → IsMissed result }
+    ensures stops { IfErr result (λ stop. (asked : Asked) → MayAnswer asked (status_of stop)) }
     ensures causes { CausesOf result (S.counts shelf.old) (S.counts shelf.new) }
+    ensures given { (files : List File) → S.held shelf.old ≡ Some files → IfOk result (λ _. S.counts shelf.new ≡ after_giving (length_in files name.now) (S.counts shelf.old)) }
     ensures held { S.held shelf.new ≡ S.held shelf.old }
 {
     let bytes = read_bytes(alloc, shelf, name)?;
     match_of(alloc, &bytes)
 }
 
-// The state that the bytes of the file of this name stand for.
+// The state that the bytes of the file of this name stand for. What the first bytes are refused for takes no memory.
 fn state_of<'w>(
     alloc: Global,
     setup: &Setup,
@@ -68,14 +75,13 @@ fn state_of<'w>(
 ) -> Result<State, Stop<'w>>
     requires { IsSetup setup.now }
     ensures loads { LoadsState result setup.now name.now bytes.now }
+    ensures head { IfSome (head_fault setup.now bytes.now) (λ fault. IsErrAnd result (IsStateStop fault name.now)) }
+    ensures stops { IfErr result (λ stop. (asked : Asked) → IsTrue (loads_state asked) → MayAnswer asked (status_of stop)) }
     ensures content { IfErr result IsOfContent }
 {
     match load(alloc, setup, bytes) {
         Ok(state) => Ok(state),
-        Err(StateFault::NotState) => Err(Stop::StateRefused { code: 1, name }),
-        Err(StateFault::OtherMatch) => Err(Stop::StateRefused { code: 2, name }),
-        Err(StateFault::Grammar) => Err(Stop::StateRefused { code: 3, name }),
-        Err(StateFault::OutOfMemory) => Err(Stop::OutOfMemory),
+        Err(fault) => Err(Stop::of_state(fault, name)),
     }
 }
 
@@ -89,7 +95,9 @@ pub fn read_state<'w, S: Shelf>(
     requires { IsSetup setup.now }
     ensures tells { IfSome (S.held shelf.old) (λ files. ReadsState result setup.now name.now (bytes_in files name.now)) }
     ensures valid { IfOk result (IsValid setup.now) }
+    ensures stops { IfErr result (λ stop. (asked : Asked) → IsTrue (loads_state asked) → MayAnswer asked (status_of stop)) }
     ensures causes { CausesOf result (S.counts shelf.old) (S.counts shelf.new) }
+    ensures given { (files : List File) → S.held shelf.old ≡ Some files → IfOk result (λ _. S.counts shelf.new ≡ after_giving (length_in files name.now) (S.counts shelf.old)) }
     ensures held { S.held shelf.new ≡ S.held shelf.old }
 {
     let bytes = read_bytes(alloc, shelf, name)?;

@@ -1,7 +1,7 @@
 //! Playing a match: the lines of its turns from a state on, and the state of one of its turns.
 
 ghost use Rattle.std.specs.Prelude.{◌≡◌, ◌+◌, ◌-◌, ◌<◌, ◌≤◌, ◌++◌, ℕ, suc, codes, length, OnOk, IfOk, string_bytes};
-ghost use Rattle.sim_base.specs.Limits.{IsSetup};
+ghost use Rattle.sim_base.specs.Limits.{IsSetup, row_limit};
 ghost use Rattle.sim_base.specs.Turn.{after, own_turns, orders_at};
 ghost use Rattle.sim_base.specs.Spelling.{digest as digest_of};
 ghost use Rattle.sim_report.specs.Lines.{turn_line as line_of_turn};
@@ -25,7 +25,7 @@ pub fn push_turns(
     requires limits { IsSetup setup.now }
     requires quiet_match { IsQuietMatch setup.now }
     requires turn { start.turn ≤ setup.now.turns }
-    requires few { length start.rows ≤ 4096 }
+    requires few { length start.rows ≤ row_limit }
     requires quiet { AreQuiet 2 start.rows }
     ensures { OnOk result (string_bytes out.new ≡ string_bytes out.old
         ++ turn_lines setup.now start start.turn (suc (setup.now.turns - start.turn))) }
@@ -43,7 +43,7 @@ pub fn push_turns(
 
 // Appends the line of the turn at which the state stands.
 fn push_line(setup: &Setup, state: &State, out: &mut String) -> Result<(), OutOfMemory>
-    requires few { length state.now.rows ≤ 4096 }
+    requires few { length state.now.rows ≤ row_limit }
     requires quiet { AreQuiet 2 state.now.rows }
     ensures { OnOk result (string_bytes out.new ≡ string_bytes out.old
         ++ line_of_turn (codes "turn") state.now.turn (digest_of setup.now state.now)) }
@@ -58,7 +58,7 @@ pub fn state_at(alloc: Global, setup: &Setup, turn: u32) -> Result<State, OutOfM
     requires turn { turn ≤ setup.now.turns }
     ensures value { IfOk result (λ state. state ≡ after setup.now (own_turns setup.now 0 turn)) }
     ensures turn { IfOk result (λ state. state.turn ≡ turn) }
-    ensures few { IfOk result (λ state. length state.rows ≤ 4096) }
+    ensures few { IfOk result (λ state. length state.rows ≤ row_limit) }
     ensures quiet { IfOk result (λ state. AreQuiet 2 state.rows) }
 {
     let mut state = first_state(alloc, setup)?;

@@ -4,7 +4,7 @@
 
 ghost use Rattle.std.specs.Prelude.{◌≡◌, ℕ, ◌+◌, ◌^◌, ◌<◌, ◌≤◌, not, filter, fold, length, IfOk, All};
 ghost use Rattle.sim_base.specs.declared.setup.Setup.{Setup as AnySetup};
-ghost use Rattle.sim_base.specs.Limits.{IsSetup};
+ghost use Rattle.sim_base.specs.Limits.{IsSetup, row_limit};
 ghost use Rattle.sim_base.specs.Changes.{new_row as row_made};
 ghost use Rattle.sim_base.specs.Commands.{commanded, is_ordered as is_ordered_by};
 ghost use Rattle.sim_base.specs.Turn.{first_state as state_at_first, turn as turned, orders_at};
@@ -24,7 +24,7 @@ pub fn first_state(alloc: Global, setup: &Setup) -> Result<State, OutOfMemory>
     ensures value { IfOk result (λ state. state ≡ state_at_first setup.now) }
     ensures turn { IfOk result (λ state. state.turn ≡ 0) }
     ensures quiet { IfOk result (λ state. AreQuiet 2 state.rows) }
-    ensures few { IfOk result (λ state. length state.rows ≤ 4096) }
+    ensures few { IfOk result (λ state. length state.rows ≤ row_limit) }
 {
     let templates = setup.templates.as_slice();
     let firsts = setup.first.as_slice();

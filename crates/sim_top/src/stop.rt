@@ -3,10 +3,12 @@
 
 ghost use Rattle.std.specs.Prelude.{◌≡◌};
 ghost use Rattle.sim_top.specs.declared.stop.Stop.TheVariants as stops;
-ghost use Rattle.sim_top.specs.Stops.{status_of};
+ghost use Rattle.sim_top.specs.Stops.{status_of, setup_stop, IsStateStop};
 
 use crate::status::Status;
 use sim_base::OutOfMemory;
+use sim_codec::StateFault;
+use sim_setup::SetupFault;
 
 /// Why a command ends before it has its text.
 #[derive(Clone, Copy, Debug, PartialEq, Eq)]
@@ -35,7 +37,30 @@ impl<'w> From<OutOfMemory> for Stop<'w> {
     }
 }
 
-impl Stop<'_> {
+impl<'w> From<SetupFault> for Stop<'w> {
+    ghost from_gives = { λ fault stop. stop ≡ setup_stop fault };
+
+    fn from(fault: SetupFault) -> Stop<'w> {
+        match fault {
+            SetupFault::Refused { code, index } => Stop::MatchRefused { code, index },
+            SetupFault::OutOfMemory => Stop::OutOfMemory,
+        }
+    }
+}
+
+impl<'w> Stop<'w> {
+    /// Why a command ends whose stored state, in the file of this name, is not loaded.
+    pub fn of_state(fault: StateFault, name: &'w str) -> Stop<'w>
+        ensures { IsStateStop fault name.now result }
+    {
+        match fault {
+            StateFault::NotState => Stop::StateRefused { code: 1, name },
+            StateFault::OtherMatch => Stop::StateRefused { code: 2, name },
+            StateFault::Grammar => Stop::StateRefused { code: 3, name },
+            StateFault::OutOfMemory => Stop::OutOfMemory,
+        }
+    }
+
     /// The status with which the run then ends.
     pub fn status(&self) -> Status
         ensures { result ≡ status_of self.now }

@@ -1,15 +1,18 @@
 //! The top call: from the words to a status. All files are read and the whole text is made before anything is written,
 //! so that a refusal or want of memory leaves the sink and the files as they were.
 
-ghost use Rattle.std.specs.Prelude.{◌≡◌, ◌≢◌, ℕ, List, Option, IfSome, IfOk, IsOk, None, [], option_map, string_bytes};
+ghost use Rattle.std.specs.Prelude.{◌≡◌, ◌≢◌, ℕ, List, Option, IfSome, IfOk, IsOk, Some, None, [], option_map, string_bytes};
 ghost use Rattle.std.specs.Io.KnownBytes.{Appends};
 ghost use Rattle.sim_report.specs.Lines.{usage_text as text_of_usage};
+ghost use Rattle.sim_store.specs.Counts.{after_giving};
+ghost use Rattle.sim_store.specs.Files.{File};
 ghost use Rattle.sim_store.specs.Writing.{FileCauses};
 ghost use Rattle.sim_store.specs.declared.counts.Counts.{Counts as AllCounts};
-ghost use Rattle.sim_top.specs.Words.{words_of, asked_by, out_of};
-ghost use Rattle.sim_top.specs.Answers.{scene, Meets, Causes, CountsBefore, IsForNoWords, KeepsAllBut, IsSilent};
+ghost use Rattle.sim_top.specs.Words.{Asked, words_of, asked_by, out_of};
+ghost use Rattle.sim_top.specs.Reads.{length_asked, LacksMatch, HasEnded, IsUnfound};
+ghost use Rattle.sim_top.specs.Answers.{scene, Meets, Causes, CountsBefore, MayEnd, IsUsageTold, KeepsAllBut, IsSilent};
 ghost use Rattle.sim_top.specs.Readiness.{IsReady, IsFaultless, IsFinal};
-ghost use Rattle.sim_top.specs.Making.{MeetsBefore, SavesIfDone, IsSavedAs, IsAnswered, SaveMeets, Tells, file_of};
+ghost use Rattle.sim_top.specs.Making.{MeetsBefore, SavesIfDone, IsSavedAs, IsUsageMade, IsAnswered, SaveMeets, Tells, file_of};
 ghost use Rattle.sim_top.specs.Stops.{stop_text as text_of_stop, status_of};
 
 use crate::commands::{Answer, Saved, answer_to};
@@ -33,10 +36,15 @@ pub fn run<S: Shelf, K: Sink>(alloc: Global, words: &[String], shelf: &mut S, ou
         → IsFaultless (scene (S.held shelf.old) (K.told out.old) (S.counts shelf.old) (K.faults out.old))
         (scene (S.held shelf.new) (K.told out.new) (S.counts shelf.new) (K.faults out.new))
         → IsFinal result) }
+    // Then just the bytes of these files were given.
+    ensures given { (files : List File) → S.held shelf.old ≡ Some files → HasEnded result
+        → S.counts shelf.new ≡ after_giving (length_asked files (asked_by (words_of words.now))) (S.counts shelf.old) }
+    // A match that is not there is found missing, whatever memory there is.
+    ensures missing { (files : List File) → S.held shelf.old ≡ Some files → LacksMatch files (asked_by (words_of words.now)) → IsUnfound result }
 
     // Where the shelf tells nothing, this much of it is still known.
-    ensures usage { result ≡ Status.Usage → asked_by (words_of words.now) ≡ None }
-    ensures unasked { asked_by (words_of words.now) ≡ None → IsForNoWords result × (S.counts shelf.new ≡ S.counts shelf.old) }
+    ensures statuses { MayEnd (asked_by (words_of words.now)) result }
+    ensures unasked { asked_by (words_of words.now) ≡ None → IsUsageTold text_of_usage result (K.told out.old) (K.told out.new) × (S.counts shelf.new ≡ S.counts shelf.old) }
     ensures silent { IsSilent result → Appends (K.told out.old) (K.told out.new) [] }
 
     // A fault is answered exactly where one was counted, and no file but the one to be written changes.
@@ -59,8 +67,9 @@ fn finish<S: Shelf, K: Sink>(shelf: &mut S, out: &mut K, answer: &Answer<'_>) ->
         → IfSome (S.held shelf.old) (λ files. MeetsBefore answer.now.status words files (string_bytes answer.now.text) (option_map file_of answer.now.saved)
         → Meets result words files (scene (S.held shelf.old) (K.told out.old) before (K.faults out.old))
         (scene (S.held shelf.new) (K.told out.new) (S.counts shelf.new) (K.faults out.new))) }
-    ensures usage { result ≡ Status.Usage → answer.now.status ≡ Status.Usage }
-    ensures unasked { IsForNoWords answer.now.status → IsForNoWords result }
+    ensures told { answer.now.saved ≡ None → Tells result answer.now.status (string_bytes answer.now.text) (K.told out.old) (K.told out.new) (K.faults out.old) (K.faults out.new) }
+    ensures statuses { (asked : Option Asked) → MayEnd asked answer.now.status → MayEnd asked result }
+    ensures ended { HasEnded result → (result ≡ answer.now.status) × (S.counts shelf.new ≡ S.counts shelf.old) }
     ensures silent { IsSilent result → Appends (K.told out.old) (K.told out.new) [] }
     ensures causes { (before : AllCounts) → CountsBefore answer.now.status before (S.counts shelf.old)
         → Causes result (scene (S.held shelf.old) (K.told out.old) before (K.faults out.old))
@@ -100,8 +109,12 @@ fn save<S: Shelf>(shelf: &mut S, saved: &Option<Saved<'_>>) -> Result<(), StoreF
 fn made_answer<'w, S: Shelf>(alloc: Global, words: &'w [String], shelf: &mut S) -> Answer<'w>
     ensures answers { IfSome (S.held shelf.old) (λ files. MeetsBefore result.status (words_of words.now) files
         (string_bytes result.text) (option_map file_of result.saved)) }
-    ensures usage { result.status ≡ Status.Usage → asked_by (words_of words.now) ≡ None }
-    ensures unasked { asked_by (words_of words.now) ≡ None → IsForNoWords result.status × (S.counts shelf.new ≡ S.counts shelf.old) }
+    ensures statuses { MayEnd (asked_by (words_of words.now)) result.status }
+    ensures unasked { asked_by (words_of words.now) ≡ None → IsUsageMade text_of_usage result.status (string_bytes result.text) × (result.saved ≡ None) × (S.counts shelf.new ≡ S.counts shelf.old) }
+    ensures given { (files : List File) → S.held shelf.old ≡ Some files → HasEnded result.status
+        → S.counts shelf.new ≡ after_giving (length_asked files (asked_by (words_of words.now))) (S.counts shelf.old) }
+    ensures missing { (files : List File) → S.held shelf.old ≡ Some files → LacksMatch files (asked_by (words_of words.now))
+        → IsUnfound result.status × (result.saved ≡ None) }
     ensures silent { IsSilent result.status → string_bytes result.text ≡ [] }
     ensures done { SavesIfDone result.saved result.status }
     ensures saved { IsSavedAs (out_of (asked_by (words_of words.now))) result.saved }

@@ -1,13 +1,17 @@
-use Rattle.std.proofs.Common.{◌≡◌, Some, Ok, Err, subst, ◌∙◌, IfSome}
+use Rattle.std.proofs.Common.{◌≡◌, Some, Ok, Err, subst, ◌∙◌, IfSome, Result, sym, rules}
 use Rattle.sim_base.specs.declared.setup.Setup.{Setup}
 use Rattle.sim_base.specs.declared.state.State.{State}
 use Rattle.sim_top.specs.Lines.{resume_text}
 use Rattle.sim_top.specs.Words.{to_resume}
 use Rattle.sim_top.specs.Outcome.{Outcome, IsOutcomeOf, printed, match_in, bytes_in}
-use Rattle.sim_top.specs.Making.{Makes, outcome_made}
+use Rattle.sim_top.specs.Making.{Makes, outcome_made, status_made}
 use Rattle.sim_top.specs.Stops.{ReadsState}
 use Rattle.sim_top.specs.declared.status.Status.TheVariants.{Done}
 use Rattle.sim_top.proofs.Stopping.{state_ends, state_goes_on, Told-both, printed_is}
+use Rattle.sim_top.proofs.Counting.{gave_both}
+use Rattle.sim_top.specs.Answers.{MayAnswer}
+use Rattle.sim_top.specs.declared.commands.Answer.{Answer}
+use Rattle.sim_top.specs.declared.stop.Stop.{Stop}
 use Rattle.sim_top.proofs.commands.resume.Goals as goal
 
 abbrev resumed : Setup → State → Outcome → Type 0
@@ -37,3 +41,14 @@ returns-clause-answers g c =
     (λ files e h. state_ends stop setup name (match_in files game) (bytes_in files name) resumed e h)
     c.in_ok-setup.ensures.tells
     (subst (λ held. IfSome held (λ files. ReadsState (Err stop) setup name (bytes_in files name))) c.read_match.ensures.held c.in-Err.ensures.tells)
+
+pub returns-in-Ok-clause-given : goal.returns-in-Ok-clause-given
+returns-in-Ok-clause-given g c =
+    λ files is. gave_both _ _ _ _ _ (c.in_ok-setup.ensures.given files is) (c.in-Ok.ensures.given files (c.read_match.ensures.held ∙ is))
+
+-- what a match may end with, every command may
+pub returns-in_err-setup-clause-statuses : goal.returns-in_err-setup-clause-statuses
+returns-in_err-setup-clause-statuses g c =
+    let asked = to_resume c.args.game.now c.args.name.now in
+    let is : c.from_residual.result ≡ Err c.in_err-setup.field-0.0 = search rules in
+    subst (λ (r : Result Answer Stop). MayAnswer asked (status_made r)) (sym is) (c.in_err-setup.ensures.stops asked)

@@ -1,14 +1,12 @@
-use Rattle.std.proofs.Common.{◌≡◌, ℕ, List, length, Some, Ok, ap, sym, ◌∙◌, arith, ltb, false, string_bytes}
-use Rattle.std.proofs.lemmas.Bool.{cond-false, le-ltb}
+use Rattle.std.proofs.Common.{◌≡◌, Some, Ok, Result, Err, sym, subst, rules}
 use Rattle.sim_base.specs.declared.setup.Setup.{Setup}
-use Rattle.sim_base.specs.declared.state.State.{State}
-use Rattle.sim_base.specs.Spelling.{spelling, digest}
-use Rattle.sim_base.specs.Turn.{after, own_turns}
-use Rattle.sim_report.specs.Lines.{saved_line}
 use Rattle.sim_top.specs.Words.{to_store}
 use Rattle.sim_top.specs.Outcome.{Outcome, IsOutcomeOf, match_in, store_outcome}
-use Rattle.sim_top.specs.declared.status.Status.TheVariants.{Done}
-use Rattle.sim_top.proofs.Stopping.{Then-read, Told}
+use Rattle.sim_top.specs.Making.{Makes, status_made}
+use Rattle.sim_top.proofs.Stopping.{Then-read, Makes-weaker, Told}
+use Rattle.sim_top.specs.Answers.{MayAnswer}
+use Rattle.sim_top.specs.declared.commands.Answer.{Answer}
+use Rattle.sim_top.specs.declared.stop.Stop.{Stop}
 use Rattle.sim_top.proofs.commands.store.Goals as goal
 
 pub returns-clause-answers : goal.returns-clause-answers
@@ -17,16 +15,15 @@ returns-clause-answers g c =
     let turn = c.args.turn in
     let out = c.args.out.now in
     let setup = c.in_ok-setup.setup in
-    let state = c.in_ok-state.state in
-    let made : List ℕ → List ℕ → Outcome = λ text bytes. record { status = Done; text = text; saved = Some (record { name = out; bytes = bytes }) } in
-    let line : ℕ → State → List ℕ = λ n s. saved_line n (length (spelling setup s)) (digest setup s) in
-    let wanted = after setup (own_turns setup 0 turn) in
-    let text : string_bytes c.in_ok-bytes.text ≡ line turn wanted =
-    c.in_ok-bytes.ensures.text ∙ ap (λ (n : ℕ). line n state) c.in_ok-state.ensures.turn ∙ ap (line turn) c.in_ok-state.ensures.value in
-    let bytes : c.in_ok-bytes.bytes.items ≡ spelling setup wanted = c.in_ok-bytes.ensures.bytes ∙ ap (spelling setup) c.in_ok-state.ensures.value in
-    let there : ltb setup.turns turn ≡ false = le-ltb _ _ (omega (arith, c.if-turn-setup.false)) in
-    let is : made (string_bytes c.in_ok-bytes.text) c.in_ok-bytes.bytes.items ≡ store_outcome setup turn out =
-    ap (λ (t : List ℕ). made t c.in_ok-bytes.bytes.items) text ∙ ap (made (line turn wanted)) bytes ∙ sym (cond-false (ltb setup.turns turn) _ _ there) in
-    Told (λ files. match_in files game ≡ Ok setup) (λ files. IsOutcomeOf files (Some (to_store game turn out)) (made (string_bytes c.in_ok-bytes.text) c.in_ok-bytes.bytes.items)) _
-    (λ files e. Then-read (match_in files game) setup (λ (s : Setup) (o : Outcome). o ≡ store_outcome s turn out) (made (string_bytes c.in_ok-bytes.text) c.in_ok-bytes.bytes.items) e is)
+    let made = c.stored_at.result in
+    Told (λ files. match_in files game ≡ Ok setup) (λ files. Makes made (IsOutcomeOf files (Some (to_store game turn out)))) _
+    (λ files e. Makes-weaker made (λ o. o ≡ store_outcome setup turn out) (IsOutcomeOf files (Some (to_store game turn out)))
+    (λ o h. Then-read (match_in files game) setup (λ (s : Setup) (w : Outcome). w ≡ store_outcome s turn out) o e h) c.stored_at.ensures.answers)
     c.in_ok-setup.ensures.tells
+
+-- what a match may end with, every command may
+pub returns-in_err-setup-clause-statuses : goal.returns-in_err-setup-clause-statuses
+returns-in_err-setup-clause-statuses g c =
+    let asked = to_store c.args.game.now c.args.turn c.args.out.now in
+    let is : c.from_residual.result ≡ Err c.in_err-setup.field-0.0 = search rules in
+    subst (λ (r : Result Answer Stop). MayAnswer asked (status_made r)) (sym is) (c.in_err-setup.ensures.stops asked)

@@ -5,6 +5,7 @@ use Rattle.sim_store.specs.declared.counts.Counts.{Counts}
 use Rattle.sim_top.specs.Answers.{scene, Meets, CountsBefore}
 use Rattle.sim_top.specs.Making.{MeetsBefore, Tells, file_of}
 use Rattle.sim_top.proofs.Finishing.{told_meets, told_causes, all_told}
+use Rattle.sim_top.proofs.Ending.{told_may_end, told_has_ended}
 use Rattle.sim_top.proofs.top.finish.Goals as goal
 
 pub returns-in-Ok-clause-answers : goal.returns-in-Ok-clause-answers
@@ -29,3 +30,16 @@ returns-in-Ok-clause-causes g c =
     let told = subst (λ (t : List ℕ). Tells c.tell.result answer.status t before.told now.told before.faults now.faults) c.as_str.ensures.value c.tell.ensures in
     told_causes c.tell.result answer.status (string_bytes answer.text) before now c.requires.unwritten c.requires.silent told
     (subst (λ (new : Counts). CountsBefore answer.status old new) (sym c.in-Ok.ensures.causes) reads)
+
+pub returns-in-Ok-clause-told : goal.returns-in-Ok-clause-told
+returns-in-Ok-clause-told g c =
+    λ none.
+    let answer = c.args.answer.now in
+    subst (λ (t : List ℕ). Tells c.tell.result answer.status t (g.K.Sink.told c.args.out.now) (g.K.Sink.told c.tell.new.out) (g.K.Sink.faults c.args.out.now) (g.K.Sink.faults c.tell.new.out))
+    c.as_str.ensures.value c.tell.ensures
+
+pub returns-in-Ok-clause-statuses : goal.returns-in-Ok-clause-statuses
+returns-in-Ok-clause-statuses g c = λ asked may. told_may_end asked c.tell.result c.args.answer.now.status _ _ _ _ _ may c.tell.ensures
+
+pub returns-in-Ok-clause-ended : goal.returns-in-Ok-clause-ended
+returns-in-Ok-clause-ended g c = λ ended. (told_has_ended c.tell.result c.args.answer.now.status _ _ _ _ _ c.tell.ensures ended, c.in-Ok.ensures.causes)

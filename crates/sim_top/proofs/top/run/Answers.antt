@@ -1,5 +1,7 @@
 -- The shelf holds the same before anything is written.
-use Rattle.std.proofs.Common.{List, Option, subst, string_bytes, IfSome}
+use Rattle.std.proofs.Common.{List, Option, subst, string_bytes, IfSome, ◌∙◌}
+use Rattle.sim_report.specs.Lines.{usage_text}
+use Rattle.sim_top.specs.Reads.{HasEnded}
 use Rattle.std.specs.Prelude.{option_map}
 use Rattle.sim_store.specs.Files.{File}
 use Rattle.sim_top.specs.Words.{words_of, asked_by}
@@ -8,6 +10,7 @@ use Rattle.sim_top.specs.Readiness.{IsReady, IsFaultless, IsFinal}
 use Rattle.sim_top.specs.Making.{MeetsBefore, file_of}
 use Rattle.sim_top.proofs.Stopping.{Told, Told-both}
 use Rattle.sim_top.proofs.Completeness.{final}
+use Rattle.sim_top.proofs.Ending.{told_unfound, told_usage}
 use Rattle.sim_top.proofs.top.run.Goals as goal
 
 pub returns-clause-answers : goal.returns-clause-answers
@@ -43,3 +46,26 @@ returns-clause-complete g c =
     let now = scene (g.S.Shelf.held c.finish.new.shelf) (g.K.Sink.told c.finish.new.out) (g.S.Shelf.counts c.finish.new.shelf) (g.K.Sink.faults c.finish.new.out) in
     Told (λ files. Meets c.finish.result words files before now) (λ files. IsReady files (asked_by words) → IsFaultless before now → IsFinal c.finish.result) _
     (λ files h ready faultless. final c.finish.result words files before now h (returns-clause-causes g c) ready faultless) (returns-clause-answers g c)
+
+-- a run that came to its end wrote without reading any more
+pub returns-clause-given : goal.returns-clause-given
+returns-clause-given g c =
+    λ files is ended.
+    let same = c.finish.ensures.ended ended in
+    same.1 ∙ c.made_answer-answer.ensures.given files is (subst HasEnded same.0 ended)
+
+pub returns-clause-missing : goal.returns-clause-missing
+returns-clause-missing g c =
+    λ files is lacks.
+    let answer = c.made_answer-answer.result in
+    let missing = c.made_answer-answer.ensures.missing files is lacks in
+    told_unfound c.finish.result answer.status (string_bytes answer.text) _ _ _ _ missing.0 c.made_answer-answer.ensures.silent (c.finish.ensures.told missing.1)
+
+pub returns-clause-unasked : goal.returns-clause-unasked
+returns-clause-unasked g c =
+    λ none.
+    let answer = c.made_answer-answer.result in
+    let made = c.made_answer-answer.ensures.unasked none in (
+      told_usage usage_text c.finish.result answer.status (string_bytes answer.text) _ _ _ _ made.0 (c.finish.ensures.told made.1),
+      c.finish.ensures.unsaved made.1 ∙ made.2,
+    )
