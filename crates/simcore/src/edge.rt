@@ -1,13 +1,18 @@
-//! The real files and the real standard output, as a shelf and a sink. They tell no content, and count what failed.
-//! No contract can say what a file holds or what a terminal shows, so this file is kept small: it is the trusted edge,
-//! and is shown by the tests in `edge/tests.rt` and by the script `tests/edge.py`.
+//! The real files and the real standard output, as a shelf and a sink, and a count of what failed.
+//! No contract can say what a file holds or what a terminal shows, but std names the bytes that a reader has left and those
+//! that a writer holds. So what is read and written is proved for every reader and writer, and each answer by the kind of
+//! its error. What the system then does is shown by the tests in `edge/tests.rt` and by the script `tests/edge.py`.
 
-ghost use Rattle.std.specs.Prelude.{[], None, is_some};
+ghost use Rattle.std.specs.Prelude.{◌≡◌, ◌≢◌, ℕ, List, Option, [], false, None, Ok, Err, is_some};
 ghost use Rattle.std.specs.Io.{ReadsAtMost, WritesAtMost};
+ghost use Rattle.std.specs.Io.KnownBytes.{ReadConsumes, WriteAppends};
+ghost use Rattle.sim_store.specs.Counts.{after_miss, after_read_fault, after_write_fault};
 ghost use Rattle.sim_store.specs.Pieces.{TakesSome};
+ghost use Rattle.sim_store.specs.Shelf.{ReadCounts, WriteCounts};
+ghost use Rattle.simcore.specs.Left.{left_in};
 
 use sim_store::{Counts, Failed, Shelf, ShelfFault, Sink, one_more};
-use std::io::{Read, Write};
+use std::io::{ErrorKind, Read, Write};
 use std::rt::Files;
 use std::{fs, io};
 
@@ -38,7 +43,7 @@ impl<'a, R: Files> FileShelf<'a, R> {
 impl<R: Files> Shelf for FileShelf<'_, R> {
     ghost held = { λ s. None };
 
-    ghost rest = { λ s. None };
+    ghost rest = { λ s. left_in R.File.remaining s.reading };
 
     ghost is_open = { λ s. is_some s.reading };
 
@@ -55,17 +60,7 @@ impl<R: Files> Shelf for FileShelf<'_, R> {
                 self.reading = Some(file);
                 Ok(true)
             }
-            Err(error) => match error.kind() {
-                io::ErrorKind::NotFound => {
-                    self.counts.add_miss();
-                    Ok(false)
-                }
-                io::ErrorKind::OutOfMemory => Err(ShelfFault::OutOfMemory),
-                _ => {
-                    self.counts.add_read_fault();
-                    Err(ShelfFault::Failed)
-                }
-            },
+            Err(error) => not_opened(&mut self.counts, error.kind()),
         }
     }
 
@@ -73,16 +68,7 @@ impl<R: Files> Shelf for FileShelf<'_, R> {
         let Some(file) = &mut self.reading else {
             unreachable!()
         };
-        match read_some(file, into) {
-            Ok(count) => {
-                self.counts.add_given(count);
-                Ok(count)
-            }
-            Err(_) => {
-                self.counts.add_read_fault();
-                Err(Failed)
-            }
-        }
+        read_from(file, &mut self.counts, into)
     }
 
     fn make(&mut self, name: &str) -> Result<(), ShelfFault> {
@@ -92,13 +78,7 @@ impl<R: Files> Shelf for FileShelf<'_, R> {
                 self.making = Some(file);
                 Ok(())
             }
-            Err(error) => match error.kind() {
-                io::ErrorKind::OutOfMemory => Err(ShelfFault::OutOfMemory),
-                _ => {
-                    self.counts.add_write_fault();
-                    Err(ShelfFault::Failed)
-                }
-            },
+            Err(error) => Err(not_made(&mut self.counts, error.kind())),
         }
     }
 
@@ -106,13 +86,7 @@ impl<R: Files> Shelf for FileShelf<'_, R> {
         let Some(file) = &mut self.making else {
             unreachable!()
         };
-        match write_some(file, piece) {
-            Ok(count) => Ok(count),
-            Err(Failed) => {
-                self.counts.add_write_fault();
-                Err(Failed)
-            }
-        }
+        write_to(file, &mut self.counts, piece)
     }
 
     fn close(&mut self) -> Result<(), Failed> {
@@ -121,13 +95,78 @@ impl<R: Files> Shelf for FileShelf<'_, R> {
     }
 }
 
+// What is answered where a file was not opened, and the count of it, by the kind of the error.
+fn not_opened(counts: &mut Counts, kind: ErrorKind) -> Result<bool, ShelfFault>
+    ensures missing { kind ≡ ErrorKind.NotFound → (result ≡ Ok false) × (counts.new ≡ after_miss counts.old) }
+    ensures memory { kind ≡ ErrorKind.OutOfMemory → (result ≡ Err ShelfFault.OutOfMemory) × (counts.new ≡ counts.old) }
+    ensures failed { kind ≢ ErrorKind.NotFound → kind ≢ ErrorKind.OutOfMemory → (result ≡ Err ShelfFault.Failed) × (counts.new ≡ after_read_fault counts.old) }
+{
+    match kind {
+        ErrorKind::NotFound => {
+            counts.add_miss();
+            Ok(false)
+        }
+        ErrorKind::OutOfMemory => Err(ShelfFault::OutOfMemory),
+        _ => {
+            counts.add_read_fault();
+            Err(ShelfFault::Failed)
+        }
+    }
+}
+
+// The same where a file was not made.
+fn not_made(counts: &mut Counts, kind: ErrorKind) -> ShelfFault
+    ensures memory { kind ≡ ErrorKind.OutOfMemory → (result ≡ ShelfFault.OutOfMemory) × (counts.new ≡ counts.old) }
+    ensures failed { kind ≢ ErrorKind.OutOfMemory → (result ≡ ShelfFault.Failed) × (counts.new ≡ after_write_fault counts.old) }
+{
+    match kind {
+        ErrorKind::OutOfMemory => ShelfFault::OutOfMemory,
+        _ => {
+            counts.add_write_fault();
+            ShelfFault::Failed
+        }
+    }
+}
+
+// One read of a file, counted.
+fn read_from<F: Read>(file: &mut F, counts: &mut Counts, into: &mut [u8]) -> Result<usize, Failed>
+    ensures bound { ReadsAtMost result into.new }
+    ensures bytes { ReadConsumes (F.remaining file.old) (F.remaining file.new) result into.new }
+    ensures counts { ReadCounts result counts.old counts.new }
+{
+    match read_some(file, into) {
+        Ok(count) => {
+            counts.add_given(count);
+            Ok(count)
+        }
+        Err(_) => {
+            counts.add_read_fault();
+            Err(Failed)
+        }
+    }
+}
+
+// One write to a file, counted where it fails.
+fn write_to<F: Write>(file: &mut F, counts: &mut Counts, piece: &[u8]) -> Result<usize, Failed>
+    ensures takes { TakesSome result piece.now }
+    ensures bytes { WriteAppends (F.contents file.old) (F.contents file.new) result piece.now }
+    ensures counts { WriteCounts result counts.old counts.new }
+{
+    let answer = write_some(file, piece);
+    if answer.is_err() {
+        counts.add_write_fault();
+    }
+    answer
+}
+
 // One read, made again where a signal interrupted it.
 fn read_some<F: Read>(file: &mut F, into: &mut [u8]) -> io::Result<usize>
-    ensures { ReadsAtMost result into.new }
+    ensures bound { ReadsAtMost result into.new }
+    ensures bytes { ReadConsumes (F.remaining file.old) (F.remaining file.new) result into.new }
 {
     for _ in 0..TRIES {
         match file.read(into) {
-            Err(error) if error.kind() == io::ErrorKind::Interrupted => {}
+            Err(error) if error.kind() == ErrorKind::Interrupted => {}
             answer => return answer,
         }
     }
@@ -136,11 +175,12 @@ fn read_some<F: Read>(file: &mut F, into: &mut [u8]) -> io::Result<usize>
 
 // One write, made again where a signal interrupted it.
 fn write_some<F: Write>(file: &mut F, piece: &[u8]) -> Result<usize, Failed>
-    ensures { TakesSome result piece.now }
+    ensures takes { TakesSome result piece.now }
+    ensures bytes { WriteAppends (F.contents file.old) (F.contents file.new) result piece.now }
 {
     for _ in 0..TRIES {
         match file.write(piece) {
-            Err(error) if error.kind() == io::ErrorKind::Interrupted => {}
+            Err(error) if error.kind() == ErrorKind::Interrupted => {}
             answer => return taken(answer, piece),
         }
     }
@@ -150,7 +190,8 @@ fn write_some<F: Write>(file: &mut F, piece: &[u8]) -> Result<usize, Failed>
 // How much of the piece a write took. One that took nothing of it would be made again for ever, so it is a failed one.
 fn taken(answer: io::Result<usize>, piece: &[u8]) -> Result<usize, Failed>
     requires { WritesAtMost answer piece.now }
-    ensures { TakesSome result piece.now }
+    ensures takes { TakesSome result piece.now }
+    ensures bytes { (old new : Option (List ℕ)) → WriteAppends old new answer piece.now → WriteAppends old new result piece.now }
 {
     match answer {
         Ok(count) if count > 0 || piece.is_empty() => Ok(count),
@@ -173,7 +214,7 @@ impl<W: Write> OutSink<W> {
 }
 
 impl<W: Write> Sink for OutSink<W> {
-    ghost told = { λ s. None };
+    ghost told = { λ s. W.contents s.writer };
 
     ghost faults = { λ s. s.faults };
 

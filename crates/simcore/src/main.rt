@@ -2,6 +2,8 @@
 //! and ends with the status. Whatever can be decided is decided below it.
 #![tactic(auto)]
 
+ghost use Rattle.std.specs.Prelude.{◌≡◌, drop};
+
 mod edge;
 
 use edge::{FileShelf, OutSink};
@@ -22,8 +24,18 @@ fn main(rt: HostRuntime) -> ExitCode {
 // The words after the program's name. Where one of them is no text there are none, which no command has either.
 fn words_of(rt: &HostRuntime) -> Result<Vec<String>, OutOfMemory> {
     match env::args(rt) {
-        Ok(arguments) => Ok(arguments.skip(1).collect::<Vec<String>>(rt.alloc())?),
+        Ok(arguments) => Ok(behind_name(arguments.collect::<Vec<String>>(rt.alloc())?)),
         Err(error) if error.kind() == io::ErrorKind::OutOfMemory => Err(OutOfMemory),
         Err(_) => Ok(Vec::new(rt.alloc())),
     }
+}
+
+// All but the first word, which is the program's name.
+fn behind_name(mut words: Vec<String>) -> Vec<String>
+    ensures { result.items ≡ drop 1 words.items }
+{
+    if !words.is_empty() {
+        words.remove(0);
+    }
+    words
 }
