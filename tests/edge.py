@@ -12,6 +12,7 @@ import hashlib
 import os
 import pathlib
 import re
+import resource
 import subprocess
 import sys
 import tempfile
@@ -57,9 +58,9 @@ USAGE = b"""usage: simcore play MATCH
 passed = failed = 0
 
 
-def run(words, folder, stdout=subprocess.PIPE, before=None):
-    """The status, standard output and standard error of the program in that folder."""
-    done = subprocess.run([PROGRAM, *words], cwd=folder, stdin=subprocess.DEVNULL, stdout=stdout,
+def run(words, folder, stdout=subprocess.PIPE, before=None, name=str(PROGRAM)):
+    """The status, standard output and standard error of the program in that folder, started by that name."""
+    done = subprocess.run([name, *words], executable=PROGRAM, cwd=folder, stdin=subprocess.DEVNULL, stdout=stdout,
                           stderr=subprocess.PIPE, preexec_fn=before, timeout=120)
     return done.returncode, done.stdout, done.stderr
 
@@ -90,6 +91,21 @@ def templates(folder):
     case("half as much again of a word", run(["play", "bad.json"], folder), 6, b"match refused 6 1\n")
     status, text, error = run(["play", "big.json"], folder)
     case("half as much again of a number", (status, b"%d lines" % text.count(b"\n"), error), 0, b"3 lines")
+
+
+def limit_memory():
+    """A gigabyte for all that the program takes, as `ulimit -v 1048576` gives it."""
+    resource.setrlimit(resource.RLIMIT_AS, (1 << 30, 1 << 30))
+
+
+def memory(folder):
+    """A match that takes more memory than there is: a large template with as many heirs as there may be."""
+    heirs = b"".join(b',{"@name":"h%d","@parent":"base"}' % i for i in range(255))
+    before, after = EMPTY.replace(b'"templates":[]', b'"templates":[{"@name":"base"}%s]' % heirs).split(b"}", 1)
+    children = b"".join(b',"c%07d":0' % i for i in range((MAX_FILE - len(before) - len(after) - 1) // 13))
+    (folder / "heirs.json").write_bytes(before + children + b"}" + after)
+    case("heirs of a large template, in a gigabyte", run(["play", "heirs.json"], folder, before=limit_memory), 9, b"")
+    case("a match of posts, in a gigabyte", run(["play", "posts.json"], folder, before=limit_memory), 0, POSTS_LINES)
 
 
 def sessions(page):
@@ -185,6 +201,8 @@ def main():
         case("an unknown word", run(["fly", "posts.json"], folder), 2, USAGE)
         case("a word too many", run(["play", "posts.json", "x"], folder), 2, USAGE)
         case("a command that is still to come", run(["serve", "posts.json"], folder), 2, USAGE)
+        case("the program's own name is no word", run(["posts.json"], folder, name="play"), 2, USAGE)
+        case("whatever that name is", run(["play", "posts.json"], folder, name=""), 0, POSTS_LINES)
         case("a word that is not UTF-8", run(["play", b"\xff\xfe"], folder), 2, USAGE)
         with open("/dev/full", "wb") as full:
             case("a full standard output", run(["play", "posts.json"], folder, full), 4, None)
@@ -197,6 +215,7 @@ def main():
         case("no file has changed", (0, b"", b""), 0, b"" if files(folder) == before else b"changed")
         stored_states(folder)
         templates(folder)
+        memory(folder)
         pages(folder)
     print(f"{passed} passed, {failed} failed")
     return 1 if failed else 0
