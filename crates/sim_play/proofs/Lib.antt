@@ -1,0 +1,3 @@
+pub mod PlayLines
+pub mod Playing
+pub mod Starting

@@ -1,0 +1,26 @@
+-- The lines of a match that is played.
+use Rattle.std.specs.Prelude.{ℕ, zero, suc, ◌+◌, ◌-◌, List, [], ◌++◌, codes}
+use Rattle.sim_base.specs.declared.setup.Setup.{Setup}
+use Rattle.sim_base.specs.declared.state.State.{State}
+use Rattle.sim_base.specs.Turn.{first_state, from, own_turns}
+use Rattle.sim_base.specs.Spelling.{digest}
+use Rattle.sim_report.specs.Lines.{turn_line}
+
+-- So many lines from a state on that stands at a turn: the digest of each is that of the turn function, folded from that
+-- state over the match's own turns.
+abbrev pub turn_lines : Setup → State → ℕ → ℕ → List ℕ
+turn_lines setup state start zero = []
+turn_lines setup state start (suc n) =
+    turn_lines setup state start n ++ turn_line (codes "turn") (start + n) (digest setup (from setup state (own_turns setup start n)))
+
+-- the lines of a whole match
+abbrev pub play_text : Setup → List ℕ
+play_text setup = turn_lines setup (first_state setup) 0 (suc setup.turns)
+
+-- the lines from a stored state to the end of its match
+abbrev pub resume_text : Setup → State → List ℕ
+resume_text setup state = turn_lines setup state state.turn (suc (setup.turns - state.turn))
+
+-- the state at the end of a match that is played from a state on
+abbrev pub end_from : Setup → State → State
+end_from setup state = from setup state (own_turns setup state.turn (setup.turns - state.turn))

@@ -1,0 +1,14 @@
+//! A match that is played on a board, and the lines that are printed of it.
+//!
+//! It promises the lines and the states of the definition, that the systems of the rig stand for the state in which the match
+//! ends, and that each was built once at most. It stands on `sim_turn`, which plays the turns, and on the texts of
+//! `sim_report`.
+//!
+//! - `lines`: a line for each turn of a board.
+//! - `matches`: a match from its first state or from a stored one, with a rig that is handed back.
+#![tactic(auto)]
+
+mod lines;
+mod matches;
+
+pub use matches::{play_text, resume_text, state_at};

@@ -1,0 +1,52 @@
+//! A line for each turn of a board.
+
+ghost use Rattle.std.specs.Prelude.{◌≡◌, ◌++◌, ◌-◌, suc, codes, OnOk, string_bytes};
+ghost use Rattle.sim_base.specs.Spelling.{digest as digest_of};
+ghost use Rattle.sim_base.specs.Validity.{IsValid};
+ghost use Rattle.sim_report.specs.Lines.{turn_line as line_of_turn};
+ghost use Rattle.sim_board.specs.BoardWords.{setup_in, state_in, systems, IsWhole, AreKept};
+ghost use Rattle.sim_play.specs.Lines.{turn_lines, end_from};
+
+use sim_base::{OutOfMemory, Setup, State};
+use sim_board::Board;
+use sim_codec::digest;
+use sim_orders::OrderTable;
+use sim_report::push_turn;
+use sim_system::System;
+use sim_turn::play;
+use std::alloc::Global;
+
+// Appends the line of the turn at which a state stands.
+fn push_line(setup: &Setup, state: &State, out: &mut String) -> Result<(), OutOfMemory>
+    requires { IsValid setup.now state.now }
+    ensures { OnOk result (string_bytes out.new ≡ string_bytes out.old
+        ++ line_of_turn (codes "turn") state.now.turn (digest_of setup.now state.now)) }
+{
+    push_turn("turn", state.turn, &digest(setup, state), out)
+}
+
+/// Plays a board to the last turn of its match, and appends a line for each turn from that of its state on.
+pub fn push_turns(
+    alloc: Global,
+    board: &mut Board<'_>,
+    orders: &OrderTable,
+    out: &mut String,
+) -> Result<(), OutOfMemory>
+    requires whole { IsWhole board.old ⟦<dyn System as System>⟧ }
+    requires valid { IsValid (setup_in board.old) (state_in board.old) }
+    ensures text { OnOk result (string_bytes out.new ≡ string_bytes out.old
+        ++ turn_lines (setup_in board.old) (state_in board.old) (state_in board.old).turn (suc ((setup_in board.old).turns - (state_in board.old).turn))) }
+    ensures state { OnOk result (state_in board.new ≡ end_from (setup_in board.old) (state_in board.old)) }
+    ensures whole { OnOk result (IsWhole board.new ⟦<dyn System as System>⟧) }
+    ensures kept { AreKept (systems board.old ⟦<dyn System as System>⟧) (systems board.new ⟦<dyn System as System>⟧) }
+    ensures setup { setup_in board.new ≡ setup_in board.old }
+{
+    let setup = board.setup();
+    let first = board.scene().state.turn;
+    push_line(setup, board.scene().state, out)?;
+    for turn in first..setup.turns {
+        play(alloc, board, orders, turn + 1)?;
+        push_line(setup, board.scene().state, out)?;
+    }
+    Ok(())
+}

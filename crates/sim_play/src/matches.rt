@@ -1,0 +1,157 @@
+//! A match that is played with the systems of a rig, which is handed back.
+
+ghost use Rattle.std.specs.Prelude.{◌≡◌, ◌≤◌, ◌++◌, IfOk, OnOk, string_bytes};
+ghost use Rattle.sim_base.specs.Limits.{IsSetup};
+ghost use Rattle.sim_base.specs.Turn.{first_state, after, own_turns};
+ghost use Rattle.sim_base.specs.Validity.{IsValid};
+ghost use Rattle.sim_system.specs.Meanings.{HaveKinds, AreFed, AreBuiltOnceAtMost};
+ghost use Rattle.sim_system.specs.RigWords.{systems_of};
+ghost use Rattle.sim_board.specs.BoardWords.{setup_in, state_in, systems, IsWhole};
+ghost use Rattle.sim_play.specs.Lines.{play_text as text_of_play, resume_text as text_of_resume, end_from};
+
+use crate::lines::push_turns;
+use sim_base::{OutOfMemory, Setup, State};
+use sim_board::Board;
+use sim_orders::OrderTable;
+use sim_system::{Rig, System};
+use sim_turn::play;
+use std::alloc::Global;
+
+// Starts a board, and plays it to the end with a line for each turn.
+fn start_lines(
+    alloc: Global,
+    board: &mut Board<'_>,
+    orders: &OrderTable,
+    out: &mut String,
+) -> Result<(), OutOfMemory>
+    requires limits { IsSetup (setup_in board.old) }
+    requires kinds { HaveKinds (systems board.old ⟦<dyn System as System>⟧) }
+    ensures text { OnOk result (string_bytes out.new ≡ string_bytes out.old ++ text_of_play (setup_in board.old)) }
+    ensures state { OnOk result (state_in board.new ≡ end_from (setup_in board.old) (first_state (setup_in board.old))) }
+    ensures whole { OnOk result (IsWhole board.new ⟦<dyn System as System>⟧) }
+    ensures kinds { HaveKinds (systems board.new ⟦<dyn System as System>⟧) }
+    ensures most { AreBuiltOnceAtMost (systems board.old ⟦<dyn System as System>⟧) (systems board.new ⟦<dyn System as System>⟧) }
+    ensures setup { setup_in board.new ≡ setup_in board.old }
+{
+    board.start()?;
+    push_turns(alloc, board, orders, out)
+}
+
+/// The lines of a whole match. The rig comes back; where there was memory, it stands for the last state.
+pub fn play_text(
+    alloc: Global,
+    setup: &Setup,
+    rig: Rig,
+    orders: &OrderTable,
+) -> (Result<String, OutOfMemory>, Rig)
+    requires limits { IsSetup setup.now }
+    requires kinds { HaveKinds (systems_of rig ⟦<dyn System as System>⟧) }
+    ensures text { IfOk result.0 (λ text. string_bytes text ≡ text_of_play setup.now) }
+    ensures fed { OnOk result.0 (AreFed setup.now (end_from setup.now (first_state setup.now)) (systems_of result.1 ⟦<dyn System as System>⟧)) }
+    ensures kinds { HaveKinds (systems_of result.1 ⟦<dyn System as System>⟧) }
+    ensures most { AreBuiltOnceAtMost (systems_of rig ⟦<dyn System as System>⟧) (systems_of result.1 ⟦<dyn System as System>⟧) }
+{
+    let mut board = Board::new(alloc, setup, rig);
+    let mut text = String::new(alloc);
+    let played = start_lines(alloc, &mut board, orders, &mut text);
+    let (_, rig) = board.finish();
+    match played {
+        Ok(()) => (Ok(text), rig),
+        Err(error) => (Err(error), rig),
+    }
+}
+
+// Has a board take a state, and plays it to the end with a line for each turn.
+fn adopt_lines(
+    alloc: Global,
+    board: &mut Board<'_>,
+    state: State,
+    orders: &OrderTable,
+    out: &mut String,
+) -> Result<(), OutOfMemory>
+    requires limits { IsSetup (setup_in board.old) }
+    requires valid { IsValid (setup_in board.old) state }
+    requires kinds { HaveKinds (systems board.old ⟦<dyn System as System>⟧) }
+    ensures text { OnOk result (string_bytes out.new ≡ string_bytes out.old ++ text_of_resume (setup_in board.old) state) }
+    ensures state { OnOk result (state_in board.new ≡ end_from (setup_in board.old) state) }
+    ensures whole { OnOk result (IsWhole board.new ⟦<dyn System as System>⟧) }
+    ensures kinds { HaveKinds (systems board.new ⟦<dyn System as System>⟧) }
+    ensures most { AreBuiltOnceAtMost (systems board.old ⟦<dyn System as System>⟧) (systems board.new ⟦<dyn System as System>⟧) }
+    ensures setup { setup_in board.new ≡ setup_in board.old }
+{
+    board.adopt(state)?;
+    push_turns(alloc, board, orders, out)
+}
+
+/// The lines of a match from a stored state on. The rig comes back; where there was memory, it stands for the last state.
+pub fn resume_text(
+    alloc: Global,
+    setup: &Setup,
+    state: State,
+    rig: Rig,
+    orders: &OrderTable,
+) -> (Result<String, OutOfMemory>, Rig)
+    requires limits { IsSetup setup.now }
+    requires valid { IsValid setup.now state }
+    requires kinds { HaveKinds (systems_of rig ⟦<dyn System as System>⟧) }
+    ensures text { IfOk result.0 (λ text. string_bytes text ≡ text_of_resume setup.now state) }
+    ensures fed { OnOk result.0 (AreFed setup.now (end_from setup.now state) (systems_of result.1 ⟦<dyn System as System>⟧)) }
+    ensures kinds { HaveKinds (systems_of result.1 ⟦<dyn System as System>⟧) }
+    ensures most { AreBuiltOnceAtMost (systems_of rig ⟦<dyn System as System>⟧) (systems_of result.1 ⟦<dyn System as System>⟧) }
+{
+    let mut board = Board::new(alloc, setup, rig);
+    let mut text = String::new(alloc);
+    let played = adopt_lines(alloc, &mut board, state, orders, &mut text);
+    let (_, rig) = board.finish();
+    match played {
+        Ok(()) => (Ok(text), rig),
+        Err(error) => (Err(error), rig),
+    }
+}
+
+// Starts a board, and plays it to a turn.
+fn start_until(
+    alloc: Global,
+    board: &mut Board<'_>,
+    orders: &OrderTable,
+    turn: u32,
+) -> Result<(), OutOfMemory>
+    requires limits { IsSetup (setup_in board.old) }
+    requires turn { turn ≤ (setup_in board.old).turns }
+    requires kinds { HaveKinds (systems board.old ⟦<dyn System as System>⟧) }
+    ensures state { OnOk result (state_in board.new ≡ after (setup_in board.old) (own_turns (setup_in board.old) 0 turn)) }
+    ensures valid { OnOk result (IsValid (setup_in board.old) (state_in board.new)) }
+    ensures whole { OnOk result (IsWhole board.new ⟦<dyn System as System>⟧) }
+    ensures kinds { HaveKinds (systems board.new ⟦<dyn System as System>⟧) }
+    ensures most { AreBuiltOnceAtMost (systems board.old ⟦<dyn System as System>⟧) (systems board.new ⟦<dyn System as System>⟧) }
+    ensures setup { setup_in board.new ≡ setup_in board.old }
+{
+    board.start()?;
+    play(alloc, board, orders, turn)
+}
+
+/// The state of a turn of a match. The rig comes back; where there was memory, it stands for that state.
+pub fn state_at(
+    alloc: Global,
+    setup: &Setup,
+    turn: u32,
+    rig: Rig,
+    orders: &OrderTable,
+) -> (Result<State, OutOfMemory>, Rig)
+    requires limits { IsSetup setup.now }
+    requires turn { turn ≤ setup.now.turns }
+    requires kinds { HaveKinds (systems_of rig ⟦<dyn System as System>⟧) }
+    ensures state { IfOk result.0 (λ state. state ≡ after setup.now (own_turns setup.now 0 turn)) }
+    ensures valid { IfOk result.0 (IsValid setup.now) }
+    ensures fed { OnOk result.0 (AreFed setup.now (after setup.now (own_turns setup.now 0 turn)) (systems_of result.1 ⟦<dyn System as System>⟧)) }
+    ensures kinds { HaveKinds (systems_of result.1 ⟦<dyn System as System>⟧) }
+    ensures most { AreBuiltOnceAtMost (systems_of rig ⟦<dyn System as System>⟧) (systems_of result.1 ⟦<dyn System as System>⟧) }
+{
+    let mut board = Board::new(alloc, setup, rig);
+    let played = start_until(alloc, &mut board, orders, turn);
+    let (state, rig) = board.finish();
+    match played {
+        Ok(()) => (Ok(state), rig),
+        Err(error) => (Err(error), rig),
+    }
+}
