@@ -1,6 +1,6 @@
 //! Facts in a list by id: put in place, taken out and changed.
 
-ghost use Rattle.std.specs.Prelude.{◌≡◌, ◌==◌, if◌then◌else◌, OnOk, OnErr};
+ghost use Rattle.std.specs.Prelude.{◌≡◌, ◌<◌, ◌≤◌, ◌==◌, if◌then◌else◌, OnOk, OnErr, IsOk, vec_len, vec_capacity};
 ghost use Rattle.sim_system.specs.Notes.{placed, without, with_changed};
 ghost use Rattle.sim_fact_lists.specs.Places.{IsPlaceFor};
 
@@ -22,6 +22,7 @@ fn place_for(facts: &[Fact], id: u32) -> usize
 pub fn place(facts: &mut Vec<Fact>, fact: &Fact) -> Result<(), OutOfMemory>
     ensures ok { OnOk result (facts.new.items ≡ placed fact.now facts.old.items) }
     ensures err { OnErr result (facts.new.items ≡ facts.old.items) }
+    ensures room { vec_len facts.old < vec_capacity facts.old → IsOk result }
 {
     let at = place_for(facts.as_slice(), fact.id);
     facts.insert(at, *fact)?;
@@ -30,7 +31,9 @@ pub fn place(facts: &mut Vec<Fact>, fact: &Fact) -> Result<(), OutOfMemory>
 
 /// Takes out the fact of an id.
 pub fn take_out(facts: &mut Vec<Fact>, id: u32)
-    ensures { facts.new.items ≡ without id facts.old.items }
+    ensures facts { facts.new.items ≡ without id facts.old.items }
+    ensures fewer { vec_len facts.new ≤ vec_len facts.old }
+    ensures room { vec_capacity facts.new ≡ vec_capacity facts.old }
 {
     let mut at = 0;
     while at < facts.len() {

@@ -1,6 +1,6 @@
 //! The land and the facts of a system.
 
-ghost use Rattle.std.specs.Prelude.{◌≡◌, [], Some, None, OnOk, OnErr, MatchOption};
+ghost use Rattle.std.specs.Prelude.{◌≡◌, ◌<◌, [], Some, None, OnOk, OnErr, IsOk, MatchOption, vec_len, vec_capacity};
 ghost use Rattle.sim_base.specs.Limits.{IsLand};
 ghost use Rattle.sim_system.specs.declared.kind.Kind.TheVariants.{Watch};
 ghost use Rattle.sim_system.specs.Facts.{kept_of};
@@ -117,6 +117,7 @@ fn change(facts: &mut Vec<Fact>, kind: Kind, note: &Note) -> Result<(), OutOfMem
 fn add(facts: &mut Vec<Fact>, part: &Option<Fact>) -> Result<(), OutOfMemory>
     ensures ok { OnOk result (facts.new.items ≡ with_kept part.now facts.old.items) }
     ensures err { OnErr result (facts.new.items ≡ facts.old.items) }
+    ensures room { vec_len facts.old < vec_capacity facts.old → IsOk result }
 {
     match part {
         Some(fact) => place(facts, fact),
@@ -124,8 +125,8 @@ fn add(facts: &mut Vec<Fact>, part: &Option<Fact>) -> Result<(), OutOfMemory>
     }
 }
 
-// Gives an entity another target, in the list of those that have one. The list is changed in a copy, so that an error
-// leaves it as it was.
+// Gives an entity another target, in the list of those that have one. Room for one more is made first, so that an error
+// leaves the list as it was.
 fn aim(facts: &mut Vec<Fact>, id: u32, to: u32) -> Result<(), OutOfMemory>
     ensures ok { OnOk result (facts.new.items ≡ after_aim Watch id to facts.old.items) }
     ensures err { OnErr result (facts.new.items ≡ facts.old.items) }
@@ -134,9 +135,7 @@ fn aim(facts: &mut Vec<Fact>, id: u32, to: u32) -> Result<(), OutOfMemory>
         take_out(facts, id);
         return Ok(());
     }
-    let mut changed = Vec::from_slice(*facts.allocator(), facts.as_slice())?;
-    take_out(&mut changed, id);
-    add(&mut changed, &kept_aim(id, to))?;
-    *facts = changed;
-    Ok(())
+    facts.reserve(1)?;
+    take_out(facts, id);
+    add(facts, &kept_aim(id, to))
 }
