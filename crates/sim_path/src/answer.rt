@@ -23,13 +23,10 @@ use crate::search::Search;
 use crate::straight::straight_to;
 use crate::trail::trail_from;
 use crate::unmarked::blank_marks;
-use sim_base::{Cell, Items, OutOfMemory, Point, Points, cell_of, centre_of};
+use sim_base::{Cell, Items, MAX_WAYPOINTS, OutOfMemory, Point, Points, cell_of, centre_of};
 use sim_grid::Grid;
 use sim_system::Way;
 use std::alloc::Global;
-
-// How many points of a way are kept.
-const KEPT: usize = 64;
 
 // The point by which a way goes through a cell: its middle, or the goal itself.
 fn waypoint(cell: Cell, goal: &Point) -> Point
@@ -70,14 +67,14 @@ fn way_along(alloc: Global, cells: &[Cell], goal: &Point) -> Result<Way, OutOfMe
     requires goal { IsPlaced goal.now }
     ensures { IfOk result (λ way. way_in way ≡ first_points (waypoints goal.now cells.now)) }
 {
-    let kept = &cells[..cells.len().min(KEPT)];
+    let kept = &cells[..cells.len().min(MAX_WAYPOINTS)];
     let mut points = Vec::with_capacity(alloc, kept.len())?;
     for cell in kept {
         points.push(waypoint(*cell, goal))?;
     }
     Ok(Way {
         points: Points::from_items(points),
-        whole: cells.len() <= KEPT,
+        whole: cells.len() <= MAX_WAYPOINTS,
     })
 }
 

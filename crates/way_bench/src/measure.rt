@@ -1,7 +1,7 @@
 //! What a way costs between near, middle and far cells and into a building, on each kind of ground: by the whole search,
 //! by labels in rooms of its own, and by a searcher that keeps its rooms.
 
-ghost use Rattle.std.specs.Prelude.{◌≡◌, ◌≤◌, IsTrue};
+ghost use Rattle.std.specs.Prelude.{◌≡◌, ◌≤◌, ◌<◌, IsTrue};
 ghost use Rattle.sim_base.specs.Places.{is_inside};
 
 use crate::pairs::{centre, is_on};
@@ -11,10 +11,13 @@ use sim_path::{Searcher, labels_of, way};
 use std::io;
 use std::time::Instant;
 
-// How many times each way is taken, in how many rounds. The fastest round counts.
-const CALLS: u32 = 8;
+// The fastest of so many rounds counts.
+const ROUNDS: usize = 30;
 
-const ROUNDS: usize = 20;
+// How many calls a round has where one takes less than so many nanoseconds, as the clock itself takes some.
+const CALLS: u32 = 16;
+
+const SHORT: u128 = 50_000;
 
 /// Which search is measured.
 #[derive(Clone, Copy, Debug)]
@@ -94,15 +97,40 @@ fn best_of_ways(
     requires goal { IsTrue (is_inside site.now.size goal.now) }
 {
     let mut searcher = Searcher::new();
-    let mut best = u128::MAX;
+    let mut best = round(rt, &mut searcher, site, start, goal, search, 1)?;
+    let calls = calls_in_round(best);
     for _ in 0..ROUNDS {
-        let begin = Instant::now(rt)?;
-        for _ in 0..CALLS {
-            find(rt, &mut searcher, site, start, goal, search);
-        }
-        best = best.min(begin.elapsed(rt)?.as_nanos());
+        let taken = round(rt, &mut searcher, site, start, goal, search, calls)?;
+        best = best.min(taken / u128::from(calls));
     }
-    Ok(best / u128::from(CALLS))
+    Ok(best)
+}
+
+// How many calls a round has, of which one takes so many nanoseconds.
+fn calls_in_round(taken: u128) -> u32
+    ensures { 0 < result }
+{
+    if taken < SHORT { CALLS } else { 1 }
+}
+
+// The nanoseconds of so many calls.
+fn round(
+    rt: &HostRuntime,
+    searcher: &mut Searcher,
+    site: &Site,
+    start: &Point,
+    goal: &Point,
+    search: Search,
+    calls: u32,
+) -> io::Result<u128>
+    requires start { IsTrue (is_inside site.now.size start.now) }
+    requires goal { IsTrue (is_inside site.now.size goal.now) }
+{
+    let begin = Instant::now(rt)?;
+    for _ in 0..calls {
+        find(rt, searcher, site, start, goal, search);
+    }
+    Ok(begin.elapsed(rt)?.as_nanos())
 }
 
 fn find(
