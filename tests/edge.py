@@ -93,6 +93,52 @@ def templates(folder):
     case("half as much again of a number", (status, b"%d lines" % text.count(b"\n"), error), 0, b"3 lines")
 
 
+def schedule(clients, active, arrivals):
+    """A schedule of a match with delay 1 and four turns."""
+    head = b'{"clients":%d,"active":%d,"delay":1,"turns":4,"arrivals":[' % (clients, active)
+    return head + b",".join(arrivals) + b"]}"
+
+
+def schedules(folder):
+    """Schedules run through the server: two that were worked out, refused ones, and a client that sends what it may not."""
+    zero, one = b"0" * 32, b"0" * 31 + b"1"
+    reports = [b'[1,"done",3]', b'[1,"done",2]', b'[1,"done",3]', b'[2,"report",2,"%s"]' % one, b'[2,"done",2]',
+               b'[1,"report",2,"%s"]' % zero, b'[2,"report",2,"%s"]' % one, b'[2,"report",2,"%s"]' % one,
+               b'[1,"report",2,"%s"]' % zero, b'[1,"report",2,"%s"]' % one]
+    notice = b"to 1 notice 2 %d\nto 2 notice 2 %d\n"
+    (folder / "reports.json").write_bytes(schedule(2, 2, reports))
+    case("reports are compared with the first of their turn", run(["serve", "reports.json"], folder), 0,
+         b"to 1 refused 2\nto 1 refused 2\nto 2 refused 2\nto 1 release 2\nto 2 release 2\n" + 2 * (notice % (2, 2))
+         + notice % (1, 1) + b"released 2\n")
+    joining = [b'[1,"command",2,"stop",[2]]', b'[3,"join"]', b'[1,"done",2]', b'[2,"command",2,"resign"]',
+               b'[1,"state",3,1,"00"]',
+               b'[3,"command",2,"stop",[]]', b'[2,"cut"]', b'[2,"done",3]']
+    (folder / "joining.json").write_bytes(schedule(3, 2, joining))
+    case("a client joins late and another is cut", run(["serve", "joining.json"], folder), 0,
+         b"to 1 command turn 2 player 1 stop 2\nto 2 command turn 2 player 1 stop 2\nto 1 ask 3\n"
+         b"to 1 command turn 2 player 2 resign\nto 2 command turn 2 player 2 resign\nto 3 state done 2 bytes 1\n"
+         b"to 3 command turn 2 player 1 stop 2\nto 3 command turn 2 player 2 resign\nto 3 release 1\nto 3 refused 2\n"
+         b"to 1 release 2\nto 3 release 2\nto 2 refused 1\nreleased 2\nkept 2 2\n")
+    (folder / "nobody.json").write_bytes(schedule(2, 0, [b'[1,"join"]']))
+    case("nobody is there to be asked", run(["serve", "nobody.json"], folder), 0, b"to 1 refused 4\nreleased 1\n")
+    for name, bad in (("no list", b"[]"), ("more active than there are", schedule(2, 3, [])),
+                      ("too many arrivals", schedule(2, 2, [b'[1,"join"]'] * 100_001))):
+        (folder / "bad.json").write_bytes(bad)
+        case(f"a schedule is refused: {name}", run(["serve", "bad.json"], folder), 8, b"list refused 0\n")
+    (folder / "bad.json").write_bytes(schedule(2, 2, [b'[1,"join"]', b'[3,"join"]', b'[0,"join"]']))
+    case("a schedule is refused: the second arrival", run(["serve", "bad.json"], folder), 8, b"list refused 2\n")
+    case("a missing schedule", run(["serve", "none.json"], folder), 11, b"")
+    most = b"4294967295"
+    wrong = [b'[1,"done",%s]' % most, b'[1,"report",%s,"%s"]' % (most, zero), b'[1,"command",%s,"resign"]' % most,
+             b'[1,"state",200,%s,"00"]' % most]
+    hostile = ([b'[1,"command",2,"resign"]'] * 65 + wrong * 25_000)[:100_000]
+    refusals = sum(b"state" not in arrival for arrival in hostile[65:])
+    (folder / "hostile.json").write_bytes(schedule(2, 2, hostile))
+    told = b"to 1 command turn 2 player 1 resign\nto 2 command turn 2 player 1 resign\n"
+    case("100,000 arrivals of a hostile client, in a gigabyte", run(["serve", "hostile.json"], folder, before=limit_memory), 0,
+         64 * told + b"to 1 refused 3\n" + refusals * b"to 1 refused 2\n" + b"released 1\nkept 2 64\n")
+
+
 def limit_memory():
     """A gigabyte for all that the program takes, as `ulimit -v 1048576` gives it."""
     resource.setrlimit(resource.RLIMIT_AS, (1 << 30, 1 << 30))
@@ -200,7 +246,7 @@ def main():
         case("no words", run([], folder), 2, USAGE)
         case("an unknown word", run(["fly", "posts.json"], folder), 2, USAGE)
         case("a word too many", run(["play", "posts.json", "x"], folder), 2, USAGE)
-        case("a command that is still to come", run(["serve", "posts.json"], folder), 2, USAGE)
+        case("a command that is still to come", run(["session", "posts.json", "s"], folder), 2, USAGE)
         case("the program's own name is no word", run(["posts.json"], folder, name="play"), 2, USAGE)
         case("whatever that name is", run(["play", "posts.json"], folder, name=""), 0, POSTS_LINES)
         case("a word that is not UTF-8", run(["play", b"\xff\xfe"], folder), 2, USAGE)
@@ -215,6 +261,7 @@ def main():
         case("no file has changed", (0, b"", b""), 0, b"" if files(folder) == before else b"changed")
         stored_states(folder)
         templates(folder)
+        schedules(folder)
         memory(folder)
         pages(folder)
     print(f"{passed} passed, {failed} failed")

@@ -14,12 +14,12 @@ use Rattle.sim_setup.specs.Setups.{setup_of}
 use Rattle.sim_setup.proofs.SetupLimits.{setup_of-id}
 use Rattle.sim_diff.specs.Difference.{difference_of}
 use Rattle.sim_diff.specs.declared.place.Place.{Place}
-use Rattle.sim_top.specs.Words.{Asked, asked_by, to_play, to_store, to_resume, to_show, to_compare}
-use Rattle.sim_top.specs.Outcome.{Outcome, Then, ThenStored, IsStored, IsOutcomeOf, bytes_in, match_in, match_by, setup_by, compare_by, state_by, store_outcome}
+use Rattle.sim_top.specs.Words.{Asked, asked_by, to_play, to_store, to_resume, to_show, to_compare, to_serve}
+use Rattle.sim_top.specs.Outcome.{Outcome, Then, ThenStored, IsStored, IsOutcomeOf, bytes_in, match_in, schedule_in, match_by, setup_by, compare_by, state_by, store_outcome}
 use Rattle.sim_top.specs.Answers.{Scene, Meets, Causes}
 use Rattle.sim_top.specs.Readiness.{HoldsState, IsReady, IsFaultless, IsFinal}
 use Rattle.sim_top.specs.declared.status.Status.{Status}
-use Rattle.sim_top.specs.declared.status.Status.TheVariants.{Done, Differs, Usage, ReadFault, WriteFault, TooLong, MatchRefused, StateRefused, OutOfMemory, NoSuchTurn, NoFile}
+use Rattle.sim_top.specs.declared.status.Status.TheVariants.{Done, Differs, Usage, ReadFault, WriteFault, TooLong, MatchRefused, StateRefused, ListRefused, OutOfMemory, NoSuchTurn, NoFile}
 
 -- an outcome with which a command comes to its end
 abbrev Ends : Outcome → Type 0
@@ -92,6 +92,7 @@ ready_ends files (Some (to_compare game left right)) wanted ready h =
     let first = after_state files ready.setup left _ wanted id ready.more.0 (after_reading (match_in files game) ready.setup _ wanted ready.read h) in
     let second = after_state files ready.setup right _ wanted id ready.more.1 first.1 in
     ends_compared wanted (difference_of first.0 second.0) second.1
+ready_ends files (Some (to_serve name)) wanted ready h = done wanted _ refl (after_reading (schedule_in files name) ready.schedule _ wanted ready.read h)
 
 -- ---- the run
 
@@ -119,5 +120,6 @@ final Usage words files before now (wanted, is, status, done) caused ready fault
 final TooLong words files before now (wanted, is, status, done) caused ready faultless = absurd (no_end wanted TooLong status (λ e. cc) (λ e. cc) (ready_ends files (asked_by words) wanted ready is))
 final MatchRefused words files before now (wanted, is, status, done) caused ready faultless = absurd (no_end wanted MatchRefused status (λ e. cc) (λ e. cc) (ready_ends files (asked_by words) wanted ready is))
 final StateRefused words files before now (wanted, is, status, done) caused ready faultless = absurd (no_end wanted StateRefused status (λ e. cc) (λ e. cc) (ready_ends files (asked_by words) wanted ready is))
+final ListRefused words files before now (wanted, is, status, done) caused ready faultless = absurd (no_end wanted ListRefused status (λ e. cc) (λ e. cc) (ready_ends files (asked_by words) wanted ready is))
 final NoSuchTurn words files before now (wanted, is, status, done) caused ready faultless = absurd (no_end wanted NoSuchTurn status (λ e. cc) (λ e. cc) (ready_ends files (asked_by words) wanted ready is))
 final NoFile words files before now (wanted, is, status, done) caused ready faultless = absurd (no_end wanted NoFile status (λ e. cc) (λ e. cc) (ready_ends files (asked_by words) wanted ready is))

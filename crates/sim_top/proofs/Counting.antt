@@ -14,7 +14,7 @@ use Rattle.sim_top.specs.Outcome.{bytes_by, bytes_in}
 use Rattle.sim_top.specs.Reads.{length_of, length_in}
 use Rattle.sim_top.specs.Stops.{ReadsCounting, CausesOf, IsOfContent, status_of}
 use Rattle.sim_top.specs.declared.stop.Stop.{Stop}
-use Rattle.sim_top.specs.declared.stop.Stop.TheVariants.{ReadFault, TooLong, NoFile, OutOfMemory, MatchRefused, StateRefused, NoSuchTurn}
+use Rattle.sim_top.specs.declared.stop.Stop.TheVariants.{ReadFault, TooLong, NoFile, OutOfMemory, MatchRefused, StateRefused, ListRefused, NoSuchTurn}
 
 pub gave : (n : ℕ) (old new : Counts) → new ≡ after_giving n old → OnlyGave old new
 gave n old new is =
@@ -44,6 +44,7 @@ counted NoFile old new h = missed old new h
 counted OutOfMemory old new h = gave h.0 old new h.2
 counted (MatchRefused code index) old new h = absurd h
 counted (StateRefused code name) old new h = absurd h
+counted (ListRefused index) old new h = absurd h
 counted (NoSuchTurn asked turns) old new h = absurd h
 
 -- two files, one after another
@@ -73,6 +74,7 @@ counted_may_answer NoFile old new h asked = tt
 counted_may_answer OutOfMemory old new h asked = tt
 counted_may_answer (MatchRefused code index) old new h asked = tt
 counted_may_answer (StateRefused code name) old new h asked = absurd h
+counted_may_answer (ListRefused index) old new h asked = absurd h
 counted_may_answer (NoSuchTurn turn turns) old new h asked = absurd h
 
 -- what a file says is no fault of the shelf
@@ -84,6 +86,7 @@ content_causes (Err NoFile) old new content gave = absurd content
 content_causes (Err OutOfMemory) old new content gave = gave
 content_causes (Err (MatchRefused code index)) old new content gave = gave
 content_causes (Err (StateRefused code name)) old new content gave = gave
+content_causes (Err (ListRefused index)) old new content gave = gave
 content_causes (Err (NoSuchTurn turn turns)) old new content gave = gave
 
 -- a fact that does not depend on the answer

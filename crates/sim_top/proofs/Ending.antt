@@ -12,7 +12,7 @@ use Rattle.sim_top.specs.Stops.{status_of}
 use Rattle.sim_top.specs.declared.stop.Stop.{Stop}
 use Rattle.sim_top.specs.declared.stop.Stop.TheVariants as stops
 use Rattle.sim_top.specs.declared.status.Status.{Status}
-use Rattle.sim_top.specs.declared.status.Status.TheVariants.{Done, Differs, Usage, ReadFault, WriteFault, TooLong, MatchRefused, StateRefused, OutOfMemory, NoSuchTurn, NoFile}
+use Rattle.sim_top.specs.declared.status.Status.TheVariants.{Done, Differs, Usage, ReadFault, WriteFault, TooLong, MatchRefused, StateRefused, ListRefused, OutOfMemory, NoSuchTurn, NoFile}
 use Rattle.sim_top.proofs.Finishing.{none_told}
 
 -- ---- any words may end with a write fault or for want of memory
@@ -53,6 +53,7 @@ told_unfound result status text told told' faults faults' unfound silent (inr w)
     is_silent MatchRefused h = absurd h
     is_silent StateRefused h = absurd h
     is_silent OutOfMemory h = absurd h
+    is_silent ListRefused h = absurd h
     is_silent NoSuchTurn h = absurd h
 
 pub told_usage : (usage : List ℕ) (result status : Status) (text : List ℕ) (told told' : Option (List ℕ)) (faults faults' : ℕ) → IsUsageMade usage status text
@@ -70,6 +71,7 @@ told_usage usage result WriteFault text told told' faults faults' made tells = a
 told_usage usage result TooLong text told told' faults faults' made tells = absurd made
 told_usage usage result MatchRefused text told told' faults faults' made tells = absurd made
 told_usage usage result StateRefused text told told' faults faults' made tells = absurd made
+told_usage usage result ListRefused text told told' faults faults' made tells = absurd made
 told_usage usage result NoSuchTurn text told told' faults faults' made tells = absurd made
 told_usage usage result NoFile text told told' faults faults' made tells = absurd made
 
@@ -89,6 +91,7 @@ usage_may_end usage WriteFault text h = absurd h
 usage_may_end usage TooLong text h = absurd h
 usage_may_end usage MatchRefused text h = absurd h
 usage_may_end usage StateRefused text h = absurd h
+usage_may_end usage ListRefused text h = absurd h
 usage_may_end usage NoSuchTurn text h = absurd h
 usage_may_end usage NoFile text h = absurd h
 
@@ -104,6 +107,7 @@ stopped_not_ended stops.NoFile h = h
 stopped_not_ended stops.OutOfMemory h = h
 stopped_not_ended (stops.MatchRefused code index) h = h
 stopped_not_ended (stops.StateRefused code name) h = h
+stopped_not_ended (stops.ListRefused index) h = h
 stopped_not_ended (stops.NoSuchTurn asked turns) h = h
 
 pub answered_not_ended : (stop : Stop) (status : Status) (text : List ℕ) (made : Result (String Global) NoMemory) → IsAnswered status text (status_of stop) made → HasEnded status → ⊥
@@ -123,4 +127,5 @@ answered_unfound stop status text (Err e) unfound sure answered = absurd (loud s
     loud stops.OutOfMemory h none = h
     loud (stops.MatchRefused code index) h none = h
     loud (stops.StateRefused code name) h none = h
+    loud (stops.ListRefused index) h none = h
     loud (stops.NoSuchTurn asked turns) h none = h

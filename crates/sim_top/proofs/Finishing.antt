@@ -13,7 +13,7 @@ use Rattle.sim_top.specs.Stops.{status_of}
 use Rattle.sim_top.specs.declared.stop.Stop.{Stop}
 use Rattle.sim_top.specs.declared.stop.Stop.TheVariants as stops
 use Rattle.sim_top.specs.declared.status.Status.{Status}
-use Rattle.sim_top.specs.declared.status.Status.TheVariants.{Done, Differs, Usage, ReadFault, WriteFault, TooLong, MatchRefused, StateRefused, OutOfMemory, NoSuchTurn, NoFile}
+use Rattle.sim_top.specs.declared.status.Status.TheVariants.{Done, Differs, Usage, ReadFault, WriteFault, TooLong, MatchRefused, StateRefused, ListRefused, OutOfMemory, NoSuchTurn, NoFile}
 
 untouched : (before now : Scene) (text : List ℕ) (saved : Option File) → text ≡ [] → saved ≡ None → Appends before.told now.told text → Saves saved before.held now.held → IsUntouched before now
 untouched before now text saved none unsaved told held = record {
@@ -32,6 +32,7 @@ done_meets Usage words files text saved before now h told held = (_, h, refl, re
 done_meets TooLong words files text saved before now h told held = (_, h, refl, record { text = told; files = held })
 done_meets MatchRefused words files text saved before now h told held = (_, h, refl, record { text = told; files = held })
 done_meets StateRefused words files text saved before now h told held = (_, h, refl, record { text = told; files = held })
+done_meets ListRefused words files text saved before now h told held = (_, h, refl, record { text = told; files = held })
 done_meets NoSuchTurn words files text saved before now h told held = (_, h, refl, record { text = told; files = held })
 done_meets NoFile words files text saved before now h told held = (_, h, refl, record { text = told; files = held })
 
@@ -49,6 +50,7 @@ untold_meets Usage words files text saved before now part h fails less told held
 untold_meets TooLong words files text saved before now part h fails less told held = (_, h, inr (record { fails = fails; part = part; less = less; text = told; files = held }))
 untold_meets MatchRefused words files text saved before now part h fails less told held = (_, h, inr (record { fails = fails; part = part; less = less; text = told; files = held }))
 untold_meets StateRefused words files text saved before now part h fails less told held = (_, h, inr (record { fails = fails; part = part; less = less; text = told; files = held }))
+untold_meets ListRefused words files text saved before now part h fails less told held = (_, h, inr (record { fails = fails; part = part; less = less; text = told; files = held }))
 untold_meets NoSuchTurn words files text saved before now part h fails less told held = (_, h, inr (record { fails = fails; part = part; less = less; text = told; files = held }))
 untold_meets NoFile words files text saved before now part h fails less told held = (_, h, inr (record { fails = fails; part = part; less = less; text = told; files = held }))
 
@@ -66,6 +68,7 @@ unsaved_meets Usage words files text saved before now h fails held = (_, h, inl 
 unsaved_meets TooLong words files text saved before now h fails held = (_, h, inl (record { fails = fails; files = held }))
 unsaved_meets MatchRefused words files text saved before now h fails held = (_, h, inl (record { fails = fails; files = held }))
 unsaved_meets StateRefused words files text saved before now h fails held = (_, h, inl (record { fails = fails; files = held }))
+unsaved_meets ListRefused words files text saved before now h fails held = (_, h, inl (record { fails = fails; files = held }))
 unsaved_meets NoSuchTurn words files text saved before now h fails held = (_, h, inl (record { fails = fails; files = held }))
 unsaved_meets NoFile words files text saved before now h fails held = (_, h, inl (record { fails = fails; files = held }))
 
@@ -78,6 +81,7 @@ without_memory stops.NoFile old new loud h = absurd (loud tt)
 without_memory stops.OutOfMemory old new loud h = h
 without_memory (stops.MatchRefused code index) old new loud h = h
 without_memory (stops.StateRefused code name) old new loud h = h
+without_memory (stops.ListRefused index) old new loud h = h
 without_memory (stops.NoSuchTurn asked turns) old new loud h = h
 
 pub answered_causes : (stop : Stop) (status : Status) (text : List ℕ) (made : Result (String Global) NoMemory) (old new : Counts) → IsAnswered status text (status_of stop) made → (IsSilent (status_of stop) → IsOk made)
@@ -102,6 +106,7 @@ loud_gave Usage old new loud h = gave_nothing old new h
 loud_gave TooLong old new loud h = absurd (loud tt)
 loud_gave MatchRefused old new loud h = h
 loud_gave StateRefused old new loud h = h
+loud_gave ListRefused old new loud h = h
 loud_gave NoSuchTurn old new loud h = h
 loud_gave NoFile old new loud h = absurd (loud tt)
 
@@ -115,6 +120,7 @@ whole_causes Usage before now other h same = (h, same)
 whole_causes TooLong before now other h same = (h, same)
 whole_causes MatchRefused before now other h same = (h, same)
 whole_causes StateRefused before now other h same = (h, same)
+whole_causes ListRefused before now other h same = (h, same)
 whole_causes NoSuchTurn before now other h same = (h, same)
 whole_causes NoFile before now other h same = (h, same)
 

@@ -7,9 +7,9 @@ use Rattle.sim_store.specs.Files.{File, file_in}
 use Rattle.sim_store.specs.Shelf.{HeldSet}
 use Rattle.sim_store.specs.declared.counts.Counts.{Counts}
 use Rattle.sim_top.specs.Outcome.{Outcome, IsOutcome}
-use Rattle.sim_top.specs.Words.{Asked, is_comparison, has_turn, loads_state}
+use Rattle.sim_top.specs.Words.{Asked, is_comparison, has_turn, loads_state, reads_list}
 use Rattle.sim_top.specs.declared.status.Status.{Status}
-use Rattle.sim_top.specs.declared.status.Status.TheVariants.{Done, Differs, Usage, ReadFault, WriteFault, TooLong, MatchRefused, StateRefused, OutOfMemory, NoSuchTurn, NoFile}
+use Rattle.sim_top.specs.declared.status.Status.TheVariants.{Done, Differs, Usage, ReadFault, WriteFault, TooLong, MatchRefused, StateRefused, ListRefused, OutOfMemory, NoSuchTurn, NoFile}
 
 -- what the shelf holds and the sink was told, where they tell it, and what both have counted
 pub record Scene : Type 0 where
@@ -72,6 +72,7 @@ MayAnswer asked Usage = ⊥
 MayAnswer asked Differs = IsTrue (is_comparison asked)
 MayAnswer asked NoSuchTurn = IsTrue (has_turn asked)
 MayAnswer asked StateRefused = IsTrue (loads_state asked)
+MayAnswer asked ListRefused = IsTrue (reads_list asked)
 MayAnswer asked other = Unit {0}
 
 -- words that are answered so
@@ -162,6 +163,7 @@ status_number WriteFault = 4
 status_number TooLong = 5
 status_number MatchRefused = 6
 status_number StateRefused = 7
+status_number ListRefused = 8
 status_number OutOfMemory = 9
 status_number NoSuchTurn = 10
 status_number NoFile = 11

@@ -14,17 +14,20 @@ use Rattle.sim_setup.specs.Setups.{setup_of}
 use Rattle.sim_codec.specs.declared.fault.StateFault.{StateFault}
 use Rattle.sim_codec.specs.declared.fault.StateFault.TheVariants as stored
 use Rattle.sim_codec.specs.Loading.{StandsFor, RefusedFor}
-use Rattle.sim_report.specs.declared.refusal.Refusal.TheVariants.{Match, Turn}
+use Rattle.sim_lists.specs.declared.schedule.Schedule.{Schedule}
+use Rattle.sim_lists.specs.Schedules.{schedule_of}
+use Rattle.sim_serve.specs.Served.{served_text}
+use Rattle.sim_report.specs.declared.refusal.Refusal.TheVariants.{Match, List as OfList, Turn}
 use Rattle.sim_report.specs.Lines.{usage_text, saved_line}
 use Rattle.sim_report.specs.Refusals.{refusal_text, stored_text}
 use Rattle.sim_report.specs.Show.{show_text}
 use Rattle.sim_report.specs.Places.{place_text}
 use Rattle.sim_diff.specs.Difference.{difference_of}
 use Rattle.sim_diff.specs.declared.place.Place.{Place}
-use Rattle.sim_top.specs.Words.{Asked, to_play, to_store, to_resume, to_show, to_compare, asked_by}
+use Rattle.sim_top.specs.Words.{Asked, to_play, to_store, to_resume, to_show, to_compare, to_serve, asked_by}
 use Rattle.sim_top.specs.Lines.{play_text, resume_text}
 use Rattle.sim_top.specs.declared.status.Status.{Status}
-use Rattle.sim_top.specs.declared.status.Status.TheVariants.{Done, Differs, Usage, ReadFault, TooLong, MatchRefused, StateRefused, NoSuchTurn, NoFile}
+use Rattle.sim_top.specs.declared.status.Status.TheVariants.{Done, Differs, Usage, ReadFault, TooLong, MatchRefused, StateRefused, ListRefused, NoSuchTurn, NoFile}
 
 -- what a run comes to: a status, the whole text, and the file that it saves, if any
 pub record Outcome : Type 0 where
@@ -62,6 +65,20 @@ match_by (Err ended) = Err ended
 -- the match of a file
 unfoldable pub match_in : List File → List ℕ → Result Setup Outcome
 match_in files name = match_by (bytes_in files name)
+
+-- the schedule that was read, or the outcome of its refusal
+abbrev pub schedule_by : Result Schedule ℕ → Result Schedule Outcome
+schedule_by (Ok schedule) = Ok schedule
+schedule_by (Err index) = Err (printed ListRefused (refusal_text (OfList index)))
+
+-- the schedule that bytes spell, if they were read
+abbrev pub listed_by : Result (List ℕ) Outcome → Result Schedule Outcome
+listed_by (Ok bytes) = schedule_by (schedule_of bytes)
+listed_by (Err ended) = Err ended
+
+-- the schedule of a file
+unfoldable pub schedule_in : List File → List ℕ → Result Schedule Outcome
+schedule_in files name = listed_by (bytes_in files name)
 
 -- an outcome of what comes next, or the one with which it ended before
 abbrev pub Then : {X : Type 0} → Result X Outcome → (X → Outcome → Type 0) → Outcome → Type 0
@@ -129,6 +146,7 @@ IsOutcomeOf files (Some (to_show game name)) wanted =
     Then (match_in files game) (λ setup. Then (bytes_in files name) (λ bytes. ThenStored setup name bytes (λ state wanted. wanted ≡ printed Done (show_text setup state)))) wanted
 IsOutcomeOf files (Some (to_compare game left right)) wanted =
     Then (match_in files game) (λ setup. Then (bytes_in files left) (λ bytes. ThenStored setup left bytes (λ state. IsCompared setup right state (bytes_in files right)))) wanted
+IsOutcomeOf files (Some (to_serve name)) wanted = Then (schedule_in files name) (λ schedule wanted. wanted ≡ printed Done (served_text schedule)) wanted
 
 -- the outcome of the words over the held files
 abbrev pub IsOutcome : List (List ℕ) → List File → Outcome → Type 0

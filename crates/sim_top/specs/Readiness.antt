@@ -5,8 +5,9 @@ use Rattle.sim_base.specs.declared.state.State.{State}
 use Rattle.sim_store.specs.Counts.{raised}
 use Rattle.sim_store.specs.Files.{File}
 use Rattle.sim_codec.specs.Loading.{StandsFor}
-use Rattle.sim_top.specs.Words.{Asked, to_play, to_store, to_resume, to_show, to_compare}
-use Rattle.sim_top.specs.Outcome.{bytes_in, match_in}
+use Rattle.sim_lists.specs.declared.schedule.Schedule.{Schedule}
+use Rattle.sim_top.specs.Words.{Asked, to_play, to_store, to_resume, to_show, to_compare, to_serve}
+use Rattle.sim_top.specs.Outcome.{bytes_in, match_in, schedule_in}
 use Rattle.sim_top.specs.Answers.{Scene}
 use Rattle.sim_top.specs.declared.status.Status.{Status}
 use Rattle.sim_top.specs.declared.status.Status.TheVariants.{Done, Differs, OutOfMemory}
@@ -24,6 +25,11 @@ pub record HoldsMatch (files : List File) (name : List ℕ) (And : Setup → Typ
   pub read : match_in files name ≡ Ok setup
   pub more : And setup
 
+-- a file is held and within its limit, and is a schedule
+pub record HoldsSchedule (files : List File) (name : List ℕ) : Type 0 where
+  pub schedule : Schedule
+  pub read : schedule_in files name ≡ Ok schedule
+
 -- each file that is to be read is good, and the match has the turn that is asked for
 abbrev pub IsReady : List File → Option Asked → Type 0
 IsReady files None = ⊥
@@ -32,6 +38,7 @@ IsReady files (Some (to_store game turn out)) = HoldsMatch files game (λ setup.
 IsReady files (Some (to_resume game name)) = HoldsMatch files game (λ setup. HoldsState files setup name)
 IsReady files (Some (to_show game name)) = HoldsMatch files game (λ setup. HoldsState files setup name)
 IsReady files (Some (to_compare game left right)) = HoldsMatch files game (λ setup. HoldsState files setup left × HoldsState files setup right)
+IsReady files (Some (to_serve name)) = HoldsSchedule files name
 
 -- no count of faults rose, nor stands at its last value
 pub record IsFaultless (before now : Scene) : Type 0 where

@@ -1,7 +1,7 @@
 -- How many bytes are read for what is asked, and which file is found missing before any memory is taken.
 use Rattle.std.specs.Prelude.{◌≡◌, ℕ, ◌+◌, List, length, Option, Some, None}
 use Rattle.sim_store.specs.Files.{File, file_in}
-use Rattle.sim_top.specs.Words.{Asked, to_play, to_store, to_resume, to_show, to_compare}
+use Rattle.sim_top.specs.Words.{Asked, to_play, to_store, to_resume, to_show, to_compare, to_serve}
 use Rattle.sim_top.specs.declared.status.Status.{Status}
 use Rattle.sim_top.specs.declared.status.Status.TheVariants.{Done, Differs, ReadFault, NoFile}
 
@@ -21,21 +21,23 @@ length_read files (to_store game turn out) = length_in files game
 length_read files (to_resume game stored) = length_in files game + length_in files stored
 length_read files (to_show game stored) = length_in files game + length_in files stored
 length_read files (to_compare game left right) = length_in files game + length_in files left + length_in files right
+length_read files (to_serve schedule) = length_in files schedule
 
--- the file of the match
+-- the file that is read first, which is that of the match where there is one
 abbrev pub game_of : Asked → List ℕ
 game_of (to_play game) = game
 game_of (to_store game turn out) = game
 game_of (to_resume game stored) = game
 game_of (to_show game stored) = game
 game_of (to_compare game left right) = game
+game_of (to_serve schedule) = schedule
 
 -- how many bytes are read for the words
 abbrev pub length_asked : List File → Option Asked → ℕ
 length_asked files None = 0
 length_asked files (Some asked) = length_read files asked
 
--- the file of the match is not there
+-- the file that is read first is not there
 abbrev pub LacksMatch : List File → Option Asked → Type 0
 LacksMatch files None = ⊥
 LacksMatch files (Some asked) = file_in files (game_of asked) ≡ None

@@ -11,8 +11,10 @@ use Rattle.sim_codec.specs.declared.fault.StateFault.{StateFault}
 use Rattle.sim_codec.specs.declared.fault.StateFault.TheVariants as stored
 use Rattle.sim_setup.specs.declared.fault.SetupFault.{SetupFault}
 use Rattle.sim_setup.specs.declared.fault.SetupFault.TheVariants as setup
+use Rattle.sim_lists.specs.declared.fault.ListFault.{ListFault}
+use Rattle.sim_lists.specs.declared.fault.ListFault.TheVariants as listed
 use Rattle.sim_codec.specs.Loading.{StandsFor}
-use Rattle.sim_report.specs.declared.refusal.Refusal.TheVariants.{Match, Turn}
+use Rattle.sim_report.specs.declared.refusal.Refusal.TheVariants.{Match, List as OfList, Turn}
 use Rattle.sim_report.specs.Refusals.{refusal_text, stored_text}
 use Rattle.sim_top.specs.Outcome.{Outcome, printed, Then, IsStored, code_of, state_by}
 use Rattle.sim_top.specs.Answers.{OnlyGave, CountsBefore}
@@ -20,7 +22,7 @@ use Rattle.sim_top.specs.Reads.{IsUnfound}
 use Rattle.sim_top.specs.declared.status.Status.{Status}
 use Rattle.sim_top.specs.declared.status.Status.TheVariants as status
 use Rattle.sim_top.specs.declared.stop.Stop.{Stop}
-use Rattle.sim_top.specs.declared.stop.Stop.TheVariants.{ReadFault, TooLong, NoFile, OutOfMemory, MatchRefused, StateRefused, NoSuchTurn}
+use Rattle.sim_top.specs.declared.stop.Stop.TheVariants.{ReadFault, TooLong, NoFile, OutOfMemory, MatchRefused, StateRefused, ListRefused, NoSuchTurn}
 
 -- the status with which a command ends there
 abbrev pub status_of : Stop → Status
@@ -30,6 +32,7 @@ status_of NoFile = status.NoFile
 status_of OutOfMemory = status.OutOfMemory
 status_of (MatchRefused code index) = status.MatchRefused
 status_of (StateRefused code name) = status.StateRefused
+status_of (ListRefused index) = status.ListRefused
 status_of (NoSuchTurn asked turns) = status.NoSuchTurn
 
 -- the text that it prints
@@ -40,6 +43,7 @@ stop_text NoFile = []
 stop_text OutOfMemory = []
 stop_text (MatchRefused code index) = refusal_text (Match code index)
 stop_text (StateRefused code name) = stored_text code name.now
+stop_text (ListRefused index) = refusal_text (OfList index)
 stop_text (NoSuchTurn asked turns) = refusal_text (Turn asked turns)
 
 -- the outcome with which a command ends there
@@ -88,6 +92,11 @@ ReadsState (Err stop) setup name file = Stopped stop (Then file (IsRefused setup
 abbrev pub setup_stop : SetupFault → Stop
 setup_stop (setup.Refused code index) = MatchRefused code index
 setup_stop setup.OutOfMemory = OutOfMemory
+
+-- why a command ends whose list is refused
+abbrev pub list_stop : ListFault → Stop
+list_stop (listed.Refused index) = ListRefused index
+list_stop listed.OutOfMemory = OutOfMemory
 
 -- a command ends for this cause, for which the state in the file of this name is refused
 abbrev pub IsStateStop : StateFault → List ℕ → Stop → Type 0

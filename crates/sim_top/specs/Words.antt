@@ -4,16 +4,17 @@ use Rattle.std.specs.declared.alloc.Global.{Global}
 use Rattle.std.specs.Str.{bytes_eq}
 use Rattle.sim_base.specs.NumberText.{is_digit}
 use Rattle.sim_top.specs.declared.words.Request.{Request}
-use Rattle.sim_top.specs.declared.words.Request.TheVariants.{Play, State, Resume, Show, Compare}
+use Rattle.sim_top.specs.declared.words.Request.TheVariants.{Play, State, Resume, Show, Compare, Serve}
 
 -- what is asked for: to play a match; to store the state of a turn of it in a file; to play on from a stored state; to show one;
--- to compare two
+-- to compare two; to run the server over a schedule
 pub data Asked : Type 0 where
   to_play : List ℕ → Asked
   to_store : List ℕ → ℕ → List ℕ → Asked
   to_resume : List ℕ → List ℕ → Asked
   to_show : List ℕ → List ℕ → Asked
   to_compare : List ℕ → List ℕ → List ℕ → Asked
+  to_serve : List ℕ → Asked
 
 -- the request of the code, with its names as bytes
 abbrev pub asked : Request → Asked
@@ -22,6 +23,7 @@ asked (State game turn out) = to_store game.now turn out.now
 asked (Resume game stored) = to_resume game.now stored.now
 asked (Show game stored) = to_show game.now stored.now
 asked (Compare game left right) = to_compare game.now left.now right.now
+asked (Serve schedule) = to_serve schedule.now
 
 -- the words as bytes
 abbrev pub words_of : List (String Global) → List (List ℕ)
@@ -38,7 +40,8 @@ turn_in text = if nat_le 1 (length text) && nat_le (length text) 9 then digits_f
 
 -- what a command asks of one file
 abbrev pub asked_of_one : List ℕ → List ℕ → Option Asked
-asked_of_one command game = if bytes_eq command (codes "play") then Some (to_play game) else None
+asked_of_one command file =
+    if bytes_eq command (codes "play") then Some (to_play file) else if bytes_eq command (codes "serve") then Some (to_serve file) else None
 
 -- what it asks of two
 abbrev pub asked_of_two : List ℕ → List ℕ → List ℕ → Option Asked
@@ -66,6 +69,7 @@ out_of (Some (to_store game turn out)) = Some out
 out_of (Some (to_resume game stored)) = None
 out_of (Some (to_show game stored)) = None
 out_of (Some (to_compare game left right)) = None
+out_of (Some (to_serve schedule)) = None
 
 -- whether it is to compare two states
 abbrev pub is_comparison : Asked → Bool
@@ -74,6 +78,7 @@ is_comparison (to_store game turn out) = false
 is_comparison (to_resume game stored) = false
 is_comparison (to_show game stored) = false
 is_comparison (to_compare game left right) = true
+is_comparison (to_serve schedule) = false
 
 -- whether it names a turn
 abbrev pub has_turn : Asked → Bool
@@ -82,6 +87,7 @@ has_turn (to_store game turn out) = true
 has_turn (to_resume game stored) = false
 has_turn (to_show game stored) = false
 has_turn (to_compare game left right) = false
+has_turn (to_serve schedule) = false
 
 -- whether it names a file with a stored state
 abbrev pub loads_state : Asked → Bool
@@ -90,3 +96,13 @@ loads_state (to_store game turn out) = false
 loads_state (to_resume game stored) = true
 loads_state (to_show game stored) = true
 loads_state (to_compare game left right) = true
+loads_state (to_serve schedule) = false
+
+-- whether it names a file with a list of steps or arrivals
+abbrev pub reads_list : Asked → Bool
+reads_list (to_play game) = false
+reads_list (to_store game turn out) = false
+reads_list (to_resume game stored) = false
+reads_list (to_show game stored) = false
+reads_list (to_compare game left right) = false
+reads_list (to_serve schedule) = true

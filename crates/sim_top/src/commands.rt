@@ -10,7 +10,7 @@ ghost use Rattle.sim_report.specs.Show.{show_text as text_of_show};
 ghost use Rattle.sim_setup.specs.Quiet.{IsQuietMatch};
 ghost use Rattle.sim_store.specs.Counts.{after_giving};
 ghost use Rattle.sim_store.specs.Files.{File, file_in};
-ghost use Rattle.sim_top.specs.Words.{Asked, to_play, to_store, to_resume, to_show, to_compare, asked, out_of, is_comparison, loads_state};
+ghost use Rattle.sim_top.specs.Words.{Asked, to_play, to_store, to_resume, to_show, to_compare, to_serve, asked, out_of, is_comparison, loads_state};
 ghost use Rattle.sim_top.specs.Reads.{game_of, length_in, length_read};
 ghost use Rattle.sim_top.specs.Lines.{play_text as text_of_play, resume_text as text_of_resume};
 ghost use Rattle.sim_diff.specs.Difference.{difference_of};
@@ -20,7 +20,7 @@ ghost use Rattle.sim_top.specs.Quiet.{AreQuiet};
 ghost use Rattle.sim_top.specs.Stops.{CausesOf, IsOfTurn, IsMissed};
 ghost use Rattle.sim_top.specs.Making.{Makes, IsSavedAs, IsFinished, outcome_made, status_made};
 
-use crate::inputs::{read_match, read_state};
+use crate::inputs::{read_match, read_schedule, read_state};
 use crate::play::{push_turns, state_at};
 use crate::posts::first_state;
 use crate::status::Status;
@@ -30,6 +30,7 @@ use sim_base::{OutOfMemory, Setup, State};
 use sim_codec::{digest, spell};
 use sim_diff::difference;
 use sim_report::{push_place, push_saved, push_show};
+use sim_serve::served_text;
 use sim_store::Shelf;
 use std::alloc::Global;
 
@@ -69,6 +70,7 @@ pub fn answer_to<'w, S: Shelf>(
         Request::Resume { game, stored } => resume(alloc, shelf, game, stored),
         Request::Show { game, stored } => show(alloc, shelf, game, stored),
         Request::Compare { game, left, right } => compare(alloc, shelf, game, left, right),
+        Request::Serve { schedule } => serve(alloc, shelf, schedule),
     }
 }
 
@@ -256,6 +258,21 @@ fn compared<'w>(
             })
         }
     }
+}
+
+fn serve<'w, S: Shelf>(alloc: Global, shelf: &mut S, name: &'w str) -> Result<Answer<'w>, Stop<'w>>
+    ensures answers { IfSome (S.held shelf.old) (λ files. Makes result (IsOutcomeOf files (Some (to_serve name.now)))) }
+    ensures saved { IfOk result (λ answer. answer.saved ≡ None) }
+    ensures done { IfOk result (λ answer. IsFinished answer.saved answer.status) }
+    ensures causes { CausesOf result (S.counts shelf.old) (S.counts shelf.new) }
+    ensures statuses { MayAnswer (to_serve name.now) (status_made result) }
+    ensures missing { (files : List File) → S.held shelf.old ≡ Some files → file_in files name.now ≡ None → IsMissed result }
+    ensures given { (files : List File) → S.held shelf.old ≡ Some files → IfOk result (λ _. S.counts shelf.new ≡ after_giving (length_read files (to_serve name.now)) (S.counts shelf.old)) }
+    ensures held { S.held shelf.new ≡ S.held shelf.old }
+{
+    let schedule = read_schedule(alloc, shelf, name)?;
+    let text = served_text(alloc, schedule)?;
+    Ok(printed(text))
 }
 
 // A text alone.

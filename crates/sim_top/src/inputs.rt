@@ -1,4 +1,4 @@
-//! What a command reads: the match of a file, and a stored state of that match.
+//! What a command reads: the match of a file, a stored state of that match, and a schedule.
 
 ghost use Rattle.std.specs.Prelude.{◌≡◌, List, Some, None, IsTrue, IfSome, IfOk, IfErr, IsErrAnd, length};
 ghost use Rattle.sim_base.specs.Limits.{IsSetup};
@@ -8,15 +8,17 @@ ghost use Rattle.sim_setup.specs.Quiet.{IsQuietMatch};
 ghost use Rattle.sim_setup.specs.Setups.{setup_of as setup_of_bytes};
 ghost use Rattle.sim_store.specs.Counts.{after_giving};
 ghost use Rattle.sim_store.specs.Files.{File, file_in};
-ghost use Rattle.sim_top.specs.Words.{Asked, loads_state};
+ghost use Rattle.sim_top.specs.Words.{Asked, loads_state, reads_list};
 ghost use Rattle.sim_top.specs.Reads.{length_in};
-ghost use Rattle.sim_top.specs.Outcome.{bytes_in, match_in, setup_by};
+ghost use Rattle.sim_lists.specs.Schedules.{schedule_of as schedule_of_bytes, IsSchedule};
+ghost use Rattle.sim_top.specs.Outcome.{bytes_in, match_in, setup_by, schedule_in, schedule_by};
 ghost use Rattle.sim_top.specs.Answers.{MayAnswer};
 ghost use Rattle.sim_top.specs.Stops.{Reads, ReadsBytes, ReadsState, LoadsState, IsStateStop, IsOfContent, IsMissed, ReadsCounting, CausesOf, status_of};
 
 use crate::stop::Stop;
 use sim_base::{Setup, State};
 use sim_codec::load;
+use sim_lists::{Schedule, schedule_of};
 use sim_setup::setup_of;
 use sim_store::{Shelf, StoreFault, read_file};
 use std::alloc::Global;
@@ -102,4 +104,33 @@ pub fn read_state<'w, S: Shelf>(
 {
     let bytes = read_bytes(alloc, shelf, name)?;
     state_of(alloc, setup, name, &bytes)
+}
+
+// The schedule of the bytes of a file.
+fn schedule_from<'w>(alloc: Global, bytes: &[u8]) -> Result<Schedule, Stop<'w>>
+    ensures tells { Reads result (schedule_by (schedule_of_bytes bytes.now)) }
+    ensures limits { IfOk result IsSchedule }
+    ensures stops { IfErr result (λ stop. (asked : Asked) → IsTrue (reads_list asked) → MayAnswer asked (status_of stop)) }
+    ensures content { IfErr result IsOfContent }
+{
+    Ok(schedule_of(alloc, bytes)?)
+}
+
+/// Reads the schedule of a file.
+#[tactic(auto, unfolding(crate::specs::Outcome::schedule_in))]
+pub fn read_schedule<'w, S: Shelf>(
+    alloc: Global,
+    shelf: &mut S,
+    name: &str,
+) -> Result<Schedule, Stop<'w>>
+    ensures tells { IfSome (S.held shelf.old) (λ files. Reads result (schedule_in files name.now)) }
+    ensures limits { IfOk result IsSchedule }
+    ensures missing { (files : List File) → S.held shelf.old ≡ Some files → file_in files name.now ≡ None → IsMissed result }
+    ensures stops { IfErr result (λ stop. (asked : Asked) → IsTrue (reads_list asked) → MayAnswer asked (status_of stop)) }
+    ensures causes { CausesOf result (S.counts shelf.old) (S.counts shelf.new) }
+    ensures given { (files : List File) → S.held shelf.old ≡ Some files → IfOk result (λ _. S.counts shelf.new ≡ after_giving (length_in files name.now) (S.counts shelf.old)) }
+    ensures held { S.held shelf.new ≡ S.held shelf.old }
+{
+    let bytes = read_bytes(alloc, shelf, name)?;
+    schedule_from(alloc, &bytes)
 }

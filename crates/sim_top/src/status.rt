@@ -22,6 +22,8 @@ pub enum Status {
     MatchRefused,
     /// A stored state is refused.
     StateRefused,
+    /// A list of steps or arrivals is refused.
+    ListRefused,
     /// Memory was refused.
     OutOfMemory,
     /// The match has not as many turns as were asked for.
@@ -44,6 +46,7 @@ impl Status {
             Status::TooLong => 5,
             Status::MatchRefused => 6,
             Status::StateRefused => 7,
+            Status::ListRefused => 8,
             Status::OutOfMemory => 9,
             Status::NoSuchTurn => 10,
             Status::NoFile => 11,

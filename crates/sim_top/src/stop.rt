@@ -3,11 +3,12 @@
 
 ghost use Rattle.std.specs.Prelude.{◌≡◌};
 ghost use Rattle.sim_top.specs.declared.stop.Stop.TheVariants as stops;
-ghost use Rattle.sim_top.specs.Stops.{status_of, setup_stop, IsStateStop};
+ghost use Rattle.sim_top.specs.Stops.{status_of, setup_stop, list_stop, IsStateStop};
 
 use crate::status::Status;
 use sim_base::OutOfMemory;
 use sim_codec::StateFault;
+use sim_lists::ListFault;
 use sim_setup::SetupFault;
 
 /// Why a command ends before it has its text.
@@ -25,6 +26,8 @@ pub enum Stop<'w> {
     MatchRefused { code: u8, index: u32 },
     /// The stored state in the file of this name is refused for this code.
     StateRefused { code: u8, name: &'w str },
+    /// A list of steps or arrivals is refused, at this item, or at 0 for the whole.
+    ListRefused { index: u32 },
     /// The match has not as many turns as were asked for.
     NoSuchTurn { asked: u32, turns: u32 },
 }
@@ -44,6 +47,17 @@ impl<'w> From<SetupFault> for Stop<'w> {
         match fault {
             SetupFault::Refused { code, index } => Stop::MatchRefused { code, index },
             SetupFault::OutOfMemory => Stop::OutOfMemory,
+        }
+    }
+}
+
+impl<'w> From<ListFault> for Stop<'w> {
+    ghost from_gives = { λ fault stop. stop ≡ list_stop fault };
+
+    fn from(fault: ListFault) -> Stop<'w> {
+        match fault {
+            ListFault::Refused { index } => Stop::ListRefused { index },
+            ListFault::OutOfMemory => Stop::OutOfMemory,
         }
     }
 }
@@ -72,6 +86,7 @@ impl<'w> Stop<'w> {
             Stop::OutOfMemory => Status::OutOfMemory,
             Stop::MatchRefused { .. } => Status::MatchRefused,
             Stop::StateRefused { .. } => Status::StateRefused,
+            Stop::ListRefused { .. } => Status::ListRefused,
             Stop::NoSuchTurn { .. } => Status::NoSuchTurn,
         }
     }

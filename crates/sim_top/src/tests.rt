@@ -64,7 +64,15 @@ const SHOWN: &str = "turn 1 next 4 word 0 rows 1
 entity 3 template post owner 2 at 2 2 health 50
 ";
 
-// Runs the words over a shelf that holds a match and perhaps a stored state, with so much room in the sink.
+const SCHEDULE: &str =
+    "{\"clients\":2,\"active\":2,\"delay\":1,\"turns\":2,\"arrivals\":[[1,\"done\",2],[2,\"cut\"],[2,\"done\",2]]}";
+
+const SERVED: &str = "to 1 release 2
+to 2 refused 1
+released 2
+";
+
+// Runs the words over a shelf that holds a match or a schedule and perhaps a stored state, with so much room in the sink.
 fn ran(
     alloc: Global,
     words: &[&str],
@@ -137,6 +145,15 @@ fn words_and_files_give_their_status_and_text(rt: HostRuntime) -> Result<(), Fai
         ),
         (&["resume", "m", "s"], POSTS, Status::NoFile, ""),
         (&["show", "m", "s"], POSTS, Status::NoFile, ""),
+        (&["serve", "m"], SCHEDULE, Status::Done, SERVED),
+        (
+            &["serve", "m"],
+            POSTS,
+            Status::ListRefused,
+            "list refused 0\n",
+        ),
+        (&["serve", "x"], SCHEDULE, Status::NoFile, ""),
+        (&["serve", "m", "m"], SCHEDULE, Status::Usage, USAGE),
     ];
     for (words, file, status, text) in cases {
         let (ended, shelf, out) = ran(rt.alloc(), words, file, None, 1000)?;
@@ -480,6 +497,7 @@ fn statuses_have_their_numbers(rt: HostRuntime) {
         (Status::TooLong, 5),
         (Status::MatchRefused, 6),
         (Status::StateRefused, 7),
+        (Status::ListRefused, 8),
         (Status::OutOfMemory, 9),
         (Status::NoSuchTurn, 10),
         (Status::NoFile, 11),

@@ -166,6 +166,7 @@ fn stop_text(alloc: Global, stop: &Stop<'_>) -> Result<String, OutOfMemory>
     let refusal = match *stop {
         Stop::MatchRefused { code, index } => Refusal::Match { code, index },
         Stop::StateRefused { code, name } => Refusal::Stored { code, name },
+        Stop::ListRefused { index } => Refusal::List { index },
         Stop::NoSuchTurn { asked, turns } => Refusal::Turn { asked, turns },
         Stop::ReadFault | Stop::TooLong | Stop::NoFile | Stop::OutOfMemory => {
             return Ok(String::new(alloc));

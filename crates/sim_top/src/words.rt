@@ -32,6 +32,10 @@ pub enum Request<'w> {
         left: &'w str,
         right: &'w str,
     },
+    /// To run the server over a schedule.
+    Serve {
+        schedule: &'w str,
+    },
 }
 
 /// The request of the words, if they make one.
@@ -48,11 +52,14 @@ pub fn request_of(words: &[String]) -> Option<Request<'_>>
     }
 }
 
-fn request_of_one<'w>(command: &str, game: &'w str) -> Option<Request<'w>>
-    ensures { option_map asked result ≡ asked_of_one command.now game.now }
+fn request_of_one<'w>(command: &str, file: &'w str) -> Option<Request<'w>>
+    ensures { option_map asked result ≡ asked_of_one command.now file.now }
 {
     if command == "play" {
-        return Some(Request::Play { game });
+        return Some(Request::Play { game: file });
+    }
+    if command == "serve" {
+        return Some(Request::Serve { schedule: file });
     }
     None
 }
