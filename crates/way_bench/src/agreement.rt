@@ -8,7 +8,7 @@ use sim_system::Way;
 use std::alloc::Global;
 
 // How many pairs of points are tried on each ground.
-const PAIRS: usize = 200;
+const PAIRS: usize = 40;
 
 /// Whether all searches find the same ways between random points, the grounds in turn.
 pub fn agree(alloc: Global) -> Result<bool, OutOfMemory> {
