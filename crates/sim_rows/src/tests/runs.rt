@@ -1,11 +1,24 @@
 //! The program over a shelf and a sink in memory. The digests were worked out apart from it, as MD5 of the bytes that
 //! `docs/FORMATS.md` lays out; a program that always answers want of memory is refused here.
 
-ghost use Rattle.std.specs.Prelude.{None};
+ghost use Rattle.std.specs.Prelude.{◌≡◌, None, All, length};
+ghost use Rattle.sim_orders.specs.Orders.{IsGiven, Obeys};
+ghost use Rattle.sim_system.specs.Meanings.{HaveKinds};
+ghost use Rattle.sim_system.specs.RigWords.{systems_of};
 ghost use Rattle.sim_store.specs.MemSink.{faults_of};
 
-use crate::{Status, run};
-use sim_store::{Failed, MemShelf, MemSink, Sink};
+use sim_base::{Changes, Command, OutOfMemory, Setup, State};
+use sim_census::Census;
+use sim_ground::Ground;
+use sim_orders::{
+    Handler, Help, OrderTable, Planner, attack_changes, delete_changes, place_changes,
+    resign_changes, stop_changes, train_changes, walk_changes,
+};
+use sim_range::Range;
+use sim_store::{Failed, MemShelf, MemSink, Shelf, Sink};
+use sim_system::{Rig, System};
+use sim_top::{Status, run};
+use sim_watch::Watch;
 use std::alloc::Global;
 use std::test::Fail;
 
@@ -72,6 +85,135 @@ to 2 refused 1
 released 2
 ";
 
+// Runs the words with eight rigs of new systems. The boxes are made in this body, since a function may hand out none.
+fn run_words<S: Shelf, K: Sink>(
+    alloc: Global,
+    words: &[String],
+    shelf: &mut S,
+    out: &mut K,
+) -> Result<Status, Fail> {
+    let mut rigs = Vec::with_capacity(alloc, 8)?;
+    for _ in 0..8u8 {
+        rigs.push(rig!(alloc))?;
+    }
+    run_with(alloc, words, shelf, out, rigs)
+}
+
+// Runs the words with these rigs, and a planner for each kind of command.
+fn run_with<S: Shelf, K: Sink>(
+    alloc: Global,
+    words: &[String],
+    shelf: &mut S,
+    out: &mut K,
+    rigs: Vec<Rig>,
+) -> Result<Status, Fail>
+    requires eight { length rigs.items ≡ 8 }
+    requires kinds { All (λ r. HaveKinds (systems_of r ⟦<dyn System as System>⟧)) rigs.items }
+{
+    let walk: Planner = Box::new(
+        alloc,
+        |alloc: Global, setup: &Setup, state: &State, help: &Help, player: u8, command: &Command| -> Result<
+            Changes,
+            OutOfMemory,
+        >
+            requires { IsGiven 1 setup.now state.now help.now player command.now }
+            ensures { Obeys setup.now state.now player command.now result }
+        { walk_changes(alloc, setup, state, help, player, command) },
+    )?;
+    let stop: Planner = Box::new(
+        alloc,
+        |alloc: Global, setup: &Setup, state: &State, help: &Help, player: u8, command: &Command| -> Result<
+            Changes,
+            OutOfMemory,
+        >
+            requires { IsGiven 2 setup.now state.now help.now player command.now }
+            ensures { Obeys setup.now state.now player command.now result }
+        { stop_changes(alloc, setup, state, help, player, command) },
+    )?;
+    let attack: Planner = Box::new(
+        alloc,
+        |alloc: Global, setup: &Setup, state: &State, help: &Help, player: u8, command: &Command| -> Result<
+            Changes,
+            OutOfMemory,
+        >
+            requires { IsGiven 3 setup.now state.now help.now player command.now }
+            ensures { Obeys setup.now state.now player command.now result }
+        { attack_changes(alloc, setup, state, help, player, command) },
+    )?;
+    let delete: Planner = Box::new(
+        alloc,
+        |alloc: Global, setup: &Setup, state: &State, help: &Help, player: u8, command: &Command| -> Result<
+            Changes,
+            OutOfMemory,
+        >
+            requires { IsGiven 4 setup.now state.now help.now player command.now }
+            ensures { Obeys setup.now state.now player command.now result }
+        { delete_changes(alloc, setup, state, help, player, command) },
+    )?;
+    let place: Planner = Box::new(
+        alloc,
+        |alloc: Global, setup: &Setup, state: &State, help: &Help, player: u8, command: &Command| -> Result<
+            Changes,
+            OutOfMemory,
+        >
+            requires { IsGiven 5 setup.now state.now help.now player command.now }
+            ensures { Obeys setup.now state.now player command.now result }
+        { place_changes(alloc, setup, state, help, player, command) },
+    )?;
+    let train: Planner = Box::new(
+        alloc,
+        |alloc: Global, setup: &Setup, state: &State, help: &Help, player: u8, command: &Command| -> Result<
+            Changes,
+            OutOfMemory,
+        >
+            requires { IsGiven 6 setup.now state.now help.now player command.now }
+            ensures { Obeys setup.now state.now player command.now result }
+        { train_changes(alloc, setup, state, help, player, command) },
+    )?;
+    let resign: Planner = Box::new(
+        alloc,
+        |alloc: Global, setup: &Setup, state: &State, help: &Help, player: u8, command: &Command| -> Result<
+            Changes,
+            OutOfMemory,
+        >
+            requires { IsGiven 7 setup.now state.now help.now player command.now }
+            ensures { Obeys setup.now state.now player command.now result }
+        { resign_changes(alloc, setup, state, help, player, command) },
+    )?;
+    let handlers = vec![in alloc;
+        Handler {
+            kind: 1,
+            run: walk,
+        },
+        Handler {
+            kind: 2,
+            run: stop,
+        },
+        Handler {
+            kind: 3,
+            run: attack,
+        },
+        Handler {
+            kind: 4,
+            run: delete,
+        },
+        Handler {
+            kind: 5,
+            run: place,
+        },
+        Handler {
+            kind: 6,
+            run: train,
+        },
+        Handler {
+            kind: 7,
+            run: resign,
+        },
+    ]?;
+    let ended = run(alloc, words, shelf, out, rigs, &OrderTable::new(handlers));
+    Ok(ended.status)
+}
+
 // Runs the words over a shelf that holds a match or a schedule and perhaps a stored state, with so much room in the sink.
 fn ran(
     alloc: Global,
@@ -87,7 +229,7 @@ fn ran(
     }
     let mut out = MemSink::new(alloc, room)?;
     let words = owned(alloc, words)?;
-    let status = run(alloc, &words, &mut shelf, &mut out);
+    let status = run_words(alloc, &words, &mut shelf, &mut out)?;
     Ok((status, shelf, out))
 }
 
@@ -219,7 +361,7 @@ fn a_file_without_room_is_left_empty(rt: HostRuntime) -> Result<(), Fail> {
     shelf.put("m", POSTS.as_bytes())?;
     let mut out = MemSink::new(rt.alloc(), 100)?;
     assert_eq!(rt;
-        run(rt.alloc(), &words, &mut shelf, &mut out),
+        run_words(rt.alloc(), &words, &mut shelf, &mut out)?,
         Status::WriteFault
     );
     assert!(rt; out.told().is_empty());
@@ -255,7 +397,7 @@ fn a_text_is_cut_short_where_its_sink_fails(rt: HostRuntime) -> Result<(), Fail>
             sink: MemSink::new(rt.alloc(), EMPTY_LINES.len())?,
         };
         out.sink.fail_at(told as u64 / 2 + 1)?;
-        let ended = run(rt.alloc(), &words, &mut shelf, &mut out);
+        let ended = run_words(rt.alloc(), &words, &mut shelf, &mut out)?;
         assert_eq!(rt; ended, Status::WriteFault, "after {told}");
         assert_eq!(rt; Some(out.sink.told()), EMPTY_LINES.as_bytes().get(..told));
     }
@@ -276,13 +418,13 @@ fn a_file_may_not_be_longer_than_the_limit(rt: HostRuntime) -> Result<(), Fail> 
     ];
     shelf.put("m", &bytes)?;
     assert_eq!(rt;
-        run(rt.alloc(), &words, &mut shelf, &mut out),
+        run_words(rt.alloc(), &words, &mut shelf, &mut out)?,
         Status::MatchRefused
     );
     bytes.push(b' ')?;
     shelf.put("m", &bytes)?;
     assert_eq!(rt;
-        run(rt.alloc(), &words, &mut shelf, &mut out),
+        run_words(rt.alloc(), &words, &mut shelf, &mut out)?,
         Status::TooLong
     );
     assert_eq!(rt; out.told(), b"match refused 1 0\n".as_slice());
@@ -321,7 +463,7 @@ fn compared(alloc: Global, a: &[u8], b: &[u8]) -> Result<(Status, MemSink), Fail
     shelf.put("b", b)?;
     let mut out = MemSink::new(alloc, 200)?;
     let words = owned(alloc, &["compare", "m", "a", "b"])?;
-    let status = run(alloc, &words, &mut shelf, &mut out);
+    let status = run_words(alloc, &words, &mut shelf, &mut out)?;
     Ok((status, out))
 }
 
@@ -391,7 +533,7 @@ fn ran_over(
     let mut out = MemSink::new(alloc, 500)?;
     out.fail_at(write)?;
     let words = owned(alloc, words)?;
-    let status = run(alloc, &words, shelf, &mut out);
+    let status = run_words(alloc, &words, shelf, &mut out)?;
     Ok((status, out))
 }
 
