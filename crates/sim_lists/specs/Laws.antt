@@ -4,7 +4,12 @@ use Rattle.serde_json.specs.Data.{Data}
 use Rattle.sim_json.specs.Records.{numbered}
 use Rattle.sim_json.specs.Least.{IsLeast}
 use Rattle.sim_lists.specs.Arrivals.{arrival_of}
+use Rattle.sim_lists.specs.Steps.{step_of}
 
 -- the arrivals before the refused one are read, and it is not
 abbrev pub ArrivalIndexIsLeast : Type 0
 ArrivalIndexIsLeast = (clients : ℕ) (ds : List Data) (i : ℕ) → numbered (λ done. arrival_of clients) [] ds ≡ Err i → IsLeast (λ done. arrival_of clients) [] ds i
+
+-- the same of steps
+abbrev pub StepIndexIsLeast : Type 0
+StepIndexIsLeast = (players : ℕ) (ds : List Data) (i : ℕ) → numbered (λ done. step_of players) [] ds ≡ Err i → IsLeast (λ done. step_of players) [] ds i

@@ -1,5 +1,7 @@
 pub mod Hexadecimal
 pub mod Arrivals
 pub mod Schedules
+pub mod Steps
+pub mod StepLists
 pub mod Meets
 pub mod Laws

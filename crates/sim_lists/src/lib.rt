@@ -1,7 +1,8 @@
-//! Lists for the server as files: a schedule of arrivals.
+//! Lists that are played as files: a schedule of arrivals at a server, and the steps of a session.
 //!
-//! It promises the one schedule that the bytes of a file spell, or the number of the first item that is refused. It
-//! stands on `sim_json` for the values of JSON, on `sim_commands` for commands, and on `sim_wire` for the messages.
+//! It promises the one list that the bytes of a file spell, or the number of the first item that is refused. It stands on
+//! `sim_json` for the values of JSON, on `sim_commands` for commands, on `sim_base` for steps, and on `sim_wire` for the
+//! messages.
 //! `docs/FORMATS.md` has the form.
 //!
 //! - `schedule`: the records of a schedule.
@@ -9,6 +10,9 @@
 //! - `hexadecimal`: digests and states as text.
 //! - `arrivals`: one arrival.
 //! - `reading`: the whole file.
+//! - `step_list`: the record of a list of steps.
+//! - `steps`: one step.
+//! - `step_reading`: the whole file of steps.
 //! - `laws`: what the number of a refusal says.
 #![tactic(auto)]
 
@@ -18,10 +22,17 @@ mod hexadecimal;
 mod laws;
 mod reading;
 mod schedule;
+mod step_list;
+mod step_reading;
+#[cfg(test)]
+mod step_tests;
+mod steps;
 #[cfg(test)]
 mod tests;
 
 pub use fault::ListFault;
-pub use laws::arrival_index_is_least;
+pub use laws::{arrival_index_is_least, step_index_is_least};
 pub use reading::schedule_of;
 pub use schedule::{Arrival, Arrivals, Schedule};
+pub use step_list::StepList;
+pub use step_reading::steps_of;

@@ -19,7 +19,7 @@ const MOST: usize = 100_000;
 const KEYS: [&str; 5] = ["clients", "active", "delay", "turns", "arrivals"];
 
 // What is wrong with the bytes, the object or its numbers.
-const NO_LIST: ListFault = ListFault::Refused { index: 0 };
+pub(crate) const NO_LIST: ListFault = ListFault::Refused { index: 0 };
 
 /// The schedule that the bytes of a file spell, or why they spell none.
 pub fn schedule_of(alloc: Global, bytes: &[u8]) -> Result<Schedule, ListFault>
@@ -73,7 +73,7 @@ fn schedule_within(alloc: Global, value: &Value) -> Result<Schedule, ListFault>
 }
 
 // The items of a list under a key, where there are not too many.
-fn few<'v>(value: &'v Value, key: &str) -> Option<&'v [Value]>
+pub(crate) fn few<'v>(value: &'v Value, key: &str) -> Option<&'v [Value]>
     ensures { option_map (λ items. map view items.now) result ≡ option_and_then (few_of 100000) (list_at_key key.now (view value.now)) }
 {
     let items = list_at(value, key)?;

@@ -8,11 +8,13 @@
 //! - `show`: a state, row by row.
 //! - `down`: a message of the server.
 //! - `served`: the lines of a server.
+//! - `event`: the events of a session.
 //! - `refusal`: why something is refused.
 //! - `place`: where two states differ.
 #![tactic(auto)]
 
 mod down;
+mod event;
 mod line;
 mod place;
 mod refusal;
@@ -22,6 +24,7 @@ mod show;
 mod tests;
 
 pub use down::push_down;
+pub use event::push_event;
 pub use line::{push_saved, push_turn, push_usage};
 pub use place::push_place;
 pub use refusal::{Refusal, push_refusal};

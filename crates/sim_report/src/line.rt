@@ -46,8 +46,8 @@ pub fn push_turn(
     }
 }
 
-// After an error a part of the line may stand behind the old text, here and below.
-fn append_turn(
+/// Appends the line of a turn. After an error a part of it may stand behind the old text, here and below.
+pub fn append_turn(
     word: &str,
     turn: u32,
     digest: &[u8; 16],
@@ -61,8 +61,8 @@ fn append_turn(
     append_digest(digest, out)
 }
 
-// A space and a number.
-fn append_number(number: u64, out: &mut String) -> Result<(), OutOfMemory>
+/// Appends a space and a number.
+pub fn append_number(number: u64, out: &mut String) -> Result<(), OutOfMemory>
     ensures ok { OnOk result (string_bytes out.new ≡ string_bytes out.old ++ spaced_number number) }
     ensures err { OnErr result (take (length (string_bytes out.old)) (string_bytes out.new) ≡ string_bytes out.old) }
 {

@@ -4,8 +4,8 @@ ghost use Rattle.std.specs.Prelude.{◌≡◌, ◌<◌, [], None, length, IfOk};
 
 use super::*;
 use sim_base::{
-    Aim, Command, Fixed, Items, Land, Motion, Name, OutOfMemory, PlayerCommand, Point, Resist, Row,
-    Setup, State, Template,
+    Aim, Command, Event, Fixed, Items, Land, Motion, Name, OutOfMemory, PlayerCommand, Point,
+    Resist, Row, Setup, State, Template,
 };
 use sim_codec::{Part, bits_of};
 use sim_diff::{Place, difference};
@@ -75,6 +75,66 @@ fn prints_refusals(rt: HostRuntime) -> Result<(), Fail> {
         push_refusal(&refusal, &mut out)?;
         assert_eq!(rt; out.as_str(), line);
     }
+    Ok(())
+}
+
+// An event of each kind, and its line. The digest stands for that of the state.
+#[test]
+fn prints_events(rt: HostRuntime) -> Result<(), Fail> {
+    let digest = DIGEST;
+    let cases = [
+        (
+            Event::Start { client: 1, digest },
+            "client 1 start 0 DIGEST\n",
+        ),
+        (
+            Event::Order {
+                client: 2,
+                turn: 65535,
+            },
+            "client 2 order 65535\n",
+        ),
+        (
+            Event::Play {
+                client: 8,
+                turn: 1,
+                digest,
+            },
+            "client 8 play 1 DIGEST\n",
+        ),
+        (Event::Join { client: 3 }, "client 3 join\n"),
+        (
+            Event::Load {
+                client: 3,
+                turn: 12,
+                digest,
+            },
+            "client 3 load 12 DIGEST\n",
+        ),
+        (
+            Event::Refused { client: 4, code: 3 },
+            "client 4 refused 3\n",
+        ),
+        (Event::Cut { client: 5 }, "client 5 cut\n"),
+        (
+            Event::Bend {
+                client: 6,
+                turn: 0,
+                digest,
+            },
+            "client 6 bend 0 DIGEST\n",
+        ),
+        (Event::Notice { turn: 4, client: 7 }, "notice 4 7\n"),
+    ];
+    let alloc = rt.alloc();
+    let mut out = String::new(alloc);
+    let mut wanted = String::new(alloc);
+    for (event, line) in cases {
+        push_event(&event, &mut out)?;
+        wanted.push_str(line)?;
+    }
+    let wanted = wanted.replace(alloc, "DIGEST", DIGITS)?;
+    assert_eq!(rt; out.as_str(), wanted.as_str());
     Ok(())
 }
 

@@ -13,3 +13,4 @@ macro_rules! rig {
 
 mod checks;
 mod rows;
+mod runs;

@@ -1,56 +1,25 @@
 -- What holds of the commands of a match file.
-use Rattle.std.proofs.Common.{◌≡◌, ℕ, zero, suc, ◌+◌, ◌<◌, ◌≤◌, Bool, true, false, nat_le, nat_lt, List, [], ◌∷◌, ◌++◌, length, codes, count_by, map, All, Some, None, option_and_then, Ok, refl, subst, arith, if◌then◌else◌}
-use Rattle.std.specs.Str.{bytes_eq}
+use Rattle.std.proofs.Common.{◌≡◌, ℕ, zero, suc, ◌+◌, ◌<◌, ◌≤◌, Bool, true, false, nat_lt, List, [], ◌∷◌, ◌++◌, count_by, map, All, Some, None, option_and_then, Ok, refl, subst, arith, if◌then◌else◌}
 use Rattle.std.specs.List.Sorted.{IsNonDecreasing}
-use Rattle.std.proofs.lemmas.Bool.{leb-true, ltb-true, ltb-false}
+use Rattle.std.proofs.lemmas.Bool.{ltb-true, ltb-false}
 use Rattle.std.proofs.lemmas.List.Elements.{All-cons}
 use Rattle.serde_json.specs.Data.{Data}
-use Rattle.serde_json.specs.Find.{as_str}
-use Rattle.sim_base.specs.declared.command.Command.{Command}
-use Rattle.sim_base.specs.declared.command.Command.TheVariants.{Delete}
 use Rattle.sim_base.specs.declared.setup.Timed.{Timed}
 use Rattle.sim_base.specs.Limits.{IsFrom, HasFewIds, is_given}
 use Rattle.sim_json.specs.Values.{list_of, natural_in, front_two}
-use Rattle.sim_json.specs.Records.{records, numbered}
-use Rattle.sim_json.proofs.Readers.{next_some, and_then_some, map_some, if_some, then_some, natural_in-within}
-use Rattle.sim_json.proofs.Reading.{numbered-keeps, numbered-length, numbered_from_records}
-use Rattle.sim_setup.specs.Quiet.{IsDelete}
-use Rattle.sim_setup.specs.Commands.{id_in, ids_from, ids_of, delete_from, command_from, crowd, timed_from, timed_of, falls_at}
+use Rattle.sim_json.specs.Records.{numbered}
+use Rattle.sim_json.proofs.Readers.{next_some, and_then_some, if_some, natural_in-within}
+use Rattle.sim_json.proofs.Reading.{numbered-keeps}
+use Rattle.sim_setup.specs.Commands.{crowd, timed_from, timed_of, falls_at}
+use Rattle.sim_commands.specs.Commands.{command_of}
+use Rattle.sim_setup.proofs.CommandIds.{command_of-few}
 use Rattle.sim_setup.proofs.Tally.{push_counted, both_same}
-
--- ---- what is ordered
-
-ids_of-few : (d : Data) (ids : List ℕ) → ids_of d ≡ Some ids → length ids ≤ 256
-ids_of-few d ids e =
-    let ds = and_then_some (list_of d) ids_from ids e in
-    let kept = then_some (nat_le (length ds.0) 256) (records (λ done. id_in) [] ds.0) ids ds.2 in
-    let few : length ds.0 ≤ 256 = leb-true (length ds.0) 256 kept.0 in
-    omega (arith, few, numbered-length (λ done. id_in) [] ds.0 ids (numbered_from_records (λ done. id_in) [] ds.0 ids kept.1))
-
--- a command that is read deletes, and names few entities
-record IsSmallDelete (command : Command) : Type 0 where
-  deletes : IsDelete command
-  few : HasFewIds command
-
-delete_from-is : (rest : List Data) (command : Command) → delete_from rest ≡ Some command → IsSmallDelete command
-delete_from-is [] command e = absurd cc
-delete_from-is (d ∷ []) command e =
-    let ids = map_some (ids_of d) Delete command e in
-    subst IsSmallDelete ids.2 (record { deletes = tt; few = ids_of-few d ids.0 ids.1 })
-delete_from-is (d ∷ e ∷ rest) command none = absurd cc
-
-command_from-is : (items : List Data) (command : Command) → command_from items ≡ Some command → IsSmallDelete command
-command_from-is [] command e = absurd cc
-command_from-is (kind ∷ rest) command e =
-    let word = next_some (as_str kind) _ command e in
-    delete_from-is rest command (then_some (bytes_eq word.0 (codes "delete")) (delete_from rest) command word.2).1
 
 -- ---- who orders, and when
 
 pub record IsRead (turns players : ℕ) (done : List Timed) (timed : Timed) : Type 0 where
   pub turn : IsFrom 1 turns timed.turn
   pub player : IsFrom 1 players timed.order.player
-  pub deletes : IsDelete timed.order.command
   pub ids : HasFewIds timed.order.command
   pub room : crowd timed.turn timed.order.player done < 64
 
@@ -58,14 +27,12 @@ timed_from-is : (turns players : ℕ) (done : List Timed) (p : Data × Data × L
 timed_from-is turns players done p timed e =
     let turn = next_some (natural_in 1 turns p.0) _ timed e in
     let player = next_some (natural_in 1 players p.1) _ timed turn.2 in
-    let command = next_some (command_from p.2) _ timed player.2 in
-    let small = command_from-is p.2 command.0 command.1 in
+    let command = next_some (command_of p.2) _ timed player.2 in
     let kept = if_some (nat_lt (crowd turn.0 player.0 done) 64) _ timed command.2 in
     subst (IsRead turns players done) kept.1 (record {
       turn = natural_in-within 1 turns p.0 turn.0 turn.1;
       player = natural_in-within 1 players p.1 player.0 player.1;
-      deletes = small.deletes;
-      ids = small.few;
+      ids = command_of-few p.2 command.0 command.1;
       room = ltb-true (crowd turn.0 player.0 done) 64 kept.0;
     })
 

@@ -60,8 +60,12 @@ own_parent : roots_of (source (codes "a") (Some (codes "a")) (node None None no_
 unfolding members
 own_parent = refl
 
+-- one template walks, and no other thing is known of it
+abbrev walker : Template
+walker = record (with_health (codes "a") 0) { health = None; speed = Some (pos 589824) }
+
 mover : templates_from (post ∷ source (codes "a") None (part (codes "Motion") (codes "Speed") None (codes "9")) ∷ [])
-    (post.root ∷ part (codes "Motion") (codes "Speed") None (codes "9") ∷ []) ≡ Err (refusal 7 1)
+    (post.root ∷ part (codes "Motion") (codes "Speed") None (codes "9") ∷ []) ≡ Ok (with_health (codes "post") 3276800 ∷ walker ∷ [])
 unfolding template_in template_at
 mover = refl
 

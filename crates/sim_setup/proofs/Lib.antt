@@ -4,6 +4,7 @@ pub mod Falls
 pub mod LandLimits
 pub mod TemplateLimits
 pub mod EntityLimits
+pub mod CommandIds
 pub mod CommandLimits
 pub mod SetupLimits
 pub mod SourceLimits

@@ -1,4 +1,4 @@
--- Every setup that is read meets the limits of a match, and is quiet.
+-- Every setup that is read meets the limits of a match.
 use Rattle.std.proofs.Common.{◌≡◌, ℕ, ◌-◌, ◌^◌, ◌<◌, ◌≤◌, ◌&&◌, true, nat_le, List, [], length, codes, All, Some, None, Result, Ok, Err, IfOk, subst, arith, length-append}
 use Rattle.std.proofs.lemmas.List.{length-map}
 use Rattle.sim_setup.specs.Refusals.{after}
@@ -23,16 +23,15 @@ use Rattle.sim_setup.specs.Ground.{land_in}
 use Rattle.sim_setup.specs.Rules.{rules_in}
 use Rattle.sim_tree.specs.Trees.{Node}
 use Rattle.sim_tree.specs.Sources.{Origin}
-use Rattle.sim_merge.specs.Resolution.{name_in, names_in, are_distinct, resolution_of}
+use Rattle.sim_merge.specs.Resolution.{name_in, names_in, are_distinct}
 use Rattle.sim_setup.specs.Sources.{sources_in}
 use Rattle.sim_setup.specs.Templates.{few_sources, roots_of, templates_from, next_template}
 use Rattle.sim_setup.specs.Entities.{entities_within, entities_in, firsts_from, first_of}
 use Rattle.sim_setup.specs.Commands.{timeds_from, timed_of, in_order, falls_at}
-use Rattle.sim_setup.specs.Quiet.{IsQuiet, IsDelete, IsQuietMatch}
 use Rattle.sim_setup.specs.Setups.{players_of, commands_in, items_in, lists_in, setup_with, limits_in, setup_in, setup_of}
 use Rattle.sim_setup.proofs.Refused.{need_ok, after_ok, unless_ok, coded_ok, ok_same}
 use Rattle.sim_setup.proofs.LandLimits.{land_in-limits}
-use Rattle.sim_setup.proofs.TemplateLimits.{template_at-is, names-differ}
+use Rattle.sim_setup.proofs.TemplateLimits.{names-differ}
 use Rattle.sim_setup.proofs.EntityLimits.{first_of-is}
 use Rattle.sim_setup.proofs.CommandLimits.{timed_of-is, timeds-not_crowded, in_order-IsNonDecreasing}
 
@@ -168,21 +167,12 @@ module _ (land : Land) (rules : Rules) where
           let read = timed_of-is rules.turns (players_of land) done d timed e in
           record { turn = read.turn; player = read.player; ids = read.ids }
 
-  setup_with-quiet : (id : List ℕ) (lists : Lists) → IsRead lists → IsQuietMatch (setup_with id land rules lists)
-  setup_with-quiet id lists is = record {
-    templates = numbered-All (next_template (names_in is.origins) is.roots) IsQuiet
-        (λ done origin t e. (template_at-is (names_in is.origins) is.roots (length done) origin t e).quiet) is.origins lists.templates is.read;
-    commands = numbered-All (timed_of rules.turns (players_of land)) (λ (timed : Timed). IsDelete timed.order.command)
-        (λ done d timed e. (timed_of-is rules.turns (players_of land) done d timed e).deletes) is.commands lists.commands is.timeds.each;
-  }
-
 abbrev HasTemplates : Setup → Type 0
 HasTemplates setup = All (IsTemplate (length setup.templates)) setup.templates
 
 record IsWhole (setup : Setup) : Type 0 where
   id : length setup.id ≡ 16
   limits : HasTemplates setup → IsSetup setup
-  quiet : IsQuietMatch setup
 
 limits_in-is : (id : List ℕ) (origins : List Origin) (d : Data) (setup : Setup) → length id ≡ 16 → limits_in id origins d ≡ Ok setup → IsWhole setup
 limits_in-is id origins d setup long e =
@@ -193,7 +183,6 @@ limits_in-is id origins d setup long e =
     subst IsWhole (ok_same (setup_with id land.0 rules.0 lists.0) setup lists.2) (record {
       id = long;
       limits = λ templates. setup_with-limits land.0 rules.0 id lists.0 long (land_in-limits d land.0 land.1) (rules_in-limits d rules.0 rules.1) is templates;
-      quiet = setup_with-quiet land.0 rules.0 id lists.0 is;
     })
 
 setup_of-is : (bytes : List ℕ) (setup : Setup) → setup_of bytes ≡ Ok setup → IsWhole setup
@@ -209,7 +198,3 @@ setup_of-id bytes setup e = (setup_of-is bytes setup e).id
 pub meets-limits : (bytes : List ℕ) (result : Result Setup SetupFault) → Meets result (setup_of bytes) → IfOk result HasTemplates → IfOk result IsSetup
 meets-limits bytes (Ok setup) e templates = (setup_of-is bytes setup e).limits templates
 meets-limits bytes (Err fault) e templates = tt
-
-pub meets-quiet : (bytes : List ℕ) (result : Result Setup SetupFault) → Meets result (setup_of bytes) → IfOk result IsQuietMatch
-meets-quiet bytes (Ok setup) e = (setup_of-is bytes setup e).quiet
-meets-quiet bytes (Err fault) e = tt

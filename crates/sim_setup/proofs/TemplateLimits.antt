@@ -1,14 +1,15 @@
 -- What holds of the templates of a match file.
-use Rattle.std.proofs.Common.{◌≡◌, ◌≢◌, ℕ, ◌&&◌, ◌||◌, not, Bool, true, false, List, [], ◌∷◌, ◌++◌, length, map, All, AllPairs, Option, Some, None, is_some, is_none, slice_get, unwrap_or, Result, Ok, Err, refl, sym, ap, ◌∙◌, subst, arith, true≢false, if◌then◌else◌}
+use Rattle.std.proofs.Common.{◌≡◌, ◌≢◌, ℕ, ◌&&◌, ◌||◌, not, Bool, true, false, List, [], ◌∷◌, ◌++◌, length, map, All, AllPairs, Option, Some, is_some, slice_get, unwrap_or, Result, Ok, Err, refl, sym, ap, ◌∙◌, subst, arith, true≢false, if◌then◌else◌}
 use Rattle.std.specs.Str.{bytes_eq}
 use Rattle.std.specs.List.{list_any}
+use Rattle.std.specs.Result.{result_ok}
 use Rattle.std.proofs.lemmas.List.{map-append}
 use Rattle.std.proofs.lemmas.List.Elements.{All-cons}
 use Rattle.std.proofs.lemmas.List.Kept.{AllPairs-cons}
 use Rattle.std.proofs.lemmas.Slice.Eq.{bytes_eq-Decides}
 use Rattle.sim_base.specs.declared.template.Template.{Template}
 use Rattle.sim_json.specs.Records.{numbered}
-use Rattle.sim_json.proofs.Readers.{and_then_some, if_some, both_true}
+use Rattle.sim_json.proofs.Readers.{and_then_some, both_true}
 use Rattle.sim_json.proofs.Reading.{numbered-keeps}
 use Rattle.sim_tree.specs.Trees.{Node}
 use Rattle.sim_tree.specs.Sources.{Origin}
@@ -18,8 +19,7 @@ use Rattle.sim_traits.specs.declared.fault.TraitFault.TheVariants.{Clash, Unknow
 use Rattle.sim_traits.specs.Table.{health_part, resist_part, motion_part, obstruct_part, attack_part, train_part, has_known_parts}
 use Rattle.sim_traits.specs.Values.{health_in, resist_in, speed_in, base_in, arms_in, train_in}
 use Rattle.sim_traits.specs.Parts.{part_of, after, unarmoured, template_of_parts, template_in}
-use Rattle.sim_setup.specs.Quiet.{IsQuiet}
-use Rattle.sim_setup.specs.Templates.{is_quiet, if_quiet, template_at, next_template}
+use Rattle.sim_setup.specs.Templates.{template_at, next_template}
 
 -- ---- a template that is read
 
@@ -60,28 +60,16 @@ template_in-named : (name : List ℕ) (root : Node) (names : List (List ℕ)) (t
 unfolding template_in
 template_in-named name root names t e = parts-named name root names t (known (has_known_parts root) (template_of_parts name root names) t e)
 
-is_None : {X : Type 0} (o : Option X) → is_none o ≡ true → o ≡ None
-is_None None e = refl
-is_None (Some x) e = absurd (true≢false (sym e))
+ok_some : (r : Result Template TraitFault) (t : Template) → result_ok r ≡ Some t → r ≡ Ok t
+ok_some (Err fault) t e = absurd cc
+ok_some (Ok u) t e = let same : u ≡ t = cc in ap Ok same
 
-quiet_ok : (r : Result Template TraitFault) (t : Template) → if_quiet r ≡ Some t → (r ≡ Ok t) × IsQuiet t
-quiet_ok (Err fault) t e = absurd cc
-quiet_ok (Ok u) t e =
-    let kept = if_some (is_quiet u) u t e in
-    let still = both_true (is_none u.speed) (is_none u.arms) kept.0 in
-    (ap Ok kept.1, subst IsQuiet kept.1 (record { speed = is_None u.speed still.0; arms = is_None u.arms still.1 }))
-
--- a template that is read has the name of its source, and is quiet
-pub record IsRead (origin : Origin) (t : Template) : Type 0 where
-  pub named : t.name ≡ origin.name
-  pub quiet : IsQuiet t
-
-pub template_at-is : (names : List (List ℕ)) (roots : List Node) (number : ℕ) (origin : Origin) (t : Template) → template_at names roots number origin ≡ Some t → IsRead origin t
+-- a template that is read has the name of its source
+pub template_at-named : (names : List (List ℕ)) (roots : List Node) (number : ℕ) (origin : Origin) (t : Template) → template_at names roots number origin ≡ Some t → t.name ≡ origin.name
 unfolding template_at
-template_at-is names roots number origin t e =
-    let root = and_then_some (slice_get roots number) (λ root. if_quiet (template_in origin.name root names)) t e in
-    let is = quiet_ok (template_in origin.name root.0 names) t root.2 in
-    record { named = template_in-named origin.name root.0 names t is.0; quiet = is.1 }
+template_at-named names roots number origin t e =
+    let root = and_then_some (slice_get roots number) (λ root. result_ok (template_in origin.name root names)) t e in
+    template_in-named origin.name root.0 names t (ok_some (template_in origin.name root.0 names) t root.2)
 
 -- one more record, where it is read
 pub more_read : {X D : Type 0} (read : List X → D → Option X) (done : List X) (d : D) (x : X) (ds : List D) (all : Result (List X) ℕ)
@@ -127,5 +115,5 @@ pub names-differ : (names : List (List ℕ)) (roots : List Node) (origins : List
     → numbered (next_template names roots) [] origins ≡ Ok templates → AllPairs (λ a b. a ≢ b) (map (λ (t : Template). t.name) templates)
 names-differ names roots origins templates distinct e =
     let same = numbered-keeps (next_template names roots) named
-    (λ front done origin t is so_far. more_named front done origin t (template_at-is names roots (length done) origin t is).named so_far) [] [] origins templates e refl in
+    (λ front done origin t is so_far. more_named front done origin t (template_at-named names roots (length done) origin t is) so_far) [] [] origins templates e refl in
     differ (map name_of templates) (subst (λ texts. are_distinct texts ≡ true) same distinct)

@@ -1,41 +1,12 @@
--- The commands of a match file. So far there is one kind of them: `delete`.
-use Rattle.std.specs.Prelude.{ℕ, ◌+◌, ◌-◌, ◌^◌, nat_le, nat_lt, List, [], ◌∷◌, length, count_by, codes, Option, Some, None, option_map, option_and_then, Result, Ok, if◌then◌else◌}
-use Rattle.std.specs.Str.{bytes_eq}
+-- The commands of a match file: of which turn and which player each is, and in which order they stand.
+use Rattle.std.specs.Prelude.{ℕ, ◌+◌, nat_lt, List, [], ◌∷◌, count_by, Option, Some, None, option_and_then, Result, Ok, if◌then◌else◌}
 use Rattle.serde_json.specs.Data.{Data}
-use Rattle.serde_json.specs.Find.{as_str}
-use Rattle.sim_base.specs.declared.command.Command.{Command}
-use Rattle.sim_base.specs.declared.command.Command.TheVariants.{Delete}
 use Rattle.sim_base.specs.declared.setup.Timed.{Timed}
 use Rattle.sim_base.specs.Limits.{is_given}
 use Rattle.sim_json.specs.Values.{list_of, natural_in, front_two}
-use Rattle.sim_json.specs.Records.{next_or, records, numbered}
+use Rattle.sim_json.specs.Records.{next_or, numbered}
+use Rattle.sim_commands.specs.Commands.{command_of}
 use Rattle.sim_setup.specs.Refusals.{Refusal, coded, unless_at}
-
--- the id of an entity, be it there or not
-abbrev pub id_in : Data → Option ℕ
-id_in d = natural_in 0 (2 ^ 32 - 1) d
-
--- at most 256 ids
-abbrev pub ids_from : List Data → Option (List ℕ)
-ids_from ds = if nat_le (length ds) 256 then records (λ done. id_in) [] ds else None
-
--- ids from their list
-abbrev pub ids_of : Data → Option (List ℕ)
-ids_of d = option_and_then ids_from (list_of d)
-
--- to delete entities, what follows the kind is their ids
-abbrev pub delete_from : List Data → Option Command
-delete_from (ids ∷ []) = option_map Delete (ids_of ids)
-delete_from other = None
-
--- a command by its kind and what follows it
-abbrev pub command_by : List ℕ → List Data → Option Command
-command_by kind rest = if bytes_eq kind (codes "delete") then delete_from rest else None
-
--- a command from its kind on
-abbrev pub command_from : List Data → Option Command
-command_from [] = None
-command_from (kind ∷ rest) = next_or (as_str kind) None (λ kind. command_by kind rest)
 
 -- how many commands a player has in a turn
 abbrev pub crowd : ℕ → ℕ → List Timed → ℕ
@@ -48,7 +19,7 @@ if_room done timed = if nat_lt (crowd timed.turn timed.order.player done) 64 the
 -- a command of one of so many turns and players, beside those before it
 abbrev pub timed_from : ℕ → ℕ → List Timed → Data × Data × List Data → Option Timed
 timed_from turns players done p =
-    next_or (natural_in 1 turns p.0) None (λ turn. next_or (natural_in 1 players p.1) None (λ player. next_or (command_from p.2) None (λ command.
+    next_or (natural_in 1 turns p.0) None (λ turn. next_or (natural_in 1 players p.1) None (λ player. next_or (command_of p.2) None (λ command.
     if_room done (record { turn = turn; order = record { player = player; command = command } }))))
 
 -- a command from its list

@@ -10,5 +10,4 @@ pub mod Commands
 pub mod Setups
 pub mod Meets
 pub mod Crowds
-pub mod Quiet
 pub mod Laws

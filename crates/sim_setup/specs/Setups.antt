@@ -1,5 +1,5 @@
 -- The setup of a match file, or why it has none: the passes over the file, in the order of their codes.
-use Rattle.std.specs.Prelude.{ℕ, ◌-◌, List, length, codes, Result, Ok}
+use Rattle.std.specs.Prelude.{ℕ, ◌-◌, ◌==◌, List, length, codes, Result, Ok, Err, if◌then◌else◌}
 use Rattle.serde_json.specs.Data.{Data}
 use Rattle.md5.specs.Md5.{md5}
 use Rattle.sim_base.specs.declared.setup.Land.{Land}
@@ -8,7 +8,7 @@ use Rattle.sim_base.specs.declared.setup.Setup.{Setup}
 use Rattle.sim_json.specs.Values.{value_of, list_at}
 use Rattle.sim_setup.specs.declared.rules.Rules.{Rules}
 use Rattle.sim_setup.specs.declared.passes.Lists.{Lists}
-use Rattle.sim_setup.specs.Refusals.{Refusal, need, after, unless_at}
+use Rattle.sim_setup.specs.Refusals.{Refusal, refusal, need, after, unless_at}
 use Rattle.sim_setup.specs.Shape.{misplaced}
 use Rattle.sim_setup.specs.Ground.{land_in}
 use Rattle.sim_setup.specs.Rules.{rules_in}
@@ -66,3 +66,11 @@ setup_in id d = unless_at 2 (misplaced d) (after (sources_in d) (λ origins. lim
 -- the setup of the bytes of a file; its id is MD5 of them
 abbrev pub setup_of : List ℕ → Result Setup Refusal
 setup_of bytes = need 1 0 (value_of bytes) (setup_in (md5 bytes))
+
+-- code 11: a match of a session has no commands of its own
+abbrev pub without_commands : Setup → Result Setup Refusal
+without_commands setup = if length setup.commands == 0 then Ok setup else Err (refusal 11 0)
+
+-- the setup of the bytes of a file for a session
+abbrev pub session_setup_of : List ℕ → Result Setup Refusal
+session_setup_of bytes = after (setup_of bytes) without_commands

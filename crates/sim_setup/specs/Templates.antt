@@ -1,13 +1,12 @@
--- The templates of a match file: each source with all that it inherits, read as a template. So far none may move or
--- fight.
-use Rattle.std.specs.Prelude.{ℕ, ◌&&◌, nat_le, Bool, List, [], length, slice_get, position, filter_map, Option, Some, None, is_none, option_and_then, Result, Ok, Err, if◌then◌else◌}
+-- The templates of a match file: each source with all that it inherits, read as a template.
+use Rattle.std.specs.Prelude.{ℕ, ◌&&◌, nat_le, List, [], length, slice_get, position, filter_map, Option, Some, None, option_and_then, Result, Ok, if◌then◌else◌}
+use Rattle.std.specs.Result.{result_ok}
 use Rattle.sim_base.specs.declared.template.Template.{Template}
 use Rattle.sim_json.specs.Records.{numbered}
 use Rattle.sim_tree.specs.Trees.{Node}
 use Rattle.sim_tree.specs.Sources.{Origin}
 use Rattle.sim_merge.specs.Laying.{Laying}
 use Rattle.sim_merge.specs.Resolution.{names_in, are_distinct, parents_in, roots_in, is_orphan, members, numbers, is_endless, layings, is_missing, root_there}
-use Rattle.sim_traits.specs.declared.fault.TraitFault.{TraitFault}
 use Rattle.sim_traits.specs.Parts.{template_in}
 use Rattle.sim_setup.specs.Refusals.{Refusal, coded, unless_at}
 
@@ -33,18 +32,9 @@ roots_of origins =
     unless_at 4 (orphan_in origins)
     (unless_at 5 (endless_in (parents_in origins)) (roots_there (layings (parents_in origins) (roots_in origins))))
 
--- a template neither moves nor fights
-abbrev pub is_quiet : Template → Bool
-is_quiet template = is_none template.speed && is_none template.arms
-
--- a template that is read, where it is quiet
-abbrev pub if_quiet : Result Template TraitFault → Option Template
-if_quiet (Ok template) = if is_quiet template then Some template else None
-if_quiet (Err fault) = None
-
 -- the template of this number: of the source of that number, whose resolved tree stands at the same place
 unfoldable pub template_at : List (List ℕ) → List Node → ℕ → Origin → Option Template
-template_at names roots number origin = option_and_then (λ root. if_quiet (template_in origin.name root names)) (slice_get roots number)
+template_at names roots number origin = option_and_then (λ root. result_ok (template_in origin.name root names)) (slice_get roots number)
 
 -- the same, once all templates before it are read
 abbrev pub next_template : List (List ℕ) → List Node → List Template → Origin → Option Template

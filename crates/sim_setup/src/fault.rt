@@ -6,7 +6,7 @@ ghost use Rattle.sim_setup.specs.Meets.{Tells};
 use sim_base::OutOfMemory;
 use std::alloc::{AllocError, AllocFailed};
 
-/// Why bytes have no setup: a code from 1 to 10, with the place of a key or the number of an item; or memory was
+/// Why bytes have no setup: a code from 1 to 11, with the place of a key or the number of an item; or memory was
 /// refused.
 #[derive(Clone, Copy, Debug, PartialEq, Eq)]
 pub enum SetupFault {

@@ -3,9 +3,8 @@
 //!
 //! It promises that the answer is exactly that of its definition, that every setup meets the limits that the crates
 //! above count on, and that the index of a refusal is the least. It stands on `sim_base` for what a setup is, on
-//! `serde_json` for the text, on `md5` for the id of a match, on `sim_json` for values, and on `sim_tree`, `sim_merge`
-//! and `sim_traits` for templates. So far
-//! templates neither move nor fight, and commands delete.
+//! `serde_json` for the text, on `md5` for the id of a match, on `sim_json` for values, on `sim_tree`, `sim_merge` and
+//! `sim_traits` for templates, and on `sim_commands` for commands.
 //!
 //! One module has the passes of one code or key, in the order in which they run:
 //!
@@ -17,7 +16,7 @@
 //! - `templates`: code 7.
 //! - `entities`: codes 3 and 8.
 //! - `commands`, `crowd`: codes 9 and 10.
-//! - `passes`: all of them, one after another.
+//! - `passes`: all of them, one after another; and code 11.
 //! - `laws`: what the index of a refusal says of a list.
 #![tactic(auto)]
 
@@ -40,7 +39,7 @@ pub use laws::{
     command_index_is_least, entity_index_is_least, fall_index_is_least, source_index_is_least,
     template_index_is_least,
 };
-pub use passes::setup_of;
+pub use passes::{session_setup_of, setup_of};
 
 #[cfg(test)]
 mod tests;

@@ -1,17 +1,16 @@
 //! The passes over a match file, one after another in the order of their codes, so that the first code that applies is
 //! the answer.
 
-ghost use Rattle.std.specs.Prelude.{◌≡◌, ◌≢◌, ◌≤◌, true, None, All, map, length, IfOk, IfSome};
+ghost use Rattle.std.specs.Prelude.{◌≡◌, ◌≢◌, ◌≤◌, true, None, All, [], map, length, IfOk, IfSome};
 ghost use Rattle.serde_json.specs.View.{view};
 ghost use Rattle.sim_base.specs.Limits.{IsSetup, IsTemplate};
 ghost use Rattle.sim_merge.specs.Resolution.{names_in, origins_of, are_distinct};
 ghost use Rattle.sim_setup.specs.Meets.{Meets};
-ghost use Rattle.sim_setup.specs.Quiet.{IsQuietMatch};
 ghost use Rattle.sim_setup.specs.Entities.{entities_in as entities_in_data};
 ghost use Rattle.sim_setup.specs.Shape.{misplaced as misplaced_in};
 ghost use Rattle.sim_setup.specs.Sources.{IsReadySource};
 ghost use Rattle.sim_setup.specs.Templates.{few_sources};
-ghost use Rattle.sim_setup.specs.Setups.{players_of as players_of_land, commands_in as commands_in_data, items_in as items_in_data, lists_in as lists_in_data, setup_with as setup_with_parts, limits_in as limits_in_data, setup_in as setup_in_data, setup_of as setup_of_bytes};
+ghost use Rattle.sim_setup.specs.Setups.{players_of as players_of_land, commands_in as commands_in_data, items_in as items_in_data, lists_in as lists_in_data, setup_with as setup_with_parts, limits_in as limits_in_data, setup_in as setup_in_data, setup_of as setup_of_bytes, session_setup_of as session_setup_of_bytes};
 
 use crate::commands::{in_order, timeds_from};
 use crate::entities::{entities_in, firsts_from};
@@ -42,12 +41,26 @@ pub struct Lists {
 pub fn setup_of(alloc: Global, bytes: &[u8]) -> Result<Setup, SetupFault>
     ensures answers { Meets result (setup_of_bytes bytes.now) }
     ensures limits { IfOk result IsSetup }
-    ensures quiet { IfOk result IsQuietMatch }
 {
     let Some(value) = value_of(alloc, bytes)? else {
         return Err(SetupFault::Refused { code: 1, index: 0 });
     };
     setup_in(alloc, Md5::digest(bytes), &value)
+}
+
+/// The setup of the bytes of a match file for a session, whose commands come from its clients: one that has commands of
+/// its own is refused by code 11.
+pub fn session_setup_of(alloc: Global, bytes: &[u8]) -> Result<Setup, SetupFault>
+    ensures answers { Meets result (session_setup_of_bytes bytes.now) }
+    ensures limits { IfOk result IsSetup }
+    ensures none { IfOk result (λ setup. setup.commands ≡ []) }
+{
+    let setup = setup_of(alloc, bytes)?;
+    if setup.commands.as_slice().is_empty() {
+        Ok(setup)
+    } else {
+        Err(SetupFault::Refused { code: 11, index: 0 })
+    }
 }
 
 fn setup_in(alloc: Global, id: [u8; 16], value: &Value) -> Result<Setup, SetupFault>

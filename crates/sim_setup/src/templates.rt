@@ -1,12 +1,11 @@
-//! Code 7: the templates of resolved sources. A template that moves or fights is refused too, until there are moves and
-//! fights.
+//! Code 7: the templates of resolved sources.
 
-ghost use Rattle.std.specs.Prelude.{◌≡◌, ◌≢◌, ◌<◌, ◌≤◌, All, length, Some, None, if◌then◌else◌, IfOk, IfErr, IsErr, IfSome};
+ghost use Rattle.std.specs.Prelude.{◌≡◌, ◌≢◌, ◌<◌, ◌≤◌, All, length, Some, None, IfOk, IfErr, IsErr, IfSome};
 ghost use Rattle.sim_base.specs.Limits.{IsTemplate};
 ghost use Rattle.sim_tree.specs.Sources.{origin_of};
 ghost use Rattle.sim_merge.specs.Resolution.{names_in, origins_of};
 ghost use Rattle.sim_setup.specs.Meets.{Meets};
-ghost use Rattle.sim_setup.specs.Templates.{is_quiet as is_quiet_template, template_at as template_at_number, templates_from as templates_from_sources};
+ghost use Rattle.sim_setup.specs.Templates.{template_at as template_at_number, templates_from as templates_from_sources};
 
 use crate::fault::{SetupFault, refused};
 use sim_base::{OutOfMemory, Template, Templates};
@@ -50,27 +49,15 @@ fn template_at(
     template_read(template_of(alloc, &source.name, library.tree(number), library))
 }
 
-// What is read of a tree: every refusal of a template is one answer, and so is a template that moves or fights.
+// What is read of a tree: every refusal of a template is one answer.
 fn template_read(read: Result<Template, TraitFault>) -> Result<Option<Template>, OutOfMemory>
-    ensures ok { IfOk read (λ template. result ≡ Ok (if is_quiet_template template then Some template else None)) }
+    ensures ok { IfOk read (λ template. result ≡ Ok (Some template)) }
     ensures refused { IfErr read (λ fault. fault ≢ TraitFault.OutOfMemory → result ≡ Ok None) }
     ensures memory { IfErr read (λ fault. fault ≡ TraitFault.OutOfMemory → IsErr result) }
 {
     match read {
-        Ok(template) => {
-            if is_quiet(&template) {
-                Ok(Some(template))
-            } else {
-                Ok(None)
-            }
-        }
+        Ok(template) => Ok(Some(template)),
         Err(TraitFault::OutOfMemory) => Err(OutOfMemory),
         Err(_) => Ok(None),
     }
-}
-
-fn is_quiet(template: &Template) -> bool
-    ensures { result ≡ is_quiet_template template.now }
-{
-    template.speed.is_none() && template.arms.is_none()
 }

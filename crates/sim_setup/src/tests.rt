@@ -2,8 +2,8 @@
 //! program's answers.
 
 use crate::{
-    SetupFault, command_index_is_least, entity_index_is_least, fall_index_is_least, setup_of,
-    source_index_is_least, template_index_is_least,
+    SetupFault, command_index_is_least, entity_index_is_least, fall_index_is_least,
+    session_setup_of, setup_of, source_index_is_least, template_index_is_least,
 };
 use std::alloc::{AllocError, Global};
 use std::test::Fail;
@@ -207,7 +207,7 @@ fn keeps_the_last_of_two_members(rt: HostRuntime) -> Result<(), Fail> {
 }
 
 // A key, its value, and the code and index that refuse it.
-static CASES: [(&str, &str, u8, u32); 68] = [
+static CASES: [(&str, &str, u8, u32); 74] = [
     ("size", "[4,4,4]", 2, 0),
     ("size", "[4,4.0]", 2, 0),
     ("size", "null", 2, 0),
@@ -283,6 +283,12 @@ static CASES: [(&str, &str, u8, u32); 68] = [
     ("entities", r#"[["post",1,1,1],["post",1,1,1,1]]"#, 8, 1),
     ("entities", r#"[["post",0,3,3],5]"#, 8, 1),
     ("commands", r#"[[1,1,"walk",[2,3,2]]]"#, 9, 0),
+    ("commands", r#"[[1,1,"walk",[2],"6.5"]]"#, 9, 0),
+    ("commands", r#"[[1,1,"resign"],[1,1,"stop"]]"#, 9, 1),
+    ("commands", r#"[[1,1,"attack",[],-1]]"#, 9, 0),
+    ("commands", r#"[[1,1,"place",65536,0,0]]"#, 9, 0),
+    ("commands", r#"[[1,1,"train",7,"post"]]"#, 9, 0),
+    ("commands", r#"[[1,1,"resign",[]]]"#, 9, 0),
     ("commands", r#"[[0,1,"delete",[]]]"#, 9, 0),
     ("commands", r#"[[3,1,"delete",[]]]"#, 9, 0),
     ("commands", r#"[[1,0,"delete",[]]]"#, 9, 0),
@@ -323,12 +329,13 @@ fn each_key_refuses_values_by_its_code(rt: HostRuntime) -> Result<(), Fail> {
 }
 
 // Lists of as many items as there may be, what stands around them, and the code and index that refuse one more.
-static LONGEST: [(&str, &str, &str, &str, usize, u8, u32); 5] = [
+static LONGEST: [(&str, &str, &str, &str, usize, u8, u32); 6] = [
     ("closed", "", "[0,0,3,3]", "", 4096, 3, 1),
     ("players", "", "[]", "", 8, 3, 2),
     ("entities", "", r#"["post",1,1,1]"#, "", 4096, 3, 8),
     ("commands", "", r#"[1,1,"delete",[]]"#, "", 64, 9, 64),
     ("commands", r#"[[1,1,"delete","#, "2", "]]", 256, 9, 0),
+    ("commands", r#"[[1,1,"walk","#, "2", ",1,1]]", 256, 9, 0),
 ];
 
 #[test]
@@ -358,7 +365,7 @@ fn one_item_more_than_the_most_is_refused(rt: HostRuntime) -> Result<(), Fail> {
 }
 
 // Templates, and the code and index that refuse them; code 0 where there is a setup.
-static TEMPLATES: [(&str, u8, u32); 40] = [
+static TEMPLATES: [(&str, u8, u32); 41] = [
     ("null", 2, 16),
     (r#"{"Health":{"Max":50}}"#, 2, 16),
     (r#"{"@name":"po st"}"#, 2, 16),
@@ -417,16 +424,20 @@ static TEMPLATES: [(&str, u8, u32); 40] = [
         6,
         1,
     ),
-    (r#"{"@name":"a","Motion":{"Speed":9}}"#, 7, 0),
     (
-        r#"{"@name":"a","Attack":{"Range":1,"Vision":1,"Repeat":0}}"#,
+        r#"{"@name":"a"},{"@name":"b","Motion":{"Speed":9},"Obstruct":{"Width":1,"Depth":1}}"#,
+        7,
+        1,
+    ),
+    (
+        r#"{"@name":"a","Attack":{"Range":1,"Vision":1,"Repeat":1001}}"#,
         7,
         0,
     ),
     (
         r#"{"@name":"a"},{"@name":"b","Motion":{"Speed":9}},{"@name":"c","@parent":"b","Motion":{"@disable":1},"Health":5}"#,
         7,
-        1,
+        2,
     ),
     (
         r#"{"@name":"a"},{"@name":"b","Health":5},{"@name":"c","Motion":{"Speed":9}}"#,
@@ -444,6 +455,11 @@ static TEMPLATES: [(&str, u8, u32); 40] = [
     (r#"{"@name":"a","Obstruct":{"Width":17,"Depth":1}}"#, 7, 0),
     (r#"{"@name":"a","Train":{"Units":"a b"}}"#, 7, 0),
     (r#"{"@name":"a"}"#, 0, 0),
+    (
+        r#"{"@name":"a","Motion":{"Speed":9},"Attack":{"Range":1,"Vision":1,"Repeat":0}}"#,
+        0,
+        0,
+    ),
     (
         r#"{"@name":"a","Train":{"Units":" b a  a"}},{"@name":"b"}"#,
         0,
@@ -625,6 +641,52 @@ fn reads_units_that_are_removed_and_added(rt: HostRuntime) -> Result<(), Fail> {
     }
     let units_read = "Some(Items { items: [0, 1, 0] });Some(Items { items: [1, 2] });None;";
     assert_eq!(rt; units.as_str(), units_read);
+    Ok(())
+}
+
+#[test]
+fn reads_commands_of_each_kind(rt: HostRuntime) -> Result<(), Fail> {
+    let alloc = rt.alloc();
+    let text = posts_with(
+        alloc,
+        "commands",
+        r#"[[1,1,"walk",[2,2],"6.5",-2],[1,1,"stop",[]],[1,2,"attack",[4294967295],0],[2,2,"delete",[0]],[2,1,"place",65535,"0.5",0],[2,1,"train",7,3],[2,2,"resign"]]"#,
+    )?;
+    let Ok(setup) = setup_of(alloc, text.as_bytes()) else {
+        panic!(&rt; "refused");
+    };
+    let wanted = [
+        "Timed { turn: 1, order: PlayerCommand { player: 1, command: Walk { ids: Items { items: [2, 2] }, to: Point { x: Fixed(425984), z: Fixed(-131072) } } } }",
+        "Timed { turn: 1, order: PlayerCommand { player: 1, command: Stop { ids: Items { items: [] } } } }",
+        "Timed { turn: 1, order: PlayerCommand { player: 2, command: Attack { ids: Items { items: [4294967295] }, target: 0 } } }",
+        "Timed { turn: 2, order: PlayerCommand { player: 2, command: Delete { ids: Items { items: [0] } } } }",
+        "Timed { turn: 2, order: PlayerCommand { player: 1, command: Place { template: 65535, at: Point { x: Fixed(32768), z: Fixed(0) } } } }",
+        "Timed { turn: 2, order: PlayerCommand { player: 1, command: Train { building: 7, template: 3 } } }",
+        "Timed { turn: 2, order: PlayerCommand { player: 2, command: Resign } }",
+    ];
+    let commands = setup.commands.as_slice();
+    assert_eq!(rt; commands.len(), wanted.len());
+    for (timed, wanted) in commands.iter().zip(wanted) {
+        let read = format!(in alloc; "{timed:?}")?;
+        assert_eq!(rt; read.as_str(), wanted);
+    }
+    Ok(())
+}
+
+#[test]
+fn a_session_has_no_commands_of_its_own(rt: HostRuntime) -> Result<(), Fail> {
+    let alloc = rt.alloc();
+    let cases = [
+        ("[]", None),
+        (r#"[[2,1,"resign"]]"#, refused(11, 0)),
+        (r#"[[2,1,"resign"],[1,1,"resign"]]"#, refused(10, 1)),
+        ("[[]]", refused(9, 0)),
+    ];
+    for (commands, wanted) in cases {
+        let text = posts_with(alloc, "commands", commands)?;
+        let answer = session_setup_of(alloc, text.as_bytes()).err();
+        assert_eq!(rt; answer, wanted, "at {commands}");
+    }
     Ok(())
 }
 

@@ -1,12 +1,6 @@
-pub mod Quiet
-pub mod QuietPhases
-pub mod QuietDeletes
-pub mod QuietStart
-pub mod OrdersAhead
-pub mod PlayLines
-pub mod ValidStates
 pub mod Stopping
 pub mod Finishing
 pub mod Completeness
 pub mod Counting
 pub mod Ending
+pub mod Playing

@@ -1,5 +1,3 @@
-pub mod Quiet
-pub mod Lines
 pub mod Words
 pub mod Reads
 pub mod Outcome
@@ -7,3 +5,4 @@ pub mod Answers
 pub mod Readiness
 pub mod Stops
 pub mod Making
+pub mod Rigs

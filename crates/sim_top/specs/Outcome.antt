@@ -25,7 +25,7 @@ use Rattle.sim_report.specs.Places.{place_text}
 use Rattle.sim_diff.specs.Difference.{difference_of}
 use Rattle.sim_diff.specs.declared.place.Place.{Place}
 use Rattle.sim_top.specs.Words.{Asked, to_play, to_store, to_resume, to_show, to_compare, to_serve, asked_by}
-use Rattle.sim_top.specs.Lines.{play_text, resume_text}
+use Rattle.sim_play.specs.Lines.{play_text, resume_text}
 use Rattle.sim_top.specs.declared.status.Status.{Status}
 use Rattle.sim_top.specs.declared.status.Status.TheVariants.{Done, Differs, Usage, ReadFault, TooLong, MatchRefused, StateRefused, ListRefused, NoSuchTurn, NoFile}
 

@@ -1,37 +1,40 @@
 //! What each command makes of its files: the whole text that it prints, and the bytes of the file that it saves. Nothing
 //! is written here.
 
-ghost use Rattle.std.specs.Prelude.{◌≡◌, ◌<◌, ◌≤◌, List, IsTrue, IfSome, IfOk, IfErr, Some, None, length, string_bytes};
-ghost use Rattle.sim_base.specs.Limits.{IsSetup, row_limit};
+ghost use Rattle.std.specs.Prelude.{◌≡◌, ◌<◌, List, IsTrue, IfSome, IfOk, IfErr, OnOk, OnErr, Err, Some, None, length, string_bytes};
+ghost use Rattle.sim_base.specs.Limits.{IsSetup};
+ghost use Rattle.sim_base.specs.Turn.{first_state, after, own_turns};
 ghost use Rattle.sim_base.specs.Validity.{IsValid};
 ghost use Rattle.sim_base.specs.Spelling.{spelling, digest as digest_of};
 ghost use Rattle.sim_report.specs.Lines.{saved_line};
 ghost use Rattle.sim_report.specs.Show.{show_text as text_of_show};
-ghost use Rattle.sim_setup.specs.Quiet.{IsQuietMatch};
 ghost use Rattle.sim_store.specs.Counts.{after_giving};
 ghost use Rattle.sim_store.specs.Files.{File, file_in};
 ghost use Rattle.sim_top.specs.Words.{Asked, to_play, to_store, to_resume, to_show, to_compare, to_serve, asked, out_of, is_comparison, loads_state};
 ghost use Rattle.sim_top.specs.Reads.{game_of, length_in, length_read};
-ghost use Rattle.sim_top.specs.Lines.{play_text as text_of_play, resume_text as text_of_resume};
+ghost use Rattle.sim_play.specs.Lines.{play_text as text_of_play, resume_text as text_of_resume, end_from};
+ghost use Rattle.sim_system.specs.Meanings.{HaveKinds, AreFed, AreBuiltOnceAtMost};
+ghost use Rattle.sim_system.specs.RigWords.{systems_of};
 ghost use Rattle.sim_diff.specs.Difference.{difference_of};
-ghost use Rattle.sim_top.specs.Outcome.{IsOutcomeOf, bytes_in, store_outcome, compare_by, IsCompared};
+ghost use Rattle.sim_top.specs.Outcome.{IsOutcomeOf, bytes_in, printed as printed_as, stored_at as stored_outcome, store_outcome, compare_by, IsCompared};
 ghost use Rattle.sim_top.specs.Answers.{MayAnswer};
-ghost use Rattle.sim_top.specs.Quiet.{AreQuiet};
+ghost use Rattle.sim_top.specs.Rigs.{RigStands};
 ghost use Rattle.sim_top.specs.Stops.{CausesOf, IsOfTurn, IsMissed};
 ghost use Rattle.sim_top.specs.Making.{Makes, IsSavedAs, IsFinished, outcome_made, status_made};
 
 use crate::inputs::{read_match, read_schedule, read_state};
-use crate::play::{push_turns, state_at};
-use crate::posts::first_state;
 use crate::status::Status;
 use crate::stop::Stop;
 use crate::words::Request;
 use sim_base::{OutOfMemory, Setup, State};
 use sim_codec::{digest, spell};
 use sim_diff::difference;
+use sim_orders::OrderTable;
+use sim_play::{play_text, resume_text, state_at};
 use sim_report::{push_place, push_saved, push_show};
 use sim_serve::served_text;
 use sim_store::Shelf;
+use sim_system::{Rig, System};
 use std::alloc::Global;
 
 /// A file that is to be written.
@@ -54,39 +57,77 @@ pub fn answer_to<'w, S: Shelf>(
     alloc: Global,
     request: Request<'w>,
     shelf: &mut S,
-) -> Result<Answer<'w>, Stop<'w>>
-    ensures answers { IfSome (S.held shelf.old) (λ files. Makes result (IsOutcomeOf files (Some (asked request.entry)))) }
-    ensures saved { IfOk result (λ answer. IsSavedAs (out_of (Some (asked request.entry))) answer.saved) }
-    ensures done { IfOk result (λ answer. IsFinished answer.saved answer.status) }
-    ensures causes { CausesOf result (S.counts shelf.old) (S.counts shelf.new) }
-    ensures statuses { MayAnswer (asked request.entry) (status_made result) }
-    ensures missing { (files : List File) → S.held shelf.old ≡ Some files → file_in files (game_of (asked request.entry)) ≡ None → IsMissed result }
-    ensures given { (files : List File) → S.held shelf.old ≡ Some files → IfOk result (λ _. S.counts shelf.new ≡ after_giving (length_read files (asked request.entry)) (S.counts shelf.old)) }
+    rig: Rig,
+    orders: &OrderTable,
+) -> (Result<Answer<'w>, Stop<'w>>, Rig)
+    requires { HaveKinds (systems_of rig ⟦<dyn System as System>⟧) }
+    ensures answers { IfSome (S.held shelf.old) (λ files. Makes result.0 (IsOutcomeOf files (Some (asked request.entry)))) }
+    ensures saved { IfOk result.0 (λ answer. IsSavedAs (out_of (Some (asked request.entry))) answer.saved) }
+    ensures done { IfOk result.0 (λ answer. IsFinished answer.saved answer.status) }
+    ensures causes { CausesOf result.0 (S.counts shelf.old) (S.counts shelf.new) }
+    ensures statuses { MayAnswer (asked request.entry) (status_made result.0) }
+    ensures missing { (files : List File) → S.held shelf.old ≡ Some files → file_in files (game_of (asked request.entry)) ≡ None → IsMissed result.0 }
+    ensures given { (files : List File) → S.held shelf.old ≡ Some files → IfOk result.0 (λ _. S.counts shelf.new ≡ after_giving (length_read files (asked request.entry)) (S.counts shelf.old)) }
     ensures held { S.held shelf.new ≡ S.held shelf.old }
+    ensures stands { IfSome (S.held shelf.old) (λ files. OnOk result.0 (RigStands files (Some (asked request.entry)) (systems_of rig ⟦<dyn System as System>⟧) (systems_of result.1 ⟦<dyn System as System>⟧))) }
+    ensures kinds { HaveKinds (systems_of result.1 ⟦<dyn System as System>⟧) }
+    ensures most { AreBuiltOnceAtMost (systems_of rig ⟦<dyn System as System>⟧) (systems_of result.1 ⟦<dyn System as System>⟧) }
 {
     match request {
-        Request::Play { game } => play(alloc, shelf, game),
-        Request::State { game, turn, out } => store(alloc, shelf, game, turn, out),
-        Request::Resume { game, stored } => resume(alloc, shelf, game, stored),
-        Request::Show { game, stored } => show(alloc, shelf, game, stored),
-        Request::Compare { game, left, right } => compare(alloc, shelf, game, left, right),
-        Request::Serve { schedule } => serve(alloc, shelf, schedule),
+        Request::Play { game } => play(alloc, shelf, game, rig, orders),
+        Request::State { game, turn, out } => store(alloc, shelf, game, turn, out, rig, orders),
+        Request::Resume { game, stored } => resume(alloc, shelf, game, stored, rig, orders),
+        Request::Show { game, stored } => (show(alloc, shelf, game, stored), rig),
+        Request::Compare { game, left, right } => (compare(alloc, shelf, game, left, right), rig),
+        Request::Serve { schedule } => (serve(alloc, shelf, schedule), rig),
     }
 }
 
-fn play<'w, S: Shelf>(alloc: Global, shelf: &mut S, game: &'w str) -> Result<Answer<'w>, Stop<'w>>
-    ensures answers { IfSome (S.held shelf.old) (λ files. Makes result (IsOutcomeOf files (Some (to_play game.now)))) }
-    ensures saved { IfOk result (λ answer. answer.saved ≡ None) }
-    ensures done { IfOk result (λ answer. IsFinished answer.saved answer.status) }
-    ensures causes { CausesOf result (S.counts shelf.old) (S.counts shelf.new) }
-    ensures statuses { MayAnswer (to_play game.now) (status_made result) }
-    ensures missing { (files : List File) → S.held shelf.old ≡ Some files → file_in files game.now ≡ None → IsMissed result }
-    ensures given { (files : List File) → S.held shelf.old ≡ Some files → IfOk result (λ _. S.counts shelf.new ≡ after_giving (length_read files (to_play game.now)) (S.counts shelf.old)) }
+fn play<'w, S: Shelf>(
+    alloc: Global,
+    shelf: &mut S,
+    game: &'w str,
+    rig: Rig,
+    orders: &OrderTable,
+) -> (Result<Answer<'w>, Stop<'w>>, Rig)
+    requires { HaveKinds (systems_of rig ⟦<dyn System as System>⟧) }
+    ensures answers { IfSome (S.held shelf.old) (λ files. Makes result.0 (IsOutcomeOf files (Some (to_play game.now)))) }
+    ensures saved { IfOk result.0 (λ answer. answer.saved ≡ None) }
+    ensures done { IfOk result.0 (λ answer. IsFinished answer.saved answer.status) }
+    ensures causes { CausesOf result.0 (S.counts shelf.old) (S.counts shelf.new) }
+    ensures statuses { MayAnswer (to_play game.now) (status_made result.0) }
+    ensures missing { (files : List File) → S.held shelf.old ≡ Some files → file_in files game.now ≡ None → IsMissed result.0 }
+    ensures given { (files : List File) → S.held shelf.old ≡ Some files → IfOk result.0 (λ _. S.counts shelf.new ≡ after_giving (length_read files (to_play game.now)) (S.counts shelf.old)) }
     ensures held { S.held shelf.new ≡ S.held shelf.old }
+    ensures stands { IfSome (S.held shelf.old) (λ files. OnOk result.0 (RigStands files (Some (to_play game.now)) (systems_of rig ⟦<dyn System as System>⟧) (systems_of result.1 ⟦<dyn System as System>⟧))) }
+    ensures kinds { HaveKinds (systems_of result.1 ⟦<dyn System as System>⟧) }
+    ensures most { AreBuiltOnceAtMost (systems_of rig ⟦<dyn System as System>⟧) (systems_of result.1 ⟦<dyn System as System>⟧) }
 {
-    let setup = read_match(alloc, shelf, game)?;
-    let text = play_text(alloc, &setup)?;
-    Ok(printed(text))
+    match read_match(alloc, shelf, game) {
+        Ok(setup) => play_match(alloc, &setup, rig, orders),
+        Err(stop) => (Err(stop), rig),
+    }
+}
+
+// Plays a match that was read.
+fn play_match<'w>(
+    alloc: Global,
+    setup: &Setup,
+    rig: Rig,
+    orders: &OrderTable,
+) -> (Result<Answer<'w>, Stop<'w>>, Rig)
+    requires limits { IsSetup setup.now }
+    requires kinds { HaveKinds (systems_of rig ⟦<dyn System as System>⟧) }
+    ensures answers { Makes result.0 (λ wanted. wanted ≡ printed_as Status.Done (text_of_play setup.now)) }
+    ensures stops { IfErr result.0 IsOfTurn }
+    ensures saved { IfOk result.0 (λ answer. answer.saved ≡ None) }
+    ensures done { IfOk result.0 (λ answer. answer.status ≡ Status.Done) }
+    ensures fed { OnOk result.0 (AreFed setup.now (end_from setup.now (first_state setup.now)) (systems_of result.1 ⟦<dyn System as System>⟧)) }
+    ensures kinds { HaveKinds (systems_of result.1 ⟦<dyn System as System>⟧) }
+    ensures most { AreBuiltOnceAtMost (systems_of rig ⟦<dyn System as System>⟧) (systems_of result.1 ⟦<dyn System as System>⟧) }
+{
+    let (text, rig) = play_text(alloc, setup, rig, orders);
+    (shown(text), rig)
 }
 
 fn store<'w, S: Shelf>(
@@ -95,18 +136,26 @@ fn store<'w, S: Shelf>(
     game: &'w str,
     turn: u32,
     out: &'w str,
-) -> Result<Answer<'w>, Stop<'w>>
-    ensures answers { IfSome (S.held shelf.old) (λ files. Makes result (IsOutcomeOf files (Some (to_store game.now turn out.now)))) }
-    ensures saved { IfOk result (λ answer. IsSavedAs (Some out.now) answer.saved) }
-    ensures done { IfOk result (λ answer. IsFinished answer.saved answer.status) }
-    ensures causes { CausesOf result (S.counts shelf.old) (S.counts shelf.new) }
-    ensures statuses { MayAnswer (to_store game.now turn out.now) (status_made result) }
-    ensures missing { (files : List File) → S.held shelf.old ≡ Some files → file_in files game.now ≡ None → IsMissed result }
-    ensures given { (files : List File) → S.held shelf.old ≡ Some files → IfOk result (λ _. S.counts shelf.new ≡ after_giving (length_read files (to_store game.now turn out.now)) (S.counts shelf.old)) }
+    rig: Rig,
+    orders: &OrderTable,
+) -> (Result<Answer<'w>, Stop<'w>>, Rig)
+    requires { HaveKinds (systems_of rig ⟦<dyn System as System>⟧) }
+    ensures answers { IfSome (S.held shelf.old) (λ files. Makes result.0 (IsOutcomeOf files (Some (to_store game.now turn out.now)))) }
+    ensures saved { IfOk result.0 (λ answer. IsSavedAs (Some out.now) answer.saved) }
+    ensures done { IfOk result.0 (λ answer. IsFinished answer.saved answer.status) }
+    ensures causes { CausesOf result.0 (S.counts shelf.old) (S.counts shelf.new) }
+    ensures statuses { MayAnswer (to_store game.now turn out.now) (status_made result.0) }
+    ensures missing { (files : List File) → S.held shelf.old ≡ Some files → file_in files game.now ≡ None → IsMissed result.0 }
+    ensures given { (files : List File) → S.held shelf.old ≡ Some files → IfOk result.0 (λ _. S.counts shelf.new ≡ after_giving (length_read files (to_store game.now turn out.now)) (S.counts shelf.old)) }
     ensures held { S.held shelf.new ≡ S.held shelf.old }
+    ensures stands { IfSome (S.held shelf.old) (λ files. OnOk result.0 (RigStands files (Some (to_store game.now turn out.now)) (systems_of rig ⟦<dyn System as System>⟧) (systems_of result.1 ⟦<dyn System as System>⟧))) }
+    ensures kinds { HaveKinds (systems_of result.1 ⟦<dyn System as System>⟧) }
+    ensures most { AreBuiltOnceAtMost (systems_of rig ⟦<dyn System as System>⟧) (systems_of result.1 ⟦<dyn System as System>⟧) }
 {
-    let setup = read_match(alloc, shelf, game)?;
-    stored_at(alloc, &setup, turn, out)
+    match read_match(alloc, shelf, game) {
+        Ok(setup) => stored_at(alloc, &setup, turn, out, rig, orders),
+        Err(stop) => (Err(stop), rig),
+    }
 }
 
 // Stores the state of a turn. One past the end of the match takes no memory to refuse.
@@ -115,22 +164,46 @@ fn stored_at<'w>(
     setup: &Setup,
     turn: u32,
     out: &'w str,
-) -> Result<Answer<'w>, Stop<'w>>
+    rig: Rig,
+    orders: &OrderTable,
+) -> (Result<Answer<'w>, Stop<'w>>, Rig)
     requires limits { IsSetup setup.now }
-    requires quiet_match { IsQuietMatch setup.now }
-    ensures answers { Makes result (λ wanted. wanted ≡ store_outcome setup.now turn out.now) }
-    ensures past { setup.now.turns < turn → result ≡ Err (Stop.NoSuchTurn turn setup.now.turns) }
-    ensures stops { IfErr result IsOfTurn }
+    requires kinds { HaveKinds (systems_of rig ⟦<dyn System as System>⟧) }
+    ensures answers { Makes result.0 (λ wanted. wanted ≡ store_outcome setup.now turn out.now) }
+    ensures past { setup.now.turns < turn → result.0 ≡ Err (Stop.NoSuchTurn turn setup.now.turns) }
+    ensures stops { IfErr result.0 IsOfTurn }
+    ensures saved { IfOk result.0 (λ answer. IsSavedAs (Some out.now) answer.saved) }
+    ensures done { IfOk result.0 (λ answer. answer.status ≡ Status.Done) }
+    ensures fed { OnOk result.0 (AreFed setup.now (after setup.now (own_turns setup.now 0 turn)) (systems_of result.1 ⟦<dyn System as System>⟧)) }
+    ensures kinds { HaveKinds (systems_of result.1 ⟦<dyn System as System>⟧) }
+    ensures most { AreBuiltOnceAtMost (systems_of rig ⟦<dyn System as System>⟧) (systems_of result.1 ⟦<dyn System as System>⟧) }
+{
+    if turn > setup.turns {
+        let stop = Stop::NoSuchTurn {
+            asked: turn,
+            turns: setup.turns,
+        };
+        return (Err(stop), rig);
+    }
+    let (state, rig) = state_at(alloc, setup, turn, rig, orders);
+    (kept_state(alloc, setup, state, out), rig)
+}
+
+// The state of a turn as a file and its line, if there was memory for it.
+fn kept_state<'w>(
+    alloc: Global,
+    setup: &Setup,
+    state: Result<State, OutOfMemory>,
+    out: &'w str,
+) -> Result<Answer<'w>, Stop<'w>>
+    requires { IfOk state (IsValid setup.now) }
+    ensures made { IfOk result (λ answer. IfOk state (λ state. outcome_made answer ≡ stored_outcome setup.now state.turn out.now state)) }
+    ensures stops { IfErr result (λ stop. stop ≡ Stop.OutOfMemory) }
+    ensures refused { OnErr state (result ≡ Err Stop.OutOfMemory) }
     ensures saved { IfOk result (λ answer. IsSavedAs (Some out.now) answer.saved) }
     ensures done { IfOk result (λ answer. answer.status ≡ Status.Done) }
 {
-    if turn > setup.turns {
-        return Err(Stop::NoSuchTurn {
-            asked: turn,
-            turns: setup.turns,
-        });
-    }
-    let state = state_at(alloc, setup, turn)?;
+    let state = state?;
     let (bytes, text) = stored(alloc, setup, &state)?;
     Ok(Answer {
         status: Status::Done,
@@ -144,21 +217,63 @@ fn resume<'w, S: Shelf>(
     shelf: &mut S,
     game: &'w str,
     name: &'w str,
-) -> Result<Answer<'w>, Stop<'w>>
-    ensures answers { IfSome (S.held shelf.old) (λ files. Makes result (IsOutcomeOf files (Some (to_resume game.now name.now)))) }
-    ensures saved { IfOk result (λ answer. answer.saved ≡ None) }
-    ensures done { IfOk result (λ answer. IsFinished answer.saved answer.status) }
-    ensures causes { CausesOf result (S.counts shelf.old) (S.counts shelf.new) }
-    ensures statuses { MayAnswer (to_resume game.now name.now) (status_made result) }
-    ensures missing { (files : List File) → S.held shelf.old ≡ Some files → file_in files game.now ≡ None → IsMissed result }
-    ensures given { (files : List File) → S.held shelf.old ≡ Some files → IfOk result (λ _. S.counts shelf.new ≡ after_giving (length_read files (to_resume game.now name.now)) (S.counts shelf.old)) }
+    rig: Rig,
+    orders: &OrderTable,
+) -> (Result<Answer<'w>, Stop<'w>>, Rig)
+    requires { HaveKinds (systems_of rig ⟦<dyn System as System>⟧) }
+    ensures answers { IfSome (S.held shelf.old) (λ files. Makes result.0 (IsOutcomeOf files (Some (to_resume game.now name.now)))) }
+    ensures saved { IfOk result.0 (λ answer. answer.saved ≡ None) }
+    ensures done { IfOk result.0 (λ answer. IsFinished answer.saved answer.status) }
+    ensures causes { CausesOf result.0 (S.counts shelf.old) (S.counts shelf.new) }
+    ensures statuses { MayAnswer (to_resume game.now name.now) (status_made result.0) }
+    ensures missing { (files : List File) → S.held shelf.old ≡ Some files → file_in files game.now ≡ None → IsMissed result.0 }
+    ensures given { (files : List File) → S.held shelf.old ≡ Some files → IfOk result.0 (λ _. S.counts shelf.new ≡ after_giving (length_read files (to_resume game.now name.now)) (S.counts shelf.old)) }
     ensures held { S.held shelf.new ≡ S.held shelf.old }
+    ensures stands { IfSome (S.held shelf.old) (λ files. OnOk result.0 (RigStands files (Some (to_resume game.now name.now)) (systems_of rig ⟦<dyn System as System>⟧) (systems_of result.1 ⟦<dyn System as System>⟧))) }
+    ensures kinds { HaveKinds (systems_of result.1 ⟦<dyn System as System>⟧) }
+    ensures most { AreBuiltOnceAtMost (systems_of rig ⟦<dyn System as System>⟧) (systems_of result.1 ⟦<dyn System as System>⟧) }
 {
-    let setup = read_match(alloc, shelf, game)?;
-    match read_state(alloc, shelf, &setup, name) {
-        Ok(state) => Ok(printed(resume_text(alloc, &setup, state)?)),
-        Err(stop) => Err(stop),
+    match read_match(alloc, shelf, game) {
+        Ok(setup) => match read_state(alloc, shelf, &setup, name) {
+            Ok(state) => resume_match(alloc, &setup, state, rig, orders),
+            Err(stop) => (Err(stop), rig),
+        },
+        Err(stop) => (Err(stop), rig),
     }
+}
+
+// Plays a match on from a state that was read.
+fn resume_match<'w>(
+    alloc: Global,
+    setup: &Setup,
+    state: State,
+    rig: Rig,
+    orders: &OrderTable,
+) -> (Result<Answer<'w>, Stop<'w>>, Rig)
+    requires limits { IsSetup setup.now }
+    requires valid { IsValid setup.now state }
+    requires kinds { HaveKinds (systems_of rig ⟦<dyn System as System>⟧) }
+    ensures answers { Makes result.0 (λ wanted. wanted ≡ printed_as Status.Done (text_of_resume setup.now state)) }
+    ensures stops { IfErr result.0 IsOfTurn }
+    ensures saved { IfOk result.0 (λ answer. answer.saved ≡ None) }
+    ensures done { IfOk result.0 (λ answer. answer.status ≡ Status.Done) }
+    ensures fed { OnOk result.0 (AreFed setup.now (end_from setup.now state) (systems_of result.1 ⟦<dyn System as System>⟧)) }
+    ensures kinds { HaveKinds (systems_of result.1 ⟦<dyn System as System>⟧) }
+    ensures most { AreBuiltOnceAtMost (systems_of rig ⟦<dyn System as System>⟧) (systems_of result.1 ⟦<dyn System as System>⟧) }
+{
+    let (text, rig) = resume_text(alloc, setup, state, rig, orders);
+    (shown(text), rig)
+}
+
+// A text alone, if there was memory for it.
+fn shown<'w>(text: Result<String, OutOfMemory>) -> Result<Answer<'w>, Stop<'w>>
+    ensures made { IfOk result (λ answer. IfOk text (λ text. outcome_made answer ≡ printed_as Status.Done (string_bytes text))) }
+    ensures stops { IfErr result (λ stop. stop ≡ Stop.OutOfMemory) }
+    ensures refused { OnErr text (result ≡ Err Stop.OutOfMemory) }
+    ensures saved { IfOk result (λ answer. answer.saved ≡ None) }
+    ensures done { IfOk result (λ answer. answer.status ≡ Status.Done) }
+{
+    Ok(printed(text?))
 }
 
 fn show<'w, S: Shelf>(
@@ -288,21 +403,9 @@ fn printed<'w>(text: String) -> Answer<'w>
     }
 }
 
-fn play_text(alloc: Global, setup: &Setup) -> Result<String, OutOfMemory>
-    requires limits { IsSetup setup.now }
-    requires quiet_match { IsQuietMatch setup.now }
-    ensures { IfOk result (λ text. string_bytes text ≡ text_of_play setup.now) }
-{
-    let start = first_state(alloc, setup)?;
-    let mut text = String::new(alloc);
-    push_turns(alloc, setup, start, &mut text)?;
-    Ok(text)
-}
-
 // The bytes of a state, and the line that is printed of it.
 fn stored(alloc: Global, setup: &Setup, state: &State) -> Result<(Vec<u8>, String), OutOfMemory>
-    requires few { length state.now.rows ≤ row_limit }
-    requires quiet { AreQuiet 2 state.now.rows }
+    requires { IsValid setup.now state.now }
     ensures bytes { IfOk result (λ made. made.0.items ≡ spelling setup.now state.now) }
     ensures text { IfOk result (λ made. string_bytes made.1 ≡ saved_line state.now.turn (length (spelling setup.now state.now)) (digest_of setup.now state.now)) }
 {
@@ -310,17 +413,6 @@ fn stored(alloc: Global, setup: &Setup, state: &State) -> Result<(Vec<u8>, Strin
     let mut text = String::new(alloc);
     push_saved(state.turn, bytes.len(), &digest(setup, state), &mut text)?;
     Ok((bytes, text))
-}
-
-fn resume_text(alloc: Global, setup: &Setup, state: State) -> Result<String, OutOfMemory>
-    requires limits { IsSetup setup.now }
-    requires quiet_match { IsQuietMatch setup.now }
-    requires valid { IsValid setup.now state }
-    ensures { IfOk result (λ text. string_bytes text ≡ text_of_resume setup.now state) }
-{
-    let mut text = String::new(alloc);
-    push_turns(alloc, setup, state, &mut text)?;
-    Ok(text)
 }
 
 fn show_text(alloc: Global, setup: &Setup, state: &State) -> Result<String, OutOfMemory>

@@ -4,7 +4,6 @@ ghost use Rattle.std.specs.Prelude.{◌≡◌, List, Some, None, IsTrue, IfSome,
 ghost use Rattle.sim_base.specs.Limits.{IsSetup};
 ghost use Rattle.sim_base.specs.Validity.{IsValid};
 ghost use Rattle.sim_codec.specs.Loading.{head_fault};
-ghost use Rattle.sim_setup.specs.Quiet.{IsQuietMatch};
 ghost use Rattle.sim_setup.specs.Setups.{setup_of as setup_of_bytes};
 ghost use Rattle.sim_store.specs.Counts.{after_giving};
 ghost use Rattle.sim_store.specs.Files.{File, file_in};
@@ -45,7 +44,6 @@ fn read_bytes<'w, S: Shelf>(alloc: Global, shelf: &mut S, name: &str) -> Result<
 fn match_of<'w>(alloc: Global, bytes: &[u8]) -> Result<Setup, Stop<'w>>
     ensures tells { Reads result (setup_by (setup_of_bytes bytes.now)) }
     ensures limits { IfOk result IsSetup }
-    ensures quiet { IfOk result IsQuietMatch }
     ensures stops { IfErr result (λ stop. (asked : Asked) → MayAnswer asked (status_of stop)) }
     ensures content { IfErr result IsOfContent }
 {
@@ -57,7 +55,6 @@ fn match_of<'w>(alloc: Global, bytes: &[u8]) -> Result<Setup, Stop<'w>>
 pub fn read_match<'w, S: Shelf>(alloc: Global, shelf: &mut S, name: &str) -> Result<Setup, Stop<'w>>
     ensures tells { IfSome (S.held shelf.old) (λ files. Reads result (match_in files name.now)) }
     ensures limits { IfOk result IsSetup }
-    ensures quiet { IfOk result IsQuietMatch }
     ensures missing { (files : List File) → S.held shelf.old ≡ Some files → file_in files name.now ≡ None → IsMissed result }
     ensures stops { IfErr result (λ stop. (asked : Asked) → MayAnswer asked (status_of stop)) }
     ensures causes { CausesOf result (S.counts shelf.old) (S.counts shelf.new) }

@@ -1,7 +1,7 @@
 //! The top call: from the words to a status. All files are read and the whole text is made before anything is written,
 //! so that a refusal or want of memory leaves the sink and the files as they were.
 
-ghost use Rattle.std.specs.Prelude.{◌≡◌, ◌≢◌, ℕ, List, Option, IfSome, IfOk, IsOk, Some, None, [], option_map, string_bytes};
+ghost use Rattle.std.specs.Prelude.{◌≡◌, ◌≢◌, ℕ, List, All, length, drop, vec_capacity, Option, IfSome, IfOk, IsOk, Some, None, [], option_map, string_bytes};
 ghost use Rattle.std.specs.Io.KnownBytes.{Appends};
 ghost use Rattle.sim_report.specs.Lines.{usage_text as text_of_usage};
 ghost use Rattle.sim_store.specs.Counts.{after_giving};
@@ -13,6 +13,9 @@ ghost use Rattle.sim_top.specs.Reads.{length_asked, LacksMatch, HasEnded, IsUnfo
 ghost use Rattle.sim_top.specs.Answers.{scene, Meets, Causes, CountsBefore, MayEnd, IsUsageTold, KeepsAllBut, IsSilent};
 ghost use Rattle.sim_top.specs.Readiness.{IsReady, IsFaultless, IsFinal};
 ghost use Rattle.sim_top.specs.Making.{MeetsBefore, SavesIfDone, IsSavedAs, IsUsageMade, IsAnswered, SaveMeets, Tells, file_of};
+ghost use Rattle.sim_top.specs.Rigs.{RigStands, OfFirsts};
+ghost use Rattle.sim_system.specs.Meanings.{HaveKinds, AreBuiltOnceAtMost};
+ghost use Rattle.sim_system.specs.RigWords.{systems_of};
 ghost use Rattle.sim_top.specs.Stops.{stop_text as text_of_stop, status_of};
 
 use crate::commands::{Answer, Saved, answer_to};
@@ -20,42 +23,112 @@ use crate::status::Status;
 use crate::stop::Stop;
 use crate::words::request_of;
 use sim_base::OutOfMemory;
+use sim_orders::OrderTable;
 use sim_report::{Refusal, push_refusal, push_usage};
 use sim_store::{Shelf, Sink, StoreFault, write_file, write_out};
+use sim_system::{Rig, System};
 use std::alloc::Global;
 
-/// Does what the words say, over the files of the shelf, and writes its text to the sink.
-pub fn run<S: Shelf, K: Sink>(alloc: Global, words: &[String], shelf: &mut S, out: &mut K) -> Status
+/// How a run ended, and the rigs that it was handed.
+#[derive(Drop)]
+pub struct Ended {
+    pub status: Status,
+    pub rigs: Vec<Rig>,
+}
+
+/// Does what the words say, over the files of the shelf, and writes its text to the sink. A match is played with the first
+/// of eight rigs; all eight come back, in the room and in the order in which they came.
+pub fn run<S: Shelf, K: Sink>(
+    alloc: Global,
+    words: &[String],
+    shelf: &mut S,
+    out: &mut K,
+    rigs: Vec<Rig>,
+    orders: &OrderTable,
+) -> Ended
+    requires eight { length rigs.items ≡ 8 }
+    requires kinds { All (λ r. HaveKinds (systems_of r ⟦<dyn System as System>⟧)) rigs.items }
     // Where the shelf tells its files, the status, the text and the saved file are those of the words, or a fault or
     // want of memory came between.
-    ensures answers { IfSome (S.held shelf.old) (λ files. Meets result (words_of words.now) files
+    ensures answers { IfSome (S.held shelf.old) (λ files. Meets result.status (words_of words.now) files
         (scene (S.held shelf.old) (K.told out.old) (S.counts shelf.old) (K.faults out.old))
         (scene (S.held shelf.new) (K.told out.new) (S.counts shelf.new) (K.faults out.new))) }
     // Where each file that is read is good and no fault is counted, the command comes to its end, or there is no memory.
     ensures complete { IfSome (S.held shelf.old) (λ files. IsReady files (asked_by (words_of words.now))
         → IsFaultless (scene (S.held shelf.old) (K.told out.old) (S.counts shelf.old) (K.faults out.old))
         (scene (S.held shelf.new) (K.told out.new) (S.counts shelf.new) (K.faults out.new))
-        → IsFinal result) }
+        → IsFinal result.status) }
     // Then just the bytes of these files were given.
-    ensures given { (files : List File) → S.held shelf.old ≡ Some files → HasEnded result
+    ensures given { (files : List File) → S.held shelf.old ≡ Some files → HasEnded result.status
         → S.counts shelf.new ≡ after_giving (length_asked files (asked_by (words_of words.now))) (S.counts shelf.old) }
     // A match that is not there is found missing, whatever memory there is.
-    ensures missing { (files : List File) → S.held shelf.old ≡ Some files → LacksMatch files (asked_by (words_of words.now)) → IsUnfound result }
+    ensures missing { (files : List File) → S.held shelf.old ≡ Some files → LacksMatch files (asked_by (words_of words.now)) → IsUnfound result.status }
 
     // Where the shelf tells nothing, this much of it is still known.
-    ensures statuses { MayEnd (asked_by (words_of words.now)) result }
-    ensures unasked { asked_by (words_of words.now) ≡ None → IsUsageTold text_of_usage result (K.told out.old) (K.told out.new) × (S.counts shelf.new ≡ S.counts shelf.old) }
-    ensures silent { IsSilent result → Appends (K.told out.old) (K.told out.new) [] }
+    ensures statuses { MayEnd (asked_by (words_of words.now)) result.status }
+    ensures unasked { asked_by (words_of words.now) ≡ None → IsUsageTold text_of_usage result.status (K.told out.old) (K.told out.new) × (S.counts shelf.new ≡ S.counts shelf.old) }
+    ensures silent { IsSilent result.status → Appends (K.told out.old) (K.told out.new) [] }
 
     // A fault is answered exactly where one was counted, and no file but the one to be written changes.
-    ensures causes { Causes result
+    ensures causes { Causes result.status
         (scene (S.held shelf.old) (K.told out.old) (S.counts shelf.old) (K.faults out.old))
         (scene (S.held shelf.new) (K.told out.new) (S.counts shelf.new) (K.faults out.new)) }
     ensures unsaved { out_of (asked_by (words_of words.now)) ≡ None → (S.counts shelf.new).write_faults ≡ (S.counts shelf.old).write_faults }
     ensures others { KeepsAllBut (out_of (asked_by (words_of words.now))) (S.held shelf.old) (S.held shelf.new) }
+
+    // The first rig stands for the state to which its match came, and each of its systems was built once at most. The others
+    // are as they were.
+    ensures stands { IfSome (S.held shelf.old) (λ files. HasEnded result.status
+        → OfFirsts rigs.items result.rigs.items (λ r s. RigStands files (asked_by (words_of words.now)) (systems_of r ⟦<dyn System as System>⟧) (systems_of s ⟦<dyn System as System>⟧))) }
+    ensures most { OfFirsts rigs.items result.rigs.items (λ r s. AreBuiltOnceAtMost (systems_of r ⟦<dyn System as System>⟧) (systems_of s ⟦<dyn System as System>⟧)) }
+    ensures kinds { All (λ r. HaveKinds (systems_of r ⟦<dyn System as System>⟧)) result.rigs.items }
+    ensures rest { drop 1 result.rigs.items ≡ drop 1 rigs.items }
+    ensures count { length result.rigs.items ≡ 8 }
+    ensures room { vec_capacity result.rigs ≡ vec_capacity rigs }
 {
-    let answer = made_answer(alloc, words, shelf);
-    finish(shelf, out, &answer)
+    let mut rigs = rigs;
+    let rig = rigs.remove(0);
+    let (status, rig) = run_with(alloc, words, shelf, out, rig, orders);
+    match rigs.insert(0, rig) {
+        Ok(()) => Ended { status, rigs },
+        Err(_) => unreachable!(),
+    }
+}
+
+// The same with the one rig that is used.
+fn run_with<S: Shelf, K: Sink>(
+    alloc: Global,
+    words: &[String],
+    shelf: &mut S,
+    out: &mut K,
+    rig: Rig,
+    orders: &OrderTable,
+) -> (Status, Rig)
+    requires { HaveKinds (systems_of rig ⟦<dyn System as System>⟧) }
+    ensures answers { IfSome (S.held shelf.old) (λ files. Meets result.0 (words_of words.now) files
+        (scene (S.held shelf.old) (K.told out.old) (S.counts shelf.old) (K.faults out.old))
+        (scene (S.held shelf.new) (K.told out.new) (S.counts shelf.new) (K.faults out.new))) }
+    ensures complete { IfSome (S.held shelf.old) (λ files. IsReady files (asked_by (words_of words.now))
+        → IsFaultless (scene (S.held shelf.old) (K.told out.old) (S.counts shelf.old) (K.faults out.old))
+        (scene (S.held shelf.new) (K.told out.new) (S.counts shelf.new) (K.faults out.new))
+        → IsFinal result.0) }
+    ensures given { (files : List File) → S.held shelf.old ≡ Some files → HasEnded result.0
+        → S.counts shelf.new ≡ after_giving (length_asked files (asked_by (words_of words.now))) (S.counts shelf.old) }
+    ensures missing { (files : List File) → S.held shelf.old ≡ Some files → LacksMatch files (asked_by (words_of words.now)) → IsUnfound result.0 }
+    ensures statuses { MayEnd (asked_by (words_of words.now)) result.0 }
+    ensures unasked { asked_by (words_of words.now) ≡ None → IsUsageTold text_of_usage result.0 (K.told out.old) (K.told out.new) × (S.counts shelf.new ≡ S.counts shelf.old) }
+    ensures silent { IsSilent result.0 → Appends (K.told out.old) (K.told out.new) [] }
+    ensures causes { Causes result.0
+        (scene (S.held shelf.old) (K.told out.old) (S.counts shelf.old) (K.faults out.old))
+        (scene (S.held shelf.new) (K.told out.new) (S.counts shelf.new) (K.faults out.new)) }
+    ensures unsaved { out_of (asked_by (words_of words.now)) ≡ None → (S.counts shelf.new).write_faults ≡ (S.counts shelf.old).write_faults }
+    ensures others { KeepsAllBut (out_of (asked_by (words_of words.now))) (S.held shelf.old) (S.held shelf.new) }
+    ensures stands { IfSome (S.held shelf.old) (λ files. HasEnded result.0 → RigStands files (asked_by (words_of words.now)) (systems_of rig ⟦<dyn System as System>⟧) (systems_of result.1 ⟦<dyn System as System>⟧)) }
+    ensures most { AreBuiltOnceAtMost (systems_of rig ⟦<dyn System as System>⟧) (systems_of result.1 ⟦<dyn System as System>⟧) }
+    ensures kinds { HaveKinds (systems_of result.1 ⟦<dyn System as System>⟧) }
+{
+    let (answer, rig) = made_answer(alloc, words, shelf, rig, orders);
+    (finish(shelf, out, &answer), rig)
 }
 
 // Writes what was made: the file that is to be saved, and then the text.
@@ -106,28 +179,39 @@ fn save<S: Shelf>(shelf: &mut S, saved: &Option<Saved<'_>>) -> Result<(), StoreF
 }
 
 // The status, the text and the file that the words come to.
-fn made_answer<'w, S: Shelf>(alloc: Global, words: &'w [String], shelf: &mut S) -> Answer<'w>
-    ensures answers { IfSome (S.held shelf.old) (λ files. MeetsBefore result.status (words_of words.now) files
-        (string_bytes result.text) (option_map file_of result.saved)) }
-    ensures statuses { MayEnd (asked_by (words_of words.now)) result.status }
-    ensures unasked { asked_by (words_of words.now) ≡ None → IsUsageMade text_of_usage result.status (string_bytes result.text) × (result.saved ≡ None) × (S.counts shelf.new ≡ S.counts shelf.old) }
-    ensures given { (files : List File) → S.held shelf.old ≡ Some files → HasEnded result.status
+fn made_answer<'w, S: Shelf>(
+    alloc: Global,
+    words: &'w [String],
+    shelf: &mut S,
+    rig: Rig,
+    orders: &OrderTable,
+) -> (Answer<'w>, Rig)
+    requires { HaveKinds (systems_of rig ⟦<dyn System as System>⟧) }
+    ensures answers { IfSome (S.held shelf.old) (λ files. MeetsBefore result.0.status (words_of words.now) files
+        (string_bytes result.0.text) (option_map file_of result.0.saved)) }
+    ensures statuses { MayEnd (asked_by (words_of words.now)) result.0.status }
+    ensures unasked { asked_by (words_of words.now) ≡ None → IsUsageMade text_of_usage result.0.status (string_bytes result.0.text) × (result.0.saved ≡ None) × (S.counts shelf.new ≡ S.counts shelf.old) }
+    ensures given { (files : List File) → S.held shelf.old ≡ Some files → HasEnded result.0.status
         → S.counts shelf.new ≡ after_giving (length_asked files (asked_by (words_of words.now))) (S.counts shelf.old) }
     ensures missing { (files : List File) → S.held shelf.old ≡ Some files → LacksMatch files (asked_by (words_of words.now))
-        → IsUnfound result.status × (result.saved ≡ None) }
-    ensures silent { IsSilent result.status → string_bytes result.text ≡ [] }
-    ensures done { SavesIfDone result.saved result.status }
-    ensures saved { IsSavedAs (out_of (asked_by (words_of words.now))) result.saved }
-    ensures unwritten { result.status ≢ Status.WriteFault }
-    ensures causes { CountsBefore result.status (S.counts shelf.old) (S.counts shelf.new) }
+        → IsUnfound result.0.status × (result.0.saved ≡ None) }
+    ensures silent { IsSilent result.0.status → string_bytes result.0.text ≡ [] }
+    ensures done { SavesIfDone result.0.saved result.0.status }
+    ensures saved { IsSavedAs (out_of (asked_by (words_of words.now))) result.0.saved }
+    ensures unwritten { result.0.status ≢ Status.WriteFault }
+    ensures causes { CountsBefore result.0.status (S.counts shelf.old) (S.counts shelf.new) }
     ensures held { S.held shelf.new ≡ S.held shelf.old }
+    ensures stands { IfSome (S.held shelf.old) (λ files. HasEnded result.0.status → RigStands files (asked_by (words_of words.now)) (systems_of rig ⟦<dyn System as System>⟧) (systems_of result.1 ⟦<dyn System as System>⟧)) }
+    ensures most { AreBuiltOnceAtMost (systems_of rig ⟦<dyn System as System>⟧) (systems_of result.1 ⟦<dyn System as System>⟧) }
+    ensures kinds { HaveKinds (systems_of result.1 ⟦<dyn System as System>⟧) }
 {
     let Some(request) = request_of(words) else {
-        return answered(alloc, Status::Usage, usage_text(alloc));
+        return (answered(alloc, Status::Usage, usage_text(alloc)), rig);
     };
-    match answer_to(alloc, request, shelf) {
-        Ok(answer) => answer,
-        Err(stop) => answered(alloc, stop.status(), stop_text(alloc, &stop)),
+    let (answer, rig) = answer_to(alloc, request, shelf, rig, orders);
+    match answer {
+        Ok(answer) => (answer, rig),
+        Err(stop) => (answered(alloc, stop.status(), stop_text(alloc, &stop)), rig),
     }
 }
 

@@ -1,5 +1,5 @@
 -- The place of the command is below their number.
-use Rattle.std.proofs.Common.{◌≡◌, ◌<◌, ◌+◌, List, length, Some, sym, ap, ◌∙◌, arith}
+use Rattle.std.proofs.Common.{◌≡◌, List, Some, sym, ap, ◌∙◌, arith}
 use Rattle.sim_base.specs.declared.setup.Timed.{Timed}
 use Rattle.sim_setup.specs.Commands.{falls_at}
 use Rattle.sim_setup.proofs.Falls.{falls_within}

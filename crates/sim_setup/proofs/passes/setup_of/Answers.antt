@@ -1,15 +1,10 @@
 use Rattle.std.proofs.Common.{rules}
 use Rattle.sim_setup.specs.Meets.{Meets}
 use Rattle.sim_setup.specs.Setups.{setup_of as setup_of_bytes}
-use Rattle.sim_setup.proofs.SetupLimits.{meets-limits, meets-quiet}
+use Rattle.sim_setup.proofs.SetupLimits.{meets-limits}
 use Rattle.sim_setup.proofs.passes.setup_of.Goals as goal
 
 pub returns-clause-limits : goal.returns-clause-limits
 returns-clause-limits c =
     let answers : Meets c.setup_in.result (setup_of_bytes c.args.bytes.now) = search rules in
     meets-limits c.args.bytes.now c.setup_in.result answers c.setup_in.ensures.templates
-
-pub returns-clause-quiet : goal.returns-clause-quiet
-returns-clause-quiet c =
-    let answers : Meets c.setup_in.result (setup_of_bytes c.args.bytes.now) = search rules in
-    meets-quiet c.args.bytes.now c.setup_in.result answers

@@ -1,7 +1,13 @@
-use Rattle.std.proofs.Common.{subst, string_bytes}
+-- What the request comes to is answered, or why it ended.
+use Rattle.std.proofs.Common.{subst, sym, string_bytes}
+use Rattle.std.specs.Prelude.{Result}
+use Rattle.sim_top.specs.declared.commands.Answer.{Answer}
 use Rattle.sim_top.specs.declared.status.Status.{Status}
+use Rattle.sim_top.specs.declared.stop.Stop.{Stop}
 use Rattle.sim_top.specs.Making.{IsAnswered}
+use Rattle.sim_top.specs.Stops.{CausesOf}
 use Rattle.sim_top.proofs.Finishing.{answered_causes}
+use Rattle.sim_top.proofs.Playing.{stands_asked, stands_unasked, stands_ended, answered_never_ends}
 use Rattle.sim_top.proofs.top.made_answer.Goals as goal
 
 pub returns-in-Err-clause-causes : goal.returns-in-Err-clause-causes
@@ -10,4 +16,14 @@ returns-in-Err-clause-causes g c =
     let text = string_bytes made.text in
     answered_causes c.in-Err.stop made.status text c.stop_text.result _ _
     (subst (λ (s : Status). IsAnswered made.status text s c.stop_text.result) c.status.ensures c.answered-in-Err.ensures.answer)
-    c.stop_text.ensures.silent c.in-Err.ensures.causes
+    c.stop_text.ensures.silent (subst (λ (r : Result Answer Stop). CausesOf r (g.S.Shelf.counts c.args.shelf.now) (g.S.Shelf.counts c.answer_to-answer.new.shelf)) c.in-Err.is c.answer_to-answer.ensures.causes)
+
+pub returns-in-Err-clause-stands : goal.returns-in-Err-clause-stands
+returns-in-Err-clause-stands g c =
+    let made = c.answered-in-Err.result in
+    let text = string_bytes made.text in
+    stands_ended _ _ made.status _ _
+    (answered_never_ends c.in-Err.stop made.status text c.stop_text.result (subst (λ (s : Status). IsAnswered made.status text s c.stop_text.result) c.status.ensures c.answered-in-Err.ensures.answer))
+
+pub returns-in-Ok-clause-stands : goal.returns-in-Ok-clause-stands
+returns-in-Ok-clause-stands g c = stands_asked _ _ c.in-Ok.answer _ _ _ _ c.in-Ok.is c.in-Some.ensures c.answer_to-answer.ensures.stands

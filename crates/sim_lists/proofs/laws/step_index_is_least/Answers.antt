@@ -1,0 +1,8 @@
+-- The index of each list that is read so is the least.
+use Rattle.std.proofs.Common.{[]}
+use Rattle.sim_json.proofs.Reading.{is_least}
+use Rattle.sim_lists.specs.Steps.{step_of}
+use Rattle.sim_lists.proofs.laws.step_index_is_least.Goals as goal
+
+pub returns : goal.returns
+returns c = λ players ds i refused. is_least (λ done. step_of players) [] ds i refused

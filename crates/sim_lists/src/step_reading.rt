@@ -1,0 +1,69 @@
+//! The whole list of steps: the object and its number of clients first, then each step.
+
+ghost use Rattle.std.specs.Prelude.{◌≡◌, map, All, IfOk};
+ghost use Rattle.serde_json.specs.View.{view};
+ghost use Rattle.sim_lists.specs.Meets.{Meets};
+ghost use Rattle.sim_lists.specs.StepLists.{steps_from as steps_from_data, steps_within as steps_within_data, steps_in as steps_in_data, steps_of as steps_of_bytes, IsStep, IsStepList};
+
+use crate::fault::{ListFault, refused};
+use crate::reading::{NO_LIST, few};
+use crate::step_list::StepList;
+use crate::steps::step_of;
+use serde_json::Value;
+use sim_base::Steps;
+use sim_json::{natural_at, other_key, value_of};
+use std::alloc::Global;
+
+const KEYS: [&str; 2] = ["clients", "steps"];
+
+/// The list of steps that the bytes of a file spell for a match of so many players, or why they spell none.
+pub fn steps_of(alloc: Global, bytes: &[u8], players: u8) -> Result<StepList, ListFault>
+    ensures meets { Meets result (steps_of_bytes players bytes.now) }
+    ensures limits { IfOk result (IsStepList players) }
+{
+    match value_of(alloc, bytes)? {
+        Some(value) => steps_in(alloc, &value, players),
+        None => Err(NO_LIST),
+    }
+}
+
+fn steps_in(alloc: Global, value: &Value, players: u8) -> Result<StepList, ListFault>
+    ensures meets { Meets result (steps_in_data players (view value.now)) }
+    ensures limits { IfOk result (IsStepList players) }
+{
+    if other_key(value, &KEYS) {
+        return Err(NO_LIST);
+    }
+    steps_within(alloc, value, players)
+}
+
+fn steps_within(alloc: Global, value: &Value, players: u8) -> Result<StepList, ListFault>
+    ensures meets { Meets result (steps_within_data players (view value.now)) }
+    ensures limits { IfOk result (IsStepList players) }
+{
+    let Some(clients) = natural_at(value, 1, u64::from(players), "clients") else {
+        return Err(NO_LIST);
+    };
+    let Some(items) = few(value, "steps") else {
+        return Err(NO_LIST);
+    };
+    let steps = steps_from(alloc, players, items)?;
+    let clients = clients as u8;
+    Ok(StepList { clients, steps })
+}
+
+fn steps_from(alloc: Global, players: u8, items: &[Value]) -> Result<Steps, ListFault>
+    ensures meets { Meets result (steps_from_data players (map view items.now)) }
+    ensures limits { IfOk result (λ steps. All (IsStep players) steps) }
+{
+    let mut found = Vec::new(alloc);
+    let mut rest = items;
+    while let [item, more @ ..] = rest {
+        match step_of(alloc, players, item)? {
+            Some(step) => found.push(step)?,
+            None => return Err(refused(found.len())),
+        }
+        rest = more;
+    }
+    Ok(Steps::from_items(found))
+}

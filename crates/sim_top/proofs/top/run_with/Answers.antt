@@ -1,0 +1,80 @@
+-- The shelf holds the same before anything is written.
+use Rattle.std.proofs.Common.{List, Option, subst, string_bytes, IfSome, ◌∙◌}
+use Rattle.sim_report.specs.Lines.{usage_text}
+use Rattle.sim_top.specs.Reads.{HasEnded}
+use Rattle.std.specs.Prelude.{option_map}
+use Rattle.sim_store.specs.Files.{File}
+use Rattle.sim_top.specs.Words.{words_of, asked_by}
+use Rattle.sim_top.specs.Answers.{scene, Meets, Causes}
+use Rattle.sim_top.specs.Rigs.{RigStands}
+use Rattle.sim_top.specs.Readiness.{IsReady, IsFaultless, IsFinal}
+use Rattle.sim_top.specs.Making.{MeetsBefore, file_of}
+use Rattle.sim_top.proofs.Stopping.{Told, Told-both}
+use Rattle.sim_top.proofs.Completeness.{final}
+use Rattle.sim_top.proofs.Ending.{told_unfound, told_usage}
+use Rattle.sim_top.proofs.top.run_with.Goals as goal
+
+pub returns-clause-answers : goal.returns-clause-answers
+returns-clause-answers g c =
+    let words = words_of c.args.words.now in
+    let answer = c.made_answer-answer.result.0 in
+    let text = string_bytes answer.text in
+    let saved = option_map file_of answer.saved in
+    let told = g.K.Sink.told c.args.out.now in
+    let counts = g.S.Shelf.counts c.args.shelf.now in
+    let faults = g.K.Sink.faults c.args.out.now in
+    let before = scene (g.S.Shelf.held c.args.shelf.now) told counts faults in
+    let now = scene (g.S.Shelf.held c.finish.new.shelf) (g.K.Sink.told c.finish.new.out) (g.S.Shelf.counts c.finish.new.shelf) (g.K.Sink.faults c.finish.new.out) in
+    let written = subst (λ (held : Option (List File)). IfSome held (λ files. MeetsBefore answer.status words files text saved → Meets c.finish.result words files (scene held told counts faults) now))
+    c.made_answer-answer.ensures.held (c.finish.ensures.answers words counts c.made_answer-answer.ensures.causes) in
+    Told-both (λ files. MeetsBefore answer.status words files text saved) (λ files. MeetsBefore answer.status words files text saved → Meets c.finish.result words files before now)
+    (λ files. Meets c.finish.result words files before now) _
+    (λ files h f. f h) c.made_answer-answer.ensures.answers written
+
+pub returns-clause-causes : goal.returns-clause-causes
+returns-clause-causes g c =
+    let told = g.K.Sink.told c.args.out.now in
+    let counts = g.S.Shelf.counts c.args.shelf.now in
+    let faults = g.K.Sink.faults c.args.out.now in
+    let now = scene (g.S.Shelf.held c.finish.new.shelf) (g.K.Sink.told c.finish.new.out) (g.S.Shelf.counts c.finish.new.shelf) (g.K.Sink.faults c.finish.new.out) in
+    subst (λ (held : Option (List File)). Causes c.finish.result (scene held told counts faults) now)
+    c.made_answer-answer.ensures.held (c.finish.ensures.causes counts c.made_answer-answer.ensures.causes)
+
+pub returns-clause-complete : goal.returns-clause-complete
+returns-clause-complete g c =
+    let words = words_of c.args.words.now in
+    let before = scene (g.S.Shelf.held c.args.shelf.now) (g.K.Sink.told c.args.out.now) (g.S.Shelf.counts c.args.shelf.now) (g.K.Sink.faults c.args.out.now) in
+    let now = scene (g.S.Shelf.held c.finish.new.shelf) (g.K.Sink.told c.finish.new.out) (g.S.Shelf.counts c.finish.new.shelf) (g.K.Sink.faults c.finish.new.out) in
+    Told (λ files. Meets c.finish.result words files before now) (λ files. IsReady files (asked_by words) → IsFaultless before now → IsFinal c.finish.result) _
+    (λ files h ready faultless. final c.finish.result words files before now h (returns-clause-causes g c) ready faultless) (returns-clause-answers g c)
+
+-- what is written leaves the systems
+pub returns-clause-stands : goal.returns-clause-stands
+returns-clause-stands g c =
+    let words = asked_by (words_of c.args.words.now) in
+    let answer = c.made_answer-answer.result.0 in
+    Told (λ files. HasEnded answer.status → RigStands files words _ _) (λ files. HasEnded c.finish.result → RigStands files words _ _) _
+    (λ files h ended. h (subst HasEnded (c.finish.ensures.ended ended).0 ended)) c.made_answer-answer.ensures.stands
+
+-- a run that came to its end wrote without reading any more
+pub returns-clause-given : goal.returns-clause-given
+returns-clause-given g c =
+    λ files is ended.
+    let same = c.finish.ensures.ended ended in
+    same.1 ∙ c.made_answer-answer.ensures.given files is (subst HasEnded same.0 ended)
+
+pub returns-clause-missing : goal.returns-clause-missing
+returns-clause-missing g c =
+    λ files is lacks.
+    let answer = c.made_answer-answer.result.0 in
+    let missing = c.made_answer-answer.ensures.missing files is lacks in
+    told_unfound c.finish.result answer.status (string_bytes answer.text) _ _ _ _ missing.0 c.made_answer-answer.ensures.silent (c.finish.ensures.told missing.1)
+
+pub returns-clause-unasked : goal.returns-clause-unasked
+returns-clause-unasked g c =
+    λ none.
+    let answer = c.made_answer-answer.result.0 in
+    let made = c.made_answer-answer.ensures.unasked none in (
+      told_usage usage_text c.finish.result answer.status (string_bytes answer.text) _ _ _ _ made.0 (c.finish.ensures.told made.1),
+      c.finish.ensures.unsaved made.1 ∙ made.2,
+    )

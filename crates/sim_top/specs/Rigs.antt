@@ -1,0 +1,34 @@
+-- What the systems of a rig stand for when a command came to its end.
+use Rattle.std.specs.Prelude.{◌≡◌, ℕ, List, [], ◌∷◌, Option, Some, None, Result, IfOk}
+use Rattle.sim_base.specs.declared.setup.Setup.{Setup}
+use Rattle.sim_base.specs.declared.state.State.{State}
+use Rattle.sim_base.specs.Turn.{first_state, after, own_turns}
+use Rattle.sim_store.specs.Files.{File}
+use Rattle.sim_system.specs.Meanings.{Systems, AreFed}
+use Rattle.sim_system.specs.declared.rig.Rig.{Rig}
+use Rattle.sim_play.specs.Lines.{end_from}
+use Rattle.sim_top.specs.Words.{Asked, to_play, to_store, to_resume, to_show, to_compare, to_serve}
+use Rattle.sim_top.specs.Outcome.{Outcome, bytes_in, match_in}
+use Rattle.sim_top.specs.Stops.{IsState}
+
+-- the state of a file is loaded, and the systems stand for the last turn from it on
+pub record StandForStored (setup : Setup) (file : Result (List ℕ) Outcome) (t : Systems) : Type 0 where
+  pub state : State
+  pub stored : IsState setup file state
+  pub fed : AreFed setup (end_from setup state) t
+
+-- the systems of the rig before and after: they stand for the last state that was played, or nothing was played
+abbrev pub RigStands : List File → Option Asked → Systems → Systems → Type 0
+RigStands files None s t = t ≡ s
+RigStands files (Some (to_play game)) s t = IfOk (match_in files game) (λ setup. AreFed setup (end_from setup (first_state setup)) t)
+RigStands files (Some (to_store game turn out)) s t = IfOk (match_in files game) (λ setup. AreFed setup (after setup (own_turns setup 0 turn)) t)
+RigStands files (Some (to_resume game name)) s t = IfOk (match_in files game) (λ setup. StandForStored setup (bytes_in files name) t)
+RigStands files (Some (to_show game name)) s t = t ≡ s
+RigStands files (Some (to_compare game left right)) s t = t ≡ s
+RigStands files (Some (to_serve schedule)) s t = t ≡ s
+
+-- of the first rigs of two lists
+abbrev pub OfFirsts : {X : Type 0} {F : X → Type 0} → List (Rig X F) → List (Rig X F) → (Rig X F → Rig X F → Type 0) → Type 0
+OfFirsts [] new P = ⊥
+OfFirsts (r ∷ old) [] P = ⊥
+OfFirsts (r ∷ old) (s ∷ new) P = P r s
