@@ -1,11 +1,12 @@
 #!/usr/bin/env python3
-"""What `play` costs: 4,096 posts for 2,000 turns, whose digests take MD5 over some 254 MB.
+"""What `play` costs where nothing moves: 4,096 posts for 2,000 turns, whose digests take MD5 over some 254 MB, and three
+posts for 60,000 turns, where the digest is short and the rest of a turn shows.
 
-Usage: python3 bench/play.py [PROGRAM]
+Usage: python3 bench/play.py [PROGRAM [BEFORE]]
 
-PROGRAM is by default the one that ./simcore has built. It prints figures, and stops where the program fails. The
-reference is MD5 alone over as many bytes: by OpenSSL, through Python's hashlib, and at the 460 MB/s that the MD5 of
-the kit was measured at.
+PROGRAM is by default the one that ./simcore has built; with BEFORE an older program runs beside it, by turns, and must
+print the same lines. It prints figures of processor time, and stops where a program fails. The reference is MD5 alone
+over as many bytes: by OpenSSL, through Python's hashlib, and at the 460 MB/s that the MD5 of the kit was measured at.
 """
 
 import hashlib
@@ -18,49 +19,73 @@ import tempfile
 import time
 
 TOP = pathlib.Path(__file__).resolve().parent.parent
-PROGRAM = pathlib.Path(sys.argv[1] if len(sys.argv) > 1 else TOP / "crates/simcore/out/simcore").resolve()
-POSTS, TURNS, KIT = 4096, 2000, 460e6
+PROGRAMS = [pathlib.Path(word).resolve() for word in sys.argv[1:]] or [TOP / "crates/simcore/out/simcore"]
+TURNS, KIT, ROUNDS = {4096: 2000, 3: 60_000}, 460e6, 5
 
 
-def match(turns):
+def match(posts, turns):
     return {
         "size": [256, 256], "closed": [], "players": [[]], "cap": 4096, "delay": 1, "turns": turns, "seed": 0,
         "templates": [{"@name": "post", "Health": {"Max": 50}}],
-        "entities": [["post", 1, i % 64, i // 64] for i in range(POSTS)], "commands": [],
+        "entities": [["post", 1, i % 64, i // 64] for i in range(posts)], "commands": [],
     }
 
 
-def timed(folder, turns):
-    """Seconds of the best of three runs, and the most memory that any child has held so far, in MB."""
-    path = pathlib.Path(folder) / f"{turns}.json"
-    path.write_text(json.dumps(match(turns)))
-    best = None
-    for _ in range(3):
-        start = time.perf_counter()
-        done = subprocess.run([PROGRAM, "play", path], stdout=subprocess.PIPE, check=True)
-        took = time.perf_counter() - start
-        assert done.stdout.count(b"\n") == turns + 1
-        best = took if best is None else min(best, took)
-    return best, resource.getrusage(resource.RUSAGE_CHILDREN).ru_maxrss / 1024
+def children_seconds():
+    """The processor time of all programs that have ended so far."""
+    used = resource.getrusage(resource.RUSAGE_CHILDREN)
+    return used.ru_utime + used.ru_stime
+
+
+def run(program, path):
+    """The seconds of processor time of one run, and what it prints."""
+    begin = children_seconds()
+    done = subprocess.run([program, "play", path], stdout=subprocess.PIPE, check=True)
+    return children_seconds() - begin, done.stdout
+
+
+def timed(folder, posts, turns):
+    """The least seconds of each program; they run by turns."""
+    path = pathlib.Path(folder) / "match.json"
+    path.write_text(json.dumps(match(posts, turns)))
+    best = [float("inf")] * len(PROGRAMS)
+    for _ in range(ROUNDS):
+        texts = set()
+        for i, program in enumerate(PROGRAMS):
+            took, text = run(program, path)
+            best[i] = min(best[i], took)
+            texts.add(text)
+        assert len(texts) == 1 and texts.pop().count(b"\n") == turns + 1
+    return best
+
+
+def md5_turn(size):
+    """The seconds that OpenSSL takes for the digest of as many bytes."""
+    block, turns = bytes(size), max(1, 100_000_000 // size)
+    start = time.process_time()
+    for _ in range(turns):
+        hashlib.md5(block).digest()
+    return (time.process_time() - start) / turns
+
+
+def measure(folder, posts):
+    size, turns = 70 + posts * (6 + 12 + 5 + 8), TURNS[posts]
+    few, many = timed(folder, posts, 0), timed(folder, posts, turns)
+    print(f"{posts} posts, {size} bytes a state, {turns} turns")
+    costs = [(after - before) / turns for before, after in zip(few, many)]
+    for program, before, turn in zip(PROGRAMS, few, costs):
+        print(f"  a turn {turn * 1e6:8.2f} us, reading and turn 0 {before * 1e3:6.1f} ms, by {program}")
+    if len(costs) == 2:
+        print(f"  the first program's turn costs {costs[0] / costs[1]:.3f} times the second's")
+    openssl = md5_turn(size)
+    print(f"  MD5 alone: OpenSSL {openssl * 1e6:.2f} us, {size / openssl / 1e6:.0f} MB/s; the kit's {size / KIT * 1e6:.2f} us")
 
 
 def main():
-    size = 70 + POSTS * (6 + 12 + 5 + 8)
     with tempfile.TemporaryDirectory() as folder:
-        few, few_memory = timed(folder, 0)
-        many, memory = timed(folder, TURNS)
-    turn = (many - few) / TURNS
-    block = bytes(size)
-    start = time.perf_counter()
-    for _ in range(TURNS):
-        hashlib.md5(block).digest()
-    openssl = (time.perf_counter() - start) / TURNS
-    print(f"state                      {size} bytes, {POSTS} posts")
-    print(f"reading and turn 0         {few * 1e3:8.1f} ms, {few_memory:6.1f} MB")
-    print(f"{TURNS} turns more            {(many - few) * 1e3:8.1f} ms, {memory:6.1f} MB")
-    print(f"a turn                     {turn * 1e6:8.1f} us, {size / turn / 1e6:6.0f} MB/s")
-    print(f"MD5 alone, OpenSSL         {openssl * 1e6:8.1f} us, {size / openssl / 1e6:6.0f} MB/s; a turn costs {turn / openssl:.2f} times that")
-    print(f"MD5 alone, kit             {size / KIT * 1e6:8.1f} us, {KIT / 1e6:6.0f} MB/s; a turn costs {turn / (size / KIT):.2f} times that")
+        for posts in TURNS:
+            measure(folder, posts)
+    print(f"at most {resource.getrusage(resource.RUSAGE_CHILDREN).ru_maxrss / 1024:.1f} MB")
 
 
 if __name__ == "__main__":
