@@ -1,18 +1,21 @@
-//! The system, over a plain list of owners.
+//! The system: the owner of each entity, and the number of each owner's entities beside them.
 
-ghost use Rattle.std.specs.Prelude.{◌≡◌, ◌≤◌, None, [], length};
+ghost use Rattle.std.specs.Prelude.{◌≡◌, None, [], length, slice_index};
 ghost use Rattle.sim_system.specs.declared.kind.Kind.TheVariants.{Census as CensusKind};
-ghost use Rattle.sim_system.specs.Answers.{population_among};
+ghost use Rattle.sim_census.specs.Counts.{AreCounts};
 
+use crate::counts::{counts_of, join, leave};
 use sim_base::{Land, OutOfMemory};
-use sim_fact_lists::Kept;
+use sim_fact_lists::{Kept, id_of, part_after};
 use sim_system::{Answer, Ask, Fact, Kind, Note, System};
 use std::alloc::Global;
 
-/// Keeps the owner of each entity.
+/// Keeps the owner of each entity, and how many each owner has.
 #[derive(Drop)]
 pub struct Census {
     kept: Kept,
+    counts: [u32; 9],
+    ghost counted: { AreCounts kept.facts.items counts },
 }
 
 impl Census {
@@ -22,7 +25,15 @@ impl Census {
     {
         Census {
             kept: Kept::new(alloc),
+            counts: [0; 9],
         }
+    }
+
+    /// Lends how many entities each owner has; each number is 0 where it was not built.
+    pub fn counts(&self) -> &[u32; 9]
+        ensures { AreCounts (⟦<Census as System>⟧.meaning self.now).facts result.now }
+    {
+        &self.counts
     }
 }
 
@@ -35,20 +46,29 @@ impl System for Census {
 
     fn clear(&mut self) {
         self.kept.clear();
+        self.counts = [0; 9];
     }
 
     fn rebuild(&mut self, land: &Land, facts: &[Fact]) -> Result<(), OutOfMemory> {
-        self.kept.rebuild(Kind::Census, land, facts)
+        self.counts = [0; 9];
+        self.kept.rebuild(Kind::Census, land, facts)?;
+        self.counts = counts_of(self.kept.facts.as_slice());
+        Ok(())
     }
 
     fn on(&mut self, note: &Note) -> Result<(), OutOfMemory> {
-        self.kept.on(Kind::Census, note)
+        let before = self.kept.find(id_of(note));
+        let after = part_after(Kind::Census, before, note);
+        self.kept.on(Kind::Census, note)?;
+        leave(&mut self.counts, &before);
+        join(&mut self.counts, &after);
+        Ok(())
     }
 
     fn ask(&self, ask: &Ask) -> Result<Answer, OutOfMemory> {
         match ask {
             Ask::Count { owner } => Ok(Answer::Number {
-                n: count(self.kept.facts.as_slice(), *owner),
+                n: number(&self.counts, *owner),
             }),
             _ => unreachable!(),
         }
@@ -59,16 +79,13 @@ impl System for Census {
     }
 }
 
-// How many entities an owner has.
-fn count(facts: &[Fact], owner: u8) -> u32
-    requires { length facts.now ≤ 4096 }
-    ensures { result ≡ population_among facts.now owner }
+// The number of an owner, which is 0 where it is none of the nine.
+fn number(counts: &[u32; 9], owner: u8) -> u32
+    ensures number { result ≡ slice_index counts.now owner }
+    ensures full { length counts.now ≡ 9 }
 {
-    let mut n = 0;
-    for fact in facts {
-        if fact.owner == owner {
-            n += 1;
-        }
+    match counts.get(usize::from(owner)) {
+        Some(n) => *n,
+        None => 0,
     }
-    n
 }

@@ -1,11 +1,13 @@
 //! The system that knows who owns what.
 //!
-//! It promises that it keeps the owner of each entity, as `System` says, and that the number of an owner's entities is a
-//! count over these. It stands on the lists of facts.
+//! It promises that it keeps the owner of each entity, as `System` says, and beside these the number of each owner's
+//! entities, which each note changes. So to be asked costs nothing, however many there are. It stands on the lists of facts.
 //!
 //! - `census`: the system.
+//! - `counts`: the numbers, and how they change.
 #![tactic(auto)]
 
 mod census;
+mod counts;
 
 pub use census::Census;

@@ -1,6 +1,6 @@
 -- The facts that a system holds stay such.
-use Rattle.std.proofs.Common.{◌≡◌, ℕ, ◌≤◌, Bool, true, false, cond, not, ℤ, List, [], ◌∷◌, length, Option, Some, None, refl, sym, subst, arith, All}
-use Rattle.std.specs.Prelude.{Result, Ok, Err, OnOk, OnErr, IsTrue, IfSome, MatchOption, ◌==◌, nat_lt}
+use Rattle.std.proofs.Common.{◌≡◌, ℕ, ◌≤◌, Bool, true, false, cond, not, ℤ, List, [], ◌∷◌, length, Option, Some, None, refl, sym, ap, ◌∙◌, subst, arith, All}
+use Rattle.std.specs.Prelude.{Result, Ok, Err, OnOk, OnErr, IsTrue, IsSome, IfSome, MatchOption, ◌==◌, nat_lt}
 use Rattle.std.specs.List.{cons_option}
 use Rattle.std.proofs.lemmas.Bool.{cond_both}
 use Rattle.std.proofs.lemmas.List.Elements.{All-nil, All-cons, All-head, All-tail}
@@ -15,8 +15,11 @@ use Rattle.sim_system.specs.declared.note.Note.{Note}
 use Rattle.sim_system.specs.declared.note.Note.TheVariants.{Born, Gone, Moved, Owned, Aimed}
 use Rattle.sim_system.specs.Facts.{origin, keeps, part_for, kept, kept_of}
 use Rattle.sim_system.specs.Ranges.{IsInRange, AreInRange}
-use Rattle.sim_system.specs.Notes.{noted, placed, without, with_kept, with_changed, aim_of, NoteFits}
-use Rattle.sim_fact_lists.specs.Places.{IsHeld, AreHeld, Holds, HoldsIfAny}
+use Rattle.sim_system.specs.Notes.{fact_with, noted, placed, without, with_kept, with_changed, aim_of, NoteFits}
+use Rattle.sim_fact_lists.specs.Places.{Ascend, IsHeld, AreHeld, Holds, HoldsIfAny, with_only}
+use Rattle.sim_fact_lists.specs.Changes.{id_in, part_noted}
+use Rattle.sim_fact_lists.proofs.Rising.{rising, ascends, found_id}
+use Rattle.sim_fact_lists.proofs.OneFact.{rising_kept, noted_only, noted_is, part_named}
 
 module _ (land : Land) (limits : IsLand land) where
   origin_inside : IsTrue (is_inside (size_of land) origin)
@@ -58,7 +61,11 @@ module _ (land : Land) (limits : IsLand land) where
       by (Some f) h = omega arith
 
   pub rebuilt_held : (kind : Kind) (facts : List Fact) → AreInRange land facts → AreHeld land (kept_of kind facts)
-  rebuilt_held kind facts h = record { few = omega (arith, kept_of-length kind facts, h.few); each = all_held kind facts h.each }
+  rebuilt_held kind facts h = record {
+    few = omega (arith, kept_of-length kind facts, h.few);
+    ascending = ascends (kept_of kind facts) (rising_kept kind facts (rising facts h.ascending));
+    each = all_held kind facts h.each;
+  }
 
   placed_held : (f : Fact) (facts : List Fact) → IsHeld land f → All (IsHeld land) facts → All (IsHeld land) (placed f facts)
   placed_held f [] h all = All-cons (IsHeld land) f [] h all
@@ -108,7 +115,16 @@ module _ (land : Land) (limits : IsLand land) where
   each_held Census facts (Aimed id from to) fits all = all
 
   pub noted_held : (kind : Kind) (facts : List Fact) (note : Note) → NoteFits kind land facts note → AreHeld land facts → AreHeld land (noted kind facts note)
-  noted_held kind facts note fits h = record { few = fits.few; each = each_held kind facts note fits h.each }
+  noted_held kind facts note fits h = record {
+    few = fits.few;
+    ascending = ascends (noted kind facts note) (noted_only kind land facts note (rising facts h.ascending) fits).later;
+    each = each_held kind facts note fits h.each;
+  }
+
+-- what is held ascends
+pub held_ascend : (land : Option Land) (facts : List Fact) → HoldsIfAny land facts → IsSome land → Ascend facts
+held_ascend None facts h some = absurd (cc)
+held_ascend (Some l) facts h some = (h l refl).held.ascending
 
 -- after a note that may not have been taken up, whatever the land
 pub still_held : {E : Type 0} (r : Result (Unit {0}) E) (kind : Kind) (land : Option Land) (facts after : List Fact) (note : Note) → MatchOption land ⊥ (λ (l : Land). NoteFits kind l facts note) → HoldsIfAny land facts →
@@ -130,3 +146,26 @@ newly_held kind land copied facts after limits h copy is l same =
 pub holds_where : (land : Option Land) (facts : List Fact) (P : Land → Type 0) → HoldsIfAny land facts → MatchOption land ⊥ P → (l : Land) × (land ≡ Some l) × Holds l facts × P l
 holds_where None facts P h p = absurd p
 holds_where (Some l) facts P h p = (l, refl, h l refl, p)
+
+-- ---- a note, by what is put in place of its id
+
+pub on_ok : {E : Type 0} (r : Result (Unit {0}) E) (P Q : Type 0) → (P → Q) → OnOk r P → OnOk r Q
+on_ok (Ok u) P Q f h = f h
+on_ok (Err e) P Q f h = tt
+
+pub has_land : (land : Option Land) (P : Land → Type 0) → MatchOption land ⊥ P → IsSome land
+has_land None P h = absurd h
+has_land (Some l) P h = refl
+
+pub put_named : (kind : Kind) (facts : List Fact) (note : Note) (id : ℕ) (old part : Option Fact) → id ≡ id_in note → old ≡ fact_with facts id → part ≡ part_noted kind old note → IfSome part (λ (f : Fact). f.id ≡ id)
+put_named kind facts note id old part e found is =
+    subst (λ (o : Option Fact). IfSome o (λ (f : Fact). f.id ≡ id)) (sym is) (part_named kind id old note e (λ f has. found_id id facts f (sym found ∙ has)))
+
+pub put_is : (kind : Kind) (land : Option Land) (facts : List Fact) (note : Note) (id : ℕ) (old part : Option Fact) → MatchOption land ⊥ (λ (l : Land). NoteFits kind l facts note) → HoldsIfAny land facts →
+    id ≡ id_in note → old ≡ fact_with facts id → part ≡ part_noted kind old note → with_only id part facts ≡ noted kind facts note
+put_is kind None facts note id old part fits h e found is = absurd fits
+put_is kind (Some l) facts note id old part fits h e found is =
+    let here : old ≡ fact_with facts (id_in note) = found ∙ ap (fact_with facts) e in
+    let made : part ≡ part_noted kind (fact_with facts (id_in note)) note = is ∙ ap (λ (o : Option Fact). part_noted kind o note) here in
+    ap (λ (o : Option Fact). with_only id o facts) made ∙ ap (λ (n : ℕ). with_only n (part_noted kind (fact_with facts (id_in note)) note) facts) e
+    ∙ noted_is kind l facts note (rising facts (h l refl).held.ascending) fits

@@ -1,16 +1,32 @@
--- Where a fact stands in a list by id, and which facts a system holds.
-use Rattle.std.specs.Prelude.{◌≡◌, ℕ, ◌<◌, ◌≤◌, IsTrue, ℤ, List, length, insert, All, Option, Some}
+-- Where the fact of an id stands in a list by id, and which facts a system holds.
+use Rattle.std.specs.Prelude.{◌≡◌, ℕ, ◌<◌, ◌≤◌, IsTrue, ℤ, List, length, map, slice_index_or, All, Option, Some}
+use Rattle.std.specs.List.Sorted.{IsStrictlyIncreasing}
 use Rattle.sim_base.specs.declared.setup.Land.{Land}
 use Rattle.sim_base.specs.Places.{is_inside}
 use Rattle.sim_base.specs.Rows.{size_of}
 use Rattle.sim_base.specs.Limits.{IsRawFrom, IsLand}
 use Rattle.sim_system.specs.declared.fact.Fact.{Fact}
-use Rattle.sim_system.specs.Notes.{placed}
+use Rattle.sim_system.specs.Facts.{id_of_fact}
+use Rattle.sim_system.specs.Notes.{without, with_kept}
 
--- a fact of this id that is put into the list there stands in its place
-pub record IsPlaceFor (facts : List Fact) (id place : ℕ) : Type 0 where
-  pub inside : place ≤ length facts
-  pub there : (fact : Fact) → fact.id ≡ id → insert facts place fact ≡ placed fact facts
+-- the fact of this id stands there
+pub record Stands (facts : List Fact) (id place : ℕ) : Type 0 where
+  pub within : place < length facts
+  pub same : (d : Fact) → (slice_index_or facts place d).id ≡ id
+
+-- no fact has this id, and one that has it belongs there: the ids before are below it, and all others above
+pub record Belongs (facts : List Fact) (id place : ℕ) : Type 0 where
+  pub within : place ≤ length facts
+  pub before : (k : ℕ) (d : Fact) → k < place → (slice_index_or facts k d).id < id
+  pub behind : (k : ℕ) (d : Fact) → place ≤ k → k < length facts → id < (slice_index_or facts k d).id
+
+-- the facts where this is all that is kept of this id
+abbrev pub with_only : ℕ → Option Fact → List Fact → List Fact
+with_only id part facts = with_kept part (without id facts)
+
+-- the ids ascend
+abbrev pub Ascend : List Fact → Type 0
+Ascend facts = IsStrictlyIncreasing (map id_of_fact facts)
 
 -- a fact that a system holds: its place lies inside, its owner is known, and its vision is that of arms
 pub record IsHeld (land : Land) (fact : Fact) : Type 0 where
@@ -18,9 +34,10 @@ pub record IsHeld (land : Land) (fact : Fact) : Type 0 where
   pub owner : fact.owner < length land.masks
   pub vision : (raw : ℤ) → fact.vision ≡ Some raw → IsRawFrom 0 16777216 raw
 
--- there are at most 4096 of them
+-- there are at most 4096 of them, ascending by id
 pub record AreHeld (land : Land) (facts : List Fact) : Type 0 where
   pub few : length facts ≤ 4096
+  pub ascending : Ascend facts
   pub each : All (IsHeld land) facts
 
 -- the land is within its limits, and the facts are held on it

@@ -1,17 +1,16 @@
 //! The land and the facts of a system.
 
-ghost use Rattle.std.specs.Prelude.{◌≡◌, ◌<◌, [], Some, None, OnOk, OnErr, IsOk, MatchOption, vec_len, vec_capacity};
+ghost use Rattle.std.specs.Prelude.{◌≡◌, ◌<◌, [], Some, None, OnOk, OnErr, IsOk, IsSome, MatchOption, vec_len, vec_capacity};
 ghost use Rattle.sim_base.specs.Limits.{IsLand};
-ghost use Rattle.sim_system.specs.declared.kind.Kind.TheVariants.{Watch};
 ghost use Rattle.sim_system.specs.Facts.{kept_of};
 ghost use Rattle.sim_system.specs.Ranges.{AreInRange};
-ghost use Rattle.sim_system.specs.Notes.{noted, with_kept, after_aim, NoteFits};
+ghost use Rattle.sim_system.specs.Notes.{fact_with, noted, NoteFits};
 ghost use Rattle.sim_system.specs.Meanings.{one_more};
 ghost use Rattle.sim_fact_lists.specs.Places.{HoldsIfAny};
 
-use crate::edit::{place, set_owner, set_place, take_out};
+use crate::edit::{find, put};
 use crate::land::copy_of;
-use crate::part::{all_kept, kept, kept_aim};
+use crate::part::{all_kept, id_of, part_after};
 use sim_base::{Land, OutOfMemory};
 use sim_system::{Fact, Kind, Note};
 use std::alloc::Global;
@@ -69,73 +68,36 @@ impl Kept {
         Ok(())
     }
 
-    /// Changes the facts of a kind as a note says.
+    /// What is kept of an id.
+    pub fn find(&self, id: u32) -> Option<Fact>
+        requires { IsSome self.now.land }
+        ensures { result ≡ fact_with self.now.facts.items id }
+    {
+        find(self.facts.as_slice(), id).copied()
+    }
+
+    /// Makes room for one fact more.
+    pub fn make_room(&mut self) -> Result<(), OutOfMemory>
+        ensures room { OnOk result (vec_len self.new.facts < vec_capacity self.new.facts) }
+        ensures facts { self.new.facts.items ≡ self.old.facts.items }
+        ensures land { self.new.land ≡ self.old.land }
+        ensures rebuilds { self.new.rebuilds ≡ self.old.rebuilds }
+    {
+        self.facts.reserve(1)?;
+        Ok(())
+    }
+
+    /// Changes the facts of a kind as a note says. Where there is room for one fact more, it takes no memory.
     pub fn on(&mut self, kind: Kind, note: &Note) -> Result<(), OutOfMemory>
         requires { MatchOption self.old.land ⊥ (λ l. NoteFits kind l self.old.facts.items note.now) }
         ensures facts { OnOk result (self.new.facts.items ≡ noted kind self.old.facts.items note.now) }
         ensures same { OnErr result (self.new.facts.items ≡ self.old.facts.items) }
         ensures land { self.new.land ≡ self.old.land }
         ensures rebuilds { self.new.rebuilds ≡ self.old.rebuilds }
+        ensures room { vec_len self.old.facts < vec_capacity self.old.facts → IsOk result }
     {
-        change(&mut self.facts, kind, note)
+        let id = id_of(note);
+        let part = part_after(kind, self.find(id), note);
+        put(&mut self.facts, id, &part)
     }
-}
-
-// Changes the facts of a kind as a note says.
-fn change(facts: &mut Vec<Fact>, kind: Kind, note: &Note) -> Result<(), OutOfMemory>
-    ensures ok { OnOk result (facts.new.items ≡ noted kind facts.old.items note.now) }
-    ensures err { OnErr result (facts.new.items ≡ facts.old.items) }
-{
-    match note {
-        Note::Born { fact } => add(facts, &kept(kind, fact)),
-        Note::Gone { fact } => {
-            take_out(facts, fact.id);
-            Ok(())
-        }
-        Note::Moved { id, from: _, to } => {
-            if kind == Kind::Range {
-                set_place(facts, *id, to);
-            }
-            Ok(())
-        }
-        Note::Owned { id, from: _, to } => {
-            if kind == Kind::Range || kind == Kind::Census {
-                set_owner(facts, *id, *to);
-            }
-            Ok(())
-        }
-        Note::Aimed { id, from: _, to } => {
-            if kind == Kind::Watch {
-                aim(facts, *id, *to)?;
-            }
-            Ok(())
-        }
-    }
-}
-
-// Puts in what is kept of an entity, if anything.
-fn add(facts: &mut Vec<Fact>, part: &Option<Fact>) -> Result<(), OutOfMemory>
-    ensures ok { OnOk result (facts.new.items ≡ with_kept part.now facts.old.items) }
-    ensures err { OnErr result (facts.new.items ≡ facts.old.items) }
-    ensures room { vec_len facts.old < vec_capacity facts.old → IsOk result }
-{
-    match part {
-        Some(fact) => place(facts, fact),
-        None => Ok(()),
-    }
-}
-
-// Gives an entity another target, in the list of those that have one. Room for one more is made first, so that an error
-// leaves the list as it was.
-fn aim(facts: &mut Vec<Fact>, id: u32, to: u32) -> Result<(), OutOfMemory>
-    ensures ok { OnOk result (facts.new.items ≡ after_aim Watch id to facts.old.items) }
-    ensures err { OnErr result (facts.new.items ≡ facts.old.items) }
-{
-    if to == 0 {
-        take_out(facts, id);
-        return Ok(());
-    }
-    facts.reserve(1)?;
-    take_out(facts, id);
-    add(facts, &kept_aim(id, to))
 }

@@ -1,12 +1,11 @@
 //! What a kind of system keeps of a fact.
 
 ghost use Rattle.std.specs.Prelude.{◌≡◌, None, false, IfOk};
-ghost use Rattle.sim_system.specs.declared.kind.Kind.TheVariants.{Watch};
-ghost use Rattle.sim_system.specs.Notes.{aim_of};
 ghost use Rattle.sim_system.specs.Facts.{keeps as keeps_of, part_for as part_of, kept as kept_part, kept_of, origin as origin_at};
+ghost use Rattle.sim_fact_lists.specs.Changes.{id_in, part_noted, part_moved, part_owned, part_aimed};
 
 use sim_base::{Fixed, OutOfMemory, Point};
-use sim_system::{Fact, Facts, Kind};
+use sim_system::{Fact, Facts, Kind, Note};
 use std::alloc::Global;
 
 // Whether a kind keeps anything of an entity.
@@ -85,11 +84,67 @@ pub fn kept(kind: Kind, fact: &Fact) -> Option<Fact>
     }
 }
 
-/// What Watch keeps of an entity with this target.
-pub fn kept_aim(id: u32, target: u32) -> Option<Fact>
-    ensures { result ≡ kept_part Watch (aim_of id target) }
+/// What a kind keeps of an entity after a note on it, where this was kept before.
+pub fn part_after(kind: Kind, part: Option<Fact>, note: &Note) -> Option<Fact>
+    ensures { result ≡ part_noted kind part note.now }
 {
-    kept(Kind::Watch, &Fact { target, ..bare(id) })
+    match note {
+        Note::Born { fact } => kept(kind, fact),
+        Note::Gone { .. } => None,
+        Note::Moved { id: _, from: _, to } => moved(kind, part, to),
+        Note::Owned { id: _, from: _, to } => owned(kind, part, *to),
+        Note::Aimed { id, from: _, to } => aimed(kind, part, *id, *to),
+    }
+}
+
+// After a move, which Range alone keeps.
+fn moved(kind: Kind, part: Option<Fact>, to: &Point) -> Option<Fact>
+    ensures { result ≡ part_moved kind part to.now }
+{
+    match (kind, part) {
+        (Kind::Range, Some(fact)) => Some(Fact { at: *to, ..fact }),
+        _ => part,
+    }
+}
+
+// After a change of owner, which Range and Census keep.
+fn owned(kind: Kind, part: Option<Fact>, to: u8) -> Option<Fact>
+    ensures { result ≡ part_owned kind part to }
+{
+    match (kind, part) {
+        (Kind::Range, Some(fact)) => Some(Fact { owner: to, ..fact }),
+        (Kind::Census, Some(fact)) => Some(Fact { owner: to, ..fact }),
+        _ => part,
+    }
+}
+
+// After an aim, which Watch alone keeps.
+fn aimed(kind: Kind, part: Option<Fact>, id: u32, to: u32) -> Option<Fact>
+    ensures { result ≡ part_aimed kind part id to }
+{
+    match kind {
+        Kind::Watch => kept(
+            kind,
+            &Fact {
+                target: to,
+                ..bare(id)
+            },
+        ),
+        _ => part,
+    }
+}
+
+/// The id of which a note tells.
+pub fn id_of(note: &Note) -> u32
+    ensures { result ≡ id_in note.now }
+{
+    match note {
+        Note::Born { fact } => fact.id,
+        Note::Gone { fact } => fact.id,
+        Note::Moved { id, .. } => *id,
+        Note::Owned { id, .. } => *id,
+        Note::Aimed { id, .. } => *id,
+    }
 }
 
 /// What a kind keeps of several entities.

@@ -1,7 +1,6 @@
--- The facts that are held are few.
-use Rattle.std.proofs.Common.{◌≤◌, length, sym, subst}
-use Rattle.sim_fact_lists.proofs.Holding.{holds_where}
+-- The number that is looked up is the population.
+use Rattle.sim_census.proofs.Counting.{answer_is}
 use Rattle.sim_census.proofs.census.CensusSystem.ask.Goals as goal
 
-pub count-requires : goal.count-requires
-count-requires c = let (l, e, h, p) = holds_where _ _ _ c.args.self.now.kept.held c.requires in subst (λ fs. length fs ≤ 4096) (sym c.as_slice.ensures.value) h.held.few
+pub returns-clause-answer : goal.returns-clause-answer
+returns-clause-answer c = answer_is _ _ _ c.args.self.now.counts c.args.ask.now c.in-Count.owner _ c.requires c.args.self.now.kept.held c.args.self.now.counted c.number.ensures.full c.in-Count.is c.number.ensures.number

@@ -1,0 +1,11 @@
+-- The closure gives the id of a fact, and the ids ascend.
+use Rattle.std.proofs.Common.{rules}
+use Rattle.std.proofs.lemmas.List.Sorted.{answers_always}
+use Rattle.sim_system.specs.declared.fact.Fact.{Fact}
+use Rattle.sim_fact_lists.proofs.Standing.{place_by}
+use Rattle.sim_fact_lists.proofs.edit.place_of.Goals as goal
+
+pub returns : goal.returns
+returns c =
+    let by_id = c.binary_search_by_key.ensures.position (λ (fact : Fact). fact.id) (answers_always _ _ _ (λ f a r g called. search rules)) in
+    place_by c.args.facts.now c.args.id c.binary_search_by_key.result c.requires c.binary_search_by_key.ensures.bound by_id
