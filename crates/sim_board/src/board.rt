@@ -1,6 +1,6 @@
 //! The calls of a board.
 
-ghost use Rattle.std.specs.Prelude.{◌≡◌, OnOk, OnErr, IsOk, true, false};
+ghost use Rattle.std.specs.Prelude.{◌≡◌, OnOk, OnErr, IsOk, true, false, []};
 ghost use Rattle.sim_base.specs.Limits.{IsSetup};
 ghost use Rattle.sim_base.specs.Validity.{IsValid};
 ghost use Rattle.sim_base.specs.Changes.{applied};
@@ -31,9 +31,10 @@ pub struct Board<'a> {
 }
 
 impl<'a> Board<'a> {
-    /// A board that is not whole.
+    /// A board that is not whole, with no row, at turn 0.
     pub fn new(alloc: Global, setup: &'a Setup, rig: Rig) -> Board<'a>
         ensures whole { is_whole result ≡ false }
+        ensures state { state_in result ≡ record { turn = 0; next = 2; word = 0; rows = [] } }
         ensures rig { rig_in result ≡ rig }
         ensures setup { setup_in result ≡ setup.now }
     {
@@ -59,7 +60,7 @@ impl<'a> Board<'a> {
         self.setup
     }
 
-    /// Whether it may be changed and asked.
+    /// Whether its last change was made to its end. After a turn that found no memory this says nothing.
     pub fn whole(&self) -> bool
         ensures { result ≡ is_whole self.now }
     {

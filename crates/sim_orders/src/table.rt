@@ -65,6 +65,7 @@ impl OrderTable {
     /// The table of these handlers, of which each kind from 1 to 7 stands once.
     pub fn new(handlers: Vec<Handler>) -> OrderTable
         requires { (kind : ℕ) → 0 < kind → kind ≤ 7 → count_by (λ handler. handler.kind == kind) handlers.items ≡ 1 }
+        ensures { result.handlers ≡ handlers }
     {
         OrderTable { handlers }
     }
