@@ -18,12 +18,12 @@ import tempfile
 TOP = pathlib.Path(__file__).resolve().parent.parent
 PROGRAMS = [pathlib.Path(word).resolve() for word in sys.argv[1:]] or [TOP / "crates/simcore/out/simcore"]
 ROWS, PLAYERS, ROUNDS = 4096, 8, 3
-# The rest of the commands with 256 ids of the player's own 512, which a player gives by turns. A walk is always followed by
-# a stop of the same ids, so that nobody asks a way.
+# The rest of the commands with 256 ids of the player's own 512, which a player gives by turns. A walk or an attack is
+# followed by a stop of the same ids, so that nobody asks a way.
 KINDS = {
     "stop": [lambda ids: ["stop", ids]],
     "walk, stop": [lambda ids: ["walk", ids, 200, 200], lambda ids: ["stop", ids]],
-    "attack": [lambda ids: ["attack", ids, 1 + ROWS]],
+    "attack, stop": [lambda ids: ["attack", ids, 1 + ROWS], lambda ids: ["stop", ids]],
     "delete": [lambda ids: ["delete", ids]],
 }
 
@@ -75,11 +75,11 @@ def main():
         path = pathlib.Path(folder) / "match.json"
         path.write_text(json.dumps(match([])))
         idle = turn_costs(path)
-        print("no command       " + "".join(f"{1e3 * took:9.2f} ms" for took in idle))
+        print("no command          " + "".join(f"{1e3 * took:9.2f} ms" for took in idle))
         for name, kinds in KINDS.items():
             path.write_text(json.dumps(match(kinds)))
             costs = turn_costs(path)
-            print(f"512 of {name:<10}" + "".join(f"{1e3 * took:9.2f} ms" for took in costs), flush=True)
+            print(f"512 of {name:<13}" + "".join(f"{1e3 * took:9.2f} ms" for took in costs), flush=True)
 
 
 if __name__ == "__main__":
