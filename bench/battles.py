@@ -9,14 +9,12 @@ which keeps indexes, took 3, 19, 1,150, 2,080 and 550 ms on a machine whose MD5 
 its maze is not known, so that figure is no measure of ours.
 """
 
-import hashlib
 import json
 import pathlib
-import resource
-import subprocess
 import sys
 import tempfile
-import time
+
+from runs import least_of, md5_seconds
 
 TOP = pathlib.Path(__file__).resolve().parent.parent
 ROUNDS, ENOUGH = 5, 10
@@ -117,57 +115,21 @@ def battles():
     yield "4,096 soldiers at war, 200 turns", soldiers([[2], [1]], 200)
 
 
-def children_seconds():
-    """The processor time of all programs that have ended so far."""
-    used = resource.getrusage(resource.RUSAGE_CHILDREN)
-    return used.ru_utime + used.ru_stime
-
-
-def run(program, path):
-    """The seconds of processor time that the program takes to play the match, and what it prints."""
-    begin = children_seconds()
-    done = subprocess.run([program, "play", path], stdout=subprocess.PIPE, check=True)
-    return children_seconds() - begin, done.stdout
-
-
-def compare(programs, path):
-    """The least seconds of each program, and the last line; they run by turns, until that is enough."""
-    best, lines, all_seconds = [float("inf")] * len(programs), None, 0
-    for _ in range(ROUNDS):
-        for i, program in enumerate(programs):
-            took, printed = run(program, path)
-            assert lines in (None, printed), f"{program} prints other lines"
-            lines = printed
-            best[i] = min(best[i], took)
-            all_seconds += took
-        if all_seconds > ENOUGH:
-            break
-    return best, lines.splitlines()[-1].decode()
-
-
-def md5_speed():
-    """The MB that MD5 takes a second, by OpenSSL."""
-    block = bytes(1 << 20)
-    begin = time.process_time()
-    for _ in range(50):
-        hashlib.md5(block).digest()
-    return 50 * len(block) / (time.process_time() - begin) / 1e6
-
-
 def main():
     words = sys.argv[1:]
     only = words.pop(words.index("--only") + 1) if "--only" in words else ""
     words = [word for word in words if word != "--only"]
     programs = [pathlib.Path(word).resolve() for word in words] or [TOP / "crates/simcore/out/simcore"]
-    print(f"MD5 alone, OpenSSL: {md5_speed():.0f} MB/s; least of at most {ROUNDS} runs, processor time")
+    print(f"MD5 alone, OpenSSL: {1 / md5_seconds(1_000_000, 50):.0f} MB/s; least of at most {ROUNDS} runs, processor time")
     with tempfile.TemporaryDirectory() as folder:
         for name, content in battles():
             if only not in name:
                 continue
             path = pathlib.Path(folder) / "match.json"
             path.write_text(json.dumps(content, separators=(",", ":")))
-            best, last = compare(programs, path)
-            print(f"{name:<54}" + "".join(f"{1e3 * took:9.0f} ms" for took in best) + f"  {last}", flush=True)
+            least, lines = least_of(ROUNDS, programs, ["play", path], ENOUGH)
+            last = lines.splitlines()[-1].decode()
+            print(f"{name:<54}" + "".join(f"{1e3 * took:9.0f} ms" for took in least) + f"  {last}", flush=True)
 
 
 if __name__ == "__main__":

@@ -10,10 +10,10 @@ prints figures, and stops where a program fails. For reference: a plain Rust pro
 
 import json
 import pathlib
-import resource
-import subprocess
 import sys
 import tempfile
+
+from runs import least_of
 
 TOP = pathlib.Path(__file__).resolve().parent.parent
 PROGRAMS = [pathlib.Path(word).resolve() for word in sys.argv[1:]] or [TOP / "crates/simcore/out/simcore"]
@@ -43,31 +43,10 @@ def match(kinds):
             "templates": [guard, {"@name": "post", "Health": {"Max": 50}}], "entities": entities, "commands": commands}
 
 
-def children_seconds():
-    """The processor time of all programs that have ended so far."""
-    used = resource.getrusage(resource.RUSAGE_CHILDREN)
-    return used.ru_utime + used.ru_stime
-
-
-def run(program, path, turn):
-    """The seconds of processor time that the program takes for the state of that turn, and what it prints."""
-    begin = children_seconds()
-    done = subprocess.run([program, "state", path, str(turn), "/dev/null"], stdout=subprocess.PIPE, check=True)
-    return children_seconds() - begin, done.stdout
-
-
 def turn_costs(path):
     """The least seconds of turn 1 by each program, what comes before it left out."""
-    least = [[float("inf")] * 2 for _ in PROGRAMS]
-    for _ in range(ROUNDS):
-        for turn in (0, 1):
-            texts = set()
-            for i, program in enumerate(PROGRAMS):
-                took, text = run(program, path, turn)
-                least[i][turn] = min(least[i][turn], took)
-                texts.add(text)
-            assert len(texts) == 1
-    return [after - before for before, after in least]
+    before, after = (least_of(ROUNDS, PROGRAMS, ["state", path, turn, "/dev/null"])[0] for turn in "01")
+    return [late - early for early, late in zip(before, after)]
 
 
 def main():

@@ -9,14 +9,13 @@ print the same lines. It prints figures of processor time, and stops where a pro
 over as many bytes: by OpenSSL, through Python's hashlib, and at the 460 MB/s that the MD5 of the kit was measured at.
 """
 
-import hashlib
 import json
 import pathlib
 import resource
-import subprocess
 import sys
 import tempfile
-import time
+
+from runs import least_of, md5_seconds
 
 TOP = pathlib.Path(__file__).resolve().parent.parent
 PROGRAMS = [pathlib.Path(word).resolve() for word in sys.argv[1:]] or [TOP / "crates/simcore/out/simcore"]
@@ -31,41 +30,13 @@ def match(posts, turns):
     }
 
 
-def children_seconds():
-    """The processor time of all programs that have ended so far."""
-    used = resource.getrusage(resource.RUSAGE_CHILDREN)
-    return used.ru_utime + used.ru_stime
-
-
-def run(program, path):
-    """The seconds of processor time of one run, and what it prints."""
-    begin = children_seconds()
-    done = subprocess.run([program, "play", path], stdout=subprocess.PIPE, check=True)
-    return children_seconds() - begin, done.stdout
-
-
 def timed(folder, posts, turns):
-    """The least seconds of each program; they run by turns."""
+    """The least seconds of each program."""
     path = pathlib.Path(folder) / "match.json"
     path.write_text(json.dumps(match(posts, turns)))
-    best = [float("inf")] * len(PROGRAMS)
-    for _ in range(ROUNDS):
-        texts = set()
-        for i, program in enumerate(PROGRAMS):
-            took, text = run(program, path)
-            best[i] = min(best[i], took)
-            texts.add(text)
-        assert len(texts) == 1 and texts.pop().count(b"\n") == turns + 1
-    return best
-
-
-def md5_turn(size):
-    """The seconds that OpenSSL takes for the digest of as many bytes."""
-    block, turns = bytes(size), max(1, 100_000_000 // size)
-    start = time.process_time()
-    for _ in range(turns):
-        hashlib.md5(block).digest()
-    return (time.process_time() - start) / turns
+    least, text = least_of(ROUNDS, PROGRAMS, ["play", path])
+    assert text.count(b"\n") == turns + 1
+    return least
 
 
 def measure(folder, posts):
@@ -77,7 +48,7 @@ def measure(folder, posts):
         print(f"  a turn {turn * 1e6:8.2f} us, reading and turn 0 {before * 1e3:6.1f} ms, by {program}")
     if len(costs) == 2:
         print(f"  the first program's turn costs {costs[0] / costs[1]:.3f} times the second's")
-    openssl = md5_turn(size)
+    openssl = md5_seconds(size, 100_000_000 // size)
     print(f"  MD5 alone: OpenSSL {openssl * 1e6:.2f} us, {size / openssl / 1e6:.0f} MB/s; the kit's {size / KIT * 1e6:.2f} us")
 
 
