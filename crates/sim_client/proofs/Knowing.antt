@@ -1,0 +1,40 @@
+-- What is known of a turn, put there twice; and that players of the match gave it.
+use Rattle.std.proofs.Common.{◌≡◌, ℕ, Bool, true, false, List, refl, sym, subst, arith, All}
+use Rattle.std.specs.Prelude.{◌==◌, ◌&&◌, nat_lt, nat_le, if◌then◌else◌}
+use Rattle.std.proofs.lemmas.Bool.{ltb-true, leb-true}
+use Rattle.sim_base.specs.declared.command.PlayerCommand.{PlayerCommand}
+use Rattle.sim_base.specs.declared.setup.Setup.{Setup}
+use Rattle.sim_base.specs.Limits.{IsFrom}
+use Rattle.sim_turn_laws.specs.CommandLaws.{IsOrderOf}
+use Rattle.sim_plain_session.specs.Pasts.{is_client}
+use Rattle.sim_client.specs.declared.known.Known.{Known}
+use Rattle.sim_client.specs.KnownWords.{known_in, AreByPlayers}
+use Rattle.sim_plain.specs.Functions.{put}
+
+-- only the last one counts
+pub put_again : {X : Type 0} (n : ℕ) (x y : X) (f : ℕ → X) → put n x (put n y f) ≡ put n x f
+put_again n x y f = λ i m. by (m == n) (f m) i
+  where
+    by : (b : Bool) (z : _) → (if b then x else (if b then y else z)) ≡ (if b then x else z)
+    by true z = refl
+    by false z = refl
+
+-- other commands of a turn, by players too
+pub players_put : (setup : Setup) (old new : Known) (n : ℕ) (orders : List PlayerCommand) → known_in new ≡ put n orders (known_in old) → AreByPlayers setup old → All (IsOrderOf setup) orders →
+    AreByPlayers setup new
+players_put setup old new n orders is all these = λ t. subst (All (IsOrderOf setup)) (sym (λ i. is i t)) (by t (t == n))
+  where
+    by : (t : ℕ) (b : Bool) → All (IsOrderOf setup) (if b then orders else known_in old t)
+    by t true = these
+    by t false = all t
+
+both : (a b : Bool) → (a && b) ≡ true → (a ≡ true) × (b ≡ true)
+both true b h = (refl, h)
+both false b h = absurd (cc)
+
+-- the second of two tests that hold is that of a player of the match
+pub player_of_test : (a : Bool) (setup : Setup) (n : ℕ) → (a && is_client setup n) ≡ true → IsFrom 1 setup.players n
+player_of_test a setup n h =
+    let tests = both (nat_lt 0 n) (nat_le n setup.players) (both a (is_client setup n) h).1 in
+    let low = ltb-true 0 n tests.0 in
+    (omega (arith, low), leb-true n setup.players tests.1)

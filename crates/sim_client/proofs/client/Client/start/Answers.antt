@@ -1,0 +1,25 @@
+-- It begins at the first state, which is valid.
+use Rattle.std.proofs.Common.{◌∙◌, sym, subst, ap}
+use Rattle.sim_base.specs.Turn.{first_state}
+use Rattle.sim_base.specs.Validity.{IsValid}
+use Rattle.sim_laws.proofs.Validity.{first_state_is_valid}
+use Rattle.sim_client.proofs.Standing.{of_match, none_by_players}
+use Rattle.sim_client.proofs.client.Client.start.Goals as goal
+
+pub returns-clause-sound : goal.returns-clause-sound
+returns-clause-sound g c =
+    let self = c.args.self.now in
+    let setup = self.setup.now in
+    let limits = c.requires.sound.limits in
+    let same = of_match setup (λ i v. (goal.System-dyn g (i, v)).meaning v) self.stage self.board c.in-Some.board c.in-Some.is c.requires.sound.ready in
+    let started = c.in_ok-start.ensures in
+    record {
+      limits = limits;
+      number_is = c.requires.sound.number_is;
+      ready = record {
+        same = started.setup ∙ same;
+        whole = started.whole;
+        valid = subst (IsValid setup) (sym (started.state ∙ ap first_state same)) (first_state_is_valid setup limits);
+        known = none_by_players setup c.begin.result.known c.begin.ensures.known;
+      };
+    }

@@ -1,0 +1,13 @@
+use Rattle.sim_client.proofs.Following.{starting_follows, joining_follows, ordering_follows, playing_follows, bending_follows, hearing_follows}
+use Rattle.sim_client.proofs.laws.lives_follow_phases.Goals as goal
+
+pub returns : goal.returns
+returns c =
+    record {
+      starts = starting_follows;
+      joins = joining_follows;
+      orders = ordering_follows;
+      plays = playing_follows;
+      bends = bending_follows;
+      hears = hearing_follows;
+    }

@@ -1,0 +1,7 @@
+-- A release leaves what is known.
+use Rattle.std.proofs.Common.{sym, subst}
+use Rattle.sim_client.specs.KnownWords.{AreByPlayers}
+use Rattle.sim_client.proofs.playing.heed.Goals as goal
+
+pub returns-in-Release-clause-players : goal.returns-in-Release-clause-players
+returns-in-Release-clause-players c = subst (AreByPlayers c.args.setup.now) (sym c.release.ensures.known) c.requires.players

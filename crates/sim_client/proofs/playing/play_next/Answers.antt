@@ -1,0 +1,20 @@
+-- The commands of the turn are known no more.
+use Rattle.std.proofs.Common.{[], ◌+◌, subst, ◌∙◌}
+use Rattle.std.proofs.lemmas.List.Elements.{All-nil}
+use Rattle.sim_base.specs.declared.setup.Setup.{Setup}
+use Rattle.sim_base.specs.Validity.{IsValid}
+use Rattle.sim_turn_laws.specs.CommandLaws.{IsOrderOf}
+use Rattle.sim_client.proofs.Knowing.{players_put}
+use Rattle.sim_client.proofs.playing.play_next.Goals as goal
+
+pub returns-clause-playing : goal.returns-clause-playing
+returns-clause-playing g c =
+    let setup = c.args.setup.now in
+    let before = c.requires.playing in
+    let turned = c.in_ok-turn.ensures in
+    record {
+      same = turned.setup ∙ before.same;
+      whole = turned.whole;
+      valid = subst (λ (s : Setup). IsValid s c.turn.new.board.state) before.same turned.valid;
+      known = players_put setup c.args.seat.now.known c.take-commands.new.self (c.scene.result.state.now.turn + 1) [] c.take-commands.ensures.others before.known (All-nil (IsOrderOf setup));
+    }

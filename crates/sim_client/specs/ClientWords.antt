@@ -1,0 +1,120 @@
+-- What a client is to its callers. A clause passes ⟦<dyn System as System>⟧ for `sys`.
+use Rattle.std.specs.Prelude.{◌≡◌, ℕ, Bool, true, false, List, Option, Some, None, Result, Ok, Err}
+use Rattle.sim_base.specs.declared.memory.OutOfMemory.{OutOfMemory}
+use Rattle.sim_base.specs.declared.setup.Setup.{Setup}
+use Rattle.sim_base.specs.declared.state.State.{State}
+use Rattle.sim_base.specs.Spelling.{digest}
+use Rattle.sim_system.specs.declared.system.System.{Ghosts}
+use Rattle.sim_system.specs.Meanings.{Systems}
+use Rattle.sim_plain.specs.declared.message.DownOf.TheVariants as down
+use Rattle.sim_codec.specs.Loading.{StandsFor}
+use Rattle.sim_client.specs.declared.client.Client.{Client}
+use Rattle.sim_client.specs.declared.did.Did.{Did}
+use Rattle.sim_client.specs.declared.did.Did.TheVariants as did
+use Rattle.sim_client.specs.Lives.{Life, Off, Joining, On, Act, Told}
+use Rattle.sim_client.specs.StageWords.{life_at, systems_on, IsSoundAt}
+
+-- the match that it takes part in
+abbrev pub setup_in : {Y X : Type 0} {G : Y → Type 0} {F : X → Type 0} {M : _} → Client Y X G F M → Setup
+setup_in client = client.setup.now
+
+-- the number of the player for whom it acts
+abbrev pub number_in : {Y X : Type 0} {G : Y → Type 0} {F : X → Type 0} {M : _} → Client Y X G F M → ℕ
+number_in client = client.number
+
+-- what it is
+abbrev pub life : {Y X : Type 0} {G : Y → Type 0} {F : X → Type 0} {M : _} → Client Y X G F M → Life
+life client = life_at client.stage client.board
+
+-- the meanings of its systems
+abbrev pub systems : {Y X : Type 0} {G : Y → Type 0} {F : X → Type 0} {M : _} → Client Y X G F M → ((i : X) → Ghosts (F i)) → Systems
+systems client sys = systems_on client.board (λ i v. (sys i).meaning v)
+
+-- what every call may count on, as long as none has wanted memory
+abbrev pub IsSound : {Y X : Type 0} {G : Y → Type 0} {F : X → Type 0} {M : _} → Client Y X G F M → ((i : X) → Ghosts (F i)) → Type 0
+IsSound client sys = IsSoundAt client.setup.now client.number client.stage client.board (λ i v. (sys i).meaning v)
+
+-- the state of a client that is on
+abbrev pub state_of : Life → Option State
+state_of Off = None
+state_of Joining = None
+state_of (On player) = Some player.state
+
+-- its turn
+abbrev pub turn_of : Life → Option ℕ
+turn_of Off = None
+turn_of Joining = None
+turn_of (On player) = Some player.state.turn
+
+-- the digest of its state
+abbrev pub digest_of : Setup → Life → Option (List ℕ)
+digest_of setup Off = None
+digest_of setup Joining = None
+digest_of setup (On player) = Some (digest setup player.state)
+
+-- it waits for a state
+abbrev pub is_joining : Life → Bool
+is_joining Off = false
+is_joining Joining = true
+is_joining (On player) = false
+
+-- a call answers Idle exactly where nothing happens; where something does, the client becomes that and says that, or memory was refused
+abbrev pub Answers : Option Act → Life → Result Did OutOfMemory → Life → Type 0
+Answers None old (Ok did.Idle) new = new ≡ old
+Answers None old (Ok (did.Done ups)) new = ⊥
+Answers None old (Err e) new = Unit {0}
+Answers (Some act) old (Ok did.Idle) new = ⊥
+Answers (Some act) old (Ok (did.Done ups)) new = (new ≡ act.life) × (ups ≡ act.says)
+Answers (Some act) old (Err e) new = Unit {0}
+
+-- the same of a call that takes no memory
+abbrev pub Tells : Option Act → Life → Bool → Life → Type 0
+Tells None old told new = (told ≡ false) × (new ≡ old)
+Tells (Some act) old told new = (told ≡ true) × (new ≡ act.life)
+
+-- bytes load as this state, if any
+abbrev pub LoadsAt : Setup → List ℕ → Option State → Type 0
+LoadsAt setup bytes None = (state : State) → StandsFor setup bytes state → ⊥
+LoadsAt setup bytes (Some state) = StandsFor setup bytes state
+
+-- so do those of a message that has the bytes of one
+abbrev pub LoadsFrom : Setup → Told → Option State → Type 0
+LoadsFrom setup (down.Ask client) loaded = Unit {0}
+LoadsFrom setup (down.State done bytes) loaded = LoadsAt setup bytes loaded
+LoadsFrom setup (down.Command turn order) loaded = Unit {0}
+LoadsFrom setup (down.Release turn) loaded = Unit {0}
+LoadsFrom setup (down.Notice turn client) loaded = Unit {0}
+LoadsFrom setup (down.Refused code) loaded = Unit {0}
+
+-- a state is heard by a client that waits for one
+abbrev pub may_load : Life → Told → Bool
+may_load Off said = false
+may_load (On player) said = false
+may_load Joining (down.Ask client) = false
+may_load Joining (down.State done bytes) = true
+may_load Joining (down.Command turn order) = false
+may_load Joining (down.Release turn) = false
+may_load Joining (down.Notice turn client) = false
+may_load Joining (down.Refused code) = false
+
+-- nothing happened
+abbrev pub is_idle : Result Did OutOfMemory → Bool
+is_idle (Ok did.Idle) = true
+is_idle (Ok (did.Done ups)) = false
+is_idle (Err e) = false
+
+-- a client hears this without taking memory
+abbrev pub NeedsNoMemory : Life → Told → Type 0
+NeedsNoMemory Off said = Unit {0}
+NeedsNoMemory Joining (down.Ask client) = Unit {0}
+NeedsNoMemory Joining (down.State done bytes) = ⊥
+NeedsNoMemory Joining (down.Command turn order) = Unit {0}
+NeedsNoMemory Joining (down.Release turn) = Unit {0}
+NeedsNoMemory Joining (down.Notice turn client) = Unit {0}
+NeedsNoMemory Joining (down.Refused code) = Unit {0}
+NeedsNoMemory (On player) (down.Ask client) = ⊥
+NeedsNoMemory (On player) (down.State done bytes) = Unit {0}
+NeedsNoMemory (On player) (down.Command turn order) = ⊥
+NeedsNoMemory (On player) (down.Release turn) = Unit {0}
+NeedsNoMemory (On player) (down.Notice turn client) = Unit {0}
+NeedsNoMemory (On player) (down.Refused code) = Unit {0}

@@ -1,0 +1,5 @@
+pub mod KnownWords
+pub mod Lives
+pub mod LifeLaws
+pub mod StageWords
+pub mod ClientWords

@@ -1,0 +1,247 @@
+//! A client of a session: its steps, and what is seen of it.
+//!
+//! Its systems are always on a board. A client that is not on has one that is not whole, and its systems are cleared. The
+//! board is taken out only to be made anew, as the client is cut off.
+
+ghost use Rattle.std.specs.Prelude.{◌≡◌, None, min, option_copied, IsOk, OnOk};
+ghost use Rattle.sim_base.specs.Limits.{IsSetup, IsFrom, HasFewIds};
+ghost use Rattle.sim_system.specs.Meanings.{HaveKinds, AreBuiltOnceAtMost, all_cleared};
+ghost use Rattle.sim_system.specs.RigWords.{systems_of};
+ghost use Rattle.sim_board.specs.BoardWords.{AreKept};
+ghost use Rattle.sim_client.specs.Lives.{Off, starts, joins, orders as orders_by, plays, bends};
+ghost use Rattle.sim_client.specs.StageWords.{AreCleared, AreOf};
+ghost use Rattle.sim_client.specs.ClientWords.{setup_in, number_in, life, systems, IsSound, Answers, Tells, is_joining, turn_of, digest_of, state_of};
+
+mod hearing;
+
+use crate::bending::bend;
+use crate::did::{Did, one};
+use crate::playing::{begin, order, play};
+use crate::stage::Stage;
+use sim_base::{Command, Fixed, OutOfMemory, Setup, State};
+use sim_board::Board;
+use sim_codec::digest;
+use sim_orders::OrderTable;
+use sim_system::{Rig, System};
+use sim_wire::Up;
+use std::alloc::Global;
+
+/// A client. After want of memory it may only be finished.
+#[derive(Drop)]
+pub struct Client<'a> {
+    alloc: Global,
+    setup: &'a Setup,
+    orders: &'a OrderTable,
+    number: u8,
+    stage: Stage,
+    board: Option<Board<'a>>,
+}
+
+impl<'a> Client<'a> {
+    /// A client for the player of this number, which is off. Its systems have to be cleared.
+    pub fn new(
+        alloc: Global,
+        setup: &'a Setup,
+        orders: &'a OrderTable,
+        number: u8,
+        rig: Rig,
+    ) -> Client<'a>
+        requires limits { IsSetup setup.now }
+        requires number { IsFrom 1 setup.now.players number }
+        requires kinds { HaveKinds (systems_of rig ⟦<dyn System as System>⟧) }
+        requires cleared { AreCleared (systems_of rig ⟦<dyn System as System>⟧) }
+        ensures setup { setup_in result ≡ setup.now }
+        ensures number { number_in result ≡ number }
+        ensures off { life result ≡ Off }
+        ensures systems { systems result ⟦<dyn System as System>⟧ ≡ systems_of rig ⟦<dyn System as System>⟧ }
+        ensures sound { IsSound result ⟦<dyn System as System>⟧ }
+    {
+        Client {
+            alloc,
+            setup,
+            orders,
+            number,
+            stage: Stage::Off,
+            board: Some(Board::new(alloc, setup, rig)),
+        }
+    }
+
+    /// Begins in the match at its first state.
+    pub fn start(&mut self) -> Result<(), OutOfMemory>
+        requires sound { IsSound self.old ⟦<dyn System as System>⟧ }
+        requires off { life self.old ≡ Off }
+        ensures starts { OnOk result (life self.new ≡ starts (setup_in self.old)) }
+        ensures sound { OnOk result (IsSound self.new ⟦<dyn System as System>⟧) }
+        ensures kinds { HaveKinds (systems self.new ⟦<dyn System as System>⟧) }
+        ensures most { AreBuiltOnceAtMost (systems self.old ⟦<dyn System as System>⟧) (systems self.new ⟦<dyn System as System>⟧) }
+        ensures setup { setup_in self.new ≡ setup_in self.old }
+        ensures number { number_in self.new ≡ number_in self.old }
+    {
+        let Some(board) = &mut self.board else {
+            return Ok(());
+        };
+        board.start()?;
+        let ahead = first_done(self.setup);
+        self.stage = Stage::On {
+            seat: begin(self.alloc, ahead, ahead),
+        };
+        Ok(())
+    }
+
+    /// Wishes to join.
+    pub fn join(&mut self) -> Result<Did, OutOfMemory>
+        requires sound { IsSound self.old ⟦<dyn System as System>⟧ }
+        ensures answers { Answers (joins (life self.old)) (life self.old) result (life self.new) }
+        ensures idle { joins (life self.old) ≡ None → IsOk result }
+        ensures sound { OnOk result (IsSound self.new ⟦<dyn System as System>⟧) }
+        ensures kept { AreKept (systems self.old ⟦<dyn System as System>⟧) (systems self.new ⟦<dyn System as System>⟧) }
+        ensures setup { setup_in self.new ≡ setup_in self.old }
+        ensures number { number_in self.new ≡ number_in self.old }
+    {
+        let Stage::Off = self.stage else {
+            return Ok(Did::Idle);
+        };
+        let up = one(self.alloc, Up::Join)?;
+        self.stage = Stage::Joining;
+        Ok(Did::Done { up })
+    }
+
+    /// Gives a command, for the turn behind those that it is done with.
+    pub fn order(&mut self, command: Command) -> Result<Did, OutOfMemory>
+        requires sound { IsSound self.old ⟦<dyn System as System>⟧ }
+        requires few { HasFewIds command }
+        ensures answers { Answers (orders_by (setup_in self.old) command (life self.old)) (life self.old) result (life self.new) }
+        ensures idle { orders_by (setup_in self.old) command (life self.old) ≡ None → IsOk result }
+        ensures sound { OnOk result (IsSound self.new ⟦<dyn System as System>⟧) }
+        ensures kept { AreKept (systems self.old ⟦<dyn System as System>⟧) (systems self.new ⟦<dyn System as System>⟧) }
+        ensures setup { setup_in self.new ≡ setup_in self.old }
+        ensures number { number_in self.new ≡ number_in self.old }
+    {
+        let Stage::On { seat } = &mut self.stage else {
+            return Ok(Did::Idle);
+        };
+        order(self.alloc, self.setup, seat, command)
+    }
+
+    /// Plays the next turn.
+    pub fn play(&mut self) -> Result<Did, OutOfMemory>
+        requires sound { IsSound self.old ⟦<dyn System as System>⟧ }
+        ensures answers { Answers (plays (setup_in self.old) (life self.old)) (life self.old) result (life self.new) }
+        ensures idle { plays (setup_in self.old) (life self.old) ≡ None → IsOk result }
+        ensures sound { OnOk result (IsSound self.new ⟦<dyn System as System>⟧) }
+        ensures kept { AreKept (systems self.old ⟦<dyn System as System>⟧) (systems self.new ⟦<dyn System as System>⟧) }
+        ensures setup { setup_in self.new ≡ setup_in self.old }
+        ensures number { number_in self.new ≡ number_in self.old }
+    {
+        let Stage::On { seat } = &mut self.stage else {
+            return Ok(Did::Idle);
+        };
+        let Some(board) = &mut self.board else {
+            return Ok(Did::Idle);
+        };
+        play(self.alloc, self.setup, self.orders, board, seat)
+    }
+
+    /// Sets the health of an entity in this client alone, and answers whether it did. Health is in units of 1/65536.
+    pub fn bend(&mut self, entity: u32, health: Fixed) -> bool
+        requires sound { IsSound self.old ⟦<dyn System as System>⟧ }
+        ensures tells { Tells (bends (setup_in self.old) entity health (life self.old)) (life self.old) result (life self.new) }
+        ensures sound { IsSound self.new ⟦<dyn System as System>⟧ }
+        ensures kept { AreKept (systems self.old ⟦<dyn System as System>⟧) (systems self.new ⟦<dyn System as System>⟧) }
+        ensures setup { setup_in self.new ≡ setup_in self.old }
+        ensures number { number_in self.new ≡ number_in self.old }
+    {
+        let Stage::On { .. } = self.stage else {
+            return false;
+        };
+        let Some(board) = &mut self.board else {
+            return false;
+        };
+        bend(board, entity, health)
+    }
+
+    /// Is cut off: its systems are cleared.
+    pub fn cut(&mut self)
+        requires kinds { HaveKinds (systems self.old ⟦<dyn System as System>⟧) }
+        ensures off { life self.new ≡ Off }
+        ensures cleared { systems self.new ⟦<dyn System as System>⟧ ≡ all_cleared (systems self.old ⟦<dyn System as System>⟧) }
+        ensures sound { IsSound self.old ⟦<dyn System as System>⟧ → IsSound self.new ⟦<dyn System as System>⟧ }
+        ensures setup { setup_in self.new ≡ setup_in self.old }
+        ensures number { number_in self.new ≡ number_in self.old }
+    {
+        self.stage = Stage::Off;
+        if let Some(board) = self.board.take() {
+            let (_, mut rig) = board.finish();
+            rig.clear();
+            self.board = Some(Board::new(self.alloc, self.setup, rig));
+        }
+    }
+
+    /// Whether it waits for a state.
+    pub fn joining(&self) -> bool
+        ensures { result ≡ is_joining (life self.now) }
+    {
+        matches!(self.stage, Stage::Joining)
+    }
+
+    /// The state of a client that is on.
+    pub fn state(&self) -> Option<&State>
+        requires { IsSound self.now ⟦<dyn System as System>⟧ }
+        ensures { option_copied result ≡ state_of (life self.now) }
+    {
+        let Stage::On { .. } = self.stage else {
+            return None;
+        };
+        match &self.board {
+            Some(board) => Some(board.scene().state),
+            None => None,
+        }
+    }
+
+    /// Its turn.
+    pub fn turn(&self) -> Option<u32>
+        requires { IsSound self.now ⟦<dyn System as System>⟧ }
+        ensures { result ≡ turn_of (life self.now) }
+    {
+        match self.state() {
+            Some(state) => Some(state.turn),
+            None => None,
+        }
+    }
+
+    /// MD5 of the bytes of its state.
+    pub fn digest(&self) -> Option<[u8; 16]>
+        requires { IsSound self.now ⟦<dyn System as System>⟧ }
+        ensures { result ≡ digest_of (setup_in self.now) (life self.now) }
+    {
+        match self.state() {
+            Some(state) => Some(digest(self.setup, state)),
+            None => None,
+        }
+    }
+
+    /// Hands the rig back as it stands.
+    pub fn finish(self) -> Rig
+        requires { HaveKinds (systems self ⟦<dyn System as System>⟧) }
+        ensures systems { systems_of result ⟦<dyn System as System>⟧ ≡ systems self.entry ⟦<dyn System as System>⟧ }
+        ensures stands { IsSound self.entry ⟦<dyn System as System>⟧ → AreOf (setup_in self.entry) (life self.entry) (systems_of result ⟦<dyn System as System>⟧) }
+    {
+        let Client { board, .. } = self;
+        match board {
+            Some(board) => board.finish().1,
+            None => unreachable!(),
+        }
+    }
+}
+
+// How many turns are released at the start.
+fn first_done(setup: &Setup) -> u32
+    ensures { result ≡ min setup.now.turns setup.now.delay }
+{
+    let delay = u32::from(setup.delay);
+    if delay < setup.turns {
+        delay
+    } else {
+        setup.turns
+    }
+}

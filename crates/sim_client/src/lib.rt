@@ -1,0 +1,27 @@
+//! The client of a session: what it knows of the match, and what it plays on a board.
+//!
+//! It promises that each step of a client, and each message that it hears, makes of it just what the definition of a
+//! session says, with a state in place of a past and bytes in place of carried pasts; that the systems of one that is on
+//! stand for its state, and those of any other are cleared; and that only its start and a state that it loads build them,
+//! once at most. It stands on `sim_turn`, which plays a turn on a board, on the codec, and on the definition in
+//! `sim_plain_session`.
+//!
+//! - `did`: what a step comes to.
+//! - `known`: the commands of the turns to come.
+//! - `stage`: what a client keeps beside its board.
+//! - `bending`, `playing`: what one that is on does with its board, and what it hears.
+//! - `client`: the client.
+//! - `laws`: theorems about the definitions, each the contract of a function that does nothing.
+#![tactic(auto)]
+
+mod bending;
+mod client;
+mod did;
+mod known;
+mod laws;
+mod playing;
+mod stage;
+
+pub use client::Client;
+pub use did::{Did, Ups};
+pub use laws::lives_follow_phases;
