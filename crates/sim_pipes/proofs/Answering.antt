@@ -1,0 +1,48 @@
+-- What the server says to an arrival has frames, and goes to clients.
+use Rattle.std.proofs.Common.{◌≡◌, ℕ, suc, ◌<◌, List, ◌++◌, All, sym, ap, ◌∙◌, subst, Result, Ok, Err}
+use Rattle.std.specs.Prelude.{IfOk}
+use Rattle.sim_base.specs.declared.memory.OutOfMemory.{OutOfMemory}
+use Rattle.sim_plain.specs.declared.message.DownOf.{DownOf}
+use Rattle.sim_plain.specs.declared.message.PostOf.{PostOf}
+use Rattle.sim_plain.specs.Messages.{Arrival}
+use Rattle.sim_plain.specs.Posts.{posts}
+use Rattle.sim_wire.specs.Fits.{IsSmallDown, IsDownFrame}
+use Rattle.sim_server.specs.Small.{IsSmallArrival, IsSmallServer}
+use Rattle.sim_server.specs.Standing.{View, server_of, Makes}
+use Rattle.sim_server.proofs.Smallness.{servers_stay_small, posts_are_small}
+use Rattle.sim_pipes.specs.Pipes.{AreFrames, pipe_in, Sends}
+use Rattle.sim_pipes.specs.Posts.{told_to}
+use Rattle.sim_pipes.proofs.Telling.{all_posts, clients_below, told_each}
+
+abbrev Bytes : Type 0
+Bytes = List ℕ
+
+abbrev Answer : Type 0
+Answer = Result (List (PostOf Bytes)) OutOfMemory
+
+pub makes_rules : (old : View) (a : Arrival Bytes) (r : Answer) (new : View) → Makes old a r new → new.rules ≡ old.rules
+makes_rules old a (Ok posts) new made = made.rules
+makes_rules old a (Err e) new same = same.rules
+
+pub makes_small : (old : View) (a : Arrival Bytes) (r : Answer) (new : View) → IsSmallServer (server_of old) → IsSmallArrival a → Makes old a r new → IsSmallServer (server_of new)
+makes_small old a (Ok posts) new small fits made = subst IsSmallServer (sym made.server) (servers_stay_small old.rules (server_of old) a small fits)
+makes_small old a (Err e) new small fits same = subst IsSmallServer (sym same.server) small
+
+pub to_clients : (old : View) (a : Arrival Bytes) (r : Answer) (new : View) → Makes old a r new → IfOk r (All (λ (post : PostOf Bytes). post.to < suc old.rules.clients))
+to_clients old a (Ok sent) new made = subst (All (λ (post : PostOf Bytes). post.to < suc old.rules.clients)) (sym made.said) (clients_below old.rules.clients (posts old.rules (server_of old) a))
+to_clients old a (Err e) new same = tt
+
+pub have_frames : (old : View) (a : Arrival Bytes) (r : Answer) (new : View) → IsSmallServer (server_of old) → IsSmallArrival a → Makes old a r new → IfOk r (All (λ (post : PostOf Bytes). IsSmallDown post.down))
+have_frames old a (Ok sent) new small fits made =
+    subst (All (λ (post : PostOf Bytes). IsSmallDown post.down)) (sym made.said)
+    (all_posts (λ (post : PostOf Bytes). IsSmallDown post.down) old.rules.clients (posts old.rules (server_of old) a) (λ c low high. posts_are_small old.rules (server_of old) a c small fits))
+have_frames old a (Err e) new small fits same = tt
+
+-- posts that are delivered are what the server says to each client
+pub sends : (old : View) (before : List (List Bytes)) (a : Arrival Bytes) (sent : List (PostOf Bytes)) (new : View) (pipes : List (List Bytes)) → Makes old a (Ok sent) new
+    → ((c : ℕ) (messages : List (DownOf Bytes)) → AreFrames IsDownFrame (pipe_in before c) messages → AreFrames IsDownFrame (pipe_in pipes c) (messages ++ told_to c sent))
+    → Sends old before a new pipes
+sends old before a sent new pipes made delivered = record {
+  server = made.server;
+  told = λ c messages low high are. subst (λ said. AreFrames IsDownFrame (pipe_in pipes c) (messages ++ said)) (ap (told_to c) made.said ∙ told_each old.rules.clients c (posts old.rules (server_of old) a) low high) (delivered c messages are);
+}

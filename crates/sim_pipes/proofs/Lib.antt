@@ -1,0 +1,5 @@
+pub mod Frames
+pub mod Telling
+pub mod Noticing
+pub mod Answering
+pub mod Conveying

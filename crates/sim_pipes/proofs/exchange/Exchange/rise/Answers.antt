@@ -1,0 +1,16 @@
+-- The first message is heard.
+use Rattle.std.proofs.Common.{◌<◌, ◌∷◌, [], ◌∙◌, length, sym, ap, subst, arith}
+use Rattle.std.proofs.lemmas.List.{get_or_default}
+use Rattle.sim_pipes.specs.Exchanges.{Held, Conveys}
+use Rattle.sim_pipes.proofs.Conveying.{risen}
+use Rattle.sim_pipes.proofs.exchange.Exchange.rise.Goals as goal
+
+pub returns-clause-stands : goal.returns-clause-stands
+returns-clause-stands c = λ setup s conv.
+    let client = rw (← c.self.view_is) at c.requires in
+    let held : Held = record { ups = c.self.inside.ups.items; downs = c.self.inside.downs.items; server = c.self.inside.server } in
+    let within : c.args.client < length c.self.inside.ups.items = omega (arith, c.self.invariant.ups, client.1) in
+    risen setup held s c.args.client c.as_slice.result.now c.take.new.self c.hear.new.server c.hear.new.downs.items c.hear.result
+    (subst (λ v. Conveys setup v s) (sym c.self.view_is) conv) c.self.invariant.ups client.0 client.1
+    (get_or_default c.self.inside.ups.items c.args.client [] c.index_mut.result.now within ∙ sym c.index_mut.ensures.value ∙ c.in-Some.ensures ∙ ap (λ f. f ∷ c.take.new.self) (sym c.as_slice.ensures))
+    c.hear.ensures.rules c.hear.ensures.heard

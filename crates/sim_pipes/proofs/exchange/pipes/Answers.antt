@@ -1,0 +1,10 @@
+-- One pipe more is empty.
+use Rattle.std.proofs.Common.{[], ◌∷◌, arith, length-append}
+use Rattle.sim_pipes.proofs.Conveying.{one_more_empty}
+use Rattle.sim_pipes.proofs.exchange.pipes.Goals as goal
+
+pub loop-preserved : goal.loop-preserved
+loop-preserved c = record {
+  count = rw c.in_ok-push.ensures.items (omega (arith, c.loop.invariant.count, length-append c.loop.pipes.items (c.new.result ∷ [])));
+  empty = λ k. rw (c.in_ok-push.ensures.items, c.new.ensures) (one_more_empty c.loop.pipes.items k (c.loop.invariant.empty k));
+}

@@ -1,0 +1,10 @@
+-- The pipes so far are empty.
+use Rattle.std.proofs.Common.{◌≡◌, ℕ, [], length}
+use Rattle.sim_pipes.specs.Pipes.{pipe_in}
+use Rattle.sim_pipes.proofs.exchange.pipes.Given as goal
+
+abbrev pub invariant-loop : goal.invariant-loop
+invariant-loop l = record {
+  count : length l.pipes.items ≡ l.counter;
+  empty : (c : ℕ) → pipe_in l.pipes.items c ≡ [];
+}

@@ -1,0 +1,12 @@
+-- The clauses are the lemmas of these names.
+use Rattle.sim_plain.specs.Posts.{posts}
+use Rattle.sim_pipes.proofs.Telling.{told_each, clients_are_told}
+use Rattle.sim_pipes.proofs.Noticing.{sender_is_noticed}
+use Rattle.sim_pipes.proofs.laws.posts_reach_their_clients.Goals as goal
+
+pub returns : goal.returns
+returns g c = record {
+  each = λ rules s a c low high. told_each rules.clients c (posts rules s a) low high;
+  clients = λ rules s a. clients_are_told rules.clients (posts rules s a);
+  noticed = sender_is_noticed;
+}

@@ -1,0 +1,16 @@
+-- One post more is looked at.
+use Rattle.std.proofs.Common.{◌++◌, ◌∷◌, [], ◌∙◌, take, sym, ap, arith, append_assoc}
+use Rattle.std.specs.Prelude.{filter_map}
+use Rattle.sim_plain.specs.Notices.{notice_in}
+use Rattle.sim_pipes.specs.Posts.{told_to, notice_events}
+use Rattle.sim_pipes.proofs.Noticing.{notices_more}
+use Rattle.sim_pipes.proofs.notice.push_notices.Goals as goal
+
+pub loop-post-preserved : goal.loop-post-preserved
+loop-post-preserved c =
+    let all = c.as_slice-post-items.result.now in
+    let i = c.loop-post.post-index in
+    let new = notice_events (filter_map notice_in (told_to c.args.client (c.post-item.result ∷ []))) in
+    c.in_ok-push_notice.ensures ∙ ap (λ l. l ++ new) c.loop-post.invariant
+    ∙ append_assoc c.args.events.now (notice_events (filter_map notice_in (told_to c.args.client (take i all)))) new
+    ∙ ap (λ l. c.args.events.now ++ l) (sym (notices_more c.args.client all i c.post-item.result (omega (arith, c.loop-post-test.true)) c.post-item.is))

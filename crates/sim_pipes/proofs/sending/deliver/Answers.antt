@@ -1,0 +1,20 @@
+-- One post more is sent.
+use Rattle.std.proofs.Common.{◌++◌, ◌∷◌, [], ◌∙◌, take, sym, ap, subst, arith, append_assoc}
+use Rattle.sim_wire.specs.Fits.{IsDownFrame}
+use Rattle.sim_pipes.specs.Pipes.{AreFrames, pipe_in}
+use Rattle.sim_pipes.specs.Posts.{told_to}
+use Rattle.sim_pipes.proofs.Frames.{sent_more}
+use Rattle.sim_pipes.proofs.Telling.{told_more}
+use Rattle.sim_pipes.proofs.sending.deliver.Goals as goal
+
+pub loop-post-preserved : goal.loop-post-preserved
+loop-post-preserved c =
+    let all = c.as_slice-post-items.result.now in
+    let i = c.loop-post.post-index in
+    record {
+      frames = λ k before are.
+          subst (AreFrames IsDownFrame (pipe_in c.send_down_to.new.pipes.items k))
+          (append_assoc before (told_to k (take i all)) (told_to k (c.post-item.result ∷ [])) ∙ ap (λ l. before ++ l) (sym (told_more k all i c.post-item.result (omega (arith, c.loop-post-test.true)) c.post-item.is)))
+          (sent_more c.loop-post.pipes.items c.send_down_to.new.pipes.items c.post-item.result k (before ++ told_to k (take i all)) c.in_ok-send_down_to.ensures.one c.in_ok-send_down_to.ensures.others (c.loop-post.invariant.frames k before are));
+      count = c.in_ok-send_down_to.ensures.count ∙ c.loop-post.invariant.count;
+    }

@@ -1,0 +1,14 @@
+-- The posts so far are sent, and there are as many pipes as before.
+use Rattle.std.proofs.Common.{◌≡◌, ℕ, List, ◌++◌, take, length}
+use Rattle.sim_plain.specs.declared.message.DownOf.{DownOf}
+use Rattle.sim_wire.specs.Fits.{IsDownFrame}
+use Rattle.sim_pipes.specs.Pipes.{AreFrames, pipe_in}
+use Rattle.sim_pipes.specs.Posts.{told_to}
+use Rattle.sim_pipes.proofs.sending.deliver.Given as goal
+
+abbrev pub invariant-loop-post : goal.invariant-loop-post
+invariant-loop-post l = record {
+  frames : (c : ℕ) (before : List (DownOf (List ℕ))) → AreFrames IsDownFrame (pipe_in l.fn.pipes.items c) before
+      → AreFrames IsDownFrame (pipe_in l.pipes.items c) (before ++ told_to c (take l.post-index l.post-items));
+  count : length l.pipes.items ≡ length l.fn.pipes.items;
+}

@@ -1,0 +1,18 @@
+-- One message more is sent.
+use Rattle.std.proofs.Common.{◌++◌, take, sym, ap, subst, arith, append-nil}
+use Rattle.std.proofs.lemmas.List.{take_all}
+use Rattle.sim_wire.specs.Fits.{IsUpFrame}
+use Rattle.sim_pipes.specs.Pipes.{AreFrames}
+use Rattle.sim_pipes.proofs.Frames.{framed_more}
+use Rattle.sim_pipes.proofs.sending.send_all_up.Goals as goal
+
+pub loop-up-init : goal.loop-up-init
+loop-up-init c = λ before are. subst (AreFrames IsUpFrame c.args.pipe.now) (sym (append-nil before)) are
+
+pub loop-up-preserved : goal.loop-up-preserved
+loop-up-preserved c = λ before are.
+    framed_more IsUpFrame c.send_up.new.pipe before c.args.ups.now c.loop-up.up-index c.up-item.result (omega (arith, c.loop-up-test.true)) c.up-item.is
+    (c.in_ok-send_up.ensures (before ++ take c.loop-up.up-index c.args.ups.now) (c.loop-up.invariant before are))
+
+pub returns : goal.returns
+returns c = λ before are. subst (AreFrames IsUpFrame c.loop-up.pipe) (ap (λ l. before ++ l) (take_all c.loop-up.up-index c.args.ups.now (omega (arith, c.loop-up-test.false)))) (c.loop-up.invariant before are)

@@ -1,0 +1,9 @@
+-- The messages so far are sent.
+use Rattle.std.proofs.Common.{ℕ, List, ◌++◌, take}
+use Rattle.sim_plain.specs.declared.message.UpOf.{UpOf}
+use Rattle.sim_wire.specs.Fits.{IsUpFrame}
+use Rattle.sim_pipes.specs.Pipes.{AreFrames}
+use Rattle.sim_pipes.proofs.sending.send_all_up.Given as goal
+
+abbrev pub invariant-loop-up : goal.invariant-loop-up
+invariant-loop-up l = (before : List (UpOf (List ℕ))) → AreFrames IsUpFrame l.fn.pipe before → AreFrames IsUpFrame l.pipe (before ++ take l.up-index l.ups)

@@ -1,0 +1,39 @@
+//! What is printed of the notices among posts.
+
+ghost use Rattle.std.specs.Prelude.{◌≡◌, ◌++◌, ◌∷◌, [], filter_map, if◌then◌else◌, ◌==◌, OnOk};
+ghost use Rattle.sim_plain.specs.Notices.{notice_in};
+ghost use Rattle.sim_pipes.specs.Posts.{told_to, notice_events};
+
+use sim_base::{Event, Events, OutOfMemory};
+use sim_server::{Post, Posts};
+use sim_wire::Down;
+
+// The line of a notice, if a post to this client is one.
+fn push_notice(events: &mut Events, client: u8, post: &Post) -> Result<(), OutOfMemory>
+    ensures { OnOk result (events.new ≡ events.old ++ notice_events (filter_map notice_in (told_to client (post.now ∷ [])))) }
+{
+    if post.to != client {
+        return Ok(());
+    }
+    match &post.down {
+        Down::Notice { turn, client } => events.push(Event::Notice {
+            turn: *turn,
+            client: *client,
+        }),
+        Down::Ask { .. } => Ok(()),
+        Down::State { .. } => Ok(()),
+        Down::Command { .. } => Ok(()),
+        Down::Release { .. } => Ok(()),
+        Down::Refused { .. } => Ok(()),
+    }
+}
+
+/// Appends the line of each notice among the posts to one client.
+pub fn push_notices(events: &mut Events, client: u8, posts: &Posts) -> Result<(), OutOfMemory>
+    ensures { OnOk result (events.new ≡ events.old ++ notice_events (filter_map notice_in (told_to client posts.now))) }
+{
+    for post in posts.as_slice() {
+        push_notice(events, client, post)?;
+    }
+    Ok(())
+}
