@@ -1,6 +1,6 @@
 //! A row by its id. Ids ascend, so it is found by halves.
 
-ghost use Rattle.std.specs.Prelude.{◌≡◌, ◌<◌, None, Some, length, map, option_copied, MatchOption};
+ghost use Rattle.std.specs.Prelude.{◌≡◌, ◌<◌, IsTrue, None, Some, length, map, option_copied, MatchOption};
 ghost use Rattle.std.specs.List.{HoldsAt};
 ghost use Rattle.std.specs.List.Sorted.{IsStrictlyIncreasing};
 ghost use Rattle.sim_base.specs.Rows.{id_of, row_of, target_of as target_by, is_going as is_going_by};
@@ -25,9 +25,23 @@ pub fn place_of(rows: &[Row], id: u32) -> Option<usize>
     requires { IsStrictlyIncreasing (map id_of rows.now) }
     ensures { MatchOption result (found rows.now id ≡ None) (λ at. (at < length rows.now) × HoldsAt (λ row. found rows.now id ≡ Some row) rows.now at) }
 {
+    if is_below(rows, id) {
+        return None;
+    }
     match rows.binary_search_by_key(&id, |row| row.id) {
         Ok(at) => Some(at),
         Err(_) => None,
+    }
+}
+
+// Whether the id is below those of all rows, as 0 is, which stands for nobody: most rows aim at nobody.
+fn is_below(rows: &[Row], id: u32) -> bool
+    requires { IsStrictlyIncreasing (map id_of rows.now) }
+    ensures { IsTrue result → found rows.now id ≡ None }
+{
+    match rows {
+        [first, ..] => id < first.id,
+        [] => true,
     }
 }
 
