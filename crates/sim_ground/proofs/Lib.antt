@@ -1,5 +1,9 @@
+pub mod Closing
 pub mod Rows
 pub mod Spots
-pub mod Closing
 pub mod Freeing
 pub mod Over
+pub mod Relabelling
+pub mod Built
+pub mod Regions
+pub mod Asking

@@ -26,13 +26,9 @@ filter_where p q [] same = refl
 filter_where p q (x ∷ xs) same = ap (λ (b : Bool). cond b (x ∷ filter p xs) (filter p xs)) (same x (inl refl)) ∙ ap (λ (ys : List _). cond (q x) (x ∷ ys) ys) (filter_where p q xs (λ y h. same y (inr h)))
 
 module _ (land : Land) (facts : List Fact) (g : OpenCells) (over : IsOver land facts g) where
-  same_way : (start goal : Point) → way_of (field_of_grid g) start goal ≡ way_of (field_among land facts) start goal
+  pub same_way : (start goal : Point) → way_of (field_of_grid g) start goal ≡ way_of (field_among land facts) start goal
   same_way start goal =
       ap (λ (s : Size). way_of (record { size = s; is_open = is_open_at g }) start goal) over.size ∙ way_of-same (size_of land) (is_open_at g) (is_open_among land facts) over.opens start goal
-
-  pub way_is : {E : Type 0} (r : Result WayAnswer E) (start goal : Point) → IfOk r (λ w. way_in w ≡ way_of (field_of_grid g) start goal) → IfOk r (λ w. w ≡ way_told (way_of (field_among land facts) start goal))
-  way_is (Ok w) start goal is = ap way_told (is ∙ same_way start goal)
-  way_is (Err e) start goal is = tt
 
   pub spot_is : (at : Point) → least_of (spot_key at) (filter (is_open_at g) (cells_of g.size)) ≡ spot_among land facts at
   spot_is at =

@@ -1,3 +1,5 @@
 pub mod Cells
 pub mod Closing
+pub mod Opening
 pub mod Overlaps
+pub mod Lent

@@ -7,7 +7,10 @@ ghost use Rattle.sim_base.specs.Limits.{IsLand};
 ghost use Rattle.sim_base.specs.Places.{covers};
 ghost use Rattle.sim_base.specs.Filters.{rect_covers};
 ghost use Rattle.sim_grid.specs.Grids.{IsGrid};
+ghost use Rattle.sim_fact_lists.specs.Places.{with_only};
+ghost use Rattle.sim_fact_lists.specs.Changes.{passes};
 ghost use Rattle.sim_ground.specs.Closing.{Closes, in_row, in_rows, IsOver};
+ghost use Rattle.sim_ground.specs.Opening.{covers_of_other};
 
 use sim_base::{Cell, Land, OutOfMemory, Rect};
 use sim_grid::Grid;
@@ -114,6 +117,51 @@ fn build_all(grid: &mut Grid, facts: &[Fact])
     for fact in facts {
         build(grid, &fact.rect);
     }
+}
+
+// Closes the cells of an entity, unless it is this one.
+fn build_other(grid: &mut Grid, fact: &Fact, id: u32)
+    ensures { Closes (covers_of_other id fact.now) grid.old grid.new }
+{
+    if fact.id != id {
+        build(grid, &fact.rect);
+    }
+}
+
+// Closes the cells of all obstructions but this one.
+fn build_others(grid: &mut Grid, facts: &[Fact], id: u32)
+    ensures { Closes (λ c. list_any (λ fact. covers_of_other id fact c) facts.now) grid.old grid.new }
+{
+    for fact in facts {
+        build_other(grid, fact, id);
+    }
+}
+
+// Closes the cells of what is kept of an entity.
+fn build_part(grid: &mut Grid, part: &Option<Fact>)
+    ensures { Closes (λ c. passes (λ fact. rect_covers fact.rect c) part.now) grid.old grid.new }
+{
+    if let Some(fact) = part {
+        build(grid, &fact.rect);
+    }
+}
+
+/// The grid of the open cells where this is all that is kept of an id.
+pub fn grid_with(
+    alloc: Global,
+    land: &Land,
+    facts: &[Fact],
+    id: u32,
+    part: &Option<Fact>,
+) -> Result<Grid, OutOfMemory>
+    requires { IsLand land.now }
+    ensures { IfOk result (IsOver land.now (with_only id part.now facts.now)) }
+{
+    let mut grid = Grid::new(alloc, land.width, land.depth)?;
+    close_all(&mut grid, land.closed.as_slice());
+    build_others(&mut grid, facts, id);
+    build_part(&mut grid, part);
+    Ok(grid)
 }
 
 /// The grid of the open cells.

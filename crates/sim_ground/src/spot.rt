@@ -1,19 +1,13 @@
 //! The open cell nearest to a point, looked for over the grid of open cells.
 
-ghost use Rattle.std.specs.Prelude.{◌≡◌, ◌<◌, IsTrue, IfOk, Option, Some, filter, fold};
-ghost use Rattle.sim_base.specs.Places.{IsPlaced, is_inside, cells_of};
-ghost use Rattle.sim_base.specs.Rows.{size_of};
-ghost use Rattle.sim_base.specs.Limits.{IsLand};
+ghost use Rattle.std.specs.Prelude.{◌≡◌, ◌<◌, Option, Some, filter, fold};
+ghost use Rattle.sim_base.specs.Places.{IsPlaced, cells_of};
 ghost use Rattle.sim_base.specs.Least.{least_of};
 ghost use Rattle.sim_grid.specs.Grids.{is_open_at};
-ghost use Rattle.sim_system.specs.Answers.{spot_among};
 ghost use Rattle.sim_ground.specs.Cells.{IsSmall, IsSmallIfAny, row_of, spot_key, nearer};
 
-use crate::grid::grid_of;
-use sim_base::{Cell, Land, OutOfMemory, Point, centre_of, square};
+use sim_base::{Cell, Point, centre_of, square};
 use sim_grid::Grid;
-use sim_system::Fact;
-use std::alloc::Global;
 
 // What cells are compared by.
 #[tactic(auto, using(crate::proofs::Spots::centre_placed))]
@@ -67,8 +61,8 @@ fn nearest_in_row(grid: &Grid, at: &Point, first: Option<Cell>, z: u16) -> Optio
     best
 }
 
-// The open cell of a grid whose centre is nearest to a point.
-fn nearest(grid: &Grid, at: &Point) -> Option<Cell>
+/// The open cell of a grid whose centre is nearest to a point; of several the one with the least z, then the least x.
+pub fn nearest(grid: &Grid, at: &Point) -> Option<Cell>
     requires { IsPlaced at.now }
     ensures { result ≡ least_of (spot_key at.now) (filter (is_open_at grid.now) (cells_of grid.now.size)) }
 {
@@ -77,19 +71,4 @@ fn nearest(grid: &Grid, at: &Point) -> Option<Cell>
         best = nearest_in_row(grid, at, best, z);
     }
     best
-}
-
-/// The open cell whose centre is nearest to a point; of several the one with the least z, then the least x.
-pub fn spot(
-    alloc: Global,
-    land: &Land,
-    facts: &[Fact],
-    at: &Point,
-) -> Result<Option<Cell>, OutOfMemory>
-    requires limits { IsLand land.now }
-    requires at { IsTrue (is_inside (size_of land.now) at.now) }
-    ensures { IfOk result (λ cell. cell ≡ spot_among land.now facts.now at.now) }
-{
-    let grid = grid_of(alloc, land, facts)?;
-    Ok(nearest(&grid, at))
 }

@@ -1,21 +1,30 @@
-//! The system, over a plain list of the obstructions.
+//! The system: the obstructions, and beside them the grid of the open cells and its labels.
 
-ghost use Rattle.std.specs.Prelude.{◌≡◌, None, []};
+ghost use Rattle.std.specs.Prelude.{◌≡◌, None, [], OnOk, OnErr, MatchOption, option_copied};
+ghost use Rattle.sim_system.specs.Notes.{noted, NoteFits};
 ghost use Rattle.sim_system.specs.declared.kind.Kind.TheVariants.{Ground as GroundKind};
+ghost use Rattle.sim_ground.specs.Opening.{IsKept, builds};
+ghost use Rattle.sim_ground.specs.Lent.{AreRegions};
 
 use crate::free::is_free;
-use crate::open::is_open;
-use crate::spot::spot;
+use crate::opened::Opened;
+use crate::opening::{opened, opened_with};
+use crate::spot::nearest;
 use crate::way::way_over;
 use sim_base::{Land, OutOfMemory};
-use sim_fact_lists::Kept;
+use sim_fact_lists::{Kept, id_of, part_after};
+use sim_path::{Labels, Searcher};
 use sim_system::{Answer, Ask, Fact, Kind, Note, System};
 use std::alloc::Global;
+use std::cell::Cell;
 
-/// Keeps the rectangle of each entity that is an obstruction.
+/// Keeps the rectangle of each entity that is an obstruction, which cells are open, and the rooms of searches.
 #[derive(Drop)]
 pub struct Ground {
     kept: Kept,
+    opened: Option<Opened>,
+    rooms: Cell<Option<Searcher>>,
+    ghost over: { IsKept kept.land kept.facts.items opened },
 }
 
 impl Ground {
@@ -25,7 +34,42 @@ impl Ground {
     {
         Ground {
             kept: Kept::new(alloc),
+            opened: None,
+            rooms: Cell::new(None),
         }
+    }
+
+    /// Lends the labels of the open cells: two of them have one label where steps to the east, north, west and south over
+    /// open cells join them. There are none where the system was not built.
+    pub fn regions(&self) -> Option<&Labels>
+        ensures { AreRegions (⟦<Ground as System>⟧.meaning self.now).land (⟦<Ground as System>⟧.meaning self.now).facts (option_copied result) }
+    {
+        match &self.opened {
+            Some(opened) => Some(&opened.labels),
+            None => None,
+        }
+    }
+}
+
+impl Ground {
+    // Takes up a note by which an obstruction comes or goes. All memory is taken before anything changes.
+    fn rebuilt_on(&mut self, note: &Note) -> Result<(), OutOfMemory>
+        requires { MatchOption self.old.kept.land ⊥ (λ l. NoteFits GroundKind l self.old.kept.facts.items note.now) }
+        ensures facts { OnOk result (self.new.kept.facts.items ≡ noted GroundKind self.old.kept.facts.items note.now) }
+        ensures same { OnErr result (self.new.kept.facts.items ≡ self.old.kept.facts.items) }
+        ensures land { self.new.kept.land ≡ self.old.kept.land }
+        ensures rebuilds { self.new.kept.rebuilds ≡ self.old.kept.rebuilds }
+    {
+        let id = id_of(note);
+        let part = part_after(Kind::Ground, self.kept.find(id), note);
+        let Some(land) = &self.kept.land else {
+            unreachable!()
+        };
+        let facts = self.kept.facts.as_slice();
+        let opened = opened_with(self.kept.alloc, land, facts, id, &part)?;
+        self.kept.on(Kind::Ground, note)?;
+        self.opened = Some(opened);
+        Ok(())
     }
 }
 
@@ -38,30 +82,46 @@ impl System for Ground {
 
     fn clear(&mut self) {
         self.kept.clear();
+        self.opened = None;
     }
 
     fn rebuild(&mut self, land: &Land, facts: &[Fact]) -> Result<(), OutOfMemory> {
-        self.kept.rebuild(Kind::Ground, land, facts)
+        self.opened = None;
+        self.kept.rebuild(Kind::Ground, land, facts)?;
+        match opened(self.kept.alloc, land, self.kept.facts.as_slice()) {
+            Ok(opened) => self.opened = Some(opened),
+            Err(error) => {
+                self.kept.clear();
+                return Err(error);
+            }
+        }
+        Ok(())
     }
 
     fn on(&mut self, note: &Note) -> Result<(), OutOfMemory> {
-        self.kept.on(Kind::Ground, note)
+        if builds_of(note) {
+            self.rebuilt_on(note)
+        } else {
+            self.kept.on(Kind::Ground, note)
+        }
     }
 
     fn ask(&self, ask: &Ask) -> Result<Answer, OutOfMemory> {
-        let facts = self.kept.facts.as_slice();
-        match (&self.kept.land, ask) {
-            (Some(land), Ask::Open { cell }) => Ok(Answer::Truth {
-                yes: is_open(land, facts, *cell),
+        let (Some(land), Some(opened)) = (&self.kept.land, &self.opened) else {
+            unreachable!()
+        };
+        match ask {
+            Ask::Open { cell } => Ok(Answer::Truth {
+                yes: opened.grid.open(*cell),
             }),
-            (Some(land), Ask::Free { rect }) => Ok(Answer::Truth {
-                yes: is_free(land, facts, rect),
+            Ask::Free { rect } => Ok(Answer::Truth {
+                yes: is_free(land, self.kept.facts.as_slice(), rect),
             }),
-            (Some(land), Ask::Spot { at }) => Ok(Answer::Place {
-                cell: spot(self.kept.alloc, land, facts, at)?,
+            Ask::Spot { at } => Ok(Answer::Place {
+                cell: nearest(&opened.grid, at),
             }),
-            (Some(land), Ask::Way { start, goal }) => Ok(Answer::Found {
-                way: way_over(self.kept.alloc, land, facts, start, goal)?,
+            Ask::Way { start, goal } => Ok(Answer::Found {
+                way: way_over(self.kept.alloc, &self.rooms, opened, start, goal)?,
             }),
             _ => unreachable!(),
         }
@@ -69,5 +129,16 @@ impl System for Ground {
 
     fn rebuilds(&self) -> u64 {
         self.kept.rebuilds
+    }
+}
+
+// Whether an obstruction comes or goes.
+fn builds_of(note: &Note) -> bool
+    ensures { result ≡ builds note.now }
+{
+    match note {
+        Note::Born { fact } => fact.rect.is_some(),
+        Note::Gone { fact } => fact.rect.is_some(),
+        _ => false,
     }
 }

@@ -1,31 +1,44 @@
-//! Ways over the open cells.
+//! Ways over the open cells. The rooms of the search stand in a cell, since an ask only reads the system: it takes them
+//! out, and puts them back for the next ask.
 
 ghost use Rattle.std.specs.Prelude.{◌≡◌, IsTrue, IfOk};
 ghost use Rattle.sim_base.specs.Places.{is_inside};
-ghost use Rattle.sim_base.specs.Rows.{size_of};
-ghost use Rattle.sim_base.specs.Limits.{IsLand};
 ghost use Rattle.sim_base.specs.WayOf.{way_of};
-ghost use Rattle.sim_system.specs.Answers.{field_among, way_told};
+ghost use Rattle.sim_grid.specs.Grids.{field_of_grid};
+ghost use Rattle.sim_path.specs.Regions.{AreLabels};
+ghost use Rattle.sim_path.specs.Floods.{label_in};
+ghost use Rattle.sim_path.specs.Answers.{way_in};
 
-use crate::grid::grid_of;
-use sim_base::{Land, OutOfMemory, Point};
-use sim_path::way;
-use sim_system::{Fact, Way};
+use crate::opened::Opened;
+use sim_base::{OutOfMemory, Point};
+use sim_path::Searcher;
+use sim_system::Way;
 use std::alloc::Global;
+use std::cell::Cell;
 
-/// The way from a point to another over the open cells.
+// The rooms of an earlier search, or new ones.
+fn searcher_of(rooms: &Cell<Option<Searcher>>) -> Searcher {
+    match rooms.replace(None) {
+        Some(searcher) => searcher,
+        None => Searcher::new(),
+    }
+}
+
+/// The way from a point to another over the open cells of a grid.
 pub fn way_over(
     alloc: Global,
-    land: &Land,
-    facts: &[Fact],
+    rooms: &Cell<Option<Searcher>>,
+    opened: &Opened,
     start: &Point,
     goal: &Point,
 ) -> Result<Way, OutOfMemory>
-    requires limits { IsLand land.now }
-    requires start { IsTrue (is_inside (size_of land.now) start.now) }
-    requires goal { IsTrue (is_inside (size_of land.now) goal.now) }
-    ensures { IfOk result (λ way. way ≡ way_told (way_of (field_among land.now facts.now) start.now goal.now)) }
+    requires labels { ∥ AreLabels (field_of_grid opened.now.grid) (label_in opened.now.labels) ∥₁ }
+    requires start { IsTrue (is_inside opened.now.grid.size start.now) }
+    requires goal { IsTrue (is_inside opened.now.grid.size goal.now) }
+    ensures { IfOk result (λ way. way_in way ≡ way_of (field_of_grid opened.now.grid) start.now goal.now) }
 {
-    let grid = grid_of(alloc, land, facts)?;
-    way(alloc, &grid, *start, *goal)
+    let mut searcher = searcher_of(rooms);
+    let way = searcher.way(alloc, &opened.grid, &opened.labels, *start, *goal);
+    rooms.set(Some(searcher));
+    way
 }
