@@ -26,7 +26,7 @@ mod tests;
 pub use down::push_down;
 pub use event::push_event;
 pub use line::{push_saved, push_turn, push_usage};
-pub use place::push_place;
+pub use place::{part_name, push_place};
 pub use refusal::{Refusal, push_refusal};
 pub use served::{push_kept, push_post, push_released};
 pub use show::push_show;

@@ -30,7 +30,8 @@ fn write_place(place: &Place, lines: &mut String) -> Result<(), OutOfMemory>
     write_bits("right", &place.right, lines)
 }
 
-fn part_name(part: Part) -> &'static str
+/// The name of a part.
+pub fn part_name(part: Part) -> &'static str
     ensures { result.now ≡ name_of_part part }
 {
     match part {

@@ -14,4 +14,4 @@ mod serve;
 mod tests;
 
 pub use laws::notices_are_those_of_the_list;
-pub use serve::served_text;
+pub use serve::{push_all_kept, served_text};

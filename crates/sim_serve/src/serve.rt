@@ -75,8 +75,8 @@ fn push_posts(posts: &Posts, text: &mut String) -> Result<(), OutOfMemory>
     Ok(())
 }
 
-// Appends a line of each turn of which commands are kept.
-fn push_all_kept(server: &Server, turns: u32, text: &mut String) -> Result<(), OutOfMemory>
+/// Appends a line of each turn, up to so many, of which the server keeps commands.
+pub fn push_all_kept(server: &Server, turns: u32, text: &mut String) -> Result<(), OutOfMemory>
     ensures { OnOk result (string_bytes text.new ≡ string_bytes text.old ++ kept_lines (plain_server server.now).kept turns) }
 {
     for i in 0..turns {

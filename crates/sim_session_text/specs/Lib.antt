@@ -1,0 +1,5 @@
+pub mod Endings
+pub mod Pairs
+pub mod Pipes
+pub mod SessionText
+pub mod Laws

@@ -1,0 +1,21 @@
+//! What the text of a session shows, as the contracts of functions that do nothing.
+
+ghost use Rattle.sim_session_text.specs.Laws.{EventsShowPasts, EndsShowPasts, NoticesAreOfReports, ApartWhereDifferent, UnbentAreTogether};
+
+/// Each digest that is printed is that of the state which the plain turn function gives for a client's past. A past without
+/// a bend is exactly the turns with the commands that the server keeps of them.
+pub fn printed_digests_are_of_pasts()
+    ensures events { EventsShowPasts }
+    ensures ends { EndsShowPasts }
+{}
+
+/// A notice is printed exactly where an accepted report differs from the first one of its turn.
+pub fn printed_notices_are_of_reports()
+    ensures { NoticesAreOfReports }
+{}
+
+/// Two clients at one turn are said to differ exactly where their states do. Those that were not bent never do.
+pub fn clients_apart_differ()
+    ensures different { ApartWhereDifferent }
+    ensures unbent { UnbentAreTogether }
+{}

@@ -1,0 +1,26 @@
+//! What is printed of a session: its events, and what its server, its clients and its pipes have come to.
+//!
+//! The whole text is defined in `specs/` over the session in which messages carry pasts. It promises lines that are appended
+//! exactly, and what the text shows whatever the steps are. It stands on `sim_plain_session` and its laws for the session, on
+//! `sim_wire` for frames, on `sim_diff` for the place at which two states differ, and on `sim_report` and `sim_serve` for lines.
+//!
+//! - `told`: the lines of events, and of what a server has come to.
+//! - `apart`: the lines of clients whose states differ.
+//! - `ending`: the line of what a client has come to.
+//! - `pipe`: the line of a pipe.
+//! - `laws`: what the text shows of every session.
+#![tactic(auto)]
+
+mod apart;
+mod ending;
+mod laws;
+mod pipe;
+mod told;
+
+pub use apart::{push_apart, push_difference};
+pub use ending::{End, push_end};
+pub use laws::{
+    clients_apart_differ, printed_digests_are_of_pasts, printed_notices_are_of_reports,
+};
+pub use pipe::push_pipe;
+pub use told::{push_events, push_server};
