@@ -44,6 +44,23 @@ SHOWN = b"turn 1 next 4 word 0 rows 1\nentity 3 template post owner 2 at 2 2 hea
 CHAIN = b",".join(b'{"@name":"t%d"%s,"Health":{"Max":50}}' % (i, b',"@parent":"t%d"' % (i - 1) if i else b"") for i in range(17))
 # A template that takes half as much again, where it can.
 BIG = b'{"@name":"post","Health":{"Max":50}},{"@name":"big","@parent":"post","Health":{"Max":{"@op":"mul","_":"1.5"}}}'
+# Three guards of two enemies, of whom two strike each other down in the first turn.
+GUARDS = (b'{"size":[16,16],"closed":[],"players":[[2],[1]],"cap":0,"delay":1,"turns":2,"seed":0,'
+          b'"templates":[{"@name":"guard","Health":{"Max":15},"Resist":{"Hack":1},'
+          b'"Attack":{"Hack":20,"Range":2,"Vision":10,"Repeat":0}}],'
+          b'"entities":[["guard",1,"5.5","5.5"],["guard",2,"6.5","5.5"],["guard",2,"7.5","5.5"]],"commands":[]}')
+GUARDS_LINES = (b"turn 0 b6f19765f3bae47206b19ae531eeb52c\n"
+                b"turn 1 2ccd46f677c5f60f15e9d6c9122d89f8\n"
+                b"turn 2 6abdc6c4c2cb3372a7012f7370b76a83\n")
+GUARDS_SHOWN = (b"turn 1 next 5 word 11718085204285 rows 1\n"
+                b"entity 4 template guard owner 2 at 7.50000 5.50000 health 15 attack target 0 cooldown 0\n")
+# Four huts are placed, of which two find no place, and then their player resigns.
+HUTS = (b'{"size":[16,16],"closed":[],"players":[[]],"cap":4,"delay":1,"turns":1,"seed":0,'
+        b'"templates":[{"@name":"hut","Obstruct":{"Width":2,"Depth":2}}],"entities":[],'
+        b'"commands":[[1,1,"place",0,"5.5","5.5"],[1,1,"place",0,"6.5","5.5"],[1,1,"place",0,"7.5","5.5"],'
+        b'[1,1,"place",0,"0.5","0.5"],[1,1,"resign"]]}')
+HUTS_LINES = (b"turn 0 157dafb5e35abac8d5d437b1e3fc0d1c\n"
+              b"turn 1 80bf5422a58c8986ad5609bdb3c3414d\n")
 USAGE = b"""usage: simcore play MATCH
        simcore state MATCH TURN OUT
        simcore resume MATCH STATE
@@ -137,6 +154,25 @@ def schedules(folder):
     told = b"to 1 command turn 2 player 1 resign\nto 2 command turn 2 player 1 resign\n"
     case("100,000 arrivals of a hostile client, in a gigabyte", run(["serve", "hostile.json"], folder, before=limit_memory), 0,
          64 * told + b"to 1 refused 3\n" + refusals * b"to 1 refused 2\n" + b"released 1\nkept 2 64\n")
+
+
+def battles(folder):
+    """Matches whose units fight, build and resign, and trials."""
+    (folder / "guards.json").write_bytes(GUARDS)
+    (folder / "huts.json").write_bytes(HUTS)
+    case("guards strike each other down", run(["play", "guards.json"], folder), 0, GUARDS_LINES)
+    status, text, error = run(["state", "guards.json", "1", "g"], folder)
+    case("their state is stored", (status, text, error), 0, b"state 1 111 " + GUARDS_LINES.splitlines(True)[1].split()[2] + b"\n")
+    case("the one who is left is shown", run(["show", "guards.json", "g"], folder), 0, GUARDS_SHOWN)
+    case("and played on", run(["resume", "guards.json", "g"], folder), 0, b"".join(GUARDS_LINES.splitlines(True)[1:]))
+    case("huts are placed where there is room", run(["play", "huts.json"], folder), 0, HUTS_LINES)
+    case("a trial of one", run(["trial", "7", "1", "0"], folder), 0, b"trial 7 1 0 alive 1 6d65292dc92f329b7da81245f0e158d7\n")
+    case("a trial of 200", run(["trial", "000000007", "200", "400"], folder), 0,
+         b"trial 7 200 400 alive 13 4e2532b9195bdc47dc810e56e7184ead\n")
+    for words in (["7", "0", "0"], ["7", "1001", "0"], ["7", "1", "10001"], ["0000000007", "1", "0"], ["-7", "1", "0"], ["7", "1"]):
+        case(f"no trial: {' '.join(words)}", run(["trial", *words], folder), 2, USAGE)
+    with open("/dev/full", "wb") as full:
+        case("a trial that finds no room", run(["trial", "7", "1", "0"], folder, full), 4, None)
 
 
 def limit_memory():
@@ -262,6 +298,7 @@ def main():
         stored_states(folder)
         templates(folder)
         schedules(folder)
+        battles(folder)
         memory(folder)
         pages(folder)
     print(f"{passed} passed, {failed} failed")

@@ -1,10 +1,10 @@
 -- The lines of a match that is played.
-use Rattle.std.specs.Prelude.{ℕ, zero, suc, ◌+◌, ◌-◌, List, [], ◌++◌, codes}
+use Rattle.std.specs.Prelude.{ℕ, zero, suc, ◌+◌, ◌-◌, List, [], ◌++◌, length, codes}
 use Rattle.sim_base.specs.declared.setup.Setup.{Setup}
 use Rattle.sim_base.specs.declared.state.State.{State}
 use Rattle.sim_base.specs.Turn.{first_state, from, own_turns}
 use Rattle.sim_base.specs.Spelling.{digest}
-use Rattle.sim_report.specs.Lines.{turn_line}
+use Rattle.sim_report.specs.Lines.{turn_line, spaced_number, line_end}
 
 -- So many lines from a state on that stands at a turn: the digest of each is that of the turn function, folded from that
 -- state over the match's own turns.
@@ -24,3 +24,9 @@ resume_text setup state = turn_lines setup state state.turn (suc (setup.turns - 
 -- the state at the end of a match that is played from a state on
 abbrev pub end_from : Setup → State → State
 end_from setup state = from setup state (own_turns setup state.turn (setup.turns - state.turn))
+
+-- what is printed of a trial: the numbers that it was made of, how many rows there are at its end, and their digest
+abbrev pub trial_line : ℕ → ℕ → ℕ → Setup → State → List ℕ
+trial_line seed units turns setup state =
+    codes "trial" ++ (spaced_number seed ++ (spaced_number units ++ (spaced_number turns ++
+    (codes " alive" ++ (spaced_number (length state.rows) ++ line_end (digest setup state))))))

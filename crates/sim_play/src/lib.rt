@@ -6,9 +6,12 @@
 //!
 //! - `lines`: a line for each turn of a board.
 //! - `matches`: a match from its first state or from a stored one, with a rig that is handed back.
+//! - `trial`: the line of a trial.
 #![tactic(auto)]
 
 mod lines;
 mod matches;
+mod trial;
 
 pub use matches::{play_text, resume_text, state_at};
+pub use trial::push_trial;

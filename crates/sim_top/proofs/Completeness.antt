@@ -14,8 +14,8 @@ use Rattle.sim_setup.specs.Setups.{setup_of}
 use Rattle.sim_setup.proofs.SetupLimits.{setup_of-id}
 use Rattle.sim_diff.specs.Difference.{difference_of}
 use Rattle.sim_diff.specs.declared.place.Place.{Place}
-use Rattle.sim_top.specs.Words.{Asked, asked_by, to_play, to_store, to_resume, to_show, to_compare, to_serve}
-use Rattle.sim_top.specs.Outcome.{Outcome, Then, ThenStored, IsStored, IsOutcomeOf, bytes_in, match_in, schedule_in, match_by, setup_by, compare_by, state_by, store_outcome}
+use Rattle.sim_top.specs.Words.{Asked, asked_by, to_play, to_store, to_resume, to_show, to_compare, to_serve, to_try}
+use Rattle.sim_top.specs.Outcome.{Outcome, Then, ThenStored, IsStored, IsOutcomeOf, bytes_in, match_in, schedule_in, trial_match, match_by, setup_by, compare_by, state_by, store_outcome}
 use Rattle.sim_top.specs.Answers.{Scene, Meets, Causes}
 use Rattle.sim_top.specs.Readiness.{HoldsState, IsReady, IsFaultless, IsFinal}
 use Rattle.sim_top.specs.declared.status.Status.{Status}
@@ -93,6 +93,7 @@ ready_ends files (Some (to_compare game left right)) wanted ready h =
     let second = after_state files ready.setup right _ wanted id ready.more.1 first.1 in
     ends_compared wanted (difference_of first.0 second.0) second.1
 ready_ends files (Some (to_serve name)) wanted ready h = done wanted _ refl (after_reading (schedule_in files name) ready.schedule _ wanted ready.read h)
+ready_ends files (Some (to_try seed units turns)) wanted ready h = done wanted _ refl (after_reading (trial_match seed units turns) ready.setup _ wanted ready.read h)
 
 -- ---- the run
 

@@ -1,5 +1,5 @@
 -- What the shelf counted, file by file and over a whole command; and how many bytes a file had that was read.
-use Rattle.std.proofs.Common.{◌≡◌, ℕ, ◌+◌, ◌<◌, ◌≤◌, List, length, Bool, true, false, cond, Option, Some, None, Result, Ok, Err, sym, ap, ◌∙◌, subst, arith, IfSome, IfOk, IfErr}
+use Rattle.std.proofs.Common.{◌≡◌, ℕ, ◌+◌, ◌<◌, ◌≤◌, List, length, Bool, true, false, cond, Option, Some, None, Result, Ok, Err, refl, sym, ap, ◌∙◌, subst, arith, IsTrue, IfSome, IfOk, IfErr}
 use Rattle.sim_store.specs.Counts.{raised, after_giving, after_miss, after_read_fault}
 use Rattle.sim_store.specs.Files.{File, file_in}
 use Rattle.sim_base.specs.Limits.{file_limit}
@@ -8,11 +8,11 @@ use Rattle.sim_store.specs.declared.counts.Counts.{Counts}
 use Rattle.sim_store.specs.declared.fault.StoreFault.TheVariants as store
 use Rattle.sim_store.proofs.Given.{after_giving-after_giving}
 use Rattle.std.specs.Prelude.{nat_le}
-use Rattle.sim_top.specs.Words.{Asked}
+use Rattle.sim_top.specs.Words.{Asked, reads_file}
 use Rattle.sim_top.specs.Answers.{OnlyGave, GaveThenFailed, GaveThenMissed, CountsBefore, MayAnswer}
 use Rattle.sim_top.specs.Outcome.{bytes_by, bytes_in}
 use Rattle.sim_top.specs.Reads.{length_of, length_in}
-use Rattle.sim_top.specs.Stops.{ReadsCounting, CausesOf, IsOfContent, status_of}
+use Rattle.sim_top.specs.Stops.{ReadsCounting, CausesOf, IsOfContent, IsOfTurn, status_of}
 use Rattle.sim_top.specs.declared.stop.Stop.{Stop}
 use Rattle.sim_top.specs.declared.stop.Stop.TheVariants.{ReadFault, TooLong, NoFile, OutOfMemory, MatchRefused, StateRefused, ListRefused, NoSuchTurn}
 
@@ -66,16 +66,42 @@ length_of_read files name bytes read = of_held (file_in files name) read
 
 -- ---- what a command that reads a file answers
 
--- a command that ends at a file may be any
-pub counted_may_answer : (stop : Stop) (old new : Counts) → ReadsCounting (Err stop) old new → (asked : Asked) → MayAnswer asked (status_of stop)
-counted_may_answer ReadFault old new h asked = tt
-counted_may_answer TooLong old new h asked = tt
-counted_may_answer NoFile old new h asked = tt
-counted_may_answer OutOfMemory old new h asked = tt
-counted_may_answer (MatchRefused code index) old new h asked = tt
-counted_may_answer (StateRefused code name) old new h asked = absurd h
-counted_may_answer (ListRefused index) old new h asked = absurd h
-counted_may_answer (NoSuchTurn turn turns) old new h asked = absurd h
+-- a command that ends at a file may be any that reads one
+pub counted_may_answer : (stop : Stop) (old new : Counts) → ReadsCounting (Err stop) old new → (asked : Asked) → IsTrue (reads_file asked) → MayAnswer asked (status_of stop)
+counted_may_answer ReadFault old new h asked reads = reads
+counted_may_answer TooLong old new h asked reads = reads
+counted_may_answer NoFile old new h asked reads = reads
+counted_may_answer OutOfMemory old new h asked reads = tt
+counted_may_answer (MatchRefused code index) old new h asked reads = tt
+counted_may_answer (StateRefused code name) old new h asked reads = absurd h
+counted_may_answer (ListRefused index) old new h asked reads = absurd h
+counted_may_answer (NoSuchTurn turn turns) old new h asked reads = absurd h
+
+-- what holds of a command that ends holds of it in other words
+pub ends_weaker : {X : Type 0} (r : Result X Stop) (P Q : Stop → Type 0) → ((stop : Stop) → P stop → Q stop) → IfErr r P → IfErr r Q
+ends_weaker (Ok x) P Q f h = tt
+ends_weaker (Err stop) P Q f h = f stop h
+
+-- what a turn ends for is no fault of the shelf
+pub turn_is_content : (stop : Stop) → IsOfTurn stop → IsOfContent stop
+turn_is_content OutOfMemory h = tt
+turn_is_content (NoSuchTurn turn turns) h = tt
+turn_is_content ReadFault h = h
+turn_is_content TooLong h = h
+turn_is_content NoFile h = h
+turn_is_content (MatchRefused code index) h = absurd h
+turn_is_content (StateRefused code name) h = absurd h
+turn_is_content (ListRefused index) h = absurd h
+
+-- where nothing was read, nothing was counted
+pub nothing_given : (counts : Counts) → OnlyGave counts counts
+nothing_given counts = (omega arith, refl)
+
+pub none_given : (counts : Counts) → counts ≡ after_giving 0 counts
+none_given counts = ap (λ (n : ℕ). record counts { given = n }) (by counts.given)
+  where
+    by : (n : ℕ) → n ≡ raised 0 n
+    by n = omega arith
 
 -- what a file says is no fault of the shelf
 pub content_causes : {X : Type 0} (r : Result X Stop) (old new : Counts) → IfErr r IsOfContent → OnlyGave old new → CausesOf r old new

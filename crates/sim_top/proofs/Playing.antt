@@ -1,9 +1,9 @@
 -- What a command makes of a match that was played, and what the systems stand for then.
 use Rattle.std.proofs.Common.{◌≡◌, ℕ, zero, suc, ◌+◌, ◌<◌, ◌≤◌, false, List, [], ◌∷◌, length, get_or, All, refl, sym, ap, ◌∙◌, subst, arith, ltb, string_bytes}
-use Rattle.std.specs.Prelude.{Result, Ok, Err, Option, Some, None, OnOk, OnErr, IfOk, IfErr, IfSome, String}
+use Rattle.std.specs.Prelude.{Result, Ok, Err, Option, Some, None, OnOk, OnErr, IfOk, IfErr, IsErr, IfSome, String}
 use Rattle.std.specs.declared.alloc.Global.{Global}
 use Rattle.std.specs.List.{remove}
-use Rattle.std.proofs.lemmas.Bool.{cond-false, le-ltb}
+use Rattle.std.proofs.lemmas.Bool.{cond-false, le-ltb, false≢true}
 use Rattle.std.proofs.lemmas.List.Elements.{All-nil, All-cons, All-tail}
 use Rattle.sim_base.specs.declared.memory.OutOfMemory.{OutOfMemory as NoMemory}
 use Rattle.sim_base.specs.declared.setup.Setup.{Setup}
@@ -11,7 +11,7 @@ use Rattle.sim_base.specs.declared.state.State.{State}
 use Rattle.sim_base.specs.Spelling.{spelling, digest}
 use Rattle.sim_base.specs.Turn.{after, own_turns, turns_in}
 use Rattle.sim_turn_laws.proofs.Turning.{after_counts_turns}
-use Rattle.sim_top.specs.Outcome.{Outcome, printed, stored_at, store_outcome}
+use Rattle.sim_top.specs.Outcome.{Outcome, IsOutcomeOf, printed, stored_at, store_outcome}
 use Rattle.sim_top.specs.Making.{Makes, outcome_made, IsAnswered}
 use Rattle.sim_top.specs.Reads.{HasEnded}
 use Rattle.sim_top.specs.Rigs.{RigStands}
@@ -57,6 +57,24 @@ pub text_is : (text : Result (String Global) NoMemory) (wanted : List ℕ) → I
 text_is (Ok t) wanted is = ap (printed Done) is
 text_is (Err e) wanted is = tt
 
+-- a text that was made of a state, if there was memory for both
+module _ (text : Result (String Global) NoMemory) (state : Result State NoMemory) (refused : OnErr state (IsErr text)) where
+  pub text_of_state : (line : State → List ℕ) (wanted : State) → IfOk text (λ t. IfOk state (λ s. string_bytes t ≡ line s)) → IfOk state (λ s. s ≡ wanted) → IfOk text (λ t. string_bytes t ≡ line wanted)
+  text_of_state line wanted told is = by text state refused told is
+    where
+      by : (text : Result (String Global) NoMemory) (state : Result State NoMemory) → OnErr state (IsErr text) → IfOk text (λ t. IfOk state (λ s. string_bytes t ≡ line s)) → IfOk state (λ s. s ≡ wanted) → IfOk text (λ t. string_bytes t ≡ line wanted)
+      by (Ok t) (Ok s) r told is = told ∙ ap line is
+      by (Ok t) (Err e) r told is = absurd (false≢true r)
+      by (Err e) state r told is = tt
+
+  pub text_if : (P : Type 0) → OnOk state P → OnOk text P
+  text_if P h = by text state refused h
+    where
+      by : (text : Result (String Global) NoMemory) (state : Result State NoMemory) → OnErr state (IsErr text) → OnOk state P → OnOk text P
+      by (Ok t) (Ok s) r h = h
+      by (Ok t) (Err e) r h = absurd (false≢true r)
+      by (Err e) state r h = tt
+
 -- the state of a turn stands at it
 own-turns : (setup : Setup) (start n : ℕ) → turns_in (own_turns setup start n) ≡ n
 own-turns setup start zero = refl
@@ -92,6 +110,22 @@ pub stands_asked : (held : Option (List File)) (made : Result Answer Stop) (answ
 stands_asked None made answer request words s t e f h = tt
 stands_asked (Some files) made answer request words s t e f h =
     λ ended. subst (λ (o : Option Asked). RigStands files o s t) f (subst (λ (r : Result Answer Stop). OnOk r (RigStands files request s t)) e h)
+
+-- what does not depend on the files, and holds of what is asked for, holds of the request
+module _ (held : Option (List File)) (made : Result Answer Stop) (request asked : Asked) (is : request ≡ asked) where
+  pub makes_asked : ((files : List File) → Makes made (IsOutcomeOf files (Some asked))) → IfSome held (λ files. Makes made (IsOutcomeOf files (Some request)))
+  makes_asked h = by held
+    where
+      by : (held : Option (List File)) → IfSome held (λ files. Makes made (IsOutcomeOf files (Some request)))
+      by None = tt
+      by (Some files) = subst (λ (a : Asked). Makes made (IsOutcomeOf files (Some a))) (sym is) (h files)
+
+  pub stands_of : (s t : Systems) → ((files : List File) → OnOk made (RigStands files (Some asked) s t)) → IfSome held (λ files. OnOk made (RigStands files (Some request) s t))
+  stands_of s t h = by held
+    where
+      by : (held : Option (List File)) → IfSome held (λ files. OnOk made (RigStands files (Some request) s t))
+      by None = tt
+      by (Some files) = subst (λ (a : Asked). OnOk made (RigStands files (Some a) s t)) (sym is) (h files)
 
 -- words that ask for nothing leave the systems
 pub stands_unasked : (held : Option (List File)) (words : Option Asked) (status : Status) (s : Systems) → words ≡ None → IfSome held (λ files. HasEnded status → RigStands files words s s)

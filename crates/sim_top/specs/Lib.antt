@@ -1,4 +1,5 @@
 pub mod Words
+pub mod Trials
 pub mod Reads
 pub mod Outcome
 pub mod Answers

@@ -24,8 +24,9 @@ use Rattle.sim_report.specs.Show.{show_text}
 use Rattle.sim_report.specs.Places.{place_text}
 use Rattle.sim_diff.specs.Difference.{difference_of}
 use Rattle.sim_diff.specs.declared.place.Place.{Place}
-use Rattle.sim_top.specs.Words.{Asked, to_play, to_store, to_resume, to_show, to_compare, to_serve, asked_by}
-use Rattle.sim_play.specs.Lines.{play_text, resume_text}
+use Rattle.sim_top.specs.Words.{Asked, to_play, to_store, to_resume, to_show, to_compare, to_serve, to_try, asked_by}
+use Rattle.sim_play.specs.Lines.{play_text, resume_text, trial_line}
+use Rattle.sim_trial.specs.Trial.{text_of_trial}
 use Rattle.sim_top.specs.declared.status.Status.{Status}
 use Rattle.sim_top.specs.declared.status.Status.TheVariants.{Done, Differs, Usage, ReadFault, TooLong, MatchRefused, StateRefused, ListRefused, NoSuchTurn, NoFile}
 
@@ -65,6 +66,10 @@ match_by (Err ended) = Err ended
 -- the match of a file
 unfoldable pub match_in : List File → List ℕ → Result Setup Outcome
 match_in files name = match_by (bytes_in files name)
+
+-- the match of a trial, or the outcome where its text is refused
+unfoldable pub trial_match : ℕ → ℕ → ℕ → Result Setup Outcome
+trial_match seed units turns = setup_by (setup_of (text_of_trial seed units turns))
 
 -- the schedule that was read, or the outcome of its refusal
 abbrev pub schedule_by : Result Schedule ℕ → Result Schedule Outcome
@@ -125,6 +130,14 @@ store_outcome setup turn out =
     if nat_lt setup.turns turn then printed NoSuchTurn (refusal_text (Turn turn setup.turns))
     else stored_at setup turn out (after setup (own_turns setup 0 turn))
 
+-- the line of a trial, whose state is `after` all turns of its match
+abbrev pub trial_outcome : ℕ → ℕ → ℕ → Setup → Outcome
+trial_outcome seed units turns setup = printed Done (trial_line seed units turns setup (after setup (own_turns setup 0 setup.turns)))
+
+-- the outcome of a trial, or that of the refusal of its text
+abbrev pub IsTrialOutcome : ℕ → ℕ → ℕ → Outcome → Type 0
+IsTrialOutcome seed units turns wanted = Then (trial_match seed units turns) (λ setup wanted. wanted ≡ trial_outcome seed units turns setup) wanted
+
 -- the least place at which two states differ, or that they are the same
 abbrev pub compare_by : Option Place → Outcome
 compare_by None = printed Done (codes "same\n")
@@ -147,6 +160,7 @@ IsOutcomeOf files (Some (to_show game name)) wanted =
 IsOutcomeOf files (Some (to_compare game left right)) wanted =
     Then (match_in files game) (λ setup. Then (bytes_in files left) (λ bytes. ThenStored setup left bytes (λ state. IsCompared setup right state (bytes_in files right)))) wanted
 IsOutcomeOf files (Some (to_serve name)) wanted = Then (schedule_in files name) (λ schedule wanted. wanted ≡ printed Done (served_text schedule)) wanted
+IsOutcomeOf files (Some (to_try seed units turns)) wanted = IsTrialOutcome seed units turns wanted
 
 -- the outcome of the words over the held files
 abbrev pub IsOutcome : List (List ℕ) → List File → Outcome → Type 0

@@ -6,8 +6,8 @@ use Rattle.sim_store.specs.Counts.{raised}
 use Rattle.sim_store.specs.Files.{File}
 use Rattle.sim_codec.specs.Loading.{StandsFor}
 use Rattle.sim_lists.specs.declared.schedule.Schedule.{Schedule}
-use Rattle.sim_top.specs.Words.{Asked, to_play, to_store, to_resume, to_show, to_compare, to_serve}
-use Rattle.sim_top.specs.Outcome.{bytes_in, match_in, schedule_in}
+use Rattle.sim_top.specs.Words.{Asked, to_play, to_store, to_resume, to_show, to_compare, to_serve, to_try}
+use Rattle.sim_top.specs.Outcome.{bytes_in, match_in, schedule_in, trial_match}
 use Rattle.sim_top.specs.Answers.{Scene}
 use Rattle.sim_top.specs.declared.status.Status.{Status}
 use Rattle.sim_top.specs.declared.status.Status.TheVariants.{Done, Differs, OutOfMemory}
@@ -30,6 +30,11 @@ pub record HoldsSchedule (files : List File) (name : List ℕ) : Type 0 where
   pub schedule : Schedule
   pub read : schedule_in files name ≡ Ok schedule
 
+-- the text of a trial is that of a match
+pub record HoldsTrial (seed units turns : ℕ) : Type 0 where
+  pub setup : Setup
+  pub read : trial_match seed units turns ≡ Ok setup
+
 -- each file that is to be read is good, and the match has the turn that is asked for
 abbrev pub IsReady : List File → Option Asked → Type 0
 IsReady files None = ⊥
@@ -39,6 +44,7 @@ IsReady files (Some (to_resume game name)) = HoldsMatch files game (λ setup. Ho
 IsReady files (Some (to_show game name)) = HoldsMatch files game (λ setup. HoldsState files setup name)
 IsReady files (Some (to_compare game left right)) = HoldsMatch files game (λ setup. HoldsState files setup left × HoldsState files setup right)
 IsReady files (Some (to_serve name)) = HoldsSchedule files name
+IsReady files (Some (to_try seed units turns)) = HoldsTrial seed units turns
 
 -- no count of faults rose, nor stands at its last value
 pub record IsFaultless (before now : Scene) : Type 0 where

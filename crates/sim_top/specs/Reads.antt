@@ -1,7 +1,7 @@
 -- How many bytes are read for what is asked, and which file is found missing before any memory is taken.
 use Rattle.std.specs.Prelude.{◌≡◌, ℕ, ◌+◌, List, length, Option, Some, None}
 use Rattle.sim_store.specs.Files.{File, file_in}
-use Rattle.sim_top.specs.Words.{Asked, to_play, to_store, to_resume, to_show, to_compare, to_serve}
+use Rattle.sim_top.specs.Words.{Asked, to_play, to_store, to_resume, to_show, to_compare, to_serve, to_try}
 use Rattle.sim_top.specs.declared.status.Status.{Status}
 use Rattle.sim_top.specs.declared.status.Status.TheVariants.{Done, Differs, ReadFault, NoFile}
 
@@ -22,25 +22,31 @@ length_read files (to_resume game stored) = length_in files game + length_in fil
 length_read files (to_show game stored) = length_in files game + length_in files stored
 length_read files (to_compare game left right) = length_in files game + length_in files left + length_in files right
 length_read files (to_serve schedule) = length_in files schedule
+length_read files (to_try seed units turns) = 0
 
--- the file that is read first, which is that of the match where there is one
-abbrev pub game_of : Asked → List ℕ
-game_of (to_play game) = game
-game_of (to_store game turn out) = game
-game_of (to_resume game stored) = game
-game_of (to_show game stored) = game
-game_of (to_compare game left right) = game
-game_of (to_serve schedule) = schedule
+-- a file is not there
+abbrev pub Lacks : List File → List ℕ → Type 0
+Lacks files name = file_in files name ≡ None
+
+-- the file that is read first is not there
+abbrev pub LacksFirst : List File → Asked → Type 0
+LacksFirst files (to_play game) = Lacks files game
+LacksFirst files (to_store game turn out) = Lacks files game
+LacksFirst files (to_resume game stored) = Lacks files game
+LacksFirst files (to_show game stored) = Lacks files game
+LacksFirst files (to_compare game left right) = Lacks files game
+LacksFirst files (to_serve schedule) = Lacks files schedule
+LacksFirst files (to_try seed units turns) = ⊥
 
 -- how many bytes are read for the words
 abbrev pub length_asked : List File → Option Asked → ℕ
 length_asked files None = 0
 length_asked files (Some asked) = length_read files asked
 
--- the file that is read first is not there
+-- the first file that the words name is not there
 abbrev pub LacksMatch : List File → Option Asked → Type 0
 LacksMatch files None = ⊥
-LacksMatch files (Some asked) = file_in files (game_of asked) ≡ None
+LacksMatch files (Some asked) = LacksFirst files asked
 
 -- a command came to its end
 abbrev pub HasEnded : Status → Type 0

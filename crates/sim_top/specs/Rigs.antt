@@ -7,8 +7,8 @@ use Rattle.sim_store.specs.Files.{File}
 use Rattle.sim_system.specs.Meanings.{Systems, AreFed}
 use Rattle.sim_system.specs.declared.rig.Rig.{Rig}
 use Rattle.sim_play.specs.Lines.{end_from}
-use Rattle.sim_top.specs.Words.{Asked, to_play, to_store, to_resume, to_show, to_compare, to_serve}
-use Rattle.sim_top.specs.Outcome.{Outcome, bytes_in, match_in}
+use Rattle.sim_top.specs.Words.{Asked, to_play, to_store, to_resume, to_show, to_compare, to_serve, to_try}
+use Rattle.sim_top.specs.Outcome.{Outcome, bytes_in, match_in, trial_match}
 use Rattle.sim_top.specs.Stops.{IsState}
 
 -- the state of a file is loaded, and the systems stand for the last turn from it on
@@ -16,6 +16,10 @@ pub record StandForStored (setup : Setup) (file : Result (List ℕ) Outcome) (t 
   pub state : State
   pub stored : IsState setup file state
   pub fed : AreFed setup (end_from setup state) t
+
+-- the systems stand for the last turn of a trial
+abbrev pub StandForTrial : ℕ → ℕ → ℕ → Systems → Type 0
+StandForTrial seed units turns t = IfOk (trial_match seed units turns) (λ setup. AreFed setup (after setup (own_turns setup 0 setup.turns)) t)
 
 -- the systems of the rig before and after: they stand for the last state that was played, or nothing was played
 abbrev pub RigStands : List File → Option Asked → Systems → Systems → Type 0
@@ -26,6 +30,7 @@ RigStands files (Some (to_resume game name)) s t = IfOk (match_in files game) (�
 RigStands files (Some (to_show game name)) s t = t ≡ s
 RigStands files (Some (to_compare game left right)) s t = t ≡ s
 RigStands files (Some (to_serve schedule)) s t = t ≡ s
+RigStands files (Some (to_try seed units turns)) s t = StandForTrial seed units turns t
 
 -- of the first rigs of two lists
 abbrev pub OfFirsts : {X : Type 0} {F : X → Type 0} → List (Rig X F) → List (Rig X F) → (Rig X F → Rig X F → Type 0) → Type 0

@@ -3,11 +3,12 @@ use Rattle.std.specs.Prelude.{ℕ, ◌+◌, ◌-◌, ◌*◌, Bool, true, false,
 use Rattle.std.specs.declared.alloc.Global.{Global}
 use Rattle.std.specs.Str.{bytes_eq}
 use Rattle.sim_base.specs.NumberText.{is_digit}
+use Rattle.sim_trial.specs.Trial.{is_trial}
 use Rattle.sim_top.specs.declared.words.Request.{Request}
-use Rattle.sim_top.specs.declared.words.Request.TheVariants.{Play, State, Resume, Show, Compare, Serve}
+use Rattle.sim_top.specs.declared.words.Request.TheVariants.{Play, State, Resume, Show, Compare, Serve, Trial}
 
 -- what is asked for: to play a match; to store the state of a turn of it in a file; to play on from a stored state; to show one;
--- to compare two; to run the server over a schedule
+-- to compare two; to run the server over a schedule; to play the trial that is made of three numbers
 pub data Asked : Type 0 where
   to_play : List ℕ → Asked
   to_store : List ℕ → ℕ → List ℕ → Asked
@@ -15,6 +16,7 @@ pub data Asked : Type 0 where
   to_show : List ℕ → List ℕ → Asked
   to_compare : List ℕ → List ℕ → List ℕ → Asked
   to_serve : List ℕ → Asked
+  to_try : ℕ → ℕ → ℕ → Asked
 
 -- the request of the code, with its names as bytes
 abbrev pub asked : Request → Asked
@@ -24,6 +26,7 @@ asked (Resume game stored) = to_resume game.now stored.now
 asked (Show game stored) = to_show game.now stored.now
 asked (Compare game left right) = to_compare game.now left.now right.now
 asked (Serve schedule) = to_serve schedule.now
+asked (Trial seed units turns) = to_try seed units turns
 
 -- the words as bytes
 abbrev pub words_of : List (String Global) → List (List ℕ)
@@ -38,6 +41,11 @@ digits_from n (c ∷ cs) = if is_digit c then digits_from (n * 10 + (c - 48)) cs
 abbrev pub turn_in : List ℕ → Option ℕ
 turn_in text = if nat_le 1 (length text) && nat_le (length text) 9 then digits_from 0 text else None
 
+-- the trial of these numbers, if they are within its limits
+abbrev pub trial_of : Option ℕ → Option ℕ → Option ℕ → Option Asked
+trial_of (Some seed) (Some units) (Some turns) = if is_trial seed units turns then Some (to_try seed units turns) else None
+trial_of seed units turns = None
+
 -- what a command asks of one file
 abbrev pub asked_of_one : List ℕ → List ℕ → Option Asked
 asked_of_one command file =
@@ -50,9 +58,10 @@ asked_of_two command game stored =
 
 -- what it asks of three words
 abbrev pub asked_of_three : List ℕ → List ℕ → List ℕ → List ℕ → Option Asked
-asked_of_three command game b c =
-    if bytes_eq command (codes "state") then option_map (λ n. to_store game n c) (turn_in b)
-    else if bytes_eq command (codes "compare") then Some (to_compare game b c) else None
+asked_of_three command a b c =
+    if bytes_eq command (codes "state") then option_map (λ n. to_store a n c) (turn_in b)
+    else if bytes_eq command (codes "compare") then Some (to_compare a b c)
+    else if bytes_eq command (codes "trial") then trial_of (turn_in a) (turn_in b) (turn_in c) else None
 
 -- what the words ask for, if they are in the table of commands
 abbrev pub asked_by : List (List ℕ) → Option Asked
@@ -63,46 +72,32 @@ asked_by other = None
 
 -- the file that is to be written
 abbrev pub out_of : Option Asked → Option (List ℕ)
-out_of None = None
-out_of (Some (to_play game)) = None
 out_of (Some (to_store game turn out)) = Some out
-out_of (Some (to_resume game stored)) = None
-out_of (Some (to_show game stored)) = None
-out_of (Some (to_compare game left right)) = None
-out_of (Some (to_serve schedule)) = None
+out_of other = None
 
 -- whether it is to compare two states
 abbrev pub is_comparison : Asked → Bool
-is_comparison (to_play game) = false
-is_comparison (to_store game turn out) = false
-is_comparison (to_resume game stored) = false
-is_comparison (to_show game stored) = false
 is_comparison (to_compare game left right) = true
-is_comparison (to_serve schedule) = false
+is_comparison other = false
 
 -- whether it names a turn
 abbrev pub has_turn : Asked → Bool
-has_turn (to_play game) = false
 has_turn (to_store game turn out) = true
-has_turn (to_resume game stored) = false
-has_turn (to_show game stored) = false
-has_turn (to_compare game left right) = false
-has_turn (to_serve schedule) = false
+has_turn other = false
 
 -- whether it names a file with a stored state
 abbrev pub loads_state : Asked → Bool
-loads_state (to_play game) = false
-loads_state (to_store game turn out) = false
 loads_state (to_resume game stored) = true
 loads_state (to_show game stored) = true
 loads_state (to_compare game left right) = true
-loads_state (to_serve schedule) = false
+loads_state other = false
 
 -- whether it names a file with a list of steps or arrivals
 abbrev pub reads_list : Asked → Bool
-reads_list (to_play game) = false
-reads_list (to_store game turn out) = false
-reads_list (to_resume game stored) = false
-reads_list (to_show game stored) = false
-reads_list (to_compare game left right) = false
 reads_list (to_serve schedule) = true
+reads_list other = false
+
+-- whether it names a file to be read
+abbrev pub reads_file : Asked → Bool
+reads_file (to_try seed units turns) = false
+reads_file other = true

@@ -1,7 +1,7 @@
 //! What each command makes of its files: the whole text that it prints, and the bytes of the file that it saves. Nothing
 //! is written here.
 
-ghost use Rattle.std.specs.Prelude.{◌≡◌, ◌<◌, List, IsTrue, IfSome, IfOk, IfErr, OnOk, OnErr, Err, Some, None, length, string_bytes};
+ghost use Rattle.std.specs.Prelude.{◌≡◌, ◌<◌, List, IsTrue, IfSome, IfOk, IfErr, IsErr, OnOk, OnErr, Err, Some, None, length, string_bytes};
 ghost use Rattle.sim_base.specs.Limits.{IsSetup};
 ghost use Rattle.sim_base.specs.Turn.{first_state, after, own_turns};
 ghost use Rattle.sim_base.specs.Validity.{IsValid};
@@ -10,19 +10,21 @@ ghost use Rattle.sim_report.specs.Lines.{saved_line};
 ghost use Rattle.sim_report.specs.Show.{show_text as text_of_show};
 ghost use Rattle.sim_store.specs.Counts.{after_giving};
 ghost use Rattle.sim_store.specs.Files.{File, file_in};
-ghost use Rattle.sim_top.specs.Words.{Asked, to_play, to_store, to_resume, to_show, to_compare, to_serve, asked, out_of, is_comparison, loads_state};
-ghost use Rattle.sim_top.specs.Reads.{game_of, length_in, length_read};
-ghost use Rattle.sim_play.specs.Lines.{play_text as text_of_play, resume_text as text_of_resume, end_from};
+ghost use Rattle.sim_trial.specs.Trial.{IsTrial};
+ghost use Rattle.sim_top.specs.Trials.{CanBeTried};
+ghost use Rattle.sim_top.specs.Words.{Asked, to_play, to_store, to_resume, to_show, to_compare, to_serve, to_try, asked, out_of, is_comparison, loads_state};
+ghost use Rattle.sim_top.specs.Reads.{LacksMatch, length_in, length_read};
+ghost use Rattle.sim_play.specs.Lines.{trial_line, play_text as text_of_play, resume_text as text_of_resume, end_from};
 ghost use Rattle.sim_system.specs.Meanings.{HaveKinds, AreFed, AreBuiltOnceAtMost};
 ghost use Rattle.sim_system.specs.RigWords.{systems_of};
 ghost use Rattle.sim_diff.specs.Difference.{difference_of};
-ghost use Rattle.sim_top.specs.Outcome.{IsOutcomeOf, bytes_in, printed as printed_as, stored_at as stored_outcome, store_outcome, compare_by, IsCompared};
+ghost use Rattle.sim_top.specs.Outcome.{IsOutcomeOf, bytes_in, printed as printed_as, stored_at as stored_outcome, store_outcome, trial_outcome, IsTrialOutcome, compare_by, IsCompared};
 ghost use Rattle.sim_top.specs.Answers.{MayAnswer};
-ghost use Rattle.sim_top.specs.Rigs.{RigStands};
-ghost use Rattle.sim_top.specs.Stops.{CausesOf, IsOfTurn, IsMissed};
+ghost use Rattle.sim_top.specs.Rigs.{RigStands, StandForTrial};
+ghost use Rattle.sim_top.specs.Stops.{CausesOf, IsOfContent, IsOfTurn, IsMissed};
 ghost use Rattle.sim_top.specs.Making.{Makes, IsSavedAs, IsFinished, outcome_made, status_made};
 
-use crate::inputs::{read_match, read_schedule, read_state};
+use crate::inputs::{read_match, read_schedule, read_state, trial_match};
 use crate::status::Status;
 use crate::stop::Stop;
 use crate::words::Request;
@@ -30,7 +32,7 @@ use sim_base::{OutOfMemory, Setup, State};
 use sim_codec::{digest, spell};
 use sim_diff::difference;
 use sim_orders::OrderTable;
-use sim_play::{play_text, resume_text, state_at};
+use sim_play::{play_text, push_trial, resume_text, state_at};
 use sim_report::{push_place, push_saved, push_show};
 use sim_serve::served_text;
 use sim_store::Shelf;
@@ -60,13 +62,14 @@ pub fn answer_to<'w, S: Shelf>(
     rig: Rig,
     orders: &OrderTable,
 ) -> (Result<Answer<'w>, Stop<'w>>, Rig)
-    requires { HaveKinds (systems_of rig ⟦<dyn System as System>⟧) }
+    requires kinds { HaveKinds (systems_of rig ⟦<dyn System as System>⟧) }
+    requires trial { CanBeTried (asked request) }
     ensures answers { IfSome (S.held shelf.old) (λ files. Makes result.0 (IsOutcomeOf files (Some (asked request.entry)))) }
     ensures saved { IfOk result.0 (λ answer. IsSavedAs (out_of (Some (asked request.entry))) answer.saved) }
     ensures done { IfOk result.0 (λ answer. IsFinished answer.saved answer.status) }
     ensures causes { CausesOf result.0 (S.counts shelf.old) (S.counts shelf.new) }
     ensures statuses { MayAnswer (asked request.entry) (status_made result.0) }
-    ensures missing { (files : List File) → S.held shelf.old ≡ Some files → file_in files (game_of (asked request.entry)) ≡ None → IsMissed result.0 }
+    ensures missing { (files : List File) → S.held shelf.old ≡ Some files → LacksMatch files (Some (asked request.entry)) → IsMissed result.0 }
     ensures given { (files : List File) → S.held shelf.old ≡ Some files → IfOk result.0 (λ _. S.counts shelf.new ≡ after_giving (length_read files (asked request.entry)) (S.counts shelf.old)) }
     ensures held { S.held shelf.new ≡ S.held shelf.old }
     ensures stands { IfSome (S.held shelf.old) (λ files. OnOk result.0 (RigStands files (Some (asked request.entry)) (systems_of rig ⟦<dyn System as System>⟧) (systems_of result.1 ⟦<dyn System as System>⟧))) }
@@ -80,6 +83,7 @@ pub fn answer_to<'w, S: Shelf>(
         Request::Show { game, stored } => (show(alloc, shelf, game, stored), rig),
         Request::Compare { game, left, right } => (compare(alloc, shelf, game, left, right), rig),
         Request::Serve { schedule } => (serve(alloc, shelf, schedule), rig),
+        Request::Trial { seed, units, turns } => trial(alloc, seed, units, turns, rig, orders),
     }
 }
 
@@ -263,6 +267,71 @@ fn resume_match<'w>(
 {
     let (text, rig) = resume_text(alloc, setup, state, rig, orders);
     (shown(text), rig)
+}
+
+fn trial<'w>(
+    alloc: Global,
+    seed: u32,
+    units: u32,
+    turns: u32,
+    rig: Rig,
+    orders: &OrderTable,
+) -> (Result<Answer<'w>, Stop<'w>>, Rig)
+    requires limits { IsTrial seed units turns }
+    requires kinds { HaveKinds (systems_of rig ⟦<dyn System as System>⟧) }
+    ensures answers { Makes result.0 (IsTrialOutcome seed units turns) }
+    ensures saved { IfOk result.0 (λ answer. answer.saved ≡ None) }
+    ensures done { IfOk result.0 (λ answer. IsFinished answer.saved answer.status) }
+    ensures content { IfErr result.0 IsOfContent }
+    ensures statuses { MayAnswer (to_try seed units turns) (status_made result.0) }
+    ensures stands { OnOk result.0 (StandForTrial seed units turns (systems_of result.1 ⟦<dyn System as System>⟧)) }
+    ensures kinds { HaveKinds (systems_of result.1 ⟦<dyn System as System>⟧) }
+    ensures most { AreBuiltOnceAtMost (systems_of rig ⟦<dyn System as System>⟧) (systems_of result.1 ⟦<dyn System as System>⟧) }
+{
+    match trial_match(alloc, seed, units, turns) {
+        Ok(setup) => tried(alloc, (seed, units, turns), &setup, rig, orders),
+        Err(stop) => (Err(stop), rig),
+    }
+}
+
+// Plays the match that was made of a trial's numbers.
+fn tried<'w>(
+    alloc: Global,
+    numbers: (u32, u32, u32),
+    setup: &Setup,
+    rig: Rig,
+    orders: &OrderTable,
+) -> (Result<Answer<'w>, Stop<'w>>, Rig)
+    requires limits { IsSetup setup.now }
+    requires kinds { HaveKinds (systems_of rig ⟦<dyn System as System>⟧) }
+    ensures answers { Makes result.0 (λ wanted. wanted ≡ trial_outcome numbers.0 numbers.1 numbers.2 setup.now) }
+    ensures stops { IfErr result.0 IsOfTurn }
+    ensures saved { IfOk result.0 (λ answer. answer.saved ≡ None) }
+    ensures done { IfOk result.0 (λ answer. answer.status ≡ Status.Done) }
+    ensures fed { OnOk result.0 (AreFed setup.now (after setup.now (own_turns setup.now 0 setup.now.turns)) (systems_of result.1 ⟦<dyn System as System>⟧)) }
+    ensures kinds { HaveKinds (systems_of result.1 ⟦<dyn System as System>⟧) }
+    ensures most { AreBuiltOnceAtMost (systems_of rig ⟦<dyn System as System>⟧) (systems_of result.1 ⟦<dyn System as System>⟧) }
+{
+    let (state, rig) = state_at(alloc, setup, setup.turns, rig, orders);
+    (shown(trial_text(alloc, numbers, setup, state)), rig)
+}
+
+// The line of a trial, if there was memory for its last state.
+fn trial_text(
+    alloc: Global,
+    numbers: (u32, u32, u32),
+    setup: &Setup,
+    state: Result<State, OutOfMemory>,
+) -> Result<String, OutOfMemory>
+    requires { IfOk state (IsValid setup.now) }
+    ensures text { IfOk result (λ text. IfOk state (λ state. string_bytes text ≡ trial_line numbers.0 numbers.1 numbers.2 setup.now state)) }
+    ensures refused { OnErr state (IsErr result) }
+{
+    let (seed, units, turns) = numbers;
+    let state = state?;
+    let mut text = String::new(alloc);
+    push_trial(seed, units, turns, setup, &state, &mut text)?;
+    Ok(text)
 }
 
 // A text alone, if there was memory for it.

@@ -1,4 +1,4 @@
-//! What a command reads: the match of a file, a stored state of that match, and a schedule.
+//! What a command reads: the match of a file, a stored state of that match, and a schedule; and the match of a trial.
 
 ghost use Rattle.std.specs.Prelude.{◌≡◌, List, Some, None, IsTrue, IfSome, IfOk, IfErr, IsErrAnd, length};
 ghost use Rattle.sim_base.specs.Limits.{IsSetup};
@@ -7,10 +7,11 @@ ghost use Rattle.sim_codec.specs.Loading.{head_fault};
 ghost use Rattle.sim_setup.specs.Setups.{setup_of as setup_of_bytes};
 ghost use Rattle.sim_store.specs.Counts.{after_giving};
 ghost use Rattle.sim_store.specs.Files.{File, file_in};
-ghost use Rattle.sim_top.specs.Words.{Asked, loads_state, reads_list};
+ghost use Rattle.sim_top.specs.Words.{Asked, loads_state, reads_list, reads_file};
 ghost use Rattle.sim_top.specs.Reads.{length_in};
 ghost use Rattle.sim_lists.specs.Schedules.{schedule_of as schedule_of_bytes, IsSchedule};
-ghost use Rattle.sim_top.specs.Outcome.{bytes_in, match_in, setup_by, schedule_in, schedule_by};
+ghost use Rattle.sim_trial.specs.Trial.{IsTrial};
+ghost use Rattle.sim_top.specs.Outcome.{bytes_in, match_in, setup_by, trial_match as match_of_trial, schedule_in, schedule_by};
 ghost use Rattle.sim_top.specs.Answers.{MayAnswer};
 ghost use Rattle.sim_top.specs.Stops.{Reads, ReadsBytes, ReadsState, LoadsState, IsStateStop, IsOfContent, IsMissed, ReadsCounting, CausesOf, status_of};
 
@@ -20,6 +21,7 @@ use sim_codec::load;
 use sim_lists::{Schedule, schedule_of};
 use sim_setup::setup_of;
 use sim_store::{Shelf, StoreFault, read_file};
+use sim_trial::trial_text;
 use std::alloc::Global;
 
 /// Reads the bytes of a file.
@@ -56,13 +58,26 @@ pub fn read_match<'w, S: Shelf>(alloc: Global, shelf: &mut S, name: &str) -> Res
     ensures tells { IfSome (S.held shelf.old) (λ files. Reads result (match_in files name.now)) }
     ensures limits { IfOk result IsSetup }
     ensures missing { (files : List File) → S.held shelf.old ≡ Some files → file_in files name.now ≡ None → IsMissed result }
-    ensures stops { IfErr result (λ stop. (asked : Asked) → MayAnswer asked (status_of stop)) }
+    ensures stops { IfErr result (λ stop. (asked : Asked) → IsTrue (reads_file asked) → MayAnswer asked (status_of stop)) }
     ensures causes { CausesOf result (S.counts shelf.old) (S.counts shelf.new) }
     ensures given { (files : List File) → S.held shelf.old ≡ Some files → IfOk result (λ _. S.counts shelf.new ≡ after_giving (length_in files name.now) (S.counts shelf.old)) }
     ensures held { S.held shelf.new ≡ S.held shelf.old }
 {
     let bytes = read_bytes(alloc, shelf, name)?;
     match_of(alloc, &bytes)
+}
+
+/// The match of a trial, which no file holds.
+#[tactic(auto, unfolding(crate::specs::Outcome::trial_match))]
+pub fn trial_match<'w>(alloc: Global, seed: u32, units: u32, turns: u32) -> Result<Setup, Stop<'w>>
+    requires { IsTrial seed units turns }
+    ensures tells { Reads result (match_of_trial seed units turns) }
+    ensures limits { IfOk result IsSetup }
+    ensures stops { IfErr result (λ stop. (asked : Asked) → MayAnswer asked (status_of stop)) }
+    ensures content { IfErr result IsOfContent }
+{
+    let text = trial_text(alloc, u64::from(seed), units, turns)?;
+    match_of(alloc, &text)
 }
 
 // The state that the bytes of the file of this name stand for. What the first bytes are refused for takes no memory.
@@ -94,7 +109,7 @@ pub fn read_state<'w, S: Shelf>(
     requires { IsSetup setup.now }
     ensures tells { IfSome (S.held shelf.old) (λ files. ReadsState result setup.now name.now (bytes_in files name.now)) }
     ensures valid { IfOk result (IsValid setup.now) }
-    ensures stops { IfErr result (λ stop. (asked : Asked) → IsTrue (loads_state asked) → MayAnswer asked (status_of stop)) }
+    ensures stops { IfErr result (λ stop. (asked : Asked) → IsTrue (loads_state asked) → IsTrue (reads_file asked) → MayAnswer asked (status_of stop)) }
     ensures causes { CausesOf result (S.counts shelf.old) (S.counts shelf.new) }
     ensures given { (files : List File) → S.held shelf.old ≡ Some files → IfOk result (λ _. S.counts shelf.new ≡ after_giving (length_in files name.now) (S.counts shelf.old)) }
     ensures held { S.held shelf.new ≡ S.held shelf.old }
@@ -123,7 +138,7 @@ pub fn read_schedule<'w, S: Shelf>(
     ensures tells { IfSome (S.held shelf.old) (λ files. Reads result (schedule_in files name.now)) }
     ensures limits { IfOk result IsSchedule }
     ensures missing { (files : List File) → S.held shelf.old ≡ Some files → file_in files name.now ≡ None → IsMissed result }
-    ensures stops { IfErr result (λ stop. (asked : Asked) → IsTrue (reads_list asked) → MayAnswer asked (status_of stop)) }
+    ensures stops { IfErr result (λ stop. (asked : Asked) → IsTrue (reads_list asked) → IsTrue (reads_file asked) → MayAnswer asked (status_of stop)) }
     ensures causes { CausesOf result (S.counts shelf.old) (S.counts shelf.new) }
     ensures given { (files : List File) → S.held shelf.old ≡ Some files → IfOk result (λ _. S.counts shelf.new ≡ after_giving (length_in files name.now) (S.counts shelf.old)) }
     ensures held { S.held shelf.new ≡ S.held shelf.old }

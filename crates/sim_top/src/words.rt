@@ -1,7 +1,10 @@
 //! The words after the program's name, and the request that they make. A word that is out of place makes none.
 
-ghost use Rattle.std.specs.Prelude.{◌≡◌, ◌≤◌, length, option_map};
-ghost use Rattle.sim_top.specs.Words.{asked, words_of, asked_by, asked_of_one, asked_of_two, asked_of_three, turn_in, digits_from};
+ghost use Rattle.std.specs.Prelude.{◌≡◌, ◌≤◌, Some, IfSome, length, option_map};
+ghost use Rattle.sim_top.specs.Words.{asked, words_of, asked_by, asked_of_one, asked_of_two, asked_of_three, trial_of as trial_asked, turn_in, digits_from};
+ghost use Rattle.sim_top.specs.Trials.{CanBeTried};
+
+use sim_trial::is_trial;
 
 /// What the words ask for, with the names of files as they were given.
 #[derive(Clone, Copy, Debug, PartialEq, Eq)]
@@ -36,11 +39,18 @@ pub enum Request<'w> {
     Serve {
         schedule: &'w str,
     },
+    /// To play a trial of so many soldiers and turns.
+    Trial {
+        seed: u32,
+        units: u32,
+        turns: u32,
+    },
 }
 
 /// The request of the words, if they make one.
 pub fn request_of(words: &[String]) -> Option<Request<'_>>
-    ensures { option_map asked result ≡ asked_by (words_of words.now) }
+    ensures asked { option_map asked result ≡ asked_by (words_of words.now) }
+    ensures trial { IfSome result (λ request. CanBeTried (asked request)) }
 {
     match words {
         [command, a] => request_of_one(command.as_str(), a.as_str()),
@@ -53,7 +63,8 @@ pub fn request_of(words: &[String]) -> Option<Request<'_>>
 }
 
 fn request_of_one<'w>(command: &str, file: &'w str) -> Option<Request<'w>>
-    ensures { option_map asked result ≡ asked_of_one command.now file.now }
+    ensures asked { option_map asked result ≡ asked_of_one command.now file.now }
+    ensures trial { IfSome result (λ request. CanBeTried (asked request)) }
 {
     if command == "play" {
         return Some(Request::Play { game: file });
@@ -65,7 +76,8 @@ fn request_of_one<'w>(command: &str, file: &'w str) -> Option<Request<'w>>
 }
 
 fn request_of_two<'w>(command: &str, game: &'w str, stored: &'w str) -> Option<Request<'w>>
-    ensures { option_map asked result ≡ asked_of_two command.now game.now stored.now }
+    ensures asked { option_map asked result ≡ asked_of_two command.now game.now stored.now }
+    ensures trial { IfSome result (λ request. CanBeTried (asked request)) }
 {
     if command == "resume" {
         return Some(Request::Resume { game, stored });
@@ -76,21 +88,41 @@ fn request_of_two<'w>(command: &str, game: &'w str, stored: &'w str) -> Option<R
     None
 }
 
-fn request_of_three<'w>(command: &str, game: &'w str, b: &'w str, c: &'w str) -> Option<Request<'w>>
-    ensures { option_map asked result ≡ asked_of_three command.now game.now b.now c.now }
+fn request_of_three<'w>(command: &str, a: &'w str, b: &'w str, c: &'w str) -> Option<Request<'w>>
+    ensures asked { option_map asked result ≡ asked_of_three command.now a.now b.now c.now }
+    ensures trial { IfSome result (λ request. CanBeTried (asked request)) }
 {
     if command == "state" {
         let turn = turn_of(b)?;
-        return Some(Request::State { game, turn, out: c });
+        return Some(Request::State {
+            game: a,
+            turn,
+            out: c,
+        });
     }
     if command == "compare" {
         return Some(Request::Compare {
-            game,
+            game: a,
             left: b,
             right: c,
         });
     }
+    if command == "trial" {
+        return trial_of(turn_of(a)?, turn_of(b)?, turn_of(c)?);
+    }
     None
+}
+
+// The trial of these numbers, if they are within its limits.
+fn trial_of<'w>(seed: u32, units: u32, turns: u32) -> Option<Request<'w>>
+    ensures asked { option_map asked result ≡ trial_asked (Some seed) (Some units) (Some turns) }
+    ensures trial { IfSome result (λ request. CanBeTried (asked request)) }
+{
+    if is_trial(u64::from(seed), units, turns) {
+        Some(Request::Trial { seed, units, turns })
+    } else {
+        None
+    }
 }
 
 // The turn that a word of one to nine digits is.

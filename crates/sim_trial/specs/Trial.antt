@@ -1,6 +1,6 @@
 -- The match of a trial as a text in JSON. Two players are each other's enemies on a ground of 128 by 128 cells, which a
 -- wall with three gaps halves. The soldiers stand where the random word puts them, and walk to the middle.
-use Rattle.std.specs.Prelude.{ℕ, zero, suc, ◌+◌, ◌-◌, ◌*◌, ◌/◌, ◌%◌, ◌^◌, ◌<◌, ◌≤◌, ◌==◌, List, [], ◌++◌, length, map, filter, if◌then◌else◌, codes, decimal}
+use Rattle.std.specs.Prelude.{ℕ, Bool, ◌&&◌, nat_le, zero, suc, ◌+◌, ◌-◌, ◌*◌, ◌/◌, ◌%◌, ◌^◌, ◌<◌, ◌≤◌, ◌==◌, List, [], ◌++◌, length, map, filter, if◌then◌else◌, codes, decimal}
 use Rattle.std.specs.List.{range_with_len, join_with_byte}
 use Rattle.std.specs.Int.{div_ceil}
 use Rattle.std.specs.Fork.{slice_chunk}
@@ -12,6 +12,10 @@ pub record IsTrial (seed units turns : ℕ) : Type 0 where
   pub some_units : 1 ≤ units
   pub few_units : units ≤ 1000
   pub few_turns : turns ≤ 10000
+
+-- whether these numbers are within the limits
+abbrev pub is_trial : ℕ → ℕ → ℕ → Bool
+is_trial seed units turns = ((nat_le seed 999999999 && nat_le 1 units) && nat_le units 1000) && nat_le turns 10000
 
 -- what stands between two pieces of a list
 abbrev pub comma : ℕ

@@ -8,7 +8,7 @@ ghost use Rattle.sim_system.specs.declared.ask.Ask.TheVariants as ask;
 ghost use Rattle.sim_system.specs.Meanings.{MayAsk};
 ghost use Rattle.sim_board.specs.BoardWords.{IsWhole};
 
-use sim_base::{Aim, Change, OutOfMemory, Point, Row, Setup, State};
+use sim_base::{Aim, Change, MAX_ROWS, OutOfMemory, Point, Row, Setup, State};
 use sim_board::Board;
 use sim_lookup::{arms_of, find_row, is_inside};
 use sim_system::{Answer, Ask, System};
@@ -50,7 +50,7 @@ fn can_come(setup: &Setup, state: &State, number: u16, at: &Point, owner: u8) ->
     usize::from(number) < setup.templates.as_slice().len()
         && is_inside(&setup.land, at)
         && owner <= setup.players
-        && state.rows.as_slice().len() < 4096
+        && state.rows.as_slice().len() < MAX_ROWS
         && state.next < 0x20000000
 }
 

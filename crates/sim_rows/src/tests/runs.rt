@@ -85,8 +85,8 @@ to 2 refused 1
 released 2
 ";
 
-// Runs the words with eight rigs of new systems. The boxes are made in this body, since a function may hand out none.
-fn run_words<S: Shelf, K: Sink>(
+/// Runs the words with eight rigs of new systems. The boxes are made in this body, since a function may hand out none.
+pub fn run_words<S: Shelf, K: Sink>(
     alloc: Global,
     words: &[String],
     shelf: &mut S,
@@ -99,8 +99,8 @@ fn run_words<S: Shelf, K: Sink>(
     run_with(alloc, words, shelf, out, rigs)
 }
 
-// Runs the words with these rigs, and a planner for each kind of command.
-fn run_with<S: Shelf, K: Sink>(
+/// Runs the words with these rigs, and a planner for each kind of command.
+pub fn run_with<S: Shelf, K: Sink>(
     alloc: Global,
     words: &[String],
     shelf: &mut S,
@@ -233,7 +233,8 @@ fn ran(
     Ok((status, shelf, out))
 }
 
-fn owned(alloc: Global, words: &[&str]) -> Result<Vec<String>, Fail> {
+/// The words as texts of their own.
+pub fn owned(alloc: Global, words: &[&str]) -> Result<Vec<String>, Fail> {
     let mut owned = Vec::new(alloc);
     for word in words {
         owned.push(String::from_str(alloc, word)?)?;

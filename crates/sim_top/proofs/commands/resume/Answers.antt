@@ -1,5 +1,5 @@
 -- The match and the state that were read are played on.
-use Rattle.std.proofs.Common.{◌≡◌, Some, Ok, Err, subst, IfSome}
+use Rattle.std.proofs.Common.{◌≡◌, Some, Ok, Err, refl, subst, IfSome}
 use Rattle.sim_base.specs.declared.setup.Setup.{Setup}
 use Rattle.sim_base.specs.declared.state.State.{State}
 use Rattle.sim_play.specs.Lines.{resume_text}
@@ -40,4 +40,4 @@ returns-in-Ok-clause-answers g c =
 
 -- what a match may end with, every command may
 pub returns-clause-statuses : goal.returns-clause-statuses
-returns-clause-statuses g c = c.in-Err.ensures.stops (to_resume c.args.game.now c.args.name.now)
+returns-clause-statuses g c = c.in-Err.ensures.stops (to_resume c.args.game.now c.args.name.now) refl

@@ -1,4 +1,4 @@
-use Rattle.std.proofs.Common.{◌≡◌, Some, Ok, Err, subst, ◌∙◌, IfSome, Result, sym, rules}
+use Rattle.std.proofs.Common.{◌≡◌, Some, Ok, Err, subst, ◌∙◌, IfSome, Result, refl, sym, rules}
 use Rattle.sim_base.specs.declared.setup.Setup.{Setup}
 use Rattle.sim_base.specs.declared.state.State.{State}
 use Rattle.sim_report.specs.Show.{show_text}
@@ -51,4 +51,4 @@ pub returns-in_err-setup-clause-statuses : goal.returns-in_err-setup-clause-stat
 returns-in_err-setup-clause-statuses g c =
     let asked = to_show c.args.game.now c.args.name.now in
     let is : c.from_residual.result ≡ Err c.in_err-setup.field-0.0 = search rules in
-    subst (λ (r : Result Answer Stop). MayAnswer asked (status_made r)) (sym is) (c.in_err-setup.ensures.stops asked)
+    subst (λ (r : Result Answer Stop). MayAnswer asked (status_made r)) (sym is) (c.in_err-setup.ensures.stops asked refl)

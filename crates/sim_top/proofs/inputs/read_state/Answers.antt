@@ -1,18 +1,23 @@
 -- What was counted while the file was read, and how much of it was given.
 use Rattle.std.proofs.Common.{◌≡◌, Result, Ok, Err, sym, subst, rules, IsTrue, IfErr}
 use Rattle.sim_base.specs.declared.state.State.{State}
-use Rattle.sim_top.specs.Words.{Asked, loads_state}
+use Rattle.sim_top.specs.Words.{Asked, loads_state, reads_file}
 use Rattle.sim_top.specs.Answers.{MayAnswer}
 use Rattle.sim_top.specs.Stops.{CausesOf, status_of}
 use Rattle.sim_top.specs.declared.stop.Stop.{Stop}
-use Rattle.sim_top.proofs.Counting.{gave, counted, counted_may_answer, content_causes, gave_file, whatever_ok}
+use Rattle.sim_top.proofs.Counting.{gave, counted, counted_may_answer, content_causes, ends_weaker, gave_file, whatever_ok}
 use Rattle.sim_top.proofs.inputs.read_state.Goals as goal
 
 pub returns-in_err-bytes-clause-stops : goal.returns-in_err-bytes-clause-stops
 returns-in_err-bytes-clause-stops g c =
     let is : c.from_residual.result ≡ Err c.in_err-bytes.field-0.0 = search rules in
-    subst (λ (r : Result State Stop). IfErr r (λ stop. (asked : Asked) → IsTrue (loads_state asked) → MayAnswer asked (status_of stop))) (sym is)
-    (λ asked loads. counted_may_answer c.in_err-bytes.field-0.0 _ _ c.in_err-bytes.ensures.causes asked)
+    subst (λ (r : Result State Stop). IfErr r (λ stop. (asked : Asked) → IsTrue (loads_state asked) → IsTrue (reads_file asked) → MayAnswer asked (status_of stop))) (sym is)
+    (λ asked loads file. counted_may_answer c.in_err-bytes.field-0.0 _ _ c.in_err-bytes.ensures.causes asked file)
+
+pub returns-clause-stops : goal.returns-clause-stops
+returns-clause-stops g c =
+    ends_weaker c.state_of.result (λ stop. (asked : Asked) → IsTrue (loads_state asked) → MayAnswer asked (status_of stop)) (λ stop. (asked : Asked) → IsTrue (loads_state asked) → IsTrue (reads_file asked) → MayAnswer asked (status_of stop))
+    (λ stop may asked loads file. may asked loads) c.state_of.ensures.stops
 
 pub returns-in_err-bytes-clause-causes : goal.returns-in_err-bytes-clause-causes
 returns-in_err-bytes-clause-causes g c =

@@ -26,4 +26,4 @@ returns-in-Err-clause-stands g c =
     (answered_never_ends c.in-Err.stop made.status text c.stop_text.result (subst (λ (s : Status). IsAnswered made.status text s c.stop_text.result) c.status.ensures c.answered-in-Err.ensures.answer))
 
 pub returns-in-Ok-clause-stands : goal.returns-in-Ok-clause-stands
-returns-in-Ok-clause-stands g c = stands_asked _ _ c.in-Ok.answer _ _ _ _ c.in-Ok.is c.in-Some.ensures c.answer_to-answer.ensures.stands
+returns-in-Ok-clause-stands g c = stands_asked _ _ c.in-Ok.answer _ _ _ _ c.in-Ok.is c.in-Some.ensures.asked c.answer_to-answer.ensures.stands

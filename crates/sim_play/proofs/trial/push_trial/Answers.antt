@@ -1,0 +1,9 @@
+-- A valid state has few rows, and short ways.
+use Rattle.sim_codec.proofs.ShortWays.{short_ways, few_rows}
+use Rattle.sim_play.proofs.trial.push_trial.Goals as goal
+
+pub digest-requires-clause-short : goal.digest-requires-clause-short
+digest-requires-clause-short c = short_ways 1 c.args.setup.now c.args.state.now c.requires
+
+pub digest-requires-clause-few : goal.digest-requires-clause-few
+digest-requires-clause-few c = few_rows 1 c.args.setup.now c.args.state.now c.requires

@@ -1,0 +1,14 @@
+-- The text of the trial is read as a match file is.
+use Rattle.std.proofs.Common.{◌≡◌, ◌∙◌, ℕ, List, ap, subst}
+use Rattle.sim_setup.specs.Setups.{setup_of}
+use Rattle.sim_trial.specs.Trial.{text_of_trial}
+use Rattle.sim_top.specs.Outcome.{trial_match, setup_by}
+use Rattle.sim_top.specs.Stops.{Reads}
+use Rattle.sim_top.proofs.inputs.trial_match.Goals as goal
+
+pub returns-clause-tells : goal.returns-clause-tells
+unfolding trial_match
+returns-clause-tells c =
+    let text : c.deref.result.now ≡ text_of_trial c.args.seed c.args.units c.args.turns =
+    c.deref.ensures.value ∙ c.in_ok-text.ensures ∙ ap (λ (n : ℕ). text_of_trial n c.args.units c.args.turns) c.from.ensures in
+    subst (λ (bytes : List ℕ). Reads c.match_of.result (setup_by (setup_of bytes))) text c.match_of.ensures.tells
