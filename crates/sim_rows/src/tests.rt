@@ -11,9 +11,6 @@ macro_rules! rig {
     }};
 }
 
-mod asks;
 mod checks;
-mod matches;
-mod refusing;
 mod rows;
 mod runs;
