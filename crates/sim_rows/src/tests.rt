@@ -11,6 +11,9 @@ macro_rules! rig {
     }};
 }
 
+mod asks;
 mod checks;
+mod matches;
+mod refusing;
 mod rows;
 mod runs;
