@@ -1,7 +1,8 @@
 //! Ids of entities and numbers of templates, be they there or not.
 
-ghost use Rattle.std.specs.Prelude.{◌≡◌, ◌≤◌, length, map, IfOk, IfSome};
+ghost use Rattle.std.specs.Prelude.{◌≡◌, ◌≤◌, ◌<◌, length, map, None, Ok, IfOk, IfSome};
 ghost use Rattle.serde_json.specs.View.{view};
+ghost use Rattle.sim_json.specs.Values.{list_of as list_of_data};
 ghost use Rattle.sim_commands.specs.Commands.{id_in as id_in_data, template_in as template_in_data, ids_from as ids_from_data, ids_of as ids_of_data};
 
 use serde_json::Value;
@@ -36,6 +37,7 @@ pub fn template_in(value: &Value) -> Option<u16>
 pub fn ids_of(alloc: Global, value: &Value) -> Result<Option<Ids>, OutOfMemory>
     ensures value { IfOk result (λ ids. ids ≡ ids_of_data (view value.now)) }
     ensures few { IfOk result (λ found. IfSome found (λ ids. length ids ≤ 256)) }
+    ensures no_list { list_of_data (view value.now) ≡ None → result ≡ Ok None }
 {
     match list_of(value) {
         Some(items) => ids_from(alloc, items),
@@ -46,6 +48,7 @@ pub fn ids_of(alloc: Global, value: &Value) -> Result<Option<Ids>, OutOfMemory>
 fn ids_from(alloc: Global, items: &[Value]) -> Result<Option<Ids>, OutOfMemory>
     ensures value { IfOk result (λ ids. ids ≡ ids_from_data (map view items.now)) }
     ensures few { IfOk result (λ found. IfSome found (λ ids. length ids ≤ 256)) }
+    ensures many { 256 < length items.now → result ≡ Ok None }
 {
     if items.len() > MOST {
         return Ok(None);

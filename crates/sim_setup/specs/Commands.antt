@@ -26,6 +26,14 @@ timed_from turns players done p =
 unfoldable pub timed_of : ℕ → ℕ → List Timed → Data → Option Timed
 timed_of turns players done d = option_and_then (timed_from turns players done) (option_and_then front_two (list_of d))
 
+-- what is said behind the turn and the player, where these are among so many
+abbrev pub behind_player : ℕ → ℕ → Data × Data × List Data → Option (List Data)
+behind_player turns players p = next_or (natural_in 1 turns p.0) None (λ turn. next_or (natural_in 1 players p.1) None (λ player. Some p.2))
+
+-- what a command's list says behind them; where it says nothing, no memory is taken for the command
+unfoldable pub said_of : ℕ → ℕ → Data → Option (List Data)
+said_of turns players d = option_and_then (behind_player turns players) (option_and_then front_two (list_of d))
+
 -- the commands, or the first that is none
 abbrev pub timeds_from : ℕ → ℕ → List Data → Result (List Timed) Refusal
 timeds_from turns players ds = coded 9 (numbered (timed_of turns players) [] ds)
