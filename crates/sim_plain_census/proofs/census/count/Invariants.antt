@@ -1,0 +1,6 @@
+use Rattle.std.proofs.Common.{◌≡◌, take}
+use Rattle.sim_system.specs.Answers.{population_among}
+use Rattle.sim_plain_census.proofs.census.count.Given as goal
+
+abbrev pub invariant-loop-fact : goal.invariant-loop-fact
+invariant-loop-fact l = l.n ≡ population_among (take l.fact-index l.facts) l.owner

@@ -1,0 +1,5 @@
+pub mod Rows
+pub mod Spots
+pub mod Closing
+pub mod Freeing
+pub mod Over

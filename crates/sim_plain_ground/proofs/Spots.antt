@@ -1,0 +1,33 @@
+-- Points and centres lie on the largest ground.
+use Rattle.std.proofs.Common.{◌≡◌, ℕ, ◌*◌, ◌≤◌, true, ℤ, pos, ◌≤ℤ◌, ◌<ℤ◌, int_le, int_lt, arith}
+use Rattle.std.specs.Prelude.{IsTrue}
+use Rattle.std.proofs.lemmas.Bool.{and_parts}
+use Rattle.std.proofs.lemmas.Int.{ints}
+use Rattle.sim_base.specs.declared.place.Point.{Point}
+use Rattle.sim_base.specs.declared.place.Cell.{Cell}
+use Rattle.sim_base.specs.declared.setup.Land.{Land}
+use Rattle.sim_base.specs.Places.{IsPlaced, is_within, is_inside, centre_of}
+use Rattle.sim_base.specs.Rows.{size_of}
+use Rattle.sim_base.specs.Limits.{IsLand}
+use Rattle.sim_plain_ground.specs.Cells.{IsSmall}
+
+record IsCoordinate (raw : ℤ) : Type 0 where
+  low : pos 0 ≤ℤ raw
+  high : raw <ℤ pos 16777216
+
+coordinate : (raw : ℤ) (cells : ℕ) → cells ≤ 256 → is_within raw cells ≡ true → IsCoordinate raw
+coordinate raw cells le h =
+    let (low, high) = and_parts (int_le (pos 0) raw) (int_lt raw (pos (cells * 65536))) h in
+    let low_is : pos 0 ≤ℤ raw = grind (arith, ints) in
+    let high_is : raw <ℤ pos (cells * 65536) = grind (arith, ints) in
+    record { low = low_is; high = omega (arith, ints) }
+
+pub placed_on : (land : Land) (p : Point) → IsLand land → IsTrue (is_inside (size_of land) p) → IsPlaced p
+placed_on land p limits inside =
+    let (x, z) = and_parts (is_within p.x land.width) (is_within p.z land.depth) inside in
+    let cx = coordinate p.x land.width limits.width.1 x in
+    let cz = coordinate p.z land.depth limits.depth.1 z in
+    record { west = cx.low; east = cx.high; south = cz.low; north = cz.high }
+
+pub centre_placed : (c : Cell) → IsSmall c → IsPlaced (centre_of c)
+centre_placed c small = record { west = omega (arith, ints); east = omega (arith, ints, small.east); south = omega (arith, ints); north = omega (arith, ints, small.north) }
