@@ -328,13 +328,33 @@ fn fight_state(alloc: Global) -> Result<State, OutOfMemory> {
     })
 }
 
-// The cause for which the bytes are refused, or None where they are loaded.
-fn fault_of(alloc: Global, setup: &Setup, bytes: &[u8]) -> Option<StateFault>
+// What both calls say of bytes: the state that they load has no fault and spells the bytes, or both refuse them for the
+// same cause.
+#[derive(Clone, Copy, Debug, PartialEq, Eq)]
+enum Answer {
+    Stands,
+    Refused(StateFault),
+    Wrong,
+}
+
+use Answer::{Refused, Stands, Wrong};
+
+fn answer_of(alloc: Global, setup: &Setup, bytes: &[u8]) -> Result<Answer, OutOfMemory>
     requires { IsSetup setup.now }
 {
+    let refused = stands(setup, bytes).err();
     match load(alloc, setup, bytes) {
-        Ok(_) => None,
-        Err(fault) => Some(fault),
+        Ok(state) => {
+            let again = spell(alloc, setup, &state)?;
+            let is_well = refused.is_none() && is_valid(setup, &state) && again.as_slice() == bytes;
+            Ok(if is_well { Stands } else { Wrong })
+        }
+        Err(StateFault::OutOfMemory) => Err(OutOfMemory),
+        Err(fault) => Ok(if refused == Some(fault) {
+            Refused(fault)
+        } else {
+            Wrong
+        }),
     }
 }
 
@@ -383,10 +403,160 @@ fn worked_states_have_their_bytes(rt: HostRuntime) -> Result<(), Fail> {
     Ok(())
 }
 
-// The fight with these bytes changed.
-fn changed(alloc: Global, changes: &[(usize, u8)]) -> Result<Vec<u8>, OutOfMemory> {
-    spliced(alloc, (0, 0), &[], changes)
-}
+// What is said of the fight with some bytes changed, each of which breaks one rule.
+const BROKEN: [(&str, &[(usize, u8)]); 35] = [
+    ("a turn past the last", &[(26, 1)]),
+    ("a next id out of range", &[(31, 64)]),
+    ("a word of 49 bits", &[(38, 1)]),
+    ("another tag", &[(40, 2)]),
+    ("too few rows", &[(41, 2)]),
+    ("too many rows", &[(41, 4)]),
+    ("very many rows", &[(44, 255)]),
+    (
+        "an id twice",
+        &[(57, 3), (92, 3), (119, 3), (145, 3), (189, 3), (219, 3)],
+    ),
+    (
+        "ids out of order",
+        &[(28, 6), (51, 5), (80, 5), (114, 5), (137, 5), (213, 5)],
+    ),
+    (
+        "an id below 2",
+        &[(45, 1), (68, 1), (109, 1), (129, 1), (158, 1), (209, 1)],
+    ),
+    ("an id that is not below the next", &[(28, 4)]),
+    ("an unknown template", &[(49, 3)]),
+    ("a point outside", &[(74, 16)]),
+    ("a point below 0", &[(75, 128)]),
+    ("an unknown owner", &[(113, 3)]),
+    ("another id in a section", &[(109, 3)]),
+    ("too few healths", &[(125, 2)]),
+    ("too many healths", &[(125, 4)]),
+    ("too much health", &[(135, 11)]),
+    ("no health", &[(143, 0)]),
+    ("a health by no template", &[(61, 2)]),
+    ("too few motions", &[(154, 1)]),
+    ("too many motions", &[(154, 3)]),
+    ("a goal outside", &[(165, 16)]),
+    ("a waypoint outside", &[(183, 16)]),
+    ("too many waypoints", &[(172, 65)]),
+    ("a third mode", &[(162, 2)]),
+    ("a third whole", &[(171, 2)]),
+    ("a goal of a row that is still", &[(194, 1)]),
+    ("a whole of a row that is still", &[(202, 1)]),
+    ("too few attacks", &[(205, 1)]),
+    ("too many attacks", &[(205, 3)]),
+    ("itself as target", &[(213, 2)]),
+    ("nobody as target", &[(213, 6)]),
+    ("a cooldown above the repeat", &[(217, 4)]),
+];
+
+// A piece of the fight, from one place to another, and what stands there instead, and then bytes changed, as counts.
+type Piece = (
+    &'static str,
+    (usize, usize),
+    &'static [u8],
+    &'static [(usize, u8)],
+    Answer,
+);
+
+const NOTHING: [u8; 15] = [3, 0, 0, 0, 0, 0, 0, 0, 0, 0, 0, 0, 0, 0, 0];
+
+const PIECES: [Piece; 14] = [
+    ("as it was", (0, 0), &[], &[], Stands),
+    (
+        "a motion of a post",
+        (189, 189),
+        &NOTHING,
+        &[(154, 3)],
+        Refused(StateFault::Grammar),
+    ),
+    (
+        "no motion of a guard",
+        (189, 204),
+        &[],
+        &[(154, 1)],
+        Refused(StateFault::Grammar),
+    ),
+    (
+        "an attack of a post",
+        (219, 219),
+        &[3, 0, 0, 0, 0, 0, 0, 0, 0, 0],
+        &[(205, 3)],
+        Refused(StateFault::Grammar),
+    ),
+    (
+        "no attack of a guard",
+        (219, 229),
+        &[],
+        &[(205, 1)],
+        Refused(StateFault::Grammar),
+    ),
+    (
+        "no health of a guard",
+        (145, 153),
+        &[],
+        &[(125, 2)],
+        Refused(StateFault::Grammar),
+    ),
+    // The last entity is a wisp, which has no row among the healths.
+    (
+        "a target beside a wisp",
+        (145, 153),
+        &[],
+        &[(61, 2), (125, 2), (205, 3)],
+        Stands,
+    ),
+    (
+        "a wisp as target",
+        (145, 153),
+        &[],
+        &[(61, 2), (125, 2), (205, 4)],
+        Refused(StateFault::Grammar),
+    ),
+    (
+        "a zero behind",
+        (229, 229),
+        &[0],
+        &[],
+        Refused(StateFault::Grammar),
+    ),
+    (
+        "a further section",
+        (229, 229),
+        &[7, 0, 0, 0, 0],
+        &[],
+        Refused(StateFault::Grammar),
+    ),
+    (
+        "the last row again",
+        (229, 229),
+        &[4, 0, 0, 0, 0, 0, 0, 0, 0, 0],
+        &[],
+        Refused(StateFault::Grammar),
+    ),
+    (
+        "the state again",
+        (229, 229),
+        &FIGHT,
+        &[],
+        Refused(StateFault::Grammar),
+    ),
+    (
+        "all rows that a number can say, of waypoints too",
+        (0, 0),
+        &[],
+        &[(172, 255), (206, 255), (207, 255), (208, 255), (205, 255)],
+        Refused(StateFault::Grammar),
+    ),
+    (
+        "another version",
+        (0, 0),
+        &[],
+        &[(4, 2)],
+        Refused(StateFault::NotState),
+    ),
+];
 
 // The fight with a piece in place of the bytes between two places, and then these bytes changed.
 fn spliced(
@@ -412,104 +582,114 @@ fn spliced(
 fn a_state_with_one_rule_broken_is_refused(rt: HostRuntime) -> Result<(), Fail> {
     let alloc = rt.alloc();
     let setup = open_match(alloc, FIGHT_ID)?;
-    let broken = [
-        ("a turn past the last", [(26, 1)].as_slice()),
-        ("a next id out of range", &[(31, 64)]),
-        ("a word of 49 bits", &[(38, 1)]),
-        ("another tag", &[(40, 2)]),
-        ("too few rows", &[(41, 2)]),
-        ("too many rows", &[(41, 4)]),
-        ("very many rows", &[(44, 255)]),
-        (
-            "an id twice",
-            &[(57, 3), (92, 3), (119, 3), (145, 3), (189, 3), (219, 3)],
-        ),
-        (
-            "ids out of order",
-            &[(28, 6), (51, 5), (80, 5), (114, 5), (137, 5), (213, 5)],
-        ),
-        (
-            "an id below 2",
-            &[(45, 1), (68, 1), (109, 1), (129, 1), (158, 1), (209, 1)],
-        ),
-        ("an id that is not below the next", &[(28, 4)]),
-        ("an unknown template", &[(49, 3)]),
-        ("a point outside", &[(74, 16)]),
-        ("a point below 0", &[(75, 128)]),
-        ("an unknown owner", &[(113, 3)]),
-        ("another id in a section", &[(109, 3)]),
-        ("too few healths", &[(125, 2)]),
-        ("too many healths", &[(125, 4)]),
-        ("too much health", &[(135, 11)]),
-        ("no health", &[(143, 0)]),
-        ("a health by no template", &[(61, 2)]),
-        ("too few motions", &[(154, 1)]),
-        ("too many motions", &[(154, 3)]),
-        ("a goal outside", &[(165, 16)]),
-        ("a waypoint outside", &[(183, 16)]),
-        ("too many waypoints", &[(172, 65)]),
-        ("a third mode", &[(162, 2)]),
-        ("a third whole", &[(171, 2)]),
-        ("a goal of a row that is still", &[(194, 1)]),
-        ("a whole of a row that is still", &[(202, 1)]),
-        ("too few attacks", &[(205, 1)]),
-        ("too many attacks", &[(205, 3)]),
-        ("itself as target", &[(213, 2)]),
-        ("nobody as target", &[(213, 6)]),
-        ("a cooldown above the repeat", &[(217, 4)]),
-    ];
-    for (what, changes) in broken {
-        let bytes = changed(alloc, changes)?;
-        assert_eq!(rt;
-            fault_of(alloc, &setup, &bytes),
-            Some(StateFault::Grammar),
-            "{what}"
-        );
+    for (what, changes) in BROKEN {
+        let bytes = spliced(alloc, (0, 0), &[], changes)?;
+        let answer = answer_of(alloc, &setup, &bytes)?;
+        assert_eq!(rt; answer, Refused(StateFault::Grammar), "{what}");
+    }
+    for (what, between, piece, changes, wanted) in PIECES {
+        let bytes = spliced(alloc, between, piece, changes)?;
+        let answer = answer_of(alloc, &setup, &bytes)?;
+        assert_eq!(rt; answer, wanted, "{what}");
     }
     Ok(())
 }
 
-#[test]
-fn rows_stand_only_where_the_template_has_the_part(rt: HostRuntime) -> Result<(), Fail> {
-    let alloc = rt.alloc();
-    let setup = open_match(alloc, FIGHT_ID)?;
-    // Each with the count of its section put right.
-    let broken = [
-        ("a motion of a post", (189, 189), 15, (154, 3)),
-        ("no motion of a guard", (189, 204), 0, (154, 1)),
-        ("an attack of a post", (219, 219), 10, (205, 3)),
-        ("no attack of a guard", (219, 229), 0, (205, 1)),
-        ("no health of a guard", (145, 153), 0, (125, 2)),
-    ];
-    let row = [3, 0, 0, 0, 0, 0, 0, 0, 0, 0, 0, 0, 0, 0, 0];
-    for (what, between, length, count) in broken {
-        let bytes = spliced(alloc, between, row.get(..length).unwrap_or(&[]), &[count])?;
-        assert_eq!(rt;
-            fault_of(alloc, &setup, &bytes),
-            Some(StateFault::Grammar),
-            "{what}"
-        );
+// Whether bytes that were changed at a place, or cut there, are answered as bytes are that have something wrong there.
+fn is_well_at(answer: Answer, at: usize) -> bool {
+    match answer {
+        Stands => at >= 24,
+        Wrong => false,
+        Refused(StateFault::NotState) => at < 8,
+        Refused(StateFault::OtherMatch) => 8 <= at && at < 24,
+        Refused(StateFault::Grammar) => at >= 24,
+        Refused(StateFault::OutOfMemory) => false,
     }
-    Ok(())
 }
 
-// The last entity is a wisp, which has no row among the healths.
-#[test]
-fn a_target_without_health_is_refused(rt: HostRuntime) -> Result<(), Fail> {
-    let alloc = rt.alloc();
-    let setup = open_match(alloc, FIGHT_ID)?;
-    let other = spliced(alloc, (145, 153), &[], &[(61, 2), (125, 2), (205, 3)])?;
-    assert_eq!(rt; fault_of(alloc, &setup, &other), None);
-    let wisp = spliced(alloc, (145, 153), &[], &[(61, 2), (125, 2), (205, 4)])?;
-    assert_eq!(rt; fault_of(alloc, &setup, &wisp), Some(StateFault::Grammar));
-    Ok(())
+// In how many of the given ways the byte at a place can be changed so that a state is loaded, or None where an answer is
+// wrong.
+fn loads_at(
+    alloc: Global,
+    setup: &Setup,
+    bytes: &[u8],
+    at: usize,
+    ways: &[u8],
+) -> Result<Option<usize>, OutOfMemory>
+    requires { IsSetup setup.now }
+{
+    let mut bytes = Vec::from_slice(alloc, bytes)?;
+    let mut loads = 0usize;
+    for way in ways {
+        if let Some(byte) = bytes.get_mut(at) {
+            *byte ^= *way;
+        }
+        let answer = answer_of(alloc, setup, &bytes)?;
+        if !is_well_at(answer, at) {
+            return Ok(None);
+        }
+        if answer == Stands {
+            loads = loads.wrapping_add(1);
+        }
+        if let Some(byte) = bytes.get_mut(at) {
+            *byte ^= *way;
+        }
+    }
+    Ok(Some(loads))
+}
+
+fn is_well_cut(alloc: Global, setup: &Setup, bytes: &[u8], end: usize) -> Result<bool, OutOfMemory>
+    requires { IsSetup setup.now }
+{
+    let wanted = if end < 24 {
+        StateFault::NotState
+    } else {
+        StateFault::Grammar
+    };
+    let cut = bytes.get(..end).unwrap_or(&[]);
+    Ok(answer_of(alloc, setup, cut)? == Refused(wanted))
+}
+
+// How many changes of one byte load a state, or None where an answer to one or to a cut is wrong.
+fn loads_of(
+    alloc: Global,
+    setup: &Setup,
+    bytes: &[u8],
+    ways: &[u8],
+) -> Result<Option<usize>, OutOfMemory>
+    requires { IsSetup setup.now }
+{
+    let mut all = 0usize;
+    for at in 0..bytes.len() {
+        if !is_well_cut(alloc, setup, bytes, at)? {
+            return Ok(None);
+        }
+        match loads_at(alloc, setup, bytes, at, ways)? {
+            None => return Ok(None),
+            Some(loads) => all = all.wrapping_add(loads),
+        }
+    }
+    Ok(Some(all))
+}
+
+// All changes of a byte.
+fn all_ways(alloc: Global) -> Result<Vec<u8>, OutOfMemory> {
+    let mut ways = Vec::new(alloc);
+    for way in 1..=255u8 {
+        ways.push(way)?;
+    }
+    Ok(ways)
 }
 
 #[test]
-fn a_state_that_no_match_reaches_is_loaded(rt: HostRuntime) -> Result<(), Fail> {
+fn each_cut_and_each_changed_byte_has_its_answer(rt: HostRuntime) -> Result<(), Fail> {
     let alloc = rt.alloc();
-    let setup = open_match(alloc, FIGHT_ID)?;
-    assert_eq!(rt; fault_of(alloc, &setup, &FIGHT), None);
+    let walk = walkers(alloc)?;
+    let ways = all_ways(alloc)?;
+    assert_eq!(rt; loads_of(alloc, &walk, &WALK, &ways)?, Some(6109));
+    let fight = open_match(alloc, FIGHT_ID)?;
+    let bits = [1, 2, 4, 8, 16, 32, 64, 128];
+    assert_eq!(rt; loads_of(alloc, &fight, &FIGHT, &bits)?, Some(352));
     Ok(())
 }
 
@@ -526,94 +706,6 @@ fn a_spelled_state_is_loaded(rt: HostRuntime) -> Result<(), Fail> {
         }
         Err(fault) => panic!(rt; "{fault:?}"),
     }
-    Ok(())
-}
-
-#[test]
-fn bytes_of_another_length_are_refused(rt: HostRuntime) -> Result<(), Fail> {
-    let alloc = rt.alloc();
-    let setup = open_match(alloc, FIGHT_ID)?;
-    for end in 0..FIGHT.len() {
-        let fault = if end < 24 {
-            StateFault::NotState
-        } else {
-            StateFault::Grammar
-        };
-        assert_eq!(rt;
-            fault_of(alloc, &setup, &FIGHT[..end]),
-            Some(fault),
-            "up to {end}"
-        );
-    }
-    let more = [
-        ("a zero", [0].as_slice()),
-        ("a further section", &[7, 0, 0, 0, 0]),
-        ("the last row again", &[4, 0, 0, 0, 0, 0, 0, 0, 0, 0]),
-        ("the state again", &FIGHT),
-    ];
-    for (what, piece) in more {
-        let bytes = spliced(alloc, (229, 229), piece, &[])?;
-        assert_eq!(rt;
-            fault_of(alloc, &setup, &bytes),
-            Some(StateFault::Grammar),
-            "{what}"
-        );
-    }
-    Ok(())
-}
-
-// How bytes of which the one at this place was changed are read: refused for that, or loaded as the state that they
-// spell.
-#[derive(Clone, Copy, Debug, PartialEq, Eq)]
-enum Reading {
-    Loaded,
-    Refused,
-    Wrong,
-}
-
-fn reading_of(alloc: Global, setup: &Setup, bytes: &[u8], at: usize) -> Result<Reading, OutOfMemory>
-    requires { IsSetup setup.now }
-{
-    let is_well_refused = match load(alloc, setup, bytes) {
-        Ok(state) => {
-            let again = spell(alloc, setup, &state)?;
-            let is_well = at >= 24 && is_valid(setup, &state) && again.as_slice() == bytes;
-            return Ok(if is_well {
-                Reading::Loaded
-            } else {
-                Reading::Wrong
-            });
-        }
-        Err(StateFault::NotState) => at < 8,
-        Err(StateFault::OtherMatch) => 8 <= at && at < 24,
-        Err(StateFault::Grammar) => at >= 24,
-        Err(StateFault::OutOfMemory) => return Err(OutOfMemory),
-    };
-    Ok(if is_well_refused {
-        Reading::Refused
-    } else {
-        Reading::Wrong
-    })
-}
-
-#[test]
-fn each_changed_bit_is_refused_or_spelled_so(rt: HostRuntime) -> Result<(), Fail> {
-    let alloc = rt.alloc();
-    let setup = open_match(alloc, FIGHT_ID)?;
-    let bits: [u8; 8] = [1, 2, 4, 8, 16, 32, 64, 128];
-    let mut loaded = 0u64;
-    for at in 0..FIGHT.len() {
-        for bit in bits {
-            let bytes = changed(alloc, &[(at, FIGHT[at] ^ bit)])?;
-            let reading = reading_of(alloc, &setup, &bytes, at)?;
-            assert!(rt; reading != Reading::Wrong, "bit {bit} at {at}");
-            if reading == Reading::Loaded {
-                loaded = loaded.wrapping_add(1);
-            }
-        }
-    }
-    // Of 1832 files.
-    assert_eq!(rt; loaded, 352);
     Ok(())
 }
 
@@ -696,7 +788,7 @@ fn the_longest_state_has_as_many_bytes_as_a_state_may_have(rt: HostRuntime) -> R
     assert!(rt; is_valid(&setup, &state));
     let bytes = spell(alloc, &setup, &state)?;
     assert_eq!(rt; bytes.len(), MAX_STATE);
-    assert_eq!(rt; fault_of(alloc, &setup, &bytes), None);
+    assert_eq!(rt; answer_of(alloc, &setup, &bytes)?, Stands);
     // Far more bytes than are gathered before they are hashed.
     let sum = [
         196, 10, 43, 253, 173, 246, 244, 122, 173, 137, 134, 194, 91, 34, 171, 53,
