@@ -1,8 +1,9 @@
 //! Ids of entities and numbers of templates, be they there or not.
 
-ghost use Rattle.std.specs.Prelude.{◌≡◌, ◌≤◌, length, map, IfOk, IfSome};
+ghost use Rattle.std.specs.Prelude.{◌≡◌, ◌≤◌, length, map, IfOk, IfErr, IfSome, true};
 ghost use Rattle.serde_json.specs.View.{view};
 ghost use Rattle.sim_commands.specs.Commands.{id_in as id_in_data, template_in as template_in_data, ids_from as ids_from_data, ids_of as ids_of_data};
+ghost use Rattle.sim_commands.specs.Memory.{items_take, ids_take};
 
 use serde_json::Value;
 use sim_base::{Ids, OutOfMemory};
@@ -36,6 +37,7 @@ pub fn template_in(value: &Value) -> Option<u16>
 pub fn ids_of(alloc: Global, value: &Value) -> Result<Option<Ids>, OutOfMemory>
     ensures value { IfOk result (λ ids. ids ≡ ids_of_data (view value.now)) }
     ensures few { IfOk result (λ found. IfSome found (λ ids. length ids ≤ 256)) }
+    ensures memory { IfErr result (λ fault. ids_take (view value.now) ≡ true) }
 {
     match list_of(value) {
         Some(items) => ids_from(alloc, items),
@@ -46,6 +48,7 @@ pub fn ids_of(alloc: Global, value: &Value) -> Result<Option<Ids>, OutOfMemory>
 fn ids_from(alloc: Global, items: &[Value]) -> Result<Option<Ids>, OutOfMemory>
     ensures value { IfOk result (λ ids. ids ≡ ids_from_data (map view items.now)) }
     ensures few { IfOk result (λ found. IfSome found (λ ids. length ids ≤ 256)) }
+    ensures memory { IfErr result (λ fault. items_take (map view items.now) ≡ true) }
 {
     if items.len() > MOST {
         return Ok(None);

@@ -1,9 +1,10 @@
 //! Commands by their kinds. Each reader is handed what follows the kind.
 
-ghost use Rattle.std.specs.Prelude.{◌≡◌, map, option_map, IfOk, IfSome};
+ghost use Rattle.std.specs.Prelude.{◌≡◌, map, option_map, IfOk, IfErr, IfSome, true};
 ghost use Rattle.serde_json.specs.View.{view};
 ghost use Rattle.sim_base.specs.Limits.{HasFewIds};
 ghost use Rattle.sim_commands.specs.Commands.{point_of as point_of_data, three as three_of, walk_from as walk_from_data, stop_from as stop_from_data, attack_from as attack_from_data, delete_from as delete_from_data, place_from as place_from_data, train_from as train_from_data, resign_from as resign_from_data, command_by as command_by_kind, command_of as command_of_data};
+ghost use Rattle.sim_commands.specs.Memory.{alone_take, aimed_take, sent_take, kind_takes, command_takes};
 
 use crate::ids::{id_in, ids_of, template_in};
 use serde_json::Value;
@@ -12,10 +13,11 @@ use sim_json::{fixed, two};
 use std::alloc::Global;
 
 /// The command that a list spells, from its kind on, or None where it spells none.
-#[tactic(auto, unfolding(crate::specs::Commands::command_of))]
+#[tactic(auto, unfolding(crate::specs::Commands::command_of, crate::specs::Memory::command_takes))]
 pub fn command_of(alloc: Global, items: &[Value]) -> Result<Option<Command>, OutOfMemory>
     ensures value { IfOk result (λ command. command ≡ command_of_data (map view items.now)) }
     ensures few { IfOk result (λ found. IfSome found HasFewIds) }
+    ensures memory { IfErr result (λ fault. command_takes (map view items.now) ≡ true) }
 {
     match items {
         [kind, rest @ ..] => match kind.as_str() {
@@ -29,6 +31,7 @@ pub fn command_of(alloc: Global, items: &[Value]) -> Result<Option<Command>, Out
 fn command_by(alloc: Global, kind: &str, rest: &[Value]) -> Result<Option<Command>, OutOfMemory>
     ensures value { IfOk result (λ command. command ≡ command_by_kind kind.now (map view rest.now)) }
     ensures few { IfOk result (λ found. IfSome found HasFewIds) }
+    ensures memory { IfErr result (λ fault. kind_takes kind.now (map view rest.now) ≡ true) }
 {
     if kind == "walk" {
         return walk_from(alloc, rest);
@@ -57,6 +60,7 @@ fn command_by(alloc: Global, kind: &str, rest: &[Value]) -> Result<Option<Comman
 fn walk_from(alloc: Global, rest: &[Value]) -> Result<Option<Command>, OutOfMemory>
     ensures value { IfOk result (λ command. command ≡ walk_from_data (map view rest.now)) }
     ensures few { IfOk result (λ found. IfSome found HasFewIds) }
+    ensures memory { IfErr result (λ fault. sent_take (map view rest.now) ≡ true) }
 {
     let Some((ids, x, z)) = three(rest) else {
         return Ok(None);
@@ -73,6 +77,7 @@ fn walk_from(alloc: Global, rest: &[Value]) -> Result<Option<Command>, OutOfMemo
 fn stop_from(alloc: Global, rest: &[Value]) -> Result<Option<Command>, OutOfMemory>
     ensures value { IfOk result (λ command. command ≡ stop_from_data (map view rest.now)) }
     ensures few { IfOk result (λ found. IfSome found HasFewIds) }
+    ensures memory { IfErr result (λ fault. alone_take (map view rest.now) ≡ true) }
 {
     match rest {
         [ids] => {
@@ -88,6 +93,7 @@ fn stop_from(alloc: Global, rest: &[Value]) -> Result<Option<Command>, OutOfMemo
 fn attack_from(alloc: Global, rest: &[Value]) -> Result<Option<Command>, OutOfMemory>
     ensures value { IfOk result (λ command. command ≡ attack_from_data (map view rest.now)) }
     ensures few { IfOk result (λ found. IfSome found HasFewIds) }
+    ensures memory { IfErr result (λ fault. aimed_take (map view rest.now) ≡ true) }
 {
     let Some((ids, target)) = two(rest) else {
         return Ok(None);
@@ -104,6 +110,7 @@ fn attack_from(alloc: Global, rest: &[Value]) -> Result<Option<Command>, OutOfMe
 fn delete_from(alloc: Global, rest: &[Value]) -> Result<Option<Command>, OutOfMemory>
     ensures value { IfOk result (λ command. command ≡ delete_from_data (map view rest.now)) }
     ensures few { IfOk result (λ found. IfSome found HasFewIds) }
+    ensures memory { IfErr result (λ fault. alone_take (map view rest.now) ≡ true) }
 {
     match rest {
         [ids] => {

@@ -1,8 +1,9 @@
--- The ids so far, and as many as there were items.
-use Rattle.std.proofs.Common.{◌≡◌, ◌+◌, ◌≤◌, map, length, []}
+-- The ids so far, and as many as there were items. Where an item is an id, the first one is.
+use Rattle.std.proofs.Common.{◌≡◌, ◌+◌, ◌≤◌, true, map, length, []}
 use Rattle.serde_json.specs.View.{view}
 use Rattle.sim_json.specs.Records.{records}
 use Rattle.sim_commands.specs.Commands.{id_in}
+use Rattle.sim_commands.specs.Memory.{begins_with_id}
 use Rattle.sim_commands.proofs.ids.ids_from.Given as goal
 
 abbrev pub invariant-loop-rest : goal.invariant-loop-rest
@@ -10,6 +11,7 @@ invariant-loop-rest l = record {
   same : records (λ done. id_in) l.found.items (map view l.rest) ≡ records (λ done. id_in) [] (map view l.items);
   count : length l.found.items + length l.rest ≡ length l.items;
   few : length l.items ≤ 256;
+  first : begins_with_id (map view l.rest) ≡ true → begins_with_id (map view l.items) ≡ true;
 }
 
 abbrev pub decreases-loop-rest : goal.decreases-loop-rest
