@@ -44,14 +44,19 @@ children_in ms = children_of (named_in ms)
 abbrev pub is_whole_node : Members → Bool
 is_whole_node ms = nat_le (marks_in ms) 1 && bears (mark_in ms) (own_of ms) (children_in ms)
 
--- a value is a text, a whole number or an object
+-- an object's members up to its first child are the value or marks, and that child has a good name
+abbrev pub begin_well : Members → Bool
+begin_well no_members = true
+begin_well (member k d ms) = if is_child_key k then is_name k else is_plain_member k d && begin_well ms
+
+-- a value is a text, a whole number or an object that begins well: as much of a node as is seen without memory
 abbrev pub has_kind : Data → Bool
 has_kind null = false
 has_kind (boolean b) = false
 has_kind (number x) = is_some (number_text x)
 has_kind (string s) = true
 has_kind (array ds) = false
-has_kind (object ms) = true
+has_kind (object ms) = begin_well ms
 
 abbrev mutual
   -- a value is a node

@@ -29,6 +29,11 @@ abbrev pub are_root_members : Members → Bool
 are_root_members no_members = true
 are_root_members (member k d ms) = (is_root_key k || (is_child_key k && (is_name k && is_node d))) && are_root_members ms
 
+-- the members of a root up to its first child are its names, and that child has a good name
+abbrev pub begin_root : Members → Bool
+begin_root no_members = true
+begin_root (member k d ms) = if is_root_key k then begin_root ms else is_child_key k && is_name k
+
 -- a text, where it is a name
 abbrev pub if_name : List ℕ → Option (List ℕ)
 if_name text = if is_name text then Some text else None

@@ -5,7 +5,7 @@ ghost use Rattle.std.specs.Prelude.{◌≡◌, ◌≢◌, ◌&&◌, nat_le, is_s
 ghost use Rattle.serde_json.specs.View.{view, members_view};
 ghost use Rattle.sim_tree.specs.declared.tree.TreeMark.TheVariants.{Add, Mul, Tokens};
 ghost use Rattle.sim_tree.specs.Leaves.{leaf_text as leaf_text_data};
-ghost use Rattle.sim_tree.specs.Nodes.{mark_in as mark_in_data, marks_in, has_kind, is_node, node_in, are_members, children_in};
+ghost use Rattle.sim_tree.specs.Nodes.{mark_in as mark_in_data, marks_in, has_kind, is_node, node_in, are_members, begin_well, children_in};
 ghost use Rattle.sim_tree.specs.Reading.{TreeMeets, ChildrenMeet, of_kind};
 ghost use Rattle.sim_tree.specs.Trees.{node, no_children, nodes_of, node_of, bears as bears_parts, is_sound, are_sound};
 
@@ -42,6 +42,7 @@ pub fn read_node(alloc: Global, value: &Value) -> Result<Tree, TreeFault>
 #[cycle(node)]
 fn read_children(alloc: Global, members: &Map<String, Value>) -> Result<Vec<Child>, TreeFault>
     ensures children { ChildrenMeet result (of_kind (are_members (members_view members.now.entries)) (children_in (members_view members.now.entries))) }
+    ensures early { begin_well (members_view members.now.entries) ≡ false → result ≡ Err TreeFault.WrongKind }
     ensures sound { IfOk result (λ children. are_sound (nodes_of children.items) ≡ true) }
 {
     let mut found = Vec::new(alloc);

@@ -1,11 +1,11 @@
 //! The source of a template: what a match file says of it before its parent's tree is taken into account.
 
-ghost use Rattle.std.specs.Prelude.{◌≡◌, ◌≤◌, true, None, codes, IfOk, IfSome, option_map, option_and_then};
+ghost use Rattle.std.specs.Prelude.{◌≡◌, ◌≤◌, true, false, None, codes, IfOk, IfSome, option_map, option_and_then};
 ghost use Rattle.serde_json.specs.Find.{get};
 ghost use Rattle.serde_json.specs.View.{view, members_view};
 ghost use Rattle.sim_tree.specs.Nodes.{children_in};
 ghost use Rattle.sim_tree.specs.Reading.{SourceMeets, ChildrenMeet, of_kind, kind_of, source_in, early_source_fault};
-ghost use Rattle.sim_tree.specs.Sources.{is_root_key as is_root_key_bytes, are_root_members, name_in as name_in_data, parent_in as parent_in_data, root_in as root_in_members, origin_in};
+ghost use Rattle.sim_tree.specs.Sources.{is_root_key as is_root_key_bytes, are_root_members, begin_root, name_in as name_in_data, parent_in as parent_in_data, root_in as root_in_members, origin_in};
 ghost use Rattle.sim_tree.specs.Trees.{node_of, nodes_of, mark_of, value_of, is_sound, are_sound, levels};
 
 use crate::fault::TreeFault;
@@ -71,6 +71,7 @@ fn read_root(
     members: &Map<String, Value>,
 ) -> Result<Source, TreeFault>
     ensures source { SourceMeets result (kind_of (root_in_members name parent (members_view members.now.entries))) }
+    ensures early { begin_root (members_view members.now.entries) ≡ false → result ≡ Err TreeFault.WrongKind }
     ensures sound { IfOk result (λ source. is_sound (node_of source.tree) ≡ true) }
 {
     let children = root_children(alloc, members)?;
@@ -88,6 +89,7 @@ fn read_root(
 // The children of a root, beside which there are its names alone.
 fn root_children(alloc: Global, members: &Map<String, Value>) -> Result<Vec<Child>, TreeFault>
     ensures children { ChildrenMeet result (of_kind (are_root_members (members_view members.now.entries)) (children_in (members_view members.now.entries))) }
+    ensures early { begin_root (members_view members.now.entries) ≡ false → result ≡ Err TreeFault.WrongKind }
     ensures sound { IfOk result (λ children. are_sound (nodes_of children.items) ≡ true) }
 {
     let mut found = Vec::new(alloc);

@@ -12,7 +12,7 @@ read_children-loop-key-init t c =
     let sorted = sorted_ascends entries c.iter-key-items.ensures.ordered in
     let none : map named_of c.new-found.result.items ≡ [] = ap (map named_of) c.new-found.ensures.items in
     let same : c.into_iter-key-iterator.result ≡ entries = search rules in
-    record { fit = search rules; order = rw (none, same) sorted; below = rw none; made = search rules }
+    record { fit = search rules; early = search rules; order = rw (none, same) sorted; below = rw none; made = search rules }
 
 pub read_children-loop-key-preserved-in-Continue-branch-4 : goal.read_children-loop-key-preserved-in-Continue-branch-4
 read_children-loop-key-preserved-in-Continue-branch-4 t c =
@@ -29,6 +29,7 @@ read_children-loop-key-preserved-in-Continue-branch-4 t c =
     let more = named-more old new c.in-Some-2.name key (node_of c.in_ok-tree.tree) d (members_view c.next.new.self) child added named read.1 in
     record {
       fit = search rules;
+      early = search rules;
       order = ascends-more old new (c.in-Some-2.name, node_of c.in_ok-tree.tree) key (keys_in c.next.new.self) added named here;
       below = rw added (all_sound-push old (c.in-Some-2.name, node_of c.in_ok-tree.tree) l.invariant.below c.in_ok-tree.ensures.sound);
       made = l.invariant.made ∙ ap (λ es. old ++ named_in (members_view es)) c.in-Some.ensures.steps ∙ more;
@@ -40,6 +41,7 @@ read_children-loop-key-preserved t c =
     let here = subst (λ es. ascends (map name_of (map named_of l.found.items) ++ keys_in es) ≡ true) c.in-Some.ensures.steps l.invariant.order in
     record {
       fit = search rules;
+      early = search rules;
       order = ascends_skip (map name_of (map named_of l.found.items)) (string_bytes c.in-Some.key.now) (keys_in c.next.new.self) here;
       below = l.invariant.below;
       made = search rules;

@@ -1,13 +1,14 @@
-use Rattle.std.proofs.Common.{◌≡◌, ◌++◌, true, map}
+use Rattle.std.proofs.Common.{◌≡◌, ◌++◌, true, false, map}
 use Rattle.serde_json.specs.View.{members_view}
 use Rattle.sim_tree.specs.Trees.{named_of}
-use Rattle.sim_tree.specs.Nodes.{are_members, named_in}
+use Rattle.sim_tree.specs.Nodes.{are_members, begin_well, named_in}
 use Rattle.sim_tree.proofs.Ascends.{keys_in, name_of, ascends, all_sound}
 use Rattle.sim_tree.proofs.nodes.+node.Given as goal
 
 abbrev pub invariant-read_children-loop-key : goal.invariant-read_children-loop-key
 invariant-read_children-loop-key l = record {
   fit : are_members (members_view l.fn.members.entries) ≡ are_members (members_view l.key-iterator);
+  early : begin_well (members_view l.fn.members.entries) ≡ false → begin_well (members_view l.key-iterator) ≡ false;
   order : ascends (map name_of (map named_of l.found.items) ++ keys_in l.key-iterator) ≡ true;
   below : all_sound (map named_of l.found.items) ≡ true;
   made : named_in (members_view l.fn.members.entries) ≡ map named_of l.found.items ++ named_in (members_view l.key-iterator);

@@ -13,7 +13,7 @@ loop-key-init c =
     let sorted = sorted_ascends entries c.iter-key-items.ensures.ordered in
     let none : map named_of c.new-found.result.items ≡ [] = ap (map named_of) c.new-found.ensures.items in
     let same : c.into_iter-key-iterator.result ≡ entries = search rules in
-    record { fit = search rules; order = rw (none, same) sorted; below = rw none; made = search rules }
+    record { fit = search rules; early = search rules; order = rw (none, same) sorted; below = rw none; made = search rules }
 
 pub loop-key-preserved-then-is_root_key : goal.loop-key-preserved-then-is_root_key
 loop-key-preserved-then-is_root_key c =
@@ -23,6 +23,7 @@ loop-key-preserved-then-is_root_key c =
     let alone = root_key_alone (string_bytes c.in-Some.key.now) root in
     record {
       fit = search rules;
+      early = search rules;
       order = ascends_skip (map name_of (map named_of l.found.items)) (string_bytes c.in-Some.key.now) (keys_in c.next.new.self) here;
       below = l.invariant.below;
       made = search rules;
@@ -43,6 +44,7 @@ loop-key-preserved c =
     let more = named-more old new c.in-Some-2.name key (node_of c.in_ok-tree.tree) d (members_view c.next.new.self) child added named read.1 in
     record {
       fit = search rules;
+      early = search rules;
       order = ascends-more old new (c.in-Some-2.name, node_of c.in_ok-tree.tree) key (keys_in c.next.new.self) added named here;
       below = rw added (all_sound-push old (c.in-Some-2.name, node_of c.in_ok-tree.tree) l.invariant.below c.in_ok-tree.ensures.sound);
       made = l.invariant.made ∙ ap (λ es. old ++ named_in (members_view es)) c.in-Some.ensures.steps ∙ more;

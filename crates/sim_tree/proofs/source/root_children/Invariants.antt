@@ -1,14 +1,15 @@
-use Rattle.std.proofs.Common.{◌≡◌, ◌++◌, true, map}
+use Rattle.std.proofs.Common.{◌≡◌, ◌++◌, true, false, map}
 use Rattle.serde_json.specs.View.{members_view}
 use Rattle.sim_tree.specs.Trees.{named_of}
 use Rattle.sim_tree.specs.Nodes.{named_in}
-use Rattle.sim_tree.specs.Sources.{are_root_members}
+use Rattle.sim_tree.specs.Sources.{are_root_members, begin_root}
 use Rattle.sim_tree.proofs.Ascends.{keys_in, name_of, ascends, all_sound}
 use Rattle.sim_tree.proofs.source.root_children.Given as goal
 
 abbrev pub invariant-loop-key : goal.invariant-loop-key
 invariant-loop-key l = record {
   fit : are_root_members (members_view l.fn.members.entries) ≡ are_root_members (members_view l.key-iterator);
+  early : begin_root (members_view l.fn.members.entries) ≡ false → begin_root (members_view l.key-iterator) ≡ false;
   order : ascends (map name_of (map named_of l.found.items) ++ keys_in l.key-iterator) ≡ true;
   below : all_sound (map named_of l.found.items) ≡ true;
   made : named_in (members_view l.fn.members.entries) ≡ map named_of l.found.items ++ named_in (members_view l.key-iterator);
