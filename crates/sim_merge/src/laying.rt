@@ -1,6 +1,6 @@
 //! A tree laid over another one: the two are walked at once, by their marks and by the names of their children.
 
-ghost use Rattle.std.specs.Prelude.{◌≡◌, true, IsTrue, Some, None, MatchResult, IfOk, IfErr, Option};
+ghost use Rattle.std.specs.Prelude.{◌≡◌, true, IsTrue, Some, None, Ok, Err, MatchResult, IfOk, IfErr, Option};
 ghost use Rattle.sim_tree.specs.Trees.{node_of, nodes_of, named_of, is_sound, are_sound, mark_of, value_of as value_of_node, Children, child, node};
 ghost use Rattle.sim_merge.specs.Libraries.{is_resolved, is_layable};
 ghost use Rattle.sim_merge.specs.Faults.{IfBadOp};
@@ -37,9 +37,13 @@ pub fn overlay(alloc: Global, lower: &Tree, upper: &Tree) -> Result<Tree, Overla
 #[cycle(laying)]
 fn lay(alloc: Global, upper: &Tree, lower: Option<&Tree>) -> Result<Option<Tree>, OverlayFault>
     requires { is_sound_if (node_if lower) ≡ true }
-    ensures { MatchResult result
+    ensures laid { MatchResult result
         (λ found. laid (node_if lower.entry) (node_of upper.now) ≡ laying_of found)
         (λ fault. IfBadOp fault (laid (node_if lower.entry) (node_of upper.now) ≡ refused)) }
+    ensures disabled { mark_of (node_of upper.now) ≡ Some TreeMark.Disable → result ≡ Ok None }
+    ensures nothing_below { mark_of (node_of upper.now) ≡ Some TreeMark.Merge → node_if lower.entry ≡ None → result ≡ Ok None }
+    ensures no_sum { mark_of (node_of upper.now) ≡ Some TreeMark.Add → value_by (function_of Operation.Sum) (lower_value (node_if lower.entry)) (value_of_node (node_of upper.now)) ≡ None → result ≡ Err OverlayFault.BadOp }
+    ensures no_product { mark_of (node_of upper.now) ≡ Some TreeMark.Mul → value_by (function_of Operation.Product) (lower_value (node_if lower.entry)) (value_of_node (node_of upper.now)) ≡ None → result ≡ Err OverlayFault.BadOp }
 {
     let mark = match upper.mark {
         None => return Ok(Some(unmarked(alloc, upper, lower)?)),
@@ -138,7 +142,8 @@ fn operated(
     upper: &Tree,
     lower: Option<&Tree>,
 ) -> Result<Tree, OverlayFault>
-    ensures { let value = value_by (function_of operation) (lower_value (node_if lower.entry)) (value_of_node (node_of upper.now)) in
+    ensures bad { value_by (function_of operation) (lower_value (node_if lower.entry)) (value_of_node (node_of upper.now)) ≡ None → result ≡ Err OverlayFault.BadOp }
+    ensures value { let value = value_by (function_of operation) (lower_value (node_if lower.entry)) (value_of_node (node_of upper.now)) in
         MatchResult result
         (λ tree. with_value value (lower_children (node_if lower.entry)) ≡ there (node_of tree))
         (λ fault. IfBadOp fault (with_value value (lower_children (node_if lower.entry)) ≡ refused)) }

@@ -24,7 +24,7 @@ push_merged-returns t c =
     let MergedAt : List ℕ × Node → Type 0 = λ p. IsMerged p.0 p.1 old new lower left in
     subst MergedAt (sym (named_of-out upper))
     (merged-step name n old pushed new lower rest left (laying_of c.in_ok-laid.laid) past
-    (ap (λ x. laid (child_named x rest) n) (sym c.text-name.ensures.bytes) ∙ ap (λ b. laid b n) (sym c.first_named.ensures.named) ∙ c.in_ok-laid.ensures)
+    (ap (λ x. laid (child_named x rest) n) (sym c.text-name.ensures.bytes) ∙ ap (λ b. laid b n) (sym c.first_named.ensures.named) ∙ c.in_ok-laid.ensures.laid)
     c.in_ok-push_laid.ensures (c.behind.ensures.rest ∙ ap (λ x. behind x rest) c.text-name.ensures.bytes) c.behind.ensures.sound)
 
 pub unmarked-returns-in_err-children : goal.unmarked-returns-in_err-children
