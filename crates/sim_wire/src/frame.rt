@@ -1,18 +1,19 @@
-//! Frames made and read. The reader is lax: what it read is framed again and compared. So it is enough that it reads back
-//! what is framed.
+//! Frames made and read. Bytes are read only where they have the form of a frame, so that memory is taken for frames alone.
+//! The reader itself is lax: it is enough that it reads back what is framed.
 
-ghost use Rattle.std.specs.Prelude.{◌≡◌, ◌↔◌, ℕ, List, IsTrue, IfOk, IfErr};
+ghost use Rattle.std.specs.Prelude.{◌≡◌, ℕ, List, IfOk, IfErr};
 ghost use Rattle.sim_plain.specs.declared.message.UpOf.{UpOf};
 ghost use Rattle.sim_plain.specs.declared.message.DownOf.{DownOf};
 ghost use Rattle.sim_wire.specs.Fits.{IsSmallUp, IsSmallDown, IsUpFrame, IsDownFrame};
 ghost use Rattle.sim_wire.specs.Refusals.{RefusedFor, GivesMessage};
 
 use crate::fault::WireFault;
+use crate::form::{is_down_form, is_up_form};
 use crate::message::{Down, Up};
 use crate::take::{take_down, take_up};
 use crate::tell::{tell_down, tell_up};
 use sim_base::OutOfMemory;
-use sim_bytes::{Comparing, Take};
+use sim_bytes::Take;
 use std::alloc::Global;
 
 /// How many bytes a frame has at most.
@@ -38,30 +39,6 @@ pub fn frame_down(alloc: Global, down: &Down) -> Result<Vec<u8>, OutOfMemory>
     Ok(out)
 }
 
-// Whether these bytes are the frame of what a client says.
-fn is_up_frame(up: &Up, bytes: &[u8]) -> bool
-    requires { IsSmallUp up.now }
-    ensures { IsTrue result ↔ IsUpFrame bytes.now up.now }
-{
-    let mut comparing = Comparing::new(bytes);
-    match tell_up(&mut comparing, up) {
-        Ok(()) => comparing.is_same(),
-        Err(never) => match never {},
-    }
-}
-
-// Whether these bytes are the frame of what the server says.
-fn is_down_frame(down: &Down, bytes: &[u8]) -> bool
-    requires { IsSmallDown down.now }
-    ensures { IsTrue result ↔ IsDownFrame bytes.now down.now }
-{
-    let mut comparing = Comparing::new(bytes);
-    match tell_down(&mut comparing, down) {
-        Ok(()) => comparing.is_same(),
-        Err(never) => match never {},
-    }
-}
-
 /// What the client says of which these bytes are the frame.
 pub fn unframe_up(alloc: Global, bytes: &[u8]) -> Result<Up, WireFault>
     ensures ok { IfOk result (IsUpFrame bytes.now) }
@@ -72,12 +49,11 @@ pub fn unframe_up(alloc: Global, bytes: &[u8]) -> Result<Up, WireFault>
     if bytes.len() > MAX_FRAME {
         return Err(WireFault::TooLong);
     }
-    let mut from = Take::new(bytes);
-    let up = take_up(alloc, &mut from)?;
-    if !is_up_frame(&up, bytes) {
+    if !is_up_form(bytes) {
         return Err(WireFault::NotFrame);
     }
-    Ok(up)
+    let mut from = Take::new(bytes);
+    take_up(alloc, &mut from)
 }
 
 /// What the server says of which these bytes are the frame.
@@ -90,10 +66,9 @@ pub fn unframe_down(alloc: Global, bytes: &[u8]) -> Result<Down, WireFault>
     if bytes.len() > MAX_FRAME {
         return Err(WireFault::TooLong);
     }
-    let mut from = Take::new(bytes);
-    let down = take_down(alloc, &mut from)?;
-    if !is_down_frame(&down, bytes) {
+    if !is_down_form(bytes) {
         return Err(WireFault::NotFrame);
     }
-    Ok(down)
+    let mut from = Take::new(bytes);
+    take_down(alloc, &mut from)
 }

@@ -1,4 +1,4 @@
-//! Frames read and made again, cut short, and with a byte behind them.
+//! Frames read and made again, cut short, and with a byte behind them; and bytes that are no frame.
 
 use crate::fault::WireFault;
 use crate::frame::{frame_down, frame_up, unframe_down, unframe_up};
@@ -39,6 +39,47 @@ static DOWN: [&[u8]; 6] = [
     &[6, 0, 0, 0, 5, 2, 0, 0, 0, 1],
     &[2, 0, 0, 0, 6, 4],
 ];
+
+// No frames of clients: a wrong length in front, a byte too many, no such tag, no such kind, 257 ids, an id too few, half
+// a digest.
+static NO_UP: [&[u8]; 9] = [
+    &[],
+    &[2, 0, 0, 0, 1],
+    &[2, 0, 0, 0, 1, 9],
+    &[1, 0, 0, 0, 0],
+    &[1, 0, 0, 0, 6],
+    &[6, 0, 0, 0, 2, 2, 0, 0, 0, 8],
+    &[8, 0, 0, 0, 2, 2, 0, 0, 0, 2, 1, 1],
+    &[8, 0, 0, 0, 2, 2, 0, 0, 0, 4, 1, 0],
+    &[13, 0, 0, 0, 4, 2, 0, 0, 0, 0, 1, 2, 3, 4, 5, 6, 7],
+];
+
+// No frames of the server, for the same reasons; the last has no client.
+static NO_DOWN: [&[u8]; 9] = [
+    &[],
+    &[3, 0, 0, 0, 1, 3],
+    &[3, 0, 0, 0, 1, 3, 9],
+    &[1, 0, 0, 0, 0],
+    &[2, 0, 0, 0, 7, 4],
+    &[7, 0, 0, 0, 3, 2, 0, 0, 0, 1, 8],
+    &[9, 0, 0, 0, 3, 2, 0, 0, 0, 1, 2, 1, 1],
+    &[9, 0, 0, 0, 3, 2, 0, 0, 0, 1, 4, 1, 0],
+    &[5, 0, 0, 0, 5, 2, 0, 0, 0],
+];
+
+#[test]
+fn other_bytes_are_no_frame(rt: HostRuntime) -> Result<(), Fail> {
+    let alloc = rt.alloc();
+    for bytes in NO_UP {
+        let up = unframe_up(alloc, bytes);
+        assert!(rt; matches!(up, Err(WireFault::NotFrame)));
+    }
+    for bytes in NO_DOWN {
+        let down = unframe_down(alloc, bytes);
+        assert!(rt; matches!(down, Err(WireFault::NotFrame)));
+    }
+    Ok(())
+}
 
 #[test]
 fn frames_of_clients_are_read(rt: HostRuntime) -> Result<(), Fail> {
