@@ -3,8 +3,10 @@ pub mod Places
 pub mod Told
 pub mod Fits
 pub mod Back
-pub mod Loop
 pub mod Standing
 pub mod Clock
 pub mod OfEntity
 pub mod ShortWays
+pub mod TakenRows
+pub mod GoodRows
+pub mod ToldRows

@@ -1,5 +1,5 @@
 -- What holds where bytes stand for a state.
-use Rattle.std.proofs.Common.{◌≡◌, ℕ, Bool, true, false, not, ltb, cond, List, ◌++◌, length, take, drop, Option, Some, None, Err, refl, sym, ap, subst, ◌∙◌, arith}
+use Rattle.std.proofs.Common.{◌≡◌, ℕ, Bool, true, false, not, ltb, cond, List, ◌++◌, length, take, drop, Option, Some, None, Result, Err, refl, sym, ap, subst, ◌∙◌, arith}
 use Rattle.std.specs.Prelude.{IsTrue, ◌↔◌}
 use Rattle.std.specs.Str.{bytes_eq}
 use Rattle.std.proofs.lemmas.Bool.{false≢true, le-ltb}
@@ -12,8 +12,8 @@ use Rattle.sim_base.specs.Limits.{IsSetup}
 use Rattle.sim_base.specs.Bytes.{u32_bytes}
 use Rattle.sim_codec.specs.declared.fault.StateFault.{StateFault}
 use Rattle.sim_codec.specs.declared.fault.StateFault.TheVariants as faults
-use Rattle.sim_codec.specs.Reading.{state_at, Fails}
-use Rattle.sim_codec.specs.Loading.{head_fault, start_bytes, StandsFor, Loads, RefusedFor}
+use Rattle.sim_codec.specs.Reading.{state_at}
+use Rattle.sim_codec.specs.Loading.{head_fault, start_bytes, StandsFor, Stands, Loads, RefusedFor}
 use Rattle.sim_codec.proofs.Back.{state_back}
 
 parts : (setup : Setup) (s : State) → spelling setup s ≡ start_bytes ++ (setup.id ++ (clock_bytes s ++ sections s.rows))
@@ -68,19 +68,6 @@ unread setup bytes rest s is_setup rest-is read stands = differ s (state_at setu
     differ : (x : State) (o : Option State) → o ≡ None → o ≡ Some x → ⊥
     differ x o e f = cc
 
--- where nothing is read, bytes stand for nothing
-pub fails_well : (setup : Setup) (bytes rest : List ℕ) (fault : StateFault) → IsSetup setup → rest ≡ drop 24 bytes → Fails (state_at setup rest) fault → (s : State) → StandsFor setup bytes s → Loads s (Err fault)
-fails_well setup bytes rest faults.NotState is_setup rest-is fails s stands = fails
-fails_well setup bytes rest faults.OtherMatch is_setup rest-is fails s stands = fails
-fails_well setup bytes rest faults.Grammar is_setup rest-is fails s stands = unread setup bytes rest s is_setup rest-is fails stands
-fails_well setup bytes rest faults.OutOfMemory is_setup rest-is fails s stands = tt
-
-pub fails_for : (setup : Setup) (bytes rest : List ℕ) (fault : StateFault) → IsSetup setup → head_fault setup bytes ≡ None → rest ≡ drop 24 bytes → Fails (state_at setup rest) fault → RefusedFor setup bytes fault
-fails_for setup bytes rest faults.NotState is_setup head rest-is fails = absurd fails
-fails_for setup bytes rest faults.OtherMatch is_setup head rest-is fails = absurd fails
-fails_for setup bytes rest faults.Grammar is_setup head rest-is fails = (head, λ s. unread setup bytes rest s is_setup rest-is fails)
-fails_for setup bytes rest faults.OutOfMemory is_setup head rest-is fails = tt
-
 -- where bytes do not stand for what is read, they stand for nothing
 pub no_other : (setup : Setup) (bytes rest : List ℕ) (t : State) (answer : Bool) → IsSetup setup → rest ≡ drop 24 bytes → state_at setup rest ≡ Some t → (IsTrue answer ↔ StandsFor setup bytes t) → answer ≡ false → (s : State) → StandsFor setup bytes s → ⊥
 no_other setup bytes rest t answer is_setup rest-is read says was s stands =
@@ -91,6 +78,30 @@ no_fault setup bytes fault sixteen e s stands = differ fault (head_fault setup b
   where
     differ : (x : StateFault) (o : Option StateFault) → o ≡ None → o ≡ Some x → ⊥
     differ x o e f = cc
+
+-- the head is never refused for want of memory
+pub head_takes_none : (setup : Setup) (bytes : List ℕ) → head_fault setup bytes ≡ Some faults.OutOfMemory → ⊥
+unfolding head_fault
+head_takes_none setup bytes = by (ltb (length bytes) 24) (not (bytes_eq (take 8 bytes) start_bytes)) (not (bytes_eq (take 16 (drop 8 bytes)) setup.id))
+  where
+    by : (a b c : Bool) → cond a (Some faults.NotState) (cond b (Some faults.NotState) (cond c (Some faults.OtherMatch) None)) ≡ Some faults.OutOfMemory → ⊥
+    by true b c e = cc
+    by false true c e = cc
+    by false false true e = cc
+    by false false false e = cc
+
+pub not_memory : {X : Type 0} (setup : Setup) (bytes : List ℕ) (fault : StateFault) → head_fault setup bytes ≡ Some fault → ◌≡◌ {A = Result X StateFault} (Err fault) (Err faults.OutOfMemory) → ⊥
+not_memory setup bytes faults.OutOfMemory h e = head_takes_none setup bytes h
+not_memory setup bytes faults.NotState h e = cc
+not_memory setup bytes faults.OtherMatch h e = cc
+not_memory setup bytes faults.Grammar h e = cc
+
+-- what is refused for another cause than want of memory stands for nothing
+pub no_state : (setup : Setup) (bytes : List ℕ) (fault : StateFault) → IsSetup setup → RefusedFor setup bytes fault → (fault ≡ faults.OutOfMemory → ⊥) → (s : State) → StandsFor setup bytes s → ⊥
+no_state setup bytes faults.NotState is_setup refused no_memory s stands = no_fault setup bytes faults.NotState is_setup.id refused s stands
+no_state setup bytes faults.OtherMatch is_setup refused no_memory s stands = no_fault setup bytes faults.OtherMatch is_setup.id refused s stands
+no_state setup bytes faults.Grammar is_setup refused no_memory s stands = refused.1 s stands
+no_state setup bytes faults.OutOfMemory is_setup refused no_memory s stands = absurd (no_memory refl)
 
 -- bytes stand for one state at most
 pub one_state : (setup : Setup) (bytes : List ℕ) (s t : State) → IsSetup setup → StandsFor setup bytes s → StandsFor setup bytes t → s ≡ t

@@ -25,6 +25,10 @@ pub record StandsFor (setup : Setup) (bytes : List ℕ) (state : State) : Type 0
   pub valid : IsValid setup state
   pub spelled : bytes ≡ spelling setup state
 
+-- bytes stand for some state
+abbrev pub Stands : Setup → List ℕ → Type 0
+Stands setup bytes = (state : State) × StandsFor setup bytes state
+
 -- a load gives this state, or memory was refused
 abbrev pub Loads : State → Result State StateFault → Type 0
 Loads state (Ok loaded) = loaded ≡ state

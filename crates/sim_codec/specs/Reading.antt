@@ -21,30 +21,8 @@ unfoldable pub rows_at : List Template → ℕ → Walk → Option (List Row × 
 rows_at templates zero w = Some ([], w)
 rows_at templates (suc n) w = row_at templates w >>= λ r. rows_at templates n r.1 >>= λ rs. Some (r.0 ∷ rs.0, rs.1)
 
--- the numbers behind the id of the match, and the sections, if they have few rows: what is read before any memory is taken
-abbrev pub start_at : List ℕ → Option (ℕ × ℕ × ℕ × (ℕ × Walk))
-start_at bytes =
-    number_at w32 bytes >>= λ turn. number_at w32 turn.1 >>= λ next. number_at w64 next.1 >>= λ word. sections_at word.1 >>= λ found.
-    if nat_lt row_limit found.0.0 then None else Some (turn.0, next.0, word.0, found.0)
-
 -- the state behind the id of the match, if it has few rows; what follows its rows is not looked at
 unfoldable pub state_at : Setup → List ℕ → Option State
 state_at setup bytes =
     number_at w32 bytes >>= λ turn. number_at w32 turn.1 >>= λ next. number_at w64 next.1 >>= λ word. sections_at word.1 >>= λ found.
     if nat_lt row_limit found.0.0 then None else rows_at setup.templates found.0.0 found.0.1 >>= λ rs. Some (record { turn = turn.0; next = next.0; word = word.0; rows = rs.0 })
-
--- a call fails for want of memory, or because there is nothing to be read
-abbrev pub Fails : {X : Type 0} → Option X → StateFault → Type 0
-Fails read faults.NotState = ⊥
-Fails read faults.OtherMatch = ⊥
-Fails read faults.Grammar = read ≡ None
-Fails read faults.OutOfMemory = Unit {0}
-
--- a call gave what `read` says of the readers
-abbrev pub Gives : {X : Type 0} → (Walk → Option (X × Walk)) → Walk → Result X StateFault → Walk → Type 0
-Gives read old (Ok x) new = read old ≡ Some (x, new)
-Gives read old (Err e) new = Fails (read old) e
-
-abbrev pub GivesState : Option State → Result State StateFault → Type 0
-GivesState read (Ok s) = read ≡ Some s
-GivesState read (Err e) = Fails read e

@@ -62,7 +62,7 @@ fn bits_of_clock(state: &State) -> Bits
     ensures { result ≡ Some (clock_bytes state.now) }
 {
     let mut buffer = Buffer::new();
-    match tell_clock(&mut buffer, state) {
+    match tell_clock(&mut buffer, state.turn, state.next, state.word) {
         Ok(()) => Bits {
             found: Some(buffer),
         },

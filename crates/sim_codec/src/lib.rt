@@ -36,7 +36,9 @@
 //! - `validity`: the test of a state.
 //! - `spelling`: the writer, into a list, a digest or a comparison.
 //! - `fault`: why bytes are not loaded.
-//! - `reading`, `loading`: the reader, and the state that bytes stand for.
+//! - `stored`: a state that still stands in its bytes, of which rows are taken without memory.
+//! - `part`, `same`, `good`: whether bytes are the spelling of the state that was read from them, and whether it is valid.
+//! - `reading`, `loading`: the state in memory, and the state that bytes stand for.
 //! - `bits`: the bytes of one entity in one section.
 //! - `laws`: theorems about the definitions, each the contract of a function that does nothing, and that what is spelled
 //!   is loaded.
@@ -44,11 +46,15 @@
 
 mod bits;
 mod fault;
+mod good;
 mod laws;
 mod loading;
 mod look_up;
+mod part;
 mod reading;
+mod same;
 mod spelling;
+mod stored;
 #[cfg(test)]
 mod tests;
 mod validity;
@@ -59,6 +65,6 @@ pub use laws::{
     a_spelled_state_is_loaded, bytes_stand_for_one_state, spellings_are_read_back,
     states_can_be_told,
 };
-pub use loading::load;
+pub use loading::{load, stands};
 pub use spelling::{digest, spell};
 pub use validity::is_valid;

@@ -1,15 +1,17 @@
-//! The state that bytes stand for. The reader is lax: what it read is tested as a state, and spelled again and compared.
-//! So it is enough that it reads back what is spelled.
+//! The state that bytes stand for. The reader is lax: what it read is tested as a state, and spelled again and compared,
+//! before any memory is taken. So it is enough that it reads back what is spelled.
 
-ghost use Rattle.std.specs.Prelude.{◌≡◌, ◌↔◌, IsTrue, drop, None, Some, IfOk, IfErr, IfSome, MatchResult};
+ghost use Rattle.std.specs.Prelude.{◌≡◌, ◌≢◌, ◌↔◌, IsTrue, drop, None, Some, IfOk, IfErr, IfSome, MatchResult};
 ghost use Rattle.sim_base.specs.declared.state.State.{State};
 ghost use Rattle.sim_base.specs.Limits.{IsSetup};
-ghost use Rattle.sim_codec.specs.Loading.{start_bytes, head_fault, StandsFor, Loads, RefusedFor};
+ghost use Rattle.sim_codec.specs.Loading.{start_bytes, head_fault, StandsFor, Stands, Loads, RefusedFor};
 
 use crate::fault::StateFault;
-use crate::reading::state_from;
-use crate::spelling::{VERSION, is_spelled};
-use crate::validity::is_valid;
+use crate::good::is_valid_stored;
+use crate::reading::state_of;
+use crate::same::is_spelled;
+use crate::spelling::VERSION;
+use crate::stored::{Stored, stored_from};
 use sim_base::{Setup, State};
 use std::alloc::Global;
 
@@ -41,26 +43,56 @@ fn behind_head<'a>(setup: &Setup, bytes: &'a [u8]) -> Result<&'a [u8], StateFaul
 }
 
 // Whether the bytes stand for this state.
-fn stands_for(setup: &Setup, state: &State, bytes: &[u8]) -> bool
-    ensures { IsTrue result ↔ StandsFor setup.now bytes.now state.now }
+fn stands_for(setup: &Setup, stored: &Stored<'_>, bytes: &[u8]) -> bool
+    ensures { IsTrue result ↔ StandsFor setup.now bytes.now stored.now }
 {
-    is_valid(setup, state) && is_spelled(setup, state, bytes)
+    is_valid_stored(setup, stored) && is_spelled(setup, stored, bytes)
+}
+
+// The state for which the bytes stand, still in them.
+fn standing<'a>(setup: &'a Setup, bytes: &'a [u8]) -> Result<Stored<'a>, StateFault>
+    requires { IsSetup setup.now }
+    ensures head { IfSome (head_fault setup.now bytes.now) (λ fault. result ≡ Err fault) }
+    ensures ok { IfOk result (StandsFor setup.now bytes.now) }
+    ensures err { IfErr result (RefusedFor setup.now bytes.now) }
+    ensures no_memory { result ≢ Err StateFault.OutOfMemory }
+{
+    let rest = behind_head(setup, bytes)?;
+    let stored = stored_from(setup, rest)?;
+    if !stands_for(setup, &stored, bytes) {
+        return Err(StateFault::Grammar);
+    }
+    Ok(stored)
+}
+
+/// Whether bytes stand for a state of the match, and else what `load` refuses them for. It takes no memory.
+pub fn stands(setup: &Setup, bytes: &[u8]) -> Result<(), StateFault>
+    requires { IsSetup setup.now }
+    ensures head { IfSome (head_fault setup.now bytes.now) (λ fault. result ≡ Err fault) }
+    ensures ok { IfOk result (λ _. Stands setup.now bytes.now) }
+    ensures err { IfErr result (RefusedFor setup.now bytes.now) }
+    ensures no_memory { result ≢ Err StateFault.OutOfMemory }
+{
+    match standing(setup, bytes) {
+        Ok(_) => Ok(()),
+        Err(fault) => Err(fault),
+    }
 }
 
 /// The one valid state of the match that spells the bytes. It need not be one that the match reaches.
 ///
-/// Memory is taken row by row as rows are found, however many the bytes announce.
+/// No memory is taken before it is known that the bytes stand for a state.
 pub fn load(alloc: Global, setup: &Setup, bytes: &[u8]) -> Result<State, StateFault>
     requires { IsSetup setup.now }
     ensures head { IfSome (head_fault setup.now bytes.now) (λ fault. result ≡ Err fault) }
     ensures ok { IfOk result (StandsFor setup.now bytes.now) }
     ensures loads { (state : State) → StandsFor setup.now bytes.now state → Loads state result }
     ensures err { IfErr result (RefusedFor setup.now bytes.now) }
+    ensures memory { result ≡ Err StateFault.OutOfMemory → Stands setup.now bytes.now }
 {
-    let rest = behind_head(setup, bytes)?;
-    let state = state_from(alloc, setup, rest)?;
-    if !stands_for(setup, &state, bytes) {
-        return Err(StateFault::Grammar);
+    let stored = standing(setup, bytes)?;
+    match state_of(alloc, stored) {
+        Ok(state) => Ok(state),
+        Err(_) => Err(StateFault::OutOfMemory),
     }
-    Ok(state)
 }

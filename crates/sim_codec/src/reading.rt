@@ -1,13 +1,11 @@
-//! Rows and a state as they are read: the readers in the sections go on together, and each row gets memory of its own.
+//! A state in memory of its own, made of one that still stands in its bytes.
 
 ghost use Rattle.std.specs.Prelude.{◌≡◌, false, None, IfOk};
 ghost use Rattle.sim_sections.specs.Walking.{row_of};
-ghost use Rattle.sim_codec.specs.Reading.{row_at, rows_at, start_at, state_at, Gives, GivesState};
 
-use crate::fault::StateFault;
-use sim_base::{Aim, Items, MAX_ROWS, Motion, Row, Rows, Setup, State, Template};
-use sim_bytes::Take;
-use sim_sections::{AttackRow, MotionRow, Parts, Walk, locate, take_parts};
+use crate::stored::{Stored, StoredRows};
+use sim_base::{Aim, Items, Motion, OutOfMemory, Row, Rows, State};
+use sim_sections::{AttackRow, MotionRow, Parts};
 use std::alloc::{AllocError, Global};
 
 // A motion, its way in memory of its own.
@@ -62,50 +60,25 @@ fn row_from(alloc: Global, parts: Parts) -> Result<Row, AllocError>
     })
 }
 
-#[tactic(auto, unfolding(crate::specs::Reading::row_at))]
-fn next_row(alloc: Global, templates: &[Template], walk: &mut Walk<'_>) -> Result<Row, StateFault>
-    ensures row { Gives (row_at templates.now) walk.old result walk.new }
-    ensures no_row { row_at templates.now walk.old ≡ None → result ≡ Err StateFault.Grammar }
-{
-    let parts = take_parts(templates, walk)?;
-    Ok(row_from(alloc, parts)?)
-}
-
-fn rows_from(
-    alloc: Global,
-    templates: &[Template],
-    count: u32,
-    walk: &mut Walk<'_>,
-) -> Result<Rows, StateFault>
-    ensures { Gives (rows_at templates.now count) walk.old result walk.new }
+fn rows_of(alloc: Global, mut stored: StoredRows<'_>) -> Result<Rows, OutOfMemory>
+    ensures { IfOk result (λ rows. rows ≡ stored.entry) }
 {
     let mut rows = Items::new(alloc);
-    for _ in 0..count {
-        rows.push(next_row(alloc, templates, walk)?)?;
+    'rows: while let Some(parts) = stored.next() {
+        rows.push(row_from(alloc, parts)?)?;
     }
     Ok(rows)
 }
 
-/// The state of which these may be the bytes behind the id of the match.
-#[tactic(auto, unfolding(crate::specs::Reading::state_at))]
-pub fn state_from(alloc: Global, setup: &Setup, bytes: &[u8]) -> Result<State, StateFault>
-    ensures state { GivesState (state_at setup.now bytes.now) result }
-    ensures no_start { start_at bytes.now ≡ None → result ≡ Err StateFault.Grammar }
+/// The state that stands in bytes.
+pub fn state_of(alloc: Global, stored: Stored<'_>) -> Result<State, OutOfMemory>
+    ensures { IfOk result (λ state. state ≡ stored.entry) }
 {
-    let mut from = Take::new(bytes);
-    let turn = from.u32()?;
-    let next = from.u32()?;
-    let word = from.u64()?;
-    let (count, mut walk) = locate(&mut from)?;
-    // A valid state has no more, so that no memory is taken for others.
-    if count as usize > MAX_ROWS {
-        return Err(StateFault::Grammar);
-    }
-    let rows = rows_from(alloc, setup.templates.as_slice(), count, &mut walk)?;
+    let rows = rows_of(alloc, stored.rows)?;
     Ok(State {
-        turn,
-        next,
-        word,
+        turn: stored.turn,
+        next: stored.next,
+        word: stored.word,
         rows,
     })
 }

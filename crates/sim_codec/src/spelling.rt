@@ -1,14 +1,14 @@
 //! The spelling of a state. It is told once, piece by piece, into a list, into a digest or into a comparison, so that
 //! the three cannot differ.
 
-ghost use Rattle.std.specs.Prelude.{◌≡◌, ◌↔◌, ◌<◌, ◌^◌, All, length, OnOk, IfOk, IsTrue, [], ◌∷◌, ◌++◌, codes};
-ghost use Rattle.sim_base.specs.Bytes.{u32_bytes};
-ghost use Rattle.sim_base.specs.Spelling.{clock_bytes, sections, spelling, digest as digest_of};
+ghost use Rattle.std.specs.Prelude.{◌≡◌, ◌<◌, ◌^◌, All, length, OnOk, IfOk, [], ◌∷◌, ◌++◌, codes};
+ghost use Rattle.sim_base.specs.Bytes.{u32_bytes, u64_bytes};
+ghost use Rattle.sim_base.specs.Spelling.{sections, spelling, version, digest as digest_of};
 ghost use Rattle.sim_bytes.specs.Telling.{Tells};
 ghost use Rattle.sim_sections.specs.Rows.{HasShortWay};
 
 use sim_base::{OutOfMemory, Row, Setup, State};
-use sim_bytes::{ByteSink, Comparing, Digesting, tell_u32, tell_u64};
+use sim_bytes::{ByteSink, Digesting, tell_u32, tell_u64};
 use sim_sections::{
     AttackRow, EntityRow, HealthRow, MotionRow, OwnerRow, PositionRow, tell_section,
 };
@@ -17,13 +17,22 @@ use std::alloc::Global;
 /// The version of the layout.
 pub const VERSION: u32 = 1;
 
-/// Tells the turn, the next id and the word.
-pub fn tell_clock<K: ByteSink>(out: &mut K, state: &State) -> Result<(), K::Fault>
-    ensures { OnOk result (Tells K.holds out.old out.new (clock_bytes state.now)) }
+/// Tells the magic, the version and the id of the match.
+pub fn tell_head<K: ByteSink>(out: &mut K, setup: &Setup) -> Result<(), K::Fault>
+    ensures { OnOk result (Tells K.holds out.old out.new (codes "RSIM" ++ (u32_bytes version ++ setup.now.id))) }
 {
-    tell_u32(out, state.turn)?;
-    tell_u32(out, state.next)?;
-    tell_u64(out, state.word)
+    out.tell(b"RSIM")?;
+    tell_u32(out, VERSION)?;
+    out.tell(&setup.id)
+}
+
+/// Tells the turn, the next id and the word.
+pub fn tell_clock<K: ByteSink>(out: &mut K, turn: u32, next: u32, word: u64) -> Result<(), K::Fault>
+    ensures { OnOk result (Tells K.holds out.old out.new (u32_bytes turn ++ (u32_bytes next ++ u64_bytes word))) }
+{
+    tell_u32(out, turn)?;
+    tell_u32(out, next)?;
+    tell_u64(out, word)
 }
 
 fn tell_sections<K: ByteSink>(out: &mut K, rows: &[Row]) -> Result<(), K::Fault>
@@ -44,10 +53,8 @@ fn tell_state<K: ByteSink>(out: &mut K, setup: &Setup, state: &State) -> Result<
     requires few { length state.now.rows < 2 ^ 32 }
     ensures { OnOk result (Tells K.holds out.old out.new (spelling setup.now state.now)) }
 {
-    out.tell(b"RSIM")?;
-    tell_u32(out, VERSION)?;
-    out.tell(&setup.id)?;
-    tell_clock(out, state)?;
+    tell_head(out, setup)?;
+    tell_clock(out, state.turn, state.next, state.word)?;
     tell_sections(out, state.rows.as_slice())
 }
 
@@ -71,19 +78,6 @@ pub fn digest(setup: &Setup, state: &State) -> [u8; 16]
     let mut digesting = Digesting::new();
     match tell_state(&mut digesting, setup, state) {
         Ok(()) => digesting.finalize(),
-        Err(never) => match never {},
-    }
-}
-
-/// Whether these are the bytes of the state. A valid state meets both conditions.
-pub fn is_spelled(setup: &Setup, state: &State, bytes: &[u8]) -> bool
-    requires short { All HasShortWay state.now.rows }
-    requires few { length state.now.rows < 2 ^ 32 }
-    ensures { IsTrue result ↔ (bytes.now ≡ spelling setup.now state.now) }
-{
-    let mut comparing = Comparing::new(bytes);
-    match tell_state(&mut comparing, setup, state) {
-        Ok(()) => comparing.is_same(),
         Err(never) => match never {},
     }
 }

@@ -18,14 +18,16 @@ fn is_within_cells(raw: i32, cells: u16) -> bool
     0 <= raw && i64::from(raw) < i64::from(cells) * 65536
 }
 
-fn is_inside_setup(setup: &Setup, point: Point) -> bool
+/// Whether a point lies on the ground of the match.
+pub fn is_inside_setup(setup: &Setup, point: Point) -> bool
     ensures { IsTrue result ↔ IsInside setup.now point }
 {
     is_within_cells(point.x.raw(), setup.land.width)
         && is_within_cells(point.z.raw(), setup.land.depth)
 }
 
-fn are_inside(setup: &Setup, points: &[Point]) -> bool
+/// Whether all points lie on the ground of the match.
+pub fn are_inside(setup: &Setup, points: &[Point]) -> bool
     ensures { IsTrue result ↔ All (IsInside setup.now) points.now }
 {
     for point in points {
@@ -74,7 +76,8 @@ fn is_valid_aim(rows: &[Row], id: u32, aim: Aim, arms: Arms) -> bool
     aim.target == 0 || (aim.target != id && is_alive(rows, aim.target))
 }
 
-fn has_valid_health(health: Option<Fixed>, most: Option<Fixed>) -> bool
+/// Whether a row has health where its template has, and then no more than it.
+pub fn has_valid_health(health: Option<Fixed>, most: Option<Fixed>) -> bool
     ensures { IsTrue result ↔ Both health most (λ health most. (pos 1 ≤ℤ health) × (health ≤ℤ most)) }
 {
     match health {
@@ -144,13 +147,11 @@ fn are_known(setup: &Setup, rows: &[Row]) -> bool
     true
 }
 
-fn is_valid_clock(setup: &Setup, state: &State) -> bool
-    ensures { IsTrue result ↔ ((state.now.turn ≤ setup.now.turns) × ((2 ≤ state.now.next) × (state.now.next ≤ 0x20000000)) × (state.now.word < 2 ^ 48)) }
+/// Whether the numbers before the rows are those of a valid state.
+pub fn is_valid_clock(setup: &Setup, turn: u32, next: u32, word: u64) -> bool
+    ensures { IsTrue result ↔ ((turn ≤ setup.now.turns) × ((2 ≤ next) × (next ≤ 0x20000000)) × (word < 2 ^ 48)) }
 {
-    state.turn <= setup.turns
-        && 2 <= state.next
-        && state.next <= 0x2000_0000
-        && state.word < 0x1_0000_0000_0000
+    turn <= setup.turns && 2 <= next && next <= 0x2000_0000 && word < 0x1_0000_0000_0000
 }
 
 fn are_ascending(rows: &[Row]) -> bool
@@ -186,7 +187,7 @@ pub fn is_valid(setup: &Setup, state: &State) -> bool
     ensures { IsTrue result ↔ IsValid setup.now state.now }
 {
     let rows = state.rows.as_slice();
-    is_valid_clock(setup, state)
+    is_valid_clock(setup, state.turn, state.next, state.word)
         && rows.len() <= MAX_ROWS
         && are_ascending(rows)
         && are_ids_below(rows, state.next)

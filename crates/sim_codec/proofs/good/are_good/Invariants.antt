@@ -1,0 +1,11 @@
+-- All rows are good just where those that are left are.
+use Rattle.std.proofs.Common.{length}
+use Rattle.std.specs.Prelude.{◌↔◌}
+use Rattle.sim_codec.specs.Stored.{AreGood}
+use Rattle.sim_codec.proofs.good.are_good.Given as goal
+
+abbrev pub invariant-rows : goal.invariant-rows
+invariant-rows l = AreGood l.setup l.all l.next l.before l.rows ↔ AreGood l.setup l.all l.next 1 l.all
+
+abbrev pub decreases-rows : goal.decreases-rows
+decreases-rows l = length l.rows

@@ -1,0 +1,11 @@
+-- Six pieces, one behind the other.
+use Rattle.sim_codec.proofs.Told.{first}
+use Rattle.sim_codec.proofs.same.tell_sections.Goals as goal
+
+pub returns : goal.returns
+returns g c =
+    first g.K.ByteSink.holds _ _ _ _ _ _ c.in_ok-tell_section.ensures
+    (first g.K.ByteSink.holds _ _ _ _ _ _ c.in_ok-tell_section-2.ensures
+    (first g.K.ByteSink.holds _ _ _ _ _ _ c.in_ok-tell_section-3.ensures
+    (first g.K.ByteSink.holds _ _ _ _ _ _ c.in_ok-tell_section-4.ensures
+    (first g.K.ByteSink.holds _ _ _ _ _ _ c.in_ok-tell_section-5.ensures c.tell_section-6.ensures))))

@@ -1,0 +1,120 @@
+//! The test of a state that still stands in its bytes: what `validity` asks of one in memory. It goes over the rows once
+//! but for the look-ups of targets, each of which passes over the first section.
+
+ghost use Rattle.std.specs.Prelude.{◌≡◌, ◌↔◌, ◌<◌, IsTrue, false, option_map};
+ghost use Rattle.sim_base.specs.Validity.{IsValidMotion, Both, IsValidAim, IsValidRow, IsKnownRow, IsValid};
+ghost use Rattle.sim_sections.specs.Walking.{row_of};
+ghost use Rattle.sim_codec.specs.Stored.{aim_of, AreGood};
+
+use crate::stored::{Stored, StoredRows};
+use crate::validity::{are_inside, has_valid_health, is_inside_setup, is_valid_clock};
+use sim_base::{Arms, Fixed, Setup, Template};
+use sim_sections::{AttackRow, MotionRow, Parts};
+
+fn is_valid_motion(setup: &Setup, row: &MotionRow) -> bool
+    ensures { IsTrue result ↔ IsValidMotion setup.now row.now.1 }
+{
+    if !row.going {
+        return true;
+    }
+    is_inside_setup(setup, row.goal) && are_inside(setup, &row.way[..row.count])
+}
+
+fn has_valid_motion(setup: &Setup, motion: &Option<MotionRow>, speed: Option<Fixed>) -> bool
+    ensures { IsTrue result ↔ Both (option_map (λ row. row.1) motion.now) speed (λ motion speed. IsValidMotion setup.now motion) }
+{
+    match motion {
+        None => speed.is_none(),
+        Some(row) => match speed {
+            None => false,
+            Some(_) => is_valid_motion(setup, row),
+        },
+    }
+}
+
+fn is_valid_aim(all: &StoredRows<'_>, id: u32, row: &AttackRow, arms: Arms) -> bool
+    ensures { IsTrue result ↔ IsValidAim all.now id (aim_of row.now) arms }
+{
+    if row.cooldown > arms.repeat {
+        return false;
+    }
+    row.target == 0 || (row.target != id && all.is_alive(row.target))
+}
+
+fn has_valid_attack(
+    all: &StoredRows<'_>,
+    id: u32,
+    attack: &Option<AttackRow>,
+    arms: Option<Arms>,
+) -> bool
+    ensures { IsTrue result ↔ Both (option_map aim_of attack.now) arms (IsValidAim all.now id) }
+{
+    match attack {
+        None => arms.is_none(),
+        Some(row) => match arms {
+            None => false,
+            Some(arms) => is_valid_aim(all, id, row, arms),
+        },
+    }
+}
+
+fn health_of(parts: &Parts) -> Option<Fixed>
+    ensures { result ≡ option_map (λ row. row.1) parts.now.health }
+{
+    match &parts.health {
+        None => None,
+        Some(row) => Some(row.health),
+    }
+}
+
+fn is_valid_row(setup: &Setup, all: &StoredRows<'_>, parts: &Parts, template: &Template) -> bool
+    ensures { IsTrue result ↔ IsValidRow 1 setup.now all.now (row_of parts.now) template.now }
+{
+    is_inside_setup(setup, parts.position.at)
+        && parts.owner.owner <= setup.players
+        && has_valid_health(health_of(parts), template.health)
+        && has_valid_motion(setup, &parts.motion, template.speed)
+        && has_valid_attack(all, parts.entity.id, &parts.attack, template.arms)
+}
+
+fn is_known_row(setup: &Setup, all: &StoredRows<'_>, parts: &Parts) -> bool
+    ensures { IsTrue result ↔ IsKnownRow 1 setup.now all.now (row_of parts.now) }
+{
+    match setup
+        .templates
+        .as_slice()
+        .get(parts.entity.template as usize)
+    {
+        None => false,
+        Some(template) => is_valid_row(setup, all, parts, template),
+    }
+}
+
+// Whether the row is one of the match, with an id above the one before and below the next that is free.
+fn is_good(setup: &Setup, all: &StoredRows<'_>, parts: &Parts, before: u32, next: u32) -> bool
+    ensures { IsTrue result ↔ ((before < (row_of parts.now).id) × ((row_of parts.now).id < next) × IsKnownRow 1 setup.now all.now (row_of parts.now)) }
+{
+    before < parts.entity.id && parts.entity.id < next && is_known_row(setup, all, parts)
+}
+
+fn are_good(setup: &Setup, all: &StoredRows<'_>, next: u32) -> bool
+    ensures { IsTrue result ↔ AreGood setup.now all.now next 1 all.now }
+{
+    let mut rows = all.fork();
+    let mut before = 1u32;
+    'rows: while let Some(parts) = rows.next() {
+        if !is_good(setup, all, &parts, before, next) {
+            return false;
+        }
+        before = parts.entity.id;
+    }
+    true
+}
+
+/// Whether the state is valid in the match. It takes no memory.
+pub fn is_valid_stored(setup: &Setup, stored: &Stored<'_>) -> bool
+    ensures { IsTrue result ↔ IsValid setup.now stored.now }
+{
+    is_valid_clock(setup, stored.turn, stored.next, stored.word)
+        && are_good(setup, &stored.rows, stored.next)
+}

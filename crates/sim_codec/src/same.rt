@@ -1,0 +1,86 @@
+//! Whether bytes are the spelling of the state that was read from them. The spelling is told into a comparison, row by
+//! row as the rows are taken, so that no memory is needed for it.
+
+ghost use Rattle.std.specs.Prelude.{◌≡◌, ◌↔◌, ◌<◌, ◌^◌, length, IsTrue, OnOk};
+ghost use Rattle.std.specs.List.{flat_map, filter_map};
+ghost use Rattle.sim_base.specs.Spelling.{section, sections, spelling};
+ghost use Rattle.sim_bytes.specs.Telling.{Tells};
+
+use crate::part::PartForm;
+use crate::spelling::{tell_clock, tell_head};
+use crate::stored::{Stored, StoredRows};
+use sim_base::Setup;
+use sim_bytes::{ByteSink, Comparing, tell_u8, tell_u32};
+use sim_sections::{AttackRow, EntityRow, HealthRow, MotionRow, OwnerRow, PositionRow};
+
+// How many of the rows have this part.
+fn count<R: PartForm>(mut rows: StoredRows<'_>) -> u32
+    requires { length rows < 2 ^ 32 }
+    ensures { result ≡ length (filter_map R.in_row rows.entry) }
+{
+    let mut found = 0u32;
+    'rows: while let Some(parts) = rows.next() {
+        if R::from_parts(parts).is_some() {
+            found += 1;
+        }
+    }
+    found
+}
+
+// Tells the rows that have this part.
+fn tell_rows<K: ByteSink, R: PartForm>(
+    out: &mut K,
+    mut rows: StoredRows<'_>,
+) -> Result<(), K::Fault>
+    ensures { OnOk result (Tells K.holds out.old out.new (flat_map R.spelled (filter_map R.in_row rows.entry))) }
+{
+    'rows: while let Some(parts) = rows.next() {
+        if let Some(row) = R::from_parts(parts) {
+            row.tell(out)?;
+        }
+    }
+    Ok(())
+}
+
+fn tell_section<K: ByteSink, R: PartForm>(
+    out: &mut K,
+    rows: &StoredRows<'_>,
+) -> Result<(), K::Fault>
+    requires { length rows.now < 2 ^ 32 }
+    ensures { OnOk result (Tells K.holds out.old out.new (section R.TAG R.spelled (filter_map R.in_row rows.now))) }
+{
+    tell_u8(out, R::TAG)?;
+    tell_u32(out, count::<R>(rows.fork()))?;
+    tell_rows::<K, R>(out, rows.fork())
+}
+
+fn tell_sections<K: ByteSink>(out: &mut K, rows: &StoredRows<'_>) -> Result<(), K::Fault>
+    requires { length rows.now < 2 ^ 32 }
+    ensures { OnOk result (Tells K.holds out.old out.new (sections rows.now)) }
+{
+    tell_section::<K, EntityRow>(out, rows)?;
+    tell_section::<K, PositionRow>(out, rows)?;
+    tell_section::<K, OwnerRow>(out, rows)?;
+    tell_section::<K, HealthRow>(out, rows)?;
+    tell_section::<K, MotionRow>(out, rows)?;
+    tell_section::<K, AttackRow>(out, rows)
+}
+
+fn tell_stored<K: ByteSink>(out: &mut K, setup: &Setup, stored: &Stored<'_>) -> Result<(), K::Fault>
+    ensures { OnOk result (Tells K.holds out.old out.new (spelling setup.now stored.now)) }
+{
+    tell_head(out, setup)?;
+    tell_clock(out, stored.turn, stored.next, stored.word)?;
+    tell_sections(out, &stored.rows)
+}
+
+/// Whether these are the bytes of the state. It takes no memory.
+pub fn is_spelled(setup: &Setup, stored: &Stored<'_>, bytes: &[u8]) -> bool
+    ensures { IsTrue result ↔ (bytes.now ≡ spelling setup.now stored.now) }
+{
+    let mut comparing = Comparing::new(bytes);
+    match tell_stored(&mut comparing, setup, stored) {
+        Ok(()) => comparing.is_same(),
+        Err(never) => match never {},
+    }
+}
