@@ -1,11 +1,12 @@
 -- The commands of a match file: of which turn and which player each is, and in which order they stand.
-use Rattle.std.specs.Prelude.{ℕ, ◌+◌, nat_lt, List, [], ◌∷◌, count_by, Option, Some, None, option_and_then, Result, Ok, if◌then◌else◌}
+use Rattle.std.specs.Prelude.{ℕ, ◌+◌, Bool, false, nat_lt, List, [], ◌∷◌, count_by, Option, Some, None, option_and_then, Result, Ok, if◌then◌else◌}
 use Rattle.serde_json.specs.Data.{Data}
 use Rattle.sim_base.specs.declared.setup.Timed.{Timed}
 use Rattle.sim_base.specs.Limits.{is_given}
 use Rattle.sim_json.specs.Values.{list_of, natural_in, front_two}
 use Rattle.sim_json.specs.Records.{next_or, numbered}
 use Rattle.sim_commands.specs.Commands.{command_of}
+use Rattle.sim_commands.specs.Memory.{command_takes}
 use Rattle.sim_setup.specs.Refusals.{Refusal, coded, unless_at}
 
 -- how many commands a player has in a turn
@@ -25,6 +26,14 @@ timed_from turns players done p =
 -- a command from its list
 unfoldable pub timed_of : ℕ → ℕ → List Timed → Data → Option Timed
 timed_of turns players done d = option_and_then (timed_from turns players done) (option_and_then front_two (list_of d))
+
+-- whether memory is asked for: only for a command of one of so many turns and players, by its kind
+abbrev pub parts_take : ℕ → ℕ → Data × Data × List Data → Bool
+parts_take turns players p = next_or (natural_in 1 turns p.0) false (λ turn. next_or (natural_in 1 players p.1) false (λ player. command_takes p.2))
+
+-- the same from its list
+unfoldable pub timed_takes : ℕ → ℕ → Data → Bool
+timed_takes turns players d = next_or (option_and_then front_two (list_of d)) false (parts_take turns players)
 
 -- the commands, or the first that is none
 abbrev pub timeds_from : ℕ → ℕ → List Data → Result (List Timed) Refusal

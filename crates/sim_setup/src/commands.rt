@@ -1,10 +1,10 @@
 //! Codes 9 and 10 at the key `commands`: commands of turns and players, which `sim_commands` reads from their kinds on.
 
-ghost use Rattle.std.specs.Prelude.{◌≡◌, ◌≢◌, ◌<◌, ◌≤◌, ◌^◌, List, map, length, option_map, option_and_then};
+ghost use Rattle.std.specs.Prelude.{◌≡◌, ◌≢◌, ◌<◌, ◌≤◌, ◌^◌, true, List, map, length, option_map, option_and_then, IfErr};
 ghost use Rattle.serde_json.specs.View.{view};
 ghost use Rattle.sim_base.specs.declared.setup.Timed.{Timed};
 ghost use Rattle.sim_json.specs.Values.{list_of as list_of_data, front_two as front_two_of};
-ghost use Rattle.sim_setup.specs.Commands.{timed_of as timed_of_data, timeds_from as timeds_from_data, falls_at as falls_at_in, in_order as in_order_of};
+ghost use Rattle.sim_setup.specs.Commands.{timed_of as timed_of_data, timed_takes, timeds_from as timeds_from_data, falls_at as falls_at_in, in_order as in_order_of};
 ghost use Rattle.sim_setup.specs.Crowds.{Tallies, Covers, FindsTimed};
 ghost use Rattle.sim_setup.specs.Meets.{Meets};
 
@@ -40,7 +40,7 @@ pub fn timeds_from(
     Ok(Timeds::from_items(found))
 }
 
-#[tactic(auto, unfolding(crate::specs::Commands::timed_of))]
+#[tactic(auto, unfolding(crate::specs::Commands::timed_of, crate::specs::Commands::timed_takes))]
 fn timed_of(
     alloc: Global,
     turns: u32,
@@ -52,6 +52,7 @@ fn timed_of(
     requires players { players ≤ 8 }
     ensures value { (done : List Timed) → Tallies crowd.old done → FindsTimed result (timed_of_data turns players done (view item.now)) crowd.new done }
     ensures size { length crowd.new ≡ length crowd.old }
+    ensures memory { IfErr result (λ fault. timed_takes turns players (view item.now) ≡ true) }
 {
     let Some((turn, player, rest)) = parts_of(item) else {
         return Ok(None);

@@ -10,7 +10,7 @@ ghost use Rattle.sim_setup.specs.Entities.{entities_in as entities_in_data};
 ghost use Rattle.sim_setup.specs.Shape.{misplaced as misplaced_in};
 ghost use Rattle.sim_setup.specs.Sources.{IsReadySource};
 ghost use Rattle.sim_setup.specs.Templates.{few_sources};
-ghost use Rattle.sim_setup.specs.Setups.{players_of as players_of_land, commands_in as commands_in_data, items_in as items_in_data, lists_in as lists_in_data, setup_with as setup_with_parts, limits_in as limits_in_data, setup_in as setup_in_data, setup_of as setup_of_bytes, session_setup_of as session_setup_of_bytes};
+ghost use Rattle.sim_setup.specs.Setups.{players_of as players_of_land, commands_in as commands_in_data, items_in as items_in_data, lists_in as lists_in_data, setup_with as setup_with_parts, limits_in as limits_in_data, setup_in as setup_in_data, setup_of as setup_of_bytes, without_commands, session_setup_of as session_setup_of_bytes};
 
 use crate::commands::{in_order, timeds_from};
 use crate::entities::{entities_in, firsts_from};
@@ -55,7 +55,16 @@ pub fn session_setup_of(alloc: Global, bytes: &[u8]) -> Result<Setup, SetupFault
     ensures limits { IfOk result IsSetup }
     ensures none { IfOk result (λ setup. setup.commands ≡ []) }
 {
-    let setup = setup_of(alloc, bytes)?;
+    for_session(setup_of(alloc, bytes)?)
+}
+
+// Code 11, for which no memory is taken.
+fn for_session(setup: Setup) -> Result<Setup, SetupFault>
+    ensures answers { Meets result (without_commands setup) }
+    ensures memory { result ≢ Err SetupFault.OutOfMemory }
+    ensures same { IfOk result (λ kept. kept ≡ setup) }
+    ensures none { IfOk result (λ kept. kept.commands ≡ []) }
+{
     if setup.commands.as_slice().is_empty() {
         Ok(setup)
     } else {
