@@ -3,3 +3,4 @@ pub mod Said
 pub mod Made
 pub mod Whole
 pub mod Smallness
+pub mod Silence

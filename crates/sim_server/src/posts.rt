@@ -1,6 +1,6 @@
 //! What the server says, as lists of posts by ascending receiver.
 
-ghost use Rattle.std.specs.Prelude.{◌≡◌, ◌-◌, ◌≤◌, [], ◌∷◌, ◌++◌, min, if◌then◌else◌, length, map, filter, IfOk, OnOk};
+ghost use Rattle.std.specs.Prelude.{◌≡◌, ℕ, ◌-◌, ◌≤◌, false, [], ◌∷◌, ◌++◌, min, if◌then◌else◌, length, map, filter, IfOk, IsOk, OnOk};
 ghost use Rattle.sim_plain.specs.declared.message.DownOf.TheVariants.{Ask, State, Command, Release, Notice, Refused};
 ghost use Rattle.sim_plain.specs.Functions.{up_to};
 ghost use Rattle.sim_plain.specs.Server.{waits_for, least_in};
@@ -81,7 +81,8 @@ pub fn tell_release(
     released: u32,
     risen: u32,
 ) -> Result<Posts, OutOfMemory>
-    ensures { IfOk result (λ posts. posts ≡ post_list clients (release (status_in seats.now) released risen)) }
+    ensures told { IfOk result (λ posts. posts ≡ post_list clients (release (status_in seats.now) released risen)) }
+    ensures quiet { risen ≤ released → IsOk result }
 {
     if released < risen {
         tell_all(alloc, seats, clients, &Down::Release { turn: risen })
@@ -100,7 +101,8 @@ pub fn tell_notice(
     client: u8,
     is_other: bool,
 ) -> Result<Posts, OutOfMemory>
-    ensures { IfOk result (λ posts. posts ≡ post_list clients (if is_other then to_all (status_in seats.now) (Notice turn client) else nobody)) }
+    ensures told { IfOk result (λ posts. posts ≡ post_list clients (if is_other then to_all (status_in seats.now) (Notice turn client) else nobody)) }
+    ensures quiet { is_other ≡ false → IsOk result }
 {
     if is_other {
         tell_all(alloc, seats, clients, &Down::Notice { turn, client })
@@ -126,7 +128,8 @@ fn push_release(
     released: u32,
     risen: u32,
 ) -> Result<(), OutOfMemory>
-    ensures { OnOk result (posts.new ≡ posts.old ++ posted_to to (release (status_in seats.now) released risen to)) }
+    ensures told { OnOk result (posts.new ≡ posts.old ++ posted_to to (release (status_in seats.now) released risen to)) }
+    ensures quiet { risen ≤ released → IsOk result }
 {
     if released < risen && is_inside(status_of(seats, to)) {
         posts.push(Post {
@@ -145,7 +148,8 @@ fn push_each_ask(
     client: u8,
     to: u8,
 ) -> Result<(), OutOfMemory>
-    ensures { OnOk result (posts.new ≡ posts.old ++ posted_to to (map Ask (filter (λ j. waits_for client (status_in seats.now j)) (up_to clients)))) }
+    ensures told { OnOk result (posts.new ≡ posts.old ++ posted_to to (map Ask (filter (λ j. waits_for client (status_in seats.now j)) (up_to clients)))) }
+    ensures quiet { ((j : ℕ) → waits_for client (status_in seats.now j) ≡ false) → IsOk result }
 {
     for i in 0..clients {
         let waiting = i + 1;
@@ -167,7 +171,8 @@ fn push_asks(
     client: u8,
     to: u8,
 ) -> Result<(), OutOfMemory>
-    ensures { OnOk result (posts.new ≡ posts.old ++ posted_to to (asked donor (filter (λ j. waits_for client (status_in seats.now j)) (up_to clients)) (λ j. waits_for client (status_in seats.now j)) to)) }
+    ensures told { OnOk result (posts.new ≡ posts.old ++ posted_to to (asked donor (filter (λ j. waits_for client (status_in seats.now j)) (up_to clients)) (λ j. waits_for client (status_in seats.now j)) to)) }
+    ensures quiet { ((j : ℕ) → waits_for client (status_in seats.now j) ≡ false) → IsOk result }
 {
     match donor {
         Some(other) => {
@@ -196,7 +201,8 @@ pub fn tell_cut(
     risen: u32,
     client: u8,
 ) -> Result<Posts, OutOfMemory>
-    ensures { IfOk result (λ posts. posts ≡ post_list clients (cut_said seats.now clients released risen client)) }
+    ensures told { IfOk result (λ posts. posts ≡ post_list clients (cut_said seats.now clients released risen client)) }
+    ensures quiet { risen ≤ released → ((j : ℕ) → waits_for client (status_in seats.now j) ≡ false) → IsOk result }
 {
     let donor = least_in_of(seats, clients);
     let mut posts = Items::new(alloc);

@@ -9,6 +9,7 @@ ghost use Rattle.sim_plain.specs.declared.message.UpOf.{UpOf};
 ghost use Rattle.sim_plain.specs.declared.message.UpOf.TheVariants as up;
 ghost use Rattle.sim_plain.specs.Messages.{Arrival, Heard, Cut};
 ghost use Rattle.sim_wire.specs.Fits.{IsUpFrame};
+ghost use Rattle.sim_server.specs.Silence.{IsSilent, ReleasesNothing, SaysTheSame};
 ghost use Rattle.sim_server.specs.Standing.{server_of, IsClient, Makes, StandsFor, Answers, IsLater, is_dropped};
 
 use crate::faults::{
@@ -129,7 +130,8 @@ impl Server {
 
     fn hear_done(&mut self, from: u8, turn: u32) -> Result<Posts, OutOfMemory>
         requires { IsClient self.old from }
-        ensures { Makes self.old (Heard from (up.Done turn)) result self.new }
+        ensures made { Makes self.old (Heard from (up.Done turn)) result self.new }
+        ensures quiet { ReleasesNothing self.old.rules (server_of self.old) from turn → IsOk result }
     {
         let status = status_of(&self.seats, from);
         if let Some(code) = done_fault_of(self.rules, self.released, turn, status) {
@@ -146,7 +148,8 @@ impl Server {
 
     fn hear_report(&mut self, from: u8, turn: u32, digest: [u8; 16]) -> Result<Posts, OutOfMemory>
         requires { IsClient self.old from }
-        ensures { Makes self.old (Heard from (up.Report turn digest)) result self.new }
+        ensures made { Makes self.old (Heard from (up.Report turn digest)) result self.new }
+        ensures quiet { SaysTheSame (server_of self.old) from turn digest → IsOk result }
     {
         let status = status_of(&self.seats, from);
         if let Some(code) = report_fault_of(self.released, turn, status) {
@@ -203,6 +206,7 @@ impl Server {
         ensures answers { (active : ℕ) (h : List (Arrival (List ℕ))) → StandsFor self.old active h → Answers self.old active h (Heard from up) result self.new }
         ensures later { IsLater from (server_of self.old) (server_of self.new) }
         ensures dropped { is_dropped (server_of self.old) from up ≡ true → IsOk result }
+        ensures silent { IsSilent self.old.rules (server_of self.old) (Heard from up) → result ≡ Ok [] }
     {
         // The invariant of the fields holds here, which `later` rests on.
         let _ = &self.seats;
@@ -226,6 +230,7 @@ impl Server {
         ensures made { Makes self.old (Cut client) result self.new }
         ensures answers { (active : ℕ) (h : List (Arrival (List ℕ))) → StandsFor self.old active h → Answers self.old active h (Cut client) result self.new }
         ensures later { IsLater client (server_of self.old) (server_of self.new) }
+        ensures silent { IsSilent self.old.rules (server_of self.old) (Cut client) → result ≡ Ok [] }
     {
         let clients = self.rules.clients;
         let mut seats = self.seats;
@@ -245,6 +250,7 @@ impl Server {
         ensures frame { (message : UpOf (List ℕ)) → IsUpFrame bytes.now message → Makes self.old (Heard from message) result self.new }
         ensures other { ((message : UpOf (List ℕ)) → IsUpFrame bytes.now message → ⊥) → Makes self.old (Cut from) result self.new }
         ensures later { IsLater from (server_of self.old) (server_of self.new) }
+        ensures silent { ((message : UpOf (List ℕ)) → IsUpFrame bytes.now message → ⊥) → IsSilent self.old.rules (server_of self.old) (Cut from) → result ≡ Ok [] }
     {
         match unframe_up(self.alloc, bytes) {
             Ok(up) => self.hear(from, up),

@@ -1,4 +1,4 @@
-//! Lists of arrivals, and what is said at each of them.
+//! Lists of arrivals, and what is said at each of them, be it nothing.
 
 ghost use Rattle.std.specs.Prelude.{◌≡◌, ◌≤◌};
 ghost use Rattle.sim_server.specs.Standing.{IsClient};
@@ -179,6 +179,18 @@ static CAUSES: [(u8, Said, &str); 47] = [
     (1, Said::Join, "1 refused 4; "),
 ];
 
+// Arrivals at which nobody is told anything and nothing is kept, behind a first report.
+static SILENT: [(u8, Said, &str); 8] = [
+    (1, Said::Report(1, 7), ""),
+    (1, Said::Report(1, 7), ""),
+    (2, Said::Report(1, 7), ""),
+    (1, Said::Done(2), ""),
+    (1, Said::Join, ""),
+    (1, Said::State(2, 1), ""),
+    (3, Said::State(200, 1), ""),
+    (3, Said::Cut, ""),
+];
+
 #[test]
 fn arrivals_are_answered(rt: HostRuntime) -> Result<(), Fail> {
     let alloc = rt.alloc();
@@ -189,6 +201,8 @@ fn arrivals_are_answered(rt: HostRuntime) -> Result<(), Fail> {
     assert_eq!(rt; joined.kept(u32::MAX).len(), 0);
     let left = runs(&rt, alloc, 4, &CAUSES)?;
     assert_eq!(rt; left.released(), 4);
+    let silent = runs(&rt, alloc, 3, &SILENT)?;
+    assert_eq!(rt; silent.released(), 1);
     Ok(())
 }
 
