@@ -13,7 +13,7 @@ use Rattle.sim_base.specs.Bytes.{u32_bytes}
 use Rattle.sim_codec.specs.declared.fault.StateFault.{StateFault}
 use Rattle.sim_codec.specs.declared.fault.StateFault.TheVariants as faults
 use Rattle.sim_codec.specs.Reading.{state_at}
-use Rattle.sim_codec.specs.Loading.{head_fault, start_bytes, StandsFor, Stands, Loads, RefusedFor}
+use Rattle.sim_codec.specs.Loading.{head_fault, start_bytes, StandsFor, RefusedFor}
 use Rattle.sim_codec.proofs.Back.{state_back}
 
 parts : (setup : Setup) (s : State) → spelling setup s ≡ start_bytes ++ (setup.id ++ (clock_bytes s ++ sections s.rows))

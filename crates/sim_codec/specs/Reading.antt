@@ -1,5 +1,5 @@
 -- A state as it is read: the numbers of the clock, then the sections, and then each row put together from all of them.
-use Rattle.std.specs.Prelude.{◌≡◌, ℕ, zero, suc, nat_lt, if◌then◌else◌, List, [], ◌∷◌, Option, Some, None, Result, Ok, Err}
+use Rattle.std.specs.Prelude.{ℕ, zero, suc, nat_lt, if◌then◌else◌, List, [], ◌∷◌, Option, Some, None}
 use Rattle.std.specs.Int.{w32, w64}
 use Rattle.sim_base.specs.declared.state.Row.{Row}
 use Rattle.sim_base.specs.declared.state.State.{State}
@@ -9,8 +9,6 @@ use Rattle.sim_base.specs.Limits.{row_limit}
 use Rattle.sim_bytes.specs.Reading.{◌>>=◌, number_at}
 use Rattle.sim_sections.specs.declared.walk.Walk.{Walk}
 use Rattle.sim_sections.specs.Walking.{sections_at, parts_at, row_of}
-use Rattle.sim_codec.specs.declared.fault.StateFault.{StateFault}
-use Rattle.sim_codec.specs.declared.fault.StateFault.TheVariants as faults
 
 -- the next row
 unfoldable pub row_at : List Template → Walk → Option (Row × Walk)

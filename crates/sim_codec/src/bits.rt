@@ -1,6 +1,6 @@
 //! The bytes of one entity in one section. Two states are compared by them, entity by entity and part by part.
 
-ghost use Rattle.std.specs.Prelude.{◌≡◌, ◌≤◌, [], All, length, map, Some, None, option_map};
+ghost use Rattle.std.specs.Prelude.{◌≡◌, All, map, Some, None, option_map};
 ghost use Rattle.sim_base.specs.Spelling.{clock_bytes};
 ghost use Rattle.std.specs.List.Sorted.{IsStrictlyIncreasing};
 ghost use Rattle.sim_base.specs.Rows.{id_of};

@@ -1,7 +1,7 @@
 //! The state that bytes stand for. The reader is lax: what it read is tested as a state, and spelled again and compared,
 //! before any memory is taken. So it is enough that it reads back what is spelled.
 
-ghost use Rattle.std.specs.Prelude.{◌≡◌, ◌≢◌, ◌↔◌, IsTrue, drop, None, Some, IfOk, IfErr, IfSome, MatchResult};
+ghost use Rattle.std.specs.Prelude.{◌≡◌, ◌≢◌, ◌↔◌, IsTrue, drop, None, Some, IsOk, IfOk, IfErr, IfSome, MatchResult};
 ghost use Rattle.sim_base.specs.declared.state.State.{State};
 ghost use Rattle.sim_base.specs.Limits.{IsSetup};
 ghost use Rattle.sim_codec.specs.Loading.{start_bytes, head_fault, StandsFor, Stands, Loads, RefusedFor};
@@ -70,6 +70,7 @@ pub fn stands(setup: &Setup, bytes: &[u8]) -> Result<(), StateFault>
     requires { IsSetup setup.now }
     ensures head { IfSome (head_fault setup.now bytes.now) (λ fault. result ≡ Err fault) }
     ensures ok { IfOk result (λ _. Stands setup.now bytes.now) }
+    ensures stands { Stands setup.now bytes.now → IsOk result }
     ensures err { IfErr result (RefusedFor setup.now bytes.now) }
     ensures no_memory { result ≢ Err StateFault.OutOfMemory }
 {

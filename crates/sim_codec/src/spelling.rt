@@ -1,7 +1,7 @@
 //! The spelling of a state. It is told once, piece by piece, into a list, into a digest or into a comparison, so that
 //! the three cannot differ.
 
-ghost use Rattle.std.specs.Prelude.{◌≡◌, ◌<◌, ◌^◌, All, length, OnOk, IfOk, [], ◌∷◌, ◌++◌, codes};
+ghost use Rattle.std.specs.Prelude.{◌≡◌, ◌<◌, ◌^◌, All, length, OnOk, IfOk, ◌++◌, codes};
 ghost use Rattle.sim_base.specs.Bytes.{u32_bytes, u64_bytes};
 ghost use Rattle.sim_base.specs.Spelling.{sections, spelling, version, digest as digest_of};
 ghost use Rattle.sim_bytes.specs.Telling.{Tells};

@@ -273,43 +273,54 @@ fn fault_of(alloc: Global, setup: &Setup, bytes: &[u8]) -> Result<Option<StateFa
     Ok(fault)
 }
 
-// Whether the state has these bytes and this digest, and is the same when it is loaded from them.
+// Whether the state of the match with this id has these bytes and this digest, and is the same when it is loaded.
 fn is_told_so(
     alloc: Global,
-    setup: &Setup,
+    id: [u8; 16],
     state: &State,
     bytes: &[u8],
     sum: [u8; 16],
-) -> Result<bool, OutOfMemory>
-    requires { IsSetup setup.now }
-{
-    if !is_valid(setup, state) || spell(alloc, setup, state)?.as_slice() != bytes {
+) -> Result<bool, OutOfMemory> {
+    let setup = open_match(alloc, id)?;
+    if !is_valid(&setup, state) || spell(alloc, &setup, state)?.as_slice() != bytes {
         return Ok(false);
     }
-    match a_spelled_state_is_loaded(alloc, setup, state) {
-        Ok(loaded) => Ok(digest(setup, state) == sum && digest(setup, &loaded) == sum),
+    match a_spelled_state_is_loaded(alloc, &setup, state) {
+        Ok(loaded) => Ok(digest(&setup, state) == sum && digest(&setup, &loaded) == sum),
         Err(_) => Ok(false),
     }
 }
 
 #[test]
-fn worked_states_have_their_bytes(rt: HostRuntime) -> Result<(), Fail> {
+fn a_state_of_no_rows_has_its_bytes(rt: HostRuntime) -> Result<(), Fail> {
     let alloc = rt.alloc();
-    let empty = open_match(alloc, EMPTY_ID)?;
+    let state = empty_state(alloc);
     let sum = [
         186, 212, 73, 217, 164, 62, 108, 167, 24, 44, 158, 124, 21, 191, 95, 122,
     ];
-    assert!(rt; is_told_so(alloc, &empty, &empty_state(alloc), &EMPTY, sum)?);
-    let posts = open_match(alloc, POSTS_ID)?;
+    assert!(rt; is_told_so(alloc, EMPTY_ID, &state, &EMPTY, sum)?);
+    Ok(())
+}
+
+#[test]
+fn a_state_of_posts_has_its_bytes(rt: HostRuntime) -> Result<(), Fail> {
+    let alloc = rt.alloc();
+    let state = posts_state(alloc)?;
     let sum = [
         91, 166, 204, 206, 110, 192, 33, 108, 204, 170, 247, 24, 26, 48, 183, 137,
     ];
-    assert!(rt; is_told_so(alloc, &posts, &posts_state(alloc)?, &POSTS, sum)?);
-    let fight = open_match(alloc, FIGHT_ID)?;
+    assert!(rt; is_told_so(alloc, POSTS_ID, &state, &POSTS, sum)?);
+    Ok(())
+}
+
+#[test]
+fn a_state_with_all_sections_has_its_bytes(rt: HostRuntime) -> Result<(), Fail> {
+    let alloc = rt.alloc();
+    let state = fight_state(alloc)?;
     let sum = [
         72, 8, 69, 182, 66, 122, 254, 13, 16, 113, 166, 177, 87, 25, 157, 117,
     ];
-    assert!(rt; is_told_so(alloc, &fight, &fight_state(alloc)?, &FIGHT, sum)?);
+    assert!(rt; is_told_so(alloc, FIGHT_ID, &state, &FIGHT, sum)?);
     Ok(())
 }
 
@@ -409,7 +420,7 @@ const PIECES: [(usize, usize, usize, u8, u8, usize, u8); 9] = [
 ];
 
 #[test]
-fn rows_stand_only_where_the_template_has_the_part(rt: HostRuntime) -> Result<(), Fail> {
+fn a_piece_too_many_or_too_few_is_refused(rt: HostRuntime) -> Result<(), Fail> {
     let alloc = rt.alloc();
     let setup = open_match(alloc, FIGHT_ID)?;
     for (from, to, length, id, value, at, count) in PIECES {
@@ -418,7 +429,13 @@ fn rows_stand_only_where_the_template_has_the_part(rt: HostRuntime) -> Result<()
         let bytes = spliced(alloc, (from, to), piece, &[(at, count)])?;
         assert_eq!(rt; fault_of(alloc, &setup, &bytes)?, GRAMMAR, "from {from}");
     }
-    // As many rows as a number can say.
+    Ok(())
+}
+
+#[test]
+fn as_many_rows_as_a_number_can_say_are_refused(rt: HostRuntime) -> Result<(), Fail> {
+    let alloc = rt.alloc();
+    let setup = open_match(alloc, FIGHT_ID)?;
     for at in [41, 64, 105, 125, 146, 197] {
         let bytes = spliced(alloc, (at, at + 4), &[255; 4], &[])?;
         assert_eq!(rt; fault_of(alloc, &setup, &bytes)?, GRAMMAR, "at {at}");

@@ -1,7 +1,7 @@
 //! The test of a state: whether all holds of it that holds between two turns of its match. It takes no memory, and goes
 //! over the rows once but for the look-ups of targets.
 
-ghost use Rattle.std.specs.Prelude.{◌≡◌, ◌≢◌, ◌^◌, ◌≤◌, ◌<◌, ◌↔◌, IsTrue, ℤ, ◌≤ℤ◌, pos, All, length, map, MatchOption};
+ghost use Rattle.std.specs.Prelude.{◌≡◌, ◌^◌, ◌≤◌, ◌<◌, ◌↔◌, IsTrue, ◌≤ℤ◌, pos, All, map};
 ghost use Rattle.std.specs.List.Sorted.{IsStrictlyIncreasing};
 ghost use Rattle.sim_base.specs.Places.{is_within};
 ghost use Rattle.sim_base.specs.Rows.{id_of};

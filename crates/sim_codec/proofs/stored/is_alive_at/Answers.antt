@@ -1,5 +1,4 @@
 -- The row that was taken is the one, or the others say it.
-use Rattle.std.proofs.Common.{◌≡◌, sym}
 use Rattle.sim_codec.specs.Stored.{alive_at}
 use Rattle.sim_codec.proofs.TakenRows.{alive_more, alive_found, alive_cut, alive_done, it_is, other_id, no_health}
 use Rattle.sim_codec.proofs.stored.is_alive_at.Goals as goal
