@@ -3,3 +3,4 @@ pub mod Pairs
 pub mod Pipes
 pub mod SessionText
 pub mod Laws
+pub mod Seen

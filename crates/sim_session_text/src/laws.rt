@@ -1,6 +1,7 @@
 //! What the text of a session shows, as the contracts of functions that do nothing.
 
 ghost use Rattle.sim_session_text.specs.Laws.{EventsShowPasts, EndsShowPasts, NoticesAreOfReports, ApartWhereDifferent, UnbentAreTogether};
+ghost use Rattle.sim_session_text.specs.Seen.{EndingsAreSeen};
 
 /// Each digest that is printed is that of the state which the plain turn function gives for a client's past. A past without
 /// a bend is exactly the turns with the commands that the server keeps of them.
@@ -18,4 +19,9 @@ pub fn printed_notices_are_of_reports()
 pub fn clients_apart_differ()
     ensures different { ApartWhereDifferent }
     ensures unbent { UnbentAreTogether }
+{}
+
+/// What is seen of clients that have states and of pipes of frames is what is told of the session for which they stand.
+pub fn endings_are_seen()
+    ensures { EndingsAreSeen }
 {}

@@ -2,25 +2,34 @@
 //!
 //! The whole text is defined in `specs/` over the session in which messages carry pasts. It promises lines that are appended
 //! exactly, and what the text shows whatever the steps are. It stands on `sim_plain_session` and its laws for the session, on
-//! `sim_wire` for frames, on `sim_diff` for the place at which two states differ, and on `sim_report` and `sim_serve` for lines.
+//! `sim_client` and `sim_pipes` for what is seen of one in memory, on `sim_wire` for frames, on `sim_diff` for the place at which
+//! two states differ, and on `sim_report` and `sim_serve` for lines.
 //!
 //! - `told`: the lines of events, and of what a server has come to.
 //! - `apart`: the lines of clients whose states differ.
 //! - `ending`: the line of what a client has come to.
 //! - `pipe`: the line of a pipe.
+//! - `clients`: what is seen of a client, and of two beside each other.
+//! - `closing`: all that a session has come to.
 //! - `laws`: what the text shows of every session.
 #![tactic(auto)]
 
 mod apart;
+mod clients;
+mod closing;
 mod ending;
 mod laws;
 mod pipe;
+#[cfg(test)]
+mod tests;
 mod told;
 
 pub use apart::{push_apart, push_difference};
+pub use closing::push_ending;
 pub use ending::{End, push_end};
 pub use laws::{
-    clients_apart_differ, printed_digests_are_of_pasts, printed_notices_are_of_reports,
+    clients_apart_differ, endings_are_seen, printed_digests_are_of_pasts,
+    printed_notices_are_of_reports,
 };
 pub use pipe::push_pipe;
 pub use told::{push_events, push_server};

@@ -1,0 +1,8 @@
+-- The text so far has the lines of the clients so far.
+use Rattle.std.proofs.Common.{◌≡◌, ◌++◌}
+use Rattle.std.specs.Prelude.{string_bytes}
+use Rattle.sim_session_text.specs.Seen.{life_at, ends_seen}
+use Rattle.sim_session_text.proofs.closing.push_ends.Given as goal
+
+abbrev pub invariant-loop-index : goal.invariant-loop-index
+invariant-loop-index g l = string_bytes l.out ≡ string_bytes l.initial.out ++ ends_seen l.setup (life_at l.clients) l.index
