@@ -1,64 +1,25 @@
 //! Trees and sources read from JSON or refused, by the form of `docs/FORMATS.md`, and what is read of a tree.
 
-use crate::{Child, Source, Text, Tree, TreeFault, TreeMark, copy_name, tokens_in};
+use crate::{Child, Source, Text, Tree, TreeFault, copy_name, tokens_in};
 use serde_json::Value;
 use sim_base::{Fixed, Name};
+use sim_json::value_of;
 use std::alloc::{AllocError, Global};
 use std::test::Fail;
 
-fn tree_of(alloc: Global, text: &str) -> Result<Tree, TreeFault> {
-    match Value::from_str(alloc, text) {
-        Ok(value) => Tree::from_json(alloc, &value),
-        Err(_) => Err(TreeFault::OutOfMemory),
-    }
-}
-
-fn source_of(alloc: Global, text: &str) -> Result<Source, TreeFault> {
-    match Value::from_str(alloc, text) {
-        Ok(value) => Source::from_json(alloc, &value),
-        Err(_) => Err(TreeFault::OutOfMemory),
-    }
+fn value(alloc: Global, text: &str) -> Result<Value, Fail> {
+    Ok(value_of(alloc, text.as_bytes())?.ok_or("no value")?)
 }
 
 fn name(alloc: Global, text: &str) -> Result<Name, Fail> {
     Ok(Name::of(alloc, text)?.ok_or("no name")?)
 }
 
-// A tree with a value alone.
-fn is_leaf(tree: &Tree, text: &str) -> bool {
-    is_value(tree, text) && tree.mark.is_none() && tree.children.is_empty()
-}
-
-fn is_value(tree: &Tree, text: &str) -> bool {
-    match &tree.value {
-        Some(value) => value.as_str() == text,
-        None => false,
+// The mark of a tree, its value behind a sign, and its children by name between brackets.
+fn show(alloc: Global, tree: &Tree, out: &mut String) -> Result<(), AllocError> {
+    if let Some(mark) = tree.mark {
+        out.push_str(format!(in alloc; "@{mark:?}")?.as_str())?;
     }
-}
-
-#[test]
-fn reads_leaves(rt: HostRuntime) {
-    let leaves = [
-        ("5", "5"),
-        ("-5", "-5"),
-        ("18446744073709551615", "18446744073709551615"),
-        ("-9223372036854775808", "-9223372036854775808"),
-        (r#""x y""#, "x y"),
-        (r#""""#, ""),
-        (r#"{"_":7}"#, "7"),
-        (r#"{"_":"-0"}"#, "-0"),
-        (r#"{"_":1,"_":"2"}"#, "2"),
-    ];
-    for (text, wanted) in leaves {
-        match tree_of(rt.alloc(), text) {
-            Ok(tree) => assert!(rt; is_leaf(&tree, wanted), "at {text}"),
-            Err(fault) => panic!(rt; "{fault:?} at {text}"),
-        }
-    }
-}
-
-// The value of a tree behind a sign, and its children by name between brackets.
-fn show(tree: &Tree, out: &mut String) -> Result<(), AllocError> {
     if let Some(text) = &tree.value {
         out.push_str("=")?;
         out.push_str(text.as_str())?;
@@ -66,113 +27,146 @@ fn show(tree: &Tree, out: &mut String) -> Result<(), AllocError> {
     for child in &tree.children {
         out.push_str("(")?;
         out.push_str(child.name.text())?;
-        show(&child.tree, out)?;
+        show(alloc, &child.tree, out)?;
         out.push_str(")")?;
     }
     Ok(())
 }
 
-// Trees with a mark, and what they have beside it.
-static MARKED: [(&str, TreeMark, &str); 9] = [
-    (r#"{"@disable":1}"#, TreeMark::Disable, ""),
+// A tree as it is shown, or why there is none.
+fn tree_shown(alloc: Global, value: &Value) -> Result<String, AllocError> {
+    let mut shown = String::new(alloc);
+    match Tree::from_json(alloc, value) {
+        Ok(tree) => show(alloc, &tree, &mut shown)?,
+        Err(fault) => shown.push_str(format!(in alloc; "{fault:?}")?.as_str())?,
+    }
+    Ok(shown)
+}
+
+// A source as it is shown, with its name and its parent's before its tree, or why there is none.
+fn source_shown(alloc: Global, value: &Value) -> Result<String, AllocError> {
+    let mut shown = String::new(alloc);
+    match Source::from_json(alloc, value) {
+        Ok(source) => {
+            shown.push_str(source.name.text())?;
+            if let Some(parent) = &source.parent {
+                shown.push_str("<")?;
+                shown.push_str(parent.text())?;
+            }
+            show(alloc, &source.tree, &mut shown)?;
+        }
+        Err(fault) => shown.push_str(format!(in alloc; "{fault:?}")?.as_str())?,
+    }
+    Ok(shown)
+}
+
+const TREE: bool = false;
+
+const SOURCE: bool = true;
+
+// Texts that are read as trees or as sources, and what is shown of them, or why they are refused.
+static TEXTS: [(bool, &str, &str); 66] = [
+    (TREE, "5", "=5"),
+    (TREE, "-5", "=-5"),
+    (TREE, "18446744073709551615", "=18446744073709551615"),
+    (TREE, "-9223372036854775808", "=-9223372036854775808"),
+    (TREE, r#""x y""#, "=x y"),
+    (TREE, r#""""#, "="),
+    (TREE, r#"{"_":7}"#, "=7"),
+    (TREE, r#"{"_":"-0"}"#, "=-0"),
+    (TREE, r#"{"_":1,"_":"2"}"#, "=2"),
+    (TREE, r#"{"@disable":1}"#, "@Disable"),
     (
+        TREE,
         r#"{"@disable":1,"_":5,"a":{"b":1}}"#,
-        TreeMark::Disable,
-        "=5(a(b=1))",
+        "@Disable=5(a(b=1))",
     ),
+    (TREE, r#"{"@replace":1,"_":"x","a":2}"#, "@Replace=x(a=2)"),
+    (TREE, r#"{"@merge":1}"#, "@Merge"),
     (
-        r#"{"@replace":1,"_":"x","a":2}"#,
-        TreeMark::Replace,
-        "=x(a=2)",
-    ),
-    (r#"{"@merge":1}"#, TreeMark::Merge, ""),
-    (
+        TREE,
         r#"{"b":{},"@merge":1,"a":{"@op":"add","_":1}}"#,
-        TreeMark::Merge,
-        "(a=1)(b)",
+        "@Merge(a@Add=1)(b)",
     ),
-    (r#"{"@op":"add","_":"x"}"#, TreeMark::Add, "=x"),
-    (r#"{"@op":"mul","_":2}"#, TreeMark::Mul, "=2"),
+    (TREE, r#"{"@op":"add","_":"x"}"#, "@Add=x"),
+    (TREE, r#"{"@op":"mul","_":2}"#, "@Mul=2"),
+    (TREE, r#"{"@op":"mul","@op":"add","_":3,"_":2}"#, "@Add=2"),
+    (TREE, r#"{"@tokens":1,"_":""}"#, "@Tokens="),
     (
-        r#"{"@op":"mul","@op":"add","_":3,"_":2}"#,
-        TreeMark::Add,
-        "=2",
+        TREE,
+        r#"{"b":{"c":1},"a":"x","~":{},"B":{"_":2}}"#,
+        "(B=2)(a=x)(b(c=1))(~)",
     ),
-    (r#"{"@tokens":1,"_":""}"#, TreeMark::Tokens, "="),
+    (TREE, "1.5", "NotWhole"),
+    (TREE, "-0", "NotWhole"),
+    (TREE, "18446744073709551616", "NotWhole"),
+    (TREE, r#"{"a":{"_":1.0}}"#, "NotWhole"),
+    (TREE, r#"{"a":[null,1e3]}"#, "NotWhole"),
+    (TREE, r#"{"@disable":1.0}"#, "NotWhole"),
+    (TREE, "null", "WrongKind"),
+    (TREE, "true", "WrongKind"),
+    (TREE, "[]", "WrongKind"),
+    (TREE, r#"{"a":null}"#, "WrongKind"),
+    (TREE, r#"{"a":[1]}"#, "WrongKind"),
+    (TREE, r#"{"_":null}"#, "WrongKind"),
+    (TREE, r#"{"_":{}}"#, "WrongKind"),
+    (TREE, r#"{"":1}"#, "WrongKind"),
+    (TREE, r#"{"a b":1}"#, "WrongKind"),
+    (TREE, r#"{"\u00e4":1}"#, "WrongKind"),
+    (
+        TREE,
+        r#"{"0123456789abcdef0123456789abcdef0123456789abcdef0123456789abcdef0":1}"#,
+        "WrongKind",
+    ),
+    (TREE, r#"{"@name":"x"}"#, "WrongKind"),
+    (TREE, r#"{"@parent":"x"}"#, "WrongKind"),
+    (TREE, r#"{"@other":1}"#, "WrongKind"),
+    (TREE, r#"{"@disable":2}"#, "WrongKind"),
+    (TREE, r#"{"@disable":-1}"#, "WrongKind"),
+    (TREE, r#"{"@disable":"1"}"#, "WrongKind"),
+    (TREE, r#"{"@op":1,"_":1}"#, "WrongKind"),
+    (TREE, r#"{"@op":"sub","_":1}"#, "WrongKind"),
+    (TREE, r#"{"@op":"add"}"#, "WrongKind"),
+    (TREE, r#"{"@op":"mul","_":1,"a":1}"#, "WrongKind"),
+    (TREE, r#"{"@tokens":1}"#, "WrongKind"),
+    (TREE, r#"{"@tokens":1,"_":"a","b":{}}"#, "WrongKind"),
+    (TREE, r#"{"@disable":1,"@merge":1}"#, "WrongKind"),
+    (TREE, r#"{"@op":"add","@tokens":1,"_":1}"#, "WrongKind"),
+    (
+        SOURCE,
+        r#"{"Health":{"Max":{"@op":"mul","_":"1.5"}},"@parent":"post","@name":"big"}"#,
+        "big<post(Health(Max@Mul=1.5))",
+    ),
+    (SOURCE, r#"{"@name":"5"}"#, "5"),
+    (SOURCE, "[]", "WrongKind"),
+    (SOURCE, r#""x""#, "WrongKind"),
+    (SOURCE, "{}", "WrongKind"),
+    (SOURCE, r#"{"@name":5}"#, "WrongKind"),
+    (SOURCE, r#"{"@name":""}"#, "WrongKind"),
+    (SOURCE, r#"{"@name":"a b"}"#, "WrongKind"),
+    (SOURCE, r#"{"@parent":"a"}"#, "WrongKind"),
+    (SOURCE, r#"{"@name":"a","@parent":null}"#, "WrongKind"),
+    (SOURCE, r#"{"@name":"a","@parent":"b c"}"#, "WrongKind"),
+    (SOURCE, r#"{"@name":"a","_":1}"#, "WrongKind"),
+    (SOURCE, r#"{"@name":"a","@disable":1}"#, "WrongKind"),
+    (SOURCE, r#"{"@name":"a","b":{"@name":"c"}}"#, "WrongKind"),
+    (SOURCE, r#"{"@name":"a","b":null}"#, "WrongKind"),
+    (SOURCE, r#"{"@name":1.5}"#, "NotWhole"),
 ];
 
 #[test]
-fn reads_marks_with_values_and_children(rt: HostRuntime) -> Result<(), Fail> {
-    for (text, mark, wanted) in MARKED.iter() {
-        let tree = tree_of(rt.alloc(), text)?;
-        assert_eq!(rt; tree.mark, Some(*mark), "at {text}");
-        let mut shown = String::new(rt.alloc());
-        show(&tree, &mut shown)?;
+fn texts_are_read_or_refused(rt: HostRuntime) -> Result<(), Fail> {
+    let alloc = rt.alloc();
+    for (is_source, text, wanted) in TEXTS.iter() {
+        let value = value(alloc, text)?;
+        let shown = if *is_source {
+            source_shown(alloc, &value)?
+        } else {
+            tree_shown(alloc, &value)?
+        };
         assert_eq!(rt; shown.as_str(), *wanted, "at {text}");
     }
     Ok(())
-}
-
-#[test]
-fn reads_children_by_name(rt: HostRuntime) -> Result<(), Fail> {
-    let tree = tree_of(rt.alloc(), r#"{"b":{"c":1},"a":"x","~":{},"B":{"_":2}}"#)?;
-    assert!(rt; tree.value.is_none() && tree.mark.is_none());
-    let mut names = String::new(rt.alloc());
-    for child in &tree.children {
-        names.push_str(child.name.text())?;
-    }
-    assert_eq!(rt; names.as_str(), "Bab~");
-    let empty = tree.child("~").ok_or("no child")?;
-    assert!(rt; empty.value.is_none() && empty.children.is_empty());
-    Ok(())
-}
-
-// Texts that are no trees, and why.
-static FAULTS: [(&str, TreeFault); 31] = [
-    ("1.5", TreeFault::NotWhole),
-    ("-0", TreeFault::NotWhole),
-    ("18446744073709551616", TreeFault::NotWhole),
-    (r#"{"a":{"_":1.0}}"#, TreeFault::NotWhole),
-    (r#"{"a":[null,1e3]}"#, TreeFault::NotWhole),
-    (r#"{"@disable":1.0}"#, TreeFault::NotWhole),
-    ("null", TreeFault::WrongKind),
-    ("true", TreeFault::WrongKind),
-    ("[]", TreeFault::WrongKind),
-    (r#"{"a":null}"#, TreeFault::WrongKind),
-    (r#"{"a":[1]}"#, TreeFault::WrongKind),
-    (r#"{"_":null}"#, TreeFault::WrongKind),
-    (r#"{"_":{}}"#, TreeFault::WrongKind),
-    (r#"{"":1}"#, TreeFault::WrongKind),
-    (r#"{"a b":1}"#, TreeFault::WrongKind),
-    (r#"{"\u00e4":1}"#, TreeFault::WrongKind),
-    (
-        r#"{"0123456789abcdef0123456789abcdef0123456789abcdef0123456789abcdef0":1}"#,
-        TreeFault::WrongKind,
-    ),
-    (r#"{"@name":"x"}"#, TreeFault::WrongKind),
-    (r#"{"@parent":"x"}"#, TreeFault::WrongKind),
-    (r#"{"@other":1}"#, TreeFault::WrongKind),
-    (r#"{"@disable":2}"#, TreeFault::WrongKind),
-    (r#"{"@disable":-1}"#, TreeFault::WrongKind),
-    (r#"{"@disable":"1"}"#, TreeFault::WrongKind),
-    (r#"{"@op":1,"_":1}"#, TreeFault::WrongKind),
-    (r#"{"@op":"sub","_":1}"#, TreeFault::WrongKind),
-    (r#"{"@op":"add"}"#, TreeFault::WrongKind),
-    (r#"{"@op":"mul","_":1,"a":1}"#, TreeFault::WrongKind),
-    (r#"{"@tokens":1}"#, TreeFault::WrongKind),
-    (r#"{"@tokens":1,"_":"a","b":{}}"#, TreeFault::WrongKind),
-    (r#"{"@disable":1,"@merge":1}"#, TreeFault::WrongKind),
-    (r#"{"@op":"add","@tokens":1,"_":1}"#, TreeFault::WrongKind),
-];
-
-#[test]
-fn refuses_what_is_no_tree(rt: HostRuntime) {
-    for (text, wanted) in FAULTS.iter() {
-        match tree_of(rt.alloc(), text) {
-            Ok(_) => panic!(rt; "read {text}"),
-            Err(fault) => assert_eq!(rt; fault, *wanted, "at {text}"),
-        }
-    }
 }
 
 // So many objects or lists around a value.
@@ -223,92 +217,55 @@ static LEVELS: [(&str, usize, &str, &str, Option<TreeFault>); 11] = [
 
 #[test]
 fn refuses_values_on_level_33(rt: HostRuntime) -> Result<(), Fail> {
+    let alloc = rt.alloc();
     for (open, count, inner, close, wanted) in LEVELS.iter() {
-        let text = nested(rt.alloc(), open, *count, inner, close)?;
-        assert_eq!(rt;
-            tree_of(rt.alloc(), text.as_str()).err(),
-            *wanted,
-            "at {text}"
-        );
+        let text = nested(alloc, open, *count, inner, close)?;
+        let value = value(alloc, text.as_str())?;
+        let fault = Tree::from_json(alloc, &value).err();
+        assert_eq!(rt; fault, *wanted, "at {text}");
     }
     Ok(())
 }
 
-#[test]
-fn reads_sources(rt: HostRuntime) -> Result<(), Fail> {
-    let alloc = rt.alloc();
-    let source = source_of(
-        alloc,
-        r#"{"Health":{"Max":{"@op":"mul","_":"1.5"}},"@parent":"post","@name":"big"}"#,
-    )?;
-    assert_eq!(rt; source.name.text(), "big");
-    let parent = source.parent.as_ref().ok_or("no parent")?;
-    assert_eq!(rt; parent.text(), "post");
-    assert!(rt; source.tree.value.is_none() && source.tree.mark.is_none());
-    assert_eq!(rt; source.tree.children.len(), 1);
-    let health = source.tree.child("Health").ok_or("no health")?;
-    let most = health.child("Max").ok_or("no maximum")?;
-    assert!(rt; is_value(most, "1.5") && most.mark == Some(TreeMark::Mul));
-    let alone = source_of(alloc, r#"{"@name":"5"}"#)?;
-    assert_eq!(rt; alone.name.text(), "5");
-    assert!(rt; alone.parent.is_none() && alone.tree.children.is_empty());
-    Ok(())
-}
-
-// Texts that are no sources, and why.
-static NO_SOURCES: [(&str, TreeFault); 14] = [
-    ("[]", TreeFault::WrongKind),
-    (r#""x""#, TreeFault::WrongKind),
-    ("{}", TreeFault::WrongKind),
-    (r#"{"@name":5}"#, TreeFault::WrongKind),
-    (r#"{"@name":""}"#, TreeFault::WrongKind),
-    (r#"{"@name":"a b"}"#, TreeFault::WrongKind),
-    (r#"{"@parent":"a"}"#, TreeFault::WrongKind),
-    (r#"{"@name":"a","@parent":null}"#, TreeFault::WrongKind),
-    (r#"{"@name":"a","@parent":"b c"}"#, TreeFault::WrongKind),
-    (r#"{"@name":"a","_":1}"#, TreeFault::WrongKind),
-    (r#"{"@name":"a","@disable":1}"#, TreeFault::WrongKind),
-    (r#"{"@name":"a","b":{"@name":"c"}}"#, TreeFault::WrongKind),
-    (r#"{"@name":"a","b":null}"#, TreeFault::WrongKind),
-    (r#"{"@name":1.5}"#, TreeFault::NotWhole),
-];
-
-#[test]
-fn refuses_what_is_no_source(rt: HostRuntime) {
-    for (text, wanted) in NO_SOURCES.iter() {
-        match source_of(rt.alloc(), text) {
-            Ok(_) => panic!(rt; "read {text}"),
-            Err(fault) => assert_eq!(rt; fault, *wanted, "at {text}"),
-        }
-    }
-}
-
-#[test]
-fn finds_what_stands_at_a_path(rt: HostRuntime) -> Result<(), Fail> {
-    let alloc = rt.alloc();
-    let tree = tree_of(
-        alloc,
-        r#"{"_":"root","a":{"_":"1.5","b":{"c":"  x -y  x "}},"d":{}}"#,
-    )?;
-    let a = name(alloc, "a")?;
-    let b = copy_name(alloc, &name(alloc, "b")?)?;
-    let names = [a, b, name(alloc, "c")?];
-    let path = names.as_slice();
-    assert_eq!(rt; tree.at(&path[..0]), Some("root"));
-    assert_eq!(rt; tree.at(&path[..1]), Some("1.5"));
-    assert_eq!(rt; tree.at(&path[..2]), None);
-    assert_eq!(rt; tree.at(path), Some("  x -y  x "));
-    assert_eq!(rt; tree.at(&path[1..]), None);
-    assert_eq!(rt; tree.number(&path[..1]), Some(Fixed::from_raw(98_304)));
-    assert_eq!(rt; tree.number(path), None);
-    assert_eq!(rt; tree.tokens(alloc, &path[..2])?.as_slice().len(), 0);
+// The words of the value at a path, with a comma behind each.
+fn words_at(alloc: Global, tree: &Tree, path: &[Name]) -> Result<String, Fail> {
     let words = tree.tokens(alloc, path)?;
     let mut joined = String::new(alloc);
     for word in words.as_slice() {
         joined.push_str(word.as_str())?;
         joined.push_str(",")?;
     }
-    assert_eq!(rt; joined.as_str(), "x,-y,x,");
+    Ok(joined)
+}
+
+#[test]
+fn finds_what_stands_at_a_path(rt: HostRuntime) -> Result<(), Fail> {
+    let alloc = rt.alloc();
+    let text = r#"{"_":"root","a":{"_":"1.5","b":{"c":"  x -y  x "}},"d":{}}"#;
+    let tree = Tree::from_json(alloc, &value(alloc, text)?)?;
+    let b = copy_name(alloc, &name(alloc, "b")?)?;
+    let names = [name(alloc, "a")?, b, name(alloc, "c")?];
+    let path = names.as_slice();
+    let cases = [
+        (&path[..0], Some("root"), None, "root,"),
+        (&path[..1], Some("1.5"), Some(98_304), "1.5,"),
+        (&path[..2], None, None, ""),
+        (path, Some("  x -y  x "), None, "x,-y,x,"),
+        (&path[1..], None, None, ""),
+    ];
+    for (path, value, number, words) in cases {
+        assert_eq!(rt; tree.at(path), value, "at {path:?}");
+        assert_eq!(rt;
+            tree.number(path),
+            number.map(Fixed::from_raw),
+            "at {path:?}"
+        );
+        assert_eq!(rt;
+            words_at(alloc, &tree, path)?.as_str(),
+            words,
+            "at {path:?}"
+        );
+    }
     assert_eq!(rt; tokens_in(alloc, " ")?.as_slice().len(), 0);
     Ok(())
 }
@@ -316,20 +273,23 @@ fn finds_what_stands_at_a_path(rt: HostRuntime) -> Result<(), Fail> {
 #[test]
 fn copies_a_tree(rt: HostRuntime) -> Result<(), Fail> {
     let alloc = rt.alloc();
-    let mut tree = tree_of(alloc, r#"{"a":{"@op":"add","_":"1.5"},"b":"x"}"#)?;
+    let read = value(alloc, r#"{"a":{"@op":"add","_":"1.5"},"b":"x"}"#)?;
+    let mut tree = Tree::from_json(alloc, &read)?;
+    let leaf = Tree {
+        value: Some(Text::of_string(String::from_str(alloc, "y")?)),
+        mark: None,
+        children: Vec::new(alloc),
+    };
     tree.children.push(Child {
         name: name(alloc, "c")?,
-        tree: Tree {
-            value: Some(Text::of_string(String::from_str(alloc, "y")?)),
-            mark: None,
-            children: Vec::new(alloc),
-        },
+        tree: leaf,
     })?;
     let copied = tree.copy(alloc)?;
-    let wanted = format!(in alloc; "{tree:?}")?;
-    assert_eq!(rt; format!(in alloc; "{copied:?}")?.as_str(), wanted.as_str());
+    let mut shown = String::new(alloc);
+    show(alloc, &copied, &mut shown)?;
+    assert_eq!(rt; shown.as_str(), "(a@Add=1.5)(b=x)(c=y)");
     let c = copied.child("c").ok_or("no child")?;
-    assert!(rt; is_leaf(c, Text::of(alloc, "y")?.as_str()));
+    assert_eq!(rt; c.value.as_ref().map(Text::as_str), Some("y"));
     assert!(rt; copied.child("d").is_none());
     Ok(())
 }
