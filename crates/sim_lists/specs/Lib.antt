@@ -1,5 +1,6 @@
 pub mod Hexadecimal
 pub mod Arrivals
+pub mod Taking
 pub mod Schedules
 pub mod Steps
 pub mod StepLists

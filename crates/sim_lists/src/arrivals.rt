@@ -1,12 +1,14 @@
 //! One arrival of a schedule. Each reader is handed what follows its word.
 
-ghost use Rattle.std.specs.Prelude.{◌≡◌, map, option_map, option_and_then, IfOk, IfSome};
+ghost use Rattle.std.specs.Prelude.{◌≡◌, false, map, option_map, option_and_then, IfOk, IsOk, IfSome};
 ghost use Rattle.serde_json.specs.View.{view};
 ghost use Rattle.serde_json.specs.Find.{as_str};
+ghost use Rattle.sim_json.specs.Records.{next_or};
 ghost use Rattle.sim_json.specs.Values.{list_of as list_of_data, front_two as front_two_of};
 ghost use Rattle.sim_lists.specs.Hexadecimal.{digest_of as digest_of_text, state_of as state_of_text};
 ghost use Rattle.sim_lists.specs.Arrivals.{turn_in as turn_in_data, join_from as join_from_data, command_from as command_from_data, done_from as done_from_data, report_from as report_from_data, state_from as state_from_data, up_by as up_by_word, cut_from as cut_from_data, arrival_by as arrival_by_word, arrival_of as arrival_of_data};
 ghost use Rattle.sim_lists.specs.Schedules.{IsFromClient};
+ghost use Rattle.sim_lists.specs.Taking.{digest_takes, state_takes, command_takes, report_takes, handed_takes, up_takes, word_takes, arrival_takes};
 
 use crate::hexadecimal::{digest_of, state_of};
 use crate::schedule::Arrival;
@@ -18,10 +20,11 @@ use sim_wire::{Bytes, Up};
 use std::alloc::Global;
 
 /// An arrival from one of so many clients, or None where the item is none.
-#[tactic(auto, unfolding(crate::specs::Arrivals::arrival_of))]
+#[tactic(auto, unfolding(crate::specs::Arrivals::arrival_of, crate::specs::Taking::arrival_takes))]
 pub fn arrival_of(alloc: Global, clients: u8, item: &Value) -> Result<Option<Arrival>, OutOfMemory>
     ensures value { IfOk result (λ arrival. arrival ≡ arrival_of_data clients (view item.now)) }
     ensures client { IfOk result (λ found. IfSome found (IsFromClient clients)) }
+    ensures memory { arrival_takes clients (view item.now) ≡ false → IsOk result }
 {
     let Some((from, word, rest)) = parts_of(item) else {
         return Ok(None);
@@ -49,6 +52,7 @@ fn arrival_by(
 ) -> Result<Option<Arrival>, OutOfMemory>
     ensures value { IfOk result (λ arrival. arrival ≡ arrival_by_word from word.now (map view rest.now)) }
     ensures client { IfOk result (λ found. IfSome found (λ arrival. arrival.from ≡ from)) }
+    ensures memory { word_takes word.now (map view rest.now) ≡ false → IsOk result }
 {
     if word == "cut" {
         return Ok(cut_from(from, rest));
@@ -71,7 +75,8 @@ fn cut_from(from: u8, rest: &[Value]) -> Option<Arrival>
 }
 
 fn up_by(alloc: Global, word: &str, rest: &[Value]) -> Result<Option<Up>, OutOfMemory>
-    ensures { IfOk result (λ up. up ≡ up_by_word word.now (map view rest.now)) }
+    ensures value { IfOk result (λ up. up ≡ up_by_word word.now (map view rest.now)) }
+    ensures memory { up_takes word.now (map view rest.now) ≡ false → IsOk result }
 {
     if word == "join" {
         return Ok(join_from(rest));
@@ -101,7 +106,8 @@ fn join_from(rest: &[Value]) -> Option<Up>
 }
 
 fn command_from(alloc: Global, rest: &[Value]) -> Result<Option<Up>, OutOfMemory>
-    ensures { IfOk result (λ up. up ≡ command_from_data (map view rest.now)) }
+    ensures value { IfOk result (λ up. up ≡ command_from_data (map view rest.now)) }
+    ensures memory { command_takes (map view rest.now) ≡ false → IsOk result }
 {
     match rest {
         [turn, command @ ..] => {
@@ -130,7 +136,8 @@ fn done_from(rest: &[Value]) -> Option<Up>
 }
 
 fn report_from(alloc: Global, rest: &[Value]) -> Result<Option<Up>, OutOfMemory>
-    ensures { IfOk result (λ up. up ≡ report_from_data (map view rest.now)) }
+    ensures value { IfOk result (λ up. up ≡ report_from_data (map view rest.now)) }
+    ensures memory { report_takes (map view rest.now) ≡ false → IsOk result }
 {
     let Some((turn, digest)) = two(rest) else {
         return Ok(None);
@@ -145,7 +152,8 @@ fn report_from(alloc: Global, rest: &[Value]) -> Result<Option<Up>, OutOfMemory>
 }
 
 fn state_from(alloc: Global, rest: &[Value]) -> Result<Option<Up>, OutOfMemory>
-    ensures { IfOk result (λ up. up ≡ state_from_data (map view rest.now)) }
+    ensures value { IfOk result (λ up. up ≡ state_from_data (map view rest.now)) }
+    ensures memory { handed_takes (map view rest.now) ≡ false → IsOk result }
 {
     let Some((client, turn, bytes)) = three(rest) else {
         return Ok(None);
@@ -177,7 +185,8 @@ fn turn_in(value: &Value) -> Option<u32>
 }
 
 fn digest_in(alloc: Global, value: &Value) -> Result<Option<[u8; 16]>, OutOfMemory>
-    ensures { IfOk result (λ digest. digest ≡ option_and_then digest_of_text (as_str (view value.now))) }
+    ensures value { IfOk result (λ digest. digest ≡ option_and_then digest_of_text (as_str (view value.now))) }
+    ensures memory { next_or (as_str (view value.now)) false digest_takes ≡ false → IsOk result }
 {
     match value.as_str() {
         Some(text) => digest_of(alloc, text),
@@ -186,7 +195,8 @@ fn digest_in(alloc: Global, value: &Value) -> Result<Option<[u8; 16]>, OutOfMemo
 }
 
 fn bytes_in(alloc: Global, value: &Value) -> Result<Option<Bytes>, OutOfMemory>
-    ensures { IfOk result (λ bytes. bytes ≡ option_and_then state_of_text (as_str (view value.now))) }
+    ensures value { IfOk result (λ bytes. bytes ≡ option_and_then state_of_text (as_str (view value.now))) }
+    ensures memory { next_or (as_str (view value.now)) false state_takes ≡ false → IsOk result }
 {
     match value.as_str() {
         Some(text) => state_of(alloc, text),

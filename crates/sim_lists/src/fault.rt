@@ -1,5 +1,6 @@
 //! How a list is refused: by one number, which says where.
 
+ghost use Rattle.std.specs.Prelude.{◌≢◌, ◌+◌, ◌^◌, ◌<◌};
 ghost use Rattle.sim_lists.specs.Meets.{Tells};
 
 use sim_base::OutOfMemory;
@@ -37,7 +38,8 @@ impl<T: Drop> From<AllocFailed<T>> for ListFault {
 
 /// The refusal of an item, by its place. One past 32 bits, which no list reaches, is want of memory.
 pub fn refused(place: usize) -> ListFault
-    ensures { Tells result place }
+    ensures tells { Tells result place }
+    ensures told { place + 1 < 2 ^ 32 → result ≢ ListFault.OutOfMemory }
 {
     match u32::try_from(place) {
         Ok(place) if place < u32::MAX => ListFault::Refused { index: place + 1 },

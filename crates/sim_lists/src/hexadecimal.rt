@@ -1,7 +1,8 @@
 //! Digests and states as text.
 
-ghost use Rattle.std.specs.Prelude.{◌≡◌, IfOk};
-ghost use Rattle.sim_lists.specs.Hexadecimal.{hex_of, digest_of as digest_of_text, state_of as state_of_text};
+ghost use Rattle.std.specs.Prelude.{◌≡◌, false, IfOk, IsOk};
+ghost use Rattle.sim_lists.specs.Hexadecimal.{hex_of, is_hex, digest_of as digest_of_text, state_of as state_of_text};
+ghost use Rattle.sim_lists.specs.Taking.{digest_takes, state_takes};
 
 use sim_base::{Items, MAX_STATE, OutOfMemory};
 use sim_bytes::read_hex;
@@ -10,7 +11,8 @@ use std::alloc::Global;
 
 // The bytes of a text of pairs of digits.
 fn bytes_of(alloc: Global, text: &str) -> Result<Option<Bytes>, OutOfMemory>
-    ensures { IfOk result (λ found. found ≡ hex_of text.now) }
+    ensures value { IfOk result (λ found. found ≡ hex_of text.now) }
+    ensures memory { is_hex text.now ≡ false → IsOk result }
 {
     match read_hex(alloc, text)? {
         Some(bytes) => Ok(Some(Items::from_items(bytes))),
@@ -20,7 +22,8 @@ fn bytes_of(alloc: Global, text: &str) -> Result<Option<Bytes>, OutOfMemory>
 
 /// The digest that a text of 32 digits spells.
 pub fn digest_of(alloc: Global, text: &str) -> Result<Option<[u8; 16]>, OutOfMemory>
-    ensures { IfOk result (λ found. found ≡ digest_of_text text.now) }
+    ensures value { IfOk result (λ found. found ≡ digest_of_text text.now) }
+    ensures memory { digest_takes text.now ≡ false → IsOk result }
 {
     if text.len() != 32 {
         return Ok(None);
@@ -35,7 +38,8 @@ pub fn digest_of(alloc: Global, text: &str) -> Result<Option<[u8; 16]>, OutOfMem
 
 /// The bytes of a state that a text spells, of which there are not more than any state has.
 pub fn state_of(alloc: Global, text: &str) -> Result<Option<Bytes>, OutOfMemory>
-    ensures { IfOk result (λ found. found ≡ state_of_text text.now) }
+    ensures value { IfOk result (λ found. found ≡ state_of_text text.now) }
+    ensures memory { state_takes text.now ≡ false → IsOk result }
 {
     if text.len() > 2 * MAX_STATE {
         return Ok(None);

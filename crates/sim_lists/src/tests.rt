@@ -1,5 +1,7 @@
 //! Schedules that are read, and schedules that are refused with the number of what is wrong, by `docs/FORMATS.md`.
 
+use crate::fault::refused;
+use crate::hexadecimal::digest_of;
 use crate::{Arrival, ListFault, Schedule, schedule_of};
 use sim_base::Command;
 use sim_wire::Up;
@@ -131,4 +133,35 @@ fn refuses_an_object_that_is_none(rt: HostRuntime) {
     let least = r#"{"clients":9,"clients":8,"active":8,"delay":8,"turns":65535,"arrivals":[]}"#;
     let read = schedule_of(rt.alloc(), least.as_bytes());
     assert!(rt; read.is_ok());
+}
+
+#[test]
+fn each_place_has_its_number(rt: HostRuntime) {
+    let places = [
+        (0, 1),
+        (1, 2),
+        (99_999, 100_000),
+        (4_294_967_294, 4_294_967_295),
+    ];
+    for (place, index) in places {
+        assert_eq!(rt; refused(place), ListFault::Refused { index });
+    }
+}
+
+#[test]
+fn other_texts_are_no_digests(rt: HostRuntime) -> Result<(), Fail> {
+    let texts = [
+        "",
+        "0",
+        "0000000000000000000000000000000",
+        "0000000000000000000000000000000A",
+        "0000000000000000000000000000000g",
+        "000000000000000000000000000000000",
+        "0000000000000000000000000000000000",
+    ];
+    for text in texts {
+        let digest = digest_of(rt.alloc(), text)?;
+        assert!(rt; digest.is_none(), "at {text}");
+    }
+    Ok(())
 }

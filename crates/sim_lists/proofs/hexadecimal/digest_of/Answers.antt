@@ -5,5 +5,5 @@ use Rattle.sim_lists.proofs.hexadecimal.digest_of.Goals as goal
 
 pub copy_from_slice-requires : goal.copy_from_slice-requires
 copy_from_slice-requires c =
-    let twice = hex_length c.args.text.now c.in-Some.bytes (sym c.in_ok-bytes.ensures ∙ c.in-Some.is) in
+    let twice = hex_length c.args.text.now c.in-Some.bytes (sym c.in_ok-bytes.ensures.value ∙ c.in-Some.is) in
     omega (arith, twice, c.if-text-ne32.false, ap length c.as_slice.ensures)
