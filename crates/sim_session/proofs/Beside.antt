@@ -1,0 +1,293 @@
+-- A client that acts beside the exchange makes just what the definition of a session says, over plain values.
+use Rattle.std.proofs.Common.{◌≡◌, ◌⊎◌, inl, inr, ℕ, ℤ, suc, ◌+◌, ◌≤◌, List, [], ◌∷◌, ◌++◌, map, refl, sym, ap, ◌∙◌, subst, arith, append-nil, Bool, true, false, if◌then◌else◌, ◌&&◌, All, Result, Ok, Err}
+use Rattle.std.specs.Prelude.{Option, Some, None, OnOk, IfOk}
+use Rattle.std.proofs.lemmas.Bool.{cases_eq, eq-eqb, ne_eqb, cond-true, cond-false, false≢true}
+use Rattle.std.proofs.lemmas.List.Elements.{All-nil, All-cons}
+use Rattle.sim_base.specs.declared.command.Command.{Command}
+use Rattle.sim_base.specs.declared.memory.OutOfMemory.{OutOfMemory}
+use Rattle.sim_base.specs.declared.setup.Setup.{Setup}
+use Rattle.sim_base.specs.declared.step.Event.{Event}
+use Rattle.sim_base.specs.declared.step.Event.TheVariants as event
+use Rattle.sim_base.specs.declared.step.Step.{Step}
+use Rattle.sim_base.specs.declared.step.Step.TheVariants as step
+use Rattle.sim_base.specs.Limits.{HasFewIds}
+use Rattle.sim_base.specs.Rows.{row_of}
+use Rattle.sim_base.specs.Turn.{may_bend, bent}
+use Rattle.sim_plain.specs.declared.message.UpOf.TheVariants as up
+use Rattle.sim_plain.specs.Functions.{put}
+use Rattle.sim_plain.specs.Messages.{carry_up}
+use Rattle.sim_plain_session.specs.Bytes.{spelled}
+use Rattle.sim_plain_session.specs.Clients as plain
+use Rattle.sim_plain_session.specs.Clients.{Up, Phase, Acted}
+use Rattle.sim_plain_session.specs.Players.{Player}
+use Rattle.sim_plain_session.specs.Printed.{events_by, rise_events, leave_events}
+use Rattle.sim_plain_session.specs.Sessions.{Session, client_of, acts, rises, cut, leaves, stepped_by}
+use Rattle.sim_plain_session.proofs.Functions.{put_same}
+use Rattle.sim_system.specs.Meanings.{Meaning, Systems, IsBuiltOnceAtMost}
+use Rattle.sim_board.specs.BoardWords.{AreKept}
+use Rattle.sim_client.specs.declared.did.Did.{Did}
+use Rattle.sim_client.specs.declared.did.Did.TheVariants.{Idle, Done}
+use Rattle.sim_client.specs.ClientWords.{Answers, Tells}
+use Rattle.sim_client.specs.LifeLaws.{Lives, Follows, life_after, says_of, shows, shows_after, order_shown, join_shown}
+use Rattle.sim_client.specs.Lives.{Life, Off, Joining, On, Act, Said, may_order, ordered, orders, joins, may_play, played, may_tell_done, report_of, told_with_done, told_alone, told, plays, bends}
+use Rattle.sim_client.proofs.Following.{ordering_follows, joining_follows, playing_follows, bending_follows}
+use Rattle.sim_pipes.specs.Exchanges.{Held, Conveys}
+use Rattle.sim_pipes.specs.Pipes.{AreFrames, pipe_in}
+use Rattle.sim_wire.specs.Fits.{IsUpFrame, IsSmallUp}
+use Rattle.sim_session.specs.Building.{AreBuilt, AreBuiltIf}
+use Rattle.sim_session.specs.Printing.{said_events, is_off}
+use Rattle.sim_session.specs.Standing.{said_by, HasValidStates, StandBeside, Makes}
+use Rattle.sim_session.proofs.Stepping.{rises_stay}
+
+-- ---- systems that were kept
+
+once : (m n : Meaning) → n.rebuilds ≡ m.rebuilds → IsBuiltOnceAtMost m n
+once m n same = record { low = omega (arith, same); high = omega (arith, same) }
+
+pub kept_most : (s t : Systems) → AreKept s t → AreBuilt s t
+kept_most s t kept = record {
+  kinds = kept.kinds;
+  most = record {
+    ground = once s.ground t.ground kept.rebuilds.ground;
+    range = once s.range t.range kept.rebuilds.range;
+    watch = once s.watch t.watch kept.rebuilds.watch;
+    census = once s.census t.census kept.rebuilds.census;
+  };
+}
+
+pub kept_built : (b : Bool) (s t : Systems) → AreKept s t → AreBuiltIf b s t
+kept_built true s t kept = (kept_most s t kept).most
+kept_built false s t kept = kept.rebuilds
+
+-- ---- what a client did
+
+pub done_by : (act : Option Act) (old : Life) (did : Did) (new : Life) → Answers act old (Ok did) new → (new ≡ life_after act old) × (said_by did ≡ says_of act)
+done_by None old Idle new h = (h, refl)
+done_by None old (Done ups) new h = absurd h
+done_by (Some act) old Idle new h = absurd h
+done_by (Some act) old (Done ups) new h = (h.0, h.1)
+
+told_by : (setup : Setup) (make : ℕ → List ℕ → Event) (act : Option Act) (old : Life) (b : Bool) (new : Life) → Tells act old b new
+    → (new ≡ life_after act old) × ((if b then shows setup make new else []) ≡ shows_after setup make act)
+told_by setup make None old b new h = (h.1, ap (λ (b : Bool). if b then shows setup make new else []) h.0)
+told_by setup make (Some act) old b new h = (h.1, ap (λ (b : Bool). if b then shows setup make new else []) h.0 ∙ ap (shows setup make) h.1)
+
+-- ---- what is printed of what a client says is what is seen of it
+
+order_printed : (setup : Setup) (c : ℕ) (command : Command) (l : Life) → said_events c (says_of (orders setup command l)) ≡ order_shown c (says_of (orders setup command l))
+order_printed setup c command Off = refl
+order_printed setup c command Joining = refl
+order_printed setup c command (On player) = by (may_order setup player)
+  where
+    by : (b : Bool) → said_events c (says_of (if b then Some (ordered command player) else None)) ≡ order_shown c (says_of (if b then Some (ordered command player) else None))
+    by true = refl
+    by false = refl
+
+join_printed : (c : ℕ) (l : Life) → said_events c (says_of (joins l)) ≡ join_shown c (joins l)
+join_printed c Off = refl
+join_printed c Joining = refl
+join_printed c (On player) = refl
+
+play_printed : (setup : Setup) (c : ℕ) (l : Life) → said_events c (says_of (plays setup l)) ≡ shows_after setup (event.Play c) (plays setup l)
+play_printed setup c Off = refl
+play_printed setup c Joining = refl
+play_printed setup c (On player) = by (may_play setup player)
+  where
+    done : (b : Bool) (p : Player) → said_events c (if b then told_with_done setup p else told_alone setup p).says ≡ shows setup (event.Play c) (if b then told_with_done setup p else told_alone setup p).life
+    done true p = refl
+    done false p = refl
+
+    by : (b : Bool) → said_events c (says_of (if b then Some (told setup (played setup player)) else None)) ≡ shows_after setup (event.Play c) (if b then Some (told setup (played setup player)) else None)
+    by true = done (may_tell_done setup (played setup player)) (played setup player)
+    by false = refl
+
+-- ---- what a client says has frames
+
+orders_small : (setup : Setup) (command : Command) (l : Life) → HasFewIds command → All IsSmallUp (says_of (orders setup command l))
+orders_small setup command Off few = All-nil IsSmallUp
+orders_small setup command Joining few = All-nil IsSmallUp
+orders_small setup command (On player) few = by (may_order setup player)
+  where
+    by : (b : Bool) → All IsSmallUp (says_of (if b then Some (ordered command player) else None))
+    by true = All-cons IsSmallUp (up.Command (suc player.done) command) [] few (All-nil IsSmallUp)
+    by false = All-nil IsSmallUp
+
+joins_small : (l : Life) → All IsSmallUp (says_of (joins l))
+joins_small Off = All-cons IsSmallUp up.Join [] tt (All-nil IsSmallUp)
+joins_small Joining = All-nil IsSmallUp
+joins_small (On player) = All-nil IsSmallUp
+
+plays_small : (setup : Setup) (l : Life) → All IsSmallUp (says_of (plays setup l))
+plays_small setup Off = All-nil IsSmallUp
+plays_small setup Joining = All-nil IsSmallUp
+plays_small setup (On player) = by (may_play setup player)
+  where
+    done : (b : Bool) (p : Player) → All IsSmallUp (if b then told_with_done setup p else told_alone setup p).says
+    done true p = All-cons IsSmallUp (report_of setup p) (up.Done (suc p.done) ∷ []) tt (All-cons IsSmallUp (up.Done (suc p.done)) [] tt (All-nil IsSmallUp))
+    done false p = All-cons IsSmallUp (report_of setup p) [] tt (All-nil IsSmallUp)
+
+    by : (b : Bool) → All IsSmallUp (says_of (if b then Some (told setup (played setup player)) else None))
+    by true = done (may_tell_done setup (played setup player)) (played setup player)
+    by false = All-nil IsSmallUp
+
+-- what was said has frames, where what is to be said has them
+pub said_small : (act : Option Act) (old : Life) (did : Did) (new : Life) → Answers act old (Ok did) new → All IsSmallUp (says_of act) → All IsSmallUp (said_by did)
+said_small act old did new answers small = subst (All IsSmallUp) (sym (done_by act old did new answers).1) small
+
+pub order_small : (setup : Setup) (command : Command) (old : Life) (did : Did) (new : Life) → HasFewIds command → Answers (orders setup command old) old (Ok did) new → All IsSmallUp (said_by did)
+order_small setup command old did new few answers = said_small (orders setup command old) old did new answers (orders_small setup command old few)
+
+pub join_small : (old : Life) (did : Did) (new : Life) → Answers (joins old) old (Ok did) new → All IsSmallUp (said_by did)
+join_small old did new answers = said_small (joins old) old did new answers (joins_small old)
+
+pub play_small : (setup : Setup) (old : Life) (did : Did) (new : Life) → Answers (plays setup old) old (Ok did) new → All IsSmallUp (said_by did)
+play_small setup old did new answers = said_small (plays setup old) old did new answers (plays_small setup old)
+
+-- ---- each kind of step
+
+-- a client has acted, and what it said has gone up
+pub acts_beside : (setup : Setup) (c : ℕ) (s : Session) (old new : Life) (act : Option Act) (shown : List Event) (acted : Acted) (behind : Held)
+    → Follows setup old act shown acted → new ≡ life_after act old → Conveys setup behind (acts c acted s) → StandBeside setup c new behind (acts c acted s)
+acts_beside setup c s old new act shown acted behind follows is conveys = record {
+  lives = subst (Lives setup new) (sym (put_same c acted.phase s.client)) (subst (λ (l : Life). Lives setup l acted.phase) (sym is) follows.lives);
+  held = conveys;
+}
+
+-- what it said has gone up, or memory was refused
+abbrev pub IsSent : Setup → ℕ → Held → List Said → Result (List Event) OutOfMemory → Held → Type 0
+IsSent setup c before said result behind =
+    (s : Session) (acted : Acted) → Conveys setup before s → said ≡ map (carry_up (spelled setup)) acted.says → OnOk result (Conveys setup behind (acts c acted s))
+
+told_makes : (setup : Setup) (x : Step) (old new : Life) (before behind : Held) (did : Did) (result : Result (List Event) OutOfMemory)
+    (act : Option Act) (shown : List Event) (acted : Phase → Acted)
+    → ((s : Session) → stepped_by setup s x ≡ acts (client_of x) (acted (s.client (client_of x))) s)
+    → ((s : Session) → events_by setup s x ≡ (acted (s.client (client_of x))).events)
+    → ((phase : Phase) → Lives setup old phase → Follows setup old act shown (acted phase)) → said_events (client_of x) (says_of act) ≡ shown
+    → Answers act old (Ok did) new → IsSent setup (client_of x) before (said_by did) result behind → IfOk result (λ events. events ≡ said_events (client_of x) (said_by did))
+    → IfOk result (λ events. Makes setup x old before new behind events)
+told_makes setup x old new before behind did (Err e) act shown acted stepped printed law seen answers sent told = tt
+told_makes setup x old new before behind did (Ok events) act shown acted stepped printed law seen answers sent told =
+    let c = client_of x in
+    let done = done_by act old did new answers in
+    record {
+      stand = λ s valid at.
+        let follows = law (s.client c) at.lives in
+        subst (StandBeside setup c new behind) (sym (stepped s))
+        (acts_beside setup c s old new act shown (acted (s.client c)) behind follows done.0 (sent s (acted (s.client c)) at.held (done.1 ∙ follows.said)));
+      printed = λ s valid at. told ∙ ap (said_events c) done.1 ∙ seen ∙ (law (s.client c) at.lives).printed ∙ sym (printed s);
+    }
+
+pub order_makes : (setup : Setup) (c : ℕ) (command : Command) (old new : Life) (before behind : Held) (did : Did) (result : Result (List Event) OutOfMemory)
+    → Answers (orders setup command old) old (Ok did) new → IsSent setup c before (said_by did) result behind → IfOk result (λ events. events ≡ said_events c (said_by did))
+    → IfOk result (λ events. Makes setup (step.Order c command) old before new behind events)
+order_makes setup c command old new before behind did result answers sent told =
+    told_makes setup (step.Order c command) old new before behind did result (orders setup command old) (order_shown c (says_of (orders setup command old))) (plain.orders setup c command)
+    (λ s. refl) (λ s. refl) (ordering_follows setup c command old) (order_printed setup c command old) answers sent told
+
+pub play_makes : (setup : Setup) (c : ℕ) (old new : Life) (before behind : Held) (did : Did) (result : Result (List Event) OutOfMemory)
+    → Answers (plays setup old) old (Ok did) new → IsSent setup c before (said_by did) result behind → IfOk result (λ events. events ≡ said_events c (said_by did))
+    → IfOk result (λ events. Makes setup (step.Play c) old before new behind events)
+play_makes setup c old new before behind did result answers sent told =
+    told_makes setup (step.Play c) old new before behind did result (plays setup old) (shows_after setup (event.Play c) (plays setup old)) (plain.plays setup c)
+    (λ s. refl) (λ s. refl) (playing_follows setup c old) (play_printed setup c old) answers sent told
+
+pub join_makes : (setup : Setup) (c : ℕ) (old new : Life) (before behind : Held) (did : Did) (result : Result (List Event) OutOfMemory)
+    → Answers (joins old) old (Ok did) new → IsSent setup c before (said_by did) result behind → IfOk result (λ events. events ≡ said_events c (said_by did))
+    → IfOk result (λ events. Makes setup (step.Join c) old before new behind events)
+join_makes setup c old new before behind did result answers sent told =
+    told_makes setup (step.Join c) old new before behind did result (joins old) (join_shown c (joins old)) (plain.joins c)
+    (λ s. refl) (λ s. refl) (joining_follows setup c old) (join_printed c old) answers sent told
+
+-- a client that says nothing leaves all pipes as they are
+silent : (setup : Setup) (held : Held) (s : Session) (c : ℕ) (acted : Acted) → acted.says ≡ [] → Conveys setup held s → Conveys setup held (acts c acted s)
+silent setup held s c acted none conveys = record {
+  rules = conveys.rules;
+  server = conveys.server;
+  ups = λ d low high. subst (λ (said : List Up). AreFrames IsUpFrame (pipe_in held.ups d) (map (carry_up (spelled setup)) said)) (sym (at d (cases_eq d c))) (conveys.ups d low high);
+  downs = conveys.downs;
+}
+  where
+    at : (d : ℕ) → (d ≡ c) ⊎ (d ≡ c → ⊥) → put c (s.ups c ++ acted.says) s.ups d ≡ s.ups d
+    at d (inl e) = cond-true _ (s.ups c ++ acted.says) (s.ups d) (eq-eqb d c e) ∙ ap (λ l. s.ups c ++ l) none ∙ append-nil (s.ups c) ∙ ap s.ups (sym e)
+    at d (inr apart) = cond-false _ (s.ups c ++ acted.says) (s.ups d) (ne_eqb d c apart)
+
+nothing_said : (setup : Setup) (ups : List Up) → [] ≡ map (carry_up (spelled setup)) ups → ups ≡ []
+nothing_said setup [] none = refl
+nothing_said setup (said ∷ rest) none = absurd (cc)
+
+bends_silent : (setup : Setup) (id : ℕ) (health : ℤ) (l : Life) → says_of (bends setup id health l) ≡ []
+bends_silent setup id health Off = refl
+bends_silent setup id health Joining = refl
+bends_silent setup id health (On player) = by (may_bend setup health (row_of player.state id))
+  where
+    by : (b : Bool) → says_of (if b then Some (record { life = On (record player { state = bent setup player.state id health }); says = [] }) else None) ≡ []
+    by true = refl
+    by false = refl
+
+pub bend_makes : (setup : Setup) (c id : ℕ) (health : ℤ) (old new : Life) (held : Held) (b : Bool) (events : List Event)
+    → Tells (bends setup id health old) old b new → events ≡ (if b then shows setup (event.Bend c) new else []) → Makes setup (step.Bend c id health) old held new held events
+bend_makes setup c id health old new held b events tells told =
+    let act = bends setup id health old in
+    let done = told_by setup (event.Bend c) act old b new tells in
+    record {
+      stand = λ s valid at.
+        let acted = plain.bends setup c id health (s.client c) in
+        let follows = bending_follows setup c id health old (s.client c) at.lives in
+        let none = nothing_said setup acted.says (sym (bends_silent setup id health old) ∙ follows.said) in
+        acts_beside setup c s old new act (shows_after setup (event.Bend c) act) acted held follows done.0 (silent setup held s c acted none at.held);
+      printed = λ s valid at. told ∙ done.1 ∙ (bending_follows setup c id health old (s.client c) at.lives).printed;
+    }
+
+-- the server hears what was said
+pub up_makes : (setup : Setup) (c : ℕ) (life : Life) (before behind : Held) (result : Result (List Event) OutOfMemory)
+    → ((s : Session) → Conveys setup before s → OnOk result (Conveys setup behind (rises setup c (s.ups c) s)))
+    → ((s : Session) → Conveys setup before s → IfOk result (λ events. events ≡ rise_events setup s.server c (s.ups c)))
+    → IfOk result (λ events. Makes setup (step.Up c) life before life behind events)
+up_makes setup c life before behind (Err e) stands printed = tt
+up_makes setup c life before behind (Ok events) stands printed = record {
+  stand = λ s valid at. record { lives = subst (Lives setup life) (sym (rises_stay setup c (s.ups c) s c)) at.lives; held = stands s at.held };
+  printed = λ s valid at. printed s at.held;
+}
+
+-- a client that is off cannot be cut
+off_phase : (setup : Setup) (l : Life) (phase : Phase) → Lives setup l phase → is_off l ≡ true → phase ≡ plain.Off
+off_phase setup Off plain.Off lives off = refl
+off_phase setup Off plain.Joining lives off = absurd lives
+off_phase setup Off (plain.On seat) lives off = absurd lives
+off_phase setup Joining phase lives off = absurd (false≢true off)
+off_phase setup (On player) phase lives off = absurd (false≢true off)
+
+pub off_makes : (setup : Setup) (c : ℕ) (life : Life) (held : Held) → is_off life ≡ true → Makes setup (step.Cut c) life held life held []
+off_makes setup c life held off = record {
+  stand = λ s valid at.
+    subst (λ (phase : Phase). StandBeside setup c life held (leaves setup c phase s)) (sym (off_phase setup life (s.client c) at.lives off)) at;
+  printed = λ s valid at. sym (ap (leave_events c) (off_phase setup life (s.client c) at.lives off));
+}
+
+-- any other is off then
+pub cut_makes : (setup : Setup) (c : ℕ) (old new : Life) (before behind : Held) (events : List Event) → is_off old ≡ false → new ≡ Off → events ≡ event.Cut c ∷ []
+    → ((s : Session) → Conveys setup before s → Conveys setup behind (cut setup c s)) → Makes setup (step.Cut c) old before new behind events
+cut_makes setup c old new before behind events on is told stands = record {
+  stand = λ s valid at. (by s (at.held) old on (s.client c) at.lives).0;
+  printed = λ s valid at. told ∙ sym (by s (at.held) old on (s.client c) at.lives).1;
+}
+  where
+    gone : (s : Session) → Conveys setup before s → StandBeside setup c new behind (cut setup c s)
+    gone s held = record { lives = subst (Lives setup new) (sym (put_same c plain.Off s.client)) (subst (λ (l : Life). Lives setup l plain.Off) (sym is) tt); held = stands s held }
+
+    by : (s : Session) → Conveys setup before s → (l : Life) → is_off l ≡ false → (phase : Phase) → Lives setup l phase
+        → StandBeside setup c new behind (leaves setup c phase s) × (leave_events c phase ≡ event.Cut c ∷ [])
+    by s held Off on phase lives = absurd (false≢true (sym on))
+    by s held Joining on plain.Off lives = absurd lives
+    by s held Joining on plain.Joining lives = (gone s held, refl)
+    by s held Joining on (plain.On seat) lives = absurd lives
+    by s held (On player) on plain.Off lives = absurd lives
+    by s held (On player) on plain.Joining lives = absurd lives
+    by s held (On player) on (plain.On seat) lives = (gone s held, refl)
+
+-- ---- answers
+
+-- what follows from a value that was answered
+pub then_ok : {V E : Type 0} {P Q : V → Type 0} (result : Result V E) → ((v : V) → P v → Q v) → IfOk result P → IfOk result Q
+then_ok (Ok v) follows p = follows v p
+then_ok (Err e) follows p = tt

@@ -1,0 +1,5 @@
+pub mod Spelled
+pub mod Seating
+pub mod Beside
+pub mod Heard
+pub mod Stepping

@@ -1,0 +1,29 @@
+-- One place of a list is written: what becomes of the lists of what stands in it.
+use Rattle.std.proofs.Common.{◌≡◌, ℕ, ◌<◌, ◌≤◌, ◌≢◌, List, length, get_or, set, map, All, refl, sym, ap, ◌∙◌, subst, arith, get_or-set_same, get_or-set_other}
+use Rattle.std.proofs.lemmas.List.{map-set, length-set, get_or-map, length-map}
+use Rattle.std.proofs.lemmas.List.Elements.{All-set}
+use Rattle.sim_system.specs.Meanings.{Systems, HaveKinds}
+use Rattle.sim_session.specs.Building.{ChangeAt}
+
+pub put_there : {X Y : Type 0} (f : X → Y) (xs : List X) (i : ℕ) (y : X) (d : Y) → i < length xs → get_or (map f (set xs i y)) i d ≡ f y
+put_there f xs i y d within = ap (λ l. get_or l i d) (map-set f xs i y) ∙ get_or-set_same (map f xs) i (f y) d (omega (arith, within, length-map xs f))
+
+pub put_elsewhere : {X Y : Type 0} (f : X → Y) (xs : List X) (i : ℕ) (y : X) (j : ℕ) (d : Y) → j ≢ i → get_or (map f (set xs i y)) j d ≡ get_or (map f xs) j d
+put_elsewhere f xs i y j d apart = ap (λ l. get_or l j d) (map-set f xs i y) ∙ get_or-set_other (map f xs) i j (f y) d apart
+
+pub was_there : {X Y : Type 0} (f : X → Y) (xs : List X) (i : ℕ) (x : X) (d : Y) → i < length xs → x ≡ get_or xs i x → get_or (map f xs) i d ≡ f x
+was_there f xs i x d within is = get_or-map f xs i x d within ∙ ap f (sym is)
+
+-- the systems in one place have changed
+pub changed : {X : Type 0} (Changed : Systems → Systems → Type 0) (f : X → Systems) (xs : List X) (i : ℕ) (x y : X) → i < length xs → x ≡ get_or xs i x → Changed (f x) (f y)
+    → ChangeAt Changed i (map f xs) (map f (set xs i y))
+changed Changed f xs i x y within is change = record {
+  count = length-map (set xs i y) f ∙ length-set xs i y ∙ sym (length-map xs f);
+  there = λ d low. subst (λ (s : Systems). Changed s (get_or (map f (set xs i y)) i d)) (sym (was_there f xs i x d within is))
+      (subst (Changed (f x)) (sym (put_there f xs i y d within)) change);
+  others = λ j d apart. put_elsewhere f xs i y j d apart;
+}
+
+-- each is in its place
+pub kinds_put : {X : Type 0} (f : X → Systems) (xs : List X) (i : ℕ) (y : X) → HaveKinds (f y) → All HaveKinds (map f xs) → All HaveKinds (map f (set xs i y))
+kinds_put f xs i y kinds all = subst (All HaveKinds) (sym (map-set f xs i y)) (All-set HaveKinds (map f xs) i (f y) kinds all)

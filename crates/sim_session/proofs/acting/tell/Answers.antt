@@ -1,0 +1,6 @@
+-- What was sent stays sent, whatever is printed of it.
+use Rattle.sim_client.proofs.Standing.{anyway}
+use Rattle.sim_session.proofs.acting.tell.Goals as goal
+
+pub returns-clause-sent : goal.returns-clause-sent
+returns-clause-sent c = λ setup s acted conveys said. anyway c.said_events.result (c.in_ok-send.ensures.stands setup s acted conveys said)

@@ -1,0 +1,4 @@
+pub mod Building
+pub mod Printing
+pub mod Standing
+pub mod SessionWords

@@ -1,0 +1,242 @@
+//! The kinds of step, each by one client beside the server and the pipes.
+
+ghost use Rattle.std.specs.Prelude.{◌≡◌, ℕ, map, All, IfOk, OnOk};
+ghost use Rattle.sim_base.specs.declared.setup.Setup.{Setup as AnySetup};
+ghost use Rattle.sim_base.specs.declared.step.Step.TheVariants as step;
+ghost use Rattle.sim_base.specs.declared.step.Event.TheVariants as event;
+ghost use Rattle.sim_base.specs.Limits.{HasFewIds};
+ghost use Rattle.sim_plain.specs.Messages.{carry_up};
+ghost use Rattle.sim_plain_session.specs.Bytes.{spelled};
+ghost use Rattle.sim_plain_session.specs.Clients.{Acted};
+ghost use Rattle.sim_plain_session.specs.Sessions.{Session, acts, client_of as client_in};
+ghost use Rattle.sim_board.specs.BoardWords.{AreKept};
+ghost use Rattle.sim_client.specs.ClientWords.{setup_in, life, systems, IsSound};
+ghost use Rattle.sim_client.specs.LifeLaws.{shows};
+ghost use Rattle.sim_pipes.specs.Exchanges.{Conveys};
+ghost use Rattle.sim_server.specs.Standing.{IsClient};
+ghost use Rattle.sim_wire.specs.Fits.{IsSmallUp};
+ghost use Rattle.sim_session.specs.Building.{AreBuilt, AreBuiltIf, has_load};
+ghost use Rattle.sim_session.specs.Printing.{said_events as events_said, is_off as is_off_of};
+ghost use Rattle.sim_session.specs.Standing.{HasValidStates, IsSmallStep, Makes, StandBeside, said_by};
+
+use crate::hearing::down;
+use crate::printing::{one, said_events, shown};
+use sim_base::{Command, Event, Events, Fixed, Items, OutOfMemory, Step};
+use sim_client::{Client, Did, Ups};
+use sim_pipes::Exchange;
+use sim_system::System;
+use sim_wire::Up;
+use std::alloc::Global;
+
+/// What a client said, if it did anything.
+pub fn ups_of(alloc: Global, did: Did) -> Ups
+    ensures { result ≡ said_by did }
+{
+    match did {
+        Did::Idle => Items::new(alloc),
+        Did::Done { up } => up,
+    }
+}
+
+// Sends what a client says, and answers what is printed of it.
+fn tell(
+    alloc: Global,
+    exchange: &mut Exchange,
+    number: u8,
+    ups: &[Up],
+) -> Result<Events, OutOfMemory>
+    requires client { IsClient exchange.old.server number }
+    requires small { All IsSmallUp ups.now }
+    ensures sent { (setup : AnySetup) (s : Session) (acted : Acted) → Conveys setup exchange.old s → ups.now ≡ map (carry_up (spelled setup)) acted.says
+        → OnOk result (Conveys setup exchange.new (acts number acted s)) }
+    ensures printed { IfOk result (λ events. events ≡ events_said number ups.now) }
+    ensures rules { exchange.new.server.rules ≡ exchange.old.server.rules }
+{
+    exchange.send(number, ups)?;
+    said_events(alloc, number, ups)
+}
+
+// A client gives a command, which goes up.
+fn order(
+    alloc: Global,
+    client: &mut Client<'_>,
+    exchange: &mut Exchange,
+    number: u8,
+    command: &Command,
+) -> Result<Events, OutOfMemory>
+    requires sound { IsSound client.old ⟦<dyn System as System>⟧ }
+    requires client { IsClient exchange.old.server number }
+    requires few { HasFewIds command.now }
+    ensures made { IfOk result (λ events. Makes (setup_in client.old) (step.Order number command.now) (life client.old) exchange.old (life client.new) exchange.new events) }
+    ensures sound { OnOk result (IsSound client.new ⟦<dyn System as System>⟧) }
+    ensures kept { AreKept (systems client.old ⟦<dyn System as System>⟧) (systems client.new ⟦<dyn System as System>⟧) }
+    ensures setup { setup_in client.new ≡ setup_in client.old }
+    ensures rules { exchange.new.server.rules ≡ exchange.old.server.rules }
+{
+    let did = client.order(command.copy()?)?;
+    let ups = ups_of(alloc, did);
+    tell(alloc, exchange, number, ups.as_slice())
+}
+
+// A client plays its next turn, and its report goes up.
+fn play(
+    alloc: Global,
+    client: &mut Client<'_>,
+    exchange: &mut Exchange,
+    number: u8,
+) -> Result<Events, OutOfMemory>
+    requires sound { IsSound client.old ⟦<dyn System as System>⟧ }
+    requires client { IsClient exchange.old.server number }
+    ensures made { IfOk result (λ events. Makes (setup_in client.old) (step.Play number) (life client.old) exchange.old (life client.new) exchange.new events) }
+    ensures sound { OnOk result (IsSound client.new ⟦<dyn System as System>⟧) }
+    ensures kept { AreKept (systems client.old ⟦<dyn System as System>⟧) (systems client.new ⟦<dyn System as System>⟧) }
+    ensures setup { setup_in client.new ≡ setup_in client.old }
+    ensures rules { exchange.new.server.rules ≡ exchange.old.server.rules }
+{
+    let did = client.play()?;
+    let ups = ups_of(alloc, did);
+    tell(alloc, exchange, number, ups.as_slice())
+}
+
+// A client wishes to join, and its wish goes up.
+fn join(
+    alloc: Global,
+    client: &mut Client<'_>,
+    exchange: &mut Exchange,
+    number: u8,
+) -> Result<Events, OutOfMemory>
+    requires sound { IsSound client.old ⟦<dyn System as System>⟧ }
+    requires client { IsClient exchange.old.server number }
+    ensures made { IfOk result (λ events. Makes (setup_in client.old) (step.Join number) (life client.old) exchange.old (life client.new) exchange.new events) }
+    ensures sound { OnOk result (IsSound client.new ⟦<dyn System as System>⟧) }
+    ensures kept { AreKept (systems client.old ⟦<dyn System as System>⟧) (systems client.new ⟦<dyn System as System>⟧) }
+    ensures setup { setup_in client.new ≡ setup_in client.old }
+    ensures rules { exchange.new.server.rules ≡ exchange.old.server.rules }
+{
+    let did = client.join()?;
+    let ups = ups_of(alloc, did);
+    tell(alloc, exchange, number, ups.as_slice())
+}
+
+// What is printed of a client whose entity's health was bent.
+fn bent(alloc: Global, client: &Client<'_>, number: u8) -> Result<Events, OutOfMemory>
+    requires sound { IsSound client.now ⟦<dyn System as System>⟧ }
+    ensures { IfOk result (λ events. events ≡ shows (setup_in client.now) (event.Bend number) (life client.now)) }
+{
+    let Some(seen) = shown(client) else {
+        return Ok(Items::new(alloc));
+    };
+    let turn = seen.0;
+    let digest = seen.1;
+    one(
+        alloc,
+        Event::Bend {
+            client: number,
+            turn,
+            digest,
+        },
+    )
+}
+
+// The health of an entity is bent in a client, and the server hears nothing of it.
+fn bend(
+    alloc: Global,
+    client: &mut Client<'_>,
+    exchange: &Exchange,
+    number: u8,
+    entity: u32,
+    health: Fixed,
+) -> Result<Events, OutOfMemory>
+    requires sound { IsSound client.old ⟦<dyn System as System>⟧ }
+    ensures made { IfOk result (λ events. Makes (setup_in client.old) (step.Bend number entity health) (life client.old) exchange.now (life client.new) exchange.now events) }
+    ensures sound { IsSound client.new ⟦<dyn System as System>⟧ }
+    ensures kept { AreKept (systems client.old ⟦<dyn System as System>⟧) (systems client.new ⟦<dyn System as System>⟧) }
+    ensures setup { setup_in client.new ≡ setup_in client.old }
+{
+    if !client.bend(entity, health) {
+        return Ok(Items::new(alloc));
+    }
+    bent(alloc, client, number)
+}
+
+// Whether a client is neither on nor waits for a state.
+fn is_off(client: &Client<'_>) -> bool
+    requires { IsSound client.now ⟦<dyn System as System>⟧ }
+    ensures { result ≡ is_off_of (life client.now) }
+{
+    !client.joining() && client.turn().is_none()
+}
+
+// A client is cut off, and the server sees it gone.
+fn cut(
+    alloc: Global,
+    client: &mut Client<'_>,
+    exchange: &mut Exchange,
+    number: u8,
+) -> Result<Events, OutOfMemory>
+    requires sound { IsSound client.old ⟦<dyn System as System>⟧ }
+    requires client { IsClient exchange.old.server number }
+    ensures made { IfOk result (λ events. Makes (setup_in client.old) (step.Cut number) (life client.old) exchange.old (life client.new) exchange.new events) }
+    ensures sound { IsSound client.new ⟦<dyn System as System>⟧ }
+    ensures kept { AreKept (systems client.old ⟦<dyn System as System>⟧) (systems client.new ⟦<dyn System as System>⟧) }
+    ensures setup { setup_in client.new ≡ setup_in client.old }
+    ensures rules { exchange.new.server.rules ≡ exchange.old.server.rules }
+{
+    if is_off(client) {
+        return Ok(Items::new(alloc));
+    }
+    client.cut();
+    exchange.cut(number)?;
+    one(alloc, Event::Cut { client: number })
+}
+
+/// By whom or at whom a step is.
+pub fn client_of(step: &Step) -> u8
+    ensures { result ≡ client_in step.now }
+{
+    match step {
+        Step::Order { client, .. } => *client,
+        Step::Up { client } => *client,
+        Step::Down { client } => *client,
+        Step::Play { client } => *client,
+        Step::Join { client } => *client,
+        Step::Cut { client } => *client,
+        Step::Bend { client, .. } => *client,
+    }
+}
+
+/// Makes a step of a client, and answers what is printed of it.
+pub fn act(
+    alloc: Global,
+    client: &mut Client<'_>,
+    exchange: &mut Exchange,
+    step: &Step,
+) -> Result<Events, OutOfMemory>
+    requires sound { IsSound client.old ⟦<dyn System as System>⟧ }
+    requires client { IsClient exchange.old.server (client_in step.now) }
+    requires few { IsSmallStep step.now }
+    requires some { (s : Session) × HasValidStates (setup_in client.old) (client_in step.now) s × StandBeside (setup_in client.old) (client_in step.now) (life client.old) exchange.old s }
+    ensures made { IfOk result (λ events. Makes (setup_in client.old) step.now (life client.old) exchange.old (life client.new) exchange.new events) }
+    ensures sound { OnOk result (IsSound client.new ⟦<dyn System as System>⟧) }
+    ensures built { IfOk result (λ events. AreBuiltIf (has_load events) (systems client.old ⟦<dyn System as System>⟧) (systems client.new ⟦<dyn System as System>⟧)) }
+    ensures most { AreBuilt (systems client.old ⟦<dyn System as System>⟧) (systems client.new ⟦<dyn System as System>⟧) }
+    ensures setup { setup_in client.new ≡ setup_in client.old }
+    ensures rules { exchange.new.server.rules ≡ exchange.old.server.rules }
+{
+    match step {
+        Step::Order {
+            client: number,
+            command,
+        } => order(alloc, client, exchange, *number, command),
+        Step::Up { client: number } => exchange.rise(*number),
+        Step::Down { client: number } => down(alloc, client, exchange, *number),
+        Step::Play { client: number } => play(alloc, client, exchange, *number),
+        Step::Join { client: number } => join(alloc, client, exchange, *number),
+        Step::Cut { client: number } => cut(alloc, client, exchange, *number),
+        Step::Bend {
+            client: number,
+            entity,
+            health,
+        } => bend(alloc, client, exchange, *number, *entity, *health),
+    }
+}

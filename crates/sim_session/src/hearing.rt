@@ -1,0 +1,118 @@
+//! A client hears the first message in the pipe to it.
+
+ghost use Rattle.std.specs.Prelude.{◌≡◌, IfOk, OnOk};
+ghost use Rattle.sim_base.specs.declared.step.Event.TheVariants as event;
+ghost use Rattle.sim_base.specs.declared.step.Step.TheVariants as step;
+ghost use Rattle.sim_plain_session.specs.Sessions.{Session};
+ghost use Rattle.sim_client.specs.ClientWords.{setup_in, life, systems, IsSound};
+ghost use Rattle.sim_client.specs.LifeLaws.{shows};
+ghost use Rattle.sim_server.specs.Standing.{IsClient};
+ghost use Rattle.sim_session.specs.Building.{AreBuilt, AreBuiltIf, has_load};
+ghost use Rattle.sim_session.specs.Printing.{refusal_in, is_state as is_state_in, has_happened, heard_events};
+ghost use Rattle.sim_session.specs.Standing.{HasValidStates, Makes, StandBeside};
+
+use crate::acting::ups_of;
+use crate::printing::{one, shown};
+use sim_base::{Event, Events, Items, OutOfMemory};
+use sim_client::{Client, Did};
+use sim_pipes::Exchange;
+use sim_system::System;
+use sim_wire::Down;
+use std::alloc::Global;
+
+// Why something is refused, in a message that says so.
+fn refusal_of(down: &Down) -> Option<u8>
+    ensures { result ≡ refusal_in down.now }
+{
+    match down {
+        Down::Refused { code } => Some(*code),
+        Down::State { .. } => None,
+        Down::Ask { .. } => None,
+        Down::Command { .. } => None,
+        Down::Release { .. } => None,
+        Down::Notice { .. } => None,
+    }
+}
+
+// Whether a message hands on a state.
+fn is_state(down: &Down) -> bool
+    ensures { result ≡ is_state_in down.now }
+{
+    matches!(down, Down::State { .. })
+}
+
+// The event of a state that a client has loaded.
+fn loaded(alloc: Global, client: &Client<'_>, number: u8) -> Result<Events, OutOfMemory>
+    requires { IsSound client.now ⟦<dyn System as System>⟧ }
+    ensures { IfOk result (λ events. events ≡ shows (setup_in client.now) (event.Load number) (life client.now)) }
+{
+    let Some(seen) = shown(client) else {
+        return Ok(Items::new(alloc));
+    };
+    let turn = seen.0;
+    let digest = seen.1;
+    one(
+        alloc,
+        Event::Load {
+            client: number,
+            turn,
+            digest,
+        },
+    )
+}
+
+// What is printed of a message that a client heard, by what it did.
+fn heard(
+    alloc: Global,
+    client: &Client<'_>,
+    number: u8,
+    refusal: Option<u8>,
+    is_state: bool,
+    did: &Did,
+) -> Result<Events, OutOfMemory>
+    requires { IsSound client.now ⟦<dyn System as System>⟧ }
+    ensures { IfOk result (λ events. events ≡ heard_events (setup_in client.now) number (life client.now) refusal is_state (has_happened did.now)) }
+{
+    if let Some(code) = refusal {
+        return one(
+            alloc,
+            Event::Refused {
+                client: number,
+                code,
+            },
+        );
+    }
+    match did {
+        Did::Done { .. } if is_state => loaded(alloc, client, number),
+        _ => Ok(Items::new(alloc)),
+    }
+}
+
+/// A client hears the first message in the pipe to it, if there is one, and what it says goes up.
+pub fn down(
+    alloc: Global,
+    client: &mut Client<'_>,
+    exchange: &mut Exchange,
+    number: u8,
+) -> Result<Events, OutOfMemory>
+    requires sound { IsSound client.old ⟦<dyn System as System>⟧ }
+    requires client { IsClient exchange.old.server number }
+    requires some { (s : Session) × HasValidStates (setup_in client.old) number s × StandBeside (setup_in client.old) number (life client.old) exchange.old s }
+    ensures made { IfOk result (λ events. Makes (setup_in client.old) (step.Down number) (life client.old) exchange.old (life client.new) exchange.new events) }
+    ensures sound { OnOk result (IsSound client.new ⟦<dyn System as System>⟧) }
+    ensures built { IfOk result (λ events. AreBuiltIf (has_load events) (systems client.old ⟦<dyn System as System>⟧) (systems client.new ⟦<dyn System as System>⟧)) }
+    ensures most { AreBuilt (systems client.old ⟦<dyn System as System>⟧) (systems client.new ⟦<dyn System as System>⟧) }
+    ensures setup { setup_in client.new ≡ setup_in client.old }
+    ensures rules { exchange.new.server.rules ≡ exchange.old.server.rules }
+{
+    let Some(down) = exchange.fall(number)? else {
+        return Ok(Items::new(alloc));
+    };
+    let refusal = refusal_of(&down);
+    let is_state = is_state(&down);
+    let did = client.hear(down)?;
+    let events = heard(alloc, client, number, refusal, is_state, &did)?;
+    let ups = ups_of(alloc, did);
+    exchange.send(number, ups.as_slice())?;
+    Ok(events)
+}

@@ -1,0 +1,58 @@
+//! The events of what a client did.
+
+ghost use Rattle.std.specs.Prelude.{◌≡◌, [], ◌∷◌, IfOk};
+ghost use Rattle.sim_client.specs.ClientWords.{setup_in, life, IsSound};
+ghost use Rattle.sim_session.specs.Printing.{said_events as events_said, shown_of};
+
+use sim_base::{Event, Events, Items, OutOfMemory};
+use sim_client::Client;
+use sim_system::System;
+use sim_wire::Up;
+use std::alloc::Global;
+
+/// One event.
+pub fn one(alloc: Global, event: Event) -> Result<Events, OutOfMemory>
+    ensures { IfOk result (λ events. events ≡ event ∷ []) }
+{
+    let mut events = Items::new(alloc);
+    events.push(event)?;
+    Ok(events)
+}
+
+/// What is printed of what a client says.
+pub fn said_events(alloc: Global, client: u8, ups: &[Up]) -> Result<Events, OutOfMemory>
+    ensures { IfOk result (λ events. events ≡ events_said client ups.now) }
+{
+    match ups.first() {
+        Some(Up::Join) => one(alloc, Event::Join { client }),
+        Some(Up::Command { turn, .. }) => one(
+            alloc,
+            Event::Order {
+                client,
+                turn: *turn,
+            },
+        ),
+        Some(Up::Report { turn, digest }) => one(
+            alloc,
+            Event::Play {
+                client,
+                turn: *turn,
+                digest: *digest,
+            },
+        ),
+        Some(Up::Done { .. }) => Ok(Items::new(alloc)),
+        Some(Up::State { .. }) => Ok(Items::new(alloc)),
+        None => Ok(Items::new(alloc)),
+    }
+}
+
+/// The turn and the digest that a client shows that is on.
+pub fn shown(client: &Client<'_>) -> Option<(u32, [u8; 16])>
+    requires { IsSound client.now ⟦<dyn System as System>⟧ }
+    ensures { result ≡ shown_of (setup_in client.now) (life client.now) }
+{
+    match (client.turn(), client.digest()) {
+        (Some(turn), Some(digest)) => Some((turn, digest)),
+        _ => None,
+    }
+}

@@ -1,0 +1,98 @@
+//! Clients made of rigs, and rigs taken back from clients. The rigs that have no client stay in the list in which all came,
+//! and so does its room.
+
+ghost use Rattle.std.specs.Prelude.{◌≡◌, ◌+◌, ◌≤◌, ◌<◌, ◌++◌, ◌∷◌, [], length, replicate, map, take, drop, All, vec_capacity};
+ghost use Rattle.sim_base.specs.Limits.{IsSetup};
+ghost use Rattle.sim_system.specs.Meanings.{HaveKinds};
+ghost use Rattle.sim_client.specs.Lives.{Off};
+ghost use Rattle.sim_client.specs.StageWords.{AreCleared};
+ghost use Rattle.sim_session.specs.SessionWords.{AreMembers, lives_of, rigs_of, systems_of};
+
+use sim_base::Setup;
+use sim_client::Client;
+use sim_orders::OrderTable;
+use sim_system::{Rig, System};
+use std::alloc::Global;
+
+// Makes a client of the first rig.
+fn seat_one<'a>(
+    alloc: Global,
+    setup: &'a Setup,
+    orders: &'a OrderTable,
+    clients: &mut Vec<Client<'a>>,
+    rigs: &mut Vec<Rig>,
+    number: u8,
+)
+    requires limits { IsSetup setup.now }
+    requires number { (0 < number) × (number ≤ setup.now.players) }
+    requires room { length clients.old.items < vec_capacity clients.old }
+    requires left { 0 < length rigs.old.items }
+    requires kinds { All HaveKinds (rigs_of rigs.old.items ⟦<dyn System as System>⟧) }
+    requires cleared { All AreCleared (rigs_of rigs.old.items ⟦<dyn System as System>⟧) }
+    requires members { AreMembers setup.now clients.old.items ⟦<dyn System as System>⟧ }
+    ensures rigs { rigs.new.items ≡ drop 1 rigs.old.items }
+    ensures systems { systems_of clients.new.items ⟦<dyn System as System>⟧ ++ rigs_of rigs.new.items ⟦<dyn System as System>⟧ ≡ systems_of clients.old.items ⟦<dyn System as System>⟧ ++ rigs_of rigs.old.items ⟦<dyn System as System>⟧ }
+    ensures members { AreMembers setup.now clients.new.items ⟦<dyn System as System>⟧ }
+    ensures off { lives_of clients.new.items ≡ lives_of clients.old.items ++ Off ∷ [] }
+    ensures room { vec_capacity clients.old ≤ vec_capacity clients.new }
+    ensures kept { vec_capacity rigs.new ≡ vec_capacity rigs.old }
+{
+    let client = Client::new(alloc, setup, orders, number, rigs.remove(0));
+    match clients.push(client) {
+        Ok(()) => {}
+        Err(_) => unreachable!(),
+    }
+}
+
+/// Makes a client of each of the first rigs, one for each player.
+pub fn seat<'a>(
+    alloc: Global,
+    setup: &'a Setup,
+    orders: &'a OrderTable,
+    clients: &mut Vec<Client<'a>>,
+    rigs: &mut Vec<Rig>,
+)
+    requires limits { IsSetup setup.now }
+    requires none { clients.old.items ≡ [] }
+    requires room { setup.now.players ≤ vec_capacity clients.old }
+    requires enough { setup.now.players ≤ length rigs.old.items }
+    requires kinds { All HaveKinds (rigs_of rigs.old.items ⟦<dyn System as System>⟧) }
+    requires cleared { All AreCleared (rigs_of rigs.old.items ⟦<dyn System as System>⟧) }
+    ensures rigs { rigs.new.items ≡ drop setup.now.players rigs.old.items }
+    ensures systems { systems_of clients.new.items ⟦<dyn System as System>⟧ ++ rigs_of rigs.new.items ⟦<dyn System as System>⟧ ≡ rigs_of rigs.old.items ⟦<dyn System as System>⟧ }
+    ensures members { AreMembers setup.now clients.new.items ⟦<dyn System as System>⟧ }
+    ensures off { lives_of clients.new.items ≡ replicate setup.now.players Off }
+    ensures kept { vec_capacity rigs.new ≡ vec_capacity rigs.old }
+{
+    for i in 0..setup.players {
+        seat_one(alloc, setup, orders, clients, rigs, i + 1);
+    }
+}
+
+// Puts a rig in front of the others, which have room for it.
+fn put_back(rigs: &mut Vec<Rig>, rig: Rig)
+    requires { length rigs.old.items < vec_capacity rigs.old }
+    ensures rigs { rigs.new.items ≡ rig ∷ rigs.old.items }
+    ensures kept { vec_capacity rigs.new ≡ vec_capacity rigs.old }
+{
+    match rigs.insert(0, rig) {
+        Ok(()) => {}
+        Err(_) => unreachable!(),
+    }
+}
+
+/// Takes the rigs of all clients back, in front of the others.
+pub fn unseat(clients: Vec<Client<'_>>, rigs: Vec<Rig>) -> Vec<Rig>
+    requires kinds { All HaveKinds (systems_of clients.items ⟦<dyn System as System>⟧) }
+    requires room { length clients.items + length rigs.items ≤ vec_capacity rigs }
+    ensures systems { rigs_of result.items ⟦<dyn System as System>⟧ ≡ systems_of clients.items ⟦<dyn System as System>⟧ ++ rigs_of rigs.items ⟦<dyn System as System>⟧ }
+    ensures rest { drop (length clients.items) result.items ≡ rigs.items }
+    ensures kept { vec_capacity result ≡ vec_capacity rigs }
+{
+    let mut clients = clients;
+    let mut rigs = rigs;
+    while let Some(client) = clients.pop() {
+        put_back(&mut rigs, client.finish());
+    }
+    rigs
+}

@@ -1,0 +1,176 @@
+//! A session. After want of memory it may only be finished.
+
+ghost use Rattle.std.specs.Prelude.{◌≡◌, ◌<◌, ◌≤◌, ◌-◌, ◌++◌, if◌then◌else◌, ℕ, length, map, take, drop, All, IfOk, IfErr, OnOk, vec_capacity};
+ghost use Rattle.sim_base.specs.Limits.{IsSetup};
+ghost use Rattle.sim_plain_session.specs.Sessions.{opened, client_of as client_in};
+ghost use Rattle.sim_system.specs.Meanings.{HaveKinds};
+ghost use Rattle.sim_client.specs.ClientWords.{life, IsSound, setup_in as client_setup_in};
+ghost use Rattle.sim_client.specs.Lives.{Off, starts};
+ghost use Rattle.sim_client.specs.StageWords.{AreCleared};
+ghost use Rattle.sim_pipes.specs.Pipes.{pipe_in};
+ghost use Rattle.sim_session.specs.Building.{ChangeAt, AreBuilt, AreBuiltIf, has_load, StartsOnly};
+ghost use Rattle.sim_session.specs.SessionWords.{setup_in, seen_in, systems_in, spare_in, room_in, lives_of, rigs_of, systems_of, AreMembers, MayFinish, IsSession, AreOfClients};
+ghost use Rattle.sim_session.specs.Standing.{life_of, IsNumber, IsSmallStep, StandsFor, StandsForSome, Steps};
+
+use crate::acting::{act, client_of};
+use crate::rigs::{seat, unseat};
+use sim_base::{Events, OutOfMemory, Setup, Step};
+use sim_client::Client;
+use sim_orders::OrderTable;
+use sim_pipes::Exchange;
+use sim_server::Server;
+use sim_system::{Rig, System};
+use sim_wire::Bytes;
+use std::alloc::Global;
+
+/// A session of a match: a client for each player, the server, and the pipes between them.
+#[derive(Drop)]
+pub struct Session<'a> {
+    alloc: Global,
+    setup: &'a Setup,
+    clients: Vec<Client<'a>>,
+    exchange: Exchange,
+    rigs: Vec<Rig>,
+}
+
+// The first clients begin in the match at its first state.
+fn start_all(setup: &Setup, clients: &mut Vec<Client<'_>>, count: u8) -> Result<(), OutOfMemory>
+    requires members { AreMembers setup.now clients.old.items ⟦<dyn System as System>⟧ }
+    requires count { count ≤ length clients.old.items }
+    requires off { (c : ℕ) → 0 < c → c ≤ count → life_of (lives_of clients.old.items) c ≡ Off }
+    ensures starts { OnOk result ((c : ℕ) → 0 < c → c ≤ count → life_of (lives_of clients.new.items) c ≡ starts setup.now) }
+    ensures others { (c : ℕ) → count < c → life_of (lives_of clients.new.items) c ≡ life_of (lives_of clients.old.items) c }
+    ensures members { OnOk result (AreMembers setup.now clients.new.items ⟦<dyn System as System>⟧) }
+    ensures kinds { All HaveKinds (systems_of clients.new.items ⟦<dyn System as System>⟧) }
+    ensures built { StartsOnly count (systems_of clients.old.items ⟦<dyn System as System>⟧) (systems_of clients.new.items ⟦<dyn System as System>⟧) }
+    ensures count { length clients.new.items ≡ length clients.old.items }
+{
+    for i in 0..count {
+        let client = &mut clients[i as usize];
+        client.start()?;
+    }
+    Ok(())
+}
+
+impl<'a> Session<'a> {
+    /// A session that has not begun, in which client c has the c-th of eight rigs.
+    pub fn new(
+        alloc: Global,
+        setup: &'a Setup,
+        orders: &'a OrderTable,
+        rigs: Vec<Rig>,
+    ) -> Result<Session<'a>, Vec<Rig>>
+        requires limits { IsSetup setup.now }
+        requires eight { length rigs.items ≡ 8 }
+        requires kinds { All HaveKinds (rigs_of rigs.items ⟦<dyn System as System>⟧) }
+        requires cleared { All AreCleared (rigs_of rigs.items ⟦<dyn System as System>⟧) }
+        ensures session { IfOk result (λ session. IsSession session ⟦<dyn System as System>⟧) }
+        ensures setup { IfOk result (λ session. setup_in session ≡ setup.now) }
+        ensures opened { IfOk result (λ session. StandsFor setup.now (seen_in session) (opened setup.now 0)) }
+        ensures systems { IfOk result (λ session. systems_in session ⟦<dyn System as System>⟧ ++ rigs_of (spare_in session) ⟦<dyn System as System>⟧ ≡ rigs_of rigs.items ⟦<dyn System as System>⟧) }
+        ensures spare { IfOk result (λ session. spare_in session ≡ drop setup.now.players rigs.items) }
+        ensures room { IfOk result (λ session. room_in session ≡ vec_capacity rigs) }
+        ensures back { IfErr result (λ given. given ≡ rigs) }
+    {
+        let players = setup.players;
+        let Ok(exchange) = Exchange::new(alloc, players, 0, setup.delay, setup.turns) else {
+            return Err(rigs);
+        };
+        let Ok(clients) = Vec::with_capacity(alloc, players as usize) else {
+            return Err(rigs);
+        };
+        let mut clients = clients;
+        let mut rigs = rigs;
+        seat(alloc, setup, orders, &mut clients, &mut rigs);
+        Ok(Session {
+            alloc,
+            setup,
+            clients,
+            exchange,
+            rigs,
+        })
+    }
+
+    /// Clients 1 to this number begin in the match. It is called once, before every step.
+    pub fn start(&mut self, clients: u8) -> Result<(), OutOfMemory>
+        requires session { IsSession self.old ⟦<dyn System as System>⟧ }
+        requires clients { clients ≤ (setup_in self.old).players }
+        requires opened { StandsFor (setup_in self.old) (seen_in self.old) (opened (setup_in self.old) 0) }
+        ensures stands { OnOk result (StandsFor (setup_in self.old) (seen_in self.new) (opened (setup_in self.old) clients)) }
+        ensures session { OnOk result (IsSession self.new ⟦<dyn System as System>⟧) }
+        ensures finish { MayFinish self.new ⟦<dyn System as System>⟧ }
+        ensures built { StartsOnly clients (systems_in self.old ⟦<dyn System as System>⟧) (systems_in self.new ⟦<dyn System as System>⟧) }
+        ensures setup { setup_in self.new ≡ setup_in self.old }
+        ensures spare { spare_in self.new ≡ spare_in self.old }
+        ensures room { room_in self.new ≡ room_in self.old }
+    {
+        let setup = self.setup;
+        self.exchange = Exchange::new(
+            self.alloc,
+            setup.players,
+            clients,
+            setup.delay,
+            setup.turns,
+        )?;
+        start_all(setup, &mut self.clients, clients)
+    }
+
+    /// Makes one step, and answers what is printed of it.
+    pub fn step(&mut self, step: &Step) -> Result<Events, OutOfMemory>
+        requires session { IsSession self.old ⟦<dyn System as System>⟧ }
+        requires client { IsNumber (setup_in self.old) (client_in step.now) }
+        requires few { IsSmallStep step.now }
+        requires some { StandsForSome (setup_in self.old) (seen_in self.old) }
+        ensures steps { IfOk result (λ events. Steps (setup_in self.old) (seen_in self.old) step.now (seen_in self.new) events) }
+        ensures session { OnOk result (IsSession self.new ⟦<dyn System as System>⟧) }
+        ensures finish { MayFinish self.new ⟦<dyn System as System>⟧ }
+        ensures built { IfOk result (λ events. ChangeAt (AreBuiltIf (has_load events)) (client_in step.now - 1) (systems_in self.old ⟦<dyn System as System>⟧) (systems_in self.new ⟦<dyn System as System>⟧)) }
+        ensures most { ChangeAt AreBuilt (client_in step.now - 1) (systems_in self.old ⟦<dyn System as System>⟧) (systems_in self.new ⟦<dyn System as System>⟧) }
+        ensures setup { setup_in self.new ≡ setup_in self.old }
+        ensures spare { spare_in self.new ≡ spare_in self.old }
+        ensures room { room_in self.new ≡ room_in self.old }
+    {
+        let number = client_of(step);
+        let client = &mut self.clients[number as usize - 1];
+        act(self.alloc, client, &mut self.exchange, step)
+    }
+
+    /// The client of a number.
+    pub fn client(&self, number: u8) -> &Client<'a>
+        requires session { IsSession self.now ⟦<dyn System as System>⟧ }
+        requires number { IsNumber (setup_in self.now) number }
+        ensures life { life result.now ≡ life_of (seen_in self.now).lives number }
+        ensures sound { IsSound result.now ⟦<dyn System as System>⟧ }
+        ensures setup { client_setup_in result.now ≡ setup_in self.now }
+    {
+        &self.clients[number as usize - 1]
+    }
+
+    /// The frames in the pipe from a client, or in that to it, the first to be heard first.
+    pub fn pipe(&self, number: u8, up: bool) -> &[Bytes]
+        requires session { IsSession self.now ⟦<dyn System as System>⟧ }
+        requires number { IsNumber (setup_in self.now) number }
+        ensures { result.now ≡ pipe_in (if up then (seen_in self.now).held.ups else (seen_in self.now).held.downs) number }
+    {
+        self.exchange.pipe(number, up)
+    }
+
+    /// The server.
+    pub fn server(&self) -> &Server
+        ensures { result.now ≡ (seen_in self.now).held.server }
+    {
+        self.exchange.server()
+    }
+
+    /// Gives back all rigs, in the order and in the room in which they came. Those of clients come as these leave them.
+    pub fn finish(self) -> Vec<Rig>
+        requires { MayFinish self.entry ⟦<dyn System as System>⟧ }
+        ensures systems { rigs_of result.items ⟦<dyn System as System>⟧ ≡ systems_in self.entry ⟦<dyn System as System>⟧ ++ rigs_of (spare_in self.entry) ⟦<dyn System as System>⟧ }
+        ensures stand { IsSession self.entry ⟦<dyn System as System>⟧ → AreOfClients (setup_in self.entry) (seen_in self.entry).lives (rigs_of result.items ⟦<dyn System as System>⟧) }
+        ensures spare { drop (length (systems_in self.entry ⟦<dyn System as System>⟧)) result.items ≡ spare_in self.entry }
+        ensures room { vec_capacity result ≡ room_in self.entry }
+    {
+        let Session { clients, rigs, .. } = self;
+        unseat(clients, rigs)
+    }
+}
