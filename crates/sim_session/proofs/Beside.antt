@@ -291,3 +291,7 @@ cut_makes setup c old new before behind events on is told stands = record {
 pub then_ok : {V E : Type 0} {P Q : V → Type 0} (result : Result V E) → ((v : V) → P v → Q v) → IfOk result P → IfOk result Q
 then_ok (Ok v) follows p = follows v p
 then_ok (Err e) follows p = tt
+
+pub then_on : {V E : Type 0} {P Q : Type 0} (result : Result V E) → (P → Q) → OnOk result P → OnOk result Q
+then_on (Ok v) follows p = follows p
+then_on (Err e) follows p = tt

@@ -1,5 +1,9 @@
 pub mod Spelled
 pub mod Seating
+pub mod Stepping
 pub mod Beside
 pub mod Heard
-pub mod Stepping
+pub mod Starting
+pub mod Leaving
+pub mod Opening
+pub mod Moving

@@ -1,7 +1,8 @@
 -- One place of a list is written: what becomes of the lists of what stands in it.
-use Rattle.std.proofs.Common.{◌≡◌, ℕ, ◌<◌, ◌≤◌, ◌≢◌, List, length, get_or, set, map, All, refl, sym, ap, ◌∙◌, subst, arith, get_or-set_same, get_or-set_other}
+use Rattle.std.proofs.Common.{◌≡◌, ℕ, ◌<◌, ◌≤◌, ◌≢◌, List, length, drop, get_or, set, map, All, refl, sym, ap, ◌∙◌, subst, arith, get_or-set_same, get_or-set_other}
 use Rattle.std.proofs.lemmas.List.{map-set, length-set, get_or-map, length-map}
-use Rattle.std.proofs.lemmas.List.Elements.{All-set}
+use Rattle.std.proofs.lemmas.List.{drop-map}
+use Rattle.std.proofs.lemmas.List.Elements.{All-set, All-drop}
 use Rattle.sim_system.specs.Meanings.{Systems, HaveKinds}
 use Rattle.sim_session.specs.Building.{ChangeAt}
 
@@ -27,3 +28,11 @@ changed Changed f xs i x y within is change = record {
 -- each is in its place
 pub kinds_put : {X : Type 0} (f : X → Systems) (xs : List X) (i : ℕ) (y : X) → HaveKinds (f y) → All HaveKinds (map f xs) → All HaveKinds (map f (set xs i y))
 kinds_put f xs i y kinds all = subst (All HaveKinds) (sym (map-set f xs i y)) (All-set HaveKinds (map f xs) i (f y) kinds all)
+
+-- what holds of the systems of all holds of those in one place
+pub holds_there : {X : Type 0} (P : Systems → Type 0) (f : X → Systems) (xs : List X) (i : ℕ) (x : X) → i < length xs → x ≡ get_or xs i x → All P (map f xs) → P (f x)
+holds_there P f xs i x within is all = subst P (was_there f xs i x (f x) within is) (all i (f x) (omega (arith, within, length-map xs f)))
+
+-- and of those behind the first
+pub holds_behind : {X : Type 0} (P : Systems → Type 0) (f : X → Systems) (xs ys : List X) → ys ≡ drop 1 xs → All P (map f xs) → All P (map f ys)
+holds_behind P f xs ys is all = subst (λ l. All P (map f l)) (sym is) (subst (All P) (drop-map f 1 xs) (All-drop P 1 (map f xs) all))

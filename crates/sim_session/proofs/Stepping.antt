@@ -1,12 +1,13 @@
 -- What stands for a session goes on standing for it through a step of one client.
-use Rattle.std.proofs.Common.{◌≡◌, ◌⊎◌, inl, inr, ℕ, ◌-◌, ◌<◌, ◌≤◌, ◌≢◌, List, [], ◌∷◌, ◌++◌, refl, sym, ap, ◌∙◌, subst, arith, true}
+use Rattle.std.proofs.Common.{◌≡◌, ◌⊎◌, inl, inr, ℕ, ◌-◌, ◌<◌, ◌≤◌, ◌≢◌, List, [], ◌∷◌, ◌++◌, length, map, get_or, set, refl, sym, ap, ◌∙◌, subst, arith, true}
 use Rattle.std.proofs.lemmas.Bool.{cases_eq, cond-true}
 use Rattle.sim_base.specs.declared.setup.Setup.{Setup}
 use Rattle.sim_base.specs.declared.step.Event.{Event}
 use Rattle.sim_base.specs.declared.step.Step.{Step}
 use Rattle.sim_base.specs.declared.step.Step.TheVariants as step
 use Rattle.sim_base.specs.Limits.{IsSetup}
-use Rattle.sim_plain_session.specs.Clients.{Up, Down, Phase, Off, Joining, On, orders, plays, joins, bends, hears}
+use Rattle.sim_plain_session.specs.Clients as plain
+use Rattle.sim_plain_session.specs.Clients.{Up, Down, Phase, orders, plays, joins, bends, hears}
 use Rattle.sim_plain_session.specs.Pasts.{is_client}
 use Rattle.sim_plain_session.specs.Printed.{events_by, events}
 use Rattle.sim_plain_session.specs.Sessions.{Session, client_of, acts, rises, falls, leaves, stepped_by, stepped, session}
@@ -15,9 +16,10 @@ use Rattle.sim_plain_session.proofs.GoingOn.{session_goes_on}
 use Rattle.sim_session_laws.proofs.Basics.{client_of_player}
 use Rattle.sim_session_laws.proofs.StandingFacts.{pasts_are_always_valid, no_state_is_ever_refused}
 use Rattle.sim_client.specs.LifeLaws.{Lives}
-use Rattle.sim_client.specs.Lives.{Life}
+use Rattle.sim_client.specs.Lives.{Life, Off}
 use Rattle.sim_pipes.specs.Exchanges.{Held}
-use Rattle.sim_session.specs.Standing.{IsNumber, Seen, StandsFor, StandBeside, HasValidStates, Makes, Steps, life_of}
+use Rattle.sim_session.proofs.Seating.{put_there, put_elsewhere, was_there}
+use Rattle.sim_session.specs.Standing.{IsNumber, Seen, StandsFor, StandsForSome, StandBeside, HasValidStates, Makes, Steps, life_of}
 
 -- ---- a step of one client leaves all others as they are
 
@@ -30,9 +32,9 @@ falls_stay setup c [] s d apart = refl
 falls_stay setup c (said ∷ rest) s d apart = put_other c ((hears setup c (s.client c) said).phase) s.client d apart
 
 leaves_stay : (setup : Setup) (c : ℕ) (phase : Phase) (s : Session) (d : ℕ) → d ≢ c → (leaves setup c phase s).client d ≡ s.client d
-leaves_stay setup c Off s d apart = refl
-leaves_stay setup c Joining s d apart = put_other c Off s.client d apart
-leaves_stay setup c (On seat) s d apart = put_other c Off s.client d apart
+leaves_stay setup c plain.Off s d apart = refl
+leaves_stay setup c plain.Joining s d apart = put_other c plain.Off s.client d apart
+leaves_stay setup c (plain.On seat) s d apart = put_other c plain.Off s.client d apart
 
 pub others_stay : (setup : Setup) (s : Session) (x : Step) (d : ℕ) → d ≢ client_of x → (stepped_by setup s x).client d ≡ s.client d
 others_stay setup s (step.Order c command) d apart = put_other c ((orders setup c command (s.client c)).phase) s.client d apart
@@ -94,3 +96,22 @@ module _ (setup : Setup) (limits : IsSetup setup) (x : Step) (number : IsNumber 
       each s stands stand d low high (inr apart) =
           subst (Lives setup (life_of new d)) (sym (others_stay setup s x d apart))
           (subst (λ (l : Life). Lives setup l (s.client d)) (sym (others d low apart)) (stands.lives d low high))
+
+  -- there is a session for which a client and the exchange stand
+  pub some_beside : (match : Setup) (seen : Seen) (own : Life) → match ≡ setup → life_of seen.lives (client_of x) ≡ own → StandsForSome setup seen
+      → (s : Session) × HasValidStates match (client_of x) s × StandBeside match (client_of x) own seen.held s
+  some_beside match seen own same own_is some =
+      let s = session setup some.active some.steps in
+      subst (λ (m : Setup). (s : Session) × HasValidStates m (client_of x) s × StandBeside m (client_of x) own seen.held s) (sym same)
+      (s, valid_states some.active some.steps some.few, subst (λ (l : Life). StandBeside setup (client_of x) l seen.held s) own_is (beside seen s some.stands))
+
+  -- the client of the step stands in its place in a list
+  pub goes_on_at : {C : Type 0} (f : C → Life) (clients : List C) (i : ℕ) (old new : C) (before behind : Held) (answered : List Event) → length clients ≡ setup.players → i ≡ client_of x - 1
+      → old ≡ get_or clients i old → Makes setup x (f old) before (f new) behind answered
+      → Steps setup (record { lives = map f clients; held = before }) x (record { lives = map f (set clients i new); held = behind }) answered
+  goes_on_at f clients i old new before behind answered count place is makes =
+      let within : i < length clients = omega (arith, count, place, number.0, number.1) in
+      goes_on (map f clients) (map f (set clients i new)) before behind (f old) (f new) answered
+      (ap (λ k. get_or (map f clients) k Off) (sym place) ∙ was_there f clients i old Off within is)
+      (ap (λ k. get_or (map f (set clients i new)) k Off) (sym place) ∙ put_there f clients i new Off within)
+      (λ d low apart. put_elsewhere f clients i new (d - 1) Off (λ e. apart (omega (arith, e, place, low, number.0)))) makes

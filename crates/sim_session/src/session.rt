@@ -37,6 +37,7 @@ pub struct Session<'a> {
 fn start_all(setup: &Setup, clients: &mut Vec<Client<'_>>, count: u8) -> Result<(), OutOfMemory>
     requires members { AreMembers setup.now clients.old.items ⟦<dyn System as System>⟧ }
     requires count { count ≤ length clients.old.items }
+    requires kinds { All HaveKinds (systems_of clients.old.items ⟦<dyn System as System>⟧) }
     requires off { (c : ℕ) → 0 < c → c ≤ count → life_of (lives_of clients.old.items) c ≡ Off }
     ensures starts { OnOk result ((c : ℕ) → 0 < c → c ≤ count → life_of (lives_of clients.new.items) c ≡ starts setup.now) }
     ensures others { (c : ℕ) → count < c → life_of (lives_of clients.new.items) c ≡ life_of (lives_of clients.old.items) c }
@@ -164,7 +165,7 @@ impl<'a> Session<'a> {
 
     /// Gives back all rigs, in the order and in the room in which they came. Those of clients come as these leave them.
     pub fn finish(self) -> Vec<Rig>
-        requires { MayFinish self.entry ⟦<dyn System as System>⟧ }
+        requires { MayFinish self ⟦<dyn System as System>⟧ }
         ensures systems { rigs_of result.items ⟦<dyn System as System>⟧ ≡ systems_in self.entry ⟦<dyn System as System>⟧ ++ rigs_of (spare_in self.entry) ⟦<dyn System as System>⟧ }
         ensures stand { IsSession self.entry ⟦<dyn System as System>⟧ → AreOfClients (setup_in self.entry) (seen_in self.entry).lives (rigs_of result.items ⟦<dyn System as System>⟧) }
         ensures spare { drop (length (systems_in self.entry ⟦<dyn System as System>⟧)) result.items ≡ spare_in self.entry }

@@ -12,6 +12,7 @@ invariant-loop-i g l =
     record {
       count : length l.clients.items ≡ length l.fn.clients.items;
       members : AreMembersBy l.setup l.clients.items (λ i v. (goal.System-dyn g (i, v)).meaning v);
+      kinds : All HaveKinds (systems_by l.clients.items (λ i v. (goal.System-dyn g (i, v)).meaning v));
       begun : (c : ℕ) → 0 < c → c ≤ l.i → life_of (lives_of l.clients.items) c ≡ starts l.setup;
       others : (c : ℕ) → l.i < c → life_of (lives_of l.clients.items) c ≡ life_of (lives_of l.fn.clients.items) c;
       built : StartsOnly l.i (systems_by l.fn.clients.items (λ i v. (goal.System-dyn g (i, v)).meaning v)) (systems_by l.clients.items (λ i v. (goal.System-dyn g (i, v)).meaning v));

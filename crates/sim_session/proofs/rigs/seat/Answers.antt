@@ -1,0 +1,27 @@
+-- One more rig has a client.
+use Rattle.std.proofs.Common.{◌∙◌, ap, arith, drop, ◌++◌, ◌∷◌, []}
+use Rattle.std.proofs.lemmas.List.{replicate-append-replicate}
+use Rattle.sim_system.specs.Meanings.{HaveKinds}
+use Rattle.sim_system.specs.RigWords.{systems_by as rig_by}
+use Rattle.sim_client.specs.Lives.{Off}
+use Rattle.sim_client.specs.StageWords.{AreCleared}
+use Rattle.sim_session.proofs.Moving.{drop_next}
+use Rattle.sim_session.proofs.Seating.{holds_behind}
+use Rattle.sim_session.proofs.rigs.seat.Goals as goal
+
+pub loop-i-preserved : goal.loop-i-preserved
+loop-i-preserved g c =
+    let was = c.loop-i.invariant in
+    let now = c.seat_one.ensures in
+    let before = c.loop-i.rigs.items in
+    let after = c.seat_one.new.rigs.items in
+    record {
+      rigs = now.rigs ∙ ap (drop 1) was.rigs ∙ drop_next c.loop-i.i c.args.rigs.now.items;
+      systems = now.systems ∙ was.systems;
+      members = now.members;
+      off = now.off ∙ ap (λ l. l ++ Off ∷ []) was.off ∙ replicate-append-replicate c.loop-i.i 1 Off;
+      room = omega (arith, was.room, now.room);
+      kept = now.kept ∙ was.kept;
+      kinds = holds_behind HaveKinds (λ r. rig_by r (λ i v. (goal.System-dyn g (i, v)).meaning v)) before after now.rigs was.kinds;
+      cleared = holds_behind AreCleared (λ r. rig_by r (λ i v. (goal.System-dyn g (i, v)).meaning v)) before after now.rigs was.cleared;
+    }
