@@ -1,8 +1,11 @@
 -- Clients begin in the match, one after the other.
-use Rattle.std.proofs.Common.{◌≡◌, ◌⊎◌, inl, inr, ℕ, ◌+◌, ◌<◌, ◌≤◌, List, length, get_or, refl, sym, ap, ◌∙◌, subst, arith}
+use Rattle.std.proofs.Common.{◌≡◌, ◌⊎◌, inl, inr, ℕ, ◌+◌, ◌-◌, ◌<◌, ◌≤◌, List, length, map, get_or, set, refl, sym, ap, ◌∙◌, subst, arith}
 use Rattle.std.proofs.lemmas.Bool.{cases_lt}
 use Rattle.sim_system.specs.Meanings.{Meaning, Systems, IsBuiltOnceAtMost, AreBuiltOnceAtMost}
+use Rattle.sim_client.specs.Lives.{Life, Off}
 use Rattle.sim_session.specs.Building.{ChangeAt, AreBuilt, StartsOnly}
+use Rattle.sim_session.specs.Standing.{life_of}
+use Rattle.sim_session.proofs.Seating.{put_there, put_elsewhere, was_there}
 
 once_same : (m : Meaning) → IsBuiltOnceAtMost m m
 once_same m = record { low = omega arith; high = omega arith }
@@ -42,3 +45,28 @@ starts_on n old mid new starts change = record {
     by i d low under (inl before) =
         subst (λ (s : Systems). AreBuiltOnceAtMost (get_or old i d) s) (sym (change.others i d (λ e. omega (arith, before, e)))) (starts.there i d before low)
     by i d low under (inr last) = at_last i d (omega (arith, under, last)) low
+
+-- ---- what the clients are
+
+-- the first so many and one more are at the first state
+pub begun_more : {C : Type 0} (f : C → Life) (xs : List C) (i : ℕ) (new : C) (first : Life) → i < length xs → f new ≡ first → ((d : ℕ) → 0 < d → d ≤ i → life_of (map f xs) d ≡ first)
+    → (d : ℕ) → 0 < d → d ≤ i + 1 → life_of (map f (set xs i new)) d ≡ first
+begun_more f xs i new first within is begun d low high = by (cases_lt i d)
+  where
+    by : (i < d) ⊎ (d ≤ i) → life_of (map f (set xs i new)) d ≡ first
+    by (inl last) =
+        let here : d - 1 ≡ i = omega (arith, last, high) in
+        ap (λ k. get_or (map f (set xs i new)) k Off) here ∙ put_there f xs i new Off within ∙ is
+    by (inr before) = put_elsewhere f xs i new (d - 1) Off (λ e. omega (arith, before, low, e)) ∙ begun d low before
+
+-- and all behind them are as they were
+pub others_more : {C : Type 0} (f : C → Life) (old xs : List C) (i n : ℕ) (new : C) → i < n → ((d : ℕ) → i < d → life_of (map f xs) d ≡ life_of (map f old) d)
+    → (d : ℕ) → n < d → life_of (map f (set xs i new)) d ≡ life_of (map f old) d
+others_more f old xs i n new under others d above = put_elsewhere f xs i new (d - 1) Off (λ e. omega (arith, under, above, e)) ∙ others d (omega (arith, under, above))
+
+-- the next is as it was
+pub next_was : {C : Type 0} (f : C → Life) (old xs : List C) (i : ℕ) (x : C) → i < length xs → x ≡ get_or xs i x → ((d : ℕ) → i < d → life_of (map f xs) d ≡ life_of (map f old) d)
+    → life_of (map f old) (i + 1) ≡ f x
+next_was f old xs i x within is others =
+    let here : i + 1 - 1 ≡ i = omega arith in
+    sym (others (i + 1) (omega arith)) ∙ ap (λ k. get_or (map f xs) k Off) here ∙ was_there f xs i x Off within is
