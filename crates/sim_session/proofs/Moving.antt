@@ -13,11 +13,11 @@ moved_first f h xs x [] y some is same = absurd (omega (arith, some))
 moved_first f h xs x (z ∷ ys) y some is same = moved f h xs x ys z (same ∙ ap h is)
 
 -- one more stands in front of those that stood behind so many
-pub drop_more : {X : Type 0} (n k : ℕ) (x : X) (xs : List X) → 0 < k → k ≤ n → drop (n - (k - 1)) (x ∷ xs) ≡ drop (n - k) xs
-drop_more n k x xs some few = ap (λ j. drop j (x ∷ xs)) (more n k some few)
+pub drop_back : {X : Type 0} (n k j : ℕ) (x : X) (xs ys : List X) → k ≡ j + 1 → k ≤ n → ys ≡ x ∷ xs → drop (n - j) ys ≡ drop (n - k) xs
+drop_back n k j x xs ys one few is = ap (λ l. drop (n - j) l) is ∙ ap (λ i. drop i (x ∷ xs)) (more one few)
   where
-    more : (n k : ℕ) → 0 < k → k ≤ n → n - (k - 1) ≡ suc (n - k)
-    more n k some few = omega (arith, some, few)
+    more : k ≡ j + 1 → k ≤ n → n - j ≡ suc (n - k)
+    more one few = omega (arith, one, few)
 
 -- one more is taken away
 drop_suc : {X : Type 0} (i : ℕ) (xs : List X) → drop 1 (drop i xs) ≡ drop (suc i) xs

@@ -1,8 +1,9 @@
 -- One place of a list is written: what becomes of the lists of what stands in it.
-use Rattle.std.proofs.Common.{◌≡◌, ℕ, ◌<◌, ◌≤◌, ◌≢◌, List, length, drop, get_or, set, map, All, refl, sym, ap, ◌∙◌, subst, arith, get_or-set_same, get_or-set_other}
+use Rattle.std.proofs.Common.{◌≡◌, ℕ, ◌<◌, ◌≤◌, ◌≢◌, List, [], ◌∷◌, ◌++◌, length, drop, get_or, set, map, All, refl, sym, ap, ◌∙◌, subst, arith, get_or-set_same, get_or-set_other, length-append}
 use Rattle.std.proofs.lemmas.List.{map-set, length-set, get_or-map, length-map}
-use Rattle.std.proofs.lemmas.List.{drop-map}
+use Rattle.std.proofs.lemmas.List.{drop-map, get_or_append_left, map-append}
 use Rattle.std.proofs.lemmas.List.Elements.{All-set, All-drop}
+use Rattle.std.proofs.Math.Seq.{get_or-append_seam}
 use Rattle.sim_system.specs.Meanings.{Systems, HaveKinds}
 use Rattle.sim_session.specs.Building.{ChangeAt}
 
@@ -36,3 +37,14 @@ holds_there P f xs i x within is all = subst P (was_there f xs i x (f x) within 
 -- and of those behind the first
 pub holds_behind : {X : Type 0} (P : Systems → Type 0) (f : X → Systems) (xs ys : List X) → ys ≡ drop 1 xs → All P (map f xs) → All P (map f ys)
 holds_behind P f xs ys is all = subst (λ l. All P (map f l)) (sym is) (subst (All P) (drop-map f 1 xs) (All-drop P 1 (map f xs) all))
+
+-- and of those in front of others
+pub holds_in_front : {X : Type 0} (P : X → Type 0) (xs ys zs : List X) → xs ++ ys ≡ zs → All P zs → All P xs
+holds_in_front P xs ys zs is all = λ k d within. subst P (get_or_append_left xs ys d k within) (subst (All P) (sym is) all k d (omega (arith, within, length-append xs ys)))
+
+-- and of those in the last place
+pub holds_last : {X : Type 0} (P : Systems → Type 0) (f : X → Systems) (xs left : List X) (x : X) → xs ≡ left ++ x ∷ [] → All P (map f xs) → P (f x)
+holds_last P f xs left x is all = subst P (get_or-append_seam (map f left) (f x) [] (f x)) (here (length (map f left)) (f x) (omega (arith, length-append (map f left) (f x ∷ []))))
+  where
+    here : All P (map f left ++ f x ∷ [])
+    here = subst (All P) (ap (map f) is ∙ map-append f left (x ∷ [])) all

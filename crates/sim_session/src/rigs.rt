@@ -85,9 +85,9 @@ fn put_back(rigs: &mut Vec<Rig>, rig: Rig)
 pub fn unseat(clients: Vec<Client<'_>>, rigs: Vec<Rig>) -> Vec<Rig>
     requires kinds { All HaveKinds (systems_of clients.items ⟦<dyn System as System>⟧) }
     requires room { length clients.items + length rigs.items ≤ vec_capacity rigs }
-    ensures systems { rigs_of result.items ⟦<dyn System as System>⟧ ≡ systems_of clients.entry.items ⟦<dyn System as System>⟧ ++ rigs_of rigs.entry.items ⟦<dyn System as System>⟧ }
-    ensures rest { drop (length clients.entry.items) result.items ≡ rigs.entry.items }
-    ensures kept { vec_capacity result ≡ vec_capacity rigs.entry }
+    ensures systems { rigs_of result.items ⟦<dyn System as System>⟧ ≡ systems_of clients.entry.items ⟦<dyn System as System>⟧ ++ rigs_of rigs.items ⟦<dyn System as System>⟧ }
+    ensures rest { drop (length clients.entry.items) result.items ≡ rigs.items }
+    ensures kept { vec_capacity result ≡ vec_capacity rigs }
 {
     let mut clients = clients;
     let mut rigs = rigs;

@@ -4,8 +4,8 @@ use Rattle.sim_system.specs.Meanings.{HaveKinds}
 use Rattle.sim_session.specs.SessionWords.{rigs_by, systems_by}
 use Rattle.sim_session.proofs.rigs.unseat.Given as goal
 
-abbrev pub invariant-loop-clients : goal.invariant-loop-clients
-invariant-loop-clients g l =
+abbrev pub invariant-loop-client : goal.invariant-loop-client
+invariant-loop-client g l =
     record {
       systems : systems_by l.clients.items (λ i v. (goal.System-dyn g (i, v)).meaning v) ++ rigs_by l.rigs.items (λ i v. (goal.System-dyn g (i, v)).meaning v)
           ≡ systems_by l.fn.clients.items (λ i v. (goal.System-dyn g (i, v)).meaning v) ++ rigs_by l.fn.rigs.items (λ i v. (goal.System-dyn g (i, v)).meaning v);
@@ -16,5 +16,5 @@ invariant-loop-clients g l =
       kinds : All HaveKinds (systems_by l.clients.items (λ i v. (goal.System-dyn g (i, v)).meaning v));
     }
 
-abbrev pub measure-loop-clients : goal.measure-loop-clients
-measure-loop-clients g l = length l.clients.items
+abbrev pub decreases-loop-client : goal.decreases-loop-client
+decreases-loop-client g l = length l.clients.items
