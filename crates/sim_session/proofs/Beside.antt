@@ -1,5 +1,5 @@
 -- A client that acts beside the exchange makes just what the definition of a session says, over plain values.
-use Rattle.std.proofs.Common.{◌≡◌, ◌⊎◌, inl, inr, ℕ, ℤ, suc, ◌+◌, ◌≤◌, List, [], ◌∷◌, ◌++◌, map, refl, sym, ap, ◌∙◌, subst, arith, append-nil, Bool, true, false, if◌then◌else◌, ◌&&◌, All, Result, Ok, Err}
+use Rattle.std.proofs.Common.{◌≡◌, ◌⊎◌, inl, inr, ℕ, ℤ, suc, List, [], ◌∷◌, ◌++◌, map, refl, sym, ap, ◌∙◌, subst, arith, append-nil, Bool, true, false, if◌then◌else◌, All, Result, Ok, Err}
 use Rattle.std.specs.Prelude.{Option, Some, None, OnOk, IfOk}
 use Rattle.std.proofs.lemmas.Bool.{cases_eq, eq-eqb, ne_eqb, cond-true, cond-false, false≢true}
 use Rattle.std.proofs.lemmas.List.Elements.{All-nil, All-cons}
@@ -36,7 +36,7 @@ use Rattle.sim_pipes.specs.Pipes.{AreFrames, pipe_in}
 use Rattle.sim_wire.specs.Fits.{IsUpFrame, IsSmallUp}
 use Rattle.sim_session.specs.Building.{AreBuilt, AreBuiltIf}
 use Rattle.sim_session.specs.Printing.{said_events, is_off}
-use Rattle.sim_session.specs.Standing.{said_by, HasValidStates, StandBeside, Makes}
+use Rattle.sim_session.specs.Standing.{said_by, StandBeside, Makes}
 use Rattle.sim_session.proofs.Stepping.{rises_stay}
 
 -- ---- systems that were kept
@@ -171,9 +171,9 @@ told_makes setup x old new before behind did (Ok events) act shown acted stepped
     let done = done_by act old did new answers in
     record {
       stand = λ s valid at.
-        let follows = law (s.client c) at.lives in
-        subst (StandBeside setup c new behind) (sym (stepped s))
-        (acts_beside setup c s old new act shown (acted (s.client c)) behind follows done.0 (sent s (acted (s.client c)) at.held (done.1 ∙ follows.said)));
+          let follows = law (s.client c) at.lives in
+          subst (StandBeside setup c new behind) (sym (stepped s))
+          (acts_beside setup c s old new act shown (acted (s.client c)) behind follows done.0 (sent s (acted (s.client c)) at.held (done.1 ∙ follows.said)));
       printed = λ s valid at. told ∙ ap (said_events c) done.1 ∙ seen ∙ (law (s.client c) at.lives).printed ∙ sym (printed s);
     }
 
@@ -231,10 +231,10 @@ bend_makes setup c id health old new held b events tells told =
     let done = told_by setup (event.Bend c) act old b new tells in
     record {
       stand = λ s valid at.
-        let acted = plain.bends setup c id health (s.client c) in
-        let follows = bending_follows setup c id health old (s.client c) at.lives in
-        let none = nothing_said setup acted.says (sym (bends_silent setup id health old) ∙ follows.said) in
-        acts_beside setup c s old new act (shows_after setup (event.Bend c) act) acted held follows done.0 (silent setup held s c acted none at.held);
+          let acted = plain.bends setup c id health (s.client c) in
+          let follows = bending_follows setup c id health old (s.client c) at.lives in
+          let none = nothing_said setup acted.says (sym (bends_silent setup id health old) ∙ follows.said) in
+          acts_beside setup c s old new act (shows_after setup (event.Bend c) act) acted held follows done.0 (silent setup held s c acted none at.held);
       printed = λ s valid at. told ∙ done.1 ∙ (bending_follows setup c id health old (s.client c) at.lives).printed;
     }
 
@@ -260,7 +260,7 @@ off_phase setup (On player) phase lives off = absurd (false≢true off)
 pub off_makes : (setup : Setup) (c : ℕ) (life : Life) (held : Held) → is_off life ≡ true → Makes setup (step.Cut c) life held life held []
 off_makes setup c life held off = record {
   stand = λ s valid at.
-    subst (λ (phase : Phase). StandBeside setup c life held (leaves setup c phase s)) (sym (off_phase setup life (s.client c) at.lives off)) at;
+      subst (λ (phase : Phase). StandBeside setup c life held (leaves setup c phase s)) (sym (off_phase setup life (s.client c) at.lives off)) at;
   printed = λ s valid at. sym (ap (leave_events c) (off_phase setup life (s.client c) at.lives off));
 }
 

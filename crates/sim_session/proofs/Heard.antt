@@ -1,9 +1,8 @@
 -- What a client of a session hears loads as the state that was meant, and what it does then is what the definition says, over
 -- plain values.
-use Rattle.std.proofs.Common.{◌≡◌, ℕ, Bool, true, false, List, [], ◌∷◌, All, Option, Some, None, Result, Ok, Err, refl, sym, ap, ◌∙◌, subst, map, if◌then◌else◌, ◌&&◌, nat_lt, ◌==◌, ◌++◌}
+use Rattle.std.proofs.Common.{◌≡◌, ℕ, Bool, true, false, List, [], ◌∷◌, All, Option, Some, None, Ok, refl, sym, ap, ◌∙◌, subst, map, if◌then◌else◌, ◌&&◌, nat_lt, ◌==◌, ◌++◌}
 use Rattle.std.proofs.lemmas.List.Elements.{All-nil, All-cons}
 use Rattle.std.proofs.lemmas.Option.{none-some}
-use Rattle.sim_base.specs.declared.command.PlayerCommand.{PlayerCommand}
 use Rattle.sim_base.specs.declared.setup.Setup.{Setup}
 use Rattle.sim_base.specs.declared.state.State.{State}
 use Rattle.sim_base.specs.declared.step.Event.{Event}
@@ -21,7 +20,6 @@ use Rattle.sim_plain_session.specs.Bytes.{spelled}
 use Rattle.sim_plain_session.specs.Clients as plain
 use Rattle.sim_plain_session.specs.Clients.{Down, Phase, Acted}
 use Rattle.sim_plain_session.specs.Pasts.{is_client}
-use Rattle.sim_plain_session.specs.Players.{Player}
 use Rattle.sim_plain_session.specs.Printed.{fall_events}
 use Rattle.sim_plain_session.specs.Sessions.{Session, acts, falls}
 use Rattle.sim_system.specs.Meanings.{Systems, AreBuiltOnceAtMost}
@@ -170,7 +168,7 @@ load_built : (setup : Setup) (c : ℕ) (said : Down) (old : Life) (it : Told) (d
     → AreBuiltIf (has_load (heard_events setup c new (refusal_in it) (is_state it) (has_happened did))) S T
 load_built setup c said old it did new S T is =
     subst (λ (d : Told). Answers (hears setup (loaded_of setup said) d old) old (Ok did) new → (may_load old d ≡ false → AreKept S T) → AreBuiltOnceAtMost S T
-        → AreBuiltIf (has_load (heard_events setup c new (refusal_in d) (is_state d) (has_happened did))) S T) (sym is) (by old said)
+    → AreBuiltIf (has_load (heard_events setup c new (refusal_in d) (is_state d) (has_happened did))) S T) (sym is) (by old said)
   where
     loads : (done : ℕ) (past : Past) (did : Did) → Answers (hears setup (Some (after setup past)) (down.State done (spelled setup past)) Joining) Joining (Ok did) new → AreBuiltOnceAtMost S T
         → AreBuiltIf (has_load (heard_events setup c new None true (has_happened did))) S T
@@ -205,19 +203,19 @@ module _ (setup : Setup) (c : ℕ) (old : Life) (down : Told) (did : Did) (new :
       → Makes setup (step.Down c) old before new behind events
   heard_makes sent = record {
     stand = λ s valid at.
-      let h = head setup c s down mid (taken s at.held) in
-      let act = hears setup (loaded_of setup h.said) down old in
-      let done = done_by act old did new (answered setup c s valid down mid h old did new does) in
-      let as_plain = follows s valid at h in
-      let acted = plain.hears setup c (s.client c) h.said in
-      let left : Session = record s { downs = put c h.rest s.downs } in
-      subst (λ (downs : List Down). StandBeside setup c new behind (falls setup c downs s)) (sym h.first)
-      (acts_beside setup c left old new act (hearing_shown setup c down act) acted behind as_plain done.0 (sent left acted h.held (done.1 ∙ as_plain.said)));
+        let h = head setup c s down mid (taken s at.held) in
+        let act = hears setup (loaded_of setup h.said) down old in
+        let done = done_by act old did new (answered setup c s valid down mid h old did new does) in
+        let as_plain = follows s valid at h in
+        let acted = plain.hears setup c (s.client c) h.said in
+        let left : Session = record s { downs = put c h.rest s.downs } in
+        subst (λ (downs : List Down). StandBeside setup c new behind (falls setup c downs s)) (sym h.first)
+        (acts_beside setup c left old new act (hearing_shown setup c down act) acted behind as_plain done.0 (sent left acted h.held (done.1 ∙ as_plain.said)));
     printed = λ s valid at.
-      let h = head setup c s down mid (taken s at.held) in
-      let act = hears setup (loaded_of setup h.said) down old in
-      told ∙ heard_shown setup c down act old did new (answered setup c s valid down mid h old did new does) ∙ (follows s valid at h).printed
-      ∙ sym (ap (fall_events setup c (s.client c)) h.first);
+        let h = head setup c s down mid (taken s at.held) in
+        let act = hears setup (loaded_of setup h.said) down old in
+        told ∙ heard_shown setup c down act old did new (answered setup c s valid down mid h old did new does) ∙ (follows s valid at h).printed
+        ∙ sym (ap (fall_events setup c (s.client c)) h.first);
   }
 
   -- systems were built only by a load

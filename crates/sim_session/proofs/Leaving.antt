@@ -1,5 +1,5 @@
 -- The systems of each client stand for what it is.
-use Rattle.std.proofs.Common.{◌≡◌, ℕ, zero, suc, ◌-◌, ◌<◌, ◌≤◌, List, [], ◌∷◌, ◌++◌, length, get_or, map, All, refl, sym, ap, ◌∙◌, subst, arith}
+use Rattle.std.proofs.Common.{◌≡◌, ℕ, zero, suc, ◌-◌, ◌<◌, List, [], ◌∷◌, ◌++◌, length, get_or, sym, subst, arith}
 use Rattle.std.specs.Prelude.{Option, Some, None}
 use Rattle.std.proofs.lemmas.List.{get_or_append_left, length-map}
 use Rattle.std.proofs.lemmas.List.Elements.{All-head, All-tail}
@@ -11,7 +11,7 @@ use Rattle.sim_client.specs.declared.client.Client.{Client}
 use Rattle.sim_client.specs.declared.stage.Stage.{Stage}
 use Rattle.sim_client.specs.declared.stage.Stage.TheVariants as stage
 use Rattle.sim_client.specs.Lives.{Off}
-use Rattle.sim_client.specs.StageWords.{AreOf, IsReady, IsSoundAt, life_at, nowhere, systems_on}
+use Rattle.sim_client.specs.StageWords.{AreOf, IsReady, life_at, nowhere, systems_on}
 use Rattle.sim_session.specs.SessionWords.{AreMembersBy, AreOfClients, IsMemberBy, lives_of, systems_by}
 
 of_stage : {X : Type 0} {F : X → Type 0} (setup : Setup) (at : Stage) (board : Option (Board X F)) (m : (i : X) → F i → Meaning) → IsReady setup at board m → AreOf setup (life_at at board) (systems_on board m)

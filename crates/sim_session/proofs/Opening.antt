@@ -1,10 +1,10 @@
 -- Clients that have begun, and others that are off, stand for the session that is opened.
-use Rattle.std.proofs.Common.{◌≡◌, ◌⊎◌, inl, inr, ℕ, ◌<◌, ◌≤◌, min, List, [], refl, sym, ap, ◌∙◌, subst, arith, Bool, true, false, ◌&&◌, nat_lt, nat_le}
+use Rattle.std.proofs.Common.{◌≡◌, ◌⊎◌, inl, inr, ℕ, ◌<◌, ◌≤◌, min, List, [], refl, sym, subst, arith, true, false, nat_lt, nat_le}
 use Rattle.std.proofs.lemmas.Bool.{cases_lt, and_from, cond-true, cond-false, lt-ltb, le-leb}
 use Rattle.sim_base.specs.declared.setup.Setup.{Setup}
 use Rattle.sim_plain_session.specs.Clients as plain
 use Rattle.sim_plain_session.specs.Clients.{Phase, begun}
-use Rattle.sim_plain_session.specs.Sessions.{Session, is_active, opened}
+use Rattle.sim_plain_session.specs.Sessions.{is_active, opened}
 use Rattle.sim_client.specs.LifeLaws.{Lives}
 use Rattle.sim_client.specs.Lives.{Life, Off, Joining, On, starts}
 use Rattle.sim_client.proofs.Following.{starting_follows}

@@ -1,5 +1,5 @@
 -- One place of a list is written: what becomes of the lists of what stands in it.
-use Rattle.std.proofs.Common.{◌≡◌, ℕ, ◌<◌, ◌≤◌, ◌≢◌, List, [], ◌∷◌, ◌++◌, length, drop, get_or, set, map, All, refl, sym, ap, ◌∙◌, subst, arith, get_or-set_same, get_or-set_other, length-append}
+use Rattle.std.proofs.Common.{◌≡◌, ℕ, ◌<◌, ◌≢◌, List, [], ◌∷◌, ◌++◌, length, drop, get_or, set, map, All, sym, ap, ◌∙◌, subst, arith, get_or-set_same, get_or-set_other, length-append}
 use Rattle.std.proofs.lemmas.List.{map-set, length-set, get_or-map, length-map}
 use Rattle.std.proofs.lemmas.List.{drop-map, get_or_append_left, map-append}
 use Rattle.std.proofs.lemmas.List.Elements.{All-set, All-drop}

@@ -1,8 +1,8 @@
 -- A valid state has no more bytes than any may have: 70, and 568 for each row.
-use Rattle.std.proofs.Common.{◌≡◌, ℕ, suc, ◌+◌, ◌*◌, ◌≤◌, ℤ, List, [], ◌∷◌, ◌++◌, length, All, Option, Some, None, refl, arith, length-append}
+use Rattle.std.proofs.Common.{◌≡◌, ℕ, suc, ◌+◌, ◌*◌, ◌≤◌, List, [], ◌∷◌, ◌++◌, length, All, Option, Some, None, arith, length-append}
 use Rattle.std.proofs.Math.Nat.{suc-mul}
 use Rattle.std.specs.Prelude.{IfSome, option_map, codes}
-use Rattle.std.specs.List.{flat_map, filter_map, cons_option}
+use Rattle.std.specs.List.{flat_map, cons_option}
 use Rattle.std.proofs.lemmas.List.Elements.{All-head, All-tail}
 use Rattle.sim_base.specs.declared.place.Point.{Point}
 use Rattle.sim_base.specs.declared.state.Motion.{Motion}
@@ -15,7 +15,7 @@ use Rattle.sim_base.specs.Bytes.{u16_bytes, u32_bytes, u64_bytes, i32_bytes}
 use Rattle.sim_base.specs.Spelling.{entity_bytes, entity_part, position_bytes, position_part, owner_bytes, owner_part, health_bytes, health_part, attack_bytes, attack_part, moving_bytes, motion_part, point_bytes, rows_with, section, sections, clock_bytes, version, spelling}
 use Rattle.sim_bytes.specs.Numbers.{length-u16_bytes, length-u32_bytes, length-u64_bytes, length-i32_bytes}
 use Rattle.sim_sections.specs.Lengths.{length-moving_bytes}
-use Rattle.sim_sections.specs.Rows.{with_id, IsShort, HasShortWay}
+use Rattle.sim_sections.specs.Rows.{IsShort, HasShortWay}
 use Rattle.sim_codec.proofs.ShortWays.{short_ways}
 use Rattle.sim_wire.specs.Fits.{IsShortState}
 
@@ -61,7 +61,13 @@ sections_few rows short =
     let e = rows_few 527 moving_bytes motion_part rows (λ row h. moving row.id row.motion h) short in
     let f = rows_few 10 attack_bytes attack_part rows (λ row h. have attack_bytes 10 row.id (attack_part row) (λ x. omega (arith, length-append (u32_bytes row.id) (u32_bytes x.0 ++ u16_bytes x.1), length-append (u32_bytes x.0) (u16_bytes x.1), length-u32_bytes row.id, length-u32_bytes x.0, length-u16_bytes x.1))) short in
     omega (
-      arith, a, b, c, d, e, f,
+      arith,
+      a,
+      b,
+      c,
+      d,
+      e,
+      f,
       section_long 1 entity_bytes (rows_with entity_part rows),
       section_long 2 position_bytes (rows_with position_part rows),
       section_long 3 owner_bytes (rows_with owner_part rows),
@@ -80,12 +86,18 @@ states_are_short setup state limits valid =
     let clock = clock_bytes state in
     let rest = sections state.rows in
     omega (
-      arith, sections_few state.rows (short_ways 1 setup state valid), valid.few, limits.id,
+      arith,
+      sections_few state.rows (short_ways 1 setup state valid),
+      valid.few,
+      limits.id,
       length-append (codes "RSIM") (u32_bytes version ++ (setup.id ++ (clock ++ rest))),
       length-append (u32_bytes version) (setup.id ++ (clock ++ rest)),
       length-append setup.id (clock ++ rest),
       length-append clock rest,
       length-append (u32_bytes state.turn) (u32_bytes state.next ++ u64_bytes state.word),
       length-append (u32_bytes state.next) (u64_bytes state.word),
-      length-u32_bytes version, length-u32_bytes state.turn, length-u32_bytes state.next, length-u64_bytes state.word,
+      length-u32_bytes version,
+      length-u32_bytes state.turn,
+      length-u32_bytes state.next,
+      length-u64_bytes state.word,
     )

@@ -1,5 +1,5 @@
 -- What stands for a session goes on standing for it through a step of one client.
-use Rattle.std.proofs.Common.{◌≡◌, ◌⊎◌, inl, inr, ℕ, ◌-◌, ◌<◌, ◌≤◌, ◌≢◌, List, [], ◌∷◌, ◌++◌, length, map, get_or, set, refl, sym, ap, ◌∙◌, subst, arith, true}
+use Rattle.std.proofs.Common.{◌≡◌, ◌⊎◌, inl, inr, ℕ, ◌-◌, ◌<◌, ◌≤◌, ◌≢◌, List, [], ◌∷◌, length, map, get_or, set, refl, sym, ap, ◌∙◌, subst, arith, true}
 use Rattle.std.proofs.lemmas.Bool.{cases_eq, cond-true}
 use Rattle.sim_base.specs.declared.setup.Setup.{Setup}
 use Rattle.sim_base.specs.declared.step.Event.{Event}
@@ -10,7 +10,7 @@ use Rattle.sim_plain_session.specs.Clients as plain
 use Rattle.sim_plain_session.specs.Clients.{Up, Down, Phase, orders, plays, joins, bends, hears}
 use Rattle.sim_plain_session.specs.Pasts.{is_client}
 use Rattle.sim_plain_session.specs.Printed.{events_by, events}
-use Rattle.sim_plain_session.specs.Sessions.{Session, client_of, acts, rises, falls, leaves, stepped_by, stepped, session}
+use Rattle.sim_plain_session.specs.Sessions.{Session, client_of, rises, falls, leaves, stepped_by, stepped, session}
 use Rattle.sim_plain_session.proofs.Functions.{put_other}
 use Rattle.sim_plain_session.proofs.GoingOn.{session_goes_on}
 use Rattle.sim_session_laws.proofs.Basics.{client_of_player}
@@ -72,13 +72,13 @@ module _ (setup : Setup) (limits : IsSetup setup) (x : Step) (number : IsNumber 
       → Makes setup x was before now behind answered → Steps setup (record { lives = old; held = before }) x (record { lives = new; held = behind }) answered
   goes_on old new before behind was now answered was_is now_is others makes = record {
     stands = λ active steps few stands.
-      let s = session setup active steps in
-      let stand = made active steps few stands in
-      subst (StandsFor setup (record { lives = new; held = behind })) (sym (session_goes_on setup active steps x ∙ stepped_is s))
-      (record { lives = λ d low high. each s stands stand d low high (cases_eq d (client_of x)); held = stand.held });
+        let s = session setup active steps in
+        let stand = made active steps few stands in
+        subst (StandsFor setup (record { lives = new; held = behind })) (sym (session_goes_on setup active steps x ∙ stepped_is s))
+        (record { lives = λ d low high. each s stands stand d low high (cases_eq d (client_of x)); held = stand.held });
     printed = λ active steps few stands.
-      let s = session setup active steps in
-      makes.printed s (valid_states active steps few) (at s stands) ∙ sym (events_are s);
+        let s = session setup active steps in
+        makes.printed s (valid_states active steps few) (at s stands) ∙ sym (events_are s);
   }
     where
       at : (s : Session) → StandsFor setup (record { lives = old; held = before }) s → StandBeside setup (client_of x) was before s

@@ -10,7 +10,7 @@ use Rattle.sim_system.specs.RigWords as rig
 use Rattle.sim_client.specs.declared.client.Client.{Client}
 use Rattle.sim_client.specs.ClientWords as client
 use Rattle.sim_client.specs.Lives.{Life}
-use Rattle.sim_client.specs.StageWords.{AreCleared, AreOf, IsSoundAt, nowhere, systems_on}
+use Rattle.sim_client.specs.StageWords.{AreOf, IsSoundAt, nowhere, systems_on}
 use Rattle.sim_session.specs.Standing.{Seen, life_of}
 use Rattle.sim_session.specs.declared.session.Session.{Session}
 

@@ -1,5 +1,5 @@
 -- The client may be bent, and is then; or nothing happens.
-use Rattle.std.proofs.Common.{◌≡◌, false, true, refl, subst, ◌∙◌, ap}
+use Rattle.std.proofs.Common.{false, true, subst, ◌∙◌, ap}
 use Rattle.sim_client.specs.ClientWords.{Tells}
 use Rattle.sim_client.specs.LifeLaws.{shows}
 use Rattle.sim_client.specs.Lives.{bends}
@@ -24,5 +24,5 @@ returns-clause-made g c =
     let old_life = life_at client.stage client.board in
     let new_life = life_at new.stage new.board in
     then_ok c.bent.result (λ events told. bend_makes client.setup.now c.args.number c.args.entity c.args.health old_life new_life c.args.exchange.now true events
-      (subst (λ b. Tells (bends client.setup.now c.args.entity c.args.health old_life) old_life b new_life) c.if-not-bend.false c.bend.ensures.tells)
-      (told ∙ ap (λ s. shows s (event.Bend c.args.number) new_life) c.bend.ensures.setup)) c.bent.ensures
+    (subst (λ b. Tells (bends client.setup.now c.args.entity c.args.health old_life) old_life b new_life) c.if-not-bend.false c.bend.ensures.tells)
+    (told ∙ ap (λ s. shows s (event.Bend c.args.number) new_life) c.bend.ensures.setup)) c.bent.ensures

@@ -9,4 +9,4 @@ returns-clause-made g c =
     let client = c.args.client.now in
     let new = c.cut.new.self in
     then_ok c.one.result (λ events told. cut_makes client.setup.now c.args.number (life_at client.stage client.board) (life_at new.stage new.board) c.args.exchange.now c.cut-2.new.self events
-      (sym c.is_off.ensures ∙ c.if-is_off.false) c.cut.ensures.off told (λ s conveys. c.in_ok-cut.ensures.stands client.setup.now s conveys)) c.one.ensures
+    (sym c.is_off.ensures ∙ c.if-is_off.false) c.cut.ensures.off told (λ s conveys. c.in_ok-cut.ensures.stands client.setup.now s conveys)) c.one.ensures

@@ -1,5 +1,5 @@
 -- A message is taken out of the pipe and heard, and what the client says goes up.
-use Rattle.std.proofs.Common.{◌≡◌, All, sym, subst, ◌∙◌}
+use Rattle.std.proofs.Common.{All, sym, subst, ◌∙◌}
 use Rattle.sim_base.specs.declared.step.Step.TheVariants as step
 use Rattle.sim_client.specs.StageWords.{life_at}
 use Rattle.sim_pipes.specs.Exchanges.{Falls}

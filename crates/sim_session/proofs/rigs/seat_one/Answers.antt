@@ -1,5 +1,5 @@
 -- The first rig is cleared and complete, and its client is one of the match.
-use Rattle.std.proofs.Common.{◌≡◌, ◌++◌, ◌∷◌, [], sym, subst, ◌∙◌, refl}
+use Rattle.std.proofs.Common.{◌∷◌, [], sym, subst}
 use Rattle.std.proofs.lemmas.List.Elements.{All-append, All-cons, All-nil}
 use Rattle.sim_system.specs.Meanings.{HaveKinds}
 use Rattle.sim_system.specs.RigWords.{systems_by as rig_by}

@@ -1,5 +1,5 @@
 -- The last client hands its rig back, in front of those that are back.
-use Rattle.std.proofs.Common.{◌≡◌, ◌+◌, ◌∷◌, [], ◌++◌, length, map, sym, subst, ap, ◌∙◌, arith, All, length-append}
+use Rattle.std.proofs.Common.{◌≡◌, ◌+◌, ◌∷◌, [], ◌++◌, length, sym, ap, ◌∙◌, arith, length-append}
 use Rattle.std.proofs.lemmas.List.{map-append}
 use Rattle.sim_client.specs.StageWords.{systems_on}
 use Rattle.sim_system.specs.Meanings.{HaveKinds}

@@ -1,5 +1,5 @@
 -- One more client has begun.
-use Rattle.std.proofs.Common.{◌≡◌, ◌+◌, ◌<◌, length, get_or, set, sym, subst, ap, ◌∙◌, arith}
+use Rattle.std.proofs.Common.{◌+◌, ◌<◌, length, set, sym, subst, ap, ◌∙◌, arith}
 use Rattle.std.proofs.lemmas.List.{length-set}
 use Rattle.std.proofs.lemmas.List.Elements.{All-set}
 use Rattle.sim_client.specs.Lives.{starts}
@@ -51,7 +51,7 @@ returns-in_err-start-clause-built g c =
     starts_more (i + 1) c.args.count (systems_by c.args.clients.now.items (λ i v. (goal.System-dyn g (i, v)).meaning v)) (systems_by (set clients i new) (λ i v. (goal.System-dyn g (i, v)).meaning v))
     (omega (arith, c.loop-i-test.true))
     (starts_on i (systems_by c.args.clients.now.items (λ i v. (goal.System-dyn g (i, v)).meaning v)) (systems_by clients (λ i v. (goal.System-dyn g (i, v)).meaning v))
-      (systems_by (set clients i new) (λ i v. (goal.System-dyn g (i, v)).meaning v)) was.built (changed AreBuilt (λ x. systems_on x.board (λ i v. (goal.System-dyn g (i, v)).meaning v)) clients i client new within is (record { kinds = c.start.ensures.kinds; most = c.start.ensures.most })))
+    (systems_by (set clients i new) (λ i v. (goal.System-dyn g (i, v)).meaning v)) was.built (changed AreBuilt (λ x. systems_on x.board (λ i v. (goal.System-dyn g (i, v)).meaning v)) clients i client new within is (record { kinds = c.start.ensures.kinds; most = c.start.ensures.most })))
 
 pub loop-i-preserved : goal.loop-i-preserved
 loop-i-preserved g c =
@@ -70,5 +70,5 @@ loop-i-preserved g c =
       begun = begun_more (λ x. life_at x.stage x.board) clients i new (starts c.args.setup.now) within (c.in_ok-start.ensures.starts ∙ ap starts member.same) was.begun;
       others = others_more (λ x. life_at x.stage x.board) c.args.clients.now.items clients i (i + 1) new (omega arith) was.others;
       built = (starts_on i (systems_by c.args.clients.now.items (λ i v. (goal.System-dyn g (i, v)).meaning v)) (systems_by clients (λ i v. (goal.System-dyn g (i, v)).meaning v))
-      (systems_by (set clients i new) (λ i v. (goal.System-dyn g (i, v)).meaning v)) was.built (changed AreBuilt (λ x. systems_on x.board (λ i v. (goal.System-dyn g (i, v)).meaning v)) clients i client new within is (record { kinds = c.start.ensures.kinds; most = c.start.ensures.most })));
+          (systems_by (set clients i new) (λ i v. (goal.System-dyn g (i, v)).meaning v)) was.built (changed AreBuilt (λ x. systems_on x.board (λ i v. (goal.System-dyn g (i, v)).meaning v)) clients i client new within is (record { kinds = c.start.ensures.kinds; most = c.start.ensures.most })));
     }

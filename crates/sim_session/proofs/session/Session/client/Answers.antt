@@ -1,7 +1,6 @@
 -- The client of a number is a member of the match.
-use Rattle.std.proofs.Common.{sym, subst, arith, ◌-◌, ◌∙◌, ap}
+use Rattle.std.proofs.Common.{sym, subst, arith, ◌-◌}
 use Rattle.sim_session.specs.SessionWords.{IsMemberBy}
-use Rattle.sim_session.proofs.Seating.{was_there}
 use Rattle.sim_session.proofs.session.Session.client.Goals as goal
 
 pub returns-clause-sound : goal.returns-clause-sound

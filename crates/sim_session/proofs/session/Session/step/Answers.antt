@@ -1,5 +1,5 @@
 -- One client acts in its place in the list, and all others are as they were.
-use Rattle.std.proofs.Common.{◌≡◌, ◌-◌, ◌<◌, length, get_or, set, sym, subst, ap, ◌∙◌, arith}
+use Rattle.std.proofs.Common.{◌-◌, ◌<◌, length, get_or, set, sym, subst, ap, ◌∙◌, arith}
 use Rattle.std.proofs.lemmas.List.{length-set}
 use Rattle.std.proofs.lemmas.List.Elements.{All-set}
 use Rattle.sim_client.specs.StageWords.{life_at, systems_on}
@@ -43,8 +43,8 @@ returns-clause-steps g c =
     let member = subst (λ x. IsMemberBy self.setup.now x (λ i v. (goal.System-dyn g (i, v)).meaning v)) (sym c.index_mut-client.ensures.value) (c.requires.session.members i client within) in
     let new = c.act.new.client in
     then_ok c.act.result (λ events makes. goes_on_at self.setup.now c.requires.session.limits c.args.step.now c.requires.client (λ x. life_at x.stage x.board) self.clients.items i client new self.exchange c.act.new.exchange events
-      c.requires.session.count (ap (λ k. k - 1) is) c.index_mut-client.ensures.value
-      (subst (λ m. Makes m c.args.step.now (life_at client.stage client.board) self.exchange (life_at new.stage new.board) c.act.new.exchange events) member.same makes)) c.act.ensures.made
+    c.requires.session.count (ap (λ k. k - 1) is) c.index_mut-client.ensures.value
+    (subst (λ m. Makes m c.args.step.now (life_at client.stage client.board) self.exchange (life_at new.stage new.board) c.act.new.exchange events) member.same makes)) c.act.ensures.made
 
 pub returns-clause-session : goal.returns-clause-session
 returns-clause-session g c =
@@ -90,7 +90,7 @@ returns-clause-built g c =
     let new = c.act.new.client in
     let old_systems = systems_by self.clients.items (λ i v. (goal.System-dyn g (i, v)).meaning v) in
     then_ok c.act.result (λ events built. subst (λ k. ChangeAt (AreBuiltIf (has_load events)) (k - 1) old_systems (systems_by (set self.clients.items i new) (λ i v. (goal.System-dyn g (i, v)).meaning v))) is
-      (changed (AreBuiltIf (has_load events)) (λ x. systems_on x.board (λ i v. (goal.System-dyn g (i, v)).meaning v)) self.clients.items i client new within c.index_mut-client.ensures.value built)) c.act.ensures.built
+    (changed (AreBuiltIf (has_load events)) (λ x. systems_on x.board (λ i v. (goal.System-dyn g (i, v)).meaning v)) self.clients.items i client new within c.index_mut-client.ensures.value built)) c.act.ensures.built
 
 pub returns-clause-most : goal.returns-clause-most
 returns-clause-most g c =
