@@ -57,6 +57,10 @@ AreMembers setup clients sys = AreMembersBy setup clients (λ i v. (sys i).meani
 abbrev pub setup_in : {Y X : Type 0} {G : Y → Type 0} {F : X → Type 0} {M : _} → Session Y X G F M → Setup
 setup_in session = session.setup.now
 
+-- its clients, client 1 first
+abbrev pub clients_in : {Y X : Type 0} {G : Y → Type 0} {F : X → Type 0} {M : _} → Session Y X G F M → List (Client Y X G F M)
+clients_in session = session.clients.items
+
 -- what contracts see of it
 abbrev pub seen_in : {Y X : Type 0} {G : Y → Type 0} {F : X → Type 0} {M : _} → Session Y X G F M → Seen
 seen_in session = record { lives = lives_of session.clients.items; held = session.exchange }

@@ -9,7 +9,7 @@ ghost use Rattle.sim_client.specs.Lives.{Off, starts};
 ghost use Rattle.sim_client.specs.StageWords.{AreCleared};
 ghost use Rattle.sim_pipes.specs.Pipes.{pipe_in};
 ghost use Rattle.sim_session.specs.Building.{ChangeAt, AreBuilt, AreBuiltIf, has_load, StartsOnly};
-ghost use Rattle.sim_session.specs.SessionWords.{setup_in, seen_in, systems_in, spare_in, room_in, lives_of, rigs_of, systems_of, AreMembers, MayFinish, IsSession, AreOfClients};
+ghost use Rattle.sim_session.specs.SessionWords.{setup_in, clients_in, seen_in, systems_in, spare_in, room_in, lives_of, rigs_of, systems_of, AreMembers, MayFinish, IsSession, AreOfClients};
 ghost use Rattle.sim_session.specs.Standing.{life_of, IsNumber, IsSmallStep, StandsFor, StandsForSome, Steps};
 
 use crate::acting::{act, client_of};
@@ -134,6 +134,27 @@ impl<'a> Session<'a> {
         let number = client_of(step);
         let client = &mut self.clients[number as usize - 1];
         act(self.alloc, client, &mut self.exchange, step)
+    }
+
+    /// The match.
+    pub fn setup(&self) -> &'a Setup
+        ensures { result.now ≡ setup_in self.now }
+    {
+        self.setup
+    }
+
+    /// The clients, client 1 first.
+    pub fn clients(&self) -> &[Client<'a>]
+        ensures { result.now ≡ clients_in self.now }
+    {
+        self.clients.as_slice()
+    }
+
+    /// The server with the pipes.
+    pub fn exchange(&self) -> &Exchange
+        ensures { result.now ≡ (seen_in self.now).held }
+    {
+        &self.exchange
     }
 
     /// The client of a number.

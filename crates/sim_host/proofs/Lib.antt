@@ -1,0 +1,4 @@
+pub mod Beginning
+pub mod MoreSteps
+pub mod Coming
+pub mod Telling

@@ -1,0 +1,36 @@
+-- A step behind other steps.
+use Rattle.std.proofs.Common.{◌≡◌, ℕ, ◌+◌, ◌<◌, ◌≤◌, List, [], ◌∷◌, ◌++◌, length, take, get_or, sym, ap, ◌∙◌, subst, append-nil, append_assoc}
+use Rattle.std.proofs.lemmas.Grind.{flat_map-append}
+use Rattle.std.proofs.lemmas.List.{take_more}
+use Rattle.sim_base.specs.declared.setup.Setup.{Setup}
+use Rattle.sim_base.specs.declared.step.Event.{Event}
+use Rattle.sim_base.specs.declared.step.Step.{Step}
+use Rattle.sim_plain_session.specs.Printed.{events, events_after}
+use Rattle.sim_plain_session.specs.Sessions.{Session, opened, stepped, after_steps, session}
+use Rattle.sim_report.specs.Events.{event_line}
+use Rattle.sim_session.specs.Standing.{Seen, StandsFor, Steps}
+use Rattle.sim_session_text.specs.SessionText.{lines_of}
+
+-- its events come behind theirs
+events_more : (setup : Setup) (s : Session) (xs : List Step) (x : Step) → events_after setup s (xs ++ x ∷ []) ≡ events_after setup s xs ++ events setup (after_steps setup s xs) x
+events_more setup s [] x = append-nil (events setup s x)
+events_more setup s (y ∷ ys) x =
+    ap (λ (l : List Event). events setup s y ++ l) (events_more setup (stepped setup s y) ys x)
+    ∙ sym (append_assoc (events setup s y) (events_after setup (stepped setup s y) ys) (events setup (after_steps setup (stepped setup s y) ys) x))
+
+-- and so do the lines
+pub lines_more : (setup : Setup) (active n : ℕ) (steps : List Step) (x : Step) → n < length steps → x ≡ get_or steps n x
+    → lines_of (events_after setup (opened setup active) (take (n + 1) steps))
+    ≡ lines_of (events_after setup (opened setup active) (take n steps)) ++ lines_of (events setup (session setup active (take n steps)) x)
+lines_more setup active n steps x lt is =
+    let more : take (n + 1) steps ≡ take n steps ++ x ∷ [] = take_more steps n x lt ∙ ap (λ (y : Step). take n steps ++ y ∷ []) (sym is) in
+    ap (λ (xs : List Step). lines_of (events_after setup (opened setup active) xs)) more
+    ∙ ap lines_of (events_more setup (opened setup active) (take n steps) x)
+    ∙ flat_map-append event_line (events_after setup (opened setup active) (take n steps)) (events setup (session setup active (take n steps)) x)
+
+-- what stood for the session over the steps so far stands for that over one more
+pub stands_more : (setup : Setup) (active n : ℕ) (steps : List Step) (x : Step) (old new : Seen) (answered : List Event) → active ≤ setup.players → n < length steps → x ≡ get_or steps n x
+    → Steps setup old x new answered → StandsFor setup old (session setup active (take n steps)) → StandsFor setup new (session setup active (take (n + 1) steps))
+stands_more setup active n steps x old new answered few lt is made stands =
+    let more : take (n + 1) steps ≡ take n steps ++ x ∷ [] = take_more steps n x lt ∙ ap (λ (y : Step). take n steps ++ y ∷ []) (sym is) in
+    subst (λ (xs : List Step). StandsFor setup new (session setup active xs)) (sym more) (made.stands active (take n steps) few stands)
