@@ -1,3 +1,4 @@
+pub mod Past
 pub mod PlayLines
 pub mod Playing
 pub mod Starting

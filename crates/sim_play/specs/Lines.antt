@@ -2,7 +2,7 @@
 use Rattle.std.specs.Prelude.{ℕ, zero, suc, ◌+◌, ◌-◌, List, [], ◌++◌, length, codes}
 use Rattle.sim_base.specs.declared.setup.Setup.{Setup}
 use Rattle.sim_base.specs.declared.state.State.{State}
-use Rattle.sim_base.specs.Turn.{first_state, from, own_turns}
+use Rattle.sim_base.specs.Turn.{first_state, from, after, own_turns}
 use Rattle.sim_base.specs.Spelling.{digest}
 use Rattle.sim_report.specs.Lines.{turn_line, spaced_number, line_end}
 
@@ -24,6 +24,17 @@ resume_text setup state = turn_lines setup state state.turn (suc (setup.turns - 
 -- the state at the end of a match that is played from a state on
 abbrev pub end_from : Setup → State → State
 end_from setup state = from setup state (own_turns setup state.turn (setup.turns - state.turn))
+
+-- So many lines of a match from a turn on, that begin with a word: the digest of each is that of the state after the match's
+-- own turns.
+abbrev pub past_lines : List ℕ → Setup → ℕ → ℕ → List ℕ
+past_lines word setup start zero = []
+past_lines word setup start (suc n) =
+    past_lines word setup start n ++ turn_line word (start + n) (digest setup (after setup (own_turns setup 0 (start + n))))
+
+-- the lines of a first client that plays a whole match, and of a second that plays on from the first one's state of a turn
+abbrev pub rejoin_text : Setup → ℕ → List ℕ
+rejoin_text setup turn = past_lines (codes "first") setup 0 (suc setup.turns) ++ past_lines (codes "second") setup turn (suc (setup.turns - turn))
 
 -- what is printed of a trial: the numbers that it was made of, how many rows there are at its end, and their digest
 abbrev pub trial_line : ℕ → ℕ → ℕ → Setup → State → List ℕ

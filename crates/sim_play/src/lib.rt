@@ -6,12 +6,15 @@
 //!
 //! - `lines`: a line for each turn of a board.
 //! - `matches`: a match from its first state or from a stored one, with a rig that is handed back.
+//! - `rejoin`: a match that a second client joins late, with a rig for each.
 //! - `trial`: the line of a trial.
 #![tactic(auto)]
 
 mod lines;
 mod matches;
+mod rejoin;
 mod trial;
 
 pub use matches::{play_text, resume_text, state_at};
+pub use rejoin::rejoin_text;
 pub use trial::push_trial;
