@@ -61,6 +61,10 @@ HUTS = (b'{"size":[16,16],"closed":[],"players":[[]],"cap":4,"delay":1,"turns":1
         b'[1,1,"place",0,"0.5","0.5"],[1,1,"resign"]]}')
 HUTS_LINES = (b"turn 0 157dafb5e35abac8d5d437b1e3fc0d1c\n"
               b"turn 1 80bf5422a58c8986ad5609bdb3c3414d\n")
+# The digest of each turn of examples/camp.json.
+CAMP_DIGESTS = (b"cdf09eac795fcb9df09d2e5bc47086b4", b"30c2077a95df741761edf1efd53e652c", b"436a0264ba01ecf7c0c88b1fcbea7633",
+                b"daf5ff5bc367ab4563c39ca70b65a382", b"84853a783cef8bf222ca70658e2534cc", b"25f826ac047ffc36e791b50fcbdc3eb3",
+                b"1945a50b8f67eae2490b5ee4dae2ee64", b"3512afaa73cdb7fdc82f5a2d268e2575")
 USAGE = b"""usage: simcore play MATCH
        simcore state MATCH TURN OUT
        simcore resume MATCH STATE
@@ -173,6 +177,26 @@ def battles(folder):
         case(f"no trial: {' '.join(words)}", run(["trial", *words], folder), 2, USAGE)
     with open("/dev/full", "wb") as full:
         case("a trial that finds no room", run(["trial", "7", "1", "0"], folder, full), 4, None)
+
+
+def lines_of(word, first):
+    """The lines of a client who plays the camp from a turn on."""
+    return b"".join(b"%s %d %s\n" % (word, turn, digest) for turn, digest in enumerate(CAMP_DIGESTS) if turn >= first)
+
+
+def rejoins(folder):
+    """A second client joins a match at a turn, and plays on with the digests of the first."""
+    camp = str(TOP / "examples/camp.json")
+    for turn in (0, 3, 5, 7):
+        case(f"a client joins the camp at turn {turn}", run(["rejoin", camp, str(turn)], folder), 0,
+             lines_of(b"first", 0) + lines_of(b"second", turn))
+    case("a turn with zeros before it", run(["rejoin", camp, "000000003"], folder), 0, lines_of(b"first", 0) + lines_of(b"second", 3))
+    case("nobody joins behind the last turn", run(["rejoin", camp, "8"], folder), 10, b"no turn 8 of 7\n")
+    case("nobody joins a match that is not there", run(["rejoin", "none.json", "1"], folder), 11, b"")
+    for words in ([camp], [camp, ""], [camp, "-1"], [camp, "0000000001"], [camp, "1", "1"]):
+        case(f"no words of a joining: {' '.join(words[1:])!r}", run(["rejoin", *words], folder), 2, USAGE)
+    with open("/dev/full", "wb") as full:
+        case("a joining that finds no room", run(["rejoin", camp, "3"], folder, full), 4, None)
 
 
 def limit_memory():
@@ -299,6 +323,7 @@ def main():
         templates(folder)
         schedules(folder)
         battles(folder)
+        rejoins(folder)
         memory(folder)
         pages(folder)
     print(f"{passed} passed, {failed} failed")

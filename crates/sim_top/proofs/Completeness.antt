@@ -14,8 +14,8 @@ use Rattle.sim_setup.specs.Setups.{setup_of}
 use Rattle.sim_setup.proofs.SetupLimits.{setup_of-id}
 use Rattle.sim_diff.specs.Difference.{difference_of}
 use Rattle.sim_diff.specs.declared.place.Place.{Place}
-use Rattle.sim_top.specs.Words.{Asked, asked_by, to_play, to_store, to_resume, to_show, to_compare, to_serve, to_try}
-use Rattle.sim_top.specs.Outcome.{Outcome, Then, ThenStored, IsStored, IsOutcomeOf, bytes_in, match_in, schedule_in, trial_match, match_by, setup_by, compare_by, state_by, store_outcome}
+use Rattle.sim_top.specs.Words.{Asked, asked_by, to_play, to_store, to_resume, to_rejoin, to_show, to_compare, to_serve, to_try}
+use Rattle.sim_top.specs.Outcome.{Outcome, Then, ThenStored, IsStored, IsOutcomeOf, bytes_in, match_in, schedule_in, trial_match, match_by, setup_by, compare_by, state_by, store_outcome, rejoin_outcome}
 use Rattle.sim_top.specs.Answers.{Scene, Meets, Causes}
 use Rattle.sim_top.specs.Readiness.{HoldsState, IsReady, IsFaultless, IsFinal}
 use Rattle.sim_top.specs.declared.status.Status.{Status}
@@ -74,6 +74,9 @@ ends_compared wanted (Some place) same = inr (ap (λ (o : Outcome). o.status) sa
 store_is_done : (setup : Setup) (turn : ℕ) (out : List ℕ) → turn ≤ setup.turns → (store_outcome setup turn out).status ≡ Done
 store_is_done setup turn out within = rw (le-ltb setup.turns turn within) refl
 
+rejoin_is_done : (setup : Setup) (turn : ℕ) → turn ≤ setup.turns → (rejoin_outcome setup turn).status ≡ Done
+rejoin_is_done setup turn within = rw (le-ltb setup.turns turn within) refl
+
 ready_ends : (files : List File) (asked : Option Asked) (wanted : Outcome) → IsReady files asked → IsOutcomeOf files asked wanted → Ends wanted
 ready_ends files None wanted ready h = absurd ready
 ready_ends files (Some (to_play game)) wanted ready h = done wanted _ refl (after_reading (match_in files game) ready.setup _ wanted ready.read h)
@@ -83,6 +86,8 @@ ready_ends files (Some (to_resume game name)) wanted ready h =
     let id = id_of_match files game ready.setup ready.read in
     let found = after_state files ready.setup name _ wanted id ready.more (after_reading (match_in files game) ready.setup _ wanted ready.read h) in
     done wanted _ refl found.1
+ready_ends files (Some (to_rejoin game turn)) wanted ready h =
+    done wanted (rejoin_outcome ready.setup turn) (rejoin_is_done ready.setup turn ready.more) (after_reading (match_in files game) ready.setup _ wanted ready.read h)
 ready_ends files (Some (to_show game name)) wanted ready h =
     let id = id_of_match files game ready.setup ready.read in
     let found = after_state files ready.setup name _ wanted id ready.more (after_reading (match_in files game) ready.setup _ wanted ready.read h) in

@@ -4,3 +4,4 @@ pub mod Completeness
 pub mod Counting
 pub mod Ending
 pub mod Playing
+pub mod Joining

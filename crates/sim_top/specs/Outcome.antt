@@ -24,8 +24,8 @@ use Rattle.sim_report.specs.Show.{show_text}
 use Rattle.sim_report.specs.Places.{place_text}
 use Rattle.sim_diff.specs.Difference.{difference_of}
 use Rattle.sim_diff.specs.declared.place.Place.{Place}
-use Rattle.sim_top.specs.Words.{Asked, to_play, to_store, to_resume, to_show, to_compare, to_serve, to_try, asked_by}
-use Rattle.sim_play.specs.Lines.{play_text, resume_text, trial_line}
+use Rattle.sim_top.specs.Words.{Asked, to_play, to_store, to_resume, to_rejoin, to_show, to_compare, to_serve, to_try, asked_by}
+use Rattle.sim_play.specs.Lines.{play_text, resume_text, rejoin_text, trial_line}
 use Rattle.sim_trial.specs.Trial.{text_of_trial}
 use Rattle.sim_top.specs.declared.status.Status.{Status}
 use Rattle.sim_top.specs.declared.status.Status.TheVariants.{Done, Differs, Usage, ReadFault, TooLong, MatchRefused, StateRefused, ListRefused, NoSuchTurn, NoFile}
@@ -130,6 +130,10 @@ store_outcome setup turn out =
     if nat_lt setup.turns turn then printed NoSuchTurn (refusal_text (Turn turn setup.turns))
     else stored_at setup turn out (after setup (own_turns setup 0 turn))
 
+-- the lines of a match that a second client joins at a turn
+abbrev pub rejoin_outcome : Setup → ℕ → Outcome
+rejoin_outcome setup turn = if nat_lt setup.turns turn then printed NoSuchTurn (refusal_text (Turn turn setup.turns)) else printed Done (rejoin_text setup turn)
+
 -- the line of a trial, whose state is `after` all turns of its match
 abbrev pub trial_outcome : ℕ → ℕ → ℕ → Setup → Outcome
 trial_outcome seed units turns setup = printed Done (trial_line seed units turns setup (after setup (own_turns setup 0 setup.turns)))
@@ -155,6 +159,7 @@ IsOutcomeOf files (Some (to_play game)) wanted = Then (match_in files game) (λ 
 IsOutcomeOf files (Some (to_store game turn out)) wanted = Then (match_in files game) (λ setup wanted. wanted ≡ store_outcome setup turn out) wanted
 IsOutcomeOf files (Some (to_resume game name)) wanted =
     Then (match_in files game) (λ setup. Then (bytes_in files name) (λ bytes. ThenStored setup name bytes (λ state wanted. wanted ≡ printed Done (resume_text setup state)))) wanted
+IsOutcomeOf files (Some (to_rejoin game turn)) wanted = Then (match_in files game) (λ setup wanted. wanted ≡ rejoin_outcome setup turn) wanted
 IsOutcomeOf files (Some (to_show game name)) wanted =
     Then (match_in files game) (λ setup. Then (bytes_in files name) (λ bytes. ThenStored setup name bytes (λ state wanted. wanted ≡ printed Done (show_text setup state)))) wanted
 IsOutcomeOf files (Some (to_compare game left right)) wanted =

@@ -6,7 +6,7 @@ use Rattle.sim_store.specs.Counts.{raised}
 use Rattle.sim_store.specs.Files.{File}
 use Rattle.sim_codec.specs.Loading.{StandsFor}
 use Rattle.sim_lists.specs.declared.schedule.Schedule.{Schedule}
-use Rattle.sim_top.specs.Words.{Asked, to_play, to_store, to_resume, to_show, to_compare, to_serve, to_try}
+use Rattle.sim_top.specs.Words.{Asked, to_play, to_store, to_resume, to_rejoin, to_show, to_compare, to_serve, to_try}
 use Rattle.sim_top.specs.Outcome.{bytes_in, match_in, schedule_in, trial_match}
 use Rattle.sim_top.specs.Answers.{Scene}
 use Rattle.sim_top.specs.declared.status.Status.{Status}
@@ -41,6 +41,7 @@ IsReady files None = ⊥
 IsReady files (Some (to_play game)) = HoldsMatch files game (λ setup. Unit {0})
 IsReady files (Some (to_store game turn out)) = HoldsMatch files game (λ setup. turn ≤ setup.turns)
 IsReady files (Some (to_resume game name)) = HoldsMatch files game (λ setup. HoldsState files setup name)
+IsReady files (Some (to_rejoin game turn)) = HoldsMatch files game (λ setup. turn ≤ setup.turns)
 IsReady files (Some (to_show game name)) = HoldsMatch files game (λ setup. HoldsState files setup name)
 IsReady files (Some (to_compare game left right)) = HoldsMatch files game (λ setup. HoldsState files setup left × HoldsState files setup right)
 IsReady files (Some (to_serve name)) = HoldsSchedule files name

@@ -1,5 +1,5 @@
--- What the systems of a rig stand for when a command came to its end.
-use Rattle.std.specs.Prelude.{◌≡◌, ℕ, List, [], ◌∷◌, Option, Some, None, Result, IfOk}
+-- How many rigs a command uses, and what their systems stand for when it came to its end.
+use Rattle.std.specs.Prelude.{◌≡◌, ℕ, List, [], ◌∷◌, length, drop, vec_capacity, Option, Some, None, Result, IfOk}
 use Rattle.sim_base.specs.declared.setup.Setup.{Setup}
 use Rattle.sim_base.specs.declared.state.State.{State}
 use Rattle.sim_base.specs.Turn.{first_state, after, own_turns}
@@ -7,9 +7,26 @@ use Rattle.sim_store.specs.Files.{File}
 use Rattle.sim_system.specs.Meanings.{Systems, AreFed}
 use Rattle.sim_system.specs.declared.rig.Rig.{Rig}
 use Rattle.sim_play.specs.Lines.{end_from}
-use Rattle.sim_top.specs.Words.{Asked, to_play, to_store, to_resume, to_show, to_compare, to_serve, to_try}
+use Rattle.sim_top.specs.Words.{Asked, to_play, to_store, to_resume, to_rejoin, to_show, to_compare, to_serve, to_try}
 use Rattle.sim_top.specs.Outcome.{Outcome, bytes_in, match_in, trial_match}
 use Rattle.sim_top.specs.Stops.{IsState}
+use Rattle.sim_top.specs.declared.rigs.Rigs.{Rigs}
+
+-- how many clients play for what is asked, each with a rig of its own
+abbrev pub clients : Asked → ℕ
+clients (to_play game) = 1
+clients (to_store game turn out) = 1
+clients (to_resume game name) = 1
+clients (to_rejoin game turn) = 2
+clients (to_show game name) = 0
+clients (to_compare game left right) = 0
+clients (to_serve schedule) = 0
+clients (to_try seed units turns) = 1
+
+-- how many of the rigs are used for the words, from the first on
+abbrev pub used : Option Asked → ℕ
+used None = 0
+used (Some asked) = clients asked
 
 -- the state of a file is loaded, and the systems stand for the last turn from it on
 pub record StandForStored (setup : Setup) (file : Result (List ℕ) Outcome) (t : Systems) : Type 0 where
@@ -21,19 +38,39 @@ pub record StandForStored (setup : Setup) (file : Result (List ℕ) Outcome) (t 
 abbrev pub StandForTrial : ℕ → ℕ → ℕ → Systems → Type 0
 StandForTrial seed units turns t = IfOk (trial_match seed units turns) (λ setup. AreFed setup (after setup (own_turns setup 0 setup.turns)) t)
 
--- the systems of the rig before and after: they stand for the last state that was played, or nothing was played
+-- the systems stand for the last turn of a match
+abbrev pub StandForLast : List File → List ℕ → Systems → Type 0
+StandForLast files game t = IfOk (match_in files game) (λ setup. AreFed setup (after setup (own_turns setup 0 setup.turns)) t)
+
+-- the systems of the first rig before and after: they stand for the last state that was played, or nothing was played
 abbrev pub RigStands : List File → Option Asked → Systems → Systems → Type 0
 RigStands files None s t = t ≡ s
 RigStands files (Some (to_play game)) s t = IfOk (match_in files game) (λ setup. AreFed setup (end_from setup (first_state setup)) t)
 RigStands files (Some (to_store game turn out)) s t = IfOk (match_in files game) (λ setup. AreFed setup (after setup (own_turns setup 0 turn)) t)
 RigStands files (Some (to_resume game name)) s t = IfOk (match_in files game) (λ setup. StandForStored setup (bytes_in files name) t)
+RigStands files (Some (to_rejoin game turn)) s t = StandForLast files game t
 RigStands files (Some (to_show game name)) s t = t ≡ s
 RigStands files (Some (to_compare game left right)) s t = t ≡ s
 RigStands files (Some (to_serve schedule)) s t = t ≡ s
 RigStands files (Some (to_try seed units turns)) s t = StandForTrial seed units turns t
+
+-- the systems of the second rig: a client that joins plays to the last state too
+abbrev pub SecondStands : List File → Option Asked → Systems → Type 0
+SecondStands files (Some (to_rejoin game turn)) t = StandForLast files game t
+SecondStands files other t = Unit {0}
 
 -- of the first rigs of two lists
 abbrev pub OfFirsts : {X : Type 0} {F : X → Type 0} → List (Rig X F) → List (Rig X F) → (Rig X F → Rig X F → Type 0) → Type 0
 OfFirsts [] new P = ⊥
 OfFirsts (r ∷ old) [] P = ⊥
 OfFirsts (r ∷ old) (s ∷ new) P = P r s
+
+-- all rigs of a run
+abbrev pub all_of : {X : Type 0} {F : X → Type 0} → Rigs X F → List (Rig X F)
+all_of rigs = rigs.first ∷ rigs.rest.items
+
+-- the rigs behind the first of a run come back in their number and their room, and all that are not used as they were
+pub record AreHandedBack {X : Type 0} {F : X → Type 0} (n : ℕ) (old new : Rigs X F) : Type 0 where
+  pub unused : drop n (all_of new) ≡ drop n (all_of old)
+  pub count : length new.rest.items ≡ length old.rest.items
+  pub room : vec_capacity new.rest ≡ vec_capacity old.rest

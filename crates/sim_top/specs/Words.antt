@@ -5,14 +5,15 @@ use Rattle.std.specs.Str.{bytes_eq}
 use Rattle.sim_base.specs.NumberText.{is_digit}
 use Rattle.sim_trial.specs.Trial.{is_trial}
 use Rattle.sim_top.specs.declared.words.Request.{Request}
-use Rattle.sim_top.specs.declared.words.Request.TheVariants.{Play, State, Resume, Show, Compare, Serve, Trial}
+use Rattle.sim_top.specs.declared.words.Request.TheVariants.{Play, State, Resume, Rejoin, Show, Compare, Serve, Trial}
 
--- what is asked for: to play a match; to store the state of a turn of it in a file; to play on from a stored state; to show one;
--- to compare two; to run the server over a schedule; to play the trial that is made of three numbers
+-- what is asked for: to play a match; to store the state of a turn of it in a file; to play on from a stored state; to play it with a
+-- second client that joins at a turn; to show a stored state; to compare two; to run the server over a schedule; to play the trial that is made of three numbers
 pub data Asked : Type 0 where
   to_play : List ℕ → Asked
   to_store : List ℕ → ℕ → List ℕ → Asked
   to_resume : List ℕ → List ℕ → Asked
+  to_rejoin : List ℕ → ℕ → Asked
   to_show : List ℕ → List ℕ → Asked
   to_compare : List ℕ → List ℕ → List ℕ → Asked
   to_serve : List ℕ → Asked
@@ -23,6 +24,7 @@ abbrev pub asked : Request → Asked
 asked (Play game) = to_play game.now
 asked (State game turn out) = to_store game.now turn out.now
 asked (Resume game stored) = to_resume game.now stored.now
+asked (Rejoin game turn) = to_rejoin game.now turn
 asked (Show game stored) = to_show game.now stored.now
 asked (Compare game left right) = to_compare game.now left.now right.now
 asked (Serve schedule) = to_serve schedule.now
@@ -51,10 +53,12 @@ abbrev pub asked_of_one : List ℕ → List ℕ → Option Asked
 asked_of_one command file =
     if bytes_eq command (codes "play") then Some (to_play file) else if bytes_eq command (codes "serve") then Some (to_serve file) else None
 
--- what it asks of two
+-- what it asks of two words
 abbrev pub asked_of_two : List ℕ → List ℕ → List ℕ → Option Asked
-asked_of_two command game stored =
-    if bytes_eq command (codes "resume") then Some (to_resume game stored) else if bytes_eq command (codes "show") then Some (to_show game stored) else None
+asked_of_two command a b =
+    if bytes_eq command (codes "resume") then Some (to_resume a b)
+    else if bytes_eq command (codes "rejoin") then option_map (to_rejoin a) (turn_in b)
+    else if bytes_eq command (codes "show") then Some (to_show a b) else None
 
 -- what it asks of three words
 abbrev pub asked_of_three : List ℕ → List ℕ → List ℕ → List ℕ → Option Asked
@@ -83,6 +87,7 @@ is_comparison other = false
 -- whether it names a turn
 abbrev pub has_turn : Asked → Bool
 has_turn (to_store game turn out) = true
+has_turn (to_rejoin game turn) = true
 has_turn other = false
 
 -- whether it names a file with a stored state

@@ -1,7 +1,7 @@
 //! What each command makes of its files: the whole text that it prints, and the bytes of the file that it saves. Nothing
 //! is written here.
 
-ghost use Rattle.std.specs.Prelude.{◌≡◌, ◌<◌, List, IsTrue, IfSome, IfOk, IfErr, IsErr, OnOk, OnErr, Err, Some, None, length, string_bytes};
+ghost use Rattle.std.specs.Prelude.{◌≡◌, ◌<◌, ◌≤◌, List, All, IsTrue, IfSome, IfOk, IfErr, IsErr, OnOk, OnErr, Err, Some, None, length, string_bytes};
 ghost use Rattle.sim_base.specs.Limits.{IsSetup};
 ghost use Rattle.sim_base.specs.Turn.{first_state, after, own_turns};
 ghost use Rattle.sim_base.specs.Validity.{IsValid};
@@ -12,19 +12,20 @@ ghost use Rattle.sim_store.specs.Counts.{after_giving};
 ghost use Rattle.sim_store.specs.Files.{File, file_in};
 ghost use Rattle.sim_trial.specs.Trial.{IsTrial};
 ghost use Rattle.sim_top.specs.Trials.{CanBeTried};
-ghost use Rattle.sim_top.specs.Words.{Asked, to_play, to_store, to_resume, to_show, to_compare, to_serve, to_try, asked, out_of, is_comparison, loads_state};
+ghost use Rattle.sim_top.specs.Words.{Asked, to_play, to_store, to_resume, to_rejoin, to_show, to_compare, to_serve, to_try, asked, out_of, is_comparison, loads_state};
 ghost use Rattle.sim_top.specs.Reads.{LacksMatch, length_in, length_read};
 ghost use Rattle.sim_play.specs.Lines.{trial_line, play_text as text_of_play, resume_text as text_of_resume, end_from};
 ghost use Rattle.sim_system.specs.Meanings.{HaveKinds, AreFed, AreBuiltOnceAtMost};
 ghost use Rattle.sim_system.specs.RigWords.{systems_of};
 ghost use Rattle.sim_diff.specs.Difference.{difference_of};
-ghost use Rattle.sim_top.specs.Outcome.{IsOutcomeOf, bytes_in, printed as printed_as, stored_at as stored_outcome, store_outcome, trial_outcome, IsTrialOutcome, compare_by, IsCompared};
+ghost use Rattle.sim_top.specs.Outcome.{IsOutcomeOf, bytes_in, printed as printed_as, stored_at as stored_outcome, store_outcome, rejoin_outcome, trial_outcome, IsTrialOutcome, compare_by, IsCompared};
 ghost use Rattle.sim_top.specs.Answers.{MayAnswer};
-ghost use Rattle.sim_top.specs.Rigs.{RigStands, StandForTrial};
+ghost use Rattle.sim_top.specs.Rigs.{RigStands, SecondStands, StandForTrial, OfFirsts, AreHandedBack, clients, all_of};
 ghost use Rattle.sim_top.specs.Stops.{CausesOf, IsOfContent, IsOfTurn, IsMissed};
 ghost use Rattle.sim_top.specs.Making.{Makes, IsSavedAs, IsFinished, outcome_made, status_made};
 
 use crate::inputs::{read_match, read_schedule, read_state, trial_match};
+use crate::rigs::Rigs;
 use crate::status::Status;
 use crate::stop::Stop;
 use crate::words::Request;
@@ -32,7 +33,7 @@ use sim_base::{OutOfMemory, Setup, State};
 use sim_codec::{digest, spell};
 use sim_diff::difference;
 use sim_orders::OrderTable;
-use sim_play::{play_text, push_trial, resume_text, state_at};
+use sim_play::{play_text, push_trial, rejoin_text, resume_text, state_at};
 use sim_report::{push_place, push_saved, push_show};
 use sim_serve::served_text;
 use sim_store::Shelf;
@@ -54,14 +55,51 @@ pub struct Answer<'w> {
     pub saved: Option<Saved<'w>>,
 }
 
-/// What the request comes to, or why it ends before.
+/// What the request comes to, or why it ends before. It is handed two rigs at least.
 pub fn answer_to<'w, S: Shelf>(
+    alloc: Global,
+    request: Request<'w>,
+    shelf: &mut S,
+    rigs: Rigs,
+    orders: &OrderTable,
+) -> (Result<Answer<'w>, Stop<'w>>, Rigs)
+    requires two { 1 ≤ length rigs.rest.items }
+    requires kinds { All (λ r. HaveKinds (systems_of r ⟦<dyn System as System>⟧)) (all_of rigs) }
+    requires trial { CanBeTried (asked request) }
+    ensures answers { IfSome (S.held shelf.old) (λ files. Makes result.0 (IsOutcomeOf files (Some (asked request.entry)))) }
+    ensures saved { IfOk result.0 (λ answer. IsSavedAs (out_of (Some (asked request.entry))) answer.saved) }
+    ensures done { IfOk result.0 (λ answer. IsFinished answer.saved answer.status) }
+    ensures causes { CausesOf result.0 (S.counts shelf.old) (S.counts shelf.new) }
+    ensures statuses { MayAnswer (asked request.entry) (status_made result.0) }
+    ensures missing { (files : List File) → S.held shelf.old ≡ Some files → LacksMatch files (Some (asked request.entry)) → IsMissed result.0 }
+    ensures given { (files : List File) → S.held shelf.old ≡ Some files → IfOk result.0 (λ _. S.counts shelf.new ≡ after_giving (length_read files (asked request.entry)) (S.counts shelf.old)) }
+    ensures held { S.held shelf.new ≡ S.held shelf.old }
+    ensures stands { IfSome (S.held shelf.old) (λ files. OnOk result.0 (RigStands files (Some (asked request.entry)) (systems_of rigs.first ⟦<dyn System as System>⟧) (systems_of result.1.first ⟦<dyn System as System>⟧))) }
+    ensures joins { IfSome (S.held shelf.old) (λ files. OnOk result.0 (OfFirsts rigs.rest.items result.1.rest.items (λ r s. SecondStands files (Some (asked request.entry)) (systems_of s ⟦<dyn System as System>⟧)))) }
+    ensures kinds { All (λ r. HaveKinds (systems_of r ⟦<dyn System as System>⟧)) (all_of result.1) }
+    ensures most { AreBuiltOnceAtMost (systems_of rigs.first ⟦<dyn System as System>⟧) (systems_of result.1.first ⟦<dyn System as System>⟧) }
+    ensures joined { OfFirsts rigs.rest.items result.1.rest.items (λ r s. AreBuiltOnceAtMost (systems_of r ⟦<dyn System as System>⟧) (systems_of s ⟦<dyn System as System>⟧)) }
+    ensures back { AreHandedBack (clients (asked request.entry)) rigs result.1 }
+{
+    match request {
+        Request::Rejoin { game, turn } => rejoin(alloc, shelf, game, turn, rigs, orders),
+        other => {
+            let Rigs { first, rest } = rigs;
+            let (made, first) = answer_alone(alloc, other, shelf, first, orders);
+            (made, Rigs { first, rest })
+        }
+    }
+}
+
+// What a request comes to for which at most one client plays.
+fn answer_alone<'w, S: Shelf>(
     alloc: Global,
     request: Request<'w>,
     shelf: &mut S,
     rig: Rig,
     orders: &OrderTable,
 ) -> (Result<Answer<'w>, Stop<'w>>, Rig)
+    requires alone { clients (asked request) ≤ 1 }
     requires kinds { HaveKinds (systems_of rig ⟦<dyn System as System>⟧) }
     requires trial { CanBeTried (asked request) }
     ensures answers { IfSome (S.held shelf.old) (λ files. Makes result.0 (IsOutcomeOf files (Some (asked request.entry)))) }
@@ -75,6 +113,7 @@ pub fn answer_to<'w, S: Shelf>(
     ensures stands { IfSome (S.held shelf.old) (λ files. OnOk result.0 (RigStands files (Some (asked request.entry)) (systems_of rig ⟦<dyn System as System>⟧) (systems_of result.1 ⟦<dyn System as System>⟧))) }
     ensures kinds { HaveKinds (systems_of result.1 ⟦<dyn System as System>⟧) }
     ensures most { AreBuiltOnceAtMost (systems_of rig ⟦<dyn System as System>⟧) (systems_of result.1 ⟦<dyn System as System>⟧) }
+    ensures unused { clients (asked request.entry) ≡ 0 → result.1 ≡ rig }
 {
     match request {
         Request::Play { game } => play(alloc, shelf, game, rig, orders),
@@ -84,6 +123,7 @@ pub fn answer_to<'w, S: Shelf>(
         Request::Compare { game, left, right } => (compare(alloc, shelf, game, left, right), rig),
         Request::Serve { schedule } => (serve(alloc, shelf, schedule), rig),
         Request::Trial { seed, units, turns } => trial(alloc, seed, units, turns, rig, orders),
+        Request::Rejoin { .. } => unreachable!(),
     }
 }
 
@@ -267,6 +307,77 @@ fn resume_match<'w>(
 {
     let (text, rig) = resume_text(alloc, setup, state, rig, orders);
     (shown(text), rig)
+}
+
+fn rejoin<'w, S: Shelf>(
+    alloc: Global,
+    shelf: &mut S,
+    game: &'w str,
+    turn: u32,
+    rigs: Rigs,
+    orders: &OrderTable,
+) -> (Result<Answer<'w>, Stop<'w>>, Rigs)
+    requires two { 1 ≤ length rigs.rest.items }
+    requires kinds { All (λ r. HaveKinds (systems_of r ⟦<dyn System as System>⟧)) (all_of rigs) }
+    ensures answers { IfSome (S.held shelf.old) (λ files. Makes result.0 (IsOutcomeOf files (Some (to_rejoin game.now turn)))) }
+    ensures saved { IfOk result.0 (λ answer. answer.saved ≡ None) }
+    ensures done { IfOk result.0 (λ answer. IsFinished answer.saved answer.status) }
+    ensures causes { CausesOf result.0 (S.counts shelf.old) (S.counts shelf.new) }
+    ensures statuses { MayAnswer (to_rejoin game.now turn) (status_made result.0) }
+    ensures missing { (files : List File) → S.held shelf.old ≡ Some files → file_in files game.now ≡ None → IsMissed result.0 }
+    ensures given { (files : List File) → S.held shelf.old ≡ Some files → IfOk result.0 (λ _. S.counts shelf.new ≡ after_giving (length_read files (to_rejoin game.now turn)) (S.counts shelf.old)) }
+    ensures held { S.held shelf.new ≡ S.held shelf.old }
+    ensures stands { IfSome (S.held shelf.old) (λ files. OnOk result.0 (RigStands files (Some (to_rejoin game.now turn)) (systems_of rigs.first ⟦<dyn System as System>⟧) (systems_of result.1.first ⟦<dyn System as System>⟧))) }
+    ensures joins { IfSome (S.held shelf.old) (λ files. OnOk result.0 (OfFirsts rigs.rest.items result.1.rest.items (λ r s. SecondStands files (Some (to_rejoin game.now turn)) (systems_of s ⟦<dyn System as System>⟧)))) }
+    ensures kinds { All (λ r. HaveKinds (systems_of r ⟦<dyn System as System>⟧)) (all_of result.1) }
+    ensures most { AreBuiltOnceAtMost (systems_of rigs.first ⟦<dyn System as System>⟧) (systems_of result.1.first ⟦<dyn System as System>⟧) }
+    ensures joined { OfFirsts rigs.rest.items result.1.rest.items (λ r s. AreBuiltOnceAtMost (systems_of r ⟦<dyn System as System>⟧) (systems_of s ⟦<dyn System as System>⟧)) }
+    ensures back { AreHandedBack 2 rigs result.1 }
+{
+    match read_match(alloc, shelf, game) {
+        Ok(setup) => rejoin_match(alloc, &setup, turn, rigs, orders),
+        Err(stop) => (Err(stop), rigs),
+    }
+}
+
+// Plays a match that was read, with a second client that joins it. A turn past its end takes no memory to refuse.
+fn rejoin_match<'w>(
+    alloc: Global,
+    setup: &Setup,
+    turn: u32,
+    rigs: Rigs,
+    orders: &OrderTable,
+) -> (Result<Answer<'w>, Stop<'w>>, Rigs)
+    requires limits { IsSetup setup.now }
+    requires two { 1 ≤ length rigs.rest.items }
+    requires kinds { All (λ r. HaveKinds (systems_of r ⟦<dyn System as System>⟧)) (all_of rigs) }
+    ensures answers { Makes result.0 (λ wanted. wanted ≡ rejoin_outcome setup.now turn) }
+    ensures past { setup.now.turns < turn → result.0 ≡ Err (Stop.NoSuchTurn turn setup.now.turns) }
+    ensures stops { IfErr result.0 IsOfTurn }
+    ensures saved { IfOk result.0 (λ answer. answer.saved ≡ None) }
+    ensures done { IfOk result.0 (λ answer. answer.status ≡ Status.Done) }
+    ensures fed { OnOk result.0 (AreFed setup.now (after setup.now (own_turns setup.now 0 setup.now.turns)) (systems_of result.1.first ⟦<dyn System as System>⟧)) }
+    ensures joins { OnOk result.0 (OfFirsts rigs.rest.items result.1.rest.items (λ r s. AreFed setup.now (after setup.now (own_turns setup.now 0 setup.now.turns)) (systems_of s ⟦<dyn System as System>⟧))) }
+    ensures kinds { All (λ r. HaveKinds (systems_of r ⟦<dyn System as System>⟧)) (all_of result.1) }
+    ensures most { AreBuiltOnceAtMost (systems_of rigs.first ⟦<dyn System as System>⟧) (systems_of result.1.first ⟦<dyn System as System>⟧) }
+    ensures joined { OfFirsts rigs.rest.items result.1.rest.items (λ r s. AreBuiltOnceAtMost (systems_of r ⟦<dyn System as System>⟧) (systems_of s ⟦<dyn System as System>⟧)) }
+    ensures back { AreHandedBack 2 rigs result.1 }
+{
+    if setup.turns < turn {
+        let stop = Stop::NoSuchTurn {
+            asked: turn,
+            turns: setup.turns,
+        };
+        return (Err(stop), rigs);
+    }
+    let Rigs { first, rest } = rigs;
+    let mut rest = rest;
+    let second = rest.remove(0);
+    let (text, first, second) = rejoin_text(alloc, setup, turn, first, second, orders);
+    match rest.insert(0, second) {
+        Ok(()) => (shown(text), Rigs { first, rest }),
+        Err(_) => unreachable!(),
+    }
 }
 
 fn trial<'w>(

@@ -2,19 +2,21 @@
 //!
 //! It promises that the words' command does what its definition says over the files that are held: the digest printed
 //! after each turn is that of the turn function folded over the match's own turns, from the first state or from the one
-//! that a stored state's bytes stand for. The first of eight rigs then stands for the last state, and all come back. It
-//! stands on the shelf and the sink, on the reader of match files and the text of a trial, on a match that is played on a
+//! that a stored state's bytes stand for. Of eight rigs each that was used then stands for the last state of its client, and
+//! all come back. It stands on the shelf and the sink, on the reader of match files and the text of a trial, on a match that is played on a
 //! board, on the codec, on the printed texts, and on the definitions of the base crate.
 //!
 //! - `words`: what the words ask for.
 //! - `status`, `stop`: how a run ends, and why a command ends before it has its text.
 //! - `inputs`: the match and the stored state that a command reads, and the match of a trial.
+//! - `rigs`: the rigs with which a run plays.
 //! - `commands`: what each command makes of its files.
 //! - `top`: the top call.
 #![tactic(auto)]
 
 mod commands;
 mod inputs;
+mod rigs;
 mod status;
 mod stop;
 mod top;

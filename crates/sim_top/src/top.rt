@@ -1,7 +1,7 @@
 //! The top call: from the words to a status. All files are read and the whole text is made before anything is written,
 //! so that a refusal or want of memory leaves the sink and the files as they were.
 
-ghost use Rattle.std.specs.Prelude.{◌≡◌, ◌≢◌, ℕ, List, All, length, drop, vec_capacity, Option, IfSome, IfOk, IsOk, Some, None, [], option_map, string_bytes};
+ghost use Rattle.std.specs.Prelude.{◌≡◌, ◌≢◌, ◌≤◌, ℕ, List, All, length, drop, vec_capacity, Option, IfSome, IfOk, IsOk, Some, None, [], option_map, string_bytes};
 ghost use Rattle.std.specs.Io.KnownBytes.{Appends};
 ghost use Rattle.sim_report.specs.Lines.{usage_text as text_of_usage};
 ghost use Rattle.sim_store.specs.Counts.{after_giving};
@@ -13,12 +13,13 @@ ghost use Rattle.sim_top.specs.Reads.{length_asked, LacksMatch, HasEnded, IsUnfo
 ghost use Rattle.sim_top.specs.Answers.{scene, Meets, Causes, CountsBefore, MayEnd, IsUsageTold, KeepsAllBut, IsSilent};
 ghost use Rattle.sim_top.specs.Readiness.{IsReady, IsFaultless, IsFinal};
 ghost use Rattle.sim_top.specs.Making.{MeetsBefore, SavesIfDone, IsSavedAs, IsUsageMade, IsAnswered, SaveMeets, Tells, file_of};
-ghost use Rattle.sim_top.specs.Rigs.{RigStands, OfFirsts};
+ghost use Rattle.sim_top.specs.Rigs.{RigStands, SecondStands, OfFirsts, AreHandedBack, all_of, used};
 ghost use Rattle.sim_system.specs.Meanings.{HaveKinds, AreBuiltOnceAtMost};
 ghost use Rattle.sim_system.specs.RigWords.{systems_of};
 ghost use Rattle.sim_top.specs.Stops.{stop_text as text_of_stop, status_of};
 
 use crate::commands::{Answer, Saved, answer_to};
+use crate::rigs::Rigs;
 use crate::status::Status;
 use crate::stop::Stop;
 use crate::words::request_of;
@@ -37,7 +38,8 @@ pub struct Ended {
 }
 
 /// Does what the words say, over the files of the shelf, and writes its text to the sink. A match is played with the first
-/// of eight rigs; all eight come back, in the room and in the order in which they came.
+/// of eight rigs, and by a client that joins it with the second; all eight come back, in the room and in the order in which
+/// they came.
 pub fn run<S: Shelf, K: Sink>(
     alloc: Global,
     words: &[String],
@@ -76,35 +78,41 @@ pub fn run<S: Shelf, K: Sink>(
     ensures unsaved { out_of (asked_by (words_of words.now)) ≡ None → (S.counts shelf.new).write_faults ≡ (S.counts shelf.old).write_faults }
     ensures others { KeepsAllBut (out_of (asked_by (words_of words.now))) (S.held shelf.old) (S.held shelf.new) }
 
-    // The first rig stands for the state to which its match came, and each of its systems was built once at most. The others
-    // are as they were.
+    // The first rig stands for the state to which its match came, and so does the second where a client joined; each of their
+    // systems was built once at most. Those that are not used are as they were.
     ensures stands { IfSome (S.held shelf.old) (λ files. HasEnded result.status
         → OfFirsts rigs.items result.rigs.items (λ r s. RigStands files (asked_by (words_of words.now)) (systems_of r ⟦<dyn System as System>⟧) (systems_of s ⟦<dyn System as System>⟧))) }
+    ensures joins { IfSome (S.held shelf.old) (λ files. HasEnded result.status
+        → OfFirsts (drop 1 rigs.items) (drop 1 result.rigs.items) (λ r s. SecondStands files (asked_by (words_of words.now)) (systems_of s ⟦<dyn System as System>⟧))) }
+    ensures joined { OfFirsts (drop 1 rigs.items) (drop 1 result.rigs.items) (λ r s. AreBuiltOnceAtMost (systems_of r ⟦<dyn System as System>⟧) (systems_of s ⟦<dyn System as System>⟧)) }
     ensures most { OfFirsts rigs.items result.rigs.items (λ r s. AreBuiltOnceAtMost (systems_of r ⟦<dyn System as System>⟧) (systems_of s ⟦<dyn System as System>⟧)) }
     ensures kinds { All (λ r. HaveKinds (systems_of r ⟦<dyn System as System>⟧)) result.rigs.items }
-    ensures rest { drop 1 result.rigs.items ≡ drop 1 rigs.items }
+    ensures rest { drop (used (asked_by (words_of words.now))) result.rigs.items ≡ drop (used (asked_by (words_of words.now))) rigs.items }
     ensures count { length result.rigs.items ≡ 8 }
     ensures room { vec_capacity result.rigs ≡ vec_capacity rigs }
 {
-    let mut rigs = rigs;
-    let rig = rigs.remove(0);
-    let (status, rig) = run_with(alloc, words, shelf, out, rig, orders);
-    match rigs.insert(0, rig) {
+    let mut rest = rigs;
+    let first = rest.remove(0);
+    let (status, rigs) = run_with(alloc, words, shelf, out, Rigs { first, rest }, orders);
+    let Rigs { first, rest } = rigs;
+    let mut rigs = rest;
+    match rigs.insert(0, first) {
         Ok(()) => Ended { status, rigs },
         Err(_) => unreachable!(),
     }
 }
 
-// The same with the one rig that is used.
+// The same with the first rig apart.
 fn run_with<S: Shelf, K: Sink>(
     alloc: Global,
     words: &[String],
     shelf: &mut S,
     out: &mut K,
-    rig: Rig,
+    rigs: Rigs,
     orders: &OrderTable,
-) -> (Status, Rig)
-    requires { HaveKinds (systems_of rig ⟦<dyn System as System>⟧) }
+) -> (Status, Rigs)
+    requires two { 1 ≤ length rigs.rest.items }
+    requires kinds { All (λ r. HaveKinds (systems_of r ⟦<dyn System as System>⟧)) (all_of rigs) }
     ensures answers { IfSome (S.held shelf.old) (λ files. Meets result.0 (words_of words.now) files
         (scene (S.held shelf.old) (K.told out.old) (S.counts shelf.old) (K.faults out.old))
         (scene (S.held shelf.new) (K.told out.new) (S.counts shelf.new) (K.faults out.new))) }
@@ -123,12 +131,15 @@ fn run_with<S: Shelf, K: Sink>(
         (scene (S.held shelf.new) (K.told out.new) (S.counts shelf.new) (K.faults out.new)) }
     ensures unsaved { out_of (asked_by (words_of words.now)) ≡ None → (S.counts shelf.new).write_faults ≡ (S.counts shelf.old).write_faults }
     ensures others { KeepsAllBut (out_of (asked_by (words_of words.now))) (S.held shelf.old) (S.held shelf.new) }
-    ensures stands { IfSome (S.held shelf.old) (λ files. HasEnded result.0 → RigStands files (asked_by (words_of words.now)) (systems_of rig ⟦<dyn System as System>⟧) (systems_of result.1 ⟦<dyn System as System>⟧)) }
-    ensures most { AreBuiltOnceAtMost (systems_of rig ⟦<dyn System as System>⟧) (systems_of result.1 ⟦<dyn System as System>⟧) }
-    ensures kinds { HaveKinds (systems_of result.1 ⟦<dyn System as System>⟧) }
+    ensures stands { IfSome (S.held shelf.old) (λ files. HasEnded result.0 → RigStands files (asked_by (words_of words.now)) (systems_of rigs.first ⟦<dyn System as System>⟧) (systems_of result.1.first ⟦<dyn System as System>⟧)) }
+    ensures joins { IfSome (S.held shelf.old) (λ files. HasEnded result.0 → OfFirsts rigs.rest.items result.1.rest.items (λ r s. SecondStands files (asked_by (words_of words.now)) (systems_of s ⟦<dyn System as System>⟧))) }
+    ensures most { AreBuiltOnceAtMost (systems_of rigs.first ⟦<dyn System as System>⟧) (systems_of result.1.first ⟦<dyn System as System>⟧) }
+    ensures joined { OfFirsts rigs.rest.items result.1.rest.items (λ r s. AreBuiltOnceAtMost (systems_of r ⟦<dyn System as System>⟧) (systems_of s ⟦<dyn System as System>⟧)) }
+    ensures kinds { All (λ r. HaveKinds (systems_of r ⟦<dyn System as System>⟧)) (all_of result.1) }
+    ensures back { AreHandedBack (used (asked_by (words_of words.now))) rigs result.1 }
 {
-    let (answer, rig) = made_answer(alloc, words, shelf, rig, orders);
-    (finish(shelf, out, &answer), rig)
+    let (answer, rigs) = made_answer(alloc, words, shelf, rigs, orders);
+    (finish(shelf, out, &answer), rigs)
 }
 
 // Writes what was made: the file that is to be saved, and then the text.
@@ -183,10 +194,11 @@ fn made_answer<'w, S: Shelf>(
     alloc: Global,
     words: &'w [String],
     shelf: &mut S,
-    rig: Rig,
+    rigs: Rigs,
     orders: &OrderTable,
-) -> (Answer<'w>, Rig)
-    requires { HaveKinds (systems_of rig ⟦<dyn System as System>⟧) }
+) -> (Answer<'w>, Rigs)
+    requires two { 1 ≤ length rigs.rest.items }
+    requires kinds { All (λ r. HaveKinds (systems_of r ⟦<dyn System as System>⟧)) (all_of rigs) }
     ensures answers { IfSome (S.held shelf.old) (λ files. MeetsBefore result.0.status (words_of words.now) files
         (string_bytes result.0.text) (option_map file_of result.0.saved)) }
     ensures statuses { MayEnd (asked_by (words_of words.now)) result.0.status }
@@ -201,17 +213,23 @@ fn made_answer<'w, S: Shelf>(
     ensures unwritten { result.0.status ≢ Status.WriteFault }
     ensures causes { CountsBefore result.0.status (S.counts shelf.old) (S.counts shelf.new) }
     ensures held { S.held shelf.new ≡ S.held shelf.old }
-    ensures stands { IfSome (S.held shelf.old) (λ files. HasEnded result.0.status → RigStands files (asked_by (words_of words.now)) (systems_of rig ⟦<dyn System as System>⟧) (systems_of result.1 ⟦<dyn System as System>⟧)) }
-    ensures most { AreBuiltOnceAtMost (systems_of rig ⟦<dyn System as System>⟧) (systems_of result.1 ⟦<dyn System as System>⟧) }
-    ensures kinds { HaveKinds (systems_of result.1 ⟦<dyn System as System>⟧) }
+    ensures stands { IfSome (S.held shelf.old) (λ files. HasEnded result.0.status → RigStands files (asked_by (words_of words.now)) (systems_of rigs.first ⟦<dyn System as System>⟧) (systems_of result.1.first ⟦<dyn System as System>⟧)) }
+    ensures joins { IfSome (S.held shelf.old) (λ files. HasEnded result.0.status → OfFirsts rigs.rest.items result.1.rest.items (λ r s. SecondStands files (asked_by (words_of words.now)) (systems_of s ⟦<dyn System as System>⟧))) }
+    ensures most { AreBuiltOnceAtMost (systems_of rigs.first ⟦<dyn System as System>⟧) (systems_of result.1.first ⟦<dyn System as System>⟧) }
+    ensures joined { OfFirsts rigs.rest.items result.1.rest.items (λ r s. AreBuiltOnceAtMost (systems_of r ⟦<dyn System as System>⟧) (systems_of s ⟦<dyn System as System>⟧)) }
+    ensures kinds { All (λ r. HaveKinds (systems_of r ⟦<dyn System as System>⟧)) (all_of result.1) }
+    ensures back { AreHandedBack (used (asked_by (words_of words.now))) rigs result.1 }
 {
     let Some(request) = request_of(words) else {
-        return (answered(alloc, Status::Usage, usage_text(alloc)), rig);
+        return (answered(alloc, Status::Usage, usage_text(alloc)), rigs);
     };
-    let (answer, rig) = answer_to(alloc, request, shelf, rig, orders);
+    let (answer, rigs) = answer_to(alloc, request, shelf, rigs, orders);
     match answer {
-        Ok(answer) => (answer, rig),
-        Err(stop) => (answered(alloc, stop.status(), stop_text(alloc, &stop)), rig),
+        Ok(answer) => (answer, rigs),
+        Err(stop) => (
+            answered(alloc, stop.status(), stop_text(alloc, &stop)),
+            rigs,
+        ),
     }
 }
 

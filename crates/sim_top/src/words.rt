@@ -24,6 +24,11 @@ pub enum Request<'w> {
         game: &'w str,
         stored: &'w str,
     },
+    /// To play a match, which a second client joins at a turn.
+    Rejoin {
+        game: &'w str,
+        turn: u32,
+    },
     /// To show a stored state of a match.
     Show {
         game: &'w str,
@@ -75,15 +80,19 @@ fn request_of_one<'w>(command: &str, file: &'w str) -> Option<Request<'w>>
     None
 }
 
-fn request_of_two<'w>(command: &str, game: &'w str, stored: &'w str) -> Option<Request<'w>>
-    ensures asked { option_map asked result ≡ asked_of_two command.now game.now stored.now }
+fn request_of_two<'w>(command: &str, a: &'w str, b: &'w str) -> Option<Request<'w>>
+    ensures asked { option_map asked result ≡ asked_of_two command.now a.now b.now }
     ensures trial { IfSome result (λ request. CanBeTried (asked request)) }
 {
     if command == "resume" {
-        return Some(Request::Resume { game, stored });
+        return Some(Request::Resume { game: a, stored: b });
+    }
+    if command == "rejoin" {
+        let turn = turn_of(b)?;
+        return Some(Request::Rejoin { game: a, turn });
     }
     if command == "show" {
-        return Some(Request::Show { game, stored });
+        return Some(Request::Show { game: a, stored: b });
     }
     None
 }

@@ -73,6 +73,13 @@ const RESUMED_LINES: &str = "turn 1 5ba6ccce6ec0216cccaaf7181a30b789
 turn 2 846656bc95c044d1dd6d2f3f26ab5406
 ";
 
+const REJOINED_LINES: &str = "first 0 6c55afdc0e61faf6e75ba31d1bd8428e
+first 1 5ba6ccce6ec0216cccaaf7181a30b789
+first 2 846656bc95c044d1dd6d2f3f26ab5406
+second 1 5ba6ccce6ec0216cccaaf7181a30b789
+second 2 846656bc95c044d1dd6d2f3f26ab5406
+";
+
 const SHOWN: &str = "turn 1 next 4 word 0 rows 1
 entity 3 template post owner 2 at 2 2 health 50
 ";
@@ -287,6 +294,15 @@ fn words_and_files_give_their_status_and_text(rt: HostRuntime) -> Result<(), Fai
             "match refused 1 0\n",
         ),
         (&["resume", "m", "s"], POSTS, Status::NoFile, ""),
+        (&["rejoin", "m", "1"], POSTS, Status::Done, REJOINED_LINES),
+        (
+            &["rejoin", "m", "3"],
+            POSTS,
+            Status::NoSuchTurn,
+            "no turn 3 of 2\n",
+        ),
+        (&["rejoin", "x", "3"], POSTS, Status::NoFile, ""),
+        (&["rejoin", "m", "1x"], POSTS, Status::Usage, USAGE),
         (&["show", "m", "s"], POSTS, Status::NoFile, ""),
         (&["serve", "m"], SCHEDULE, Status::Done, SERVED),
         (
@@ -556,10 +572,11 @@ fn are_inputs_kept(shelf: &MemShelf) -> bool {
 type Case = (&'static [&'static str], u64, Option<&'static [u8]>);
 
 // Each file that is read takes three calls: it is opened, it is read whole, and it has come to its end.
-const COMMANDS: [Case; 5] = [
+const COMMANDS: [Case; 6] = [
     (&["play", "m"], 3, None),
     (&["state", "m", "0", "s"], 3, Some(&WITH_FOUR)),
     (&["resume", "m", "a"], 6, None),
+    (&["rejoin", "m", "1"], 3, None),
     (&["show", "m", "a"], 6, None),
     (&["compare", "m", "a", "b"], 9, None),
 ];

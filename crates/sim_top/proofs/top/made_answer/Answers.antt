@@ -7,6 +7,7 @@ use Rattle.sim_top.specs.declared.stop.Stop.{Stop}
 use Rattle.sim_top.specs.Making.{IsAnswered}
 use Rattle.sim_top.specs.Stops.{CausesOf}
 use Rattle.sim_top.proofs.Finishing.{answered_causes}
+use Rattle.sim_top.proofs.Joining.{never_ended}
 use Rattle.sim_top.proofs.Playing.{stands_asked, stands_unasked, stands_ended, answered_never_ends}
 use Rattle.sim_top.proofs.top.made_answer.Goals as goal
 
@@ -27,3 +28,10 @@ returns-in-Err-clause-stands g c =
 
 pub returns-in-Ok-clause-stands : goal.returns-in-Ok-clause-stands
 returns-in-Ok-clause-stands g c = stands_asked _ _ c.in-Ok.answer _ _ _ _ c.in-Ok.is c.in-Some.ensures.asked c.answer_to-answer.ensures.stands
+
+pub returns-in-Err-clause-joins : goal.returns-in-Err-clause-joins
+returns-in-Err-clause-joins g c =
+    let made = c.answered-in-Err.result in
+    let text = string_bytes made.text in
+    never_ended _ made.status _
+    (answered_never_ends c.in-Err.stop made.status text c.stop_text.result (subst (λ (s : Status). IsAnswered made.status text s c.stop_text.result) c.status.ensures c.answered-in-Err.ensures.answer))

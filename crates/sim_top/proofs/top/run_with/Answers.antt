@@ -6,7 +6,8 @@ use Rattle.std.specs.Prelude.{option_map}
 use Rattle.sim_store.specs.Files.{File}
 use Rattle.sim_top.specs.Words.{words_of, asked_by}
 use Rattle.sim_top.specs.Answers.{scene, Meets, Causes}
-use Rattle.sim_top.specs.Rigs.{RigStands}
+use Rattle.sim_system.specs.RigWords.{systems_by}
+use Rattle.sim_top.specs.Rigs.{RigStands, SecondStands, OfFirsts}
 use Rattle.sim_top.specs.Readiness.{IsReady, IsFaultless, IsFinal}
 use Rattle.sim_top.specs.Making.{MeetsBefore, file_of}
 use Rattle.sim_top.proofs.Stopping.{Told, Told-both}
@@ -55,6 +56,14 @@ returns-clause-stands g c =
     let answer = c.made_answer-answer.result.0 in
     Told (λ files. HasEnded answer.status → RigStands files words _ _) (λ files. HasEnded c.finish.result → RigStands files words _ _) _
     (λ files h ended. h (subst HasEnded (c.finish.ensures.ended ended).0 ended)) c.made_answer-answer.ensures.stands
+
+pub returns-clause-joins : goal.returns-clause-joins
+returns-clause-joins g c =
+    let words = asked_by (words_of c.args.words.now) in
+    let answer = c.made_answer-answer.result.0 in
+    let joined = λ (files : List File). OfFirsts c.args.rigs.rest.items c.made_answer-answer.result.1.rest.items (λ r s. SecondStands files words (systems_by s (λ i v. (goal.System-dyn g (i, v)).meaning v))) in
+    Told (λ files. HasEnded answer.status → joined files) (λ files. HasEnded c.finish.result → joined files) _
+    (λ files h ended. h (subst HasEnded (c.finish.ensures.ended ended).0 ended)) c.made_answer-answer.ensures.joins
 
 -- a run that came to its end wrote without reading any more
 pub returns-clause-given : goal.returns-clause-given

@@ -5,7 +5,7 @@ use Rattle.sim_top.specs.Words.{Asked, asked, to_try}
 use Rattle.sim_top.specs.Reads.{length_read}
 use Rattle.sim_top.proofs.Counting.{content_causes, nothing_given, none_given, whatever_ok}
 use Rattle.sim_top.proofs.Playing.{makes_asked, stands_of}
-use Rattle.sim_top.proofs.commands.answer_to.Goals as goal
+use Rattle.sim_top.proofs.commands.answer_alone.Goals as goal
 
 pub returns-in-Trial-clause-answers : goal.returns-in-Trial-clause-answers
 returns-in-Trial-clause-answers g c =
