@@ -1,5 +1,5 @@
 -- With which status a run ends, by that of what was made; and what was told of words that are in no table.
-use Rattle.std.proofs.Common.{◌≡◌, ℕ, ◌<◌, List, [], length, take, Option, Some, None, sym, subst, inl, inr, Result, Ok, Err, IsOk, IfOk, String, string_bytes, ap, ◌∙◌}
+use Rattle.std.proofs.Common.{◌≡◌, ℕ, ◌<◌, List, [], length, take, Option, Some, None, sym, subst, inl, inr, Result, Ok, Err, IsOk, IfOk, String, string_bytes, ◌∙◌}
 use Rattle.std.specs.declared.alloc.Global.{Global}
 use Rattle.std.specs.Io.KnownBytes.{Appends}
 use Rattle.std.proofs.lemmas.Bool.{false≢true}

@@ -1,5 +1,5 @@
 -- What a command makes of a match that was played, and what the systems stand for then.
-use Rattle.std.proofs.Common.{◌≡◌, ℕ, zero, suc, ◌+◌, ◌<◌, ◌≤◌, false, List, [], ◌∷◌, length, get_or, All, refl, sym, ap, ◌∙◌, subst, arith, ltb, string_bytes}
+use Rattle.std.proofs.Common.{◌≡◌, ℕ, zero, suc, ◌<◌, ◌≤◌, false, List, [], ◌∷◌, length, get_or, All, refl, sym, ap, ◌∙◌, subst, ltb, string_bytes}
 use Rattle.std.specs.Prelude.{Result, Ok, Err, Option, Some, None, OnOk, OnErr, IfOk, IfErr, IsErr, IfSome, String}
 use Rattle.std.specs.declared.alloc.Global.{Global}
 use Rattle.std.specs.List.{remove}
@@ -8,7 +8,6 @@ use Rattle.std.proofs.lemmas.List.Elements.{All-nil, All-cons, All-tail}
 use Rattle.sim_base.specs.declared.memory.OutOfMemory.{OutOfMemory as NoMemory}
 use Rattle.sim_base.specs.declared.setup.Setup.{Setup}
 use Rattle.sim_base.specs.declared.state.State.{State}
-use Rattle.sim_base.specs.Spelling.{spelling, digest}
 use Rattle.sim_base.specs.Turn.{after, own_turns, turns_in}
 use Rattle.sim_turn_laws.proofs.Turning.{after_counts_turns}
 use Rattle.sim_top.specs.Outcome.{Outcome, IsOutcomeOf, printed, stored_at, store_outcome}

@@ -1,5 +1,5 @@
 -- What was counted while the file was read, and how much of it was given.
-use Rattle.std.proofs.Common.{◌≡◌, Result, Ok, Err, sym, subst, rules, IsTrue, IfErr}
+use Rattle.std.proofs.Common.{◌≡◌, Result, Err, sym, subst, rules, IsTrue, IfErr}
 use Rattle.sim_lists.specs.declared.schedule.Schedule.{Schedule}
 use Rattle.sim_top.specs.Words.{Asked, reads_list, reads_file}
 use Rattle.sim_top.specs.Answers.{MayAnswer}
