@@ -69,20 +69,11 @@ module _ {X : Type 0} {F : X → Type 0} where
   idle_joins (Some files) (Ok x) rigs wanted systems le alone = firsts_same rigs (λ r s. SecondStands files (Some wanted) (systems s)) le (λ r. second_idle files wanted (systems r) alone)
   idle_joins (Some files) (Err e) rigs wanted systems le alone = tt
 
-  pub unasked_joins : (held : Option (List File)) (words : Option Asked) (status : Status) (rigs : List (Rig X F)) (systems : Rig X F → Systems) → words ≡ None → 1 ≤ length rigs
-      → IfSome held (λ files. HasEnded status → OfFirsts rigs rigs (λ r s. SecondStands files words (systems s)))
-  unasked_joins None words status rigs systems is le = tt
-  unasked_joins (Some files) words status rigs systems is le =
-      λ ended. subst (λ (o : Option Asked). OfFirsts rigs rigs (λ r s. SecondStands files o (systems s))) (sym is) (firsts_same rigs (λ r s. SecondStands files None (systems s)) le (λ r. tt))
-
   -- at most the first was used
   pub first_back : (n : ℕ) (rigs : Rigs X F) (first : Rig X F) → n ≤ 1 → (n ≡ 0 → first ≡ rigs.first) → AreHandedBack n rigs (record { first = first; rest = rigs.rest })
   first_back zero rigs first le same = record { unused = ap (λ (r : Rig X F). r ∷ rigs.rest.items) (same refl); count = refl; room = refl }
   first_back (suc zero) rigs first le same = record { unused = refl; count = refl; room = refl }
   first_back (suc (suc n)) rigs first le same = absurd (omega (arith, le))
-
-  pub none_used : (n : ℕ) (rigs : Rigs X F) → AreHandedBack n rigs rigs
-  none_used n rigs = record { unused = refl; count = refl; room = refl }
 
   -- one was taken off the front of a list
   pub put_before : (items after : List (Rig X F)) (x : Rig X F) → 0 < length items → x ≡ get_or items 0 x → after ≡ remove items 0 → x ∷ after ≡ items

@@ -126,11 +126,6 @@ module _ (held : Option (List File)) (made : Result Answer Stop) (request asked 
       by None = tt
       by (Some files) = subst (λ (a : Asked). OnOk made (RigStands files (Some a) s t)) (sym is) (h files)
 
--- words that ask for nothing leave the systems
-pub stands_unasked : (held : Option (List File)) (words : Option Asked) (status : Status) (s : Systems) → words ≡ None → IfSome held (λ files. HasEnded status → RigStands files words s s)
-stands_unasked None words status s e = tt
-stands_unasked (Some files) words status s e = λ ended. subst (λ (o : Option Asked). RigStands files o s s) (sym e) refl
-
 -- a status that is no end says nothing
 pub stands_ended : (held : Option (List File)) (words : Option Asked) (status : Status) (s t : Systems) → (HasEnded status → ⊥) → IfSome held (λ files. HasEnded status → RigStands files words s t)
 stands_ended None words status s t never = tt
