@@ -2,3 +2,5 @@ pub mod Beginning
 pub mod MoreSteps
 pub mod Coming
 pub mod Telling
+pub mod Loads
+pub mod Builds

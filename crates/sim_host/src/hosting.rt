@@ -7,11 +7,11 @@ ghost use Rattle.sim_client.specs.StageWords.{AreCleared};
 ghost use Rattle.sim_lists.specs.StepLists.{IsStepList};
 ghost use Rattle.sim_plain_session.specs.Printed.{start_events, events_after};
 ghost use Rattle.sim_plain_session.specs.Sessions.{opened};
-ghost use Rattle.sim_session.specs.SessionWords.{setup_in, clients_in, seen_in, spare_in, room_in, rigs_of, MayFinish, IsSession};
+ghost use Rattle.sim_session.specs.SessionWords.{setup_in, clients_in, systems_in, seen_in, spare_in, room_in, rigs_of, MayFinish, IsSession};
 ghost use Rattle.sim_session.specs.Standing.{StandsFor};
 ghost use Rattle.sim_session_text.specs.SessionText.{lines_of, session_of, session_text as text_of_session};
 ghost use Rattle.sim_system.specs.Meanings.{HaveKinds};
-ghost use Rattle.sim_host.specs.Rigs.{AllStand};
+ghost use Rattle.sim_host.specs.Rigs.{AllStand, AllBuiltAtMost, builds_of, loads_in};
 ghost use Rattle.sim_host.specs.Starts.{start_lines};
 
 use sim_base::{Event, OutOfMemory, Setup};
@@ -66,6 +66,7 @@ fn push_steps(
     requires opened { StandsFor (setup_in session.old) (seen_in session.old) (opened (setup_in session.old) list.now.clients) }
     ensures stands { OnOk result (StandsFor (setup_in session.old) (seen_in session.new) (session_of (setup_in session.old) list.now)) }
     ensures text { OnOk result (string_bytes text.new ≡ string_bytes text.old ++ lines_of (events_after (setup_in session.old) (opened (setup_in session.old) list.now.clients) list.now.steps)) }
+    ensures built { OnOk result (AllBuiltAtMost (loads_in (events_after (setup_in session.old) (opened (setup_in session.old) list.now.clients) list.now.steps)) (setup_in session.old).players (systems_in session.old ⟦<dyn System as System>⟧) (systems_in session.new ⟦<dyn System as System>⟧)) }
     ensures session { OnOk result (IsSession session.new ⟦<dyn System as System>⟧) }
     ensures finish { MayFinish session.new ⟦<dyn System as System>⟧ }
     ensures setup { setup_in session.new ≡ setup_in session.old }
@@ -91,6 +92,7 @@ fn push_session(
     requires opened { StandsFor (setup_in session.old) (seen_in session.old) (opened (setup_in session.old) 0) }
     ensures stands { OnOk result (StandsFor (setup_in session.old) (seen_in session.new) (session_of (setup_in session.old) list.now)) }
     ensures text { OnOk result (string_bytes text.new ≡ string_bytes text.old ++ text_of_session (setup_in session.old) list.now) }
+    ensures built { OnOk result (AllBuiltAtMost (builds_of (setup_in session.old) list.now) (setup_in session.old).players (systems_in session.old ⟦<dyn System as System>⟧) (systems_in session.new ⟦<dyn System as System>⟧)) }
     ensures session { OnOk result (IsSession session.new ⟦<dyn System as System>⟧) }
     ensures finish { MayFinish session.new ⟦<dyn System as System>⟧ }
     ensures setup { setup_in session.new ≡ setup_in session.old }
@@ -106,7 +108,7 @@ fn push_session(
 
 /// What is printed of a session over a list of steps, in which client c has the c-th of eight cleared rigs. All rigs come back.
 /// Where there was memory, the systems of each client that is on in the end stand for its state, and those of each other one
-/// have forgotten all.
+/// have forgotten all; they were built at most once for its start and once for each state that it loaded.
 pub fn session_text(
     alloc: Global,
     setup: &Setup,
@@ -121,6 +123,7 @@ pub fn session_text(
     requires cleared { All AreCleared (rigs_of rigs.items ⟦<dyn System as System>⟧) }
     ensures text { IfOk result.0 (λ text. string_bytes text ≡ text_of_session setup.now list.now) }
     ensures stand { OnOk result.0 (AllStand setup.now (session_of setup.now list.now) (rigs_of result.1.items ⟦<dyn System as System>⟧)) }
+    ensures built { OnOk result.0 (AllBuiltAtMost (builds_of setup.now list.now) setup.now.players (rigs_of rigs.items ⟦<dyn System as System>⟧) (rigs_of result.1.items ⟦<dyn System as System>⟧)) }
     ensures kinds { All HaveKinds (rigs_of result.1.items ⟦<dyn System as System>⟧) }
     ensures spare { drop setup.now.players result.1.items ≡ drop setup.now.players rigs.items }
     ensures eight { length result.1.items ≡ 8 }

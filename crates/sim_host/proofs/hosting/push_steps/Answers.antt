@@ -1,13 +1,22 @@
 -- One step more is made, and the lines of its events stand behind those so far.
-use Rattle.std.proofs.Common.{rules, ◌≤◌, ◌<◌, length, take, get_or, ap, ◌∙◌, subst, append_assoc}
+use Rattle.std.proofs.Common.{rules, ◌≤◌, ◌<◌, length, take, get_or, ap, ◌∙◌, subst, append_assoc, ◌≡◌, true, List, ◌+◌, sym, arith}
 use Rattle.std.specs.Prelude.{string_bytes}
+use Rattle.std.proofs.lemmas.List.{length-map}
 use Rattle.sim_base.specs.declared.setup.Setup.{Setup}
+use Rattle.sim_base.specs.declared.step.Event.{Event}
+use Rattle.sim_client.specs.StageWords.{systems_on}
+use Rattle.sim_lists.specs.StepLists.{IsStep}
 use Rattle.sim_plain_session.specs.Printed.{events, events_after}
-use Rattle.sim_plain_session.specs.Sessions.{opened, session as session_over}
-use Rattle.sim_session.specs.SessionWords.{seen_in}
+use Rattle.sim_plain_session.specs.Sessions.{opened, client_of, session as session_over}
+use Rattle.sim_session.specs.Building.{has_load}
+use Rattle.sim_session.specs.SessionWords.{seen_in, systems_by}
 use Rattle.sim_session.specs.Standing.{Steps}
 use Rattle.sim_session_text.specs.SessionText.{lines_of}
-use Rattle.sim_host.proofs.MoreSteps.{lines_more, stands_more}
+use Rattle.sim_session_text.proofs.NextClients.{at_place}
+use Rattle.sim_host.specs.Rigs.{loads_in}
+use Rattle.sim_host.proofs.Builds.{step_built, all_built_so}
+use Rattle.sim_host.proofs.Loads.{loads_are_own}
+use Rattle.sim_host.proofs.MoreSteps.{lines_more, stands_more, loads_more}
 use Rattle.sim_host.proofs.hosting.push_steps.Goals as goal
 
 pub loop-step-preserved : goal.loop-step-preserved
@@ -28,11 +37,23 @@ loop-step-preserved g c =
     let more = lines_more setup active n steps step lt is in
     let pushed = c.in_ok-push_events.ensures in
     let text = was.text in
+    let evs = c.in_ok-events.events in
+    let own = client_of step in
+    let systems_were = systems_by l.session.clients.items (λ i v. (goal.System-dyn g (i, v)).meaning v) in
+    let systems_are = systems_by c.step.new.self.clients.items (λ i v. (goal.System-dyn g (i, v)).meaning v) in
+    let fits = at_place (IsStep setup.players) steps n step c.requires.list.steps lt is in
+    let many = length-map l.session.clients.items (λ x. systems_on x.board (λ i v. (goal.System-dyn g (i, v)).meaning v)) ∙ was.session.count ∙ ap (λ (s : Setup). s.players) was.setup in
+    let loads = subst (λ (es : List Event). has_load es ≡ true → 1 ≤ loads_in es own) (sym printed) (loads_are_own setup (session_over setup active (take n steps)) step) in
+    let before : List Event = events_after setup (opened setup active) (take n steps) in
+    let behind : List Event = events_after setup (opened setup active) (take (n + 1) steps) in
+    let made_now = step_built own setup.players evs systems_were systems_are (omega (arith, fits.client.0)) many loads c.in_ok-events.ensures.built in
     let split = append_assoc (string_bytes c.args.text.now) (lines_of (events_after setup (opened setup active) (take n steps))) (lines_of (events setup (session_over setup active (take n steps)) step)) in
     record {
       session = c.in_ok-events.ensures.session;
       stands = stands_more setup active n steps step (seen_in l.session) (seen_in c.step.new.self) c.in_ok-events.events few lt is made was.stands;
       text = cc;
+      built = all_built_so (loads_in before) (loads_in evs) (loads_in behind) setup.players (systems_by c.args.session.now.clients.items (λ i v. (goal.System-dyn g (i, v)).meaning v)) systems_were systems_are
+          (λ k. subst (λ (es : List Event). loads_in before k + loads_in es k ≤ loads_in behind k) (sym printed) (loads_more setup active n steps step k lt is)) was.built made_now;
       setup = c.in_ok-events.ensures.setup ∙ was.setup;
       spare = c.in_ok-events.ensures.spare ∙ was.spare;
       count = search rules;

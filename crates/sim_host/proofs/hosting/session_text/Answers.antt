@@ -1,8 +1,13 @@
 -- All rigs come back, each system in its place.
-use Rattle.std.proofs.Common.{◌∙◌}
+use Rattle.std.proofs.Common.{◌∙◌, sym, ap, subst}
 use Rattle.sim_system.specs.Meanings.{HaveKinds}
 use Rattle.sim_system.specs.RigWords.{systems_by}
 use Rattle.sim_client.specs.StageWords.{systems_on}
+use Rattle.std.proofs.lemmas.List.{length-map}
+use Rattle.sim_base.specs.declared.setup.Setup.{Setup}
+use Rattle.sim_session.specs.SessionWords.{rigs_by, systems_by as clients_by}
+use Rattle.sim_host.specs.Rigs.{AllBuiltAtMost, builds_of}
+use Rattle.sim_host.proofs.Builds.{front_built}
 use Rattle.sim_host.proofs.Coming.{same_count, all_back}
 use Rattle.sim_host.proofs.hosting.session_text.Goals as goal
 
@@ -29,3 +34,18 @@ returns-in-Err-told-clause-eight g c =
     same_count (λ r. systems_by r (λ i v. (g.dyn-2.0.entry i).1.meaning v)) (λ x. systems_on x.board (λ i v. (g.dyn-2.0.entry i).1.meaning v))
     c.finish-rigs.result.items c.args.rigs.items c.in-Ok.session.rigs.items c.push_session-told.new.session.rigs.items c.in-Ok.session.clients.items c.push_session-told.new.session.clients.items
     c.finish-rigs.ensures.systems c.in-Ok.ensures.systems c.push_session-told.ensures.count c.push_session-told.ensures.spare ∙ c.requires.eight
+
+pub returns-in-Ok-told-clause-built : goal.returns-in-Ok-told-clause-built
+returns-in-Ok-told-clause-built g c =
+    let setup = c.args.setup.now in
+    let begun = c.in-Ok.session in
+    let ended = c.push_session-told.new.session in
+    let first = clients_by begun.clients.items (λ i v. (g.dyn-2.0.entry i).1.meaning v) in
+    let last = clients_by ended.clients.items (λ i v. (g.dyn-2.0.entry i).1.meaning v) in
+    let many = length-map begun.clients.items (λ x. systems_on x.board (λ i v. (g.dyn-2.0.entry i).1.meaning v)) ∙ c.in-Ok.ensures.session.count ∙ ap (λ (s : Setup). s.players) c.in-Ok.ensures.setup in
+    let more = length-map ended.clients.items (λ x. systems_on x.board (λ i v. (g.dyn-2.0.entry i).1.meaning v)) ∙ c.push_session-told.ensures.count ∙ c.in-Ok.ensures.session.count ∙ ap (λ (s : Setup). s.players) c.in-Ok.ensures.setup in
+    let built = subst (λ (s : Setup). AllBuiltAtMost (builds_of s c.args.list.now) s.players first last) c.in-Ok.ensures.setup c.in-Ok-told.ensures.built in
+    front_built (builds_of setup c.args.list.now) setup.players first last
+    (rigs_by begun.rigs.items (λ i v. (g.dyn-2.0.entry i).1.meaning v)) (rigs_by ended.rigs.items (λ i v. (g.dyn-2.0.entry i).1.meaning v))
+    (rigs_by c.args.rigs.items (λ i v. (g.dyn-2.0.entry i).1.meaning v)) (rigs_by c.finish-rigs.result.items (λ i v. (g.dyn-2.0.entry i).1.meaning v))
+    (sym c.in-Ok.ensures.systems) c.finish-rigs.ensures.systems many more built
