@@ -1,0 +1,5 @@
+//! Worked sessions with real systems, as tests. It promises nothing by itself.
+#![tactic(auto)]
+
+#[cfg(test)]
+mod tests;
