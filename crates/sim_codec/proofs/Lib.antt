@@ -1,4 +1,5 @@
 pub mod Checked
+pub mod Halves
 pub mod Places
 pub mod Told
 pub mod Fits

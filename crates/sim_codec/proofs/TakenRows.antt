@@ -1,18 +1,23 @@
 -- Rows that are taken one after the other from where they stand.
-use Rattle.std.proofs.Common.{◌≡◌, ℕ, zero, suc, ◌+◌, ◌-◌, ◌<◌, ◌≤◌, Bool, true, false, List, [], ◌∷◌, length, Option, Some, None, refl, sym, ap, ◌∙◌, arith, ℤ}
-use Rattle.std.specs.Prelude.{is_some, slice_get, option_map, option_and_then, unwrap_or, ◌==◌, ◌&&◌, ◌||◌}
-use Rattle.std.proofs.lemmas.Bool.{eq-eqb, ne_eqb}
+use Rattle.std.proofs.Common.{◌≡◌, ℕ, zero, suc, ◌+◌, ◌-◌, ◌*◌, ◌<◌, ◌≤◌, Bool, true, false, ltb, cond, List, [], ◌∷◌, length, map, take, drop, Option, Some, None, refl, sym, ap, ◌∙◌, arith, ℤ}
+use Rattle.std.specs.Prelude.{is_some, slice_get, option_map, option_and_then, unwrap_or}
+use Rattle.std.specs.Int.{Width, w16, w32, byte_len, from_le_bytes}
+use Rattle.std.specs.List.{list_any}
+use Rattle.std.specs.Simd.{first_chunks}
+use Rattle.std.proofs.lemmas.Bool.{ltb-false}
+use Rattle.std.proofs.lemmas.List.{drop-take, drop-drop, length-drop}
+use Rattle.sim_base.specs.Rows.{id_of}
 use Rattle.sim_base.specs.declared.state.Row.{Row}
 use Rattle.sim_base.specs.declared.template.Template.{Template}
 use Rattle.sim_base.specs.Validity.{has_health}
-use Rattle.sim_bytes.specs.Reading.{Reader, ◌>>=◌}
+use Rattle.sim_bytes.specs.Reading.{Reader, ◌>>=◌, number_at}
 use Rattle.sim_sections.specs.declared.walk.Walk.{Walk}
 use Rattle.sim_sections.specs.declared.walk.Parts.{Parts}
 use Rattle.sim_sections.specs.Rows.{entity_at, position_at, owner_at, health_at, moving_at, attack_at}
 use Rattle.sim_sections.specs.Sections.{row_if}
 use Rattle.sim_sections.specs.Walking.{parts_at, row_of}
 use Rattle.sim_codec.specs.Reading.{row_at, rows_at}
-use Rattle.sim_codec.specs.Stored.{rows_in, lives, alive_at}
+use Rattle.sim_codec.specs.Stored.{rows_in, lives, id_in, template_in, lives_as}
 
 -- a row in front of others that are read
 abbrev before : Row → Option (List Row × Walk) → Option (List Row × Walk)
@@ -153,59 +158,94 @@ first_of ts w p after h =
       health = ap is_some (sym healths) ∙ is_some-if health_at (is_some t.0.health) w.health health.0 health.1 ∙ alive ∙ ap (λ (x : ℕ × ℕ). lives ts x.1) entity;
     }
 
-alive_before : (ts : List Template) (id n : ℕ) (bytes : List ℕ) (e : ℕ × ℕ) (after : List ℕ) → entity_at bytes ≡ Some (e, after) → alive_at ts id (suc n) bytes ≡ ((e.0 == id && lives ts e.1) || alive_at ts id n after)
-unfolding alive_at
-alive_before ts id n bytes e after h = rw h refl
+number_is : (w : Width) (bytes : List ℕ) (x : ℕ × List ℕ) → number_at w bytes ≡ Some x → (byte_len w ≤ length bytes) × ((from_le_bytes w (take (byte_len w) bytes), drop (byte_len w) bytes) ≡ x)
+number_is w bytes x h = by (ltb (length bytes) (byte_len w)) refl
+  where
+    value : ℕ × List ℕ
+    value = (from_le_bytes w (take (byte_len w) bytes), drop (byte_len w) bytes)
 
-pub alive_read : (ts : List Template) (id n : ℕ) (w : Walk) → is_some (rows_at ts n w) ≡ true → alive_at ts id n w.entity ≡ has_health (rows_in (rows_at ts n w)) id
-unfolding alive_at
+    by : (b : Bool) → ltb (length bytes) (byte_len w) ≡ b → (byte_len w ≤ length bytes) × (value ≡ x)
+    by true short = absurd (let f : cond true None (Some value) ≡ Some x = ap (λ b. cond b None (Some value)) (sym short) ∙ h in cc)
+    by false long = (ltb-false (length bytes) (byte_len w) long, inject value x (ap (λ b. cond b None (Some value)) (sym long) ∙ h))
+
+-- a row of the first section has six bytes
+pub record IsEntityOf (bytes : List ℕ) (e : ℕ × ℕ) (after : List ℕ) : Type 0 where
+  pub id : id_in (take 6 bytes) ≡ e.0
+  pub template : template_in (take 6 bytes) ≡ e.1
+  pub behind : drop 6 bytes ≡ after
+  pub long : 6 ≤ length bytes
+
+entity_is : (bytes : List ℕ) (e : ℕ × ℕ) (after : List ℕ) → entity_at bytes ≡ Some (e, after) → IsEntityOf bytes e after
+unfolding entity_at
+entity_is bytes e after h =
+    let id = bind_some (number_at w32 bytes) _ (e, after) h in
+    let template = bind_some (number_at w16 id.0.1) _ (e, after) id.2 in
+    let same : ◌≡◌ {A = (ℕ × ℕ) × List ℕ} ((id.0.0, template.0.0), template.0.1) (e, after) = inject _ (e, after) template.2 in
+    let first = number_is w32 bytes id.0 id.1 in
+    let second = number_is w16 id.0.1 template.0 template.1 in
+    let rest : drop 4 bytes ≡ id.0.1 = ap (λ (x : ℕ × List ℕ). x.1) first.1 in
+    record {
+      id = ap (from_le_bytes w32) (take-take bytes) ∙ ap (λ (x : ℕ × List ℕ). x.0) first.1 ∙ ap (λ (x : (ℕ × ℕ) × List ℕ). x.0.0) same;
+      template = ap (λ (b : List ℕ). from_le_bytes w16 (take 2 b)) (drop-take 4 2 bytes) ∙ ap (from_le_bytes w16) (take_two (drop 4 bytes)) ∙ ap (λ (b : List ℕ). from_le_bytes w16 (take 2 b)) rest
+          ∙ ap (λ (x : ℕ × List ℕ). x.0) second.1 ∙ ap (λ (x : (ℕ × ℕ) × List ℕ). x.0.1) same;
+      behind = sym (drop-drop 2 4 bytes) ∙ ap (drop 2) rest ∙ ap (λ (x : ℕ × List ℕ). x.1) second.1 ∙ ap (λ (x : (ℕ × ℕ) × List ℕ). x.1) same;
+      long = omega (arith, first.0, second.0, ap length rest, length-drop 4 bytes);
+    }
+  where
+    take-take : (b : List ℕ) → take 4 (take 6 b) ≡ take 4 b
+    take-take (b0 ∷ b1 ∷ b2 ∷ b3 ∷ b) = refl
+    take-take (b0 ∷ b1 ∷ b2 ∷ []) = refl
+    take-take (b0 ∷ b1 ∷ []) = refl
+    take-take (b0 ∷ []) = refl
+    take-take [] = refl
+
+    take_two : (b : List ℕ) → take 2 (take 2 b) ≡ take 2 b
+    take_two (b0 ∷ b1 ∷ b) = refl
+    take_two (b0 ∷ []) = refl
+    take_two [] = refl
+
+-- the rows of the first section have the ids of the rows that are read
+pub chunk_ids : (ts : List Template) (n : ℕ) (w : Walk) → is_some (rows_at ts n w) ≡ true → map id_in (first_chunks 6 n w.entity) ≡ map id_of (rows_in (rows_at ts n w))
+chunk_ids ts zero w some = ap (λ (r : Option (List Row × Walk)). map id_of (rows_in r)) (sym (no_more ts w))
+chunk_ids ts (suc n) w some = by (parts_at ts w) refl (λ after. chunk_ids ts n after)
+  where
+    by : (o : Option (Parts × Walk)) → parts_at ts w ≡ o → ((after : Walk) → is_some (rows_at ts n after) ≡ true → map id_in (first_chunks 6 n after.entity) ≡ map id_of (rows_in (rows_at ts n after)))
+        → map id_in (first_chunks 6 (suc n) w.entity) ≡ map id_of (rows_in (rows_at ts (suc n) w))
+    by None h all = absurd (must_go_on ts (suc n) n w refl h some)
+    by (Some p) h all =
+        let is = entity_is w.entity p.0.entity p.1.entity (first_of ts w p.0 p.1 h).entity in
+        let others = all p.1 (can_next ts (suc n) n w p.0 p.1 refl h some) in
+        rw (next_row ts (suc n) n w p.0 p.1 refl h some, is.id, is.behind, others) refl
+
+-- and there are bytes for all of them
+pub chunks_fit : (ts : List Template) (n : ℕ) (w : Walk) → is_some (rows_at ts n w) ≡ true → n * 6 ≤ length w.entity
+chunks_fit ts zero w some = omega arith
+chunks_fit ts (suc n) w some = by (parts_at ts w) refl (λ after. chunks_fit ts n after)
+  where
+    by : (o : Option (Parts × Walk)) → parts_at ts w ≡ o → ((after : Walk) → is_some (rows_at ts n after) ≡ true → n * 6 ≤ length after.entity) → suc n * 6 ≤ length w.entity
+    by None h all = absurd (must_go_on ts (suc n) n w refl h some)
+    by (Some p) h all =
+        let is = entity_is w.entity p.0.entity p.1.entity (first_of ts w p.0 p.1 h).entity in
+        let others = all p.1 (can_next ts (suc n) n w p.0 p.1 refl h some) in
+        omega (arith, others, is.long, ap length is.behind, length-drop 6 w.entity)
+
+-- one of them has an id and a template with health just where one of the rows has it and health
+pub alive_read : (ts : List Template) (id n : ℕ) (w : Walk) → is_some (rows_at ts n w) ≡ true → list_any (lives_as ts id) (first_chunks 6 n w.entity) ≡ has_health (rows_in (rows_at ts n w)) id
 alive_read ts id zero w some = rw (no_more ts w) refl
 alive_read ts id (suc n) w some = by (parts_at ts w) refl (λ after. alive_read ts id n after)
   where
-    by : (o : Option (Parts × Walk)) → parts_at ts w ≡ o → ((after : Walk) → is_some (rows_at ts n after) ≡ true → alive_at ts id n after.entity ≡ has_health (rows_in (rows_at ts n after)) id)
-        → alive_at ts id (suc n) w.entity ≡ has_health (rows_in (rows_at ts (suc n) w)) id
+    by : (o : Option (Parts × Walk)) → parts_at ts w ≡ o → ((after : Walk) → is_some (rows_at ts n after) ≡ true → list_any (lives_as ts id) (first_chunks 6 n after.entity) ≡ has_health (rows_in (rows_at ts n after)) id)
+        → list_any (lives_as ts id) (first_chunks 6 (suc n) w.entity) ≡ has_health (rows_in (rows_at ts (suc n) w)) id
     by None h all = absurd (must_go_on ts (suc n) n w refl h some)
     by (Some p) h all =
         let first = first_of ts w p.0 p.1 h in
+        let is = entity_is w.entity p.0.entity p.1.entity first.entity in
         let others = all p.1 (can_next ts (suc n) n w p.0 p.1 refl h some) in
         let health : is_some (option_map (λ (r : ℕ × ℤ). r.1) p.0.health) ≡ lives ts p.0.entity.1 = is_some-map (λ (r : ℕ × ℤ). r.1) p.0.health ∙ first.health in
-        rw (alive_before ts id n w.entity p.0.entity p.1.entity first.entity, next_row ts (suc n) n w p.0 p.1 refl h some, others, health) refl
+        rw (next_row ts (suc n) n w p.0 p.1 refl h some, is.id, is.template, is.behind, others, health) refl
 
-pub alive_more : (ts : List Template) (id count i : ℕ) (bytes after : List ℕ) (e : ℕ × ℕ) (wanted : Bool) → i < count → entity_at bytes ≡ Some (e, after) → (e.0 == id && lives ts e.1) ≡ false → alive_at ts id (count - i) bytes ≡ wanted
-    → alive_at ts id (count - (i + 1)) after ≡ wanted
-alive_more ts id count i bytes after e wanted lt h not_it so_far =
-    let k : count - i ≡ suc (count - (i + 1)) = omega arith in
-    ap (λ b. b || alive_at ts id (count - (i + 1)) after) (sym not_it) ∙ sym (alive_before ts id (count - (i + 1)) bytes e after h) ∙ ap (λ n. alive_at ts id n bytes) (sym k) ∙ so_far
-
-pub alive_found : (ts : List Template) (id count i : ℕ) (bytes after : List ℕ) (e : ℕ × ℕ) (wanted : Bool) → i < count → entity_at bytes ≡ Some (e, after) → (e.0 == id && lives ts e.1) ≡ true → alive_at ts id (count - i) bytes ≡ wanted → true ≡ wanted
-alive_found ts id count i bytes after e wanted lt h it so_far =
-    let k : count - i ≡ suc (count - (i + 1)) = omega arith in
-    ap (λ b. b || alive_at ts id (count - (i + 1)) after) (sym it) ∙ sym (alive_before ts id (count - (i + 1)) bytes e after h) ∙ ap (λ n. alive_at ts id n bytes) (sym k) ∙ so_far
-
-pub alive_cut : (ts : List Template) (id count i : ℕ) (bytes : List ℕ) (wanted : Bool) → i < count → entity_at bytes ≡ None → alive_at ts id (count - i) bytes ≡ wanted → false ≡ wanted
-unfolding alive_at
-alive_cut ts id count i bytes wanted lt h so_far =
-    let k : count - i ≡ suc (count - (i + 1)) = omega arith in
-    let none : alive_at ts id (suc (count - (i + 1))) bytes ≡ false = rw h refl in
-    sym none ∙ ap (λ n. alive_at ts id n bytes) (sym k) ∙ so_far
-
-pub alive_done : (ts : List Template) (id count i : ℕ) (bytes : List ℕ) (wanted : Bool) → count ≤ i → alive_at ts id (count - i) bytes ≡ wanted → false ≡ wanted
-unfolding alive_at
-alive_done ts id count i bytes wanted le so_far =
-    let k : count - i ≡ 0 = omega arith in
-    ap (λ n. alive_at ts id n bytes) (sym k) ∙ so_far
-
-pub it_is : (ts : List Template) (id : ℕ) (e : ℕ × ℕ) (i t : ℕ) → (i, t) ≡ e → i ≡ id → true ≡ lives ts t → (e.0 == id && lives ts e.1) ≡ true
-it_is ts id e i t is here alive =
-    let first : (i == id) ≡ true = eq-eqb i id here in
-    ap (λ (x : ℕ × ℕ). x.0 == id && lives ts x.1) (sym is) ∙ rw (first, ← alive) refl
-
-pub other_id : (ts : List Template) (id : ℕ) (e : ℕ × ℕ) (i t : ℕ) → (i, t) ≡ e → (i ≡ id → ⊥) → (e.0 == id && lives ts e.1) ≡ false
-other_id ts id e i t is differs = ap (λ (x : ℕ × ℕ). x.0 == id && lives ts x.1) (sym is) ∙ rw (ne_eqb i id differs) refl
-
-pub no_health : (ts : List Template) (id : ℕ) (e : ℕ × ℕ) (i t : ℕ) → (i, t) ≡ e → false ≡ lives ts t → (e.0 == id && lives ts e.1) ≡ false
-no_health ts id e i t is dead = ap (λ (x : ℕ × ℕ). x.0 == id && lives ts x.1) (sym is) ∙ rw (← dead) (and_false (i == id))
-  where
-    and_false : (b : Bool) → (b && false) ≡ false
-    and_false true = refl
-    and_false false = refl
+-- the first chunks among more of them
+pub chunks_among : (n k m : ℕ) (xs : List ℕ) → k ≤ m → take k (first_chunks n m xs) ≡ first_chunks n k xs
+chunks_among n zero m xs le = refl
+chunks_among n (suc k) zero xs le = absurd (omega arith)
+chunks_among n (suc k) (suc m) xs le = ap (λ (rest : List (List ℕ)). take n xs ∷ rest) (chunks_among n k m (drop n xs) (omega (arith, le)))

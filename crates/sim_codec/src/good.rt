@@ -1,10 +1,12 @@
-//! The test of a state that still stands in its bytes: what `validity` asks of one in memory. It goes over the rows once
-//! but for the look-ups of targets, each of which passes over the first section.
+//! The test of a state that still stands in its bytes: what `validity` asks of one in memory. The ids are seen to ascend
+//! first, so that each target is then found by halves.
 
-ghost use Rattle.std.specs.Prelude.{◌≡◌, ◌↔◌, ◌<◌, IsTrue, false, option_map};
+ghost use Rattle.std.specs.Prelude.{◌≡◌, ◌↔◌, ◌<◌, IsTrue, false, map, option_map};
+ghost use Rattle.std.specs.List.Sorted.{IsStrictlyIncreasing};
+ghost use Rattle.sim_base.specs.Rows.{id_of};
 ghost use Rattle.sim_base.specs.Validity.{IsValidMotion, Both, IsValidAim, IsValidRow, IsKnownRow, IsValid};
 ghost use Rattle.sim_sections.specs.Walking.{row_of};
-ghost use Rattle.sim_codec.specs.Stored.{aim_of, AreGood};
+ghost use Rattle.sim_codec.specs.Stored.{aim_of, AreRising, AreGood};
 
 use crate::stored::{Stored, StoredRows};
 use crate::validity::{are_inside, has_valid_health, is_inside_setup, is_valid_clock};
@@ -33,6 +35,7 @@ fn has_valid_motion(setup: &Setup, motion: &Option<MotionRow>, speed: Option<Fix
 }
 
 fn is_valid_aim(all: &StoredRows<'_>, id: u32, row: &AttackRow, arms: Arms) -> bool
+    requires { IsStrictlyIncreasing (map id_of all.now) }
     ensures { IsTrue result ↔ IsValidAim all.now id (aim_of row.now) arms }
 {
     if row.cooldown > arms.repeat {
@@ -47,6 +50,7 @@ fn has_valid_attack(
     attack: &Option<AttackRow>,
     arms: Option<Arms>,
 ) -> bool
+    requires { IsStrictlyIncreasing (map id_of all.now) }
     ensures { IsTrue result ↔ Both (option_map aim_of attack.now) arms (IsValidAim all.now id) }
 {
     match attack {
@@ -68,6 +72,7 @@ fn health_of(parts: &Parts) -> Option<Fixed>
 }
 
 fn is_valid_row(setup: &Setup, all: &StoredRows<'_>, parts: &Parts, template: &Template) -> bool
+    requires { IsStrictlyIncreasing (map id_of all.now) }
     ensures { IsTrue result ↔ IsValidRow 1 setup.now all.now (row_of parts.now) template.now }
 {
     is_inside_setup(setup, parts.position.at)
@@ -78,6 +83,7 @@ fn is_valid_row(setup: &Setup, all: &StoredRows<'_>, parts: &Parts, template: &T
 }
 
 fn is_known_row(setup: &Setup, all: &StoredRows<'_>, parts: &Parts) -> bool
+    requires { IsStrictlyIncreasing (map id_of all.now) }
     ensures { IsTrue result ↔ IsKnownRow 1 setup.now all.now (row_of parts.now) }
 {
     match setup
@@ -90,20 +96,35 @@ fn is_known_row(setup: &Setup, all: &StoredRows<'_>, parts: &Parts) -> bool
     }
 }
 
-// Whether the row is one of the match, with an id above the one before and below the next that is free.
-fn is_good(setup: &Setup, all: &StoredRows<'_>, parts: &Parts, before: u32, next: u32) -> bool
-    ensures { IsTrue result ↔ ((before < (row_of parts.now).id) × ((row_of parts.now).id < next) × IsKnownRow 1 setup.now all.now (row_of parts.now)) }
+// Whether the row is one of the match, with an id below the next that is free.
+fn is_good(setup: &Setup, all: &StoredRows<'_>, parts: &Parts, next: u32) -> bool
+    requires { IsStrictlyIncreasing (map id_of all.now) }
+    ensures { IsTrue result ↔ (((row_of parts.now).id < next) × IsKnownRow 1 setup.now all.now (row_of parts.now)) }
 {
-    before < parts.entity.id && parts.entity.id < next && is_known_row(setup, all, parts)
+    parts.entity.id < next && is_known_row(setup, all, parts)
 }
 
 fn are_good(setup: &Setup, all: &StoredRows<'_>, next: u32) -> bool
-    ensures { IsTrue result ↔ AreGood setup.now all.now next 1 all.now }
+    requires { IsStrictlyIncreasing (map id_of all.now) }
+    ensures { IsTrue result ↔ AreGood setup.now all.now next all.now }
+{
+    let mut rows = all.fork();
+    'rows: while let Some(parts) = rows.next() {
+        if !is_good(setup, all, &parts, next) {
+            return false;
+        }
+    }
+    true
+}
+
+// Whether each id is above the one before, and the first above 1.
+fn are_rising(all: &StoredRows<'_>) -> bool
+    ensures { IsTrue result ↔ AreRising 1 all.now }
 {
     let mut rows = all.fork();
     let mut before = 1u32;
     'rows: while let Some(parts) = rows.next() {
-        if !is_good(setup, all, &parts, before, next) {
+        if parts.entity.id <= before {
             return false;
         }
         before = parts.entity.id;
@@ -111,10 +132,16 @@ fn are_good(setup: &Setup, all: &StoredRows<'_>, next: u32) -> bool
     true
 }
 
+fn are_valid(setup: &Setup, all: &StoredRows<'_>, next: u32) -> bool
+    ensures { IsTrue result ↔ (AreRising 1 all.now × AreGood setup.now all.now next all.now) }
+{
+    are_rising(all) && are_good(setup, all, next)
+}
+
 /// Whether the state is valid in the match. It takes no memory.
 pub fn is_valid_stored(setup: &Setup, stored: &Stored<'_>) -> bool
     ensures { IsTrue result ↔ IsValid setup.now stored.now }
 {
     is_valid_clock(setup, stored.turn, stored.next, stored.word)
-        && are_good(setup, &stored.rows, stored.next)
+        && are_valid(setup, &stored.rows, stored.next)
 }

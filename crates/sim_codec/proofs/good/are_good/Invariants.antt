@@ -5,7 +5,7 @@ use Rattle.sim_codec.specs.Stored.{AreGood}
 use Rattle.sim_codec.proofs.good.are_good.Given as goal
 
 abbrev pub invariant-rows : goal.invariant-rows
-invariant-rows l = AreGood l.setup l.all l.next l.before l.rows ↔ AreGood l.setup l.all l.next 1 l.all
+invariant-rows l = AreGood l.setup l.all l.next l.rows ↔ AreGood l.setup l.all l.next l.all
 
 abbrev pub decreases-rows : goal.decreases-rows
 decreases-rows l = length l.rows

@@ -9,6 +9,6 @@ use Rattle.sim_codec.proofs.good.is_valid_stored.Goals as goal
 pub returns-then-is_valid_clock : goal.returns-then-is_valid_clock
 returns-then-is_valid_clock c =
     let inside : State = record { turn = c.stored.inside.turn; next = c.stored.inside.next; word = c.stored.inside.word; rows = c.stored.inside.rows } in
-    let answer = c.are_good.result in
+    let answer = c.are_valid.result in
     subst (λ (s : State). (IsTrue answer → IsValid c.args.setup.now s) × (IsValid c.args.setup.now s → IsTrue answer)) c.stored.view_is
-    (valid_of c.args.setup.now inside answer (c.is_valid_clock.ensures.0 c.if-is_valid_clock.true) c.stored.invariant c.are_good.ensures)
+    (valid_of c.args.setup.now inside answer (c.is_valid_clock.ensures.0 c.if-is_valid_clock.true) c.stored.invariant c.are_valid.ensures)

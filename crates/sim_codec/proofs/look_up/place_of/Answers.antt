@@ -3,7 +3,8 @@ use Rattle.std.proofs.Common.{rules, sym}
 use Rattle.std.proofs.lemmas.Cmp.{ranked}
 use Rattle.std.proofs.lemmas.List.Sorted.{answers_always}
 use Rattle.sim_base.specs.declared.state.Row.{Row}
-use Rattle.sim_codec.proofs.Places.{no_row}
+use Rattle.sim_base.specs.Rows.{id_of}
+use Rattle.sim_codec.proofs.Halves.{no_key}
 use Rattle.sim_codec.proofs.look_up.place_of.Goals as goal
 
 pub returns-in-Ok : goal.returns-in-Ok
@@ -14,4 +15,4 @@ returns-in-Ok c =
 pub returns-in-Err : goal.returns-in-Err
 returns-in-Err c =
     let by_id = c.in-Err.ensures.position (λ (row : Row). row.id) (answers_always _ _ _ (λ f a r g called. search rules)) in
-    no_row c.args.rows.now c.args.id c.in-Err.field-0 c.requires c.in-Err.ensures.bound by_id
+    no_key id_of c.args.rows.now c.args.id c.in-Err.field-0 c.requires c.in-Err.ensures.bound by_id
