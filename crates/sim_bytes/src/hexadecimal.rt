@@ -1,6 +1,6 @@
 //! Hexadecimal text: two digits a byte, in lower case alone, so that bytes have one text.
 
-ghost use Rattle.std.specs.Prelude.{◌≡◌, ◌↔◌, ◌++◌, Ok, None, OnOk, OnErr, IfOk, IsSome, IfSome, IsTrue};
+ghost use Rattle.std.specs.Prelude.{◌≡◌, ◌↔◌, ◌<◌, ◌++◌, length, Ok, None, OnOk, OnErr, IfOk, IfErr, IsSome, IfSome, IsTrue};
 ghost use Rattle.std.specs.List.{list_all};
 ghost use Rattle.std.specs.String.{string_bytes};
 ghost use Rattle.hex.specs.Hex.{encode_lower, decode_of};
@@ -42,9 +42,13 @@ pub fn read_hex(alloc: Global, text: &str) -> Result<Option<Vec<u8>>, OutOfMemor
     ensures found { IfOk result (λ found. IsSome found ↔ IsHex text.now) }
     ensures no_hex { ¬ IsHex text.now → result ≡ Ok None }
     ensures value { IfOk result (λ found. IfSome found (λ bytes. decode_of text.now ≡ Ok bytes.items)) }
+    ensures memory { IfErr result (λ fault. 0 < length text.now) }
 {
     if !is_hex(text) {
         return Ok(None);
+    }
+    if text.is_empty() {
+        return Ok(Some(Vec::new(alloc)));
     }
     // pairs of digits are refused for want of memory alone
     match hex::decode(alloc, text) {
