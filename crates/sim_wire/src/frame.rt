@@ -1,10 +1,11 @@
-//! Frames made and read. Bytes are read only where they have the form of a frame, so that memory is taken for frames alone.
-//! The reader itself is lax: it is enough that it reads back what is framed.
+//! Frames made and read. Bytes are read only where they have the form of a frame, so that memory is taken for frames alone,
+//! and of these for messages with entities or a state. The reader itself is lax: it is enough that it reads back what is framed.
 
-ghost use Rattle.std.specs.Prelude.{◌≡◌, ℕ, List, IfOk, IfErr};
+ghost use Rattle.std.specs.Prelude.{◌≡◌, ℕ, List, true, IfOk, IfErr};
 ghost use Rattle.sim_plain.specs.declared.message.UpOf.{UpOf};
 ghost use Rattle.sim_plain.specs.declared.message.DownOf.{DownOf};
 ghost use Rattle.sim_wire.specs.Fits.{IsSmallUp, IsSmallDown, IsUpFrame, IsDownFrame};
+ghost use Rattle.sim_wire.specs.Memory.{up_carries, down_carries};
 ghost use Rattle.sim_wire.specs.Refusals.{RefusedFor, GivesMessage};
 
 use crate::fault::WireFault;
@@ -45,6 +46,7 @@ pub fn unframe_up(alloc: Global, bytes: &[u8]) -> Result<Up, WireFault>
     ensures small { IfOk result IsSmallUp }
     ensures reads { (up : UpOf (List ℕ)) → IsUpFrame bytes.now up → GivesMessage up result }
     ensures err { IfErr result (RefusedFor IsUpFrame bytes.now) }
+    ensures memory { (up : UpOf (List ℕ)) → IsUpFrame bytes.now up → result ≡ Err WireFault.OutOfMemory → up_carries up ≡ true }
 {
     if bytes.len() > MAX_FRAME {
         return Err(WireFault::TooLong);
@@ -62,6 +64,7 @@ pub fn unframe_down(alloc: Global, bytes: &[u8]) -> Result<Down, WireFault>
     ensures small { IfOk result IsSmallDown }
     ensures reads { (down : DownOf (List ℕ)) → IsDownFrame bytes.now down → GivesMessage down result }
     ensures err { IfErr result (RefusedFor IsDownFrame bytes.now) }
+    ensures memory { (down : DownOf (List ℕ)) → IsDownFrame bytes.now down → result ≡ Err WireFault.OutOfMemory → down_carries down ≡ true }
 {
     if bytes.len() > MAX_FRAME {
         return Err(WireFault::TooLong);
