@@ -9,6 +9,7 @@ ghost use Rattle.sim_plain.specs.declared.message.UpOf.{UpOf};
 ghost use Rattle.sim_plain.specs.declared.message.UpOf.TheVariants as up;
 ghost use Rattle.sim_plain.specs.Messages.{Arrival, Heard, Cut};
 ghost use Rattle.sim_wire.specs.Fits.{IsUpFrame};
+ghost use Rattle.sim_wire.specs.Memory.{up_carries};
 ghost use Rattle.sim_server.specs.Silence.{IsSilent, ReleasesNothing, SaysTheSame};
 ghost use Rattle.sim_server.specs.Standing.{server_of, IsClient, Makes, StandsFor, Answers, IsLater, is_dropped};
 
@@ -61,6 +62,7 @@ impl Server {
         requires active { active ≤ clients }
         ensures rules { IfOk result (λ server. server.rules ≡ record { clients = clients; delay = delay; turns = turns }) }
         ensures stands { IfOk result (λ server. StandsFor server active []) }
+        ensures sure { IsOk result }
     {
         let rules = Rules {
             clients,
@@ -251,6 +253,8 @@ impl Server {
         ensures other { ((message : UpOf (List ℕ)) → IsUpFrame bytes.now message → ⊥) → Makes self.old (Cut from) result self.new }
         ensures later { IsLater from (server_of self.old) (server_of self.new) }
         ensures silent { ((message : UpOf (List ℕ)) → IsUpFrame bytes.now message → ⊥) → IsSilent self.old.rules (server_of self.old) (Cut from) → result ≡ Ok [] }
+        ensures light { (message : UpOf (List ℕ)) → IsUpFrame bytes.now message → up_carries message ≡ false
+            → IsSilent self.old.rules (server_of self.old) (Heard from message) → result ≡ Ok [] }
     {
         match unframe_up(self.alloc, bytes) {
             Ok(up) => self.hear(from, up),

@@ -1,7 +1,19 @@
--- Want of memory says that the bytes are a frame.
-use Rattle.std.proofs.Common.{◌∙◌, ap, Err}
+-- Want of memory says that the bytes are a frame, and of a message that has entities or a state.
+use Rattle.std.proofs.Common.{ℕ, List, ◌∙◌, sym, ap, subst, Err}
+use Rattle.std.proofs.lemmas.Bool.{false≢true}
+use Rattle.sim_plain.specs.declared.message.UpOf.{UpOf}
+use Rattle.sim_plain.specs.Messages.{Heard}
+use Rattle.sim_server.specs.Silence.{IsSilent}
+use Rattle.sim_server.specs.Standing.{server_of}
 use Rattle.sim_server.proofs.Silence.{is_frame}
 use Rattle.sim_server.proofs.server.Server.hear_frame.Goals as goal
 
 pub returns-in-Err-OutOfMemory-clause-silent : goal.returns-in-Err-OutOfMemory-clause-silent
 returns-in-Err-OutOfMemory-clause-silent c = λ none s. absurd (is_frame c.args.bytes.now c.unframe_up.result c.unframe_up.ensures.err (c.in-Err-OutOfMemory.is ∙ ap Err c.in-Err-OutOfMemory.field-0-is) none)
+
+pub returns-in-Ok-clause-light : goal.returns-in-Ok-clause-light
+returns-in-Ok-clause-light c = λ message is none still.
+    c.hear.ensures.silent (subst (λ (m : UpOf (List ℕ)). IsSilent c.args.self.now.rules (server_of c.args.self.now) (Heard c.args.from m)) (sym (c.in-Ok.ensures.reads message is)) still)
+
+pub returns-in-Err-OutOfMemory-clause-light : goal.returns-in-Err-OutOfMemory-clause-light
+returns-in-Err-OutOfMemory-clause-light c = λ message is none still. absurd (false≢true (sym none ∙ c.unframe_up.ensures.memory message is (c.in-Err-OutOfMemory.is ∙ ap Err c.in-Err-OutOfMemory.field-0-is)))
