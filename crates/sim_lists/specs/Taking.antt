@@ -1,27 +1,32 @@
--- Which items ask for memory while they are read: a digest or a state where its text is one of digits, and a command, of which its own
--- reading says more. Whatever else is wrong with an item is found without memory.
-use Rattle.std.specs.Prelude.{ℕ, ◌==◌, nat_le, Bool, false, is_some, List, [], ◌∷◌, length, codes, option_and_then, if◌then◌else◌}
+-- Which items ask for memory while they are read: a digest or a state where its text is one of digits, and a command that names
+-- entities. Whatever else is wrong with an item is found without memory.
+use Rattle.std.specs.Prelude.{ℕ, ◌==◌, nat_lt, nat_le, Bool, false, List, [], ◌∷◌, length, codes, option_and_then, if◌then◌else◌}
 use Rattle.std.specs.Str.{bytes_eq}
 use Rattle.serde_json.specs.Data.{Data}
 use Rattle.serde_json.specs.Find.{as_str}
 use Rattle.sim_json.specs.Values.{list_of, natural_in, two, front_two}
 use Rattle.sim_json.specs.Records.{next_or}
 use Rattle.sim_commands.specs.Commands.{three}
+use Rattle.sim_commands.specs.Memory.{command_takes}
 use Rattle.sim_lists.specs.Arrivals.{turn_in}
 use Rattle.sim_lists.specs.Hexadecimal.{is_hex}
+
+-- a text of pairs of digits that is not empty
+abbrev pub hex_takes : List ℕ → Bool
+hex_takes text = if is_hex text then nat_lt 0 (length text) else false
 
 -- a text of 32 digits
 abbrev pub digest_takes : List ℕ → Bool
 digest_takes text = if length text == 32 then is_hex text else false
 
--- a text of pairs of digits, no longer than any state's
+-- such a text, no longer than any state's
 abbrev pub state_takes : List ℕ → Bool
-state_takes text = if nat_le (length text) 4653196 then is_hex text else false
+state_takes text = if nat_le (length text) 4653196 then hex_takes text else false
 
--- behind a turn stands a command
-abbrev pub command_takes : List Data → Bool
-command_takes [] = false
-command_takes (turn ∷ rest) = is_some (turn_in turn)
+-- behind a turn stands a command that asks for memory
+abbrev pub ordered_takes : List Data → Bool
+ordered_takes [] = false
+ordered_takes (turn ∷ rest) = next_or (turn_in turn) false (λ turn. command_takes rest)
 
 -- behind a turn stands such a digest
 abbrev pub report_takes : List Data → Bool
@@ -35,7 +40,7 @@ handed_takes rest = next_or (three rest) false (λ p. next_or (natural_in 0 255 
 abbrev pub up_takes : List ℕ → List Data → Bool
 up_takes word rest =
     if bytes_eq word (codes "join") then false
-    else if bytes_eq word (codes "command") then command_takes rest
+    else if bytes_eq word (codes "command") then ordered_takes rest
     else if bytes_eq word (codes "done") then false
     else if bytes_eq word (codes "report") then report_takes rest
     else if bytes_eq word (codes "state") then handed_takes rest
@@ -49,6 +54,10 @@ word_takes word rest = if bytes_eq word (codes "cut") then false else up_takes w
 unfoldable pub arrival_takes : ℕ → Data → Bool
 arrival_takes clients d = next_or (option_and_then front_two (list_of d)) false (λ p. next_or (natural_in 1 clients p.0) false (λ from. next_or (as_str p.1) false (λ word. word_takes word p.2)))
 
--- a step of one of so many players: an order does
+-- behind an order stands a command that asks for memory
+abbrev pub order_takes : List ℕ → List Data → Bool
+order_takes word rest = if bytes_eq word (codes "order") then command_takes rest else false
+
+-- a step of one of so many players
 unfoldable pub step_takes : ℕ → Data → Bool
-step_takes players d = next_or (option_and_then front_two (list_of d)) false (λ p. next_or (as_str p.0) false (λ word. next_or (natural_in 1 players p.1) false (λ client. bytes_eq word (codes "order"))))
+step_takes players d = next_or (option_and_then front_two (list_of d)) false (λ p. next_or (as_str p.0) false (λ word. next_or (natural_in 1 players p.1) false (λ client. order_takes word p.2)))

@@ -8,7 +8,7 @@ ghost use Rattle.sim_json.specs.Values.{list_of as list_of_data, front_two as fr
 ghost use Rattle.sim_lists.specs.Hexadecimal.{digest_of as digest_of_text, state_of as state_of_text};
 ghost use Rattle.sim_lists.specs.Arrivals.{turn_in as turn_in_data, join_from as join_from_data, command_from as command_from_data, done_from as done_from_data, report_from as report_from_data, state_from as state_from_data, up_by as up_by_word, cut_from as cut_from_data, arrival_by as arrival_by_word, arrival_of as arrival_of_data};
 ghost use Rattle.sim_lists.specs.Schedules.{IsFromClient};
-ghost use Rattle.sim_lists.specs.Taking.{digest_takes, state_takes, command_takes, report_takes, handed_takes, up_takes, word_takes, arrival_takes};
+ghost use Rattle.sim_lists.specs.Taking.{digest_takes, state_takes, ordered_takes, report_takes, handed_takes, up_takes, word_takes, arrival_takes};
 
 use crate::hexadecimal::{digest_of, state_of};
 use crate::schedule::Arrival;
@@ -107,7 +107,7 @@ fn join_from(rest: &[Value]) -> Option<Up>
 
 fn command_from(alloc: Global, rest: &[Value]) -> Result<Option<Up>, OutOfMemory>
     ensures value { IfOk result (λ up. up ≡ command_from_data (map view rest.now)) }
-    ensures memory { command_takes (map view rest.now) ≡ false → IsOk result }
+    ensures memory { ordered_takes (map view rest.now) ≡ false → IsOk result }
 {
     match rest {
         [turn, command @ ..] => {

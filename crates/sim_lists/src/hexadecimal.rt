@@ -1,8 +1,8 @@
 //! Digests and states as text.
 
 ghost use Rattle.std.specs.Prelude.{◌≡◌, false, IfOk, IsOk};
-ghost use Rattle.sim_lists.specs.Hexadecimal.{hex_of, is_hex, digest_of as digest_of_text, state_of as state_of_text};
-ghost use Rattle.sim_lists.specs.Taking.{digest_takes, state_takes};
+ghost use Rattle.sim_lists.specs.Hexadecimal.{hex_of, digest_of as digest_of_text, state_of as state_of_text};
+ghost use Rattle.sim_lists.specs.Taking.{hex_takes, digest_takes, state_takes};
 
 use sim_base::{Items, MAX_STATE, OutOfMemory};
 use sim_bytes::read_hex;
@@ -12,7 +12,7 @@ use std::alloc::Global;
 // The bytes of a text of pairs of digits.
 fn bytes_of(alloc: Global, text: &str) -> Result<Option<Bytes>, OutOfMemory>
     ensures value { IfOk result (λ found. found ≡ hex_of text.now) }
-    ensures memory { is_hex text.now ≡ false → IsOk result }
+    ensures memory { hex_takes text.now ≡ false → IsOk result }
 {
     match read_hex(alloc, text)? {
         Some(bytes) => Ok(Some(Items::from_items(bytes))),

@@ -1,13 +1,12 @@
 //! One step of a session. Each reader is handed what follows its word and its client.
 
-ghost use Rattle.std.specs.Prelude.{◌≡◌, ◌≤◌, false, codes, map, option_map, option_and_then, IfOk, IsOk, IfSome};
-ghost use Rattle.std.specs.Str.{bytes_eq};
+ghost use Rattle.std.specs.Prelude.{◌≡◌, ◌≤◌, false, map, option_map, option_and_then, IfOk, IsOk, IfSome};
 ghost use Rattle.serde_json.specs.View.{view};
 ghost use Rattle.sim_base.specs.Limits.{IsFrom};
 ghost use Rattle.sim_json.specs.Values.{list_of as list_of_data, front_two as front_two_of};
 ghost use Rattle.sim_lists.specs.Steps.{alone as alone_in, bend_from as bend_from_data, plain_step_by as plain_step_by_word, step_by as step_by_word, step_of as step_of_data};
 ghost use Rattle.sim_lists.specs.StepLists.{client_of, OrdersFew, IsStep};
-ghost use Rattle.sim_lists.specs.Taking.{step_takes};
+ghost use Rattle.sim_lists.specs.Taking.{order_takes, step_takes};
 
 use serde_json::Value;
 use sim_base::{OutOfMemory, Step};
@@ -49,7 +48,7 @@ fn step_by(
     ensures value { IfOk result (λ step. step ≡ step_by_word word.now client (map view rest.now)) }
     ensures client { IfOk result (λ found. IfSome found (λ step. client_of step ≡ client)) }
     ensures few { IfOk result (λ found. IfSome found OrdersFew) }
-    ensures memory { bytes_eq word.now (codes "order") ≡ false → IsOk result }
+    ensures memory { order_takes word.now (map view rest.now) ≡ false → IsOk result }
 {
     if word == "order" {
         let Some(command) = command_of(alloc, rest)? else {
