@@ -2,7 +2,7 @@
 //!
 //! After want of memory it may only be let go: a message may be lost then.
 
-ghost use Rattle.std.specs.Prelude.{◌≡◌, ◌≤◌, suc, ℕ, List, IfOk, OnOk, All, map, if◌then◌else◌};
+ghost use Rattle.std.specs.Prelude.{◌≡◌, ◌≤◌, suc, ℕ, List, [], IfOk, OnOk, All, map, if◌then◌else◌};
 ghost use Rattle.sim_base.specs.declared.setup.Setup.{Setup as PlainSetup};
 ghost use Rattle.sim_plain.specs.declared.message.DownOf.{DownOf};
 ghost use Rattle.sim_plain.specs.Messages.{carry_up};
@@ -58,7 +58,8 @@ fn pipes(alloc: Global, clients: u8) -> Result<Vec<Pipe>, OutOfMemory>
 
 // Reads the first frame in a pipe, and takes it out. Bytes that are no frame say nothing.
 fn read(alloc: Global, pipe: &mut Pipe) -> Result<Option<Down>, OutOfMemory>
-    ensures { (messages : List (DownOf (List ℕ))) → AreFrames IsDownFrame pipe.old messages → IfOk result (λ read. Reads pipe.new messages read) }
+    ensures reads { (messages : List (DownOf (List ℕ))) → AreFrames IsDownFrame pipe.old messages → IfOk result (λ read. Reads pipe.new messages read) }
+    ensures none { pipe.old ≡ [] → result ≡ Ok None }
 {
     let Some(frame) = pipe.take() else {
         return Ok(None);
@@ -127,6 +128,7 @@ impl Exchange {
         requires { IsClient self.old.server client }
         ensures stands { (setup : PlainSetup) (s : Session) → Conveys setup self.old s → OnOk result (Conveys setup self.new (rises setup client (s.ups client) s)) }
         ensures events { (setup : PlainSetup) (s : Session) → Conveys setup self.old s → IfOk result (λ events. events ≡ rise_events setup s.server client (s.ups client)) }
+        ensures none { pipe_in self.old.ups client ≡ [] → result ≡ Ok [] }
         ensures rules { self.new.server.rules ≡ self.old.server.rules }
     {
         let Some(frame) = self.ups[client as usize].take() else {
@@ -145,6 +147,7 @@ impl Exchange {
     pub fn fall(&mut self, client: u8) -> Result<Option<Down>, OutOfMemory>
         requires { IsClient self.old.server client }
         ensures stands { (setup : PlainSetup) (s : Session) → Conveys setup self.old s → IfOk result (Falls setup self.new client s (s.downs client)) }
+        ensures none { pipe_in self.old.downs client ≡ [] → result ≡ Ok None }
         ensures rules { self.new.server.rules ≡ self.old.server.rules }
     {
         read(self.alloc, &mut self.downs[client as usize])
