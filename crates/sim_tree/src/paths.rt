@@ -1,6 +1,6 @@
 //! What stands at a path of a tree: a value as a text, as a number or as words.
 
-ghost use Rattle.std.specs.Prelude.{◌≡◌, IfOk, option_map};
+ghost use Rattle.std.specs.Prelude.{◌≡◌, [], IfOk, option_map};
 ghost use Rattle.sim_tree.specs.Paths.{value_at, number_at};
 ghost use Rattle.sim_tree.specs.Tokens.{tokens_in as tokens_in_value};
 ghost use Rattle.sim_tree.specs.Trees.{node_of, value_of};
@@ -31,7 +31,8 @@ impl Tree {
 
     /// The words of the value at the path, and none where no value stands there.
     pub fn tokens(&self, alloc: Global, path: &[Name]) -> Result<Names, OutOfMemory>
-        ensures { IfOk result (λ words. words ≡ tokens_in_value (value_at (node_of self.now) path.now)) }
+        ensures words { IfOk result (λ words. words ≡ tokens_in_value (value_at (node_of self.now) path.now)) }
+        ensures none { value_at (node_of self.now) path.now ≡ None → result ≡ Ok [] }
     {
         match self.at(path) {
             Some(text) => tokens_in(alloc, text),
