@@ -2,7 +2,7 @@
 //!
 //! After want of memory it may only be let go: a message may be lost then.
 
-ghost use Rattle.std.specs.Prelude.{◌≡◌, ◌≤◌, suc, ℕ, List, [], IfOk, OnOk, All, map, if◌then◌else◌};
+ghost use Rattle.std.specs.Prelude.{◌≡◌, ◌≤◌, suc, ℕ, false, List, [], ◌∷◌, IfOk, OnOk, All, map, if◌then◌else◌};
 ghost use Rattle.sim_base.specs.declared.setup.Setup.{Setup as PlainSetup};
 ghost use Rattle.sim_plain.specs.declared.message.DownOf.{DownOf};
 ghost use Rattle.sim_plain.specs.Messages.{carry_up};
@@ -13,6 +13,7 @@ ghost use Rattle.sim_plain_session.specs.Printed.{rise_events};
 ghost use Rattle.sim_plain_session.specs.Sessions.{Session, opened, acts, rises, cut as cut_off};
 ghost use Rattle.sim_server.specs.Standing.{IsClient};
 ghost use Rattle.sim_wire.specs.Fits.{IsSmallUp, IsDownFrame};
+ghost use Rattle.sim_wire.specs.Memory.{down_carries};
 ghost use Rattle.sim_pipes.specs.Exchanges.{Conveys, Falls};
 ghost use Rattle.sim_pipes.specs.Pipes.{AreFrames, pipe_in, AreEmpty, Reads};
 
@@ -60,6 +61,8 @@ fn pipes(alloc: Global, clients: u8) -> Result<Vec<Pipe>, OutOfMemory>
 fn read(alloc: Global, pipe: &mut Pipe) -> Result<Option<Down>, OutOfMemory>
     ensures reads { (messages : List (DownOf (List ℕ))) → AreFrames IsDownFrame pipe.old messages → IfOk result (λ read. Reads pipe.new messages read) }
     ensures none { pipe.old ≡ [] → result ≡ Ok None }
+    ensures light { (frame : List ℕ) (rest : List (List ℕ)) (message : DownOf (List ℕ)) → pipe.old ≡ frame ∷ rest → IsDownFrame frame message
+        → down_carries message ≡ false → result ≡ Ok (Some message) }
 {
     let Some(frame) = pipe.take() else {
         return Ok(None);
@@ -148,6 +151,8 @@ impl Exchange {
         requires { IsClient self.old.server client }
         ensures stands { (setup : PlainSetup) (s : Session) → Conveys setup self.old s → IfOk result (Falls setup self.new client s (s.downs client)) }
         ensures none { pipe_in self.old.downs client ≡ [] → result ≡ Ok None }
+        ensures light { (frame : List ℕ) (rest : List (List ℕ)) (message : DownOf (List ℕ)) → pipe_in self.old.downs client ≡ frame ∷ rest → IsDownFrame frame message
+            → down_carries message ≡ false → result ≡ Ok (Some message) }
         ensures rules { self.new.server.rules ≡ self.old.server.rules }
     {
         read(self.alloc, &mut self.downs[client as usize])
