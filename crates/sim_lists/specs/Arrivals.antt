@@ -9,8 +9,11 @@ use Rattle.sim_commands.specs.Commands.{command_of, three}
 use Rattle.sim_plain.specs.declared.message.UpOf.{UpOf}
 use Rattle.sim_plain.specs.declared.message.UpOf.TheVariants.{Join, Command, Done, Report, State}
 use Rattle.sim_plain.specs.Messages as plain
+use Rattle.sim_wire.specs.Heard.{raw}
 use Rattle.sim_lists.specs.declared.schedule.Arrival.{Arrival}
-use Rattle.sim_lists.specs.Hexadecimal.{digest_of, state_of}
+use Rattle.sim_lists.specs.declared.schedule.Said.{Said}
+use Rattle.sim_lists.specs.declared.schedule.Said.TheVariants as said
+use Rattle.sim_lists.specs.Hexadecimal.{digest_of, state_of, raw_of}
 
 -- a turn, be it one of the match or not
 abbrev pub turn_in : Data → Option ℕ
@@ -53,12 +56,20 @@ up_by word rest =
 
 -- the end of a client's connection, where nothing follows the word
 abbrev pub cut_from : ℕ → List Data → Option Arrival
-cut_from from [] = Some (record { from = from; said = None })
+cut_from from [] = Some (record { from = from; said = said.Cut })
 cut_from from other = None
+
+-- raw bytes, their text
+abbrev pub bytes_from : ℕ → List Data → Option Arrival
+bytes_from from (text ∷ []) = option_map (λ bytes. record { from = from; said = said.Raw bytes }) (option_and_then raw_of (as_str text))
+bytes_from from other = None
 
 -- what arrives from a client, by its word
 abbrev pub arrival_by : ℕ → List ℕ → List Data → Option Arrival
-arrival_by from word rest = if bytes_eq word (codes "cut") then cut_from from rest else option_map (λ up. record { from = from; said = Some up }) (up_by word rest)
+arrival_by from word rest =
+    if bytes_eq word (codes "cut") then cut_from from rest
+    else if bytes_eq word (codes "bytes") then bytes_from from rest
+    else option_map (λ up. record { from = from; said = said.Heard up }) (up_by word rest)
 
 -- an arrival from one of so many clients
 abbrev pub arrival_from : ℕ → Data × Data × List Data → Option Arrival
@@ -72,6 +83,7 @@ arrival_of clients d = option_and_then (arrival_from clients) (option_and_then f
 abbrev pub plain_arrival : Arrival → plain.Arrival (List ℕ)
 plain_arrival arrival = plain_of arrival.from arrival.said
   where
-    plain_of : ℕ → Option (UpOf (List ℕ)) → plain.Arrival (List ℕ)
-    plain_of from None = plain.Cut from
-    plain_of from (Some up) = plain.Heard from up
+    plain_of : ℕ → Said → plain.Arrival (List ℕ)
+    plain_of from (said.Heard up) = plain.Heard from up
+    plain_of from said.Cut = plain.Cut from
+    plain_of from (said.Raw bytes) = raw from bytes

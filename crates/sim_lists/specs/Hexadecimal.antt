@@ -20,3 +20,7 @@ digest_of text = if length text == 32 then hex_of text else None
 -- the bytes of a state, of which there are at most 2,326,598
 abbrev pub state_of : List ℕ → Option (List ℕ)
 state_of text = if nat_le (length text) 4653196 then hex_of text else None
+
+-- bytes as they came, of which there are at most 2,400,000
+abbrev pub raw_of : List ℕ → Option (List ℕ)
+raw_of text = if nat_le (length text) 4800000 then hex_of text else None

@@ -1,5 +1,5 @@
--- Which items ask for memory while they are read: a digest or a state where its text is one of digits, and a command that names
--- entities. Whatever else is wrong with an item is found without memory.
+-- Which items ask for memory while they are read: a digest, a state or raw bytes where their text is one of digits, and a command
+-- that names entities. Whatever else is wrong with an item is found without memory.
 use Rattle.std.specs.Prelude.{ℕ, ◌==◌, nat_lt, nat_le, Bool, false, List, [], ◌∷◌, length, codes, option_and_then, if◌then◌else◌}
 use Rattle.std.specs.Str.{bytes_eq}
 use Rattle.serde_json.specs.Data.{Data}
@@ -28,6 +28,15 @@ abbrev pub ordered_takes : List Data → Bool
 ordered_takes [] = false
 ordered_takes (turn ∷ rest) = next_or (turn_in turn) false (λ turn. command_takes rest)
 
+-- such a text, no longer than any frame's
+abbrev pub raw_takes : List ℕ → Bool
+raw_takes text = if nat_le (length text) 4800000 then hex_takes text else false
+
+-- raw bytes, their text
+abbrev pub bytes_take : List Data → Bool
+bytes_take (text ∷ []) = next_or (as_str text) false raw_takes
+bytes_take other = false
+
 -- behind a turn stands such a digest
 abbrev pub report_takes : List Data → Bool
 report_takes rest = next_or (two rest) false (λ p. next_or (turn_in p.0) false (λ turn. next_or (as_str p.1) false digest_takes))
@@ -48,7 +57,7 @@ up_takes word rest =
 
 -- what arrives, by its word
 abbrev pub word_takes : List ℕ → List Data → Bool
-word_takes word rest = if bytes_eq word (codes "cut") then false else up_takes word rest
+word_takes word rest = if bytes_eq word (codes "cut") then false else if bytes_eq word (codes "bytes") then bytes_take rest else up_takes word rest
 
 -- an arrival of one of so many clients
 unfoldable pub arrival_takes : ℕ → Data → Bool

@@ -5,13 +5,13 @@ ghost use Rattle.serde_json.specs.View.{view};
 ghost use Rattle.serde_json.specs.Find.{as_str};
 ghost use Rattle.sim_json.specs.Records.{next_or};
 ghost use Rattle.sim_json.specs.Values.{list_of as list_of_data, front_two as front_two_of};
-ghost use Rattle.sim_lists.specs.Hexadecimal.{digest_of as digest_of_text, state_of as state_of_text};
-ghost use Rattle.sim_lists.specs.Arrivals.{turn_in as turn_in_data, join_from as join_from_data, command_from as command_from_data, done_from as done_from_data, report_from as report_from_data, state_from as state_from_data, up_by as up_by_word, cut_from as cut_from_data, arrival_by as arrival_by_word, arrival_of as arrival_of_data};
+ghost use Rattle.sim_lists.specs.Hexadecimal.{digest_of as digest_of_text, state_of as state_of_text, raw_of as raw_of_text};
+ghost use Rattle.sim_lists.specs.Arrivals.{turn_in as turn_in_data, join_from as join_from_data, command_from as command_from_data, done_from as done_from_data, report_from as report_from_data, state_from as state_from_data, up_by as up_by_word, cut_from as cut_from_data, bytes_from as bytes_from_data, arrival_by as arrival_by_word, arrival_of as arrival_of_data};
 ghost use Rattle.sim_lists.specs.Schedules.{IsFromClient};
-ghost use Rattle.sim_lists.specs.Taking.{digest_takes, state_takes, ordered_takes, report_takes, handed_takes, up_takes, word_takes, arrival_takes};
+ghost use Rattle.sim_lists.specs.Taking.{digest_takes, state_takes, raw_takes, bytes_take, ordered_takes, report_takes, handed_takes, up_takes, word_takes, arrival_takes};
 
-use crate::hexadecimal::{digest_of, state_of};
-use crate::schedule::Arrival;
+use crate::hexadecimal::{digest_of, raw_of, state_of};
+use crate::schedule::{Arrival, Said};
 use serde_json::Value;
 use sim_base::OutOfMemory;
 use sim_commands::{command_of, three};
@@ -57,10 +57,13 @@ fn arrival_by(
     if word == "cut" {
         return Ok(cut_from(from, rest));
     }
+    if word == "bytes" {
+        return bytes_from(alloc, from, rest);
+    }
     let Some(up) = up_by(alloc, word, rest)? else {
         return Ok(None);
     };
-    let said = Some(up);
+    let said = Said::Heard { up };
     Ok(Some(Arrival { from, said }))
 }
 
@@ -69,8 +72,28 @@ fn cut_from(from: u8, rest: &[Value]) -> Option<Arrival>
     ensures client { IfSome result (λ arrival. arrival.from ≡ from) }
 {
     match rest {
-        [] => Some(Arrival { from, said: None }),
+        [] => Some(Arrival {
+            from,
+            said: Said::Cut,
+        }),
         _ => None,
+    }
+}
+
+fn bytes_from(alloc: Global, from: u8, rest: &[Value]) -> Result<Option<Arrival>, OutOfMemory>
+    ensures value { IfOk result (λ arrival. arrival ≡ bytes_from_data from (map view rest.now)) }
+    ensures client { IfOk result (λ found. IfSome found (λ arrival. arrival.from ≡ from)) }
+    ensures memory { bytes_take (map view rest.now) ≡ false → IsOk result }
+{
+    match rest {
+        [text] => {
+            let Some(bytes) = raw_in(alloc, text)? else {
+                return Ok(None);
+            };
+            let said = Said::Raw { bytes };
+            Ok(Some(Arrival { from, said }))
+        }
+        _ => Ok(None),
     }
 }
 
@@ -190,6 +213,16 @@ fn digest_in(alloc: Global, value: &Value) -> Result<Option<[u8; 16]>, OutOfMemo
 {
     match value.as_str() {
         Some(text) => digest_of(alloc, text),
+        None => Ok(None),
+    }
+}
+
+fn raw_in(alloc: Global, value: &Value) -> Result<Option<Bytes>, OutOfMemory>
+    ensures value { IfOk result (λ bytes. bytes ≡ option_and_then raw_of_text (as_str (view value.now))) }
+    ensures memory { next_or (as_str (view value.now)) false raw_takes ≡ false → IsOk result }
+{
+    match value.as_str() {
+        Some(text) => raw_of(alloc, text),
         None => Ok(None),
     }
 }

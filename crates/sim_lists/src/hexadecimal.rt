@@ -1,12 +1,12 @@
-//! Digests and states as text.
+//! Digests, states and raw bytes as text.
 
 ghost use Rattle.std.specs.Prelude.{◌≡◌, false, IfOk, IsOk};
-ghost use Rattle.sim_lists.specs.Hexadecimal.{hex_of, digest_of as digest_of_text, state_of as state_of_text};
-ghost use Rattle.sim_lists.specs.Taking.{hex_takes, digest_takes, state_takes};
+ghost use Rattle.sim_lists.specs.Hexadecimal.{hex_of, digest_of as digest_of_text, state_of as state_of_text, raw_of as raw_of_text};
+ghost use Rattle.sim_lists.specs.Taking.{hex_takes, digest_takes, state_takes, raw_takes};
 
 use sim_base::{Items, MAX_STATE, OutOfMemory};
 use sim_bytes::read_hex;
-use sim_wire::Bytes;
+use sim_wire::{Bytes, MAX_FRAME};
 use std::alloc::Global;
 
 // The bytes of a text of pairs of digits.
@@ -42,6 +42,17 @@ pub fn state_of(alloc: Global, text: &str) -> Result<Option<Bytes>, OutOfMemory>
     ensures memory { state_takes text.now ≡ false → IsOk result }
 {
     if text.len() > 2 * MAX_STATE {
+        return Ok(None);
+    }
+    bytes_of(alloc, text)
+}
+
+/// The bytes that a text spells, of which there are not more than any frame has.
+pub fn raw_of(alloc: Global, text: &str) -> Result<Option<Bytes>, OutOfMemory>
+    ensures value { IfOk result (λ found. found ≡ raw_of_text text.now) }
+    ensures memory { raw_takes text.now ≡ false → IsOk result }
+{
+    if text.len() > 2 * MAX_FRAME {
         return Ok(None);
     }
     bytes_of(alloc, text)

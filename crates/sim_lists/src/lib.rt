@@ -7,7 +7,7 @@
 //!
 //! - `schedule`: the records of a schedule.
 //! - `fault`: how a list is refused.
-//! - `hexadecimal`: digests and states as text.
+//! - `hexadecimal`: digests, states and raw bytes as text.
 //! - `arrivals`: one arrival.
 //! - `reading`: the whole file.
 //! - `step_list`: the record of a list of steps.
@@ -33,6 +33,6 @@ mod tests;
 pub use fault::ListFault;
 pub use laws::{arrival_index_is_least, step_index_is_least};
 pub use reading::schedule_of;
-pub use schedule::{Arrival, Arrivals, Schedule};
+pub use schedule::{Arrival, Arrivals, Said, Schedule};
 pub use step_list::StepList;
 pub use step_reading::steps_of;

@@ -1,13 +1,22 @@
 //! A schedule: what arrives at a server, in order, and for which match.
 
 use sim_base::Items;
-use sim_wire::Up;
+use sim_wire::{Bytes, Up};
 
-/// What arrives from a client: what it says, or None where its connection ends.
+/// What comes from a client: what it says, the end of its connection, or bytes as they came, at most as many as a frame has.
+/// Raw bytes are the message of which they are the frame, or end the connection where they are no frame.
+#[derive(Debug, Drop)]
+pub enum Said {
+    Heard { up: Up },
+    Cut,
+    Raw { bytes: Bytes },
+}
+
+/// What arrives, and from which client.
 #[derive(Debug, Drop)]
 pub struct Arrival {
     pub from: u8,
-    pub said: Option<Up>,
+    pub said: Said,
 }
 
 /// What arrives, in order.

@@ -2,9 +2,9 @@
 
 use crate::fault::refused;
 use crate::hexadecimal::digest_of;
-use crate::{Arrival, ListFault, Schedule, schedule_of};
+use crate::{Arrival, ListFault, Said, Schedule, schedule_of};
 use sim_base::Command;
-use sim_wire::Up;
+use sim_wire::{Bytes, Up};
 use std::alloc::{AllocError, Global};
 use std::test::Fail;
 
@@ -23,21 +23,27 @@ fn index_of(read: Result<Schedule, ListFault>) -> Option<u32> {
     }
 }
 
-// What arrives: a number of the message, and its own number. A cut has none.
+// What arrives: a number of the message, and its own number. A cut has none, and raw bytes have theirs.
 fn parts(arrival: &Arrival) -> (u8, Option<(u8, u32)>) {
-    (arrival.from, arrival.said.as_ref().map(said))
+    let said = match &arrival.said {
+        Said::Heard { up } => Some(heard(up)),
+        Said::Cut => None,
+        Said::Raw { bytes } => Some((200, length_of(bytes))),
+    };
+    (arrival.from, said)
 }
 
-fn said(up: &Up) -> (u8, u32) {
+fn length_of(bytes: &Bytes) -> u32 {
+    u32::try_from(bytes.as_slice().len()).unwrap_or(u32::MAX)
+}
+
+fn heard(up: &Up) -> (u8, u32) {
     match up {
         Up::Join => (1, 0),
         Up::Command { turn, command } => (if is_stop(command) { 2 } else { 0 }, *turn),
         Up::Done { turn } => (3, *turn),
         Up::Report { turn, digest } => (digest[15].saturating_add(4), *turn),
-        Up::State { client, bytes, .. } => (
-            *client,
-            u32::try_from(bytes.as_slice().len()).unwrap_or(u32::MAX),
-        ),
+        Up::State { client, bytes, .. } => (*client, length_of(bytes)),
     }
 }
 
@@ -61,6 +67,8 @@ fn reads_each_arrival(rt: HostRuntime) -> Result<(), Fail> {
         ),
         (r#"[2,"state",255,1,"00ff"]"#, (2, Some((255, 2)))),
         (r#"[2,"state",0,1,""]"#, (2, Some((0, 0)))),
+        (r#"[3,"bytes",""]"#, (3, Some((200, 0)))),
+        (r#"[3,"bytes","00fe0a"]"#, (3, Some((200, 3)))),
     ];
     for (text, wanted) in arrivals {
         match of_three(rt.alloc(), text)? {
@@ -99,6 +107,11 @@ fn refuses_the_first_wrong_arrival(rt: HostRuntime) -> Result<(), Fail> {
         r#"[1,"state",1,1,"0"]"#,
         r#"[1,"state",1,1,"0g"]"#,
         r#"[1,"state",1,1]"#,
+        r#"[1,"bytes"]"#,
+        r#"[1,"bytes",1]"#,
+        r#"[1,"bytes","0"]"#,
+        r#"[1,"bytes","0A"]"#,
+        r#"[1,"bytes","",""]"#,
     ];
     for text in wrong {
         let alloc = rt.alloc();

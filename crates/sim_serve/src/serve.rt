@@ -11,7 +11,7 @@ ghost use Rattle.sim_server.specs.Standing.{server_of as plain_server, IsClient,
 ghost use Rattle.sim_serve.specs.Served.{history, said_lines, kept_of, kept_lines, served_text as text_of_schedule};
 
 use sim_base::OutOfMemory;
-use sim_lists::{Arrival, Arrivals, Schedule};
+use sim_lists::{Arrival, Arrivals, Said, Schedule};
 use sim_report::{push_kept, push_post, push_released};
 use sim_server::{Posts, Server};
 use std::alloc::Global;
@@ -61,8 +61,9 @@ fn answer(server: &mut Server, arrival: Arrival) -> Result<Posts, OutOfMemory>
 {
     let Arrival { from, said } = arrival;
     match said {
-        Some(up) => server.hear(from, up),
-        None => server.cut(from),
+        Said::Heard { up } => server.hear(from, up),
+        Said::Cut => server.cut(from),
+        Said::Raw { bytes } => server.hear_frame(from, bytes.as_slice()),
     }
 }
 

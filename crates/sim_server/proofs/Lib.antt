@@ -4,3 +4,4 @@ pub mod Made
 pub mod Whole
 pub mod Smallness
 pub mod Silence
+pub mod Raw

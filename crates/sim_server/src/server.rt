@@ -9,6 +9,7 @@ ghost use Rattle.sim_plain.specs.declared.message.UpOf.{UpOf};
 ghost use Rattle.sim_plain.specs.declared.message.UpOf.TheVariants as up;
 ghost use Rattle.sim_plain.specs.Messages.{Arrival, Heard, Cut};
 ghost use Rattle.sim_wire.specs.Fits.{IsUpFrame};
+ghost use Rattle.sim_wire.specs.Heard.{raw};
 ghost use Rattle.sim_wire.specs.Memory.{up_carries};
 ghost use Rattle.sim_server.specs.Silence.{IsSilent, ReleasesNothing, SaysTheSame};
 ghost use Rattle.sim_server.specs.Standing.{server_of, IsClient, Makes, StandsFor, Answers, IsLater, is_dropped};
@@ -251,6 +252,8 @@ impl Server {
         requires { IsClient self.old from }
         ensures frame { (message : UpOf (List ℕ)) → IsUpFrame bytes.now message → Makes self.old (Heard from message) result self.new }
         ensures other { ((message : UpOf (List ℕ)) → IsUpFrame bytes.now message → ⊥) → Makes self.old (Cut from) result self.new }
+        ensures made { Makes self.old (raw from bytes.now) result self.new }
+        ensures answers { (active : ℕ) (h : List (Arrival (List ℕ))) → StandsFor self.old active h → Answers self.old active h (raw from bytes.now) result self.new }
         ensures later { IsLater from (server_of self.old) (server_of self.new) }
         ensures silent { ((message : UpOf (List ℕ)) → IsUpFrame bytes.now message → ⊥) → IsSilent self.old.rules (server_of self.old) (Cut from) → result ≡ Ok [] }
         ensures light { (message : UpOf (List ℕ)) → IsUpFrame bytes.now message → up_carries message ≡ false

@@ -1,0 +1,25 @@
+-- Bytes as they came from a client: the message of which they are the frame, or the end of a connection on which no frame came.
+use Rattle.std.specs.Prelude.{◌≡◌, ◌↔◌, ℕ, ◌<◌, List, Option, Some, None, option_map, if◌then◌else◌}
+use Rattle.std.specs.List.{AllByRecursion}
+use Rattle.sim_plain.specs.declared.message.UpOf.{UpOf}
+use Rattle.sim_plain.specs.Messages.{Arrival, Heard, Cut}
+use Rattle.sim_wire.specs.Fits.{IsUpFrame}
+use Rattle.sim_wire.specs.Form.{up_form}
+use Rattle.sim_wire.specs.Reading.{up_at}
+
+-- what a client says of which these bytes are the frame
+unfoldable pub message_in : List ℕ → Option (UpOf (List ℕ))
+message_in bytes = if up_form bytes then option_map (λ read. read.0) (up_at bytes) else None
+
+-- a message is heard, or the client is cut off
+abbrev pub heard_or_cut : ℕ → Option (UpOf (List ℕ)) → Arrival (List ℕ)
+heard_or_cut from None = Cut from
+heard_or_cut from (Some message) = Heard from message
+
+-- what arrives with these bytes
+abbrev pub raw : ℕ → List ℕ → Arrival (List ℕ)
+raw from bytes = heard_or_cut from (message_in bytes)
+
+-- bytes are heard as a message just where they are its frame
+abbrev pub AreHeardAsFramed : Type 0
+AreHeardAsFramed = (bytes : List ℕ) → AllByRecursion (λ b. b < 256) bytes → (message : UpOf (List ℕ)) → (message_in bytes ≡ Some message) ↔ IsUpFrame bytes message
