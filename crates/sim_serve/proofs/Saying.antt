@@ -1,5 +1,5 @@
 -- A client that reports is told its own notice.
-use Rattle.std.proofs.Common.{◌≡◌, ℕ, Bool, true, false, List, [], ◌∷◌, ◌++◌, map, refl, sym, ap, ◌∙◌, if◌then◌else◌, Option, Some, None, is_none, true≢false}
+use Rattle.std.proofs.Common.{◌≡◌, ℕ, Bool, true, false, List, [], ◌∷◌, ◌++◌, map, refl, sym, ◌∙◌, if◌then◌else◌, is_none, true≢false}
 use Rattle.std.specs.Prelude.{filter_map, filter}
 use Rattle.sim_plain.specs.declared.message.UpOf.TheVariants as up
 use Rattle.sim_plain.specs.declared.rules.Rules.{Rules}

@@ -1,6 +1,5 @@
 -- Bytes as they came are heard as the message of which they are the frame, or end the connection.
-use Rattle.std.proofs.Common.{◌≡◌, ℕ, List, Option, Some, None, Result, Err, sym, ap, subst}
-use Rattle.std.specs.Prelude.{IfOk}
+use Rattle.std.proofs.Common.{ℕ, List, Result, sym, ap, subst}
 use Rattle.sim_base.specs.declared.memory.OutOfMemory.{OutOfMemory}
 use Rattle.sim_plain.specs.declared.message.UpOf.{UpOf}
 use Rattle.sim_plain.specs.declared.message.PostOf.{PostOf}

@@ -1,5 +1,5 @@
 -- One arrival more is heard, and what is said at it is appended.
-use Rattle.std.proofs.Common.{◌≡◌, ◌∷◌, [], ◌++◌, length, map, ap, ◌∙◌, sym, arith, append_assoc, append-nil}
+use Rattle.std.proofs.Common.{◌≡◌, ◌∷◌, [], length, map, ap, ◌∙◌, sym, arith, append_assoc}
 use Rattle.std.specs.Prelude.{string_bytes}
 use Rattle.std.specs.Vec.Iter.{into_iter_items}
 use Rattle.sim_plain.specs.declared.rules.Rules.{Rules}
@@ -7,7 +7,7 @@ use Rattle.sim_plain.specs.Server.{server_after}
 use Rattle.sim_plain.specs.Posts.{posts_of}
 use Rattle.sim_lists.specs.Arrivals.{plain_arrival}
 use Rattle.sim_serve.specs.Served.{history}
-use Rattle.sim_serve.proofs.Histories.{history_more, said_more, from_client}
+use Rattle.sim_serve.proofs.Histories.{history_more, said_more}
 use Rattle.sim_serve.proofs.serve.push_said.Goals as goal
 
 pub loop-arrival-preserved : goal.loop-arrival-preserved
