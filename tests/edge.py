@@ -199,19 +199,29 @@ def rejoins(folder):
         case("a joining that finds no room", run(["rejoin", camp, "3"], folder, full), 4, None)
 
 
-def limit_memory():
-    """A gigabyte for all that the program takes, as `ulimit -v 1048576` gives it."""
-    resource.setrlimit(resource.RLIMIT_AS, (1 << 30, 1 << 30))
+def limit_memory(most=1 << 30):
+    """A gigabyte for all that the program takes, as `ulimit -v 1048576` gives it, or so many bytes."""
+    resource.setrlimit(resource.RLIMIT_AS, (most, most))
 
 
 def memory(folder):
-    """A match that takes more memory than there is: a large template with as many heirs as there may be."""
+    """A match and a schedule that take more memory than there is, and states that only claim to."""
+    # A large template with as many heirs as there may be.
     heirs = b"".join(b',{"@name":"h%d","@parent":"base"}' % i for i in range(255))
     before, after = EMPTY.replace(b'"templates":[]', b'"templates":[{"@name":"base"}%s]' % heirs).split(b"}", 1)
     children = b"".join(b',"c%07d":0' % i for i in range((MAX_FILE - len(before) - len(after) - 1) // 13))
     (folder / "heirs.json").write_bytes(before + children + b"}" + after)
     case("heirs of a large template, in a gigabyte", run(["play", "heirs.json"], folder, before=limit_memory), 9, b"")
     case("a match of posts, in a gigabyte", run(["play", "posts.json"], folder, before=limit_memory), 0, POSTS_LINES)
+    # Each joining is answered with all commands, of which there are as many: 3.6 GB of text.
+    turns = [64 * [b'[1,"command",%d,"resign"]' % turn] + [b'[1,"done",%d]' % turn] for turn in range(2, 159)]
+    joinings = 10_000 * [b'[2,"join"]', b'[1,"state",2,0,""]', b'[2,"cut"]']
+    (folder / "square.json").write_bytes(schedule(2, 1, sum(turns, []) + joinings).replace(b'"turns":4', b'"turns":65535'))
+    case("10,000 commands for each of 10,000 joinings, in a gigabyte", run(["serve", "square.json"], folder, before=limit_memory), 9, b"")
+    for rows in (0xFFFFFFFF, 4097):
+        (folder / "claim").write_bytes(STORED[:41] + rows.to_bytes(4, "little") + STORED[45:] + bytes(6 * 4097))
+        case(f"a state that claims {rows} rows, in 64 MB",
+             run(["show", "posts.json", "claim"], folder, before=lambda: limit_memory(1 << 26)), 7, b"state refused 3 claim\n")
 
 
 def sessions(page):
