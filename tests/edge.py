@@ -65,6 +65,12 @@ HUTS_LINES = (b"turn 0 157dafb5e35abac8d5d437b1e3fc0d1c\n"
 CAMP_DIGESTS = (b"cdf09eac795fcb9df09d2e5bc47086b4", b"30c2077a95df741761edf1efd53e652c", b"436a0264ba01ecf7c0c88b1fcbea7633",
                 b"daf5ff5bc367ab4563c39ca70b65a382", b"84853a783cef8bf222ca70658e2534cc", b"25f826ac047ffc36e791b50fcbdc3eb3",
                 b"1945a50b8f67eae2490b5ee4dae2ee64", b"3512afaa73cdb7fdc82f5a2d268e2575")
+# Two players with a walker each, and no command: in a session they come from its clients.
+WALKERS = (b'{"size":[16,16],"closed":[],"players":[[],[]],"cap":0,"delay":2,"turns":5,"seed":0,'
+           b'"templates":[{"@name":"walker","Motion":{"Speed":10}}],'
+           b'"entities":[["walker",1,"2.5","2.5"],["walker",2,"2.5","5.5"]],"commands":[]}')
+# Its first turns, in which nobody was told to walk.
+WALKERS_DIGESTS = b"e884887aee8506472616981f329bb55d", b"67049339cc34ee2268aba0fd1c37e9ce", b"fd4c5d0e25c10cbc3c36250577364e02"
 USAGE = b"""usage: simcore play MATCH
        simcore state MATCH TURN OUT
        simcore resume MATCH STATE
@@ -199,6 +205,82 @@ def rejoins(folder):
         case("a joining that finds no room", run(["rejoin", camp, "3"], folder, full), 4, None)
 
 
+def step_list(clients, *steps):
+    """A list of steps, in which so many clients begin."""
+    return b'{"clients":%d,"steps":[%s]}' % (clients, b",".join(steps))
+
+
+def sessions_of_walkers(folder):
+    """Sessions of two walkers, that of docs/FORMATS.md among them."""
+    (folder / "walkers.json").write_bytes(WALKERS)
+    first, second, third = WALKERS_DIGESTS
+    starts = b"client 1 start 0 %s\nclient 2 start 0 %s\n" % (first, first)
+
+    def printed(name, clients, steps, events, ending):
+        (folder / "steps.json").write_bytes(step_list(clients, *steps))
+        case(f"a session: {name}", run(["session", "walkers.json", "steps.json"], folder), 0, events + ending)
+
+    printed("both order and play a turn", 2,
+            [b'["order",1,"walk",[2],"6.5","2.5"]', b'["up",1]', b'["order",2,"stop",[3]]', b'["up",2]', b'["play",1]', b'["play",2]'],
+            starts + b"client 1 order 3\nclient 2 order 3\nclient 1 play 1 %s\nclient 2 play 1 %s\n" % (second, second),
+            b"released 2\nkept 3 2\nend 1 on 1 %s\nend 2 on 1 %s\n" % (second, second)
+            + b"pipe 1 up 25 9\npipe 1 down 25 17\npipe 2 up 25 9\npipe 2 down 25 17\n")
+    printed("a turn that is not released is not played", 2, [b'["play",1]'] * 3,
+            starts + b"client 1 play 1 %s\nclient 1 play 2 %s\n" % (second, third),
+            b"released 2\nend 1 on 2 %s\nend 2 on 0 %s\n" % (third, first)
+            + b"pipe 1 up 25 9 25 9\npipe 1 down\npipe 2 up\npipe 2 down\n")
+    printed("nobody is there whose state could be had", 1, [b'["cut",1]', b'["join",2]', b'["up",2]', b'["down",2]', b'["up",2]'],
+            b"client 1 start 0 %s\nclient 1 cut\nclient 2 join\nclient 2 refused 4\n" % first,
+            b"released 2\nend 1 off\nend 2 off\npipe 1 up\npipe 1 down\npipe 2 up\npipe 2 down\n")
+    again = [b'["cut",1]', b'["join",1]', b'["up",1]', b'["down",2]', b'["up",2]'] + [b'["down",1]'] * 66
+    printed("the 65th command of a turn, from a client that was cut and came back", 2,
+            [b'["order",1,"resign"]', b'["up",1]'] * 64 + [b'["down",2]'] * 64 + again
+            + [b'["order",1,"resign"]', b'["up",1]', b'["down",1]', b'["down",2]'],
+            starts + b"client 1 order 3\n" * 64 + b"client 1 cut\nclient 1 join\nclient 1 load 0 %s\n" % first
+            + b"client 1 order 3\nclient 1 refused 3\n",
+            b"released 2\nkept 3 64\nend 1 on 0 %s\nend 2 on 0 %s\n" % (first, first)
+            + b"pipe 1 up\npipe 1 down\npipe 2 up\npipe 2 down\n")
+
+
+def refused_sessions(folder):
+    """Sessions that come to nothing: each has its status and at most a line, and no file is changed."""
+    up = b'["up",1]'
+    lists = {"none": (b"", 0), "of no client": (step_list(0, up), 0), "of a client too many": (step_list(3, up), 0),
+             "with a key too many": (step_list(1, up)[:-1] + b',"x":0}', 0), "with too many steps": (step_list(1, *[up] * 100_001), 0),
+             "of a third player": (step_list(1, up, b'["up",3]', b"[]"), 2), "with a word that is none": (step_list(1, b'["leap",1]'), 1),
+             "with a point that is none": (step_list(1, up, up, b'["order",1,"walk",[2],"6.5"]'), 3),
+             "with a health that is none": (step_list(2, b'["bend",2,2,"x"]'), 1)}
+    for at, (bytes_of_list, _) in enumerate(lists.values()):
+        (folder / f"list{at}.json").write_bytes(bytes_of_list)
+    (folder / "most.json").write_bytes(step_list(1, *[up] * 100_000))
+    (folder / "good.json").write_bytes(step_list(1, up))
+    before = files(folder)
+
+    def ends(name, words, status, text):
+        case(f"no session: {name}", run(["session", *words], folder), status, text)
+
+    for at, (name, (_, index)) in enumerate(lists.items()):
+        ends(f"a list {name}", ["walkers.json", f"list{at}.json"], 8, b"list refused %d\n" % index)
+    ends("a match that has commands", ["posts.json", "good.json"], 6, b"match refused 11 0\n")
+    ends("that match is refused before its list is looked for", ["posts.json", "none"], 6, b"match refused 11 0\n")
+    ends("no match", ["none", "none"], 11, b"")
+    ends("no list", ["walkers.json", "none"], 11, b"")
+    ends("a folder as its match", ["folder", "none"], 3, b"")
+    ends("a folder as its list", ["walkers.json", "folder"], 3, b"")
+    ends("an empty match", ["nothing.json", "good.json"], 6, b"match refused 1 0\n")
+    ends("a match that is too long", ["long.json", "good.json"], 5, b"")
+    ends("a list that is too long", ["walkers.json", "long.json"], 5, b"")
+    ends("a list of the greatest length", ["walkers.json", "full.json"], 8, b"list refused 0\n")
+    for words in ([], ["walkers.json"], ["walkers.json", "good.json", "good.json"]):
+        ends(f"{len(words)} words", words, 2, USAGE)
+    with open("/dev/full", "wb") as full:
+        case("a session that finds no room", run(["session", "walkers.json", "good.json"], folder, full), 4, None)
+        case("a session that is refused, and no room", run(["session", "walkers.json", "none"], folder, full), 11, None)
+    status, text, error = run(["session", "walkers.json", "most.json"], folder)
+    case("a session of as many steps as there may be", (status, b"%d lines" % text.count(b"\n"), error), 0, b"8 lines")
+    case("no session has changed a file", (0, b"", b""), 0, b"" if files(folder) == before else b"changed")
+
+
 def limit_memory(most=1 << 30):
     """A gigabyte for all that the program takes, as `ulimit -v 1048576` gives it, or so many bytes."""
     resource.setrlimit(resource.RLIMIT_AS, (most, most))
@@ -224,7 +306,23 @@ def memory(folder):
              run(["show", "posts.json", "claim"], folder, before=lambda: limit_memory(1 << 26)), 7, b"state refused 3 claim\n")
 
 
-def sessions(page):
+def memory_of_sessions(folder):
+    """Sessions that ask for more memory than there is: by their match, and by states that nobody takes out of a pipe."""
+    (folder / "one.json").write_bytes(step_list(1, b'["up",1]'))
+    case("heirs in a session, in a gigabyte", run(["session", "heirs.json", "one.json"], folder, before=limit_memory), 9, b"")
+    crowd = b",".join(b'["post",1,%d,%d]' % (i % 4, i // 4 % 4) for i in range(4096))
+    (folder / "crowd.json").write_bytes(EMPTY.replace(b'"players":[[]]', b'"players":[[],[]]').replace(
+        b'"templates":[],"entities":[]', b'"templates":[{"@name":"post","Health":{"Max":50}}],"entities":[%s]' % crowd))
+    # Client 1 answers with 0.1 MB each time.
+    asked = [b'["join",2]', b'["up",2]', b'["down",1]', b'["cut",2]']
+    (folder / "few.json").write_bytes(step_list(1, *asked * 10))
+    (folder / "many.json").write_bytes(step_list(1, *asked * 12_000))
+    status, text, error = run(["session", "crowd.json", "few.json"], folder, before=limit_memory)
+    case("ten states in a pipe, in a gigabyte", (status, text.splitlines()[-4], error), 0, b"pipe 1 up" + b" 127056" * 10)
+    case("12,000 states in a pipe, in a gigabyte", run(["session", "crowd.json", "many.json"], folder, before=limit_memory), 9, b"")
+
+
+def commands_of(page):
     """The commands that a page shows at a prompt, each with the lines that follow it there."""
     for block in re.findall(r"^```\n(.*?)^```", (TOP / page).read_text(), re.M | re.S):
         for part in re.split(r"^\$ ", block, flags=re.M)[1:]:
@@ -236,8 +334,8 @@ def pages(folder):
     """What the pages show is what the program prints, in a folder that looks like the top of the repository."""
     (folder / "simcore").symlink_to(PROGRAM)
     (folder / "examples").symlink_to(TOP / "examples")
-    for page in ("examples/README.md", "docs/DESYNC.md"):
-        for command, lines in sessions(page):
+    for page in ("README.md", "examples/README.md", "docs/DESYNC.md"):
+        for command, lines in commands_of(page):
             done = subprocess.run(["bash", "-c", command.replace("/tmp/", "")], cwd=folder, stdin=subprocess.DEVNULL,
                                   stdout=subprocess.PIPE, stderr=subprocess.PIPE, timeout=120)
             case(f"{page}: {command[:60]}", (0, done.stdout, done.stderr), 0, lines.encode())
@@ -316,7 +414,6 @@ def main():
         case("no words", run([], folder), 2, USAGE)
         case("an unknown word", run(["fly", "posts.json"], folder), 2, USAGE)
         case("a word too many", run(["play", "posts.json", "x"], folder), 2, USAGE)
-        case("a command that is still to come", run(["session", "posts.json", "s"], folder), 2, USAGE)
         case("the program's own name is no word", run(["posts.json"], folder, name="play"), 2, USAGE)
         case("whatever that name is", run(["play", "posts.json"], folder, name=""), 0, POSTS_LINES)
         case("a word that is not UTF-8", run(["play", b"\xff\xfe"], folder), 2, USAGE)
@@ -334,7 +431,10 @@ def main():
         schedules(folder)
         battles(folder)
         rejoins(folder)
+        sessions_of_walkers(folder)
+        refused_sessions(folder)
         memory(folder)
+        memory_of_sessions(folder)
         pages(folder)
     print(f"{passed} passed, {failed} failed")
     return 1 if failed else 0
