@@ -1,26 +1,29 @@
 //! The way from a point to another, by its points.
 
-ghost use Rattle.std.specs.Prelude.{◌≡◌, ◌<◌, ◌∷◌, [], All, OnOk, IfOk, IsTrue, true, reverse, if◌then◌else◌};
+ghost use Rattle.std.specs.Prelude.{◌≡◌, ◌<◌, ◌^◌, ◌∷◌, [], All, OnOk, IfOk, IsTrue, true, reverse, if◌then◌else◌};
 ghost use Rattle.sim_base.specs.Places.{IsPlaced, is_inside, centre_of as centre_at, same_cell, cell_of as cell_at};
 ghost use Rattle.sim_base.specs.Steps.{IsOnGround};
 ghost use Rattle.sim_base.specs.Ways.{IsEnd, IsFound, IsWay, first_points, waypoints};
 ghost use Rattle.sim_base.specs.WayOf.{way_of};
 ghost use Rattle.sim_grid.specs.Grids.{IsGroundSize, field_of_grid};
 ghost use Rattle.sim_path.specs.Tables.{cost_in};
-ghost use Rattle.sim_path.specs.Comes.{AreEnds, IsTrailToEnd, LeadBack};
+ghost use Rattle.sim_path.specs.Estimates.{estimate_to};
+ghost use Rattle.sim_path.specs.Queues.{Ready};
+ghost use Rattle.sim_path.specs.Comes.{AreEnds, IsTrailToEnd, IsWayEnd, LeadBack};
 ghost use Rattle.sim_path.specs.Regions.{AreLabels};
 ghost use Rattle.sim_path.specs.Floods.{label_in};
 ghost use Rattle.sim_path.specs.Answers.{IsNarrow, way_in};
 
 use crate::costs::{Costs, Reached};
-use crate::drain::{costs_to, least_costs};
+use crate::drain::{dive, go_on, least_costs, started};
 use crate::end::{best_of, end_of};
-use crate::estimate::Aim;
+use crate::estimate::{Aim, estimate};
+use crate::floor::{Floor, Front};
 use crate::labels::Labels;
 use crate::marks::Marks;
 use crate::nearest::{is_reached, nearest};
 use crate::search::Search;
-use crate::straight::straight_to;
+use crate::tight::tight_to;
 use crate::trail::trail_from;
 use crate::unmarked::blank_marks;
 use sim_base::{Cell, Items, MAX_WAYPOINTS, OutOfMemory, Point, Points, cell_of, centre_of};
@@ -112,6 +115,31 @@ fn trail_back(
 {
     let from = grid.cell_of(*start);
     trail_from(grid, costs, trail, from, end)
+}
+
+// The end of the way, to which a search leads that goes on: the best of these ends, or where none is reached, the best of
+// all reached cells.
+fn finish(
+    alloc: Global,
+    search: &mut Search,
+    grid: &Grid,
+    aim: Aim,
+    ends: &[Cell],
+    now: u32,
+) -> Result<Reached, OutOfMemory>
+    requires start_on { IsOnGround grid.now.size search.old.start }
+    requires ready { Ready (estimate_to aim) (field_of_grid grid.now) search.old now 0 }
+    requires small { now < 2 ^ 26 }
+    requires ends { AreEnds (field_of_grid grid.now) search.old.start aim.goal aim.near ends.now }
+    ensures { IfOk result (λ end. IsWayEnd (field_of_grid grid.now) search.old.start aim.goal (cost_in search.new.costs) end) }
+{
+    let start = search.start;
+    go_on(alloc, search, grid, aim, ends, now)?;
+    let end = match best_of(&search.costs, ends, aim.goal) {
+        Some(end) => end,
+        None => end_of(&search.costs, start, aim.goal),
+    };
+    Ok(end)
 }
 
 /// The shortest way over the open cells of the grid, of at most 64 points. The start counts as open. Where the goal
@@ -233,7 +261,7 @@ impl Searcher {
         let from = grid.cell_of(*start);
         let to = grid.cell_of(*goal);
         let mut dead = blank_marks(alloc, self.marks.take(), grid.width(), grid.depth())?;
-        let straight = straight_to(grid, &mut dead, trail, near, ends, from, to)?;
+        let straight = tight_to(grid, &Floor::Octile, &mut dead, trail, near, ends, from, to)?;
         self.marks = Some(dead);
         if straight {
             return Ok(());
@@ -241,8 +269,7 @@ impl Searcher {
         self.search(alloc, grid, trail, near, ends, start, goal)
     }
 
-    // Makes the trail back from the best of these ends by a search, or where none is reached, from the best of all
-    // reached cells.
+    // Makes the trail back from the best of these ends by a search, as soon as it tells the way back.
     fn search(
         &mut self,
         alloc: Global,
@@ -260,21 +287,20 @@ impl Searcher {
     {
         let from = grid.cell_of(*start);
         let to = grid.cell_of(*goal);
-        let search = costs_to(
-            alloc,
-            grid,
-            self.rooms.take(),
-            Aim { goal: to, near },
-            ends,
-            from,
-        )?;
-        let end = match best_of(&search.costs, ends, to) {
-            Some(end) => end,
-            None => end_of(&search.costs, from, to),
-        };
-        let found = trail_back(grid, &search.costs, trail, end, start, goal);
+        let aim = Aim { goal: to, near };
+        let mut search = started(alloc, grid, self.rooms.take(), aim, from)?;
+        let key = dive(alloc, &mut search, grid, aim, estimate(aim, from))?;
+        let mut dead = blank_marks(alloc, self.marks.take(), grid.width(), grid.depth())?;
+        let costs = &search.costs;
+        let floor = Floor::Known(Front { costs, aim, key });
+        let found = tight_to(grid, &floor, &mut dead, trail, near, ends, from, to)?;
+        self.marks = Some(dead);
+        if !found {
+            let end = finish(alloc, &mut search, grid, aim, ends, key)?;
+            trail_back(grid, &search.costs, trail, end, start, goal)?;
+        }
         self.rooms = Some(search);
-        found
+        Ok(())
     }
 }
 
