@@ -4,7 +4,6 @@ use Rattle.sim_base.specs.declared.place.Cell.{Cell}
 use Rattle.sim_base.specs.Steps.{Field, IsStep, octile}
 use Rattle.sim_path.specs.Tables.{cost_in}
 use Rattle.sim_path.specs.Estimates.{estimate_to}
-use Rattle.sim_path.specs.declared.floor.Front.{Front}
 use Rattle.sim_path.specs.declared.floor.Floor.{Floor}
 use Rattle.sim_path.specs.declared.floor.Floor.TheVariants.{Octile, Known}
 
@@ -13,16 +12,12 @@ pub record IsFloor (field : Field) (start : Cell) (floor : Cell → ℕ) : Type 
   pub begins : floor start ≡ 0
   pub rises : (a b : Cell) (k : ℕ) → IsStep field start a b k → floor b ≤ floor a + k
 
--- the cost that is known, or what is left of the key where that is less
-abbrev pub known_or_left : Option ℕ → ℕ → ℕ
-known_or_left None left = left
-known_or_left (Some cost) left = min cost left
+-- the cost that is known, or the bound where that is less
+abbrev pub known_or : Option ℕ → ℕ → ℕ
+known_or None bound = bound
+known_or (Some cost) bound = min cost bound
 
--- what a walk to a cell costs at least, where a search has come to a key
-abbrev pub front_cost : Front → Cell → ℕ
-front_cost front c = known_or_left (cost_in front.costs.now c) (front.key - estimate_to front.aim c)
-
--- what a walk from the start to a cell costs at least
+-- what a walk from the start to a cell costs at least: the octile distance, or what is left of the key of a search for a cell that it hasn't taken
 abbrev pub floor_of : Floor → Cell → Cell → ℕ
 floor_of Octile start c = octile c start
-floor_of (Known front) start c = max (octile c start) (front_cost front c)
+floor_of (Known front) start c = known_or (cost_in front.costs.now c) (max (octile c start) (front.key - estimate_to front.aim c))

@@ -172,12 +172,13 @@ pub struct Searcher {
 }
 
 impl Searcher {
-    ghost use Rattle.std.specs.Prelude.{◌≡◌, OnOk, IfOk, IsTrue};
+    ghost use Rattle.std.specs.Prelude.{◌≡◌, OnOk, IfOk, IsTrue, true};
     ghost use Rattle.sim_base.specs.Places.{is_inside, cell_of as cell_at};
     ghost use Rattle.sim_base.specs.Ways.{IsFound, IsWay};
     ghost use Rattle.sim_base.specs.WayOf.{way_of};
     ghost use Rattle.sim_grid.specs.Grids.{field_of_grid};
     ghost use Rattle.sim_path.specs.Comes.{AreEnds, IsTrailToEnd};
+    ghost use Rattle.sim_path.specs.Floors.{IsFloor, floor_of};
     ghost use Rattle.sim_path.specs.Regions.{AreLabels};
     ghost use Rattle.sim_path.specs.Floods.{label_in};
     ghost use Rattle.sim_path.specs.Answers.{way_in};
@@ -258,15 +259,39 @@ impl Searcher {
         requires ends { AreEnds (field_of_grid grid.now) (cell_at start.now) (cell_at goal.now) near ends.now }
         ensures { OnOk result (IsTrailToEnd (field_of_grid grid.now) (cell_at start.now) (cell_at goal.now) trail.new.items) }
     {
-        let from = grid.cell_of(*start);
-        let to = grid.cell_of(*goal);
-        let mut dead = blank_marks(alloc, self.marks.take(), grid.width(), grid.depth())?;
-        let straight = tight_to(grid, &Floor::Octile, &mut dead, trail, near, ends, from, to)?;
-        self.marks = Some(dead);
+        let straight = self.go_back(alloc, grid, &Floor::Octile, trail, near, ends, start, goal)?;
         if straight {
             return Ok(());
         }
         self.search(alloc, grid, trail, near, ends, start, goal)
+    }
+
+    // Whether a way to one of these ends costs as little as the floor has it. If so, the trail is made of its cells, back
+    // from that end. False says nothing.
+    #[inline(always)]
+    fn go_back(
+        &mut self,
+        alloc: Global,
+        grid: &Grid,
+        floor: &Floor,
+        trail: &mut Vec<Cell>,
+        near: u32,
+        ends: &[Cell],
+        start: &Point,
+        goal: &Point,
+    ) -> Result<bool, OutOfMemory>
+        requires start { IsTrue (is_inside grid.now.size start.now) }
+        requires goal { IsTrue (is_inside grid.now.size goal.now) }
+        requires floor { IsFloor (field_of_grid grid.now) (cell_at start.now) (floor_of floor.now (cell_at start.now)) }
+        requires ends { AreEnds (field_of_grid grid.now) (cell_at start.now) (cell_at goal.now) near ends.now }
+        ensures { IfOk result (λ found. found ≡ true → IsTrailToEnd (field_of_grid grid.now) (cell_at start.now) (cell_at goal.now) trail.new.items) }
+    {
+        let from = grid.cell_of(*start);
+        let to = grid.cell_of(*goal);
+        let mut dead = blank_marks(alloc, self.marks.take(), grid.width(), grid.depth())?;
+        let found = tight_to(grid, floor, &mut dead, trail, near, ends, from, to);
+        self.marks = Some(dead);
+        found
     }
 
     // Makes the trail back from the best of these ends by a search, as soon as it tells the way back.
@@ -289,12 +314,10 @@ impl Searcher {
         let to = grid.cell_of(*goal);
         let aim = Aim { goal: to, near };
         let mut search = started(alloc, grid, self.rooms.take(), aim, from)?;
-        let key = dive(alloc, &mut search, grid, aim, estimate(aim, from))?;
-        let mut dead = blank_marks(alloc, self.marks.take(), grid.width(), grid.depth())?;
+        let (key, at_aim) = dive(alloc, &mut search, grid, aim, estimate(aim, from))?;
         let costs = &search.costs;
         let floor = Floor::Known(Front { costs, aim, key });
-        let found = tight_to(grid, &floor, &mut dead, trail, near, ends, from, to)?;
-        self.marks = Some(dead);
+        let found = at_aim && self.go_back(alloc, grid, &floor, trail, near, ends, start, goal)?;
         if !found {
             let end = finish(alloc, &mut search, grid, aim, ends, key)?;
             trail_back(grid, &search.costs, trail, end, start, goal)?;

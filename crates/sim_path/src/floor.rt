@@ -1,8 +1,9 @@
 //! What walks from a start cost at least: the octile distance, or what a search knows that has come to a key. It stands
 //! apart from the search, since the ways back that are found by it read no more of it.
 
-ghost use Rattle.std.specs.Prelude.{◌≡◌};
-ghost use Rattle.sim_path.specs.Floors.{floor_of, front_cost};
+ghost use Rattle.std.specs.Prelude.{◌≡◌, ◌-◌, ◌↔◌, IsTrue};
+ghost use Rattle.sim_path.specs.Estimates.{estimate_to};
+ghost use Rattle.sim_path.specs.Floors.{floor_of};
 
 use crate::costs::Costs;
 use crate::estimate::{Aim, estimate};
@@ -26,15 +27,11 @@ pub enum Floor<'a> {
     Known(Front<'a>),
 }
 
-// The cost of a cell that is known, or what is left of the key of the search where that is less.
-fn front_at(front: &Front, cell: Cell) -> u32
-    ensures { result ≡ front_cost front.now cell }
+// What is left of the key for a cell.
+fn left_at(front: &Front, cell: Cell) -> u32
+    ensures { result ≡ front.now.key - estimate_to front.now.aim cell }
 {
-    let left = front.key.saturating_sub(estimate(front.aim, cell));
-    match front.costs.at(cell) {
-        Some(cost) => cost.min(left),
-        None => left,
-    }
+    front.key.saturating_sub(estimate(front.aim, cell))
 }
 
 /// What a walk from the start to a cell costs at least.
@@ -44,6 +41,38 @@ pub fn floor_at(floor: &Floor, start: Cell, cell: Cell) -> u32
     let apart = octile(cell, start);
     match floor {
         Floor::Octile => apart,
-        Floor::Known(front) => apart.max(front_at(front, cell)),
+        Floor::Known(front) => {
+            let bound = apart.max(left_at(front, cell));
+            match front.costs.at(cell) {
+                Some(cost) => cost.min(bound),
+                None => bound,
+            }
+        }
+    }
+}
+
+/// Whether that is this cost. The octile distance is reckoned only where it matters.
+pub fn is_floor(floor: &Floor, start: Cell, cell: Cell, cost: u32) -> bool
+    ensures { IsTrue result ↔ floor_of floor.now start cell ≡ cost }
+{
+    match floor {
+        Floor::Octile => octile(cell, start) == cost,
+        Floor::Known(front) => is_known(front, start, cell, cost),
+    }
+}
+
+// The same by what a search knows.
+fn is_known(front: &Front, start: Cell, cell: Cell, cost: u32) -> bool
+    ensures { IsTrue result ↔ floor_of (Floor.Known front.now) start cell ≡ cost }
+{
+    match front.costs.at(cell) {
+        Some(known) if known < cost => false,
+        Some(known) if known == cost => {
+            cost <= left_at(front, cell) || cost <= octile(cell, start)
+        }
+        _ => {
+            let left = left_at(front, cell);
+            left <= cost && left.max(octile(cell, start)) == cost
+        }
     }
 }

@@ -14,7 +14,7 @@ ghost use Rattle.sim_path.specs.Comes.{AreEnds, IsBestOf, IsTrailToEnd};
 
 use crate::costs::Reached;
 use crate::end::better_than;
-use crate::floor::{Floor, floor_at};
+use crate::floor::{Floor, floor_at, is_floor};
 use crate::marks::Marks;
 use crate::step::{is_free, moves_from, step, step_cost};
 use crate::straight::straight_before;
@@ -39,12 +39,11 @@ fn tight_step(
     ensures some { (p : Cell) → result ≡ Some p → IsTightStep (field_of_grid grid.now) start (floor_of floor.now start) at.cell p which }
 {
     let from = step(grid, start, at.cell, moves, which)?;
-    if at.cost.checked_sub(step_cost(which)) != Some(floor_at(floor, start, from))
-        || dead.at(from)
-    {
-        None
-    } else {
+    let cost = at.cost.checked_sub(step_cost(which))?;
+    if is_floor(floor, start, from, cost) && !dead.at(from) {
         Some(from)
+    } else {
+        None
     }
 }
 
@@ -65,7 +64,8 @@ fn first_tight(grid: &Grid, floor: &Floor, start: Cell, at: Cell, dead: &Marks) 
     None
 }
 
-// The same, by two directions where the floor is the octile distance.
+// The same by two directions where the floor is the octile distance.
+#[inline(always)]
 fn tight_before(grid: &Grid, floor: &Floor, start: Cell, at: Cell, dead: &Marks) -> Option<Cell>
     requires start_on { IsOnGround grid.now.size start }
     requires at_on { IsOnGround grid.now.size at }
@@ -79,6 +79,7 @@ fn tight_before(grid: &Grid, floor: &Floor, start: Cell, at: Cell, dead: &Marks)
 
 // Whether a walk to the end costs as little as the floor has it. If so, the trail is made of the cells from the end back
 // to the start, without the start. False says nothing.
+#[inline(always)]
 fn tight_trail(
     grid: &Grid,
     floor: &Floor,
@@ -120,6 +121,7 @@ fn tight_trail(
 }
 
 // The end to which such a way would lead: of those that are as near to the goal, the one with the least floor.
+#[inline(always)]
 fn tight_end(floor: &Floor, ends: &[Cell], start: Cell, goal: Cell) -> Option<Reached>
     ensures { IsBestOf (floor_cost (floor_of floor.now start)) goal ends.now result }
 {
@@ -134,6 +136,7 @@ fn tight_end(floor: &Floor, ends: &[Cell], start: Cell, goal: Cell) -> Option<Re
 
 /// Whether a way is found to one of these ends that costs as little as the floor has it. If so, the trail is made of its
 /// cells, back from that end. False says nothing.
+#[inline(always)]
 pub fn tight_to(
     grid: &Grid,
     floor: &Floor,

@@ -4,71 +4,67 @@ use Rattle.sim_base.specs.Steps.{IsOnGround}
 use Rattle.sim_grid.specs.Grids.{field_of_grid}
 use Rattle.sim_path.specs.Estimates.{estimate_to}
 use Rattle.sim_path.specs.Queues.{Drains}
-use Rattle.sim_path.proofs.Draining.{drains_last, ready_again}
+use Rattle.sim_path.proofs.Draining.{drains_last, ready_again, ready_anew}
 use Rattle.sim_path.proofs.drain.dive.Goals as goal
 
 pub passed-next-requires-clause-small : goal.passed-next-requires-clause-small
-passed-next-requires-clause-small c = omega (arith, c.loop-round.invariant.low, c.requires.small, c.loop-round-test.true)
+passed-next-requires-clause-small c = omega (arith, c.loop.invariant.low, c.requires.small)
 
 pub returns-in_default-clause-start : goal.returns-in_default-clause-start
-returns-in_default-clause-start c = c.take_out.ensures.start_is ∙ c.loop-round.invariant.start
+returns-in_default-clause-start c = c.take_out.ensures.start_is ∙ c.loop.invariant.start
 
 pub returns-in_default-clause-ready : goal.returns-in_default-clause-ready
 returns-in_default-clause-ready c =
     let h = estimate_to c.args.aim in
     let field = field_of_grid c.args.grid.now in
     let new = c.take_out.new.search in
-    let ready = c.passed-next.ensures.ready c.args.aim field c.loop-round.invariant.ready in
+    let ready = c.passed-next.ensures.ready c.args.aim field c.loop.invariant.ready in
     let now = c.passed-next.result.0 in
-    let drains = drains_last h field c.loop-round.search new now c.passed-next.result.1 c.take_out.result ready c.take_out.ensures in
+    let drains = drains_last h field c.loop.search new now c.passed-next.result.1 c.take_out.result ready c.take_out.ensures in
     ready_again h field new now ready.even (subst (λ (o : Option Cell). Drains h field new now (option_to_list o)) c.in_default.is drains)
 
 pub returns-in_default-clause-small : goal.returns-in_default-clause-small
-returns-in_default-clause-small c = omega (arith, c.passed-next.ensures.gap, c.passed-next.ensures.most, c.loop-round.invariant.low, c.requires.small, c.loop-round-test.true)
+returns-in_default-clause-small c = omega (arith, c.passed-next.ensures.gap, c.passed-next.ensures.most, c.loop.invariant.low, c.requires.small)
 
 pub drain-requires-clause-start_on : goal.drain-requires-clause-start_on
-drain-requires-clause-start_on c = subst (λ (v : Cell). IsOnGround c.args.grid.now.size v) (sym (c.take_out.ensures.start_is ∙ c.loop-round.invariant.start)) c.requires.start_on
+drain-requires-clause-start_on c = subst (λ (v : Cell). IsOnGround c.args.grid.now.size v) (sym (c.take_out.ensures.start_is ∙ c.loop.invariant.start)) c.requires.start_on
 
 pub drain-requires-clause-drains : goal.drain-requires-clause-drains
 drain-requires-clause-drains c =
     let h = estimate_to c.args.aim in
     let field = field_of_grid c.args.grid.now in
     let new = c.take_out.new.search in
-    let ready = c.passed-next.ensures.ready c.args.aim field c.loop-round.invariant.ready in
+    let ready = c.passed-next.ensures.ready c.args.aim field c.loop.invariant.ready in
     let now = c.passed-next.result.0 in
-    let drains = drains_last h field c.loop-round.search new now c.passed-next.result.1 c.take_out.result ready c.take_out.ensures in
+    let drains = drains_last h field c.loop.search new now c.passed-next.result.1 c.take_out.result ready c.take_out.ensures in
     subst (λ (o : Option Cell). Drains h field new now (option_to_list o)) c.in-Some.is drains
 
 pub drain-requires-clause-small : goal.drain-requires-clause-small
-drain-requires-clause-small c = omega (arith, c.passed-next.ensures.gap, c.passed-next.ensures.most, c.loop-round.invariant.low, c.requires.small, c.loop-round-test.true)
+drain-requires-clause-small c = omega (arith, c.passed-next.ensures.gap, c.passed-next.ensures.most, c.loop.invariant.low, c.requires.small)
 
 pub returns-then-estimate-eq0-clause-start : goal.returns-then-estimate-eq0-clause-start
-returns-then-estimate-eq0-clause-start c = c.in_ok-drain.ensures.progress.start_is ∙ c.take_out.ensures.start_is ∙ c.loop-round.invariant.start
+returns-then-estimate-eq0-clause-start c = c.in_ok-drain.ensures.progress.start_is ∙ c.take_out.ensures.start_is ∙ c.loop.invariant.start
 
 pub returns-then-estimate-eq0-clause-ready : goal.returns-then-estimate-eq0-clause-ready
 returns-then-estimate-eq0-clause-ready c =
     let field = field_of_grid c.args.grid.now in
-    let ready = c.passed-next.ensures.ready c.args.aim field c.loop-round.invariant.ready in
+    let ready = c.passed-next.ensures.ready c.args.aim field c.loop.invariant.ready in
     ready_again (estimate_to c.args.aim) field c.drain.new.search c.passed-next.result.0 ready.even c.in_ok-drain.ensures.done
 
 pub returns-then-estimate-eq0-clause-small : goal.returns-then-estimate-eq0-clause-small
-returns-then-estimate-eq0-clause-small c = omega (arith, c.passed-next.ensures.gap, c.passed-next.ensures.most, c.loop-round.invariant.low, c.requires.small, c.loop-round-test.true)
+returns-then-estimate-eq0-clause-small c = omega (arith, c.passed-next.ensures.gap, c.passed-next.ensures.most, c.loop.invariant.low, c.requires.small)
 
-pub loop-round-preserved : goal.loop-round-preserved
-loop-round-preserved c =
+pub loop-preserved : goal.loop-preserved
+loop-preserved c =
     let field = field_of_grid c.args.grid.now in
-    let ready = c.passed-next.ensures.ready c.args.aim field c.loop-round.invariant.ready in
+    let ready = c.passed-next.ensures.ready c.args.aim field c.loop.invariant.ready in
     record {
-      start = c.in_ok-drain.ensures.progress.start_is ∙ c.take_out.ensures.start_is ∙ c.loop-round.invariant.start;
+      start = c.in_ok-drain.ensures.progress.start_is ∙ c.take_out.ensures.start_is ∙ c.loop.invariant.start;
       ready = ready_again (estimate_to c.args.aim) field c.drain.new.search c.passed-next.result.0 ready.even c.in_ok-drain.ensures.done;
-      low = omega (arith, c.passed-next.ensures.gap, c.passed-next.ensures.most, c.loop-round.invariant.low);
+      low = omega (arith, c.passed-next.ensures.gap, c.passed-next.ensures.most, c.loop.invariant.low);
     }
 
-pub returns-clause-start : goal.returns-clause-start
-returns-clause-start c = c.loop-round.invariant.start
-
-pub returns-clause-ready : goal.returns-clause-ready
-returns-clause-ready c = c.loop-round.invariant.ready
-
-pub returns-clause-small : goal.returns-clause-small
-returns-clause-small c = omega (arith, c.loop-round.invariant.low, c.requires.small)
+pub returns-then-first-now-clause-ready : goal.returns-then-first-now-clause-ready
+returns-then-first-now-clause-ready c =
+    let field = field_of_grid c.args.grid.now in
+    ready_anew (estimate_to c.args.aim) field c.loop.search c.passed-next.result.0 c.passed-next.result.1 (c.passed-next.ensures.ready c.args.aim field c.loop.invariant.ready)

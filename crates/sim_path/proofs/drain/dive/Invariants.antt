@@ -1,12 +1,12 @@
-use Rattle.std.proofs.Common.{◌≡◌, ◌+◌, ◌*◌, ◌≤◌}
+use Rattle.std.proofs.Common.{◌≡◌, ◌+◌, ◌<◌}
 use Rattle.sim_grid.specs.Grids.{field_of_grid}
 use Rattle.sim_path.specs.Estimates.{estimate_to}
 use Rattle.sim_path.specs.Queues.{Ready}
 use Rattle.sim_path.proofs.drain.dive.Given as goal
 
-abbrev pub invariant-loop-round : goal.invariant-loop-round
-invariant-loop-round l = record {
+abbrev pub invariant-loop : goal.invariant-loop
+invariant-loop l = record {
   start : l.search.start ≡ l.initial.search.start;
   ready : Ready (estimate_to l.aim) (field_of_grid l.grid) l.search l.now 0;
-  low : l.now ≤ l.first + 32 * l.round;
+  low : l.now < l.first + 32;
 }
