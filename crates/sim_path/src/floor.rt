@@ -38,20 +38,25 @@ fn left_at(front: &Front, cell: Cell) -> u32
 pub fn floor_at(floor: &Floor, start: Cell, cell: Cell) -> u32
     ensures { result ≡ floor_of floor.now start cell }
 {
-    let apart = octile(cell, start);
     match floor {
-        Floor::Octile => apart,
-        Floor::Known(front) => {
-            let bound = apart.max(left_at(front, cell));
-            match front.costs.at(cell) {
-                Some(cost) => cost.min(bound),
-                None => bound,
-            }
-        }
+        Floor::Octile => octile(cell, start),
+        Floor::Known(front) => known_at(front, start, cell),
     }
 }
 
-/// Whether that is this cost. The octile distance is reckoned only where it matters.
+// The same by what a search knows. The octile distance is reckoned only where it matters.
+fn known_at(front: &Front, start: Cell, cell: Cell) -> u32
+    ensures { result ≡ floor_of (Floor.Known front.now) start cell }
+{
+    let left = left_at(front, cell);
+    match front.costs.at(cell) {
+        Some(cost) if cost <= left => cost,
+        Some(cost) => cost.min(left.max(octile(cell, start))),
+        None => left.max(octile(cell, start)),
+    }
+}
+
+/// Whether that is this cost.
 pub fn is_floor(floor: &Floor, start: Cell, cell: Cell, cost: u32) -> bool
     ensures { IsTrue result ↔ floor_of floor.now start cell ≡ cost }
 {
@@ -61,7 +66,7 @@ pub fn is_floor(floor: &Floor, start: Cell, cell: Cell, cost: u32) -> bool
     }
 }
 
-// The same by what a search knows.
+// The same by what a search knows, of which as little is read as will do.
 fn is_known(front: &Front, start: Cell, cell: Cell, cost: u32) -> bool
     ensures { IsTrue result ↔ floor_of (Floor.Known front.now) start cell ≡ cost }
 {

@@ -77,6 +77,15 @@ fn tight_before(grid: &Grid, floor: &Floor, start: Cell, at: Cell, dead: &Marks)
     }
 }
 
+// How many cells are tried on the way back to an end of this floor. A cell takes about four times as long where all
+// directions are looked at.
+fn tries(floor: &Floor, cost: u32) -> u32 {
+    match floor {
+        Floor::Octile => cost / 2 + 64,
+        Floor::Known(_) => cost / 8 + 64,
+    }
+}
+
 // Whether a walk to the end costs as little as the floor has it. If so, the trail is made of the cells from the end back
 // to the start, without the start. False says nothing.
 #[inline(always)]
@@ -99,7 +108,7 @@ fn tight_trail(
         return Ok(false);
     }
     let mut at = end;
-    for _ in 0..floor_at(floor, start, end) / 2 + 64 {
+    for _ in 0..tries(floor, floor_at(floor, start, end)) {
         if at == start {
             return Ok(true);
         }
