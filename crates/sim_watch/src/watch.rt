@@ -1,18 +1,22 @@
-//! The system, over a plain list of targets.
+//! The system: the target of each entity that has one, and beside them a list of ids per target.
 
-ghost use Rattle.std.specs.Prelude.{◌≡◌, ◌==◌, ◌&&◌, not, None, [], map, filter, IfOk};
+ghost use Rattle.std.specs.Prelude.{◌≡◌, None, [], IfOk};
 ghost use Rattle.sim_system.specs.declared.kind.Kind.TheVariants.{Watch as WatchKind};
 ghost use Rattle.sim_system.specs.Answers.{watchers_among};
+ghost use Rattle.sim_watch.specs.Lists.{AreAims};
 
+use crate::aims::Aims;
 use sim_base::{Ids, Land, OutOfMemory};
-use sim_fact_lists::Kept;
+use sim_fact_lists::{Kept, id_of, part_after};
 use sim_system::{Answer, Ask, Fact, Kind, Note, System};
 use std::alloc::Global;
 
-/// Keeps the target of each entity that has one.
+/// Keeps the target of each entity that has one, and who aims at each target.
 #[derive(Drop)]
 pub struct Watch {
     kept: Kept,
+    aims: Aims,
+    ghost listed: { AreAims kept.facts.items aims.targets.items aims.ids.items },
 }
 
 impl Watch {
@@ -22,7 +26,15 @@ impl Watch {
     {
         Watch {
             kept: Kept::new(alloc),
+            aims: Aims::new(alloc),
         }
+    }
+
+    /// Lends the ids of those who aim at an entity, ascending. There are none for no target, and where it was not built.
+    pub fn list(&self, id: u32) -> &[u32]
+        ensures { result.now ≡ watchers_among (⟦<Watch as System>⟧.meaning self.now).facts id }
+    {
+        if id == 0 { &[] } else { self.aims.at(id) }
     }
 }
 
@@ -35,20 +47,36 @@ impl System for Watch {
 
     fn clear(&mut self) {
         self.kept.clear();
+        self.aims = Aims::new(self.kept.alloc);
     }
 
     fn rebuild(&mut self, land: &Land, facts: &[Fact]) -> Result<(), OutOfMemory> {
-        self.kept.rebuild(Kind::Watch, land, facts)
+        self.aims = Aims::new(self.kept.alloc);
+        self.kept.rebuild(Kind::Watch, land, facts)?;
+        match Aims::of_facts(self.kept.alloc, self.kept.facts.as_slice()) {
+            Ok(aims) => self.aims = aims,
+            Err(error) => {
+                self.kept.clear();
+                return Err(error);
+            }
+        }
+        Ok(())
     }
 
     fn on(&mut self, note: &Note) -> Result<(), OutOfMemory> {
-        self.kept.on(Kind::Watch, note)
+        let before = self.kept.find(id_of(note));
+        let after = part_after(Kind::Watch, before, note);
+        self.aims.make_room()?;
+        self.kept.on(Kind::Watch, note)?;
+        self.aims.leave(&before);
+        self.aims.join(&after);
+        Ok(())
     }
 
     fn ask(&self, ask: &Ask) -> Result<Answer, OutOfMemory> {
         match ask {
             Ask::Watchers { id } => Ok(Answer::Many {
-                ids: watchers(self.kept.alloc, self.kept.facts.as_slice(), *id)?,
+                ids: watchers(self, *id)?,
             }),
             _ => unreachable!(),
         }
@@ -59,15 +87,9 @@ impl System for Watch {
     }
 }
 
-// The entities whose target this is; none for no target.
-fn watchers(alloc: Global, facts: &[Fact], id: u32) -> Result<Ids, OutOfMemory>
-    ensures { IfOk result (λ ids. ids ≡ watchers_among facts.now id) }
+// A list of what is lent of an entity.
+fn watchers(watch: &Watch, id: u32) -> Result<Ids, OutOfMemory>
+    ensures { IfOk result (λ ids. ids ≡ watchers_among (⟦<Watch as System>⟧.meaning watch.now).facts id) }
 {
-    let mut ids = Ids::new(alloc);
-    for fact in facts {
-        if id != 0 && fact.target == id {
-            ids.push(fact.id)?;
-        }
-    }
-    Ok(ids)
+    Ok(Ids::from_items(Vec::from_slice(watch.kept.alloc, watch.list(id))?))
 }
