@@ -1,5 +1,5 @@
 -- Each ask of a ground over its grid is that over its land and facts.
-use Rattle.std.proofs.Common.{◌≡◌, ℕ, Bool, List, Option, Some, None, refl, sym, ap, ◌∙◌, subst, filter}
+use Rattle.std.proofs.Common.{◌≡◌, Bool, List, Option, Some, sym, ap, ◌∙◌, subst, filter}
 use Rattle.std.specs.Prelude.{IsTrue, MatchOption}
 use Rattle.sim_base.specs.declared.place.Cell.{Cell}
 use Rattle.sim_base.specs.declared.place.Point.{Point}
@@ -7,7 +7,6 @@ use Rattle.sim_base.specs.declared.setup.Land.{Land}
 use Rattle.sim_base.specs.Places.{Size, IsPlaced, is_inside, cells_of}
 use Rattle.sim_base.specs.Least.{least_of}
 use Rattle.sim_base.specs.Steps.{IsOnGround}
-use Rattle.sim_base.specs.Rows.{size_of}
 use Rattle.sim_base.specs.WayOf.{way_of}
 use Rattle.sim_grid.specs.Grids.{is_open_at, field_of_grid}
 use Rattle.sim_path.specs.Answers.{way_in}
@@ -26,6 +25,8 @@ use Rattle.sim_ground.specs.declared.opened.Opened.{Opened}
 use Rattle.sim_ground.specs.Cells.{spot_key}
 use Rattle.sim_ground.specs.Opening.{IsOpened, IsKept}
 use Rattle.sim_ground.proofs.Spots.{placed_on}
+use Rattle.sim_ground.specs.Closing.{IsOver}
+use Rattle.sim_ground.proofs.Turning.{over_is}
 use Rattle.sim_ground.proofs.Over.{spot_is, same_way}
 
 -- an ask of the ground that fits, where there is a land
@@ -42,27 +43,30 @@ module _ (land : Option Land) (l : Land) (facts : List Fact) (opened : Option Op
   known : IsOpened l facts o
   known = kept.each l o is has
 
-  pub open_fits : (cell : Cell) → a ≡ ask.Open cell → IsOnGround o.grid.size cell
-  open_fits cell e = subst (λ (s : Size). IsOnGround s cell) (sym known.over.size) (fits_on land l facts a (ask.Open cell) may is e)
+  over : IsOver l facts o.cover.grid
+  over = over_is l facts o known
 
-  pub open_given : (cell : Cell) (b : Bool) → a ≡ ask.Open cell → b ≡ is_open_at o.grid cell → MatchOption land ⊥ (λ (k : Land). Truth b ≡ answer k facts a)
+  pub open_fits : (cell : Cell) → a ≡ ask.Open cell → IsOnGround o.cover.grid.size cell
+  open_fits cell e = subst (λ (s : Size). IsOnGround s cell) (sym over.size) (fits_on land l facts a (ask.Open cell) may is e)
+
+  pub open_given : (cell : Cell) (b : Bool) → a ≡ ask.Open cell → b ≡ is_open_at o.cover.grid cell → MatchOption land ⊥ (λ (k : Land). Truth b ≡ answer k facts a)
   open_given cell b e r = given_on land l (λ (k : Land). Truth b ≡ answer k facts a) is
-      (ap Truth (r ∙ known.over.opens cell (fits_on land l facts a (ask.Open cell) may is e)) ∙ ap (answer l facts) (sym e))
+      (ap Truth (r ∙ over.opens cell (fits_on land l facts a (ask.Open cell) may is e)) ∙ ap (answer l facts) (sym e))
 
   pub spot_fits : (at : Point) → HoldsIfAny land facts → a ≡ ask.Spot at → IsPlaced at
   spot_fits at h e = placed_on l at (h l is).limits (fits_on land l facts a (ask.Spot at) may is e)
 
-  pub spot_given : (at : Point) (cell : Option Cell) → a ≡ ask.Spot at → cell ≡ least_of (spot_key at) (filter (is_open_at o.grid) (cells_of o.grid.size)) → MatchOption land ⊥ (λ (k : Land). Place cell ≡ answer k facts a)
-  spot_given at cell e r = given_on land l (λ (k : Land). Place cell ≡ answer k facts a) is (ap Place (r ∙ spot_is l facts o.grid known.over at) ∙ ap (answer l facts) (sym e))
+  pub spot_given : (at : Point) (cell : Option Cell) → a ≡ ask.Spot at → cell ≡ least_of (spot_key at) (filter (is_open_at o.cover.grid) (cells_of o.cover.grid.size)) → MatchOption land ⊥ (λ (k : Land). Place cell ≡ answer k facts a)
+  spot_given at cell e r = given_on land l (λ (k : Land). Place cell ≡ answer k facts a) is (ap Place (r ∙ spot_is l facts o.cover.grid over at) ∙ ap (answer l facts) (sym e))
 
-  pub start_fits : (start goal : Point) → a ≡ ask.Way start goal → IsTrue (is_inside o.grid.size start)
-  start_fits start goal e = let both = fits_on land l facts a (ask.Way start goal) may is e in subst (λ (s : Size). IsTrue (is_inside s start)) (sym known.over.size) both.0
+  pub start_fits : (start goal : Point) → a ≡ ask.Way start goal → IsTrue (is_inside o.cover.grid.size start)
+  start_fits start goal e = let both = fits_on land l facts a (ask.Way start goal) may is e in subst (λ (s : Size). IsTrue (is_inside s start)) (sym over.size) both.0
 
-  pub goal_fits : (start goal : Point) → a ≡ ask.Way start goal → IsTrue (is_inside o.grid.size goal)
-  goal_fits start goal e = let both = fits_on land l facts a (ask.Way start goal) may is e in subst (λ (s : Size). IsTrue (is_inside s goal)) (sym known.over.size) both.1
+  pub goal_fits : (start goal : Point) → a ≡ ask.Way start goal → IsTrue (is_inside o.cover.grid.size goal)
+  goal_fits start goal e = let both = fits_on land l facts a (ask.Way start goal) may is e in subst (λ (s : Size). IsTrue (is_inside s goal)) (sym over.size) both.1
 
-  pub way_given : (start goal : Point) (w : WayAnswer) → a ≡ ask.Way start goal → way_in w ≡ way_of (field_of_grid o.grid) start goal → MatchOption land ⊥ (λ (k : Land). Found w ≡ answer k facts a)
-  way_given start goal w e r = given_on land l (λ (k : Land). Found w ≡ answer k facts a) is (ap (λ v. Found (way_told v)) (r ∙ same_way l facts o.grid known.over start goal) ∙ ap (answer l facts) (sym e))
+  pub way_given : (start goal : Point) (w : WayAnswer) → a ≡ ask.Way start goal → way_in w ≡ way_of (field_of_grid o.cover.grid) start goal → MatchOption land ⊥ (λ (k : Land). Found w ≡ answer k facts a)
+  way_given start goal w e r = given_on land l (λ (k : Land). Found w ≡ answer k facts a) is (ap (λ v. Found (way_told v)) (r ∙ same_way l facts o.cover.grid over start goal) ∙ ap (answer l facts) (sym e))
 
-  pub labels_known : ∥ AreLabels (field_of_grid o.grid) (label_in o.labels) ∥₁
-  labels_known = known.labels
+  pub labels_known : ∥ AreLabels (field_of_grid o.cover.grid) (label_in o.labels) ∥₁
+  labels_known = o.labelled

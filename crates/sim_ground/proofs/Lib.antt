@@ -1,9 +1,14 @@
-pub mod Closing
+pub mod Stretches
+pub mod Layers
 pub mod Rows
 pub mod Spots
 pub mod Freeing
 pub mod Over
 pub mod Relabelling
-pub mod Built
 pub mod Regions
+pub mod Undoing
+pub mod Turning
+pub mod Built
+pub mod Noted
+pub mod Lending
 pub mod Asking

@@ -1,22 +1,17 @@
 -- Over the grid of the open cells, ways and spots are those over the facts.
-use Rattle.std.proofs.Common.{◌≡◌, Bool, true, false, cond, List, [], ◌∷◌, filter, refl, ap, ◌∙◌, inl, inr}
-use Rattle.std.specs.Prelude.{IfOk, Result, Ok, Err}
-use Rattle.sim_base.specs.declared.place.Cell.{Cell}
+use Rattle.std.proofs.Common.{◌≡◌, Bool, cond, List, [], ◌∷◌, filter, refl, ap, ◌∙◌, inl, inr}
 use Rattle.sim_base.specs.declared.place.Point.{Point}
 use Rattle.sim_base.specs.declared.setup.Land.{Land}
 use Rattle.sim_base.specs.Places.{Size, cells_of}
 use Rattle.sim_base.specs.Least.{least_of}
-use Rattle.sim_base.specs.Steps.{IsOnGround}
 use Rattle.sim_base.specs.WayOf.{way_of}
 use Rattle.sim_base.specs.Rows.{size_of}
 use Rattle.sim_laws.proofs.Ground.{Has-of_cells_of}
 use Rattle.sim_laws.proofs.Members.{Has}
 use Rattle.sim_laws.proofs.WayByGround.{way_of-same}
 use Rattle.sim_grid.specs.Grids.{OpenCells, is_open_at, field_of_grid}
-use Rattle.sim_path.specs.Answers.{way_in}
-use Rattle.sim_system.specs.declared.Way.{Way as WayAnswer}
 use Rattle.sim_system.specs.declared.fact.Fact.{Fact}
-use Rattle.sim_system.specs.Answers.{is_open_among, field_among, way_told, spot_among}
+use Rattle.sim_system.specs.Answers.{is_open_among, field_among, spot_among}
 use Rattle.sim_ground.specs.Cells.{spot_key}
 use Rattle.sim_ground.specs.Closing.{IsOver}
 

@@ -1,6 +1,5 @@
 -- The labels of the grid are those of the open cells among the facts.
-use Rattle.std.proofs.Common.{◌≡◌, ℕ, Bool, true, false, List, Option, Some, None, refl, sym, ap, ◌∙◌, subst}
-use Rattle.std.specs.Prelude.{is_some, option_map}
+use Rattle.std.proofs.Common.{◌≡◌, ℕ, Bool, List, Option, sym, ◌∙◌, subst}
 use Rattle.sim_base.specs.declared.place.Cell.{Cell}
 use Rattle.sim_base.specs.declared.setup.Land.{Land}
 use Rattle.sim_base.specs.Places.{Size}
@@ -8,17 +7,12 @@ use Rattle.sim_base.specs.Rows.{size_of}
 use Rattle.sim_base.specs.Steps.{Field, IsOnGround}
 use Rattle.sim_laws.proofs.Neighbours.{neighbour-on}
 use Rattle.sim_grid.specs.Grids.{OpenCells, is_open_at, field_of_grid}
-use Rattle.sim_path.specs.Regions.{IsJoined, alone, on, IsLabel, AreLabels}
-use Rattle.sim_path.specs.Floods.{label_in}
+use Rattle.sim_path.specs.Regions.{IsJoined, alone, on, AreLabels}
 use Rattle.sim_system.specs.declared.fact.Fact.{Fact}
 use Rattle.sim_system.specs.Answers.{is_open_among, field_among}
-use Rattle.sim_ground.specs.declared.opened.Opened.{Opened}
 use Rattle.sim_ground.specs.Closing.{IsOver}
-use Rattle.sim_ground.specs.Opening.{IsOpened, IsKept}
-use Rattle.sim_ground.specs.Lent.{AreRegions}
-use Rattle.sim_ground.proofs.Relabelling.{labels_again}
 
-abbrev over : Size → (Cell → Bool) → Field
+abbrev pub over : Size → (Cell → Bool) → Field
 over size p = record { size = size; is_open = p }
 
 joined_over : (size : Size) (p q : Cell → Bool) → ((c : Cell) → IsOnGround size c → p c ≡ q c) → {a c : Cell} → IsJoined (over size p) a c → IsJoined (over size q) a c
@@ -26,7 +20,7 @@ joined_over size p q agree {a} {c} (alone h e) = alone h (sym (agree a h) ∙ e)
 joined_over size p q agree (on {b = b} {c = c} j s) =
     on (joined_over size p q agree j) (record { which = s.which; straight = s.straight; leads = s.leads; free = sym (agree c (neighbour-on size b c s.which s.leads)) ∙ s.free })
 
-labels_over : (size : Size) (p q : Cell → Bool) (label : Cell → Option ℕ) → ((c : Cell) → IsOnGround size c → p c ≡ q c) → AreLabels (over size p) label → AreLabels (over size q) label
+pub labels_over : (size : Size) (p q : Cell → Bool) (label : Cell → Option ℕ) → ((c : Cell) → IsOnGround size c → p c ≡ q c) → AreLabels (over size p) label → AreLabels (over size q) label
 labels_over size p q label agree h = record {
   sound = λ c l e.
       let known = h.sound c l e in
@@ -34,12 +28,6 @@ labels_over size p q label agree h = record {
   all = λ c on_c open_c. h.all c on_c (agree c on_c ∙ open_c);
 }
 
-labels_among : (land : Land) (facts : List Fact) (g : OpenCells) (label : Cell → Option ℕ) → IsOver land facts g → AreLabels (field_of_grid g) label → AreLabels (field_among land facts) label
+pub labels_among : (land : Land) (facts : List Fact) (g : OpenCells) (label : Cell → Option ℕ) → IsOver land facts g → AreLabels (field_of_grid g) label → AreLabels (field_among land facts) label
 labels_among land facts g label h known =
     labels_over (size_of land) (is_open_at g) (is_open_among land facts) label h.opens (subst (λ (s : Size). AreLabels (over s (is_open_at g)) label) h.size known)
-
-pub regions_are : (land : Option Land) (facts : List Fact) (opened : Option Opened) → IsKept land facts opened → AreRegions land facts (option_map (λ (o : Opened). o.labels) opened)
-regions_are None facts None h = refl
-regions_are None facts (Some o) h = absurd (let e = h.same in cc)
-regions_are (Some l) facts None h = absurd (let e = h.same in cc)
-regions_are (Some l) facts (Some o) h = let known = h.each l o refl refl in labels_among l facts o.grid (label_in o.labels) known.over (labels_again (field_of_grid o.grid) (label_in o.labels) known.labels)

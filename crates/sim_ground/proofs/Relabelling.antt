@@ -1,17 +1,17 @@
 -- Labels that some proof shows to be right are right: which cells are joined is found out by the least costs of walks.
-use Rattle.std.proofs.Common.{◌≡◌, ℕ, ◌+◌, ◌*◌, ◌/◌, ◌%◌, ◌<◌, ◌≤◌, Bool, true, Option, Some, None, refl, sym, ap, ◌∙◌, subst, ◌⊎◌, inl, inr, arith}
+use Rattle.std.proofs.Common.{◌≡◌, ℕ, ◌+◌, ◌*◌, ◌/◌, ◌%◌, ◌<◌, true, Option, Some, None, refl, sym, ap, ◌∙◌, subst, ◌⊎◌, inl, inr, arith}
 use Rattle.std.specs.Prelude.{is_some}
 use Rattle.std.proofs.Props.{props}
 use Rattle.std.proofs.Math.Logic.{∥∥₁_elim, ∥∥₁_prop}
 use Rattle.std.proofs.lemmas.Nat.{same_from_place}
 use Rattle.sim_base.specs.declared.place.Cell.{Cell}
 use Rattle.sim_base.specs.Tables.{entry}
-use Rattle.sim_base.specs.Walks.{Walk, stay, go}
+use Rattle.sim_base.specs.Walks.{Walk, stay}
 use Rattle.sim_base.specs.Steps.{Field, IsOnGround, IsStep}
 use Rattle.sim_grid.specs.Grids.{place_of}
 use Rattle.sim_laws.proofs.Ground.{same_by_parts}
 use Rattle.sim_laws.proofs.Rounds.{costs, costs-le, IsCost-from_costs}
-use Rattle.sim_path.specs.Regions.{IsOpenStep, IsJoined, alone, on, IsLabel, AreLabels, IsShore, itself, beside}
+use Rattle.sim_path.specs.Regions.{IsJoined, alone, on, IsLabel, AreLabels, IsShore, itself, beside}
 use Rattle.sim_path.proofs.Regions.{from-on, from-open, joined-on, joined-chain, joined-reached, IsAshore, ashore}
 
 module _ (field : Field) where

@@ -1,5 +1,5 @@
--- Cells of a grid are closed, and the grid that is left has the open cells of a land with obstructions.
-use Rattle.std.specs.Prelude.{◌≡◌, ℕ, Bool, not, ◌&&◌, nat_le, nat_lt, ◌==◌, List, length}
+-- Stretches of cells, and the grid of the open cells of a land with obstructions.
+use Rattle.std.specs.Prelude.{◌≡◌, ℕ, Bool, ◌&&◌, nat_le, nat_lt, ◌==◌, List}
 use Rattle.sim_base.specs.declared.place.Cell.{Cell}
 use Rattle.sim_base.specs.declared.setup.Land.{Land}
 use Rattle.sim_base.specs.Steps.{IsOnGround}
@@ -15,12 +15,6 @@ in_row z west east c = c.z == z && (nat_le west c.x && nat_lt c.x east)
 -- the same cells of several rows, from the first row to before the end
 abbrev pub in_rows : ℕ → ℕ → ℕ → ℕ → Cell → Bool
 in_rows south north west east c = (nat_le south c.z && nat_lt c.z north) && (nat_le west c.x && nat_lt c.x east)
-
--- these cells of the ground are closed, and the others are as they were
-pub record Closes (which : Cell → Bool) (old new : OpenCells) : Type 0 where
-  pub size : new.size ≡ old.size
-  pub full : length new.cells ≡ length old.cells
-  pub cells : (c : Cell) → IsOnGround old.size c → is_open_at new c ≡ (is_open_at old c && not (which c))
 
 -- the grid has the size of the land, and says of each cell whether it is open among the facts
 pub record IsOver (land : Land) (facts : List Fact) (g : OpenCells) : Type 0 where

@@ -3,3 +3,4 @@ pub mod Closing
 pub mod Opening
 pub mod Overlaps
 pub mod Lent
+pub mod Layers

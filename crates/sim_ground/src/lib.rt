@@ -1,21 +1,22 @@
 //! The system that knows what is built where.
 //!
 //! It promises that it keeps the rectangles of the entities that are obstructions, as `System` says, and that a cell or a
-//! rectangle is open, a way and a spot are those of the definition over these rectangles. Beside them it keeps the grid of
-//! the open cells and the labels of their regions. It stands on the lists of facts, on the grid and on the search for ways.
+//! rectangle is open, a way and a spot are those of the definition over these rectangles. Beside them it keeps how many of
+//! them cover each cell, the grid of the open cells and the labels of their regions. It stands on the lists of facts, on the
+//! grid and on the search for ways.
 //!
 //! - `system`: the system.
-//! - `opened`, `opening`: the grid and the labels that are kept, and how they are made.
-//! - `grid`: the open cells as a grid.
+//! - `span`, `cover`: the cells of a rectangle; how many rectangles cover each cell, and which cells are open.
+//! - `opened`: the layers and the labels that are kept.
 //! - `free`: whether a rectangle is free.
 //! - `spot`: the open cell nearest to a point.
 //! - `way`: ways over the open cells.
 #![tactic(auto)]
 
+mod cover;
 mod free;
-mod grid;
 mod opened;
-mod opening;
+mod span;
 mod spot;
 mod system;
 mod way;

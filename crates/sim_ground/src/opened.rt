@@ -1,12 +1,63 @@
-//! The open cells as a grid, and the labels of their regions. They are made anew when an obstruction comes or goes, and
-//! serve every ask until the next one does.
+//! The layers over each cell, the open cells as a grid, and the labels of their regions. A note changes the layers, and the
+//! labels are made anew only where it closed or opened a cell. They serve every ask until the next note does.
 
-use sim_grid::Grid;
-use sim_path::Labels;
+ghost use Rattle.std.specs.Prelude.{◌≡◌, ◌≤◌, false, length, IfOk, OnOk, OnErr};
+ghost use Rattle.sim_base.specs.Limits.{IsLand};
+ghost use Rattle.sim_base.specs.Rows.{size_of};
+ghost use Rattle.sim_grid.specs.Grids.{field_of_grid};
+ghost use Rattle.sim_path.specs.Regions.{AreLabels};
+ghost use Rattle.sim_path.specs.Floods.{label_in};
+ghost use Rattle.sim_ground.specs.Layers.{AreAtMost, AreLayersOf, LayersTurn, MayChange, no_part, part_covers};
 
-/// The open cells of a land with its obstructions, and the labels of their regions.
+use crate::cover::Cover;
+use sim_base::{Land, OutOfMemory};
+use sim_path::{Labels, labels_of};
+use sim_system::Fact;
+use std::alloc::Global;
+
+/// The layers and the open cells of a land with its obstructions, and the labels of their regions.
 #[derive(Drop)]
 pub struct Opened {
-    pub grid: Grid,
+    pub cover: Cover,
     pub labels: Labels,
+    ghost labelled: { ∥ AreLabels (field_of_grid cover.grid) (label_in labels) ∥₁ },
+}
+
+impl Opened {
+    /// Those of a land with these obstructions.
+    pub fn of(alloc: Global, land: &Land, facts: &[Fact]) -> Result<Opened, OutOfMemory>
+        requires limits { IsLand land.now }
+        requires few { length facts.now ≤ 4096 }
+        ensures size { IfOk result (λ opened. opened.cover.grid.size ≡ size_of land.now) }
+        ensures layers { IfOk result (λ opened. AreLayersOf land.now facts.now opened.cover.layers.items) }
+    {
+        let cover = Cover::of(alloc, land, facts)?;
+        let labels = labels_of(alloc, &cover.grid)?;
+        Ok(Opened { cover, labels })
+    }
+
+    /// Takes what was kept of an entity, and puts down what is, or leaves all as it was.
+    pub fn turn(
+        &mut self,
+        alloc: Global,
+        before: &Option<Fact>,
+        after: &Option<Fact>,
+    ) -> Result<(), OutOfMemory>
+        requires there { MayChange false (part_covers before.now) self.old.cover.grid.size self.old.cover.layers.items }
+        requires few { AreAtMost 9000 self.old.cover.grid.size self.old.cover.layers.items }
+        ensures size { self.new.cover.grid.size ≡ self.old.cover.grid.size }
+        ensures ok { OnOk result (LayersTurn (part_covers before.now) (part_covers after.now) self.old.cover.grid.size self.old.cover.layers.items self.new.cover.layers.items) }
+        ensures err { OnErr result (LayersTurn no_part no_part self.old.cover.grid.size self.old.cover.layers.items self.new.cover.layers.items) }
+    {
+        if self.cover.turn(before, after) {
+            match labels_of(alloc, &self.cover.grid) {
+                Ok(labels) => self.labels = labels,
+                Err(error) => {
+                    self.cover.turn(after, before);
+                    return Err(error);
+                }
+            }
+        }
+        Ok(())
+    }
 }

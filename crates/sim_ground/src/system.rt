@@ -1,14 +1,13 @@
-//! The system: the obstructions, and beside them the grid of the open cells and its labels.
+//! The system: the obstructions, and beside them the layers over each cell, the grid of the open cells and its labels.
 
 ghost use Rattle.std.specs.Prelude.{◌≡◌, None, [], OnOk, OnErr, MatchOption, option_copied};
 ghost use Rattle.sim_system.specs.Notes.{noted, NoteFits};
 ghost use Rattle.sim_system.specs.declared.kind.Kind.TheVariants.{Ground as GroundKind};
 ghost use Rattle.sim_ground.specs.Opening.{IsKept, builds};
-ghost use Rattle.sim_ground.specs.Lent.{AreRegions};
+ghost use Rattle.sim_ground.specs.Lent.{AreLayers, AreRegions};
 
 use crate::free::is_free;
 use crate::opened::Opened;
-use crate::opening::{opened, opened_with};
 use crate::spot::nearest;
 use crate::way::way_over;
 use sim_base::{Land, OutOfMemory};
@@ -39,6 +38,16 @@ impl Ground {
         }
     }
 
+    /// Lends how many closed rectangles and obstructions cover each cell, by z, then x; nothing where the system was not built.
+    pub fn layers(&self) -> &[u16]
+        ensures { AreLayers (⟦<Ground as System>⟧.meaning self.now).land (⟦<Ground as System>⟧.meaning self.now).facts result.now }
+    {
+        match &self.opened {
+            Some(opened) => opened.cover.layers.as_slice(),
+            None => &[],
+        }
+    }
+
     /// Lends the labels of the open cells: two of them have one label where steps to the east, north, west and south over
     /// open cells join them. There are none where the system was not built.
     pub fn regions(&self) -> Option<&Labels>
@@ -52,24 +61,23 @@ impl Ground {
 }
 
 impl Ground {
-    // Takes up a note by which an obstruction comes or goes. All memory is taken before anything changes.
-    fn rebuilt_on(&mut self, note: &Note) -> Result<(), OutOfMemory>
+    // Takes up a note by which an obstruction comes or goes. Room for the fact is made first, so that all else may be left as
+    // it was.
+    fn built_on(&mut self, note: &Note) -> Result<(), OutOfMemory>
         requires { MatchOption self.old.kept.land ⊥ (λ l. NoteFits GroundKind l self.old.kept.facts.items note.now) }
         ensures facts { OnOk result (self.new.kept.facts.items ≡ noted GroundKind self.old.kept.facts.items note.now) }
         ensures same { OnErr result (self.new.kept.facts.items ≡ self.old.kept.facts.items) }
         ensures land { self.new.kept.land ≡ self.old.kept.land }
         ensures rebuilds { self.new.kept.rebuilds ≡ self.old.kept.rebuilds }
     {
-        let id = id_of(note);
-        let part = part_after(Kind::Ground, self.kept.find(id), note);
-        let Some(land) = &self.kept.land else {
+        self.kept.make_room()?;
+        let before = self.kept.find(id_of(note));
+        let after = part_after(Kind::Ground, before, note);
+        let Some(opened) = &mut self.opened else {
             unreachable!()
         };
-        let facts = self.kept.facts.as_slice();
-        let opened = opened_with(self.kept.alloc, land, facts, id, &part)?;
-        self.kept.on(Kind::Ground, note)?;
-        self.opened = Some(opened);
-        Ok(())
+        opened.turn(self.kept.alloc, &before, &after)?;
+        self.kept.on(Kind::Ground, note)
     }
 }
 
@@ -88,7 +96,7 @@ impl System for Ground {
     fn rebuild(&mut self, land: &Land, facts: &[Fact]) -> Result<(), OutOfMemory> {
         self.opened = None;
         self.kept.rebuild(Kind::Ground, land, facts)?;
-        match opened(self.kept.alloc, land, self.kept.facts.as_slice()) {
+        match Opened::of(self.kept.alloc, land, self.kept.facts.as_slice()) {
             Ok(opened) => self.opened = Some(opened),
             Err(error) => {
                 self.kept.clear();
@@ -100,7 +108,7 @@ impl System for Ground {
 
     fn on(&mut self, note: &Note) -> Result<(), OutOfMemory> {
         if builds_of(note) {
-            self.rebuilt_on(note)
+            self.built_on(note)
         } else {
             self.kept.on(Kind::Ground, note)
         }
@@ -112,13 +120,13 @@ impl System for Ground {
         };
         match ask {
             Ask::Open { cell } => Ok(Answer::Truth {
-                yes: opened.grid.open(*cell),
+                yes: opened.cover.grid.open(*cell),
             }),
             Ask::Free { rect } => Ok(Answer::Truth {
                 yes: is_free(land, self.kept.facts.as_slice(), rect),
             }),
             Ask::Spot { at } => Ok(Answer::Place {
-                cell: nearest(&opened.grid, at),
+                cell: nearest(&opened.cover.grid, at),
             }),
             Ask::Way { start, goal } => Ok(Answer::Found {
                 way: way_over(self.kept.alloc, &self.rooms, opened, start, goal)?,

@@ -32,13 +32,13 @@ pub fn way_over(
     start: &Point,
     goal: &Point,
 ) -> Result<Way, OutOfMemory>
-    requires labels { ∥ AreLabels (field_of_grid opened.now.grid) (label_in opened.now.labels) ∥₁ }
-    requires start { IsTrue (is_inside opened.now.grid.size start.now) }
-    requires goal { IsTrue (is_inside opened.now.grid.size goal.now) }
-    ensures { IfOk result (λ way. way_in way ≡ way_of (field_of_grid opened.now.grid) start.now goal.now) }
+    requires labels { ∥ AreLabels (field_of_grid opened.now.cover.grid) (label_in opened.now.labels) ∥₁ }
+    requires start { IsTrue (is_inside opened.now.cover.grid.size start.now) }
+    requires goal { IsTrue (is_inside opened.now.cover.grid.size goal.now) }
+    ensures { IfOk result (λ way. way_in way ≡ way_of (field_of_grid opened.now.cover.grid) start.now goal.now) }
 {
     let mut searcher = searcher_of(rooms);
-    let way = searcher.way(alloc, &opened.grid, &opened.labels, *start, *goal);
+    let way = searcher.way(alloc, &opened.cover.grid, &opened.labels, *start, *goal);
     rooms.set(Some(searcher));
     way
 }

@@ -3,7 +3,7 @@ use Rattle.std.proofs.Common.{Option, subst}
 use Rattle.std.specs.Prelude.{option_map}
 use Rattle.sim_ground.specs.declared.opened.Opened.{Opened}
 use Rattle.sim_ground.specs.Lent.{AreRegions}
-use Rattle.sim_ground.proofs.Regions.{regions_are}
+use Rattle.sim_ground.proofs.Lending.{regions_are}
 use Rattle.sim_ground.proofs.system.Ground.regions.Goals as goal
 
 pub returns-in-Some : goal.returns-in-Some

@@ -1,0 +1,13 @@
+use Rattle.std.proofs.Common.{◌≡◌, ◌≤◌, false}
+use Rattle.sim_ground.specs.Closing.{in_rows}
+use Rattle.sim_ground.specs.Layers.{LayersChange}
+use Rattle.sim_ground.proofs.cover.Cover.step_rows.Given as goal
+
+abbrev pub invariant-loop-z : goal.invariant-loop-z
+invariant-loop-z l =
+    record {
+      from : l.south ≤ l.z;
+      size : l.self.grid.size ≡ l.initial.self.grid.size;
+      layers : LayersChange l.more (in_rows l.south l.z l.west l.east) l.initial.self.grid.size l.initial.self.layers.items l.self.layers.items;
+      same : l.turned ≡ false → l.self.grid ≡ l.initial.self.grid;
+    }

@@ -1,6 +1,0 @@
-use Rattle.std.proofs.Common.{◌≤◌}
-use Rattle.sim_ground.specs.Closing.{Closes, in_rows}
-use Rattle.sim_ground.proofs.grid.close_rows.Given as goal
-
-abbrev pub invariant-loop-z : goal.invariant-loop-z
-invariant-loop-z l = (l.south ≤ l.z) × Closes (in_rows l.south l.z l.west l.east) l.initial.grid l.grid
