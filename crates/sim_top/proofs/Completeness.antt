@@ -14,8 +14,8 @@ use Rattle.sim_setup.specs.Setups.{setup_of}
 use Rattle.sim_setup.proofs.SetupLimits.{setup_of-id}
 use Rattle.sim_diff.specs.Difference.{difference_of}
 use Rattle.sim_diff.specs.declared.place.Place.{Place}
-use Rattle.sim_top.specs.Words.{Asked, asked_by, to_play, to_store, to_resume, to_rejoin, to_show, to_compare, to_serve, to_try}
-use Rattle.sim_top.specs.Outcome.{Outcome, Then, ThenStored, IsStored, IsOutcomeOf, bytes_in, match_in, schedule_in, trial_match, match_by, setup_by, compare_by, state_by, store_outcome, rejoin_outcome}
+use Rattle.sim_top.specs.Words.{Asked, asked_by, to_play, to_store, to_resume, to_rejoin, to_session, to_show, to_compare, to_serve, to_try}
+use Rattle.sim_top.specs.Outcome.{Outcome, Then, ThenStored, IsStored, IsOutcomeOf, bytes_in, match_in, session_match_in, schedule_in, steps_in, trial_match, match_by, setup_by, compare_by, state_by, store_outcome, rejoin_outcome}
 use Rattle.sim_top.specs.Answers.{Scene, Meets, Causes}
 use Rattle.sim_top.specs.Readiness.{HoldsState, IsReady, IsFaultless, IsFinal}
 use Rattle.sim_top.specs.declared.status.Status.{Status}
@@ -88,6 +88,9 @@ ready_ends files (Some (to_resume game name)) wanted ready h =
     done wanted _ refl found.1
 ready_ends files (Some (to_rejoin game turn)) wanted ready h =
     done wanted (rejoin_outcome ready.setup turn) (rejoin_is_done ready.setup turn ready.more) (after_reading (match_in files game) ready.setup _ wanted ready.read h)
+ready_ends files (Some (to_session game steps)) wanted ready h =
+    done wanted _ refl (after_reading (steps_in files steps ready.setup.players) ready.list _ wanted ready.listed
+    (after_reading (session_match_in files game) ready.setup _ wanted ready.read h))
 ready_ends files (Some (to_show game name)) wanted ready h =
     let id = id_of_match files game ready.setup ready.read in
     let found = after_state files ready.setup name _ wanted id ready.more (after_reading (match_in files game) ready.setup _ wanted ready.read h) in

@@ -14,12 +14,12 @@ use Rattle.sim_system.specs.declared.rig.Rig.{Rig}
 use Rattle.sim_top.specs.Outcome.{printed, rejoin_outcome}
 use Rattle.sim_top.specs.Reads.{HasEnded}
 use Rattle.sim_top.specs.Rigs.{SecondStands, OfFirsts, AreHandedBack, clients}
-use Rattle.sim_top.specs.Words.{Asked, asked, to_play, to_store, to_resume, to_rejoin, to_show, to_compare, to_serve, to_try}
+use Rattle.sim_top.specs.Words.{Asked, asked, to_play, to_store, to_resume, to_rejoin, to_session, to_show, to_compare, to_serve, to_try}
 use Rattle.sim_top.specs.declared.rigs.Rigs.{Rigs}
 use Rattle.sim_top.specs.declared.status.Status.{Status}
 use Rattle.sim_top.specs.declared.status.Status.TheVariants.{Done}
 use Rattle.sim_top.specs.declared.words.Request.{Request}
-use Rattle.sim_top.specs.declared.words.Request.TheVariants.{Play, State, Resume, Rejoin, Show, Compare, Serve, Trial}
+use Rattle.sim_top.specs.declared.words.Request.TheVariants.{Play, State, Resume, Rejoin, Session, Show, Compare, Serve, Trial}
 
 -- a text of both clients is that of a turn which the match has
 pub rejoined_is : (setup : Setup) (turn : ℕ) (text : Result (String Global) NoMemory) → turn ≤ setup.turns → IfOk text (λ t. string_bytes t ≡ rejoin_text setup turn)
@@ -27,16 +27,18 @@ pub rejoined_is : (setup : Setup) (turn : ℕ) (text : Result (String Global) No
 rejoined_is setup turn (Ok text) le is = ap (printed Done) is ∙ sym (cond-false (ltb setup.turns turn) _ _ (le-ltb _ _ le))
 rejoined_is setup turn (Err none) le is = tt
 
--- a request that is none to join has one client at most
-pub one_client : (request : Request) → ((game : Bor (List ℕ)) (turn : ℕ) → request ≡ Rejoin game turn → ⊥) → clients (asked request) ≤ 1
-one_client (Play game) other = omega arith
-one_client (State game turn out) other = omega arith
-one_client (Resume game stored) other = omega arith
-one_client (Rejoin game turn) other = absurd (other game turn refl)
-one_client (Show game stored) other = omega arith
-one_client (Compare game left right) other = omega arith
-one_client (Serve schedule) other = omega arith
-one_client (Trial seed units turns) other = omega arith
+-- a request that is none to join and for no session has one client at most
+pub one_client : (request : Request) → ((game : Bor (List ℕ)) (turn : ℕ) → request ≡ Rejoin game turn → ⊥) → ((game steps : Bor (List ℕ)) → request ≡ Session game steps → ⊥)
+    → clients (asked request) ≤ 1
+one_client (Play game) other none = omega arith
+one_client (State game turn out) other none = omega arith
+one_client (Resume game stored) other none = omega arith
+one_client (Rejoin game turn) other none = absurd (other game turn refl)
+one_client (Session game steps) other none = absurd (none game steps refl)
+one_client (Show game stored) other none = omega arith
+one_client (Compare game left right) other none = omega arith
+one_client (Serve schedule) other none = omega arith
+one_client (Trial seed units turns) other none = omega arith
 
 -- where at most one client plays, the second rig need stand for nothing
 pub second_idle : (files : List File) (wanted : Asked) (t : Systems) → clients wanted ≤ 1 → SecondStands files (Some wanted) t
@@ -44,6 +46,7 @@ second_idle files (to_play game) t le = tt
 second_idle files (to_store game turn out) t le = tt
 second_idle files (to_resume game name) t le = tt
 second_idle files (to_rejoin game turn) t le = absurd (omega (arith, le))
+second_idle files (to_session game steps) t le = tt
 second_idle files (to_show game name) t le = tt
 second_idle files (to_compare game left right) t le = tt
 second_idle files (to_serve schedule) t le = tt
@@ -83,6 +86,10 @@ module _ {X : Type 0} {F : X → Type 0} where
 -- what is left of two lists behind those that were used is the same
 pub unused_same : {A : Type 0} (n : ℕ) (old taken back new : List A) → taken ≡ old → new ≡ back → drop n back ≡ drop n taken → drop n new ≡ drop n old
 unused_same n old taken back new is put same = ap (drop n) put ∙ same ∙ ap (drop n) is
+
+-- what holds of two lists that were put together again
+pub both_whole : {A : Type 0} (x y : A) (before after old new : List A) (P : List A → List A → Type 0) → x ∷ before ≡ old → new ≡ y ∷ after → P (x ∷ before) (y ∷ after) → P old new
+both_whole {A} x y before after old new P is put h = subst (λ (l : List A). P l new) is (subst (P (x ∷ before)) (sym put) h)
 
 -- what holds behind the first of two lists
 pub behind_first : {A : Type 0} (x y : A) (before after old new : List A) (P : List A → List A → Type 0) → x ∷ before ≡ old → new ≡ y ∷ after → P before after → P (drop 1 old) (drop 1 new)

@@ -5,3 +5,5 @@ pub mod Counting
 pub mod Ending
 pub mod Playing
 pub mod Joining
+pub mod Hosted
+pub mod Headlines

@@ -7,3 +7,5 @@ pub mod Readiness
 pub mod Stops
 pub mod Making
 pub mod Rigs
+pub mod Hosting
+pub mod Headline

@@ -10,12 +10,15 @@ use Rattle.sim_store.specs.Reading.{reading_of}
 use Rattle.sim_store.specs.declared.fault.StoreFault.{StoreFault}
 use Rattle.sim_store.specs.declared.fault.StoreFault.TheVariants as store
 use Rattle.sim_setup.specs.Refusals.{Refusal}
-use Rattle.sim_setup.specs.Setups.{setup_of}
+use Rattle.sim_setup.specs.Setups.{setup_of, session_setup_of}
 use Rattle.sim_codec.specs.declared.fault.StateFault.{StateFault}
 use Rattle.sim_codec.specs.declared.fault.StateFault.TheVariants as stored
 use Rattle.sim_codec.specs.Loading.{StandsFor, RefusedFor}
 use Rattle.sim_lists.specs.declared.schedule.Schedule.{Schedule}
 use Rattle.sim_lists.specs.Schedules.{schedule_of}
+use Rattle.sim_lists.specs.declared.step_list.StepList.{StepList}
+use Rattle.sim_lists.specs.StepLists.{steps_of}
+use Rattle.sim_session_text.specs.SessionText.{session_text}
 use Rattle.sim_serve.specs.Served.{served_text}
 use Rattle.sim_report.specs.declared.refusal.Refusal.TheVariants.{Match, List as OfList, Turn}
 use Rattle.sim_report.specs.Lines.{usage_text, saved_line}
@@ -24,7 +27,7 @@ use Rattle.sim_report.specs.Show.{show_text}
 use Rattle.sim_report.specs.Places.{place_text}
 use Rattle.sim_diff.specs.Difference.{difference_of}
 use Rattle.sim_diff.specs.declared.place.Place.{Place}
-use Rattle.sim_top.specs.Words.{Asked, to_play, to_store, to_resume, to_rejoin, to_show, to_compare, to_serve, to_try, asked_by}
+use Rattle.sim_top.specs.Words.{Asked, to_play, to_store, to_resume, to_rejoin, to_session, to_show, to_compare, to_serve, to_try, asked_by}
 use Rattle.sim_play.specs.Lines.{play_text, resume_text, rejoin_text, trial_line}
 use Rattle.sim_trial.specs.Trial.{text_of_trial}
 use Rattle.sim_top.specs.declared.status.Status.{Status}
@@ -67,23 +70,36 @@ match_by (Err ended) = Err ended
 unfoldable pub match_in : List File → List ℕ → Result Setup Outcome
 match_in files name = match_by (bytes_in files name)
 
+-- the match that bytes are for a session, if they were read
+abbrev pub session_match_by : Result (List ℕ) Outcome → Result Setup Outcome
+session_match_by (Ok bytes) = setup_by (session_setup_of bytes)
+session_match_by (Err ended) = Err ended
+
+-- the match of a file for a session, which has no commands of its own
+unfoldable pub session_match_in : List File → List ℕ → Result Setup Outcome
+session_match_in files name = session_match_by (bytes_in files name)
+
 -- the match of a trial, or the outcome where its text is refused
 unfoldable pub trial_match : ℕ → ℕ → ℕ → Result Setup Outcome
 trial_match seed units turns = setup_by (setup_of (text_of_trial seed units turns))
 
--- the schedule that was read, or the outcome of its refusal
-abbrev pub schedule_by : Result Schedule ℕ → Result Schedule Outcome
-schedule_by (Ok schedule) = Ok schedule
-schedule_by (Err index) = Err (printed ListRefused (refusal_text (OfList index)))
+-- the list that was read, or the outcome of its refusal
+abbrev pub list_by : {X : Type 0} → Result X ℕ → Result X Outcome
+list_by (Ok list) = Ok list
+list_by (Err index) = Err (printed ListRefused (refusal_text (OfList index)))
 
--- the schedule that bytes spell, if they were read
-abbrev pub listed_by : Result (List ℕ) Outcome → Result Schedule Outcome
-listed_by (Ok bytes) = schedule_by (schedule_of bytes)
-listed_by (Err ended) = Err ended
+-- the list that a reading finds in bytes, if they were read
+abbrev pub listed_by : {X : Type 0} → (List ℕ → Result X ℕ) → Result (List ℕ) Outcome → Result X Outcome
+listed_by reading (Ok bytes) = list_by (reading bytes)
+listed_by reading (Err ended) = Err ended
 
 -- the schedule of a file
 unfoldable pub schedule_in : List File → List ℕ → Result Schedule Outcome
-schedule_in files name = listed_by (bytes_in files name)
+schedule_in files name = listed_by schedule_of (bytes_in files name)
+
+-- the list of steps of a file, for a match of so many players
+unfoldable pub steps_in : List File → List ℕ → ℕ → Result StepList Outcome
+steps_in files name players = listed_by (steps_of players) (bytes_in files name)
 
 -- an outcome of what comes next, or the one with which it ended before
 abbrev pub Then : {X : Type 0} → Result X Outcome → (X → Outcome → Type 0) → Outcome → Type 0
@@ -160,6 +176,8 @@ IsOutcomeOf files (Some (to_store game turn out)) wanted = Then (match_in files 
 IsOutcomeOf files (Some (to_resume game name)) wanted =
     Then (match_in files game) (λ setup. Then (bytes_in files name) (λ bytes. ThenStored setup name bytes (λ state wanted. wanted ≡ printed Done (resume_text setup state)))) wanted
 IsOutcomeOf files (Some (to_rejoin game turn)) wanted = Then (match_in files game) (λ setup wanted. wanted ≡ rejoin_outcome setup turn) wanted
+IsOutcomeOf files (Some (to_session game steps)) wanted =
+    Then (session_match_in files game) (λ setup. Then (steps_in files steps setup.players) (λ list wanted. wanted ≡ printed Done (session_text setup list))) wanted
 IsOutcomeOf files (Some (to_show game name)) wanted =
     Then (match_in files game) (λ setup. Then (bytes_in files name) (λ bytes. ThenStored setup name bytes (λ state wanted. wanted ≡ printed Done (show_text setup state)))) wanted
 IsOutcomeOf files (Some (to_compare game left right)) wanted =

@@ -6,8 +6,9 @@ use Rattle.sim_store.specs.Counts.{raised}
 use Rattle.sim_store.specs.Files.{File}
 use Rattle.sim_codec.specs.Loading.{StandsFor}
 use Rattle.sim_lists.specs.declared.schedule.Schedule.{Schedule}
-use Rattle.sim_top.specs.Words.{Asked, to_play, to_store, to_resume, to_rejoin, to_show, to_compare, to_serve, to_try}
-use Rattle.sim_top.specs.Outcome.{bytes_in, match_in, schedule_in, trial_match}
+use Rattle.sim_lists.specs.declared.step_list.StepList.{StepList}
+use Rattle.sim_top.specs.Words.{Asked, to_play, to_store, to_resume, to_rejoin, to_session, to_show, to_compare, to_serve, to_try}
+use Rattle.sim_top.specs.Outcome.{bytes_in, match_in, session_match_in, schedule_in, steps_in, trial_match}
 use Rattle.sim_top.specs.Answers.{Scene}
 use Rattle.sim_top.specs.declared.status.Status.{Status}
 use Rattle.sim_top.specs.declared.status.Status.TheVariants.{Done, Differs, OutOfMemory}
@@ -30,6 +31,13 @@ pub record HoldsSchedule (files : List File) (name : List ℕ) : Type 0 where
   pub schedule : Schedule
   pub read : schedule_in files name ≡ Ok schedule
 
+-- two files are held and within their limit: a match for a session, and a list of steps for its players
+pub record HoldsSession (files : List File) (game steps : List ℕ) : Type 0 where
+  pub setup : Setup
+  pub list : StepList
+  pub read : session_match_in files game ≡ Ok setup
+  pub listed : steps_in files steps setup.players ≡ Ok list
+
 -- the text of a trial is that of a match
 pub record HoldsTrial (seed units turns : ℕ) : Type 0 where
   pub setup : Setup
@@ -42,6 +50,7 @@ IsReady files (Some (to_play game)) = HoldsMatch files game (λ setup. Unit {0})
 IsReady files (Some (to_store game turn out)) = HoldsMatch files game (λ setup. turn ≤ setup.turns)
 IsReady files (Some (to_resume game name)) = HoldsMatch files game (λ setup. HoldsState files setup name)
 IsReady files (Some (to_rejoin game turn)) = HoldsMatch files game (λ setup. turn ≤ setup.turns)
+IsReady files (Some (to_session game steps)) = HoldsSession files game steps
 IsReady files (Some (to_show game name)) = HoldsMatch files game (λ setup. HoldsState files setup name)
 IsReady files (Some (to_compare game left right)) = HoldsMatch files game (λ setup. HoldsState files setup left × HoldsState files setup right)
 IsReady files (Some (to_serve name)) = HoldsSchedule files name

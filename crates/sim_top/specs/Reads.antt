@@ -1,7 +1,7 @@
 -- How many bytes are read for what is asked, and which file is found missing before any memory is taken.
 use Rattle.std.specs.Prelude.{◌≡◌, ℕ, ◌+◌, List, length, Option, Some, None}
 use Rattle.sim_store.specs.Files.{File, file_in}
-use Rattle.sim_top.specs.Words.{Asked, to_play, to_store, to_resume, to_rejoin, to_show, to_compare, to_serve, to_try}
+use Rattle.sim_top.specs.Words.{Asked, to_play, to_store, to_resume, to_rejoin, to_session, to_show, to_compare, to_serve, to_try}
 use Rattle.sim_top.specs.declared.status.Status.{Status}
 use Rattle.sim_top.specs.declared.status.Status.TheVariants.{Done, Differs, ReadFault, NoFile}
 
@@ -20,6 +20,7 @@ length_read files (to_play game) = length_in files game
 length_read files (to_store game turn out) = length_in files game
 length_read files (to_resume game stored) = length_in files game + length_in files stored
 length_read files (to_rejoin game turn) = length_in files game
+length_read files (to_session game steps) = length_in files game + length_in files steps
 length_read files (to_show game stored) = length_in files game + length_in files stored
 length_read files (to_compare game left right) = length_in files game + length_in files left + length_in files right
 length_read files (to_serve schedule) = length_in files schedule
@@ -35,6 +36,7 @@ LacksFirst files (to_play game) = Lacks files game
 LacksFirst files (to_store game turn out) = Lacks files game
 LacksFirst files (to_resume game stored) = Lacks files game
 LacksFirst files (to_rejoin game turn) = Lacks files game
+LacksFirst files (to_session game steps) = Lacks files game
 LacksFirst files (to_show game stored) = Lacks files game
 LacksFirst files (to_compare game left right) = Lacks files game
 LacksFirst files (to_serve schedule) = Lacks files schedule

@@ -1,5 +1,5 @@
 -- How many rigs a command uses, and what their systems stand for when it came to its end.
-use Rattle.std.specs.Prelude.{◌≡◌, ℕ, List, [], ◌∷◌, length, drop, vec_capacity, Option, Some, None, Result, IfOk}
+use Rattle.std.specs.Prelude.{◌≡◌, ℕ, ◌≤◌, List, [], ◌∷◌, length, drop, vec_capacity, Option, Some, None, Result, IfOk}
 use Rattle.sim_base.specs.declared.setup.Setup.{Setup}
 use Rattle.sim_base.specs.declared.state.State.{State}
 use Rattle.sim_base.specs.Turn.{first_state, after, own_turns}
@@ -7,17 +7,18 @@ use Rattle.sim_store.specs.Files.{File}
 use Rattle.sim_system.specs.Meanings.{Systems, AreFed}
 use Rattle.sim_system.specs.declared.rig.Rig.{Rig}
 use Rattle.sim_play.specs.Lines.{end_from}
-use Rattle.sim_top.specs.Words.{Asked, to_play, to_store, to_resume, to_rejoin, to_show, to_compare, to_serve, to_try}
+use Rattle.sim_top.specs.Words.{Asked, to_play, to_store, to_resume, to_rejoin, to_session, to_show, to_compare, to_serve, to_try}
 use Rattle.sim_top.specs.Outcome.{Outcome, bytes_in, match_in, trial_match}
 use Rattle.sim_top.specs.Stops.{IsState}
 use Rattle.sim_top.specs.declared.rigs.Rigs.{Rigs}
 
--- how many clients play for what is asked, each with a rig of its own
+-- how many rigs are handed to the clients that play for what is asked, each with one of its own; to a session, all
 abbrev pub clients : Asked → ℕ
 clients (to_play game) = 1
 clients (to_store game turn out) = 1
 clients (to_resume game name) = 1
 clients (to_rejoin game turn) = 2
+clients (to_session game steps) = 8
 clients (to_show game name) = 0
 clients (to_compare game left right) = 0
 clients (to_serve schedule) = 0
@@ -42,13 +43,15 @@ StandForTrial seed units turns t = IfOk (trial_match seed units turns) (λ setup
 abbrev pub StandForLast : List File → List ℕ → Systems → Type 0
 StandForLast files game t = IfOk (match_in files game) (λ setup. AreFed setup (after setup (own_turns setup 0 setup.turns)) t)
 
--- the systems of the first rig before and after: they stand for the last state that was played, or nothing was played
+-- the systems of the first rig before and after: they stand for the last state that was played, or nothing was played. What those of a
+-- session stand for is said of all of them at once.
 abbrev pub RigStands : List File → Option Asked → Systems → Systems → Type 0
 RigStands files None s t = t ≡ s
 RigStands files (Some (to_play game)) s t = IfOk (match_in files game) (λ setup. AreFed setup (end_from setup (first_state setup)) t)
 RigStands files (Some (to_store game turn out)) s t = IfOk (match_in files game) (λ setup. AreFed setup (after setup (own_turns setup 0 turn)) t)
 RigStands files (Some (to_resume game name)) s t = IfOk (match_in files game) (λ setup. StandForStored setup (bytes_in files name) t)
 RigStands files (Some (to_rejoin game turn)) s t = StandForLast files game t
+RigStands files (Some (to_session game steps)) s t = Unit {0}
 RigStands files (Some (to_show game name)) s t = t ≡ s
 RigStands files (Some (to_compare game left right)) s t = t ≡ s
 RigStands files (Some (to_serve schedule)) s t = t ≡ s
@@ -68,6 +71,11 @@ OfFirsts (r ∷ old) (s ∷ new) P = P r s
 -- all rigs of a run
 abbrev pub all_of : {X : Type 0} {F : X → Type 0} → Rigs X F → List (Rig X F)
 all_of rigs = rigs.first ∷ rigs.rest.items
+
+-- the first rig and seven more, which have room for it
+pub record AreEight {X : Type 0} {F : X → Type 0} (rigs : Rigs X F) : Type 0 where
+  pub count : length rigs.rest.items ≡ 7
+  pub room : 8 ≤ vec_capacity rigs.rest
 
 -- the rigs behind the first of a run come back in their number and their room, and all that are not used as they were
 pub record AreHandedBack {X : Type 0} {F : X → Type 0} (n : ℕ) (old new : Rigs X F) : Type 0 where

@@ -5,15 +5,17 @@ use Rattle.std.specs.Str.{bytes_eq}
 use Rattle.sim_base.specs.NumberText.{is_digit}
 use Rattle.sim_trial.specs.Trial.{is_trial}
 use Rattle.sim_top.specs.declared.words.Request.{Request}
-use Rattle.sim_top.specs.declared.words.Request.TheVariants.{Play, State, Resume, Rejoin, Show, Compare, Serve, Trial}
+use Rattle.sim_top.specs.declared.words.Request.TheVariants.{Play, State, Resume, Rejoin, Session, Show, Compare, Serve, Trial}
 
 -- what is asked for: to play a match; to store the state of a turn of it in a file; to play on from a stored state; to play it with a
--- second client that joins at a turn; to show a stored state; to compare two; to run the server over a schedule; to play the trial that is made of three numbers
+-- second client that joins at a turn; to run a session of it over a list of steps; to show a stored state; to compare two; to run the
+-- server over a schedule; to play the trial that is made of three numbers
 pub data Asked : Type 0 where
   to_play : List ℕ → Asked
   to_store : List ℕ → ℕ → List ℕ → Asked
   to_resume : List ℕ → List ℕ → Asked
   to_rejoin : List ℕ → ℕ → Asked
+  to_session : List ℕ → List ℕ → Asked
   to_show : List ℕ → List ℕ → Asked
   to_compare : List ℕ → List ℕ → List ℕ → Asked
   to_serve : List ℕ → Asked
@@ -25,6 +27,7 @@ asked (Play game) = to_play game.now
 asked (State game turn out) = to_store game.now turn out.now
 asked (Resume game stored) = to_resume game.now stored.now
 asked (Rejoin game turn) = to_rejoin game.now turn
+asked (Session game steps) = to_session game.now steps.now
 asked (Show game stored) = to_show game.now stored.now
 asked (Compare game left right) = to_compare game.now left.now right.now
 asked (Serve schedule) = to_serve schedule.now
@@ -58,6 +61,7 @@ abbrev pub asked_of_two : List ℕ → List ℕ → List ℕ → Option Asked
 asked_of_two command a b =
     if bytes_eq command (codes "resume") then Some (to_resume a b)
     else if bytes_eq command (codes "rejoin") then option_map (to_rejoin a) (turn_in b)
+    else if bytes_eq command (codes "session") then Some (to_session a b)
     else if bytes_eq command (codes "show") then Some (to_show a b) else None
 
 -- what it asks of three words
@@ -84,6 +88,11 @@ abbrev pub is_comparison : Asked → Bool
 is_comparison (to_compare game left right) = true
 is_comparison other = false
 
+-- whether it is to run a session
+abbrev pub is_session : Option Asked → Bool
+is_session (Some (to_session game steps)) = true
+is_session other = false
+
 -- whether it names a turn
 abbrev pub has_turn : Asked → Bool
 has_turn (to_store game turn out) = true
@@ -100,6 +109,7 @@ loads_state other = false
 -- whether it names a file with a list of steps or arrivals
 abbrev pub reads_list : Asked → Bool
 reads_list (to_serve schedule) = true
+reads_list (to_session game steps) = true
 reads_list other = false
 
 -- whether it names a file to be read

@@ -1,8 +1,9 @@
 //! What each command makes of its files: the whole text that it prints, and the bytes of the file that it saves. Nothing
 //! is written here.
 
-ghost use Rattle.std.specs.Prelude.{◌≡◌, ◌<◌, ◌≤◌, List, All, IsTrue, IfSome, IfOk, IfErr, IsErr, OnOk, OnErr, Err, Some, None, length, string_bytes};
+ghost use Rattle.std.specs.Prelude.{◌≡◌, ◌<◌, ◌≤◌, List, All, false, IsTrue, IfSome, IfOk, IfErr, IsErr, OnOk, OnErr, Err, Some, None, length, string_bytes};
 ghost use Rattle.sim_base.specs.Limits.{IsSetup};
+ghost use Rattle.sim_client.specs.StageWords.{AreCleared};
 ghost use Rattle.sim_base.specs.Turn.{first_state, after, own_turns};
 ghost use Rattle.sim_base.specs.Validity.{IsValid};
 ghost use Rattle.sim_base.specs.Spelling.{spelling, digest as digest_of};
@@ -12,7 +13,7 @@ ghost use Rattle.sim_store.specs.Counts.{after_giving};
 ghost use Rattle.sim_store.specs.Files.{File, file_in};
 ghost use Rattle.sim_trial.specs.Trial.{IsTrial};
 ghost use Rattle.sim_top.specs.Trials.{CanBeTried};
-ghost use Rattle.sim_top.specs.Words.{Asked, to_play, to_store, to_resume, to_rejoin, to_show, to_compare, to_serve, to_try, asked, out_of, is_comparison, loads_state};
+ghost use Rattle.sim_top.specs.Words.{Asked, to_play, to_store, to_resume, to_rejoin, to_show, to_compare, to_serve, to_try, asked, out_of, is_comparison, is_session, loads_state};
 ghost use Rattle.sim_top.specs.Reads.{LacksMatch, length_in, length_read};
 ghost use Rattle.sim_play.specs.Lines.{trial_line, play_text as text_of_play, resume_text as text_of_resume, end_from};
 ghost use Rattle.sim_system.specs.Meanings.{HaveKinds, AreFed, AreBuiltOnceAtMost};
@@ -20,10 +21,12 @@ ghost use Rattle.sim_system.specs.RigWords.{systems_of};
 ghost use Rattle.sim_diff.specs.Difference.{difference_of};
 ghost use Rattle.sim_top.specs.Outcome.{IsOutcomeOf, bytes_in, printed as printed_as, stored_at as stored_outcome, store_outcome, rejoin_outcome, trial_outcome, IsTrialOutcome, compare_by, IsCompared};
 ghost use Rattle.sim_top.specs.Answers.{MayAnswer};
-ghost use Rattle.sim_top.specs.Rigs.{RigStands, SecondStands, StandForTrial, OfFirsts, AreHandedBack, clients, all_of};
+ghost use Rattle.sim_top.specs.Hosting.{OfSession, IsHosted};
+ghost use Rattle.sim_top.specs.Rigs.{RigStands, SecondStands, StandForTrial, OfFirsts, AreEight, AreHandedBack, clients, all_of};
 ghost use Rattle.sim_top.specs.Stops.{CausesOf, IsOfContent, IsOfTurn, IsMissed};
 ghost use Rattle.sim_top.specs.Making.{Makes, IsSavedAs, IsFinished, outcome_made, status_made};
 
+use crate::hosting::session;
 use crate::inputs::{read_match, read_schedule, read_state, trial_match};
 use crate::rigs::Rigs;
 use crate::status::Status;
@@ -55,7 +58,7 @@ pub struct Answer<'w> {
     pub saved: Option<Saved<'w>>,
 }
 
-/// What the request comes to, or why it ends before. It is handed two rigs at least.
+/// What the request comes to, or why it ends before.
 pub fn answer_to<'w, S: Shelf>(
     alloc: Global,
     request: Request<'w>,
@@ -63,8 +66,9 @@ pub fn answer_to<'w, S: Shelf>(
     rigs: Rigs,
     orders: &OrderTable,
 ) -> (Result<Answer<'w>, Stop<'w>>, Rigs)
-    requires two { 1 ≤ length rigs.rest.items }
+    requires eight { AreEight rigs }
     requires kinds { All (λ r. HaveKinds (systems_of r ⟦<dyn System as System>⟧)) (all_of rigs) }
+    requires cleared { All (λ r. AreCleared (systems_of r ⟦<dyn System as System>⟧)) (all_of rigs) }
     requires trial { CanBeTried (asked request) }
     ensures answers { IfSome (S.held shelf.old) (λ files. Makes result.0 (IsOutcomeOf files (Some (asked request.entry)))) }
     ensures saved { IfOk result.0 (λ answer. IsSavedAs (out_of (Some (asked request.entry))) answer.saved) }
@@ -76,13 +80,15 @@ pub fn answer_to<'w, S: Shelf>(
     ensures held { S.held shelf.new ≡ S.held shelf.old }
     ensures stands { IfSome (S.held shelf.old) (λ files. OnOk result.0 (RigStands files (Some (asked request.entry)) (systems_of rigs.first ⟦<dyn System as System>⟧) (systems_of result.1.first ⟦<dyn System as System>⟧))) }
     ensures joins { IfSome (S.held shelf.old) (λ files. OnOk result.0 (OfFirsts rigs.rest.items result.1.rest.items (λ r s. SecondStands files (Some (asked request.entry)) (systems_of s ⟦<dyn System as System>⟧)))) }
+    ensures hosted { IfSome (S.held shelf.old) (λ files. OnOk result.0 (OfSession files (Some (asked request.entry)) (λ setup list. IsHosted ⟦<dyn System as System>⟧ setup list (all_of rigs) (all_of result.1)))) }
     ensures kinds { All (λ r. HaveKinds (systems_of r ⟦<dyn System as System>⟧)) (all_of result.1) }
-    ensures most { AreBuiltOnceAtMost (systems_of rigs.first ⟦<dyn System as System>⟧) (systems_of result.1.first ⟦<dyn System as System>⟧) }
-    ensures joined { OfFirsts rigs.rest.items result.1.rest.items (λ r s. AreBuiltOnceAtMost (systems_of r ⟦<dyn System as System>⟧) (systems_of s ⟦<dyn System as System>⟧)) }
+    ensures most { is_session (Some (asked request.entry)) ≡ false → AreBuiltOnceAtMost (systems_of rigs.first ⟦<dyn System as System>⟧) (systems_of result.1.first ⟦<dyn System as System>⟧) }
+    ensures joined { is_session (Some (asked request.entry)) ≡ false → OfFirsts rigs.rest.items result.1.rest.items (λ r s. AreBuiltOnceAtMost (systems_of r ⟦<dyn System as System>⟧) (systems_of s ⟦<dyn System as System>⟧)) }
     ensures back { AreHandedBack (clients (asked request.entry)) rigs result.1 }
 {
     match request {
         Request::Rejoin { game, turn } => rejoin(alloc, shelf, game, turn, rigs, orders),
+        Request::Session { game, steps } => session(alloc, shelf, game, steps, rigs, orders),
         other => {
             let Rigs { first, rest } = rigs;
             let (made, first) = answer_alone(alloc, other, shelf, first, orders);
@@ -123,7 +129,7 @@ fn answer_alone<'w, S: Shelf>(
         Request::Compare { game, left, right } => (compare(alloc, shelf, game, left, right), rig),
         Request::Serve { schedule } => (serve(alloc, shelf, schedule), rig),
         Request::Trial { seed, units, turns } => trial(alloc, seed, units, turns, rig, orders),
-        Request::Rejoin { .. } => unreachable!(),
+        Request::Rejoin { .. } | Request::Session { .. } => unreachable!(),
     }
 }
 
@@ -445,8 +451,8 @@ fn trial_text(
     Ok(text)
 }
 
-// A text alone, if there was memory for it.
-fn shown<'w>(text: Result<String, OutOfMemory>) -> Result<Answer<'w>, Stop<'w>>
+/// A text alone, if there was memory for it.
+pub fn shown<'w>(text: Result<String, OutOfMemory>) -> Result<Answer<'w>, Stop<'w>>
     ensures made { IfOk result (λ answer. IfOk text (λ text. outcome_made answer ≡ printed_as Status.Done (string_bytes text))) }
     ensures stops { IfErr result (λ stop. stop ≡ Stop.OutOfMemory) }
     ensures refused { OnErr text (result ≡ Err Stop.OutOfMemory) }

@@ -1,25 +1,27 @@
-//! What a command reads: the match of a file, a stored state of that match, and a schedule; and the match of a trial.
+//! What a command reads: the match of a file, a stored state of that match, a schedule, and the match and the steps of a
+//! session; and the match of a trial.
 
 ghost use Rattle.std.specs.Prelude.{◌≡◌, List, Some, None, IsTrue, IfSome, IfOk, IfErr, IsErrAnd, length};
 ghost use Rattle.sim_base.specs.Limits.{IsSetup};
 ghost use Rattle.sim_base.specs.Validity.{IsValid};
 ghost use Rattle.sim_codec.specs.Loading.{head_fault};
-ghost use Rattle.sim_setup.specs.Setups.{setup_of as setup_of_bytes};
+ghost use Rattle.sim_setup.specs.Setups.{setup_of as setup_of_bytes, session_setup_of as session_setup_of_bytes};
 ghost use Rattle.sim_store.specs.Counts.{after_giving};
 ghost use Rattle.sim_store.specs.Files.{File, file_in};
 ghost use Rattle.sim_top.specs.Words.{Asked, loads_state, reads_list, reads_file};
 ghost use Rattle.sim_top.specs.Reads.{length_in};
 ghost use Rattle.sim_lists.specs.Schedules.{schedule_of as schedule_of_bytes, IsSchedule};
+ghost use Rattle.sim_lists.specs.StepLists.{steps_of as steps_of_bytes, IsStepList};
 ghost use Rattle.sim_trial.specs.Trial.{IsTrial};
-ghost use Rattle.sim_top.specs.Outcome.{bytes_in, match_in, setup_by, trial_match as match_of_trial, schedule_in, schedule_by};
+ghost use Rattle.sim_top.specs.Outcome.{bytes_in, match_in, setup_by, session_match_in, trial_match as match_of_trial, schedule_in, steps_in, list_by};
 ghost use Rattle.sim_top.specs.Answers.{MayAnswer};
 ghost use Rattle.sim_top.specs.Stops.{Reads, ReadsBytes, ReadsState, LoadsState, IsStateStop, IsOfContent, IsMissed, ReadsCounting, CausesOf, status_of};
 
 use crate::stop::Stop;
 use sim_base::{Setup, State};
 use sim_codec::load;
-use sim_lists::{Schedule, schedule_of};
-use sim_setup::setup_of;
+use sim_lists::{Schedule, StepList, schedule_of, steps_of};
+use sim_setup::{session_setup_of, setup_of};
 use sim_store::{Shelf, StoreFault, read_file};
 use sim_trial::trial_text;
 use std::alloc::Global;
@@ -65,6 +67,35 @@ pub fn read_match<'w, S: Shelf>(alloc: Global, shelf: &mut S, name: &str) -> Res
 {
     let bytes = read_bytes(alloc, shelf, name)?;
     match_of(alloc, &bytes)
+}
+
+// The match for a session of the bytes of a file.
+fn session_match_of<'w>(alloc: Global, bytes: &[u8]) -> Result<Setup, Stop<'w>>
+    ensures tells { Reads result (setup_by (session_setup_of_bytes bytes.now)) }
+    ensures limits { IfOk result IsSetup }
+    ensures stops { IfErr result (λ stop. (asked : Asked) → MayAnswer asked (status_of stop)) }
+    ensures content { IfErr result IsOfContent }
+{
+    Ok(session_setup_of(alloc, bytes)?)
+}
+
+/// Reads the match of a file for a session: one that has commands of its own is refused.
+#[tactic(auto, unfolding(crate::specs::Outcome::session_match_in))]
+pub fn read_session_match<'w, S: Shelf>(
+    alloc: Global,
+    shelf: &mut S,
+    name: &str,
+) -> Result<Setup, Stop<'w>>
+    ensures tells { IfSome (S.held shelf.old) (λ files. Reads result (session_match_in files name.now)) }
+    ensures limits { IfOk result IsSetup }
+    ensures missing { (files : List File) → S.held shelf.old ≡ Some files → file_in files name.now ≡ None → IsMissed result }
+    ensures stops { IfErr result (λ stop. (asked : Asked) → IsTrue (reads_file asked) → MayAnswer asked (status_of stop)) }
+    ensures causes { CausesOf result (S.counts shelf.old) (S.counts shelf.new) }
+    ensures given { (files : List File) → S.held shelf.old ≡ Some files → IfOk result (λ _. S.counts shelf.new ≡ after_giving (length_in files name.now) (S.counts shelf.old)) }
+    ensures held { S.held shelf.new ≡ S.held shelf.old }
+{
+    let bytes = read_bytes(alloc, shelf, name)?;
+    session_match_of(alloc, &bytes)
 }
 
 /// The match of a trial, which no file holds.
@@ -120,7 +151,7 @@ pub fn read_state<'w, S: Shelf>(
 
 // The schedule of the bytes of a file.
 fn schedule_from<'w>(alloc: Global, bytes: &[u8]) -> Result<Schedule, Stop<'w>>
-    ensures tells { Reads result (schedule_by (schedule_of_bytes bytes.now)) }
+    ensures tells { Reads result (list_by (schedule_of_bytes bytes.now)) }
     ensures limits { IfOk result IsSchedule }
     ensures stops { IfErr result (λ stop. (asked : Asked) → IsTrue (reads_list asked) → MayAnswer asked (status_of stop)) }
     ensures content { IfErr result IsOfContent }
@@ -145,4 +176,33 @@ pub fn read_schedule<'w, S: Shelf>(
 {
     let bytes = read_bytes(alloc, shelf, name)?;
     schedule_from(alloc, &bytes)
+}
+
+// The list of steps of the bytes of a file, for so many players.
+fn steps_from<'w>(alloc: Global, bytes: &[u8], players: u8) -> Result<StepList, Stop<'w>>
+    ensures tells { Reads result (list_by (steps_of_bytes players bytes.now)) }
+    ensures limits { IfOk result (IsStepList players) }
+    ensures stops { IfErr result (λ stop. (asked : Asked) → IsTrue (reads_list asked) → MayAnswer asked (status_of stop)) }
+    ensures content { IfErr result IsOfContent }
+{
+    Ok(steps_of(alloc, bytes, players)?)
+}
+
+/// Reads the list of steps of a file, for a match of so many players.
+#[tactic(auto, unfolding(crate::specs::Outcome::steps_in))]
+pub fn read_steps<'w, S: Shelf>(
+    alloc: Global,
+    shelf: &mut S,
+    name: &str,
+    players: u8,
+) -> Result<StepList, Stop<'w>>
+    ensures tells { IfSome (S.held shelf.old) (λ files. Reads result (steps_in files name.now players)) }
+    ensures limits { IfOk result (IsStepList players) }
+    ensures stops { IfErr result (λ stop. (asked : Asked) → IsTrue (reads_list asked) → IsTrue (reads_file asked) → MayAnswer asked (status_of stop)) }
+    ensures causes { CausesOf result (S.counts shelf.old) (S.counts shelf.new) }
+    ensures given { (files : List File) → S.held shelf.old ≡ Some files → IfOk result (λ _. S.counts shelf.new ≡ after_giving (length_in files name.now) (S.counts shelf.old)) }
+    ensures held { S.held shelf.new ≡ S.held shelf.old }
+{
+    let bytes = read_bytes(alloc, shelf, name)?;
+    steps_from(alloc, &bytes, players)
 }

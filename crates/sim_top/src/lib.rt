@@ -3,18 +3,20 @@
 //! It promises that the words' command does what its definition says over the files that are held: the digest printed
 //! after each turn is that of the turn function folded over the match's own turns, from the first state or from the one
 //! that a stored state's bytes stand for. Of eight rigs each that was used then stands for the last state of its client, and
-//! all come back. It stands on the shelf and the sink, on the reader of match files and the text of a trial, on a match that is played on a
-//! board, on the codec, on the printed texts, and on the definitions of the base crate.
+//! all come back; what is told of a session is what its past says. It stands on the shelf and the sink, on the readers of match files
+//! and lists and the text of a trial, on a match that is played on a board and a session of many, on the codec, on the printed texts,
+//! and on the definitions of the base crate.
 //!
 //! - `words`: what the words ask for.
 //! - `status`, `stop`: how a run ends, and why a command ends before it has its text.
-//! - `inputs`: the match and the stored state that a command reads, and the match of a trial.
+//! - `inputs`: the match, the stored state and the list that a command reads, and the match of a trial.
 //! - `rigs`: the rigs with which a run plays.
-//! - `commands`: what each command makes of its files.
+//! - `commands`, `hosting`: what each command makes of its files, and a session of its two.
 //! - `top`: the top call.
 #![tactic(auto)]
 
 mod commands;
+mod hosting;
 mod inputs;
 mod rigs;
 mod status;

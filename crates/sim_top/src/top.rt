@@ -1,19 +1,22 @@
 //! The top call: from the words to a status. All files are read and the whole text is made before anything is written,
 //! so that a refusal or want of memory leaves the sink and the files as they were.
 
-ghost use Rattle.std.specs.Prelude.{◌≡◌, ◌≢◌, ◌≤◌, ℕ, List, All, length, drop, vec_capacity, Option, IfSome, IfOk, IsOk, Some, None, [], option_map, string_bytes};
+ghost use Rattle.std.specs.Prelude.{◌≡◌, ◌≢◌, ℕ, List, All, false, length, drop, vec_capacity, Option, IfSome, IfOk, IsOk, Some, None, [], option_map, string_bytes};
 ghost use Rattle.std.specs.Io.KnownBytes.{Appends};
 ghost use Rattle.sim_report.specs.Lines.{usage_text as text_of_usage};
 ghost use Rattle.sim_store.specs.Counts.{after_giving};
 ghost use Rattle.sim_store.specs.Files.{File};
 ghost use Rattle.sim_store.specs.Writing.{FileCauses};
 ghost use Rattle.sim_store.specs.declared.counts.Counts.{Counts as AllCounts};
-ghost use Rattle.sim_top.specs.Words.{Asked, words_of, asked_by, out_of};
+ghost use Rattle.sim_client.specs.StageWords.{AreCleared};
+ghost use Rattle.sim_top.specs.Words.{Asked, words_of, asked_by, is_session, out_of};
 ghost use Rattle.sim_top.specs.Reads.{length_asked, LacksMatch, HasEnded, IsUnfound};
 ghost use Rattle.sim_top.specs.Answers.{scene, Meets, Causes, CountsBefore, MayEnd, IsUsageTold, KeepsAllBut, IsSilent};
 ghost use Rattle.sim_top.specs.Readiness.{IsReady, IsFaultless, IsFinal};
 ghost use Rattle.sim_top.specs.Making.{MeetsBefore, SavesIfDone, IsSavedAs, IsUsageMade, IsAnswered, SaveMeets, Tells, file_of};
-ghost use Rattle.sim_top.specs.Rigs.{RigStands, SecondStands, OfFirsts, AreHandedBack, all_of, used};
+ghost use Rattle.sim_top.specs.Hosting.{OfSession, IsHosted};
+ghost use Rattle.sim_top.specs.Headline.{Headline};
+ghost use Rattle.sim_top.specs.Rigs.{RigStands, SecondStands, OfFirsts, AreEight, AreHandedBack, all_of, used};
 ghost use Rattle.sim_system.specs.Meanings.{HaveKinds, AreBuiltOnceAtMost};
 ghost use Rattle.sim_system.specs.RigWords.{systems_of};
 ghost use Rattle.sim_top.specs.Stops.{stop_text as text_of_stop, status_of};
@@ -38,8 +41,8 @@ pub struct Ended {
 }
 
 /// Does what the words say, over the files of the shelf, and writes its text to the sink. A match is played with the first
-/// of eight rigs, and by a client that joins it with the second; all eight come back, in the room and in the order in which
-/// they came.
+/// of eight cleared rigs, and by a client that joins it with the second; in a session each client has the rig of its number.
+/// All eight come back, in the room and in the order in which they came.
 pub fn run<S: Shelf, K: Sink>(
     alloc: Global,
     words: &[String],
@@ -50,6 +53,13 @@ pub fn run<S: Shelf, K: Sink>(
 ) -> Ended
     requires eight { length rigs.items ≡ 8 }
     requires kinds { All (λ r. HaveKinds (systems_of r ⟦<dyn System as System>⟧)) rigs.items }
+    requires cleared { All (λ r. AreCleared (systems_of r ⟦<dyn System as System>⟧)) rigs.items }
+
+    // What this program is for: where a session is asked for, what the sink was told of it is what the headline says of its match
+    // and its steps.
+    ensures headline { IfSome (S.held shelf.old) (λ files. HasEnded result.status
+        → OfSession files (asked_by (words_of words.now)) (λ setup list. Headline setup list (K.told out.old) (K.told out.new))) }
+
     // Where the shelf tells its files, the status, the text and the saved file are those of the words, or a fault or
     // want of memory came between.
     ensures answers { IfSome (S.held shelf.old) (λ files. Meets result.status (words_of words.now) files
@@ -79,13 +89,16 @@ pub fn run<S: Shelf, K: Sink>(
     ensures others { KeepsAllBut (out_of (asked_by (words_of words.now))) (S.held shelf.old) (S.held shelf.new) }
 
     // The first rig stands for the state to which its match came, and so does the second where a client joined; each of their
-    // systems was built once at most. Those that are not used are as they were.
+    // systems was built once at most. Those of a session stand for what its clients are in the end, and may be built again for
+    // each load. Rigs that are not used are as they were.
     ensures stands { IfSome (S.held shelf.old) (λ files. HasEnded result.status
         → OfFirsts rigs.items result.rigs.items (λ r s. RigStands files (asked_by (words_of words.now)) (systems_of r ⟦<dyn System as System>⟧) (systems_of s ⟦<dyn System as System>⟧))) }
     ensures joins { IfSome (S.held shelf.old) (λ files. HasEnded result.status
         → OfFirsts (drop 1 rigs.items) (drop 1 result.rigs.items) (λ r s. SecondStands files (asked_by (words_of words.now)) (systems_of s ⟦<dyn System as System>⟧))) }
-    ensures joined { OfFirsts (drop 1 rigs.items) (drop 1 result.rigs.items) (λ r s. AreBuiltOnceAtMost (systems_of r ⟦<dyn System as System>⟧) (systems_of s ⟦<dyn System as System>⟧)) }
-    ensures most { OfFirsts rigs.items result.rigs.items (λ r s. AreBuiltOnceAtMost (systems_of r ⟦<dyn System as System>⟧) (systems_of s ⟦<dyn System as System>⟧)) }
+    ensures hosted { IfSome (S.held shelf.old) (λ files. HasEnded result.status
+        → OfSession files (asked_by (words_of words.now)) (λ setup list. IsHosted ⟦<dyn System as System>⟧ setup list rigs.items result.rigs.items)) }
+    ensures joined { is_session (asked_by (words_of words.now)) ≡ false → OfFirsts (drop 1 rigs.items) (drop 1 result.rigs.items) (λ r s. AreBuiltOnceAtMost (systems_of r ⟦<dyn System as System>⟧) (systems_of s ⟦<dyn System as System>⟧)) }
+    ensures most { is_session (asked_by (words_of words.now)) ≡ false → OfFirsts rigs.items result.rigs.items (λ r s. AreBuiltOnceAtMost (systems_of r ⟦<dyn System as System>⟧) (systems_of s ⟦<dyn System as System>⟧)) }
     ensures kinds { All (λ r. HaveKinds (systems_of r ⟦<dyn System as System>⟧)) result.rigs.items }
     ensures rest { drop (used (asked_by (words_of words.now))) result.rigs.items ≡ drop (used (asked_by (words_of words.now))) rigs.items }
     ensures count { length result.rigs.items ≡ 8 }
@@ -111,8 +124,9 @@ fn run_with<S: Shelf, K: Sink>(
     rigs: Rigs,
     orders: &OrderTable,
 ) -> (Status, Rigs)
-    requires two { 1 ≤ length rigs.rest.items }
+    requires eight { AreEight rigs }
     requires kinds { All (λ r. HaveKinds (systems_of r ⟦<dyn System as System>⟧)) (all_of rigs) }
+    requires cleared { All (λ r. AreCleared (systems_of r ⟦<dyn System as System>⟧)) (all_of rigs) }
     ensures answers { IfSome (S.held shelf.old) (λ files. Meets result.0 (words_of words.now) files
         (scene (S.held shelf.old) (K.told out.old) (S.counts shelf.old) (K.faults out.old))
         (scene (S.held shelf.new) (K.told out.new) (S.counts shelf.new) (K.faults out.new))) }
@@ -133,8 +147,10 @@ fn run_with<S: Shelf, K: Sink>(
     ensures others { KeepsAllBut (out_of (asked_by (words_of words.now))) (S.held shelf.old) (S.held shelf.new) }
     ensures stands { IfSome (S.held shelf.old) (λ files. HasEnded result.0 → RigStands files (asked_by (words_of words.now)) (systems_of rigs.first ⟦<dyn System as System>⟧) (systems_of result.1.first ⟦<dyn System as System>⟧)) }
     ensures joins { IfSome (S.held shelf.old) (λ files. HasEnded result.0 → OfFirsts rigs.rest.items result.1.rest.items (λ r s. SecondStands files (asked_by (words_of words.now)) (systems_of s ⟦<dyn System as System>⟧))) }
-    ensures most { AreBuiltOnceAtMost (systems_of rigs.first ⟦<dyn System as System>⟧) (systems_of result.1.first ⟦<dyn System as System>⟧) }
-    ensures joined { OfFirsts rigs.rest.items result.1.rest.items (λ r s. AreBuiltOnceAtMost (systems_of r ⟦<dyn System as System>⟧) (systems_of s ⟦<dyn System as System>⟧)) }
+    ensures most { is_session (asked_by (words_of words.now)) ≡ false → AreBuiltOnceAtMost (systems_of rigs.first ⟦<dyn System as System>⟧) (systems_of result.1.first ⟦<dyn System as System>⟧) }
+    ensures joined { is_session (asked_by (words_of words.now)) ≡ false → OfFirsts rigs.rest.items result.1.rest.items (λ r s. AreBuiltOnceAtMost (systems_of r ⟦<dyn System as System>⟧) (systems_of s ⟦<dyn System as System>⟧)) }
+    ensures hosted { IfSome (S.held shelf.old) (λ files. HasEnded result.0 → OfSession files (asked_by (words_of words.now)) (λ setup list. IsHosted ⟦<dyn System as System>⟧ setup list (all_of rigs) (all_of result.1))) }
+    ensures headline { IfSome (S.held shelf.old) (λ files. HasEnded result.0 → OfSession files (asked_by (words_of words.now)) (λ setup list. Headline setup list (K.told out.old) (K.told out.new))) }
     ensures kinds { All (λ r. HaveKinds (systems_of r ⟦<dyn System as System>⟧)) (all_of result.1) }
     ensures back { AreHandedBack (used (asked_by (words_of words.now))) rigs result.1 }
 {
@@ -197,8 +213,9 @@ fn made_answer<'w, S: Shelf>(
     rigs: Rigs,
     orders: &OrderTable,
 ) -> (Answer<'w>, Rigs)
-    requires two { 1 ≤ length rigs.rest.items }
+    requires eight { AreEight rigs }
     requires kinds { All (λ r. HaveKinds (systems_of r ⟦<dyn System as System>⟧)) (all_of rigs) }
+    requires cleared { All (λ r. AreCleared (systems_of r ⟦<dyn System as System>⟧)) (all_of rigs) }
     ensures answers { IfSome (S.held shelf.old) (λ files. MeetsBefore result.0.status (words_of words.now) files
         (string_bytes result.0.text) (option_map file_of result.0.saved)) }
     ensures statuses { MayEnd (asked_by (words_of words.now)) result.0.status }
@@ -215,8 +232,9 @@ fn made_answer<'w, S: Shelf>(
     ensures held { S.held shelf.new ≡ S.held shelf.old }
     ensures stands { IfSome (S.held shelf.old) (λ files. HasEnded result.0.status → RigStands files (asked_by (words_of words.now)) (systems_of rigs.first ⟦<dyn System as System>⟧) (systems_of result.1.first ⟦<dyn System as System>⟧)) }
     ensures joins { IfSome (S.held shelf.old) (λ files. HasEnded result.0.status → OfFirsts rigs.rest.items result.1.rest.items (λ r s. SecondStands files (asked_by (words_of words.now)) (systems_of s ⟦<dyn System as System>⟧))) }
-    ensures most { AreBuiltOnceAtMost (systems_of rigs.first ⟦<dyn System as System>⟧) (systems_of result.1.first ⟦<dyn System as System>⟧) }
-    ensures joined { OfFirsts rigs.rest.items result.1.rest.items (λ r s. AreBuiltOnceAtMost (systems_of r ⟦<dyn System as System>⟧) (systems_of s ⟦<dyn System as System>⟧)) }
+    ensures most { is_session (asked_by (words_of words.now)) ≡ false → AreBuiltOnceAtMost (systems_of rigs.first ⟦<dyn System as System>⟧) (systems_of result.1.first ⟦<dyn System as System>⟧) }
+    ensures joined { is_session (asked_by (words_of words.now)) ≡ false → OfFirsts rigs.rest.items result.1.rest.items (λ r s. AreBuiltOnceAtMost (systems_of r ⟦<dyn System as System>⟧) (systems_of s ⟦<dyn System as System>⟧)) }
+    ensures hosted { IfSome (S.held shelf.old) (λ files. HasEnded result.0.status → OfSession files (asked_by (words_of words.now)) (λ setup list. IsHosted ⟦<dyn System as System>⟧ setup list (all_of rigs) (all_of result.1))) }
     ensures kinds { All (λ r. HaveKinds (systems_of r ⟦<dyn System as System>⟧)) (all_of result.1) }
     ensures back { AreHandedBack (used (asked_by (words_of words.now))) rigs result.1 }
 {

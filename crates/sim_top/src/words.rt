@@ -29,6 +29,11 @@ pub enum Request<'w> {
         game: &'w str,
         turn: u32,
     },
+    /// To run a session of a match over a list of steps.
+    Session {
+        game: &'w str,
+        steps: &'w str,
+    },
     /// To show a stored state of a match.
     Show {
         game: &'w str,
@@ -90,6 +95,9 @@ fn request_of_two<'w>(command: &str, a: &'w str, b: &'w str) -> Option<Request<'
     if command == "rejoin" {
         let turn = turn_of(b)?;
         return Some(Request::Rejoin { game: a, turn });
+    }
+    if command == "session" {
+        return Some(Request::Session { game: a, steps: b });
     }
     if command == "show" {
         return Some(Request::Show { game: a, stored: b });

@@ -3,6 +3,7 @@
 #![tactic(auto)]
 
 ghost use Rattle.std.specs.Prelude.{◌≡◌, All, drop, length};
+ghost use Rattle.sim_client.specs.StageWords.{AreCleared};
 ghost use Rattle.sim_orders.specs.Orders.{IsGiven, Obeys};
 ghost use Rattle.sim_system.specs.Meanings.{HaveKinds};
 ghost use Rattle.sim_system.specs.RigWords.{systems_of};
@@ -49,6 +50,7 @@ fn run_words(rt: &HostRuntime) -> Result<Status, OutOfMemory> {
 fn run_with(rt: &HostRuntime, words: &[String], rigs: Vec<Rig>) -> Result<Status, OutOfMemory>
     requires eight { length rigs.items ≡ 8 }
     requires kinds { All (λ r. HaveKinds (systems_of r ⟦<dyn System as System>⟧)) rigs.items }
+    requires cleared { All (λ r. AreCleared (systems_of r ⟦<dyn System as System>⟧)) rigs.items }
 {
     let alloc = rt.alloc();
     let walk: Planner = Box::new(

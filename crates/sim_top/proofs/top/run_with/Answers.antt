@@ -1,5 +1,7 @@
 -- The shelf holds the same before anything is written.
 use Rattle.std.proofs.Common.{List, Option, subst, string_bytes, IfSome, ◌∙◌}
+use Rattle.sim_base.specs.declared.setup.Setup.{Setup}
+use Rattle.sim_lists.specs.declared.step_list.StepList.{StepList}
 use Rattle.sim_report.specs.Lines.{usage_text}
 use Rattle.sim_top.specs.Reads.{HasEnded}
 use Rattle.std.specs.Prelude.{option_map}
@@ -7,12 +9,15 @@ use Rattle.sim_store.specs.Files.{File}
 use Rattle.sim_top.specs.Words.{words_of, asked_by}
 use Rattle.sim_top.specs.Answers.{scene, Meets, Causes}
 use Rattle.sim_system.specs.RigWords.{systems_by}
-use Rattle.sim_top.specs.Rigs.{RigStands, SecondStands, OfFirsts}
+use Rattle.sim_top.specs.Headline.{Headline}
+use Rattle.sim_top.specs.Hosting.{OfSession, IsHostedBy}
+use Rattle.sim_top.specs.Rigs.{RigStands, SecondStands, OfFirsts, all_of}
 use Rattle.sim_top.specs.Readiness.{IsReady, IsFaultless, IsFinal}
 use Rattle.sim_top.specs.Making.{MeetsBefore, file_of}
 use Rattle.sim_top.proofs.Stopping.{Told, Told-both}
 use Rattle.sim_top.proofs.Completeness.{final}
 use Rattle.sim_top.proofs.Ending.{told_unfound, told_usage}
+use Rattle.sim_top.proofs.Headlines.{lawful, of_both, of_end}
 use Rattle.sim_top.proofs.top.run_with.Goals as goal
 
 pub returns-clause-answers : goal.returns-clause-answers
@@ -64,6 +69,26 @@ returns-clause-joins g c =
     let joined = λ (files : List File). OfFirsts c.args.rigs.rest.items c.made_answer-answer.result.1.rest.items (λ r s. SecondStands files words (systems_by s (λ i v. (goal.System-dyn g (i, v)).meaning v))) in
     Told (λ files. HasEnded answer.status → joined files) (λ files. HasEnded c.finish.result → joined files) _
     (λ files h ended. h (subst HasEnded (c.finish.ensures.ended ended).0 ended)) c.made_answer-answer.ensures.joins
+
+pub returns-clause-hosted : goal.returns-clause-hosted
+returns-clause-hosted g c =
+    let words = asked_by (words_of c.args.words.now) in
+    let answer = c.made_answer-answer.result.0 in
+    let hosted = λ (files : List File). OfSession files words (λ setup list. IsHostedBy (λ i v. (goal.System-dyn g (i, v)).meaning v) setup list (all_of c.args.rigs) (all_of c.made_answer-answer.result.1)) in
+    Told (λ files. HasEnded answer.status → hosted files) (λ files. HasEnded c.finish.result → hosted files) _
+    (λ files h ended. h (subst HasEnded (c.finish.ensures.ended ended).0 ended)) c.made_answer-answer.ensures.hosted
+
+-- what was told of a session is its text, which the laws of sessions are about
+pub returns-clause-headline : goal.returns-clause-headline
+returns-clause-headline g c =
+    let words = words_of c.args.words.now in
+    let before = scene (g.S.Shelf.held c.args.shelf.now) (g.K.Sink.told c.args.out.now) (g.S.Shelf.counts c.args.shelf.now) (g.K.Sink.faults c.args.out.now) in
+    let now = scene (g.S.Shelf.held c.finish.new.shelf) (g.K.Sink.told c.finish.new.out) (g.S.Shelf.counts c.finish.new.shelf) (g.K.Sink.faults c.finish.new.out) in
+    let hosted = λ (setup : Setup) (list : StepList). IsHostedBy (λ i v. (goal.System-dyn g (i, v)).meaning v) setup list (all_of c.args.rigs) (all_of c.made_answer-answer.result.1) in
+    Told-both (λ files. Meets c.finish.result words files before now) (λ files. HasEnded c.finish.result → OfSession files (asked_by words) hosted)
+    (λ files. HasEnded c.finish.result → OfSession files (asked_by words) (λ setup list. Headline setup list before.told now.told)) _
+    (λ files h told ended. of_both files (asked_by words) _ hosted _ (λ setup list text is. lawful setup list before.told now.told is.limits is.steps text)
+    (of_end c.finish.result words files (asked_by words) before now (λ wanted is. is) h ended) (told ended)) (returns-clause-answers g c) (returns-clause-hosted g c)
 
 -- a run that came to its end wrote without reading any more
 pub returns-clause-given : goal.returns-clause-given
