@@ -295,6 +295,7 @@ impl Searcher {
     }
 
     // Makes the trail back from the best of these ends by a search, as soon as it tells the way back.
+    #[inline(never)]
     fn search(
         &mut self,
         alloc: Global,
