@@ -1,15 +1,14 @@
 //! The way from a point to another, by its points.
 
-ghost use Rattle.std.specs.Prelude.{◌≡◌, ◌<◌, ◌^◌, ◌∷◌, [], All, OnOk, IfOk, IsTrue, true, reverse, if◌then◌else◌};
+ghost use Rattle.std.specs.Prelude.{◌≡◌, ◌<◌, ◌∷◌, [], All, OnOk, IfOk, IsTrue, true, reverse, if◌then◌else◌};
 ghost use Rattle.sim_base.specs.Places.{IsPlaced, is_inside, centre_of as centre_at, same_cell, cell_of as cell_at};
 ghost use Rattle.sim_base.specs.Steps.{IsOnGround};
 ghost use Rattle.sim_base.specs.Ways.{IsEnd, IsFound, IsWay, first_points, waypoints};
 ghost use Rattle.sim_base.specs.WayOf.{way_of};
 ghost use Rattle.sim_grid.specs.Grids.{IsGroundSize, field_of_grid};
-ghost use Rattle.sim_path.specs.Tables.{cost_in};
+ghost use Rattle.sim_path.specs.Tables.{cost_in, size_of};
 ghost use Rattle.sim_path.specs.Estimates.{estimate_to};
-ghost use Rattle.sim_path.specs.Queues.{Ready};
-ghost use Rattle.sim_path.specs.Comes.{AreEnds, IsTrailToEnd, IsWayEnd, LeadBack};
+ghost use Rattle.sim_path.specs.Comes.{AreEnds, IsSearched, IsTrailToEnd, IsWayEnd, LeadBack};
 ghost use Rattle.sim_path.specs.Regions.{AreLabels};
 ghost use Rattle.sim_path.specs.Floods.{label_in};
 ghost use Rattle.sim_path.specs.Answers.{IsNarrow, way_in};
@@ -117,29 +116,19 @@ fn trail_back(
     trail_from(grid, costs, trail, from, end)
 }
 
-// The end of the way, to which a search leads that goes on: the best of these ends, or where none is reached, the best of
-// all reached cells.
-fn finish(
-    alloc: Global,
-    search: &mut Search,
-    grid: &Grid,
-    aim: Aim,
-    ends: &[Cell],
-    now: u32,
-) -> Result<Reached, OutOfMemory>
-    requires start_on { IsOnGround grid.now.size search.old.start }
-    requires ready { Ready (estimate_to aim) (field_of_grid grid.now) search.old now 0 }
-    requires small { now < 2 ^ 26 }
-    requires ends { AreEnds (field_of_grid grid.now) search.old.start aim.goal aim.near ends.now }
-    ensures { IfOk result (λ end. IsWayEnd (field_of_grid grid.now) search.old.start aim.goal (cost_in search.new.costs) end) }
+// The end of the way, by what a search has found: the best of its ends, or where none is reached, the best of all reached
+// cells.
+fn way_end(grid: &Grid, costs: &Costs, aim: Aim, ends: &[Cell], start: Cell) -> Reached
+    requires start_on { IsOnGround grid.now.size start }
+    requires size { size_of costs.now ≡ grid.now.size }
+    requires ends { AreEnds (field_of_grid grid.now) start aim.goal aim.near ends.now }
+    requires costs { IsSearched (field_of_grid grid.now) start (estimate_to aim) ends.now (cost_in costs.now) }
+    ensures { IsWayEnd (field_of_grid grid.now) start aim.goal (cost_in costs.now) result }
 {
-    let start = search.start;
-    go_on(alloc, search, grid, aim, ends, now)?;
-    let end = match best_of(&search.costs, ends, aim.goal) {
+    match best_of(costs, ends, aim.goal) {
         Some(end) => end,
-        None => end_of(&search.costs, start, aim.goal),
-    };
-    Ok(end)
+        None => end_of(costs, start, aim.goal),
+    }
 }
 
 /// The shortest way over the open cells of the grid, of at most 64 points. The start counts as open. Where the goal
@@ -318,13 +307,15 @@ impl Searcher {
         let (key, at_aim) = dive(alloc, &mut search, grid, aim, estimate(aim, from))?;
         let costs = &search.costs;
         let floor = Floor::Known(Front { costs, aim, key });
-        let found = at_aim && self.go_back(alloc, grid, &floor, trail, near, ends, start, goal)?;
-        if !found {
-            let end = finish(alloc, &mut search, grid, aim, ends, key)?;
-            trail_back(grid, &search.costs, trail, end, start, goal)?;
+        if at_aim && self.go_back(alloc, grid, &floor, trail, near, ends, start, goal)? {
+            self.rooms = Some(search);
+            return Ok(());
         }
+        let search = go_on(alloc, search, grid, aim, ends, key)?;
+        let end = way_end(grid, &search.costs, aim, ends, from);
+        let found = trail_back(grid, &search.costs, trail, end, start, goal);
         self.rooms = Some(search);
-        Ok(())
+        found
     }
 }
 

@@ -35,6 +35,7 @@ fn left_at(front: &Front, cell: Cell) -> u32
 }
 
 /// What a walk from the start to a cell costs at least.
+#[inline(always)]
 pub fn floor_at(floor: &Floor, start: Cell, cell: Cell) -> u32
     ensures { result ≡ floor_of floor.now start cell }
 {
@@ -57,6 +58,7 @@ fn known_at(front: &Front, start: Cell, cell: Cell) -> u32
 }
 
 /// Whether that is this cost.
+#[inline(always)]
 pub fn is_floor(floor: &Floor, start: Cell, cell: Cell, cost: u32) -> bool
     ensures { IsTrue result ↔ floor_of floor.now start cell ≡ cost }
 {

@@ -48,6 +48,7 @@ fn tight_step(
 }
 
 // The first cell in the order of the directions from which a step makes up the floor of this one, but for the dead ones.
+#[inline(always)]
 fn first_tight(grid: &Grid, floor: &Floor, start: Cell, at: Cell, dead: &Marks) -> Option<Cell>
     requires start_on { IsOnGround grid.now.size start }
     requires at_on { IsOnGround grid.now.size at }
