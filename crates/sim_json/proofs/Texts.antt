@@ -8,8 +8,12 @@ use Rattle.serde_json.specs.View.{view, items_view}
 use Rattle.serde_json.specs.declared.value.Value.{Value}
 use Rattle.sim_json.specs.Values.{value_of, listed}
 
-pub value_of_utf8 : (bytes : List ℕ) (value : Data) → IsUtf8 bytes → read bytes ≡ Some value → value_of bytes ≡ Some value
-value_of_utf8 bytes value utf8 reads = rw (is_utf8-from_IsUtf8 bytes utf8) reads
+-- bytes in UTF-8 have the value of the text that they are
+pub utf8_value : (bytes : List ℕ) → IsUtf8 bytes → value_of bytes ≡ read bytes
+utf8_value bytes utf8 = rw (is_utf8-from_IsUtf8 bytes utf8) refl
+
+pub utf8_holds : (bytes : List ℕ) → IsUtf8 bytes → is_utf8 bytes ≡ true
+utf8_holds bytes utf8 = is_utf8-from_IsUtf8 bytes utf8
 
 none_if : (b : Bool) (o : Option Data) → (b ≡ true → o ≡ None) → (if b then o else None) ≡ None
 none_if true o refused = refused refl

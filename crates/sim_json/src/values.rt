@@ -1,7 +1,9 @@
 //! Texts, lists and whole numbers of JSON. A reader answers None where the value is something else.
 
-ghost use Rattle.std.specs.Prelude.{◌≡◌, ◌≤◌, None, map, option_map, IfOk, IsErr, IfSome};
+ghost use Rattle.std.specs.Prelude.{◌≡◌, ◌<◌, ◌≤◌, false, None, map, length, option_map, IfOk, IfErr, IsErr, IfSome};
+ghost use Rattle.std.specs.Str.{is_utf8};
 ghost use Rattle.serde_json.specs.Errors.{IsMemory};
+ghost use Rattle.serde_json.specs.Read.{read};
 ghost use Rattle.serde_json.specs.View.{view};
 ghost use Rattle.sim_json.specs.Values.{value_of as value_of_bytes, list_of as list_of_data, list_at as list_at_key, natural as natural_of, natural_in as natural_within, natural_at as natural_at_key, fixed as fixed_of, metres as metres_of, two as two_of, four as four_of, front_two as front_two_of};
 
@@ -10,11 +12,23 @@ use sim_base::{Fixed, OutOfMemory};
 use std::alloc::Global;
 
 /// The value of a text in UTF-8, or None where the bytes are none.
-#[tactic(auto, using(crate::proofs::Texts::value_of_utf8, crate::proofs::Texts::no_value))]
 pub fn value_of(alloc: Global, bytes: &[u8]) -> Result<Option<Value>, OutOfMemory>
-    ensures { IfOk result (λ found. option_map view found ≡ value_of_bytes bytes.now) }
+    ensures value { IfOk result (λ found. option_map view found ≡ value_of_bytes bytes.now) }
+    ensures no_text { is_utf8 bytes.now ≡ false → result ≡ Ok None }
+    ensures memory { IfErr result (λ fault. 0 < length bytes.now) }
 {
-    match Value::from_slice(alloc, bytes) {
+    match std::str::from_utf8(bytes) {
+        Ok(text) => value_in(alloc, text),
+        Err(_) => Ok(None),
+    }
+}
+
+// The value of a text.
+fn value_in(alloc: Global, text: &str) -> Result<Option<Value>, OutOfMemory>
+    ensures value { IfOk result (λ found. option_map view found ≡ read text.now) }
+    ensures memory { IfErr result (λ fault. 0 < length text.now) }
+{
+    match Value::from_str(alloc, text) {
         Ok(value) => Ok(Some(value)),
         Err(error) => no_value(error),
     }
