@@ -1,6 +1,7 @@
 //! The whole schedule: the object and its numbers first, then each arrival.
 
-ghost use Rattle.std.specs.Prelude.{◌≡◌, ◌≤◌, map, option_map, option_and_then, All, IfOk, IfSome};
+ghost use Rattle.std.specs.Prelude.{◌≡◌, ◌≤◌, false, map, option_map, option_and_then, All, IfOk, IfSome};
+ghost use Rattle.std.specs.Str.{is_utf8};
 ghost use Rattle.serde_json.specs.View.{view};
 ghost use Rattle.sim_json.specs.Values.{list_at as list_at_key};
 ghost use Rattle.sim_lists.specs.Meets.{Meets};
@@ -25,6 +26,7 @@ pub(crate) const NO_LIST: ListFault = ListFault::Refused { index: 0 };
 pub fn schedule_of(alloc: Global, bytes: &[u8]) -> Result<Schedule, ListFault>
     ensures meets { Meets result (schedule_of_bytes bytes.now) }
     ensures limits { IfOk result IsSchedule }
+    ensures no_text { is_utf8 bytes.now ≡ false → result ≡ Err (ListFault.Refused 0) }
 {
     match value_of(alloc, bytes)? {
         Some(value) => schedule_in(alloc, &value),

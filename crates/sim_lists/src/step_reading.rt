@@ -1,6 +1,7 @@
 //! The whole list of steps: the object and its number of clients first, then each step.
 
-ghost use Rattle.std.specs.Prelude.{◌≡◌, map, All, IfOk};
+ghost use Rattle.std.specs.Prelude.{◌≡◌, false, map, All, IfOk};
+ghost use Rattle.std.specs.Str.{is_utf8};
 ghost use Rattle.serde_json.specs.View.{view};
 ghost use Rattle.sim_lists.specs.Meets.{Meets};
 ghost use Rattle.sim_lists.specs.StepLists.{steps_from as steps_from_data, steps_within as steps_within_data, steps_in as steps_in_data, steps_of as steps_of_bytes, IsStep, IsStepList};
@@ -20,6 +21,7 @@ const KEYS: [&str; 2] = ["clients", "steps"];
 pub fn steps_of(alloc: Global, bytes: &[u8], players: u8) -> Result<StepList, ListFault>
     ensures meets { Meets result (steps_of_bytes players bytes.now) }
     ensures limits { IfOk result (IsStepList players) }
+    ensures no_text { is_utf8 bytes.now ≡ false → result ≡ Err (ListFault.Refused 0) }
 {
     match value_of(alloc, bytes)? {
         Some(value) => steps_in(alloc, &value, players),
