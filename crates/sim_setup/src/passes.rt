@@ -1,7 +1,8 @@
 //! The passes over a match file, one after another in the order of their codes, so that the first code that applies is
 //! the answer.
 
-ghost use Rattle.std.specs.Prelude.{◌≡◌, ◌≢◌, ◌≤◌, true, None, All, [], map, length, IfOk, IfSome};
+ghost use Rattle.std.specs.Prelude.{◌≡◌, ◌≢◌, ◌≤◌, true, false, None, All, [], map, length, IfOk, IfSome};
+ghost use Rattle.std.specs.Str.{is_utf8};
 ghost use Rattle.serde_json.specs.View.{view};
 ghost use Rattle.sim_base.specs.Limits.{IsSetup, IsTemplate};
 ghost use Rattle.sim_merge.specs.Resolution.{names_in, origins_of, are_distinct};
@@ -41,6 +42,7 @@ pub struct Lists {
 pub fn setup_of(alloc: Global, bytes: &[u8]) -> Result<Setup, SetupFault>
     ensures answers { Meets result (setup_of_bytes bytes.now) }
     ensures limits { IfOk result IsSetup }
+    ensures no_text { is_utf8 bytes.now ≡ false → result ≡ Err (SetupFault.Refused 1 0) }
 {
     let Some(value) = value_of(alloc, bytes)? else {
         return Err(SetupFault::Refused { code: 1, index: 0 });
@@ -54,6 +56,7 @@ pub fn session_setup_of(alloc: Global, bytes: &[u8]) -> Result<Setup, SetupFault
     ensures answers { Meets result (session_setup_of_bytes bytes.now) }
     ensures limits { IfOk result IsSetup }
     ensures none { IfOk result (λ setup. setup.commands ≡ []) }
+    ensures no_text { is_utf8 bytes.now ≡ false → result ≡ Err (SetupFault.Refused 1 0) }
 {
     for_session(setup_of(alloc, bytes)?)
 }
