@@ -2,10 +2,10 @@
 //!
 //! It promises that the words' command does what its definition says over the files that are held: the digest printed
 //! after each turn is that of the turn function folded over the match's own turns, from the first state or from the one
-//! that a stored state's bytes stand for. Of eight rigs each that was used then stands for the last state of its client, and
-//! all come back; what is told of a session is what its past says. It stands on the shelf and the sink, on the readers of match files
-//! and lists and the text of a trial, on a match that is played on a board and a session of many, on the codec, on the printed texts,
-//! and on the definitions of the base crate.
+//! that a stored state's bytes stand for, and in a session over the past of the client. Of eight rigs each that was used
+//! then stands for the last state of its client, and all come back. It stands on the shelf and the sink, on the readers of
+//! match files and lists and the text of a trial, on a match that is played on a board and a session of several, on the
+//! codec, on the printed texts, and on the definitions of the base crate.
 //!
 //! - `words`: what the words ask for.
 //! - `status`, `stop`: how a run ends, and why a command ends before it has its text.
