@@ -6,17 +6,16 @@ ghost use Rattle.sim_base.specs.Steps.{IsOnGround};
 ghost use Rattle.sim_base.specs.Ways.{IsEnd, IsFound, IsWay, first_points, waypoints};
 ghost use Rattle.sim_base.specs.WayOf.{way_of};
 ghost use Rattle.sim_grid.specs.Grids.{IsGroundSize, field_of_grid};
-ghost use Rattle.sim_path.specs.Tables.{cost_in, size_of};
-ghost use Rattle.sim_path.specs.Estimates.{estimate_to};
-ghost use Rattle.sim_path.specs.Comes.{AreEnds, IsSearched, IsTrailToEnd, IsWayEnd, LeadBack};
+ghost use Rattle.sim_path.specs.Tables.{cost_in};
+ghost use Rattle.sim_path.specs.Comes.{AreEnds, IsTrailToEnd, LeadBack};
 ghost use Rattle.sim_path.specs.Regions.{AreLabels};
 ghost use Rattle.sim_path.specs.Floods.{label_in};
 ghost use Rattle.sim_path.specs.Answers.{IsNarrow, way_in};
 
 use crate::costs::{Costs, Reached};
-use crate::drain::{dive, go_on, least_costs, started};
+use crate::drain::{costs_to, dive, least_costs};
 use crate::end::{best_of, end_of};
-use crate::estimate::{Aim, estimate};
+use crate::estimate::Aim;
 use crate::floor::{Floor, Front};
 use crate::labels::Labels;
 use crate::marks::Marks;
@@ -114,21 +113,6 @@ fn trail_back(
 {
     let from = grid.cell_of(*start);
     trail_from(grid, costs, trail, from, end)
-}
-
-// The end of the way, by what a search has found: the best of its ends, or where none is reached, the best of all reached
-// cells.
-fn way_end(grid: &Grid, costs: &Costs, aim: Aim, ends: &[Cell], start: Cell) -> Reached
-    requires start_on { IsOnGround grid.now.size start }
-    requires size { size_of costs.now ≡ grid.now.size }
-    requires ends { AreEnds (field_of_grid grid.now) start aim.goal aim.near ends.now }
-    requires costs { IsSearched (field_of_grid grid.now) start (estimate_to aim) ends.now (cost_in costs.now) }
-    ensures { IsWayEnd (field_of_grid grid.now) start aim.goal (cost_in costs.now) result }
-{
-    match best_of(costs, ends, aim.goal) {
-        Some(end) => end,
-        None => end_of(costs, start, aim.goal),
-    }
 }
 
 /// The shortest way over the open cells of the grid, of at most 64 points. The start counts as open. Where the goal
@@ -248,8 +232,10 @@ impl Searcher {
         requires ends { AreEnds (field_of_grid grid.now) (cell_at start.now) (cell_at goal.now) near ends.now }
         ensures { OnOk result (IsTrailToEnd (field_of_grid grid.now) (cell_at start.now) (cell_at goal.now) trail.new.items) }
     {
-        let straight = self.go_back(alloc, grid, &Floor::Octile, trail, near, ends, start, goal)?;
-        if straight {
+        if self.go_back(alloc, grid, &Floor::Octile, trail, near, ends, start, goal)? {
+            return Ok(());
+        }
+        if self.dive(alloc, grid, trail, near, ends, start, goal)? {
             return Ok(());
         }
         self.search(alloc, grid, trail, near, ends, start, goal)
@@ -283,8 +269,40 @@ impl Searcher {
         found
     }
 
-    // Makes the trail back from the best of these ends by a search, as soon as it tells the way back.
-    #[inline(never)]
+    // Whether a way to one of these ends is found by a dive. If so, the trail is made of its cells, back from that end. False
+    // says nothing.
+    fn dive(
+        &mut self,
+        alloc: Global,
+        grid: &Grid,
+        trail: &mut Vec<Cell>,
+        near: u32,
+        ends: &[Cell],
+        start: &Point,
+        goal: &Point,
+    ) -> Result<bool, OutOfMemory>
+        requires start { IsTrue (is_inside grid.now.size start.now) }
+        requires goal { IsTrue (is_inside grid.now.size goal.now) }
+        requires ends { AreEnds (field_of_grid grid.now) (cell_at start.now) (cell_at goal.now) near ends.now }
+        ensures { IfOk result (λ found. found ≡ true → IsTrailToEnd (field_of_grid grid.now) (cell_at start.now) (cell_at goal.now) trail.new.items) }
+    {
+        let from = grid.cell_of(*start);
+        let to = grid.cell_of(*goal);
+        let aim = Aim { goal: to, near };
+        let (search, key, at_aim) = dive(alloc, grid, self.rooms.take(), aim, from)?;
+        if !at_aim {
+            self.rooms = Some(search);
+            return Ok(false);
+        }
+        let costs = &search.costs;
+        let floor = Floor::Known(Front { costs, aim, key });
+        let found = self.go_back(alloc, grid, &floor, trail, near, ends, start, goal);
+        self.rooms = Some(search);
+        found
+    }
+
+    // Makes the trail back from the best of these ends by a search, or where none is reached, from the best of all
+    // reached cells.
     fn search(
         &mut self,
         alloc: Global,
@@ -302,17 +320,18 @@ impl Searcher {
     {
         let from = grid.cell_of(*start);
         let to = grid.cell_of(*goal);
-        let aim = Aim { goal: to, near };
-        let mut search = started(alloc, grid, self.rooms.take(), aim, from)?;
-        let (key, at_aim) = dive(alloc, &mut search, grid, aim, estimate(aim, from))?;
-        let costs = &search.costs;
-        let floor = Floor::Known(Front { costs, aim, key });
-        if at_aim && self.go_back(alloc, grid, &floor, trail, near, ends, start, goal)? {
-            self.rooms = Some(search);
-            return Ok(());
-        }
-        let search = go_on(alloc, search, grid, aim, ends, key)?;
-        let end = way_end(grid, &search.costs, aim, ends, from);
+        let search = costs_to(
+            alloc,
+            grid,
+            self.rooms.take(),
+            Aim { goal: to, near },
+            ends,
+            from,
+        )?;
+        let end = match best_of(&search.costs, ends, to) {
+            Some(end) => end,
+            None => end_of(&search.costs, from, to),
+        };
         let found = trail_back(grid, &search.costs, trail, end, start, goal);
         self.rooms = Some(search);
         found

@@ -46,6 +46,7 @@ pub fn floor_at(floor: &Floor, start: Cell, cell: Cell) -> u32
 }
 
 // The same by what a search knows. The octile distance is reckoned only where it matters.
+#[inline(always)]
 fn known_at(front: &Front, start: Cell, cell: Cell) -> u32
     ensures { result ≡ floor_of (Floor.Known front.now) start cell }
 {
@@ -69,6 +70,7 @@ pub fn is_floor(floor: &Floor, start: Cell, cell: Cell, cost: u32) -> bool
 }
 
 // The same by what a search knows, of which as little is read as will do.
+#[inline(always)]
 fn is_known(front: &Front, start: Cell, cell: Cell, cost: u32) -> bool
     ensures { IsTrue result ↔ floor_of (Floor.Known front.now) start cell ≡ cost }
 {

@@ -22,6 +22,7 @@ use sim_base::{Cell, OutOfMemory};
 use sim_grid::Grid;
 
 // The cell in a direction from which a step makes up the floor of this one, if it isn't dead.
+#[inline(always)]
 fn tight_step(
     grid: &Grid,
     floor: &Floor,
