@@ -271,6 +271,7 @@ impl Searcher {
 
     // Whether a way to one of these ends is found by a dive. If so, the trail is made of its cells, back from that end. False
     // says nothing.
+    #[inline(never)]
     fn dive(
         &mut self,
         alloc: Global,

@@ -28,6 +28,7 @@ pub enum Floor<'a> {
 }
 
 // What is left of the key for a cell.
+#[inline(always)]
 fn left_at(front: &Front, cell: Cell) -> u32
     ensures { result ≡ front.now.key - estimate_to front.now.aim cell }
 {
