@@ -1,5 +1,5 @@
 -- A note changes what is kept of one id, and nothing else.
-use Rattle.std.proofs.Common.{◌≡◌, ℕ, ◌+◌, ◌<◌, ◌≤◌, Bool, true, false, cond, not, List, [], ◌∷◌, Option, Some, None, refl, sym, ap, ◌∙◌, subst, arith}
+use Rattle.std.proofs.Common.{◌≡◌, ℕ, ◌+◌, ◌<◌, Bool, true, false, cond, not, List, [], ◌∷◌, Option, Some, None, refl, sym, ap, ◌∙◌, subst, arith}
 use Rattle.std.specs.Prelude.{◌==◌, nat_lt, count_by, option_map, IfSome}
 use Rattle.std.specs.List.{cons_option}
 use Rattle.std.proofs.lemmas.Bool.{eqb-true, eq-eqb, ne_eqb}
@@ -11,10 +11,10 @@ use Rattle.sim_system.specs.declared.kind.Kind.TheVariants.{Ground, Range, Watch
 use Rattle.sim_system.specs.declared.note.Note.{Note}
 use Rattle.sim_system.specs.declared.note.Note.TheVariants.{Born, Gone, Moved, Owned, Aimed}
 use Rattle.sim_system.specs.Facts.{id_of_fact, kept, keeps, part_for, kept_of}
-use Rattle.sim_system.specs.Notes.{fact_with, without, placed, with_kept, with_changed, noted, aim_of, Agrees, NoteFits}
+use Rattle.sim_system.specs.Notes.{fact_with, without, placed, with_kept, with_changed, noted, aim_of, NoteFits}
 use Rattle.sim_fact_lists.specs.Places.{with_only}
 use Rattle.sim_fact_lists.specs.Changes.{id_in, passes, one_if, part_noted}
-use Rattle.sim_fact_lists.proofs.Rising.{Above, Rising, Missing, missing_above, missing_found, missing_without, not_found, without_missing, found_id, rising_without, rising_placed, rising_changed, placed_first, only_itself}
+use Rattle.sim_fact_lists.proofs.Rising.{Above, Rising, Missing, missing_above, missing_found, missing_without, not_found, without_missing, rising_without, rising_placed, rising_changed, only_itself}
 
 -- the facts before and after agree but for one id
 pub record OnlyAt (id : ℕ) (facts after : List Fact) : Type 0 where

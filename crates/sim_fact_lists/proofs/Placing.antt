@@ -1,11 +1,10 @@
 -- What is kept of several facts, one after another.
-use Rattle.std.proofs.Common.{◌≡◌, ℕ, zero, suc, ◌+◌, ◌<◌, ◌≤◌, Bool, true, false, cond, List, [], ◌∷◌, ◌++◌, length, map, take, drop, get_or, set, refl, sym, ap, ◌∙◌, arith}
-use Rattle.std.specs.Prelude.{Option, Some, None, nat_lt}
+use Rattle.std.proofs.Common.{◌≡◌, ℕ, zero, suc, ◌+◌, ◌<◌, List, [], ◌∷◌, ◌++◌, length, take, get_or, refl, sym, ap, ◌∙◌, arith}
+use Rattle.std.specs.Prelude.{Option, Some, None}
 use Rattle.std.specs.List.{cons_option}
 use Rattle.sim_system.specs.declared.fact.Fact.{Fact}
 use Rattle.sim_system.specs.declared.kind.Kind.{Kind}
 use Rattle.sim_system.specs.Facts.{kept, kept_of}
-use Rattle.sim_system.specs.Notes.{placed}
 
 -- what is kept of one fact more
 cons_option-append : (o : Option Fact) (xs ys : List Fact) → cons_option o (xs ++ ys) ≡ cons_option o xs ++ ys

@@ -3,11 +3,12 @@
 ghost use Rattle.std.specs.Prelude.{◌≡◌, None, [], IfOk};
 ghost use Rattle.sim_system.specs.declared.kind.Kind.TheVariants.{Watch as WatchKind};
 ghost use Rattle.sim_system.specs.Answers.{watchers_among};
-ghost use Rattle.sim_watch.specs.Lists.{AreAims};
+ghost use Rattle.sim_fact_lists.specs.Groups.{AreGroups};
+ghost use Rattle.sim_watch.specs.Lists.{aim_key};
 
-use crate::aims::Aims;
+use crate::aims::{aims_of, join, leave};
 use sim_base::{Ids, Land, OutOfMemory};
-use sim_fact_lists::{Kept, id_of, part_after};
+use sim_fact_lists::{Groups, Kept, id_of, part_after};
 use sim_system::{Answer, Ask, Fact, Kind, Note, System};
 use std::alloc::Global;
 
@@ -15,8 +16,8 @@ use std::alloc::Global;
 #[derive(Drop)]
 pub struct Watch {
     kept: Kept,
-    aims: Aims,
-    ghost listed: { AreAims kept.facts.items aims.targets.items aims.ids.items },
+    aims: Groups,
+    ghost listed: { AreGroups aim_key kept.facts.items aims.keys.items aims.ids.items },
 }
 
 impl Watch {
@@ -26,7 +27,7 @@ impl Watch {
     {
         Watch {
             kept: Kept::new(alloc),
-            aims: Aims::new(alloc),
+            aims: Groups::new(alloc),
         }
     }
 
@@ -47,13 +48,13 @@ impl System for Watch {
 
     fn clear(&mut self) {
         self.kept.clear();
-        self.aims = Aims::new(self.kept.alloc);
+        self.aims = Groups::new(self.kept.alloc);
     }
 
     fn rebuild(&mut self, land: &Land, facts: &[Fact]) -> Result<(), OutOfMemory> {
-        self.aims = Aims::new(self.kept.alloc);
+        self.aims = Groups::new(self.kept.alloc);
         self.kept.rebuild(Kind::Watch, land, facts)?;
-        match Aims::of_facts(self.kept.alloc, self.kept.facts.as_slice()) {
+        match aims_of(self.kept.alloc, self.kept.facts.as_slice()) {
             Ok(aims) => self.aims = aims,
             Err(error) => {
                 self.kept.clear();
@@ -68,8 +69,8 @@ impl System for Watch {
         let after = part_after(Kind::Watch, before, note);
         self.aims.make_room()?;
         self.kept.on(Kind::Watch, note)?;
-        self.aims.leave(&before);
-        self.aims.join(&after);
+        leave(&mut self.aims, &before);
+        join(&mut self.aims, &after);
         Ok(())
     }
 

@@ -1,6 +1,6 @@
 -- What is put in place of the id makes the list that the note makes.
 use Rattle.std.proofs.Common.{◌∙◌}
-use Rattle.sim_fact_lists.proofs.Holding.{still_held, held_ascend, has_land, put_named, put_is, on_ok}
+use Rattle.sim_fact_lists.proofs.Holding.{still_held, put_named, put_is, on_ok}
 use Rattle.sim_fact_lists.proofs.kept.Kept.on.Goals as goal
 
 pub put-requires-clause-named : goal.put-requires-clause-named

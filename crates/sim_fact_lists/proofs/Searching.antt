@@ -6,19 +6,19 @@ use Rattle.std.specs.Ordering.{nat_cmp}
 use Rattle.std.proofs.lemmas.Bool.{cases_lt}
 use Rattle.std.proofs.lemmas.Bool.Decides.{nat_tests}
 use Rattle.std.proofs.lemmas.List.Sorted.{IsNonDecreasingBy-from_default, searched}
-use Rattle.sim_watch.specs.Pairs.{listed, IsBefore, Ascend, IsStretch, Stands, Belongs}
-use Rattle.sim_watch.proofs.Pairs.{part_listed}
+use Rattle.sim_fact_lists.specs.Groups.{listed, IsBefore, PairsAscend, IsStretch, PairStands, PairBelongs}
+use Rattle.sim_fact_lists.proofs.Pairs.{part_listed}
 
-module _ (us js : List ℕ) (up : Ascend us js) where
-  targets_by : (i j : ℕ) → i ≤ j → j < length us → get_or us i 0 ≤ get_or us j 0
-  targets_by i j le lt =
+module _ (us js : List ℕ) (up : PairsAscend us js) where
+  keys_by : (i j : ℕ) → i ≤ j → j < length us → get_or us i 0 ≤ get_or us j 0
+  keys_by i j le lt =
       elim (cases_lt i j) [
         | inl before ↦ (up.each i j before lt).lower
         | inr same ↦ (let e : i ≡ j = omega arith in omega (arith, ap (λ (n : ℕ). get_or us n 0) e))
       ]
 
-  pub targets_rise : IsNonDecreasingBy (λ (n : ℕ). n) us
-  targets_rise = IsNonDecreasingBy-from_default (λ (n : ℕ). n) us 0 targets_by
+  pub keys_rise : IsNonDecreasingBy (λ (n : ℕ). n) us
+  keys_rise = IsNonDecreasingBy-from_default (λ (n : ℕ). n) us 0 keys_by
 
   pub stretch_is : (t first end : ℕ) → first ≤ length us → end ≤ length us → IsPartitionPoint (λ (y : ℕ). nat_lt y t ≡ true) (λ (y : ℕ). nat_lt y t ≡ false) us first →
       IsPartitionPoint (λ (y : ℕ). nat_le y t ≡ true) (λ (y : ℕ). nat_le y t ≡ false) us end → IsStretch us t first end
@@ -66,14 +66,14 @@ module _ (us js : List ℕ) (up : Ascend us js) where
           | inr same ↦ (let e : i ≡ j = omega arith in omega (arith, ap (λ (n : ℕ). get_or (take (end - first) (drop first js)) n 0) e))
         ]
 
-    -- what a search among those of the target says of all pairs
-    pub found_in : (i : ℕ) (r : Result ℕ ℕ) → IsBinarySearchResult (λ (y : ℕ). nat_cmp y i) (take (end - first) (drop first js)) r → MatchResult r (λ at. Stands us js t i (first + at)) (λ at. Belongs us js t i (first + at))
+    -- what a search among those of the key says of all pairs
+    pub found_in : (i : ℕ) (r : Result ℕ ℕ) → IsBinarySearchResult (λ (y : ℕ). nat_cmp y i) (take (end - first) (drop first js)) r → MatchResult r (λ at. PairStands us js t i (first + at)) (λ at. PairBelongs us js t i (first + at))
     found_in i (Ok at) h =
         let there = searched (take (end - first) (drop first js)) i (Ok at) h ids_rise in
         let short : at < end - first = omega (arith, there.0, room) in
         record {
           within = omega (arith, short, s.within);
-          target = s.among (first + at) (omega arith) (omega (arith, short));
+          key = s.among (first + at) (omega arith) (omega (arith, short));
           id = sym (ids_of at short) ∙ there.1;
         }
     found_in i (Err at) h =

@@ -1,9 +1,9 @@
--- Pairs in order: those of one target stand together, and one pair more or fewer changes the ids of its target alone.
+-- Pairs in order: those of one key stand together, and one pair more or fewer changes the ids of its key alone.
 use Rattle.std.proofs.Common.{◌≡◌, ℕ, zero, suc, ◌+◌, ◌<◌, ◌≤◌, Bool, true, false, cond, List, [], ◌∷◌, length, get_or, take, drop, refl, sym, ap, ◌∙◌, subst, arith, inl, inr}
 use Rattle.std.specs.Prelude.{◌==◌, nat_lt}
 use Rattle.std.specs.List.{insert, remove}
 use Rattle.std.proofs.lemmas.Bool.{eqb-true, eq-eqb, ne_eqb, lt-ltb, le-ltb, cases_lt}
-use Rattle.sim_watch.specs.Pairs.{listed, IsBefore, Ascend, IsStretch, Stands, Belongs, without_id, with_id}
+use Rattle.sim_fact_lists.specs.Groups.{listed, IsBefore, PairsAscend, IsStretch, PairStands, PairBelongs, without_id, with_id}
 
 -- all of the ids are above a number
 abbrev pub Above : ℕ → List ℕ → Type 0
@@ -41,7 +41,7 @@ rising_by (u ∷ us) (j ∷ js) same h = (
   rising_by us js (omega (arith, same)) (λ k l before lt. h (suc k) (suc l) (omega arith) (omega arith)),
 )
 
-pub rising : (us js : List ℕ) → Ascend us js → Rising us js
+pub rising : (us js : List ℕ) → PairsAscend us js → Rising us js
 rising us js h = rising_by us js h.same h.each
 
 behind_at : (t i : ℕ) (us js : List ℕ) (k : ℕ) → Behind t i us js → k < length us → IsBefore t i (get_or us k 0) (get_or js k 0)
@@ -65,10 +65,10 @@ each_by (u ∷ us) (j ∷ js) r k zero before lt = absurd (omega arith)
 each_by (u ∷ us) (j ∷ js) r zero (suc l) before lt = behind_at u j us js l r.0 (omega arith)
 each_by (u ∷ us) (j ∷ js) r (suc k) (suc l) before lt = each_by us js r.1 k l (omega arith) (omega arith)
 
-pub ascends : (us js : List ℕ) → Rising us js → Ascend us js
+pub ascends : (us js : List ℕ) → Rising us js → PairsAscend us js
 ascends us js r = record { same = same_length us js r; each = each_by us js r }
 
--- ---- ids of a target
+-- ---- ids of a key
 
 without_above : (i : ℕ) (xs : List ℕ) → Above i xs → without_id i xs ≡ xs
 without_above i [] a = refl
@@ -94,7 +94,7 @@ listed_above t i (u ∷ us) (j ∷ js) b = by (u == t) refl (listed_above t i us
     by true e rest = (b.0.along (sym (eqb-true u t e)), rest)
     by false e rest = rest
 
--- ---- those of a target stand together
+-- ---- those of a key stand together
 
 none_listed : (t : ℕ) (us js : List ℕ) → ((k : ℕ) → k < length us → t < get_or us k 0) → listed t us js ≡ []
 none_listed t [] js h = refl
@@ -135,17 +135,17 @@ part_listed (u ∷ us) (j ∷ js) t (suc first) n same s =
 
 -- ---- a pair more
 
-next_belongs : (u j : ℕ) (us js : List ℕ) (t i p : ℕ) → Belongs (u ∷ us) (j ∷ js) t i (suc p) → Belongs us js t i p
+next_belongs : (u j : ℕ) (us js : List ℕ) (t i p : ℕ) → PairBelongs (u ∷ us) (j ∷ js) t i (suc p) → PairBelongs us js t i p
 next_belongs u j us js t i p b = record {
   within = omega (arith, b.within);
   before = λ k lt. b.before (suc k) (omega arith);
   behind = λ k le lt. b.behind (suc k) (omega arith) (omega arith);
 }
 
-all_behind : (us js : List ℕ) (t i : ℕ) → length js ≡ length us → Belongs us js t i zero → Behind t i us js
+all_behind : (us js : List ℕ) (t i : ℕ) → length js ≡ length us → PairBelongs us js t i zero → Behind t i us js
 all_behind us js t i same b = behind_by t i us js same (λ k lt. b.behind k (omega arith) lt)
 
-inserted_listed : (us js : List ℕ) (t i p : ℕ) → length js ≡ length us → Belongs us js t i p → listed t (insert us p t) (insert js p i) ≡ with_id i (listed t us js)
+inserted_listed : (us js : List ℕ) (t i p : ℕ) → length js ≡ length us → PairBelongs us js t i p → listed t (insert us p t) (insert js p i) ≡ with_id i (listed t us js)
 inserted_listed [] [] t i zero same b = let itself : (t == t) ≡ true = eq-eqb t t refl in rw itself refl
 inserted_listed [] [] t i (suc p) same b = absurd (omega (arith, b.within))
 inserted_listed [] (j ∷ js) t i p same b = absurd (omega (arith, same))
@@ -176,7 +176,7 @@ behind_inserted u j (v ∷ vs) [] t i p first b le = absurd b
 behind_inserted u j (v ∷ vs) (k ∷ ks) t i zero first b le = (first, b)
 behind_inserted u j (v ∷ vs) (k ∷ ks) t i (suc p) first b le = (b.0, behind_inserted u j vs ks t i p first b.1 (omega (arith, le)))
 
-pub rising_inserted : (us js : List ℕ) (t i p : ℕ) → Rising us js → Belongs us js t i p → Rising (insert us p t) (insert js p i)
+pub rising_inserted : (us js : List ℕ) (t i p : ℕ) → Rising us js → PairBelongs us js t i p → Rising (insert us p t) (insert js p i)
 rising_inserted [] [] t i zero r b = (tt, tt)
 rising_inserted [] [] t i (suc p) r b = absurd (omega (arith, b.within))
 rising_inserted [] (j ∷ js) t i p r b = absurd r
@@ -189,21 +189,21 @@ rising_inserted (u ∷ us) (j ∷ js) t i (suc p) r b = (
 
 -- ---- a pair fewer
 
-next_stands : (u j : ℕ) (us js : List ℕ) (t i p : ℕ) → Stands (u ∷ us) (j ∷ js) t i (suc p) → Stands us js t i p
-next_stands u j us js t i p s = record { within = omega (arith, s.within); target = s.target; id = s.id }
+next_stands : (u j : ℕ) (us js : List ℕ) (t i p : ℕ) → PairStands (u ∷ us) (j ∷ js) t i (suc p) → PairStands us js t i p
+next_stands u j us js t i p s = record { within = omega (arith, s.within); key = s.key; id = s.id }
 
--- one of the same target that stands before has a lower id
-earlier : (u j : ℕ) (us js : List ℕ) (t i p : ℕ) → Behind u j us js → Stands us js t i p → u ≡ t → j < i
-earlier u j us js t i p b s e = let first = behind_at u j us js p b s.within in let lt = first.along (e ∙ sym s.target) in omega (arith, lt, s.id)
+-- one of the same key that stands before has a lower id
+earlier : (u j : ℕ) (us js : List ℕ) (t i p : ℕ) → Behind u j us js → PairStands us js t i p → u ≡ t → j < i
+earlier u j us js t i p b s e = let first = behind_at u j us js p b s.within in let lt = first.along (e ∙ sym s.key) in omega (arith, lt, s.id)
 
-removed_listed : (us js : List ℕ) (t i p : ℕ) → Rising us js → Stands us js t i p → listed t (remove us p) (remove js p) ≡ without_id i (listed t us js)
+removed_listed : (us js : List ℕ) (t i p : ℕ) → Rising us js → PairStands us js t i p → listed t (remove us p) (remove js p) ≡ without_id i (listed t us js)
 removed_listed [] [] t i p r s = absurd (omega (arith, s.within))
 removed_listed [] (j ∷ js) t i p r s = absurd r
 removed_listed (u ∷ us) [] t i p r s = absurd r
 removed_listed (u ∷ us) (j ∷ js) t i zero r s =
-    let here : (u == t) ≡ true = eq-eqb u t s.target in
+    let here : (u == t) ≡ true = eq-eqb u t s.key in
     let it : (j == i) ≡ true = eq-eqb j i s.id in
-    let behind : Behind t i us js = subst (λ (n : ℕ). Behind t n us js) s.id (subst (λ (n : ℕ). Behind n j us js) s.target r.0) in
+    let behind : Behind t i us js = subst (λ (n : ℕ). Behind t n us js) s.id (subst (λ (n : ℕ). Behind n j us js) s.key r.0) in
     rw here (rw it (sym (without_above i (listed t us js) (listed_above t i us js behind))))
 removed_listed (u ∷ us) (j ∷ js) t i (suc p) r s = by (u == t) refl (removed_listed us js t i p r.1 (next_stands u j us js t i p s))
   where
@@ -215,11 +215,11 @@ removed_listed (u ∷ us) (j ∷ js) t i (suc p) r s = by (u == t) refl (removed
         rw other (ap (λ (xs : List ℕ). j ∷ xs) rest)
     by false e rest = rest
 
-removed_others : (us js : List ℕ) (t s i p : ℕ) → (t ≡ s → ⊥) → length js ≡ length us → Stands us js t i p → listed s (remove us p) (remove js p) ≡ listed s us js
+removed_others : (us js : List ℕ) (t s i p : ℕ) → (t ≡ s → ⊥) → length js ≡ length us → PairStands us js t i p → listed s (remove us p) (remove js p) ≡ listed s us js
 removed_others [] [] t s i p differ same h = absurd (omega (arith, h.within))
 removed_others [] (j ∷ js) t s i p differ same h = absurd (omega (arith, same))
 removed_others (u ∷ us) [] t s i p differ same h = absurd (omega (arith, same))
-removed_others (u ∷ us) (j ∷ js) t s i zero differ same h = let other : (u == s) ≡ false = ne_eqb u s (λ e. differ (sym h.target ∙ e)) in rw other refl
+removed_others (u ∷ us) (j ∷ js) t s i zero differ same h = let other : (u == s) ≡ false = ne_eqb u s (λ e. differ (sym h.key ∙ e)) in rw other refl
 removed_others (u ∷ us) (j ∷ js) t s i (suc p) differ same h = ap (λ (xs : List ℕ). cond (u == s) (j ∷ xs) xs) (removed_others us js t s i p differ (omega (arith, same)) (next_stands u j us js t i p h))
 
 behind_removed : (u j : ℕ) (us js : List ℕ) (p : ℕ) → Behind u j us js → p < length us → Behind u j (remove us p) (remove js p)
@@ -238,12 +238,12 @@ rising_removed (u ∷ us) (j ∷ js) (suc p) r lt = (behind_removed u j us js p 
 
 -- ---- a pair that is there already, and one that is not there
 
-with_there : (us js : List ℕ) (t i p : ℕ) → Rising us js → Stands us js t i p → with_id i (listed t us js) ≡ listed t us js
+with_there : (us js : List ℕ) (t i p : ℕ) → Rising us js → PairStands us js t i p → with_id i (listed t us js) ≡ listed t us js
 with_there [] [] t i p r s = absurd (omega (arith, s.within))
 with_there [] (j ∷ js) t i p r s = absurd r
 with_there (u ∷ us) [] t i p r s = absurd r
 with_there (u ∷ us) (j ∷ js) t i zero r s =
-    let here : (u == t) ≡ true = eq-eqb u t s.target in
+    let here : (u == t) ≡ true = eq-eqb u t s.key in
     rw here (subst (λ (n : ℕ). with_id n (j ∷ listed t us js) ≡ j ∷ listed t us js) s.id (with_itself j (listed t us js)))
 with_there (u ∷ us) (j ∷ js) t i (suc p) r s = by (u == t) refl (with_there us js t i p r.1 (next_stands u j us js t i p s))
   where
@@ -261,39 +261,65 @@ without_missing (u ∷ us) (j ∷ js) t i same h = by (u == t) refl (without_mis
     by true e rest = let other : (j == i) ≡ false = ne_eqb j i (h zero (omega arith) (eqb-true u t e)) in rw other (ap (λ (xs : List ℕ). j ∷ xs) rest)
     by false e rest = rest
 
-belongs_apart : (us js : List ℕ) (t i p : ℕ) → Belongs us js t i p → (k : ℕ) → k < length us → get_or us k 0 ≡ t → get_or js k 0 ≡ i → ⊥
-belongs_apart us js t i p b k lt target id =
+belongs_apart : (us js : List ℕ) (t i p : ℕ) → PairBelongs us js t i p → (k : ℕ) → k < length us → get_or us k 0 ≡ t → get_or js k 0 ≡ i → ⊥
+belongs_apart us js t i p b k lt key id =
     elim (cases_lt k p) [
-      | inl before ↦ (let h = (b.before k before).along target in omega (arith, h, id))
-      | inr le ↦ (let h = (b.behind k (omega arith) lt).along (sym target) in omega (arith, h, id))
+      | inl before ↦ (let h = (b.before k before).along key in omega (arith, h, id))
+      | inr le ↦ (let h = (b.behind k (omega arith) lt).along (sym key) in omega (arith, h, id))
     ]
 
--- ---- for each target
+-- ---- for each key
 
-pub put_in : (us js : List ℕ) (t i p : ℕ) → Ascend us js → Belongs us js t i p → (s : ℕ) → listed s (insert us p t) (insert js p i) ≡ cond (t == s) (with_id i (listed s us js)) (listed s us js)
+pub put_in : (us js : List ℕ) (t i p : ℕ) → PairsAscend us js → PairBelongs us js t i p → (s : ℕ) → listed s (insert us p t) (insert js p i) ≡ cond (t == s) (with_id i (listed s us js)) (listed s us js)
 put_in us js t i p up b s = by (t == s) refl
   where
     by : (c : Bool) → (t == s) ≡ c → listed s (insert us p t) (insert js p i) ≡ cond c (with_id i (listed s us js)) (listed s us js)
     by true e = let same : t ≡ s = eqb-true t s e in subst (λ (n : ℕ). listed n (insert us p t) (insert js p i) ≡ with_id i (listed n us js)) same (inserted_listed us js t i p up.same b)
     by false e = inserted_others us js t s i p (λ same. let yes : (t == s) ≡ true = eq-eqb t s same in absurd (cc)) up.same b.within
 
-pub put_again : (us js : List ℕ) (t i p : ℕ) → Ascend us js → Stands us js t i p → (s : ℕ) → listed s us js ≡ cond (t == s) (with_id i (listed s us js)) (listed s us js)
+pub put_again : (us js : List ℕ) (t i p : ℕ) → PairsAscend us js → PairStands us js t i p → (s : ℕ) → listed s us js ≡ cond (t == s) (with_id i (listed s us js)) (listed s us js)
 put_again us js t i p up h s = by (t == s) refl
   where
     by : (c : Bool) → (t == s) ≡ c → listed s us js ≡ cond c (with_id i (listed s us js)) (listed s us js)
     by true e = let same : t ≡ s = eqb-true t s e in subst (λ (n : ℕ). listed n us js ≡ with_id i (listed n us js)) same (sym (with_there us js t i p (rising us js up) h))
     by false e = refl
 
-pub taken_out : (us js : List ℕ) (t i p : ℕ) → Ascend us js → Stands us js t i p → (s : ℕ) → listed s (remove us p) (remove js p) ≡ cond (t == s) (without_id i (listed s us js)) (listed s us js)
+pub taken_out : (us js : List ℕ) (t i p : ℕ) → PairsAscend us js → PairStands us js t i p → (s : ℕ) → listed s (remove us p) (remove js p) ≡ cond (t == s) (without_id i (listed s us js)) (listed s us js)
 taken_out us js t i p up h s = by (t == s) refl
   where
     by : (c : Bool) → (t == s) ≡ c → listed s (remove us p) (remove js p) ≡ cond c (without_id i (listed s us js)) (listed s us js)
     by true e = let same : t ≡ s = eqb-true t s e in subst (λ (n : ℕ). listed n (remove us p) (remove js p) ≡ without_id i (listed n us js)) same (removed_listed us js t i p (rising us js up) h)
     by false e = removed_others us js t s i p (λ same. let yes : (t == s) ≡ true = eq-eqb t s same in absurd (cc)) up.same h
 
-pub not_there : (us js : List ℕ) (t i p : ℕ) → Ascend us js → Belongs us js t i p → (s : ℕ) → listed s us js ≡ cond (t == s) (without_id i (listed s us js)) (listed s us js)
+pub not_there : (us js : List ℕ) (t i p : ℕ) → PairsAscend us js → PairBelongs us js t i p → (s : ℕ) → listed s us js ≡ cond (t == s) (without_id i (listed s us js)) (listed s us js)
 not_there us js t i p up b s = by (t == s) refl
   where
     by : (c : Bool) → (t == s) ≡ c → listed s us js ≡ cond c (without_id i (listed s us js)) (listed s us js)
     by true e = let same : t ≡ s = eqb-true t s e in subst (λ (n : ℕ). listed n us js ≡ without_id i (listed n us js)) same (sym (without_missing us js t i up.same (belongs_apart us js t i p b)))
     by false e = refl
+
+-- ---- what the two edits of a pair leave
+
+ok_items : (b : Bool) (xs ys zs : List ℕ) → b ≡ true → zs ≡ cond b ys xs → zs ≡ ys
+ok_items b xs ys zs ok is = is ∙ ap (λ (c : Bool). cond c ys xs) ok
+
+module _ (us js : List ℕ) (t i p : ℕ) (up : PairsAscend us js) where
+  module _ (vs ks : List ℕ) (a b : Bool) (h : PairBelongs us js t i p) (ok : a ≡ true) (also : b ≡ true) (first : vs ≡ cond a (insert us p t) us) (second : ks ≡ cond b (insert js p i) js) where
+    one : vs ≡ insert us p t
+    one = ok_items a us (insert us p t) vs ok first
+
+    two : ks ≡ insert js p i
+    two = ok_items b js (insert js p i) ks also second
+
+    pub join_new : (s : ℕ) → listed s vs ks ≡ cond (t == s) (with_id i (listed s us js)) (listed s us js)
+    join_new s = ap (λ (xs : List ℕ). listed s xs ks) one ∙ ap (λ (xs : List ℕ). listed s (insert us p t) xs) two ∙ put_in us js t i p up h s
+
+    pub join_ascends : PairsAscend vs ks
+    join_ascends = subst (λ (xs : List ℕ). PairsAscend xs ks) (sym one) (subst (PairsAscend (insert us p t)) (sym two) (ascends (insert us p t) (insert js p i) (rising_inserted us js t i p (rising us js up) h)))
+
+  module _ (vs ks : List ℕ) (h : PairStands us js t i p) (one : vs ≡ remove us p) (two : ks ≡ remove js p) where
+    pub leave_there : (s : ℕ) → listed s vs ks ≡ cond (t == s) (without_id i (listed s us js)) (listed s us js)
+    leave_there s = ap (λ (xs : List ℕ). listed s xs ks) one ∙ ap (λ (xs : List ℕ). listed s (remove us p) xs) two ∙ taken_out us js t i p up h s
+
+    pub leave_ascends : PairsAscend vs ks
+    leave_ascends = subst (λ (xs : List ℕ). PairsAscend xs ks) (sym one) (subst (PairsAscend (remove us p)) (sym two) (ascends (remove us p) (remove js p) (rising_removed us js p (rising us js up) h.within)))

@@ -1,0 +1,164 @@
+-- The groups that are kept are those of the facts, also after a note.
+use Rattle.std.proofs.Common.{◌≡◌, ℕ, zero, suc, ◌+◌, ◌<◌, ◌≤◌, Bool, true, false, cond, not, List, [], ◌∷◌, length, map, get_or, take, Option, Some, None, refl, sym, ap, ◌∙◌, subst, arith}
+use Rattle.std.specs.Prelude.{◌==◌, nat_lt, filter, IfSome, MatchOption}
+use Rattle.std.proofs.lemmas.Bool.{eqb-true}
+use Rattle.sim_base.specs.declared.setup.Land.{Land}
+use Rattle.sim_system.specs.declared.fact.Fact.{Fact}
+use Rattle.sim_system.specs.declared.kind.Kind.{Kind}
+use Rattle.sim_system.specs.declared.note.Note.{Note}
+use Rattle.sim_system.specs.Facts.{id_of_fact}
+use Rattle.sim_system.specs.Notes.{fact_with, without, placed, with_kept, noted, NoteFits}
+use Rattle.sim_fact_lists.specs.Places.{Ascend, HoldsIfAny, with_only}
+use Rattle.sim_fact_lists.specs.Changes.{id_in, part_noted}
+use Rattle.sim_fact_lists.specs.Groups.{listed, without_id, with_id, left_by, joined_by, keyed, AreGroups}
+use Rattle.sim_fact_lists.proofs.Rising.{Above as FactsAbove, Rising as FactsRising, Missing, rising as facts_rising, above_less, above_at, missing_above, missing_without, not_found, without_missing, found_id, rising_without}
+use Rattle.sim_fact_lists.proofs.Holding.{put_is, put_named}
+use Rattle.sim_fact_lists.proofs.Pairs.{Above, with_first, with_behind}
+
+-- by any key
+module _ (key : Fact → ℕ) where
+  -- one fact more in front
+  keyed-cons : (t : ℕ) (f : Fact) (facts : List Fact) → keyed key t (f ∷ facts) ≡ cond (key f == t) (f.id ∷ keyed key t facts) (keyed key t facts)
+  keyed-cons t f facts = by (key f == t)
+    where
+      by : (c : Bool) → map id_of_fact (cond c (f ∷ filter (λ (g : Fact). key g == t) facts) (filter (λ (g : Fact). key g == t) facts)) ≡ cond c (f.id ∷ keyed key t facts) (keyed key t facts)
+      by true = refl
+      by false = refl
+
+  -- the ids of facts that are above a number
+  keyed_above : (n t : ℕ) (facts : List Fact) → FactsAbove n facts → Above n (keyed key t facts)
+  keyed_above n t [] a = tt
+  keyed_above n t (f ∷ facts) a = subst (Above n) (sym (keyed-cons t f facts)) (by (key f == t) (keyed_above n t facts a.1))
+    where
+      by : (c : Bool) → Above n (keyed key t facts) → Above n (cond c (f.id ∷ keyed key t facts) (keyed key t facts))
+      by true rest = (a.0, rest)
+      by false rest = rest
+
+  -- ---- an entity leaves
+
+  keyed_without : (t id : ℕ) (facts : List Fact) → keyed key t (without id facts) ≡ without_id id (keyed key t facts)
+  keyed_without t id [] = refl
+  keyed_without t id (f ∷ facts) = by (f.id == id) refl (keyed_without t id facts) ∙ sym (ap (without_id id) (keyed-cons t f facts))
+    where
+      gone : (c : Bool) → (f.id == id) ≡ true → keyed key t (without id facts) ≡ without_id id (keyed key t facts) → keyed key t (without id facts) ≡ without_id id (cond c (f.id ∷ keyed key t facts) (keyed key t facts))
+      gone true e rest = rw e rest
+      gone false e rest = rest
+
+      stays : (c : Bool) → (f.id == id) ≡ false → keyed key t (without id facts) ≡ without_id id (keyed key t facts) →
+          cond c (f.id ∷ keyed key t (without id facts)) (keyed key t (without id facts)) ≡ without_id id (cond c (f.id ∷ keyed key t facts) (keyed key t facts))
+      stays true e rest = rw e (ap (λ (xs : List ℕ). f.id ∷ xs) rest)
+      stays false e rest = rest
+
+      by : (b : Bool) → (f.id == id) ≡ b → keyed key t (without id facts) ≡ without_id id (keyed key t facts) →
+          keyed key t (cond (not b) (f ∷ without id facts) (without id facts)) ≡ without_id id (cond (key f == t) (f.id ∷ keyed key t facts) (keyed key t facts))
+      by true e rest = gone (key f == t) e rest
+      by false e rest = keyed-cons t f (without id facts) ∙ stays (key f == t) e rest
+
+  -- it is in no group but that of its key
+  keyed_others : (t id : ℕ) (facts : List Fact) (f : Fact) → FactsRising facts → fact_with facts id ≡ Some f → (key f == t) ≡ false → keyed key t (without id facts) ≡ keyed key t facts
+  keyed_others t id [] f r found other = refl
+  keyed_others t id (g ∷ facts) f r found other = by (g.id == id) refl found (keyed_others t id facts f r.1)
+    where
+      by : (b : Bool) → (g.id == id) ≡ b → cond b (Some g) (fact_with facts id) ≡ Some f → (fact_with facts id ≡ Some f → (key f == t) ≡ false → keyed key t (without id facts) ≡ keyed key t facts) →
+          keyed key t (cond (not b) (g ∷ without id facts) (without id facts)) ≡ keyed key t (g ∷ facts)
+      by true e s rest =
+          let same : g ≡ f = cc in
+          let here : (key g == t) ≡ false = ap (λ (h : Fact). key h == t) same ∙ other in
+          let above : FactsAbove id facts = subst (λ (n : ℕ). FactsAbove n facts) (eqb-true g.id id e) r.0 in
+          ap (keyed key t) (missing_without id facts (missing_above id facts above)) ∙ sym (keyed-cons t g facts ∙ ap (λ (c : Bool). cond c (g.id ∷ keyed key t facts) (keyed key t facts)) here)
+      by false e s rest = keyed-cons t g (without id facts) ∙ ap (λ (xs : List ℕ). cond (key g == t) (g.id ∷ xs) xs) (rest s other) ∙ sym (keyed-cons t g facts)
+
+  left_is : (t id : ℕ) (facts : List Fact) → FactsRising facts → left_by key (fact_with facts id) t (keyed key t facts) ≡ keyed key t (without id facts)
+  left_is t id facts r = by (fact_with facts id) refl
+    where
+      by : (o : Option Fact) → fact_with facts id ≡ o → left_by key o t (keyed key t facts) ≡ keyed key t (without id facts)
+      by None e = sym (ap (keyed key t) (missing_without id facts (not_found id facts e)))
+      by (Some f) e = on (key f == t) refl
+        where
+          named : f.id ≡ id
+          named = found_id id facts f e
+
+          on : (c : Bool) → (key f == t) ≡ c → cond c (without_id f.id (keyed key t facts)) (keyed key t facts) ≡ keyed key t (without id facts)
+          on true s = ap (λ (n : ℕ). without_id n (keyed key t facts)) named ∙ sym (keyed_without t id facts)
+          on false s = sym (keyed_others t id facts f r e s)
+
+  -- ---- an entity comes
+
+  keyed_placed : (t : ℕ) (f : Fact) (facts : List Fact) → FactsRising facts → Missing f.id facts → keyed key t (placed f facts) ≡ cond (key f == t) (with_id f.id (keyed key t facts)) (keyed key t facts)
+  keyed_placed t f [] r m = keyed-cons t f []
+  keyed_placed t f (g ∷ facts) r m = by (nat_lt f.id g.id) refl (keyed_placed t f facts r.1 m.1)
+    where
+      first : nat_lt f.id g.id ≡ true → (c : Bool) → cond c (f.id ∷ keyed key t (g ∷ facts)) (keyed key t (g ∷ facts)) ≡ cond c (with_id f.id (keyed key t (g ∷ facts))) (keyed key t (g ∷ facts))
+      first e true = let lt : f.id < g.id = grind arith in sym (with_first f.id (keyed key t (g ∷ facts)) (keyed_above f.id t (g ∷ facts) (lt, above_less f.id g.id facts (omega (arith, lt)) r.0)))
+      first e false = refl
+
+      behind : g.id < f.id → (b c : Bool) → keyed key t (placed f facts) ≡ cond c (with_id f.id (keyed key t facts)) (keyed key t facts) →
+          cond b (g.id ∷ keyed key t (placed f facts)) (keyed key t (placed f facts)) ≡ cond c (with_id f.id (cond b (g.id ∷ keyed key t facts) (keyed key t facts))) (cond b (g.id ∷ keyed key t facts) (keyed key t facts))
+      behind lt true true e = ap (λ (xs : List ℕ). g.id ∷ xs) e ∙ sym (with_behind f.id g.id (keyed key t facts) lt)
+      behind lt true false e = ap (λ (xs : List ℕ). g.id ∷ xs) e
+      behind lt false true e = e
+      behind lt false false e = e
+
+      by : (b : Bool) → nat_lt f.id g.id ≡ b → keyed key t (placed f facts) ≡ cond (key f == t) (with_id f.id (keyed key t facts)) (keyed key t facts) →
+          keyed key t (cond b (f ∷ g ∷ facts) (g ∷ placed f facts)) ≡ cond (key f == t) (with_id f.id (keyed key t (g ∷ facts))) (keyed key t (g ∷ facts))
+      by true e rest = keyed-cons t f (g ∷ facts) ∙ first e (key f == t)
+      by false e rest =
+          let le : g.id ≤ f.id = grind arith in
+          let apart : g.id ≡ f.id → ⊥ = m.0 in
+          let lt : g.id < f.id = omega (arith, le, apart) in
+          keyed-cons t g (placed f facts) ∙ behind lt (key g == t) (key f == t) rest ∙ sym (ap (λ (xs : List ℕ). cond (key f == t) (with_id f.id xs) xs) (keyed-cons t g facts))
+
+  joined_is : (t id : ℕ) (o : Option Fact) (facts : List Fact) → ((f : Fact) → o ≡ Some f → f.id ≡ id) → FactsRising facts → Missing id facts → joined_by key o t (keyed key t facts) ≡ keyed key t (with_kept o facts)
+  joined_is t id None facts named r m = refl
+  joined_is t id (Some f) facts named r m = sym (keyed_placed t f facts r (subst (λ (n : ℕ). Missing n facts) (sym (named f refl)) m))
+
+  -- ---- a note
+
+  relisted : (id : ℕ) (before part : Option Fact) (facts after : List Fact) (old_keys old_ids mid_keys mid_ids new_keys new_ids : List ℕ) → FactsRising facts → AreGroups key facts old_keys old_ids →
+      before ≡ fact_with facts id → ((f : Fact) → part ≡ Some f → f.id ≡ id) → with_only id part facts ≡ after →
+      ((t : ℕ) → listed t mid_keys mid_ids ≡ left_by key before t (listed t old_keys old_ids)) →
+      ((t : ℕ) → listed t new_keys new_ids ≡ joined_by key part t (listed t mid_keys mid_ids)) → AreGroups key after new_keys new_ids
+  relisted id before part facts after old_keys old_ids mid_keys mid_ids new_keys new_ids r are found named is left joined t =
+      joined t ∙ ap (joined_by key part t) (left t ∙ ap (left_by key before t) (are t) ∙ ap (λ (o : Option Fact). left_by key o t (keyed key t facts)) found ∙ left_is t id facts r)
+      ∙ joined_is t id part (without id facts) named (rising_without id facts r) (without_missing id facts) ∙ ap (keyed key t) is
+
+  named_by : (o : Option Fact) (id : ℕ) → IfSome o (λ (f : Fact). f.id ≡ id) → (f : Fact) → o ≡ Some f → f.id ≡ id
+  named_by None id h f e = absurd (cc)
+  named_by (Some g) id h f e = let same : g ≡ f = cc in subst (λ (k : Fact). k.id ≡ id) same h
+
+  pub noted_groups : (kind : Kind) (land : Option Land) (note : Note) (id : ℕ) (before part : Option Fact) (facts after : List Fact) (old_keys old_ids mid_keys mid_ids new_keys new_ids : List ℕ) → MatchOption land ⊥ (λ (l : Land). NoteFits kind l facts note) → HoldsIfAny land facts →
+      AreGroups key facts old_keys old_ids → id ≡ id_in note → before ≡ fact_with facts id → part ≡ part_noted kind before note → after ≡ noted kind facts note →
+      ((t : ℕ) → listed t mid_keys mid_ids ≡ left_by key before t (listed t old_keys old_ids)) →
+      ((t : ℕ) → listed t new_keys new_ids ≡ joined_by key part t (listed t mid_keys mid_ids)) → AreGroups key after new_keys new_ids
+  noted_groups kind None note id before part facts after a b c d e f fits h are is found made new left joined = absurd fits
+  noted_groups kind (Some l) note id before part facts after old_keys old_ids mid_keys mid_ids new_keys new_ids fits h are is found made new left joined =
+      relisted id before part facts after old_keys old_ids mid_keys mid_ids new_keys new_ids (facts_rising facts (h l refl).held.ascending) are found
+      (named_by part id (put_named kind facts note id before part is found made)) (put_is kind (Some l) facts note id before part fits h is found made ∙ sym new) left joined
+
+  pub same_groups : (facts : List Fact) (keys ids new_keys new_ids : List ℕ) → AreGroups key facts keys ids → new_keys ≡ keys → new_ids ≡ ids → AreGroups key facts new_keys new_ids
+  same_groups facts keys ids new_keys new_ids are one two t = ap (λ (xs : List ℕ). listed t xs new_ids) one ∙ ap (listed t keys) two ∙ are t
+
+  -- ---- several entities, one after another
+
+  next_joined : (t : ℕ) (facts : List Fact) (k : ℕ) (d : Fact) → FactsRising facts → k < length facts → joined_by key (Some (get_or facts k d)) t (keyed key t (take k facts)) ≡ keyed key t (take (suc k) facts)
+  next_joined t [] k d r lt = absurd (omega arith)
+  next_joined t (g ∷ facts) zero d r lt = sym (keyed-cons t g [])
+  next_joined t (g ∷ facts) (suc k) d r lt =
+      ap (joined_by key (Some f) t) (keyed-cons t g (take k facts)) ∙ by (key g == t) (key f == t) (next_joined t facts k d r.1 (omega arith)) ∙ sym (keyed-cons t g (take (suc k) facts))
+    where
+      f : Fact
+      f = get_or facts k d
+
+      by : (b c : Bool) → cond c (with_id f.id (keyed key t (take k facts))) (keyed key t (take k facts)) ≡ keyed key t (take (suc k) facts) →
+          cond c (with_id f.id (cond b (g.id ∷ keyed key t (take k facts)) (keyed key t (take k facts)))) (cond b (g.id ∷ keyed key t (take k facts)) (keyed key t (take k facts))) ≡ cond b (g.id ∷ keyed key t (take (suc k) facts)) (keyed key t (take (suc k) facts))
+      by true true e = with_behind f.id g.id (keyed key t (take k facts)) (above_at g.id facts k d r.0 (omega arith)) ∙ ap (λ (xs : List ℕ). g.id ∷ xs) e
+      by true false e = ap (λ (xs : List ℕ). g.id ∷ xs) e
+      by false true e = e
+      by false false e = e
+
+  pub one_more_grouped : (facts : List Fact) (k : ℕ) (f : Fact) (keys ids mid_keys mid_ids new_keys new_ids : List ℕ) → Ascend facts → AreGroups key (take k facts) keys ids → k < length facts → f ≡ get_or facts k f →
+      mid_keys ≡ keys → mid_ids ≡ ids → ((t : ℕ) → listed t new_keys new_ids ≡ joined_by key (Some f) t (listed t mid_keys mid_ids)) → AreGroups key (take (k + 1) facts) new_keys new_ids
+  one_more_grouped facts k f keys ids mid_keys mid_ids new_keys new_ids up are lt is same_keys same_ids joined t =
+      let next : suc k ≡ k + 1 = omega arith in
+      joined t ∙ ap (λ (xs : List ℕ). joined_by key (Some f) t (listed t xs mid_ids)) same_keys ∙ ap (λ (xs : List ℕ). joined_by key (Some f) t (listed t keys xs)) same_ids ∙ ap (joined_by key (Some f) t) (are t)
+      ∙ ap (λ (g : Fact). joined_by key (Some g) t (keyed key t (take k facts))) is ∙ next_joined t facts k f (facts_rising facts up) lt ∙ ap (λ (n : ℕ). keyed key t (take n facts)) next
