@@ -13,7 +13,7 @@ use Rattle.sim_grid.specs.Grids.{OpenCells, IsGrid, place_of, is_open_at}
 use Rattle.sim_fact_lists.specs.Changes.{one_if}
 use Rattle.sim_ground.specs.Closing.{in_row, in_rows}
 use Rattle.sim_ground.proofs.Stretches.{row_more, row_apart, row_next, row_has, rows_more, rows_apart, rows_next, rows_has}
-use Rattle.sim_ground.specs.Layers.{layers_at, AreOpenWhereNone, Steps, MayStep, LayersChange, MayChange, LayersRise, AreAtMost}
+use Rattle.sim_ground.specs.Layers.{layers_at, AreOpenWhereNone, Steps, MayStep, LayersChange, MayChange, LayersRise, AreAtMost, most_layers}
 
 -- ---- steps
 
@@ -168,7 +168,7 @@ module _ (more : Bool) (size later : Size) (old mid : List ℕ) (same : later �
 
 -- ---- several rectangles
 
-pub next_may : {X : Type 0} (has : X → Cell → Bool) (xs : List X) (size later : Size) (old mid : List ℕ) (i : ℕ) (x : X) → later ≡ size → i < length xs → LayersRise (λ c. count_by (λ (y : X). has y c) (take i xs)) size old mid → AreAtMost 9000 size old → length xs ≤ 4096 → MayChange true (has x) later mid
+pub next_may : {X : Type 0} (has : X → Cell → Bool) (xs : List X) (size later : Size) (old mid : List ℕ) (i : ℕ) (x : X) → later ≡ size → i < length xs → LayersRise (λ c. count_by (λ (y : X). has y c) (take i xs)) size old mid → AreAtMost most_layers size old → length xs ≤ 4096 → MayChange true (has x) later mid
 next_may has xs size later old mid i x same below h most few =
     subst (λ (s : Size). MayChange true (has x) s mid) (sym same)
     (λ c on e. omega (arith, h c on, most c on, few, below, count_by-le-length (λ y. has y c) (take i xs), length-take i xs))

@@ -10,7 +10,7 @@ use Rattle.sim_fact_lists.specs.Places.{Holds, HoldsIfAny}
 use Rattle.sim_fact_lists.specs.Changes.{id_in, part_noted}
 use Rattle.sim_fact_lists.proofs.Holding.{holds_where}
 use Rattle.sim_ground.specs.declared.opened.Opened.{Opened}
-use Rattle.sim_ground.specs.Layers.{part_covers, no_part, MayChange, LayersTurn, AreAtMost}
+use Rattle.sim_ground.specs.Layers.{part_covers, no_part, MayChange, LayersTurn, AreAtMost, most_layers}
 use Rattle.sim_ground.specs.Opening.{IsOpened, IsKept}
 use Rattle.sim_ground.proofs.Built.{newly_kept}
 use Rattle.sim_ground.proofs.Turning.{few_layers, may_go, still_opened, turned_opened}
@@ -26,7 +26,7 @@ module _ (land : Option Land) (facts : List Fact) (opened : Option Opened) (o : 
   pub may_turn : (id : ℕ) (before : Option Fact) (lent : List Fact) → lent ≡ facts → before ≡ fact_with lent id → MayChange false (part_covers before) o.cover.grid.size o.cover.layers.items
   may_turn id before lent same found = let (l, e, holds, _) = known in may_go l facts holds o (kept.each l o e has) id before (found ∙ ap (λ (fs : List Fact). fact_with fs id) same)
 
-  pub few_to_turn : AreAtMost 9000 o.cover.grid.size o.cover.layers.items
+  pub few_to_turn : AreAtMost most_layers o.cover.grid.size o.cover.layers.items
   few_to_turn = let (l, e, holds, _) = known in few_layers l facts holds o (kept.each l o e has)
 
   pub kept_same : (later : Option Land) (lent : List Fact) (k : Opened) → later ≡ land → lent ≡ facts → k.cover.grid.size ≡ o.cover.grid.size → LayersTurn no_part no_part o.cover.grid.size o.cover.layers.items k.cover.layers.items → IsKept later lent (Some k)

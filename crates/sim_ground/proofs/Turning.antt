@@ -21,7 +21,7 @@ use Rattle.sim_fact_lists.proofs.Rising.{rising}
 use Rattle.sim_fact_lists.proofs.OneFact.{noted_only, part_is, count_after}
 use Rattle.sim_ground.specs.declared.opened.Opened.{Opened}
 use Rattle.sim_ground.specs.Closing.{IsOver}
-use Rattle.sim_ground.specs.Layers.{layers_at, layers_among, part_covers, no_part, MayChange, LayersTurn, AreAtMost, AreLayersOf}
+use Rattle.sim_ground.specs.Layers.{layers_at, layers_among, part_covers, no_part, MayChange, LayersTurn, AreAtMost, most_layers, AreLayersOf}
 use Rattle.sim_ground.specs.Opening.{IsOpened}
 
 -- ---- no layer, no cover
@@ -67,7 +67,7 @@ module _ (l : Land) (facts : List Fact) (holds : Holds l facts) (o : Opened) (h 
   layers_are : (c : Cell) → IsOnGround o.cover.grid.size c → layers_at o.cover.grid.size o.cover.layers.items c ≡ layers_among l facts c
   layers_are c on = ap (λ (s : Size). layers_at s o.cover.layers.items c) h.size ∙ h.layers c (subst (λ (s : Size). IsOnGround s c) h.size on)
 
-  pub few_layers : AreAtMost 9000 o.cover.grid.size o.cover.layers.items
+  pub few_layers : AreAtMost most_layers o.cover.grid.size o.cover.layers.items
   few_layers c on =
       omega (arith, layers_are c on, count_by-le-length (λ (r : Rect). covers r c) l.closed, count_by-le-length (λ (fact : Fact). rect_covers fact.rect c) facts, holds.limits.few_closed, holds.held.few)
 

@@ -49,6 +49,10 @@ LayersChange more which size old new = (c : Cell) → IsOnGround size c → Step
 abbrev pub MayChange : Bool → (Cell → Bool) → Size → List ℕ → Type 0
 MayChange more which size layers = (c : Cell) → IsOnGround size c → which c ≡ true → MayStep more (layers_at size layers c)
 
+-- a land has at most 4096 closed rectangles, and as many obstructions
+abbrev pub most_layers : ℕ
+most_layers = 4096 + 4096
+
 -- no cell has more layers than that
 abbrev pub AreAtMost : ℕ → Size → List ℕ → Type 0
 AreAtMost most size layers = (c : Cell) → IsOnGround size c → layers_at size layers c ≤ most

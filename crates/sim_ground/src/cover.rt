@@ -9,7 +9,7 @@ ghost use Rattle.sim_base.specs.Rows.{size_of};
 ghost use Rattle.sim_base.specs.Steps.{IsOnGround};
 ghost use Rattle.sim_grid.specs.Grids.{IsGroundSize};
 ghost use Rattle.sim_ground.specs.Closing.{in_row, in_rows};
-ghost use Rattle.sim_ground.specs.Layers.{AreOpenWhereNone, Steps, MayStep, LayersChange, MayChange, LayersTurn, LayersRise, AreAtMost, AreLayersOf, layers_at, part_covers};
+ghost use Rattle.sim_ground.specs.Layers.{AreOpenWhereNone, Steps, MayStep, LayersChange, MayChange, LayersTurn, LayersRise, AreAtMost, AreLayersOf, layers_at, most_layers, part_covers};
 
 use crate::span::span;
 use sim_base::{Cell, Land, OutOfMemory, Rect};
@@ -162,7 +162,7 @@ impl Cover {
     /// Takes what was kept of an entity, and puts down what is. Says whether a cell was closed or opened.
     pub fn turn(&mut self, before: &Option<Fact>, after: &Option<Fact>) -> bool
         requires there { MayChange false (part_covers before.now) self.old.grid.size self.old.layers.items }
-        requires few { AreAtMost 10000 self.old.grid.size self.old.layers.items }
+        requires few { AreAtMost (most_layers + 1) self.old.grid.size self.old.layers.items }
         ensures size { self.new.grid.size ≡ self.old.grid.size }
         ensures layers { LayersTurn (part_covers before.now) (part_covers after.now) self.old.grid.size self.old.layers.items self.new.layers.items }
         ensures same { result ≡ false → self.new.grid ≡ self.old.grid }
@@ -174,7 +174,7 @@ impl Cover {
 
     // One layer more over each of the closed rectangles of a land.
     fn close_all(&mut self, closed: &[Rect])
-        requires most { AreAtMost 9000 self.old.grid.size self.old.layers.items }
+        requires most { AreAtMost most_layers self.old.grid.size self.old.layers.items }
         requires few { length closed.now ≤ 4096 }
         ensures size { self.new.grid.size ≡ self.old.grid.size }
         ensures layers { LayersRise (λ c. count_by (λ r. covers r c) closed.now) self.old.grid.size self.old.layers.items self.new.layers.items }
@@ -186,7 +186,7 @@ impl Cover {
 
     // One layer more over each obstruction.
     fn build_all(&mut self, facts: &[Fact])
-        requires most { AreAtMost 9000 self.old.grid.size self.old.layers.items }
+        requires most { AreAtMost most_layers self.old.grid.size self.old.layers.items }
         requires few { length facts.now ≤ 4096 }
         ensures size { self.new.grid.size ≡ self.old.grid.size }
         ensures layers { LayersRise (λ c. count_by (λ fact. rect_covers fact.rect c) facts.now) self.old.grid.size self.old.layers.items self.new.layers.items }

@@ -7,7 +7,7 @@ ghost use Rattle.sim_base.specs.Rows.{size_of};
 ghost use Rattle.sim_grid.specs.Grids.{field_of_grid};
 ghost use Rattle.sim_path.specs.Regions.{AreLabels};
 ghost use Rattle.sim_path.specs.Floods.{label_in};
-ghost use Rattle.sim_ground.specs.Layers.{AreAtMost, AreLayersOf, LayersTurn, MayChange, no_part, part_covers};
+ghost use Rattle.sim_ground.specs.Layers.{AreAtMost, AreLayersOf, LayersTurn, MayChange, most_layers, no_part, part_covers};
 
 use crate::cover::Cover;
 use sim_base::{Land, OutOfMemory};
@@ -44,7 +44,7 @@ impl Opened {
         after: &Option<Fact>,
     ) -> Result<(), OutOfMemory>
         requires there { MayChange false (part_covers before.now) self.old.cover.grid.size self.old.cover.layers.items }
-        requires few { AreAtMost 9000 self.old.cover.grid.size self.old.cover.layers.items }
+        requires few { AreAtMost most_layers self.old.cover.grid.size self.old.cover.layers.items }
         ensures size { self.new.cover.grid.size ≡ self.old.cover.grid.size }
         ensures ok { OnOk result (LayersTurn (part_covers before.now) (part_covers after.now) self.old.cover.grid.size self.old.cover.layers.items self.new.cover.layers.items) }
         ensures err { OnErr result (LayersTurn no_part no_part self.old.cover.grid.size self.old.cover.layers.items self.new.cover.layers.items) }
