@@ -11,6 +11,7 @@ MD5 of the bytes that docs/FORMATS.md lays out.
 import hashlib
 import os
 import pathlib
+import random
 import re
 import resource
 import subprocess
@@ -164,6 +165,29 @@ def schedules(folder):
     told = b"to 1 command turn 2 player 1 resign\nto 2 command turn 2 player 1 resign\n"
     case("100,000 arrivals of a hostile client, in a gigabyte", run(["serve", "hostile.json"], folder, before=limit_memory), 0,
          64 * told + b"to 1 refused 3\n" + refusals * b"to 1 refused 2\n" + b"released 1\nkept 2 64\n")
+
+
+def raw_bytes(folder):
+    """What clients send as it came: frames are heard, anything else cuts its client off, and nobody else loses anything by it."""
+    sent = [b'[3,"join"]', b'[1,"bytes","050000000302000000"]', b'[1,"bytes","0100000001"]', b'[1,"bytes","05000000030200000000"]',
+            b'[1,"done",3]', b'[2,"bytes","1000000002020000000202000200000003000000"]', b'[2,"bytes",""]']
+    (folder / "sent.json").write_bytes(schedule(3, 2, sent))
+    case("bytes that are a done, a join, and none", run(["serve", "sent.json"], folder), 0,
+         b"to 1 ask 3\nto 2 ask 3\nto 1 refused 1\nto 2 command turn 2 player 2 stop 2,3\nto 3 refused 4\nreleased 1\nkept 2 1\n")
+    draw = random.Random(7)
+    frames = [bytes.fromhex(text) for text in ("0100000001", "050000000302000000", "1000000002020000000202000200000003000000")]
+    damaged = [bytearray(draw.choice(frames)) for _ in range(10_000)]
+    for frame in damaged:
+        frame[draw.randrange(4)] = draw.randrange(32, 256)
+    lies = [b'[8,"bytes","%s"]' % frame.hex().encode() for frame in damaged]
+    honest = [b'[%d,%s]' % (client, said % turn) for turn in (2, 3, 4) for said in (b'"command",%d,"resign"', b'"done",%d')
+              for client in range(1, 8)]
+    for name, other in (("lies", lies), ("cut", [b'[8,"cut"]'])):
+        (folder / f"{name}.json").write_bytes(schedule(8, 8, honest[:5] + other + honest[5:]))
+    status, text, error = run(["serve", "cut.json"], folder)
+    case("seven clients play on where one is cut", (status, b"".join(text.splitlines(True)[-4:]), error), 0,
+         b"released 4\nkept 2 7\nkept 3 7\nkept 4 7\n")
+    case("10,000 damaged frames are a cut of their client, and no more", run(["serve", "lies.json"], folder), 0, text)
 
 
 def battles(folder):
@@ -429,6 +453,7 @@ def main():
         stored_states(folder)
         templates(folder)
         schedules(folder)
+        raw_bytes(folder)
         battles(folder)
         rejoins(folder)
         sessions_of_walkers(folder)
