@@ -2,6 +2,7 @@
 //! `docs/FORMATS.md` lays out; a program that always answers want of memory is refused here.
 
 ghost use Rattle.std.specs.Prelude.{◌≡◌, None, All, length};
+ghost use Rattle.sim_client.specs.StageWords.{AreCleared};
 ghost use Rattle.sim_orders.specs.Orders.{IsGiven, Obeys};
 ghost use Rattle.sim_system.specs.Meanings.{HaveKinds};
 ghost use Rattle.sim_system.specs.RigWords.{systems_of};
@@ -116,6 +117,7 @@ pub fn run_with<S: Shelf, K: Sink>(
 ) -> Result<Status, Fail>
     requires eight { length rigs.items ≡ 8 }
     requires kinds { All (λ r. HaveKinds (systems_of r ⟦<dyn System as System>⟧)) rigs.items }
+    requires cleared { All (λ r. AreCleared (systems_of r ⟦<dyn System as System>⟧)) rigs.items }
 {
     let walk: Planner = Box::new(
         alloc,

@@ -1,5 +1,4 @@
 -- A call through the box of a planner is a call of its closure, whose clauses are those of the handler's kind.
-use Rattle.std.proofs.Common.{rules, ◌≡◌}
 use denote.Param.Callables.{held_fn, Sure}
 use Rattle.sim_orders.specs.Orders.{Obeys}
 use Rattle.sim_rows.proofs.tests.runs.run_with.OwnLists.{own-2}

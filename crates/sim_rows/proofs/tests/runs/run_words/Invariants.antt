@@ -1,4 +1,5 @@
 use Rattle.std.proofs.Common.{◌≡◌, All, length}
+use Rattle.sim_client.specs.StageWords.{AreCleared}
 use Rattle.sim_system.specs.Meanings.{HaveKinds}
 use Rattle.sim_system.specs.RigWords.{systems_by}
 use Rattle.sim_rows.proofs.tests.runs.run_words.OwnLists.{own-1}
@@ -9,4 +10,5 @@ invariant-loop g l =
     record {
       count : length l.rigs.items ≡ l.counter;
       kinds : All (λ r. HaveKinds (systems_by r (λ i v. (own-1.entry i).1.meaning v))) l.rigs.items;
+      cleared : All (λ r. AreCleared (systems_by r (λ i v. (own-1.entry i).1.meaning v))) l.rigs.items;
     }
