@@ -1,6 +1,5 @@
-//! Worked rows of the crates from the board upward, as tests with real systems. It promises nothing by itself.
-//!
-//! - `tests`: the tests, and the macro that makes a rig in the body of each.
+//! Worked matches, as tests of whole runs with real systems: what `play`, `state`, `resume`, `show`, `compare` and `trial`
+//! print, and how they end. It promises nothing by itself.
 #![tactic(auto)]
 
 #[cfg(test)]
