@@ -1,0 +1,56 @@
+//! Each call of the shelf fails in turn.
+
+use crate::tests::commands::{
+    COMMANDS, are_inputs_kept, files, is_saved_in_part, run_over, stored,
+};
+use sim_base::OutOfMemory;
+use sim_top::Status;
+use std::alloc::Global;
+use std::test::Fail;
+
+/// What has come of a run: its status; whether anything was printed; whether the files are as they have to be; and whether
+/// the same words, run again over them, come to their end with their text.
+type Outcome = (Status, bool, bool, bool);
+
+// Runs the words where this call of the shelf fails.
+fn with_failing(
+    alloc: Global,
+    words: &[&str],
+    saves: bool,
+    state: &[u8],
+    call: u64,
+    text: &[u8],
+) -> Result<Outcome, OutOfMemory> {
+    let mut shelf = files(alloc, state, call)?;
+    let (status, out) = run_over(alloc, words, &mut shelf, 0)?;
+    let is_kept = are_inputs_kept(&shelf, state) && is_saved_in_part(&shelf, state, saves);
+    let (again, second) = run_over(alloc, words, &mut shelf, 0)?;
+    let is_whole = again == Status::Done && second.told() == text;
+    Ok((status, !out.told().is_empty(), is_kept, is_whole))
+}
+
+#[test]
+fn every_call_of_the_shelf_may_fail(rt: HostRuntime) -> Result<(), Fail> {
+    let alloc = rt.alloc();
+    let state = stored(alloc)?;
+    for (words, reads, saves) in COMMANDS {
+        let mut healthy = files(alloc, &state, 0)?;
+        let (done, whole) = run_over(alloc, words, &mut healthy, 0)?;
+        assert_eq!(rt; done, Status::Done, "for {words:?}");
+        assert!(rt; reads <= healthy.calls(), "for {words:?}");
+        for call in 1..=healthy.calls() {
+            let fault = if call <= reads {
+                Status::ReadFault
+            } else {
+                Status::WriteFault
+            };
+            let outcome = with_failing(alloc, words, saves, &state, call, whole.told())?;
+            assert_eq!(rt;
+                outcome,
+                (fault, false, true, true),
+                "for {words:?} at call {call}"
+            );
+        }
+    }
+    Ok(())
+}
