@@ -1,0 +1,4 @@
+//! Boards over four real systems.
+
+mod boards;
+mod checks;

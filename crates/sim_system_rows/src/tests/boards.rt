@@ -1,0 +1,112 @@
+//! Two worked rows, each over a board that is started from a match file.
+
+ghost use Rattle.std.specs.Prelude.{OnOk};
+ghost use Rattle.sim_base.specs.Limits.{IsSetup};
+ghost use Rattle.sim_system.specs.Meanings.{HaveKinds};
+ghost use Rattle.sim_board.specs.BoardWords.{setup_in, systems, IsWhole};
+
+use crate::tests::checks::{answer, change};
+use sim_base::{Cell, Change, Fixed, OutOfMemory, Point};
+use sim_board::Board;
+use sim_census::Census;
+use sim_ground::Ground;
+use sim_range::Range;
+use sim_runs::rig;
+use sim_setup::setup_of;
+use sim_system::{Answer, Ask, Rig, System};
+use sim_watch::Watch;
+use std::test::Fail;
+
+// Two huts of two by two cells: entity 2 on the cells 4,4 to 5,5, entity 3 on 5,4 to 6,5.
+const HUTS: &str =
+    "{\"size\":[16,16],\"closed\":[],\"players\":[[]],\"cap\":0,\"delay\":1,\"turns\":2,\"seed\":0,\"templates\":[{\"@name\":\"hut\",\"Obstruct\":{\"Width\":2,\"Depth\":2}}],\"entities\":[[\"hut\",1,\"5.5\",\"5.5\"],[\"hut\",1,\"6.5\",\"5.5\"]],\"commands\":[]}";
+
+// Two posts: entity 2 of player 1 at (0.5, 0.5), entity 3 of player 2 at (3.5, 4.5).
+const POSTS: &str =
+    "{\"size\":[16,16],\"closed\":[],\"players\":[[],[]],\"cap\":0,\"delay\":1,\"turns\":2,\"seed\":0,\"templates\":[{\"@name\":\"post\",\"Health\":{\"Max\":50}}],\"entities\":[[\"post\",1,\"0.5\",\"0.5\"],[\"post\",2,\"3.5\",\"4.5\"]],\"commands\":[]}";
+
+fn is_open(board: &Board<'_>, x: u16, z: u16) -> Result<bool, OutOfMemory>
+    requires { IsWhole board.now ⟦<dyn System as System>⟧ }
+{
+    match answer(
+        board,
+        &Ask::Open {
+            cell: Cell { x, z },
+        },
+    )? {
+        Some(Answer::Truth { yes }) => Ok(yes),
+        _ => Ok(false),
+    }
+}
+
+// Whether the cell (5, 4) is open at the start, after the first hut left, and after the second.
+fn opened(board: &mut Board<'_>) -> Result<[bool; 3], OutOfMemory>
+    requires limits { IsSetup (setup_in board.old) }
+    requires kinds { HaveKinds (systems board.old ⟦<dyn System as System>⟧) }
+{
+    board.start()?;
+    let first = is_open(board, 5, 4)?;
+    change(board, Change::Remove { id: 2 })?;
+    let second = is_open(board, 5, 4)?;
+    change(board, Change::Remove { id: 3 })?;
+    Ok([first, second, is_open(board, 5, 4)?])
+}
+
+// How many rows of player 2 are within five metres of (0.5, 0.5), and the first of them, or 0.
+fn enemies(board: &Board<'_>) -> Result<(usize, u32), OutOfMemory>
+    requires { IsWhole board.now ⟦<dyn System as System>⟧ }
+{
+    let half = Fixed::from_raw(32768);
+    let ask = Ask::Within {
+        at: Point { x: half, z: half },
+        radius: Fixed::from_raw(327680),
+        mask: 4,
+    };
+    match answer(board, &ask)? {
+        Some(Answer::Many { ids }) => match ids.as_slice() {
+            [] => Ok((0, 0)),
+            [first, ..] => Ok((ids.as_slice().len(), *first)),
+        },
+        _ => Ok((9, 0)),
+    }
+}
+
+// The same at the start, and after entity 3 has come to player 1.
+fn turned(board: &mut Board<'_>) -> Result<[(usize, u32); 2], OutOfMemory>
+    requires limits { IsSetup (setup_in board.old) }
+    requires kinds { HaveKinds (systems board.old ⟦<dyn System as System>⟧) }
+{
+    board.start()?;
+    let first = enemies(board)?;
+    change(board, Change::Owner { id: 3, owner: 1 })?;
+    Ok([first, enemies(board)?])
+}
+
+// A cell that two huts cover opens when the second leaves.
+#[test]
+fn two_covers_of_one_cell(rt: HostRuntime) -> Result<(), Fail> {
+    let alloc = rt.alloc();
+    let rig = rig!(alloc);
+    let Ok(setup) = setup_of(alloc, HUTS.as_bytes()) else {
+        panic!(rt; "no setup")
+    };
+    let mut board = Board::new(alloc, &setup, rig);
+    assert_eq!(rt; opened(&mut board)?, [false, false, true]);
+    let (state, rig) = board.finish();
+    assert_eq!(rt; state.rows.as_slice().len(), 0);
+    assert_eq!(rt; rig.ground.rebuilds(), 1);
+    Ok(())
+}
+
+// Who changes sides is no enemy within reach.
+#[test]
+fn within_after_a_change_of_owner(rt: HostRuntime) -> Result<(), Fail> {
+    let alloc = rt.alloc();
+    let rig = rig!(alloc);
+    let Ok(setup) = setup_of(alloc, POSTS.as_bytes()) else {
+        panic!(rt; "no setup")
+    };
+    let mut board = Board::new(alloc, &setup, rig);
+    assert_eq!(rt; turned(&mut board)?, [(1, 3), (0, 0)]);
+    Ok(())
+}
