@@ -1,9 +1,4 @@
-//! Boards over four real systems, and runs with other systems and handlers.
+//! Boards over four real systems.
 
-mod asks;
 mod boards;
 mod checks;
-mod deeds;
-mod handlers;
-mod plain;
-mod refusing;
