@@ -13,15 +13,14 @@ ghost use Rattle.sim_path.specs.Floods.{label_in};
 ghost use Rattle.sim_path.specs.Answers.{IsNarrow, way_in};
 
 use crate::costs::{Costs, Reached};
-use crate::drain::{costs_to, dive, least_costs};
+use crate::drain::{costs_to, least_costs};
 use crate::end::{best_of, end_of};
 use crate::estimate::Aim;
-use crate::floor::{Floor, Front};
 use crate::labels::Labels;
 use crate::marks::Marks;
 use crate::nearest::{is_reached, nearest};
 use crate::search::Search;
-use crate::tight::tight_to;
+use crate::straight::straight_to;
 use crate::trail::trail_from;
 use crate::unmarked::blank_marks;
 use sim_base::{Cell, Items, MAX_WAYPOINTS, OutOfMemory, Point, Points, cell_of, centre_of};
@@ -145,13 +144,12 @@ pub struct Searcher {
 }
 
 impl Searcher {
-    ghost use Rattle.std.specs.Prelude.{◌≡◌, OnOk, IfOk, IsTrue, true};
+    ghost use Rattle.std.specs.Prelude.{◌≡◌, OnOk, IfOk, IsTrue};
     ghost use Rattle.sim_base.specs.Places.{is_inside, cell_of as cell_at};
     ghost use Rattle.sim_base.specs.Ways.{IsFound, IsWay};
     ghost use Rattle.sim_base.specs.WayOf.{way_of};
     ghost use Rattle.sim_grid.specs.Grids.{field_of_grid};
     ghost use Rattle.sim_path.specs.Comes.{AreEnds, IsTrailToEnd};
-    ghost use Rattle.sim_path.specs.Floors.{IsFloor, floor_of};
     ghost use Rattle.sim_path.specs.Regions.{AreLabels};
     ghost use Rattle.sim_path.specs.Floods.{label_in};
     ghost use Rattle.sim_path.specs.Answers.{way_in};
@@ -232,74 +230,15 @@ impl Searcher {
         requires ends { AreEnds (field_of_grid grid.now) (cell_at start.now) (cell_at goal.now) near ends.now }
         ensures { OnOk result (IsTrailToEnd (field_of_grid grid.now) (cell_at start.now) (cell_at goal.now) trail.new.items) }
     {
-        if self.go_back(alloc, grid, &Floor::Octile, trail, near, ends, start, goal)? {
-            return Ok(());
-        }
-        if self.dive(alloc, grid, trail, near, ends, start, goal)? {
-            return Ok(());
-        }
-        self.search(alloc, grid, trail, near, ends, start, goal)
-    }
-
-    // Whether a way to one of these ends costs as little as the floor has it. If so, the trail is made of its cells, back
-    // from that end. False says nothing.
-    #[inline(always)]
-    fn go_back(
-        &mut self,
-        alloc: Global,
-        grid: &Grid,
-        floor: &Floor,
-        trail: &mut Vec<Cell>,
-        near: u32,
-        ends: &[Cell],
-        start: &Point,
-        goal: &Point,
-    ) -> Result<bool, OutOfMemory>
-        requires start { IsTrue (is_inside grid.now.size start.now) }
-        requires goal { IsTrue (is_inside grid.now.size goal.now) }
-        requires floor { IsFloor (field_of_grid grid.now) (cell_at start.now) (floor_of floor.now (cell_at start.now)) }
-        requires ends { AreEnds (field_of_grid grid.now) (cell_at start.now) (cell_at goal.now) near ends.now }
-        ensures { IfOk result (λ found. found ≡ true → IsTrailToEnd (field_of_grid grid.now) (cell_at start.now) (cell_at goal.now) trail.new.items) }
-    {
         let from = grid.cell_of(*start);
         let to = grid.cell_of(*goal);
         let mut dead = blank_marks(alloc, self.marks.take(), grid.width(), grid.depth())?;
-        let found = tight_to(grid, floor, &mut dead, trail, near, ends, from, to);
+        let straight = straight_to(grid, &mut dead, trail, near, ends, from, to)?;
         self.marks = Some(dead);
-        found
-    }
-
-    // Whether a way to one of these ends is found by a dive. If so, the trail is made of its cells, back from that end. False
-    // says nothing.
-    #[inline(never)]
-    fn dive(
-        &mut self,
-        alloc: Global,
-        grid: &Grid,
-        trail: &mut Vec<Cell>,
-        near: u32,
-        ends: &[Cell],
-        start: &Point,
-        goal: &Point,
-    ) -> Result<bool, OutOfMemory>
-        requires start { IsTrue (is_inside grid.now.size start.now) }
-        requires goal { IsTrue (is_inside grid.now.size goal.now) }
-        requires ends { AreEnds (field_of_grid grid.now) (cell_at start.now) (cell_at goal.now) near ends.now }
-        ensures { IfOk result (λ found. found ≡ true → IsTrailToEnd (field_of_grid grid.now) (cell_at start.now) (cell_at goal.now) trail.new.items) }
-    {
-        let from = grid.cell_of(*start);
-        let to = grid.cell_of(*goal);
-        let aim = Aim { goal: to, near };
-        let (search, key, at_aim) = dive(alloc, grid, self.rooms.take(), aim, from)?;
-        if !at_aim {
-            self.rooms = Some(search);
-            return Ok(false);
+        if straight {
+            return Ok(());
         }
-        let costs = &search.costs;
-        let floor = Floor::Known(Front { costs, aim, key });
-        let found = self.go_back(alloc, grid, &floor, trail, near, ends, start, goal);
-        self.rooms = Some(search);
-        found
+        self.search(alloc, grid, trail, near, ends, start, goal)
     }
 
     // Makes the trail back from the best of these ends by a search, or where none is reached, from the best of all
