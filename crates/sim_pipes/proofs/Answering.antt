@@ -1,12 +1,20 @@
 -- What the server says to an arrival has frames, and goes to clients.
-use Rattle.std.proofs.Common.{◌≡◌, ℕ, suc, ◌<◌, List, ◌++◌, All, sym, ap, ◌∙◌, subst, Result, Ok, Err}
+use Rattle.std.proofs.Common.{◌≡◌, ℕ, suc, ◌<◌, List, ◌++◌, All, refl, sym, ap, ◌∙◌, subst, Option, Some, None, Result, Ok, Err}
 use Rattle.std.specs.Prelude.{IfOk}
 use Rattle.sim_base.specs.declared.memory.OutOfMemory.{OutOfMemory}
+use Rattle.sim_base.specs.declared.command.Command.{Command}
+use Rattle.sim_base.specs.declared.command.Command.TheVariants.{Walk, Stop, Attack, Delete, Place, Train, Resign}
+use Rattle.sim_base.specs.Limits.{HasFewIds}
+use Rattle.sim_plain.specs.declared.message.UpOf.{UpOf}
+use Rattle.sim_plain.specs.declared.message.UpOf.TheVariants as up
 use Rattle.sim_plain.specs.declared.message.DownOf.{DownOf}
 use Rattle.sim_plain.specs.declared.message.PostOf.{PostOf}
 use Rattle.sim_plain.specs.Messages.{Arrival}
 use Rattle.sim_plain.specs.Posts.{posts}
-use Rattle.sim_wire.specs.Fits.{IsSmallDown, IsDownFrame}
+use Rattle.sim_wire.specs.Fits.{IsSmallUp, IsSmallDown, CommandFits, UpFits, IsDownFrame}
+use Rattle.sim_wire.specs.Heard.{message_in, heard_or_cut, raw}
+use Rattle.sim_wire.proofs.Fronts.{AreBytes}
+use Rattle.sim_wire.proofs.Hearing.{is_frame}
 use Rattle.sim_server.specs.Small.{IsSmallArrival, IsSmallServer}
 use Rattle.sim_server.specs.Standing.{View, server_of, Makes}
 use Rattle.sim_server.proofs.Smallness.{servers_stay_small, posts_are_small}
@@ -20,6 +28,36 @@ Bytes = List ℕ
 abbrev Answer : Type 0
 Answer = Result (List (PostOf Bytes)) OutOfMemory
 
+-- ---- what arrives in bytes
+
+-- a command that fits has few ids
+few_ids : (command : Command) → CommandFits command → HasFewIds command
+few_ids (Walk ids to) fits = fits.0.few
+few_ids (Stop ids) fits = fits.few
+few_ids (Attack ids target) fits = fits.0.few
+few_ids (Delete ids) fits = fits.few
+few_ids (Place template at) fits = tt
+few_ids (Train building template) fits = tt
+few_ids Resign fits = tt
+
+-- and a message that fits is small
+small_up : (message : UpOf Bytes) → UpFits message → IsSmallUp message
+small_up up.Join fits = tt
+small_up (up.Command turn command) fits = few_ids command fits.1
+small_up (up.Done turn) fits = tt
+small_up (up.Report turn digest) fits = tt
+small_up (up.State client turn bytes) fits = fits.1
+
+-- so what arrives with any bytes is
+pub raw_is_small : (from : ℕ) (bytes : Bytes) → AreBytes bytes → IsSmallArrival (raw from bytes)
+raw_is_small from bytes all = by (message_in bytes) refl
+  where
+    by : (read : Option (UpOf Bytes)) → message_in bytes ≡ read → IsSmallArrival (heard_or_cut from read)
+    by None e = tt
+    by (Some message) e = small_up message (is_frame bytes all message e).fits
+
+-- ---- what the server makes of an arrival
+
 pub makes_rules : (old : View) (a : Arrival Bytes) (r : Answer) (new : View) → Makes old a r new → new.rules ≡ old.rules
 makes_rules old a (Ok posts) new made = made.rules
 makes_rules old a (Err e) new same = same.rules
@@ -27,6 +65,9 @@ makes_rules old a (Err e) new same = same.rules
 pub makes_small : (old : View) (a : Arrival Bytes) (r : Answer) (new : View) → IsSmallServer (server_of old) → IsSmallArrival a → Makes old a r new → IsSmallServer (server_of new)
 makes_small old a (Ok posts) new small fits made = subst IsSmallServer (sym made.server) (servers_stay_small old.rules (server_of old) a small fits)
 makes_small old a (Err e) new small fits same = subst IsSmallServer (sym same.server) small
+
+pub hears_small : (old : View) (from : ℕ) (bytes : Bytes) (r : Answer) (new : View) → IsSmallServer (server_of old) → AreBytes bytes → Makes old (raw from bytes) r new → IsSmallServer (server_of new)
+hears_small old from bytes r new small all made = makes_small old (raw from bytes) r new small (raw_is_small from bytes all) made
 
 pub to_clients : (old : View) (a : Arrival Bytes) (r : Answer) (new : View) → Makes old a r new → IfOk r (All (λ (post : PostOf Bytes). post.to < suc old.rules.clients))
 to_clients old a (Ok sent) new made = subst (All (λ (post : PostOf Bytes). post.to < suc old.rules.clients)) (sym made.said) (clients_below old.rules.clients (posts old.rules (server_of old) a))
