@@ -1,14 +1,16 @@
 //! The system that knows who stands where.
 //!
 //! It promises that it keeps the place, owner, health and vision of each entity that has health or can attack, as `System`
-//! says, and that those within a radius, and those whom an entity sees, are filters over these. It stands on the lists of
-//! facts.
+//! says, and that those within a radius, and those whom an entity sees, are filters over these. Beside them it keeps who
+//! stands in which bucket of the ground, which it lends. It stands on the lists of facts.
 //!
 //! - `range`: the system.
+//! - `buckets`: who stands in which bucket of 16 by 16 cells.
 //! - `within`: who is near a point.
 //! - `seen`: whom an entity sees.
 #![tactic(auto)]
 
+mod buckets;
 mod range;
 mod seen;
 mod within;

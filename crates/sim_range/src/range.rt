@@ -1,19 +1,25 @@
-//! The system, over a plain list of places, owners, healths and visions.
+//! The system: the place, owner, health and vision of each entity, and beside them buckets of ids by place.
 
-ghost use Rattle.std.specs.Prelude.{◌≡◌, None, []};
+ghost use Rattle.std.specs.Prelude.{◌≡◌, ◌<◌, None, []};
+ghost use Rattle.sim_fact_lists.specs.Groups.{AreGroups};
+ghost use Rattle.sim_range.specs.Buckets.{ArePlaced, bucket_key, in_bucket};
 ghost use Rattle.sim_system.specs.declared.kind.Kind.TheVariants.{Range as RangeKind};
 
+use crate::buckets::{buckets_of, join, leave, stays};
 use crate::seen::seen;
 use crate::within::within;
 use sim_base::{Land, OutOfMemory};
-use sim_fact_lists::Kept;
+use sim_fact_lists::{Groups, Kept, id_of, part_after};
 use sim_system::{Answer, Ask, Fact, Kind, Note, System};
 use std::alloc::Global;
 
-/// Keeps place, owner, health and vision of each entity that has health or can attack.
+/// Keeps place, owner, health and vision of each entity that has health or can attack, and who stands in which bucket.
 #[derive(Drop)]
 pub struct Range {
     kept: Kept,
+    buckets: Groups,
+    ghost placed: { ArePlaced kept.facts.items },
+    ghost grouped: { AreGroups bucket_key kept.facts.items buckets.keys.items buckets.ids.items },
 }
 
 impl Range {
@@ -23,7 +29,17 @@ impl Range {
     {
         Range {
             kept: Kept::new(alloc),
+            buckets: Groups::new(alloc),
         }
+    }
+
+    /// Lends the ids, ascending, of the entities whose cell divided by 16 is this. There are none where it was not built.
+    pub fn bucket(&self, bx: u8, bz: u8) -> &[u32]
+        requires bx { bx < 16 }
+        requires bz { bz < 16 }
+        ensures { result.now ≡ in_bucket bx bz (⟦<Range as System>⟧.meaning self.now).facts }
+    {
+        self.buckets.at(u32::from(bz) * 16 + u32::from(bx))
     }
 }
 
@@ -36,14 +52,32 @@ impl System for Range {
 
     fn clear(&mut self) {
         self.kept.clear();
+        self.buckets = Groups::new(self.kept.alloc);
     }
 
     fn rebuild(&mut self, land: &Land, facts: &[Fact]) -> Result<(), OutOfMemory> {
-        self.kept.rebuild(Kind::Range, land, facts)
+        self.buckets = Groups::new(self.kept.alloc);
+        self.kept.rebuild(Kind::Range, land, facts)?;
+        match buckets_of(self.kept.alloc, self.kept.facts.as_slice()) {
+            Ok(buckets) => self.buckets = buckets,
+            Err(error) => {
+                self.kept.clear();
+                return Err(error);
+            }
+        }
+        Ok(())
     }
 
     fn on(&mut self, note: &Note) -> Result<(), OutOfMemory> {
-        self.kept.on(Kind::Range, note)
+        let before = self.kept.find(id_of(note));
+        let after = part_after(Kind::Range, before, note);
+        self.buckets.make_room()?;
+        self.kept.on(Kind::Range, note)?;
+        if !stays(&before, &after) {
+            leave(&mut self.buckets, &before);
+            join(&mut self.buckets, &after);
+        }
+        Ok(())
     }
 
     fn ask(&self, ask: &Ask) -> Result<Answer, OutOfMemory> {

@@ -1,0 +1,65 @@
+-- Who stands in which bucket, also after a note.
+use Rattle.std.proofs.Common.{◌≡◌, ℕ, ◌+◌, ◌*◌, ◌/◌, ◌<◌, Bool, cond, List, [], ◌∷◌, map, Option, Some, None, refl, sym, ap, ◌∙◌, subst, arith}
+use Rattle.std.specs.Prelude.{◌==◌, ◌&&◌, filter, IfSome, MatchOption}
+use Rattle.std.proofs.lemmas.Bool.Decides.{nat_tests}
+use Rattle.std.proofs.lemmas.Int.{ints}
+use Rattle.std.proofs.lemmas.List.Elements.{All-head, All-tail, All-weaker}
+use Rattle.sim_base.specs.declared.place.Point.{Point}
+use Rattle.sim_base.specs.declared.setup.Land.{Land}
+use Rattle.sim_base.specs.Places.{IsPlaced, cell_of}
+use Rattle.sim_system.specs.declared.fact.Fact.{Fact}
+use Rattle.sim_system.specs.declared.kind.Kind.{Kind}
+use Rattle.sim_system.specs.declared.note.Note.{Note}
+use Rattle.sim_system.specs.Facts.{id_of_fact}
+use Rattle.sim_system.specs.Notes.{fact_with, noted, NoteFits}
+use Rattle.sim_fact_lists.specs.Places.{IsHeld, Holds, HoldsIfAny}
+use Rattle.sim_fact_lists.specs.Changes.{id_in, part_noted}
+use Rattle.sim_fact_lists.specs.Groups.{keyed}
+use Rattle.sim_fact_lists.proofs.Rising.{found_all}
+use Rattle.sim_fact_lists.proofs.OneFact.{part_is}
+use Rattle.sim_range.specs.Buckets.{ArePlaced, bucket_key, is_in_bucket, in_bucket}
+use Rattle.sim_range.proofs.Held.{placed_on}
+
+-- ---- numbers of buckets
+
+small_west : (p : Point) → IsPlaced p → (cell_of p).x / 16 < 16
+small_west p h = let low = h.west in let high = h.east in omega (arith, ints, low, high)
+
+same_number : (x z bx bz : ℕ) → x < 16 → bx < 16 → (z * 16 + x == bz * 16 + bx) ≡ (x == bx && z == bz)
+same_number x z bx bz lt also = grind (arith, nat_tests)
+
+test_is : (bx bz : ℕ) (f : Fact) → bx < 16 → IsPlaced f.at → (bucket_key f == bz * 16 + bx) ≡ is_in_bucket bx bz f.at
+test_is bx bz f lt placed = same_number ((cell_of f.at).x / 16) ((cell_of f.at).z / 16) bx bz (small_west f.at placed) lt
+
+pub bucket_is : (bx bz : ℕ) (facts : List Fact) → bx < 16 → ArePlaced facts → keyed bucket_key (bz * 16 + bx) facts ≡ in_bucket bx bz facts
+bucket_is bx bz facts lt placed = ap (map id_of_fact) (same facts placed)
+  where
+    same : (fs : List Fact) → ArePlaced fs → filter (λ (f : Fact). bucket_key f == bz * 16 + bx) fs ≡ filter (λ (f : Fact). is_in_bucket bx bz f.at) fs
+    same [] all = refl
+    same (f ∷ fs) all =
+        ap (λ (b : Bool). cond b (f ∷ filter (λ (g : Fact). bucket_key g == bz * 16 + bx) fs) (filter (λ (g : Fact). bucket_key g == bz * 16 + bx) fs)) (test_is bx bz f lt (All-head (λ (g : Fact). IsPlaced g.at) f fs all))
+        ∙ ap (λ (gs : List Fact). cond (is_in_bucket bx bz f.at) (f ∷ gs) gs) (same fs (All-tail (λ (g : Fact). IsPlaced g.at) f fs all))
+
+-- ---- where the facts stand
+
+held_placed : (l : Land) (facts : List Fact) → Holds l facts → ArePlaced facts
+held_placed l facts h = All-weaker (IsHeld l) (λ (f : Fact). IsPlaced f.at) (λ f held. placed_on l f.at h.limits held.at) facts h.held.each
+
+pub all_placed : (land : Option Land) (P : Land → Type 0) (facts : List Fact) → MatchOption land ⊥ P → HoldsIfAny land facts → ArePlaced facts
+all_placed None P facts fits h = absurd fits
+all_placed (Some l) P facts fits h = held_placed l facts (h l refl)
+
+pub placed_after : (land later : Option Land) (P : Land → Type 0) (facts : List Fact) → MatchOption land ⊥ P → later ≡ land → HoldsIfAny later facts → ArePlaced facts
+placed_after land later P facts fits same h = all_placed land P facts fits (subst (λ (m : Option Land). HoldsIfAny m facts) same h)
+
+pub found_placed : (facts : List Fact) (id : ℕ) (o : Option Fact) → o ≡ fact_with facts id → ArePlaced facts → IfSome o (λ (f : Fact). IsPlaced f.at)
+found_placed facts id None e all = tt
+found_placed facts id (Some f) e all = found_all (λ (g : Fact). IsPlaced g.at) id facts f all (sym e)
+
+-- what is kept of the id after the note
+pub part_placed : (kind : Kind) (land : Option Land) (facts after : List Fact) (note : Note) (id : ℕ) (before part : Option Fact) → MatchOption land ⊥ (λ (l : Land). NoteFits kind l facts note) → id ≡ id_in note → before ≡ fact_with facts id → part ≡ part_noted kind before note → after ≡ noted kind facts note →
+    ArePlaced after → IfSome part (λ (f : Fact). IsPlaced f.at)
+part_placed kind None facts after note id before part fits e found is new all = absurd fits
+part_placed kind (Some l) facts after note id before part fits e found is new all =
+    let here : before ≡ fact_with facts (id_in note) = found ∙ ap (fact_with facts) e in
+    found_placed after (id_in note) part (is ∙ ap (λ (o : Option Fact). part_noted kind o note) here ∙ sym (part_is kind l facts note fits) ∙ ap (λ (fs : List Fact). fact_with fs (id_in note)) (sym new)) all

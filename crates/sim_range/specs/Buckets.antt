@@ -1,0 +1,26 @@
+-- Buckets of 16 by 16 cells.
+use Rattle.std.specs.Prelude.{ℕ, ◌+◌, ◌*◌, ◌/◌, Bool, ◌&&◌, ◌==◌, List, map, filter, All}
+use Rattle.sim_base.specs.declared.place.Point.{Point}
+use Rattle.sim_base.specs.Places.{IsPlaced, cell_of}
+use Rattle.sim_system.specs.declared.fact.Fact.{Fact}
+use Rattle.sim_system.specs.Facts.{id_of_fact}
+
+-- the number of the bucket in which a point lies: those of a row, from west to east, have 16 numbers
+abbrev pub bucket_at : Point → ℕ
+bucket_at p = (cell_of p).z / 16 * 16 + (cell_of p).x / 16
+
+-- an entity stands in the bucket of its point
+abbrev pub bucket_key : Fact → ℕ
+bucket_key fact = bucket_at fact.at
+
+-- whether the cell of a point, divided by 16, is this
+abbrev pub is_in_bucket : ℕ → ℕ → Point → Bool
+is_in_bucket bx bz p = (cell_of p).x / 16 == bx && (cell_of p).z / 16 == bz
+
+-- the entities in a bucket
+abbrev pub in_bucket : ℕ → ℕ → List Fact → List ℕ
+in_bucket bx bz facts = map id_of_fact (filter (λ (fact : Fact). is_in_bucket bx bz fact.at) facts)
+
+-- all stand on the largest ground
+abbrev pub ArePlaced : List Fact → Type 0
+ArePlaced facts = All (λ (fact : Fact). IsPlaced fact.at) facts
