@@ -10,8 +10,8 @@ use Rattle.sim_system.specs.Facts.{id_of_fact}
 use Rattle.sim_system.specs.Notes.{fact_with, without, placed, with_kept, noted, NoteFits}
 use Rattle.sim_fact_lists.specs.Places.{Ascend, HoldsIfAny, with_only}
 use Rattle.sim_fact_lists.specs.Changes.{id_in, part_noted}
-use Rattle.sim_fact_lists.specs.Groups.{listed, without_id, with_id, left_by, joined_by, has_same_key, keyed, AreGroups}
-use Rattle.sim_fact_lists.proofs.Rising.{Above as FactsAbove, Rising as FactsRising, Missing, rising as facts_rising, above_less, above_at, missing_above, missing_without, not_found, without_missing, found_id, rising_without, only_itself}
+use Rattle.sim_fact_lists.specs.Groups.{listed, without_id, with_id, left_by, joined_by, keyed, AreGroups}
+use Rattle.sim_fact_lists.proofs.Rising.{Above as FactsAbove, Rising as FactsRising, Missing, rising as facts_rising, above_less, above_at, missing_above, missing_without, not_found, without_missing, found_id, rising_without}
 use Rattle.sim_fact_lists.proofs.Holding.{put_is, put_named}
 use Rattle.sim_fact_lists.proofs.Pairs.{Above, with_first, with_behind}
 
@@ -134,32 +134,6 @@ module _ (key : Fact → ℕ) where
   noted_groups kind (Some l) note id before part facts after old_keys old_ids mid_keys mid_ids new_keys new_ids fits h are is found made new left joined =
       relisted id before part facts after old_keys old_ids mid_keys mid_ids new_keys new_ids (facts_rising facts (h l refl).held.ascending) are found
       (named_by part id (put_named kind facts note id before part is found made)) (put_is kind (Some l) facts note id before part fits h is found made ∙ sym new) left joined
-
-  -- ---- a note that leaves the key as it is
-
-  rejoined : (before part : Option Fact) (id t : ℕ) (ids : List ℕ) → ((f : Fact) → before ≡ Some f → f.id ≡ id) → ((f : Fact) → part ≡ Some f → f.id ≡ id) → has_same_key key before part ≡ true →
-      joined_by key part t ids ≡ joined_by key before t ids
-  rejoined None None id t ids old new same = refl
-  rejoined None (Some g) id t ids old new same = absurd (cc)
-  rejoined (Some f) None id t ids old new same = absurd (cc)
-  rejoined (Some f) (Some g) id t ids old new same =
-      let keys : key f ≡ key g = eqb-true (key f) (key g) same in
-      let named : f.id ≡ g.id = old f refl ∙ sym (new g refl) in
-      sym (ap (λ (k : ℕ). cond (k == t) (with_id f.id ids) ids) keys ∙ ap (λ (n : ℕ). cond (key g == t) (with_id n ids) ids) named)
-
-  pub unmoved_groups : (kind : Kind) (land : Option Land) (note : Note) (id : ℕ) (before part : Option Fact) (facts after : List Fact) (keys ids : List ℕ) → MatchOption land ⊥ (λ (l : Land). NoteFits kind l facts note) → HoldsIfAny land facts →
-      AreGroups key facts keys ids → id ≡ id_in note → before ≡ fact_with facts id → part ≡ part_noted kind before note → after ≡ noted kind facts note → has_same_key key before part ≡ true → AreGroups key after keys ids
-  unmoved_groups kind None note id before part facts after keys ids fits h are is found made new same t = absurd fits
-  unmoved_groups kind (Some l) note id before part facts after keys ids fits h are is found made new same t =
-      let r : FactsRising facts = facts_rising facts (h l refl).held.ascending in
-      let old : (f : Fact) → before ≡ Some f → f.id ≡ id = λ f e. found_id id facts f (sym found ∙ e) in
-      let named : (f : Fact) → part ≡ Some f → f.id ≡ id = named_by part id (put_named kind facts note id before part is found made) in
-      let rest = without id facts in
-      are t
-      ∙ sym (joined_is t id before rest old (rising_without id facts r) (without_missing id facts) ∙ ap (λ (o : Option Fact). keyed key t (with_only id o facts)) found ∙ ap (keyed key t) (only_itself id facts r))
-      ∙ sym (rejoined before part id t (keyed key t rest) old named same)
-      ∙ joined_is t id part rest named (rising_without id facts r) (without_missing id facts)
-      ∙ ap (keyed key t) (put_is kind (Some l) facts note id before part fits h is found made ∙ sym new)
 
   pub same_groups : (facts : List Fact) (keys ids new_keys new_ids : List ℕ) → AreGroups key facts keys ids → new_keys ≡ keys → new_ids ≡ ids → AreGroups key facts new_keys new_ids
   same_groups facts keys ids new_keys new_ids are one two t = ap (λ (xs : List ℕ). listed t xs new_ids) one ∙ ap (listed t keys) two ∙ are t

@@ -1,5 +1,5 @@
 -- Ids in groups by key: pairs of a key and an id, in two lists.
-use Rattle.std.specs.Prelude.{◌≡◌, ℕ, ◌<◌, ◌≤◌, Bool, true, false, not, nat_lt, ◌==◌, List, [], ◌∷◌, length, map, filter, slice_index, Option, Some, None, if◌then◌else◌}
+use Rattle.std.specs.Prelude.{◌≡◌, ℕ, ◌<◌, ◌≤◌, not, nat_lt, ◌==◌, List, [], ◌∷◌, length, map, filter, slice_index, Option, Some, None, if◌then◌else◌}
 use Rattle.sim_system.specs.declared.fact.Fact.{Fact}
 use Rattle.sim_system.specs.Facts.{id_of_fact}
 
@@ -57,13 +57,6 @@ left_by key (Some fact) k ids = if key fact == k then without_id fact.id ids els
 abbrev pub joined_by : (Fact → ℕ) → Option Fact → ℕ → List ℕ → List ℕ
 joined_by key None k ids = ids
 joined_by key (Some fact) k ids = if key fact == k then with_id fact.id ids else ids
-
--- whether a key is the same before and after, or nothing is kept before and after
-abbrev pub has_same_key : (Fact → ℕ) → Option Fact → Option Fact → Bool
-has_same_key key None None = true
-has_same_key key None (Some new) = false
-has_same_key key (Some old) None = false
-has_same_key key (Some old) (Some new) = key old == key new
 
 -- the entities with this key
 abbrev pub keyed : (Fact → ℕ) → ℕ → List Fact → List ℕ

@@ -14,10 +14,10 @@ use Rattle.sim_system.specs.Facts.{id_of_fact}
 use Rattle.sim_system.specs.Notes.{fact_with, noted, NoteFits}
 use Rattle.sim_fact_lists.specs.Places.{IsHeld, Holds, HoldsIfAny}
 use Rattle.sim_fact_lists.specs.Changes.{id_in, part_noted}
-use Rattle.sim_fact_lists.specs.Groups.{keyed}
 use Rattle.sim_fact_lists.proofs.Rising.{found_all}
+use Rattle.sim_fact_lists.proofs.Holding.{noted_held}
 use Rattle.sim_fact_lists.proofs.OneFact.{part_is}
-use Rattle.sim_range.specs.Buckets.{ArePlaced, bucket_key, is_in_bucket, in_bucket}
+use Rattle.sim_range.specs.Buckets.{ArePlaced, bucket_key, held_in, is_in_bucket, in_bucket}
 use Rattle.sim_range.proofs.Held.{placed_on}
 
 -- ---- numbers of buckets
@@ -31,7 +31,7 @@ same_number x z bx bz lt also = grind (arith, nat_tests)
 test_is : (bx bz : ℕ) (f : Fact) → bx < 16 → IsPlaced f.at → (bucket_key f == bz * 16 + bx) ≡ is_in_bucket bx bz f.at
 test_is bx bz f lt placed = same_number ((cell_of f.at).x / 16) ((cell_of f.at).z / 16) bx bz (small_west f.at placed) lt
 
-pub bucket_is : (bx bz : ℕ) (facts : List Fact) → bx < 16 → ArePlaced facts → keyed bucket_key (bz * 16 + bx) facts ≡ in_bucket bx bz facts
+pub bucket_is : (bx bz : ℕ) (facts : List Fact) → bx < 16 → ArePlaced facts → map id_of_fact (held_in (bz * 16 + bx) facts) ≡ in_bucket bx bz facts
 bucket_is bx bz facts lt placed = ap (map id_of_fact) (same facts placed)
   where
     same : (fs : List Fact) → ArePlaced fs → filter (λ (f : Fact). bucket_key f == bz * 16 + bx) fs ≡ filter (λ (f : Fact). is_in_bucket bx bz f.at) fs
@@ -56,10 +56,14 @@ pub found_placed : (facts : List Fact) (id : ℕ) (o : Option Fact) → o ≡ fa
 found_placed facts id None e all = tt
 found_placed facts id (Some f) e all = found_all (λ (g : Fact). IsPlaced g.at) id facts f all (sym e)
 
+-- the facts after a note
+placed_noted : (kind : Kind) (l : Land) (facts : List Fact) (note : Note) → NoteFits kind l facts note → Holds l facts → ArePlaced (noted kind facts note)
+placed_noted kind l facts note fits h = held_placed l (noted kind facts note) (record { limits = h.limits; held = noted_held l h.limits kind facts note fits h.held })
+
 -- what is kept of the id after the note
-pub part_placed : (kind : Kind) (land : Option Land) (facts after : List Fact) (note : Note) (id : ℕ) (before part : Option Fact) → MatchOption land ⊥ (λ (l : Land). NoteFits kind l facts note) → id ≡ id_in note → before ≡ fact_with facts id → part ≡ part_noted kind before note → after ≡ noted kind facts note →
-    ArePlaced after → IfSome part (λ (f : Fact). IsPlaced f.at)
-part_placed kind None facts after note id before part fits e found is new all = absurd fits
-part_placed kind (Some l) facts after note id before part fits e found is new all =
+pub part_placed : (kind : Kind) (land : Option Land) (facts : List Fact) (note : Note) (id : ℕ) (before part : Option Fact) → MatchOption land ⊥ (λ (l : Land). NoteFits kind l facts note) → HoldsIfAny land facts → id ≡ id_in note → before ≡ fact_with facts id → part ≡ part_noted kind before note →
+    IfSome part (λ (f : Fact). IsPlaced f.at)
+part_placed kind None facts note id before part fits h e found is = absurd fits
+part_placed kind (Some l) facts note id before part fits h e found is =
     let here : before ≡ fact_with facts (id_in note) = found ∙ ap (fact_with facts) e in
-    found_placed after (id_in note) part (is ∙ ap (λ (o : Option Fact). part_noted kind o note) here ∙ sym (part_is kind l facts note fits) ∙ ap (λ (fs : List Fact). fact_with fs (id_in note)) (sym new)) all
+    found_placed (noted kind facts note) (id_in note) part (is ∙ ap (λ (o : Option Fact). part_noted kind o note) here ∙ sym (part_is kind l facts note fits)) (placed_noted kind l facts note fits (h l refl))

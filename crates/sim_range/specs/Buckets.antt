@@ -1,9 +1,13 @@
 -- Buckets of 16 by 16 cells.
-use Rattle.std.specs.Prelude.{ℕ, ◌+◌, ◌*◌, ◌/◌, Bool, ◌&&◌, ◌==◌, List, map, filter, All}
+use Rattle.std.specs.Prelude.{ℕ, ◌+◌, ◌*◌, ◌/◌, Bool, false, ◌&&◌, ◌==◌, List, map, filter, All, Option, Some, None, if◌then◌else◌}
 use Rattle.sim_base.specs.declared.place.Point.{Point}
 use Rattle.sim_base.specs.Places.{IsPlaced, cell_of}
 use Rattle.sim_system.specs.declared.fact.Fact.{Fact}
 use Rattle.sim_system.specs.Facts.{id_of_fact}
+
+-- each stands on the largest ground
+abbrev pub ArePlaced : List Fact → Type 0
+ArePlaced facts = All (λ (fact : Fact). IsPlaced fact.at) facts
 
 -- the number of the bucket in which a point lies: those of a row, from west to east, have 16 numbers
 abbrev pub bucket_at : Point → ℕ
@@ -21,6 +25,16 @@ is_in_bucket bx bz p = (cell_of p).x / 16 == bx && (cell_of p).z / 16 == bz
 abbrev pub in_bucket : ℕ → ℕ → List Fact → List ℕ
 in_bucket bx bz facts = map id_of_fact (filter (λ (fact : Fact). is_in_bucket bx bz fact.at) facts)
 
--- all stand on the largest ground
-abbrev pub ArePlaced : List Fact → Type 0
-ArePlaced facts = All (λ (fact : Fact). IsPlaced fact.at) facts
+-- the facts in the bucket of this number
+abbrev pub held_in : ℕ → List Fact → List Fact
+held_in k facts = filter (λ (fact : Fact). bucket_key fact == k) facts
+
+-- whether what is kept of an entity is in the bucket of this number
+abbrev pub is_in : ℕ → Option Fact → Bool
+is_in k None = false
+is_in k (Some fact) = bucket_key fact == k
+
+-- what is kept of an entity in that bucket
+abbrev pub part_in : ℕ → Option Fact → Option Fact
+part_in k None = None
+part_in k (Some fact) = if bucket_key fact == k then Some fact else None

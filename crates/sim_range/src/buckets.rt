@@ -1,72 +1,121 @@
-//! Who stands in which bucket of 16 by 16 cells: groups of ids whose key is the number of the bucket.
+//! Who stands in which bucket of 16 by 16 cells: 256 buckets by their numbers.
 
-ghost use Rattle.std.specs.Prelude.{◌≡◌, ◌<◌, ℕ, IfOk, IfSome, vec_len, vec_capacity};
+ghost use Rattle.std.specs.Prelude.{◌≡◌, ◌<◌, ℕ, [], length, slice_index_or, OnOk, IfOk, IfSome, IsSome};
 ghost use Rattle.sim_base.specs.Places.{IsPlaced};
-ghost use Rattle.sim_fact_lists.specs.Places.{Ascend};
-ghost use Rattle.sim_fact_lists.specs.Groups.{AreGroups, listed, left_by, joined_by, has_same_key};
-ghost use Rattle.sim_range.specs.Buckets.{ArePlaced, bucket_at, bucket_key};
+ghost use Rattle.sim_fact_lists.specs.Places.{Ascend, with_only};
+ghost use Rattle.sim_range.specs.Buckets.{ArePlaced, bucket_at, is_in};
+ghost use Rattle.sim_range.specs.Bucketed.{AreBuckets, HasRoom, HaveRoom, changed_at, facts_at, left_at};
 
+use crate::bucket::Bucket;
 use sim_base::{OutOfMemory, Point, cell_of};
-use sim_fact_lists::Groups;
 use sim_system::Fact;
 use std::alloc::Global;
 
 /// The number of the bucket in which a point lies.
-pub fn bucket_of(at: Point) -> u32
+pub fn bucket_of(at: Point) -> usize
     requires { IsPlaced at }
-    ensures { result ≡ bucket_at at }
+    ensures number { result ≡ bucket_at at }
+    ensures below { result < 256 }
 {
     let cell = cell_of(at);
-    u32::from(cell.z / 16) * 16 + u32::from(cell.x / 16)
+    usize::from(cell.z / 16) * 16 + usize::from(cell.x / 16)
+}
+
+// Buckets in which nobody stands.
+fn empty(alloc: Global) -> Result<Vec<Bucket>, OutOfMemory>
+    ensures whole { IfOk result (λ all. length all.items ≡ 256) }
+    ensures bare { IfOk result (λ all. AreBuckets [] all.items) }
+{
+    let mut all = Vec::new(alloc);
+    for _ in 0..256usize {
+        all.push(Bucket::new(alloc))?;
+    }
+    Ok(all)
 }
 
 /// Those of these facts.
-pub fn buckets_of(alloc: Global, facts: &[Fact]) -> Result<Groups, OutOfMemory>
+pub fn buckets_of(alloc: Global, facts: &[Fact]) -> Result<Vec<Bucket>, OutOfMemory>
     requires ascending { Ascend facts.now }
     requires placed { ArePlaced facts.now }
-    ensures { IfOk result (λ buckets. AreGroups bucket_key facts.now buckets.keys.items buckets.ids.items) }
+    ensures whole { IfOk result (λ all. length all.items ≡ 256) }
+    ensures each { IfOk result (λ all. AreBuckets facts.now all.items) }
 {
-    let mut buckets = Groups::new(alloc);
+    let mut all = empty(alloc)?;
     for fact in facts {
-        buckets.make_room()?;
-        buckets.join(bucket_of(fact.at), fact.id);
+        let part = Some(*fact);
+        make_room(&mut all, &part)?;
+        change(&mut all, fact.id, &None, &part);
     }
-    Ok(buckets)
+    Ok(all)
 }
 
-/// Whether a bucket is the same before and after, or there is an entity neither before nor after.
-pub fn stays(before: &Option<Fact>, after: &Option<Fact>) -> bool
+/// Makes room for what is kept of an entity, in its bucket.
+pub fn make_room(buckets: &mut Vec<Bucket>, part: &Option<Fact>) -> Result<(), OutOfMemory>
+    requires whole { length buckets.old.items ≡ 256 }
+    requires placed { IfSome part.now (λ fact. IsPlaced fact.at) }
+    ensures whole { length buckets.new.items ≡ 256 }
+    ensures same { (k : ℕ) (d : Bucket) → k < 256 → facts_at buckets.new.items k d ≡ facts_at buckets.old.items k d }
+    ensures room { OnOk result (HaveRoom part.now buckets.new.items) }
+{
+    if let Some(fact) = part {
+        buckets[bucket_of(fact.at)].make_room()?;
+    }
+    Ok(())
+}
+
+// Keeps this of an entity in a bucket, and nothing else. Where it is something, the room was made before.
+fn put_at(buckets: &mut Vec<Bucket>, at: usize, id: u32, part: &Option<Fact>)
+    requires within { at < length buckets.old.items }
+    requires named { IfSome part.now (λ fact. fact.id ≡ id) }
+    requires room { (d : Bucket) → IsSome part.now → HasRoom (slice_index_or buckets.old.items at d) }
+    ensures length { length buckets.new.items ≡ length buckets.old.items }
+    ensures there { (d : Bucket) → facts_at buckets.new.items at d ≡ with_only id part.now (facts_at buckets.old.items at d) }
+    ensures others { (k : ℕ) (d : Bucket) → (k ≡ at → ⊥) → slice_index_or buckets.new.items k d ≡ slice_index_or buckets.old.items k d }
+{
+    buckets[at].put(id, part);
+}
+
+// Whether this is kept in the bucket.
+fn has(part: &Option<Fact>, number: usize) -> bool
+    requires { IfSome part.now (λ fact. IsPlaced fact.at) }
+    ensures { result ≡ is_in number part.now }
+{
+    match part {
+        Some(fact) => bucket_of(fact.at) == number,
+        None => false,
+    }
+}
+
+// An entity leaves its bucket, if it had one, unless it stays there.
+fn leave(buckets: &mut Vec<Bucket>, id: u32, before: &Option<Fact>, after: &Option<Fact>)
+    requires whole { length buckets.old.items ≡ 256 }
     requires old { IfSome before.now (λ fact. IsPlaced fact.at) }
     requires new { IfSome after.now (λ fact. IsPlaced fact.at) }
-    ensures { result ≡ has_same_key bucket_key before.now after.now }
+    requires room { HaveRoom after.now buckets.old.items }
+    ensures whole { length buckets.new.items ≡ 256 }
+    ensures left { (k : ℕ) (d : Bucket) → k < 256 → facts_at buckets.new.items k d ≡ left_at k id before.now after.now (facts_at buckets.old.items k d) }
+    ensures room { HaveRoom after.now buckets.new.items }
 {
-    match (before, after) {
-        (Some(old), Some(new)) => bucket_of(old.at) == bucket_of(new.at),
-        (None, None) => true,
-        _ => false,
+    if let Some(fact) = before {
+        let from = bucket_of(fact.at);
+        if !has(after, from) {
+            put_at(buckets, from, id, &None);
+        }
     }
 }
 
-/// This entity leaves its bucket, if there is one.
-pub fn leave(buckets: &mut Groups, part: &Option<Fact>)
-    requires placed { IfSome part.now (λ fact. IsPlaced fact.at) }
-    ensures left { (k : ℕ) → listed k buckets.new.keys.items buckets.new.ids.items ≡ left_by bucket_key part.now k (listed k buckets.old.keys.items buckets.old.ids.items) }
-    ensures keys_room { vec_len buckets.old.keys < vec_capacity buckets.old.keys → vec_len buckets.new.keys < vec_capacity buckets.new.keys }
-    ensures ids_room { vec_len buckets.old.ids < vec_capacity buckets.old.ids → vec_len buckets.new.ids < vec_capacity buckets.new.ids }
+/// Changes the buckets as what is kept of an entity has changed. The room was made before.
+pub fn change(buckets: &mut Vec<Bucket>, id: u32, before: &Option<Fact>, after: &Option<Fact>)
+    requires whole { length buckets.old.items ≡ 256 }
+    requires old { IfSome before.now (λ fact. IsPlaced fact.at) }
+    requires new { IfSome after.now (λ fact. IsPlaced fact.at) }
+    requires named { IfSome after.now (λ fact. fact.id ≡ id) }
+    requires room { HaveRoom after.now buckets.old.items }
+    ensures whole { length buckets.new.items ≡ 256 }
+    ensures changed { (k : ℕ) (d : Bucket) → k < 256 → facts_at buckets.new.items k d ≡ changed_at k id before.now after.now (facts_at buckets.old.items k d) }
 {
-    if let Some(fact) = part {
-        buckets.leave(bucket_of(fact.at), fact.id);
-    }
-}
-
-/// This entity comes to its bucket, if there is one. The room was made before.
-pub fn join(buckets: &mut Groups, part: &Option<Fact>)
-    requires keys_room { vec_len buckets.old.keys < vec_capacity buckets.old.keys }
-    requires ids_room { vec_len buckets.old.ids < vec_capacity buckets.old.ids }
-    requires placed { IfSome part.now (λ fact. IsPlaced fact.at) }
-    ensures { (k : ℕ) → listed k buckets.new.keys.items buckets.new.ids.items ≡ joined_by bucket_key part.now k (listed k buckets.old.keys.items buckets.old.ids.items) }
-{
-    if let Some(fact) = part {
-        buckets.join(bucket_of(fact.at), fact.id);
+    leave(buckets, id, before, after);
+    if let Some(fact) = after {
+        put_at(buckets, bucket_of(fact.at), id, after);
     }
 }

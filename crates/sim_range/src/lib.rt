@@ -5,11 +5,13 @@
 //! stands in which bucket of the ground, which it lends. It stands on the lists of facts.
 //!
 //! - `range`: the system.
+//! - `bucket`: who stands in one bucket.
 //! - `buckets`: who stands in which bucket of 16 by 16 cells.
 //! - `within`: who is near a point.
 //! - `seen`: whom an entity sees.
 #![tactic(auto)]
 
+mod bucket;
 mod buckets;
 mod range;
 mod seen;

@@ -1,15 +1,16 @@
 //! The system: the place, owner, health and vision of each entity, and beside them buckets of ids by place.
 
-ghost use Rattle.std.specs.Prelude.{◌≡◌, ◌<◌, None, []};
-ghost use Rattle.sim_fact_lists.specs.Groups.{AreGroups};
-ghost use Rattle.sim_range.specs.Buckets.{ArePlaced, bucket_key, in_bucket};
+ghost use Rattle.std.specs.Prelude.{◌≡◌, ◌<◌, None, [], length, IsSome};
+ghost use Rattle.sim_range.specs.Buckets.{ArePlaced, in_bucket};
+ghost use Rattle.sim_range.specs.Bucketed.{AreBuckets};
 ghost use Rattle.sim_system.specs.declared.kind.Kind.TheVariants.{Range as RangeKind};
 
-use crate::buckets::{buckets_of, join, leave, stays};
+use crate::bucket::Bucket;
+use crate::buckets::{buckets_of, change, make_room};
 use crate::seen::seen;
 use crate::within::within;
 use sim_base::{Land, OutOfMemory};
-use sim_fact_lists::{Groups, Kept, id_of, part_after};
+use sim_fact_lists::{Kept, id_of, part_after};
 use sim_system::{Answer, Ask, Fact, Kind, Note, System};
 use std::alloc::Global;
 
@@ -17,9 +18,11 @@ use std::alloc::Global;
 #[derive(Drop)]
 pub struct Range {
     kept: Kept,
-    buckets: Groups,
+    buckets: Vec<Bucket>,
     ghost placed: { ArePlaced kept.facts.items },
-    ghost grouped: { AreGroups bucket_key kept.facts.items buckets.keys.items buckets.ids.items },
+    ghost bucketed: { AreBuckets kept.facts.items buckets.items },
+    ghost whole: { IsSome kept.land → length buckets.items ≡ 256 },
+    ghost bare: { kept.land ≡ None → kept.facts.items ≡ [] },
 }
 
 impl Range {
@@ -29,7 +32,7 @@ impl Range {
     {
         Range {
             kept: Kept::new(alloc),
-            buckets: Groups::new(alloc),
+            buckets: Vec::new(alloc),
         }
     }
 
@@ -39,7 +42,11 @@ impl Range {
         requires bz { bz < 16 }
         ensures { result.now ≡ in_bucket bx bz (⟦<Range as System>⟧.meaning self.now).facts }
     {
-        self.buckets.at(u32::from(bz) * 16 + u32::from(bx))
+        let number = usize::from(bz) * 16 + usize::from(bx);
+        match self.buckets.as_slice().get(number) {
+            Some(bucket) => bucket.ids.as_slice(),
+            None => &[],
+        }
     }
 }
 
@@ -52,11 +59,11 @@ impl System for Range {
 
     fn clear(&mut self) {
         self.kept.clear();
-        self.buckets = Groups::new(self.kept.alloc);
+        self.buckets = Vec::new(self.kept.alloc);
     }
 
     fn rebuild(&mut self, land: &Land, facts: &[Fact]) -> Result<(), OutOfMemory> {
-        self.buckets = Groups::new(self.kept.alloc);
+        self.buckets = Vec::new(self.kept.alloc);
         self.kept.rebuild(Kind::Range, land, facts)?;
         match buckets_of(self.kept.alloc, self.kept.facts.as_slice()) {
             Ok(buckets) => self.buckets = buckets,
@@ -69,14 +76,12 @@ impl System for Range {
     }
 
     fn on(&mut self, note: &Note) -> Result<(), OutOfMemory> {
-        let before = self.kept.find(id_of(note));
+        let id = id_of(note);
+        let before = self.kept.find(id);
         let after = part_after(Kind::Range, before, note);
-        self.buckets.make_room()?;
+        make_room(&mut self.buckets, &after)?;
         self.kept.on(Kind::Range, note)?;
-        if !stays(&before, &after) {
-            leave(&mut self.buckets, &before);
-            join(&mut self.buckets, &after);
-        }
+        change(&mut self.buckets, id, &before, &after);
         Ok(())
     }
 
