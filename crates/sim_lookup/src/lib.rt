@@ -1,8 +1,9 @@
 //! What is read of a match and a state: a row by its id, a template by its number, who is an enemy of whom, and how
 //! points lie to one another.
 //!
-//! It promises the row or number of the definition, without memory; a row is found by halves, since ids ascend. It stands
-//! on the definitions of `sim_base` and on the laws of valid states, by which a row that is found lies on the ground.
+//! It promises the row or number of the definition, without memory; a row is found at once where no id before its own is
+//! missing, and else by halves, since ids ascend. It stands on the definitions of `sim_base` and on the laws of valid
+//! states, by which a row that is found lies on the ground.
 //!
 //! - `rows`: a row by its id, or its place.
 //! - `templates`: what the template of a row says.

@@ -1,6 +1,6 @@
-//! A row by its id. Ids ascend, so it is found by halves.
+//! A row by its id. Ids ascend, so it is found by halves; at once where each id from the first row on has a row.
 
-ghost use Rattle.std.specs.Prelude.{◌≡◌, ◌<◌, IsTrue, None, Some, length, map, option_copied, MatchOption};
+ghost use Rattle.std.specs.Prelude.{◌≡◌, ◌<◌, IsTrue, None, Some, length, map, option_copied, MatchOption, IfSome};
 ghost use Rattle.std.specs.List.{HoldsAt};
 ghost use Rattle.std.specs.List.Sorted.{IsStrictlyIncreasing};
 ghost use Rattle.sim_base.specs.Rows.{id_of, row_of, target_of as target_by, is_going as is_going_by};
@@ -28,6 +28,31 @@ pub fn place_of(rows: &[Row], id: u32) -> Option<usize>
     if is_below(rows, id) {
         return None;
     }
+    match place_by_count(rows, id) {
+        Some(at) => Some(at),
+        None => place_by_halves(rows, id),
+    }
+}
+
+// The place that the row has if each id from the first row's on has one.
+fn place_by_count(rows: &[Row], id: u32) -> Option<usize>
+    ensures { IfSome result (λ at. (at < length rows.now) × HoldsAt (λ row. row.id ≡ id) rows.now at) }
+{
+    let [first, ..] = rows else {
+        return None;
+    };
+    let at = id.checked_sub(first.id)? as usize;
+    match rows.get(at) {
+        Some(row) if row.id == id => Some(at),
+        _ => None,
+    }
+}
+
+// The place of the row, by halves.
+fn place_by_halves(rows: &[Row], id: u32) -> Option<usize>
+    requires { IsStrictlyIncreasing (map id_of rows.now) }
+    ensures { MatchOption result (found rows.now id ≡ None) (λ at. (at < length rows.now) × HoldsAt (λ row. found rows.now id ≡ Some row) rows.now at) }
+{
     match rows.binary_search_by_key(&id, |row| row.id) {
         Ok(at) => Some(at),
         Err(_) => None,

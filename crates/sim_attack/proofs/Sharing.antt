@@ -1,0 +1,81 @@
+-- Rows of one owner that stand at one point and see equally far have the same nearest enemy.
+use Rattle.std.proofs.Common.{◌≡◌, ℕ, ◌+◌, ◌<◌, ◌≤◌, Bool, true, false, cond, not, ℤ, List, [], ◌∷◌, length, filter, get_or, set, Option, Some, None, refl, sym, ap, ◌∙◌, subst, inl, inr, arith, All}
+use Rattle.std.specs.Prelude.{is_some, ◌==◌, ◌&&◌, int_eq, IfSome, unwrap_or, option_map}
+use Rattle.std.proofs.lemmas.Bool.{eqb-true, eqb-false, ne_eqb, and_parts}
+use Rattle.std.proofs.lemmas.List.Elements.{All-get_or, All-set}
+use Rattle.sim_base.specs.declared.place.Point.{Point}
+use Rattle.sim_base.specs.declared.template.Arms.{Arms}
+use Rattle.sim_base.specs.declared.setup.Setup.{Setup}
+use Rattle.sim_base.specs.declared.state.Row.{Row}
+use Rattle.sim_base.specs.declared.state.State.{State}
+use Rattle.sim_base.specs.Places.{square}
+use Rattle.sim_base.specs.Least.{least_of}
+use Rattle.sim_base.specs.Limits.{IsSetup}
+use Rattle.sim_base.specs.Rows.{id_of, row_of, in_mask, enemies_of}
+use Rattle.sim_base.specs.Filters.{is_near, within}
+use Rattle.sim_base.specs.Aim.{target_for}
+use Rattle.sim_base.specs.Move.{same_point}
+use Rattle.sim_base.specs.Validity.{IsKnownRow, IsLooselyValid}
+use Rattle.sim_laws.proofs.Members.{Has, Has-of_map}
+use Rattle.sim_turn_laws.proofs.Rows.{Has-of_filter, known_row, found_row, same_row, apart}
+use Rattle.sim_attack.specs.declared.finds.Find.{Find}
+use Rattle.sim_attack.specs.Finds.{is_shared, shared, nearest_from, AreFound}
+
+-- a filter that each member passes
+filter_all : {X : Type 0} (p : X → Bool) (xs : List X) → ((x : X) → Has xs x → p x ≡ true) → filter p xs ≡ xs
+filter_all p [] each = refl
+filter_all p (x ∷ xs) each =
+    let first : p x ≡ true = each x (inl refl) in
+    rw first (ap (λ ys. x ∷ ys) (filter_all p xs (λ y h. each y (inr h))))
+
+module _ (setup : Setup) (state : State) (row : Row) (limits : IsSetup setup) (valid : IsLooselyValid setup state) (known : IsKnownRow 0 setup state.rows row) (found : row_of state row.id ≡ Some row) where
+  -- the row is none of its own enemies
+  not_itself : in_mask (enemies_of setup row.owner) row.owner ≡ false
+  not_itself =
+      let (t, e, v) = known_row 0 setup state.rows row known in
+      (limits.land.masks row.owner (omega (arith, v.owner, limits.players))).not_itself
+
+  other_ids : (vision : ℤ) (id : ℕ) → Has (within state row.at vision (enemies_of setup row.owner)) id → not (id == row.id) ≡ true
+  other_ids vision id h =
+      let test : Row → Bool = λ (q : Row). is_some q.health && in_mask (enemies_of setup row.owner) q.owner && is_near q.at row.at vision in
+      let (q, m, e) = Has-of_map id_of (filter test state.rows) id h in
+      let (k, passes) = Has-of_filter test state.rows q m in
+      let (first, near) = and_parts (is_some q.health && in_mask (enemies_of setup row.owner) q.owner) (is_near q.at row.at vision) passes in
+      let (some, enemy) = and_parts (is_some q.health) (in_mask (enemies_of setup row.owner) q.owner) first in
+      let differ : id ≡ row.id → ⊥ = λ same.
+      let is : q ≡ row = same_row state.rows q row (apart state.rows valid.ascending) k ((found_row state row.id row found).0) (e ∙ same) in
+      let itself : in_mask (enemies_of setup row.owner) row.owner ≡ true = ap (λ (r : Row). in_mask (enemies_of setup row.owner) r.owner) (sym is) ∙ enemy in
+      let none = not_itself in cc in
+      ap not (ne_eqb id row.id differ)
+
+  -- what a row finds is what its owner finds from there
+  pub target_is_nearest : (arms : Arms) → target_for setup state row arms ≡ nearest_from setup state row.owner row.at arms.vision
+  target_is_nearest arms =
+      let ids = within state row.at arms.vision (enemies_of setup row.owner) in
+      ap (λ (found : List ℕ). unwrap_or (least_of (λ id. unwrap_or (option_map (λ (other : Row). square other.at row.at) (row_of state id)) 0 ∷ id ∷ []) found) 0)
+      (filter_all (λ id. not (id == row.id)) ids (other_ids arms.vision))
+
+same_point-true : (p q : Point) → same_point p q ≡ true → p ≡ q
+same_point-true p q e =
+    let (x, z) = and_parts (int_eq p.x q.x) (int_eq p.z q.z) e in
+    let ex : p.x ≡ q.x = grind arith in
+    let ez : p.z ≡ q.z = grind arith in
+    λ i. record { x = ex i; z = ez i }
+
+-- what is taken from a find is what the row's owner finds from there
+pub shared_is_nearest : (setup : Setup) (state : State) (row : Row) (vision : ℤ) (o : Option Find) (target : ℕ) → IfSome o (λ (find : Find). find.target ≡ nearest_from setup state find.owner find.at find.vision) →
+    shared row vision o ≡ Some target → target ≡ nearest_from setup state row.owner row.at vision
+shared_is_nearest setup state row vision None target h e = absurd (cc)
+shared_is_nearest setup state row vision (Some find) target h e = by (is_shared row vision find) refl e
+  where
+    by : (b : Bool) → is_shared row vision find ≡ b → cond b (Some find.target) None ≡ Some target → target ≡ nearest_from setup state row.owner row.at vision
+    by false s f = absurd (cc)
+    by true s f =
+        let (first, far) = and_parts (find.owner == row.owner && same_point find.at row.at) (int_eq find.vision vision) s in
+        let (owner, place) = and_parts (find.owner == row.owner) (same_point find.at row.at) first in
+        let same_owner : find.owner ≡ row.owner = eqb-true find.owner row.owner owner in
+        let same_at : find.at ≡ row.at = same_point-true find.at row.at place in
+        let same_far : find.vision ≡ vision = grind arith in
+        let same : find.target ≡ target = cc in
+        sym same ∙ h ∙ ap (λ (n : ℕ). nearest_from setup state n find.at find.vision) same_owner ∙ ap (λ (p : Point). nearest_from setup state row.owner p find.vision) same_at ∙
+        ap (nearest_from setup state row.owner row.at) same_far

@@ -1,0 +1,84 @@
+//! Whom fighters have found in a phase, so that of those who stand together one looks for all.
+//!
+//! Rows of one owner that stand at one point and see equally far have the same nearest enemy, since nobody is his own
+//! enemy. What one of them finds has a place that owner and point give. Another find may take that place: then the first
+//! is looked for again.
+
+ghost use Rattle.std.specs.Prelude.{◌≡◌, ◌<◌, IfOk, None, Some, length, replicate, slice_index_or, slice_set};
+ghost use Rattle.sim_attack.specs.Finds.{find_places, place_for, shared, is_shared as is_shared_by};
+
+use sim_base::{Fixed, OutOfMemory, Point, Row};
+use sim_lookup::same_point;
+use std::alloc::Global;
+
+// How many finds are kept at most.
+const PLACES: usize = 256;
+
+/// A find: for whose row, from where and how far was looked, and the nearest enemy, or 0.
+#[derive(Clone, Copy, Debug)]
+pub struct Find {
+    pub owner: u8,
+    pub at: Point,
+    pub vision: Fixed,
+    pub target: u32,
+}
+
+/// The finds that are kept, each at its place.
+#[derive(Drop)]
+pub struct Finds {
+    kept: Vec<Option<Find>>,
+}
+
+impl Finds {
+    /// Nothing has been found.
+    pub fn new(alloc: Global) -> Result<Finds, OutOfMemory>
+        ensures { IfOk result (λ finds. finds.kept.items ≡ replicate find_places None) }
+    {
+        Ok(Finds {
+            kept: vec![in alloc; None; PLACES]?,
+        })
+    }
+
+    /// The target of a row that sees so far, where the find at its place is one for such a row.
+    pub fn target_for(&self, row: &Row, vision: Fixed) -> Option<u32>
+        requires { length self.now.kept.items ≡ find_places }
+        ensures { result ≡ shared row.now vision (slice_index_or self.now.kept.items (place_for row.now.owner row.now.at) None) }
+    {
+        match self.kept[place_of(row.owner, &row.at)] {
+            Some(find) if is_shared(&find, row, vision) => Some(find.target),
+            _ => None,
+        }
+    }
+
+    /// Keeps the target of a row that sees so far.
+    pub fn keep(&mut self, row: &Row, vision: Fixed, target: u32)
+        requires { length self.old.kept.items ≡ find_places }
+        ensures { self.new.kept.items ≡ slice_set self.old.kept.items (place_for row.now.owner row.now.at) (Some (record { owner = row.now.owner; at = row.now.at; vision = vision; target = target })) }
+    {
+        self.kept[place_of(row.owner, &row.at)] = Some(Find {
+            owner: row.owner,
+            at: row.at,
+            vision,
+            target,
+        });
+    }
+}
+
+// Whether a row that sees so far has this find.
+fn is_shared(find: &Find, row: &Row, vision: Fixed) -> bool
+    ensures { result ≡ is_shared_by row.now vision find.now }
+{
+    find.owner == row.owner && same_point(&find.at, &row.at) && find.vision.raw() == vision.raw()
+}
+
+// The place of the finds for rows of an owner at a point. The two factors are odd, so that points which lie side by side
+// have places of their own.
+fn place_of(owner: u8, at: &Point) -> usize
+    ensures value { result ≡ place_for owner at.now }
+    ensures small { result < find_places }
+{
+    let x = u64::from(at.x.raw().unsigned_abs());
+    let z = u64::from(at.z.raw().unsigned_abs());
+    let mixed = (x * 40503 + z * 30011) / 65536 + u64::from(owner);
+    (mixed % 256) as usize
+}
