@@ -2,3 +2,4 @@ mod Loops
 mod Sums
 mod Fighting
 mod Nearer
+mod Sharing

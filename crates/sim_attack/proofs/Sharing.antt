@@ -1,8 +1,7 @@
 -- Rows of one owner that stand at one point and see equally far have the same nearest enemy.
-use Rattle.std.proofs.Common.{◌≡◌, ℕ, ◌+◌, ◌<◌, ◌≤◌, Bool, true, false, cond, not, ℤ, List, [], ◌∷◌, length, filter, get_or, set, Option, Some, None, refl, sym, ap, ◌∙◌, subst, inl, inr, arith, All}
-use Rattle.std.specs.Prelude.{is_some, ◌==◌, ◌&&◌, int_eq, IfSome, unwrap_or, option_map}
-use Rattle.std.proofs.lemmas.Bool.{eqb-true, eqb-false, ne_eqb, and_parts}
-use Rattle.std.proofs.lemmas.List.Elements.{All-get_or, All-set}
+use Rattle.std.proofs.Common.{◌≡◌, ℕ, ◌<◌, Bool, true, false, cond, not, ℤ, int_eq, List, [], ◌∷◌, filter, Option, Some, None, refl, sym, ap, ◌∙◌, inl, inr, arith}
+use Rattle.std.specs.Prelude.{is_some, ◌==◌, ◌&&◌, IfSome, unwrap_or, option_map}
+use Rattle.std.proofs.lemmas.Bool.{eqb-true, ne_eqb, and_parts}
 use Rattle.sim_base.specs.declared.place.Point.{Point}
 use Rattle.sim_base.specs.declared.template.Arms.{Arms}
 use Rattle.sim_base.specs.declared.setup.Setup.{Setup}
@@ -19,7 +18,7 @@ use Rattle.sim_base.specs.Validity.{IsKnownRow, IsLooselyValid}
 use Rattle.sim_laws.proofs.Members.{Has, Has-of_map}
 use Rattle.sim_turn_laws.proofs.Rows.{Has-of_filter, known_row, found_row, same_row, apart}
 use Rattle.sim_attack.specs.declared.finds.Find.{Find}
-use Rattle.sim_attack.specs.Finds.{is_shared, shared, nearest_from, AreFound}
+use Rattle.sim_attack.specs.Finds.{find_places, place_for, is_shared, shared, nearest_from}
 
 -- a filter that each member passes
 filter_all : {X : Type 0} (p : X → Bool) (xs : List X) → ((x : X) → Has xs x → p x ≡ true) → filter p xs ≡ xs
@@ -79,3 +78,7 @@ shared_is_nearest setup state row vision (Some find) target h e = by (is_shared 
         let same : find.target ≡ target = cc in
         sym same ∙ h ∙ ap (λ (n : ℕ). nearest_from setup state n find.at find.vision) same_owner ∙ ap (λ (p : Point). nearest_from setup state row.owner p find.vision) same_at ∙
         ap (nearest_from setup state row.owner row.at) same_far
+
+-- a find has one of the places
+pub place_small : (owner : ℕ) (at : Point) → place_for owner at < find_places
+place_small owner at = grind arith

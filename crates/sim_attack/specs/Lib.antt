@@ -1,2 +1,3 @@
 pub mod Fights
+pub mod Finds
 pub mod Nearest

@@ -1,8 +1,9 @@
 //! The phase in which fighters choose their targets.
 //!
-//! All is found from the state as it was: that friends are let go first changes no place, no owner and no health.
+//! All is found from the state as it was: that friends are let go first changes no place, no owner and no health. So what
+//! one row finds is kept for others of its owner that stand where it stands.
 
-ghost use Rattle.std.specs.Prelude.{◌≡◌, ◌++◌, IfOk, OnOk, IsSome, MatchOption, Some};
+ghost use Rattle.std.specs.Prelude.{◌≡◌, ◌++◌, IfOk, OnOk, IsSome, MatchOption, Some, length};
 ghost use Rattle.std.specs.Result.{ForOk};
 ghost use Rattle.sim_base.specs.Limits.{IsSetup};
 ghost use Rattle.sim_base.specs.Rows.{row_of, target_of as target_by, arms_of as arms_by};
@@ -12,8 +13,10 @@ ghost use Rattle.sim_system.specs.Answers.{seen_from};
 ghost use Rattle.sim_plans.specs.Plans.{aim_changes_of, aim_plan, next_target};
 ghost use Rattle.sim_plans.specs.PlanLaws.{IsPlanOf};
 ghost use Rattle.sim_scene.specs.SceneWords.{Stands};
+ghost use Rattle.sim_attack.specs.Finds.{find_places, AreFound};
 ghost use Rattle.sim_attack.specs.Nearest.{nearest_of, better_of};
 
+use crate::finds::Finds;
 use sim_base::{Changes, Ids, Items, OutOfMemory, Row, Setup, State, square};
 use sim_lookup::{arms_of, find_row, is_enemy_of, is_going, target_of};
 use sim_plans::{push_target, push_turn};
@@ -35,42 +38,61 @@ fn listed_aims(alloc: Global, scene: &Scene<'_>) -> Result<Changes, OutOfMemory>
     ensures { IfOk result (λ changes. changes ≡ aim_plan scene.now.setup.now scene.now.state.now) }
 {
     let mut changes = Items::new(alloc);
+    let mut finds = Finds::new(alloc)?;
     for row in scene.state.rows.as_slice() {
-        push_aim(&mut changes, scene, row)?;
+        push_aim(&mut changes, &mut finds, scene, row)?;
     }
     Ok(changes)
 }
 
 // A row that aims at a friend stands still and looks for another target, and an idle one looks for one.
-fn push_aim(changes: &mut Changes, scene: &Scene<'_>, row: &Row) -> Result<(), OutOfMemory>
+fn push_aim(
+    changes: &mut Changes,
+    finds: &mut Finds,
+    scene: &Scene<'_>,
+    row: &Row,
+) -> Result<(), OutOfMemory>
     requires stands { Stands scene.now ⟦<dyn System as System>⟧ }
     requires row { IsKnownRow 0 scene.now.setup.now scene.now.state.now.rows row.now }
     requires found { row_of scene.now.state.now row.now.id ≡ Some row.now }
-    ensures { OnOk result (changes.new ≡ changes.old ++ aim_changes_of scene.now.setup.now scene.now.state.now row.now) }
+    requires places { length finds.old.kept.items ≡ find_places }
+    requires finds { AreFound scene.now.setup.now scene.now.state.now finds.old.kept.items }
+    ensures changes { OnOk result (changes.new ≡ changes.old ++ aim_changes_of scene.now.setup.now scene.now.state.now row.now) }
+    ensures places { length finds.new.kept.items ≡ find_places }
+    ensures finds { AreFound scene.now.setup.now scene.now.state.now finds.new.kept.items }
 {
     if aims_at_friend(scene.setup, scene.state, row) {
-        let target = next_target_of(scene, row)?;
+        let target = next_target_of(finds, scene, row)?;
         return push_turn(changes, target, row);
     }
     if is_idle(row) {
-        let target = next_target_of(scene, row)?;
+        let target = next_target_of(finds, scene, row)?;
         return push_target(changes, target, row);
     }
     Ok(())
 }
 
-// The nearest enemy that the row sees, or 0.
-fn next_target_of(scene: &Scene<'_>, row: &Row) -> Result<u32, OutOfMemory>
+// The nearest enemy that the row sees, or 0. It is looked for where no other row has found it.
+fn next_target_of(finds: &mut Finds, scene: &Scene<'_>, row: &Row) -> Result<u32, OutOfMemory>
     requires stands { Stands scene.now ⟦<dyn System as System>⟧ }
     requires row { IsKnownRow 0 scene.now.setup.now scene.now.state.now.rows row.now }
     requires found { row_of scene.now.state.now row.now.id ≡ Some row.now }
-    ensures { IfOk result (λ target. target ≡ next_target scene.now.setup.now scene.now.state.now row.now (arms_by scene.now.setup.now row.now)) }
+    requires places { length finds.old.kept.items ≡ find_places }
+    requires finds { AreFound scene.now.setup.now scene.now.state.now finds.old.kept.items }
+    ensures target { IfOk result (λ target. target ≡ next_target scene.now.setup.now scene.now.state.now row.now (arms_by scene.now.setup.now row.now)) }
+    ensures places { length finds.new.kept.items ≡ find_places }
+    ensures finds { AreFound scene.now.setup.now scene.now.state.now finds.new.kept.items }
 {
-    if arms_of(scene.setup, row).is_none() {
+    let Some(arms) = arms_of(scene.setup, row) else {
         return Ok(0);
+    };
+    if let Some(target) = finds.target_for(row, arms.vision) {
+        return Ok(target);
     }
     let ids = seen_by(scene, row.id)?;
-    Ok(nearest(scene.setup, scene.state, row, ids.as_slice()))
+    let target = nearest(scene.setup, scene.state, row, ids.as_slice());
+    finds.keep(row, arms.vision, target);
+    Ok(target)
 }
 
 // The enemies that a row with arms sees, ascending by id.

@@ -5,6 +5,7 @@
 //! as lists, and on `sim_scene`.
 //!
 //! - `aim`: whom a row takes as target, and the phase in which fighters aim.
+//! - `finds`: what rows that stand together find but once.
 //! - `damage`: what a hit takes.
 //! - `hit`: the phase in which fighters hit.
 //! - `gone`: the phase in which those without health leave.
@@ -12,6 +13,7 @@
 
 mod aim;
 mod damage;
+mod finds;
 mod gone;
 mod hit;
 
