@@ -17,13 +17,16 @@ use Rattle.sim_fact_lists.specs.Changes.{id_in, part_noted}
 use Rattle.sim_fact_lists.proofs.Rising.{found_all}
 use Rattle.sim_fact_lists.proofs.Holding.{noted_held}
 use Rattle.sim_fact_lists.proofs.OneFact.{part_is}
-use Rattle.sim_range.specs.Buckets.{ArePlaced, bucket_key, held_in, is_in_bucket, in_bucket}
+use Rattle.sim_range.specs.Buckets.{ArePlaced, bucket_at, bucket_key, held_in, is_in_bucket, in_bucket}
 use Rattle.sim_range.proofs.Held.{placed_on}
 
 -- ---- numbers of buckets
 
 small_west : (p : Point) → IsPlaced p → (cell_of p).x / 16 < 16
 small_west p h = let low = h.west in let high = h.east in omega (arith, ints, low, high)
+
+pub small_bucket : (p : Point) → IsPlaced p → bucket_at p < 256
+small_bucket p h = let west = h.west in let east = h.east in let south = h.south in let north = h.north in omega (arith, ints, west, east, south, north)
 
 same_number : (x z bx bz : ℕ) → x < 16 → bx < 16 → (z * 16 + x == bz * 16 + bx) ≡ (x == bx && z == bz)
 same_number x z bx bz lt also = grind (arith, nat_tests)

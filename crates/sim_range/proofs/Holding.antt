@@ -1,13 +1,13 @@
 -- The facts in a bucket when one of all facts changes.
-use Rattle.std.proofs.Common.{◌≡◌, ℕ, zero, suc, ◌+◌, ◌<◌, ◌≤◌, Bool, true, false, cond, not, List, [], ◌∷◌, length, get_or, take, Option, Some, None, refl, sym, ap, ◌∙◌, subst, arith}
+use Rattle.std.proofs.Common.{◌≡◌, ℕ, zero, suc, ◌+◌, ◌<◌, Bool, true, false, cond, not, List, [], ◌∷◌, length, get_or, take, Option, Some, None, refl, sym, ap, ◌∙◌, arith}
 use Rattle.std.specs.Prelude.{◌==◌, ◌&&◌, nat_lt}
-use Rattle.std.proofs.lemmas.Bool.{eqb-true, eq-eqb, ne_eqb}
+use Rattle.std.proofs.lemmas.Bool.{eq-eqb, ne_eqb}
 use Rattle.sim_system.specs.declared.fact.Fact.{Fact}
 use Rattle.sim_system.specs.Notes.{fact_with, without, placed}
 use Rattle.sim_fact_lists.specs.Places.{with_only}
 use Rattle.sim_fact_lists.proofs.Rising.{Above, Rising, Missing, above_less, above_at, missing_without, found_above, rising_without, placed_first, placed_behind}
 use Rattle.sim_range.specs.Buckets.{bucket_key, held_in, is_in, part_in}
-use Rattle.sim_range.specs.Bucketed.{left_at, changed_at}
+use Rattle.sim_range.specs.Bucketed.{changed_at}
 
 -- ---- one is taken out, or put in place
 

@@ -7,7 +7,7 @@
 //! - `range`: the system.
 //! - `bucket`: who stands in one bucket.
 //! - `buckets`: who stands in which bucket of 16 by 16 cells.
-//! - `within`: who is near a point.
+//! - `within`: who is near a point, by the buckets about it.
 //! - `seen`: whom an entity sees.
 #![tactic(auto)]
 

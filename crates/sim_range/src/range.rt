@@ -87,12 +87,21 @@ impl System for Range {
 
     fn ask(&self, ask: &Ask) -> Result<Answer, OutOfMemory> {
         let facts = self.kept.facts.as_slice();
+        let buckets = self.buckets.as_slice();
         match (&self.kept.land, ask) {
             (Some(land), Ask::Within { at, radius, mask }) => Ok(Answer::Many {
-                ids: within(self.kept.alloc, land, facts, at, *radius, u32::from(*mask))?,
+                ids: within(
+                    self.kept.alloc,
+                    land,
+                    facts,
+                    buckets,
+                    at,
+                    *radius,
+                    u32::from(*mask),
+                )?,
             }),
             (Some(land), Ask::Seen { id }) => Ok(Answer::Many {
-                ids: seen(self.kept.alloc, land, facts, *id)?,
+                ids: seen(self.kept.alloc, land, facts, buckets, *id)?,
             }),
             _ => unreachable!(),
         }

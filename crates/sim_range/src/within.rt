@@ -1,13 +1,16 @@
-//! Who is near a point.
+//! Who is near a point: looked for in the buckets about it, or among all where these would be many.
 
-ghost use Rattle.std.specs.Prelude.{◌≡◌, ◌<◌, ◌&&◌, IsTrue, IfOk};
+ghost use Rattle.std.specs.Prelude.{◌≡◌, ◌<◌, ◌≤◌, ◌/◌, ℤ, pos, ◌-ℤ◌, ◌≤ℤ◌, unsigned_abs, ◌&&◌, ◌++◌, IsTrue, IfOk, OnOk, All, length};
 ghost use Rattle.sim_base.specs.Places.{IsPlaced, is_inside};
 ghost use Rattle.sim_base.specs.Limits.{IsLand};
 ghost use Rattle.sim_base.specs.Rows.{size_of, in_mask as in_mask_of};
 ghost use Rattle.sim_base.specs.Filters.{is_near as is_near_of};
 ghost use Rattle.sim_system.specs.Answers.{within_among};
 ghost use Rattle.sim_fact_lists.specs.Places.{IsHeld, Holds};
+ghost use Rattle.sim_range.specs.Buckets.{ArePlaced, bucket_at};
+ghost use Rattle.sim_range.specs.Bucketed.{AreBuckets};
 
+use crate::bucket::Bucket;
 use sim_base::{Fixed, Ids, Land, OutOfMemory, Point, square};
 use sim_system::Fact;
 use std::alloc::Global;
@@ -20,13 +23,20 @@ fn in_mask(mask: u32, owner: u8) -> bool
     (mask >> owner) % 2 == 1
 }
 
+// How far a radius reaches, in raws.
+fn reach_of(radius: Fixed) -> u32
+    ensures { result ≡ unsigned_abs radius }
+{
+    radius.raw().unsigned_abs()
+}
+
 // Whether two points are at most a radius apart.
 fn is_near(p: &Point, q: &Point, radius: Fixed) -> bool
     requires first { IsPlaced p.now }
     requires second { IsPlaced q.now }
     ensures { result ≡ is_near_of p.now q.now radius }
 {
-    let reach = u64::from(radius.raw().unsigned_abs());
+    let reach = u64::from(reach_of(radius));
     square(*p, *q) <= reach * reach
 }
 
@@ -41,24 +51,78 @@ pub fn is_within(land: &Land, fact: &Fact, at: &Point, radius: Fixed, mask: u32)
     fact.health && in_mask(mask, fact.owner) && is_near(&fact.at, at, radius)
 }
 
-/// The entities with health of the masked owners that are near a point.
-pub fn within(
-    alloc: Global,
+// Adds those of these facts that are near a point.
+fn push_near(
+    ids: &mut Vec<u32>,
     land: &Land,
     facts: &[Fact],
     at: &Point,
     radius: Fixed,
     mask: u32,
-) -> Result<Ids, OutOfMemory>
-    requires holds { Holds land.now facts.now }
+) -> Result<(), OutOfMemory>
+    requires limits { IsLand land.now }
+    requires held { All (IsHeld land.now) facts.now }
     requires at { IsTrue (is_inside (size_of land.now) at.now) }
-    ensures { IfOk result (λ ids. ids ≡ within_among facts.now at.now radius mask) }
+    ensures { OnOk result (ids.new.items ≡ ids.old.items ++ within_among facts.now at.now radius mask) }
 {
-    let mut ids = Ids::new(alloc);
     for fact in facts {
         if is_within(land, fact, at, radius, mask) {
             ids.push(fact.id)?;
         }
     }
-    Ok(ids)
+    Ok(())
+}
+
+// Whether 16 rows, or columns, of cells come within reach of a number.
+fn is_reached(part: usize, from: Fixed, reach: u32) -> bool
+    requires { part < 16 }
+    ensures { (other : ℤ) → pos 0 ≤ℤ other → unsigned_abs other / 65536 / 16 ≡ part → unsigned_abs (other -ℤ from) ≤ reach → IsTrue result }
+{
+    let first = part as i64 * 1_048_576;
+    let raw = i64::from(from.raw());
+    let reach = i64::from(reach);
+    raw - reach < first + 1_048_576 && first <= raw + reach
+}
+
+// Whether a bucket comes within reach of a point, by rows and by columns.
+fn touches(number: usize, at: &Point, reach: u32) -> bool
+    requires { number < 256 }
+    ensures { (p : Point) → IsPlaced p → bucket_at p ≡ number → unsigned_abs (p.x -ℤ at.now.x) ≤ reach → unsigned_abs (p.z -ℤ at.now.z) ≤ reach → IsTrue result }
+{
+    is_reached(number % 16, at.x, reach) && is_reached(number / 16, at.z, reach)
+}
+
+// From this radius on, in raws, all facts are gone over: 64 metres.
+const WIDE: u32 = 4_194_304;
+
+/// The entities with health of the masked owners that are near a point.
+pub fn within(
+    alloc: Global,
+    land: &Land,
+    facts: &[Fact],
+    buckets: &[Bucket],
+    at: &Point,
+    radius: Fixed,
+    mask: u32,
+) -> Result<Ids, OutOfMemory>
+    requires holds { Holds land.now facts.now }
+    requires placed { ArePlaced facts.now }
+    requires bucketed { AreBuckets facts.now buckets.now }
+    requires whole { length buckets.now ≡ 256 }
+    requires at { IsTrue (is_inside (size_of land.now) at.now) }
+    ensures { IfOk result (λ ids. ids ≡ within_among facts.now at.now radius mask) }
+{
+    let reach = reach_of(radius);
+    let mut ids = Vec::new(alloc);
+    if reach >= WIDE {
+        push_near(&mut ids, land, facts, at, radius, mask)?;
+        return Ok(Ids::from_items(ids));
+    }
+    for (number, bucket) in buckets.iter().enumerate() {
+        if touches(number, at, reach) {
+            push_near(&mut ids, land, bucket.facts.as_slice(), at, radius, mask)?;
+        }
+    }
+    ids.sort_unstable();
+    Ok(Ids::from_items(ids))
 }

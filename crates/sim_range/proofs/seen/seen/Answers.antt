@@ -8,5 +8,5 @@ bounds-as_slice-from c =
     let held = found_held c.args.land.now c.args.facts.now c.args.id c.in-Some.viewer.now c.requires.holds (sym c.in-Some.ensures) in
     omega (arith, held.owner, c.from.ensures, ap (λ (masks : List ℕ). length masks) c.as_slice.ensures)
 
-pub others_within-requires-clause-at : goal.others_within-requires-clause-at
-others_within-requires-clause-at c = (found_held c.args.land.now c.args.facts.now c.args.id c.in-Some.viewer.now c.requires.holds (sym c.in-Some.ensures)).at
+pub within-requires-clause-at : goal.within-requires-clause-at
+within-requires-clause-at c = (found_held c.args.land.now c.args.facts.now c.args.id c.in-Some.viewer.now c.requires.holds (sym c.in-Some.ensures)).at

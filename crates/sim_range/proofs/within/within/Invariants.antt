@@ -1,6 +1,7 @@
-use Rattle.std.proofs.Common.{◌≡◌, take}
+use Rattle.std.proofs.Common.{IsPermutation}
 use Rattle.sim_system.specs.Answers.{within_among}
+use Rattle.sim_range.specs.Nearness.{below_bucket}
 use Rattle.sim_range.proofs.within.within.Given as goal
 
-abbrev pub invariant-loop-fact : goal.invariant-loop-fact
-invariant-loop-fact l = l.ids ≡ within_among (take l.fact-index l.facts) l.at l.radius l.mask
+abbrev pub invariant-loop-number : goal.invariant-loop-number
+invariant-loop-number l = IsPermutation (within_among (below_bucket l.number l.facts) l.at l.radius l.mask) l.ids.items

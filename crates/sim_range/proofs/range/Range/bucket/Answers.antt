@@ -1,5 +1,5 @@
 -- The numbers of the buckets of a row are those of 16 columns.
-use Rattle.std.proofs.Common.{◌≡◌, ℕ, ◌+◌, ◌*◌, ap, ◌∙◌}
+use Rattle.std.proofs.Common.{ℕ, ◌+◌, ◌*◌, ap, ◌∙◌}
 use Rattle.sim_range.proofs.Changing.{lent_is}
 use Rattle.sim_range.proofs.range.Range.bucket.Goals as goal
 

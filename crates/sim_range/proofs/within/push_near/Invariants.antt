@@ -1,0 +1,6 @@
+use Rattle.std.proofs.Common.{◌≡◌, ◌++◌, take}
+use Rattle.sim_system.specs.Answers.{within_among}
+use Rattle.sim_range.proofs.within.push_near.Given as goal
+
+abbrev pub invariant-loop-fact : goal.invariant-loop-fact
+invariant-loop-fact l = l.ids.items ≡ l.initial.ids.items ++ within_among (take l.fact-index l.facts) l.at l.radius l.mask
