@@ -24,7 +24,7 @@ invariant_of-vec g c =
     record {
       may_run = λ alloc setup state help player command given.
           let r : (w : _) → Sure ((held_fn own-2).pre (c.into_dyn_box.result.vtable, w) (alloc, (setup, (state, (help, (player, (command, tt {0}))))))) =
-          rw c.into_dyn_box.ensures.0 (λ w. ∣ of_kind 1 setup.now state.now help.now player command.now given ∣₁) in
+          rw c.into_dyn_box.ensures.0 (λ w. ∣ of_kind _ setup.now state.now help.now player command.now given ∣₁) in
           r c.into_dyn_box.result.value;
       obeys = λ alloc setup state help player command result given done.
           let r : (w : _) → (held_fn own-2).post (c.into_dyn_box.result.vtable, w) (alloc, (setup, (state, (help, (player, (command, tt {0})))))) result
@@ -38,7 +38,7 @@ invariant_of-vec-2 g c =
     record {
       may_run = λ alloc setup state help player command given.
           let r : (w : _) → Sure ((held_fn own-2).pre (c.into_dyn_box-in_ok-new-2.result.vtable, w) (alloc, (setup, (state, (help, (player, (command, tt {0}))))))) =
-          rw c.into_dyn_box-in_ok-new-2.ensures.0 (λ w. ∣ of_kind 2 setup.now state.now help.now player command.now given ∣₁) in
+          rw c.into_dyn_box-in_ok-new-2.ensures.0 (λ w. ∣ of_kind _ setup.now state.now help.now player command.now given ∣₁) in
           r c.into_dyn_box-in_ok-new-2.result.value;
       obeys = λ alloc setup state help player command result given done.
           let r : (w : _) → (held_fn own-2).post (c.into_dyn_box-in_ok-new-2.result.vtable, w) (alloc, (setup, (state, (help, (player, (command, tt {0})))))) result
@@ -52,7 +52,7 @@ invariant_of-vec-3 g c =
     record {
       may_run = λ alloc setup state help player command given.
           let r : (w : _) → Sure ((held_fn own-2).pre (c.into_dyn_box-in_ok-new-3.result.vtable, w) (alloc, (setup, (state, (help, (player, (command, tt {0}))))))) =
-          rw c.into_dyn_box-in_ok-new-3.ensures.0 (λ w. ∣ of_kind 3 setup.now state.now help.now player command.now given ∣₁) in
+          rw c.into_dyn_box-in_ok-new-3.ensures.0 (λ w. ∣ of_kind _ setup.now state.now help.now player command.now given ∣₁) in
           r c.into_dyn_box-in_ok-new-3.result.value;
       obeys = λ alloc setup state help player command result given done.
           let r : (w : _) → (held_fn own-2).post (c.into_dyn_box-in_ok-new-3.result.vtable, w) (alloc, (setup, (state, (help, (player, (command, tt {0})))))) result
@@ -66,7 +66,7 @@ invariant_of-vec-4 g c =
     record {
       may_run = λ alloc setup state help player command given.
           let r : (w : _) → Sure ((held_fn own-2).pre (c.into_dyn_box-in_ok-new-4.result.vtable, w) (alloc, (setup, (state, (help, (player, (command, tt {0}))))))) =
-          rw c.into_dyn_box-in_ok-new-4.ensures.0 (λ w. ∣ of_kind 4 setup.now state.now help.now player command.now given ∣₁) in
+          rw c.into_dyn_box-in_ok-new-4.ensures.0 (λ w. ∣ of_kind _ setup.now state.now help.now player command.now given ∣₁) in
           r c.into_dyn_box-in_ok-new-4.result.value;
       obeys = λ alloc setup state help player command result given done.
           let r : (w : _) → (held_fn own-2).post (c.into_dyn_box-in_ok-new-4.result.vtable, w) (alloc, (setup, (state, (help, (player, (command, tt {0})))))) result
@@ -80,7 +80,7 @@ invariant_of-vec-5 g c =
     record {
       may_run = λ alloc setup state help player command given.
           let r : (w : _) → Sure ((held_fn own-2).pre (c.into_dyn_box-in_ok-new-5.result.vtable, w) (alloc, (setup, (state, (help, (player, (command, tt {0}))))))) =
-          rw c.into_dyn_box-in_ok-new-5.ensures.0 (λ w. ∣ of_kind 5 setup.now state.now help.now player command.now given ∣₁) in
+          rw c.into_dyn_box-in_ok-new-5.ensures.0 (λ w. ∣ of_kind _ setup.now state.now help.now player command.now given ∣₁) in
           r c.into_dyn_box-in_ok-new-5.result.value;
       obeys = λ alloc setup state help player command result given done.
           let r : (w : _) → (held_fn own-2).post (c.into_dyn_box-in_ok-new-5.result.vtable, w) (alloc, (setup, (state, (help, (player, (command, tt {0})))))) result
@@ -94,7 +94,7 @@ invariant_of-vec-6 g c =
     record {
       may_run = λ alloc setup state help player command given.
           let r : (w : _) → Sure ((held_fn own-2).pre (c.into_dyn_box-in_ok-new-6.result.vtable, w) (alloc, (setup, (state, (help, (player, (command, tt {0}))))))) =
-          rw c.into_dyn_box-in_ok-new-6.ensures.0 (λ w. ∣ of_kind 6 setup.now state.now help.now player command.now given ∣₁) in
+          rw c.into_dyn_box-in_ok-new-6.ensures.0 (λ w. ∣ of_kind _ setup.now state.now help.now player command.now given ∣₁) in
           r c.into_dyn_box-in_ok-new-6.result.value;
       obeys = λ alloc setup state help player command result given done.
           let r : (w : _) → (held_fn own-2).post (c.into_dyn_box-in_ok-new-6.result.vtable, w) (alloc, (setup, (state, (help, (player, (command, tt {0})))))) result
@@ -108,7 +108,7 @@ invariant_of-vec-7 g c =
     record {
       may_run = λ alloc setup state help player command given.
           let r : (w : _) → Sure ((held_fn own-2).pre (c.into_dyn_box-in_ok-new-7.result.vtable, w) (alloc, (setup, (state, (help, (player, (command, tt {0}))))))) =
-          rw c.into_dyn_box-in_ok-new-7.ensures.0 (λ w. ∣ of_kind 7 setup.now state.now help.now player command.now given ∣₁) in
+          rw c.into_dyn_box-in_ok-new-7.ensures.0 (λ w. ∣ of_kind _ setup.now state.now help.now player command.now given ∣₁) in
           r c.into_dyn_box-in_ok-new-7.result.value;
       obeys = λ alloc setup state help player command result given done.
           let r : (w : _) → (held_fn own-2).post (c.into_dyn_box-in_ok-new-7.result.vtable, w) (alloc, (setup, (state, (help, (player, (command, tt {0})))))) result
