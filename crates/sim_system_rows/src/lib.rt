@@ -1,4 +1,4 @@
-//! Boards over real systems, as tests. It promises nothing by itself.
+//! Boards over real systems, with every question beside a plain filter, as tests. It promises nothing by itself.
 #![tactic(auto)]
 
 #[cfg(test)]

@@ -1,4 +1,7 @@
 //! Boards over four real systems.
 
+mod asks;
 mod boards;
 mod checks;
+mod deeds;
+mod plain;
