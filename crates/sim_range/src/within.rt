@@ -92,8 +92,19 @@ fn touches(number: usize, at: &Point, reach: u32) -> bool
     is_reached(number % 16, at.x, reach) && is_reached(number / 16, at.z, reach)
 }
 
-// From this radius on, in raws, all facts are gone over: 64 metres.
-const WIDE: u32 = 4_194_304;
+// Whether so many stand in the buckets about a point, a quarter of all, that it is quicker to go over all facts. Either
+// answer leads to the same ids.
+fn is_crowded(facts: &[Fact], buckets: &[Bucket], at: &Point, reach: u32) -> bool
+    requires { length buckets.now ≡ 256 }
+{
+    let mut count: usize = 0;
+    for (number, bucket) in buckets.iter().enumerate() {
+        if touches(number, at, reach) {
+            count = count.saturating_add(bucket.facts.len());
+        }
+    }
+    count > facts.len() / 4
+}
 
 /// The entities with health of the masked owners that are near a point.
 pub fn within(
@@ -114,7 +125,7 @@ pub fn within(
 {
     let reach = reach_of(radius);
     let mut ids = Vec::new(alloc);
-    if reach >= WIDE {
+    if is_crowded(facts, buckets, at, reach) {
         push_near(&mut ids, land, facts, at, radius, mask)?;
         return Ok(Ids::from_items(ids));
     }
