@@ -1,0 +1,8 @@
+use Rattle.std.proofs.Common.{◌≡◌, [], ◌∷◌, cond, flat_map, take}
+use Rattle.std.specs.Prelude.{◌==◌}
+use Rattle.sim_base.specs.declared.state.Row.{Row}
+use Rattle.sim_base.specs.declared.change.Change.TheVariants.{Owner}
+use Rattle.sim_system_rows.proofs.tests.handlers.left.Given as goal
+
+abbrev pub invariant-loop-row : goal.invariant-loop-row
+invariant-loop-row l = l.changes.items ≡ flat_map (λ (row : Row). cond (row.owner == l.player) (Owner row.id 0 ∷ []) []) (take l.row-index l.rows)

@@ -1,0 +1,139 @@
+//! A handler that plans by a function of the test's own, with the same fact: the match comes to the same states.
+
+ghost use Rattle.std.specs.Prelude.{◌≡◌, ◌==◌, [], ◌∷◌, IfOk, if◌then◌else◌, All, length};
+ghost use Rattle.std.specs.List.{flat_map};
+ghost use Rattle.sim_base.specs.declared.state.Row.{Row as AnyRow};
+ghost use Rattle.sim_base.specs.declared.change.Change.TheVariants.{Owner};
+ghost use Rattle.sim_client.specs.StageWords.{AreCleared};
+ghost use Rattle.sim_orders.specs.Orders.{kind_of, IsGiven, Obeys};
+ghost use Rattle.sim_system.specs.Meanings.{HaveKinds};
+ghost use Rattle.sim_system.specs.RigWords.{systems_of};
+
+use sim_base::{Change, Changes, Command, Items, OutOfMemory, Row, Setup, State};
+use sim_census::Census;
+use sim_ground::Ground;
+use sim_orders::{Handler, Help, OrderTable, Planner};
+use sim_range::Range;
+use sim_runs::games::HUTS_LEFT;
+use sim_runs::{add_rig, planned, print, rig, shelf_of, words_of};
+use sim_store::{MemShelf, MemSink};
+use sim_system::{Rig, System};
+use sim_top::{Status, run};
+use sim_watch::Watch;
+use std::alloc::Global;
+use std::test::Fail;
+
+// The digests of that match, whose player resigns in turn 1.
+const LINES: &str =
+    "turn 0 157dafb5e35abac8d5d437b1e3fc0d1c\nturn 1 80bf5422a58c8986ad5609bdb3c3414d\n";
+
+// The player's rows become Gaia's.
+fn left(alloc: Global, rows: &[Row], player: u8) -> Result<Changes, OutOfMemory>
+    ensures { IfOk result (λ changes. changes ≡ flat_map (λ (row : AnyRow). if row.owner == player then Owner row.id 0 ∷ [] else []) rows.now) }
+{
+    let mut changes = Vec::new(alloc);
+    for row in rows {
+        if row.owner == player {
+            changes.push(Change::Owner {
+                id: row.id,
+                owner: 0,
+            })?;
+        }
+    }
+    Ok(Items::from_items(changes))
+}
+
+// Plans as the usual planners do.
+fn planned_as_usual(
+    alloc: Global,
+    setup: &Setup,
+    state: &State,
+    help: &Help,
+    player: u8,
+    command: &Command,
+) -> Result<Changes, OutOfMemory>
+    requires { IsGiven (kind_of command.now) setup.now state.now help.now player command.now }
+    ensures { Obeys setup.now state.now player command.now result }
+{
+    planned(alloc, setup, state, help, player, command)
+}
+
+// Plans a resignation by a body of its own.
+fn resigned(
+    alloc: Global,
+    setup: &Setup,
+    state: &State,
+    help: &Help,
+    player: u8,
+    command: &Command,
+) -> Result<Changes, OutOfMemory>
+    requires { IsGiven 7 setup.now state.now help.now player command.now }
+    ensures { Obeys setup.now state.now player command.now result }
+{
+    left(alloc, state.rows.as_slice(), player)
+}
+
+// Runs the words with handlers of which the last plans by this function.
+fn run_here(
+    alloc: Global,
+    words: &[String],
+    shelf: &mut MemShelf,
+    out: &mut MemSink,
+    rigs: Vec<Rig>,
+) -> Result<Status, OutOfMemory>
+    requires eight { length rigs.items ≡ 8 }
+    requires kinds { All (λ r. HaveKinds (systems_of r ⟦<dyn System as System>⟧)) rigs.items }
+    requires cleared { All (λ r. AreCleared (systems_of r ⟦<dyn System as System>⟧)) rigs.items }
+{
+    let walk: Planner = Box::new(alloc, planned_as_usual)?;
+    let stop: Planner = Box::new(alloc, planned_as_usual)?;
+    let attack: Planner = Box::new(alloc, planned_as_usual)?;
+    let delete: Planner = Box::new(alloc, planned_as_usual)?;
+    let place: Planner = Box::new(alloc, planned_as_usual)?;
+    let train: Planner = Box::new(alloc, planned_as_usual)?;
+    let resign: Planner = Box::new(alloc, resigned)?;
+    let handlers = vec![in alloc;
+        Handler { kind: 1, run: walk },
+        Handler { kind: 2, run: stop },
+        Handler {
+            kind: 3,
+            run: attack
+        },
+        Handler {
+            kind: 4,
+            run: delete
+        },
+        Handler {
+            kind: 5,
+            run: place
+        },
+        Handler {
+            kind: 6,
+            run: train
+        },
+        Handler {
+            kind: 7,
+            run: resign
+        },
+    ]?;
+    let ended = run(alloc, words, shelf, out, rigs, &OrderTable::new(handlers));
+    Ok(ended.status)
+}
+
+#[test]
+fn another_handler_gives_the_same_states(rt: HostRuntime) -> Result<(), Fail> {
+    let alloc = rt.alloc();
+    let mut rigs = Vec::with_capacity(alloc, 8)?;
+    for _ in 0..8u8 {
+        add_rig(&mut rigs, rig!(alloc))?;
+    }
+    let words = words_of(alloc, &["play", "m"])?;
+    let mut shelf = shelf_of(alloc, &[("m", HUTS_LEFT.as_bytes())])?;
+    let mut out = MemSink::new(alloc, 100)?;
+    let status = run_here(alloc, &words, &mut shelf, &mut out, rigs)?;
+    assert_eq!(rt; status, Status::Done);
+    assert_eq!(rt; out.told(), LINES.as_bytes());
+    let usual = print(alloc, &["play", "m"], &mut shelf)?;
+    assert_eq!(rt; usual.text.as_str(), LINES);
+    Ok(())
+}
