@@ -38,7 +38,7 @@ static struct kind KINDS[] = {
     {"schedules", "l", 1, {
         {.words = {"serve", "l"}, .statuses = BIT(0) | BIT(8)}}},
     {"steps", "l", 1, {
-        {.words = {"session", "m", "l"}, .statuses = BIT(0) | BIT(8)}}},
+        {.words = {"session", "m", "l"}, .statuses = BIT(0) | BIT(6) | BIT(8)}}},
 };
 
 #endif
