@@ -1,7 +1,9 @@
 -- Rows of one owner that stand at one point and see equally far have the same nearest enemy.
-use Rattle.std.proofs.Common.{◌≡◌, ℕ, ◌<◌, Bool, true, false, cond, not, ℤ, int_eq, List, [], ◌∷◌, filter, Option, Some, None, refl, sym, ap, ◌∙◌, inl, inr, arith}
-use Rattle.std.specs.Prelude.{is_some, ◌==◌, ◌&&◌, IfSome, unwrap_or, option_map}
+use Rattle.std.proofs.Common.{◌≡◌, ℕ, ◌<◌, nat_lt, get_or, subst, Bool, true, false, cond, not, ℤ, int_eq, List, [], ◌∷◌, filter, Option, Some, None, refl, sym, ap, ◌∙◌, inl, inr, arith}
+use Rattle.std.specs.Prelude.{length, replicate, is_some, ◌==◌, ◌&&◌, IfSome, unwrap_or, option_map}
+use Rattle.std.proofs.Math.ListN.{get_or-eq_default}
 use Rattle.std.proofs.lemmas.Bool.{eqb-true, ne_eqb, and_parts}
+use Rattle.std.proofs.lemmas.List.Elements.{All-get_or, All-replicate}
 use Rattle.sim_base.specs.declared.place.Point.{Point}
 use Rattle.sim_base.specs.declared.template.Arms.{Arms}
 use Rattle.sim_base.specs.declared.setup.Setup.{Setup}
@@ -18,7 +20,7 @@ use Rattle.sim_base.specs.Validity.{IsKnownRow, IsLooselyValid}
 use Rattle.sim_laws.proofs.Members.{Has, Has-of_map}
 use Rattle.sim_turn_laws.proofs.Rows.{Has-of_filter, known_row, found_row, same_row, apart}
 use Rattle.sim_attack.specs.declared.finds.Find.{Find}
-use Rattle.sim_attack.specs.Finds.{find_places, place_for, is_shared, shared, nearest_from}
+use Rattle.sim_attack.specs.Finds.{find_places, place_for, is_shared, shared, nearest_from, filled, AreFound}
 
 -- a filter that each member passes
 filter_all : {X : Type 0} (p : X → Bool) (xs : List X) → ((x : X) → Has xs x → p x ≡ true) → filter p xs ≡ xs
@@ -82,3 +84,25 @@ shared_is_nearest setup state row vision (Some find) target h e = by (is_shared 
 -- a find has one of the places
 pub place_small : (owner : ℕ) (at : Point) → place_for owner at < find_places
 place_small owner at = grind arith
+
+-- before the first find all places are filled with none
+pub filled_first : (finds : List (Option Find)) → length finds ≡ 0 → filled finds ≡ replicate find_places None
+filled_first [] e = refl
+filled_first (first ∷ rest) e = absurd (grind arith)
+
+module _ (setup : Setup) (state : State) where
+  abbrev Found : Option Find → Type 0
+  Found o = IfSome o (λ (find : Find). find.target ≡ nearest_from setup state find.owner find.at find.vision)
+
+  -- what is kept at a place, if anything is, is found
+  pub found_at : (finds : List (Option Find)) (place : ℕ) → AreFound setup state finds → Found (get_or finds place None)
+  found_at finds place all = by (nat_lt place (length finds)) refl
+    where
+      by : (b : Bool) → nat_lt place (length finds) ≡ b → Found (get_or finds place None)
+      by true e = All-get_or Found finds place None (grind arith) all
+      by false e = subst Found (sym (get_or-eq_default finds None (grind arith))) tt
+
+  -- where places are made, nothing is kept at them
+  pub filled_found : (finds : List (Option Find)) → AreFound setup state finds → AreFound setup state (filled finds)
+  filled_found [] all = All-replicate Found find_places None tt
+  filled_found (first ∷ rest) all = all

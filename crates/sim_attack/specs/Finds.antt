@@ -1,5 +1,5 @@
 -- What fighters have found, and which others find the same.
-use Rattle.std.specs.Prelude.{◌≡◌, ℕ, ◌+◌, ◌*◌, ◌/◌, ◌%◌, Bool, ◌&&◌, ◌==◌, ℤ, unsigned_abs, List, [], ◌∷◌, All, Option, Some, None, IfSome, option_map, unwrap_or, if◌then◌else◌}
+use Rattle.std.specs.Prelude.{◌≡◌, ℕ, ◌+◌, ◌*◌, ◌/◌, ◌%◌, Bool, ◌&&◌, ◌==◌, ℤ, unsigned_abs, List, [], ◌∷◌, All, Option, Some, None, IfSome, option_map, unwrap_or, if◌then◌else◌, replicate}
 use Rattle.std.specs.Ordering.{int_eq}
 use Rattle.sim_base.specs.declared.place.Point.{Point}
 use Rattle.sim_base.specs.declared.setup.Setup.{Setup}
@@ -15,6 +15,11 @@ use Rattle.sim_attack.specs.declared.finds.Find.{Find}
 -- how many finds are kept at most
 abbrev pub find_places : ℕ
 find_places = 256
+
+-- the places of all finds, which are made for the first
+abbrev pub filled : List (Option Find) → List (Option Find)
+filled [] = replicate find_places None
+filled (first ∷ rest) = first ∷ rest
 
 -- where the finds for rows of an owner at a point are kept
 abbrev pub place_for : ℕ → Point → ℕ

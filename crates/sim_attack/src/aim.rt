@@ -3,7 +3,7 @@
 //! All is found from the state as it was: that friends are let go first changes no place, no owner and no health. So what
 //! one row finds is kept for others of its owner that stand where it stands.
 
-ghost use Rattle.std.specs.Prelude.{◌≡◌, ◌++◌, IfOk, OnOk, IsSome, MatchOption, Some, length};
+ghost use Rattle.std.specs.Prelude.{◌≡◌, ◌++◌, IfOk, OnOk, IsSome, MatchOption, Some};
 ghost use Rattle.std.specs.Result.{ForOk};
 ghost use Rattle.sim_base.specs.Limits.{IsSetup};
 ghost use Rattle.sim_base.specs.Rows.{row_of, target_of as target_by, arms_of as arms_by};
@@ -13,7 +13,7 @@ ghost use Rattle.sim_system.specs.Answers.{seen_from};
 ghost use Rattle.sim_plans.specs.Plans.{aim_changes_of, aim_plan, next_target};
 ghost use Rattle.sim_plans.specs.PlanLaws.{IsPlanOf};
 ghost use Rattle.sim_scene.specs.SceneWords.{Stands};
-ghost use Rattle.sim_attack.specs.Finds.{find_places, AreFound};
+ghost use Rattle.sim_attack.specs.Finds.{AreFound};
 ghost use Rattle.sim_attack.specs.Nearest.{nearest_of, better_of};
 
 use crate::finds::Finds;
@@ -38,7 +38,7 @@ fn listed_aims(alloc: Global, scene: &Scene<'_>) -> Result<Changes, OutOfMemory>
     ensures { IfOk result (λ changes. changes ≡ aim_plan scene.now.setup.now scene.now.state.now) }
 {
     let mut changes = Items::new(alloc);
-    let mut finds = Finds::new(alloc)?;
+    let mut finds = Finds::new(alloc);
     for row in scene.state.rows.as_slice() {
         push_aim(&mut changes, &mut finds, scene, row)?;
     }
@@ -55,10 +55,8 @@ fn push_aim(
     requires stands { Stands scene.now ⟦<dyn System as System>⟧ }
     requires row { IsKnownRow 0 scene.now.setup.now scene.now.state.now.rows row.now }
     requires found { row_of scene.now.state.now row.now.id ≡ Some row.now }
-    requires places { length finds.old.kept.items ≡ find_places }
     requires finds { AreFound scene.now.setup.now scene.now.state.now finds.old.kept.items }
     ensures changes { OnOk result (changes.new ≡ changes.old ++ aim_changes_of scene.now.setup.now scene.now.state.now row.now) }
-    ensures places { length finds.new.kept.items ≡ find_places }
     ensures finds { AreFound scene.now.setup.now scene.now.state.now finds.new.kept.items }
 {
     if aims_at_friend(scene.setup, scene.state, row) {
@@ -77,10 +75,8 @@ fn next_target_of(finds: &mut Finds, scene: &Scene<'_>, row: &Row) -> Result<u32
     requires stands { Stands scene.now ⟦<dyn System as System>⟧ }
     requires row { IsKnownRow 0 scene.now.setup.now scene.now.state.now.rows row.now }
     requires found { row_of scene.now.state.now row.now.id ≡ Some row.now }
-    requires places { length finds.old.kept.items ≡ find_places }
     requires finds { AreFound scene.now.setup.now scene.now.state.now finds.old.kept.items }
     ensures target { IfOk result (λ target. target ≡ next_target scene.now.setup.now scene.now.state.now row.now (arms_by scene.now.setup.now row.now)) }
-    ensures places { length finds.new.kept.items ≡ find_places }
     ensures finds { AreFound scene.now.setup.now scene.now.state.now finds.new.kept.items }
 {
     let Some(arms) = arms_of(scene.setup, row) else {
@@ -91,7 +87,7 @@ fn next_target_of(finds: &mut Finds, scene: &Scene<'_>, row: &Row) -> Result<u32
     }
     let ids = seen_by(scene, row.id)?;
     let target = nearest(scene.setup, scene.state, row, ids.as_slice());
-    finds.keep(row, arms.vision, target);
+    finds.keep(row, arms.vision, target)?;
     Ok(target)
 }
 

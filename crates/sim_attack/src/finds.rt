@@ -4,8 +4,8 @@
 //! enemy. What one of them finds has a place that owner and point give. Another find may take that place: then the first
 //! is looked for again.
 
-ghost use Rattle.std.specs.Prelude.{◌≡◌, ◌<◌, IfOk, None, Some, length, replicate, slice_index_or, slice_set};
-ghost use Rattle.sim_attack.specs.Finds.{find_places, place_for, shared, is_shared as is_shared_by};
+ghost use Rattle.std.specs.Prelude.{◌≡◌, ◌<◌, [], None, Some, length, slice_index_or, slice_set, OnErr, OnOk};
+ghost use Rattle.sim_attack.specs.Finds.{find_places, place_for, shared, is_shared as is_shared_by, filled};
 
 use sim_base::{Fixed, OutOfMemory, Point, Row};
 use sim_lookup::same_point;
@@ -23,44 +23,60 @@ pub struct Find {
     pub target: u32,
 }
 
-/// The finds that are kept, each at its place.
+/// The finds that are kept, each at its place. They take no memory before the first is kept.
 #[derive(Drop)]
 pub struct Finds {
+    alloc: Global,
     kept: Vec<Option<Find>>,
+    ghost whole: { 0 < length kept.items → length kept.items ≡ find_places },
 }
 
 impl Finds {
     /// Nothing has been found.
-    pub fn new(alloc: Global) -> Result<Finds, OutOfMemory>
-        ensures { IfOk result (λ finds. finds.kept.items ≡ replicate find_places None) }
+    pub fn new(alloc: Global) -> Finds
+        ensures { result.kept.items ≡ [] }
     {
-        Ok(Finds {
-            kept: vec![in alloc; None; PLACES]?,
-        })
+        Finds {
+            alloc,
+            kept: Vec::new(alloc),
+        }
     }
 
     /// The target of a row that sees so far, where the find at its place is one for such a row.
     pub fn target_for(&self, row: &Row, vision: Fixed) -> Option<u32>
-        requires { length self.now.kept.items ≡ find_places }
         ensures { result ≡ shared row.now vision (slice_index_or self.now.kept.items (place_for row.now.owner row.now.at) None) }
     {
-        match self.kept[place_of(row.owner, &row.at)] {
-            Some(find) if is_shared(&find, row, vision) => Some(find.target),
+        match self.kept.as_slice().get(place_of(row.owner, &row.at)) {
+            Some(Some(find)) if is_shared(find, row, vision) => Some(find.target),
             _ => None,
         }
     }
 
-    /// Keeps the target of a row that sees so far.
-    pub fn keep(&mut self, row: &Row, vision: Fixed, target: u32)
-        requires { length self.old.kept.items ≡ find_places }
-        ensures { self.new.kept.items ≡ slice_set self.old.kept.items (place_for row.now.owner row.now.at) (Some (record { owner = row.now.owner; at = row.now.at; vision = vision; target = target })) }
+    // Makes the places, if there are none yet.
+    fn make_places(&mut self) -> Result<(), OutOfMemory>
+        ensures ok { OnOk result (self.new.kept.items ≡ filled self.old.kept.items) }
+        ensures err { OnErr result (self.new.kept.items ≡ self.old.kept.items) }
     {
+        if !self.kept.is_empty() {
+            return Ok(());
+        }
+        self.kept = vec![in self.alloc; None; PLACES]?;
+        Ok(())
+    }
+
+    /// Keeps the target of a row that sees so far.
+    pub fn keep(&mut self, row: &Row, vision: Fixed, target: u32) -> Result<(), OutOfMemory>
+        ensures ok { OnOk result (self.new.kept.items ≡ slice_set (filled self.old.kept.items) (place_for row.now.owner row.now.at) (Some (record { owner = row.now.owner; at = row.now.at; vision = vision; target = target }))) }
+        ensures err { OnErr result (self.new.kept.items ≡ self.old.kept.items) }
+    {
+        self.make_places()?;
         self.kept[place_of(row.owner, &row.at)] = Some(Find {
             owner: row.owner,
             at: row.at,
             vision,
             target,
         });
+        Ok(())
     }
 }
 

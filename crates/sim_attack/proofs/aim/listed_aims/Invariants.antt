@@ -1,11 +1,10 @@
-use Rattle.std.proofs.Common.{◌≡◌, length, flat_map, take}
+use Rattle.std.proofs.Common.{◌≡◌, flat_map, take}
 use Rattle.sim_plans.specs.Plans.{aim_changes_of}
-use Rattle.sim_attack.specs.Finds.{find_places, AreFound}
+use Rattle.sim_attack.specs.Finds.{AreFound}
 use Rattle.sim_attack.proofs.aim.listed_aims.Given as goal
 
 abbrev pub invariant-loop-row : goal.invariant-loop-row
 invariant-loop-row g l = record {
   changes : l.changes ≡ flat_map (aim_changes_of l.scene.setup.now l.scene.state.now) (take l.row-index l.scene.state.now.rows);
-  places : length l.finds.kept.items ≡ find_places;
   finds : AreFound l.scene.setup.now l.scene.state.now l.finds.kept.items;
 }

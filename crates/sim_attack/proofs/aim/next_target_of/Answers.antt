@@ -1,5 +1,5 @@
 -- What is taken from a find is what the row finds, and what the row finds is kept as what its owner finds from there.
-use Rattle.std.proofs.Common.{rules, ◌≡◌, ◌<◌, Some, None, length, get_or, sym, ap, ◌∙◌, arith}
+use Rattle.std.proofs.Common.{rules, ◌≡◌, Some, None, get_or, sym, ap, ◌∙◌}
 use Rattle.std.proofs.lemmas.List.Elements.{All-same, All-set}
 use Rattle.std.specs.Prelude.{Option, IfSome}
 use Rattle.sim_base.specs.Filters.{seen}
@@ -7,9 +7,9 @@ use Rattle.sim_base.specs.Rows.{row_of}
 use Rattle.sim_system.specs.Answers.{seen_from, seen_with}
 use Rattle.sim_plans.specs.Plans.{next_target}
 use Rattle.sim_attack.specs.declared.finds.Find.{Find}
-use Rattle.sim_attack.specs.Finds.{place_for, nearest_from}
+use Rattle.sim_attack.specs.Finds.{place_for, nearest_from, filled}
 use Rattle.sim_attack.specs.Nearest.{nearest_of}
-use Rattle.sim_attack.proofs.Sharing.{target_is_nearest, shared_is_nearest, place_small}
+use Rattle.sim_attack.proofs.Sharing.{target_is_nearest, shared_is_nearest, found_at, filled_found}
 use Rattle.sim_attack.proofs.aim.next_target_of.Goals as goal
 
 pub returns-in-Some-target_for-clause-target : goal.returns-in-Some-target_for-clause-target
@@ -20,9 +20,7 @@ returns-in-Some-target_for-clause-target g c =
     let arms = c.in-Some.arms in
     let finds = c.args.finds.now.kept.items in
     let place = place_for row.owner row.at in
-    let small = place_small row.owner row.at in
-    let within : place < length finds = omega (arith, small, c.requires.places) in
-    shared_is_nearest setup state row arms.vision (get_or finds place None) c.in-Some-target_for.target (c.requires.finds place None within) (sym c.in-Some-target_for.ensures) ∙
+    shared_is_nearest setup state row arms.vision (get_or finds place None) c.in-Some-target_for.target (found_at setup state finds place c.requires.finds) (sym c.in-Some-target_for.ensures) ∙
     sym (target_is_nearest setup state row c.requires.stands.limits c.requires.stands.valid c.requires.row c.requires.found arms) ∙
     ap (next_target setup state row) c.in-Some.ensures
 
@@ -38,4 +36,5 @@ returns-clause-finds g c =
     let target : c.nearest-target.result ≡ nearest_from setup state row.owner row.at arms.vision =
     c.nearest-target.ensures ∙ ap (nearest_of state row) (ids_are ∙ seen_is) ∙
     target_is_nearest setup state row c.requires.stands.limits c.requires.stands.valid c.requires.row c.requires.found arms in
-    All-same P c.keep.new.self.kept.items _ c.keep.ensures (All-set P c.args.finds.now.kept.items (place_for row.owner row.at) (Some (record { owner = row.owner; at = row.at; vision = arms.vision; target = c.nearest-target.result })) target c.requires.finds)
+    All-same P c.keep.new.self.kept.items _ c.in_ok-keep.ensures.ok
+    (All-set P (filled c.args.finds.now.kept.items) (place_for row.owner row.at) (Some (record { owner = row.owner; at = row.at; vision = arms.vision; target = c.nearest-target.result })) target (filled_found setup state c.args.finds.now.kept.items c.requires.finds))
