@@ -4,9 +4,10 @@
  * Usage: fuzz PROGRAM SERVER KIND SEEDS FOLDER SECONDS SEED <BLOCKS
  *
  * SERVER is server.c as a library, KIND a name of kinds.h, and BLOCKS what blocks.awk prints. SEEDS has the files to begin with,
- * and beside a file NAME the match NAME.match that it belongs to, if there is one. FOLDER gets the files that were kept, and in
- * faults/ each that led to a fault; in the end also the addresses of the blocks that were reached. coverage_fuzz.sh, one folder
- * up, makes all of this. The exit status is 0 where there was no fault.
+ * and beside a file NAME the match NAME.match that it belongs to, if there is one; one beside a stored state has to be one that
+ * the program takes. FOLDER gets the files that were kept, and in faults/ each that led to a fault; in the end also the addresses
+ * of the blocks that were reached. coverage_fuzz.sh, one folder up, makes all of this. The exit status is 0 where there was no
+ * fault.
  */
 #define _GNU_SOURCE
 #include <ctype.h>
