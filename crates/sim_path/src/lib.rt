@@ -10,7 +10,8 @@
 //! - `end`, `trail`: where a way ends, and the cells back from there to the start.
 //! - `labels`, `table`: labels of regions, which tell what is reached.
 //! - `nearest`: the reached cells that are nearest to a goal.
-//! - `straight`, `marks`, `unmarked`: ways that cost no more than the octile distance, found with no search.
+//! - `floor`, `straight`, `tight`, `marks`, `unmarked`: ways back from an end that cost as little as is known to be
+//!   needed: straight ways, found with no search, and ways to an end before all cells that cost as much are searched.
 //! - `answer`: the way, by its points, and the rooms that are kept from one search to the next.
 //! - `laws`: theorems about the search for every estimate, and about labels, each the contract of a function that does
 //!   nothing.
@@ -22,6 +23,7 @@ mod drain;
 mod end;
 mod entry;
 mod estimate;
+mod floor;
 mod labels;
 mod laws;
 mod marks;
@@ -33,6 +35,7 @@ mod straight;
 mod table;
 #[cfg(test)]
 mod tests;
+mod tight;
 mod trail;
 mod unmarked;
 
