@@ -1,1 +1,2 @@
 pub mod Aiming
+mod Sameness

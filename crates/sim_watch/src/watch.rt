@@ -1,6 +1,6 @@
 //! The system: the target of each entity that has one, and beside them a list of ids per target.
 
-ghost use Rattle.std.specs.Prelude.{◌≡◌, None, [], IfOk};
+ghost use Rattle.std.specs.Prelude.{◌≡◌, None, [], IfOk, IsTrue};
 ghost use Rattle.sim_system.specs.declared.kind.Kind.TheVariants.{Watch as WatchKind};
 ghost use Rattle.sim_system.specs.Answers.{watchers_among};
 ghost use Rattle.sim_fact_lists.specs.Groups.{AreGroups};
@@ -67,6 +67,9 @@ impl System for Watch {
     fn on(&mut self, note: &Note) -> Result<(), OutOfMemory> {
         let before = self.kept.find(id_of(note));
         let after = part_after(Kind::Watch, before, note);
+        if is_same(&before, &after) {
+            return Ok(());
+        }
         self.aims.make_room()?;
         self.kept.on(Kind::Watch, note)?;
         leave(&mut self.aims, &before);
@@ -86,6 +89,13 @@ impl System for Watch {
     fn rebuilds(&self) -> u64 {
         self.kept.rebuilds
     }
+}
+
+// Whether the same is kept of an entity.
+fn is_same(before: &Option<Fact>, after: &Option<Fact>) -> bool
+    ensures { IsTrue result → before.now ≡ after.now }
+{
+    before == after
 }
 
 // A list of what is lent of an entity.
