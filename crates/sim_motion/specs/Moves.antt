@@ -1,5 +1,5 @@
 -- How the code speaks of rows that move.
-use Rattle.std.specs.Prelude.{ℕ, [], false, Some}
+use Rattle.std.specs.Prelude.{ℕ, [], false, Option, Some, None}
 use Rattle.sim_base.specs.declared.place.Point.{Point}
 use Rattle.sim_base.specs.declared.setup.Setup.{Setup}
 use Rattle.sim_base.specs.declared.state.Motion.{Motion}
@@ -23,9 +23,14 @@ chased motion Stay = Still
 chased motion Keep = motion
 chased motion (Go p) = Going p [] false
 
--- the row at its new place, with its new motion
+-- the motion that is another one, or the one that was
+abbrev pub motion_or : Option Motion → Option Motion → Option Motion
+motion_or None before = before
+motion_or (Some motion) before = Some motion
+
+-- the row at its new place, with its new motion, if it is another one
 abbrev pub row_moved : Row → Moved → Row
-row_moved row new = record row { at = new.at; motion = Some new.motion }
+row_moved row new = record row { at = new.at; motion = motion_or new.motion row.motion }
 
 -- a row goes along the way that it found
 abbrev pub along_way : Row → ℕ → Point → ways.Way → Row

@@ -1,13 +1,13 @@
 //! Where a row comes to, and how it goes on.
 
 ghost use Rattle.std.specs.Prelude.{◌≡◌, All, IfOk, IsTrue, Some};
-ghost use Rattle.sim_base.specs.declared.state.Motion.TheVariants.{Still};
+ghost use Rattle.sim_base.specs.declared.state.Motion.TheVariants.{Still, Going};
 ghost use Rattle.sim_base.specs.Places.{IsPlaced, is_inside};
 ghost use Rattle.sim_base.specs.Rows.{row_of, size_of, target_of as target_by, arms_of as arms_by};
 ghost use Rattle.sim_base.specs.Filters.{field_of};
 ghost use Rattle.sim_base.specs.Validity.{IsKnownRow};
 ghost use Rattle.sim_base.specs.WayOf.{way_of};
-ghost use Rattle.sim_base.specs.Move.{chasing, moved_by, along as along_by};
+ghost use Rattle.sim_base.specs.Move.{chasing, moved_by, along as along_by, after_walk as after_walk_by};
 ghost use Rattle.sim_scene.specs.SceneWords.{Stands};
 ghost use Rattle.sim_motion.specs.Moves.{way_in, row_moved, along_way};
 
@@ -18,11 +18,11 @@ use sim_scene::Scene;
 use sim_system::{Answer, Ask, System, Way};
 use std::alloc::Global;
 
-/// Where a row has come to, and how it goes on.
+/// Where a row has come to, and how it goes on, if not as it went.
 #[derive(Drop)]
 pub struct Moved {
     pub at: Point,
-    pub motion: Motion,
+    pub motion: Option<Motion>,
 }
 
 /// Where a row with this budget comes to, and how it goes on.
@@ -48,7 +48,7 @@ pub fn move_of(
                 if points.is_empty() && !*whole {
                     go(alloc, scene, row, budget, goal)
                 } else {
-                    along(alloc, row, budget, goal, points, *whole)
+                    go_on(alloc, row, budget, goal, points, *whole)
                 }
             }
         },
@@ -60,7 +60,7 @@ fn stay(row: &Row) -> Moved
 {
     Moved {
         at: row.at,
-        motion: Motion::Still,
+        motion: Some(Motion::Still),
     }
 }
 
@@ -103,6 +103,31 @@ fn way(scene: &Scene<'_>, start: &Point, goal: &Point) -> Result<Way, OutOfMemor
     }
 }
 
+// The row goes along its own way. Where it reaches no waypoint it goes on as it went, which takes no memory.
+fn go_on(
+    alloc: Global,
+    row: &Row,
+    budget: u32,
+    goal: &Point,
+    way: &[Point],
+    whole: bool,
+) -> Result<Moved, OutOfMemory>
+    requires at { IsPlaced row.now.at }
+    requires way { All IsPlaced way.now }
+    requires motion { row.now.motion ≡ Some (Going goal.now way.now whole) }
+    ensures { IfOk result (λ new. row_moved row.now new ≡ along_by row.now budget goal.now way.now whole) }
+{
+    let (at, left) = walk(&row.at, budget, way);
+    if !left.is_empty() && left.len() == way.len() {
+        return Ok(Moved { at, motion: None });
+    }
+    let motion = after_walk(alloc, goal, left, whole)?;
+    Ok(Moved {
+        at,
+        motion: Some(motion),
+    })
+}
+
 // The row goes along a way as far as its budget leads.
 fn along(
     alloc: Global,
@@ -117,17 +142,28 @@ fn along(
     ensures { IfOk result (λ new. row_moved row.now new ≡ along_by row.now budget goal.now way.now whole) }
 {
     let (at, left) = walk(&row.at, budget, way);
+    let motion = after_walk(alloc, goal, left, whole)?;
+    Ok(Moved {
+        at,
+        motion: Some(motion),
+    })
+}
+
+// How a row goes on that has walked up to these waypoints.
+fn after_walk(
+    alloc: Global,
+    goal: &Point,
+    left: &[Point],
+    whole: bool,
+) -> Result<Motion, OutOfMemory>
+    ensures { IfOk result (λ motion. motion ≡ after_walk_by goal.now whole left.now) }
+{
     if whole && left.is_empty() {
-        return Ok(Moved {
-            at,
-            motion: Motion::Still,
-        });
+        return Ok(Motion::Still);
     }
-    let way = Items::from_items(Vec::from_slice(alloc, left)?);
-    let motion = Motion::Going {
+    Ok(Motion::Going {
         goal: *goal,
-        way,
+        way: Items::from_items(Vec::from_slice(alloc, left)?),
         whole,
-    };
-    Ok(Moved { at, motion })
+    })
 }

@@ -4,11 +4,11 @@ ghost use Rattle.std.specs.Prelude.{◌≡◌, ◌++◌, IfOk, OnOk, IsSome, Som
 ghost use Rattle.std.specs.Result.{ForOk};
 ghost use Rattle.sim_base.specs.Move.{moved};
 ghost use Rattle.sim_base.specs.Validity.{IsKnownRow};
-ghost use Rattle.sim_plans.specs.RowPlans.{step_changes, motion_changes as motion_changes_by};
+ghost use Rattle.sim_plans.specs.RowPlans.{goes_on as goes_on_by, step_changes, motion_changes as motion_changes_by};
 ghost use Rattle.sim_plans.specs.Plans.{move_changes_of, move_plan};
 ghost use Rattle.sim_plans.specs.PlanLaws.{IsPlanOf};
 ghost use Rattle.sim_scene.specs.SceneWords.{Stands};
-ghost use Rattle.sim_motion.specs.Moves.{row_moved};
+ghost use Rattle.sim_motion.specs.Moves.{motion_or, row_moved};
 
 use crate::moves::{Moved, move_of};
 use sim_base::{Change, Changes, Items, Motion, OutOfMemory, Row};
@@ -71,13 +71,39 @@ fn push_step(changes: &mut Changes, row: &Row, new: Moved) -> Result<(), OutOfMe
     push_motion(changes, row, motion)
 }
 
-// The row's motion becomes another one, if it is not still and stays so.
-fn push_motion(changes: &mut Changes, row: &Row, motion: Motion) -> Result<(), OutOfMemory>
+// The row's motion becomes another one, if it is one.
+fn push_motion(changes: &mut Changes, row: &Row, motion: Option<Motion>) -> Result<(), OutOfMemory>
     requires { IsSome row.now.motion }
-    ensures { OnOk result (changes.new ≡ changes.old ++ motion_changes_by row.now.id row.now.motion (Some motion)) }
+    ensures { OnOk result (changes.new ≡ changes.old ++ motion_changes_by row.now.id row.now.motion (motion_or motion row.now.motion)) }
 {
-    match (&row.motion, &motion) {
-        (Some(Motion::Still), Motion::Still) => Ok(()),
-        _ => changes.push(Change::Motion { id: row.id, motion }),
+    match motion {
+        Some(motion) if !goes_on(&row.motion, &motion) => {
+            changes.push(Change::Motion { id: row.id, motion })
+        }
+        _ => Ok(()),
+    }
+}
+
+// Whether a row goes on as it went: a way that it keeps loses waypoints as it reaches them, so their number tells.
+fn goes_on(before: &Option<Motion>, motion: &Motion) -> bool
+    ensures { result ≡ goes_on_by before.now motion.now }
+{
+    match (before, motion) {
+        (Some(Motion::Still), Motion::Still) => true,
+        (
+            Some(
+                Motion::Going {
+                    goal,
+                    way,
+                    whole: _,
+                },
+            ),
+            Motion::Going {
+                goal: to,
+                way: rest,
+                whole: _,
+            },
+        ) => same_point(goal, to) && way.as_slice().len() == rest.as_slice().len(),
+        _ => false,
     }
 }

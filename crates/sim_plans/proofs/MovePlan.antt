@@ -17,11 +17,12 @@ use Rattle.sim_base.specs.Move.{along_found, chasing, moved_by, moved_row, moved
 use Rattle.sim_turn_laws.proofs.Rows.{all_at, known_row, both_same}
 use Rattle.sim_turn_laws.proofs.RowWise.{Stays}
 use Rattle.sim_turn_laws.proofs.Moving.{moved_row_stays}
-use Rattle.sim_plans.specs.RowPlans.{step_changes}
+use Rattle.sim_plans.specs.RowPlans.{goes_on, step_changes}
 use Rattle.sim_plans.specs.RowChanges.{set_by_all, Suits}
 use Rattle.sim_plans.specs.Plans.{move_changes_by, move_changes_of, move_plan}
 use Rattle.sim_plans.specs.PlanLaws.{Plans}
 use Rattle.sim_plans.proofs.RowByRow.{row_by_row_to}
+use Rattle.sim_plans.proofs.GoingOn.{goes_on_same}
 use Rattle.sim_plans.proofs.Suiting.{step_changes-set, step_changes_suit}
 
 -- a row that moves changes in its place and its motion alone
@@ -75,7 +76,8 @@ module _ (setup : Setup) (state : State) (valid : IsLooselyValid setup state) (r
       by (Some motion) (Some speed) e f =
           let is : new ≡ moved_row setup state row (Some motion) (Some speed) = ap (λ (o : Option Motion). moved_row setup state row o (speed_of setup row)) e ∙ ap (moved_row setup state row (Some motion)) f in
           let same : is_some (moved_row setup state row (Some motion) (Some speed)).motion ≡ is_some row.motion = ap (λ (r : Row). is_some r.motion) (sym is) ∙ can_move in
-          step_changes-set row (moved_row setup state row (Some motion) (Some speed)) same ∙
+          step_changes-set row (moved_row setup state row (Some motion) (Some speed)) same
+          (λ m after on. e ∙ goes_on_same setup state row (unsigned_abs speed / 5) motion (row_of state (target_of row)) (arms_of setup row) m after (ap (λ (o : Option Motion). goes_on o m) (sym e) ∙ on)) ∙
           moved_by_moves setup state row (unsigned_abs speed / 5) (chasing row motion (row_of state (target_of row)) (arms_of setup row))
 
 pub move_plan_is : Plans move_plan moved

@@ -20,7 +20,7 @@ use Rattle.sim_base.specs.Validity.{IsInside, IsValidMotion, IsValidAim, IsValid
 use Rattle.sim_base.specs.Changes.{aimed_at, halted}
 use Rattle.sim_base.specs.Move.{same_point}
 use Rattle.sim_turn_laws.proofs.Removing.{IsTarget}
-use Rattle.sim_plans.specs.RowPlans.{target_changes, halt_changes, turn_changes, motion_changes, step_changes}
+use Rattle.sim_plans.specs.RowPlans.{target_changes, halt_changes, turn_changes, goes_on, motion_changes, step_changes}
 use Rattle.sim_plans.specs.RowChanges.{set_by, set_by_all, Suits}
 
 -- a list of one change, or of none
@@ -63,24 +63,28 @@ same_point-true p q e =
     let ez : p.z ≡ q.z = grind arith in
     λ i. record { x = ex i; z = ez i }
 
--- a row that comes to stand and to go as another one; it can move exactly if the other one can
-pub step_changes-set : (row new : Row) → is_some new.motion ≡ is_some row.motion → set_by_all (step_changes row new) row ≡ record row { at = new.at; motion = new.motion }
-step_changes-set row new same =
+-- a row that comes to stand and to go as another one; it can move exactly if the other one can, and where it goes on as it
+-- went the other one does too
+pub step_changes-set : (row new : Row) → is_some new.motion ≡ is_some row.motion → ((motion : Motion) → new.motion ≡ Some motion → goes_on row.motion motion ≡ true → row.motion ≡ Some motion) →
+    set_by_all (step_changes row new) row ≡ record row { at = new.at; motion = new.motion }
+step_changes-set row new same on =
     set_by-append (cond (same_point row.at new.at) [] (change.Move row.id new.at ∷ [])) (motion_changes row.id row.motion new.motion) row ∙
-    ap (set_by_all (motion_changes row.id row.motion new.motion)) (placed (same_point row.at new.at) refl) ∙ by row.motion new.motion same
+    ap (set_by_all (motion_changes row.id row.motion new.motion)) (placed (same_point row.at new.at) refl) ∙ by row.motion new.motion same on
   where
     placed : (b : Bool) → same_point row.at new.at ≡ b → set_by_all (cond b [] (change.Move row.id new.at ∷ [])) row ≡ record row { at = new.at }
     placed true e = ap (λ (p : Point). record row { at = p }) (same_point-true row.at new.at e)
     placed false e = refl
 
-    by : (a b : Option Motion) → is_some b ≡ is_some a → set_by_all (motion_changes row.id a b) (record row { at = new.at; motion = a }) ≡ record row { at = new.at; motion = b }
-    by None None e = refl
-    by None (Some motion) e = absurd (cc)
-    by (Some Still) None e = absurd (cc)
-    by (Some (Going goal way whole)) None e = absurd (cc)
-    by (Some Still) (Some Still) e = refl
-    by (Some Still) (Some (Going goal way whole)) e = refl
-    by (Some (Going goal way whole)) (Some motion) e = refl
+    set_or_same : (a : Option Motion) (motion : Motion) (b : Bool) → (b ≡ true → a ≡ Some motion) →
+        set_by_all (cond b [] (change.Motion row.id motion ∷ [])) (record row { at = new.at; motion = a }) ≡ record row { at = new.at; motion = Some motion }
+    set_or_same a motion true same = ap (λ (o : Option Motion). record row { at = new.at; motion = o }) (same refl)
+    set_or_same a motion false same = refl
+
+    by : (a b : Option Motion) → is_some b ≡ is_some a → ((motion : Motion) → b ≡ Some motion → goes_on a motion ≡ true → a ≡ Some motion) →
+        set_by_all (motion_changes row.id a b) (record row { at = new.at; motion = a }) ≡ record row { at = new.at; motion = b }
+    by None None e on = refl
+    by (Some motion) None e on = absurd (cc)
+    by a (Some motion) e on = set_or_same a motion (goes_on a motion) (on motion refl)
 
 -- ---- the changes suit the row
 
@@ -136,12 +140,10 @@ module _ (least : ℕ) (setup : Setup) (rows : List Row) (row : Row) (t : Templa
   step_changes_suit new same inside ok some =
       All-append (Suits setup rows row) (cond (same_point row.at new.at) [] (change.Move row.id new.at ∷ [])) (motion_changes row.id row.motion new.motion)
       (cond_both (same_point row.at new.at) [] (change.Move row.id new.at ∷ []) (All (Suits setup rows row)) (λ here. All-nil (Suits setup rows row)) (λ there. one_suits setup rows row (change.Move row.id new.at) (refl, some, inside)))
-      (by row.motion new.motion some ok)
+      (by row.motion new.motion ok)
     where
-      by : (a b : Option Motion) → IsSome a → ((motion : Motion) → b ≡ Some motion → IsValidMotion setup motion) → All (Suits setup rows row) (motion_changes row.id a b)
-      by None b e ok = All-nil (Suits setup rows row)
-      by (Some Still) None e ok = All-nil (Suits setup rows row)
-      by (Some (Going goal way whole)) None e ok = All-nil (Suits setup rows row)
-      by (Some Still) (Some Still) e ok = All-nil (Suits setup rows row)
-      by (Some Still) (Some (Going goal way whole)) e ok = one_suits setup rows row (change.Motion row.id (Going goal way whole)) (motion_suits (Going goal way whole) some (ok (Going goal way whole) refl))
-      by (Some (Going goal way whole)) (Some motion) e ok = one_suits setup rows row (change.Motion row.id motion) (motion_suits motion some (ok motion refl))
+      by : (a b : Option Motion) → ((motion : Motion) → b ≡ Some motion → IsValidMotion setup motion) → All (Suits setup rows row) (motion_changes row.id a b)
+      by a None ok = All-nil (Suits setup rows row)
+      by a (Some motion) ok =
+          cond_both (goes_on a motion) [] (change.Motion row.id motion ∷ []) (All (Suits setup rows row)) (λ on. All-nil (Suits setup rows row))
+          (λ other. one_suits setup rows row (change.Motion row.id motion) (motion_suits motion some (ok motion refl)))
