@@ -6,21 +6,25 @@ ghost use Rattle.sim_base.specs.Steps.{IsOnGround};
 ghost use Rattle.sim_base.specs.Ways.{IsEnd, IsFound, IsWay, first_points, waypoints};
 ghost use Rattle.sim_base.specs.WayOf.{way_of};
 ghost use Rattle.sim_grid.specs.Grids.{IsGroundSize, field_of_grid};
-ghost use Rattle.sim_path.specs.Tables.{cost_in};
-ghost use Rattle.sim_path.specs.Comes.{AreEnds, IsTrailToEnd, LeadBack};
+ghost use Rattle.sim_path.specs.Tables.{cost_in, size_of};
+ghost use Rattle.sim_path.specs.Estimates.{estimate_to};
+ghost use Rattle.sim_path.specs.Comes.{AreEnds, IsSearched, IsTrailToEnd, IsWayEnd, LeadBack};
 ghost use Rattle.sim_path.specs.Regions.{AreLabels};
 ghost use Rattle.sim_path.specs.Floods.{label_in};
 ghost use Rattle.sim_path.specs.Answers.{IsNarrow, way_in};
 
 use crate::costs::{Costs, Reached};
-use crate::drain::{costs_to, least_costs};
+use crate::drain::{Stage, go_on, least_costs, search_of, started};
 use crate::end::{best_of, end_of};
 use crate::estimate::Aim;
+use crate::floor::Front;
 use crate::labels::Labels;
 use crate::marks::Marks;
+use crate::milestone::milestone;
 use crate::nearest::{is_reached, nearest};
 use crate::search::Search;
 use crate::straight::straight_to;
+use crate::tight::tight_to;
 use crate::trail::trail_from;
 use crate::unmarked::blank_marks;
 use sim_base::{Cell, Items, MAX_WAYPOINTS, OutOfMemory, Point, Points, cell_of, centre_of};
@@ -114,6 +118,21 @@ fn trail_back(
     trail_from(grid, costs, trail, from, end)
 }
 
+// The end of the way, by what a search has found: the best of its ends, or where none is reached, the best of all reached
+// cells.
+fn way_end(grid: &Grid, costs: &Costs, aim: Aim, ends: &[Cell], start: Cell) -> Reached
+    requires start_on { IsOnGround grid.now.size start }
+    requires size { size_of costs.now ≡ grid.now.size }
+    requires ends { AreEnds (field_of_grid grid.now) start aim.goal aim.near ends.now }
+    requires costs { IsSearched (field_of_grid grid.now) start (estimate_to aim) ends.now (cost_in costs.now) }
+    ensures { IsWayEnd (field_of_grid grid.now) start aim.goal (cost_in costs.now) result }
+{
+    match best_of(costs, ends, aim.goal) {
+        Some(end) => end,
+        None => end_of(costs, start, aim.goal),
+    }
+}
+
 /// The shortest way over the open cells of the grid, of at most 64 points. The start counts as open. Where the goal
 /// can't be reached, the way leads to the reached cell that is nearest to it.
 pub fn way(alloc: Global, grid: &Grid, start: Point, goal: Point) -> Result<Way, OutOfMemory>
@@ -144,12 +163,14 @@ pub struct Searcher {
 }
 
 impl Searcher {
-    ghost use Rattle.std.specs.Prelude.{◌≡◌, OnOk, IfOk, IsTrue};
+    ghost use Rattle.std.specs.Prelude.{◌≡◌, ◌<◌, ◌^◌, OnOk, IfOk, IsTrue, true};
     ghost use Rattle.sim_base.specs.Places.{is_inside, cell_of as cell_at};
     ghost use Rattle.sim_base.specs.Ways.{IsFound, IsWay};
     ghost use Rattle.sim_base.specs.WayOf.{way_of};
     ghost use Rattle.sim_grid.specs.Grids.{field_of_grid};
     ghost use Rattle.sim_path.specs.Comes.{AreEnds, IsTrailToEnd};
+    ghost use Rattle.sim_path.specs.Floors.{IsFront};
+    ghost use Rattle.sim_path.specs.Queues.{Ready};
     ghost use Rattle.sim_path.specs.Regions.{AreLabels};
     ghost use Rattle.sim_path.specs.Floods.{label_in};
     ghost use Rattle.sim_path.specs.Answers.{way_in};
@@ -241,8 +262,35 @@ impl Searcher {
         self.search(alloc, grid, trail, near, ends, start, goal)
     }
 
-    // Makes the trail back from the best of these ends by a search, or where none is reached, from the best of all
-    // reached cells.
+    // Whether a way to one of these ends costs as little as the search knows that it must. If so, the trail is made of its
+    // cells, back from that end. False says nothing.
+    fn go_back(
+        &mut self,
+        alloc: Global,
+        grid: &Grid,
+        front: &Front,
+        trail: &mut Vec<Cell>,
+        near: u32,
+        ends: &[Cell],
+        start: &Point,
+        goal: &Point,
+    ) -> Result<bool, OutOfMemory>
+        requires start { IsTrue (is_inside grid.now.size start.now) }
+        requires goal { IsTrue (is_inside grid.now.size goal.now) }
+        requires front { IsFront (field_of_grid grid.now) (cell_at start.now) front.now }
+        requires ends { AreEnds (field_of_grid grid.now) (cell_at start.now) (cell_at goal.now) near ends.now }
+        ensures { IfOk result (λ found. found ≡ true → IsTrailToEnd (field_of_grid grid.now) (cell_at start.now) (cell_at goal.now) trail.new.items) }
+    {
+        let from = grid.cell_of(*start);
+        let to = grid.cell_of(*goal);
+        let mut dead = blank_marks(alloc, self.marks.take(), grid.width(), grid.depth())?;
+        let found = tight_to(grid, front, &mut dead, trail, near, ends, from, to);
+        self.marks = Some(dead);
+        found
+    }
+
+    // Makes the trail back from the best of these ends by a search. Where the goal is far and a milestone before it is
+    // come to, a way back is tried before all cells are gone through that cost as little.
     fn search(
         &mut self,
         alloc: Global,
@@ -260,20 +308,51 @@ impl Searcher {
     {
         let from = grid.cell_of(*start);
         let to = grid.cell_of(*goal);
-        let search = costs_to(
-            alloc,
-            grid,
-            self.rooms.take(),
-            Aim { goal: to, near },
-            ends,
-            from,
-        )?;
-        let end = match best_of(&search.costs, ends, to) {
-            Some(end) => end,
-            None => end_of(&search.costs, from, to),
+        let aim = Aim { goal: to, near };
+        let stage = started(alloc, grid, self.rooms.take(), aim, from)?;
+        let Some(milestone) = milestone(grid, from, to, near) else {
+            return self.finish(alloc, grid, stage, trail, near, ends, start, goal);
         };
-        let found = trail_back(grid, &search.costs, trail, end, start, goal);
-        self.rooms = Some(search);
+        let stage = go_on(alloc, stage, grid, aim, &[milestone, to])?;
+        let (costs, key) = (&stage.search.costs, stage.key);
+        let front = Front { costs, aim, key };
+        if self.go_back(alloc, grid, &front, trail, near, ends, start, goal)? {
+            self.rooms = Some(search_of(stage));
+            return Ok(());
+        }
+        self.finish(alloc, grid, stage, trail, near, ends, start, goal)
+    }
+
+    // Makes the trail back by all that a search can tell.
+    fn finish(
+        &mut self,
+        alloc: Global,
+        grid: &Grid,
+        stage: Stage,
+        trail: &mut Vec<Cell>,
+        near: u32,
+        ends: &[Cell],
+        start: &Point,
+        goal: &Point,
+    ) -> Result<(), OutOfMemory>
+        requires start { IsTrue (is_inside grid.now.size start.now) }
+        requires goal { IsTrue (is_inside grid.now.size goal.now) }
+        requires ends { AreEnds (field_of_grid grid.now) (cell_at start.now) (cell_at goal.now) near ends.now }
+        requires from { stage.search.start ≡ cell_at start.now }
+        requires ready { Ready (estimate_to (record { goal = cell_at goal.now; near = near })) (field_of_grid grid.now) stage.search stage.key 0 }
+        requires small { stage.key < 2 ^ 26 }
+        ensures { OnOk result (IsTrailToEnd (field_of_grid grid.now) (cell_at start.now) (cell_at goal.now) trail.new.items) }
+    {
+        let from = grid.cell_of(*start);
+        let aim = Aim {
+            goal: grid.cell_of(*goal),
+            near,
+        };
+        let stage = go_on(alloc, stage, grid, aim, ends)?;
+        let costs = &stage.search.costs;
+        let end = way_end(grid, costs, aim, ends, from);
+        let found = trail_back(grid, costs, trail, end, start, goal);
+        self.rooms = Some(search_of(stage));
         found
     }
 }

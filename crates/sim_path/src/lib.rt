@@ -11,20 +11,25 @@
 //! - `labels`, `table`: labels of regions, which tell what is reached.
 //! - `nearest`: the reached cells that are nearest to a goal.
 //! - `straight`, `marks`, `unmarked`: ways that cost no more than the octile distance, found with no search.
+//! - `floor`, `away`, `tight`, `milestone`: ways to a far goal that cost no more than a search knows that they must, found
+//!   before all cells are searched that cost as much.
 //! - `answer`: the way, by its points, and the rooms that are kept from one search to the next.
 //! - `laws`: theorems about the search for every estimate, and about labels, each the contract of a function that does
 //!   nothing.
 #![tactic(auto)]
 
 mod answer;
+mod away;
 mod costs;
 mod drain;
 mod end;
 mod entry;
 mod estimate;
+mod floor;
 mod labels;
 mod laws;
 mod marks;
+mod milestone;
 mod nearest;
 mod queue;
 mod search;
@@ -33,6 +38,7 @@ mod straight;
 mod table;
 #[cfg(test)]
 mod tests;
+mod tight;
 mod trail;
 mod unmarked;
 

@@ -1,0 +1,15 @@
+use Rattle.std.proofs.Common.{sym, ◌∙◌, subst}
+use Rattle.sim_base.specs.declared.place.Cell.{Cell}
+use Rattle.sim_grid.specs.Grids.{field_of_grid}
+use Rattle.sim_path.specs.declared.estimate.Aim.{Aim}
+use Rattle.sim_path.specs.Estimates.{estimate_to}
+use Rattle.sim_path.specs.Comes.{IsSearched}
+use Rattle.sim_path.specs.Tables.{cost_in}
+use Rattle.sim_path.proofs.answer.Searcher.finish.Goals as goal
+
+pub way_end-end-requires-clause-costs : goal.way_end-end-requires-clause-costs
+way_end-end-requires-clause-costs c =
+    let aim : Aim = record { goal = c.cell_of.result; near = c.args.near } in
+    subst (λ (v : Cell). IsSearched (field_of_grid c.args.grid.now) v (estimate_to aim) c.args.ends.now (cost_in c.in_ok-stage.stage.search.costs))
+    (c.requires.from ∙ sym c.cell_of-from.ensures.cell)
+    c.in_ok-stage.ensures.costs

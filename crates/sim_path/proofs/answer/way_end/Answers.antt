@@ -1,0 +1,39 @@
+use Rattle.std.proofs.Common.{subst, refl, Option}
+use Rattle.sim_grid.specs.Grids.{field_of_grid}
+use Rattle.sim_path.specs.declared.costs.Reached.{Reached}
+use Rattle.sim_path.specs.Estimates.{estimate_to}
+use Rattle.sim_path.specs.Comes.{IsBestOf}
+use Rattle.sim_path.specs.Tables.{cost_in}
+use Rattle.sim_path.proofs.BestOf.{end-by_search, all-by_none}
+use Rattle.sim_path.proofs.Ends.{back-of_all}
+use Rattle.sim_path.proofs.Found.{start-costs, all-end}
+use Rattle.sim_path.proofs.answer.way_end.Goals as goal
+
+pub end_of-requires : goal.end_of-requires
+end_of-requires c =
+    let field = field_of_grid c.args.grid.now in
+    let aim = c.args.aim in
+    let cost = cost_in c.args.costs.now in
+    let none = subst (λ (o : Option Reached). IsBestOf cost aim.goal c.args.ends.now o) c.in-None.is c.best_of.ensures in
+    record { start = start-costs field c.args.start cost (all-by_none field c.args.start (estimate_to aim) c.args.ends.now cost none c.requires.costs) }
+
+pub returns-in-Some : goal.returns-in-Some
+returns-in-Some c =
+    let aim = c.args.aim in
+    let cost = cost_in c.args.costs.now in
+    let best = subst (λ (o : Option Reached). IsBestOf cost aim.goal c.args.ends.now o) c.in-Some.is c.best_of.ensures in
+    end-by_search (field_of_grid c.args.grid.now) c.args.start aim.goal aim.near c.args.ends.now cost c.in-Some.end aim refl refl c.requires.ends best c.requires.costs
+
+pub returns-in-None : goal.returns-in-None
+returns-in-None c =
+    let field = field_of_grid c.args.grid.now in
+    let start = c.args.start in
+    let aim = c.args.aim in
+    let costs = c.args.costs.now in
+    let none = subst (λ (o : Option Reached). IsBestOf (cost_in costs) aim.goal c.args.ends.now o) c.in-None.is c.best_of.ensures in
+    let all = all-by_none field start (estimate_to aim) c.args.ends.now (cost_in costs) none c.requires.costs in
+    let least = c.end_of.ensures in
+    record {
+      is_end = all-end field start aim.goal costs c.end_of.result c.requires.start_on c.requires.size all least;
+      back = back-of_all field start (cost_in costs) c.end_of.result all least.reached;
+    }

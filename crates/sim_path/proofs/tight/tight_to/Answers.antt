@@ -1,0 +1,28 @@
+use Rattle.std.proofs.Common.{◌≡◌, Bool, true, Option, subst}
+use Rattle.sim_grid.specs.Grids.{field_of_grid}
+use Rattle.sim_path.specs.declared.costs.Reached.{Reached}
+use Rattle.sim_path.specs.Comes.{IsBestOf, IsTrailToEnd}
+use Rattle.sim_path.specs.Floors.{floor_of}
+use Rattle.sim_path.specs.Straight.{IsTightTrail, floor_cost}
+use Rattle.sim_path.proofs.Found.{if_ok}
+use Rattle.sim_path.proofs.TightTrails.{tight-end}
+use Rattle.sim_path.proofs.tight.tight_to.Goals as goal
+
+pub returns-in-Some : goal.returns-in-Some
+returns-in-Some c =
+    let field = field_of_grid c.args.grid.now in
+    let start = c.args.start in
+    let floor = floor_of c.args.front.now start in
+    let goal = c.args.goal in
+    let end = c.in-Some.end in
+    let trail = c.tight_trail.new.trail.items in
+    let best = subst (λ (o : Option Reached). IsBestOf (floor_cost floor) goal c.args.ends.now o) c.in-Some.is c.tight_end.ensures in
+    if_ok c.tight_trail.result (λ (b : Bool). b ≡ true → IsTightTrail field start floor end.cell trail) (λ (b : Bool). b ≡ true → IsTrailToEnd field start goal trail)
+    (λ b found e.
+    let h = found e in
+    record {
+      end = record { cell = end.cell; cost = floor end.cell };
+      is_end = tight-end field start floor c.requires.start c.requires.front.floor goal c.args.near c.args.ends.now end c.requires.ends best.0 best.1 h.tight;
+      is_trail = h.is_trail;
+    })
+    c.tight_trail.ensures

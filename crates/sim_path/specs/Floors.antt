@@ -1,0 +1,38 @@
+-- What walks from a start cost at least, by what a search knows.
+use Rattle.std.specs.Prelude.{◌≡◌, ℕ, ◌+◌, ◌-◌, ◌<◌, ◌≤◌, max, min, Option, Some, None}
+use Rattle.sim_base.specs.declared.place.Cell.{Cell}
+use Rattle.sim_base.specs.Steps.{Field, IsStep, octile}
+use Rattle.sim_path.specs.Tables.{cost_in}
+use Rattle.sim_path.specs.Taking.{HasCost}
+use Rattle.sim_path.specs.Estimates.{estimate_to}
+use Rattle.sim_path.specs.declared.floor.Front.{Front}
+
+-- a floor is nothing at the start, and rises along a step by at most what the step costs, so no walk costs less
+pub record IsFloor (field : Field) (start : Cell) (floor : Cell → ℕ) : Type 0 where
+  pub begins : floor start ≡ 0
+  pub rises : (a b : Cell) (k : ℕ) → IsStep field start a b k → floor b ≤ floor a + k
+
+-- the cost that is known, or the bound where that is less
+abbrev pub known_or : Option ℕ → ℕ → ℕ
+known_or None bound = bound
+known_or (Some cost) bound = min cost bound
+
+-- what is left of the key of a search for a cell
+abbrev pub left_of : Front → Cell → ℕ
+left_of front c = front.key - estimate_to front.aim c
+
+-- what a walk from the start to a cell costs at least: its cost, or the octile distance and what is left of the key for a cell that the search hasn't taken
+abbrev pub floor_of : Front → Cell → Cell → ℕ
+floor_of front start c = known_or (cost_in front.costs.now c) (max (octile c start) (left_of front c))
+
+-- What a search knows that has come to a key: no walk costs less than its floor, and the steps from the cells of lower keys are reckoned with.
+pub record IsFront (field : Field) (start : Cell) (front : Front) : Type 0 where
+  pub floor : IsFloor field start (floor_of front start)
+  pub far : (c : Cell) (d : ℕ) → cost_in front.costs.now c ≡ Some d → octile c start ≤ d
+  pub reckoned : (a b : Cell) (k d : ℕ) → cost_in front.costs.now a ≡ Some d → d + estimate_to front.aim a < front.key → IsStep field start a b k → HasCost (cost_in front.costs.now) b (d + k)
+
+-- a cell has no cost yet, and what is left of the key for it is its floor; it is no nearer to the goal than the ends are
+pub record IsUnknown (front : Front) (start c : Cell) : Type 0 where
+  pub none : cost_in front.costs.now c ≡ None
+  pub far : octile c start ≤ left_of front c
+  pub beyond : front.aim.near ≤ octile c front.aim.goal
