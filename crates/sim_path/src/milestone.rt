@@ -8,10 +8,10 @@ use sim_grid::{Grid, octile};
 // From which distance on a goal is far.
 const FAR: u32 = 1_000;
 
-// How many steps there are to the first milestone that is tried, and to the last.
-const FIRST: u32 = 20;
+// How many steps there are to the first cell that is tried, and how many cells are.
+const STEPS: u32 = 20;
 
-const LAST: u32 = 24;
+const TRIED: u32 = 4;
 
 // The coordinate after so many of all steps from one to another.
 fn between(from: u16, to: u16, steps: u32, all: u32) -> u16
@@ -28,7 +28,7 @@ pub fn milestone(grid: &Grid, from: Cell, to: Cell, near: u32) -> Option<Cell> {
         return None;
     }
     let all = u32::from(from.x.abs_diff(to.x).max(from.z.abs_diff(to.z)));
-    for steps in FIRST..LAST {
+    for steps in STEPS..STEPS + TRIED {
         let cell = Cell {
             x: between(from.x, to.x, steps, all),
             z: between(from.z, to.z, steps, all),
