@@ -33,7 +33,7 @@ module _ (g : Fact → Bool) where
   abbrev pub chosen : List Fact → List ℕ
   chosen facts = map id_of_fact (filter g facts)
 
-  chosen-cons : (f : Fact) (facts : List Fact) → chosen (f ∷ facts) ≡ cond (g f) (f.id ∷ chosen facts) (chosen facts)
+  pub chosen-cons : (f : Fact) (facts : List Fact) → chosen (f ∷ facts) ≡ cond (g f) (f.id ∷ chosen facts) (chosen facts)
   chosen-cons f facts = by (g f)
     where
       by : (c : Bool) → map id_of_fact (cond c (f ∷ filter g facts) (filter g facts)) ≡ cond c (f.id ∷ chosen facts) (chosen facts)

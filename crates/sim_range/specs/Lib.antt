@@ -1,3 +1,4 @@
 pub mod Buckets
 pub mod Bucketed
 pub mod Nearness
+pub mod Sights

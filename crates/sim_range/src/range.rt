@@ -1,28 +1,36 @@
-//! The system: the place, owner, health and vision of each entity, and beside them buckets of ids by place.
+//! The system: the place, owner, health and vision of each entity, and beside them buckets of ids by place, and what each
+//! entity sees.
 
-ghost use Rattle.std.specs.Prelude.{◌≡◌, ◌<◌, None, [], length, IsSome};
+ghost use Rattle.std.specs.Prelude.{◌≡◌, ◌↔◌, ◌<◌, None, [], length, IsSome, IfSome, IfOk, MatchOption};
 ghost use Rattle.sim_range.specs.Buckets.{ArePlaced, in_bucket};
 ghost use Rattle.sim_range.specs.Bucketed.{AreBuckets};
+ghost use Rattle.sim_range.specs.Sights.{AreSightsIfAny};
 ghost use Rattle.sim_system.specs.declared.kind.Kind.TheVariants.{Range as RangeKind};
+ghost use Rattle.sim_system.specs.Notes.{fact_with};
+ghost use Rattle.sim_system.specs.Answers.{seen_among};
 
 use crate::bucket::Bucket;
-use crate::buckets::{buckets_of, change, make_room};
-use crate::seen::seen;
+use crate::buckets::change;
+use crate::ready::{built_of, make_ready, take_up};
+use crate::sight::Sight;
 use crate::within::within;
-use sim_base::{Land, OutOfMemory};
-use sim_fact_lists::{Kept, id_of, part_after};
+use sim_base::{Ids, Land, OutOfMemory};
+use sim_fact_lists::{Kept, id_of, part_after, place_of};
 use sim_system::{Answer, Ask, Fact, Kind, Note, System};
 use std::alloc::Global;
 
-/// Keeps place, owner, health and vision of each entity that has health or can attack, and who stands in which bucket.
+/// Keeps place, owner, health and vision of each entity that has health or can attack, who stands in which bucket, and whom
+/// each sees.
 #[derive(Drop)]
 pub struct Range {
     kept: Kept,
     buckets: Vec<Bucket>,
+    sights: Vec<Sight>,
     ghost placed: { ArePlaced kept.facts.items },
     ghost bucketed: { AreBuckets kept.facts.items buckets.items },
     ghost whole: { IsSome kept.land → length buckets.items ≡ 256 },
     ghost bare: { kept.land ≡ None → kept.facts.items ≡ [] },
+    ghost seen: { AreSightsIfAny kept.land kept.facts.items sights.items },
 }
 
 impl Range {
@@ -33,6 +41,7 @@ impl Range {
         Range {
             kept: Kept::new(alloc),
             buckets: Vec::new(alloc),
+            sights: Vec::new(alloc),
         }
     }
 
@@ -48,6 +57,21 @@ impl Range {
             None => &[],
         }
     }
+
+    /// Lends the ids, ascending, of the enemies that an entity sees. There are none to lend, not even an empty list, of one
+    /// that cannot attack or is not kept, and where it was not built.
+    pub fn kept(&self, id: u32) -> Option<&[u32]>
+        ensures ids { IfSome result (λ ids. MatchOption (⟦<Range as System>⟧.meaning self.now).land ⊥ (λ land. ids.now ≡ seen_among land (⟦<Range as System>⟧.meaning self.now).facts (fact_with (⟦<Range as System>⟧.meaning self.now).facts id))) }
+        ensures when { IsSome result ↔ MatchOption (fact_with (⟦<Range as System>⟧.meaning self.now).facts id) ⊥ (λ fact. IsSome fact.vision) }
+    {
+        let Ok(at) = place_of(self.kept.facts.as_slice(), id) else {
+            return None;
+        };
+        if self.kept.facts[at].vision.is_none() {
+            return None;
+        }
+        Some(self.sights[at].ids.as_slice())
+    }
 }
 
 impl System for Range {
@@ -60,13 +84,18 @@ impl System for Range {
     fn clear(&mut self) {
         self.kept.clear();
         self.buckets = Vec::new(self.kept.alloc);
+        self.sights = Vec::new(self.kept.alloc);
     }
 
     fn rebuild(&mut self, land: &Land, facts: &[Fact]) -> Result<(), OutOfMemory> {
         self.buckets = Vec::new(self.kept.alloc);
+        self.sights = Vec::new(self.kept.alloc);
         self.kept.rebuild(Kind::Range, land, facts)?;
-        match buckets_of(self.kept.alloc, self.kept.facts.as_slice()) {
-            Ok(buckets) => self.buckets = buckets,
+        match built_of(self.kept.alloc, land, self.kept.facts.as_slice()) {
+            Ok(built) => {
+                self.buckets = built.buckets;
+                self.sights = built.sights;
+            }
             Err(error) => {
                 self.kept.clear();
                 return Err(error);
@@ -79,7 +108,14 @@ impl System for Range {
         let id = id_of(note);
         let before = self.kept.find(id);
         let after = part_after(Kind::Range, before, note);
-        make_room(&mut self.buckets, &after)?;
+        let plan = make_ready(
+            &mut self.kept,
+            &mut self.buckets,
+            &mut self.sights,
+            &before,
+            &after,
+        )?;
+        take_up(&mut self.sights, &self.kept, id, &before, &after, plan);
         self.kept.on(Kind::Range, note)?;
         change(&mut self.buckets, id, &before, &after);
         Ok(())
@@ -100,8 +136,8 @@ impl System for Range {
                     u32::from(*mask),
                 )?,
             }),
-            (Some(land), Ask::Seen { id }) => Ok(Answer::Many {
-                ids: seen(self.kept.alloc, land, facts, buckets, *id)?,
+            (Some(_), Ask::Seen { id }) => Ok(Answer::Many {
+                ids: seen(self, *id)?,
             }),
             _ => unreachable!(),
         }
@@ -110,4 +146,15 @@ impl System for Range {
     fn rebuilds(&self) -> u64 {
         self.kept.rebuilds
     }
+}
+
+// A list of what is lent of an entity.
+fn seen(range: &Range, id: u32) -> Result<Ids, OutOfMemory>
+    requires { MatchOption (fact_with (⟦<Range as System>⟧.meaning range.now).facts id) ⊥ (λ fact. IsSome fact.vision) }
+    ensures { IfOk result (λ ids. MatchOption (⟦<Range as System>⟧.meaning range.now).land ⊥ (λ land. ids ≡ seen_among land (⟦<Range as System>⟧.meaning range.now).facts (fact_with (⟦<Range as System>⟧.meaning range.now).facts id))) }
+{
+    let Some(ids) = range.kept(id) else {
+        unreachable!()
+    };
+    Ok(Ids::from_items(Vec::from_slice(range.kept.alloc, ids)?))
 }
