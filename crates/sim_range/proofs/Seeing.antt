@@ -13,7 +13,7 @@ use Rattle.sim_fact_lists.specs.Places.{Ascend, with_only}
 use Rattle.sim_fact_lists.specs.Groups.{with_id, without_id}
 use Rattle.sim_fact_lists.proofs.Pairs.{Above as NumbersAbove, with_first, with_behind}
 use Rattle.sim_fact_lists.proofs.Rising.{Above, Rising, Missing, above_less, without_missing, rising_without, only_itself, found_id, rising}
-use Rattle.sim_range.specs.Sights.{is_seen_by, is_seen, is_changed, changed_among, sight, turned, is_among, AreChanging}
+use Rattle.sim_range.specs.Sights.{is_seen_by, is_seen, differ, sight, turned, is_among, AgreeElsewhere}
 use Rattle.sim_range.proofs.Nearing.{chosen, chosen-cons}
 use Rattle.sim_range.proofs.Turning.{Ups, with_without}
 
@@ -36,7 +36,7 @@ module _ (g : Fact → Bool) where
       by true rest = (chosen_above f.id facts r.0, rest)
       by false rest = rest
 
-  chosen_without : (id : ℕ) (facts : List Fact) → chosen g (without id facts) ≡ without_id id (chosen g facts)
+  pub chosen_without : (id : ℕ) (facts : List Fact) → chosen g (without id facts) ≡ without_id id (chosen g facts)
   chosen_without id [] = refl
   chosen_without id (f ∷ facts) = by (f.id == id) refl (chosen_without id facts) ∙ sym (ap (without_id id) (chosen-cons g f facts))
     where
@@ -188,6 +188,6 @@ module _ (g : Fact → Bool) where
       by true s = rest (h.id == (get_or facts i f).id) (is_among (chosen g facts) (get_or facts i f).id) s
       by false s = s
 
-pub are_changing : (land : Land) (before after : Option Fact) (facts : List Fact) (ids : List ℕ) → ((n : ℕ) → is_among ids n ≡ is_among (changed_among land before after facts) n) → AreChanging land facts before after ids
-are_changing land before after facts ids same i f lt none =
-    same_by (is_seen land (get_or facts i f) before) (is_seen land (get_or facts i f) after) (not_chosen (is_changed land before after) facts i f lt (sym (same (get_or facts i f).id) ∙ none))
+-- all for whom two tests differ are among these
+pub agree_elsewhere : (g h : Fact → Bool) (facts : List Fact) (ids : List ℕ) → ((n : ℕ) → is_among ids n ≡ is_among (chosen (λ (f : Fact). differ (g f) (h f)) facts) n) → AgreeElsewhere g h facts ids
+agree_elsewhere g h facts ids same i f lt none = same_by (g (get_or facts i f)) (h (get_or facts i f)) (not_chosen (λ (e : Fact). differ (g e) (h e)) facts i f lt (sym (same (get_or facts i f).id) ∙ none))

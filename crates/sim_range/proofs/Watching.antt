@@ -97,7 +97,7 @@ same_place (f ∷ facts) (suc i) (suc j) d e r one two same = ap suc (same_place
 only_there : (facts : List Fact) (id at i : ℕ) (d : Fact) → Ascend facts → Stands facts id at → i < length facts → (get_or facts i d).id ≡ id → i ≡ at
 only_there facts id at i d up s lt is = same_place facts i at d d (rising facts up) lt s.within (is ∙ sym (s.same d))
 
-nowhere : (facts : List Fact) (id at i : ℕ) (d : Fact) → Belongs facts id at → i < length facts → (get_or facts i d).id ≡ id → ⊥
+pub nowhere : (facts : List Fact) (id at i : ℕ) (d : Fact) → Belongs facts id at → i < length facts → (get_or facts i d).id ≡ id → ⊥
 nowhere facts id at i d b lt is = elim (cases_lt i at) [ inl before ↦ (let h = b.before i d before in absurd (omega (arith, h, is))) | inr behind ↦ (let h = b.behind i d (omega arith) lt in absurd (omega (arith, h, is))) ]
 
 -- one watcher more is among them

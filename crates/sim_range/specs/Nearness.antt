@@ -1,8 +1,18 @@
--- Facts by the numbers of their buckets.
-use Rattle.std.specs.Prelude.{ℕ, nat_lt, List, filter}
+-- Facts by the numbers of their buckets, and buckets out of reach.
+use Rattle.std.specs.Prelude.{◌≡◌, ℕ, ◌≤◌, nat_lt, ◌-ℤ◌, unsigned_abs, List, filter, Option, IfSome}
+use Rattle.sim_base.specs.declared.place.Point.{Point}
+use Rattle.sim_base.specs.Places.{IsPlaced}
 use Rattle.sim_system.specs.declared.fact.Fact.{Fact}
-use Rattle.sim_range.specs.Buckets.{bucket_key}
+use Rattle.sim_range.specs.Buckets.{bucket_at, bucket_key}
 
 -- those who stand in a bucket of a lower number
 abbrev pub below_bucket : ℕ → List Fact → List Fact
 below_bucket k facts = filter (λ (fact : Fact). nat_lt (bucket_key fact) k) facts
+
+-- two points are further apart than so many raws, by columns or by rows
+abbrev pub AreApart : ℕ → Point → Point → Type 0
+AreApart reach p q = unsigned_abs (p.x -ℤ q.x) ≤ reach → unsigned_abs (p.z -ℤ q.z) ≤ reach → ⊥
+
+-- all points of the bucket of this number are so from where an entity is kept, if it is
+abbrev pub IsOut : ℕ → ℕ → Option Fact → Type 0
+IsOut k reach part = (p : Point) → IsPlaced p → bucket_at p ≡ k → IfSome part (λ (fact : Fact). AreApart reach p fact.at)

@@ -1,5 +1,5 @@
 -- What entities see, in step with their facts.
-use Rattle.std.specs.Prelude.{◌≡◌, ℕ, ◌<◌, Bool, true, false, not, ◌&&◌, ◌==◌, ℤ, List, length, map, filter, Option, Some, None, slice_index, slice_index_or, vec_len, vec_capacity, if◌then◌else◌}
+use Rattle.std.specs.Prelude.{◌≡◌, ℕ, ◌<◌, ◌≤◌, Bool, true, false, not, ◌&&◌, ◌==◌, ℤ, unsigned_abs, List, length, map, filter, Option, Some, None, slice_index, slice_index_or, vec_len, vec_capacity, if◌then◌else◌}
 use Rattle.std.specs.List.{list_any}
 use Rattle.sim_base.specs.declared.setup.Land.{Land}
 use Rattle.sim_base.specs.Rows.{in_mask}
@@ -20,13 +20,26 @@ abbrev pub is_seen : Land → Fact → Option Fact → Bool
 is_seen land watcher None = false
 is_seen land watcher (Some fact) = is_seen_by land watcher watcher.vision fact
 
--- whether a watcher begins to see an entity, or sees it no more, when what is kept of it changes
-abbrev pub is_changed : Land → Option Fact → Option Fact → Fact → Bool
-is_changed land before after watcher = if is_seen land watcher before then not (is_seen land watcher after) else is_seen land watcher after
+-- whether what is kept of a watcher, if anything, sees an entity
+abbrev pub sees : Land → Option Fact → Fact → Bool
+sees land None fact = false
+sees land (Some watcher) fact = is_seen_by land watcher watcher.vision fact
 
--- the watchers that do
-abbrev pub changed_among : Land → Option Fact → Option Fact → List Fact → List ℕ
-changed_among land before after facts = map id_of_fact (filter (is_changed land before after) facts)
+-- those whom it sees
+abbrev pub view : Land → List Fact → Option Fact → List ℕ
+view land facts part = map id_of_fact (filter (sees land part) facts)
+
+-- whether one of two holds alone
+abbrev pub differ : Bool → Bool → Bool
+differ a b = if a then not b else b
+
+-- those who begin to see an entity, or see it no more, when what is kept of it changes
+abbrev pub turned_watchers : Land → Option Fact → Option Fact → List Fact → List ℕ
+turned_watchers land before after facts = map id_of_fact (filter (λ (fact : Fact). differ (is_seen land fact before) (is_seen land fact after)) facts)
+
+-- those whom it begins to see, or sees no more
+abbrev pub turned_seen : Land → Option Fact → Option Fact → List Fact → List ℕ
+turned_seen land before after facts = map id_of_fact (filter (λ (fact : Fact). differ (sees land before fact) (sees land after fact)) facts)
 
 -- what an entity sees
 abbrev pub sight : Land → List Fact → Fact → List ℕ
@@ -63,6 +76,18 @@ HasPlace id s = (with_id id s.ids.items ≡ s.ids.items → ⊥) → vec_len s.i
 abbrev pub HaveRooms : List Fact → List ℕ → List Sight → Type 0
 HaveRooms facts watchers sights = (i : ℕ) (f : Fact) (d : Sight) → i < length facts → is_among watchers (slice_index_or facts i f).id ≡ true → vec_len (slice_index_or sights i d).ids < vec_capacity (slice_index_or sights i d).ids
 
--- all whose sight changes are among these watchers
+-- of all facts whose ids are not among these, both tests say the same
+abbrev pub AgreeElsewhere : (Fact → Bool) → (Fact → Bool) → List Fact → List ℕ → Type 0
+AgreeElsewhere g h facts ids = (i : ℕ) (f : Fact) → i < length facts → is_among ids (slice_index_or facts i f).id ≡ false → g (slice_index_or facts i f) ≡ h (slice_index_or facts i f)
+
+-- all who begin to see an entity, or see it no more, are among these
 abbrev pub AreChanging : Land → List Fact → Option Fact → Option Fact → List ℕ → Type 0
-AreChanging land facts before after watchers = (i : ℕ) (f : Fact) → i < length facts → is_among watchers (slice_index_or facts i f).id ≡ false → is_seen land (slice_index_or facts i f) before ≡ is_seen land (slice_index_or facts i f) after
+AreChanging land facts before after ids = AgreeElsewhere (λ (fact : Fact). is_seen land fact before) (λ (fact : Fact). is_seen land fact after) facts ids
+
+-- all whom it begins to see, or sees no more, are among these
+abbrev pub AreInView : Land → List Fact → Option Fact → Option Fact → List ℕ → Type 0
+AreInView land facts before after ids = AgreeElsewhere (sees land before) (sees land after) facts ids
+
+-- a fact sees no further than so many raws
+abbrev pub SeesWithin : ℕ → Fact → Type 0
+SeesWithin reach fact = (raw : ℤ) → fact.vision ≡ Some raw → unsigned_abs raw ≤ reach

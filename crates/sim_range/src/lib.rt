@@ -17,6 +17,7 @@
 
 mod bucket;
 mod buckets;
+mod plan;
 mod range;
 mod ready;
 mod seen;

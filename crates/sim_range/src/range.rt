@@ -1,18 +1,17 @@
 //! The system: the place, owner, health and vision of each entity, and beside them buckets of ids by place, and what each
 //! entity sees.
 
-ghost use Rattle.std.specs.Prelude.{◌≡◌, ◌↔◌, ◌<◌, None, [], length, IsSome, IfSome, IfOk, MatchOption};
+ghost use Rattle.std.specs.Prelude.{◌≡◌, ◌↔◌, ◌<◌, None, [], All, length, IsSome, IfSome, IfOk, MatchOption};
 ghost use Rattle.sim_range.specs.Buckets.{ArePlaced, in_bucket};
 ghost use Rattle.sim_range.specs.Bucketed.{AreBuckets};
-ghost use Rattle.sim_range.specs.Sights.{AreSightsIfAny};
+ghost use Rattle.sim_range.specs.Sights.{AreSightsIfAny, SeesWithin};
 ghost use Rattle.sim_system.specs.declared.kind.Kind.TheVariants.{Range as RangeKind};
 ghost use Rattle.sim_system.specs.Notes.{fact_with};
 ghost use Rattle.sim_system.specs.Answers.{seen_among};
 
 use crate::bucket::Bucket;
 use crate::buckets::change;
-use crate::ready::{built_of, make_ready, take_up};
-use crate::sight::Sight;
+use crate::ready::{Sights, built_of, make_ready, take_up};
 use crate::within::within;
 use sim_base::{Ids, Land, OutOfMemory};
 use sim_fact_lists::{Kept, id_of, part_after, place_of};
@@ -25,12 +24,13 @@ use std::alloc::Global;
 pub struct Range {
     kept: Kept,
     buckets: Vec<Bucket>,
-    sights: Vec<Sight>,
+    sights: Sights,
     ghost placed: { ArePlaced kept.facts.items },
     ghost bucketed: { AreBuckets kept.facts.items buckets.items },
     ghost whole: { IsSome kept.land → length buckets.items ≡ 256 },
     ghost bare: { kept.land ≡ None → kept.facts.items ≡ [] },
-    ghost seen: { AreSightsIfAny kept.land kept.facts.items sights.items },
+    ghost seen: { AreSightsIfAny kept.land kept.facts.items sights.all.items },
+    ghost far: { All (SeesWithin sights.reach) kept.facts.items },
 }
 
 impl Range {
@@ -41,7 +41,7 @@ impl Range {
         Range {
             kept: Kept::new(alloc),
             buckets: Vec::new(alloc),
-            sights: Vec::new(alloc),
+            sights: Sights::new(alloc),
         }
     }
 
@@ -70,7 +70,7 @@ impl Range {
         if self.kept.facts[at].vision.is_none() {
             return None;
         }
-        Some(self.sights[at].ids.as_slice())
+        Some(self.sights.all[at].ids.as_slice())
     }
 }
 
@@ -84,12 +84,12 @@ impl System for Range {
     fn clear(&mut self) {
         self.kept.clear();
         self.buckets = Vec::new(self.kept.alloc);
-        self.sights = Vec::new(self.kept.alloc);
+        self.sights = Sights::new(self.kept.alloc);
     }
 
     fn rebuild(&mut self, land: &Land, facts: &[Fact]) -> Result<(), OutOfMemory> {
         self.buckets = Vec::new(self.kept.alloc);
-        self.sights = Vec::new(self.kept.alloc);
+        self.sights = Sights::new(self.kept.alloc);
         self.kept.rebuild(Kind::Range, land, facts)?;
         match built_of(self.kept.alloc, land, self.kept.facts.as_slice()) {
             Ok(built) => {
@@ -108,14 +108,14 @@ impl System for Range {
         let id = id_of(note);
         let before = self.kept.find(id);
         let after = part_after(Kind::Range, before, note);
-        let plan = make_ready(
+        make_ready(
             &mut self.kept,
             &mut self.buckets,
             &mut self.sights,
             &before,
             &after,
         )?;
-        take_up(&mut self.sights, &self.kept, id, &before, &after, plan);
+        take_up(&mut self.sights, &self.kept, id, &after);
         self.kept.on(Kind::Range, note)?;
         change(&mut self.buckets, id, &before, &after);
         Ok(())

@@ -23,6 +23,15 @@ impl Sight {
         }
     }
 
+    /// Sees what another one sees, and nothing else.
+    pub fn copy_from(&mut self, other: &Sight) -> Result<(), OutOfMemory>
+        ensures { OnOk result (self.new.ids.items ≡ other.now.ids.items) }
+    {
+        self.ids.clear();
+        self.ids.extend_from_slice(other.ids.as_slice())?;
+        Ok(())
+    }
+
     /// Makes room for one more.
     pub fn make_room(&mut self) -> Result<(), OutOfMemory>
         ensures same { self.new.ids.items ≡ self.old.ids.items }

@@ -89,17 +89,15 @@ pub fn turn_all(
     facts: &[Fact],
     watchers: &[u32],
     id: u32,
-    before: &Option<Fact>,
     after: &Option<Fact>,
 )
     requires holds { Holds land.now facts.now }
     requires after { IfSome after.now (IsHeld land.now) }
-    requires found { before.now ≡ fact_with facts.now id }
     requires named { IfSome after.now (λ fact. fact.id ≡ id) }
     requires sights { AreSights land.now facts.now sights.old.items }
     requires room { HaveRooms facts.now watchers.now sights.old.items }
     ensures along { length sights.new.items ≡ length sights.old.items }
-    ensures changed { AreChanging land.now facts.now before.now after.now watchers.now → map ids_of sights.new.items ≡ map (sight_among land.now (with_only id after.now facts.now)) facts.now }
+    ensures changed { AreChanging land.now facts.now (fact_with facts.now id) after.now watchers.now → map ids_of sights.new.items ≡ map (sight_among land.now (with_only id after.now facts.now)) facts.now }
     ensures room { vec_len sights.old < vec_capacity sights.old → vec_len sights.new < vec_capacity sights.new }
 {
     for watcher in watchers {
@@ -109,29 +107,31 @@ pub fn turn_all(
     }
 }
 
-/// Keeps what an entity sees, where it is kept, and nothing else of it. Where it is new, the room was made before.
+/// Keeps what an entity sees, where it is kept, and nothing else of it. Where it is new, the room was made before. What it saw
+/// before is left in its place.
 pub fn put(
     sights: &mut Vec<Sight>,
     land: &Land,
     facts: &[Fact],
     id: u32,
     part: &Option<Fact>,
-    own: Sight,
+    own: &mut Sight,
 )
     requires ascending { Ascend facts.now }
     requires named { IfSome part.now (λ fact. fact.id ≡ id) }
-    requires own { IfSome part.now (λ fact. own.ids.items ≡ sight_among land.now (with_only id part.now facts.now) fact) }
+    requires own { IfSome part.now (λ fact. own.old.ids.items ≡ sight_among land.now (with_only id part.now facts.now) fact) }
     requires sights { map ids_of sights.old.items ≡ map (sight_among land.now (with_only id part.now facts.now)) facts.now }
     requires room { IsSome part.now → vec_len sights.old < vec_capacity sights.old }
     ensures { AreSights land.now (with_only id part.now facts.now) sights.new.items }
 {
     match (place_of(facts, id), part) {
-        (Ok(at), Some(_)) => sights[at] = own,
+        (Ok(at), Some(_)) => std::mem::swap(&mut sights[at], own),
         (Ok(at), None) => {
             sights.remove(at);
         }
         (Err(at), Some(_)) => {
-            let _ = sights.insert(at, own);
+            let fresh = Sight::new(*own.ids.allocator());
+            let _ = sights.insert(at, std::mem::replace(own, fresh));
         }
         (Err(_), None) => {}
     }

@@ -1,6 +1,9 @@
 -- What an entity sees itself does not depend on it.
-use Rattle.std.proofs.Common.{sym, subst}
+use Rattle.std.proofs.Common.{List, sym, subst}
+use Rattle.sim_system.specs.declared.fact.Fact.{Fact}
 use Rattle.sim_fact_lists.specs.Places.{Ascend, Holds}
+use Rattle.sim_system.specs.Notes.{fact_with}
+use Rattle.sim_range.specs.Sights.{AreChanging}
 use Rattle.sim_range.proofs.Seeing.{own_is}
 use Rattle.sim_range.proofs.ready.take_up.Goals as goal
 
@@ -12,5 +15,11 @@ put-requires-clause-ascending c = subst Ascend (sym c.as_slice-facts.ensures.val
 
 pub put-requires-clause-own : goal.put-requires-clause-own
 put-requires-clause-own c =
-    own_is c.in-Some.land c.args.id c.args.after.now c.args.kept.now.facts.items c.as_slice-facts.result.now c.args.plan.own.ids.items c.as_slice-facts.ensures.value (c.args.kept.now.held c.in-Some.land c.in-Some.is).held.ascending c.requires.named
+    own_is c.in-Some.land c.args.id c.args.after.now c.args.kept.now.facts.items c.as_slice-facts.result.now c.args.sights.now.plan.own.ids.items c.as_slice-facts.ensures.value (c.args.kept.now.held c.in-Some.land c.in-Some.is).held.ascending c.requires.named
     (c.requires.own c.in-Some.land c.in-Some.is)
+
+pub put-requires-clause-sights : goal.put-requires-clause-sights
+put-requires-clause-sights c =
+    c.turn_all.ensures.changed
+    (subst (AreChanging c.in-Some.land c.as_slice-facts.result.now (fact_with c.as_slice-facts.result.now c.args.id) c.args.after.now) (sym c.as_slice.ensures.value)
+    (subst (λ (fs : List Fact). AreChanging c.in-Some.land fs (fact_with fs c.args.id) c.args.after.now c.args.sights.now.plan.watchers.items) (sym c.as_slice-facts.ensures.value) (c.requires.changing c.in-Some.land c.in-Some.is)))

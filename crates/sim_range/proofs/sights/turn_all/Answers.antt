@@ -2,6 +2,7 @@
 use Rattle.std.proofs.Common.{◌<◌, List, length, get_or, refl, sym, ap, ◌∙◌, subst, arith, vec_items}
 use Rattle.std.specs.Prelude.{vec_len, vec_capacity}
 use Rattle.std.proofs.lemmas.List.{take_all}
+use Rattle.sim_system.specs.Notes.{fact_with}
 use Rattle.sim_range.specs.declared.sight.Sight.{Sight}
 use Rattle.sim_range.specs.Sights.{ids_of, ids_at, sight}
 use Rattle.sim_range.proofs.Watching.{read_map, long_as, all_turned, ready_up, ready_room, next_seen, next_room, same_seen, same_room}
@@ -62,5 +63,5 @@ loop-watcher-preserved c =
 
 pub returns-clause-changed : goal.returns-clause-changed
 returns-clause-changed c =
-    all_turned c.args.land.now c.args.id c.args.after.now c.args.facts.now c.requires.holds.held.ascending c.requires.named c.args.before.now c.args.watchers.now _ c.loop-watcher.sights.items c.requires.found
+    all_turned c.args.land.now c.args.id c.args.after.now c.args.facts.now c.requires.holds.held.ascending c.requires.named (fact_with c.args.facts.now c.args.id) c.args.watchers.now _ c.loop-watcher.sights.items refl
     (take_all c.loop-watcher.watcher-index c.args.watchers.now (grind arith)) (c.loop-watcher.invariant.along ∙ long_as ids_of (sight c.args.land.now c.args.facts.now) c.args.sights.now.items c.args.facts.now c.requires.sights) c.loop-watcher.invariant.seen
