@@ -1,6 +1,6 @@
 -- Buckets out of reach have nobody who sees the entity or is seen by it.
-use Rattle.std.proofs.Common.{◌≡◌, ℕ, ◌≤◌, Bool, true, false, cond, not, ℤ, ◌-ℤ◌, List, [], ◌∷◌, Option, Some, None, refl, ap, ◌∙◌, subst, arith, All}
-use Rattle.std.specs.Prelude.{◌==◌, ◌&&◌, unsigned_abs, IfSome, slice_index}
+use Rattle.std.proofs.Common.{◌≡◌, ℕ, ◌<◌, ◌≤◌, Bool, true, false, cond, not, ℤ, ◌-ℤ◌, List, [], ◌∷◌, Option, Some, None, refl, sym, ap, ◌∙◌, subst, arith, All}
+use Rattle.std.specs.Prelude.{◌==◌, ◌&&◌, nat_lt, unsigned_abs, IfSome, slice_index}
 use Rattle.std.proofs.lemmas.Bool.{eqb-true, and_parts}
 use Rattle.std.proofs.lemmas.Int.{ints}
 use Rattle.std.proofs.lemmas.List.Elements.{All-head, All-tail}
@@ -11,8 +11,8 @@ use Rattle.sim_base.specs.Rows.{in_mask}
 use Rattle.sim_base.specs.Filters.{is_near}
 use Rattle.sim_system.specs.declared.fact.Fact.{Fact}
 use Rattle.sim_range.specs.Buckets.{ArePlaced, bucket_key, held_in}
-use Rattle.sim_range.specs.Nearness.{AreApart, IsOut}
-use Rattle.sim_range.specs.Sights.{is_seen_by, is_seen, sees, differ, SeesWithin}
+use Rattle.sim_range.specs.Nearness.{AreApart, IsOut, below_bucket}
+use Rattle.sim_range.specs.Sights.{is_seen_by, is_seen, sees, differ, turned_watchers, turned_seen, SeesWithin}
 use Rattle.sim_range.proofs.Nearing.{chosen, chosen-cons, gap_le}
 
 abs_swap : (a b : ℤ) → unsigned_abs (a -ℤ b) ≡ unsigned_abs (b -ℤ a)
@@ -69,3 +69,34 @@ module _ (land : Land) (reach k : ℕ) (before after : Option Fact) (facts : Lis
   none_in_view old_far new_far =
       none_held (λ (f : Fact). differ (sees land before f) (sees land after f)) (SeesWithin reach) k facts placed far
       (λ f at q key. both_false (sees land before f) (sees land after f) (unseeing land reach before f old_far (old_out f.at at key)) (unseeing land reach after f new_far (new_out f.at at key)))
+
+-- ---- several buckets out of reach, one after another
+
+passed : (g : Fact → Bool) (Q : Fact → Type 0) (a b : ℕ) → a ≤ b → (facts : List Fact) → ArePlaced facts → All Q facts → ((f : Fact) → IsPlaced f.at → Q f → a ≤ bucket_key f → bucket_key f < b → g f ≡ false) → chosen g (below_bucket b facts) ≡ chosen g (below_bucket a facts)
+passed g Q a b le [] placed all none = refl
+passed g Q a b le (f ∷ facts) placed all none =
+    by (nat_lt (bucket_key f) a) (nat_lt (bucket_key f) b) refl refl (passed g Q a b le facts (All-tail (λ (h : Fact). IsPlaced h.at) f facts placed) (All-tail Q f facts all) none)
+  where
+    quiet : a ≤ bucket_key f → bucket_key f < b → g f ≡ false
+    quiet = none f (All-head (λ (h : Fact). IsPlaced h.at) f facts placed) (All-head Q f facts all)
+
+    by : (c d : Bool) → nat_lt (bucket_key f) a ≡ c → nat_lt (bucket_key f) b ≡ d → chosen g (below_bucket b facts) ≡ chosen g (below_bucket a facts) →
+        chosen g (cond d (f ∷ below_bucket b facts) (below_bucket b facts)) ≡ chosen g (cond c (f ∷ below_bucket a facts) (below_bucket a facts))
+    by true true lower under rest = chosen-cons g f (below_bucket b facts) ∙ ap (λ (xs : List ℕ). cond (g f) (f.id ∷ xs) xs) rest ∙ sym (chosen-cons g f (below_bucket a facts))
+    by true false lower under rest = absurd (grind arith)
+    by false true lower under rest =
+        let low : a ≤ bucket_key f = grind arith in
+        let high : bucket_key f < b = grind arith in
+        chosen-cons g f (below_bucket b facts) ∙ ap (λ (c : Bool). cond c (f.id ∷ chosen g (below_bucket b facts)) (chosen g (below_bucket b facts))) (quiet low high) ∙ rest
+    by false false lower under rest = rest
+
+module _ (land : Land) (reach : ℕ) (before after : Option Fact) (facts : List Fact) (placed : ArePlaced facts) (far : All (SeesWithin reach) facts) (a b : ℕ) (le : a ≤ b) (old_out : (k : ℕ) → a ≤ k → k < b → IsOut k reach before) (new_out : (k : ℕ) → a ≤ k → k < b → IsOut k reach after) where
+  pub pass_watchers : turned_watchers land before after (below_bucket b facts) ≡ turned_watchers land before after (below_bucket a facts)
+  pass_watchers =
+      passed (λ (f : Fact). differ (is_seen land f before) (is_seen land f after)) (SeesWithin reach) a b le facts placed far
+      (λ f at q low high. both_false (is_seen land f before) (is_seen land f after) (unseen land reach before f q (old_out (bucket_key f) low high f.at at refl)) (unseen land reach after f q (new_out (bucket_key f) low high f.at at refl)))
+
+  pub pass_view : IfSome before (SeesWithin reach) → IfSome after (SeesWithin reach) → turned_seen land before after (below_bucket b facts) ≡ turned_seen land before after (below_bucket a facts)
+  pass_view old_far new_far =
+      passed (λ (f : Fact). differ (sees land before f) (sees land after f)) (SeesWithin reach) a b le facts placed far
+      (λ f at q low high. both_false (sees land before f) (sees land after f) (unseeing land reach before f old_far (old_out (bucket_key f) low high f.at at refl)) (unseeing land reach after f new_far (new_out (bucket_key f) low high f.at at refl)))

@@ -1,8 +1,10 @@
 -- Facts by the numbers of their buckets, and buckets out of reach.
-use Rattle.std.specs.Prelude.{◌≡◌, ℕ, ◌≤◌, nat_lt, ◌-ℤ◌, unsigned_abs, List, filter, Option, IfSome}
+use Rattle.std.specs.Prelude.{◌≡◌, ℕ, ◌<◌, ◌≤◌, ◌/◌, ◌%◌, nat_lt, ◌-ℤ◌, unsigned_abs, List, filter, Option, IfSome}
 use Rattle.sim_base.specs.declared.place.Point.{Point}
 use Rattle.sim_base.specs.Places.{IsPlaced}
 use Rattle.sim_system.specs.declared.fact.Fact.{Fact}
+use Rattle.sim_range.specs.declared.area.Span.{Span}
+use Rattle.sim_range.specs.declared.area.Area.{Area}
 use Rattle.sim_range.specs.Buckets.{bucket_at, bucket_key}
 
 -- those who stand in a bucket of a lower number
@@ -16,3 +18,11 @@ AreApart reach p q = unsigned_abs (p.x -ℤ q.x) ≤ reach → unsigned_abs (p.z
 -- all points of the bucket of this number are so from where an entity is kept, if it is
 abbrev pub IsOut : ℕ → ℕ → Option Fact → Type 0
 IsOut k reach part = (p : Point) → IsPlaced p → bucket_at p ≡ k → IfSome part (λ (fact : Fact). AreApart reach p fact.at)
+
+-- a number of a row or a column is in a span
+abbrev pub IsIn : Span → ℕ → Type 0
+IsIn span n = (span.first ≤ n) × (n < span.end)
+
+-- the bucket of this number is not in an area
+abbrev pub IsBeside : ℕ → Area → Type 0
+IsBeside k area = IsIn area.rows (k / 16) → IsIn area.columns (k % 16) → ⊥

@@ -6,6 +6,8 @@
 //!
 //! - `range`: the system.
 //! - `ready`: a note, made ready and taken up.
+//! - `plan`: what a note changes of what is seen.
+//! - `area`: which buckets are looked into for it.
 //! - `bucket`: who stands in one bucket.
 //! - `buckets`: who stands in which bucket of 16 by 16 cells.
 //! - `within`: who is near a point, by the buckets about it.
@@ -15,6 +17,7 @@
 //! - `sights`: whom all see.
 #![tactic(auto)]
 
+mod area;
 mod bucket;
 mod buckets;
 mod plan;

@@ -1,19 +1,19 @@
 //! What a note changes of what is seen: found in the buckets about the place where the entity stood and about that where it
 //! stands, before anything is changed.
 
-ghost use Rattle.std.specs.Prelude.{◌≡◌, ◌<◌, ◌++◌, false, Some, OnOk, IfSome, All, length};
+ghost use Rattle.std.specs.Prelude.{◌≡◌, ◌++◌, Some, OnOk, IfSome, All, length};
+ghost use Rattle.sim_base.specs.Places.{IsPlaced};
 ghost use Rattle.sim_base.specs.Limits.{IsLand};
 ghost use Rattle.sim_system.specs.Notes.{fact_with};
 ghost use Rattle.sim_fact_lists.specs.Places.{Holds, IsHeld};
 ghost use Rattle.sim_range.specs.Buckets.{ArePlaced};
 ghost use Rattle.sim_range.specs.Bucketed.{AreBuckets};
-ghost use Rattle.sim_range.specs.Nearness.{IsOut};
 ghost use Rattle.sim_range.specs.Sights.{AreChanging, AreInView, AreSights, SeesWithin, sight, turned_watchers, turned_seen, view};
 
+use crate::area::area_of;
 use crate::bucket::Bucket;
 use crate::sight::Sight;
-use crate::watchers::{is_seen, is_seen_by, sees};
-use crate::within::touches;
+use crate::watchers::{has_foes, is_seen, is_seen_by, sees};
 use sim_base::{Land, OutOfMemory};
 use sim_fact_lists::place_of;
 use sim_system::Fact;
@@ -81,6 +81,8 @@ impl Plan {
         requires far { All (SeesWithin reach) facts.now }
         requires before { IfSome before.now (IsHeld land.now) }
         requires after { IfSome after.now (IsHeld land.now) }
+        requires before_at { IfSome before.now (λ fact. IsPlaced fact.at) }
+        requires after_at { IfSome after.now (λ fact. IsPlaced fact.at) }
         requires before_far { IfSome before.now (SeesWithin reach) }
         requires after_far { IfSome after.now (SeesWithin reach) }
         ensures watchers { OnOk result (AreChanging land.now facts.now before.now after.now self.new.watchers.items) }
@@ -88,9 +90,13 @@ impl Plan {
     {
         self.watchers.clear();
         self.seen.clear();
-        for (number, bucket) in buckets.iter().enumerate() {
-            if is_concerned(number, before, after, reach) {
-                self.push(land, bucket.facts.as_slice(), before, after)?;
+        if !has_foes(land, before) && !has_foes(land, after) {
+            return Ok(());
+        }
+        let area = area_of(before, after, reach);
+        for number in area.rows.first * 16..area.rows.end * 16 {
+            if area.columns.has(number % 16) {
+                self.push(land, buckets[number].facts.as_slice(), before, after)?;
             }
         }
         Ok(())
@@ -143,24 +149,4 @@ fn turn_own(
         }
     }
     Ok(())
-}
-
-// Whether a bucket comes within reach of where an entity is kept, if it is.
-fn is_touched(number: usize, part: &Option<Fact>, reach: u32) -> bool
-    requires { number < 256 }
-    ensures { result ≡ false → IsOut number reach part.now }
-{
-    match part {
-        Some(fact) => touches(number, &fact.at, reach),
-        None => false,
-    }
-}
-
-// Whether a bucket comes within reach of where an entity was kept, or of where it is.
-fn is_concerned(number: usize, before: &Option<Fact>, after: &Option<Fact>, reach: u32) -> bool
-    requires { number < 256 }
-    ensures before { result ≡ false → IsOut number reach before.now }
-    ensures after { result ≡ false → IsOut number reach after.now }
-{
-    is_touched(number, before, reach) || is_touched(number, after, reach)
 }

@@ -109,6 +109,7 @@ pub fn make_ready(
     requires before { (l : Land) → kept.old.land ≡ Some l → IfSome before.now (IsHeld l) }
     requires before_far { IfSome before.now (SeesWithin sights.old.reach) }
     requires after { (l : Land) → kept.old.land ≡ Some l → IfSome after.now (IsHeld l) }
+    requires from_ground { IfSome before.now (λ fact. IsPlaced fact.at) }
     requires on_ground { IfSome after.now (λ fact. IsPlaced fact.at) }
     ensures land { kept.new.land ≡ kept.old.land }
     ensures facts { kept.new.facts.items ≡ kept.old.facts.items }

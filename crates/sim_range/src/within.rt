@@ -15,8 +15,8 @@ use sim_base::{Fixed, Ids, Land, OutOfMemory, Point, square};
 use sim_system::Fact;
 use std::alloc::Global;
 
-// Whether the mask has the bit of this owner.
-fn in_mask(mask: u32, owner: u8) -> bool
+/// Whether the mask has the bit of this owner.
+pub fn in_mask(mask: u32, owner: u8) -> bool
     requires { owner < 32 }
     ensures { result ≡ in_mask_of mask owner }
 {
@@ -84,8 +84,8 @@ fn is_reached(part: usize, from: Fixed, reach: u32) -> bool
     raw - reach < first + 1_048_576 && first <= raw + reach
 }
 
-/// Whether a bucket comes within reach of a point, by rows and by columns.
-pub fn touches(number: usize, at: &Point, reach: u32) -> bool
+// Whether a bucket comes within reach of a point, by rows and by columns.
+fn touches(number: usize, at: &Point, reach: u32) -> bool
     requires { number < 256 }
     ensures { (p : Point) → IsPlaced p → bucket_at p ≡ number → unsigned_abs (p.x -ℤ at.now.x) ≤ reach → unsigned_abs (p.z -ℤ at.now.z) ≤ reach → IsTrue result }
 {

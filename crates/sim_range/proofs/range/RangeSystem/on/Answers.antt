@@ -20,6 +20,9 @@ make_ready-requires-clause-after c =
     let s = c.args.self.now in
     part_held RangeKind s.kept.land s.kept.facts.items c.args.note.now c.id_of-id.result c.find-before.result c.part_after-after.result c.requires s.kept.held c.id_of-id.ensures c.find-before.ensures c.part_after-after.ensures
 
+pub make_ready-requires-clause-from_ground : goal.make_ready-requires-clause-from_ground
+make_ready-requires-clause-from_ground c = found_placed c.args.self.now.kept.facts.items c.id_of-id.result c.find-before.result c.find-before.ensures c.args.self.now.placed
+
 pub make_ready-requires-clause-on_ground : goal.make_ready-requires-clause-on_ground
 make_ready-requires-clause-on_ground c =
     let s = c.args.self.now in
