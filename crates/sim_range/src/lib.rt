@@ -26,6 +26,8 @@ mod ready;
 mod seen;
 mod sight;
 mod sights;
+#[cfg(test)]
+mod tests;
 mod watchers;
 mod within;
 
