@@ -1,3 +1,4 @@
 mod Counting
 mod Keeping
+mod Resting
 mod Stretches

@@ -6,6 +6,7 @@
 //!
 //! - `making`: a list of changes is made.
 //! - `steps`: one command, and one phase.
+//! - `rest`: whether anybody can act.
 //! - `turns`: a turn with its commands.
 //! - `due`: the commands of a match file that are given in a turn.
 //! - `playing`: turns with the match's own commands.
@@ -14,6 +15,7 @@
 mod due;
 mod making;
 mod playing;
+mod rest;
 mod steps;
 mod turns;
 

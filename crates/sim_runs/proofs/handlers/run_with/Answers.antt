@@ -1,11 +1,13 @@
--- A call through the box of a planner is a call of `planned`, which may be given a command of each kind.
-use Rattle.std.proofs.Common.{ℕ, refl}
+-- A call through the box of a planner is a call of `planned`, which may be given a command of each kind; and each kind has a
+-- handler.
+use Rattle.std.proofs.Common.{ℕ, map, refl, ap}
 use denote.Param.Callables.{held_fn, Sure}
 use Rattle.sim_base.specs.declared.command.Command.{Command}
 use Rattle.sim_base.specs.declared.setup.Setup.{Setup}
 use Rattle.sim_base.specs.declared.state.State.{State}
 use Rattle.sim_orders.specs.declared.help.Help.{Help}
 use Rattle.sim_orders.specs.Orders.{kind_of, IsGiven, Obeys}
+use Rattle.sim_runs.proofs.Once.{each_once}
 use Rattle.sim_runs.proofs.handlers.run_with.OwnLists.{own-2}
 use Rattle.sim_runs.proofs.handlers.run_with.Goals as goal
 
@@ -116,3 +118,7 @@ invariant_of-vec-7 g c =
           rw c.into_dyn_box-in_ok-new-7.ensures.0 (λ w so. so.1) in
           r c.into_dyn_box-in_ok-new-7.result.value done;
     }
+
+pub new-requires-8 : goal.new-requires-8
+new-requires-8 g c kind low high =
+    each_once (λ (h : _). h.kind) c.in_ok-handlers.handlers.items _ (ap (map (λ (h : _). h.kind)) c.in_ok-handlers.ensures.items) refl refl refl refl refl refl refl kind low high

@@ -1,0 +1,15 @@
+-- Where nobody can act, the phases leave the state as it is.
+use Rattle.std.proofs.Common.{◌≡◌, true, sym, ap, ◌∙◌}
+use Rattle.std.specs.List.{list_all}
+use Rattle.sim_base.specs.declared.state.State.{State}
+use Rattle.sim_board.specs.BoardWords.{setup_in, state_in}
+use Rattle.sim_turn.specs.Resting.{is_resting}
+use Rattle.sim_turn.proofs.Resting.{nobody_acts}
+use Rattle.sim_turn.proofs.turns.act.Goals as goal
+
+pub returns-then-all_rest-clause-state : goal.returns-then-all_rest-clause-state
+returns-then-all_rest-clause-state g c =
+    let state = state_in c.args.board.now in
+    let rows : c.as_slice.result.now ≡ state.rows = c.as_slice.ensures ∙ ap (λ (s : State). s.rows) c.scene.ensures.state in
+    let rest : list_all is_resting state.rows ≡ true = ap (list_all is_resting) (sym rows) ∙ sym c.all_rest.ensures ∙ c.if-all_rest.true in
+    nobody_acts (setup_in c.args.board.now) state rest c.requires.whole.standing.valid
