@@ -131,7 +131,8 @@ pub struct Stage {
     pub key: u32,
 }
 
-/// Goes on with a search as far as is needed to tell which of the ends costs the least, and how it is reached.
+/// Goes on with a search as far as is needed to tell which of the ends costs the least, and how it is reached. With no ends
+/// it goes on until no cell waits.
 pub fn go_on(
     alloc: Global,
     stage: Stage,
@@ -172,7 +173,7 @@ pub fn go_on(
     Ok(Stage { search, key: now })
 }
 
-/// The search that has come so far.
+/// The search that has come so far, whose rooms another one can be begun in.
 pub fn search_of(stage: Stage) -> Search
     ensures { result ≡ stage.search }
 {
