@@ -10,8 +10,8 @@ use Rattle.sim_base.specs.Steps.{IsOnGround}
 use Rattle.sim_base.specs.WayOf.{way_of}
 use Rattle.sim_grid.specs.Grids.{is_open_at, field_of_grid}
 use Rattle.sim_path.specs.Answers.{way_in}
-use Rattle.sim_path.specs.Regions.{AreLabels}
-use Rattle.sim_path.specs.Floods.{label_in}
+use Rattle.sim_search.specs.Regions.{AreLabels}
+use Rattle.sim_search.specs.Floods.{label_in}
 use Rattle.sim_system.specs.declared.Way.{Way as WayAnswer}
 use Rattle.sim_system.specs.declared.fact.Fact.{Fact}
 use Rattle.sim_system.specs.declared.kind.Kind.TheVariants.{Ground}

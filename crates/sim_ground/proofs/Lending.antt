@@ -4,7 +4,7 @@ use Rattle.std.specs.Prelude.{option_map}
 use Rattle.sim_base.specs.declared.setup.Land.{Land}
 use Rattle.sim_base.specs.Places.{Size}
 use Rattle.sim_grid.specs.Grids.{field_of_grid}
-use Rattle.sim_path.specs.Floods.{label_in}
+use Rattle.sim_search.specs.Floods.{label_in}
 use Rattle.sim_system.specs.declared.fact.Fact.{Fact}
 use Rattle.sim_ground.specs.declared.opened.Opened.{Opened}
 use Rattle.sim_ground.specs.Opening.{IsKept}

@@ -7,7 +7,7 @@ use Rattle.sim_base.specs.Rows.{size_of}
 use Rattle.sim_base.specs.Steps.{Field, IsOnGround}
 use Rattle.sim_laws.proofs.Neighbours.{neighbour-on}
 use Rattle.sim_grid.specs.Grids.{OpenCells, is_open_at, field_of_grid}
-use Rattle.sim_path.specs.Regions.{IsJoined, alone, on, AreLabels}
+use Rattle.sim_search.specs.Regions.{IsJoined, alone, on, AreLabels}
 use Rattle.sim_system.specs.declared.fact.Fact.{Fact}
 use Rattle.sim_system.specs.Answers.{is_open_among, field_among}
 use Rattle.sim_ground.specs.Closing.{IsOver}

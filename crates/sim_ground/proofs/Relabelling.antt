@@ -11,8 +11,8 @@ use Rattle.sim_base.specs.Steps.{Field, IsOnGround, IsStep}
 use Rattle.sim_grid.specs.Grids.{place_of}
 use Rattle.sim_laws.proofs.Ground.{same_by_parts}
 use Rattle.sim_laws.proofs.Rounds.{costs, costs-le, IsCost-from_costs}
-use Rattle.sim_path.specs.Regions.{IsJoined, alone, on, IsLabel, AreLabels, IsShore, itself, beside}
-use Rattle.sim_path.proofs.Regions.{from-on, from-open, joined-on, joined-chain, joined-reached, IsAshore, ashore}
+use Rattle.sim_search.specs.Regions.{IsJoined, alone, on, IsLabel, AreLabels, IsShore, itself, beside}
+use Rattle.sim_search.proofs.Regions.{from-on, from-open, joined-on, joined-chain, joined-reached, IsAshore, ashore}
 
 module _ (field : Field) where
   module _ (a : Cell) (on_a : IsOnGround field.size a) (open_a : field.is_open a ≡ true) where

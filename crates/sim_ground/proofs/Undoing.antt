@@ -6,7 +6,7 @@ use Rattle.sim_base.specs.declared.place.Cell.{Cell}
 use Rattle.sim_base.specs.Places.{Size}
 use Rattle.sim_base.specs.Steps.{IsOnGround}
 use Rattle.sim_grid.specs.Grids.{OpenCells, is_open_at, field_of_grid}
-use Rattle.sim_path.specs.Regions.{AreLabels}
+use Rattle.sim_search.specs.Regions.{AreLabels}
 use Rattle.sim_ground.specs.Layers.{layers_at, AreOpenWhereNone, LayersTurn}
 use Rattle.sim_ground.proofs.Regions.{labels_over}
 

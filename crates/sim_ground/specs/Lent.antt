@@ -1,9 +1,9 @@
 -- What a ground lends of what it keeps.
 use Rattle.std.specs.Prelude.{◌≡◌, ℕ, ◌*◌, IsNone, MatchOption, List, [], length, Option, Some, None}
 use Rattle.sim_base.specs.declared.setup.Land.{Land}
-use Rattle.sim_path.specs.declared.labels.Labels.{Labels}
-use Rattle.sim_path.specs.Regions.{AreLabels}
-use Rattle.sim_path.specs.Floods.{label_in}
+use Rattle.sim_search.specs.declared.labels.Labels.{Labels}
+use Rattle.sim_search.specs.Regions.{AreLabels}
+use Rattle.sim_search.specs.Floods.{label_in}
 use Rattle.sim_system.specs.declared.fact.Fact.{Fact}
 use Rattle.sim_system.specs.Answers.{field_among}
 use Rattle.sim_ground.specs.Layers.{AreLayersOf}

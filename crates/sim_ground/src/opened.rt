@@ -5,8 +5,8 @@ ghost use Rattle.std.specs.Prelude.{◌≡◌, ◌≤◌, false, length, IfOk, O
 ghost use Rattle.sim_base.specs.Limits.{IsLand};
 ghost use Rattle.sim_base.specs.Rows.{size_of};
 ghost use Rattle.sim_grid.specs.Grids.{field_of_grid};
-ghost use Rattle.sim_path.specs.Regions.{AreLabels};
-ghost use Rattle.sim_path.specs.Floods.{label_in};
+ghost use Rattle.sim_search.specs.Regions.{AreLabels};
+ghost use Rattle.sim_search.specs.Floods.{label_in};
 ghost use Rattle.sim_ground.specs.Layers.{AreAtMost, AreLayersOf, LayersTurn, MayChange, most_layers, no_part, part_covers};
 
 use crate::cover::Cover;

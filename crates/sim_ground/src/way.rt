@@ -5,8 +5,8 @@ ghost use Rattle.std.specs.Prelude.{◌≡◌, IsTrue, IfOk};
 ghost use Rattle.sim_base.specs.Places.{is_inside};
 ghost use Rattle.sim_base.specs.WayOf.{way_of};
 ghost use Rattle.sim_grid.specs.Grids.{field_of_grid};
-ghost use Rattle.sim_path.specs.Regions.{AreLabels};
-ghost use Rattle.sim_path.specs.Floods.{label_in};
+ghost use Rattle.sim_search.specs.Regions.{AreLabels};
+ghost use Rattle.sim_search.specs.Floods.{label_in};
 ghost use Rattle.sim_path.specs.Answers.{way_in};
 
 use crate::opened::Opened;

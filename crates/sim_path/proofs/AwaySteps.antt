@@ -9,14 +9,14 @@ use Rattle.sim_base.specs.Places.{Size}
 use Rattle.sim_base.specs.Steps.{Field, IsOnGround, IsStep, forward, level, back, neighbour, is_free, octile, step_cost}
 use Rattle.sim_laws.proofs.Neighbours.{cell_at-some}
 use Rattle.sim_path.specs.Away.{leads_away, AreAway}
-use Rattle.sim_path.specs.Estimates.{estimate_to}
+use Rattle.sim_search.specs.Estimates.{estimate_to}
 use Rattle.sim_path.specs.Floors.{IsFront, IsUnknown, known_or, floor_of, left_of}
-use Rattle.sim_path.specs.Moves.{step_to}
+use Rattle.sim_search.specs.Moves.{step_to}
 use Rattle.sim_path.specs.Straight.{IsTightStep}
-use Rattle.sim_path.specs.Tables.{cost_in}
+use Rattle.sim_search.specs.Tables.{cost_in}
 use Rattle.sim_path.specs.declared.floor.Front.{Front}
-use Rattle.sim_path.proofs.Moves.{least_step, move-of, step_back, even_step}
-use Rattle.sim_path.proofs.Octile.{beside_of, octile-near, estimate-falls}
+use Rattle.sim_search.proofs.Moves.{least_step, move-of, step_back, even_step}
+use Rattle.sim_search.proofs.Octile.{beside_of, octile-near, estimate-falls}
 
 abbrev far : ℕ → ℕ → ℕ
 far x z = 14 * min x z + 10 * (max x z - min x z)

@@ -4,17 +4,17 @@ use Rattle.std.proofs.lemmas.Bool.{cases_Bool}
 use Rattle.sim_base.specs.declared.place.Cell.{Cell}
 use Rattle.sim_base.specs.Walks.{Walk, stay, go}
 use Rattle.sim_base.specs.Steps.{Field, IsStep, octile}
-use Rattle.sim_path.specs.Estimates.{IsEstimate, estimate_to}
+use Rattle.sim_search.specs.Estimates.{IsEstimate, estimate_to}
 use Rattle.sim_path.specs.Floors.{IsFloor, IsFront, known_or}
 use Rattle.sim_path.specs.Straight.{octile_from}
-use Rattle.sim_path.specs.Queues.{Ready, taken_in}
-use Rattle.sim_path.specs.Tables.{cost_in}
-use Rattle.sim_path.specs.Taking.{HasCost, IsSearch}
-use Rattle.sim_path.specs.declared.estimate.Aim.{Aim}
+use Rattle.sim_search.specs.Queues.{Ready, taken_in}
+use Rattle.sim_search.specs.Tables.{cost_in}
+use Rattle.sim_search.specs.Taking.{HasCost, IsSearch}
+use Rattle.sim_search.specs.declared.aim.Aim.{Aim}
 use Rattle.sim_path.specs.declared.floor.Front.{Front}
-use Rattle.sim_path.specs.declared.search.Search.{Search}
-use Rattle.sim_path.specs.declared.costs.Costs.{Costs}
-use Rattle.sim_path.proofs.Octile.{beside_of, turned, octile-near, octile-self, estimate-falls}
+use Rattle.sim_search.specs.declared.search.Search.{Search}
+use Rattle.sim_search.specs.declared.costs.Costs.{Costs}
+use Rattle.sim_search.proofs.Octile.{beside_of, turned, octile-near, octile-self, estimate-falls}
 
 octile-rises : (field : Field) (start a b : Cell) (k : ℕ) → IsStep field start a b k → octile b start ≤ octile a start + k
 octile-rises field start a b k s = omega (arith, octile-near start (turned (beside_of field start a b k s)))

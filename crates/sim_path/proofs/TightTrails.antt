@@ -9,15 +9,15 @@ use Rattle.sim_base.specs.Steps.{Field, IsOnGround, IsStep, neighbour, is_free, 
 use Rattle.sim_base.specs.Ways.{IsCost, IsEnd, LeadsTo, IsPredecessor, IsTrail, end_key}
 use Rattle.sim_laws.proofs.Neighbours.{neighbour-below_eight, neighbour-back, neighbour-on}
 use Rattle.sim_laws.proofs.Trips.{walk-on}
-use Rattle.sim_path.specs.declared.costs.Reached.{Reached}
+use Rattle.sim_path.specs.declared.reached.Reached.{Reached}
 use Rattle.sim_path.specs.Ends.{IsBest}
-use Rattle.sim_path.specs.Comes.{AreEnds}
+use Rattle.sim_path.specs.WayEnds.{AreEnds}
 use Rattle.sim_path.specs.Floors.{IsFloor}
 use Rattle.sim_path.specs.Straight.{IsTight, IsTightStep, AreDead, IsFirstTight, IsTightTrail, floor_cost}
-use Rattle.sim_path.proofs.Moves.{move-of, step_back, back_step, free-of_walk}
+use Rattle.sim_search.proofs.Moves.{move-of, step_back, back_step, free-of_walk}
 use Rattle.sim_path.proofs.BestOf.{later, same_first, at_least}
 use Rattle.sim_path.proofs.Ends.{last_step}
-use Rattle.sim_path.proofs.Cells.{same_or_not}
+use Rattle.sim_search.proofs.Cells.{same_or_not}
 
 module _ (field : Field) (start : Cell) (floor : Cell → ℕ) where
   -- where p is tight, c is, and p is its predecessor

@@ -2,9 +2,9 @@
 use Rattle.std.specs.Prelude.{◌≡◌, ℕ, ◌+◌, ◌-◌, ◌<◌, ◌≤◌, max, min, Option, Some, None}
 use Rattle.sim_base.specs.declared.place.Cell.{Cell}
 use Rattle.sim_base.specs.Steps.{Field, IsStep, octile}
-use Rattle.sim_path.specs.Tables.{cost_in}
-use Rattle.sim_path.specs.Taking.{HasCost}
-use Rattle.sim_path.specs.Estimates.{estimate_to}
+use Rattle.sim_search.specs.Tables.{cost_in}
+use Rattle.sim_search.specs.Taking.{HasCost}
+use Rattle.sim_search.specs.Estimates.{estimate_to}
 use Rattle.sim_path.specs.declared.floor.Front.{Front}
 
 -- a floor is nothing at the start, and rises along a step by at most what the step costs, so no walk costs less

@@ -6,29 +6,27 @@ ghost use Rattle.sim_base.specs.Steps.{IsOnGround};
 ghost use Rattle.sim_base.specs.Ways.{IsEnd, IsFound, IsWay, first_points, waypoints};
 ghost use Rattle.sim_base.specs.WayOf.{way_of};
 ghost use Rattle.sim_grid.specs.Grids.{IsGroundSize, field_of_grid};
-ghost use Rattle.sim_path.specs.Tables.{cost_in, size_of};
-ghost use Rattle.sim_path.specs.Estimates.{estimate_to};
-ghost use Rattle.sim_path.specs.Comes.{AreEnds, IsSearched, IsTrailToEnd, IsWayEnd, LeadBack};
-ghost use Rattle.sim_path.specs.Regions.{AreLabels};
-ghost use Rattle.sim_path.specs.Floods.{label_in};
-ghost use Rattle.sim_path.specs.Answers.{IsNarrow, way_in};
+ghost use Rattle.sim_search.specs.Tables.{cost_in, size_of};
+ghost use Rattle.sim_search.specs.Estimates.{estimate_to, IsNarrow};
+ghost use Rattle.sim_path.specs.WayEnds.{AreEnds, IsTrailToEnd, IsWayEnd, LeadBack};
+ghost use Rattle.sim_search.specs.Comes.{IsSearched};
+ghost use Rattle.sim_search.specs.Regions.{AreLabels};
+ghost use Rattle.sim_search.specs.Floods.{label_in};
+ghost use Rattle.sim_path.specs.Answers.{way_in};
 
-use crate::costs::{Costs, Reached};
-use crate::drain::{Stage, go_on, least_costs, search_of, started};
 use crate::end::{best_of, end_of};
-use crate::estimate::Aim;
 use crate::floor::Front;
-use crate::labels::Labels;
 use crate::marks::Marks;
 use crate::milestone::milestone;
 use crate::nearest::{is_reached, nearest};
-use crate::search::Search;
+use crate::reached::Reached;
 use crate::straight::straight_to;
 use crate::tight::tight_to;
 use crate::trail::trail_from;
 use crate::unmarked::blank_marks;
 use sim_base::{Cell, Items, MAX_WAYPOINTS, OutOfMemory, Point, Points, cell_of, centre_of};
 use sim_grid::Grid;
+use sim_search::{Aim, Costs, Labels, Search, Stage, go_on, least_costs, search_of, started};
 use sim_system::Way;
 use std::alloc::Global;
 
@@ -168,11 +166,11 @@ impl Searcher {
     ghost use Rattle.sim_base.specs.Ways.{IsFound, IsWay};
     ghost use Rattle.sim_base.specs.WayOf.{way_of};
     ghost use Rattle.sim_grid.specs.Grids.{field_of_grid};
-    ghost use Rattle.sim_path.specs.Comes.{AreEnds, IsTrailToEnd};
+    ghost use Rattle.sim_path.specs.WayEnds.{AreEnds, IsTrailToEnd};
     ghost use Rattle.sim_path.specs.Floors.{IsFront};
-    ghost use Rattle.sim_path.specs.Queues.{Ready};
-    ghost use Rattle.sim_path.specs.Regions.{AreLabels};
-    ghost use Rattle.sim_path.specs.Floods.{label_in};
+    ghost use Rattle.sim_search.specs.Queues.{Ready};
+    ghost use Rattle.sim_search.specs.Regions.{AreLabels};
+    ghost use Rattle.sim_search.specs.Floods.{label_in};
     ghost use Rattle.sim_path.specs.Answers.{way_in};
 
     /// A searcher that has no rooms yet.

@@ -4,10 +4,9 @@
 ghost use Rattle.std.specs.Prelude.{◌≡◌, ◌↔◌, IsTrue};
 ghost use Rattle.sim_path.specs.Floors.{IsUnknown, floor_of, left_of};
 
-use crate::costs::Costs;
-use crate::estimate::{Aim, estimate};
 use sim_base::Cell;
 use sim_grid::octile;
+use sim_search::{Aim, Costs, estimate};
 
 /// The costs that a search knows, where it has taken the cells of lower keys than this one.
 #[derive(Clone, Copy)]

@@ -6,20 +6,20 @@ ghost use Rattle.std.specs.Prelude.{◌≡◌, ◌<◌, IfOk, true, Some, None};
 ghost use Rattle.sim_base.specs.declared.place.Cell.{Cell};
 ghost use Rattle.sim_base.specs.Steps.{IsOnGround, is_free as is_free_in};
 ghost use Rattle.sim_grid.specs.Grids.{field_of_grid};
-ghost use Rattle.sim_path.specs.Moves.{AreMoves};
+ghost use Rattle.sim_search.specs.Moves.{AreMoves};
 ghost use Rattle.sim_path.specs.MarkTables.{IsNoneMarked, marked_in};
 ghost use Rattle.sim_path.specs.Floors.{IsFront, IsUnknown, floor_of, left_of};
 ghost use Rattle.sim_path.specs.Straight.{IsFirstTight, IsNearStep, IsTightStep, IsTightTrail, floor_cost};
-ghost use Rattle.sim_path.specs.Comes.{AreEnds, IsBestOf, IsTrailToEnd};
+ghost use Rattle.sim_path.specs.WayEnds.{AreEnds, IsBestOf, IsTrailToEnd};
 
 use crate::away::away_from;
-use crate::costs::Reached;
 use crate::end::better_than;
 use crate::floor::{Front, floor_at, is_floor, is_unknown, left_at};
 use crate::marks::Marks;
-use crate::step::{is_free, moves_from, step, step_cost};
+use crate::reached::Reached;
 use sim_base::{Cell, OutOfMemory};
 use sim_grid::{Grid, octile};
+use sim_search::{is_free, moves_from, step, step_cost};
 
 // The cell in a direction from which a step makes up the floor of this one, if it isn't dead.
 fn tight_step(

@@ -42,8 +42,8 @@ pub struct Site {
 
 impl Model for Site {
     ghost use Rattle.sim_grid.specs.Grids.{OpenCells, field_of_grid};
-    ghost use Rattle.sim_path.specs.Regions.{AreLabels};
-    ghost use Rattle.sim_path.specs.Floods.{label_in};
+    ghost use Rattle.sim_search.specs.Regions.{AreLabels};
+    ghost use Rattle.sim_search.specs.Floods.{label_in};
 
     ghost Value = { OpenCells };
 

@@ -3,7 +3,7 @@ use Rattle.sim_base.specs.declared.place.Cell.{Cell}
 use Rattle.sim_base.specs.Places.{cell_of}
 use Rattle.sim_base.specs.Ways.{IsTrail}
 use Rattle.sim_grid.specs.Grids.{field_of_grid}
-use Rattle.sim_path.specs.Comes.{IsTrailToEnd}
+use Rattle.sim_path.specs.WayEnds.{IsTrailToEnd}
 use Rattle.sim_path.proofs.answer.trail_back.Goals as goal
 
 on_ok : {E : Type 0} (r : Result (Unit {0}) E) (P Q : Type 0) → (P → Q) → OnOk r P → OnOk r Q

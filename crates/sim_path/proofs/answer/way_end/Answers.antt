@@ -1,9 +1,9 @@
 use Rattle.std.proofs.Common.{subst, refl, Option}
 use Rattle.sim_grid.specs.Grids.{field_of_grid}
-use Rattle.sim_path.specs.declared.costs.Reached.{Reached}
-use Rattle.sim_path.specs.Estimates.{estimate_to}
-use Rattle.sim_path.specs.Comes.{IsBestOf}
-use Rattle.sim_path.specs.Tables.{cost_in}
+use Rattle.sim_path.specs.declared.reached.Reached.{Reached}
+use Rattle.sim_search.specs.Estimates.{estimate_to}
+use Rattle.sim_path.specs.WayEnds.{IsBestOf}
+use Rattle.sim_search.specs.Tables.{cost_in}
 use Rattle.sim_path.proofs.BestOf.{end-by_search, all-by_none}
 use Rattle.sim_path.proofs.Ends.{back-of_all}
 use Rattle.sim_path.proofs.Found.{start-costs, all-end}

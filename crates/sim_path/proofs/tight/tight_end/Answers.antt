@@ -1,8 +1,8 @@
 use Rattle.std.proofs.Common.{◌≡◌, ◌+◌, List, [], ◌∷◌, ◌++◌, take, get_or, Some, sym, ap, subst}
 use Rattle.std.proofs.lemmas.List.{take_all, take_more}
 use Rattle.sim_base.specs.declared.place.Cell.{Cell}
-use Rattle.sim_path.specs.declared.costs.Reached.{Reached}
-use Rattle.sim_path.specs.Comes.{IsBestOf}
+use Rattle.sim_path.specs.declared.reached.Reached.{Reached}
+use Rattle.sim_path.specs.WayEnds.{IsBestOf}
 use Rattle.sim_path.specs.Floors.{floor_of}
 use Rattle.sim_path.specs.Straight.{floor_cost}
 use Rattle.sim_path.proofs.BestOf.{best_of-none, best_of-more}

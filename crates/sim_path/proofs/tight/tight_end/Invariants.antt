@@ -1,5 +1,5 @@
 use Rattle.std.proofs.Common.{take}
-use Rattle.sim_path.specs.Comes.{IsBestOf}
+use Rattle.sim_path.specs.WayEnds.{IsBestOf}
 use Rattle.sim_path.specs.Floors.{floor_of}
 use Rattle.sim_path.specs.Straight.{floor_cost}
 use Rattle.sim_path.proofs.tight.tight_end.Given as goal

@@ -1,7 +1,7 @@
 use Rattle.std.proofs.Common.{◌≡◌, Bool, true, Option, subst}
 use Rattle.sim_grid.specs.Grids.{field_of_grid}
-use Rattle.sim_path.specs.declared.costs.Reached.{Reached}
-use Rattle.sim_path.specs.Comes.{IsBestOf, IsTrailToEnd}
+use Rattle.sim_path.specs.declared.reached.Reached.{Reached}
+use Rattle.sim_path.specs.WayEnds.{IsBestOf, IsTrailToEnd}
 use Rattle.sim_path.specs.Floors.{floor_of}
 use Rattle.sim_path.specs.Straight.{IsTightTrail, floor_cost}
 use Rattle.sim_path.proofs.Found.{if_ok}

@@ -1,7 +1,0 @@
-use Rattle.std.proofs.Common.{take}
-use Rattle.sim_path.specs.Tables.{cost_in}
-use Rattle.sim_path.specs.Comes.{IsComeTo}
-use Rattle.sim_path.proofs.drain.is_come_to.Given as goal
-
-abbrev pub invariant-loop-end : goal.invariant-loop-end
-invariant-loop-end l = IsComeTo (cost_in l.costs) (take l.end-index l.ends) l.now → ⊥

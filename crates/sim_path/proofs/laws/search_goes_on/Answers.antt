@@ -1,5 +1,0 @@
-use Rattle.sim_path.proofs.Taking.{lowering-keeps, taking-keeps}
-use Rattle.sim_path.proofs.laws.search_goes_on.Goals as goal
-
-pub returns : goal.returns
-returns c = record { lowering = lowering-keeps; taking = taking-keeps }

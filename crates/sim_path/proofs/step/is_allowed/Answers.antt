@@ -1,6 +1,0 @@
-use Rattle.std.proofs.Common.{sym, ◌∙◌}
-use Rattle.sim_laws.proofs.Neighbours.{neighbour-on}
-use Rattle.sim_path.proofs.step.is_allowed.Goals as goal
-
-pub is_free-requires : goal.is_free-requires
-is_free-requires c = neighbour-on c.args.grid.now.size c.args.from c.in-Some.to c.args.which (sym c.neighbour.ensures ∙ c.in-Some.is)

@@ -1,0 +1,9 @@
+pub mod Cells
+pub mod Taking
+pub mod Coming
+pub mod Draining
+pub mod Moves
+pub mod Octile
+pub mod Beginning
+pub mod Regions
+pub mod Floods

@@ -1,0 +1,205 @@
+-- Regions: cells are joined both ways, labels tell which are, and so which cells a walk reaches.
+use Rattle.std.proofs.Common.{◌≡◌, ◌≢◌, ℕ, ◌+◌, ◌<◌, Bool, true, false, ◌||◌, Option, Some, None, ℤ, pos, ◌+ℤ◌, refl, sym, ap, ◌∙◌, subst, ◌⊎◌, inl, inr, arith, ltb-true, lt-ltb, zero, suc}
+use Rattle.std.proofs.lemmas.Bool.{cases_Bool, and_parts, true≢false}
+use Rattle.std.proofs.lemmas.Nat.{same_from_place}
+use Rattle.std.proofs.lemmas.Int.{ints}
+use Rattle.sim_base.specs.declared.place.Cell.{Cell}
+use Rattle.sim_base.specs.Places.{Size, same_cell}
+use Rattle.sim_base.specs.Walks.{Walk, stay, go}
+use Rattle.sim_base.specs.Steps.{Field, IsOnGround, IsStep, forward, level, back, cell_at, neighbour, is_free, is_straight, beside_open, step_cost}
+use Rattle.sim_grid.specs.Grids.{place_of}
+use Rattle.sim_laws.proofs.Ground.{same_by_parts, same_cell-true}
+use Rattle.sim_laws.proofs.Neighbours.{cell_at-some, cell_at-is, neighbour-back, neighbour-on}
+use Rattle.sim_laws.proofs.Trips.{walk-on}
+use Rattle.sim_search.specs.Regions.{IsOpenStep, IsJoined, alone, on, IsLabel, AreLabels, IsReached, IsShore, itself, beside, HasShoreLabel}
+use Rattle.sim_search.specs.RegionLaws.{LabelsTell, NoLabelIsClosed}
+use Rattle.sim_search.proofs.Cells.{same_or_not}
+
+pub place-same : (size : Size) (c e : Cell) → IsOnGround size c → IsOnGround size e → place_of size c ≡ place_of size e → c ≡ e
+place-same size c e f g h = let parts = same_from_place c.z c.x e.z e.x size.width f.east g.east h in same_by_parts c e parts.1 parts.0
+
+module _ (field : Field) where
+  pub joined-on : {a b : Cell} → IsJoined field a b → IsOnGround field.size b
+  joined-on (alone h e) = h
+  joined-on (on {b = b} {c = c} j s) = neighbour-on field.size b c s.which s.leads
+
+  pub joined-open : {a b : Cell} → IsJoined field a b → field.is_open b ≡ true
+  joined-open (alone h e) = e
+  joined-open (on j s) = s.free
+
+  pub from-on : {a b : Cell} → IsJoined field a b → IsOnGround field.size a
+  from-on (alone h e) = h
+  from-on (on j s) = from-on j
+
+  pub from-open : {a b : Cell} → IsJoined field a b → field.is_open a ≡ true
+  from-open (alone h e) = e
+  from-open (on j s) = from-open j
+
+  pub step-turned : (a b : Cell) → IsOnGround field.size a → field.is_open a ≡ true → IsOpenStep field a b → IsOpenStep field b a
+  step-turned a b h e s =
+      let r = neighbour-back field.size a b s.which h s.leads in
+      record { which = r.way_back; straight = ltb-true r.way_back 4 (r.as_straight ∙ lt-ltb s.which 4 s.straight); leads = r.leads; free = e }
+
+  pub joined-chain : {a b c : Cell} → IsJoined field a b → IsJoined field b c → IsJoined field a c
+  joined-chain i (alone h e) = i
+  joined-chain i (on j s) = on (joined-chain i j) s
+
+  pub joined-turned : {a b : Cell} → IsJoined field a b → IsJoined field b a
+  joined-turned (alone h e) = alone h e
+  joined-turned (on {b = b} {c = c} j s) =
+      joined-chain (on (alone (neighbour-on field.size b c s.which s.leads) s.free) (step-turned b c (joined-on j) (joined-open j) s)) (joined-turned j)
+
+  -- ---- labels
+
+  pub label-one : (a c : Cell) (l m : ℕ) → IsLabel field a l → IsLabel field c m → IsJoined field a c → l ≡ m
+  label-one a c l m x y j =
+      omega (arith, x.least y.first (joined-chain j y.joined), y.place, y.least x.first (joined-chain (joined-turned j) x.joined), x.place)
+
+  pub label-shared : (a c : Cell) (l : ℕ) → IsLabel field a l → IsLabel field c l → IsJoined field a c
+  label-shared a c l x y =
+      let same : x.first ≡ y.first = place-same field.size x.first y.first (joined-on x.joined) (joined-on y.joined) (x.place ∙ sym y.place) in
+      joined-chain (subst (λ (v : Cell). IsJoined field a v) same x.joined) (joined-turned y.joined)
+
+  module _ (label : Cell → Option ℕ) (known : AreLabels field label) where
+    pub label-joined : (a c : Cell) (l : ℕ) → label a ≡ Some l → IsJoined field a c → label c ≡ Some l
+    label-joined a c l e j =
+        let (m, f) = known.all c (joined-on j) (joined-open j) in
+        let same : l ≡ m = label-one a c l m (known.sound a l e) (known.sound c m f) j in
+        f ∙ ap Some (sym same)
+
+-- ---- a diagonal step goes round a corner
+
+pub record IsCorner (size : Size) (a b : Cell) : Type 0 where
+  pub first : ℕ
+  pub last : ℕ
+  pub first_straight : first < 4
+  pub last_straight : last < 4
+  pub to_corner : neighbour size a first ≡ Some (record { x = a.x; z = b.z })
+  pub from_corner : neighbour size (record { x = a.x; z = b.z }) last ≡ Some b
+
+corner-in : (size : Size) (a b : Cell) (x z : ℤ) → IsOnGround size a → cell_at size (pos a.x +ℤ x) (pos a.z +ℤ z) ≡ Some b → cell_at size (pos a.x +ℤ level) (pos a.z +ℤ z) ≡ Some (record { x = a.x; z = b.z })
+corner-in size a b x z h e =
+    let p = cell_at-some size (pos a.x +ℤ x) (pos a.z +ℤ z) b e in
+    cell_at-is size (pos a.x +ℤ level) (pos a.z +ℤ z) (record { x = a.x; z = b.z }) (record { on = record { east = h.east; north = p.on.north }; by_x = omega (arith, ints); by_z = p.by_z })
+
+corner-out : (size : Size) (a b : Cell) (x z : ℤ) → cell_at size (pos a.x +ℤ x) (pos a.z +ℤ z) ≡ Some b → cell_at size (pos a.x +ℤ x) (pos b.z +ℤ level) ≡ Some b
+corner-out size a b x z e =
+    let p = cell_at-some size (pos a.x +ℤ x) (pos a.z +ℤ z) b e in
+    cell_at-is size (pos a.x +ℤ x) (pos b.z +ℤ level) b (record { on = p.on; by_x = p.by_x; by_z = omega (arith, ints) })
+
+past_eight : (size : Size) (c p : Cell) (w : ℕ) → neighbour size c (suc (suc (suc (suc (suc (suc (suc (suc w)))))))) ≡ Some p → ⊥
+past_eight size c p w e = cc
+
+corner : (size : Size) (a b : Cell) (which : ℕ) → IsOnGround size a → neighbour size a which ≡ Some b → is_straight which ≡ false → IsCorner size a b
+corner size a b zero h e f = absurd (true≢false f)
+corner size a b (suc zero) h e f = absurd (true≢false f)
+corner size a b (suc (suc zero)) h e f = absurd (true≢false f)
+corner size a b (suc (suc (suc zero))) h e f = absurd (true≢false f)
+corner size a b (suc (suc (suc (suc zero)))) h e f = record { first = 1; last = 0; first_straight = omega arith; last_straight = omega arith; to_corner = corner-in size a b forward forward h e; from_corner = corner-out size a b forward forward e }
+corner size a b (suc (suc (suc (suc (suc zero))))) h e f = record { first = 1; last = 2; first_straight = omega arith; last_straight = omega arith; to_corner = corner-in size a b back forward h e; from_corner = corner-out size a b back forward e }
+corner size a b (suc (suc (suc (suc (suc (suc zero)))))) h e f = record { first = 3; last = 2; first_straight = omega arith; last_straight = omega arith; to_corner = corner-in size a b back back h e; from_corner = corner-out size a b back back e }
+corner size a b (suc (suc (suc (suc (suc (suc (suc zero))))))) h e f = record { first = 3; last = 0; first_straight = omega arith; last_straight = omega arith; to_corner = corner-in size a b forward back h e; from_corner = corner-out size a b forward back e }
+corner size a b (suc (suc (suc (suc (suc (suc (suc (suc w)))))))) h e f = absurd (past_eight size a b w e)
+
+-- ---- which cells a walk reaches
+
+module _ (field : Field) (start : Cell) (start_on : IsOnGround field.size start) where
+  free-open : (c : Cell) → c ≢ start → is_free field start c ≡ true → field.is_open c ≡ true
+  free-open c other e = by (cases_Bool (same_cell c start))
+    where
+      by : (same_cell c start ≡ true) ⊎ (same_cell c start ≡ false) → field.is_open c ≡ true
+      by (inl f) = absurd (other (same_cell-true c start f))
+      by (inr f) = ap (λ (b : Bool). b || field.is_open c) (sym f) ∙ e
+
+  open-free : (c : Cell) → field.is_open c ≡ true → is_free field start c ≡ true
+  open-free c e = by (same_cell c start)
+    where
+      by : (b : Bool) → (b || field.is_open c) ≡ true
+      by true = refl
+      by false = e
+
+  -- the cell is joined to an open cell that is the start or lies beside it
+  pub record IsAshore (c : Cell) : Type 0 where
+    pub shore : Cell
+    pub is_shore : IsShore field start shore
+    pub joined : IsJoined field shore c
+
+  landed : (c : Cell) (which : ℕ) → which < 4 → neighbour field.size start which ≡ Some c → field.is_open c ≡ true → IsAshore c
+  landed c which lt e f = record { shore = c; is_shore = beside which lt e; joined = alone (neighbour-on field.size start c which e) f }
+
+  go-on : (b c : Cell) (which : ℕ) → which < 4 → neighbour field.size b which ≡ Some c → field.is_open c ≡ true → (b ≡ start) ⊎ IsAshore b → IsAshore c
+  go-on b c which lt e f (inl same) = landed c which lt (subst (λ (v : Cell). neighbour field.size v which ≡ Some c) same e) f
+  go-on b c which lt e f (inr a) = record { shore = a.shore; is_shore = a.is_shore; joined = on a.joined (record { which = which; straight = lt; leads = e; free = f }) }
+
+  pub ashore : {c : Cell} {n : ℕ} → Walk (IsStep field start) start c n → (c ≡ start) ⊎ IsAshore c
+  ashore stay = inl refl
+  ashore (go {a = b} {b = c} {n = n} {k = k} w s) = by (same_or_not c start) (ashore w)
+    where
+      around : field.is_open c ≡ true → (b ≡ start) ⊎ IsAshore b → (is_straight s.which ≡ true) ⊎ (is_straight s.which ≡ false) → IsAshore c
+      around f h (inl straight) = go-on b c s.which (ltb-true s.which 4 straight) s.leads f h
+      around f h (inr across) = round (same_or_not corner_cell start)
+        where
+          way_round : IsCorner field.size b c
+          way_round = corner field.size b c s.which (walk-on field start start_on w) s.leads across
+
+          corner_cell : Cell
+          corner_cell = record { x = b.x; z = c.z }
+
+          free : is_free field start corner_cell ≡ true
+          free = (and_parts (is_free field start (record { x = b.x; z = c.z })) (is_free field start (record { x = c.x; z = b.z })) (ap (λ (t : Bool). t || beside_open (is_free field start) b c) (sym across) ∙ s.beside)).0
+
+          round : (corner_cell ≡ start) ⊎ (corner_cell ≢ start) → IsAshore c
+          round (inl e) = landed c way_round.last way_round.last_straight (subst (λ (v : Cell). neighbour field.size v way_round.last ≡ Some c) e way_round.from_corner) f
+          round (inr e) = go-on corner_cell c way_round.last way_round.last_straight way_round.from_corner f (inr (go-on b corner_cell way_round.first way_round.first_straight way_round.to_corner (free-open corner_cell e free) h))
+
+      by : (c ≡ start) ⊎ (c ≢ start) → (b ≡ start) ⊎ IsAshore b → (c ≡ start) ⊎ IsAshore c
+      by (inl e) h = inl e
+      by (inr e) h = inr (around (free-open c e s.free) h (cases_Bool (is_straight s.which)))
+
+  straight-step : (a b : Cell) (which : ℕ) → which < 4 → neighbour field.size a which ≡ Some b → field.is_open b ≡ true → IsStep field start a b (step_cost which)
+  straight-step a b which lt e f =
+      record { which = which; leads = e; free = open-free b f; beside = ap (λ (t : Bool). t || beside_open (is_free field start) a b) (lt-ltb which 4 lt); cost_is = refl }
+
+  shore-reached : {a : Cell} → IsShore field start a → field.is_open a ≡ true → IsReached field start a
+  shore-reached itself e = record { cost = 0; walk = stay }
+  shore-reached (beside {c = c} which lt f) e = record { cost = 0 + step_cost which; walk = go stay (straight-step start c which lt f e) }
+
+  pub joined-reached : {a c : Cell} → IsReached field start a → IsJoined field a c → IsReached field start c
+  joined-reached r (alone h e) = r
+  joined-reached r (on {b = b} {c = c} j s) =
+      let before = joined-reached r j in
+      record { cost = before.cost + step_cost s.which; walk = go before.walk (straight-step b c s.which s.straight s.leads s.free) }
+
+pub labels-tell : LabelsTell
+labels-tell field label start start_on known = record { reached = reached; back = back }
+  where
+    reached : (c : Cell) → (c ≡ start → ⊥) → IsReached field start c → HasShoreLabel field label start c
+    reached c other r = by (ashore field start start_on r.walk)
+      where
+        by : (c ≡ start) ⊎ IsAshore field start start_on c → HasShoreLabel field label start c
+        by (inl e) = absurd (other e)
+        by (inr a) =
+            let (l, e) = known.all a.shore (from-on field a.joined) (from-open field a.joined) in
+            record { shore = a.shore; is_shore = a.is_shore; value = l; of_shore = e; of_cell = label-joined field label known a.shore c l e a.joined }
+
+    back : (c : Cell) → HasShoreLabel field label start c → IsReached field start c
+    back c h =
+        let own = known.sound h.shore h.value h.of_shore in
+        joined-reached field start start_on (shore-reached field start start_on h.is_shore (from-open field own.joined)) (label-shared field h.shore c h.value own (known.sound c h.value h.of_cell))
+
+pub no_label-closed : NoLabelIsClosed
+no_label-closed field label c known on_ground = (closed, none)
+  where
+    closed : label c ≡ None → field.is_open c ≡ false
+    closed e = by (cases_Bool (field.is_open c))
+      where
+        by : (field.is_open c ≡ true) ⊎ (field.is_open c ≡ false) → field.is_open c ≡ false
+        by (inl f) = let (l, is) = known.all c on_ground f in let both : None ≡ Some l = sym e ∙ is in let never : ⊥ = cc in absurd never
+        by (inr f) = f
+
+    none : field.is_open c ≡ false → label c ≡ None
+    none e = by (label c) refl
+      where
+        by : (o : Option ℕ) → label c ≡ o → label c ≡ None
+        by None f = f
+        by (Some l) f = absurd (true≢false (sym (from-open field (known.sound c l f).joined) ∙ e))

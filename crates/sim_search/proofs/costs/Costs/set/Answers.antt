@@ -1,0 +1,27 @@
+use Rattle.std.proofs.Common.{◌≡◌, ◌*◌, length, Option, Some, None, refl, ap, ◌∙◌, arith, set, map, ℕ, eqb, eq-eqb, List}
+use Rattle.std.proofs.lemmas.List.{map-set, length-map}
+use Rattle.std.proofs.lemmas.Bool.{cond-true}
+use Rattle.sim_base.specs.declared.place.Cell.{Cell}
+use Rattle.sim_search.specs.declared.entry.Entry.{Entry}
+use Rattle.sim_search.specs.Tables.{size_of, read_entry, known, entry_at}
+use Rattle.sim_search.proofs.Cells.{entry_at-set_same, entry_at-set_other}
+use Rattle.sim_search.proofs.costs.Costs.set.Goals as goal
+
+pub returns : goal.returns
+returns c =
+    let old = c.args.self.now in
+    let full : length (known old) ≡ old.width * old.depth = omega (arith, length-map old.items.items (read_entry old.stamp), old.full, old.items.ok.0) in
+    let place = c.place-place.result in
+    let p = c.place-place.ensures.place in
+    let made : Entry = record { stamp = old.stamp; cost = c.args.cost } in
+    let reads : read_entry old.stamp made ≡ Some c.args.cost = cond-true (eqb old.stamp old.stamp) (Some c.args.cost) None (eq-eqb old.stamp old.stamp refl) in
+    let new_known : map (read_entry old.stamp) (set old.items.items place made) ≡ set (known old) place (Some c.args.cost) =
+    map-set (read_entry old.stamp) old.items.items place made ∙ ap (λ (o : Option ℕ). set (known old) place o) reads in
+    let at : (v : Cell) → entry_at None (size_of old) (map (read_entry old.stamp) (set old.items.items place made)) v ≡ entry_at None (size_of old) (set (known old) place (Some c.args.cost)) v =
+    λ v. ap (λ (xs : List (Option ℕ)). entry_at None (size_of old) xs v) new_known in
+    record {
+      size = refl;
+      stamp = refl;
+      here = at c.args.cell ∙ (rw p (entry_at-set_same None (size_of old) (known old) c.args.cell (Some c.args.cost) c.requires full));
+      elsewhere = λ e ne. at e ∙ (rw p (entry_at-set_other None (size_of old) (known old) c.args.cell e (Some c.args.cost) c.requires ne));
+    }

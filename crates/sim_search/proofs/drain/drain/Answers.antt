@@ -1,0 +1,35 @@
+use Rattle.std.proofs.Common.{◌≡◌, ◌+◌, List, ◌∷◌, drop, get_or, sym, subst, Bool}
+use Rattle.std.proofs.lemmas.List.{at_drop_more}
+use Rattle.sim_base.specs.declared.place.Cell.{Cell}
+use Rattle.sim_grid.specs.Grids.{field_of_grid}
+use Rattle.sim_search.specs.Estimates.{estimate_to}
+use Rattle.sim_search.specs.declared.search.Search.{Search}
+use Rattle.sim_search.proofs.Draining.{Draining, draining_begins, draining_past, draining_taken, estimate_to-fits}
+use Rattle.sim_search.proofs.drain.drain.Goals as goal
+use Rattle.sim_search.proofs.drain.drain.Goals.{in-Some+in_ok-expand, in_default}
+
+pub loop-cell-init : goal.loop-cell-init
+loop-cell-init c = draining_begins (estimate_to c.args.aim) (field_of_grid c.args.grid.now) c.args.search.now c.args.now c.args.bucket.now c.requires.drains
+
+pub loop-cell-preserved : goal.loop-cell-preserved
+loop-cell-preserved c =
+    let field = field_of_grid c.args.grid.now in
+    let first = c.args.search.now in
+    let s = c.loop-cell.search in
+    let xs = c.args.bucket.now in
+    let i = c.loop-cell.cell-index in
+    let x : Cell = get_or xs i (record { x = 0; z = 0 }) in
+    let rest = drop (i + 1) xs in
+    let cons : drop i xs ≡ x ∷ rest = at_drop_more (λ (l : List Cell). l) xs i (record { x = 0; z = 0 }) c.loop-cell-test.true in
+    let before : Draining (estimate_to c.args.aim) field first s c.args.now (x ∷ rest) c.loop-cell.any = subst (λ (l : List Cell). Draining (estimate_to c.args.aim) field first s c.args.now l c.loop-cell.any) cons c.loop-cell.invariant in
+    elim c.match-waiting.branch [
+      | in-Some+in_ok-expand w ↦
+          subst (λ (n : Search). Draining (estimate_to c.args.aim) field first n c.args.now rest c.match-waiting.any) (sym w.search-is)
+          (subst (λ (b : Bool). Draining (estimate_to c.args.aim) field first w.take.new.search c.args.now rest b) (sym w.any-is)
+          (draining_taken (estimate_to c.args.aim) field first s w.expand.new.search w.take.new.search c.args.now x w.in-Some.cost rest c.loop-cell.any (estimate_to-fits c.args.aim field)
+          (c.waiting.ensures.some w.in-Some.cost w.in-Some.is) w.in_ok-expand.ensures w.take.ensures before))
+      | in_default w ↦
+          subst (λ (n : Search). Draining (estimate_to c.args.aim) field first n c.args.now rest c.match-waiting.any) (sym w.search-is)
+          (subst (λ (b : Bool). Draining (estimate_to c.args.aim) field first s c.args.now rest b) (sym w.any-is)
+          (draining_past (estimate_to c.args.aim) field first s c.args.now x rest c.loop-cell.any (c.waiting.ensures.none w.in_default.is) before))
+    ]

@@ -1,0 +1,23 @@
+use Rattle.std.proofs.Common.{◌+◌, sym, ◌∙◌, subst}
+use Rattle.sim_grid.specs.Grids.{field_of_grid}
+use Rattle.sim_search.specs.Estimates.{estimate_to}
+use Rattle.sim_search.specs.declared.search.Search.{Search}
+use Rattle.sim_search.proofs.Draining.{Expanding, expanding_more, expanding_none, expanded, estimate_to-fits}
+use Rattle.sim_search.proofs.drain.expand.Goals as goal
+use Rattle.sim_search.proofs.drain.expand.Goals.{in-Some+in_ok-lower, in_default}
+
+pub loop-which-preserved : goal.loop-which-preserved
+loop-which-preserved c =
+    let field = field_of_grid c.args.grid.now in
+    let P : Search → Type 0 = λ s. Expanding (estimate_to c.args.aim) field c.args.search.now s c.args.from c.args.cost (c.loop-which.which + 1) in
+    elim c.match-step.branch [
+      | in-Some+in_ok-lower w ↦
+          subst P (sym w.search-is)
+          (expanding_more (estimate_to c.args.aim) field c.args.search.now c.loop-which.search w.lower.new.search c.args.from w.in-Some.to c.args.cost c.loop-which.which (estimate_to-fits c.args.aim field) c.loop-which.invariant
+          (sym c.step.ensures.step ∙ w.in-Some.is)
+          (rw w.step_cost.ensures at w.in_ok-lower.ensures))
+      | in_default w ↦ subst P (sym w.search-is) (expanding_none (estimate_to c.args.aim) field c.args.search.now c.loop-which.search c.args.from c.args.cost c.loop-which.which c.loop-which.invariant (sym c.step.ensures.step ∙ w.in_default.is))
+    ]
+
+pub returns : goal.returns
+returns c = expanded (estimate_to c.args.aim) (field_of_grid c.args.grid.now) c.args.search.now c.loop-which.search c.args.from c.args.cost c.loop-which.which c.loop-which-test.false c.loop-which.invariant

@@ -1,0 +1,7 @@
+use Rattle.sim_grid.specs.Grids.{field_of_grid}
+use Rattle.sim_search.specs.Estimates.{estimate_to}
+use Rattle.sim_search.proofs.Draining.{Expanding}
+use Rattle.sim_search.proofs.drain.expand.Given as goal
+
+abbrev pub invariant-loop-which : goal.invariant-loop-which
+invariant-loop-which l = Expanding (estimate_to l.aim) (field_of_grid l.grid) l.initial.search l.search l.from l.cost l.which

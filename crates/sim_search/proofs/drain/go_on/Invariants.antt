@@ -1,0 +1,17 @@
+use Rattle.std.proofs.Common.{◌≡◌, [], ◌+◌, ◌-◌, ◌*◌, ◌≤◌}
+use Rattle.sim_grid.specs.Grids.{field_of_grid}
+use Rattle.sim_search.specs.Estimates.{estimate_to}
+use Rattle.sim_search.specs.Queues.{Ready, untaken}
+use Rattle.sim_search.proofs.drain.go_on.Given as goal
+
+abbrev pub invariant-loop-idle : goal.invariant-loop-idle
+invariant-loop-idle l = record {
+  start : l.search.start ≡ l.fn.stage.search.start;
+  ready : Ready (estimate_to l.aim) (field_of_grid l.grid) l.search l.now l.idle;
+  idle : l.idle ≤ 33;
+  few : l.now + (33 * untaken l.search + (33 - l.idle)) ≤ 33 * 65536 + 33 + l.fn.stage.key;
+  spare : l.spare ≡ [];
+}
+
+abbrev pub decreases-loop-idle : goal.decreases-loop-idle
+decreases-loop-idle l = 33 * untaken l.search + (33 - l.idle)

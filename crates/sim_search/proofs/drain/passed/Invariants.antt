@@ -1,0 +1,17 @@
+use Rattle.std.proofs.Common.{◌≡◌, ◌+◌, ◌-◌, ◌<◌, ◌≤◌}
+use Rattle.sim_base.specs.Steps.{Field}
+use Rattle.sim_search.specs.Estimates.{estimate_to}
+use Rattle.sim_search.specs.Queues.{Ready}
+use Rattle.sim_search.specs.declared.aim.Aim.{Aim}
+use Rattle.sim_search.proofs.drain.passed.Given as goal
+
+abbrev pub invariant-loop-idle : goal.invariant-loop-idle
+invariant-loop-idle l = record {
+  ready : (aim : Aim) (field : Field) → Ready (estimate_to aim) field l.search l.fn.now l.fn.idle → Ready (estimate_to aim) field l.search l.now l.idle;
+  gap : l.now + l.fn.idle ≡ l.fn.now + l.idle;
+  least : l.fn.idle ≤ l.idle;
+  most : l.idle < 32;
+}
+
+abbrev pub decreases-loop-idle : goal.decreases-loop-idle
+decreases-loop-idle l = 32 - l.idle

@@ -1,0 +1,12 @@
+use Rattle.sim_grid.specs.Grids.{field_of_grid}
+use Rattle.sim_search.specs.Floods.{Floods, Spreads, is_none_late, work_left}
+use Rattle.sim_search.proofs.labels.fill.Given as goal
+
+abbrev pub invariant-loop-from : goal.invariant-loop-from
+invariant-loop-from l = record {
+  floods : Floods (field_of_grid l.grid) l.flood l.label is_none_late;
+  spreads : Spreads l.fn.flood l.flood;
+}
+
+abbrev pub decreases-loop-from : goal.decreases-loop-from
+decreases-loop-from l = work_left l.flood

@@ -1,0 +1,7 @@
+use Rattle.std.proofs.Common.{sym, ◌∙◌}
+use Rattle.sim_grid.specs.Grids.{field_of_grid}
+use Rattle.sim_search.proofs.Moves.{open-moves}
+use Rattle.sim_search.proofs.steps.moves_from.Goals as goal
+
+pub returns-then-open : goal.returns-then-open
+returns-then-open c = open-moves (field_of_grid c.args.grid.now) c.args.start (sym c.open.ensures ∙ c.if-open.true) c.args.from c.steps.result c.steps.ensures

@@ -1,0 +1,16 @@
+use Rattle.std.proofs.Common.{◌≡◌, ◌*◌, length, Some, None, refl, arith, ap, set, ℕ}
+use Rattle.sim_search.specs.NumberTables.{size_in}
+use Rattle.sim_search.proofs.Cells.{entry_at-set_same, entry_at-set_other}
+use Rattle.sim_search.proofs.table.Table.set.Goals as goal
+
+pub returns : goal.returns
+returns c =
+    let old = c.args.self.now in
+    let full : length old.items.items ≡ old.width * old.depth = omega (arith, old.full, old.items.ok.0) in
+    let p = c.place-place.ensures.place in
+    record {
+      size = refl;
+      here = rw p (entry_at-set_same None (size_in old) old.items.items c.args.cell (Some c.args.number) c.requires full);
+      elsewhere = λ e ne. rw p (entry_at-set_other None (size_in old) old.items.items c.args.cell e (Some c.args.number) c.requires ne);
+      items_are = ap (λ (n : ℕ). set old.items.items n (Some c.args.number)) p;
+    }

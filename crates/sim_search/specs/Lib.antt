@@ -1,0 +1,11 @@
+pub mod Tables
+pub mod NumberTables
+pub mod Moves
+pub mod Estimates
+pub mod Taking
+pub mod Queues
+pub mod Comes
+pub mod Regions
+pub mod RegionLaws
+pub mod Floods
+pub mod TakingLaws

@@ -1,0 +1,86 @@
+//! A cost for each cell that is reached. It stands apart from the search, since what follows the search reads it alone.
+
+ghost use Rattle.std.specs.Prelude.{◌≡◌, ◌*◌, ◌<◌, ◌≤◌, vec_len, All};
+ghost use Rattle.sim_search.specs.declared.entry.Entry.{Entry};
+
+use crate::entry::Entry;
+use sim_base::Cell;
+
+/// The costs of the cells of a ground, by z, then x: those that have the stamp of this search. So all of them can be
+/// forgotten at once.
+#[derive(Drop)]
+pub struct Costs {
+    pub width: u16,
+    pub depth: u16,
+    pub stamp: u32,
+    pub items: Vec<Entry>,
+    ghost narrow: { width ≤ 256 },
+    ghost shallow: { depth ≤ 256 },
+    ghost full: { vec_len items ≡ width * depth },
+    ghost stamped: { All (λ (e : Entry). e.stamp ≤ stamp) items.items },
+}
+
+impl Costs {
+    ghost use Rattle.std.specs.Prelude.{◌≡◌, ◌≢◌, ◌+◌, ◌-◌, ◌^◌, ◌*◌, ◌<◌, ◌↔◌, IsTrue, IfOk, Some, None, replicate};
+    ghost use Rattle.sim_base.specs.declared.place.Cell.{Cell};
+    ghost use Rattle.sim_base.specs.Steps.{IsOnGround};
+    ghost use Rattle.sim_search.specs.Tables.{size_of, cost_in, place_in, read_entry, IsSet, IsForgotten};
+
+    /// Whether the ground has this cell.
+    pub(crate) fn has(&self, cell: Cell) -> bool
+        ensures { IsTrue result ↔ IsOnGround (size_of self.now) cell }
+    {
+        cell.x < self.width && cell.z < self.depth
+    }
+
+    /// Where a cell of the ground stands in the list.
+    pub(crate) fn place(&self, cell: Cell) -> usize
+        requires { IsOnGround (size_of self.now) cell }
+        ensures place { result ≡ place_in self.now cell }
+        ensures below { result < self.now.width * self.now.depth }
+    {
+        usize::from(cell.z) * usize::from(self.width) + usize::from(cell.x)
+    }
+
+    /// The cost of a cell: None where it is not reached, or not one of the ground's.
+    pub fn at(&self, cell: Cell) -> Option<u32>
+        ensures { result ≡ cost_in self.now cell }
+    {
+        if self.has(cell) {
+            self.read(self.items[self.place(cell)])
+        } else {
+            None
+        }
+    }
+
+    // The cost of an entry, if it is of this search.
+    fn read(&self, entry: Entry) -> Option<u32>
+        ensures { result ≡ read_entry self.now.stamp entry }
+    {
+        if entry.stamp == self.stamp {
+            Some(entry.cost)
+        } else {
+            None
+        }
+    }
+
+    /// Gives a cell this cost.
+    pub(crate) fn set(&mut self, cell: Cell, cost: u32)
+        requires { IsOnGround (size_of self.old) cell }
+        ensures { IsSet self.old self.new cell cost }
+    {
+        let place = self.place(cell);
+        self.items[place] = Entry {
+            stamp: self.stamp,
+            cost,
+        };
+    }
+
+    /// Forgets all costs.
+    pub(crate) fn forget(&mut self)
+        requires { self.old.stamp < 2 ^ 32 - 1 }
+        ensures { IsForgotten self.old self.new }
+    {
+        self.stamp += 1;
+    }
+}

@@ -1,0 +1,201 @@
+//! The search, bucket by bucket: cells are taken by ascending keys, and each one with its least cost.
+
+ghost use Rattle.std.specs.Prelude.{◌≡◌, ◌<◌, ◌≤◌, ◌+◌, ◌^◌, ◌↔◌, [], Some, ℕ, List, OnOk, IfOk, IsTrue, true, false};
+ghost use Rattle.sim_base.specs.declared.place.Cell.{Cell};
+ghost use Rattle.sim_base.specs.Steps.{Field, IsOnGround};
+ghost use Rattle.sim_grid.specs.Grids.{field_of_grid};
+ghost use Rattle.sim_search.specs.Tables.{AreCosts, size_of, cost_in};
+ghost use Rattle.sim_search.specs.Taking.{HasCost};
+ghost use Rattle.sim_search.specs.Estimates.{estimate_to};
+ghost use Rattle.sim_search.specs.declared.aim.Aim.{Aim};
+ghost use Rattle.sim_search.specs.Comes.{IsComeTo, IsSearched};
+ghost use Rattle.sim_search.specs.Queues.{Drains, Expands, Progress, Ready};
+
+use crate::aim::{Aim, estimate};
+use crate::costs::Costs;
+use crate::queue::{begun, emptied, is_empty, lower, swap_bucket, take, waiting};
+use crate::search::Search;
+use crate::steps::{moves_from, step, step_cost};
+use sim_base::{Cell, Items, OutOfMemory};
+use sim_grid::Grid;
+use std::alloc::Global;
+
+// Reckons with the steps from a cell of this cost.
+fn expand(
+    search: &mut Search,
+    grid: &Grid,
+    aim: Aim,
+    from: Cell,
+    cost: u32,
+) -> Result<(), OutOfMemory>
+    requires size { size_of search.old.costs ≡ grid.now.size }
+    requires start_on { IsOnGround grid.now.size search.old.start }
+    requires from_on { IsOnGround grid.now.size from }
+    requires label { cost_in search.old.costs from ≡ Some cost }
+    requires small { cost + estimate_to aim from < 2 ^ 31 }
+    ensures { OnOk result (Expands (estimate_to aim) (field_of_grid grid.now) search.old search.new from cost) }
+{
+    let moves = moves_from(grid, search.start, from);
+    for which in 0..8u8 {
+        if let Some(to) = step(grid, search.start, from, moves, which) {
+            lower(search, aim, to, cost + step_cost(which))?;
+        }
+    }
+    Ok(())
+}
+
+// Takes the cells of a bucket that wait by this key, and says whether there was one.
+fn drain(
+    search: &mut Search,
+    grid: &Grid,
+    aim: Aim,
+    bucket: &[Cell],
+    now: u32,
+) -> Result<bool, OutOfMemory>
+    requires start_on { IsOnGround grid.now.size search.old.start }
+    requires drains { Drains (estimate_to aim) (field_of_grid grid.now) search.old now bucket.now }
+    requires small { now < 2 ^ 31 }
+    ensures done { OnOk result (Drains (estimate_to aim) (field_of_grid grid.now) search.new now []) }
+    ensures progress { IfOk result (λ any. Progress search.old search.new any) }
+{
+    let mut any = false;
+    for cell in bucket {
+        let cell = *cell;
+        if let Some(cost) = waiting(search, aim, cell, now) {
+            expand(search, grid, aim, cell, cost)?;
+            take(search, cell);
+            any = true;
+        }
+    }
+    Ok(any)
+}
+
+// Whether an end has a cost below this key.
+fn is_come_to(costs: &Costs, ends: &[Cell], now: u32) -> bool
+    ensures { IsTrue result ↔ IsComeTo (cost_in costs.now) ends.now now }
+{
+    for end in ends {
+        if let Some(cost) = costs.at(*end) {
+            if cost < now {
+                return true;
+            }
+        }
+    }
+    false
+}
+
+// The next key with a cell in its bucket, of the few from this one on, and for how many keys none was taken by then.
+fn passed(search: &Search, mut now: u32, mut idle: u32) -> (u32, u32)
+    requires idle { idle < 32 }
+    requires small { now < 2 ^ 31 }
+    ensures ready { (aim : Aim) (field : Field) → Ready (estimate_to aim) field search.now now idle → Ready (estimate_to aim) field search.now result.0 result.1 }
+    ensures gap { result.0 + idle ≡ now + result.1 }
+    ensures least { idle ≤ result.1 }
+    ensures most { result.1 < 32 }
+{
+    while idle < 30 {
+        if !is_empty(search, now) {
+            return (now, idle);
+        }
+        now += 2;
+        idle += 2;
+    }
+    (now, idle)
+}
+
+/// A search from the start in the rooms of an earlier one, before its first key, which is the estimate for the start. The
+/// start counts as open.
+pub fn started(
+    alloc: Global,
+    grid: &Grid,
+    rooms: Option<Search>,
+    aim: Aim,
+    start: Cell,
+) -> Result<Stage, OutOfMemory>
+    requires start { IsOnGround grid.now.size start }
+    ensures start { IfOk result (λ stage. stage.search.start ≡ start) }
+    ensures ready { IfOk result (λ stage. Ready (estimate_to aim) (field_of_grid grid.now) stage.search stage.key 0) }
+    ensures small { IfOk result (λ stage. stage.key < 2 ^ 24) }
+{
+    let search = begun(alloc, rooms, grid.width(), grid.depth(), aim, start)?;
+    Ok(Stage {
+        search,
+        key: estimate(aim, start),
+    })
+}
+
+/// How far a search has come: all cells of lower keys than this one are taken.
+#[derive(Drop)]
+pub struct Stage {
+    pub search: Search,
+    pub key: u32,
+}
+
+/// Goes on with a search as far as is needed to tell which of the ends costs the least, and how it is reached. With no ends
+/// it goes on until no cell waits.
+pub fn go_on(
+    alloc: Global,
+    stage: Stage,
+    grid: &Grid,
+    aim: Aim,
+    ends: &[Cell],
+) -> Result<Stage, OutOfMemory>
+    requires start_on { IsOnGround grid.now.size stage.search.start }
+    requires ready { Ready (estimate_to aim) (field_of_grid grid.now) stage.search stage.key 0 }
+    requires small { stage.key < 2 ^ 26 }
+    ensures start { IfOk result (λ next. next.search.start ≡ stage.search.start) }
+    ensures ready { IfOk result (λ next. Ready (estimate_to aim) (field_of_grid grid.now) next.search next.key 0) }
+    ensures small { IfOk result (λ next. next.key ≤ stage.key + 2 ^ 22) }
+    ensures costs { IfOk result (λ next. IsSearched (field_of_grid grid.now) stage.search.start (estimate_to aim) ends.now (cost_in next.search.costs)) }
+{
+    let Stage {
+        mut search,
+        key: mut now,
+    } = stage;
+    let mut spare = Items::new(alloc);
+    let mut idle = 0u32;
+    while idle < 32 {
+        let (next, none) = passed(&search, now, idle);
+        now = next;
+        idle = none;
+        if is_come_to(&search.costs, ends, now) {
+            return Ok(Stage { search, key: now });
+        }
+        let bucket = swap_bucket(&mut search, spare, now);
+        if drain(&mut search, grid, aim, bucket.as_slice(), now)? {
+            idle = 0;
+        } else {
+            now += 2;
+            idle += 2;
+        }
+        spare = emptied(bucket);
+    }
+    Ok(Stage { search, key: now })
+}
+
+/// The search that has come so far, whose rooms another one can be begun in.
+pub fn search_of(stage: Stage) -> Search
+    ensures { result ≡ stage.search }
+{
+    let Stage { search, .. } = stage;
+    search
+}
+
+// The costs of a search that has ended.
+fn costs_of(stage: Stage) -> Costs
+    ensures { result ≡ stage.search.costs }
+{
+    let Search { costs, .. } = search_of(stage);
+    costs
+}
+
+/// The least costs of walks from the start to all cells of the grid. The start counts as open.
+pub fn least_costs(alloc: Global, grid: &Grid, start: Cell) -> Result<Costs, OutOfMemory>
+    requires { IsOnGround grid.now.size start }
+    ensures size { IfOk result (λ costs. size_of costs ≡ grid.now.size) }
+    ensures costs { IfOk result (λ costs. AreCosts (field_of_grid grid.now) start (cost_in costs)) }
+{
+    let aim = Aim::nowhere(start);
+    let stage = started(alloc, grid, None, aim, start)?;
+    Ok(costs_of(go_on(alloc, stage, grid, aim, &[])?))
+}

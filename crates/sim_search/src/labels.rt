@@ -1,0 +1,114 @@
+//! Labels of regions. Two open cells have one label just where steps to the east, north, west and south over open cells
+//! join them.
+
+ghost use Rattle.std.specs.Prelude.{◌≡◌, ◌<◌, ◌+◌, ◌*◌, IfOk, OnOk, Some};
+ghost use Rattle.sim_base.specs.Steps.{IsOnGround};
+ghost use Rattle.sim_grid.specs.Grids.{field_of_grid, place_of};
+ghost use Rattle.sim_search.specs.NumberTables.{size_in, entry_in};
+ghost use Rattle.sim_search.specs.Regions.{AreLabels};
+ghost use Rattle.sim_search.specs.Floods.{label_in, Flooded, Floods, Marks, Spreads, Fills, is_none_late, is_late};
+
+use crate::table::{Table, no_numbers};
+use sim_base::{Cell, OutOfMemory};
+use sim_grid::Grid;
+use std::alloc::Global;
+
+/// The labels of the open cells of a grid: the least place, `z * width + x`, of the cells that are joined to it.
+#[derive(Drop)]
+pub struct Labels {
+    table: Table,
+}
+
+impl Labels {
+    /// The label of a cell: None where it is closed.
+    pub fn of(&self, cell: Cell) -> Option<u32>
+        ensures { result ≡ label_in self.now cell }
+    {
+        self.table.at(cell)
+    }
+}
+
+// The labels that are known so far, and the cells whose neighbours were not looked at.
+#[derive(Drop)]
+struct Flood {
+    table: Table,
+    waiting: Vec<Cell>,
+}
+
+// Gives a cell this label, if it is open and has none.
+fn mark(flood: &mut Flood, grid: &Grid, cell: Cell, label: u32) -> Result<(), OutOfMemory>
+    requires size { size_in flood.old.table ≡ grid.now.size }
+    requires cell_on { IsOnGround grid.now.size cell }
+    ensures { OnOk result (Marks (field_of_grid grid.now) flood.old flood.new cell label) }
+{
+    if grid.open(cell) && flood.table.at(cell).is_none() {
+        flood.waiting.push(cell)?;
+        flood.table.set(cell, label);
+    }
+    Ok(())
+}
+
+// Gives the open neighbours of a cell its label.
+fn spread(flood: &mut Flood, grid: &Grid, from: Cell, label: u32) -> Result<(), OutOfMemory>
+    requires floods { Floods (field_of_grid grid.now) flood.old label (is_late from) }
+    requires label { entry_in flood.old.table from ≡ Some label }
+    ensures floods { OnOk result (Floods (field_of_grid grid.now) flood.new label is_none_late) }
+    ensures spreads { OnOk result (Spreads flood.old flood.new) }
+{
+    for which in 0..4u8 {
+        if let Some(to) = grid.neighbour(from, which) {
+            mark(flood, grid, to, label)?;
+        }
+    }
+    Ok(())
+}
+
+// Labels all cells that are joined to those that wait.
+fn fill(flood: &mut Flood, grid: &Grid, label: u32) -> Result<(), OutOfMemory>
+    requires { Floods (field_of_grid grid.now) flood.old label is_none_late }
+    ensures floods { OnOk result (Floods (field_of_grid grid.now) flood.new label is_none_late) }
+    ensures fills { OnOk result (Fills flood.old flood.new) }
+{
+    while let Some(from) = flood.waiting.pop() {
+        spread(flood, grid, from, label)?;
+    }
+    Ok(())
+}
+
+// Labels the cells that are joined to one, if it has no label yet.
+fn flood_from(flood: &mut Flood, grid: &Grid, cell: Cell) -> Result<(), OutOfMemory>
+    requires flooded { Flooded (field_of_grid grid.now) flood.old (place_of grid.now.size cell) }
+    requires cell_on { IsOnGround grid.now.size cell }
+    ensures { OnOk result (Flooded (field_of_grid grid.now) flood.new (place_of grid.now.size cell + 1)) }
+{
+    let label = flood.table.place(cell) as u32;
+    mark(flood, grid, cell, label)?;
+    fill(flood, grid, label)
+}
+
+// Labels the cells that are joined to those of a row.
+fn flood_row(flood: &mut Flood, grid: &Grid, z: u16) -> Result<(), OutOfMemory>
+    requires flooded { Flooded (field_of_grid grid.now) flood.old (z * grid.now.size.width) }
+    requires row { z < grid.now.size.depth }
+    ensures { OnOk result (Flooded (field_of_grid grid.now) flood.new ((z + 1) * grid.now.size.width)) }
+{
+    for x in 0..grid.width() {
+        flood_from(flood, grid, Cell { x, z })?;
+    }
+    Ok(())
+}
+
+/// The labels of the open cells of the grid.
+pub fn labels_of(alloc: Global, grid: &Grid) -> Result<Labels, OutOfMemory>
+    ensures { IfOk result (λ labels. AreLabels (field_of_grid grid.now) (label_in labels)) }
+{
+    let mut flood = Flood {
+        table: no_numbers(alloc, grid.width(), grid.depth())?,
+        waiting: Vec::new(alloc),
+    };
+    for z in 0..grid.depth() {
+        flood_row(&mut flood, grid, z)?;
+    }
+    let Flood { table, .. } = flood;
+    Ok(Labels { table })
+}

@@ -1,0 +1,33 @@
+//! The search for the least costs of walks over a grid of cells, and the labels of its regions.
+//!
+//! It promises that each cost is the least of all walks, as far as the search has gone, and that a label tells which cells
+//! are joined. What follows a search, as the way to its end, reads the costs alone and stands above.
+//!
+//! - `steps`: the steps that are allowed.
+//! - `costs`, `entry`: a cost for each cell that is reached.
+//! - `aim`: where a search goes, and what is known of the cost from a cell on.
+//! - `search`, `queue`, `drain`: the search, by buckets of cells that wait at one cost and estimate, and how far it has
+//!   come.
+//! - `labels`, `table`: labels of regions, which tell what is reached.
+//! - `laws`: theorems about the search for every estimate, and about labels, each the contract of a function that does
+//!   nothing.
+#![tactic(auto)]
+
+mod aim;
+mod costs;
+mod drain;
+mod entry;
+mod labels;
+mod laws;
+mod queue;
+mod search;
+mod steps;
+mod table;
+
+pub use aim::{Aim, estimate};
+pub use costs::Costs;
+pub use drain::{Stage, go_on, least_costs, search_of, started};
+pub use labels::{Labels, labels_of};
+pub use laws::{labels_tell, no_label_is_closed, search_goes_on, taken_in_order, taken_is_least};
+pub use search::Search;
+pub use steps::{is_free, moves_from, step, step_cost};

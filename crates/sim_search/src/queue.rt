@@ -1,0 +1,230 @@
+//! The cells that wait, in a ring of buckets, each of which holds those of one key: the sum of cost and estimate.
+
+ghost use Rattle.std.specs.Prelude.{◌≡◌, ◌<◌, ◌≤◌, ◌+◌, ◌-◌, ◌↔◌, IsTrue, ◌%◌, ◌^◌, ◌*◌, ◌∷◌, [], None, Some, OnOk, IfOk, MatchOption, ℕ, Contains, replicate, true, false, vec_len};
+ghost use Rattle.sim_base.specs.Steps.{IsOnGround};
+ghost use Rattle.sim_search.specs.Tables.{size_of, cost_in, is_lower_than};
+ghost use Rattle.sim_search.specs.Estimates.{estimate_to};
+ghost use Rattle.sim_search.specs.Queues.{Begins, IsBlank, Lowers, Waits, Takes, Empties, taken_in, bucket_in};
+
+use crate::aim::{Aim, estimate};
+use crate::costs::Costs;
+use crate::entry::Entry;
+use crate::search::Search;
+use sim_base::{Cell, Items, OutOfMemory};
+use std::alloc::Global;
+use std::mem;
+
+// How many buckets there are. The keys of the cells that wait differ by less.
+const RING: u32 = 32;
+
+// The bucket of a key.
+fn bucket(key: u32) -> usize
+    ensures is { result ≡ key % 32 }
+    ensures below { result < 32 }
+{
+    (key % RING) as usize
+}
+
+// Empty buckets.
+fn empty_ring(alloc: Global) -> Result<Vec<Items<Cell>>, OutOfMemory>
+    ensures { IfOk result (λ v. v.items ≡ replicate 32 []) }
+{
+    let mut buckets = Vec::new(alloc);
+    for _ in 0..RING {
+        buckets.push(Items::new(alloc))?;
+    }
+    Ok(buckets)
+}
+
+// Entries of no search.
+fn no_entries(alloc: Global, count: usize) -> Result<Vec<Entry>, OutOfMemory>
+    ensures { IfOk result (λ v. v.items ≡ replicate count (record { stamp = 0; cost = 0 })) }
+{
+    Ok(vec![in alloc; Entry { stamp: 0, cost: 0 }; count]?)
+}
+
+// Marks of no search.
+fn no_marks(alloc: Global, count: usize) -> Result<Vec<u32>, OutOfMemory>
+    ensures { IfOk result (λ v. v.items ≡ replicate count 0) }
+{
+    Ok(vec![in alloc; 0; count]?)
+}
+
+// Rooms for a search on a ground of so many cells.
+fn new_rooms(alloc: Global, width: u16, depth: u16, start: Cell) -> Result<Search, OutOfMemory>
+    requires narrow { width ≤ 256 }
+    requires shallow { depth ≤ 256 }
+    requires east { start.x < width }
+    requires north { start.z < depth }
+    ensures { IfOk result (λ s. IsBlank (record { width = width; depth = depth }) start s) }
+{
+    let count = usize::from(width) * usize::from(depth);
+    let items = no_entries(alloc, count)?;
+    let taken = no_marks(alloc, count)?;
+    let buckets = empty_ring(alloc)?;
+    let costs = Costs {
+        width,
+        depth,
+        stamp: 1,
+        items,
+    };
+    Ok(Search {
+        start,
+        costs,
+        taken,
+        buckets,
+    })
+}
+
+// Empties the buckets, each in the room that it had.
+fn empty_all(alloc: Global, buckets: &mut Vec<Items<Cell>>)
+    requires { vec_len buckets.old ≡ 32 }
+    ensures { vec_len buckets.new ≡ 32 }
+{
+    for b in 0..32usize {
+        let cells = mem::replace(&mut buckets[b], Items::new(alloc));
+        buckets[b] = emptied(cells);
+    }
+}
+
+// The rooms of a search, for another one.
+fn used_again(alloc: Global, mut rooms: Search, start: Cell) -> Search
+    requires east { start.x < rooms.costs.width }
+    requires north { start.z < rooms.costs.depth }
+    requires stamp { rooms.costs.stamp < 2 ^ 32 - 1 }
+    ensures { IsBlank (size_of rooms.costs) start result }
+{
+    empty_all(alloc, &mut rooms.buckets);
+    rooms.start = start;
+    rooms.costs.forget();
+    rooms
+}
+
+// Whether a search on a ground of so many cells can be made in these rooms.
+fn fits(rooms: &Search, width: u16, depth: u16) -> bool
+    ensures { IsTrue result ↔ (size_of rooms.now.costs ≡ record { width = width; depth = depth }) × (rooms.now.costs.stamp < 2 ^ 32 - 1) }
+{
+    rooms.costs.width == width && rooms.costs.depth == depth && rooms.costs.stamp < u32::MAX
+}
+
+// A search that has come to no cell yet, in the rooms of an earlier one, where they fit.
+fn blank(
+    alloc: Global,
+    rooms: Option<Search>,
+    width: u16,
+    depth: u16,
+    start: Cell,
+) -> Result<Search, OutOfMemory>
+    requires narrow { width ≤ 256 }
+    requires shallow { depth ≤ 256 }
+    requires east { start.x < width }
+    requires north { start.z < depth }
+    ensures { IfOk result (λ s. IsBlank (record { width = width; depth = depth }) start s) }
+{
+    if let Some(rooms) = rooms {
+        if fits(&rooms, width, depth) {
+            return Ok(used_again(alloc, rooms, start));
+        }
+    }
+    new_rooms(alloc, width, depth, start)
+}
+
+/// A search on a ground of so many cells that has come to none but the start, in the rooms of an earlier one.
+pub fn begun(
+    alloc: Global,
+    rooms: Option<Search>,
+    width: u16,
+    depth: u16,
+    aim: Aim,
+    start: Cell,
+) -> Result<Search, OutOfMemory>
+    requires narrow { width ≤ 256 }
+    requires shallow { depth ≤ 256 }
+    requires east { start.x < width }
+    requires north { start.z < depth }
+    ensures { IfOk result (λ s. Begins (estimate_to aim) (record { width = width; depth = depth }) start s) }
+{
+    let mut search = blank(alloc, rooms, width, depth, start)?;
+    search.costs.set(start, 0);
+    search.buckets[bucket(estimate(aim, start))].push(start)?;
+    Ok(search)
+}
+
+// Whether the total is lower than the cost of a cell.
+fn is_lower(search: &Search, cell: Cell, total: u32) -> bool
+    ensures { result ≡ is_lower_than total (cost_in search.now.costs cell) }
+{
+    match search.costs.at(cell) {
+        None => true,
+        Some(cost) => total < cost,
+    }
+}
+
+/// Gives a cell a cost of at most the total, and if its cost falls so, lets it wait there.
+pub fn lower(search: &mut Search, aim: Aim, to: Cell, total: u32) -> Result<(), OutOfMemory>
+    requires to_on { IsOnGround (size_of search.old.costs) to }
+    requires small { total + estimate_to aim to < 2 ^ 32 }
+    ensures { OnOk result (Lowers (estimate_to aim) search.old search.new to total) }
+{
+    if is_lower(search, to, total) {
+        let key = total + estimate(aim, to);
+        let waiting = &mut search.buckets[bucket(key)];
+        waiting.push(to)?;
+        search.costs.set(to, total);
+    }
+    Ok(())
+}
+
+/// The cost of a cell that waits by this key: None where it doesn't.
+pub fn waiting(search: &Search, aim: Aim, cell: Cell, now: u32) -> Option<u32>
+    ensures none { result ≡ None → (d : ℕ) → Waits (estimate_to aim) search.now now cell d → ⊥ }
+    ensures some { (d : ℕ) → result ≡ Some d → Waits (estimate_to aim) search.now now cell d }
+{
+    let cost = search.costs.at(cell)?;
+    if is_taken(search, cell) || now.checked_sub(estimate(aim, cell)) != Some(cost) {
+        None
+    } else {
+        Some(cost)
+    }
+}
+
+// Whether a cell was taken.
+fn is_taken(search: &Search, cell: Cell) -> bool
+    ensures { result ≡ taken_in search.now cell }
+{
+    search.costs.has(cell) && search.taken[search.costs.place(cell)] == search.costs.stamp
+}
+
+/// Takes a cell.
+pub fn take(search: &mut Search, cell: Cell)
+    requires { IsOnGround (size_of search.old.costs) cell }
+    ensures { Takes search.old search.new cell }
+{
+    let place = search.costs.place(cell);
+    search.taken[place] = search.costs.stamp;
+}
+
+/// Whether no cell stands in the bucket of a key.
+pub fn is_empty(search: &Search, now: u32) -> bool
+    ensures { result ≡ true → bucket_in search.now (now % 32) ≡ [] }
+{
+    search.buckets[bucket(now)].as_slice().is_empty()
+}
+
+/// Takes the bucket of a key out, and puts the spare one in its place.
+pub fn swap_bucket(search: &mut Search, spare: Items<Cell>, now: u32) -> Items<Cell>
+    requires { spare ≡ [] }
+    ensures bucket { result ≡ bucket_in search.old (now % 32) }
+    ensures rest { Empties search.old search.new (now % 32) }
+{
+    mem::replace(&mut search.buckets[bucket(now)], spare)
+}
+
+/// The bucket without its cells, in the room that it had.
+pub fn emptied(cells: Items<Cell>) -> Items<Cell>
+    ensures { result ≡ [] }
+{
+    let mut room = cells.into_items();
+    room.clear();
+    Items::from_items(room)
+}
