@@ -65,34 +65,3 @@ impl PlayerCommand {
         })
     }
 }
-
-#[cfg(test)]
-mod tests {
-    use super::*;
-    use crate::fixed::Fixed;
-    use crate::items::Items;
-    use std::test::Fail;
-
-    #[test]
-    fn copies(rt: HostRuntime) -> Result<(), Fail> {
-        let at = Point {
-            x: Fixed::from_raw(65536),
-            z: Fixed::from_raw(-1),
-        };
-        let ids = Items::from_items(vec![in rt.alloc(); 2, 3]?);
-        let walk = PlayerCommand {
-            player: 1,
-            command: Command::Walk { ids, to: at },
-        };
-        let place = Command::Place { template: 4, at };
-        assert_eq!(rt;
-            format!(in rt.alloc(); "{:?}", walk.copy()?)?.as_str(),
-            "PlayerCommand { player: 1, command: Walk { ids: Items { items: [2, 3] }, to: Point { x: Fixed(65536), z: Fixed(-1) } } }"
-        );
-        assert_eq!(rt;
-            format!(in rt.alloc(); "{:?}", place.copy()?)?.as_str(),
-            "Place { template: 4, at: Point { x: Fixed(65536), z: Fixed(-1) } }"
-        );
-        Ok(())
-    }
-}

@@ -40,20 +40,3 @@ fn push_digit(out: &mut String, digit: u64) -> Result<(), OutOfMemory>
     out.push(char::from(48 + digit as u8))?;
     Ok(())
 }
-
-#[cfg(test)]
-mod tests {
-    use super::*;
-    use std::test::Fail;
-
-    #[test]
-    fn appends(rt: HostRuntime) -> Result<(), Fail> {
-        let mut out = String::from_str(rt.alloc(), "turn ")?;
-        for number in [0, 9, 10, 65535, u64::MAX] {
-            push_decimal(number, &mut out)?;
-            out.push_str(" ")?;
-        }
-        assert_eq!(rt; out.as_str(), "turn 0 9 10 65535 18446744073709551615 ");
-        Ok(())
-    }
-}

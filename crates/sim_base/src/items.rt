@@ -96,26 +96,3 @@ impl<T: Copy> Items<T> {
         })
     }
 }
-
-#[cfg(test)]
-mod tests {
-    use super::*;
-    use std::test::Fail;
-
-    #[test]
-    fn changes_a_list(rt: HostRuntime) -> Result<(), Fail> {
-        let mut list: Ids = Items::new(rt.alloc());
-        list.push(5)?;
-        list.push(7)?;
-        list.push(9)?;
-        let copied = list.copy()?;
-        assert_eq!(rt; list.replace(1, 8), 7);
-        assert_eq!(rt; list.remove(0), 5);
-        assert_eq!(rt; list.as_slice(), [8, 9].as_slice());
-        assert_eq!(rt; copied.as_slice(), [5, 7, 9].as_slice());
-        let vec = copied.into_items();
-        assert_eq!(rt; vec.as_slice(), [5, 7, 9].as_slice());
-        assert_eq!(rt; Items::from_items(vec).as_slice(), [5, 7, 9].as_slice());
-        Ok(())
-    }
-}

@@ -61,27 +61,3 @@ fn are_name_bytes(bytes: &[u8]) -> bool
 {
     bytes.iter().all(|byte| byte.is_ascii_graphic())
 }
-
-#[cfg(test)]
-mod tests {
-    use super::*;
-    use std::test::Fail;
-
-    // 64 bytes.
-    const LONGEST: &str = "0123456789abcdef0123456789abcdef0123456789abcdef0123456789abcdef";
-
-    #[test]
-    fn names(rt: HostRuntime) -> Result<(), Fail> {
-        for text in ["a", "units/infantry", "!~", LONGEST] {
-            match Name::of(rt.alloc(), text)? {
-                Some(name) => assert_eq!(rt; name.text(), text),
-                None => panic!(rt; "no name: {text}"),
-            }
-        }
-        let longer = format!(in rt.alloc(); "{LONGEST}0")?;
-        for text in ["", "two words", "a\n", "a\x7F", "\u{e9}", longer.as_str()] {
-            assert!(rt; Name::of(rt.alloc(), text)?.is_none(), "at {text}");
-        }
-        Ok(())
-    }
-}

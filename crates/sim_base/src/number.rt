@@ -18,26 +18,3 @@ pub fn next_word(word: u64) -> u64
 {
     word.wrapping_mul(0x5DEECE66D).wrapping_add(0xB) & 0xFFFF_FFFF_FFFF
 }
-
-#[cfg(test)]
-mod tests {
-    use super::*;
-    use std::test::Fail;
-
-    #[test]
-    fn finds_roots_and_words(rt: HostRuntime) -> Result<(), Fail> {
-        let roots = [
-            (0, 0),
-            (8, 2),
-            (9, 3),
-            (8589934592, 92681),
-            (u64::MAX, u32::MAX),
-        ];
-        for (n, found) in roots {
-            assert_eq!(rt; root(n), found, "of {n}");
-        }
-        assert_eq!(rt; next_word(7), 176504327430);
-        assert_eq!(rt; next_word(176504327430), 33146457173913);
-        Ok(())
-    }
-}

@@ -96,36 +96,3 @@ fn ends_of(cell: u16, count: u8) -> (i32, i32)
     let first = i32::from(cell) - i32::from(count / 2);
     (first, first + i32::from(count) - 1)
 }
-
-#[cfg(test)]
-mod tests {
-    use super::*;
-    use std::test::Fail;
-
-    // About the point in the middle of a cell.
-    #[test]
-    fn places(rt: HostRuntime) -> Result<(), Fail> {
-        let spot = point(360448, 360448);
-        assert_eq!(rt; cell_of(spot), Cell { x: 5, z: 5 });
-        assert_eq!(rt; cell_of(point(131071, 131072)), Cell { x: 1, z: 2 });
-        assert_eq!(rt; centre_of(Cell { x: 5, z: 5 }), spot);
-        assert_eq!(rt; square(spot, point(557056, 98304)), 107374182400);
-        assert_eq!(rt; rect_of(spot, 2, 3), rect(4, 4, 5, 6));
-        assert_eq!(rt; rect_of(point(0, 360448), 4, 1), rect(-2, 5, 1, 5));
-        Ok(())
-    }
-
-    fn point(x: i32, z: i32) -> Point
-        ensures x { result.x ≡ x }
-        ensures z { result.z ≡ z }
-    {
-        Point {
-            x: Fixed::from_raw(x),
-            z: Fixed::from_raw(z),
-        }
-    }
-
-    fn rect(x0: i32, z0: i32, x1: i32, z1: i32) -> Rect {
-        Rect { x0, z0, x1, z1 }
-    }
-}

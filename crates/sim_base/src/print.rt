@@ -79,31 +79,3 @@ fn zeros_before(n: u32) -> &'static str
         ""
     }
 }
-
-#[cfg(test)]
-mod tests {
-    use super::*;
-    use std::test::Fail;
-
-    #[test]
-    fn prints_and_reads_back(rt: HostRuntime) -> Result<(), Fail> {
-        let cases = [
-            (0, "0"),
-            (1, "0.00002"),
-            (-1, "-0.00002"),
-            (65535, "0.99999"),
-            (-98304, "-1.50000"),
-            (983040, "15"),
-            (i32::MAX, "32767.99999"),
-            (i32::MIN, "-32768"),
-        ];
-        for (raw, text) in cases {
-            let number = Fixed::from_raw(raw);
-            let mut out = String::from_str(rt.alloc(), "x ")?;
-            number.push_text(&mut out)?;
-            assert_eq!(rt; out.as_str().strip_prefix("x "), Some(text), "at {raw}");
-            assert_eq!(rt; Fixed::read_text(text), Some(number), "at {raw}");
-        }
-        Ok(())
-    }
-}

@@ -77,31 +77,3 @@ pub struct State {
     pub word: u64,
     pub rows: Rows,
 }
-
-#[cfg(test)]
-mod tests {
-    use super::*;
-    use std::test::Fail;
-
-    #[test]
-    fn copies_a_motion(rt: HostRuntime) -> Result<(), Fail> {
-        let goal = Point {
-            x: Fixed::from_raw(98304),
-            z: Fixed::from_raw(0),
-        };
-        let way = Items::from_items(vec![in rt.alloc(); goal]?);
-        let motion = Motion::Going {
-            goal,
-            way,
-            whole: true,
-        };
-        match motion.copy()? {
-            Motion::Going { goal, way, whole } => {
-                assert_eq!(rt; way.as_slice(), [goal].as_slice());
-                assert!(rt; whole);
-            }
-            Motion::Still => panic!(rt; "it stands still"),
-        }
-        Ok(())
-    }
-}

@@ -19,8 +19,6 @@ mod laws;
 mod put;
 mod sink;
 mod take;
-#[cfg(test)]
-mod tests;
 
 pub use buffer::Buffer;
 pub use digesting::Digesting;

@@ -56,8 +56,6 @@ mod reading;
 mod same;
 mod spelling;
 mod stored;
-#[cfg(test)]
-mod tests;
 mod validity;
 
 pub use bits::{Bits, Part, bits_of};

@@ -10,8 +10,6 @@
 
 mod ids;
 mod kinds;
-#[cfg(test)]
-mod tests;
 
 pub use ids::{id_in, ids_of};
 pub use kinds::{command_of, three};

@@ -14,8 +14,6 @@ mod laws;
 mod merge;
 mod place;
 mod same;
-#[cfg(test)]
-mod tests;
 
 pub use laws::{no_difference_is_one_spelling, the_difference_is_least};
 pub use merge::difference;

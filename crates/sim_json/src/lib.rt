@@ -19,6 +19,3 @@ pub use kinds::{has_list, has_row, has_table, has_table_of, has_whole};
 pub use values::{
     fixed, four, front_two, list_at, list_of, natural, natural_at, natural_in, two, value_of,
 };
-
-#[cfg(test)]
-mod tests;

@@ -24,11 +24,7 @@ mod reading;
 mod schedule;
 mod step_list;
 mod step_reading;
-#[cfg(test)]
-mod step_tests;
 mod steps;
-#[cfg(test)]
-mod tests;
 
 pub use fault::ListFault;
 pub use laws::{arrival_index_is_least, step_index_is_least};

@@ -22,8 +22,6 @@ mod library;
 mod merge;
 mod operation;
 mod resolve;
-#[cfg(test)]
-mod tests;
 mod words;
 
 pub use chains::names_differ;

@@ -1,4 +1,5 @@
-//! Worked schedules, late joins and sessions, as tests of whole runs with real systems. It promises nothing by itself.
+//! Worked schedules, late joins and sessions, as tests of whole runs with real systems, and the lines that end a session's
+//! text. It promises nothing by itself.
 #![tactic(auto)]
 
 #[cfg(test)]

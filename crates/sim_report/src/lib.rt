@@ -20,8 +20,6 @@ mod place;
 mod refusal;
 mod served;
 mod show;
-#[cfg(test)]
-mod tests;
 
 pub use down::push_down;
 pub use event::push_event;

@@ -10,8 +10,6 @@
 
 mod laws;
 mod serve;
-#[cfg(test)]
-mod tests;
 
 pub use laws::notices_are_those_of_the_list;
 pub use serve::{push_all_kept, served_text};

@@ -20,8 +20,6 @@ mod closing;
 mod ending;
 mod laws;
 mod pipe;
-#[cfg(test)]
-mod tests;
 mod told;
 
 pub use apart::{push_apart, push_difference};

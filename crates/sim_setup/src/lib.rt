@@ -40,6 +40,3 @@ pub use laws::{
     template_index_is_least,
 };
 pub use passes::{session_setup_of, setup_of};
-
-#[cfg(test)]
-mod tests;

@@ -33,6 +33,3 @@ pub use read::{MAX_FILE, read_file};
 pub use shelf::Shelf;
 pub use sink::Sink;
 pub use write::{write_file, write_out};
-
-#[cfg(test)]
-mod tests;

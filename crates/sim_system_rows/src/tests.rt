@@ -1,9 +1,10 @@
-//! Boards over four real systems, and runs with other systems and handlers.
+//! Boards over four real systems, groups of ids as the systems keep them, and runs with other systems and handlers.
 
 mod asks;
 mod boards;
 mod checks;
 mod deeds;
+mod groups;
 mod handlers;
 mod plain;
 mod refusing;

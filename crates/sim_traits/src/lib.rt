@@ -36,6 +36,3 @@ mod units;
 
 pub use fault::TraitFault;
 pub use template::template_of;
-
-#[cfg(test)]
-mod tests;

@@ -32,6 +32,3 @@ pub use source::Source;
 pub use text::Text;
 pub use tokens::{Names, tokens_in};
 pub use tree::{Child, Tree, TreeMark, copy_name};
-
-#[cfg(test)]
-mod tests;

@@ -14,8 +14,6 @@
 mod comma;
 mod limits;
 mod soldiers;
-#[cfg(test)]
-mod tests;
 mod text;
 mod walks;
 

@@ -1,0 +1,106 @@
+//! What no clause says: that calls succeed with ample memory, and how worked numbers and texts are spelled.
+
+use sim_bytes::{
+    ByteSink, Comparing, Short, Take, push_hex, put_i32, put_u8, put_u16, put_u32, put_u64,
+    read_hex, tell_i32, tell_u8, tell_u16, tell_u32, tell_u64,
+};
+use std::test::Fail;
+
+#[test]
+fn numbers_are_put_with_the_lowest_byte_first(rt: HostRuntime) -> Result<(), Fail> {
+    let mut out = Vec::new(rt.alloc());
+    put_u8(&mut out, 0xA1)?;
+    put_u16(&mut out, 0xB2B1)?;
+    put_u32(&mut out, 0xC4C3_C2C1)?;
+    put_u64(&mut out, 0x0102_0304_0506_0708)?;
+    put_i32(&mut out, -2)?;
+    let spelled = [
+        0xA1, 0xB1, 0xB2, 0xC1, 0xC2, 0xC3, 0xC4, 8, 7, 6, 5, 4, 3, 2, 1, 0xFE, 0xFF, 0xFF, 0xFF,
+    ];
+    assert_eq!(rt; out.as_slice(), spelled.as_slice());
+    Ok(())
+}
+
+#[test]
+fn numbers_are_taken_in_order(rt: HostRuntime) {
+    let bytes = [
+        0xA1, 0xB1, 0xB2, 0xC1, 0xC2, 0xC3, 0xC4, 8, 7, 6, 5, 4, 3, 2, 1, 0xFE, 0xFF, 0xFF, 0xFF,
+    ];
+    let mut take = Take::new(&bytes);
+    assert_eq!(rt; take.u8(), Ok(0xA1));
+    assert_eq!(rt; take.u16(), Ok(0xB2B1));
+    assert_eq!(rt; take.u32(), Ok(0xC4C3_C2C1));
+    let mut other = take.fork();
+    assert_eq!(rt; take.u64(), Ok(0x0102_0304_0506_0708));
+    assert_eq!(rt; take.i32(), Ok(-2));
+    assert_eq!(rt; take.left(), 0);
+    assert_eq!(rt; take.u8(), Err(Short));
+    assert_eq!(rt; other.u8(), Ok(8));
+}
+
+#[test]
+fn a_number_that_is_cut_short_is_not_taken(rt: HostRuntime) {
+    let mut take = Take::new(&[1, 2, 3]);
+    assert_eq!(rt; take.u32(), Err(Short));
+    assert_eq!(rt; take.u64(), Err(Short));
+    assert_eq!(rt; take.i32(), Err(Short));
+    assert_eq!(rt; take.u16(), Ok(0x0201));
+    assert_eq!(rt; take.u16(), Err(Short));
+    assert_eq!(rt; take.bytes(), [3].as_slice());
+    assert_eq!(rt; take.left(), 1);
+}
+
+#[test]
+fn bytes_are_pushed_as_text(rt: HostRuntime) -> Result<(), Fail> {
+    let mut out = String::from_str(rt.alloc(), "id ")?;
+    push_hex(&mut out, &[0, 0x09, 0xA0, 0xFF])?;
+    assert_eq!(rt; out.as_str(), "id 0009a0ff");
+    Ok(())
+}
+
+#[test]
+fn pairs_of_lower_case_digits_alone_are_read(rt: HostRuntime) -> Result<(), Fail> {
+    let read = read_hex(rt.alloc(), "0009a0ff")?.ok_or("no bytes")?;
+    assert_eq!(rt; read.as_slice(), [0, 0x09, 0xA0, 0xFF].as_slice());
+    let none = read_hex(rt.alloc(), "")?.ok_or("no bytes")?;
+    assert_eq!(rt; none.len(), 0);
+    for text in ["0", "0A", "a0F", "A0", "0g", "/0", ":0", "`0", " 0", "é"] {
+        assert!(rt; read_hex(rt.alloc(), text)?.is_none(), "{text} is read");
+    }
+    Ok(())
+}
+
+// What is told to a comparison with the first bytes is the second.
+fn compared(wanted: &[u8], told: &[&[u8]]) -> bool {
+    let mut comparing = Comparing::new(wanted);
+    for bytes in told {
+        match comparing.tell(*bytes) {
+            Ok(()) => {}
+            Err(never) => match never {},
+        }
+    }
+    comparing.is_same()
+}
+
+#[test]
+fn a_comparison_holds_for_just_the_wanted_bytes(rt: HostRuntime) {
+    assert!(rt; compared(&[1, 2, 3], &[&[1, 2], &[], &[3]]));
+    assert!(rt; !compared(&[1, 2, 3], &[&[1, 2]]));
+    assert!(rt; !compared(&[1, 2, 3], &[&[1, 2], &[3, 4]]));
+    assert!(rt; !compared(&[1, 2, 3], &[&[1, 3], &[3]]));
+}
+
+#[test]
+fn a_list_and_a_comparison_are_told_the_same(rt: HostRuntime) -> Result<(), Fail> {
+    let mut out = Vec::new(rt.alloc());
+    tell_u8(&mut out, 1)?;
+    tell_u16(&mut out, 2)?;
+    tell_u32(&mut out, 3)?;
+    tell_u64(&mut out, 4)?;
+    tell_i32(&mut out, -1)?;
+    let spelled = [
+        1, 2, 0, 3, 0, 0, 0, 4, 0, 0, 0, 0, 0, 0, 0, 0xFF, 0xFF, 0xFF, 0xFF,
+    ];
+    assert_eq!(rt; out.as_slice(), spelled.as_slice());
+    Ok(())
+}
