@@ -99,7 +99,7 @@ fn reads_256_ids(rt: HostRuntime) -> Result<(), Fail> {
         let ids = ids_of(alloc, &value)?;
         assert_eq!(rt; ids.as_ref().map(count), wanted);
         let first = list_of(&value).and_then(|items| items.first());
-        assert_eq!(rt; first.and_then(id_in), Some(9));
+        assert_eq!(rt; first.and_then(|item| id_in(item)), Some(9));
         text.push_str(",9")?;
     }
     Ok(())
