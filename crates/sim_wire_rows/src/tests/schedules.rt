@@ -156,6 +156,7 @@ fn wrong_behind(alloc: Global, count: u32) -> Result<String, AllocError> {
     Ok(list)
 }
 
+// No file reaches the last place that has a number: `proofs/Examples.antt` has that one.
 #[test]
 fn each_place_has_its_number(rt: HostRuntime) -> Result<(), Fail> {
     for (place, index) in [(0, 1), (1, 2), (99_999, 100_000)] {
