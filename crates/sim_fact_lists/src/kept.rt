@@ -8,20 +8,23 @@ ghost use Rattle.sim_system.specs.Notes.{fact_with, noted, NoteFits};
 ghost use Rattle.sim_system.specs.Meanings.{one_more};
 ghost use Rattle.sim_fact_lists.specs.Places.{HoldsIfAny};
 
-use crate::edit::{find, put};
+use crate::edit::{place_near, put};
 use crate::land::copy_of;
 use crate::part::{all_kept, id_of, part_after};
 use sim_base::{Land, OutOfMemory};
 use sim_system::{Fact, Kind, Note};
 use std::alloc::Global;
+use std::cell::Cell;
 
-/// What a system keeps: its land, its facts by id, and how often it was built.
+/// What a system keeps: its land, its facts by id, and how often it was built. The place of the last fact that was looked for
+/// is a hint for the next, which is mostly just after it.
 #[derive(Drop)]
 pub struct Kept {
     pub alloc: Global,
     pub land: Option<Land>,
     pub facts: Vec<Fact>,
     pub rebuilds: u64,
+    near: Cell<usize>,
     ghost held: { HoldsIfAny land facts.items },
 }
 
@@ -37,6 +40,7 @@ impl Kept {
             land: None,
             facts: Vec::new(alloc),
             rebuilds: 0,
+            near: Cell::new(0),
         }
     }
 
@@ -68,12 +72,19 @@ impl Kept {
         Ok(())
     }
 
-    /// What is kept of an id.
+    /// What is kept of an id. Where it was found is kept for the next.
     pub fn find(&self, id: u32) -> Option<Fact>
         requires { IsSome self.now.land }
         ensures { result ≡ fact_with self.now.facts.items id }
     {
-        find(self.facts.as_slice(), id).copied()
+        let facts = self.facts.as_slice();
+        match place_near(facts, id, self.near.get()) {
+            Ok(at) => {
+                self.near.set(at);
+                Some(facts[at])
+            }
+            Err(_) => None,
+        }
     }
 
     /// Makes room for one fact more.
@@ -98,6 +109,6 @@ impl Kept {
     {
         let id = id_of(note);
         let part = part_after(kind, self.find(id), note);
-        put(&mut self.facts, id, &part)
+        put(&mut self.facts, id, self.near.get(), &part)
     }
 }
