@@ -20,13 +20,14 @@ use sim_system::{Rig, System};
 use std::alloc::Global;
 
 /// A match in progress: its state, and the systems that are told of each change. It is whole while they stand for the
-/// state.
+/// state. Where the row of the last change stood is a hint for the next.
 #[derive(Drop)]
 pub struct Board<'a> {
     alloc: Global,
     setup: &'a Setup,
     state: State,
     rig: Rig,
+    near: usize,
     whole: bool,
 }
 
@@ -49,6 +50,7 @@ impl<'a> Board<'a> {
             setup,
             state,
             rig,
+            near: 0,
             whole: false,
         }
     }
@@ -121,6 +123,7 @@ impl<'a> Board<'a> {
             self.setup,
             &mut self.state,
             &mut self.rig,
+            &mut self.near,
             change,
         )?;
         self.whole = true;
@@ -151,6 +154,7 @@ impl<'a> Board<'a> {
             setup: _,
             state,
             rig,
+            near: _,
             whole: _,
         } = self;
         (state, rig)

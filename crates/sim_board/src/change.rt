@@ -1,4 +1,4 @@
-//! The state after a change. No system is told here.
+//! The state after a change. No system is told here. Near which place the row of a change stands is a hint.
 
 ghost use Rattle.std.specs.Prelude.{◌≡◌, ◌<◌, [], length, map, OnOk, IsOk};
 ghost use Rattle.std.specs.List.Sorted.{IsStrictlyIncreasing};
@@ -22,6 +22,7 @@ pub fn make(
     setup: &Setup,
     state: &mut State,
     change: Change,
+    near: usize,
 ) -> Result<(), OutOfMemory>
     requires limits { IsSetup setup.now }
     requires valid { IsLooselyValid setup.now state.old }
@@ -33,31 +34,31 @@ pub fn make(
     match change {
         Change::Move { id, at } => {
             let mut rows = take_rows(alloc, state);
-            set_at(&mut rows, id, &at);
+            set_at(&mut rows, id, &at, near);
             state.rows = Items::from_items(rows);
             Ok(())
         }
         Change::Motion { id, motion } => {
             let mut rows = take_rows(alloc, state);
-            set_motion(&mut rows, id, motion);
+            set_motion(&mut rows, id, motion, near);
             state.rows = Items::from_items(rows);
             Ok(())
         }
         Change::Attack { id, aim } => {
             let mut rows = take_rows(alloc, state);
-            set_attack(&mut rows, id, aim);
+            set_attack(&mut rows, id, aim, near);
             state.rows = Items::from_items(rows);
             Ok(())
         }
         Change::Health { id, health } => {
             let mut rows = take_rows(alloc, state);
-            set_health(&mut rows, id, health);
+            set_health(&mut rows, id, health, near);
             state.rows = Items::from_items(rows);
             Ok(())
         }
         Change::Owner { id, owner } => {
             let mut rows = take_rows(alloc, state);
-            set_owner(&mut rows, id, owner);
+            set_owner(&mut rows, id, owner, near);
             state.rows = Items::from_items(rows);
             Ok(())
         }
@@ -79,13 +80,13 @@ pub fn make(
 }
 
 /// The rows of these watchers are released, and then the row with the id leaves.
-pub fn remove(alloc: Global, state: &mut State, id: u32, watchers: &[u32])
+pub fn remove(alloc: Global, state: &mut State, id: u32, watchers: &[u32], near: usize)
     requires { IsStrictlyIncreasing (map id_of state.old.rows) }
     ensures { state.new ≡ left_by id watchers.now state.old }
 {
     let mut rows = take_rows(alloc, state);
     release_rows(&mut rows, watchers);
-    take_row(&mut rows, id);
+    take_row(&mut rows, id, near);
     state.rows = Items::from_items(rows);
 }
 

@@ -1,4 +1,5 @@
-//! One part of one row is set, or a row is released, leaves or is made. A row is found by halves, and no other is touched.
+//! One part of one row is set, or a row is released, leaves or is made. A row is found near the last one or by halves, and no
+//! other is touched.
 
 ghost use Rattle.std.specs.Prelude.{◌≡◌, ◌++◌, [], ◌∷◌, not, ◌==◌, map, filter, Some, OnOk, if◌then◌else◌};
 ghost use Rattle.std.specs.List.Sorted.{IsStrictlyIncreasing};
@@ -7,55 +8,56 @@ ghost use Rattle.sim_base.specs.Rows.{id_of};
 ghost use Rattle.sim_base.specs.Changes.{released as released_by, new_row as row_made};
 ghost use Rattle.sim_board.specs.Letting.{row_released, rows_released};
 
+use crate::near::place_near;
 use sim_base::{Aim, Fixed, Motion, OutOfMemory, Point, Row, Template};
 use sim_lookup::place_of;
 
 /// The row with this id stands at a point.
-pub fn set_at(rows: &mut Vec<Row>, id: u32, at: &Point)
+pub fn set_at(rows: &mut Vec<Row>, id: u32, at: &Point, near: usize)
     requires { IsStrictlyIncreasing (map id_of rows.old.items) }
     ensures { rows.new.items ≡ map (λ (row : AnyRow). if row.id == id then record row { at = at.now } else row) rows.old.items }
 {
-    if let Some(place) = place_of(rows.as_slice(), id) {
+    if let Some(place) = place_near(rows.as_slice(), id, near) {
         rows[place].at = *at;
     }
 }
 
 /// The row with this id moves so.
-pub fn set_motion(rows: &mut Vec<Row>, id: u32, motion: Motion)
+pub fn set_motion(rows: &mut Vec<Row>, id: u32, motion: Motion, near: usize)
     requires { IsStrictlyIncreasing (map id_of rows.old.items) }
     ensures { rows.new.items ≡ map (λ (row : AnyRow). if row.id == id then record row { motion = Some motion } else row) rows.old.items }
 {
-    if let Some(place) = place_of(rows.as_slice(), id) {
+    if let Some(place) = place_near(rows.as_slice(), id, near) {
         rows[place].motion = Some(motion);
     }
 }
 
 /// The row with this id attacks so.
-pub fn set_attack(rows: &mut Vec<Row>, id: u32, aim: Aim)
+pub fn set_attack(rows: &mut Vec<Row>, id: u32, aim: Aim, near: usize)
     requires { IsStrictlyIncreasing (map id_of rows.old.items) }
     ensures { rows.new.items ≡ map (λ (row : AnyRow). if row.id == id then record row { attack = Some aim } else row) rows.old.items }
 {
-    if let Some(place) = place_of(rows.as_slice(), id) {
+    if let Some(place) = place_near(rows.as_slice(), id, near) {
         rows[place].attack = Some(aim);
     }
 }
 
 /// The row with this id has this health.
-pub fn set_health(rows: &mut Vec<Row>, id: u32, health: Fixed)
+pub fn set_health(rows: &mut Vec<Row>, id: u32, health: Fixed, near: usize)
     requires { IsStrictlyIncreasing (map id_of rows.old.items) }
     ensures { rows.new.items ≡ map (λ (row : AnyRow). if row.id == id then record row { health = Some health } else row) rows.old.items }
 {
-    if let Some(place) = place_of(rows.as_slice(), id) {
+    if let Some(place) = place_near(rows.as_slice(), id, near) {
         rows[place].health = Some(health);
     }
 }
 
 /// The row with this id is this owner's.
-pub fn set_owner(rows: &mut Vec<Row>, id: u32, owner: u8)
+pub fn set_owner(rows: &mut Vec<Row>, id: u32, owner: u8, near: usize)
     requires { IsStrictlyIncreasing (map id_of rows.old.items) }
     ensures { rows.new.items ≡ map (λ (row : AnyRow). if row.id == id then record row { owner = owner } else row) rows.old.items }
 {
-    if let Some(place) = place_of(rows.as_slice(), id) {
+    if let Some(place) = place_near(rows.as_slice(), id, near) {
         rows[place].owner = owner;
     }
 }
@@ -94,11 +96,11 @@ pub fn release_rows(rows: &mut Vec<Row>, ids: &[u32])
 }
 
 /// The row with this id leaves.
-pub fn take_row(rows: &mut Vec<Row>, id: u32)
+pub fn take_row(rows: &mut Vec<Row>, id: u32, near: usize)
     requires { IsStrictlyIncreasing (map id_of rows.old.items) }
     ensures { rows.new.items ≡ filter (λ (row : AnyRow). not (row.id == id)) rows.old.items }
 {
-    if let Some(place) = place_of(rows.as_slice(), id) {
+    if let Some(place) = place_near(rows.as_slice(), id, near) {
         rows.remove(place);
     }
 }

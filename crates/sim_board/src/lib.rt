@@ -10,6 +10,7 @@
 //! - `tell`: one note to all four systems.
 //! - `change`: the state after a change.
 //! - `edit`: one part of one row.
+//! - `near`: the place of a row, near that of the last one.
 //! - `row`: a living row, and what systems are told of it.
 //! - `build`: the systems are built from a state.
 //! - `first`: the state in which a match begins.
@@ -21,6 +22,7 @@ mod change;
 mod edit;
 mod first;
 mod follow;
+mod near;
 mod post;
 mod row;
 mod step;

@@ -1,4 +1,5 @@
-//! The notes of each change, to the systems that keep it. The state is still as it was before.
+//! The notes of each change, to the systems that keep it. The state is still as it was before. Near which place the row of a
+//! change stands is a hint.
 
 ghost use Rattle.std.specs.Prelude.{◌≡◌, OnOk, IfOk, IsOk};
 ghost use Rattle.sim_base.specs.declared.change.Change.TheVariants as change;
@@ -26,26 +27,34 @@ fn moved(
     rig: &mut Rig,
     id: u32,
     at: &Point,
+    near: usize,
 ) -> Result<(), OutOfMemory>
     requires stands { IsStanding setup.now state.now (systems_of rig.old ⟦<dyn System as System>⟧) }
     requires fits { Fits setup.now state.now (change.Move id at.now) }
     ensures fed { OnOk result (AreFed setup.now (applied setup.now state.now (change.Move id at.now)) (systems_of rig.new ⟦<dyn System as System>⟧)) }
     ensures kept { AreKept (systems_of rig.old ⟦<dyn System as System>⟧) (systems_of rig.new ⟦<dyn System as System>⟧) }
 {
-    let row = living(state, id);
+    let row = living(state, id, near);
     let from = row.at;
     boxed::tell(&mut rig.range, &Note::Moved { id, from, to: *at })?;
     Ok(())
 }
 
 // A row takes a target: Watch is told.
-fn aimed(setup: &Setup, state: &State, rig: &mut Rig, id: u32, aim: Aim) -> Result<(), OutOfMemory>
+fn aimed(
+    setup: &Setup,
+    state: &State,
+    rig: &mut Rig,
+    id: u32,
+    aim: Aim,
+    near: usize,
+) -> Result<(), OutOfMemory>
     requires stands { IsStanding setup.now state.now (systems_of rig.old ⟦<dyn System as System>⟧) }
     requires fits { Fits setup.now state.now (change.Attack id aim) }
     ensures fed { OnOk result (AreFed setup.now (applied setup.now state.now (change.Attack id aim)) (systems_of rig.new ⟦<dyn System as System>⟧)) }
     ensures kept { AreKept (systems_of rig.old ⟦<dyn System as System>⟧) (systems_of rig.new ⟦<dyn System as System>⟧) }
 {
-    let row = living(state, id);
+    let row = living(state, id, near);
     let note = Note::Aimed {
         id,
         from: target_of(row),
@@ -56,13 +65,20 @@ fn aimed(setup: &Setup, state: &State, rig: &mut Rig, id: u32, aim: Aim) -> Resu
 }
 
 // A row has another owner: Range and Census are told.
-fn owned(setup: &Setup, state: &State, rig: &mut Rig, id: u32, owner: u8) -> Result<(), OutOfMemory>
+fn owned(
+    setup: &Setup,
+    state: &State,
+    rig: &mut Rig,
+    id: u32,
+    owner: u8,
+    near: usize,
+) -> Result<(), OutOfMemory>
     requires stands { IsStanding setup.now state.now (systems_of rig.old ⟦<dyn System as System>⟧) }
     requires fits { Fits setup.now state.now (change.Owner id owner) }
     ensures fed { OnOk result (AreFed setup.now (applied setup.now state.now (change.Owner id owner)) (systems_of rig.new ⟦<dyn System as System>⟧)) }
     ensures kept { AreKept (systems_of rig.old ⟦<dyn System as System>⟧) (systems_of rig.new ⟦<dyn System as System>⟧) }
 {
-    let row = living(state, id);
+    let row = living(state, id, near);
     let note = Note::Owned {
         id,
         from: row.owner,
@@ -75,14 +91,20 @@ fn owned(setup: &Setup, state: &State, rig: &mut Rig, id: u32, owner: u8) -> Res
 
 /// A row leaves: Watch is told that those who aimed at it are let go, and then all are told that it is gone. The answer is
 /// who was let go.
-pub fn removed(setup: &Setup, state: &State, rig: &mut Rig, id: u32) -> Result<Ids, OutOfMemory>
+pub fn removed(
+    setup: &Setup,
+    state: &State,
+    rig: &mut Rig,
+    id: u32,
+    near: usize,
+) -> Result<Ids, OutOfMemory>
     requires stands { IsStanding setup.now state.now (systems_of rig.old ⟦<dyn System as System>⟧) }
     requires fits { Fits setup.now state.now (change.Remove id) }
     ensures fed { OnOk result (AreFed setup.now (applied setup.now state.now (change.Remove id)) (systems_of rig.new ⟦<dyn System as System>⟧)) }
     ensures watchers { IfOk result (λ ids. ids ≡ watchers_of state.now id) }
     ensures kept { AreKept (systems_of rig.old ⟦<dyn System as System>⟧) (systems_of rig.new ⟦<dyn System as System>⟧) }
 {
-    let fact = fact_of(setup, living(state, id));
+    let fact = fact_of(setup, living(state, id, near));
     let ids = watchers(setup, state, rig, id)?;
     release(setup, state, rig, id, ids.as_slice())?;
     tell_all(rig, &Note::Gone { fact })?;
@@ -145,7 +167,13 @@ fn created(
 }
 
 /// Posts the notes of a change by which no row leaves.
-pub fn post(setup: &Setup, state: &State, rig: &mut Rig, change: &Change) -> Result<(), OutOfMemory>
+pub fn post(
+    setup: &Setup,
+    state: &State,
+    rig: &mut Rig,
+    change: &Change,
+    near: usize,
+) -> Result<(), OutOfMemory>
     requires stands { IsStanding setup.now state.now (systems_of rig.old ⟦<dyn System as System>⟧) }
     requires fits { Fits setup.now state.now change.now }
     requires stays { IsNoRemoval change.now }
@@ -154,9 +182,9 @@ pub fn post(setup: &Setup, state: &State, rig: &mut Rig, change: &Change) -> Res
     ensures kept { AreKept (systems_of rig.old ⟦<dyn System as System>⟧) (systems_of rig.new ⟦<dyn System as System>⟧) }
 {
     match change {
-        Change::Move { id, at } => moved(setup, state, rig, *id, at),
-        Change::Attack { id, aim } => aimed(setup, state, rig, *id, *aim),
-        Change::Owner { id, owner } => owned(setup, state, rig, *id, *owner),
+        Change::Move { id, at } => moved(setup, state, rig, *id, at, near),
+        Change::Attack { id, aim } => aimed(setup, state, rig, *id, *aim, near),
+        Change::Owner { id, owner } => owned(setup, state, rig, *id, *owner, near),
         Change::Create {
             template,
             at,

@@ -10,19 +10,21 @@ ghost use Rattle.sim_base.specs.Rows.{id_of, row_of, rect_of_row};
 ghost use Rattle.sim_base.specs.Validity.{IsLooselyValid};
 ghost use Rattle.sim_system.specs.Facts.{fact_of as fact_by, vision_of as vision_by, told_of};
 
+use crate::near::place_near;
 use sim_base::{Fixed, OutOfMemory, Point, Rect, Row, Setup, State, rect_of};
-use sim_lookup::{arms_of, find_row, target_of, template_at};
+use sim_lookup::{arms_of, target_of, template_at};
 use sim_system::{Fact, Facts};
 use std::alloc::Global;
 
-/// The row with this id, which is alive.
-pub fn living(state: &State, id: u32) -> &Row
+/// The row with this id, which is alive. Near which place it stands is a hint.
+pub fn living(state: &State, id: u32, near: usize) -> &Row
     requires ids { IsStrictlyIncreasing (map id_of state.now.rows) }
     requires alive { IsSome (row_of state.now id) }
     ensures { row_of state.now id ≡ Some result.now }
 {
-    match find_row(state, id) {
-        Some(row) => row,
+    let rows = state.rows.as_slice();
+    match place_near(rows, id, near) {
+        Some(place) => &rows[place],
         None => unreachable!(),
     }
 }

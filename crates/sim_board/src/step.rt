@@ -11,6 +11,7 @@ ghost use Rattle.sim_board.specs.BoardWords.{AreKept};
 ghost use Rattle.sim_board.specs.ChangeKinds.{NeedsNoMemory, IsNoRemoval};
 
 use crate::change::{make, remove};
+use crate::near::place_for;
 use crate::post::{post, removed};
 use sim_base::{Change, OutOfMemory, Setup, State};
 use sim_system::{Rig, System};
@@ -23,6 +24,7 @@ fn change_row(
     state: &mut State,
     rig: &mut Rig,
     change: Change,
+    near: usize,
 ) -> Result<(), OutOfMemory>
     requires stands { IsStanding setup.now state.old (systems_of rig.old ⟦<dyn System as System>⟧) }
     requires fits { Fits setup.now state.old change }
@@ -32,8 +34,8 @@ fn change_row(
     ensures sure { NeedsNoMemory change → IsOk result }
     ensures kept { AreKept (systems_of rig.old ⟦<dyn System as System>⟧) (systems_of rig.new ⟦<dyn System as System>⟧) }
 {
-    post(setup, state, rig, &change)?;
-    make(alloc, setup, state, change)
+    post(setup, state, rig, &change, near)?;
+    make(alloc, setup, state, change, near)
 }
 
 // A row leaves.
@@ -43,6 +45,7 @@ fn remove_row(
     state: &mut State,
     rig: &mut Rig,
     id: u32,
+    near: usize,
 ) -> Result<(), OutOfMemory>
     requires stands { IsStanding setup.now state.old (systems_of rig.old ⟦<dyn System as System>⟧) }
     requires fits { Fits setup.now state.old (change.Remove id) }
@@ -50,17 +53,19 @@ fn remove_row(
     ensures stands { OnOk result (IsStanding setup.now state.new (systems_of rig.new ⟦<dyn System as System>⟧)) }
     ensures kept { AreKept (systems_of rig.old ⟦<dyn System as System>⟧) (systems_of rig.new ⟦<dyn System as System>⟧) }
 {
-    let watchers = removed(setup, state, rig, id)?;
-    remove(alloc, state, id, watchers.as_slice());
+    let watchers = removed(setup, state, rig, id, near)?;
+    remove(alloc, state, id, watchers.as_slice(), near);
     Ok(())
 }
 
-/// Makes a change that fits, and tells the systems of it.
+/// Makes a change that fits, and tells the systems of it. The row of the change is looked for near the place of the last one,
+/// and its own place is kept for the next.
 pub fn step(
     alloc: Global,
     setup: &Setup,
     state: &mut State,
     rig: &mut Rig,
+    near: &mut usize,
     change: Change,
 ) -> Result<(), OutOfMemory>
     requires stands { IsStanding setup.now state.old (systems_of rig.old ⟦<dyn System as System>⟧) }
@@ -70,8 +75,9 @@ pub fn step(
     ensures sure { NeedsNoMemory change → IsOk result }
     ensures kept { AreKept (systems_of rig.old ⟦<dyn System as System>⟧) (systems_of rig.new ⟦<dyn System as System>⟧) }
 {
+    *near = place_for(state.rows.as_slice(), &change, *near);
     match change {
-        Change::Remove { id } => remove_row(alloc, setup, state, rig, id),
-        change => change_row(alloc, setup, state, rig, change),
+        Change::Remove { id } => remove_row(alloc, setup, state, rig, id, *near),
+        change => change_row(alloc, setup, state, rig, change, *near),
     }
 }
