@@ -25,6 +25,10 @@ use Rattle.sim_system.specs.declared.note.Note.TheVariants.{Born, Gone, Moved, O
 use Rattle.sim_system.specs.Facts.{fact_of, facts_of}
 use Rattle.sim_system.specs.Notes.{noted, NoteFits}
 use Rattle.sim_system.specs.Posts.{hears, posts, posts_on, posts_born}
+use Rattle.sim_laws.proofs.Members.{Has}
+use Rattle.sim_turn_laws.proofs.Rows.{apart, same_row, found_row}
+use Rattle.sim_fact_laws.proofs.FactLists.{facts-unchanged}
+use Rattle.sim_fact_laws.proofs.Parts.{part-aimed_watch}
 use Rattle.sim_fact_laws.proofs.Unheard.{unheard}
 use Rattle.sim_fact_laws.proofs.Changing.{IsTold}
 use Rattle.sim_fact_laws.proofs.Noting.{AreTold, change_told}
@@ -97,7 +101,33 @@ module _ (kind : Kind) (setup : Setup) (state : State) (limits : IsSetup setup) 
           subst (λ (o : Option Template). IsTold kind setup state (with_new number p owner o state) (Born fact)) (sym e)
           (subst (λ (f : Fact). IsTold kind setup state (with_new number p owner (Some t) state) (Born f)) (sym (is t e)) (record { fits = all.fit.0; gives = all.gives }))
 
+  -- a row that takes the target that it had
+  pub same_aim : (id : ℕ) (aim : Aim) (row : Row) → row_of state id ≡ Some row → (from : ℕ) → from ≡ target_of row → from ≡ aim.target → facts_of kind setup (applied setup state (change.Attack id aim)) ≡ facts_of kind setup state
+  same_aim id aim row found from is same = by kind
+    where
+      target : (r : Row) → Has state.rows r → r.id ≡ id → target_of r ≡ aim.target
+      target r h e =
+          let (m, is_id) = found_row state id row found in
+          ap target_of (same_row state.rows r row (apart state.rows valid.ascending) h m (e ∙ sym is_id)) ∙ sym is ∙ same
+
+      by : (k : Kind) → facts_of k setup (applied setup state (change.Attack id aim)) ≡ facts_of k setup state
+      by Ground = facts-unchanged Ground setup id (λ (r : Row). record r { attack = Some aim }) state.rows (λ r h e. refl)
+      by Range = facts-unchanged Range setup id (λ (r : Row). record r { attack = Some aim }) state.rows (λ r h e. refl)
+      by Watch =
+          facts-unchanged Watch setup id (λ (r : Row). record r { attack = Some aim }) state.rows
+          (λ r h e. part-aimed_watch setup r.id aim.target (record r { attack = Some aim }) refl refl ∙ sym (part-aimed_watch setup r.id aim.target r refl (target r h e)))
+      by Census = facts-unchanged Census setup id (λ (r : Row). record r { attack = Some aim }) state.rows (λ r h e. refl)
+
 -- ---- all four
+
+-- where no facts change, nobody need be told
+pub all_fed_same : (setup : Setup) (state after : State) (s : Systems) → AreFed setup state s → ((kind : Kind) → facts_of kind setup after ≡ facts_of kind setup state) → AreFed setup after s
+all_fed_same setup state after s fed same = record {
+  ground = fed_same Ground setup state after s.ground fed.ground (same Ground);
+  range = fed_same Range setup state after s.range fed.range (same Range);
+  watch = fed_same Watch setup state after s.watch fed.watch (same Watch);
+  census = fed_same Census setup state after s.census fed.census (same Census);
+}
 
 pub all_may_hear : (setup : Setup) (state after : State) (s : Systems) (note : Note) → AreFed setup state s → ((kind : Kind) → IsTold kind setup state after note) → AllMayHear s note
 all_may_hear setup state after s note fed each = record {

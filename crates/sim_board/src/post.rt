@@ -40,7 +40,7 @@ fn moved(
     Ok(())
 }
 
-// A row takes a target: Watch is told.
+// A row takes a target: Watch is told, unless it is the target that the row had.
 fn aimed(
     setup: &Setup,
     state: &State,
@@ -55,9 +55,13 @@ fn aimed(
     ensures kept { AreKept (systems_of rig.old ⟦<dyn System as System>⟧) (systems_of rig.new ⟦<dyn System as System>⟧) }
 {
     let row = living(state, id, near);
+    let from = target_of(row);
+    if from == aim.target {
+        return Ok(());
+    }
     let note = Note::Aimed {
         id,
-        from: target_of(row),
+        from,
         to: aim.target,
     };
     boxed::tell(&mut rig.watch, &note)?;

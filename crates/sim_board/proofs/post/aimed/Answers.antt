@@ -1,20 +1,25 @@
--- Watch is told, and the others need not be.
+-- Watch is told of a new target, and the others need not be; of the old one nobody.
 use Rattle.std.proofs.Common.{refl}
 use Rattle.sim_system.specs.declared.kind.Kind.{Kind}
 use Rattle.sim_system.specs.declared.kind.Kind.TheVariants.{Ground, Range, Watch, Census}
 use Rattle.sim_system.specs.declared.note.Note.TheVariants.{Aimed}
-use Rattle.sim_board.proofs.Feeding.{may_hear, fed_told, fed_unheard, aim_is_told}
+use Rattle.sim_board.proofs.Feeding.{may_hear, fed_told, fed_unheard, aim_is_told, same_aim, all_fed_same}
 use Rattle.sim_board.proofs.post.aimed.Goals as goal
 
 pub tell-requires : goal.tell-requires
-tell-requires g c = may_hear Watch _ _ _ _ c.requires.stands.fed.watch (aim_is_told Watch _ _ c.requires.stands.limits c.requires.stands.valid c.args.id c.args.aim c.living-row.result.now c.living-row.ensures c.requires.fits c.target_of.result c.target_of.ensures).fits
+tell-requires g c = may_hear Watch _ _ _ _ c.requires.stands.fed.watch (aim_is_told Watch _ _ c.requires.stands.limits c.requires.stands.valid c.args.id c.args.aim c.living-row.result.now c.living-row.ensures c.requires.fits c.target_of-from.result c.target_of-from.ensures).fits
 
 pub returns-clause-fed : goal.returns-clause-fed
 returns-clause-fed g c =
-    let each = λ (kind : Kind). aim_is_told kind c.args.setup.now c.args.state.now c.requires.stands.limits c.requires.stands.valid c.args.id c.args.aim c.living-row.result.now c.living-row.ensures c.requires.fits c.target_of.result c.target_of.ensures in
+    let each = λ (kind : Kind). aim_is_told kind c.args.setup.now c.args.state.now c.requires.stands.limits c.requires.stands.valid c.args.id c.args.aim c.living-row.result.now c.living-row.ensures c.requires.fits c.target_of-from.result c.target_of-from.ensures in
     record {
-      ground = fed_unheard Ground _ _ _ _ (Aimed c.args.id c.target_of.result c.args.aim.target) c.requires.stands.fed.ground (each Ground) refl;
-      range = fed_unheard Range _ _ _ _ (Aimed c.args.id c.target_of.result c.args.aim.target) c.requires.stands.fed.range (each Range) refl;
-      watch = fed_told Watch _ _ _ _ _ (Aimed c.args.id c.target_of.result c.args.aim.target) c.requires.stands.fed.watch c.in_ok-tell.ensures.ok (each Watch).gives;
-      census = fed_unheard Census _ _ _ _ (Aimed c.args.id c.target_of.result c.args.aim.target) c.requires.stands.fed.census (each Census) refl;
+      ground = fed_unheard Ground _ _ _ _ (Aimed c.args.id c.target_of-from.result c.args.aim.target) c.requires.stands.fed.ground (each Ground) refl;
+      range = fed_unheard Range _ _ _ _ (Aimed c.args.id c.target_of-from.result c.args.aim.target) c.requires.stands.fed.range (each Range) refl;
+      watch = fed_told Watch _ _ _ _ _ (Aimed c.args.id c.target_of-from.result c.args.aim.target) c.requires.stands.fed.watch c.in_ok-tell.ensures.ok (each Watch).gives;
+      census = fed_unheard Census _ _ _ _ (Aimed c.args.id c.target_of-from.result c.args.aim.target) c.requires.stands.fed.census (each Census) refl;
     }
+
+pub returns-then-from-aim-clause-fed : goal.returns-then-from-aim-clause-fed
+returns-then-from-aim-clause-fed g c =
+    all_fed_same _ _ _ _ c.requires.stands.fed
+    (λ kind. same_aim kind c.args.setup.now c.args.state.now c.requires.stands.limits c.requires.stands.valid c.args.id c.args.aim c.living-row.result.now c.living-row.ensures c.target_of-from.result c.target_of-from.ensures c.if-from-aim.true)
