@@ -1,19 +1,19 @@
 -- The groups that are kept are those of the facts, also after a note.
 use Rattle.std.proofs.Common.{◌≡◌, ℕ, zero, suc, ◌+◌, ◌<◌, ◌≤◌, Bool, true, false, cond, not, List, [], ◌∷◌, length, map, get_or, take, Option, Some, None, refl, sym, ap, ◌∙◌, subst, arith}
-use Rattle.std.specs.Prelude.{◌==◌, nat_lt, filter, IfSome, MatchOption}
+use Rattle.std.specs.Prelude.{◌==◌, nat_lt, filter}
 use Rattle.std.proofs.lemmas.Bool.{eqb-true}
-use Rattle.sim_base.specs.declared.setup.Land.{Land}
 use Rattle.sim_system.specs.declared.fact.Fact.{Fact}
 use Rattle.sim_system.specs.declared.kind.Kind.{Kind}
-use Rattle.sim_system.specs.declared.note.Note.{Note}
-use Rattle.sim_system.specs.Facts.{id_of_fact}
-use Rattle.sim_system.specs.Notes.{fact_with, without, placed, with_kept, noted, NoteFits}
-use Rattle.sim_fact_lists.specs.Places.{Ascend, HoldsIfAny, with_only}
-use Rattle.sim_fact_lists.specs.Changes.{id_in, part_noted}
-use Rattle.sim_fact_lists.specs.Groups.{listed, without_id, with_id, left_by, joined_by, keyed, AreGroups}
+use Rattle.sim_system.specs.Facts.{id_of_fact, kept, kept_of}
+use Rattle.std.specs.List.{cons_option}
+use Rattle.sim_fact_lists.proofs.OneFact.{kept_id}
+use Rattle.sim_system.specs.Notes.{fact_with, without, placed, with_kept}
+use Rattle.sim_fact_lists.specs.Places.{Ascend, with_only}
+use Rattle.sim_fact_lists.specs.declared.group.Group.{Group}
+use Rattle.sim_fact_lists.specs.Ids.{without_id, with_id}
+use Rattle.sim_fact_lists.specs.Groups.{listed, left_by, joined_by, keyed, AreGroups}
 use Rattle.sim_fact_lists.proofs.Rising.{Above as FactsAbove, Rising as FactsRising, Missing, rising as facts_rising, above_less, above_at, missing_above, missing_without, not_found, without_missing, found_id, rising_without}
-use Rattle.sim_fact_lists.proofs.Holding.{put_is, put_named}
-use Rattle.sim_fact_lists.proofs.Pairs.{Above, with_first, with_behind}
+use Rattle.sim_fact_lists.proofs.Ids.{Above, with_first, with_behind}
 
 -- by any key
 module _ (key : Fact → ℕ) where
@@ -112,53 +112,48 @@ module _ (key : Fact → ℕ) where
   joined_is t id None facts named r m = refl
   joined_is t id (Some f) facts named r m = sym (keyed_placed t f facts r (subst (λ (n : ℕ). Missing n facts) (sym (named f refl)) m))
 
-  -- ---- a note
+  -- ---- what is kept of one entity changes
 
-  relisted : (id : ℕ) (before part : Option Fact) (facts after : List Fact) (old_keys old_ids mid_keys mid_ids new_keys new_ids : List ℕ) → FactsRising facts → AreGroups key facts old_keys old_ids →
+  pub relisted : (id : ℕ) (before part : Option Fact) (facts after : List Fact) (old mid new : List Group) → FactsRising facts → AreGroups key facts old →
       before ≡ fact_with facts id → ((f : Fact) → part ≡ Some f → f.id ≡ id) → with_only id part facts ≡ after →
-      ((t : ℕ) → listed t mid_keys mid_ids ≡ left_by key before t (listed t old_keys old_ids)) →
-      ((t : ℕ) → listed t new_keys new_ids ≡ joined_by key part t (listed t mid_keys mid_ids)) → AreGroups key after new_keys new_ids
-  relisted id before part facts after old_keys old_ids mid_keys mid_ids new_keys new_ids r are found named is left joined t =
+      ((t : ℕ) → listed t mid ≡ left_by key before t (listed t old)) → ((t : ℕ) → listed t new ≡ joined_by key part t (listed t mid)) → AreGroups key after new
+  relisted id before part facts after old mid new r are found named is left joined t =
       joined t ∙ ap (joined_by key part t) (left t ∙ ap (left_by key before t) (are t) ∙ ap (λ (o : Option Fact). left_by key o t (keyed key t facts)) found ∙ left_is t id facts r)
       ∙ joined_is t id part (without id facts) named (rising_without id facts r) (without_missing id facts) ∙ ap (keyed key t) is
 
-  named_by : (o : Option Fact) (id : ℕ) → IfSome o (λ (f : Fact). f.id ≡ id) → (f : Fact) → o ≡ Some f → f.id ≡ id
-  named_by None id h f e = absurd (cc)
-  named_by (Some g) id h f e = let same : g ≡ f = cc in subst (λ (k : Fact). k.id ≡ id) same h
-
-  pub noted_groups : (kind : Kind) (land : Option Land) (note : Note) (id : ℕ) (before part : Option Fact) (facts after : List Fact) (old_keys old_ids mid_keys mid_ids new_keys new_ids : List ℕ) → MatchOption land ⊥ (λ (l : Land). NoteFits kind l facts note) → HoldsIfAny land facts →
-      AreGroups key facts old_keys old_ids → id ≡ id_in note → before ≡ fact_with facts id → part ≡ part_noted kind before note → after ≡ noted kind facts note →
-      ((t : ℕ) → listed t mid_keys mid_ids ≡ left_by key before t (listed t old_keys old_ids)) →
-      ((t : ℕ) → listed t new_keys new_ids ≡ joined_by key part t (listed t mid_keys mid_ids)) → AreGroups key after new_keys new_ids
-  noted_groups kind None note id before part facts after a b c d e f fits h are is found made new left joined = absurd fits
-  noted_groups kind (Some l) note id before part facts after old_keys old_ids mid_keys mid_ids new_keys new_ids fits h are is found made new left joined =
-      relisted id before part facts after old_keys old_ids mid_keys mid_ids new_keys new_ids (facts_rising facts (h l refl).held.ascending) are found
-      (named_by part id (put_named kind facts note id before part is found made)) (put_is kind (Some l) facts note id before part fits h is found made ∙ sym new) left joined
-
-  pub same_groups : (facts : List Fact) (keys ids new_keys new_ids : List ℕ) → AreGroups key facts keys ids → new_keys ≡ keys → new_ids ≡ ids → AreGroups key facts new_keys new_ids
-  same_groups facts keys ids new_keys new_ids are one two t = ap (λ (xs : List ℕ). listed t xs new_ids) one ∙ ap (listed t keys) two ∙ are t
-
   -- ---- several entities, one after another
 
-  next_joined : (t : ℕ) (facts : List Fact) (k : ℕ) (d : Fact) → FactsRising facts → k < length facts → joined_by key (Some (get_or facts k d)) t (keyed key t (take k facts)) ≡ keyed key t (take (suc k) facts)
-  next_joined t [] k d r lt = absurd (omega arith)
-  next_joined t (g ∷ facts) zero d r lt = sym (keyed-cons t g [])
-  next_joined t (g ∷ facts) (suc k) d r lt =
-      ap (joined_by key (Some f) t) (keyed-cons t g (take k facts)) ∙ by (key g == t) (key f == t) (next_joined t facts k d r.1 (omega arith)) ∙ sym (keyed-cons t g (take (suc k) facts))
+  next_joined : (kind : Kind) (t : ℕ) (facts : List Fact) (k : ℕ) (d : Fact) → FactsRising facts → k < length facts →
+      joined_by key (kept kind (get_or facts k d)) t (keyed key t (kept_of kind (take k facts))) ≡ keyed key t (kept_of kind (take (suc k) facts))
+  next_joined kind t [] k d r lt = absurd (omega arith)
+  next_joined kind t (g ∷ facts) zero d r lt = first (kept kind g)
     where
-      f : Fact
-      f = get_or facts k d
+      first : (o : Option Fact) → joined_by key o t [] ≡ keyed key t (cons_option o [])
+      first None = refl
+      first (Some h) = sym (keyed-cons t h [])
+  next_joined kind t (g ∷ facts) (suc k) d r lt = by (kept kind g) (kept kind (get_or facts k d)) (kept_id kind g) (kept_id kind (get_or facts k d)) (next_joined kind t facts k d r.1 (omega arith))
+    where
+      later : g.id < (get_or facts k d).id
+      later = above_at g.id facts k d r.0 (omega arith)
 
-      by : (b c : Bool) → cond c (with_id f.id (keyed key t (take k facts))) (keyed key t (take k facts)) ≡ keyed key t (take (suc k) facts) →
-          cond c (with_id f.id (cond b (g.id ∷ keyed key t (take k facts)) (keyed key t (take k facts)))) (cond b (g.id ∷ keyed key t (take k facts)) (keyed key t (take k facts))) ≡ cond b (g.id ∷ keyed key t (take (suc k) facts)) (keyed key t (take (suc k) facts))
-      by true true e = with_behind f.id g.id (keyed key t (take k facts)) (above_at g.id facts k d r.0 (omega arith)) ∙ ap (λ (xs : List ℕ). g.id ∷ xs) e
-      by true false e = ap (λ (xs : List ℕ). g.id ∷ xs) e
-      by false true e = e
-      by false false e = e
+      on : (h f : Fact) → h.id < f.id → (b c : Bool) → cond c (with_id f.id (keyed key t (kept_of kind (take k facts)))) (keyed key t (kept_of kind (take k facts))) ≡ keyed key t (kept_of kind (take (suc k) facts)) →
+          cond c (with_id f.id (cond b (h.id ∷ keyed key t (kept_of kind (take k facts))) (keyed key t (kept_of kind (take k facts))))) (cond b (h.id ∷ keyed key t (kept_of kind (take k facts))) (keyed key t (kept_of kind (take k facts)))) ≡ cond b (h.id ∷ keyed key t (kept_of kind (take (suc k) facts))) (keyed key t (kept_of kind (take (suc k) facts)))
+      on h f less true true e = with_behind f.id h.id (keyed key t (kept_of kind (take k facts))) less ∙ ap (λ (zs : List ℕ). h.id ∷ zs) e
+      on h f less true false e = ap (λ (zs : List ℕ). h.id ∷ zs) e
+      on h f less false true e = e
+      on h f less false false e = e
 
-  pub one_more_grouped : (facts : List Fact) (k : ℕ) (f : Fact) (keys ids mid_keys mid_ids new_keys new_ids : List ℕ) → Ascend facts → AreGroups key (take k facts) keys ids → k < length facts → f ≡ get_or facts k f →
-      mid_keys ≡ keys → mid_ids ≡ ids → ((t : ℕ) → listed t new_keys new_ids ≡ joined_by key (Some f) t (listed t mid_keys mid_ids)) → AreGroups key (take (k + 1) facts) new_keys new_ids
-  one_more_grouped facts k f keys ids mid_keys mid_ids new_keys new_ids up are lt is same_keys same_ids joined t =
+      by : (o p : Option Fact) → ((h : Fact) → o ≡ Some h → h.id ≡ g.id) → ((f : Fact) → p ≡ Some f → f.id ≡ (get_or facts k d).id) →
+          joined_by key p t (keyed key t (kept_of kind (take k facts))) ≡ keyed key t (kept_of kind (take (suc k) facts)) →
+          joined_by key p t (keyed key t (cons_option o (kept_of kind (take k facts)))) ≡ keyed key t (cons_option o (kept_of kind (take (suc k) facts)))
+      by None p one other e = e
+      by (Some h) None one other e = keyed-cons t h (kept_of kind (take k facts)) ∙ ap (λ (zs : List ℕ). cond (key h == t) (h.id ∷ zs) zs) e ∙ sym (keyed-cons t h (kept_of kind (take (suc k) facts)))
+      by (Some h) (Some f) one other e =
+          ap (joined_by key (Some f) t) (keyed-cons t h (kept_of kind (take k facts))) ∙ on h f (omega (arith, one h refl, other f refl, later)) (key h == t) (key f == t) e ∙ sym (keyed-cons t h (kept_of kind (take (suc k) facts)))
+
+  pub one_more_grouped : (kind : Kind) (facts : List Fact) (k : ℕ) (f : Fact) (old new : List Group) → Ascend facts → AreGroups key (kept_of kind (take k facts)) old → k < length facts → f ≡ get_or facts k f →
+      ((t : ℕ) → listed t new ≡ joined_by key (kept kind f) t (listed t old)) → AreGroups key (kept_of kind (take (k + 1) facts)) new
+  one_more_grouped kind facts k f old new up are lt is joined t =
       let next : suc k ≡ k + 1 = omega arith in
-      joined t ∙ ap (λ (xs : List ℕ). joined_by key (Some f) t (listed t xs mid_ids)) same_keys ∙ ap (λ (xs : List ℕ). joined_by key (Some f) t (listed t keys xs)) same_ids ∙ ap (joined_by key (Some f) t) (are t)
-      ∙ ap (λ (g : Fact). joined_by key (Some g) t (keyed key t (take k facts))) is ∙ next_joined t facts k f (facts_rising facts up) lt ∙ ap (λ (n : ℕ). keyed key t (take n facts)) next
+      joined t ∙ ap (joined_by key (kept kind f) t) (are t)
+      ∙ ap (λ (g : Fact). joined_by key (kept kind g) t (keyed key t (kept_of kind (take k facts)))) is ∙ next_joined kind t facts k f (facts_rising facts up) lt ∙ ap (λ (n : ℕ). keyed key t (kept_of kind (take n facts))) next

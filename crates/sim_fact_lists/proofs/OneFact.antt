@@ -71,12 +71,12 @@ put_in id (Some f) facts named m r =
       same = subst (λ (n : ℕ). without n (placed f facts) ≡ without n facts) same (without_placed f facts);
     }
 
-replaced : (id : ℕ) (o : Option Fact) (facts : List Fact) → ((f : Fact) → o ≡ Some f → f.id ≡ id) → Rising facts → OnlyAt id facts (with_only id o facts)
+pub replaced : (id : ℕ) (o : Option Fact) (facts : List Fact) → ((f : Fact) → o ≡ Some f → f.id ≡ id) → Rising facts → OnlyAt id facts (with_only id o facts)
 replaced id o facts named r =
     let h = put_in id o (without id facts) named (without_missing id facts) (rising_without id facts r) in
     record { before = r; later = h.later; same = h.same ∙ without_twice id facts }
 
-kept_id : (kind : Kind) (fact f : Fact) → kept kind fact ≡ Some f → f.id ≡ fact.id
+pub kept_id : (kind : Kind) (fact f : Fact) → kept kind fact ≡ Some f → f.id ≡ fact.id
 kept_id kind fact f e = by (keeps kind fact) e ∙ part_id kind
   where
     by : (b : Bool) → cond b (Some (part_for kind fact)) None ≡ Some f → f.id ≡ (part_for kind fact).id
@@ -90,7 +90,7 @@ kept_id kind fact f e = by (keeps kind fact) e ∙ part_id kind
     part_id Census = refl
 
 -- what a kind keeps of facts that rise
-above_kept : (kind : Kind) (n : ℕ) (facts : List Fact) → Above n facts → Above n (kept_of kind facts)
+pub above_kept : (kind : Kind) (n : ℕ) (facts : List Fact) → Above n facts → Above n (kept_of kind facts)
 above_kept kind n [] a = tt
 above_kept kind n (fact ∷ facts) a = by (kept kind fact) (kept_id kind fact) (above_kept kind n facts a.1)
   where
@@ -132,7 +132,7 @@ found_placed f (g ∷ facts) m = by (nat_lt f.id g.id) (found_placed f facts m.1
     by true rest = let itself : (f.id == f.id) ≡ true = eq-eqb f.id f.id refl in rw itself refl
     by false rest = let other : (g.id == f.id) ≡ false = ne_eqb g.id f.id m.0 in rw other rest
 
-found_put : (id : ℕ) (o : Option Fact) (facts : List Fact) → ((f : Fact) → o ≡ Some f → f.id ≡ id) → Missing id facts → fact_with (with_kept o facts) id ≡ o
+pub found_put : (id : ℕ) (o : Option Fact) (facts : List Fact) → ((f : Fact) → o ≡ Some f → f.id ≡ id) → Missing id facts → fact_with (with_kept o facts) id ≡ o
 found_put id None facts named m = missing_found id facts m
 found_put id (Some f) facts named m =
     let same : f.id ≡ id = named f refl in

@@ -14,7 +14,7 @@ use Rattle.sim_fact_lists.proofs.Rising.{Above, Rising, Missing, above_at, missi
 
 -- ---- what a search by halves answers
 
-rises : (facts : List Fact) (i j : ℕ) (d : Fact) → Rising facts → i < j → j < length facts → (get_or facts i d).id < (get_or facts j d).id
+pub rises : (facts : List Fact) (i j : ℕ) (d : Fact) → Rising facts → i < j → j < length facts → (get_or facts i d).id < (get_or facts j d).id
 rises [] i j d r before lt = absurd (omega arith)
 rises (f ∷ facts) i zero d r before lt = absurd (omega arith)
 rises (f ∷ facts) zero (suc j) d r before lt = above_at f.id facts j d r.0 (omega arith)

@@ -1,52 +1,45 @@
--- Ids in groups by key: pairs of a key and an id, in two lists.
-use Rattle.std.specs.Prelude.{◌≡◌, ℕ, ◌<◌, ◌≤◌, not, nat_lt, ◌==◌, List, [], ◌∷◌, length, map, filter, slice_index, Option, Some, None, if◌then◌else◌}
+-- Ids in groups by key: a list of groups, ascending by key.
+use Rattle.std.specs.Prelude.{◌≡◌, ℕ, ◌<◌, ◌≤◌, ◌==◌, List, [], length, map, filter, find, slice_index_or, Option, Some, None, MatchOption, vec_len, vec_capacity, if◌then◌else◌}
+use Rattle.std.specs.List.Sorted.{IsStrictlyIncreasing}
 use Rattle.sim_system.specs.declared.fact.Fact.{Fact}
 use Rattle.sim_system.specs.Facts.{id_of_fact}
+use Rattle.sim_fact_lists.specs.declared.group.Group.{Group}
+use Rattle.sim_fact_lists.specs.Ids.{without_id, with_id}
 
--- the ids of the pairs with this key
-abbrev pub listed : ℕ → List ℕ → List ℕ → List ℕ
-listed t [] ids = []
-listed t (u ∷ us) [] = []
-listed t (u ∷ us) (i ∷ is) = if u == t then i ∷ listed t us is else listed t us is
+abbrev pub key_of : Group → ℕ
+key_of group = group.key
 
--- a pair comes before another: its key is lower, or the same and its id is lower
-pub record IsBefore (t i u j : ℕ) : Type 0 where
-  pub lower : t ≤ u
-  pub along : t ≡ u → i < j
+-- the keys ascend
+abbrev pub KeysAscend : List Group → Type 0
+KeysAscend groups = IsStrictlyIncreasing (map key_of groups)
 
--- the pairs ascend
-pub record PairsAscend (keys ids : List ℕ) : Type 0 where
-  pub same : length ids ≡ length keys
-  pub each : (k l : ℕ) → k < l → l < length keys → IsBefore (slice_index keys k) (slice_index ids k) (slice_index keys l) (slice_index ids l)
+-- the group of a key, if it has one
+abbrev pub group_with : ℕ → List Group → Option Group
+group_with key groups = find (λ (group : Group). group.key == key) groups
 
--- from the first place to before the end stands the key, before them lower ones and behind them higher ones
-pub record IsStretch (keys : List ℕ) (t first end : ℕ) : Type 0 where
-  pub order : first ≤ end
-  pub within : end ≤ length keys
-  pub before : (k : ℕ) → k < first → slice_index keys k < t
-  pub among : (k : ℕ) → first ≤ k → k < end → slice_index keys k ≡ t
-  pub behind : (k : ℕ) → end ≤ k → k < length keys → t < slice_index keys k
+-- the ids of a group; where there is none, there are none
+abbrev pub ids_in : Option Group → List ℕ
+ids_in None = []
+ids_in (Some group) = group.ids.items
 
--- the pair stands there
-pub record PairStands (keys ids : List ℕ) (t i place : ℕ) : Type 0 where
-  pub within : place < length keys
-  pub key : slice_index keys place ≡ t
-  pub id : slice_index ids place ≡ i
+-- the ids of a key
+abbrev pub listed : ℕ → List Group → List ℕ
+listed key groups = ids_in (group_with key groups)
 
--- the pair does not stand there and belongs there: those before come before it, and it before all others
-pub record PairBelongs (keys ids : List ℕ) (t i place : ℕ) : Type 0 where
-  pub within : place ≤ length keys
-  pub before : (k : ℕ) → k < place → IsBefore (slice_index keys k) (slice_index ids k) t i
-  pub behind : (k : ℕ) → place ≤ k → k < length keys → IsBefore t i (slice_index keys k) (slice_index ids k)
+-- the key has a group, with room for one id more
+abbrev pub HasRoom : ℕ → List Group → Type 0
+HasRoom key groups = MatchOption (group_with key groups) ⊥ (λ (group : Group). vec_len group.ids < vec_capacity group.ids)
 
--- ids without one
-abbrev pub without_id : ℕ → List ℕ → List ℕ
-without_id id ids = filter (λ n. not (n == id)) ids
+-- the group of this key stands there
+pub record GroupStands (groups : List Group) (key place : ℕ) : Type 0 where
+  pub within : place < length groups
+  pub same : (d : Group) → (slice_index_or groups place d).key ≡ key
 
--- ids with one more, in its place; one that is there is not put in again
-abbrev pub with_id : ℕ → List ℕ → List ℕ
-with_id id [] = id ∷ []
-with_id id (n ∷ ids) = if nat_lt id n then id ∷ n ∷ ids else if nat_lt n id then n ∷ with_id id ids else n ∷ ids
+-- no group has this key, and one that has it belongs there: the keys before are below it, and all others above
+pub record GroupBelongs (groups : List Group) (key place : ℕ) : Type 0 where
+  pub within : place ≤ length groups
+  pub before : (k : ℕ) (d : Group) → k < place → (slice_index_or groups k d).key < key
+  pub behind : (k : ℕ) (d : Group) → place ≤ k → k < length groups → key < (slice_index_or groups k d).key
 
 -- the ids of a key when what is kept of an entity leaves its group, if anything
 abbrev pub left_by : (Fact → ℕ) → Option Fact → ℕ → List ℕ → List ℕ
@@ -63,5 +56,5 @@ abbrev pub keyed : (Fact → ℕ) → ℕ → List Fact → List ℕ
 keyed key k facts = map id_of_fact (filter (λ (fact : Fact). key fact == k) facts)
 
 -- the groups are those of the facts
-abbrev pub AreGroups : (Fact → ℕ) → List Fact → List ℕ → List ℕ → Type 0
-AreGroups key facts keys ids = (k : ℕ) → listed k keys ids ≡ keyed key k facts
+abbrev pub AreGroups : (Fact → ℕ) → List Fact → List Group → Type 0
+AreGroups key facts groups = (k : ℕ) → listed k groups ≡ keyed key k facts

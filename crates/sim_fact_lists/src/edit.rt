@@ -7,15 +7,16 @@ ghost use Rattle.sim_fact_lists.specs.Places.{Ascend, Stands, Belongs, with_only
 use sim_base::OutOfMemory;
 use sim_system::Fact;
 
-/// Where the fact of an id stands, or where it would be put.
-pub fn place_of(facts: &[Fact], id: u32) -> Result<usize, usize>
+// Where the fact of an id stands, or where it would be put, by halves.
+fn place_of(facts: &[Fact], id: u32) -> Result<usize, usize>
     requires { Ascend facts.now }
     ensures { MatchResult result (Stands facts.now id) (Belongs facts.now id) }
 {
     facts.binary_search_by_key(&id, |fact| fact.id)
 }
 
-/// The same, looked for first at a place and just after it: notes of one phase ascend by id. Any place is right.
+/// Where the fact of an id stands, or where it would be put, looked for first at a place and just after it: notes of one phase
+/// ascend by id. Any place is right.
 pub fn place_near(facts: &[Fact], id: u32, near: usize) -> Result<usize, usize>
     requires { Ascend facts.now }
     ensures { MatchResult result (Stands facts.now id) (Belongs facts.now id) }

@@ -1,95 +1,122 @@
-//! Ids in groups by a key, as pairs of a key and an id in two lists. The ids of one key stand together, ascending, so that
-//! they can be lent, and one that comes or goes takes no more than a step along the lists. A system keeps such groups beside
-//! its facts.
+//! Ids in groups by a key. The ids of one key stand in a list of their own, ascending, so that they can be lent, and one that
+//! comes or goes moves no id of another key. A key is found where the last one was or by halves; one that has lost its last id
+//! keeps its list for the next. A system keeps such groups beside its facts.
 
-ghost use Rattle.std.specs.Prelude.{◌≡◌, ◌==◌, ◌<◌, ℕ, [], OnOk, MatchResult, vec_len, vec_capacity, if◌then◌else◌};
-ghost use Rattle.sim_fact_lists.specs.Groups.{PairsAscend, IsStretch, PairStands, PairBelongs, listed, with_id, without_id};
+ghost use Rattle.std.specs.Prelude.{◌≡◌, ◌==◌, ℕ, [], IsTrue, OnOk, MatchResult, if◌then◌else◌};
+ghost use Rattle.sim_fact_lists.specs.Ids.{with_id, without_id};
+ghost use Rattle.sim_fact_lists.specs.Groups.{KeysAscend, GroupStands, GroupBelongs, HasRoom, listed};
 
+use crate::group::Group;
 use sim_base::OutOfMemory;
 use std::alloc::Global;
+use std::cell::Cell;
 
-/// Pairs of a key and an id, ascending by key and then by id.
+/// Groups of ids, ascending by key. The place of the last key that was looked for is a hint for the next.
 #[derive(Drop)]
 pub struct Groups {
-    pub keys: Vec<u32>,
-    pub ids: Vec<u32>,
-    ghost ascend: { PairsAscend keys.items ids.items },
+    pub groups: Vec<Group>,
+    near: Cell<usize>,
+    ghost ascend: { KeysAscend groups.items },
 }
 
 impl Groups {
     /// No group has an id. It keeps the allocator, and takes no memory yet.
     pub fn new(alloc: Global) -> Groups
-        ensures keys { result.keys.items ≡ [] }
-        ensures ids { result.ids.items ≡ [] }
+        ensures { result.groups.items ≡ [] }
     {
         Groups {
-            keys: Vec::new(alloc),
-            ids: Vec::new(alloc),
+            groups: Vec::new(alloc),
+            near: Cell::new(0),
         }
     }
 
-    // From where on the ids of a key stand, and where they end.
-    fn stretch(&self, key: u32) -> (usize, usize)
-        ensures { IsStretch self.now.keys.items key result.0 result.1 }
+    // Where the group of a key stands, or where it would be put.
+    fn place_of(&self, key: u32) -> Result<usize, usize>
+        ensures { MatchResult result (GroupStands self.now.groups.items key) (GroupBelongs self.now.groups.items key) }
     {
-        let keys = self.keys.as_slice();
-        let first = keys.partition_point(|k| *k < key);
-        let end = keys.partition_point(|k| *k <= key);
-        (first, end)
+        let near = self.near.get();
+        if self.stands_at(key, near) {
+            return Ok(near);
+        }
+        let place = place_by_halves(self.groups.as_slice(), key);
+        if let Ok(at) = place {
+            self.near.set(at);
+        }
+        place
+    }
+
+    // Whether the group of a key stands at a place.
+    fn stands_at(&self, key: u32, at: usize) -> bool
+        ensures { IsTrue result → GroupStands self.now.groups.items key at }
+    {
+        match self.groups.as_slice().get(at) {
+            Some(group) => group.key == key,
+            None => false,
+        }
     }
 
     /// The ids of a key.
     pub fn at(&self, key: u32) -> &[u32]
-        ensures { result.now ≡ listed key self.now.keys.items self.now.ids.items }
+        ensures { result.now ≡ listed key self.now.groups.items }
     {
-        let (first, end) = self.stretch(key);
-        &self.ids.as_slice()[first..end]
-    }
-
-    // Where a pair stands, or where it would be put.
-    fn place_of(&self, key: u32, id: u32) -> Result<usize, usize>
-        ensures { MatchResult result (PairStands self.now.keys.items self.now.ids.items key id) (PairBelongs self.now.keys.items self.now.ids.items key id) }
-    {
-        let (first, end) = self.stretch(key);
-        match self.ids.as_slice()[first..end].binary_search(&id) {
-            Ok(at) => Ok(first + at),
-            Err(at) => Err(first + at),
+        match self.place_of(key) {
+            Ok(at) => self.groups[at].ids.as_slice(),
+            Err(_) => &[],
         }
     }
 
-    /// Makes room for one more.
-    pub fn make_room(&mut self) -> Result<(), OutOfMemory>
-        ensures keys { self.new.keys.items ≡ self.old.keys.items }
-        ensures ids { self.new.ids.items ≡ self.old.ids.items }
-        ensures keys_room { OnOk result (vec_len self.new.keys < vec_capacity self.new.keys) }
-        ensures ids_room { OnOk result (vec_len self.new.ids < vec_capacity self.new.ids) }
+    /// Makes room for one more in the group of a key.
+    pub fn make_room(&mut self, alloc: Global, key: u32) -> Result<(), OutOfMemory>
+        ensures same { (k : ℕ) → listed k self.new.groups.items ≡ listed k self.old.groups.items }
+        ensures room { OnOk result (HasRoom key self.new.groups.items) }
     {
-        self.keys.reserve(1)?;
-        self.ids.reserve(1)?;
-        Ok(())
+        match self.place_of(key) {
+            Ok(at) => self.groups[at].make_room(),
+            Err(at) => {
+                let mut group = Group::new(alloc, key);
+                group.make_room()?;
+                self.groups.insert(at, group)?;
+                Ok(())
+            }
+        }
     }
 
     /// Takes an id out of the group of a key, if it is there.
     pub fn leave(&mut self, key: u32, id: u32)
-        ensures left { (k : ℕ) → listed k self.new.keys.items self.new.ids.items ≡ (if key == k then without_id id (listed k self.old.keys.items self.old.ids.items) else listed k self.old.keys.items self.old.ids.items) }
-        ensures keys_room { vec_len self.old.keys < vec_capacity self.old.keys → vec_len self.new.keys < vec_capacity self.new.keys }
-        ensures ids_room { vec_len self.old.ids < vec_capacity self.old.ids → vec_len self.new.ids < vec_capacity self.new.ids }
+        ensures left { (k : ℕ) → listed k self.new.groups.items ≡ (if key == k then without_id id (listed k self.old.groups.items) else listed k self.old.groups.items) }
+        ensures room { (k : ℕ) → HasRoom k self.old.groups.items → HasRoom k self.new.groups.items }
     {
-        if let Ok(at) = self.place_of(key, id) {
-            self.keys.remove(at);
-            self.ids.remove(at);
+        if let Ok(at) = self.place_of(key) {
+            self.groups[at].leave(id);
+        }
+    }
+
+    /// Forgets a key that no id has any more. So keys that come and go for ever take no more memory than there are at once.
+    pub fn forget(&mut self, key: u32)
+        ensures { (k : ℕ) → listed k self.new.groups.items ≡ listed k self.old.groups.items }
+    {
+        if let Ok(at) = self.place_of(key) {
+            if self.groups[at].ids.as_slice().is_empty() {
+                self.groups.remove(at);
+            }
         }
     }
 
     /// Puts an id into the group of a key, unless it is there. The room was made before.
     pub fn join(&mut self, key: u32, id: u32)
-        requires keys_room { vec_len self.old.keys < vec_capacity self.old.keys }
-        requires ids_room { vec_len self.old.ids < vec_capacity self.old.ids }
-        ensures { (k : ℕ) → listed k self.new.keys.items self.new.ids.items ≡ (if key == k then with_id id (listed k self.old.keys.items self.old.ids.items) else listed k self.old.keys.items self.old.ids.items) }
+        requires { HasRoom key self.old.groups.items }
+        ensures { (k : ℕ) → listed k self.new.groups.items ≡ (if key == k then with_id id (listed k self.old.groups.items) else listed k self.old.groups.items) }
     {
-        if let Err(at) = self.place_of(key, id) {
-            let _ = self.keys.insert(at, key);
-            let _ = self.ids.insert(at, id);
+        if let Ok(at) = self.place_of(key) {
+            self.groups[at].join(id);
         }
     }
+}
+
+// The same by halves.
+fn place_by_halves(groups: &[Group], key: u32) -> Result<usize, usize>
+    requires { KeysAscend groups.now }
+    ensures { MatchResult result (GroupStands groups.now key) (GroupBelongs groups.now key) }
+{
+    groups.binary_search_by_key(&key, |group| group.key)
 }

@@ -5,15 +5,16 @@ ghost use Rattle.sim_system.specs.Facts.{id_of_fact};
 ghost use Rattle.sim_fact_lists.specs.Places.{Ascend, with_only};
 
 use sim_base::OutOfMemory;
-use sim_fact_lists::place_of;
+use sim_fact_lists::place_near;
 use sim_system::Fact;
 use std::alloc::Global;
 
-/// Those who stand in it, ascending by id.
+/// Those who stand in it, ascending by id. The place of the last that was put is a hint for the next.
 #[derive(Drop)]
 pub struct Bucket {
     pub facts: Vec<Fact>,
     pub ids: Vec<u32>,
+    near: usize,
     ghost ascending: { Ascend facts.items },
     ghost named: { ids.items ≡ map id_of_fact facts.items },
 }
@@ -26,6 +27,7 @@ impl Bucket {
         Bucket {
             facts: Vec::new(alloc),
             ids: Vec::new(alloc),
+            near: 0,
         }
     }
 
@@ -47,8 +49,11 @@ impl Bucket {
         requires ids_room { IsSome part.now → vec_len self.old.ids < vec_capacity self.old.ids }
         ensures { self.new.facts.items ≡ with_only id part.now self.old.facts.items }
     {
-        match (place_of(self.facts.as_slice(), id), part) {
-            (Ok(at), Some(fact)) => self.facts[at] = *fact,
+        match (place_near(self.facts.as_slice(), id, self.near), part) {
+            (Ok(at), Some(fact)) => {
+                self.facts[at] = *fact;
+                self.near = at;
+            }
             (Ok(at), None) => {
                 self.facts.remove(at);
                 self.ids.remove(at);

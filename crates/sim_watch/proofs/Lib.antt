@@ -1,2 +1,3 @@
+pub mod Telling
+pub mod Listing
 pub mod Aiming
-mod Sameness

@@ -1,7 +1,13 @@
 -- The list that is kept of each target.
-use Rattle.std.specs.Prelude.{ℕ}
+use Rattle.std.specs.Prelude.{◌≡◌, ℕ, List}
 use Rattle.sim_system.specs.declared.fact.Fact.{Fact}
+use Rattle.sim_fact_lists.specs.declared.group.Group.{Group}
+use Rattle.sim_fact_lists.specs.Groups.{HasRoom}
 
 -- an entity is listed under its target
 abbrev pub aim_key : Fact → ℕ
 aim_key fact = fact.target
+
+-- there is room for one more who aims at a target, if it is one
+abbrev pub HasRoomFor : ℕ → List Group → Type 0
+HasRoomFor target groups = (target ≡ 0 → ⊥) → HasRoom target groups

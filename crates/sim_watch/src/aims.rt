@@ -1,9 +1,12 @@
-//! Who aims at whom: groups of ids whose key is their target.
+//! Who aims at whom: groups of ids whose key is their target. Nobody is listed under no target.
 
-ghost use Rattle.std.specs.Prelude.{◌≡◌, ◌<◌, ℕ, IfOk, vec_len, vec_capacity};
+ghost use Rattle.std.specs.Prelude.{◌≡◌, ℕ, OnOk, IfOk};
+ghost use Rattle.sim_system.specs.declared.kind.Kind.TheVariants.{Watch as WatchKind};
+ghost use Rattle.sim_system.specs.Facts.{kept, kept_of};
+ghost use Rattle.sim_system.specs.Notes.{aim_of};
 ghost use Rattle.sim_fact_lists.specs.Places.{Ascend};
 ghost use Rattle.sim_fact_lists.specs.Groups.{AreGroups, listed, left_by, joined_by};
-ghost use Rattle.sim_watch.specs.Lists.{aim_key};
+ghost use Rattle.sim_watch.specs.Lists.{aim_key, HasRoomFor};
 
 use sim_base::OutOfMemory;
 use sim_fact_lists::Groups;
@@ -11,36 +14,45 @@ use sim_system::Fact;
 use std::alloc::Global;
 
 /// Those of these facts.
-pub fn aims_of(alloc: Global, facts: &[Fact]) -> Result<Groups, OutOfMemory>
+pub fn groups_of(alloc: Global, facts: &[Fact]) -> Result<Groups, OutOfMemory>
     requires { Ascend facts.now }
-    ensures { IfOk result (λ aims. AreGroups aim_key facts.now aims.keys.items aims.ids.items) }
+    ensures { IfOk result (λ groups. AreGroups aim_key (kept_of WatchKind facts.now) groups.groups.items) }
 {
-    let mut aims = Groups::new(alloc);
+    let mut groups = Groups::new(alloc);
     for fact in facts {
-        aims.make_room()?;
-        aims.join(fact.target, fact.id);
+        make_room(&mut groups, alloc, fact.target)?;
+        join(&mut groups, fact.id, fact.target);
     }
-    Ok(aims)
+    Ok(groups)
 }
 
-/// This entity aims no more, if there is one.
-pub fn leave(aims: &mut Groups, part: &Option<Fact>)
-    ensures left { (k : ℕ) → listed k aims.new.keys.items aims.new.ids.items ≡ left_by aim_key part.now k (listed k aims.old.keys.items aims.old.ids.items) }
-    ensures keys_room { vec_len aims.old.keys < vec_capacity aims.old.keys → vec_len aims.new.keys < vec_capacity aims.new.keys }
-    ensures ids_room { vec_len aims.old.ids < vec_capacity aims.old.ids → vec_len aims.new.ids < vec_capacity aims.new.ids }
+/// Makes room for one more who aims at a target, if it is one.
+pub fn make_room(groups: &mut Groups, alloc: Global, target: u32) -> Result<(), OutOfMemory>
+    ensures same { (k : ℕ) → listed k groups.new.groups.items ≡ listed k groups.old.groups.items }
+    ensures room { OnOk result (HasRoomFor target groups.new.groups.items) }
 {
-    if let Some(fact) = part {
-        aims.leave(fact.target, fact.id);
+    if target != 0 {
+        groups.make_room(alloc, target)?;
+    }
+    Ok(())
+}
+
+/// An entity that aimed at this target, if it is one, does so no more.
+pub fn leave(groups: &mut Groups, id: u32, target: u32)
+    ensures left { (k : ℕ) → listed k groups.new.groups.items ≡ left_by aim_key (kept WatchKind (aim_of id target)) k (listed k groups.old.groups.items) }
+    ensures room { (k : ℕ) → HasRoomFor k groups.old.groups.items → HasRoomFor k groups.new.groups.items }
+{
+    if target != 0 {
+        groups.leave(target, id);
     }
 }
 
-/// This entity aims, if there is one. The room was made before.
-pub fn join(aims: &mut Groups, part: &Option<Fact>)
-    requires keys_room { vec_len aims.old.keys < vec_capacity aims.old.keys }
-    requires ids_room { vec_len aims.old.ids < vec_capacity aims.old.ids }
-    ensures { (k : ℕ) → listed k aims.new.keys.items aims.new.ids.items ≡ joined_by aim_key part.now k (listed k aims.old.keys.items aims.old.ids.items) }
+/// An entity aims at this target, if it is one. The room was made before.
+pub fn join(groups: &mut Groups, id: u32, target: u32)
+    requires { HasRoomFor target groups.old.groups.items }
+    ensures { (k : ℕ) → listed k groups.new.groups.items ≡ joined_by aim_key (kept WatchKind (aim_of id target)) k (listed k groups.old.groups.items) }
 {
-    if let Some(fact) = part {
-        aims.join(fact.target, fact.id);
+    if target != 0 {
+        groups.join(target, id);
     }
 }

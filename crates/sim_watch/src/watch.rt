@@ -1,23 +1,31 @@
-//! The system: the target of each entity that has one, and beside them a list of ids per target.
+//! The system: the target of each entity, and beside them a list of ids per target.
 
-ghost use Rattle.std.specs.Prelude.{◌≡◌, None, [], IfOk, IsTrue};
+ghost use Rattle.std.specs.Prelude.{◌≡◌, None, [], IfOk, OnOk, OnErr};
 ghost use Rattle.sim_system.specs.declared.kind.Kind.TheVariants.{Watch as WatchKind};
+ghost use Rattle.sim_system.specs.Facts.{kept};
+ghost use Rattle.sim_system.specs.Notes.{aim_of};
 ghost use Rattle.sim_system.specs.Answers.{watchers_among};
+ghost use Rattle.sim_fact_lists.specs.Places.{with_only};
 ghost use Rattle.sim_fact_lists.specs.Groups.{AreGroups};
+ghost use Rattle.sim_watch.specs.Aimers.{facts_in};
 ghost use Rattle.sim_watch.specs.Lists.{aim_key};
 
-use crate::aims::{aims_of, join, leave};
+use crate::aimers::Aimers;
+use crate::aims::{groups_of, join, leave, make_room};
 use sim_base::{Ids, Land, OutOfMemory};
-use sim_fact_lists::{Groups, Kept, id_of, part_after};
+use sim_fact_lists::{Groups, copy_of};
 use sim_system::{Answer, Ask, Fact, Kind, Note, System};
 use std::alloc::Global;
 
 /// Keeps the target of each entity that has one, and who aims at each target.
 #[derive(Drop)]
 pub struct Watch {
-    kept: Kept,
-    aims: Groups,
-    ghost listed: { AreGroups aim_key kept.facts.items aims.keys.items aims.ids.items },
+    alloc: Global,
+    land: Option<Land>,
+    aimers: Aimers,
+    groups: Groups,
+    rebuilds: u64,
+    ghost listed: { AreGroups aim_key (facts_in aimers.aimers.items) groups.groups.items },
 }
 
 impl Watch {
@@ -26,8 +34,11 @@ impl Watch {
         ensures { ⟦<Watch as System>⟧.meaning result ≡ record { kind = WatchKind; land = None; facts = []; rebuilds = 0 } }
     {
         Watch {
-            kept: Kept::new(alloc),
-            aims: Groups::new(alloc),
+            alloc,
+            land: None,
+            aimers: Aimers::new(alloc),
+            groups: Groups::new(alloc),
+            rebuilds: 0,
         }
     }
 
@@ -35,46 +46,86 @@ impl Watch {
     pub fn list(&self, id: u32) -> &[u32]
         ensures { result.now ≡ watchers_among (⟦<Watch as System>⟧.meaning self.now).facts id }
     {
-        if id == 0 { &[] } else { self.aims.at(id) }
+        if id == 0 { &[] } else { self.groups.at(id) }
+    }
+
+    // Forgets the land and all facts.
+    fn forget(&mut self)
+        ensures land { self.new.land ≡ None }
+        ensures facts { self.new.aimers.aimers.items ≡ [] }
+        ensures rebuilds { self.new.rebuilds ≡ self.old.rebuilds }
+    {
+        self.land = None;
+        self.aimers = Aimers::new(self.alloc);
+        self.groups = Groups::new(self.alloc);
+    }
+
+    // An entity has this target, or none. All room is made first, so that a refusal leaves all as it was.
+    fn aim(&mut self, id: u32, to: u32) -> Result<(), OutOfMemory>
+        ensures ok { OnOk result (facts_in self.new.aimers.aimers.items ≡ with_only id (kept WatchKind (aim_of id to)) (facts_in self.old.aimers.aimers.items)) }
+        ensures err { OnErr result (facts_in self.new.aimers.aimers.items ≡ facts_in self.old.aimers.aimers.items) }
+        ensures land { self.new.land ≡ self.old.land }
+        ensures rebuilds { self.new.rebuilds ≡ self.old.rebuilds }
+    {
+        let from = self.aimers.target(id);
+        if from == to {
+            return Ok(());
+        }
+        self.aimers.make_room()?;
+        make_room(&mut self.groups, self.alloc, to)?;
+        self.aimers.aim(id, to);
+        leave(&mut self.groups, id, from);
+        join(&mut self.groups, id, to);
+        Ok(())
+    }
+
+    // An entity is gone, and so is the list of those who aimed at it, which is empty by then.
+    fn gone(&mut self, id: u32)
+        ensures facts { facts_in self.new.aimers.aimers.items ≡ with_only id None (facts_in self.old.aimers.aimers.items) }
+        ensures land { self.new.land ≡ self.old.land }
+        ensures rebuilds { self.new.rebuilds ≡ self.old.rebuilds }
+    {
+        let from = self.aimers.target(id);
+        self.aimers.leave(id);
+        leave(&mut self.groups, id, from);
+        self.groups.forget(id);
     }
 }
 
 impl System for Watch {
-    ghost meaning = { λ s. record { kind = WatchKind; land = s.kept.land; facts = s.kept.facts.items; rebuilds = s.kept.rebuilds } };
+    ghost meaning = { λ s. record { kind = WatchKind; land = s.land; facts = facts_in s.aimers.aimers.items; rebuilds = s.rebuilds } };
 
     fn kind(&self) -> Kind {
         Kind::Watch
     }
 
     fn clear(&mut self) {
-        self.kept.clear();
-        self.aims = Groups::new(self.kept.alloc);
+        self.forget();
     }
 
     fn rebuild(&mut self, land: &Land, facts: &[Fact]) -> Result<(), OutOfMemory> {
-        self.aims = Groups::new(self.kept.alloc);
-        self.kept.rebuild(Kind::Watch, land, facts)?;
-        match aims_of(self.kept.alloc, self.kept.facts.as_slice()) {
-            Ok(aims) => self.aims = aims,
-            Err(error) => {
-                self.kept.clear();
-                return Err(error);
-            }
-        }
+        self.forget();
+        self.rebuilds = self.rebuilds.saturating_add(1);
+        let copied = copy_of(land)?;
+        let aimers = Aimers::of(self.alloc, facts)?;
+        let groups = groups_of(self.alloc, facts)?;
+        self.land = Some(copied);
+        self.aimers = aimers;
+        self.groups = groups;
         Ok(())
     }
 
     fn on(&mut self, note: &Note) -> Result<(), OutOfMemory> {
-        let before = self.kept.find(id_of(note));
-        let after = part_after(Kind::Watch, before, note);
-        if is_same(&before, &after) {
-            return Ok(());
+        match note {
+            Note::Born { fact } => self.aim(fact.id, fact.target),
+            Note::Gone { fact } => {
+                self.gone(fact.id);
+                Ok(())
+            }
+            Note::Moved { .. } => Ok(()),
+            Note::Owned { .. } => Ok(()),
+            Note::Aimed { id, from: _, to } => self.aim(*id, *to),
         }
-        self.aims.make_room()?;
-        self.kept.on(Kind::Watch, note)?;
-        leave(&mut self.aims, &before);
-        join(&mut self.aims, &after);
-        Ok(())
     }
 
     fn ask(&self, ask: &Ask) -> Result<Answer, OutOfMemory> {
@@ -87,20 +138,13 @@ impl System for Watch {
     }
 
     fn rebuilds(&self) -> u64 {
-        self.kept.rebuilds
+        self.rebuilds
     }
-}
-
-// Whether the same is kept of an entity.
-fn is_same(before: &Option<Fact>, after: &Option<Fact>) -> bool
-    ensures { IsTrue result → before.now ≡ after.now }
-{
-    before == after
 }
 
 // A list of what is lent of an entity.
 fn watchers(watch: &Watch, id: u32) -> Result<Ids, OutOfMemory>
     ensures { IfOk result (λ ids. ids ≡ watchers_among (⟦<Watch as System>⟧.meaning watch.now).facts id) }
 {
-    Ok(Ids::from_items(Vec::from_slice(watch.kept.alloc, watch.list(id))?))
+    Ok(Ids::from_items(Vec::from_slice(watch.alloc, watch.list(id))?))
 }

@@ -23,14 +23,22 @@ fn filtered(alloc: Global, all: &[Keyed], key: u32) -> Result<Vec<u32>, OutOfMem
     Ok(ids)
 }
 
-// An id leaves the group that it was in, and joins another.
-fn turn(groups: &mut Groups, all: &mut [Keyed], id: u32, to: u32) -> Result<(), OutOfMemory> {
+// An id leaves the group that it was in, which is forgotten if it was the last one there, and joins another.
+fn turn(
+    alloc: Global,
+    groups: &mut Groups,
+    all: &mut [Keyed],
+    id: u32,
+    to: u32,
+) -> Result<(), OutOfMemory> {
     for one in all.iter_mut() {
         if one.id == id {
-            groups.make_room()?;
-            groups.leave(one.key, id);
+            groups.make_room(alloc, to)?;
+            let from = one.key;
+            groups.leave(from, id);
             one.key = to;
             groups.join(one.key, id);
+            groups.forget(from);
         }
     }
     Ok(())
@@ -57,7 +65,7 @@ fn groups_are_filters(rt: HostRuntime) -> Result<(), Fail> {
         (2, 9),
     ];
     for (id, to) in turns {
-        turn(&mut groups, &mut all, id, to)?;
+        turn(alloc, &mut groups, &mut all, id, to)?;
         for key in 1..11 {
             let wanted = filtered(alloc, &all, key)?;
             assert_eq!(rt; groups.at(key), wanted.as_slice());

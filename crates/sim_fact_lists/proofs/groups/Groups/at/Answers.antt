@@ -1,11 +1,13 @@
--- Those of a target stand together.
-use Rattle.std.proofs.Common.{ℕ, List, take, drop, ap, ◌∙◌, ◌-◌}
-use Rattle.sim_fact_lists.proofs.Searching.{lent_is}
+-- The ids of the group that stands there, if one does.
+use Rattle.std.proofs.Common.{ap, ◌∙◌}
+use Rattle.sim_fact_lists.specs.declared.group.Group.{Group}
+use Rattle.sim_fact_lists.proofs.Keyed.{listed_there, none_listed}
 use Rattle.sim_fact_lists.proofs.groups.Groups.at.Goals as goal
 
-pub returns : goal.returns
-returns c =
+pub returns-in-Ok : goal.returns-in-Ok
+returns-in-Ok c =
     let s = c.args.self.now in
-    let first = c.stretch-first.result.0 in
-    let end = c.stretch-first.result.1 in
-    ap (λ (xs : List ℕ). take (end - first) (drop first xs)) c.as_slice.ensures.value ∙ lent_is s.keys.items s.ids.items s.ascend c.args.key first end c.stretch-first.ensures
+    c.as_slice.ensures.value ∙ ap (λ (g : Group). g.ids.items) c.index.ensures ∙ listed_there s.groups.items c.args.key c.in-Ok.at c.index.result.now s.ascend c.in-Ok.ensures
+
+pub returns-in-Err : goal.returns-in-Err
+returns-in-Err c = none_listed c.args.self.now.groups.items c.args.key c.in-Err.field-0 c.in-Err.ensures

@@ -1,10 +1,11 @@
 -- Nobody aims at no target.
 use Rattle.std.proofs.Common.{◌∙◌}
+use Rattle.sim_watch.specs.Aimers.{facts_in}
 use Rattle.sim_watch.proofs.Aiming.{list_is, no_list}
 use Rattle.sim_watch.proofs.watch.Watch.list.Goals as goal
 
 pub returns-then-id-eq0 : goal.returns-then-id-eq0
-returns-then-id-eq0 c = no_list c.args.self.now.kept.facts.items c.args.id c.if-id-eq0.true
+returns-then-id-eq0 c = no_list (facts_in c.args.self.now.aimers.aimers.items) c.args.id c.if-id-eq0.true
 
 pub returns-else-id-eq0 : goal.returns-else-id-eq0
-returns-else-id-eq0 c = c.at.ensures ∙ c.args.self.now.listed c.args.id ∙ list_is c.args.self.now.kept.facts.items c.args.id c.if-id-eq0.false
+returns-else-id-eq0 c = c.at.ensures ∙ c.args.self.now.listed c.args.id ∙ list_is (facts_in c.args.self.now.aimers.aimers.items) c.args.id c.if-id-eq0.false

@@ -1,0 +1,6 @@
+use Rattle.std.proofs.Common.{◌≡◌, map, take}
+use Rattle.sim_watch.proofs.Listing.{aimer_of}
+use Rattle.sim_watch.proofs.aimers.listed.Given as goal
+
+abbrev pub invariant-loop-fact : goal.invariant-loop-fact
+invariant-loop-fact l = l.all.items ≡ map aimer_of (take l.fact-index l.facts)

@@ -1,0 +1,142 @@
+//! The target of each entity, in a list by id. One that has no target stays there until it is gone, so that nothing moves along
+//! the list when it takes the next. An entity is looked for first where the last one was found, and just after it.
+
+ghost use Rattle.std.specs.Prelude.{◌≡◌, ◌<◌, [], None, IfOk, IsTrue, OnOk, MatchResult, vec_len, vec_capacity};
+ghost use Rattle.sim_system.specs.declared.kind.Kind.TheVariants.{Watch as WatchKind};
+ghost use Rattle.sim_system.specs.Facts.{kept, kept_of};
+ghost use Rattle.sim_system.specs.Notes.{aim_of, fact_with};
+ghost use Rattle.sim_fact_lists.specs.Places.{Ascend, Stands, Belongs, with_only};
+ghost use Rattle.sim_watch.specs.Aimers.{told_in, facts_in};
+
+use crate::aimer::Aimer;
+use sim_base::OutOfMemory;
+use sim_system::Fact;
+use std::alloc::Global;
+use std::cell::Cell;
+
+/// Entities and their targets, ascending by id. The place of the last that was found is a hint for the next.
+#[derive(Drop)]
+pub struct Aimers {
+    pub aimers: Vec<Aimer>,
+    near: Cell<usize>,
+    ghost ascend: { Ascend (told_in aimers.items) },
+}
+
+impl Aimers {
+    /// Nobody. It keeps the allocator, and takes no memory yet.
+    pub fn new(alloc: Global) -> Aimers
+        ensures { result.aimers.items ≡ [] }
+    {
+        Aimers {
+            aimers: Vec::new(alloc),
+            near: Cell::new(0),
+        }
+    }
+
+    /// Those of these facts.
+    pub fn of(alloc: Global, facts: &[Fact]) -> Result<Aimers, OutOfMemory>
+        requires { Ascend facts.now }
+        ensures { IfOk result (λ all. facts_in all.aimers.items ≡ kept_of WatchKind facts.now) }
+    {
+        let aimers = listed(alloc, facts)?;
+        Ok(Aimers {
+            aimers,
+            near: Cell::new(0),
+        })
+    }
+
+    // Whether an entity stands at a place.
+    fn stands_at(&self, id: u32, at: usize) -> bool
+        ensures { IsTrue result → Stands (told_in self.now.aimers.items) id at }
+    {
+        match self.aimers.as_slice().get(at) {
+            Some(aimer) => aimer.id == id,
+            None => false,
+        }
+    }
+
+    // Where an entity stands, or where it would be put.
+    fn place_of(&self, id: u32) -> Result<usize, usize>
+        ensures { MatchResult result (Stands (told_in self.now.aimers.items) id) (Belongs (told_in self.now.aimers.items) id) }
+    {
+        let near = self.near.get();
+        if self.stands_at(id, near) {
+            return Ok(near);
+        }
+        let next = near.saturating_add(1);
+        if self.stands_at(id, next) {
+            self.near.set(next);
+            return Ok(next);
+        }
+        let place = place_by_halves(self.aimers.as_slice(), id);
+        if let Ok(at) = place {
+            self.near.set(at);
+        }
+        place
+    }
+
+    /// The target of an entity, or 0.
+    pub fn target(&self, id: u32) -> u32
+        ensures { fact_with (facts_in self.now.aimers.items) id ≡ kept WatchKind (aim_of id result) }
+    {
+        match self.place_of(id) {
+            Ok(at) => self.aimers[at].target,
+            Err(_) => 0,
+        }
+    }
+
+    /// Makes room for one more.
+    pub fn make_room(&mut self) -> Result<(), OutOfMemory>
+        ensures same { self.new.aimers.items ≡ self.old.aimers.items }
+        ensures room { OnOk result (vec_len self.new.aimers < vec_capacity self.new.aimers) }
+    {
+        self.aimers.reserve(1)?;
+        Ok(())
+    }
+
+    /// An entity has this target, or none. The room was made before.
+    pub fn aim(&mut self, id: u32, target: u32)
+        requires { vec_len self.old.aimers < vec_capacity self.old.aimers }
+        ensures { facts_in self.new.aimers.items ≡ with_only id (kept WatchKind (aim_of id target)) (facts_in self.old.aimers.items) }
+    {
+        match self.place_of(id) {
+            Ok(at) => self.aimers[at] = Aimer { id, target },
+            Err(at) => {
+                let _ = self.aimers.insert(at, Aimer { id, target });
+            }
+        }
+    }
+
+    /// An entity is gone.
+    pub fn leave(&mut self, id: u32)
+        ensures { facts_in self.new.aimers.items ≡ with_only id None (facts_in self.old.aimers.items) }
+    {
+        if let Ok(at) = self.place_of(id) {
+            self.aimers.remove(at);
+        }
+    }
+}
+
+// The same by halves.
+fn place_by_halves(aimers: &[Aimer], id: u32) -> Result<usize, usize>
+    requires { Ascend (told_in aimers.now) }
+    ensures { MatchResult result (Stands (told_in aimers.now) id) (Belongs (told_in aimers.now) id) }
+{
+    aimers.binary_search_by_key(&id, |aimer| aimer.id)
+}
+
+// The ids and targets of these facts.
+fn listed(alloc: Global, facts: &[Fact]) -> Result<Vec<Aimer>, OutOfMemory>
+    requires { Ascend facts.now }
+    ensures ascend { IfOk result (λ all. Ascend (told_in all.items)) }
+    ensures facts { IfOk result (λ all. facts_in all.items ≡ kept_of WatchKind facts.now) }
+{
+    let mut all = Vec::new(alloc);
+    for fact in facts {
+        all.push(Aimer {
+            id: fact.id,
+            target: fact.target,
+        })?;
+    }
+    Ok(all)
+}
