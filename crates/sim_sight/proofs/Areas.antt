@@ -9,10 +9,10 @@ use Rattle.sim_range.specs.Buckets.{bucket_at}
 use Rattle.sim_sight.specs.Areas.{AreApart, IsIn, IsBeside}
 use Rattle.sim_range.proofs.Bucketing.{small_west}
 
-row_is : (z x k : ℕ) → x < 16 → z * 16 + x ≡ k → z ≡ k / 16
+pub row_is : (z x k : ℕ) → x < 16 → z * 16 + x ≡ k → z ≡ k / 16
 row_is z x k lt is = omega arith
 
-column_is : (z x k : ℕ) → x < 16 → z * 16 + x ≡ k → x ≡ k % 16
+pub column_is : (z x k : ℕ) → x < 16 → z * 16 + x ≡ k → x ≡ k % 16
 column_is z x k lt is = omega arith
 
 pub apart_by : (k reach : ℕ) (area : Area) (p q : Point) → IsBeside k area → IsPlaced p → bucket_at p ≡ k → ((other : ℤ) → pos 0 ≤ℤ other → other <ℤ pos 16777216 → unsigned_abs (other -ℤ q.z) ≤ reach → IsIn area.rows (unsigned_abs other / 65536 / 16)) →

@@ -4,5 +4,6 @@ pub mod Seeing
 pub mod Watching
 pub mod Planning
 pub mod Areas
+pub mod Between
 pub mod Own
 pub mod Lending

@@ -16,7 +16,7 @@ use Rattle.sim_sight.specs.Areas.{AreApart, IsOut}
 use Rattle.sim_sight.specs.Sights.{is_seen_by, is_seen, sees, differ, turned_watchers, turned_seen, SeesWithin}
 use Rattle.sim_range.proofs.Nearing.{chosen, chosen-cons, gap_le}
 
-abs_swap : (a b : ℤ) → unsigned_abs (a -ℤ b) ≡ unsigned_abs (b -ℤ a)
+pub abs_swap : (a b : ℤ) → unsigned_abs (a -ℤ b) ≡ unsigned_abs (b -ℤ a)
 abs_swap a b = grind (arith, ints)
 
 swapped : (reach : ℕ) (p q : Point) → AreApart reach p q → AreApart reach q p
@@ -49,7 +49,7 @@ unseeing land reach (Some e) f far out = not_seen land reach e f far out
 both_false : (a b : Bool) → a ≡ false → b ≡ false → differ a b ≡ false
 both_false a b one two = ap (λ (c : Bool). cond c (not b) b) one ∙ two
 
-none_held : (g : Fact → Bool) (Q : Fact → Type 0) (k : ℕ) (facts : List Fact) → ArePlaced facts → All Q facts → ((f : Fact) → IsPlaced f.at → Q f → bucket_key f ≡ k → g f ≡ false) → chosen g (held_in k facts) ≡ []
+pub none_held : (g : Fact → Bool) (Q : Fact → Type 0) (k : ℕ) (facts : List Fact) → ArePlaced facts → All Q facts → ((f : Fact) → IsPlaced f.at → Q f → bucket_key f ≡ k → g f ≡ false) → chosen g (held_in k facts) ≡ []
 none_held g Q k [] placed all none = refl
 none_held g Q k (f ∷ facts) placed all none =
     by (bucket_key f == k) refl (none_held g Q k facts (All-tail (λ (h : Fact). IsPlaced h.at) f facts placed) (All-tail Q f facts all) none)

@@ -1,2 +1,2 @@
-pub mod Areas
 pub mod Sights
+pub mod Areas

@@ -88,6 +88,14 @@ AreChanging land facts before after ids = AgreeElsewhere (λ (fact : Fact). is_s
 abbrev pub AreInView : Land → List Fact → Option Fact → Option Fact → List ℕ → Type 0
 AreInView land facts before after ids = AgreeElsewhere (sees land before) (sees land after) facts ids
 
+-- two facts of an entity say the same of all but its place, as far as it matters to those who see
+abbrev pub HasOnlyMoved : Fact → Fact → Type 0
+HasOnlyMoved from to = (from.id ≡ to.id) × (from.owner ≡ to.owner) × (from.health ≡ to.health) × (from.vision ≡ to.vision)
+
+-- a fact that sees, sees no less far than so many raws
+abbrev pub SeesFrom : ℕ → Fact → Type 0
+SeesFrom near fact = (raw : ℤ) → fact.vision ≡ Some raw → near ≤ unsigned_abs raw
+
 -- a fact sees no further than so many raws
 abbrev pub SeesWithin : ℕ → Fact → Type 0
 SeesWithin reach fact = (raw : ℤ) → fact.vision ≡ Some raw → unsigned_abs raw ≤ reach

@@ -4,7 +4,7 @@
 ghost use Rattle.std.specs.Prelude.{◌≡◌, ◌↔◌, ◌<◌, None, [], All, length, IsSome, IfSome, IfOk, MatchOption};
 ghost use Rattle.sim_range.specs.Buckets.{ArePlaced, in_bucket};
 ghost use Rattle.sim_range.specs.Bucketed.{AreBuckets};
-ghost use Rattle.sim_sight.specs.Sights.{AreSightsIfAny, SeesWithin};
+ghost use Rattle.sim_sight.specs.Sights.{AreSightsIfAny, SeesFrom, SeesWithin};
 ghost use Rattle.sim_system.specs.declared.kind.Kind.TheVariants.{Range as RangeKind};
 ghost use Rattle.sim_system.specs.Notes.{fact_with};
 ghost use Rattle.sim_system.specs.Answers.{seen_among};
@@ -29,7 +29,8 @@ pub struct KeptRange {
     ghost whole: { IsSome kept.land → length buckets.items ≡ 256 },
     ghost bare: { kept.land ≡ None → kept.facts.items ≡ [] },
     ghost seen: { AreSightsIfAny kept.land kept.facts.items sights.all.items },
-    ghost far: { All (SeesWithin sights.reach) kept.facts.items },
+    ghost near: { All (SeesFrom sights.visions.near) kept.facts.items },
+    ghost far: { All (SeesWithin sights.visions.far) kept.facts.items },
 }
 
 impl KeptRange {

@@ -9,6 +9,8 @@
 //! - `ready`: a note, made ready and taken up.
 //! - `plan`: what a note changes of what is seen.
 //! - `area`: which buckets are looked into for it.
+//! - `inner`: which of these are passed over again.
+//! - `visions`: how far anybody sees.
 //! - `watchers`: who sees whom.
 //! - `seen`: whom an entity sees, found anew.
 //! - `sight`: whom an entity sees, changed one by one.
@@ -16,12 +18,14 @@
 #![tactic(auto)]
 
 mod area;
+mod inner;
 mod kept_range;
 mod plan;
 mod ready;
 mod seen;
 mod sight;
 mod sights;
+mod visions;
 mod watchers;
 
 pub use kept_range::KeptRange;

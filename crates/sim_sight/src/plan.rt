@@ -1,17 +1,20 @@
 //! What a note changes of what is seen: found in the buckets about the place where the entity stood and about that where it
 //! stands, before anything is changed.
 
-ghost use Rattle.std.specs.Prelude.{◌≡◌, ◌++◌, Some, OnOk, IfSome, All, length};
+ghost use Rattle.std.specs.Prelude.{◌≡◌, ◌<◌, ◌%◌, ◌⊎◌, ◌++◌, false, Some, OnOk, IfSome, All, length};
 ghost use Rattle.sim_base.specs.Places.{IsPlaced};
 ghost use Rattle.sim_base.specs.Limits.{IsLand};
 ghost use Rattle.sim_system.specs.Notes.{fact_with};
 ghost use Rattle.sim_fact_lists.specs.Places.{Holds, IsHeld};
 ghost use Rattle.sim_range.specs.Buckets.{ArePlaced};
 ghost use Rattle.sim_range.specs.Bucketed.{AreBuckets};
-ghost use Rattle.sim_sight.specs.Sights.{AreChanging, AreInView, AreSights, SeesWithin, sight, turned_watchers, turned_seen, view};
+ghost use Rattle.sim_sight.specs.Areas.{IsIn, IsInner};
+ghost use Rattle.sim_sight.specs.Sights.{AreChanging, AreInView, AreSights, SeesFrom, SeesWithin, sight, turned_watchers, turned_seen, view};
 
-use crate::area::area_of;
+use crate::area::{Span, area_of};
+use crate::inner::is_inner;
 use crate::sight::Sight;
+use crate::visions::Visions;
 use crate::watchers::{has_foes, is_seen, is_seen_by, sees};
 use sim_base::{Land, OutOfMemory};
 use sim_fact_lists::place_of;
@@ -70,7 +73,7 @@ impl Plan {
         land: &Land,
         facts: &[Fact],
         buckets: &[Bucket],
-        reach: u32,
+        visions: &Visions,
         before: &Option<Fact>,
         after: &Option<Fact>,
     ) -> Result<(), OutOfMemory>
@@ -78,13 +81,15 @@ impl Plan {
         requires placed { ArePlaced facts.now }
         requires bucketed { AreBuckets facts.now buckets.now }
         requires whole { length buckets.now ≡ 256 }
-        requires far { All (SeesWithin reach) facts.now }
+        requires near { All (SeesFrom visions.now.near) facts.now }
+        requires far { All (SeesWithin visions.now.far) facts.now }
         requires before { IfSome before.now (IsHeld land.now) }
         requires after { IfSome after.now (IsHeld land.now) }
         requires before_at { IfSome before.now (λ fact. IsPlaced fact.at) }
         requires after_at { IfSome after.now (λ fact. IsPlaced fact.at) }
-        requires before_far { IfSome before.now (SeesWithin reach) }
-        requires after_far { IfSome after.now (SeesWithin reach) }
+        requires before_near { IfSome before.now (SeesFrom visions.now.near) }
+        requires before_far { IfSome before.now (SeesWithin visions.now.far) }
+        requires after_far { IfSome after.now (SeesWithin visions.now.far) }
         ensures watchers { OnOk result (AreChanging land.now facts.now before.now after.now self.new.watchers.items) }
         ensures seen { OnOk result (AreInView land.now facts.now before.now after.now self.new.seen.items) }
     {
@@ -93,9 +98,9 @@ impl Plan {
         if !has_foes(land, before) && !has_foes(land, after) {
             return Ok(());
         }
-        let area = area_of(before, after, reach);
+        let area = area_of(before, after, visions.far);
         for number in area.rows.first * 16..area.rows.end * 16 {
-            if area.columns.has(number % 16) {
+            if is_concerned(number, &area.columns, before, after, visions.near) {
                 self.push(land, buckets[number].facts.as_slice(), before, after)?;
             }
         }
@@ -126,6 +131,23 @@ impl Plan {
         }
         turn_own(&mut self.own, land, facts, self.seen.as_slice(), watcher)
     }
+}
+
+// Whether a note may change what is seen from a bucket, or who is seen in it: its column is one of these, and it is not so near
+// to both ends of a move that all see from it what they saw.
+fn is_concerned(
+    number: usize,
+    columns: &Span,
+    before: &Option<Fact>,
+    after: &Option<Fact>,
+    near: u32,
+) -> bool
+    requires number { number < 256 }
+    requires before { IfSome before.now (λ fact. IsPlaced fact.at) }
+    requires after { IfSome after.now (λ fact. IsPlaced fact.at) }
+    ensures { result ≡ false → (IsIn columns.now (number % 16) → ⊥) ⊎ IsInner number near before.now after.now }
+{
+    columns.has(number % 16) && !is_inner(number, before, after, near)
 }
 
 // Changes what an entity saw before into what it sees as this watcher, where it begins to see these or sees them no more.

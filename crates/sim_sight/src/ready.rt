@@ -7,22 +7,23 @@ ghost use Rattle.sim_system.specs.Notes.{fact_with};
 ghost use Rattle.sim_fact_lists.specs.Places.{Holds, IsHeld, with_only};
 ghost use Rattle.sim_range.specs.Buckets.{ArePlaced};
 ghost use Rattle.sim_range.specs.Bucketed.{AreBuckets, HaveRoom, facts_at};
-ghost use Rattle.sim_sight.specs.Sights.{AreChanging, AreSights, AreSightsIfAny, HaveRooms, SeesWithin, ids_at, sight};
+ghost use Rattle.sim_sight.specs.Sights.{AreChanging, AreSights, AreSightsIfAny, HaveRooms, SeesFrom, SeesWithin, ids_at, sight};
 
 use crate::plan::Plan;
 use crate::sight::Sight;
 use crate::sights::{make_rooms, put, sights_of, turn_all};
+use crate::visions::{Visions, visions_of};
 use sim_base::{Land, OutOfMemory};
 use sim_fact_lists::Kept;
 use sim_range::{Bucket, buckets_of, make_room};
 use sim_system::Fact;
 use std::alloc::Global;
 
-/// What all see, how far anyone sees at most, and what the note that is taken up changes of it.
+/// What all see, how far they do, and what the note that is taken up changes of it.
 #[derive(Drop)]
 pub struct Sights {
     pub all: Vec<Sight>,
-    pub reach: u32,
+    pub visions: Visions,
     pub plan: Plan,
 }
 
@@ -31,37 +32,10 @@ impl Sights {
     pub fn new(alloc: Global) -> Sights {
         Sights {
             all: Vec::new(alloc),
-            reach: 0,
+            visions: Visions::new(),
             plan: Plan::new(alloc),
         }
     }
-}
-
-// How far anyone sees at most, where this was known before and what is kept of an entity is known now.
-fn reach_with(reach: u32, part: &Option<Fact>) -> u32
-    ensures more { reach ≤ result }
-    ensures far { IfSome part.now (SeesWithin result) }
-{
-    match part {
-        Some(
-            Fact {
-                vision: Some(vision),
-                ..
-            },
-        ) => reach.max(vision.raw().unsigned_abs()),
-        _ => reach,
-    }
-}
-
-// How far any of these sees at most.
-fn reach_of(facts: &[Fact]) -> u32
-    ensures { All (SeesWithin result) facts.now }
-{
-    let mut reach = 0;
-    for fact in facts {
-        reach = reach_with(reach, &Some(*fact));
-    }
-    reach
 }
 
 /// The buckets and the sights of facts.
@@ -78,15 +52,16 @@ pub fn built_of(alloc: Global, land: &Land, facts: &[Fact]) -> Result<Built, Out
     ensures whole { IfOk result (λ built. length built.buckets.items ≡ 256) }
     ensures buckets { IfOk result (λ built. AreBuckets facts.now built.buckets.items) }
     ensures sights { IfOk result (λ built. AreSights land.now facts.now built.sights.all.items) }
-    ensures far { IfOk result (λ built. All (SeesWithin built.sights.reach) facts.now) }
+    ensures near { IfOk result (λ built. All (SeesFrom built.sights.visions.near) facts.now) }
+    ensures far { IfOk result (λ built. All (SeesWithin built.sights.visions.far) facts.now) }
 {
     let buckets = buckets_of(alloc, facts)?;
     let all = sights_of(alloc, land, facts, buckets.as_slice())?;
-    let reach = reach_of(facts);
+    let visions = visions_of(facts);
     let plan = Plan::new(alloc);
     Ok(Built {
         buckets,
-        sights: Sights { all, reach, plan },
+        sights: Sights { all, visions, plan },
     })
 }
 
@@ -103,10 +78,12 @@ pub fn make_ready(
     requires bucketed { AreBuckets kept.old.facts.items buckets.old.items }
     requires whole { length buckets.old.items ≡ 256 }
     requires sights { AreSightsIfAny kept.old.land kept.old.facts.items sights.old.all.items }
-    requires far { All (SeesWithin sights.old.reach) kept.old.facts.items }
+    requires near { All (SeesFrom sights.old.visions.near) kept.old.facts.items }
+    requires far { All (SeesWithin sights.old.visions.far) kept.old.facts.items }
     requires found { IfSome after.now (λ fact. before.now ≡ fact_with kept.old.facts.items fact.id) }
     requires before { (l : Land) → kept.old.land ≡ Some l → IfSome before.now (IsHeld l) }
-    requires before_far { IfSome before.now (SeesWithin sights.old.reach) }
+    requires before_near { IfSome before.now (SeesFrom sights.old.visions.near) }
+    requires before_far { IfSome before.now (SeesWithin sights.old.visions.far) }
     requires after { (l : Land) → kept.old.land ≡ Some l → IfSome after.now (IsHeld l) }
     requires from_ground { IfSome before.now (λ fact. IsPlaced fact.at) }
     requires on_ground { IfSome after.now (λ fact. IsPlaced fact.at) }
@@ -117,8 +94,10 @@ pub fn make_ready(
     ensures buckets { (k : ℕ) (d : Bucket) → k < 256 → facts_at buckets.new.items k d ≡ facts_at buckets.old.items k d }
     ensures along { length sights.new.all.items ≡ length sights.old.all.items }
     ensures sights { (k : ℕ) (d : Sight) → ids_at sights.new.all.items k d ≡ ids_at sights.old.all.items k d }
-    ensures far { All (SeesWithin sights.new.reach) kept.old.facts.items }
-    ensures after_far { IfSome after.now (SeesWithin sights.new.reach) }
+    ensures near { All (SeesFrom sights.new.visions.near) kept.old.facts.items }
+    ensures after_near { IfSome after.now (SeesFrom sights.new.visions.near) }
+    ensures far { All (SeesWithin sights.new.visions.far) kept.old.facts.items }
+    ensures after_far { IfSome after.now (SeesWithin sights.new.visions.far) }
     ensures facts_room { OnOk result (vec_len kept.new.facts < vec_capacity kept.new.facts) }
     ensures buckets_room { OnOk result (HaveRoom after.now buckets.new.items) }
     ensures sights_room { OnOk result (vec_len sights.new.all < vec_capacity sights.new.all) }
@@ -130,9 +109,16 @@ pub fn make_ready(
         unreachable!()
     };
     let facts = kept.facts.as_slice();
-    sights.reach = reach_with(sights.reach, after);
+    sights.visions = sights.visions.widened(after);
     let plan = &mut sights.plan;
-    plan.find(land, facts, buckets.as_slice(), sights.reach, before, after)?;
+    plan.find(
+        land,
+        facts,
+        buckets.as_slice(),
+        &sights.visions,
+        before,
+        after,
+    )?;
     plan.find_own(land, facts, sights.all.as_slice(), after)?;
     make_rooms(&mut sights.all, facts, sights.plan.watchers.as_slice())?;
     sights.all.reserve(1)?;
@@ -152,7 +138,7 @@ pub fn take_up(sights: &mut Sights, kept: &Kept, id: u32, after: &Option<Fact>)
     requires changing { (l : Land) → kept.now.land ≡ Some l → AreChanging l kept.now.facts.items (fact_with kept.now.facts.items id) after.now sights.old.plan.watchers.items }
     requires own { (l : Land) → kept.now.land ≡ Some l → IfSome after.now (λ fact. sights.old.plan.own.ids.items ≡ sight l kept.now.facts.items fact) }
     ensures sights { AreSightsIfAny kept.now.land (with_only id after.now kept.now.facts.items) sights.new.all.items }
-    ensures reach { sights.new.reach ≡ sights.old.reach }
+    ensures visions { sights.new.visions ≡ sights.old.visions }
 {
     let Some(land) = &kept.land else {
         unreachable!()

@@ -1,12 +1,13 @@
 -- The buckets and the sights after the note are those of the facts after it.
-use Rattle.std.proofs.Common.{ℕ, List, Option, sym, ap, ◌∙◌, subst, arith, All}
+use Rattle.std.proofs.Common.{List, Option, sym, ap, ◌∙◌, subst, arith, All}
 use Rattle.sim_system.specs.declared.fact.Fact.{Fact}
 use Rattle.sim_system.specs.declared.kind.Kind.TheVariants.{Range as RangeKind}
 use Rattle.sim_system.specs.Notes.{fact_with, noted}
 use Rattle.sim_fact_lists.specs.Places.{with_only}
 use Rattle.sim_fact_lists.proofs.Holding.{has_land, put_named, put_is}
 use Rattle.sim_range.specs.Buckets.{ArePlaced, held_in}
-use Rattle.sim_sight.specs.Sights.{AreChanging, AreSights, SeesWithin}
+use Rattle.sim_sight.specs.declared.visions.Visions.{Visions}
+use Rattle.sim_sight.specs.Sights.{AreChanging, AreSights, SeesFrom, SeesWithin}
 use Rattle.sim_range.proofs.Bucketing.{found_placed, part_placed, placed_after}
 use Rattle.sim_sight.proofs.Found.{found_held, part_held}
 use Rattle.sim_range.proofs.Changing.{noted_buckets, still_built}
@@ -34,8 +35,11 @@ make_ready-requires-clause-found c =
     found_for c.args.self.now.kept.facts.items c.id_of-id.result c.find-before.result c.part_after-after.result c.find-before.ensures
     (put_named RangeKind c.args.self.now.kept.facts.items c.args.note.now c.id_of-id.result c.find-before.result c.part_after-after.result c.id_of-id.ensures c.find-before.ensures c.part_after-after.ensures)
 
+pub make_ready-requires-clause-before_near : goal.make_ready-requires-clause-before_near
+make_ready-requires-clause-before_near c = let s = c.args.self.now in found_is (SeesFrom s.sights.visions.near) s.kept.facts.items c.id_of-id.result c.find-before.result s.near c.find-before.ensures
+
 pub make_ready-requires-clause-before_far : goal.make_ready-requires-clause-before_far
-make_ready-requires-clause-before_far c = let s = c.args.self.now in found_is (SeesWithin s.sights.reach) s.kept.facts.items c.id_of-id.result c.find-before.result s.far c.find-before.ensures
+make_ready-requires-clause-before_far c = let s = c.args.self.now in found_is (SeesWithin s.sights.visions.far) s.kept.facts.items c.id_of-id.result c.find-before.result s.far c.find-before.ensures
 
 pub invariant_of-self : goal.invariant_of-self
 invariant_of-self c =
@@ -49,7 +53,8 @@ invariant_of-self c =
       whole = λ some. e.whole;
       bare = λ none. still_built s.kept.land c.make_ready.new.kept.land built e.land none;
       seen = same_sights s.kept.land c.make_ready.new.kept.land s.kept.facts.items c.make_ready.new.kept.facts.items s.sights.all.items c.make_ready.new.sights.all.items e.land e.facts e.along e.sights s.seen;
-      far = subst (All (SeesWithin c.make_ready.new.sights.reach)) (sym e.facts) e.far;
+      near = subst (All (SeesFrom c.make_ready.new.sights.visions.near)) (sym e.facts) e.near;
+      far = subst (All (SeesWithin c.make_ready.new.sights.visions.far)) (sym e.facts) e.far;
     }
 
 pub take_up-requires-clause-named : goal.take_up-requires-clause-named
@@ -103,7 +108,10 @@ invariant_of-self-2 c =
       whole = λ some. c.change.ensures.whole;
       bare = λ none. still_built s.kept.land c.on.new.self.land built land none;
       seen = λ l is. subst (λ (fs : List Fact). AreSights l fs c.take_up.new.sights.all.items) put (c.take_up.ensures.sights l (sym c.in_ok-on.ensures.land ∙ is));
-      far = subst (λ (n : ℕ). All (SeesWithin n) c.on.new.self.facts.items) (sym c.take_up.ensures.reach)
-          (subst (All (SeesWithin c.make_ready.new.sights.reach)) (put_is RangeKind s.kept.land s.kept.facts.items c.args.note.now id before part c.requires s.kept.held c.id_of-id.ensures c.find-before.ensures c.part_after-after.ensures ∙ sym told)
-          (all_only (SeesWithin c.make_ready.new.sights.reach) id part s.kept.facts.items e.far e.after_far));
+      near = subst (λ (v : Visions). All (SeesFrom v.near) c.on.new.self.facts.items) (sym c.take_up.ensures.visions)
+          (subst (All (SeesFrom c.make_ready.new.sights.visions.near)) (put_is RangeKind s.kept.land s.kept.facts.items c.args.note.now id before part c.requires s.kept.held c.id_of-id.ensures c.find-before.ensures c.part_after-after.ensures ∙ sym told)
+          (all_only (SeesFrom c.make_ready.new.sights.visions.near) id part s.kept.facts.items e.near e.after_near));
+      far = subst (λ (v : Visions). All (SeesWithin v.far) c.on.new.self.facts.items) (sym c.take_up.ensures.visions)
+          (subst (All (SeesWithin c.make_ready.new.sights.visions.far)) (put_is RangeKind s.kept.land s.kept.facts.items c.args.note.now id before part c.requires s.kept.held c.id_of-id.ensures c.find-before.ensures c.part_after-after.ensures ∙ sym told)
+          (all_only (SeesWithin c.make_ready.new.sights.visions.far) id part s.kept.facts.items e.far e.after_far));
     }
