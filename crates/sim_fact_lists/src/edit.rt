@@ -7,8 +7,8 @@ ghost use Rattle.sim_fact_lists.specs.Places.{Ascend, Stands, Belongs, with_only
 use sim_base::OutOfMemory;
 use sim_system::Fact;
 
-// Where the fact of an id stands, or where it would be put, by halves.
-fn place_of(facts: &[Fact], id: u32) -> Result<usize, usize>
+/// Where the fact of an id stands, or where it would be put, looked for by halves.
+pub fn place_of(facts: &[Fact], id: u32) -> Result<usize, usize>
     requires { Ascend facts.now }
     ensures { MatchResult result (Stands facts.now id) (Belongs facts.now id) }
 {

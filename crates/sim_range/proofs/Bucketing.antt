@@ -22,7 +22,7 @@ use Rattle.sim_range.proofs.Held.{placed_on}
 
 -- ---- numbers of buckets
 
-small_west : (p : Point) → IsPlaced p → (cell_of p).x / 16 < 16
+pub small_west : (p : Point) → IsPlaced p → (cell_of p).x / 16 < 16
 small_west p h = let low = h.west in let high = h.east in omega (arith, ints, low, high)
 
 pub small_bucket : (p : Point) → IsPlaced p → bucket_at p < 256

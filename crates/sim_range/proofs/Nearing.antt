@@ -33,7 +33,7 @@ module _ (g : Fact → Bool) where
   abbrev pub chosen : List Fact → List ℕ
   chosen facts = map id_of_fact (filter g facts)
 
-  chosen-cons : (f : Fact) (facts : List Fact) → chosen (f ∷ facts) ≡ cond (g f) (f.id ∷ chosen facts) (chosen facts)
+  pub chosen-cons : (f : Fact) (facts : List Fact) → chosen (f ∷ facts) ≡ cond (g f) (f.id ∷ chosen facts) (chosen facts)
   chosen-cons f facts = by (g f)
     where
       by : (c : Bool) → map id_of_fact (cond c (f ∷ filter g facts) (filter g facts)) ≡ cond c (f.id ∷ chosen facts) (chosen facts)
@@ -94,7 +94,7 @@ module _ (g : Fact → Bool) where
   start_chosen facts ids is = subst (λ (xs : List ℕ). IsPermutation xs ids) (none_yet facts) (subst (IsPermutation []) (sym is) (IsPermutation-refl []))
 
   -- and all below the one behind the last
-  all_below : (facts : List Fact) → ArePlaced facts → below_bucket 256 facts ≡ facts
+  pub all_below : (facts : List Fact) → ArePlaced facts → below_bucket 256 facts ≡ facts
   all_below [] all = refl
   all_below (f ∷ facts) all =
       let lt = small_bucket f.at (All-head (λ (h : Fact). IsPlaced h.at) f facts all) in
@@ -139,7 +139,7 @@ root_le a b r h =
 le_by : (m n : ℕ) → nat_le m n ≡ true → m ≤ n
 le_by m n h = grind arith
 
-gap_le : (p q : Point) (radius : ℤ) → is_near p q radius ≡ true → (unsigned_abs (p.x -ℤ q.x) ≤ unsigned_abs radius) × (unsigned_abs (p.z -ℤ q.z) ≤ unsigned_abs radius)
+pub gap_le : (p q : Point) (radius : ℤ) → is_near p q radius ≡ true → (unsigned_abs (p.x -ℤ q.x) ≤ unsigned_abs radius) × (unsigned_abs (p.z -ℤ q.z) ≤ unsigned_abs radius)
 gap_le p q radius near =
     let x = unsigned_abs (p.x -ℤ q.x) in
     let z = unsigned_abs (p.z -ℤ q.z) in

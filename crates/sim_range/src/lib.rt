@@ -2,7 +2,8 @@
 //!
 //! It promises that it keeps the place, owner, health and vision of each entity that has health or can attack, as `System`
 //! says, and that those within a radius, and those whom an entity sees, are filters over these. Beside them it keeps who
-//! stands in which bucket of the ground, which it lends. It stands on the lists of facts.
+//! stands in which bucket of the ground, which it lends. It stands on the lists of facts. Its buckets, and what is looked for
+//! in them, are public for systems that keep more beside them.
 //!
 //! - `range`: the system.
 //! - `bucket`: who stands in one bucket.
@@ -15,6 +16,8 @@ mod bucket;
 mod buckets;
 mod range;
 mod seen;
-mod within;
+pub mod within;
 
+pub use bucket::Bucket;
+pub use buckets::{buckets_of, change, make_room};
 pub use range::Range;

@@ -15,8 +15,8 @@ use sim_base::{Fixed, Ids, Land, OutOfMemory, Point, square};
 use sim_system::Fact;
 use std::alloc::Global;
 
-// Whether the mask has the bit of this owner.
-fn in_mask(mask: u32, owner: u8) -> bool
+/// Whether the mask has the bit of this owner.
+pub fn in_mask(mask: u32, owner: u8) -> bool
     requires { owner < 32 }
     ensures { result ≡ in_mask_of mask owner }
 {

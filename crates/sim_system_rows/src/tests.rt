@@ -1,4 +1,5 @@
-//! Boards over four real systems, groups of ids as the systems keep them, and runs with other systems and handlers.
+//! Boards over four real systems, groups of ids and lists of those whom each sees as the systems keep them, and runs with other
+//! systems and handlers.
 
 mod asks;
 mod boards;
@@ -8,3 +9,5 @@ mod groups;
 mod handlers;
 mod plain;
 mod refusing;
+mod sights;
+mod twins;

@@ -74,10 +74,16 @@ fn agrees(
     Ok(wanted)
 }
 
-// How many asks were allowed, and how many of these were not answered as the plain filter does.
-type Tally = (u32, u32);
+/// How many asks were allowed, and how many of these were not answered as the plain filter does.
+pub type Tally = (u32, u32);
 
-fn tallied(tally: Tally, alloc: Global, board: &Board<'_>, ask: Ask) -> Result<Tally, OutOfMemory>
+/// Counts one ask more, where it is allowed.
+pub fn tallied(
+    tally: Tally,
+    alloc: Global,
+    board: &Board<'_>,
+    ask: Ask,
+) -> Result<Tally, OutOfMemory>
     requires { IsWhole board.now ⟦<dyn System as System>⟧ }
 {
     let (allowed, wrong) = tally;
