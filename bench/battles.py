@@ -1,12 +1,13 @@
 #!/usr/bin/env python3
-"""What battles cost: five matches whose units walk and fight, each a whole run of `play`, by processor time.
+"""What battles cost: matches whose units walk and fight, each a whole run of the program, by processor time.
 
 Usage: python3 bench/battles.py [PROGRAM [BEFORE]] [--only WORDS]
 
 PROGRAM is by default the one that ./simcore has built; with BEFORE an older program runs beside it, by turns, and must
-print the same lines. WORDS are part of the name of a battle, to run it alone. It prints figures, and stops where a program fails. For reference, a fast program without proofs,
-which keeps indexes, took 3, 19, 1,150, 2,080 and 550 ms on a machine whose MD5 takes 500 MB/s; the number of turns of
-its maze is not known, so that figure is no measure of ours.
+print the same lines. WORDS are part of the name of a battle, to run it alone. The two trials print one line; `play` prints the
+digest of each turn, also of the same two battles. It prints figures, and stops where a program fails. For reference, a fast
+program without proofs, which keeps indexes, took 3 and 19 ms for the trials, 1,150 ms for its maze, whose turns are not known,
+2,080 ms in peace and 550 ms at war, on a machine whose MD5 takes 500 MB/s.
 """
 
 import json
@@ -107,9 +108,10 @@ def soldiers(players, every):
 
 
 def battles():
-    """Each battle by its name."""
-    yield "trial 7 200 400", trial(200, 400)
-    yield "trial 7 1000 400", trial(1000, 400)
+    """Each battle by its name, with its match, or with none where its name is what the program is called with."""
+    for units in 200, 1000:
+        yield f"trial 7 {units} 400", None
+        yield f"the same battle of {units} with each digest", trial(units, 400)
     yield "a maze, 500 walkers, a goal each turn, 10 turns", maze(10)
     yield "4,096 soldiers in peace, goals every 10 of 200 turns", soldiers([[], []], 10)
     yield "4,096 soldiers at war, 200 turns", soldiers([[2], [1]], 200)
@@ -127,7 +129,7 @@ def main():
                 continue
             path = pathlib.Path(folder) / "match.json"
             path.write_text(json.dumps(content, separators=(",", ":")))
-            least, lines = least_of(ROUNDS, programs, ["play", path], ENOUGH)
+            least, lines = least_of(ROUNDS, programs, ["play", path] if content else name.split(), ENOUGH)
             last = lines.splitlines()[-1].decode()
             print(f"{name:<54}" + "".join(f"{1e3 * took:9.0f} ms" for took in least) + f"  {last}", flush=True)
 
