@@ -1,5 +1,5 @@
 -- Groups whose keys ascend: where a key stands or belongs, and whose group is found after an edit there.
-use Rattle.std.proofs.Common.{◌≡◌, ℕ, zero, suc, ◌+◌, ◌<◌, Bool, true, false, cond, List, [], ◌∷◌, length, map, get_or, set, Option, Some, None, refl, sym, ap, ◌∙◌, subst, arith, inl, inr}
+use Rattle.std.proofs.Common.{◌≡◌, ℕ, zero, suc, ◌+◌, ◌<◌, Bool, true, false, cond, not, List, [], ◌∷◌, length, map, get_or, set, Option, Some, None, refl, sym, ap, ◌∙◌, subst, arith, inl, inr}
 use Rattle.std.specs.Prelude.{Result, Ok, Err, MatchResult, MatchOption, is_ok, ◌==◌, vec_len, vec_capacity}
 use Rattle.std.specs.List.{insert, remove}
 use Rattle.std.specs.List.Sorted.{IsStrictlyIncreasing, IsNonDecreasingBy, IsBinarySearchResult, IsSearchInRange}
@@ -11,7 +11,7 @@ use Rattle.std.proofs.lemmas.List.Kept.{AllPairs-from_increasing}
 use Rattle.std.proofs.Math.Seq.{map-set_same}
 use Rattle.sim_fact_lists.specs.declared.group.Group.{Group}
 use Rattle.sim_fact_lists.specs.Ids.{without_id}
-use Rattle.sim_fact_lists.specs.Groups.{key_of, KeysAscend, group_with, ids_in, listed, HasRoom, GroupStands, GroupBelongs}
+use Rattle.sim_fact_lists.specs.Groups.{key_of, KeysAscend, group_with, ids_in, listed, without_key, forgotten, HasRoom, GroupStands, GroupBelongs}
 
 -- all keys are above a number
 abbrev pub Above : ℕ → List Group → Type 0
@@ -304,3 +304,60 @@ removed_listed groups key at d up s none k = ap ids_in (found_remove groups key 
     by : (b : Bool) → (key == k) ≡ b → ids_in (cond b None (group_with k groups)) ≡ listed k groups
     by true e = sym none ∙ listed_there groups key at d up s ∙ ap (λ (n : ℕ). listed n groups) (eqb-true key k e)
     by false e = refl
+
+-- ---- a key without ids is forgotten
+
+without_above : (groups : List Group) (key : ℕ) → Above key groups → without_key key groups ≡ groups
+without_above [] key a = refl
+without_above (g ∷ groups) key a =
+    let first : key < g.key = a.0 in
+    let other : (g.key == key) ≡ false = ne_eqb g.key key (λ e. omega arith) in
+    rw other (ap (λ (gs : List Group). g ∷ gs) (without_above groups key a.1))
+
+removed_there : (groups : List Group) (key at : ℕ) → Rising groups → GroupStands groups key at → remove groups at ≡ without_key key groups
+removed_there [] key at r s = absurd (omega (arith, s.within))
+removed_there (g ∷ groups) key zero r s =
+    let here : (g.key == key) ≡ true = eq-eqb g.key key (s.same g) in
+    rw here (sym (without_above groups key (subst (λ (n : ℕ). Above n groups) (s.same g) r.0)))
+removed_there (g ∷ groups) key (suc at) r s =
+    let less : g.key < key = first_below g groups key at r s in
+    let other : (g.key == key) ≡ false = ne_eqb g.key key (λ e. omega arith) in
+    rw other (ap (λ (gs : List Group). g ∷ gs) (removed_there groups key at r.1 (next_stands g groups key at s)))
+
+without_absent : (groups : List Group) (key at : ℕ) → GroupBelongs groups key at → without_key key groups ≡ groups
+without_absent [] key at b = refl
+without_absent (g ∷ groups) key zero b = without_above (g ∷ groups) key (all_above (g ∷ groups) key b)
+without_absent (g ∷ groups) key (suc at) b =
+    let first : g.key < key = b.before zero g (omega arith) in
+    let other : (g.key == key) ≡ false = ne_eqb g.key key (λ e. omega arith) in
+    rw other (ap (λ (gs : List Group). g ∷ gs) (without_absent groups key at (next_belongs g groups key at b)))
+
+-- the key has no group
+pub forgotten_absent : (groups : List Group) (key at : ℕ) → GroupBelongs groups key at → groups ≡ forgotten key groups
+forgotten_absent groups key at b =
+    sym (without_absent groups key at b) ∙ ap (λ (ids : List ℕ). cond (length ids == 0) (without_key key groups) groups) (none_listed groups key at b)
+
+-- whether the key has no id is seen at its group
+counted : (groups : List Group) (key at : ℕ) (group : Group) → KeysAscend groups → GroupStands groups key at → group ≡ get_or groups at group → (length (listed key groups) == 0) ≡ (length group.ids.items == 0)
+counted groups key at group up s is = ap (λ (ids : List ℕ). length ids == 0) (sym (ap (λ (g : Group). g.ids.items) is ∙ listed_there groups key at group up s))
+
+-- the group that stands there has no id, and goes
+pub forgotten_there : (groups : List Group) (key at : ℕ) (group : Group) → KeysAscend groups → GroupStands groups key at → group ≡ get_or groups at group → (length group.ids.items == 0) ≡ true → remove groups at ≡ forgotten key groups
+forgotten_there groups key at group up s is none =
+    removed_there groups key at (rising groups up) s ∙ sym (ap (λ (b : Bool). cond b (without_key key groups) groups) (counted groups key at group up s is ∙ none))
+
+-- it has one, and stays
+pub not_forgotten : (groups : List Group) (key at : ℕ) (group : Group) → KeysAscend groups → GroupStands groups key at → group ≡ get_or groups at group → (length group.ids.items == 0) ≡ false → groups ≡ forgotten key groups
+not_forgotten groups key at group up s is some = sym (ap (λ (b : Bool). cond b (without_key key groups) groups) (counted groups key at group up s is ∙ some))
+
+without_itself : (groups : List Group) (key : ℕ) → group_with key (without_key key groups) ≡ None
+without_itself [] key = refl
+without_itself (g ∷ groups) key = by (g.key == key) refl (without_itself groups key)
+  where
+    by : (b : Bool) → (g.key == key) ≡ b → group_with key (without_key key groups) ≡ None → group_with key (cond (not b) (g ∷ without_key key groups) (without_key key groups)) ≡ None
+    by true e rest = rest
+    by false e rest = rw e rest
+
+-- a key that has no id has no group then
+pub gone_with_last : (groups : List Group) (key : ℕ) → listed key groups ≡ [] → group_with key (forgotten key groups) ≡ None
+gone_with_last groups key none = ap (λ (ids : List ℕ). group_with key (cond (length ids == 0) (without_key key groups) groups)) none ∙ without_itself groups key

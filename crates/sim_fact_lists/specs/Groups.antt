@@ -1,5 +1,5 @@
 -- Ids in groups by key: a list of groups, ascending by key.
-use Rattle.std.specs.Prelude.{◌≡◌, ℕ, ◌<◌, ◌≤◌, ◌==◌, List, [], length, map, filter, find, slice_index_or, Option, Some, None, MatchOption, vec_len, vec_capacity, if◌then◌else◌}
+use Rattle.std.specs.Prelude.{◌≡◌, ℕ, ◌<◌, ◌≤◌, not, ◌==◌, List, [], length, map, filter, find, slice_index_or, Option, Some, None, MatchOption, vec_len, vec_capacity, if◌then◌else◌}
 use Rattle.std.specs.List.Sorted.{IsStrictlyIncreasing}
 use Rattle.sim_system.specs.declared.fact.Fact.{Fact}
 use Rattle.sim_system.specs.Facts.{id_of_fact}
@@ -25,6 +25,14 @@ ids_in (Some group) = group.ids.items
 -- the ids of a key
 abbrev pub listed : ℕ → List Group → List ℕ
 listed key groups = ids_in (group_with key groups)
+
+-- the groups of all other keys
+abbrev pub without_key : ℕ → List Group → List Group
+without_key key groups = filter (λ (group : Group). not (group.key == key)) groups
+
+-- the groups after a key is forgotten: where it has no id, its group goes; else all stay
+abbrev pub forgotten : ℕ → List Group → List Group
+forgotten key groups = if length (listed key groups) == 0 then without_key key groups else groups
 
 -- the key has a group, with room for one id more
 abbrev pub HasRoom : ℕ → List Group → Type 0

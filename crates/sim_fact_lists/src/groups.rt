@@ -4,7 +4,7 @@
 
 ghost use Rattle.std.specs.Prelude.{◌≡◌, ◌==◌, ℕ, [], IsTrue, OnOk, MatchResult, if◌then◌else◌};
 ghost use Rattle.sim_fact_lists.specs.Ids.{with_id, without_id};
-ghost use Rattle.sim_fact_lists.specs.Groups.{KeysAscend, GroupStands, GroupBelongs, HasRoom, listed};
+ghost use Rattle.sim_fact_lists.specs.Groups.{KeysAscend, GroupStands, GroupBelongs, HasRoom, listed, forgotten};
 
 use crate::group::Group;
 use sim_base::OutOfMemory;
@@ -93,7 +93,8 @@ impl Groups {
 
     /// Forgets a key that no id has any more. So keys that come and go for ever take no more memory than there are at once.
     pub fn forget(&mut self, key: u32)
-        ensures { (k : ℕ) → listed k self.new.groups.items ≡ listed k self.old.groups.items }
+        ensures groups { self.new.groups.items ≡ forgotten key self.old.groups.items }
+        ensures lists { (k : ℕ) → listed k self.new.groups.items ≡ listed k self.old.groups.items }
     {
         if let Ok(at) = self.place_of(key) {
             if self.groups[at].ids.as_slice().is_empty() {
