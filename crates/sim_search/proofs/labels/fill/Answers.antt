@@ -1,10 +1,42 @@
-use Rattle.std.proofs.Common.{refl}
+use Rattle.std.proofs.Common.{◌≡◌, ◌+◌, ◌++◌, ◌∷◌, [], length, refl, ap, arith, count_by, length-append}
+use Rattle.std.specs.Option.{is_none}
+use Rattle.sim_base.specs.declared.place.Cell.{Cell}
 use Rattle.sim_grid.specs.Grids.{field_of_grid}
+use Rattle.sim_search.specs.Floods.{work_left, unlabelled}
+use Rattle.sim_search.specs.declared.table.Table.{Table}
 use Rattle.sim_search.specs.declared.labels.Flood.{Flood}
-use Rattle.sim_search.proofs.Floods.{popped}
+use Rattle.sim_search.proofs.Floods.{popped, popped-label}
 use Rattle.sim_search.proofs.labels.fill.Goals as goal
+
+popped_less : (old new : Flood) (from : Cell) → new.table ≡ old.table → old.waiting.items ≡ new.waiting.items ++ from ∷ [] → work_left new + 1 ≡ work_left old
+popped_less old new from t w =
+    let same : unlabelled new ≡ unlabelled old = ap (λ (v : Table). count_by is_none v.items.items) t in
+    omega (arith, same, ap length w, length-append new.waiting.items (from ∷ []))
 
 pub spread-requires-clause-floods : goal.spread-requires-clause-floods
 spread-requires-clause-floods c =
     let new : Flood = record { table = c.loop-from.flood.table; waiting = c.pop.new.self } in
     popped (field_of_grid c.args.grid.now) c.loop-from.flood new c.in-Some.from c.args.label refl c.in-Some.ensures.items c.loop-from.invariant.floods
+
+pub spread-requires-clause-label : goal.spread-requires-clause-label
+spread-requires-clause-label c =
+    let new : Flood = record { table = c.loop-from.flood.table; waiting = c.pop.new.self } in
+    popped-label (field_of_grid c.args.grid.now) c.loop-from.flood new c.in-Some.from c.args.label refl c.in-Some.ensures.items c.loop-from.invariant.floods
+
+pub loop-from-smaller : goal.loop-from-smaller
+loop-from-smaller c =
+    let new : Flood = record { table = c.loop-from.flood.table; waiting = c.pop.new.self } in
+    omega (arith, c.in_ok-spread.ensures.spreads.less, popped_less c.loop-from.flood new c.in-Some.from refl c.in-Some.ensures.items)
+
+pub loop-from-preserved : goal.loop-from-preserved
+loop-from-preserved c =
+    let new : Flood = record { table = c.loop-from.flood.table; waiting = c.pop.new.self } in
+    let before = c.loop-from.invariant.spreads in
+    let more = c.in_ok-spread.ensures.spreads in
+    record {
+      floods = c.in_ok-spread.ensures.floods;
+      spreads = record {
+        keeps = λ v l e. more.keeps v l (before.keeps v l e);
+        less = omega (arith, before.less, more.less, popped_less c.loop-from.flood new c.in-Some.from refl c.in-Some.ensures.items);
+      };
+    }
