@@ -1,0 +1,10 @@
+use Rattle.sim_path.proofs.answer.Searcher.find.Goals as goal
+
+pub straight_to-requires-clause-ends : goal.straight_to-requires-clause-ends
+straight_to-requires-clause-ends c = rw (c.cell_of-from.ensures.cell, c.cell_of-to.ensures.cell) c.requires.ends
+
+pub returns-then-straight : goal.returns-then-straight
+returns-then-straight c = rw (c.cell_of-from.ensures.cell, c.cell_of-to.ensures.cell) at (c.in_ok-straight.ensures c.if-straight.true)
+
+pub returns : goal.returns
+returns c = c.search.ensures
