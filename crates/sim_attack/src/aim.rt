@@ -18,7 +18,7 @@ ghost use Rattle.sim_attack.specs.Nearest.{nearest_of, better_of};
 
 use crate::finds::Finds;
 use sim_base::{Changes, Ids, Items, OutOfMemory, Row, Setup, State, square};
-use sim_lookup::{arms_of, find_row, is_enemy_of, is_going, target_of};
+use sim_lookup::{RowIndex, arms_of, is_enemy_of, is_going, target_of};
 use sim_plans::{push_target, push_turn};
 use sim_scene::Scene;
 use sim_system::{Answer, Ask, System};
@@ -37,10 +37,12 @@ fn listed_aims(alloc: Global, scene: &Scene<'_>) -> Result<Changes, OutOfMemory>
     requires { Stands scene.now ⟦<dyn System as System>⟧ }
     ensures { IfOk result (λ changes. changes ≡ aim_plan scene.now.setup.now scene.now.state.now) }
 {
+    let rows = scene.state.rows.as_slice();
     let mut changes = Items::new(alloc);
     let mut finds = Finds::new(alloc);
-    for row in scene.state.rows.as_slice() {
-        push_aim(&mut changes, &mut finds, scene, row)?;
+    let index = RowIndex::of(alloc, rows)?;
+    for row in rows {
+        push_aim(&mut changes, &mut finds, &index, scene, row)?;
     }
     Ok(changes)
 }
@@ -49,6 +51,7 @@ fn listed_aims(alloc: Global, scene: &Scene<'_>) -> Result<Changes, OutOfMemory>
 fn push_aim(
     changes: &mut Changes,
     finds: &mut Finds,
+    index: &RowIndex,
     scene: &Scene<'_>,
     row: &Row,
 ) -> Result<(), OutOfMemory>
@@ -59,19 +62,24 @@ fn push_aim(
     ensures changes { OnOk result (changes.new ≡ changes.old ++ aim_changes_of scene.now.setup.now scene.now.state.now row.now) }
     ensures finds { AreFound scene.now.setup.now scene.now.state.now finds.new.kept.items }
 {
-    if aims_at_friend(scene.setup, scene.state, row) {
-        let target = next_target_of(finds, scene, row)?;
+    if aims_at_friend(index, scene.setup, scene.state, row) {
+        let target = next_target_of(finds, index, scene, row)?;
         return push_turn(changes, target, row);
     }
     if is_idle(row) {
-        let target = next_target_of(finds, scene, row)?;
+        let target = next_target_of(finds, index, scene, row)?;
         return push_target(changes, target, row);
     }
     Ok(())
 }
 
 // The nearest enemy that the row sees, or 0. It is looked for where no other row has found it.
-fn next_target_of(finds: &mut Finds, scene: &Scene<'_>, row: &Row) -> Result<u32, OutOfMemory>
+fn next_target_of(
+    finds: &mut Finds,
+    index: &RowIndex,
+    scene: &Scene<'_>,
+    row: &Row,
+) -> Result<u32, OutOfMemory>
     requires stands { Stands scene.now ⟦<dyn System as System>⟧ }
     requires row { IsKnownRow 0 scene.now.setup.now scene.now.state.now.rows row.now }
     requires found { row_of scene.now.state.now row.now.id ≡ Some row.now }
@@ -86,7 +94,7 @@ fn next_target_of(finds: &mut Finds, scene: &Scene<'_>, row: &Row) -> Result<u32
         return Ok(target);
     }
     let ids = seen_by(scene, row.id)?;
-    let target = nearest(scene.setup, scene.state, row, ids.as_slice());
+    let target = nearest(index, scene.setup, scene.state, row, ids.as_slice());
     finds.keep(row, arms.vision, target)?;
     Ok(target)
 }
@@ -104,7 +112,7 @@ fn seen_by(scene: &Scene<'_>, id: u32) -> Result<Ids, OutOfMemory>
 }
 
 // The nearest of these rows, of several the one with the least id, or 0.
-fn nearest(setup: &Setup, state: &State, row: &Row, ids: &[u32]) -> u32
+fn nearest(index: &RowIndex, setup: &Setup, state: &State, row: &Row, ids: &[u32]) -> u32
     requires limits { IsSetup setup.now }
     requires valid { IsLooselyValid setup.now state.now }
     requires row { IsKnownRow 0 setup.now state.now.rows row.now }
@@ -112,7 +120,7 @@ fn nearest(setup: &Setup, state: &State, row: &Row, ids: &[u32]) -> u32
 {
     let mut best = None;
     for id in ids {
-        let far = square_to(setup, state, row, *id);
+        let far = square_to(index, setup, state, row, *id);
         best = Some(better(best, far, *id));
     }
     match best {
@@ -139,26 +147,26 @@ fn better(best: Option<Candidate>, far: u64, id: u32) -> Candidate
 }
 
 // The square of the distance to the row with this id, 0 where it is not there.
-fn square_to(setup: &Setup, state: &State, row: &Row, id: u32) -> u64
+fn square_to(index: &RowIndex, setup: &Setup, state: &State, row: &Row, id: u32) -> u64
     requires limits { IsSetup setup.now }
     requires valid { IsLooselyValid setup.now state.now }
     requires row { IsKnownRow 0 setup.now state.now.rows row.now }
     ensures { result ≡ square_to_by state.now row.now id }
 {
-    match find_row(state, id) {
+    match index.find_row(state, id) {
         Some(other) => square(other.at, row.at),
         None => 0,
     }
 }
 
 // Whether the row aims at one that is no enemy of its owner.
-fn aims_at_friend(setup: &Setup, state: &State, row: &Row) -> bool
+fn aims_at_friend(index: &RowIndex, setup: &Setup, state: &State, row: &Row) -> bool
     requires limits { IsSetup setup.now }
     requires valid { IsLooselyValid setup.now state.now }
     requires row { IsKnownRow 0 setup.now state.now.rows row.now }
     ensures { result ≡ aims_at_friend_by setup.now row.now (row_of state.now (target_by row.now)) }
 {
-    match find_row(state, target_of(row)) {
+    match index.find_row(state, target_of(row)) {
         Some(target) => !is_enemy_of(setup, row.owner, target.owner),
         None => false,
     }

@@ -14,7 +14,7 @@ ghost use Rattle.sim_attack.specs.Fights.{fought_on, AreTaken};
 
 use crate::damage::taken;
 use sim_base::{Aim, Change, Changes, Fixed, Items, OutOfMemory, Row, Setup, State, next_word};
-use sim_lookup::{arms_of, is_near, place_of, resist_of};
+use sim_lookup::{RowIndex, arms_of, is_near, resist_of};
 use sim_scene::Scene;
 use sim_system::System;
 use std::alloc::Global;
@@ -36,9 +36,10 @@ fn listed_hits(alloc: Global, setup: &Setup, state: &State) -> Result<Changes, O
     let rows = state.rows.as_slice();
     let mut changes = Items::new(alloc);
     let mut damage = vec![in alloc; 0; rows.len()]?;
+    let index = RowIndex::of(alloc, rows)?;
     let mut word = state.word;
     for row in rows {
-        word = fight(&mut changes, &mut damage, setup, state, row, word)?;
+        word = fight(&mut changes, &mut damage, &index, setup, state, row, word)?;
     }
     changes.push(Change::Word { word })?;
     for (at, row) in rows.iter().enumerate() {
@@ -51,6 +52,7 @@ fn listed_hits(alloc: Global, setup: &Setup, state: &State) -> Result<Changes, O
 fn fight(
     changes: &mut Changes,
     damage: &mut Vec<u64>,
+    index: &RowIndex,
     setup: &Setup,
     state: &State,
     row: &Row,
@@ -79,7 +81,7 @@ fn fight(
         return Ok(word);
     }
     let rows = state.rows.as_slice();
-    let Some(at) = place_of(rows, aim.target) else {
+    let Some(at) = index.place_of(rows, aim.target) else {
         return Ok(word);
     };
     let target = &rows[at];

@@ -10,7 +10,6 @@ ghost use Rattle.sim_board.specs.Letting.{row_released, rows_released};
 
 use crate::near::place_near;
 use sim_base::{Aim, Fixed, Motion, OutOfMemory, Point, Row, Template};
-use sim_lookup::place_of;
 
 /// The row with this id stands at a point.
 pub fn set_at(rows: &mut Vec<Row>, id: u32, at: &Point, near: usize)
@@ -74,14 +73,16 @@ fn release(row: &mut Row)
     }
 }
 
-// The row with this id is released.
-fn release_row(rows: &mut Vec<Row>, id: u32)
+// The row with this id is released. Answers where it stands, which is a hint for the next.
+fn release_row(rows: &mut Vec<Row>, id: u32, near: usize) -> usize
     requires { IsStrictlyIncreasing (map id_of rows.old.items) }
     ensures { rows.new.items ≡ row_released rows.old.items id }
 {
-    if let Some(place) = place_of(rows.as_slice(), id) {
-        release(&mut rows[place]);
-    }
+    let Some(place) = place_near(rows.as_slice(), id, near) else {
+        return near;
+    };
+    release(&mut rows[place]);
+    place
 }
 
 /// The rows with these ids are released.
@@ -90,8 +91,9 @@ pub fn release_rows(rows: &mut Vec<Row>, ids: &[u32])
     ensures rows { rows.new.items ≡ rows_released ids.now rows.old.items }
     ensures ids { map id_of rows.new.items ≡ map id_of rows.old.items }
 {
+    let mut near = 0;
     for id in ids {
-        release_row(rows, *id);
+        near = release_row(rows, *id, near);
     }
 }
 

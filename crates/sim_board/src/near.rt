@@ -1,7 +1,7 @@
-//! The place of a row, looked for first where the row of the last change stood, and just after it: the changes of a phase
+//! The place of a row, looked for first where the row of the last change stood, and a little behind it: the changes of a phase
 //! ascend by id. Where the last one stood is a hint, so any number is right.
 
-ghost use Rattle.std.specs.Prelude.{◌≡◌, ◌<◌, IsTrue, None, Some, length, map, MatchOption};
+ghost use Rattle.std.specs.Prelude.{◌≡◌, ◌<◌, None, Some, length, map, IfSome, MatchOption};
 ghost use Rattle.std.specs.List.{HoldsAt};
 ghost use Rattle.std.specs.List.Sorted.{IsStrictlyIncreasing};
 ghost use Rattle.sim_base.specs.Rows.{id_of};
@@ -10,29 +10,33 @@ ghost use Rattle.sim_lookup.specs.Found.{found};
 use sim_base::{Change, Row};
 use sim_lookup::place_of;
 
+// How many rows are looked at from a place on. Where those of two players take turns, the next one of a player is mostly the
+// second or third behind the last.
+const AHEAD: usize = 8;
+
 /// The place of the row with this id, from 0.
 pub fn place_near(rows: &[Row], id: u32, near: usize) -> Option<usize>
     requires { IsStrictlyIncreasing (map id_of rows.now) }
     ensures { MatchOption result (found rows.now id ≡ None) (λ at. (at < length rows.now) × HoldsAt (λ row. found rows.now id ≡ Some row) rows.now at) }
 {
-    if stands_at(rows, id, near) {
-        return Some(near);
+    match place_ahead(rows, id, near) {
+        Some(at) => Some(at),
+        None => place_of(rows, id),
     }
-    let next = near.saturating_add(1);
-    if stands_at(rows, id, next) {
-        return Some(next);
-    }
-    place_of(rows, id)
 }
 
-// Whether the row with this id stands at a place.
-fn stands_at(rows: &[Row], id: u32, at: usize) -> bool
-    ensures { IsTrue result → (at < length rows.now) × HoldsAt (λ row. row.id ≡ id) rows.now at }
+// The place of the row with this id, if it stands at a place or a little behind it.
+fn place_ahead(rows: &[Row], id: u32, near: usize) -> Option<usize>
+    ensures { IfSome result (λ at. (at < length rows.now) × HoldsAt (λ row. row.id ≡ id) rows.now at) }
 {
-    match rows.get(at) {
-        Some(row) => row.id == id,
-        None => false,
+    for at in near..near.saturating_add(AHEAD) {
+        match rows.get(at) {
+            Some(row) if row.id < id => {}
+            Some(row) if row.id == id => return Some(at),
+            _ => return None,
+        }
     }
+    None
 }
 
 /// Where the row of a change stands; where the last one stood, if the change is about no row.

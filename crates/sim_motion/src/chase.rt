@@ -8,7 +8,7 @@ ghost use Rattle.sim_base.specs.Move.{chasing};
 ghost use Rattle.sim_motion.specs.Moves.{chased, LeadsInside};
 
 use sim_base::{Motion, Point, Row, Setup, State};
-use sim_lookup::{arms_of, find_row, is_near, same_point, target_of};
+use sim_lookup::{RowIndex, arms_of, is_near, same_point, target_of};
 
 /// Whether a row that can move stands still, goes on as it goes, or goes to a point.
 #[derive(Drop)]
@@ -19,7 +19,7 @@ pub enum Chase {
 }
 
 /// What the row does: it stands still where its target is in range, and else goes after it.
-pub fn chase_of(setup: &Setup, state: &State, row: &Row, motion: &Motion) -> Chase
+pub fn chase_of(index: &RowIndex, setup: &Setup, state: &State, row: &Row, motion: &Motion) -> Chase
     requires limits { IsSetup setup.now }
     requires valid { IsLooselyValid setup.now state.now }
     requires row { IsKnownRow 0 setup.now state.now.rows row.now }
@@ -29,7 +29,7 @@ pub fn chase_of(setup: &Setup, state: &State, row: &Row, motion: &Motion) -> Cha
     let Some(arms) = arms_of(setup, row) else {
         return Chase::Keep;
     };
-    let Some(target) = find_row(state, target_of(row)) else {
+    let Some(target) = index.find_row(state, target_of(row)) else {
         return Chase::Keep;
     };
     if is_near(&target.at, &row.at, arms.range) {

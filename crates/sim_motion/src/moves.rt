@@ -14,6 +14,7 @@ ghost use Rattle.sim_motion.specs.Moves.{way_in, row_moved, along_way};
 use crate::chase::{Chase, chase_of};
 use crate::walk::walk;
 use sim_base::{Items, Motion, OutOfMemory, Point, Row};
+use sim_lookup::RowIndex;
 use sim_scene::Scene;
 use sim_system::{Answer, Ask, System, Way};
 use std::alloc::Global;
@@ -28,6 +29,7 @@ pub struct Moved {
 /// Where a row with this budget comes to, and how it goes on.
 pub fn move_of(
     alloc: Global,
+    index: &RowIndex,
     scene: &Scene<'_>,
     row: &Row,
     motion: &Motion,
@@ -38,7 +40,7 @@ pub fn move_of(
     requires motion { row.now.motion ≡ Some motion.now }
     ensures { IfOk result (λ new. row_moved row.now new ≡ moved_by scene.now.setup.now scene.now.state.now row.now budget (chasing row.now motion.now (row_of scene.now.state.now (target_by row.now)) (arms_by scene.now.setup.now row.now))) }
 {
-    match chase_of(scene.setup, scene.state, row, motion) {
+    match chase_of(index, scene.setup, scene.state, row, motion) {
         Chase::Stay => Ok(stay(row)),
         Chase::Go(goal) => go(alloc, scene, row, budget, &goal),
         Chase::Keep => match motion {

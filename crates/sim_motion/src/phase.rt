@@ -12,7 +12,7 @@ ghost use Rattle.sim_motion.specs.Moves.{motion_or, row_moved};
 
 use crate::moves::{Moved, move_of};
 use sim_base::{Change, Changes, Items, Motion, OutOfMemory, Row};
-use sim_lookup::{same_point, speed_of};
+use sim_lookup::{RowIndex, same_point, speed_of};
 use sim_scene::Scene;
 use sim_system::System;
 use std::alloc::Global;
@@ -30,9 +30,11 @@ fn listed_moves(alloc: Global, scene: &Scene<'_>) -> Result<Changes, OutOfMemory
     requires { Stands scene.now ⟦<dyn System as System>⟧ }
     ensures { IfOk result (λ changes. changes ≡ move_plan scene.now.setup.now scene.now.state.now) }
 {
+    let rows = scene.state.rows.as_slice();
     let mut changes = Items::new(alloc);
-    for row in scene.state.rows.as_slice() {
-        push_move(alloc, &mut changes, scene, row)?;
+    let index = RowIndex::of(alloc, rows)?;
+    for row in rows {
+        push_move(alloc, &mut changes, &index, scene, row)?;
     }
     Ok(changes)
 }
@@ -41,6 +43,7 @@ fn listed_moves(alloc: Global, scene: &Scene<'_>) -> Result<Changes, OutOfMemory
 fn push_move(
     alloc: Global,
     changes: &mut Changes,
+    index: &RowIndex,
     scene: &Scene<'_>,
     row: &Row,
 ) -> Result<(), OutOfMemory>
@@ -55,7 +58,7 @@ fn push_move(
         return Ok(());
     };
     let budget = speed.raw().unsigned_abs() / 5;
-    let new = move_of(alloc, scene, row, motion, budget)?;
+    let new = move_of(alloc, index, scene, row, motion, budget)?;
     push_step(changes, row, new)
 }
 

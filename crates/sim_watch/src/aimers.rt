@@ -1,7 +1,7 @@
 //! The target of each entity, in a list by id. One that has no target stays there until it is gone, so that nothing moves along
-//! the list when it takes the next. An entity is looked for first where the last one was found, and just after it.
+//! the list when it takes the next. An entity is looked for first where the last one was found, and a little behind it.
 
-ghost use Rattle.std.specs.Prelude.{◌≡◌, ◌<◌, [], None, IfOk, IsTrue, OnOk, MatchResult, vec_len, vec_capacity};
+ghost use Rattle.std.specs.Prelude.{◌≡◌, ◌<◌, [], None, IfOk, IfSome, OnOk, MatchResult, vec_len, vec_capacity};
 ghost use Rattle.sim_system.specs.declared.kind.Kind.TheVariants.{Watch as WatchKind};
 ghost use Rattle.sim_system.specs.Facts.{kept, kept_of};
 ghost use Rattle.sim_system.specs.Notes.{aim_of, fact_with};
@@ -13,6 +13,9 @@ use sim_base::OutOfMemory;
 use sim_system::Fact;
 use std::alloc::Global;
 use std::cell::Cell;
+
+// How many entities are looked at from a place on.
+const AHEAD: usize = 8;
 
 /// Entities and their targets, ascending by id. The place of the last that was found is a hint for the next.
 #[derive(Drop)]
@@ -45,30 +48,29 @@ impl Aimers {
         })
     }
 
-    // Whether an entity stands at a place.
-    fn stands_at(&self, id: u32, at: usize) -> bool
-        ensures { IsTrue result → Stands (told_in self.now.aimers.items) id at }
+    // Where an entity stands, if that is where the last one was found or a little behind it.
+    fn place_ahead(&self, id: u32) -> Option<usize>
+        ensures { IfSome result (Stands (told_in self.now.aimers.items) id) }
     {
-        match self.aimers.as_slice().get(at) {
-            Some(aimer) => aimer.id == id,
-            None => false,
+        let near = self.near.get();
+        for at in near..near.saturating_add(AHEAD) {
+            match self.aimers.as_slice().get(at) {
+                Some(aimer) if aimer.id < id => {}
+                Some(aimer) if aimer.id == id => return Some(at),
+                _ => return None,
+            }
         }
+        None
     }
 
     // Where an entity stands, or where it would be put.
     fn place_of(&self, id: u32) -> Result<usize, usize>
         ensures { MatchResult result (Stands (told_in self.now.aimers.items) id) (Belongs (told_in self.now.aimers.items) id) }
     {
-        let near = self.near.get();
-        if self.stands_at(id, near) {
-            return Ok(near);
-        }
-        let next = near.saturating_add(1);
-        if self.stands_at(id, next) {
-            self.near.set(next);
-            return Ok(next);
-        }
-        let place = place_by_halves(self.aimers.as_slice(), id);
+        let place = match self.place_ahead(id) {
+            Some(at) => Ok(at),
+            None => place_by_halves(self.aimers.as_slice(), id),
+        };
         if let Ok(at) = place {
             self.near.set(at);
         }

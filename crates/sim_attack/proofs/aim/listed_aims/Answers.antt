@@ -11,6 +11,6 @@ push_aim-requires-clause-found g c =
     let rows = c.args.scene.now.state.now.rows in
     let n = c.loop-row.row-index in
     let row = c.row-item.result in
-    let lt : n < length rows = omega (arith, ap (λ (rs : List Row). length rs) c.as_slice-row-items.ensures) in
-    let is : row ≡ get_or rows n row = c.row-item.is ∙ ap (λ (rs : List Row). get_or rs n row) c.as_slice-row-items.ensures in
+    let lt : n < length rows = omega (arith, ap (λ (rs : List Row). length rs) c.as_slice-rows.ensures) in
+    let is : row ≡ get_or rows n row = c.row-item.is ∙ ap (λ (rs : List Row). get_or rs n row) c.as_slice-rows.ensures in
     row_there rows row.id n row c.requires.valid.ascending lt is (λ d. ap id_of (sym (is ∙ get_or_default rows n row d lt)))

@@ -3,8 +3,8 @@ use Rattle.sim_base.specs.Changes.{released}
 use Rattle.sim_board.proofs.Setting.{set_found, none_found}
 use Rattle.sim_board.proofs.edit.release_row.Goals as goal
 
-pub returns-in-Some : goal.returns-in-Some
-returns-in-Some c =
+pub returns : goal.returns
+returns c =
     ap (set c.args.rows.now.items c.in-Some.place) c.release.ensures
     ∙ set_found c.args.rows.now.items c.as_slice.result.now c.args.id released c.as_slice.ensures.value c.in-Some.place c.index_mut.result.now c.requires
     c.in-Some.ensures.0 c.in-Some.ensures.1 c.index_mut.ensures.value
