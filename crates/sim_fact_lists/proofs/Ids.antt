@@ -1,5 +1,5 @@
 -- Ids that ascend: where one stands or belongs, and the list with one fewer or one more.
-use Rattle.std.proofs.Common.{◌≡◌, ℕ, zero, suc, ◌+◌, ◌<◌, ◌≤◌, Bool, true, false, cond, not, List, [], ◌∷◌, length, get_or, refl, sym, ap, ◌∙◌, subst, arith, inl, inr}
+use Rattle.std.proofs.Common.{◌≡◌, ℕ, zero, suc, ◌+◌, ◌-◌, ◌<◌, ◌≤◌, Bool, true, false, cond, not, List, [], ◌∷◌, length, get_or, refl, sym, ap, ◌∙◌, subst, arith, inl, inr}
 use Rattle.std.specs.Prelude.{◌==◌, nat_lt, Result, Ok, Err, MatchResult, IsOk, is_ok}
 use Rattle.std.specs.List.{insert, remove}
 use Rattle.std.specs.List.Sorted.{IsStrictlyIncreasing, IsBinarySearchResult}
@@ -7,7 +7,7 @@ use Rattle.std.specs.Ordering.{nat_cmp}
 use Rattle.std.proofs.lemmas.Bool.{eq-eqb, ne_eqb, lt-ltb, le-ltb, cases_lt}
 use Rattle.std.proofs.lemmas.List.Kept.{AllPairs-from_increasing}
 use Rattle.std.proofs.lemmas.List.Sorted.{searched}
-use Rattle.sim_fact_lists.specs.Ids.{without_id, with_id}
+use Rattle.sim_fact_lists.specs.Ids.{IdStands, IdBelongs, without_id, with_id}
 
 -- all of the ids are above a number
 abbrev pub Above : ℕ → List ℕ → Type 0
@@ -53,12 +53,27 @@ above_at n (x ∷ xs) (suc k) a lt = above_at n xs k a.1 (omega arith)
 
 -- ---- a search by halves
 
-pub searched_for : (xs : List ℕ) (i : ℕ) (r : Result ℕ ℕ) → IsStrictlyIncreasing xs → IsBinarySearchResult (λ (y : ℕ). nat_cmp y i) xs r →
+found : (xs : List ℕ) (i : ℕ) (r : Result ℕ ℕ) → IsStrictlyIncreasing xs → IsBinarySearchResult (λ (y : ℕ). nat_cmp y i) xs r →
     MatchResult r (λ at. (at < length xs) × (get_or xs at 0 ≡ i)) (λ at. (at ≤ length xs) × ((k : ℕ) → k < at → get_or xs k 0 < i) × ((k : ℕ) → at ≤ k → k < length xs → i < get_or xs k 0))
-searched_for xs i r up h = searched xs i r h (λ k l le lt. elim (cases_lt k l) [
+found xs i r up h = searched xs i r h (λ k l le lt. elim (cases_lt k l) [
   | inl before ↦ (let less = AllPairs-from_increasing xs up k l 0 before lt in omega (arith, less))
   | inr same ↦ (let e : k ≡ l = omega arith in omega (arith, ap (λ (n : ℕ). get_or xs n 0) e))
 ])
+
+pub searched_for : (xs : List ℕ) (i : ℕ) (r : Result ℕ ℕ) → IsStrictlyIncreasing xs → IsBinarySearchResult (λ (y : ℕ). nat_cmp y i) xs r → MatchResult r (IdStands xs i) (IdBelongs xs i)
+searched_for xs i (Ok at) up h = let there = found xs i (Ok at) up h in record { within = there.0; same = there.1 }
+searched_for xs i (Err at) up h = let there = found xs i (Err at) up h in record { within = there.0; before = there.1; behind = there.2 }
+
+-- one that is above the last belongs behind it
+pub belongs_last : (xs : List ℕ) (i last : ℕ) → IsStrictlyIncreasing xs → 1 ≤ length xs → last ≡ get_or xs (length xs - 1) 0 → last < i → IdBelongs xs i (length xs)
+belongs_last xs i last up some is less = record {
+  within = omega arith;
+  before = λ k lt. elim (cases_lt k (length xs - 1)) [
+    | inl before ↦ (let below = AllPairs-from_increasing xs up k (length xs - 1) 0 before (omega arith) in omega (arith, below, is, less))
+    | inr same ↦ (let e : k ≡ length xs - 1 = omega arith in omega (arith, ap (λ (n : ℕ). get_or xs n 0) e, is, less))
+  ];
+  behind = λ k le lt. absurd (omega arith);
+}
 
 -- ---- one fewer
 

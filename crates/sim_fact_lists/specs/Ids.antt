@@ -1,5 +1,5 @@
 -- Ids that ascend, with one fewer or one more.
-use Rattle.std.specs.Prelude.{ℕ, not, nat_lt, ◌==◌, List, [], ◌∷◌, filter, if◌then◌else◌}
+use Rattle.std.specs.Prelude.{ℕ, ◌≡◌, ◌<◌, ◌≤◌, not, nat_lt, ◌==◌, List, [], ◌∷◌, length, filter, slice_index_or, if◌then◌else◌}
 
 -- ids without one
 abbrev pub without_id : ℕ → List ℕ → List ℕ
@@ -9,3 +9,14 @@ without_id id ids = filter (λ n. not (n == id)) ids
 abbrev pub with_id : ℕ → List ℕ → List ℕ
 with_id id [] = id ∷ []
 with_id id (n ∷ ids) = if nat_lt id n then id ∷ n ∷ ids else if nat_lt n id then n ∷ with_id id ids else n ∷ ids
+
+-- the id stands there
+pub record IdStands (ids : List ℕ) (id place : ℕ) : Type 0 where
+  pub within : place < length ids
+  pub same : slice_index_or ids place 0 ≡ id
+
+-- the id is not among them, and belongs there: those before are below it, and all others above
+pub record IdBelongs (ids : List ℕ) (id place : ℕ) : Type 0 where
+  pub within : place ≤ length ids
+  pub before : (k : ℕ) → k < place → slice_index_or ids k 0 < id
+  pub behind : (k : ℕ) → place ≤ k → k < length ids → id < slice_index_or ids k 0

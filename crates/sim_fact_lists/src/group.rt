@@ -1,8 +1,8 @@
 //! The ids of one key.
 
-ghost use Rattle.std.specs.Prelude.{◌≡◌, ◌<◌, [], OnOk, vec_len, vec_capacity};
+ghost use Rattle.std.specs.Prelude.{◌≡◌, ◌<◌, [], OnOk, MatchResult, vec_len, vec_capacity};
 ghost use Rattle.std.specs.List.Sorted.{IsStrictlyIncreasing};
-ghost use Rattle.sim_fact_lists.specs.Ids.{with_id, without_id};
+ghost use Rattle.sim_fact_lists.specs.Ids.{IdStands, IdBelongs, with_id, without_id};
 
 use sim_base::OutOfMemory;
 use std::alloc::Global;
@@ -43,7 +43,7 @@ impl Group {
         ensures ids { self.new.ids.items ≡ without_id id self.old.ids.items }
         ensures room { vec_len self.old.ids < vec_capacity self.old.ids → vec_len self.new.ids < vec_capacity self.new.ids }
     {
-        if let Ok(at) = self.ids.as_slice().binary_search(&id) {
+        if let Ok(at) = place_of(self.ids.as_slice(), id) {
             self.ids.remove(at);
         }
     }
@@ -54,8 +54,20 @@ impl Group {
         ensures key { self.new.key ≡ self.old.key }
         ensures ids { self.new.ids.items ≡ with_id id self.old.ids.items }
     {
-        if let Err(at) = self.ids.as_slice().binary_search(&id) {
+        if let Err(at) = place_of(self.ids.as_slice(), id) {
             let _ = self.ids.insert(at, id);
         }
+    }
+}
+
+// Where an id stands among ids, or where it would be put. Both ends are looked at first, since ids come and go in their order.
+fn place_of(ids: &[u32], id: u32) -> Result<usize, usize>
+    requires { IsStrictlyIncreasing ids.now }
+    ensures { MatchResult result (IdStands ids.now id) (IdBelongs ids.now id) }
+{
+    match ids {
+        [first, ..] if *first == id => Ok(0),
+        [.., last] if *last < id => Err(ids.len()),
+        _ => ids.binary_search(&id),
     }
 }
