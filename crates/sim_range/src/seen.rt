@@ -14,17 +14,13 @@ use sim_fact_lists::find;
 use sim_system::Fact;
 use std::alloc::Global;
 
-// All of these ids but one.
-fn others(alloc: Global, ids: &[u32], id: u32) -> Result<Ids, OutOfMemory>
-    ensures { IfOk result (λ all. all ≡ filter (λ n. not (n == id)) ids.now) }
+// Leaves out one of these ids.
+fn without(ids: Ids, id: u32) -> Ids
+    ensures { result ≡ filter (λ n. not (n == id)) ids }
 {
-    let mut all = Ids::new(alloc);
-    for other in ids {
-        if *other != id {
-            all.push(*other)?;
-        }
-    }
-    Ok(all)
+    let mut ids = ids.into_items();
+    ids.retain(|other| *other != id);
+    Ids::from_items(ids)
 }
 
 /// The enemies that an entity sees.
@@ -50,5 +46,5 @@ pub fn seen(
     };
     let mask = land.masks.as_slice()[usize::from(viewer.owner)];
     let near = within(alloc, land, facts, buckets, &viewer.at, vision, mask)?;
-    others(alloc, near.as_slice(), viewer.id)
+    Ok(without(near, viewer.id))
 }
