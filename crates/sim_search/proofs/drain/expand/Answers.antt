@@ -1,4 +1,5 @@
 use Rattle.std.proofs.Common.{◌+◌, sym, ◌∙◌, subst}
+use Rattle.std.proofs.lemmas.Result.{IfOk-from_err}
 use Rattle.sim_grid.specs.Grids.{field_of_grid}
 use Rattle.sim_search.specs.Estimates.{estimate_to}
 use Rattle.sim_search.specs.declared.search.Search.{Search}
@@ -21,3 +22,6 @@ loop-which-preserved c =
 
 pub returns : goal.returns
 returns c = expanded (estimate_to c.args.aim) (field_of_grid c.args.grid.now) c.args.search.now c.loop-which.search c.args.from c.args.cost c.loop-which.which c.loop-which-test.false c.loop-which.invariant
+
+pub returns-in_err-lower : goal.returns-in_err-lower
+returns-in_err-lower c = IfOk-from_err _ _ c.from_residual.ensures.0

@@ -1,4 +1,5 @@
 use Rattle.std.proofs.Common.{ap, ◌∙◌, OnOk, Result, Ok, Err}
+use Rattle.std.proofs.lemmas.Result.{IfOk-from_err}
 use Rattle.sim_base.specs.Places.{Size}
 use Rattle.sim_grid.specs.Grids.{field_of_grid, place_of}
 use Rattle.sim_search.proofs.Floods.{seed-floods, seed-done}
@@ -18,3 +19,6 @@ pub returns : goal.returns
 returns c =
     let field = field_of_grid c.args.grid.now in
     both_ok c.fill.result (λ floods fills. seed-done field c.args.flood.now c.mark.new.flood c.fill.new.flood c.args.cell c.place-label.result c.requires.flooded c.requires.cell_on c.in_ok-mark.ensures floods fills) c.fill.ensures.floods c.fill.ensures.fills
+
+pub returns-in_err-mark : goal.returns-in_err-mark
+returns-in_err-mark c = IfOk-from_err _ _ c.from_residual.ensures.0

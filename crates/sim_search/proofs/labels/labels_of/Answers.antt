@@ -1,4 +1,5 @@
 use Rattle.std.proofs.Common.{◌≡◌, ℕ, ◌*◌, ◌≤◌, Some, None, sym, ap, ap₂, ◌∙◌, arith}
+use Rattle.std.proofs.lemmas.Result.{IfOk-from_err}
 use Rattle.sim_base.specs.declared.place.Cell.{Cell}
 use Rattle.sim_base.specs.Places.{Size}
 use Rattle.sim_grid.specs.Grids.{field_of_grid}
@@ -26,3 +27,9 @@ returns c =
     let rows : c.loop-z.z ≡ size.depth = omega (arith, c.loop-z.auto.z-end, c.loop-z-test.false, c.depth-z-end.ensures.depth) in
     let all : size.width * size.depth ≤ c.loop-z.z * size.width = omega (arith, ap (λ (n : ℕ). n * size.width) rows) in
     labels-found (field_of_grid c.args.grid.now) c.loop-z.flood (c.loop-z.z * size.width) all c.loop-z.invariant
+
+pub returns-in_err-no_numbers : goal.returns-in_err-no_numbers
+returns-in_err-no_numbers c = IfOk-from_err _ _ c.from_residual.ensures.0
+
+pub returns-in_err-flood_row : goal.returns-in_err-flood_row
+returns-in_err-flood_row c = IfOk-from_err _ _ c.from_residual-in_err-flood_row.ensures.0

@@ -1,6 +1,7 @@
 use Rattle.std.proofs.Common.{rules, ◌≡◌, ◌*◌, ◌<◌, ℕ, cond, length, get_or, Option, Some, None, sym, ap, ◌∙◌, subst, arith, inr, sum_by, length-append, [], ◌∷◌}
 use Rattle.std.specs.Option.{is_none}
 use Rattle.std.proofs.lemmas.List.Sums.{sum_by-set}
+use Rattle.std.proofs.lemmas.Result.{IfOk-from_err}
 use Rattle.sim_base.specs.Places.{Size}
 use Rattle.sim_base.specs.Steps.{IsOnGround}
 use Rattle.sim_search.specs.NumberTables.{size_in, entry_in, place_at}
@@ -29,3 +30,6 @@ returns-in_ok-push c =
       waits = c.in_ok-push.ensures.items;
       less = omega (arith, sum_by-set count t.items.items place (Some c.args.label) None at, one, ap (sum_by count) c.set.ensures.items_are, ap length c.in_ok-push.ensures.items, length-append old.waiting.items (c.args.cell ∷ []));
     })
+
+pub returns-in_err-push : goal.returns-in_err-push
+returns-in_err-push c = IfOk-from_err _ _ c.from_residual.ensures.0

@@ -1,4 +1,5 @@
 use Rattle.std.proofs.Common.{◌%◌, ℕ, false, map, nat_eq, ap, ap₂, ◌∙◌, arith}
+use Rattle.std.proofs.lemmas.Result.{IfOk-from_err}
 use Rattle.sim_search.specs.Tables.{entry_at}
 use Rattle.sim_base.specs.Places.{Size}
 use Rattle.sim_search.specs.Estimates.{estimate_to}
@@ -17,3 +18,9 @@ returns c =
       none_taken = λ e. ap₂ (λ (size : Size) (n : ℕ). entry_at false size (map (λ (t : ℕ). nat_eq t n) s.taken.items) e) c.set.ensures.size c.set.ensures.stamp ∙ b.none_taken e;
       queued = queued_first s.buckets.items c.bucket.result (estimate_to c.args.aim c.args.start % 32) _ c.push.new.self c.args.start (c.bucket.ensures.is ∙ ap (λ (n : ℕ). n % 32) c.estimate.ensures.is) (omega (arith, s.ring, s.buckets.ok.0, c.bucket.ensures.below)) c.in_ok-push.ensures.ok;
     }
+
+pub returns-in_err-search : goal.returns-in_err-search
+returns-in_err-search c = IfOk-from_err _ _ c.from_residual.ensures.0
+
+pub returns-in_err-push : goal.returns-in_err-push
+returns-in_err-push c = IfOk-from_err _ _ c.from_residual-in_err-push.ensures.0

@@ -1,5 +1,6 @@
 use Rattle.std.proofs.Common.{arith, ◌≡◌, ◌+◌, ◌%◌, ℕ, true, Some, nat_eq, map, refl, sym, ap, ◌∙◌, subst, inr, ltb-true, set, get_or, List, [], ◌∷◌, ◌++◌}
 use Rattle.std.proofs.lemmas.List.{get_or_default}
+use Rattle.std.proofs.lemmas.Result.{IfOk-from_err}
 use Rattle.sim_base.specs.declared.place.Cell.{Cell}
 use Rattle.sim_search.specs.Estimates.{estimate_to}
 use Rattle.sim_search.specs.Tables.{is_lower_than}
@@ -23,3 +24,6 @@ returns-in_ok-push c =
       taken_is = ap (λ (n : ℕ). map (λ (t : ℕ). nat_eq t n) old.taken.items) c.set.ensures.stamp;
       queued = subst (λ (n : ℕ). set old.buckets.items b c.push.new.self ≡ set old.buckets.items n (get_or old.buckets.items n [] ++ to ∷ [])) key (ap (set old.buckets.items b) pushed);
     })
+
+pub returns-in_err-push : goal.returns-in_err-push
+returns-in_err-push c = IfOk-from_err _ _ c.from_residual.ensures.0
