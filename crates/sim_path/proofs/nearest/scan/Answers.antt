@@ -1,4 +1,5 @@
 use Rattle.std.proofs.Common.{arith}
+use Rattle.std.proofs.lemmas.Result.{IfOk-from_err}
 use Rattle.sim_grid.specs.Grids.{field_of_grid}
 use Rattle.sim_path.proofs.NearestEnds.{rows-begin, rows-done}
 use Rattle.sim_path.proofs.nearest.scan.Goals as goal
@@ -11,3 +12,6 @@ loop-z-preserved c = c.in_ok-scan_row.ensures
 
 pub returns : goal.returns
 returns c = rows-done (field_of_grid c.args.grid.now) c.args.start c.args.goal c.args.window c.loop-z.z c.loop-z.ends c.loop-z-test.false c.loop-z.invariant
+
+pub returns-in_err-scan_row : goal.returns-in_err-scan_row
+returns-in_err-scan_row c = IfOk-from_err _ _ c.from_residual.ensures.0

@@ -1,4 +1,4 @@
-use Rattle.std.proofs.Common.{◌≡◌, Bool, true, Option, subst}
+use Rattle.std.proofs.Common.{◌≡◌, Bool, true, Option, refl, subst}
 use Rattle.sim_grid.specs.Grids.{field_of_grid}
 use Rattle.sim_path.specs.declared.reached.Reached.{Reached}
 use Rattle.sim_path.specs.WayEnds.{IsBestOf, IsTrailToEnd}
@@ -26,3 +26,15 @@ returns-in-Some c =
       is_trail = h.is_trail;
     })
     c.tight_trail.ensures
+
+pub tight_trail-requires-clause-start : goal.tight_trail-requires-clause-start
+tight_trail-requires-clause-start c = c.requires.start
+
+pub tight_trail-requires-clause-end : goal.tight_trail-requires-clause-end
+tight_trail-requires-clause-end c = c.if-has.ensures.0 refl
+
+pub tight_trail-requires-clause-dead : goal.tight_trail-requires-clause-dead
+tight_trail-requires-clause-dead c = c.requires.dead
+
+pub tight_trail-requires-clause-front : goal.tight_trail-requires-clause-front
+tight_trail-requires-clause-front c = c.requires.front

@@ -1,4 +1,5 @@
 use Rattle.std.proofs.Common.{sym, ◌∙◌, subst}
+use Rattle.std.proofs.lemmas.Result.{IfOk-from_err}
 use Rattle.sim_base.specs.declared.place.Cell.{Cell}
 use Rattle.sim_grid.specs.Grids.{field_of_grid}
 use Rattle.sim_search.specs.declared.aim.Aim.{Aim}
@@ -28,3 +29,6 @@ trail_back-found-requires-clause-back c = rw c.cell_of-from.ensures.cell at c.wa
 
 pub returns : goal.returns
 returns c = c.trail_back-found.ensures
+
+pub returns-in_err-stage : goal.returns-in_err-stage
+returns-in_err-stage c = IfOk-from_err _ _ c.from_residual.ensures.0
