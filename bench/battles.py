@@ -131,7 +131,7 @@ def main():
             path.write_text(json.dumps(content, separators=(",", ":")))
             least, lines = least_of(ROUNDS, programs, ["play", path] if content else name.split(), ENOUGH)
             last = lines.splitlines()[-1].decode()
-            print(f"{name:<54}" + "".join(f"{1e3 * took:9.0f} ms" for took in least) + f"  {last}", flush=True)
+            print(f"{name:<54}" + "".join(f"{1e3 * took:9.1f} ms" for took in least) + f"  {last}", flush=True)
 
 
 if __name__ == "__main__":
