@@ -1,28 +1,148 @@
 //! Ways that another program found on grounds drawn by hand, and all ways on a few small grounds against a plain program.
 
-ghost use Rattle.std.specs.Prelude.{◌≡◌};
+ghost use Rattle.std.specs.Prelude.{◌≡◌, ◌≤◌, IsTrue};
 ghost use Rattle.sim_base.specs.Places.{is_inside};
 
 mod plain;
 
-use plain::Plain;
-use sim_base::{Cell, Fixed, Point};
+use plain::{Plain, middle};
+use sim_base::{Cell, Fixed, OutOfMemory, Point};
 use sim_grid::Grid;
 use sim_path::{Searcher, way, way_with};
-use sim_search::labels_of;
+use sim_search::{Labels, labels_of};
 use sim_system::Way;
 use std::alloc::Global;
-use std::process::Abort;
 use std::test::Fail;
 
 // A way on a ground. Its first row is that of the least z; a closed cell is '#'. Points are in quarters of a metre.
 #[derive(Drop)]
-struct Case<'a> {
-    rows: &'a [&'a str],
+struct Case {
+    rows: &'static [&'static str],
     start: (i32, i32),
     goal: (i32, i32),
-    points: &'a [(i32, i32)],
+    points: &'static [(i32, i32)],
 }
+
+// The ways of the other program.
+static CASES: [Case; 10] = [
+    // Of two ends that are as near and cost as much, the one with the smaller z.
+    Case {
+        rows: &["........", "....###.", "...####.", "....###.", "........"],
+        start: (2, 10),
+        goal: (22, 10),
+        points: &[(6, 6), (10, 2), (14, 2), (18, 2), (22, 2)],
+    },
+    // One cell: the goal alone.
+    Case {
+        rows: &["....", "....", "....", "...."],
+        start: (2, 2),
+        goal: (1, 3),
+        points: &[(1, 3)],
+    },
+    // A start that is closed and shut in.
+    Case {
+        rows: &["##..", "#...", "....", "...."],
+        start: (2, 2),
+        goal: (14, 14),
+        points: &[],
+    },
+    // A wall from side to side.
+    Case {
+        rows: &["..#..", "..#..", "..#.."],
+        start: (2, 6),
+        goal: (18, 2),
+        points: &[(6, 2)],
+    },
+    // A goal in a closed cell.
+    Case {
+        rows: &["....", "..#.", "...."],
+        start: (2, 2),
+        goal: (9, 7),
+        points: &[(6, 6)],
+    },
+    // No diagonal step past one closed cell beside it.
+    Case {
+        rows: &[".#.", "...", "..."],
+        start: (2, 2),
+        goal: (10, 2),
+        points: &[(2, 6), (6, 6), (10, 6), (10, 2)],
+    },
+    // A closed start is left, and the goal is reached at its own point.
+    Case {
+        rows: &["....", ".#..", "...."],
+        start: (6, 6),
+        goal: (14, 3),
+        points: &[(10, 2), (14, 3)],
+    },
+    // A closed start between two regions.
+    Case {
+        rows: &["..#.."],
+        start: (10, 2),
+        goal: (18, 2),
+        points: &[(14, 2), (18, 2)],
+    },
+    // One column.
+    Case {
+        rows: &[".", ".", ".", "."],
+        start: (2, 2),
+        goal: (2, 15),
+        points: &[(2, 6), (2, 10), (2, 15)],
+    },
+    // Of ways that cost as much, by the first direction back from each cell.
+    Case {
+        rows: &["....", "....", "....", "...."],
+        start: (14, 6),
+        goal: (2, 2),
+        points: &[(10, 2), (6, 2), (2, 2)],
+    },
+];
+
+// A way of 64 points over an open ground, from the middle of its first cell: the ground's size, the goal, the last point,
+// and whether the way is whole.
+#[derive(Drop)]
+struct Long {
+    width: usize,
+    depth: usize,
+    goal: (i32, i32),
+    last: (i32, i32),
+    whole: bool,
+}
+
+static LONG: [Long; 3] = [
+    Long {
+        width: 65,
+        depth: 1,
+        goal: (257, 3),
+        last: (257, 3),
+        whole: true,
+    },
+    Long {
+        width: 66,
+        depth: 1,
+        goal: (261, 3),
+        last: (258, 2),
+        whole: false,
+    },
+    Long {
+        width: 256,
+        depth: 256,
+        goal: (1022, 1022),
+        last: (258, 258),
+        whole: false,
+    },
+];
+
+// The grounds of the plain program.
+static GROUNDS: [&[&str]; 5] = [
+    &["....", ".#..", "..#.", "...."],
+    &["..#.", ".#..", "...#", "#..."],
+    &[".....", ".###.", ".#.#.", "..#.."],
+    &["......", ".####.", "......"],
+    &["...", "##.", "...", ".##", "..."],
+];
+
+// The labels of the ground "..#..".
+static LABELS: [Option<u32>; 5] = [Some(0), Some(0), None, Some(3), Some(3)];
 
 fn point(quarters: (i32, i32)) -> Point {
     Point {
@@ -41,265 +161,280 @@ fn is_on(grid: &Grid, at: &Point) -> bool
         && at.z.raw() < i32::from(grid.depth()) * 65536
 }
 
-fn open_grid(rt: &impl Abort, alloc: Global, width: u16, depth: u16) -> Result<Grid, Fail> {
-    assert!(rt; 1 <= width && width <= 256);
-    assert!(rt; 1 <= depth && depth <= 256);
-    Ok(Grid::new(alloc, width, depth)?)
+// A number of cells as the side of a ground, which has 1 to 256.
+fn side(cells: usize) -> u16
+    ensures least { 1 ≤ result }
+    ensures most { result ≤ 256 }
+{
+    cells.max(1).min(256) as u16
 }
 
-fn grid_of(rt: &impl Abort, alloc: Global, rows: &[&str]) -> Result<Grid, Fail> {
-    let mut width = 0;
-    for row in rows {
-        width = row.len();
+// Opens and closes the cells of a row, and says whether they are just those of the ground.
+fn draw(grid: &mut Grid, z: u16, row: &str) -> bool {
+    let mut x = 0u16;
+    for byte in row.as_bytes() {
+        let cell = Cell { x, z };
+        if !grid.has(cell) {
+            return false;
+        }
+        grid.set(cell, *byte == b'.');
+        x = x.wrapping_add(1);
     }
-    let mut grid = open_grid(rt, alloc, u16::try_from(width)?, u16::try_from(rows.len())?)?;
+    x == grid.width()
+}
+
+// Draws each row, and says whether the ground has just these rows.
+fn draw_all(grid: &mut Grid, rows: &[&str]) -> bool {
+    let mut same = true;
     let mut z = 0u16;
     for row in rows {
-        let mut x = 0u16;
-        for byte in row.as_bytes() {
-            let cell = Cell { x, z };
-            assert!(rt; grid.has(cell));
-            grid.set(cell, *byte == b'.');
-            x = x.wrapping_add(1);
-        }
+        same = draw(grid, z, row) && same;
         z = z.wrapping_add(1);
     }
-    Ok(grid)
+    same && z == grid.depth()
 }
 
-// The way by the whole search, if the searches by labels find the same one.
-fn way_on(
-    rt: &impl Abort,
+fn width_of(rows: &[&str]) -> usize {
+    match rows.first() {
+        None => 0,
+        Some(row) => row.len(),
+    }
+}
+
+// The ground of these rows, if they are of one length.
+fn grid_of(alloc: Global, rows: &[&str]) -> Result<Option<Grid>, OutOfMemory> {
+    let mut grid = Grid::new(alloc, side(width_of(rows)), side(rows.len()))?;
+    let same = draw_all(&mut grid, rows);
+    Ok(if same { Some(grid) } else { None })
+}
+
+// Whether the searches by labels find this way too.
+fn is_found(
     alloc: Global,
     searcher: &mut Searcher,
     grid: &Grid,
     start: Point,
     goal: Point,
-) -> Result<Way, Fail> {
-    let (from, to) = (&start, &goal);
-    let from_on = is_on(grid, from);
-    let to_on = is_on(grid, to);
-    assert!(rt; from_on);
-    assert!(rt; to_on);
-    let found = way(alloc, grid, *from, *to)?;
+    found: &Way,
+) -> Result<bool, OutOfMemory>
+    requires start { IsTrue (is_inside grid.now.size start) }
+    requires goal { IsTrue (is_inside grid.now.size goal) }
+{
     let labels = labels_of(alloc, grid)?;
-    let with = way_with(alloc, grid, &labels, *from, *to)?;
-    let kept = searcher.way(alloc, grid, &labels, *from, *to)?;
-    assert!(rt; is_equal(&found, &with));
-    assert!(rt; is_equal(&found, &kept));
-    Ok(found)
+    let with = way_with(alloc, grid, &labels, start, goal)?;
+    let kept = searcher.way(alloc, grid, &labels, start, goal)?;
+    Ok(is_equal(found, &with) && is_equal(found, &kept))
 }
 
 fn is_equal(found: &Way, other: &Way) -> bool {
     found.whole == other.whole && found.points.as_slice() == other.points.as_slice()
 }
 
+// The way by the whole search, if both points are on the ground and the searches by labels find the same one.
+fn way_on(
+    alloc: Global,
+    searcher: &mut Searcher,
+    grid: &Grid,
+    start: Point,
+    goal: Point,
+) -> Result<Option<Way>, OutOfMemory> {
+    if !is_on(grid, &start) || !is_on(grid, &goal) {
+        return Ok(None);
+    }
+    let found = way(alloc, grid, start, goal)?;
+    let same = is_found(alloc, searcher, grid, start, goal, &found)?;
+    Ok(if same { Some(found) } else { None })
+}
+
+// Whether there is a whole way, with just these points.
+fn goes_by(found: &Option<Way>, points: &[(i32, i32)]) -> bool {
+    match found {
+        None => false,
+        Some(way) => way.whole && are_points(way.points.as_slice(), points),
+    }
+}
+
+fn are_points(found: &[Point], wanted: &[(i32, i32)]) -> bool {
+    let mut same = found.len() == wanted.len();
+    for at in 0..wanted.len() {
+        same = same && at < found.len() && found[at] == point(wanted[at]);
+    }
+    same
+}
+
+// Whether all searches find the way with just these points.
+fn is_way(
+    alloc: Global,
+    searcher: &mut Searcher,
+    grid: &Grid,
+    start: (i32, i32),
+    goal: (i32, i32),
+    points: &[(i32, i32)],
+) -> Result<bool, OutOfMemory> {
+    let found = way_on(alloc, searcher, grid, point(start), point(goal))?;
+    Ok(goes_by(&found, points))
+}
+
+fn is_taken(alloc: Global, searcher: &mut Searcher, case: &Case) -> Result<bool, OutOfMemory> {
+    match grid_of(alloc, case.rows)? {
+        None => Ok(false),
+        Some(grid) => is_way(alloc, searcher, &grid, case.start, case.goal, case.points),
+    }
+}
+
+fn are_taken(alloc: Global, cases: &[Case]) -> Result<bool, OutOfMemory> {
+    let mut searcher = Searcher::new();
+    let mut taken = true;
+    for case in cases {
+        taken = is_taken(alloc, &mut searcher, case)? && taken;
+    }
+    Ok(taken)
+}
+
 #[test]
 fn takes_the_way_of_the_other_program(rt: HostRuntime) -> Result<(), Fail> {
-    let cases = [
-        // Of two ends that are as near and cost as much, the one with the smaller z.
-        Case {
-            rows: &["........", "....###.", "...####.", "....###.", "........"],
-            start: (2, 10),
-            goal: (22, 10),
-            points: &[(6, 6), (10, 2), (14, 2), (18, 2), (22, 2)],
-        },
-        // One cell: the goal alone.
-        Case {
-            rows: &["....", "....", "....", "...."],
-            start: (2, 2),
-            goal: (1, 3),
-            points: &[(1, 3)],
-        },
-        // A start that is closed and shut in.
-        Case {
-            rows: &["##..", "#...", "....", "...."],
-            start: (2, 2),
-            goal: (14, 14),
-            points: &[],
-        },
-        // A wall from side to side.
-        Case {
-            rows: &["..#..", "..#..", "..#.."],
-            start: (2, 6),
-            goal: (18, 2),
-            points: &[(6, 2)],
-        },
-        // A goal in a closed cell.
-        Case {
-            rows: &["....", "..#.", "...."],
-            start: (2, 2),
-            goal: (9, 7),
-            points: &[(6, 6)],
-        },
-        // No diagonal step past one closed cell beside it.
-        Case {
-            rows: &[".#.", "...", "..."],
-            start: (2, 2),
-            goal: (10, 2),
-            points: &[(2, 6), (6, 6), (10, 6), (10, 2)],
-        },
-        // A closed start is left, and the goal is reached at its own point.
-        Case {
-            rows: &["....", ".#..", "...."],
-            start: (6, 6),
-            goal: (14, 3),
-            points: &[(10, 2), (14, 3)],
-        },
-        // A closed start between two regions.
-        Case {
-            rows: &["..#.."],
-            start: (10, 2),
-            goal: (18, 2),
-            points: &[(14, 2), (18, 2)],
-        },
-        // One column.
-        Case {
-            rows: &[".", ".", ".", "."],
-            start: (2, 2),
-            goal: (2, 15),
-            points: &[(2, 6), (2, 10), (2, 15)],
-        },
-        // Of ways that cost as much, by the first direction back from each cell.
-        Case {
-            rows: &["....", "....", "....", "...."],
-            start: (14, 6),
-            goal: (2, 2),
-            points: &[(10, 2), (6, 2), (2, 2)],
-        },
-    ];
-    let mut searcher = Searcher::new();
-    for case in &cases {
-        let grid = grid_of(&rt, rt.alloc(), case.rows)?;
-        let found = way_on(
-            &rt,
-            rt.alloc(),
-            &mut searcher,
-            &grid,
-            point(case.start),
-            point(case.goal),
-        )?;
-        assert!(rt; found.whole);
-        assert_eq!(rt; found.points.as_slice().len(), case.points.len());
-        for (at, wanted) in found.points.as_slice().iter().zip(case.points) {
-            assert!(rt; *at == point(*wanted));
-        }
-    }
+    assert!(rt; are_taken(rt.alloc(), &CASES)?);
     Ok(())
+}
+
+// Whether there is a way of 64 points, with this one as the last, and is whole or not.
+fn is_long(found: &Option<Way>, last: (i32, i32), whole: bool) -> bool {
+    match found {
+        None => false,
+        Some(way) => way.whole == whole && ends_at(way.points.as_slice(), last),
+    }
+}
+
+fn ends_at(points: &[Point], last: (i32, i32)) -> bool {
+    points.len() == 64 && points[63] == point(last)
+}
+
+fn is_kept_on(
+    alloc: Global,
+    searcher: &mut Searcher,
+    grid: &Grid,
+    long: &Long,
+) -> Result<bool, OutOfMemory> {
+    let found = way_on(alloc, searcher, grid, point((2, 2)), point(long.goal))?;
+    Ok(is_long(&found, long.last, long.whole))
+}
+
+fn is_kept(alloc: Global, searcher: &mut Searcher, long: &Long) -> Result<bool, OutOfMemory> {
+    let grid = Grid::new(alloc, side(long.width), side(long.depth))?;
+    is_kept_on(alloc, searcher, &grid, long)
+}
+
+fn are_kept(alloc: Global, cases: &[Long]) -> Result<bool, OutOfMemory> {
+    let mut searcher = Searcher::new();
+    let mut kept = true;
+    for long in cases {
+        kept = is_kept(alloc, &mut searcher, long)? && kept;
+    }
+    Ok(kept)
 }
 
 #[test]
 fn keeps_64_points(rt: HostRuntime) -> Result<(), Fail> {
-    // The ground, the goal, the last point, and whether the way is whole.
-    let cases = [
-        (65u16, 1u16, (257, 3), (257, 3), true),
-        (66, 1, (261, 3), (258, 2), false),
-        (256, 256, (1022, 1022), (258, 258), false),
-    ];
-    let mut searcher = Searcher::new();
-    for (width, depth, goal, last, whole) in cases {
-        let grid = open_grid(&rt, rt.alloc(), width, depth)?;
-        let found = way_on(
-            &rt,
-            rt.alloc(),
-            &mut searcher,
-            &grid,
-            point((2, 2)),
-            point(goal),
-        )?;
-        assert_eq!(rt; found.points.as_slice().len(), 64);
-        assert_eq!(rt; found.whole, whole);
-        assert!(rt; found.points.as_slice().last() == Some(&point(last)));
-    }
+    assert!(rt; are_kept(rt.alloc(), &LONG)?);
     Ok(())
 }
 
-// A ground, and the plain program on it.
-#[derive(Drop)]
-struct Site {
-    grid: Grid,
-    plain: Plain,
-}
-
-// Whether the whole search, the search by labels and the kept searcher find the way of the plain program.
+// Whether all searches find the way of the plain program.
 fn is_same(
-    rt: &impl Abort,
     alloc: Global,
     searcher: &mut Searcher,
-    site: &Site,
+    grid: &Grid,
+    plain: &Plain,
     from: (i32, i32),
     to: (i32, i32),
-) -> Result<bool, Fail> {
-    let found = way_on(
-        rt,
+) -> Result<bool, OutOfMemory> {
+    let wanted = plain.way(alloc, from, to)?;
+    is_way(
         alloc,
         searcher,
-        &site.grid,
-        point(middle(from)),
-        point(middle(to)),
-    )?;
-    let wanted = site.plain.way(alloc, from, to)?;
-    let mut same = found.points.as_slice().len() == wanted.len();
-    for (at, cell) in found.points.as_slice().iter().zip(&wanted) {
-        same = same && *at == point(middle(*cell));
+        grid,
+        middle(from),
+        middle(to),
+        wanted.as_slice(),
+    )
+}
+
+// Whether that is so from this cell to each.
+fn is_same_from(
+    alloc: Global,
+    searcher: &mut Searcher,
+    grid: &Grid,
+    plain: &Plain,
+    from: (i32, i32),
+) -> Result<bool, OutOfMemory> {
+    let mut same = true;
+    for z in 0..i32::from(grid.depth()) {
+        for x in 0..i32::from(grid.width()) {
+            same = is_same(alloc, searcher, grid, plain, from, (x, z))? && same;
+        }
     }
     Ok(same)
 }
 
-fn middle(cell: (i32, i32)) -> (i32, i32) {
-    (
-        cell.0.wrapping_mul(4).wrapping_add(2),
-        cell.1.wrapping_mul(4).wrapping_add(2),
-    )
+// Whether that is so from each cell to each.
+fn is_same_on(alloc: Global, searcher: &mut Searcher, grid: &Grid) -> Result<bool, OutOfMemory> {
+    let plain = Plain::of(alloc, grid)?;
+    let mut same = true;
+    for z in 0..i32::from(grid.depth()) {
+        for x in 0..i32::from(grid.width()) {
+            same = is_same_from(alloc, searcher, grid, &plain, (x, z))? && same;
+        }
+    }
+    Ok(same)
+}
+
+fn is_same_in(alloc: Global, searcher: &mut Searcher, rows: &[&str]) -> Result<bool, OutOfMemory> {
+    match grid_of(alloc, rows)? {
+        None => Ok(false),
+        Some(grid) => is_same_on(alloc, searcher, &grid),
+    }
 }
 
 // One searcher goes on from ground to ground, of one size and of others.
+fn are_same(alloc: Global, grounds: &[&[&str]]) -> Result<bool, OutOfMemory> {
+    let mut searcher = Searcher::new();
+    let mut same = true;
+    for rows in grounds {
+        same = is_same_in(alloc, &mut searcher, rows)? && same;
+    }
+    Ok(same)
+}
+
 #[test]
 fn takes_the_way_of_the_plain_program(rt: HostRuntime) -> Result<(), Fail> {
-    let grounds: [&[&str]; 5] = [
-        &["....", ".#..", "..#.", "...."],
-        &["..#.", ".#..", "...#", "#..."],
-        &[".....", ".###.", ".#.#.", "..#.."],
-        &["......", ".####.", "......"],
-        &["...", "##.", "...", ".##", "..."],
-    ];
-    let mut searcher = Searcher::new();
-    for rows in grounds {
-        let grid = grid_of(&rt, rt.alloc(), rows)?;
-        let plain = Plain::of(rt.alloc(), &grid)?;
-        let site = Site { grid, plain };
-        for z in 0..i32::from(site.grid.depth()) {
-            for x in 0..i32::from(site.grid.width()) {
-                for goal_z in 0..i32::from(site.grid.depth()) {
-                    for goal_x in 0..i32::from(site.grid.width()) {
-                        assert!(rt;
-                            is_same(
-                                &rt,
-                                rt.alloc(),
-                                &mut searcher,
-                                &site,
-                                (x, z),
-                                (goal_x, goal_z)
-                            )?,
-                            "from {x} {z} to {goal_x} {goal_z}"
-                        );
-                    }
-                }
-            }
-        }
-    }
+    assert!(rt; are_same(rt.alloc(), &GROUNDS)?);
     Ok(())
+}
+
+fn are_labels(labels: &Labels, wanted: &[Option<u32>]) -> bool {
+    let mut same = true;
+    let mut x = 0u16;
+    for label in wanted {
+        same = same && labels.of(Cell { x, z: 0 }) == *label;
+        x = x.wrapping_add(1);
+    }
+    same
+}
+
+fn has_labels(alloc: Global, grid: &Grid, wanted: &[Option<u32>]) -> Result<bool, OutOfMemory> {
+    let labels = labels_of(alloc, grid)?;
+    Ok(are_labels(&labels, wanted))
+}
+
+fn is_labelled(alloc: Global, rows: &[&str], wanted: &[Option<u32>]) -> Result<bool, OutOfMemory> {
+    match grid_of(alloc, rows)? {
+        None => Ok(false),
+        Some(grid) => has_labels(alloc, &grid, wanted),
+    }
 }
 
 #[test]
 fn labels_two_regions(rt: HostRuntime) -> Result<(), Fail> {
-    let grid = grid_of(&rt, rt.alloc(), &["..#.."])?;
-    let labels = labels_of(rt.alloc(), &grid)?;
-    let wanted = [Some(0), Some(0), None, Some(3), Some(3)];
-    let mut x = 0u16;
-    for label in wanted {
-        assert_eq!(rt; labels.of(Cell { x, z: 0 }), label);
-        x = x.wrapping_add(1);
-    }
+    assert!(rt; is_labelled(rt.alloc(), &["..#.."], &LABELS)?);
     Ok(())
 }
