@@ -282,18 +282,21 @@ fn is_taken(alloc: Global, searcher: &mut Searcher, case: &Case) -> Result<bool,
     }
 }
 
-fn are_taken(alloc: Global, cases: &[Case]) -> Result<bool, OutOfMemory> {
+// The last case whose way is another, if there is one.
+fn missed(alloc: Global, cases: &[Case]) -> Result<Option<usize>, OutOfMemory> {
     let mut searcher = Searcher::new();
-    let mut taken = true;
-    for case in cases {
-        taken = is_taken(alloc, &mut searcher, case)? && taken;
+    let mut missed = None;
+    for (number, case) in cases.iter().enumerate() {
+        if !is_taken(alloc, &mut searcher, case)? {
+            missed = Some(number);
+        }
     }
-    Ok(taken)
+    Ok(missed)
 }
 
 #[test]
 fn takes_the_way_of_the_other_program(rt: HostRuntime) -> Result<(), Fail> {
-    assert!(rt; are_taken(rt.alloc(), &CASES)?);
+    assert_eq!(rt; missed(rt.alloc(), &CASES)?, None);
     Ok(())
 }
 
@@ -324,18 +327,21 @@ fn is_kept(alloc: Global, searcher: &mut Searcher, long: &Long) -> Result<bool, 
     is_kept_on(alloc, searcher, &grid, long)
 }
 
-fn are_kept(alloc: Global, cases: &[Long]) -> Result<bool, OutOfMemory> {
+// The last case whose way is another, if there is one.
+fn not_kept(alloc: Global, cases: &[Long]) -> Result<Option<usize>, OutOfMemory> {
     let mut searcher = Searcher::new();
-    let mut kept = true;
-    for long in cases {
-        kept = is_kept(alloc, &mut searcher, long)? && kept;
+    let mut missed = None;
+    for (number, long) in cases.iter().enumerate() {
+        if !is_kept(alloc, &mut searcher, long)? {
+            missed = Some(number);
+        }
     }
-    Ok(kept)
+    Ok(missed)
 }
 
 #[test]
 fn keeps_64_points(rt: HostRuntime) -> Result<(), Fail> {
-    assert!(rt; are_kept(rt.alloc(), &LONG)?);
+    assert_eq!(rt; not_kept(rt.alloc(), &LONG)?, None);
     Ok(())
 }
 
@@ -395,19 +401,21 @@ fn is_same_in(alloc: Global, searcher: &mut Searcher, rows: &[&str]) -> Result<b
     }
 }
 
-// One searcher goes on from ground to ground, of one size and of others.
-fn are_same(alloc: Global, grounds: &[&[&str]]) -> Result<bool, OutOfMemory> {
+// The last ground with another way, if there is one. One searcher goes on from ground to ground, of one size and of others.
+fn differing(alloc: Global, grounds: &[&[&str]]) -> Result<Option<usize>, OutOfMemory> {
     let mut searcher = Searcher::new();
-    let mut same = true;
-    for rows in grounds {
-        same = is_same_in(alloc, &mut searcher, rows)? && same;
+    let mut differing = None;
+    for (number, rows) in grounds.iter().enumerate() {
+        if !is_same_in(alloc, &mut searcher, rows)? {
+            differing = Some(number);
+        }
     }
-    Ok(same)
+    Ok(differing)
 }
 
 #[test]
 fn takes_the_way_of_the_plain_program(rt: HostRuntime) -> Result<(), Fail> {
-    assert!(rt; are_same(rt.alloc(), &GROUNDS)?);
+    assert_eq!(rt; differing(rt.alloc(), &GROUNDS)?, None);
     Ok(())
 }
 
