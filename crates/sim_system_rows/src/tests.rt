@@ -10,5 +10,4 @@ mod handlers;
 mod plain;
 mod refusing;
 mod sights;
-mod steady;
 mod twins;
