@@ -1,6 +1,6 @@
 -- Ids that ascend: where one stands or belongs, and the list with one fewer or one more.
 use Rattle.std.proofs.Common.{◌≡◌, ℕ, zero, suc, ◌+◌, ◌-◌, ◌<◌, ◌≤◌, Bool, true, false, cond, not, List, [], ◌∷◌, length, get_or, refl, sym, ap, ◌∙◌, subst, arith, inl, inr}
-use Rattle.std.specs.Prelude.{◌==◌, nat_lt, Result, Ok, Err, MatchResult, IsOk, is_ok}
+use Rattle.std.specs.Prelude.{◌==◌, nat_lt, Result, Ok, Err, MatchResult}
 use Rattle.std.specs.List.{insert, remove}
 use Rattle.std.specs.List.Sorted.{IsStrictlyIncreasing, IsBinarySearchResult}
 use Rattle.std.specs.Ordering.{nat_cmp}
@@ -163,11 +163,10 @@ rising_with i (x ∷ xs) r = by (nat_lt i x) (nat_lt x i) refl refl (rising_with
     by false true e f rest = let lt : x < i = grind arith in (above_with x i xs lt r.0, rest)
     by false false e f rest = r
 
--- ---- what is put in where there is room
-
-pub put_in : {V E : Type 0} (r : Result V E) (xs new : List ℕ) (i at : ℕ) → IsOk r → new ≡ cond (is_ok r) (insert xs at i) xs → at ≤ length xs → ((k : ℕ) → k < at → get_or xs k 0 < i) → ((k : ℕ) → at ≤ k → k < length xs → i < get_or xs k 0) → new ≡ with_id i xs
-put_in (Ok v) xs new i at ok is le before behind = is ∙ inserted_there xs i at le before behind
-put_in (Err e) xs new i at ok is le before behind = absurd (cc)
+-- ---- the ids still ascend
 
 pub still_ascend : (xs new : List ℕ) (i : ℕ) → IsStrictlyIncreasing xs → new ≡ with_id i xs → IsStrictlyIncreasing new
 still_ascend xs new i up is = subst IsStrictlyIncreasing (sym is) (ascends (with_id i xs) (rising_with i xs (rising xs up)))
+
+pub fewer_ascend : (xs new : List ℕ) (i : ℕ) → IsStrictlyIncreasing xs → new ≡ without_id i xs → IsStrictlyIncreasing new
+fewer_ascend xs new i up is = subst IsStrictlyIncreasing (sym is) (ascends (without_id i xs) (rising_without i xs (rising xs up)))

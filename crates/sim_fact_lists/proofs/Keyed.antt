@@ -1,6 +1,6 @@
 -- Groups whose keys ascend: where a key stands or belongs, and whose group is found after an edit there.
 use Rattle.std.proofs.Common.{◌≡◌, ℕ, zero, suc, ◌+◌, ◌<◌, Bool, true, false, cond, not, List, [], ◌∷◌, length, map, get_or, set, Option, Some, None, refl, sym, ap, ◌∙◌, subst, arith, inl, inr}
-use Rattle.std.specs.Prelude.{Result, Ok, Err, MatchResult, MatchOption, is_ok, ◌==◌, vec_len, vec_capacity}
+use Rattle.std.specs.Prelude.{Result, Ok, Err, MatchResult, MatchOption, is_ok, ◌==◌}
 use Rattle.std.specs.List.{insert, remove}
 use Rattle.std.specs.List.Sorted.{IsStrictlyIncreasing, IsNonDecreasingBy, IsBinarySearchResult, IsSearchInRange}
 use Rattle.std.specs.Ordering.{nat_cmp, ordering_index}
@@ -11,6 +11,7 @@ use Rattle.std.proofs.lemmas.List.Kept.{AllPairs-from_increasing}
 use Rattle.std.proofs.Math.Seq.{map-set_same}
 use Rattle.sim_fact_lists.specs.declared.group.Group.{Group}
 use Rattle.sim_fact_lists.specs.Ids.{without_id}
+use Rattle.sim_fact_lists.specs.Queues.{queued, HasPlace}
 use Rattle.sim_fact_lists.specs.Groups.{key_of, KeysAscend, group_with, ids_in, listed, without_key, forgotten, HasRoom, GroupStands, GroupBelongs}
 
 -- all keys are above a number
@@ -188,9 +189,9 @@ rising_insert (g ∷ groups) (suc at) new r b = (above_insert g.key groups at ne
 -- ---- the ids of each key, and the room
 
 abbrev Room : Option Group → Type 0
-Room o = MatchOption o ⊥ (λ (group : Group). vec_len group.ids < vec_capacity group.ids)
+Room o = MatchOption o ⊥ (λ (group : Group). HasPlace group.ids)
 
-pub listed_there : (groups : List Group) (key at : ℕ) (d : Group) → KeysAscend groups → GroupStands groups key at → (get_or groups at d).ids.items ≡ listed key groups
+pub listed_there : (groups : List Group) (key at : ℕ) (d : Group) → KeysAscend groups → GroupStands groups key at → queued (get_or groups at d).ids ≡ listed key groups
 listed_there groups key at d up s = sym (ap ids_in (found_there groups key at d (rising groups up) s))
 
 pub none_listed : (groups : List Group) (key at : ℕ) → GroupBelongs groups key at → [] ≡ listed key groups
@@ -207,7 +208,7 @@ module _ (groups : List Group) (key at : ℕ) (old new : Group) (change : List �
   changed_ascend = ascend_set groups key at new up s named
 
   -- the ids of the group are changed
-  pub changed_listed : new.ids.items ≡ change old.ids.items → (k : ℕ) → listed k (set groups at new) ≡ cond (key == k) (change (listed k groups)) (listed k groups)
+  pub changed_listed : queued new.ids ≡ change (queued old.ids) → (k : ℕ) → listed k (set groups at new) ≡ cond (key == k) (change (listed k groups)) (listed k groups)
   changed_listed made k = ap ids_in (found_set groups key at new k (rising groups up) s named) ∙ by (key == k) refl
     where
       by : (b : Bool) → (key == k) ≡ b → ids_in (cond b (Some new) (group_with k groups)) ≡ cond b (change (listed k groups)) (listed k groups)
@@ -215,7 +216,7 @@ module _ (groups : List Group) (key at : ℕ) (old new : Group) (change : List �
       by false e = refl
 
   -- it has as much room as before
-  pub changed_room : (vec_len old.ids < vec_capacity old.ids → vec_len new.ids < vec_capacity new.ids) → (k : ℕ) → HasRoom k groups → HasRoom k (set groups at new)
+  pub changed_room : (HasPlace old.ids → HasPlace new.ids) → (k : ℕ) → HasRoom k groups → HasRoom k (set groups at new)
   changed_room keeps k room = subst Room (sym (found_set groups key at new k (rising groups up) s named)) (by (key == k) refl)
     where
       by : (b : Bool) → (key == k) ≡ b → Room (cond b (Some new) (group_with k groups))
@@ -223,10 +224,10 @@ module _ (groups : List Group) (key at : ℕ) (old new : Group) (change : List �
       by false e = room
 
   -- there is room in the group
-  pub room_there : vec_len new.ids < vec_capacity new.ids → HasRoom key (set groups at new)
+  pub room_there : HasPlace new.ids → HasRoom key (set groups at new)
   room_there room = subst Room (sym (found_set groups key at new key (rising groups up) s named ∙ ap (λ (b : Bool). cond b (Some new) (group_with key groups)) (eq-eqb key key refl))) room
 
-  pub room_before : HasRoom key groups → vec_len old.ids < vec_capacity old.ids
+  pub room_before : HasRoom key groups → HasPlace old.ids
   room_before room = subst Room found room
 
 -- a group without ids is put in
@@ -234,14 +235,14 @@ module _ (groups : List Group) (key at : ℕ) (new : Group) (b : GroupBelongs gr
   here : GroupBelongs groups new.key at
   here = subst (λ (n : ℕ). GroupBelongs groups n at) (sym same) b
 
-  pub added_listed : new.ids.items ≡ [] → (k : ℕ) → listed k (insert groups at new) ≡ listed k groups
+  pub added_listed : queued new.ids ≡ [] → (k : ℕ) → listed k (insert groups at new) ≡ listed k groups
   added_listed none k = ap ids_in (found_insert groups at new k here) ∙ by (new.key == k) refl
     where
       by : (c : Bool) → (new.key == k) ≡ c → ids_in (cond c (Some new) (group_with k groups)) ≡ listed k groups
       by true e = none ∙ subst (λ (n : ℕ). [] ≡ listed n groups) (eqb-true new.key k e) (none_listed groups new.key at here)
       by false e = refl
 
-  pub added_room : vec_len new.ids < vec_capacity new.ids → HasRoom key (insert groups at new)
+  pub added_room : HasPlace new.ids → HasRoom key (insert groups at new)
   added_room room = subst Room (sym (found_insert groups at new key here ∙ ap (λ (c : Bool). cond c (Some new) (group_with key groups)) (eq-eqb new.key key same))) room
 
   -- whether there was memory or not
@@ -298,7 +299,7 @@ found_remove (g ∷ groups) key (suc at) k r s = ap (λ (o : Option Group). cond
 pub removed_ascend : (groups : List Group) (at : ℕ) → KeysAscend groups → KeysAscend (remove groups at)
 removed_ascend groups at up = ascends (remove groups at) (rising_remove groups at (rising groups up))
 
-pub removed_listed : (groups : List Group) (key at : ℕ) (d : Group) → KeysAscend groups → GroupStands groups key at → (get_or groups at d).ids.items ≡ [] → (k : ℕ) → listed k (remove groups at) ≡ listed k groups
+pub removed_listed : (groups : List Group) (key at : ℕ) (d : Group) → KeysAscend groups → GroupStands groups key at → queued (get_or groups at d).ids ≡ [] → (k : ℕ) → listed k (remove groups at) ≡ listed k groups
 removed_listed groups key at d up s none k = ap ids_in (found_remove groups key at k (rising groups up) s) ∙ by (key == k) refl
   where
     by : (b : Bool) → (key == k) ≡ b → ids_in (cond b None (group_with k groups)) ≡ listed k groups
@@ -338,16 +339,16 @@ forgotten_absent groups key at b =
     sym (without_absent groups key at b) ∙ ap (λ (ids : List ℕ). cond (length ids == 0) (without_key key groups) groups) (none_listed groups key at b)
 
 -- whether the key has no id is seen at its group
-counted : (groups : List Group) (key at : ℕ) (group : Group) → KeysAscend groups → GroupStands groups key at → group ≡ get_or groups at group → (length (listed key groups) == 0) ≡ (length group.ids.items == 0)
-counted groups key at group up s is = ap (λ (ids : List ℕ). length ids == 0) (sym (ap (λ (g : Group). g.ids.items) is ∙ listed_there groups key at group up s))
+counted : (groups : List Group) (key at : ℕ) (group : Group) → KeysAscend groups → GroupStands groups key at → group ≡ get_or groups at group → (length (listed key groups) == 0) ≡ (length (queued group.ids) == 0)
+counted groups key at group up s is = ap (λ (ids : List ℕ). length ids == 0) (sym (ap (λ (g : Group). queued g.ids) is ∙ listed_there groups key at group up s))
 
 -- the group that stands there has no id, and goes
-pub forgotten_there : (groups : List Group) (key at : ℕ) (group : Group) → KeysAscend groups → GroupStands groups key at → group ≡ get_or groups at group → (length group.ids.items == 0) ≡ true → remove groups at ≡ forgotten key groups
+pub forgotten_there : (groups : List Group) (key at : ℕ) (group : Group) → KeysAscend groups → GroupStands groups key at → group ≡ get_or groups at group → (length (queued group.ids) == 0) ≡ true → remove groups at ≡ forgotten key groups
 forgotten_there groups key at group up s is none =
     removed_there groups key at (rising groups up) s ∙ sym (ap (λ (b : Bool). cond b (without_key key groups) groups) (counted groups key at group up s is ∙ none))
 
 -- it has one, and stays
-pub not_forgotten : (groups : List Group) (key at : ℕ) (group : Group) → KeysAscend groups → GroupStands groups key at → group ≡ get_or groups at group → (length group.ids.items == 0) ≡ false → groups ≡ forgotten key groups
+pub not_forgotten : (groups : List Group) (key at : ℕ) (group : Group) → KeysAscend groups → GroupStands groups key at → group ≡ get_or groups at group → (length (queued group.ids) == 0) ≡ false → groups ≡ forgotten key groups
 not_forgotten groups key at group up s is some = sym (ap (λ (b : Bool). cond b (without_key key groups) groups) (counted groups key at group up s is ∙ some))
 
 without_itself : (groups : List Group) (key : ℕ) → group_with key (without_key key groups) ≡ None

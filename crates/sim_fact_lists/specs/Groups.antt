@@ -1,10 +1,11 @@
 -- Ids in groups by key: a list of groups, ascending by key.
-use Rattle.std.specs.Prelude.{◌≡◌, ℕ, ◌<◌, ◌≤◌, not, ◌==◌, List, [], length, map, filter, find, slice_index_or, Option, Some, None, MatchOption, vec_len, vec_capacity, if◌then◌else◌}
+use Rattle.std.specs.Prelude.{◌≡◌, ℕ, ◌<◌, ◌≤◌, not, ◌==◌, List, [], length, map, filter, find, slice_index_or, Option, Some, None, MatchOption, if◌then◌else◌}
 use Rattle.std.specs.List.Sorted.{IsStrictlyIncreasing}
 use Rattle.sim_system.specs.declared.fact.Fact.{Fact}
 use Rattle.sim_system.specs.Facts.{id_of_fact}
 use Rattle.sim_fact_lists.specs.declared.group.Group.{Group}
 use Rattle.sim_fact_lists.specs.Ids.{without_id, with_id}
+use Rattle.sim_fact_lists.specs.Queues.{queued, HasPlace}
 
 abbrev pub key_of : Group → ℕ
 key_of group = group.key
@@ -20,7 +21,7 @@ group_with key groups = find (λ (group : Group). group.key == key) groups
 -- the ids of a group; where there is none, there are none
 abbrev pub ids_in : Option Group → List ℕ
 ids_in None = []
-ids_in (Some group) = group.ids.items
+ids_in (Some group) = queued group.ids
 
 -- the ids of a key
 abbrev pub listed : ℕ → List Group → List ℕ
@@ -36,7 +37,7 @@ forgotten key groups = if length (listed key groups) == 0 then without_key key g
 
 -- the key has a group, with room for one id more
 abbrev pub HasRoom : ℕ → List Group → Type 0
-HasRoom key groups = MatchOption (group_with key groups) ⊥ (λ (group : Group). vec_len group.ids < vec_capacity group.ids)
+HasRoom key groups = MatchOption (group_with key groups) ⊥ (λ (group : Group). HasPlace group.ids)
 
 -- the group of this key stands there
 pub record GroupStands (groups : List Group) (key place : ℕ) : Type 0 where

@@ -1,9 +1,11 @@
 //! The ids of one key.
 
-ghost use Rattle.std.specs.Prelude.{◌≡◌, ◌<◌, [], OnOk, MatchResult, vec_len, vec_capacity};
+ghost use Rattle.std.specs.Prelude.{◌≡◌, [], OnOk, MatchResult};
 ghost use Rattle.std.specs.List.Sorted.{IsStrictlyIncreasing};
 ghost use Rattle.sim_fact_lists.specs.Ids.{IdStands, IdBelongs, with_id, without_id};
+ghost use Rattle.sim_fact_lists.specs.Queues.{queued, HasPlace};
 
+use crate::queue::Queue;
 use sim_base::OutOfMemory;
 use std::alloc::Global;
 
@@ -11,37 +13,36 @@ use std::alloc::Global;
 #[derive(Drop)]
 pub struct Group {
     pub key: u32,
-    pub ids: Vec<u32>,
-    ghost ascend: { IsStrictlyIncreasing ids.items },
+    pub ids: Queue,
+    ghost ascend: { IsStrictlyIncreasing (queued ids) },
 }
 
 impl Group {
     /// It has no id, and takes no memory yet.
     pub fn new(alloc: Global, key: u32) -> Group
         ensures key { result.key ≡ key }
-        ensures ids { result.ids.items ≡ [] }
+        ensures ids { queued result.ids ≡ [] }
     {
         Group {
             key,
-            ids: Vec::new(alloc),
+            ids: Queue::new(alloc),
         }
     }
 
     /// Makes room for one more.
     pub fn make_room(&mut self) -> Result<(), OutOfMemory>
         ensures key { self.new.key ≡ self.old.key }
-        ensures ids { self.new.ids.items ≡ self.old.ids.items }
-        ensures room { OnOk result (vec_len self.new.ids < vec_capacity self.new.ids) }
+        ensures ids { queued self.new.ids ≡ queued self.old.ids }
+        ensures room { OnOk result (HasPlace self.new.ids) }
     {
-        self.ids.reserve(1)?;
-        Ok(())
+        self.ids.make_room()
     }
 
     /// Takes an id out, if it is there.
     pub fn leave(&mut self, id: u32)
         ensures key { self.new.key ≡ self.old.key }
-        ensures ids { self.new.ids.items ≡ without_id id self.old.ids.items }
-        ensures room { vec_len self.old.ids < vec_capacity self.old.ids → vec_len self.new.ids < vec_capacity self.new.ids }
+        ensures ids { queued self.new.ids ≡ without_id id (queued self.old.ids) }
+        ensures room { HasPlace self.old.ids → HasPlace self.new.ids }
     {
         if let Ok(at) = place_of(self.ids.as_slice(), id) {
             self.ids.remove(at);
@@ -50,12 +51,12 @@ impl Group {
 
     /// Puts an id in, unless it is there. The room was made before.
     pub fn join(&mut self, id: u32)
-        requires { vec_len self.old.ids < vec_capacity self.old.ids }
+        requires { HasPlace self.old.ids }
         ensures key { self.new.key ≡ self.old.key }
-        ensures ids { self.new.ids.items ≡ with_id id self.old.ids.items }
+        ensures ids { queued self.new.ids ≡ with_id id (queued self.old.ids) }
     {
         if let Err(at) = place_of(self.ids.as_slice(), id) {
-            let _ = self.ids.insert(at, id);
+            self.ids.insert(at, id);
         }
     }
 }

@@ -1,23 +1,24 @@
 -- There is room, so the id is put in its place, if it does not stand there.
-use Rattle.std.proofs.Common.{List, subst, ℕ}
+use Rattle.std.proofs.Common.{List, subst, ℕ, ◌∙◌}
 use Rattle.sim_fact_lists.specs.Ids.{IdStands, IdBelongs}
-use Rattle.sim_fact_lists.proofs.Ids.{rising, there_again, put_in, still_ascend}
+use Rattle.sim_fact_lists.specs.Queues.{queued}
+use Rattle.sim_fact_lists.proofs.Ids.{rising, there_again, inserted_there, still_ascend}
 use Rattle.sim_fact_lists.proofs.group.Group.join.Goals as goal
 
 pub invariant_of-self : goal.invariant_of-self
 invariant_of-self c =
-    let xs = c.args.self.now.ids.items in
-    let h = subst (λ (ids : List ℕ). IdBelongs ids c.args.id c.in-Err.at) c.as_slice.ensures.value c.in-Err.ensures in
-    record { ascend = still_ascend xs c.insert.new.self.items c.args.id c.args.self.now.ascend (put_in c.insert.result xs c.insert.new.self.items c.args.id c.in-Err.at (c.insert.ensures.succeeds c.requires) c.insert.ensures.items h.within h.before h.behind) }
+    let xs = queued c.args.self.now.ids in
+    let h = subst (λ (ids : List ℕ). IdBelongs ids c.args.id c.in-Err.at) c.as_slice.ensures c.in-Err.ensures in
+    record { ascend = still_ascend xs (queued c.insert.new.self) c.args.id c.args.self.now.ascend (c.insert.ensures ∙ inserted_there xs c.args.id c.in-Err.at h.within h.before h.behind) }
 
 pub returns-in-Err-clause-ids : goal.returns-in-Err-clause-ids
 returns-in-Err-clause-ids c =
-    let xs = c.args.self.now.ids.items in
-    let h = subst (λ (ids : List ℕ). IdBelongs ids c.args.id c.in-Err.at) c.as_slice.ensures.value c.in-Err.ensures in
-    put_in c.insert.result xs c.insert.new.self.items c.args.id c.in-Err.at (c.insert.ensures.succeeds c.requires) c.insert.ensures.items h.within h.before h.behind
+    let xs = queued c.args.self.now.ids in
+    let h = subst (λ (ids : List ℕ). IdBelongs ids c.args.id c.in-Err.at) c.as_slice.ensures c.in-Err.ensures in
+    c.insert.ensures ∙ inserted_there xs c.args.id c.in-Err.at h.within h.before h.behind
 
 pub returns-in_default-clause-ids : goal.returns-in_default-clause-ids
 returns-in_default-clause-ids c =
-    let xs = c.args.self.now.ids.items in
-    let h = subst (λ (ids : List ℕ). IdStands ids c.args.id c.in_default.field-0) c.as_slice.ensures.value c.in_default.ensures in
+    let xs = queued c.args.self.now.ids in
+    let h = subst (λ (ids : List ℕ). IdStands ids c.args.id c.in_default.field-0) c.as_slice.ensures c.in_default.ensures in
     there_again xs c.args.id c.in_default.field-0 (rising xs c.args.self.now.ascend) h.within h.same

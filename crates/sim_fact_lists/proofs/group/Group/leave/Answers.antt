@@ -1,17 +1,24 @@
 -- The id is taken out where it stands.
 use Rattle.std.proofs.Common.{List, subst, ℕ, ◌∙◌}
 use Rattle.sim_fact_lists.specs.Ids.{IdStands, IdBelongs}
-use Rattle.sim_fact_lists.proofs.Ids.{rising, removed_there, absent_there}
+use Rattle.sim_fact_lists.specs.Queues.{queued}
+use Rattle.sim_fact_lists.proofs.Ids.{rising, removed_there, absent_there, fewer_ascend}
 use Rattle.sim_fact_lists.proofs.group.Group.leave.Goals as goal
+
+pub invariant_of-self : goal.invariant_of-self
+invariant_of-self c =
+    let xs = queued c.args.self.now.ids in
+    let h = subst (λ (ids : List ℕ). IdStands ids c.args.id c.in-Ok.at) c.as_slice.ensures c.in-Ok.ensures in
+    record { ascend = fewer_ascend xs (queued c.remove.new.self) c.args.id c.args.self.now.ascend (c.remove.ensures.ids ∙ removed_there xs c.args.id c.in-Ok.at (rising xs c.args.self.now.ascend) h.within h.same) }
 
 pub returns-in-Ok-clause-ids : goal.returns-in-Ok-clause-ids
 returns-in-Ok-clause-ids c =
-    let xs = c.args.self.now.ids.items in
-    let h = subst (λ (ids : List ℕ). IdStands ids c.args.id c.in-Ok.at) c.as_slice.ensures.value c.in-Ok.ensures in
-    c.remove.ensures.items ∙ removed_there xs c.args.id c.in-Ok.at (rising xs c.args.self.now.ascend) h.within h.same
+    let xs = queued c.args.self.now.ids in
+    let h = subst (λ (ids : List ℕ). IdStands ids c.args.id c.in-Ok.at) c.as_slice.ensures c.in-Ok.ensures in
+    c.remove.ensures.ids ∙ removed_there xs c.args.id c.in-Ok.at (rising xs c.args.self.now.ascend) h.within h.same
 
 pub returns-in_default-clause-ids : goal.returns-in_default-clause-ids
 returns-in_default-clause-ids c =
-    let xs = c.args.self.now.ids.items in
-    let h = subst (λ (ids : List ℕ). IdBelongs ids c.args.id c.in_default.field-0) c.as_slice.ensures.value c.in_default.ensures in
+    let xs = queued c.args.self.now.ids in
+    let h = subst (λ (ids : List ℕ). IdBelongs ids c.args.id c.in_default.field-0) c.as_slice.ensures c.in_default.ensures in
     absent_there xs c.args.id c.in_default.field-0 h.before h.behind

@@ -1,0 +1,85 @@
+//! A list of ids whose first leaves without moving the others: those who aim at an entity are let go one by one, in their
+//! order, when it is gone.
+
+ghost use Rattle.std.specs.Prelude.{◌≤◌, length};
+
+use sim_base::OutOfMemory;
+use std::alloc::Global;
+
+/// Ids in some order. Those that left at the front still stand there, until room is made and there are more of them than of
+/// the others.
+#[derive(Drop)]
+pub struct Queue {
+    pub ids: Vec<u32>,
+    pub left: usize,
+    ghost within: { left ≤ length ids.items },
+}
+
+impl Queue {
+    ghost use Rattle.std.specs.Prelude.{◌≡◌, ◌<◌, ◌≤◌, [], OnOk, length};
+    ghost use Rattle.std.specs.List.{remove as removed, insert as inserted};
+    ghost use Rattle.sim_fact_lists.specs.Queues.{queued, HasPlace};
+
+    /// It has no id, and takes no memory yet.
+    pub fn new(alloc: Global) -> Queue
+        ensures { queued result ≡ [] }
+    {
+        Queue {
+            ids: Vec::new(alloc),
+            left: 0,
+        }
+    }
+
+    /// Lends the ids.
+    pub fn as_slice(&self) -> &[u32]
+        ensures { result.now ≡ queued self.now }
+    {
+        &self.ids.as_slice()[self.left..]
+    }
+
+    // Those that have left at the front go for good.
+    fn close_up(&mut self)
+        ensures ids { queued self.new ≡ queued self.old }
+        ensures closed { self.new.left ≡ 0 }
+    {
+        let stay = self.ids.len() - self.left;
+        self.ids.rotate_left(self.left);
+        self.ids.truncate(stay);
+        self.left = 0;
+    }
+
+    /// Makes room for one more. No more of those that left are kept then than there are others.
+    pub fn make_room(&mut self) -> Result<(), OutOfMemory>
+        ensures ids { queued self.new ≡ queued self.old }
+        ensures few { self.new.left ≤ length (queued self.new) }
+        ensures room { OnOk result (HasPlace self.new) }
+    {
+        if self.left > self.ids.len() / 2 {
+            self.close_up();
+        }
+        self.ids.reserve(1)?;
+        Ok(())
+    }
+
+    /// Takes out the id at a place.
+    pub fn remove(&mut self, at: usize)
+        requires { at < length (queued self.old) }
+        ensures ids { queued self.new ≡ removed (queued self.old) at }
+        ensures room { HasPlace self.old → HasPlace self.new }
+    {
+        if at == 0 {
+            self.left += 1;
+            return;
+        }
+        self.ids.remove(self.left + at);
+    }
+
+    /// Puts in an id at a place. The room was made before.
+    pub fn insert(&mut self, at: usize, id: u32)
+        requires at { at ≤ length (queued self.old) }
+        requires room { HasPlace self.old }
+        ensures { queued self.new ≡ inserted (queued self.old) at id }
+    {
+        let _ = self.ids.insert(self.left + at, id);
+    }
+}
