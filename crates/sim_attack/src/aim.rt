@@ -38,7 +38,7 @@ fn listed_aims(alloc: Global, scene: &Scene<'_>) -> Result<Changes, OutOfMemory>
     ensures { IfOk result (λ changes. changes ≡ aim_plan scene.now.setup.now scene.now.state.now) }
 {
     let rows = scene.state.rows.as_slice();
-    let mut changes = Items::new(alloc);
+    let mut changes = Items::from_items(Vec::with_capacity(alloc, rows.len())?);
     let mut finds = Finds::new(alloc);
     let index = RowIndex::of(alloc, rows)?;
     for row in rows {

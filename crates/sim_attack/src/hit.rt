@@ -34,7 +34,7 @@ fn listed_hits(alloc: Global, setup: &Setup, state: &State) -> Result<Changes, O
     ensures { IfOk result (λ changes. changes ≡ hit_plan setup.now state.now) }
 {
     let rows = state.rows.as_slice();
-    let mut changes = Items::new(alloc);
+    let mut changes = Items::from_items(Vec::with_capacity(alloc, rows.len())?);
     let mut damage = vec![in alloc; 0; rows.len()]?;
     let index = RowIndex::of(alloc, rows)?;
     let mut word = state.word;

@@ -4,6 +4,7 @@
 //! It promises changes that fit the state in order and give the phase of the rule. A way is asked of the scene only where
 //! the rule asks one. It stands on `sim_plans`, which has the changes as a list, and on `sim_scene`.
 //!
+//! - `far`: how far apart two points are.
 //! - `walk`: how far a budget leads along waypoints.
 //! - `chase`: what a row does by its target.
 //! - `moves`: where a row comes to, and how it goes on.
@@ -11,6 +12,7 @@
 #![tactic(auto)]
 
 mod chase;
+mod far;
 mod moves;
 mod phase;
 mod walk;

@@ -1,12 +1,12 @@
 //! How far a budget leads along waypoints.
 
 ghost use Rattle.std.specs.Prelude.{◌≡◌, ◌<◌, ◌≤◌, ◌*◌, ◌/◌, pos, ◌+ℤ◌, ◌-ℤ◌, ◌*ℤ◌, int_div, All};
-ghost use Rattle.sim_base.specs.Numbers.{root as root_of};
-ghost use Rattle.sim_base.specs.Places.{IsPlaced, square as square_of};
+ghost use Rattle.sim_base.specs.Places.{IsPlaced};
 ghost use Rattle.sim_base.specs.Move.{toward as toward_by, walked};
 ghost use Rattle.sim_lookup.specs.Sizes.{IsCoordinate};
 
-use sim_base::{Fixed, Point, root, square};
+use crate::far::distance;
+use sim_base::{Fixed, Point};
 
 /// Walks along waypoints as far as the budget goes, in units of 1/65536 m. Answers where it comes to, and the waypoints
 /// that are left.
@@ -29,15 +29,6 @@ pub fn walk<'w>(from: &Point, budget: u32, way: &'w [Point]) -> (Point, &'w [Poi
         rest = more;
     }
     (at, rest)
-}
-
-// How far apart two points are.
-fn distance(p: &Point, q: &Point) -> u32
-    requires p { IsPlaced p.now }
-    requires q { IsPlaced q.now }
-    ensures { result ≡ root_of (square_of p.now q.now) }
-{
-    root(square(*p, *q))
 }
 
 // A point on the way to another, as far as the budget goes.
