@@ -117,6 +117,22 @@ impl<'a> Board<'a> {
         ensures kept { AreKept (systems self.old ⟦<dyn System as System>⟧) (systems self.new ⟦<dyn System as System>⟧) }
         ensures setup { setup_in self.new ≡ setup_in self.old }
     {
+        let mut change = change;
+        self.make(&mut change)
+    }
+
+    /// Makes a change that fits where it stands, as in a list, and tells the systems of it. What the state keeps of the
+    /// change is taken out of it.
+    pub fn make(&mut self, change: &mut Change) -> Result<(), OutOfMemory>
+        requires whole { IsWhole self.old ⟦<dyn System as System>⟧ }
+        requires fits { Fits (setup_in self.old) (state_in self.old) change.old }
+        ensures state { OnOk result (state_in self.new ≡ applied (setup_in self.old) (state_in self.old) change.old) }
+        ensures whole { OnOk result (IsWhole self.new ⟦<dyn System as System>⟧) }
+        ensures err { OnErr result (is_whole self.new ≡ false) }
+        ensures sure { NeedsNoMemory change.old → IsOk result }
+        ensures kept { AreKept (systems self.old ⟦<dyn System as System>⟧) (systems self.new ⟦<dyn System as System>⟧) }
+        ensures setup { setup_in self.new ≡ setup_in self.old }
+    {
         self.whole = false;
         step(
             self.alloc,

@@ -13,52 +13,53 @@ ghost use Rattle.sim_board.specs.ChangeKinds.{NeedsNoMemory, IsNoRemoval};
 use crate::edit::{
     add_row, release_rows, set_at, set_attack, set_health, set_motion, set_owner, take_row,
 };
-use sim_base::{Change, Items, OutOfMemory, Point, Row, Setup, State};
+use sim_base::{Change, Items, Motion, OutOfMemory, Point, Row, Setup, State};
 use std::alloc::Global;
 
-/// The state after a change that fits it, where no row leaves.
+/// The state after a change that fits it, where no row leaves. A motion is taken out of the change.
 pub fn make(
     alloc: Global,
     setup: &Setup,
     state: &mut State,
-    change: Change,
+    change: &mut Change,
     near: usize,
 ) -> Result<(), OutOfMemory>
     requires limits { IsSetup setup.now }
     requires valid { IsLooselyValid setup.now state.old }
-    requires fits { Fits setup.now state.old change }
-    requires stays { IsNoRemoval change }
-    ensures applied { OnOk result (state.new ≡ applied setup.now state.old change) }
-    ensures sure { NeedsNoMemory change → IsOk result }
+    requires fits { Fits setup.now state.old change.old }
+    requires stays { IsNoRemoval change.old }
+    ensures applied { OnOk result (state.new ≡ applied setup.now state.old change.old) }
+    ensures sure { NeedsNoMemory change.old → IsOk result }
 {
     match change {
         Change::Move { id, at } => {
             let mut rows = take_rows(alloc, state);
-            set_at(&mut rows, id, &at, near);
+            set_at(&mut rows, *id, at, near);
             state.rows = Items::from_items(rows);
             Ok(())
         }
         Change::Motion { id, motion } => {
+            let motion = std::mem::replace(motion, Motion::Still);
             let mut rows = take_rows(alloc, state);
-            set_motion(&mut rows, id, motion, near);
+            set_motion(&mut rows, *id, motion, near);
             state.rows = Items::from_items(rows);
             Ok(())
         }
         Change::Attack { id, aim } => {
             let mut rows = take_rows(alloc, state);
-            set_attack(&mut rows, id, aim, near);
+            set_attack(&mut rows, *id, *aim, near);
             state.rows = Items::from_items(rows);
             Ok(())
         }
         Change::Health { id, health } => {
             let mut rows = take_rows(alloc, state);
-            set_health(&mut rows, id, health, near);
+            set_health(&mut rows, *id, *health, near);
             state.rows = Items::from_items(rows);
             Ok(())
         }
         Change::Owner { id, owner } => {
             let mut rows = take_rows(alloc, state);
-            set_owner(&mut rows, id, owner, near);
+            set_owner(&mut rows, *id, *owner, near);
             state.rows = Items::from_items(rows);
             Ok(())
         }
@@ -66,9 +67,9 @@ pub fn make(
             template,
             at,
             owner,
-        } => create(alloc, setup, state, template, &at, owner),
+        } => create(alloc, setup, state, *template, at, *owner),
         Change::Word { word } => {
-            state.word = word;
+            state.word = *word;
             Ok(())
         }
         Change::Tick => {

@@ -22,8 +22,9 @@ pub fn apply_all(board: &mut Board<'_>, changes: Changes) -> Result<(), OutOfMem
     ensures kept { AreKept (systems board.old ⟦<dyn System as System>⟧) (systems board.new ⟦<dyn System as System>⟧) }
     ensures setup { setup_in board.new ≡ setup_in board.old }
 {
-    for change in changes.into_items() {
-        board.apply(change)?;
+    let mut changes = changes.into_items();
+    for at in 0..changes.len() {
+        board.make(&mut changes[at])?;
     }
     Ok(())
 }

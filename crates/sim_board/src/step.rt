@@ -23,18 +23,18 @@ fn change_row(
     setup: &Setup,
     state: &mut State,
     rig: &mut Rig,
-    change: Change,
+    change: &mut Change,
     near: usize,
 ) -> Result<(), OutOfMemory>
     requires stands { IsStanding setup.now state.old (systems_of rig.old ⟦<dyn System as System>⟧) }
-    requires fits { Fits setup.now state.old change }
-    requires stays { IsNoRemoval change }
-    ensures state { OnOk result (state.new ≡ applied setup.now state.old change) }
+    requires fits { Fits setup.now state.old change.old }
+    requires stays { IsNoRemoval change.old }
+    ensures state { OnOk result (state.new ≡ applied setup.now state.old change.old) }
     ensures stands { OnOk result (IsStanding setup.now state.new (systems_of rig.new ⟦<dyn System as System>⟧)) }
-    ensures sure { NeedsNoMemory change → IsOk result }
+    ensures sure { NeedsNoMemory change.old → IsOk result }
     ensures kept { AreKept (systems_of rig.old ⟦<dyn System as System>⟧) (systems_of rig.new ⟦<dyn System as System>⟧) }
 {
-    post(setup, state, rig, &change, near)?;
+    post(setup, state, rig, change, near)?;
     make(alloc, setup, state, change, near)
 }
 
@@ -66,18 +66,18 @@ pub fn step(
     state: &mut State,
     rig: &mut Rig,
     near: &mut usize,
-    change: Change,
+    change: &mut Change,
 ) -> Result<(), OutOfMemory>
     requires stands { IsStanding setup.now state.old (systems_of rig.old ⟦<dyn System as System>⟧) }
-    requires fits { Fits setup.now state.old change }
-    ensures state { OnOk result (state.new ≡ applied setup.now state.old change) }
+    requires fits { Fits setup.now state.old change.old }
+    ensures state { OnOk result (state.new ≡ applied setup.now state.old change.old) }
     ensures stands { OnOk result (IsStanding setup.now state.new (systems_of rig.new ⟦<dyn System as System>⟧)) }
-    ensures sure { NeedsNoMemory change → IsOk result }
+    ensures sure { NeedsNoMemory change.old → IsOk result }
     ensures kept { AreKept (systems_of rig.old ⟦<dyn System as System>⟧) (systems_of rig.new ⟦<dyn System as System>⟧) }
 {
-    *near = place_for(state.rows.as_slice(), &change, *near);
+    *near = place_for(state.rows.as_slice(), change, *near);
     match change {
-        Change::Remove { id } => remove_row(alloc, setup, state, rig, id, *near),
-        change => change_row(alloc, setup, state, rig, change, *near),
+        Change::Remove { id } => remove_row(alloc, setup, state, rig, *id, *near),
+        _ => change_row(alloc, setup, state, rig, change, *near),
     }
 }

@@ -4,7 +4,6 @@
 //! since. It stands on `sim_board`, which makes a change and tells the systems of it, and on the planners of `sim_orders`,
 //! `sim_motion` and `sim_attack`.
 //!
-//! - `making`: a list of changes is made.
 //! - `steps`: one command, and one phase.
 //! - `rest`: whether anybody can act.
 //! - `turns`: a turn with its commands.
@@ -13,7 +12,6 @@
 #![tactic(auto)]
 
 mod due;
-mod making;
 mod playing;
 mod rest;
 mod steps;

@@ -8,10 +8,9 @@ ghost use Rattle.sim_base.specs.Hit.{hit as hit_by, gone as gone_by};
 ghost use Rattle.sim_turn_laws.specs.CommandLaws.{IsOrderOf};
 ghost use Rattle.sim_board.specs.BoardWords.{setup_in, state_in, systems, IsWhole, AreKept};
 
-use crate::making::make;
 use sim_attack::{aim_changes, gone_changes, hit_changes};
 use sim_base::{OutOfMemory, PlayerCommand};
-use sim_board::Board;
+use sim_board::{Board, apply_all};
 use sim_motion::motion_changes;
 use sim_orders::OrderTable;
 use sim_system::System;
@@ -32,7 +31,7 @@ pub fn obey(
     ensures setup { setup_in board.new ≡ setup_in board.old }
 {
     let changes = orders.changes(alloc, &board.scene(), order)?;
-    make(board, changes)
+    apply_all(board, changes)
 }
 
 /// Fighters choose their targets.
@@ -44,7 +43,7 @@ pub fn aim(alloc: Global, board: &mut Board<'_>) -> Result<(), OutOfMemory>
     ensures setup { setup_in board.new ≡ setup_in board.old }
 {
     let changes = aim_changes(alloc, &board.scene())?;
-    make(board, changes)
+    apply_all(board, changes)
 }
 
 /// Rows move.
@@ -56,7 +55,7 @@ pub fn walk(alloc: Global, board: &mut Board<'_>) -> Result<(), OutOfMemory>
     ensures setup { setup_in board.new ≡ setup_in board.old }
 {
     let changes = motion_changes(alloc, &board.scene())?;
-    make(board, changes)
+    apply_all(board, changes)
 }
 
 /// Fighters hit.
@@ -68,7 +67,7 @@ pub fn hit(alloc: Global, board: &mut Board<'_>) -> Result<(), OutOfMemory>
     ensures setup { setup_in board.new ≡ setup_in board.old }
 {
     let changes = hit_changes(alloc, &board.scene())?;
-    make(board, changes)
+    apply_all(board, changes)
 }
 
 /// Those without health leave.
@@ -80,5 +79,5 @@ pub fn leave(alloc: Global, board: &mut Board<'_>) -> Result<(), OutOfMemory>
     ensures setup { setup_in board.new ≡ setup_in board.old }
 {
     let changes = gone_changes(alloc, &board.scene())?;
-    make(board, changes)
+    apply_all(board, changes)
 }
