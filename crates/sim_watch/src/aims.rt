@@ -1,4 +1,5 @@
-//! Who aims at whom: groups of ids whose key is their target. Nobody is listed under no target.
+//! Who aims at whom: groups of ids whose key is their target. Nobody is listed under no target; half of all notes take a target
+//! or let it go, so the calls here are asked to stand in their caller's place, where that is seen at once.
 
 ghost use Rattle.std.specs.Prelude.{◌≡◌, ℕ, OnOk, IfOk};
 ghost use Rattle.sim_system.specs.declared.kind.Kind.TheVariants.{Watch as WatchKind};
@@ -27,6 +28,7 @@ pub fn groups_of(alloc: Global, facts: &[Fact]) -> Result<Groups, OutOfMemory>
 }
 
 /// Makes room for one more who aims at a target, if it is one.
+#[inline(always)]
 pub fn make_room(groups: &mut Groups, alloc: Global, target: u32) -> Result<(), OutOfMemory>
     ensures same { (k : ℕ) → listed k groups.new.groups.items ≡ listed k groups.old.groups.items }
     ensures room { OnOk result (HasRoomFor target groups.new.groups.items) }
@@ -38,6 +40,7 @@ pub fn make_room(groups: &mut Groups, alloc: Global, target: u32) -> Result<(), 
 }
 
 /// An entity that aimed at this target, if it is one, does so no more.
+#[inline(always)]
 pub fn leave(groups: &mut Groups, id: u32, target: u32)
     ensures left { (k : ℕ) → listed k groups.new.groups.items ≡ left_by aim_key (kept WatchKind (aim_of id target)) k (listed k groups.old.groups.items) }
     ensures room { (k : ℕ) → HasRoomFor k groups.old.groups.items → HasRoomFor k groups.new.groups.items }
@@ -48,6 +51,7 @@ pub fn leave(groups: &mut Groups, id: u32, target: u32)
 }
 
 /// An entity aims at this target, if it is one. The room was made before.
+#[inline(always)]
 pub fn join(groups: &mut Groups, id: u32, target: u32)
     requires { HasRoomFor target groups.old.groups.items }
     ensures { (k : ℕ) → listed k groups.new.groups.items ≡ joined_by aim_key (kept WatchKind (aim_of id target)) k (listed k groups.old.groups.items) }
