@@ -7,8 +7,8 @@ ghost use Rattle.sim_base.specs.Places.{IsPlaced, square as square_of};
 
 use sim_base::{Point, root, square};
 
-// How often a guess is made better. It is as many times too great at most as 2 has a root, and each step squares what it is
-// off: so these are enough for every distance on a land.
+// How often a guess is made better. The first is at most twice the root, and each step squares what it is off: so after four
+// nearly every distance on a land is met.
 const STEPS: u32 = 4;
 
 /// How far apart two points are, rounded down, in units of 1/65536 m.
