@@ -10,4 +10,5 @@ mod handlers;
 mod plain;
 mod refusing;
 mod sights;
+mod steady;
 mod twins;
