@@ -1,5 +1,5 @@
-//! Who aims at whom: groups of ids whose key is their target. Nobody is listed under no target; half of all notes take a target
-//! or let it go, so the calls here are asked to stand in their caller's place, where that is seen at once.
+//! Who aims at whom: groups of ids whose key is their target. Nobody is listed under no target. Most notes take a target or let
+//! one go, so half of the calls here are about none; they are asked to stand in their caller's place, where that is seen at once.
 
 ghost use Rattle.std.specs.Prelude.{◌≡◌, ℕ, OnOk, IfOk};
 ghost use Rattle.sim_system.specs.declared.kind.Kind.TheVariants.{Watch as WatchKind};
