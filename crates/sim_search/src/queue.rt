@@ -1,6 +1,6 @@
 //! The cells that wait, in a ring of buckets, each of which holds those of one key: the sum of cost and estimate.
 
-ghost use Rattle.std.specs.Prelude.{◌≡◌, ◌<◌, ◌≤◌, ◌+◌, ◌-◌, ◌↔◌, IsTrue, ◌%◌, ◌^◌, ◌*◌, ◌∷◌, [], None, Some, OnOk, IfOk, MatchOption, ℕ, Contains, replicate, true, false, vec_len};
+ghost use Rattle.std.specs.Prelude.{◌≡◌, ◌<◌, ◌≤◌, ◌+◌, ◌-◌, ◌↔◌, IsTrue, ◌%◌, ◌^◌, ◌*◌, [], None, Some, OnOk, IfOk, ℕ, replicate, vec_len};
 ghost use Rattle.sim_base.specs.Steps.{IsOnGround};
 ghost use Rattle.sim_search.specs.Tables.{size_of, cost_in, is_lower_than};
 ghost use Rattle.sim_search.specs.Estimates.{estimate_to};
@@ -206,7 +206,7 @@ pub fn take(search: &mut Search, cell: Cell)
 
 /// Whether no cell stands in the bucket of a key.
 pub fn is_empty(search: &Search, now: u32) -> bool
-    ensures { result ≡ true → bucket_in search.now (now % 32) ≡ [] }
+    ensures { IsTrue result ↔ bucket_in search.now (now % 32) ≡ [] }
 {
     search.buckets[bucket(now)].as_slice().is_empty()
 }
