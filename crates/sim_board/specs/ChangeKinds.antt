@@ -25,3 +25,15 @@ IsNoRemoval (change.Remove id) = ⊥
 IsNoRemoval (change.Create number p owner) = Unit {0}
 IsNoRemoval (change.Word word) = Unit {0}
 IsNoRemoval change.Tick = Unit {0}
+
+-- no row is made
+abbrev pub IsNoCreation : Change → Type 0
+IsNoCreation (change.Move id p) = Unit {0}
+IsNoCreation (change.Motion id motion) = Unit {0}
+IsNoCreation (change.Attack id aim) = Unit {0}
+IsNoCreation (change.Health id health) = Unit {0}
+IsNoCreation (change.Owner id owner) = Unit {0}
+IsNoCreation (change.Remove id) = Unit {0}
+IsNoCreation (change.Create number p owner) = ⊥
+IsNoCreation (change.Word word) = Unit {0}
+IsNoCreation change.Tick = Unit {0}

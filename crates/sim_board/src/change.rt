@@ -1,6 +1,6 @@
 //! The state after a change. No system is told here. Near which place the row of a change stands is a hint.
 
-ghost use Rattle.std.specs.Prelude.{◌≡◌, ◌<◌, [], length, map, OnOk, IsOk};
+ghost use Rattle.std.specs.Prelude.{◌≡◌, ◌<◌, ◌-◌, ◌^◌, [], length, map, OnOk, IsOk};
 ghost use Rattle.std.specs.List.Sorted.{IsStrictlyIncreasing};
 ghost use Rattle.sim_base.specs.Limits.{IsSetup};
 ghost use Rattle.sim_base.specs.Validity.{IsLooselyValid};
@@ -8,7 +8,8 @@ ghost use Rattle.sim_base.specs.Changes.{applied, created};
 ghost use Rattle.sim_base.specs.Rows.{id_of};
 ghost use Rattle.sim_plans.specs.Fits.{Fits};
 ghost use Rattle.sim_board.specs.Letting.{left_by};
-ghost use Rattle.sim_board.specs.ChangeKinds.{NeedsNoMemory, IsNoRemoval};
+ghost use Rattle.sim_base.specs.declared.setup.Setup.{Setup as SetupOf};
+ghost use Rattle.sim_board.specs.ChangeKinds.{NeedsNoMemory, IsNoRemoval, IsNoCreation};
 
 use crate::edit::{
     add_row, release_rows, set_at, set_attack, set_health, set_motion, set_owner, take_row,
@@ -31,52 +32,40 @@ pub fn make(
     ensures applied { OnOk result (state.new ≡ applied setup.now state.old change.old) }
     ensures sure { NeedsNoMemory change.old → IsOk result }
 {
+    if let Change::Create {
+        template,
+        at,
+        owner,
+    } = change
+    {
+        return create(alloc, setup, state, *template, at, *owner);
+    }
+    let mut rows = take_rows(alloc, state);
+    set(&mut rows, state, change, near);
+    state.rows = Items::from_items(rows);
+    Ok(())
+}
+
+// Sets what the change gives: in the row with its id, or of the state beside its rows.
+fn set(rows: &mut Vec<Row>, state: &mut State, change: &mut Change, near: usize)
+    requires rows { IsStrictlyIncreasing (map id_of rows.old.items) }
+    requires turn { state.old.turn < 2 ^ 32 - 1 }
+    requires stays { IsNoRemoval change.old }
+    requires comes { IsNoCreation change.old }
+    ensures { (setup : SetupOf) → record state.new { rows = rows.new.items } ≡ applied setup (record state.old { rows = rows.old.items }) change.old }
+{
     match change {
-        Change::Move { id, at } => {
-            let mut rows = take_rows(alloc, state);
-            set_at(&mut rows, *id, at, near);
-            state.rows = Items::from_items(rows);
-            Ok(())
-        }
+        Change::Move { id, at } => set_at(rows, *id, at, near),
         Change::Motion { id, motion } => {
             let motion = std::mem::replace(motion, Motion::Still);
-            let mut rows = take_rows(alloc, state);
-            set_motion(&mut rows, *id, motion, near);
-            state.rows = Items::from_items(rows);
-            Ok(())
+            set_motion(rows, *id, motion, near);
         }
-        Change::Attack { id, aim } => {
-            let mut rows = take_rows(alloc, state);
-            set_attack(&mut rows, *id, *aim, near);
-            state.rows = Items::from_items(rows);
-            Ok(())
-        }
-        Change::Health { id, health } => {
-            let mut rows = take_rows(alloc, state);
-            set_health(&mut rows, *id, *health, near);
-            state.rows = Items::from_items(rows);
-            Ok(())
-        }
-        Change::Owner { id, owner } => {
-            let mut rows = take_rows(alloc, state);
-            set_owner(&mut rows, *id, *owner, near);
-            state.rows = Items::from_items(rows);
-            Ok(())
-        }
-        Change::Create {
-            template,
-            at,
-            owner,
-        } => create(alloc, setup, state, *template, at, *owner),
-        Change::Word { word } => {
-            state.word = *word;
-            Ok(())
-        }
-        Change::Tick => {
-            state.turn += 1;
-            Ok(())
-        }
-        Change::Remove { .. } => unreachable!(),
+        Change::Attack { id, aim } => set_attack(rows, *id, *aim, near),
+        Change::Health { id, health } => set_health(rows, *id, *health, near),
+        Change::Owner { id, owner } => set_owner(rows, *id, *owner, near),
+        Change::Word { word } => state.word = *word,
+        Change::Tick => state.turn += 1,
+        Change::Create { .. } | Change::Remove { .. } => unreachable!(),
     }
 }
 

@@ -18,7 +18,7 @@ use Rattle.sim_path.specs.declared.floor.Front.{Front}
 use Rattle.sim_search.proofs.Moves.{least_step, move-of, step_back, even_step}
 use Rattle.sim_search.proofs.Octile.{beside_of, octile-near, estimate-falls}
 
-abbrev far : ℕ → ℕ → ℕ
+abbrev pub far : ℕ → ℕ → ℕ
 far x z = 14 * min x z + 10 * (max x z - min x z)
 
 past_eight : (size : Size) (c p : Cell) (w : ℕ) → neighbour size c (suc (suc (suc (suc (suc (suc (suc (suc w)))))))) ≡ Some p → ⊥
@@ -27,7 +27,7 @@ past_eight size c p w e = cc
 -- ---- the octile distance rises along a step straight away from the goal, and no other, by what the step costs
 
 -- a difference that rises by one, or falls
-abbrev IsOneApart : ℕ → ℕ → Type 0
+abbrev pub IsOneApart : ℕ → ℕ → Type 0
 IsOneApart m n = (n ≡ m + 1) ⊎ (m ≡ n + 1)
 
 rises_wide : (x y z : ℕ) → z ≤ x → y ≡ x + 1 → far y z ≡ far x z + 10
@@ -39,15 +39,15 @@ rises_deep x z w l e = omega arith
 rises_across : (x y z w : ℕ) → y ≡ x + 1 → w ≡ z + 1 → far y w ≡ far x z + 14
 rises_across x y z w e f = omega arith
 
-wide_by : (x y z : ℕ) → far y z ≡ far x z + 10 → IsOneApart x y → (z ≤ x) × (y ≡ x + 1)
+pub wide_by : (x y z : ℕ) → far y z ≡ far x z + 10 → IsOneApart x y → (z ≤ x) × (y ≡ x + 1)
 wide_by x y z e (inl f) = (omega arith, f)
 wide_by x y z e (inr f) = absurd (omega arith)
 
-deep_by : (x z w : ℕ) → far x w ≡ far x z + 10 → IsOneApart z w → (x ≤ z) × (w ≡ z + 1)
+pub deep_by : (x z w : ℕ) → far x w ≡ far x z + 10 → IsOneApart z w → (x ≤ z) × (w ≡ z + 1)
 deep_by x z w e (inl f) = (omega arith, f)
 deep_by x z w e (inr f) = absurd (omega arith)
 
-across_by : (x y z w : ℕ) → far y w ≡ far x z + 14 → IsOneApart x y → IsOneApart z w → (y ≡ x + 1) × (w ≡ z + 1)
+pub across_by : (x y z w : ℕ) → far y w ≡ far x z + 14 → IsOneApart x y → IsOneApart z w → (y ≡ x + 1) × (w ≡ z + 1)
 across_by x y z w e (inl f) (inl g) = (f, g)
 across_by x y z w e (inl f) (inr g) = absurd (omega arith)
 across_by x y z w e (inr f) (inl g) = absurd (omega arith)
@@ -59,11 +59,11 @@ record IsMoved (Side : Type 0) (m n : ℕ) : Type 0 where
   pub side : n ≡ m + 1 → Side
   pub apart : IsOneApart m n
 
-apart_up : (a p g : ℕ) → p ≡ a + 1 → (a < g) ⊎ (g ≤ a) → IsOneApart (abs_diff a g) (abs_diff p g)
+pub apart_up : (a p g : ℕ) → p ≡ a + 1 → (a < g) ⊎ (g ≤ a) → IsOneApart (abs_diff a g) (abs_diff p g)
 apart_up a p g e (inl l) = inr (omega arith)
 apart_up a p g e (inr l) = inl (omega arith)
 
-apart_down : (a p g : ℕ) → a ≡ p + 1 → (g < a) ⊎ (a ≤ g) → IsOneApart (abs_diff a g) (abs_diff p g)
+pub apart_down : (a p g : ℕ) → a ≡ p + 1 → (g < a) ⊎ (a ≤ g) → IsOneApart (abs_diff a g) (abs_diff p g)
 apart_down a p g e (inl l) = inr (omega arith)
 apart_down a p g e (inr l) = inl (omega arith)
 

@@ -1,5 +1,5 @@
 -- Cells: two are one or not, and what a list by z, then x, has at each.
-use Rattle.std.proofs.Common.{◌≡◌, ◌≢◌, ◌*◌, ◌<◌, true, false, List, length, get_or, set, sym, ap, ◌∙◌, ◌⊎◌, inl, inr, arith, ltb-true, lt-ltb, ltb}
+use Rattle.std.proofs.Common.{◌≡◌, ◌≢◌, ◌*◌, ◌<◌, true, false, List, Option, Some, None, length, get_or, set, sym, ap, ◌∙◌, ◌⊎◌, inl, inr, arith, ltb-true, lt-ltb, ltb}
 use Rattle.std.proofs.lemmas.Bool.{cases_Bool, cond-true, cond-false, and_parts, and_from, true≢false}
 use Rattle.std.proofs.lemmas.List.{get_or-set_same, get_or-set_other}
 use Rattle.std.proofs.lemmas.Nat.{mul-add-lt, same_from_place}
@@ -45,3 +45,10 @@ module _ {X : Type 0} (other : X) (size : Size) where
           let apart : place_of size e ≢ place_of size c = λ f. let parts = same_from_place e.z e.x c.z c.x size.width there.east on.east f in ne (same_by_parts e c parts.1 parts.0) in
           entry_at-on (set xs (place_of size c) v) e there ∙ get_or-set_other xs (place_of size c) (place_of size e) v other apart ∙ sym (entry_at-on xs e there)
       by (inr h) = entry_at-off (set xs (place_of size c) v) e h ∙ sym (entry_at-off xs e h)
+
+pub entry_at-there : {X : Type 0} (size : Size) (xs : List (Option X)) (c : Cell) (v : X) → entry_at None size xs c ≡ Some v → IsOnGround size c
+entry_at-there size xs c v e = by (cases_Bool (has_cell size c))
+  where
+    by : (has_cell size c ≡ true) ⊎ (has_cell size c ≡ false) → IsOnGround size c
+    by (inl h) = has_cell-true size c h
+    by (inr h) = let both : None ≡ Some v = sym (entry_at-off None size xs c h) ∙ e in let never : ⊥ = cc in absurd never

@@ -1,9 +1,12 @@
 use Rattle.std.proofs.Common.{◌≡◌, ◌+◌, List, ◌∷◌, drop, get_or, sym, subst, Bool}
-use Rattle.std.proofs.lemmas.List.{at_drop_more}
+use Rattle.std.proofs.lemmas.List.{at_drop_more, drop_all}
 use Rattle.sim_base.specs.declared.place.Cell.{Cell}
 use Rattle.sim_grid.specs.Grids.{field_of_grid}
 use Rattle.sim_search.specs.Estimates.{estimate_to}
 use Rattle.sim_search.specs.declared.search.Search.{Search}
+use Rattle.sim_search.specs.Tables.{size_of, known}
+use Rattle.sim_search.specs.Queues.{Drains}
+use Rattle.sim_search.proofs.Cells.{entry_at-there}
 use Rattle.sim_search.proofs.Draining.{Draining, draining_begins, draining_past, draining_taken, estimate_to-fits}
 use Rattle.sim_search.proofs.drain.drain.Goals as goal
 use Rattle.sim_search.proofs.drain.drain.Goals.{in-Some+in_ok-expand, in_default}
@@ -33,3 +36,16 @@ loop-cell-preserved c =
           (subst (λ (b : Bool). Draining (estimate_to c.args.aim) field first s c.args.now rest b) (sym w.any-is)
           (draining_past (estimate_to c.args.aim) field first s c.args.now x rest c.loop-cell.any (c.waiting.ensures.none w.in_default.is) before))
     ]
+
+pub take-requires : goal.take-requires
+take-requires c =
+    let costs = c.expand.new.search.costs in
+    entry_at-there (size_of costs) (known costs) (get_or c.args.bucket.now c.loop-cell.cell-index (record { x = 0; z = 0 })) c.in-Some.cost c.in_ok-expand.ensures.from_is
+
+pub returns : goal.returns
+returns c =
+    let none = drop_all c.loop-cell.cell-index c.args.bucket.now c.loop-cell-test.false in
+    record {
+      done = subst (λ (l : List Cell). Drains (estimate_to c.args.aim) (field_of_grid c.args.grid.now) c.loop-cell.search c.args.now l) none c.loop-cell.invariant.drains;
+      progress = c.loop-cell.invariant.progress;
+    }

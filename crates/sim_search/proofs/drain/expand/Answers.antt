@@ -3,9 +3,12 @@ use Rattle.std.proofs.lemmas.Result.{IfOk-from_err}
 use Rattle.sim_grid.specs.Grids.{field_of_grid}
 use Rattle.sim_search.specs.Estimates.{estimate_to}
 use Rattle.sim_search.specs.declared.search.Search.{Search}
-use Rattle.sim_search.proofs.Draining.{Expanding, expanding_more, expanding_none, expanded, estimate_to-fits}
+use Rattle.sim_search.proofs.Draining.{Expanding, expanding_begins, expanding_more, expanding_none, expanded, estimate_to-fits}
 use Rattle.sim_search.proofs.drain.expand.Goals as goal
 use Rattle.sim_search.proofs.drain.expand.Goals.{in-Some+in_ok-lower, in_default}
+
+pub loop-which-init : goal.loop-which-init
+loop-which-init c = expanding_begins (estimate_to c.args.aim) (field_of_grid c.args.grid.now) c.args.search.now c.args.from c.args.cost c.requires.label
 
 pub loop-which-preserved : goal.loop-which-preserved
 loop-which-preserved c =
