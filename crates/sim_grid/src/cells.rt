@@ -99,6 +99,7 @@ impl Cells {
         requires there { neighbour_of self.now.size cell which ≢ None }
         ensures { neighbour_of self.now.size cell which ≡ Some result }
     {
+        // For what is known of the ground's size then.
         let _ = &self.width;
         let (x, z) = offset(which);
         Cell {

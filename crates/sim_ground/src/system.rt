@@ -48,8 +48,9 @@ impl Ground {
         }
     }
 
-    /// Lends the labels of the open cells: two of them have one label where steps to the east, north, west and south over
-    /// open cells join them. There are none where the system was not built.
+    /// Lends the labels of the open cells, each the least place, `z * width + x`, of the cells that are joined to it: two of them
+    /// have one label just where steps to the east, north, west and south over open cells join them. There are none where the
+    /// system was not built.
     pub fn regions(&self) -> Option<&Labels>
         ensures { AreRegions (⟦<Ground as System>⟧.meaning self.now).land (⟦<Ground as System>⟧.meaning self.now).facts (option_copied result) }
     {

@@ -24,12 +24,13 @@ pub record IsWayEnd (field : Field) (start goal : Cell) (cost : Cell → Option 
   pub is_end : IsEnd field start goal end.cell end.cost
   pub back : LeadBack field start cost end
 
--- The ends that a search may have: the reached cells that are so near to the goal, where none is nearer.
+-- The ends that a search may have: the reached cells that are so near to the goal, where none is nearer. There is one.
 pub record AreEnds (field : Field) (start goal : Cell) (near : ℕ) (ends : List Cell) : Type 0 where
   pub away : (c : Cell) (n : ℕ) → Walk (IsStep field start) start c n → near ≤ octile c goal
   pub all : (c : Cell) (n : ℕ) → Walk (IsStep field start) start c n → octile c goal ≡ near → Contains ends c
   pub as_near : (c : Cell) → Contains ends c → octile c goal ≡ near
   pub reached : (c : Cell) → Contains ends c → IsReached field start c
+  pub some : (c : Cell) × Contains ends c
 
 -- none of the cells has a cost
 abbrev pub IsNoneOf : (Cell → Option ℕ) → List Cell → Type 0

@@ -93,6 +93,7 @@ fn way_forwards(
     requires trail { IsTrailToEnd (field_of_grid grid.now) (cell_at start.now) (cell_at goal.now) trail.old.items }
     ensures { IfOk result (λ way. IsFound (field_of_grid grid.now) start.now goal.now (way_in way)) }
 {
+    // For what is known of the start then: its cell is one of the ground's.
     let _ = grid.cell_of(*start);
     turn(trail);
     way_along(alloc, trail.as_slice(), goal)
@@ -116,8 +117,8 @@ fn trail_back(
     trail_from(grid, costs, trail, from, end)
 }
 
-// The end of the way, by what a search has found: the best of its ends, or where none is reached, the best of all reached
-// cells.
+// The end of the way, by what a search has found: the best of its ends, or where none of them has a cost, the best of all
+// cells that have one.
 fn way_end(grid: &Grid, costs: &Costs, aim: Aim, ends: &[Cell], start: Cell) -> Reached
     requires start_on { IsOnGround grid.now.size start }
     requires size { size_of costs.now ≡ grid.now.size }
@@ -131,8 +132,9 @@ fn way_end(grid: &Grid, costs: &Costs, aim: Aim, ends: &[Cell], start: Cell) -> 
     }
 }
 
-/// The shortest way over the open cells of the grid, of at most 64 points. The start counts as open. Where the goal
-/// can't be reached, the way leads to the reached cell that is nearest to it.
+/// The first 64 points of the shortest way over the open cells of the grid, and whether these are all of it. Within one cell
+/// that is the goal alone. The start counts as open. Where the goal can't be reached, the way leads to the reached cell that
+/// is nearest to it by the octile distance.
 pub fn way(alloc: Global, grid: &Grid, start: Point, goal: Point) -> Result<Way, OutOfMemory>
     requires start { IsTrue (is_inside grid.now.size start) }
     requires goal { IsTrue (is_inside grid.now.size goal) }

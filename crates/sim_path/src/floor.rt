@@ -35,7 +35,7 @@ pub fn floor_at(front: &Front, start: Cell, cell: Cell) -> u32
     }
 }
 
-/// Whether that is this cost. As little is read as will do.
+/// Whether the floor of a cell is this cost. As little is read as will do.
 pub fn is_floor(front: &Front, start: Cell, cell: Cell, cost: u32) -> bool
     ensures { IsTrue result ↔ floor_of front.now start cell ≡ cost }
 {

@@ -9,6 +9,8 @@
 //! - `floor`, `away`, `tight`, `milestone`: ways to a far goal that cost no more than a search knows that they must, found
 //!   before all cells are searched that cost as much.
 //! - `answer`: the way, by its points, and the rooms that are kept from one search to the next.
+//!
+//! The labels and the laws of `sim_search` can be had here too, since whoever asks a way needs them.
 #![tactic(auto)]
 
 mod answer;

@@ -5,7 +5,7 @@ ghost use Rattle.std.specs.Prelude.{◌<◌};
 use sim_base::Cell;
 use sim_grid::{Grid, octile};
 
-// From which distance on a goal is far.
+// From which octile distance on a goal is far: a hundred straight steps.
 const FAR: u32 = 1_000;
 
 // How many steps there are to the first cell that is tried, and how many cells are.

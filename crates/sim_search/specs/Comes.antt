@@ -18,7 +18,7 @@ pub record AreCostsUpTo (field : Field) (start : Cell) (estimate : Cell → ℕ)
   pub least : (c : Cell) (d : ℕ) → cost c ≡ Some d → d + estimate c ≤ bound → IsCost field start c d
   pub all : (c : Cell) (d : ℕ) → IsCost field start c d → d + estimate c ≤ bound → cost c ≡ Some d
 
--- a search stopped after it had come to an end, with the least costs up to a bound above that end's cost
+-- a search stopped after it had come to an end, with the least costs up to a bound that is no lower than that end's cost
 pub record HasStopped (field : Field) (start : Cell) (estimate : Cell → ℕ) (ends : List Cell) (cost : Cell → Option ℕ) : Type 0 where
   pub bound : ℕ
   pub come : IsComeTo cost ends (bound + 1)

@@ -31,7 +31,7 @@ read_entry stamp e = if nat_eq e.stamp stamp then Some e.cost else None
 abbrev pub known : Costs → List (Option ℕ)
 known t = map (read_entry t.stamp) t.items.items
 
--- the cost of a cell, if it is reached
+-- the cost of a cell, if the search has come to it
 abbrev pub cost_in : Costs → Cell → Option ℕ
 cost_in t c = entry_at None (size_of t) (known t) c
 

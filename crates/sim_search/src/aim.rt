@@ -6,7 +6,8 @@ ghost use Rattle.sim_search.specs.Estimates.{estimate_to};
 use sim_base::Cell;
 use sim_grid::octile;
 
-/// Where a search goes: to the cells that are so near to the goal, by the octile distance.
+/// Where a search goes: to the cells that are so near to the goal, by the octile distance, which is 10 for a straight step and
+/// 14 for a diagonal one.
 #[derive(Clone, Copy)]
 pub struct Aim {
     pub goal: Cell,
@@ -27,7 +28,8 @@ impl Aim {
     }
 }
 
-/// The estimate for a cell: how much further it is from the goal than the aim, as an even number.
+/// The estimate for a cell: how much further it is from the goal than the aim, rounded down to an even number, and 0 where it
+/// is no further.
 pub fn estimate(aim: Aim, cell: Cell) -> u32
     ensures is { result ≡ estimate_to aim cell }
     ensures small { result < 2 ^ 24 }

@@ -1,4 +1,5 @@
-//! A cost for each cell that is reached. It stands apart from the search, since what follows the search reads it alone.
+//! A cost for each cell that a search has come to. It stands apart from the search, since what follows one reads it, and no
+//! more of it than that and its key.
 
 ghost use Rattle.std.specs.Prelude.{◌≡◌, ◌*◌, ◌<◌, ◌≤◌, vec_len, All};
 ghost use Rattle.sim_search.specs.declared.entry.Entry.{Entry};
@@ -42,7 +43,7 @@ impl Costs {
         usize::from(cell.z) * usize::from(self.width) + usize::from(cell.x)
     }
 
-    /// The cost of a cell: None where it is not reached, or not one of the ground's.
+    /// The cost of a cell: None where the search has not come to it, or where it is not one of the ground's.
     pub fn at(&self, cell: Cell) -> Option<u32>
         ensures { result ≡ cost_in self.now cell }
     {

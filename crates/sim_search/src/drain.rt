@@ -9,7 +9,7 @@ ghost use Rattle.sim_search.specs.Taking.{HasCost};
 ghost use Rattle.sim_search.specs.Estimates.{estimate_to};
 ghost use Rattle.sim_search.specs.declared.aim.Aim.{Aim};
 ghost use Rattle.sim_search.specs.Comes.{IsComeTo, IsSearched};
-ghost use Rattle.sim_search.specs.Queues.{Drains, Expands, Progress, Ready};
+ghost use Rattle.sim_search.specs.Queues.{Begins, Drains, Expands, Progress, Ready};
 
 use crate::aim::{Aim, estimate};
 use crate::costs::Costs;
@@ -103,8 +103,8 @@ fn passed(search: &Search, mut now: u32, mut idle: u32) -> (u32, u32)
     (now, idle)
 }
 
-/// A search from the start in the rooms of an earlier one, before its first key, which is the estimate for the start. The
-/// start counts as open.
+/// A search from the start in the rooms of an earlier one, where they fit, before its first key, which is the estimate for
+/// the start. The start counts as open.
 pub fn started(
     alloc: Global,
     grid: &Grid,
@@ -114,6 +114,8 @@ pub fn started(
 ) -> Result<Stage, OutOfMemory>
     requires start { IsOnGround grid.now.size start }
     ensures start { IfOk result (λ stage. stage.search.start ≡ start) }
+    ensures key { IfOk result (λ stage. stage.key ≡ estimate_to aim start) }
+    ensures begins { IfOk result (λ stage. Begins (estimate_to aim) grid.now.size start stage.search) }
     ensures ready { IfOk result (λ stage. Ready (estimate_to aim) (field_of_grid grid.now) stage.search stage.key 0) }
     ensures small { IfOk result (λ stage. stage.key < 2 ^ 24) }
 {
@@ -131,8 +133,8 @@ pub struct Stage {
     pub key: u32,
 }
 
-/// Goes on with a search as far as is needed to tell which of the ends costs the least, and how it is reached. With no ends
-/// it goes on until no cell waits.
+/// Goes on with a search until one of the ends has a cost below the key, or no cell waits. Of ends whose estimate is 0 it is
+/// then told which costs the least, and how it is reached.
 pub fn go_on(
     alloc: Global,
     stage: Stage,

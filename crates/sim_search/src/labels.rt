@@ -13,14 +13,14 @@ use sim_base::{Cell, OutOfMemory};
 use sim_grid::Grid;
 use std::alloc::Global;
 
-/// The labels of the open cells of a grid: the least place, `z * width + x`, of the cells that are joined to it.
+/// The label of each open cell of a grid: the least place, `z * width + x`, of the cells that are joined to it.
 #[derive(Drop)]
 pub struct Labels {
     table: Table,
 }
 
 impl Labels {
-    /// The label of a cell: None where it is closed.
+    /// The label of a cell: None where it is closed, or not one of the ground's.
     pub fn of(&self, cell: Cell) -> Option<u32>
         ensures { result ≡ label_in self.now cell }
     {

@@ -1,5 +1,5 @@
-//! Laws of a search that takes cells by their cost and an estimate. They hold for every estimate that falls along a step
-//! by at most what the step costs, not only for the one that is used here.
+//! Laws of labels, and of a search that takes cells by their cost and an estimate. These hold for every estimate that falls
+//! along a step by at most what the step costs, not only for the one that is used here.
 
 ghost use Rattle.sim_search.specs.TakingLaws.{TakenIsLeast, TakenInOrder, LoweringKeeps, TakingKeeps};
 ghost use Rattle.sim_search.specs.RegionLaws.{LabelsTell, NoLabelIsClosed};

@@ -1,10 +1,10 @@
 //! The search for the least costs of walks over a grid of cells, and the labels of its regions.
 //!
 //! It promises that each cost is the least of all walks, as far as the search has gone, and that a label tells which cells
-//! are joined. What follows a search, as the way to its end, reads the costs alone and stands above.
+//! are joined. What follows a search, as the way to its end, reads its costs and its key and stands above.
 //!
 //! - `steps`: the steps that are allowed.
-//! - `costs`, `entry`: a cost for each cell that is reached.
+//! - `costs`, `entry`: a cost for each cell that the search has come to.
 //! - `aim`: where a search goes, and what is known of the cost from a cell on.
 //! - `search`, `queue`, `drain`: the search, by buckets of cells that wait at one cost and estimate, and how far it has
 //!   come.

@@ -16,8 +16,8 @@ pub fn step_cost(which: u8) -> u32
     if which < 4 { 10 } else { 14 }
 }
 
-/// The steps that are allowed from a cell, as a bit for each direction. They are those that the grid keeps, but where the
-/// start is closed, which counts as open.
+/// The steps that are allowed from a cell, as a bit for each direction, the lowest for the first. They are those that the
+/// grid keeps, but where the start is closed, which counts as open.
 pub fn moves_from(grid: &Grid, start: Cell, from: Cell) -> u8
     requires start { IsOnGround grid.now.size start }
     requires from { IsOnGround grid.now.size from }

@@ -1,4 +1,5 @@
-//! That the whole search, the search by labels and one searcher that is kept over all grounds find the same ways.
+//! That the whole search, the search by labels and one searcher that is kept over all grounds find the same ways, by what
+//! they answer: the first 64 points, and whether these are all.
 
 use crate::pairs::{Points, is_on};
 use crate::site::{GROUNDS, Site};

@@ -1,6 +1,6 @@
-//! Ways on large grounds, by the whole search and by labels. A run without words takes both between random cells and
-//! compares them: it prints nothing, and ends with status 1 where they differ. The word `measure` asks for what ways cost
-//! instead, and then figures are printed, and nothing is promised.
+//! Ways on large grounds, by the whole search, by labels and in kept rooms. A run without words takes all of them between
+//! random cells and compares them: it prints nothing, and ends with status 1 where they differ. Any word, as `measure`, asks
+//! for what ways cost instead, and then figures are printed, and nothing is promised.
 //!
 //! - `site`: grounds of several kinds, with their labels.
 //! - `pairs`: random cells.

@@ -1,5 +1,5 @@
-//! What a way costs between near, middle and far cells and into a building, on each kind of ground: by the whole search,
-//! by labels in rooms of its own, and by a searcher that keeps its rooms.
+//! What a way costs between near, middle and far cells and to a cell that lies in a building where the ground has buildings,
+//! on each kind of ground: by the whole search, by labels in rooms of its own, and by a searcher that keeps its rooms.
 
 ghost use Rattle.std.specs.Prelude.{◌≡◌, ◌≤◌, ◌<◌, IsTrue};
 ghost use Rattle.sim_base.specs.Places.{is_inside};
@@ -55,11 +55,11 @@ fn measure_ground(rt: &HostRuntime, size: u16, last: u8, ground: Ground) -> io::
     )?;
     measure_way(rt, &site, "middle", centre(20, 20), centre(60, 44))?;
     measure_way(rt, &site, "near", centre(50, 40), centre(60, 44))?;
-    measure_way(rt, &site, "into a building", centre(20, 20), centre(71, 55))?;
+    measure_way(rt, &site, "to (71, 55)", centre(20, 20), centre(71, 55))?;
     measure_way(
         rt,
         &site,
-        "near, into a building",
+        "near, to (71, 55)",
         centre(58, 52),
         centre(71, 55),
     )

@@ -5,7 +5,7 @@ use Rattle.sim_path.proofs.NearestEnds.{rows-begin, rows-done}
 use Rattle.sim_path.proofs.nearest.scan.Goals as goal
 
 pub loop-z-init : goal.loop-z-init
-loop-z-init c = rows-begin (field_of_grid c.args.grid.now) c.args.start c.args.goal c.args.window c.args.window.z0 _ (omega arith) c.new.ensures.items
+loop-z-init c = rows-begin (field_of_grid c.args.grid.now) c.args.start c.args.goal c.args.window c.args.window.z0 _ (omega arith) c.new.ensures.items (omega arith)
 
 pub loop-z-preserved : goal.loop-z-preserved
 loop-z-preserved c = c.in_ok-scan_row.ensures

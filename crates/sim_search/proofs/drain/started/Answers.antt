@@ -3,13 +3,22 @@ use Rattle.sim_base.specs.Places.{Size}
 use Rattle.sim_base.specs.Steps.{Field}
 use Rattle.sim_grid.specs.Grids.{field_of_grid, is_open_at}
 use Rattle.sim_search.specs.Estimates.{estimate_to}
-use Rattle.sim_search.specs.Queues.{Ready}
+use Rattle.sim_search.specs.Queues.{Begins, Ready}
 use Rattle.sim_search.proofs.Draining.{ready_begins}
 use Rattle.sim_search.proofs.Octile.{estimate-even}
 use Rattle.sim_search.proofs.drain.started.Goals as goal
 
 pub returns-clause-start : goal.returns-clause-start
 returns-clause-start c = c.in_ok-search.ensures.start_is
+
+pub returns-clause-key : goal.returns-clause-key
+returns-clause-key c = c.estimate.ensures.is
+
+pub returns-clause-begins : goal.returns-clause-begins
+returns-clause-begins c =
+    let size : ℕ → ℕ → Size = λ w d. record { width = w; depth = d } in
+    let same : size c.width.result c.depth.result ≡ c.args.grid.now.size = ap₂ size c.width.ensures.width c.depth.ensures.depth in
+    subst (λ (v : Size). Begins (estimate_to c.args.aim) v c.args.start c.in_ok-search.search) same c.in_ok-search.ensures
 
 pub returns-clause-ready : goal.returns-clause-ready
 returns-clause-ready c =
