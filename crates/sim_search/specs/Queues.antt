@@ -23,12 +23,13 @@ bucket_in s b = slice_index_or s.buckets.items b []
 abbrev pub untaken : Search → ℕ
 untaken s = count_by not (takens s)
 
--- a search that has come to no cell yet
+-- a search that has come to no cell yet, and in whose buckets none stands
 pub record IsBlank (size : Size) (start : Cell) (s : Search) : Type 0 where
   pub start_is : s.start ≡ start
   pub size_is : size_of s.costs ≡ size
   pub none_reached : (c : Cell) → cost_in s.costs c ≡ None
   pub none_taken : (c : Cell) → taken_in s c ≡ false
+  pub none_wait : (b : ℕ) → b < 32 → bucket_in s b ≡ []
 
 -- a search has come to no cell but the start, which waits by its estimate
 pub record Begins (estimate : Cell → ℕ) (size : Size) (start : Cell) (s : Search) : Type 0 where

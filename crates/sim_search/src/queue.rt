@@ -1,6 +1,6 @@
 //! The cells that wait, in a ring of buckets, each of which holds those of one key: the sum of cost and estimate.
 
-ghost use Rattle.std.specs.Prelude.{◌≡◌, ◌<◌, ◌≤◌, ◌+◌, ◌-◌, ◌↔◌, IsTrue, ◌%◌, ◌^◌, ◌*◌, [], None, Some, OnOk, IfOk, ℕ, replicate, vec_len};
+ghost use Rattle.std.specs.Prelude.{◌≡◌, ◌<◌, ◌≤◌, ◌+◌, ◌-◌, ◌↔◌, IsTrue, ◌%◌, ◌^◌, ◌*◌, [], None, Some, OnOk, IfOk, ℕ, replicate, slice_index_or, vec_len};
 ghost use Rattle.sim_base.specs.Steps.{IsOnGround};
 ghost use Rattle.sim_search.specs.Tables.{size_of, cost_in, is_lower_than};
 ghost use Rattle.sim_search.specs.Estimates.{estimate_to};
@@ -76,14 +76,22 @@ fn new_rooms(alloc: Global, width: u16, depth: u16, start: Cell) -> Result<Searc
     })
 }
 
-// Empties the buckets, each in the room that it had.
+// Empties a bucket, which keeps its room.
+fn empty(alloc: Global, bucket: &mut Items<Cell>)
+    ensures { bucket.new ≡ [] }
+{
+    let cells = mem::replace(bucket, Items::new(alloc));
+    *bucket = emptied(cells);
+}
+
+// Empties the buckets.
 fn empty_all(alloc: Global, buckets: &mut Vec<Items<Cell>>)
     requires { vec_len buckets.old ≡ 32 }
-    ensures { vec_len buckets.new ≡ 32 }
+    ensures ring { vec_len buckets.new ≡ 32 }
+    ensures empty { (b : ℕ) → b < 32 → slice_index_or buckets.new.items b [] ≡ [] }
 {
     for b in 0..32usize {
-        let cells = mem::replace(&mut buckets[b], Items::new(alloc));
-        buckets[b] = emptied(cells);
+        empty(alloc, &mut buckets[b]);
     }
 }
 

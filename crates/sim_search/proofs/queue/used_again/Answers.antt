@@ -14,4 +14,5 @@ returns c =
       size_is = c.forget.ensures.size;
       none_reached = c.forget.ensures.none;
       none_taken = λ e. entry_at-all (λ (t : ℕ). nat_eq t now) false (size_of c.forget.new.self) old.taken.items e apart;
+      none_wait = c.empty_all.ensures.empty;
     }
