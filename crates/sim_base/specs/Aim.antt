@@ -1,32 +1,47 @@
 -- The phase in which fighters choose their targets.
-use Rattle.std.specs.Prelude.{ℕ, Bool, true, false, ◌&&◌, not, ◌==◌, [], ◌∷◌, map, Option, Some, None, is_some, unwrap_or, option_map, if◌then◌else◌}
+use Rattle.std.specs.Prelude.{ℕ, ◌*◌, Bool, true, false, ◌&&◌, ◌||◌, not, nat_le, ◌==◌, unsigned_abs, List, [], ◌∷◌, map, filter, Option, Some, None, is_some, unwrap_or, option_map, if◌then◌else◌}
+use Rattle.sim_base.specs.declared.place.Point.{Point}
 use Rattle.sim_base.specs.declared.template.Arms.{Arms}
 use Rattle.sim_base.specs.declared.setup.Setup.{Setup}
 use Rattle.sim_base.specs.declared.state.Row.{Row}
 use Rattle.sim_base.specs.declared.state.State.{State}
 use Rattle.sim_base.specs.Places.{square}
 use Rattle.sim_base.specs.Least.{least_of}
-use Rattle.sim_base.specs.Rows.{row_of, target_of, is_going, arms_of, in_mask, enemies_of}
-use Rattle.sim_base.specs.Filters.{seen}
+use Rattle.sim_base.specs.Rows.{row_of, target_of, is_holding, is_going, arms_of, in_mask, enemies_of}
+use Rattle.sim_base.specs.Filters.{seen, is_near}
 use Rattle.sim_base.specs.Changes.{aimed_at, released}
 
--- the target is there, and its owner is no enemy of the row's owner
-abbrev pub aims_at_friend : Setup → Row → Option Row → Bool
-aims_at_friend setup row None = false
-aims_at_friend setup row (Some target) = not (in_mask (enemies_of setup row.owner) target.owner)
+-- a point is within the range of a row with these arms
+abbrev pub reaches : Row → Option Arms → Point → Bool
+reaches row None p = false
+reaches row (Some arms) p = is_near p row.at arms.range
 
--- each row that aims at a friend is released
-abbrev pub without_friends : Setup → State → State
-without_friends setup state =
-    record state { rows = map (λ row. if aims_at_friend setup row (row_of state (target_of row)) then released row else row) state.rows }
+-- a row lets go of a target whose owner is no enemy of its own, and, where it holds its place, of one out of its range
+abbrev pub lets_go : Setup → Row → Option Row → Bool
+lets_go setup row None = false
+lets_go setup row (Some target) =
+    not (in_mask (enemies_of setup row.owner) target.owner) || is_holding row && not (reaches row (arms_of setup row) target.at)
+
+-- each row that lets go of its target is released
+abbrev pub with_releases : Setup → State → State
+with_releases setup state =
+    record state { rows = map (λ row. if lets_go setup row (row_of state (target_of row)) then released row else row) state.rows }
 
 -- the square of the distance to a row, or 0 where it is not there
 abbrev pub square_to : State → Row → ℕ → ℕ
 square_to state row id = unwrap_or (option_map (λ (other : Row). square other.at row.at) (row_of state id)) 0
 
--- the nearest enemy that it sees, of several the one with the least id, or 0
+-- a row may take any target, and where it holds its place one within its range alone
+abbrev pub may_take : State → Row → Arms → ℕ → Bool
+may_take state row arms id = not (is_holding row) || nat_le (square_to state row id) (unsigned_abs arms.range * unsigned_abs arms.range)
+
+-- the enemies that it sees and may take as target, ascending by id
+abbrev pub choices : Setup → State → Row → Arms → List ℕ
+choices setup state row arms = filter (may_take state row arms) (seen setup state row arms)
+
+-- the nearest of these, of several the one with the least id, or 0
 abbrev pub target_for : Setup → State → Row → Arms → ℕ
-target_for setup state row arms = unwrap_or (least_of (λ id. square_to state row id ∷ id ∷ []) (seen setup state row arms)) 0
+target_for setup state row arms = unwrap_or (least_of (λ id. square_to state row id ∷ id ∷ []) (choices setup state row arms)) 0
 
 -- a fighter without a target that is not on its way looks for one
 abbrev pub is_idle : Row → Bool
@@ -42,6 +57,6 @@ looking setup state row false arms = row
 abbrev pub with_targets : Setup → State → State
 with_targets setup state = record state { rows = map (λ row. looking setup state row (is_idle row) (arms_of setup row)) state.rows }
 
--- the phase: friends are let go, and then targets are taken
+-- the phase: targets are let go, and then targets are taken
 abbrev pub aimed : Setup → State → State
-aimed setup state = with_targets setup (without_friends setup state)
+aimed setup state = with_targets setup (with_releases setup state)

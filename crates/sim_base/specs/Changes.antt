@@ -1,5 +1,5 @@
 -- What a change makes of a state.
-use Rattle.std.specs.Prelude.{ℕ, ◌+◌, false, ◌==◌, not, ℤ, List, [], ◌∷◌, ◌++◌, map, filter, fold, Option, Some, None, option_map, slice_get, if◌then◌else◌}
+use Rattle.std.specs.Prelude.{ℕ, ◌+◌, Bool, false, ◌==◌, not, ℤ, List, [], ◌∷◌, ◌++◌, map, filter, fold, Option, Some, None, option_map, slice_get, if◌then◌else◌}
 use Rattle.sim_base.specs.declared.place.Point.{Point}
 use Rattle.sim_base.specs.declared.template.Template.{Template}
 use Rattle.sim_base.specs.declared.template.Arms.{Arms}
@@ -17,11 +17,15 @@ use Rattle.sim_base.specs.Rows.{target_of}
 abbrev pub aimed_at : ℕ → Row → Row
 aimed_at target row = record row { attack = option_map (λ (aim : Aim). record aim { target = target }) row.attack }
 
+-- a row that holds its place or does not, if it can attack at all
+abbrev pub with_stance : Bool → Row → Row
+with_stance hold row = record row { attack = option_map (λ (aim : Aim). record aim { hold = hold }) row.attack }
+
 -- a row that stands still, if it can move at all
 abbrev pub halted : Row → Row
 halted row = record row { motion = option_map (λ (motion : Motion). Still) row.motion }
 
--- the target becomes none, and a motion becomes still
+-- the target becomes none, and a motion becomes still; one that holds its place goes on holding it
 abbrev pub released : Row → Row
 released row = halted (aimed_at 0 row)
 
@@ -34,7 +38,7 @@ abbrev pub removed : ℕ → State → State
 removed id state =
     record state { rows = map (λ row. if target_of row == id then released row else row) (filter (λ row. not (row.id == id)) state.rows) }
 
--- a new row is unhurt, stands still and has no target
+-- a new row is unhurt, stands still, has no target and does not hold its place
 abbrev pub new_row : ℕ → ℕ → Point → ℕ → Template → Row
 new_row id number p owner template =
     record {

@@ -18,7 +18,7 @@ use Rattle.sim_base.specs.Places.{is_inside, rect_of, centre_of}
 use Rattle.sim_base.specs.Rows.{id_of, row_of, template_of, size_of, in_mask, enemies_of}
 use Rattle.sim_base.specs.Limits.{row_limit}
 use Rattle.sim_base.specs.Filters.{is_free_rect, population, spot}
-use Rattle.sim_base.specs.Changes.{aimed_at, halted, released, removed, created}
+use Rattle.sim_base.specs.Changes.{aimed_at, with_stance, halted, released, removed, created}
 
 -- a row is ordered where the commander owns it and its id is among those named, however often
 abbrev pub is_ordered : ℕ → List ℕ → Row → Bool
@@ -29,19 +29,23 @@ abbrev pub with_ordered : ℕ → List ℕ → (Row → Row) → State → State
 with_ordered player ids changed state =
     record state { rows = map (λ row. if is_ordered player ids row then changed row else row) state.rows }
 
--- a row that can move goes to a point, by a way that is still to be asked, and forgets its target
+-- a row that can move goes to a point, by a way that is still to be asked, forgets its target and holds its place no more
 abbrev pub sent_by : Point → Row → Option Motion → Row
 sent_by p row None = row
-sent_by p row (Some motion) = record (aimed_at 0 row) { motion = Some (Going p [] false) }
+sent_by p row (Some motion) = record (with_stance false (aimed_at 0 row)) { motion = Some (Going p [] false) }
 
 -- the same by the row's own motion
 abbrev pub sent : Point → Row → Row
 sent p row = sent_by p row row.motion
 
--- a row that can attack takes a target, and stands still
+-- a row is released, and holds its place
+abbrev pub stopped : Row → Row
+stopped row = with_stance true (released row)
+
+-- a row that can attack takes a target, stands still and holds its place no more
 abbrev pub set_on_by : ℕ → Row → Option Aim → Row
 set_on_by target row None = row
-set_on_by target row (Some aim) = halted (aimed_at target row)
+set_on_by target row (Some aim) = halted (with_stance false (aimed_at target row))
 
 -- the same by the row's own attack
 abbrev pub set_on : ℕ → Row → Row
@@ -97,7 +101,7 @@ trained setup state player number (Some building) =
 -- the state after a player's command
 abbrev pub commanded_by : Setup → State → ℕ → Command → State
 commanded_by setup state player (Walk ids p) = if is_inside (size_of setup.land) p then with_ordered player ids (sent p) state else state
-commanded_by setup state player (Stop ids) = with_ordered player ids released state
+commanded_by setup state player (Stop ids) = with_ordered player ids stopped state
 commanded_by setup state player (Attack ids target) = if is_enemy setup player (row_of state target) then with_ordered player ids (set_on target) state else state
 commanded_by setup state player (Delete ids) = fold (λ s id. removed id s) state (map id_of (filter (is_ordered player ids) state.rows))
 commanded_by setup state player (Place number p) =

@@ -20,6 +20,10 @@ id_of row = row.id
 abbrev pub target_of : Row → ℕ
 target_of row = unwrap_or (option_map (λ (aim : Aim). aim.target) row.attack) 0
 
+-- a row that can attack and holds its place: it takes only targets within its range, and chases none
+abbrev pub is_holding : Row → Bool
+is_holding row = unwrap_or (option_map (λ (aim : Aim). aim.hold) row.attack) false
+
 -- a motion that has a goal
 abbrev pub is_going : Option Motion → Bool
 is_going None = false

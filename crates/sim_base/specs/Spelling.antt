@@ -1,5 +1,5 @@
--- The bytes of a state: a head, the clock, and six sections, each with the rows that have its part.
-use Rattle.std.specs.Prelude.{ℕ, false, ℤ, pos, List, [], ◌∷◌, ◌++◌, length, Option, Some, option_map, codes}
+-- The bytes of a state: a head, the clock, and seven sections, each with the rows that have its part.
+use Rattle.std.specs.Prelude.{ℕ, ◌%◌, Bool, false, ◌==◌, if◌then◌else◌, ℤ, pos, List, [], ◌∷◌, ◌++◌, length, Option, Some, option_map, codes}
 use Rattle.std.specs.List.{flat_map, filter_map}
 use Rattle.md5.specs.Md5.{md5}
 use Rattle.sim_base.specs.declared.place.Point.{Point}
@@ -11,9 +11,9 @@ use Rattle.sim_base.specs.declared.state.Row.{Row}
 use Rattle.sim_base.specs.declared.state.State.{State}
 use Rattle.sim_base.specs.Bytes.{u16_bytes, u32_bytes, u64_bytes, i32_bytes, flag_bytes}
 
--- the version of the layout
+-- the version of the layout that is written; version 1 is read too
 abbrev pub version : ℕ
-version = 1
+version = 2
 
 -- x and z
 abbrev pub point_bytes : Point → List ℕ
@@ -68,7 +68,7 @@ motion_part row = row.motion
 abbrev pub moving_bytes : ℕ × Motion → List ℕ
 moving_bytes r = u32_bytes r.0 ++ motion_bytes r.1
 
--- the target and the cooldown; whether it holds is not stored
+-- the target and the cooldown
 abbrev pub attack_part : Row → Option (ℕ × ℕ)
 attack_part row = option_map (λ (aim : Aim). (aim.target, aim.cooldown)) row.attack
 
@@ -76,28 +76,68 @@ attack_part row = option_map (λ (aim : Aim). (aim.target, aim.cooldown)) row.at
 abbrev pub attack_bytes : ℕ × (ℕ × ℕ) → List ℕ
 attack_bytes r = u32_bytes r.0 ++ (u32_bytes r.1.0 ++ u16_bytes r.1.1)
 
+-- whether it holds its place
+abbrev pub stance_part : Row → Option Bool
+stance_part row = option_map (λ (aim : Aim). aim.hold) row.attack
+
+-- id and whether it holds
+abbrev pub stance_bytes : ℕ × Bool → List ℕ
+stance_bytes r = u32_bytes r.0 ++ flag_bytes r.1
+
 -- a tag, the number of rows, and the rows
 abbrev pub section : {X : Type 0} → ℕ → (X → List ℕ) → List X → List ℕ
 section tag spelled rows = tag ∷ (u32_bytes (length rows) ++ flat_map spelled rows)
 
--- the six sections in the order of their tags
-abbrev pub sections : List Row → List ℕ
-sections rows =
+-- the six sections that both versions have, in the order of their tags, and what follows them
+abbrev pub six_sections : List Row → List ℕ → List ℕ
+six_sections rows rest =
     section 1 entity_bytes (rows_with entity_part rows) ++
     (section 2 position_bytes (rows_with position_part rows) ++
     (section 3 owner_bytes (rows_with owner_part rows) ++
     (section 4 health_bytes (rows_with health_part rows) ++
     (section 5 moving_bytes (rows_with motion_part rows) ++
-    section 6 attack_bytes (rows_with attack_part rows)))))
+    (section 6 attack_bytes (rows_with attack_part rows) ++ rest)))))
+
+-- all seven sections
+abbrev pub sections : List Row → List ℕ
+sections rows = six_sections rows (section 7 stance_bytes (rows_with stance_part rows))
 
 -- the turn, the next id and the word
 abbrev pub clock_bytes : State → List ℕ
 clock_bytes state = u32_bytes state.turn ++ (u32_bytes state.next ++ u64_bytes state.word)
 
+-- magic, version and the id of the match
+abbrev pub head_bytes : ℕ → Setup → List ℕ → List ℕ
+head_bytes version setup rest = codes "RSIM" ++ (u32_bytes version ++ (setup.id ++ rest))
+
 -- the bytes of a state: magic, version, the id of the match, the clock, and the sections
 abbrev pub spelling : Setup → State → List ℕ
-spelling setup state = codes "RSIM" ++ (u32_bytes version ++ (setup.id ++ (clock_bytes state ++ sections state.rows)))
+spelling setup state = head_bytes version setup (clock_bytes state ++ sections state.rows)
+
+-- the same by version 1, which does not say who holds its place
+abbrev pub old_spelling : Setup → State → List ℕ
+old_spelling setup state = head_bytes 1 setup (clock_bytes state ++ six_sections state.rows [])
 
 -- MD5 of the spelling
 unfoldable pub digest : Setup → State → List ℕ
 digest setup state = md5 (spelling setup state)
+
+-- what a quick digest is made of: the clock, and where each row is
+abbrev pub quick_bytes : State → List ℕ
+quick_bytes state = clock_bytes state ++ section 2 position_bytes (rows_with position_part state.rows)
+
+-- MD5 of the clock and the places
+unfoldable pub quick : State → List ℕ
+quick state = md5 (quick_bytes state)
+
+-- every so many turns a report carries the whole digest
+abbrev pub full_each : ℕ
+full_each = 20
+
+-- a turn whose reports carry the whole digest
+abbrev pub is_full_turn : ℕ → Bool
+is_full_turn turn = turn % full_each == 0
+
+-- what a report of a state carries
+abbrev pub mark : Setup → State → List ℕ
+mark setup state = if is_full_turn state.turn then digest setup state else quick state

@@ -28,11 +28,10 @@ abbrev pub IsValidMotion : Setup → Motion → Type 0
 IsValidMotion setup Still = Unit {0}
 IsValidMotion setup (Going goal way whole) = IsInside setup goal × All (IsInside setup) way × (length way ≤ waypoint_limit)
 
--- the target is none, or another row that has health
+-- the target is none, or another row that has health; it may hold its place or not
 pub record IsValidAim (rows : List Row) (id : ℕ) (aim : Aim) (arms : Arms) : Type 0 where
   pub target : (aim.target ≡ 0) ⊎ ((aim.target ≢ id) × IsTrue (has_health rows aim.target))
   pub cooldown : aim.cooldown ≤ arms.repeat
-  pub hold : aim.hold ≡ false
 
 -- both are there, or neither is, and what is said of the two holds
 abbrev pub Both : {X Y : Type 0} → Option X → Option Y → (X → Y → Type 0) → Type 0

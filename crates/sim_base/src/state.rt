@@ -65,9 +65,9 @@ pub const MAX_ROWS: usize = 4096;
 /// How many waypoints a way has at most.
 pub const MAX_WAYPOINTS: usize = 64;
 
-/// How many bytes a stored state has at most: 70, and 568 for each of 4096 entities with all parts and a way of 64
+/// How many bytes a stored state has at most: 75, and 573 for each of 4096 entities with all parts and a way of 64
 /// waypoints. `docs/FORMATS.md` has the layout.
-pub const MAX_STATE: usize = 2_326_598;
+pub const MAX_STATE: usize = 2_347_083;
 
 /// A match at a turn: how many turns were played, the id of the next new entity, the random word, and the entities.
 #[derive(Debug, Drop)]
