@@ -39,7 +39,7 @@ module _ (least : ℕ) (setup : Setup) (rows : List Row) (row : Row) (t : Templa
       by None None v = tt
       by None (Some arms) v = absurd v
       by (Some aim) None v = absurd v
-      by (Some aim) (Some arms) v = record { target = may; cooldown = v.cooldown; hold = v.hold }
+      by (Some aim) (Some arms) v = record { target = may; cooldown = v.cooldown }
 
   pub halted_is_valid : IsValidRow least setup rows row t → IsValidRow least setup rows (halted row) t
   halted_is_valid h = record { at = h.at; owner = h.owner; health = h.health; motion = by row.motion t.speed h.motion; attack = h.attack }
@@ -151,7 +151,7 @@ module _ (least : ℕ) (setup : Setup) (state : State) (id : ℕ) (valid : IsSta
       by None None e v = tt
       by None (Some arms) e v = absurd v
       by (Some aim) None e v = absurd v
-      by (Some aim) (Some arms) e v = record { target = target_kept aim.target e v.target; cooldown = v.cooldown; hold = v.hold }
+      by (Some aim) (Some arms) e v = record { target = target_kept aim.target e v.target; cooldown = v.cooldown }
 
   known_after : (row : Row) → Has left row → IsKnownRow least setup rest (let_go id row)
   known_after row h =
