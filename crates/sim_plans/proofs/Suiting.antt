@@ -118,7 +118,7 @@ module _ (least : ℕ) (setup : Setup) (rows : List Row) (row : Row) (t : Templa
       by None e = All-nil (Suits setup rows row)
       by (Some aim) e =
           cond_both (aim.target == target) [] (change.Attack row.id (record aim { target = target }) ∷ []) (All (Suits setup rows row)) (λ same. All-nil (Suits setup rows row))
-          (λ other. one_suits setup rows row (change.Attack row.id (record aim { target = target })) (attack_suits aim (record aim { target = target }) e (λ arms h f. record { target = may; cooldown = h.cooldown; hold = h.hold })))
+          (λ other. one_suits setup rows row (change.Attack row.id (record aim { target = target })) (attack_suits aim (record aim { target = target }) e (λ arms h f. record { target = may; cooldown = h.cooldown })))
 
   pub motion_suits : (motion : Motion) → IsSome row.motion → IsValidMotion setup motion → Suits setup rows row (change.Motion row.id motion)
   motion_suits motion some ok = (refl, some, ok)
