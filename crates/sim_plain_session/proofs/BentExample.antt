@@ -43,6 +43,7 @@ they_differ = refl
 
 -- what both report of turn 1 is the same
 marks_agree : mark guarded (after guarded (Turn [] ∷ [])) ≡ mark guarded (after guarded (Turn [] ∷ bend))
+unfolding quick
 marks_agree = refl
 
 -- ---- a client is bent, and another one loads from it
