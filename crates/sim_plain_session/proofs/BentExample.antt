@@ -8,7 +8,6 @@ use Rattle.sim_base.specs.declared.step.Step.{Step}
 use Rattle.sim_base.specs.declared.step.Step.TheVariants as step
 use Rattle.sim_base.specs.declared.step.Event.TheVariants as event
 use Rattle.sim_plain.specs.declared.message.UpOf.TheVariants as up
-use Rattle.sim_plain.specs.declared.message.DownOf.TheVariants as down
 use Rattle.sim_base.specs.Bytes.{u16_bytes, u32_bytes, u64_bytes, i32_bytes}
 use Rattle.sim_base.specs.Turn.{Past, Turn, Bend, after}
 use Rattle.sim_base.specs.Spelling.{digest, quick, mark, is_full_turn}
