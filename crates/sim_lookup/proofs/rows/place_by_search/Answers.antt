@@ -4,7 +4,7 @@ use Rattle.std.proofs.lemmas.Cmp.{ranked}
 use Rattle.std.proofs.lemmas.List.Sorted.{answers_always}
 use Rattle.sim_base.specs.declared.state.Row.{Row}
 use Rattle.sim_lookup.proofs.Places.{no_row, row_at, row_missing}
-use Rattle.sim_lookup.proofs.rows.place_by_halves.Goals as goal
+use Rattle.sim_lookup.proofs.rows.place_by_search.Goals as goal
 
 pub returns-in-Ok : goal.returns-in-Ok
 returns-in-Ok c =
