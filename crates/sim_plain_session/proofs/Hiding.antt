@@ -10,9 +10,9 @@ use Rattle.sim_base.specs.declared.state.State.{State}
 use Rattle.sim_base.specs.Changes.{with_row}
 use Rattle.sim_base.specs.Rows.{row_of}
 use Rattle.sim_base.specs.Spelling.{clock_bytes, section, position_part, position_bytes, rows_with, quick, is_full_turn}
-use Rattle.sim_base.specs.Turn.{may_bend, bent, turns_in}
+use Rattle.sim_base.specs.Turn.{may_bend, bent}
 use Rattle.sim_turn_laws.proofs.Turning.{after_counts_turns}
-use Rattle.sim_plain_session.specs.Clients.{Seat, state_of, digest_of, mark_of, bent_seat}
+use Rattle.sim_plain_session.specs.Clients.{state_of, digest_of, bent_seat}
 use Rattle.sim_plain_session.specs.Marks.{FullIsDigest, OthersAreQuick, BendsAreHidden}
 
 pub full_is_digest : FullIsDigest

@@ -1,8 +1,8 @@
 -- What a notice shows.
-use Rattle.std.proofs.Common.{◌≡◌, inl, inr, ℕ, Bool, true, false, List, [], ◌∷◌, ◌++◌, All, map, refl, sym, ap, ◌∙◌, subst, if◌then◌else◌, Option, Some, None}
-use Rattle.std.specs.Prelude.{filter, not, ◌==◌}
+use Rattle.std.proofs.Common.{◌≡◌, inl, inr, ℕ, Bool, true, false, List, [], ◌∷◌, All, map, refl, sym, ap, ◌∙◌, subst, if◌then◌else◌, Option, Some, None}
+use Rattle.std.specs.Prelude.{filter, ◌==◌}
 use Rattle.std.specs.Str.{bytes_eq}
-use Rattle.std.proofs.lemmas.Bool.{cases_eq, cond-true, cond-false, eqb-true}
+use Rattle.std.proofs.lemmas.Bool.{cond-true, cond-false, eqb-true}
 use Rattle.std.proofs.lemmas.Slice.Eq.{bytes_eq-Decides}
 use Rattle.std.proofs.lemmas.List.Elements.{All-nil, All-cons, All-head, All-tail, All-append}
 use Rattle.sim_base.specs.declared.setup.Setup.{Setup}
@@ -12,7 +12,7 @@ use Rattle.sim_plain.specs.declared.message.UpOf.TheVariants as up
 use Rattle.sim_plain.specs.declared.rules.Rules.{Rules}
 use Rattle.sim_plain.specs.History.{is_accepted}
 use Rattle.sim_plain.specs.Messages.{Arrival, Heard, Cut}
-use Rattle.sim_plain.specs.Notices.{Report, report_of, reports, first_mark, reference_by}
+use Rattle.sim_plain.specs.Notices.{Report, report_of, reports, first_mark}
 use Rattle.sim_plain.specs.Posts.{differs}
 use Rattle.sim_plain.specs.Server.{server_after}
 use Rattle.sim_plain_session.specs.Laws.{Carries}
@@ -96,7 +96,7 @@ pairs rs = map (λ (r : Report). (r.0, r.1.0)) rs
 
 found : (test : Report → Bool) (rs : List Report) (n : ℕ × ℕ) → Carries (pairs (filter test rs)) n → IsFound test rs n
 found test [] n has = absurd has
-found test (r ∷ rs) n = by (test r) refl (found test rs n)
+found test (r ∷ rs) n has = by (test r) refl (found test rs n) has
   where
     later : IsFound test rs n → IsFound test (r ∷ rs) n
     later q = (q.0, inr q.1, q.2, q.3)

@@ -1,5 +1,5 @@
 -- Each report of a session is the mark of a state after some past.
-use Rattle.std.proofs.Common.{◌≡◌, inl, inr, ℕ, Bool, true, false, List, [], ◌∷◌, ◌++◌, All, refl, sym, subst, if◌then◌else◌}
+use Rattle.std.proofs.Common.{inl, inr, ℕ, suc, ◌==◌, Bool, true, false, List, [], ◌∷◌, ◌++◌, All, refl, subst, if◌then◌else◌}
 use Rattle.std.specs.Prelude.{ℤ}
 use Rattle.std.proofs.lemmas.List.Elements.{All-nil, All-cons, All-head, All-tail, All-append}
 use Rattle.sim_base.specs.declared.command.Command.{Command}
@@ -54,7 +54,7 @@ says_orders setup c x (On o) = says_if setup (may_order setup o) (ordered c x o)
 says_told : (setup : Setup) (c : ℕ) (o : Seat) → All (SaysMark setup) (told setup c o).says
 says_told setup c o =
     says_if setup (may_tell_done setup o) (told_with_done setup c o) (told_alone setup c o)
-    (All-cons (SaysMark setup) _ _ (o.past, refl, refl) (All-cons (SaysMark setup) _ [] tt (none setup)))
+    (All-cons (SaysMark setup) _ (up.Done (suc o.done) ∷ []) (o.past, refl, refl) (All-cons (SaysMark setup) (up.Done (suc o.done)) [] tt (none setup)))
     (All-cons (SaysMark setup) _ [] (o.past, refl, refl) (none setup))
 
 says_plays : (setup : Setup) (c : ℕ) (ph : Phase) → All (SaysMark setup) (plays setup c ph).says
