@@ -12,7 +12,7 @@ use Rattle.sim_base.specs.declared.change.Change.{Change}
 use Rattle.sim_base.specs.declared.change.Change.TheVariants.{Word}
 use Rattle.sim_base.specs.Rows.{id_of, row_of, target_of, speed_of, arms_of}
 use Rattle.sim_base.specs.Changes.{removed, applied_all}
-use Rattle.sim_base.specs.Aim.{aims_at_friend, is_idle, aimed}
+use Rattle.sim_base.specs.Aim.{lets_go, is_idle, aimed}
 use Rattle.sim_base.specs.Move.{moved}
 use Rattle.sim_base.specs.Hit.{Hit, Hitting, fights, hitting, taken_from, is_spent, hit, gone}
 use Rattle.sim_base.specs.Validity.{IsLooselyValid}
@@ -62,10 +62,10 @@ not_hurt row = by row.health
 module _ (setup : Setup) (state : State) where
   aims_nowhere : (row : Row) → Rests row → aim_changes_of setup state row ≡ []
   aims_nowhere row r =
-      ap (λ (a : Option Aim). aim_changes_by friend (is_idle (record row { attack = a })) target row) r.attack ∙ by friend
+      ap (λ (a : Option Aim). aim_changes_by lets (is_idle (record row { attack = a })) target row) r.attack ∙ by lets
     where
-      friend : Bool
-      friend = aims_at_friend setup row (row_of state (target_of row))
+      lets : Bool
+      lets = lets_go setup row (row_of state (target_of row))
 
       target : ℕ
       target = next_target setup state row (arms_of setup row)
