@@ -10,7 +10,7 @@ use Rattle.sim_base.specs.declared.step.Event.{Event}
 use Rattle.sim_base.specs.declared.step.Event.TheVariants as event
 use Rattle.sim_base.specs.Rows.{row_of}
 use Rattle.sim_base.specs.Turn.{Past, after, turns_in, may_bend, bent}
-use Rattle.sim_base.specs.Spelling.{spelling, digest}
+use Rattle.sim_base.specs.Spelling.{spelling, digest, mark}
 use Rattle.sim_plain.specs.declared.message.UpOf.TheVariants as up
 use Rattle.sim_plain.specs.declared.message.DownOf.TheVariants as down
 use Rattle.sim_plain.specs.Functions.{put}
@@ -19,7 +19,7 @@ use Rattle.sim_plain_session.specs.Clients as plain
 use Rattle.sim_plain_session.specs.Pasts.{is_client}
 use Rattle.sim_plain_session.specs.Bytes.{spelled}
 use Rattle.sim_plain_session.specs.Players.{Player, IsPlayerOf}
-use Rattle.sim_plain_session.proofs.PlayerLemmas.{same_turn, beginning_stands, playing_stands, bending_stands, learning_stands}
+use Rattle.sim_plain_session.proofs.PlayerLemmas.{same_turn, same_mark, beginning_stands, playing_stands, bending_stands, learning_stands}
 use Rattle.sim_plain_session.proofs.Functions.{put_other}
 use Rattle.sim_turn_laws.proofs.Turning.{after_counts_turns}
 use Rattle.sim_client.specs.Lives.{Life, Off, Joining, On, Act, may_order, ordered, orders, may_play, played, may_tell_done, told_with_done, told_alone, told, plays, bends, learns, releases, refused, loads, hands_on, hears}
@@ -55,6 +55,9 @@ module _ (setup : Setup) (player : Player) (seat : plain.Seat) (s : IsPlayerOf s
   hash : digest setup player.state ≡ plain.digest_of setup seat
   hash = (same_turn setup player seat s).1
 
+  told_mark : mark setup player.state ≡ plain.mark_of setup seat
+  told_mark = same_mark setup player seat s
+
   ordering_on : (c : ℕ) (command : Command) →
       (let act = orders setup command (On player) in Follows setup (On player) act (order_shown c (says_of act)) (plain.orders setup c command (plain.On seat)))
   ordering_on c command =
@@ -77,12 +80,12 @@ module _ (setup : Setup) (player : Player) (seat : plain.Seat) (s : IsPlayerOf s
       by true true e =
           record {
             lives = record { state = s.state; known = s.known; released = s.released; done = ap suc s.done; orders = refl };
-            said = (λ i. up.Report (at i) (hash i) ∷ up.Done (suc (s.done i)) ∷ []);
+            said = (λ i. up.Report (at i) (told_mark i) ∷ up.Done (suc (s.done i)) ∷ []);
             printed = (λ i. event.Play c (at i) (hash i) ∷ []);
           }
       by true false e = absurd (cc)
       by false true e = absurd (cc)
-      by false false e = record { lives = s; said = (λ i. up.Report (at i) (hash i) ∷ []); printed = (λ i. event.Play c (at i) (hash i) ∷ []) }
+      by false false e = record { lives = s; said = (λ i. up.Report (at i) (told_mark i) ∷ []); printed = (λ i. event.Play c (at i) (hash i) ∷ []) }
 
   played_stands : IsPlayerOf setup (played setup player) (plain.played seat)
   played_stands =

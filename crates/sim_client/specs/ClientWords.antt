@@ -3,7 +3,7 @@ use Rattle.std.specs.Prelude.{◌≡◌, ℕ, Bool, true, false, List, Option, S
 use Rattle.sim_base.specs.declared.memory.OutOfMemory.{OutOfMemory}
 use Rattle.sim_base.specs.declared.setup.Setup.{Setup}
 use Rattle.sim_base.specs.declared.state.State.{State}
-use Rattle.sim_base.specs.Spelling.{digest}
+use Rattle.sim_base.specs.Spelling.{digest, mark}
 use Rattle.sim_system.specs.declared.system.System.{Ghosts}
 use Rattle.sim_system.specs.Meanings.{Systems}
 use Rattle.sim_plain.specs.declared.message.DownOf.TheVariants as down
@@ -51,6 +51,12 @@ abbrev pub digest_of : Setup → Life → Option (List ℕ)
 digest_of setup Off = None
 digest_of setup Joining = None
 digest_of setup (On player) = Some (digest setup player.state)
+
+-- what it reports of its state
+abbrev pub mark_of : Setup → Life → Option (List ℕ)
+mark_of setup Off = None
+mark_of setup Joining = None
+mark_of setup (On player) = Some (mark setup player.state)
 
 -- it waits for a state
 abbrev pub is_joining : Life → Bool

@@ -7,7 +7,7 @@ use Rattle.sim_base.specs.declared.setup.Setup.{Setup}
 use Rattle.sim_base.specs.declared.state.State.{State}
 use Rattle.sim_base.specs.Rows.{row_of}
 use Rattle.sim_base.specs.Turn.{first_state, turn, may_bend, bent}
-use Rattle.sim_base.specs.Spelling.{spelling, digest}
+use Rattle.sim_base.specs.Spelling.{spelling, mark}
 use Rattle.sim_plain.specs.declared.message.UpOf.{UpOf}
 use Rattle.sim_plain.specs.declared.message.UpOf.TheVariants as up
 use Rattle.sim_plain.specs.declared.message.DownOf.{DownOf}
@@ -83,7 +83,7 @@ may_tell_done setup player = nat_lt player.done (min setup.turns (player.state.t
 
 -- the report of its turn
 abbrev pub report_of : Setup → Player → Said
-report_of setup player = up.Report player.state.turn (digest setup player.state)
+report_of setup player = up.Report player.state.turn (mark setup player.state)
 
 -- a report goes up, and behind it a done; the commands that it gives are counted anew
 abbrev pub told_with_done : Setup → Player → Act

@@ -10,7 +10,7 @@ ghost use Rattle.sim_system.specs.RigWords.{systems_of};
 ghost use Rattle.sim_board.specs.BoardWords.{AreKept};
 ghost use Rattle.sim_client.specs.Lives.{Off, starts, joins, orders as orders_by, plays, bends};
 ghost use Rattle.sim_client.specs.StageWords.{AreCleared, AreOf};
-ghost use Rattle.sim_client.specs.ClientWords.{setup_in, number_in, life, systems, IsSound, Answers, Tells, is_joining, turn_of, digest_of, state_of};
+ghost use Rattle.sim_client.specs.ClientWords.{setup_in, number_in, life, systems, IsSound, Answers, Tells, is_joining, turn_of, digest_of, mark_of, state_of};
 
 mod hearing;
 
@@ -20,7 +20,7 @@ use crate::playing::{begin, order, play};
 use crate::stage::Stage;
 use sim_base::{Command, Fixed, OutOfMemory, Setup, State};
 use sim_board::Board;
-use sim_codec::digest;
+use sim_codec::{digest, mark};
 use sim_orders::OrderTable;
 use sim_system::{Rig, System};
 use sim_wire::Up;
@@ -209,13 +209,25 @@ impl<'a> Client<'a> {
         }
     }
 
-    /// MD5 of the bytes of its state.
+    /// MD5 of all bytes of its state, at every turn.
     pub fn digest(&self) -> Option<[u8; 16]>
         requires { IsSound self.now ⟦<dyn System as System>⟧ }
         ensures { result ≡ digest_of (setup_in self.now) (life self.now) }
     {
         match self.state() {
             Some(state) => Some(digest(self.setup, state)),
+            None => None,
+        }
+    }
+
+    /// What it reports of its state: the digest where its turn is a multiple of 20, and elsewhere the shorter one, MD5 of the
+    /// clock and of where each entity stands.
+    pub fn mark(&self) -> Option<[u8; 16]>
+        requires { IsSound self.now ⟦<dyn System as System>⟧ }
+        ensures { result ≡ mark_of (setup_in self.now) (life self.now) }
+    {
+        match self.state() {
+            Some(state) => Some(mark(self.setup, state)),
             None => None,
         }
     }

@@ -18,7 +18,7 @@ use crate::known::Known;
 use crate::stage::Seat;
 use sim_base::{Command, Items, OutOfMemory, PlayerCommand, Setup, State};
 use sim_board::Board;
-use sim_codec::{digest, spell};
+use sim_codec::{mark, spell};
 use sim_orders::OrderTable;
 use sim_system::System;
 use sim_turn::turn;
@@ -115,7 +115,7 @@ fn tell(alloc: Global, setup: &Setup, state: &State, seat: &mut Seat) -> Result<
         alloc,
         Up::Report {
             turn: state.turn,
-            digest: digest(setup, state),
+            digest: mark(setup, state),
         },
     )?;
     if may_tell_done(setup, state.turn, seat.done) {

@@ -8,7 +8,7 @@ use Rattle.sim_base.specs.declared.step.Step.{Step}
 use Rattle.sim_base.specs.declared.step.Step.TheVariants as step
 use Rattle.sim_base.specs.declared.step.Event.TheVariants as event
 use Rattle.sim_base.specs.Turn.{Past, Turn, after}
-use Rattle.sim_base.specs.Spelling.{digest}
+use Rattle.sim_base.specs.Spelling.{digest, quick}
 use Rattle.sim_base.proofs.ExampleMatches.{setup_of, no_id, walker, first, order}
 use Rattle.sim_plain.specs.declared.message.UpOf.TheVariants as up
 use Rattle.sim_plain.specs.declared.message.DownOf.TheVariants as down
@@ -23,6 +23,10 @@ half x z = record { x = pos (x * 65536 + 32768); z = pos (z * 65536 + 32768) }
 -- the digest after a past
 abbrev shown : Setup → Past → List ℕ
 shown setup past = digest setup (after setup past)
+
+-- what a report carries at a turn that is not full
+abbrev reported : Setup → Past → List ℕ
+reported setup past = quick (after setup past)
 
 -- the past of a client
 abbrev past_of : Phase → Past
@@ -64,7 +68,7 @@ ordering_kept = refl
 ordering_end : past_of ((session two 2 ordering).client 2) ≡ Turn [] ∷ []
 ordering_end = refl
 
-ordering_ups : (session two 2 ordering).ups 1 ≡ up.Report 1 (shown two (Turn [] ∷ [])) ∷ up.Done 3 ∷ []
+ordering_ups : (session two 2 ordering).ups 1 ≡ up.Report 1 (reported two (Turn [] ∷ [])) ∷ up.Done 3 ∷ []
 ordering_ups = refl
 
 ordering_downs : (session two 2 ordering).downs 1 ≡ down.Command 3 walks ∷ down.Command 3 stops ∷ []
@@ -120,7 +124,7 @@ reloading_events = refl
 reloading_knows : known_of ((session two 2 reloading).client 2) 3 ≡ walks ∷ []
 reloading_knows = refl
 
-reloading_ups : (session two 2 reloading).ups 2 ≡ up.Report 2 (shown two (Turn [] ∷ Turn [] ∷ [])) ∷ up.Done 4 ∷ []
+reloading_ups : (session two 2 reloading).ups 2 ≡ up.Report 2 (reported two (Turn [] ∷ Turn [] ∷ [])) ∷ up.Done 4 ∷ []
 reloading_ups = refl
 
 -- ---- nobody is left to ask

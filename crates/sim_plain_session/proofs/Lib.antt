@@ -3,6 +3,7 @@ pub mod GoingOn
 pub mod Arrived
 pub mod Shown
 pub mod PlayerLemmas
+pub mod Hiding
 pub mod InBytes
 pub mod Examples
 pub mod BentExample

@@ -4,15 +4,18 @@ use Rattle.std.proofs.lemmas.Bool.{cases_eq}
 use Rattle.sim_base.specs.declared.command.PlayerCommand.{PlayerCommand}
 use Rattle.sim_base.specs.declared.state.State.{State}
 use Rattle.sim_base.specs.Turn.{turn, bent, turns_in}
-use Rattle.sim_base.specs.Spelling.{digest}
+use Rattle.sim_base.specs.Spelling.{digest, mark}
 use Rattle.sim_plain.specs.Functions.{put}
 use Rattle.sim_turn_laws.proofs.Turning.{after_counts_turns}
 use Rattle.sim_plain_session.proofs.Functions.{put_same, put_other}
-use Rattle.sim_plain_session.specs.Players.{SameTurn, BeginningStands, PlayingStands, BendingStands, LearningStands}
+use Rattle.sim_plain_session.specs.Players.{SameTurn, SameMark, BeginningStands, PlayingStands, BendingStands, LearningStands}
 
 pub same_turn : SameTurn
 same_turn setup player seat s =
     (ap (λ (state : State). state.turn) s.state ∙ after_counts_turns setup seat.past, ap (digest setup) s.state)
+
+pub same_mark : SameMark
+same_mark setup player seat s = ap (mark setup) s.state
 
 pub beginning_stands : BeginningStands
 beginning_stands setup done released past = record { state = refl; known = λ t above. refl; released = refl; done = refl; orders = refl }

@@ -8,7 +8,7 @@ use Rattle.sim_base.specs.declared.step.Event.{Event}
 use Rattle.sim_base.specs.declared.step.Event.TheVariants as event
 use Rattle.sim_base.specs.Rows.{row_of}
 use Rattle.sim_base.specs.Turn.{Past, Turn, Bend, may_bend, after, turns_in}
-use Rattle.sim_base.specs.Spelling.{digest}
+use Rattle.sim_base.specs.Spelling.{digest, mark}
 use Rattle.sim_plain.specs.declared.message.UpOf.{UpOf}
 use Rattle.sim_plain.specs.declared.message.UpOf.TheVariants as up
 use Rattle.sim_plain.specs.declared.message.DownOf.{DownOf}
@@ -57,6 +57,10 @@ state_of setup seat = after setup seat.past
 abbrev pub digest_of : Setup → Seat → List ℕ
 digest_of setup seat = digest setup (state_of setup seat)
 
+-- the mark of its state, which is the digest at some turns alone
+abbrev pub mark_of : Setup → Seat → List ℕ
+mark_of setup seat = mark setup (state_of setup seat)
+
 -- a client with this past, which knows of no command
 abbrev pub begun : ℕ → ℕ → Past → Seat
 begun done released past = record { past = past; known = λ t. []; released = released; done = done; orders = 0 }
@@ -93,9 +97,9 @@ may_tell_done setup seat = nat_lt seat.done (min setup.turns (turns_in seat.past
 
 -- the report of its turn
 abbrev pub report_of : Setup → Seat → Up
-report_of setup seat = up.Report (turns_in seat.past) (digest_of setup seat)
+report_of setup seat = up.Report (turns_in seat.past) (mark_of setup seat)
 
--- what is printed of a turn that was played
+-- what is printed of a turn that was played; it has the whole digest at each turn
 abbrev pub play_event : Setup → ℕ → Seat → Event
 play_event setup c seat = event.Play c (turns_in seat.past) (digest_of setup seat)
 

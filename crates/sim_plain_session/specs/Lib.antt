@@ -4,4 +4,5 @@ pub mod Sessions
 pub mod Printed
 pub mod Players
 pub mod Bytes
+pub mod Marks
 pub mod Laws

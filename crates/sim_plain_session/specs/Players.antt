@@ -4,9 +4,9 @@ use Rattle.sim_base.specs.declared.command.PlayerCommand.{PlayerCommand}
 use Rattle.sim_base.specs.declared.setup.Setup.{Setup}
 use Rattle.sim_base.specs.declared.state.State.{State}
 use Rattle.sim_base.specs.Turn.{Past, turn, bent, after, turns_in}
-use Rattle.sim_base.specs.Spelling.{digest}
+use Rattle.sim_base.specs.Spelling.{digest, mark}
 use Rattle.sim_plain.specs.Functions.{put}
-use Rattle.sim_plain_session.specs.Clients.{Seat, digest_of, begun, played, bent_seat}
+use Rattle.sim_plain_session.specs.Clients.{Seat, digest_of, mark_of, begun, played, bent_seat}
 
 -- a client with its state, and with no past
 pub record Player : Type 0 where
@@ -27,6 +27,10 @@ pub record IsPlayerOf (setup : Setup) (player : Player) (seat : Seat) : Type 0 w
 -- it is at the turn of the past, with its digest
 abbrev pub SameTurn : Type 0
 SameTurn = (setup : Setup) (player : Player) (seat : Seat) → IsPlayerOf setup player seat → (player.state.turn ≡ turns_in seat.past) × (digest setup player.state ≡ digest_of setup seat)
+
+-- and with its mark
+abbrev pub SameMark : Type 0
+SameMark = (setup : Setup) (player : Player) (seat : Seat) → IsPlayerOf setup player seat → mark setup player.state ≡ mark_of setup seat
 
 -- a client that begins at the state after a past
 abbrev pub BeginningStands : Type 0

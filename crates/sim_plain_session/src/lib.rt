@@ -7,6 +7,7 @@
 //! (`sim_plain`).
 //!
 //! - `bytes`: the same session with the bytes of states in its messages.
+//! - `marks`: what a report shows at a full turn, and what a quick one hides.
 //! - `players`: a client with a state in place of a past.
 //! - `printed`: the server and the notices of all arrivals, and what each event shows. This excludes a server that compares
 //!   a report with the one before it in place of the first of its turn, and a client that prints the digest of the state
@@ -16,9 +17,11 @@
 #![tactic(auto)]
 
 mod bytes;
+mod marks;
 mod players;
 mod printed;
 
 pub use bytes::a_session_in_bytes_is_the_same;
+pub use marks::reports_are_full_or_quick;
 pub use players::players_stand_for_clients;
 pub use printed::{a_server_is_after_its_arrivals, events_show_states, sessions_go_on};

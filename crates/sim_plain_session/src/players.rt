@@ -1,11 +1,12 @@
 //! A client that has a state in place of a past.
 
-ghost use Rattle.sim_plain_session.specs.Players.{SameTurn, BeginningStands, PlayingStands, BendingStands, LearningStands};
+ghost use Rattle.sim_plain_session.specs.Players.{SameTurn, SameMark, BeginningStands, PlayingStands, BendingStands, LearningStands};
 
 /// A client that has a state and knows of the turns to come goes on standing for one that has a past, whatever it forgets
 /// of the turns that it has played.
 pub fn players_stand_for_clients()
     ensures same { SameTurn }
+    ensures mark { SameMark }
     ensures begins { BeginningStands }
     ensures plays { PlayingStands }
     ensures bends { BendingStands }

@@ -35,9 +35,20 @@ use Rattle.sim_pipes.specs.Exchanges.{Held, Conveys}
 use Rattle.sim_pipes.specs.Pipes.{AreFrames, pipe_in}
 use Rattle.sim_wire.specs.Fits.{IsUpFrame, IsSmallUp}
 use Rattle.sim_session.specs.Building.{AreBuilt, AreBuiltIf}
-use Rattle.sim_session.specs.Printing.{said_events, is_off}
+use Rattle.sim_session.specs.Printing.{said_events, played_events, has_happened, is_off}
 use Rattle.sim_session.specs.Standing.{said_by, StandBeside, Makes}
 use Rattle.sim_session.proofs.Stepping.{rises_stay}
+
+-- ---- answers
+
+-- what follows from a value that was answered
+pub then_ok : {V E : Type 0} {P Q : V → Type 0} (result : Result V E) → ((v : V) → P v → Q v) → IfOk result P → IfOk result Q
+then_ok (Ok v) follows p = follows v p
+then_ok (Err e) follows p = tt
+
+pub then_on : {V E : Type 0} {P Q : Type 0} (result : Result V E) → (P → Q) → OnOk result P → OnOk result Q
+then_on (Ok v) follows p = follows p
+then_on (Err e) follows p = tt
 
 -- ---- systems that were kept
 
@@ -88,18 +99,13 @@ join_printed c Off = refl
 join_printed c Joining = refl
 join_printed c (On player) = refl
 
-play_printed : (setup : Setup) (c : ℕ) (l : Life) → said_events c (says_of (plays setup l)) ≡ shows_after setup (event.Play c) (plays setup l)
-play_printed setup c Off = refl
-play_printed setup c Joining = refl
-play_printed setup c (On player) = by (may_play setup player)
-  where
-    done : (b : Bool) (p : Player) → said_events c (if b then told_with_done setup p else told_alone setup p).says ≡ shows setup (event.Play c) (if b then told_with_done setup p else told_alone setup p).life
-    done true p = refl
-    done false p = refl
-
-    by : (b : Bool) → said_events c (says_of (if b then Some (told setup (played setup player)) else None)) ≡ shows_after setup (event.Play c) (if b then Some (told setup (played setup player)) else None)
-    by true = done (may_tell_done setup (played setup player)) (played setup player)
-    by false = refl
+-- a client that did something is seen as it is then
+happened_shown : (setup : Setup) (make : ℕ → List ℕ → Event) (act : Option Act) (old : Life) (did : Did) (new : Life) → Answers act old (Ok did) new
+    → (if has_happened did then shows setup make new else []) ≡ shows_after setup make act
+happened_shown setup make None old Idle new h = refl
+happened_shown setup make None old (Done ups) new h = absurd h
+happened_shown setup make (Some act) old Idle new h = absurd h
+happened_shown setup make (Some act) old (Done ups) new h = ap (shows setup make) h.0
 
 -- ---- what a client says has frames
 
@@ -162,11 +168,11 @@ told_makes : (setup : Setup) (x : Step) (old new : Life) (before behind : Held) 
     (act : Option Act) (shown : List Event) (acted : Phase → Acted)
     → ((s : Session) → stepped_by setup s x ≡ acts (client_of x) (acted (s.client (client_of x))) s)
     → ((s : Session) → events_by setup s x ≡ (acted (s.client (client_of x))).events)
-    → ((phase : Phase) → Lives setup old phase → Follows setup old act shown (acted phase)) → said_events (client_of x) (says_of act) ≡ shown
-    → Answers act old (Ok did) new → IsSent setup (client_of x) before (said_by did) result behind → IfOk result (λ events. events ≡ said_events (client_of x) (said_by did))
+    → ((phase : Phase) → Lives setup old phase → Follows setup old act shown (acted phase))
+    → Answers act old (Ok did) new → IsSent setup (client_of x) before (said_by did) result behind → IfOk result (λ events. events ≡ shown)
     → IfOk result (λ events. Makes setup x old before new behind events)
-told_makes setup x old new before behind did (Err e) act shown acted stepped printed law seen answers sent told = tt
-told_makes setup x old new before behind did (Ok events) act shown acted stepped printed law seen answers sent told =
+told_makes setup x old new before behind did (Err e) act shown acted stepped printed law answers sent told = tt
+told_makes setup x old new before behind did (Ok events) act shown acted stepped printed law answers sent told =
     let c = client_of x in
     let done = done_by act old did new answers in
     record {
@@ -174,29 +180,41 @@ told_makes setup x old new before behind did (Ok events) act shown acted stepped
           let follows = law (s.client c) at.lives in
           subst (StandBeside setup c new behind) (sym (stepped s))
           (acts_beside setup c s old new act shown (acted (s.client c)) behind follows done.0 (sent s (acted (s.client c)) at.held (done.1 ∙ follows.said)));
-      printed = λ s valid at. told ∙ ap (said_events c) done.1 ∙ seen ∙ (law (s.client c) at.lives).printed ∙ sym (printed s);
+      printed = λ s valid at. told ∙ (law (s.client c) at.lives).printed ∙ sym (printed s);
     }
 
-pub order_makes : (setup : Setup) (c : ℕ) (command : Command) (old new : Life) (before behind : Held) (did : Did) (result : Result (List Event) OutOfMemory)
-    → Answers (orders setup command old) old (Ok did) new → IsSent setup c before (said_by did) result behind → IfOk result (λ events. events ≡ said_events c (said_by did))
-    → IfOk result (λ events. Makes setup (step.Order c command) old before new behind events)
-order_makes setup c command old new before behind did result answers sent told =
-    told_makes setup (step.Order c command) old new before behind did result (orders setup command old) (order_shown c (says_of (orders setup command old))) (plain.orders setup c command)
-    (λ s. refl) (λ s. refl) (ordering_follows setup c command old) (order_printed setup c command old) answers sent told
+-- what is printed of what was said is what is seen of it
+said_seen : (c : ℕ) (act : Option Act) (old new : Life) (did : Did) (result : Result (List Event) OutOfMemory) (shown : List Event)
+    → Answers act old (Ok did) new → said_events c (says_of act) ≡ shown → IfOk result (λ events. events ≡ said_events c (said_by did))
+    → IfOk result (λ events. events ≡ shown)
+said_seen c act old new did result shown answers seen = then_ok result (λ events told. told ∙ ap (said_events c) (done_by act old did new answers).1 ∙ seen)
 
-pub play_makes : (setup : Setup) (c : ℕ) (old new : Life) (before behind : Held) (did : Did) (result : Result (List Event) OutOfMemory)
-    → Answers (plays setup old) old (Ok did) new → IsSent setup c before (said_by did) result behind → IfOk result (λ events. events ≡ said_events c (said_by did))
-    → IfOk result (λ events. Makes setup (step.Play c) old before new behind events)
-play_makes setup c old new before behind did result answers sent told =
-    told_makes setup (step.Play c) old new before behind did result (plays setup old) (shows_after setup (event.Play c) (plays setup old)) (plain.plays setup c)
-    (λ s. refl) (λ s. refl) (playing_follows setup c old) (play_printed setup c old) answers sent told
+pub order_makes : (setup : Setup) (c : ℕ) (command : Command) (old new : Life) (before behind : Held) (did : Did) (result : Result (List Event) OutOfMemory)
+    → Answers (orders setup command old) old (Ok did) new → IsSent setup c before (said_by did) result behind
+    → IfOk result (λ events. events ≡ said_events c (said_by did)) → IfOk result (λ events. Makes setup (step.Order c command) old before new behind events)
+order_makes setup c command old new before behind did result answers sent told =
+    let act = orders setup command old in
+    let shown = order_shown c (says_of act) in
+    told_makes setup (step.Order c command) old new before behind did result act shown (plain.orders setup c command) (λ s. refl) (λ s. refl)
+    (ordering_follows setup c command old) answers sent (said_seen c act old new did result shown answers (order_printed setup c command old) told)
+
+pub play_makes : (setup : Setup) (c : ℕ) (old new : Life) (before behind : Held) (did : Did) (events : List Event)
+    → Answers (plays setup old) old (Ok did) new
+    → ((s : Session) (acted : Acted) → Conveys setup before s → said_by did ≡ map (carry_up (spelled setup)) acted.says → Conveys setup behind (acts c acted s))
+    → events ≡ played_events setup c new (has_happened did) → Makes setup (step.Play c) old before new behind events
+play_makes setup c old new before behind did events answers sent told =
+    told_makes setup (step.Play c) old new before behind did (Ok events) (plays setup old) (shows_after setup (event.Play c) (plays setup old))
+    (plain.plays setup c) (λ s. refl) (λ s. refl) (playing_follows setup c old) answers sent
+    (told ∙ happened_shown setup (event.Play c) (plays setup old) old did new answers)
 
 pub join_makes : (setup : Setup) (c : ℕ) (old new : Life) (before behind : Held) (did : Did) (result : Result (List Event) OutOfMemory)
     → Answers (joins old) old (Ok did) new → IsSent setup c before (said_by did) result behind → IfOk result (λ events. events ≡ said_events c (said_by did))
     → IfOk result (λ events. Makes setup (step.Join c) old before new behind events)
 join_makes setup c old new before behind did result answers sent told =
-    told_makes setup (step.Join c) old new before behind did result (joins old) (join_shown c (joins old)) (plain.joins c)
-    (λ s. refl) (λ s. refl) (joining_follows setup c old) (join_printed c old) answers sent told
+    let act = joins old in
+    let shown = join_shown c act in
+    told_makes setup (step.Join c) old new before behind did result act shown (plain.joins c) (λ s. refl) (λ s. refl) (joining_follows setup c old) answers sent
+    (said_seen c act old new did result shown answers (join_printed c old) told)
 
 -- a client that says nothing leaves all pipes as they are
 silent : (setup : Setup) (held : Held) (s : Session) (c : ℕ) (acted : Acted) → acted.says ≡ [] → Conveys setup held s → Conveys setup held (acts c acted s)
@@ -284,14 +302,3 @@ cut_makes setup c old new before behind events on is told stands = record {
     by s held (On player) on plain.Off lives = absurd lives
     by s held (On player) on plain.Joining lives = absurd lives
     by s held (On player) on (plain.On seat) lives = (gone s held, refl)
-
--- ---- answers
-
--- what follows from a value that was answered
-pub then_ok : {V E : Type 0} {P Q : V → Type 0} (result : Result V E) → ((v : V) → P v → Q v) → IfOk result P → IfOk result Q
-then_ok (Ok v) follows p = follows v p
-then_ok (Err e) follows p = tt
-
-pub then_on : {V E : Type 0} {P Q : Type 0} (result : Result V E) → (P → Q) → OnOk result P → OnOk result Q
-then_on (Ok v) follows p = follows p
-then_on (Err e) follows p = tt

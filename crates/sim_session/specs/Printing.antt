@@ -11,13 +11,13 @@ use Rattle.sim_client.specs.declared.did.Did.TheVariants.{Idle, Done}
 use Rattle.sim_client.specs.LifeLaws.{shows}
 use Rattle.sim_client.specs.Lives.{Said, Told, Life, Off, Joining, On}
 
--- a wish to join, an order or a turn that was played, each by the first message that it sends
+-- a wish to join or an order, each by the first message that it sends
 abbrev pub said_events : ℕ → List Said → List Event
 said_events c [] = []
 said_events c (up.Join ∷ rest) = event.Join c ∷ []
 said_events c (up.Command t command ∷ rest) = event.Order c t ∷ []
 said_events c (up.Done t ∷ rest) = []
-said_events c (up.Report t hash ∷ rest) = event.Play c t hash ∷ []
+said_events c (up.Report t hash ∷ rest) = []
 said_events c (up.State j t bytes ∷ rest) = []
 
 -- the turn and the digest of a client that is on
@@ -25,6 +25,10 @@ abbrev pub shown_of : Setup → Life → Option (ℕ × List ℕ)
 shown_of setup Off = None
 shown_of setup Joining = None
 shown_of setup (On player) = Some (player.state.turn, digest setup player.state)
+
+-- the turn that a client has played, where it has
+abbrev pub played_events : Setup → ℕ → Life → Bool → List Event
+played_events setup c now did = if did then shows setup (event.Play c) now else []
 
 -- a client neither is on nor waits for a state
 abbrev pub is_off : Life → Bool

@@ -16,7 +16,7 @@ ghost use Rattle.sim_pipes.specs.Exchanges.{Conveys};
 ghost use Rattle.sim_server.specs.Standing.{IsClient};
 ghost use Rattle.sim_wire.specs.Fits.{IsSmallUp};
 ghost use Rattle.sim_session.specs.Building.{AreBuilt, AreBuiltIf, has_load};
-ghost use Rattle.sim_session.specs.Printing.{said_events as events_said, is_off as is_off_of};
+ghost use Rattle.sim_session.specs.Printing.{said_events as events_said, played_events, has_happened, is_off as is_off_of};
 ghost use Rattle.sim_session.specs.Standing.{HasValidStates, IsSmallStep, Makes, StandBeside, said_by};
 
 use crate::hearing::down;
@@ -78,6 +78,34 @@ fn order(
     tell(alloc, exchange, number, ups.as_slice())
 }
 
+// What is printed of a client that was to play a turn: the turn with the whole digest, whatever its report carries.
+fn played(
+    alloc: Global,
+    client: &Client<'_>,
+    number: u8,
+    did: &Did,
+) -> Result<Events, OutOfMemory>
+    requires sound { IsSound client.now ⟦<dyn System as System>⟧ }
+    ensures { IfOk result (λ events. events ≡ played_events (setup_in client.now) number (life client.now) (has_happened did.now)) }
+{
+    let Did::Done { .. } = did else {
+        return Ok(Items::new(alloc));
+    };
+    let Some(seen) = shown(client) else {
+        return Ok(Items::new(alloc));
+    };
+    let turn = seen.0;
+    let digest = seen.1;
+    one(
+        alloc,
+        Event::Play {
+            client: number,
+            turn,
+            digest,
+        },
+    )
+}
+
 // A client plays its next turn, and its report goes up.
 fn play(
     alloc: Global,
@@ -94,8 +122,10 @@ fn play(
     ensures rules { exchange.new.server.rules ≡ exchange.old.server.rules }
 {
     let did = client.play()?;
+    let events = played(alloc, client, number, &did)?;
     let ups = ups_of(alloc, did);
-    tell(alloc, exchange, number, ups.as_slice())
+    exchange.send(number, ups.as_slice())?;
+    Ok(events)
 }
 
 // A client wishes to join, and its wish goes up.

@@ -19,7 +19,7 @@ pub fn one(alloc: Global, event: Event) -> Result<Events, OutOfMemory>
     Ok(events)
 }
 
-/// What is printed of what a client says.
+/// What is printed of a wish to join or an order that a client sends.
 pub fn said_events(alloc: Global, client: u8, ups: &[Up]) -> Result<Events, OutOfMemory>
     ensures { IfOk result (λ events. events ≡ events_said client ups.now) }
 {
@@ -32,14 +32,7 @@ pub fn said_events(alloc: Global, client: u8, ups: &[Up]) -> Result<Events, OutO
                 turn: *turn,
             },
         ),
-        Some(Up::Report { turn, digest }) => one(
-            alloc,
-            Event::Play {
-                client,
-                turn: *turn,
-                digest: *digest,
-            },
-        ),
+        Some(Up::Report { .. }) => Ok(Items::new(alloc)),
         Some(Up::Done { .. }) => Ok(Items::new(alloc)),
         Some(Up::State { .. }) => Ok(Items::new(alloc)),
         None => Ok(Items::new(alloc)),

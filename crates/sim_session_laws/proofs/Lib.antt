@@ -14,3 +14,5 @@ pub mod TurnNumberFacts
 pub mod PastFacts
 pub mod Final
 pub mod WrongProtocols
+pub mod Reporting
+pub mod NoticeFacts

@@ -3,3 +3,4 @@ pub mod Pipes
 pub mod Standing
 pub mod TurnNumbers
 pub mod Commands
+pub mod Reports

@@ -11,14 +11,18 @@
 //!   than the delay allows.
 //! - `pasts`: which commands clients know, and what their pasts are. This excludes a server that hands a state on without the
 //!   commands that it kept above its turn, and a client that at a load keeps what it knew.
+//! - `reports`: what reports say, and what a notice shows. This excludes a client that reports another digest than its turn
+//!   asks for, of which a notice would show nothing.
 //!
 //! `proofs/WrongProtocols.antt` has each of these protocols, led by a few steps to a session of which the law is false.
 #![tactic(auto)]
 
 mod pasts;
+mod reports;
 mod standing;
 mod turn_numbers;
 
 pub use pasts::{commands_reach_each_client, unbent_clients_agree};
+pub use reports::notices_show_differences;
 pub use standing::{clients_stand_where_the_server_sees_them, pasts_lead_to_valid_states};
 pub use turn_numbers::{dones_are_accepted, releases_are_kept};

@@ -1,14 +1,13 @@
--- What a client says that plays a turn goes up.
+-- What a client says that plays a turn goes up, and what it has come to is printed.
 use Rattle.std.proofs.Common.{All, sym, subst, ◌∙◌}
-use Rattle.std.specs.Prelude.{◌≡◌, IfOk}
-use Rattle.sim_session.specs.Printing.{said_events}
 use Rattle.sim_wire.specs.Fits.{IsSmallUp}
 use Rattle.sim_client.specs.StageWords.{life_at}
+use Rattle.sim_session.specs.Printing.{played_events, has_happened}
 use Rattle.sim_session.proofs.Beside.{play_small, play_makes}
 use Rattle.sim_session.proofs.acting.play.Goals as goal
 
-pub tell-requires-clause-small : goal.tell-requires-clause-small
-tell-requires-clause-small g c =
+pub send-requires-clause-small : goal.send-requires-clause-small
+send-requires-clause-small g c =
     let client = c.args.client.now in
     let new = c.play.new.self in
     subst (All IsSmallUp) (sym (c.as_slice.ensures ∙ c.ups_of-ups.ensures))
@@ -18,7 +17,7 @@ pub returns-clause-made : goal.returns-clause-made
 returns-clause-made g c =
     let client = c.args.client.now in
     let new = c.play.new.self in
-    let said = c.as_slice.ensures ∙ c.ups_of-ups.ensures in
-    play_makes client.setup.now c.args.number (life_at client.stage client.board) (life_at new.stage new.board) c.args.exchange.now c.tell.new.exchange c.in_ok-did.did c.tell.result
-    c.in_ok-did.ensures.answers (λ s acted conveys is. c.tell.ensures.sent client.setup.now s acted conveys (said ∙ is))
-    (subst (λ ups. IfOk c.tell.result (λ events. events ≡ said_events c.args.number ups)) said c.tell.ensures.printed)
+    let new_life = life_at new.stage new.board in
+    play_makes client.setup.now c.args.number (life_at client.stage client.board) new_life c.args.exchange.now c.send.new.self c.in_ok-did.did c.in_ok-events.events
+    c.in_ok-did.ensures.answers (λ s acted conveys is. c.in_ok-send.ensures.stands client.setup.now s acted conveys (c.as_slice.ensures ∙ c.ups_of-ups.ensures ∙ is))
+    (c.in_ok-events.ensures ∙ (λ i. played_events (c.in_ok-did.ensures.setup i) c.args.number new_life (has_happened c.in_ok-did.did)))

@@ -1,0 +1,10 @@
+//! The reports and the notices of a session.
+
+ghost use Rattle.sim_session_laws.specs.Reports.{ReportsAreMarks, NoticesShowDifferences};
+
+/// Each report that the server has heard is the mark of a state to which some past of its turn leads. So a notice shows that
+/// two such states differ: a full one in the digest, a quick one in the clock or in where entities stand.
+pub fn notices_show_differences()
+    ensures marks { ReportsAreMarks }
+    ensures apart { NoticesShowDifferences }
+{}
