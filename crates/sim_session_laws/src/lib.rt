@@ -11,8 +11,7 @@
 //!   than the delay allows.
 //! - `pasts`: which commands clients know, and what their pasts are. This excludes a server that hands a state on without the
 //!   commands that it kept above its turn, and a client that at a load keeps what it knew.
-//! - `reports`: what reports say, and what a notice shows. This excludes a client that reports another digest than its turn
-//!   asks for, of which a notice would show nothing.
+//! - `reports`: what reports say of those who send them, and what a notice shows.
 //!
 //! `proofs/WrongProtocols.antt` has each of these protocols, led by a few steps to a session of which the law is false.
 #![tactic(auto)]
