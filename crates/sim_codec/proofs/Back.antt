@@ -1,6 +1,6 @@
 -- The bytes of a valid state are read as that state.
-use Rattle.std.proofs.Common.{◌≡◌, ℕ, suc, ◌+◌, ◌^◌, ◌<◌, ◌≤◌, false, ltb, List, [], ◌∷◌, ◌++◌, length, Option, Some, None, refl, sym, ap, ◌∙◌, append_assoc, arith, ℤ, subst}
-use Rattle.std.specs.Prelude.{IfSome, FitsSigned, MatchOption, is_some, slice_get, option_map}
+use Rattle.std.proofs.Common.{◌≡◌, ℕ, suc, ◌+◌, ◌^◌, ◌<◌, ◌≤◌, Bool, false, ltb, List, [], ◌∷◌, ◌++◌, length, Option, Some, None, refl, sym, ap, ◌∙◌, append_assoc, arith, ℤ, subst}
+use Rattle.std.specs.Prelude.{◌&&◌, IfSome, FitsSigned, MatchOption, is_some, slice_get, option_map, unwrap_or}
 use Rattle.std.specs.Int.{w32}
 use Rattle.std.specs.List.{flat_map, cons_option, AllByRecursion}
 use Rattle.std.proofs.lemmas.Bool.{le-ltb}
@@ -12,21 +12,26 @@ use Rattle.sim_base.specs.declared.state.Motion.{Motion}
 use Rattle.sim_base.specs.declared.state.State.{State}
 use Rattle.sim_base.specs.declared.setup.Setup.{Setup}
 use Rattle.sim_base.specs.declared.template.Template.{Template}
-use Rattle.sim_base.specs.declared.template.Arms.{Arms}
-use Rattle.sim_base.specs.Spelling.{rows_with, entity_part, entity_bytes, position_part, position_bytes, owner_part, owner_bytes, health_part, health_bytes, motion_part, moving_bytes, attack_part, attack_bytes, section, sections, clock_bytes}
+use Rattle.sim_base.specs.Spelling.{rows_with, entity_part, entity_bytes, position_part, position_bytes, owner_part, owner_bytes, health_part, health_bytes, motion_part, moving_bytes, attack_part, attack_bytes, stance_part, stance_bytes, section, clock_bytes}
 use Rattle.sim_base.specs.Limits.{IsSetup}
-use Rattle.sim_base.specs.Validity.{Both, IsValid, IsValidRow, IsKnownRow, IsValidAim}
+use Rattle.sim_base.specs.Rows.{is_holding}
+use Rattle.sim_base.specs.Validity.{Both, IsValid, IsValidRow, IsKnownRow}
 use Rattle.sim_base.specs.Bytes.{u32_bytes, u64_bytes}
 use Rattle.sim_bytes.specs.Numbers.{u32_back, u64_back}
 use Rattle.sim_bytes.specs.Reading.{Reader}
+use Rattle.sim_sections.specs.declared.version.Version.{Version}
+use Rattle.sim_sections.specs.declared.version.Version.TheVariants.{One, Two}
 use Rattle.sim_sections.specs.declared.walk.Walk.{Walk}
 use Rattle.sim_sections.specs.declared.walk.Parts.{Parts}
-use Rattle.sim_sections.specs.Rows.{with_id, IsEntity, entity_at, IsPosition, position_at, IsOwner, owner_at, IsHealth, health_at, IsMotion, IsMoving, moving_at, IsAttack, attack_at}
-use Rattle.sim_sections.specs.Laws.{entity_back, position_back, owner_back, health_back, moving_back, attack_back}
+use Rattle.sim_sections.specs.Rows.{with_id, IsEntity, entity_at, IsPosition, position_at, IsOwner, owner_at, IsHealth, health_at, IsMotion, IsMoving, moving_at, IsAttack, attack_at, IsStance, stance_at}
+use Rattle.sim_sections.specs.Laws.{entity_back, position_back, owner_back, health_back, moving_back, attack_back, stance_back}
 use Rattle.sim_sections.specs.Sections.{IsAhead, section_at, row_if}
 use Rattle.sim_sections.specs.SectionLaws.{Back, section_back, row_if_back}
-use Rattle.sim_sections.specs.Walking.{sections_at, parts_at, row_of}
+use Rattle.sim_sections.specs.Versions.{has_stances}
+use Rattle.sim_sections.specs.Walking.{stances_at, sections_at, parts_at, holds, row_of}
 use Rattle.sim_codec.specs.Reading.{row_at, rows_at, state_at}
+use Rattle.sim_codec.specs.Versions.{stances, sections_by, CanSay}
+use Rattle.sim_codec.proofs.Clock.{clock_regrouped}
 use Rattle.sim_codec.proofs.Fits.{RowFits, rows_fit}
 
 -- ---- the rows of the sections fit
@@ -35,14 +40,14 @@ cons_fit : {X : Type 0} (Fits : X → Type 0) (o : Option X) (xs : List X) → I
 cons_fit Fits None xs h rest = rest
 cons_fit Fits (Some x) xs h rest = (h, rest)
 
-sections_fit : {X : Type 0} (part : Row → Option X) (Fits : ℕ × X → Type 0) → ((row : Row) → RowFits row → IfSome (with_id part row) Fits) → (rows : List Row) → AllByRecursion RowFits rows → AllByRecursion Fits (rows_with part rows)
+pub sections_fit : {X : Type 0} (part : Row → Option X) (Fits : ℕ × X → Type 0) → ((row : Row) → RowFits row → IfSome (with_id part row) Fits) → (rows : List Row) → AllByRecursion RowFits rows → AllByRecursion Fits (rows_with part rows)
 sections_fit part Fits one [] fits = tt
 sections_fit part Fits one (row ∷ rows) fits = cons_fit Fits (with_id part row) (rows_with part rows) (one row fits.0) (sections_fit part Fits one rows fits.1)
 
 entity_fits : (row : Row) → RowFits row → IfSome (with_id entity_part row) IsEntity
 entity_fits row fits = record { id = fits.id; template = fits.template }
 
-position_fits : (row : Row) → RowFits row → IfSome (with_id position_part row) IsPosition
+pub position_fits : (row : Row) → RowFits row → IfSome (with_id position_part row) IsPosition
 position_fits row fits = record { id = fits.id; at = fits.at }
 
 owner_fits : (row : Row) → RowFits row → IfSome (with_id owner_part row) IsOwner
@@ -69,11 +74,18 @@ attack_fits row fits = at row.attack fits.attack
     at None h = tt
     at (Some aim) h = record { id = fits.id; target = h.0; cooldown = h.1 }
 
+stance_fits : (row : Row) → RowFits row → IfSome (with_id stance_part row) IsStance
+stance_fits row fits = at row.attack
+  where
+    at : (o : Option Aim) → IfSome (option_map (λ (x : Bool). (row.id, x)) (option_map (λ (aim : Aim). aim.hold) o)) IsStance
+    at None = tt
+    at (Some aim) = record { id = fits.id }
+
 length-cons : {X : Type 0} (o : Option X) (xs : List X) (n : ℕ) → length xs ≤ n → length (cons_option o xs) ≤ n + 1
 length-cons None xs n h = omega arith
 length-cons (Some x) xs n h = omega arith
 
-length-rows_with : {X : Type 0} (part : Row → Option X) (rows : List Row) → length (rows_with part rows) ≤ length rows
+pub length-rows_with : {X : Type 0} (part : Row → Option X) (rows : List Row) → length (rows_with part rows) ≤ length rows
 length-rows_with part [] = omega arith
 length-rows_with part (row ∷ rows) = omega (arith, length-cons (with_id part row) (rows_with part rows) (length rows) (length-rows_with part rows))
 
@@ -83,13 +95,20 @@ length-entities (row ∷ rows) = ap suc (length-entities rows)
 
 -- ---- the sections
 
-pub record AreAhead (rows : List Row) (walk : Walk) : Type 0 where
+-- the rows of the section of stances stand at the front, if the version has it
+abbrev pub StancesAhead : Version → List Row → List ℕ → Type 0
+StancesAhead One rows bytes = Unit {0}
+StancesAhead Two rows bytes = IsAhead stance_bytes (rows_with stance_part rows) bytes
+
+pub record AreAhead (version : Version) (rows : List Row) (walk : Walk) : Type 0 where
+  pub by : walk.version ≡ version
   pub entity : IsAhead entity_bytes (rows_with entity_part rows) walk.entity
   pub position : IsAhead position_bytes (rows_with position_part rows) walk.position
   pub owner : IsAhead owner_bytes (rows_with owner_part rows) walk.owner
   pub health : IsAhead health_bytes (rows_with health_part rows) walk.health
   pub motion : IsAhead moving_bytes (rows_with motion_part rows) walk.motion
   pub attack : IsAhead attack_bytes (rows_with attack_part rows) walk.attack
+  pub stance : StancesAhead version rows walk.stance
 
 -- the section of a part, with whatever follows it
 part_back : {X : Type 0} (part : Row → Option X) (Fits : ℕ × X → Type 0) (spelled : ℕ × X → List ℕ) (at : Reader (ℕ × X)) → Back Fits spelled at → ((row : Row) → RowFits row → IfSome (with_id part row) Fits)
@@ -98,42 +117,52 @@ part_back : {X : Type 0} (part : Row → Option X) (Fits : ℕ × X → Type 0) 
 part_back part Fits spelled at back one tag rows rest fits few =
     section_back Fits spelled at back tag (rows_with part rows) rest (sections_fit part Fits one rows fits) (omega (arith, length-rows_with part rows))
 
-sections_back : (rows : List Row) → AllByRecursion RowFits rows → length rows < 2 ^ 32 → (walk : Walk) × (sections_at (sections rows) ≡ Some ((length rows, walk), [])) × AreAhead rows walk
+stances_back : (version : Version) (rows : List Row) → AllByRecursion RowFits rows → length rows < 2 ^ 32
+    → (bytes : List ℕ) × (stances_at version (stances version rows) ≡ Some (bytes, [])) × StancesAhead version rows bytes
+unfolding stances_at
+stances_back One rows fits few = ([], refl, tt)
+stances_back Two rows fits few =
+    let s7 = section 7 stance_bytes (rows_with stance_part rows) in
+    let seven = ap (section_at 7 stance_at) (sym (append-nil s7)) ∙ part_back stance_part IsStance stance_bytes stance_at stance_back stance_fits 7 rows [] fits few in
+    (flat_map stance_bytes (rows_with stance_part rows) ++ [], rw seven refl, record { rest = []; is = refl })
+
+sections_back : (version : Version) (rows : List Row) → AllByRecursion RowFits rows → length rows < 2 ^ 32
+    → (walk : Walk) × (sections_at version (sections_by version rows) ≡ Some ((length rows, walk), [])) × AreAhead version rows walk
 unfolding sections_at
-sections_back rows fits few =
-    let s6 = section 6 attack_bytes (rows_with attack_part rows) in
-    let s5 = section 5 moving_bytes (rows_with motion_part rows) in
-    let s4 = section 4 health_bytes (rows_with health_part rows) in
-    let s3 = section 3 owner_bytes (rows_with owner_part rows) in
-    let s2 = section 2 position_bytes (rows_with position_part rows) in
-    let s1 = section 1 entity_bytes (rows_with entity_part rows) in
-    let r5 = s6 in
-    let r4 = s5 ++ r5 in
-    let r3 = s4 ++ r4 in
-    let r2 = s3 ++ r3 in
-    let r1 = s2 ++ r2 in
+sections_back version rows fits few =
+    let r6 = stances version rows in
+    let r5 = section 6 attack_bytes (rows_with attack_part rows) ++ r6 in
+    let r4 = section 5 moving_bytes (rows_with motion_part rows) ++ r5 in
+    let r3 = section 4 health_bytes (rows_with health_part rows) ++ r4 in
+    let r2 = section 3 owner_bytes (rows_with owner_part rows) ++ r3 in
+    let r1 = section 2 position_bytes (rows_with position_part rows) ++ r2 in
     let one = part_back entity_part IsEntity entity_bytes entity_at entity_back entity_fits 1 rows r1 fits few in
     let two = part_back position_part IsPosition position_bytes position_at position_back position_fits 2 rows r2 fits few in
     let three = part_back owner_part IsOwner owner_bytes owner_at owner_back owner_fits 3 rows r3 fits few in
     let four = part_back health_part IsHealth health_bytes health_at health_back health_fits 4 rows r4 fits few in
     let five = part_back motion_part IsMoving moving_bytes moving_at moving_back moving_fits 5 rows r5 fits few in
-    let six = ap (section_at 6 attack_at) (sym (append-nil s6)) ∙ part_back attack_part IsAttack attack_bytes attack_at attack_back attack_fits 6 rows [] fits few in (
+    let six = part_back attack_part IsAttack attack_bytes attack_at attack_back attack_fits 6 rows r6 fits few in
+    let last = stances_back version rows fits few in (
       record {
+        version = version;
         entity = flat_map entity_bytes (rows_with entity_part rows) ++ r1;
         position = flat_map position_bytes (rows_with position_part rows) ++ r2;
         owner = flat_map owner_bytes (rows_with owner_part rows) ++ r3;
         health = flat_map health_bytes (rows_with health_part rows) ++ r4;
         motion = flat_map moving_bytes (rows_with motion_part rows) ++ r5;
-        attack = flat_map attack_bytes (rows_with attack_part rows) ++ [];
+        attack = flat_map attack_bytes (rows_with attack_part rows) ++ r6;
+        stance = last.0;
       },
-      rw (one, two, three, four, five, six, length-entities rows) refl,
+      rw (one, two, three, four, five, six, last.1, length-entities rows) refl,
       record {
+        by = refl;
         entity = record { rest = r1; is = refl };
         position = record { rest = r2; is = refl };
         owner = record { rest = r3; is = refl };
         health = record { rest = r4; is = refl };
         motion = record { rest = r5; is = refl };
-        attack = record { rest = []; is = refl };
+        attack = record { rest = r6; is = refl };
+        stance = last.2;
       },
     )
 
@@ -144,7 +173,6 @@ pub record IsLike (row : Row) (template : Template) : Type 0 where
   pub health : is_some row.health ≡ is_some template.health
   pub motion : is_some row.motion ≡ is_some template.speed
   pub attack : is_some row.attack ≡ is_some template.arms
-  pub hold : IfSome row.attack (λ (aim : Aim). aim.hold ≡ false)
 
 pub record HasParts (templates : List Template) (row : Row) : Type 0 where
   pub template : Template
@@ -155,14 +183,20 @@ is_some-map : {X Y : Type 0} (f : X → Y) (o : Option X) → is_some (option_ma
 is_some-map f None = refl
 is_some-map f (Some x) = refl
 
-abbrev parts_of : Row → Parts
-parts_of row = record {
+-- what a version says of the stance of an entity, by whom it attacks
+abbrev stance_by : Version → ℕ → Option Aim → Option (ℕ × Bool)
+stance_by One id attack = None
+stance_by Two id attack = option_map (λ (x : Bool). (id, x)) (option_map (λ (aim : Aim). aim.hold) attack)
+
+abbrev parts_of : Version → Row → Parts
+parts_of version row = record {
   entity = (row.id, row.template);
   position = (row.id, row.at);
   owner = (row.id, row.owner);
   health = with_id health_part row;
   motion = with_id motion_part row;
   attack = with_id attack_part row;
+  stance = stance_by version row.id row.attack;
 }
 
 next_back : {X : Type 0} (Fits : X → Type 0) (spelled : X → List ℕ) (at : Reader X) → Back Fits spelled at → (x : X) (xs : List X) (bytes : List ℕ) → Fits x → IsAhead spelled (x ∷ xs) bytes
@@ -170,54 +204,87 @@ next_back : {X : Type 0} (Fits : X → Type 0) (spelled : X → List ℕ) (at : 
 next_back Fits spelled at back x xs bytes fits ahead =
     (flat_map spelled xs ++ ahead.rest, ap at (ahead.is ∙ append_assoc (spelled x) (flat_map spelled xs) ahead.rest) ∙ back x (flat_map spelled xs ++ ahead.rest) fits, record { rest = ahead.rest; is = refl })
 
-parts_back : (templates : List Template) (row : Row) (rows : List Row) (w : Walk) → RowFits row → HasParts templates row → AreAhead (row ∷ rows) w
-    → (after : Walk) × (parts_at templates w ≡ Some (parts_of row, after)) × AreAhead rows after
+next_stance : (version : Version) (row : Row) (rows : List Row) (arms : Bool) (bytes : List ℕ) → RowFits row → is_some row.attack ≡ arms → StancesAhead version (row ∷ rows) bytes
+    → (after : List ℕ) × (row_if stance_at (has_stances version && arms) bytes ≡ Some (stance_by version row.id row.attack, after)) × StancesAhead version rows after
+unfolding row_if
+next_stance One row rows arms bytes fits is ahead = (bytes, refl, tt)
+next_stance Two row rows arms bytes fits is ahead =
+    let s = row_if_back IsStance stance_bytes stance_at stance_back (with_id stance_part row) (rows_with stance_part rows) bytes (stance_fits row fits) ahead in
+    let flag : is_some (with_id stance_part row) ≡ arms = is_some-map (λ (x : Bool). (row.id, x)) (stance_part row) ∙ is_some-map (λ (aim : Aim). aim.hold) row.attack ∙ is in
+    (s.0, subst (λ b. row_if stance_at b bytes ≡ Some (with_id stance_part row, s.0)) flag s.1, s.2)
+
+parts_back : (version : Version) (templates : List Template) (row : Row) (rows : List Row) (w : Walk) → RowFits row → HasParts templates row → AreAhead version (row ∷ rows) w
+    → (after : Walk) × (parts_at templates w ≡ Some (parts_of version row, after)) × AreAhead version rows after
 unfolding parts_at
-parts_back templates row rows w fits has ahead =
+parts_back version templates row rows w fits has ahead =
     let e = next_back IsEntity entity_bytes entity_at entity_back (row.id, row.template) (rows_with entity_part rows) w.entity (entity_fits row fits) ahead.entity in
     let p = next_back IsPosition position_bytes position_at position_back (row.id, row.at) (rows_with position_part rows) w.position (position_fits row fits) ahead.position in
     let o = next_back IsOwner owner_bytes owner_at owner_back (row.id, row.owner) (rows_with owner_part rows) w.owner (owner_fits row fits) ahead.owner in
     let h = row_if_back IsHealth health_bytes health_at health_back (with_id health_part row) (rows_with health_part rows) w.health (health_fits row fits) ahead.health in
     let m = row_if_back IsMoving moving_bytes moving_at moving_back (with_id motion_part row) (rows_with motion_part rows) w.motion (moving_fits row fits) ahead.motion in
     let a = row_if_back IsAttack attack_bytes attack_at attack_back (with_id attack_part row) (rows_with attack_part rows) w.attack (attack_fits row fits) ahead.attack in
+    let s = next_stance version row rows (is_some has.template.arms) w.stance fits has.like.attack ahead.stance in
     let hb : is_some (with_id health_part row) ≡ is_some has.template.health = is_some-map (λ (x : ℤ). (row.id, x)) row.health ∙ has.like.health in
     let mb : is_some (with_id motion_part row) ≡ is_some has.template.speed = is_some-map (λ (x : Motion). (row.id, x)) row.motion ∙ has.like.motion in
     let ab : is_some (with_id attack_part row) ≡ is_some has.template.arms = is_some-map (λ (x : ℕ × ℕ). (row.id, x)) (attack_part row) ∙ is_some-map (λ (aim : Aim). (aim.target, aim.cooldown)) row.attack ∙ has.like.attack in
     let h1 = subst (λ b. row_if health_at b w.health ≡ Some (with_id health_part row, h.0)) hb h.1 in
     let m1 = subst (λ b. row_if moving_at b w.motion ≡ Some (with_id motion_part row, m.0)) mb m.1 in
-    let a1 = subst (λ b. row_if attack_at b w.attack ≡ Some (with_id attack_part row, a.0)) ab a.1 in (
-      record { entity = e.0; position = p.0; owner = o.0; health = h.0; motion = m.0; attack = a.0 },
-      rw (e.1, has.known, p.1, o.1, h1, m1, a1) refl,
-      record { entity = e.2; position = p.2; owner = o.2; health = h.2; motion = m.2; attack = a.2 },
+    let a1 = subst (λ b. row_if attack_at b w.attack ≡ Some (with_id attack_part row, a.0)) ab a.1 in
+    let s1 = subst (λ v. row_if stance_at (has_stances v && is_some has.template.arms) w.stance ≡ Some (stance_by version row.id row.attack, s.0)) (sym ahead.by) s.1 in (
+      record { version = w.version; entity = e.0; position = p.0; owner = o.0; health = h.0; motion = m.0; attack = a.0; stance = s.0 },
+      rw (e.1, has.known, p.1, o.1, h1, m1, a1, s1) refl,
+      record { by = ahead.by; entity = e.2; position = p.2; owner = o.2; health = h.2; motion = m.2; attack = a.2; stance = s.2 },
     )
 
-same_row : (row : Row) → IfSome row.attack (λ (aim : Aim). aim.hold ≡ false) → row_of (parts_of row) ≡ row
-same_row row hold =
-    rw (snd_back row.id row.health, snd_back row.id row.motion, aim_back row.id row.attack hold) refl
+-- a version can say whether this row holds its place
+abbrev pub Says : Version → Row → Type 0
+Says One row = is_holding row ≡ false
+Says Two row = Unit {0}
+
+all_said : (version : Version) (rows : List Row) → CanSay version rows → AllByRecursion (Says version) rows
+all_said One rows h = recursion_from_All (λ (row : Row). is_holding row ≡ false) rows h
+all_said Two [] h = tt
+all_said Two (row ∷ rows) h = (tt, all_said Two rows tt)
+
+-- whom the row attacks, as it is put together
+abbrev aim_by : Version → ℕ → Option Aim → Option Aim
+aim_by version id attack =
+    option_map (λ (r : ℕ × (ℕ × ℕ)). record { target = r.1.0; cooldown = r.1.1; hold = holds (stance_by version id attack) }) (option_map (λ (x : ℕ × ℕ). (id, x)) (option_map (λ (aim : Aim). (aim.target, aim.cooldown)) attack))
+
+same_row : (version : Version) (row : Row) → Says version row → row_of (parts_of version row) ≡ row
+same_row version row says =
+    rw (snd_back row.id row.health, snd_back row.id row.motion, aim_back version row says) refl
   where
     snd_back : {X : Type 0} (id : ℕ) (o : Option X) → option_map (λ (r : ℕ × X). r.1) (option_map (λ (x : X). (id, x)) o) ≡ o
     snd_back id None = refl
     snd_back id (Some x) = refl
 
-    aim_back : (id : ℕ) (o : Option Aim) → IfSome o (λ (aim : Aim). aim.hold ≡ false)
-        → option_map (λ (r : ℕ × (ℕ × ℕ)). record { target = r.1.0; cooldown = r.1.1; hold = false }) (option_map (λ (x : ℕ × ℕ). (id, x)) (option_map (λ (aim : Aim). (aim.target, aim.cooldown)) o)) ≡ o
-    aim_back id None h = refl
-    aim_back id (Some aim) h = rw (← h) refl
+    unheld : (id : ℕ) (o : Option Aim) → unwrap_or (option_map (λ (aim : Aim). aim.hold) o) false ≡ false → aim_by One id o ≡ o
+    unheld id None h = refl
+    unheld id (Some aim) h = (let e : false ≡ aim.hold = sym h in ap (λ (b : Bool). Some (record aim { hold = b })) e)
 
-row_back : (templates : List Template) (row : Row) (rows : List Row) (w : Walk) → RowFits row → HasParts templates row → AreAhead (row ∷ rows) w
-    → (after : Walk) × (row_at templates w ≡ Some (row, after)) × AreAhead rows after
+    said : (id : ℕ) (o : Option Aim) → aim_by Two id o ≡ o
+    said id None = refl
+    said id (Some aim) = refl
+
+    aim_back : (v : Version) (r : Row) → Says v r → aim_by v r.id r.attack ≡ r.attack
+    aim_back One r h = unheld r.id r.attack h
+    aim_back Two r h = said r.id r.attack
+
+row_back : (version : Version) (templates : List Template) (row : Row) (rows : List Row) (w : Walk) → RowFits row → HasParts templates row → Says version row → AreAhead version (row ∷ rows) w
+    → (after : Walk) × (row_at templates w ≡ Some (row, after)) × AreAhead version rows after
 unfolding row_at
-row_back templates row rows w fits has ahead =
-    let p = parts_back templates row rows w fits has ahead in
-    (p.0, rw (p.1, same_row row has.like.hold) refl, p.2)
+row_back version templates row rows w fits has says ahead =
+    let p = parts_back version templates row rows w fits has ahead in
+    (p.0, rw (p.1, same_row version row says) refl, p.2)
 
-rows_back : (templates : List Template) (rows : List Row) (w : Walk) → AllByRecursion RowFits rows → AllByRecursion (HasParts templates) rows → AreAhead rows w
+rows_back : (version : Version) (templates : List Template) (rows : List Row) (w : Walk) → AllByRecursion RowFits rows → AllByRecursion (HasParts templates) rows → AllByRecursion (Says version) rows → AreAhead version rows w
     → (after : Walk) × (rows_at templates (length rows) w ≡ Some (rows, after))
 unfolding rows_at
-rows_back templates [] w fits has ahead = (w, refl)
-rows_back templates (row ∷ rows) w fits has ahead =
-    let first = row_back templates row rows w fits.0 has.0 ahead in
-    let others = rows_back templates rows first.0 fits.1 has.1 first.2 in
+rows_back version templates [] w fits has says ahead = (w, refl)
+rows_back version templates (row ∷ rows) w fits has says ahead =
+    let first = row_back version templates row rows w fits.0 has.0 says.0 ahead in
+    let others = rows_back version templates rows first.0 fits.1 has.1 says.1 first.2 in
     (others.0, rw (first.1, others.1) refl)
 
 -- ---- what a valid state has
@@ -228,34 +295,35 @@ both_some None (Some y) P h = absurd h
 both_some (Some x) None P h = absurd h
 both_some (Some x) (Some y) P h = refl
 
-not_held : (rows : List Row) (id : ℕ) (a : Option Aim) (b : Option Arms) → Both a b (IsValidAim rows id) → IfSome a (λ (aim : Aim). aim.hold ≡ false)
-not_held rows id None b h = tt
-not_held rows id (Some aim) None h = absurd h
-not_held rows id (Some aim) (Some arms) h = h.hold
-
 has_parts : (setup : Setup) (all : List Row) (row : Row) (o : Option Template) → slice_get setup.templates row.template ≡ o → MatchOption o ⊥ (IsValidRow 1 setup all row) → HasParts setup.templates row
 has_parts setup all row None e h = absurd h
 has_parts setup all row (Some t) e h = record {
   template = t;
   known = e;
-  like = record { health = both_some row.health t.health _ h.health; motion = both_some row.motion t.speed _ h.motion; attack = both_some row.attack t.arms _ h.attack; hold = not_held all row.id row.attack t.arms h.attack };
+  like = record { health = both_some row.health t.health _ h.health; motion = both_some row.motion t.speed _ h.motion; attack = both_some row.attack t.arms _ h.attack };
 }
 
 all_have_parts : (setup : Setup) (all rows : List Row) → AllByRecursion (IsKnownRow 1 setup all) rows → AllByRecursion (HasParts setup.templates) rows
 all_have_parts setup all [] h = tt
 all_have_parts setup all (row ∷ rows) h = (has_parts setup all row (slice_get setup.templates row.template) refl h.0, all_have_parts setup all rows h.1)
 
-pub state_back : (setup : Setup) (s : State) → IsSetup setup → IsValid setup s → state_at setup (clock_bytes s ++ sections s.rows) ≡ Some s
+pub state_back : (version : Version) (setup : Setup) (s : State) → IsSetup setup → IsValid setup s → CanSay version s.rows → state_at version setup (clock_bytes s ++ sections_by version s.rows) ≡ Some s
 unfolding state_at
-state_back setup s is valid =
+state_back version setup s is valid can =
     let fits = rows_fit setup is s valid in
-    let found = sections_back s.rows fits (omega (arith, valid.few)) in
+    let found = sections_back version s.rows fits (omega (arith, valid.few)) in
     let has = all_have_parts setup s.rows s.rows (recursion_from_All _ s.rows valid.rows) in
-    let rows = rows_back setup.templates s.rows found.0 fits has found.2 in
+    let rows = rows_back version setup.templates s.rows found.0 fits has (all_said version s.rows can) found.2 in
     let turn : s.turn < 2 ^ 32 = omega (arith, valid.turn, is.turns) in
     let next : s.next < 2 ^ 32 = omega (arith, valid.next.1) in
     let word : s.word < 2 ^ 64 = omega (arith, valid.word) in
     let few : ltb 4096 (length s.rows) ≡ false = le-ltb 4096 (length s.rows) valid.few in
-    let regrouped : clock_bytes s ++ sections s.rows ≡ u32_bytes s.turn ++ (u32_bytes s.next ++ (u64_bytes s.word ++ sections s.rows)) =
-    append_assoc (u32_bytes s.turn) (u32_bytes s.next ++ u64_bytes s.word) (sections s.rows) ∙ ap (λ (x : List ℕ). u32_bytes s.turn ++ x) (append_assoc (u32_bytes s.next) (u64_bytes s.word) (sections s.rows)) in
-    ap (state_at setup) regrouped ∙ rw (u32_back s.turn (u32_bytes s.next ++ (u64_bytes s.word ++ sections s.rows)) turn, u32_back s.next (u64_bytes s.word ++ sections s.rows) next, u64_back s.word (sections s.rows) word, found.1, few, rows.1) refl
+    ap (state_at version setup) (clock_regrouped s (sections_by version s.rows))
+    ∙ rw (
+      u32_back s.turn (u32_bytes s.next ++ (u64_bytes s.word ++ sections_by version s.rows)) turn,
+      u32_back s.next (u64_bytes s.word ++ sections_by version s.rows) next,
+      u64_back s.word (sections_by version s.rows) word,
+      found.1,
+      few,
+      rows.1,
+    ) refl

@@ -1,20 +1,22 @@
 -- Rows that are taken one after the other from where they stand.
 use Rattle.std.proofs.Common.{◌≡◌, ℕ, zero, suc, ◌+◌, ◌-◌, ◌*◌, ◌<◌, ◌≤◌, Bool, true, false, ltb, cond, List, [], ◌∷◌, length, map, take, drop, Option, Some, None, refl, sym, ap, ◌∙◌, arith, ℤ}
-use Rattle.std.specs.Prelude.{is_some, slice_get, option_map, option_and_then, unwrap_or}
+use Rattle.std.specs.Prelude.{◌&&◌, is_some, slice_get, option_map, option_and_then, unwrap_or}
 use Rattle.std.specs.Int.{Width, w16, w32, byte_len, from_le_bytes}
 use Rattle.std.specs.List.{list_any}
 use Rattle.std.specs.Simd.{first_chunks}
 use Rattle.std.proofs.lemmas.Bool.{ltb-false}
 use Rattle.std.proofs.lemmas.List.{drop-take, drop-drop, length-drop}
 use Rattle.sim_base.specs.Rows.{id_of}
+use Rattle.sim_base.specs.declared.place.Point.{Point}
 use Rattle.sim_base.specs.declared.state.Row.{Row}
 use Rattle.sim_base.specs.declared.template.Template.{Template}
 use Rattle.sim_base.specs.Validity.{has_health}
 use Rattle.sim_bytes.specs.Reading.{Reader, ◌>>=◌, number_at}
 use Rattle.sim_sections.specs.declared.walk.Walk.{Walk}
 use Rattle.sim_sections.specs.declared.walk.Parts.{Parts}
-use Rattle.sim_sections.specs.Rows.{entity_at, position_at, owner_at, health_at, moving_at, attack_at}
+use Rattle.sim_sections.specs.Rows.{entity_at, position_at, owner_at, health_at, moving_at, attack_at, stance_at}
 use Rattle.sim_sections.specs.Sections.{row_if}
+use Rattle.sim_sections.specs.Versions.{has_stances}
 use Rattle.sim_sections.specs.Walking.{parts_at, row_of}
 use Rattle.sim_codec.specs.Reading.{row_at, rows_at}
 use Rattle.sim_codec.specs.Stored.{rows_in, lives, id_in, template_in, lives_as}
@@ -117,7 +119,7 @@ few_read ts n w rows e = by (rows_at ts n w) refl e (length_read ts n w)
 
 -- ---- who is alive
 
-bind_some : {A B : Type 0} (o : Option A) (f : A → Option B) (b : B) → o >>= f ≡ Some b → (a : A) × (o ≡ Some a) × (f a ≡ Some b)
+pub bind_some : {A B : Type 0} (o : Option A) (f : A → Option B) (b : B) → o >>= f ≡ Some b → (a : A) × (o ≡ Some a) × (f a ≡ Some b)
 bind_some (Some a) f b h = (a, refl, h)
 bind_some None f b h = absurd cc
 
@@ -135,27 +137,58 @@ is_some-map f (Some x) = refl
 pub record IsFirst (ts : List Template) (w : Walk) (p : Parts) (after : Walk) : Type 0 where
   pub entity : entity_at w.entity ≡ Some (p.entity, after.entity)
   pub health : is_some p.health ≡ lives ts p.entity.1
+  pub by : w.version ≡ after.version
+  pub stance : has_stances w.version ≡ false → is_some p.stance ≡ false
 
 inject : {A : Type 0} (x y : A) → Some x ≡ Some y → x ≡ y
 inject x y e = cc
 
-first_of : (ts : List Template) (w : Walk) (p : Parts) (after : Walk) → parts_at ts w ≡ Some (p, after) → IsFirst ts w p after
+-- what the last three sections leave of what was read before them, and of the version
+pub record Ended (w : Walk) (t : Template) (e : (ℕ × ℕ) × List ℕ) (h : Option (ℕ × ℤ)) (p : Parts) (after : Walk) : Type 0 where
+  pub entity : e ≡ (p.entity, after.entity)
+  pub health : h ≡ p.health
+  pub by : w.version ≡ after.version
+  pub stance : is_some p.stance ≡ (has_stances w.version && is_some t.arms)
+
+-- the last three sections, behind what was read before them
+abbrev read_last : (w : Walk) (t : Template) (e : (ℕ × ℕ) × List ℕ) (place : (ℕ × Point) × List ℕ) (owner : (ℕ × ℕ) × List ℕ) (h : Option (ℕ × ℤ) × List ℕ) → Option (Parts × Walk)
+read_last w t e place owner h =
+    row_if moving_at (is_some t.speed) w.motion >>= λ m. row_if attack_at (is_some t.arms) w.attack >>= λ a. row_if stance_at (has_stances w.version && is_some t.arms) w.stance >>= λ s.
+    Some (
+      record { entity = e.0; position = place.0; owner = owner.0; health = h.0; motion = m.0; attack = a.0; stance = s.0 },
+      record { version = w.version; entity = e.1; position = place.1; owner = owner.1; health = h.1; motion = m.1; attack = a.1; stance = s.1 },
+    )
+
+ended : (w : Walk) (t : Template) (e : (ℕ × ℕ) × List ℕ) (place : (ℕ × Point) × List ℕ) (owner : (ℕ × ℕ) × List ℕ) (h : Option (ℕ × ℤ) × List ℕ) (p : Parts) (after : Walk)
+    → read_last w t e place owner h ≡ Some (p, after) → Ended w t e h.0 p after
+ended w t e place owner h p after read =
+    let motion = bind_some (row_if moving_at (is_some t.speed) w.motion) _ (p, after) read in
+    let attack = bind_some (row_if attack_at (is_some t.arms) w.attack) _ (p, after) motion.2 in
+    let stance = bind_some (row_if stance_at (has_stances w.version && is_some t.arms) w.stance) _ (p, after) attack.2 in
+    let same = inject _ (p, after) stance.2 in
+    let stances : stance.0.0 ≡ p.stance = ap (λ (x : Parts × Walk). x.0.stance) same in
+    record {
+      entity = ap (λ (x : Parts × Walk). (x.0.entity, x.1.entity)) same;
+      health = ap (λ (x : Parts × Walk). x.0.health) same;
+      by = ap (λ (x : Parts × Walk). x.1.version) same;
+      stance = ap is_some (sym stances) ∙ is_some-if stance_at (has_stances w.version && is_some t.arms) w.stance stance.0 stance.1;
+    }
+
+pub first_of : (ts : List Template) (w : Walk) (p : Parts) (after : Walk) → parts_at ts w ≡ Some (p, after) → IsFirst ts w p after
 unfolding parts_at
-first_of ts w p after h =
-    let e = bind_some (entity_at w.entity) _ (p, after) h in
+first_of ts w p after read =
+    let e = bind_some (entity_at w.entity) _ (p, after) read in
     let t = bind_some (slice_get ts e.0.0.1) _ (p, after) e.2 in
     let place = bind_some (position_at w.position) _ (p, after) t.2 in
     let owner = bind_some (owner_at w.owner) _ (p, after) place.2 in
     let health = bind_some (row_if health_at (is_some t.0.health) w.health) _ (p, after) owner.2 in
-    let motion = bind_some (row_if moving_at (is_some t.0.speed) w.motion) _ (p, after) health.2 in
-    let attack = bind_some (row_if attack_at (is_some t.0.arms) w.attack) _ (p, after) motion.2 in
-    let same = inject _ (p, after) attack.2 in
-    let entity : e.0.0 ≡ p.entity = ap (λ (x : Parts × Walk). x.0.entity) same in
-    let healths : health.0.0 ≡ p.health = ap (λ (x : Parts × Walk). x.0.health) same in
+    let last = ended w t.0 e.0 place.0 owner.0 health.0 p after health.2 in
     let alive : is_some t.0.health ≡ lives ts e.0.0.1 = ap (λ (o : Option Template). is_some (option_and_then (λ (x : Template). x.health) o)) (sym t.1) in
     record {
-      entity = e.1 ∙ ap (λ (x : Parts × Walk). Some (x.0.entity, x.1.entity)) same;
-      health = ap is_some (sym healths) ∙ is_some-if health_at (is_some t.0.health) w.health health.0 health.1 ∙ alive ∙ ap (λ (x : ℕ × ℕ). lives ts x.1) entity;
+      entity = e.1 ∙ ap Some last.entity;
+      health = ap is_some (sym last.health) ∙ is_some-if health_at (is_some t.0.health) w.health health.0 health.1 ∙ alive ∙ ap (λ (x : (ℕ × ℕ) × List ℕ). lives ts x.0.1) last.entity;
+      by = last.by;
+      stance = λ none. last.stance ∙ ap (λ (b : Bool). b && is_some t.0.arms) none;
     }
 
 number_is : (w : Width) (bytes : List ℕ) (x : ℕ × List ℕ) → number_at w bytes ≡ Some x → (byte_len w ≤ length bytes) × ((from_le_bytes w (take (byte_len w) bytes), drop (byte_len w) bytes) ≡ x)

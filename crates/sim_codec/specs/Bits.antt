@@ -3,10 +3,10 @@ use Rattle.std.specs.Prelude.{ℕ, ◌==◌, if◌then◌else◌, List, Option, 
 use Rattle.sim_base.specs.declared.state.Row.{Row}
 use Rattle.sim_base.specs.declared.state.State.{State}
 use Rattle.sim_base.specs.Rows.{row_of}
-use Rattle.sim_base.specs.Spelling.{clock_bytes, entity_part, entity_bytes, position_part, position_bytes, owner_part, owner_bytes, health_part, health_bytes, motion_part, moving_bytes, attack_part, attack_bytes}
+use Rattle.sim_base.specs.Spelling.{clock_bytes, entity_part, entity_bytes, position_part, position_bytes, owner_part, owner_bytes, health_part, health_bytes, motion_part, moving_bytes, attack_part, attack_bytes, stance_part, stance_bytes}
 use Rattle.sim_sections.specs.Rows.{with_id}
 use Rattle.sim_codec.specs.declared.bits.Part.{Part}
-use Rattle.sim_codec.specs.declared.bits.Part.TheVariants.{Clock, Entity, Position, Owner, Health, Motion, Attack}
+use Rattle.sim_codec.specs.declared.bits.Part.TheVariants.{Clock, Entity, Position, Owner, Health, Motion, Attack, Stance}
 
 -- the clock, and no other part
 abbrev pub clock_bits : State → Part → Option (List ℕ)
@@ -17,6 +17,7 @@ clock_bits state Owner = None
 clock_bits state Health = None
 clock_bits state Motion = None
 clock_bits state Attack = None
+clock_bits state Stance = None
 
 -- the bytes that a row has in the section of a part
 abbrev pub row_bits : Part → Row → Option (List ℕ)
@@ -27,6 +28,7 @@ row_bits Owner row = option_map owner_bytes (with_id owner_part row)
 row_bits Health row = option_map health_bytes (with_id health_part row)
 row_bits Motion row = option_map moving_bytes (with_id motion_part row)
 row_bits Attack row = option_map attack_bytes (with_id attack_part row)
+row_bits Stance row = option_map stance_bytes (with_id stance_part row)
 
 -- entity 1 has the clock alone, and every other what its row has, if it is alive
 abbrev pub bits : State → ℕ → Part → Option (List ℕ)

@@ -1,29 +1,32 @@
 -- What bytes stand for, and what they are refused for.
-use Rattle.std.specs.Prelude.{◌≡◌, ℕ, not, nat_lt, List, [], ◌∷◌, ◌++◌, length, take, drop, Option, Some, None, Result, Ok, Err, codes, if◌then◌else◌}
+use Rattle.std.specs.Prelude.{◌≡◌, ◌⊎◌, ℕ, not, nat_lt, List, length, take, drop, Option, Some, None, is_some, Result, Ok, Err, if◌then◌else◌}
 use Rattle.std.specs.Str.{bytes_eq}
 use Rattle.sim_base.specs.declared.state.State.{State}
 use Rattle.sim_base.specs.declared.setup.Setup.{Setup}
-use Rattle.sim_base.specs.Spelling.{spelling}
+use Rattle.sim_base.specs.Spelling.{spelling, old_spelling}
 use Rattle.sim_base.specs.Validity.{IsValid}
+use Rattle.sim_sections.specs.declared.version.Version.{Version}
+use Rattle.sim_sections.specs.declared.version.Version.TheVariants.{One, Two}
 use Rattle.sim_codec.specs.declared.fault.StateFault.{StateFault}
 use Rattle.sim_codec.specs.declared.fault.StateFault.TheVariants as faults
+use Rattle.sim_codec.specs.Versions.{start_bytes, HoldsNone}
 
--- the magic and the version
-abbrev pub start_bytes : List ℕ
-start_bytes = codes "RSIM" ++ 1 ∷ 0 ∷ 0 ∷ 0 ∷ []
+-- the version whose magic and number these are
+abbrev pub version_of : List ℕ → Option Version
+version_of start = if bytes_eq start (start_bytes Two) then Some Two else if bytes_eq start (start_bytes One) then Some One else None
 
 -- what the first 24 bytes are refused for
 unfoldable pub head_fault : Setup → List ℕ → Option StateFault
 head_fault setup bytes =
     if nat_lt (length bytes) 24 then Some faults.NotState
-    else if not (bytes_eq (take 8 bytes) start_bytes) then Some faults.NotState
+    else if not (is_some (version_of (take 8 bytes))) then Some faults.NotState
     else if not (bytes_eq (take 16 (drop 8 bytes)) setup.id) then Some faults.OtherMatch
     else None
 
--- bytes stand for a state that is valid and has this spelling
+-- bytes stand for a state that is valid and has this spelling, or by version 1, where no row holds its place
 pub record StandsFor (setup : Setup) (bytes : List ℕ) (state : State) : Type 0 where
   pub valid : IsValid setup state
-  pub spelled : bytes ≡ spelling setup state
+  pub spelled : (bytes ≡ spelling setup state) ⊎ (HoldsNone state.rows × (bytes ≡ old_spelling setup state))
 
 -- bytes stand for some state
 abbrev pub Stands : Setup → List ℕ → Type 0

@@ -1,8 +1,7 @@
 -- Rows that stand in bytes: which they are, and what is tested of them one after the other.
-use Rattle.std.specs.Prelude.{ℕ, ◌<◌, ◌==◌, ◌&&◌, Bool, false, is_some, List, [], ◌∷◌, take, drop, Option, Some, None, option_and_then, slice_get}
+use Rattle.std.specs.Prelude.{ℕ, ◌<◌, ◌==◌, ◌&&◌, Bool, is_some, List, [], ◌∷◌, take, drop, Option, Some, None, option_and_then, slice_get}
 use Rattle.std.specs.Int.{w16, w32, from_le_bytes}
 use Rattle.sim_base.specs.declared.state.Row.{Row}
-use Rattle.sim_base.specs.declared.state.Aim.{Aim}
 use Rattle.sim_base.specs.declared.setup.Setup.{Setup}
 use Rattle.sim_base.specs.declared.template.Template.{Template}
 use Rattle.sim_base.specs.Validity.{IsKnownRow}
@@ -27,10 +26,6 @@ template_in bytes = from_le_bytes w16 (take 2 (drop 4 bytes))
 -- it has an id, and its template has health
 abbrev pub lives_as : List Template → ℕ → List ℕ → Bool
 lives_as templates id bytes = id_in bytes == id && lives templates (template_in bytes)
-
--- whom a stored row attacks; none holds its place
-abbrev pub aim_of : ℕ × (ℕ × ℕ) → Aim
-aim_of r = record { target = r.1.0; cooldown = r.1.1; hold = false }
 
 -- the ids of rows rise above the one before
 abbrev pub AreRising : ℕ → List Row → Type 0

@@ -11,7 +11,9 @@ use crate::look_up::place_of;
 use crate::spelling::tell_clock;
 use sim_base::{Row, State};
 use sim_bytes::Buffer;
-use sim_sections::{AttackRow, EntityRow, HealthRow, MotionRow, OwnerRow, PositionRow, RowForm};
+use sim_sections::{
+    AttackRow, EntityRow, HealthRow, MotionRow, OwnerRow, PositionRow, RowForm, StanceRow,
+};
 use std::marker::Model;
 
 /// What may be said of an entity: a section, or the clock, which entity 1 has in place of a row.
@@ -24,6 +26,7 @@ pub enum Part {
     Health,
     Motion,
     Attack,
+    Stance,
 }
 
 /// The bytes of an entity in a section, at most 527 in place, or that it has none there.
@@ -75,8 +78,13 @@ fn bits_of_first(state: &State, part: Part) -> Bits
 {
     match part {
         Part::Clock => bits_of_clock(state),
-        Part::Entity | Part::Position | Part::Owner | Part::Health | Part::Motion | Part::Attack =>
-            Bits::absent(),
+        Part::Entity
+        | Part::Position
+        | Part::Owner
+        | Part::Health
+        | Part::Motion
+        | Part::Attack
+        | Part::Stance => Bits::absent(),
     }
 }
 
@@ -109,6 +117,7 @@ fn bits_of_row(row: &Row, part: Part) -> Bits
         Part::Health => bits_in::<HealthRow>(row),
         Part::Motion => bits_in::<MotionRow>(row),
         Part::Attack => bits_in::<AttackRow>(row),
+        Part::Stance => bits_in::<StanceRow>(row),
     }
 }
 

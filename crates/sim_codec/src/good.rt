@@ -1,17 +1,17 @@
 //! The test of a state that still stands in its bytes: what `validity` asks of one in memory. The ids are seen to ascend
 //! first, so that each target is then found by halves.
 
-ghost use Rattle.std.specs.Prelude.{◌≡◌, ◌↔◌, ◌<◌, IsTrue, false, map, option_map};
+ghost use Rattle.std.specs.Prelude.{◌≡◌, ◌↔◌, ◌<◌, IsTrue, map, option_map};
 ghost use Rattle.std.specs.List.Sorted.{IsStrictlyIncreasing};
 ghost use Rattle.sim_base.specs.Rows.{id_of};
 ghost use Rattle.sim_base.specs.Validity.{IsValidMotion, Both, IsValidAim, IsValidRow, IsKnownRow, IsValid};
 ghost use Rattle.sim_sections.specs.Walking.{row_of};
-ghost use Rattle.sim_codec.specs.Stored.{aim_of, AreRising, AreGood};
+ghost use Rattle.sim_codec.specs.Stored.{AreRising, AreGood};
 
 use crate::stored::{Stored, StoredRows};
 use crate::validity::{are_inside, has_valid_health, is_inside_setup, is_valid_clock};
-use sim_base::{Arms, Fixed, Setup, Template};
-use sim_sections::{AttackRow, MotionRow, Parts};
+use sim_base::{Aim, Arms, Fixed, Setup, Template};
+use sim_sections::{MotionRow, Parts};
 
 fn is_valid_motion(setup: &Setup, row: &MotionRow) -> bool
     ensures { IsTrue result ↔ IsValidMotion setup.now row.now.1 }
@@ -34,30 +34,25 @@ fn has_valid_motion(setup: &Setup, motion: &Option<MotionRow>, speed: Option<Fix
     }
 }
 
-fn is_valid_aim(all: &StoredRows<'_>, id: u32, row: &AttackRow, arms: Arms) -> bool
+fn is_valid_aim(all: &StoredRows<'_>, id: u32, aim: Aim, arms: Arms) -> bool
     requires { IsStrictlyIncreasing (map id_of all.now) }
-    ensures { IsTrue result ↔ IsValidAim all.now id (aim_of row.now) arms }
+    ensures { IsTrue result ↔ IsValidAim all.now id aim arms }
 {
-    if row.cooldown > arms.repeat {
+    if aim.cooldown > arms.repeat {
         return false;
     }
-    row.target == 0 || (row.target != id && all.is_alive(row.target))
+    aim.target == 0 || (aim.target != id && all.is_alive(aim.target))
 }
 
-fn has_valid_attack(
-    all: &StoredRows<'_>,
-    id: u32,
-    attack: &Option<AttackRow>,
-    arms: Option<Arms>,
-) -> bool
+fn has_valid_attack(all: &StoredRows<'_>, id: u32, attack: Option<Aim>, arms: Option<Arms>) -> bool
     requires { IsStrictlyIncreasing (map id_of all.now) }
-    ensures { IsTrue result ↔ Both (option_map aim_of attack.now) arms (IsValidAim all.now id) }
+    ensures { IsTrue result ↔ Both attack arms (IsValidAim all.now id) }
 {
     match attack {
         None => arms.is_none(),
-        Some(row) => match arms {
+        Some(aim) => match arms {
             None => false,
-            Some(arms) => is_valid_aim(all, id, row, arms),
+            Some(arms) => is_valid_aim(all, id, aim, arms),
         },
     }
 }
@@ -79,7 +74,7 @@ fn is_valid_row(setup: &Setup, all: &StoredRows<'_>, parts: &Parts, template: &T
         && parts.owner.owner <= setup.players
         && has_valid_health(health_of(parts), template.health)
         && has_valid_motion(setup, &parts.motion, template.speed)
-        && has_valid_attack(all, parts.entity.id, &parts.attack, template.arms)
+        && has_valid_attack(all, parts.entity.id, parts.aim(), template.arms)
 }
 
 fn is_known_row(setup: &Setup, all: &StoredRows<'_>, parts: &Parts) -> bool

@@ -5,7 +5,7 @@ ghost use Rattle.std.specs.Prelude.{◌≡◌};
 ghost use Rattle.sim_sections.specs.Walking.{row_of};
 
 use sim_sections::{
-    AttackRow, EntityRow, HealthRow, MotionRow, OwnerRow, Parts, PositionRow, RowForm,
+    AttackRow, EntityRow, HealthRow, MotionRow, OwnerRow, Parts, PositionRow, RowForm, StanceRow,
 };
 
 /// A row that is one of the parts of an entity.
@@ -63,5 +63,15 @@ impl PartForm for AttackRow {
         let mut row = attack?;
         row.id = entity.id;
         Some(row)
+    }
+}
+
+impl PartForm for StanceRow {
+    fn from_parts(parts: Parts) -> Option<StanceRow> {
+        let aim = parts.aim()?;
+        Some(StanceRow {
+            id: parts.entity.id,
+            hold: aim.hold,
+        })
     }
 }

@@ -1,11 +1,11 @@
 //! A state in memory of its own, made of one that still stands in its bytes.
 
-ghost use Rattle.std.specs.Prelude.{◌≡◌, false, None, IfOk};
+ghost use Rattle.std.specs.Prelude.{◌≡◌, None, IfOk};
 ghost use Rattle.sim_sections.specs.Walking.{row_of};
 
 use crate::stored::{Stored, StoredRows};
-use sim_base::{Aim, Items, Motion, OutOfMemory, Row, Rows, State};
-use sim_sections::{AttackRow, MotionRow, Parts};
+use sim_base::{Items, Motion, OutOfMemory, Row, Rows, State};
+use sim_sections::{MotionRow, Parts};
 use std::alloc::{AllocError, Global};
 
 // A motion, its way in memory of its own.
@@ -23,27 +23,17 @@ fn motion_of(alloc: Global, row: MotionRow) -> Result<Motion, AllocError>
     })
 }
 
-// Whom it attacks. No bytes say whether it holds its place.
-fn aim_of(row: AttackRow) -> Aim
-    ensures { result ≡ record { target = row.1.0; cooldown = row.1.1; hold = false } }
-{
-    Aim {
-        target: row.target,
-        cooldown: row.cooldown,
-        hold: false,
-    }
-}
-
 fn row_from(alloc: Global, parts: Parts) -> Result<Row, AllocError>
     ensures { IfOk result (λ row. row ≡ row_of parts) }
 {
+    let attack = parts.aim();
     let Parts {
         entity,
         position,
         owner,
         health,
         motion,
-        attack,
+        ..
     } = parts;
     let motion = match motion {
         None => None,
@@ -56,7 +46,7 @@ fn row_from(alloc: Global, parts: Parts) -> Result<Row, AllocError>
         owner: owner.owner,
         health: health.map(|row| row.health),
         motion,
-        attack: attack.map(aim_of),
+        attack,
     })
 }
 

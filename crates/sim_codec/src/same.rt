@@ -3,15 +3,18 @@
 
 ghost use Rattle.std.specs.Prelude.{◌≡◌, ◌↔◌, ◌<◌, ◌^◌, length, IsTrue, OnOk};
 ghost use Rattle.std.specs.List.{flat_map, filter_map};
-ghost use Rattle.sim_base.specs.Spelling.{section, sections, spelling};
+ghost use Rattle.sim_base.specs.Spelling.{section};
 ghost use Rattle.sim_bytes.specs.Telling.{Tells};
+ghost use Rattle.sim_codec.specs.Versions.{stances, sections_by, spelled_by};
 
 use crate::part::PartForm;
 use crate::spelling::{tell_clock, tell_head};
 use crate::stored::{Stored, StoredRows};
 use sim_base::Setup;
 use sim_bytes::{ByteSink, Comparing, tell_u8, tell_u32};
-use sim_sections::{AttackRow, EntityRow, HealthRow, MotionRow, OwnerRow, PositionRow};
+use sim_sections::{
+    AttackRow, EntityRow, HealthRow, MotionRow, OwnerRow, PositionRow, StanceRow, Version,
+};
 
 // How many of the rows have this part.
 fn count<R: PartForm>(mut rows: StoredRows<'_>) -> u32
@@ -54,32 +57,57 @@ fn tell_section<K: ByteSink, R: PartForm>(
     tell_rows::<K, R>(out, rows.fork())
 }
 
-fn tell_sections<K: ByteSink>(out: &mut K, rows: &StoredRows<'_>) -> Result<(), K::Fault>
+// Tells the section of stances, if the version has it.
+fn tell_stances<K: ByteSink>(
+    out: &mut K,
+    version: Version,
+    rows: &StoredRows<'_>,
+) -> Result<(), K::Fault>
     requires { length rows.now < 2 ^ 32 }
-    ensures { OnOk result (Tells K.holds out.old out.new (sections rows.now)) }
+    ensures { OnOk result (Tells K.holds out.old out.new (stances version rows.now)) }
+{
+    match version {
+        Version::One => Ok(()),
+        Version::Two => tell_section::<K, StanceRow>(out, rows),
+    }
+}
+
+fn tell_sections<K: ByteSink>(
+    out: &mut K,
+    version: Version,
+    rows: &StoredRows<'_>,
+) -> Result<(), K::Fault>
+    requires { length rows.now < 2 ^ 32 }
+    ensures { OnOk result (Tells K.holds out.old out.new (sections_by version rows.now)) }
 {
     tell_section::<K, EntityRow>(out, rows)?;
     tell_section::<K, PositionRow>(out, rows)?;
     tell_section::<K, OwnerRow>(out, rows)?;
     tell_section::<K, HealthRow>(out, rows)?;
     tell_section::<K, MotionRow>(out, rows)?;
-    tell_section::<K, AttackRow>(out, rows)
+    tell_section::<K, AttackRow>(out, rows)?;
+    tell_stances(out, version, rows)
 }
 
-fn tell_stored<K: ByteSink>(out: &mut K, setup: &Setup, stored: &Stored<'_>) -> Result<(), K::Fault>
-    ensures { OnOk result (Tells K.holds out.old out.new (spelling setup.now stored.now)) }
+fn tell_stored<K: ByteSink>(
+    out: &mut K,
+    version: Version,
+    setup: &Setup,
+    stored: &Stored<'_>,
+) -> Result<(), K::Fault>
+    ensures { OnOk result (Tells K.holds out.old out.new (spelled_by version setup.now stored.now)) }
 {
-    tell_head(out, setup)?;
+    tell_head(out, version, setup)?;
     tell_clock(out, stored.turn, stored.next, stored.word)?;
-    tell_sections(out, &stored.rows)
+    tell_sections(out, version, &stored.rows)
 }
 
-/// Whether these are the bytes of the state. It takes no memory.
-pub fn is_spelled(setup: &Setup, stored: &Stored<'_>, bytes: &[u8]) -> bool
-    ensures { IsTrue result ↔ (bytes.now ≡ spelling setup.now stored.now) }
+/// Whether these are the bytes of the state by the version. It takes no memory.
+pub fn is_spelled(version: Version, setup: &Setup, stored: &Stored<'_>, bytes: &[u8]) -> bool
+    ensures { IsTrue result ↔ (bytes.now ≡ spelled_by version setup.now stored.now) }
 {
     let mut comparing = Comparing::new(bytes);
-    match tell_stored(&mut comparing, setup, stored) {
+    match tell_stored(&mut comparing, version, setup, stored) {
         Ok(()) => comparing.is_same(),
         Err(never) => match never {},
     }

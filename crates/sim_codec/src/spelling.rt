@@ -3,26 +3,25 @@
 
 ghost use Rattle.std.specs.Prelude.{◌≡◌, ◌<◌, ◌^◌, All, length, OnOk, IfOk, ◌++◌, codes};
 ghost use Rattle.sim_base.specs.Bytes.{u32_bytes, u64_bytes};
-ghost use Rattle.sim_base.specs.Spelling.{sections, spelling, version, digest as digest_of};
+ghost use Rattle.sim_base.specs.Spelling.{sections, spelling, digest as digest_of};
 ghost use Rattle.sim_bytes.specs.Telling.{Tells};
 ghost use Rattle.sim_sections.specs.Rows.{HasShortWay};
+ghost use Rattle.sim_sections.specs.Versions.{number_of};
 
 use sim_base::{OutOfMemory, Row, Setup, State};
 use sim_bytes::{ByteSink, Digesting, tell_u32, tell_u64};
 use sim_sections::{
-    AttackRow, EntityRow, HealthRow, MotionRow, OwnerRow, PositionRow, tell_section,
+    AttackRow, EntityRow, HealthRow, MotionRow, OwnerRow, PositionRow, StanceRow, Version,
+    tell_section,
 };
 use std::alloc::Global;
 
-/// The version of the layout.
-pub const VERSION: u32 = 1;
-
 /// Tells the magic, the version and the id of the match.
-pub fn tell_head<K: ByteSink>(out: &mut K, setup: &Setup) -> Result<(), K::Fault>
-    ensures { OnOk result (Tells K.holds out.old out.new (codes "RSIM" ++ (u32_bytes version ++ setup.now.id))) }
+pub fn tell_head<K: ByteSink>(out: &mut K, version: Version, setup: &Setup) -> Result<(), K::Fault>
+    ensures { OnOk result (Tells K.holds out.old out.new (codes "RSIM" ++ (u32_bytes (number_of version) ++ setup.now.id))) }
 {
     out.tell(b"RSIM")?;
-    tell_u32(out, VERSION)?;
+    tell_u32(out, version.number())?;
     out.tell(&setup.id)
 }
 
@@ -45,7 +44,8 @@ fn tell_sections<K: ByteSink>(out: &mut K, rows: &[Row]) -> Result<(), K::Fault>
     tell_section::<K, OwnerRow>(out, rows)?;
     tell_section::<K, HealthRow>(out, rows)?;
     tell_section::<K, MotionRow>(out, rows)?;
-    tell_section::<K, AttackRow>(out, rows)
+    tell_section::<K, AttackRow>(out, rows)?;
+    tell_section::<K, StanceRow>(out, rows)
 }
 
 fn tell_state<K: ByteSink>(out: &mut K, setup: &Setup, state: &State) -> Result<(), K::Fault>
@@ -53,12 +53,12 @@ fn tell_state<K: ByteSink>(out: &mut K, setup: &Setup, state: &State) -> Result<
     requires few { length state.now.rows < 2 ^ 32 }
     ensures { OnOk result (Tells K.holds out.old out.new (spelling setup.now state.now)) }
 {
-    tell_head(out, setup)?;
+    tell_head(out, Version::Two, setup)?;
     tell_clock(out, state.turn, state.next, state.word)?;
     tell_sections(out, state.rows.as_slice())
 }
 
-/// The bytes of a state. A valid state meets both conditions.
+/// The bytes of a state by version 2. A valid state meets both conditions.
 pub fn spell(alloc: Global, setup: &Setup, state: &State) -> Result<Vec<u8>, OutOfMemory>
     requires short { All HasShortWay state.now.rows }
     requires few { length state.now.rows < 2 ^ 32 }

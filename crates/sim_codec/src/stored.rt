@@ -13,7 +13,7 @@ ghost use Rattle.sim_codec.specs.Stored.{rows_in, lives, id_in, template_in, liv
 
 use sim_base::{MAX_ROWS, Setup, Template};
 use sim_bytes::{Short, Take};
-use sim_sections::{Parts, Walk, locate, take_parts};
+use sim_sections::{Parts, Version, Walk, locate, take_parts};
 use std::marker::Model;
 
 /// Rows that stand in the sections of a state. Contracts see them as the list of those that were not taken yet.
@@ -41,12 +41,14 @@ fn fork_of<'a>(walk: &Walk<'a>) -> Walk<'a>
     ensures { result ≡ walk.now }
 {
     Walk {
+        version: walk.version,
         entity: walk.entity.fork(),
         position: walk.position.fork(),
         owner: walk.owner.fork(),
         health: walk.health.fork(),
         motion: walk.motion.fork(),
         attack: walk.attack.fork(),
+        stance: walk.stance.fork(),
     }
 }
 
@@ -180,16 +182,20 @@ impl<'a> Model for Stored<'a> {
     ghost invariant = { λ stored. length stored.rows ≤ row_limit };
 }
 
-/// The state of which these may be the bytes behind the id of the match.
+/// The state of which these may be the bytes behind the id of the match, by the version that stands before it.
 #[tactic(auto, unfolding(crate::specs::Reading::state_at))]
-pub fn stored_from<'a>(setup: &'a Setup, bytes: &'a [u8]) -> Result<Stored<'a>, Short>
-    ensures { MatchResult result (λ stored. state_at setup.now bytes.now ≡ Some stored) (λ _. state_at setup.now bytes.now ≡ None) }
+pub fn stored_from<'a>(
+    version: Version,
+    setup: &'a Setup,
+    bytes: &'a [u8],
+) -> Result<Stored<'a>, Short>
+    ensures { MatchResult result (λ stored. state_at version setup.now bytes.now ≡ Some stored) (λ _. state_at version setup.now bytes.now ≡ None) }
 {
     let mut from = Take::new(bytes);
     let turn = from.u32()?;
     let next = from.u32()?;
     let word = from.u64()?;
-    let (count, walk) = locate(&mut from)?;
+    let (count, walk) = locate(version, &mut from)?;
     if count as usize > MAX_ROWS {
         return Err(Short);
     }

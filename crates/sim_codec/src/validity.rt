@@ -70,7 +70,7 @@ fn is_valid_aim(rows: &[Row], id: u32, aim: Aim, arms: Arms) -> bool
     requires { IsStrictlyIncreasing (map id_of rows.now) }
     ensures { IsTrue result ↔ IsValidAim rows.now id aim arms }
 {
-    if aim.hold || aim.cooldown > arms.repeat {
+    if aim.cooldown > arms.repeat {
         return false;
     }
     aim.target == 0 || (aim.target != id && is_alive(rows, aim.target))

@@ -1,9 +1,9 @@
 -- Worked examples, computed from the definition: each place was worked out by hand.
-use Rattle.std.proofs.Common.{◌≡◌, ℕ, ◌*◌, pos, refl, Some, None, List, [], ◌∷◌, false}
+use Rattle.std.proofs.Common.{◌≡◌, ℕ, ◌*◌, pos, refl, Some, None, List, [], ◌∷◌, false, true}
 use Rattle.sim_base.specs.declared.state.Row.{Row}
 use Rattle.sim_base.specs.declared.state.State.{State}
 use Rattle.sim_base.specs.declared.state.Motion.TheVariants.{Still}
-use Rattle.sim_codec.specs.declared.bits.Part.TheVariants.{Clock, Entity, Owner, Health, Motion}
+use Rattle.sim_codec.specs.declared.bits.Part.TheVariants.{Clock, Entity, Owner, Health, Motion, Stance}
 use Rattle.sim_base.specs.Bytes.{u16_bytes, u32_bytes, u64_bytes, i32_bytes}
 use Rattle.sim_diff.specs.Difference.{difference_of}
 
@@ -62,3 +62,10 @@ motion_before_attack :
     ≡ Some (record { entity = 2; part = Motion; left = None; right = Some (2 ∷ 0 ∷ 0 ∷ 0 ∷ 0 ∷ 0 ∷ 0 ∷ 0 ∷ 0 ∷ 0 ∷ 0 ∷ 0 ∷ 0 ∷ 0 ∷ 0 ∷ []) })
 unfolding difference_of u16_bytes u32_bytes u64_bytes i32_bytes
 motion_before_attack = refl
+
+-- whether it holds its place is told of the stance, and not of the attack
+hold_of_stance :
+    difference_of (state 7 (record (post 2) { attack = Some (record { target = 3; cooldown = 258; hold = true }) } ∷ [])) (state 7 (record (post 2) { attack = Some (record { target = 3; cooldown = 258; hold = false }) } ∷ []))
+    ≡ Some (record { entity = 2; part = Stance; left = Some (2 ∷ 0 ∷ 0 ∷ 0 ∷ 1 ∷ []); right = Some (2 ∷ 0 ∷ 0 ∷ 0 ∷ 0 ∷ []) })
+unfolding difference_of u16_bytes u32_bytes u64_bytes i32_bytes
+hold_of_stance = refl

@@ -10,7 +10,7 @@ use Rattle.sim_base.specs.Rows.{id_of, row_of}
 use Rattle.sim_laws.proofs.Members.{Has, Has-append_left, Has-append_right, Has-map, Has-of_map, Has-flat_map, Has-of_flat_map}
 use Rattle.sim_laws.proofs.LeastMember.{least_of-some, least_of-has}
 use Rattle.sim_codec.specs.declared.bits.Part.{Part}
-use Rattle.sim_codec.specs.declared.bits.Part.TheVariants.{Clock, Entity, Position, Owner, Health, Motion, Attack}
+use Rattle.sim_codec.specs.declared.bits.Part.TheVariants.{Clock, Entity, Position, Owner, Health, Motion, Attack, Stance}
 use Rattle.sim_codec.specs.Bits.{bits, row_bits}
 use Rattle.sim_diff.specs.declared.place.Place.{Place}
 use Rattle.sim_diff.specs.Difference.{parts, number_of, place_at, is_different, entities, places, key_of, difference_of, IsBefore, IsLeastDifference, HaveSameBits}
@@ -44,6 +44,7 @@ Has-parts Owner = inr (inr (inr (inl refl)))
 Has-parts Health = inr (inr (inr (inr (inl refl))))
 Has-parts Motion = inr (inr (inr (inr (inr (inl refl)))))
 Has-parts Attack = inr (inr (inr (inr (inr (inr (inl refl))))))
+Has-parts Stance = inr (inr (inr (inr (inr (inr (inr (inl refl)))))))
 
 -- a row that is found has its id among the ids
 Has-found : (rows : List Row) (entity : ℕ) (row : Row) → find (λ (row : Row). row.id == entity) rows ≡ Some row → Has (map id_of rows) entity

@@ -9,12 +9,12 @@ use Rattle.sim_base.specs.declared.setup.Setup.{Setup}
 use Rattle.sim_base.specs.declared.state.Row.{Row}
 use Rattle.sim_base.specs.declared.state.State.{State}
 use Rattle.sim_base.specs.Bytes.{u32_bytes}
-use Rattle.sim_base.specs.Spelling.{section, sections, rows_with, spelling, clock_bytes, entity_part, entity_bytes, position_part, position_bytes, owner_part, owner_bytes, health_part, health_bytes, motion_part, moving_bytes, attack_part, attack_bytes}
+use Rattle.sim_base.specs.Spelling.{section, sections, rows_with, spelling, clock_bytes, entity_part, entity_bytes, position_part, position_bytes, owner_part, owner_bytes, health_part, health_bytes, motion_part, moving_bytes, attack_part, attack_bytes, stance_part, stance_bytes}
 use Rattle.sim_base.specs.Limits.{IsSetup}
 use Rattle.sim_base.specs.Validity.{IsValid}
 use Rattle.sim_sections.specs.Rows.{with_id}
 use Rattle.sim_codec.specs.declared.bits.Part.{Part}
-use Rattle.sim_codec.specs.declared.bits.Part.TheVariants.{Clock, Entity, Position, Owner, Health, Motion, Attack}
+use Rattle.sim_codec.specs.declared.bits.Part.TheVariants.{Clock, Entity, Position, Owner, Health, Motion, Attack, Stance}
 use Rattle.sim_codec.specs.Bits.{bits, row_bits}
 use Rattle.sim_codec.proofs.Standing.{one_state}
 use Rattle.sim_diff.specs.Difference.{difference_of, HaveSameBits}
@@ -104,7 +104,8 @@ sections_same xs ys same =
     (joined (section_same 3 owner_bytes owner_part xs ys (same Owner))
     (joined (section_same 4 health_bytes health_part xs ys (same Health))
     (joined (section_same 5 moving_bytes motion_part xs ys (same Motion))
-    (section_same 6 attack_bytes attack_part xs ys (same Attack))))))
+    (joined (section_same 6 attack_bytes attack_part xs ys (same Attack))
+    (section_same 7 stance_bytes stance_part xs ys (same Stance)))))))
 
 -- ---- the states
 
@@ -128,7 +129,7 @@ same_bits-spelling setup left right l r same =
     rw (clocks, all) refl
 
 pub spelling-same : (setup : Setup) (left right : State) → IsSetup setup → IsValid setup left → IsValid setup right → spelling setup left ≡ spelling setup right → left ≡ right
-spelling-same setup left right is l r same = one_state setup (spelling setup left) left right is (record { valid = l; spelled = refl }) (record { valid = r; spelled = same })
+spelling-same setup left right is l r same = one_state setup (spelling setup left) left right is (record { valid = l; spelled = inl refl }) (record { valid = r; spelled = inl same })
 
 pub same-no_difference : (left right : State) → left ≡ right → difference_of left right ≡ None
 same-no_difference left right same = sym (same-difference_of left right (λ id part. ap (λ state. bits state id part) same))

@@ -8,7 +8,7 @@ use Rattle.std.proofs.lemmas.Bool.{true≢false, not-true, not-false}
 use Rattle.std.proofs.lemmas.Slice.Eq.{bytes_eq-Decides}
 use Rattle.sim_base.specs.declared.state.State.{State}
 use Rattle.sim_codec.specs.declared.bits.Part.{Part}
-use Rattle.sim_codec.specs.declared.bits.Part.TheVariants.{Clock, Entity, Position, Owner, Health, Motion, Attack}
+use Rattle.sim_codec.specs.declared.bits.Part.TheVariants.{Clock, Entity, Position, Owner, Health, Motion, Attack, Stance}
 use Rattle.sim_codec.specs.Bits.{bits}
 use Rattle.sim_diff.specs.declared.place.Place.{Place}
 use Rattle.sim_diff.specs.Difference.{parts, number_of, place_at, is_different, difference_in}
@@ -37,11 +37,12 @@ back Owner = refl
 back Health = refl
 back Motion = refl
 back Attack = refl
+back Stance = refl
 
 pub number_of-one : (p q : Part) → number_of p ≡ number_of q → p ≡ q
 number_of-one p q e = sym (back p) ∙ ap (λ n. get_or parts n Clock) e ∙ back q
 
-number_of-below : (part : Part) → number_of part < 7
+number_of-below : (part : Part) → number_of part < 8
 number_of-below Clock = omega arith
 number_of-below Entity = omega arith
 number_of-below Position = omega arith
@@ -49,14 +50,15 @@ number_of-below Owner = omega arith
 number_of-below Health = omega arith
 number_of-below Motion = omega arith
 number_of-below Attack = omega arith
+number_of-below Stance = omega arith
 
 -- the parts have their numbers from n on, up to the last
 abbrev IsNumbered : ℕ → List Part → Type 0
-IsNumbered n [] = n ≡ 7
+IsNumbered n [] = n ≡ 8
 IsNumbered n (part ∷ more) = (number_of part ≡ n) × IsNumbered (n + 1) more
 
 parts_numbered : IsNumbered 0 parts
-parts_numbered = (refl, (refl, (refl, (refl, (refl, (refl, (refl, refl)))))))
+parts_numbered = (refl, (refl, (refl, (refl, (refl, (refl, (refl, (refl, refl))))))))
 
 -- ---- the first part
 
@@ -118,4 +120,4 @@ module _ (left right : State) (entity : ℕ) where
 
   pub same-no_first : ((part : Part) → bits left entity part ≡ bits right entity part) → None ≡ difference_in left right entity
   same-no_first same =
-      rw (alike Clock (same Clock), alike Entity (same Entity), alike Position (same Position), alike Owner (same Owner), alike Health (same Health), alike Motion (same Motion), alike Attack (same Attack)) refl
+      rw (alike Clock (same Clock), alike Entity (same Entity), alike Position (same Position), alike Owner (same Owner), alike Health (same Health), alike Motion (same Motion), alike Attack (same Attack), alike Stance (same Stance)) refl

@@ -6,13 +6,13 @@ use Rattle.sim_base.specs.declared.state.State.{State}
 use Rattle.sim_base.specs.Least.{least_of}
 use Rattle.sim_base.specs.Rows.{id_of}
 use Rattle.sim_codec.specs.declared.bits.Part.{Part}
-use Rattle.sim_codec.specs.declared.bits.Part.TheVariants.{Clock, Entity, Position, Owner, Health, Motion, Attack}
+use Rattle.sim_codec.specs.declared.bits.Part.TheVariants.{Clock, Entity, Position, Owner, Health, Motion, Attack, Stance}
 use Rattle.sim_codec.specs.Bits.{bits}
 use Rattle.sim_diff.specs.declared.place.Place.{Place}
 
 -- the parts in their order
 abbrev pub parts : List Part
-parts = Clock ∷ Entity ∷ Position ∷ Owner ∷ Health ∷ Motion ∷ Attack ∷ []
+parts = Clock ∷ Entity ∷ Position ∷ Owner ∷ Health ∷ Motion ∷ Attack ∷ Stance ∷ []
 
 -- the number of a part in that order
 abbrev pub number_of : Part → ℕ
@@ -23,6 +23,7 @@ number_of Owner = 3
 number_of Health = 4
 number_of Motion = 5
 number_of Attack = 6
+number_of Stance = 7
 
 -- one part of one entity, and what both states have of it
 abbrev pub place_at : State → State → ℕ → Part → Place

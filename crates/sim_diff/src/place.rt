@@ -11,7 +11,7 @@ use sim_base::State;
 use sim_codec::{Bits, Part, bits_of};
 
 // The parts in their order.
-const PARTS: [Part; 7] = [
+const PARTS: [Part; 8] = [
     Part::Clock,
     Part::Entity,
     Part::Position,
@@ -19,6 +19,7 @@ const PARTS: [Part; 7] = [
     Part::Health,
     Part::Motion,
     Part::Attack,
+    Part::Stance,
 ];
 
 /// A part of an entity, with its bytes in two states. Entity 1 has the clock, and no other part.

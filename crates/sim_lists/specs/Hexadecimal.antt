@@ -1,9 +1,10 @@
 -- Texts of hexadecimal digits as bytes.
-use Rattle.std.specs.Prelude.{ℕ, ◌%◌, ◌==◌, ◌&&◌, nat_le, Bool, List, length, Option, None, if◌then◌else◌}
+use Rattle.std.specs.Prelude.{ℕ, ◌*◌, ◌%◌, ◌==◌, ◌&&◌, nat_le, Bool, List, length, Option, None, if◌then◌else◌}
 use Rattle.std.specs.List.{list_all}
 use Rattle.std.specs.Result.{result_ok}
 use Rattle.hex.specs.Hex.{decode_of}
 use Rattle.sim_bytes.specs.Hex.{is_digit}
+use Rattle.sim_wire.specs.Fits.{state_limit}
 
 -- pairs of lower-case digits
 abbrev pub is_hex : List ℕ → Bool
@@ -17,9 +18,13 @@ hex_of text = if is_hex text then result_ok (decode_of text) else None
 abbrev pub digest_of : List ℕ → Option (List ℕ)
 digest_of text = if length text == 32 then hex_of text else None
 
--- the bytes of a state, of which there are at most 2,326,598
+-- how many digits the bytes of a state have at most
+abbrev pub state_digits : ℕ
+state_digits = 2 * state_limit
+
+-- the bytes of a state
 abbrev pub state_of : List ℕ → Option (List ℕ)
-state_of text = if nat_le (length text) 4653196 then hex_of text else None
+state_of text = if nat_le (length text) state_digits then hex_of text else None
 
 -- bytes as they came, of which there are at most 2,400,000
 abbrev pub raw_of : List ℕ → Option (List ℕ)

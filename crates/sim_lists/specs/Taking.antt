@@ -9,7 +9,7 @@ use Rattle.sim_json.specs.Records.{next_or}
 use Rattle.sim_commands.specs.Commands.{three}
 use Rattle.sim_commands.specs.Memory.{command_takes}
 use Rattle.sim_lists.specs.Arrivals.{turn_in}
-use Rattle.sim_lists.specs.Hexadecimal.{is_hex}
+use Rattle.sim_lists.specs.Hexadecimal.{is_hex, state_digits}
 
 -- a text of pairs of digits that is not empty
 abbrev pub hex_takes : List ℕ → Bool
@@ -21,7 +21,7 @@ digest_takes text = if length text == 32 then is_hex text else false
 
 -- such a text, no longer than any state's
 abbrev pub state_takes : List ℕ → Bool
-state_takes text = if nat_le (length text) 4653196 then hex_takes text else false
+state_takes text = if nat_le (length text) state_digits then hex_takes text else false
 
 -- behind a turn stands a command that asks for memory
 abbrev pub ordered_takes : List Data → Bool

@@ -6,6 +6,7 @@ use Rattle.sim_base.specs.declared.command.PlayerCommand.{PlayerCommand}
 use Rattle.sim_plain.specs.declared.message.DownOf.{DownOf}
 use Rattle.sim_plain.specs.declared.message.DownOf.TheVariants.{Ask, State, Command as OfTurn, Release, Notice, Refused}
 use Rattle.sim_plain.specs.declared.message.PostOf.{PostOf}
+use Rattle.sim_report.specs.Lines.{report_kind}
 use Rattle.sim_report.specs.Show.{point_text}
 
 -- a comma and an id
@@ -31,13 +32,17 @@ command_text command.Resign = codes "resign"
 abbrev pub order_text : PlayerCommand → List ℕ
 order_text order = codes " player " ++ (decimal order.player ++ (codes " " ++ command_text order.command))
 
+-- a report of this turn by this client differs from the turn's first, and of which kind such reports are
+abbrev pub notice_text : ℕ → ℕ → List ℕ
+notice_text turn client = codes "notice " ++ (decimal turn ++ (codes " " ++ (decimal client ++ report_kind turn)))
+
 -- a message; of a state, how many bytes it has
 abbrev pub down_text : DownOf (List ℕ) → List ℕ
 down_text (Ask client) = codes "ask " ++ decimal client
 down_text (State done bytes) = codes "state done " ++ (decimal done ++ (codes " bytes " ++ decimal (length bytes)))
 down_text (OfTurn turn order) = codes "command turn " ++ (decimal turn ++ order_text order)
 down_text (Release turn) = codes "release " ++ decimal turn
-down_text (Notice turn client) = codes "notice " ++ (decimal turn ++ (codes " " ++ decimal client))
+down_text (Notice turn client) = notice_text turn client
 down_text (Refused code) = codes "refused " ++ decimal code
 
 -- a line of who is told a message

@@ -2,7 +2,7 @@
 use Rattle.std.specs.Prelude.{ℕ, List, ◌++◌, codes}
 use Rattle.sim_base.specs.declared.step.Event.{Event}
 use Rattle.sim_base.specs.declared.step.Event.TheVariants.{Start, Order, Play, Join, Load, Refused, Cut, Bend, Notice}
-use Rattle.sim_report.specs.Lines.{spaced_number, turn_line}
+use Rattle.sim_report.specs.Lines.{report_kind, spaced_number, turn_line}
 
 -- the client of an event, before what it did
 abbrev pub client_text : ℕ → List ℕ
@@ -12,9 +12,9 @@ client_text client = codes "client" ++ (spaced_number client ++ codes " ")
 abbrev pub number_line : List ℕ → ℕ → List ℕ
 number_line word number = word ++ (spaced_number number ++ codes "\n")
 
--- a report of this turn by this client differs from the turn's first
+-- a report of this turn by this client differs from the turn's first, and of which kind such reports are
 abbrev pub notice_line : ℕ → ℕ → List ℕ
-notice_line turn client = codes "notice" ++ (spaced_number turn ++ (spaced_number client ++ codes "\n"))
+notice_line turn client = codes "notice" ++ (spaced_number turn ++ (spaced_number client ++ (report_kind turn ++ codes "\n")))
 
 -- an event: for a state that a client came to, its turn and its digest
 abbrev pub event_line : Event → List ℕ

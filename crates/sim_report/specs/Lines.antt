@@ -1,6 +1,7 @@
 -- The texts of one piece: how the program is called, and the lines that name a turn by its digest.
-use Rattle.std.specs.Prelude.{ℕ, List, ◌++◌, codes, decimal}
+use Rattle.std.specs.Prelude.{ℕ, List, ◌++◌, if◌then◌else◌, codes, decimal}
 use Rattle.hex.specs.Hex.{encode_lower}
+use Rattle.sim_base.specs.Spelling.{is_full_turn}
 
 -- how the program is called
 abbrev pub usage_text : List ℕ
@@ -14,6 +15,10 @@ usage_text =
     (codes "       simcore compare MATCH A B\n" ++
     (codes "       simcore show MATCH STATE\n" ++
     codes "       simcore trial SEED UNITS TURNS\n")))))))
+
+-- whether a report of a turn carries a whole or a quick digest
+abbrev pub report_kind : ℕ → List ℕ
+report_kind turn = if is_full_turn turn then codes " full" else codes " quick"
 
 -- a number behind a space
 abbrev pub spaced_number : ℕ → List ℕ

@@ -2,7 +2,7 @@
 use Rattle.std.specs.Prelude.{ℕ, List, ◌++◌, Option, Some, None, codes, decimal}
 use Rattle.hex.specs.Hex.{encode_lower}
 use Rattle.sim_codec.specs.declared.bits.Part.{Part}
-use Rattle.sim_codec.specs.declared.bits.Part.TheVariants.{Clock, Entity, Position, Owner, Health, Motion, Attack}
+use Rattle.sim_codec.specs.declared.bits.Part.TheVariants.{Clock, Entity, Position, Owner, Health, Motion, Attack, Stance}
 use Rattle.sim_diff.specs.declared.place.Place.{Place}
 
 -- how a part is printed
@@ -14,6 +14,7 @@ part_name Owner = codes "Owner"
 part_name Health = codes "Health"
 part_name Motion = codes "Motion"
 part_name Attack = codes "Attack"
+part_name Stance = codes "Stance"
 
 -- a side, and the bytes that it has in hexadecimal, if it has any
 abbrev pub bits_line : List ℕ → Option (List ℕ) → List ℕ

@@ -1,5 +1,5 @@
 -- A state as text: a line of its clock, and a line of each row with the parts that the row has.
-use Rattle.std.specs.Prelude.{ℕ, ◌<◌, ℤ, List, [], ◌++◌, length, flat_map, Option, Some, None, option_map, unwrap_or, if◌then◌else◌, codes, decimal}
+use Rattle.std.specs.Prelude.{ℕ, ◌<◌, Bool, ℤ, List, [], ◌++◌, length, flat_map, Option, Some, None, option_map, unwrap_or, if◌then◌else◌, codes, decimal}
 use Rattle.sim_base.specs.declared.place.Point.{Point}
 use Rattle.sim_base.specs.declared.template.Template.{Template}
 use Rattle.sim_base.specs.declared.setup.Setup.{Setup}
@@ -45,10 +45,14 @@ motion_text (Some (Going goal way whole)) =
     (codes " way " ++ (decimal (length way) ++
     (codes " whole " ++ decimal (if whole then 1 else 0)))))
 
--- whom it attacks, and the turns until it may hit again, if it can
+-- said of who holds its place
+abbrev pub hold_text : Bool → List ℕ
+hold_text hold = if hold then codes " hold" else []
+
+-- whom it attacks, the turns until it may hit again, and whether it holds its place, if it can
 abbrev pub attack_text : Option Aim → List ℕ
 attack_text None = []
-attack_text (Some aim) = codes " attack target " ++ (decimal aim.target ++ (codes " cooldown " ++ decimal aim.cooldown))
+attack_text (Some aim) = codes " attack target " ++ (decimal aim.target ++ (codes " cooldown " ++ (decimal aim.cooldown ++ hold_text aim.hold)))
 
 -- what each row has: its id, its template by name, its owner, and before its place
 abbrev pub row_head : Setup → Row → List ℕ

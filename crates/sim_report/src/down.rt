@@ -2,8 +2,9 @@
 
 ghost use Rattle.std.specs.Prelude.{◌≡◌, ◌++◌, length, take, flat_map, codes, decimal, OnOk, OnErr, string_bytes};
 ghost use Rattle.sim_report.specs.Show.{point_text};
-ghost use Rattle.sim_report.specs.Downs.{next_id, ids_text, command_text, order_text, down_text};
+ghost use Rattle.sim_report.specs.Downs.{next_id, ids_text, command_text, order_text, notice_text, down_text};
 
+use crate::line::report_kind;
 use crate::show::write_point;
 use sim_base::{Command, Ids, OutOfMemory, PlayerCommand, Point, push_decimal};
 use sim_wire::Down;
@@ -39,12 +40,19 @@ pub fn append_down(message: &Down, out: &mut String) -> Result<(), OutOfMemory>
             append_order(order, out)
         }
         Down::Release { turn } => append_number("release ", u64::from(*turn), out),
-        Down::Notice { turn, client } => {
-            append_number("notice ", u64::from(*turn), out)?;
-            append_number(" ", u64::from(*client), out)
-        }
+        Down::Notice { turn, client } => append_notice(*turn, *client, out),
         Down::Refused { code } => append_number("refused ", u64::from(*code), out),
     }
+}
+
+fn append_notice(turn: u32, client: u8, out: &mut String) -> Result<(), OutOfMemory>
+    ensures ok { OnOk result (string_bytes out.new ≡ string_bytes out.old ++ notice_text turn client) }
+    ensures err { OnErr result (take (length (string_bytes out.old)) (string_bytes out.new) ≡ string_bytes out.old) }
+{
+    append_number("notice ", u64::from(turn), out)?;
+    append_number(" ", u64::from(client), out)?;
+    out.push_str(report_kind(turn))?;
+    Ok(())
 }
 
 /// Appends a word and a number.

@@ -4,7 +4,7 @@ ghost use Rattle.std.specs.Prelude.{◌≡◌, ◌++◌, length, take, OnOk, OnE
 ghost use Rattle.sim_report.specs.Lines.{turn_line};
 ghost use Rattle.sim_report.specs.Events.{client_text, number_line, notice_line, event_line};
 
-use crate::line::{append_number, append_turn};
+use crate::line::{append_number, append_turn, report_kind};
 use sim_base::{Event, OutOfMemory};
 
 /// Appends the line of an event, or leaves the text as it was.
@@ -108,6 +108,7 @@ fn append_notice(turn: u32, client: u8, out: &mut String) -> Result<(), OutOfMem
     out.push_str("notice")?;
     append_number(u64::from(turn), out)?;
     append_number(u64::from(client), out)?;
+    out.push_str(report_kind(turn))?;
     out.push_str("\n")?;
     Ok(())
 }

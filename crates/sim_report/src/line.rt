@@ -1,10 +1,11 @@
 //! The texts of one piece: how the program is called, and the lines that name a turn by its digest.
 
 ghost use Rattle.std.specs.Prelude.{◌≡◌, ◌++◌, length, take, OnOk, OnErr, string_bytes};
-ghost use Rattle.sim_report.specs.Lines.{usage_text, spaced_number, line_end, turn_line, saved_line};
+ghost use Rattle.sim_report.specs.Lines.{usage_text, report_kind as kind_of_report, spaced_number, line_end, turn_line, saved_line};
 
 use sim_base::{OutOfMemory, push_decimal};
 use sim_bytes::push_hex;
+use sim_codec::is_full_turn;
 
 const USAGE: &str = "usage: simcore play MATCH
        simcore state MATCH TURN OUT
@@ -24,6 +25,17 @@ pub fn push_usage(out: &mut String) -> Result<(), OutOfMemory>
 {
     out.push_str(USAGE)?;
     Ok(())
+}
+
+/// Whether a report of a turn carries a whole or a quick digest, behind a space.
+pub fn report_kind(turn: u32) -> &'static str
+    ensures { result.now ≡ kind_of_report turn }
+{
+    if is_full_turn(turn) {
+        " full"
+    } else {
+        " quick"
+    }
 }
 
 /// Appends the line of a turn that a command's word, as `turn` or `first`, stands before, or leaves the text as it was.

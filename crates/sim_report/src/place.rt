@@ -42,6 +42,7 @@ pub fn part_name(part: Part) -> &'static str
         Part::Health => "Health",
         Part::Motion => "Motion",
         Part::Attack => "Attack",
+        Part::Stance => "Stance",
     }
 }
 

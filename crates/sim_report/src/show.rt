@@ -2,7 +2,7 @@
 
 ghost use Rattle.std.specs.Prelude.{◌≡◌, ◌++◌, All, length, take, OnOk, OnErr, string_bytes};
 ghost use Rattle.sim_base.specs.NumberText.{text_of};
-ghost use Rattle.sim_report.specs.Show.{HasTemplate, show_text, clock_line, row_line, row_head, point_text, health_text, motion_text, attack_text};
+ghost use Rattle.sim_report.specs.Show.{HasTemplate, show_text, clock_line, row_line, row_head, point_text, health_text, motion_text, hold_text, attack_text};
 
 use sim_base::{Aim, Fixed, Motion, OutOfMemory, Point, Row, Setup, State};
 
@@ -153,6 +153,14 @@ fn write_attack(attack: Option<Aim>, line: &mut String) -> Result<(), OutOfMemor
             " attack target {} cooldown {}",
             aim.target, aim.cooldown
         )?;
+        line.push_str(hold_word(aim.hold))?;
     }
     Ok(())
+}
+
+// What is said of who holds its place.
+fn hold_word(hold: bool) -> &'static str
+    ensures { result.now ≡ hold_text hold }
+{
+    if hold { " hold" } else { "" }
 }

@@ -7,10 +7,10 @@ use Rattle.sim_bytes.specs.Reading.{Reader}
 use Rattle.sim_base.specs.declared.place.Point.{Point}
 use Rattle.sim_base.specs.declared.state.Motion.{Motion}
 use Rattle.sim_base.specs.declared.state.Motion.TheVariants.{Still, Going}
-use Rattle.sim_base.specs.Spelling.{entity_bytes, position_bytes, owner_bytes, health_bytes, attack_bytes, moving_bytes, motion_bytes, point_bytes}
+use Rattle.sim_base.specs.Spelling.{entity_bytes, position_bytes, owner_bytes, health_bytes, attack_bytes, stance_bytes, moving_bytes, motion_bytes, point_bytes}
 use Rattle.sim_bytes.specs.Numbers.{u16_back, u32_back, i32_back}
 use Rattle.sim_base.specs.Bytes.{u16_bytes, u32_bytes, i32_bytes, flag_bytes}
-use Rattle.sim_sections.specs.Rows.{IsEntity, entity_at, IsPosition, position_at, IsOwner, owner_at, IsHealth, health_at, IsAttack, attack_at, IsPoint, IsMotion, IsMoving, point_at, points_at, motion_at, moving_at}
+use Rattle.sim_sections.specs.Rows.{IsEntity, entity_at, IsPosition, position_at, IsOwner, owner_at, IsHealth, health_at, IsAttack, attack_at, IsStance, stance_at, IsPoint, IsMotion, IsMoving, point_at, points_at, motion_at, moving_at}
 
 -- where rows are read back, no row's bytes begin another's
 pub prefix_nil : {X : Type 0} (at : Reader X) (spelled : X → List ℕ) (IsRow : X → Type 0) → ((row : X) (rest : List ℕ) → IsRow row → at (spelled row ++ rest) ≡ Some (row, rest))
@@ -55,15 +55,20 @@ attack_back r rest fits =
     append_assoc (u32_bytes r.0) (u32_bytes r.1.0 ++ u16_bytes r.1.1) rest ∙ ap (λ (x : List ℕ). u32_bytes r.0 ++ x) (append_assoc (u32_bytes r.1.0) (u16_bytes r.1.1) rest) in
     ap attack_at regrouped ∙ rw (u32_back r.0 (u32_bytes r.1.0 ++ (u16_bytes r.1.1 ++ rest)) fits.id, u32_back r.1.0 (u16_bytes r.1.1 ++ rest) fits.target, u16_back r.1.1 rest fits.cooldown) refl
 
+flag_back : (flag : Bool) → not (eqb (cond flag 1 0) 0) ≡ flag
+flag_back true = refl
+flag_back false = refl
+
+pub stance_back : (r : ℕ × Bool) (rest : List ℕ) → IsStance r → stance_at (stance_bytes r ++ rest) ≡ Some (r, rest)
+unfolding stance_at
+stance_back r rest fits =
+    ap stance_at (append_assoc (u32_bytes r.0) (flag_bytes r.1) rest) ∙ rw (u32_back r.0 (flag_bytes r.1 ++ rest) fits.id, flag_back r.1) refl
+
 pub points_back : (ps : List Point) (rest : List ℕ) → AllByRecursion IsPoint ps → points_at (length ps) (flat_map point_bytes ps ++ rest) ≡ Some (ps, rest)
 unfolding points_at
 points_back [] rest fits = refl
 points_back (p ∷ ps) rest fits =
     ap (points_at (length (p ∷ ps))) (append_assoc (point_bytes p) (flat_map point_bytes ps) rest) ∙ rw (point_back p (flat_map point_bytes ps ++ rest) fits.0, points_back ps rest fits.1) refl
-
-flag_back : (whole : Bool) → not (eqb (cond whole 1 0) 0) ≡ whole
-flag_back true = refl
-flag_back false = refl
 
 going_back : (goal : Point) (way : List Point) (whole : Bool) (rest : List ℕ) → IsMotion (Going goal way whole)
     → motion_at (1 ∷ (point_bytes goal ++ (flag_bytes whole ++ length way ∷ (flat_map point_bytes way ++ rest)))) ≡ Some (Going goal way whole, rest)

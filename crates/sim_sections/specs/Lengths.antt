@@ -7,7 +7,7 @@ use Rattle.sim_base.specs.declared.state.Motion.{Motion}
 use Rattle.sim_base.specs.declared.state.Motion.TheVariants.{Still, Going}
 use Rattle.sim_base.specs.declared.state.Row.{Row}
 use Rattle.sim_base.specs.Bytes.{u16_bytes, u32_bytes, i32_bytes, flag_bytes}
-use Rattle.sim_base.specs.Spelling.{entity_bytes, entity_part, position_bytes, position_part, owner_bytes, owner_part, health_bytes, health_part, attack_bytes, attack_part, moving_bytes, motion_bytes, motion_part, point_bytes}
+use Rattle.sim_base.specs.Spelling.{entity_bytes, entity_part, position_bytes, position_part, owner_bytes, owner_part, health_bytes, health_part, attack_bytes, attack_part, stance_bytes, stance_part, moving_bytes, motion_bytes, motion_part, point_bytes}
 use Rattle.sim_bytes.specs.Numbers.{length-u16_bytes, length-u32_bytes, length-i32_bytes}
 use Rattle.sim_sections.specs.Rows.{with_id, IsShort, HasShortWay}
 
@@ -52,6 +52,9 @@ attack_few row short = always attack_bytes row.id (attack_part row) (λ x. omega
   length-u32_bytes x.0,
   length-u16_bytes x.1,
 ))
+
+pub stance_few : (row : Row) → HasShortWay row → IsFew stance_bytes (with_id stance_part row)
+stance_few row short = always stance_bytes row.id (stance_part row) (λ x. omega (arith, length-append (u32_bytes row.id) (flag_bytes x), length-u32_bytes row.id))
 
 length-motion_bytes : (m : Motion) → IsShort m → length (motion_bytes m) ≤ 523
 length-motion_bytes Still short =

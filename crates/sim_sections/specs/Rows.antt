@@ -117,3 +117,13 @@ pub record IsAttack (r : ℕ × (ℕ × ℕ)) : Type 0 where
 -- reads an id, a target and a cooldown
 unfoldable pub attack_at : Reader (ℕ × (ℕ × ℕ))
 attack_at bytes = number_at w32 bytes >>= λ id. number_at w32 id.1 >>= λ target. number_at w16 target.1 >>= λ cooldown. Some ((id.0, (target.0, cooldown.0)), cooldown.1)
+
+-- ---- stance
+
+-- the id fits its bytes
+pub record IsStance (r : ℕ × Bool) : Type 0 where
+  pub id : r.0 < 2 ^ 32
+
+-- reads an id and whether it holds; every byte but 0 is read as yes
+unfoldable pub stance_at : Reader (ℕ × Bool)
+stance_at bytes = number_at w32 bytes >>= λ id. byte_at id.1 >>= λ hold. Some ((id.0, not (hold.0 == 0)), hold.1)

@@ -279,7 +279,7 @@ impl RowForm for HealthRow {
     ghost few_bytes = { health_few };
 }
 
-/// Whom an entity attacks, or 0, and the turns until it may hit again. Whether it holds its place is not stored.
+/// Whom an entity attacks, or 0, and the turns until it may hit again.
 #[derive(Drop)]
 pub struct AttackRow {
     pub id: u32,
@@ -353,4 +353,74 @@ impl RowForm for AttackRow {
     ghost no_prefix = { prefix_nil attack_at attack_bytes IsAttack attack_back };
 
     ghost few_bytes = { attack_few };
+}
+
+/// Whether an entity that can attack holds its place.
+#[derive(Drop)]
+pub struct StanceRow {
+    pub id: u32,
+    pub hold: bool,
+}
+
+impl Model for StanceRow {
+    ghost use Rattle.std.specs.Prelude.{ℕ, Bool};
+
+    ghost Value = { ℕ × Bool };
+
+    ghost view = { λ row. (row.id, row.hold) };
+}
+
+impl RowForm for StanceRow {
+    ghost use Rattle.sim_base.specs.Spelling.{stance_bytes, stance_part};
+    ghost use Rattle.sim_sections.specs.Rows.{with_id, IsStance, stance_at};
+    ghost use Rattle.sim_sections.specs.Laws.{stance_back, prefix_nil};
+    ghost use Rattle.sim_sections.specs.Lengths.{stance_few};
+
+    const TAG: u8 = 7;
+
+    ghost TAG = { 7 };
+
+    ghost is_row = { IsStance };
+
+    ghost spelled = { stance_bytes };
+
+    ghost row_at = { stance_at };
+
+    ghost in_row = { with_id stance_part };
+
+    fn of(row: &Row) -> Option<StanceRow> {
+        match row.attack {
+            None => None,
+            Some(aim) => Some(StanceRow {
+                id: row.id,
+                hold: aim.hold,
+            }),
+        }
+    }
+
+    fn is_in(row: &Row) -> bool {
+        row.attack.is_some()
+    }
+
+    #[tactic(auto, unfolding(crate::specs::Rows::stance_at))]
+    fn take(from: &mut Take<'_>) -> Result<StanceRow, Short> {
+        let id = from.u32()?;
+        let hold = from.u8()?;
+        Ok(StanceRow {
+            id,
+            hold: hold != 0,
+        })
+    }
+
+    #[tactic(auto, unfolding(sim_base::specs::Bytes::u32_bytes))]
+    fn tell<K: ByteSink>(&self, out: &mut K) -> Result<(), K::Fault> {
+        let [a, b, c, d] = self.id.to_le_bytes();
+        out.tell(&[a, b, c, d, u8::from(self.hold)])
+    }
+
+    ghost read_back = { stance_back };
+
+    ghost no_prefix = { prefix_nil stance_at stance_bytes IsStance stance_back };
+
+    ghost few_bytes = { stance_few };
 }

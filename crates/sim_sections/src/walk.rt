@@ -3,24 +3,27 @@
 
 ghost use Rattle.std.specs.Prelude.{◌≡◌};
 ghost use Rattle.sim_bytes.specs.Reading.{Reads};
-ghost use Rattle.sim_sections.specs.Walking.{sections_at, parts_at, Walks};
+ghost use Rattle.sim_sections.specs.Walking.{stances_at, sections_at, parts_at, aim_of, holds as is_held, Walks};
 
 use crate::form::RowForm;
 use crate::motion::MotionRow;
-use crate::rows::{AttackRow, EntityRow, HealthRow, OwnerRow, PositionRow};
+use crate::rows::{AttackRow, EntityRow, HealthRow, OwnerRow, PositionRow, StanceRow};
 use crate::section::{open_section, take_if};
-use sim_base::Template;
+use crate::version::Version;
+use sim_base::{Aim, Template};
 use sim_bytes::{Short, Take};
 
-/// A reader at a row of each section.
+/// A reader at a row of each section. In version 1 none is taken from the section of stances.
 #[derive(Drop)]
 pub struct Walk<'a> {
+    pub version: Version,
     pub entity: Take<'a>,
     pub position: Take<'a>,
     pub owner: Take<'a>,
     pub health: Take<'a>,
     pub motion: Take<'a>,
     pub attack: Take<'a>,
+    pub stance: Take<'a>,
 }
 
 /// What stands of one entity in each section.
@@ -32,12 +35,52 @@ pub struct Parts {
     pub health: Option<HealthRow>,
     pub motion: Option<MotionRow>,
     pub attack: Option<AttackRow>,
+    pub stance: Option<StanceRow>,
+}
+
+impl Parts {
+    fn holds(&self) -> bool
+        ensures { result ≡ is_held self.now.stance }
+    {
+        match &self.stance {
+            None => false,
+            Some(stance) => stance.hold,
+        }
+    }
+
+    /// Whom the entity attacks, if it can attack. Where nothing is said of its stance, it does not hold its place.
+    pub fn aim(&self) -> Option<Aim>
+        ensures { result ≡ aim_of self.now }
+    {
+        match &self.attack {
+            None => None,
+            Some(attack) => Some(Aim {
+                target: attack.target,
+                cooldown: attack.cooldown,
+                hold: self.holds(),
+            }),
+        }
+    }
+}
+
+// Passes over the section of stances, if the version has it: a reader at its first row.
+#[tactic(auto, unfolding(crate::specs::Walking::stances_at))]
+fn open_stances<'a>(version: Version, from: &mut Take<'a>) -> Result<Take<'a>, Short>
+    ensures { Reads (stances_at version) from.old result from.new }
+{
+    match version {
+        Version::One => Ok(from.fork()),
+        Version::Two => {
+            let (_, start) = open_section::<StanceRow>(from)?;
+            Ok(start)
+        }
+    }
 }
 
 /// Passes over the sections: how many entities there are, and a reader at the first row of each section.
 #[tactic(auto, unfolding(crate::specs::Walking::sections_at))]
-pub fn locate<'a>(from: &mut Take<'a>) -> Result<(u32, Walk<'a>), Short>
-    ensures { Reads sections_at from.old result from.new }
+pub fn locate<'a>(version: Version, from: &mut Take<'a>) -> Result<(u32, Walk<'a>), Short>
+    ensures { Reads (sections_at version) from.old result from.new }
 {
     let (count, entity) = open_section::<EntityRow>(from)?;
     let (_, position) = open_section::<PositionRow>(from)?;
@@ -45,15 +88,18 @@ pub fn locate<'a>(from: &mut Take<'a>) -> Result<(u32, Walk<'a>), Short>
     let (_, health) = open_section::<HealthRow>(from)?;
     let (_, motion) = open_section::<MotionRow>(from)?;
     let (_, attack) = open_section::<AttackRow>(from)?;
+    let stance = open_stances(version, from)?;
     Ok((
         count,
         Walk {
+            version,
             entity,
             position,
             owner,
             health,
             motion,
             attack,
+            stance,
         },
     ))
 }
@@ -72,7 +118,9 @@ pub fn take_parts(templates: &[Template], walk: &mut Walk<'_>) -> Result<Parts, 
     let owner = OwnerRow::take(&mut walk.owner)?;
     let health = take_if::<HealthRow>(&mut walk.health, template.health.is_some())?;
     let motion = take_if::<MotionRow>(&mut walk.motion, template.speed.is_some())?;
-    let attack = take_if::<AttackRow>(&mut walk.attack, template.arms.is_some())?;
+    let has_arms = template.arms.is_some();
+    let attack = take_if::<AttackRow>(&mut walk.attack, has_arms)?;
+    let stance = take_if::<StanceRow>(&mut walk.stance, walk.version.has_stances() && has_arms)?;
     Ok(Parts {
         entity,
         position,
@@ -80,5 +128,6 @@ pub fn take_parts(templates: &[Template], walk: &mut Walk<'_>) -> Result<Parts, 
         health,
         motion,
         attack,
+        stance,
     })
 }

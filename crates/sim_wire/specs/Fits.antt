@@ -12,9 +12,9 @@ use Rattle.sim_plain.specs.declared.message.DownOf.TheVariants as down
 use Rattle.sim_sections.specs.Rows.{IsPoint}
 use Rattle.sim_wire.specs.Frames.{up_frame, down_frame}
 
--- how many bytes a state has at most: 70, and 568 for each of 4,096 rows
+-- how many bytes a state has at most: 75, and 573 for each of 4,096 rows
 abbrev pub state_limit : ℕ
-state_limit = 2326598
+state_limit = 2347083
 
 -- the bytes of a state are not more than any state has
 abbrev pub IsShortState : List ℕ → Type 0

@@ -1,11 +1,13 @@
--- A spelling stands for its state.
-use Rattle.std.proofs.Common.{refl, drop}
-use Rattle.sim_base.specs.Spelling.{spelling}
-use Rattle.sim_codec.proofs.Standing.{stands_head, stands_read}
+-- Each spelling stands for its state.
+use Rattle.std.proofs.Common.{refl, inl, inr}
+use Rattle.sim_base.specs.Spelling.{spelling, old_spelling}
+use Rattle.sim_codec.proofs.Standing.{stands_head, spelling_read, old_spelling_read}
 use Rattle.sim_codec.proofs.laws.spellings_are_read_back.Goals as goal
 
 pub returns : goal.returns
 returns c = record {
-  head = λ setup state is valid. stands_head setup (spelling setup state) state is.id (record { valid = valid; spelled = refl });
-  state = λ setup state is valid. stands_read setup (spelling setup state) (drop 24 (spelling setup state)) state is refl (record { valid = valid; spelled = refl });
+  head = λ setup state is valid. stands_head setup (spelling setup state) state is.id (record { valid = valid; spelled = inl refl });
+  state = spelling_read;
+  old_head = λ setup state is valid none. stands_head setup (old_spelling setup state) state is.id (record { valid = valid; spelled = inr (none, refl) });
+  old_state = old_spelling_read;
 }

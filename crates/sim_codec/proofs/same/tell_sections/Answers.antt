@@ -1,4 +1,4 @@
--- Six pieces, one behind the other.
+-- Seven pieces, one behind the other.
 use Rattle.sim_codec.proofs.Told.{first}
 use Rattle.sim_codec.proofs.same.tell_sections.Goals as goal
 
@@ -8,4 +8,5 @@ returns g c =
     (first g.K.ByteSink.holds _ _ _ _ _ _ c.in_ok-tell_section-2.ensures
     (first g.K.ByteSink.holds _ _ _ _ _ _ c.in_ok-tell_section-3.ensures
     (first g.K.ByteSink.holds _ _ _ _ _ _ c.in_ok-tell_section-4.ensures
-    (first g.K.ByteSink.holds _ _ _ _ _ _ c.in_ok-tell_section-5.ensures c.tell_section-6.ensures))))
+    (first g.K.ByteSink.holds _ _ _ _ _ _ c.in_ok-tell_section-5.ensures
+    (first g.K.ByteSink.holds _ _ _ _ _ _ c.in_ok-tell_section-6.ensures c.tell_stances.ensures)))))

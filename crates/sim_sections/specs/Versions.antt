@@ -1,0 +1,14 @@
+-- The versions of the layout of a stored state.
+use Rattle.std.specs.Prelude.{ℕ, Bool, true, false}
+use Rattle.sim_sections.specs.declared.version.Version.{Version}
+use Rattle.sim_sections.specs.declared.version.Version.TheVariants.{One, Two}
+
+-- the number that stands behind the magic
+abbrev pub number_of : Version → ℕ
+number_of One = 1
+number_of Two = 2
+
+-- version 2 says who holds its place
+abbrev pub has_stances : Version → Bool
+has_stances One = false
+has_stances Two = true
