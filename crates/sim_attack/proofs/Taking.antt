@@ -1,13 +1,13 @@
 -- The target of a row is the nearest enemy that it sees, where it may take that one, and else none: if the nearest is out of the
 -- range of a row that holds its place, so are all others.
-use Rattle.std.proofs.Common.{◌≡◌, ℕ, ◌*◌, ◌≤◌, Bool, true, false, cond, not, leb, List, [], ◌∷◌, Option, Some, None, refl, sym, ap, ◌∙◌, arith, le-leb}
+use Rattle.std.proofs.Common.{◌≡◌, ℕ, ◌*◌, ◌≤◌, Bool, true, false, cond, not, List, [], ◌∷◌, Option, Some, None, refl, sym, ap, ◌∙◌, arith}
 use Rattle.std.specs.Prelude.{◌||◌, nat_le, unsigned_abs, unwrap_or}
 use Rattle.std.proofs.lemmas.Map.Entries.{option_filter}
 use Rattle.sim_base.specs.declared.template.Arms.{Arms}
 use Rattle.sim_base.specs.declared.setup.Setup.{Setup}
 use Rattle.sim_base.specs.declared.state.Row.{Row}
 use Rattle.sim_base.specs.declared.state.State.{State}
-use Rattle.sim_base.specs.Least.{is_before, least_of}
+use Rattle.sim_base.specs.Least.{least_of}
 use Rattle.sim_base.specs.Rows.{is_holding}
 use Rattle.sim_base.specs.Filters.{seen}
 use Rattle.sim_base.specs.Aim.{square_to, may_take, target_for}

@@ -51,12 +51,7 @@ fn push_sent(alloc: Global, changes: &mut Changes, to: &Point, row: &Row) -> Res
 }
 
 /// The player's rows that are named are released, and those that can attack hold their places.
-pub fn stopped(
-    alloc: Global,
-    rows: &[Row],
-    player: u8,
-    ids: &[u32],
-) -> Result<Changes, OutOfMemory>
+pub fn stopped(alloc: Global, rows: &[Row], player: u8, ids: &[u32]) -> Result<Changes, OutOfMemory>
     requires { IsNonDecreasing ids.now }
     ensures { IfOk result (λ changes. changes ≡ flat_map (λ row. if is_ordered_by player ids.now row then stop_changes row else []) rows.now) }
 {

@@ -1,6 +1,6 @@
 -- That changes fit in order and give a state, and that they are a player's own, has one proof at most. So a struct may keep
 -- these facts.
-use Rattle.std.proofs.Common.{◌≡◌, ℕ, ◌<◌, ◌≤◌, true, false, List, [], ◌∷◌, sym, ap, ◌∙◌, inl, inr, arith, All}
+use Rattle.std.proofs.Common.{◌≡◌, ℕ, ◌<◌, ◌≤◌, true, List, [], ◌∷◌, sym, ap, ◌∙◌, inl, inr, arith, All}
 use Rattle.std.specs.Prelude.{IsTrue, ◌⊎◌, ◌≢◌}
 use Rattle.std.proofs.Props.{props}
 use base.Stored.{Coded-set}
