@@ -148,12 +148,12 @@ fn write_attack(attack: Option<Aim>, line: &mut String) -> Result<(), OutOfMemor
     ensures { OnOk result (string_bytes line.new ≡ string_bytes line.old ++ attack_text attack) }
 {
     if let Some(aim) = attack {
+        let hold = hold_word(aim.hold);
         write!(
             line,
-            " attack target {} cooldown {}",
+            " attack target {} cooldown {}{hold}",
             aim.target, aim.cooldown
         )?;
-        line.push_str(hold_word(aim.hold))?;
     }
     Ok(())
 }
