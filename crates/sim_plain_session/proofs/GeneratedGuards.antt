@@ -24,7 +24,11 @@ fencer = record guard {
 }
 
 abbrev match : Setup
-match = record (setup_of (134 ∷ 110 ∷ 69 ∷ 135 ∷ 90 ∷ 244 ∷ 180 ∷ 92 ∷ 212 ∷ 32 ∷ 8 ∷ 201 ∷ 127 ∷ 207 ∷ 69 ∷ 20 ∷ []) 16 (0 ∷ 4 ∷ 2 ∷ []) 2 0 (fencer ∷ []) (first 0 1 (mid 5 5) ∷ first 0 2 (mid 6 5) ∷ first 0 2 (mid 7 5) ∷ first 0 1 (mid 12 12) ∷ [])) { delay = 2; turns = 6 }
+match =
+    record (setup_of
+    (134 ∷ 110 ∷ 69 ∷ 135 ∷ 90 ∷ 244 ∷ 180 ∷ 92 ∷ 212 ∷ 32 ∷ 8 ∷ 201 ∷ 127 ∷ 207 ∷ 69 ∷ 20 ∷ [])
+    16 (0 ∷ 4 ∷ 2 ∷ []) 2 0 (fencer ∷ [])
+    (first 0 1 (mid 5 5) ∷ first 0 2 (mid 6 5) ∷ first 0 2 (mid 7 5) ∷ first 0 1 (mid 12 12) ∷ [])) { delay = 2; turns = 6 }
 
 -- ---- the digests that are printed
 

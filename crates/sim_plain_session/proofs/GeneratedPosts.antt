@@ -15,7 +15,11 @@ use Rattle.sim_plain_session.specs.Printed.{session_events}
 use Rattle.sim_plain_session.proofs.Left.{left}
 
 abbrev match : Setup
-match = record (setup_of (26 ∷ 25 ∷ 76 ∷ 23 ∷ 190 ∷ 203 ∷ 241 ∷ 127 ∷ 252 ∷ 166 ∷ 252 ∷ 145 ∷ 140 ∷ 244 ∷ 183 ∷ 237 ∷ []) 16 (0 ∷ 0 ∷ 0 ∷ 0 ∷ []) 3 0 (walker ∷ post ∷ []) (first 0 1 (mid 2 2) ∷ first 0 2 (mid 2 8) ∷ first 1 3 (at_metre 10) ∷ [])) { delay = 1; turns = 4 }
+match =
+    record (setup_of
+    (26 ∷ 25 ∷ 76 ∷ 23 ∷ 190 ∷ 203 ∷ 241 ∷ 127 ∷ 252 ∷ 166 ∷ 252 ∷ 145 ∷ 140 ∷ 244 ∷ 183 ∷ 237 ∷ [])
+    16 (0 ∷ 0 ∷ 0 ∷ 0 ∷ []) 3 0 (walker ∷ post ∷ [])
+    (first 0 1 (mid 2 2) ∷ first 0 2 (mid 2 8) ∷ first 1 3 (at_metre 10) ∷ [])) { delay = 1; turns = 4 }
 
 -- ---- the digests that are printed
 

@@ -15,7 +15,11 @@ use Rattle.sim_plain_session.specs.Printed.{session_events}
 use Rattle.sim_plain_session.proofs.Left.{left}
 
 abbrev match : Setup
-match = record (setup_of (185 ∷ 92 ∷ 149 ∷ 34 ∷ 182 ∷ 155 ∷ 102 ∷ 103 ∷ 93 ∷ 36 ∷ 203 ∷ 160 ∷ 36 ∷ 42 ∷ 160 ∷ 55 ∷ []) 16 (0 ∷ 0 ∷ 0 ∷ 0 ∷ 0 ∷ []) 4 3 (walker ∷ barracks ∷ []) (first 1 1 (mid 5 5) ∷ first 1 2 (mid 10 10) ∷ [])) { delay = 3; turns = 8 }
+match =
+    record (setup_of
+    (185 ∷ 92 ∷ 149 ∷ 34 ∷ 182 ∷ 155 ∷ 102 ∷ 103 ∷ 93 ∷ 36 ∷ 203 ∷ 160 ∷ 36 ∷ 42 ∷ 160 ∷ 55 ∷ [])
+    16 (0 ∷ 0 ∷ 0 ∷ 0 ∷ 0 ∷ []) 4 3 (walker ∷ barracks ∷ [])
+    (first 1 1 (mid 5 5) ∷ first 1 2 (mid 10 10) ∷ [])) { delay = 3; turns = 8 }
 
 -- ---- the digests that are printed
 
@@ -60,7 +64,12 @@ unfolding digest quick u16_bytes u32_bytes u64_bytes i32_bytes block_words round
 events_0 = refl
 
 left_0 : left match (session match 4 steps_0)
-    ≡ record { statuses = In 3 ∷ In 3 ∷ In 3 ∷ Waiting 1 ∷ []; released = 3; kept = 0 ∷ 0 ∷ 0 ∷ 2 ∷ 0 ∷ 0 ∷ 0 ∷ 0 ∷ []; ups = 5 ∷ 3 ∷ 0 ∷ 0 ∷ []; downs = 2 ∷ 2 ∷ 1 ∷ 0 ∷ [] }
+    ≡ record {
+      statuses = In 3 ∷ In 3 ∷ In 3 ∷ Waiting 1 ∷ []; released = 3;
+      kept = 0 ∷ 0 ∷ 0 ∷ 2 ∷ 0 ∷ 0 ∷ 0 ∷ 0 ∷ [];
+      ups = 5 ∷ 3 ∷ 0 ∷ 0 ∷ [];
+      downs = 2 ∷ 2 ∷ 1 ∷ 0 ∷ [];
+    }
 unfolding digest quick u16_bytes u32_bytes u64_bytes i32_bytes block_words rounds compress hash_after digest_bytes md5
 left_0 = refl
 
@@ -79,7 +88,12 @@ unfolding digest quick u16_bytes u32_bytes u64_bytes i32_bytes block_words round
 events_1 = refl
 
 left_1 : left match (session match 2 steps_1)
-    ≡ record { statuses = In 3 ∷ In 4 ∷ In 3 ∷ Out ∷ []; released = 3; kept = 0 ∷ 0 ∷ 0 ∷ 0 ∷ 0 ∷ 0 ∷ 0 ∷ 0 ∷ []; ups = 1 ∷ 4 ∷ 0 ∷ 0 ∷ []; downs = 0 ∷ 0 ∷ 0 ∷ 0 ∷ [] }
+    ≡ record {
+      statuses = In 3 ∷ In 4 ∷ In 3 ∷ Out ∷ []; released = 3;
+      kept = 0 ∷ 0 ∷ 0 ∷ 0 ∷ 0 ∷ 0 ∷ 0 ∷ 0 ∷ [];
+      ups = 1 ∷ 4 ∷ 0 ∷ 0 ∷ [];
+      downs = 0 ∷ 0 ∷ 0 ∷ 0 ∷ [];
+    }
 unfolding digest quick u16_bytes u32_bytes u64_bytes i32_bytes block_words rounds compress hash_after digest_bytes md5
 left_1 = refl
 
@@ -100,7 +114,12 @@ unfolding digest quick u16_bytes u32_bytes u64_bytes i32_bytes block_words round
 events_2 = refl
 
 left_2 : left match (session match 2 steps_2)
-    ≡ record { statuses = Out ∷ Waiting 4 ∷ Waiting 4 ∷ In 4 ∷ []; released = 4; kept = 0 ∷ 0 ∷ 0 ∷ 0 ∷ 2 ∷ 0 ∷ 0 ∷ 0 ∷ []; ups = 0 ∷ 0 ∷ 0 ∷ 1 ∷ []; downs = 0 ∷ 0 ∷ 0 ∷ 3 ∷ [] }
+    ≡ record {
+      statuses = Out ∷ Waiting 4 ∷ Waiting 4 ∷ In 4 ∷ []; released = 4;
+      kept = 0 ∷ 0 ∷ 0 ∷ 0 ∷ 2 ∷ 0 ∷ 0 ∷ 0 ∷ [];
+      ups = 0 ∷ 0 ∷ 0 ∷ 1 ∷ [];
+      downs = 0 ∷ 0 ∷ 0 ∷ 3 ∷ [];
+    }
 unfolding digest quick u16_bytes u32_bytes u64_bytes i32_bytes block_words rounds compress hash_after digest_bytes md5
 left_2 = refl
 
@@ -123,7 +142,12 @@ unfolding digest quick u16_bytes u32_bytes u64_bytes i32_bytes block_words round
 events_3 = refl
 
 left_3 : left match (session match 2 steps_3)
-    ≡ record { statuses = Out ∷ Out ∷ Out ∷ In 3 ∷ []; released = 3; kept = 0 ∷ 0 ∷ 0 ∷ 2 ∷ 0 ∷ 0 ∷ 0 ∷ 0 ∷ []; ups = 0 ∷ 1 ∷ 0 ∷ 0 ∷ []; downs = 0 ∷ 0 ∷ 0 ∷ 1 ∷ [] }
+    ≡ record {
+      statuses = Out ∷ Out ∷ Out ∷ In 3 ∷ []; released = 3;
+      kept = 0 ∷ 0 ∷ 0 ∷ 2 ∷ 0 ∷ 0 ∷ 0 ∷ 0 ∷ [];
+      ups = 0 ∷ 1 ∷ 0 ∷ 0 ∷ [];
+      downs = 0 ∷ 0 ∷ 0 ∷ 1 ∷ [];
+    }
 unfolding digest quick u16_bytes u32_bytes u64_bytes i32_bytes block_words rounds compress hash_after digest_bytes md5
 left_3 = refl
 
@@ -145,7 +169,12 @@ unfolding digest quick u16_bytes u32_bytes u64_bytes i32_bytes block_words round
 events_4 = refl
 
 left_4 : left match (session match 1 steps_4)
-    ≡ record { statuses = In 6 ∷ Out ∷ Out ∷ In 5 ∷ []; released = 5; kept = 0 ∷ 0 ∷ 0 ∷ 1 ∷ 1 ∷ 0 ∷ 0 ∷ 0 ∷ []; ups = 2 ∷ 0 ∷ 0 ∷ 0 ∷ []; downs = 0 ∷ 0 ∷ 0 ∷ 2 ∷ [] }
+    ≡ record {
+      statuses = In 6 ∷ Out ∷ Out ∷ In 5 ∷ []; released = 5;
+      kept = 0 ∷ 0 ∷ 0 ∷ 1 ∷ 1 ∷ 0 ∷ 0 ∷ 0 ∷ [];
+      ups = 2 ∷ 0 ∷ 0 ∷ 0 ∷ [];
+      downs = 0 ∷ 0 ∷ 0 ∷ 2 ∷ [];
+    }
 unfolding digest quick u16_bytes u32_bytes u64_bytes i32_bytes block_words rounds compress hash_after digest_bytes md5
 left_4 = refl
 
@@ -168,7 +197,12 @@ unfolding digest quick u16_bytes u32_bytes u64_bytes i32_bytes block_words round
 events_5 = refl
 
 left_5 : left match (session match 1 steps_5)
-    ≡ record { statuses = In 7 ∷ Out ∷ In 7 ∷ Out ∷ []; released = 7; kept = 0 ∷ 0 ∷ 0 ∷ 0 ∷ 0 ∷ 1 ∷ 1 ∷ 3 ∷ []; ups = 2 ∷ 0 ∷ 0 ∷ 0 ∷ []; downs = 5 ∷ 0 ∷ 7 ∷ 0 ∷ [] }
+    ≡ record {
+      statuses = In 7 ∷ Out ∷ In 7 ∷ Out ∷ []; released = 7;
+      kept = 0 ∷ 0 ∷ 0 ∷ 0 ∷ 0 ∷ 1 ∷ 1 ∷ 3 ∷ [];
+      ups = 2 ∷ 0 ∷ 0 ∷ 0 ∷ [];
+      downs = 5 ∷ 0 ∷ 7 ∷ 0 ∷ [];
+    }
 unfolding digest quick u16_bytes u32_bytes u64_bytes i32_bytes block_words rounds compress hash_after digest_bytes md5
 left_5 = refl
 
@@ -193,7 +227,12 @@ unfolding digest quick u16_bytes u32_bytes u64_bytes i32_bytes block_words round
 events_6 = refl
 
 left_6 : left match (session match 1 steps_6)
-    ≡ record { statuses = Out ∷ In 4 ∷ In 5 ∷ In 3 ∷ []; released = 3; kept = 0 ∷ 0 ∷ 0 ∷ 0 ∷ 3 ∷ 0 ∷ 0 ∷ 0 ∷ []; ups = 1 ∷ 0 ∷ 6 ∷ 0 ∷ []; downs = 0 ∷ 1 ∷ 1 ∷ 3 ∷ [] }
+    ≡ record {
+      statuses = Out ∷ In 4 ∷ In 5 ∷ In 3 ∷ []; released = 3;
+      kept = 0 ∷ 0 ∷ 0 ∷ 0 ∷ 3 ∷ 0 ∷ 0 ∷ 0 ∷ [];
+      ups = 1 ∷ 0 ∷ 6 ∷ 0 ∷ [];
+      downs = 0 ∷ 1 ∷ 1 ∷ 3 ∷ [];
+    }
 unfolding digest quick u16_bytes u32_bytes u64_bytes i32_bytes block_words rounds compress hash_after digest_bytes md5
 left_6 = refl
 
@@ -219,7 +258,12 @@ unfolding digest quick u16_bytes u32_bytes u64_bytes i32_bytes block_words round
 events_7 = refl
 
 left_7 : left match (session match 1 steps_7)
-    ≡ record { statuses = Out ∷ In 7 ∷ In 7 ∷ Waiting 2 ∷ []; released = 7; kept = 0 ∷ 0 ∷ 0 ∷ 0 ∷ 0 ∷ 0 ∷ 0 ∷ 0 ∷ []; ups = 0 ∷ 2 ∷ 2 ∷ 0 ∷ []; downs = 0 ∷ 1 ∷ 0 ∷ 0 ∷ [] }
+    ≡ record {
+      statuses = Out ∷ In 7 ∷ In 7 ∷ Waiting 2 ∷ []; released = 7;
+      kept = 0 ∷ 0 ∷ 0 ∷ 0 ∷ 0 ∷ 0 ∷ 0 ∷ 0 ∷ [];
+      ups = 0 ∷ 2 ∷ 2 ∷ 0 ∷ [];
+      downs = 0 ∷ 1 ∷ 0 ∷ 0 ∷ [];
+    }
 unfolding digest quick u16_bytes u32_bytes u64_bytes i32_bytes block_words rounds compress hash_after digest_bytes md5
 left_7 = refl
 
@@ -246,7 +290,12 @@ unfolding digest quick u16_bytes u32_bytes u64_bytes i32_bytes block_words round
 events_8 = refl
 
 left_8 : left match (session match 1 steps_8)
-    ≡ record { statuses = Out ∷ Out ∷ Out ∷ Out ∷ []; released = 6; kept = 0 ∷ 0 ∷ 0 ∷ 2 ∷ 0 ∷ 0 ∷ 0 ∷ 0 ∷ []; ups = 0 ∷ 0 ∷ 0 ∷ 0 ∷ []; downs = 1 ∷ 0 ∷ 1 ∷ 0 ∷ [] }
+    ≡ record {
+      statuses = Out ∷ Out ∷ Out ∷ Out ∷ []; released = 6;
+      kept = 0 ∷ 0 ∷ 0 ∷ 2 ∷ 0 ∷ 0 ∷ 0 ∷ 0 ∷ [];
+      ups = 0 ∷ 0 ∷ 0 ∷ 0 ∷ [];
+      downs = 1 ∷ 0 ∷ 1 ∷ 0 ∷ [];
+    }
 unfolding digest quick u16_bytes u32_bytes u64_bytes i32_bytes block_words rounds compress hash_after digest_bytes md5
 left_8 = refl
 
@@ -275,6 +324,11 @@ unfolding digest quick u16_bytes u32_bytes u64_bytes i32_bytes block_words round
 events_9 = refl
 
 left_9 : left match (session match 1 steps_9)
-    ≡ record { statuses = Out ∷ Out ∷ Out ∷ Out ∷ []; released = 6; kept = 0 ∷ 0 ∷ 0 ∷ 0 ∷ 0 ∷ 1 ∷ 3 ∷ 0 ∷ []; ups = 0 ∷ 0 ∷ 0 ∷ 0 ∷ []; downs = 0 ∷ 0 ∷ 0 ∷ 0 ∷ [] }
+    ≡ record {
+      statuses = Out ∷ Out ∷ Out ∷ Out ∷ []; released = 6;
+      kept = 0 ∷ 0 ∷ 0 ∷ 0 ∷ 0 ∷ 1 ∷ 3 ∷ 0 ∷ [];
+      ups = 0 ∷ 0 ∷ 0 ∷ 0 ∷ [];
+      downs = 0 ∷ 0 ∷ 0 ∷ 0 ∷ [];
+    }
 unfolding digest quick u16_bytes u32_bytes u64_bytes i32_bytes block_words rounds compress hash_after digest_bytes md5
 left_9 = refl

@@ -16,10 +16,12 @@ use Rattle.sim_plain_session.specs.Clients.{state_of, digest_of, bent_seat}
 use Rattle.sim_plain_session.specs.Marks.{FullIsDigest, OthersAreQuick, BendsAreHidden}
 
 pub full_is_digest : FullIsDigest
-full_is_digest setup seat full = cond-true _ (digest_of setup seat) (quick (state_of setup seat)) (ap is_full_turn (after_counts_turns setup seat.past) ∙ full)
+full_is_digest setup seat full =
+    cond-true _ (digest_of setup seat) (quick (state_of setup seat)) (ap is_full_turn (after_counts_turns setup seat.past) ∙ full)
 
 pub others_are_quick : OthersAreQuick
-others_are_quick setup seat other = cond-false _ (digest_of setup seat) (quick (state_of setup seat)) (ap is_full_turn (after_counts_turns setup seat.past) ∙ other)
+others_are_quick setup seat other =
+    cond-false _ (digest_of setup seat) (quick (state_of setup seat)) (ap is_full_turn (after_counts_turns setup seat.past) ∙ other)
 
 -- rows stand where they stood
 places_stay : (id : ℕ) (health : ℤ) (rows : List Row)

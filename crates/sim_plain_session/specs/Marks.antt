@@ -16,4 +16,5 @@ OthersAreQuick = (setup : Setup) (seat : Seat) → is_full_turn (turns_in seat.p
 -- so a bend is in no report of its turn, unless that turn is full
 abbrev pub BendsAreHidden : Type 0
 BendsAreHidden =
-    (setup : Setup) (seat : Seat) (id : ℕ) (health : ℤ) → is_full_turn (turns_in seat.past) ≡ false → mark_of setup (bent_seat id health seat) ≡ mark_of setup seat
+    (setup : Setup) (seat : Seat) (id : ℕ) (health : ℤ) → is_full_turn (turns_in seat.past) ≡ false
+    → mark_of setup (bent_seat id health seat) ≡ mark_of setup seat
