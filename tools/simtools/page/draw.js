@@ -1,0 +1,229 @@
+// Draws a frame on a canvas. North is up; a point of the ground is in metres.
+const COLOURS = ['#8c8c8c', '#2166d1', '#e8820c', '#2f9e44', '#8b3fc4', '#0b9aa8', '#7a4a1c', '#e255a1', '#9a9a00'];
+const RED = '#ff0000', HURT = '#c9c9c9', WELL = '#33cc33';
+const MOST_POINTS = 20000;
+
+// Where the ground lies on the canvas: the metres at its lower left corner, and pixels a metre.
+class View {
+  constructor(canvas, size) { this.canvas = canvas; this.size = size; this.reset(); }
+
+  reset() {
+    const [width, depth] = this.size;
+    this.scale = Math.min(this.canvas.width / width, this.canvas.height / depth);
+    this.x = (width - this.canvas.width / this.scale) / 2;
+    this.z = (depth - this.canvas.height / this.scale) / 2;
+  }
+
+  across(x) { return (x - this.x) * this.scale; }
+  down(z) { return this.canvas.height - (z - this.z) * this.scale; }
+
+  point(event) {
+    const box = this.canvas.getBoundingClientRect();
+    const across = event.clientX - box.left, up = this.canvas.height - (event.clientY - box.top);
+    return [this.x + across / this.scale, this.z + up / this.scale];
+  }
+
+  move(pixelsAcross, pixelsDown) {
+    this.x -= pixelsAcross / this.scale;
+    this.z += pixelsDown / this.scale;
+  }
+
+  enlarge(factor, [x, z]) {
+    this.scale *= factor;
+    this.x = x - (x - this.x) / factor;
+    this.z = z - (z - this.z) / factor;
+  }
+}
+
+class Painter {
+  constructor(canvas, index) {
+    this.canvas = canvas;
+    this.index = index;
+    this.context = canvas.getContext('2d');
+    this.view = new View(canvas, index.size);
+    this.ways = this.targets = true;
+  }
+
+  isBuilding(frame, row) { return this.index.templates[frame.template[row]].width > 0; }
+
+  // The rectangle of a building in cells: its least corner and its sides.
+  cells(frame, row) {
+    const { width, depth } = this.index.templates[frame.template[row]];
+    const x = Math.floor(frame.x[row] / ONE) - Math.floor(width / 2);
+    const z = Math.floor(frame.z[row] / ONE) - Math.floor(depth / 2);
+    return [x, z, width, depth];
+  }
+
+  // Paints a frame; selected is an id or 0, marked the ids that differ.
+  paint(frame, selected, marked) {
+    this.paintGround();
+    this.paintBuildings(frame);
+    if (this.ways) this.paintWays(frame, selected);
+    if (this.targets) this.paintTargets(frame);
+    this.paintUnits(frame);
+    this.paintHealth(frame);
+    this.paintSelected(frame, selected);
+    this.paintMarked(frame, marked);
+  }
+
+  rectangle(path, x, z, width, depth) {
+    const { view } = this;
+    path.rect(view.across(x), view.down(z + depth), width * view.scale, depth * view.scale);
+  }
+
+  paintGround() {
+    const { context, index, canvas } = this, path = new Path2D(), ground = new Path2D();
+    context.fillStyle = '#dddddd';
+    context.fillRect(0, 0, canvas.width, canvas.height);
+    this.rectangle(ground, 0, 0, ...index.size);
+    context.fillStyle = '#f4f1e4';
+    context.fill(ground);
+    for (const [x0, z0, x1, z1] of index.closed) this.rectangle(path, x0, z0, x1 - x0 + 1, z1 - z0 + 1);
+    context.fillStyle = '#4a4a4a';
+    context.fill(path);
+    if (this.view.scale >= 8) this.paintGrid();
+  }
+
+  paintGrid() {
+    const { context, view, index: { size: [width, depth] } } = this;
+    context.beginPath();
+    for (let x = 0; x <= width; x++) this.line(x, 0, x, depth);
+    for (let z = 0; z <= depth; z++) this.line(0, z, width, z);
+    context.lineWidth = 0.5;
+    context.strokeStyle = '#00000022';
+    context.stroke();
+  }
+
+  line(x0, z0, x1, z1) {
+    this.context.moveTo(this.view.across(x0), this.view.down(z0));
+    this.context.lineTo(this.view.across(x1), this.view.down(z1));
+  }
+
+  // One path an owner, filled in the owner's colour.
+  fillByOwner(frame, add) {
+    const paths = COLOURS.map(() => new Path2D());
+    for (let row = 0; row < frame.ids.length; row++) add(paths[frame.owner[row]], row);
+    paths.forEach((path, owner) => {
+      this.context.fillStyle = COLOURS[owner];
+      this.context.fill(path);
+    });
+    return paths;
+  }
+
+  paintBuildings(frame) {
+    const paths = this.fillByOwner(frame, (path, row) => {
+      if (this.isBuilding(frame, row)) this.rectangle(path, ...this.cells(frame, row));
+    });
+    this.context.strokeStyle = '#222222';
+    this.context.lineWidth = 1.5;
+    for (const path of paths) this.context.stroke(path);
+  }
+
+  paintUnits(frame) {
+    const { view } = this, radius = Math.max(1.5, 0.4 * view.scale);
+    this.fillByOwner(frame, (path, row) => {
+      if (this.isBuilding(frame, row)) return;
+      const across = view.across(frame.x[row] / ONE), down = view.down(frame.z[row] / ONE);
+      if (radius < 4) return path.rect(across - radius, down - radius, 2 * radius, 2 * radius);
+      path.moveTo(across + radius, down);
+      path.arc(across, down, radius, 0, 2 * Math.PI);
+    });
+  }
+
+  // The ways of all, or where they have very many points that of the selected entity alone.
+  paintWays(frame, selected) {
+    const { context } = this, all = frame.points.length / 2 <= MOST_POINTS;
+    context.beginPath();
+    for (let row = 0; row < frame.ids.length; row++) {
+      if (all || frame.ids[row] === selected) this.traceWay(frame, row);
+    }
+    context.lineWidth = 1;
+    context.strokeStyle = '#00000055';
+    context.stroke();
+  }
+
+  traceWay(frame, row) {
+    const { context, view } = this;
+    context.moveTo(view.across(frame.x[row] / ONE), view.down(frame.z[row] / ONE));
+    for (let at = frame.starts[row]; at < frame.starts[row + 1]; at += 2) {
+      context.lineTo(view.across(frame.points[at] / ONE), view.down(frame.points[at + 1] / ONE));
+    }
+  }
+
+  paintTargets(frame) {
+    const { context } = this, places = this.placesOf(frame);
+    context.beginPath();
+    for (let row = 0; row < frame.ids.length; row++) {
+      const place = frame.target[row] ? places.get(frame.target[row]) : undefined;
+      if (place === undefined) continue;
+      this.line(frame.x[row] / ONE, frame.z[row] / ONE, frame.x[place] / ONE, frame.z[place] / ONE);
+    }
+    context.lineWidth = 1;
+    context.strokeStyle = '#aa00aa99';
+    context.stroke();
+  }
+
+  placesOf(frame) {
+    if (!frame.places) frame.places = new Map(Array.from(frame.ids, (id, row) => [id, row]));
+    return frame.places;
+  }
+
+  // A bar over whoever is hurt.
+  paintHealth(frame) {
+    const { context, view, index } = this, whole = new Path2D(), left = new Path2D();
+    const height = Math.max(2, view.scale * 0.12);
+    for (let row = 0; row < frame.ids.length; row++) {
+      const most = index.templates[frame.template[row]].health;
+      if (!(frame.flags[row] & HEALTH) || !most || frame.health[row] >= most) continue;
+      const across = view.across(frame.x[row] / ONE - 0.5), down = view.down(frame.z[row] / ONE + 0.65);
+      whole.rect(across, down, view.scale, height);
+      left.rect(across, down, view.scale * Math.max(0, frame.health[row] / most), height);
+    }
+    for (const [path, colour] of [[whole, HURT], [left, WELL]]) { context.fillStyle = colour; context.fill(path); }
+  }
+
+  ring(x, z, metres, colour, width) {
+    const { context, view } = this;
+    context.beginPath();
+    context.arc(view.across(x), view.down(z), metres * view.scale, 0, 2 * Math.PI);
+    context.lineWidth = width;
+    context.strokeStyle = colour;
+    context.stroke();
+  }
+
+  paintSelected(frame, selected) {
+    const row = this.placesOf(frame).get(selected);
+    if (row === undefined) return;
+    const x = frame.x[row] / ONE, z = frame.z[row] / ONE, template = this.index.templates[frame.template[row]];
+    this.ring(x, z, 0.7, '#000000', 2);
+    if (template.range) this.ring(x, z, template.range / ONE, '#00000088', 1);
+    if (template.vision) this.ring(x, z, template.vision / ONE, '#00000044', 1);
+  }
+
+  paintMarked(frame, marked) {
+    const places = this.placesOf(frame);
+    for (const id of marked) {
+      const row = places.get(id);
+      if (row !== undefined) this.ring(frame.x[row] / ONE, frame.z[row] / ONE, 0.75, RED, 3);
+    }
+  }
+
+  // The id of the entity at a point, a unit before the building behind it, or 0.
+  entityAt(frame, [x, z]) {
+    let best = 0, least = (Math.max(0.6, 6 / this.view.scale)) ** 2;
+    for (let row = 0; row < frame.ids.length; row++) {
+      const square = (frame.x[row] / ONE - x) ** 2 + (frame.z[row] / ONE - z) ** 2;
+      if (!this.isBuilding(frame, row) && square < least) { least = square; best = frame.ids[row]; }
+    }
+    return best || this.buildingAt(frame, x, z);
+  }
+
+  buildingAt(frame, x, z) {
+    for (let row = 0; row < frame.ids.length; row++) {
+      if (!this.isBuilding(frame, row)) continue;
+      const [left, low, width, depth] = this.cells(frame, row);
+      if (x >= left && x < left + width && z >= low && z < low + depth) return frame.ids[row];
+    }
+    return 0;
+  }
+}
