@@ -119,15 +119,35 @@ class Painter {
     for (const path of paths) this.context.stroke(path);
   }
 
+  // Units are discs, or where the ground is small squares, which are drawn much faster.
   paintUnits(frame) {
-    const { view } = this, radius = Math.max(1.5, 0.4 * view.scale);
-    this.fillByOwner(frame, (path, row) => {
+    const radius = 0.4 * this.view.scale;
+    if (radius >= 4) this.paintDiscs(frame, radius);
+    else this.paintSquares(frame, Math.max(3, Math.round(2 * radius)));
+  }
+
+  paintDiscs(frame, radius) {
+    const paths = this.fillByOwner(frame, (path, row) => {
       if (this.isBuilding(frame, row)) return;
-      const across = view.across(frame.x[row] / ONE), down = view.down(frame.z[row] / ONE);
-      if (radius < 4) return path.rect(across - radius, down - radius, 2 * radius, 2 * radius);
+      const across = this.view.across(frame.x[row] / ONE), down = this.view.down(frame.z[row] / ONE);
       path.moveTo(across + radius, down);
       path.arc(across, down, radius, 0, 2 * Math.PI);
     });
+    this.context.strokeStyle = '#ffffff';
+    this.context.lineWidth = 1;
+    for (const path of paths) this.context.stroke(path);
+  }
+
+  paintSquares(frame, side) {
+    const { context, view } = this;
+    for (let owner = 0; owner < COLOURS.length; owner++) {
+      context.fillStyle = COLOURS[owner];
+      for (let row = 0; row < frame.ids.length; row++) {
+        if (frame.owner[row] !== owner || this.isBuilding(frame, row)) continue;
+        const across = view.across(frame.x[row] / ONE), down = view.down(frame.z[row] / ONE);
+        context.fillRect(Math.round(across - side / 2), Math.round(down - side / 2), side, side);
+      }
+    }
   }
 
   // The ways of all, or where they have very many points that of the selected entity alone.
@@ -168,18 +188,25 @@ class Painter {
     return frame.places;
   }
 
-  // A bar over whoever is hurt.
+  // A bar over whoever is hurt, where it is large enough to be read.
   paintHealth(frame) {
-    const { context, view, index } = this, whole = new Path2D(), left = new Path2D();
-    const height = Math.max(2, view.scale * 0.12);
+    if (this.view.scale < 5) return;
+    const hurt = [];
     for (let row = 0; row < frame.ids.length; row++) {
-      const most = index.templates[frame.template[row]].health;
-      if (!(frame.flags[row] & HEALTH) || !most || frame.health[row] >= most) continue;
-      const across = view.across(frame.x[row] / ONE - 0.5), down = view.down(frame.z[row] / ONE + 0.65);
-      whole.rect(across, down, view.scale, height);
-      left.rect(across, down, view.scale * Math.max(0, frame.health[row] / most), height);
+      const most = this.index.templates[frame.template[row]].health;
+      if (frame.flags[row] & HEALTH && frame.health[row] < most) hurt.push([row, Math.max(0, frame.health[row] / most)]);
     }
-    for (const [path, colour] of [[whole, HURT], [left, WELL]]) { context.fillStyle = colour; context.fill(path); }
+    this.paintBars(frame, hurt.map(([row]) => [row, 1]), HURT);
+    this.paintBars(frame, hurt, WELL);
+  }
+
+  paintBars(frame, bars, colour) {
+    const { context, view } = this, height = Math.max(2, Math.round(view.scale * 0.12));
+    context.fillStyle = colour;
+    for (const [row, share] of bars) {
+      const across = Math.round(view.across(frame.x[row] / ONE - 0.5)), down = Math.round(view.down(frame.z[row] / ONE + 0.65));
+      context.fillRect(across, down, Math.round(view.scale * share), height);
+    }
   }
 
   ring(x, z, metres, colour, width) {
