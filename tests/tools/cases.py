@@ -1,11 +1,19 @@
 """How the tests of the tools count: a line a case, and a last line `N passed, M failed`."""
 
+import os
 import pathlib
 import subprocess
 import sys
 
 TOP = pathlib.Path(__file__).resolve().parent.parent.parent
 sys.path.insert(0, str(TOP / "tools"))
+BUILT = TOP / "crates/simcore/out/simcore"
+
+
+def program():
+    """The program that tests run: $SIMCORE, or the built one; None where there is neither."""
+    path = os.environ.get("SIMCORE") or BUILT
+    return str(path) if os.access(path, os.X_OK) else None
 
 
 class Cases:
@@ -23,6 +31,10 @@ class Cases:
     def holds(self, name, truth, said=""):
         """One line for one case that is true or false."""
         self.case(name, (bool(truth), "" if truth else said), (True, ""))
+
+    def skip(self, name, why):
+        """One line for what can't be tried here."""
+        print(f"skipped {name}: {why}", flush=True)
 
     def end(self):
         """The last line, and the status."""

@@ -216,8 +216,8 @@ def number(text):
     return int(text)
 
 
-def explain_line(words):
-    """The lines about a line that the program prints; files may follow it."""
+def explain_line(words, players=8):
+    """The lines about a line that the program prints; files may follow it. Steps are of a match with so many players."""
     match words:
         case ["match", "refused", code, index, *files] if len(files) <= 1:
             return explain_match(number(code), number(index), *(files or [None]))
@@ -225,7 +225,7 @@ def explain_line(words):
             match_path, state_path = (files + [name])[:2] if files else (None, None)
             return explain_state(number(code), name, match_path, state_path)
         case ["list", "refused", index, *files] if len(files) <= 1:
-            return explain_list(number(index), *(files or [None]))
+            return explain_list(number(index), *(files or [None]), players)
         case ["no", "turn", asked, "of", last]:
             return [f"the match has the turns 0 to {number(last)}, and turn {number(asked)} was asked for"]
         case ["sight", "refused", code] if number(code) in SIGHT_CODES:
@@ -264,7 +264,8 @@ def main(words):
                    epilog="Examples: explain match refused 8 3 m.json; explain state refused 3 s m.json s; explain list refused 4 steps.json; "
                           "explain play m.json, which runs the program itself.")
     parser.add_argument("words", nargs="+", metavar="WORD", help="the line that the program printed and then the files, or a command with its files")
+    parser.add_argument("--players", type=int, default=8, metavar="N", help="how many players the match of a list of steps has (default 8)")
     add_option(parser)
     asked = parser.parse_args(words)
     runs = asked.words[0] in COMMANDS and asked.words[1:2] != ["refused"]
-    print("\n".join(explain_run(asked.words, asked.program) if runs else explain_line(asked.words)))
+    print("\n".join(explain_run(asked.words, asked.program) if runs else explain_line(asked.words, asked.players)))

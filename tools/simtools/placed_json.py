@@ -11,6 +11,7 @@ MOST_NESTING = 127
 _SPACE = re.compile(r"[ \t\n\r]*")
 _NUMBER = re.compile(r"(-?(?:0|[1-9][0-9]*))(\.[0-9]+)?([eE][+-]?[0-9]+)?")
 _PLAIN = re.compile(r'[^"\\\x00-\x1f]*')
+_UNIT = re.compile(r"\\u([0-9a-fA-F]{4})")
 _ESCAPES = {'"': '"', "\\": "\\", "/": "/", "b": "\b", "f": "\f", "n": "\n", "r": "\r", "t": "\t"}
 _WORDS = {"true": True, "false": False, "null": None}
 
@@ -121,22 +122,21 @@ class _Reader:
         if letter in _ESCAPES and letter:
             self.at += 2
             return _ESCAPES[letter]
-        high = self.unit()
-        if 0xD800 <= high < 0xDC00:
-            low = self.unit()
-            if 0xDC00 <= low < 0xE000:
-                return chr(0x10000 + (high - 0xD800 << 10) + (low - 0xDC00))
-        if 0xD800 <= high < 0xE000:
-            raise JsonFault(self.at, "this escape is half of a pair, and the other half is missing")
-        return chr(high)
+        start, high = self.at, self.unit()
+        if high is None:
+            raise JsonFault(start, "this is no escape")
+        if not 0xD800 <= high < 0xE000:
+            return chr(high)
+        low = self.unit() if high < 0xDC00 else None
+        if low is None or not 0xDC00 <= low < 0xE000:
+            raise JsonFault(start, "this escape is half of a pair, and the other half is missing")
+        return chr(0x10000 + (high - 0xD800 << 10) + (low - 0xDC00))
 
     def unit(self):
-        """The number of an escape as \\u0041."""
-        found = re.compile(r"\\u([0-9a-fA-F]{4})").match(self.text, self.at)
-        if found is None:
-            raise JsonFault(self.at, "this is no escape")
-        self.at = found.end()
-        return int(found[1], 16)
+        """The number of an escape as \\u0041, or None where none stands next."""
+        found = _UNIT.match(self.text, self.at)
+        self.at = found.end() if found else self.at
+        return int(found[1], 16) if found else None
 
     def list(self, depth):
         """A list."""
