@@ -86,6 +86,7 @@ class Field:
         self.width, self.depth = size
         self.taken = {(x, z) for x0, z0, x1, z1 in closed for x in range(x0, x1 + 1) for z in range(z0, z1 + 1)}
         self.homes = [self._home(number, players) for number in range(players)]
+        self.spots = {}
 
     def _home(self, number, players):
         """Players stand by turns at the left and the right side, from the lower end to the upper."""
@@ -95,15 +96,21 @@ class Field:
         return min(max(x, 0), self.width - 1), (2 * row + 1) * self.depth // (2 * rows)
 
     def place(self, player, box):
-        """The free place nearest to the home of a player, for a rectangle of cells; its point is the middle of a cell."""
-        home_x, home_z = self.homes[player - 1]
-        spots = sorted((((x - home_x) ** 2 + (z - home_z) ** 2, z, x) for x in range(self.width) for z in range(self.depth)))
-        for _, z, x in spots:
+        """The free place nearest to the home of a player, for a rectangle of cells."""
+        if (player, box) not in self.spots:
+            self.spots[player, box] = iter(self._by_distance(*self.homes[player - 1]))
+        # What was not free before is not free now, so each spot is looked at once.
+        for x, z in self.spots[player, box]:
             cells = self._cells(x, z, box)
             if all(0 <= a < self.width and 0 <= b < self.depth and (a, b) not in self.taken for a, b in cells):
                 self.taken |= cells
                 return x, z
         raise ToolFault(f"player {player} has more entities than the ground has free cells")
+
+    def _by_distance(self, home_x, home_z):
+        """All cells, the nearest to a home first."""
+        spots = sorted(((x - home_x) ** 2 + (z - home_z) ** 2, z, x) for x in range(self.width) for z in range(self.depth))
+        return [(x, z) for _, z, x in spots]
 
     @staticmethod
     def _cells(x, z, box):

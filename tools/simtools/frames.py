@@ -84,7 +84,7 @@ class ShownText:
         for line in lines:
             line = line.rstrip("\n")
             if line.startswith("entity "):
-                places[self._add_row(frame, line)] = len(frame.ids) - 1
+                places[self._add_row(frame, line)] = len(places)
             elif line.startswith("way "):
                 self._add_way(frame, line, places)
             elif found := _TURN.fullmatch(line):

@@ -50,7 +50,8 @@ def template_line(template):
     """A template's parts in one line, for people."""
     words = [template.name]
     for part in ("health", "resist", "motion", "obstruct", "attack"):
-        if found := getattr(template, part):
+        found = getattr(template, part)
+        if found and (part != "resist" or any(found.values())):
             numbers = ", ".join(f"{name.lower()} {print_raw(raw)}" for name, raw in found.items())
             words.append(f"{part}: {numbers}")
     if template.train is not None:
