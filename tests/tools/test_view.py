@@ -149,6 +149,17 @@ class Viewing:
         self.cases.case("a log: patches by owner", counts(self.browser)[0][:3], [0, 4, 1])
         self.cases.case("a log: its digest", text(self.browser, "digest"), "daf5ff5bc367ab4563c39ca70b65a382")
 
+    def recorded(self):
+        """With a program that knows `record` the ground of a session shows the turns that the server kept."""
+        os.environ["RECORDED"] = f"{self.folder}/recorded"
+        pathlib.Path(os.environ["RECORDED"]).write_text(log_of_handover())
+        words = [EXAMPLES / "handover.json", "--steps", EXAMPLES / "handover-steps.json"]
+        self.browser.open(draw(self.folder, "recorded", *words, tool=HERE / "wider_program.py"), "#turn=3&select=2")
+        self.cases.case("a recorded session: its digest", text(self.browser, "digest"), HANDOVER.split()[-1])
+        self.cases.case("a recorded session: the scout has walked", text(self.browser, "row").split("\n")[0],
+                        "entity 2 template scout owner 1 at 6.50000 1.50000 health 20 motion still")
+        self.cases.case("a recorded session: where clients differ", text(self.browser, "difference"), "clients 1 and 3 differ first at entity 3, part Health")
+
     def many(self):
         """4,096 units over 200 turns: less than 30 MB, and at least 30 frames in a second of the page's own time."""
         match = pathlib.Path(self.folder) / "many.json"
@@ -171,6 +182,20 @@ class Viewing:
         """The processor time of the page so far."""
         metrics = self.browser.call("Performance.getMetrics")["metrics"]
         return next(it["value"] for it in metrics if it["name"] == "TaskDuration")
+
+
+HANDOVER = """command turn 2 player 1 walk 2 to 6.50000 1.50000
+turn 0 1cb18172fb3cbc7c90dc1af11fdd47bc
+turn 1 af69553094289fdab73a30fd909456d2
+turn 2 e3fd38b51194e35cdfc9283b72d41a4e
+turn 3 b9e0bbdbb48987c702aba5aa5fb7d4a3"""
+
+
+def log_of_handover():
+    """The log of the session of examples/handover.json: the one kept command, and the digests of an unbent client."""
+    command, *turns = HANDOVER.splitlines()
+    head = f"simlog 1 {hashlib.md5((EXAMPLES / 'handover.json').read_bytes()).hexdigest()}"
+    return "\n".join([head, *turns[:2], command, *turns[2:]]) + "\n"
 
 
 def log_of(path):
@@ -203,7 +228,7 @@ def in_browser(cases, folder):
     try:
         viewing.many()
         if program():
-            for part in (viewing.examples, viewing.controls, viewing.states, viewing.session, viewing.wider):
+            for part in (viewing.examples, viewing.controls, viewing.states, viewing.session, viewing.wider, viewing.recorded):
                 part()
         else:
             cases.skip("the examples in a browser", "no program is built")
