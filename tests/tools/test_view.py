@@ -21,13 +21,9 @@ HERE = pathlib.Path(__file__).resolve().parent
 EXAMPLES = TOP / "examples"
 COLOURS = re.search(r"COLOURS = \[(.*?)\]", (TOP / "tools/simtools/page/draw.js").read_text(encoding="utf-8"))[1].replace("'", "").split(", ")
 RED = colour_of("#ff0000")
-# An example, a turn, its digest, and how many patches of Gaia and of each player are seen: units that stand on one another are one.
-SEEN = [("two-posts", 0, "d2d0c1e368255df300da3753c32aa77c", [0, 1, 1]),
-        ("camp", 3, "daf5ff5bc367ab4563c39ca70b65a382", [0, 4, 1]),
-        ("camp", 6, "1945a50b8f67eae2490b5ee4dae2ee64", [3, 0, 1]),
-        ("squads", 0, "d1506cd4ccd3bb0f5443690bb446da28", [0, 2, 2]),
-        ("inherited", 0, None, [0, 3, 1]),
-        ("outposts", 0, None, None)]
+# An example, a turn, and how many patches of Gaia and of each player are seen: units that stand on one another are one.
+SEEN = [("two-posts", 0, [0, 1, 1]), ("camp", 3, [0, 4, 1]), ("camp", 6, [3, 0, 1]), ("squads", 0, [0, 2, 2]), ("inherited", 0, [0, 3, 1]),
+        ("outposts", 0, None)]
 MEASURE = """(async () => {
   for (let place = 0; place < viewer.index.heads.length; place++) {
     await viewer.show(place);
@@ -69,13 +65,13 @@ class Viewing:
 
     def examples(self):
         """Each example shows what it has: units by colour, the turn, the digest; the console is silent."""
-        for name, turn, digest, wanted in SEEN:
+        for name, turn, wanted in SEEN:
             self.browser.open(draw(self.folder, name, EXAMPLES / f"{name}.json"), f"#turn={turn}")
             seen, red = counts(self.browser)
             if wanted:
                 self.cases.case(f"{name}, turn {turn}: patches by owner", (seen, red), (wanted + [0] * (9 - len(wanted)), 0))
             self.cases.case(f"{name}: the turn", (text(self.browser, "turn"), self.browser.run("viewer.place")), (f"turn {turn}", turn))
-            if digest:
+            if digest := told_digest(f"play examples/{name}.json", f"turn {turn}"):
                 self.cases.case(f"{name}: the digest of turn {turn}", text(self.browser, "digest"), digest)
             self.cases.case(f"{name}: nothing on the console", (self.browser.said, text(self.browser, "faults")), ([], ""))
 
@@ -147,7 +143,7 @@ class Viewing:
         log.write_text(log_of(EXAMPLES / "camp.json"))
         self.browser.open(draw(self.folder, "log", EXAMPLES / "camp.json", "--log", log, tool=HERE / "wider_program.py"), "#turn=3")
         self.cases.case("a log: patches by owner", counts(self.browser)[0][:3], [0, 4, 1])
-        self.cases.case("a log: its digest", text(self.browser, "digest"), "daf5ff5bc367ab4563c39ca70b65a382")
+        self.cases.case("a log: its digest", text(self.browser, "digest"), told_digest("play examples/camp.json", "turn 3"))
 
     def recorded(self):
         """With a program that knows `record` the ground of a session shows the turns that the server kept."""
@@ -155,7 +151,7 @@ class Viewing:
         pathlib.Path(os.environ["RECORDED"]).write_text(log_of_handover())
         words = [EXAMPLES / "handover.json", "--steps", EXAMPLES / "handover-steps.json"]
         self.browser.open(draw(self.folder, "recorded", *words, tool=HERE / "wider_program.py"), "#turn=3&select=2")
-        self.cases.case("a recorded session: its digest", text(self.browser, "digest"), HANDOVER.split()[-1])
+        self.cases.case("a recorded session: its digest", text(self.browser, "digest"), log_of_handover().split()[-1])
         self.cases.case("a recorded session: the scout has walked", text(self.browser, "row").split("\n")[0],
                         "entity 2 template scout owner 1 at 6.50000 1.50000 health 20 motion still")
         self.cases.case("a recorded session: where clients differ", text(self.browser, "difference"), "clients 1 and 3 differ first at entity 3, part Health")
@@ -184,18 +180,20 @@ class Viewing:
         return next(it["value"] for it in metrics if it["name"] == "TaskDuration")
 
 
-HANDOVER = """command turn 2 player 1 walk 2 to 6.50000 1.50000
-turn 0 1cb18172fb3cbc7c90dc1af11fdd47bc
-turn 1 af69553094289fdab73a30fd909456d2
-turn 2 e3fd38b51194e35cdfc9283b72d41a4e
-turn 3 b9e0bbdbb48987c702aba5aa5fb7d4a3"""
+def told_digest(words, line):
+    """The digest that examples/README.md tells in a line of what the program prints for these words, or None."""
+    _, _, said = (EXAMPLES / "README.md").read_text(encoding="utf-8").partition(f"$ ./simcore {words}\n")
+    found = re.search(rf"^{line} ([0-9a-f]{{32}})$", said.partition("```")[0], re.M)
+    return found and found[1]
 
 
 def log_of_handover():
     """The log of the session of examples/handover.json: the one kept command, and the digests of an unbent client."""
-    command, *turns = HANDOVER.splitlines()
+    words = "session examples/handover.json examples/handover-steps.json"
+    digests = [told_digest(words, line) for line in ("client 2 start 0", *(f"client 2 play {turn}" for turn in (1, 2, 3)))]
+    turns = [f"turn {turn} {digest}" for turn, digest in enumerate(digests)]
     head = f"simlog 1 {hashlib.md5((EXAMPLES / 'handover.json').read_bytes()).hexdigest()}"
-    return "\n".join([head, *turns[:2], command, *turns[2:]]) + "\n"
+    return "\n".join([head, *turns[:2], "command turn 2 player 1 walk 2 to 6.50000 1.50000", *turns[2:]]) + "\n"
 
 
 def log_of(path):
