@@ -169,15 +169,20 @@ def arrivals(*items, **changes):
 LISTS = [("session", "no JSON", b"{", 0, "key in quotes"), ("session", "a list", b"[]", 0, "an object"),
          ("session", "no steps", b'{"clients":1}', 0, "steps is missing"), ("session", "another key", steps(x=1), 0, "the key x"),
          ("session", "no clients", steps(clients=0), 0, "is 0"), ("session", "a step that is none", steps(["leap", 1]), 2, "a step is"),
-         ("session", "a client who is none", steps(["up", 3]), 2, "no client"), ("session", "a bend of no leaf", steps(["bend", 1, 2, 1.5]), 2, "no fixed leaf"),
-         ("session", "an order of no kind", steps(["order", 1]), 2, "kind of command"), ("session", "a bad order", steps(["order", 1, "walk", [2], 1]), 2, "walk takes"),
+         ("session", "a client who is none", steps(["up", 3]), 2, "no client"),
+         ("session", "a bend of no leaf", steps(["bend", 1, 2, 1.5]), 2, "no fixed leaf"),
+         ("session", "an order of no kind", steps(["order", 1]), 2, "kind of command"),
+         ("session", "a bad order", steps(["order", 1, "walk", [2], 1]), 2, "walk takes"),
          ("session", "a play with more", steps(["play", 1, 1]), 2, "nothing else"),
          ("serve", "active past clients", arrivals(active=3), 0, "from 0 to 2"), ("serve", "no delay", arrivals(delay=0), 0, "from 1 to 8"),
          ("serve", "turns past the most", arrivals(turns=65536), 0, "65535"), ("serve", "an arrival that is none", arrivals([1, "leap"]), 2, "an arrival is"),
          ("serve", "a client past clients", arrivals([3, "join"]), 2, "no client"), ("serve", "a join with more", arrivals([1, "join", 1]), 2, "a list of 2"),
-         ("serve", "a turn below 0", arrivals([1, "done", -1]), 2, "the turn"), ("serve", "a short report", arrivals([1, "report", 1, "00"]), 2, "32 characters"),
-         ("serve", "a capital letter", arrivals([1, "state", 2, 1, "AA"]), 2, "0-9a-f"), ("serve", "client 256", arrivals([1, "state", 256, 1, ""]), 2, "0 to 255"),
-         ("serve", "half a byte", arrivals([1, "bytes", "0"]), 2, "even number"), ("serve", "a command of no kind", arrivals([1, "command", 1, "x"]), 2, "no kind of command")]
+         ("serve", "a turn below 0", arrivals([1, "done", -1]), 2, "the turn"),
+         ("serve", "a short report", arrivals([1, "report", 1, "00"]), 2, "32 characters"),
+         ("serve", "a capital letter", arrivals([1, "state", 2, 1, "AA"]), 2, "0-9a-f"),
+         ("serve", "client 256", arrivals([1, "state", 256, 1, ""]), 2, "0 to 255"),
+         ("serve", "half a byte", arrivals([1, "bytes", "0"]), 2, "even number"),
+         ("serve", "a command of no kind", arrivals([1, "command", 1, "x"]), 2, "no kind of command")]
 
 
 class Explaining:

@@ -78,7 +78,8 @@ FILES = {
     "units/gaul/bow": (entity("", "gaul|bow"), "health 100 resist 5 3 0 speed 2.25 attack 0 6.5 0 range 15 vision 20 repeat 5 accuracy 100"),
     "ghost": (entity("", "preview|base"), "health 100"),
     "corner": (entity(health("40.00001"), "post"), "health 40 obstruct 5 3"),
-    "siege": (entity('<Resistance><Entity><Damage><Pierce>50</Pierce></Damage></Entity></Resistance>' + BOX, "base"), FULL.replace("5 3 0 speed", "5 40 0 speed")),
+    "siege": (entity('<Resistance><Entity><Damage><Pierce>50</Pierce></Damage></Entity></Resistance>' + BOX, "base"),
+              FULL.replace("5 3 0 speed", "5 40 0 speed")),
     "ruin": (entity(""), ""),
 }
 LAYERS = {"mixins/strong": entity(health("2", ' op="mul"')), "mixins/gaul": entity("<Identity><Civ>gaul</Civ></Identity>"),

@@ -17,6 +17,9 @@ import chromium
 from cases import TOP, Cases, bad_input, program, run_tool
 from png import colour_of, patches, read_png
 
+from simtools.fixed import ONE
+from simtools.stored import read_stored
+
 HERE = pathlib.Path(__file__).resolve().parent
 EXAMPLES = TOP / "examples"
 COLOURS = re.search(r"COLOURS = \[(.*?)\]", (TOP / "tools/simtools/page/draw.js").read_text(encoding="utf-8"))[1].replace("'", "").split(", ")
@@ -117,6 +120,13 @@ class Viewing:
         self.cases.case("and is red", colour, "rgb(255, 0, 0)")
         self.cases.case("all four that differ are marked", self.browser.run("[...viewer.marked].sort().join()"), "1,2,3,4,5")
         self.cases.holds("and ringed in red", counts(self.browser)[1] > 0)
+        bent = pathlib.Path(paths[1])
+        bent.write_bytes(with_less_health(pathlib.Path(paths[0]).read_bytes(), 4))
+        self.browser.open(draw(self.folder, "bent", match, "--states", *paths))
+        told = text(self.browser, "difference").splitlines()
+        self.cases.case("a difference in health: its place", told[0], "differ entity 4 part Health")
+        self.cases.case("and both rows", [re.search(r"entity 4 .* health (\S+)", line)[1] for line in told[3:]], ["20", "19"])
+        self.cases.case("and it alone is marked", self.browser.run("[...viewer.marked].join()"), "4")
         self.browser.open(draw(self.folder, "same", match, "--states", paths[0], paths[0]))
         self.cases.case("equal states have no red", (text(self.browser, "difference"), counts(self.browser)[1]), ("", 0))
 
@@ -138,7 +148,7 @@ class Viewing:
         for name in ("camp", "squads"):
             plain, wide = (pathlib.Path(draw(self.folder, name + kind, EXAMPLES / f"{name}.json", tool=tool)).read_text(encoding="utf-8")
                            for kind, tool in (("", None), ("-film", HERE / "wider_program.py")))
-            self.cases.holds(f"{name}: `film` and `parts` give the same page", plain == wide)
+            self.cases.holds(f"{name}: `film` and `parts` give the same page", told_of(plain) == told_of(wide))
         log = pathlib.Path(self.folder) / "log"
         log.write_text(log_of(EXAMPLES / "camp.json"))
         self.browser.open(draw(self.folder, "log", EXAMPLES / "camp.json", "--log", log, tool=HERE / "wider_program.py"), "#turn=3")
@@ -155,6 +165,15 @@ class Viewing:
         self.cases.case("a recorded session: the scout has walked", text(self.browser, "row").split("\n")[0],
                         "entity 2 template scout owner 1 at 6.50000 1.50000 health 20 motion still")
         self.cases.case("a recorded session: where clients differ", text(self.browser, "difference"), "clients 1 and 3 differ first at entity 3, part Health")
+
+    def explored(self):
+        """With a program that knows `sight` and `realm` what a player has not explored is dark, and what each holds is said."""
+        self.browser.open(draw(self.folder, "explored", EXAMPLES / "camp.json", tool=HERE / "wider_program.py"), "#turn=7")
+        self.browser.run("const s = document.getElementById('seer'); s.value = 1; s.dispatchEvent(new Event('change'))")
+        dark = """(() => { const v = viewer.painter, at = (x, z) => v.context.getImageData(v.view.across(x), v.view.down(z), 1, 1).data[0];
+            return [at(2.2, 2.2) > 200, at(9.2, 9.2) > 200].join(); })()"""
+        self.cases.case("what player 1 has explored is bright, and what not is dark", self.browser.run(dark), "true,false")
+        self.cases.case("what each holds", text(self.browser, "realm"), "player 1 holds 8 cells at the end, 5 of them rooted")
 
     def many(self):
         """4,096 units over 200 turns: less than 30 MB, and at least 30 frames in a second of the page's own time."""
@@ -178,6 +197,19 @@ class Viewing:
         """The processor time of the page so far."""
         metrics = self.browser.call("Performance.getMetrics")["metrics"]
         return next(it["value"] for it in metrics if it["name"] == "TaskDuration")
+
+
+def told_of(page):
+    """What a page tells of the states: its chunks and its index, without what a program tells beside."""
+    index = json.loads(re.search(r'<script id="index".*?>(.*?)</script>', page, re.S)[1])
+    return re.findall(r'<script id="chunk.*?</script>', page), index | {"explored": None, "realm": None}
+
+
+def with_less_health(data, identity):
+    """A stored state in which one entity has one point of health less."""
+    at = read_stored(data).offsets[4][identity] + 4
+    health = int.from_bytes(data[at:at + 4], "little") - ONE
+    return data[:at] + health.to_bytes(4, "little") + data[at + 4:]
 
 
 def told_digest(words, line):
@@ -226,7 +258,7 @@ def in_browser(cases, folder):
     try:
         viewing.many()
         if program():
-            for part in (viewing.examples, viewing.controls, viewing.states, viewing.session, viewing.wider, viewing.recorded):
+            for part in (viewing.examples, viewing.controls, viewing.states, viewing.session, viewing.wider, viewing.recorded, viewing.explored):
                 part()
         else:
             cases.skip("the examples in a browser", "no program is built")
@@ -239,12 +271,14 @@ def test(cases):
     with tempfile.TemporaryDirectory() as folder:
         in_browser(cases, folder)
         camp, stand_in = EXAMPLES / "camp.json", HERE / "film_stand_in.py"
-        bad_input(cases, "view", ("no words", [], "required"), ("a program that is not there", [camp, "--program", folder + "/none"], "no program stands at"),
+        bad_input(cases, "view", ("no words", [], "required"),
+                  ("a program that is not there", [camp, "--program", folder + "/none"], "no program stands at"),
                   ("no turns", [camp, "--every", "0"], "--every"), ("a match that is not there", [folder + "/none", "--program", stand_in], "none"),
                   ("two things at once", [camp, "--steps", camp, "--log", camp], "not allowed"))
         if program():
             bad_input(cases, "view", ("a match that is refused", [EXAMPLES / "refused.json"], "match refused 8 1"),
-                      ("a state that is none", [camp, "--states", camp, camp], "state refused 1"), ("a log that is none", [camp, "--log", camp], "no replay log"),
+                      ("a state that is none", [camp, "--states", camp, camp], "state refused 1"),
+                      ("a log that is none", [camp, "--log", camp], "no replay log"),
                       ("steps that are none", [EXAMPLES / "handover.json", "--steps", camp], "list refused 0"),
                       ("a place where nothing can be written", [camp, "-o", folder + "/none/page.html"], "can't be written"))
 

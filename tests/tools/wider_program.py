@@ -2,7 +2,8 @@
 """The program with the words that a viewer wants beside its own, for tests of how the viewer reads them.
 
 Usage: wider_program.py WORDS.. with $SIMCORE the program. `film` and `parts` are told from the states that it stores; `check`
-agrees with every log; `record` writes the log of $RECORDED. All other words go to the program.
+agrees with every log; `record` writes the log of $RECORDED; by `sight` player 1 has explored the western half; by `realm` he
+holds 8 cells. All other words go to the program.
 """
 
 import os
@@ -69,6 +70,12 @@ def main(words):
             print("agree 1")
         case ["record", _, _, out]:
             shutil.copy(os.environ["RECORDED"], out)
+        case ["sight", match, _, out]:
+            width, depth = read_json(match)["size"]
+            half = bytes(int(cell % width < width // 2) for cell in range(width * depth))
+            pathlib.Path(out).write_bytes(half * len(read_json(match)["players"]))
+        case ["realm", _, _]:
+            print("realm 1 held 8 rooted 5")
         case _:
             return subprocess.run([program.path, *words], check=False).returncode
     return 0

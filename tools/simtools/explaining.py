@@ -24,7 +24,7 @@ MATCH_CODES = {
     10: "a command's turn is less than that of the command before it", 11: "a session's match has commands, and its clients give them"}
 STATE_CODES = {1: "the file is no stored state", 2: "the state is of another match",
                3: "the bytes are no valid state of the match"}
-SIGHT_CODES = {1: "the map has not one byte for each cell of the ground", 2: "a byte of the map has a bit of no player",
+SIGHT_CODES = {1: "the map has not one byte for each player and each cell", 2: "a byte of the map is neither 0 nor 1",
                3: "a cell that a player sees in the loaded state is not explored in the map"}
 
 

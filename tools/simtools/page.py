@@ -29,7 +29,7 @@ def _template(template, line):
 def page_text(title, ground, frames, lines, **more):
     """The page of some frames on a ground. Each template has a line of its own; more goes to the page's script as it is."""
     heads, chunks = pack(frames)
-    index = {"size": ground.size, "closed": ground.closed, "heads": heads, "firsts": [first for first, _ in chunks],
+    index = {"size": ground.size, "closed": ground.closed, "players": ground.players, "heads": heads, "firsts": [first for first, _ in chunks],
              "templates": [_template(*both) for both in zip(ground.templates, lines)], **more}
     stored = "\n".join(f'<script id="chunk-{number}" type="text/plain">{text}</script>' for number, (_, text) in enumerate(chunks))
     pieces = {"title": html.escape(title), "style": _read("viewer.css"), "script": "".join(map(_read, SCRIPTS)),

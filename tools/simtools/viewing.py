@@ -9,8 +9,9 @@ import pathlib
 import sys
 import tempfile
 
+from . import knowledge
 from .faults import ToolFault, Words, read_bytes, write_text
-from .frames import ShownText
+from .frames import ShownText, shown_row
 from .ground import read_ground, read_json, template_line
 from .page import page_text
 from .program import USAGE, Program, add_option
@@ -54,6 +55,11 @@ def main(words):
         print(f"{out}: {len(text) / 1e6:.1f} MB")
 
 
+def row_in(frame, identity, names):
+    """The row of an entity as `show` prints it, or nothing where it is not there."""
+    return shown_row(frame, frame.ids.index(identity), names) if identity in frame.ids else ""
+
+
 class Drawing:
     """A match that is drawn by a program."""
 
@@ -66,9 +72,10 @@ class Drawing:
         return page_text(title, ground, frames, [template_line(it) for it in ground.templates], **more)
 
     def match(self):
-        """The page of the match as it is played."""
-        ground = read_ground(self.program, self.path)
-        return self.page(self.path, self.film(self.path, ground), ground, kind="match")
+        """The page of the match as it is played, with what the program tells beside."""
+        ground, turns = read_ground(self.program, self.path), read_json(self.path)["turns"]
+        more = {"explored": knowledge.explored(self.program, self.path, turns), "realm": knowledge.realm(self.program, self.path, turns)}
+        return self.page(self.path, self.film(self.path, ground), ground, kind="match", **more)
 
     def film(self, path, ground, turns=None):
         """The frames of each chosen turn of a match file."""
@@ -94,11 +101,13 @@ class Drawing:
         frames = [self.stored_frame(name) for name in (left, right)]
         lines = said.splitlines()
         first = None
+        ground = read_ground(self.program, self.path)
         if len(lines) == 3:
             words = lines[0].split()
-            first = {"entity": int(words[2]), "part": words[4], "text": said.strip()}
+            rows = [row_in(frame, int(words[2]), ground.names) for frame in frames]
+            first = {"entity": int(words[2]), "part": words[4], "text": "\n".join([*lines, *filter(None, rows)])}
         title = f"{self.path}: {left} and {right}"
-        return self.page(title, frames, kind="states", labels=[f"A: {left}", f"B: {right}"], difference=first)
+        return self.page(title, frames, ground, kind="states", labels=[f"A: {left}", f"B: {right}"], difference=first)
 
     def stored_frame(self, name):
         """The frame of a stored state, with its digest as `resume` prints it in its first line."""
@@ -131,7 +140,7 @@ class Drawing:
         """The page of a session: the server's turns on the ground, the clients' events beside it."""
         session = read_session(self.program.run("session", self.path, steps))
         ground = read_ground(self.program, self.path)
-        more = {"kind": "session", "events": session.events, "clients": ground.players, "difference": session.difference}
+        more = {"kind": "session", "events": session.events, "difference": session.difference}
         title = f"{self.path}, steps {steps}"
         with tempfile.TemporaryDirectory() as folder:
             status, text = self.program.try_run("record", self.path, steps, f"{folder}/log")

@@ -35,6 +35,34 @@ class View {
   }
 }
 
+// What each player has explored: of each cell, by player, z and x, at which of some turns it was explored first.
+class Explored {
+  constructor(turns, cells, size) { this.turns = turns; this.cells = cells; this.size = size; this.kept = new Map(); }
+
+  static async read(explored, size) { return new Explored(explored.turns, await inflate(explored.cells), size); }
+
+  // A picture of one pixel a cell, dark where a player has not explored by a turn.
+  picture(player, turn) {
+    const sample = this.turns.findLastIndex(it => it <= turn), key = player * 256 + sample;
+    if (!this.kept.has(key)) this.kept.set(key, this.draw(player, sample));
+    return this.kept.get(key);
+  }
+
+  draw(player, sample) {
+    const [width, depth] = this.size, canvas = document.createElement('canvas');
+    canvas.width = width;
+    canvas.height = depth;
+    const context = canvas.getContext('2d'), image = context.createImageData(width, depth);
+    for (let cell = 0; cell < width * depth; cell++) {
+      const seen = this.cells[(player - 1) * width * depth + cell] <= sample;
+      const x = cell % width, z = Math.floor(cell / width);
+      image.data[((depth - 1 - z) * width + x) * 4 + 3] = seen ? 0 : 120;
+    }
+    context.putImageData(image, 0, 0);
+    return canvas;
+  }
+}
+
 class Painter {
   constructor(canvas, index) {
     this.canvas = canvas;
@@ -42,6 +70,8 @@ class Painter {
     this.context = canvas.getContext('2d');
     this.view = new View(canvas, index.size);
     this.ways = this.targets = true;
+    this.explored = null;
+    this.seer = this.turn = 0;
   }
 
   isBuilding(frame, row) { return this.index.templates[frame.template[row]].width > 0; }
@@ -57,6 +87,7 @@ class Painter {
   // Paints a frame; selected is an id or 0, marked the ids that differ.
   paint(frame, selected, marked) {
     this.paintGround();
+    if (this.seer) this.paintUnexplored();
     this.paintBuildings(frame);
     if (this.ways) this.paintWays(frame, selected);
     if (this.targets) this.paintTargets(frame);
@@ -82,6 +113,13 @@ class Painter {
     context.fillStyle = '#4a4a4a';
     context.fill(path);
     if (this.view.scale >= 8) this.paintGrid();
+  }
+
+  paintUnexplored() {
+    const { context, view, index: { size: [width, depth] } } = this;
+    context.imageSmoothingEnabled = false;
+    const picture = this.explored.picture(this.seer, this.turn);
+    context.drawImage(picture, view.across(0), view.down(depth), width * view.scale, depth * view.scale);
   }
 
   paintGrid() {

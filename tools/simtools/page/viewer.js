@@ -48,7 +48,10 @@ class Viewer {
     this.draw();
   }
 
-  draw() { this.painter.paint(this.frame, this.selected, this.marked); }
+  draw() {
+    this.painter.turn = this.index.heads[this.place][0];
+    this.painter.paint(this.frame, this.selected, this.marked);
+  }
 
   tell() {
     const [turn, digest, next, word, rows] = this.index.heads[this.place];
@@ -112,8 +115,20 @@ class Viewer {
     if (!difference) return;
     element('difference').hidden = false;
     element('difference').textContent = difference.text;
-    this.selected = difference.entity;
+    if (difference.entity > 1) this.selected = difference.entity;
     this.marked.add(difference.entity);
+  }
+
+  // What the program tells beside the states: who has explored what, and what each holds.
+  async tellKnowledge() {
+    const { explored, realm, players, size } = this.index;
+    element('realm').hidden = !realm;
+    element('realm').textContent = realm || '';
+    if (!explored) return;
+    this.painter.explored = await Explored.read(explored, size);
+    element('sight').hidden = false;
+    for (let player = 1; player <= players; player++) element('seer').add(new Option('player ' + player, player));
+    element('seer').onchange = event => { this.painter.seer = Number(event.target.value); this.draw(); };
   }
 
   async run() {
@@ -219,9 +234,10 @@ async function begin() {
   const viewer = window.viewer = new Viewer(index);
   listenToControls(viewer);
   listenToGround(viewer);
-  tellEvents(index.events, index.clients);
+  tellEvents(index.events, index.players);
   if (index.kind === 'states') await viewer.markDifferences();
   viewer.tellDifference();
+  await viewer.tellKnowledge();
   await showAsked(viewer);
   document.body.dataset.ready = 'yes';
 }
