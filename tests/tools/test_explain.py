@@ -257,7 +257,7 @@ def test(cases):
                   ("a code that is none", ["match", "refused", 12, 0], "codes are 1 to 11"), ("a word for a number", ["list", "refused", "x"], "no number"),
                   ("a file that is not there", ["match", "refused", 1, 0, missing], "can't be read"))
         for line, said in (("match refused 8 3", "entities[3]"), ("match refused 2 18", "templates[2]"), ("match refused 3 4", "delay"),
-                           ("no turn 9 of 5", "turns 0 to 5"), ("sight refused 1", "one byte for each cell"), ("log refused 4", "line 4"),
+                           ("no turn 9 of 5", "turns 0 to 5"), ("sight refused 1", "one byte for each player"), ("log refused 4", "line 4"),
                            ("economy refused 2", "deeds[1]"), ("state refused 2 s", "another match"), ("list refused 5", "item 4")):
             status, out, error = run_tool("explain", *line.split())
             cases.holds(f"without a file: {line}", status == 0 and said in out and not error, (status, out, error))

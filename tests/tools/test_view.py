@@ -116,6 +116,7 @@ class Viewing:
         said = subprocess.run([program(), "compare", match, *paths], capture_output=True, text=True, check=False).stdout.strip()
         self.browser.open(draw(self.folder, "states", match, "--states", *paths))
         self.cases.case("the difference is told", text(self.browser, "difference"), said)
+        self.cases.case("the digest of the first", text(self.browser, "digest"), told_digest("play examples/squads.json", "turn 2"))
         colour = self.browser.run("getComputedStyle(document.getElementById('difference')).color")
         self.cases.case("and is red", colour, "rgb(255, 0, 0)")
         self.cases.case("all four that differ are marked", self.browser.run("[...viewer.marked].sort().join()"), "1,2,3,4,5")

@@ -64,19 +64,20 @@ _ROW = re.compile(r"entity (\d+) template (\S+) owner (\d+) at (\S+) (\S+)(?: he
 _WAY = re.compile(r"way (\d+)((?: \S+ \S+)+)")
 
 
+class _Raws(dict):
+    """The raws of printed numbers, each read once: most numbers of a match come often."""
+
+    def __missing__(self, text):
+        self[text] = raw = read_raw(text)
+        return raw
+
+
 class ShownText:
     """Reads the lines of `show` and of `film` into frames."""
 
     def __init__(self, names):
         self.numbers = {name: number for number, name in enumerate(names)}
-        self.raws = {}
-
-    def raw(self, text):
-        """The raw of a printed number; most numbers of a match come often."""
-        found = self.raws.get(text)
-        if found is None:
-            found = self.raws[text] = read_raw(text)
-        return found
+        self.raw = _Raws().__getitem__
 
     def frames(self, lines):
         """Each frame of a text of `film`; lines may be any iterator, so that a long film needs no list."""

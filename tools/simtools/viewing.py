@@ -4,6 +4,7 @@ The program's word `film` tells all turns in one run. A program that does not kn
 turn, which plays the match anew each time.
 """
 
+import hashlib
 import json
 import pathlib
 import sys
@@ -55,6 +56,15 @@ def main(words):
         print(f"{out}: {len(text) / 1e6:.1f} MB")
 
 
+def stored_frame(name):
+    """The frame of a stored state. Its digest is MD5 of the bytes as they are stored."""
+    data = read_bytes(name)
+    try:
+        return frame_of(read_stored(data), hashlib.md5(data).hexdigest())
+    except StoredFault as fault:
+        raise ToolFault(f"{name} is no stored state: {fault.why}") from None
+
+
 def row_in(frame, identity, names):
     """The row of an entity as `show` prints it, or nothing where it is not there."""
     return shown_row(frame, frame.ids.index(identity), names) if identity in frame.ids else ""
@@ -98,7 +108,7 @@ class Drawing:
     def states(self, left, right):
         """The page of two stored states, as `compare` sees them."""
         said = self.program.run("compare", self.path, left, right, good=(0, 1))
-        frames = [self.stored_frame(name) for name in (left, right)]
+        frames = [stored_frame(name) for name in (left, right)]
         lines = said.splitlines()
         first = None
         ground = read_ground(self.program, self.path)
@@ -108,15 +118,6 @@ class Drawing:
             first = {"entity": int(words[2]), "part": words[4], "text": "\n".join([*lines, *filter(None, rows)])}
         title = f"{self.path}: {left} and {right}"
         return self.page(title, frames, ground, kind="states", labels=[f"A: {left}", f"B: {right}"], difference=first)
-
-    def stored_frame(self, name):
-        """The frame of a stored state, with its digest as `resume` prints it in its first line."""
-        try:
-            stored = read_stored(read_bytes(name))
-        except StoredFault as fault:
-            raise ToolFault(f"{name} is no stored state: {fault.why}") from None
-        with_digest = self.program.lines("resume", self.path, name)
-        return frame_of(stored, next(with_digest).split()[2])
 
     def log(self, name, title, **more):
         """The page of a replay log: the log's commands are played in place of the match's."""
