@@ -44,13 +44,14 @@ def last_state(match):
     way = b"".join(struct.pack("<ii", (100 + i) * METRE, 70 * METRE) for i in range(WAYPOINTS))
     going = struct.pack("<BiiBB", 1, 144 * METRE, 70 * METRE, 1, WAYPOINTS) + way
     return b"".join([
-        b"RSIM", struct.pack("<I", 1), hashlib.md5(match).digest(), struct.pack("<IIQ", TURNS, 2 + ROWS, 0),
+        b"RSIM", struct.pack("<I", 2), hashlib.md5(match).digest(), struct.pack("<IIQ", TURNS, 2 + ROWS, 0),
         section(1, [struct.pack("<IH", at, 0) for at in ids]),
         section(2, [struct.pack("<Iii", at, at % 64 * METRE, at // 64 * METRE) for at in ids]),
         section(3, [struct.pack("<IB", at, 1) for at in ids]),
         section(4, [struct.pack("<Ii", at, 50 * METRE) for at in ids]),
         section(5, [struct.pack("<I", at) + going for at in ids]),
         section(6, [struct.pack("<IIH", at, 0, 0) for at in ids]),
+        section(7, [struct.pack("<IB", at, 0) for at in ids]),
     ])
 
 

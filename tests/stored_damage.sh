@@ -14,7 +14,7 @@ failed=0
 
 damage() {
     line=$("$program" "$(realpath "$1")" "$(realpath "$2")")
-    echo "$(basename "$2"): $line"
+    echo "$(basename "$2"): ${line#*: }"
     case $line in *'out-of-memory 0 wrong 0') ;; *) failed=1 ;; esac
 }
 
