@@ -34,7 +34,8 @@ report_marked setup (Heard c (up.Report t g)) h = All-cons (IsReported setup) (t
 report_marked setup (Heard c (up.State j t past)) h = All-nil (IsReported setup)
 report_marked setup (Cut c) h = All-nil (IsReported setup)
 
-reports_marked : (setup : Setup) (rules : Rules) (active : ℕ) (h : List (Arrival Past)) → All (HasMark setup) h → All (IsReported setup) (reports rules active h)
+reports_marked : (setup : Setup) (rules : Rules) (active : ℕ) (h : List (Arrival Past)) → All (HasMark setup) h
+    → All (IsReported setup) (reports rules active h)
 reports_marked setup rules active [] all = All-nil (IsReported setup)
 reports_marked setup rules active (a ∷ h) all =
     All-append (IsReported setup) (reports rules active h) (if is_accepted rules (server_after rules active h) a then report_of a else [])
@@ -77,7 +78,8 @@ apart_by setup t one other left right apart = record {
         cond-false _ (digest setup (after setup past)) (quick (after setup past)) (ap is_full_turn (after_counts_turns setup past ∙ at) ∙ other)
 
 -- a report that differs from the reference of its turn
-report_apart : (setup : Setup) (rs : List Report) (r : Report) → All (IsReported setup) rs → Carries rs r → differs (first_mark r.0 rs) r.1.1 ≡ true → AreApart setup r.0
+report_apart : (setup : Setup) (rs : List Report) (r : Report) → All (IsReported setup) rs → Carries rs r
+    → differs (first_mark r.0 rs) r.1.1 ≡ true → AreApart setup r.0
 report_apart setup rs r all has = by (first_mark r.0 rs) refl
   where
     by : (o : Option (List ℕ)) → first_mark r.0 rs ≡ o → differs o r.1.1 ≡ true → AreApart setup r.0
@@ -101,8 +103,8 @@ found test (r ∷ rs) n has = by (test r) refl (found test rs n) has
     later : IsFound test rs n → IsFound test (r ∷ rs) n
     later q = (q.0, inr q.1, q.2, q.3)
 
-    by : (b : Bool) → test r ≡ b → (Carries (pairs (filter test rs)) n → IsFound test rs n) → Carries (pairs (if b then r ∷ filter test rs else filter test rs)) n
-        → IsFound test (r ∷ rs) n
+    by : (b : Bool) → test r ≡ b → (Carries (pairs (filter test rs)) n → IsFound test rs n)
+        → Carries (pairs (if b then r ∷ filter test rs else filter test rs)) n → IsFound test (r ∷ rs) n
     by true e rest (inl same) = (r, inl refl, e, ap (λ (n : ℕ × ℕ). n.0) same)
     by true e rest (inr has) = later (rest has)
     by false e rest has = later (rest has)

@@ -105,7 +105,10 @@ all_put setup c said ups here there d = by (d == c)
 
 marks_act : (setup : Setup) (c : ℕ) (acted : Acted) (s : Session) → All (SaysMark setup) acted.says → AllMarks setup s → AllMarks setup (acts c acted s)
 marks_act setup c acted s said h =
-    record { ups = all_put setup c (s.ups c ++ acted.says) s.ups (All-append (SaysMark setup) (s.ups c) acted.says (h.ups c) said) h.ups; arrivals = h.arrivals }
+    record {
+      ups = all_put setup c (s.ups c ++ acted.says) s.ups (All-append (SaysMark setup) (s.ups c) acted.says (h.ups c) said) h.ups;
+      arrivals = h.arrivals;
+    }
 
 marks_rise : (setup : Setup) (c : ℕ) (ups : List Up) (s : Session) → All (SaysMark setup) ups → AllMarks setup s → AllMarks setup (rises setup c ups s)
 marks_rise setup c [] s said h = h

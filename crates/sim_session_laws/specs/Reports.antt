@@ -1,7 +1,8 @@
 -- What the reports of a session say, and so what a notice shows.
-use Rattle.std.specs.Prelude.{◌≡◌, ℕ, true, false, List}
+use Rattle.std.specs.Prelude.{◌≡◌, ℕ, ◌≤◌, Bool, true, false, List, [], All}
 use Rattle.sim_base.specs.declared.setup.Setup.{Setup}
 use Rattle.sim_base.specs.declared.step.Step.{Step}
+use Rattle.sim_base.specs.declared.step.Step.TheVariants as step
 use Rattle.sim_base.specs.Turn.{Past, after, turns_in}
 use Rattle.sim_base.specs.Spelling.{digest, quick, mark, is_full_turn}
 use Rattle.sim_plain.specs.declared.message.UpOf.TheVariants as up
@@ -35,3 +36,19 @@ abbrev pub NoticesShowDifferences : Type 0
 NoticesShowDifferences =
     (setup : Setup) (active : ℕ) (steps : List Step) (t c : ℕ)
     → Carries (notices (rules_of setup) active (session setup active steps).arrivals) (t, c) → AreApart setup t
+
+-- a step that bends a client
+abbrev pub is_bend : Step → Bool
+is_bend (step.Order c command) = false
+is_bend (step.Up c) = false
+is_bend (step.Down c) = false
+is_bend (step.Play c) = false
+is_bend (step.Join c) = false
+is_bend (step.Cut c) = false
+is_bend (step.Bend c id health) = true
+
+-- where nobody is bent there is no notice
+abbrev pub NoticesNeedBends : Type 0
+NoticesNeedBends =
+    (setup : Setup) (active : ℕ) (steps : List Step) → active ≤ setup.players → All (λ x. is_bend x ≡ false) steps
+    → notices (rules_of setup) active (session setup active steps).arrivals ≡ []
