@@ -3,7 +3,7 @@ use Rattle.std.proofs.Common.{◌≡◌, ℕ, Bool, true, false, List, [], ◌�
 use Rattle.std.specs.Prelude.{filter, map, not, ◌==◌}
 use Rattle.std.proofs.lemmas.Bool.{eqb-true}
 use Rattle.std.proofs.lemmas.Slice.Eq.{bytes_eq-Decides}
-use Rattle.std.proofs.lemmas.List.Elements.{All-nil, All-cons, All-head, All-tail, All-append}
+use Rattle.std.proofs.lemmas.List.Elements.{All-nil, All-cons, All-head, All-tail, All-append, All-weaker}
 use Rattle.sim_base.specs.declared.setup.Setup.{Setup}
 use Rattle.sim_base.specs.Turn.{Past}
 use Rattle.sim_plain.specs.declared.message.UpOf.TheVariants as up
@@ -16,7 +16,7 @@ use Rattle.sim_plain.specs.Server.{Server, server_after}
 use Rattle.sim_plain_session.specs.Pasts.{rules_of}
 use Rattle.sim_plain_session.specs.Sessions.{session}
 use Rattle.sim_session_laws.specs.Reports.{NoticesNeedBends}
-use Rattle.sim_session_laws.proofs.Straight.{mark_at, IsStraightArrival, all_weaken, straight_session}
+use Rattle.sim_session_laws.proofs.Straight.{mark_at, IsStraightArrival, straight_session}
 
 -- a report says what all of its turn say
 abbrev Agrees : Setup → Server → Report → Type 0
@@ -76,4 +76,4 @@ notices_need_bends setup active steps few calm =
     let all = reports_agree setup s.server (rules_of setup) active s.arrivals (straight_session setup active steps few calm).arrivals in
     let test : Report → Bool = λ r. differs (first_mark r.0 rs) r.1.1 in
     ap (λ (l : List Report). map (λ (r : Report). (r.0, r.1.0)) l)
-    (none_left test rs (all_weaken (Agrees setup s.server) (λ r. test r ≡ false) (none_differs setup s.server rs all) rs all))
+    (none_left test rs (All-weaker (Agrees setup s.server) (λ r. test r ≡ false) (none_differs setup s.server rs all) rs all))

@@ -1,7 +1,7 @@
 -- A session in which nobody is bent: no past has a bend, and each report of a turn is the mark after the kept turns.
 use Rattle.std.proofs.Common.{◌≡◌, ℕ, zero, suc, ◌≤◌, ◌==◌, Bool, true, false, List, [], ◌∷◌, ◌++◌, All, map, refl, sym, ap, ◌∙◌, subst, arith}
 use Rattle.std.specs.Prelude.{nat_lt, min, filter, if◌then◌else◌, Option, Some, None, ◌&&◌, ◌+◌, ◌-◌}
-use Rattle.std.proofs.lemmas.List.Elements.{All-nil, All-cons, All-head, All-tail, All-append}
+use Rattle.std.proofs.lemmas.List.Elements.{All-nil, All-cons, All-head, All-tail, All-append, All-weaker}
 use Rattle.sim_base.specs.declared.command.Command.{Command}
 use Rattle.sim_base.specs.declared.command.PlayerCommand.{PlayerCommand}
 use Rattle.sim_base.specs.declared.setup.Setup.{Setup}
@@ -65,10 +65,6 @@ pub record Straight (setup : Setup) (s : Session) : Type 0 where
   pub arrivals : All (IsStraightArrival setup s.server) s.arrivals
 
 -- ---- what was straight stays so as more is released
-
-pub all_weaken : {X : Type 0} (P Q : X → Type 0) → ((x : X) → P x → Q x) → (xs : List X) → All P xs → All Q xs
-all_weaken P Q f [] all = All-nil Q
-all_weaken P Q f (x ∷ xs) all = All-cons Q x xs (f x (All-head P x xs all)) (all_weaken P Q f xs (All-tail P x xs all))
 
 up_grows : (setup : Setup) (a b : Server) → Grown a b → (x : Up) → IsStraightUp setup a x → IsStraightUp setup b x
 up_grows setup a b g up.Join h = tt
@@ -208,7 +204,7 @@ straight_acts setup c acted s holds it h = record {
     said : (d : ℕ) (b : Bool) → All (IsStraightUp setup s.server) (if b then s.ups c ++ acted.says else s.ups d)
     said d true =
         All-append (IsStraightUp setup s.server) (s.ups c) acted.says (h.ups c)
-        (all_weaken (IsOwn setup acted.phase) (IsStraightUp setup s.server) own acted.says it.1)
+        (All-weaker (IsOwn setup acted.phase) (IsStraightUp setup s.server) own acted.says it.1)
     said d false = h.ups d
 
 -- ---- what the server says
@@ -295,10 +291,10 @@ straight_arrives setup a s grown it h =
     let next = heard (rules_of setup) s.server a in
     record {
       phases = h.phases;
-      ups = λ d. all_weaken (IsStraightUp setup s.server) (IsStraightUp setup next) (up_grows setup s.server next grown) (s.ups d) (h.ups d);
+      ups = λ d. All-weaker (IsStraightUp setup s.server) (IsStraightUp setup next) (up_grows setup s.server next grown) (s.ups d) (h.ups d);
       downs = λ d. All-append IsStraightDown (s.downs d) (posts (rules_of setup) s.server a d) (h.downs d) (posts_straight setup s.server a it d);
       arrivals =
-          all_weaken (IsStraightArrival setup s.server) (IsStraightArrival setup next) (arrival_grows setup s.server next grown) (a ∷ s.arrivals)
+          All-weaker (IsStraightArrival setup s.server) (IsStraightArrival setup next) (arrival_grows setup s.server next grown) (a ∷ s.arrivals)
           (All-cons (IsStraightArrival setup s.server) a s.arrivals it h.arrivals);
     }
 
