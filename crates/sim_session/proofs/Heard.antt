@@ -1,6 +1,6 @@
 -- What a client of a session hears loads as the state that was meant, and what it does then is what the definition says, over
 -- plain values.
-use Rattle.std.proofs.Common.{◌≡◌, ℕ, Bool, true, false, List, [], ◌∷◌, All, Option, Some, None, Ok, refl, sym, ap, ◌∙◌, subst, map, if◌then◌else◌, ◌&&◌, nat_lt, ◌==◌, ◌++◌}
+use Rattle.std.proofs.Common.{◌≡◌, inl, ℕ, Bool, true, false, List, [], ◌∷◌, All, Option, Some, None, Ok, refl, sym, ap, ◌∙◌, subst, map, if◌then◌else◌, ◌&&◌, nat_lt, ◌==◌, ◌++◌}
 use Rattle.std.proofs.lemmas.List.Elements.{All-nil, All-cons}
 use Rattle.std.proofs.lemmas.Option.{none-some}
 use Rattle.sim_base.specs.declared.setup.Setup.{Setup}
@@ -49,7 +49,7 @@ loaded_of setup (down.Refused code) = None
 
 loads_from : (setup : Setup) (s : Session) (c : ℕ) (said : Down) (rest : List Down) → HasValidStates setup c s → s.downs c ≡ said ∷ rest → LoadsFrom setup (carry_down (spelled setup) said) (loaded_of setup said)
 loads_from setup s c (down.Ask j) rest valid first = tt
-loads_from setup s c (down.State done past) rest valid first = record { valid = valid.heard done past rest first; spelled = refl }
+loads_from setup s c (down.State done past) rest valid first = record { valid = valid.heard done past rest first; spelled = inl refl }
 loads_from setup s c (down.Command t order) rest valid first = tt
 loads_from setup s c (down.Release t) rest valid first = tt
 loads_from setup s c (down.Notice t j) rest valid first = tt

@@ -1,4 +1,4 @@
--- A valid state has no more bytes than any may have: 70, and 568 for each row.
+-- A valid state has no more bytes than any may have: 75, and 573 for each row.
 use Rattle.std.proofs.Common.{◌≡◌, ℕ, suc, ◌+◌, ◌*◌, ◌≤◌, List, [], ◌∷◌, ◌++◌, length, All, Option, Some, None, arith, length-append}
 use Rattle.std.proofs.Math.Nat.{suc-mul}
 use Rattle.std.specs.Prelude.{IfSome, option_map, codes}
@@ -11,8 +11,8 @@ use Rattle.sim_base.specs.declared.state.State.{State}
 use Rattle.sim_base.specs.declared.setup.Setup.{Setup}
 use Rattle.sim_base.specs.Limits.{IsSetup}
 use Rattle.sim_base.specs.Validity.{IsValid}
-use Rattle.sim_base.specs.Bytes.{u16_bytes, u32_bytes, u64_bytes, i32_bytes}
-use Rattle.sim_base.specs.Spelling.{entity_bytes, entity_part, position_bytes, position_part, owner_bytes, owner_part, health_bytes, health_part, attack_bytes, attack_part, moving_bytes, motion_part, point_bytes, rows_with, section, sections, clock_bytes, version, spelling}
+use Rattle.sim_base.specs.Bytes.{u16_bytes, u32_bytes, u64_bytes, i32_bytes, flag_bytes}
+use Rattle.sim_base.specs.Spelling.{entity_bytes, entity_part, position_bytes, position_part, owner_bytes, owner_part, health_bytes, health_part, attack_bytes, attack_part, moving_bytes, motion_part, stance_bytes, stance_part, point_bytes, rows_with, section, sections, clock_bytes, version, spelling}
 use Rattle.sim_bytes.specs.Numbers.{length-u16_bytes, length-u32_bytes, length-u64_bytes, length-i32_bytes}
 use Rattle.sim_sections.specs.Lengths.{length-moving_bytes}
 use Rattle.sim_sections.specs.Rows.{IsShort, HasShortWay}
@@ -46,7 +46,7 @@ point_long p = omega (arith, length-append (i32_bytes p.x) (i32_bytes p.z), leng
 section_long : {X : Type 0} (tag : ℕ) (spelled : X → List ℕ) (rows : List X) → length (section tag spelled rows) ≡ 5 + length (flat_map spelled rows)
 section_long tag spelled rows = omega (arith, length-append (u32_bytes (length rows)) (flat_map spelled rows), length-u32_bytes (length rows))
 
-sections_few : (rows : List Row) → All HasShortWay rows → length (sections rows) ≤ 30 + 568 * length rows
+sections_few : (rows : List Row) → All HasShortWay rows → length (sections rows) ≤ 35 + 573 * length rows
 sections_few rows short =
     let one = section 1 entity_bytes (rows_with entity_part rows) in
     let two = section 2 position_bytes (rows_with position_part rows) in
@@ -54,12 +54,16 @@ sections_few rows short =
     let four = section 4 health_bytes (rows_with health_part rows) in
     let five = section 5 moving_bytes (rows_with motion_part rows) in
     let six = section 6 attack_bytes (rows_with attack_part rows) in
+    let seven = section 7 stance_bytes (rows_with stance_part rows) in
     let a = rows_few 6 entity_bytes entity_part rows (λ row h. omega (arith, length-append (u32_bytes row.id) (u16_bytes row.template), length-u32_bytes row.id, length-u16_bytes row.template)) short in
     let b = rows_few 12 position_bytes position_part rows (λ row h. omega (arith, length-append (u32_bytes row.id) (point_bytes row.at), length-u32_bytes row.id, point_long row.at)) short in
     let c = rows_few 5 owner_bytes owner_part rows (λ row h. omega (arith, length-append (u32_bytes row.id) (row.owner ∷ []), length-u32_bytes row.id)) short in
     let d = rows_few 8 health_bytes health_part rows (λ row h. have health_bytes 8 row.id row.health (λ x. omega (arith, length-append (u32_bytes row.id) (i32_bytes x), length-u32_bytes row.id, length-i32_bytes x))) short in
     let e = rows_few 527 moving_bytes motion_part rows (λ row h. moving row.id row.motion h) short in
     let f = rows_few 10 attack_bytes attack_part rows (λ row h. have attack_bytes 10 row.id (attack_part row) (λ x. omega (arith, length-append (u32_bytes row.id) (u32_bytes x.0 ++ u16_bytes x.1), length-append (u32_bytes x.0) (u16_bytes x.1), length-u32_bytes row.id, length-u32_bytes x.0, length-u16_bytes x.1))) short in
+    let g =
+    rows_few 5 stance_bytes stance_part rows
+    (λ row h. have stance_bytes 5 row.id (stance_part row) (λ x. omega (arith, length-append (u32_bytes row.id) (flag_bytes x), length-u32_bytes row.id))) short in
     omega (
       arith,
       a,
@@ -68,17 +72,20 @@ sections_few rows short =
       d,
       e,
       f,
+      g,
       section_long 1 entity_bytes (rows_with entity_part rows),
       section_long 2 position_bytes (rows_with position_part rows),
       section_long 3 owner_bytes (rows_with owner_part rows),
       section_long 4 health_bytes (rows_with health_part rows),
       section_long 5 moving_bytes (rows_with motion_part rows),
       section_long 6 attack_bytes (rows_with attack_part rows),
-      length-append one (two ++ (three ++ (four ++ (five ++ six)))),
-      length-append two (three ++ (four ++ (five ++ six))),
-      length-append three (four ++ (five ++ six)),
-      length-append four (five ++ six),
-      length-append five six,
+      section_long 7 stance_bytes (rows_with stance_part rows),
+      length-append one (two ++ (three ++ (four ++ (five ++ (six ++ seven))))),
+      length-append two (three ++ (four ++ (five ++ (six ++ seven)))),
+      length-append three (four ++ (five ++ (six ++ seven))),
+      length-append four (five ++ (six ++ seven)),
+      length-append five (six ++ seven),
+      length-append six seven,
     )
 
 pub states_are_short : (setup : Setup) (state : State) → IsSetup setup → IsValid setup state → IsShortState (spelling setup state)

@@ -91,9 +91,11 @@ fn played(
     let Did::Done { .. } = did else {
         return Ok(Items::new(alloc));
     };
-    let Some((turn, digest)) = shown(client) else {
+    let Some(seen) = shown(client) else {
         return Ok(Items::new(alloc));
     };
+    let turn = seen.0;
+    let digest = seen.1;
     one(
         alloc,
         Event::Play {
@@ -151,9 +153,11 @@ fn bent(alloc: Global, client: &Client<'_>, number: u8) -> Result<Events, OutOfM
     requires sound { IsSound client.now ⟦<dyn System as System>⟧ }
     ensures { IfOk result (λ events. events ≡ shows (setup_in client.now) (event.Bend number) (life client.now)) }
 {
-    let Some((turn, digest)) = shown(client) else {
+    let Some(seen) = shown(client) else {
         return Ok(Items::new(alloc));
     };
+    let turn = seen.0;
+    let digest = seen.1;
     one(
         alloc,
         Event::Bend {

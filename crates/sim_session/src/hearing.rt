@@ -46,9 +46,11 @@ fn loaded(alloc: Global, client: &Client<'_>, number: u8) -> Result<Events, OutO
     requires { IsSound client.now ⟦<dyn System as System>⟧ }
     ensures { IfOk result (λ events. events ≡ shows (setup_in client.now) (event.Load number) (life client.now)) }
 {
-    let Some((turn, digest)) = shown(client) else {
+    let Some(seen) = shown(client) else {
         return Ok(Items::new(alloc));
     };
+    let turn = seen.0;
+    let digest = seen.1;
     one(
         alloc,
         Event::Load {

@@ -36,10 +36,10 @@ command_above setup released kept c t (In n) low f = test (t == suc n && nat_le 
     test false k g = absurd (cc)
 
 -- what a server keeps of released turns stays
-abbrev Grown : Server → Server → Type 0
+abbrev pub Grown : Server → Server → Type 0
 Grown s s' = Grows s.released s.kept s'.released s'.kept
 
-heard_grows : (setup : Setup) (s : Server) (a : Arrival Past) → ((c done : ℕ) → s.status c ≡ In done → s.released ≤ done)
+pub heard_grows : (setup : Setup) (s : Server) (a : Arrival Past) → ((c done : ℕ) → s.status c ≡ In done → s.released ≤ done)
     → Grown s (heard (rules_of setup) s a)
 heard_grows setup s (Heard c up.Join) low = by (is_out (s.status c))
   where

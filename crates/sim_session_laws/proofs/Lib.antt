@@ -16,3 +16,5 @@ pub mod Final
 pub mod WrongProtocols
 pub mod Reporting
 pub mod NoticeFacts
+pub mod Straight
+pub mod QuietFacts

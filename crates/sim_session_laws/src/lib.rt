@@ -22,6 +22,6 @@ mod standing;
 mod turn_numbers;
 
 pub use pasts::{commands_reach_each_client, unbent_clients_agree};
-pub use reports::notices_show_differences;
+pub use reports::{notices_need_bends, notices_show_differences};
 pub use standing::{clients_stand_where_the_server_sees_them, pasts_lead_to_valid_states};
 pub use turn_numbers::{dones_are_accepted, releases_are_kept};
