@@ -65,7 +65,8 @@ events_0 = refl
 
 left_0 : left match (session match 4 steps_0)
     ≡ record {
-      statuses = In 3 ∷ In 3 ∷ In 3 ∷ Waiting 1 ∷ []; released = 3;
+      statuses = In 3 ∷ In 3 ∷ In 3 ∷ Waiting 1 ∷ [];
+      released = 3;
       kept = 0 ∷ 0 ∷ 0 ∷ 2 ∷ 0 ∷ 0 ∷ 0 ∷ 0 ∷ [];
       ups = 5 ∷ 3 ∷ 0 ∷ 0 ∷ [];
       downs = 2 ∷ 2 ∷ 1 ∷ 0 ∷ [];
@@ -89,7 +90,8 @@ events_1 = refl
 
 left_1 : left match (session match 2 steps_1)
     ≡ record {
-      statuses = In 3 ∷ In 4 ∷ In 3 ∷ Out ∷ []; released = 3;
+      statuses = In 3 ∷ In 4 ∷ In 3 ∷ Out ∷ [];
+      released = 3;
       kept = 0 ∷ 0 ∷ 0 ∷ 0 ∷ 0 ∷ 0 ∷ 0 ∷ 0 ∷ [];
       ups = 1 ∷ 4 ∷ 0 ∷ 0 ∷ [];
       downs = 0 ∷ 0 ∷ 0 ∷ 0 ∷ [];
@@ -115,7 +117,8 @@ events_2 = refl
 
 left_2 : left match (session match 2 steps_2)
     ≡ record {
-      statuses = Out ∷ Waiting 4 ∷ Waiting 4 ∷ In 4 ∷ []; released = 4;
+      statuses = Out ∷ Waiting 4 ∷ Waiting 4 ∷ In 4 ∷ [];
+      released = 4;
       kept = 0 ∷ 0 ∷ 0 ∷ 0 ∷ 2 ∷ 0 ∷ 0 ∷ 0 ∷ [];
       ups = 0 ∷ 0 ∷ 0 ∷ 1 ∷ [];
       downs = 0 ∷ 0 ∷ 0 ∷ 3 ∷ [];
@@ -143,7 +146,8 @@ events_3 = refl
 
 left_3 : left match (session match 2 steps_3)
     ≡ record {
-      statuses = Out ∷ Out ∷ Out ∷ In 3 ∷ []; released = 3;
+      statuses = Out ∷ Out ∷ Out ∷ In 3 ∷ [];
+      released = 3;
       kept = 0 ∷ 0 ∷ 0 ∷ 2 ∷ 0 ∷ 0 ∷ 0 ∷ 0 ∷ [];
       ups = 0 ∷ 1 ∷ 0 ∷ 0 ∷ [];
       downs = 0 ∷ 0 ∷ 0 ∷ 1 ∷ [];
@@ -170,7 +174,8 @@ events_4 = refl
 
 left_4 : left match (session match 1 steps_4)
     ≡ record {
-      statuses = In 6 ∷ Out ∷ Out ∷ In 5 ∷ []; released = 5;
+      statuses = In 6 ∷ Out ∷ Out ∷ In 5 ∷ [];
+      released = 5;
       kept = 0 ∷ 0 ∷ 0 ∷ 1 ∷ 1 ∷ 0 ∷ 0 ∷ 0 ∷ [];
       ups = 2 ∷ 0 ∷ 0 ∷ 0 ∷ [];
       downs = 0 ∷ 0 ∷ 0 ∷ 2 ∷ [];
@@ -198,7 +203,8 @@ events_5 = refl
 
 left_5 : left match (session match 1 steps_5)
     ≡ record {
-      statuses = In 7 ∷ Out ∷ In 7 ∷ Out ∷ []; released = 7;
+      statuses = In 7 ∷ Out ∷ In 7 ∷ Out ∷ [];
+      released = 7;
       kept = 0 ∷ 0 ∷ 0 ∷ 0 ∷ 0 ∷ 1 ∷ 1 ∷ 3 ∷ [];
       ups = 2 ∷ 0 ∷ 0 ∷ 0 ∷ [];
       downs = 5 ∷ 0 ∷ 7 ∷ 0 ∷ [];
@@ -228,7 +234,8 @@ events_6 = refl
 
 left_6 : left match (session match 1 steps_6)
     ≡ record {
-      statuses = Out ∷ In 4 ∷ In 5 ∷ In 3 ∷ []; released = 3;
+      statuses = Out ∷ In 4 ∷ In 5 ∷ In 3 ∷ [];
+      released = 3;
       kept = 0 ∷ 0 ∷ 0 ∷ 0 ∷ 3 ∷ 0 ∷ 0 ∷ 0 ∷ [];
       ups = 1 ∷ 0 ∷ 6 ∷ 0 ∷ [];
       downs = 0 ∷ 1 ∷ 1 ∷ 3 ∷ [];
@@ -259,7 +266,8 @@ events_7 = refl
 
 left_7 : left match (session match 1 steps_7)
     ≡ record {
-      statuses = Out ∷ In 7 ∷ In 7 ∷ Waiting 2 ∷ []; released = 7;
+      statuses = Out ∷ In 7 ∷ In 7 ∷ Waiting 2 ∷ [];
+      released = 7;
       kept = 0 ∷ 0 ∷ 0 ∷ 0 ∷ 0 ∷ 0 ∷ 0 ∷ 0 ∷ [];
       ups = 0 ∷ 2 ∷ 2 ∷ 0 ∷ [];
       downs = 0 ∷ 1 ∷ 0 ∷ 0 ∷ [];
@@ -291,7 +299,8 @@ events_8 = refl
 
 left_8 : left match (session match 1 steps_8)
     ≡ record {
-      statuses = Out ∷ Out ∷ Out ∷ Out ∷ []; released = 6;
+      statuses = Out ∷ Out ∷ Out ∷ Out ∷ [];
+      released = 6;
       kept = 0 ∷ 0 ∷ 0 ∷ 2 ∷ 0 ∷ 0 ∷ 0 ∷ 0 ∷ [];
       ups = 0 ∷ 0 ∷ 0 ∷ 0 ∷ [];
       downs = 1 ∷ 0 ∷ 1 ∷ 0 ∷ [];
@@ -325,7 +334,8 @@ events_9 = refl
 
 left_9 : left match (session match 1 steps_9)
     ≡ record {
-      statuses = Out ∷ Out ∷ Out ∷ Out ∷ []; released = 6;
+      statuses = Out ∷ Out ∷ Out ∷ Out ∷ [];
+      released = 6;
       kept = 0 ∷ 0 ∷ 0 ∷ 0 ∷ 0 ∷ 1 ∷ 3 ∷ 0 ∷ [];
       ups = 0 ∷ 0 ∷ 0 ∷ 0 ∷ [];
       downs = 0 ∷ 0 ∷ 0 ∷ 0 ∷ [];

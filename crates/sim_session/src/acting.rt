@@ -79,12 +79,7 @@ fn order(
 }
 
 // What is printed of a client that was to play a turn: the turn with the whole digest, whatever its report carries.
-fn played(
-    alloc: Global,
-    client: &Client<'_>,
-    number: u8,
-    did: &Did,
-) -> Result<Events, OutOfMemory>
+fn played(alloc: Global, client: &Client<'_>, number: u8, did: &Did) -> Result<Events, OutOfMemory>
     requires sound { IsSound client.now ⟦<dyn System as System>⟧ }
     ensures { IfOk result (λ events. events ≡ played_events (setup_in client.now) number (life client.now) (has_happened did.now)) }
 {

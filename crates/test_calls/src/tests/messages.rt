@@ -23,7 +23,10 @@ static UPS: [&[u8]; 3] = [
 
 // What the server says, and as text.
 static DOWNS: [(&[u8], &str); 3] = [
-    (&[8, 0, 0, 0, 2, 2, 0, 0, 0, 9, 8, 7], "state done 2 bytes 3"),
+    (
+        &[8, 0, 0, 0, 2, 2, 0, 0, 0, 9, 8, 7],
+        "state done 2 bytes 3",
+    ),
     (
         &[
             21, 0, 0, 0, 3, 2, 0, 0, 0, 1, 1, 1, 0, 2, 0, 0, 0, 0, 128, 6, 0, 0, 128, 253, 255,

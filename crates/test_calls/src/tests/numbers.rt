@@ -4,14 +4,7 @@ use sim_base::{Fixed, next_word, root};
 use std::test::Fail;
 
 // Two raws, and those of their sum, difference, product and quotient.
-type Sums = (
-    i32,
-    i32,
-    Option<i32>,
-    Option<i32>,
-    Option<i32>,
-    Option<i32>,
-);
+type Sums = (i32, i32, Option<i32>, Option<i32>, Option<i32>, Option<i32>);
 
 static SUMS: [Sums; 6] = [
     (

@@ -28,15 +28,15 @@ const TAIL: [u8; 187] = [
     // entities
     1, 3, 0, 0, 0, 2, 0, 0, 0, 1, 0, 3, 0, 0, 0, 0, 0, 4, 0, 0, 0, 2, 0,
     // positions
-    2, 3, 0, 0, 0, 2, 0, 0, 0, 0, 128, 1, 0, 0, 128, 2, 0, 3, 0, 0, 0, 0, 0, 4, 0, 0, 0, 4,
-    0, 4, 0, 0, 0, 0, 0, 4, 0, 0, 128, 4, 0,
+    2, 3, 0, 0, 0, 2, 0, 0, 0, 0, 128, 1, 0, 0, 128, 2, 0, 3, 0, 0, 0, 0, 0, 4, 0, 0, 0, 4, 0, 4,
+    0, 0, 0, 0, 0, 4, 0, 0, 128, 4, 0,
     // owners
     3, 3, 0, 0, 0, 2, 0, 0, 0, 1, 3, 0, 0, 0, 2, 4, 0, 0, 0, 0,
     // healths
     4, 2, 0, 0, 0, 2, 0, 0, 0, 1, 0, 1, 0, 3, 0, 0, 0, 0, 0, 50, 0,
     // motions
-    5, 2, 0, 0, 0, 2, 0, 0, 0, 1, 0, 0, 3, 0, 0, 0, 4, 0, 1, 2, 0, 128, 2, 0, 0, 128, 3, 0,
-    0, 0, 3, 0, 0, 0, 4, 0, 4, 0, 0, 0, 0, 0, 0, 0, 0, 0, 0, 0, 0, 0, 0,
+    5, 2, 0, 0, 0, 2, 0, 0, 0, 1, 0, 0, 3, 0, 0, 0, 4, 0, 1, 2, 0, 128, 2, 0, 0, 128, 3, 0, 0, 0,
+    3, 0, 0, 0, 4, 0, 4, 0, 0, 0, 0, 0, 0, 0, 0, 0, 0, 0, 0, 0, 0,
     // attacks
     6, 1, 0, 0, 0, 2, 0, 0, 0, 3, 0, 0, 0, 3, 0,
 ];
@@ -78,7 +78,10 @@ fn states_of_both_versions_are_loaded(rt: HostRuntime) -> Result<(), Fail> {
         assert!(rt; stands(&setup, &bytes).is_ok(), "version {version}");
         assert!(rt; is_valid(&setup, &state), "version {version}");
         let spelled = stored(alloc, &setup, 2, after)?;
-        assert_eq!(rt; spell(alloc, &setup, &state)?.as_slice(), spelled.as_slice());
+        assert_eq!(rt;
+            spell(alloc, &setup, &state)?.as_slice(),
+            spelled.as_slice()
+        );
         let again = a_spelled_state_is_loaded(alloc, &setup, &state)?;
         assert!(rt; difference(&state, &again).is_none(), "version {version}");
     }
@@ -103,12 +106,14 @@ fn states_have_their_digests(rt: HostRuntime) -> Result<(), Fail> {
     let bytes = stored(rt.alloc(), &setup, 2, &STANCE)?;
     let state = load(rt.alloc(), &setup, &bytes)?;
     let short = [
-        0xed, 0x8d, 0xb7, 0xfd, 0x15, 0x24, 0x79, 0xa1, 0xb8, 0x16, 0x95, 0x07, 0x75, 0xff, 0x3f, 0x91,
+        0xed, 0x8d, 0xb7, 0xfd, 0x15, 0x24, 0x79, 0xa1, 0xb8, 0x16, 0x95, 0x07, 0x75, 0xff, 0x3f,
+        0x91,
     ];
     assert_eq!(rt;
         digest(&setup, &state),
         [
-            0x80, 0x07, 0xca, 0xec, 0xfb, 0x29, 0x8e, 0xfa, 0x71, 0x68, 0x8f, 0x5a, 0x48, 0x09, 0xc2, 0x99,
+            0x80, 0x07, 0xca, 0xec, 0xfb, 0x29, 0x8e, 0xfa, 0x71, 0x68, 0x8f, 0x5a, 0x48, 0x09,
+            0xc2, 0x99,
         ]
     );
     assert_eq!(rt; quick(&setup, &state), short);
