@@ -132,17 +132,17 @@ fn has_bits(state: &State, entity: u32, part: Part, wanted: &[u8]) -> bool
     }
 }
 
-// An entity and a part of it, and from where to where its bytes stand behind the head.
+// An entity and a part of it, and from where to where its bytes stand.
 static PLACES: [(u32, Part, usize, usize); 14] = [
-    (1, Part::Clock, 0, 16),
-    (2, Part::Entity, 21, 27),
-    (2, Part::Position, 44, 56),
-    (2, Part::Owner, 85, 90),
-    (2, Part::Health, 105, 113),
-    (2, Part::Motion, 126, 157),
-    (4, Part::Motion, 157, 172),
-    (2, Part::Attack, 177, 187),
-    (2, Part::Stance, 192, 197),
+    (1, Part::Clock, 24, 40),
+    (2, Part::Entity, 45, 51),
+    (2, Part::Position, 68, 80),
+    (2, Part::Owner, 109, 114),
+    (2, Part::Health, 129, 137),
+    (2, Part::Motion, 150, 181),
+    (4, Part::Motion, 181, 196),
+    (2, Part::Attack, 201, 211),
+    (2, Part::Stance, 216, 221),
     (1, Part::Entity, 0, 0),
     (2, Part::Clock, 0, 0),
     (3, Part::Motion, 0, 0),
@@ -157,7 +157,7 @@ fn an_entity_has_its_bytes_of_each_section(rt: HostRuntime) -> Result<(), Fail> 
     let state = load(rt.alloc(), &setup, &bytes)?;
     assert!(rt; is_valid(&setup, &state));
     for (entity, part, from, to) in PLACES {
-        let wanted = bytes.get(24 + from..24 + to).ok_or("out of range")?;
+        let wanted = bytes.get(from..to).ok_or("out of range")?;
         assert!(rt;
             has_bits(&state, entity, part, wanted),
             "{part:?} of {entity}"
