@@ -146,22 +146,21 @@ fn a_state_is_stored_shown_and_played_on(rt: HostRuntime) -> Result<(), Fail> {
 
 #[test]
 fn statuses_have_their_numbers(rt: HostRuntime) {
-    let statuses = [
-        Status::Done,
-        Status::Differs,
-        Status::Usage,
-        Status::ReadFault,
-        Status::WriteFault,
-        Status::TooLong,
-        Status::MatchRefused,
-        Status::StateRefused,
-        Status::ListRefused,
-        Status::OutOfMemory,
-        Status::NoSuchTurn,
-        Status::NoFile,
+    let numbers = [
+        (Status::Done, 0),
+        (Status::Differs, 1),
+        (Status::Usage, 2),
+        (Status::ReadFault, 3),
+        (Status::WriteFault, 4),
+        (Status::TooLong, 5),
+        (Status::MatchRefused, 6),
+        (Status::StateRefused, 7),
+        (Status::ListRefused, 8),
+        (Status::OutOfMemory, 9),
+        (Status::NoSuchTurn, 10),
+        (Status::NoFile, 11),
     ];
-    assert_eq!(rt;
-        statuses.map(Status::number),
-        [0, 1, 2, 3, 4, 5, 6, 7, 8, 9, 10, 11]
-    );
+    for (status, number) in numbers {
+        assert_eq!(rt; status.number(), number);
+    }
 }

@@ -27,14 +27,10 @@ fn numbers_are_added_multiplied_and_divided(rt: HostRuntime) {
     for (a, b, sum, difference, product, quotient) in SUMS {
         let x = Fixed::from_raw(a);
         let y = Fixed::from_raw(b);
-        let answers = [
-            x.checked_add(y),
-            x.checked_sub(y),
-            x.checked_mul(y),
-            x.checked_div(y),
-        ];
-        let raws = answers.map(|answer| answer.map(Fixed::raw));
-        assert_eq!(rt; raws, [sum, difference, product, quotient], "{a} and {b}");
+        assert_eq!(rt; x.checked_add(y).map(Fixed::raw), sum, "{a} and {b}");
+        assert_eq!(rt; x.checked_sub(y).map(Fixed::raw), difference, "{a} and {b}");
+        assert_eq!(rt; x.checked_mul(y).map(Fixed::raw), product, "{a} and {b}");
+        assert_eq!(rt; x.checked_div(y).map(Fixed::raw), quotient, "{a} and {b}");
     }
 }
 
@@ -81,8 +77,16 @@ fn numbers_are_printed_and_read_back(rt: HostRuntime) -> Result<(), Fail> {
 
 #[test]
 fn roots_and_words_are_found(rt: HostRuntime) {
-    assert_eq!(rt; [0, 8, 9, 8589934592].map(root), [0, 2, 3, 92681]);
-    assert_eq!(rt; root(u64::MAX), u32::MAX);
+    let roots = [
+        (0, 0),
+        (8, 2),
+        (9, 3),
+        (8589934592, 92681),
+        (u64::MAX, u32::MAX),
+    ];
+    for (n, found) in roots {
+        assert_eq!(rt; root(n), found, "of {n}");
+    }
     assert_eq!(rt; next_word(7), 176504327430);
     assert_eq!(rt; next_word(176504327430), 33146457173913);
 }
