@@ -42,6 +42,7 @@ module _ {X : Type 0} (f g : ℕ → List X) where
           let first = ap f e in
           let empty = ap g e ∙ gone in
           rw empty cc
+
       later : from < id → flat_map f (range_with_len (from + 1) count) ≡ f id ++ flat_map g (range_with_len (from + 1) count) → f from ++ flat_map f (range_with_len (from + 1) count) ≡ f id ++ (g from ++ flat_map g (range_with_len (from + 1) count))
       later lower more =
           let empty = none from lower in
@@ -122,7 +123,7 @@ unfolding shifts_between
 ends old new olds news told none w =
     let done = at_end olds news none in
     let rest : changes olds news 0 (max (end_of old) (end_of new)) ≡ [] =
-        (λ i. changes (done.0 i) (done.1 i) 0 (max (end_of old) (end_of new))) ∙ no_pieces (change_at [] []) (change_at [] []) 0 (max (end_of old) (end_of new)) (λ id. refl) in
+    (λ i. changes (done.0 i) (done.1 i) 0 (max (end_of old) (end_of new))) ∙ no_pieces (change_at [] []) (change_at [] []) 0 (max (end_of old) (end_of new)) (λ id. refl) in
     sym (append_none told) ∙ ap (λ (s : List Shift). told ++ s) (sym rest) ∙ w.told
 
 -- a mark of the next id is left behind

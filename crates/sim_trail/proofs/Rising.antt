@@ -1,6 +1,6 @@
 -- Marks whose ids rise from a number on, by recursion on the marks, and the mark of an id among them.
-use Rattle.std.proofs.Common.{◌≡◌, ℕ, zero, suc, ◌+◌, ◌<◌, ◌≤◌, Bool, true, false, cond, List, [], ◌∷◌, length, get_or, map, Option, Some, None, max, refl, sym, subst, ap, ◌∙◌, eqb, add-one, arith}
-use Rattle.std.specs.List.{find, fold}
+use Rattle.std.proofs.Common.{◌≡◌, ℕ, suc, ◌+◌, ◌<◌, ◌≤◌, Bool, true, false, cond, List, [], ◌∷◌, length, get_or, map, Some, None, max, refl, sym, subst, ap, ◌∙◌, eqb, add-one, arith}
+use Rattle.std.specs.List.{fold}
 use Rattle.std.proofs.lemmas.Bool.{eqb-true, eq-eqb, ne_eqb}
 use Rattle.sim_trail.specs.declared.mark.Mark.{Mark}
 use Rattle.std.specs.List.Sorted.{IsStrictlyIncreasing}

@@ -1,17 +1,15 @@
 -- A sum over marks follows the changes: what one id has before and after its change, and then all ids.
-use Rattle.std.proofs.Common.{◌≡◌, ℕ, zero, suc, ◌+◌, ◌*◌, ◌<◌, ◌≤◌, Bool, true, false, cond, List, [], ◌∷◌, ◌++◌, Option, Some, None, max, refl, sym, ap, ◌∙◌, subst, eqb, add-zero, arith}
-use Rattle.std.specs.List.{sum_by, range_with_len, flat_map}
-use Rattle.std.specs.Option.{option_eq}
+use Rattle.std.proofs.Common.{◌≡◌, ℕ, zero, suc, ◌+◌, ◌≤◌, Bool, true, false, cond, List, [], ◌∷◌, ◌++◌, Option, Some, None, max, refl, sym, ap, ◌∙◌, subst, eqb, add-zero, arith}
+use Rattle.std.specs.List.{sum_by}
 use Rattle.std.proofs.lemmas.Bool.{eqb-true, eq-eqb, true≢false, and_parts}
 use Rattle.std.proofs.lemmas.List.Sums.{sum_by-cons, sum_by-append}
-use Rattle.sim_base.specs.declared.place.Cell.{Cell}
 use Rattle.sim_trail.specs.declared.mark.Mark.{Mark}
 use Rattle.sim_trail.specs.declared.shift.Shift.{Shift}
 use Rattle.sim_trail.specs.Marks.{IsAscending}
 use Rattle.sim_trail.specs.Shifts.{same_mark, mark_at, change_of, gone, born, end_of, shifts_between}
 use Rattle.sim_trail.specs.Merge.{behind}
 use Rattle.sim_trail.specs.Sums.{weight_gone, weight_born, SumFollows}
-use Rattle.sim_trail.proofs.Rising.{RisingFrom, Below, rising, rising_less, below_end, absent, behind_rises, behind_below, behind_same}
+use Rattle.sim_trail.proofs.Rising.{RisingFrom, Below, rising, below_end, absent, behind_rises, behind_below, behind_same}
 use Rattle.sim_trail.proofs.Merging.{change_at, changes, same_pieces}
 
 pub same_mark_is : (a b : Mark) → same_mark a b ≡ true → a ≡ b
@@ -78,11 +76,11 @@ module _ (weight : Mark → ℕ) where
       rw (none, none') (record { balance = refl; gone = omega arith })
   all_changes from (suc count) olds news up up' below below' =
       let later = all_changes (from + 1) count (behind from olds) (behind from news) (behind_rises from olds up) (behind_rises from news up')
-          (behind_below from (from + 1 + count) olds (subst (λ (n : ℕ). Below n olds) (one_more from count) below)) (behind_below from (from + 1 + count) news (subst (λ (n : ℕ). Below n news) (one_more from count) below')) in
+      (behind_below from (from + 1 + count) olds (subst (λ (n : ℕ). Below n olds) (one_more from count) below)) (behind_below from (from + 1 + count) news (subst (λ (n : ℕ). Below n news) (one_more from count) below')) in
       let same = same_pieces (change_at olds news) (change_at (behind from olds) (behind from news)) (from + 1) count
-          (λ id le. λ i. change_of (sym (behind_same from id olds (λ h. omega arith)) i) (sym (behind_same from id news (λ h. omega arith)) i)) in
+      (λ id le. λ i. change_of (sym (behind_same from id olds (λ h. omega arith)) i) (sym (behind_same from id news (λ h. omega arith)) i)) in
       let here = joined (weigh (mark_at olds from)) (sum_by weight (behind from olds)) (weigh (mark_at news from)) (sum_by weight (behind from news)) (change_at olds news from) (changes (behind from olds) (behind from news) (from + 1) count)
-          (one_change (mark_at olds from) (mark_at news from)) later in
+      (one_change (mark_at olds from) (mark_at news from)) later in
       rw (split_off from olds up, split_off from news up', same) here
 
 pub sum_follows : (weight : Mark → ℕ) (old new : List Mark) → IsAscending old → IsAscending new → SumFollows weight old new (shifts_between old new)

@@ -8,13 +8,16 @@
 //! - `shift`: a change of a mark, and the changes of one entity.
 //! - `merge`: the changes between two lists of marks, in one pass over both.
 //! - `trail`: the marks of the last state.
+//! - `laws`: sums over marks follow the changes.
 #![tactic(auto)]
 
+mod laws;
 mod mark;
 mod merge;
 mod shift;
 mod trail;
 
+pub use laws::sums_follow_the_shifts;
 pub use mark::{Mark, Marks};
 pub use shift::{Shift, Shifts};
 pub use trail::Trail;

@@ -1,9 +1,6 @@
 -- Each round tells the changes of the next id. There are no more where neither list has a mark left.
-use Rattle.std.proofs.Common.{List, sym, subst, ◌∙◌, ap, ◌++◌, max}
-use Rattle.sim_trail.specs.declared.mark.Mark.{Mark}
-use Rattle.sim_trail.specs.declared.shift.Shift.{Shift}
-use Rattle.sim_trail.specs.Shifts.{end_of, change_of}
-use Rattle.sim_trail.proofs.Merging.{Walks, begins, goes_on, ends, fewer_left}
+use Rattle.std.proofs.Common.{sym}
+use Rattle.sim_trail.proofs.Merging.{begins, goes_on, ends, fewer_left}
 use Rattle.sim_trail.proofs.merge.shifts_between.Goals as goal
 
 pub ids-init : goal.ids-init

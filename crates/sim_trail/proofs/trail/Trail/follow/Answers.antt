@@ -1,7 +1,5 @@
 -- The marks of a state ascend, as the ids of its rows do.
-use Rattle.std.proofs.Common.{List, map, ℕ, subst, sym, ap, ◌∙◌}
-use Rattle.std.specs.List.Sorted.{IsStrictlyIncreasing}
-use Rattle.sim_trail.specs.declared.mark.Mark.{Mark}
+use Rattle.std.proofs.Common.{map, subst, sym, ap, ◌∙◌}
 use Rattle.sim_trail.specs.Marks.{IsAscending, mark_of}
 use Rattle.sim_trail.proofs.Rising.{marks_ascend}
 use Rattle.sim_trail.proofs.trail.Trail.follow.Goals as goal
