@@ -1,0 +1,5 @@
+pub mod Vision
+pub mod Spans
+pub mod Watching
+pub mod Fogs
+pub mod Keeping
