@@ -1,6 +1,5 @@
 -- Worked examples of discs and of what is explored.
-use Rattle.std.proofs.Common.{◌≡◌, ℕ, ◌*◌, Bool, true, false, List, [], ◌∷◌, count_by, refl}
-use Rattle.sim_base.specs.declared.place.Cell.{Cell}
+use Rattle.std.proofs.Common.{◌≡◌, ℕ, true, false, [], ◌∷◌, count_by, refl}
 use Rattle.sim_base.specs.Places.{cells_of}
 use Rattle.sim_vision.specs.Vision.{is_in_disc, explored_with}
 

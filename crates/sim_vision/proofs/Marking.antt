@@ -1,15 +1,13 @@
 -- The marks of a valid state are known, and so are those of the shifts between two such lists.
-use Rattle.std.proofs.Common.{◌≡◌, ℕ, zero, suc, ◌+◌, ◌*◌, ◌/◌, ◌<◌, ◌≤◌, Bool, true, false, cond, eqb, ltb, max, ℤ, pos, negsuc, ◌≤ℤ◌, ◌<ℤ◌, int_le, int_lt, unsigned_abs, List, [], ◌∷◌, ◌++◌, length, map, All, Option, Some, None, refl, sym, ap, ◌∙◌, subst, arith}
-use Rattle.std.specs.Prelude.{IfSome, MatchOption, slice_get}
-use Rattle.std.specs.List.{find, range_with_len, flat_map}
-use Rattle.std.specs.Option.{option_eq}
+use Rattle.std.proofs.Common.{◌≡◌, ℕ, ◌*◌, ◌/◌, ◌<◌, ◌≤◌, Bool, true, false, cond, eqb, max, ℤ, pos, negsuc, ◌≤ℤ◌, ◌<ℤ◌, int_le, int_lt, unsigned_abs, List, [], ◌∷◌, ◌++◌, length, All, Option, Some, None, refl, sym, arith}
+use Rattle.std.specs.Prelude.{IfSome, MatchOption}
+use Rattle.std.specs.List.{range_with_len, flat_map}
 use Rattle.std.proofs.lemmas.Bool.{and_parts, ltb-true, true≢false}
 use Rattle.std.proofs.lemmas.Int.{ints}
 use Rattle.std.proofs.lemmas.List.{length-map}
 use Rattle.std.proofs.lemmas.List.Elements.{All-nil, All-cons, All-head, All-tail, All-append, All-map, All-weaker}
 use Rattle.std.proofs.lemmas.Nat.{div_below}
 use Rattle.std.proofs.lemmas.Option.{slice_get_within}
-use Rattle.sim_base.specs.declared.place.Cell.{Cell}
 use Rattle.sim_base.specs.declared.place.Point.{Point}
 use Rattle.sim_base.specs.declared.template.Template.{Template}
 use Rattle.sim_base.specs.declared.setup.Setup.{Setup}
@@ -21,7 +19,6 @@ use Rattle.sim_base.specs.Rows.{template_of, size_of}
 use Rattle.sim_base.specs.Limits.{IsSetup, IsTemplate}
 use Rattle.sim_base.specs.Validity.{IsValid, IsValidRow, IsKnownRow}
 use Rattle.sim_trail.specs.declared.mark.Mark.{Mark}
-use Rattle.sim_trail.specs.declared.shift.Shift.{Shift}
 use Rattle.sim_trail.specs.declared.shift.Shift.TheVariants.{Gone, Born}
 use Rattle.sim_trail.specs.Marks.{IsPlacedRow, mark_of, marks_of}
 use Rattle.sim_trail.specs.Shifts.{same_mark, mark_at, change_of, gone, born, end_of, shifts_between}

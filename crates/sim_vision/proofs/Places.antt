@@ -1,5 +1,5 @@
 -- Where the cells of players stand in a list by player, then z, then x; and those of a span among them.
-use Rattle.std.proofs.Common.{◌≡◌, ℕ, suc, ◌+◌, ◌-◌, ◌*◌, ◌<◌, ◌≤◌, ◌⊎◌, Bool, true, false, eqb, List, Option, Some, None, sym, ap, ◌∙◌, subst, ⊎_elim, arith}
+use Rattle.std.proofs.Common.{◌≡◌, ℕ, ◌+◌, ◌-◌, ◌*◌, ◌<◌, ◌≤◌, ◌⊎◌, true, false, eqb, List, Option, Some, None, sym, ap, ◌∙◌, subst, ⊎_elim, arith}
 use Rattle.std.specs.Prelude.{◌&&◌, IfSome}
 use Rattle.std.proofs.lemmas.Bool.{eqb-true, eq-eqb, and_parts, and_from, and_right, cases_order, true≢false}
 use Rattle.std.proofs.lemmas.Bool.Decides.{same_from_decides}
@@ -9,8 +9,7 @@ use Rattle.sim_base.specs.Places.{Size}
 use Rattle.sim_base.specs.Steps.{IsOnGround}
 use Rattle.sim_trail.specs.declared.mark.Mark.{Mark}
 use Rattle.sim_vision.specs.declared.span.Span.{Span}
-use Rattle.sim_vision.specs.Vision.{is_in_disc}
-use Rattle.sim_vision.specs.Spans.{is_within, is_in_span, is_in_row}
+use Rattle.sim_vision.specs.Spans.{is_in_span, is_in_row}
 use Rattle.sim_vision.specs.Watching.{Extent, IsAt, area_of, start_of, place_of, is_near, is_watched}
 use Rattle.sim_vision.proofs.Rows.{within, bounds}
 

@@ -1,10 +1,9 @@
 -- Counts and flags of a row: one cell more in a loop, the two pieces of a span outside of another, and a span for another.
-use Rattle.std.proofs.Common.{◌≡◌, ℕ, ◌+◌, ◌-◌, ◌<◌, ◌≤◌, Bool, true, false, cond, not, min, max, leb, ltb, List, length, get_or, set, get_or-set_same, get_or-set_other, refl, sym, ap, ◌∙◌, subst, ⊎_elim, arith}
+use Rattle.std.proofs.Common.{◌≡◌, ℕ, ◌+◌, ◌-◌, ◌<◌, ◌≤◌, Bool, true, false, not, min, max, leb, ltb, List, length, get_or, set, get_or-set_same, get_or-set_other, refl, sym, ap, ◌∙◌, subst, ⊎_elim, arith}
 use Rattle.std.specs.Prelude.{◌&&◌, ◌||◌}
-use Rattle.std.proofs.lemmas.Bool.{leb-true, ltb-true, le-leb, lt-leb, lt-ltb, le-ltb, and_parts, and_from, and_left, and_right, or_right, cases_lt, cases_eq, true≢false, cases_Bool}
+use Rattle.std.proofs.lemmas.Bool.{leb-true, ltb-true, le-leb, lt-leb, lt-ltb, le-ltb, and_parts, and_from, and_left, and_right, or_right, cases_lt, cases_eq}
 use Rattle.sim_vision.specs.declared.span.Span.{Span}
 use Rattle.sim_vision.specs.Spans.{one_if, is_within, is_in_row}
-use Rattle.sim_vision.specs.Watching.{IsRowTurned}
 
 -- ---- where a number lies
 

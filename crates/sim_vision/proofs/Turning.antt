@@ -1,13 +1,12 @@
 -- Row after row the cells of a fog are turned.
-use Rattle.std.proofs.Common.{◌≡◌, ℕ, ◌+◌, ◌<◌, ◌≤◌, ◌⊎◌, Bool, true, false, eqb, ltb, List, get_or, inl, inr, refl, sym, ap, ◌∙◌, subst, ⊎_elim, arith}
+use Rattle.std.proofs.Common.{◌≡◌, ℕ, ◌+◌, ◌<◌, ◌≤◌, ◌⊎◌, Bool, true, false, eqb, ltb, List, refl, sym, ap, ◌∙◌, subst, ⊎_elim, arith}
 use Rattle.std.specs.Prelude.{◌&&◌, ◌||◌}
-use Rattle.std.proofs.lemmas.Bool.{eqb-true, eq-eqb, ne_eqb, lt-ltb, le-ltb, and_right, cases_order, cases_lt}
+use Rattle.std.proofs.lemmas.Bool.{eq-eqb, ne_eqb, lt-ltb, le-ltb, and_right, cases_order, cases_lt}
 use Rattle.sim_base.specs.declared.place.Cell.{Cell}
 use Rattle.sim_vision.specs.declared.span.Span.{Span}
 use Rattle.sim_vision.specs.declared.crossing.Crossing.{Crossing}
 use Rattle.sim_vision.specs.Spans.{one_if, is_in_row}
-use Rattle.sim_vision.specs.Watching.{Extent, IsAt, start_of, place_of, count_in, flag_in, is_near, is_watched, IsRowTurned, IsTurnedAt, IsTurnedBelow, IsTurned, CanTurn, CanTurnAt}
-use Rattle.sim_vision.proofs.Places.{not_watched}
+use Rattle.sim_vision.specs.Watching.{Extent, IsAt, start_of, place_of, count_in, flag_in, is_watched, IsRowTurned, IsTurnedAt, IsTurnedBelow, IsTurned, CanTurn, CanTurnAt}
 
 pub or_none : (x : Bool) → (x || false) ≡ x
 or_none true = refl

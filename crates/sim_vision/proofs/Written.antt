@@ -1,13 +1,11 @@
 -- A row of a fog, asked for and written: the cells of its spans, and the list that a slice is written back to.
-use Rattle.std.proofs.Common.{◌≡◌, ℕ, ◌+◌, ◌<◌, ◌≤◌, Bool, true, false, eqb, List, ◌++◌, length, get_or, take, drop, sym, ap, ◌∙◌, subst, refl}
-use Rattle.std.specs.Prelude.{◌&&◌, Option, IfSome}
+use Rattle.std.proofs.Common.{◌≡◌, ℕ, ◌<◌, ◌≤◌, Bool, true, false, List, ◌++◌, length, get_or, take, drop, sym, ap, ◌∙◌, subst, refl}
 use Rattle.std.proofs.Math.Seq.{take-append_seam}
 use Rattle.sim_base.specs.declared.place.Cell.{Cell}
-use Rattle.sim_trail.specs.declared.mark.Mark.{Mark}
 use Rattle.sim_vision.specs.declared.span.Span.{Span}
 use Rattle.sim_vision.specs.declared.crossing.Crossing.{Crossing}
 use Rattle.sim_vision.specs.Spans.{is_in_span, is_in_row}
-use Rattle.sim_vision.specs.Watching.{Extent, IsAt, start_of, place_of, count_in, flag_in, is_near, is_watched, IsOwnedBy, IsRowTurned, IsTurnedAt, CanTurnAt}
+use Rattle.sim_vision.specs.Watching.{Extent, IsAt, start_of, count_in, flag_in, is_near, is_watched, IsOwnedBy, IsRowTurned, IsTurnedAt}
 use Rattle.sim_vision.proofs.Places.{at_there, row_test}
 use Rattle.sim_vision.proofs.Turning.{turned_row}
 

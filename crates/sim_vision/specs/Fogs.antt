@@ -1,5 +1,5 @@
 -- What a fog is for.
-use Rattle.std.specs.Prelude.{◌≡◌, ℕ}
+use Rattle.std.specs.Prelude.{◌≡◌}
 use Rattle.sim_vision.specs.declared.fog.Fog.{Fog}
 use Rattle.sim_vision.specs.Watching.{Extent}
 

@@ -1,8 +1,7 @@
-//! What each player sees, and has seen: for fog of war in a host, and for an observer who joins with the explored cells of
-//! a file.
+//! What each player sees, and has seen: for fog of war in a host.
 //!
-//! It promises that the counts are those of the rows of the last state that was followed, and that what is explored was given,
-//! or visible in one of the states. A move within a cell costs no more than a look at its mark, and one into the next cell what
+//! It promises that the counts are those of the rows of the last state that was followed, and that what is explored was
+//! visible in one of the states. A move within a cell costs no more than a look at its mark, and one into the next cell what
 //! the two discs do not share. It stands on the marks of `sim_trail`.
 //!
 //! - `sight`: the counts and the explored cells of all players.

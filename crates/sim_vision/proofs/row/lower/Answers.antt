@@ -1,6 +1,6 @@
 -- The loop comes to the end of the cells, or has none.
-use Rattle.std.proofs.Common.{◌≡◌, ℕ, Bool, ◌+◌, get_or, sym, ap, ◌∙◌, arith}
-use Rattle.sim_vision.specs.Spans.{one_if, is_within}
+use Rattle.std.proofs.Common.{Bool, ◌+◌, get_or, sym, ap, ◌∙◌, arith}
+use Rattle.sim_vision.specs.Spans.{one_if}
 use Rattle.sim_vision.proofs.Rows.{done_same}
 use Rattle.sim_vision.proofs.row.lower.Goals as goal
 

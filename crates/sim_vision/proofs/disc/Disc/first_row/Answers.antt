@@ -1,6 +1,5 @@
-use Rattle.std.proofs.Common.{arith, ℕ, ◌<◌}
-use Rattle.sim_base.specs.declared.place.Cell.{Cell}
-use Rattle.sim_vision.proofs.Discs.{far_cell, gap}
+use Rattle.std.proofs.Common.{arith}
+use Rattle.sim_vision.proofs.Discs.{far_cell}
 use Rattle.sim_vision.proofs.disc.Disc.first_row.Goals as goal
 
 pub returns : goal.returns

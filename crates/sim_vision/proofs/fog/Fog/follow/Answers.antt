@@ -1,5 +1,5 @@
 -- A crossing is told, and what is left can be followed.
-use Rattle.std.proofs.Common.{List, ℕ, Bool, sym, ◌∙◌, subst}
+use Rattle.std.proofs.Common.{sym, ◌∙◌, subst}
 use Rattle.sim_vision.specs.Fogs.{extent_of}
 use Rattle.sim_vision.specs.Watching.{Extent, IsKnownCrossing, IsTurned}
 use Rattle.sim_vision.proofs.Following.{known_crossing, goes_on}

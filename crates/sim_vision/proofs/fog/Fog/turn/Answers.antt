@@ -1,5 +1,5 @@
 -- Outside of the rows nothing is seen. The owner is one of the players, since the marks are known.
-use Rattle.std.proofs.Common.{◌≡◌, ℕ, ◌≤◌, Option, Some, None, refl, ap, inl, inr, arith}
+use Rattle.std.proofs.Common.{ℕ, ◌≤◌, Option, Some, None, refl, ap, inl, inr, arith}
 use Rattle.std.specs.Prelude.{IfSome}
 use Rattle.sim_trail.specs.declared.mark.Mark.{Mark}
 use Rattle.sim_vision.specs.Fogs.{extent_of}

@@ -1,8 +1,7 @@
 -- The cells of the row are those that the marks see there.
-use Rattle.std.proofs.Common.{◌≡◌, ℕ, Bool, List, length, sym, ap, subst, rules, arith}
+use Rattle.std.proofs.Common.{◌≡◌, length, ap, arith}
 use Rattle.sim_vision.specs.Fogs.{extent_of}
-use Rattle.sim_vision.specs.Watching.{IsTurnedAt}
-use Rattle.sim_vision.proofs.Written.{written_back, AreSpans, counted, room, seen, turned, same_turned}
+use Rattle.sim_vision.proofs.Written.{written_back, counted, room, seen, turned, same_turned}
 use Rattle.sim_vision.proofs.fog.Fog.turn_at.Goals as goal
 
 pub turn_row-requires-clause-counted : goal.turn_row-requires-clause-counted

@@ -1,11 +1,9 @@
 -- The fog follows what the trail tells.
-use Rattle.std.proofs.Common.{◌≡◌, List, ℕ, ◌*◌, Bool, All, length, sym, ap, ◌∙◌, subst, arith}
+use Rattle.std.proofs.Common.{◌≡◌, List, ℕ, ◌*◌, All, length, sym, ap, ◌∙◌, subst, arith}
 use Rattle.sim_base.specs.declared.setup.Setup.{Setup}
 use Rattle.sim_base.specs.Validity.{IsValid}
 use Rattle.sim_trail.specs.declared.mark.Mark.{Mark}
 use Rattle.sim_trail.specs.declared.shift.Shift.{Shift}
-use Rattle.sim_trail.specs.Marks.{marks_of}
-use Rattle.sim_trail.specs.Shifts.{shifts_between}
 use Rattle.sim_vision.specs.declared.fog.Fog.{Fog}
 use Rattle.sim_vision.specs.Vision.{Vision, all_counts, all_visible, explored_with, reaches_of}
 use Rattle.sim_vision.specs.Watching.{Extent, IsKnownShift, CanFollow, HasFollowed, AreLit}
