@@ -8,3 +8,4 @@ pub mod Marking
 pub mod Seeing
 pub mod Written
 pub mod Examples
+pub mod Joining

@@ -3,3 +3,4 @@ pub mod Spans
 pub mod Watching
 pub mod Fogs
 pub mod Keeping
+pub mod Joining

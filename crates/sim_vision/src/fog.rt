@@ -1,6 +1,7 @@
 //! How many marks of each player see each cell, and which cells each player has explored: two lists by player, then z, then x.
 
-ghost use Rattle.std.specs.Prelude.{◌≡◌, ◌*◌, vec_len};
+ghost use Rattle.std.specs.Prelude.{◌≡◌, ◌*◌, length, map, vec_len};
+ghost use Rattle.sim_vision.specs.Joining.{is_set};
 ghost use Rattle.sim_vision.specs.Watching.{IsExtent};
 
 use crate::crossing::{Crossing, next_crossing, rows_of, span_of};
@@ -24,7 +25,9 @@ pub struct Fog {
 }
 
 impl Fog {
-    ghost use Rattle.std.specs.Prelude.{◌≡◌, ℕ, ◌+◌, ◌-◌, ◌≤◌, ◌<◌, ◌*◌, false, replicate, length, slice_range, All, IfOk};
+    ghost use Rattle.std.specs.Prelude.{◌≡◌, ℕ, ◌+◌, ◌-◌, ◌≤◌, ◌<◌, ◌*◌, false, replicate, length, map, slice_range, All, IfOk};
+    ghost use Rattle.std.specs.List.{list_any, zip};
+    ghost use Rattle.sim_vision.specs.Joining.{is_missed, is_set};
     ghost use Rattle.sim_vision.specs.Fogs.{extent_of, IsSameExtent};
     ghost use Rattle.sim_vision.specs.Watching.{start_of, IsExtent, IsKnownShift, IsKnownCrossing, IsOwnedBy, AreLit, CanFollow, HasFollowed, CanTurn, CanTurnAt, IsTurned, IsTurnedAt};
 
@@ -77,6 +80,26 @@ impl Fog {
     {
         let (from, to) = self.part(player);
         &self.flags[from..to]
+    }
+
+    /// Whether a cell that is counted has the byte 0.
+    pub fn misses(&self, bytes: &[u8]) -> bool
+        ensures { result ≡ list_any is_missed (zip self.now.counts.items bytes.now) }
+    {
+        self.counts
+            .iter()
+            .zip(bytes)
+            .any(|(count, byte)| 0 < *count && *byte == 0)
+    }
+
+    /// Takes over the explored cells of these bytes.
+    pub fn explore(&mut self, bytes: &[u8])
+        requires { length bytes.now ≡ length self.old.flags.items }
+        ensures extent { IsSameExtent self.old self.new }
+        ensures counts { self.new.counts.items ≡ self.old.counts.items }
+        ensures flags { self.new.flags.items ≡ map is_set bytes.now }
+    {
+        set_flags(self.flags.as_mut_slice(), bytes);
     }
 
     // Where the part of a player begins in both lists, and where it ends.
@@ -148,5 +171,14 @@ impl Fog {
             old,
             new,
         );
+    }
+}
+
+fn set_flags(flags: &mut [bool], bytes: &[u8])
+    requires { length bytes.now ≡ length flags.old }
+    ensures { flags.new ≡ map is_set bytes.now }
+{
+    for (at, byte) in bytes.iter().enumerate() {
+        flags[at] = *byte == 1;
     }
 }

@@ -11,14 +11,17 @@
 //! - `crossing`: what changes of an entity at a time.
 //! - `disc`, `span`: the cells that an entity sees.
 //! - `reach`: how far it sees.
+//! - `fault`: why the explored cells of a file are refused.
 #![tactic(auto)]
 
 mod crossing;
 mod disc;
+mod fault;
 mod fog;
 mod reach;
 mod row;
 mod sight;
 mod span;
 
+pub use fault::SightFault;
 pub use sight::Sight;

@@ -1,11 +1,15 @@
 //! What all players see and have seen, kept from state to state.
 
-ghost use Rattle.std.specs.Prelude.{◌≡◌, ◌≤◌, ◌*◌, false, replicate, IfOk, OnOk, OnErr};
+ghost use Rattle.std.specs.Prelude.{◌≡◌, ◌≤◌, ◌*◌, ◌⊎◌, true, false, length, map, replicate, None, IfOk, IfErr, OnOk, OnErr};
+ghost use Rattle.std.specs.List.{list_any, list_all, zip};
 ghost use Rattle.sim_base.specs.Limits.{IsSetup};
 ghost use Rattle.sim_base.specs.Validity.{IsValid};
 ghost use Rattle.sim_vision.specs.Vision.{all_counts, all_visible, explored_with, part_of, cells_in};
+ghost use Rattle.sim_vision.specs.declared.fault.SightFault.TheVariants as faults;
+ghost use Rattle.sim_vision.specs.Joining.{is_bit, is_set, is_missed, refusal_of};
 
 use crate::disc::Disc;
+use crate::fault::SightFault;
 use crate::fog::Fog;
 use crate::reach::discs_of;
 use sim_base::{OutOfMemory, Setup, State};
@@ -50,6 +54,53 @@ impl<'a> Sight<'a> {
         })
     }
 
+    /// Joins at a state with the explored cells of a file, one byte for each cell by player, then z, then x: 1 where it is
+    /// explored, and else 0.
+    pub fn join(
+        alloc: Global,
+        setup: &'a Setup,
+        state: &State,
+        explored: &[u8],
+    ) -> Result<Sight<'a>, SightFault>
+        requires limits { IsSetup setup.now }
+        requires valid { IsValid setup.now state.now }
+        ensures accepted { IfOk result (λ _. refusal_of setup.now state.now.rows explored.now ≡ None) }
+        ensures setup { IfOk result (λ sight. sight.setup ≡ setup.now) }
+        ensures counts { IfOk result (λ sight. sight.counts ≡ all_counts setup.now state.now.rows) }
+        ensures explored { IfOk result (λ sight. sight.explored ≡ map is_set explored.now) }
+        ensures refused { IfErr result (λ fault. (fault ≡ faults.OutOfMemory) ⊎ (refusal_of setup.now state.now.rows explored.now ≡ Some fault)) }
+        ensures length { refusal_of setup.now state.now.rows explored.now ≡ Some faults.Length → result ≡ Err faults.Length }
+        ensures not_bit { refusal_of setup.now state.now.rows explored.now ≡ Some faults.NotBit → result ≡ Err faults.NotBit }
+    {
+        if explored.len() != count_of_cells(setup) {
+            return Err(SightFault::Length);
+        }
+        if !are_bits(explored) {
+            return Err(SightFault::NotBit);
+        }
+        let mut sight = Sight::new(alloc, setup)?;
+        sight.follow(state)?;
+        sight.take_over(explored)?;
+        Ok(sight)
+    }
+
+    // Takes over explored cells, unless one that is counted is not among them.
+    fn take_over(&mut self, explored: &[u8]) -> Result<(), SightFault>
+        requires length { length explored.now ≡ length self.old.explored }
+        requires bits { list_all is_bit explored.now ≡ true }
+        ensures setup { self.new.setup ≡ self.old.setup }
+        ensures counts { self.new.counts ≡ self.old.counts }
+        ensures explored { OnOk result (self.new.explored ≡ map is_set explored.now) }
+        ensures covered { OnOk result (list_any is_missed (zip self.old.counts explored.now) ≡ false) }
+        ensures refused { IfErr result (λ fault. (fault ≡ faults.Unseen) × (list_any is_missed (zip self.old.counts explored.now) ≡ true)) }
+    {
+        if self.fog.misses(explored) {
+            return Err(SightFault::Unseen);
+        }
+        self.fog.explore(explored);
+        Ok(())
+    }
+
     /// Looks at a state of the match: the counts are those of its rows, and what is visible is explored.
     pub fn follow(&mut self, state: &State) -> Result<(), OutOfMemory>
         requires { IsValid self.old.setup state.now }
@@ -80,4 +131,17 @@ impl<'a> Sight<'a> {
     {
         self.fog.explored(player)
     }
+}
+
+// How many cells the ground has for all players.
+fn count_of_cells(setup: &Setup) -> usize
+    ensures { result ≡ setup.now.players * cells_in setup.now }
+{
+    usize::from(setup.players) * (usize::from(setup.land.width) * usize::from(setup.land.depth))
+}
+
+fn are_bits(bytes: &[u8]) -> bool
+    ensures { result ≡ list_all is_bit bytes.now }
+{
+    bytes.iter().all(|byte| *byte <= 1)
 }
