@@ -1,0 +1,135 @@
+-- The holder of a cell is found by looking at one player after another.
+use Rattle.std.proofs.Common.{◌≡◌, ℕ, zero, suc, ◌+◌, ◌<◌, ◌≤◌, Bool, true, false, cond, List, [], ◌∷◌, Option, Some, None, refl, sym, ap, ◌∙◌, subst, ◌⊎◌, inl, inr, arith}
+use Rattle.std.specs.Prelude.{◌&&◌, nat_lt, nat_le, find, unwrap_or}
+use Rattle.std.specs.List.{range_with_len, list_all}
+use Rattle.std.proofs.Math.Nat.{eq-or-lt_of_le}
+use Rattle.std.proofs.lemmas.Bool.{lt-ltb, le-ltb, le-leb, lt-leb, and_from, and_left, and_right, cond-true, cond-false}
+use Rattle.sim_territory.specs.Holders.{has_most, holder_by, IsNobody, IsFirstGreatest, IsHolder}
+
+-- ---- the first number of a range that passes a test
+
+find-range : (test : ℕ → Bool) (a n h : ℕ) → a ≤ h → h < a + n → test h ≡ true → ((k : ℕ) → a ≤ k → k < h → test k ≡ false) → find test (range_with_len a n) ≡ Some h
+find-range test a zero h le lt yes no = absurd (omega arith)
+find-range test a (suc n) h le lt yes no = by (eq-or-lt_of_le le)
+  where
+    by : (a ≡ h) ⊎ (a < h) → cond (test a) (Some a) (find test (range_with_len (a + 1) n)) ≡ Some h
+    by (inl e) = cond-true (test a) (Some a) (find test (range_with_len (a + 1) n)) (ap test e ∙ yes) ∙ ap Some e
+    by (inr l) =
+        cond-false (test a) (Some a) (find test (range_with_len (a + 1) n)) (no a (omega arith) l)
+        ∙ find-range test (a + 1) n h (omega arith) (omega arith) yes (λ k from below. no k (omega arith) below)
+
+find-range_none : (test : ℕ → Bool) (a n : ℕ) → ((k : ℕ) → a ≤ k → k < a + n → test k ≡ false) → find test (range_with_len a n) ≡ None
+find-range_none test a zero no = refl
+find-range_none test a (suc n) no =
+    cond-false (test a) (Some a) (find test (range_with_len (a + 1) n)) (no a (omega arith) (omega arith)) ∙ find-range_none test (a + 1) n (λ k from below. no k (omega arith) (omega arith))
+
+list_all-range : (test : ℕ → Bool) (a n : ℕ) → ((k : ℕ) → a ≤ k → k < a + n → test k ≡ true) → list_all test (range_with_len a n) ≡ true
+list_all-range test a zero yes = refl
+list_all-range test a (suc n) yes =
+    and_from (test a) (list_all test (range_with_len (a + 1) n)) (yes a (omega arith) (omega arith)) (list_all-range test (a + 1) n (λ k from below. yes k (omega arith) (omega arith)))
+
+list_all-range_none : (test : ℕ → Bool) (a n k : ℕ) → a ≤ k → k < a + n → test k ≡ false → list_all test (range_with_len a n) ≡ false
+list_all-range_none test a zero k le lt no = absurd (omega arith)
+list_all-range_none test a (suc n) k le lt no = by (eq-or-lt_of_le le)
+  where
+    by : (a ≡ k) ⊎ (a < k) → (test a && list_all test (range_with_len (a + 1) n)) ≡ false
+    by (inl e) = and_left (test a) (list_all test (range_with_len (a + 1) n)) (ap test e ∙ no)
+    by (inr l) = and_right (test a) (list_all test (range_with_len (a + 1) n)) (list_all-range_none test (a + 1) n k (omega arith) (omega arith) no)
+
+-- ---- the holder is the one number that is described
+
+pub holder_by-is : (players : ℕ) (f : ℕ → ℕ) (h : ℕ) → IsHolder players f h → holder_by players f ≡ h
+holder_by-is players f h (inl nobody) =
+    ap (λ (o : Option ℕ). unwrap_or o 0)
+    (find-range_none (has_most players f) 1 players
+    (λ k from below.
+    let none = nobody.all k from (omega arith) in
+    and_left (nat_lt 0 (f k)) (list_all (λ other. nat_le (f other) (f k)) (range_with_len 1 players)) (le-ltb 0 (f k) (omega (arith, none)))))
+    ∙ sym nobody.none
+holder_by-is players f h (inr one) =
+    ap (λ (o : Option ℕ). unwrap_or o 0)
+    (find-range (has_most players f) 1 players h one.least (let most = one.most in omega arith)
+    (and_from (nat_lt 0 (f h)) (list_all (λ other. nat_le (f other) (f h)) (range_with_len 1 players)) (lt-ltb 0 (f h) one.some)
+    (list_all-range (λ other. nat_le (f other) (f h)) 1 players (λ k from below. le-leb (f k) (f h) (one.greatest k from (omega arith)))))
+    (λ k from below.
+    let less = one.first k from below in
+    let h_from = one.least in
+    let h_most = one.most in
+    and_right (nat_lt 0 (f k)) (list_all (λ other. nat_le (f other) (f k)) (range_with_len 1 players))
+    (list_all-range_none (λ other. nat_le (f other) (f k)) 1 players h h_from (omega arith) (lt-leb (f h) (f k) less))))
+
+-- ---- one player after another
+
+-- nobody before this player has influence
+pub record IsNobodyBefore (f : ℕ → ℕ) (player holder most : ℕ) : Type 0 where
+  pub none : holder ≡ 0
+  pub zero_is : most ≡ 0
+  pub all : (k : ℕ) → 1 ≤ k → k < player → f k ≡ 0
+
+-- the holder is the first of those before this player who have the most
+pub record IsFirstBefore (f : ℕ → ℕ) (player holder most : ℕ) : Type 0 where
+  pub least : 1 ≤ holder
+  pub below : holder < player
+  pub is : most ≡ f holder
+  pub some : 0 < most
+  pub greatest : (k : ℕ) → 1 ≤ k → k < player → f k ≤ most
+  pub first : (k : ℕ) → 1 ≤ k → k < holder → f k < most
+
+-- the best of those before this player
+abbrev pub IsBestBefore : (ℕ → ℕ) → ℕ → ℕ → ℕ → Type 0
+IsBestBefore f player holder most = IsNobodyBefore f player holder most ⊎ IsFirstBefore f player holder most
+
+pub best_begins : (f : ℕ → ℕ) → IsBestBefore f 1 0 0
+best_begins f = inl (record { none = refl; zero_is = refl; all = λ k from below. absurd (omega arith) })
+
+pub best_takes : (f : ℕ → ℕ) (player holder most influence : ℕ) → 1 ≤ player → influence ≡ f player → most < influence → IsBestBefore f player holder most → IsBestBefore f (player + 1) player influence
+best_takes f player holder most influence from is more before =
+    inr (record {
+      least = from;
+      below = omega arith;
+      is = is;
+      some = omega arith;
+      greatest = λ k a b. greatest before k a (eq-or-lt_of_le b);
+      first = λ k a b. lower before k a b;
+    })
+  where
+    lower : IsBestBefore f player holder most → (k : ℕ) → 1 ≤ k → k < player → f k < influence
+    lower (inl nobody) k a b = let none = nobody.all k a b in omega arith
+    lower (inr one) k a b = let less = one.greatest k a b in omega arith
+
+    greatest : IsBestBefore f player holder most → (k : ℕ) → 1 ≤ k → (suc k ≡ player + 1) ⊎ (suc k < player + 1) → f k ≤ influence
+    greatest best k a (inl e) = let same : k ≡ player = omega arith in let at : f k ≡ f player = ap f same in omega arith
+    greatest best k a (inr l) = let less = lower best k a (omega arith) in omega arith
+
+pub best_keeps : (f : ℕ → ℕ) (player holder most influence : ℕ) → influence ≡ f player → influence ≤ most → IsBestBefore f player holder most → IsBestBefore f (player + 1) holder most
+best_keeps f player holder most influence is less (inl nobody) =
+    inl (record { none = nobody.none; zero_is = nobody.zero_is; all = λ k a b. at k a (eq-or-lt_of_le b) })
+  where
+    at : (k : ℕ) → 1 ≤ k → (suc k ≡ player + 1) ⊎ (suc k < player + 1) → f k ≡ 0
+    at k a (inl e) = let same : k ≡ player = omega arith in let here : f k ≡ f player = ap f same in let none = nobody.zero_is in omega arith
+    at k a (inr l) = nobody.all k a (omega arith)
+best_keeps f player holder most influence is less (inr one) =
+    inr (record {
+      least = one.least;
+      below = let b = one.below in omega arith;
+      is = one.is;
+      some = one.some;
+      greatest = λ k a b. at k a (eq-or-lt_of_le b);
+      first = one.first;
+    })
+  where
+    at : (k : ℕ) → 1 ≤ k → (suc k ≡ player + 1) ⊎ (suc k < player + 1) → f k ≤ most
+    at k a (inl e) = let same : k ≡ player = omega arith in let here : f k ≡ f player = ap f same in omega arith
+    at k a (inr l) = one.greatest k a (omega arith)
+
+pub best_is : (f : ℕ → ℕ) (players player holder most : ℕ) → player ≡ players + 1 → IsBestBefore f player holder most → holder_by players f ≡ holder
+best_is f players player holder most e (inl nobody) = holder_by-is players f holder (inl (record { none = nobody.none; all = λ k a b. nobody.all k a (omega arith) }))
+best_is f players player holder most e (inr one) =
+    holder_by-is players f holder
+    (inr (record {
+      least = one.least;
+      most = let b = one.below in omega arith;
+      some = let s = one.some in let i = one.is in omega arith;
+      greatest = λ k a b. let g = one.greatest k a (omega arith) in let i = one.is in omega arith;
+      first = λ k a b. let l = one.first k a b in let i = one.is in omega arith;
+    }))
