@@ -24,21 +24,21 @@ MAX_FILE = 16_777_216
 
 EMPTY = (b'{"size":[4,4],"closed":[],"players":[[]],"cap":0,"delay":1,"turns":2,"seed":0,'
          b'"templates":[],"entities":[],"commands":[]}')
-EMPTY_LINES = (b"turn 0 bad449d9a43e6ca7182c9e7c15bf5f7a\n"
-               b"turn 1 ddb86dde1b179a734a0503c602c2ff12\n"
-               b"turn 2 98ea2cc6081e00a0d7341a0ee8f682e1\n")
+EMPTY_LINES = (b"turn 0 5b806e0a0bade72a51c70140518a0ad1\n"
+               b"turn 1 a04b5eab7964089994f7c0397fb83f96\n"
+               b"turn 2 ecaa1e1ccacbb4004f81e22fb1d95364\n")
 POSTS = (b'{"size":[4,4],"closed":[],"players":[[],[]],"cap":0,"delay":1,"turns":2,"seed":0,'
          b'"templates":[{"@name":"post","Health":{"Max":50}}],'
          b'"entities":[["post",1,1,1],["post",2,2,2]],"commands":[[1,1,"delete",[2,3,2]]]}')
-POSTS_LINES = (b"turn 0 6c55afdc0e61faf6e75ba31d1bd8428e\n"
-               b"turn 1 5ba6ccce6ec0216cccaaf7181a30b789\n"
-               b"turn 2 846656bc95c044d1dd6d2f3f26ab5406\n")
+POSTS_LINES = (b"turn 0 17328fba69143d17c79259ab7d40e803\n"
+               b"turn 1 8fe2300087879a3c47e3af011e612274\n"
+               b"turn 2 d81f0e51244512e9cd24c374c62ecb18\n")
 STORED_ID = hashlib.md5(POSTS).digest()
 # The state of POSTS at turn 1, section by section.
-STORED = (b"RSIM\x01\0\0\0" + STORED_ID + b"\x01\0\0\0\x04\0\0\0" + bytes(8)
+STORED = (b"RSIM\x02\0\0\0" + STORED_ID + b"\x01\0\0\0\x04\0\0\0" + bytes(8)
           + bytes.fromhex("0101000000030000000000") + bytes.fromhex("0201000000030000000000020000000200")
           + bytes.fromhex("03010000000300000002") + bytes.fromhex("04010000000300000000003200")
-          + bytes.fromhex("05000000000600000000"))
+          + bytes.fromhex("050000000006000000000700000000"))
 RESUMED_LINES = b"".join(POSTS_LINES.splitlines(True)[1:])
 SHOWN = b"turn 1 next 4 word 0 rows 1\nentity 3 template post owner 2 at 2 2 health 50\n"
 # Seventeen templates, each the child of the one before it.
@@ -50,9 +50,9 @@ GUARDS = (b'{"size":[16,16],"closed":[],"players":[[2],[1]],"cap":0,"delay":1,"t
           b'"templates":[{"@name":"guard","Health":{"Max":15},"Resist":{"Hack":1},'
           b'"Attack":{"Hack":20,"Range":2,"Vision":10,"Repeat":0}}],'
           b'"entities":[["guard",1,"5.5","5.5"],["guard",2,"6.5","5.5"],["guard",2,"7.5","5.5"]],"commands":[]}')
-GUARDS_LINES = (b"turn 0 b6f19765f3bae47206b19ae531eeb52c\n"
-                b"turn 1 2ccd46f677c5f60f15e9d6c9122d89f8\n"
-                b"turn 2 6abdc6c4c2cb3372a7012f7370b76a83\n")
+GUARDS_LINES = (b"turn 0 2c148956ad618e21cfa40971c4c0a453\n"
+                b"turn 1 348bbbf702e78d64ec67b7cab01e8fc6\n"
+                b"turn 2 f236dab12f13ebe2b8be5dc697e8f1fa\n")
 GUARDS_SHOWN = (b"turn 1 next 5 word 11718085204285 rows 1\n"
                 b"entity 4 template guard owner 2 at 7.50000 5.50000 health 15 attack target 0 cooldown 0\n")
 # Four huts are placed, of which two find no place, and then their player resigns.
@@ -60,18 +60,18 @@ HUTS = (b'{"size":[16,16],"closed":[],"players":[[]],"cap":4,"delay":1,"turns":1
         b'"templates":[{"@name":"hut","Obstruct":{"Width":2,"Depth":2}}],"entities":[],'
         b'"commands":[[1,1,"place",0,"5.5","5.5"],[1,1,"place",0,"6.5","5.5"],[1,1,"place",0,"7.5","5.5"],'
         b'[1,1,"place",0,"0.5","0.5"],[1,1,"resign"]]}')
-HUTS_LINES = (b"turn 0 157dafb5e35abac8d5d437b1e3fc0d1c\n"
-              b"turn 1 80bf5422a58c8986ad5609bdb3c3414d\n")
+HUTS_LINES = (b"turn 0 bc011c526afb5bc4756cb8f53721e51c\n"
+              b"turn 1 3b505723b94edd38fa8f90828241b1da\n")
 # The digest of each turn of examples/camp.json.
-CAMP_DIGESTS = (b"cdf09eac795fcb9df09d2e5bc47086b4", b"30c2077a95df741761edf1efd53e652c", b"436a0264ba01ecf7c0c88b1fcbea7633",
-                b"daf5ff5bc367ab4563c39ca70b65a382", b"84853a783cef8bf222ca70658e2534cc", b"25f826ac047ffc36e791b50fcbdc3eb3",
-                b"1945a50b8f67eae2490b5ee4dae2ee64", b"3512afaa73cdb7fdc82f5a2d268e2575")
+CAMP_DIGESTS = (b"bb275af1349e7ec2bcd54bee60ed3797", b"65413f4061d551fc9139f5b509603a1f", b"127a837cf0dd9df738c1c4b7a0fb6fb1",
+                b"a458831fc60120d3d18b505f1161fe63", b"f9828403c8a09cf2b9f5aa204b49ac8b", b"00b9c66683d9b718892a5f448d3e3561",
+                b"008ad14d92efed427c11571c576a49b0", b"f482728f5b8103fe6c9632e842758a16")
 # Two players with a walker each, and no command: in a session they come from its clients.
 WALKERS = (b'{"size":[16,16],"closed":[],"players":[[],[]],"cap":0,"delay":2,"turns":5,"seed":0,'
            b'"templates":[{"@name":"walker","Motion":{"Speed":10}}],'
            b'"entities":[["walker",1,"2.5","2.5"],["walker",2,"2.5","5.5"]],"commands":[]}')
 # Its first turns, in which nobody was told to walk.
-WALKERS_DIGESTS = b"e884887aee8506472616981f329bb55d", b"67049339cc34ee2268aba0fd1c37e9ce", b"fd4c5d0e25c10cbc3c36250577364e02"
+WALKERS_DIGESTS = b"73e3470f5addc8ca29a65fd51b7bcd2f", b"35320ef0d4b872585577f4e1c68b3ade", b"d974b9e19e034e0c7fcd88e3c93a7a56"
 USAGE = b"""usage: simcore play MATCH
        simcore state MATCH TURN OUT
        simcore resume MATCH STATE
@@ -133,7 +133,7 @@ def schedules(folder):
     reports = [b'[1,"done",3]', b'[1,"done",2]', b'[1,"done",3]', b'[2,"report",2,"%s"]' % one, b'[2,"done",2]',
                b'[1,"report",2,"%s"]' % zero, b'[2,"report",2,"%s"]' % one, b'[2,"report",2,"%s"]' % one,
                b'[1,"report",2,"%s"]' % zero, b'[1,"report",2,"%s"]' % one]
-    notice = b"to 1 notice 2 %d\nto 2 notice 2 %d\n"
+    notice = b"to 1 notice 2 %d quick\nto 2 notice 2 %d quick\n"
     (folder / "reports.json").write_bytes(schedule(2, 2, reports))
     case("reports are compared with the first of their turn", run(["serve", "reports.json"], folder), 0,
          b"to 1 refused 2\nto 1 refused 2\nto 2 refused 2\nto 1 release 2\nto 2 release 2\n" + 2 * (notice % (2, 2))
@@ -196,13 +196,13 @@ def battles(folder):
     (folder / "huts.json").write_bytes(HUTS)
     case("guards strike each other down", run(["play", "guards.json"], folder), 0, GUARDS_LINES)
     status, text, error = run(["state", "guards.json", "1", "g"], folder)
-    case("their state is stored", (status, text, error), 0, b"state 1 111 " + GUARDS_LINES.splitlines(True)[1].split()[2] + b"\n")
+    case("their state is stored", (status, text, error), 0, b"state 1 121 " + GUARDS_LINES.splitlines(True)[1].split()[2] + b"\n")
     case("the one who is left is shown", run(["show", "guards.json", "g"], folder), 0, GUARDS_SHOWN)
     case("and played on", run(["resume", "guards.json", "g"], folder), 0, b"".join(GUARDS_LINES.splitlines(True)[1:]))
     case("huts are placed where there is room", run(["play", "huts.json"], folder), 0, HUTS_LINES)
-    case("a trial of one", run(["trial", "7", "1", "0"], folder), 0, b"trial 7 1 0 alive 1 6d65292dc92f329b7da81245f0e158d7\n")
+    case("a trial of one", run(["trial", "7", "1", "0"], folder), 0, b"trial 7 1 0 alive 1 fc182b73d9d39f82f2a95e32289ac21c\n")
     case("a trial of 200", run(["trial", "000000007", "200", "400"], folder), 0,
-         b"trial 7 200 400 alive 13 4e2532b9195bdc47dc810e56e7184ead\n")
+         b"trial 7 200 400 alive 13 5dc464161955ccb6f14e9bf995057072\n")
     for words in (["7", "0", "0"], ["7", "1001", "0"], ["7", "1", "10001"], ["0000000007", "1", "0"], ["-7", "1", "0"], ["7", "1"]):
         case(f"no trial: {' '.join(words)}", run(["trial", *words], folder), 2, USAGE)
     with open("/dev/full", "wb") as full:
@@ -342,7 +342,7 @@ def memory_of_sessions(folder):
     (folder / "few.json").write_bytes(step_list(1, *asked * 10))
     (folder / "many.json").write_bytes(step_list(1, *asked * 12_000))
     status, text, error = run(["session", "crowd.json", "few.json"], folder, before=limit_memory)
-    case("ten states in a pipe, in a gigabyte", (status, text.splitlines()[-4], error), 0, b"pipe 1 up" + b" 127056" * 10)
+    case("ten states in a pipe, in a gigabyte", (status, text.splitlines()[-4], error), 0, b"pipe 1 up" + b" 127061" * 10)
     case("12,000 states in a pipe, in a gigabyte", run(["session", "crowd.json", "many.json"], folder, before=limit_memory), 9, b"")
 
 
@@ -368,14 +368,14 @@ def pages(folder):
 def stored_states(folder):
     """Stored states on real files: written, read again, compared and refused."""
     before = files(folder)
-    line = b"state 1 101 5ba6ccce6ec0216cccaaf7181a30b789\n"
+    line = b"state 1 106 8fe2300087879a3c47e3af011e612274\n"
     case("a state is stored", run(["state", "posts.json", "1", "s"], folder), 0, line)
     held = (folder / "s").read_bytes() if (folder / "s").exists() else b""
     case("its bytes are the worked ones", (0, held, b""), 0, STORED)
     case("a stored state is shown", run(["show", "posts.json", "s"], folder), 0, SHOWN)
     case("a stored state is played on", run(["resume", "posts.json", "s"], folder), 0, RESUMED_LINES)
     case("a state is stored in place of another", run(["state", "posts.json", "2", "s"], folder), 0,
-         b"state 2 101 846656bc95c044d1dd6d2f3f26ab5406\n")
+         b"state 2 106 d81f0e51244512e9cd24c374c62ecb18\n")
     case("the last turn is played on", run(["resume", "posts.json", "s"], folder), 0, POSTS_LINES.splitlines(True)[2])
     (folder / "s").write_bytes(STORED)
     (folder / "cut").write_bytes(STORED[:-1])

@@ -3,3 +3,4 @@ mod Sums
 mod Fighting
 mod Nearer
 mod Sharing
+mod Taking

@@ -13,13 +13,13 @@ use Rattle.sim_base.specs.Places.{square}
 use Rattle.sim_base.specs.Least.{least_of}
 use Rattle.sim_base.specs.Limits.{IsSetup}
 use Rattle.sim_base.specs.Rows.{id_of, row_of, in_mask, enemies_of}
-use Rattle.sim_base.specs.Filters.{is_near, within}
-use Rattle.sim_base.specs.Aim.{target_for}
+use Rattle.sim_base.specs.Filters.{is_near, within, seen}
 use Rattle.sim_base.specs.Move.{same_point}
 use Rattle.sim_base.specs.Validity.{IsKnownRow, IsLooselyValid}
 use Rattle.sim_laws.proofs.Members.{Has, Has-of_map}
 use Rattle.sim_turn_laws.proofs.Rows.{Has-of_filter, known_row, found_row, same_row, apart}
 use Rattle.sim_attack.specs.declared.finds.Find.{Find}
+use Rattle.sim_attack.specs.Nearest.{nearest_of}
 use Rattle.sim_attack.specs.Finds.{find_places, place_for, is_shared, shared, nearest_from, filled, AreFound}
 
 -- a filter that each member passes
@@ -49,9 +49,9 @@ module _ (setup : Setup) (state : State) (row : Row) (limits : IsSetup setup) (v
       let none = not_itself in cc in
       ap not (ne_eqb id row.id differ)
 
-  -- what a row finds is what its owner finds from there
-  pub target_is_nearest : (arms : Arms) → target_for setup state row arms ≡ nearest_from setup state row.owner row.at arms.vision
-  target_is_nearest arms =
+  -- the nearest of those that a row sees is what its owner finds from there
+  pub seen_is_nearest : (arms : Arms) → nearest_of state row (seen setup state row arms) ≡ nearest_from setup state row.owner row.at arms.vision
+  seen_is_nearest arms =
       let ids = within state row.at arms.vision (enemies_of setup row.owner) in
       ap (λ (found : List ℕ). unwrap_or (least_of (λ id. unwrap_or (option_map (λ (other : Row). square other.at row.at) (row_of state id)) 0 ∷ id ∷ []) found) 0)
       (filter_all (λ id. not (id == row.id)) ids (other_ids arms.vision))

@@ -1,24 +1,26 @@
 //! The phase in which fighters choose their targets.
 //!
-//! All is found from the state as it was: that friends are let go first changes no place, no owner and no health. So what
-//! one row finds is kept for others of its owner that stand where it stands.
+//! All is found from the state as it was: that targets are let go first changes no place, no owner, no health, and not who
+//! holds its place. So the nearest enemy that one row finds is kept for others of its owner that stand where it stands. A row
+//! that holds its place takes it where it is within range; if it is not, no other is.
 
 ghost use Rattle.std.specs.Prelude.{◌≡◌, ◌++◌, IfOk, OnOk, IsSome, MatchOption, Some};
 ghost use Rattle.std.specs.Result.{ForOk};
 ghost use Rattle.sim_base.specs.Limits.{IsSetup};
+ghost use Rattle.sim_base.specs.Places.{IsPlaced};
 ghost use Rattle.sim_base.specs.Rows.{row_of, target_of as target_by, arms_of as arms_by};
 ghost use Rattle.sim_base.specs.Validity.{IsKnownRow, IsLooselyValid};
-ghost use Rattle.sim_base.specs.Aim.{aimed, aims_at_friend as aims_at_friend_by, is_idle as is_idle_by, square_to as square_to_by};
+ghost use Rattle.sim_base.specs.Aim.{aimed, lets_go as lets_go_by, reaches as reaches_by, may_take as may_take_by, is_idle as is_idle_by, square_to as square_to_by};
 ghost use Rattle.sim_system.specs.Answers.{seen_from};
 ghost use Rattle.sim_plans.specs.Plans.{aim_changes_of, aim_plan, next_target};
 ghost use Rattle.sim_plans.specs.PlanLaws.{IsPlanOf};
 ghost use Rattle.sim_scene.specs.SceneWords.{Stands};
-ghost use Rattle.sim_attack.specs.Finds.{AreFound};
+ghost use Rattle.sim_attack.specs.Finds.{AreFound, nearest_from};
 ghost use Rattle.sim_attack.specs.Nearest.{nearest_of, better_of};
 
 use crate::finds::Finds;
-use sim_base::{Changes, Ids, Items, OutOfMemory, Row, Setup, State, square};
-use sim_lookup::{RowIndex, arms_of, is_enemy_of, is_going, target_of};
+use sim_base::{Arms, Changes, Ids, Items, OutOfMemory, Point, Row, Setup, State, square};
+use sim_lookup::{RowIndex, arms_of, is_enemy_of, is_going, is_holding, is_near, target_of};
 use sim_plans::{push_target, push_turn};
 use sim_scene::Scene;
 use sim_system::{Answer, Ask, System};
@@ -47,7 +49,7 @@ fn listed_aims(alloc: Global, scene: &Scene<'_>) -> Result<Changes, OutOfMemory>
     Ok(changes)
 }
 
-// A row that aims at a friend stands still and looks for another target, and an idle one looks for one.
+// A row that lets go of its target stands still and looks for another one, and an idle row looks for one.
 fn push_aim(
     changes: &mut Changes,
     finds: &mut Finds,
@@ -62,7 +64,7 @@ fn push_aim(
     ensures changes { OnOk result (changes.new ≡ changes.old ++ aim_changes_of scene.now.setup.now scene.now.state.now row.now) }
     ensures finds { AreFound scene.now.setup.now scene.now.state.now finds.new.kept.items }
 {
-    if aims_at_friend(index, scene.setup, scene.state, row) {
+    if lets_go(index, scene.setup, scene.state, row) {
         let target = next_target_of(finds, index, scene, row)?;
         return push_turn(changes, target, row);
     }
@@ -73,7 +75,7 @@ fn push_aim(
     Ok(())
 }
 
-// The nearest enemy that the row sees, or 0. It is looked for where no other row has found it.
+// The nearest enemy that the row sees, or 0; where it holds its place, only one within its range.
 fn next_target_of(
     finds: &mut Finds,
     index: &RowIndex,
@@ -90,6 +92,30 @@ fn next_target_of(
     let Some(arms) = arms_of(scene.setup, row) else {
         return Ok(0);
     };
+    let target = nearest_seen(finds, index, scene, row, &arms)?;
+    if may_take(index, scene, row, &arms, target) {
+        Ok(target)
+    } else {
+        Ok(0)
+    }
+}
+
+// The nearest enemy that the row sees, or 0. It is looked for where no other row has found it.
+fn nearest_seen(
+    finds: &mut Finds,
+    index: &RowIndex,
+    scene: &Scene<'_>,
+    row: &Row,
+    arms: &Arms,
+) -> Result<u32, OutOfMemory>
+    requires stands { Stands scene.now ⟦<dyn System as System>⟧ }
+    requires row { IsKnownRow 0 scene.now.setup.now scene.now.state.now.rows row.now }
+    requires found { row_of scene.now.state.now row.now.id ≡ Some row.now }
+    requires arms { arms_by scene.now.setup.now row.now ≡ Some arms.now }
+    requires finds { AreFound scene.now.setup.now scene.now.state.now finds.old.kept.items }
+    ensures target { IfOk result (λ target. target ≡ nearest_from scene.now.setup.now scene.now.state.now row.now.owner row.now.at arms.now.vision) }
+    ensures finds { AreFound scene.now.setup.now scene.now.state.now finds.new.kept.items }
+{
     if let Some(target) = finds.target_for(row, arms.vision) {
         return Ok(target);
     }
@@ -97,6 +123,22 @@ fn next_target_of(
     let target = nearest(index, scene.setup, scene.state, row, ids.as_slice());
     finds.keep(row, arms.vision, target)?;
     Ok(target)
+}
+
+// Whether the row may take this target: any, and where it holds its place one within its range alone.
+fn may_take(index: &RowIndex, scene: &Scene<'_>, row: &Row, arms: &Arms, id: u32) -> bool
+    requires stands { Stands scene.now ⟦<dyn System as System>⟧ }
+    requires row { IsKnownRow 0 scene.now.setup.now scene.now.state.now.rows row.now }
+    requires arms { arms_by scene.now.setup.now row.now ≡ Some arms.now }
+    ensures { result ≡ may_take_by scene.now.state.now row.now arms.now id }
+{
+    if !is_holding(row) {
+        return true;
+    }
+    match index.find_row(scene.state, id) {
+        Some(other) => is_near(&other.at, &row.at, arms.range),
+        None => true,
+    }
 }
 
 // The enemies that a row with arms sees, ascending by id.
@@ -159,15 +201,32 @@ fn square_to(index: &RowIndex, setup: &Setup, state: &State, row: &Row, id: u32)
     }
 }
 
-// Whether the row aims at one that is no enemy of its owner.
-fn aims_at_friend(index: &RowIndex, setup: &Setup, state: &State, row: &Row) -> bool
+// Whether the row lets go of its target: one that is no enemy of its owner, or that it does not reach from the place that it
+// holds.
+fn lets_go(index: &RowIndex, setup: &Setup, state: &State, row: &Row) -> bool
     requires limits { IsSetup setup.now }
     requires valid { IsLooselyValid setup.now state.now }
     requires row { IsKnownRow 0 setup.now state.now.rows row.now }
-    ensures { result ≡ aims_at_friend_by setup.now row.now (row_of state.now (target_by row.now)) }
+    ensures { result ≡ lets_go_by setup.now row.now (row_of state.now (target_by row.now)) }
 {
     match index.find_row(state, target_of(row)) {
-        Some(target) => !is_enemy_of(setup, row.owner, target.owner),
+        Some(target) => {
+            !is_enemy_of(setup, row.owner, target.owner)
+                || is_holding(row) && !reaches(setup, row, &target.at)
+        }
+        None => false,
+    }
+}
+
+// Whether a point is within the range of the row.
+fn reaches(setup: &Setup, row: &Row, at: &Point) -> bool
+    requires limits { IsSetup setup.now }
+    requires row { IsPlaced row.now.at }
+    requires at { IsPlaced at.now }
+    ensures { result ≡ reaches_by row.now (arms_by setup.now row.now) at.now }
+{
+    match arms_of(setup, row) {
+        Some(arms) => is_near(at, &row.at, arms.range),
         None => false,
     }
 }

@@ -1,8 +1,10 @@
--- The least member of a list by a key: it is a member, and no member's key comes before its own.
-use Rattle.std.proofs.Common.{◌≡◌, ℕ, Bool, true, false, cond, List, [], ◌∷◌, Some, refl, ◌⊎◌, inl, inr, fold}
+-- The least member of a list by a key: it is a member, and no member's key comes before its own. Among the members that pass a
+-- test which all members before one that passes pass too, it is the least of all, or there is none.
+use Rattle.std.proofs.Common.{◌≡◌, ℕ, Bool, true, false, cond, List, [], ◌∷◌, filter, Option, Some, None, refl, sym, ap, ◌∙◌, ◌⊎◌, inl, inr, fold}
 use Rattle.std.specs.Cmp.Lexicographic.{nat_list_cmp_total}
 use Rattle.std.specs.Cmp.{IsStrictWeakOrder}
 use Rattle.std.proofs.lemmas.List.MinMax.{ranks_by}
+use Rattle.std.proofs.lemmas.Map.Entries.{option_filter}
 use Rattle.sim_base.specs.Least.{is_before, lesser_of, least_of}
 use Rattle.sim_laws.proofs.Members.{Has}
 
@@ -63,3 +65,51 @@ module _ {X : Type 0} (key : X → List ℕ) where
   pub least_of-has : (xs : List X) (x : X) → Has xs x → (r : X) × (least_of key xs ≡ Some r) × IsLeast xs r
   least_of-has [] x h = absurd h
   least_of-has (y ∷ ys) x h = least_from y ys
+
+  -- where a member passes a test, so do all whose keys do not come after its key
+  abbrev pub IsDownward : (X → Bool) → Type 0
+  IsDownward p = (x y : X) → is_before (key y) (key x) ≡ false → p y ≡ true → p x ≡ true
+
+  module _ (p : X → Bool) (downward : IsDownward p) where
+    not_passed : (x y : X) → is_before (key y) (key x) ≡ false → p x ≡ false → p y ≡ false
+    not_passed x y e f = by (p y) refl
+      where
+        by : (b : Bool) → p y ≡ b → p y ≡ false
+        by true g = let passes = downward x y e g in absurd (cc)
+        by false g = g
+
+    -- the next member where it passes, and where it does not
+    takes_next : (best : Option X) (x : X) → p x ≡ true → lesser_of key (option_filter p best) x ≡ lesser_of key best x × (p (lesser_of key best x) ≡ true)
+    takes_next None x e = (refl, e)
+    takes_next (Some best) x e = by (p best) (is_before (key x) (key best)) refl refl
+      where
+        by : (b c : Bool) → p best ≡ b → is_before (key x) (key best) ≡ c → lesser_of key (cond b (Some best) None) x ≡ cond c x best × (p (cond c x best) ≡ true)
+        by true true f g = (ap (λ (d : Bool). cond d x best) g, e)
+        by true false f g = (ap (λ (d : Bool). cond d x best) g, f)
+        by false true f g = (refl, e)
+        by false false f g = let passes = downward best x g e in absurd (cc)
+
+    leaves_next : (best : Option X) (x : X) → p x ≡ false → option_filter p (Some (lesser_of key best x)) ≡ option_filter p best
+    leaves_next None x e = ap (λ (b : Bool). cond b (Some x) None) e
+    leaves_next (Some best) x e = by (is_before (key x) (key best)) refl
+      where
+        by : (c : Bool) → is_before (key x) (key best) ≡ c → option_filter p (Some (cond c x best)) ≡ option_filter p (Some best)
+        by true f = ap (λ (b : Bool). cond b (Some x) None) e ∙ sym (ap (λ (b : Bool). cond b (Some best) None) (not_passed x best (order.one_way x best f) e))
+        by false f = refl
+
+    abbrev step : Option X → X → Option X
+    step best x = Some (lesser_of key best x)
+
+    filter_from : (best : Option X) (xs : List X) → fold step (option_filter p best) (filter p xs) ≡ option_filter p (fold step best xs)
+    filter_from best [] = refl
+    filter_from best (x ∷ xs) = by (p x) refl (λ o. filter_from o xs)
+      where
+        by : (b : Bool) → p x ≡ b → ((o : Option X) → fold step (option_filter p o) (filter p xs) ≡ option_filter p (fold step o xs))
+            → fold step (option_filter p best) (cond b (x ∷ filter p xs) (filter p xs)) ≡ option_filter p (fold step (step best x) xs)
+        by true e rest =
+            let (same, passes) = takes_next best x e in
+            ap (λ (y : X). fold step (Some y) (filter p xs)) same ∙ ap (λ (b : Bool). fold step (cond b (step best x) None) (filter p xs)) (sym passes) ∙ rest (step best x)
+        by false e rest = ap (λ (o : Option X). fold step o (filter p xs)) (sym (leaves_next best x e)) ∙ rest (step best x)
+
+    pub least_of-filter : (xs : List X) → least_of key (filter p xs) ≡ option_filter p (least_of key xs)
+    least_of-filter xs = filter_from None xs

@@ -88,7 +88,6 @@ aim_stays rows more id aim arms h =
     record {
       target = ⊎_elim (λ (none : aim.target ≡ 0). inl none) (λ (other : (aim.target ≢ id) × IsTrue (has_health rows aim.target)). inr (other.0, has_health-append rows more aim.target other.1)) h.target;
       cooldown = h.cooldown;
-      hold = h.hold;
     }
 
 known_stays : (least : ℕ) (setup : Setup) (rows more : List Row) (row : Row) → IsKnownRow least setup rows row → IsKnownRow least setup (rows ++ more) row
@@ -132,7 +131,7 @@ new_row_is_valid least setup rows id number p owner t may is_template =
 
     idle : (arms : Option Arms) → Both (option_map (λ (a : Arms). record { target = 0; cooldown = 0; hold = false }) arms) arms (IsValidAim rows id)
     idle None = tt
-    idle (Some arms) = record { target = inl refl; cooldown = omega arith; hold = refl }
+    idle (Some arms) = record { target = inl refl; cooldown = omega arith }
 
 pub with_new_is_valid : (least : ℕ) (setup : Setup) (state : State) (number : ℕ) (p : Point) (owner : ℕ) (t : Template) →
     IsState least setup state → MayStand least setup p owner → slice_get setup.templates number ≡ Some t → IsTemplate (length setup.templates) t →

@@ -14,7 +14,7 @@ use std::alloc::Global;
 const NOTES: usize = 4096;
 
 /// The places of rows, by the remainders of their ids. A noted place is a hint: where a row of another id stands there, the
-/// row is looked for by halves. So the answers are right over any rows, and come at once over those that were noted.
+/// row is looked for by binary search. So the answers are right over any rows, and come at once over those that were noted.
 #[derive(Drop)]
 pub struct RowIndex {
     noted: Vec<u16>,

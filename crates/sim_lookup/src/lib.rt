@@ -2,7 +2,7 @@
 //! points lie to one another.
 //!
 //! It promises the row or number of the definition, without memory; a row is found at once where no id before its own is
-//! missing, or where its place was noted in an index, and else by halves, since ids ascend. It stands on the definitions of
+//! missing, or where its place was noted in an index, and else by binary search, since ids ascend. It stands on the definitions of
 //! `sim_base` and on the laws of valid states, by which a row that is found lies on the ground.
 //!
 //! - `rows`: a row by its id, or its place.
@@ -21,5 +21,5 @@ mod templates;
 pub use index::RowIndex;
 pub use owners::is_enemy_of;
 pub use points::{is_inside, is_near, same_point};
-pub use rows::{find_row, is_going, place_of, target_of};
+pub use rows::{find_row, is_going, is_holding, place_of, target_of};
 pub use templates::{arms_of, resist_of, speed_of, template_at};

@@ -1,9 +1,9 @@
-//! A row by its id. Ids ascend, so it is found by halves; at once where each id from the first row on has a row.
+//! A row by its id. Ids ascend, so it is found by binary search; at once where each id from the first row on has a row.
 
 ghost use Rattle.std.specs.Prelude.{◌≡◌, ◌<◌, IsTrue, None, Some, length, map, option_copied, MatchOption, IfSome};
 ghost use Rattle.std.specs.List.{HoldsAt};
 ghost use Rattle.std.specs.List.Sorted.{IsStrictlyIncreasing};
-ghost use Rattle.sim_base.specs.Rows.{id_of, row_of, target_of as target_by, is_going as is_going_by};
+ghost use Rattle.sim_base.specs.Rows.{id_of, row_of, target_of as target_by, is_holding as is_holding_by, is_going as is_going_by};
 ghost use Rattle.sim_lookup.specs.Found.{found};
 
 use sim_base::{Motion, Row, State};
@@ -30,7 +30,7 @@ pub fn place_of(rows: &[Row], id: u32) -> Option<usize>
     }
     match place_by_count(rows, id) {
         Some(at) => Some(at),
-        None => place_by_halves(rows, id),
+        None => place_by_search(rows, id),
     }
 }
 
@@ -48,8 +48,8 @@ fn place_by_count(rows: &[Row], id: u32) -> Option<usize>
     }
 }
 
-// The place of the row, by halves.
-fn place_by_halves(rows: &[Row], id: u32) -> Option<usize>
+// The place of the row, by binary search.
+fn place_by_search(rows: &[Row], id: u32) -> Option<usize>
     requires { IsStrictlyIncreasing (map id_of rows.now) }
     ensures { MatchOption result (found rows.now id ≡ None) (λ at. (at < length rows.now) × HoldsAt (λ row. found rows.now id ≡ Some row) rows.now at) }
 {
@@ -77,6 +77,16 @@ pub fn target_of(row: &Row) -> u32
     match row.attack {
         Some(aim) => aim.target,
         None => 0,
+    }
+}
+
+/// Whether a row holds its place: it takes only targets within its range, and chases none.
+pub fn is_holding(row: &Row) -> bool
+    ensures { result ≡ is_holding_by row.now }
+{
+    match row.attack {
+        Some(aim) => aim.hold,
+        None => false,
     }
 }
 

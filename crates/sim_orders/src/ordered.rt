@@ -7,12 +7,11 @@ ghost use Rattle.sim_base.specs.declared.state.Row.{Row as AnyRow};
 ghost use Rattle.sim_base.specs.declared.change.Change.TheVariants.{Remove, Owner};
 ghost use Rattle.sim_base.specs.Rows.{id_of};
 ghost use Rattle.sim_base.specs.Commands.{is_ordered as is_ordered_by};
-ghost use Rattle.sim_plans.specs.RowPlans.{release_changes};
-ghost use Rattle.sim_plans.specs.CommandPlans.{sent_changes, set_on_changes};
+ghost use Rattle.sim_plans.specs.CommandPlans.{sent_changes, stop_changes, set_on_changes};
 
 use crate::named::is_ordered;
 use sim_base::{Change, Changes, Items, Motion, OutOfMemory, Point, Row};
-use sim_plans::{push_target, push_turn};
+use sim_plans::{push_stance, push_stand};
 use std::alloc::Global;
 
 /// The player's rows that are named are sent to a point.
@@ -35,7 +34,7 @@ pub fn sent(
     Ok(changes)
 }
 
-// The row goes to a point, if it can move, and forgets its target.
+// The row goes to a point, if it can move, forgets its target and holds its place no more.
 fn push_sent(alloc: Global, changes: &mut Changes, to: &Point, row: &Row) -> Result<(), OutOfMemory>
     ensures { OnOk result (changes.new ≡ changes.old ++ sent_changes to.now row.now) }
 {
@@ -48,23 +47,23 @@ fn push_sent(alloc: Global, changes: &mut Changes, to: &Point, row: &Row) -> Res
         whole: false,
     };
     changes.push(Change::Motion { id: row.id, motion })?;
-    push_target(changes, 0, row)
+    push_stance(changes, 0, false, row)
 }
 
-/// The player's rows that are named are released.
-pub fn released(
+/// The player's rows that are named are released, and those that can attack hold their places.
+pub fn stopped(
     alloc: Global,
     rows: &[Row],
     player: u8,
     ids: &[u32],
 ) -> Result<Changes, OutOfMemory>
     requires { IsNonDecreasing ids.now }
-    ensures { IfOk result (λ changes. changes ≡ flat_map (λ row. if is_ordered_by player ids.now row then release_changes row else []) rows.now) }
+    ensures { IfOk result (λ changes. changes ≡ flat_map (λ row. if is_ordered_by player ids.now row then stop_changes row else []) rows.now) }
 {
     let mut changes = Items::new(alloc);
     for row in rows {
         if is_ordered(player, ids, row) {
-            push_turn(&mut changes, 0, row)?;
+            push_stand(&mut changes, 0, true, row)?;
         }
     }
     Ok(changes)
@@ -90,14 +89,14 @@ pub fn set_on(
     Ok(changes)
 }
 
-// The row takes a target and stands still, if it can attack.
+// The row takes a target, stands still and holds its place no more, if it can attack.
 fn push_set_on(changes: &mut Changes, target: u32, row: &Row) -> Result<(), OutOfMemory>
     ensures { OnOk result (changes.new ≡ changes.old ++ set_on_changes target row.now) }
 {
     if row.attack.is_none() {
         return Ok(());
     }
-    push_turn(changes, target, row)
+    push_stand(changes, target, false, row)
 }
 
 /// The player's rows that are named leave.

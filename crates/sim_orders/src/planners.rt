@@ -7,12 +7,13 @@ ghost use Rattle.sim_orders.specs.Orders.{IsGiven, Obeys};
 use crate::checks::{has_room, is_enemy, trains};
 use crate::help::Help;
 use crate::named::sorted;
-use crate::ordered::{deleted, released, resigned, sent, set_on};
+use crate::ordered::{deleted, resigned, sent, set_on, stopped};
 use sim_base::{Change, Changes, Command, Items, OutOfMemory, Point, Setup, State, centre_of};
 use sim_lookup::{find_row, is_inside};
 use std::alloc::Global;
 
-/// The changes of a walk: each named row that can move goes to a point of the ground and forgets its target.
+/// The changes of a walk: each named row that can move goes to a point of the ground, forgets its target and holds its
+/// place no more.
 pub fn walk_changes(
     alloc: Global,
     setup: &Setup,
@@ -34,7 +35,7 @@ pub fn walk_changes(
     sent(alloc, state.rows.as_slice(), player, ids.as_slice(), to)
 }
 
-/// The changes of a stop: each named row is released.
+/// The changes of a stop: each named row is released, and holds its place if it can attack.
 pub fn stop_changes(
     alloc: Global,
     setup: &Setup,
@@ -50,10 +51,11 @@ pub fn stop_changes(
         unreachable!()
     };
     let ids = sorted(ids)?;
-    released(alloc, state.rows.as_slice(), player, ids.as_slice())
+    stopped(alloc, state.rows.as_slice(), player, ids.as_slice())
 }
 
-/// The changes of an attack: each named row that can attack takes an enemy's row as target and stands still.
+/// The changes of an attack: each named row that can attack takes an enemy's row as target, stands still and holds its place
+/// no more.
 pub fn attack_changes(
     alloc: Global,
     setup: &Setup,

@@ -23,19 +23,19 @@ use Rattle.sim_base.specs.Limits.{IsSetup}
 use Rattle.sim_base.specs.Rows.{id_of, row_of, template_of, size_of}
 use Rattle.sim_base.specs.Filters.{spot}
 use Rattle.sim_base.specs.Validity.{IsInside, IsValidRow, IsKnownRow, IsLooselyValid}
-use Rattle.sim_base.specs.Changes.{released, created}
-use Rattle.sim_base.specs.Commands.{is_ordered, with_ordered, sent, set_on, is_enemy, has_room, is_placeable, trains, placed_on, trained, commanded_by}
+use Rattle.sim_base.specs.Changes.{created}
+use Rattle.sim_base.specs.Commands.{is_ordered, with_ordered, sent, stopped, set_on, is_enemy, has_room, is_placeable, trains, placed_on, trained, commanded_by}
 use Rattle.sim_laws.proofs.Members.{Has, Has-of_map}
 use Rattle.sim_turn_laws.proofs.Rows.{all_at, Has-of_filter, known_row, apart, row_found}
 use Rattle.sim_turn_laws.proofs.Removing.{IsTarget}
 use Rattle.sim_turn_laws.proofs.Commanding.{middle_inside, spot_on_ground, enemy_row, enemy_is_target, placeable, trained_template}
 use Rattle.sim_plans.specs.Fits.{OfRow}
-use Rattle.sim_plans.specs.RowPlans.{target_changes, release_changes}
+use Rattle.sim_plans.specs.RowPlans.{stance_changes}
 use Rattle.sim_plans.specs.RowChanges.{set_by_all, Suits}
-use Rattle.sim_plans.specs.CommandPlans.{ordered_changes, sent_changes_by, sent_changes, set_on_changes_by, set_on_changes, place_changes, train_changes, command_plan_by}
+use Rattle.sim_plans.specs.CommandPlans.{ordered_changes, sent_changes_by, sent_changes, stop_changes, set_on_changes_by, set_on_changes, place_changes, train_changes, command_plan_by}
 use Rattle.sim_plans.specs.PlanLaws.{IsPlanOf, IsOwnChange, CommandIsPlanned, CommandIsOwn}
 use Rattle.sim_plans.proofs.RowByRow.{row_by_row_to}
-use Rattle.sim_plans.proofs.Suiting.{one_suits, target_changes-set, turn_changes-set, target_changes_suit, turn_changes_suit, motion_suits}
+use Rattle.sim_plans.proofs.Suiting.{one_suits, stance_changes-set, stand_changes-set, stance_changes_suit, stand_changes_suit, motion_suits}
 use Rattle.sim_plans.proofs.RemovePlan.{remove_plan}
 
 All-flat_map : {X Y : Type 0} (P : Y → Type 0) (f : X → List Y) (xs : List X) → ((x : X) → Has xs x → All P (f x)) → All P (flat_map f xs)
@@ -114,7 +114,7 @@ module _ (setup : Setup) (limits : IsSetup setup) (state : State) (valid : IsLoo
     where
       by : (m : Option Motion) → set_by_all (sent_changes_by p row.id m row.attack) (record row { motion = m }) ≡ sent p (record row { motion = m })
       by None = refl
-      by (Some motion) = target_changes-set 0 (record row { motion = Some (Going p [] false) })
+      by (Some motion) = stance_changes-set 0 false (record row { motion = Some (Going p [] false) })
 
   sent_suit : (p : Point) → IsInside setup p → (row : Row) (t : Template) → template_of setup row ≡ Some t → IsValidRow 0 setup state.rows row t → All (Suits setup state.rows row) (sent_changes p row)
   sent_suit p inside row t known v = by row.motion refl
@@ -122,9 +122,9 @@ module _ (setup : Setup) (limits : IsSetup setup) (state : State) (valid : IsLoo
       by : (m : Option Motion) → row.motion ≡ m → All (Suits setup state.rows row) (sent_changes_by p row.id m row.attack)
       by None e = All-nil (Suits setup state.rows row)
       by (Some motion) e =
-          All-cons (Suits setup state.rows row) (change.Motion row.id (Going p [] false)) (target_changes 0 row.id row.attack)
+          All-cons (Suits setup state.rows row) (change.Motion row.id (Going p [] false)) (stance_changes 0 false row.id row.attack)
           (motion_suits 0 setup state.rows row t known v (Going p [] false) (ap is_some e) (inside, All-nil (IsInside setup), omega arith))
-          (target_changes_suit 0 setup state.rows row t known v 0 (inl refl))
+          (stance_changes_suit 0 setup state.rows row t known v 0 false (inl refl))
 
   -- ---- attack
 
@@ -133,14 +133,14 @@ module _ (setup : Setup) (limits : IsSetup setup) (state : State) (valid : IsLoo
     where
       by : (a : Option Aim) → set_by_all (set_on_changes_by target (record row { attack = a }) a) (record row { attack = a }) ≡ set_on target (record row { attack = a })
       by None = refl
-      by (Some aim) = turn_changes-set target (record row { attack = Some aim })
+      by (Some aim) = stand_changes-set target false (record row { attack = Some aim })
 
   set_on_suit : (target : ℕ) (row : Row) (t : Template) → IsTarget state.rows row target → template_of setup row ≡ Some t → IsValidRow 0 setup state.rows row t → All (Suits setup state.rows row) (set_on_changes target row)
   set_on_suit target row t may known v = by row.attack
     where
       by : (a : Option Aim) → All (Suits setup state.rows row) (set_on_changes_by target row a)
       by None = All-nil (Suits setup state.rows row)
-      by (Some aim) = turn_changes_suit 0 setup state.rows row t known v target may
+      by (Some aim) = stand_changes_suit 0 setup state.rows row t known v target false may
 
   -- ---- a new row
 
@@ -200,7 +200,7 @@ module _ (setup : Setup) (limits : IsSetup setup) (state : State) (valid : IsLoo
   planned (Walk ids p) =
       either (is_inside (size_of setup.land) p) (ordered_changes player ids (sent_changes p) state) (with_ordered player ids (sent p) state)
       (λ inside. ordered_plan ids (sent_changes p) (sent p) (λ row t h own e v. sent_suit p inside row t e v) (sent_make p))
-  planned (Stop ids) = ordered_plan ids release_changes released (λ row t h own e v. turn_changes_suit 0 setup state.rows row t e v 0 (inl refl)) (turn_changes-set 0)
+  planned (Stop ids) = ordered_plan ids stop_changes stopped (λ row t h own e v. stand_changes_suit 0 setup state.rows row t e v 0 true (inl refl)) (stand_changes-set 0 true)
   planned (Attack ids target) =
       either (is_enemy setup player (row_of state target)) (ordered_changes player ids (set_on_changes target) state) (with_ordered player ids (set_on target) state)
       (λ holds. ordered_plan ids (set_on_changes target) (set_on target)

@@ -37,7 +37,7 @@ module _ (setup : Setup) (state : State) (row : Row) (t : Template) (known : tem
       one_suits setup state.rows row (cooldown_change row.id aim cooldown)
       (attack_suits 0 setup state.rows row t known v aim (record aim { cooldown = cooldown }) e
       (λ arms_b h g. let same : arms ≡ arms_b = cc in
-      record { target = h.target; cooldown = subst (λ (a : Arms). cooldown ≤ a.repeat) same (within (subst (IsValidAim state.rows row.id aim) (sym same) h)); hold = h.hold }))
+      record { target = h.target; cooldown = subst (λ (a : Arms). cooldown ≤ a.repeat) same (within (subst (IsValidAim state.rows row.id aim) (sym same) h)) }))
 
   strike_suits : (aim : Aim) (arms : Arms) → row.attack ≡ Some aim → arms_of setup row ≡ Some arms → (o : Option Row) → All (Suits setup state.rows row) (strike_changes row aim arms o)
   strike_suits aim arms e f None = All-nil (Suits setup state.rows row)

@@ -39,11 +39,9 @@ target_prop rows id target none (inr p) (inr q) = let one : IsProp ((target ≢ 
 aim_prop : (rows : List Row) (id : ℕ) (aim : Aim) (arms : Arms) → (has_health rows 0 ≡ true → ⊥) → IsProp (IsValidAim rows id aim arms)
 aim_prop rows id aim arms none x y =
     let cooldown_prop : IsProp (aim.cooldown ≤ arms.repeat) = hlevel props in
-    let hold_prop : IsProp (aim.hold ≡ false) = hlevel props in
     λ i. record {
       target = target_prop rows id aim.target none x.target y.target i;
       cooldown = cooldown_prop x.cooldown y.cooldown i;
-      hold = hold_prop x.hold y.hold i;
     }
 
 motion_prop : (setup : Setup) (motion : Motion) → IsProp (IsValidMotion setup motion)

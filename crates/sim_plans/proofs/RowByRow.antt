@@ -73,7 +73,6 @@ module _ (setup : Setup) (rows more : List Row) (kept : (id : ℕ) → has_healt
       record {
         target = ⊎_elim (λ (none : aim.target ≡ 0). inl none) (λ (other : (aim.target ≢ id) × IsTrue (has_health rows aim.target)). inr (other.0, kept aim.target other.1)) v.target;
         cooldown = v.cooldown;
-        hold = v.hold;
       }
 
   suits_still : (c : Change) → Suits setup rows row c → Suits setup more new c

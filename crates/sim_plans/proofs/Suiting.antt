@@ -1,7 +1,9 @@
 -- The changes by which a row takes a target, stands still, or comes to stand and go as another one: they suit it, and make just that of it.
 use Rattle.std.proofs.Common.{◌≡◌, ℕ, Bool, true, false, cond, List, [], ◌∷◌, ◌++◌, Option, Some, None, refl, sym, ap, ◌∙◌, subst, arith, All, MatchOption}
-use Rattle.std.specs.Prelude.{is_some, IsSome, option_and_then, ◌==◌}
+use Rattle.std.specs.Prelude.{is_some, IsSome, option_and_then, ◌==◌, ◌&&◌}
 use Rattle.std.specs.Ordering.{int_eq}
+use Rattle.std.specs.Bool.{beq}
+use Rattle.std.specs.Cmp.{booleans_Decides}
 use Rattle.std.proofs.lemmas.Bool.{eqb-true, and_parts, cond_both}
 use Rattle.std.proofs.lemmas.List.Elements.{All-nil, All-cons, All-append}
 use Rattle.std.proofs.lemmas.List.Sums.{fold-append}
@@ -17,10 +19,10 @@ use Rattle.sim_base.specs.declared.change.Change.{Change}
 use Rattle.sim_base.specs.declared.change.Change.TheVariants as change
 use Rattle.sim_base.specs.Rows.{template_of, arms_of}
 use Rattle.sim_base.specs.Validity.{IsInside, IsValidMotion, IsValidAim, IsValidRow, Both}
-use Rattle.sim_base.specs.Changes.{aimed_at, halted}
+use Rattle.sim_base.specs.Changes.{aimed_at, with_stance, halted}
 use Rattle.sim_base.specs.Move.{same_point}
 use Rattle.sim_turn_laws.proofs.Removing.{IsTarget}
-use Rattle.sim_plans.specs.RowPlans.{target_changes, halt_changes, turn_changes, goes_on, motion_changes, step_changes}
+use Rattle.sim_plans.specs.RowPlans.{target_changes, halt_changes, turn_changes, stance_changes, stand_changes, goes_on, motion_changes, step_changes}
 use Rattle.sim_plans.specs.RowChanges.{set_by, set_by_all, Suits}
 
 -- a list of one change, or of none
@@ -55,6 +57,28 @@ halt_changes-set row = by row.motion
 pub turn_changes-set : (target : ℕ) (row : Row) → set_by_all (turn_changes target row) row ≡ halted (aimed_at target row)
 turn_changes-set target row =
     set_by-append (target_changes target row.id row.attack) (halt_changes row.id row.motion) row ∙ ap (set_by_all (halt_changes row.id row.motion)) (target_changes-set target row) ∙ halt_changes-set (aimed_at target row)
+
+pub stance_changes-set : (target : ℕ) (hold : Bool) (row : Row) → set_by_all (stance_changes target hold row.id row.attack) row ≡ with_stance hold (aimed_at target row)
+stance_changes-set target hold row = by row.attack
+  where
+    test : (aim : Aim) (b : Bool) → (aim.target == target && beq aim.hold hold) ≡ b →
+        set_by_all (cond b [] (change.Attack row.id (record aim { target = target; hold = hold }) ∷ [])) (record row { attack = Some aim }) ≡
+        record row { attack = Some (record aim { target = target; hold = hold }) }
+    test aim true e =
+        let (target_same, hold_same) = and_parts (aim.target == target) (beq aim.hold hold) e in
+        let t : aim.target ≡ target = eqb-true aim.target target target_same in
+        let h : aim.hold ≡ hold = (booleans_Decides aim.hold hold).0 hold_same in
+        λ i. record row { attack = Some (record aim { target = t i; hold = h i }) }
+    test aim false e = refl
+
+    by : (a : Option Aim) → set_by_all (stance_changes target hold row.id a) (record row { attack = a }) ≡ with_stance hold (aimed_at target (record row { attack = a }))
+    by None = refl
+    by (Some aim) = test aim (aim.target == target && beq aim.hold hold) refl
+
+pub stand_changes-set : (target : ℕ) (hold : Bool) (row : Row) → set_by_all (stand_changes target hold row) row ≡ halted (with_stance hold (aimed_at target row))
+stand_changes-set target hold row =
+    set_by-append (stance_changes target hold row.id row.attack) (halt_changes row.id row.motion) row ∙ ap (set_by_all (halt_changes row.id row.motion)) (stance_changes-set target hold row) ∙
+    halt_changes-set (with_stance hold (aimed_at target row))
 
 same_point-true : (p q : Point) → same_point p q ≡ true → p ≡ q
 same_point-true p q e =
@@ -118,7 +142,17 @@ module _ (least : ℕ) (setup : Setup) (rows : List Row) (row : Row) (t : Templa
       by None e = All-nil (Suits setup rows row)
       by (Some aim) e =
           cond_both (aim.target == target) [] (change.Attack row.id (record aim { target = target }) ∷ []) (All (Suits setup rows row)) (λ same. All-nil (Suits setup rows row))
-          (λ other. one_suits setup rows row (change.Attack row.id (record aim { target = target })) (attack_suits aim (record aim { target = target }) e (λ arms h f. record { target = may; cooldown = h.cooldown; hold = h.hold })))
+          (λ other. one_suits setup rows row (change.Attack row.id (record aim { target = target })) (attack_suits aim (record aim { target = target }) e (λ arms h f. record { target = may; cooldown = h.cooldown })))
+
+  pub stance_changes_suit : (target : ℕ) (hold : Bool) → IsTarget rows row target → All (Suits setup rows row) (stance_changes target hold row.id row.attack)
+  stance_changes_suit target hold may = by row.attack refl
+    where
+      by : (a : Option Aim) → row.attack ≡ a → All (Suits setup rows row) (stance_changes target hold row.id a)
+      by None e = All-nil (Suits setup rows row)
+      by (Some aim) e =
+          let new : Aim = record aim { target = target; hold = hold } in
+          cond_both (aim.target == target && beq aim.hold hold) [] (change.Attack row.id new ∷ []) (All (Suits setup rows row)) (λ same. All-nil (Suits setup rows row))
+          (λ other. one_suits setup rows row (change.Attack row.id new) (attack_suits aim new e (λ arms h f. record { target = may; cooldown = h.cooldown })))
 
   pub motion_suits : (motion : Motion) → IsSome row.motion → IsValidMotion setup motion → Suits setup rows row (change.Motion row.id motion)
   motion_suits motion some ok = (refl, some, ok)
@@ -134,6 +168,10 @@ module _ (least : ℕ) (setup : Setup) (rows : List Row) (row : Row) (t : Templa
   pub turn_changes_suit : (target : ℕ) → IsTarget rows row target → All (Suits setup rows row) (turn_changes target row)
   turn_changes_suit target may =
       All-append (Suits setup rows row) (target_changes target row.id row.attack) (halt_changes row.id row.motion) (target_changes_suit target may) halt_changes_suit
+
+  pub stand_changes_suit : (target : ℕ) (hold : Bool) → IsTarget rows row target → All (Suits setup rows row) (stand_changes target hold row)
+  stand_changes_suit target hold may =
+      All-append (Suits setup rows row) (stance_changes target hold row.id row.attack) (halt_changes row.id row.motion) (stance_changes_suit target hold may) halt_changes_suit
 
   pub step_changes_suit : (new : Row) → is_some new.motion ≡ is_some row.motion → IsInside setup new.at → ((motion : Motion) → new.motion ≡ Some motion → IsValidMotion setup motion) → IsSome row.motion →
       All (Suits setup rows row) (step_changes row new)

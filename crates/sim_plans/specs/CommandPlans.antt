@@ -1,5 +1,5 @@
 -- The changes that make up a command.
-use Rattle.std.specs.Prelude.{ℕ, false, ◌&&◌, ◌==◌, List, [], ◌∷◌, map, filter, Option, Some, None, slice_get, if◌then◌else◌}
+use Rattle.std.specs.Prelude.{ℕ, true, false, ◌&&◌, ◌==◌, List, [], ◌∷◌, map, filter, Option, Some, None, slice_get, if◌then◌else◌}
 use Rattle.std.specs.List.{flat_map}
 use Rattle.sim_base.specs.declared.place.Point.{Point}
 use Rattle.sim_base.specs.declared.place.Cell.{Cell}
@@ -18,24 +18,28 @@ use Rattle.sim_base.specs.Places.{is_inside, centre_of}
 use Rattle.sim_base.specs.Rows.{id_of, row_of, template_of, size_of}
 use Rattle.sim_base.specs.Filters.{spot}
 use Rattle.sim_base.specs.Commands.{is_ordered, is_enemy, has_room, is_placeable, trains}
-use Rattle.sim_plans.specs.RowPlans.{target_changes, turn_changes, release_changes}
+use Rattle.sim_plans.specs.RowPlans.{stance_changes, stand_changes}
 
 -- the changes of each row that is ordered
 abbrev pub ordered_changes : ℕ → List ℕ → (Row → List Change) → State → List Change
 ordered_changes player ids changes state = flat_map (λ row. if is_ordered player ids row then changes row else []) state.rows
 
--- a row that can move goes to a point, and forgets its target
+-- a row that can move goes to a point, forgets its target and holds its place no more
 abbrev pub sent_changes_by : Point → ℕ → Option Motion → Option Aim → List Change
 sent_changes_by p id None aim = []
-sent_changes_by p id (Some motion) aim = change.Motion id (Going p [] false) ∷ target_changes 0 id aim
+sent_changes_by p id (Some motion) aim = change.Motion id (Going p [] false) ∷ stance_changes 0 false id aim
 
 abbrev pub sent_changes : Point → Row → List Change
 sent_changes p row = sent_changes_by p row.id row.motion row.attack
 
--- a row that can attack takes a target, and stands still
+-- a row is released, and holds its place
+abbrev pub stop_changes : Row → List Change
+stop_changes = stand_changes 0 true
+
+-- a row that can attack takes a target, stands still and holds its place no more
 abbrev pub set_on_changes_by : ℕ → Row → Option Aim → List Change
 set_on_changes_by target row None = []
-set_on_changes_by target row (Some aim) = turn_changes target row
+set_on_changes_by target row (Some aim) = stand_changes target false row
 
 abbrev pub set_on_changes : ℕ → Row → List Change
 set_on_changes target row = set_on_changes_by target row row.attack
@@ -55,7 +59,7 @@ train_changes setup state player number (Some building) =
 
 abbrev pub command_plan_by : Setup → State → ℕ → Command → List Change
 command_plan_by setup state player (Walk ids p) = if is_inside (size_of setup.land) p then ordered_changes player ids (sent_changes p) state else []
-command_plan_by setup state player (Stop ids) = ordered_changes player ids release_changes state
+command_plan_by setup state player (Stop ids) = ordered_changes player ids stop_changes state
 command_plan_by setup state player (Attack ids target) = if is_enemy setup player (row_of state target) then ordered_changes player ids (set_on_changes target) state else []
 command_plan_by setup state player (Delete ids) = map (λ id. change.Remove id) (map id_of (filter (is_ordered player ids) state.rows))
 command_plan_by setup state player (Place number p) =

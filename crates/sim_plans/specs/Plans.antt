@@ -12,7 +12,7 @@ use Rattle.sim_base.specs.declared.change.Change.{Change}
 use Rattle.sim_base.specs.declared.change.Change.TheVariants as change
 use Rattle.sim_base.specs.Rows.{id_of, row_of, target_of, speed_of, arms_of}
 use Rattle.sim_base.specs.Filters.{is_near}
-use Rattle.sim_base.specs.Aim.{aims_at_friend, target_for, is_idle}
+use Rattle.sim_base.specs.Aim.{lets_go, target_for, is_idle}
 use Rattle.sim_base.specs.Move.{moved_row}
 use Rattle.sim_base.specs.Hit.{Hit, hitting, taken_from, is_spent}
 use Rattle.sim_plans.specs.RowPlans.{target_changes, turn_changes, step_changes}
@@ -24,14 +24,14 @@ abbrev pub next_target : Setup → State → Row → Option Arms → ℕ
 next_target setup state row None = 0
 next_target setup state row (Some arms) = target_for setup state row arms
 
--- a row that aims at a friend stands still and looks for another target, and an idle one looks for one
+-- a row that lets go of its target stands still and looks for another one, and an idle row looks for one
 abbrev pub aim_changes_by : Bool → Bool → ℕ → Row → List Change
 aim_changes_by true idle target row = turn_changes target row
 aim_changes_by false true target row = target_changes target row.id row.attack
 aim_changes_by false false target row = []
 
 abbrev pub aim_changes_of : Setup → State → Row → List Change
-aim_changes_of setup state row = aim_changes_by (aims_at_friend setup row (row_of state (target_of row))) (is_idle row) (next_target setup state row (arms_of setup row)) row
+aim_changes_of setup state row = aim_changes_by (lets_go setup row (row_of state (target_of row))) (is_idle row) (next_target setup state row (arms_of setup row)) row
 
 abbrev pub aim_plan : Setup → State → List Change
 aim_plan setup state = flat_map (aim_changes_of setup state) state.rows

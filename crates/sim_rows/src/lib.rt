@@ -1,5 +1,5 @@
-//! Worked matches, as tests of whole runs with real systems: what `play`, `state`, `resume`, `show`, `compare` and `trial`
-//! print, and how they end. It promises nothing by itself.
+//! Whole runs in memory over real systems: each command once with what it prints, and every call of a shelf and a sink failing
+//! in turn. Many more cases stand in tables that the built program is run on. It promises nothing by itself.
 #![tactic(auto)]
 
 #[cfg(test)]

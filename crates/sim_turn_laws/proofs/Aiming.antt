@@ -12,7 +12,7 @@ use Rattle.sim_base.specs.Rows.{id_of, row_of, target_of, arms_of, in_mask, enem
 use Rattle.sim_base.specs.Filters.{is_near, within, seen}
 use Rattle.sim_base.specs.Validity.{IsValidRow, IsState, has_health}
 use Rattle.sim_base.specs.Changes.{released}
-use Rattle.sim_base.specs.Aim.{aims_at_friend, without_friends, square_to, target_for, is_idle, looking, with_targets, aimed}
+use Rattle.sim_base.specs.Aim.{lets_go, with_releases, square_to, may_take, choices, target_for, is_idle, looking, with_targets, aimed}
 use Rattle.sim_laws.proofs.Members.{Has, Has-of_map}
 use Rattle.sim_laws.proofs.LeastMember.{least_of-some}
 use Rattle.sim_turn_laws.proofs.Rows.{Has-of_filter, has_health_of}
@@ -31,20 +31,22 @@ seen_is_target setup state row arms id h =
     inr (eqb-false id row.id (not-true (id == row.id) other), subst (λ (n : ℕ). has_health state.rows n ≡ true) e (has_health_of state.rows q k some))
 
 pub target_for_is_target : (setup : Setup) (state : State) (row : Row) (arms : Arms) → IsTarget state.rows row (target_for setup state row arms)
-target_for_is_target setup state row arms = by (least_of key (seen setup state row arms)) refl
+target_for_is_target setup state row arms = by (least_of key (choices setup state row arms)) refl
   where
     key : ℕ → List ℕ
     key id = square_to state row id ∷ id ∷ []
 
-    by : (o : Option ℕ) → least_of (λ id. square_to state row id ∷ id ∷ []) (seen setup state row arms) ≡ o → IsTarget state.rows row (unwrap_or o 0)
+    by : (o : Option ℕ) → least_of (λ id. square_to state row id ∷ id ∷ []) (choices setup state row arms) ≡ o → IsTarget state.rows row (unwrap_or o 0)
     by None e = inl refl
-    by (Some id) e = seen_is_target setup state row arms id ((least_of-some (λ id. square_to state row id ∷ id ∷ []) (seen setup state row arms) id e).member)
+    by (Some id) e =
+        let chosen = (least_of-some (λ id. square_to state row id ∷ id ∷ []) (choices setup state row arms) id e).member in
+        seen_is_target setup state row arms id ((Has-of_filter (may_take state row arms) (seen setup state row arms) id chosen).0)
 
 module _ (least : ℕ) (setup : Setup) (state : State) (valid : IsState least setup state) where
-  pub without_friends_is_state : IsState least setup (without_friends setup state)
-  without_friends_is_state =
-      mapped_is_state least least setup state (λ (row : Row). cond (aims_at_friend setup row (row_of state (target_of row))) (released row) row) valid
-      (λ row t h e v. cond_both (aims_at_friend setup row (row_of state (target_of row))) (released row) row (λ (new : Row). Stays least setup state.rows row new t)
+  pub with_releases_is_state : IsState least setup (with_releases setup state)
+  with_releases_is_state =
+      mapped_is_state least least setup state (λ (row : Row). cond (lets_go setup row (row_of state (target_of row))) (released row) row) valid
+      (λ row t h e v. cond_both (lets_go setup row (row_of state (target_of row))) (released row) row (λ (new : Row). Stays least setup state.rows row new t)
       (λ yes. released_stays least setup state.rows row t v) (λ no. same_stays least setup state.rows row t v))
 
   pub with_targets_is_state : IsState least setup (with_targets setup state)
@@ -57,4 +59,4 @@ module _ (least : ℕ) (setup : Setup) (state : State) (valid : IsState least se
       by row t v false arms = same_stays least setup state.rows row t v
 
 pub aimed_is_state : (least : ℕ) (setup : Setup) (state : State) → IsState least setup state → IsState least setup (aimed setup state)
-aimed_is_state least setup state valid = with_targets_is_state least setup (without_friends setup state) (without_friends_is_state least setup state valid)
+aimed_is_state least setup state valid = with_targets_is_state least setup (with_releases setup state) (with_releases_is_state least setup state valid)

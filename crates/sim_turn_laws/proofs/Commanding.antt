@@ -23,15 +23,15 @@ use Rattle.sim_base.specs.Rows.{id_of, row_of, template_of, size_of, in_mask, en
 use Rattle.sim_base.specs.Limits.{IsSetup, IsTemplate}
 use Rattle.sim_base.specs.Filters.{is_open, spot}
 use Rattle.sim_base.specs.Validity.{IsInside, IsValidMotion, IsValidRow, IsState, Both, has_health}
-use Rattle.sim_base.specs.Changes.{released, with_new, created}
-use Rattle.sim_base.specs.Commands.{is_ordered, with_ordered, sent, set_on, is_enemy, has_room, is_placeable, trains, placed_on, trained, commanded_by}
+use Rattle.sim_base.specs.Changes.{with_new, created}
+use Rattle.sim_base.specs.Commands.{is_ordered, with_ordered, sent, stopped, set_on, is_enemy, has_room, is_placeable, trains, placed_on, trained, commanded_by}
 use Rattle.sim_laws.proofs.Ground.{Has-of_cells_of}
 use Rattle.sim_laws.proofs.LeastMember.{least_of-some}
 use Rattle.sim_laws.proofs.Members.{Has}
 use Rattle.sim_laws.proofs.Validity.{with_new_is_valid}
 use Rattle.sim_turn_laws.proofs.Rows.{Has-of_filter, apart, same_row, found_row, has_health_of}
 use Rattle.sim_turn_laws.proofs.RowWise.{Stays, mapped_is_state}
-use Rattle.sim_turn_laws.proofs.Removing.{IsTarget, aimed_at_is_valid, same_stays, turned_on_stays, released_stays, removed_all_is_state}
+use Rattle.sim_turn_laws.proofs.Removing.{IsTarget, same_stays, placed_stays, ordered_stays, removed_all_is_state}
 
 -- a template of a known number is one of the match
 pub known_template : (setup : Setup) (number : ℕ) (t : Template) → IsSetup setup → slice_get setup.templates number ≡ Some t
@@ -81,8 +81,8 @@ module _ (least : ℕ) (setup : Setup) (limits : IsSetup setup) (state : State) 
           → Stays least setup state.rows (record row { motion = m }) (sent p (record row { motion = m })) t
       by None w = same_stays least setup state.rows (record row { motion = None }) t w
       by (Some m) w =
-          let a = aimed_at_is_valid least setup state.rows (record row { motion = Some m }) t 0 (inl refl) w in
-          record { id = refl; template = refl; valid = record { at = w.at; owner = w.owner; health = w.health; motion = going t.speed m w.motion; attack = a.attack } }
+          let a = placed_stays least setup state.rows (record row { motion = Some m }) t w 0 false (inl refl) in
+          record { id = refl; template = refl; valid = record { at = w.at; owner = w.owner; health = w.health; motion = going t.speed m w.motion; attack = a.valid.attack } }
 
   set_on_stays : (target : ℕ) (row : Row) (t : Template) → IsTarget state.rows row target → IsValidRow least setup state.rows row t
       → Stays least setup state.rows row (set_on target row) t
@@ -91,7 +91,7 @@ module _ (least : ℕ) (setup : Setup) (limits : IsSetup setup) (state : State) 
       by : (a : Option Aim) → IsValidRow least setup state.rows (record row { attack = a }) t
           → Stays least setup state.rows (record row { attack = a }) (set_on target (record row { attack = a })) t
       by None w = same_stays least setup state.rows (record row { attack = None }) t w
-      by (Some aim) w = turned_on_stays least setup state.rows (record row { attack = Some aim }) t w target may
+      by (Some aim) w = ordered_stays least setup state.rows (record row { attack = Some aim }) t w target false may
 
   -- an enemy is a row with health that is none of the player's own
   pub record IsEnemyRow (target : ℕ) : Type 0 where
@@ -180,7 +180,7 @@ module _ (least : ℕ) (setup : Setup) (limits : IsSetup setup) (state : State) 
     commanded_by_is_state (Walk ids p) =
         cond_both (is_inside (size_of setup.land) p) (with_ordered player ids (sent p) state) state (IsState least setup)
         (λ inside. ordered_is_state ids (sent p) (λ row t h own e v. sent_stays p inside row t v)) (λ outside. valid)
-    commanded_by_is_state (Stop ids) = ordered_is_state ids released (λ row t h own e v. released_stays least setup state.rows row t v)
+    commanded_by_is_state (Stop ids) = ordered_is_state ids stopped (λ row t h own e v. ordered_stays least setup state.rows row t v 0 true (inl refl))
     commanded_by_is_state (Attack ids target) =
         cond_both (is_enemy setup player (row_of state target)) (with_ordered player ids (set_on target) state) state (IsState least setup)
         (λ holds. ordered_is_state ids (set_on target) (λ row t h own e v. set_on_stays target row t (enemy_is_target target (enemy_row known target holds) row h own) v)) (λ fails. valid)

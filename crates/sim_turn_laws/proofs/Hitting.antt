@@ -108,7 +108,7 @@ module _ (least : ℕ) (setup : Setup) (rows : List Row) (row : Row) (t : Templa
       both a b e f h = subst (λ (o : Option Aim). Both o (Some arms) (IsValidAim rows row.id)) e (subst (λ (o : Option Arms). Both a o (IsValidAim rows row.id)) f h)
 
       ok : IsValidAim rows row.id (record aim { cooldown = cooldown }) arms
-      ok = let h = both row.attack t.arms is_aim is_arms v.attack in record { target = h.target; cooldown = within; hold = h.hold }
+      ok = let h = both row.attack t.arms is_aim is_arms v.attack in record { target = h.target; cooldown = within }
 
   pub waits : (aim : Aim) (arms : Arms) → row.attack ≡ Some aim → t.arms ≡ Some arms → IsValidRow least setup rows row t
       → IsValidAim rows row.id aim arms

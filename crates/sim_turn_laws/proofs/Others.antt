@@ -16,7 +16,7 @@ use Rattle.sim_base.specs.Rows.{id_of, row_of, target_of, template_of, size_of}
 use Rattle.sim_base.specs.Filters.{spot}
 use Rattle.sim_base.specs.Validity.{IsLooselyValid}
 use Rattle.sim_base.specs.Changes.{released, removed, new_row, with_new, created}
-use Rattle.sim_base.specs.Commands.{is_ordered, with_ordered, sent, set_on, is_enemy, has_room, is_placeable, trains, placed_on, trained, commanded_by, commanded}
+use Rattle.sim_base.specs.Commands.{is_ordered, with_ordered, sent, stopped, set_on, is_enemy, has_room, is_placeable, trains, placed_on, trained, commanded_by, commanded}
 use Rattle.sim_laws.proofs.Members.{Has, Has-map, Has-of_map, Has-append_left}
 use Rattle.sim_turn_laws.specs.CommandLaws.{CommandLeavesOthers}
 use Rattle.sim_turn_laws.proofs.Rows.{all_at, Has-filter, Has-of_filter, apart, same_row, found_row, row_found}
@@ -106,7 +106,7 @@ module _ (setup : Setup) (state : State) (valid : IsLooselyValid setup state) (p
   pub stays_there : (command : Command) → HasTargetIn (commanded_by setup state player command)
       → Has (commanded_by setup state player command).rows row
   stays_there (Walk ids p) target = either (is_inside (size_of setup.land) p) (with_ordered player ids (sent p) state) (ordered ids (sent p))
-  stays_there (Stop ids) target = ordered ids released
+  stays_there (Stop ids) target = ordered ids stopped
   stays_there (Attack ids enemy) target = either (is_enemy setup player (row_of state enemy)) (with_ordered player ids (set_on enemy) state) (ordered ids (set_on enemy))
   stays_there (Delete ids) target = deleted ids target
   stays_there (Place number p) target =

@@ -17,7 +17,7 @@ use Rattle.sim_base.specs.declared.state.Row.{Row}
 use Rattle.sim_base.specs.declared.state.State.{State}
 use Rattle.sim_base.specs.Rows.{id_of, target_of}
 use Rattle.sim_base.specs.Validity.{IsValidAim, IsValidMotion, IsValidRow, IsKnownRow, IsState, IsValid, IsLooselyValid, Both, has_health}
-use Rattle.sim_base.specs.Changes.{aimed_at, halted, released, removed}
+use Rattle.sim_base.specs.Changes.{aimed_at, with_stance, halted, released, removed}
 use Rattle.sim_base.specs.Hit.{is_spent, gone}
 use Rattle.sim_laws.proofs.Members.{Has, Has-map, Has-of_map}
 use Rattle.sim_turn_laws.proofs.Rows.{all_at, all_from, map-map, map_agree, Has-filter, Has-of_filter, known_row, row_known, has_health_of, of_has_health}
@@ -39,7 +39,17 @@ module _ (least : ℕ) (setup : Setup) (rows : List Row) (row : Row) (t : Templa
       by None None v = tt
       by None (Some arms) v = absurd v
       by (Some aim) None v = absurd v
-      by (Some aim) (Some arms) v = record { target = may; cooldown = v.cooldown; hold = v.hold }
+      by (Some aim) (Some arms) v = record { target = may; cooldown = v.cooldown }
+
+  pub with_stance_is_valid : (hold : Bool) → IsValidRow least setup rows row t → IsValidRow least setup rows (with_stance hold row) t
+  with_stance_is_valid hold h = record { at = h.at; owner = h.owner; health = h.health; motion = h.motion; attack = by row.attack t.arms h.attack }
+    where
+      by : (a : Option Aim) (b : Option Arms) → Both a b (IsValidAim rows row.id)
+          → Both (option_map (λ (aim : Aim). record aim { hold = hold }) a) b (IsValidAim rows row.id)
+      by None None v = tt
+      by None (Some arms) v = absurd v
+      by (Some aim) None v = absurd v
+      by (Some aim) (Some arms) v = record { target = v.target; cooldown = v.cooldown }
 
   pub halted_is_valid : IsValidRow least setup rows row t → IsValidRow least setup rows (halted row) t
   halted_is_valid h = record { at = h.at; owner = h.owner; health = h.health; motion = by row.motion t.speed h.motion; attack = h.attack }
@@ -61,11 +71,17 @@ module _ (least : ℕ) (setup : Setup) (rows : List Row) (row : Row) (t : Templa
   pub halted_stays : Stays least setup rows row (halted row) t
   halted_stays = record { id = refl; template = refl; valid = halted_is_valid least setup rows row t h }
 
-  pub turned_on_stays : (target : ℕ) → IsTarget rows row target → Stays least setup rows row (halted (aimed_at target row)) t
-  turned_on_stays target may = record { id = refl; template = refl; valid = halted_is_valid least setup rows (aimed_at target row) t (aimed_at_is_valid least setup rows row t target may h) }
+  -- also where it holds its place or does not from now on
+  pub placed_stays : (target : ℕ) (hold : Bool) → IsTarget rows row target → Stays least setup rows row (with_stance hold (aimed_at target row)) t
+  placed_stays target hold may =
+      record { id = refl; template = refl; valid = with_stance_is_valid least setup rows (aimed_at target row) t hold (aimed_at_is_valid least setup rows row t target may h) }
+
+  pub ordered_stays : (target : ℕ) (hold : Bool) → IsTarget rows row target → Stays least setup rows row (halted (with_stance hold (aimed_at target row))) t
+  ordered_stays target hold may =
+      record { id = refl; template = refl; valid = halted_is_valid least setup rows (with_stance hold (aimed_at target row)) t (placed_stays target hold may).valid }
 
   pub released_stays : Stays least setup rows row (released row) t
-  released_stays = turned_on_stays 0 (inl refl)
+  released_stays = record { id = refl; template = refl; valid = halted_is_valid least setup rows (aimed_at 0 row) t (aimed_at_stays 0 (inl refl)).valid }
 
 -- ---- a row is removed
 
@@ -151,7 +167,7 @@ module _ (least : ℕ) (setup : Setup) (state : State) (id : ℕ) (valid : IsSta
       by None None e v = tt
       by None (Some arms) e v = absurd v
       by (Some aim) None e v = absurd v
-      by (Some aim) (Some arms) e v = record { target = target_kept aim.target e v.target; cooldown = v.cooldown; hold = v.hold }
+      by (Some aim) (Some arms) e v = record { target = target_kept aim.target e v.target; cooldown = v.cooldown }
 
   known_after : (row : Row) → Has left row → IsKnownRow least setup rest (let_go id row)
   known_after row h =

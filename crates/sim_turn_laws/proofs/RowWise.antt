@@ -39,7 +39,6 @@ valid_beside least setup rows more kept row t h =
         record {
           target = ⊎_elim (λ (none : aim.target ≡ 0). inl none) (λ (other : (aim.target ≢ row.id) × IsTrue (has_health rows aim.target)). inr (other.0, kept aim.target other.1)) v.target;
           cooldown = v.cooldown;
-          hold = v.hold;
         }
 
 module _ (old least : ℕ) (setup : Setup) (state : State) (f : Row → Row) where

@@ -22,9 +22,9 @@ use Rattle.sim_base.specs.Places.{is_inside, centre_of}
 use Rattle.sim_base.specs.Limits.{IsSetup, IsTimed}
 use Rattle.sim_base.specs.Rows.{id_of, row_of, template_of, size_of}
 use Rattle.sim_base.specs.Validity.{IsValidRow, IsValid, Both}
-use Rattle.sim_base.specs.Changes.{released, removed, new_row, with_row, with_new, created}
+use Rattle.sim_base.specs.Changes.{removed, new_row, with_row, with_new, created}
 use Rattle.sim_base.specs.Filters.{spot}
-use Rattle.sim_base.specs.Commands.{is_ordered, with_ordered, sent, set_on, is_enemy, has_room, is_placeable, trains, placed_on, trained, commanded_by, commanded}
+use Rattle.sim_base.specs.Commands.{is_ordered, with_ordered, sent, stopped, set_on, is_enemy, has_room, is_placeable, trains, placed_on, trained, commanded_by, commanded}
 use Rattle.sim_base.specs.Aim.{aimed}
 use Rattle.sim_base.specs.Move.{moved}
 use Rattle.sim_base.specs.Hit.{hit}
@@ -90,7 +90,7 @@ module _ (setup : Setup) (state : State) (player : ℕ) (P : State → Type 0) (
 
   pub after_command : (command : Command) → P (commanded_by setup state player command)
   after_command (Walk ids p) = either (is_inside (size_of setup.land) p) (with_ordered player ids (sent p) state) (ordered ids (sent p) (sent-id p))
-  after_command (Stop ids) = ordered ids released (λ row. refl)
+  after_command (Stop ids) = ordered ids stopped (λ row. refl)
   after_command (Attack ids target) = either (is_enemy setup player (row_of state target)) (with_ordered player ids (set_on target) state) (ordered ids (set_on target) (set_on-id target))
   after_command (Delete ids) = fewer (map id_of (filter (is_ordered player ids) state.rows))
   after_command (Place number p) =

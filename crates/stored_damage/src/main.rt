@@ -1,8 +1,8 @@
 //! What a stored state is answered with when a byte of it is changed: each of its first 400 bytes to each other value, and
 //! 2,000 of those behind to values that a fixed rule gives. Whether it stands for a state and whether it is loaded have to
-//! agree, each refusal has to be the one of the place of the change, and what is loaded has to spell the changed bytes. It
-//! prints how many changes had which answer, those for which that does not hold being `wrong`. The words are the files of a
-//! match and of a state; a run without words prints nothing.
+//! agree, each refusal has to be the one of the place of the change, and what is loaded has to spell the changed bytes, those
+//! of version 1 but for what version 2 adds. It prints for each state how many changes had which answer, those for which that
+//! does not hold being `wrong`. The words are the files of a match and of its states; a run without words prints nothing.
 #![tactic(auto)]
 
 ghost use Rattle.sim_base.specs.Limits.{IsSetup};
@@ -16,6 +16,9 @@ use std::{env, fs, io};
 const FRONT: usize = 400;
 
 const BEHIND: u32 = 2_000;
+
+// Where the version stands: a state of one version is none of the other, though its head is good.
+const VERSION_AT: usize = 4;
 
 /// What a state is answered with.
 #[derive(Clone, Copy, Debug, PartialEq, Eq)]
@@ -57,15 +60,19 @@ fn main(rt: HostRuntime) -> io::Result<()> {
     let Ok(words) = env::args(&rt)?.skip(1).collect::<Vec<String>>(rt.alloc()) else {
         return Ok(());
     };
-    let [game, stored] = words.as_slice() else {
+    let [game, states @ ..] = words.as_slice() else {
         return Ok(());
     };
     let file = fs::read(&rt, game.as_str())?;
-    let bytes = fs::read(&rt, stored.as_str())?;
-    match setup_of(rt.alloc(), &file) {
-        Ok(setup) => damage_all(&rt, &setup, bytes),
-        Err(_) => println!(&rt; "no match"),
+    let Ok(setup) = setup_of(rt.alloc(), &file) else {
+        return println!(&rt; "no match");
+    };
+    for name in states {
+        let bytes = fs::read(&rt, name.as_str())?;
+        print!(&rt; "{name}: ")?;
+        damage_all(&rt, &setup, bytes)?;
     }
+    Ok(())
 }
 
 // Makes all changes, one at a time, and prints how many had which answer.
@@ -151,7 +158,8 @@ fn answer_at(place: usize, answer: Answer) -> Answer {
     let fits = match answer {
         Answer::NotState => place < 8,
         Answer::OtherMatch => 8 <= place && place < 24,
-        Answer::Loaded | Answer::Grammar => 24 <= place,
+        Answer::Grammar => place == VERSION_AT || 24 <= place,
+        Answer::Loaded => 24 <= place,
         Answer::OutOfMemory | Answer::Wrong => true,
     };
     same_or_wrong(fits, answer)
@@ -170,9 +178,17 @@ fn answer_to(alloc: Global, setup: &Setup, bytes: &[u8]) -> Answer
 
 fn loaded(spelled: Result<Vec<u8>, OutOfMemory>, bytes: &[u8]) -> Answer {
     match spelled {
-        Ok(spelled) => same_or_wrong(spelled.as_slice() == bytes, Answer::Loaded),
+        Ok(spelled) => same_or_wrong(is_spelled(&spelled, bytes), Answer::Loaded),
         Err(_) => Answer::OutOfMemory,
     }
+}
+
+// Whether the bytes are the spelling, or that of version 1, which ends before the last section of it.
+fn is_spelled(spelled: &[u8], bytes: &[u8]) -> bool {
+    if bytes.get(VERSION_AT) != Some(&1) {
+        return spelled == bytes;
+    }
+    spelled.len() > bytes.len() && bytes.get(8..) == spelled.get(8..bytes.len())
 }
 
 fn refused(told: Option<StateFault>, fault: StateFault) -> Answer {

@@ -1,56 +1,85 @@
-//! Words that ask for nothing, files that are refused or not there, and what short matches print.
+//! What each command prints, and how it ends.
 
-use sim_runs::games::POSTS;
-use sim_runs::{Case, first_unmet};
+use sim_runs::games::{POSTS, STEP};
+use sim_runs::{Case, first_unmet, print, shelf_of};
 use sim_top::Status;
 use std::test::Fail;
 
-const USAGE: &str = "usage: simcore play MATCH
-       simcore state MATCH TURN OUT
-       simcore resume MATCH STATE
-       simcore rejoin MATCH TURN
-       simcore serve SCHEDULE
-       simcore session MATCH STEPS
-       simcore compare MATCH A B
-       simcore show MATCH STATE
-       simcore trial SEED UNITS TURNS
+const POSTS_LINES: &str = "turn 0 17328fba69143d17c79259ab7d40e803
+turn 1 8fe2300087879a3c47e3af011e612274
+turn 2 d81f0e51244512e9cd24c374c62ecb18
 ";
 
-// A match of nothing.
-const EMPTY: &str =
-    r#"{"size":[4,4],"closed":[],"players":[[]],"cap":0,"delay":1,"turns":2,"seed":0,"templates":[],"entities":[],"commands":[]}"#;
-
-const EMPTY_LINES: &str = "turn 0 bad449d9a43e6ca7182c9e7c15bf5f7a
-turn 1 ddb86dde1b179a734a0503c602c2ff12
-turn 2 98ea2cc6081e00a0d7341a0ee8f682e1
+const REJOINED: &str = "first 0 74db5c88c5625db350f3bce6dede3099
+first 1 20d725bf6dad6057d64ca4efab99a4e1
+first 2 04362895d2b889bf9e66ca1487c50a18
+second 1 20d725bf6dad6057d64ca4efab99a4e1
+second 2 04362895d2b889bf9e66ca1487c50a18
 ";
 
-const EXTRA_KEY: &str =
-    r#"{"x":1,"size":[4,4],"closed":[],"players":[[]],"cap":0,"delay":1,"turns":2,"seed":0,"templates":[],"entities":[],"commands":[]}"#;
+// Two walkers of two players who are no enemies.
+const TWO: &str =
+    r#"{"size":[16,16],"closed":[],"players":[[],[]],"cap":0,"delay":2,"turns":5,"seed":0,"templates":[{"@name":"walker","Motion":{"Speed":10}}],"entities":[["walker",1,"2.5","2.5"],["walker",2,"2.5","5.5"]],"commands":[]}"#;
 
-const LATE: &str =
-    r#"{"size":[4,4],"closed":[],"players":[[]],"cap":0,"delay":9,"turns":2,"seed":0,"templates":[],"entities":[],"commands":[]}"#;
+// One orders and plays, the other is cut and joins again.
+const STEPS: &str =
+    r#"{"clients":2,"steps":[["order",1,"walk",[2],"6.5","2.5"],["up",1],["play",1],["join",2],["bend",1,2,1],["cut",2],["join",2],["up",2],["down",1],["down",1],["up",1],["up",1],["down",2],["down",2]]}"#;
 
-const POSTS_LINES: &str = "turn 0 6c55afdc0e61faf6e75ba31d1bd8428e
-turn 1 5ba6ccce6ec0216cccaaf7181a30b789
-turn 2 846656bc95c044d1dd6d2f3f26ab5406
+const SESSION: &str = "client 1 start 0 73e3470f5addc8ca29a65fd51b7bcd2f
+client 2 start 0 73e3470f5addc8ca29a65fd51b7bcd2f
+client 1 order 3
+client 1 play 1 35320ef0d4b872585577f4e1c68b3ade
+client 2 cut
+client 2 join
+released 3
+kept 3 1
+end 1 on 1 35320ef0d4b872585577f4e1c68b3ade
+end 2 joining
+pipe 1 up 161
+pipe 1 down 9
+pipe 2 up
+pipe 2 down
 ";
 
-const MOVING: &str =
-    r#"{"size":[4,4],"closed":[],"players":[[],[]],"cap":0,"delay":1,"turns":2,"seed":0,"templates":[{"@name":"post","Health":{"Max":50},"Motion":{}}],"entities":[["post",1,1,1],["post",2,2,2]],"commands":[[1,1,"delete",[2,3,2]]]}"#;
+// A client joins late, and another sends bytes that are no frame.
+const ARRIVALS: &str =
+    r#"{"clients":3,"active":2,"delay":1,"turns":4,"arrivals":[[1,"command",2,"stop",[2]],[3,"join"],[1,"done",2],[2,"command",2,"resign"],[1,"state",3,1,"00"],[3,"command",2,"stop",[]],[2,"bytes","ff"],[2,"done",3]]}"#;
 
-const WALKING: &str =
-    r#"{"size":[4,4],"closed":[],"players":[[],[]],"cap":0,"delay":1,"turns":2,"seed":0,"templates":[{"@name":"post","Health":{"Max":50}}],"entities":[["post",1,1,1],["post",2,2,2]],"commands":[[1,1,"walk",[2,3,2]]]}"#;
+const SERVED: &str = "to 1 command turn 2 player 1 stop 2
+to 2 command turn 2 player 1 stop 2
+to 1 ask 3
+to 1 command turn 2 player 2 resign
+to 2 command turn 2 player 2 resign
+to 3 state done 2 bytes 1
+to 3 command turn 2 player 1 stop 2
+to 3 command turn 2 player 2 resign
+to 3 release 1
+to 3 refused 2
+to 1 release 2
+to 3 release 2
+to 2 refused 1
+released 2
+kept 2 2
+";
 
-const CASES: [Case; 22] = [
-    (&["play", "m"], &[("m", EMPTY)], Status::Done, EMPTY_LINES),
+const TRIAL: &str = "trial 7 8 5 alive 8 f4cf71a654e6b6591dc7620ed28c6df9\n";
+
+const CASES: [Case; 9] = [
     (&["play", "m"], &[("m", POSTS)], Status::Done, POSTS_LINES),
     (
-        &["play", "m"],
-        &[("m", "")],
-        Status::MatchRefused,
-        "match refused 1 0\n",
+        &["rejoin", "m", "1"],
+        &[("m", STEP)],
+        Status::Done,
+        REJOINED,
     ),
+    (
+        &["session", "m", "l"],
+        &[("m", TWO), ("l", STEPS)],
+        Status::Done,
+        SESSION,
+    ),
+    (&["serve", "l"], &[("l", ARRIVALS)], Status::Done, SERVED),
+    (&["trial", "7", "8", "5"], &[], Status::Done, TRIAL),
     (
         &["play", "m"],
         &[("m", "[]")],
@@ -58,51 +87,10 @@ const CASES: [Case; 22] = [
         "match refused 2 0\n",
     ),
     (
-        &["play", "m"],
-        &[("m", EXTRA_KEY)],
-        Status::MatchRefused,
-        "match refused 2 10\n",
-    ),
-    (
-        &["play", "m"],
-        &[("m", LATE)],
-        Status::MatchRefused,
-        "match refused 3 4\n",
-    ),
-    (
-        &["play", "m"],
-        &[("m", MOVING)],
-        Status::MatchRefused,
-        "match refused 7 0\n",
-    ),
-    (
-        &["play", "m"],
-        &[("m", WALKING)],
-        Status::MatchRefused,
-        "match refused 9 0\n",
-    ),
-    (&["play", "x"], &[("m", POSTS)], Status::NoFile, ""),
-    (&[], &[("m", POSTS)], Status::Usage, USAGE),
-    (&["play"], &[("m", POSTS)], Status::Usage, USAGE),
-    (&["play", "m", "m"], &[("m", POSTS)], Status::Usage, USAGE),
-    (&["state", "m", "1"], &[("m", POSTS)], Status::Usage, USAGE),
-    (
-        &["state", "m", "+1", "s"],
-        &[("m", POSTS)],
-        Status::Usage,
-        USAGE,
-    ),
-    (
-        &["state", "m", "", "s"],
-        &[("m", POSTS)],
-        Status::Usage,
-        USAGE,
-    ),
-    (
-        &["state", "m", "0000000001", "s"],
-        &[("m", POSTS)],
-        Status::Usage,
-        USAGE,
+        &["serve", "l"],
+        &[("l", "")],
+        Status::ListRefused,
+        "list refused 0\n",
     ),
     (
         &["state", "m", "3", "s"],
@@ -110,52 +98,70 @@ const CASES: [Case; 22] = [
         Status::NoSuchTurn,
         "no turn 3 of 2\n",
     ),
+    (&["play", "x"], &[("m", POSTS)], Status::NoFile, ""),
+];
+
+#[test]
+fn each_command_gives_its_status_and_text(rt: HostRuntime) -> Result<(), Fail> {
+    let unmet = first_unmet(rt.alloc(), &CASES)?;
+    assert!(rt; unmet.is_none(), "{unmet:?}");
+    Ok(())
+}
+
+// Commands over the state that the first of them stores, and what they print.
+static STORED: [(&[&str], Status, &str); 5] = [
     (
-        &["state", "x", "3", "s"],
-        &[("m", POSTS)],
-        Status::NoFile,
-        "",
+        &["state", "m", "000000001", "s"],
+        Status::Done,
+        "state 1 129 20d725bf6dad6057d64ca4efab99a4e1\n",
     ),
     (
-        &["state", "m", "3", "s"],
-        &[("m", "")],
-        Status::MatchRefused,
-        "match refused 1 0\n",
+        &["show", "m", "s"],
+        Status::Done,
+        "turn 1 next 3 word 0 rows 1\nentity 2 template walker owner 1 at 4.50000 2.50000 motion going 6.50000 2.50000 way 2 whole 1\n",
     ),
-    (&["resume", "m", "s"], &[("m", POSTS)], Status::NoFile, ""),
-    (&["show", "m", "s"], &[("m", POSTS)], Status::NoFile, ""),
     (
-        &["compare", "m", "m", "s"],
-        &[("m", POSTS)],
+        &["resume", "m", "s"],
+        Status::Done,
+        "turn 1 20d725bf6dad6057d64ca4efab99a4e1\nturn 2 04362895d2b889bf9e66ca1487c50a18\n",
+    ),
+    (&["compare", "m", "s", "s"], Status::Done, "same\n"),
+    (
+        &["show", "m", "m"],
         Status::StateRefused,
         "state refused 1 m\n",
     ),
 ];
 
 #[test]
-fn words_and_files_give_their_status_and_text(rt: HostRuntime) -> Result<(), Fail> {
-    let unmet = first_unmet(rt.alloc(), &CASES)?;
-    assert!(rt; unmet.is_none(), "{unmet:?}");
+fn a_state_is_stored_shown_and_played_on(rt: HostRuntime) -> Result<(), Fail> {
+    let mut shelf = shelf_of(rt.alloc(), &[("m", STEP.as_bytes())])?;
+    for (words, status, text) in STORED {
+        let printed = print(rt.alloc(), words, &mut shelf)?;
+        assert_eq!(rt; printed.status, status, "for {words:?}");
+        assert_eq!(rt; printed.text.as_str(), text, "for {words:?}");
+    }
     Ok(())
 }
 
 #[test]
 fn statuses_have_their_numbers(rt: HostRuntime) {
-    let numbers = [
-        (Status::Done, 0),
-        (Status::Differs, 1),
-        (Status::Usage, 2),
-        (Status::ReadFault, 3),
-        (Status::WriteFault, 4),
-        (Status::TooLong, 5),
-        (Status::MatchRefused, 6),
-        (Status::StateRefused, 7),
-        (Status::ListRefused, 8),
-        (Status::OutOfMemory, 9),
-        (Status::NoSuchTurn, 10),
-        (Status::NoFile, 11),
+    let statuses = [
+        Status::Done,
+        Status::Differs,
+        Status::Usage,
+        Status::ReadFault,
+        Status::WriteFault,
+        Status::TooLong,
+        Status::MatchRefused,
+        Status::StateRefused,
+        Status::ListRefused,
+        Status::OutOfMemory,
+        Status::NoSuchTurn,
+        Status::NoFile,
     ];
-    for (status, number) in numbers {
-        assert_eq!(rt; status.number(), number);
-    }
+    assert_eq!(rt;
+        statuses.map(Status::number),
+        [0, 1, 2, 3, 4, 5, 6, 7, 8, 9, 10, 11]
+    );
 }

@@ -25,7 +25,7 @@ use std::test::Fail;
 
 // The digests of that match, whose player resigns in turn 1.
 const LINES: &str =
-    "turn 0 157dafb5e35abac8d5d437b1e3fc0d1c\nturn 1 80bf5422a58c8986ad5609bdb3c3414d\n";
+    "turn 0 bc011c526afb5bc4756cb8f53721e51c\nturn 1 3b505723b94edd38fa8f90828241b1da\n";
 
 // The player's rows become Gaia's.
 fn left(alloc: Global, rows: &[Row], player: u8) -> Result<Changes, OutOfMemory>

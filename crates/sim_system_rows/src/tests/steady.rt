@@ -28,7 +28,7 @@ const BATTLE: &str =
 
 // Its digests.
 const LINES: &str =
-    "turn 0 f73466d1b85fa4698f437a0f27887ae4\nturn 1 76d5076e3965c3d4eb155ba8be75feb7\nturn 2 16544c0bd37aab7ce76fdd9efdae5aea\n";
+    "turn 0 eee3e0c1c93b039cba239d6b41ae0f7e\nturn 1 690c5d2d07468a83f550ab6ade49883a\nturn 2 8eee8b34e448d09db480fd31798dade3\n";
 
 /// A system that lends what it keeps.
 trait Lends {

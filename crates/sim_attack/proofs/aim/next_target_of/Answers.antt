@@ -1,40 +1,33 @@
--- What is taken from a find is what the row finds, and what the row finds is kept as what its owner finds from there.
-use Rattle.std.proofs.Common.{rules, ◌≡◌, Some, None, get_or, sym, ap, ◌∙◌}
-use Rattle.std.proofs.lemmas.List.Elements.{All-same, All-set}
-use Rattle.std.specs.Prelude.{Option, IfSome}
+-- The nearest that the row sees is its target where it may take it; else it has none.
+use Rattle.std.proofs.Common.{rules, ◌≡◌, true, false, sym, ap, ◌∙◌}
 use Rattle.sim_base.specs.Filters.{seen}
-use Rattle.sim_base.specs.Rows.{row_of}
-use Rattle.sim_system.specs.Answers.{seen_from, seen_with}
+use Rattle.sim_base.specs.Aim.{may_take}
 use Rattle.sim_plans.specs.Plans.{next_target}
-use Rattle.sim_attack.specs.declared.finds.Find.{Find}
-use Rattle.sim_attack.specs.Finds.{place_for, nearest_from, filled}
 use Rattle.sim_attack.specs.Nearest.{nearest_of}
-use Rattle.sim_attack.proofs.Sharing.{target_is_nearest, shared_is_nearest, found_at, filled_found}
+use Rattle.sim_attack.proofs.Sharing.{seen_is_nearest}
+use Rattle.sim_attack.proofs.Taking.{target_from}
 use Rattle.sim_attack.proofs.aim.next_target_of.Goals as goal
 
-pub returns-in-Some-target_for-clause-target : goal.returns-in-Some-target_for-clause-target
-returns-in-Some-target_for-clause-target g c =
+pub returns-then-may_take-clause-target : goal.returns-then-may_take-clause-target
+returns-then-may_take-clause-target g c =
     let setup = c.args.scene.now.setup.now in
     let state = c.args.scene.now.state.now in
     let row = c.args.row.now in
     let arms = c.in-Some.arms in
-    let finds = c.args.finds.now.kept.items in
-    let place = place_for row.owner row.at in
-    shared_is_nearest setup state row arms.vision (get_or finds place None) c.in-Some-target_for.target (found_at setup state finds place c.requires.finds) (sym c.in-Some-target_for.ensures) ∙
-    sym (target_is_nearest setup state row c.requires.stands.limits c.requires.stands.valid c.requires.row c.requires.found arms) ∙
-    ap (next_target setup state row) c.in-Some.ensures
+    let target = c.in_ok-target.target in
+    let nearest : target ≡ nearest_of state row (seen setup state row arms) = c.in_ok-target.ensures.target ∙
+    sym (seen_is_nearest setup state row c.requires.stands.limits c.requires.stands.valid c.requires.row c.requires.found arms) in
+    let takes : may_take state row arms target ≡ true = search rules in
+    target_from setup state row arms target true nearest takes ∙ ap (next_target setup state row) c.in-Some.ensures
 
-pub returns-clause-finds : goal.returns-clause-finds
-returns-clause-finds g c =
+pub returns-else-may_take-clause-target : goal.returns-else-may_take-clause-target
+returns-else-may_take-clause-target g c =
     let setup = c.args.scene.now.setup.now in
     let state = c.args.scene.now.state.now in
     let row = c.args.row.now in
     let arms = c.in-Some.arms in
-    let P : Option Find → Type 0 = λ o. IfSome o (λ (find : Find). find.target ≡ nearest_from setup state find.owner find.at find.vision) in
-    let seen_is : seen_from setup state (row_of state row.id) ≡ seen setup state row arms = ap (seen_from setup state) c.requires.found ∙ ap (seen_with setup state row) (sym c.in-Some.ensures) in
-    let ids_are : c.as_slice.result.now ≡ seen_from setup state (row_of state row.id) = search rules in
-    let target : c.nearest-target.result ≡ nearest_from setup state row.owner row.at arms.vision =
-    c.nearest-target.ensures ∙ ap (nearest_of state row) (ids_are ∙ seen_is) ∙
-    target_is_nearest setup state row c.requires.stands.limits c.requires.stands.valid c.requires.row c.requires.found arms in
-    All-same P c.keep.new.self.kept.items _ c.in_ok-keep.ensures.ok
-    (All-set P (filled c.args.finds.now.kept.items) (place_for row.owner row.at) (Some (record { owner = row.owner; at = row.at; vision = arms.vision; target = c.nearest-target.result })) target (filled_found setup state c.args.finds.now.kept.items c.requires.finds))
+    let target = c.in_ok-target.target in
+    let nearest : target ≡ nearest_of state row (seen setup state row arms) = c.in_ok-target.ensures.target ∙
+    sym (seen_is_nearest setup state row c.requires.stands.limits c.requires.stands.valid c.requires.row c.requires.found arms) in
+    let leaves : may_take state row arms target ≡ false = search rules in
+    target_from setup state row arms target false nearest leaves ∙ ap (next_target setup state row) c.in-Some.ensures

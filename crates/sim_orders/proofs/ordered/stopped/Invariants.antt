@@ -1,0 +1,7 @@
+use Rattle.std.proofs.Common.{◌≡◌, [], cond, flat_map, take}
+use Rattle.sim_base.specs.Commands.{is_ordered}
+use Rattle.sim_plans.specs.CommandPlans.{stop_changes}
+use Rattle.sim_orders.proofs.ordered.stopped.Given as goal
+
+abbrev pub invariant-loop-row : goal.invariant-loop-row
+invariant-loop-row l = l.changes ≡ flat_map (λ row. cond (is_ordered l.player l.ids row) (stop_changes row) []) (take l.row-index l.rows)

@@ -1,0 +1,9 @@
+//! The expected values were worked out apart from the program.
+
+mod bytes;
+mod files;
+mod messages;
+mod numbers;
+mod records;
+mod slow;
+mod states;

@@ -1,0 +1,81 @@
+#!/usr/bin/env python3
+"""Worked cases as tables, run on the built program: matches, lists, battles and sessions, each with its status and text.
+
+Usage: python3 tests/rows.py [PROGRAM] [NAME..]
+
+PROGRAM is by default the one that the gate leaves in crates/simcore/out; NAMEs are tables of tests/rows to run alone. A table is a
+list of cases. A case has a name, files by their names, and runs in one folder, each with its words, its status and its text. A file
+is a text, or {"hex": ..}, or {"repeat": [before, item, count, after]}, where ^ in an item stands for its number and $ for the next.
+
+The statuses and texts were worked out apart from the program. It prints the cases that fail, a line for each table, and a last line
+'N passed, M failed'; the exit status is 0 where none failed.
+"""
+
+import concurrent.futures
+import json
+import os
+import pathlib
+import subprocess
+import sys
+import tempfile
+
+TOP = pathlib.Path(__file__).resolve().parent.parent
+
+
+def content(told):
+    """The bytes of a file, as a case tells it."""
+    if isinstance(told, str):
+        return told.encode()
+    if "hex" in told:
+        return bytes.fromhex(told["hex"])
+    before, item, count, after = told["repeat"]
+    items = (item.replace("^", str(number)).replace("$", str(number + 1)) for number in range(count))
+    return (before + "".join(items) + after).encode()
+
+
+def answer(program, words, folder):
+    """The status and the text of a run; what is on standard error counts as text."""
+    done = subprocess.run([program, *words], cwd=folder, stdin=subprocess.DEVNULL, capture_output=True, timeout=120)
+    return done.returncode, (done.stdout + done.stderr).decode()
+
+
+def faults(program, case):
+    """What is wrong with the runs of a case, a line for each."""
+    found = []
+    with tempfile.TemporaryDirectory() as folder:
+        for name, told in case["files"].items():
+            pathlib.Path(folder, name).write_bytes(content(told))
+        for run in case["runs"]:
+            got = answer(program, run["words"], folder)
+            if got != (run["status"], run["text"]):
+                found.append(f"{case['name']}: {' '.join(run['words'])}: {got} for {(run['status'], run['text'])}")
+    return found
+
+
+def tables(names):
+    """The tables of these names, or all."""
+    for path in sorted(TOP.glob("tests/rows/*.json")):
+        if not names or path.stem in names:
+            yield path.stem, json.loads(path.read_text())
+
+
+def main(words):
+    program = pathlib.Path(words[0] if words else TOP / "crates/simcore/out/simcore").resolve()
+    if not program.is_file():
+        print(f"there is no program {program}: build it first, as the README says\n0 passed, 1 failed")
+        return 1
+    passed = failed = 0
+    with concurrent.futures.ThreadPoolExecutor(os.cpu_count()) as pool:
+        for name, cases in tables(words[1:]):
+            answers = list(pool.map(lambda case: faults(program, case), cases))
+            bad = [lines for lines in answers if lines]
+            for lines in bad:
+                print("\n".join(f"FAILED {line}" for line in lines))
+            print(f"{name}: {len(cases) - len(bad)} of {len(cases)} cases")
+            passed, failed = passed + len(cases) - len(bad), failed + len(bad)
+    print(f"{passed} passed, {failed} failed")
+    return 1 if failed else 0
+
+
+if __name__ == "__main__":
+    sys.exit(main(sys.argv[1:]))
