@@ -1,5 +1,5 @@
 -- What entities give, by the obstructions of their templates.
-use Rattle.std.proofs.Common.{◌≡◌, ◌≢◌, ℕ, ◌+◌, ◌*◌, ◌-◌, ◌<◌, ◌≤◌, Bool, true, false, cond, List, [], ◌∷◌, length, get_or, Option, Some, None, refl, sym, ap, ◌∙◌, subst, ◌⊎◌, inl, inr, arith, All}
+use Rattle.std.proofs.Common.{◌≡◌, ◌≢◌, ℕ, ◌+◌, ◌*◌, ◌-◌, ◌<◌, ◌≤◌, Bool, true, false, cond, List, [], ◌∷◌, length, get_or, Option, Some, None, refl, sym, ap, ◌∙◌, subst, ◌⊎◌, inl, inr, arith}
 use Rattle.std.specs.Prelude.{◌==◌, sum_by, slice_get, IfSome, option_and_then, option_map, unwrap_or}
 use Rattle.std.proofs.lemmas.Bool.{ne_eqb, cond-false}
 use Rattle.std.proofs.lemmas.Option.{slice_get_cases}
@@ -13,8 +13,8 @@ use Rattle.sim_base.specs.Limits.{IsSetup, IsTemplate, IsFrom}
 use Rattle.sim_base.specs.Steps.{octile}
 use Rattle.sim_trail.specs.declared.mark.Mark.{Mark}
 use Rattle.sim_territory.specs.declared.building.Building.{Building}
-use Rattle.sim_territory.specs.Influence.{template_of, base_of, reach_of, strength, share, influence}
-use Rattle.sim_territory.specs.Buildings.{strength_of, share_of, IsBuildingOf, GivesNothing}
+use Rattle.sim_territory.specs.Influence.{base_of, reach_of, strength, share, influence}
+use Rattle.sim_territory.specs.Buildings.{IsBuildingOf, GivesNothing}
 
 -- both sides of an obstruction are short
 abbrev IsShort : Base → Type 0
@@ -50,7 +50,7 @@ built_gives setup mark base b limits e player owner cell reach =
       owner = owner;
       cell = cell;
       player = omega arith;
-      near = let (w, d) = base-short setup mark base limits e in omega (arith, w, d, reach);
+      near = let (w, d) = base-short setup mark base limits e in omega (arith, w.1, d.1, reach);
       shares = λ p c.
           ap (λ (o : Option Base). cond (mark.owner == p) (unwrap_or (option_map (λ base. reach_of base - octile mark.cell c) o) 0) 0) e
           ∙ ap (λ (n : ℕ). cond (n == p) (reach_of base - octile mark.cell c) 0) (sym owner)
@@ -68,7 +68,7 @@ share-small setup player c mark limits = given (mark.owner == player)
     strong (Some base) e = let (w, d) = base-short setup mark base limits e in less base.width base.depth (octile mark.cell c) w d
       where
         less : (w d o : ℕ) → IsFrom 1 16 w → IsFrom 1 16 d → 40 * (w + d) - o ≤ 1280
-        less w d o f g = omega (arith, f, g)
+        less w d o f g = omega (arith, f.1, g.1)
 
     given : (t : Bool) → cond t (strength setup mark c) 0 ≤ 1280
     given true = strong (base_of setup mark) refl

@@ -1,11 +1,10 @@
 -- Lists by z, then x: where a cell stands among the cells of a ground, and a list that has a function's value at each cell.
-use Rattle.std.proofs.Common.{◌≡◌, ℕ, ◌+◌, ◌*◌, ◌/◌, ◌%◌, ◌<◌, ◌≤◌, zero, List, [], ◌∷◌, length, get_or, take, map, refl, sym, ap, ◌∙◌, subst, arith, zero-add, length-append, length-map, length-take}
+use Rattle.std.proofs.Common.{◌≡◌, ℕ, ◌+◌, ◌*◌, ◌/◌, ◌%◌, ◌<◌, List, [], ◌∷◌, length, get_or, take, map, sym, ap, ◌∙◌, arith, zero-add, length-append, length-map, length-take, mod-lt, div-add-mod'}
 use Rattle.std.specs.List.{range_with_len, flat_map}
 use Rattle.std.proofs.Math.Nat.{div-lt_iff_lt-mul}
 use Rattle.std.proofs.lemmas.List.{get_or-map, same_lists, get_or_default}
 use Rattle.std.proofs.lemmas.List.Concat.{flat_map-cons, get_or-flat_map}
 use Rattle.std.proofs.lemmas.List.FromFn.{length-range_with_len, get_or-range_with_len, length-map-range_with_len, get_or-map-range_with_len}
-use Rattle.std.proofs.lemmas.Nat.{mul-add-lt}
 use Rattle.sim_base.specs.declared.place.Cell.{Cell}
 use Rattle.sim_base.specs.Places.{Size, cells_of}
 use Rattle.sim_base.specs.Steps.{IsOnGround}
@@ -45,12 +44,12 @@ abbrev cell_in : Size → ℕ → Cell
 cell_in size k = record { x = k % size.width; z = k / size.width }
 
 cell_in-place : (size : Size) (k : ℕ) → 0 < size.width → place_of size (cell_in size k) ≡ k
-cell_in-place size k wide = omega arith
+cell_in-place size k wide = div-add-mod' k size.width
 
 cell_in-on : (size : Size) (k : ℕ) → 0 < size.width → k < size.width * size.depth → IsOnGround size (cell_in size k)
 cell_in-on size k wide lt =
     let turned : k < size.depth * size.width = omega arith in
-    record { east = omega arith; north = (div-lt_iff_lt-mul {k = size.width} {x = k} {y = size.depth} wide).1 turned }
+    record { east = mod-lt k wide; north = (div-lt_iff_lt-mul {k = size.width} {x = k} {y = size.depth} wide).1 turned }
 
 pub mapped : {X : Type 0} (f : Cell → X) (size : Size) (xs : List X) (e : X) → 0 < size.width → length xs ≡ size.width * size.depth → ((c : Cell) → IsOnGround size c → get_or xs (place_of size c) e ≡ f c) → xs ≡ map f (cells_of size)
 mapped f size xs e wide full each =

@@ -1,5 +1,5 @@
 -- Why the flood comes to just the cells that are reached.
-use Rattle.std.proofs.Common.{◌≡◌, ◌≢◌, ℕ, ◌+◌, ◌*◌, ◌<◌, ◌≤◌, Bool, true, false, List, [], ◌∷◌, ◌++◌, length, get_or, set, Contains, Option, Some, None, refl, sym, ap, ◌∙◌, subst, ◌⊎◌, ⊎_elim, inl, inr, arith, suc, cond}
+use Rattle.std.proofs.Common.{◌≡◌, ◌≢◌, ℕ, ◌+◌, ◌<◌, ◌≤◌, Bool, true, List, [], ◌∷◌, ◌++◌, Contains, Some, refl, sym, ap, ◌∙◌, subst, ◌⊎◌, ⊎_elim, inl, inr, arith, suc}
 use Rattle.std.proofs.Math.Nat.{eq-or-lt_of_le}
 use Rattle.std.proofs.lemmas.List.Elements.{Contains-append_left, Contains-push, Contains-push_cases}
 use Rattle.sim_base.specs.declared.place.Cell.{Cell}
@@ -8,8 +8,9 @@ use Rattle.sim_base.specs.Steps.{IsOnGround, neighbour}
 use Rattle.sim_laws.proofs.Neighbours.{neighbour-on}
 use Rattle.sim_grid.proofs.Beside.{same_or_not}
 use Rattle.sim_territory.specs.declared.flood.Flood.{Flood}
+use Rattle.sim_territory.specs.Keeping.{holder_at}
 use Rattle.sim_territory.specs.Rooted.{HeldGround, IsHeldStep, IsReachedFrom, first, on, flag_at}
-use Rattle.sim_territory.specs.Floods.{ground_size, IsWet, Waits, ground_of, work_left, IsPassed, IsWetted, Wets, IsStayed, IsStepped, StepsOn, Spreads, AllWait, Fills, IsWetAt}
+use Rattle.sim_territory.specs.Floods.{ground_size, IsWet, Waits, ground_of, work_left, IsWetted, Wets, IsStayed, IsStepped, StepsOn, Spreads, AllWait, Fills, IsWetAt}
 
 -- ---- one cell
 
@@ -62,10 +63,7 @@ wets-waits old new cell c (inr w) h = Contains-push_cases old.waiting.items cell
 -- ---- the neighbours of a cell
 
 pub ground-same : (old new : Flood) (holders : List ℕ) → ground_size new ≡ ground_size old → ground_of new holders ≡ ground_of old holders
-ground-same old new holders e = ap (λ (s : Size). ground_at s holders) e
-  where
-    abbrev ground_at : Size → List ℕ → HeldGround
-    ground_at s hs = record { size = s; holder = λ c. get_or hs (c.z * s.width + c.x) 0 }
+ground-same old new holders e = ap (λ (s : Size). let g : HeldGround = record { size = s; holder = holder_at s holders } in g) e
 
 pub spread_begins : (ground : HeldGround) (flood : Flood) (from : Cell) → Spreads ground flood flood from 0
 spread_begins ground flood from =
@@ -270,15 +268,15 @@ nothing_in c (k, h, is) = omega arith
 pub filling_ends : (ground : HeldGround) (begun flood : Flood) → ground_size begun ≡ ground.size → flood.waiting.items ≡ [] → Filling ground begun flood → Fills ground begun flood
 filling_ends ground begun flood size_is none f = record { size = f.size ∙ sym size_is; sound = f.sound; all = λ c r. (all r).1 }
   where
-    follow : {b c : Cell} → IsOnGround ground.size b × IsWet flood b → IsHeldStep ground b c → Waits flood b ⊎ ((e : Cell) → IsHeldStep ground b e → IsWet flood e) → IsWet flood c
-    follow {b} {c} h step (inl w) = absurd (nothing_in b (subst (λ (xs : List Cell). Contains xs b) none w))
-    follow {b} {c} h step (inr g) = g c step
+    follow : (b c : Cell) → IsOnGround ground.size b × IsWet flood b → IsHeldStep ground b c → Waits flood b ⊎ ((e : Cell) → IsHeldStep ground b e → IsWet flood e) → IsWet flood c
+    follow b c h step (inl w) = absurd (nothing_in b (subst (λ (xs : List Cell). Contains xs b) none w))
+    follow b c h step (inr g) = g c step
 
     all : {c : Cell} → IsReachedFrom ground (Waits begun) c → IsOnGround ground.size c × IsWet flood c
     all (first {c = c} w) = (f.begun_on c w, f.keeps c w)
     all (on {b = b} {c = c} r step) =
         let h = all r in
-        (neighbour-on ground.size b c step.which step.leads, follow h step (f.closed b h.0 h.1))
+        (neighbour-on ground.size b c step.which step.leads, follow b c h step (f.closed b h.0 h.1))
 
 -- ---- two grounds with the same holders
 

@@ -1,6 +1,5 @@
 -- The shifts of a trail are followed one by one.
-use Rattle.std.proofs.Common.{◌≡◌, ℕ, ◌+◌, ◌*◌, ◌^◌, ◌<◌, ◌≤◌, Bool, true, false, List, [], ◌∷◌, length, get_or, take, Option, Some, None, refl, sym, ap, ◌∙◌, subst, ◌⊎◌, inl, inr, arith, All}
-use Rattle.std.specs.Prelude.{sum_by}
+use Rattle.std.proofs.Common.{◌≡◌, ℕ, ◌+◌, ◌<◌, ◌≤◌, Bool, true, false, List, [], length, get_or, take, refl, sym, ap, subst, arith}
 use Rattle.std.proofs.lemmas.List.{take_all}
 use Rattle.std.proofs.lemmas.List.Sums.{sum_by_more, sum_by_more_le}
 use Rattle.std.proofs.lemmas.List.Elements.{All-get_or}
@@ -14,7 +13,7 @@ use Rattle.sim_trail.specs.declared.shift.Shift.TheVariants.{Gone, Born}
 use Rattle.sim_territory.specs.declared.building.Building.{Building}
 use Rattle.sim_territory.specs.declared.sums.Sums.{Sums}
 use Rattle.sim_territory.specs.Buildings.{share_of, IsBuildingOf, GivesNothing}
-use Rattle.sim_territory.specs.Tables.{size_in, sum_at, HasShapeOf, Moves, MayMove, IsPlaceIn, SumsMove, MaySumsMove, IsMarkIn, mark_in, share_by, leaving, coming, FitsShift, IsShifted, FitShifts, AreShifted}
+use Rattle.sim_territory.specs.Tables.{size_in, HasShapeOf, IsPlaceIn, SumsMove, MaySumsMove, IsMarkIn, mark_in, share_by, leaving, coming, FitsShift, IsShifted, FitShifts, AreShifted}
 use Rattle.sim_territory.proofs.Moving.{shape-same, shape-chain, size-shape, place-later, place-before, sums_none, sums_same, may_same}
 
 -- ---- one entity

@@ -1,19 +1,18 @@
 -- What a realm keeps, from one state to the next.
-use Rattle.std.proofs.Common.{◌≡◌, ℕ, ◌+◌, ◌*◌, ◌^◌, ◌<◌, ◌≤◌, Bool, true, false, cond, List, [], ◌∷◌, length, get_or, map, replicate, Option, Some, None, ℤ, pos, ◌≤ℤ◌, ◌<ℤ◌, int_le, int_lt, refl, sym, ap, ◌∙◌, subst, ◌⊎◌, inl, inr, arith, All, length-map}
-use Rattle.std.specs.Prelude.{◌&&◌, nat_le, nat_lt, sum_by, MatchOption, IsTrue}
-use Rattle.std.proofs.lemmas.Bool.{cases_Bool, and_parts, and_from, leb-true, le-leb, ltb-true, lt-ltb, cond-true, true≢false}
+use Rattle.std.proofs.Common.{◌≡◌, ℕ, ◌*◌, ◌<◌, ◌≤◌, Bool, true, false, cond, List, [], ◌∷◌, length, get_or, replicate, Option, Some, None, ℤ, pos, ◌≤ℤ◌, ◌<ℤ◌, int_le, int_lt, refl, sym, ap, ◌∙◌, subst, arith, All, length-map}
+use Rattle.std.specs.Prelude.{◌&&◌, nat_le, nat_lt, sum_by, MatchOption}
+use Rattle.std.proofs.lemmas.Bool.{and_parts, and_from, leb-true, le-leb, ltb-true, lt-ltb, cond-true}
 use Rattle.std.proofs.lemmas.Int.{ints}
 use Rattle.std.proofs.lemmas.List.{get_or-replicate}
 use Rattle.std.proofs.lemmas.List.Sums.{sum_by-cons}
 use Rattle.std.proofs.lemmas.List.Elements.{All-nil, All-cons, All-head, All-tail, All-map, All-weaker}
-use Rattle.sim_base.specs.declared.place.Cell.{Cell}
 use Rattle.sim_base.specs.declared.place.Point.{Point}
 use Rattle.sim_base.specs.declared.template.Template.{Template}
 use Rattle.sim_base.specs.declared.setup.Setup.{Setup}
 use Rattle.sim_base.specs.declared.state.Row.{Row}
 use Rattle.sim_base.specs.declared.state.State.{State}
 use Rattle.sim_base.specs.Limits.{IsSetup, row_limit}
-use Rattle.sim_base.specs.Places.{Size, IsPlaced, is_within, is_inside}
+use Rattle.sim_base.specs.Places.{Size, IsPlaced, is_within}
 use Rattle.sim_base.specs.Rows.{size_of, template_of}
 use Rattle.sim_base.specs.Steps.{IsOnGround}
 use Rattle.sim_base.specs.Validity.{IsInside, IsValidRow, IsKnownRow, IsValid}
@@ -27,9 +26,9 @@ use Rattle.sim_trail.specs.Sums.{weight_gone, weight_born, SumFollows}
 use Rattle.sim_trail.proofs.Rising.{marks_ascend}
 use Rattle.sim_trail.proofs.Summing.{sum_follows}
 use Rattle.sim_territory.specs.declared.sums.Sums.{Sums}
-use Rattle.sim_territory.specs.Influence.{share, influence}
+use Rattle.sim_territory.specs.Influence.{share}
 use Rattle.sim_territory.specs.Keeping.{AreInfluences}
-use Rattle.sim_territory.specs.Tables.{size_in, sum_place, sum_at, IsPlaceIn, IsMarkIn, mark_in, leaving, coming, FitShifts, AreShifted}
+use Rattle.sim_territory.specs.Tables.{size_in, sum_place, IsMarkIn, mark_in, FitShifts, AreShifted}
 use Rattle.sim_territory.proofs.Bases.{influence-small}
 use Rattle.sim_territory.proofs.Moving.{size-shape, place-before}
 use Rattle.sim_territory.proofs.Following.{mark_later}
@@ -126,7 +125,7 @@ nothing_kept setup sums limits size players zeros =
       size = size;
       players = players;
       few = omega arith;
-      marks = All-nil (IsMarkIn sums);
+      within = All-nil (IsMarkIn sums);
       each = λ player c at.
           ap (λ (xs : List ℕ). get_or xs (sum_place (size_in sums) player c) 0) zeros
           ∙ get_or-replicate (sums.players * (sums.width * sums.depth)) (sum_place (size_in sums) player c) 0 0 (sum_place-below sums player c at);
@@ -149,7 +148,7 @@ module _ (setup : Setup) (old : List Mark) (state : State) (sums : Sums) (ascend
       record {
         marks =
             let law = follows (stray sums) in
-            let olds = none_stray sums old kept.marks in
+            let olds = none_stray sums old kept.within in
             let news = none_stray sums (marks_of state) news_in in
             shifts_in sums (shifts_between old (marks_of state)) (omega (arith, law.gone)) (omega (arith, law.born));
         there = λ player c at. let law = follows (share setup player c) in let sum = kept.each player c at in omega (arith, law.gone);
@@ -166,7 +165,7 @@ module _ (setup : Setup) (old : List Mark) (state : State) (sums : Sums) (ascend
         size = size-shape sums new shifted.shape ∙ kept.size;
         players = shifted.shape.players ∙ kept.players;
         few = few_marks;
-        marks = All-weaker (IsMarkIn sums) (IsMarkIn new) (λ mark h. mark_later sums new mark shifted.shape h) (marks_of state) news_in;
+        within = All-weaker (IsMarkIn sums) (IsMarkIn new) (λ mark h. mark_later sums new mark shifted.shape h) (marks_of state) news_in;
         each = λ player c at.
             let before = place-before sums new player c shifted.shape at in
             let law = follows (share setup player c) in

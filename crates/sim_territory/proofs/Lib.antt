@@ -7,3 +7,4 @@ pub mod Bases
 pub mod Following
 pub mod Flooding
 pub mod Keeping
+mod Examples

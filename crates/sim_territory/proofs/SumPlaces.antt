@@ -1,8 +1,7 @@
 -- Each influence has a place of its own in the list, and each cell's holder is told by the influences there.
-use Rattle.std.proofs.Common.{◌≡◌, ℕ, ◌+◌, ◌-◌, ◌*◌, ◌<◌, ◌≤◌, List, length, get_or, set, replicate, take, drop, map, refl, sym, ap, ◌∙◌, subst, ⊎_elim, arith, length-set, mul_comm}
-use Rattle.std.specs.Prelude.{slice_range}
+use Rattle.std.proofs.Common.{◌≡◌, ℕ, ◌-◌, ◌*◌, ◌<◌, ◌≤◌, List, get_or, set, sym, ap, ◌∙◌, subst, ⊎_elim, arith}
 use Rattle.std.proofs.Math.Path.{fun_ext}
-use Rattle.std.proofs.lemmas.List.{get_or-set_same, get_or-set_other, get_or-replicate, length-replicate}
+use Rattle.std.proofs.lemmas.List.{get_or-set_same, get_or-set_other, length-set}
 use Rattle.std.proofs.lemmas.Nat.{mul-add-lt, same_from_place}
 use Rattle.sim_base.specs.declared.place.Cell.{Cell}
 use Rattle.sim_base.specs.Places.{Size}
@@ -12,7 +11,7 @@ use Rattle.sim_grid.proofs.Beside.{place-below, places-apart, same_or_not}
 use Rattle.sim_territory.specs.declared.sums.Sums.{Sums}
 use Rattle.sim_territory.specs.Holders.{holder_by}
 use Rattle.sim_territory.specs.Keeping.{holder_at, AreHolders}
-use Rattle.sim_territory.specs.Tables.{size_in, sum_place, sum_at, HasShapeOf, IsSummed, IsPlaceIn}
+use Rattle.sim_territory.specs.Tables.{size_in, sum_place, sum_at, IsSummed, IsPlaceIn}
 
 pub sum_place-below : (sums : Sums) (player : ℕ) (c : Cell) → IsPlaceIn sums player c → sum_place (size_in sums) player c < sums.players * (sums.width * sums.depth)
 sum_place-below sums player c at =
@@ -52,6 +51,9 @@ holders-set old new holders player cell influence holder place on summed are at 
         ap (λ (w : ℕ). let s : Size = record { width = w; depth = new.depth } in s) summed.shape.width
         ∙ ap (λ (d : ℕ). let s : Size = record { width = old.width; depth = d } in s) summed.shape.depth
 
+    same : (c : Cell) → IsOnGround (size_in old) c → (c ≡ cell → ⊥) → (λ (p : ℕ). sum_at old p c) ≡ (λ (p : ℕ). sum_at new p c)
+    same c there ne = fun_ext (λ p. sym (summed.elsewhere p c there ne))
+
     each : (c : Cell) → IsOnGround (size_in old) c → holder_at (size_in old) (set holders (place_of (size_in old) cell) holder) c ≡ holder_by new.players (λ p. sum_at new p c)
     each c there =
         ⊎_elim
@@ -63,5 +65,5 @@ holders-set old new holders player cell influence holder place on summed are at 
         get_or-set_other holders (place_of (size_in old) cell) (place_of (size_in old) c) holder 0 (places-apart (size_in old) c cell there on ne)
         ∙ are.each c there
         ∙ ap (λ (n : ℕ). holder_by n (λ p. sum_at old p c)) (sym summed.shape.players)
-        ∙ ap (holder_by new.players) (fun_ext (λ p. sym (summed.elsewhere p c there ne))))
+        ∙ ap (holder_by new.players) (same c there ne))
         (same_or_not c cell)

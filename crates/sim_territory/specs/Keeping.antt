@@ -1,5 +1,5 @@
 -- What a realm keeps of its marks.
-use Rattle.std.specs.Prelude.{◌≡◌, ℕ, ◌*◌, ◌<◌, ◌≤◌, List, length, slice_index, All}
+use Rattle.std.specs.Prelude.{◌≡◌, ℕ, ◌*◌, ◌≤◌, List, length, slice_index, All}
 use Rattle.sim_base.specs.declared.place.Cell.{Cell}
 use Rattle.sim_base.specs.declared.setup.Setup.{Setup}
 use Rattle.sim_base.specs.Limits.{IsSetup, row_limit}
@@ -28,5 +28,5 @@ pub record AreInfluences (setup : Setup) (marks : List Mark) (sums : Sums) : Typ
   pub size : size_in sums ≡ size_of setup.land
   pub players : sums.players ≡ setup.players
   pub few : length marks ≤ row_limit
-  pub marks : All (IsMarkIn sums) marks
+  pub within : All (IsMarkIn sums) marks
   pub each : (player : ℕ) (c : Cell) → IsPlaceIn sums player c → sum_at sums player c ≡ influence setup marks player c

@@ -1,5 +1,5 @@
 -- Which cells are joined to a root of the player who holds them.
-use Rattle.std.specs.Prelude.{◌≡◌, ℕ, ◌*◌, ◌<◌, ◌↔◌, Bool, false, ◌&&◌, nat_lt, ◌==◌, IsTrue, List, length, map, filter, Contains, option_and_then, is_some, slice_index_or}
+use Rattle.std.specs.Prelude.{◌≡◌, ℕ, ◌*◌, ◌<◌, ◌↔◌, Bool, false, ◌&&◌, nat_lt, ◌==◌, IsTrue, List, length, map, filter, Contains, Some, option_and_then, is_some, slice_index_or}
 use Rattle.sim_base.specs.declared.place.Cell.{Cell}
 use Rattle.sim_base.specs.declared.template.Template.{Template}
 use Rattle.sim_base.specs.declared.setup.Setup.{Setup}

@@ -56,8 +56,8 @@ impl Influences {
     // A building comes or goes at one cell.
     fn shift_cell(&mut self, building: &Building, cell: Cell, comes: bool)
         requires place { IsPlaceIn self.old.sums building.now.owner cell }
-        requires may { MaySumsMove comes (share_where (same_cell cell) building.now) self.old.sums }
-        ensures { SumsMove comes (share_where (same_cell cell) building.now) self.old.sums self.new.sums }
+        requires may { MaySumsMove comes (share_where (λ c. same_cell c cell) building.now) self.old.sums }
+        ensures { SumsMove comes (share_where (λ c. same_cell c cell) building.now) self.old.sums self.new.sums }
     {
         let strength = building.strength(cell);
         if strength != 0 {
