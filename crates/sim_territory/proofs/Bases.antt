@@ -34,12 +34,12 @@ base-short setup mark base limits e = by (slice_get_cases setup.templates mark.t
         let never : ⊥ = cc in
         absurd never
 
+cond_none : (t : Bool) (n : ℕ) → n ≡ 0 → cond t n 0 ≡ 0
+cond_none true n e = e
+cond_none false n e = refl
+
 pub none_gives : (setup : Setup) (mark : Mark) → base_of setup mark ≡ None → GivesNothing setup mark
-none_gives setup mark e player c from = ap (λ (o : Option Base). cond (mark.owner == player) (unwrap_or (option_map (λ base. reach_of base - octile mark.cell c) o) 0) 0) e ∙ by (mark.owner == player)
-  where
-    by : (t : Bool) → cond t 0 0 ≡ 0
-    by true = refl
-    by false = refl
+none_gives setup mark e player c from = cond_none (mark.owner == player) (strength setup mark c) (ap (λ (o : Option Base). unwrap_or (option_map (λ base. reach_of base - octile mark.cell c) o) 0) e)
 
 pub gaia_gives : (setup : Setup) (mark : Mark) → mark.owner ≡ 0 → GivesNothing setup mark
 gaia_gives setup mark e player c from = cond-false (mark.owner == player) (strength setup mark c) 0 (ne_eqb mark.owner player (λ same. omega arith))

@@ -1,8 +1,8 @@
 -- Lists by z, then x: where a cell stands among the cells of a ground, and a list that has a function's value at each cell.
-use Rattle.std.proofs.Common.{◌≡◌, ℕ, ◌+◌, ◌*◌, ◌/◌, ◌%◌, ◌<◌, List, [], ◌∷◌, length, get_or, take, map, sym, ap, ◌∙◌, arith, zero-add, length-append, length-map, length-take, mod-lt, div-add-mod'}
+use Rattle.std.proofs.Common.{◌≡◌, ℕ, ◌+◌, ◌*◌, ◌/◌, ◌%◌, ◌<◌, List, [], ◌∷◌, length, get_or, take, map, sym, ap, ◌∙◌, arith, zero-add, length-append, length-take, mod-lt, div-add-mod'}
 use Rattle.std.specs.List.{range_with_len, flat_map}
 use Rattle.std.proofs.Math.Nat.{div-lt_iff_lt-mul}
-use Rattle.std.proofs.lemmas.List.{get_or-map, same_lists, get_or_default}
+use Rattle.std.proofs.lemmas.List.{length-map, get_or-map, same_lists, get_or_default}
 use Rattle.std.proofs.lemmas.List.Concat.{flat_map-cons, get_or-flat_map}
 use Rattle.std.proofs.lemmas.List.FromFn.{length-range_with_len, get_or-range_with_len, length-map-range_with_len, get_or-map-range_with_len}
 use Rattle.sim_base.specs.declared.place.Cell.{Cell}
@@ -52,7 +52,7 @@ cell_in-on size k wide lt =
     record { east = mod-lt k wide; north = (div-lt_iff_lt-mul {k = size.width} {x = k} {y = size.depth} wide).1 turned }
 
 pub mapped : {X : Type 0} (f : Cell → X) (size : Size) (xs : List X) (e : X) → 0 < size.width → length xs ≡ size.width * size.depth → ((c : Cell) → IsOnGround size c → get_or xs (place_of size c) e ≡ f c) → xs ≡ map f (cells_of size)
-mapped f size xs e wide full each =
+mapped {X = X} f size xs e wide full each =
     same_lists xs (map f (cells_of size)) (omega (arith, full, length-cells_of size, length-map (cells_of size) f)) (λ k d lt. at k d (omega (arith, full, lt)))
   where
     at : (k : ℕ) (d : X) → k < size.width * size.depth → get_or xs k d ≡ get_or (map f (cells_of size)) k d

@@ -265,18 +265,19 @@ nothing_in : (c : Cell) → Contains [] c → ⊥
 nothing_in c (k, h, is) = omega arith
 
 -- where no cell waits, all that are reached are wet
-pub filling_ends : (ground : HeldGround) (begun flood : Flood) → ground_size begun ≡ ground.size → flood.waiting.items ≡ [] → Filling ground begun flood → Fills ground begun flood
-filling_ends ground begun flood size_is none f = record { size = f.size ∙ sym size_is; sound = f.sound; all = λ c r. (all r).1 }
-  where
-    follow : (b c : Cell) → IsOnGround ground.size b × IsWet flood b → IsHeldStep ground b c → Waits flood b ⊎ ((e : Cell) → IsHeldStep ground b e → IsWet flood e) → IsWet flood c
-    follow b c h step (inl w) = absurd (nothing_in b (subst (λ (xs : List Cell). Contains xs b) none w))
-    follow b c h step (inr g) = g c step
+module _ (ground : HeldGround) (begun flood : Flood) (none : flood.waiting.items ≡ []) (f : Filling ground begun flood) where
+  follow : (b c : Cell) → IsOnGround ground.size b × IsWet flood b → IsHeldStep ground b c → Waits flood b ⊎ ((e : Cell) → IsHeldStep ground b e → IsWet flood e) → IsWet flood c
+  follow b c h step (inl w) = absurd (nothing_in b (subst (λ (xs : List Cell). Contains xs b) none w))
+  follow b c h step (inr g) = g c step
 
-    all : {c : Cell} → IsReachedFrom ground (Waits begun) c → IsOnGround ground.size c × IsWet flood c
-    all (first {c = c} w) = (f.begun_on c w, f.keeps c w)
-    all (on {b = b} {c = c} r step) =
-        let h = all r in
-        (neighbour-on ground.size b c step.which step.leads, follow b c h step (f.closed b h.0 h.1))
+  reached-wet : {c : Cell} → IsReachedFrom ground (Waits begun) c → IsOnGround ground.size c × IsWet flood c
+  reached-wet (first {c = c} w) = (f.begun_on c w, f.keeps c w)
+  reached-wet (on {b = b} {c = c} r step) =
+      let h = reached-wet r in
+      (neighbour-on ground.size b c step.which step.leads, follow b c h step (f.closed b h.0 h.1))
+
+  pub filling_ends : ground_size begun ≡ ground.size → Fills ground begun flood
+  filling_ends size_is = record { size = f.size ∙ sym size_is; sound = f.sound; all = λ c r. (reached-wet r).1 }
 
 -- ---- two grounds with the same holders
 

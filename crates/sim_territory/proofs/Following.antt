@@ -72,38 +72,34 @@ mark_later old new mark shape is =
 pub shifts_begin : (setup : Setup) (shifts : List Shift) (sums : Sums) → AreShifted setup (take 0 shifts) sums sums
 shifts_begin setup shifts sums = record { shape = shape-same sums; each = λ player c at. refl }
 
-module _ (setup : Setup) (shifts : List Shift) (old mid : Sums) (i : ℕ) (shift : Shift) (below : i < length shifts) (is : shift ≡ get_or shifts i shift) (done : AreShifted setup (take i shifts) old mid) where
-  pub shift_fits : FitShifts setup shifts old → FitsShift setup shift mid
+module _ (setup : Setup) (shifts : List Shift) (old mid : Sums) (i : ℕ) (d : Shift) (below : i < length shifts) (done : AreShifted setup (take i shifts) old mid) where
+  pub shift_fits : FitShifts setup shifts old → FitsShift setup (get_or shifts i d) mid
   shift_fits fits =
       record {
-        mark = mark_later old mid (mark_in shift) done.shape (subst (λ (s : Shift). IsMarkIn old (mark_in s)) (sym is) (All-get_or (λ (s : Shift). IsMarkIn old (mark_in s)) shifts i shift below fits.marks));
+        mark = mark_later old mid (mark_in (get_or shifts i d)) done.shape (All-get_or (λ (s : Shift). IsMarkIn old (mark_in s)) shifts i d below fits.marks);
         there = λ player c at.
             let before = place-before old mid player c done.shape at in
             let sum = done.each player c before in
             let whole = fits.there player c before in
-            let part = sum_by_more_le (leaving setup player c) shifts i shift below in
-            let here : leaving setup player c shift ≡ leaving setup player c (get_or shifts i shift) = ap (leaving setup player c) is in
+            let part = sum_by_more_le (leaving setup player c) shifts i d below in
             omega arith;
         room = λ player c at.
             let before = place-before old mid player c done.shape at in
             let sum = done.each player c before in
             let whole = fits.room player c before in
-            let part = sum_by_more_le (coming setup player c) shifts i shift below in
-            let here : coming setup player c shift ≡ coming setup player c (get_or shifts i shift) = ap (coming setup player c) is in
+            let part = sum_by_more_le (coming setup player c) shifts i d below in
             omega arith;
       }
 
-  pub shift_followed : (new : Sums) → IsShifted setup shift mid new → AreShifted setup (take (i + 1) shifts) old new
+  pub shift_followed : (new : Sums) → IsShifted setup (get_or shifts i d) mid new → AreShifted setup (take (i + 1) shifts) old new
   shift_followed new one =
       record {
         shape = shape-chain old mid new done.shape one.shape;
         each = λ player c at.
             let sum = done.each player c at in
             let step = one.each player c (place-later old mid player c done.shape at) in
-            let left = sum_by_more (leaving setup player c) shifts i shift below in
-            let came = sum_by_more (coming setup player c) shifts i shift below in
-            let gone : leaving setup player c shift ≡ leaving setup player c (get_or shifts i shift) = ap (leaving setup player c) is in
-            let born : coming setup player c shift ≡ coming setup player c (get_or shifts i shift) = ap (coming setup player c) is in
+            let left = sum_by_more (leaving setup player c) shifts i d below in
+            let came = sum_by_more (coming setup player c) shifts i d below in
             omega arith;
       }
 

@@ -9,32 +9,30 @@ use Rattle.sim_territory.specs.Holders.{has_most, holder_by, IsHolder}
 -- ---- the first number of a range that passes a test
 
 find-range : (test : ℕ → Bool) (a n h : ℕ) → a ≤ h → h < a + n → test h ≡ true → ((k : ℕ) → a ≤ k → k < h → test k ≡ false) → find test (range_with_len a n) ≡ Some h
-find-range test a zero h le lt yes no = absurd (omega arith)
-find-range test a (suc n) h le lt yes no = by (eq-or-lt_of_le le)
+find-range test a zero h le lt passes fails = absurd (omega arith)
+find-range test a (suc n) h le lt passes fails = by (eq-or-lt_of_le le) (λ l. find-range test (a + 1) n h (omega arith) (omega arith) passes (λ k from below. fails k (omega arith) below))
   where
-    by : (a ≡ h) ⊎ (a < h) → cond (test a) (Some a) (find test (range_with_len (a + 1) n)) ≡ Some h
-    by (inl e) = cond-true (test a) (Some a) (find test (range_with_len (a + 1) n)) (ap test e ∙ yes) ∙ ap Some e
-    by (inr l) =
-        cond-false (test a) (Some a) (find test (range_with_len (a + 1) n)) (no a (omega arith) l)
-        ∙ find-range test (a + 1) n h (omega arith) (omega arith) yes (λ k from below. no k (omega arith) below)
+    by : (a ≡ h) ⊎ (a < h) → (a < h → find test (range_with_len (a + 1) n) ≡ Some h) → cond (test a) (Some a) (find test (range_with_len (a + 1) n)) ≡ Some h
+    by (inl e) rest = cond-true (test a) (Some a) (find test (range_with_len (a + 1) n)) (ap test e ∙ passes) ∙ ap Some e
+    by (inr l) rest = cond-false (test a) (Some a) (find test (range_with_len (a + 1) n)) (fails a (omega arith) l) ∙ rest l
 
 find-range_none : (test : ℕ → Bool) (a n : ℕ) → ((k : ℕ) → a ≤ k → k < a + n → test k ≡ false) → find test (range_with_len a n) ≡ None
-find-range_none test a zero no = refl
-find-range_none test a (suc n) no =
-    cond-false (test a) (Some a) (find test (range_with_len (a + 1) n)) (no a (omega arith) (omega arith)) ∙ find-range_none test (a + 1) n (λ k from below. no k (omega arith) (omega arith))
+find-range_none test a zero fails = refl
+find-range_none test a (suc n) fails =
+    cond-false (test a) (Some a) (find test (range_with_len (a + 1) n)) (fails a (omega arith) (omega arith)) ∙ find-range_none test (a + 1) n (λ k from below. fails k (omega arith) (omega arith))
 
 list_all-range : (test : ℕ → Bool) (a n : ℕ) → ((k : ℕ) → a ≤ k → k < a + n → test k ≡ true) → list_all test (range_with_len a n) ≡ true
-list_all-range test a zero yes = refl
-list_all-range test a (suc n) yes =
-    and_from (test a) (list_all test (range_with_len (a + 1) n)) (yes a (omega arith) (omega arith)) (list_all-range test (a + 1) n (λ k from below. yes k (omega arith) (omega arith)))
+list_all-range test a zero passes = refl
+list_all-range test a (suc n) passes =
+    and_from (test a) (list_all test (range_with_len (a + 1) n)) (passes a (omega arith) (omega arith)) (list_all-range test (a + 1) n (λ k from below. passes k (omega arith) (omega arith)))
 
 list_all-range_none : (test : ℕ → Bool) (a n k : ℕ) → a ≤ k → k < a + n → test k ≡ false → list_all test (range_with_len a n) ≡ false
-list_all-range_none test a zero k le lt no = absurd (omega arith)
-list_all-range_none test a (suc n) k le lt no = by (eq-or-lt_of_le le)
+list_all-range_none test a zero k le lt fails = absurd (omega arith)
+list_all-range_none test a (suc n) k le lt fails = by (eq-or-lt_of_le le) (λ l. list_all-range_none test (a + 1) n k (omega arith) (omega arith) fails)
   where
-    by : (a ≡ k) ⊎ (a < k) → (test a && list_all test (range_with_len (a + 1) n)) ≡ false
-    by (inl e) = and_left (test a) (list_all test (range_with_len (a + 1) n)) (ap test e ∙ no)
-    by (inr l) = and_right (test a) (list_all test (range_with_len (a + 1) n)) (list_all-range_none test (a + 1) n k (omega arith) (omega arith) no)
+    by : (a ≡ k) ⊎ (a < k) → (a < k → list_all test (range_with_len (a + 1) n) ≡ false) → (test a && list_all test (range_with_len (a + 1) n)) ≡ false
+    by (inl e) rest = and_left (test a) (list_all test (range_with_len (a + 1) n)) (ap test e ∙ fails)
+    by (inr l) rest = and_right (test a) (list_all test (range_with_len (a + 1) n)) (rest l)
 
 -- ---- the holder is the one number that is described
 

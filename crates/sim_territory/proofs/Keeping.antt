@@ -1,9 +1,9 @@
 -- What a realm keeps, from one state to the next.
-use Rattle.std.proofs.Common.{◌≡◌, ℕ, ◌*◌, ◌<◌, ◌≤◌, Bool, true, false, cond, List, [], ◌∷◌, length, get_or, replicate, Option, Some, None, ℤ, pos, ◌≤ℤ◌, ◌<ℤ◌, int_le, int_lt, refl, sym, ap, ◌∙◌, subst, arith, All, length-map}
+use Rattle.std.proofs.Common.{◌≡◌, ℕ, ◌*◌, ◌<◌, ◌≤◌, Bool, true, false, cond, List, [], ◌∷◌, length, get_or, replicate, Option, Some, None, ℤ, pos, ◌≤ℤ◌, ◌<ℤ◌, int_le, int_lt, refl, sym, ap, ◌∙◌, subst, arith, All}
 use Rattle.std.specs.Prelude.{◌&&◌, nat_le, nat_lt, sum_by, MatchOption}
-use Rattle.std.proofs.lemmas.Bool.{and_parts, and_from, leb-true, le-leb, ltb-true, lt-ltb, cond-true}
+use Rattle.std.proofs.lemmas.Bool.{and_parts, and_from, leb-true, le-leb, ltb-true, lt-ltb}
 use Rattle.std.proofs.lemmas.Int.{ints}
-use Rattle.std.proofs.lemmas.List.{get_or-replicate}
+use Rattle.std.proofs.lemmas.List.{length-map, get_or-replicate}
 use Rattle.std.proofs.lemmas.List.Sums.{sum_by-cons}
 use Rattle.std.proofs.lemmas.List.Elements.{All-nil, All-cons, All-head, All-tail, All-map, All-weaker}
 use Rattle.sim_base.specs.declared.place.Point.{Point}
@@ -76,21 +76,25 @@ module _ (setup : Setup) (sums : Sums) (size : size_in sums ≡ size_of setup.la
 
 -- ---- the marks of shifts are those of the two lists
 
+abbrev one_unless : Bool → ℕ
+one_unless true = 0
+one_unless false = 1
+
 module _ (sums : Sums) where
   -- one for a mark that is not of the table
   abbrev stray : Mark → ℕ
-  stray mark = cond (nat_le mark.owner sums.players && (nat_lt mark.cell.x sums.width && nat_lt mark.cell.z sums.depth)) 0 1
+  stray mark = one_unless (nat_le mark.owner sums.players && (nat_lt mark.cell.x sums.width && nat_lt mark.cell.z sums.depth))
 
   in_stray : (mark : Mark) → IsMarkIn sums mark → stray mark ≡ 0
   in_stray mark h =
-      cond-true (nat_le mark.owner sums.players && (nat_lt mark.cell.x sums.width && nat_lt mark.cell.z sums.depth)) 0 1
+      ap one_unless
       (and_from (nat_le mark.owner sums.players) (nat_lt mark.cell.x sums.width && nat_lt mark.cell.z sums.depth) (le-leb mark.owner sums.players h.owner)
       (and_from (nat_lt mark.cell.x sums.width) (nat_lt mark.cell.z sums.depth) (lt-ltb mark.cell.x sums.width h.ground.east) (lt-ltb mark.cell.z sums.depth h.ground.north)))
 
   stray_in : (mark : Mark) → stray mark ≡ 0 → IsMarkIn sums mark
   stray_in mark e = by (nat_le mark.owner sums.players && (nat_lt mark.cell.x sums.width && nat_lt mark.cell.z sums.depth)) refl e
     where
-      by : (t : Bool) → (nat_le mark.owner sums.players && (nat_lt mark.cell.x sums.width && nat_lt mark.cell.z sums.depth)) ≡ t → cond t 0 1 ≡ 0 → IsMarkIn sums mark
+      by : (t : Bool) → (nat_le mark.owner sums.players && (nat_lt mark.cell.x sums.width && nat_lt mark.cell.z sums.depth)) ≡ t → one_unless t ≡ 0 → IsMarkIn sums mark
       by true h f =
           let (owner, ground) = and_parts (nat_le mark.owner sums.players) (nat_lt mark.cell.x sums.width && nat_lt mark.cell.z sums.depth) h in
           let (x, z) = and_parts (nat_lt mark.cell.x sums.width) (nat_lt mark.cell.z sums.depth) ground in

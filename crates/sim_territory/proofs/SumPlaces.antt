@@ -1,5 +1,5 @@
 -- Each influence has a place of its own in the list, and each cell's holder is told by the influences there.
-use Rattle.std.proofs.Common.{◌≡◌, ℕ, ◌-◌, ◌*◌, ◌<◌, ◌≤◌, List, get_or, set, sym, ap, ◌∙◌, subst, ⊎_elim, arith}
+use Rattle.std.proofs.Common.{◌≡◌, ℕ, ◌-◌, ◌*◌, ◌<◌, ◌≤◌, List, get_or, set, sym, ap, ◌∙◌, subst, ⊎_elim, arith, mul_comm}
 use Rattle.std.proofs.Math.Path.{fun_ext}
 use Rattle.std.proofs.lemmas.List.{get_or-set_same, get_or-set_other, length-set}
 use Rattle.std.proofs.lemmas.Nat.{mul-add-lt, same_from_place}
@@ -18,7 +18,8 @@ sum_place-below sums player c at =
     let least = at.least in
     let most = at.most in
     let row : player - 1 < sums.players = omega arith in
-    mul-add-lt (player - 1) (sums.width * sums.depth) (place_of (size_in sums) c) sums.players row (place-below (size_in sums) c at.ground)
+    subst (λ (n : ℕ). sum_place (size_in sums) player c < n) (mul_comm (sums.width * sums.depth) sums.players)
+    (mul-add-lt (player - 1) (sums.width * sums.depth) (place_of (size_in sums) c) sums.players row (place-below (size_in sums) c at.ground))
 
 module _ (size : Size) (items : List ℕ) (player : ℕ) (cell : Cell) (influence : ℕ) (least : 1 ≤ player) (on : IsOnGround size cell) where
   pub set-beside : (other : ℕ) → 1 ≤ other → (other ≡ player → ⊥) → get_or (set items (sum_place size player cell) influence) (sum_place size other cell) 0 ≡ get_or items (sum_place size other cell) 0
@@ -34,6 +35,10 @@ module _ (size : Size) (items : List ℕ) (player : ℕ) (cell : Cell) (influenc
       (λ e.
       let parts = same_from_place (other - 1) (place_of size c) (player - 1) (place_of size cell) (size.width * size.depth) (place-below size c there) (place-below size cell on) e in
       places-apart size c cell there on ne parts.1)
+
+-- the influences at a cell, by player
+abbrev at_cell : Sums → Cell → ℕ → ℕ
+at_cell sums c player = sum_at sums player c
 
 -- the holders after one influence was set, and the holder of its cell found anew
 pub holders-set : (old new : Sums) (holders : List ℕ) (player : ℕ) (cell : Cell) (influence holder place : ℕ) → IsOnGround (size_in old) cell → IsSummed old new player cell influence → AreHolders old holders →
@@ -51,7 +56,7 @@ holders-set old new holders player cell influence holder place on summed are at 
         ap (λ (w : ℕ). let s : Size = record { width = w; depth = new.depth } in s) summed.shape.width
         ∙ ap (λ (d : ℕ). let s : Size = record { width = old.width; depth = d } in s) summed.shape.depth
 
-    same : (c : Cell) → IsOnGround (size_in old) c → (c ≡ cell → ⊥) → (λ (p : ℕ). sum_at old p c) ≡ (λ (p : ℕ). sum_at new p c)
+    same : (c : Cell) → IsOnGround (size_in old) c → (c ≡ cell → ⊥) → at_cell old c ≡ at_cell new c
     same c there ne = fun_ext (λ p. sym (summed.elsewhere p c there ne))
 
     each : (c : Cell) → IsOnGround (size_in old) c → holder_at (size_in old) (set holders (place_of (size_in old) cell) holder) c ≡ holder_by new.players (λ p. sum_at new p c)
