@@ -1,5 +1,6 @@
 -- Why the flood comes to just the cells that are reached.
-use Rattle.std.proofs.Common.{◌≡◌, ◌≢◌, ℕ, ◌+◌, ◌<◌, ◌≤◌, Bool, true, List, [], ◌∷◌, ◌++◌, Contains, Some, refl, sym, ap, ◌∙◌, subst, ◌⊎◌, ⊎_elim, inl, inr, arith, suc}
+use Rattle.std.proofs.Common.{◌≡◌, ◌≢◌, ℕ, ◌+◌, ◌<◌, ◌≤◌, Bool, true, List, [], ◌∷◌, ◌++◌, Contains, Some, refl, sym, ap, ◌∙◌, subst, ◌⊎◌, ⊎_elim, inl, inr, arith, suc, length, length-append}
+use Rattle.std.specs.Prelude.{not, count_by}
 use Rattle.std.proofs.Math.Nat.{eq-or-lt_of_le}
 use Rattle.std.proofs.lemmas.List.Elements.{Contains-append_left, Contains-push, Contains-push_cases}
 use Rattle.sim_base.specs.declared.place.Cell.{Cell}
@@ -260,6 +261,15 @@ module _ (old mid : Flood) (from : Cell) (taken : IsTaken old mid from) where
           by : Waits old c ⊎ ((e : Cell) → IsHeldStep ground c e → IsWet old e) → Waits new c ⊎ ((e : Cell) → IsHeldStep ground c e → IsWet new e)
           by (inl g) = waited (waits-taken c g)
           by (inr g) = inr (λ e step. s.keeps e (neighbour-on ground.size c e step.which step.leads) (wet-taken e (g e step)))
+
+-- the next step of the flood
+pub filling_next : {mid : Flood} (begun old new : Flood) (from : Cell) (holders : List ℕ) → Spreads (ground_of mid holders) mid new from 4 → IsTaken old mid from → Filling (ground_of begun holders) begun old → Filling (ground_of begun holders) begun new
+filling_next {mid = mid} begun old new from holders s taken f =
+    let same : ground_of mid holders ≡ ground_of begun holders = ground-same begun mid holders (taken-size old mid from taken ∙ f.size) in
+    filling_more old mid from taken (ground_of begun holders) begun new f (subst (λ (g : HeldGround). Spreads g mid new from 4) same s)
+
+pub taken_less : {mid : Flood} {ground : HeldGround} (old new : Flood) (from : Cell) → Spreads ground mid new from 4 → IsTaken old mid from → work_left new < work_left old
+taken_less {mid = mid} old new from s taken = omega (arith, s.less, ap (count_by not) taken.flags, ap length taken.waiting, length-append mid.waiting.items (from ∷ []))
 
 nothing_in : (c : Cell) → Contains [] c → ⊥
 nothing_in c (k, h, is) = omega arith

@@ -1,9 +1,9 @@
 -- The holder of a cell is found by looking at one player after another.
-use Rattle.std.proofs.Common.{◌≡◌, ℕ, zero, suc, ◌+◌, ◌<◌, ◌≤◌, Bool, true, false, cond, [], Option, Some, None, refl, sym, ap, ◌∙◌, ◌⊎◌, inl, inr, arith}
+use Rattle.std.proofs.Common.{◌≡◌, ℕ, zero, suc, ◌+◌, ◌<◌, ◌≤◌, Bool, true, false, cond, [], Option, Some, None, refl, sym, ap, ◌∙◌, subst, ◌⊎◌, inl, inr, arith}
 use Rattle.std.specs.Prelude.{◌&&◌, nat_lt, nat_le, find, unwrap_or}
 use Rattle.std.specs.List.{range_with_len, list_all}
 use Rattle.std.proofs.Math.Nat.{eq-or-lt_of_le}
-use Rattle.std.proofs.lemmas.Bool.{lt-ltb, le-ltb, le-leb, lt-leb, and_from, and_left, and_right, cond-true, cond-false}
+use Rattle.std.proofs.lemmas.Bool.{cases_lt, lt-ltb, le-ltb, le-leb, lt-leb, and_from, and_left, and_right, cond-true, cond-false}
 use Rattle.sim_territory.specs.Holders.{has_most, holder_by, IsHolder}
 
 -- ---- the first number of a range that passes a test
@@ -131,3 +131,33 @@ best_is f players player holder most e (inr one) =
       greatest = λ k a b. let g = one.greatest k a (omega arith) in let i = one.is in omega arith;
       first = λ k a b. let l = one.first k a b in let i = one.is in omega arith;
     }))
+
+-- ---- it is told by the influences of the players alone
+
+some_best : (f : ℕ → ℕ) (n : ℕ) → (h : ℕ) × (m : ℕ) × IsBestBefore f (n + 1) h m
+some_best f zero = (0, 0, best_begins f)
+some_best f (suc n) = let (h, m, b) = some_best f n in by h m b (cases_lt m (f (n + 1)))
+  where
+    next : n + 1 + 1 ≡ suc n + 1
+    next = omega arith
+
+    by : (h m : ℕ) → IsBestBefore f (n + 1) h m → (m < f (n + 1)) ⊎ (f (n + 1) ≤ m) → (k : ℕ) × (l : ℕ) × IsBestBefore f (suc n + 1) k l
+    by h m b (inl lt) = (n + 1, f (n + 1), subst (λ (p : ℕ). IsBestBefore f p (n + 1) (f (n + 1))) next (best_takes f (n + 1) h m (f (n + 1)) (omega arith) refl lt b))
+    by h m b (inr le) = (h, m, subst (λ (p : ℕ). IsBestBefore f p h m) next (best_keeps f (n + 1) h m (f (n + 1)) refl le b))
+
+best_same : (f g : ℕ → ℕ) (player holder most : ℕ) → ((k : ℕ) → 1 ≤ k → k < player → f k ≡ g k) → IsBestBefore f player holder most → IsBestBefore g player holder most
+best_same f g player holder most same (inl nobody) = inl (record { none = nobody.none; zero_is = nobody.zero_is; all = λ k a b. sym (same k a b) ∙ nobody.all k a b })
+best_same f g player holder most same (inr one) =
+    inr (record {
+      least = one.least;
+      below = one.below;
+      is = one.is ∙ same holder one.least one.below;
+      some = one.some;
+      greatest = λ k a b. let le = one.greatest k a b in let e = same k a b in omega arith;
+      first = λ k a b. let lt = one.first k a b in let below = one.below in let e = same k a (omega arith) in omega arith;
+    })
+
+pub holder_by-same : (n : ℕ) (f g : ℕ → ℕ) → ((k : ℕ) → 1 ≤ k → k ≤ n → f k ≡ g k) → holder_by n f ≡ holder_by n g
+holder_by-same n f g same =
+    let (h, m, b) = some_best f n in
+    best_is f n (n + 1) h m refl b ∙ sym (best_is g n (n + 1) h m refl (best_same f g (n + 1) h m (λ k a lt. same k a (omega arith)) b))

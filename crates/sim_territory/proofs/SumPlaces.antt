@@ -1,7 +1,7 @@
 -- Each influence has a place of its own in the list, and each cell's holder is told by the influences there.
-use Rattle.std.proofs.Common.{◌≡◌, ℕ, ◌-◌, ◌*◌, ◌<◌, ◌≤◌, List, get_or, set, sym, ap, ◌∙◌, subst, ⊎_elim, arith, mul_comm}
+use Rattle.std.proofs.Common.{◌≡◌, ℕ, ◌-◌, ◌*◌, ◌<◌, ◌≤◌, List, get_or, set, sym, ap, ◌∙◌, subst, ⊎_elim, inl, refl, length, replicate, arith, mul_comm}
 use Rattle.std.proofs.Math.Path.{fun_ext}
-use Rattle.std.proofs.lemmas.List.{get_or-set_same, get_or-set_other, length-set}
+use Rattle.std.proofs.lemmas.List.{get_or-set_same, get_or-set_other, length-set, get_or-replicate, length-replicate}
 use Rattle.std.proofs.lemmas.Nat.{mul-add-lt, same_from_place}
 use Rattle.sim_base.specs.declared.place.Cell.{Cell}
 use Rattle.sim_base.specs.Places.{Size}
@@ -9,6 +9,7 @@ use Rattle.sim_base.specs.Steps.{IsOnGround}
 use Rattle.sim_grid.specs.Grids.{place_of}
 use Rattle.sim_grid.proofs.Beside.{place-below, places-apart, same_or_not}
 use Rattle.sim_territory.specs.declared.sums.Sums.{Sums}
+use Rattle.sim_territory.proofs.Holding.{holder_by-is}
 use Rattle.sim_territory.specs.Holders.{holder_by}
 use Rattle.sim_territory.specs.Keeping.{holder_at, AreHolders}
 use Rattle.sim_territory.specs.Tables.{size_in, sum_place, sum_at, IsSummed, IsPlaceIn}
@@ -72,3 +73,23 @@ holders-set old new holders player cell influence holder place on summed are at 
         ∙ ap (λ (n : ℕ). holder_by n (λ p. sum_at old p c)) (sym summed.shape.players)
         ∙ ap (holder_by new.players) (same c there ne))
         (same_or_not c cell)
+
+-- where nobody has influence nobody holds a cell
+pub nobody_holds : (sums : Sums) (holders : List ℕ) (width depth players : ℕ) → size_in sums ≡ record { width = width; depth = depth } → sums.players ≡ players → sums.items.items ≡ replicate (players * (width * depth)) 0 → holders ≡ replicate (width * depth) 0 → AreHolders sums holders
+nobody_holds sums holders width depth players size_is players_is items_are holders_are =
+    record {
+      full = ap length holders_are ∙ length-replicate (width * depth) 0 ∙ ap (λ (s : Size). s.width * s.depth) (sym size_is);
+      each = λ c on.
+          ap (λ (xs : List ℕ). get_or xs (place_of (size_in sums) c) 0) holders_are
+          ∙ get_or-replicate (width * depth) (place_of (size_in sums) c) 0 0 (subst (λ (s : Size). place_of (size_in sums) c < s.width * s.depth) size_is (place-below (size_in sums) c on))
+          ∙ sym (holder_by-is sums.players (at_cell sums c) 0 (inl (record { none = refl; all = λ player a b. none player c (record { least = a; most = b; ground = on }) })));
+    }
+  where
+    whole : sums.players * (sums.width * sums.depth) ≡ players * (width * depth)
+    whole = ap (λ (n : ℕ). n * (sums.width * sums.depth)) players_is ∙ ap (λ (s : Size). players * (s.width * s.depth)) size_is
+
+    none : (player : ℕ) (c : Cell) → IsPlaceIn sums player c → sum_at sums player c ≡ 0
+    none player c at =
+        ap (λ (xs : List ℕ). get_or xs (sum_place (size_in sums) player c) 0) items_are
+        ∙ get_or-replicate (players * (width * depth)) (sum_place (size_in sums) player c) 0 0
+        (subst (λ (n : ℕ). sum_place (size_in sums) player c < n) whole (sum_place-below sums player c at))

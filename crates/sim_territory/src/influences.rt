@@ -1,7 +1,7 @@
 //! The influences of the players beside the holder of each cell. Both are changed by the shifts of a trail: a building that
 //! comes or goes changes the cells within its reach, and a cell's holder is found anew where an influence changed.
 
-ghost use Rattle.std.specs.Prelude.{◌≡◌};
+ghost use Rattle.std.specs.Prelude.{◌≡◌, ◌*◌, IfOk, replicate};
 ghost use Rattle.sim_territory.specs.Keeping.{AreHolders};
 ghost use Rattle.sim_territory.specs.Tables.{Moves, MayMove};
 
@@ -38,8 +38,7 @@ impl Influences {
         ensures sums { IfOk result (λ made. made.sums.items.items ≡ replicate (players * (width * depth)) 0) }
     {
         let sums = Sums::new(alloc, width, depth, players)?;
-        let cells = usize::from(width) * usize::from(depth);
-        let holders = vec![in alloc; 0u8; cells]?;
+        let holders = nobody(alloc, width, depth)?;
         Ok(Influences { sums, holders })
     }
 
@@ -135,6 +134,14 @@ impl Influences {
             self.shift(setup, shift);
         }
     }
+}
+
+// Nobody holds a cell.
+fn nobody(alloc: Global, width: u16, depth: u16) -> Result<Vec<u8>, OutOfMemory>
+    ensures { IfOk result (λ holders. holders.items ≡ replicate (width * depth) 0) }
+{
+    let cells = usize::from(width) * usize::from(depth);
+    Ok(vec![in alloc; 0u8; cells]?)
 }
 
 // So much more, or less.
