@@ -1,9 +1,9 @@
 -- What a realm keeps, from one state to the next.
-use Rattle.std.proofs.Common.{◌≡◌, ℕ, ◌*◌, ◌<◌, ◌≤◌, Bool, true, false, cond, List, [], ◌∷◌, length, get_or, replicate, Option, Some, None, ℤ, pos, ◌≤ℤ◌, ◌<ℤ◌, int_le, int_lt, refl, sym, ap, ◌∙◌, subst, arith, All}
-use Rattle.std.specs.Prelude.{◌&&◌, nat_le, nat_lt, sum_by, MatchOption}
+use Rattle.std.proofs.Common.{◌≡◌, ℕ, ◌+◌, ◌*◌, map, ◌<◌, ◌≤◌, Bool, true, false, cond, List, [], ◌∷◌, length, get_or, replicate, Option, Some, None, ℤ, pos, ◌≤ℤ◌, ◌<ℤ◌, int_le, int_lt, refl, sym, ap, ◌∙◌, subst, ◌-◌, drop, mul-le-mul_right, length-take-le, arith, All}
+use Rattle.std.specs.Prelude.{slice_range, ◌&&◌, nat_le, nat_lt, sum_by, MatchOption}
 use Rattle.std.proofs.lemmas.Bool.{and_parts, and_from, leb-true, le-leb, ltb-true, lt-ltb}
 use Rattle.std.proofs.lemmas.Int.{ints}
-use Rattle.std.proofs.lemmas.List.{length-map, get_or-replicate}
+use Rattle.std.proofs.lemmas.List.{length-map, length-drop, get_or-replicate, get_or-take, get_or-drop}
 use Rattle.std.proofs.lemmas.List.Sums.{sum_by-cons}
 use Rattle.std.proofs.lemmas.List.Elements.{All-nil, All-cons, All-head, All-tail, All-map, All-weaker}
 use Rattle.sim_base.specs.declared.place.Point.{Point}
@@ -12,7 +12,7 @@ use Rattle.sim_base.specs.declared.setup.Setup.{Setup}
 use Rattle.sim_base.specs.declared.state.Row.{Row}
 use Rattle.sim_base.specs.declared.state.State.{State}
 use Rattle.sim_base.specs.Limits.{IsSetup, row_limit}
-use Rattle.sim_base.specs.Places.{Size, IsPlaced, is_within}
+use Rattle.sim_base.specs.Places.{cells_of, Size, IsPlaced, is_within}
 use Rattle.sim_base.specs.Rows.{size_of, template_of}
 use Rattle.sim_base.specs.Steps.{IsOnGround}
 use Rattle.sim_base.specs.Validity.{IsInside, IsValidRow, IsKnownRow, IsValid}
@@ -26,9 +26,15 @@ use Rattle.sim_trail.specs.Sums.{weight_gone, weight_born, SumFollows}
 use Rattle.sim_trail.proofs.Rising.{marks_ascend}
 use Rattle.sim_trail.proofs.Summing.{sum_follows}
 use Rattle.sim_territory.specs.declared.sums.Sums.{Sums}
-use Rattle.sim_territory.specs.Influence.{share}
-use Rattle.sim_territory.specs.Keeping.{AreInfluences}
-use Rattle.sim_territory.specs.Tables.{size_in, sum_place, IsMarkIn, mark_in, FitShifts, AreShifted}
+use Rattle.sim_base.specs.declared.place.Cell.{Cell}
+use Rattle.sim_grid.specs.Grids.{place_of}
+use Rattle.sim_grid.proofs.Beside.{place-below}
+use Rattle.sim_territory.specs.Holders.{holder, holder_by}
+use Rattle.sim_territory.proofs.CellLists.{mapped}
+use Rattle.sim_territory.proofs.Holding.{holder_by-same}
+use Rattle.sim_territory.specs.Influence.{share, influence}
+use Rattle.sim_territory.specs.Keeping.{holder_at, AreHolders, AreInfluences}
+use Rattle.sim_territory.specs.Tables.{size_in, sum_place, sum_at, IsMarkIn, mark_in, FitShifts, AreShifted}
 use Rattle.sim_territory.proofs.Bases.{influence-small}
 use Rattle.sim_territory.proofs.Moving.{size-shape, place-before}
 use Rattle.sim_territory.proofs.Following.{mark_later}
@@ -177,3 +183,56 @@ module _ (setup : Setup) (old : List Mark) (state : State) (sums : Sums) (ascend
             let step = shifted.each player c before in
             omega (arith, law.balance);
       }
+
+-- ---- what is lent
+
+module _ (setup : Setup) (marks : List Mark) (sums : Sums) (kept : AreInfluences setup marks sums) where
+  -- the holder that the table tells is the one of the definition
+  pub holder-kept : (c : Cell) → IsOnGround (size_in sums) c → holder_by sums.players (λ player. sum_at sums player c) ≡ holder setup marks c
+  holder-kept c on =
+      holder_by-same sums.players (λ player. sum_at sums player c) (λ player. influence setup marks player c) (λ player a b. kept.each player c (record { least = a; most = b; ground = on }))
+      ∙ ap (λ (n : ℕ). holder_by n (λ player. influence setup marks player c)) kept.players
+
+  wide : 0 < setup.land.width
+  wide = let least = kept.limits.land.width.0 in omega arith
+
+  on_table : (c : Cell) → IsOnGround (size_of setup.land) c → IsOnGround (size_in sums) c
+  on_table c on = subst (λ (s : Size). IsOnGround s c) (sym kept.size) on
+
+  pub holders_listed : (holders : List ℕ) → AreHolders sums holders → holders ≡ map (holder setup marks) (cells_of (size_of setup.land))
+  holders_listed holders are =
+      mapped (holder setup marks) (size_of setup.land) holders 0 wide (are.full ∙ ap (λ (s : Size). s.width * s.depth) kept.size)
+      (λ c on. ap (λ (s : Size). holder_at s holders c) (sym kept.size) ∙ are.each c (on_table c on) ∙ holder-kept c (on_table c on))
+
+-- the part of a list that begins at a and has n items
+part_length : (xs : List ℕ) (a n b : ℕ) → a + n ≡ b → b ≤ length xs → length (slice_range xs a b) ≡ n
+part_length xs a n b e le = length-take-le (b - a) (drop a xs) (omega (arith, length-drop a xs)) ∙ omega arith
+
+part_at : (xs : List ℕ) (a n b k : ℕ) → a + n ≡ b → k < n → get_or (slice_range xs a b) k 0 ≡ get_or xs (a + k) 0
+part_at xs a n b k e lt = get_or-take (b - a) (drop a xs) k 0 (omega arith) ∙ get_or-drop a xs k 0
+
+next_row : (player n : ℕ) → 1 ≤ player → (player - 1) * n + n ≡ player * n
+next_row player n least = by (player - 1) player (omega arith)
+  where
+    by : (p q : ℕ) → p + 1 ≡ q → p * n + n ≡ q * n
+    by p q e = add_one p ∙ ap (λ (m : ℕ). m * n) e
+      where
+        add_one : (m : ℕ) → m * n + n ≡ (m + 1) * n
+        add_one m = omega arith
+
+module _ (setup : Setup) (marks : List Mark) (sums : Sums) (kept : AreInfluences setup marks sums) (player : ℕ) (least : 1 ≤ player) (most : player ≤ sums.players) (full : length sums.items.items ≡ sums.players * (sums.width * sums.depth)) where
+  layer_end : player * (sums.width * sums.depth) ≤ length sums.items.items
+  layer_end = let le : player * (sums.width * sums.depth) ≤ sums.players * (sums.width * sums.depth) = mul-le-mul_right (sums.width * sums.depth) most in omega arith
+
+  -- the influences of a player are lent as a list over the cells
+  pub layer_listed : slice_range sums.items.items ((player - 1) * (sums.width * sums.depth)) (player * (sums.width * sums.depth)) ≡ map (influence setup marks player) (cells_of (size_of setup.land))
+  layer_listed =
+      mapped (influence setup marks player) (size_of setup.land) (slice_range sums.items.items ((player - 1) * (sums.width * sums.depth)) (player * (sums.width * sums.depth))) 0 (wide setup marks sums kept)
+      (part_length sums.items.items ((player - 1) * (sums.width * sums.depth)) (sums.width * sums.depth) (player * (sums.width * sums.depth)) (next_row player (sums.width * sums.depth) least) layer_end
+      ∙ ap (λ (s : Size). s.width * s.depth) kept.size)
+      (λ c on.
+      let here = on_table setup marks sums kept c on in
+      ap (λ (s : Size). get_or (slice_range sums.items.items ((player - 1) * (sums.width * sums.depth)) (player * (sums.width * sums.depth))) (place_of s c) 0) (sym kept.size)
+      ∙ part_at sums.items.items ((player - 1) * (sums.width * sums.depth)) (sums.width * sums.depth) (player * (sums.width * sums.depth)) (place_of (size_in sums) c) (next_row player (sums.width * sums.depth) least)
+      (place-below (size_in sums) c here)
+      ∙ kept.each player c (record { least = least; most = most; ground = here }))

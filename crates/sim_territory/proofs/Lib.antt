@@ -7,4 +7,5 @@ pub mod Bases
 pub mod Following
 pub mod Flooding
 pub mod Keeping
+pub mod Rooting
 mod Examples
