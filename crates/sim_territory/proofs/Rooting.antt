@@ -64,7 +64,7 @@ rooted_found setup marks sums holders begun last kept are begun_is full at fills
       full = full ∙ ap (λ (s : Size). s.width * s.depth) last_land;
       each = λ c on. (
         (λ wet. forth c (fills.sound c (back c on) (flag_last c wet))),
-        (λ rooted. last_flag c (fills.all c (turned c rooted)))
+        (λ rooted. last_flag c (fills.all c (turned c rooted))),
       );
     }
   where

@@ -29,7 +29,12 @@ impl Influences {
     ghost use Rattle.sim_territory.specs.Tables.{size_in, sum_at, IsPlaceIn, IsSummed, SumsMove, MaySumsMove, share_where, IsMarkIn, share_by, FitShifts, FitsShift, AreShifted, IsShifted};
 
     /// Nobody has influence anywhere, and nobody holds a cell.
-    pub fn new(alloc: Global, width: u16, depth: u16, players: u8) -> Result<Influences, OutOfMemory>
+    pub fn new(
+        alloc: Global,
+        width: u16,
+        depth: u16,
+        players: u8,
+    ) -> Result<Influences, OutOfMemory>
         requires narrow { width ≤ 256 }
         requires shallow { depth ≤ 256 }
         requires few { players ≤ 8 }

@@ -29,7 +29,12 @@ fn is_root(setup: &Setup, influences: &Influences, mark: &Mark) -> bool
 }
 
 /// Comes to the cells of the roots.
-pub fn wet_roots(flood: &mut Flood, setup: &Setup, influences: &Influences, marks: &[Mark]) -> Result<(), OutOfMemory>
+pub fn wet_roots(
+    flood: &mut Flood,
+    setup: &Setup,
+    influences: &Influences,
+    marks: &[Mark],
+) -> Result<(), OutOfMemory>
     requires kept { AreInfluences setup.now marks.now influences.now.sums }
     requires size { ground_size flood.old ≡ size_in influences.now.sums }
     requires dry { IsWetAt [] flood.old }
