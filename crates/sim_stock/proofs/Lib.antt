@@ -1,0 +1,4 @@
+mod Balances
+mod RateLimits
+mod Runs
+mod Stretches
