@@ -1,4 +1,5 @@
 mod Balances
+mod Examples
 mod RateLimits
 mod Runs
 mod Stretches

@@ -180,7 +180,9 @@ fn number_of(templates: &[Template], name: &Value) -> Option<usize>
 fn place_of(templates: &[Template], name: &str) -> Option<usize>
     ensures { result ≡ number_of_name templates.now name.now }
 {
-    templates.iter().position(|template| is_called(template, name))
+    templates
+        .iter()
+        .position(|template| is_called(template, name))
 }
 
 fn is_called(template: &Template, name: &str) -> bool

@@ -9,13 +9,14 @@
 //! - `deed`: what a player does with his stocks, and when.
 //! - `economy`: the records of an economy.
 //! - `fault`, `amounts`, `deed_items`, `reading`: an economy from the bytes of its file.
-//! - `tributes`: the handler of tributes.
+//! - `tributes`, `barters`: the handlers of tributes and barters.
 //! - `table`: the stored handlers.
 //! - `due`, `dealing`: the deeds of a turn, and the income.
 //! - `price`: what a command costs.
 #![tactic(auto)]
 
 mod amounts;
+mod barters;
 mod dealing;
 mod deed;
 mod deed_items;
@@ -29,6 +30,7 @@ mod stocks;
 mod table;
 mod tributes;
 
+pub use barters::barter;
 pub use deed::{DatedDeed, DatedDeeds, Deed};
 pub use economy::Economy;
 pub use fault::EconomyFault;

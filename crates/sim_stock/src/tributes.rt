@@ -11,7 +11,14 @@ pub fn tribute(stocks: &Stocks, player: u8, deed: &Deed) -> Stocks
     requires { IsAsked 1 stocks.now player deed.now }
     ensures { result ≡ deed_of stocks.now player deed.now }
 {
-    let Deed::Tribute { other, good, amount } = *deed;
+    let Deed::Tribute {
+        other,
+        good,
+        amount,
+    } = *deed
+    else {
+        unreachable!()
+    };
     let mut left = *stocks;
     if amount <= stocks.amount(player, good) {
         left.spend(player, good, amount);

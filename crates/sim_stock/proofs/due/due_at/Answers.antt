@@ -9,7 +9,6 @@ use Rattle.sim_stock.proofs.due.due_at.Goals as goal
 no_deed : DatedDeed
 no_deed = record { turn = 0; player = 0; deed = Tribute 0 0 0 }
 
-
 pub slice_bounds-result-count : goal.slice_bounds-result-count
 slice_bounds-result-count c =
     in_order (λ (dated : DatedDeed). dated.turn) c.args.deeds.now c.args.turn c.begin_of-first.result c.begin_of-end.result no_deed c.begin_of-end.ensures.within c.begin_of-first.ensures.point
