@@ -1,17 +1,16 @@
 -- What deeds, prices and incomes make of all that there is.
-use Rattle.std.proofs.Common.{◌≡◌, ℕ, zero, suc, ◌+◌, ◌-◌, ◌*◌, ◌/◌, ◌^◌, ◌<◌, ◌≤◌, Bool, true, false, List, [], ◌∷◌, length, get_or, All, refl, arith}
-use Rattle.std.specs.Prelude.{◌==◌, ◌&&◌, nat_le, sum, IsTrue, if◌then◌else◌}
+use Rattle.std.proofs.Common.{◌≡◌, ℕ, zero, suc, ◌+◌, ◌-◌, ◌*◌, ◌/◌, ◌^◌, ◌<◌, ◌≤◌, Bool, true, false, List, [], ◌∷◌, get_or, refl, arith}
+use Rattle.std.specs.Prelude.{◌==◌, nat_le, sum, if◌then◌else◌}
 use Rattle.std.proofs.Math.ListN.{set}
 use Rattle.std.proofs.lemmas.Bool.{leb-true}
 use Rattle.std.proofs.lemmas.List.Sums.{sum_by-cons, get_or-le-sum_by}
-use Rattle.sim_base.specs.Limits.{IsFrom}
 use Rattle.sim_stock.specs.declared.stocks.Stocks.{Stocks}
 use Rattle.sim_stock.specs.declared.deed.Deed.{Deed}
 use Rattle.sim_stock.specs.declared.deed.Deed.TheVariants.{Tribute, Barter}
 use Rattle.sim_stock.specs.declared.deed.DatedDeed.{DatedDeed}
 use Rattle.sim_stock.specs.declared.rate.Rate.{Rate}
-use Rattle.sim_stock.specs.Stocks.{amounts, amount_of, with_amount, gained, spent, total, AreBelow}
-use Rattle.sim_stock.specs.Deeds.{kind_of, given, deed, IsDeedOf, IsDatedDeed, IsAsked}
+use Rattle.sim_stock.specs.Stocks.{amount_of, gained, spent, total, AreBelow}
+use Rattle.sim_stock.specs.Deeds.{kind_of, deed, IsDatedDeed, IsAsked}
 use Rattle.sim_stock.specs.PaidTurns.{earned}
 
 -- one amount is at most the sum

@@ -1,8 +1,7 @@
 -- Rates within a limit.
-use Rattle.std.proofs.Common.{◌≡◌, ℕ, zero, suc, ◌+◌, ◌<◌, ◌≤◌, Bool, true, false, cond, List, [], ◌∷◌, length, get_or, map, All, Option, Some, None, refl, sym, subst, inl, inr, arith}
-use Rattle.std.specs.Prelude.{◌==◌, find, option_map, unwrap_or, slice_get}
+use Rattle.std.proofs.Common.{ℕ, zero, suc, ◌<◌, Bool, true, false, cond, List, [], ◌∷◌, get_or, All, Some, sym, subst, arith}
+use Rattle.std.specs.Prelude.{◌==◌, find, option_map, unwrap_or}
 use Rattle.std.specs.List.{range_with_len}
-use Rattle.std.proofs.lemmas.Bool.{cases_lt}
 use Rattle.std.proofs.lemmas.Option.{unwrap_or-slice_get}
 use Rattle.std.proofs.lemmas.List.Elements.{All-map, All-head, All-tail}
 use Rattle.sim_stock.specs.declared.rate.Rate.{Rate}

@@ -1,5 +1,5 @@
 -- The economy of a match that bytes spell, or the number of what is refused.
-use Rattle.std.specs.Prelude.{◌≡◌, ℕ, ◌+◌, nat_le, All, List, [], ◌∷◌, length, fold, codes, Option, Some, None, option_and_then, Result, Ok, Err, if◌then◌else◌}
+use Rattle.std.specs.Prelude.{ℕ, ◌+◌, nat_le, All, List, [], ◌∷◌, length, fold, codes, Option, Some, None, option_and_then, Result, Ok, Err, if◌then◌else◌}
 use Rattle.std.specs.List.Sorted.{IsNonDecreasingBy}
 use Rattle.serde_json.specs.Data.{Data}
 use Rattle.sim_base.specs.declared.setup.Setup.{Setup}

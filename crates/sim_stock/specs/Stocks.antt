@@ -1,5 +1,5 @@
 -- How much of each good the players have.
-use Rattle.std.specs.Prelude.{ℕ, ◌+◌, ◌-◌, ◌^◌, ◌<◌, ◌==◌, List, All, sum, slice_index, slice_set, if◌then◌else◌}
+use Rattle.std.specs.Prelude.{ℕ, ◌+◌, ◌-◌, ◌<◌, ◌==◌, List, All, sum, slice_index, slice_set, if◌then◌else◌}
 use Rattle.sim_stock.specs.declared.stocks.Stocks.{Stocks}
 
 -- the amounts of a good, the first player's first
