@@ -2,7 +2,7 @@
 use Rattle.std.proofs.Common.{◌≡◌, ℕ, zero, suc, ◌+◌, ◌-◌, ◌*◌, ◌/◌, ◌^◌, ◌<◌, ◌≤◌, Bool, true, false, List, [], ◌∷◌, length, get_or, All, refl, arith}
 use Rattle.std.specs.Prelude.{◌==◌, ◌&&◌, nat_le, sum, IsTrue, if◌then◌else◌}
 use Rattle.std.proofs.Math.ListN.{set}
-use Rattle.std.proofs.lemmas.Bool.{leb-true}
+use Rattle.std.proofs.lemmas.Bool.{and_parts, leb-true}
 use Rattle.std.proofs.lemmas.List.Sums.{sum_by-cons, get_or-le-sum_by}
 use Rattle.sim_base.specs.Limits.{IsFrom}
 use Rattle.sim_stock.specs.declared.stocks.Stocks.{Stocks}
@@ -12,7 +12,7 @@ use Rattle.sim_stock.specs.declared.deed.DatedDeed.{DatedDeed}
 use Rattle.sim_stock.specs.declared.rate.Rate.{Rate}
 use Rattle.sim_stock.specs.Stocks.{amounts, amount_of, with_amount, gained, spent, total, AreBelow}
 use Rattle.sim_stock.specs.Deeds.{kind_of, given, deed, IsDeedOf, IsDatedDeed, IsAsked}
-use Rattle.sim_stock.specs.PaidTurns.{earned}
+use Rattle.sim_stock.specs.PaidTurns.{affords, earned, paid}
 
 -- one amount is at most the sum
 at_most_sum : (xs : List ℕ) (i : ℕ) → get_or xs i 0 ≤ sum xs
@@ -85,3 +85,10 @@ deed_total q player (Tribute other good a) =
 deed_total q player (Barter good a) =
     given_by (nat_le a (amount_of player good q)) q (gained player (1 - good) (a * 4 / 5) (spent player good a q)) player good a refl (λ le.
     omega (arith, spent_total player good a q le, gained_total player (1 - good) (a * 4 / 5) (spent player good a q)))
+
+-- a price takes its two amounts away
+pub paid_total : (player : ℕ) (rate : Rate) (q : Stocks) → affords player rate q ≡ true → total (paid player rate q) ≤ total q
+paid_total player rate q can =
+    let (food, metal) = and_parts (nat_le rate.food (amount_of player 0 q)) (nat_le rate.metal (amount_of player 1 q)) can in
+    omega (arith, spent_total player 0 rate.food q (leb-true rate.food (amount_of player 0 q) food),
+    spent_total player 1 rate.metal (spent player 0 rate.food q) (leb-true rate.metal (amount_of player 1 q) metal))

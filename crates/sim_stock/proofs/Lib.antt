@@ -1,5 +1,6 @@
 mod Balances
 mod Examples
+mod Paying
 mod RateLimits
 mod Runs
 mod Stretches

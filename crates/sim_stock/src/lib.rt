@@ -12,17 +12,20 @@
 //! - `tributes`, `barters`: the handlers of tributes and barters.
 //! - `table`: the stored handlers.
 //! - `due`, `dealing`: the deeds of a turn, and the income.
-//! - `price`: what a command costs.
+//! - `price`, `buying`: what a command costs, and commands that are paid for or left out.
+//! - `paid_turns`: a whole paid turn.
 #![tactic(auto)]
 
 mod amounts;
 mod barters;
+mod buying;
 mod dealing;
 mod deed;
 mod deed_items;
 mod due;
 mod economy;
 mod fault;
+mod paid_turns;
 mod price;
 mod rate;
 mod reading;
@@ -34,6 +37,7 @@ pub use barters::barter;
 pub use deed::{DatedDeed, DatedDeeds, Deed};
 pub use economy::Economy;
 pub use fault::EconomyFault;
+pub use paid_turns::paid_turn;
 pub use rate::{Rate, Rates};
 pub use reading::economy_of;
 pub use stocks::Stocks;

@@ -1,6 +1,6 @@
 //! How much food and metal each player has. Good 0 is food, and good 1 is metal.
 
-ghost use Rattle.std.specs.Prelude.{◌≡◌, ◌+◌, ◌^◌, ◌<◌, ◌≤◌, IsTrue};
+ghost use Rattle.std.specs.Prelude.{◌≡◌, ◌+◌, ◌^◌, ◌<◌, ◌≤◌, true};
 ghost use Rattle.sim_base.specs.Limits.{IsFrom};
 ghost use Rattle.sim_stock.specs.Stocks.{amount_of, gained, spent, total};
 ghost use Rattle.sim_stock.specs.Rates.{IsRate};
@@ -74,7 +74,7 @@ impl Stocks {
     /// A player pays a price.
     pub fn pay(&mut self, player: u8, rate: &Rate)
         requires player { IsFrom 1 8 player }
-        requires enough { IsTrue (affords_by player rate.now self.old) }
+        requires enough { affords_by player rate.now self.old ≡ true }
         ensures { self.new ≡ paid player rate.now self.old }
     {
         self.spend(player, FOOD, rate.food);

@@ -18,4 +18,5 @@ mod steps;
 mod turns;
 
 pub use playing::play;
-pub use turns::turn;
+pub use steps::obey;
+pub use turns::{run_phases, turn};
