@@ -31,11 +31,15 @@ command_text command.Resign = codes "resign"
 abbrev pub order_text : PlayerCommand → List ℕ
 order_text order = codes " player " ++ (decimal order.player ++ (codes " " ++ command_text order.command))
 
+-- a turn, and what a player commands in it
+abbrev pub turn_order_text : ℕ → PlayerCommand → List ℕ
+turn_order_text turn order = codes "command turn " ++ (decimal turn ++ order_text order)
+
 -- a message; of a state, how many bytes it has
 abbrev pub down_text : DownOf (List ℕ) → List ℕ
 down_text (Ask client) = codes "ask " ++ decimal client
 down_text (State done bytes) = codes "state done " ++ (decimal done ++ (codes " bytes " ++ decimal (length bytes)))
-down_text (OfTurn turn order) = codes "command turn " ++ (decimal turn ++ order_text order)
+down_text (OfTurn turn order) = turn_order_text turn order
 down_text (Release turn) = codes "release " ++ decimal turn
 down_text (Notice turn client) = codes "notice " ++ (decimal turn ++ (codes " " ++ decimal client))
 down_text (Refused code) = codes "refused " ++ decimal code

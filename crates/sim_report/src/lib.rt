@@ -21,7 +21,7 @@ mod refusal;
 mod served;
 mod show;
 
-pub use down::push_down;
+pub use down::{push_down, push_turn_order};
 pub use event::push_event;
 pub use line::{push_saved, push_turn, push_usage};
 pub use place::{part_name, push_place};

@@ -1,0 +1,6 @@
+pub mod Lines
+pub mod Logs
+pub mod Words
+pub mod Commands
+pub mod Reading
+pub mod Meets
