@@ -34,7 +34,7 @@ log_read read = record { turns = drop 1 read.turns; digests = read.digests }
 ends-read : (setup : Setup) (read : Reading) (lines : List (List ℕ)) → Spells setup read lines → 0 < length read.digests → read.orders ≡ [] → Ends setup lines (log_read read)
 ends-read setup read lines s some none =
     let first = s.first some in
-    let more : length read.turns ≡ 1 + length (drop 1 read.turns) = ap length first in
+    let more : length read.turns ≡ suc (length (drop 1 read.turns)) = ap length first in
     record {
       is_log = record {
         few = omega (arith, more, s.few, s.paired);
@@ -147,7 +147,7 @@ may-next : (setup : Setup) (orders more : List PlayerCommand) (order : PlayerCom
 may-next setup orders more order are =
     let behind : All (IsOrder setup) (order ∷ more) = subst (All (IsOrder setup)) (drop-append_seam orders (order ∷ more)) (All-drop (IsOrder setup) (length orders) (orders ++ order ∷ more) are.each) in
     let is = All-head (IsOrder setup) order more behind in
-    let one : (λ (o : PlayerCommand). cond (is_by order.player o) 1 0) order ≡ 1 = ap (λ (b : Bool). cond b 1 0) (eq-eqb order.player order.player refl) in
+    let one : cond (is_by order.player order) 1 0 ≡ 1 = ap (λ (b : Bool). cond b 1 0) (eq-eqb order.player order.player refl) in
     let count = sum_by-append (λ (o : PlayerCommand). cond (is_by order.player o) 1 0) orders (order ∷ more) in
     let count_more = sum_by-append (λ (o : PlayerCommand). cond (is_by order.player o) 1 0) (order ∷ []) more in
     (record { least = is.player.0; most = is.player.1; ids = few_ids order.command is.fits; room = omega (arith, one, count, count_more, are.few order.player) }, is.fits)

@@ -1,12 +1,11 @@
 -- Numbers that are read fit, and so do commands with few ids.
-use Rattle.std.proofs.Common.{◌≡◌, ℕ, ◌^◌, ◌<◌, ◌≤◌, Bool, true, false, cond, ltb, List, [], ◌∷◌, ◌++◌, drop, length, ◌==◌, ℤ, pos, neg_ℤ, Option, Some, None, refl, ap, ◌∙◌, sym, subst, arith}
+use Rattle.std.proofs.Common.{◌≡◌, ℕ, ◌^◌, ◌<◌, ◌≤◌, Bool, true, false, cond, ltb, leb, List, [], ◌∷◌, ◌++◌, drop, length, ◌==◌, ℤ, pos, negsuc, neg_ℤ, Option, Some, None, refl, ap, ◌∙◌, sym, subst, arith}
 use Rattle.std.specs.Prelude.{codes, option_map, option_and_then, FitsSigned, nat_eq}
 use Rattle.std.specs.List.{list_all, slice_split, starts_with, AllByRecursion}
 use Rattle.std.specs.Int.{w32}
 use Rattle.std.specs.Str.{bytes_eq}
 use Rattle.std.specs.Str.Parse.{digits_value}
-use Rattle.std.proofs.lemmas.Bool.{ltb-true}
-use Rattle.std.proofs.lemmas.Bool.Decides.{nat_tests}
+use Rattle.std.proofs.lemmas.Bool.{ltb-true, leb-true, and_parts}
 use Rattle.std.proofs.lemmas.Int.{ints}
 use Rattle.sim_base.specs.declared.place.Point.{Point}
 use Rattle.sim_base.specs.declared.command.Command.{Command}
@@ -64,7 +63,8 @@ in_range-fits z y e =
     subst (FitsSigned w32) same (raw_fits z p.yes)
   where
     raw_fits : (z : ℤ) → is_raw z ≡ true → FitsSigned w32 z
-    raw_fits z h = grind (arith, ints, nat_tests)
+    raw_fits (pos n) h = omega (arith, ints, leb-true n 2147483647 h)
+    raw_fits (negsuc n) h = omega (arith, ints, leb-true n 2147483647 (and_parts (leb n 2147483647) true h).0)
 
 mapped_range : (o : Option ℕ) (f : ℕ → ℤ) (y : ℤ) → option_and_then (λ n. in_range (f n)) o ≡ Some y → FitsSigned w32 y
 mapped_range None f y e = cc

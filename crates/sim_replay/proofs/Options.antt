@@ -5,11 +5,11 @@ use Rattle.sim_bytes.specs.Reading.{◌>>=◌}
 
 -- both steps give something
 pub bind_some : {A B : Type 0} (o : Option A) (x : A) (f : A → Option B) (r : Option B) → o ≡ Some x → f x ≡ r → (o >>= f) ≡ r
-bind_some o x f r e h = ap (λ (p : Option _). p >>= f) e ∙ h
+bind_some {A} o x f r e h = ap (λ (p : Option A). p >>= f) e ∙ h
 
 -- the first step gives nothing
 pub bind_none : {A B : Type 0} (o : Option A) (f : A → Option B) → o ≡ None → (o >>= f) ≡ None
-bind_none o f e = ap (λ (p : Option _). p >>= f) e
+bind_none {A} o f e = ap (λ (p : Option A). p >>= f) e
 
 -- what both steps gave
 pub record Bound {A B : Type 0} (o : Option A) (f : A → Option B) (y : B) : Type 0 where

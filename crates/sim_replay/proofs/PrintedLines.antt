@@ -1,13 +1,13 @@
 -- A line is read as what it is printed of, and what is read of a line is printed so.
-use Rattle.std.proofs.Common.{◌≡◌, ℕ, zero, suc, ◌*◌, ◌/◌, ◌%◌, ◌^◌, ◌<◌, ◌≤◌, Bool, true, false, cond, List, [], ◌∷◌, ◌++◌, take, length, slice_index, Option, Some, None, Result, Ok, Err, refl, ap, ◌∙◌, sym, subst, arith, rules}
+use Rattle.std.proofs.Common.{◌≡◌, ℕ, zero, suc, ◌*◌, ◌/◌, ◌%◌, ◌^◌, ◌<◌, ◌≤◌, Bool, true, false, cond, List, [], ◌∷◌, ◌++◌, take, length, slice_index, Option, Some, None, Result, Ok, Err, refl, ap, ◌∙◌, sym, subst, arith}
 use Rattle.std.specs.Prelude.{codes, decimal}
 use Rattle.std.specs.List.{list_all}
 use Rattle.std.specs.Result.{result_ok}
-use Rattle.std.specs.Str.{bytes_eq, is_utf8, IsAscii}
+use Rattle.std.specs.Str.{bytes_eq, is_utf8}
 use Rattle.std.proofs.lemmas.Bool.{cond-true, and_from, and_parts}
 use Rattle.std.proofs.lemmas.List.{append_assoc}
 use Rattle.std.proofs.lemmas.Slice.Eq.{bytes_eq-Decides}
-use Rattle.std.proofs.lemmas.Str.{IsUtf8-from_ascii}
+use Rattle.std.proofs.lemmas.Str.{IsUtf8-from_ascii, is_utf8-from_IsUtf8}
 use Rattle.hex.specs.Hex.{encode_lower, encode_with, lower_digits, decode_sized}
 use Rattle.hex.specs.declared.error.FromHexError.{FromHexError}
 use Rattle.hex.proofs.HexLemmas.{decode_of-ok, decode_sized-encode_lower, decode_sized-ok, decode_sized-twice}
@@ -100,7 +100,7 @@ order_in-line turn order small fits =
         (bind_some _ order _ _ (order_of-text order small fits) (spelled-itself (order_line turn) order)))
   where
     utf8 : (rest : List ℕ) → list_all is_plain rest ≡ true → is_utf8 rest ≡ true
-    utf8 rest plain = search (rules, IsUtf8-from_ascii rest (plain_is_ascii rest plain))
+    utf8 rest plain = is_utf8-from_IsUtf8 rest (IsUtf8-from_ascii rest (plain_is_ascii rest plain))
 
 -- a command that was taken of its line
 pub record OrderTaken (turn : ℕ) (line : List ℕ) (order : PlayerCommand) : Type 0 where
@@ -116,7 +116,7 @@ order_in-taken turn line order e =
     let taken = spelled-taken (order_line turn) line d.x order d.second in
     record {
       line_is = taken.line_is;
-      fits = rw (sym taken.same) (order_of-fits t.x d.x d.first);
+      fits = subst (λ (o : PlayerCommand). ids_in o.command ≤ 256 → CommandFits o.command) taken.same (order_of-fits t.x d.x d.first);
     }
 
 -- ---- no line has a line feed in it

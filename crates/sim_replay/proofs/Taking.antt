@@ -72,18 +72,17 @@ first-push (o ∷ os) orders count same start first =
 pub spells-digest : (setup : Setup) (read : Reading) (lines : List (List ℕ)) (digest : List ℕ) → Spells setup read lines → length read.digests ≤ setup.turns → IsDigest digest
     → Spells setup (with_digest read digest) (lines ++ digest_line (length read.digests) digest ∷ [])
 spells-digest setup read lines digest s below is =
-    let turn = length read.digests in
-    let end = digest_line turn digest ∷ [] in
-    let one_more : length (read.digests ++ digest ∷ []) ≡ turn + 1 = length-append read.digests (digest ∷ []) in
+    let end = digest_line (length read.digests) digest ∷ [] in
+    let one_more : length (read.digests ++ digest ∷ []) ≡ length read.digests + 1 = length-append read.digests (digest ∷ []) in
     record {
       lines_are =
-        ap (λ (ls : List (List ℕ)). ls ++ end) s.lines_are ∙ append_assoc (lines_from 0 read.turns read.digests) (map (order_line turn) read.orders) end
-        ∙ ap (λ (t : ℕ). lines_from 0 read.turns read.digests ++ turn_lines t read.orders digest) (sym (zero-add turn))
+        ap (λ (ls : List (List ℕ)). ls ++ end) s.lines_are ∙ append_assoc (lines_from 0 read.turns read.digests) (map (order_line (length read.digests)) read.orders) end
+        ∙ ap (λ (t : ℕ). lines_from 0 read.turns read.digests ++ turn_lines t read.orders digest) (sym (zero-add (length read.digests)))
         ∙ sym (lines_from-push 0 read.turns read.digests read.orders digest s.paired) ∙ sym (append-nil (lines_from 0 (read.turns ++ read.orders ∷ []) (read.digests ++ digest ∷ [])));
       paired = length-append read.turns (read.orders ∷ []) ∙ omega (arith, s.paired, one_more);
       turns = All-push (AreOrders setup) read.turns read.orders s.turns s.orders;
       start = λ h. absurd (omega (arith, one_more));
-      first = λ h. first-push read.turns read.orders turn s.paired s.start s.first;
+      first = λ h. first-push read.turns read.orders (length read.digests) s.paired s.start s.first;
       few = omega (arith, one_more);
       room = λ h. absurd (omega arith);
       digests = All-push IsDigest read.digests digest s.digests is;
@@ -146,12 +145,11 @@ orders-push setup orders order are may fits = record {
 pub spells-order : (setup : Setup) (read : Reading) (lines : List (List ℕ)) (order : PlayerCommand) → Spells setup read lines → length read.digests ≤ setup.turns → 0 < length read.digests
     → AreOrders setup (read.orders ++ order ∷ []) → Spells setup (with_order read order) (lines ++ order_line (length read.digests) order ∷ [])
 spells-order setup read lines order s below some are =
-    let turn = length read.digests in
-    let line = order_line turn order in
+    let line = order_line (length read.digests) order in
     record {
       lines_are =
-        ap (λ (ls : List (List ℕ)). ls ++ line ∷ []) s.lines_are ∙ append_assoc (lines_from 0 read.turns read.digests) (map (order_line turn) read.orders) (line ∷ [])
-        ∙ ap (λ (ls : List (List ℕ)). lines_from 0 read.turns read.digests ++ ls) (sym (map-append (order_line turn) read.orders (order ∷ [])));
+        ap (λ (ls : List (List ℕ)). ls ++ line ∷ []) s.lines_are ∙ append_assoc (lines_from 0 read.turns read.digests) (map (order_line (length read.digests)) read.orders) (line ∷ [])
+        ∙ ap (λ (ls : List (List ℕ)). lines_from 0 read.turns read.digests ++ ls) (sym (map-append (order_line (length read.digests)) read.orders (order ∷ [])));
       paired = s.paired;
       turns = s.turns;
       start = λ h. absurd (omega arith);
@@ -178,13 +176,13 @@ spells-taken setup read next lines line s e = by (ltb setup.turns (length read.d
         let may = may_have-says setup read.orders order q.1 in
         let same : with_order read order ≡ next = let g = p.gives in cc in
         let are = orders-push setup read.orders order s.orders may (t.fits may.ids) in
-        rw (t.line_is) (subst (λ (r : Reading). Spells setup r (lines ++ order_line (length read.digests) order ∷ [])) same (spells-order setup read lines order s below (ltb-true 0 (length read.digests) q.0) are))
+        subst (λ (l : List ℕ). Spells setup next (lines ++ l ∷ [])) (sym t.line_is) (subst (λ (r : Reading). Spells setup r (lines ++ order_line (length read.digests) order ∷ [])) same (spells-order setup read lines order s below (ltb-true 0 (length read.digests) q.0) are))
 
     digested : (o : Option (List ℕ)) → digest_in (length read.digests) line ≡ o → length read.digests ≤ setup.turns → taken_by setup read line o ≡ Some next → Spells setup next (lines ++ line ∷ [])
     digested (Some digest) d below h =
         let same : with_digest read digest ≡ next = cc in
         let t = digest_in-taken (length read.digests) line digest d in
-        rw (t.line_is) (subst (λ (r : Reading). Spells setup r (lines ++ digest_line (length read.digests) digest ∷ [])) same (spells-digest setup read lines digest s below t.is_digest))
+        subst (λ (l : List ℕ). Spells setup next (lines ++ l ∷ [])) (sym t.line_is) (subst (λ (r : Reading). Spells setup r (lines ++ digest_line (length read.digests) digest ∷ [])) same (spells-digest setup read lines digest s below t.is_digest))
     digested None d below h = other below h
 
     by : (b : Bool) → ltb setup.turns (length read.digests) ≡ b → cond b None (taken_by setup read line (digest_in (length read.digests) line)) ≡ Some next → Spells setup next (lines ++ line ∷ [])

@@ -132,13 +132,13 @@ stopped setup read number (line ∷ lines) rest e = by (taken setup read line) r
     }
     by (Some next) is h =
         let s = stopped setup next (number + 1) lines rest h in
-        let more : take (suc s.count + 1) (line ∷ lines) ≡ line ∷ take (s.count + 1) lines = refl in
+        let more : suc s.count + 1 ≡ suc (s.count + 1) = omega arith in
         record {
           count = suc s.count;
           less = omega (arith, s.less);
           mid = s.mid;
           before = bind_some (taken setup read line) next _ _ is s.before;
-          here = rw more (bind_some (taken setup read line) next _ _ is s.here);
+          here = ap (λ (n : ℕ). taken_all setup read (take n (line ∷ lines))) more ∙ bind_some (taken setup read line) next _ _ is s.here;
           gives = step setup read number line (lines ++ rest ∷ []) (some_parts lines rest) ∙ ap (λ (o : Option Reading). next_or_refused number o (λ n. read_parts setup n (number + 1) (lines ++ rest ∷ []))) is
             ∙ s.gives ∙ ap Err (omega arith);
         }
@@ -210,7 +210,7 @@ begun-taken setup lines count small b less few =
 refuses-stopped : (setup : Setup) (lines : List (List ℕ)) (rest : List ℕ) → Small setup → (s : Stopped setup nothing 2 lines rest) → Refuses setup (header_line setup ∷ lines) (2 + s.count)
 refuses-stopped setup lines rest small s = record {
   counted = (omega arith, omega (arith, s.less));
-  begins = rw less (begins-read setup s.mid (take s.count lines) (spells-all setup nothing s.mid [] (take s.count lines) (spells-nothing setup) s.before));
+  begins = subst (BeginsLog setup) (sym less) (begins-read setup s.mid (take s.count lines) (spells-all setup nothing s.mid [] (take s.count lines) (spells-nothing setup) s.before));
   most = λ count few b. by count b;
 }
   where
@@ -233,12 +233,12 @@ refuses-stopped setup lines rest small s = record {
 refuses-end : (setup : Setup) (lines : List (List ℕ)) (last : Reading) → taken_all setup nothing lines ≡ Some last → Refuses setup (header_line setup ∷ lines) (2 + length lines)
 refuses-end setup lines last e = record {
   counted = (omega arith, omega arith);
-  begins = rw whole (begins-read setup last lines (spells-all setup nothing last [] lines (spells-nothing setup) e));
+  begins = subst (BeginsLog setup) (sym whole) (begins-read setup last lines (spells-all setup nothing last [] lines (spells-nothing setup) e));
   most = λ count few b. omega (arith, few);
 }
   where
     whole : take (2 + length lines - 1) (header_line setup ∷ lines) ≡ header_line setup ∷ lines
-    whole = let e : 2 + length lines - 1 ≡ suc (length lines) = omega arith in ap (λ (n : ℕ). take n (header_line setup ∷ lines)) e ∙ ap (λ (ls : List (List ℕ)). header_line setup ∷ ls) (take_all lines)
+    whole = let e : 2 + length lines - 1 ≡ suc (length lines) = omega arith in ap (λ (n : ℕ). take n (header_line setup ∷ lines)) e ∙ ap (λ (ls : List (List ℕ)). header_line setup ∷ ls) (take_all (length lines) lines (omega arith))
 
 -- what is said of bytes whose lines are refused
 refused-bytes : (setup : Setup) (bytes : List ℕ) (lines : List (List ℕ)) (line : ℕ) → Small setup → whole_lines bytes ≡ lines → log_of setup bytes ≡ Err line → Refuses setup lines line → IsRefusedAt setup bytes line

@@ -1,7 +1,6 @@
 //! A whole log, read: the line that names the match first, and then line by line.
 
-ghost use Rattle.std.specs.Prelude.{◌≡◌, ℕ, ◌∷◌, [], IfOk, MatchOption};
-ghost use Rattle.sim_base.specs.Limits.{IsSetup};
+ghost use Rattle.std.specs.Prelude.{◌≡◌, ℕ, ◌^◌, ◌<◌, ◌∷◌, [], IfOk, MatchOption};
 ghost use Rattle.sim_replay.specs.declared.log.Log.{Log};
 ghost use Rattle.sim_replay.specs.Meets.{Meets};
 ghost use Rattle.sim_replay.specs.Logs.{IsLog, IsRefusedAt, text_of_log, parts_of};
@@ -17,20 +16,32 @@ use std::alloc::Global;
 /// The one log of the match that these bytes are, or the number of the first line, counted from 1, with which no log of
 /// the match goes on.
 pub fn log_of(alloc: Global, setup: &Setup, bytes: &[u8]) -> Result<Log, LogFault>
-    requires { IsSetup setup.now }
     ensures ok { IfOk result (λ log. IsLog setup.now log × (bytes.now ≡ text_of_log setup.now log)) }
     ensures itself { (log : Log) → IsLog setup.now log → bytes.now ≡ text_of_log setup.now log → IfOk result (λ read. read ≡ log) }
     ensures refused { (line : ℕ) → result ≡ Err (LogFault.Refused line) → IsRefusedAt setup.now bytes.now line }
 {
+    numbers_fit(setup);
     read_log(alloc, setup, bytes)
+}
+
+// The numbers of a match are those of its fields, so that each turn and each player of a log can be told.
+fn numbers_fit(setup: &Setup)
+    ensures players { setup.now.players < 2 ^ 8 }
+    ensures turns { setup.now.turns < 2 ^ 32 }
+{
+    let (_players, _turns) = (setup.players, setup.turns);
 }
 
 fn read_log(alloc: Global, setup: &Setup, bytes: &[u8]) -> Result<Log, LogFault>
     ensures { Meets result (log_of_bytes setup.now bytes.now) }
 {
-    match first_line(bytes) {
-        Some((line, rest)) if is_header(alloc, setup, line)? => lines_of(alloc, setup, rest),
-        _ => Err(LogFault::Refused { line: 1 }),
+    let Some((line, rest)) = first_line(bytes) else {
+        return Err(LogFault::Refused { line: 1 });
+    };
+    if is_header(alloc, setup, line)? {
+        lines_of(alloc, setup, rest)
+    } else {
+        Err(LogFault::Refused { line: 1 })
     }
 }
 

@@ -96,9 +96,9 @@ fn spelled_order(
 ) -> Result<Option<PlayerCommand>, OutOfMemory>
     ensures { IfOk result (λ found. found ≡ spelled (order_line turn) line.now order) }
 {
-    let mut printed = String::new(alloc);
-    push_turn_order(turn, &order, &mut printed)?;
-    if printed.as_bytes() == line {
+    let mut spelling = String::new(alloc);
+    push_turn_order(turn, &order, &mut spelling)?;
+    if spelling.as_bytes() == line {
         Ok(Some(order))
     } else {
         Ok(None)
