@@ -96,10 +96,10 @@ other_words-is word rest all =
 
 -- the parts of a text, of which the first ends at a byte that passes
 pub split_first : (p q : ℕ → Bool) → ((c : ℕ) → q c ≡ true → p c ≡ false) → (word : List ℕ) (y : ℕ) (rest : List ℕ) → list_all q word ≡ true → p y ≡ true → slice_split p (word ++ y ∷ rest) ≡ word ∷ slice_split p rest
-split_first p q apart [] y rest all yes = slice_split-cons_yes p y rest yes
-split_first p q apart (c ∷ cs) y rest all yes =
+split_first p q apart [] y rest all passes = slice_split-cons_yes p y rest passes
+split_first p q apart (c ∷ cs) y rest all passes =
     let parts = and_parts (q c) (list_all q cs) all in
-    slice_split-cons_no p c (cs ++ y ∷ rest) (apart c parts.0) ∙ ap (onto_first c) (split_first p q apart cs y rest parts.1 yes)
+    slice_split-cons_no p c (cs ++ y ∷ rest) (apart c parts.0) ∙ ap (onto_first c) (split_first p q apart cs y rest parts.1 passes)
 
 -- the one part of a text of which no byte passes
 pub split_whole : (p q : ℕ → Bool) → ((c : ℕ) → q c ≡ true → p c ≡ false) → (word : List ℕ) → list_all q word ≡ true → slice_split p word ≡ word ∷ []

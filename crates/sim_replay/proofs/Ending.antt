@@ -142,12 +142,16 @@ order-taken setup read order small some below may fits =
     ∙ bind_some (order_in turn (order_line turn order)) order _ _ (order_in-line turn order (omega (arith, small.players, may.most)) fits)
         (cond-true _ _ _ (and_from _ _ (lt-ltb 0 turn some) (may_have-from setup read.orders order may)))
 
+-- how much a test counts for
+abbrev one_if : Bool → ℕ
+one_if b = cond b 1 0
+
 -- a turn may have the next of its commands
 may-next : (setup : Setup) (orders more : List PlayerCommand) (order : PlayerCommand) → AreOrders setup (orders ++ order ∷ more) → MayHave setup orders order × CommandFits order.command
 may-next setup orders more order are =
     let behind : All (IsOrder setup) (order ∷ more) = subst (All (IsOrder setup)) (drop-append_seam orders (order ∷ more)) (All-drop (IsOrder setup) (length orders) (orders ++ order ∷ more) are.each) in
     let is = All-head (IsOrder setup) order more behind in
-    let one : cond (is_by order.player order) 1 0 ≡ 1 = ap (λ (b : Bool). cond b 1 0) (eq-eqb order.player order.player refl) in
+    let one : one_if (is_by order.player order) ≡ 1 = ap one_if (eq-eqb order.player order.player refl) in
     let count = sum_by-append (λ (o : PlayerCommand). cond (is_by order.player o) 1 0) orders (order ∷ more) in
     let count_more = sum_by-append (λ (o : PlayerCommand). cond (is_by order.player o) 1 0) (order ∷ []) more in
     (record { least = is.player.0; most = is.player.1; ids = few_ids order.command is.fits; room = omega (arith, one, count, count_more, are.few order.player) }, is.fits)

@@ -16,7 +16,7 @@ use Rattle.sim_base.specs.NumberText.{is_digit, in_range, magnitude_of, number_o
 use Rattle.sim_bytes.specs.Reading.{◌>>=◌}
 use Rattle.sim_sections.specs.Rows.{IsPoint}
 use Rattle.sim_wire.specs.Fits.{IdsFit, CommandFits}
-use Rattle.sim_replay.specs.Words.{first_word, other_words, below, natural_of, naturals_behind, ids_of}
+use Rattle.sim_replay.specs.Words.{first_word, other_words, below, natural_of, natural_below, naturals_behind, ids_of}
 use Rattle.sim_replay.specs.Commands.{point_of, behind_two, walk_of, attack_of, place_of, train_of, command_by, command_of, order_of}
 use Rattle.sim_replay.specs.Reading.{ids_in}
 use Rattle.sim_replay.proofs.Options.{bound, mapped, passed}
@@ -33,7 +33,7 @@ natural_of-fits : (text : List ℕ) (n : ℕ) → natural_of text ≡ Some n →
 unfolding natural_of
 natural_of-fits text n e = below-fits (2 ^ 32) (digits_value 10 text) n ((passed _ (below (2 ^ 32) (digits_value 10 text)) n e).gives)
 
-short-fits : (limit : ℕ) (text : List ℕ) (n : ℕ) → (natural_of text >>= below limit) ≡ Some n → n < limit
+short-fits : (limit : ℕ) (text : List ℕ) (n : ℕ) → natural_below limit text ≡ Some n → n < limit
 short-fits limit text n e = let b = bound (natural_of text) (below limit) n e in below-fits limit b.x n b.second
 
 fit-push : (found : List ℕ) (id : ℕ) → AllByRecursion (λ id. id < 2 ^ 32) found → id < 2 ^ 32 → AllByRecursion (λ id. id < 2 ^ 32) (found ++ id ∷ [])
@@ -110,7 +110,7 @@ attack-fits text command e =
 place-fits : (text : List ℕ) (command : Command) → place_of text ≡ Some command → FitsIfFew command
 unfolding place_of
 place-fits text command e =
-    let b = bound (natural_of (first_word text) >>= below (2 ^ 16)) _ command e in
+    let b = bound (natural_below (2 ^ 16) (first_word text)) _ command e in
     let d = bound (point_of (behind_two text)) _ command b.second in
     let same : Place b.x d.x ≡ command = let h = d.second in cc in
     subst FitsIfFew same (λ few. (short-fits (2 ^ 16) (first_word text) b.x b.first, point_of-fits (behind_two text) d.x d.first))
@@ -119,7 +119,7 @@ train-fits : (text : List ℕ) (command : Command) → train_of text ≡ Some co
 unfolding train_of
 train-fits text command e =
     let b = bound (natural_of (first_word text)) _ command e in
-    let d = bound (natural_of (other_words text) >>= below (2 ^ 16)) _ command b.second in
+    let d = bound (natural_below (2 ^ 16) (other_words text)) _ command b.second in
     let same : Train b.x d.x ≡ command = let h = d.second in cc in
     subst FitsIfFew same (λ few. (natural_of-fits (first_word text) b.x b.first, short-fits (2 ^ 16) (other_words text) d.x d.first))
 
@@ -153,7 +153,7 @@ command_by-fits kind text command e =
 pub order_of-fits : (text : List ℕ) (order : PlayerCommand) → order_of text ≡ Some order → FitsIfFew order.command
 unfolding order_of
 order_of-fits text order e =
-    let b = bound (natural_of (first_word text) >>= below (2 ^ 8)) _ order e in
+    let b = bound (natural_below (2 ^ 8) (first_word text)) _ order e in
     let d = bound (command_of (other_words text)) _ order b.second in
     let same : d.x ≡ order.command = let h = d.second in ap (λ (o : Option PlayerCommand). command_or d.x o) h in
     subst FitsIfFew same (command_by-fits (first_word (other_words text)) (other_words (other_words text)) d.x d.first)

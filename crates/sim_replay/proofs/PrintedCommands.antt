@@ -14,7 +14,7 @@ use Rattle.sim_sections.specs.Rows.{IsPoint}
 use Rattle.sim_wire.specs.Fits.{IdsFit, CommandFits}
 use Rattle.sim_report.specs.Show.{point_text}
 use Rattle.sim_report.specs.Downs.{ids_text, command_text}
-use Rattle.sim_replay.specs.Words.{first_word, other_words, below, natural_of, ids_of}
+use Rattle.sim_replay.specs.Words.{first_word, other_words, below, natural_of, natural_below, ids_of}
 use Rattle.sim_replay.specs.Commands.{point_of, behind_two, walk_of, attack_of, place_of, train_of, command_by, command_of, order_of}
 use Rattle.sim_replay.proofs.Options.{bind_some}
 use Rattle.sim_replay.proofs.Cuts.{is_plain, all-weaker, all-append, name_is_plain, first_word-is, other_words-is}
@@ -45,7 +45,7 @@ attack-back ids target fit small =
     bind_some _ ids _ _ (ap ids_of (first_word-is (ids_text ids) rest name) ∙ ids_of-ids_text ids fit.each)
         (bind_some _ target _ _ (ap (λ (text : List ℕ). natural_of (other_words text)) (other_words-is (ids_text ids) rest name) ∙ natural_of-decimal target small) refl)
 
-below-back : (limit n : ℕ) (text : List ℕ) → n < limit → n < 2 ^ 32 → text ≡ decimal n → (natural_of text >>= below limit) ≡ Some n
+below-back : (limit n : ℕ) (text : List ℕ) → n < limit → n < 2 ^ 32 → text ≡ decimal n → natural_below limit text ≡ Some n
 below-back limit n text small fits is = bind_some _ n _ _ (ap natural_of is ∙ natural_of-decimal n fits) (below-is limit n small)
 
 place-back : (template : ℕ) (at : Point) → template < 2 ^ 16 → IsPoint at → place_of (decimal template ++ (codes " at " ++ point_text at)) ≡ Some (Place template at)

@@ -156,6 +156,11 @@ unfolding log_of_parts
 other_header setup line [] other = refl
 other_header setup line (part ∷ parts) other = cond-false _ _ _ other
 
+-- nothing is no log
+alone : (setup : Setup) (rest : List ℕ) → log_of_parts setup (rest ∷ []) ≡ Err 1
+unfolding log_of_parts
+alone setup rest = refl
+
 pub reads-itself : (setup : Setup) (log : Log) → Small setup → IsLog setup log → log_of setup (text_of_log setup log) ≡ Ok log
 reads-itself setup log small is =
     let later = lines_from 0 ([] ∷ log.turns) log.digests in
@@ -217,13 +222,13 @@ refuses-stopped setup lines rest small s = record {
     less : take (2 + s.count - 1) (header_line setup ∷ lines) ≡ header_line setup ∷ take s.count lines
     less = let e : 2 + s.count - 1 ≡ suc s.count = omega arith in ap (λ (n : ℕ). take n (header_line setup ∷ lines)) e
 
-    no : (o : Option Reading) (r : Reading) → o ≡ None → o ≡ Some r → ⊥
-    no o r e h = cc
+    apart : (o : Option Reading) (r : Reading) → o ≡ None → o ≡ Some r → ⊥
+    apart o r e h = cc
 
     within : (count : ℕ) → BeginsLog setup (header_line setup ∷ take count lines) → suc count < 2 + s.count
     within count b = elim (cases_lt count (s.count + 1)) [
       | inl below ↦ omega arith
-      | inr above ↦ let f = begun-taken setup lines count small b (s.count + 1) above in absurd (no (taken_all setup nothing (take (s.count + 1) lines)) f.mid s.here f.taken_are)
+      | inr above ↦ let f = begun-taken setup lines count small b (s.count + 1) above in absurd (apart (taken_all setup nothing (take (s.count + 1) lines)) f.mid s.here f.taken_are)
     ]
 
     by : (count : ℕ) → BeginsLog setup (take count (header_line setup ∷ lines)) → count < 2 + s.count
@@ -245,14 +250,14 @@ refused-bytes : (setup : Setup) (bytes : List ℕ) (lines : List (List ℕ)) (li
 refused-bytes setup bytes lines line small whole e r =
     let f : Refuses setup (whole_lines bytes) line = subst (λ (ls : List (List ℕ)). Refuses setup ls line) (sym whole) r in
     record {
-      no_log = λ log is same. no (log_of setup bytes) log e (ap (log_of setup) same ∙ reads-itself setup log small is);
+      no_log = λ log is same. apart (log_of setup bytes) log e (ap (log_of setup) same ∙ reads-itself setup log small is);
       counted = f.counted;
       begins = f.begins;
       most = f.most;
     }
   where
-    no : (o : Result Log ℕ) (log : Log) → o ≡ Err line → o ≡ Ok log → ⊥
-    no o log e h = cc
+    apart : (o : Result Log ℕ) (log : Log) → o ≡ Err line → o ≡ Ok log → ⊥
+    apart o log e h = cc
 
 -- what is said of the last reading
 says-last : (setup : Setup) (bytes : List ℕ) (lines : List (List ℕ)) (rest : List ℕ) (last : Reading) → Small setup → parts_of bytes ≡ (header_line setup ∷ lines) ++ rest ∷ [] → taken_all setup nothing lines ≡ Some last
@@ -309,12 +314,8 @@ says setup bytes small =
         err 1 e (refused-bytes setup bytes (line ∷ lines) 1 small (whole-is bytes (line ∷ lines) rest parts) e
             (refuses-header setup (line ∷ lines) (λ l ls h. ap (λ (x : List ℕ). bytes_eq x (header_line setup)) (sym (heads line l lines ls h).0) ∙ other)))
 
-    alone : (rest : List ℕ) → log_of_parts setup (rest ∷ []) ≡ Err 1
-    unfolding log_of_parts
-    alone rest = refl
-
     by : (lines : List (List ℕ)) (rest : List ℕ) → parts_of bytes ≡ lines ++ rest ∷ [] → Says setup bytes (log_of setup bytes)
     by [] rest parts =
-        let e : log_of setup bytes ≡ Err 1 = ap (log_of_parts setup) parts ∙ alone rest in
+        let e : log_of setup bytes ≡ Err 1 = ap (log_of_parts setup) parts ∙ alone setup rest in
         err 1 e (refused-bytes setup bytes [] 1 small (whole-is bytes [] rest parts) e (refuses-header setup [] (λ l ls h. absurd cc)))
     by (line ∷ lines) rest parts = first line lines rest parts (bytes_eq line (header_line setup)) refl

@@ -7,7 +7,7 @@ use Rattle.sim_base.specs.declared.command.Command.TheVariants.{Walk, Stop, Atta
 use Rattle.sim_base.specs.declared.command.PlayerCommand.{PlayerCommand}
 use Rattle.sim_base.specs.NumberText.{number_of}
 use Rattle.sim_bytes.specs.Reading.{◌>>=◌}
-use Rattle.sim_replay.specs.Words.{first_word, other_words, below, natural_of, ids_of}
+use Rattle.sim_replay.specs.Words.{first_word, other_words, natural_of, natural_below, ids_of}
 
 -- a point from both coordinates
 unfoldable pub point_of : List ℕ → Option Point
@@ -27,11 +27,11 @@ attack_of text = ids_of (first_word text) >>= λ ids. natural_of (behind_two tex
 
 -- to place: a template, a word, and the point
 unfoldable pub place_of : List ℕ → Option Command
-place_of text = (natural_of (first_word text) >>= below (2 ^ 16)) >>= λ template. point_of (behind_two text) >>= λ at. Some (Place template at)
+place_of text = natural_below (2 ^ 16) (first_word text) >>= λ template. point_of (behind_two text) >>= λ at. Some (Place template at)
 
 -- to train: the building, and a template
 unfoldable pub train_of : List ℕ → Option Command
-train_of text = natural_of (first_word text) >>= λ building. (natural_of (other_words text) >>= below (2 ^ 16)) >>= λ template. Some (Train building template)
+train_of text = natural_of (first_word text) >>= λ building. natural_below (2 ^ 16) (other_words text) >>= λ template. Some (Train building template)
 
 -- a command by its kind and what follows it
 unfoldable pub command_by : List ℕ → List ℕ → Option Command
@@ -52,5 +52,5 @@ command_of text = command_by (first_word text) (other_words text)
 -- a player, and what it commands
 unfoldable pub order_of : List ℕ → Option PlayerCommand
 order_of text =
-    (natural_of (first_word text) >>= below (2 ^ 8)) >>= λ player. command_of (other_words text) >>= λ command.
+    natural_below (2 ^ 8) (first_word text) >>= λ player. command_of (other_words text) >>= λ command.
     Some (record { player = player; command = command })

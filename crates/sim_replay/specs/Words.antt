@@ -26,6 +26,10 @@ below limit n = if nat_lt n limit then Some n else None
 unfoldable pub natural_of : List ℕ → Option ℕ
 natural_of text = if list_all is_digit text && nat_lt 0 (length text) then below (2 ^ 32) (digits_value 10 text) else None
 
+-- the same, where it is below this limit
+abbrev pub natural_below : ℕ → List ℕ → Option ℕ
+natural_below limit text = natural_of text >>= below limit
+
 -- the numbers that words spell, behind those found so far
 abbrev pub naturals_behind : List ℕ → List (List ℕ) → Option (List ℕ)
 naturals_behind found [] = Some found

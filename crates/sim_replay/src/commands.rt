@@ -2,8 +2,7 @@
 //! taken later, where it is printed so.
 
 ghost use Rattle.std.specs.Prelude.{◌≡◌, ◌^◌, IfOk};
-ghost use Rattle.sim_bytes.specs.Reading.{◌>>=◌};
-ghost use Rattle.sim_replay.specs.Words.{natural_of, below};
+ghost use Rattle.sim_replay.specs.Words.{natural_below};
 ghost use Rattle.sim_replay.specs.Commands.{point_of as point_of_text, behind_two as behind_two_words, walk_of as walk_of_text, attack_of as attack_of_text, place_of as place_of_text, train_of as train_of_text, command_by as command_by_kind, order_of as order_of_text};
 
 use crate::words::{cut, ids_of, natural};
@@ -118,14 +117,14 @@ fn point_of(text: &str) -> Option<Point>
 
 // A number of 16 bits.
 fn short(text: &str) -> Option<u16>
-    ensures { result ≡ (natural_of text.now >>= below (2 ^ 16)) }
+    ensures { result ≡ natural_below (2 ^ 16) text.now }
 {
     u16::try_from(natural(text)?).ok()
 }
 
 // A number of 8 bits.
 fn byte(text: &str) -> Option<u8>
-    ensures { result ≡ (natural_of text.now >>= below (2 ^ 8)) }
+    ensures { result ≡ natural_below (2 ^ 8) text.now }
 {
     u8::try_from(natural(text)?).ok()
 }
