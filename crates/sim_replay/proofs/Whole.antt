@@ -82,7 +82,7 @@ inner-log setup log small is =
 
 -- what comes of the last reading
 abbrev last_of : Reading → ℕ → List ℕ → Result Log ℕ
-last_of read number rest = if length rest == 0 then or_refused number (log_in read) else Err number
+last_of read number rest = cond (length rest == 0) (or_refused number (log_in read)) (Err number)
 
 step : (setup : Setup) (read : Reading) (number : ℕ) (line : List ℕ) (parts : List (List ℕ)) → 0 < length parts → read_parts setup read number (line ∷ parts) ≡ next_or_refused number (taken setup read line) (λ next. read_parts setup next (number + 1) parts)
 unfolding read_parts
@@ -96,16 +96,17 @@ all-read : (setup : Setup) (read last : Reading) (number : ℕ) (lines : List (L
 unfolding read_parts
 all-read setup read last number [] rest e =
     let same : read ≡ last = cc in
-    let count : number ≡ number + length [] = omega arith in
+    let count : number ≡ number + 0 = omega arith in
     ap (λ (r : Reading). last_of r number rest) same ∙ ap (λ (n : ℕ). last_of last n rest) count
-all-read setup read last number (line ∷ lines) rest e = by (taken setup read line) refl e
+all-read setup read last number (line ∷ lines) rest e = by (λ next h. all-read setup next last (number + 1) lines rest h) (taken setup read line) refl e
   where
-    by : (o : Option Reading) → taken setup read line ≡ o → (o >>= λ next. taken_all setup next lines) ≡ Some last → read_parts setup read number (line ∷ (lines ++ rest ∷ [])) ≡ last_of last (number + length (line ∷ lines)) rest
-    by None is h = absurd cc
-    by (Some next) is h =
+    by : ((next : Reading) → taken_all setup next lines ≡ Some last → read_parts setup next (number + 1) (lines ++ rest ∷ []) ≡ last_of last (number + 1 + length lines) rest)
+        → (o : Option Reading) → taken setup read line ≡ o → (o >>= λ next. taken_all setup next lines) ≡ Some last → read_parts setup read number (line ∷ (lines ++ rest ∷ [])) ≡ last_of last (number + length (line ∷ lines)) rest
+    by more None is h = absurd cc
+    by more (Some next) is h =
         let count : number + 1 + length lines ≡ number + length (line ∷ lines) = omega arith in
         step setup read number line (lines ++ rest ∷ []) (some_parts lines rest) ∙ ap (λ (o : Option Reading). next_or_refused number o (λ n. read_parts setup n (number + 1) (lines ++ rest ∷ []))) is
-        ∙ all-read setup next last (number + 1) lines rest h ∙ ap (λ (n : ℕ). last_of last n rest) count
+        ∙ more next h ∙ ap (λ (n : ℕ). last_of last n rest) count
 
 -- the lines before the one that is refused were taken
 record Stopped (setup : Setup) (read : Reading) (number : ℕ) (lines : List (List ℕ)) (rest : List ℕ) : Type 0 where
@@ -118,10 +119,10 @@ record Stopped (setup : Setup) (read : Reading) (number : ℕ) (lines : List (Li
 
 stopped : (setup : Setup) (read : Reading) (number : ℕ) (lines : List (List ℕ)) (rest : List ℕ) → taken_all setup read lines ≡ None → Stopped setup read number lines rest
 stopped setup read number [] rest e = absurd cc
-stopped setup read number (line ∷ lines) rest e = by (taken setup read line) refl e
+stopped setup read number (line ∷ lines) rest e = by (λ next h. stopped setup next (number + 1) lines rest h) (taken setup read line) refl e
   where
-    by : (o : Option Reading) → taken setup read line ≡ o → (o >>= λ next. taken_all setup next lines) ≡ None → Stopped setup read number (line ∷ lines) rest
-    by None is h = record {
+    by : ((next : Reading) → taken_all setup next lines ≡ None → Stopped setup next (number + 1) lines rest) → (o : Option Reading) → taken setup read line ≡ o → (o >>= λ next. taken_all setup next lines) ≡ None → Stopped setup read number (line ∷ lines) rest
+    by later None is h = record {
       count = 0;
       less = omega arith;
       mid = read;
@@ -130,8 +131,8 @@ stopped setup read number (line ∷ lines) rest e = by (taken setup read line) r
       gives = step setup read number line (lines ++ rest ∷ []) (some_parts lines rest) ∙ ap (λ (o : Option Reading). next_or_refused number o (λ n. read_parts setup n (number + 1) (lines ++ rest ∷ []))) is
         ∙ ap Err (omega arith);
     }
-    by (Some next) is h =
-        let s = stopped setup next (number + 1) lines rest h in
+    by later (Some next) is h =
+        let s = later next h in
         let more : suc s.count + 1 ≡ suc (s.count + 1) = omega arith in
         record {
           count = suc s.count;
