@@ -1,5 +1,6 @@
 -- Texts cut into words, and the numbers that words spell. A number may be spelled in more than one way here.
 use Rattle.std.specs.Prelude.{ℕ, ◌^◌, ◌&&◌, ◌==◌, nat_lt, List, [], ◌∷◌, ◌++◌, length, take, drop, codes, Option, Some, None, if◌then◌else◌}
+use Rattle.std.specs.Borrow.{Bor}
 use Rattle.std.specs.List.{list_all, before_first, after_first, slice_split}
 use Rattle.std.specs.Str.{bytes_eq}
 use Rattle.std.specs.Str.Parse.{digits_value}
@@ -29,6 +30,10 @@ natural_of text = if list_all is_digit text && nat_lt 0 (length text) then below
 -- the same, where it is below this limit
 abbrev pub natural_below : ℕ → List ℕ → Option ℕ
 natural_below limit text = natural_of text >>= below limit
+
+-- the text of a word
+abbrev pub word_text : Bor (List ℕ) → List ℕ
+word_text word = word.now
 
 -- the numbers that words spell, behind those found so far
 abbrev pub naturals_behind : List ℕ → List (List ℕ) → Option (List ℕ)

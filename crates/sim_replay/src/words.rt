@@ -3,7 +3,7 @@
 ghost use Rattle.std.specs.Prelude.{◌≡◌, ◌==◌, [], map, option_map, IfOk};
 ghost use Rattle.std.specs.List.{list_all, slice_split};
 ghost use Rattle.sim_base.specs.NumberText.{is_digit};
-ghost use Rattle.sim_replay.specs.Words.{behind as behind_front, first_word, other_words, natural_of, naturals_behind, ids_of as ids_of_text};
+ghost use Rattle.sim_replay.specs.Words.{behind as behind_front, first_word, other_words, natural_of, naturals_behind, word_text, ids_of as ids_of_text};
 
 use sim_base::{Ids, Items, OutOfMemory};
 use std::alloc::Global;
@@ -58,14 +58,14 @@ pub fn ids_of(alloc: Global, text: &str) -> Result<Option<Ids>, OutOfMemory>
 
 // What stands between the commas of a text.
 fn words_of(alloc: Global, text: &str) -> Result<Vec<&str>, OutOfMemory>
-    ensures { IfOk result (λ words. map (λ word. word.now) words.items ≡ slice_split (λ b. b == 44) text.now) }
+    ensures { IfOk result (λ words. map word_text words.items ≡ slice_split (λ b. b == 44) text.now) }
 {
     Ok(text.split(',').collect(alloc)?)
 }
 
 // The number that each word spells.
 fn naturals(alloc: Global, words: &[&str]) -> Result<Option<Ids>, OutOfMemory>
-    ensures { IfOk result (λ found. found ≡ naturals_behind [] (map (λ word. word.now) words.now)) }
+    ensures { IfOk result (λ found. found ≡ naturals_behind [] (map word_text words.now)) }
 {
     let mut found = Vec::new(alloc);
     let mut rest = words;
