@@ -1,38 +1,66 @@
-//! The system: the place, owner, health and vision of each entity, and beside them buckets of ids by place.
+//! The system: the place, owner, health and vision of each entity, and beside them buckets of ids by place, and whom each
+//! entity sees, where that is kept.
 
-ghost use Rattle.std.specs.Prelude.{◌≡◌, ◌<◌, None, [], length, IsSome};
+ghost use Rattle.std.specs.Prelude.{◌≡◌, ◌↔◌, ◌<◌, None, [], false, true, length, IsSome, IsTrue, IfOk, IfSome, OnErr, OnOk, MatchOption};
 ghost use Rattle.sim_range.specs.Buckets.{ArePlaced, in_bucket};
 ghost use Rattle.sim_range.specs.Bucketed.{AreBuckets};
+ghost use Rattle.sim_range.specs.Keeping.{AreKept};
 ghost use Rattle.sim_system.specs.declared.kind.Kind.TheVariants.{Range as RangeKind};
+ghost use Rattle.sim_system.specs.Notes.{fact_with};
+ghost use Rattle.sim_system.specs.Answers.{seen_among};
+ghost use Rattle.sim_system.specs.Meanings.{MayHear, built, cleared, counted, told};
+ghost use Rattle.sim_system.specs.Ranges.{AreInRange};
+ghost use Rattle.sim_base.specs.Limits.{IsLand};
 
 use crate::bucket::Bucket;
-use crate::buckets::{buckets_of, change, make_room};
+use crate::buckets::change;
+use crate::ready::{Sights, built_of, make_ready};
 use crate::seen::seen;
 use crate::within::within;
-use sim_base::{Land, OutOfMemory};
-use sim_fact_lists::{Kept, id_of, part_after};
+use sim_base::{Ids, Land, OutOfMemory};
+use sim_fact_lists::{Kept, id_of, part_after, place_of};
 use sim_system::{Answer, Ask, Fact, Kind, Note, System};
 use std::alloc::Global;
 
-/// Keeps place, owner, health and vision of each entity that has health or can attack, and who stands in which bucket.
+/// Keeps place, owner, health and vision of each entity that has health or can attack, and who stands in which bucket. One that
+/// was made to look keeps no more; any other also keeps whom each sees.
 #[derive(Drop)]
 pub struct Range {
     kept: Kept,
     buckets: Vec<Bucket>,
+    sights: Sights,
     ghost placed: { ArePlaced kept.facts.items },
     ghost bucketed: { AreBuckets kept.facts.items buckets.items },
     ghost whole: { IsSome kept.land → length buckets.items ≡ 256 },
     ghost bare: { kept.land ≡ None → kept.facts.items ≡ [] },
+    ghost seen: { IsTrue sights.keeps → AreKept kept.land kept.facts.items sights },
 }
 
 impl Range {
-    /// It has no land and no facts, and was never built. It keeps the allocator, and takes no memory yet.
+    ghost use Rattle.sim_range.specs.RangeWords.{keeps};
+
+    /// It has no land and no facts, and was never built. It keeps the allocator, and takes no memory yet. It keeps whom each
+    /// entity sees, and changes that at each note.
     pub fn new(alloc: Global) -> Range
-        ensures { ⟦<Range as System>⟧.meaning result ≡ record { kind = RangeKind; land = None; facts = []; rebuilds = 0 } }
+        ensures meaning { ⟦<Range as System>⟧.meaning result ≡ record { kind = RangeKind; land = None; facts = []; rebuilds = 0 } }
+        ensures keeps { keeps result ≡ true }
     {
         Range {
             kept: Kept::new(alloc),
             buckets: Vec::new(alloc),
+            sights: Sights::new(alloc, true),
+        }
+    }
+
+    /// The same, but it looks for those whom an entity sees at each question, and keeps none of them.
+    pub fn looking(alloc: Global) -> Range
+        ensures meaning { ⟦<Range as System>⟧.meaning result ≡ record { kind = RangeKind; land = None; facts = []; rebuilds = 0 } }
+        ensures keeps { keeps result ≡ false }
+    {
+        Range {
+            kept: Kept::new(alloc),
+            buckets: Vec::new(alloc),
+            sights: Sights::new(alloc, false),
         }
     }
 
@@ -48,25 +76,81 @@ impl Range {
             None => &[],
         }
     }
+
+    /// Lends the ids, ascending, of the enemies that an entity sees. There are none to lend, not even an empty list, of one
+    /// that cannot attack or is not kept, where it was not built, and where it looks at each question.
+    pub fn kept(&self, id: u32) -> Option<&[u32]>
+        ensures ids { let m = ⟦<Range as System>⟧.meaning self.now in
+            IfSome result (λ ids. MatchOption m.land ⊥ (λ land. ids.now ≡ seen_among land m.facts (fact_with m.facts id))) }
+        ensures when { let m = ⟦<Range as System>⟧.meaning self.now in
+            IsTrue (keeps self.now) → (IsSome result ↔ MatchOption (fact_with m.facts id) ⊥ (λ fact. IsSome fact.vision)) }
+        ensures looking { keeps self.now ≡ false → result ≡ None }
+    {
+        if !self.sights.keeps {
+            return None;
+        }
+        let Ok(at) = place_of(self.kept.facts.as_slice(), id) else {
+            return None;
+        };
+        if self.kept.facts[at].vision.is_none() {
+            return None;
+        }
+        Some(self.sights.all[at].ids.as_slice())
+    }
+
+    // Whom an entity sees: a list of what is lent of it, or looked for.
+    fn seen_by(&self, land: &Land, id: u32) -> Result<Ids, OutOfMemory>
+        requires land { self.now.kept.land ≡ Some land.now }
+        requires sees { MatchOption (fact_with self.now.kept.facts.items id) ⊥ (λ fact. IsSome fact.vision) }
+        ensures { IfOk result (λ ids. ids ≡ seen_among land.now self.now.kept.facts.items (fact_with self.now.kept.facts.items id)) }
+    {
+        let alloc = self.kept.alloc;
+        let facts = self.kept.facts.as_slice();
+        match self.kept(id) {
+            Some(ids) => Ok(Ids::from_items(Vec::from_slice(alloc, ids)?)),
+            None => seen(alloc, land, facts, self.buckets.as_slice(), id),
+        }
+    }
 }
 
 impl System for Range {
+    ghost use Rattle.sim_range.specs.RangeWords.{keeps};
+
     ghost meaning = { λ s. record { kind = RangeKind; land = s.kept.land; facts = s.kept.facts.items; rebuilds = s.kept.rebuilds } };
 
     fn kind(&self) -> Kind {
         Kind::Range
     }
 
-    fn clear(&mut self) {
+    fn clear(&mut self)
+        ensures meaning { ⟦<Range as System>⟧.meaning self.new ≡ cleared (⟦<Range as System>⟧.meaning self.old) }
+        ensures keeps { keeps self.new ≡ keeps self.old }
+    {
         self.kept.clear();
         self.buckets = Vec::new(self.kept.alloc);
+        self.sights = Sights::new(self.kept.alloc, self.sights.keeps);
     }
 
-    fn rebuild(&mut self, land: &Land, facts: &[Fact]) -> Result<(), OutOfMemory> {
+    fn rebuild(&mut self, land: &Land, facts: &[Fact]) -> Result<(), OutOfMemory>
+        requires land { IsLand land.now }
+        requires facts { AreInRange land.now facts.now }
+        ensures ok { OnOk result (⟦<Range as System>⟧.meaning self.new ≡ counted (built land.now facts.now (⟦<Range as System>⟧.meaning self.old))) }
+        ensures err { OnErr result (⟦<Range as System>⟧.meaning self.new ≡ counted (cleared (⟦<Range as System>⟧.meaning self.old))) }
+        ensures keeps { keeps self.new ≡ keeps self.old }
+    {
         self.buckets = Vec::new(self.kept.alloc);
+        self.sights = Sights::new(self.kept.alloc, self.sights.keeps);
         self.kept.rebuild(Kind::Range, land, facts)?;
-        match buckets_of(self.kept.alloc, self.kept.facts.as_slice()) {
-            Ok(buckets) => self.buckets = buckets,
+        match built_of(
+            self.kept.alloc,
+            self.sights.keeps,
+            land,
+            self.kept.facts.as_slice(),
+        ) {
+            Ok(built) => {
+                self.buckets = built.buckets;
+                self.sights = built.sights;
+            }
             Err(error) => {
                 self.kept.clear();
                 return Err(error);
@@ -75,11 +159,23 @@ impl System for Range {
         Ok(())
     }
 
-    fn on(&mut self, note: &Note) -> Result<(), OutOfMemory> {
+    fn on(&mut self, note: &Note) -> Result<(), OutOfMemory>
+        requires { MayHear (⟦<Range as System>⟧.meaning self.old) note.now }
+        ensures ok { OnOk result (⟦<Range as System>⟧.meaning self.new ≡ told (⟦<Range as System>⟧.meaning self.old) note.now) }
+        ensures err { OnErr result (⟦<Range as System>⟧.meaning self.new ≡ ⟦<Range as System>⟧.meaning self.old) }
+        ensures keeps { keeps self.new ≡ keeps self.old }
+    {
         let id = id_of(note);
         let before = self.kept.find(id);
         let after = part_after(Kind::Range, before, note);
-        make_room(&mut self.buckets, &after)?;
+        make_ready(
+            &mut self.kept,
+            &mut self.buckets,
+            &mut self.sights,
+            &before,
+            &after,
+        )?;
+        self.sights.take_up(&self.kept, id, &after);
         self.kept.on(Kind::Range, note)?;
         change(&mut self.buckets, id, &before, &after);
         Ok(())
@@ -101,7 +197,7 @@ impl System for Range {
                 )?,
             }),
             (Some(land), Ask::Seen { id }) => Ok(Answer::Many {
-                ids: seen(self.kept.alloc, land, facts, buckets, *id)?,
+                ids: self.seen_by(land, *id)?,
             }),
             _ => unreachable!(),
         }

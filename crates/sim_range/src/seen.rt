@@ -1,29 +1,51 @@
-//! Whom an entity sees.
+//! Whom an entity sees, looked for among the buckets: at a question, where the system is built, and where the entity itself has
+//! changed.
 
-ghost use Rattle.std.specs.Prelude.{◌≡◌, ◌==◌, not, IsSome, MatchOption, IfOk, filter, length};
+ghost use Rattle.std.specs.Prelude.{◌≡◌, IfOk, IsSome, MatchOption, length};
 ghost use Rattle.sim_system.specs.Notes.{fact_with};
 ghost use Rattle.sim_system.specs.Answers.{seen_among};
-ghost use Rattle.sim_fact_lists.specs.Places.{Holds};
+ghost use Rattle.sim_fact_lists.specs.Places.{IsHeld, Holds};
 ghost use Rattle.sim_range.specs.Buckets.{ArePlaced};
 ghost use Rattle.sim_range.specs.Bucketed.{AreBuckets};
+ghost use Rattle.sim_range.specs.Sights.{sight};
 
 use crate::bucket::Bucket;
+use crate::sight::Sight;
+use crate::watchers::mask_of;
 use crate::within::within;
 use sim_base::{Ids, Land, OutOfMemory};
 use sim_fact_lists::find;
 use sim_system::Fact;
 use std::alloc::Global;
 
-// Leaves out one of these ids.
-fn without(ids: Ids, id: u32) -> Ids
-    ensures { result ≡ filter (λ n. not (n == id)) ids }
+/// The enemies that an entity sees; none, where it cannot attack. It need not be one of these facts.
+pub fn sight_of(
+    alloc: Global,
+    land: &Land,
+    facts: &[Fact],
+    buckets: &[Bucket],
+    watcher: &Fact,
+) -> Result<Sight, OutOfMemory>
+    requires holds { Holds land.now facts.now }
+    requires placed { ArePlaced facts.now }
+    requires bucketed { AreBuckets facts.now buckets.now }
+    requires whole { length buckets.now ≡ 256 }
+    requires watcher { IsHeld land.now watcher.now }
+    ensures { IfOk result (λ own. own.ids.items ≡ sight land.now facts.now watcher.now) }
 {
-    let mut ids = ids.into_items();
-    ids.retain(|other| *other != id);
-    Ids::from_items(ids)
+    let Some(vision) = watcher.vision else {
+        return Ok(Sight::new(alloc));
+    };
+    let mask = mask_of(land, watcher);
+    let near = within(alloc, land, facts, buckets, &watcher.at, vision, mask)?;
+    let mut own = Sight {
+        ids: near.into_items(),
+    };
+    own.turn(watcher.id, false);
+    Ok(own)
 }
 
-/// The enemies that an entity sees.
+/// The enemies that one of these facts sees.
 pub fn seen(
     alloc: Global,
     land: &Land,
@@ -38,13 +60,9 @@ pub fn seen(
     requires sees { MatchOption (fact_with facts.now id) ⊥ (λ fact. IsSome fact.vision) }
     ensures { IfOk result (λ ids. ids ≡ seen_among land.now facts.now (fact_with facts.now id)) }
 {
-    let Some(viewer) = find(facts, id) else {
+    let Some(watcher) = find(facts, id) else {
         unreachable!()
     };
-    let Some(vision) = viewer.vision else {
-        unreachable!()
-    };
-    let mask = land.masks.as_slice()[usize::from(viewer.owner)];
-    let near = within(alloc, land, facts, buckets, &viewer.at, vision, mask)?;
-    Ok(without(near, viewer.id))
+    let own = sight_of(alloc, land, facts, buckets, &watcher)?;
+    Ok(Ids::from_items(own.ids))
 }

@@ -5,6 +5,3 @@ use Rattle.sim_range.proofs.range.RangeSystem.ask.Goals as goal
 
 pub within-requires-clause-holds : goal.within-requires-clause-holds
 within-requires-clause-holds c = subst (Holds c.in-Some-Within.land) (sym c.as_slice-facts.ensures.value) (c.args.self.now.kept.held c.in-Some-Within.land c.in-Some-Within.is-0)
-
-pub seen-requires-clause-holds : goal.seen-requires-clause-holds
-seen-requires-clause-holds c = subst (Holds c.in-Some-Seen.land) (sym c.as_slice-facts.ensures.value) (c.args.self.now.kept.held c.in-Some-Seen.land c.in-Some-Seen.is-0)

@@ -1,0 +1,89 @@
+-- What is lent of what an entity sees, and what the system keeps of it.
+use Rattle.std.proofs.Common.{◌≡◌, ℕ, ◌<◌, true, false, List, [], ◌∷◌, length, map, get_or, Option, Some, None, refl, sym, ap, ◌∙◌, subst, arith, not, All}
+use Rattle.std.specs.Prelude.{◌==◌, nat_lt, MatchOption, IfSome, IsSome, is_some}
+use Rattle.std.proofs.lemmas.Bool.{cond_both}
+use Rattle.std.proofs.lemmas.List.Elements.{All-cons, All-head, All-tail, All-filter}
+use Rattle.sim_base.specs.declared.setup.Land.{Land}
+use Rattle.sim_system.specs.declared.fact.Fact.{Fact}
+use Rattle.sim_system.specs.Notes.{fact_with, without, placed}
+use Rattle.sim_system.specs.Answers.{seen_among}
+use Rattle.sim_fact_lists.specs.Places.{Ascend, Stands, Belongs, HoldsIfAny, with_only}
+use Rattle.sim_fact_lists.proofs.Rising.{rising, found_all}
+use Rattle.sim_fact_lists.proofs.Standing.{found_there, found_read, not_there}
+use Rattle.sim_range.specs.declared.sight.Sight.{Sight}
+use Rattle.sim_range.specs.Sights.{sight, ids_of, ids_at, AreSightsIfAny}
+use Rattle.sim_range.proofs.Watching.{read_map, map_by, long_as}
+
+pub same_sights : (land later : Option Land) (facts after : List Fact) (old new : List Sight) → later ≡ land → after ≡ facts → length new ≡ length old → ((k : ℕ) (d : Sight) → ids_at new k d ≡ ids_at old k d) → AreSightsIfAny land facts old → AreSightsIfAny later after new
+same_sights land later facts after old new same is along each seen l here =
+    let known = seen l (sym same ∙ here) in
+    let step = map_by ids_of ids_of new old along (λ i d e lt. each i d ∙ read_map ids_of ids_of old old i d e refl lt) in
+    step ∙ known ∙ ap (λ (fs : List Fact). map (sight l fs) fs) (sym is)
+
+module _ (land : Option Land) (facts : List Fact) (sights : List Sight) (held : HoldsIfAny land facts) (bare : land ≡ None → facts ≡ []) (seen : AreSightsIfAny land facts sights) where
+  pub ascend_any : Ascend facts
+  ascend_any = by land refl
+    where
+      by : (o : Option Land) → land ≡ o → Ascend facts
+      by None e = subst Ascend (sym (bare e)) (λ k lt. absurd (omega arith))
+      by (Some l) e = (held l e).held.ascending
+
+  pub within_any : (at : ℕ) → at < length facts → at < length sights
+  within_any at lt = by land refl
+    where
+      by : (o : Option Land) → land ≡ o → at < length sights
+      by None e = absurd (omega (arith, ap (λ (fs : List Fact). length fs) (bare e)))
+      by (Some l) e = omega (arith, long_as ids_of (sight l facts) sights facts (seen l e))
+
+  pub lent_sight : (id at : ℕ) (f : Fact) (s : Sight) (ids : List ℕ) → Stands facts id at → s ≡ get_or sights at s → ids ≡ s.ids.items → MatchOption land ⊥ (λ (l : Land). ids ≡ seen_among l facts (fact_with facts id))
+  lent_sight id at f s ids there is given = by land refl
+    where
+      by : (o : Option Land) → land ≡ o → MatchOption o ⊥ (λ (l : Land). ids ≡ seen_among l facts (fact_with facts id))
+      by None e = absurd (omega (arith, there.within, ap (λ (fs : List Fact). length fs) (bare e)))
+      by (Some l) e =
+          given ∙ ap ids_of is ∙ read_map ids_of (sight l facts) sights facts at s f (seen l e) there.within
+          ∙ ap (seen_among l facts) (sym (found_there facts id at f (rising facts (held l e).held.ascending) there))
+
+-- there is something to lend
+abbrev pub Sees : Option Fact → Type 0
+Sees o = MatchOption o ⊥ (λ (f : Fact). IsSome f.vision)
+
+module _ (lent facts : List Fact) (id at : ℕ) (same : lent ≡ facts) where
+  pub none_there : Belongs lent id at → (false ≡ true → Sees (fact_with facts id)) × (Sees (fact_with facts id) → false ≡ true)
+  none_there b =
+      let missing = not_there facts id at (subst (λ (fs : List Fact). Belongs fs id at) same b) in
+      ((λ e. absurd (cc)), (λ m. absurd (subst Sees (sym missing) m)))
+
+  module _ (f : Fact) (up : Ascend facts) (s : Stands lent id at) (is : f ≡ get_or facts at f) where
+    kept_there : Some f ≡ fact_with facts id
+    kept_there = found_read facts id at f up (subst (λ (fs : List Fact). Stands fs id at) same s) is
+
+    pub blind_there : is_some f.vision ≡ false → (false ≡ true → Sees (fact_with facts id)) × (Sees (fact_with facts id) → false ≡ true)
+    blind_there none = ((λ e. absurd (cc)), (λ m. let has : IsSome f.vision = subst Sees (sym kept_there) m in absurd (cc)))
+
+    pub sees_there : is_some f.vision ≡ true → (true ≡ true → Sees (fact_with facts id)) × (Sees (fact_with facts id) → true ≡ true)
+    sees_there has = ((λ e. subst Sees kept_there has), (λ m. refl))
+
+-- ---- what holds of all facts, also after a note
+
+pub found_for : (facts : List Fact) (id : ℕ) (before after : Option Fact) → before ≡ fact_with facts id → IfSome after (λ (f : Fact). f.id ≡ id) → IfSome after (λ (f : Fact). before ≡ fact_with facts f.id)
+found_for facts id before None found named = tt
+found_for facts id before (Some f) found named = found ∙ ap (fact_with facts) (sym named)
+
+module _ (P : Fact → Type 0) where
+  pub found_is : (facts : List Fact) (id : ℕ) (o : Option Fact) → All P facts → o ≡ fact_with facts id → IfSome o P
+  found_is facts id None all found = tt
+  found_is facts id (Some f) all found = found_all P id facts f all (sym found)
+
+  all_without : (id : ℕ) (facts : List Fact) → All P facts → All P (without id facts)
+  all_without id facts all = All-filter (λ (f : Fact). not (f.id == id)) P facts all
+
+  all_placed : (f : Fact) (facts : List Fact) → P f → All P facts → All P (placed f facts)
+  all_placed f [] h all = All-cons P f [] h all
+  all_placed f (g ∷ facts) h all =
+      cond_both (nat_lt f.id g.id) (f ∷ g ∷ facts) (g ∷ placed f facts) (All P) (λ less. All-cons P f (g ∷ facts) h all)
+      (λ more. All-cons P g (placed f facts) (All-head P g facts all) (all_placed f facts h (All-tail P g facts all)))
+
+  pub all_only : (id : ℕ) (part : Option Fact) (facts : List Fact) → All P facts → IfSome part P → All P (with_only id part facts)
+  all_only id None facts all h = all_without id facts all
+  all_only id (Some f) facts all h = all_placed f (without id facts) h (all_without id facts all)

@@ -1,0 +1,7 @@
+-- The facts are held on the land.
+use Rattle.std.proofs.Common.{sym, subst}
+use Rattle.sim_fact_lists.specs.Places.{Holds}
+use Rattle.sim_range.proofs.range.Range.seen_by.Goals as goal
+
+pub seen-requires-clause-holds : goal.seen-requires-clause-holds
+seen-requires-clause-holds c = subst (Holds c.args.land.now) (sym c.as_slice-facts.ensures.value) (c.args.self.now.kept.held c.args.land.now c.requires.land)

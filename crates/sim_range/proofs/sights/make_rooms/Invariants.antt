@@ -1,0 +1,11 @@
+use Rattle.std.proofs.Common.{◌≡◌, ℕ, length, take}
+use Rattle.sim_range.specs.declared.sight.Sight.{Sight}
+use Rattle.sim_range.specs.Sights.{ids_at, HaveRooms}
+use Rattle.sim_range.proofs.sights.make_rooms.Given as goal
+
+abbrev pub invariant-loop-watcher : goal.invariant-loop-watcher
+invariant-loop-watcher l = record {
+  along : length l.sights.items ≡ length l.initial.sights.items;
+  same : (k : ℕ) (d : Sight) → ids_at l.sights.items k d ≡ ids_at l.initial.sights.items k d;
+  room : HaveRooms l.facts (take l.watcher-index l.watchers) l.sights.items;
+}

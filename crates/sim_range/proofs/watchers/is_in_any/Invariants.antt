@@ -1,0 +1,6 @@
+use Rattle.std.proofs.Common.{◌≡◌, ℕ, ◌<◌, false, slice_index}
+use Rattle.sim_base.specs.Rows.{in_mask}
+use Rattle.sim_range.proofs.watchers.is_in_any.Given as goal
+
+abbrev pub invariant-loop-mask : goal.invariant-loop-mask
+invariant-loop-mask l = (k : ℕ) → k < l.mask-index → in_mask (slice_index l.masks k) l.owner ≡ false

@@ -1,0 +1,7 @@
+-- What a range is to its callers beside its meaning.
+use Rattle.std.specs.Prelude.{Bool}
+use Rattle.sim_range.specs.declared.range.Range.{Range}
+
+-- whether it keeps whom each entity sees
+abbrev pub keeps : Range → Bool
+keeps range = range.sights.keeps

@@ -1,0 +1,174 @@
+//! What a note changes of what is seen: found in the buckets about the place where the entity stood and about that where it
+//! stands, before anything is changed.
+
+ghost use Rattle.std.specs.Prelude.{◌≡◌, ◌<◌, ◌%◌, ◌⊎◌, ◌++◌, false, Some, OnOk, IfSome, All, length};
+ghost use Rattle.sim_base.specs.Places.{IsPlaced};
+ghost use Rattle.sim_base.specs.Limits.{IsLand};
+ghost use Rattle.sim_system.specs.Notes.{fact_with};
+ghost use Rattle.sim_fact_lists.specs.Places.{Holds, IsHeld};
+ghost use Rattle.sim_range.specs.Buckets.{ArePlaced};
+ghost use Rattle.sim_range.specs.Bucketed.{AreBuckets};
+ghost use Rattle.sim_range.specs.Areas.{IsIn, IsInner};
+ghost use Rattle.sim_range.specs.Sights.{AreChanging, AreInView, AreSights, SeesFrom, SeesWithin, sight, turned_watchers, turned_seen, view};
+
+use crate::area::{Span, area_of};
+use crate::bucket::Bucket;
+use crate::inner::is_inner;
+use crate::sight::Sight;
+use crate::visions::Visions;
+use crate::watchers::{has_foes, is_seen, is_seen_by, sees};
+use sim_base::{Land, OutOfMemory};
+use sim_fact_lists::place_of;
+use sim_system::Fact;
+use std::alloc::Global;
+
+/// Those who begin to see an entity or see it no more, those whom it begins to see or sees no more, and what it will see. It
+/// keeps its room from note to note.
+#[derive(Drop)]
+pub struct Plan {
+    pub watchers: Vec<u32>,
+    pub seen: Vec<u32>,
+    pub own: Sight,
+}
+
+impl Plan {
+    /// Nothing changes. It takes no memory yet.
+    pub fn new(alloc: Global) -> Plan {
+        Plan {
+            watchers: Vec::new(alloc),
+            seen: Vec::new(alloc),
+            own: Sight::new(alloc),
+        }
+    }
+
+    // Adds those of these facts.
+    fn push(
+        &mut self,
+        land: &Land,
+        facts: &[Fact],
+        before: &Option<Fact>,
+        after: &Option<Fact>,
+    ) -> Result<(), OutOfMemory>
+        requires limits { IsLand land.now }
+        requires held { All (IsHeld land.now) facts.now }
+        requires before { IfSome before.now (IsHeld land.now) }
+        requires after { IfSome after.now (IsHeld land.now) }
+        ensures watchers { OnOk result (self.new.watchers.items ≡ self.old.watchers.items ++ turned_watchers land.now before.now after.now facts.now) }
+        ensures seen { OnOk result (self.new.seen.items ≡ self.old.seen.items ++ turned_seen land.now before.now after.now facts.now) }
+    {
+        for fact in facts {
+            if is_seen(land, fact, before) != is_seen(land, fact, after) {
+                self.watchers.push(fact.id)?;
+            }
+            if sees(land, before, fact) != sees(land, after, fact) {
+                self.seen.push(fact.id)?;
+            }
+        }
+        Ok(())
+    }
+
+    /// Finds them.
+    pub fn find(
+        &mut self,
+        land: &Land,
+        facts: &[Fact],
+        buckets: &[Bucket],
+        visions: &Visions,
+        before: &Option<Fact>,
+        after: &Option<Fact>,
+    ) -> Result<(), OutOfMemory>
+        requires holds { Holds land.now facts.now }
+        requires placed { ArePlaced facts.now }
+        requires bucketed { AreBuckets facts.now buckets.now }
+        requires whole { length buckets.now ≡ 256 }
+        requires near { All (SeesFrom visions.now.near) facts.now }
+        requires far { All (SeesWithin visions.now.far) facts.now }
+        requires before { IfSome before.now (IsHeld land.now) }
+        requires after { IfSome after.now (IsHeld land.now) }
+        requires before_at { IfSome before.now (λ fact. IsPlaced fact.at) }
+        requires after_at { IfSome after.now (λ fact. IsPlaced fact.at) }
+        requires before_near { IfSome before.now (SeesFrom visions.now.near) }
+        requires before_far { IfSome before.now (SeesWithin visions.now.far) }
+        requires after_far { IfSome after.now (SeesWithin visions.now.far) }
+        ensures watchers { OnOk result (AreChanging land.now facts.now before.now after.now self.new.watchers.items) }
+        ensures seen { OnOk result (AreInView land.now facts.now before.now after.now self.new.seen.items) }
+    {
+        self.watchers.clear();
+        self.seen.clear();
+        if !has_foes(land, before) && !has_foes(land, after) {
+            return Ok(());
+        }
+        let area = area_of(before, after, visions.far);
+        for number in area.rows.first * 16..area.rows.end * 16 {
+            if is_concerned(number, &area.columns, before, after, visions.near) {
+                self.push(land, buckets[number].facts.as_slice(), before, after)?;
+            }
+        }
+        Ok(())
+    }
+
+    /// Finds what an entity will see, if it is kept, after the rest was found.
+    pub fn find_own(
+        &mut self,
+        land: &Land,
+        facts: &[Fact],
+        sights: &[Sight],
+        after: &Option<Fact>,
+    ) -> Result<(), OutOfMemory>
+        requires holds { Holds land.now facts.now }
+        requires sights { AreSights land.now facts.now sights.now }
+        requires after { IfSome after.now (IsHeld land.now) }
+        requires seen { IfSome after.now (λ fact. AreInView land.now facts.now (fact_with facts.now fact.id) (Some fact) self.old.seen.items) }
+        ensures watchers { self.new.watchers.items ≡ self.old.watchers.items }
+        ensures own { OnOk result (IfSome after.now (λ fact. self.new.own.ids.items ≡ sight land.now facts.now fact)) }
+    {
+        let Some(watcher) = after else {
+            return Ok(());
+        };
+        self.own.ids.clear();
+        if let Ok(at) = place_of(facts, watcher.id) {
+            self.own.copy_from(&sights[at])?;
+        }
+        turn_own(&mut self.own, land, facts, self.seen.as_slice(), watcher)
+    }
+}
+
+// Whether a note may change what is seen from a bucket, or who is seen in it: its column is one of these, and it is not so near
+// to both ends of a move that all see from it what they saw.
+fn is_concerned(
+    number: usize,
+    columns: &Span,
+    before: &Option<Fact>,
+    after: &Option<Fact>,
+    near: u32,
+) -> bool
+    requires number { number < 256 }
+    requires before { IfSome before.now (λ fact. IsPlaced fact.at) }
+    requires after { IfSome after.now (λ fact. IsPlaced fact.at) }
+    ensures { result ≡ false → (IsIn columns.now (number % 16) → ⊥) ⊎ IsInner number near before.now after.now }
+{
+    columns.has(number % 16) && !is_inner(number, before, after, near)
+}
+
+// Changes what an entity saw before into what it sees as this watcher, where it begins to see these or sees them no more.
+fn turn_own(
+    own: &mut Sight,
+    land: &Land,
+    facts: &[Fact],
+    seen: &[u32],
+    watcher: &Fact,
+) -> Result<(), OutOfMemory>
+    requires holds { Holds land.now facts.now }
+    requires watcher { IsHeld land.now watcher.now }
+    requires own { own.old.ids.items ≡ view land.now facts.now (fact_with facts.now watcher.now.id) }
+    requires seen { AreInView land.now facts.now (fact_with facts.now watcher.now.id) (Some watcher.now) seen.now }
+    ensures { OnOk result (own.new.ids.items ≡ sight land.now facts.now watcher.now) }
+{
+    for id in seen {
+        if let Ok(at) = place_of(facts, *id) {
+            own.make_room()?;
+            own.turn(*id, is_seen_by(land, watcher, &facts[at]));
+        }
+    }
+    Ok(())
+}

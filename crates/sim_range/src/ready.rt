@@ -1,0 +1,205 @@
+//! A note in two steps: all that may want memory is made ready, and then it is taken up without any. So a note for which no
+//! memory is found leaves all as it was.
+
+ghost use Rattle.std.specs.Prelude.{◌≡◌, ◌<◌, ℕ, Some, IfOk, OnOk, IfSome, IsSome, IsTrue, length, vec_len, vec_capacity};
+ghost use Rattle.sim_base.specs.Places.{IsPlaced};
+ghost use Rattle.sim_system.specs.Notes.{fact_with};
+ghost use Rattle.sim_fact_lists.specs.Places.{Holds, IsHeld, with_only};
+ghost use Rattle.sim_range.specs.Buckets.{ArePlaced};
+ghost use Rattle.sim_range.specs.Bucketed.{AreBuckets, HaveRoom, facts_at};
+ghost use Rattle.sim_range.specs.Keeping.{AreKept, AreReady};
+ghost use Rattle.sim_range.specs.Sights.{SeesFrom, SeesWithin};
+
+use crate::bucket::Bucket;
+use crate::buckets::{buckets_of, make_room};
+use crate::plan::Plan;
+use crate::sight::Sight;
+use crate::sights::{make_rooms, put, sights_of, turn_all};
+use crate::visions::{Visions, visions_of};
+use sim_base::{Land, OutOfMemory};
+use sim_fact_lists::Kept;
+use sim_system::Fact;
+use std::alloc::Global;
+
+/// What all see, how far they do, and what the note that is taken up changes of it; nothing, unless it is kept.
+#[derive(Drop)]
+pub struct Sights {
+    pub keeps: bool,
+    pub all: Vec<Sight>,
+    pub visions: Visions,
+    pub plan: Plan,
+}
+
+impl Sights {
+    /// Nobody sees. It takes no memory yet.
+    pub fn new(alloc: Global, keeps: bool) -> Sights
+        ensures { result.keeps ≡ keeps }
+    {
+        Sights {
+            keeps,
+            all: Vec::new(alloc),
+            visions: Visions::new(),
+            plan: Plan::new(alloc),
+        }
+    }
+
+    // Makes room for what a note changes of what is seen, and finds it.
+    fn make_ready(
+        &mut self,
+        kept: &Kept,
+        buckets: &[Bucket],
+        before: &Option<Fact>,
+        after: &Option<Fact>,
+    ) -> Result<(), OutOfMemory>
+        requires built { IsSome kept.now.land }
+        requires placed { ArePlaced kept.now.facts.items }
+        requires bucketed { AreBuckets kept.now.facts.items buckets.now }
+        requires whole { length buckets.now ≡ 256 }
+        requires kept { IsTrue self.old.keeps → AreKept kept.now.land kept.now.facts.items self.old }
+        requires found { IfSome after.now (λ fact. before.now ≡ fact_with kept.now.facts.items fact.id) }
+        requires before { (l : Land) → kept.now.land ≡ Some l → IfSome before.now (IsHeld l) }
+        requires before_near { IsTrue self.old.keeps → IfSome before.now (SeesFrom self.old.visions.near) }
+        requires before_far { IsTrue self.old.keeps → IfSome before.now (SeesWithin self.old.visions.far) }
+        requires after { (l : Land) → kept.now.land ≡ Some l → IfSome after.now (IsHeld l) }
+        requires from_ground { IfSome before.now (λ fact. IsPlaced fact.at) }
+        requires on_ground { IfSome after.now (λ fact. IsPlaced fact.at) }
+        ensures keeps { self.new.keeps ≡ self.old.keeps }
+        ensures kept { IsTrue self.old.keeps → AreKept kept.now.land kept.now.facts.items self.new }
+        ensures ready { OnOk result (IsTrue self.old.keeps → AreReady kept.now.land kept.now.facts.items before.now after.now self.new) }
+    {
+        if !self.keeps {
+            return Ok(());
+        }
+        let Some(land) = &kept.land else {
+            unreachable!()
+        };
+        let facts = kept.facts.as_slice();
+        self.visions = self.visions.widened(after);
+        let plan = &mut self.plan;
+        plan.find(land, facts, buckets, &self.visions, before, after)?;
+        plan.find_own(land, facts, self.all.as_slice(), after)?;
+        make_rooms(&mut self.all, facts, self.plan.watchers.as_slice())?;
+        self.all.reserve(1)?;
+        Ok(())
+    }
+
+    /// Changes what all see as what is kept of an entity has changed, for which all was made ready.
+    pub fn take_up(&mut self, kept: &Kept, id: u32, after: &Option<Fact>)
+        requires built { IsSome kept.now.land }
+        requires named { IfSome after.now (λ fact. fact.id ≡ id) }
+        requires after { (l : Land) → kept.now.land ≡ Some l → IfSome after.now (IsHeld l) }
+        requires kept { IsTrue self.old.keeps → AreKept kept.now.land kept.now.facts.items self.old }
+        requires ready { IsTrue self.old.keeps → AreReady kept.now.land kept.now.facts.items (fact_with kept.now.facts.items id) after.now self.old }
+        ensures keeps { self.new.keeps ≡ self.old.keeps }
+        ensures kept { IsTrue self.old.keeps → AreKept kept.now.land (with_only id after.now kept.now.facts.items) self.new }
+    {
+        if !self.keeps {
+            return;
+        }
+        let Some(land) = &kept.land else {
+            unreachable!()
+        };
+        let facts = kept.facts.as_slice();
+        turn_all(
+            &mut self.all,
+            land,
+            facts,
+            self.plan.watchers.as_slice(),
+            id,
+            after,
+        );
+        put(&mut self.all, land, facts, id, after, &mut self.plan.own);
+    }
+}
+
+// What all of these facts see, if it is kept.
+fn sights_for(
+    alloc: Global,
+    keeps: bool,
+    land: &Land,
+    facts: &[Fact],
+    buckets: &[Bucket],
+) -> Result<Sights, OutOfMemory>
+    requires holds { Holds land.now facts.now }
+    requires placed { ArePlaced facts.now }
+    requires bucketed { AreBuckets facts.now buckets.now }
+    requires whole { length buckets.now ≡ 256 }
+    ensures keeps { IfOk result (λ sights. sights.keeps ≡ keeps) }
+    ensures kept { IfOk result (λ sights. IsTrue keeps → AreKept (Some land.now) facts.now sights) }
+{
+    if !keeps {
+        return Ok(Sights::new(alloc, keeps));
+    }
+    let all = sights_of(alloc, land, facts, buckets)?;
+    let visions = visions_of(facts);
+    let plan = Plan::new(alloc);
+    Ok(Sights {
+        keeps,
+        all,
+        visions,
+        plan,
+    })
+}
+
+/// The buckets and the sights of facts.
+#[derive(Drop)]
+pub struct Built {
+    pub buckets: Vec<Bucket>,
+    pub sights: Sights,
+}
+
+/// Those of these facts: the sights, if they are kept.
+pub fn built_of(
+    alloc: Global,
+    keeps: bool,
+    land: &Land,
+    facts: &[Fact],
+) -> Result<Built, OutOfMemory>
+    requires holds { Holds land.now facts.now }
+    requires placed { ArePlaced facts.now }
+    ensures whole { IfOk result (λ built. length built.buckets.items ≡ 256) }
+    ensures buckets { IfOk result (λ built. AreBuckets facts.now built.buckets.items) }
+    ensures keeps { IfOk result (λ built. built.sights.keeps ≡ keeps) }
+    ensures kept { IfOk result (λ built. IsTrue keeps → AreKept (Some land.now) facts.now built.sights) }
+{
+    let buckets = buckets_of(alloc, facts)?;
+    let sights = sights_for(alloc, keeps, land, facts, buckets.as_slice())?;
+    Ok(Built { buckets, sights })
+}
+
+/// Makes all room that is wanted where what is kept of an entity changes, and finds what that changes of what is seen.
+pub fn make_ready(
+    kept: &mut Kept,
+    buckets: &mut Vec<Bucket>,
+    sights: &mut Sights,
+    before: &Option<Fact>,
+    after: &Option<Fact>,
+) -> Result<(), OutOfMemory>
+    requires built { IsSome kept.old.land }
+    requires placed { ArePlaced kept.old.facts.items }
+    requires bucketed { AreBuckets kept.old.facts.items buckets.old.items }
+    requires whole { length buckets.old.items ≡ 256 }
+    requires kept { IsTrue sights.old.keeps → AreKept kept.old.land kept.old.facts.items sights.old }
+    requires found { IfSome after.now (λ fact. before.now ≡ fact_with kept.old.facts.items fact.id) }
+    requires before { (l : Land) → kept.old.land ≡ Some l → IfSome before.now (IsHeld l) }
+    requires before_near { IsTrue sights.old.keeps → IfSome before.now (SeesFrom sights.old.visions.near) }
+    requires before_far { IsTrue sights.old.keeps → IfSome before.now (SeesWithin sights.old.visions.far) }
+    requires after { (l : Land) → kept.old.land ≡ Some l → IfSome after.now (IsHeld l) }
+    requires from_ground { IfSome before.now (λ fact. IsPlaced fact.at) }
+    requires on_ground { IfSome after.now (λ fact. IsPlaced fact.at) }
+    ensures land { kept.new.land ≡ kept.old.land }
+    ensures facts { kept.new.facts.items ≡ kept.old.facts.items }
+    ensures rebuilds { kept.new.rebuilds ≡ kept.old.rebuilds }
+    ensures whole { length buckets.new.items ≡ 256 }
+    ensures buckets { (k : ℕ) (d : Bucket) → k < 256 → facts_at buckets.new.items k d ≡ facts_at buckets.old.items k d }
+    ensures keeps { sights.new.keeps ≡ sights.old.keeps }
+    ensures kept { IsTrue sights.old.keeps → AreKept kept.old.land kept.old.facts.items sights.new }
+    ensures ready { OnOk result (IsTrue sights.old.keeps → AreReady kept.old.land kept.old.facts.items before.now after.now sights.new) }
+    ensures facts_room { OnOk result (vec_len kept.new.facts < vec_capacity kept.new.facts) }
+    ensures buckets_room { OnOk result (HaveRoom after.now buckets.new.items) }
+{
+    sights.make_ready(kept, buckets.as_slice(), before, after)?;
+    make_room(buckets, after)?;
+    kept.make_room()?;
+    Ok(())
+}

@@ -1,7 +1,0 @@
--- No point of a bucket is further away than its furthest corner.
-use Rattle.std.proofs.Common.{arith}
-use Rattle.sim_sight.proofs.Between.{close_by}
-use Rattle.sim_sight.proofs.inner.is_close.Goals as goal
-
-pub returns : goal.returns
-returns c is = close_by c.args.number c.args.near _ c.args.at.now c.far_end.ensures.far c.far_end-2.ensures.far (grind arith)

@@ -1,6 +1,0 @@
-use Rattle.std.proofs.Common.{◌≡◌, map, take}
-use Rattle.sim_sight.specs.Sights.{ids_of, sight}
-use Rattle.sim_sight.proofs.sights.sights_of.Given as goal
-
-abbrev pub invariant-loop-fact : goal.invariant-loop-fact
-invariant-loop-fact l = map ids_of l.all.items ≡ map (sight l.land l.facts) (take l.fact-index l.facts)
