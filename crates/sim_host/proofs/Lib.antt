@@ -4,3 +4,4 @@ pub mod Coming
 pub mod Telling
 pub mod Loads
 pub mod Builds
+pub mod Stopping

@@ -1,5 +1,5 @@
 -- A step behind other steps.
-use Rattle.std.proofs.Common.{◌≡◌, ℕ, ◌+◌, ◌<◌, ◌≤◌, List, [], ◌∷◌, ◌++◌, length, take, get_or, sym, ap, ◌∙◌, subst, append-nil, append_assoc, arith}
+use Rattle.std.proofs.Common.{◌≡◌, ℕ, zero, suc, ◌+◌, ◌<◌, ◌≤◌, List, [], ◌∷◌, ◌++◌, length, take, get_or, sym, ap, ◌∙◌, subst, append-nil, append_assoc, arith}
 use Rattle.std.proofs.lemmas.Grind.{flat_map-append}
 use Rattle.std.proofs.lemmas.List.{take_more}
 use Rattle.std.proofs.lemmas.List.Sums.{sum_by-append}
@@ -54,3 +54,17 @@ loads_more setup active n steps x c lt is =
 -- those behind other events are no more than all
 pub loads_behind : (c : ℕ) (xs ys : List Event) → loads_in ys c ≤ loads_in (xs ++ ys) c
 loads_behind c xs ys = omega (arith, sum_by-append (λ e. cond (is_load_of c e) 1 0) xs ys)
+
+-- those of some steps are no more than those of all
+loads_grow : (setup : Setup) (s : Session) (n : ℕ) (steps : List Step) (c : ℕ) → loads_in (events_after setup s (take n steps)) c ≤ loads_in (events_after setup s steps) c
+loads_grow setup s zero steps c = omega arith
+loads_grow setup s (suc n) [] c = omega arith
+loads_grow setup s (suc n) (x ∷ xs) c =
+    let next : Session = stepped setup s x in
+    let some = sum_by-append (λ e. cond (is_load_of c e) 1 0) (events setup s x) (events_after setup next (take n xs)) in
+    let all = sum_by-append (λ e. cond (is_load_of c e) 1 0) (events setup s x) (events_after setup next xs) in
+    omega (arith, some, all, loads_grow setup next n xs c)
+
+pub loads_within : (setup : Setup) (active n : ℕ) (steps : List Step) (x : Step) (c : ℕ) → n < length steps → x ≡ get_or steps n x
+    → loads_in (events_after setup (opened setup active) (take n steps)) c + loads_in (events setup (session setup active (take n steps)) x) c ≤ loads_in (events_after setup (opened setup active) steps) c
+loads_within setup active n steps x c lt is = omega (arith, loads_more setup active n steps x c lt is, loads_grow setup (opened setup active) (n + 1) steps c)

@@ -66,7 +66,7 @@ fn push_steps(
     requires opened { StandsFor (setup_in session.old) (seen_in session.old) (opened (setup_in session.old) list.now.clients) }
     ensures stands { OnOk result (StandsFor (setup_in session.old) (seen_in session.new) (session_of (setup_in session.old) list.now)) }
     ensures text { OnOk result (string_bytes text.new ≡ string_bytes text.old ++ lines_of (events_after (setup_in session.old) (opened (setup_in session.old) list.now.clients) list.now.steps)) }
-    ensures built { OnOk result (AllBuiltAtMost (loads_in (events_after (setup_in session.old) (opened (setup_in session.old) list.now.clients) list.now.steps)) (setup_in session.old).players (systems_in session.old ⟦<dyn System as System>⟧) (systems_in session.new ⟦<dyn System as System>⟧)) }
+    ensures built { AllBuiltAtMost (loads_in (events_after (setup_in session.old) (opened (setup_in session.old) list.now.clients) list.now.steps)) (setup_in session.old).players (systems_in session.old ⟦<dyn System as System>⟧) (systems_in session.new ⟦<dyn System as System>⟧) }
     ensures session { OnOk result (IsSession session.new ⟦<dyn System as System>⟧) }
     ensures finish { MayFinish session.new ⟦<dyn System as System>⟧ }
     ensures setup { setup_in session.new ≡ setup_in session.old }
@@ -92,7 +92,7 @@ fn push_session(
     requires opened { StandsFor (setup_in session.old) (seen_in session.old) (opened (setup_in session.old) 0) }
     ensures stands { OnOk result (StandsFor (setup_in session.old) (seen_in session.new) (session_of (setup_in session.old) list.now)) }
     ensures text { OnOk result (string_bytes text.new ≡ string_bytes text.old ++ text_of_session (setup_in session.old) list.now) }
-    ensures built { OnOk result (AllBuiltAtMost (builds_of (setup_in session.old) list.now) (setup_in session.old).players (systems_in session.old ⟦<dyn System as System>⟧) (systems_in session.new ⟦<dyn System as System>⟧)) }
+    ensures built { AllBuiltAtMost (builds_of (setup_in session.old) list.now) (setup_in session.old).players (systems_in session.old ⟦<dyn System as System>⟧) (systems_in session.new ⟦<dyn System as System>⟧) }
     ensures session { OnOk result (IsSession session.new ⟦<dyn System as System>⟧) }
     ensures finish { MayFinish session.new ⟦<dyn System as System>⟧ }
     ensures setup { setup_in session.new ≡ setup_in session.old }
@@ -106,9 +106,10 @@ fn push_session(
     push_ending(session.setup(), session.clients(), session.exchange(), text)
 }
 
-/// What is printed of a session over a list of steps, in which client c has the c-th of eight cleared rigs. All rigs come back.
-/// Where there was memory, the systems of each client that is on in the end stand for its state, and those of each other one
-/// have forgotten all; they were built at most once for its start and once for each state that it loaded.
+/// What is printed of a session over a list of steps, in which client c has the c-th of eight cleared rigs. All rigs come back
+/// in their order, whether there was memory or not: those of a client were built at most once for its start and once for each
+/// state that it loads in these steps, and those without a client are as they came. Where there was memory, the systems of
+/// each client that is on in the end stand for its state, and those of each other one have forgotten all.
 pub fn session_text(
     alloc: Global,
     setup: &Setup,
@@ -123,7 +124,7 @@ pub fn session_text(
     requires cleared { All AreCleared (rigs_of rigs.items ⟦<dyn System as System>⟧) }
     ensures text { IfOk result.0 (λ text. string_bytes text ≡ text_of_session setup.now list.now) }
     ensures stand { OnOk result.0 (AllStand setup.now (session_of setup.now list.now) (rigs_of result.1.items ⟦<dyn System as System>⟧)) }
-    ensures built { OnOk result.0 (AllBuiltAtMost (builds_of setup.now list.now) setup.now.players (rigs_of rigs.items ⟦<dyn System as System>⟧) (rigs_of result.1.items ⟦<dyn System as System>⟧)) }
+    ensures built { AllBuiltAtMost (builds_of setup.now list.now) setup.now.players (rigs_of rigs.items ⟦<dyn System as System>⟧) (rigs_of result.1.items ⟦<dyn System as System>⟧) }
     ensures kinds { All HaveKinds (rigs_of result.1.items ⟦<dyn System as System>⟧) }
     ensures spare { drop setup.now.players result.1.items ≡ drop setup.now.players rigs.items }
     ensures eight { length result.1.items ≡ 8 }

@@ -27,16 +27,16 @@ bend = Bend 2 (pos 65536) ∷ []
 abbrev pub begin : List ℕ
 begin = digest guarded (after guarded [])
 
-abbrev begin_bent : List ℕ
+abbrev pub begin_bent : List ℕ
 begin_bent = digest guarded (after guarded bend)
 
 abbrev pub one : List ℕ
 one = digest guarded (after guarded (Turn [] ∷ []))
 
-abbrev one_bent : List ℕ
+abbrev pub one_bent : List ℕ
 one_bent = digest guarded (after guarded (Turn [] ∷ bend))
 
-they_differ : bytes_eq one one_bent ≡ false
+pub they_differ : bytes_eq one one_bent ≡ false
 unfolding digest u16_bytes u32_bytes u64_bytes i32_bytes block_words rounds compress hash_after digest_bytes md5
 they_differ = refl
 

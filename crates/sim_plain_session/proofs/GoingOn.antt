@@ -1,8 +1,12 @@
 -- Steps behind other steps.
-use Rattle.std.proofs.Common.{ap, append_assoc, append-nil, ◌≡◌, List, [], ◌∷◌, ◌++◌, refl, sym, ◌∙◌}
+use Rattle.std.specs.List.{enumerate_from}
+use Rattle.std.proofs.Common.{ap, append_assoc, append-nil, ◌≡◌, ℕ, ◌+◌, List, [], ◌∷◌, ◌++◌, length, take, flat_map, refl, sym, ◌∙◌}
+use Rattle.std.proofs.Math.Seq.{take-append_seam}
+use Rattle.std.proofs.lemmas.List.{length-append}
 use Rattle.sim_base.specs.declared.step.Step.{Step}
 use Rattle.sim_base.specs.declared.setup.Setup.{Setup}
-use Rattle.sim_plain_session.specs.Laws.{SessionGoesOn, EventsGoOn}
+use Rattle.sim_base.specs.declared.step.Event.{Event}
+use Rattle.sim_plain_session.specs.Laws.{SessionGoesOn, EventsGoOn, EventsAreInOrder}
 use Rattle.sim_plain_session.specs.Printed.{start_events, events, events_after}
 use Rattle.sim_plain_session.specs.Sessions.{Session, opened, stepped, after_steps, session}
 
@@ -26,3 +30,30 @@ events_go_on setup active steps x =
     ap (λ l. start_events setup active ++ l)
     (events_after-append setup (opened setup active) steps (x ∷ []) ∙ ap (λ l. events_after setup (opened setup active) steps ++ l) (append-nil (events setup (session setup active steps) x)))
     ∙ sym (append_assoc (start_events setup active) (events_after setup (opened setup active) steps) (events setup (session setup active steps) x))
+
+-- ---- the events of the steps, each after the steps before it
+
+abbrev event_of : Setup → ℕ → List Step → ℕ × Step → List Event
+event_of setup active steps numbered = events setup (session setup active (take numbered.0 steps)) numbered.1
+
+in_order : (setup : Setup) (active : ℕ) (before rest : List Step)
+    → events_after setup (session setup active before) rest ≡ flat_map (event_of setup active (before ++ rest)) (enumerate_from (length before) rest)
+in_order setup active before [] = refl
+in_order setup active before (x ∷ rest) =
+    let here : take (length before) (before ++ x ∷ rest) ≡ before = take-append_seam before (x ∷ rest) in
+    let first : events setup (session setup active before) x ≡ event_of setup active (before ++ x ∷ rest) (length before, x) =
+    ap (λ l. events setup (session setup active l) x) (sym here) in
+    let behind : events_after setup (stepped setup (session setup active before) x) rest
+    ≡ flat_map (event_of setup active ((before ++ x ∷ []) ++ rest)) (enumerate_from (length (before ++ x ∷ [])) rest) =
+    ap (λ s. events_after setup s rest) (sym (session_goes_on setup active before x)) ∙ in_order setup active (before ++ x ∷ []) rest in
+    let whole : (before ++ x ∷ []) ++ rest ≡ before ++ x ∷ rest = append_assoc before (x ∷ []) rest in
+    let longer : length (before ++ x ∷ []) ≡ length before + 1 = length-append before (x ∷ []) in
+    let moved : flat_map (event_of setup active ((before ++ x ∷ []) ++ rest)) (enumerate_from (length (before ++ x ∷ [])) rest)
+    ≡ flat_map (event_of setup active (before ++ x ∷ rest)) (enumerate_from (length before + 1) rest) =
+    ap (λ l. flat_map (event_of setup active l) (enumerate_from (length (before ++ x ∷ [])) rest)) whole
+    ∙ ap (λ n. flat_map (event_of setup active (before ++ x ∷ rest)) (enumerate_from n rest)) longer in
+    ap (λ l. l ++ events_after setup (stepped setup (session setup active before) x) rest) first
+    ∙ ap (λ l. event_of setup active (before ++ x ∷ rest) (length before, x) ++ l) (behind ∙ moved)
+
+pub events_are_in_order : EventsAreInOrder
+events_are_in_order setup active steps = ap (λ l. start_events setup active ++ l) (in_order setup active [] steps)

@@ -2,6 +2,7 @@ pub mod Functions
 pub mod GoingOn
 pub mod Arrived
 pub mod Shown
+pub mod Enabling
 pub mod PlayerLemmas
 pub mod Hiding
 pub mod InBytes

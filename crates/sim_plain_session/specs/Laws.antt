@@ -1,5 +1,6 @@
 -- What holds of every session whatever its steps are, without a look at what came before.
-use Rattle.std.specs.Prelude.{◌≡◌, ℕ, ◌⊎◌, List, [], ◌∷◌, ◌++◌}
+use Rattle.std.specs.Prelude.{◌≡◌, ℕ, ◌⊎◌, List, [], ◌∷◌, ◌++◌, take, flat_map}
+use Rattle.std.specs.List.{enumerate_from}
 use Rattle.sim_base.specs.declared.setup.Setup.{Setup}
 use Rattle.sim_base.specs.Turn.{after, turns_in}
 use Rattle.sim_base.specs.Spelling.{digest}
@@ -71,3 +72,10 @@ SessionGoesOn = (setup : Setup) (active : ℕ) (steps : List Step) (x : Step) �
 -- and its events are printed behind those so far
 abbrev pub EventsGoOn : Type 0
 EventsGoOn = (setup : Setup) (active : ℕ) (steps : List Step) (x : Step) → session_events setup active (steps ++ x ∷ []) ≡ session_events setup active steps ++ events setup (session setup active steps) x
+
+-- what is printed are the events of the start, and then those of each step, as it comes after the steps before it
+abbrev pub EventsAreInOrder : Type 0
+EventsAreInOrder =
+    (setup : Setup) (active : ℕ) (steps : List Step)
+    → session_events setup active steps ≡ start_events setup active
+    ++ flat_map (λ (numbered : ℕ × Step). events setup (session setup active (take numbered.0 steps)) numbered.1) (enumerate_from 0 steps)

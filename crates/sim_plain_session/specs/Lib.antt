@@ -6,3 +6,4 @@ pub mod Players
 pub mod Bytes
 pub mod Marks
 pub mod Laws
+pub mod Enabled

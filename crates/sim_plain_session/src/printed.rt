@@ -1,6 +1,7 @@
 //! What a session prints.
 
-ghost use Rattle.sim_plain_session.specs.Laws.{ServerIsAfterArrivals, NoticesAreOfArrivals, EventsAreShown, StartsAreShown, SessionGoesOn, EventsGoOn};
+ghost use Rattle.sim_plain_session.specs.Laws.{ServerIsAfterArrivals, NoticesAreOfArrivals, EventsAreShown, StartsAreShown, SessionGoesOn, EventsGoOn, EventsAreInOrder};
+ghost use Rattle.sim_plain_session.specs.Enabled.{EventsAreOfSteps, StepsHaveEvents};
 
 /// The server of a session is the one after all arrivals, and the notices that are printed are those of them: one, in
 /// order, for each accepted report that differs from the first of its turn.
@@ -16,8 +17,16 @@ pub fn events_show_states()
     ensures starts { StartsAreShown }
 {}
 
-/// The session over one step more is that of the steps so far, stepped once, and what is printed of it comes behind.
+/// An event of a step is of that step, which then could be done and has it; and such a step has just that one event.
+pub fn steps_have_events()
+    ensures events { EventsAreOfSteps }
+    ensures steps { StepsHaveEvents }
+{}
+
+/// The session over one step more is that of the steps so far, stepped once, and what is printed of it comes behind. So the
+/// events of a session are those of its start, and then those of each step after the steps before it.
 pub fn sessions_go_on()
     ensures session { SessionGoesOn }
     ensures events { EventsGoOn }
+    ensures order { EventsAreInOrder }
 {}

@@ -12,6 +12,7 @@ use Rattle.sim_base.specs.declared.step.Step.{Step}
 use Rattle.sim_base.specs.declared.step.Step.TheVariants as step
 use Rattle.sim_base.specs.Limits.{HasFewIds}
 use Rattle.sim_base.specs.Rows.{row_of}
+use Rattle.sim_base.specs.Spelling.{digest, quick, is_full_turn}
 use Rattle.sim_base.specs.Turn.{may_bend, bent}
 use Rattle.sim_plain.specs.declared.message.UpOf.TheVariants as up
 use Rattle.sim_plain.specs.Functions.{put}
@@ -35,7 +36,7 @@ use Rattle.sim_pipes.specs.Exchanges.{Held, Conveys}
 use Rattle.sim_pipes.specs.Pipes.{AreFrames, pipe_in}
 use Rattle.sim_wire.specs.Fits.{IsUpFrame, IsSmallUp}
 use Rattle.sim_session.specs.Building.{AreBuilt, AreBuiltIf}
-use Rattle.sim_session.specs.Printing.{said_events, played_events, has_happened, is_off}
+use Rattle.sim_session.specs.Printing.{said_events, played_events, has_happened, is_off, IsDigestOf}
 use Rattle.sim_session.specs.Standing.{said_by, StandBeside, Makes}
 use Rattle.sim_session.proofs.Stepping.{rises_stay}
 
@@ -69,6 +70,14 @@ kept_most s t kept = record {
 pub kept_built : (b : Bool) (s t : Systems) → AreKept s t → AreBuiltIf b s t
 kept_built true s t kept = (kept_most s t kept).most
 kept_built false s t kept = kept.rebuilds
+
+-- nothing was built
+unbuilt_one : (m : Meaning) → IsBuiltOnceAtMost m m
+unbuilt_one m = once m m refl
+
+pub unbuilt : (b : Bool) (s : Systems) → AreBuiltIf b s s
+unbuilt true s = record { ground = unbuilt_one s.ground; range = unbuilt_one s.range; watch = unbuilt_one s.watch; census = unbuilt_one s.census }
+unbuilt false s = record { ground = refl; range = refl; watch = refl; census = refl }
 
 -- ---- what a client did
 
@@ -106,6 +115,28 @@ happened_shown setup make None old Idle new h = refl
 happened_shown setup make None old (Done ups) new h = absurd h
 happened_shown setup make (Some act) old Idle new h = absurd h
 happened_shown setup make (Some act) old (Done ups) new h = ap (shows setup make) h.0
+
+-- ---- the report of a full turn carries the whole digest
+
+digest_told : (setup : Setup) (p : Player) (b : Bool) → (let act = if b then told_with_done setup p else told_alone setup p in IsDigestOf setup act.life act.says)
+digest_told setup p true = λ full. ap Some (sym (cond-true (is_full_turn p.state.turn) (digest setup p.state) (quick p.state) full))
+digest_told setup p false = λ full. ap Some (sym (cond-true (is_full_turn p.state.turn) (digest setup p.state) (quick p.state) full))
+
+pub play_digest : (setup : Setup) (old : Life) (did : Did) (new : Life) → Answers (plays setup old) old (Ok did) new → IsDigestOf setup new (said_by did)
+play_digest setup Off Idle new h = tt
+play_digest setup Off (Done ups) new h = absurd h
+play_digest setup Joining Idle new h = tt
+play_digest setup Joining (Done ups) new h = absurd h
+play_digest setup (On player) did new h = by (may_play setup player) did h
+  where
+    next : Player
+    next = played setup player
+
+    by : (b : Bool) (did : Did) → Answers (if b then Some (told setup next) else None) (On player) (Ok did) new → IsDigestOf setup new (said_by did)
+    by true Idle h = absurd h
+    by true (Done ups) h = subst (λ (l : Life). IsDigestOf setup l ups) (sym h.0) (subst (IsDigestOf setup (told setup next).life) (sym h.1) (digest_told setup next (may_tell_done setup next)))
+    by false Idle h = tt
+    by false (Done ups) h = absurd h
 
 -- ---- what a client says has frames
 

@@ -187,6 +187,34 @@ load_built setup c said old it did new S T is =
     by Joining (down.Notice t j) answers kept most = kept_built (has_load (heard_events setup c new None false (has_happened did))) S T (kept refl)
     by Joining (down.Refused code) answers kept most = kept_built false S T (kept refl)
 
+-- they are where the definition of the session has a load, whatever came of it
+load_kept : (setup : Setup) (c : ℕ) (said : Down) (it : Told) (S T : Systems) → it ≡ carry_down (spelled setup) said → (old : Life) (phase : Phase) → Lives setup old phase
+    → (may_load old it ≡ false → AreKept S T) → AreBuiltOnceAtMost S T → AreBuiltIf (has_load (plain.hears setup c phase said).events) S T
+load_kept setup c said it S T is old phase lives kept most = by old phase said lives (subst (λ (d : Told). may_load old d ≡ false → AreKept S T) is kept)
+  where
+    idle : (phase : Phase) (said : Down) → AreKept S T → AreBuiltIf (has_load (plain.hears setup c phase said).events) S T
+    idle phase said = kept_built (has_load (plain.hears setup c phase said).events) S T
+
+    by : (old : Life) (phase : Phase) (said : Down) → Lives setup old phase → (may_load old (carry_down (spelled setup) said) ≡ false → AreKept S T)
+        → AreBuiltIf (has_load (plain.hears setup c phase said).events) S T
+    by Off phase said lives kept = idle phase said (kept refl)
+    by (On player) phase said lives kept = idle phase said (kept refl)
+    by Joining plain.Off said lives kept = absurd lives
+    by Joining (plain.On seat) said lives kept = absurd lives
+    by Joining plain.Joining (down.Ask j) lives kept = idle plain.Joining (down.Ask j) (kept refl)
+    by Joining plain.Joining (down.State done past) lives kept = most
+    by Joining plain.Joining (down.Command t order) lives kept = idle plain.Joining (down.Command t order) (kept refl)
+    by Joining plain.Joining (down.Release t) lives kept = idle plain.Joining (down.Release t) (kept refl)
+    by Joining plain.Joining (down.Notice t j) lives kept = idle plain.Joining (down.Notice t j) (kept refl)
+    by Joining plain.Joining (down.Refused code) lives kept = idle plain.Joining (down.Refused code) (kept refl)
+
+pub heard_loads : (setup : Setup) (c : ℕ) (s : Session) (old : Life) (down : Told) (before mid : Held) (S T : Systems) → StandBeside setup c old before s → IsTaken setup c before down mid
+    → (may_load old down ≡ false → AreKept S T) → AreBuiltOnceAtMost S T → AreBuiltIf (has_load (fall_events setup c (s.client c) (s.downs c))) S T
+heard_loads setup c s old down before mid S T at taken kept most =
+    let h = head setup c s down mid (taken s at.held) in
+    subst (λ (downs : List Down). AreBuiltIf (has_load (fall_events setup c (s.client c) downs)) S T) (sym h.first)
+    (load_kept setup c h.said down S T h.down_is old (s.client c) at.lives kept most)
+
 -- ---- the whole of it
 
 module _ (setup : Setup) (c : ℕ) (old : Life) (down : Told) (did : Did) (new : Life) (before mid behind : Held) (events : List Event)

@@ -2,6 +2,7 @@ pub mod Spelled
 pub mod Seating
 pub mod Stepping
 pub mod Beside
+pub mod Idling
 pub mod Heard
 pub mod Starting
 pub mod Leaving

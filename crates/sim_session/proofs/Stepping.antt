@@ -51,10 +51,10 @@ module _ (setup : Setup) (limits : IsSetup setup) (x : Step) (number : IsNumber 
   is_one : is_client setup (client_of x) ≡ true
   is_one = client_of_player setup (client_of x) (omega (arith, number.0), number.1)
 
-  stepped_is : (s : Session) → stepped setup s x ≡ stepped_by setup s x
+  pub stepped_is : (s : Session) → stepped setup s x ≡ stepped_by setup s x
   stepped_is s = cond-true (is_client setup (client_of x)) (stepped_by setup s x) s is_one
 
-  events_are : (s : Session) → events setup s x ≡ events_by setup s x
+  pub events_are : (s : Session) → events setup s x ≡ events_by setup s x
   events_are s = cond-true (is_client setup (client_of x)) (events_by setup s x) [] is_one
 
   pub valid_states : (active : ℕ) (steps : List Step) → active ≤ setup.players → HasValidStates setup (client_of x) (session setup active steps)
@@ -104,6 +104,12 @@ module _ (setup : Setup) (limits : IsSetup setup) (x : Step) (number : IsNumber 
       let s = session setup some.active some.steps in
       subst (λ (m : Setup). (s : Session) × HasValidStates m (client_of x) s × StandBeside m (client_of x) own seen.held s) (sym same)
       (s, valid_states some.active some.steps some.few, subst (λ (l : Life). StandBeside setup (client_of x) l seen.held s) own_is (beside seen s some.stands))
+
+  -- so they do for each session for which all stand
+  pub one_beside : (match : Setup) (seen : Seen) (own : Life) → match ≡ setup → life_of seen.lives (client_of x) ≡ own → (s : Session) → StandsFor setup seen s
+      → StandBeside match (client_of x) own seen.held s
+  one_beside match seen own same own_is s stands =
+      subst (λ (m : Setup). StandBeside m (client_of x) own seen.held s) (sym same) (subst (λ (l : Life). StandBeside setup (client_of x) l seen.held s) own_is (beside seen s stands))
 
   -- the client of the step stands in its place in a list
   pub goes_on_at : {C : Type 0} (f : C → Life) (clients : List C) (i : ℕ) (old new : C) (before behind : Held) (answered : List Event) → length clients ≡ setup.players → i ≡ client_of x - 1

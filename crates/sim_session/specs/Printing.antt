@@ -1,13 +1,14 @@
 -- What is printed of what a client says, and of what it hears.
-use Rattle.std.specs.Prelude.{ℕ, List, [], ◌∷◌, Bool, true, false, ◌&&◌, if◌then◌else◌, Option, Some, None}
+use Rattle.std.specs.Prelude.{◌≡◌, ℕ, List, [], ◌∷◌, Bool, true, false, ◌&&◌, if◌then◌else◌, Option, Some, None}
 use Rattle.sim_base.specs.declared.setup.Setup.{Setup}
-use Rattle.sim_base.specs.Spelling.{digest}
+use Rattle.sim_base.specs.Spelling.{digest, is_full_turn}
 use Rattle.sim_base.specs.declared.step.Event.{Event}
 use Rattle.sim_base.specs.declared.step.Event.TheVariants as event
 use Rattle.sim_plain.specs.declared.message.UpOf.TheVariants as up
 use Rattle.sim_plain.specs.declared.message.DownOf.TheVariants as down
 use Rattle.sim_client.specs.declared.did.Did.{Did}
 use Rattle.sim_client.specs.declared.did.Did.TheVariants.{Idle, Done}
+use Rattle.sim_client.specs.ClientWords.{digest_of}
 use Rattle.sim_client.specs.LifeLaws.{shows}
 use Rattle.sim_client.specs.Lives.{Said, Told, Life, Off, Joining, On}
 
@@ -25,6 +26,15 @@ abbrev pub shown_of : Setup → Life → Option (ℕ × List ℕ)
 shown_of setup Off = None
 shown_of setup Joining = None
 shown_of setup (On player) = Some (player.state.turn, digest setup player.state)
+
+-- a report of a full turn, which is said first, carries the whole digest of a client
+abbrev pub IsDigestOf : Setup → Life → List Said → Type 0
+IsDigestOf setup now [] = Unit {0}
+IsDigestOf setup now (up.Join ∷ rest) = Unit {0}
+IsDigestOf setup now (up.Command t command ∷ rest) = Unit {0}
+IsDigestOf setup now (up.Done t ∷ rest) = Unit {0}
+IsDigestOf setup now (up.Report t hash ∷ rest) = is_full_turn t ≡ true → digest_of setup now ≡ Some hash
+IsDigestOf setup now (up.State j t bytes ∷ rest) = Unit {0}
 
 -- the turn that a client has played, where it has
 abbrev pub played_events : Setup → ℕ → Life → Bool → List Event

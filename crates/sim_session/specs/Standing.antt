@@ -10,7 +10,7 @@ use Rattle.sim_base.specs.Validity.{IsValid}
 use Rattle.sim_plain.specs.declared.message.DownOf.TheVariants as down
 use Rattle.sim_plain_session.specs.Clients.{Down, Seat, On}
 use Rattle.sim_plain_session.specs.Printed.{events_by, events}
-use Rattle.sim_plain_session.specs.Sessions.{Session, client_of, stepped_by, session}
+use Rattle.sim_plain_session.specs.Sessions.{Session, client_of, stepped_by, stepped, session}
 use Rattle.sim_client.specs.declared.did.Did.{Did}
 use Rattle.sim_client.specs.declared.did.Did.TheVariants.{Idle, Done}
 use Rattle.sim_client.specs.LifeLaws.{Lives}
@@ -35,6 +35,11 @@ IsSmallStep (step.Bend c id health) = Unit {0}
 abbrev pub said_by : Did → List Said
 said_by Idle = []
 said_by (Done ups) = ups
+
+-- a step is not enabled: it has no event, and the session stays as it is
+pub record IsIdle (setup : Setup) (s : Session) (x : Step) : Type 0 where
+  pub shown : events setup s x ≡ []
+  pub same : stepped setup s x ≡ s
 
 -- ---- one client beside the exchange
 

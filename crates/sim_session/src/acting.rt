@@ -1,6 +1,6 @@
 //! The kinds of step, each by one client beside the server and the pipes.
 
-ghost use Rattle.std.specs.Prelude.{◌≡◌, ℕ, map, All, IfOk, OnOk};
+ghost use Rattle.std.specs.Prelude.{◌≡◌, ℕ, [], true, false, None, map, All, IfOk, OnOk, IsOk};
 ghost use Rattle.sim_base.specs.declared.setup.Setup.{Setup as AnySetup};
 ghost use Rattle.sim_base.specs.declared.step.Step.TheVariants as step;
 ghost use Rattle.sim_base.specs.declared.step.Event.TheVariants as event;
@@ -8,19 +8,21 @@ ghost use Rattle.sim_base.specs.Limits.{HasFewIds};
 ghost use Rattle.sim_plain.specs.Messages.{carry_up};
 ghost use Rattle.sim_plain_session.specs.Bytes.{spelled};
 ghost use Rattle.sim_plain_session.specs.Clients.{Acted};
-ghost use Rattle.sim_plain_session.specs.Sessions.{Session, acts, client_of as client_in};
+ghost use Rattle.sim_plain_session.specs.Printed.{events_by};
+ghost use Rattle.sim_plain_session.specs.Sessions.{Session, acts, stepped_by, client_of as client_in};
 ghost use Rattle.sim_board.specs.BoardWords.{AreKept};
 ghost use Rattle.sim_client.specs.ClientWords.{setup_in, life, systems, IsSound};
 ghost use Rattle.sim_client.specs.LifeLaws.{shows};
+ghost use Rattle.sim_client.specs.Lives.{orders, plays, joins, bends};
 ghost use Rattle.sim_pipes.specs.Exchanges.{Conveys};
 ghost use Rattle.sim_server.specs.Standing.{IsClient};
 ghost use Rattle.sim_wire.specs.Fits.{IsSmallUp};
 ghost use Rattle.sim_session.specs.Building.{AreBuilt, AreBuiltIf, has_load};
-ghost use Rattle.sim_session.specs.Printing.{said_events as events_said, played_events, has_happened, is_off as is_off_of};
+ghost use Rattle.sim_session.specs.Printing.{said_events as events_said, played_events, has_happened, is_off as is_off_of, IsDigestOf};
 ghost use Rattle.sim_session.specs.Standing.{HasValidStates, IsSmallStep, Makes, StandBeside, said_by};
 
 use crate::hearing::down;
-use crate::printing::{one, said_events, shown};
+use crate::printing::{digest_of_play, one, said_events, shown};
 use sim_base::{Command, Event, Events, Fixed, Items, OutOfMemory, Step};
 use sim_client::{Client, Did, Ups};
 use sim_pipes::Exchange;
@@ -50,6 +52,7 @@ fn tell(
     ensures sent { (setup : AnySetup) (s : Session) (acted : Acted) → Conveys setup exchange.old s → ups.now ≡ map (carry_up (spelled setup)) acted.says
         → OnOk result (Conveys setup exchange.new (acts number acted s)) }
     ensures printed { IfOk result (λ events. events ≡ events_said number ups.now) }
+    ensures none { ups.now ≡ [] → IsOk result }
     ensures rules { exchange.new.server.rules ≡ exchange.old.server.rules }
 {
     exchange.send(number, ups)?;
@@ -68,12 +71,13 @@ fn order(
     requires client { IsClient exchange.old.server number }
     requires few { HasFewIds command.now }
     ensures made { IfOk result (λ events. Makes (setup_in client.old) (step.Order number command.now) (life client.old) exchange.old (life client.new) exchange.new events) }
+    ensures idle { orders (setup_in client.old) command.now (life client.old) ≡ None → IsOk result }
     ensures sound { OnOk result (IsSound client.new ⟦<dyn System as System>⟧) }
     ensures kept { AreKept (systems client.old ⟦<dyn System as System>⟧) (systems client.new ⟦<dyn System as System>⟧) }
     ensures setup { setup_in client.new ≡ setup_in client.old }
     ensures rules { exchange.new.server.rules ≡ exchange.old.server.rules }
 {
-    let did = client.order(command.copy()?)?;
+    let did = client.order(command)?;
     let ups = ups_of(alloc, did);
     tell(alloc, exchange, number, ups.as_slice())
 }
@@ -81,12 +85,15 @@ fn order(
 // What is printed of a client that was to play a turn: the turn with the whole digest, whatever its report carries.
 fn played(alloc: Global, client: &Client<'_>, number: u8, did: &Did) -> Result<Events, OutOfMemory>
     requires sound { IsSound client.now ⟦<dyn System as System>⟧ }
-    ensures { IfOk result (λ events. events ≡ played_events (setup_in client.now) number (life client.now) (has_happened did.now)) }
+    requires told { IsDigestOf (setup_in client.now) (life client.now) (said_by did.now) }
+    ensures events { IfOk result (λ events. events ≡ played_events (setup_in client.now) number (life client.now) (has_happened did.now)) }
+    ensures none { has_happened did.now ≡ false → IsOk result }
 {
-    let Did::Done { .. } = did else {
+    let Did::Done { up } = did else {
         return Ok(Items::new(alloc));
     };
-    let Some(seen) = shown(client) else {
+    let digest = digest_of_play(client, up.as_slice());
+    let Some(seen) = shown(client, digest) else {
         return Ok(Items::new(alloc));
     };
     let turn = seen.0;
@@ -111,6 +118,7 @@ fn play(
     requires sound { IsSound client.old ⟦<dyn System as System>⟧ }
     requires client { IsClient exchange.old.server number }
     ensures made { IfOk result (λ events. Makes (setup_in client.old) (step.Play number) (life client.old) exchange.old (life client.new) exchange.new events) }
+    ensures idle { plays (setup_in client.old) (life client.old) ≡ None → IsOk result }
     ensures sound { OnOk result (IsSound client.new ⟦<dyn System as System>⟧) }
     ensures kept { AreKept (systems client.old ⟦<dyn System as System>⟧) (systems client.new ⟦<dyn System as System>⟧) }
     ensures setup { setup_in client.new ≡ setup_in client.old }
@@ -133,6 +141,7 @@ fn join(
     requires sound { IsSound client.old ⟦<dyn System as System>⟧ }
     requires client { IsClient exchange.old.server number }
     ensures made { IfOk result (λ events. Makes (setup_in client.old) (step.Join number) (life client.old) exchange.old (life client.new) exchange.new events) }
+    ensures idle { joins (life client.old) ≡ None → IsOk result }
     ensures sound { OnOk result (IsSound client.new ⟦<dyn System as System>⟧) }
     ensures kept { AreKept (systems client.old ⟦<dyn System as System>⟧) (systems client.new ⟦<dyn System as System>⟧) }
     ensures setup { setup_in client.new ≡ setup_in client.old }
@@ -148,7 +157,7 @@ fn bent(alloc: Global, client: &Client<'_>, number: u8) -> Result<Events, OutOfM
     requires sound { IsSound client.now ⟦<dyn System as System>⟧ }
     ensures { IfOk result (λ events. events ≡ shows (setup_in client.now) (event.Bend number) (life client.now)) }
 {
-    let Some(seen) = shown(client) else {
+    let Some(seen) = shown(client, client.digest()) else {
         return Ok(Items::new(alloc));
     };
     let turn = seen.0;
@@ -174,6 +183,7 @@ fn bend(
 ) -> Result<Events, OutOfMemory>
     requires sound { IsSound client.old ⟦<dyn System as System>⟧ }
     ensures made { IfOk result (λ events. Makes (setup_in client.old) (step.Bend number entity health) (life client.old) exchange.now (life client.new) exchange.now events) }
+    ensures idle { bends (setup_in client.old) entity health (life client.old) ≡ None → IsOk result }
     ensures sound { IsSound client.new ⟦<dyn System as System>⟧ }
     ensures kept { AreKept (systems client.old ⟦<dyn System as System>⟧) (systems client.new ⟦<dyn System as System>⟧) }
     ensures setup { setup_in client.new ≡ setup_in client.old }
@@ -202,6 +212,7 @@ fn cut(
     requires sound { IsSound client.old ⟦<dyn System as System>⟧ }
     requires client { IsClient exchange.old.server number }
     ensures made { IfOk result (λ events. Makes (setup_in client.old) (step.Cut number) (life client.old) exchange.old (life client.new) exchange.new events) }
+    ensures idle { is_off_of (life client.old) ≡ true → IsOk result }
     ensures sound { IsSound client.new ⟦<dyn System as System>⟧ }
     ensures kept { AreKept (systems client.old ⟦<dyn System as System>⟧) (systems client.new ⟦<dyn System as System>⟧) }
     ensures setup { setup_in client.new ≡ setup_in client.old }
@@ -245,6 +256,10 @@ pub fn act(
     ensures sound { OnOk result (IsSound client.new ⟦<dyn System as System>⟧) }
     ensures built { IfOk result (λ events. AreBuiltIf (has_load events) (systems client.old ⟦<dyn System as System>⟧) (systems client.new ⟦<dyn System as System>⟧)) }
     ensures most { AreBuilt (systems client.old ⟦<dyn System as System>⟧) (systems client.new ⟦<dyn System as System>⟧) }
+    ensures loads { (s : Session) → StandBeside (setup_in client.old) (client_in step.now) (life client.old) exchange.old s
+        → AreBuiltIf (has_load (events_by (setup_in client.old) s step.now)) (systems client.old ⟦<dyn System as System>⟧) (systems client.new ⟦<dyn System as System>⟧) }
+    ensures idle { (s : Session) → StandBeside (setup_in client.old) (client_in step.now) (life client.old) exchange.old s
+        → events_by (setup_in client.old) s step.now ≡ [] → stepped_by (setup_in client.old) s step.now ≡ s → IsOk result }
     ensures setup { setup_in client.new ≡ setup_in client.old }
     ensures rules { exchange.new.server.rules ≡ exchange.old.server.rules }
 {

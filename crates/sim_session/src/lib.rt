@@ -2,9 +2,10 @@
 //!
 //! It promises that a session stands for that of the definition over the steps so far: the state of each client is that after
 //! its past, each pipe holds the frames of just the messages in it, and the server is that of the definition. A step answers
-//! just the events of the definition. All rigs come back in the order and in the room in which they came, and only the start
-//! of a client and a state that it loads build its systems, once at most. It stands on `sim_client` for what a client does, on
-//! `sim_pipes` for the server and the pipes, and on `sim_session_laws`, by which no state that is heard is refused.
+//! just the events of the definition, and one that is not enabled wants no memory. All rigs come back in the order and in the
+//! room in which they came, and only the start of a client and a state that it loads build its systems, once at most. It stands
+//! on `sim_client` for what a client does, on `sim_pipes` for the server and the pipes, and on `sim_session_laws`, by which no
+//! state that is heard is refused.
 //!
 //! - `printing`: the events of what a client did.
 //! - `acting`: the kinds of step, each by one client beside the server and the pipes.

@@ -1,11 +1,12 @@
 //! The events of what a client did.
 
-ghost use Rattle.std.specs.Prelude.{◌≡◌, [], ◌∷◌, IfOk};
-ghost use Rattle.sim_client.specs.ClientWords.{setup_in, life, IsSound};
-ghost use Rattle.sim_session.specs.Printing.{said_events as events_said, shown_of};
+ghost use Rattle.std.specs.Prelude.{◌≡◌, [], ◌∷◌, IfOk, IsOk};
+ghost use Rattle.sim_client.specs.ClientWords.{setup_in, life, digest_of, IsSound};
+ghost use Rattle.sim_session.specs.Printing.{said_events as events_said, shown_of, IsDigestOf};
 
 use sim_base::{Event, Events, Items, OutOfMemory};
 use sim_client::Client;
+use sim_codec::is_full_turn;
 use sim_system::System;
 use sim_wire::Up;
 use std::alloc::Global;
@@ -21,7 +22,8 @@ pub fn one(alloc: Global, event: Event) -> Result<Events, OutOfMemory>
 
 /// What is printed of a wish to join or an order that a client sends.
 pub fn said_events(alloc: Global, client: u8, ups: &[Up]) -> Result<Events, OutOfMemory>
-    ensures { IfOk result (λ events. events ≡ events_said client ups.now) }
+    ensures events { IfOk result (λ events. events ≡ events_said client ups.now) }
+    ensures none { ups.now ≡ [] → IsOk result }
 {
     match ups.first() {
         Some(Up::Join) => one(alloc, Event::Join { client }),
@@ -39,12 +41,26 @@ pub fn said_events(alloc: Global, client: u8, ups: &[Up]) -> Result<Events, OutO
     }
 }
 
-/// The turn and the digest that a client shows that is on.
-pub fn shown(client: &Client<'_>) -> Option<(u32, [u8; 16])>
-    requires { IsSound client.now ⟦<dyn System as System>⟧ }
+/// The digest of a client that has just played a turn and says this. At a full turn its report carries it, and it is not made
+/// again.
+pub fn digest_of_play(client: &Client<'_>, ups: &[Up]) -> Option<[u8; 16]>
+    requires sound { IsSound client.now ⟦<dyn System as System>⟧ }
+    requires told { IsDigestOf (setup_in client.now) (life client.now) ups.now }
+    ensures { result ≡ digest_of (setup_in client.now) (life client.now) }
+{
+    match ups.first() {
+        Some(Up::Report { turn, digest }) if is_full_turn(*turn) => Some(*digest),
+        _ => client.digest(),
+    }
+}
+
+/// The turn that a client shows that is on, beside its digest.
+pub fn shown(client: &Client<'_>, digest: Option<[u8; 16]>) -> Option<(u32, [u8; 16])>
+    requires sound { IsSound client.now ⟦<dyn System as System>⟧ }
+    requires digest { digest ≡ digest_of (setup_in client.now) (life client.now) }
     ensures { result ≡ shown_of (setup_in client.now) (life client.now) }
 {
-    match (client.turn(), client.digest()) {
+    match (client.turn(), digest) {
         (Some(turn), Some(digest)) => Some((turn, digest)),
         _ => None,
     }

@@ -1,8 +1,10 @@
 //! A session. After want of memory it may only be finished.
 
-ghost use Rattle.std.specs.Prelude.{◌≡◌, ◌<◌, ◌≤◌, ◌-◌, ◌++◌, if◌then◌else◌, ℕ, length, map, take, drop, All, IfOk, IfErr, OnOk, vec_capacity};
+ghost use Rattle.std.specs.Prelude.{◌≡◌, ◌<◌, ◌≤◌, ◌-◌, ◌++◌, if◌then◌else◌, ℕ, length, map, take, drop, All, IfOk, IfErr, OnOk, IsOk, List, vec_capacity};
 ghost use Rattle.sim_base.specs.Limits.{IsSetup};
-ghost use Rattle.sim_plain_session.specs.Sessions.{opened, client_of as client_in};
+ghost use Rattle.sim_base.specs.declared.step.Step.{Step as AnyStep};
+ghost use Rattle.sim_plain_session.specs.Printed.{events as events_in};
+ghost use Rattle.sim_plain_session.specs.Sessions.{opened, session as session_over, client_of as client_in};
 ghost use Rattle.sim_system.specs.Meanings.{HaveKinds};
 ghost use Rattle.sim_client.specs.ClientWords.{life, IsSound, setup_in as client_setup_in};
 ghost use Rattle.sim_client.specs.Lives.{Off, starts};
@@ -10,7 +12,7 @@ ghost use Rattle.sim_client.specs.StageWords.{AreCleared};
 ghost use Rattle.sim_pipes.specs.Pipes.{pipe_in};
 ghost use Rattle.sim_session.specs.Building.{ChangeAt, AreBuilt, AreBuiltIf, has_load, StartsOnly};
 ghost use Rattle.sim_session.specs.SessionWords.{setup_in, clients_in, seen_in, systems_in, spare_in, room_in, lives_of, rigs_of, systems_of, AreMembers, MayFinish, IsSession, AreOfClients};
-ghost use Rattle.sim_session.specs.Standing.{life_of, IsNumber, IsSmallStep, StandsFor, StandsForSome, Steps};
+ghost use Rattle.sim_session.specs.Standing.{life_of, IsNumber, IsSmallStep, IsIdle, StandsFor, StandsForSome, Steps};
 
 use crate::acting::{act, client_of};
 use crate::rigs::{seat, unseat};
@@ -116,7 +118,8 @@ impl<'a> Session<'a> {
         start_all(setup, &mut self.clients, clients)
     }
 
-    /// Makes one step, and answers what is printed of it.
+    /// Makes one step, and answers what is printed of it. Only a state that is loaded builds the systems of its client, also
+    /// where memory was refused; and a step that is not enabled takes none.
     pub fn step(&mut self, step: &Step) -> Result<Events, OutOfMemory>
         requires session { IsSession self.old ⟦<dyn System as System>⟧ }
         requires client { IsNumber (setup_in self.old) (client_in step.now) }
@@ -127,6 +130,10 @@ impl<'a> Session<'a> {
         ensures finish { MayFinish self.new ⟦<dyn System as System>⟧ }
         ensures built { IfOk result (λ events. ChangeAt (AreBuiltIf (has_load events)) (client_in step.now - 1) (systems_in self.old ⟦<dyn System as System>⟧) (systems_in self.new ⟦<dyn System as System>⟧)) }
         ensures most { ChangeAt AreBuilt (client_in step.now - 1) (systems_in self.old ⟦<dyn System as System>⟧) (systems_in self.new ⟦<dyn System as System>⟧) }
+        ensures loads { (active : ℕ) (steps : List AnyStep) → active ≤ (setup_in self.old).players → StandsFor (setup_in self.old) (seen_in self.old) (session_over (setup_in self.old) active steps)
+            → ChangeAt (AreBuiltIf (has_load (events_in (setup_in self.old) (session_over (setup_in self.old) active steps) step.now))) (client_in step.now - 1) (systems_in self.old ⟦<dyn System as System>⟧) (systems_in self.new ⟦<dyn System as System>⟧) }
+        ensures idle { (active : ℕ) (steps : List AnyStep) → active ≤ (setup_in self.old).players → StandsFor (setup_in self.old) (seen_in self.old) (session_over (setup_in self.old) active steps)
+            → IsIdle (setup_in self.old) (session_over (setup_in self.old) active steps) step.now → IsOk result }
         ensures setup { setup_in self.new ≡ setup_in self.old }
         ensures spare { spare_in self.new ≡ spare_in self.old }
         ensures room { room_in self.new ≡ room_in self.old }

@@ -1,26 +1,35 @@
--- An event of a session shows what some of its steps led to.
-use Rattle.std.proofs.Common.{◌≡◌, ◌⊎◌, inl, inr, ℕ, zero, suc, ◌≤◌, List, [], ◌∷◌, ◌++◌, refl, sym, ap, ◌∙◌, subst, arith, append-nil}
+-- An event of a session shows what the steps up to its own led to, and each step has the events that are of it.
+use Rattle.std.proofs.Common.{◌≡◌, ◌⊎◌, inl, inr, ℕ, zero, suc, ◌≤◌, min, true, All, List, [], ◌∷◌, ◌++◌, refl, sym, ap, ◌∙◌, subst, arith, append_assoc, append-nil}
+use Rattle.std.proofs.lemmas.Bool.{and_from, lt-ltb, le-leb, cond-true}
+use Rattle.std.proofs.lemmas.List.Elements.{All-head}
 use Rattle.sim_base.specs.declared.command.PlayerCommand.{PlayerCommand}
 use Rattle.sim_base.specs.declared.setup.Setup.{Setup}
 use Rattle.sim_base.specs.declared.step.Step.{Step}
+use Rattle.sim_base.specs.declared.step.Step.TheVariants as step
 use Rattle.sim_base.specs.declared.step.Event.{Event}
 use Rattle.sim_base.specs.declared.step.Event.TheVariants as event
-use Rattle.sim_base.specs.Turn.{turns_in}
+use Rattle.sim_base.specs.Limits.{IsFrom}
+use Rattle.sim_base.specs.Spelling.{digest}
+use Rattle.sim_base.specs.Turn.{Turn, after, turns_in}
 use Rattle.sim_lists.specs.declared.step_list.StepList.{StepList}
-use Rattle.sim_plain_session.specs.Clients.{Phase, Off, Joining, On, digest_of}
+use Rattle.sim_lists.specs.StepLists.{IsStep, IsStepList}
+use Rattle.sim_plain_session.specs.Clients.{Phase, Off, Joining, On, begun, digest_of}
 use Rattle.sim_plain_session.specs.Laws.{Carries, IsAt, IsShown}
-use Rattle.sim_plain_session.specs.Pasts.{kept_turns}
-use Rattle.sim_plain_session.specs.Printed.{start_events, events, events_after}
-use Rattle.sim_plain_session.specs.Sessions.{Session, opened, stepped, after_steps, session}
+use Rattle.sim_plain_session.specs.Pasts.{is_client, kept_turns}
+use Rattle.sim_plain_session.specs.Printed.{start_events, events_after}
+use Rattle.sim_plain_session.specs.Sessions.{Session, client_of, is_active, opened, stepped, session}
+use Rattle.sim_plain_session.proofs.Enabling.{steps_have_events}
+use Rattle.sim_plain_session.proofs.GoingOn.{session_goes_on}
 use Rattle.sim_plain_session.proofs.Shown.{events_are_shown, starts_are_shown}
+use Rattle.sim_session_laws.proofs.Basics.{all_right}
 use Rattle.sim_session_laws.proofs.Runs.{holds_session}
 use Rattle.sim_session_laws.proofs.PastFacts.{unbent_are_kept}
 use Rattle.sim_session_laws.proofs.TurnNumberFacts.{turns_are_released}
 use Rattle.sim_session_laws.proofs.Final.{released_are_final}
 use Rattle.sim_session_text.specs.declared.ending.End.TheVariants as ends
 use Rattle.sim_session_text.specs.Endings.{end_of}
-use Rattle.sim_session_text.specs.SessionText.{session_of}
-use Rattle.sim_session_text.specs.Laws.{StoodAt, ShowsPast, EventsShowPasts, EndsShowPasts}
+use Rattle.sim_session_text.specs.SessionText.{session_at, session_of, events_of, step_events}
+use Rattle.sim_session_text.specs.Laws.{IsStepAt, StandsAt, ShowsPast, StartsShowPasts, StepsShowPasts, EventsShowPasts, EndsShowPasts, PlaysAreTold, StepsAreTold}
 
 -- ---- the commands of released turns stay
 
@@ -40,40 +49,61 @@ final_turns setup active before rest all n few whole released =
 
 -- ---- a client that is on after some of the steps
 
-pub stood : (setup : Setup) (list : StepList) (before rest : List Step) (c t : ℕ) (g : List ℕ) → list.clients ≤ setup.players → before ++ rest ≡ list.steps
-    → IsAt setup (session setup list.clients before) c t g → StoodAt setup list c t g
-stood setup list before rest c t g few whole (seat, on, turns, state) =
-    let s = session setup list.clients before in
+stands : (setup : Setup) (list : StepList) (before rest : List Step) (c t : ℕ) (g : List ℕ) → list.clients ≤ setup.players → before ++ rest ≡ list.steps
+    → IsAt setup (session_at setup list before) c t g → StandsAt setup list before c t g
+stands setup list before rest c t g few whole (seat, on, turns, state) =
+    let s = session_at setup list before in
     let holds = holds_session setup list.clients before few in
     let released = turns_are_released setup s holds c seat on in
     let within : turns_in seat.past ≤ s.server.released = omega (arith, released.0, released.1) in
+    let kept = unbent_are_kept setup s holds seat.past (inl (c, seat, on, refl)) in
     record {
-      before = before;
-      rest = rest;
-      steps = whole;
       seat = seat;
       on = on;
       turns = turns;
       state = state;
-      unbent = λ unbent.
-          unbent_are_kept setup s holds seat.past (inl (c, seat, on, refl)) unbent
+      unbent = λ unbent. kept unbent ∙ ap (kept_turns s.server.kept) (sym turns);
+      final = λ unbent.
+          kept unbent
           ∙ final_turns setup list.clients before rest list.steps (turns_in seat.past) few whole within
           ∙ ap (kept_turns (session_of setup list).server.kept) (sym turns);
     }
 
 shows : (setup : Setup) (list : StepList) (before rest : List Step) (e : Event) → list.clients ≤ setup.players → before ++ rest ≡ list.steps
-    → IsShown setup (session setup list.clients before) e → ShowsPast setup list e
-shows setup list before rest (event.Start c g) few whole at = stood setup list before rest c 0 g few whole at
+    → IsShown setup (session_at setup list before) e → ShowsPast setup list before e
+shows setup list before rest (event.Start c g) few whole at = stands setup list before rest c 0 g few whole at
 shows setup list before rest (event.Order c t) few whole at = tt
-shows setup list before rest (event.Play c t g) few whole at = stood setup list before rest c t g few whole at
+shows setup list before rest (event.Play c t g) few whole at = stands setup list before rest c t g few whole at
 shows setup list before rest (event.Join c) few whole at = tt
-shows setup list before rest (event.Load c t g) few whole at = stood setup list before rest c t g few whole at
+shows setup list before rest (event.Load c t g) few whole at = stands setup list before rest c t g few whole at
 shows setup list before rest (event.Refused c code) few whole at = tt
 shows setup list before rest (event.Cut c) few whole at = tt
-shows setup list before rest (event.Bend c t g) few whole at = stood setup list before rest c t g few whole at
+shows setup list before rest (event.Bend c t g) few whole at = stands setup list before rest c t g few whole at
 shows setup list before rest (event.Notice t c) few whole at = tt
 
--- ---- each event is one of a step
+-- ---- the start, and each step
+
+pub starts_show_pasts : StartsShowPasts
+starts_show_pasts setup list c is low high =
+    let r = min setup.turns setup.delay in
+    let active : is_active list.clients c ≡ true = and_from _ _ (lt-ltb 0 c low) (le-leb c list.clients high) in
+    let on : (opened setup list.clients).client c ≡ On (begun r r []) = cond-true _ _ _ active in
+    stands setup list [] list.steps c 0 (digest setup (after setup [])) is.clients.1 refl (begun r r [], on, refl, refl)
+
+pub steps_show_pasts : StepsShowPasts
+steps_show_pasts setup list before x e is at has =
+    let whole : (before ++ x ∷ []) ++ at.rest ≡ list.steps = append_assoc before (x ∷ []) at.rest ∙ at.steps in
+    let one_more = session_goes_on setup list.clients before x in
+    let shown = events_are_shown setup (session_at setup list before) x e has in
+    shows setup list (before ++ x ∷ []) at.rest e is.clients.1 whole (subst (λ (s : Session). IsShown setup s e) (sym one_more) shown)
+
+-- ---- all events
+
+-- an event is of the start, or of a step of the list
+abbrev ComesFrom : Setup → StepList → Event → Type 0
+ComesFrom setup list e =
+    Carries (start_events setup list.clients) e
+    ⊎ ((before : List Step) × (x : Step) × IsStepAt list before x × Carries (step_events setup list before x) e)
 
 either : (xs ys : List Event) (e : Event) → Carries (xs ++ ys) e → Carries xs e ⊎ Carries ys e
 either [] ys e has = inr has
@@ -84,37 +114,37 @@ either (x ∷ xs) ys e (inr has) = by (either xs ys e has)
     by (inl left) = inl (inr left)
     by (inr right) = inr right
 
-abbrev ShownBySome : Setup → Session → List Step → Event → Type 0
-ShownBySome setup s xs e = (before : List Step) × (rest : List Step) × (before ++ rest ≡ xs) × IsShown setup (after_steps setup s before) e
-
-shown_by_some : (setup : Setup) (s : Session) (xs : List Step) (e : Event) → Carries (events_after setup s xs) e → ShownBySome setup s xs e
-shown_by_some setup s [] e has = absurd has
-shown_by_some setup s (x ∷ xs) e has =
-    by (shown_by_some setup (stepped setup s x) xs e) (either (events setup s x) (events_after setup (stepped setup s x) xs) e has)
+comes_behind : (setup : Setup) (list : StepList) (before rest : List Step) (e : Event) → before ++ rest ≡ list.steps
+    → Carries (events_after setup (session_at setup list before) rest) e → ComesFrom setup list e
+comes_behind setup list before [] e whole has = absurd has
+comes_behind setup list before (x ∷ rest) e whole has =
+    by (either (step_events setup list before x) (events_after setup (stepped setup (session_at setup list before) x) rest) e has)
+    (comes_behind setup list (before ++ x ∷ []) rest e (append_assoc before (x ∷ []) rest ∙ whole))
   where
-    later : ShownBySome setup (stepped setup s x) xs e → ShownBySome setup s (x ∷ xs) e
-    later (before, rest, whole, shown) = (x ∷ before, rest, ap (λ (l : List Step). x ∷ l) whole, shown)
+    by : Carries (step_events setup list before x) e ⊎ Carries (events_after setup (stepped setup (session_at setup list before) x) rest) e
+        → (Carries (events_after setup (session_at setup list (before ++ x ∷ [])) rest) e → ComesFrom setup list e) → ComesFrom setup list e
+    by (inl now) later = inr (before, x, record { rest = rest; steps = whole }, now)
+    by (inr behind) later =
+        let one_more = session_goes_on setup list.clients before x in
+        later (subst (λ (s : Session). Carries (events_after setup s rest) e) (sym one_more) behind)
 
-    by : (Carries (events_after setup (stepped setup s x) xs) e → ShownBySome setup (stepped setup s x) xs e)
-        → Carries (events setup s x) e ⊎ Carries (events_after setup (stepped setup s x) xs) e → ShownBySome setup s (x ∷ xs) e
-    by more (inl now) = (x ∷ [], xs, refl, events_are_shown setup s x e now)
-    by more (inr behind) = later (more behind)
+comes_from : (setup : Setup) (list : StepList) (e : Event) → Carries (events_of setup list) e → ComesFrom setup list e
+comes_from setup list e has = by (either (start_events setup list.clients) (events_after setup (opened setup list.clients) list.steps) e has)
+  where
+    by : Carries (start_events setup list.clients) e ⊎ Carries (events_after setup (opened setup list.clients) list.steps) e → ComesFrom setup list e
+    by (inl start) = inl start
+    by (inr behind) = comes_behind setup list [] list.steps e refl behind
 
 pub events_show_pasts : EventsShowPasts
-events_show_pasts setup list e limits is has =
-    by (either (start_events setup list.clients) (events_after setup (opened setup list.clients) list.steps) e has)
+events_show_pasts setup list e is has = by (comes_from setup list e has)
   where
-    few : list.clients ≤ setup.players
-    few = is.clients.1
+    by : ComesFrom setup list e → (before : List Step) × (rest : List Step) × (before ++ rest ≡ list.steps) × ShowsPast setup list before e
+    by (inl start) = ([], list.steps, refl, shows setup list [] list.steps e is.clients.1 refl (starts_are_shown setup list.clients e start))
+    by (inr (before, x, at, now)) =
+        let whole : (before ++ x ∷ []) ++ at.rest ≡ list.steps = append_assoc before (x ∷ []) at.rest ∙ at.steps in
+        (before ++ x ∷ [], at.rest, whole, steps_show_pasts setup list before x e is at now)
 
-    from_steps : ShownBySome setup (opened setup list.clients) list.steps e → ShowsPast setup list e
-    from_steps (before, rest, whole, shown) = shows setup list before rest e few whole shown
-
-    by : Carries (start_events setup list.clients) e ⊎ Carries (events_after setup (opened setup list.clients) list.steps) e → ShowsPast setup list e
-    by (inl start) = shows setup list [] list.steps e few refl (starts_are_shown setup list.clients e start)
-    by (inr step) = from_steps (shown_by_some setup (opened setup list.clients) list.steps e step)
-
--- ---- what a client is in the end
+-- ---- the end
 
 ends_at : (setup : Setup) (s : Session) (c t : ℕ) (g : List ℕ) (phase : Phase) → s.client c ≡ phase → end_of setup phase ≡ ends.On t g → IsAt setup s c t g
 ends_at setup s c t g Off is told = absurd (cc)
@@ -125,5 +155,34 @@ ends_at setup s c t g (On seat) is told =
     (seat, is, turn, shown)
 
 pub ends_show_pasts : EndsShowPasts
-ends_show_pasts setup list c t g limits is told =
-    stood setup list list.steps [] c t g is.clients.1 (append-nil list.steps) (ends_at setup (session_of setup list) c t g ((session_of setup list).client c) refl told)
+ends_show_pasts setup list c t g is told =
+    let s = session_of setup list in
+    stands setup list list.steps [] c t g is.clients.1 (append-nil list.steps) (ends_at setup s c t g (s.client c) refl told)
+
+-- ---- the events that are of a step
+
+from_one : (players : ℕ) (x : Step) → IsStep players x → IsFrom 1 players (client_of x)
+from_one players (step.Order c command) is = is.client
+from_one players (step.Up c) is = is.client
+from_one players (step.Down c) is = is.client
+from_one players (step.Play c) is = is.client
+from_one players (step.Join c) is = is.client
+from_one players (step.Cut c) is = is.client
+from_one players (step.Bend c id health) is = is.client
+
+-- each step of a list is of a client of the match
+is_of_client : (setup : Setup) (list : StepList) (before : List Step) (x : Step) → IsStepList setup.players list → IsStepAt list before x
+    → is_client setup (client_of x) ≡ true
+is_of_client setup list before x is at =
+    let all : All (IsStep setup.players) (before ++ x ∷ at.rest) = subst (λ (steps : List Step). All (IsStep setup.players) steps) (sym at.steps) is.steps in
+    let own = from_one setup.players x (All-head (IsStep setup.players) x at.rest (all_right (IsStep setup.players) before (x ∷ at.rest) all)) in
+    and_from _ _ (lt-ltb 0 (client_of x) own.0) (le-leb (client_of x) setup.players own.1)
+
+pub steps_are_told : StepsAreTold
+steps_are_told setup list before x e is at of = steps_have_events setup (session_at setup list before) x e (is_of_client setup list before x is at) of
+
+pub plays_are_told : PlaysAreTold
+plays_are_told setup list before c is at seat can =
+    let turn = suc (turns_in seat.past) in
+    let shown = digest setup (after setup (Turn (seat.known turn) ∷ seat.past)) in
+    steps_are_told setup list before (step.Play c) (event.Play c turn shown) is at (refl, seat, can, refl, refl)

@@ -1,58 +1,95 @@
 -- What the text of a session shows, whatever its steps are.
-use Rattle.std.specs.Prelude.{◌≡◌, ◌↔◌, ℕ, ◌<◌, true, List, [], ◌++◌}
+use Rattle.std.specs.Prelude.{◌≡◌, ◌↔◌, ℕ, suc, ◌<◌, ◌≤◌, true, List, [], ◌∷◌, ◌++◌}
 use Rattle.sim_base.specs.declared.setup.Setup.{Setup}
 use Rattle.sim_base.specs.declared.step.Event.{Event}
 use Rattle.sim_base.specs.declared.step.Event.TheVariants as event
 use Rattle.sim_base.specs.declared.step.Step.{Step}
+use Rattle.sim_base.specs.declared.step.Step.TheVariants as step
 use Rattle.sim_base.specs.Limits.{IsSetup}
-use Rattle.sim_base.specs.Turn.{after, turns_in}
+use Rattle.sim_base.specs.Turn.{Turn, after, turns_in}
 use Rattle.sim_base.specs.Spelling.{digest}
 use Rattle.sim_plain.specs.Notices.{notices}
 use Rattle.sim_lists.specs.declared.step_list.StepList.{StepList}
 use Rattle.sim_lists.specs.StepLists.{IsStepList}
 use Rattle.sim_plain_session.specs.Clients.{Seat, On}
+use Rattle.sim_plain_session.specs.Enabled.{CanPlay, IsOfStep}
 use Rattle.sim_plain_session.specs.Laws.{Carries, notices_in}
 use Rattle.sim_plain_session.specs.Pasts.{rules_of, is_unbent, kept_turns}
-use Rattle.sim_plain_session.specs.Sessions.{session}
 use Rattle.sim_session_text.specs.declared.ending.End.TheVariants as ends
 use Rattle.sim_session_text.specs.Endings.{end_of}
 use Rattle.sim_session_text.specs.Pairs.{clients_apart}
-use Rattle.sim_session_text.specs.SessionText.{session_of, events_of}
+use Rattle.sim_session_text.specs.SessionText.{session_at, session_of, events_of, step_events}
 
--- After some of the steps a client is at this turn, and the digest is that of the state after its past. A past without a bend is
--- exactly the turns up to this one, with the commands that the server keeps of them in the end.
-pub record StoodAt (setup : Setup) (list : StepList) (c turn : ℕ) (shown : List ℕ) : Type 0 where
-  pub before : List Step
+-- a step of the list, with the steps before it
+pub record IsStepAt (list : StepList) (before : List Step) (x : Step) : Type 0 where
   pub rest : List Step
-  pub steps : before ++ rest ≡ list.steps
+  pub steps : before ++ x ∷ rest ≡ list.steps
+
+-- After exactly these steps a client is on, with so many turns in its past, and this is the digest of the state after that past. A past
+-- without a bend is exactly the turns up to this one, with the commands that the server keeps of them then, and still in the end.
+pub record StandsAt (setup : Setup) (list : StepList) (before : List Step) (c turn : ℕ) (shown : List ℕ) : Type 0 where
   pub seat : Seat
-  pub on : (session setup list.clients before).client c ≡ On seat
+  pub on : (session_at setup list before).client c ≡ On seat
   pub turns : turn ≡ turns_in seat.past
   pub state : shown ≡ digest setup (after setup seat.past)
-  pub unbent : is_unbent seat.past ≡ true → seat.past ≡ kept_turns (session_of setup list).server.kept turn
+  pub unbent : is_unbent seat.past ≡ true → seat.past ≡ kept_turns (session_at setup list before).server.kept turn
+  pub final : is_unbent seat.past ≡ true → seat.past ≡ kept_turns (session_of setup list).server.kept turn
 
--- a start, a turn, a load or a bend shows such a client
-abbrev pub ShowsPast : Setup → StepList → Event → Type 0
-ShowsPast setup list (event.Start c g) = StoodAt setup list c 0 g
-ShowsPast setup list (event.Order c t) = Unit {0}
-ShowsPast setup list (event.Play c t g) = StoodAt setup list c t g
-ShowsPast setup list (event.Join c) = Unit {0}
-ShowsPast setup list (event.Load c t g) = StoodAt setup list c t g
-ShowsPast setup list (event.Refused c code) = Unit {0}
-ShowsPast setup list (event.Cut c) = Unit {0}
-ShowsPast setup list (event.Bend c t g) = StoodAt setup list c t g
-ShowsPast setup list (event.Notice t c) = Unit {0}
+-- an event with a digest shows its client as it stands after these steps
+abbrev pub ShowsPast : Setup → StepList → List Step → Event → Type 0
+ShowsPast setup list before (event.Start c g) = StandsAt setup list before c 0 g
+ShowsPast setup list before (event.Order c t) = Unit {0}
+ShowsPast setup list before (event.Play c t g) = StandsAt setup list before c t g
+ShowsPast setup list before (event.Join c) = Unit {0}
+ShowsPast setup list before (event.Load c t g) = StandsAt setup list before c t g
+ShowsPast setup list before (event.Refused c code) = Unit {0}
+ShowsPast setup list before (event.Cut c) = Unit {0}
+ShowsPast setup list before (event.Bend c t g) = StandsAt setup list before c t g
+ShowsPast setup list before (event.Notice t c) = Unit {0}
 
--- each event that has a line shows its client's past
+-- the first state is that of each client that takes part from the start, before any step
+abbrev pub StartsShowPasts : Type 0
+StartsShowPasts =
+    (setup : Setup) (list : StepList) (c : ℕ) → IsStepList setup.players list → 0 < c → c ≤ list.clients
+    → StandsAt setup list [] c 0 (digest setup (after setup []))
+
+-- an event of a step shows its client right after that step
+abbrev pub StepsShowPasts : Type 0
+StepsShowPasts =
+    (setup : Setup) (list : StepList) (before : List Step) (x : Step) (e : Event) → IsStepList setup.players list → IsStepAt list before x
+    → Carries (step_events setup list before x) e → ShowsPast setup list (before ++ x ∷ []) e
+
+-- so each event that has a line shows its client after some of the steps
 abbrev pub EventsShowPasts : Type 0
 EventsShowPasts =
-    (setup : Setup) (list : StepList) (e : Event) → IsSetup setup → IsStepList setup.players list → Carries (events_of setup list) e → ShowsPast setup list e
+    (setup : Setup) (list : StepList) (e : Event) → IsStepList setup.players list → Carries (events_of setup list) e
+    → (before : List Step) × (rest : List Step) × (before ++ rest ≡ list.steps) × ShowsPast setup list before e
 
--- and so does the last line of each client that is on
+-- the last line of each client that is on shows it after all steps
 abbrev pub EndsShowPasts : Type 0
 EndsShowPasts =
-    (setup : Setup) (list : StepList) (c t : ℕ) (g : List ℕ) → IsSetup setup → IsStepList setup.players list
-    → end_of setup ((session_of setup list).client c) ≡ ends.On t g → StoodAt setup list c t g
+    (setup : Setup) (list : StepList) (c t : ℕ) (g : List ℕ) → IsStepList setup.players list
+    → end_of setup ((session_of setup list).client c) ≡ ends.On t g → StandsAt setup list list.steps c t g
+
+-- Where a client can play after these steps, just one event is printed of that play: the turn behind its own, and the digest of the state
+-- after its past and that turn, with the commands that it knows of it.
+abbrev pub PlayIsTold : Setup → StepList → List Step → ℕ → Type 0
+PlayIsTold setup list before c =
+    (seat : Seat) → CanPlay setup (session_at setup list before) c seat
+    → let turn = suc (turns_in seat.past) in
+    step_events setup list before (step.Play c) ≡ event.Play c turn (digest setup (after setup (Turn (seat.known turn) ∷ seat.past))) ∷ []
+
+-- so it is for each play
+abbrev pub PlaysAreTold : Type 0
+PlaysAreTold =
+    (setup : Setup) (list : StepList) (before : List Step) (c : ℕ) → IsStepList setup.players list → IsStepAt list before (step.Play c)
+    → PlayIsTold setup list before c
+
+-- of a step of any kind that has an event just that one is printed
+abbrev pub StepsAreTold : Type 0
+StepsAreTold =
+    (setup : Setup) (list : StepList) (before : List Step) (x : Step) (e : Event) → IsStepList setup.players list → IsStepAt list before x
+    → IsOfStep setup (session_at setup list before) x e → step_events setup list before x ≡ e ∷ []
 
 -- the notices that have a line are, in order, the accepted reports that differ from the first one of their turn
 abbrev pub NoticesAreOfReports : Type 0

@@ -2,20 +2,29 @@
 use Rattle.std.specs.Prelude.{ℕ, List, ◌++◌, flat_map}
 use Rattle.sim_base.specs.declared.setup.Setup.{Setup}
 use Rattle.sim_base.specs.declared.step.Event.{Event}
+use Rattle.sim_base.specs.declared.step.Step.{Step}
 use Rattle.sim_plain.specs.Server.{Server}
 use Rattle.sim_lists.specs.declared.step_list.StepList.{StepList}
 use Rattle.sim_report.specs.Downs.{released_line}
 use Rattle.sim_report.specs.Events.{event_line}
 use Rattle.sim_serve.specs.Served.{kept_lines}
-use Rattle.sim_plain_session.specs.Printed.{session_events}
+use Rattle.sim_plain_session.specs.Printed.{events, session_events}
 use Rattle.sim_plain_session.specs.Sessions.{Session, session}
 use Rattle.sim_session_text.specs.Endings.{end_lines}
 use Rattle.sim_session_text.specs.Pairs.{apart_lines}
 use Rattle.sim_session_text.specs.Pipes.{pipe_lines}
 
--- the session over a list of steps
+-- the session of a list after some of its steps
+abbrev pub session_at : Setup → StepList → List Step → Session
+session_at setup list before = session setup list.clients before
+
+-- and after all of them
 abbrev pub session_of : Setup → StepList → Session
-session_of setup list = session setup list.clients list.steps
+session_of setup list = session_at setup list list.steps
+
+-- what is printed of a step that comes after these
+abbrev pub step_events : Setup → StepList → List Step → Step → List Event
+step_events setup list before x = events setup (session_at setup list before) x
 
 -- all that is printed of the start and of the steps, in order
 abbrev pub events_of : Setup → StepList → List Event

@@ -1,13 +1,22 @@
 //! What the text of a session shows, as the contracts of functions that do nothing.
 
-ghost use Rattle.sim_session_text.specs.Laws.{EventsShowPasts, EndsShowPasts, NoticesAreOfReports, ApartWhereDifferent, UnbentAreTogether};
+ghost use Rattle.sim_session_text.specs.Laws.{StartsShowPasts, StepsShowPasts, EventsShowPasts, EndsShowPasts, PlaysAreTold, StepsAreTold, NoticesAreOfReports, ApartWhereDifferent, UnbentAreTogether};
 ghost use Rattle.sim_session_text.specs.Seen.{EndingsAreSeen};
 
-/// Each digest that is printed is that of the state which the plain turn function gives for a client's past. A past without
-/// a bend is exactly the turns with the commands that the server keeps of them.
+/// Each digest that is printed is that of the state which the plain turn function gives for the past that its client has
+/// right after the step of the line. A past without a bend is exactly the turns with the commands that the server keeps of
+/// them then, and in the end.
 pub fn printed_digests_are_of_pasts()
+    ensures starts { StartsShowPasts }
+    ensures steps { StepsShowPasts }
     ensures events { EventsShowPasts }
     ensures ends { EndsShowPasts }
+{}
+
+/// Each turn that a client plays has just one line, and so has each other step that has one.
+pub fn each_play_is_printed()
+    ensures plays { PlaysAreTold }
+    ensures steps { StepsAreTold }
 {}
 
 /// A notice is printed exactly where an accepted report differs from the first one of its turn.

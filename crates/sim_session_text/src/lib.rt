@@ -26,7 +26,7 @@ pub use apart::{push_apart, push_difference};
 pub use closing::push_ending;
 pub use ending::{End, push_end};
 pub use laws::{
-    clients_apart_differ, endings_are_seen, printed_digests_are_of_pasts,
+    clients_apart_differ, each_play_is_printed, endings_are_seen, printed_digests_are_of_pasts,
     printed_notices_are_of_reports,
 };
 pub use pipe::push_pipe;

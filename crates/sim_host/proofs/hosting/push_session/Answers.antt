@@ -1,5 +1,5 @@
 -- What is printed of the whole session.
-use Rattle.std.proofs.Common.{◌++◌, All, length, sym, ap, ◌∙◌, subst, arith}
+use Rattle.std.proofs.Common.{◌++◌, All, length, sym, ap, ◌∙◌, subst}
 use Rattle.std.specs.Prelude.{string_bytes}
 use Rattle.sim_base.specs.declared.setup.Setup.{Setup}
 use Rattle.sim_session.specs.SessionWords.{seen_in, systems_by}
@@ -8,11 +8,10 @@ use Rattle.sim_session_text.specs.Seen.{IsMember, life_at, ending_seen}
 use Rattle.sim_session_text.specs.SessionText.{session_text}
 use Rattle.std.proofs.lemmas.List.{length-map}
 use Rattle.sim_client.specs.StageWords.{systems_on}
-use Rattle.sim_plain_session.specs.Printed.{start_events, events_after}
+use Rattle.sim_plain_session.specs.Printed.{events_after}
 use Rattle.sim_plain_session.specs.Sessions.{opened}
-use Rattle.sim_host.specs.Rigs.{AllBuiltAtMost, begun_by, builds_of, loads_in}
-use Rattle.sim_host.proofs.Builds.{start_built, all_built_so}
-use Rattle.sim_host.proofs.MoreSteps.{loads_behind}
+use Rattle.sim_host.specs.Rigs.{AllBuiltAtMost, loads_in}
+use Rattle.sim_host.proofs.Stopping.{built_at_start, built_with_steps}
 use Rattle.sim_host.proofs.Telling.{told_whole}
 use Rattle.sim_host.proofs.hosting.push_session.Goals as goal
 
@@ -42,20 +41,36 @@ returns-clause-text g c =
     ∙ ap (λ (s : Setup). old ++ session_text s list) c.in_ok-start.ensures.setup)
     c.push_ending.ensures
 
-pub returns-clause-built : goal.returns-clause-built
-returns-clause-built g c =
-    let begun = c.start.new.self in
+pub returns-in_err-start-clause-built : goal.returns-in_err-start-clause-built
+returns-in_err-start-clause-built g c =
+    let first = systems_by c.args.session.now.clients.items (λ i v. (goal.System-dyn g (i, v)).meaning v) in
+    let next = systems_by c.start.new.self.clients.items (λ i v. (goal.System-dyn g (i, v)).meaning v) in
+    let many = length-map c.args.session.now.clients.items (λ x. systems_on x.board (λ i v. (goal.System-dyn g (i, v)).meaning v)) ∙ c.requires.session.count in
+    built_at_start c.args.session.now.setup.now c.args.list.now first next many c.start.ensures.built
+
+pub returns-in_err-push_starts-clause-built : goal.returns-in_err-push_starts-clause-built
+returns-in_err-push_starts-clause-built g c =
+    let first = systems_by c.args.session.now.clients.items (λ i v. (goal.System-dyn g (i, v)).meaning v) in
+    let next = systems_by c.start.new.self.clients.items (λ i v. (goal.System-dyn g (i, v)).meaning v) in
+    let many = length-map c.args.session.now.clients.items (λ x. systems_on x.board (λ i v. (goal.System-dyn g (i, v)).meaning v)) ∙ c.requires.session.count in
+    built_at_start c.args.session.now.setup.now c.args.list.now first next many c.start.ensures.built
+
+pub returns-in_err-push_steps-clause-built : goal.returns-in_err-push_steps-clause-built
+returns-in_err-push_steps-clause-built g c =
     let list = c.args.list.now in
     let first = systems_by c.args.session.now.clients.items (λ i v. (goal.System-dyn g (i, v)).meaning v) in
-    let next = systems_by begun.clients.items (λ i v. (goal.System-dyn g (i, v)).meaning v) in
-    let last = systems_by c.push_steps.new.session.clients.items (λ i v. (goal.System-dyn g (i, v)).meaning v) in
+    let next = systems_by c.start.new.self.clients.items (λ i v. (goal.System-dyn g (i, v)).meaning v) in
     let many = length-map c.args.session.now.clients.items (λ x. systems_on x.board (λ i v. (goal.System-dyn g (i, v)).meaning v)) ∙ c.requires.session.count in
-    let one = start_built list.clients c.args.session.now.setup.now.players first next many c.in_ok-start.ensures.built in
-    let two = subst (λ (s : Setup). AllBuiltAtMost (loads_in (events_after s (opened s list.clients) list.steps)) s.players next last)
-    c.in_ok-start.ensures.setup c.in_ok-push_steps.ensures.built in
-    let setup = c.args.session.now.setup.now in
-    then_on c.push_ending.result
-    (λ told. all_built_so (begun_by list.clients) (loads_in (events_after setup (opened setup list.clients) list.steps)) (builds_of setup list) setup.players first
-    next last
-    (λ k. omega (arith, loads_behind k (start_events setup list.clients) (events_after setup (opened setup list.clients) list.steps))) one two)
-    c.push_ending.ensures
+    let last = systems_by c.push_steps.new.session.clients.items (λ i v. (goal.System-dyn g (i, v)).meaning v) in
+    let steps = subst (λ (s : Setup). AllBuiltAtMost (loads_in (events_after s (opened s list.clients) list.steps)) s.players next last) c.start.ensures.setup c.push_steps.ensures.built in
+    built_with_steps c.args.session.now.setup.now list first next last many c.start.ensures.built steps
+
+pub returns-clause-built : goal.returns-clause-built
+returns-clause-built g c =
+    let list = c.args.list.now in
+    let first = systems_by c.args.session.now.clients.items (λ i v. (goal.System-dyn g (i, v)).meaning v) in
+    let next = systems_by c.start.new.self.clients.items (λ i v. (goal.System-dyn g (i, v)).meaning v) in
+    let many = length-map c.args.session.now.clients.items (λ x. systems_on x.board (λ i v. (goal.System-dyn g (i, v)).meaning v)) ∙ c.requires.session.count in
+    let last = systems_by c.push_steps.new.session.clients.items (λ i v. (goal.System-dyn g (i, v)).meaning v) in
+    let steps = subst (λ (s : Setup). AllBuiltAtMost (loads_in (events_after s (opened s list.clients) list.steps)) s.players next last) c.start.ensures.setup c.push_steps.ensures.built in
+    built_with_steps c.args.session.now.setup.now list first next last many c.start.ensures.built steps

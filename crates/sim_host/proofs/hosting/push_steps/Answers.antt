@@ -1,22 +1,24 @@
 -- One step more is made, and the lines of its events stand behind those so far.
-use Rattle.std.proofs.Common.{rules, ◌≤◌, ◌<◌, length, take, get_or, ap, ◌∙◌, subst, append_assoc, ◌≡◌, true, List, ◌+◌, sym, arith}
+use Rattle.std.proofs.Common.{rules, ℕ, ◌≤◌, ◌<◌, ◌-◌, length, take, get_or, ap, ◌∙◌, subst, append_assoc, ◌≡◌, true, List, ◌+◌, sym, arith}
 use Rattle.std.specs.Prelude.{string_bytes}
 use Rattle.std.proofs.lemmas.List.{length-map}
 use Rattle.sim_base.specs.declared.setup.Setup.{Setup}
 use Rattle.sim_base.specs.declared.step.Event.{Event}
+use Rattle.sim_base.specs.declared.step.Step.{Step}
 use Rattle.sim_client.specs.StageWords.{systems_on}
 use Rattle.sim_lists.specs.StepLists.{IsStep}
 use Rattle.sim_plain_session.specs.Printed.{events, events_after}
 use Rattle.sim_plain_session.specs.Sessions.{opened, client_of, session as session_over}
-use Rattle.sim_session.specs.Building.{has_load}
+use Rattle.sim_session.specs.Building.{AreBuiltIf, ChangeAt, has_load}
 use Rattle.sim_session.specs.SessionWords.{seen_in, systems_by}
-use Rattle.sim_session.specs.Standing.{Steps}
+use Rattle.sim_session.specs.Standing.{StandsFor, Steps}
 use Rattle.sim_session_text.specs.SessionText.{lines_of}
 use Rattle.sim_session_text.proofs.NextClients.{at_place}
 use Rattle.sim_host.specs.Rigs.{loads_in}
 use Rattle.sim_host.proofs.Builds.{step_built, all_built_so}
 use Rattle.sim_host.proofs.Loads.{loads_are_own}
 use Rattle.sim_host.proofs.MoreSteps.{lines_more, stands_more, loads_more}
+use Rattle.sim_host.proofs.Stopping.{built_by_then}
 use Rattle.sim_host.proofs.hosting.push_steps.Goals as goal
 
 pub loop-step-preserved : goal.loop-step-preserved
@@ -59,3 +61,45 @@ loop-step-preserved g c =
       count = search rules;
       room = c.in_ok-events.ensures.room ∙ was.room;
     }
+
+pub returns-in_err-events-clause-built : goal.returns-in_err-events-clause-built
+returns-in_err-events-clause-built g c =
+    let l = c.loop-step in
+    let was = l.invariant in
+    let setup = c.args.session.now.setup.now in
+    let active = c.args.list.now.clients in
+    let steps = c.args.list.now.steps in
+    let n = l.step-index in
+    let step = c.step-item.result in
+    let lt : n < length steps = search rules in
+    let is = c.step-item.is ∙ ap (λ xs. get_or xs n step) c.as_slice-step-items.ensures in
+    let few : active ≤ setup.players = c.requires.list.clients.1 in
+    let fits = at_place (IsStep setup.players) steps n step c.requires.list.steps lt is in
+    let systems_were = systems_by l.session.clients.items (λ i v. (goal.System-dyn g (i, v)).meaning v) in
+    let systems_are = systems_by c.step.new.self.clients.items (λ i v. (goal.System-dyn g (i, v)).meaning v) in
+    let many = length-map l.session.clients.items (λ x. systems_on x.board (λ i v. (goal.System-dyn g (i, v)).meaning v)) ∙ was.session.count ∙ ap (λ (s : Setup). s.players) was.setup in
+    let loads = subst (λ (s : Setup). (active : ℕ) (steps : List Step) → active ≤ s.players → StandsFor s (seen_in l.session) (session_over s active steps)
+    → ChangeAt (AreBuiltIf (has_load (events s (session_over s active steps) step))) (client_of step - 1) systems_were systems_are) was.setup c.step.ensures.loads in
+    built_by_then setup active n steps step (systems_by c.args.session.now.clients.items (λ i v. (goal.System-dyn g (i, v)).meaning v)) systems_were systems_are lt is (omega (arith, fits.client.0)) many was.built
+    (loads active (take n steps) few was.stands)
+
+pub returns-in_err-push_events-clause-built : goal.returns-in_err-push_events-clause-built
+returns-in_err-push_events-clause-built g c =
+    let l = c.loop-step in
+    let was = l.invariant in
+    let setup = c.args.session.now.setup.now in
+    let active = c.args.list.now.clients in
+    let steps = c.args.list.now.steps in
+    let n = l.step-index in
+    let step = c.step-item.result in
+    let lt : n < length steps = search rules in
+    let is = c.step-item.is ∙ ap (λ xs. get_or xs n step) c.as_slice-step-items.ensures in
+    let few : active ≤ setup.players = c.requires.list.clients.1 in
+    let fits = at_place (IsStep setup.players) steps n step c.requires.list.steps lt is in
+    let systems_were = systems_by l.session.clients.items (λ i v. (goal.System-dyn g (i, v)).meaning v) in
+    let systems_are = systems_by c.step.new.self.clients.items (λ i v. (goal.System-dyn g (i, v)).meaning v) in
+    let many = length-map l.session.clients.items (λ x. systems_on x.board (λ i v. (goal.System-dyn g (i, v)).meaning v)) ∙ was.session.count ∙ ap (λ (s : Setup). s.players) was.setup in
+    let loads = subst (λ (s : Setup). (active : ℕ) (steps : List Step) → active ≤ s.players → StandsFor s (seen_in l.session) (session_over s active steps)
+    → ChangeAt (AreBuiltIf (has_load (events s (session_over s active steps) step))) (client_of step - 1) systems_were systems_are) was.setup c.step.ensures.loads in
+    built_by_then setup active n steps step (systems_by c.args.session.now.clients.items (λ i v. (goal.System-dyn g (i, v)).meaning v)) systems_were systems_are lt is (omega (arith, fits.client.0)) many was.built
+    (loads active (take n steps) few was.stands)

@@ -1,4 +1,4 @@
--- All rigs come back, each system in its place.
+-- All rigs come back in their order, each system in its place.
 use Rattle.std.proofs.Common.{◌∙◌, sym, ap, subst}
 use Rattle.sim_system.specs.Meanings.{HaveKinds}
 use Rattle.sim_system.specs.RigWords.{systems_by}
@@ -7,7 +7,7 @@ use Rattle.std.proofs.lemmas.List.{length-map}
 use Rattle.sim_base.specs.declared.setup.Setup.{Setup}
 use Rattle.sim_session.specs.SessionWords.{rigs_by, systems_by as clients_by}
 use Rattle.sim_host.specs.Rigs.{AllBuiltAtMost, builds_of}
-use Rattle.sim_host.proofs.Builds.{front_built}
+use Rattle.sim_host.proofs.Builds.{front_built, none_built}
 use Rattle.sim_host.proofs.Coming.{same_count, all_back}
 use Rattle.sim_host.proofs.hosting.session_text.Goals as goal
 
@@ -44,8 +44,30 @@ returns-in-Ok-told-clause-built g c =
     let last = clients_by ended.clients.items (λ i v. (g.dyn-2.0.entry i).1.meaning v) in
     let many = length-map begun.clients.items (λ x. systems_on x.board (λ i v. (g.dyn-2.0.entry i).1.meaning v)) ∙ c.in-Ok.ensures.session.count ∙ ap (λ (s : Setup). s.players) c.in-Ok.ensures.setup in
     let more = length-map ended.clients.items (λ x. systems_on x.board (λ i v. (g.dyn-2.0.entry i).1.meaning v)) ∙ c.push_session-told.ensures.count ∙ c.in-Ok.ensures.session.count ∙ ap (λ (s : Setup). s.players) c.in-Ok.ensures.setup in
-    let built = subst (λ (s : Setup). AllBuiltAtMost (builds_of s c.args.list.now) s.players first last) c.in-Ok.ensures.setup c.in-Ok-told.ensures.built in
+    let built = subst (λ (s : Setup). AllBuiltAtMost (builds_of s c.args.list.now) s.players first last) c.in-Ok.ensures.setup c.push_session-told.ensures.built in
     front_built (builds_of setup c.args.list.now) setup.players first last
     (rigs_by begun.rigs.items (λ i v. (g.dyn-2.0.entry i).1.meaning v)) (rigs_by ended.rigs.items (λ i v. (g.dyn-2.0.entry i).1.meaning v))
     (rigs_by c.args.rigs.items (λ i v. (g.dyn-2.0.entry i).1.meaning v)) (rigs_by c.finish-rigs.result.items (λ i v. (g.dyn-2.0.entry i).1.meaning v))
     (sym c.in-Ok.ensures.systems) c.finish-rigs.ensures.systems many more built
+
+pub returns-in-Err-told-clause-built : goal.returns-in-Err-told-clause-built
+returns-in-Err-told-clause-built g c =
+    let setup = c.args.setup.now in
+    let begun = c.in-Ok.session in
+    let ended = c.push_session-told.new.session in
+    let first = clients_by begun.clients.items (λ i v. (g.dyn-2.0.entry i).1.meaning v) in
+    let last = clients_by ended.clients.items (λ i v. (g.dyn-2.0.entry i).1.meaning v) in
+    let many = length-map begun.clients.items (λ x. systems_on x.board (λ i v. (g.dyn-2.0.entry i).1.meaning v)) ∙ c.in-Ok.ensures.session.count ∙ ap (λ (s : Setup). s.players) c.in-Ok.ensures.setup in
+    let more = length-map ended.clients.items (λ x. systems_on x.board (λ i v. (g.dyn-2.0.entry i).1.meaning v)) ∙ c.push_session-told.ensures.count ∙ c.in-Ok.ensures.session.count ∙ ap (λ (s : Setup). s.players) c.in-Ok.ensures.setup in
+    let built = subst (λ (s : Setup). AllBuiltAtMost (builds_of s c.args.list.now) s.players first last) c.in-Ok.ensures.setup c.push_session-told.ensures.built in
+    front_built (builds_of setup c.args.list.now) setup.players first last
+    (rigs_by begun.rigs.items (λ i v. (g.dyn-2.0.entry i).1.meaning v)) (rigs_by ended.rigs.items (λ i v. (g.dyn-2.0.entry i).1.meaning v))
+    (rigs_by c.args.rigs.items (λ i v. (g.dyn-2.0.entry i).1.meaning v)) (rigs_by c.finish-rigs.result.items (λ i v. (g.dyn-2.0.entry i).1.meaning v))
+    (sym c.in-Ok.ensures.systems) c.finish-rigs.ensures.systems many more built
+
+pub returns-in-Err-clause-built : goal.returns-in-Err-clause-built
+returns-in-Err-clause-built g c =
+    let rigs = rigs_by c.args.rigs.items (λ i v. (g.dyn-2.0.entry i).1.meaning v) in
+    let setup = c.args.setup.now in
+    subst (λ back. AllBuiltAtMost (builds_of setup c.args.list.now) setup.players rigs (rigs_by back.items (λ i v. (g.dyn-2.0.entry i).1.meaning v))) (sym c.in-Err.ensures.back)
+    (none_built (builds_of setup c.args.list.now) setup.players rigs)

@@ -1,9 +1,15 @@
--- The server hears what a client said.
-use Rattle.std.proofs.Common.{sym, subst}
-use Rattle.std.specs.Prelude.{IfOk}
-use Rattle.sim_client.specs.StageWords.{life_at}
-use Rattle.sim_session.specs.Standing.{Makes}
-use Rattle.sim_session.proofs.Beside.{up_makes}
+-- The server hears what a client said; systems are built by loads alone; and a step that is not enabled comes to an end.
+use Rattle.std.proofs.Common.{refl, sym, subst}
+use Rattle.std.specs.Prelude.{IfOk, IsOk}
+use Rattle.sim_base.specs.declared.step.Step.{Step}
+use Rattle.sim_plain_session.specs.Printed.{events_by}
+use Rattle.sim_plain_session.specs.Sessions.{Session, client_of}
+use Rattle.sim_client.specs.StageWords.{life_at, systems_on}
+use Rattle.sim_server.specs.Standing.{IsClient}
+use Rattle.sim_session.specs.Building.{AreBuiltIf, has_load}
+use Rattle.sim_session.specs.Standing.{Makes, StandBeside}
+use Rattle.sim_session.proofs.Beside.{up_makes, kept_built, unbuilt}
+use Rattle.sim_session.proofs.Idling.{WhereIdle, order_idle, up_idle, down_idle, play_idle, join_idle, cut_idle, bend_idle}
 use Rattle.sim_session.proofs.acting.act.Goals as goal
 
 pub returns-in-Up-clause-made : goal.returns-in-Up-clause-made
@@ -13,3 +19,86 @@ returns-in-Up-clause-made g c =
     let life = life_at client.stage client.board in
     subst (λ x. IfOk c.rise.result (λ events. Makes setup x life c.args.exchange.now life c.rise.new.self events)) (sym c.in-Up.is)
     (up_makes setup c.in-Up.number life c.args.exchange.now c.rise.new.self c.rise.result (c.rise.ensures.stands setup) (c.rise.ensures.events setup))
+
+-- ---- what builds systems
+
+pub returns-in-Order-clause-loads : goal.returns-in-Order-clause-loads
+returns-in-Order-clause-loads g c = λ s at. kept_built (has_load (events_by c.args.client.now.setup.now s c.args.step.now)) _ _ c.order.ensures.kept
+
+pub returns-in-Up-clause-loads : goal.returns-in-Up-clause-loads
+returns-in-Up-clause-loads g c = λ s at. unbuilt (has_load (events_by c.args.client.now.setup.now s c.args.step.now)) _
+
+pub returns-in-Down-clause-loads : goal.returns-in-Down-clause-loads
+returns-in-Down-clause-loads g c =
+    let client = c.args.client.now in
+    let new = c.down.new.client in
+    let setup = client.setup.now in
+    let life = life_at client.stage client.board in
+    subst (λ (x : Step). (s : Session) → StandBeside setup (client_of x) life c.args.exchange.now s
+    → AreBuiltIf (has_load (events_by setup s x)) (systems_on client.board (λ i v. (goal.System-dyn g (i, v)).meaning v)) (systems_on new.board (λ i v. (goal.System-dyn g (i, v)).meaning v)))
+    (sym c.in-Down.is) c.down.ensures.loads
+
+pub returns-in-Play-clause-loads : goal.returns-in-Play-clause-loads
+returns-in-Play-clause-loads g c = λ s at. kept_built (has_load (events_by c.args.client.now.setup.now s c.args.step.now)) _ _ c.play.ensures.kept
+
+pub returns-in-Join-clause-loads : goal.returns-in-Join-clause-loads
+returns-in-Join-clause-loads g c = λ s at. kept_built (has_load (events_by c.args.client.now.setup.now s c.args.step.now)) _ _ c.join.ensures.kept
+
+pub returns-in-Cut-clause-loads : goal.returns-in-Cut-clause-loads
+returns-in-Cut-clause-loads g c = λ s at. kept_built (has_load (events_by c.args.client.now.setup.now s c.args.step.now)) _ _ c.cut.ensures.kept
+
+pub returns-in-Bend-clause-loads : goal.returns-in-Bend-clause-loads
+returns-in-Bend-clause-loads g c = λ s at. kept_built (has_load (events_by c.args.client.now.setup.now s c.args.step.now)) _ _ c.bend.ensures.kept
+
+-- ---- what takes no memory
+
+pub returns-in-Order-clause-idle : goal.returns-in-Order-clause-idle
+returns-in-Order-clause-idle g c =
+    let client = c.args.client.now in
+    let life = life_at client.stage client.board in
+    subst (λ (x : Step). WhereIdle client.setup.now x life c.args.exchange.now (IsOk c.order.result)) (sym c.in-Order.is)
+    (order_idle client.setup.now c.in-Order.number c.in-Order.command life c.args.exchange.now (IsOk c.order.result) c.order.ensures.idle)
+
+pub returns-in-Up-clause-idle : goal.returns-in-Up-clause-idle
+returns-in-Up-clause-idle g c =
+    let client = c.args.client.now in
+    let life = life_at client.stage client.board in
+    let is_client = subst (λ (x : Step). IsClient c.args.exchange.now.server (client_of x)) c.in-Up.is c.requires.client in
+    subst (λ (x : Step). WhereIdle client.setup.now x life c.args.exchange.now (IsOk c.rise.result)) (sym c.in-Up.is)
+    (up_idle client.setup.now c.in-Up.number life c.args.exchange.now (IsOk c.rise.result) is_client (λ none. subst IsOk (sym (c.rise.ensures.none none)) refl))
+
+pub returns-in-Down-clause-idle : goal.returns-in-Down-clause-idle
+returns-in-Down-clause-idle g c =
+    let client = c.args.client.now in
+    let life = life_at client.stage client.board in
+    let is_client = subst (λ (x : Step). IsClient c.args.exchange.now.server (client_of x)) c.in-Down.is c.requires.client in
+    subst (λ (x : Step). WhereIdle client.setup.now x life c.args.exchange.now (IsOk c.down.result)) (sym c.in-Down.is)
+    (down_idle client.setup.now c.in-Down.number life c.args.exchange.now (IsOk c.down.result) is_client c.down.ensures.idle)
+
+pub returns-in-Play-clause-idle : goal.returns-in-Play-clause-idle
+returns-in-Play-clause-idle g c =
+    let client = c.args.client.now in
+    let life = life_at client.stage client.board in
+    subst (λ (x : Step). WhereIdle client.setup.now x life c.args.exchange.now (IsOk c.play.result)) (sym c.in-Play.is)
+    (play_idle client.setup.now c.in-Play.number life c.args.exchange.now (IsOk c.play.result) c.play.ensures.idle)
+
+pub returns-in-Join-clause-idle : goal.returns-in-Join-clause-idle
+returns-in-Join-clause-idle g c =
+    let client = c.args.client.now in
+    let life = life_at client.stage client.board in
+    subst (λ (x : Step). WhereIdle client.setup.now x life c.args.exchange.now (IsOk c.join.result)) (sym c.in-Join.is)
+    (join_idle client.setup.now c.in-Join.number life c.args.exchange.now (IsOk c.join.result) c.join.ensures.idle)
+
+pub returns-in-Cut-clause-idle : goal.returns-in-Cut-clause-idle
+returns-in-Cut-clause-idle g c =
+    let client = c.args.client.now in
+    let life = life_at client.stage client.board in
+    subst (λ (x : Step). WhereIdle client.setup.now x life c.args.exchange.now (IsOk c.cut.result)) (sym c.in-Cut.is)
+    (cut_idle client.setup.now c.in-Cut.number life c.args.exchange.now (IsOk c.cut.result) c.cut.ensures.idle)
+
+pub returns-in-Bend-clause-idle : goal.returns-in-Bend-clause-idle
+returns-in-Bend-clause-idle g c =
+    let client = c.args.client.now in
+    let life = life_at client.stage client.board in
+    subst (λ (x : Step). WhereIdle client.setup.now x life c.args.exchange.now (IsOk c.bend.result)) (sym c.in-Bend.is)
+    (bend_idle client.setup.now c.in-Bend.number c.in-Bend.entity c.in-Bend.health life c.args.exchange.now (IsOk c.bend.result) c.bend.ensures.idle)

@@ -2,9 +2,19 @@
 use Rattle.std.proofs.Common.{All, sym, subst, ◌∙◌}
 use Rattle.sim_wire.specs.Fits.{IsSmallUp}
 use Rattle.sim_client.specs.StageWords.{life_at}
-use Rattle.sim_session.specs.Printing.{played_events, has_happened}
-use Rattle.sim_session.proofs.Beside.{play_small, play_makes}
+use Rattle.sim_base.specs.declared.setup.Setup.{Setup}
+use Rattle.sim_session.specs.Printing.{played_events, has_happened, IsDigestOf}
+use Rattle.sim_session.specs.Standing.{said_by}
+use Rattle.sim_session.proofs.Beside.{play_small, play_makes, play_digest}
 use Rattle.sim_session.proofs.acting.play.Goals as goal
+
+pub played-requires-clause-told : goal.played-requires-clause-told
+played-requires-clause-told g c =
+    let client = c.args.client.now in
+    let new = c.play.new.self in
+    let new_life = life_at new.stage new.board in
+    subst (λ (s : Setup). IsDigestOf s new_life (said_by c.in_ok-did.did)) (sym c.in_ok-did.ensures.setup)
+    (play_digest client.setup.now (life_at client.stage client.board) c.in_ok-did.did new_life c.in_ok-did.ensures.answers)
 
 pub send-requires-clause-small : goal.send-requires-clause-small
 send-requires-clause-small g c =
@@ -20,4 +30,4 @@ returns-clause-made g c =
     let new_life = life_at new.stage new.board in
     play_makes client.setup.now c.args.number (life_at client.stage client.board) new_life c.args.exchange.now c.send.new.self c.in_ok-did.did c.in_ok-events.events
     c.in_ok-did.ensures.answers (λ s acted conveys is. c.in_ok-send.ensures.stands client.setup.now s acted conveys (c.as_slice.ensures ∙ c.ups_of-ups.ensures ∙ is))
-    (c.in_ok-events.ensures ∙ (λ i. played_events (c.in_ok-did.ensures.setup i) c.args.number new_life (has_happened c.in_ok-did.did)))
+    (c.in_ok-events.ensures.events ∙ (λ i. played_events (c.in_ok-did.ensures.setup i) c.args.number new_life (has_happened c.in_ok-did.did)))

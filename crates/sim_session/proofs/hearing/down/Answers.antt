@@ -6,7 +6,10 @@ use Rattle.sim_pipes.specs.Exchanges.{Falls}
 use Rattle.sim_wire.specs.Fits.{IsSmallUp}
 use Rattle.sim_session.specs.Printing.{has_happened, heard_events}
 use Rattle.sim_session.specs.Standing.{Makes}
-use Rattle.sim_session.proofs.Heard.{heard_small, heard_makes, heard_built, none_makes}
+use Rattle.sim_plain_session.specs.Printed.{events_by}
+use Rattle.sim_session.specs.Building.{has_load}
+use Rattle.sim_session.proofs.Beside.{unbuilt}
+use Rattle.sim_session.proofs.Heard.{heard_small, heard_makes, heard_built, heard_loads, none_makes}
 use Rattle.sim_session.proofs.hearing.down.Goals as goal
 
 pub returns-in_default-clause-made : goal.returns-in_default-clause-made
@@ -60,3 +63,43 @@ returns-clause-built g c =
     c.in_ok-did.ensures.answers
     (c.in_ok-events.ensures ∙ (λ i. heard_events (same i) c.args.number new_life (refusal i) (state i) (has_happened c.in_ok-did.did)))
     some.0 _ _ some.1 some.2 c.in_ok-did.ensures.kept c.in_ok-did.ensures.most
+
+-- ---- what builds systems, also where memory was refused
+
+pub returns-in_err-down-clause-loads : goal.returns-in_err-down-clause-loads
+returns-in_err-down-clause-loads g c = λ s at. unbuilt (has_load (events_by c.args.client.now.setup.now s (step.Down c.args.number))) _
+
+pub returns-in_default-clause-loads : goal.returns-in_default-clause-loads
+returns-in_default-clause-loads g c = λ s at. unbuilt (has_load (events_by c.args.client.now.setup.now s (step.Down c.args.number))) _
+
+pub returns-in_err-did-clause-loads : goal.returns-in_err-did-clause-loads
+returns-in_err-did-clause-loads g c = λ s at.
+    let client = c.args.client.now in
+    let setup = client.setup.now in
+    heard_loads setup c.args.number s (life_at client.stage client.board) c.in-Some.down c.args.exchange.now c.fall.new.self _ _ at
+    (λ s conveys. subst (λ read. Falls setup c.fall.new.self c.args.number s (s.downs c.args.number) read) c.in-Some.is (c.in_ok-down.ensures.stands setup s conveys))
+    c.hear.ensures.kept c.hear.ensures.most
+
+pub returns-in_err-events-clause-loads : goal.returns-in_err-events-clause-loads
+returns-in_err-events-clause-loads g c = λ s at.
+    let client = c.args.client.now in
+    let setup = client.setup.now in
+    heard_loads setup c.args.number s (life_at client.stage client.board) c.in-Some.down c.args.exchange.now c.fall.new.self _ _ at
+    (λ s conveys. subst (λ read. Falls setup c.fall.new.self c.args.number s (s.downs c.args.number) read) c.in-Some.is (c.in_ok-down.ensures.stands setup s conveys))
+    c.hear.ensures.kept c.hear.ensures.most
+
+pub returns-in_err-send-clause-loads : goal.returns-in_err-send-clause-loads
+returns-in_err-send-clause-loads g c = λ s at.
+    let client = c.args.client.now in
+    let setup = client.setup.now in
+    heard_loads setup c.args.number s (life_at client.stage client.board) c.in-Some.down c.args.exchange.now c.fall.new.self _ _ at
+    (λ s conveys. subst (λ read. Falls setup c.fall.new.self c.args.number s (s.downs c.args.number) read) c.in-Some.is (c.in_ok-down.ensures.stands setup s conveys))
+    c.hear.ensures.kept c.hear.ensures.most
+
+pub returns-clause-loads : goal.returns-clause-loads
+returns-clause-loads g c = λ s at.
+    let client = c.args.client.now in
+    let setup = client.setup.now in
+    heard_loads setup c.args.number s (life_at client.stage client.board) c.in-Some.down c.args.exchange.now c.fall.new.self _ _ at
+    (λ s conveys. subst (λ read. Falls setup c.fall.new.self c.args.number s (s.downs c.args.number) read) c.in-Some.is (c.in_ok-down.ensures.stands setup s conveys))
+    c.hear.ensures.kept c.hear.ensures.most

@@ -1,6 +1,6 @@
--- Both are lemmas.
-use Rattle.sim_session_text.proofs.Showing.{events_show_pasts, ends_show_pasts}
+-- All are lemmas.
+use Rattle.sim_session_text.proofs.Showing.{starts_show_pasts, steps_show_pasts, events_show_pasts, ends_show_pasts}
 use Rattle.sim_session_text.proofs.laws.printed_digests_are_of_pasts.Goals as goal
 
 pub returns : goal.returns
-returns c = record { events = events_show_pasts; ends = ends_show_pasts }
+returns c = record { starts = starts_show_pasts; steps = steps_show_pasts; events = events_show_pasts; ends = ends_show_pasts }

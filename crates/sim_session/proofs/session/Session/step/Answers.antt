@@ -1,15 +1,18 @@
 -- One client acts in its place in the list, and all others are as they were.
-use Rattle.std.proofs.Common.{◌-◌, ◌<◌, length, get_or, set, sym, subst, ap, ◌∙◌, arith}
+use Rattle.std.proofs.Common.{List, ◌-◌, ◌<◌, length, get_or, set, sym, subst, ap, ◌∙◌, arith}
 use Rattle.std.proofs.lemmas.List.{length-set}
 use Rattle.std.proofs.lemmas.List.Elements.{All-set}
 use Rattle.sim_client.specs.StageWords.{life_at, systems_on}
-use Rattle.sim_plain_session.specs.Sessions.{client_of}
+use Rattle.sim_plain_session.specs.Sessions.{client_of, stepped_by, session}
 use Rattle.sim_session.specs.Building.{AreBuilt, AreBuiltIf, ChangeAt, has_load}
+use Rattle.sim_base.specs.declared.setup.Setup.{Setup}
+use Rattle.sim_base.specs.declared.step.Event.{Event}
+use Rattle.sim_plain_session.specs.Printed.{events_by}
 use Rattle.sim_session.specs.SessionWords.{IsMemberBy, systems_by, lives_of}
 use Rattle.sim_session.specs.Standing.{Makes}
 use Rattle.sim_session.proofs.Beside.{then_ok, then_on}
 use Rattle.sim_session.proofs.Seating.{changed, kinds_put, was_there}
-use Rattle.sim_session.proofs.Stepping.{some_beside, goes_on_at}
+use Rattle.sim_session.proofs.Stepping.{some_beside, one_beside, events_are, stepped_is, goes_on_at}
 use Rattle.sim_session.proofs.session.Session.step.Goals as goal
 
 pub act-requires-clause-sound : goal.act-requires-clause-sound
@@ -103,3 +106,43 @@ returns-clause-most g c =
     let old_systems = systems_by self.clients.items (λ i v. (goal.System-dyn g (i, v)).meaning v) in
     subst (λ k. ChangeAt AreBuilt (k - 1) old_systems (systems_by (set self.clients.items i new) (λ i v. (goal.System-dyn g (i, v)).meaning v))) is
     (changed AreBuilt (λ x. systems_on x.board (λ i v. (goal.System-dyn g (i, v)).meaning v)) self.clients.items i client new within c.index_mut-client.ensures.value c.act.ensures.most)
+
+pub returns-clause-loads : goal.returns-clause-loads
+returns-clause-loads g c = λ active steps few stands.
+    let self = c.args.self.now in
+    let i = c.client_of-number.result - 1 in
+    let is = c.client_of-number.ensures in
+    let client = c.index_mut-client.result.now in
+    let within : i < length self.clients.items = omega (arith, is, c.requires.session.count, c.requires.client.0, c.requires.client.1) in
+    let member = subst (λ x. IsMemberBy self.setup.now x (λ i v. (goal.System-dyn g (i, v)).meaning v)) (sym c.index_mut-client.ensures.value) (c.requires.session.members i client within) in
+    let own = life_at client.stage client.board in
+    let x = c.args.step.now in
+    let s = session self.setup.now active steps in
+    let here = was_there (λ x. life_at x.stage x.board) self.clients.items (client_of x - 1) client _ (omega (arith, within, is)) (c.index_mut-client.ensures.value ∙ ap (λ k. get_or self.clients.items (k - 1) client) is) in
+    let at = one_beside self.setup.now c.requires.session.limits x c.requires.client client.setup.now (record { lives = lives_of self.clients.items; held = self.exchange }) own member.same here s stands in
+    let new = c.act.new.client in
+    let events = events_are self.setup.now c.requires.session.limits x c.requires.client s in
+    let there = sym (events ∙ ap (λ (m : Setup). events_by m s x) (sym member.same)) in
+    let old_systems = systems_by self.clients.items (λ i v. (goal.System-dyn g (i, v)).meaning v) in
+    let new_systems = systems_by (set self.clients.items i new) (λ i v. (goal.System-dyn g (i, v)).meaning v) in
+    subst (λ (es : List Event). ChangeAt (AreBuiltIf (has_load es)) (client_of x - 1) old_systems new_systems) there
+    (subst (λ k. ChangeAt (AreBuiltIf (has_load (events_by client.setup.now s x))) (k - 1) old_systems new_systems) is
+    (changed (AreBuiltIf (has_load (events_by client.setup.now s x))) (λ x. systems_on x.board (λ i v. (goal.System-dyn g (i, v)).meaning v)) self.clients.items i client new within
+    c.index_mut-client.ensures.value (c.act.ensures.loads s at)))
+
+pub returns-clause-idle : goal.returns-clause-idle
+returns-clause-idle g c = λ active steps few stands idle.
+    let self = c.args.self.now in
+    let i = c.client_of-number.result - 1 in
+    let is = c.client_of-number.ensures in
+    let client = c.index_mut-client.result.now in
+    let within : i < length self.clients.items = omega (arith, is, c.requires.session.count, c.requires.client.0, c.requires.client.1) in
+    let member = subst (λ x. IsMemberBy self.setup.now x (λ i v. (goal.System-dyn g (i, v)).meaning v)) (sym c.index_mut-client.ensures.value) (c.requires.session.members i client within) in
+    let own = life_at client.stage client.board in
+    let x = c.args.step.now in
+    let s = session self.setup.now active steps in
+    let here = was_there (λ x. life_at x.stage x.board) self.clients.items (client_of x - 1) client _ (omega (arith, within, is)) (c.index_mut-client.ensures.value ∙ ap (λ k. get_or self.clients.items (k - 1) client) is) in
+    let at = one_beside self.setup.now c.requires.session.limits x c.requires.client client.setup.now (record { lives = lives_of self.clients.items; held = self.exchange }) own member.same here s stands in
+    c.act.ensures.idle s at
+    (ap (λ (m : Setup). events_by m s x) member.same ∙ sym (events_are self.setup.now c.requires.session.limits x c.requires.client s) ∙ idle.shown)
+    (ap (λ (m : Setup). stepped_by m s x) member.same ∙ sym (stepped_is self.setup.now c.requires.session.limits x c.requires.client s) ∙ idle.same)

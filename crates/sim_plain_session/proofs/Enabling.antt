@@ -1,0 +1,227 @@
+-- An event of a step is of that step, and a step that an event is of has just that one.
+use Rattle.std.proofs.Common.{◌≡◌, inl, inr, ℕ, suc, Bool, true, false, nat_lt, List, [], ◌∷◌, map, filter, Option, Some, None, is_none, refl, sym, ap, ◌∙◌, subst, if◌then◌else◌, ℤ}
+use Rattle.std.proofs.lemmas.Bool.{and_parts, and_from, lt-ltb, ltb-true, cond-true}
+use Rattle.sim_base.specs.declared.command.Command.{Command}
+use Rattle.sim_base.specs.declared.setup.Setup.{Setup}
+use Rattle.sim_base.specs.declared.step.Step.{Step}
+use Rattle.sim_base.specs.declared.step.Step.TheVariants as step
+use Rattle.sim_base.specs.declared.step.Event.{Event}
+use Rattle.sim_base.specs.declared.step.Event.TheVariants as event
+use Rattle.sim_base.specs.Rows.{row_of}
+use Rattle.sim_base.specs.Turn.{Past, Turn, may_bend, after, turns_in}
+use Rattle.sim_base.specs.Spelling.{digest}
+use Rattle.sim_plain.specs.declared.message.UpOf.TheVariants as up
+use Rattle.sim_plain.specs.declared.message.DownOf.TheVariants as down
+use Rattle.sim_plain.specs.History.{is_accepted}
+use Rattle.sim_plain.specs.Messages.{Heard}
+use Rattle.sim_plain.specs.Notices.{Report}
+use Rattle.sim_plain.specs.Posts.{differs}
+use Rattle.sim_plain.specs.Server.{report_fault}
+use Rattle.sim_plain_session.specs.Clients.{Up, Down, Seat, Phase, Off, Joining, On, idle, may_order, ordered, orders, may_play, played, may_tell_done, play_event, told_with_done, told_alone, told, plays, joins, bent_seat, bend_event, shows_bend, bends}
+use Rattle.sim_plain_session.specs.Enabled.{CanOrder, CanPlay, CanBend, CanLoad, ReportsOther, IsOfStep, EventsAreOfSteps, StepsHaveEvents}
+use Rattle.sim_plain_session.specs.Laws.{Carries}
+use Rattle.sim_plain_session.specs.Pasts.{rules_of, is_client}
+use Rattle.sim_plain_session.specs.Printed.{rise_events, fall_events, leave_events, events_by}
+use Rattle.sim_plain_session.specs.Sessions.{Session, client_of}
+
+-- ---- an event of a step is of that step
+
+-- what holds of the one event that is there holds of each
+of_one : (setup : Setup) (s : Session) (x : Step) (own e : Event) → IsOfStep setup s x own → Carries (own ∷ []) e → IsOfStep setup s x e
+of_one setup s x own e of (inl same) = subst (λ (y : Event). IsOfStep setup s x y) same of
+of_one setup s x own e of (inr none) = absurd none
+
+of_order : (setup : Setup) (s : Session) (c : ℕ) (command : Command) (e : Event) (ph : Phase) → s.client c ≡ ph → Carries (orders setup c command ph).events e
+    → IsOfStep setup s (step.Order c command) e
+of_order setup s c command e Off is has = absurd has
+of_order setup s c command e Joining is has = absurd has
+of_order setup s c command e (On seat) is has = by (may_order setup seat) refl has
+  where
+    by : (b : Bool) → may_order setup seat ≡ b → Carries (if b then ordered c command seat else idle (On seat)).events e
+        → IsOfStep setup s (step.Order c command) e
+    by true may has =
+        let parts = and_parts (nat_lt seat.done setup.turns) (nat_lt seat.orders 64) may in
+        let can : CanOrder setup s c seat = record { on = is; turn = ltb-true _ _ parts.0; few = ltb-true _ _ parts.1 } in
+        of_one setup s (step.Order c command) (event.Order c (suc seat.done)) e (refl, seat, can, refl) has
+    by false may has = absurd has
+
+-- the event of a turn that was played, whether or not the client is done with one turn more
+told_one : (setup : Setup) (c : ℕ) (seat : Seat) (b : Bool)
+    → (if b then told_with_done setup c seat else told_alone setup c seat).events ≡ play_event setup c seat ∷ []
+told_one setup c seat true = refl
+told_one setup c seat false = refl
+
+of_play : (setup : Setup) (s : Session) (c : ℕ) (e : Event) (ph : Phase) → s.client c ≡ ph → Carries (plays setup c ph).events e
+    → IsOfStep setup s (step.Play c) e
+of_play setup s c e Off is has = absurd has
+of_play setup s c e Joining is has = absurd has
+of_play setup s c e (On seat) is has = by (may_play setup seat) refl has
+  where
+    by : (b : Bool) → may_play setup seat ≡ b → Carries (if b then told setup c (played seat) else idle (On seat)).events e → IsOfStep setup s (step.Play c) e
+    by true may has =
+        let parts = and_parts (nat_lt (turns_in seat.past) setup.turns) (nat_lt (turns_in seat.past) seat.released) may in
+        let can : CanPlay setup s c seat = record { on = is; turn = ltb-true _ _ parts.0; released = ltb-true _ _ parts.1 } in
+        of_one setup s (step.Play c) (play_event setup c (played seat)) e (refl, seat, can, refl, refl)
+        (subst (λ (es : List Event). Carries es e) (told_one setup c (played seat) (may_tell_done setup (played seat))) has)
+    by false may has = absurd has
+
+of_join : (setup : Setup) (s : Session) (c : ℕ) (e : Event) (ph : Phase) → s.client c ≡ ph → Carries (joins c ph).events e → IsOfStep setup s (step.Join c) e
+of_join setup s c e Off is has = of_one setup s (step.Join c) (event.Join c) e (refl, is) has
+of_join setup s c e Joining is has = absurd has
+of_join setup s c e (On seat) is has = absurd has
+
+joining_is_not_off : Joining ≡ Off → ⊥
+joining_is_not_off same = cc
+
+on_is_not_off : (seat : Seat) → On seat ≡ Off → ⊥
+on_is_not_off seat same = cc
+
+of_cut : (setup : Setup) (s : Session) (c : ℕ) (e : Event) (ph : Phase) → s.client c ≡ ph → Carries (leave_events c ph) e → IsOfStep setup s (step.Cut c) e
+of_cut setup s c e Off is has = absurd has
+of_cut setup s c e Joining is has = of_one setup s (step.Cut c) (event.Cut c) e (refl, λ off. joining_is_not_off (sym is ∙ off)) has
+of_cut setup s c e (On seat) is has = of_one setup s (step.Cut c) (event.Cut c) e (refl, λ off. on_is_not_off seat (sym is ∙ off)) has
+
+of_bend : (setup : Setup) (s : Session) (c id : ℕ) (health : ℤ) (e : Event) (ph : Phase) → s.client c ≡ ph → Carries (bends setup c id health ph).events e
+    → IsOfStep setup s (step.Bend c id health) e
+of_bend setup s c id health e Off is has = absurd has
+of_bend setup s c id health e Joining is has = absurd has
+of_bend setup s c id health e (On seat) is has = by (may_bend setup health (row_of (after setup seat.past) id)) refl has
+  where
+    by : (b : Bool) → may_bend setup health (row_of (after setup seat.past) id) ≡ b
+        → Carries (if b then shows_bend setup c (bent_seat id health seat) else idle (On seat)).events e → IsOfStep setup s (step.Bend c id health) e
+    by true may has =
+        let can : CanBend setup s c id health seat = record { on = is; may = may } in
+        of_one setup s (step.Bend c id health) (bend_event setup c (bent_seat id health seat)) e (refl, seat, can, refl, refl) has
+    by false may has = absurd has
+
+of_refusal : (setup : Setup) (s : Session) (c code : ℕ) (e : Event) (rest : List Down) → s.downs c ≡ down.Refused code ∷ rest
+    → Carries (event.Refused c code ∷ []) e → IsOfStep setup s (step.Down c) e
+of_refusal setup s c code e rest next has = of_one setup s (step.Down c) (event.Refused c code) e (refl, record { rest = rest; next = next }) has
+
+of_fall : (setup : Setup) (s : Session) (c : ℕ) (e : Event) (ph : Phase) (downs : List Down) → s.client c ≡ ph → s.downs c ≡ downs
+    → Carries (fall_events setup c ph downs) e → IsOfStep setup s (step.Down c) e
+of_fall setup s c e ph [] is next has = absurd has
+of_fall setup s c e Joining (down.State done past ∷ rest) is next has =
+    let can : CanLoad s c past = record { joining = is; done = done; rest = rest; next = next } in
+    of_one setup s (step.Down c) (event.Load c (turns_in past) (digest setup (after setup past))) e (refl, past, can, refl, refl) has
+of_fall setup s c e Off (down.Refused code ∷ rest) is next has = of_refusal setup s c code e rest next has
+of_fall setup s c e Joining (down.Refused code ∷ rest) is next has = of_refusal setup s c code e rest next has
+of_fall setup s c e (On seat) (down.Refused code ∷ rest) is next has = of_refusal setup s c code e rest next has
+of_fall setup s c e ph (x ∷ rest) is next has = absurd has
+
+-- a notice of each of these reports
+abbrev noticed_of : List Report → List Event
+noticed_of rs = map (λ (n : ℕ × ℕ). event.Notice n.0 n.1) (map (λ (r : Report). (r.0, r.1.0)) rs)
+
+-- and of those that differ from the first one of their turn
+abbrev notices_of : Session → List Report → List Event
+notices_of s rs = noticed_of (filter (λ (r : Report). differs (s.server.reference r.0) r.1.1) rs)
+
+-- what has no report gives none
+no_notice : (s : Session) (b : Bool) (e : Event) → Carries (notices_of s (if b then [] else [])) e → ⊥
+no_notice s true e has = has
+no_notice s false e has = has
+
+of_report : (setup : Setup) (s : Session) (c t : ℕ) (g : List ℕ) (rest : List Up) (e : Event) → s.ups c ≡ up.Report t g ∷ rest
+    → Carries (notices_of s (if is_none (report_fault s.server.released t (s.server.status c)) then (t, (c, g)) ∷ [] else [])) e
+    → IsOfStep setup s (step.Up c) e
+of_report setup s c t g rest e next has = heard (report_fault s.server.released t (s.server.status c)) refl has
+  where
+    other : (b : Bool) → report_fault s.server.released t (s.server.status c) ≡ None → differs (s.server.reference t) g ≡ b
+        → Carries (noticed_of (if b then (t, (c, g)) ∷ [] else [])) e → IsOfStep setup s (step.Up c) e
+    other true accepted differ has =
+        let reports : ReportsOther s c t = record { mark = g; rest = rest; next = next; accepted = accepted; other = differ } in
+        of_one setup s (step.Up c) (event.Notice t c) e (refl, reports) has
+    other false accepted differ has = absurd has
+
+    heard : (fault : Option ℕ) → report_fault s.server.released t (s.server.status c) ≡ fault
+        → Carries (notices_of s (if is_none fault then (t, (c, g)) ∷ [] else [])) e → IsOfStep setup s (step.Up c) e
+    heard None accepted has = other (differs (s.server.reference t) g) accepted refl has
+    heard (Some code) fault has = absurd has
+
+of_rise : (setup : Setup) (s : Session) (c : ℕ) (e : Event) (ups : List Up) → s.ups c ≡ ups → Carries (rise_events setup s.server c ups) e
+    → IsOfStep setup s (step.Up c) e
+of_rise setup s c e [] next has = absurd has
+of_rise setup s c e (up.Report t g ∷ rest) next has = of_report setup s c t g rest e next has
+of_rise setup s c e (said ∷ rest) next has = absurd (no_notice s (is_accepted (rules_of setup) s.server (Heard c said)) e has)
+
+of_step : (setup : Setup) (s : Session) (x : Step) (e : Event) → Carries (events_by setup s x) e → IsOfStep setup s x e
+of_step setup s (step.Order c command) e has = of_order setup s c command e (s.client c) refl has
+of_step setup s (step.Up c) e has = of_rise setup s c e (s.ups c) refl has
+of_step setup s (step.Down c) e has = of_fall setup s c e (s.client c) (s.downs c) refl refl has
+of_step setup s (step.Play c) e has = of_play setup s c e (s.client c) refl has
+of_step setup s (step.Join c) e has = of_join setup s c e (s.client c) refl has
+of_step setup s (step.Cut c) e has = of_cut setup s c e (s.client c) refl has
+of_step setup s (step.Bend c id health) e has = of_bend setup s c id health e (s.client c) refl has
+
+pub events_are_of_steps : EventsAreOfSteps
+events_are_of_steps setup s x e has = by (is_client setup (client_of x)) has
+  where
+    by : (b : Bool) → Carries (if b then events_by setup s x else []) e → IsOfStep setup s x e
+    by true has = of_step setup s x e has
+    by false has = absurd has
+
+-- ---- a step that an event is of has just that one
+
+has_order : (setup : Setup) (s : Session) (c : ℕ) (command : Command) (seat : Seat) → CanOrder setup s c seat
+    → events_by setup s (step.Order c command) ≡ event.Order c (suc seat.done) ∷ []
+has_order setup s c command seat can =
+    let may : may_order setup seat ≡ true = and_from _ _ (lt-ltb _ _ can.turn) (lt-ltb _ _ can.few) in
+    ap (λ (ph : Phase). (orders setup c command ph).events) can.on ∙ ap (λ b. (if b then ordered c command seat else idle (On seat)).events) may
+
+has_play : (setup : Setup) (s : Session) (c : ℕ) (seat : Seat) → CanPlay setup s c seat
+    → events_by setup s (step.Play c) ≡ play_event setup c (played seat) ∷ []
+has_play setup s c seat can =
+    let may : may_play setup seat ≡ true = and_from _ _ (lt-ltb _ _ can.turn) (lt-ltb _ _ can.released) in
+    ap (λ (ph : Phase). (plays setup c ph).events) can.on
+    ∙ ap (λ b. (if b then told setup c (played seat) else idle (On seat)).events) may
+    ∙ told_one setup c (played seat) (may_tell_done setup (played seat))
+
+has_bend : (setup : Setup) (s : Session) (c id : ℕ) (health : ℤ) (seat : Seat) → CanBend setup s c id health seat
+    → events_by setup s (step.Bend c id health) ≡ bend_event setup c (bent_seat id health seat) ∷ []
+has_bend setup s c id health seat can =
+    ap (λ (ph : Phase). (bends setup c id health ph).events) can.on
+    ∙ ap (λ b. (if b then shows_bend setup c (bent_seat id health seat) else idle (On seat)).events) can.may
+
+has_cut : (c : ℕ) (ph : Phase) → (ph ≡ Off → ⊥) → leave_events c ph ≡ event.Cut c ∷ []
+has_cut c Off on = absurd (on refl)
+has_cut c Joining on = refl
+has_cut c (On seat) on = refl
+
+has_load : (setup : Setup) (s : Session) (c : ℕ) (past : Past) → CanLoad s c past
+    → events_by setup s (step.Down c) ≡ event.Load c (turns_in past) (digest setup (after setup past)) ∷ []
+has_load setup s c past can =
+    ap (λ (ph : Phase). fall_events setup c ph (s.downs c)) can.joining ∙ ap (fall_events setup c Joining) can.next
+
+has_refusal : (setup : Setup) (c code : ℕ) (rest : List Down) (ph : Phase) → fall_events setup c ph (down.Refused code ∷ rest) ≡ event.Refused c code ∷ []
+has_refusal setup c code rest Off = refl
+has_refusal setup c code rest Joining = refl
+has_refusal setup c code rest (On seat) = refl
+
+has_notice : (setup : Setup) (s : Session) (c t : ℕ) → ReportsOther s c t → events_by setup s (step.Up c) ≡ event.Notice t c ∷ []
+has_notice setup s c t reports =
+    ap (rise_events setup s.server c) reports.next
+    ∙ ap (λ fault. notices_of s (if is_none fault then (t, (c, reports.mark)) ∷ [] else [])) reports.accepted
+    ∙ ap (λ b. noticed_of (if b then (t, (c, reports.mark)) ∷ [] else [])) reports.other
+
+-- one event with the same parts
+same_play : (c d t u : ℕ) (g h : List ℕ) → c ≡ d → u ≡ t → h ≡ g → event.Play c t g ∷ [] ≡ event.Play d u h ∷ []
+same_play c d t u g h client turn shown = cc
+
+has_event : (setup : Setup) (s : Session) (x : Step) (e : Event) → IsOfStep setup s x e → events_by setup s x ≡ e ∷ []
+has_event setup s (step.Order c command) (event.Order d t) (same, seat, can, turn) = let events = has_order setup s c command seat can in cc
+has_event setup s (step.Up c) (event.Notice t d) (same, reports) = let events = has_notice setup s c t reports in cc
+has_event setup s (step.Down c) (event.Load d t g) (same, past, can, turn, shown) = let events = has_load setup s c past can in cc
+has_event setup s (step.Down c) (event.Refused d code) (same, refused) =
+    let events = ap (fall_events setup c (s.client c)) refused.next ∙ has_refusal setup c code refused.rest (s.client c) in cc
+has_event setup s (step.Play c) (event.Play d t g) (same, seat, can, turn, shown) =
+    has_play setup s c seat can
+    ∙ same_play c d (suc (turns_in seat.past)) t (digest setup (after setup (played seat).past)) g same turn
+    (shown ∙ ap (λ u. digest setup (after setup (Turn (seat.known u) ∷ seat.past))) turn)
+has_event setup s (step.Join c) (event.Join d) (same, off) = let events = ap (λ (ph : Phase). (joins c ph).events) off in cc
+has_event setup s (step.Cut c) (event.Cut d) (same, on) = let events = has_cut c (s.client c) on in cc
+has_event setup s (step.Bend c id health) (event.Bend d t g) (same, seat, can, turn, shown) = let events = has_bend setup s c id health seat can in cc
+has_event setup s x e of = absurd of
+
+pub steps_have_events : StepsHaveEvents
+steps_have_events setup s x e client of = cond-true (is_client setup (client_of x)) (events_by setup s x) [] client ∙ has_event setup s x e of
