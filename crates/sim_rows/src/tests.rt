@@ -2,6 +2,8 @@
 //! that always answers that it has no memory is refused here.
 
 mod commands;
+mod edge;
+mod one_file;
 mod reads;
 mod rooms;
 mod words;

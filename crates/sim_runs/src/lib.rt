@@ -2,16 +2,13 @@
 //! itself, since what a run answers is promised by the top call.
 //!
 //! - `games`: matches.
-//! - `rigs`: the macros that make a rig, and a list of rigs.
-//! - `handlers`: a run with a handler for each kind of command.
+//! - `rigs`: the macros that make a rig.
 //! - `printed`: files, words and what is printed.
 #![tactic(auto)]
 
 pub mod games;
-mod handlers;
 mod printed;
 mod rigs;
 
-pub use handlers::{planned, run_with};
 pub use printed::{Case, Printed, first_unmet, print, run_words, shelf_of, words_of};
-pub use rigs::add_rig;
+pub use sim_edge::{add_rig, planned, run_with};

@@ -1,10 +1,9 @@
 //! Files, words and what is printed.
 
-use crate::handlers::run_with;
 use crate::rig;
-use crate::rigs::add_rig;
 use sim_base::OutOfMemory;
 use sim_census::Census;
+use sim_edge::{add_rig, run_with};
 use sim_ground::Ground;
 use sim_range::Range;
 use sim_store::{MemShelf, MemSink, Shelf, Sink};

@@ -1,7 +1,7 @@
 -- What a shelf in memory means.
-use Rattle.std.specs.Prelude.{ℕ, List, Bool, Option, is_some, option_map}
+use Rattle.std.specs.Prelude.{ℕ, List, Bool, Option, Some, None, is_some, option_map, if◌then◌else◌}
 use Rattle.sim_store.specs.Files.{File}
-use Rattle.sim_store.specs.Held.{files_of, first_name}
+use Rattle.sim_store.specs.Held.{files_of, first_name, first_bytes}
 use Rattle.sim_store.specs.OpenFile.{bytes_left}
 use Rattle.sim_store.specs.Calls.{calls_in, listed_in, is_next_listed}
 use Rattle.sim_store.specs.declared.counts.Counts.{Counts}
@@ -30,6 +30,10 @@ is_making_on shelf = shelf.is_making
 -- the name of the file that is being made
 abbrev pub made_name_on : MemShelf → List ℕ
 made_name_on shelf = first_name shelf.files.items
+
+-- what the file that is being made holds so far, if one is being made
+abbrev pub made_on : MemShelf → Option (List ℕ)
+made_on shelf = if shelf.is_making then Some (first_bytes shelf.files.items) else None
 
 -- what the shelf counted
 abbrev pub counts_on : MemShelf → Counts

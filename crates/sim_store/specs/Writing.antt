@@ -25,6 +25,11 @@ abbrev pub Fills : Result ⊤ Failed → List ℕ → List ℕ → Option (List 
 Fills (Ok written) name bytes old new = HeldSet name bytes old new
 Fills (Err failed) name bytes old new = (part : ℕ) × HeldSet name (take part bytes) old new
 
+-- the file that is being made has all bytes more, or after a fault a prefix of them, where it is told
+abbrev pub IsFilled : Result ⊤ Failed → List ℕ → Option (List ℕ) → Option (List ℕ) → Type 0
+IsFilled (Ok written) bytes old new = Appends old new bytes
+IsFilled (Err failed) bytes old new = (part : ℕ) × Appends old new (take part bytes)
+
 -- the name holds all bytes, or after a fault a prefix of them or what it held, or without memory what it held
 abbrev pub FileMeets : Result ⊤ StoreFault → List ℕ → List ℕ → Option (List File) → Option (List File) → Type 0
 FileMeets (Ok written) name bytes old new = HeldSet name bytes old new

@@ -73,6 +73,8 @@ pub fn add_to_first(files: &mut Vec<Held>, room: usize, piece: &[u8]) -> Result<
     ensures fits { IsOk result ↔ (length piece.now ≤ room - length (first_bytes files.old.items)) }
     ensures ok { OnOk result (AddsFirst piece.now (files_of files.old.items) (files_of files.new.items)) }
     ensures err { OnErr result (files_of files.new.items ≡ files_of files.old.items) }
+    ensures bytes { OnOk result (first_bytes files.new.items ≡ first_bytes files.old.items ++ piece.now) }
+    ensures bytes_err { OnErr result (first_bytes files.new.items ≡ first_bytes files.old.items) }
     ensures name { first_name files.new.items ≡ first_name files.old.items }
     ensures capacity { first_capacity files.old.items ≤ first_capacity files.new.items }
     ensures some { 0 < vec_len files.new }

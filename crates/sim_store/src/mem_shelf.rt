@@ -1,9 +1,9 @@
 //! A shelf in memory. Whoever wants to run the program without files, tests above all, hands it in; its room makes a
 //! full disk at any place, and its list of calls makes any call fail.
 
-ghost use Rattle.std.specs.Prelude.{◌≡◌, ◌+◌, ◌++◌, ◌<◌, ◌≤◌, ◌↔◌, ℕ, List, [], ◌∷◌, length, OnOk, OnErr, IfOk, IsOk, IsErr, IsTrue, IsFalse, false, Some, is_ok, min, option_copied, vec_len};
+ghost use Rattle.std.specs.Prelude.{◌≡◌, ◌≢◌, ◌+◌, ◌++◌, ◌<◌, ◌≤◌, ◌↔◌, ℕ, List, [], ◌∷◌, length, drop, OnOk, OnErr, IfOk, IsOk, IsErr, IsTrue, IsFalse, false, None, Some, is_ok, min, option_copied, vec_len};
 ghost use Rattle.std.specs.Io.{ReadsAtMost};
-ghost use Rattle.std.specs.Io.KnownBytes.{ReadConsumes};
+ghost use Rattle.std.specs.Io.KnownBytes.{ReadConsumes, WriteAppends};
 ghost use Rattle.sim_store.specs.Counts.{no_counts, raised};
 ghost use Rattle.sim_store.specs.Files.{file_in, FileSet};
 ghost use Rattle.sim_store.specs.Held.{first_bytes, first_capacity};
@@ -36,7 +36,7 @@ pub struct MemShelf {
 }
 
 impl MemShelf {
-    ghost use Rattle.sim_store.specs.MemShelf.{files_on, room_on, rest_on, is_open_on, is_making_on, made_name_on, counts_on, calls_on, failing_on};
+    ghost use Rattle.sim_store.specs.MemShelf.{files_on, room_on, rest_on, is_open_on, is_making_on, made_name_on, made_on, counts_on, calls_on, failing_on};
 
     /// A shelf that holds nothing. It keeps the allocator, and each file that is made on it has this room. It takes no
     /// memory yet.
@@ -69,6 +69,7 @@ impl MemShelf {
         ensures ends { OnOk result (is_making_on self.new ≡ false) }
         ensures making { OnErr result (is_making_on self.new ≡ is_making_on self.old) }
         ensures name { OnErr result (made_name_on self.new ≡ made_name_on self.old) }
+        ensures made { OnErr result (made_on self.new ≡ made_on self.old) }
         ensures room { room_on self.new ≡ room_on self.old }
         ensures counts { counts_on self.new ≡ counts_on self.old }
         ensures opened { is_open_on self.new ≡ is_open_on self.old }
@@ -102,6 +103,7 @@ impl MemShelf {
         ensures rest { rest_on self.new ≡ rest_on self.old }
         ensures making { is_making_on self.new ≡ is_making_on self.old }
         ensures name { made_name_on self.new ≡ made_name_on self.old }
+        ensures made { made_on self.new ≡ made_on self.old }
     {
         self.calls.list(call)?;
         Ok(())
@@ -116,7 +118,7 @@ impl MemShelf {
 }
 
 impl Shelf for MemShelf {
-    ghost use Rattle.sim_store.specs.MemShelf.{files_on, room_on, rest_on, is_open_on, is_making_on, made_name_on, counts_on, calls_on, failing_on, fails_next_on};
+    ghost use Rattle.sim_store.specs.MemShelf.{files_on, room_on, rest_on, is_open_on, is_making_on, made_name_on, made_on, counts_on, calls_on, failing_on, fails_next_on};
 
     ghost held = { λ shelf. Some (files_on shelf) };
 
@@ -128,9 +130,11 @@ impl Shelf for MemShelf {
 
     ghost made_name = { made_name_on };
 
+    ghost made = { made_on };
+
     ghost counts = { counts_on };
 
-    /// Fails where the call is listed, and for want of memory: it copies the file.
+    /// Fails where the call is listed, and for want of memory: it copies the file, unless that is empty.
     fn open(&mut self, name: &str) -> Result<bool, ShelfFault>
         ensures fails { (result ≡ Err ShelfFault.Failed) ↔ IsTrue (fails_next_on self.old) }
         ensures calls { calls_on self.new ≡ raised 1 (calls_on self.old) }
@@ -138,10 +142,12 @@ impl Shelf for MemShelf {
         ensures room { room_on self.new ≡ room_on self.old }
         ensures opened { is_open_on self.new ≡ opens result }
         ensures tells { OpenTells result (file_in (files_on self.old) name.now) (rest_on self.new) }
+        ensures empty { file_in (files_on self.old) name.now ≡ Some [] → result ≢ Err ShelfFault.OutOfMemory }
         ensures counts { OpenCounts result (counts_on self.old) (counts_on self.new) }
         ensures held { files_on self.new ≡ files_on self.old }
         ensures making { is_making_on self.new ≡ is_making_on self.old }
         ensures name { made_name_on self.new ≡ made_name_on self.old }
+        ensures made { made_on self.new ≡ made_on self.old }
     {
         self.reading = None;
         if self.calls.count() {
@@ -152,11 +158,12 @@ impl Shelf for MemShelf {
             self.counts.add_miss();
             return Ok(false);
         };
-        self.reading = Some(OpenFile::new(bytes.to_vec(self.alloc)?));
+        self.reading = Some(OpenFile::copy_of(self.alloc, bytes)?);
         Ok(true)
     }
 
-    /// Moves as many bytes as are left and fit, or fails where the call is listed.
+    /// Moves as many bytes as are left and fit, and leaves what stands behind them in the buffer; or fails where the call
+    /// is listed, and leaves all of it.
     fn read(&mut self, into: &mut [u8]) -> Result<usize, Failed>
         requires { IsTrue (is_open_on self.old) }
         ensures fails { IsErr result ↔ IsTrue (fails_next_on self.old) }
@@ -166,11 +173,14 @@ impl Shelf for MemShelf {
         ensures bound { ReadsAtMost result into.new }
         ensures bytes { ReadConsumes (rest_on self.old) (rest_on self.new) result into.new }
         ensures gives { (left : List ℕ) → rest_on self.old ≡ Some left → IfOk result (λ count. count ≡ min (length left) (length into.new)) }
+        ensures behind { IfOk result (λ count. drop count into.new ≡ drop count into.old) }
+        ensures err { OnErr result (into.new ≡ into.old) }
         ensures opened { IsTrue (is_open_on self.new) }
         ensures counts { ReadCounts result (counts_on self.old) (counts_on self.new) }
         ensures held { files_on self.new ≡ files_on self.old }
         ensures making { is_making_on self.new ≡ is_making_on self.old }
         ensures name { made_name_on self.new ≡ made_name_on self.old }
+        ensures made { made_on self.new ≡ made_on self.old }
     {
         if self.calls.count() {
             self.counts.add_read_fault();
@@ -192,6 +202,7 @@ impl Shelf for MemShelf {
         ensures room { room_on self.new ≡ room_on self.old }
         ensures making { is_making_on self.new ≡ is_ok result }
         ensures name { OnOk result (made_name_on self.new ≡ name.now) }
+        ensures made { OnOk result (made_on self.new ≡ Some []) }
         ensures held { MakeHolds result name.now (Some (files_on self.old)) (Some (files_on self.new)) }
         ensures counts { MakeCounts result (counts_on self.old) (counts_on self.new) }
         ensures opened { is_open_on self.new ≡ is_open_on self.old }
@@ -221,6 +232,7 @@ impl Shelf for MemShelf {
         ensures room { room_on self.new ≡ room_on self.old }
         ensures takes { TakesSome result piece.now }
         ensures held { WriteHolds result (made_name_on self.old) piece.now (Some (files_on self.old)) (Some (files_on self.new)) }
+        ensures made { WriteAppends (made_on self.old) (made_on self.new) result piece.now }
         ensures making { IsTrue (is_making_on self.new) }
         ensures name { made_name_on self.new ≡ made_name_on self.old }
         ensures counts { WriteCounts result (counts_on self.old) (counts_on self.new) }

@@ -3,7 +3,7 @@
 
 ghost use Rattle.std.specs.Prelude.{◌≡◌, ℕ, List, Option, Bool, IfSome, IsTrue, OnOk, is_ok, false};
 ghost use Rattle.std.specs.Io.{ReadsAtMost};
-ghost use Rattle.std.specs.Io.KnownBytes.{ReadConsumes};
+ghost use Rattle.std.specs.Io.KnownBytes.{IsAtEnd, ReadConsumes, WriteAppends};
 ghost use Rattle.sim_store.specs.declared.counts.Counts.{Counts};
 ghost use Rattle.sim_store.specs.Files.{File, file_in};
 ghost use Rattle.sim_store.specs.Pieces.{TakesSome};
@@ -29,6 +29,9 @@ pub trait Shelf {
     /// The name of the file that is being made, where the shelf tells its files.
     ghost made_name: { Self → List ℕ };
 
+    /// What the file that is being made holds so far, where the shelf tells it.
+    ghost made: { Self → Option (List ℕ) };
+
     /// What was handed out, missed and failed so far.
     ghost counts: { Self → Counts };
 
@@ -40,7 +43,8 @@ pub trait Shelf {
         ensures counts { OpenCounts result (counts self.old) (counts self.new) }
         ensures held { held self.new ≡ held self.old }
         ensures making { is_making self.new ≡ is_making self.old }
-        ensures name { made_name self.new ≡ made_name self.old };
+        ensures name { made_name self.new ≡ made_name self.old }
+        ensures made { made self.new ≡ made self.old };
 
     /// Moves the next bytes of the open file to the buffer's start, and answers how many. Where the buffer has room, 0
     /// is the end of the file.
@@ -52,12 +56,14 @@ pub trait Shelf {
         ensures counts { ReadCounts result (counts self.old) (counts self.new) }
         ensures held { held self.new ≡ held self.old }
         ensures making { is_making self.new ≡ is_making self.old }
-        ensures name { made_name self.new ≡ made_name self.old };
+        ensures name { made_name self.new ≡ made_name self.old }
+        ensures made { made self.new ≡ made self.old };
 
     /// Begins an empty file of this name, in place of what the name held. If it is refused, none is being made.
     fn make(&mut self, name: &str) -> Result<(), ShelfFault>
         ensures making { is_making self.new ≡ is_ok result }
         ensures name { OnOk result (IfSome (held self.old) (λ _. made_name self.new ≡ name.now)) }
+        ensures made { OnOk result (IsAtEnd (made self.new)) }
         ensures held { MakeHolds result name.now (held self.old) (held self.new) }
         ensures counts { MakeCounts result (counts self.old) (counts self.new) }
         ensures opened { is_open self.new ≡ is_open self.old }
@@ -67,6 +73,7 @@ pub trait Shelf {
     fn write(&mut self, piece: &[u8]) -> Result<usize, Failed>
         requires { IsTrue (is_making self.old) }
         ensures takes { TakesSome result piece.now }
+        ensures made { WriteAppends (made self.old) (made self.new) result piece.now }
         ensures held { WriteHolds result (made_name self.old) piece.now (held self.old) (held self.new) }
         ensures making { IsTrue (is_making self.new) }
         ensures name { made_name self.new ≡ made_name self.old }

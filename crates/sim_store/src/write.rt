@@ -3,7 +3,7 @@
 
 ghost use Rattle.std.specs.Prelude.{◌≡◌, false, IsTrue};
 ghost use Rattle.sim_store.specs.Shelf.{HeldEmpty, WriteCounts};
-ghost use Rattle.sim_store.specs.Writing.{OutMeets, OutCauses, Fills, FileMeets, FileCauses};
+ghost use Rattle.sim_store.specs.Writing.{OutMeets, OutCauses, Fills, IsFilled, FileMeets, FileCauses};
 
 use crate::fault::{Failed, ShelfFault, StoreFault};
 use crate::shelf::Shelf;
@@ -50,6 +50,7 @@ fn fill<S: Shelf>(shelf: &mut S, bytes: &[u8]) -> Result<(), Failed>
     requires making { IsTrue (S.is_making shelf.old) }
     requires empty { HeldEmpty (S.made_name shelf.old) (S.held shelf.old) }
     ensures held { Fills result (S.made_name shelf.old) bytes.now (S.held shelf.old) (S.held shelf.new) }
+    ensures made { IsFilled result bytes.now (S.made shelf.old) (S.made shelf.new) }
     ensures counts { WriteCounts result (S.counts shelf.old) (S.counts shelf.new) }
     ensures making { IsTrue (S.is_making shelf.new) }
     ensures name { S.made_name shelf.new ≡ S.made_name shelf.old }

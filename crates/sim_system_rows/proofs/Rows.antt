@@ -15,7 +15,7 @@ use Rattle.sim_system.specs.Facts.{kept_of}
 use Rattle.sim_system.specs.Ranges.{IsInRange, AreInRange}
 use Rattle.sim_system.specs.Notes.{NoteFits}
 use Rattle.sim_system.specs.Meanings.{Meaning, MayHear, built, counted}
-use Rattle.sim_sight.proofs.Turning.{increasing}
+use Rattle.sim_range.proofs.Turning.{increasing}
 
 abbrev pub land : Land
 land = record { width = 16; depth = 16; closed = []; masks = 0 ∷ 4 ∷ 0 ∷ [] }

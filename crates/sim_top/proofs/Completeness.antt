@@ -28,12 +28,12 @@ Ends wanted = (wanted.status ≡ Done) ⊎ (wanted.status ≡ Differs)
 done : (wanted other : Outcome) → other.status ≡ Done → wanted ≡ other → Ends wanted
 done wanted other is same = inl (ap (λ (o : Outcome). o.status) same ∙ is)
 
-after_reading : {X : Type 0} (r : Result X Outcome) (x : X) (next : X → Outcome → Type 0) (wanted : Outcome) → r ≡ Ok x → Then r next wanted → next x wanted
+pub after_reading : {X : Type 0} (r : Result X Outcome) (x : X) (next : X → Outcome → Type 0) (wanted : Outcome) → r ≡ Ok x → Then r next wanted → next x wanted
 after_reading {X} r x next wanted is h = subst (λ (q : Result X Outcome). Then q next wanted) is h
 
 -- ---- a state that bytes stand for is not refused
 
-id_of_match : (files : List File) (game : List ℕ) (setup : Setup) → match_in files game ≡ Ok setup → length setup.id ≡ 16
+pub id_of_match : (files : List File) (game : List ℕ) (setup : Setup) → match_in files game ≡ Ok setup → length setup.id ≡ 16
 unfolding match_in
 id_of_match files game setup is = by (bytes_in files game) is
   where
@@ -45,7 +45,7 @@ id_of_match files game setup is = by (bytes_in files game) is
     by (Ok bytes) e = of_bytes bytes (setup_of bytes) refl e
     by (Err ended) e = cc
 
-not_refused : (setup : Setup) (bytes : List ℕ) (state : State) (fault : StateFault) → length setup.id ≡ 16 → StandsFor setup bytes state → IsStored setup bytes (Err fault) → ⊥
+pub not_refused : (setup : Setup) (bytes : List ℕ) (state : State) (fault : StateFault) → length setup.id ≡ 16 → StandsFor setup bytes state → IsStored setup bytes (Err fault) → ⊥
 not_refused setup bytes state stored.NotState id stands refused = no_fault setup bytes stored.NotState id refused state stands
 not_refused setup bytes state stored.OtherMatch id stands refused = no_fault setup bytes stored.OtherMatch id refused state stands
 not_refused setup bytes state stored.Grammar id stands refused = refused.1 state stands

@@ -1,5 +1,5 @@
 -- What the shelf counted, file by file and over a whole command; and how many bytes a file had that was read.
-use Rattle.std.proofs.Common.{◌≡◌, ℕ, ◌+◌, ◌<◌, ◌≤◌, List, length, Bool, true, false, cond, Option, Some, None, Result, Ok, Err, refl, sym, ap, ◌∙◌, subst, arith, IsTrue, IfSome, IfOk, IfErr}
+use Rattle.std.proofs.Common.{◌≡◌, ℕ, ◌+◌, ◌<◌, ◌≤◌, List, length, Bool, true, false, cond, Option, Some, None, Result, Ok, Err, refl, sym, ap, ◌∙◌, subst, arith, IfSome, IfErr}
 use Rattle.sim_store.specs.Counts.{raised, after_giving, after_miss, after_read_fault}
 use Rattle.sim_store.specs.Files.{File, file_in}
 use Rattle.sim_base.specs.Limits.{file_limit}
@@ -8,11 +8,11 @@ use Rattle.sim_store.specs.declared.counts.Counts.{Counts}
 use Rattle.sim_store.specs.declared.fault.StoreFault.TheVariants as store
 use Rattle.sim_store.proofs.Given.{after_giving-after_giving}
 use Rattle.std.specs.Prelude.{nat_le}
-use Rattle.sim_top.specs.Words.{Asked, reads_file}
-use Rattle.sim_top.specs.Answers.{OnlyGave, GaveThenFailed, GaveThenMissed, CountsBefore, MayAnswer}
+use Rattle.sim_top.specs.Answers.{OnlyGave, GaveThenFailed, GaveThenMissed, CountsBefore}
+use Rattle.sim_top.specs.Commands.{Shelved, IsReading}
 use Rattle.sim_top.specs.Outcome.{bytes_by, bytes_in}
-use Rattle.sim_top.specs.Reads.{length_of, length_in}
-use Rattle.sim_top.specs.Stops.{ReadsCounting, CausesOf, IsOfContent, IsOfTurn, status_of}
+use Rattle.sim_top.specs.Reads.{IsUnfound, length_of, length_in}
+use Rattle.sim_top.specs.Stops.{ReadsCounting, CausesOf, GaveAll, IsOfContent, IsRefusal, status_of}
 use Rattle.sim_top.specs.declared.stop.Stop.{Stop}
 use Rattle.sim_top.specs.declared.stop.Stop.TheVariants.{ReadFault, TooLong, NoFile, OutOfMemory, MatchRefused, StateRefused, ListRefused, NoSuchTurn}
 
@@ -64,34 +64,33 @@ length_of_read files name bytes read = of_held (file_in files name) read
         by true e = ap length (cc)
         by false e = cc
 
--- ---- what a command that reads a file answers
+-- ---- a command that goes on behind what it read
 
--- a command that ends at a file may be any that reads one
-pub counted_may_answer : (stop : Stop) (old new : Counts) → ReadsCounting (Err stop) old new → (asked : Asked) → IsTrue (reads_file asked) → MayAnswer asked (status_of stop)
-counted_may_answer ReadFault old new h asked reads = reads
-counted_may_answer TooLong old new h asked reads = reads
-counted_may_answer NoFile old new h asked reads = reads
-counted_may_answer OutOfMemory old new h asked reads = tt
-counted_may_answer (MatchRefused code index) old new h asked reads = tt
-counted_may_answer (StateRefused code name) old new h asked reads = absurd h
-counted_may_answer (ListRefused index) old new h asked reads = absurd h
-counted_may_answer (NoSuchTurn turn turns) old new h asked reads = absurd h
+-- what is counted behind bytes that were given
+pub counted_after : (stop : Stop) (old middle new : Counts) → OnlyGave old middle → CountsBefore (status_of stop) middle new → CountsBefore (status_of stop) old new
+counted_after stop old middle new first second = by stop second
+  where
+    same : (n : ℕ) → record middle { given = n } ≡ record old { given = n }
+    same n = ap (λ (c : Counts). record c { given = n }) first.1
 
--- what holds of a command that ends holds of it in other words
-pub ends_weaker : {X : Type 0} (r : Result X Stop) (P Q : Stop → Type 0) → ((stop : Stop) → P stop → Q stop) → IfErr r P → IfErr r Q
-ends_weaker (Ok x) P Q f h = tt
-ends_weaker (Err stop) P Q f h = f stop h
+    only : OnlyGave middle new → OnlyGave old new
+    only h = (omega (arith, first.0, h.0), h.1 ∙ same new.given)
 
--- what a turn ends for is no fault of the shelf
-pub turn_is_content : (stop : Stop) → IsOfTurn stop → IsOfContent stop
-turn_is_content OutOfMemory h = tt
-turn_is_content (NoSuchTurn turn turns) h = tt
-turn_is_content ReadFault h = h
-turn_is_content TooLong h = h
-turn_is_content NoFile h = h
-turn_is_content (MatchRefused code index) h = absurd h
-turn_is_content (StateRefused code name) h = absurd h
-turn_is_content (ListRefused index) h = absurd h
+    past : raised (file_limit + 1) middle.given ≤ new.given → raised (file_limit + 1) old.given ≤ new.given
+    past h = omega (arith, first.0, h)
+
+    by : (stop : Stop) → CountsBefore (status_of stop) middle new → CountsBefore (status_of stop) old new
+    by ReadFault h = (omega (arith, first.0, h.0), h.1 ∙ ap after_read_fault (same new.given))
+    by TooLong h = (only h.0, past h.1)
+    by NoFile h = (omega (arith, first.0, h.0), h.1 ∙ ap after_miss (same new.given))
+    by OutOfMemory h = only h
+    by (MatchRefused code index) h = only h
+    by (StateRefused code name) h = only h
+    by (ListRefused index) h = only h
+    by (NoSuchTurn turn turns) h = only h
+
+pub gave_on : (old middle new : Counts) → OnlyGave old middle → OnlyGave middle new → OnlyGave old new
+gave_on old middle new first second = counted_after OutOfMemory old middle new first second
 
 -- where nothing was read, nothing was counted
 pub nothing_given : (counts : Counts) → OnlyGave counts counts
@@ -115,19 +114,48 @@ content_causes (Err (StateRefused code name)) old new content gave = gave
 content_causes (Err (ListRefused index)) old new content gave = gave
 content_causes (Err (NoSuchTurn turn turns)) old new content gave = gave
 
--- a fact that does not depend on the answer
-pub whatever_ok : {X : Type 0} (r : Result X Stop) (P : Type 0) → P → IfOk r (λ _. P)
-whatever_ok (Ok x) P p = p
-whatever_ok (Err stop) P p = tt
+-- ---- a file is read
+
+-- what holds where a file is not read to its end
+pub counted_is : (P : Stop → Type 0) → P ReadFault → P TooLong → P NoFile → P OutOfMemory → (stop : Stop) (old new : Counts) → ReadsCounting (Err stop) old new → P stop
+counted_is P fault long none memory ReadFault old new h = fault
+counted_is P fault long none memory TooLong old new h = long
+counted_is P fault long none memory NoFile old new h = none
+counted_is P fault long none memory OutOfMemory old new h = memory
+counted_is P fault long none memory (MatchRefused code index) old new h = absurd h
+counted_is P fault long none memory (StateRefused code name) old new h = absurd h
+counted_is P fault long none memory (ListRefused index) old new h = absurd h
+counted_is P fault long none memory (NoSuchTurn turn turns) old new h = absurd h
+
+-- it is not read to its end
+pub unread : {X : Type 0} (name : List ℕ) (stop : Stop) (before now : Shelved) → ReadsCounting (Err stop) before.counts now.counts
+    → ((files : List File) → before.held ≡ Some files → file_in files name ≡ None → IsUnfound (status_of stop)) → now.held ≡ before.held → IsReading {X = X} name (Err stop) before now
+unread name stop before now counts missing same =
+    record {
+      missing = missing;
+      causes = counted stop before.counts now.counts counts;
+      given = λ files is refused. absurd (counted_is (λ s. IsRefusal s → ⊥) (λ h. h) (λ h. h) (λ h. h) (λ h. h) stop before.counts now.counts counts refused);
+      same = same;
+    }
 
 -- of a file that the shelf tells just its bytes were given
-pub gave_file : (held : Option (List File)) (files : List File) (name bytes : List ℕ) (old new : Counts) → held ≡ Some files → IfSome held (λ fs. bytes_in fs name ≡ Ok bytes)
+gave_file : (held : Option (List File)) (files : List File) (name bytes : List ℕ) (old new : Counts) → held ≡ Some files → IfSome held (λ fs. bytes_in fs name ≡ Ok bytes)
     → new ≡ after_giving (length bytes) old → new ≡ after_giving (length_in files name) old
 gave_file held files name bytes old new is told given =
     let read : bytes_in files name ≡ Ok bytes = subst (λ (h : Option (List File)). IfSome h (λ fs. bytes_in fs name ≡ Ok bytes)) is told in
     given ∙ ap (λ (n : ℕ). after_giving n old) (length_of_read files name bytes read)
 
--- a file, and then what an answer was given
-pub gave_before : {X : Type 0} (r : Result X Stop) (a b : ℕ) (old middle new : Counts) → middle ≡ after_giving a old → IfOk r (λ _. new ≡ after_giving b middle) → IfOk r (λ _. new ≡ after_giving (a + b) old)
-gave_before (Ok x) a b old middle new first second = gave_both a b old middle new first second
-gave_before (Err stop) a b old middle new first second = tt
+gave_all : {X : Type 0} (found : Result X Stop) (n : ℕ) (old new : Counts) → new ≡ after_giving n old → GaveAll found n old new
+gave_all (Ok x) n old new h = h
+gave_all (Err stop) n old new h = λ refused. h
+
+-- its bytes were read, whatever they say
+pub was_read : {X : Type 0} (name bytes : List ℕ) (found : Result X Stop) (before now : Shelved) → IfErr found IsOfContent → now.counts ≡ after_giving (length bytes) before.counts
+    → IfSome before.held (λ files. bytes_in files name ≡ Ok bytes) → ((files : List File) → before.held ≡ Some files → file_in files name ≡ None → ⊥) → now.held ≡ before.held → IsReading name found before now
+was_read name bytes found before now content counts told there same =
+    record {
+      missing = λ files is none. absurd (there files is none);
+      causes = content_causes found before.counts now.counts content (gave (length bytes) before.counts now.counts counts);
+      given = λ files is. gave_all found (length_in files name) before.counts now.counts (gave_file before.held files name bytes before.counts now.counts is told counts);
+      same = same;
+    }

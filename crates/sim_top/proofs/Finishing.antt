@@ -1,14 +1,11 @@
 -- What is made is written: by the status of what was made.
-use Rattle.std.proofs.Common.{◌≡◌, ℕ, ◌<◌, List, [], length, take, Option, Some, None, ◌≢◌, refl, sym, subst, inl, inr, arith, ap, ◌∙◌, IfSome, Result, Ok, Err, IsOk, String}
+use Rattle.std.proofs.Common.{◌≡◌, ℕ, ◌<◌, List, [], length, take, Option, Some, None, ◌≢◌, refl, sym, subst, inl, inr, arith, ap, ◌∙◌, IfSome}
 use Rattle.std.specs.Io.KnownBytes.{Appends}
-use Rattle.std.proofs.lemmas.Bool.{false≢true}
 use Rattle.sim_store.specs.Files.{File}
 use Rattle.sim_store.specs.Counts.{Rose}
 use Rattle.sim_top.specs.Answers.{OnlyGave, Scene, FailsToSave, FailsToTell, IsUntouched, Saves, SavesPart, Meets, GaveThenUnsaved, CountsBefore, Causes, IsSilent}
-use Rattle.std.specs.declared.alloc.Global.{Global}
-use Rattle.sim_base.specs.declared.memory.OutOfMemory.{OutOfMemory as NoMemory}
 use Rattle.sim_store.specs.declared.counts.Counts.{Counts}
-use Rattle.sim_top.specs.Making.{MeetsBefore, IsAnswered, IsCutShort, Tells}
+use Rattle.sim_top.specs.Making.{MeetsBefore, IsCutShort, Tells}
 use Rattle.sim_top.specs.Stops.{status_of}
 use Rattle.sim_top.specs.declared.stop.Stop.{Stop}
 use Rattle.sim_top.specs.declared.stop.Stop.TheVariants as stops
@@ -74,7 +71,7 @@ unsaved_meets NoFile words files text saved before now h fails held = (_, h, inl
 
 -- ---- what was counted where a command ended and its line found no memory
 
-without_memory : (stop : Stop) (old new : Counts) → (IsSilent (status_of stop) → ⊥) → CountsBefore (status_of stop) old new → CountsBefore OutOfMemory old new
+pub without_memory : (stop : Stop) (old new : Counts) → (IsSilent (status_of stop) → ⊥) → CountsBefore (status_of stop) old new → CountsBefore OutOfMemory old new
 without_memory stops.ReadFault old new loud h = absurd (loud tt)
 without_memory stops.TooLong old new loud h = absurd (loud tt)
 without_memory stops.NoFile old new loud h = absurd (loud tt)
@@ -83,11 +80,6 @@ without_memory (stops.MatchRefused code index) old new loud h = h
 without_memory (stops.StateRefused code name) old new loud h = h
 without_memory (stops.ListRefused index) old new loud h = h
 without_memory (stops.NoSuchTurn asked turns) old new loud h = h
-
-pub answered_causes : (stop : Stop) (status : Status) (text : List ℕ) (made : Result (String Global) NoMemory) (old new : Counts) → IsAnswered status text (status_of stop) made → (IsSilent (status_of stop) → IsOk made)
-    → CountsBefore (status_of stop) old new → CountsBefore status old new
-answered_causes stop status text (Ok made) old new is sure h = subst (λ (s : Status). CountsBefore s old new) (sym is.0) h
-answered_causes stop status text (Err e) old new is sure h = subst (λ (s : Status). CountsBefore s old new) (sym is.0) (without_memory stop old new (λ silent. false≢true (sure silent)) h)
 
 -- ---- what was counted where the text was written
 

@@ -8,13 +8,15 @@ use Rattle.sim_store.specs.Files.{File}
 use Rattle.sim_lists.specs.declared.step_list.StepList.{StepList}
 use Rattle.sim_lists.specs.StepLists.{IsStepList}
 use Rattle.sim_plain_session.proofs.Arrived.{server_is_after_arrivals}
+use Rattle.sim_plain_session.proofs.Enabling.{events_are_of_steps}
+use Rattle.sim_plain_session.proofs.GoingOn.{events_are_in_order}
 use Rattle.sim_session_laws.proofs.PastFacts.{unbent_agree}
 use Rattle.sim_session_laws.proofs.Runs.{holds_session}
 use Rattle.sim_session_laws.proofs.StandingFacts.{no_state_is_ever_refused}
-use Rattle.sim_session_text.specs.SessionText.{session_of, session_text}
+use Rattle.sim_session_text.specs.SessionText.{session_at, session_of, session_text}
 use Rattle.sim_session_text.proofs.Differing.{apart_where_different}
 use Rattle.sim_session_text.proofs.Noticing.{notices_are_of_reports}
-use Rattle.sim_session_text.proofs.Showing.{events_show_pasts, ends_show_pasts}
+use Rattle.sim_session_text.proofs.Showing.{starts_show_pasts, steps_show_pasts, ends_show_pasts, plays_are_told, steps_are_told}
 use Rattle.sim_top.specs.Answers.{Scene, Meets}
 use Rattle.sim_top.specs.Headline.{Headline}
 use Rattle.sim_top.specs.Hosting.{OfSession}
@@ -28,8 +30,12 @@ use Rattle.sim_top.specs.declared.status.Status.TheVariants.{Done, Differs}
 pub lawful : (setup : Setup) (list : StepList) (told told' : Option (List ℕ)) → IsSetup setup → IsStepList setup.players list → Appends told told' (session_text setup list) → Headline setup list told told'
 lawful setup list told told' limits steps text = record {
   text = text;
-  pasts = λ e carried. events_show_pasts setup list e limits steps carried;
-  ends = λ c t g is. ends_show_pasts setup list c t g limits steps is;
+  order = events_are_in_order setup list.clients list.steps;
+  starts = λ c low high. starts_show_pasts setup list c steps low high;
+  steps = λ before x e at has. (events_are_of_steps setup (session_at setup list before) x e has, steps_show_pasts setup list before x e steps at has);
+  plays = λ before c at. plays_are_told setup list before c steps at;
+  others = λ before x e at of. steps_are_told setup list before x e steps at of;
+  ends = λ c t g is. ends_show_pasts setup list c t g steps is;
   server = server_is_after_arrivals setup list.clients list.steps;
   noticed = notices_are_of_reports setup list;
   apart = λ a b left right less one two same. apart_where_different setup list a b left right limits steps less one two same;

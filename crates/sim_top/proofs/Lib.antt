@@ -4,6 +4,8 @@ pub mod Completeness
 pub mod Counting
 pub mod Ending
 pub mod Playing
-pub mod Joining
-pub mod Hosted
+pub mod Answering
+pub mod Comparing
+pub mod Preparing
+pub mod Returning
 pub mod Headlines

@@ -1,38 +1,24 @@
--- What a command makes of a match that was played, and what the systems stand for then.
-use Rattle.std.proofs.Common.{◌≡◌, ℕ, zero, suc, ◌<◌, ◌≤◌, false, List, [], ◌∷◌, length, get_or, All, refl, sym, ap, ◌∙◌, subst, ltb, string_bytes}
-use Rattle.std.specs.Prelude.{Result, Ok, Err, Option, Some, None, OnOk, OnErr, IfOk, IfErr, IsErr, IfSome, String}
+-- What a command makes of a match that was played.
+use Rattle.std.proofs.Common.{◌≡◌, ℕ, zero, suc, ◌<◌, ◌≤◌, false, List, refl, sym, ap, ◌∙◌, ltb, string_bytes}
+use Rattle.std.specs.Prelude.{Result, Ok, Err, OnOk, OnErr, IfOk, IfErr, IsErr, String}
 use Rattle.std.specs.declared.alloc.Global.{Global}
-use Rattle.std.specs.List.{remove}
-use Rattle.std.proofs.lemmas.Bool.{cond-false, le-ltb, false≢true}
-use Rattle.std.proofs.lemmas.List.Elements.{All-nil, All-cons, All-tail}
+use Rattle.std.proofs.lemmas.Bool.{cond-true, cond-false, lt-ltb, le-ltb, false≢true}
 use Rattle.sim_base.specs.declared.memory.OutOfMemory.{OutOfMemory as NoMemory}
 use Rattle.sim_base.specs.declared.setup.Setup.{Setup}
 use Rattle.sim_base.specs.declared.state.State.{State}
 use Rattle.sim_base.specs.Turn.{after, own_turns, turns_in}
 use Rattle.sim_turn_laws.proofs.Turning.{after_counts_turns}
-use Rattle.sim_top.specs.Outcome.{Outcome, IsOutcomeOf, printed, stored_at, store_outcome}
-use Rattle.sim_top.specs.Making.{Makes, outcome_made, IsAnswered}
-use Rattle.sim_top.specs.Reads.{HasEnded}
-use Rattle.sim_top.specs.Rigs.{RigStands}
-use Rattle.sim_top.specs.Words.{Asked}
-use Rattle.sim_store.specs.Files.{File}
-use Rattle.sim_system.specs.Meanings.{Systems}
-use Rattle.sim_top.specs.Stops.{Stopped, IsOfTurn, status_of}
+use Rattle.sim_play.specs.Lines.{rejoin_text}
+use Rattle.sim_top.specs.Outcome.{Outcome, printed, stored_at, store_outcome, rejoin_outcome}
+use Rattle.sim_top.specs.Making.{IsMade, outcome_made}
 use Rattle.sim_top.specs.declared.commands.Answer.{Answer}
-use Rattle.sim_top.specs.declared.status.Status.{Status}
-use Rattle.sim_top.specs.declared.status.Status.TheVariants.{Done}
+use Rattle.sim_report.specs.declared.refusal.Refusal.TheVariants.{Turn}
+use Rattle.sim_report.specs.Refusals.{refusal_text}
+use Rattle.sim_top.specs.declared.status.Status.TheVariants.{Done, NoSuchTurn}
 use Rattle.sim_top.specs.declared.stop.Stop.{Stop}
-use Rattle.sim_top.specs.declared.stop.Stop.TheVariants.{ReadFault, TooLong, NoFile, OutOfMemory, MatchRefused, StateRefused, ListRefused, NoSuchTurn}
+use Rattle.sim_top.specs.declared.stop.Stop.TheVariants.{OutOfMemory}
 
 module _ {X : Type 0} (made : Result Answer Stop) (read : Result X NoMemory) (stops : IfErr made (λ stop. stop ≡ OutOfMemory)) (refused : OnErr read (made ≡ Err OutOfMemory)) where
-  -- it ends for want of memory alone
-  pub made_stops : IfErr made IsOfTurn
-  made_stops = by made stops
-    where
-      by : (r : Result Answer Stop) → IfErr r (λ stop. stop ≡ OutOfMemory) → IfErr r IsOfTurn
-      by (Ok answer) h = tt
-      by (Err stop) h = subst IsOfTurn (sym h) tt
-
   -- what holds where it was read holds where it was made
   pub made_if : (P : Type 0) → OnOk read P → OnOk made P
   made_if P h = by made read refused h
@@ -43,18 +29,23 @@ module _ {X : Type 0} (made : Result Answer Stop) (read : Result X NoMemory) (st
       by (Err stop) o e h = tt
 
   -- the outcome of what was read is made
-  pub made_makes : (of : X → Outcome) (wanted : Outcome) → IfOk read (λ x. of x ≡ wanted) → IfOk made (λ answer. IfOk read (λ x. outcome_made answer ≡ of x)) → Makes made (λ w. w ≡ wanted)
-  made_makes of wanted is told = by made read refused stops is told
+  pub is_made : (of : X → Outcome) (wanted : Outcome) → IfOk read (λ x. of x ≡ wanted) → IfOk made (λ answer. IfOk read (λ x. outcome_made answer ≡ of x)) → IsMade wanted made
+  is_made of wanted is told = record { answers = by made read refused is told; stops = stops }
     where
-      by : (r : Result Answer Stop) (o : Result X NoMemory) → OnErr o (r ≡ Err OutOfMemory) → IfErr r (λ stop. stop ≡ OutOfMemory) → IfOk o (λ x. of x ≡ wanted) → IfOk r (λ answer. IfOk o (λ x. outcome_made answer ≡ of x)) → Makes r (λ w. w ≡ wanted)
-      by (Ok answer) (Ok x) e f is told = told ∙ is
-      by (Ok answer) (Err none) e f is told = absurd (cc)
-      by (Err stop) o e f is told = subst (λ (s : Stop). Stopped s (λ w. w ≡ wanted)) (sym f) tt
+      by : (r : Result Answer Stop) (o : Result X NoMemory) → OnErr o (r ≡ Err OutOfMemory) → IfOk o (λ x. of x ≡ wanted) → IfOk r (λ answer. IfOk o (λ x. outcome_made answer ≡ of x)) → IfOk r (λ answer. outcome_made answer ≡ wanted)
+      by (Ok answer) (Ok x) e is told = told ∙ is
+      by (Ok answer) (Err none) e is told = absurd (cc)
+      by (Err stop) o e is told = tt
 
 -- a text that is printed
-pub text_is : (text : Result (String Global) NoMemory) (wanted : List ℕ) → IfOk text (λ t. string_bytes t ≡ wanted) → IfOk text (λ t. printed Done (string_bytes t) ≡ printed Done wanted)
+text_is : (text : Result (String Global) NoMemory) (wanted : List ℕ) → IfOk text (λ t. string_bytes t ≡ wanted) → IfOk text (λ t. printed Done (string_bytes t) ≡ printed Done wanted)
 text_is (Ok t) wanted is = ap (printed Done) is
 text_is (Err e) wanted is = tt
+
+-- a text alone is made
+pub text_made : (made : Result Answer Stop) (text : Result (String Global) NoMemory) (wanted : List ℕ) → IfErr made (λ stop. stop ≡ OutOfMemory) → OnErr text (made ≡ Err OutOfMemory)
+    → IfOk made (λ answer. IfOk text (λ t. outcome_made answer ≡ printed Done (string_bytes t))) → IfOk text (λ t. string_bytes t ≡ wanted) → IsMade (printed Done wanted) made
+text_made made text wanted stops refused told is = is_made made text stops refused (λ (t : String Global). printed Done (string_bytes t)) (printed Done wanted) (text_is text wanted is) told
 
 -- a text that was made of a state, if there was memory for both
 module _ (text : Result (String Global) NoMemory) (state : Result State NoMemory) (refused : OnErr state (IsErr text)) where
@@ -86,60 +77,24 @@ stored_is setup turn out (Ok state) le is =
     let there : ltb setup.turns turn ≡ false = le-ltb _ _ le in
     ap (λ (s : State). stored_at setup s.turn out s) is ∙ ap (λ (k : ℕ). stored_at setup k out (after setup (own_turns setup 0 turn))) at ∙ sym (cond-false (ltb setup.turns turn) _ _ there)
 
--- ---- the systems of the rig
+-- a text of both clients is that of a turn which the match has
+pub rejoined_is : (setup : Setup) (turn : ℕ) (text : Result (String Global) NoMemory) → turn ≤ setup.turns → IfOk text (λ t. string_bytes t ≡ rejoin_text setup turn)
+    → IfOk text (λ t. printed Done (string_bytes t) ≡ rejoin_outcome setup turn)
+rejoined_is setup turn (Ok text) le is = ap (printed Done) is ∙ sym (cond-false (ltb setup.turns turn) _ _ (le-ltb _ _ le))
+rejoined_is setup turn (Err none) le is = tt
 
--- a command that ends before it has its text has not come to its end
-pub stop_never_ends : (stop : Stop) → HasEnded (status_of stop) → ⊥
-stop_never_ends ReadFault h = h
-stop_never_ends TooLong h = h
-stop_never_ends NoFile h = h
-stop_never_ends OutOfMemory h = h
-stop_never_ends (MatchRefused code index) h = h
-stop_never_ends (StateRefused code name) h = h
-stop_never_ends (ListRefused index) h = h
-stop_never_ends (NoSuchTurn asked turns) h = h
+-- ---- a turn that the match has not
 
-pub answered_never_ends : (stop : Stop) (status : Status) (text : List ℕ) (line : Result (String Global) NoMemory) → IsAnswered status text (status_of stop) line → HasEnded status → ⊥
-answered_never_ends stop status text (Ok made) h ended = stop_never_ends stop (subst HasEnded h.0 ended)
-answered_never_ends stop status text (Err none) h ended = subst HasEnded h.0 ended
+pub store_past : (setup : Setup) (turn : ℕ) (out : List ℕ) → setup.turns < turn → printed NoSuchTurn (refusal_text (Turn turn setup.turns)) ≡ store_outcome setup turn out
+store_past setup turn out past = sym (cond-true (ltb setup.turns turn) _ _ (lt-ltb _ _ past))
 
--- what is said of a request is said of its words
-pub stands_asked : (held : Option (List File)) (made : Result Answer Stop) (answer : Answer) (request words : Option Asked) (s t : Systems) → made ≡ Ok answer → request ≡ words → IfSome held (λ files. OnOk made (RigStands files request s t))
-    → IfSome held (λ files. HasEnded answer.status → RigStands files words s t)
-stands_asked None made answer request words s t e f h = tt
-stands_asked (Some files) made answer request words s t e f h =
-    λ ended. subst (λ (o : Option Asked). RigStands files o s t) f (subst (λ (r : Result Answer Stop). OnOk r (RigStands files request s t)) e h)
+pub rejoin_past : (setup : Setup) (turn : ℕ) → setup.turns < turn → printed NoSuchTurn (refusal_text (Turn turn setup.turns)) ≡ rejoin_outcome setup turn
+rejoin_past setup turn past = sym (cond-true (ltb setup.turns turn) _ _ (lt-ltb _ _ past))
 
--- what does not depend on the files, and holds of what is asked for, holds of the request
-module _ (held : Option (List File)) (made : Result Answer Stop) (request asked : Asked) (is : request ≡ asked) where
-  pub makes_asked : ((files : List File) → Makes made (IsOutcomeOf files (Some asked))) → IfSome held (λ files. Makes made (IsOutcomeOf files (Some request)))
-  makes_asked h = by held
-    where
-      by : (held : Option (List File)) → IfSome held (λ files. Makes made (IsOutcomeOf files (Some request)))
-      by None = tt
-      by (Some files) = subst (λ (a : Asked). Makes made (IsOutcomeOf files (Some a))) (sym is) (h files)
+-- and one that it has
 
-  pub stands_of : (s t : Systems) → ((files : List File) → OnOk made (RigStands files (Some asked) s t)) → IfSome held (λ files. OnOk made (RigStands files (Some request) s t))
-  stands_of s t h = by held
-    where
-      by : (held : Option (List File)) → IfSome held (λ files. OnOk made (RigStands files (Some request) s t))
-      by None = tt
-      by (Some files) = subst (λ (a : Asked). OnOk made (RigStands files (Some a) s t)) (sym is) (h files)
+pub store_done : (setup : Setup) (turn : ℕ) (out : List ℕ) → turn ≤ setup.turns → stored_at setup turn out (after setup (own_turns setup 0 turn)) ≡ store_outcome setup turn out
+store_done setup turn out le = sym (cond-false (ltb setup.turns turn) _ _ (le-ltb _ _ le))
 
--- a status that is no end says nothing
-pub stands_ended : (held : Option (List File)) (words : Option Asked) (status : Status) (s t : Systems) → (HasEnded status → ⊥) → IfSome held (λ files. HasEnded status → RigStands files words s t)
-stands_ended None words status s t never = tt
-stands_ended (Some files) words status s t never = λ ended. absurd (never ended)
-
--- ---- the list of rigs
-
-pub first_of : {A : Type 0} (items : List A) (x : A) (P : A → Type 0) → 0 < length items → x ≡ get_or items 0 x → All P items → P x
-first_of items x P below is all = subst P (sym is) (all 0 x below)
-
-rest_of : {A : Type 0} (items : List A) (P : A → Type 0) → All P items → All P (remove items 0)
-rest_of [] P all = All-nil P
-rest_of (y ∷ items) P all = All-tail P y items all
-
--- one was taken off the front, and one put there
-pub put_back : {A : Type 0} (items after new : List A) (x : A) (P : A → Type 0) → All P items → P x → after ≡ remove items 0 → new ≡ x ∷ after → All P new
-put_back items after new x P all here taken put = subst (All P) (sym put) (All-cons P x after here (subst (All P) (sym taken) (rest_of items P all)))
+pub rejoin_done : (setup : Setup) (turn : ℕ) → turn ≤ setup.turns → printed Done (rejoin_text setup turn) ≡ rejoin_outcome setup turn
+rejoin_done setup turn le = sym (cond-false (ltb setup.turns turn) _ _ (le-ltb _ _ le))

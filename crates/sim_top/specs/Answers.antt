@@ -7,7 +7,7 @@ use Rattle.sim_store.specs.Files.{File, file_in}
 use Rattle.sim_store.specs.Shelf.{HeldSet}
 use Rattle.sim_store.specs.declared.counts.Counts.{Counts}
 use Rattle.sim_top.specs.Outcome.{Outcome, IsOutcome}
-use Rattle.sim_top.specs.Words.{Asked, is_comparison, has_turn, loads_state, reads_list, reads_file}
+use Rattle.sim_top.specs.Words.{Asked, is_comparison, has_match, has_turn, loads_state, reads_list, reads_file}
 use Rattle.sim_top.specs.declared.status.Status.{Status}
 use Rattle.sim_top.specs.declared.status.Status.TheVariants.{Done, Differs, Usage, ReadFault, WriteFault, TooLong, MatchRefused, StateRefused, ListRefused, OutOfMemory, NoSuchTurn, NoFile}
 
@@ -73,6 +73,7 @@ MayAnswer asked ReadFault = IsTrue (reads_file asked)
 MayAnswer asked TooLong = IsTrue (reads_file asked)
 MayAnswer asked NoFile = IsTrue (reads_file asked)
 MayAnswer asked Differs = IsTrue (is_comparison asked)
+MayAnswer asked MatchRefused = IsTrue (has_match asked)
 MayAnswer asked NoSuchTurn = IsTrue (has_turn asked)
 MayAnswer asked StateRefused = IsTrue (loads_state asked)
 MayAnswer asked ListRefused = IsTrue (reads_list asked)

@@ -4,8 +4,11 @@ pub mod Reads
 pub mod Outcome
 pub mod Answers
 pub mod Readiness
+pub mod Given
 pub mod Stops
 pub mod Making
+pub mod Commands
 pub mod Rigs
 pub mod Hosting
+pub mod Returning
 pub mod Headline

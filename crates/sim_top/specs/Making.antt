@@ -1,7 +1,7 @@
 -- What a command has made when it has read its files: an outcome that is still to be written, or why it ends before.
-use Rattle.std.specs.Prelude.{◌≡◌, ◌≢◌, ◌⊎◌, ℕ, ◌<◌, List, [], length, take, Option, Some, None, option_map, Result, Ok, Err, String, string_bytes, ⊤}
+use Rattle.std.specs.Prelude.{◌≡◌, ◌≢◌, ◌⊎◌, ℕ, ◌<◌, List, [], length, take, Option, Some, None, option_map, Result, Ok, Err, IfOk, IfErr, String, string_bytes, ⊤}
 use Rattle.std.specs.declared.alloc.Global.{Global}
-use Rattle.sim_base.specs.declared.memory.OutOfMemory.{OutOfMemory as NoMemory}
+use Rattle.sim_base.specs.declared.memory.OutOfMemory.{OutOfMemory as Memory}
 use Rattle.std.specs.Io.KnownBytes.{Appends}
 use Rattle.sim_store.specs.Counts.{raised}
 use Rattle.sim_store.specs.Files.{File}
@@ -13,6 +13,7 @@ use Rattle.sim_top.specs.declared.status.Status.{Status}
 use Rattle.sim_top.specs.declared.status.Status.TheVariants.{Done, Differs, Usage, ReadFault, WriteFault, OutOfMemory}
 use Rattle.sim_top.specs.Stops.{Stopped, status_of}
 use Rattle.sim_top.specs.declared.stop.Stop.{Stop}
+use Rattle.sim_top.specs.declared.stop.Stop.TheVariants.{OutOfMemory as NoMemory}
 use Rattle.sim_top.specs.declared.commands.Saved.{Saved}
 use Rattle.sim_top.specs.declared.commands.Answer.{Answer}
 
@@ -34,11 +35,22 @@ abbrev pub status_made : Result Answer Stop → Status
 status_made (Ok answer) = answer.status
 status_made (Err stop) = status_of stop
 
+-- the file of an outcome has this name alone, if there is one
+abbrev pub IsFileAs : Option (List ℕ) → Option File → Type 0
+IsFileAs out None = Unit {0}
+IsFileAs None (Some file) = ⊥
+IsFileAs (Some out) (Some file) = file.name ≡ out
+
 -- a file is saved under this name alone, if at all
 abbrev pub IsSavedAs : Option (List ℕ) → Option Saved → Type 0
 IsSavedAs out None = Unit {0}
 IsSavedAs None (Some saved) = ⊥
 IsSavedAs (Some out) (Some saved) = saved.name.now ≡ out
+
+-- just this outcome is made, or there is no memory for it
+pub record IsMade (wanted : Outcome) (made : Result Answer Stop) : Type 0 where
+  pub answers : IfOk made (λ answer. outcome_made answer ≡ wanted)
+  pub stops : IfErr made (λ stop. stop ≡ NoMemory)
 
 -- an outcome that is still to be written is one of the words, or a read fault or want of memory came between
 abbrev pub MeetsBefore : Status → List (List ℕ) → List File → List ℕ → Option File → Type 0
@@ -48,7 +60,7 @@ MeetsBefore WriteFault words files text saved = ⊥
 MeetsBefore status words files text saved = IsOutcome words files (record { status = status; text = text; saved = saved })
 
 -- a command that has its text ends as done; or, where nothing is saved, as one that found a difference
-abbrev pub IsFinished : Option Saved → Status → Type 0
+abbrev pub IsFinished : {X : Type 0} → Option X → Status → Type 0
 IsFinished saved Done = Unit {0}
 IsFinished None Differs = Unit {0}
 IsFinished (Some saved) Differs = ⊥
@@ -65,8 +77,14 @@ abbrev pub SavesIfDone : Option Saved → Status → Type 0
 SavesIfDone None status = Unit {0}
 SavesIfDone (Some saved) status = status ≡ Done
 
+-- a status with which all was written, or nothing was to be written
+abbrev pub IsSettled : Status → Type 0
+IsSettled WriteFault = ⊥
+IsSettled OutOfMemory = ⊥
+IsSettled other = Unit {0}
+
 -- the text of a status, or nothing for want of memory
-abbrev pub IsAnswered : Status → List ℕ → Status → Result (String Global) NoMemory → Type 0
+abbrev pub IsAnswered : Status → List ℕ → Status → Result (String Global) Memory → Type 0
 IsAnswered status text wanted (Ok made) = (status ≡ wanted) × (text ≡ string_bytes made)
 IsAnswered status text wanted (Err e) = (status ≡ OutOfMemory) × (text ≡ [])
 

@@ -26,6 +26,18 @@ length_read files (to_compare game left right) = length_in files game + length_i
 length_read files (to_serve schedule) = length_in files schedule
 length_read files (to_try seed units turns) = 0
 
+-- how many bytes the file has that is read first
+abbrev pub length_first : List File → Asked → ℕ
+length_first files (to_play game) = length_in files game
+length_first files (to_store game turn out) = length_in files game
+length_first files (to_resume game stored) = length_in files game
+length_first files (to_rejoin game turn) = length_in files game
+length_first files (to_session game steps) = length_in files game
+length_first files (to_show game stored) = length_in files game
+length_first files (to_compare game left right) = length_in files game
+length_first files (to_serve schedule) = length_in files schedule
+length_first files (to_try seed units turns) = 0
+
 -- a file is not there
 abbrev pub Lacks : List File → List ℕ → Type 0
 Lacks files name = file_in files name ≡ None
@@ -41,11 +53,6 @@ LacksFirst files (to_show game stored) = Lacks files game
 LacksFirst files (to_compare game left right) = Lacks files game
 LacksFirst files (to_serve schedule) = Lacks files schedule
 LacksFirst files (to_try seed units turns) = ⊥
-
--- how many bytes are read for the words
-abbrev pub length_asked : List File → Option Asked → ℕ
-length_asked files None = 0
-length_asked files (Some asked) = length_read files asked
 
 -- the first file that the words name is not there
 abbrev pub LacksMatch : List File → Option Asked → Type 0

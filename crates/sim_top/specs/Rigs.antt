@@ -1,16 +1,19 @@
 -- How many rigs a command uses, and what their systems stand for when it came to its end.
-use Rattle.std.specs.Prelude.{◌≡◌, ℕ, ◌≤◌, List, [], ◌∷◌, length, drop, vec_capacity, Option, Some, None, Result, IfOk}
+use Rattle.std.specs.Prelude.{◌≡◌, ℕ, List, [], ◌∷◌, length, All, Option, Some, None, Result, IfOk, OnOk}
 use Rattle.sim_base.specs.declared.setup.Setup.{Setup}
 use Rattle.sim_base.specs.declared.state.State.{State}
 use Rattle.sim_base.specs.Turn.{first_state, after, own_turns}
 use Rattle.sim_store.specs.Files.{File}
-use Rattle.sim_system.specs.Meanings.{Systems, AreFed}
+use Rattle.sim_system.specs.Meanings.{Meaning, Systems, HaveKinds, AreFed, AreBuiltOnceAtMost}
+use Rattle.sim_system.specs.RigWords.{systems_by}
+use Rattle.sim_system.specs.declared.system.System.{Ghosts}
 use Rattle.sim_system.specs.declared.rig.Rig.{Rig}
 use Rattle.sim_play.specs.Lines.{end_from}
 use Rattle.sim_top.specs.Words.{Asked, to_play, to_store, to_resume, to_rejoin, to_session, to_show, to_compare, to_serve, to_try}
 use Rattle.sim_top.specs.Outcome.{Outcome, bytes_in, match_in, trial_match}
 use Rattle.sim_top.specs.Stops.{IsState}
-use Rattle.sim_top.specs.declared.rigs.Rigs.{Rigs}
+use Rattle.sim_top.specs.declared.commands.Answer.{Answer}
+use Rattle.sim_top.specs.declared.stop.Stop.{Stop}
 
 -- how many rigs are handed to the clients that play for what is asked, each with one of its own; to a session, all
 abbrev pub clients : Asked → ℕ
@@ -68,17 +71,21 @@ OfFirsts [] new P = ⊥
 OfFirsts (r ∷ old) [] P = ⊥
 OfFirsts (r ∷ old) (s ∷ new) P = P r s
 
--- all rigs of a run
-abbrev pub all_of : {X : Type 0} {F : X → Type 0} → Rigs X F → List (Rig X F)
-all_of rigs = rigs.first ∷ rigs.rest.items
+-- a match was played with this rig to a state, if there was memory: its systems stand for the state, and each was built once at most
+pub record HasPlayedBy {X : Type 0} {F : X → Type 0} (meaning : (i : X) → F i → Meaning) (setup : Setup) (state : State) (made : Result Answer Stop) (old new : Rig X F) : Type 0 where
+  pub fed : OnOk made (AreFed setup state (systems_by new meaning))
+  pub kinds : HaveKinds (systems_by new meaning)
+  pub most : AreBuiltOnceAtMost (systems_by old meaning) (systems_by new meaning)
 
--- the first rig and seven more, which have room for it
-pub record AreEight {X : Type 0} {F : X → Type 0} (rigs : Rigs X F) : Type 0 where
-  pub count : length rigs.rest.items ≡ 7
-  pub room : 8 ≤ vec_capacity rigs.rest
+-- the same, as a clause has it
+abbrev pub HasPlayed : {X : Type 0} {F : X → Type 0} → ((i : X) → Ghosts (F i)) → Setup → State → Result Answer Stop → Rig X F → Rig X F → Type 0
+HasPlayed sys setup state made old new = HasPlayedBy (λ i v. (sys i).meaning v) setup state made old new
 
--- the rigs behind the first of a run come back in their number and their room, and all that are not used as they were
-pub record AreHandedBack {X : Type 0} {F : X → Type 0} (n : ℕ) (old new : Rigs X F) : Type 0 where
-  pub unused : drop n (all_of new) ≡ drop n (all_of old)
-  pub count : length new.rest.items ≡ length old.rest.items
-  pub room : vec_capacity new.rest ≡ vec_capacity old.rest
+-- eight rigs, each system of which is in its place
+pub record AreEightBy {X : Type 0} {F : X → Type 0} (meaning : (i : X) → F i → Meaning) (rigs : List (Rig X F)) : Type 0 where
+  pub count : length rigs ≡ 8
+  pub kinds : All (λ r. HaveKinds (systems_by r meaning)) rigs
+
+-- the same, as a clause has it
+abbrev pub AreEight : {X : Type 0} {F : X → Type 0} → ((i : X) → Ghosts (F i)) → List (Rig X F) → Type 0
+AreEight sys rigs = AreEightBy (λ i v. (sys i).meaning v) rigs

@@ -119,11 +119,39 @@ IsOfContent TooLong = ⊥
 IsOfContent NoFile = ⊥
 IsOfContent other = Unit {0}
 
--- a command ends for a turn that the match lacks, or for want of memory
-abbrev pub IsOfTurn : Stop → Type 0
-IsOfTurn OutOfMemory = Unit {0}
-IsOfTurn (NoSuchTurn asked turns) = Unit {0}
-IsOfTurn other = ⊥
+-- what a command ends for that reads a match: nothing is refused but the match
+abbrev pub IsOfMatch : Stop → Type 0
+IsOfMatch (StateRefused code name) = ⊥
+IsOfMatch (ListRefused index) = ⊥
+IsOfMatch (NoSuchTurn asked turns) = ⊥
+IsOfMatch other = Unit {0}
+
+-- that reads a stored state
+abbrev pub IsOfState : Stop → Type 0
+IsOfState (MatchRefused code index) = ⊥
+IsOfState (ListRefused index) = ⊥
+IsOfState (NoSuchTurn asked turns) = ⊥
+IsOfState other = Unit {0}
+
+-- that reads a list
+abbrev pub IsOfList : Stop → Type 0
+IsOfList (MatchRefused code index) = ⊥
+IsOfList (StateRefused code name) = ⊥
+IsOfList (NoSuchTurn asked turns) = ⊥
+IsOfList other = Unit {0}
+
+-- a command ends since something is refused
+abbrev pub IsRefusal : Stop → Type 0
+IsRefusal ReadFault = ⊥
+IsRefusal TooLong = ⊥
+IsRefusal NoFile = ⊥
+IsRefusal OutOfMemory = ⊥
+IsRefusal other = Unit {0}
+
+-- just so many bytes were given, by what is read or refused
+abbrev pub GaveAll : {X : Type 0} → Result X Stop → ℕ → Counts → Counts → Type 0
+GaveAll (Ok x) n old new = new ≡ after_giving n old
+GaveAll (Err stop) n old new = IsRefusal stop → new ≡ after_giving n old
 
 -- a command ends since a file was not there, or for a read fault
 abbrev pub IsMissed : {X : Type 0} → Result X Stop → Type 0

@@ -93,6 +93,11 @@ abbrev pub is_session : Option Asked → Bool
 is_session (Some (to_session game steps)) = true
 is_session other = false
 
+-- whether it names the file of a match, or makes a match
+abbrev pub has_match : Asked → Bool
+has_match (to_serve schedule) = false
+has_match other = true
+
 -- whether it names a turn
 abbrev pub has_turn : Asked → Bool
 has_turn (to_store game turn out) = true

@@ -1,21 +1,19 @@
 //! What a command reads: the match of a file, a stored state of that match, a schedule, and the match and the steps of a
-//! session; and the match of a trial.
+//! session; and the match of a trial. What is refused without a look at its contents takes no memory.
 
-ghost use Rattle.std.specs.Prelude.{◌≡◌, List, Some, None, IsTrue, IfSome, IfOk, IfErr, IsErrAnd, length};
+ghost use Rattle.std.specs.Prelude.{◌≡◌, List, Err, IfSome, IfOk, IfErr, IsErrAnd, Some, None, false};
+ghost use Rattle.std.specs.Str.{is_utf8};
 ghost use Rattle.sim_base.specs.Limits.{IsSetup};
 ghost use Rattle.sim_base.specs.Validity.{IsValid};
 ghost use Rattle.sim_codec.specs.Loading.{head_fault};
-ghost use Rattle.sim_setup.specs.Setups.{setup_of as setup_of_bytes, session_setup_of as session_setup_of_bytes};
-ghost use Rattle.sim_store.specs.Counts.{after_giving};
-ghost use Rattle.sim_store.specs.Files.{File, file_in};
-ghost use Rattle.sim_top.specs.Words.{Asked, loads_state, reads_list, reads_file};
-ghost use Rattle.sim_top.specs.Reads.{length_in};
 ghost use Rattle.sim_lists.specs.Schedules.{schedule_of as schedule_of_bytes, IsSchedule};
 ghost use Rattle.sim_lists.specs.StepLists.{steps_of as steps_of_bytes, IsStepList};
-ghost use Rattle.sim_trial.specs.Trial.{IsTrial};
+ghost use Rattle.sim_setup.specs.Setups.{setup_of as setup_of_bytes, session_setup_of as session_setup_of_bytes};
+ghost use Rattle.sim_store.specs.Files.{File, file_in};
+ghost use Rattle.sim_top.specs.Commands.{IsReading, shelved};
 ghost use Rattle.sim_top.specs.Outcome.{bytes_in, match_in, setup_by, session_match_in, trial_match as match_of_trial, schedule_in, steps_in, list_by};
-ghost use Rattle.sim_top.specs.Answers.{MayAnswer};
-ghost use Rattle.sim_top.specs.Stops.{Reads, ReadsBytes, ReadsState, LoadsState, IsStateStop, IsOfContent, IsMissed, ReadsCounting, CausesOf, status_of};
+ghost use Rattle.sim_top.specs.Stops.{Reads, ReadsBytes, ReadsState, LoadsState, IsStateStop, IsOfContent, IsOfMatch, IsOfState, IsOfList, IsMissed, ReadsCounting};
+ghost use Rattle.sim_trial.specs.Trial.{IsTrial};
 
 use crate::stop::Stop;
 use sim_base::{Setup, State};
@@ -48,7 +46,8 @@ fn read_bytes<'w, S: Shelf>(alloc: Global, shelf: &mut S, name: &str) -> Result<
 fn match_of<'w>(alloc: Global, bytes: &[u8]) -> Result<Setup, Stop<'w>>
     ensures tells { Reads result (setup_by (setup_of_bytes bytes.now)) }
     ensures limits { IfOk result IsSetup }
-    ensures stops { IfErr result (λ stop. (asked : Asked) → MayAnswer asked (status_of stop)) }
+    ensures no_text { is_utf8 bytes.now ≡ false → result ≡ Err (Stop.MatchRefused 1 0) }
+    ensures stops { IfErr result IsOfMatch }
     ensures content { IfErr result IsOfContent }
 {
     Ok(setup_of(alloc, bytes)?)
@@ -59,11 +58,8 @@ fn match_of<'w>(alloc: Global, bytes: &[u8]) -> Result<Setup, Stop<'w>>
 pub fn read_match<'w, S: Shelf>(alloc: Global, shelf: &mut S, name: &str) -> Result<Setup, Stop<'w>>
     ensures tells { IfSome (S.held shelf.old) (λ files. Reads result (match_in files name.now)) }
     ensures limits { IfOk result IsSetup }
-    ensures missing { (files : List File) → S.held shelf.old ≡ Some files → file_in files name.now ≡ None → IsMissed result }
-    ensures stops { IfErr result (λ stop. (asked : Asked) → IsTrue (reads_file asked) → MayAnswer asked (status_of stop)) }
-    ensures causes { CausesOf result (S.counts shelf.old) (S.counts shelf.new) }
-    ensures given { (files : List File) → S.held shelf.old ≡ Some files → IfOk result (λ _. S.counts shelf.new ≡ after_giving (length_in files name.now) (S.counts shelf.old)) }
-    ensures held { S.held shelf.new ≡ S.held shelf.old }
+    ensures stops { IfErr result IsOfMatch }
+    ensures reading { IsReading name.now result (shelved (S.held shelf.old) (S.counts shelf.old)) (shelved (S.held shelf.new) (S.counts shelf.new)) }
 {
     let bytes = read_bytes(alloc, shelf, name)?;
     match_of(alloc, &bytes)
@@ -73,7 +69,8 @@ pub fn read_match<'w, S: Shelf>(alloc: Global, shelf: &mut S, name: &str) -> Res
 fn session_match_of<'w>(alloc: Global, bytes: &[u8]) -> Result<Setup, Stop<'w>>
     ensures tells { Reads result (setup_by (session_setup_of_bytes bytes.now)) }
     ensures limits { IfOk result IsSetup }
-    ensures stops { IfErr result (λ stop. (asked : Asked) → MayAnswer asked (status_of stop)) }
+    ensures no_text { is_utf8 bytes.now ≡ false → result ≡ Err (Stop.MatchRefused 1 0) }
+    ensures stops { IfErr result IsOfMatch }
     ensures content { IfErr result IsOfContent }
 {
     Ok(session_setup_of(alloc, bytes)?)
@@ -88,11 +85,8 @@ pub fn read_session_match<'w, S: Shelf>(
 ) -> Result<Setup, Stop<'w>>
     ensures tells { IfSome (S.held shelf.old) (λ files. Reads result (session_match_in files name.now)) }
     ensures limits { IfOk result IsSetup }
-    ensures missing { (files : List File) → S.held shelf.old ≡ Some files → file_in files name.now ≡ None → IsMissed result }
-    ensures stops { IfErr result (λ stop. (asked : Asked) → IsTrue (reads_file asked) → MayAnswer asked (status_of stop)) }
-    ensures causes { CausesOf result (S.counts shelf.old) (S.counts shelf.new) }
-    ensures given { (files : List File) → S.held shelf.old ≡ Some files → IfOk result (λ _. S.counts shelf.new ≡ after_giving (length_in files name.now) (S.counts shelf.old)) }
-    ensures held { S.held shelf.new ≡ S.held shelf.old }
+    ensures stops { IfErr result IsOfMatch }
+    ensures reading { IsReading name.now result (shelved (S.held shelf.old) (S.counts shelf.old)) (shelved (S.held shelf.new) (S.counts shelf.new)) }
 {
     let bytes = read_bytes(alloc, shelf, name)?;
     session_match_of(alloc, &bytes)
@@ -104,7 +98,7 @@ pub fn trial_match<'w>(alloc: Global, seed: u32, units: u32, turns: u32) -> Resu
     requires { IsTrial seed units turns }
     ensures tells { Reads result (match_of_trial seed units turns) }
     ensures limits { IfOk result IsSetup }
-    ensures stops { IfErr result (λ stop. (asked : Asked) → MayAnswer asked (status_of stop)) }
+    ensures stops { IfErr result IsOfMatch }
     ensures content { IfErr result IsOfContent }
 {
     let text = trial_text(alloc, u64::from(seed), units, turns)?;
@@ -121,7 +115,7 @@ fn state_of<'w>(
     requires { IsSetup setup.now }
     ensures loads { LoadsState result setup.now name.now bytes.now }
     ensures head { IfSome (head_fault setup.now bytes.now) (λ fault. IsErrAnd result (IsStateStop fault name.now)) }
-    ensures stops { IfErr result (λ stop. (asked : Asked) → IsTrue (loads_state asked) → MayAnswer asked (status_of stop)) }
+    ensures stops { IfErr result IsOfState }
     ensures content { IfErr result IsOfContent }
 {
     match load(alloc, setup, bytes) {
@@ -140,10 +134,8 @@ pub fn read_state<'w, S: Shelf>(
     requires { IsSetup setup.now }
     ensures tells { IfSome (S.held shelf.old) (λ files. ReadsState result setup.now name.now (bytes_in files name.now)) }
     ensures valid { IfOk result (IsValid setup.now) }
-    ensures stops { IfErr result (λ stop. (asked : Asked) → IsTrue (loads_state asked) → IsTrue (reads_file asked) → MayAnswer asked (status_of stop)) }
-    ensures causes { CausesOf result (S.counts shelf.old) (S.counts shelf.new) }
-    ensures given { (files : List File) → S.held shelf.old ≡ Some files → IfOk result (λ _. S.counts shelf.new ≡ after_giving (length_in files name.now) (S.counts shelf.old)) }
-    ensures held { S.held shelf.new ≡ S.held shelf.old }
+    ensures stops { IfErr result IsOfState }
+    ensures reading { IsReading name.now result (shelved (S.held shelf.old) (S.counts shelf.old)) (shelved (S.held shelf.new) (S.counts shelf.new)) }
 {
     let bytes = read_bytes(alloc, shelf, name)?;
     state_of(alloc, setup, name, &bytes)
@@ -153,7 +145,8 @@ pub fn read_state<'w, S: Shelf>(
 fn schedule_from<'w>(alloc: Global, bytes: &[u8]) -> Result<Schedule, Stop<'w>>
     ensures tells { Reads result (list_by (schedule_of_bytes bytes.now)) }
     ensures limits { IfOk result IsSchedule }
-    ensures stops { IfErr result (λ stop. (asked : Asked) → IsTrue (reads_list asked) → MayAnswer asked (status_of stop)) }
+    ensures no_text { is_utf8 bytes.now ≡ false → result ≡ Err (Stop.ListRefused 0) }
+    ensures stops { IfErr result IsOfList }
     ensures content { IfErr result IsOfContent }
 {
     Ok(schedule_of(alloc, bytes)?)
@@ -168,11 +161,8 @@ pub fn read_schedule<'w, S: Shelf>(
 ) -> Result<Schedule, Stop<'w>>
     ensures tells { IfSome (S.held shelf.old) (λ files. Reads result (schedule_in files name.now)) }
     ensures limits { IfOk result IsSchedule }
-    ensures missing { (files : List File) → S.held shelf.old ≡ Some files → file_in files name.now ≡ None → IsMissed result }
-    ensures stops { IfErr result (λ stop. (asked : Asked) → IsTrue (reads_list asked) → IsTrue (reads_file asked) → MayAnswer asked (status_of stop)) }
-    ensures causes { CausesOf result (S.counts shelf.old) (S.counts shelf.new) }
-    ensures given { (files : List File) → S.held shelf.old ≡ Some files → IfOk result (λ _. S.counts shelf.new ≡ after_giving (length_in files name.now) (S.counts shelf.old)) }
-    ensures held { S.held shelf.new ≡ S.held shelf.old }
+    ensures stops { IfErr result IsOfList }
+    ensures reading { IsReading name.now result (shelved (S.held shelf.old) (S.counts shelf.old)) (shelved (S.held shelf.new) (S.counts shelf.new)) }
 {
     let bytes = read_bytes(alloc, shelf, name)?;
     schedule_from(alloc, &bytes)
@@ -182,7 +172,8 @@ pub fn read_schedule<'w, S: Shelf>(
 fn steps_from<'w>(alloc: Global, bytes: &[u8], players: u8) -> Result<StepList, Stop<'w>>
     ensures tells { Reads result (list_by (steps_of_bytes players bytes.now)) }
     ensures limits { IfOk result (IsStepList players) }
-    ensures stops { IfErr result (λ stop. (asked : Asked) → IsTrue (reads_list asked) → MayAnswer asked (status_of stop)) }
+    ensures no_text { is_utf8 bytes.now ≡ false → result ≡ Err (Stop.ListRefused 0) }
+    ensures stops { IfErr result IsOfList }
     ensures content { IfErr result IsOfContent }
 {
     Ok(steps_of(alloc, bytes, players)?)
@@ -198,10 +189,8 @@ pub fn read_steps<'w, S: Shelf>(
 ) -> Result<StepList, Stop<'w>>
     ensures tells { IfSome (S.held shelf.old) (λ files. Reads result (steps_in files name.now players)) }
     ensures limits { IfOk result (IsStepList players) }
-    ensures stops { IfErr result (λ stop. (asked : Asked) → IsTrue (reads_list asked) → IsTrue (reads_file asked) → MayAnswer asked (status_of stop)) }
-    ensures causes { CausesOf result (S.counts shelf.old) (S.counts shelf.new) }
-    ensures given { (files : List File) → S.held shelf.old ≡ Some files → IfOk result (λ _. S.counts shelf.new ≡ after_giving (length_in files name.now) (S.counts shelf.old)) }
-    ensures held { S.held shelf.new ≡ S.held shelf.old }
+    ensures stops { IfErr result IsOfList }
+    ensures reading { IsReading name.now result (shelved (S.held shelf.old) (S.counts shelf.old)) (shelved (S.held shelf.new) (S.counts shelf.new)) }
 {
     let bytes = read_bytes(alloc, shelf, name)?;
     steps_from(alloc, &bytes, players)

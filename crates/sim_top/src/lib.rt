@@ -10,13 +10,12 @@
 //! - `words`: what the words ask for.
 //! - `status`, `stop`: how a run ends, and why a command ends before it has its text.
 //! - `inputs`: the match, the stored state and the list that a command reads, and the match of a trial.
-//! - `rigs`: the rigs with which a run plays.
-//! - `commands`, `hosting`: what each command makes of its files, and a session of its two.
+//! - `rigs`: the first rig, which is taken out of its list and put back.
+//! - `commands`: what each command makes of its files, a module for each of them.
 //! - `top`: the top call.
 #![tactic(auto)]
 
 mod commands;
-mod hosting;
 mod inputs;
 mod rigs;
 mod status;

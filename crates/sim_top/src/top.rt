@@ -1,28 +1,29 @@
 //! The top call: from the words to a status. All files are read and the whole text is made before anything is written,
 //! so that a refusal or want of memory leaves the sink and the files as they were.
 
-ghost use Rattle.std.specs.Prelude.{◌≡◌, ◌≢◌, ℕ, List, All, false, length, drop, vec_capacity, Option, IfSome, IfOk, IsOk, Some, None, [], option_map, string_bytes};
+ghost use Rattle.std.specs.Prelude.{◌≡◌, ◌≢◌, ℕ, List, All, length, Option, IfSome, IfOk, IsOk, Some, None, [], option_map, string_bytes};
 ghost use Rattle.std.specs.Io.KnownBytes.{Appends};
+ghost use Rattle.sim_client.specs.StageWords.{AreCleared};
 ghost use Rattle.sim_report.specs.Lines.{usage_text as text_of_usage};
-ghost use Rattle.sim_store.specs.Counts.{after_giving};
 ghost use Rattle.sim_store.specs.Files.{File};
 ghost use Rattle.sim_store.specs.Writing.{FileCauses};
 ghost use Rattle.sim_store.specs.declared.counts.Counts.{Counts as AllCounts};
-ghost use Rattle.sim_client.specs.StageWords.{AreCleared};
-ghost use Rattle.sim_top.specs.Words.{Asked, words_of, asked_by, is_session, out_of};
-ghost use Rattle.sim_top.specs.Reads.{length_asked, LacksMatch, HasEnded, IsUnfound};
-ghost use Rattle.sim_top.specs.Answers.{scene, Meets, Causes, CountsBefore, MayEnd, IsUsageTold, KeepsAllBut, IsSilent};
-ghost use Rattle.sim_top.specs.Readiness.{IsReady, IsFaultless, IsFinal};
-ghost use Rattle.sim_top.specs.Making.{MeetsBefore, SavesIfDone, IsSavedAs, IsUsageMade, IsAnswered, SaveMeets, Tells, file_of};
-ghost use Rattle.sim_top.specs.Hosting.{OfSession, IsHosted};
-ghost use Rattle.sim_top.specs.Headline.{Headline};
-ghost use Rattle.sim_top.specs.Rigs.{RigStands, SecondStands, OfFirsts, AreEight, AreHandedBack, all_of, used};
-ghost use Rattle.sim_system.specs.Meanings.{HaveKinds, AreBuiltOnceAtMost};
+ghost use Rattle.sim_system.specs.Meanings.{HaveKinds};
 ghost use Rattle.sim_system.specs.RigWords.{systems_of};
+ghost use Rattle.sim_top.specs.Answers.{scene, Meets, Causes, CountsBefore, MayEnd, IsUsageTold, KeepsAllBut, IsSilent};
+ghost use Rattle.sim_top.specs.Commands.{IsPrepared, shelved};
+ghost use Rattle.sim_top.specs.Given.{GaveForWords};
+ghost use Rattle.sim_top.specs.Headline.{Headline};
+ghost use Rattle.sim_top.specs.Hosting.{OfSession};
+ghost use Rattle.sim_top.specs.Making.{MeetsBefore, SavesIfDone, IsSavedAs, IsAnswered, SaveMeets, IsSettled, Tells, file_of};
+ghost use Rattle.sim_top.specs.Readiness.{IsReady, IsFaultless, IsFinal};
+ghost use Rattle.sim_top.specs.Reads.{LacksMatch, HasEnded, IsUnfound};
+ghost use Rattle.sim_top.specs.Returning.{RigsCameBack};
+ghost use Rattle.sim_top.specs.Rigs.{AreEight};
 ghost use Rattle.sim_top.specs.Stops.{stop_text as text_of_stop, status_of};
+ghost use Rattle.sim_top.specs.Words.{Asked, words_of, asked_by, out_of};
 
 use crate::commands::{Answer, Saved, answer_to};
-use crate::rigs::Rigs;
 use crate::status::Status;
 use crate::stop::Stop;
 use crate::words::request_of;
@@ -42,7 +43,7 @@ pub struct Ended {
 
 /// Does what the words say, over the files of the shelf, and writes its text to the sink. A match is played with the first
 /// of eight cleared rigs, and by a client that joins it with the second; in a session each client has the rig of its number.
-/// All eight come back, in the room and in the order in which they came.
+/// All eight come back with every status, in the room and in the order in which they came.
 pub fn run<S: Shelf, K: Sink>(
     alloc: Global,
     words: &[String],
@@ -70,9 +71,9 @@ pub fn run<S: Shelf, K: Sink>(
         → IsFaultless (scene (S.held shelf.old) (K.told out.old) (S.counts shelf.old) (K.faults out.old))
         (scene (S.held shelf.new) (K.told out.new) (S.counts shelf.new) (K.faults out.new))
         → IsFinal result.status) }
-    // Then just the bytes of these files were given.
-    ensures given { (files : List File) → S.held shelf.old ≡ Some files → HasEnded result.status
-        → S.counts shelf.new ≡ after_giving (length_asked files (asked_by (words_of words.now))) (S.counts shelf.old) }
+    // Just the bytes of the files that were read were given, each once, also where the last of them is refused.
+    ensures given { (files : List File) → S.held shelf.old ≡ Some files
+        → GaveForWords files (asked_by (words_of words.now)) result.status (S.counts shelf.old) (S.counts shelf.new) }
     // A match that is not there is found missing, whatever memory there is.
     ensures missing { (files : List File) → S.held shelf.old ≡ Some files → LacksMatch files (asked_by (words_of words.now)) → IsUnfound result.status }
 
@@ -88,74 +89,14 @@ pub fn run<S: Shelf, K: Sink>(
     ensures unsaved { out_of (asked_by (words_of words.now)) ≡ None → (S.counts shelf.new).write_faults ≡ (S.counts shelf.old).write_faults }
     ensures others { KeepsAllBut (out_of (asked_by (words_of words.now))) (S.held shelf.old) (S.held shelf.new) }
 
-    // The first rig stands for the state to which its match came, and so does the second where a client joined; each of their
-    // systems was built once at most. Those of a session stand for what its clients are in the end, and may be built again for
-    // each load. Rigs that are not used are as they were.
-    ensures stands { IfSome (S.held shelf.old) (λ files. HasEnded result.status
-        → OfFirsts rigs.items result.rigs.items (λ r s. RigStands files (asked_by (words_of words.now)) (systems_of r ⟦<dyn System as System>⟧) (systems_of s ⟦<dyn System as System>⟧))) }
-    ensures joins { IfSome (S.held shelf.old) (λ files. HasEnded result.status
-        → OfFirsts (drop 1 rigs.items) (drop 1 result.rigs.items) (λ r s. SecondStands files (asked_by (words_of words.now)) (systems_of s ⟦<dyn System as System>⟧))) }
-    ensures hosted { IfSome (S.held shelf.old) (λ files. HasEnded result.status
-        → OfSession files (asked_by (words_of words.now)) (λ setup list. IsHosted ⟦<dyn System as System>⟧ setup list rigs.items result.rigs.items)) }
-    ensures joined { is_session (asked_by (words_of words.now)) ≡ false → OfFirsts (drop 1 rigs.items) (drop 1 result.rigs.items) (λ r s. AreBuiltOnceAtMost (systems_of r ⟦<dyn System as System>⟧) (systems_of s ⟦<dyn System as System>⟧)) }
-    ensures most { is_session (asked_by (words_of words.now)) ≡ false → OfFirsts rigs.items result.rigs.items (λ r s. AreBuiltOnceAtMost (systems_of r ⟦<dyn System as System>⟧) (systems_of s ⟦<dyn System as System>⟧)) }
-    ensures kinds { All (λ r. HaveKinds (systems_of r ⟦<dyn System as System>⟧)) result.rigs.items }
-    ensures rest { drop (used (asked_by (words_of words.now))) result.rigs.items ≡ drop (used (asked_by (words_of words.now))) rigs.items }
-    ensures count { length result.rigs.items ≡ 8 }
-    ensures room { vec_capacity result.rigs ≡ vec_capacity rigs }
+    // All rigs come back, with every status: what those that were used stand for in the end, how often each was built, and that
+    // all others are as they were.
+    ensures back { RigsCameBack ⟦<dyn System as System>⟧ (asked_by (words_of words.now)) (S.held shelf.old) result.status rigs result.rigs }
 {
-    let mut rest = rigs;
-    let first = rest.remove(0);
-    let (status, rigs) = run_with(alloc, words, shelf, out, Rigs { first, rest }, orders);
-    let Rigs { first, rest } = rigs;
-    let mut rigs = rest;
-    match rigs.insert(0, first) {
-        Ok(()) => Ended { status, rigs },
-        Err(_) => unreachable!(),
-    }
-}
-
-// The same with the first rig apart.
-fn run_with<S: Shelf, K: Sink>(
-    alloc: Global,
-    words: &[String],
-    shelf: &mut S,
-    out: &mut K,
-    rigs: Rigs,
-    orders: &OrderTable,
-) -> (Status, Rigs)
-    requires eight { AreEight rigs }
-    requires kinds { All (λ r. HaveKinds (systems_of r ⟦<dyn System as System>⟧)) (all_of rigs) }
-    requires cleared { All (λ r. AreCleared (systems_of r ⟦<dyn System as System>⟧)) (all_of rigs) }
-    ensures answers { IfSome (S.held shelf.old) (λ files. Meets result.0 (words_of words.now) files
-        (scene (S.held shelf.old) (K.told out.old) (S.counts shelf.old) (K.faults out.old))
-        (scene (S.held shelf.new) (K.told out.new) (S.counts shelf.new) (K.faults out.new))) }
-    ensures complete { IfSome (S.held shelf.old) (λ files. IsReady files (asked_by (words_of words.now))
-        → IsFaultless (scene (S.held shelf.old) (K.told out.old) (S.counts shelf.old) (K.faults out.old))
-        (scene (S.held shelf.new) (K.told out.new) (S.counts shelf.new) (K.faults out.new))
-        → IsFinal result.0) }
-    ensures given { (files : List File) → S.held shelf.old ≡ Some files → HasEnded result.0
-        → S.counts shelf.new ≡ after_giving (length_asked files (asked_by (words_of words.now))) (S.counts shelf.old) }
-    ensures missing { (files : List File) → S.held shelf.old ≡ Some files → LacksMatch files (asked_by (words_of words.now)) → IsUnfound result.0 }
-    ensures statuses { MayEnd (asked_by (words_of words.now)) result.0 }
-    ensures unasked { asked_by (words_of words.now) ≡ None → IsUsageTold text_of_usage result.0 (K.told out.old) (K.told out.new) × (S.counts shelf.new ≡ S.counts shelf.old) }
-    ensures silent { IsSilent result.0 → Appends (K.told out.old) (K.told out.new) [] }
-    ensures causes { Causes result.0
-        (scene (S.held shelf.old) (K.told out.old) (S.counts shelf.old) (K.faults out.old))
-        (scene (S.held shelf.new) (K.told out.new) (S.counts shelf.new) (K.faults out.new)) }
-    ensures unsaved { out_of (asked_by (words_of words.now)) ≡ None → (S.counts shelf.new).write_faults ≡ (S.counts shelf.old).write_faults }
-    ensures others { KeepsAllBut (out_of (asked_by (words_of words.now))) (S.held shelf.old) (S.held shelf.new) }
-    ensures stands { IfSome (S.held shelf.old) (λ files. HasEnded result.0 → RigStands files (asked_by (words_of words.now)) (systems_of rigs.first ⟦<dyn System as System>⟧) (systems_of result.1.first ⟦<dyn System as System>⟧)) }
-    ensures joins { IfSome (S.held shelf.old) (λ files. HasEnded result.0 → OfFirsts rigs.rest.items result.1.rest.items (λ r s. SecondStands files (asked_by (words_of words.now)) (systems_of s ⟦<dyn System as System>⟧))) }
-    ensures most { is_session (asked_by (words_of words.now)) ≡ false → AreBuiltOnceAtMost (systems_of rigs.first ⟦<dyn System as System>⟧) (systems_of result.1.first ⟦<dyn System as System>⟧) }
-    ensures joined { is_session (asked_by (words_of words.now)) ≡ false → OfFirsts rigs.rest.items result.1.rest.items (λ r s. AreBuiltOnceAtMost (systems_of r ⟦<dyn System as System>⟧) (systems_of s ⟦<dyn System as System>⟧)) }
-    ensures hosted { IfSome (S.held shelf.old) (λ files. HasEnded result.0 → OfSession files (asked_by (words_of words.now)) (λ setup list. IsHosted ⟦<dyn System as System>⟧ setup list (all_of rigs) (all_of result.1))) }
-    ensures headline { IfSome (S.held shelf.old) (λ files. HasEnded result.0 → OfSession files (asked_by (words_of words.now)) (λ setup list. Headline setup list (K.told out.old) (K.told out.new))) }
-    ensures kinds { All (λ r. HaveKinds (systems_of r ⟦<dyn System as System>⟧)) (all_of result.1) }
-    ensures back { AreHandedBack (used (asked_by (words_of words.now))) rigs result.1 }
-{
-    let (answer, rigs) = made_answer(alloc, words, shelf, rigs, orders);
-    (finish(shelf, out, &answer), rigs)
+    let mut rigs = rigs;
+    let answer = made_answer(alloc, words, shelf, &mut rigs, orders);
+    let status = finish(shelf, out, &answer);
+    Ended { status, rigs }
 }
 
 // Writes what was made: the file that is to be saved, and then the text.
@@ -169,7 +110,7 @@ fn finish<S: Shelf, K: Sink>(shelf: &mut S, out: &mut K, answer: &Answer<'_>) ->
         (scene (S.held shelf.new) (K.told out.new) (S.counts shelf.new) (K.faults out.new))) }
     ensures told { answer.now.saved ≡ None → Tells result answer.now.status (string_bytes answer.now.text) (K.told out.old) (K.told out.new) (K.faults out.old) (K.faults out.new) }
     ensures statuses { (asked : Option Asked) → MayEnd asked answer.now.status → MayEnd asked result }
-    ensures ended { HasEnded result → (result ≡ answer.now.status) × (S.counts shelf.new ≡ S.counts shelf.old) }
+    ensures settled { IsSettled result → (result ≡ answer.now.status) × (S.counts shelf.new ≡ S.counts shelf.old) }
     ensures silent { IsSilent result → Appends (K.told out.old) (K.told out.new) [] }
     ensures causes { (before : AllCounts) → CountsBefore answer.now.status before (S.counts shelf.old)
         → Causes result (scene (S.held shelf.old) (K.told out.old) before (K.faults out.old))
@@ -210,44 +151,20 @@ fn made_answer<'w, S: Shelf>(
     alloc: Global,
     words: &'w [String],
     shelf: &mut S,
-    rigs: Rigs,
+    rigs: &mut Vec<Rig>,
     orders: &OrderTable,
-) -> (Answer<'w>, Rigs)
-    requires eight { AreEight rigs }
-    requires kinds { All (λ r. HaveKinds (systems_of r ⟦<dyn System as System>⟧)) (all_of rigs) }
-    requires cleared { All (λ r. AreCleared (systems_of r ⟦<dyn System as System>⟧)) (all_of rigs) }
-    ensures answers { IfSome (S.held shelf.old) (λ files. MeetsBefore result.0.status (words_of words.now) files
-        (string_bytes result.0.text) (option_map file_of result.0.saved)) }
-    ensures statuses { MayEnd (asked_by (words_of words.now)) result.0.status }
-    ensures unasked { asked_by (words_of words.now) ≡ None → IsUsageMade text_of_usage result.0.status (string_bytes result.0.text) × (result.0.saved ≡ None) × (S.counts shelf.new ≡ S.counts shelf.old) }
-    ensures given { (files : List File) → S.held shelf.old ≡ Some files → HasEnded result.0.status
-        → S.counts shelf.new ≡ after_giving (length_asked files (asked_by (words_of words.now))) (S.counts shelf.old) }
-    ensures missing { (files : List File) → S.held shelf.old ≡ Some files → LacksMatch files (asked_by (words_of words.now))
-        → IsUnfound result.0.status × (result.0.saved ≡ None) }
-    ensures silent { IsSilent result.0.status → string_bytes result.0.text ≡ [] }
-    ensures done { SavesIfDone result.0.saved result.0.status }
-    ensures saved { IsSavedAs (out_of (asked_by (words_of words.now))) result.0.saved }
-    ensures unwritten { result.0.status ≢ Status.WriteFault }
-    ensures causes { CountsBefore result.0.status (S.counts shelf.old) (S.counts shelf.new) }
-    ensures held { S.held shelf.new ≡ S.held shelf.old }
-    ensures stands { IfSome (S.held shelf.old) (λ files. HasEnded result.0.status → RigStands files (asked_by (words_of words.now)) (systems_of rigs.first ⟦<dyn System as System>⟧) (systems_of result.1.first ⟦<dyn System as System>⟧)) }
-    ensures joins { IfSome (S.held shelf.old) (λ files. HasEnded result.0.status → OfFirsts rigs.rest.items result.1.rest.items (λ r s. SecondStands files (asked_by (words_of words.now)) (systems_of s ⟦<dyn System as System>⟧))) }
-    ensures most { is_session (asked_by (words_of words.now)) ≡ false → AreBuiltOnceAtMost (systems_of rigs.first ⟦<dyn System as System>⟧) (systems_of result.1.first ⟦<dyn System as System>⟧) }
-    ensures joined { is_session (asked_by (words_of words.now)) ≡ false → OfFirsts rigs.rest.items result.1.rest.items (λ r s. AreBuiltOnceAtMost (systems_of r ⟦<dyn System as System>⟧) (systems_of s ⟦<dyn System as System>⟧)) }
-    ensures hosted { IfSome (S.held shelf.old) (λ files. HasEnded result.0.status → OfSession files (asked_by (words_of words.now)) (λ setup list. IsHosted ⟦<dyn System as System>⟧ setup list (all_of rigs) (all_of result.1))) }
-    ensures kinds { All (λ r. HaveKinds (systems_of r ⟦<dyn System as System>⟧)) (all_of result.1) }
-    ensures back { AreHandedBack (used (asked_by (words_of words.now))) rigs result.1 }
+) -> Answer<'w>
+    requires eight { AreEight ⟦<dyn System as System>⟧ rigs.old.items }
+    requires cleared { All (λ r. AreCleared (systems_of r ⟦<dyn System as System>⟧)) rigs.old.items }
+    ensures answer { IsPrepared (words_of words.now) result.status (string_bytes result.text) result.saved (shelved (S.held shelf.old) (S.counts shelf.old)) (shelved (S.held shelf.new) (S.counts shelf.new)) }
+    ensures back { RigsCameBack ⟦<dyn System as System>⟧ (asked_by (words_of words.now)) (S.held shelf.old) result.status rigs.old rigs.new }
 {
     let Some(request) = request_of(words) else {
-        return (answered(alloc, Status::Usage, usage_text(alloc)), rigs);
+        return answered(alloc, Status::Usage, usage_text(alloc));
     };
-    let (answer, rigs) = answer_to(alloc, request, shelf, rigs, orders);
-    match answer {
-        Ok(answer) => (answer, rigs),
-        Err(stop) => (
-            answered(alloc, stop.status(), stop_text(alloc, &stop)),
-            rigs,
-        ),
+    match answer_to(alloc, request, shelf, rigs, orders) {
+        Ok(answer) => answer,
+        Err(stop) => answered(alloc, stop.status(), stop_text(alloc, &stop)),
     }
 }
 

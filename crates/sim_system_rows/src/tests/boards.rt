@@ -1,20 +1,23 @@
-//! Two worked rows, each over a board that is started from a match file.
+//! Worked rows, each over a board that is started from a match file.
 
 ghost use Rattle.std.specs.Prelude.{OnOk};
 ghost use Rattle.sim_base.specs.Limits.{IsSetup};
+ghost use Rattle.sim_base.specs.Validity.{IsValid};
 ghost use Rattle.sim_system.specs.Meanings.{HaveKinds};
 ghost use Rattle.sim_board.specs.BoardWords.{setup_in, systems, IsWhole};
 
-use crate::tests::checks::{answer, change};
-use sim_base::{Cell, Change, Fixed, OutOfMemory, Point};
-use sim_board::Board;
+use crate::tests::checks::{answer, can_leave, change};
+use sim_base::{Cell, Change, Fixed, Items, OutOfMemory, Point, State};
+use sim_board::{Board, adopt_and_apply, start_and_apply};
 use sim_census::Census;
+use sim_codec::is_valid;
 use sim_ground::Ground;
 use sim_range::Range;
 use sim_runs::rig;
 use sim_setup::setup_of;
 use sim_system::{Answer, Ask, Rig, System};
 use sim_watch::Watch;
+use std::alloc::Global;
 use std::test::Fail;
 
 // Two huts of two by two cells: entity 2 on the cells 4,4 to 5,5, entity 3 on 5,4 to 6,5.
@@ -50,6 +53,40 @@ fn opened(board: &mut Board<'_>) -> Result<[bool; 3], OutOfMemory>
     let second = is_open(board, 5, 4)?;
     change(board, Change::Remove { id: 3 })?;
     Ok([first, second, is_open(board, 5, 4)?])
+}
+
+// Starts the board with the removal of an entity, if there is one at the start.
+fn start_without(board: &mut Board<'_>, alloc: Global, id: u32) -> Result<bool, OutOfMemory>
+    requires limits { IsSetup (setup_in board.old) }
+    requires kinds { HaveKinds (systems board.old ⟦<dyn System as System>⟧) }
+{
+    board.start()?;
+    let scene = board.scene();
+    if !can_leave(scene.setup, scene.state, id) {
+        return Ok(false);
+    }
+    let changes = vec![in alloc; Change::Remove { id }]?;
+    start_and_apply(board, Items::from_items(changes))?;
+    Ok(true)
+}
+
+// Has the board take a state with the removal of an entity, if there is one.
+fn adopt_without(
+    board: &mut Board<'_>,
+    alloc: Global,
+    state: State,
+    id: u32,
+) -> Result<bool, OutOfMemory>
+    requires limits { IsSetup (setup_in board.old) }
+    requires valid { IsValid (setup_in board.old) state }
+    requires kinds { HaveKinds (systems board.old ⟦<dyn System as System>⟧) }
+{
+    if !can_leave(board.setup(), &state, id) {
+        return Ok(false);
+    }
+    let changes = vec![in alloc; Change::Remove { id }]?;
+    adopt_and_apply(board, state, Items::from_items(changes))?;
+    Ok(true)
 }
 
 // How many rows of player 2 are within five metres of (0.5, 0.5), and the first of them, or 0.
@@ -108,5 +145,26 @@ fn within_after_a_change_of_owner(rt: HostRuntime) -> Result<(), Fail> {
     };
     let mut board = Board::new(alloc, &setup, rig);
     assert_eq!(rt; turned(&mut board)?, [(1, 3), (0, 0)]);
+    Ok(())
+}
+
+// A list of changes is made behind a start, and behind the adoption of a state.
+#[test]
+fn changes_behind_a_start_and_an_adoption(rt: HostRuntime) -> Result<(), Fail> {
+    let alloc = rt.alloc();
+    let rig = rig!(alloc);
+    let Ok(setup) = setup_of(alloc, HUTS.as_bytes()) else {
+        panic!(rt; "no setup")
+    };
+    let mut board = Board::new(alloc, &setup, rig);
+    assert!(rt; start_without(&mut board, alloc, 2)?);
+    let (state, rig) = board.finish();
+    assert_eq!(rt; state.rows.as_slice().len(), 1);
+    assert!(rt; is_valid(&setup, &state));
+    let mut board = Board::new(alloc, &setup, rig);
+    assert!(rt; adopt_without(&mut board, alloc, state, 3)?);
+    let (state, rig) = board.finish();
+    assert_eq!(rt; state.rows.as_slice().len(), 0);
+    assert_eq!(rt; rig.ground.rebuilds(), 3);
     Ok(())
 }

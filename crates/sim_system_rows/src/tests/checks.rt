@@ -23,8 +23,8 @@ fn can_own(setup: &Setup, state: &State, id: u32, owner: u8) -> bool
     }
 }
 
-// Whether a row is alive.
-fn can_leave(setup: &Setup, state: &State, id: u32) -> bool
+/// Whether a row is alive.
+pub fn can_leave(setup: &Setup, state: &State, id: u32) -> bool
     requires { IsLooselyValid setup.now state.now }
     ensures { IsTrue result → Fits setup.now state.now (change.Remove id) }
 {

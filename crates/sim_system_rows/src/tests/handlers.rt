@@ -1,4 +1,5 @@
-//! A handler that plans by a function of the test's own, with the same fact: the match comes to the same states.
+//! A handler that plans by a function of the test's own, with the same fact: the match comes to the same states, and where the
+//! function gives up, the run ends with that. A table that calls the usual planners would go on.
 
 ghost use Rattle.std.specs.Prelude.{◌≡◌, ◌==◌, [], ◌∷◌, IfOk, if◌then◌else◌, All, length};
 ghost use Rattle.std.specs.List.{flat_map};
@@ -15,7 +16,7 @@ use sim_ground::Ground;
 use sim_orders::{Handler, Help, OrderTable, Planner};
 use sim_range::Range;
 use sim_runs::games::HUTS_LEFT;
-use sim_runs::{add_rig, planned, print, rig, shelf_of, words_of};
+use sim_runs::{Printed, add_rig, planned, print, rig, shelf_of, words_of};
 use sim_store::{MemShelf, MemSink};
 use sim_system::{Rig, System};
 use sim_top::{Status, run};
@@ -26,6 +27,10 @@ use std::test::Fail;
 // The digests of that match, whose player resigns in turn 1.
 const LINES: &str =
     "turn 0 bc011c526afb5bc4756cb8f53721e51c\nturn 1 3b505723b94edd38fa8f90828241b1da\n";
+
+// Player 2 resigns.
+const SECOND_RESIGNS: &str =
+    r#"{"size":[16,16],"closed":[],"players":[[],[]],"cap":0,"delay":1,"turns":1,"seed":0,"templates":[],"entities":[],"commands":[[1,2,"resign"]]}"#;
 
 // The player's rows become Gaia's.
 fn left(alloc: Global, rows: &[Row], player: u8) -> Result<Changes, OutOfMemory>
@@ -58,7 +63,7 @@ fn planned_as_usual(
     planned(alloc, setup, state, help, player, command)
 }
 
-// Plans a resignation by a body of its own.
+// Plans a resignation by a body of its own. For player 2 it gives up, as its fact allows.
 fn resigned(
     alloc: Global,
     setup: &Setup,
@@ -70,6 +75,9 @@ fn resigned(
     requires { IsGiven 7 setup.now state.now help.now player command.now }
     ensures { Obeys setup.now state.now player command.now result }
 {
+    if player == 2 {
+        return Err(OutOfMemory);
+    }
     left(alloc, state.rows.as_slice(), player)
 }
 
@@ -120,20 +128,40 @@ fn run_here(
     Ok(ended.status)
 }
 
-#[test]
-fn another_handler_gives_the_same_states(rt: HostRuntime) -> Result<(), Fail> {
-    let alloc = rt.alloc();
+// Plays a match with these handlers.
+fn played(alloc: Global, file: &str) -> Result<Printed, OutOfMemory> {
     let mut rigs = Vec::with_capacity(alloc, 8)?;
     for _ in 0..8u8 {
         add_rig(&mut rigs, rig!(alloc))?;
     }
     let words = words_of(alloc, &["play", "m"])?;
-    let mut shelf = shelf_of(alloc, &[("m", HUTS_LEFT.as_bytes())])?;
+    let mut shelf = shelf_of(alloc, &[("m", file.as_bytes())])?;
     let mut out = MemSink::new(alloc, 100)?;
     let status = run_here(alloc, &words, &mut shelf, &mut out, rigs)?;
-    assert_eq!(rt; status, Status::Done);
-    assert_eq!(rt; out.told(), LINES.as_bytes());
+    let text = String::from_utf8_lossy(alloc, out.told())?;
+    Ok(Printed { status, text })
+}
+
+#[test]
+fn another_handler_gives_the_same_states(rt: HostRuntime) -> Result<(), Fail> {
+    let alloc = rt.alloc();
+    let printed = played(alloc, HUTS_LEFT)?;
+    assert_eq!(rt; printed.status, Status::Done);
+    assert_eq!(rt; printed.text.as_str(), LINES);
+    let mut shelf = shelf_of(alloc, &[("m", HUTS_LEFT.as_bytes())])?;
     let usual = print(alloc, &["play", "m"], &mut shelf)?;
     assert_eq!(rt; usual.text.as_str(), LINES);
+    Ok(())
+}
+
+#[test]
+fn a_handler_that_gives_up_ends_the_run(rt: HostRuntime) -> Result<(), Fail> {
+    let alloc = rt.alloc();
+    let printed = played(alloc, SECOND_RESIGNS)?;
+    assert_eq!(rt; printed.status.number(), 9);
+    assert_eq!(rt; printed.text.as_str(), "");
+    let mut shelf = shelf_of(alloc, &[("m", SECOND_RESIGNS.as_bytes())])?;
+    let usual = print(alloc, &["play", "m"], &mut shelf)?;
+    assert_eq!(rt; usual.status, Status::Done);
     Ok(())
 }

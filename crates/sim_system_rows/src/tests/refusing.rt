@@ -129,7 +129,7 @@ fn run_refused(
         let rig = rig_of!(
             alloc;
             Refusing::new(Ground::new(alloc), refused(refusal, number, Kind::Ground)),
-            Refusing::new(Range::new(alloc), refused(refusal, number, Kind::Range)),
+            Refusing::new(Range::looking(alloc), refused(refusal, number, Kind::Range)),
             Refusing::new(Watch::new(alloc), refused(refusal, number, Kind::Watch)),
             Refusing::new(Census::new(alloc), refused(refusal, number, Kind::Census))
         );

@@ -1,9 +1,9 @@
-//! Whom each entity sees, as the range lends it that keeps these lists: before and after one that is seen has moved away.
+//! Whom each entity sees, as a range lends it: before and after one that is seen has moved away, and not where it looks.
 
 ghost use Rattle.std.specs.Prelude.{◌≡◌, true, None};
 
 use sim_base::{Fixed, Ids, Land, Point, Rects};
-use sim_sight::KeptRange;
+use sim_range::Range;
 use sim_system::{Fact, Note, System};
 use std::test::Fail;
 
@@ -47,7 +47,7 @@ fn one_that_moves_away_is_seen_no_more(rt: HostRuntime) -> Result<(), Fail> {
         body(2, 1, point(32_768, 32_768), Some(Fixed::from_raw(327_680))),
         body(3, 2, near, None),
     ];
-    let mut range = KeptRange::new(alloc);
+    let mut range = Range::new(alloc);
     assert_eq!(rt; range.kept(2), None);
     range.rebuild(&land, &facts)?;
     assert_eq!(rt; range.bucket(0, 0), [2, 3].as_slice());
@@ -61,5 +61,9 @@ fn one_that_moves_away_is_seen_no_more(rt: HostRuntime) -> Result<(), Fail> {
     assert_eq!(rt; range.bucket(0, 0), [2, 3].as_slice());
     assert_eq!(rt; range.kept(2), Some([].as_slice()));
     assert_eq!(rt; range.kept(3), None);
+    let mut looking = Range::looking(alloc);
+    looking.rebuild(&land, &facts)?;
+    assert_eq!(rt; looking.bucket(0, 0), [2, 3].as_slice());
+    assert_eq!(rt; looking.kept(2), None);
     Ok(())
 }

@@ -1,6 +1,6 @@
 -- One more piece written keeps the invariant: the beginning of the bytes grows by what the shelf took.
 use Rattle.std.proofs.Common.{arith, length-drop, ◌∙◌}
-use Rattle.sim_store.proofs.Pieces.{HeldSet-HeldGrows}
+use Rattle.sim_store.proofs.Pieces.{Appends-more, HeldSet-HeldGrows}
 use Rattle.sim_store.proofs.write.fill.Goals as goal
 
 pub loop-done-preserved : goal.loop-done-preserved
@@ -10,6 +10,7 @@ loop-done-preserved g c =
     record {
       within = omega (arith, step.takes.0, length-drop c.loop-done.done c.args.bytes.now);
       held = HeldSet-HeldGrows _ _ _ _ c.args.bytes.now c.loop-done.done c.in_ok-done.field-0 before.held (rw before.name at step.held);
+      made = Appends-more _ _ _ c.args.bytes.now c.loop-done.done c.in_ok-done.field-0 before.made step.made;
       counts = step.counts ∙ before.counts;
       making = step.making;
       name = step.name ∙ before.name;

@@ -1,5 +1,6 @@
 -- What the file holds so far is the beginning of the bytes, and nothing has failed.
 use Rattle.std.proofs.Common.{◌≡◌, ◌≤◌, ◌-◌, length, take, IsTrue}
+use Rattle.std.specs.Io.KnownBytes.{Appends}
 use Rattle.sim_store.specs.Shelf.{HeldSet}
 use Rattle.sim_store.proofs.write.fill.Given as goal
 
@@ -7,6 +8,7 @@ abbrev pub invariant-loop-done : goal.invariant-loop-done
 invariant-loop-done g l = record {
   within : l.done ≤ length l.bytes;
   held : HeldSet (g.S.Shelf.made_name l.fn.shelf) (take l.done l.bytes) (g.S.Shelf.held l.fn.shelf) (g.S.Shelf.held l.shelf);
+  made : Appends (g.S.Shelf.made l.fn.shelf) (g.S.Shelf.made l.shelf) (take l.done l.bytes);
   counts : g.S.Shelf.counts l.shelf ≡ g.S.Shelf.counts l.fn.shelf;
   making : IsTrue (g.S.Shelf.is_making l.shelf);
   name : g.S.Shelf.made_name l.shelf ≡ g.S.Shelf.made_name l.fn.shelf;

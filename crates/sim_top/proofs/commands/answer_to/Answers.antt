@@ -1,54 +1,77 @@
--- Where at most one client plays, the rigs behind the first are left as they are. What those of a session stand for is said of all at
--- once.
-use Rattle.std.proofs.Common.{ap, arith}
-use Rattle.std.proofs.lemmas.List.Elements.{All-head, All-tail, All-cons}
-use Rattle.sim_system.specs.Meanings.{HaveKinds, AreBuiltOnceAtMost}
-use Rattle.sim_system.specs.RigWords.{systems_by}
-use Rattle.sim_top.specs.Rigs.{clients}
-use Rattle.sim_top.specs.Words.{asked}
-use Rattle.sim_top.proofs.Hosted.{idle_hosted, session_joins, session_stands, no_session_asked}
-use Rattle.sim_top.proofs.Joining.{one_client, idle_joins, firsts_same, all_same, first_back}
+-- What a command says is said of the request; those that use no rig leave all as they are.
+use Rattle.std.proofs.Common.{◌≡◌, Option, Some, refl, sym, ap, subst}
+use Rattle.std.specs.Prelude.{List}
+use Rattle.sim_store.specs.Files.{File}
+use Rattle.sim_top.specs.Commands.{IsAnswerTo, shelved}
+use Rattle.sim_top.specs.Making.{status_made}
+use Rattle.sim_top.specs.Returning.{RigsCameBackBy}
+use Rattle.sim_top.specs.Words.{Asked, asked, to_show, to_compare, to_serve, to_try}
+use Rattle.sim_top.proofs.Returning.{rigs_same}
 use Rattle.sim_top.proofs.commands.answer_to.Goals as goal
 
-pub answer_alone-made-requires-clause-alone : goal.answer_alone-made-requires-clause-alone
-answer_alone-made-requires-clause-alone g c = one_client c.args.request c.in_default.not-Rejoin c.in_default.not-Session
+pub returns-in-Play-clause-answer : goal.returns-in-Play-clause-answer
+returns-in-Play-clause-answer g c = subst (λ (a : Asked). IsAnswerTo a c.play.result (shelved (g.S.Shelf.held c.args.shelf.now) (g.S.Shelf.counts c.args.shelf.now)) (shelved (g.S.Shelf.held c.play.new.shelf) (g.S.Shelf.counts c.play.new.shelf))) (sym (ap asked c.in-Play.is)) c.play.ensures.answer
 
-pub answer_alone-made-requires-clause-kinds : goal.answer_alone-made-requires-clause-kinds
-answer_alone-made-requires-clause-kinds g c = All-head (λ rig. HaveKinds (systems_by rig (λ i v. (goal.System-dyn g (i, v)).meaning v))) c.args.rigs.first c.args.rigs.rest.items c.requires.kinds
+pub returns-in-Play-clause-back : goal.returns-in-Play-clause-back
+returns-in-Play-clause-back g c = subst (λ (a : Asked). RigsCameBackBy (λ i v. (goal.System-dyn g (i, v)).meaning v) (Some a) (g.S.Shelf.held c.args.shelf.now) (status_made c.play.result) c.args.rigs.now c.play.new.rigs) (sym (ap asked c.in-Play.is)) c.play.ensures.back
 
-pub returns-in_default-clause-joins : goal.returns-in_default-clause-joins
-returns-in_default-clause-joins g c =
-    idle_joins (g.S.Shelf.held c.args.shelf.now) c.answer_alone-made.result.0 c.args.rigs.rest.items (asked c.args.request) (λ rig. systems_by rig (λ i v. (goal.System-dyn g (i, v)).meaning v))
-    (omega (arith, c.requires.eight.count)) (one_client c.args.request c.in_default.not-Rejoin c.in_default.not-Session)
+pub returns-in-State-clause-answer : goal.returns-in-State-clause-answer
+returns-in-State-clause-answer g c = subst (λ (a : Asked). IsAnswerTo a c.store.result (shelved (g.S.Shelf.held c.args.shelf.now) (g.S.Shelf.counts c.args.shelf.now)) (shelved (g.S.Shelf.held c.store.new.shelf) (g.S.Shelf.counts c.store.new.shelf))) (sym (ap asked c.in-State.is)) c.store.ensures.answer
 
-pub returns-in_default-clause-joined : goal.returns-in_default-clause-joined
-returns-in_default-clause-joined g c =
-    λ none. firsts_same c.args.rigs.rest.items (λ r s. AreBuiltOnceAtMost (systems_by r (λ i v. (goal.System-dyn g (i, v)).meaning v)) (systems_by s (λ i v. (goal.System-dyn g (i, v)).meaning v)))
-    (omega (arith, c.requires.eight.count)) (λ r. all_same (systems_by r (λ i v. (goal.System-dyn g (i, v)).meaning v)))
+pub returns-in-State-clause-back : goal.returns-in-State-clause-back
+returns-in-State-clause-back g c = subst (λ (a : Asked). RigsCameBackBy (λ i v. (goal.System-dyn g (i, v)).meaning v) (Some a) (g.S.Shelf.held c.args.shelf.now) (status_made c.store.result) c.args.rigs.now c.store.new.rigs) (sym (ap asked c.in-State.is)) c.store.ensures.back
 
-pub returns-in_default-clause-kinds : goal.returns-in_default-clause-kinds
-returns-in_default-clause-kinds g c =
-    All-cons (λ rig. HaveKinds (systems_by rig (λ i v. (goal.System-dyn g (i, v)).meaning v))) c.answer_alone-made.result.1 c.args.rigs.rest.items c.answer_alone-made.ensures.kinds
-    (All-tail (λ rig. HaveKinds (systems_by rig (λ i v. (goal.System-dyn g (i, v)).meaning v))) c.args.rigs.first c.args.rigs.rest.items c.requires.kinds)
+pub returns-in-Resume-clause-answer : goal.returns-in-Resume-clause-answer
+returns-in-Resume-clause-answer g c = subst (λ (a : Asked). IsAnswerTo a c.resume.result (shelved (g.S.Shelf.held c.args.shelf.now) (g.S.Shelf.counts c.args.shelf.now)) (shelved (g.S.Shelf.held c.resume.new.shelf) (g.S.Shelf.counts c.resume.new.shelf))) (sym (ap asked c.in-Resume.is)) c.resume.ensures.answer
 
-pub returns-in_default-clause-back : goal.returns-in_default-clause-back
-returns-in_default-clause-back g c = first_back (clients (asked c.args.request)) c.args.rigs c.answer_alone-made.result.1 (one_client c.args.request c.in_default.not-Rejoin c.in_default.not-Session) c.answer_alone-made.ensures.unused
+pub returns-in-Resume-clause-back : goal.returns-in-Resume-clause-back
+returns-in-Resume-clause-back g c = subst (λ (a : Asked). RigsCameBackBy (λ i v. (goal.System-dyn g (i, v)).meaning v) (Some a) (g.S.Shelf.held c.args.shelf.now) (status_made c.resume.result) c.args.rigs.now c.resume.new.rigs) (sym (ap asked c.in-Resume.is)) c.resume.ensures.back
 
-pub returns-in_default-clause-hosted : goal.returns-in_default-clause-hosted
-returns-in_default-clause-hosted g c =
-    idle_hosted (g.S.Shelf.held c.args.shelf.now) c.answer_alone-made.result.0 (asked c.args.request) _ (one_client c.args.request c.in_default.not-Rejoin c.in_default.not-Session)
+pub returns-in-Rejoin-clause-answer : goal.returns-in-Rejoin-clause-answer
+returns-in-Rejoin-clause-answer g c = subst (λ (a : Asked). IsAnswerTo a c.rejoin.result (shelved (g.S.Shelf.held c.args.shelf.now) (g.S.Shelf.counts c.args.shelf.now)) (shelved (g.S.Shelf.held c.rejoin.new.shelf) (g.S.Shelf.counts c.rejoin.new.shelf))) (sym (ap asked c.in-Rejoin.is)) c.rejoin.ensures.answer
 
-pub returns-in-Session-clause-joins : goal.returns-in-Session-clause-joins
-returns-in-Session-clause-joins g c =
-    session_joins (g.S.Shelf.held c.args.shelf.now) c.session.result.0 c.args.rigs.rest.items c.session.result.1.rest.items (asked c.args.request) c.in-Session.game.now c.in-Session.steps.now
-    (λ rig. systems_by rig (λ i v. (goal.System-dyn g (i, v)).meaning v)) (ap asked c.in-Session.is) (omega (arith, c.requires.eight.count)) c.session.ensures.back.count
+pub returns-in-Rejoin-clause-back : goal.returns-in-Rejoin-clause-back
+returns-in-Rejoin-clause-back g c = subst (λ (a : Asked). RigsCameBackBy (λ i v. (goal.System-dyn g (i, v)).meaning v) (Some a) (g.S.Shelf.held c.args.shelf.now) (status_made c.rejoin.result) c.args.rigs.now c.rejoin.new.rigs) (sym (ap asked c.in-Rejoin.is)) c.rejoin.ensures.back
 
-pub returns-in-Session-clause-stands : goal.returns-in-Session-clause-stands
-returns-in-Session-clause-stands g c =
-    session_stands (g.S.Shelf.held c.args.shelf.now) c.session.result.0 (asked c.args.request) c.in-Session.game.now c.in-Session.steps.now _ _ (ap asked c.in-Session.is)
+pub returns-in-Session-clause-answer : goal.returns-in-Session-clause-answer
+returns-in-Session-clause-answer g c = subst (λ (a : Asked). IsAnswerTo a c.session.result (shelved (g.S.Shelf.held c.args.shelf.now) (g.S.Shelf.counts c.args.shelf.now)) (shelved (g.S.Shelf.held c.session.new.shelf) (g.S.Shelf.counts c.session.new.shelf))) (sym (ap asked c.in-Session.is)) c.session.ensures.answer
 
-pub returns-in-Session-clause-most : goal.returns-in-Session-clause-most
-returns-in-Session-clause-most g c = λ none. absurd (no_session_asked (asked c.args.request) c.in-Session.game.now c.in-Session.steps.now (ap asked c.in-Session.is) none)
+pub returns-in-Session-clause-back : goal.returns-in-Session-clause-back
+returns-in-Session-clause-back g c = subst (λ (a : Asked). RigsCameBackBy (λ i v. (goal.System-dyn g (i, v)).meaning v) (Some a) (g.S.Shelf.held c.args.shelf.now) (status_made c.session.result) c.args.rigs.now c.session.new.rigs) (sym (ap asked c.in-Session.is)) c.session.ensures.back
 
-pub returns-in-Session-clause-joined : goal.returns-in-Session-clause-joined
-returns-in-Session-clause-joined g c = λ none. absurd (no_session_asked (asked c.args.request) c.in-Session.game.now c.in-Session.steps.now (ap asked c.in-Session.is) none)
+pub returns-in-Show-clause-answer : goal.returns-in-Show-clause-answer
+returns-in-Show-clause-answer g c = subst (λ (a : Asked). IsAnswerTo a c.show.result (shelved (g.S.Shelf.held c.args.shelf.now) (g.S.Shelf.counts c.args.shelf.now)) (shelved (g.S.Shelf.held c.show.new.shelf) (g.S.Shelf.counts c.show.new.shelf))) (sym (ap asked c.in-Show.is)) c.show.ensures
+
+pub returns-in-Show-clause-back : goal.returns-in-Show-clause-back
+returns-in-Show-clause-back g c =
+    let held = g.S.Shelf.held c.args.shelf.now in
+    subst (λ (a : Asked). RigsCameBackBy (λ i v. (goal.System-dyn g (i, v)).meaning v) (Some a) held (status_made c.show.result) c.args.rigs.now c.args.rigs.now) (sym (ap asked c.in-Show.is))
+    (rigs_same (λ i v. (goal.System-dyn g (i, v)).meaning v) (Some (to_show c.in-Show.game.now c.in-Show.stored.now)) held (status_made c.show.result) c.args.rigs.now c.requires.eight (λ ended. refl))
+
+pub returns-in-Compare-clause-answer : goal.returns-in-Compare-clause-answer
+returns-in-Compare-clause-answer g c = subst (λ (a : Asked). IsAnswerTo a c.compare.result (shelved (g.S.Shelf.held c.args.shelf.now) (g.S.Shelf.counts c.args.shelf.now)) (shelved (g.S.Shelf.held c.compare.new.shelf) (g.S.Shelf.counts c.compare.new.shelf))) (sym (ap asked c.in-Compare.is)) c.compare.ensures
+
+pub returns-in-Compare-clause-back : goal.returns-in-Compare-clause-back
+returns-in-Compare-clause-back g c =
+    let held = g.S.Shelf.held c.args.shelf.now in
+    subst (λ (a : Asked). RigsCameBackBy (λ i v. (goal.System-dyn g (i, v)).meaning v) (Some a) held (status_made c.compare.result) c.args.rigs.now c.args.rigs.now) (sym (ap asked c.in-Compare.is))
+    (rigs_same (λ i v. (goal.System-dyn g (i, v)).meaning v) (Some (to_compare c.in-Compare.game.now c.in-Compare.left.now c.in-Compare.right.now)) held (status_made c.compare.result) c.args.rigs.now c.requires.eight (λ ended. refl))
+
+pub returns-in-Serve-clause-answer : goal.returns-in-Serve-clause-answer
+returns-in-Serve-clause-answer g c = subst (λ (a : Asked). IsAnswerTo a c.serve.result (shelved (g.S.Shelf.held c.args.shelf.now) (g.S.Shelf.counts c.args.shelf.now)) (shelved (g.S.Shelf.held c.serve.new.shelf) (g.S.Shelf.counts c.serve.new.shelf))) (sym (ap asked c.in-Serve.is)) c.serve.ensures
+
+pub returns-in-Serve-clause-back : goal.returns-in-Serve-clause-back
+returns-in-Serve-clause-back g c =
+    let held = g.S.Shelf.held c.args.shelf.now in
+    subst (λ (a : Asked). RigsCameBackBy (λ i v. (goal.System-dyn g (i, v)).meaning v) (Some a) held (status_made c.serve.result) c.args.rigs.now c.args.rigs.now) (sym (ap asked c.in-Serve.is))
+    (rigs_same (λ i v. (goal.System-dyn g (i, v)).meaning v) (Some (to_serve c.in-Serve.schedule.now)) held (status_made c.serve.result) c.args.rigs.now c.requires.eight (λ ended. refl))
+
+pub returns-in-Trial-clause-answer : goal.returns-in-Trial-clause-answer
+returns-in-Trial-clause-answer g c =
+    let shelf = shelved (g.S.Shelf.held c.args.shelf.now) (g.S.Shelf.counts c.args.shelf.now) in
+    subst (λ (a : Asked). IsAnswerTo a c.trial.result shelf shelf) (sym (ap asked c.in-Trial.is)) (c.trial.ensures.answer shelf)
+
+pub returns-in-Trial-clause-back : goal.returns-in-Trial-clause-back
+returns-in-Trial-clause-back g c =
+    let held = g.S.Shelf.held c.args.shelf.now in
+    subst (λ (a : Asked). RigsCameBackBy (λ i v. (goal.System-dyn g (i, v)).meaning v) (Some a) held (status_made c.trial.result) c.args.rigs.now c.trial.new.rigs) (sym (ap asked c.in-Trial.is)) (c.trial.ensures.back held)

@@ -5,7 +5,7 @@ use Rattle.sim_store.specs.declared.counts.Counts.{Counts}
 use Rattle.sim_top.specs.Answers.{scene, Meets, CountsBefore}
 use Rattle.sim_top.specs.Making.{MeetsBefore, Tells, file_of}
 use Rattle.sim_top.proofs.Finishing.{told_meets, told_causes, all_told}
-use Rattle.sim_top.proofs.Ending.{told_may_end, told_has_ended}
+use Rattle.sim_top.proofs.Ending.{told_may_end, told_settled}
 use Rattle.sim_top.proofs.top.finish.Goals as goal
 
 pub returns-in-Ok-clause-answers : goal.returns-in-Ok-clause-answers
@@ -41,5 +41,5 @@ returns-in-Ok-clause-told g c =
 pub returns-in-Ok-clause-statuses : goal.returns-in-Ok-clause-statuses
 returns-in-Ok-clause-statuses g c = λ asked may. told_may_end asked c.tell.result c.args.answer.now.status _ _ _ _ _ may c.tell.ensures
 
-pub returns-in-Ok-clause-ended : goal.returns-in-Ok-clause-ended
-returns-in-Ok-clause-ended g c = λ ended. (told_has_ended c.tell.result c.args.answer.now.status _ _ _ _ _ c.tell.ensures ended, c.in-Ok.ensures.causes)
+pub returns-in-Ok-clause-settled : goal.returns-in-Ok-clause-settled
+returns-in-Ok-clause-settled g c = λ settled. (told_settled c.tell.result c.args.answer.now.status _ _ _ _ _ c.tell.ensures settled, c.in-Ok.ensures.causes)

@@ -1,84 +1,53 @@
 -- What the request comes to is answered, or why it ended.
-use Rattle.std.proofs.Common.{List, Option, IfSome, OnOk, ap, ◌∙◌, subst, string_bytes}
-use Rattle.std.specs.Prelude.{Result}
-use Rattle.sim_store.specs.Files.{File}
-use Rattle.sim_system.specs.RigWords.{systems_by}
-use Rattle.sim_top.specs.declared.commands.Answer.{Answer}
-use Rattle.sim_top.specs.declared.status.Status.{Status}
-use Rattle.sim_top.specs.declared.stop.Stop.{Stop}
+use Rattle.std.proofs.Common.{◌≡◌, Option, Some, None, refl, sym, ap, subst, string_bytes}
+use Rattle.std.specs.Prelude.{option_map}
 use Rattle.sim_top.specs.Making.{IsAnswered}
-use Rattle.sim_top.specs.Hosting.{OfSession, IsHostedBy}
-use Rattle.sim_top.specs.Rigs.{SecondStands, OfFirsts, AreHandedBack, all_of, used}
-use Rattle.sim_top.specs.Stops.{CausesOf}
-use Rattle.sim_top.specs.Words.{Asked, words_of, asked_by, is_session}
-use Rattle.sim_top.proofs.Finishing.{answered_causes}
-use Rattle.sim_top.proofs.Joining.{never_ended, made_ended}
-use Rattle.sim_top.proofs.Playing.{stands_asked, stands_ended, answered_never_ends}
+use Rattle.sim_top.specs.Returning.{RigsCameBackBy}
+use Rattle.sim_top.specs.Rigs.{used}
+use Rattle.sim_top.specs.Stops.{status_of}
+use Rattle.sim_top.specs.Words.{Asked, asked, asked_by, words_of}
+use Rattle.sim_top.specs.declared.status.Status.{Status}
+use Rattle.sim_top.specs.declared.words.Request.{Request}
+use Rattle.sim_top.proofs.Preparing.{of_answer, of_ended, of_unasked, answered_settled}
+use Rattle.sim_top.proofs.Returning.{rigs_same, rigs_later}
 use Rattle.sim_top.proofs.top.made_answer.Goals as goal
 
-pub returns-in-Err-clause-causes : goal.returns-in-Err-clause-causes
-returns-in-Err-clause-causes g c =
-    let made = c.answered-in-Err.result in
-    let text = string_bytes made.text in
-    answered_causes c.in-Err.stop made.status text c.stop_text.result _ _
-    (subst (λ (s : Status). IsAnswered made.status text s c.stop_text.result) c.status.ensures c.answered-in-Err.ensures.answer)
-    c.stop_text.ensures.silent (subst (λ (r : Result Answer Stop). CausesOf r (g.S.Shelf.counts c.args.shelf.now) (g.S.Shelf.counts c.answer_to-answer.new.shelf)) c.in-Err.is c.answer_to-answer.ensures.causes)
-
-pub returns-in-Err-clause-stands : goal.returns-in-Err-clause-stands
-returns-in-Err-clause-stands g c =
-    let made = c.answered-in-Err.result in
-    let text = string_bytes made.text in
-    stands_ended _ _ made.status _ _
-    (answered_never_ends c.in-Err.stop made.status text c.stop_text.result (subst (λ (s : Status). IsAnswered made.status text s c.stop_text.result) c.status.ensures c.answered-in-Err.ensures.answer))
-
-pub returns-in-Ok-clause-stands : goal.returns-in-Ok-clause-stands
-returns-in-Ok-clause-stands g c = stands_asked _ _ c.in-Ok.answer _ _ _ _ c.in-Ok.is c.in-Some.ensures.asked c.answer_to-answer.ensures.stands
-
-pub returns-in-Err-clause-joins : goal.returns-in-Err-clause-joins
-returns-in-Err-clause-joins g c =
-    let made = c.answered-in-Err.result in
-    let text = string_bytes made.text in
-    never_ended _ made.status _
-    (answered_never_ends c.in-Err.stop made.status text c.stop_text.result (subst (λ (s : Status). IsAnswered made.status text s c.stop_text.result) c.status.ensures c.answered-in-Err.ensures.answer))
-
-pub returns-in-Ok-clause-joins : goal.returns-in-Ok-clause-joins
-returns-in-Ok-clause-joins g c =
-    let held = g.S.Shelf.held c.args.shelf.now in
-    let made = c.answer_to-answer.result.0 in
-    let joins = λ (asked : Option Asked) (files : List File). OfFirsts c.args.rigs.rest.items c.answer_to-answer.result.1.rest.items (λ r s. SecondStands files asked (systems_by s (λ i v. (goal.System-dyn g (i, v)).meaning v))) in
-    made_ended held made c.in-Ok.answer _ (joins (asked_by (words_of c.args.words.now))) c.in-Ok.is
-    (subst (λ (asked : Option Asked). IfSome held (λ files. OnOk made (joins asked files))) c.in-Some.ensures.asked c.answer_to-answer.ensures.joins)
+pub returns-in-Ok-clause-answer : goal.returns-in-Ok-clause-answer
+returns-in-Ok-clause-answer g c = of_answer (words_of c.args.words.now) (asked c.in-Some.request) c.in-Some.ensures.asked _ _ c.in-Ok.answer c.in-Ok.ensures.answer
 
 pub returns-in-Ok-clause-back : goal.returns-in-Ok-clause-back
-returns-in-Ok-clause-back g c = subst (λ (asked : Option Asked). AreHandedBack (used asked) c.args.rigs c.answer_to-answer.result.1) c.in-Some.ensures.asked c.answer_to-answer.ensures.back
+returns-in-Ok-clause-back g c =
+    subst (λ (o : Option Asked). RigsCameBackBy (λ i v. (goal.System-dyn g (i, v)).meaning v) o (g.S.Shelf.held c.args.shelf.now) c.in-Ok.answer.status c.args.rigs.now c.answer_to.new.rigs) c.in-Some.ensures.asked c.in-Ok.ensures.back
 
-pub returns-in-Err-clause-back : goal.returns-in-Err-clause-back
-returns-in-Err-clause-back g c = subst (λ (asked : Option Asked). AreHandedBack (used asked) c.args.rigs c.answer_to-answer.result.1) c.in-Some.ensures.asked c.answer_to-answer.ensures.back
-
-pub returns-in-Err-clause-hosted : goal.returns-in-Err-clause-hosted
-returns-in-Err-clause-hosted g c =
+pub returns-in-Err-clause-answer : goal.returns-in-Err-clause-answer
+returns-in-Err-clause-answer g c =
     let made = c.answered-in-Err.result in
     let text = string_bytes made.text in
-    never_ended _ made.status _
-    (answered_never_ends c.in-Err.stop made.status text c.stop_text.result (subst (λ (s : Status). IsAnswered made.status text s c.stop_text.result) c.status.ensures c.answered-in-Err.ensures.answer))
+    of_ended (words_of c.args.words.now) (asked c.in-Some.request) c.in-Some.ensures.asked _ _ c.in-Err.stop made.status text made.saved c.stop_text.result
+    (subst (λ (s : Status). IsAnswered made.status text s c.stop_text.result) c.status.ensures c.answered-in-Err.ensures.answer) c.answered-in-Err.ensures.saved c.stop_text.ensures.text c.stop_text.ensures.silent
+    c.in-Err.ensures.answer
 
-pub returns-in-Ok-clause-hosted : goal.returns-in-Ok-clause-hosted
-returns-in-Ok-clause-hosted g c =
+pub returns-in-Err-clause-back : goal.returns-in-Err-clause-back
+returns-in-Err-clause-back g c =
+    let made = c.answered-in-Err.result in
+    let text = string_bytes made.text in
     let held = g.S.Shelf.held c.args.shelf.now in
-    let made = c.answer_to-answer.result.0 in
-    let hosted = λ (asked : Option Asked) (files : List File).
-    OfSession files asked (λ setup list. IsHostedBy (λ i v. (goal.System-dyn g (i, v)).meaning v) setup list (all_of c.args.rigs) (all_of c.answer_to-answer.result.1)) in
-    made_ended held made c.in-Ok.answer _ (hosted (asked_by (words_of c.args.words.now))) c.in-Ok.is
-    (subst (λ (asked : Option Asked). IfSome held (λ files. OnOk made (hosted asked files))) c.in-Some.ensures.asked c.answer_to-answer.ensures.hosted)
+    rigs_later (λ i v. (goal.System-dyn g (i, v)).meaning v) (asked_by (words_of c.args.words.now)) held (status_of c.in-Err.stop) made.status c.args.rigs.now c.answer_to.new.rigs
+    (answered_settled (status_of c.in-Err.stop) made.status text c.stop_text.result (subst (λ (s : Status). IsAnswered made.status text s c.stop_text.result) c.status.ensures c.answered-in-Err.ensures.answer))
+    (subst (λ (o : Option Asked). RigsCameBackBy (λ i v. (goal.System-dyn g (i, v)).meaning v) o held (status_of c.in-Err.stop) c.args.rigs.now c.answer_to.new.rigs) c.in-Some.ensures.asked c.in-Err.ensures.back)
 
-pub returns-in-Ok-clause-most : goal.returns-in-Ok-clause-most
-returns-in-Ok-clause-most g c = λ none. c.answer_to-answer.ensures.most (ap is_session c.in-Some.ensures.asked ∙ none)
+-- words that are in no table make no request, and use no rig
+none_asked : (request : Option Request) (wanted : Option Asked) → ((r : Request) → request ≡ Some r → ⊥) → option_map asked request ≡ wanted → wanted ≡ None
+none_asked None wanted other is = sym is
+none_asked (Some r) wanted other is = absurd (other r refl)
 
-pub returns-in-Err-clause-most : goal.returns-in-Err-clause-most
-returns-in-Err-clause-most g c = λ none. c.answer_to-answer.ensures.most (ap is_session c.in-Some.ensures.asked ∙ none)
+pub returns-in_default-clause-answer : goal.returns-in_default-clause-answer
+returns-in_default-clause-answer g c =
+    let made = c.answered.result in
+    of_unasked (words_of c.args.words.now) (none_asked c.request_of.result (asked_by (words_of c.args.words.now)) c.in_default.not-Some c.request_of.ensures.asked) _ made.status (string_bytes made.text)
+    made.saved c.usage_text.result c.answered.ensures.answer c.answered.ensures.saved c.usage_text.ensures
 
-pub returns-in-Ok-clause-joined : goal.returns-in-Ok-clause-joined
-returns-in-Ok-clause-joined g c = λ none. c.answer_to-answer.ensures.joined (ap is_session c.in-Some.ensures.asked ∙ none)
-
-pub returns-in-Err-clause-joined : goal.returns-in-Err-clause-joined
-returns-in-Err-clause-joined g c = λ none. c.answer_to-answer.ensures.joined (ap is_session c.in-Some.ensures.asked ∙ none)
+pub returns-in_default-clause-back : goal.returns-in_default-clause-back
+returns-in_default-clause-back g c =
+    rigs_same (λ i v. (goal.System-dyn g (i, v)).meaning v) (asked_by (words_of c.args.words.now)) (g.S.Shelf.held c.args.shelf.now) c.answered.result.status c.args.rigs.now c.requires.eight
+    (λ ended. ap used (none_asked c.request_of.result (asked_by (words_of c.args.words.now)) c.in_default.not-Some c.request_of.ensures.asked))

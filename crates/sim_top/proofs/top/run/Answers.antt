@@ -1,54 +1,104 @@
--- The first rig is taken out and put back.
-use Rattle.std.proofs.Common.{◌≡◌, false, All, IfSome, sym, subst, arith}
-use Rattle.sim_client.specs.StageWords.{AreCleared}
-use Rattle.sim_system.specs.Meanings.{HaveKinds, AreBuiltOnceAtMost}
-use Rattle.sim_system.specs.RigWords.{systems_by}
-use Rattle.sim_top.specs.Reads.{HasEnded}
+-- The shelf holds the same before anything is written, and the rigs are those of the command.
+use Rattle.std.proofs.Common.{List, Option, subst, string_bytes, IfSome, ◌∙◌}
+use Rattle.std.specs.Prelude.{option_map}
+use Rattle.sim_base.specs.declared.setup.Setup.{Setup}
+use Rattle.sim_lists.specs.declared.step_list.StepList.{StepList}
+use Rattle.sim_report.specs.Lines.{usage_text}
+use Rattle.sim_store.specs.Files.{File}
+use Rattle.sim_top.specs.Answers.{scene, Meets, Causes}
+use Rattle.sim_top.specs.Headline.{Headline}
 use Rattle.sim_top.specs.Hosting.{OfSession, IsHostedBy}
-use Rattle.sim_top.specs.Rigs.{SecondStands, OfFirsts, used}
-use Rattle.sim_top.specs.Words.{words_of, asked_by, is_session}
-use Rattle.sim_top.proofs.Joining.{put_before, unused_same, behind_first, both_whole}
+use Rattle.sim_top.specs.Making.{MeetsBefore, file_of}
+use Rattle.sim_top.specs.Readiness.{IsReady, IsFaultless, IsFinal}
+use Rattle.sim_top.specs.Reads.{HasEnded}
+use Rattle.sim_top.specs.Words.{words_of, asked_by}
+use Rattle.sim_top.proofs.Completeness.{final}
+use Rattle.sim_top.proofs.Ending.{told_unfound, told_usage, given_settled}
+use Rattle.sim_top.proofs.Headlines.{lawful, of_both, of_end}
+use Rattle.sim_top.proofs.Returning.{rigs_later}
+use Rattle.sim_top.proofs.Stopping.{Told, Told-both}
 use Rattle.sim_top.proofs.top.run.Goals as goal
 
-pub run_with-status-requires-clause-kinds : goal.run_with-status-requires-clause-kinds
-run_with-status-requires-clause-kinds g c =
-    subst (All (λ rig. HaveKinds (systems_by rig (λ i v. (goal.System-dyn g (i, v)).meaning v))))
-    (sym (put_before c.args.rigs.items c.remove-first.new.self.items c.remove-first.result (omega (arith, c.requires.eight)) c.remove-first.ensures.value c.remove-first.ensures.items)) c.requires.kinds
+pub made_answer-answer-requires-clause-eight : goal.made_answer-answer-requires-clause-eight
+made_answer-answer-requires-clause-eight g c = record { count = c.requires.eight; kinds = c.requires.kinds }
 
-pub returns-clause-kinds : goal.returns-clause-kinds
-returns-clause-kinds g c =
-    subst (All (λ rig. HaveKinds (systems_by rig (λ i v. (goal.System-dyn g (i, v)).meaning v)))) (sym c.in-Ok.ensures.items) c.run_with-status.ensures.kinds
+pub returns-clause-answers : goal.returns-clause-answers
+returns-clause-answers g c =
+    let words = words_of c.args.words.now in
+    let answer = c.made_answer-answer.result in
+    let text = string_bytes answer.text in
+    let saved = option_map file_of answer.saved in
+    let told = g.K.Sink.told c.args.out.now in
+    let counts = g.S.Shelf.counts c.args.shelf.now in
+    let faults = g.K.Sink.faults c.args.out.now in
+    let before = scene (g.S.Shelf.held c.args.shelf.now) told counts faults in
+    let now = scene (g.S.Shelf.held c.finish-status.new.shelf) (g.K.Sink.told c.finish-status.new.out) (g.S.Shelf.counts c.finish-status.new.shelf) (g.K.Sink.faults c.finish-status.new.out) in
+    let written = subst (λ (held : Option (List File)). IfSome held (λ files. MeetsBefore answer.status words files text saved → Meets c.finish-status.result words files (scene held told counts faults) now))
+    c.made_answer-answer.ensures.answer.same (c.finish-status.ensures.answers words counts c.made_answer-answer.ensures.answer.causes) in
+    Told-both (λ files. MeetsBefore answer.status words files text saved) (λ files. MeetsBefore answer.status words files text saved → Meets c.finish-status.result words files before now)
+    (λ files. Meets c.finish-status.result words files before now) _
+    (λ files h f. f h) c.made_answer-answer.ensures.answer.answers written
 
-pub returns-clause-rest : goal.returns-clause-rest
-returns-clause-rest g c =
-    unused_same (used (asked_by (words_of c.args.words.now))) c.args.rigs.items _ _ c.insert.new.self.items
-    (put_before c.args.rigs.items c.remove-first.new.self.items c.remove-first.result (omega (arith, c.requires.eight)) c.remove-first.ensures.value c.remove-first.ensures.items)
-    c.in-Ok.ensures.items c.run_with-status.ensures.back.unused
+pub returns-clause-causes : goal.returns-clause-causes
+returns-clause-causes g c =
+    let told = g.K.Sink.told c.args.out.now in
+    let counts = g.S.Shelf.counts c.args.shelf.now in
+    let faults = g.K.Sink.faults c.args.out.now in
+    let now = scene (g.S.Shelf.held c.finish-status.new.shelf) (g.K.Sink.told c.finish-status.new.out) (g.S.Shelf.counts c.finish-status.new.shelf) (g.K.Sink.faults c.finish-status.new.out) in
+    subst (λ (held : Option (List File)). Causes c.finish-status.result (scene held told counts faults) now)
+    c.made_answer-answer.ensures.answer.same (c.finish-status.ensures.causes counts c.made_answer-answer.ensures.answer.causes)
 
-pub returns-clause-joins : goal.returns-clause-joins
-returns-clause-joins g c =
-    let words = asked_by (words_of c.args.words.now) in
-    behind_first c.remove-first.result c.run_with-status.result.1.first c.remove-first.new.self.items c.run_with-status.result.1.rest.items c.args.rigs.items c.insert.new.self.items
-    (λ old new. IfSome (g.S.Shelf.held c.args.shelf.now) (λ files. HasEnded c.run_with-status.result.0 → OfFirsts old new (λ r s. SecondStands files words (systems_by s (λ i v. (goal.System-dyn g (i, v)).meaning v)))))
-    (put_before c.args.rigs.items c.remove-first.new.self.items c.remove-first.result (omega (arith, c.requires.eight)) c.remove-first.ensures.value c.remove-first.ensures.items)
-    c.in-Ok.ensures.items c.run_with-status.ensures.joins
+pub returns-clause-complete : goal.returns-clause-complete
+returns-clause-complete g c =
+    let words = words_of c.args.words.now in
+    let before = scene (g.S.Shelf.held c.args.shelf.now) (g.K.Sink.told c.args.out.now) (g.S.Shelf.counts c.args.shelf.now) (g.K.Sink.faults c.args.out.now) in
+    let now = scene (g.S.Shelf.held c.finish-status.new.shelf) (g.K.Sink.told c.finish-status.new.out) (g.S.Shelf.counts c.finish-status.new.shelf) (g.K.Sink.faults c.finish-status.new.out) in
+    Told (λ files. Meets c.finish-status.result words files before now) (λ files. IsReady files (asked_by words) → IsFaultless before now → IsFinal c.finish-status.result) _
+    (λ files h ready faultless. final c.finish-status.result words files before now h (returns-clause-causes g c) ready faultless) (returns-clause-answers g c)
 
-pub returns-clause-joined : goal.returns-clause-joined
-returns-clause-joined g c =
-    behind_first c.remove-first.result c.run_with-status.result.1.first c.remove-first.new.self.items c.run_with-status.result.1.rest.items c.args.rigs.items c.insert.new.self.items
-    (λ old new. is_session (asked_by (words_of c.args.words.now)) ≡ false → OfFirsts old new (λ r s. AreBuiltOnceAtMost (systems_by r (λ i v. (goal.System-dyn g (i, v)).meaning v)) (systems_by s (λ i v. (goal.System-dyn g (i, v)).meaning v))))
-    (put_before c.args.rigs.items c.remove-first.new.self.items c.remove-first.result (omega (arith, c.requires.eight)) c.remove-first.ensures.value c.remove-first.ensures.items)
-    c.in-Ok.ensures.items c.run_with-status.ensures.joined
+-- what is written leaves the rigs
+pub returns-clause-back : goal.returns-clause-back
+returns-clause-back g c =
+    rigs_later (λ i v. (goal.System-dyn g (i, v)).meaning v) (asked_by (words_of c.args.words.now)) (g.S.Shelf.held c.args.shelf.now) c.made_answer-answer.result.status c.finish-status.result
+    c.args.rigs c.made_answer-answer.new.rigs (λ settled. (c.finish-status.ensures.settled settled).0) c.made_answer-answer.ensures.back
 
-pub run_with-status-requires-clause-cleared : goal.run_with-status-requires-clause-cleared
-run_with-status-requires-clause-cleared g c =
-    subst (All (λ rig. AreCleared (systems_by rig (λ i v. (goal.System-dyn g (i, v)).meaning v))))
-    (sym (put_before c.args.rigs.items c.remove-first.new.self.items c.remove-first.result (omega (arith, c.requires.eight)) c.remove-first.ensures.value c.remove-first.ensures.items)) c.requires.cleared
+-- what was told of a session is its text, which the laws of sessions are about
+pub returns-clause-headline : goal.returns-clause-headline
+returns-clause-headline g c =
+    let words = words_of c.args.words.now in
+    let before = scene (g.S.Shelf.held c.args.shelf.now) (g.K.Sink.told c.args.out.now) (g.S.Shelf.counts c.args.shelf.now) (g.K.Sink.faults c.args.out.now) in
+    let now = scene (g.S.Shelf.held c.finish-status.new.shelf) (g.K.Sink.told c.finish-status.new.out) (g.S.Shelf.counts c.finish-status.new.shelf) (g.K.Sink.faults c.finish-status.new.out) in
+    let hosted = λ (setup : Setup) (list : StepList). IsHostedBy (λ i v. (goal.System-dyn g (i, v)).meaning v) setup list c.args.rigs.items c.made_answer-answer.new.rigs.items in
+    let rigs = returns-clause-back g c in
+    Told-both (λ files. Meets c.finish-status.result words files before now) (λ files. HasEnded c.finish-status.result → OfSession files (asked_by words) hosted)
+    (λ files. HasEnded c.finish-status.result → OfSession files (asked_by words) (λ setup list. Headline setup list before.told now.told)) _
+    (λ files h told ended. of_both files (asked_by words) _ hosted _ (λ setup list text is. lawful setup list before.told now.told is.limits is.steps text)
+    (of_end c.finish-status.result words files (asked_by words) before now (λ wanted is. is) h ended) (told ended)) (returns-clause-answers g c) rigs.hosted
 
-pub returns-clause-hosted : goal.returns-clause-hosted
-returns-clause-hosted g c =
-    let words = asked_by (words_of c.args.words.now) in
-    both_whole c.remove-first.result c.run_with-status.result.1.first c.remove-first.new.self.items c.run_with-status.result.1.rest.items c.args.rigs.items c.insert.new.self.items
-    (λ old new. IfSome (g.S.Shelf.held c.args.shelf.now) (λ files. HasEnded c.run_with-status.result.0 → OfSession files words (λ setup list. IsHostedBy (λ i v. (goal.System-dyn g (i, v)).meaning v) setup list old new)))
-    (put_before c.args.rigs.items c.remove-first.new.self.items c.remove-first.result (omega (arith, c.requires.eight)) c.remove-first.ensures.value c.remove-first.ensures.items)
-    c.in-Ok.ensures.items c.run_with-status.ensures.hosted
+-- a run that is settled wrote without reading any more
+pub returns-clause-given : goal.returns-clause-given
+returns-clause-given g c =
+    λ files is.
+    let prepared = c.made_answer-answer.ensures.answer in
+    given_settled files (asked_by (words_of c.args.words.now)) c.finish-status.result c.made_answer-answer.result.status _ _ _
+    (λ none. let made = prepared.unasked none in c.finish-status.ensures.unsaved made.1 ∙ made.2) c.finish-status.ensures.settled (prepared.given files is)
+
+pub returns-clause-missing : goal.returns-clause-missing
+returns-clause-missing g c =
+    λ files is lacks.
+    let answer = c.made_answer-answer.result in
+    let prepared = c.made_answer-answer.ensures.answer in
+    let missing = prepared.missing files is lacks in
+    told_unfound c.finish-status.result answer.status (string_bytes answer.text) _ _ _ _ missing.0 prepared.silent (c.finish-status.ensures.told missing.1)
+
+pub returns-clause-unasked : goal.returns-clause-unasked
+returns-clause-unasked g c =
+    λ none.
+    let answer = c.made_answer-answer.result in
+    let made = c.made_answer-answer.ensures.answer.unasked none in (
+      told_usage usage_text c.finish-status.result answer.status (string_bytes answer.text) _ _ _ _ made.0 (c.finish-status.ensures.told made.1),
+      c.finish-status.ensures.unsaved made.1 ∙ made.2,
+    )
+
+pub returns-clause-statuses : goal.returns-clause-statuses
+returns-clause-statuses g c = c.finish-status.ensures.statuses (asked_by (words_of c.args.words.now)) c.made_answer-answer.ensures.answer.statuses

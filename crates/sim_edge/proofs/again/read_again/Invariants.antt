@@ -1,0 +1,17 @@
+-- A read that is interrupted takes nothing from what is left, and one try fewer is left.
+use Rattle.std.proofs.Common.{◌≡◌, ℕ, ◌-◌, List, length}
+use Rattle.std.specs.Prelude.{Result}
+use Rattle.std.specs.Io.KnownBytes.{Keeps}
+use Rattle.std.specs.declared.io.Error.{Error}
+use Rattle.sim_edge.specs.Again.{AnswersIn, read_call}
+use Rattle.sim_edge.specs.declared.again.TheConstants.{TRIES}
+use Rattle.sim_edge.proofs.again.read_again.Given as goal
+
+abbrev pub invariant-loop : goal.invariant-loop
+invariant-loop g l = record {
+  room : length l.into ≡ length l.fn.into;
+  kept : Keeps (g.R.Readable.left l.fn.file) (g.R.Readable.left l.file);
+  tried : (answer : Result ℕ Error) (file : _) (into : List ℕ)
+      → AnswersIn (read_call g.R.Readable.read_gives) (TRIES - l.counter) (l.file, l.into) answer (file, into)
+      → AnswersIn (read_call g.R.Readable.read_gives) TRIES (l.fn.file, l.fn.into) answer (file, into);
+}

@@ -1,0 +1,16 @@
+-- A write that is interrupted adds nothing to what is held, and one try fewer is left.
+use Rattle.std.proofs.Common.{ℕ, ◌-◌}
+use Rattle.std.specs.Prelude.{Result}
+use Rattle.std.specs.Io.KnownBytes.{Keeps}
+use Rattle.std.specs.declared.io.Error.{Error}
+use Rattle.sim_edge.specs.Again.{AnswersIn, write_call}
+use Rattle.sim_edge.specs.declared.again.TheConstants.{TRIES}
+use Rattle.sim_edge.proofs.again.write_again.Given as goal
+
+abbrev pub invariant-loop : goal.invariant-loop
+invariant-loop g l = record {
+  kept : Keeps (g.W.Writable.holds l.fn.file) (g.W.Writable.holds l.file);
+  tried : (answer : Result ℕ Error) (file : _)
+      → AnswersIn (write_call g.W.Writable.write_gives l.piece) (TRIES - l.counter) l.file answer file
+      → AnswersIn (write_call g.W.Writable.write_gives l.piece) TRIES l.fn.file answer file;
+}

@@ -1,0 +1,5 @@
+pub mod Again
+pub mod Answers
+pub mod Known
+pub mod Process
+pub mod Run

@@ -1,0 +1,30 @@
+-- What a process is handed and what it ends with.
+use Rattle.std.specs.Prelude.{◌≡◌, ◌≢◌, ℕ, List, [], drop, Result, Ok, Err, String}
+use Rattle.std.specs.IoError.{error_kind}
+use Rattle.std.specs.Vec.Iter.{into_iter_items}
+use Rattle.std.specs.declared.alloc.Global.{Global}
+use Rattle.std.specs.declared.vec.IntoIter.{IntoIter}
+use Rattle.std.specs.declared.io.Error.{Error}
+use Rattle.std.specs.declared.io.ErrorKind.TheVariants.{OutOfMemory}
+use Rattle.sim_top.specs.Answers.{status_number}
+use Rattle.sim_top.specs.declared.status.Status.{Status}
+
+-- the words of a command line behind its first, which is the program's name; none where one of them is no text
+abbrev pub words_behind : Result (IntoIter (String Global) Global) Error → List (String Global)
+words_behind (Ok arguments) = drop 1 (into_iter_items arguments)
+words_behind (Err error) = []
+
+-- there was no memory for the words
+abbrev pub IsUnread : {T : Type 0} → Result T Error → Type 0
+IsUnread (Ok words) = ⊥
+IsUnread (Err error) = error_kind error ≡ OutOfMemory
+
+-- one of the words is no text
+abbrev pub IsNoText : {T : Type 0} → Result T Error → Type 0
+IsNoText (Ok words) = ⊥
+IsNoText (Err error) = error_kind error ≢ OutOfMemory
+
+-- the number of a status, and of want of memory before there was one
+abbrev pub number_of : {E : Type 0} → Result Status E → ℕ
+number_of (Ok status) = status_number status
+number_of (Err refused) = 9

@@ -1,0 +1,39 @@
+-- What a run has done, by its words and by what the shelf holds, the sink was told and both have counted, before it and after.
+use Rattle.std.specs.Prelude.{◌≡◌, ℕ, List, [], Some, None, IfSome}
+use Rattle.std.specs.Io.KnownBytes.{Appends}
+use Rattle.sim_report.specs.Lines.{usage_text}
+use Rattle.sim_store.specs.Files.{File}
+use Rattle.sim_top.specs.Answers.{Scene, Meets, Causes, MayEnd, IsUsageTold, KeepsAllBut, IsSilent}
+use Rattle.sim_top.specs.Given.{GaveForWords}
+use Rattle.sim_top.specs.Headline.{Headline}
+use Rattle.sim_top.specs.Hosting.{OfSession}
+use Rattle.sim_top.specs.Readiness.{IsReady, IsFaultless, IsFinal}
+use Rattle.sim_top.specs.Reads.{LacksMatch, HasEnded, IsUnfound}
+use Rattle.sim_top.specs.Words.{asked_by, out_of}
+use Rattle.sim_top.specs.declared.status.Status.{Status}
+
+-- a run of the words ended so: the clauses of the top call, but those of its rigs
+pub record Ran (words : List (List ℕ)) (before now : Scene) (status : Status) : Type 0 where
+  -- what was told of a session is what the headline says of its match and its steps
+  pub headline : IfSome before.held (λ files. HasEnded status
+      → OfSession files (asked_by words) (λ setup list. Headline setup list before.told now.told))
+  -- the status, the text and the saved file are those of the words, or a fault or want of memory came between
+  pub answers : IfSome before.held (λ files. Meets status words files before now)
+  -- over good files and without a fault the command comes to its end, or there is no memory
+  pub complete : IfSome before.held (λ files. IsReady files (asked_by words) → IsFaultless before now → IsFinal status)
+  -- just the bytes of the files that were read were given, each once, also where the last of them is refused
+  pub given : (files : List File) → before.held ≡ Some files → GaveForWords files (asked_by words) status before.counts now.counts
+  -- a match that is not there is found missing, whatever memory there is
+  pub missing : (files : List File) → before.held ≡ Some files → LacksMatch files (asked_by words) → IsUnfound status
+  -- which statuses the words may have, whatever is held
+  pub statuses : MayEnd (asked_by words) status
+  -- words of no command
+  pub unasked : asked_by words ≡ None → IsUsageTold usage_text status before.told now.told × (now.counts ≡ before.counts)
+  -- some statuses tell nothing
+  pub silent : IsSilent status → Appends before.told now.told []
+  -- a fault is answered exactly where one was counted
+  pub causes : Causes status before now
+  -- without OUT no write of a file has failed
+  pub unsaved : out_of (asked_by words) ≡ None → now.counts.write_faults ≡ before.counts.write_faults
+  -- no file but OUT has changed
+  pub others : KeepsAllBut (out_of (asked_by words)) before.held now.held

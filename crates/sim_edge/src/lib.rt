@@ -1,0 +1,34 @@
+//! The program's edge as a library: real files and a real output as a shelf and a sink, and the run with all planners.
+//!
+//! Whatever the edge does is done here, over any system of files, any reader and any writer, so that it is proved for each of
+//! them and tried in memory; `main` only picks the real ones. It promises that each call answers what the system answered,
+//! that a call which a signal interrupted is made again, and that each fault has its count. It stands on the shelf and the
+//! sink, on the orders, and on the top call.
+//!
+//! - `system`: the files of a system, by their paths.
+//! - `device`: what bytes are read from and written to.
+//! - `again`: one read and one write, made again where a signal interrupts it.
+//! - `faults`: what an error is called, and what is counted for it.
+//! - `shelf`, `sink`: the shelf of a system's files, and the sink of a writer.
+//! - `words`: the words of the command line, and the number that the process ends with.
+//! - `rigs`: a rig more for a run.
+//! - `running`: the run with a handler for each kind of command.
+#![tactic(auto)]
+
+mod again;
+mod device;
+mod faults;
+mod rigs;
+mod running;
+mod shelf;
+mod sink;
+mod system;
+mod words;
+
+pub use device::{Readable, Writable};
+pub use rigs::add_rig;
+pub use running::{planned, run_with};
+pub use shelf::FileShelf;
+pub use sink::OutSink;
+pub use system::{FileSystem, SystemFiles};
+pub use words::{exit_number, words_of};

@@ -1,0 +1,71 @@
+//! The run with a handler for each kind of command, over any shelf and any sink. The program calls it with the real ones, and
+//! the tests with those in memory.
+
+ghost use Rattle.std.specs.Prelude.{◌≡◌, All, IfOk, OnErr, length};
+ghost use Rattle.sim_client.specs.StageWords.{AreCleared};
+ghost use Rattle.sim_orders.specs.Orders.{kind_of, IsGiven, Obeys};
+ghost use Rattle.sim_system.specs.Meanings.{HaveKinds};
+ghost use Rattle.sim_system.specs.RigWords.{systems_of};
+ghost use Rattle.sim_top.specs.Answers.{scene};
+ghost use Rattle.sim_top.specs.Words.{words_of};
+ghost use Rattle.sim_edge.specs.Run.{Ran};
+
+use sim_base::{Changes, Command, OutOfMemory, Setup, State};
+use sim_orders::{
+    Handler, Help, OrderTable, Planner, attack_changes, delete_changes, place_changes,
+    resign_changes, stop_changes, train_changes, walk_changes,
+};
+use sim_store::{Shelf, Sink};
+use sim_system::{Rig, System};
+use sim_top::{Status, run};
+use std::alloc::Global;
+
+/// The changes that the planner of the command's kind makes.
+pub fn planned(
+    alloc: Global,
+    setup: &Setup,
+    state: &State,
+    help: &Help,
+    player: u8,
+    command: &Command,
+) -> Result<Changes, OutOfMemory>
+    requires { IsGiven (kind_of command.now) setup.now state.now help.now player command.now }
+    ensures { Obeys setup.now state.now player command.now result }
+{
+    match command {
+        Command::Walk { .. } => walk_changes(alloc, setup, state, help, player, command),
+        Command::Stop { .. } => stop_changes(alloc, setup, state, help, player, command),
+        Command::Attack { .. } => attack_changes(alloc, setup, state, help, player, command),
+        Command::Delete { .. } => delete_changes(alloc, setup, state, help, player, command),
+        Command::Place { .. } => place_changes(alloc, setup, state, help, player, command),
+        Command::Train { .. } => train_changes(alloc, setup, state, help, player, command),
+        Command::Resign => resign_changes(alloc, setup, state, help, player, command),
+    }
+}
+
+/// Runs the words with these cleared rigs. Each kind of command has a handler of its own, and all of them plan by one function.
+/// Where there is no memory for the handlers, the run does not begin.
+pub fn run_with<S: Shelf, K: Sink>(
+    alloc: Global,
+    words: &[String],
+    shelf: &mut S,
+    out: &mut K,
+    rigs: Vec<Rig>,
+) -> Result<Status, OutOfMemory>
+    requires eight { length rigs.items ≡ 8 }
+    requires kinds { All (λ r. HaveKinds (systems_of r ⟦<dyn System as System>⟧)) rigs.items }
+    requires cleared { All (λ r. AreCleared (systems_of r ⟦<dyn System as System>⟧)) rigs.items }
+    ensures ran { IfOk result (λ status. Ran (words_of words.now)
+        (scene (S.held shelf.old) (K.told out.old) (S.counts shelf.old) (K.faults out.old))
+        (scene (S.held shelf.new) (K.told out.new) (S.counts shelf.new) (K.faults out.new))
+        status) }
+    ensures unbegun { OnErr result ((shelf.new ≡ shelf.old) × (out.new ≡ out.old)) }
+{
+    let mut handlers = Vec::with_capacity(alloc, 7)?;
+    for kind in 1..8u8 {
+        let run: Planner = Box::new(alloc, planned)?;
+        handlers.push(Handler { kind, run })?;
+    }
+    let ended = run(alloc, words, shelf, out, rigs, &OrderTable::new(handlers));
+    Ok(ended.status)
+}

@@ -1,0 +1,14 @@
+use Rattle.std.proofs.Common.{◌≡◌, All, length}
+use Rattle.sim_client.specs.StageWords.{AreCleared}
+use Rattle.sim_system.specs.Meanings.{HaveKinds}
+use Rattle.sim_system.specs.RigWords.{systems_by}
+use Rattle.sim_system_rows.proofs.tests.beside.on_twins.OwnLists.{own-1}
+use Rattle.sim_system_rows.proofs.tests.beside.on_twins.Given as goal
+
+abbrev pub invariant-loop : goal.invariant-loop
+invariant-loop l =
+    record {
+      count : length l.rigs.items ≡ l.counter;
+      kinds : All (λ r. HaveKinds (systems_by r (λ i v. (own-1.entry i).1.meaning v))) l.rigs.items;
+      cleared : All (λ r. AreCleared (systems_by r (λ i v. (own-1.entry i).1.meaning v))) l.rigs.items;
+    }

@@ -1,0 +1,73 @@
+//! What a session makes of its match and its steps: the whole text that it prints, with a rig for each client.
+
+ghost use Rattle.std.specs.Prelude.{◌≡◌, All, OnOk, length, drop, vec_capacity, Some};
+ghost use Rattle.sim_base.specs.Limits.{IsSetup};
+ghost use Rattle.sim_client.specs.StageWords.{AreCleared};
+ghost use Rattle.sim_host.specs.Rigs.{AllStand, AllBuiltAtMost, builds_of};
+ghost use Rattle.sim_lists.specs.StepLists.{IsStepList};
+ghost use Rattle.sim_session.specs.SessionWords.{rigs_of};
+ghost use Rattle.sim_session_text.specs.SessionText.{session_of, session_text as text_of_session};
+ghost use Rattle.sim_system.specs.RigWords.{systems_of};
+ghost use Rattle.sim_top.specs.Commands.{IsAnswerTo, shelved};
+ghost use Rattle.sim_top.specs.Making.{IsMade, status_made};
+ghost use Rattle.sim_top.specs.Outcome.{printed as printed_as};
+ghost use Rattle.sim_top.specs.Returning.{RigsCameBack};
+ghost use Rattle.sim_top.specs.Rigs.{AreEight};
+ghost use Rattle.sim_top.specs.Words.{to_session};
+
+use super::{Answer, shown};
+use crate::inputs::{read_session_match, read_steps};
+use crate::status::Status;
+use crate::stop::Stop;
+use sim_base::Setup;
+use sim_host::session_text;
+use sim_lists::StepList;
+use sim_orders::OrderTable;
+use sim_store::Shelf;
+use sim_system::{Rig, System};
+use std::alloc::Global;
+use std::mem;
+
+/// Runs a session of the match of a file over the steps of another. The match is read, and refused, before the steps.
+pub fn session<'w, S: Shelf>(
+    alloc: Global,
+    shelf: &mut S,
+    game: &'w str,
+    steps: &'w str,
+    rigs: &mut Vec<Rig>,
+    orders: &OrderTable,
+) -> Result<Answer<'w>, Stop<'w>>
+    requires eight { AreEight ⟦<dyn System as System>⟧ rigs.old.items }
+    requires cleared { All (λ r. AreCleared (systems_of r ⟦<dyn System as System>⟧)) rigs.old.items }
+    ensures answer { IsAnswerTo (to_session game.now steps.now) result (shelved (S.held shelf.old) (S.counts shelf.old)) (shelved (S.held shelf.new) (S.counts shelf.new)) }
+    ensures back { RigsCameBack ⟦<dyn System as System>⟧ (Some (to_session game.now steps.now)) (S.held shelf.old) (status_made result) rigs.old rigs.new }
+{
+    let setup = read_session_match(alloc, shelf, game)?;
+    let list = read_steps(alloc, shelf, steps, setup.players)?;
+    session_match(alloc, &setup, &list, rigs, orders)
+}
+
+// Runs a session whose match and steps were read.
+fn session_match<'w>(
+    alloc: Global,
+    setup: &Setup,
+    list: &StepList,
+    rigs: &mut Vec<Rig>,
+    orders: &OrderTable,
+) -> Result<Answer<'w>, Stop<'w>>
+    requires limits { IsSetup setup.now }
+    requires list { IsStepList setup.now.players list.now }
+    requires eight { AreEight ⟦<dyn System as System>⟧ rigs.old.items }
+    requires cleared { All (λ r. AreCleared (systems_of r ⟦<dyn System as System>⟧)) rigs.old.items }
+    ensures made { IsMade (printed_as Status.Done (text_of_session setup.now list.now)) result }
+    ensures stand { OnOk result (AllStand setup.now (session_of setup.now list.now) (rigs_of rigs.new.items ⟦<dyn System as System>⟧)) }
+    ensures built { AllBuiltAtMost (builds_of setup.now list.now) setup.now.players (rigs_of rigs.old.items ⟦<dyn System as System>⟧) (rigs_of rigs.new.items ⟦<dyn System as System>⟧) }
+    ensures spare { drop setup.now.players rigs.new.items ≡ drop setup.now.players rigs.old.items }
+    ensures eight { AreEight ⟦<dyn System as System>⟧ rigs.new.items }
+    ensures room { vec_capacity rigs.new ≡ vec_capacity rigs.old }
+{
+    let all = mem::replace(rigs, Vec::new(alloc));
+    let (text, back) = session_text(alloc, setup, orders, list, all);
+    *rigs = back;
+    shown(text)
+}

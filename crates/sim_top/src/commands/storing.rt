@@ -1,0 +1,118 @@
+//! The state of a turn of a match, which is stored in a file.
+
+ghost use Rattle.std.specs.Prelude.{◌≡◌, ◌<◌, ◌≤◌, length, IfOk, IfErr, OnErr, Err, Some, string_bytes};
+ghost use Rattle.sim_base.specs.Limits.{IsSetup};
+ghost use Rattle.sim_base.specs.Spelling.{spelling, digest as digest_of};
+ghost use Rattle.sim_base.specs.Turn.{after, own_turns};
+ghost use Rattle.sim_base.specs.Validity.{IsValid};
+ghost use Rattle.sim_report.specs.Lines.{saved_line};
+ghost use Rattle.sim_system.specs.Meanings.{HaveKinds};
+ghost use Rattle.sim_system.specs.RigWords.{systems_of};
+ghost use Rattle.sim_top.specs.Commands.{IsAnswerTo, shelved};
+ghost use Rattle.sim_top.specs.Making.{IsMade, outcome_made, status_made};
+ghost use Rattle.sim_top.specs.Outcome.{stored_at as stored_outcome, store_outcome};
+ghost use Rattle.sim_top.specs.Returning.{RigsCameBack};
+ghost use Rattle.sim_top.specs.Rigs.{AreEight, HasPlayed};
+ghost use Rattle.sim_top.specs.Words.{to_store};
+
+use super::{Answer, Saved};
+use crate::inputs::read_match;
+use crate::rigs::{put_first, take_first};
+use crate::status::Status;
+use crate::stop::Stop;
+use sim_base::{OutOfMemory, Setup, State};
+use sim_codec::{digest, spell};
+use sim_orders::OrderTable;
+use sim_play::state_at;
+use sim_report::push_saved;
+use sim_store::Shelf;
+use sim_system::{Rig, System};
+use std::alloc::Global;
+
+/// Stores the state of a turn of the match of a file.
+pub fn store<'w, S: Shelf>(
+    alloc: Global,
+    shelf: &mut S,
+    game: &'w str,
+    turn: u32,
+    out: &'w str,
+    rigs: &mut Vec<Rig>,
+    orders: &OrderTable,
+) -> Result<Answer<'w>, Stop<'w>>
+    requires { AreEight ⟦<dyn System as System>⟧ rigs.old.items }
+    ensures answer { IsAnswerTo (to_store game.now turn out.now) result (shelved (S.held shelf.old) (S.counts shelf.old)) (shelved (S.held shelf.new) (S.counts shelf.new)) }
+    ensures back { RigsCameBack ⟦<dyn System as System>⟧ (Some (to_store game.now turn out.now)) (S.held shelf.old) (status_made result) rigs.old rigs.new }
+{
+    let setup = read_match(alloc, shelf, game)?;
+    reached(&setup, turn)?;
+    let rig = take_first(rigs);
+    let (answer, rig) = stored_at(alloc, &setup, turn, out, rig, orders);
+    put_first(rigs, rig);
+    answer
+}
+
+/// Whether the match has this turn. One that it lacks takes no memory to refuse.
+pub fn reached<'w>(setup: &Setup, turn: u32) -> Result<(), Stop<'w>>
+    ensures within { IfOk result (λ done. turn ≤ setup.now.turns) }
+    ensures past { IfErr result (λ stop. (setup.now.turns < turn) × (stop ≡ Stop.NoSuchTurn turn setup.now.turns)) }
+{
+    if setup.turns < turn {
+        return Err(Stop::NoSuchTurn {
+            asked: turn,
+            turns: setup.turns,
+        });
+    }
+    Ok(())
+}
+
+// Stores the state of a turn that the match has.
+fn stored_at<'w>(
+    alloc: Global,
+    setup: &Setup,
+    turn: u32,
+    out: &'w str,
+    rig: Rig,
+    orders: &OrderTable,
+) -> (Result<Answer<'w>, Stop<'w>>, Rig)
+    requires limits { IsSetup setup.now }
+    requires within { turn ≤ setup.now.turns }
+    requires kinds { HaveKinds (systems_of rig ⟦<dyn System as System>⟧) }
+    ensures made { IsMade (store_outcome setup.now turn out.now) result.0 }
+    ensures played { HasPlayed ⟦<dyn System as System>⟧ setup.now (after setup.now (own_turns setup.now 0 turn)) result.0 rig result.1 }
+{
+    let (state, rig) = state_at(alloc, setup, turn, rig, orders);
+    (kept_state(alloc, setup, state, out), rig)
+}
+
+// The state of a turn as a file and its line, if there was memory for it.
+fn kept_state<'w>(
+    alloc: Global,
+    setup: &Setup,
+    state: Result<State, OutOfMemory>,
+    out: &'w str,
+) -> Result<Answer<'w>, Stop<'w>>
+    requires { IfOk state (IsValid setup.now) }
+    ensures made { IfOk result (λ answer. IfOk state (λ state. outcome_made answer ≡ stored_outcome setup.now state.turn out.now state)) }
+    ensures stops { IfErr result (λ stop. stop ≡ Stop.OutOfMemory) }
+    ensures refused { OnErr state (result ≡ Err Stop.OutOfMemory) }
+{
+    let state = state?;
+    let (bytes, text) = stored(alloc, setup, &state)?;
+    Ok(Answer {
+        status: Status::Done,
+        text,
+        saved: Some(Saved { name: out, bytes }),
+    })
+}
+
+// The bytes of a state, and the line that is printed of it.
+fn stored(alloc: Global, setup: &Setup, state: &State) -> Result<(Vec<u8>, String), OutOfMemory>
+    requires { IsValid setup.now state.now }
+    ensures bytes { IfOk result (λ made. made.0.items ≡ spelling setup.now state.now) }
+    ensures text { IfOk result (λ made. string_bytes made.1 ≡ saved_line state.now.turn (length (spelling setup.now state.now)) (digest_of setup.now state.now)) }
+{
+    let bytes = spell(alloc, setup, state)?;
+    let mut text = String::new(alloc);
+    push_saved(state.turn, bytes.len(), &digest(setup, state), &mut text)?;
+    Ok((bytes, text))
+}

@@ -1,0 +1,82 @@
+//! The match of a trial, which is made of three numbers and read from no file.
+
+ghost use Rattle.std.specs.Prelude.{◌≡◌, List, Option, IfOk, IsErr, OnErr, Some, string_bytes};
+ghost use Rattle.sim_base.specs.Limits.{IsSetup};
+ghost use Rattle.sim_base.specs.Turn.{after, own_turns};
+ghost use Rattle.sim_base.specs.Validity.{IsValid};
+ghost use Rattle.sim_play.specs.Lines.{trial_line};
+ghost use Rattle.sim_store.specs.Files.{File};
+ghost use Rattle.sim_system.specs.Meanings.{HaveKinds};
+ghost use Rattle.sim_system.specs.RigWords.{systems_of};
+ghost use Rattle.sim_top.specs.Commands.{IsAnswerTo, Shelved};
+ghost use Rattle.sim_top.specs.Making.{IsMade, status_made};
+ghost use Rattle.sim_top.specs.Outcome.{trial_outcome};
+ghost use Rattle.sim_top.specs.Returning.{RigsCameBack};
+ghost use Rattle.sim_top.specs.Rigs.{AreEight, HasPlayed};
+ghost use Rattle.sim_top.specs.Words.{to_try};
+ghost use Rattle.sim_trial.specs.Trial.{IsTrial};
+
+use super::{Answer, shown};
+use crate::inputs::trial_match;
+use crate::rigs::{put_first, take_first};
+use crate::stop::Stop;
+use sim_base::{OutOfMemory, Setup, State};
+use sim_orders::OrderTable;
+use sim_play::{push_trial, state_at};
+use sim_system::{Rig, System};
+use std::alloc::Global;
+
+/// Plays the match of a trial, which has a seed, so many soldiers and so many turns.
+pub fn trial<'w>(
+    alloc: Global,
+    numbers: (u32, u32, u32),
+    rigs: &mut Vec<Rig>,
+    orders: &OrderTable,
+) -> Result<Answer<'w>, Stop<'w>>
+    requires limits { IsTrial numbers.0 numbers.1 numbers.2 }
+    requires eight { AreEight ⟦<dyn System as System>⟧ rigs.old.items }
+    ensures answer { (shelf : Shelved) → IsAnswerTo (to_try numbers.0 numbers.1 numbers.2) result shelf shelf }
+    ensures back { (held : Option (List File)) → RigsCameBack ⟦<dyn System as System>⟧ (Some (to_try numbers.0 numbers.1 numbers.2)) held (status_made result) rigs.old rigs.new }
+{
+    let (seed, units, turns) = numbers;
+    let setup = trial_match(alloc, seed, units, turns)?;
+    let rig = take_first(rigs);
+    let (answer, rig) = tried(alloc, numbers, &setup, rig, orders);
+    put_first(rigs, rig);
+    answer
+}
+
+// Plays the match that was made of a trial's numbers.
+fn tried<'w>(
+    alloc: Global,
+    numbers: (u32, u32, u32),
+    setup: &Setup,
+    rig: Rig,
+    orders: &OrderTable,
+) -> (Result<Answer<'w>, Stop<'w>>, Rig)
+    requires limits { IsSetup setup.now }
+    requires kinds { HaveKinds (systems_of rig ⟦<dyn System as System>⟧) }
+    ensures made { IsMade (trial_outcome numbers.0 numbers.1 numbers.2 setup.now) result.0 }
+    ensures played { HasPlayed ⟦<dyn System as System>⟧ setup.now (after setup.now (own_turns setup.now 0 setup.now.turns)) result.0 rig result.1 }
+{
+    let (state, rig) = state_at(alloc, setup, setup.turns, rig, orders);
+    (shown(trial_text(alloc, numbers, setup, state)), rig)
+}
+
+// The line of a trial, if there was memory for its last state.
+fn trial_text(
+    alloc: Global,
+    numbers: (u32, u32, u32),
+    setup: &Setup,
+    state: Result<State, OutOfMemory>,
+) -> Result<String, OutOfMemory>
+    requires { IfOk state (IsValid setup.now) }
+    ensures text { IfOk result (λ text. IfOk state (λ state. string_bytes text ≡ trial_line numbers.0 numbers.1 numbers.2 setup.now state)) }
+    ensures refused { OnErr state (IsErr result) }
+{
+    let (seed, units, turns) = numbers;
+    let state = state?;
+    let mut text = String::new(alloc);
+    push_trial(seed, units, turns, setup, &state, &mut text)?;
+    Ok(text)
+}
