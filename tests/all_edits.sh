@@ -17,7 +17,14 @@ for crate in crates/*/; do
     mkdir "$copy/crates/$name" || exit 1
     find "$crate" -mindepth 1 -maxdepth 1 ! -name out ! -name more-edits -exec cp -r {} "$copy/crates/$name" \; || exit 1
     if [ -d "$crate/more-edits" ]; then
-        mkdir -p "$copy/crates/$name/must-fail" && cp "$crate"/more-edits/*.edit "$copy/crates/$name/must-fail" || exit 1
+        mkdir -p "$copy/crates/$name/must-fail" || exit 1
+        for edit in "$crate"more-edits/*.edit; do
+            if [ -e "$copy/crates/$name/must-fail/$(basename "$edit")" ]; then
+                echo "$edit has the name of an edit in must-fail/, so one of them would not be tried" >&2
+                exit 1
+            fi
+            cp "$edit" "$copy/crates/$name/must-fail" || exit 1
+        done
     fi
 done
 cd "$copy" || exit 1

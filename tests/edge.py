@@ -8,15 +8,18 @@ PROGRAM is by default the one that the gate leaves in crates/simcore/out. One li
 MD5 of the bytes that docs/FORMATS.md lays out.
 """
 
+import concurrent.futures
 import hashlib
 import os
 import pathlib
-import random
 import re
 import resource
+import signal
 import subprocess
 import sys
 import tempfile
+import threading
+import time
 
 TOP = pathlib.Path(__file__).resolve().parent.parent
 PROGRAM = pathlib.Path(sys.argv[1] if len(sys.argv) > 1 else TOP / "crates/simcore/out/simcore").resolve()
@@ -40,11 +43,33 @@ STORED = (b"RSIM\x02\0\0\0" + STORED_ID + b"\x01\0\0\0\x04\0\0\0" + bytes(8)
           + bytes.fromhex("03010000000300000002") + bytes.fromhex("04010000000300000000003200")
           + bytes.fromhex("050000000006000000000700000000"))
 RESUMED_LINES = b"".join(POSTS_LINES.splitlines(True)[1:])
+# Where the number of rows of each of its sections stands, behind the tag.
+STORED_COUNTS = (41, 52, 69, 79, 92, 97, 102)
+# A walker on its way, and its state at turn 1: a place, an owner and a way of two points.
+WALK = (b'{"size":[8,8],"closed":[],"players":[[]],"cap":0,"delay":1,"turns":2,"seed":0,'
+        b'"templates":[{"@name":"walker","Motion":{"Speed":10}}],"entities":[["walker",1,"2.5","2.5"]],'
+        b'"commands":[[1,1,"walk",[2],"6.5","2.5"]]}')
+WALKING = (b"RSIM\x02\0\0\0" + hashlib.md5(WALK).digest() + b"\x01\0\0\0\x03\0\0\0" + bytes(8)
+           + bytes.fromhex("0101000000020000000000") + bytes.fromhex("0201000000020000000080040000800200")
+           + bytes.fromhex("03010000000200000001") + bytes.fromhex("0400000000")
+           + bytes.fromhex("050100000002000000010080060000800200010200800500008002000080060000800200")
+           + bytes.fromhex("06000000000700000000"))
+WALKING_LINE = b"state 1 129 20d725bf6dad6057d64ca4efab99a4e1\n"
 SHOWN = b"turn 1 next 4 word 0 rows 1\nentity 3 template post owner 2 at 2 2 health 50\n"
+# POSTS, padded with spaces to the greatest length of a file.
+PADDED_LINES = (b"turn 0 f6b267bf53249cb79382e6e0d0bd2788\n"
+                b"turn 1 f39acfa05f6ce432b143088be299e1c0\n"
+                b"turn 2 0e29496b3b59c10b0614f95aef081b95\n")
 # Seventeen templates, each the child of the one before it.
 CHAIN = b",".join(b'{"@name":"t%d"%s,"Health":{"Max":50}}' % (i, b',"@parent":"t%d"' % (i - 1) if i else b"") for i in range(17))
+SIXTEEN_LINES = (b"turn 0 9a04f97dba882e653a5c2b68d1b7a550\n"
+                 b"turn 1 5c9bfe1fae98a8a8c7c56b54384f7e9c\n"
+                 b"turn 2 41da49ad32c3a3b804043048af84bcc8\n")
 # A template that takes half as much again, where it can.
 BIG = b'{"@name":"post","Health":{"Max":50}},{"@name":"big","@parent":"post","Health":{"Max":{"@op":"mul","_":"1.5"}}}'
+BIG_LINES = (b"turn 0 2a210907dd85990cb6c371f3ba46ded0\n"
+             b"turn 1 56af84353b151dd574518d9c84d0536f\n"
+             b"turn 2 648326c68bda470bb06f5c2cbf1d46ec\n")
 # Three guards of two enemies, of whom two strike each other down in the first turn.
 GUARDS = (b'{"size":[16,16],"closed":[],"players":[[2],[1]],"cap":0,"delay":1,"turns":2,"seed":0,'
           b'"templates":[{"@name":"guard","Health":{"Max":15},"Resist":{"Hack":1},'
@@ -72,6 +97,12 @@ WALKERS = (b'{"size":[16,16],"closed":[],"players":[[],[]],"cap":0,"delay":2,"tu
            b'"entities":[["walker",1,"2.5","2.5"],["walker",2,"2.5","5.5"]],"commands":[]}')
 # Its first turns, in which nobody was told to walk.
 WALKERS_DIGESTS = b"73e3470f5addc8ca29a65fd51b7bcd2f", b"35320ef0d4b872585577f4e1c68b3ade", b"d974b9e19e034e0c7fcd88e3c93a7a56"
+# A frame of each kind that a client may send, and of each kind of command.
+FRAMES = tuple(map(bytes.fromhex, (
+    "0100000001", "14000000020200000001010002000000" "0080060000800200", "0c0000000202000000020100" "03000000",
+    "1000000002020000000301000200000003000000", "1000000002020000000402000200000003000000",
+    "1000000002020000000501000080060000800200", "0c00000002020000000605000000" "0100", "06000000020200000007",
+    "050000000302000000", "15000000040100000000000000000000000000000000000000", "09000000050301000000525349")))
 USAGE = b"""usage: simcore play MATCH
        simcore state MATCH TURN OUT
        simcore resume MATCH STATE
@@ -101,6 +132,11 @@ def case(name, got, status, text):
     print(f"{'ok    ' if good else 'FAILED'} {name}" + ("" if good else f": {got}"))
 
 
+def held(path):
+    """The bytes of a file, or none where there is no such file."""
+    return path.read_bytes() if path.exists() else None
+
+
 def files(folder):
     """Every file of the folder with its bytes, so that a case can show that none has changed."""
     return {path.name: path.read_bytes() for path in folder.iterdir() if path.is_file()}
@@ -114,11 +150,9 @@ def templates(folder):
     (folder / "big.json").write_bytes(EMPTY.replace(listed % b"", listed % BIG))
     (folder / "bad.json").write_bytes(EMPTY.replace(listed % b"", listed % BIG.replace(b"1.5", b"x")))
     case("a chain of seventeen templates", run(["play", "chain.json"], folder), 6, b"match refused 5 16\n")
-    status, text, error = run(["play", "short.json"], folder)
-    case("a chain of sixteen", (status, b"%d lines" % text.count(b"\n"), error), 0, b"3 lines")
+    case("a chain of sixteen", run(["play", "short.json"], folder), 0, SIXTEEN_LINES)
     case("half as much again of a word", run(["play", "bad.json"], folder), 6, b"match refused 6 1\n")
-    status, text, error = run(["play", "big.json"], folder)
-    case("half as much again of a number", (status, b"%d lines" % text.count(b"\n"), error), 0, b"3 lines")
+    case("half as much again of a number", run(["play", "big.json"], folder), 0, BIG_LINES)
 
 
 def schedule(clients, active, arrivals):
@@ -174,21 +208,40 @@ def raw_bytes(folder):
     (folder / "sent.json").write_bytes(schedule(3, 2, sent))
     case("bytes that are a done, a join, and none", run(["serve", "sent.json"], folder), 0,
          b"to 1 ask 3\nto 2 ask 3\nto 1 refused 1\nto 2 command turn 2 player 2 stop 2,3\nto 3 refused 4\nreleased 1\nkept 2 1\n")
-    draw = random.Random(7)
-    frames = [bytes.fromhex(text) for text in ("0100000001", "050000000302000000", "1000000002020000000202000200000003000000")]
-    damaged = [bytearray(draw.choice(frames)) for _ in range(10_000)]
-    for frame in damaged:
-        frame[draw.randrange(4)] = draw.randrange(32, 256)
-    lies = [b'[8,"bytes","%s"]' % frame.hex().encode() for frame in damaged]
+    damaged_frames(folder)
+
+
+def damaged():
+    """10,000 frames, each changed in one byte: all places of all kinds in turn, so that no two are equal."""
+    places = [(frame, place) for frame in FRAMES for place in range(len(frame))]
+    for number in range(10_000):
+        frame, place = places[number % len(places)]
+        yield frame[:place] + bytes([(frame[place] + 1 + number // len(places)) % 256]) + frame[place + 1:]
+
+
+def damaged_frames(folder):
+    """A client sends damaged frames, and joins again each time that it is cut: 3,924 times. The others play on."""
+    lies = b",".join(b'[8,"bytes","%s"],[8,"join"],[1,"state",8,1,"00"]' % frame.hex().encode() for frame in damaged())
     honest = [b'[%d,%s]' % (client, said % turn) for turn in (2, 3, 4) for said in (b'"command",%d,"resign"', b'"done",%d')
               for client in range(1, 8)]
-    for name, other in (("lies", lies), ("cut", [b'[8,"cut"]'])):
+    for name, other in (("lies", [lies, b'[8,"cut"]']), ("cut", [b'[8,"cut"]'])):
         (folder / f"{name}.json").write_bytes(schedule(8, 8, honest[:5] + other + honest[5:]))
-    status, text, error = run(["serve", "cut.json"], folder)
-    case("seven clients play on where one is cut", (status, b"".join(text.splitlines(True)[-4:]), error), 0,
-         b"released 4\nkept 2 7\nkept 3 7\nkept 4 7\n")
-    case("10,000 damaged frames are a cut of their client, and no more", run(["serve", "lies.json"], folder), 0, text)
+    cut = served(folder, "seven clients play on where one is cut", "cut.json", b"177 lines 3a4a4f102e90fd247fffa7d6b8b08b71")
+    text = served(folder, "10,000 damaged frames", "lies.json", b"70741 lines a84cd42255595650669fe83655da8179")
+    case("of them the others hear what is sent in their place, and nothing else", (0, to_others(text), b""), 0, to_others(cut))
 
+
+def served(folder, name, file, wanted):
+    """A schedule whose text is told by the number of its lines and its MD5."""
+    status, text, error = run(["serve", file], folder)
+    case(name, (status, b"%d lines %s" % (text.count(b"\n"), hashlib.md5(text).hexdigest().encode()), error), 0, wanted)
+    return text
+
+
+def to_others(text):
+    """What the server says to all clients but the eighth, save for its commands, its wrong reports and that it joins."""
+    of_eighth = re.compile(rb"to 8 |to \d (ask 8|notice \d 8 quick|command turn \d player 8 .*)$")
+    return b"\n".join(line for line in text.splitlines() if line.startswith(b"to ") and not of_eighth.match(line))
 
 def battles(folder):
     """Matches whose units fight, build and resign, and trials."""
@@ -300,8 +353,10 @@ def refused_sessions(folder):
     with open("/dev/full", "wb") as full:
         case("a session that finds no room", run(["session", "walkers.json", "good.json"], folder, full), 4, None)
         case("a session that is refused, and no room", run(["session", "walkers.json", "none"], folder, full), 11, None)
-    status, text, error = run(["session", "walkers.json", "most.json"], folder)
-    case("a session of as many steps as there may be", (status, b"%d lines" % text.count(b"\n"), error), 0, b"8 lines")
+    first = WALKERS_DIGESTS[0]
+    case("a session of as many steps as there may be", run(["session", "walkers.json", "most.json"], folder), 0,
+         b"client 1 start 0 %s\nreleased 2\nend 1 on 0 %s\nend 2 off\n" % (first, first)
+         + b"pipe 1 up\npipe 1 down\npipe 2 up\npipe 2 down\n")
     case("no session has changed a file", (0, b"", b""), 0, b"" if files(folder) == before else b"changed")
 
 
@@ -324,10 +379,30 @@ def memory(folder):
     joinings = 10_000 * [b'[2,"join"]', b'[1,"state",2,0,""]', b'[2,"cut"]']
     (folder / "square.json").write_bytes(schedule(2, 1, sum(turns, []) + joinings).replace(b'"turns":4', b'"turns":65535'))
     case("10,000 commands for each of 10,000 joinings, in a gigabyte", run(["serve", "square.json"], folder, before=limit_memory), 9, b"")
-    for rows in (0xFFFFFFFF, 4097):
-        (folder / "claim").write_bytes(STORED[:41] + rows.to_bytes(4, "little") + STORED[45:] + bytes(6 * 4097))
-        case(f"a state that claims {rows} rows, in 64 MB",
-             run(["show", "posts.json", "claim"], folder, before=lambda: limit_memory(1 << 26)), 7, b"state refused 3 claim\n")
+    for section, place in enumerate(STORED_COUNTS, 1):
+        for rows in (0xFFFFFFFF, 4097):
+            (folder / "claim").write_bytes(STORED[:place] + rows.to_bytes(4, "little") + STORED[place + 4:] + bytes(24 * 4097))
+            case(f"a state that claims {rows} rows of section {section}, in 64 MB",
+                 run(["show", "posts.json", "claim"], folder, before=lambda: limit_memory(1 << 26)), 7, b"state refused 3 claim\n")
+    no_memory(folder)
+
+
+def no_memory(folder):
+    """Before it looks for a file, the program takes memory for its words and systems: one that finds none ends with 9."""
+    page = resource.getpagesize()
+
+    def ends(pages):
+        try:
+            return run(["play", "none.json"], folder, before=lambda: limit_memory(pages * page))
+        except (OSError, subprocess.SubprocessError):
+            return None, b"", b"it could not be started"
+
+    low, high = 1, 1 << 14
+    while low < high:
+        middle = (low + high) // 2
+        low, high = (low, middle) if ends(middle)[0] == 11 else (middle + 1, high)
+    case("as much memory as it takes to say that a file is missing", ends(low), 11, b"")
+    case("a page less", ends(low - 1), 9, b"")
 
 
 def memory_of_sessions(folder):
@@ -341,8 +416,10 @@ def memory_of_sessions(folder):
     asked = [b'["join",2]', b'["up",2]', b'["down",1]', b'["cut",2]']
     (folder / "few.json").write_bytes(step_list(1, *asked * 10))
     (folder / "many.json").write_bytes(step_list(1, *asked * 12_000))
-    status, text, error = run(["session", "crowd.json", "few.json"], folder, before=limit_memory)
-    case("ten states in a pipe, in a gigabyte", (status, text.splitlines()[-4], error), 0, b"pipe 1 up" + b" 127061" * 10)
+    digest = b"a74cf93a876ee1bba08ad613570d6d58"
+    case("ten states in a pipe, in a gigabyte", run(["session", "crowd.json", "few.json"], folder, before=limit_memory), 0,
+         b"client 1 start 0 %s\n" % digest + 10 * b"client 2 join\nclient 2 cut\n"
+         + b"released 1\nend 1 on 0 %s\nend 2 off\npipe 1 up" % digest + 10 * b" 127061" + b"\npipe 1 down\npipe 2 up\npipe 2 down\n")
     case("12,000 states in a pipe, in a gigabyte", run(["session", "crowd.json", "many.json"], folder, before=limit_memory), 9, b"")
 
 
@@ -370,8 +447,7 @@ def stored_states(folder):
     before = files(folder)
     line = b"state 1 106 8fe2300087879a3c47e3af011e612274\n"
     case("a state is stored", run(["state", "posts.json", "1", "s"], folder), 0, line)
-    held = (folder / "s").read_bytes() if (folder / "s").exists() else b""
-    case("its bytes are the worked ones", (0, held, b""), 0, STORED)
+    case("its bytes are the worked ones", (0, held(folder / "s"), b""), 0, STORED)
     case("a stored state is shown", run(["show", "posts.json", "s"], folder), 0, SHOWN)
     case("a stored state is played on", run(["resume", "posts.json", "s"], folder), 0, RESUMED_LINES)
     case("a state is stored in place of another", run(["state", "posts.json", "2", "s"], folder), 0,
@@ -382,7 +458,7 @@ def stored_states(folder):
     (folder / "other").write_bytes(STORED[:8] + b"\0" * 16 + STORED[24:])
     (folder / "hurt").write_bytes(STORED.replace(bytes.fromhex("0300000000003200"), bytes.fromhex("0300000000003100")))
     case("a turn that the match lacks", run(["state", "posts.json", "3", "t"], folder), 10, b"no turn 3 of 2\n")
-    case("and nothing is stored", (0, b"" if not (folder / "t").exists() else b"made", b""), 0, b"")
+    case("and nothing is stored", (0, held(folder / "t"), b""), 0, None)
     case("a place that is no folder", run(["state", "posts.json", "1", "none/t"], folder), 4, b"")
     case("a folder as the place", run(["state", "posts.json", "1", "folder"], folder), 4, b"")
     case("an empty stored state", run(["show", "posts.json", "nothing.json"], folder), 7, b"state refused 1 nothing.json\n")
@@ -395,13 +471,115 @@ def stored_states(folder):
     case("the second of two is refused", run(["compare", "posts.json", "s", "cut"], folder), 7, b"state refused 3 cut\n")
     with open("/dev/full", "wb") as full:
         case("a state is stored, and its line finds no room", run(["state", "posts.json", "1", "u"], folder, full), 4, None)
-    held = (folder / "u").read_bytes() if (folder / "u").exists() else b""
-    case("then its file is whole", (0, held, b""), 0, STORED)
+    case("then its file is whole", (0, held(folder / "u"), b""), 0, STORED)
     (folder / "over.json").write_bytes(POSTS)
     case("a match is read before its file is written over", run(["state", "over.json", "1", "over.json"], folder), 0, line)
-    case("then its file is the state", (0, (folder / "over.json").read_bytes(), b""), 0, STORED)
-    kept = {name: held for name, held in files(folder).items() if name in before}
+    case("then its file is the state", (0, held(folder / "over.json"), b""), 0, STORED)
+    kept = {name: content for name, content in files(folder).items() if name in before}
     case("no file but those that were stored has changed", (0, b"", b""), 0, b"" if kept == before else b"changed")
+
+
+def full_pipe():
+    """The two ends of a pipe that takes no more bytes, and in which a write does not wait for room."""
+    reader, writer = os.pipe()
+    os.set_blocking(writer, False)
+    try:
+        while True:
+            os.write(writer, bytes(4096))
+    except BlockingIOError:
+        return reader, writer
+
+
+def pieces(folder):
+    """A run whose match comes through a pipe, 50 bytes at a time."""
+    os.mkfifo(folder / "fifo")
+
+    def feed():
+        with open(folder / "fifo", "wb", buffering=0) as pipe:
+            for at in range(0, len(POSTS), 50):
+                pipe.write(POSTS[at:at + 50])
+                time.sleep(0.002)
+
+    threading.Thread(target=feed, daemon=True).start()
+    got = run(["play", "fifo"], folder)
+    (folder / "fifo").unlink()
+    return got
+
+
+def resumed(place, state, folder):
+    """What `resume` says of a state that is stored in a file of its own, which the text calls `it`."""
+    name = f"at-{place}-{state[place:place + 1].hex()}"
+    (folder / name).write_bytes(state)
+    status, text, error = run(["resume", "walk.json", name], folder)
+    (folder / name).unlink()
+    return status, text.replace(name.encode(), b"it"), error
+
+
+def code_of(place, state):
+    """The code of a state that is refused for its byte at a place: for what it is, for its match, or for what stands behind."""
+    if place < 8:
+        return 3 if (place, state[place]) == (4, 1) else 1
+    return 2 if place < 24 else 3
+
+
+def answer_of_change(place, state, folder):
+    """The status for a state that is changed at a place, or None where the answer is wrong. One that is loaded has the digest of
+    its bytes, since it is the state that they spell."""
+    status, text, error = resumed(place, state, folder)
+    if status == 0:
+        turn = int.from_bytes(state[24:28], "little")
+        good = place >= 24 and text.startswith(b"turn %d %s\n" % (turn, hashlib.md5(state).hexdigest().encode()))
+    else:
+        good = (status, text) == (7, b"state refused %d it\n" % code_of(place, state))
+    return status if good and not error else None
+
+
+def damaged_states(folder):
+    """Every cut of a stored state and every change of one of its bytes: refused with its code, or loaded as what it spells."""
+    (folder / "walk.json").write_bytes(WALK)
+    case("the state of a walker is stored", run(["state", "walk.json", "1", "w"], folder), 0, WALKING_LINE)
+    case("its bytes are the worked ones as well", (0, held(folder / "w"), b""), 0, WALKING)
+    cuts = [length for length in range(len(WALKING))
+            if resumed(length, WALKING[:length], folder) != (7, b"state refused %d it\n" % (1 if length < 24 else 3), b"")]
+    case("every cut of it is refused", (0, b"%d wrong" % len(cuts), b""), 0, b"0 wrong")
+    changes = [(place, WALKING[:place] + bytes([value]) + WALKING[place + 1:])
+               for place in range(len(WALKING)) for value in range(256) if value != WALKING[place]]
+    with concurrent.futures.ThreadPoolExecutor(os.cpu_count()) as pool:
+        answers = list(pool.map(lambda change: answer_of_change(*change, folder), changes))
+    counts = tuple(map(answers.count, (0, 7, None)))
+    case("every change of a byte of it", (0, b"%d loaded, %d refused, %d wrong" % counts, b""), 0,
+         b"6463 loaded, 26432 refused, 0 wrong")
+
+
+def limit_file(most):
+    """No file becomes longer than so many bytes: a write beyond that is one that fails."""
+    signal.signal(signal.SIGXFSZ, signal.SIG_IGN)
+    resource.setrlimit(resource.RLIMIT_FSIZE, (most, most))
+
+
+def cut_short(folder):
+    """A file and an output that take no more bytes, at each length: what they hold is a beginning, and nothing else is changed."""
+    stored, told = folder / "new", folder / "told"
+
+    def saved(most, old):
+        stored.unlink(missing_ok=True)
+        if old:
+            stored.write_bytes(old)
+        answer = run(["state", "walk.json", "1", "new"], folder, before=lambda: limit_file(most))
+        return answer == (4, b"", b"") and held(stored) == WALKING[:most]
+
+    def printed(most):
+        with open(told, "wb") as out:
+            answer = run(["play", "posts.json"], folder, out, lambda: limit_file(most))
+        return answer[0] == 4 and held(told) == POSTS_LINES[:most]
+
+    wrong = sum(not saved(most, old) for most in range(len(WALKING)) for old in (None, POSTS))
+    case("a state that is cut short at each length", (0, b"%d wrong" % wrong, b""), 0, b"0 wrong")
+    case("then the same words save it whole", run(["state", "walk.json", "1", "new"], folder), 0, WALKING_LINE)
+    kept = held(stored) == WALKING and held(folder / "walk.json") == WALK
+    case("and its match is as it was", (0, b"" if kept else b"changed", b""), 0, b"")
+    wrong = sum(not printed(most) for most in range(len(POSTS_LINES)))
+    case("a text that is cut short at each length", (0, b"%d wrong" % wrong, b""), 0, b"0 wrong")
 
 
 def main():
@@ -433,14 +611,18 @@ def main():
         case("a delay past its limit", run(["play", "late.json"], folder), 6, b"match refused 3 4\n")
         case("a file one byte too long", run(["play", "long.json"], folder), 5, b"")
         case("a file of the greatest length", run(["play", "full.json"], folder), 6, b"match refused 1 0\n")
-        status, text, error = run(["play", "padded.json"], folder)
-        case("a match of the greatest length", (status, b"%d lines" % text.count(b"\n"), error), 0, b"3 lines")
+        case("a match of the greatest length", run(["play", "padded.json"], folder), 0, PADDED_LINES)
         case("no words", run([], folder), 2, USAGE)
         case("an unknown word", run(["fly", "posts.json"], folder), 2, USAGE)
         case("a word too many", run(["play", "posts.json", "x"], folder), 2, USAGE)
         case("the program's own name is no word", run(["posts.json"], folder, name="play"), 2, USAGE)
         case("whatever that name is", run(["play", "posts.json"], folder, name=""), 0, POSTS_LINES)
         case("a word that is not UTF-8", run(["play", b"\xff\xfe"], folder), 2, USAGE)
+        (folder / "posts.json ").write_bytes(EMPTY)
+        case("a space behind a name is part of it", run(["play", "posts.json "], folder), 0, EMPTY_LINES)
+        case("a space before a name too", run(["play", " posts.json"], folder), 11, b"")
+        (folder / "posts.json ").unlink()
+        case("a match that comes in pieces", pieces(folder), 0, POSTS_LINES)
         with open("/dev/full", "wb") as full:
             case("a full standard output", run(["play", "posts.json"], folder, full), 4, None)
             case("a full standard output, and nothing to write", run(["play", "none.json"], folder, full), 11, None)
@@ -449,8 +631,14 @@ def main():
         os.close(reader)
         with os.fdopen(writer, "wb") as pipe:
             case("a pipe that nobody reads", run(["play", "posts.json"], folder, pipe), 4, None)
+        reader, writer = full_pipe()
+        case("a full pipe that does not block", run(["play", "posts.json"], folder, writer), 4, None)
+        os.close(reader)
+        os.close(writer)
         case("no file has changed", (0, b"", b""), 0, b"" if files(folder) == before else b"changed")
         stored_states(folder)
+        damaged_states(folder)
+        cut_short(folder)
         templates(folder)
         schedules(folder)
         raw_bytes(folder)

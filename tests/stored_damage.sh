@@ -5,9 +5,9 @@
 #
 # Usage: tests/stored_damage.sh [MATCH STATE]..
 #
-# Without words the states are those of some turns of the examples, which the built program stores, and one state of both versions
-# in tests/stored, whose answers were counted apart from the program. The exit status is 0 where no change was answered wrongly and
-# memory was there for each.
+# Without words the states are those of some turns of the examples, which the built program stores, and those of tests/stored: one of
+# both versions, and that of a walker on its way. Their answers were counted apart from the program. The exit status is 0 where no
+# change was answered wrongly and memory was there for each.
 set -eu
 top=$(dirname "$(dirname "$(realpath "$0")")")
 program=$top/crates/stored_damage/out/stored_damage
@@ -21,7 +21,7 @@ damage() {
 
 (cd "$top/crates/stored_damage" && rt run >/dev/null 2>&1) || exit 125
 if [ $# -eq 0 ]; then
-    (cd "$top/tests/stored" && "$program" fight.json version-1 version-2 | diff - answers) || failed=1
+    (cd "$top/tests/stored" && { "$program" fight.json version-1 version-2; "$program" walk.json walking; } | diff - answers) || failed=1
     folder=$(mktemp -d)
     trap 'rm -rf "$folder"' EXIT
     for name in two-posts inherited camp squads outposts handover; do

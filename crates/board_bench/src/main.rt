@@ -45,7 +45,7 @@ fn measure(rt: &HostRuntime) -> io::Result<()> {
         Ok(system) => system,
         Err(_) => return Ok(()),
     };
-    let range: Box<dyn System> = match Box::new(alloc, Range::new(alloc)) {
+    let range: Box<dyn System> = match Box::new(alloc, Range::looking(alloc)) {
         Ok(system) => system,
         Err(_) => return Ok(()),
     };

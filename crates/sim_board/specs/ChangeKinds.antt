@@ -1,6 +1,10 @@
 -- Changes that are made in one way or another.
+use Rattle.std.specs.Prelude.{◌≡◌, MatchOption}
+use Rattle.sim_base.specs.declared.state.Row.{Row}
+use Rattle.sim_base.specs.declared.state.State.{State}
 use Rattle.sim_base.specs.declared.change.Change.{Change}
 use Rattle.sim_base.specs.declared.change.Change.TheVariants as change
+use Rattle.sim_base.specs.Rows.{row_of, target_of}
 
 -- a motion, a health, the word and the turn are set without memory, and no system is told
 abbrev pub NeedsNoMemory : Change → Type 0
@@ -13,6 +17,18 @@ NeedsNoMemory (change.Remove id) = ⊥
 NeedsNoMemory (change.Create number p owner) = ⊥
 NeedsNoMemory (change.Word word) = Unit {0}
 NeedsNoMemory change.Tick = Unit {0}
+
+-- a row takes the target that it has: its cooldown is set, or whether it holds its place, and no system is told
+abbrev pub KeepsTarget : State → Change → Type 0
+KeepsTarget state (change.Move id p) = ⊥
+KeepsTarget state (change.Motion id motion) = ⊥
+KeepsTarget state (change.Attack id aim) = MatchOption (row_of state id) ⊥ (λ (row : Row). target_of row ≡ aim.target)
+KeepsTarget state (change.Health id health) = ⊥
+KeepsTarget state (change.Owner id owner) = ⊥
+KeepsTarget state (change.Remove id) = ⊥
+KeepsTarget state (change.Create number p owner) = ⊥
+KeepsTarget state (change.Word word) = ⊥
+KeepsTarget state change.Tick = ⊥
 
 -- no row leaves
 abbrev pub IsNoRemoval : Change → Type 0

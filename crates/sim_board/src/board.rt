@@ -6,7 +6,7 @@ ghost use Rattle.sim_base.specs.Validity.{IsValid};
 ghost use Rattle.sim_base.specs.Changes.{applied};
 ghost use Rattle.sim_base.specs.Turn.{first_state as first_state_of};
 ghost use Rattle.sim_plans.specs.Fits.{Fits};
-ghost use Rattle.sim_board.specs.ChangeKinds.{NeedsNoMemory};
+ghost use Rattle.sim_board.specs.ChangeKinds.{NeedsNoMemory, KeepsTarget};
 ghost use Rattle.sim_system.specs.Meanings.{HaveKinds, AreBuiltOnce, AreBuiltOnceAtMost};
 ghost use Rattle.sim_scene.specs.SceneWords.{Stands};
 ghost use Rattle.sim_board.specs.BoardWords.{setup_in, state_in, is_whole, rig_in, systems, IsWhole, AreKept};
@@ -62,7 +62,9 @@ impl<'a> Board<'a> {
         self.setup
     }
 
-    /// Whether its last change was made to its end. After a turn that found no memory this says nothing.
+    /// Whether its last start, adoption or change came to its end. Right after one of these calls, true tells that its clause
+    /// `whole` holds, since the clause `err` has it false where memory was wanting. A turn is many changes and more, and where it
+    /// found no memory this tells nothing of it.
     pub fn whole(&self) -> bool
         ensures { result ≡ is_whole self.now }
     {
@@ -114,6 +116,7 @@ impl<'a> Board<'a> {
         ensures whole { OnOk result (IsWhole self.new ⟦<dyn System as System>⟧) }
         ensures err { OnErr result (is_whole self.new ≡ false) }
         ensures sure { NeedsNoMemory change → IsOk result }
+        ensures untold { KeepsTarget (state_in self.old) change → IsOk result }
         ensures kept { AreKept (systems self.old ⟦<dyn System as System>⟧) (systems self.new ⟦<dyn System as System>⟧) }
         ensures setup { setup_in self.new ≡ setup_in self.old }
     {
@@ -130,6 +133,7 @@ impl<'a> Board<'a> {
         ensures whole { OnOk result (IsWhole self.new ⟦<dyn System as System>⟧) }
         ensures err { OnErr result (is_whole self.new ≡ false) }
         ensures sure { NeedsNoMemory change.old → IsOk result }
+        ensures untold { KeepsTarget (state_in self.old) change.old → IsOk result }
         ensures kept { AreKept (systems self.old ⟦<dyn System as System>⟧) (systems self.new ⟦<dyn System as System>⟧) }
         ensures setup { setup_in self.new ≡ setup_in self.old }
     {

@@ -9,7 +9,7 @@ ghost use Rattle.sim_base.specs.Rows.{id_of};
 ghost use Rattle.sim_plans.specs.Fits.{Fits};
 ghost use Rattle.sim_board.specs.Letting.{left_by};
 ghost use Rattle.sim_base.specs.declared.setup.Setup.{Setup as SetupOf};
-ghost use Rattle.sim_board.specs.ChangeKinds.{NeedsNoMemory, IsNoRemoval, IsNoCreation};
+ghost use Rattle.sim_board.specs.ChangeKinds.{IsNoRemoval, IsNoCreation};
 
 use crate::edit::{
     add_row, release_rows, set_at, set_attack, set_health, set_motion, set_owner, take_row,
@@ -30,7 +30,7 @@ pub fn make(
     requires fits { Fits setup.now state.old change.old }
     requires stays { IsNoRemoval change.old }
     ensures applied { OnOk result (state.new ≡ applied setup.now state.old change.old) }
-    ensures sure { NeedsNoMemory change.old → IsOk result }
+    ensures sure { IsNoCreation change.old → IsOk result }
 {
     if let Change::Create {
         template,

@@ -1,13 +1,13 @@
 //! A board over a list of changes: whatever is applied after a start or an adoption, its scene stands.
 
-ghost use Rattle.std.specs.Prelude.{◌≡◌, OnOk};
+ghost use Rattle.std.specs.Prelude.{◌≡◌, false, OnOk, OnErr};
 ghost use Rattle.sim_base.specs.Limits.{IsSetup};
 ghost use Rattle.sim_base.specs.Validity.{IsValid};
 ghost use Rattle.sim_base.specs.Changes.{applied_all};
 ghost use Rattle.sim_base.specs.Turn.{first_state};
 ghost use Rattle.sim_plans.specs.Fits.{AllFit};
 ghost use Rattle.sim_system.specs.Meanings.{HaveKinds, AreBuiltOnce, AreBuiltOnceAtMost};
-ghost use Rattle.sim_board.specs.BoardWords.{setup_in, state_in, systems, IsWhole, AreKept};
+ghost use Rattle.sim_board.specs.BoardWords.{setup_in, state_in, is_whole, systems, IsWhole, AreKept};
 
 use crate::board::Board;
 use sim_base::{Changes, OutOfMemory, State};
@@ -19,6 +19,7 @@ pub fn apply_all(board: &mut Board<'_>, changes: Changes) -> Result<(), OutOfMem
     requires fit { AllFit (setup_in board.old) (state_in board.old) changes }
     ensures state { OnOk result (state_in board.new ≡ applied_all (setup_in board.old) (state_in board.old) changes) }
     ensures whole { OnOk result (IsWhole board.new ⟦<dyn System as System>⟧) }
+    ensures err { OnErr result (is_whole board.new ≡ false) }
     ensures kept { AreKept (systems board.old ⟦<dyn System as System>⟧) (systems board.new ⟦<dyn System as System>⟧) }
     ensures setup { setup_in board.new ≡ setup_in board.old }
 {
@@ -36,6 +37,7 @@ pub fn start_and_apply(board: &mut Board<'_>, changes: Changes) -> Result<(), Ou
     requires fit { AllFit (setup_in board.old) (first_state (setup_in board.old)) changes }
     ensures state { OnOk result (state_in board.new ≡ applied_all (setup_in board.old) (first_state (setup_in board.old)) changes) }
     ensures whole { OnOk result (IsWhole board.new ⟦<dyn System as System>⟧) }
+    ensures err { OnErr result (is_whole board.new ≡ false) }
     ensures once { OnOk result (AreBuiltOnce (systems board.old ⟦<dyn System as System>⟧) (systems board.new ⟦<dyn System as System>⟧)) }
     ensures most { AreBuiltOnceAtMost (systems board.old ⟦<dyn System as System>⟧) (systems board.new ⟦<dyn System as System>⟧) }
     ensures kinds { HaveKinds (systems board.new ⟦<dyn System as System>⟧) }
@@ -57,6 +59,7 @@ pub fn adopt_and_apply(
     requires fit { AllFit (setup_in board.old) state changes }
     ensures state { OnOk result (state_in board.new ≡ applied_all (setup_in board.old) state changes) }
     ensures whole { OnOk result (IsWhole board.new ⟦<dyn System as System>⟧) }
+    ensures err { OnErr result (is_whole board.new ≡ false) }
     ensures once { OnOk result (AreBuiltOnce (systems board.old ⟦<dyn System as System>⟧) (systems board.new ⟦<dyn System as System>⟧)) }
     ensures most { AreBuiltOnceAtMost (systems board.old ⟦<dyn System as System>⟧) (systems board.new ⟦<dyn System as System>⟧) }
     ensures kinds { HaveKinds (systems board.new ⟦<dyn System as System>⟧) }

@@ -6,7 +6,7 @@ ghost use Rattle.sim_base.specs.declared.change.Change.TheVariants as change;
 ghost use Rattle.sim_base.specs.Filters.{watchers as watchers_of};
 ghost use Rattle.sim_base.specs.Changes.{applied};
 ghost use Rattle.sim_plans.specs.Fits.{Fits};
-ghost use Rattle.sim_board.specs.ChangeKinds.{NeedsNoMemory, IsNoRemoval};
+ghost use Rattle.sim_board.specs.ChangeKinds.{NeedsNoMemory, KeepsTarget, IsNoRemoval};
 ghost use Rattle.sim_system.specs.Meanings.{AreFed};
 ghost use Rattle.sim_system.specs.RigWords.{systems_of};
 ghost use Rattle.sim_scene.specs.SceneWords.{IsStanding};
@@ -52,6 +52,7 @@ fn aimed(
     requires stands { IsStanding setup.now state.now (systems_of rig.old ⟦<dyn System as System>⟧) }
     requires fits { Fits setup.now state.now (change.Attack id aim) }
     ensures fed { OnOk result (AreFed setup.now (applied setup.now state.now (change.Attack id aim)) (systems_of rig.new ⟦<dyn System as System>⟧)) }
+    ensures untold { KeepsTarget state.now (change.Attack id aim) → IsOk result }
     ensures kept { AreKept (systems_of rig.old ⟦<dyn System as System>⟧) (systems_of rig.new ⟦<dyn System as System>⟧) }
 {
     let row = living(state, id, near);
@@ -183,6 +184,7 @@ pub fn post(
     requires stays { IsNoRemoval change.now }
     ensures fed { OnOk result (AreFed setup.now (applied setup.now state.now change.now) (systems_of rig.new ⟦<dyn System as System>⟧)) }
     ensures sure { NeedsNoMemory change.now → IsOk result }
+    ensures untold { KeepsTarget state.now change.now → IsOk result }
     ensures kept { AreKept (systems_of rig.old ⟦<dyn System as System>⟧) (systems_of rig.new ⟦<dyn System as System>⟧) }
 {
     match change {

@@ -8,7 +8,7 @@ ghost use Rattle.sim_plans.specs.Fits.{Fits};
 ghost use Rattle.sim_system.specs.RigWords.{systems_of};
 ghost use Rattle.sim_scene.specs.SceneWords.{IsStanding};
 ghost use Rattle.sim_board.specs.BoardWords.{AreKept};
-ghost use Rattle.sim_board.specs.ChangeKinds.{NeedsNoMemory, IsNoRemoval};
+ghost use Rattle.sim_board.specs.ChangeKinds.{NeedsNoMemory, KeepsTarget, IsNoRemoval};
 
 use crate::change::{make, remove};
 use crate::near::place_for;
@@ -32,6 +32,7 @@ fn change_row(
     ensures state { OnOk result (state.new ≡ applied setup.now state.old change.old) }
     ensures stands { OnOk result (IsStanding setup.now state.new (systems_of rig.new ⟦<dyn System as System>⟧)) }
     ensures sure { NeedsNoMemory change.old → IsOk result }
+    ensures untold { KeepsTarget state.old change.old → IsOk result }
     ensures kept { AreKept (systems_of rig.old ⟦<dyn System as System>⟧) (systems_of rig.new ⟦<dyn System as System>⟧) }
 {
     post(setup, state, rig, change, near)?;
@@ -73,6 +74,7 @@ pub fn step(
     ensures state { OnOk result (state.new ≡ applied setup.now state.old change.old) }
     ensures stands { OnOk result (IsStanding setup.now state.new (systems_of rig.new ⟦<dyn System as System>⟧)) }
     ensures sure { NeedsNoMemory change.old → IsOk result }
+    ensures untold { KeepsTarget state.old change.old → IsOk result }
     ensures kept { AreKept (systems_of rig.old ⟦<dyn System as System>⟧) (systems_of rig.new ⟦<dyn System as System>⟧) }
 {
     *near = place_for(state.rows.as_slice(), change, *near);

@@ -92,6 +92,15 @@ LoadsFrom setup (down.Release turn) loaded = Unit {0}
 LoadsFrom setup (down.Notice turn client) loaded = Unit {0}
 LoadsFrom setup (down.Refused code) loaded = Unit {0}
 
+-- a message has bytes in place of those of a state
+abbrev pub HasNoState : Setup → Told → Type 0
+HasNoState setup (down.Ask client) = ⊥
+HasNoState setup (down.State done bytes) = LoadsAt setup bytes None
+HasNoState setup (down.Command turn order) = ⊥
+HasNoState setup (down.Release turn) = ⊥
+HasNoState setup (down.Notice turn client) = ⊥
+HasNoState setup (down.Refused code) = ⊥
+
 -- a state is heard by a client that waits for one
 abbrev pub may_load : Life → Told → Bool
 may_load Off said = false

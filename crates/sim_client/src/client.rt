@@ -106,12 +106,12 @@ impl<'a> Client<'a> {
         Ok(Did::Done { up })
     }
 
-    /// Gives a command, for the turn behind those that it is done with.
-    pub fn order(&mut self, command: Command) -> Result<Did, OutOfMemory>
+    /// Gives a command, for the turn behind those that it is done with. It is copied only where it may be given.
+    pub fn order(&mut self, command: &Command) -> Result<Did, OutOfMemory>
         requires sound { IsSound self.old ⟦<dyn System as System>⟧ }
-        requires few { HasFewIds command }
-        ensures answers { Answers (orders_by (setup_in self.old) command (life self.old)) (life self.old) result (life self.new) }
-        ensures idle { orders_by (setup_in self.old) command (life self.old) ≡ None → IsOk result }
+        requires few { HasFewIds command.now }
+        ensures answers { Answers (orders_by (setup_in self.old) command.now (life self.old)) (life self.old) result (life self.new) }
+        ensures idle { orders_by (setup_in self.old) command.now (life self.old) ≡ None → IsOk result }
         ensures sound { OnOk result (IsSound self.new ⟦<dyn System as System>⟧) }
         ensures kept { AreKept (systems self.old ⟦<dyn System as System>⟧) (systems self.new ⟦<dyn System as System>⟧) }
         ensures setup { setup_in self.new ≡ setup_in self.old }

@@ -52,10 +52,10 @@ pub fn order(
     alloc: Global,
     setup: &Setup,
     seat: &mut Seat,
-    command: Command,
+    command: &Command,
 ) -> Result<Did, OutOfMemory>
     requires { IsSetup setup.now }
-    ensures answers { (state : AnyState) → let old = On (player_at state seat.old) in Answers (orders_by setup.now command old) old result (On (player_at state seat.new)) }
+    ensures answers { (state : AnyState) → let old = On (player_at state seat.old) in Answers (orders_by setup.now command.now old) old result (On (player_at state seat.new)) }
     ensures idle { (nat_lt seat.old.done setup.now.turns && nat_lt seat.old.orders 64) ≡ false → IsOk result }
     ensures known { seat.new.known ≡ seat.old.known }
 {
@@ -63,6 +63,7 @@ pub fn order(
         return Ok(Did::Idle);
     }
     let turn = seat.done + 1;
+    let command = command.copy()?;
     let up = one(alloc, Up::Command { turn, command })?;
     seat.orders += 1;
     Ok(Did::Done { up })

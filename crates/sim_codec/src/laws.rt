@@ -1,24 +1,22 @@
-//! Theorems about the definitions, each the contract of a function that does nothing; and that what one call spells is
-//! loaded by the other, which is the contract of a function that makes both calls.
+//! Theorems about the definitions, each the contract of a function that does nothing; and that what is spelled is taken,
+//! which is the contract of a function that asks.
 
-ghost use Rattle.std.specs.Prelude.{◌≡◌, ◌↔◌, ◌<◌, ◌^◌, ℕ, List, length, drop, All, Some, None};
+ghost use Rattle.std.specs.Prelude.{◌≡◌, ◌↔◌, ◌<◌, ◌^◌, ℕ, List, length, drop, All, IsOk, Some, None};
 ghost use Rattle.sim_base.specs.declared.setup.Setup.{Setup};
 ghost use Rattle.sim_base.specs.declared.state.State.{State};
 ghost use Rattle.sim_base.specs.Limits.{IsSetup};
 ghost use Rattle.sim_base.specs.Spelling.{spelling, old_spelling, quick_bytes};
 ghost use Rattle.sim_base.specs.Validity.{IsState, IsValid};
 ghost use Rattle.sim_sections.specs.Rows.{HasShortWay};
-ghost use Rattle.sim_codec.specs.Loading.{head_fault, StandsFor, Loads};
+ghost use Rattle.sim_codec.specs.Loading.{head_fault, StandsFor};
 ghost use Rattle.sim_codec.specs.Quick.{HaveSamePlaces};
 ghost use Rattle.sim_codec.specs.Reading.{state_at};
 ghost use Rattle.sim_codec.specs.Versions.{HoldsNone};
 ghost use Rattle.sim_sections.specs.declared.version.Version.TheVariants.{One, Two};
 
 use crate::fault::StateFault;
-use crate::loading::load;
-use crate::spelling::spell;
-use sim_base::{Setup, State};
-use std::alloc::Global;
+use crate::loading::stands;
+use sim_base::Setup;
 
 /// In a state that is valid, or valid but for healths of 0, no way is too long to be told and the rows can be counted:
 /// with the least health 1 or 0, this is what a spelling and a digest ask for.
@@ -48,28 +46,12 @@ pub fn quick_bytes_are_of_places()
     ensures { (setup : Setup) (s t : State) → IsSetup setup → IsValid setup s → IsValid setup t → (quick_bytes s ≡ quick_bytes t) ↔ HaveSamePlaces s t }
 {}
 
-/// A valid state that is spelled is loaded as it was, or memory is refused.
-pub fn a_spelled_state_is_loaded(
-    alloc: Global,
-    setup: &Setup,
-    state: &State,
-) -> Result<State, StateFault>
-    requires setup { IsSetup setup.now }
-    requires valid { IsValid setup.now state.now }
-    ensures { Loads state.now result }
-{
-    let bytes = spell(alloc, setup, state)?;
-    load(alloc, setup, &bytes)
-}
-
-/// What spells a valid state by version 1, no row of which holds its place, is loaded as that state, or memory is refused.
-pub fn an_old_spelling_is_loaded(
-    alloc: Global,
-    setup: &Setup,
-    bytes: &[u8],
-) -> Result<State, StateFault>
+/// What spells a valid state is taken as a stored state, by version 1 where no row of it holds its place. It takes no memory
+/// to say so; `load` takes what the state needs, and then gives that state.
+pub fn a_spelling_is_taken(setup: &Setup, bytes: &[u8]) -> Result<(), StateFault>
     requires { IsSetup setup.now }
-    ensures { (state : State) → IsValid setup.now state → HoldsNone state.rows → bytes.now ≡ old_spelling setup.now state → Loads state result }
+    ensures new { (state : State) → IsValid setup.now state → bytes.now ≡ spelling setup.now state → IsOk result }
+    ensures old { (state : State) → IsValid setup.now state → HoldsNone state.rows → bytes.now ≡ old_spelling setup.now state → IsOk result }
 {
-    load(alloc, setup, bytes)
+    stands(setup, bytes)
 }

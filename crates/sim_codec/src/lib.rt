@@ -48,7 +48,7 @@
 //! - `reading`, `loading`: the state in memory, and the state that bytes stand for.
 //! - `bits`: the bytes of one entity in one section.
 //! - `laws`: theorems about the definitions, each the contract of a function that does nothing, and that what is spelled
-//!   is loaded.
+//!   is taken.
 #![tactic(auto)]
 
 mod bits;
@@ -68,8 +68,8 @@ mod validity;
 pub use bits::{Bits, Part, bits_of};
 pub use fault::StateFault;
 pub use laws::{
-    a_spelled_state_is_loaded, an_old_spelling_is_loaded, bytes_stand_for_one_state,
-    quick_bytes_are_of_places, spellings_are_read_back, states_can_be_told,
+    a_spelling_is_taken, bytes_stand_for_one_state, quick_bytes_are_of_places,
+    spellings_are_read_back, states_can_be_told,
 };
 pub use loading::{load, stands};
 pub use report::{FULL_EACH, is_full_turn, mark, quick};

@@ -5,4 +5,5 @@ pub mod Schedules
 pub mod Steps
 pub mod StepLists
 pub mod Meets
+pub mod Early
 pub mod Laws

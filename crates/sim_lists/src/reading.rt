@@ -4,7 +4,10 @@ ghost use Rattle.std.specs.Prelude.{◌≡◌, ◌≤◌, false, map, option_map
 ghost use Rattle.std.specs.Str.{is_utf8};
 ghost use Rattle.serde_json.specs.View.{view};
 ghost use Rattle.sim_json.specs.Values.{list_at as list_at_key};
+ghost use Rattle.sim_lists.specs.Early.{early_items, early_schedule, early_schedule_within};
 ghost use Rattle.sim_lists.specs.Meets.{Meets};
+ghost use Rattle.sim_lists.specs.Arrivals.{arrival_of as arrival_of_data};
+ghost use Rattle.sim_lists.specs.Taking.{arrival_takes};
 ghost use Rattle.sim_lists.specs.Schedules.{few as few_of, arrivals_from as arrivals_from_data, schedule_within as schedule_within_data, schedule_in as schedule_in_data, schedule_of as schedule_of_bytes, IsFromClient, IsSchedule};
 
 use crate::arrivals::arrival_of;
@@ -37,6 +40,7 @@ pub fn schedule_of(alloc: Global, bytes: &[u8]) -> Result<Schedule, ListFault>
 fn schedule_in(alloc: Global, value: &Value) -> Result<Schedule, ListFault>
     ensures meets { Meets result (schedule_in_data (view value.now)) }
     ensures limits { IfOk result IsSchedule }
+    ensures early { IfSome (early_schedule (view value.now)) (λ index. result ≡ Err (ListFault.Refused index)) }
 {
     if other_key(value, &KEYS) {
         return Err(NO_LIST);
@@ -47,6 +51,7 @@ fn schedule_in(alloc: Global, value: &Value) -> Result<Schedule, ListFault>
 fn schedule_within(alloc: Global, value: &Value) -> Result<Schedule, ListFault>
     ensures meets { Meets result (schedule_within_data (view value.now)) }
     ensures limits { IfOk result IsSchedule }
+    ensures early { IfSome (early_schedule_within (view value.now)) (λ index. result ≡ Err (ListFault.Refused index)) }
 {
     let Some(clients) = natural_at(value, 1, 8, "clients") else {
         return Err(NO_LIST);
@@ -89,6 +94,7 @@ pub(crate) fn few<'v>(value: &'v Value, key: &str) -> Option<&'v [Value]>
 fn arrivals_from(alloc: Global, clients: u8, items: &[Value]) -> Result<Arrivals, ListFault>
     ensures meets { Meets result (arrivals_from_data clients (map view items.now)) }
     ensures clients { IfOk result (λ arrivals. All (IsFromClient clients) arrivals) }
+    ensures early { IfSome (early_items (arrival_of_data clients) (arrival_takes clients) (map view items.now)) (λ index. result ≡ Err (ListFault.Refused index)) }
 {
     let mut found = Vec::new(alloc);
     let mut rest = items;

@@ -1,9 +1,12 @@
 //! The whole list of steps: the object and its number of clients first, then each step.
 
-ghost use Rattle.std.specs.Prelude.{◌≡◌, false, map, All, IfOk};
+ghost use Rattle.std.specs.Prelude.{◌≡◌, false, map, All, IfOk, IfSome};
 ghost use Rattle.std.specs.Str.{is_utf8};
 ghost use Rattle.serde_json.specs.View.{view};
+ghost use Rattle.sim_lists.specs.Early.{early_items, early_steps, early_steps_within};
 ghost use Rattle.sim_lists.specs.Meets.{Meets};
+ghost use Rattle.sim_lists.specs.Steps.{step_of as step_of_data};
+ghost use Rattle.sim_lists.specs.Taking.{step_takes};
 ghost use Rattle.sim_lists.specs.StepLists.{steps_from as steps_from_data, steps_within as steps_within_data, steps_in as steps_in_data, steps_of as steps_of_bytes, IsStep, IsStepList};
 
 use crate::fault::{ListFault, refused};
@@ -32,6 +35,7 @@ pub fn steps_of(alloc: Global, bytes: &[u8], players: u8) -> Result<StepList, Li
 fn steps_in(alloc: Global, value: &Value, players: u8) -> Result<StepList, ListFault>
     ensures meets { Meets result (steps_in_data players (view value.now)) }
     ensures limits { IfOk result (IsStepList players) }
+    ensures early { IfSome (early_steps players (view value.now)) (λ index. result ≡ Err (ListFault.Refused index)) }
 {
     if other_key(value, &KEYS) {
         return Err(NO_LIST);
@@ -42,6 +46,7 @@ fn steps_in(alloc: Global, value: &Value, players: u8) -> Result<StepList, ListF
 fn steps_within(alloc: Global, value: &Value, players: u8) -> Result<StepList, ListFault>
     ensures meets { Meets result (steps_within_data players (view value.now)) }
     ensures limits { IfOk result (IsStepList players) }
+    ensures early { IfSome (early_steps_within players (view value.now)) (λ index. result ≡ Err (ListFault.Refused index)) }
 {
     let Some(clients) = natural_at(value, 1, u64::from(players), "clients") else {
         return Err(NO_LIST);
@@ -57,6 +62,7 @@ fn steps_within(alloc: Global, value: &Value, players: u8) -> Result<StepList, L
 fn steps_from(alloc: Global, players: u8, items: &[Value]) -> Result<Steps, ListFault>
     ensures meets { Meets result (steps_from_data players (map view items.now)) }
     ensures limits { IfOk result (λ steps. All (IsStep players) steps) }
+    ensures early { IfSome (early_items (step_of_data players) (step_takes players) (map view items.now)) (λ index. result ≡ Err (ListFault.Refused index)) }
 {
     let mut found = Vec::new(alloc);
     let mut rest = items;

@@ -1,5 +1,5 @@
 -- How the code speaks of rows that move.
-use Rattle.std.specs.Prelude.{ℕ, [], false, Option, Some, None}
+use Rattle.std.specs.Prelude.{◌≡◌, ◌⊎◌, ℕ, Bool, true, false, List, [], Option, Some, None}
 use Rattle.sim_base.specs.declared.place.Point.{Point}
 use Rattle.sim_base.specs.declared.setup.Setup.{Setup}
 use Rattle.sim_base.specs.declared.state.Motion.{Motion}
@@ -7,7 +7,7 @@ use Rattle.sim_base.specs.declared.state.Motion.TheVariants.{Still, Going}
 use Rattle.sim_base.specs.declared.state.Row.{Row}
 use Rattle.sim_base.specs.Validity.{IsInside}
 use Rattle.sim_base.specs.Ways as ways
-use Rattle.sim_base.specs.Move.{along_found}
+use Rattle.sim_base.specs.Move.{walked, along_found}
 use Rattle.sim_system.specs.declared.Way.{Way}
 use Rattle.sim_motion.specs.declared.chase.Chase.{Chase}
 use Rattle.sim_motion.specs.declared.chase.Chase.TheVariants.{Stay, Keep, Go}
@@ -41,3 +41,12 @@ abbrev pub LeadsInside : Setup → Chase → Type 0
 LeadsInside setup Stay = Unit {0}
 LeadsInside setup Keep = Unit {0}
 LeadsInside setup (Go p) = IsInside setup p
+
+-- no list of waypoints is made of a way of which these are left: none of them was reached, or a whole way is at its end
+abbrev pub MakesNoWay : Bool → List Point → List Point → Type 0
+MakesNoWay whole way left = ((left ≡ way) × (way ≡ [] → ⊥)) ⊎ ((left ≡ []) × (whole ≡ true))
+
+-- a row that moves so from this point takes no memory: it stands still, or goes along its way and makes none
+abbrev pub NeedsNoMemory : Point → ℕ → Motion → Type 0
+NeedsNoMemory p budget Still = Unit {0}
+NeedsNoMemory p budget (Going goal way whole) = MakesNoWay whole way (walked p budget way).way

@@ -1,15 +1,15 @@
 //! Where a row comes to, and how it goes on.
 
-ghost use Rattle.std.specs.Prelude.{◌≡◌, All, IfOk, IsTrue, Some};
+ghost use Rattle.std.specs.Prelude.{◌≡◌, true, [], All, IfOk, IsOk, IsTrue, Some};
 ghost use Rattle.sim_base.specs.declared.state.Motion.TheVariants.{Still, Going};
 ghost use Rattle.sim_base.specs.Places.{IsPlaced, is_inside};
 ghost use Rattle.sim_base.specs.Rows.{row_of, size_of, target_of as target_by, arms_of as arms_by};
 ghost use Rattle.sim_base.specs.Filters.{field_of};
 ghost use Rattle.sim_base.specs.Validity.{IsKnownRow};
 ghost use Rattle.sim_base.specs.WayOf.{way_of};
-ghost use Rattle.sim_base.specs.Move.{chasing, moved_by, along as along_by, after_walk as after_walk_by};
+ghost use Rattle.sim_base.specs.Move.{chasing, moved_by, walked, along as along_by, after_walk as after_walk_by};
 ghost use Rattle.sim_scene.specs.SceneWords.{Stands};
-ghost use Rattle.sim_motion.specs.Moves.{way_in, row_moved, along_way};
+ghost use Rattle.sim_motion.specs.Moves.{way_in, row_moved, along_way, MakesNoWay, NeedsNoMemory};
 
 use crate::chase::{Chase, chase_of};
 use crate::walk::walk;
@@ -38,7 +38,8 @@ pub fn move_of(
     requires stands { Stands scene.now ⟦<dyn System as System>⟧ }
     requires row { IsKnownRow 0 scene.now.setup.now scene.now.state.now.rows row.now }
     requires motion { row.now.motion ≡ Some motion.now }
-    ensures { IfOk result (λ new. row_moved row.now new ≡ moved_by scene.now.setup.now scene.now.state.now row.now budget (chasing row.now motion.now (row_of scene.now.state.now (target_by row.now)) (arms_by scene.now.setup.now row.now))) }
+    ensures value { IfOk result (λ new. row_moved row.now new ≡ moved_by scene.now.setup.now scene.now.state.now row.now budget (chasing row.now motion.now (row_of scene.now.state.now (target_by row.now)) (arms_by scene.now.setup.now row.now))) }
+    ensures light { NeedsNoMemory row.now.at budget (chasing row.now motion.now (row_of scene.now.state.now (target_by row.now)) (arms_by scene.now.setup.now row.now)) → IsOk result }
 {
     match chase_of(index, scene.setup, scene.state, row, motion) {
         Chase::Stay => Ok(stay(row)),
@@ -117,7 +118,8 @@ fn go_on(
     requires at { IsPlaced row.now.at }
     requires way { All IsPlaced way.now }
     requires motion { row.now.motion ≡ Some (Going goal.now way.now whole) }
-    ensures { IfOk result (λ new. row_moved row.now new ≡ along_by row.now budget goal.now way.now whole) }
+    ensures value { IfOk result (λ new. row_moved row.now new ≡ along_by row.now budget goal.now way.now whole) }
+    ensures light { MakesNoWay whole way.now (walked row.now.at budget way.now).way → IsOk result }
 {
     let (at, left) = walk(&row.at, budget, way);
     if !left.is_empty() && left.len() == way.len() {
@@ -158,7 +160,8 @@ fn after_walk(
     left: &[Point],
     whole: bool,
 ) -> Result<Motion, OutOfMemory>
-    ensures { IfOk result (λ motion. motion ≡ after_walk_by goal.now whole left.now) }
+    ensures value { IfOk result (λ motion. motion ≡ after_walk_by goal.now whole left.now) }
+    ensures light { whole ≡ true → left.now ≡ [] → IsOk result }
 {
     if whole && left.is_empty() {
         return Ok(Motion::Still);

@@ -1,6 +1,6 @@
 //! The changes of the phase in which rows move.
 
-ghost use Rattle.std.specs.Prelude.{◌≡◌, ◌++◌, IfOk, OnOk, IsSome, Some};
+ghost use Rattle.std.specs.Prelude.{◌≡◌, ◌++◌, [], IfOk, OnOk, IsOk, IsSome, None, Some};
 ghost use Rattle.std.specs.Result.{ForOk};
 ghost use Rattle.sim_base.specs.Move.{moved};
 ghost use Rattle.sim_base.specs.Validity.{IsKnownRow};
@@ -49,7 +49,8 @@ fn push_move(
 ) -> Result<(), OutOfMemory>
     requires stands { Stands scene.now ⟦<dyn System as System>⟧ }
     requires row { IsKnownRow 0 scene.now.setup.now scene.now.state.now.rows row.now }
-    ensures { OnOk result (changes.new ≡ changes.old ++ move_changes_of scene.now.setup.now scene.now.state.now row.now) }
+    ensures value { OnOk result (changes.new ≡ changes.old ++ move_changes_of scene.now.setup.now scene.now.state.now row.now) }
+    ensures light { row.now.motion ≡ None → IsOk result }
 {
     let Some(motion) = &row.motion else {
         return Ok(());
@@ -65,7 +66,8 @@ fn push_move(
 // The row comes to its new place, if it is another, and goes on.
 fn push_step(changes: &mut Changes, row: &Row, new: Moved) -> Result<(), OutOfMemory>
     requires { IsSome row.now.motion }
-    ensures { OnOk result (changes.new ≡ changes.old ++ step_changes row.now (row_moved row.now new)) }
+    ensures value { OnOk result (changes.new ≡ changes.old ++ step_changes row.now (row_moved row.now new)) }
+    ensures light { step_changes row.now (row_moved row.now new) ≡ [] → IsOk result }
 {
     let Moved { at, motion } = new;
     if !same_point(&row.at, &at) {
@@ -77,7 +79,8 @@ fn push_step(changes: &mut Changes, row: &Row, new: Moved) -> Result<(), OutOfMe
 // The row's motion becomes another one, if it is one.
 fn push_motion(changes: &mut Changes, row: &Row, motion: Option<Motion>) -> Result<(), OutOfMemory>
     requires { IsSome row.now.motion }
-    ensures { OnOk result (changes.new ≡ changes.old ++ motion_changes_by row.now.id row.now.motion (motion_or motion row.now.motion)) }
+    ensures value { OnOk result (changes.new ≡ changes.old ++ motion_changes_by row.now.id row.now.motion (motion_or motion row.now.motion)) }
+    ensures light { motion_changes_by row.now.id row.now.motion (motion_or motion row.now.motion) ≡ [] → IsOk result }
 {
     match motion {
         Some(motion) if !goes_on(&row.motion, &motion) => {

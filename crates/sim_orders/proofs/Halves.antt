@@ -1,10 +1,11 @@
--- Ids that ascend are searched by halves, and sorted ids name the same rows.
-use Rattle.std.proofs.Common.{◌≡◌, ℕ, ◌<◌, ◌≤◌, List, length, get_or, Result, Ok, Err, inl, inr, sym, ap, ◌∙◌, arith}
+-- Ids that ascend are searched at once or by halves, and sorted ids name the same rows.
+use Rattle.std.proofs.Common.{◌≡◌, ℕ, ◌<◌, ◌≤◌, List, length, get_or, false, true, Result, Ok, Err, inl, inr, sym, ap, ◌∙◌, ◌-◌, Some, arith}
 use Rattle.std.specs.Prelude.{◌==◌, ◌&&◌, is_ok}
-use Rattle.std.specs.List.{list_any}
+use Rattle.std.specs.List.{list_any, slice_get}
 use Rattle.std.specs.List.Sorted.{IsNonDecreasing, IsPermutation, IsBinarySearchResult}
 use Rattle.std.specs.Ordering.{nat_cmp}
 use Rattle.std.proofs.lemmas.Bool.{eq-eqb, ne_eqb, cases_lt}
+use Rattle.std.proofs.lemmas.Option.{get_or_from_slice_get}
 use Rattle.std.proofs.lemmas.List.{get_or_default}
 use Rattle.std.proofs.lemmas.List.Folds.{list_any_at, list_any_none}
 use Rattle.std.proofs.lemmas.List.Sorted.{searched, list_any-IsPermutation}
@@ -24,6 +25,18 @@ named_by_halves ids id (Err i) up search_is =
       | inl less ↦ omega (arith, before k less, e)
       | inr more ↦ omega (arith, after k more lt, e)
     ]
+
+-- ids none of which is this one do not name it
+none_named : (ids : List ℕ) (id : ℕ) → ((k : ℕ) → k < length ids → get_or ids k 0 ≡ id → ⊥) → list_any (λ n. n == id) ids ≡ false
+none_named ids id other = list_any_none (λ n. n == id) ids (λ k d lt. ap (λ n. n == id) (get_or_default ids k d 0 lt) ∙ ne_eqb (get_or ids k 0) id (other k lt))
+
+-- none below the first is named
+pub none_below : (ids : List ℕ) (id first : ℕ) → IsNonDecreasing ids → slice_get ids 0 ≡ Some first → id < first → list_any (λ n. n == id) ids ≡ false
+none_below ids id first up first_is below = none_named ids id (λ k lt e. omega (arith, up 0 k 0 (omega arith) lt, get_or_from_slice_get ids 0 first 0 first_is, e, below))
+
+-- none above the last is named
+pub none_above : (ids : List ℕ) (id last : ℕ) → IsNonDecreasing ids → slice_get ids (length ids - 1) ≡ Some last → last < id → list_any (λ n. n == id) ids ≡ false
+none_above ids id last up last_is above = none_named ids id (λ k lt e. omega (arith, up k (length ids - 1) 0 (omega (arith, lt)) (omega (arith, lt)), get_or_from_slice_get ids (length ids - 1) last 0 last_is, e, above))
 
 -- a row is ordered by sorted ids where it is ordered by the ids
 pub sorted_order : (player : ℕ) (ids sorted : List ℕ) → IsPermutation ids sorted → is_ordered player sorted ≡ is_ordered player ids

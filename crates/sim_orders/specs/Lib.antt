@@ -1,3 +1,4 @@
 pub mod Helps
 pub mod Orders
+pub mod Light
 pub mod OneProof

@@ -1,13 +1,14 @@
 //! The help of a command, made by asking a scene. It is asked for the count always, for a free rectangle where the command
 //! places a known template that is an obstruction at a point inside, and for a spot where a building that is alive trains.
 
-ghost use Rattle.std.specs.Prelude.{◌≡◌, IfOk, slice_get, IsTrue};
+ghost use Rattle.std.specs.Prelude.{◌≡◌, IfOk, IsOk, slice_get, IsTrue};
 ghost use Rattle.sim_base.specs.Filters.{population as population_by, is_free_rect, spot as spot_by};
 ghost use Rattle.sim_base.specs.Places.{is_inside as is_inside_by};
 ghost use Rattle.sim_base.specs.Rows.{size_of};
 ghost use Rattle.sim_base.specs.Commands.{is_placeable as is_placeable_by};
 ghost use Rattle.sim_scene.specs.SceneWords.{Stands};
 ghost use Rattle.sim_orders.specs.Helps.{IsHelp, is_free_for, spot_for};
+ghost use Rattle.sim_orders.specs.Light.{NeedsNoSpot};
 
 use crate::help::Help;
 use sim_base::{Cell, Command, OutOfMemory, PlayerCommand, Point, Rect, rect_of};
@@ -18,7 +19,8 @@ use sim_system::{Answer, Ask, System};
 /// What a planner of the order needs of the systems.
 pub fn help_of(scene: &Scene<'_>, order: &PlayerCommand) -> Result<Help, OutOfMemory>
     requires { Stands scene.now ⟦<dyn System as System>⟧ }
-    ensures { IfOk result (IsHelp scene.now.setup.now scene.now.state.now order.now.player order.now.command) }
+    ensures value { IfOk result (IsHelp scene.now.setup.now scene.now.state.now order.now.player order.now.command) }
+    ensures light { NeedsNoSpot scene.now.state.now order.now.command → IsOk result }
 {
     let count = population(scene, order.player);
     let free = is_free(scene, &order.command);
@@ -55,7 +57,8 @@ fn is_placeable(scene: &Scene<'_>, number: u16, at: &Point) -> bool
 // The cell where a building that trains would put a new row.
 fn spot_of(scene: &Scene<'_>, command: &Command) -> Result<Option<Cell>, OutOfMemory>
     requires { Stands scene.now ⟦<dyn System as System>⟧ }
-    ensures { IfOk result (λ spot. spot ≡ spot_for scene.now.setup.now scene.now.state.now command.now) }
+    ensures value { IfOk result (λ spot. spot ≡ spot_for scene.now.setup.now scene.now.state.now command.now) }
+    ensures light { NeedsNoSpot scene.now.state.now command.now → IsOk result }
 {
     match command {
         Command::Train { building, .. } => match find_row(scene.state, *building) {

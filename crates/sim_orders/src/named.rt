@@ -1,6 +1,7 @@
-//! The ids that a command names, sorted once, so that each row is looked up among them by halves.
+//! The ids that a command names, sorted once, so that each row is found among them at once or by halves.
 
-ghost use Rattle.std.specs.Prelude.{◌≡◌, IfOk};
+ghost use Rattle.std.specs.Prelude.{◌≡◌, ◌==◌, false, IfOk};
+ghost use Rattle.std.specs.List.{list_any};
 ghost use Rattle.std.specs.List.Sorted.{IsNonDecreasing, IsPermutation};
 ghost use Rattle.sim_base.specs.Commands.{is_ordered as is_ordered_by};
 
@@ -16,10 +17,35 @@ pub fn sorted(ids: &Ids) -> Result<Ids, OutOfMemory>
     Ok(Ids::from_items(sorted))
 }
 
-/// Whether the row is the player's and its id is among these, which ascend.
-pub fn is_ordered(player: u8, ids: &[u32], row: &Row) -> bool
+/// Whether the row is the player's and its id is among these, which ascend. It is looked for at `next` before all others: a caller that
+/// goes through rows in the order of their ids counts there those that it found. Any number is right. It stands in its caller's place,
+/// since most rows are another player's.
+#[inline(always)]
+pub fn is_ordered(player: u8, ids: &[u32], row: &Row, next: usize) -> bool
     requires { IsNonDecreasing ids.now }
     ensures { result ≡ is_ordered_by player ids.now row.now }
 {
-    row.owner == player && ids.binary_search(&row.id).is_ok()
+    row.owner == player && is_named(ids, row.id, next)
+}
+
+// Whether the id is among these.
+fn is_named(ids: &[u32], id: u32, next: usize) -> bool
+    requires { IsNonDecreasing ids.now }
+    ensures { result ≡ list_any (λ n. n == id) ids.now }
+{
+    match ids.get(next) {
+        Some(named) if *named == id => true,
+        _ => is_between(ids, id) && ids.binary_search(&id).is_ok(),
+    }
+}
+
+// Whether the id is neither below the first of these nor above the last.
+fn is_between(ids: &[u32], id: u32) -> bool
+    requires { IsNonDecreasing ids.now }
+    ensures { result ≡ false → list_any (λ n. n == id) ids.now ≡ false }
+{
+    match (ids.first(), ids.last()) {
+        (Some(first), Some(last)) => *first <= id && id <= *last,
+        _ => false,
+    }
 }

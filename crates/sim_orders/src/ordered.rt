@@ -1,12 +1,13 @@
 //! The changes of the rows that a command orders, row by row. The ids ascend.
 
-ghost use Rattle.std.specs.Prelude.{◌≡◌, ◌==◌, ◌++◌, [], ◌∷◌, map, filter, OnOk, IfOk, if◌then◌else◌};
+ghost use Rattle.std.specs.Prelude.{◌≡◌, ◌==◌, ◌++◌, [], ◌∷◌, map, filter, None, OnOk, IfOk, IsOk, if◌then◌else◌};
 ghost use Rattle.std.specs.List.{flat_map};
 ghost use Rattle.std.specs.List.Sorted.{IsNonDecreasing};
 ghost use Rattle.sim_base.specs.declared.state.Row.{Row as AnyRow};
 ghost use Rattle.sim_base.specs.declared.change.Change.TheVariants.{Remove, Owner};
 ghost use Rattle.sim_base.specs.Rows.{id_of};
 ghost use Rattle.sim_base.specs.Commands.{is_ordered as is_ordered_by};
+ghost use Rattle.sim_orders.specs.Light.{OwnsNone};
 ghost use Rattle.sim_plans.specs.CommandPlans.{sent_changes, stop_changes, set_on_changes};
 
 use crate::named::is_ordered;
@@ -26,8 +27,10 @@ pub fn sent(
     ensures { IfOk result (λ changes. changes ≡ flat_map (λ row. if is_ordered_by player ids.now row then sent_changes to.now row else []) rows.now) }
 {
     let mut changes = Items::new(alloc);
+    let mut next = 0;
     for row in rows {
-        if is_ordered(player, ids, row) {
+        if is_ordered(player, ids, row, next) {
+            next = next.saturating_add(1);
             push_sent(alloc, &mut changes, to, row)?;
         }
     }
@@ -36,7 +39,8 @@ pub fn sent(
 
 // The row goes to a point, if it can move, forgets its target and holds its place no more.
 fn push_sent(alloc: Global, changes: &mut Changes, to: &Point, row: &Row) -> Result<(), OutOfMemory>
-    ensures { OnOk result (changes.new ≡ changes.old ++ sent_changes to.now row.now) }
+    ensures value { OnOk result (changes.new ≡ changes.old ++ sent_changes to.now row.now) }
+    ensures light { row.now.motion ≡ None → IsOk result }
 {
     if row.motion.is_none() {
         return Ok(());
@@ -56,8 +60,10 @@ pub fn stopped(alloc: Global, rows: &[Row], player: u8, ids: &[u32]) -> Result<C
     ensures { IfOk result (λ changes. changes ≡ flat_map (λ row. if is_ordered_by player ids.now row then stop_changes row else []) rows.now) }
 {
     let mut changes = Items::new(alloc);
+    let mut next = 0;
     for row in rows {
-        if is_ordered(player, ids, row) {
+        if is_ordered(player, ids, row, next) {
+            next = next.saturating_add(1);
             push_stand(&mut changes, 0, true, row)?;
         }
     }
@@ -76,8 +82,10 @@ pub fn set_on(
     ensures { IfOk result (λ changes. changes ≡ flat_map (λ row. if is_ordered_by player ids.now row then set_on_changes target row else []) rows.now) }
 {
     let mut changes = Items::new(alloc);
+    let mut next = 0;
     for row in rows {
-        if is_ordered(player, ids, row) {
+        if is_ordered(player, ids, row, next) {
+            next = next.saturating_add(1);
             push_set_on(&mut changes, target, row)?;
         }
     }
@@ -86,7 +94,8 @@ pub fn set_on(
 
 // The row takes a target, stands still and holds its place no more, if it can attack.
 fn push_set_on(changes: &mut Changes, target: u32, row: &Row) -> Result<(), OutOfMemory>
-    ensures { OnOk result (changes.new ≡ changes.old ++ set_on_changes target row.now) }
+    ensures value { OnOk result (changes.new ≡ changes.old ++ set_on_changes target row.now) }
+    ensures light { row.now.attack ≡ None → IsOk result }
 {
     if row.attack.is_none() {
         return Ok(());
@@ -100,8 +109,10 @@ pub fn deleted(alloc: Global, rows: &[Row], player: u8, ids: &[u32]) -> Result<C
     ensures { IfOk result (λ changes. changes ≡ map (λ id. Remove id) (map id_of (filter (is_ordered_by player ids.now) rows.now))) }
 {
     let mut changes = Items::new(alloc);
+    let mut next = 0;
     for row in rows {
-        if is_ordered(player, ids, row) {
+        if is_ordered(player, ids, row, next) {
+            next = next.saturating_add(1);
             changes.push(Change::Remove { id: row.id })?;
         }
     }
@@ -110,7 +121,8 @@ pub fn deleted(alloc: Global, rows: &[Row], player: u8, ids: &[u32]) -> Result<C
 
 /// The player's rows become Gaia's.
 pub fn resigned(alloc: Global, rows: &[Row], player: u8) -> Result<Changes, OutOfMemory>
-    ensures { IfOk result (λ changes. changes ≡ flat_map (λ (row : AnyRow). if row.owner == player then Owner row.id 0 ∷ [] else []) rows.now) }
+    ensures value { IfOk result (λ changes. changes ≡ flat_map (λ (row : AnyRow). if row.owner == player then Owner row.id 0 ∷ [] else []) rows.now) }
+    ensures light { OwnsNone player rows.now → IsOk result }
 {
     let mut changes = Items::new(alloc);
     for row in rows {

@@ -1,7 +1,9 @@
-//! The seven planners, one for each kind of command. They take plain data, and have one signature.
+//! The seven planners, one for each kind of command. They take plain data, and have one signature. Whether there is anything to
+//! change is asked before memory is taken.
 
-ghost use Rattle.std.specs.Prelude.{◌≡◌, ◌∷◌, [], IfOk};
+ghost use Rattle.std.specs.Prelude.{◌≡◌, ◌∷◌, [], IfOk, IsOk};
 ghost use Rattle.sim_base.specs.declared.change.Change.TheVariants.{Create};
+ghost use Rattle.sim_orders.specs.Light.{NeedsNoMemory};
 ghost use Rattle.sim_orders.specs.Orders.{IsGiven, Obeys};
 
 use crate::checks::{has_room, is_enemy, trains};
@@ -23,7 +25,8 @@ pub fn walk_changes(
     command: &Command,
 ) -> Result<Changes, OutOfMemory>
     requires { IsGiven 1 setup.now state.now help.now player command.now }
-    ensures { Obeys setup.now state.now player command.now result }
+    ensures obeys { Obeys setup.now state.now player command.now result }
+    ensures light { NeedsNoMemory setup.now state.now player command.now → IsOk result }
 {
     let Command::Walk { ids, to } = command else {
         unreachable!()
@@ -45,7 +48,8 @@ pub fn stop_changes(
     command: &Command,
 ) -> Result<Changes, OutOfMemory>
     requires { IsGiven 2 setup.now state.now help.now player command.now }
-    ensures { Obeys setup.now state.now player command.now result }
+    ensures obeys { Obeys setup.now state.now player command.now result }
+    ensures light { NeedsNoMemory setup.now state.now player command.now → IsOk result }
 {
     let Command::Stop { ids } = command else {
         unreachable!()
@@ -65,7 +69,8 @@ pub fn attack_changes(
     command: &Command,
 ) -> Result<Changes, OutOfMemory>
     requires { IsGiven 3 setup.now state.now help.now player command.now }
-    ensures { Obeys setup.now state.now player command.now result }
+    ensures obeys { Obeys setup.now state.now player command.now result }
+    ensures light { NeedsNoMemory setup.now state.now player command.now → IsOk result }
 {
     let Command::Attack { ids, target } = command else {
         unreachable!()
@@ -93,7 +98,8 @@ pub fn delete_changes(
     command: &Command,
 ) -> Result<Changes, OutOfMemory>
     requires { IsGiven 4 setup.now state.now help.now player command.now }
-    ensures { Obeys setup.now state.now player command.now result }
+    ensures obeys { Obeys setup.now state.now player command.now result }
+    ensures light { NeedsNoMemory setup.now state.now player command.now → IsOk result }
 {
     let Command::Delete { ids } = command else {
         unreachable!()
@@ -112,7 +118,8 @@ pub fn place_changes(
     command: &Command,
 ) -> Result<Changes, OutOfMemory>
     requires { IsGiven 5 setup.now state.now help.now player command.now }
-    ensures { Obeys setup.now state.now player command.now result }
+    ensures obeys { Obeys setup.now state.now player command.now result }
+    ensures light { NeedsNoMemory setup.now state.now player command.now → IsOk result }
 {
     let Command::Place { template, at } = command else {
         unreachable!()
@@ -133,7 +140,8 @@ pub fn train_changes(
     command: &Command,
 ) -> Result<Changes, OutOfMemory>
     requires { IsGiven 6 setup.now state.now help.now player command.now }
-    ensures { Obeys setup.now state.now player command.now result }
+    ensures obeys { Obeys setup.now state.now player command.now result }
+    ensures light { NeedsNoMemory setup.now state.now player command.now → IsOk result }
 {
     let Command::Train { building, template } = command else {
         unreachable!()
@@ -163,7 +171,8 @@ pub fn resign_changes(
     command: &Command,
 ) -> Result<Changes, OutOfMemory>
     requires { IsGiven 7 setup.now state.now help.now player command.now }
-    ensures { Obeys setup.now state.now player command.now result }
+    ensures obeys { Obeys setup.now state.now player command.now result }
+    ensures light { NeedsNoMemory setup.now state.now player command.now → IsOk result }
 {
     resigned(alloc, state.rows.as_slice(), player)
 }

@@ -2,18 +2,20 @@
 //!
 //! After want of memory it may only be let go: a message may be lost then.
 
-ghost use Rattle.std.specs.Prelude.{◌≡◌, ◌≤◌, suc, ℕ, false, List, [], ◌∷◌, IfOk, OnOk, All, map, if◌then◌else◌};
+ghost use Rattle.std.specs.Prelude.{◌≡◌, ◌≤◌, suc, ℕ, false, List, [], ◌∷◌, IfOk, OnOk, IsOk, All, map, if◌then◌else◌};
 ghost use Rattle.sim_base.specs.declared.setup.Setup.{Setup as PlainSetup};
 ghost use Rattle.sim_plain.specs.declared.message.DownOf.{DownOf};
-ghost use Rattle.sim_plain.specs.Messages.{carry_up};
+ghost use Rattle.sim_plain.specs.declared.message.UpOf.{UpOf};
+ghost use Rattle.sim_plain.specs.Messages.{Heard, Cut, carry_up};
 ghost use Rattle.sim_plain_session.specs.Bytes.{spelled};
 ghost use Rattle.sim_plain_session.specs.Clients.{Acted};
 ghost use Rattle.sim_plain_session.specs.Pasts.{rules_of};
 ghost use Rattle.sim_plain_session.specs.Printed.{rise_events};
 ghost use Rattle.sim_plain_session.specs.Sessions.{Session, opened, acts, rises, cut as cut_off};
-ghost use Rattle.sim_server.specs.Standing.{IsClient};
-ghost use Rattle.sim_wire.specs.Fits.{IsSmallUp, IsDownFrame};
-ghost use Rattle.sim_wire.specs.Memory.{down_carries};
+ghost use Rattle.sim_server.specs.Silence.{IsSilent};
+ghost use Rattle.sim_server.specs.Standing.{IsClient, server_of};
+ghost use Rattle.sim_wire.specs.Fits.{IsSmallUp, IsUpFrame, IsDownFrame};
+ghost use Rattle.sim_wire.specs.Memory.{up_carries, down_carries};
 ghost use Rattle.sim_pipes.specs.Exchanges.{Conveys, Falls};
 ghost use Rattle.sim_pipes.specs.Pipes.{AreFrames, pipe_in, AreEmpty, Reads};
 
@@ -121,6 +123,7 @@ impl Exchange {
         requires small { All IsSmallUp ups.now }
         ensures stands { (setup : PlainSetup) (s : Session) (acted : Acted) → Conveys setup self.old s → ups.now ≡ map (carry_up (spelled setup)) acted.says
             → OnOk result (Conveys setup self.new (acts client acted s)) }
+        ensures none { ups.now ≡ [] → IsOk result }
         ensures rules { self.new.server.rules ≡ self.old.server.rules }
     {
         send_all_up(self.alloc, &mut self.ups[client as usize], ups)
@@ -132,6 +135,8 @@ impl Exchange {
         ensures stands { (setup : PlainSetup) (s : Session) → Conveys setup self.old s → OnOk result (Conveys setup self.new (rises setup client (s.ups client) s)) }
         ensures events { (setup : PlainSetup) (s : Session) → Conveys setup self.old s → IfOk result (λ events. events ≡ rise_events setup s.server client (s.ups client)) }
         ensures none { pipe_in self.old.ups client ≡ [] → result ≡ Ok [] }
+        ensures light { (frame : List ℕ) (rest : List (List ℕ)) (message : UpOf (List ℕ)) → pipe_in self.old.ups client ≡ frame ∷ rest → IsUpFrame frame message
+            → up_carries message ≡ false → IsSilent self.old.server.rules (server_of self.old.server) (Heard client message) → IsOk result }
         ensures rules { self.new.server.rules ≡ self.old.server.rules }
     {
         let Some(frame) = self.ups[client as usize].take() else {
@@ -162,6 +167,7 @@ impl Exchange {
     pub fn cut(&mut self, client: u8) -> Result<(), OutOfMemory>
         requires { IsClient self.old.server client }
         ensures stands { (setup : PlainSetup) (s : Session) → Conveys setup self.old s → OnOk result (Conveys setup self.new (cut_off setup client s)) }
+        ensures silent { IsSilent self.old.server.rules (server_of self.old.server) (Cut client) → IsOk result }
         ensures rules { self.new.server.rules ≡ self.old.server.rules }
     {
         self.ups[client as usize].clear();

@@ -1,10 +1,12 @@
 //! What the server hears, with its answer sent down the pipes of the clients.
 
-ghost use Rattle.std.specs.Prelude.{◌≡◌, suc, ℕ, List, length, IfOk, OnOk};
+ghost use Rattle.std.specs.Prelude.{◌≡◌, suc, ℕ, false, List, length, IfOk, OnOk, IsOk};
 ghost use Rattle.sim_plain.specs.declared.message.UpOf.{UpOf};
 ghost use Rattle.sim_plain.specs.Messages.{Heard, Cut};
 ghost use Rattle.sim_plain.specs.Notices.{noticed};
 ghost use Rattle.sim_wire.specs.Fits.{IsUpFrame};
+ghost use Rattle.sim_wire.specs.Memory.{up_carries};
+ghost use Rattle.sim_server.specs.Silence.{IsSilent};
 ghost use Rattle.sim_server.specs.Small.{IsSmallServer};
 ghost use Rattle.sim_server.specs.Standing.{server_of, IsClient};
 ghost use Rattle.sim_pipes.specs.Pipes.{Sends};
@@ -30,6 +32,8 @@ pub fn hear(
     requires count { length downs.old.items ≡ suc server.old.rules.clients }
     ensures heard { (message : UpOf (List ℕ)) → IsUpFrame frame.now message → OnOk result (Sends server.old downs.old.items (Heard client message) server.new downs.new.items) }
     ensures events { (message : UpOf (List ℕ)) → IsUpFrame frame.now message → IfOk result (λ events. events ≡ notice_events (noticed server.old.rules (server_of server.old) (Heard client message))) }
+    ensures light { (message : UpOf (List ℕ)) → IsUpFrame frame.now message → up_carries message ≡ false
+        → IsSilent server.old.rules (server_of server.old) (Heard client message) → IsOk result }
     ensures rules { server.new.rules ≡ server.old.rules }
     ensures small { IsSmallServer (server_of server.new) }
     ensures count { length downs.new.items ≡ length downs.old.items }
@@ -52,6 +56,7 @@ pub fn see_cut(
     requires small { IsSmallServer (server_of server.old) }
     requires count { length downs.old.items ≡ suc server.old.rules.clients }
     ensures heard { OnOk result (Sends server.old downs.old.items (Cut client) server.new downs.new.items) }
+    ensures silent { IsSilent server.old.rules (server_of server.old) (Cut client) → IsOk result }
     ensures rules { server.new.rules ≡ server.old.rules }
     ensures small { IsSmallServer (server_of server.new) }
     ensures count { length downs.new.items ≡ length downs.old.items }

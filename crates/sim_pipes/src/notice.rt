@@ -1,6 +1,6 @@
 //! What is printed of the notices among posts.
 
-ghost use Rattle.std.specs.Prelude.{◌≡◌, ◌++◌, ◌∷◌, [], filter_map, if◌then◌else◌, ◌==◌, OnOk};
+ghost use Rattle.std.specs.Prelude.{◌≡◌, ◌++◌, ◌∷◌, [], filter_map, if◌then◌else◌, ◌==◌, OnOk, IsOk};
 ghost use Rattle.sim_plain.specs.Notices.{notice_in};
 ghost use Rattle.sim_pipes.specs.Posts.{told_to, notice_events};
 
@@ -30,7 +30,8 @@ fn push_notice(events: &mut Events, client: u8, post: &Post) -> Result<(), OutOf
 
 /// Appends the line of each notice among the posts to one client.
 pub fn push_notices(events: &mut Events, client: u8, posts: &Posts) -> Result<(), OutOfMemory>
-    ensures { OnOk result (events.new ≡ events.old ++ notice_events (filter_map notice_in (told_to client posts.now))) }
+    ensures lines { OnOk result (events.new ≡ events.old ++ notice_events (filter_map notice_in (told_to client posts.now))) }
+    ensures none { posts.now ≡ [] → IsOk result }
 {
     for post in posts.as_slice() {
         push_notice(events, client, post)?;

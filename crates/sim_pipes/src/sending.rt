@@ -1,7 +1,7 @@
 //! Messages framed into the pipes of all clients. The pipes stand in a list by the number of their client, the first of
 //! which is nobody's.
 
-ghost use Rattle.std.specs.Prelude.{◌≡◌, ℕ, List, ◌<◌, ◌++◌, ◌∷◌, [], length, All, OnOk, slice_set};
+ghost use Rattle.std.specs.Prelude.{◌≡◌, ℕ, List, ◌<◌, ◌++◌, ◌∷◌, [], length, All, OnOk, IsOk, slice_set};
 ghost use Rattle.sim_plain.specs.declared.message.UpOf.{UpOf};
 ghost use Rattle.sim_plain.specs.declared.message.DownOf.{DownOf};
 ghost use Rattle.sim_wire.specs.Fits.{IsSmallUp, IsSmallDown, IsUpFrame, IsDownFrame};
@@ -26,7 +26,8 @@ fn send_up(alloc: Global, pipe: &mut Pipe, up: &Up) -> Result<(), OutOfMemory>
 /// Sends messages up a pipe, in order.
 pub fn send_all_up(alloc: Global, pipe: &mut Pipe, ups: &[Up]) -> Result<(), OutOfMemory>
     requires { All IsSmallUp ups.now }
-    ensures { OnOk result ((before : List (UpOf (List ℕ))) → AreFrames IsUpFrame pipe.old before → AreFrames IsUpFrame pipe.new (before ++ ups.now)) }
+    ensures frames { OnOk result ((before : List (UpOf (List ℕ))) → AreFrames IsUpFrame pipe.old before → AreFrames IsUpFrame pipe.new (before ++ ups.now)) }
+    ensures none { ups.now ≡ [] → IsOk result }
 {
     for up in ups {
         send_up(alloc, pipe, up)?;
@@ -66,6 +67,7 @@ pub fn deliver(alloc: Global, pipes: &mut Vec<Pipe>, posts: &Posts) -> Result<()
     requires small { All (λ post. IsSmallDown post.down) posts.now }
     ensures frames { OnOk result ((c : ℕ) (before : List (DownOf (List ℕ))) → AreFrames IsDownFrame (pipe_in pipes.old.items c) before
         → AreFrames IsDownFrame (pipe_in pipes.new.items c) (before ++ told_to c posts.now)) }
+    ensures none { posts.now ≡ [] → IsOk result }
     ensures count { length pipes.new.items ≡ length pipes.old.items }
 {
     for post in posts.as_slice() {

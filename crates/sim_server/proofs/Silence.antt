@@ -16,12 +16,13 @@ use Rattle.sim_plain.specs.Messages.{Arrival, Heard, Cut}
 use Rattle.sim_plain.specs.Server.{Server, waits_for, least_done, raised_to, raised, donor, with_status}
 use Rattle.sim_plain.specs.Posts.{Posts, nobody, to_one, to_all, release, asked, refusal, loading, differs, posts, posts_of, post_list, posted_to}
 use Rattle.sim_wire.specs.Fits.{IsUpFrame}
+use Rattle.sim_wire.specs.Memory.{up_carries}
 use Rattle.sim_wire.specs.Refusals.{RefusedFor}
 use Rattle.sim_wire.specs.declared.fault.WireFault.{WireFault}
 use Rattle.sim_wire.specs.declared.fault.WireFault.TheVariants as faults
 use Rattle.sim_server.specs.Views.{status_in, reference_in}
 use Rattle.sim_server.specs.Standing.{View, server_of, IsClient, IsSeated, Makes}
-use Rattle.sim_server.specs.Silence.{IsSilent, ReleasesNothing, GoesUnseen}
+use Rattle.sim_server.specs.Silence.{IsSilent, ReleasesNothing, GoesUnseen, IsNoted, SaysNoted}
 use Rattle.sim_server.proofs.Said.{list_nobody, list_release}
 use Rattle.sim_server.proofs.Made.{status_set}
 
@@ -84,6 +85,25 @@ silent_says rules s (Cut c) gone = none_told rules.clients (posts {B = Bytes} ru
 pub silent : (old new : View) (a : Arrival Bytes) (r : Result (List (PostOf Bytes)) OutOfMemory) → Makes old a r new → IsOk r → IsSilent old.rules (server_of old) a → r ≡ Ok []
 silent old new a (Ok sent) made ok still = ap Ok (made.said ∙ silent_says old.rules (server_of old) a still)
 silent old new a (Err e) made ok still = absurd (false≢true ok)
+
+-- neither does one at a report that is only noted
+noted_says : (v : View) (c t : ℕ) (digest : List ℕ) → IsNoted v c t digest → posts_of {B = Bytes} v.rules (server_of v) (Heard c (up.Report t digest)) ≡ []
+noted_says v c t digest report =
+    let s : Server = server_of v in
+    let said : Posts Bytes = if differs (s.reference t) digest then to_all s.status (Notice t c) else nobody in
+    ap (λ (o : Option ℕ). post_list v.rules.clients (refusal c o said)) report.taken ∙ ap (post_list v.rules.clients) (cond-false _ (to_all s.status (Notice t c)) nobody report.same) ∙ list_nobody v.rules.clients
+
+pub noted : (old new : View) (c t : ℕ) (digest : List ℕ) (r : Result (List (PostOf Bytes)) OutOfMemory) → Makes old (Heard c (up.Report t digest)) r new → IsOk r → IsNoted old c t digest → r ≡ Ok []
+noted old new c t digest (Ok sent) made ok report = ap Ok (made.said ∙ noted_says old c t digest report)
+noted old new c t digest (Err e) made ok report = absurd (false≢true ok)
+
+-- and a report carries nothing
+pub noted_is_light : (v : View) (c : ℕ) (message : UpOf (List ℕ)) → SaysNoted v c message → up_carries message ≡ false
+noted_is_light v c up.Join h = absurd h
+noted_is_light v c (up.Command t command) h = absurd h
+noted_is_light v c (up.Done t) h = absurd h
+noted_is_light v c (up.Report t digest) report = refl
+noted_is_light v c (up.State j t carried) h = absurd h
 
 -- ---- what is wanted of memory
 

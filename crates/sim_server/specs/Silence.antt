@@ -1,10 +1,14 @@
 -- Arrivals at which nobody is told anything and nothing is kept, so that no memory is wanted.
-use Rattle.std.specs.Prelude.{◌≡◌, ℕ, false, List, Some, None}
+use Rattle.std.specs.Prelude.{◌≡◌, ℕ, ◌<◌, false, List, length, Some, None}
 use Rattle.sim_plain.specs.declared.rules.Rules.{Rules}
 use Rattle.sim_plain.specs.declared.status.Status.TheVariants.{Out, In}
+use Rattle.sim_plain.specs.declared.message.UpOf.{UpOf}
 use Rattle.sim_plain.specs.declared.message.UpOf.TheVariants as up
 use Rattle.sim_plain.specs.Messages.{Arrival, Heard, Cut}
 use Rattle.sim_plain.specs.Server.{Server, is_out, waits_for, with_status, raised, done_fault, report_fault, takes_state}
+use Rattle.sim_plain.specs.Posts.{differs}
+use Rattle.sim_server.specs.Views.{status_in, reference_in}
+use Rattle.sim_server.specs.Standing.{View}
 
 -- a done that is taken and releases nothing
 pub record ReleasesNothing (rules : Rules) (s : Server) (c t : ℕ) : Type 0 where
@@ -15,6 +19,20 @@ pub record ReleasesNothing (rules : Rules) (s : Server) (c t : ℕ) : Type 0 whe
 pub record SaysTheSame (s : Server) (c t : ℕ) (digest : List ℕ) : Type 0 where
   pub taken : report_fault s.released t (s.status c) ≡ None
   pub same : s.reference t ≡ Some digest
+
+-- a report that is taken, is not another than the first, and whose turn stands in the list of references
+pub record IsNoted (v : View) (c t : ℕ) (digest : List ℕ) : Type 0 where
+  pub taken : report_fault v.released t (status_in v.seats c) ≡ None
+  pub same : differs (reference_in v.references t) digest ≡ false
+  pub listed : t < length v.references
+
+-- a client says this by a report that is noted so
+abbrev pub SaysNoted : View → ℕ → UpOf (List ℕ) → Type 0
+SaysNoted v c up.Join = ⊥
+SaysNoted v c (up.Command t command) = ⊥
+SaysNoted v c (up.Done t) = ⊥
+SaysNoted v c (up.Report t digest) = IsNoted v c t digest
+SaysNoted v c (up.State j t carried) = ⊥
 
 -- a client that goes, for whom nobody waits, and nothing is released
 pub record GoesUnseen (rules : Rules) (s : Server) (c : ℕ) : Type 0 where

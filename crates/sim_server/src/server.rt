@@ -11,7 +11,7 @@ ghost use Rattle.sim_plain.specs.Messages.{Arrival, Heard, Cut};
 ghost use Rattle.sim_wire.specs.Fits.{IsUpFrame};
 ghost use Rattle.sim_wire.specs.Heard.{raw};
 ghost use Rattle.sim_wire.specs.Memory.{up_carries};
-ghost use Rattle.sim_server.specs.Silence.{IsSilent, ReleasesNothing, SaysTheSame};
+ghost use Rattle.sim_server.specs.Silence.{IsSilent, ReleasesNothing, SaysTheSame, IsNoted, SaysNoted};
 ghost use Rattle.sim_server.specs.Standing.{server_of, IsClient, Makes, StandsFor, Answers, IsLater, is_dropped};
 
 use crate::faults::{
@@ -153,6 +153,7 @@ impl Server {
         requires { IsClient self.old from }
         ensures made { Makes self.old (Heard from (up.Report turn digest)) result self.new }
         ensures quiet { SaysTheSame (server_of self.old) from turn digest → IsOk result }
+        ensures noted { IsNoted self.old from turn digest → IsOk result }
     {
         let status = status_of(&self.seats, from);
         if let Some(code) = report_fault_of(self.released, turn, status) {
@@ -210,6 +211,7 @@ impl Server {
         ensures later { IsLater from (server_of self.old) (server_of self.new) }
         ensures dropped { is_dropped (server_of self.old) from up ≡ true → IsOk result }
         ensures silent { IsSilent self.old.rules (server_of self.old) (Heard from up) → result ≡ Ok [] }
+        ensures noted { SaysNoted self.old from up → result ≡ Ok [] }
     {
         // The invariant of the fields holds here, which `later` rests on.
         let _ = &self.seats;
@@ -258,6 +260,7 @@ impl Server {
         ensures silent { ((message : UpOf (List ℕ)) → IsUpFrame bytes.now message → ⊥) → IsSilent self.old.rules (server_of self.old) (Cut from) → result ≡ Ok [] }
         ensures light { (message : UpOf (List ℕ)) → IsUpFrame bytes.now message → up_carries message ≡ false
             → IsSilent self.old.rules (server_of self.old) (Heard from message) → result ≡ Ok [] }
+        ensures noted { (message : UpOf (List ℕ)) → IsUpFrame bytes.now message → SaysNoted self.old from message → result ≡ Ok [] }
     {
         match unframe_up(self.alloc, bytes) {
             Ok(up) => self.hear(from, up),

@@ -109,9 +109,10 @@ impl Aimers {
         }
     }
 
-    /// An entity is gone.
+    /// An entity is gone, and has no place in the list any more.
     pub fn leave(&mut self, id: u32)
-        ensures { facts_in self.new.aimers.items ≡ with_only id None (facts_in self.old.aimers.items) }
+        ensures facts { facts_in self.new.aimers.items ≡ with_only id None (facts_in self.old.aimers.items) }
+        ensures told { told_in self.new.aimers.items ≡ with_only id None (told_in self.old.aimers.items) }
     {
         if let Ok(at) = self.place_of(id) {
             self.aimers.remove(at);

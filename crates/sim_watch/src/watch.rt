@@ -7,7 +7,7 @@ ghost use Rattle.sim_system.specs.Notes.{aim_of};
 ghost use Rattle.sim_system.specs.Answers.{watchers_among};
 ghost use Rattle.sim_fact_lists.specs.Places.{with_only};
 ghost use Rattle.sim_fact_lists.specs.Groups.{AreGroups, group_with, listed};
-ghost use Rattle.sim_watch.specs.Aimers.{facts_in};
+ghost use Rattle.sim_watch.specs.Aimers.{told_in, facts_in};
 ghost use Rattle.sim_watch.specs.Lists.{aim_key};
 
 use crate::aimers::Aimers;
@@ -79,9 +79,10 @@ impl Watch {
         Ok(())
     }
 
-    // An entity is gone, and so is the list of those who aimed at it, which is empty by then.
+    // An entity is gone, with its place among those who aim, and so is the list of those who aimed at it, which is empty by then.
     fn gone(&mut self, id: u32)
         ensures facts { facts_in self.new.aimers.aimers.items ≡ with_only id None (facts_in self.old.aimers.aimers.items) }
+        ensures told { told_in self.new.aimers.aimers.items ≡ with_only id None (told_in self.old.aimers.aimers.items) }
         ensures group { listed id self.new.groups.groups.items ≡ [] → group_with id self.new.groups.groups.items ≡ None }
         ensures land { self.new.land ≡ self.old.land }
         ensures rebuilds { self.new.rebuilds ≡ self.old.rebuilds }

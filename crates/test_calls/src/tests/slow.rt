@@ -26,6 +26,8 @@ impl Shelf for SlowShelf {
 
     ghost made_name = { λ _. [] };
 
+    ghost made = { λ _. None };
+
     ghost counts = { λ slow. counts_on slow.shelf };
 
     fn open(&mut self, name: &str) -> Result<bool, ShelfFault> {

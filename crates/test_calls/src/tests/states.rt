@@ -8,8 +8,8 @@ ghost use Rattle.sim_sections.specs.Rows.{HasShortWay};
 
 use sim_base::{Aim, Fixed, Items, MAX_STATE, Motion, OutOfMemory, Point, Row, Setup, State};
 use sim_codec::{
-    Part, StateFault, a_spelled_state_is_loaded, bits_of, digest, is_valid, load, mark, quick,
-    spell, stands,
+    Part, StateFault, a_spelling_is_taken, bits_of, digest, is_valid, load, mark, quick, spell,
+    stands,
 };
 use sim_diff::difference;
 use sim_setup::setup_of;
@@ -76,13 +76,15 @@ fn states_of_both_versions_are_loaded(rt: HostRuntime) -> Result<(), Fail> {
         let bytes = stored(alloc, &setup, version, rest)?;
         let state = load(alloc, &setup, &bytes)?;
         assert!(rt; stands(&setup, &bytes).is_ok(), "version {version}");
-        assert!(rt; is_valid(&setup, &state), "version {version}");
-        let spelled = stored(alloc, &setup, 2, after)?;
-        assert_eq!(rt;
-            spell(alloc, &setup, &state)?.as_slice(),
-            spelled.as_slice()
+        assert!(rt;
+            a_spelling_is_taken(&setup, &bytes).is_ok(),
+            "version {version}"
         );
-        let again = a_spelled_state_is_loaded(alloc, &setup, &state)?;
+        assert!(rt; is_valid(&setup, &state), "version {version}");
+        let wanted = stored(alloc, &setup, 2, after)?;
+        let spelled = spell(alloc, &setup, &state)?;
+        assert_eq!(rt; spelled.as_slice(), wanted.as_slice());
+        let again = load(alloc, &setup, &spelled)?;
         assert!(rt; difference(&state, &again).is_none(), "version {version}");
     }
     Ok(())

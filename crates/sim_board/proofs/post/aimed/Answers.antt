@@ -1,5 +1,7 @@
 -- Watch is told of a new target, and the others need not be; of the old one nobody.
-use Rattle.std.proofs.Common.{refl}
+use Rattle.std.proofs.Common.{refl, ◌∙◌, ◌≡◌, Option, MatchOption, subst}
+use Rattle.sim_base.specs.declared.state.Row.{Row}
+use Rattle.sim_base.specs.Rows.{target_of}
 use Rattle.sim_system.specs.declared.kind.Kind.{Kind}
 use Rattle.sim_system.specs.declared.kind.Kind.TheVariants.{Ground, Range, Watch, Census}
 use Rattle.sim_system.specs.declared.note.Note.TheVariants.{Aimed}
@@ -23,3 +25,8 @@ pub returns-then-from-aim-clause-fed : goal.returns-then-from-aim-clause-fed
 returns-then-from-aim-clause-fed g c =
     all_fed_same _ _ _ _ c.requires.stands.fed
     (λ kind. same_aim kind c.args.setup.now c.args.state.now c.requires.stands.limits c.requires.stands.valid c.args.id c.args.aim c.living-row.result.now c.living-row.ensures c.target_of-from.result c.target_of-from.ensures c.if-from-aim.true)
+
+pub returns-in_err-tell-clause-untold : goal.returns-in_err-tell-clause-untold
+returns-in_err-tell-clause-untold g c keeps =
+    let same : target_of c.living-row.result.now ≡ c.args.aim.target = subst (λ (o : Option Row). MatchOption o ⊥ (λ (row : Row). target_of row ≡ c.args.aim.target)) c.living-row.ensures keeps in
+    absurd (c.if-from-aim.false (c.target_of-from.ensures ∙ same))

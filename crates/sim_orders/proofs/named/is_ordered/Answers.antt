@@ -2,7 +2,6 @@ use Rattle.std.proofs.Common.{◌≡◌, Bool, true, sym, ap, ◌∙◌}
 use Rattle.std.specs.Prelude.{◌==◌, ◌&&◌}
 use Rattle.std.specs.List.{list_any}
 use Rattle.std.proofs.lemmas.Bool.{eq-eqb}
-use Rattle.sim_orders.proofs.Halves.{named_by_halves}
 use Rattle.sim_orders.proofs.named.is_ordered.Goals as goal
 
 pub returns-then-row-player : goal.returns-then-row-player
@@ -10,5 +9,4 @@ returns-then-row-player c =
     let row = c.args.row.now in
     let ids = c.args.ids.now in
     let own : (row.owner == c.args.player) ≡ true = eq-eqb row.owner c.args.player c.if-row-player.true in
-    c.is_ok.ensures.value ∙ named_by_halves ids row.id c.binary_search.result c.requires c.binary_search.ensures.position ∙
-    ap (λ (b : Bool). b && list_any (λ n. n == row.id) ids) (sym own)
+    c.is_named.ensures ∙ ap (λ (b : Bool). b && list_any (λ n. n == row.id) ids) (sym own)

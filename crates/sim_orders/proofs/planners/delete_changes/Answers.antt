@@ -5,8 +5,8 @@ use Rattle.sim_plans.proofs.Answered.{of_answer}
 use Rattle.sim_orders.proofs.Planning.{plan_obeys, sorted_removals}
 use Rattle.sim_orders.proofs.planners.delete_changes.Goals as goal
 
-pub returns : goal.returns
-returns c =
+pub returns-clause-obeys : goal.returns-clause-obeys
+returns-clause-obeys c =
     let setup = c.args.setup.now in
     let state = c.args.state.now in
     let player = c.args.player in

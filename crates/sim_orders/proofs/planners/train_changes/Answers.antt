@@ -23,8 +23,8 @@ centre_of-requires-clause-z c =
     let spot_is = ap (spot_for c.args.setup.now c.args.state.now) (sym c.in-Train.is) ∙ sym c.requires.help_is.spot ∙ c.in-Some-spot.is in
     (spot_small c.args.setup.now c.args.state.now (row_of c.args.state.now c.in-Train.building) c.in-Some-spot.cell c.requires.limits spot_is).1
 
-pub returns-in-Some-spot : goal.returns-in-Some-spot
-returns-in-Some-spot c =
+pub returns-in-Some-spot-clause-obeys : goal.returns-in-Some-spot-clause-obeys
+returns-in-Some-spot-clause-obeys c =
     let setup = c.args.setup.now in
     let state = c.args.state.now in
     let player = c.args.player in

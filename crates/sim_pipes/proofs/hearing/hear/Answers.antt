@@ -35,7 +35,7 @@ returns-clause-heard c = λ message is.
 pub returns-clause-events : goal.returns-clause-events
 returns-clause-events c = λ message is.
     let said = (c.in_ok-posts.ensures.frame message is).said in
-    c.in_ok-push_notices.ensures ∙ ap (λ l. l ++ notice_events (filter_map notice_in (told_to c.args.client c.in_ok-posts.posts))) c.new-events.ensures
+    c.in_ok-push_notices.ensures.lines ∙ ap (λ l. l ++ notice_events (filter_map notice_in (told_to c.args.client c.in_ok-posts.posts))) c.new-events.ensures
     ∙ ap (λ l. notice_events (filter_map notice_in (told_to c.args.client l))) said
     ∙ ap notice_events (sender_is_noticed c.args.server.now.rules (server_of c.args.server.now) (Heard c.args.client message) c.requires.client.0 c.requires.client.1)
 

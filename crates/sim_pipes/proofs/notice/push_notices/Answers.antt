@@ -1,10 +1,13 @@
 -- One post more is looked at.
-use Rattle.std.proofs.Common.{◌++◌, ◌∷◌, [], ◌∙◌, take, sym, ap, arith, append_assoc}
+use Rattle.std.proofs.Common.{◌++◌, ◌∷◌, [], ◌∙◌, take, length, sym, ap, arith, append_assoc}
 use Rattle.std.specs.Prelude.{filter_map}
 use Rattle.sim_plain.specs.Notices.{notice_in}
 use Rattle.sim_pipes.specs.Posts.{told_to, notice_events}
 use Rattle.sim_pipes.proofs.Noticing.{notices_more}
 use Rattle.sim_pipes.proofs.notice.push_notices.Goals as goal
+
+pub returns-in_err-push_notice-clause-none : goal.returns-in_err-push_notice-clause-none
+returns-in_err-push_notice-clause-none c = λ none. absurd (omega (arith, c.loop-post-test.true, ap length (c.as_slice-post-items.ensures ∙ none)))
 
 pub loop-post-preserved : goal.loop-post-preserved
 loop-post-preserved c =

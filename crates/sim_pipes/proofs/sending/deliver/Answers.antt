@@ -1,11 +1,14 @@
 -- One post more is sent.
-use Rattle.std.proofs.Common.{◌++◌, ◌∷◌, [], ◌∙◌, take, sym, ap, subst, arith, append_assoc}
+use Rattle.std.proofs.Common.{◌++◌, ◌∷◌, [], ◌∙◌, take, length, sym, ap, subst, arith, append_assoc}
 use Rattle.sim_wire.specs.Fits.{IsDownFrame}
 use Rattle.sim_pipes.specs.Pipes.{AreFrames, pipe_in}
 use Rattle.sim_pipes.specs.Posts.{told_to}
 use Rattle.sim_pipes.proofs.Frames.{sent_more}
 use Rattle.sim_pipes.proofs.Telling.{told_more}
 use Rattle.sim_pipes.proofs.sending.deliver.Goals as goal
+
+pub returns-in_err-send_down_to-clause-none : goal.returns-in_err-send_down_to-clause-none
+returns-in_err-send_down_to-clause-none c = λ none. absurd (omega (arith, c.loop-post-test.true, ap length (c.as_slice-post-items.ensures ∙ none)))
 
 pub loop-post-preserved : goal.loop-post-preserved
 loop-post-preserved c =

@@ -1,5 +1,5 @@
 -- One message more is sent.
-use Rattle.std.proofs.Common.{◌++◌, take, sym, ap, subst, arith, append-nil}
+use Rattle.std.proofs.Common.{◌++◌, take, length, sym, ap, subst, arith, append-nil}
 use Rattle.std.proofs.lemmas.List.{take_all}
 use Rattle.sim_wire.specs.Fits.{IsUpFrame}
 use Rattle.sim_pipes.specs.Pipes.{AreFrames}
@@ -14,5 +14,8 @@ loop-up-preserved c = λ before are.
     framed_more IsUpFrame c.send_up.new.pipe before c.args.ups.now c.loop-up.up-index c.up-item.result (omega (arith, c.loop-up-test.true)) c.up-item.is
     (c.in_ok-send_up.ensures (before ++ take c.loop-up.up-index c.args.ups.now) (c.loop-up.invariant before are))
 
-pub returns : goal.returns
-returns c = λ before are. subst (AreFrames IsUpFrame c.loop-up.pipe) (ap (λ l. before ++ l) (take_all c.loop-up.up-index c.args.ups.now (omega (arith, c.loop-up-test.false)))) (c.loop-up.invariant before are)
+pub returns-in_err-send_up-clause-none : goal.returns-in_err-send_up-clause-none
+returns-in_err-send_up-clause-none c = λ none. absurd (omega (arith, c.loop-up-test.true, ap length none))
+
+pub returns-clause-frames : goal.returns-clause-frames
+returns-clause-frames c = λ before are. subst (AreFrames IsUpFrame c.loop-up.pipe) (ap (λ l. before ++ l) (take_all c.loop-up.up-index c.args.ups.now (omega (arith, c.loop-up-test.false)))) (c.loop-up.invariant before are)

@@ -1,9 +1,9 @@
 -- What is kept of a server is what the arrival leaves of it.
 use Rattle.sim_plain.specs.declared.message.UpOf.TheVariants as up
 use Rattle.sim_plain.specs.Messages.{Heard}
-use Rattle.sim_server.specs.Silence.{IsSilent}
+use Rattle.sim_server.specs.Silence.{IsSilent, SaysNoted}
 use Rattle.sim_server.specs.Standing.{server_of}
-use Rattle.sim_server.proofs.Silence.{silent}
+use Rattle.sim_server.proofs.Silence.{silent, noted}
 use Rattle.sim_server.proofs.Whole.{later}
 use Rattle.sim_server.proofs.server.Server.hear.Goals as goal
 
@@ -36,3 +36,18 @@ returns-in-State-clause-silent c = λ s. let still : IsSilent c.args.self.now.ru
 
 pub returns-in-Command-clause-silent : goal.returns-in-Command-clause-silent
 returns-in-Command-clause-silent c = λ s. let still : IsSilent c.args.self.now.rules (server_of c.args.self.now) (Heard c.args.from (up.Command c.in-Command.turn c.in-Command.command)) = rw c.in-Command.is at s in absurd still
+
+pub returns-in-Join-clause-noted : goal.returns-in-Join-clause-noted
+returns-in-Join-clause-noted c = λ s. let none : SaysNoted c.args.self.now c.args.from up.Join = rw c.in-Join.is at s in absurd none
+
+pub returns-in-Command-clause-noted : goal.returns-in-Command-clause-noted
+returns-in-Command-clause-noted c = λ s. let none : SaysNoted c.args.self.now c.args.from (up.Command c.in-Command.turn c.in-Command.command) = rw c.in-Command.is at s in absurd none
+
+pub returns-in-Done-clause-noted : goal.returns-in-Done-clause-noted
+returns-in-Done-clause-noted c = λ s. let none : SaysNoted c.args.self.now c.args.from (up.Done c.in-Done.turn) = rw c.in-Done.is at s in absurd none
+
+pub returns-in-State-clause-noted : goal.returns-in-State-clause-noted
+returns-in-State-clause-noted c = λ s. let none : SaysNoted c.args.self.now c.args.from (up.State c.in-State.client c.in-State.turn c.in-State.bytes) = rw c.in-State.is at s in absurd none
+
+pub returns-in-Report-clause-noted : goal.returns-in-Report-clause-noted
+returns-in-Report-clause-noted c = λ s. let report : SaysNoted c.args.self.now c.args.from (up.Report c.in-Report.turn c.in-Report.digest) = rw c.in-Report.is at s in noted c.args.self.now c.hear_report.new.self c.args.from c.in-Report.turn c.in-Report.digest c.hear_report.result c.hear_report.ensures.made (c.hear_report.ensures.noted report) report

@@ -5,11 +5,11 @@ use Rattle.std.proofs.lemmas.Bool.{false≢true}
 use Rattle.sim_plain.specs.declared.message.UpOf.{UpOf}
 use Rattle.sim_plain.specs.Messages.{Heard}
 use Rattle.sim_wire.proofs.Fronts.{are_bytes}
-use Rattle.sim_server.specs.Silence.{IsSilent}
+use Rattle.sim_server.specs.Silence.{IsSilent, SaysNoted}
 use Rattle.sim_server.specs.Standing.{server_of}
 use Rattle.sim_server.proofs.Made.{answers}
 use Rattle.sim_server.proofs.Raw.{made_heard, made_cut}
-use Rattle.sim_server.proofs.Silence.{is_frame}
+use Rattle.sim_server.proofs.Silence.{is_frame, noted_is_light}
 use Rattle.sim_server.proofs.server.Server.hear_frame.Goals as goal
 
 pub returns-in-Ok-clause-made : goal.returns-in-Ok-clause-made
@@ -33,3 +33,10 @@ returns-in-Err-clause-made c = made_cut c.args.self.now c.cut.new.self c.args.fr
 
 pub returns-in-Err-clause-answers : goal.returns-in-Err-clause-answers
 returns-in-Err-clause-answers c = λ active h. answers _ _ active h _ c.cut.result (made_cut c.args.self.now c.cut.new.self c.args.from c.args.bytes.now c.cut.result (are_bytes _ c.type_inv.bytes) (λ message is. search rules) c.cut.ensures.made)
+
+pub returns-in-Ok-clause-noted : goal.returns-in-Ok-clause-noted
+returns-in-Ok-clause-noted c = λ message is report. c.hear.ensures.noted (subst (SaysNoted c.args.self.now c.args.from) (sym (c.in-Ok.ensures.reads message is)) report)
+
+pub returns-in-Err-OutOfMemory-clause-noted : goal.returns-in-Err-OutOfMemory-clause-noted
+returns-in-Err-OutOfMemory-clause-noted c =
+    λ message is report. absurd (false≢true (sym (noted_is_light c.args.self.now c.args.from message report) ∙ c.unframe_up.ensures.memory message is (c.in-Err-OutOfMemory.is ∙ ap Err c.in-Err-OutOfMemory.field-0-is)))

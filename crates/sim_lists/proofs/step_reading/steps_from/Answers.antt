@@ -1,0 +1,11 @@
+-- One step more. Where the first item is refused early, there is none.
+use Rattle.std.proofs.Common.{rules, arith}
+use Rattle.std.proofs.lemmas.Grind.{common_steps}
+use Rattle.sim_lists.proofs.step_reading.steps_from.Goals as goal
+
+pub loop-rest-preserved : goal.loop-rest-preserved
+loop-rest-preserved c = record {
+  start = search rules;
+  same = grind (arith, common_steps);
+  limits = grind (arith, common_steps);
+}

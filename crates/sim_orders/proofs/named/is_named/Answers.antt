@@ -1,0 +1,7 @@
+use Rattle.std.proofs.Common.{◌≡◌, ◌∙◌}
+use Rattle.sim_orders.proofs.Halves.{named_by_halves}
+use Rattle.sim_orders.proofs.named.is_named.Goals as goal
+
+pub returns-then-is_between : goal.returns-then-is_between
+returns-then-is_between c =
+    c.is_ok.ensures.value ∙ named_by_halves c.args.ids.now c.args.id c.binary_search.result c.requires c.binary_search.ensures.position
