@@ -29,6 +29,8 @@ use Rattle.sim_sections.specs.Sections.{IsAhead, section_at, row_if}
 use Rattle.sim_sections.specs.SectionLaws.{Back, section_back, row_if_back}
 use Rattle.sim_sections.specs.Versions.{has_stances}
 use Rattle.sim_sections.specs.Walking.{stances_at, sections_at, parts_at, holds, row_of}
+use Rattle.sim_codec.specs.Parts.{HasParts}
+use Rattle.sim_codec.specs.PartLaws.{is_some-map, health_like, motion_like, attack_like}
 use Rattle.sim_codec.specs.Reading.{row_at, rows_at, state_at}
 use Rattle.sim_codec.specs.Versions.{stances, sections_by, CanSay}
 use Rattle.sim_codec.proofs.Clock.{clock_regrouped}
@@ -168,21 +170,6 @@ sections_back version rows fits few =
 
 -- ---- one row
 
--- a row has the parts of its template
-pub record IsLike (row : Row) (template : Template) : Type 0 where
-  pub health : is_some row.health ≡ is_some template.health
-  pub motion : is_some row.motion ≡ is_some template.speed
-  pub attack : is_some row.attack ≡ is_some template.arms
-
-pub record HasParts (templates : List Template) (row : Row) : Type 0 where
-  pub template : Template
-  pub known : slice_get templates row.template ≡ Some template
-  pub like : IsLike row template
-
-is_some-map : {X Y : Type 0} (f : X → Y) (o : Option X) → is_some (option_map f o) ≡ is_some o
-is_some-map f None = refl
-is_some-map f (Some x) = refl
-
 -- what a version says of the stance of an entity, by whom it attacks
 abbrev stance_by : Version → ℕ → Option Aim → Option (ℕ × Bool)
 stance_by One id attack = None
@@ -224,12 +211,9 @@ parts_back version templates row rows w fits has ahead =
     let m = row_if_back IsMoving moving_bytes moving_at moving_back (with_id motion_part row) (rows_with motion_part rows) w.motion (moving_fits row fits) ahead.motion in
     let a = row_if_back IsAttack attack_bytes attack_at attack_back (with_id attack_part row) (rows_with attack_part rows) w.attack (attack_fits row fits) ahead.attack in
     let s = next_stance version row rows (is_some has.template.arms) w.stance fits has.like.attack ahead.stance in
-    let hb : is_some (with_id health_part row) ≡ is_some has.template.health = is_some-map (λ (x : ℤ). (row.id, x)) row.health ∙ has.like.health in
-    let mb : is_some (with_id motion_part row) ≡ is_some has.template.speed = is_some-map (λ (x : Motion). (row.id, x)) row.motion ∙ has.like.motion in
-    let ab : is_some (with_id attack_part row) ≡ is_some has.template.arms = is_some-map (λ (x : ℕ × ℕ). (row.id, x)) (attack_part row) ∙ is_some-map (λ (aim : Aim). (aim.target, aim.cooldown)) row.attack ∙ has.like.attack in
-    let h1 = subst (λ b. row_if health_at b w.health ≡ Some (with_id health_part row, h.0)) hb h.1 in
-    let m1 = subst (λ b. row_if moving_at b w.motion ≡ Some (with_id motion_part row, m.0)) mb m.1 in
-    let a1 = subst (λ b. row_if attack_at b w.attack ≡ Some (with_id attack_part row, a.0)) ab a.1 in
+    let h1 = subst (λ b. row_if health_at b w.health ≡ Some (with_id health_part row, h.0)) (health_like row has.template has.like) h.1 in
+    let m1 = subst (λ b. row_if moving_at b w.motion ≡ Some (with_id motion_part row, m.0)) (motion_like row has.template has.like) m.1 in
+    let a1 = subst (λ b. row_if attack_at b w.attack ≡ Some (with_id attack_part row, a.0)) (attack_like row has.template has.like) a.1 in
     let s1 = subst (λ v. row_if stance_at (has_stances v && is_some has.template.arms) w.stance ≡ Some (stance_by version row.id row.attack, s.0)) (sym ahead.by) s.1 in (
       record { version = w.version; entity = e.0; position = p.0; owner = o.0; health = h.0; motion = m.0; attack = a.0; stance = s.0 },
       rw (e.1, has.known, p.1, o.1, h1, m1, a1, s1) refl,

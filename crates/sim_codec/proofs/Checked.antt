@@ -1,7 +1,8 @@
 -- Rows that were looked at one by one.
-use Rattle.std.proofs.Common.{◌≡◌, ℕ, ◌+◌, ◌-◌, ◌<◌, ◌≤◌, Bool, true, false, List, length, take, get_or, All, map, sym, inl, inr, subst, ◌∙◌, arith}
-use Rattle.std.specs.Prelude.{IsTrue, ◌↔◌}
-use Rattle.std.proofs.lemmas.Bool.{false≢true, cases_lt}
+use Rattle.std.proofs.Common.{◌≡◌, refl, ℕ, ◌+◌, ◌-◌, ◌<◌, ◌≤◌, Bool, true, false, List, length, take, get_or, All, map, sym, inl, inr, subst, ◌∙◌, arith}
+use Rattle.std.specs.Prelude.{IsTrue, ◌↔◌, nat_lt}
+use Rattle.std.specs.List.{IsAllAdjacentAnswer}
+use Rattle.std.proofs.lemmas.Bool.{false≢true, cases_lt, ltb-true, ltb-false}
 use Rattle.std.specs.List.Sorted.{IsStrictlyIncreasing}
 use Rattle.sim_base.specs.declared.state.Row.{Row}
 use Rattle.sim_base.specs.Rows.{id_of}
@@ -39,3 +40,14 @@ not_above rows i x y from lt le increasing =
     let e : i - 1 + 1 ≡ i = omega arith in
     let h = increasing (i - 1) (rw (length-map rows id_of) (omega arith)) in
     omega (arith, rw e at h, id_at_is rows (i - 1) x (omega arith), id_at_is rows i y lt)
+
+-- where each was asked whether its key is below that of the next
+pub ascending_answer : {A : Type 0} (key : A → ℕ) (d : A) (xs : List A) (answer : Bool) → IsAllAdjacentAnswer (λ x y b. b ≡ nat_lt (key x) (key y)) xs answer → IsTrue answer ↔ IsStrictlyIncreasing (map key xs)
+ascending_answer key d xs true all = (λ _ k lt. rises k (omega (arith, lt, length-map xs key)), λ _. refl)
+  where
+    rises : (k : ℕ) → k + 1 < length xs → get_or (map key xs) k 0 < get_or (map key xs) (k + 1) 0
+    rises k lt = omega (arith, ltb-true _ _ (sym (all k d lt)), get_or-map key xs k d 0 (omega arith), get_or-map key xs (k + 1) d 0 lt)
+ascending_answer key d xs false some = (λ no'. absurd (false≢true no'), λ up. absurd (falls (up some.0 (omega (arith, some.1, length-map xs key)))))
+  where
+    falls : get_or (map key xs) some.0 0 < get_or (map key xs) (some.0 + 1) 0 → ⊥
+    falls lt = omega (arith, ltb-false _ _ (sym (some.2 d)), get_or-map key xs some.0 d 0 (omega (arith, some.1)), get_or-map key xs (some.0 + 1) d 0 some.1)

@@ -9,6 +9,7 @@ pub mod Clock
 pub mod OfEntity
 pub mod ShortWays
 pub mod TakenRows
+pub mod FirstSection
 pub mod OldRows
 pub mod QuickPlaces
 pub mod GoodRows

@@ -1,17 +1,10 @@
 -- Rows that are taken one after the other from where they stand.
-use Rattle.std.proofs.Common.{◌≡◌, ℕ, zero, suc, ◌+◌, ◌-◌, ◌*◌, ◌<◌, ◌≤◌, Bool, true, false, ltb, cond, List, [], ◌∷◌, length, map, take, drop, Option, Some, None, refl, sym, ap, ◌∙◌, arith, ℤ}
+use Rattle.std.proofs.Common.{◌≡◌, ℕ, zero, suc, ◌+◌, ◌-◌, ◌<◌, ◌≤◌, Bool, true, false, List, [], ◌∷◌, length, Option, Some, None, refl, sym, ap, ◌∙◌, arith, ℤ}
 use Rattle.std.specs.Prelude.{◌&&◌, is_some, slice_get, option_map, option_and_then, unwrap_or}
-use Rattle.std.specs.Int.{Width, w16, w32, byte_len, from_le_bytes}
-use Rattle.std.specs.List.{list_any}
-use Rattle.std.specs.Simd.{first_chunks}
-use Rattle.std.proofs.lemmas.Bool.{ltb-false}
-use Rattle.std.proofs.lemmas.List.{drop-take, drop-drop, length-drop}
-use Rattle.sim_base.specs.Rows.{id_of}
 use Rattle.sim_base.specs.declared.place.Point.{Point}
 use Rattle.sim_base.specs.declared.state.Row.{Row}
 use Rattle.sim_base.specs.declared.template.Template.{Template}
-use Rattle.sim_base.specs.Validity.{has_health}
-use Rattle.sim_bytes.specs.Reading.{Reader, ◌>>=◌, number_at}
+use Rattle.sim_bytes.specs.Reading.{Reader, ◌>>=◌}
 use Rattle.sim_sections.specs.declared.walk.Walk.{Walk}
 use Rattle.sim_sections.specs.declared.walk.Parts.{Parts}
 use Rattle.sim_sections.specs.Rows.{entity_at, position_at, owner_at, health_at, moving_at, attack_at, stance_at}
@@ -19,7 +12,9 @@ use Rattle.sim_sections.specs.Sections.{row_if}
 use Rattle.sim_sections.specs.Versions.{has_stances}
 use Rattle.sim_sections.specs.Walking.{parts_at, row_of}
 use Rattle.sim_codec.specs.Reading.{row_at, rows_at}
-use Rattle.sim_codec.specs.Stored.{rows_in, lives, id_in, template_in, lives_as}
+use Rattle.sim_codec.specs.Parts.{HasParts}
+use Rattle.sim_codec.specs.PartLaws.{is_some-map}
+use Rattle.sim_codec.specs.Stored.{rows_in}
 
 -- a row in front of others that are read
 abbrev before : Row → Option (List Row × Walk) → Option (List Row × Walk)
@@ -117,7 +112,7 @@ few_read ts n w rows e = by (rows_at ts n w) refl e (length_read ts n w)
     by None h f all = absurd cc
     by (Some r) h f all = ap (λ (o : Option (List Row)). length (unwrap_or o [])) f ∙ ap (λ (o : Option (List Row × Walk)). length (rows_in o)) (sym h) ∙ all (ap is_some h)
 
--- ---- who is alive
+-- ---- what a row is read from
 
 pub bind_some : {A B : Type 0} (o : Option A) (f : A → Option B) (b : B) → o >>= f ≡ Some b → (a : A) × (o ≡ Some a) × (f a ≡ Some b)
 bind_some (Some a) f b h = (a, refl, h)
@@ -130,23 +125,22 @@ is_some-if {X = X} at true bytes x h =
     let f = bind_some (at bytes) (λ (y : X × List ℕ). Some (Some y.0, y.1)) x h in
     sym (ap (λ (o : Option (Option X × List ℕ)). is_some (option_and_then (λ (z : Option X × List ℕ). z.0) o)) f.2)
 
-is_some-map : {X Y : Type 0} (f : X → Y) (o : Option X) → is_some (option_map f o) ≡ is_some o
-is_some-map f None = refl
-is_some-map f (Some x) = refl
-
+-- what is read first: the row of the first section, and the parts of its template
 pub record IsFirst (ts : List Template) (w : Walk) (p : Parts) (after : Walk) : Type 0 where
   pub entity : entity_at w.entity ≡ Some (p.entity, after.entity)
-  pub health : is_some p.health ≡ lives ts p.entity.1
+  pub has : HasParts ts (row_of p)
   pub by : w.version ≡ after.version
   pub stance : has_stances w.version ≡ false → is_some p.stance ≡ false
 
-inject : {A : Type 0} (x y : A) → Some x ≡ Some y → x ≡ y
+pub inject : {A : Type 0} (x y : A) → Some x ≡ Some y → x ≡ y
 inject x y e = cc
 
 -- what the last three sections leave of what was read before them, and of the version
 pub record Ended (w : Walk) (t : Template) (e : (ℕ × ℕ) × List ℕ) (h : Option (ℕ × ℤ)) (p : Parts) (after : Walk) : Type 0 where
   pub entity : e ≡ (p.entity, after.entity)
   pub health : h ≡ p.health
+  pub motion : is_some p.motion ≡ is_some t.speed
+  pub attack : is_some p.attack ≡ is_some t.arms
   pub by : w.version ≡ after.version
   pub stance : is_some p.stance ≡ (has_stances w.version && is_some t.arms)
 
@@ -166,12 +160,13 @@ ended w t e place owner h p after read =
     let attack = bind_some (row_if attack_at (is_some t.arms) w.attack) _ (p, after) motion.2 in
     let stance = bind_some (row_if stance_at (has_stances w.version && is_some t.arms) w.stance) _ (p, after) attack.2 in
     let same = inject _ (p, after) stance.2 in
-    let stances : stance.0.0 ≡ p.stance = ap (λ (x : Parts × Walk). x.0.stance) same in
     record {
       entity = ap (λ (x : Parts × Walk). (x.0.entity, x.1.entity)) same;
       health = ap (λ (x : Parts × Walk). x.0.health) same;
+      motion = ap (λ (x : Parts × Walk). is_some x.0.motion) (sym same) ∙ is_some-if moving_at (is_some t.speed) w.motion motion.0 motion.1;
+      attack = ap (λ (x : Parts × Walk). is_some x.0.attack) (sym same) ∙ is_some-if attack_at (is_some t.arms) w.attack attack.0 attack.1;
       by = ap (λ (x : Parts × Walk). x.1.version) same;
-      stance = ap is_some (sym stances) ∙ is_some-if stance_at (has_stances w.version && is_some t.arms) w.stance stance.0 stance.1;
+      stance = ap (λ (x : Parts × Walk). is_some x.0.stance) (sym same) ∙ is_some-if stance_at (has_stances w.version && is_some t.arms) w.stance stance.0 stance.1;
     }
 
 pub first_of : (ts : List Template) (w : Walk) (p : Parts) (after : Walk) → parts_at ts w ≡ Some (p, after) → IsFirst ts w p after
@@ -183,102 +178,17 @@ first_of ts w p after read =
     let owner = bind_some (owner_at w.owner) _ (p, after) place.2 in
     let health = bind_some (row_if health_at (is_some t.0.health) w.health) _ (p, after) owner.2 in
     let last = ended w t.0 e.0 place.0 owner.0 health.0 p after health.2 in
-    let alive : is_some t.0.health ≡ lives ts e.0.0.1 = ap (λ (o : Option Template). is_some (option_and_then (λ (x : Template). x.health) o)) (sym t.1) in
     record {
       entity = e.1 ∙ ap Some last.entity;
-      health = ap is_some (sym last.health) ∙ is_some-if health_at (is_some t.0.health) w.health health.0 health.1 ∙ alive ∙ ap (λ (x : (ℕ × ℕ) × List ℕ). lives ts x.0.1) last.entity;
+      has = record {
+        template = t.0;
+        known = ap (λ (x : (ℕ × ℕ) × List ℕ). slice_get ts x.0.1) (sym last.entity) ∙ t.1;
+        like = record {
+          health = is_some-map _ p.health ∙ ap is_some (sym last.health) ∙ is_some-if health_at (is_some t.0.health) w.health health.0 health.1;
+          motion = is_some-map _ p.motion ∙ last.motion;
+          attack = is_some-map _ p.attack ∙ last.attack;
+        };
+      };
       by = last.by;
       stance = λ none. last.stance ∙ ap (λ (b : Bool). b && is_some t.0.arms) none;
     }
-
-number_is : (w : Width) (bytes : List ℕ) (x : ℕ × List ℕ) → number_at w bytes ≡ Some x → (byte_len w ≤ length bytes) × ((from_le_bytes w (take (byte_len w) bytes), drop (byte_len w) bytes) ≡ x)
-number_is w bytes x h = by (ltb (length bytes) (byte_len w)) refl
-  where
-    value : ℕ × List ℕ
-    value = (from_le_bytes w (take (byte_len w) bytes), drop (byte_len w) bytes)
-
-    by : (b : Bool) → ltb (length bytes) (byte_len w) ≡ b → (byte_len w ≤ length bytes) × (value ≡ x)
-    by true short = absurd (let f : cond true None (Some value) ≡ Some x = ap (λ b. cond b None (Some value)) (sym short) ∙ h in cc)
-    by false long = (ltb-false (length bytes) (byte_len w) long, inject value x (ap (λ b. cond b None (Some value)) (sym long) ∙ h))
-
--- a row of the first section has six bytes
-pub record IsEntityOf (bytes : List ℕ) (e : ℕ × ℕ) (after : List ℕ) : Type 0 where
-  pub id : id_in (take 6 bytes) ≡ e.0
-  pub template : template_in (take 6 bytes) ≡ e.1
-  pub behind : drop 6 bytes ≡ after
-  pub long : 6 ≤ length bytes
-
-entity_is : (bytes : List ℕ) (e : ℕ × ℕ) (after : List ℕ) → entity_at bytes ≡ Some (e, after) → IsEntityOf bytes e after
-unfolding entity_at
-entity_is bytes e after h =
-    let id = bind_some (number_at w32 bytes) _ (e, after) h in
-    let template = bind_some (number_at w16 id.0.1) _ (e, after) id.2 in
-    let same : ◌≡◌ {A = (ℕ × ℕ) × List ℕ} ((id.0.0, template.0.0), template.0.1) (e, after) = inject _ (e, after) template.2 in
-    let first = number_is w32 bytes id.0 id.1 in
-    let second = number_is w16 id.0.1 template.0 template.1 in
-    let rest : drop 4 bytes ≡ id.0.1 = ap (λ (x : ℕ × List ℕ). x.1) first.1 in
-    record {
-      id = ap (from_le_bytes w32) (take-take bytes) ∙ ap (λ (x : ℕ × List ℕ). x.0) first.1 ∙ ap (λ (x : (ℕ × ℕ) × List ℕ). x.0.0) same;
-      template = ap (λ (b : List ℕ). from_le_bytes w16 (take 2 b)) (drop-take 4 2 bytes) ∙ ap (from_le_bytes w16) (take_two (drop 4 bytes)) ∙ ap (λ (b : List ℕ). from_le_bytes w16 (take 2 b)) rest
-          ∙ ap (λ (x : ℕ × List ℕ). x.0) second.1 ∙ ap (λ (x : (ℕ × ℕ) × List ℕ). x.0.1) same;
-      behind = sym (drop-drop 2 4 bytes) ∙ ap (drop 2) rest ∙ ap (λ (x : ℕ × List ℕ). x.1) second.1 ∙ ap (λ (x : (ℕ × ℕ) × List ℕ). x.1) same;
-      long = omega (arith, first.0, second.0, ap length rest, length-drop 4 bytes);
-    }
-  where
-    take-take : (b : List ℕ) → take 4 (take 6 b) ≡ take 4 b
-    take-take (b0 ∷ b1 ∷ b2 ∷ b3 ∷ b) = refl
-    take-take (b0 ∷ b1 ∷ b2 ∷ []) = refl
-    take-take (b0 ∷ b1 ∷ []) = refl
-    take-take (b0 ∷ []) = refl
-    take-take [] = refl
-
-    take_two : (b : List ℕ) → take 2 (take 2 b) ≡ take 2 b
-    take_two (b0 ∷ b1 ∷ b) = refl
-    take_two (b0 ∷ []) = refl
-    take_two [] = refl
-
--- the rows of the first section have the ids of the rows that are read
-pub chunk_ids : (ts : List Template) (n : ℕ) (w : Walk) → is_some (rows_at ts n w) ≡ true → map id_in (first_chunks 6 n w.entity) ≡ map id_of (rows_in (rows_at ts n w))
-chunk_ids ts zero w some = ap (λ (r : Option (List Row × Walk)). map id_of (rows_in r)) (sym (no_more ts w))
-chunk_ids ts (suc n) w some = by (parts_at ts w) refl (λ after. chunk_ids ts n after)
-  where
-    by : (o : Option (Parts × Walk)) → parts_at ts w ≡ o → ((after : Walk) → is_some (rows_at ts n after) ≡ true → map id_in (first_chunks 6 n after.entity) ≡ map id_of (rows_in (rows_at ts n after)))
-        → map id_in (first_chunks 6 (suc n) w.entity) ≡ map id_of (rows_in (rows_at ts (suc n) w))
-    by None h all = absurd (must_go_on ts (suc n) n w refl h some)
-    by (Some p) h all =
-        let is = entity_is w.entity p.0.entity p.1.entity (first_of ts w p.0 p.1 h).entity in
-        let others = all p.1 (can_next ts (suc n) n w p.0 p.1 refl h some) in
-        rw (next_row ts (suc n) n w p.0 p.1 refl h some, is.id, is.behind, others) refl
-
--- and there are bytes for all of them
-pub chunks_fit : (ts : List Template) (n : ℕ) (w : Walk) → is_some (rows_at ts n w) ≡ true → n * 6 ≤ length w.entity
-chunks_fit ts zero w some = omega arith
-chunks_fit ts (suc n) w some = by (parts_at ts w) refl (λ after. chunks_fit ts n after)
-  where
-    by : (o : Option (Parts × Walk)) → parts_at ts w ≡ o → ((after : Walk) → is_some (rows_at ts n after) ≡ true → n * 6 ≤ length after.entity) → suc n * 6 ≤ length w.entity
-    by None h all = absurd (must_go_on ts (suc n) n w refl h some)
-    by (Some p) h all =
-        let is = entity_is w.entity p.0.entity p.1.entity (first_of ts w p.0 p.1 h).entity in
-        let others = all p.1 (can_next ts (suc n) n w p.0 p.1 refl h some) in
-        omega (arith, others, is.long, ap length is.behind, length-drop 6 w.entity)
-
--- one of them has an id and a template with health just where one of the rows has it and health
-pub alive_read : (ts : List Template) (id n : ℕ) (w : Walk) → is_some (rows_at ts n w) ≡ true → list_any (lives_as ts id) (first_chunks 6 n w.entity) ≡ has_health (rows_in (rows_at ts n w)) id
-alive_read ts id zero w some = rw (no_more ts w) refl
-alive_read ts id (suc n) w some = by (parts_at ts w) refl (λ after. alive_read ts id n after)
-  where
-    by : (o : Option (Parts × Walk)) → parts_at ts w ≡ o → ((after : Walk) → is_some (rows_at ts n after) ≡ true → list_any (lives_as ts id) (first_chunks 6 n after.entity) ≡ has_health (rows_in (rows_at ts n after)) id)
-        → list_any (lives_as ts id) (first_chunks 6 (suc n) w.entity) ≡ has_health (rows_in (rows_at ts (suc n) w)) id
-    by None h all = absurd (must_go_on ts (suc n) n w refl h some)
-    by (Some p) h all =
-        let first = first_of ts w p.0 p.1 h in
-        let is = entity_is w.entity p.0.entity p.1.entity first.entity in
-        let others = all p.1 (can_next ts (suc n) n w p.0 p.1 refl h some) in
-        let health : is_some (option_map (λ (r : ℕ × ℤ). r.1) p.0.health) ≡ lives ts p.0.entity.1 = is_some-map (λ (r : ℕ × ℤ). r.1) p.0.health ∙ first.health in
-        rw (next_row ts (suc n) n w p.0 p.1 refl h some, is.id, is.template, is.behind, others, health) refl
-
--- the first chunks among more of them
-pub chunks_among : (n k m : ℕ) (xs : List ℕ) → k ≤ m → take k (first_chunks n m xs) ≡ first_chunks n k xs
-chunks_among n zero m xs le = refl
-chunks_among n (suc k) zero xs le = absurd (omega arith)
-chunks_among n (suc k) (suc m) xs le = ap (λ (rest : List (List ℕ)). take n xs ∷ rest) (chunks_among n k m (drop n xs) (omega (arith, le)))

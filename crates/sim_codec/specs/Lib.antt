@@ -1,4 +1,7 @@
 pub mod Reading
+pub mod Entities
+pub mod Parts
+pub mod PartLaws
 pub mod Stored
 pub mod Versions
 pub mod Loading

@@ -1,15 +1,15 @@
 //! The test of a state that still stands in its bytes: what `validity` asks of one in memory. The ids are seen to ascend
 //! first, so that each target is then found by halves.
 
-ghost use Rattle.std.specs.Prelude.{◌≡◌, ◌↔◌, ◌<◌, IsTrue, map, option_map};
+ghost use Rattle.std.specs.Prelude.{◌≡◌, ◌↔◌, ◌<◌, ◌≤◌, IsTrue, map, option_map};
 ghost use Rattle.std.specs.List.Sorted.{IsStrictlyIncreasing};
 ghost use Rattle.sim_base.specs.Rows.{id_of};
 ghost use Rattle.sim_base.specs.Validity.{IsValidMotion, Both, IsValidAim, IsValidRow, IsKnownRow, IsValid};
 ghost use Rattle.sim_sections.specs.Walking.{row_of};
-ghost use Rattle.sim_codec.specs.Stored.{AreRising, AreGood};
+ghost use Rattle.sim_codec.specs.Stored.{AreGood};
 
 use crate::stored::{Stored, StoredRows};
-use crate::validity::{are_inside, has_valid_health, is_inside_setup, is_valid_clock};
+use crate::validity::{are_inside, has_valid_health, is_id_below, is_inside_setup, is_valid_clock};
 use sim_base::{Aim, Arms, Fixed, Setup, Template};
 use sim_sections::{MotionRow, Parts};
 
@@ -91,12 +91,12 @@ fn is_known_row(setup: &Setup, all: &StoredRows<'_>, parts: &Parts) -> bool
     }
 }
 
-// Whether the row is one of the match, with an id below the next that is free.
+// Whether the row is one of the match, with an id from 2 on that is below the next free one.
 fn is_good(setup: &Setup, all: &StoredRows<'_>, parts: &Parts, next: u32) -> bool
     requires { IsStrictlyIncreasing (map id_of all.now) }
-    ensures { IsTrue result ↔ (((row_of parts.now).id < next) × IsKnownRow 1 setup.now all.now (row_of parts.now)) }
+    ensures { IsTrue result ↔ (((2 ≤ (row_of parts.now).id) × ((row_of parts.now).id < next)) × IsKnownRow 1 setup.now all.now (row_of parts.now)) }
 {
-    parts.entity.id < next && is_known_row(setup, all, parts)
+    is_id_below(parts.entity.id, next) && is_known_row(setup, all, parts)
 }
 
 fn are_good(setup: &Setup, all: &StoredRows<'_>, next: u32) -> bool
@@ -112,25 +112,10 @@ fn are_good(setup: &Setup, all: &StoredRows<'_>, next: u32) -> bool
     true
 }
 
-// Whether each id is above the one before, and the first above 1.
-fn are_rising(all: &StoredRows<'_>) -> bool
-    ensures { IsTrue result ↔ AreRising 1 all.now }
-{
-    let mut rows = all.fork();
-    let mut before = 1u32;
-    'rows: while let Some(parts) = rows.next() {
-        if parts.entity.id <= before {
-            return false;
-        }
-        before = parts.entity.id;
-    }
-    true
-}
-
 fn are_valid(setup: &Setup, all: &StoredRows<'_>, next: u32) -> bool
-    ensures { IsTrue result ↔ (AreRising 1 all.now × AreGood setup.now all.now next all.now) }
+    ensures { IsTrue result ↔ (IsStrictlyIncreasing (map id_of all.now) × AreGood setup.now all.now next all.now) }
 {
-    are_rising(all) && are_good(setup, all, next)
+    all.are_ascending() && are_good(setup, all, next)
 }
 
 /// Whether the state is valid in the match. It takes no memory.

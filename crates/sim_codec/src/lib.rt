@@ -44,6 +44,7 @@
 //! - `report`: what a report of a state carries, a whole or a quick digest.
 //! - `fault`: why bytes are not loaded.
 //! - `stored`: a state that still stands in its bytes, of which rows are taken without memory.
+//! - `entities`: what ids and templates say of all entities, read off the first section.
 //! - `part`, `same`, `good`: whether bytes are the spelling of the state that was read from them, and whether it is valid.
 //! - `reading`, `loading`: the state in memory, and the state that bytes stand for.
 //! - `bits`: the bytes of one entity in one section.
@@ -52,6 +53,7 @@
 #![tactic(auto)]
 
 mod bits;
+mod entities;
 mod fault;
 mod good;
 mod laws;

@@ -1,7 +1,7 @@
 //! Whether bytes are the spelling of the state that was read from them. The spelling is told into a comparison, row by
 //! row as the rows are taken, so that no memory is needed for it.
 
-ghost use Rattle.std.specs.Prelude.{◌≡◌, ◌↔◌, ◌<◌, ◌^◌, length, IsTrue, OnOk};
+ghost use Rattle.std.specs.Prelude.{◌≡◌, ◌↔◌, IsTrue, OnOk};
 ghost use Rattle.std.specs.List.{flat_map, filter_map};
 ghost use Rattle.sim_base.specs.Spelling.{section};
 ghost use Rattle.sim_bytes.specs.Telling.{Tells};
@@ -15,20 +15,6 @@ use sim_bytes::{ByteSink, Comparing, tell_u8, tell_u32};
 use sim_sections::{
     AttackRow, EntityRow, HealthRow, MotionRow, OwnerRow, PositionRow, StanceRow, Version,
 };
-
-// How many of the rows have this part.
-fn count<R: PartForm>(mut rows: StoredRows<'_>) -> u32
-    requires { length rows < 2 ^ 32 }
-    ensures { result ≡ length (filter_map R.in_row rows.entry) }
-{
-    let mut found = 0u32;
-    'rows: while let Some(parts) = rows.next() {
-        if R::from_parts(parts).is_some() {
-            found += 1;
-        }
-    }
-    found
-}
 
 // Tells the rows that have this part.
 fn tell_rows<K: ByteSink, R: PartForm>(
@@ -49,11 +35,10 @@ fn tell_section<K: ByteSink, R: PartForm>(
     out: &mut K,
     rows: &StoredRows<'_>,
 ) -> Result<(), K::Fault>
-    requires { length rows.now < 2 ^ 32 }
     ensures { OnOk result (Tells K.holds out.old out.new (section R.TAG R.spelled (filter_map R.in_row rows.now))) }
 {
     tell_u8(out, R::TAG)?;
-    tell_u32(out, count::<R>(rows.fork()))?;
+    tell_u32(out, rows.count::<R>())?;
     tell_rows::<K, R>(out, rows.fork())
 }
 
@@ -63,7 +48,6 @@ fn tell_stances<K: ByteSink>(
     version: Version,
     rows: &StoredRows<'_>,
 ) -> Result<(), K::Fault>
-    requires { length rows.now < 2 ^ 32 }
     ensures { OnOk result (Tells K.holds out.old out.new (stances version rows.now)) }
 {
     match version {
@@ -77,7 +61,6 @@ fn tell_sections<K: ByteSink>(
     version: Version,
     rows: &StoredRows<'_>,
 ) -> Result<(), K::Fault>
-    requires { length rows.now < 2 ^ 32 }
     ensures { OnOk result (Tells K.holds out.old out.new (sections_by version rows.now)) }
 {
     tell_section::<K, EntityRow>(out, rows)?;

@@ -1,16 +1,17 @@
 //! A state that still stands in its bytes. Its rows are taken one after the other as often as they are wanted, and no
 //! memory with them.
 
-ghost use Rattle.std.specs.Prelude.{◌≡◌, [], ◌∷◌, ◌≤◌, ◌*◌, length, map, is_some, None, Some, MatchOption, MatchResult, option_map};
+ghost use Rattle.std.specs.Prelude.{◌≡◌, ◌↔◌, [], ◌∷◌, ◌≤◌, IsTrue, length, map, is_some, None, Some, MatchOption, MatchResult, option_map};
+ghost use Rattle.std.specs.List.{filter_map};
 ghost use Rattle.std.specs.List.Sorted.{IsStrictlyIncreasing};
-ghost use Rattle.std.specs.List.{list_any};
-ghost use Rattle.std.specs.Simd.{first_chunks};
-ghost use Rattle.sim_base.specs.Rows.{id_of as row_id};
-ghost use Rattle.sim_base.specs.Validity.{has_health as row_lives};
+ghost use Rattle.sim_base.specs.Rows.{id_of};
+ghost use Rattle.sim_base.specs.Validity.{has_health};
 ghost use Rattle.sim_sections.specs.Walking.{row_of};
 ghost use Rattle.sim_codec.specs.Reading.{rows_at, state_at};
-ghost use Rattle.sim_codec.specs.Stored.{rows_in, lives, id_in, template_in, lives_as};
+ghost use Rattle.sim_codec.specs.Stored.{rows_in};
 
+use crate::entities::{are_ascending, count, entities_in, is_living};
+use crate::part::PartForm;
 use sim_base::{MAX_ROWS, Setup, Template};
 use sim_bytes::{Short, Take};
 use sim_sections::{Parts, Version, Walk, locate, take_parts};
@@ -65,49 +66,6 @@ fn can_take(templates: &[Template], count: u32, mut walk: Walk<'_>) -> bool
     true
 }
 
-fn has_health(templates: &[Template], number: u16) -> bool
-    ensures { result ≡ lives templates.now number }
-{
-    match templates.get(number as usize) {
-        None => false,
-        Some(template) => template.health.is_some(),
-    }
-}
-
-// The id of a row of the first section.
-fn id_of(row: &[u8; 6]) -> u32
-    ensures { result ≡ id_in row.now }
-{
-    u32::from_le_bytes([row[0], row[1], row[2], row[3]])
-}
-
-// The template of a row of the first section.
-fn template_of(row: &[u8; 6]) -> u16
-    ensures { result ≡ template_in row.now }
-{
-    u16::from_le_bytes([row[4], row[5]])
-}
-
-// So many rows of the first section, each of six bytes.
-fn entities_in(section: &[u8], count: usize) -> &[[u8; 6]]
-    requires { count * 6 ≤ length section.now }
-    ensures { result.now ≡ first_chunks 6 count section.now }
-{
-    let (entities, _) = section.as_chunks::<6>();
-    &entities[..count]
-}
-
-// Whether one of these rows has this id and a template with health. Ids ascend, so it is found by halves.
-fn is_living(templates: &[Template], entities: &[[u8; 6]], id: u32) -> bool
-    requires { IsStrictlyIncreasing (map id_in entities.now) }
-    ensures { result ≡ list_any (lives_as templates.now id) entities.now }
-{
-    match entities.binary_search_by_key(&id, |entity| id_of(entity)) {
-        Ok(at) => has_health(templates, template_of(&entities[at])),
-        Err(_) => false,
-    }
-}
-
 impl<'a> StoredRows<'a> {
     /// So many rows, or None where they cannot be taken.
     pub fn new(templates: &'a [Template], count: u32, walk: Walk<'a>) -> Option<StoredRows<'a>>
@@ -151,13 +109,29 @@ impl<'a> StoredRows<'a> {
         }
     }
 
+    /// Whether the id of each row is above the one before.
+    pub fn are_ascending(&self) -> bool
+        ensures { IsTrue result ↔ IsStrictlyIncreasing (map id_of self.now) }
+    {
+        let entities = entities_in(self.walk.entity.bytes(), self.count as usize);
+        are_ascending(entities)
+    }
+
     /// Whether one of the rows has this id and health.
     pub fn is_alive(&self, id: u32) -> bool
-        requires { IsStrictlyIncreasing (map row_id self.now) }
-        ensures { result ≡ row_lives self.now id }
+        requires { IsStrictlyIncreasing (map id_of self.now) }
+        ensures { result ≡ has_health self.now id }
     {
         let entities = entities_in(self.walk.entity.bytes(), self.count as usize);
         is_living(self.templates, entities, id)
+    }
+
+    /// How many of the rows have this part.
+    pub fn count<R: PartForm>(&self) -> u32
+        ensures { result ≡ length (filter_map R.in_row self.now) }
+    {
+        let entities = entities_in(self.walk.entity.bytes(), self.count as usize);
+        count::<R>(self.templates, entities) as u32
     }
 }
 

@@ -165,17 +165,18 @@ fn are_ascending(rows: &[Row]) -> bool
     true
 }
 
-fn is_id_below(row: &Row, next: u32) -> bool
-    ensures { IsTrue result ↔ ((2 ≤ row.now.id) × (row.now.id < next)) }
+/// Whether it is the id of an entity, and below the next free one.
+pub fn is_id_below(id: u32, next: u32) -> bool
+    ensures { IsTrue result ↔ ((2 ≤ id) × (id < next)) }
 {
-    2 <= row.id && row.id < next
+    2 <= id && id < next
 }
 
 fn are_ids_below(rows: &[Row], next: u32) -> bool
     ensures { IsTrue result ↔ All (λ row. (2 ≤ row.id) × (row.id < next)) rows.now }
 {
     for row in rows {
-        if !is_id_below(row, next) {
+        if !is_id_below(row.id, next) {
             return false;
         }
     }

@@ -1,19 +1,25 @@
 -- The closure gives the id of a row, and the ids ascend.
+use Rattle.std.specs.Prelude.{Bool, is_some}
+use Rattle.sim_base.specs.declared.template.Template.{Template}
 use Rattle.std.proofs.Common.{ℕ, List, [], get_or, rules, sym, ap, ◌∙◌}
 use Rattle.std.proofs.lemmas.Cmp.{ranked}
 use Rattle.std.proofs.lemmas.List.{get_or_default}
 use Rattle.std.proofs.lemmas.List.Sorted.{answers_always}
-use Rattle.sim_codec.specs.Stored.{lives, id_in, template_in}
+use Rattle.sim_codec.specs.Entities.{id_in, template_in, passes}
 use Rattle.sim_codec.proofs.Halves.{found, missing, no_key}
-use Rattle.sim_codec.proofs.stored.is_living.Goals as goal
+use Rattle.sim_codec.proofs.entities.is_living.Goals as goal
+
+-- the template of this number has health
+abbrev lives : List Template → ℕ → Bool
+lives = passes (λ (t : Template). is_some t.health)
 
 pub returns-in-Ok : goal.returns-in-Ok
 returns-in-Ok c =
     let by_id = c.in-Ok.ensures.position id_in (answers_always _ _ _ (λ f a r g called. search rules)) in
     let x : List ℕ = get_or c.args.entities.now c.in-Ok.at [] in
     let same = get_or_default c.args.entities.now c.in-Ok.at [] x c.in-Ok.ensures.bound in
-    found id_in (λ bytes. lives c.args.templates.now (template_in bytes)) c.args.entities.now c.args.id c.in-Ok.at x c.has_health.result c.requires c.in-Ok.ensures.bound same (λ d. ranked _ c.args.id _ (sym (by_id d)))
-    (c.has_health.ensures ∙ ap (lives c.args.templates.now) c.template_of.ensures ∙ ap (λ (bytes : List ℕ). lives c.args.templates.now (template_in bytes)) same)
+    found id_in (λ bytes. lives c.args.templates.now (template_in bytes)) c.args.entities.now c.args.id c.in-Ok.at x c.has.result c.requires c.in-Ok.ensures.bound same (λ d. ranked _ c.args.id _ (sym (by_id d)))
+    (c.has.ensures ∙ ap (lives c.args.templates.now) c.template_of.ensures ∙ ap (λ (bytes : List ℕ). lives c.args.templates.now (template_in bytes)) same)
 
 pub returns-in-Err : goal.returns-in-Err
 returns-in-Err c =

@@ -1,0 +1,20 @@
+-- The rows of the first section, each of six bytes: what they say of an entity, and what its template then says.
+use Rattle.std.specs.Prelude.{ℕ, ◌==◌, ◌&&◌, Bool, false, is_some, List, take, drop, option_map, unwrap_or, slice_get}
+use Rattle.std.specs.Int.{w16, w32, from_le_bytes}
+use Rattle.sim_base.specs.declared.template.Template.{Template}
+
+-- the id
+abbrev pub id_in : List ℕ → ℕ
+id_in bytes = from_le_bytes w32 (take 4 bytes)
+
+-- the number of the template
+abbrev pub template_in : List ℕ → ℕ
+template_in bytes = from_le_bytes w16 (take 2 (drop 4 bytes))
+
+-- the template of this number passes the test
+abbrev pub passes : (Template → Bool) → List Template → ℕ → Bool
+passes test templates number = unwrap_or (option_map test (slice_get templates number)) false
+
+-- it has an id, and its template has health
+abbrev pub lives_as : List Template → ℕ → List ℕ → Bool
+lives_as templates id bytes = id_in bytes == id && passes (λ t. is_some t.health) templates (template_in bytes)

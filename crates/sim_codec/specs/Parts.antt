@@ -1,0 +1,16 @@
+-- Which parts a row has by its template.
+use Rattle.std.specs.Prelude.{◌≡◌, is_some, List, Some, slice_get}
+use Rattle.sim_base.specs.declared.state.Row.{Row}
+use Rattle.sim_base.specs.declared.template.Template.{Template}
+
+-- a row has the parts of its template
+pub record IsLike (row : Row) (template : Template) : Type 0 where
+  pub health : is_some row.health ≡ is_some template.health
+  pub motion : is_some row.motion ≡ is_some template.speed
+  pub attack : is_some row.attack ≡ is_some template.arms
+
+-- its template is among these, and it has the parts of that
+pub record HasParts (templates : List Template) (row : Row) : Type 0 where
+  pub template : Template
+  pub known : slice_get templates row.template ≡ Some template
+  pub like : IsLike row template
