@@ -59,6 +59,7 @@ fn opened(board: &mut Board<'_>) -> Result<[bool; 3], OutOfMemory>
 fn start_without(board: &mut Board<'_>, alloc: Global, id: u32) -> Result<bool, OutOfMemory>
     requires limits { IsSetup (setup_in board.old) }
     requires kinds { HaveKinds (systems board.old ⟦<dyn System as System>⟧) }
+    ensures { HaveKinds (systems board.new ⟦<dyn System as System>⟧) }
 {
     board.start()?;
     let scene = board.scene();
