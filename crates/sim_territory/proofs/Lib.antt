@@ -1,0 +1,11 @@
+pub mod CellLists
+pub mod Holding
+pub mod SumPlaces
+pub mod Shares
+pub mod Moving
+pub mod Bases
+pub mod Following
+pub mod Flooding
+pub mod Keeping
+pub mod Rooting
+mod Examples

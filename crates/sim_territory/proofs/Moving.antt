@@ -1,0 +1,255 @@
+-- A building comes or goes at one cell after another.
+use Rattle.std.proofs.Common.{◌≡◌, ℕ, ◌+◌, ◌<◌, ◌≤◌, Bool, true, false, refl, sym, ap, ◌∙◌, subst, ◌⊎◌, inl, inr, arith}
+use Rattle.std.specs.Prelude.{◌==◌, ◌&&◌, ◌||◌, nat_le, nat_lt}
+use Rattle.std.proofs.lemmas.Bool.{cases_Bool, cases_lt, cases_eq, and_parts, and_from, and_left, and_right, lt-ltb, le-leb}
+use Rattle.std.proofs.lemmas.Bool.Decides.{nat_tests}
+use Rattle.sim_base.specs.declared.place.Cell.{Cell}
+use Rattle.sim_base.specs.Places.{Size, same_cell}
+use Rattle.sim_base.specs.Steps.{IsOnGround}
+use Rattle.sim_laws.proofs.Ground.{same_cell-true, same_cell-self}
+use Rattle.sim_grid.proofs.Beside.{same_or_not}
+use Rattle.sim_territory.specs.declared.building.Building.{Building}
+use Rattle.sim_territory.specs.declared.sums.Sums.{Sums}
+use Rattle.sim_territory.specs.Buildings.{strength_of, share_of, SpansNear}
+use Rattle.sim_territory.specs.Tables.{size_in, sum_at, HasShapeOf, IsSummed, Moves, MayMove, IsPlaceIn, SumsMove, MaySumsMove, share_where}
+use Rattle.sim_territory.proofs.Shares.{share-own, share-other, share-weak, where-true, where-false, where-weak, where-split, where-within, far-east, far-north, left_out}
+
+-- ---- one ground, and as many players
+
+pub shape-same : (sums : Sums) → HasShapeOf sums sums
+shape-same sums = record { width = refl; depth = refl; players = refl }
+
+pub shape-chain : (a b c : Sums) → HasShapeOf a b → HasShapeOf b c → HasShapeOf a c
+shape-chain a b c f g = record { width = g.width ∙ f.width; depth = g.depth ∙ f.depth; players = g.players ∙ f.players }
+
+pub size-shape : (old new : Sums) → HasShapeOf old new → size_in new ≡ size_in old
+size-shape old new shape =
+    ap (λ (w : ℕ). let s : Size = record { width = w; depth = new.depth } in s) shape.width
+    ∙ ap (λ (d : ℕ). let s : Size = record { width = old.width; depth = d } in s) shape.depth
+
+pub place-later : (old new : Sums) (player : ℕ) (c : Cell) → HasShapeOf old new → IsPlaceIn old player c → IsPlaceIn new player c
+place-later old new player c shape at =
+    record {
+      least = at.least;
+      most = let most = at.most in let same = shape.players in omega arith;
+      ground = subst (λ (s : Size). IsOnGround s c) (sym (size-shape old new shape)) at.ground;
+    }
+
+pub place-before : (old new : Sums) (player : ℕ) (c : Cell) → HasShapeOf old new → IsPlaceIn new player c → IsPlaceIn old player c
+place-before old new player c shape at =
+    record {
+      least = at.least;
+      most = let most = at.most in let same = shape.players in omega arith;
+      ground = subst (λ (s : Size). IsOnGround s c) (size-shape old new shape) at.ground;
+    }
+
+-- ---- numbers
+
+moves_chain : (more : Bool) (a b old mid new : ℕ) → Moves more a old mid → Moves more b mid new → Moves more (a + b) old new
+moves_chain true a b old mid new f g = omega (arith, f, g)
+moves_chain false a b old mid new f g = omega (arith, f, g)
+
+moves_none : (more : Bool) (n : ℕ) → Moves more 0 n n
+moves_none true n = omega arith
+moves_none false n = omega arith
+
+may_later : (more : Bool) (a b all old mid : ℕ) → a + b ≤ all → Moves more a old mid → MayMove more all old → MayMove more b mid
+may_later true a b all old mid le f may = omega (arith, f, may, le)
+may_later false a b all old mid le f may = omega (arith, f, may, le)
+
+-- ---- tables
+
+pub sums_none : (more : Bool) (by : ℕ → Cell → ℕ) (sums : Sums) → ((player : ℕ) (c : Cell) → IsPlaceIn sums player c → by player c ≡ 0) → SumsMove more by sums sums
+sums_none more by sums none =
+    record {
+      shape = shape-same sums;
+      each = λ player c at. subst (λ (n : ℕ). Moves more n (sum_at sums player c) (sum_at sums player c)) (sym (none player c at)) (moves_none more (sum_at sums player c));
+    }
+
+pub sums_same : (more : Bool) (by other : ℕ → Cell → ℕ) (old new : Sums) → ((player : ℕ) (c : Cell) → IsPlaceIn old player c → by player c ≡ other player c) → SumsMove more by old new → SumsMove more other old new
+sums_same more by other old new same moved =
+    record {
+      shape = moved.shape;
+      each = λ player c at. subst (λ (n : ℕ). Moves more n (sum_at old player c) (sum_at new player c)) (same player c at) (moved.each player c at);
+    }
+
+pub may_same : (more : Bool) (by other : ℕ → Cell → ℕ) (sums : Sums) → ((player : ℕ) (c : Cell) → IsPlaceIn sums player c → by player c ≡ other player c) → MaySumsMove more by sums → MaySumsMove more other sums
+may_same more by other sums same may player c at = subst (λ (n : ℕ). MayMove more n (sum_at sums player c)) (same player c at) (may player c at)
+
+module _ (more : Bool) (b : Building) (p q r : Cell → Bool) (old mid : Sums) where
+  pub sums_more : (new : Sums) → ((c : Cell) → r c ≡ (p c || q c)) → ((c : Cell) → p c ≡ true → q c ≡ false) → SumsMove more (share_where p b) old mid → SumsMove more (share_where q b) mid new → SumsMove more (share_where r b) old new
+  sums_more new split apart first second =
+      record {
+        shape = shape-chain old mid new first.shape second.shape;
+        each = λ player c at.
+            subst (λ (n : ℕ). Moves more n (sum_at old player c) (sum_at new player c)) (sym (where-split p q r b player c (split c) (apart c)))
+            (moves_chain more (share_where p b player c) (share_where q b player c) (sum_at old player c) (sum_at mid player c) (sum_at new player c)
+            (first.each player c at)
+            (second.each player c (place-later old mid player c first.shape at)));
+      }
+
+  pub sums_may : ((c : Cell) → p c ≡ true → r c ≡ true) → ((c : Cell) → q c ≡ true → r c ≡ true) → ((c : Cell) → p c ≡ true → q c ≡ false) → SumsMove more (share_where p b) old mid → MaySumsMove more (share_where r b) old → MaySumsMove more (share_where q b) mid
+  sums_may f g apart first may player c at =
+      let before = place-before old mid player c first.shape at in
+      may_later more (share_where p b player c) (share_where q b player c) (share_where r b player c) (sum_at old player c) (sum_at mid player c)
+      (where-within p q r b player c (f c) (g c) (apart c)) (first.each player c before) (may player c before)
+
+-- ---- one cell
+
+pub cell_may : (more : Bool) (b : Building) (cell : Cell) (sums : Sums) → IsPlaceIn sums b.owner cell → MaySumsMove more (share_where (λ w. same_cell w cell) b) sums → MayMove more (strength_of b cell) (sum_at sums b.owner cell)
+cell_may more b cell sums at may =
+    subst (λ (n : ℕ). MayMove more n (sum_at sums b.owner cell)) (where-true (λ w. same_cell w cell) b b.owner cell (same_cell-self cell) ∙ share-own b b.owner cell refl) (may b.owner cell at)
+
+pub cell_moves : (more : Bool) (b : Building) (cell : Cell) (old new : Sums) (influence : ℕ) → IsSummed old new b.owner cell influence → Moves more (strength_of b cell) (sum_at old b.owner cell) influence →
+    SumsMove more (share_where (λ w. same_cell w cell) b) old new
+cell_moves more b cell old new influence summed step =
+    record { shape = summed.shape; each = λ player c at. each player c at (same_or_not c cell) (cases_eq player b.owner) }
+  where
+    stays : (player : ℕ) (c : Cell) → share_where (λ w. same_cell w cell) b player c ≡ 0 → sum_at new player c ≡ sum_at old player c → Moves more (share_where (λ w. same_cell w cell) b player c) (sum_at old player c) (sum_at new player c)
+    stays player c none same =
+        subst (λ (n : ℕ). Moves more n (sum_at old player c) (sum_at new player c)) (sym none)
+        (subst (λ (n : ℕ). Moves more 0 (sum_at old player c) n) (sym same) (moves_none more (sum_at old player c)))
+
+    other : (c : Cell) → (c ≡ cell → ⊥) → same_cell c cell ≡ false
+    other c ne = by (cases_Bool (same_cell c cell))
+      where
+        by : (same_cell c cell ≡ true) ⊎ (same_cell c cell ≡ false) → same_cell c cell ≡ false
+        by (inl e) = absurd (ne (same_cell-true c cell e))
+        by (inr e) = e
+
+    here : Moves more (share_where (λ w. same_cell w cell) b b.owner cell) (sum_at old b.owner cell) (sum_at new b.owner cell)
+    here =
+        subst (λ (n : ℕ). Moves more n (sum_at old b.owner cell) (sum_at new b.owner cell)) (sym (where-true (λ w. same_cell w cell) b b.owner cell (same_cell-self cell) ∙ share-own b b.owner cell refl))
+        (subst (λ (n : ℕ). Moves more (strength_of b cell) (sum_at old b.owner cell) n) (sym summed.here) step)
+
+    each : (player : ℕ) (c : Cell) → IsPlaceIn old player c → (c ≡ cell) ⊎ (c ≡ cell → ⊥) → (player ≡ b.owner) ⊎ (player ≡ b.owner → ⊥) → Moves more (share_where (λ w. same_cell w cell) b player c) (sum_at old player c) (sum_at new player c)
+    each player c at (inl e) (inl f) =
+        subst (λ (v : Cell). Moves more (share_where (λ w. same_cell w cell) b player v) (sum_at old player v) (sum_at new player v)) (sym e)
+        (subst (λ (n : ℕ). Moves more (share_where (λ w. same_cell w cell) b n cell) (sum_at old n cell) (sum_at new n cell)) (sym f) here)
+    each player c at (inl e) (inr ne) =
+        subst (λ (v : Cell). Moves more (share_where (λ w. same_cell w cell) b player v) (sum_at old player v) (sum_at new player v)) (sym e)
+        (stays player cell (where-true (λ w. same_cell w cell) b player cell (same_cell-self cell) ∙ share-other b player cell ne) (summed.beside player at.least ne))
+    each player c at (inr ne) f = stays player c (where-false (λ w. same_cell w cell) b player c (other c ne)) (summed.elsewhere player c at.ground ne)
+
+pub cell_stays : (more : Bool) (b : Building) (cell : Cell) (sums : Sums) → strength_of b cell ≡ 0 → SumsMove more (share_where (λ w. same_cell w cell) b) sums sums
+cell_stays more b cell sums weak = sums_none more (share_where (λ w. same_cell w cell) b) sums (λ player c at. none player c (same_or_not c cell))
+  where
+    none : (player : ℕ) (c : Cell) → (c ≡ cell) ⊎ (c ≡ cell → ⊥) → share_where (λ w. same_cell w cell) b player c ≡ 0
+    none player c (inl e) = where-weak (λ w. same_cell w cell) b player c (ap (strength_of b) e ∙ weak)
+    none player c (inr ne) = by (cases_Bool (same_cell c cell))
+      where
+        by : (same_cell c cell ≡ true) ⊎ (same_cell c cell ≡ false) → share_where (λ w. same_cell w cell) b player c ≡ 0
+        by (inl e) = absurd (ne (same_cell-true c cell e))
+        by (inr e) = where-false (λ w. same_cell w cell) b player c e
+
+-- ---- a row
+
+-- the cells of row z from the first to before the end
+abbrev pub in_part : ℕ → ℕ → ℕ → Cell → Bool
+in_part z west x c = c.z == z && (nat_le west c.x && nat_lt c.x x)
+
+-- the cells of a row
+abbrev pub in_line : ℕ → Cell → Bool
+in_line z c = c.z == z
+
+no_number : (west n : ℕ) → (nat_le west n && nat_lt n west) ≡ false
+no_number west n = grind (arith, nat_tests)
+
+one_more : (west x n : ℕ) → west ≤ x → (nat_le west n && nat_lt n (x + 1)) ≡ ((nat_le west n && nat_lt n x) || (n == x))
+one_more west x n le = grind (arith, nat_tests)
+
+past : (west x n : ℕ) → (nat_le west n && nat_lt n x) ≡ true → (n == x) ≡ false
+past west x n e = grind (arith, nat_tests)
+
+part_none : (z west : ℕ) (c : Cell) → in_part z west west c ≡ false
+part_none z west c = and_right (c.z == z) (nat_le west c.x && nat_lt c.x west) (no_number west c.x)
+
+part_more : (z west x : ℕ) (c : Cell) → west ≤ x → in_part z west (x + 1) c ≡ (in_part z west x c || same_cell c (record { x = x; z = z }))
+part_more z west x c le = by (c.z == z) (c.x == x) (one_more west x c.x le)
+  where
+    by : (b e : Bool) → (nat_le west c.x && nat_lt c.x (x + 1)) ≡ ((nat_le west c.x && nat_lt c.x x) || e) → (b && (nat_le west c.x && nat_lt c.x (x + 1))) ≡ ((b && (nat_le west c.x && nat_lt c.x x)) || (e && b))
+    by true true h = h
+    by true false h = h
+    by false true h = refl
+    by false false h = refl
+
+part_apart : (z west x : ℕ) (c : Cell) → in_part z west x c ≡ true → same_cell c (record { x = x; z = z }) ≡ false
+part_apart z west x c e = and_left (c.x == x) (c.z == z) (past west x c.x (and_parts (c.z == z) (nat_le west c.x && nat_lt c.x x) e).1)
+
+part_line : (z west x : ℕ) (c : Cell) → in_part z west x c ≡ true → in_line z c ≡ true
+part_line z west x c e = (and_parts (c.z == z) (nat_le west c.x && nat_lt c.x x) e).0
+
+cell_line : (z x : ℕ) (c : Cell) → same_cell c (record { x = x; z = z }) ≡ true → in_line z c ≡ true
+cell_line z x c e = (and_parts (c.x == x) (c.z == z) e).1
+
+module _ (more : Bool) (b : Building) (old mid : Sums) (z west : ℕ) where
+  pub part_begins : SumsMove more (share_where (in_part z west west) b) old old
+  part_begins = sums_none more (share_where (in_part z west west) b) old (λ player c at. where-false (in_part z west west) b player c (part_none z west c))
+
+  pub part_may : (x : ℕ) → SumsMove more (share_where (in_part z west x) b) old mid → MaySumsMove more (share_where (in_line z) b) old → MaySumsMove more (share_where (λ c. same_cell c (record { x = x; z = z })) b) mid
+  part_may x first may = sums_may more b (in_part z west x) (λ c. same_cell c (record { x = x; z = z })) (in_line z) old mid (part_line z west x) (cell_line z x) (part_apart z west x) first may
+
+  pub part_moves : (x : ℕ) (new : Sums) → west ≤ x → SumsMove more (share_where (in_part z west x) b) old mid → SumsMove more (share_where (λ c. same_cell c (record { x = x; z = z })) b) mid new → SumsMove more (share_where (in_part z west (x + 1)) b) old new
+  part_moves x new le first second =
+      sums_more more b (in_part z west x) (λ c. same_cell c (record { x = x; z = z })) (in_part z west (x + 1)) old mid new (λ c. part_more z west x c le) (part_apart z west x) first second
+
+  pub part_ends : (east : ℕ) → SpansNear b.cell.x b.reach old.width (west, east) → SumsMove more (share_where (in_part z west east) b) old mid → SumsMove more (share_where (in_line z) b) old mid
+  part_ends east spans = sums_same more (share_where (in_part z west east) b) (share_where (in_line z) b) old mid (λ player c at. same player c at.ground (cases_lt c.x west) (cases_lt c.x east))
+    where
+      weak : (player : ℕ) (c : Cell) → IsOnGround (size_in old) c → (c.x < west) ⊎ (east ≤ c.x) → share_where (in_part z west east) b player c ≡ share_where (in_line z) b player c
+      weak player c on out =
+          let none = far-east b c (left_out b.cell.x b.reach old.width c.x (west, east) spans on.east out) in
+          where-weak (in_part z west east) b player c none ∙ sym (where-weak (in_line z) b player c none)
+
+      inner : (player : ℕ) (c : Cell) → west ≤ c.x → c.x < east → (in_line z c ≡ true) ⊎ (in_line z c ≡ false) → share_where (in_part z west east) b player c ≡ share_where (in_line z) b player c
+      inner player c le lt (inl e) =
+          where-true (in_part z west east) b player c (and_from (c.z == z) (nat_le west c.x && nat_lt c.x east) e (and_from (nat_le west c.x) (nat_lt c.x east) (le-leb west c.x le) (lt-ltb c.x east lt)))
+          ∙ sym (where-true (in_line z) b player c e)
+      inner player c le lt (inr e) = where-false (in_part z west east) b player c (and_left (c.z == z) (nat_le west c.x && nat_lt c.x east) e) ∙ sym (where-false (in_line z) b player c e)
+
+      same : (player : ℕ) (c : Cell) → IsOnGround (size_in old) c → (c.x < west) ⊎ (west ≤ c.x) → (c.x < east) ⊎ (east ≤ c.x) → share_where (in_part z west east) b player c ≡ share_where (in_line z) b player c
+      same player c on (inl before) f = weak player c on (inl before)
+      same player c on (inr from) (inr past) = weak player c on (inr past)
+      same player c on (inr from) (inl below) = inner player c from below (cases_Bool (in_line z c))
+
+-- ---- several rows
+
+-- the rows from the first to before the end
+abbrev pub in_rows : ℕ → ℕ → Cell → Bool
+in_rows south z c = nat_le south c.z && nat_lt c.z z
+
+-- all cells
+abbrev pub anywhere : Cell → Bool
+anywhere c = true
+
+rows_none : (south : ℕ) (c : Cell) → in_rows south south c ≡ false
+rows_none south c = no_number south c.z
+
+rows_more : (south z : ℕ) (c : Cell) → south ≤ z → in_rows south (z + 1) c ≡ (in_rows south z c || in_line z c)
+rows_more south z c le = one_more south z c.z le
+
+rows_apart : (south z : ℕ) (c : Cell) → in_rows south z c ≡ true → in_line z c ≡ false
+rows_apart south z c e = past south z c.z e
+
+module _ (more : Bool) (b : Building) (old mid : Sums) (south : ℕ) where
+  pub rows_begin : SumsMove more (share_where (in_rows south south) b) old old
+  rows_begin = sums_none more (share_where (in_rows south south) b) old (λ player c at. where-false (in_rows south south) b player c (rows_none south c))
+
+  pub rows_may : (z : ℕ) → SumsMove more (share_where (in_rows south z) b) old mid → MaySumsMove more (share_of b) old → MaySumsMove more (share_where (in_line z) b) mid
+  rows_may z first may = sums_may more b (in_rows south z) (in_line z) anywhere old mid (λ c e. refl) (λ c e. refl) (rows_apart south z) first may
+
+  pub rows_move : (z : ℕ) (new : Sums) → south ≤ z → SumsMove more (share_where (in_rows south z) b) old mid → SumsMove more (share_where (in_line z) b) mid new → SumsMove more (share_where (in_rows south (z + 1)) b) old new
+  rows_move z new le first second = sums_more more b (in_rows south z) (in_line z) (in_rows south (z + 1)) old mid new (λ c. rows_more south z c le) (rows_apart south z) first second
+
+  pub rows_end : (north : ℕ) → SpansNear b.cell.z b.reach old.depth (south, north) → SumsMove more (share_where (in_rows south north) b) old mid → SumsMove more (share_of b) old mid
+  rows_end north spans = sums_same more (share_where (in_rows south north) b) (share_of b) old mid (λ player c at. same player c at.ground (cases_lt c.z south) (cases_lt c.z north))
+    where
+      weak : (player : ℕ) (c : Cell) → IsOnGround (size_in old) c → (c.z < south) ⊎ (north ≤ c.z) → share_where (in_rows south north) b player c ≡ share_of b player c
+      weak player c on out =
+          let none = far-north b c (left_out b.cell.z b.reach old.depth c.z (south, north) spans on.north out) in
+          where-weak (in_rows south north) b player c none ∙ sym (share-weak b player c none)
+
+      same : (player : ℕ) (c : Cell) → IsOnGround (size_in old) c → (c.z < south) ⊎ (south ≤ c.z) → (c.z < north) ⊎ (north ≤ c.z) → share_where (in_rows south north) b player c ≡ share_of b player c
+      same player c on (inl before) f = weak player c on (inl before)
+      same player c on (inr from) (inr past) = weak player c on (inr past)
+      same player c on (inr from) (inl below) = where-true (in_rows south north) b player c (and_from (nat_le south c.z) (nat_lt c.z north) (le-leb south c.z from) (lt-ltb c.z north below))

@@ -1,0 +1,9 @@
+use Rattle.sim_territory.specs.Floods.{ground_of, work_left}
+use Rattle.sim_territory.proofs.Flooding.{Filling}
+use Rattle.sim_territory.proofs.flood.Flood.fill.Given as goal
+
+abbrev pub invariant-loop-from : goal.invariant-loop-from
+invariant-loop-from l = Filling (ground_of l.initial.self l.holders) l.initial.self l.self
+
+abbrev pub decreases-loop-from : goal.decreases-loop-from
+decreases-loop-from l = work_left l.self

@@ -1,0 +1,6 @@
+use Rattle.sim_territory.specs.Tables.{sum_at}
+use Rattle.sim_territory.proofs.Holding.{IsBestBefore}
+use Rattle.sim_territory.proofs.sums.Sums.holder.Given as goal
+
+abbrev pub invariant-loop-player : goal.invariant-loop-player
+invariant-loop-player l = IsBestBefore (λ player. sum_at l.self player l.cell) l.player l.holder l.most

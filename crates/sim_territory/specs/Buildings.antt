@@ -1,0 +1,33 @@
+-- Buildings, as the table of influences takes them.
+use Rattle.std.specs.Prelude.{◌≡◌, ℕ, ◌*◌, ◌-◌, ◌<◌, ◌≤◌, ◌==◌, if◌then◌else◌}
+use Rattle.std.specs.Int.{abs_diff}
+use Rattle.sim_base.specs.declared.place.Cell.{Cell}
+use Rattle.sim_base.specs.declared.setup.Setup.{Setup}
+use Rattle.sim_base.specs.Steps.{octile}
+use Rattle.sim_trail.specs.declared.mark.Mark.{Mark}
+use Rattle.sim_territory.specs.declared.building.Building.{Building}
+use Rattle.sim_territory.specs.Influence.{share}
+
+-- the strength of a building at a cell
+abbrev pub strength_of : Building → Cell → ℕ
+strength_of building c = building.reach - octile building.cell c
+
+-- what a building gives to a player's influence at a cell
+abbrev pub share_of : Building → ℕ → Cell → ℕ
+share_of building player c = if building.owner == player then strength_of building c else 0
+
+-- the building stands where the entity does, is of the same owner, and gives what the entity gives
+pub record IsBuildingOf (setup : Setup) (mark : Mark) (building : Building) : Type 0 where
+  pub owner : building.owner ≡ mark.owner
+  pub cell : building.cell ≡ mark.cell
+  pub player : 1 ≤ building.owner
+  pub near : building.reach ≤ 1280
+  pub shares : (player : ℕ) (c : Cell) → share setup player c mark ≡ share_of building player c
+
+-- the entity gives nothing to any player
+abbrev pub GivesNothing : Setup → Mark → Type 0
+GivesNothing setup mark = (player : ℕ) (c : Cell) → 1 ≤ player → share setup player c mark ≡ 0
+
+-- the numbers from the first to before the end have all that are nearer than a reach, at 10 a cell
+abbrev pub SpansNear : ℕ → ℕ → ℕ → ℕ × ℕ → Type 0
+SpansNear from reach cells span = (n : ℕ) → n < cells → 10 * abs_diff from n < reach → (span.0 ≤ n) × (n < span.1)

@@ -1,0 +1,52 @@
+-- Who holds a cell.
+use Rattle.std.specs.Prelude.{◌≡◌, ℕ, ◌<◌, ◌≤◌, ◌⊎◌, Bool, false, ◌&&◌, ◌||◌, ◌==◌, if◌then◌else◌, nat_lt, nat_le, List, find, unwrap_or}
+use Rattle.std.specs.List.{range_with_len, list_all}
+use Rattle.sim_base.specs.declared.place.Cell.{Cell}
+use Rattle.sim_base.specs.declared.setup.Setup.{Setup}
+use Rattle.sim_trail.specs.declared.mark.Mark.{Mark}
+use Rattle.sim_territory.specs.Influence.{influence}
+
+-- a player has influence, and nobody has more
+abbrev pub has_most : ℕ → (ℕ → ℕ) → ℕ → Bool
+has_most players influences player = nat_lt 0 (influences player) && list_all (λ other. nat_le (influences other) (influences player)) (range_with_len 1 players)
+
+-- the least player who has influence while nobody has more, or 0
+abbrev pub holder_by : ℕ → (ℕ → ℕ) → ℕ
+holder_by players influences = unwrap_or (find (has_most players influences) (range_with_len 1 players)) 0
+
+-- the player who holds a cell, or 0
+abbrev pub holder : Setup → List Mark → Cell → ℕ
+holder setup marks c = holder_by setup.players (λ player. influence setup marks player c)
+
+-- the number is 0 and no player has influence
+pub record IsNobody (players : ℕ) (influences : ℕ → ℕ) (number : ℕ) : Type 0 where
+  pub none : number ≡ 0
+  pub all : (player : ℕ) → 1 ≤ player → player ≤ players → influences player ≡ 0
+
+-- the number is a player's who has influence, the greatest, and more than those before him
+pub record IsFirstGreatest (players : ℕ) (influences : ℕ → ℕ) (number : ℕ) : Type 0 where
+  pub least : 1 ≤ number
+  pub most : number ≤ players
+  pub some : 0 < influences number
+  pub greatest : (player : ℕ) → 1 ≤ player → player ≤ players → influences player ≤ influences number
+  pub first : (player : ℕ) → 1 ≤ player → player < number → influences player < influences number
+
+-- the number is that of the holder
+abbrev pub IsHolder : ℕ → (ℕ → ℕ) → ℕ → Type 0
+IsHolder players influences number = IsNobody players influences number ⊎ IsFirstGreatest players influences number
+
+-- the influence of a holder, or none of nobody
+abbrev pub of_holder : (ℕ → ℕ) → ℕ → ℕ
+of_holder influences holder = if holder == 0 then 0 else influences holder
+
+-- of a holder, or nobody, and a player the one with more influence, and the lesser of equals
+abbrev pub stronger_of : (ℕ → ℕ) → ℕ → ℕ → ℕ
+stronger_of influences holder player =
+    if nat_lt (of_holder influences holder) (influences player) || (nat_le (of_holder influences holder) (influences player) && nat_lt player holder) then player else holder
+
+-- one player held a cell before the influence of another player or his own changed there; where it did not fall, it is as much as it was
+pub record WasHeldBy (players : ℕ) (influences : ℕ → ℕ) (player before : ℕ) (fell : Bool) : Type 0 where
+  pub was : ℕ → ℕ
+  pub held : before ≡ holder_by players was
+  pub others : (other : ℕ) → 1 ≤ other → (other ≡ player → ⊥) → influences other ≡ was other
+  pub kept : fell ≡ false → was player ≤ influences player

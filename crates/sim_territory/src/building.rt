@@ -1,0 +1,90 @@
+//! A building as the table of influences takes it: whose it is, where it stands and how far its strength reaches. It stands
+//! apart, so that no template is looked at for a cell.
+
+ghost use Rattle.std.specs.Prelude.{◌≡◌, ◌<◌, ◌≤◌, ◌*◌, ◌+◌, MatchOption};
+ghost use Rattle.sim_base.specs.Limits.{IsSetup};
+ghost use Rattle.sim_base.specs.Steps.{IsOnGround};
+ghost use Rattle.sim_territory.specs.Buildings.{strength_of, IsBuildingOf, GivesNothing, SpansNear};
+ghost use Rattle.sim_territory.specs.Influence.{base_of as base_of_mark};
+
+use sim_base::{Base, Cell, Setup};
+use sim_grid::octile;
+use sim_trail::Mark;
+
+/// An obstruction of a player: its owner, its cell, and the octile distance at which its strength has come to nothing.
+#[derive(Clone, Copy, Debug, PartialEq, Eq)]
+pub struct Building {
+    pub owner: u8,
+    pub cell: Cell,
+    pub reach: u32,
+}
+
+impl Building {
+    /// The building of an entity; none where it is Gaia's or no obstruction.
+    pub fn of(setup: &Setup, mark: &Mark) -> Option<Building>
+        requires { IsSetup setup.now }
+        ensures { MatchOption result (GivesNothing setup.now mark.now) (IsBuildingOf setup.now mark.now) }
+    {
+        let base = base_of(setup, mark)?;
+        (mark.owner != 0).then_some(Building {
+            owner: mark.owner,
+            cell: mark.cell,
+            reach: 40 * (u32::from(base.width) + u32::from(base.depth)),
+        })
+    }
+
+    /// Its strength at a cell.
+    pub fn strength(&self, cell: Cell) -> u32
+        ensures { result ≡ strength_of self.now cell }
+    {
+        self.reach.saturating_sub(octile(self.cell, cell))
+    }
+
+    /// The columns of a ground that have all cells within its reach, from the first to before the end.
+    pub fn columns(&self, width: u16) -> (u16, u16)
+        requires on { self.now.cell.x < width }
+        requires narrow { width ≤ 256 }
+        requires near { self.now.reach ≤ 1280 }
+        ensures order { result.0 ≤ result.1 }
+        ensures most { result.1 ≤ width }
+        ensures all { SpansNear self.now.cell.x self.now.reach width result }
+    {
+        span(self.cell.x, self.reach, width)
+    }
+
+    /// The rows of a ground that have all cells within its reach, from the first to before the end.
+    pub fn rows(&self, depth: u16) -> (u16, u16)
+        requires on { self.now.cell.z < depth }
+        requires shallow { depth ≤ 256 }
+        requires near { self.now.reach ≤ 1280 }
+        ensures order { result.0 ≤ result.1 }
+        ensures most { result.1 ≤ depth }
+        ensures all { SpansNear self.now.cell.z self.now.reach depth result }
+    {
+        span(self.cell.z, self.reach, depth)
+    }
+}
+
+// The obstruction of an entity.
+fn base_of(setup: &Setup, mark: &Mark) -> Option<Base>
+    ensures { result ≡ base_of_mark setup.now mark.now }
+{
+    setup
+        .templates
+        .as_slice()
+        .get(usize::from(mark.template))?
+        .obstruct
+}
+
+// The numbers of so many that are nearer than a reach, at 10 a cell.
+fn span(from: u16, reach: u32, cells: u16) -> (u16, u16)
+    requires on { from < cells }
+    requires few { cells ≤ 256 }
+    requires near { reach ≤ 1280 }
+    ensures order { result.0 ≤ result.1 }
+    ensures most { result.1 ≤ cells }
+    ensures all { SpansNear from reach cells result }
+{
+    let radius = (reach.saturating_sub(1) / 10) as u16;
+    (from.saturating_sub(radius), (from + radius + 1).min(cells))
+}

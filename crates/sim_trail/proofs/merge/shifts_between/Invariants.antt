@@ -1,0 +1,11 @@
+-- What was told and what is left are the changes of all ids.
+use Rattle.std.proofs.Common.{◌+◌, length, max}
+use Rattle.sim_trail.specs.Shifts.{end_of}
+use Rattle.sim_trail.proofs.Merging.{Walks}
+use Rattle.sim_trail.proofs.merge.shifts_between.Given as goal
+
+abbrev pub invariant-ids : goal.invariant-ids
+invariant-ids l = Walks (max (end_of l.fn.olds) (end_of l.fn.news)) l.fn.olds l.fn.news l.olds l.news l.shifts
+
+abbrev pub decreases-ids : goal.decreases-ids
+decreases-ids l = length l.olds + length l.news

@@ -1,0 +1,6 @@
+use Rattle.std.proofs.Common.{◌≡◌, map, take}
+use Rattle.sim_trail.specs.Marks.{mark_of}
+use Rattle.sim_trail.proofs.trail.are_marks_of.Given as goal
+
+abbrev pub invariant-loop-at : goal.invariant-loop-at
+invariant-loop-at l = take l.at l.marks ≡ map mark_of (take l.at l.rows)

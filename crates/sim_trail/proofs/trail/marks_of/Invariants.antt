@@ -1,0 +1,6 @@
+use Rattle.std.proofs.Common.{◌≡◌, map, take}
+use Rattle.sim_trail.specs.Marks.{mark_of}
+use Rattle.sim_trail.proofs.trail.marks_of.Given as goal
+
+abbrev pub invariant-loop-row : goal.invariant-loop-row
+invariant-loop-row l = l.marks.items ≡ map mark_of (take l.row-index l.rows)

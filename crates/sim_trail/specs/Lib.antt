@@ -1,0 +1,4 @@
+pub mod Marks
+pub mod Shifts
+pub mod Sums
+pub mod Merge
