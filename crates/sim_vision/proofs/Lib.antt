@@ -1,0 +1,13 @@
+pub mod Discs
+pub mod Rows
+pub mod Places
+pub mod Turning
+pub mod Following
+pub mod Flat
+pub mod Marking
+pub mod Seeing
+pub mod Written
+pub mod Examples
+pub mod Joining
+pub mod After
+pub mod Telling

@@ -1,0 +1,27 @@
+-- A crossing is told, and what is left can be followed.
+use Rattle.std.proofs.Common.{sym, ◌∙◌, subst}
+use Rattle.sim_vision.specs.Fogs.{extent_of}
+use Rattle.sim_vision.specs.Watching.{Extent, IsKnownCrossing, IsTurned}
+use Rattle.sim_vision.proofs.Following.{known_crossing, goes_on}
+use Rattle.sim_vision.proofs.fog.Fog.follow.Goals as goal
+
+pub turn-requires-clause-known : goal.turn-requires-clause-known
+turn-requires-clause-known c =
+    let fog = c.args.self.now in
+    let now = c.shifts.self in
+    subst (λ (e : Extent). IsKnownCrossing e c.args.discs.now c.in-Some.crossing) (sym c.shifts.invariant.extent)
+    (known_crossing (extent_of fog) c.args.discs.now c.args.shifts.now c.shifts.rest.now c.in-Some.more.now c.in-Some.crossing c.in-Some.ensures
+    fog.counts.items now.counts.items fog.flags.items now.flags.items c.shifts.invariant.follows)
+
+pub shifts-preserved : goal.shifts-preserved
+shifts-preserved c =
+    let fog = c.args.self.now in
+    let now = c.shifts.self in
+    let turned = subst (λ (e : Extent). IsTurned e c.args.discs.now c.in-Some.crossing now.counts.items c.turn.new.self.counts.items now.flags.items
+    c.turn.new.self.flags.items) c.shifts.invariant.extent c.turn.ensures.turned in
+    record {
+      extent = c.turn.ensures.extent ∙ c.shifts.invariant.extent;
+      follows = goes_on (extent_of fog) c.args.discs.now c.args.shifts.now c.shifts.rest.now c.in-Some.more.now c.in-Some.crossing c.in-Some.ensures
+          fog.counts.items now.counts.items fog.flags.items now.flags.items c.shifts.invariant.follows
+          c.turn.new.self.counts.items c.turn.new.self.flags.items turned;
+    }

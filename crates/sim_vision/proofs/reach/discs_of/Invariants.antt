@@ -1,0 +1,6 @@
+use Rattle.std.proofs.Common.{◌≡◌, map, take}
+use Rattle.sim_vision.specs.Vision.{reach_of}
+use Rattle.sim_vision.proofs.reach.discs_of.Given as goal
+
+abbrev pub invariant-loop-template : goal.invariant-loop-template
+invariant-loop-template l = l.discs.items ≡ map reach_of (take l.template-index l.templates)

@@ -1,0 +1,10 @@
+-- The loop comes to the end of the cells, or has none.
+use Rattle.std.proofs.Common.{Bool, ◌+◌, get_or, sym, ap, ◌∙◌, arith}
+use Rattle.sim_vision.specs.Spans.{one_if}
+use Rattle.sim_vision.proofs.Rows.{done_same}
+use Rattle.sim_vision.proofs.row.lower.Goals as goal
+
+pub returns : goal.returns
+returns c = λ k.
+    let same = done_same c.args.from c.args.to c.loop-at.at k c.loop-at.auto.at (omega arith) c.loop-at.invariant.last in
+    ap (λ (b : Bool). get_or c.loop-at.counts k 0 + one_if b) (sym same) ∙ c.loop-at.invariant.counted k

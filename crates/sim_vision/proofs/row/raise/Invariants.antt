@@ -1,0 +1,12 @@
+-- Each cell so far is counted one more, and has its flag.
+use Rattle.std.proofs.Common.{◌≡◌, ℕ, ◌+◌, ◌≤◌, max, false, get_or}
+use Rattle.std.specs.Prelude.{◌||◌}
+use Rattle.sim_vision.specs.Spans.{one_if, is_within}
+use Rattle.sim_vision.proofs.row.raise.Given as goal
+
+abbrev pub invariant-loop-at : goal.invariant-loop-at
+invariant-loop-at l = record {
+  last : l.at ≤ max l.from l.to;
+  counted : (k : ℕ) → get_or l.counts k 0 ≡ get_or l.initial.counts k 0 + one_if (is_within l.from l.at k);
+  flagged : (k : ℕ) → get_or l.flags k false ≡ (get_or l.initial.flags k false || is_within l.from l.at k);
+}

@@ -1,0 +1,19 @@
+-- The bytes give the explored cells back, and are taken over at a state with these counts.
+use Rattle.std.proofs.Common.{ap, subst}
+use Rattle.sim_base.specs.declared.setup.Setup.{Setup}
+use Rattle.sim_vision.specs.Vision.{Vision}
+use Rattle.sim_vision.specs.Keeping.{Keeps}
+use Rattle.sim_vision.proofs.Joining.{bytes_back, bytes_taken}
+use Rattle.sim_vision.proofs.sight.Sight.explored_bytes.Goals as goal
+
+pub returns-clause-back : goal.returns-clause-back
+returns-clause-back c = bytes_back c.bytes.result c.self.inside.fog.flags.items c.args.self.now.explored
+    (ap (λ (v : Vision). v.explored) c.self.view_is) c.bytes.ensures
+
+pub returns-clause-accepted : goal.returns-clause-accepted
+returns-clause-accepted c =
+    let s = c.self.inside in
+    let same = ap (λ (v : Vision). v.setup) c.self.view_is in
+    bytes_taken c.bytes.result c.args.self.now s.trail s.discs.items s.fog
+    (λ i. record { setup = c.args.self.now.setup; counts = (c.self.view_is i).counts; explored = (c.self.view_is i).explored })
+    (subst (λ (setup : Setup). Keeps setup s.trail s.discs.items s.fog) same c.self.invariant) c.bytes.ensures

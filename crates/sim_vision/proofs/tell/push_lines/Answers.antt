@@ -1,0 +1,12 @@
+-- One line more.
+use Rattle.std.proofs.Common.{arith}
+use Rattle.sim_vision.specs.Told.{sight_line, visible_in, explored_in}
+use Rattle.sim_vision.proofs.Telling.{lines_more}
+use Rattle.sim_vision.proofs.tell.push_lines.Goals as goal
+
+pub loop-player-preserved : goal.loop-player-preserved
+loop-player-preserved c = record {
+  first = omega arith;
+  text = lines_more (λ p. sight_line p (visible_in c.args.sight.now p) (explored_in c.args.sight.now p)) c.loop-player.player _ _ _
+      c.loop-player.invariant.first c.loop-player.invariant.text c.in_ok-push_line.ensures.ok;
+}

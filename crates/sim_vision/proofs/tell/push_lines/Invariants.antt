@@ -1,0 +1,13 @@
+-- The lines of the players so far.
+use Rattle.std.proofs.Common.{◌≡◌, ◌++◌, ◌-◌, ◌≤◌}
+use Rattle.std.specs.Prelude.{string_bytes, flat_map}
+use Rattle.std.specs.List.{range_with_len}
+use Rattle.sim_vision.specs.Told.{sight_line, visible_in, explored_in}
+use Rattle.sim_vision.proofs.tell.push_lines.Given as goal
+
+abbrev pub invariant-loop-player : goal.invariant-loop-player
+invariant-loop-player l = record {
+  first : 1 ≤ l.player;
+  text : string_bytes l.out ≡ string_bytes l.initial.out ++ flat_map (λ p. sight_line p (visible_in l.fn.sight p) (explored_in l.fn.sight p))
+      (range_with_len 1 (l.player - 1));
+}

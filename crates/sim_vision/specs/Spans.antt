@@ -1,0 +1,26 @@
+-- The cells of a disc, row by row: those of a row are a span.
+use Rattle.std.specs.Prelude.{◌≡◌, ℕ, ◌+◌, ◌-◌, ◌*◌, ◌≤◌, Bool, ◌&&◌, nat_le, nat_lt, if◌then◌else◌, List, length, slice_index}
+use Rattle.sim_base.specs.Numbers.{IsRoot}
+use Rattle.sim_vision.specs.declared.span.Span.{Span}
+
+-- 1 where a test holds, and else 0
+abbrev pub one_if : Bool → ℕ
+one_if b = if b then 1 else 0
+
+-- the number lies from one up to, and without, another
+abbrev pub is_within : ℕ → ℕ → ℕ → Bool
+is_within from to k = nat_le from k && nat_lt k to
+
+-- the number lies in the span
+abbrev pub is_in_span : Span → ℕ → Bool
+is_in_span span x = is_within span.from span.to x
+
+-- the number is that of a cell of the span, in a row whose cells are counted on from its start
+abbrev pub is_in_row : ℕ → Span → ℕ → Bool
+is_in_row start span k = is_within (start + span.from) (start + span.to) k
+
+-- of each row of a disc the greatest distance of a cell from the middle, by the distance of the row
+pub record AreHalves (reach : ℕ) (halves : List ℕ) : Type 0 where
+  pub small : reach ≤ 256
+  pub full : length halves ≡ reach + 1
+  pub each : (away : ℕ) → away ≤ reach → IsRoot (reach * reach - away * away) (slice_index halves away)

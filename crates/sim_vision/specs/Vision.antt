@@ -1,0 +1,85 @@
+-- What a player sees: the cells that lie near one of his rows.
+use Rattle.std.specs.Prelude.{ℕ, ◌+◌, ◌-◌, ◌*◌, ◌/◌, Bool, ◌&&◌, ◌||◌, ◌==◌, nat_le, unsigned_abs, List, [], ◌∷◌, map, slice_range, count_by, option_map, unwrap_or, IfSome, slice_index}
+use Rattle.std.specs.List.{list_any, range_with_len, flat_map}
+use Rattle.std.specs.Int.{abs_diff}
+use Rattle.sim_base.specs.declared.place.Cell.{Cell}
+use Rattle.sim_base.specs.declared.template.Template.{Template}
+use Rattle.sim_base.specs.declared.template.Arms.{Arms}
+use Rattle.sim_base.specs.declared.setup.Setup.{Setup}
+use Rattle.sim_base.specs.declared.state.Row.{Row}
+use Rattle.sim_base.specs.Numbers.{unit}
+use Rattle.sim_base.specs.Limits.{IsArms}
+use Rattle.sim_base.specs.Places.{cell_of, cells_of}
+use Rattle.sim_base.specs.Rows.{size_of}
+
+-- how far entities of a template see: the whole metres of their vision, rounded down, or 0 without an attack
+abbrev pub reach_of : Template → ℕ
+reach_of template = unwrap_or (option_map (λ (arms : Arms). unsigned_abs arms.vision / unit) template.arms) 0
+
+-- the attack of a template is within its limits, if it has one
+abbrev pub HasReach : Template → Type 0
+HasReach template = IfSome template.arms IsArms
+
+-- the reaches of all templates, by number
+abbrev pub reaches_of : Setup → List ℕ
+reaches_of setup = map reach_of setup.templates
+
+-- the sum of the squared cell differences
+abbrev pub cell_square : Cell → Cell → ℕ
+cell_square a b = abs_diff a.x b.x * abs_diff a.x b.x + abs_diff a.z b.z * abs_diff a.z b.z
+
+-- the cell lies within the reach of the one in the middle: the square of the distance of their corners is at most that of the reach
+abbrev pub is_in_disc : ℕ → Cell → Cell → Bool
+is_in_disc reach middle c = nat_le (cell_square middle c) (reach * reach)
+
+-- a row of this player sees the cell
+abbrev pub sees : Setup → ℕ → Cell → Row → Bool
+sees setup player c row = row.owner == player && is_in_disc (slice_index (reaches_of setup) row.template) (cell_of row.at) c
+
+-- how many rows of a player see a cell
+abbrev pub count_at : Setup → List Row → ℕ → Cell → ℕ
+count_at setup rows player c = count_by (sees setup player c) rows
+
+-- a row of the player sees the cell
+abbrev pub is_visible : Setup → List Row → ℕ → Cell → Bool
+is_visible setup rows player c = list_any (sees setup player c) rows
+
+-- by z, then x, how many rows of a player see each cell of the ground
+abbrev pub counts_of : Setup → List Row → ℕ → List ℕ
+counts_of setup rows player = map (count_at setup rows player) (cells_of (size_of setup.land))
+
+-- by z, then x, whether a player sees each cell of the ground
+abbrev pub visible_of : Setup → List Row → ℕ → List Bool
+visible_of setup rows player = map (is_visible setup rows player) (cells_of (size_of setup.land))
+
+-- the players, ascending
+abbrev pub players_of : Setup → List ℕ
+players_of setup = range_with_len 1 setup.players
+
+-- by player, then z, then x, how many rows of each player see each cell
+abbrev pub all_counts : Setup → List Row → List ℕ
+all_counts setup rows = flat_map (counts_of setup rows) (players_of setup)
+
+-- by player, then z, then x, whether each player sees each cell
+abbrev pub all_visible : Setup → List Row → List Bool
+all_visible setup rows = flat_map (visible_of setup rows) (players_of setup)
+
+-- cell by cell, what was explored or is visible
+abbrev pub explored_with : List Bool → List Bool → List Bool
+explored_with [] visible = []
+explored_with (b ∷ explored) [] = b ∷ explored
+explored_with (b ∷ explored) (v ∷ visible) = (b || v) ∷ explored_with explored visible
+
+-- what the players of a match see, and have explored: each list by player, then z, then x
+pub record Vision : Type 0 where
+  pub setup : Setup
+  pub counts : List ℕ
+  pub explored : List Bool
+
+-- how many cells the ground of a match has
+abbrev pub cells_in : Setup → ℕ
+cells_in setup = setup.land.width * setup.land.depth
+
+-- the part of a player in such a list
+abbrev pub part_of : {X : Type 0} → Setup → ℕ → List X → List X
+part_of setup player xs = slice_range xs ((player - 1) * cells_in setup) (player * cells_in setup)

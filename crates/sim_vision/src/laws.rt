@@ -1,0 +1,45 @@
+//! What a sight comes to over any list of states, as the contracts of functions that do nothing.
+
+ghost use Rattle.std.specs.Prelude.{◌≡◌, ℕ, ◌*◌, ◌∷◌, ◌||◌, List, length, map};
+ghost use Rattle.sim_base.specs.declared.place.Cell.{Cell};
+ghost use Rattle.sim_base.specs.declared.setup.Setup.{Setup};
+ghost use Rattle.sim_base.specs.declared.state.State.{State};
+ghost use Rattle.sim_vision.specs.After.{blind, joined_at, vision_after, last_of, was_visible, all_seen};
+ghost use Rattle.sim_vision.specs.Joining.{is_set};
+ghost use Rattle.sim_vision.specs.Keeping.{extent_in};
+ghost use Rattle.sim_vision.specs.Told.{sight_text, sight_lines};
+ghost use Rattle.sim_vision.specs.Vision.{Vision, is_visible, all_counts, explored_with, cells_in};
+ghost use Rattle.sim_vision.specs.Watching.{flag_in};
+
+/// After any list of states the counts are those of the last one's rows.
+pub fn counts_are_of_the_last_state()
+    ensures { (vision : Vision) (first : State) (later : List State) →
+        (vision_after vision (first ∷ later)).counts ≡ all_counts vision.setup (last_of first later).rows }
+{}
+
+/// After any list of states the explored cells are those that were explored before, or were visible in one of the states.
+pub fn explored_was_given_or_visible()
+    ensures { (vision : Vision) (states : List State) → length vision.explored ≡ vision.setup.players * cells_in vision.setup →
+        (vision_after vision states).explored ≡ explored_with vision.explored (all_seen vision.setup states) }
+{}
+
+/// Of one who began at no state all explored cells were visible in one of the states.
+pub fn explored_was_visible()
+    ensures { (setup : Setup) (states : List State) → (vision_after (blind setup) states).explored ≡ all_seen setup states }
+{}
+
+/// What is told of one who began at no state: the cells that are visible in the last state, and those that were visible in one
+/// of them.
+pub fn lines_from_the_start()
+    ensures { (setup : Setup) (first : State) (later : List State) →
+        sight_text (vision_after (blind setup) (first ∷ later))
+        ≡ sight_lines setup (is_visible setup (last_of first later).rows) (was_visible setup (first ∷ later)) }
+{}
+
+/// What is told of one who joined with the explored cells of a file, and followed later states.
+pub fn lines_from_a_file()
+    ensures { (setup : Setup) (first : State) (bytes : List ℕ) (later : List State) → length bytes ≡ setup.players * cells_in setup →
+        sight_text (vision_after (joined_at setup first bytes) later)
+        ≡ sight_lines setup (is_visible setup (last_of first later).rows)
+        (λ player c. flag_in (extent_in setup) (map is_set bytes) player c || was_visible setup later player c) }
+{}
