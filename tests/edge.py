@@ -10,6 +10,7 @@ MD5 of the bytes that docs/FORMATS.md lays out.
 
 import concurrent.futures
 import hashlib
+import json
 import os
 import pathlib
 import re
@@ -112,6 +113,9 @@ USAGE = b"""usage: simcore play MATCH
        simcore compare MATCH A B
        simcore show MATCH STATE
        simcore trial SEED UNITS TURNS
+       simcore sight MATCH TURN OUT
+       simcore resight MATCH STATE MAP
+       simcore realm MATCH TURN
 """
 
 passed = failed = 0
@@ -282,6 +286,35 @@ def rejoins(folder):
         case("a joining that finds no room", run(["rejoin", camp, "3"], folder, full), 4, None)
 
 
+def full_ground():
+    """A match whose ground of 256 by 256 cells is full of halls, of which two players delete some in turn 1."""
+    owners = [1 + i * 5 % 8 for i in range(4096)]
+    north = [[2 + i for i in range(2048) if owners[i] == player] for player in (3, 8)]
+    return json.dumps({
+        "size": [256, 256], "closed": [], "players": [[]] * 8, "cap": 4096, "delay": 1, "turns": 1, "seed": 0,
+        "templates": [{"@name": "hall", "Obstruct": {"Width": 2, "Depth": 2}, "Train": {"Units": "hall"}}],
+        "entities": [["hall", owner, i % 64 * 4 + 2, i // 64 * 4 + 2] for i, owner in enumerate(owners)],
+        "commands": [[1, player, "delete", ids] for player, ids in zip((3, 8), north)],
+    }).encode()
+
+
+def realm_lines(cells, digest):
+    """What is told of players all of whose cells are rooted."""
+    return b"".join(b"realm %d held %d rooted %d\n" % (1 + i, held, held) for i, held in enumerate(cells)) + b"map %s\n" % digest
+
+
+def territories(folder):
+    """Who holds the ground of the greatest match, before and after halls are gone."""
+    (folder / "full.json").write_bytes(full_ground())
+    case("a ground full of halls", run(["realm", "full.json", "0"], folder), 0,
+         realm_lines([10240, 10240, 10240, 8192, 8192, 6144, 6144, 6144], b"62f1e95222a9d5d5298c2e313fad0639"))
+    case("some of its halls are gone", run(["realm", "full.json", "1"], folder), 0,
+         realm_lines([10240, 10240, 4824, 8192, 12472, 10504, 6144, 2920], b"74088a75239727c5480cb31fb151d75f"))
+    case("a turn that it has not", run(["realm", "full.json", "2"], folder), 10, b"no turn 2 of 1\n")
+    with open("/dev/full", "wb") as full:
+        case("territories that find no room", run(["realm", "full.json", "0"], folder, full), 4, None)
+
+
 def step_list(clients, *steps):
     """A list of steps, in which so many clients begin."""
     return b'{"clients":%d,"steps":[%s]}' % (clients, b",".join(steps))
@@ -435,7 +468,7 @@ def pages(folder):
     """What the pages show is what the program prints, in a folder that looks like the top of the repository."""
     (folder / "simcore").symlink_to(PROGRAM)
     (folder / "examples").symlink_to(TOP / "examples")
-    for page in ("README.md", "examples/README.md", "docs/DESYNC.md"):
+    for page in ("README.md", "examples/README.md", "docs/DESYNC.md", "docs/TERRITORY.md", "docs/VISION.md"):
         for command, lines in commands_of(page):
             done = subprocess.run(["bash", "-c", command.replace("/tmp/", "")], cwd=folder, stdin=subprocess.DEVNULL,
                                   stdout=subprocess.PIPE, stderr=subprocess.PIPE, timeout=120)
@@ -644,6 +677,7 @@ def main():
         raw_bytes(folder)
         battles(folder)
         rejoins(folder)
+        territories(folder)
         sessions_of_walkers(folder)
         refused_sessions(folder)
         memory(folder)

@@ -4,8 +4,9 @@
 Usage: python3 tests/rows.py [PROGRAM] [NAME..]
 
 PROGRAM is by default the one that the gate leaves in crates/simcore/out; NAMEs are tables of tests/rows to run alone. A table is a
-list of cases. A case has a name, files by their names, and runs in one folder, each with its words, its status and its text. A file
-is a text, or {"hex": ..}, or {"repeat": [before, item, count, after]}, where ^ in an item stands for its number and $ for the next.
+list of cases. A case has a name, files by their names, and runs in one folder, each with its words, its status and its text, and
+maybe with files that it wrote, null where there is none. A file is a text, or {"hex": ..}, or {"repeat": [before, item, count,
+after]}, where ^ in an item stands for its number and $ for the next.
 
 The statuses and texts were worked out apart from the program. It prints the cases that fail, a line for each table, and a last line
 'N passed, M failed'; the exit status is 0 where none failed.
@@ -39,6 +40,16 @@ def answer(program, words, folder):
     return done.returncode, (done.stdout + done.stderr).decode()
 
 
+def unwritten(folder, case, run):
+    """The files of a run that do not hold what it was to write, a line for each."""
+    for name, told in run.get("wrote", {}).items():
+        path = pathlib.Path(folder, name)
+        held = path.read_bytes() if path.exists() else None
+        wanted = None if told is None else content(told)
+        if held != wanted:
+            yield f"{case['name']}: {' '.join(run['words'])}: the file {name} holds {held} for {wanted}"
+
+
 def faults(program, case):
     """What is wrong with the runs of a case, a line for each."""
     found = []
@@ -49,6 +60,7 @@ def faults(program, case):
             got = answer(program, run["words"], folder)
             if got != (run["status"], run["text"]):
                 found.append(f"{case['name']}: {' '.join(run['words'])}: {got} for {(run['status'], run['text'])}")
+            found.extend(unwritten(folder, case, run))
     return found
 
 

@@ -9,6 +9,8 @@ use Rattle.sim_top.specs.Headline.{Headline}
 use Rattle.sim_top.specs.Hosting.{OfSession}
 use Rattle.sim_top.specs.Readiness.{IsReady, IsFaultless, IsFinal}
 use Rattle.sim_top.specs.Reads.{LacksMatch, HasEnded, IsUnfound}
+use Rattle.sim_top.specs.Sights.{TellsSights}
+use Rattle.sim_top.specs.Territories.{OfRealm, Territories}
 use Rattle.sim_top.specs.Words.{asked_by, out_of}
 use Rattle.sim_top.specs.declared.status.Status.{Status}
 
@@ -17,6 +19,11 @@ pub record Ran (words : List (List ℕ)) (before now : Scene) (status : Status) 
   -- what was told of a session is what the headline says of its match and its steps
   pub headline : IfSome before.held (λ files. HasEnded status
       → OfSession files (asked_by words) (λ setup list. Headline setup list before.told now.told))
+  -- what was told of territories is who holds which ground at the turn that is asked for, and which of it is rooted
+  pub territories : IfSome before.held (λ files. HasEnded status
+      → OfRealm files (asked_by words) (λ setup turn. Territories setup turn before.told now.told))
+  -- what was told of what the players see is what their rows see in the last state, and what was explored on the way to it
+  pub sights : IfSome before.held (λ files. HasEnded status → TellsSights files (asked_by words) before now)
   -- the status, the text and the saved file are those of the words, or a fault or want of memory came between
   pub answers : IfSome before.held (λ files. Meets status words files before now)
   -- over good files and without a fault the command comes to its end, or there is no memory

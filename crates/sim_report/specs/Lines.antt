@@ -14,7 +14,10 @@ usage_text =
     (codes "       simcore session MATCH STEPS\n" ++
     (codes "       simcore compare MATCH A B\n" ++
     (codes "       simcore show MATCH STATE\n" ++
-    codes "       simcore trial SEED UNITS TURNS\n")))))))
+    (codes "       simcore trial SEED UNITS TURNS\n" ++
+    (codes "       simcore sight MATCH TURN OUT\n" ++
+    (codes "       simcore resight MATCH STATE MAP\n" ++
+    codes "       simcore realm MATCH TURN\n"))))))))))
 
 -- whether a report of a turn carries a whole or a quick digest
 abbrev pub report_kind : ℕ → List ℕ
@@ -35,3 +38,11 @@ turn_line word turn digest = word ++ (spaced_number turn ++ line_end digest)
 -- a stored state: its turn, how many bytes it has, and its digest
 abbrev pub saved_line : ℕ → ℕ → List ℕ → List ℕ
 saved_line turn length digest = codes "state" ++ (spaced_number turn ++ (spaced_number length ++ line_end digest))
+
+-- what a player holds of the ground: how many cells, and how many of these are rooted
+abbrev pub holding_line : ℕ → ℕ → ℕ → List ℕ
+holding_line player held rooted = codes "realm" ++ (spaced_number player ++ (codes " held" ++ (spaced_number held ++ (codes " rooted" ++ (spaced_number rooted ++ codes "\n")))))
+
+-- who holds which cell, by the digest of the holders
+abbrev pub map_line : List ℕ → List ℕ
+map_line digest = codes "map" ++ line_end digest

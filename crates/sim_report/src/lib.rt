@@ -11,6 +11,7 @@
 //! - `event`: the events of a session.
 //! - `refusal`: why something is refused.
 //! - `place`: where two states differ.
+//! - `territory`: what each player holds of the ground.
 #![tactic(auto)]
 
 mod down;
@@ -20,6 +21,7 @@ mod place;
 mod refusal;
 mod served;
 mod show;
+mod territory;
 
 pub use down::push_down;
 pub use event::push_event;
@@ -28,3 +30,4 @@ pub use place::{part_name, push_place};
 pub use refusal::{Refusal, push_refusal};
 pub use served::{push_kept, push_post, push_released};
 pub use show::push_show;
+pub use territory::{push_holding, push_map};

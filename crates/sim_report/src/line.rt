@@ -16,6 +16,9 @@ const USAGE: &str = "usage: simcore play MATCH
        simcore compare MATCH A B
        simcore show MATCH STATE
        simcore trial SEED UNITS TURNS
+       simcore sight MATCH TURN OUT
+       simcore resight MATCH STATE MAP
+       simcore realm MATCH TURN
 ";
 
 /// Appends how the program is called, or leaves the text as it was.
@@ -82,8 +85,8 @@ pub fn append_number(number: u64, out: &mut String) -> Result<(), OutOfMemory>
     push_decimal(number, out)
 }
 
-// A space, the digest, and the end of the line.
-fn append_digest(digest: &[u8; 16], out: &mut String) -> Result<(), OutOfMemory>
+/// Appends a space, a digest, and the end of a line.
+pub fn append_digest(digest: &[u8; 16], out: &mut String) -> Result<(), OutOfMemory>
     ensures ok { OnOk result (string_bytes out.new ≡ string_bytes out.old ++ line_end digest.now) }
     ensures err { OnErr result (take (length (string_bytes out.old)) (string_bytes out.new) ≡ string_bytes out.old) }
 {

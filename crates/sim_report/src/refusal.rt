@@ -1,4 +1,4 @@
-//! Why something is refused, as a line of its own. The four causes are one type, since a refused run of the program
+//! Why something is refused, as a line of its own. The five causes are one type, since a refused run of the program
 //! prints one of them and no more.
 
 ghost use Rattle.std.specs.Prelude.{◌≡◌, ◌++◌, OnOk, OnErr, string_bytes};
@@ -7,13 +7,15 @@ ghost use Rattle.sim_report.specs.Refusals.{refusal_text};
 use sim_base::OutOfMemory;
 
 /// A cause for which the program refuses what it was given: a match file, at this index of what its code speaks of; a
-/// stored state, in the file of this name; a list of steps or arrivals, at this index; or a turn that the match lacks.
+/// stored state, in the file of this name; a list of steps or arrivals, at this index; a turn that the match lacks; or the
+/// explored cells of a file.
 #[derive(Clone, Copy, Debug, PartialEq, Eq)]
 pub enum Refusal<'a> {
     Match { code: u8, index: u32 },
     Stored { code: u8, name: &'a str },
     List { index: u32 },
     Turn { asked: u32, turns: u32 },
+    Sight { code: u8 },
 }
 
 /// Appends the line of a refusal, or leaves the text as it was.
@@ -36,6 +38,7 @@ fn write_refusal(refusal: &Refusal, line: &mut String) -> Result<(), OutOfMemory
         Refusal::Stored { code, name } => writeln!(line, "state refused {code} {name}")?,
         Refusal::List { index } => writeln!(line, "list refused {index}")?,
         Refusal::Turn { asked, turns } => writeln!(line, "no turn {asked} of {turns}")?,
+        Refusal::Sight { code } => writeln!(line, "sight refused {code}")?,
     }
     Ok(())
 }

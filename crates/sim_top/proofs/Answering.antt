@@ -10,7 +10,7 @@ use Rattle.sim_session_text.specs.SessionText.{session_text}
 use Rattle.sim_top.specs.Answers.{OnlyGave, CountsBefore, MayAnswer}
 use Rattle.sim_top.specs.Commands.{Shelved, IsReading, MayFinish, IsAnswerTo}
 use Rattle.sim_top.specs.Given.{Gave, GaveFor, GaveToState}
-use Rattle.sim_top.specs.Making.{IsMade, IsFileAs, IsSavedAs, IsFinished, file_of, outcome_made}
+use Rattle.sim_top.specs.Making.{IsMade, IsMadeAs, IsFileAs, IsSavedAs, IsFinished, file_of, outcome_made}
 use Rattle.sim_top.specs.Outcome.{Outcome, Then, ThenStored, IsOutcomeOf, bytes_in, match_in, session_match_in, steps_in, printed, trial_match, trial_outcome}
 use Rattle.sim_top.specs.Reads.{HasEnded, IsUnfound, LacksFirst, length_in, length_first, length_read}
 use Rattle.sim_top.specs.Stops.{Stopped, ReadsState, IsState, CausesOf, GaveAll, IsOfContent, IsOfMatch, IsOfState, IsOfList, IsRefusal, status_of}
@@ -20,7 +20,7 @@ use Rattle.sim_top.specs.declared.commands.Saved.{Saved}
 use Rattle.sim_top.specs.declared.status.Status.{Status}
 use Rattle.sim_top.specs.declared.status.Status.TheVariants as status
 use Rattle.sim_top.specs.declared.stop.Stop.{Stop}
-use Rattle.sim_top.specs.declared.stop.Stop.TheVariants.{ReadFault, TooLong, NoFile, OutOfMemory, MatchRefused, StateRefused, ListRefused, NoSuchTurn}
+use Rattle.sim_top.specs.declared.stop.Stop.TheVariants.{ReadFault, TooLong, NoFile, OutOfMemory, MatchRefused, StateRefused, ListRefused, NoSuchTurn, SightRefused}
 use Rattle.sim_top.proofs.Counting.{counted_after, content_causes, gave_both, gave_on, none_given, nothing_given}
 use Rattle.sim_top.proofs.Stopping.{Stopped-weaker, Then-read, Then-ended, Told, Told-both, state_ends, state_goes_on}
 
@@ -93,6 +93,15 @@ comes_to asked wanted (Ok answer) before now m finish is there gave given same =
 comes_to asked wanted (Err stop) before now m finish is there gave given same =
     subst (λ (s : Stop). IsAnswerTo asked (Err s) before now) (sym m.stops) (out_of_memory asked before now there gave same)
 
+-- the same where several outcomes may be wanted, and one of them is made
+pub comes_to_one : (asked : Asked) (Wanted : Outcome → Type 0) (made : Result Answer Stop) (before now : Shelved) → IsMadeAs Wanted made → ((o : Outcome) → Wanted o → MayFinish asked o)
+    → ((o : Outcome) → Wanted o → IfSome before.held (λ files. IsOutcomeOf files (Some asked) o)) → ((files : List File) → before.held ≡ Some files → LacksFirst files asked → ⊥) → OnlyGave before.counts now.counts
+    → ((files : List File) → before.held ≡ Some files → Gave (length_read files asked) before.counts now.counts) → now.held ≡ before.held → IsAnswerTo asked made before now
+comes_to_one asked Wanted (Ok answer) before now m finish is there gave given same =
+    answered asked (outcome_made answer) answer before now refl (finish (outcome_made answer) m.answers) (is (outcome_made answer) m.answers) there gave given same
+comes_to_one asked Wanted (Err stop) before now m finish is there gave given same =
+    subst (λ (s : Stop). IsAnswerTo asked (Err s) before now) (sym m.stops) (out_of_memory asked before now there gave same)
+
 -- ---- a command that ends before
 
 pub ends : (asked : Asked) (stop : Stop) (before now : Shelved) → IfSome before.held (λ files. Stopped stop (IsOutcomeOf files (Some asked))) → MayAnswer asked (status_of stop)
@@ -109,6 +118,7 @@ may_match asked (MatchRefused code index) reads has of = has
 may_match asked (StateRefused code name) reads has of = absurd of
 may_match asked (ListRefused index) reads has of = absurd of
 may_match asked (NoSuchTurn turn turns) reads has of = absurd of
+may_match asked (SightRefused code) reads has of = absurd of
 
 pub may_state : (asked : Asked) (stop : Stop) → IsTrue (reads_file asked) → IsTrue (loads_state asked) → IsOfState stop → MayAnswer asked (status_of stop)
 may_state asked ReadFault reads loads of = reads
@@ -119,6 +129,7 @@ may_state asked (MatchRefused code index) reads loads of = absurd of
 may_state asked (StateRefused code name) reads loads of = loads
 may_state asked (ListRefused index) reads loads of = absurd of
 may_state asked (NoSuchTurn turn turns) reads loads of = absurd of
+may_state asked (SightRefused code) reads loads of = absurd of
 
 may_list : (asked : Asked) (stop : Stop) → IsTrue (reads_file asked) → IsTrue (reads_list asked) → IsOfList stop → MayAnswer asked (status_of stop)
 may_list asked ReadFault reads lists of = reads
@@ -129,6 +140,7 @@ may_list asked (MatchRefused code index) reads lists of = absurd of
 may_list asked (StateRefused code name) reads lists of = absurd of
 may_list asked (ListRefused index) reads lists of = lists
 may_list asked (NoSuchTurn turn turns) reads lists of = absurd of
+may_list asked (SightRefused code) reads lists of = absurd of
 
 gave_match : (files : List File) (asked : Asked) (stop : Stop) (n : ℕ) (old new : Counts) → length_first files asked ≡ n → IsOfMatch stop → (IsRefusal stop → Gave n old new)
     → GaveFor files asked (status_of stop) old new
@@ -140,6 +152,7 @@ gave_match files asked (MatchRefused code index) n old new is of h = subst (λ (
 gave_match files asked (StateRefused code name) n old new is of h = absurd of
 gave_match files asked (ListRefused index) n old new is of h = absurd of
 gave_match files asked (NoSuchTurn turn turns) n old new is of h = absurd of
+gave_match files asked (SightRefused code) n old new is of h = absurd of
 
 pub gave_state : (files : List File) (asked : Asked) (stop : Stop) (old new : Counts) → IsOfState stop → (IsRefusal stop → GaveToState files asked old new) → GaveFor files asked (status_of stop) old new
 gave_state files asked ReadFault old new of h = tt
@@ -150,6 +163,7 @@ gave_state files asked (MatchRefused code index) old new of h = absurd of
 gave_state files asked (StateRefused code name) old new of h = h tt
 gave_state files asked (ListRefused index) old new of h = absurd of
 gave_state files asked (NoSuchTurn turn turns) old new of h = absurd of
+gave_state files asked (SightRefused code) old new of h = absurd of
 
 gave_list : (files : List File) (asked : Asked) (stop : Stop) (old new : Counts) → IsOfList stop → (IsRefusal stop → Gave (length_read files asked) old new) → GaveFor files asked (status_of stop) old new
 gave_list files asked ReadFault old new of h = tt
@@ -160,6 +174,7 @@ gave_list files asked (MatchRefused code index) old new of h = absurd of
 gave_list files asked (StateRefused code name) old new of h = absurd of
 gave_list files asked (ListRefused index) old new of h = h tt
 gave_list files asked (NoSuchTurn turn turns) old new of h = absurd of
+gave_list files asked (SightRefused code) old new of h = absurd of
 
 -- ---- the file of a match is read first
 
@@ -200,6 +215,18 @@ pub match_goes_on : (asked : Asked) (name : List ℕ) (found : List File → Res
 match_goes_on asked name found setup wanted made before now opens reading told is all m finish =
     comes_to asked wanted made before now m finish
     (Told (λ files. found files ≡ Ok setup) (λ files. IsOutcomeOf files (Some asked) wanted) before.held is told)
+    (match_there asked name found setup before now opens reading)
+    reading.causes
+    (λ files e. subst (λ (n : ℕ). Gave n before.counts now.counts) (sym (all files)) (reading.given files e))
+    reading.same
+
+-- the same where several outcomes may be wanted
+pub match_goes_on_as : (asked : Asked) (name : List ℕ) (found : List File → Result Setup Outcome) (setup : Setup) (Wanted : Outcome → Type 0) (made : Result Answer Stop) (before now : Shelved) → Opens asked name found
+    → IsReading name (Ok setup) before now → IfSome before.held (λ files. found files ≡ Ok setup) → ((files : List File) (o : Outcome) → found files ≡ Ok setup → Wanted o → IsOutcomeOf files (Some asked) o)
+    → ((files : List File) → length_read files asked ≡ length_in files name) → IsMadeAs Wanted made → ((o : Outcome) → Wanted o → MayFinish asked o) → IsAnswerTo asked made before now
+match_goes_on_as asked name found setup Wanted made before now opens reading told is all m finish =
+    comes_to_one asked Wanted made before now m finish
+    (λ o wanted. Told (λ files. found files ≡ Ok setup) (λ files. IsOutcomeOf files (Some asked) o) before.held (λ files e. is files o e wanted) told)
     (match_there asked name found setup before now opens reading)
     reading.causes
     (λ files e. subst (λ (n : ℕ). Gave n before.counts now.counts) (sym (all files)) (reading.given files e))
@@ -320,6 +347,7 @@ module _ (seed units turns : ℕ) (shelf : Shelved) where
       by (StateRefused code name) of content = absurd of
       by (ListRefused index) of content = absurd of
       by (NoSuchTurn turn turns) of content = absurd of
+      by (SightRefused code) of content = absurd of
 
   -- it was played
   pub trial_goes_on : (setup : Setup) (made : Result Answer Stop) → trial_match seed units turns ≡ Ok setup → IsMade (trial_outcome seed units turns setup) made → IsAnswerTo (to_try seed units turns) made shelf shelf

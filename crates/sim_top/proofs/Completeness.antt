@@ -3,6 +3,7 @@ use Rattle.std.proofs.Common.{◌≡◌, ℕ, ◌≤◌, List, length, Option, S
 use Rattle.std.proofs.lemmas.Bool.{le-ltb}
 use Rattle.sim_base.specs.declared.setup.Setup.{Setup}
 use Rattle.sim_base.specs.declared.state.State.{State}
+use Rattle.sim_base.specs.Turn.{after, own_turns}
 use Rattle.sim_store.specs.Counts.{raised}
 use Rattle.sim_store.specs.Files.{File}
 use Rattle.sim_store.specs.declared.counts.Counts.{Counts}
@@ -14,12 +15,13 @@ use Rattle.sim_setup.specs.Setups.{setup_of}
 use Rattle.sim_setup.proofs.SetupLimits.{setup_of-id}
 use Rattle.sim_diff.specs.Difference.{difference_of}
 use Rattle.sim_diff.specs.declared.place.Place.{Place}
-use Rattle.sim_top.specs.Words.{Asked, asked_by, to_play, to_store, to_resume, to_rejoin, to_session, to_show, to_compare, to_serve, to_try}
-use Rattle.sim_top.specs.Outcome.{Outcome, Then, ThenStored, IsStored, IsOutcomeOf, bytes_in, match_in, session_match_in, schedule_in, steps_in, trial_match, match_by, setup_by, compare_by, state_by, store_outcome, rejoin_outcome}
+use Rattle.sim_top.specs.Words.{Asked, asked_by, to_play, to_store, to_resume, to_rejoin, to_session, to_show, to_compare, to_serve, to_try, to_realm, to_sight, to_resight}
+use Rattle.sim_top.specs.Outcome.{Outcome, Then, ThenStored, IsStored, IsOutcomeOf, bytes_in, match_in, session_match_in, schedule_in, steps_in, trial_match, match_by, setup_by, compare_by, state_by, store_outcome, rejoin_outcome, printed, turn_by, IsRealmOutcome, RealmAt, IsResighted, sight_outcome, map_at}
 use Rattle.sim_top.specs.Answers.{Scene, Meets, Causes}
 use Rattle.sim_top.specs.Readiness.{HoldsState, IsReady, IsFaultless, IsFinal}
 use Rattle.sim_top.specs.declared.status.Status.{Status}
-use Rattle.sim_top.specs.declared.status.Status.TheVariants.{Done, Differs, Usage, ReadFault, WriteFault, TooLong, MatchRefused, StateRefused, ListRefused, OutOfMemory, NoSuchTurn, NoFile}
+use Rattle.sim_top.specs.declared.status.Status.TheVariants.{Done, Differs, Usage, ReadFault, WriteFault, TooLong, MatchRefused, StateRefused, ListRefused, OutOfMemory, NoSuchTurn, NoFile, SightRefused}
+use Rattle.sim_top.proofs.Playing.{turn_there}
 
 -- an outcome with which a command comes to its end
 abbrev Ends : Outcome → Type 0
@@ -52,15 +54,15 @@ not_refused setup bytes state stored.Grammar id stands refused = refused.1 state
 not_refused setup bytes state stored.OutOfMemory id stands refused = refused
 
 after_loading : (setup : Setup) (name bytes : List ℕ) (state : State) (next : State → Outcome → Type 0) (wanted : Outcome) → length setup.id ≡ 16 → StandsFor setup bytes state
-    → ThenStored setup name bytes next wanted → (found : State) × next found wanted
+    → ThenStored setup name bytes next wanted → (found : State) × StandsFor setup bytes found × next found wanted
 after_loading setup name bytes state next wanted id stands h = by h.found h.stored h.goes_on
   where
-    by : (found : Result State StateFault) → IsStored setup bytes found → Then (state_by name found) next wanted → (s : State) × next s wanted
-    by (Ok s) is goes_on = (s, goes_on)
+    by : (found : Result State StateFault) → IsStored setup bytes found → Then (state_by name found) next wanted → (s : State) × StandsFor setup bytes s × next s wanted
+    by (Ok s) is goes_on = (s, is, goes_on)
     by (Err fault) is goes_on = absurd (not_refused setup bytes state fault id stands is)
 
-after_state : (files : List File) (setup : Setup) (name : List ℕ) (next : State → Outcome → Type 0) (wanted : Outcome) → length setup.id ≡ 16 → HoldsState files setup name
-    → Then (bytes_in files name) (λ bytes. ThenStored setup name bytes next) wanted → (found : State) × next found wanted
+after_state : (files : List File) (setup : Setup) (name : List ℕ) (next : State → Outcome → Type 0) (wanted : Outcome) → length setup.id ≡ 16 → (holds : HoldsState files setup name)
+    → Then (bytes_in files name) (λ bytes. ThenStored setup name bytes next) wanted → (found : State) × StandsFor setup holds.bytes found × next found wanted
 after_state files setup name next wanted id holds h =
     after_loading setup name holds.bytes holds.state next wanted id holds.stands
     (after_reading (bytes_in files name) holds.bytes (λ bytes. ThenStored setup name bytes next) wanted holds.read h)
@@ -74,6 +76,9 @@ ends_compared wanted (Some place) same = inr (ap (λ (o : Outcome). o.status) sa
 store_is_done : (setup : Setup) (turn : ℕ) (out : List ℕ) → turn ≤ setup.turns → (store_outcome setup turn out).status ≡ Done
 store_is_done setup turn out within = rw (le-ltb setup.turns turn within) refl
 
+sight_is_done : (setup : Setup) (turn : ℕ) (out : List ℕ) → turn ≤ setup.turns → (sight_outcome setup turn out).status ≡ Done
+sight_is_done setup turn out within = rw (le-ltb setup.turns turn within) refl
+
 rejoin_is_done : (setup : Setup) (turn : ℕ) → turn ≤ setup.turns → (rejoin_outcome setup turn).status ≡ Done
 rejoin_is_done setup turn within = rw (le-ltb setup.turns turn within) refl
 
@@ -85,7 +90,7 @@ ready_ends files (Some (to_store game turn out)) wanted ready h =
 ready_ends files (Some (to_resume game name)) wanted ready h =
     let id = id_of_match files game ready.setup ready.read in
     let found = after_state files ready.setup name _ wanted id ready.more (after_reading (match_in files game) ready.setup _ wanted ready.read h) in
-    done wanted _ refl found.1
+    done wanted _ refl found.2
 ready_ends files (Some (to_rejoin game turn)) wanted ready h =
     done wanted (rejoin_outcome ready.setup turn) (rejoin_is_done ready.setup turn ready.more) (after_reading (match_in files game) ready.setup _ wanted ready.read h)
 ready_ends files (Some (to_session game steps)) wanted ready h =
@@ -94,14 +99,24 @@ ready_ends files (Some (to_session game steps)) wanted ready h =
 ready_ends files (Some (to_show game name)) wanted ready h =
     let id = id_of_match files game ready.setup ready.read in
     let found = after_state files ready.setup name _ wanted id ready.more (after_reading (match_in files game) ready.setup _ wanted ready.read h) in
-    done wanted _ refl found.1
+    done wanted _ refl found.2
 ready_ends files (Some (to_compare game left right)) wanted ready h =
     let id = id_of_match files game ready.setup ready.read in
     let first = after_state files ready.setup left _ wanted id ready.more.0 (after_reading (match_in files game) ready.setup _ wanted ready.read h) in
-    let second = after_state files ready.setup right _ wanted id ready.more.1 first.1 in
-    ends_compared wanted (difference_of first.0 second.0) second.1
+    let second = after_state files ready.setup right _ wanted id ready.more.1 first.2 in
+    ends_compared wanted (difference_of first.0 second.0) second.2
 ready_ends files (Some (to_serve name)) wanted ready h = done wanted _ refl (after_reading (schedule_in files name) ready.schedule _ wanted ready.read h)
 ready_ends files (Some (to_try seed units turns)) wanted ready h = done wanted _ refl (after_reading (trial_match seed units turns) ready.setup _ wanted ready.read h)
+ready_ends files (Some (to_realm game turn)) wanted ready h =
+    let at_turn = after_reading (match_in files game) ready.setup (RealmAt turn) wanted ready.read h in
+    let told = after_reading (turn_by ready.setup turn) turn (λ turn. IsRealmOutcome ready.setup (after ready.setup (own_turns ready.setup 0 turn))) wanted (turn_there ready.setup turn ready.more) at_turn in
+    done wanted (printed Done told.text) refl told.printed
+ready_ends files (Some (to_sight game turn out)) wanted ready h =
+    done wanted (sight_outcome ready.setup turn out) (sight_is_done ready.setup turn out ready.more) (after_reading (match_in files game) ready.setup _ wanted ready.read h)
+ready_ends files (Some (to_resight game name file)) wanted ready h =
+    let id = id_of_match files game ready.setup ready.read in
+    let first = after_state files ready.setup name (λ state. IsResighted ready.setup state (bytes_in files file)) wanted id ready.more.state (after_reading (match_in files game) ready.setup _ wanted ready.read h) in
+    done wanted _ refl (after_reading (map_at ready.setup first.0 (bytes_in files file)) ready.more.explored _ wanted (ready.more.taken first.0 first.1) first.2)
 
 -- ---- the run
 
@@ -132,3 +147,4 @@ final StateRefused words files before now (wanted, is, status, done) caused read
 final ListRefused words files before now (wanted, is, status, done) caused ready faultless = absurd (no_end wanted ListRefused status (λ e. cc) (λ e. cc) (ready_ends files (asked_by words) wanted ready is))
 final NoSuchTurn words files before now (wanted, is, status, done) caused ready faultless = absurd (no_end wanted NoSuchTurn status (λ e. cc) (λ e. cc) (ready_ends files (asked_by words) wanted ready is))
 final NoFile words files before now (wanted, is, status, done) caused ready faultless = absurd (no_end wanted NoFile status (λ e. cc) (λ e. cc) (ready_ends files (asked_by words) wanted ready is))
+final SightRefused words files before now (wanted, is, status, done) caused ready faultless = absurd (no_end wanted SightRefused status (λ e. cc) (λ e. cc) (ready_ends files (asked_by words) wanted ready is))

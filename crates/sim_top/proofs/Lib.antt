@@ -9,3 +9,6 @@ pub mod Comparing
 pub mod Preparing
 pub mod Returning
 pub mod Headlines
+pub mod Territories
+pub mod Sighting
+pub mod Sights

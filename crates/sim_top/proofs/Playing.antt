@@ -9,14 +9,17 @@ use Rattle.sim_base.specs.declared.state.State.{State}
 use Rattle.sim_base.specs.Turn.{after, own_turns, turns_in}
 use Rattle.sim_turn_laws.proofs.Turning.{after_counts_turns}
 use Rattle.sim_play.specs.Lines.{rejoin_text}
-use Rattle.sim_top.specs.Outcome.{Outcome, printed, stored_at, store_outcome, rejoin_outcome}
-use Rattle.sim_top.specs.Making.{IsMade, outcome_made}
+use Rattle.sim_play.specs.Realms.{TellsRealm}
+use Rattle.sim_territory.specs.Realms.{realm_of}
+use Rattle.sim_top.specs.Outcome.{Outcome, printed, stored_at, store_outcome, rejoin_outcome, IsRealmOutcome, RealmAt, turn_by}
+use Rattle.sim_top.specs.Making.{IsMade, IsMadeAs, outcome_made}
 use Rattle.sim_top.specs.declared.commands.Answer.{Answer}
 use Rattle.sim_report.specs.declared.refusal.Refusal.TheVariants.{Turn}
 use Rattle.sim_report.specs.Refusals.{refusal_text}
 use Rattle.sim_top.specs.declared.status.Status.TheVariants.{Done, NoSuchTurn}
 use Rattle.sim_top.specs.declared.stop.Stop.{Stop}
 use Rattle.sim_top.specs.declared.stop.Stop.TheVariants.{OutOfMemory}
+use Rattle.sim_top.proofs.Stopping.{Then-read, Then-ended}
 
 module _ {X : Type 0} (made : Result Answer Stop) (read : Result X NoMemory) (stops : IfErr made (λ stop. stop ≡ OutOfMemory)) (refused : OnErr read (made ≡ Err OutOfMemory)) where
   -- what holds where it was read holds where it was made
@@ -83,6 +86,17 @@ pub rejoined_is : (setup : Setup) (turn : ℕ) (text : Result (String Global) No
 rejoined_is setup turn (Ok text) le is = ap (printed Done) is ∙ sym (cond-false (ltb setup.turns turn) _ _ (le-ltb _ _ le))
 rejoined_is setup turn (Err none) le is = tt
 
+-- a text that tells the territories of a state is made
+pub realm_made : (setup : Setup) (state : State) (made : Result Answer Stop) (text : Result (String Global) NoMemory) → IfErr made (λ stop. stop ≡ OutOfMemory) → OnErr text (made ≡ Err OutOfMemory)
+    → IfOk made (λ answer. IfOk text (λ t. outcome_made answer ≡ printed Done (string_bytes t))) → IfOk text (λ t. TellsRealm (realm_of setup state) (string_bytes t)) → IsMadeAs (IsRealmOutcome setup state) made
+realm_made setup state made text stops refused told is = record { answers = by made text refused told is; stops = stops }
+  where
+    by : (r : Result Answer Stop) (o : Result (String Global) NoMemory) → OnErr o (r ≡ Err OutOfMemory) → IfOk r (λ answer. IfOk o (λ t. outcome_made answer ≡ printed Done (string_bytes t)))
+        → IfOk o (λ t. TellsRealm (realm_of setup state) (string_bytes t)) → IfOk r (λ answer. IsRealmOutcome setup state (outcome_made answer))
+    by (Ok answer) (Ok t) e told is = record { text = string_bytes t; tells = is; printed = told }
+    by (Ok answer) (Err none) e told is = absurd (cc)
+    by (Err stop) o e told is = tt
+
 -- ---- a turn that the match has not
 
 pub store_past : (setup : Setup) (turn : ℕ) (out : List ℕ) → setup.turns < turn → printed NoSuchTurn (refusal_text (Turn turn setup.turns)) ≡ store_outcome setup turn out
@@ -91,7 +105,16 @@ store_past setup turn out past = sym (cond-true (ltb setup.turns turn) _ _ (lt-l
 pub rejoin_past : (setup : Setup) (turn : ℕ) → setup.turns < turn → printed NoSuchTurn (refusal_text (Turn turn setup.turns)) ≡ rejoin_outcome setup turn
 rejoin_past setup turn past = sym (cond-true (ltb setup.turns turn) _ _ (lt-ltb _ _ past))
 
+pub realm_past : (setup : Setup) (turn : ℕ) → setup.turns < turn → RealmAt turn setup (printed NoSuchTurn (refusal_text (Turn turn setup.turns)))
+realm_past setup turn past = Then-ended (turn_by setup turn) (λ turn. IsRealmOutcome setup (after setup (own_turns setup 0 turn))) _ (cond-true (ltb setup.turns turn) _ _ (lt-ltb _ _ past))
+
 -- and one that it has
+
+pub turn_there : (setup : Setup) (turn : ℕ) → turn ≤ setup.turns → turn_by setup turn ≡ Ok turn
+turn_there setup turn le = cond-false (ltb setup.turns turn) _ _ (le-ltb _ _ le)
+
+pub realm_done : (setup : Setup) (turn : ℕ) (wanted : Outcome) → turn ≤ setup.turns → IsRealmOutcome setup (after setup (own_turns setup 0 turn)) wanted → RealmAt turn setup wanted
+realm_done setup turn wanted le h = Then-read (turn_by setup turn) turn (λ turn. IsRealmOutcome setup (after setup (own_turns setup 0 turn))) wanted (turn_there setup turn le) h
 
 pub store_done : (setup : Setup) (turn : ℕ) (out : List ℕ) → turn ≤ setup.turns → stored_at setup turn out (after setup (own_turns setup 0 turn)) ≡ store_outcome setup turn out
 store_done setup turn out le = sym (cond-false (ltb setup.turns turn) _ _ (le-ltb _ _ le))

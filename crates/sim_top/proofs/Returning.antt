@@ -19,13 +19,13 @@ use Rattle.sim_session_text.specs.SessionText.{session_of}
 use Rattle.sim_play.specs.Lines.{end_from}
 use Rattle.sim_host.specs.Rigs.{AllStand, AllBuiltAtMost, builds_of}
 use Rattle.sim_top.specs.Hosting.{OfSession, IsHostedBy}
-use Rattle.sim_top.specs.Making.{IsMade, IsSettled, outcome_made, status_made}
+use Rattle.sim_top.specs.Making.{IsMade, IsMadeAs, IsSettled, outcome_made, status_made}
 use Rattle.sim_top.specs.Outcome.{Outcome, bytes_in, session_match_in, steps_in}
 use Rattle.sim_top.specs.Reads.{HasEnded}
 use Rattle.sim_top.specs.Returning.{IsUnplayed, HasBegunBy, AreOfSession, RigsCameBackBy}
 use Rattle.sim_top.specs.Rigs.{StandForStored, RigStands, SecondStands, OfFirsts, HasPlayedBy, AreEightBy, clients, used}
 use Rattle.sim_top.specs.Stops.{IsState, status_of}
-use Rattle.sim_top.specs.Words.{Asked, to_play, to_store, to_resume, to_rejoin, to_session, to_show, to_compare, to_serve, to_try, is_session}
+use Rattle.sim_top.specs.Words.{Asked, to_play, to_store, to_resume, to_rejoin, to_session, to_show, to_compare, to_serve, to_try, to_realm, to_sight, to_resight, is_session}
 use Rattle.sim_top.specs.declared.commands.Answer.{Answer}
 use Rattle.sim_top.specs.declared.status.Status.{Status}
 use Rattle.sim_top.specs.declared.status.Status.TheVariants as status
@@ -54,6 +54,10 @@ pub was_played : (wanted : Outcome) (made : Result Answer Stop) → IsMade wante
 was_played wanted (Ok answer) m ended h = played_to_end answer.status (subst HasEnded (sym (ap (λ (o : Outcome). o.status) m.answers)) ended) h
 was_played wanted (Err stop) m ended h = subst (λ (s : Stop). IsUnplayed (status_of s)) m.stops h
 
+pub was_played_as : (Wanted : Outcome → Type 0) (made : Result Answer Stop) → IsMadeAs Wanted made → ((o : Outcome) → Wanted o → HasEnded o.status) → IsUnplayed (status_made made) → ⊥
+was_played_as Wanted (Ok answer) m ended h = played_to_end answer.status (ended (outcome_made answer) m.answers) h
+was_played_as Wanted (Err stop) m ended h = subst (λ (s : Stop). IsUnplayed (status_of s)) m.stops h
+
 -- ---- by what is asked
 
 idle_session : (files : List File) (asked : Option Asked) (P : Setup → StepList → Type 0) → used asked ≤ 2 → OfSession files asked P
@@ -77,6 +81,9 @@ idle_first files (Some (to_resume game name)) s none = absurd (omega (arith, non
 idle_first files (Some (to_rejoin game turn)) s none = absurd (omega (arith, none))
 idle_first files (Some (to_session game steps)) s none = absurd (omega (arith, none))
 idle_first files (Some (to_try seed units turns)) s none = absurd (omega (arith, none))
+idle_first files (Some (to_realm game turn)) s none = absurd (omega (arith, none))
+idle_first files (Some (to_sight game turn out)) s none = absurd (omega (arith, none))
+idle_first files (Some (to_resight game name map)) s none = absurd (omega (arith, none))
 
 -- ---- systems that were left
 
@@ -218,11 +225,11 @@ module _ {X : Type 0} {F : X → Type 0} (meaning : (i : X) → F i → Meaning)
       firsts_of (drop 1 old) (drop 1 new) more after r s P (behind old (r ∷ more) q was) (behind new (s ∷ after) p is) h
 
   -- a match was played with the first rig
-  pub first_played : (asked : Asked) (held : Option (List File)) (setup : Setup) (state : State) (wanted : Outcome) (made : Result Answer Stop) (r s : Rig X F) (rest : List (Rig X F)) (old new : Vec (Rig X F) Global)
-      → AreEightBy meaning old.items → old.items ≡ r ∷ rest → new.items ≡ s ∷ rest → vec_capacity new ≡ vec_capacity old → clients asked ≡ 1 → IsMade wanted made → HasEnded wanted.status
+  pub one_played : (asked : Asked) (held : Option (List File)) (setup : Setup) (state : State) (made : Result Answer Stop) (r s : Rig X F) (rest : List (Rig X F)) (old new : Vec (Rig X F) Global)
+      → AreEightBy meaning old.items → old.items ≡ r ∷ rest → new.items ≡ s ∷ rest → vec_capacity new ≡ vec_capacity old → clients asked ≡ 1 → (IsUnplayed (status_made made) → ⊥)
       → HasPlayedBy meaning setup state made r s → IfSome held (λ files. OnOk made (RigStands files (Some asked) (systems_by r meaning) (systems_by s meaning)))
       → RigsCameBackBy meaning (Some asked) held (status_made made) old new
-  first_played asked held setup state wanted made r s rest old new eight was is room one m ended played stands =
+  one_played asked held setup state made r s rest old new eight was is room one ended played stands =
       let some : 1 < length old.items = omega (arith, eight.count) in
       let others : drop 1 new.items ≡ drop 1 old.items = behind new.items rest s is ∙ sym (behind old.items rest r was) in
       record {
@@ -236,12 +243,19 @@ module _ {X : Type 0} {F : X → Type 0} (meaning : (i : X) → F i → Meaning)
         most = λ none. firsts_of old.items new.items rest rest r s Once was is played.most;
         joined = λ none. seconds_kept old.items new.items Once others some once_same;
         session = idle_rigs held (Some asked) old.items new.items (omega (arith, one));
-        unplayed = λ none. absurd (was_played wanted made m ended none);
+        unplayed = λ none. absurd (ended none);
         rest = subst (λ (n : ℕ). drop n new.items ≡ drop n old.items) (sym one) others;
         kinds = kinds_with new.items rest s is played.kinds (kinds_of_rest old.items rest r was eight.kinds);
         count = ap length is ∙ sym (ap length was);
         room = room;
       }
+
+  pub first_played : (asked : Asked) (held : Option (List File)) (setup : Setup) (state : State) (wanted : Outcome) (made : Result Answer Stop) (r s : Rig X F) (rest : List (Rig X F)) (old new : Vec (Rig X F) Global)
+      → AreEightBy meaning old.items → old.items ≡ r ∷ rest → new.items ≡ s ∷ rest → vec_capacity new ≡ vec_capacity old → clients asked ≡ 1 → IsMade wanted made → HasEnded wanted.status
+      → HasPlayedBy meaning setup state made r s → IfSome held (λ files. OnOk made (RigStands files (Some asked) (systems_by r meaning) (systems_by s meaning)))
+      → RigsCameBackBy meaning (Some asked) held (status_made made) old new
+  first_played asked held setup state wanted made r s rest old new eight was is room one m ended played stands =
+      one_played asked held setup state made r s rest old new eight was is room one (was_played wanted made m ended) played stands
 
   -- ---- a second client joined with the second rig
 

@@ -6,19 +6,21 @@ use Rattle.sim_store.specs.declared.counts.Counts.{Counts}
 use Rattle.sim_top.specs.Outcome.{match_in}
 use Rattle.sim_top.specs.Readiness.{HoldsState}
 use Rattle.sim_top.specs.Reads.{length_in, length_first, length_read}
-use Rattle.sim_top.specs.Words.{Asked, to_compare}
+use Rattle.sim_top.specs.Words.{Asked, to_compare, to_resight}
 use Rattle.sim_top.specs.declared.status.Status.{Status}
-use Rattle.sim_top.specs.declared.status.Status.TheVariants.{Done, Differs, MatchRefused, StateRefused, ListRefused, NoSuchTurn}
+use Rattle.sim_top.specs.declared.status.Status.TheVariants.{Done, Differs, MatchRefused, StateRefused, ListRefused, NoSuchTurn, SightRefused}
 
 -- just so many bytes were given, and nothing else was counted
 abbrev pub Gave : ℕ → Counts → Counts → Type 0
 Gave n old new = new ≡ after_giving n old
 
--- where a stored state is refused: of two that are compared the second is read only where the first is a state
+-- where a stored state is refused: of two that are compared the second is read only where the first is a state, and explored cells are
+-- read only where there is a state
 abbrev pub GaveToState : List File → Asked → Counts → Counts → Type 0
 GaveToState files (to_compare game left right) old new =
     IfOk (match_in files game) (λ setup. (HoldsState files setup left → Gave (length_read files (to_compare game left right)) old new)
     × ((HoldsState files setup left → ⊥) → Gave (length_in files game + length_in files left) old new))
+GaveToState files (to_resight game stored map) old new = Gave (length_in files game + length_in files stored) old new
 GaveToState files asked old new = Gave (length_read files asked) old new
 
 -- what was given for what is asked, where nothing but the files themselves brought the run to its end
@@ -29,6 +31,7 @@ GaveFor files asked MatchRefused old new = Gave (length_first files asked) old n
 GaveFor files asked StateRefused old new = GaveToState files asked old new
 GaveFor files asked ListRefused old new = Gave (length_read files asked) old new
 GaveFor files asked NoSuchTurn old new = Gave (length_read files asked) old new
+GaveFor files asked SightRefused old new = Gave (length_read files asked) old new
 GaveFor files asked other old new = Unit {0}
 
 -- the same for the words; those of no command read nothing

@@ -12,3 +12,5 @@ pub mod Rigs
 pub mod Hosting
 pub mod Returning
 pub mod Headline
+pub mod Territories
+pub mod Sights

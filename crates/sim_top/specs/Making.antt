@@ -52,6 +52,11 @@ pub record IsMade (wanted : Outcome) (made : Result Answer Stop) : Type 0 where
   pub answers : IfOk made (λ answer. outcome_made answer ≡ wanted)
   pub stops : IfErr made (λ stop. stop ≡ NoMemory)
 
+-- one of these outcomes is made, or there is no memory for it
+pub record IsMadeAs (Wanted : Outcome → Type 0) (made : Result Answer Stop) : Type 0 where
+  pub answers : IfOk made (λ answer. Wanted (outcome_made answer))
+  pub stops : IfErr made (λ stop. stop ≡ NoMemory)
+
 -- an outcome that is still to be written is one of the words, or a read fault or want of memory came between
 abbrev pub MeetsBefore : Status → List (List ℕ) → List File → List ℕ → Option File → Type 0
 MeetsBefore ReadFault words files text saved = (text ≡ []) × (saved ≡ None)

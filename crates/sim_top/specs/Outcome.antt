@@ -1,6 +1,6 @@
 -- What the words ask for: a status, a text and perhaps a file that is saved, by the files that are held. A stored state is
 -- the one that its bytes stand for, or the first cause for which they stand for none.
-use Rattle.std.specs.Prelude.{◌≡◌, ℕ, nat_lt, List, [], length, codes, Option, Some, None, Result, Ok, Err, if◌then◌else◌}
+use Rattle.std.specs.Prelude.{◌≡◌, ℕ, ◌*◌, nat_lt, List, [], length, codes, Option, Some, None, Result, Ok, Err, if◌then◌else◌}
 use Rattle.sim_base.specs.declared.setup.Setup.{Setup}
 use Rattle.sim_base.specs.declared.state.State.{State}
 use Rattle.sim_base.specs.Turn.{after, own_turns}
@@ -20,18 +20,26 @@ use Rattle.sim_lists.specs.declared.step_list.StepList.{StepList}
 use Rattle.sim_lists.specs.StepLists.{steps_of}
 use Rattle.sim_session_text.specs.SessionText.{session_text}
 use Rattle.sim_serve.specs.Served.{served_text}
-use Rattle.sim_report.specs.declared.refusal.Refusal.TheVariants.{Match, List as OfList, Turn}
+use Rattle.sim_report.specs.declared.refusal.Refusal.TheVariants.{Match, List as OfList, Turn, Sight}
 use Rattle.sim_report.specs.Lines.{usage_text, saved_line}
 use Rattle.sim_report.specs.Refusals.{refusal_text, stored_text}
 use Rattle.sim_report.specs.Show.{show_text}
 use Rattle.sim_report.specs.Places.{place_text}
 use Rattle.sim_diff.specs.Difference.{difference_of}
 use Rattle.sim_diff.specs.declared.place.Place.{Place}
-use Rattle.sim_top.specs.Words.{Asked, to_play, to_store, to_resume, to_rejoin, to_session, to_show, to_compare, to_serve, to_try, asked_by}
+use Rattle.sim_top.specs.Words.{Asked, to_play, to_store, to_resume, to_rejoin, to_session, to_show, to_compare, to_serve, to_try, to_realm, to_sight, to_resight, asked_by}
 use Rattle.sim_play.specs.Lines.{play_text, resume_text, rejoin_text, trial_line}
+use Rattle.sim_play.specs.Realms.{TellsRealm}
+use Rattle.sim_territory.specs.Realms.{realm_of}
+use Rattle.sim_scout.specs.Seen.{sight_text, sight_file, resight_text}
+use Rattle.sim_vision.specs.declared.fault.SightFault.{SightFault}
+use Rattle.sim_vision.specs.declared.fault.SightFault.TheVariants as sights
+use Rattle.sim_vision.specs.After.{joined_at}
+use Rattle.sim_vision.specs.Joining.{refusal_of}
+use Rattle.sim_vision.specs.Vision.{Vision, cells_in}
 use Rattle.sim_trial.specs.Trial.{text_of_trial}
 use Rattle.sim_top.specs.declared.status.Status.{Status}
-use Rattle.sim_top.specs.declared.status.Status.TheVariants.{Done, Differs, Usage, ReadFault, TooLong, MatchRefused, StateRefused, ListRefused, NoSuchTurn, NoFile}
+use Rattle.sim_top.specs.declared.status.Status.TheVariants.{Done, Differs, Usage, ReadFault, TooLong, MatchRefused, StateRefused, ListRefused, NoSuchTurn, NoFile, SightRefused}
 
 -- what a run comes to: a status, the whole text, and the file that it saves, if any
 pub record Outcome : Type 0 where
@@ -158,6 +166,59 @@ trial_outcome seed units turns setup = printed Done (trial_line seed units turns
 abbrev pub IsTrialOutcome : ℕ → ℕ → ℕ → Outcome → Type 0
 IsTrialOutcome seed units turns wanted = Then (trial_match seed units turns) (λ setup wanted. wanted ≡ trial_outcome seed units turns setup) wanted
 
+-- the territories of a state are told
+pub record IsRealmOutcome (setup : Setup) (state : State) (wanted : Outcome) : Type 0 where
+  pub text : List ℕ
+  pub tells : TellsRealm (realm_of setup state) text
+  pub printed : wanted ≡ printed Done text
+
+-- the turn that is asked for, or the outcome where the match has not so many
+abbrev pub turn_by : Setup → ℕ → Result ℕ Outcome
+turn_by setup turn = if nat_lt setup.turns turn then Err (printed NoSuchTurn (refusal_text (Turn turn setup.turns))) else Ok turn
+
+-- the outcome of the territories of a turn, whose state is `after` the match's own turns
+abbrev pub RealmAt : ℕ → Setup → Outcome → Type 0
+RealmAt turn setup = Then (turn_by setup turn) (λ turn. IsRealmOutcome setup (after setup (own_turns setup 0 turn)))
+
+-- the outcome of lines of what the players see, with a file of what they have explored
+abbrev pub seen_with : List ℕ → List ℕ → List ℕ → Outcome
+seen_with text out bytes = record { status = Done; text = text; saved = Some (record { name = out; bytes = bytes }) }
+
+-- that of a turn of a match
+abbrev pub seen_at : Setup → ℕ → List ℕ → Outcome
+seen_at setup turn out = seen_with (sight_text setup turn) out (sight_file setup turn)
+
+-- the same, or that the match has not the turn
+abbrev pub sight_outcome : Setup → ℕ → List ℕ → Outcome
+sight_outcome setup turn out = if nat_lt setup.turns turn then printed NoSuchTurn (refusal_text (Turn turn setup.turns)) else seen_at setup turn out
+
+-- the number that is printed of why explored cells are refused
+abbrev pub sight_code : SightFault → ℕ
+sight_code sights.Length = 1
+sight_code sights.NotBit = 2
+sight_code sights.Unseen = 3
+sight_code sights.OutOfMemory = 0
+
+-- explored cells that are taken over, or the outcome of their refusal
+abbrev pub map_by : Option SightFault → List ℕ → Result (List ℕ) Outcome
+map_by None bytes = Ok bytes
+map_by (Some fault) bytes = Err (printed SightRefused (refusal_text (Sight (sight_code fault))))
+
+-- the explored cells of a file that are taken over at a state, or the outcome of the first cause for which they are not
+abbrev pub map_at : Setup → State → Result (List ℕ) Outcome → Result (List ℕ) Outcome
+map_at setup state (Ok bytes) = map_by (refusal_of setup state.rows bytes) bytes
+map_at setup state (Err ended) = Err ended
+
+-- what the players see in the end is told, from a state on at which a sight was joined: whichever explored cells it was joined with
+pub record IsSeenFrom (setup : Setup) (state : State) (sight : Vision) (wanted : Outcome) : Type 0 where
+  pub text : List ℕ
+  pub tells : (bytes : List ℕ) → sight ≡ joined_at setup state bytes → length bytes ≡ setup.players * cells_in setup → text ≡ resight_text setup state bytes
+  pub printed : wanted ≡ printed Done text
+
+-- the outcome of what the players see in the end, from a state on and the explored cells of a file
+abbrev pub IsResighted : Setup → State → Result (List ℕ) Outcome → Outcome → Type 0
+IsResighted setup state file wanted = Then (map_at setup state file) (λ bytes wanted. wanted ≡ printed Done (resight_text setup state bytes)) wanted
+
 -- the least place at which two states differ, or that they are the same
 abbrev pub compare_by : Option Place → Outcome
 compare_by None = printed Done (codes "same\n")
@@ -184,6 +245,10 @@ IsOutcomeOf files (Some (to_compare game left right)) wanted =
     Then (match_in files game) (λ setup. Then (bytes_in files left) (λ bytes. ThenStored setup left bytes (λ state. IsCompared setup right state (bytes_in files right)))) wanted
 IsOutcomeOf files (Some (to_serve name)) wanted = Then (schedule_in files name) (λ schedule wanted. wanted ≡ printed Done (served_text schedule)) wanted
 IsOutcomeOf files (Some (to_try seed units turns)) wanted = IsTrialOutcome seed units turns wanted
+IsOutcomeOf files (Some (to_realm game turn)) wanted = Then (match_in files game) (RealmAt turn) wanted
+IsOutcomeOf files (Some (to_sight game turn out)) wanted = Then (match_in files game) (λ setup wanted. wanted ≡ sight_outcome setup turn out) wanted
+IsOutcomeOf files (Some (to_resight game name map)) wanted =
+    Then (match_in files game) (λ setup. Then (bytes_in files name) (λ bytes. ThenStored setup name bytes (λ state. IsResighted setup state (bytes_in files map)))) wanted
 
 -- the outcome of the words over the held files
 abbrev pub IsOutcome : List (List ℕ) → List File → Outcome → Type 0

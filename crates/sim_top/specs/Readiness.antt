@@ -7,8 +7,8 @@ use Rattle.sim_store.specs.Files.{File}
 use Rattle.sim_codec.specs.Loading.{StandsFor}
 use Rattle.sim_lists.specs.declared.schedule.Schedule.{Schedule}
 use Rattle.sim_lists.specs.declared.step_list.StepList.{StepList}
-use Rattle.sim_top.specs.Words.{Asked, to_play, to_store, to_resume, to_rejoin, to_session, to_show, to_compare, to_serve, to_try}
-use Rattle.sim_top.specs.Outcome.{bytes_in, match_in, session_match_in, schedule_in, steps_in, trial_match}
+use Rattle.sim_top.specs.Words.{Asked, to_play, to_store, to_resume, to_rejoin, to_session, to_show, to_compare, to_serve, to_try, to_realm, to_sight, to_resight}
+use Rattle.sim_top.specs.Outcome.{bytes_in, match_in, session_match_in, schedule_in, steps_in, trial_match, map_at}
 use Rattle.sim_top.specs.Answers.{Scene}
 use Rattle.sim_top.specs.declared.status.Status.{Status}
 use Rattle.sim_top.specs.declared.status.Status.TheVariants.{Done, Differs, OutOfMemory}
@@ -38,6 +38,12 @@ pub record HoldsSession (files : List File) (game steps : List ℕ) : Type 0 whe
   pub read : session_match_in files game ≡ Ok setup
   pub listed : steps_in files steps setup.players ≡ Ok list
 
+-- so are two files, a stored state and explored cells that are taken over at it
+pub record HoldsSight (files : List File) (setup : Setup) (name map : List ℕ) : Type 0 where
+  pub state : HoldsState files setup name
+  pub explored : List ℕ
+  pub taken : (found : State) → StandsFor setup state.bytes found → map_at setup found (bytes_in files map) ≡ Ok explored
+
 -- the text of a trial is that of a match
 pub record HoldsTrial (seed units turns : ℕ) : Type 0 where
   pub setup : Setup
@@ -55,6 +61,9 @@ IsReady files (Some (to_show game name)) = HoldsMatch files game (λ setup. Hold
 IsReady files (Some (to_compare game left right)) = HoldsMatch files game (λ setup. HoldsState files setup left × HoldsState files setup right)
 IsReady files (Some (to_serve name)) = HoldsSchedule files name
 IsReady files (Some (to_try seed units turns)) = HoldsTrial seed units turns
+IsReady files (Some (to_realm game turn)) = HoldsMatch files game (λ setup. turn ≤ setup.turns)
+IsReady files (Some (to_sight game turn out)) = HoldsMatch files game (λ setup. turn ≤ setup.turns)
+IsReady files (Some (to_resight game name map)) = HoldsMatch files game (λ setup. HoldsSight files setup name map)
 
 -- no count of faults rose, nor stands at its last value
 pub record IsFaultless (before now : Scene) : Type 0 where

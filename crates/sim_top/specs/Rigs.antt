@@ -9,7 +9,7 @@ use Rattle.sim_system.specs.RigWords.{systems_by}
 use Rattle.sim_system.specs.declared.system.System.{Ghosts}
 use Rattle.sim_system.specs.declared.rig.Rig.{Rig}
 use Rattle.sim_play.specs.Lines.{end_from}
-use Rattle.sim_top.specs.Words.{Asked, to_play, to_store, to_resume, to_rejoin, to_session, to_show, to_compare, to_serve, to_try}
+use Rattle.sim_top.specs.Words.{Asked, to_play, to_store, to_resume, to_rejoin, to_session, to_show, to_compare, to_serve, to_try, to_realm, to_sight, to_resight}
 use Rattle.sim_top.specs.Outcome.{Outcome, bytes_in, match_in, trial_match}
 use Rattle.sim_top.specs.Stops.{IsState}
 use Rattle.sim_top.specs.declared.commands.Answer.{Answer}
@@ -26,6 +26,9 @@ clients (to_show game name) = 0
 clients (to_compare game left right) = 0
 clients (to_serve schedule) = 0
 clients (to_try seed units turns) = 1
+clients (to_realm game turn) = 1
+clients (to_sight game turn out) = 1
+clients (to_resight game name map) = 1
 
 -- how many of the rigs are used for the words, from the first on
 abbrev pub used : Option Asked → ℕ
@@ -59,6 +62,9 @@ RigStands files (Some (to_show game name)) s t = t ≡ s
 RigStands files (Some (to_compare game left right)) s t = t ≡ s
 RigStands files (Some (to_serve schedule)) s t = t ≡ s
 RigStands files (Some (to_try seed units turns)) s t = StandForTrial seed units turns t
+RigStands files (Some (to_realm game turn)) s t = IfOk (match_in files game) (λ setup. AreFed setup (after setup (own_turns setup 0 turn)) t)
+RigStands files (Some (to_sight game turn out)) s t = IfOk (match_in files game) (λ setup. AreFed setup (after setup (own_turns setup 0 turn)) t)
+RigStands files (Some (to_resight game name map)) s t = IfOk (match_in files game) (λ setup. StandForStored setup (bytes_in files name) t)
 
 -- the systems of the second rig: a client that joins plays to the last state too
 abbrev pub SecondStands : List File → Option Asked → Systems → Type 0

@@ -14,15 +14,19 @@ use Rattle.sim_setup.specs.declared.fault.SetupFault.TheVariants as setup
 use Rattle.sim_lists.specs.declared.fault.ListFault.{ListFault}
 use Rattle.sim_lists.specs.declared.fault.ListFault.TheVariants as listed
 use Rattle.sim_codec.specs.Loading.{StandsFor}
-use Rattle.sim_report.specs.declared.refusal.Refusal.TheVariants.{Match, List as OfList, Turn}
+use Rattle.sim_report.specs.declared.refusal.Refusal.TheVariants.{Match, List as OfList, Turn, Sight}
 use Rattle.sim_report.specs.Refusals.{refusal_text, stored_text}
-use Rattle.sim_top.specs.Outcome.{Outcome, printed, Then, IsStored, code_of, state_by}
+use Rattle.sim_vision.specs.declared.fault.SightFault.{SightFault}
+use Rattle.sim_vision.specs.declared.fault.SightFault.TheVariants as sights
+use Rattle.sim_vision.specs.After.{joined_at}
+use Rattle.sim_vision.specs.Vision.{Vision}
+use Rattle.sim_top.specs.Outcome.{Outcome, printed, Then, IsStored, code_of, state_by, sight_code}
 use Rattle.sim_top.specs.Answers.{OnlyGave, CountsBefore}
 use Rattle.sim_top.specs.Reads.{IsUnfound}
 use Rattle.sim_top.specs.declared.status.Status.{Status}
 use Rattle.sim_top.specs.declared.status.Status.TheVariants as status
 use Rattle.sim_top.specs.declared.stop.Stop.{Stop}
-use Rattle.sim_top.specs.declared.stop.Stop.TheVariants.{ReadFault, TooLong, NoFile, OutOfMemory, MatchRefused, StateRefused, ListRefused, NoSuchTurn}
+use Rattle.sim_top.specs.declared.stop.Stop.TheVariants.{ReadFault, TooLong, NoFile, OutOfMemory, MatchRefused, StateRefused, ListRefused, NoSuchTurn, SightRefused}
 
 -- the status with which a command ends there
 abbrev pub status_of : Stop → Status
@@ -34,6 +38,7 @@ status_of (MatchRefused code index) = status.MatchRefused
 status_of (StateRefused code name) = status.StateRefused
 status_of (ListRefused index) = status.ListRefused
 status_of (NoSuchTurn asked turns) = status.NoSuchTurn
+status_of (SightRefused code) = status.SightRefused
 
 -- the text that it prints
 abbrev pub stop_text : Stop → List ℕ
@@ -45,6 +50,7 @@ stop_text (MatchRefused code index) = refusal_text (Match code index)
 stop_text (StateRefused code name) = stored_text code name.now
 stop_text (ListRefused index) = refusal_text (OfList index)
 stop_text (NoSuchTurn asked turns) = refusal_text (Turn asked turns)
+stop_text (SightRefused code) = refusal_text (Sight code)
 
 -- the outcome with which a command ends there
 abbrev pub ended_by : Stop → Outcome
@@ -103,6 +109,22 @@ abbrev pub IsStateStop : StateFault → List ℕ → Stop → Type 0
 IsStateStop stored.OutOfMemory name stop = stop ≡ OutOfMemory
 IsStateStop fault name stop = ended_by stop ≡ printed status.StateRefused (stored_text (code_of fault) name)
 
+-- why a command ends whose explored cells are refused
+abbrev pub map_stop : SightFault → Stop
+map_stop sights.OutOfMemory = OutOfMemory
+map_stop fault = SightRefused (sight_code fault)
+
+-- these explored cells were taken over at a state
+pub record IsJoined (setup : Setup) (state : State) (taken : Result (List ℕ) Outcome) (sight : Vision) : Type 0 where
+  pub bytes : List ℕ
+  pub read : taken ≡ Ok bytes
+  pub joined : sight ≡ joined_at setup state bytes
+
+-- the explored cells that are taken over at a state, or the command ends
+abbrev pub Joins : Result Vision Stop → Setup → State → Result (List ℕ) Outcome → Type 0
+Joins (Ok sight) setup state taken = IsJoined setup state taken sight
+Joins (Err stop) setup state taken = Stopped stop (λ ended. taken ≡ Err ended)
+
 -- what the shelf counted while the bytes of a file were read, by the answer
 abbrev pub ReadsCounting : Result (Vec ℕ Global) Stop → Counts → Counts → Type 0
 ReadsCounting (Ok bytes) old new = new ≡ after_giving (length bytes.items) old
@@ -124,6 +146,7 @@ abbrev pub IsOfMatch : Stop → Type 0
 IsOfMatch (StateRefused code name) = ⊥
 IsOfMatch (ListRefused index) = ⊥
 IsOfMatch (NoSuchTurn asked turns) = ⊥
+IsOfMatch (SightRefused code) = ⊥
 IsOfMatch other = Unit {0}
 
 -- that reads a stored state
@@ -131,6 +154,7 @@ abbrev pub IsOfState : Stop → Type 0
 IsOfState (MatchRefused code index) = ⊥
 IsOfState (ListRefused index) = ⊥
 IsOfState (NoSuchTurn asked turns) = ⊥
+IsOfState (SightRefused code) = ⊥
 IsOfState other = Unit {0}
 
 -- that reads a list
@@ -138,7 +162,16 @@ abbrev pub IsOfList : Stop → Type 0
 IsOfList (MatchRefused code index) = ⊥
 IsOfList (StateRefused code name) = ⊥
 IsOfList (NoSuchTurn asked turns) = ⊥
+IsOfList (SightRefused code) = ⊥
 IsOfList other = Unit {0}
+
+-- that reads explored cells
+abbrev pub IsOfMap : Stop → Type 0
+IsOfMap (MatchRefused code index) = ⊥
+IsOfMap (StateRefused code name) = ⊥
+IsOfMap (ListRefused index) = ⊥
+IsOfMap (NoSuchTurn asked turns) = ⊥
+IsOfMap other = Unit {0}
 
 -- a command ends since something is refused
 abbrev pub IsRefusal : Stop → Type 0

@@ -5,11 +5,13 @@ use Rattle.std.specs.Str.{bytes_eq}
 use Rattle.sim_base.specs.NumberText.{is_digit}
 use Rattle.sim_trial.specs.Trial.{is_trial}
 use Rattle.sim_top.specs.declared.words.Request.{Request}
-use Rattle.sim_top.specs.declared.words.Request.TheVariants.{Play, State, Resume, Rejoin, Session, Show, Compare, Serve, Trial}
+use Rattle.sim_top.specs.declared.words.Request.TheVariants.{Play, State, Resume, Rejoin, Session, Show, Compare, Serve, Trial, Realm, Sight, Resight}
 
 -- what is asked for: to play a match; to store the state of a turn of it in a file; to play on from a stored state; to play it with a
 -- second client that joins at a turn; to run a session of it over a list of steps; to show a stored state; to compare two; to run the
--- server over a schedule; to play the trial that is made of three numbers
+-- server over a schedule; to play the trial that is made of three numbers; to tell the territories of a turn of a match; to tell what its
+-- players see at a turn, and store in a file what they have explored; to tell what they see in the end, from a stored state on and the
+-- explored cells of a file
 pub data Asked : Type 0 where
   to_play : List ℕ → Asked
   to_store : List ℕ → ℕ → List ℕ → Asked
@@ -20,6 +22,9 @@ pub data Asked : Type 0 where
   to_compare : List ℕ → List ℕ → List ℕ → Asked
   to_serve : List ℕ → Asked
   to_try : ℕ → ℕ → ℕ → Asked
+  to_realm : List ℕ → ℕ → Asked
+  to_sight : List ℕ → ℕ → List ℕ → Asked
+  to_resight : List ℕ → List ℕ → List ℕ → Asked
 
 -- the request of the code, with its names as bytes
 abbrev pub asked : Request → Asked
@@ -32,6 +37,9 @@ asked (Show game stored) = to_show game.now stored.now
 asked (Compare game left right) = to_compare game.now left.now right.now
 asked (Serve schedule) = to_serve schedule.now
 asked (Trial seed units turns) = to_try seed units turns
+asked (Realm game turn) = to_realm game.now turn
+asked (Sight game turn out) = to_sight game.now turn out.now
+asked (Resight game stored map) = to_resight game.now stored.now map.now
 
 -- the words as bytes
 abbrev pub words_of : List (String Global) → List (List ℕ)
@@ -62,14 +70,21 @@ asked_of_two command a b =
     if bytes_eq command (codes "resume") then Some (to_resume a b)
     else if bytes_eq command (codes "rejoin") then option_map (to_rejoin a) (turn_in b)
     else if bytes_eq command (codes "session") then Some (to_session a b)
-    else if bytes_eq command (codes "show") then Some (to_show a b) else None
+    else if bytes_eq command (codes "show") then Some (to_show a b)
+    else if bytes_eq command (codes "realm") then option_map (to_realm a) (turn_in b) else None
+
+-- what a command asks about what the players see
+abbrev pub asked_of_sight : List ℕ → List ℕ → List ℕ → List ℕ → Option Asked
+asked_of_sight command a b c =
+    if bytes_eq command (codes "sight") then option_map (λ n. to_sight a n c) (turn_in b)
+    else if bytes_eq command (codes "resight") then Some (to_resight a b c) else None
 
 -- what it asks of three words
 abbrev pub asked_of_three : List ℕ → List ℕ → List ℕ → List ℕ → Option Asked
 asked_of_three command a b c =
     if bytes_eq command (codes "state") then option_map (λ n. to_store a n c) (turn_in b)
     else if bytes_eq command (codes "compare") then Some (to_compare a b c)
-    else if bytes_eq command (codes "trial") then trial_of (turn_in a) (turn_in b) (turn_in c) else None
+    else if bytes_eq command (codes "trial") then trial_of (turn_in a) (turn_in b) (turn_in c) else asked_of_sight command a b c
 
 -- what the words ask for, if they are in the table of commands
 abbrev pub asked_by : List (List ℕ) → Option Asked
@@ -81,6 +96,7 @@ asked_by other = None
 -- the file that is to be written
 abbrev pub out_of : Option Asked → Option (List ℕ)
 out_of (Some (to_store game turn out)) = Some out
+out_of (Some (to_sight game turn out)) = Some out
 out_of other = None
 
 -- whether it is to compare two states
@@ -102,6 +118,8 @@ has_match other = true
 abbrev pub has_turn : Asked → Bool
 has_turn (to_store game turn out) = true
 has_turn (to_rejoin game turn) = true
+has_turn (to_realm game turn) = true
+has_turn (to_sight game turn out) = true
 has_turn other = false
 
 -- whether it names a file with a stored state
@@ -109,6 +127,7 @@ abbrev pub loads_state : Asked → Bool
 loads_state (to_resume game stored) = true
 loads_state (to_show game stored) = true
 loads_state (to_compare game left right) = true
+loads_state (to_resight game stored map) = true
 loads_state other = false
 
 -- whether it names a file with a list of steps or arrivals
@@ -116,6 +135,11 @@ abbrev pub reads_list : Asked → Bool
 reads_list (to_serve schedule) = true
 reads_list (to_session game steps) = true
 reads_list other = false
+
+-- whether it names a file with explored cells
+abbrev pub reads_map : Asked → Bool
+reads_map (to_resight game stored map) = true
+reads_map other = false
 
 -- whether it names a file to be read
 abbrev pub reads_file : Asked → Bool

@@ -15,6 +15,8 @@ ghost use Rattle.sim_top.specs.Words.{asked};
 mod comparing;
 mod joining;
 mod playing;
+mod realms;
+mod seeing;
 mod serving;
 mod sessions;
 mod showing;
@@ -27,6 +29,8 @@ use crate::words::Request;
 use comparing::compare;
 use joining::rejoin;
 use playing::{play, resume};
+use realms::realm;
+use seeing::{resight, sight};
 use serving::serve;
 use sessions::session;
 use showing::show;
@@ -77,6 +81,11 @@ pub fn answer_to<'w, S: Shelf>(
         Request::Compare { game, left, right } => compare(alloc, shelf, game, left, right),
         Request::Serve { schedule } => serve(alloc, shelf, schedule),
         Request::Trial { seed, units, turns } => trial(alloc, (seed, units, turns), rigs, orders),
+        Request::Realm { game, turn } => realm(alloc, shelf, game, turn, rigs, orders),
+        Request::Sight { game, turn, out } => sight(alloc, shelf, game, turn, out, rigs, orders),
+        Request::Resight { game, stored, map } => {
+            resight(alloc, shelf, game, stored, map, rigs, orders)
+        }
     }
 }
 

@@ -1,5 +1,5 @@
-//! What a command reads: the match of a file, a stored state of that match, a schedule, and the match and the steps of a
-//! session; and the match of a trial. What is refused without a look at its contents takes no memory.
+//! What a command reads: the match of a file, a stored state of that match, explored cells, a schedule, and the match and the
+//! steps of a session; and the match of a trial. What is refused without a look at its contents takes no memory.
 
 ghost use Rattle.std.specs.Prelude.{◌≡◌, List, Err, IfSome, IfOk, IfErr, IsErrAnd, Some, None, false};
 ghost use Rattle.std.specs.Str.{is_utf8};
@@ -11,9 +11,10 @@ ghost use Rattle.sim_lists.specs.StepLists.{steps_of as steps_of_bytes, IsStepLi
 ghost use Rattle.sim_setup.specs.Setups.{setup_of as setup_of_bytes, session_setup_of as session_setup_of_bytes};
 ghost use Rattle.sim_store.specs.Files.{File, file_in};
 ghost use Rattle.sim_top.specs.Commands.{IsReading, shelved};
-ghost use Rattle.sim_top.specs.Outcome.{bytes_in, match_in, setup_by, session_match_in, trial_match as match_of_trial, schedule_in, steps_in, list_by};
-ghost use Rattle.sim_top.specs.Stops.{Reads, ReadsBytes, ReadsState, LoadsState, IsStateStop, IsOfContent, IsOfMatch, IsOfState, IsOfList, IsMissed, ReadsCounting};
+ghost use Rattle.sim_top.specs.Outcome.{bytes_in, match_in, setup_by, session_match_in, trial_match as match_of_trial, schedule_in, steps_in, list_by, map_by, map_at};
+ghost use Rattle.sim_top.specs.Stops.{Reads, ReadsBytes, ReadsState, LoadsState, IsStateStop, IsOfContent, IsOfMatch, IsOfState, IsOfList, IsOfMap, IsMissed, Joins, ReadsCounting};
 ghost use Rattle.sim_trial.specs.Trial.{IsTrial};
+ghost use Rattle.sim_vision.specs.Joining.{refusal_of};
 
 use crate::stop::Stop;
 use sim_base::{Setup, State};
@@ -22,6 +23,7 @@ use sim_lists::{Schedule, StepList, schedule_of, steps_of};
 use sim_setup::{session_setup_of, setup_of};
 use sim_store::{Shelf, StoreFault, read_file};
 use sim_trial::trial_text;
+use sim_vision::Sight;
 use std::alloc::Global;
 
 /// Reads the bytes of a file.
@@ -139,6 +141,42 @@ pub fn read_state<'w, S: Shelf>(
 {
     let bytes = read_bytes(alloc, shelf, name)?;
     state_of(alloc, setup, name, &bytes)
+}
+
+// The sight that joins at a state with the explored cells of these bytes.
+fn sight_of<'a, 'w>(
+    alloc: Global,
+    setup: &'a Setup,
+    state: &State,
+    bytes: &[u8],
+) -> Result<Sight<'a>, Stop<'w>>
+    requires limits { IsSetup setup.now }
+    requires valid { IsValid setup.now state.now }
+    ensures joins { Joins result setup.now state.now (map_by (refusal_of setup.now state.now.rows bytes.now) bytes.now) }
+    ensures same { IfOk result (λ sight. sight.setup ≡ setup.now) }
+    ensures stops { IfErr result IsOfMap }
+    ensures content { IfErr result IsOfContent }
+{
+    Ok(Sight::join(alloc, setup, state, bytes)?)
+}
+
+/// Reads the explored cells of a file, with which a sight joins at a state of the match.
+pub fn read_sight<'a, 'w, S: Shelf>(
+    alloc: Global,
+    shelf: &mut S,
+    setup: &'a Setup,
+    state: &State,
+    name: &str,
+) -> Result<Sight<'a>, Stop<'w>>
+    requires limits { IsSetup setup.now }
+    requires valid { IsValid setup.now state.now }
+    ensures tells { IfSome (S.held shelf.old) (λ files. Joins result setup.now state.now (map_at setup.now state.now (bytes_in files name.now))) }
+    ensures same { IfOk result (λ sight. sight.setup ≡ setup.now) }
+    ensures stops { IfErr result IsOfMap }
+    ensures reading { IsReading name.now result (shelved (S.held shelf.old) (S.counts shelf.old)) (shelved (S.held shelf.new) (S.counts shelf.new)) }
+{
+    let bytes = read_bytes(alloc, shelf, name)?;
+    sight_of(alloc, setup, state, &bytes)
 }
 
 // The schedule of the bytes of a file.

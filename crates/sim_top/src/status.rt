@@ -30,6 +30,8 @@ pub enum Status {
     NoSuchTurn,
     /// A file is not there.
     NoFile,
+    /// The explored cells of a file are refused.
+    SightRefused,
 }
 
 impl Status {
@@ -50,6 +52,7 @@ impl Status {
             Status::OutOfMemory => 9,
             Status::NoSuchTurn => 10,
             Status::NoFile => 11,
+            Status::SightRefused => 12,
         }
     }
 }

@@ -3,13 +3,14 @@
 
 ghost use Rattle.std.specs.Prelude.{◌≡◌};
 ghost use Rattle.sim_top.specs.declared.stop.Stop.TheVariants as stops;
-ghost use Rattle.sim_top.specs.Stops.{status_of, setup_stop, list_stop, IsStateStop};
+ghost use Rattle.sim_top.specs.Stops.{status_of, setup_stop, list_stop, map_stop, IsStateStop};
 
 use crate::status::Status;
 use sim_base::OutOfMemory;
 use sim_codec::StateFault;
 use sim_lists::ListFault;
 use sim_setup::SetupFault;
+use sim_vision::SightFault;
 
 /// Why a command ends before it has its text.
 #[derive(Clone, Copy, Debug, PartialEq, Eq)]
@@ -30,6 +31,8 @@ pub enum Stop<'w> {
     ListRefused { index: u32 },
     /// The match has not as many turns as were asked for.
     NoSuchTurn { asked: u32, turns: u32 },
+    /// The explored cells of a file are refused for this code.
+    SightRefused { code: u8 },
 }
 
 impl<'w> From<OutOfMemory> for Stop<'w> {
@@ -62,6 +65,19 @@ impl<'w> From<ListFault> for Stop<'w> {
     }
 }
 
+impl<'w> From<SightFault> for Stop<'w> {
+    ghost from_gives = { λ fault stop. stop ≡ map_stop fault };
+
+    fn from(fault: SightFault) -> Stop<'w> {
+        match fault {
+            SightFault::Length => Stop::SightRefused { code: 1 },
+            SightFault::NotBit => Stop::SightRefused { code: 2 },
+            SightFault::Unseen => Stop::SightRefused { code: 3 },
+            SightFault::OutOfMemory => Stop::OutOfMemory,
+        }
+    }
+}
+
 impl<'w> Stop<'w> {
     /// Why a command ends whose stored state, in the file of this name, is not loaded.
     pub fn of_state(fault: StateFault, name: &'w str) -> Stop<'w>
@@ -88,6 +104,7 @@ impl<'w> Stop<'w> {
             Stop::StateRefused { .. } => Status::StateRefused,
             Stop::ListRefused { .. } => Status::ListRefused,
             Stop::NoSuchTurn { .. } => Status::NoSuchTurn,
+            Stop::SightRefused { .. } => Status::SightRefused,
         }
     }
 }

@@ -20,7 +20,9 @@ ghost use Rattle.sim_top.specs.Readiness.{IsReady, IsFaultless, IsFinal};
 ghost use Rattle.sim_top.specs.Reads.{LacksMatch, HasEnded, IsUnfound};
 ghost use Rattle.sim_top.specs.Returning.{RigsCameBack};
 ghost use Rattle.sim_top.specs.Rigs.{AreEight};
+ghost use Rattle.sim_top.specs.Sights.{TellsSights};
 ghost use Rattle.sim_top.specs.Stops.{stop_text as text_of_stop, status_of};
+ghost use Rattle.sim_top.specs.Territories.{OfRealm, Territories};
 ghost use Rattle.sim_top.specs.Words.{Asked, words_of, asked_by, out_of};
 
 use crate::commands::{Answer, Saved, answer_to};
@@ -60,6 +62,16 @@ pub fn run<S: Shelf, K: Sink>(
     // and its steps.
     ensures headline { IfSome (S.held shelf.old) (λ files. HasEnded result.status
         → OfSession files (asked_by (words_of words.now)) (λ setup list. Headline setup list (K.told out.old) (K.told out.new))) }
+
+    // Where territories are asked for, what the sink was told is who holds which ground at that turn, and which of it is rooted.
+    ensures territories { IfSome (S.held shelf.old) (λ files. HasEnded result.status
+        → OfRealm files (asked_by (words_of words.now)) (λ setup turn. Territories setup turn (K.told out.old) (K.told out.new))) }
+
+    // Where it is asked what the players see, what the sink was told is which cells a row of theirs sees in the last state, and which
+    // were explored on the way to it; and a file of the latter is saved where one is asked for.
+    ensures sights { IfSome (S.held shelf.old) (λ files. HasEnded result.status → TellsSights files (asked_by (words_of words.now))
+        (scene (S.held shelf.old) (K.told out.old) (S.counts shelf.old) (K.faults out.old))
+        (scene (S.held shelf.new) (K.told out.new) (S.counts shelf.new) (K.faults out.new))) }
 
     // Where the shelf tells its files, the status, the text and the saved file are those of the words, or a fault or
     // want of memory came between.
@@ -205,6 +217,7 @@ fn stop_text(alloc: Global, stop: &Stop<'_>) -> Result<String, OutOfMemory>
         Stop::StateRefused { code, name } => Refusal::Stored { code, name },
         Stop::ListRefused { index } => Refusal::List { index },
         Stop::NoSuchTurn { asked, turns } => Refusal::Turn { asked, turns },
+        Stop::SightRefused { code } => Refusal::Sight { code },
         Stop::ReadFault | Stop::TooLong | Stop::NoFile | Stop::OutOfMemory => {
             return Ok(String::new(alloc));
         }

@@ -1,7 +1,7 @@
 //! The words after the program's name, and the request that they make. A word that is out of place makes none.
 
 ghost use Rattle.std.specs.Prelude.{◌≡◌, ◌≤◌, Some, IfSome, length, option_map};
-ghost use Rattle.sim_top.specs.Words.{asked, words_of, asked_by, asked_of_one, asked_of_two, asked_of_three, trial_of as trial_asked, turn_in, digits_from};
+ghost use Rattle.sim_top.specs.Words.{asked, words_of, asked_by, asked_of_one, asked_of_two, asked_of_three, asked_of_sight, trial_of as trial_asked, turn_in, digits_from};
 ghost use Rattle.sim_top.specs.Trials.{CanBeTried};
 
 use sim_trial::is_trial;
@@ -55,6 +55,23 @@ pub enum Request<'w> {
         units: u32,
         turns: u32,
     },
+    /// To tell the territories of a turn of a match.
+    Realm {
+        game: &'w str,
+        turn: u32,
+    },
+    /// To tell what the players of a match see at a turn, and store in a file what they have explored.
+    Sight {
+        game: &'w str,
+        turn: u32,
+        out: &'w str,
+    },
+    /// To tell what the players of a match see in the end, from a stored state on and the explored cells of a file.
+    Resight {
+        game: &'w str,
+        stored: &'w str,
+        map: &'w str,
+    },
 }
 
 /// The request of the words, if they make one.
@@ -102,6 +119,10 @@ fn request_of_two<'w>(command: &str, a: &'w str, b: &'w str) -> Option<Request<'
     if command == "show" {
         return Some(Request::Show { game: a, stored: b });
     }
+    if command == "realm" {
+        let turn = turn_of(b)?;
+        return Some(Request::Realm { game: a, turn });
+    }
     None
 }
 
@@ -126,6 +147,29 @@ fn request_of_three<'w>(command: &str, a: &'w str, b: &'w str, c: &'w str) -> Op
     }
     if command == "trial" {
         return trial_of(turn_of(a)?, turn_of(b)?, turn_of(c)?);
+    }
+    request_of_sight(command, a, b, c)
+}
+
+// A request about what the players see.
+fn request_of_sight<'w>(command: &str, a: &'w str, b: &'w str, c: &'w str) -> Option<Request<'w>>
+    ensures asked { option_map asked result ≡ asked_of_sight command.now a.now b.now c.now }
+    ensures trial { IfSome result (λ request. CanBeTried (asked request)) }
+{
+    if command == "sight" {
+        let turn = turn_of(b)?;
+        return Some(Request::Sight {
+            game: a,
+            turn,
+            out: c,
+        });
+    }
+    if command == "resight" {
+        return Some(Request::Resight {
+            game: a,
+            stored: b,
+            map: c,
+        });
     }
     None
 }

@@ -7,3 +7,4 @@ mod numbers;
 mod records;
 mod slow;
 mod states;
+mod territories;

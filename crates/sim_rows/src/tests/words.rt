@@ -109,7 +109,7 @@ fn each_command_gives_its_status_and_text(rt: HostRuntime) -> Result<(), Fail> {
 }
 
 // Commands over the state that the first of them stores, and what they print.
-static STORED: [(&[&str], Status, &str); 5] = [
+static STORED: [(&[&str], Status, &str); 8] = [
     (
         &["state", "m", "000000001", "s"],
         Status::Done,
@@ -130,6 +130,21 @@ static STORED: [(&[&str], Status, &str); 5] = [
         &["show", "m", "m"],
         Status::StateRefused,
         "state refused 1 m\n",
+    ),
+    (
+        &["sight", "m", "1", "o"],
+        Status::Done,
+        "sight 1 visible 1 explored 2\n",
+    ),
+    (
+        &["resight", "m", "s", "o"],
+        Status::Done,
+        "sight 1 visible 1 explored 3\n",
+    ),
+    (
+        &["resight", "m", "s", "m"],
+        Status::SightRefused,
+        "sight refused 1\n",
     ),
 ];
 
@@ -159,6 +174,7 @@ fn statuses_have_their_numbers(rt: HostRuntime) {
         (Status::OutOfMemory, 9),
         (Status::NoSuchTurn, 10),
         (Status::NoFile, 11),
+        (Status::SightRefused, 12),
     ];
     for (status, number) in numbers {
         assert_eq!(rt; status.number(), number);

@@ -75,3 +75,21 @@ pub returns-in-Trial-clause-back : goal.returns-in-Trial-clause-back
 returns-in-Trial-clause-back g c =
     let held = g.S.Shelf.held c.args.shelf.now in
     subst (λ (a : Asked). RigsCameBackBy (λ i v. (goal.System-dyn g (i, v)).meaning v) (Some a) held (status_made c.trial.result) c.args.rigs.now c.trial.new.rigs) (sym (ap asked c.in-Trial.is)) (c.trial.ensures.back held)
+
+pub returns-in-Realm-clause-answer : goal.returns-in-Realm-clause-answer
+returns-in-Realm-clause-answer g c = subst (λ (a : Asked). IsAnswerTo a c.realm.result (shelved (g.S.Shelf.held c.args.shelf.now) (g.S.Shelf.counts c.args.shelf.now)) (shelved (g.S.Shelf.held c.realm.new.shelf) (g.S.Shelf.counts c.realm.new.shelf))) (sym (ap asked c.in-Realm.is)) c.realm.ensures.answer
+
+pub returns-in-Realm-clause-back : goal.returns-in-Realm-clause-back
+returns-in-Realm-clause-back g c = subst (λ (a : Asked). RigsCameBackBy (λ i v. (goal.System-dyn g (i, v)).meaning v) (Some a) (g.S.Shelf.held c.args.shelf.now) (status_made c.realm.result) c.args.rigs.now c.realm.new.rigs) (sym (ap asked c.in-Realm.is)) c.realm.ensures.back
+
+pub returns-in-Sight-clause-answer : goal.returns-in-Sight-clause-answer
+returns-in-Sight-clause-answer g c = subst (λ (a : Asked). IsAnswerTo a c.sight.result (shelved (g.S.Shelf.held c.args.shelf.now) (g.S.Shelf.counts c.args.shelf.now)) (shelved (g.S.Shelf.held c.sight.new.shelf) (g.S.Shelf.counts c.sight.new.shelf))) (sym (ap asked c.in-Sight.is)) c.sight.ensures.answer
+
+pub returns-in-Sight-clause-back : goal.returns-in-Sight-clause-back
+returns-in-Sight-clause-back g c = subst (λ (a : Asked). RigsCameBackBy (λ i v. (goal.System-dyn g (i, v)).meaning v) (Some a) (g.S.Shelf.held c.args.shelf.now) (status_made c.sight.result) c.args.rigs.now c.sight.new.rigs) (sym (ap asked c.in-Sight.is)) c.sight.ensures.back
+
+pub returns-in-Resight-clause-answer : goal.returns-in-Resight-clause-answer
+returns-in-Resight-clause-answer g c = subst (λ (a : Asked). IsAnswerTo a c.resight.result (shelved (g.S.Shelf.held c.args.shelf.now) (g.S.Shelf.counts c.args.shelf.now)) (shelved (g.S.Shelf.held c.resight.new.shelf) (g.S.Shelf.counts c.resight.new.shelf))) (sym (ap asked c.in-Resight.is)) c.resight.ensures.answer
+
+pub returns-in-Resight-clause-back : goal.returns-in-Resight-clause-back
+returns-in-Resight-clause-back g c = subst (λ (a : Asked). RigsCameBackBy (λ i v. (goal.System-dyn g (i, v)).meaning v) (Some a) (g.S.Shelf.held c.args.shelf.now) (status_made c.resight.result) c.args.rigs.now c.resight.new.rigs) (sym (ap asked c.in-Resight.is)) c.resight.ensures.back

@@ -11,12 +11,16 @@ use Rattle.sim_top.specs.Hosting.{OfSession, IsHostedBy}
 use Rattle.sim_top.specs.Making.{MeetsBefore, file_of}
 use Rattle.sim_top.specs.Readiness.{IsReady, IsFaultless, IsFinal}
 use Rattle.sim_top.specs.Reads.{HasEnded}
+use Rattle.sim_top.specs.Sights.{TellsSights}
+use Rattle.sim_top.specs.Territories.{OfRealm, Territories}
 use Rattle.sim_top.specs.Words.{words_of, asked_by}
 use Rattle.sim_top.proofs.Completeness.{final}
 use Rattle.sim_top.proofs.Ending.{told_unfound, told_usage, given_settled}
 use Rattle.sim_top.proofs.Headlines.{lawful, of_both, of_end}
 use Rattle.sim_top.proofs.Returning.{rigs_later}
+use Rattle.sim_top.proofs.Sights.{sights_told}
 use Rattle.sim_top.proofs.Stopping.{Told, Told-both}
+use Rattle.sim_top.proofs.Territories.{territories_told}
 use Rattle.sim_top.proofs.top.run.Goals as goal
 
 pub made_answer-answer-requires-clause-eight : goal.made_answer-answer-requires-clause-eight
@@ -74,6 +78,24 @@ returns-clause-headline g c =
     (λ files. HasEnded c.finish-status.result → OfSession files (asked_by words) (λ setup list. Headline setup list before.told now.told)) _
     (λ files h told ended. of_both files (asked_by words) _ hosted _ (λ setup list text is. lawful setup list before.told now.told is.limits is.steps text)
     (of_end c.finish-status.result words files (asked_by words) before now (λ wanted is. is) h ended) (told ended)) (returns-clause-answers g c) rigs.hosted
+
+-- and what was told of territories is in the words of the rules
+pub returns-clause-territories : goal.returns-clause-territories
+returns-clause-territories g c =
+    let words = words_of c.args.words.now in
+    let before = scene (g.S.Shelf.held c.args.shelf.now) (g.K.Sink.told c.args.out.now) (g.S.Shelf.counts c.args.shelf.now) (g.K.Sink.faults c.args.out.now) in
+    let now = scene (g.S.Shelf.held c.finish-status.new.shelf) (g.K.Sink.told c.finish-status.new.out) (g.S.Shelf.counts c.finish-status.new.shelf) (g.K.Sink.faults c.finish-status.new.out) in
+    Told (λ files. Meets c.finish-status.result words files before now) (λ files. HasEnded c.finish-status.result → OfRealm files (asked_by words) (λ setup turn. Territories setup turn before.told now.told)) _
+    (λ files h ended. territories_told c.finish-status.result words files before now h ended) (returns-clause-answers g c)
+
+-- and so is what was told of what the players see
+pub returns-clause-sights : goal.returns-clause-sights
+returns-clause-sights g c =
+    let words = words_of c.args.words.now in
+    let before = scene (g.S.Shelf.held c.args.shelf.now) (g.K.Sink.told c.args.out.now) (g.S.Shelf.counts c.args.shelf.now) (g.K.Sink.faults c.args.out.now) in
+    let now = scene (g.S.Shelf.held c.finish-status.new.shelf) (g.K.Sink.told c.finish-status.new.out) (g.S.Shelf.counts c.finish-status.new.shelf) (g.K.Sink.faults c.finish-status.new.out) in
+    Told (λ files. Meets c.finish-status.result words files before now) (λ files. HasEnded c.finish-status.result → TellsSights files (asked_by words) before now) _
+    (λ files h ended. sights_told c.finish-status.result words files before now h ended) (returns-clause-answers g c)
 
 -- a run that is settled wrote without reading any more
 pub returns-clause-given : goal.returns-clause-given

@@ -1,0 +1,26 @@
+-- The line of one player more.
+use Rattle.std.proofs.Common.{◌≡◌, ℕ, ◌+◌, ◌-◌, ◌++◌, ap, ◌∙◌, sym, arith}
+use Rattle.std.specs.Prelude.{string_bytes}
+use Rattle.std.specs.List.{range_with_len, flat_map}
+use Rattle.sim_report.specs.Lines.{holding_line}
+use Rattle.sim_play.specs.Realms.{held, held_rooted, player_line}
+use Rattle.sim_play.proofs.PlayerLines.{lines_more}
+use Rattle.sim_play.proofs.holdings.push_holdings.Goals as goal
+
+pub loop-player-preserved : goal.loop-player-preserved
+loop-player-preserved c =
+    let i = c.loop-player.invariant in
+    let player = c.loop-player.player in
+    let line = player_line c.args.holders.now c.args.rooted.now in
+    let old = string_bytes c.args.out.now in
+    let written : string_bytes c.push_holding.new.out ≡ string_bytes c.loop-player.out ++ line player =
+    c.in_ok-push_holding.ensures.ok
+    ∙ ap (λ (n : ℕ). string_bytes c.loop-player.out ++ holding_line player n c.held_rooted.result) c.held.ensures
+    ∙ ap (λ (n : ℕ). string_bytes c.loop-player.out ++ holding_line player (held c.args.holders.now player) n) c.held_rooted.ensures in
+    let place : 1 + (player - 1) ≡ player = omega (arith, i.begun) in
+    let next : player - 1 + 1 ≡ player + 1 - 1 = omega (arith, i.begun) in
+    record {
+      begun = omega arith;
+      text = lines_more line 1 (player - 1) player old (string_bytes c.loop-player.out) (string_bytes c.push_holding.new.out) place i.text written
+          ∙ ap (λ (n : ℕ). old ++ flat_map line (range_with_len 1 n)) next;
+    }

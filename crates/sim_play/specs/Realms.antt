@@ -1,0 +1,29 @@
+-- The territories of a state, as text.
+use Rattle.std.specs.Prelude.{◌≡◌, ℕ, Bool, ◌&&◌, ◌==◌, List, ◌++◌, zip, count_by}
+use Rattle.std.specs.List.{range_with_len, flat_map}
+use Rattle.md5.specs.Md5.{md5}
+use Rattle.sim_report.specs.Lines.{holding_line, map_line}
+use Rattle.sim_territory.specs.Realms.{RealmOf, holders_in}
+use Rattle.sim_territory.specs.Rooted.{AreRooted}
+
+-- how many cells a player holds
+abbrev pub held : List ℕ → ℕ → ℕ
+held holders player = count_by (λ holder. holder == player) holders
+
+-- how many of the cells that he holds are rooted
+abbrev pub held_rooted : List ℕ → List Bool → ℕ → ℕ
+held_rooted holders rooted player = count_by (λ (cell : ℕ × Bool). cell.0 == player && cell.1) (zip holders rooted)
+
+-- the line of a player
+abbrev pub player_line : List ℕ → List Bool → ℕ → List ℕ
+player_line holders rooted player = holding_line player (held holders player) (held_rooted holders rooted player)
+
+-- a line for each player, and one for all holders
+abbrev pub realm_lines : ℕ → List ℕ → List Bool → List ℕ
+realm_lines players holders rooted = flat_map (player_line holders rooted) (range_with_len 1 players) ++ map_line (md5 holders)
+
+-- a text tells a realm: who holds each cell, and which cells are joined to a root of their holder
+pub record TellsRealm (realm : RealmOf) (text : List ℕ) : Type 0 where
+  pub rooted : List Bool
+  pub are : AreRooted realm.setup realm.marks rooted
+  pub lines : text ≡ realm_lines realm.setup.players (holders_in realm) rooted

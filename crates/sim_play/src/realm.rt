@@ -1,0 +1,96 @@
+//! The territories of a match at a turn: a realm follows the states of all turns up to it.
+
+ghost use Rattle.std.specs.Prelude.{◌≡◌, ◌≤◌, IfOk, OnOk, string_bytes};
+ghost use Rattle.sim_base.specs.Limits.{IsSetup};
+ghost use Rattle.sim_base.specs.Turn.{after, own_turns};
+ghost use Rattle.sim_base.specs.Validity.{IsValid};
+ghost use Rattle.sim_system.specs.Meanings.{HaveKinds, AreFed, AreBuiltOnceAtMost};
+ghost use Rattle.sim_system.specs.RigWords.{systems_of};
+ghost use Rattle.sim_board.specs.BoardWords.{setup_in, state_in, systems, IsWhole, AreKept};
+ghost use Rattle.sim_territory.specs.Realms.{realm_of};
+ghost use Rattle.sim_play.specs.Realms.{TellsRealm};
+
+use crate::holdings::told;
+use sim_base::{OutOfMemory, Setup};
+use sim_board::Board;
+use sim_orders::OrderTable;
+use sim_system::{Rig, System};
+use sim_territory::Realm;
+use sim_turn::play;
+use std::alloc::Global;
+
+/// The lines of the territories of a turn of a match. The rig comes back; where there was memory, it stands for the state of
+/// that turn.
+pub fn realm_text(
+    alloc: Global,
+    setup: &Setup,
+    turn: u32,
+    rig: Rig,
+    orders: &OrderTable,
+) -> (Result<String, OutOfMemory>, Rig)
+    requires limits { IsSetup setup.now }
+    requires turn { turn ≤ setup.now.turns }
+    requires kinds { HaveKinds (systems_of rig ⟦<dyn System as System>⟧) }
+    ensures text { IfOk result.0 (λ text. TellsRealm (realm_of setup.now (after setup.now (own_turns setup.now 0 turn))) (string_bytes text)) }
+    ensures fed { OnOk result.0 (AreFed setup.now (after setup.now (own_turns setup.now 0 turn)) (systems_of result.1 ⟦<dyn System as System>⟧)) }
+    ensures kinds { HaveKinds (systems_of result.1 ⟦<dyn System as System>⟧) }
+    ensures most { AreBuiltOnceAtMost (systems_of rig ⟦<dyn System as System>⟧) (systems_of result.1 ⟦<dyn System as System>⟧) }
+{
+    let mut board = Board::new(alloc, setup, rig);
+    let text = told_at(alloc, &mut board, turn, orders);
+    let (_, rig) = board.finish();
+    (text, rig)
+}
+
+// Starts a board, plays it to a turn, and tells the territories to which it came.
+fn told_at(
+    alloc: Global,
+    board: &mut Board<'_>,
+    turn: u32,
+    orders: &OrderTable,
+) -> Result<String, OutOfMemory>
+    requires limits { IsSetup (setup_in board.old) }
+    requires turn { turn ≤ (setup_in board.old).turns }
+    requires kinds { HaveKinds (systems board.old ⟦<dyn System as System>⟧) }
+    ensures text { IfOk result (λ text. TellsRealm (realm_of (setup_in board.old) (after (setup_in board.old) (own_turns (setup_in board.old) 0 turn))) (string_bytes text)) }
+    ensures state { OnOk result (state_in board.new ≡ after (setup_in board.old) (own_turns (setup_in board.old) 0 turn)) }
+    ensures whole { OnOk result (IsWhole board.new ⟦<dyn System as System>⟧) }
+    ensures kinds { HaveKinds (systems board.new ⟦<dyn System as System>⟧) }
+    ensures most { AreBuiltOnceAtMost (systems board.old ⟦<dyn System as System>⟧) (systems board.new ⟦<dyn System as System>⟧) }
+    ensures setup { setup_in board.new ≡ setup_in board.old }
+{
+    let setup = board.setup();
+    board.start()?;
+    let mut realm = Realm::new(alloc, setup)?;
+    realm.follow(board.scene().state)?;
+    follow_until(alloc, board, &mut realm, turn, orders)?;
+    told(alloc, &realm, setup.players)
+}
+
+// Plays a board whose past is the match's own to a turn, and has a realm follow each state behind that at which both stand.
+fn follow_until(
+    alloc: Global,
+    board: &mut Board<'_>,
+    realm: &mut Realm<'_>,
+    until: u32,
+    orders: &OrderTable,
+) -> Result<(), OutOfMemory>
+    requires whole { IsWhole board.old ⟦<dyn System as System>⟧ }
+    requires valid { IsValid (setup_in board.old) (state_in board.old) }
+    requires own { state_in board.old ≡ after (setup_in board.old) (own_turns (setup_in board.old) 0 (state_in board.old).turn) }
+    requires ahead { (state_in board.old).turn ≤ until }
+    requires within { until ≤ (setup_in board.old).turns }
+    requires followed { realm.old ≡ realm_of (setup_in board.old) (state_in board.old) }
+    ensures realm { OnOk result (realm.new ≡ realm_of (setup_in board.old) (after (setup_in board.old) (own_turns (setup_in board.old) 0 until))) }
+    ensures state { OnOk result (state_in board.new ≡ after (setup_in board.old) (own_turns (setup_in board.old) 0 until)) }
+    ensures whole { OnOk result (IsWhole board.new ⟦<dyn System as System>⟧) }
+    ensures kept { AreKept (systems board.old ⟦<dyn System as System>⟧) (systems board.new ⟦<dyn System as System>⟧) }
+    ensures setup { setup_in board.new ≡ setup_in board.old }
+{
+    let begun = board.scene().state.turn;
+    for number in begun..until {
+        play(alloc, board, orders, number + 1)?;
+        realm.follow(board.scene().state)?;
+    }
+    Ok(())
+}

@@ -1,0 +1,135 @@
+//! What the players of a match see at a turn, and have explored: from its first state on, or from a stored state on with the
+//! explored cells of a file.
+
+ghost use Rattle.std.specs.Prelude.{◌≡◌, ◌≤◌, IfOk, IfErr, OnErr, Err, Some, string_bytes};
+ghost use Rattle.sim_base.specs.Limits.{IsSetup};
+ghost use Rattle.sim_base.specs.Turn.{after, own_turns};
+ghost use Rattle.sim_base.specs.Validity.{IsValid};
+ghost use Rattle.sim_play.specs.Lines.{end_from};
+ghost use Rattle.sim_system.specs.Meanings.{HaveKinds};
+ghost use Rattle.sim_system.specs.RigWords.{systems_of};
+ghost use Rattle.sim_top.specs.Commands.{IsAnswerTo, shelved};
+ghost use Rattle.sim_top.specs.Making.{IsMade, IsMadeAs, outcome_made, status_made};
+ghost use Rattle.sim_top.specs.Outcome.{seen_with, sight_outcome, IsSeenFrom};
+ghost use Rattle.sim_top.specs.Returning.{RigsCameBack};
+ghost use Rattle.sim_top.specs.Rigs.{AreEight, HasPlayed};
+ghost use Rattle.sim_top.specs.Words.{to_sight, to_resight};
+
+use super::storing::reached;
+use super::{Answer, Saved, shown};
+use crate::inputs::{read_match, read_sight, read_state};
+use crate::rigs::{put_first, take_first};
+use crate::status::Status;
+use crate::stop::Stop;
+use sim_base::{OutOfMemory, Setup, State};
+use sim_orders::OrderTable;
+use sim_scout::{resight_text, sight_at};
+use sim_store::Shelf;
+use sim_system::{Rig, System};
+use sim_vision::Sight;
+use std::alloc::Global;
+
+/// Tells what the players see at a turn of the match of a file, and stores what they have explored.
+pub fn sight<'w, S: Shelf>(
+    alloc: Global,
+    shelf: &mut S,
+    game: &'w str,
+    turn: u32,
+    out: &'w str,
+    rigs: &mut Vec<Rig>,
+    orders: &OrderTable,
+) -> Result<Answer<'w>, Stop<'w>>
+    requires { AreEight ⟦<dyn System as System>⟧ rigs.old.items }
+    ensures answer { IsAnswerTo (to_sight game.now turn out.now) result (shelved (S.held shelf.old) (S.counts shelf.old))
+        (shelved (S.held shelf.new) (S.counts shelf.new)) }
+    ensures back { RigsCameBack ⟦<dyn System as System>⟧ (Some (to_sight game.now turn out.now)) (S.held shelf.old) (status_made result) rigs.old rigs.new }
+{
+    let setup = read_match(alloc, shelf, game)?;
+    reached(&setup, turn)?;
+    let rig = take_first(rigs);
+    let (answer, rig) = seen_at(alloc, &setup, turn, out, rig, orders);
+    put_first(rigs, rig);
+    answer
+}
+
+// Tells what the players see at a turn that the match has.
+fn seen_at<'w>(
+    alloc: Global,
+    setup: &Setup,
+    turn: u32,
+    out: &'w str,
+    rig: Rig,
+    orders: &OrderTable,
+) -> (Result<Answer<'w>, Stop<'w>>, Rig)
+    requires limits { IsSetup setup.now }
+    requires within { turn ≤ setup.now.turns }
+    requires kinds { HaveKinds (systems_of rig ⟦<dyn System as System>⟧) }
+    ensures made { IsMade (sight_outcome setup.now turn out.now) result.0 }
+    ensures played { HasPlayed ⟦<dyn System as System>⟧ setup.now (after setup.now (own_turns setup.now 0 turn)) result.0 rig result.1 }
+{
+    let (told, rig) = sight_at(alloc, setup, turn, rig, orders);
+    (kept_sight(told, out), rig)
+}
+
+// The lines of what is seen and the file of what is explored, if there was memory for them.
+fn kept_sight<'w>(
+    told: Result<(String, Vec<u8>), OutOfMemory>,
+    out: &'w str,
+) -> Result<Answer<'w>, Stop<'w>>
+    ensures made { IfOk result (λ answer. IfOk told (λ told. outcome_made answer ≡ seen_with (string_bytes told.0) out.now told.1.items)) }
+    ensures stops { IfErr result (λ stop. stop ≡ Stop.OutOfMemory) }
+    ensures refused { OnErr told (result ≡ Err Stop.OutOfMemory) }
+{
+    let (text, bytes) = told?;
+    Ok(Answer {
+        status: Status::Done,
+        text,
+        saved: Some(Saved { name: out, bytes }),
+    })
+}
+
+/// Tells what the players see at the end of the match of a file, from a state that is stored in another on and the explored
+/// cells of a third.
+pub fn resight<'w, S: Shelf>(
+    alloc: Global,
+    shelf: &mut S,
+    game: &'w str,
+    name: &'w str,
+    map: &'w str,
+    rigs: &mut Vec<Rig>,
+    orders: &OrderTable,
+) -> Result<Answer<'w>, Stop<'w>>
+    requires { AreEight ⟦<dyn System as System>⟧ rigs.old.items }
+    ensures answer { IsAnswerTo (to_resight game.now name.now map.now) result (shelved (S.held shelf.old) (S.counts shelf.old))
+        (shelved (S.held shelf.new) (S.counts shelf.new)) }
+    ensures back { RigsCameBack ⟦<dyn System as System>⟧ (Some (to_resight game.now name.now map.now)) (S.held shelf.old)
+        (status_made result) rigs.old rigs.new }
+{
+    let setup = read_match(alloc, shelf, game)?;
+    let state = read_state(alloc, shelf, &setup, name)?;
+    let sight = read_sight(alloc, shelf, &setup, &state, map)?;
+    let rig = take_first(rigs);
+    let (answer, rig) = resight_match(alloc, &setup, state, sight, rig, orders);
+    put_first(rigs, rig);
+    answer
+}
+
+// Tells what the players see at the end of a match, from a state on at which a sight was joined.
+fn resight_match<'w>(
+    alloc: Global,
+    setup: &Setup,
+    state: State,
+    sight: Sight<'_>,
+    rig: Rig,
+    orders: &OrderTable,
+) -> (Result<Answer<'w>, Stop<'w>>, Rig)
+    requires limits { IsSetup setup.now }
+    requires valid { IsValid setup.now state }
+    requires same { sight.setup ≡ setup.now }
+    requires kinds { HaveKinds (systems_of rig ⟦<dyn System as System>⟧) }
+    ensures made { IsMadeAs (IsSeenFrom setup.now state sight.entry) result.0 }
+    ensures played { HasPlayed ⟦<dyn System as System>⟧ setup.now (end_from setup.now state) result.0 rig result.1 }
+{
+    let (text, rig) = resight_text(alloc, setup, state, sight, rig, orders);
+    (shown(text), rig)
+}
