@@ -16,11 +16,17 @@ def program():
     return str(path) if os.access(path, os.X_OK) else None
 
 
+# What tests start beside a tool finds the same program.
+if program():
+    os.environ["SIMCORE"] = program()
+
+
 class Cases:
     """Cases that passed and failed."""
 
     def __init__(self):
         self.passed = self.failed = 0
+        self.skipped = []
 
     def case(self, name, got, wanted):
         """One line for one case, which passes where both values are equal."""
@@ -34,6 +40,7 @@ class Cases:
 
     def skip(self, name, why):
         """One line for what can't be tried here."""
+        self.skipped.append(why)
         print(f"skipped {name}: {why}", flush=True)
 
     def end(self):

@@ -1,6 +1,7 @@
 """How a tool ends: with its result, or with one line that says what is wrong and status 2."""
 
 import argparse
+import signal
 import sys
 
 
@@ -16,7 +17,9 @@ class Words(argparse.ArgumentParser):
 
 
 def run_tool(name, main):
-    """Runs a tool's main over the command line; a fault becomes one line on standard error."""
+    """Runs a tool's main over the command line; a fault becomes one line on standard error. A signal leaves no files behind."""
+    for number in (signal.SIGINT, signal.SIGTERM, signal.SIGHUP):
+        signal.signal(number, lambda number, _: sys.exit(128 + number))
     try:
         sys.exit(main(sys.argv[1:]) or 0)
     except ToolFault as fault:

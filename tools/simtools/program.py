@@ -25,7 +25,7 @@ class Program:
     def __init__(self, path=None):
         self.path = pathlib.Path(path) if path else BUILT
         if not os.access(self.path, os.X_OK) or self.path.is_dir():
-            build = "" if path else "; ./simcore builds it, and --program names another"
+            build = "" if path else "; ./simcore builds it, and --program names another, as out/unproved/simcore"
             raise ToolFault(f"no program stands at {self.path}{build}")
 
     def _words(self, words):
