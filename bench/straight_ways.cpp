@@ -3,7 +3,7 @@
 // It does for a way that costs no more than the octile distance what `Searcher::way` of sim_path does: it compares labels,
 // goes back from the goal by the first direction of the order from which such a way may come, marks cells to which none
 // leads, keeps its rooms from call to call, and makes the first 64 points. It knows no other search, and says so where a way
-// is not straight. Both cells are to be open, and two. Its grounds and pairs of cells are those of crates/way_bench. It
+// is not straight. Both cells are to be open, and two. Its grounds and pairs of cells are those of crates/timed_calls. It
 // prints figures and asserts nothing.
 #include <algorithm>
 #include <chrono>

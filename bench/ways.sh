@@ -6,9 +6,9 @@
 # proofs took in kept rooms, on 256 by 256 cells, for far, middle and near cells: open 1.6, 0.3, 0.1 us; scattered 611, 12.9,
 # 0.1; corridors 1063, 147, 30; buildings 18, 1.5, 0.1, into a building 2.3 and 0.2. That was on another machine; on this one
 # straight_ways.cpp is measured behind it, where there is a g++.
-cd "$(dirname "$0")/../crates/way_bench" || exit 1
+cd "$(dirname "$0")/../crates/timed_calls" || exit 1
 uptime
-rt run -- measure
+rt run -- ways
 uptime
 if command -v g++ >/dev/null; then
     folder=$(mktemp -d) || exit 1

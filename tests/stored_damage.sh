@@ -10,18 +10,18 @@
 # change was answered wrongly and memory was there for each.
 set -eu
 top=$(dirname "$(dirname "$(realpath "$0")")")
-program=$top/crates/stored_damage/out/stored_damage
+program=$top/crates/timed_calls/out/timed_calls
 failed=0
 
 damage() {
-    line=$("$program" "$(realpath "$1")" "$(realpath "$2")")
+    line=$("$program" damage "$(realpath "$1")" "$(realpath "$2")")
     echo "$(basename "$2"): ${line#*: }"
     case $line in *'out-of-memory 0 wrong 0') ;; *) failed=1 ;; esac
 }
 
-(cd "$top/crates/stored_damage" && rt run >/dev/null 2>&1) || exit 125
+(cd "$top/crates/timed_calls" && rt run >/dev/null 2>&1) || exit 125
 if [ $# -eq 0 ]; then
-    (cd "$top/tests/stored" && { "$program" fight.json version-1 version-2; "$program" walk.json walking; } | diff - answers) || failed=1
+    (cd "$top/tests/stored" && { "$program" damage fight.json version-1 version-2; "$program" damage walk.json walking; } | diff - answers) || failed=1
     folder=$(mktemp -d)
     trap 'rm -rf "$folder"' EXIT
     for name in two-posts inherited camp squads outposts handover; do

@@ -1,7 +1,5 @@
 //! What a stored state costs where it costs most: one of 4,096 entities that have every part and a way of 45 waypoints,
-//! 1.7 MB. No match comes to such a state yet, so it is made by hand. It prints figures and promises nothing. A run without
-//! words prints nothing: the word `measure` asks for the figures.
-#![tactic(auto)]
+//! 1.7 MB. No match comes to such a state yet, so it is made by hand.
 
 ghost use Rattle.std.specs.Prelude.{◌≡◌, length, IfOk};
 ghost use Rattle.sim_base.specs.Limits.{IsLand, IsSetup, IsTemplate};
@@ -15,8 +13,8 @@ use sim_codec::{digest, is_valid, load, spell};
 use sim_diff::difference;
 use sim_report::push_show;
 use std::alloc::Global;
+use std::io;
 use std::time::Instant;
-use std::{env, io};
 
 const CALLS: usize = 20;
 
@@ -42,24 +40,19 @@ const WORKS: [Work; 6] = [
     Work::Compare,
 ];
 
-fn main(rt: HostRuntime) -> io::Result<()> {
-    let Ok(words) = env::args(&rt)?.skip(1).collect::<Vec<String>>(rt.alloc()) else {
-        return Ok(());
-    };
-    if words.as_slice().is_empty() {
-        return Ok(());
-    }
+/// Prints the figures.
+pub fn measure(rt: &HostRuntime) -> io::Result<()> {
     let Ok(setup) = fight(rt.alloc()) else {
         return Ok(());
     };
     match crowd(rt.alloc()) {
-        Ok(state) => measure(&rt, &setup, &state),
+        Ok(state) => measure_state(rt, &setup, &state),
         Err(_) => Ok(()),
     }
 }
 
 // Prints what the fastest of some calls took, for each kind of work.
-fn measure(rt: &HostRuntime, setup: &Setup, state: &State) -> io::Result<()>
+fn measure_state(rt: &HostRuntime, setup: &Setup, state: &State) -> io::Result<()>
     requires { IsSetup setup.now }
 {
     if !is_valid(setup, state) {

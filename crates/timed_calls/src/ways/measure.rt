@@ -4,8 +4,8 @@
 ghost use Rattle.std.specs.Prelude.{◌≡◌, ◌≤◌, ◌<◌, IsTrue};
 ghost use Rattle.sim_base.specs.Places.{is_inside};
 
-use crate::pairs::{centre, is_on};
-use crate::site::{GROUNDS, Ground, Site};
+use crate::ways::pairs::{centre, is_on};
+use crate::ways::site::{GROUNDS, Ground, Site};
 use sim_base::Point;
 use sim_path::{Searcher, labels_of, way};
 use std::io;

@@ -1,6 +1,6 @@
 -- The match stays.
 use Rattle.std.proofs.Common.{◌≡◌}
-use Rattle.server_bench.proofs.time_of.Given as goal
+use Rattle.timed_calls.proofs.servers.time_of.Given as goal
 
 abbrev pub invariant-loop-arrival : goal.invariant-loop-arrival
 invariant-loop-arrival l =

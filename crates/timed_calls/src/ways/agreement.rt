@@ -1,8 +1,8 @@
 //! That the whole search, the search by labels and one searcher that is kept over all grounds find the same ways, by what
 //! they answer: the first 64 points, and whether these are all.
 
-use crate::pairs::{Points, is_on};
-use crate::site::{GROUNDS, Site};
+use crate::ways::pairs::{Points, is_on};
+use crate::ways::site::{GROUNDS, Site};
 use sim_base::{OutOfMemory, Point};
 use sim_path::{Searcher, way};
 use sim_system::Way;

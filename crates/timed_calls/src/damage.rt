@@ -2,8 +2,7 @@
 //! 2,000 of those behind to values that a fixed rule gives. Whether it stands for a state and whether it is loaded have to
 //! agree, each refusal has to be the one of the place of the change, and what is loaded has to spell the changed bytes, those
 //! of version 1 but for what version 2 adds. It prints for each state how many changes had which answer, those for which that
-//! does not hold being `wrong`. The words are the files of a match and of its states; a run without words prints nothing.
-#![tactic(auto)]
+//! does not hold being `wrong`.
 
 ghost use Rattle.sim_base.specs.Limits.{IsSetup};
 
@@ -11,7 +10,7 @@ use sim_base::{OutOfMemory, Setup};
 use sim_codec::{StateFault, load, spell, stands};
 use sim_setup::setup_of;
 use std::alloc::Global;
-use std::{env, fs, io};
+use std::{fs, io};
 
 const FRONT: usize = 400;
 
@@ -56,21 +55,19 @@ impl Tally {
     }
 }
 
-fn main(rt: HostRuntime) -> io::Result<()> {
-    let Ok(words) = env::args(&rt)?.skip(1).collect::<Vec<String>>(rt.alloc()) else {
-        return Ok(());
+/// Changes the states of the files behind that of a match, and prints how many changes had which answer.
+pub fn damage(rt: &HostRuntime, files: &[String]) -> io::Result<()> {
+    let [game, states @ ..] = files else {
+        return println!(rt; "no match is named");
     };
-    let [game, states @ ..] = words.as_slice() else {
-        return Ok(());
-    };
-    let file = fs::read(&rt, game.as_str())?;
+    let file = fs::read(rt, game.as_str())?;
     let Ok(setup) = setup_of(rt.alloc(), &file) else {
-        return println!(&rt; "no match");
+        return println!(rt; "no match");
     };
     for name in states {
-        let bytes = fs::read(&rt, name.as_str())?;
-        print!(&rt; "{name}: ")?;
-        damage_all(&rt, &setup, bytes)?;
+        let bytes = fs::read(rt, name.as_str())?;
+        print!(rt; "{name}: ")?;
+        damage_all(rt, &setup, bytes)?;
     }
     Ok(())
 }

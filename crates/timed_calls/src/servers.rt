@@ -1,7 +1,5 @@
 //! What an arrival costs the server: 100,000 of eight clients, who give commands, are done and report in each turn, and
-//! 20 joinings with states of 1.7 MB. It prints figures and promises nothing. A run without words prints nothing: the word
-//! `measure` asks for the figures.
-#![tactic(auto)]
+//! 20 joinings with states of 1.7 MB.
 
 ghost use Rattle.std.specs.Prelude.{◌≡◌};
 
@@ -9,8 +7,8 @@ use sim_base::{Command, Items, OutOfMemory};
 use sim_server::Server;
 use sim_wire::Up;
 use std::alloc::Global;
+use std::io;
 use std::time::Instant;
-use std::{env, io};
 
 const CLIENTS: u8 = 8;
 
@@ -29,21 +27,16 @@ struct Arrival {
     said: Option<Up>,
 }
 
-fn main(rt: HostRuntime) -> io::Result<()> {
-    let Ok(words) = env::args(&rt)?.skip(1).collect::<Vec<String>>(rt.alloc()) else {
-        return Ok(());
-    };
-    if words.as_slice().is_empty() {
-        return Ok(());
-    }
+/// Prints the figures.
+pub fn measure(rt: &HostRuntime) -> io::Result<()> {
     match Server::new(rt.alloc(), CLIENTS, CLIENTS, 1, 65_535) {
-        Ok(server) => measure(&rt, server),
+        Ok(server) => measure_server(rt, server),
         Err(_) => Ok(()),
     }
 }
 
 // Prints what an arrival took, and what a joining took.
-fn measure(rt: &HostRuntime, server: Server) -> io::Result<()>
+fn measure_server(rt: &HostRuntime, server: Server) -> io::Result<()>
     requires { server.rules.clients ≡ 8 }
 {
     let mut server = server;

@@ -1,6 +1,6 @@
 -- The match stays.
 use Rattle.std.proofs.Common.{◌≡◌}
-use Rattle.server_bench.proofs.measure.Given as goal
+use Rattle.timed_calls.proofs.servers.measure_server.Given as goal
 
 abbrev pub invariant-loop-turn : goal.invariant-loop-turn
 invariant-loop-turn l = l.server.rules.clients ≡ 8

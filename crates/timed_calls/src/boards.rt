@@ -1,6 +1,4 @@
 //! What changes of a board cost: 4,096 rows with obstructions are created and removed in one turn, over four real systems.
-//! It prints figures and promises nothing. A run without words prints nothing: the word `measure` asks for the figures.
-#![tactic(auto)]
 
 ghost use Rattle.std.specs.Prelude.{OnOk};
 ghost use Rattle.sim_base.specs.Limits.{IsSetup};
@@ -16,8 +14,8 @@ use sim_range::Range;
 use sim_setup::setup_of;
 use sim_system::{Rig, System};
 use sim_watch::Watch;
+use std::io;
 use std::time::Instant;
-use std::{env, io};
 
 const HUTS: &str =
     "{\"size\":[256,256],\"closed\":[],\"players\":[[]],\"cap\":4096,\"delay\":1,\"turns\":1,\"seed\":0,\"templates\":[{\"@name\":\"hut\",\"Obstruct\":{\"Width\":2,\"Depth\":2}}],\"entities\":[],\"commands\":[]}";
@@ -25,18 +23,8 @@ const HUTS: &str =
 // As many rows as a state may have.
 const ROWS: u32 = 4096;
 
-fn main(rt: HostRuntime) -> io::Result<()> {
-    let Ok(words) = env::args(&rt)?.skip(1).collect::<Vec<String>>(rt.alloc()) else {
-        return Ok(());
-    };
-    if words.as_slice().is_empty() {
-        return Ok(());
-    }
-    measure(&rt)
-}
-
-// Prints what the creations and the removals take. The boxes are made in this body, since a function may hand out none.
-fn measure(rt: &HostRuntime) -> io::Result<()> {
+/// Prints what the creations and the removals take. The boxes are made in this body, since a function may hand out none.
+pub fn measure(rt: &HostRuntime) -> io::Result<()> {
     let alloc = rt.alloc();
     let Ok(setup) = setup_of(alloc, HUTS.as_bytes()) else {
         return Ok(());
