@@ -3,6 +3,7 @@
 import hashlib
 import resource
 import subprocess
+import sys
 import time
 
 
@@ -34,6 +35,20 @@ def least_of(rounds, programs, words, enough=float("inf")):
         if seconds > enough:
             break
     return least, printed.pop()
+
+
+# A run counts what its parent had when it began, so a small Python starts the program: it has some 8 MB.
+STARTER = """
+import os, sys
+child = os.posix_spawn(sys.argv[1], sys.argv[1:], {}, file_actions=[(os.POSIX_SPAWN_OPEN, 1, "/dev/null", os.O_WRONLY, 0)])
+print(os.wait4(child, 0)[2].ru_maxrss)
+"""
+
+
+def peak_of(program, words):
+    """The most memory that one run takes, in MB."""
+    done = subprocess.run([sys.executable, "-ISE", "-c", STARTER, program, *words], stdout=subprocess.PIPE, check=True)
+    return int(done.stdout) / 1024
 
 
 def md5_seconds(size, turns):

@@ -11,11 +11,10 @@ lines. It prints figures of processor time and of memory, and stops where a prog
 
 import json
 import pathlib
-import resource
 import sys
 import tempfile
 
-from runs import least_of
+from runs import least_of, peak_of
 
 TOP = pathlib.Path(__file__).resolve().parent.parent
 PROGRAMS = [pathlib.Path(word).resolve() for word in sys.argv[1:]] or [TOP / "crates/simcore/out/simcore"]
@@ -58,7 +57,9 @@ def measure(folder, name, soldiers, enemies):
     print(f"{name}, {soldiers} soldiers: {explored} cells are explored in {TURNS} turns")
     for program, *seconds in zip(PROGRAMS, sight, state, play):
         seen, stored, played = (1e3 * it for it in seconds)
-        print(f"  sight {seen:8.1f} ms, state {stored:8.1f} ms, play {played:8.1f} ms: vision {seen - stored:8.1f} ms, by {program}")
+        peak = peak_of(program, ["sight", path, str(TURNS), "/dev/null"])
+        print(f"  sight {seen:8.1f} ms, state {stored:8.1f} ms, play {played:8.1f} ms: vision {seen - stored:8.1f} ms,",
+              f"{peak:.1f} MB, by {program}", flush=True)
 
 
 def main():
@@ -66,7 +67,6 @@ def main():
         measure(folder, "at war", 4096, True)
         for soldiers in (500, 1000, 2000, 4096):
             measure(folder, "in peace", soldiers, False)
-    print(f"at most {resource.getrusage(resource.RUSAGE_CHILDREN).ru_maxrss / 1024:.1f} MB")
 
 
 if __name__ == "__main__":

@@ -116,6 +116,8 @@ USAGE = b"""usage: simcore play MATCH
        simcore sight MATCH TURN OUT
        simcore resight MATCH STATE MAP
        simcore realm MATCH TURN
+       simcore film MATCH EVERY
+       simcore parts MATCH
 """
 
 passed = failed = 0
@@ -313,6 +315,20 @@ def territories(folder):
     case("a turn that it has not", run(["realm", "full.json", "2"], folder), 10, b"no turn 2 of 1\n")
     with open("/dev/full", "wb") as full:
         case("territories that find no room", run(["realm", "full.json", "0"], folder, full), 4, None)
+
+
+def films(folder):
+    """A film and the templates of a match whose lines find no room, and a film whose text is longer than a pipe."""
+    camp, many = TOP / "examples/camp.json", folder / "many.json"
+    with open("/dev/full", "wb") as full:
+        case("a film that finds no room", run(["film", camp, "1"], folder, full), 4, None)
+        case("templates that find no room", run(["parts", camp], folder, full), 4, None)
+    many.write_bytes(EMPTY.replace(b'"templates":[]', b'"templates":[{"@name":"post"}]')
+                     .replace(b'"entities":[]', b'"entities":[%s]' % b",".join([b'["post",1,1,2]'] * 4096)))
+    rows = b"".join(b"entity %d template post owner 1 at 1 2\n" % (2 + i) for i in range(4096))
+    status, text, error = run(["film", "many.json", "1"], folder)
+    told = b"".join(line for line in text.splitlines(True) if line[:6] == b"entity")
+    case("a film of 4,096 posts", (status, told, error), 0, rows * 3)
 
 
 def step_list(clients, *steps):
@@ -678,6 +694,7 @@ def main():
         battles(folder)
         rejoins(folder)
         territories(folder)
+        films(folder)
         sessions_of_walkers(folder)
         refused_sessions(folder)
         memory(folder)

@@ -5,7 +5,7 @@ Usage: python3 tests/rows.py [PROGRAM] [NAME..]
 
 PROGRAM is by default the one that the gate leaves in crates/simcore/out; NAMEs are tables of tests/rows to run alone. A table is a
 list of cases. A case has a name, files by their names, and runs in one folder, each with its words, its status and its text, and
-maybe with files that it wrote, null where there is none. A file is a text, or {"hex": ..}, or {"repeat": [before, item, count,
+maybe with files that it wrote, null where there is none. The text "usage" stands for what the program prints without words. A file is a text, or {"hex": ..}, or {"repeat": [before, item, count,
 after]}, where ^ in an item stands for its number and $ for the next.
 
 The statuses and texts were worked out apart from the program. It prints the cases that fail, a line for each table, and a last line
@@ -21,6 +21,7 @@ import sys
 import tempfile
 
 TOP = pathlib.Path(__file__).resolve().parent.parent
+TEXTS = {"usage": (TOP / "crates/simcore/stdout").read_text()}
 
 
 def content(told):
@@ -58,8 +59,9 @@ def faults(program, case):
             pathlib.Path(folder, name).write_bytes(content(told))
         for run in case["runs"]:
             got = answer(program, run["words"], folder)
-            if got != (run["status"], run["text"]):
-                found.append(f"{case['name']}: {' '.join(run['words'])}: {got} for {(run['status'], run['text'])}")
+            wanted = run["status"], TEXTS.get(run["text"], run["text"])
+            if got != wanted:
+                found.append(f"{case['name']}: {' '.join(run['words'])}: {got} for {wanted}")
             found.extend(unwritten(folder, case, run))
     return found
 

@@ -143,13 +143,11 @@ class Viewing:
 
     def wider(self):
         """A program that knows `film` and `parts` gives the same page as one that does not; a log is drawn with its digests."""
-        if subprocess.run([program(), "film", EXAMPLES / "camp.json", "1"], capture_output=True, check=False).returncode == 0:
-            self.cases.skip("film against state", "the program knows `film` itself")
-            return
-        for name in ("camp", "squads"):
-            plain, wide = (pathlib.Path(draw(self.folder, name + kind, EXAMPLES / f"{name}.json", tool=tool)).read_text(encoding="utf-8")
-                           for kind, tool in (("", None), ("-film", HERE / "wider_program.py")))
-            self.cases.holds(f"{name}: `film` and `parts` give the same page", told_of(plain) == told_of(wide))
+        for name, every in (("camp", 1), ("squads", 1), ("squads", 3)):
+            words = [EXAMPLES / f"{name}.json", "--every", every]
+            known, narrow = (pathlib.Path(draw(self.folder, name + kind, *words, tool=tool)).read_text(encoding="utf-8")
+                             for kind, tool in (("", None), ("-states", HERE / "narrow_program.py")))
+            self.cases.holds(f"{name}, each {every}: `film` and `parts` give the same page", told_of(known) == told_of(narrow))
         log = pathlib.Path(self.folder) / "log"
         log.write_text(log_of(EXAMPLES / "camp.json"))
         self.browser.open(draw(self.folder, "log", EXAMPLES / "camp.json", "--log", log, tool=HERE / "wider_program.py"), "#turn=3")

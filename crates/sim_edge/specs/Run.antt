@@ -5,8 +5,10 @@ use Rattle.sim_report.specs.Lines.{usage_text}
 use Rattle.sim_store.specs.Files.{File}
 use Rattle.sim_top.specs.Answers.{Scene, Meets, Causes, MayEnd, IsUsageTold, KeepsAllBut, IsSilent}
 use Rattle.sim_top.specs.Given.{GaveForWords}
+use Rattle.sim_top.specs.Films.{OfFilm, Film}
 use Rattle.sim_top.specs.Headline.{Headline}
 use Rattle.sim_top.specs.Hosting.{OfSession}
+use Rattle.sim_top.specs.Parts.{OfParts, PartsTold}
 use Rattle.sim_top.specs.Readiness.{IsReady, IsFaultless, IsFinal}
 use Rattle.sim_top.specs.Reads.{LacksMatch, HasEnded, IsUnfound}
 use Rattle.sim_top.specs.Sights.{TellsSights}
@@ -22,6 +24,10 @@ pub record Ran (words : List (List ℕ)) (before now : Scene) (status : Status) 
   -- what was told of territories is who holds which ground at the turn that is asked for, and which of it is rooted
   pub territories : IfSome before.held (λ files. HasEnded status
       → OfRealm files (asked_by words) (λ setup turn. Territories setup turn before.told now.told))
+  -- what was told of a film is the states after the match's own turns, so many turns apart, and the last
+  pub films : IfSome before.held (λ files. HasEnded status → OfFilm files (asked_by words) (λ setup every. Film setup every before.told now.told))
+  -- what was told of templates is the parts of each
+  pub parts : IfSome before.held (λ files. HasEnded status → OfParts files (asked_by words) (λ setup. PartsTold setup before.told now.told))
   -- what was told of what the players see is what their rows see in the last state, and what was explored on the way to it
   pub sights : IfSome before.held (λ files. HasEnded status → TellsSights files (asked_by words) before now)
   -- the status, the text and the saved file are those of the words, or a fault or want of memory came between

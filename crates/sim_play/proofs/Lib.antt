@@ -3,3 +3,5 @@ pub mod PlayLines
 pub mod Playing
 pub mod Starting
 pub mod PlayerLines
+pub mod Later
+pub mod ToldTurns

@@ -1,2 +1,5 @@
 pub mod Lines
 pub mod Realms
+pub mod Seen
+pub mod States
+pub mod Films

@@ -3,20 +3,19 @@
 ghost use Rattle.std.specs.Prelude.{◌≡◌, ◌≤◌, IfOk, OnOk, string_bytes};
 ghost use Rattle.sim_base.specs.Limits.{IsSetup};
 ghost use Rattle.sim_base.specs.Turn.{after, own_turns};
-ghost use Rattle.sim_base.specs.Validity.{IsValid};
 ghost use Rattle.sim_system.specs.Meanings.{HaveKinds, AreFed, AreBuiltOnceAtMost};
 ghost use Rattle.sim_system.specs.RigWords.{systems_of};
-ghost use Rattle.sim_board.specs.BoardWords.{setup_in, state_in, systems, IsWhole, AreKept};
+ghost use Rattle.sim_board.specs.BoardWords.{setup_in, state_in, systems, IsWhole};
 ghost use Rattle.sim_territory.specs.Realms.{realm_of};
 ghost use Rattle.sim_play.specs.Realms.{TellsRealm};
 
+use crate::following::start_following;
 use crate::holdings::told;
 use sim_base::{OutOfMemory, Setup};
 use sim_board::Board;
 use sim_orders::OrderTable;
 use sim_system::{Rig, System};
 use sim_territory::Realm;
-use sim_turn::play;
 use std::alloc::Global;
 
 /// The lines of the territories of a turn of a match. The rig comes back; where there was memory, it stands for the state of
@@ -60,37 +59,7 @@ fn told_at(
     ensures setup { setup_in board.new ≡ setup_in board.old }
 {
     let setup = board.setup();
-    board.start()?;
     let mut realm = Realm::new(alloc, setup)?;
-    realm.follow(board.scene().state)?;
-    follow_until(alloc, board, &mut realm, turn, orders)?;
+    start_following(alloc, board, orders, &mut realm, turn)?;
     told(alloc, &realm, setup.players)
-}
-
-// Plays a board whose past is the match's own to a turn, and has a realm follow each state behind that at which both stand.
-fn follow_until(
-    alloc: Global,
-    board: &mut Board<'_>,
-    realm: &mut Realm<'_>,
-    until: u32,
-    orders: &OrderTable,
-) -> Result<(), OutOfMemory>
-    requires whole { IsWhole board.old ⟦<dyn System as System>⟧ }
-    requires valid { IsValid (setup_in board.old) (state_in board.old) }
-    requires own { state_in board.old ≡ after (setup_in board.old) (own_turns (setup_in board.old) 0 (state_in board.old).turn) }
-    requires ahead { (state_in board.old).turn ≤ until }
-    requires within { until ≤ (setup_in board.old).turns }
-    requires followed { realm.old ≡ realm_of (setup_in board.old) (state_in board.old) }
-    ensures realm { OnOk result (realm.new ≡ realm_of (setup_in board.old) (after (setup_in board.old) (own_turns (setup_in board.old) 0 until))) }
-    ensures state { OnOk result (state_in board.new ≡ after (setup_in board.old) (own_turns (setup_in board.old) 0 until)) }
-    ensures whole { OnOk result (IsWhole board.new ⟦<dyn System as System>⟧) }
-    ensures kept { AreKept (systems board.old ⟦<dyn System as System>⟧) (systems board.new ⟦<dyn System as System>⟧) }
-    ensures setup { setup_in board.new ≡ setup_in board.old }
-{
-    let begun = board.scene().state.turn;
-    for number in begun..until {
-        play(alloc, board, orders, number + 1)?;
-        realm.follow(board.scene().state)?;
-    }
-    Ok(())
 }

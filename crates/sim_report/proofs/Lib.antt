@@ -1,3 +1,4 @@
 pub mod Examples
 pub mod KnownTemplates
 pub mod Kept
+pub mod TemplateLines

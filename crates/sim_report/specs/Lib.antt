@@ -4,3 +4,5 @@ pub mod Places
 pub mod Refusals
 pub mod Show
 pub mod Downs
+pub mod Parts
+pub mod Ways

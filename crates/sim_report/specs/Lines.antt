@@ -17,7 +17,9 @@ usage_text =
     (codes "       simcore trial SEED UNITS TURNS\n" ++
     (codes "       simcore sight MATCH TURN OUT\n" ++
     (codes "       simcore resight MATCH STATE MAP\n" ++
-    codes "       simcore realm MATCH TURN\n"))))))))))
+    (codes "       simcore realm MATCH TURN\n" ++
+    (codes "       simcore film MATCH EVERY\n" ++
+    codes "       simcore parts MATCH\n"))))))))))))
 
 -- whether a report of a turn carries a whole or a quick digest
 abbrev pub report_kind : ℕ → List ℕ

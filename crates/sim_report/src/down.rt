@@ -120,8 +120,8 @@ fn append_point(word: &str, point: Point, out: &mut String) -> Result<(), OutOfM
     write_point(point, out)
 }
 
-// A word and ids.
-fn append_ids(word: &str, ids: &Ids, out: &mut String) -> Result<(), OutOfMemory>
+/// A word and ids.
+pub fn append_ids(word: &str, ids: &Ids, out: &mut String) -> Result<(), OutOfMemory>
     ensures ok { OnOk result (string_bytes out.new ≡ string_bytes out.old ++ (word.now ++ ids_text ids.now)) }
     ensures err { OnErr result (take (length (string_bytes out.old)) (string_bytes out.new) ≡ string_bytes out.old) }
 {

@@ -12,22 +12,28 @@
 //! - `refusal`: why something is refused.
 //! - `place`: where two states differ.
 //! - `territory`: what each player holds of the ground.
+//! - `parts`: the templates of a match, with their parts.
+//! - `ways`: the ways of the rows of a state.
 #![tactic(auto)]
 
 mod down;
 mod event;
 mod line;
+mod parts;
 mod place;
 mod refusal;
 mod served;
 mod show;
 mod territory;
+mod ways;
 
 pub use down::push_down;
 pub use event::push_event;
 pub use line::{push_saved, push_turn, push_usage};
+pub use parts::push_parts;
 pub use place::{part_name, push_place};
 pub use refusal::{Refusal, push_refusal};
 pub use served::{push_kept, push_post, push_released};
 pub use show::push_show;
 pub use territory::{push_holding, push_map};
+pub use ways::push_ways;

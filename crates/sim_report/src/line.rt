@@ -19,6 +19,8 @@ const USAGE: &str = "usage: simcore play MATCH
        simcore sight MATCH TURN OUT
        simcore resight MATCH STATE MAP
        simcore realm MATCH TURN
+       simcore film MATCH EVERY
+       simcore parts MATCH
 ";
 
 /// Appends how the program is called, or leaves the text as it was.

@@ -105,8 +105,8 @@ pub fn write_point(point: Point, line: &mut String) -> Result<(), OutOfMemory>
     write_fixed(" ", point.z, line)
 }
 
-// A word and a number with a fraction. After an error a part of them may stand behind the old text.
-fn write_fixed(word: &str, number: Fixed, line: &mut String) -> Result<(), OutOfMemory>
+/// Appends a word and a number with a fraction. After an error a part of them may stand behind the old text.
+pub fn write_fixed(word: &str, number: Fixed, line: &mut String) -> Result<(), OutOfMemory>
     ensures ok { OnOk result (string_bytes line.new ≡ string_bytes line.old ++ (word.now ++ text_of number)) }
     ensures err { OnErr result (take (length (string_bytes line.old)) (string_bytes line.new) ≡ string_bytes line.old) }
 {

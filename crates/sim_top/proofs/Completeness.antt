@@ -15,7 +15,7 @@ use Rattle.sim_setup.specs.Setups.{setup_of}
 use Rattle.sim_setup.proofs.SetupLimits.{setup_of-id}
 use Rattle.sim_diff.specs.Difference.{difference_of}
 use Rattle.sim_diff.specs.declared.place.Place.{Place}
-use Rattle.sim_top.specs.Words.{Asked, asked_by, to_play, to_store, to_resume, to_rejoin, to_session, to_show, to_compare, to_serve, to_try, to_realm, to_sight, to_resight}
+use Rattle.sim_top.specs.Words.{Asked, asked_by, to_play, to_store, to_resume, to_rejoin, to_session, to_show, to_compare, to_serve, to_try, to_realm, to_sight, to_resight, to_film, to_parts}
 use Rattle.sim_top.specs.Outcome.{Outcome, Then, ThenStored, IsStored, IsOutcomeOf, bytes_in, match_in, session_match_in, schedule_in, steps_in, trial_match, match_by, setup_by, compare_by, state_by, store_outcome, rejoin_outcome, printed, turn_by, IsRealmOutcome, RealmAt, IsResighted, sight_outcome, map_at}
 use Rattle.sim_top.specs.Answers.{Scene, Meets, Causes}
 use Rattle.sim_top.specs.Readiness.{HoldsState, IsReady, IsFaultless, IsFinal}
@@ -117,6 +117,8 @@ ready_ends files (Some (to_resight game name file)) wanted ready h =
     let id = id_of_match files game ready.setup ready.read in
     let first = after_state files ready.setup name (λ state. IsResighted ready.setup state (bytes_in files file)) wanted id ready.more.state (after_reading (match_in files game) ready.setup _ wanted ready.read h) in
     done wanted _ refl (after_reading (map_at ready.setup first.0 (bytes_in files file)) ready.more.explored _ wanted (ready.more.taken first.0 first.1) first.2)
+ready_ends files (Some (to_film game every)) wanted ready h = done wanted _ refl (after_reading (match_in files game) ready.setup _ wanted ready.read h)
+ready_ends files (Some (to_parts game)) wanted ready h = done wanted _ refl (after_reading (match_in files game) ready.setup _ wanted ready.read h)
 
 -- ---- the run
 

@@ -10,5 +10,7 @@ pub mod Preparing
 pub mod Returning
 pub mod Headlines
 pub mod Territories
+pub mod Films
+pub mod Parts
 pub mod Sighting
 pub mod Sights

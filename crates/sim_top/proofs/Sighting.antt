@@ -11,7 +11,7 @@ use Rattle.sim_store.specs.Files.{File}
 use Rattle.sim_store.specs.declared.counts.Counts.{Counts}
 use Rattle.sim_report.specs.declared.refusal.Refusal.TheVariants.{Turn}
 use Rattle.sim_report.specs.Refusals.{refusal_text}
-use Rattle.sim_scout.specs.Seen.{sight_text, sight_file, resight_text}
+use Rattle.sim_play.specs.Seen.{sight_text, sight_file, resight_text}
 use Rattle.sim_vision.specs.declared.fault.SightFault.{SightFault}
 use Rattle.sim_vision.specs.declared.fault.SightFault.TheVariants as sights
 use Rattle.sim_vision.specs.After.{joined_at}

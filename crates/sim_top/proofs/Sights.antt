@@ -6,7 +6,7 @@ use Rattle.sim_base.specs.declared.setup.Setup.{Setup}
 use Rattle.sim_base.specs.declared.state.State.{State}
 use Rattle.sim_codec.specs.declared.fault.StateFault.{StateFault}
 use Rattle.sim_codec.specs.declared.fault.StateFault.TheVariants as stored
-use Rattle.sim_scout.specs.Seen.{resight_text}
+use Rattle.sim_play.specs.Seen.{resight_text}
 use Rattle.sim_store.specs.Files.{File, file_in}
 use Rattle.sim_store.specs.Reading.{reading_of}
 use Rattle.sim_store.specs.declared.fault.StoreFault.{StoreFault}

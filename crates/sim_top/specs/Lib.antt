@@ -13,4 +13,6 @@ pub mod Hosting
 pub mod Returning
 pub mod Headline
 pub mod Territories
+pub mod Films
+pub mod Parts
 pub mod Sights

@@ -24,14 +24,16 @@ use Rattle.sim_report.specs.declared.refusal.Refusal.TheVariants.{Match, List as
 use Rattle.sim_report.specs.Lines.{usage_text, saved_line}
 use Rattle.sim_report.specs.Refusals.{refusal_text, stored_text}
 use Rattle.sim_report.specs.Show.{show_text}
+use Rattle.sim_report.specs.Parts.{parts_text}
 use Rattle.sim_report.specs.Places.{place_text}
 use Rattle.sim_diff.specs.Difference.{difference_of}
 use Rattle.sim_diff.specs.declared.place.Place.{Place}
-use Rattle.sim_top.specs.Words.{Asked, to_play, to_store, to_resume, to_rejoin, to_session, to_show, to_compare, to_serve, to_try, to_realm, to_sight, to_resight, asked_by}
+use Rattle.sim_top.specs.Words.{Asked, to_play, to_store, to_resume, to_rejoin, to_session, to_show, to_compare, to_serve, to_try, to_realm, to_sight, to_resight, to_film, to_parts, asked_by}
 use Rattle.sim_play.specs.Lines.{play_text, resume_text, rejoin_text, trial_line}
 use Rattle.sim_play.specs.Realms.{TellsRealm}
+use Rattle.sim_play.specs.Films.{film_text}
 use Rattle.sim_territory.specs.Realms.{realm_of}
-use Rattle.sim_scout.specs.Seen.{sight_text, sight_file, resight_text}
+use Rattle.sim_play.specs.Seen.{sight_text, sight_file, resight_text}
 use Rattle.sim_vision.specs.declared.fault.SightFault.{SightFault}
 use Rattle.sim_vision.specs.declared.fault.SightFault.TheVariants as sights
 use Rattle.sim_vision.specs.After.{joined_at}
@@ -249,6 +251,8 @@ IsOutcomeOf files (Some (to_realm game turn)) wanted = Then (match_in files game
 IsOutcomeOf files (Some (to_sight game turn out)) wanted = Then (match_in files game) (λ setup wanted. wanted ≡ sight_outcome setup turn out) wanted
 IsOutcomeOf files (Some (to_resight game name map)) wanted =
     Then (match_in files game) (λ setup. Then (bytes_in files name) (λ bytes. ThenStored setup name bytes (λ state. IsResighted setup state (bytes_in files map)))) wanted
+IsOutcomeOf files (Some (to_film game every)) wanted = Then (match_in files game) (λ setup wanted. wanted ≡ printed Done (film_text setup every)) wanted
+IsOutcomeOf files (Some (to_parts game)) wanted = Then (match_in files game) (λ setup wanted. wanted ≡ printed Done (parts_text setup.templates)) wanted
 
 -- the outcome of the words over the held files
 abbrev pub IsOutcome : List (List ℕ) → List File → Outcome → Type 0

@@ -7,7 +7,7 @@ use Rattle.sim_store.specs.Files.{File}
 use Rattle.sim_codec.specs.Loading.{StandsFor}
 use Rattle.sim_lists.specs.declared.schedule.Schedule.{Schedule}
 use Rattle.sim_lists.specs.declared.step_list.StepList.{StepList}
-use Rattle.sim_top.specs.Words.{Asked, to_play, to_store, to_resume, to_rejoin, to_session, to_show, to_compare, to_serve, to_try, to_realm, to_sight, to_resight}
+use Rattle.sim_top.specs.Words.{Asked, to_play, to_store, to_resume, to_rejoin, to_session, to_show, to_compare, to_serve, to_try, to_realm, to_sight, to_resight, to_film, to_parts}
 use Rattle.sim_top.specs.Outcome.{bytes_in, match_in, session_match_in, schedule_in, steps_in, trial_match, map_at}
 use Rattle.sim_top.specs.Answers.{Scene}
 use Rattle.sim_top.specs.declared.status.Status.{Status}
@@ -64,6 +64,8 @@ IsReady files (Some (to_try seed units turns)) = HoldsTrial seed units turns
 IsReady files (Some (to_realm game turn)) = HoldsMatch files game (λ setup. turn ≤ setup.turns)
 IsReady files (Some (to_sight game turn out)) = HoldsMatch files game (λ setup. turn ≤ setup.turns)
 IsReady files (Some (to_resight game name map)) = HoldsMatch files game (λ setup. HoldsSight files setup name map)
+IsReady files (Some (to_film game every)) = HoldsMatch files game (λ setup. Unit {0})
+IsReady files (Some (to_parts game)) = HoldsMatch files game (λ setup. Unit {0})
 
 -- no count of faults rose, nor stands at its last value
 pub record IsFaultless (before now : Scene) : Type 0 where

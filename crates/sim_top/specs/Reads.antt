@@ -1,7 +1,7 @@
 -- How many bytes are read for what is asked, and which file is found missing before any memory is taken.
 use Rattle.std.specs.Prelude.{◌≡◌, ℕ, ◌+◌, List, length, Option, Some, None}
 use Rattle.sim_store.specs.Files.{File, file_in}
-use Rattle.sim_top.specs.Words.{Asked, to_play, to_store, to_resume, to_rejoin, to_session, to_show, to_compare, to_serve, to_try, to_realm, to_sight, to_resight}
+use Rattle.sim_top.specs.Words.{Asked, to_play, to_store, to_resume, to_rejoin, to_session, to_show, to_compare, to_serve, to_try, to_realm, to_sight, to_resight, to_film, to_parts}
 use Rattle.sim_top.specs.declared.status.Status.{Status}
 use Rattle.sim_top.specs.declared.status.Status.TheVariants.{Done, Differs, ReadFault, NoFile}
 
@@ -28,6 +28,8 @@ length_read files (to_try seed units turns) = 0
 length_read files (to_realm game turn) = length_in files game
 length_read files (to_sight game turn out) = length_in files game
 length_read files (to_resight game stored map) = length_in files game + length_in files stored + length_in files map
+length_read files (to_film game every) = length_in files game
+length_read files (to_parts game) = length_in files game
 
 -- how many bytes the file has that is read first
 abbrev pub length_first : List File → Asked → ℕ
@@ -43,6 +45,8 @@ length_first files (to_try seed units turns) = 0
 length_first files (to_realm game turn) = length_in files game
 length_first files (to_sight game turn out) = length_in files game
 length_first files (to_resight game stored map) = length_in files game
+length_first files (to_film game every) = length_in files game
+length_first files (to_parts game) = length_in files game
 
 -- a file is not there
 abbrev pub Lacks : List File → List ℕ → Type 0
@@ -62,6 +66,8 @@ LacksFirst files (to_try seed units turns) = ⊥
 LacksFirst files (to_realm game turn) = Lacks files game
 LacksFirst files (to_sight game turn out) = Lacks files game
 LacksFirst files (to_resight game stored map) = Lacks files game
+LacksFirst files (to_film game every) = Lacks files game
+LacksFirst files (to_parts game) = Lacks files game
 
 -- the first file that the words name is not there
 abbrev pub LacksMatch : List File → Option Asked → Type 0

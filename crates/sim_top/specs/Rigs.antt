@@ -9,7 +9,7 @@ use Rattle.sim_system.specs.RigWords.{systems_by}
 use Rattle.sim_system.specs.declared.system.System.{Ghosts}
 use Rattle.sim_system.specs.declared.rig.Rig.{Rig}
 use Rattle.sim_play.specs.Lines.{end_from}
-use Rattle.sim_top.specs.Words.{Asked, to_play, to_store, to_resume, to_rejoin, to_session, to_show, to_compare, to_serve, to_try, to_realm, to_sight, to_resight}
+use Rattle.sim_top.specs.Words.{Asked, to_play, to_store, to_resume, to_rejoin, to_session, to_show, to_compare, to_serve, to_try, to_realm, to_sight, to_resight, to_film, to_parts}
 use Rattle.sim_top.specs.Outcome.{Outcome, bytes_in, match_in, trial_match}
 use Rattle.sim_top.specs.Stops.{IsState}
 use Rattle.sim_top.specs.declared.commands.Answer.{Answer}
@@ -29,6 +29,8 @@ clients (to_try seed units turns) = 1
 clients (to_realm game turn) = 1
 clients (to_sight game turn out) = 1
 clients (to_resight game name map) = 1
+clients (to_film game every) = 1
+clients (to_parts game) = 0
 
 -- how many of the rigs are used for the words, from the first on
 abbrev pub used : Option Asked → ℕ
@@ -65,6 +67,8 @@ RigStands files (Some (to_try seed units turns)) s t = StandForTrial seed units 
 RigStands files (Some (to_realm game turn)) s t = IfOk (match_in files game) (λ setup. AreFed setup (after setup (own_turns setup 0 turn)) t)
 RigStands files (Some (to_sight game turn out)) s t = IfOk (match_in files game) (λ setup. AreFed setup (after setup (own_turns setup 0 turn)) t)
 RigStands files (Some (to_resight game name map)) s t = IfOk (match_in files game) (λ setup. StandForStored setup (bytes_in files name) t)
+RigStands files (Some (to_film game every)) s t = StandForLast files game t
+RigStands files (Some (to_parts game)) s t = t ≡ s
 
 -- the systems of the second rig: a client that joins plays to the last state too
 abbrev pub SecondStands : List File → Option Asked → Systems → Type 0

@@ -15,8 +15,8 @@ use Rattle.sim_vision.specs.Spans.{one_if}
 use Rattle.sim_vision.specs.Told.{sight_lines}
 use Rattle.sim_vision.specs.Vision.{is_visible}
 use Rattle.sim_vision.specs.Watching.{flag_in}
-use Rattle.sim_scout.specs.Seen.{states_to, later_of}
 use Rattle.sim_play.specs.Lines.{end_from}
+use Rattle.sim_play.specs.States.{states_to, later_of}
 use Rattle.sim_top.specs.Answers.{Scene}
 use Rattle.sim_top.specs.Outcome.{bytes_in, match_in}
 use Rattle.sim_top.specs.Stops.{IsState}

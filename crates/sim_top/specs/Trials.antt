@@ -1,8 +1,10 @@
--- What is asked for, where it is a trial, is within a trial's limits.
+-- What is asked for, where it is a trial, is within a trial's limits; and a film goes on by a turn at least.
+use Rattle.std.specs.Prelude.{◌≤◌}
 use Rattle.sim_trial.specs.Trial.{IsTrial}
-use Rattle.sim_top.specs.Words.{Asked, to_try}
+use Rattle.sim_top.specs.Words.{Asked, to_try, to_film}
 
--- the numbers of a trial are within their limits
+-- the numbers of a trial are within their limits, and so is that of a film
 abbrev pub CanBeTried : Asked → Type 0
 CanBeTried (to_try seed units turns) = IsTrial seed units turns
+CanBeTried (to_film game every) = 1 ≤ every
 CanBeTried other = Unit {0}

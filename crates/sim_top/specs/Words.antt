@@ -1,17 +1,17 @@
 -- The words after the program's name, and what they ask for.
-use Rattle.std.specs.Prelude.{ℕ, ◌+◌, ◌-◌, ◌*◌, Bool, true, false, ◌&&◌, nat_le, List, [], ◌∷◌, length, map, codes, Option, Some, None, option_map, if◌then◌else◌, String, string_bytes}
+use Rattle.std.specs.Prelude.{ℕ, ◌+◌, ◌-◌, ◌*◌, Bool, true, false, ◌&&◌, nat_le, List, [], ◌∷◌, length, map, codes, Option, Some, None, option_map, option_and_then, if◌then◌else◌, String, string_bytes}
 use Rattle.std.specs.declared.alloc.Global.{Global}
 use Rattle.std.specs.Str.{bytes_eq}
 use Rattle.sim_base.specs.NumberText.{is_digit}
 use Rattle.sim_trial.specs.Trial.{is_trial}
 use Rattle.sim_top.specs.declared.words.Request.{Request}
-use Rattle.sim_top.specs.declared.words.Request.TheVariants.{Play, State, Resume, Rejoin, Session, Show, Compare, Serve, Trial, Realm, Sight, Resight}
+use Rattle.sim_top.specs.declared.words.Request.TheVariants.{Play, State, Resume, Rejoin, Session, Show, Compare, Serve, Trial, Realm, Sight, Resight, Film, Parts}
 
 -- what is asked for: to play a match; to store the state of a turn of it in a file; to play on from a stored state; to play it with a
 -- second client that joins at a turn; to run a session of it over a list of steps; to show a stored state; to compare two; to run the
 -- server over a schedule; to play the trial that is made of three numbers; to tell the territories of a turn of a match; to tell what its
 -- players see at a turn, and store in a file what they have explored; to tell what they see in the end, from a stored state on and the
--- explored cells of a file
+-- explored cells of a file; to tell the states of a match, so many turns apart; to tell the parts of its templates
 pub data Asked : Type 0 where
   to_play : List ℕ → Asked
   to_store : List ℕ → ℕ → List ℕ → Asked
@@ -25,6 +25,8 @@ pub data Asked : Type 0 where
   to_realm : List ℕ → ℕ → Asked
   to_sight : List ℕ → ℕ → List ℕ → Asked
   to_resight : List ℕ → List ℕ → List ℕ → Asked
+  to_film : List ℕ → ℕ → Asked
+  to_parts : List ℕ → Asked
 
 -- the request of the code, with its names as bytes
 abbrev pub asked : Request → Asked
@@ -40,6 +42,8 @@ asked (Trial seed units turns) = to_try seed units turns
 asked (Realm game turn) = to_realm game.now turn
 asked (Sight game turn out) = to_sight game.now turn out.now
 asked (Resight game stored map) = to_resight game.now stored.now map.now
+asked (Film game every) = to_film game.now every
+asked (Parts game) = to_parts game.now
 
 -- the words as bytes
 abbrev pub words_of : List (String Global) → List (List ℕ)
@@ -54,6 +58,14 @@ digits_from n (c ∷ cs) = if is_digit c then digits_from (n * 10 + (c - 48)) cs
 abbrev pub turn_in : List ℕ → Option ℕ
 turn_in text = if nat_le 1 (length text) && nat_le (length text) 9 then digits_from 0 text else None
 
+-- a number that is not 0
+abbrev pub not_zero : ℕ → Option ℕ
+not_zero n = if nat_le 1 n then Some n else None
+
+-- how many turns lie between two that are told: one to nine digits, and not 0
+abbrev pub every_in : List ℕ → Option ℕ
+every_in text = option_and_then not_zero (turn_in text)
+
 -- the trial of these numbers, if they are within its limits
 abbrev pub trial_of : Option ℕ → Option ℕ → Option ℕ → Option Asked
 trial_of (Some seed) (Some units) (Some turns) = if is_trial seed units turns then Some (to_try seed units turns) else None
@@ -62,7 +74,8 @@ trial_of seed units turns = None
 -- what a command asks of one file
 abbrev pub asked_of_one : List ℕ → List ℕ → Option Asked
 asked_of_one command file =
-    if bytes_eq command (codes "play") then Some (to_play file) else if bytes_eq command (codes "serve") then Some (to_serve file) else None
+    if bytes_eq command (codes "play") then Some (to_play file) else if bytes_eq command (codes "serve") then Some (to_serve file)
+    else if bytes_eq command (codes "parts") then Some (to_parts file) else None
 
 -- what it asks of two words
 abbrev pub asked_of_two : List ℕ → List ℕ → List ℕ → Option Asked
@@ -71,7 +84,8 @@ asked_of_two command a b =
     else if bytes_eq command (codes "rejoin") then option_map (to_rejoin a) (turn_in b)
     else if bytes_eq command (codes "session") then Some (to_session a b)
     else if bytes_eq command (codes "show") then Some (to_show a b)
-    else if bytes_eq command (codes "realm") then option_map (to_realm a) (turn_in b) else None
+    else if bytes_eq command (codes "realm") then option_map (to_realm a) (turn_in b)
+    else if bytes_eq command (codes "film") then option_map (to_film a) (every_in b) else None
 
 -- what a command asks about what the players see
 abbrev pub asked_of_sight : List ℕ → List ℕ → List ℕ → List ℕ → Option Asked

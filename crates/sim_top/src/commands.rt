@@ -13,7 +13,9 @@ ghost use Rattle.sim_top.specs.Trials.{CanBeTried};
 ghost use Rattle.sim_top.specs.Words.{asked};
 
 mod comparing;
+mod films;
 mod joining;
+mod parts;
 mod playing;
 mod realms;
 mod seeing;
@@ -27,7 +29,9 @@ use crate::status::Status;
 use crate::stop::Stop;
 use crate::words::Request;
 use comparing::compare;
+use films::film;
 use joining::rejoin;
+use parts::parts;
 use playing::{play, resume};
 use realms::realm;
 use seeing::{resight, sight};
@@ -86,6 +90,8 @@ pub fn answer_to<'w, S: Shelf>(
         Request::Resight { game, stored, map } => {
             resight(alloc, shelf, game, stored, map, rigs, orders)
         }
+        Request::Film { game, every } => film(alloc, shelf, game, every, rigs, orders),
+        Request::Parts { game } => parts(alloc, shelf, game),
     }
 }
 

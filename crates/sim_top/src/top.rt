@@ -12,10 +12,12 @@ ghost use Rattle.sim_system.specs.Meanings.{HaveKinds};
 ghost use Rattle.sim_system.specs.RigWords.{systems_of};
 ghost use Rattle.sim_top.specs.Answers.{scene, Meets, Causes, CountsBefore, MayEnd, IsUsageTold, KeepsAllBut, IsSilent};
 ghost use Rattle.sim_top.specs.Commands.{IsPrepared, shelved};
+ghost use Rattle.sim_top.specs.Films.{OfFilm, Film};
 ghost use Rattle.sim_top.specs.Given.{GaveForWords};
 ghost use Rattle.sim_top.specs.Headline.{Headline};
 ghost use Rattle.sim_top.specs.Hosting.{OfSession};
 ghost use Rattle.sim_top.specs.Making.{MeetsBefore, SavesIfDone, IsSavedAs, IsAnswered, SaveMeets, IsSettled, Tells, file_of};
+ghost use Rattle.sim_top.specs.Parts.{OfParts, PartsTold};
 ghost use Rattle.sim_top.specs.Readiness.{IsReady, IsFaultless, IsFinal};
 ghost use Rattle.sim_top.specs.Reads.{LacksMatch, HasEnded, IsUnfound};
 ghost use Rattle.sim_top.specs.Returning.{RigsCameBack};
@@ -66,6 +68,14 @@ pub fn run<S: Shelf, K: Sink>(
     // Where territories are asked for, what the sink was told is who holds which ground at that turn, and which of it is rooted.
     ensures territories { IfSome (S.held shelf.old) (λ files. HasEnded result.status
         → OfRealm files (asked_by (words_of words.now)) (λ setup turn. Territories setup turn (K.told out.old) (K.told out.new))) }
+
+    // Where a film is asked for, what the sink was told is the states after the match's own turns, so many turns apart, and the last.
+    ensures films { IfSome (S.held shelf.old) (λ files. HasEnded result.status
+        → OfFilm files (asked_by (words_of words.now)) (λ setup every. Film setup every (K.told out.old) (K.told out.new))) }
+
+    // Where the templates are asked for, what the sink was told is the parts of each.
+    ensures parts { IfSome (S.held shelf.old) (λ files. HasEnded result.status
+        → OfParts files (asked_by (words_of words.now)) (λ setup. PartsTold setup (K.told out.old) (K.told out.new))) }
 
     // Where it is asked what the players see, what the sink was told is which cells a row of theirs sees in the last state, and which
     // were explored on the way to it; and a file of the latter is saved where one is asked for.

@@ -1,7 +1,7 @@
 //! The words after the program's name, and the request that they make. A word that is out of place makes none.
 
 ghost use Rattle.std.specs.Prelude.{◌≡◌, ◌≤◌, Some, IfSome, length, option_map};
-ghost use Rattle.sim_top.specs.Words.{asked, words_of, asked_by, asked_of_one, asked_of_two, asked_of_three, asked_of_sight, trial_of as trial_asked, turn_in, digits_from};
+ghost use Rattle.sim_top.specs.Words.{asked, words_of, asked_by, asked_of_one, asked_of_two, asked_of_three, asked_of_sight, trial_of as trial_asked, turn_in, every_in, digits_from};
 ghost use Rattle.sim_top.specs.Trials.{CanBeTried};
 
 use sim_trial::is_trial;
@@ -72,6 +72,15 @@ pub enum Request<'w> {
         stored: &'w str,
         map: &'w str,
     },
+    /// To tell the states of a match, at turns so many apart and at the last.
+    Film {
+        game: &'w str,
+        every: u32,
+    },
+    /// To tell the parts of the templates of a match.
+    Parts {
+        game: &'w str,
+    },
 }
 
 /// The request of the words, if they make one.
@@ -99,6 +108,9 @@ fn request_of_one<'w>(command: &str, file: &'w str) -> Option<Request<'w>>
     if command == "serve" {
         return Some(Request::Serve { schedule: file });
     }
+    if command == "parts" {
+        return Some(Request::Parts { game: file });
+    }
     None
 }
 
@@ -122,6 +134,10 @@ fn request_of_two<'w>(command: &str, a: &'w str, b: &'w str) -> Option<Request<'
     if command == "realm" {
         let turn = turn_of(b)?;
         return Some(Request::Realm { game: a, turn });
+    }
+    if command == "film" {
+        let every = every_of(b)?;
+        return Some(Request::Film { game: a, every });
     }
     None
 }
@@ -196,6 +212,15 @@ fn turn_of(word: &str) -> Option<u32>
     } else {
         None
     }
+}
+
+// The number that such a word is, if it is not 0.
+fn every_of(word: &str) -> Option<u32>
+    ensures is { result ≡ every_in word.now }
+    ensures least { IfSome result (λ every. 1 ≤ every) }
+{
+    let every = turn_of(word)?;
+    if 1 <= every { Some(every) } else { None }
 }
 
 fn number_of(digits: &[u8]) -> Option<u32>

@@ -1,7 +1,7 @@
 //! The cells that an entity sees: a disc about its cell. The width of each of its rows is reckoned once, for all entities of a
 //! template.
 
-ghost use Rattle.std.specs.Prelude.{◌≡◌, ℕ, ◌≤◌, ◌<◌, ◌-◌, ◌*◌, false, IfOk};
+ghost use Rattle.std.specs.Prelude.{◌≡◌, ℕ, ◌≤◌, ◌<◌, ◌+◌, ◌-◌, ◌*◌, false, IfOk};
 ghost use Rattle.sim_base.specs.declared.place.Cell.{Cell as ACell};
 ghost use Rattle.sim_base.specs.Numbers.{IsRoot};
 ghost use Rattle.sim_vision.specs.Vision.{is_in_disc};
@@ -73,7 +73,8 @@ impl Disc {
 
     /// The first row in which the disc about a cell has cells.
     pub fn first_row(&self, middle: Cell) -> u16
-        ensures { (c : ACell) → c.z < result → is_in_disc self.now middle c ≡ false }
+        ensures row { result ≡ middle.z - self.now }
+        ensures before { (c : ACell) → c.z < result → is_in_disc self.now middle c ≡ false }
     {
         middle.z.saturating_sub(self.reach)
     }
@@ -81,7 +82,8 @@ impl Disc {
     /// The first row behind those in which the disc about a cell has cells.
     pub fn end_row(&self, middle: Cell) -> u16
         requires { middle.z < 256 }
-        ensures { (c : ACell) → result ≤ c.z → is_in_disc self.now middle c ≡ false }
+        ensures row { result ≡ middle.z + self.now + 1 }
+        ensures behind { (c : ACell) → result ≤ c.z → is_in_disc self.now middle c ≡ false }
     {
         middle.z + self.reach + 1
     }

@@ -5,6 +5,7 @@ mod files;
 mod messages;
 mod numbers;
 mod records;
+mod sights;
 mod slow;
 mod states;
 mod territories;

@@ -23,7 +23,7 @@ use crate::status::Status;
 use crate::stop::Stop;
 use sim_base::{OutOfMemory, Setup, State};
 use sim_orders::OrderTable;
-use sim_scout::{resight_text, sight_at};
+use sim_play::{resight_text, sight_at};
 use sim_store::Shelf;
 use sim_system::{Rig, System};
 use sim_vision::Sight;

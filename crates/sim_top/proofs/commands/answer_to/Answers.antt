@@ -5,7 +5,7 @@ use Rattle.sim_store.specs.Files.{File}
 use Rattle.sim_top.specs.Commands.{IsAnswerTo, shelved}
 use Rattle.sim_top.specs.Making.{status_made}
 use Rattle.sim_top.specs.Returning.{RigsCameBackBy}
-use Rattle.sim_top.specs.Words.{Asked, asked, to_show, to_compare, to_serve, to_try}
+use Rattle.sim_top.specs.Words.{Asked, asked, to_show, to_compare, to_serve, to_try, to_parts}
 use Rattle.sim_top.proofs.Returning.{rigs_same}
 use Rattle.sim_top.proofs.commands.answer_to.Goals as goal
 
@@ -93,3 +93,18 @@ returns-in-Resight-clause-answer g c = subst (λ (a : Asked). IsAnswerTo a c.res
 
 pub returns-in-Resight-clause-back : goal.returns-in-Resight-clause-back
 returns-in-Resight-clause-back g c = subst (λ (a : Asked). RigsCameBackBy (λ i v. (goal.System-dyn g (i, v)).meaning v) (Some a) (g.S.Shelf.held c.args.shelf.now) (status_made c.resight.result) c.args.rigs.now c.resight.new.rigs) (sym (ap asked c.in-Resight.is)) c.resight.ensures.back
+
+pub returns-in-Film-clause-answer : goal.returns-in-Film-clause-answer
+returns-in-Film-clause-answer g c = subst (λ (a : Asked). IsAnswerTo a c.film.result (shelved (g.S.Shelf.held c.args.shelf.now) (g.S.Shelf.counts c.args.shelf.now)) (shelved (g.S.Shelf.held c.film.new.shelf) (g.S.Shelf.counts c.film.new.shelf))) (sym (ap asked c.in-Film.is)) c.film.ensures.answer
+
+pub returns-in-Film-clause-back : goal.returns-in-Film-clause-back
+returns-in-Film-clause-back g c = subst (λ (a : Asked). RigsCameBackBy (λ i v. (goal.System-dyn g (i, v)).meaning v) (Some a) (g.S.Shelf.held c.args.shelf.now) (status_made c.film.result) c.args.rigs.now c.film.new.rigs) (sym (ap asked c.in-Film.is)) c.film.ensures.back
+
+pub returns-in-Parts-clause-answer : goal.returns-in-Parts-clause-answer
+returns-in-Parts-clause-answer g c = subst (λ (a : Asked). IsAnswerTo a c.parts.result (shelved (g.S.Shelf.held c.args.shelf.now) (g.S.Shelf.counts c.args.shelf.now)) (shelved (g.S.Shelf.held c.parts.new.shelf) (g.S.Shelf.counts c.parts.new.shelf))) (sym (ap asked c.in-Parts.is)) c.parts.ensures
+
+pub returns-in-Parts-clause-back : goal.returns-in-Parts-clause-back
+returns-in-Parts-clause-back g c =
+    let held = g.S.Shelf.held c.args.shelf.now in
+    subst (λ (a : Asked). RigsCameBackBy (λ i v. (goal.System-dyn g (i, v)).meaning v) (Some a) held (status_made c.parts.result) c.args.rigs.now c.args.rigs.now) (sym (ap asked c.in-Parts.is))
+    (rigs_same (λ i v. (goal.System-dyn g (i, v)).meaning v) (Some (to_parts c.in-Parts.game.now)) held (status_made c.parts.result) c.args.rigs.now c.requires.eight (λ ended. refl))

@@ -7,8 +7,10 @@ use Rattle.sim_report.specs.Lines.{usage_text}
 use Rattle.sim_store.specs.Files.{File}
 use Rattle.sim_top.specs.Answers.{scene, Meets, Causes}
 use Rattle.sim_top.specs.Headline.{Headline}
+use Rattle.sim_top.specs.Films.{OfFilm, Film}
 use Rattle.sim_top.specs.Hosting.{OfSession, IsHostedBy}
 use Rattle.sim_top.specs.Making.{MeetsBefore, file_of}
+use Rattle.sim_top.specs.Parts.{OfParts, PartsTold}
 use Rattle.sim_top.specs.Readiness.{IsReady, IsFaultless, IsFinal}
 use Rattle.sim_top.specs.Reads.{HasEnded}
 use Rattle.sim_top.specs.Sights.{TellsSights}
@@ -16,7 +18,9 @@ use Rattle.sim_top.specs.Territories.{OfRealm, Territories}
 use Rattle.sim_top.specs.Words.{words_of, asked_by}
 use Rattle.sim_top.proofs.Completeness.{final}
 use Rattle.sim_top.proofs.Ending.{told_unfound, told_usage, given_settled}
+use Rattle.sim_top.proofs.Films.{film_told}
 use Rattle.sim_top.proofs.Headlines.{lawful, of_both, of_end}
+use Rattle.sim_top.proofs.Parts.{parts_told}
 use Rattle.sim_top.proofs.Returning.{rigs_later}
 use Rattle.sim_top.proofs.Sights.{sights_told}
 use Rattle.sim_top.proofs.Stopping.{Told, Told-both}
@@ -87,6 +91,24 @@ returns-clause-territories g c =
     let now = scene (g.S.Shelf.held c.finish-status.new.shelf) (g.K.Sink.told c.finish-status.new.out) (g.S.Shelf.counts c.finish-status.new.shelf) (g.K.Sink.faults c.finish-status.new.out) in
     Told (λ files. Meets c.finish-status.result words files before now) (λ files. HasEnded c.finish-status.result → OfRealm files (asked_by words) (λ setup turn. Territories setup turn before.told now.told)) _
     (λ files h ended. territories_told c.finish-status.result words files before now h ended) (returns-clause-answers g c)
+
+-- the film is that of the match
+pub returns-clause-films : goal.returns-clause-films
+returns-clause-films g c =
+    let words = words_of c.args.words.now in
+    let before = scene (g.S.Shelf.held c.args.shelf.now) (g.K.Sink.told c.args.out.now) (g.S.Shelf.counts c.args.shelf.now) (g.K.Sink.faults c.args.out.now) in
+    let now = scene (g.S.Shelf.held c.finish-status.new.shelf) (g.K.Sink.told c.finish-status.new.out) (g.S.Shelf.counts c.finish-status.new.shelf) (g.K.Sink.faults c.finish-status.new.out) in
+    Told (λ files. Meets c.finish-status.result words files before now) (λ files. HasEnded c.finish-status.result → OfFilm files (asked_by words) (λ setup every. Film setup every before.told now.told)) _
+    (λ files h ended. film_told c.finish-status.result words files before now h ended) (returns-clause-answers g c)
+
+-- and the parts are those of its templates
+pub returns-clause-parts : goal.returns-clause-parts
+returns-clause-parts g c =
+    let words = words_of c.args.words.now in
+    let before = scene (g.S.Shelf.held c.args.shelf.now) (g.K.Sink.told c.args.out.now) (g.S.Shelf.counts c.args.shelf.now) (g.K.Sink.faults c.args.out.now) in
+    let now = scene (g.S.Shelf.held c.finish-status.new.shelf) (g.K.Sink.told c.finish-status.new.out) (g.S.Shelf.counts c.finish-status.new.shelf) (g.K.Sink.faults c.finish-status.new.out) in
+    Told (λ files. Meets c.finish-status.result words files before now) (λ files. HasEnded c.finish-status.result → OfParts files (asked_by words) (λ setup. PartsTold setup before.told now.told)) _
+    (λ files h ended. parts_told c.finish-status.result words files before now h ended) (returns-clause-answers g c)
 
 -- and so is what was told of what the players see
 pub returns-clause-sights : goal.returns-clause-sights

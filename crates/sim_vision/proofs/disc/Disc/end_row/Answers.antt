@@ -2,5 +2,5 @@ use Rattle.std.proofs.Common.{arith}
 use Rattle.sim_vision.proofs.Discs.{far_cell}
 use Rattle.sim_vision.proofs.disc.Disc.end_row.Goals as goal
 
-pub returns : goal.returns
-returns c = λ cell le. far_cell c.args.self.now c.args.middle cell (omega (arith, c.self.view_is))
+pub returns-clause-behind : goal.returns-clause-behind
+returns-clause-behind c = λ cell le. far_cell c.args.self.now c.args.middle cell (omega (arith, c.self.view_is))

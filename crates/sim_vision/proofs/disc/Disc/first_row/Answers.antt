@@ -2,5 +2,5 @@ use Rattle.std.proofs.Common.{arith}
 use Rattle.sim_vision.proofs.Discs.{far_cell}
 use Rattle.sim_vision.proofs.disc.Disc.first_row.Goals as goal
 
-pub returns : goal.returns
-returns c = λ cell lt. far_cell c.args.self.now c.args.middle cell (omega (arith, c.saturating_sub.ensures, c.self.view_is))
+pub returns-clause-before : goal.returns-clause-before
+returns-clause-before c = λ cell lt. far_cell c.args.self.now c.args.middle cell (omega (arith, c.saturating_sub.ensures, c.self.view_is))

@@ -1,0 +1,107 @@
+-- The states of turns, one more at the end or the first apart.
+use Rattle.std.proofs.Common.{◌≡◌, ℕ, zero, suc, ◌+◌, ◌-◌, ◌*◌, List, [], ◌∷◌, length, map, refl, sym, ap, ◌∙◌, arith}
+use Rattle.std.specs.Prelude.{◌||◌, fold, Result, Ok, Err, IfOk, String, string_bytes}
+use Rattle.std.specs.declared.alloc.Global.{Global}
+use Rattle.std.specs.List.{range_with_len}
+use Rattle.std.proofs.lemmas.List.FromFn.{map-range_with_len_more}
+use Rattle.std.proofs.lemmas.List.Sums.{fold-append}
+use Rattle.sim_base.specs.declared.memory.OutOfMemory.{OutOfMemory}
+use Rattle.sim_base.specs.declared.setup.Setup.{Setup}
+use Rattle.sim_base.specs.declared.state.State.{State}
+use Rattle.sim_base.specs.Turn.{first_state, from, after, own_turns}
+use Rattle.sim_territory.specs.Realms.{RealmOf, realm_of}
+use Rattle.sim_play.proofs.Past.{own_turn}
+use Rattle.sim_vision.specs.Vision.{Vision, is_visible, cells_in}
+use Rattle.sim_vision.specs.After.{blind, joined_at, vision_after, last_of, was_visible}
+use Rattle.sim_vision.specs.Joining.{is_set}
+use Rattle.sim_vision.specs.Keeping.{extent_in}
+use Rattle.sim_vision.specs.Spans.{one_if}
+use Rattle.sim_vision.specs.Told.{sight_lines, explored_file, sight_text as text_of_vision}
+use Rattle.sim_vision.specs.Watching.{flag_in}
+use Rattle.sim_vision.proofs.After.{explored_start}
+use Rattle.sim_vision.proofs.Telling.{told_from_the_start, told_from_a_file}
+use Rattle.sim_play.specs.States.{states_to, later_of}
+use Rattle.sim_play.specs.Seen.{sight_text, sight_file, resight_text}
+
+-- whatever has followed so many states of turns, after one turn more
+pub followed_more : {X : Type 0} (next : X → State → X) (setup : Setup) (start state : State) (n : ℕ) (first : X) →
+    state ≡ from setup start (own_turns setup start.turn (suc n)) →
+    next (fold next first (later_of setup start n)) state ≡ fold next first (later_of setup start (suc n))
+followed_more {X} next setup start state n first is =
+    let at = λ (k : ℕ). from setup start (own_turns setup start.turn k) in
+    let number : 1 + n ≡ suc n = omega arith in
+    let more : n + 1 ≡ suc n = omega arith in
+    ap (next (fold next first (later_of setup start n))) is
+    ∙ sym (fold-append next first (later_of setup start n) (at (suc n) ∷ []))
+    ∙ ap (fold next first) (sym (map-range_with_len_more at 1 n (suc n) number))
+    ∙ ap (λ (k : ℕ). fold next first (later_of setup start k)) more
+
+-- those of a match that was started
+module _ {X : Type 0} (next : X → State → X) (setup same : Setup) (state : State) (of_same : same ≡ setup) (is : state ≡ first_state setup) where
+  at_start : state.turn ≡ 0
+  at_start = ap (λ (s : State). s.turn) is ∙ own_turn setup 0
+
+  pub from_the_start : (turn : ℕ) (first : X) → fold next (next first state) (later_of same state (turn - state.turn)) ≡ fold next first (states_to setup turn)
+  from_the_start turn first =
+      ap (λ (s : Setup). fold next (next first state) (map (λ (k : ℕ). from s state (own_turns s state.turn k))
+      (range_with_len 1 (turn - state.turn)))) of_same
+      ∙ ap (λ (n : ℕ). fold next (next first state) (map (λ (k : ℕ). from setup state (own_turns setup n k)) (range_with_len 1 (turn - n)))) at_start
+      ∙ ap (λ (s : State). fold next (next first s) (map (λ (k : ℕ). from setup s (own_turns setup 0 k)) (range_with_len 1 (turn - 0)))) is
+      ∙ ap (λ (n : ℕ). fold next first (states_to setup n)) (whole turn)
+    where
+      whole : (n : ℕ) → n - 0 ≡ n
+      whole n = omega arith
+
+-- ---- what they come to
+
+-- the last of the states of so many turns
+last_is : (at : ℕ → State) (from n : ℕ) → last_of (at from) (map at (range_with_len (from + 1) n)) ≡ at (from + n)
+last_is at from zero = ap at (let same : from ≡ from + 0 = omega arith in same)
+last_is at from (suc n) = last_is at (from + 1) n ∙ ap at (let same : from + 1 + n ≡ from + suc n = omega arith in same)
+
+last_from_0 : (at : ℕ → State) (n : ℕ) → last_of (at 0) (map at (range_with_len 1 n)) ≡ at n
+last_from_0 at n = last_is at 0 n ∙ ap at (let same : 0 + n ≡ n = omega arith in same)
+
+-- what a realm is that has followed states depends on the last of them alone
+last_followed : (realm : RealmOf) (first : State) (later : List State) →
+    fold (λ (r : RealmOf) (s : State). realm_of r.setup s) realm (first ∷ later) ≡ realm_of realm.setup (last_of first later)
+last_followed realm first [] = refl
+last_followed realm first (second ∷ later) = last_followed (realm_of realm.setup first) second later
+
+pub realm_followed : (realm : RealmOf) (setup : Setup) (turn : ℕ) → realm.setup ≡ setup →
+    fold (λ (r : RealmOf) (s : State). realm_of r.setup s) realm (states_to setup turn) ≡ realm_of setup (after setup (own_turns setup 0 turn))
+realm_followed realm setup turn of_setup =
+    let at = λ (t : ℕ). after setup (own_turns setup 0 t) in
+    last_followed realm (at 0) (map at (range_with_len 1 turn))
+    ∙ ap (λ (s : Setup). realm_of s (last_of (at 0) (map at (range_with_len 1 turn)))) of_setup
+    ∙ ap (realm_of setup) (last_from_0 at turn)
+
+pub started_text : (setup : Setup) (turn : ℕ) → text_of_vision (vision_after (blind setup) (states_to setup turn)) ≡ sight_text setup turn
+started_text setup turn =
+    let at = λ (t : ℕ). after setup (own_turns setup 0 t) in
+    told_from_the_start setup (at 0) (map at (range_with_len 1 turn))
+    ∙ ap (λ (s : State). sight_lines setup (is_visible setup s.rows) (was_visible setup (states_to setup turn))) (last_from_0 at turn)
+
+pub started_file : (setup : Setup) (turn : ℕ) → explored_file (vision_after (blind setup) (states_to setup turn)) ≡ sight_file setup turn
+started_file setup turn = ap (map one_if) (explored_start setup (states_to setup turn))
+
+resumed_text : (setup : Setup) (state : State) (bytes : List ℕ) → length bytes ≡ setup.players * cells_in setup →
+    text_of_vision (vision_after (joined_at setup state bytes) (later_of setup state (setup.turns - state.turn))) ≡ resight_text setup state bytes
+resumed_text setup state bytes full =
+    let at = λ (k : ℕ). from setup state (own_turns setup state.turn k) in
+    let n = setup.turns - state.turn in
+    told_from_a_file setup state bytes (later_of setup state n) full
+    ∙ ap (λ (s : State). sight_lines setup (is_visible setup s.rows) (λ player c. flag_in (extent_in setup)
+    (map is_set bytes) player c || was_visible setup (later_of setup state n) player c)) (last_from_0 at n)
+
+-- the same of a text that was made, if there was memory
+pub resumed_told : (text : Result (String Global) OutOfMemory) (setup same : Setup) (state : State) (sight : Vision) → same ≡ setup →
+    IfOk text (λ made. string_bytes made ≡ text_of_vision (vision_after sight (later_of same state (same.turns - state.turn)))) →
+    IfOk text (λ made. (bytes : List ℕ) → sight ≡ joined_at setup state bytes → length bytes ≡ setup.players * cells_in setup →
+    string_bytes made ≡ resight_text setup state bytes)
+resumed_told (Err none) setup same state sight of_same told = tt
+resumed_told (Ok made) setup same state sight of_same told = λ bytes joined full.
+    told
+    ∙ ap (λ (s : Setup). text_of_vision (vision_after sight (later_of s state (s.turns - state.turn)))) of_same
+    ∙ ap (λ (v : Vision). text_of_vision (vision_after v (later_of setup state (setup.turns - state.turn)))) joined
+    ∙ resumed_text setup state bytes full

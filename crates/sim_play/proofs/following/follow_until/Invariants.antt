@@ -1,0 +1,26 @@
+-- The state is that of the turns so far, and each was followed.
+use Rattle.std.proofs.Common.{◌≡◌, ◌-◌, ◌≤◌}
+use Rattle.std.specs.Prelude.{fold}
+use Rattle.sim_base.specs.Turn.{from, own_turns}
+use Rattle.sim_base.specs.Validity.{IsValid}
+use Rattle.sim_system.specs.RigWords.{systems_by}
+use Rattle.sim_board.specs.BoardWords.{IsWholeBy, AreKept}
+use Rattle.sim_play.specs.States.{later_of}
+use Rattle.sim_play.proofs.following.follow_until.Given as goal
+
+abbrev pub invariant-loop-number : goal.invariant-loop-number
+invariant-loop-number g l =
+    record {
+      begun : l.fn.board.state.turn ≤ l.number;
+      state : l.board.state ≡ from l.fn.board.setup.now l.fn.board.state
+          (own_turns l.fn.board.setup.now l.fn.board.state.turn (l.number - l.fn.board.state.turn));
+      turn : l.board.state.turn ≡ l.number;
+      followed : l.follower ≡ fold g.F.Follower.next l.fn.follower
+          (later_of l.fn.board.setup.now l.fn.board.state (l.number - l.fn.board.state.turn));
+      follows : g.F.Follower.match_of l.follower ≡ l.fn.board.setup.now;
+      valid : IsValid l.fn.board.setup.now l.board.state;
+      same : l.board.setup.now ≡ l.fn.board.setup.now;
+      whole : IsWholeBy l.board (λ i v. (goal.System-dyn g (i, v)).meaning v);
+      kept : AreKept (systems_by l.fn.board.rig (λ i v. (goal.System-dyn g (i, v)).meaning v))
+          (systems_by l.board.rig (λ i v. (goal.System-dyn g (i, v)).meaning v));
+    }

@@ -1,0 +1,42 @@
+-- The board was started, and its first state followed.
+use Rattle.std.proofs.Common.{◌≡◌, ◌-◌, ◌∙◌, sym, ap, subst, arith}
+use Rattle.std.specs.Prelude.{fold, OnOk}
+use Rattle.sim_base.specs.declared.setup.Setup.{Setup}
+use Rattle.sim_base.specs.declared.state.State.{State}
+use Rattle.sim_base.specs.Validity.{IsValid}
+use Rattle.sim_board.specs.BoardWords.{setup_in, state_in}
+use Rattle.sim_play.proofs.Starting.{started_valid, started_turn, started_until}
+use Rattle.sim_play.specs.States.{later_of}
+use Rattle.sim_play.proofs.Later.{from_the_start}
+use Rattle.sim_play.proofs.following.start_following.Goals as goal
+
+pub follow-requires : goal.follow-requires
+follow-requires g c =
+    let valid = started_valid _ _ _ c.in_ok-start.ensures.setup c.in_ok-start.ensures.state c.requires.limits in
+    subst (IsValid (g.F.Follower.match_of c.args.follower.now)) (sym c.scene.ensures.state)
+    (subst (λ (s : Setup). IsValid s (state_in c.start.new.self)) (c.in_ok-start.ensures.setup ∙ sym c.requires.same) valid)
+
+pub follow_until-requires-clause-valid : goal.follow_until-requires-clause-valid
+follow_until-requires-clause-valid g c = started_valid _ _ _ c.in_ok-start.ensures.setup c.in_ok-start.ensures.state c.requires.limits
+
+pub follow_until-requires-clause-ahead : goal.follow_until-requires-clause-ahead
+follow_until-requires-clause-ahead g c = omega (arith, started_turn _ _ _ c.in_ok-start.ensures.setup c.in_ok-start.ensures.state)
+
+pub follow_until-requires-clause-same : goal.follow_until-requires-clause-same
+follow_until-requires-clause-same g c = c.follow.ensures.same ∙ c.requires.same ∙ sym c.in_ok-start.ensures.setup
+
+pub returns-clause-state : goal.returns-clause-state
+returns-clause-state g c =
+    subst (λ (state : State). OnOk c.follow_until.result (state_in c.follow_until.new.board ≡ state))
+    (started_until _ _ _ c.in_ok-start.ensures.setup c.in_ok-start.ensures.state c.args.turn) c.follow_until.ensures.state
+
+pub returns-clause-followed : goal.returns-clause-followed
+returns-clause-followed g c =
+    let same = setup_in c.start.new.self in
+    let state = state_in c.start.new.self in
+    let next = g.F.Follower.next in
+    let begun = c.in_ok-follow.ensures.next ∙ ap (next c.args.follower.now) c.scene.ensures.state in
+    subst (λ f. OnOk c.follow_until.result (c.follow_until.new.follower ≡ f))
+    (ap (λ f. fold next f (later_of same state (c.args.turn - state.turn))) begun
+    ∙ from_the_start next (setup_in c.args.board.now) same state c.in_ok-start.ensures.setup c.in_ok-start.ensures.state c.args.turn c.args.follower.now)
+    c.follow_until.ensures.followed

@@ -1,0 +1,10 @@
+-- The sight has looked at the later states.
+use Rattle.std.proofs.Common.{◌≡◌, ◌∙◌, ap, rules}
+use Rattle.std.specs.Prelude.{string_bytes}
+use Rattle.sim_vision.specs.Told.{sight_text}
+use Rattle.sim_play.proofs.sights.tell_from_a_state.Goals as goal
+
+pub returns-clause-text : goal.returns-clause-text
+returns-clause-text g c =
+    let words : string_bytes c.push_sight.new.out ≡ sight_text c.adopt_following.new.follower = search rules in
+    words ∙ ap sight_text c.in_ok-adopt_following.ensures.followed

@@ -1,0 +1,42 @@
+-- A film of a match: its states, so many turns apart, as text.
+use Rattle.std.specs.Prelude.{ℕ, ◌+◌, ◌%◌, Bool, ◌||◌, ◌==◌, List, [], ◌++◌, filter, flat_map, if◌then◌else◌, codes}
+use Rattle.std.specs.List.{range_with_len}
+use Rattle.sim_base.specs.declared.setup.Setup.{Setup}
+use Rattle.sim_base.specs.declared.state.State.{State}
+use Rattle.sim_base.specs.Turn.{after, own_turns}
+use Rattle.sim_base.specs.Spelling.{digest}
+use Rattle.sim_report.specs.Lines.{turn_line}
+use Rattle.sim_report.specs.Show.{show_text}
+use Rattle.sim_report.specs.Ways.{ways_text}
+
+-- the state of the last turn
+abbrev pub last_state : Setup → State
+last_state setup = after setup (own_turns setup 0 setup.turns)
+
+-- what is told of a state: its turn and its digest, what `show` prints of it, and the ways of its rows
+abbrev pub frame_text : Setup → State → List ℕ
+frame_text setup state = turn_line (codes "turn") state.turn (digest setup state) ++ (show_text setup state ++ ways_text state)
+
+-- whether a turn is told: each that so many divide, and the last one
+abbrev pub is_told : ℕ → ℕ → ℕ → Bool
+is_told every last turn = turn % every == 0 || turn == last
+
+-- the first so many turns, from 0 on, without those that are not told
+abbrev pub told_turns : ℕ → ℕ → ℕ → List ℕ
+told_turns every last n = filter (is_told every last) (range_with_len 0 n)
+
+-- the frame of a turn, whose state is `after` the match's own turns
+abbrev pub frame_at : Setup → ℕ → List ℕ
+frame_at setup turn = frame_text setup (after setup (own_turns setup 0 turn))
+
+-- the frames of so many turns
+abbrev pub frames : Setup → ℕ → ℕ → List ℕ
+frames setup every n = flat_map (frame_at setup) (told_turns every setup.turns n)
+
+-- those of all turns of a match
+abbrev pub film_text : Setup → ℕ → List ℕ
+film_text setup every = frames setup every (setup.turns + 1)
+
+-- the frame of a state, if its turn is told
+abbrev pub told_frame : ℕ → Setup → State → List ℕ
+told_frame every setup state = if is_told every setup.turns state.turn then frame_text setup state else []

@@ -1,0 +1,28 @@
+-- What the players of a match see, and have explored, at a turn of it.
+use Rattle.std.specs.Prelude.{ℕ, ◌-◌, ◌||◌, List, map}
+use Rattle.sim_base.specs.declared.setup.Setup.{Setup}
+use Rattle.sim_base.specs.declared.state.State.{State}
+use Rattle.sim_base.specs.Turn.{after, own_turns}
+use Rattle.sim_play.specs.Lines.{end_from}
+use Rattle.sim_play.specs.States.{states_to, later_of}
+use Rattle.sim_vision.specs.After.{was_visible, all_seen}
+use Rattle.sim_vision.specs.Joining.{is_set}
+use Rattle.sim_vision.specs.Keeping.{extent_in}
+use Rattle.sim_vision.specs.Spans.{one_if}
+use Rattle.sim_vision.specs.Told.{sight_lines}
+use Rattle.sim_vision.specs.Vision.{is_visible}
+use Rattle.sim_vision.specs.Watching.{flag_in}
+
+-- a line for each player: the cells that he sees at a turn, and those that were visible in one of the states up to it
+abbrev pub sight_text : Setup → ℕ → List ℕ
+sight_text setup turn = sight_lines setup (is_visible setup (after setup (own_turns setup 0 turn)).rows) (was_visible setup (states_to setup turn))
+
+-- the file of explored cells at a turn
+abbrev pub sight_file : Setup → ℕ → List ℕ
+sight_file setup turn = map one_if (all_seen setup (states_to setup turn))
+
+-- a line for each player at the end of a match, from a stored state on and the explored cells of a file
+abbrev pub resight_text : Setup → State → List ℕ → List ℕ
+resight_text setup state bytes =
+    sight_lines setup (is_visible setup (end_from setup state).rows)
+    (λ player c. flag_in (extent_in setup) (map is_set bytes) player c || was_visible setup (later_of setup state (setup.turns - state.turn)) player c)

@@ -1,0 +1,125 @@
+//! A film of a match: its states, so many turns apart, each with the digest, the rows and their ways. The match is played once.
+
+ghost use Rattle.std.specs.Prelude.{◌≡◌, ◌≤◌, ◌++◌, IfOk, OnOk, string_bytes};
+ghost use Rattle.sim_base.specs.Limits.{IsSetup};
+ghost use Rattle.sim_base.specs.Turn.{first_state};
+ghost use Rattle.sim_base.specs.Validity.{IsValid};
+ghost use Rattle.sim_system.specs.Meanings.{HaveKinds, AreFed, AreBuiltOnceAtMost};
+ghost use Rattle.sim_system.specs.RigWords.{systems_of};
+ghost use Rattle.sim_board.specs.BoardWords.{setup_in, state_in, systems, IsWhole, AreKept};
+ghost use Rattle.sim_play.specs.Films.{film_text as text_of_film, last_state, frame_text, is_told as is_turn_told, told_frame};
+
+use crate::lines::push_line;
+use sim_base::{OutOfMemory, Setup, State};
+use sim_board::Board;
+use sim_orders::OrderTable;
+use sim_report::{push_show, push_ways};
+use sim_system::{Rig, System};
+use sim_turn::play;
+use std::alloc::Global;
+
+/// The states of a match at turns so many apart, from turn 0 on, and always that of the last one. The rig comes back; where
+/// there was memory, it stands for the last state.
+pub fn film_text(
+    alloc: Global,
+    setup: &Setup,
+    every: u32,
+    rig: Rig,
+    orders: &OrderTable,
+) -> (Result<String, OutOfMemory>, Rig)
+    requires limits { IsSetup setup.now }
+    requires every { 1 ≤ every }
+    requires kinds { HaveKinds (systems_of rig ⟦<dyn System as System>⟧) }
+    ensures text { IfOk result.0 (λ text. string_bytes text ≡ text_of_film setup.now every) }
+    ensures fed { OnOk result.0 (AreFed setup.now (last_state setup.now) (systems_of result.1 ⟦<dyn System as System>⟧)) }
+    ensures kinds { HaveKinds (systems_of result.1 ⟦<dyn System as System>⟧) }
+    ensures most { AreBuiltOnceAtMost (systems_of rig ⟦<dyn System as System>⟧) (systems_of result.1 ⟦<dyn System as System>⟧) }
+{
+    let mut board = Board::new(alloc, setup, rig);
+    let mut text = String::new(alloc);
+    let played = start_frames(alloc, &mut board, every, orders, &mut text);
+    let (_, rig) = board.finish();
+    match played {
+        Ok(()) => (Ok(text), rig),
+        Err(error) => (Err(error), rig),
+    }
+}
+
+// Starts a board, and plays it to the end with a frame of each turn that is told.
+fn start_frames(
+    alloc: Global,
+    board: &mut Board<'_>,
+    every: u32,
+    orders: &OrderTable,
+    out: &mut String,
+) -> Result<(), OutOfMemory>
+    requires limits { IsSetup (setup_in board.old) }
+    requires every { 1 ≤ every }
+    requires kinds { HaveKinds (systems board.old ⟦<dyn System as System>⟧) }
+    ensures text { OnOk result (string_bytes out.new ≡ string_bytes out.old ++ text_of_film (setup_in board.old) every) }
+    ensures state { OnOk result (state_in board.new ≡ last_state (setup_in board.old)) }
+    ensures whole { OnOk result (IsWhole board.new ⟦<dyn System as System>⟧) }
+    ensures kinds { HaveKinds (systems board.new ⟦<dyn System as System>⟧) }
+    ensures most { AreBuiltOnceAtMost (systems board.old ⟦<dyn System as System>⟧) (systems board.new ⟦<dyn System as System>⟧) }
+    ensures setup { setup_in board.new ≡ setup_in board.old }
+{
+    board.start()?;
+    push_frames(alloc, board, every, orders, out)
+}
+
+// Plays a board that was started to the end, and appends a frame of each turn that is told.
+fn push_frames(
+    alloc: Global,
+    board: &mut Board<'_>,
+    every: u32,
+    orders: &OrderTable,
+    out: &mut String,
+) -> Result<(), OutOfMemory>
+    requires whole { IsWhole board.old ⟦<dyn System as System>⟧ }
+    requires valid { IsValid (setup_in board.old) (state_in board.old) }
+    requires first { state_in board.old ≡ first_state (setup_in board.old) }
+    requires every { 1 ≤ every }
+    ensures text { OnOk result (string_bytes out.new ≡ string_bytes out.old ++ text_of_film (setup_in board.old) every) }
+    ensures state { OnOk result (state_in board.new ≡ last_state (setup_in board.old)) }
+    ensures whole { OnOk result (IsWhole board.new ⟦<dyn System as System>⟧) }
+    ensures kept { AreKept (systems board.old ⟦<dyn System as System>⟧) (systems board.new ⟦<dyn System as System>⟧) }
+    ensures setup { setup_in board.new ≡ setup_in board.old }
+{
+    let setup = board.setup();
+    push_told(every, setup, board.scene().state, out)?;
+    for turn in 0..setup.turns {
+        play(alloc, board, orders, turn + 1)?;
+        push_told(every, setup, board.scene().state, out)?;
+    }
+    Ok(())
+}
+
+// Appends the frame of a state, if its turn is told.
+fn push_told(every: u32, setup: &Setup, state: &State, out: &mut String) -> Result<(), OutOfMemory>
+    requires valid { IsValid setup.now state.now }
+    requires every { 1 ≤ every }
+    ensures { OnOk result (string_bytes out.new ≡ string_bytes out.old ++ told_frame every setup.now state.now) }
+{
+    if is_told(every, setup.turns, state.turn) {
+        push_frame(setup, state, out)
+    } else {
+        Ok(())
+    }
+}
+
+// Whether a turn is told: each that `every` divides, and the last one.
+fn is_told(every: u32, last: u32, turn: u32) -> bool
+    requires { 1 ≤ every }
+    ensures { result ≡ is_turn_told every last turn }
+{
+    turn % every == 0 || turn == last
+}
+
+fn push_frame(setup: &Setup, state: &State, out: &mut String) -> Result<(), OutOfMemory>
+    requires { IsValid setup.now state.now }
+    ensures { OnOk result (string_bytes out.new ≡ string_bytes out.old ++ frame_text setup.now state.now) }
+{
+    push_line("turn", setup, state, out)?;
+    push_show(setup, state, out)?;
+    push_ways(state, out)
+}

@@ -1,0 +1,96 @@
+//! A board that is played, and a follower that follows each of its states.
+
+ghost use Rattle.std.specs.Prelude.{◌≡◌, ◌≤◌, ◌-◌, fold, OnOk};
+ghost use Rattle.sim_base.specs.Limits.{IsSetup};
+ghost use Rattle.sim_base.specs.Turn.{from, after, own_turns};
+ghost use Rattle.sim_base.specs.Validity.{IsValid};
+ghost use Rattle.sim_board.specs.BoardWords.{setup_in, state_in, systems, IsWhole, AreKept};
+ghost use Rattle.sim_play.specs.Lines.{end_from};
+ghost use Rattle.sim_play.specs.States.{later_of, states_to};
+ghost use Rattle.sim_system.specs.Meanings.{HaveKinds, AreBuiltOnceAtMost};
+
+use crate::follower::Follower;
+use sim_base::{OutOfMemory, State};
+use sim_board::Board;
+use sim_orders::OrderTable;
+use sim_system::System;
+use sim_turn::play;
+use std::alloc::Global;
+
+// Plays a board to a turn, and has a follower follow each state behind that of the board.
+fn follow_until<F: Follower>(
+    alloc: Global,
+    board: &mut Board<'_>,
+    orders: &OrderTable,
+    follower: &mut F,
+    until: u32,
+) -> Result<(), OutOfMemory>
+    requires whole { IsWhole board.old ⟦<dyn System as System>⟧ }
+    requires valid { IsValid (setup_in board.old) (state_in board.old) }
+    requires ahead { (state_in board.old).turn ≤ until }
+    requires within { until ≤ (setup_in board.old).turns }
+    requires same { F.match_of follower.old ≡ setup_in board.old }
+    ensures followed { OnOk result (follower.new
+        ≡ fold F.next follower.old (later_of (setup_in board.old) (state_in board.old) (until - (state_in board.old).turn))) }
+    ensures state { OnOk result (state_in board.new
+        ≡ from (setup_in board.old) (state_in board.old) (own_turns (setup_in board.old) (state_in board.old).turn (until - (state_in board.old).turn))) }
+    ensures whole { OnOk result (IsWhole board.new ⟦<dyn System as System>⟧) }
+    ensures kept { AreKept (systems board.old ⟦<dyn System as System>⟧) (systems board.new ⟦<dyn System as System>⟧) }
+    ensures setup { setup_in board.new ≡ setup_in board.old }
+{
+    let begun = board.scene().state.turn;
+    for number in begun..until {
+        play(alloc, board, orders, number + 1)?;
+        follower.follow(board.scene().state)?;
+    }
+    Ok(())
+}
+
+/// Starts a board, and has a follower follow its states up to a turn.
+pub fn start_following<F: Follower>(
+    alloc: Global,
+    board: &mut Board<'_>,
+    orders: &OrderTable,
+    follower: &mut F,
+    turn: u32,
+) -> Result<(), OutOfMemory>
+    requires limits { IsSetup (setup_in board.old) }
+    requires turn { turn ≤ (setup_in board.old).turns }
+    requires kinds { HaveKinds (systems board.old ⟦<dyn System as System>⟧) }
+    requires same { F.match_of follower.old ≡ setup_in board.old }
+    ensures followed { OnOk result (follower.new ≡ fold F.next follower.old (states_to (setup_in board.old) turn)) }
+    ensures state { OnOk result (state_in board.new ≡ after (setup_in board.old) (own_turns (setup_in board.old) 0 turn)) }
+    ensures whole { OnOk result (IsWhole board.new ⟦<dyn System as System>⟧) }
+    ensures kinds { HaveKinds (systems board.new ⟦<dyn System as System>⟧) }
+    ensures most { AreBuiltOnceAtMost (systems board.old ⟦<dyn System as System>⟧) (systems board.new ⟦<dyn System as System>⟧) }
+    ensures setup { setup_in board.new ≡ setup_in board.old }
+{
+    board.start()?;
+    follower.follow(board.scene().state)?;
+    follow_until(alloc, board, orders, follower, turn)
+}
+
+/// Has a board take a state, and a follower that came to it follow each later one.
+pub fn adopt_following<F: Follower>(
+    alloc: Global,
+    board: &mut Board<'_>,
+    state: State,
+    orders: &OrderTable,
+    follower: &mut F,
+) -> Result<(), OutOfMemory>
+    requires limits { IsSetup (setup_in board.old) }
+    requires valid { IsValid (setup_in board.old) state }
+    requires kinds { HaveKinds (systems board.old ⟦<dyn System as System>⟧) }
+    requires same { F.match_of follower.old ≡ setup_in board.old }
+    ensures followed { OnOk result (follower.new
+        ≡ fold F.next follower.old (later_of (setup_in board.old) state ((setup_in board.old).turns - state.turn))) }
+    ensures state { OnOk result (state_in board.new ≡ end_from (setup_in board.old) state) }
+    ensures whole { OnOk result (IsWhole board.new ⟦<dyn System as System>⟧) }
+    ensures kinds { HaveKinds (systems board.new ⟦<dyn System as System>⟧) }
+    ensures most { AreBuiltOnceAtMost (systems board.old ⟦<dyn System as System>⟧) (systems board.new ⟦<dyn System as System>⟧) }
+    ensures setup { setup_in board.new ≡ setup_in board.old }
+{
+    board.adopt(state)?;
+    let last = board.setup().turns;
+    follow_until(alloc, board, orders, follower, last)
+}

@@ -1,0 +1,125 @@
+//! What the players of a match see, and have explored, at a turn of it. The systems of a rig play it, which is handed back.
+
+ghost use Rattle.std.specs.Prelude.{◌≡◌, ◌≤◌, ◌-◌, ◌*◌, ℕ, List, length, IfOk, OnOk, string_bytes};
+ghost use Rattle.sim_base.specs.Limits.{IsSetup};
+ghost use Rattle.sim_base.specs.Turn.{after, own_turns};
+ghost use Rattle.sim_base.specs.Validity.{IsValid};
+ghost use Rattle.sim_board.specs.BoardWords.{setup_in, state_in, systems, IsWhole};
+ghost use Rattle.sim_play.specs.Lines.{end_from};
+ghost use Rattle.sim_play.specs.Seen.{sight_text as text_of_sight, sight_file, resight_text as text_of_resight};
+ghost use Rattle.sim_play.specs.States.{later_of};
+ghost use Rattle.sim_system.specs.Meanings.{HaveKinds, AreFed, AreBuiltOnceAtMost};
+ghost use Rattle.sim_system.specs.RigWords.{systems_of};
+ghost use Rattle.sim_vision.specs.After.{joined_at, vision_after};
+ghost use Rattle.sim_vision.specs.Told.{sight_text as text_of_vision};
+ghost use Rattle.sim_vision.specs.Vision.{cells_in};
+
+use crate::following::{adopt_following, start_following};
+use sim_base::{OutOfMemory, Setup, State};
+use sim_board::Board;
+use sim_orders::OrderTable;
+use sim_system::{Rig, System};
+use sim_vision::{Sight, push_sight};
+use std::alloc::Global;
+
+// Starts a board, and tells what is seen and explored of its states up to a turn.
+fn tell_from_the_start(
+    alloc: Global,
+    board: &mut Board<'_>,
+    orders: &OrderTable,
+    turn: u32,
+) -> Result<(String, Vec<u8>), OutOfMemory>
+    requires limits { IsSetup (setup_in board.old) }
+    requires turn { turn ≤ (setup_in board.old).turns }
+    requires kinds { HaveKinds (systems board.old ⟦<dyn System as System>⟧) }
+    ensures text { IfOk result (λ told. string_bytes told.0 ≡ text_of_sight (setup_in board.old) turn) }
+    ensures file { IfOk result (λ told. told.1.items ≡ sight_file (setup_in board.old) turn) }
+    ensures state { OnOk result (state_in board.new ≡ after (setup_in board.old) (own_turns (setup_in board.old) 0 turn)) }
+    ensures whole { OnOk result (IsWhole board.new ⟦<dyn System as System>⟧) }
+    ensures kinds { HaveKinds (systems board.new ⟦<dyn System as System>⟧) }
+    ensures most { AreBuiltOnceAtMost (systems board.old ⟦<dyn System as System>⟧) (systems board.new ⟦<dyn System as System>⟧) }
+    ensures setup { setup_in board.new ≡ setup_in board.old }
+{
+    let mut sight = Sight::new(alloc, board.setup())?;
+    start_following(alloc, board, orders, &mut sight, turn)?;
+    let mut text = String::new(alloc);
+    push_sight(&sight, &mut text)?;
+    Ok((text, sight.explored_bytes(alloc)?))
+}
+
+/// What the players of a match see at a turn and have explored up to it: a line for each, and the file of explored cells. The
+/// rig comes back; where there was memory, it stands for the state of that turn.
+pub fn sight_at(
+    alloc: Global,
+    setup: &Setup,
+    turn: u32,
+    rig: Rig,
+    orders: &OrderTable,
+) -> (Result<(String, Vec<u8>), OutOfMemory>, Rig)
+    requires limits { IsSetup setup.now }
+    requires turn { turn ≤ setup.now.turns }
+    requires kinds { HaveKinds (systems_of rig ⟦<dyn System as System>⟧) }
+    ensures text { IfOk result.0 (λ told. string_bytes told.0 ≡ text_of_sight setup.now turn) }
+    ensures file { IfOk result.0 (λ told. told.1.items ≡ sight_file setup.now turn) }
+    ensures fed { OnOk result.0 (AreFed setup.now (after setup.now (own_turns setup.now 0 turn)) (systems_of result.1 ⟦<dyn System as System>⟧)) }
+    ensures kinds { HaveKinds (systems_of result.1 ⟦<dyn System as System>⟧) }
+    ensures most { AreBuiltOnceAtMost (systems_of rig ⟦<dyn System as System>⟧) (systems_of result.1 ⟦<dyn System as System>⟧) }
+{
+    let mut board = Board::new(alloc, setup, rig);
+    let told = tell_from_the_start(alloc, &mut board, orders, turn);
+    let (_, rig) = board.finish();
+    (told, rig)
+}
+
+// Has a board take a state, and tells what is seen and explored at the end of its match.
+fn tell_from_a_state(
+    alloc: Global,
+    board: &mut Board<'_>,
+    state: State,
+    orders: &OrderTable,
+    sight: Sight<'_>,
+) -> Result<String, OutOfMemory>
+    requires limits { IsSetup (setup_in board.old) }
+    requires valid { IsValid (setup_in board.old) state }
+    requires kinds { HaveKinds (systems board.old ⟦<dyn System as System>⟧) }
+    requires same { sight.setup ≡ setup_in board.old }
+    ensures text { IfOk result (λ text. string_bytes text
+        ≡ text_of_vision (vision_after sight.entry (later_of (setup_in board.old) state ((setup_in board.old).turns - state.turn)))) }
+    ensures state { OnOk result (state_in board.new ≡ end_from (setup_in board.old) state) }
+    ensures whole { OnOk result (IsWhole board.new ⟦<dyn System as System>⟧) }
+    ensures kinds { HaveKinds (systems board.new ⟦<dyn System as System>⟧) }
+    ensures most { AreBuiltOnceAtMost (systems board.old ⟦<dyn System as System>⟧) (systems board.new ⟦<dyn System as System>⟧) }
+    ensures setup { setup_in board.new ≡ setup_in board.old }
+{
+    let mut sight = sight;
+    adopt_following(alloc, board, state, orders, &mut sight)?;
+    let mut text = String::new(alloc);
+    push_sight(&sight, &mut text)?;
+    Ok(text)
+}
+
+/// What the players of a match see in its last state, and have explored then, from a stored state on at which a sight was
+/// joined. The rig comes back; where there was memory, it stands for the last state.
+pub fn resight_text(
+    alloc: Global,
+    setup: &Setup,
+    state: State,
+    sight: Sight<'_>,
+    rig: Rig,
+    orders: &OrderTable,
+) -> (Result<String, OutOfMemory>, Rig)
+    requires limits { IsSetup setup.now }
+    requires valid { IsValid setup.now state }
+    requires kinds { HaveKinds (systems_of rig ⟦<dyn System as System>⟧) }
+    requires same { sight.setup ≡ setup.now }
+    ensures text { IfOk result.0 (λ text. (bytes : List ℕ) → sight.entry ≡ joined_at setup.now state bytes → length bytes ≡ setup.now.players * cells_in setup.now →
+        string_bytes text ≡ text_of_resight setup.now state bytes) }
+    ensures fed { OnOk result.0 (AreFed setup.now (end_from setup.now state) (systems_of result.1 ⟦<dyn System as System>⟧)) }
+    ensures kinds { HaveKinds (systems_of result.1 ⟦<dyn System as System>⟧) }
+    ensures most { AreBuiltOnceAtMost (systems_of rig ⟦<dyn System as System>⟧) (systems_of result.1 ⟦<dyn System as System>⟧) }
+{
+    let mut board = Board::new(alloc, setup, rig);
+    let told = tell_from_a_state(alloc, &mut board, state, orders, sight);
+    let (_, rig) = board.finish();
+    (told, rig)
+}

@@ -1,0 +1,7 @@
+-- The text is cut where the old one ended.
+use Rattle.sim_base.proofs.AppendedTexts.{IsSplitPoint-appended}
+use Rattle.sim_report.proofs.parts.push_parts.Goals as goal
+
+pub truncate-requires : goal.truncate-requires
+truncate-requires c =
+    λ _. IsSplitPoint-appended c.args.out.now c.append_templates.new.out _ c.len-length.ensures c.in-Err.ensures.err

@@ -1,0 +1,9 @@
+-- The text so far has the ways of the rows so far.
+use Rattle.std.proofs.Common.{◌≡◌, ◌++◌, take}
+use Rattle.std.specs.Prelude.{string_bytes, flat_map}
+use Rattle.sim_report.specs.Ways.{row_way}
+use Rattle.sim_report.proofs.ways.append_ways.Given as goal
+
+abbrev pub invariant-loop-row : goal.invariant-loop-row
+invariant-loop-row l =
+    string_bytes l.out ≡ string_bytes l.initial.out ++ flat_map row_way (take l.row-index l.row-items)

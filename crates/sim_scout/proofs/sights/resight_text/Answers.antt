@@ -1,9 +1,0 @@
--- What is told of a sight that was joined is told of the file.
-use Rattle.sim_board.specs.BoardWords.{setup_in}
-use Rattle.sim_scout.proofs.Later.{resumed_told}
-use Rattle.sim_scout.proofs.sights.resight_text.Goals as goal
-
-pub returns-clause-text : goal.returns-clause-text
-returns-clause-text g c =
-    resumed_told c.tell_from_a_state-told.result c.args.setup.now (setup_in c.new-board.result) c.args.state c.args.sight c.new-board.ensures.setup
-    c.tell_from_a_state-told.ensures.text
