@@ -1,21 +1,20 @@
 #!/usr/bin/env python3
-"""What territories cost: `realm` beside `play` to the same turn, in a match where a hall is built in each turn, in one where
-4,096 halls stand and nothing changes, and at turn 0 of that one.
+"""What territories cost: `realm` beside `state` of the same turn, in a match where a hall is built in each turn, in one where
+4,096 halls stand and nothing changes, and at turn 0, where all are met at once; and how that grows with their number.
 
 Usage: python3 bench/realms.py [PROGRAM [OTHER]]
 
 PROGRAM is by default the one that ./simcore has built; with OTHER another program runs beside it, by turns, and must print the
-same lines. It prints figures of processor time and of memory, and stops where a program fails. `play` makes a digest of each
-turn and `realm` makes none, so `realm` may take less.
+same lines. It prints figures of processor time and of memory, and stops where a program fails. What territories cost is the
+difference to `state`.
 """
 
 import json
 import pathlib
-import resource
 import sys
 import tempfile
 
-from runs import least_of
+from runs import least_of, peak_of
 
 TOP = pathlib.Path(__file__).resolve().parent.parent
 PROGRAMS = [pathlib.Path(word).resolve() for word in sys.argv[1:]] or [TOP / "crates/simcore/out/simcore"]
@@ -43,23 +42,24 @@ def told(path, words):
 
 
 def measure(folder, name, standing, built, turn):
+    """One match, by each program, to a turn."""
     path = pathlib.Path(folder) / "match.json"
     path.write_text(json.dumps(match(standing, built)))
     (realm, text), (state, _) = told(path, ["realm", str(turn)]), told(path, ["state", str(turn), "/dev/null"])
     held = [int(line.split()[3]) for line in text.decode().splitlines()[:PLAYERS]]
     print(f"{name}: turn {turn}, {sum(held)} cells are held")
     for program, to_realm, to_state in zip(PROGRAMS, realm, state):
-        print(f"  realm {1e3 * to_realm:8.1f} ms, state of the same turn {1e3 * to_state:8.1f} ms, by {program}")
-    if len(realm) == 2:
-        print(f"  the first program's realm costs {realm[0] / realm[1]:.2f} times the second's")
+        peak, cost = peak_of(program, ["realm", path, str(turn)]), 1e3 * (to_realm - to_state)
+        print(f"  realm {1e3 * to_realm:8.1f} ms, state {1e3 * to_state:8.1f} ms: territories {cost:8.1f} ms,",
+              f"{peak:.1f} MB, by {program}", flush=True)
 
 
 def main():
     with tempfile.TemporaryDirectory() as folder:
         measure(folder, "a hall in each turn", 64, 2000, 2000)
         measure(folder, "4,096 halls stand", HALLS, 0, 2000)
-        measure(folder, "4,096 halls are met at once", HALLS, 0, 0)
-    print(f"at most {resource.getrusage(resource.RUSAGE_CHILDREN).ru_maxrss / 1024:.1f} MB")
+        for halls in (500, 1000, 2000, HALLS):
+            measure(folder, f"{halls} halls are met at once", halls, 0, 0)
 
 
 if __name__ == "__main__":

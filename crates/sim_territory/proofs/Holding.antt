@@ -1,10 +1,10 @@
 -- The holder of a cell is found by looking at one player after another.
-use Rattle.std.proofs.Common.{◌≡◌, ℕ, zero, suc, ◌+◌, ◌<◌, ◌≤◌, Bool, true, false, cond, Option, Some, None, refl, sym, ap, ◌∙◌, subst, ◌⊎◌, ◌↔◌, ⊎_elim, inl, inr, arith}
-use Rattle.std.specs.Prelude.{◌&&◌, ◌==◌, nat_lt, nat_le, find, unwrap_or}
+use Rattle.std.proofs.Common.{◌≡◌, ℕ, zero, suc, ◌+◌, ◌<◌, ◌≤◌, Bool, true, false, cond, Option, Some, None, refl, sym, ap, ◌∙◌, subst, ◌⊎◌, ◌↔◌, inl, inr, arith}
+use Rattle.std.specs.Prelude.{◌&&◌, nat_lt, nat_le, find, unwrap_or}
 use Rattle.std.specs.List.{range_with_len, list_all}
 use Rattle.std.proofs.Math.Nat.{eq-or-lt_of_le}
-use Rattle.std.proofs.lemmas.Bool.{cases_lt, cases_eq, lt-ltb, le-ltb, le-leb, lt-leb, ne_eqb, and_from, and_left, and_right, cond-true, cond-false}
-use Rattle.sim_territory.specs.Holders.{has_most, holder_by, IsNobody, IsFirstGreatest, IsHolder, WasHeldBy, of_holder, stronger_of}
+use Rattle.std.proofs.lemmas.Bool.{cases_lt, lt-ltb, le-ltb, le-leb, lt-leb, and_from, and_left, and_right, cond-true, cond-false}
+use Rattle.sim_territory.specs.Holders.{has_most, holder_by, IsHolder}
 
 -- ---- the first number of a range that passes a test
 
@@ -168,119 +168,6 @@ holder_by-same n f g same =
 pub holder_by-holds : (n : ℕ) (f : ℕ → ℕ) → IsHolder n f (holder_by n f)
 holder_by-holds n f = let (h, m, b) = some_best f n in subst (IsHolder n f) (sym (best_is f n (n + 1) h m refl b)) (best_holds f n (n + 1) h m refl b)
 
-pub holder_by-most : (n : ℕ) (f : ℕ → ℕ) → holder_by n f ≤ n
-holder_by-most n f = ⊎_elim (λ (nobody : IsNobody n f (holder_by n f)). let none = nobody.none in omega arith) (λ (one : IsFirstGreatest n f (holder_by n f)). one.most) (holder_by-holds n f)
-
 -- and no other number is
 pub one_holder : (n : ℕ) (f : ℕ → ℕ) (h : ℕ) → (holder_by n f ≡ h) ↔ IsHolder n f h
 one_holder n f h = (λ e. subst (IsHolder n f) e (holder_by-holds n f), holder_by-is n f h)
-
--- ---- where the influence of one player changed, the holder is one of two
-
--- a player comes behind another, who has more influence, or as much and a number that is not greater
-abbrev ComesBehind : (ℕ → ℕ) → ℕ → ℕ → Type 0
-ComesBehind f k h = (f k < f h) ⊎ ((f k ≡ f h) × (h ≤ k))
-
--- one with influence behind whom all come is the holder
-is_best : (players : ℕ) (f : ℕ → ℕ) (h : ℕ) → 1 ≤ h → h ≤ players → 0 < f h → ((k : ℕ) → 1 ≤ k → k ≤ players → ComesBehind f k h) → holder_by players f ≡ h
-is_best players f h least most some behind =
-    holder_by-is players f h (inr (record { least = least; most = most; some = some; greatest = λ k a b. at_most k (behind k a b); first = λ k a b. less k b (behind k a (omega arith)) }))
-  where
-    at_most : (k : ℕ) → ComesBehind f k h → f k ≤ f h
-    at_most k (inl l) = omega arith
-    at_most k (inr e) = let same = e.0 in omega arith
-
-    less : (k : ℕ) → k < h → ComesBehind f k h → f k < f h
-    less k b (inl l) = l
-    less k b (inr e) = let above = e.1 in absurd (omega arith)
-
--- all come behind the first of the greatest
-all_behind : (players : ℕ) (f : ℕ → ℕ) (h k : ℕ) → IsFirstGreatest players f h → 1 ≤ k → k ≤ players → ComesBehind f k h
-all_behind players f h k one a b = by (cases_lt k h)
-  where
-    by : (k < h) ⊎ (h ≤ k) → ComesBehind f k h
-    by (inl l) = inl (one.first k a l)
-    by (inr le) = ⊎_elim (λ (l : f k < f h). inl l) (λ (ge : f h ≤ f k). let most = one.greatest k a b in inr (omega arith, le)) (cases_lt (f k) (f h))
-
-module _ (players : ℕ) (f : ℕ → ℕ) (player before : ℕ) (fell : Bool) (least : 1 ≤ player) (most : player ≤ players) (was : WasHeldBy players f player before fell) where
-  was_held : IsHolder players was.was before
-  was_held = subst (IsHolder players was.was) (sym was.held) (holder_by-holds players was.was)
-
-  -- himself, and each other
-  each : (h : ℕ) → ComesBehind f player h → ((k : ℕ) → 1 ≤ k → k ≤ players → (k ≡ player → ⊥) → ComesBehind f k h) → (k : ℕ) → 1 ≤ k → k ≤ players → ComesBehind f k h
-  each h own others k a b = ⊎_elim (λ (e : k ≡ player). subst (λ (j : ℕ). ComesBehind f j h) (sym e) own) (λ (ne : k ≡ player → ⊥). others k a b ne) (cases_eq k player)
-
-  -- where his influence did not fall and he held the cell, he does
-  pub holder-stays : before ≡ player → fell ≡ false → holder_by players f ≡ player
-  holder-stays is kept = by was_held
-    where
-      more : was.was player ≤ f player
-      more = was.kept kept
-
-      by : IsHolder players was.was before → holder_by players f ≡ player
-      by (inl nobody) = let none = nobody.none in absurd (omega arith)
-      by (inr held) =
-          let one = subst (IsFirstGreatest players was.was) is held in
-          let some = one.some in
-          is_best players f player least most (omega arith) (each player (inr (refl, omega arith)) (λ k a b ne. other k (was.others k a ne) (all_behind players was.was player k one a b)))
-        where
-          other : (k : ℕ) → f k ≡ was.was k → ComesBehind was.was k player → ComesBehind f k player
-          other k same (inl l) = inl (omega arith)
-          other k same (inr e) =
-              let as_much = e.0 in
-              let above = e.1 in
-              ⊎_elim (λ (l : f k < f player). inl l) (λ (ge : f player ≤ f k). inr (omega arith, above)) (cases_lt (f k) (f player))
-
-  -- where another held it, or nobody, the stronger of the two does
-  pub holder-stronger : (before ≡ player → ⊥) → holder_by players f ≡ stronger_of f before player
-  holder-stronger ne = by was_held
-    where
-      nobody_else : IsNobody players was.was before → (0 < f player) ⊎ (f player ≤ 0) → holder_by players f ≡ stronger_of f before player
-      nobody_else nobody (inl some) =
-          is_best players f player least most some (each player (inr (refl, omega arith)) (λ k a b other. let same = was.others k a other in let none = nobody.all k a b in inl (omega arith)))
-          ∙ sym (rw (nobody.none, lt-ltb 0 (f player) some) refl)
-      nobody_else nobody (inr none) =
-          holder_by-is players f 0 (inl (record {
-            none = refl;
-            all = λ k a b. ⊎_elim (λ (e : k ≡ player). let same : f k ≡ f player = ap f e in omega arith)
-                (λ (other : k ≡ player → ⊥). let same = was.others k a other in let zero_is = nobody.all k a b in omega arith) (cases_eq k player);
-          }))
-          ∙ sym (rw (nobody.none, le-ltb 0 (f player) none, le-ltb player 0 (omega arith), and_right (nat_le 0 (f player)) false refl) refl)
-
-      by : IsHolder players was.was before → holder_by players f ≡ stronger_of f before player
-      by (inl nobody) = nobody_else nobody (cases_lt 0 (f player))
-      by (inr one) = which (cases_lt (f before) (f player)) (cases_lt (f player) (f before)) (cases_lt player before)
-        where
-          kept : f before ≡ was.was before
-          kept = was.others before one.least ne
-
-          is_m : of_holder f before ≡ f before
-          is_m = let from = one.least in cond-false (before == 0) 0 (f before) (ne_eqb before 0 (λ e. omega arith))
-
-          of_others : (k : ℕ) → 1 ≤ k → k ≤ players → (k ≡ player → ⊥) → ComesBehind f k before
-          of_others k a b other = as_now (was.others k a other) (all_behind players was.was before k one a b)
-            where
-              as_now : f k ≡ was.was k → ComesBehind was.was k before → ComesBehind f k before
-              as_now same (inl l) = inl (omega (arith, l, same, kept))
-              as_now same (inr e) = inr (same ∙ e.0 ∙ sym kept, e.1)
-
-          takes : f before ≤ f player → ((f before < f player) ⊎ (player < before)) → holder_by players f ≡ player
-          takes le more =
-              let some = one.some in
-              is_best players f player least most (omega (arith, le, some, kept)) (each player (inr (refl, omega arith)) (λ k a b other. behind k more (of_others k a b other)))
-            where
-              behind : (k : ℕ) → (f before < f player) ⊎ (player < before) → ComesBehind f k before → ComesBehind f k player
-              behind k more (inl l) = inl (omega (arith, le, l))
-              behind k (inl more) (inr e) = inl (omega (arith, more, e.0))
-              behind k (inr lower) (inr e) =
-                  ⊎_elim (λ (l : f k < f player). inl l) (λ (ge : f player ≤ f k). inr (omega (arith, ge, le, e.0), omega (arith, lower, e.1))) (cases_lt (f k) (f player))
-
-          keeps : ComesBehind f player before → holder_by players f ≡ before
-          keeps own = let some = one.some in is_best players f before one.least one.most (omega (arith, some, kept)) (each before own of_others)
-
-          which : (f before < f player) ⊎ (f player ≤ f before) → (f player < f before) ⊎ (f before ≤ f player) → (player < before) ⊎ (before ≤ player) → holder_by players f ≡ stronger_of f before player
-          which (inl more) second third = takes (omega arith) (inl more) ∙ sym (rw (is_m, lt-ltb (f before) (f player) more) refl)
-          which (inr le) (inl less) third = keeps (inl less) ∙ sym (rw (is_m, le-ltb (f before) (f player) le, lt-leb (f before) (f player) less) refl)
-          which (inr le) (inr ge) (inl lower) = takes ge (inr lower) ∙ sym (rw (is_m, le-ltb (f before) (f player) le, le-leb (f before) (f player) ge, lt-ltb player before lower) refl)
-          which (inr le) (inr ge) (inr above) =
-              keeps (inr (omega (arith, le, ge), above)) ∙ sym (rw (is_m, le-ltb (f before) (f player) le, le-leb (f before) (f player) ge, le-ltb player before above) refl)

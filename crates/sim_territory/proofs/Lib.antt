@@ -3,8 +3,10 @@ pub mod Holding
 pub mod SumPlaces
 pub mod Shares
 pub mod Moving
+pub mod RowSteps
 pub mod Bases
 pub mod Following
+pub mod Finding
 pub mod Flooding
 pub mod Keeping
 pub mod Rooting

@@ -1,7 +1,8 @@
 -- A building comes or goes at one cell after another.
-use Rattle.std.proofs.Common.{◌≡◌, ℕ, ◌+◌, ◌<◌, ◌≤◌, Bool, true, false, refl, sym, ap, ◌∙◌, subst, ◌⊎◌, inl, inr, arith}
+use Rattle.std.proofs.Common.{◌≡◌, ℕ, ◌+◌, ◌-◌, ◌*◌, ◌<◌, ◌≤◌, Bool, true, false, refl, sym, ap, ◌∙◌, subst, ◌⊎◌, inl, inr, arith}
 use Rattle.std.specs.Prelude.{◌==◌, ◌&&◌, ◌||◌, nat_le, nat_lt}
-use Rattle.std.proofs.lemmas.Bool.{cases_Bool, cases_lt, cases_eq, and_parts, and_from, and_left, and_right, lt-ltb, le-leb}
+use Rattle.std.specs.Int.{abs_diff}
+use Rattle.std.proofs.lemmas.Bool.{cases_Bool, cases_lt, cases_eq, eqb-true, and_parts, and_from, and_left, and_right, lt-ltb, le-leb}
 use Rattle.std.proofs.lemmas.Bool.Decides.{nat_tests}
 use Rattle.sim_base.specs.declared.place.Cell.{Cell}
 use Rattle.sim_base.specs.Places.{Size, same_cell}
@@ -12,7 +13,7 @@ use Rattle.sim_territory.specs.declared.building.Building.{Building}
 use Rattle.sim_territory.specs.declared.sums.Sums.{Sums}
 use Rattle.sim_territory.specs.Buildings.{strength_of, share_of, SpansNear}
 use Rattle.sim_territory.specs.Tables.{size_in, sum_at, HasShapeOf, IsSummed, Moves, MayMove, IsPlaceIn, SumsMove, MaySumsMove, share_where}
-use Rattle.sim_territory.proofs.Shares.{share-own, share-other, share-weak, where-true, where-false, where-weak, where-split, where-within, far-east, far-north, left_out}
+use Rattle.sim_territory.proofs.Shares.{share-own, share-other, share-weak, where-true, where-false, where-weak, where-split, where-within, far-along, far-north, left_out}
 
 -- ---- one ground, and as many players
 
@@ -193,23 +194,28 @@ module _ (more : Bool) (b : Building) (old mid : Sums) (z west : ℕ) where
   part_moves x new le first second =
       sums_more more b (in_part z west x) (λ c. same_cell c (record { x = x; z = z })) (in_part z west (x + 1)) old mid new (λ c. part_more z west x c le) (part_apart z west x) first second
 
-  pub part_ends : (east : ℕ) → SpansNear b.cell.x b.reach old.width (west, east) → SumsMove more (share_where (in_part z west east) b) old mid → SumsMove more (share_where (in_line z) b) old mid
+  pub part_ends : (east : ℕ) → SpansNear b.cell.x (b.reach - 4 * abs_diff b.cell.z z) old.width (west, east) → SumsMove more (share_where (in_part z west east) b) old mid → SumsMove more (share_where (in_line z) b) old mid
   part_ends east spans = sums_same more (share_where (in_part z west east) b) (share_where (in_line z) b) old mid (λ player c at. same player c at.ground (cases_lt c.x west) (cases_lt c.x east))
     where
-      weak : (player : ℕ) (c : Cell) → IsOnGround (size_in old) c → (c.x < west) ⊎ (east ≤ c.x) → share_where (in_part z west east) b player c ≡ share_where (in_line z) b player c
-      weak player c on out =
-          let none = far-east b c (left_out b.cell.x b.reach old.width c.x (west, east) spans on.east out) in
+      elsewhere : (player : ℕ) (c : Cell) → in_line z c ≡ false → share_where (in_part z west east) b player c ≡ share_where (in_line z) b player c
+      elsewhere player c e = where-false (in_part z west east) b player c (and_left (c.z == z) (nat_le west c.x && nat_lt c.x east) e) ∙ sym (where-false (in_line z) b player c e)
+
+      weak : (player : ℕ) (c : Cell) → IsOnGround (size_in old) c → (c.x < west) ⊎ (east ≤ c.x) → (in_line z c ≡ true) ⊎ (in_line z c ≡ false) → share_where (in_part z west east) b player c ≡ share_where (in_line z) b player c
+      weak player c on out (inl e) =
+          let far = left_out b.cell.x (b.reach - 4 * abs_diff b.cell.z z) old.width c.x (west, east) spans on.east out in
+          let none = far-along b c (subst (λ (n : ℕ). b.reach - 4 * abs_diff b.cell.z n ≤ 10 * abs_diff b.cell.x c.x) (sym (eqb-true c.z z e)) far) in
           where-weak (in_part z west east) b player c none ∙ sym (where-weak (in_line z) b player c none)
+      weak player c on out (inr e) = elsewhere player c e
 
       inner : (player : ℕ) (c : Cell) → west ≤ c.x → c.x < east → (in_line z c ≡ true) ⊎ (in_line z c ≡ false) → share_where (in_part z west east) b player c ≡ share_where (in_line z) b player c
       inner player c le lt (inl e) =
           where-true (in_part z west east) b player c (and_from (c.z == z) (nat_le west c.x && nat_lt c.x east) e (and_from (nat_le west c.x) (nat_lt c.x east) (le-leb west c.x le) (lt-ltb c.x east lt)))
           ∙ sym (where-true (in_line z) b player c e)
-      inner player c le lt (inr e) = where-false (in_part z west east) b player c (and_left (c.z == z) (nat_le west c.x && nat_lt c.x east) e) ∙ sym (where-false (in_line z) b player c e)
+      inner player c le lt (inr e) = elsewhere player c e
 
       same : (player : ℕ) (c : Cell) → IsOnGround (size_in old) c → (c.x < west) ⊎ (west ≤ c.x) → (c.x < east) ⊎ (east ≤ c.x) → share_where (in_part z west east) b player c ≡ share_where (in_line z) b player c
-      same player c on (inl before) f = weak player c on (inl before)
-      same player c on (inr from) (inr past) = weak player c on (inr past)
+      same player c on (inl before) f = weak player c on (inl before) (cases_Bool (in_line z c))
+      same player c on (inr from) (inr past) = weak player c on (inr past) (cases_Bool (in_line z c))
       same player c on (inr from) (inl below) = inner player c from below (cases_Bool (in_line z c))
 
 -- ---- several rows

@@ -79,6 +79,16 @@ far-east b c far = let more = longer (abs_diff b.cell.x c.x) (abs_diff b.cell.z 
     less : (m o : ℕ) → b.reach ≤ m → m ≤ o → b.reach - o ≡ 0
     less m o f g = omega arith
 
+-- in another row less far is enough
+longer_across : (m n : ℕ) → 10 * m + 4 * n ≤ 14 * min m n + 10 * (max m n - min m n)
+longer_across m n = omega arith
+
+pub far-along : (b : Building) (c : Cell) → b.reach - 4 * abs_diff b.cell.z c.z ≤ 10 * abs_diff b.cell.x c.x → strength_of b c ≡ 0
+far-along b c far = let more = longer_across (abs_diff b.cell.x c.x) (abs_diff b.cell.z c.z) in less (10 * abs_diff b.cell.x c.x) (4 * abs_diff b.cell.z c.z) (octile b.cell c) far more
+  where
+    less : (m n o : ℕ) → b.reach - n ≤ m → m + n ≤ o → b.reach - o ≡ 0
+    less m n o f g = omega arith
+
 pub far-north : (b : Building) (c : Cell) → b.reach ≤ 10 * abs_diff b.cell.z c.z → strength_of b c ≡ 0
 far-north b c far = let more = longer_other (abs_diff b.cell.x c.x) (abs_diff b.cell.z c.z) in less (10 * abs_diff b.cell.z c.z) (octile b.cell c) far more
   where

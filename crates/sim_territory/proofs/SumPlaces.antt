@@ -1,18 +1,17 @@
 -- Each influence has a place of its own in the list, and each cell's holder is told by the influences there.
-use Rattle.std.proofs.Common.{◌≡◌, ℕ, ◌-◌, ◌*◌, ◌<◌, ◌≤◌, List, get_or, set, sym, ap, ◌∙◌, subst, ⊎_elim, inl, refl, length, replicate, arith, mul_comm}
-use Rattle.std.proofs.Math.Path.{fun_ext}
-use Rattle.std.proofs.lemmas.List.{get_or-set_same, get_or-set_other, length-set, get_or-replicate, length-replicate}
+use Rattle.std.proofs.Common.{◌≡◌, ℕ, ◌-◌, ◌*◌, ◌<◌, ◌≤◌, List, get_or, set, sym, ap, ◌∙◌, subst, inl, refl, length, replicate, arith, mul_comm}
+use Rattle.std.proofs.lemmas.List.{get_or-set_same, get_or-set_other, get_or-replicate, length-replicate}
 use Rattle.std.proofs.lemmas.Nat.{mul-add-lt, same_from_place}
 use Rattle.sim_base.specs.declared.place.Cell.{Cell}
 use Rattle.sim_base.specs.Places.{Size}
 use Rattle.sim_base.specs.Steps.{IsOnGround}
 use Rattle.sim_grid.specs.Grids.{place_of}
-use Rattle.sim_grid.proofs.Beside.{place-below, places-apart, same_or_not}
+use Rattle.sim_grid.proofs.Beside.{place-below, places-apart}
 use Rattle.sim_territory.specs.declared.sums.Sums.{Sums}
 use Rattle.sim_territory.proofs.Holding.{holder_by-is}
-use Rattle.sim_territory.specs.Holders.{holder_by}
-use Rattle.sim_territory.specs.Keeping.{holder_at, AreHolders}
-use Rattle.sim_territory.specs.Tables.{size_in, sum_place, sum_at, IsSummed, IsPlaceIn}
+use Rattle.sim_territory.specs.Keeping.{AreHolders}
+use Rattle.sim_territory.specs.Tables.{size_in, sum_place, sum_at, HasShapeOf, IsSummed, IsPlaceIn}
+use Rattle.sim_territory.proofs.Moving.{size-shape}
 
 pub sum_place-below : (sums : Sums) (player : ℕ) (c : Cell) → IsPlaceIn sums player c → sum_place (size_in sums) player c < sums.players * (sums.width * sums.depth)
 sum_place-below sums player c at =
@@ -41,38 +40,24 @@ module _ (size : Size) (items : List ℕ) (player : ℕ) (cell : Cell) (influenc
 abbrev at_cell : Sums → Cell → ℕ → ℕ
 at_cell sums c player = sum_at sums player c
 
--- the holders after one influence was set, and the holder of its cell found anew
-pub holders-set : (old new : Sums) (holders : List ℕ) (player : ℕ) (cell : Cell) (influence holder place : ℕ) → IsOnGround (size_in old) cell → IsSummed old new player cell influence → AreHolders old holders →
-    place ≡ place_of (size_in new) cell → holder ≡ holder_by new.players (λ p. sum_at new p cell) → AreHolders new (set holders place holder)
-holders-set old new holders player cell influence holder place on summed are at is =
-    let size_is : size_in new ≡ size_in old = size-same in
-    subst (λ (n : ℕ). AreHolders new (set holders n holder)) (sym (at ∙ ap (λ (s : Size). place_of s cell) size_is))
-    (record {
-      full = length-set holders (place_of (size_in old) cell) holder ∙ are.full ∙ ap (λ (s : Size). s.width * s.depth) (sym size_is);
-      each = subst (λ (s : Size). (c : Cell) → IsOnGround s c → holder_at s (set holders (place_of (size_in old) cell) holder) c ≡ holder_by new.players (λ p. sum_at new p c)) (sym size_is) each;
-    })
+-- a table in which the number at a player's place of a cell was set
+pub set_summed : (old new : Sums) (player : ℕ) (cell : Cell) (influence place : ℕ) → IsPlaceIn old player cell → HasShapeOf old new → new.items.items ≡ set old.items.items place influence → place ≡ sum_place (size_in old) player cell →
+    length old.items.items ≡ old.players * (old.width * old.depth) → IsSummed old new player cell influence
+set_summed old new player cell influence place at shape items is full =
+    record {
+      shape = shape;
+      here = sum_now player cell ∙ get_or-set_same old.items.items (sum_place (size_in old) player cell) influence 0 (omega (arith, full, sum_place-below old player cell at));
+      beside = λ other from ne. sum_now other cell ∙ set-beside (size_in old) old.items.items player cell influence at.least at.ground other from ne;
+      elsewhere = λ other c there ne. sum_now other c ∙ set-elsewhere (size_in old) old.items.items player cell influence at.least at.ground other c there ne;
+    }
   where
-    size-same : size_in new ≡ size_in old
-    size-same =
-        ap (λ (w : ℕ). let s : Size = record { width = w; depth = new.depth } in s) summed.shape.width
-        ∙ ap (λ (d : ℕ). let s : Size = record { width = old.width; depth = d } in s) summed.shape.depth
+    items_are : new.items.items ≡ set old.items.items (sum_place (size_in old) player cell) influence
+    items_are = items ∙ ap (λ (n : ℕ). set old.items.items n influence) is
 
-    same : (c : Cell) → IsOnGround (size_in old) c → (c ≡ cell → ⊥) → at_cell old c ≡ at_cell new c
-    same c there ne = fun_ext (λ p. sym (summed.elsewhere p c there ne))
-
-    each : (c : Cell) → IsOnGround (size_in old) c → holder_at (size_in old) (set holders (place_of (size_in old) cell) holder) c ≡ holder_by new.players (λ p. sum_at new p c)
-    each c there =
-        ⊎_elim
-        (λ (e : c ≡ cell).
-        ap (λ (v : Cell). holder_at (size_in old) (set holders (place_of (size_in old) cell) holder) v) e
-        ∙ get_or-set_same holders (place_of (size_in old) cell) holder 0 (let full = are.full in let below = place-below (size_in old) cell on in omega arith)
-        ∙ is ∙ ap (λ (v : Cell). holder_by new.players (λ p. sum_at new p v)) (sym e))
-        (λ (ne : c ≡ cell → ⊥).
-        get_or-set_other holders (place_of (size_in old) cell) (place_of (size_in old) c) holder 0 (places-apart (size_in old) c cell there on ne)
-        ∙ are.each c there
-        ∙ ap (λ (n : ℕ). holder_by n (λ p. sum_at old p c)) (sym summed.shape.players)
-        ∙ ap (holder_by new.players) (same c there ne))
-        (same_or_not c cell)
+    sum_now : (other : ℕ) (c : Cell) → sum_at new other c ≡ get_or (set old.items.items (sum_place (size_in old) player cell) influence) (sum_place (size_in old) other c) 0
+    sum_now other c =
+        ap (λ (s : Size). get_or new.items.items (sum_place s other c) 0) (size-shape old new shape)
+        ∙ ap (λ (xs : List ℕ). get_or xs (sum_place (size_in old) other c) 0) items_are
 
 -- where nobody has influence nobody holds a cell
 pub nobody_holds : (sums : Sums) (holders : List ℕ) (width depth players : ℕ) → size_in sums ≡ record { width = width; depth = depth } → sums.players ≡ players → sums.items.items ≡ replicate (players * (width * depth)) 0 → holders ≡ replicate (width * depth) 0 → AreHolders sums holders

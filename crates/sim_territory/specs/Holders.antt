@@ -1,5 +1,5 @@
 -- Who holds a cell.
-use Rattle.std.specs.Prelude.{◌≡◌, ℕ, ◌<◌, ◌≤◌, ◌⊎◌, Bool, false, ◌&&◌, ◌||◌, ◌==◌, if◌then◌else◌, nat_lt, nat_le, List, find, unwrap_or}
+use Rattle.std.specs.Prelude.{◌≡◌, ℕ, ◌<◌, ◌≤◌, ◌⊎◌, Bool, ◌&&◌, nat_lt, nat_le, List, find, unwrap_or}
 use Rattle.std.specs.List.{range_with_len, list_all}
 use Rattle.sim_base.specs.declared.place.Cell.{Cell}
 use Rattle.sim_base.specs.declared.setup.Setup.{Setup}
@@ -34,19 +34,3 @@ pub record IsFirstGreatest (players : ℕ) (influences : ℕ → ℕ) (number : 
 -- the number is that of the holder
 abbrev pub IsHolder : ℕ → (ℕ → ℕ) → ℕ → Type 0
 IsHolder players influences number = IsNobody players influences number ⊎ IsFirstGreatest players influences number
-
--- the influence of a holder, or none of nobody
-abbrev pub of_holder : (ℕ → ℕ) → ℕ → ℕ
-of_holder influences holder = if holder == 0 then 0 else influences holder
-
--- of a holder, or nobody, and a player the one with more influence, and the lesser of equals
-abbrev pub stronger_of : (ℕ → ℕ) → ℕ → ℕ → ℕ
-stronger_of influences holder player =
-    if nat_lt (of_holder influences holder) (influences player) || (nat_le (of_holder influences holder) (influences player) && nat_lt player holder) then player else holder
-
--- one player held a cell before the influence of another player or his own changed there; where it did not fall, it is as much as it was
-pub record WasHeldBy (players : ℕ) (influences : ℕ → ℕ) (player before : ℕ) (fell : Bool) : Type 0 where
-  pub was : ℕ → ℕ
-  pub held : before ≡ holder_by players was
-  pub others : (other : ℕ) → 1 ≤ other → (other ≡ player → ⊥) → influences other ≡ was other
-  pub kept : fell ≡ false → was player ≤ influences player

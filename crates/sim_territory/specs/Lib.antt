@@ -6,3 +6,4 @@ pub mod Buildings
 pub mod Tables
 pub mod Floods
 pub mod Keeping
+pub mod Found

@@ -1,7 +1,8 @@
 //! A building as the table of influences takes it: whose it is, where it stands and how far its strength reaches. It stands
 //! apart, so that no template is looked at for a cell.
 
-ghost use Rattle.std.specs.Prelude.{◌≡◌, ◌<◌, ◌≤◌, ◌*◌, ◌+◌, MatchOption};
+ghost use Rattle.std.specs.Prelude.{◌≡◌, ◌<◌, ◌≤◌, ◌*◌, ◌+◌, ◌-◌, MatchOption};
+ghost use Rattle.std.specs.Int.{abs_diff};
 ghost use Rattle.sim_base.specs.Limits.{IsSetup};
 ghost use Rattle.sim_base.specs.Steps.{IsOnGround};
 ghost use Rattle.sim_territory.specs.Buildings.{strength_of, IsBuildingOf, GivesNothing, SpansNear};
@@ -50,6 +51,20 @@ impl Building {
         ensures all { SpansNear self.now.cell.x self.now.reach width result }
     {
         span(self.cell.x, self.reach, width)
+    }
+
+    /// The columns of a ground that have all cells of a row within its reach, from the first to before the end. Of a row that is
+    /// not its own they are fewer.
+    pub fn columns_of(&self, z: u16, width: u16) -> (u16, u16)
+        requires on { self.now.cell.x < width }
+        requires narrow { width ≤ 256 }
+        requires near { self.now.reach ≤ 1280 }
+        ensures order { result.0 ≤ result.1 }
+        ensures most { result.1 ≤ width }
+        ensures all { SpansNear self.now.cell.x (self.now.reach - 4 * abs_diff self.now.cell.z z) width result }
+    {
+        let across = u32::from(self.cell.z.abs_diff(z));
+        span(self.cell.x, self.reach.saturating_sub(4 * across), width)
     }
 
     /// The rows of a ground that have all cells within its reach, from the first to before the end.

@@ -5,14 +5,16 @@
 //! and went. It stands on the trail, and on the distance and the steps of a grid.
 //!
 //! - `building`: an obstruction of a player, its strength and the cells within its reach.
-//! - `sums`: the influence of each player at each cell.
-//! - `influences`: these beside the holder of each cell, and how shifts change both.
+//! - `changes`: what a shift is about, and what it does to one number.
+//! - `sums`: the influence of each player at each cell, how shifts change it, and who holds a cell by it.
+//! - `influences`: these beside the holder of each cell, after shifts.
 //! - `flood`, `roots`: one flood from all roots.
 //! - `realm`: the territories of a match.
 //! - `laws`: who holds a cell, in the words of the rule.
 #![tactic(auto)]
 
 mod building;
+mod changes;
 mod flood;
 mod influences;
 mod laws;

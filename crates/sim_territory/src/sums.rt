@@ -2,7 +2,10 @@
 
 ghost use Rattle.std.specs.Prelude.{◌≡◌, ◌≤◌, ◌*◌, vec_len};
 
-use sim_base::{Cell, OutOfMemory};
+use crate::building::Building;
+use crate::changes::moved;
+use sim_base::{Cell, OutOfMemory, Setup};
+use sim_trail::{Mark, Shift};
 use std::alloc::Global;
 
 /// The influences of the players of a ground, from player 1 on.
@@ -19,11 +22,15 @@ pub struct Sums {
 }
 
 impl Sums {
-    ghost use Rattle.std.specs.Prelude.{◌≡◌, ◌+◌, ◌-◌, ◌*◌, ◌<◌, ◌≤◌, IfOk, replicate, slice_range};
+    ghost use Rattle.std.specs.Prelude.{◌≡◌, ◌==◌, ◌+◌, ◌-◌, ◌*◌, ◌<◌, ◌≤◌, IfOk, replicate, slice_range};
+    ghost use Rattle.sim_base.specs.Limits.{IsSetup};
     ghost use Rattle.sim_base.specs.Steps.{IsOnGround};
     ghost use Rattle.sim_grid.specs.Grids.{place_of};
-    ghost use Rattle.sim_territory.specs.Holders.{holder_by, WasHeldBy, stronger_of};
-    ghost use Rattle.sim_territory.specs.Tables.{size_in, sum_place, sum_at, IsPlaceIn, IsSummed};
+    ghost use Rattle.sim_territory.specs.Buildings.{share_of};
+    ghost use Rattle.sim_territory.specs.Found.{AreFound, AreFoundNear};
+    ghost use Rattle.sim_territory.specs.Holders.{holder_by};
+    ghost use Rattle.sim_territory.specs.Keeping.{AreHolders};
+    ghost use Rattle.sim_territory.specs.Tables.{size_in, sum_place, sum_at, IsPlaceIn, SumsMove, MaySumsMove, share_where, IsMarkIn, share_by, FitShifts, FitsShift, AreShifted, IsShifted};
 
     /// Nobody has influence anywhere.
     pub fn new(alloc: Global, width: u16, depth: u16, players: u8) -> Result<Sums, OutOfMemory>
@@ -77,15 +84,6 @@ impl Sums {
         self.items[self.place(player, cell)]
     }
 
-    /// Sets the influence of a player at a cell.
-    pub fn set(&mut self, player: u8, cell: Cell, influence: u32)
-        requires { IsPlaceIn self.old player cell }
-        ensures { IsSummed self.old self.new player cell influence }
-    {
-        let place = self.place(player, cell);
-        self.items[place] = influence;
-    }
-
     /// Who holds a cell: the least player of those with the greatest influence above 0, or 0.
     pub fn holder(&self, cell: Cell) -> u8
         requires { IsOnGround (size_in self.now) cell }
@@ -103,38 +101,53 @@ impl Sums {
         holder
     }
 
-    /// Who holds a cell, of which this was the holder before the influence of a player changed there. Mostly it is enough to look
-    /// at these two.
-    pub fn holder_after(&self, before: u8, player: u8, cell: Cell, fell: bool) -> u8
-        requires place { IsPlaceIn self.now player cell }
-        requires was { WasHeldBy self.now.players (λ other. sum_at self.now other cell) player before fell }
-        ensures { result ≡ holder_by self.now.players (λ other. sum_at self.now other cell) }
+    // Finds who holds the cells of a row within the columns, from the first to before the end.
+    fn find_row(&self, holders: &mut Vec<u8>, columns: (u16, u16), z: u16)
+        requires full { vec_len holders.old ≡ self.now.width * self.now.depth }
+        requires order { columns.0 ≤ columns.1 }
+        requires east { columns.1 ≤ self.now.width }
+        requires row { z < self.now.depth }
+        ensures { AreFound self.now columns (z, z + 1) holders.old.items holders.new.items }
     {
-        if before != player {
-            self.stronger(before, player, cell)
-        } else if fell {
-            self.holder(cell)
-        } else {
-            player
+        for x in columns.0..columns.1 {
+            let cell = Cell { x, z };
+            let place = self.cell_place(cell);
+            holders[place] = self.holder(cell);
         }
     }
 
-    // Of a holder, or nobody, and a player the one with more influence at a cell, and the lesser of equals.
-    fn stronger(&self, holder: u8, player: u8, cell: Cell) -> u8
-        requires place { IsPlaceIn self.now player cell }
-        requires holder { holder ≤ self.now.players }
-        ensures { result ≡ stronger_of (λ other. sum_at self.now other cell) holder player }
+    // Finds who holds the cells within the columns and the rows, each from the first to before the end.
+    fn find_holders(&self, holders: &mut Vec<u8>, columns: (u16, u16), rows: (u16, u16))
+        requires full { vec_len holders.old ≡ self.now.width * self.now.depth }
+        requires west { columns.0 ≤ columns.1 }
+        requires east { columns.1 ≤ self.now.width }
+        requires south { rows.0 ≤ rows.1 }
+        requires north { rows.1 ≤ self.now.depth }
+        ensures { AreFound self.now columns rows holders.old.items holders.new.items }
     {
-        let most = if holder == 0 {
-            0
-        } else {
-            self.at(holder, cell)
-        };
-        let influence = self.at(player, cell);
-        if most < influence || most <= influence && player < holder {
-            player
-        } else {
-            holder
+        for z in rows.0..rows.1 {
+            self.find_row(holders, columns, z);
+        }
+    }
+
+    /// Finds who holds each cell.
+    pub fn find_all(&self, holders: &mut Vec<u8>)
+        requires { vec_len holders.old ≡ self.now.width * self.now.depth }
+        ensures { AreHolders self.now holders.new.items }
+    {
+        self.find_holders(holders, (0, self.width), (0, self.depth));
+    }
+
+    /// Finds who holds the cells where an entity may give something.
+    pub fn find_near(&self, holders: &mut Vec<u8>, setup: &Setup, mark: &Mark)
+        requires full { vec_len holders.old ≡ self.now.width * self.now.depth }
+        requires limits { IsSetup setup.now }
+        requires mark { IsMarkIn self.now mark.now }
+        ensures { AreFoundNear setup.now mark.now self.now holders.old.items holders.new.items }
+    {
+        if let Some(building) = Building::of(setup, mark) {
+            let columns = building.columns(self.width);
+            self.find_holders(holders, columns, building.rows(self.depth));
         }
     }
 
@@ -147,5 +160,71 @@ impl Sums {
         let cells = self.cells();
         let first = usize::from(player - 1) * cells;
         &self.items.as_slice()[first..first + cells]
+    }
+
+    // A building comes or goes at the cells of a row.
+    fn shift_row(&mut self, building: &Building, z: u16, comes: bool)
+        requires place { IsPlaceIn self.old building.now.owner building.now.cell }
+        requires row { z < self.old.depth }
+        requires near { building.now.reach ≤ 1280 }
+        requires may { MaySumsMove comes (share_where (λ c. c.z == z) building.now) self.old }
+        ensures { SumsMove comes (share_where (λ c. c.z == z) building.now) self.old self.new }
+    {
+        let it = *building;
+        let first = self.place(it.owner, Cell { x: 0, z });
+        let (west, east) = it.columns_of(z, self.width);
+        for x in west..east {
+            let place = first + usize::from(x);
+            let strength = it.strength(Cell { x, z });
+            self.items[place] = moved(self.items[place], strength, comes);
+        }
+    }
+
+    // A building comes or goes.
+    fn shift_building(&mut self, building: &Building, comes: bool)
+        requires place { IsPlaceIn self.old building.now.owner building.now.cell }
+        requires near { building.now.reach ≤ 1280 }
+        requires may { MaySumsMove comes (share_of building.now) self.old }
+        ensures { SumsMove comes (share_of building.now) self.old self.new }
+    {
+        let (south, north) = building.rows(self.depth);
+        for z in south..north {
+            self.shift_row(building, z, comes);
+        }
+    }
+
+    // An entity comes or goes.
+    fn shift_mark(&mut self, setup: &Setup, mark: &Mark, comes: bool)
+        requires limits { IsSetup setup.now }
+        requires mark { IsMarkIn self.old mark.now }
+        requires may { MaySumsMove comes (share_by setup.now mark.now) self.old }
+        ensures { SumsMove comes (share_by setup.now mark.now) self.old self.new }
+    {
+        if let Some(building) = Building::of(setup, mark) {
+            self.shift_building(&building, comes);
+        }
+    }
+
+    /// Follows one shift.
+    pub fn shift(&mut self, setup: &Setup, shift: &Shift)
+        requires limits { IsSetup setup.now }
+        requires fits { FitsShift setup.now shift.now self.old }
+        ensures { IsShifted setup.now shift.now self.old self.new }
+    {
+        match shift {
+            Shift::Gone { mark } => self.shift_mark(setup, mark, false),
+            Shift::Born { mark } => self.shift_mark(setup, mark, true),
+        }
+    }
+
+    /// Follows the shifts of a trail.
+    pub fn follow(&mut self, setup: &Setup, shifts: &[Shift])
+        requires limits { IsSetup setup.now }
+        requires fit { FitShifts setup.now shifts.now self.old }
+        ensures { AreShifted setup.now shifts.now self.old self.new }
+    {
+        for shift in shifts {
+            self.shift(setup, shift);
+        }
     }
 }

@@ -1,10 +1,10 @@
 use Rattle.std.proofs.Common.{◌≤◌}
 use Rattle.sim_territory.specs.Tables.{SumsMove, share_where}
 use Rattle.sim_territory.proofs.Moving.{in_part}
-use Rattle.sim_territory.proofs.influences.Influences.shift_row.Given as goal
+use Rattle.sim_territory.proofs.sums.Sums.shift_row.Given as goal
 
 abbrev pub invariant-loop-x : goal.invariant-loop-x
 invariant-loop-x l = record {
   from : l.west ≤ l.x;
-  moved : SumsMove l.comes (share_where (in_part l.z l.west l.x) l.building) l.initial.self.sums l.self.sums;
+  moved : SumsMove l.comes (share_where (in_part l.z l.west l.x) l.it) l.initial.self l.self;
 }

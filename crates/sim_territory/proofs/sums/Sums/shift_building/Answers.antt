@@ -2,28 +2,28 @@
 use Rattle.std.proofs.Common.{◌≡◌, ℕ, subst, arith}
 use Rattle.sim_territory.specs.Tables.{SumsMove, share_where}
 use Rattle.sim_territory.proofs.Moving.{in_rows, rows_begin, rows_may, rows_move, rows_end}
-use Rattle.sim_territory.proofs.influences.Influences.shift_building.Goals as goal
+use Rattle.sim_territory.proofs.sums.Sums.shift_building.Goals as goal
 
 pub loop-z-init : goal.loop-z-init
 loop-z-init c = record {
   from = omega arith;
-  moved = rows_begin c.args.comes c.args.building.now c.args.self.now.sums c.args.self.now.sums c.rows-south.result.0;
+  moved = rows_begin c.args.comes c.args.building.now c.args.self.now c.args.self.now c.rows-south.result.0;
 }
 
 pub shift_row-requires-clause-may : goal.shift_row-requires-clause-may
-shift_row-requires-clause-may c = rows_may c.args.comes c.args.building.now c.args.self.now.sums c.loop-z.self.sums c.rows-south.result.0 c.loop-z.z c.loop-z.invariant.moved c.requires.may
+shift_row-requires-clause-may c = rows_may c.args.comes c.args.building.now c.args.self.now c.loop-z.self c.rows-south.result.0 c.loop-z.z c.loop-z.invariant.moved c.requires.may
 
 pub loop-z-preserved : goal.loop-z-preserved
 loop-z-preserved c = record {
   from = omega arith;
-  moved = rows_move c.args.comes c.args.building.now c.args.self.now.sums c.loop-z.self.sums c.rows-south.result.0 c.loop-z.z c.shift_row.new.self.sums c.loop-z.invariant.from c.loop-z.invariant.moved c.shift_row.ensures;
+  moved = rows_move c.args.comes c.args.building.now c.args.self.now c.loop-z.self c.rows-south.result.0 c.loop-z.z c.shift_row.new.self c.loop-z.invariant.from c.loop-z.invariant.moved c.shift_row.ensures;
 }
 
 pub returns : goal.returns
 returns c =
     let b = c.args.building.now in
-    let old = c.args.self.now.sums in
-    let new = c.loop-z.self.sums in
+    let old = c.args.self.now in
+    let new = c.loop-z.self in
     let south = c.rows-south.result.0 in
     let end : c.loop-z.z ≡ c.rows-south.result.1 = omega (arith, c.loop-z.auto.z-end, c.rows-south.ensures.order) in
     rows_end c.args.comes b old new south c.rows-south.result.1 c.rows-south.ensures.all

@@ -1,6 +1,6 @@
 -- One shift more is followed.
 use Rattle.sim_territory.proofs.Following.{shifts_begin, shift_fits, shift_followed, shifts_followed}
-use Rattle.sim_territory.proofs.influences.Influences.follow.Goals as goal
+use Rattle.sim_territory.proofs.influences.Influences.follow_few.Goals as goal
 
 pub loop-shift-init : goal.loop-shift-init
 loop-shift-init c = shifts_begin c.args.setup.now c.args.shifts.now c.args.self.now.sums

@@ -1,10 +1,10 @@
 use Rattle.std.proofs.Common.{◌≤◌}
 use Rattle.sim_territory.specs.Tables.{SumsMove, share_where}
 use Rattle.sim_territory.proofs.Moving.{in_rows}
-use Rattle.sim_territory.proofs.influences.Influences.shift_building.Given as goal
+use Rattle.sim_territory.proofs.sums.Sums.shift_building.Given as goal
 
 abbrev pub invariant-loop-z : goal.invariant-loop-z
 invariant-loop-z l = record {
   from : l.south ≤ l.z;
-  moved : SumsMove l.comes (share_where (in_rows l.south l.z) l.building) l.initial.self.sums l.self.sums;
+  moved : SumsMove l.comes (share_where (in_rows l.south l.z) l.building) l.initial.self l.self;
 }

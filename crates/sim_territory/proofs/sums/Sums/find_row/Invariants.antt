@@ -1,0 +1,10 @@
+use Rattle.std.proofs.Common.{◌≡◌, ◌+◌, ◌*◌}
+use Rattle.std.specs.Prelude.{vec_len}
+use Rattle.sim_territory.specs.Found.{AreFound}
+use Rattle.sim_territory.proofs.sums.Sums.find_row.Given as goal
+
+abbrev pub invariant-loop-x : goal.invariant-loop-x
+invariant-loop-x l = record {
+  full : vec_len l.holders ≡ l.self.width * l.self.depth;
+  found : AreFound l.self (l.fn.columns.0, l.x) (l.z, l.z + 1) l.initial.holders.items l.holders.items;
+}
