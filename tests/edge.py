@@ -115,6 +115,7 @@ USAGE = b"""usage: simcore play MATCH
        simcore trial SEED UNITS TURNS
        simcore sight MATCH TURN OUT
        simcore resight MATCH STATE MAP
+       simcore stock MATCH ECONOMY
        simcore realm MATCH TURN
        simcore film MATCH EVERY
        simcore parts MATCH
@@ -484,7 +485,7 @@ def pages(folder):
     """What the pages show is what the program prints, in a folder that looks like the top of the repository."""
     (folder / "simcore").symlink_to(PROGRAM)
     (folder / "examples").symlink_to(TOP / "examples")
-    for page in ("README.md", "examples/README.md", "docs/DESYNC.md", "docs/TERRITORY.md", "docs/VISION.md"):
+    for page in ("README.md", "examples/README.md", "docs/DESYNC.md", "docs/STOCKS.md", "docs/TERRITORY.md", "docs/VISION.md"):
         for command, lines in commands_of(page):
             done = subprocess.run(["bash", "-c", command.replace("/tmp/", "")], cwd=folder, stdin=subprocess.DEVNULL,
                                   stdout=subprocess.PIPE, stderr=subprocess.PIPE, timeout=120)

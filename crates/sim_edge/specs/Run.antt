@@ -12,6 +12,7 @@ use Rattle.sim_top.specs.Parts.{OfParts, PartsTold}
 use Rattle.sim_top.specs.Readiness.{IsReady, IsFaultless, IsFinal}
 use Rattle.sim_top.specs.Reads.{LacksMatch, HasEnded, IsUnfound}
 use Rattle.sim_top.specs.Sights.{TellsSights}
+use Rattle.sim_top.specs.Stocks.{OfStock, Balances}
 use Rattle.sim_top.specs.Territories.{OfRealm, Territories}
 use Rattle.sim_top.specs.Words.{asked_by, out_of}
 use Rattle.sim_top.specs.declared.status.Status.{Status}
@@ -30,6 +31,10 @@ pub record Ran (words : List (List ℕ)) (before now : Scene) (status : Status) 
   pub parts : IfSome before.held (λ files. HasEnded status → OfParts files (asked_by words) (λ setup. PartsTold setup before.told now.told))
   -- what was told of what the players see is what their rows see in the last state, and what was explored on the way to it
   pub sights : IfSome before.held (λ files. HasEnded status → TellsSights files (asked_by words) before now)
+  -- what was told of a match that is played by an economy is the state after each turn, without the commands that could not be paid, and
+  -- the exact balances
+  pub stocks : IfSome before.held (λ files. HasEnded status
+      → OfStock files (asked_by words) (λ setup economy. Balances setup economy before.told now.told))
   -- the status, the text and the saved file are those of the words, or a fault or want of memory came between
   pub answers : IfSome before.held (λ files. Meets status words files before now)
   -- over good files and without a fault the command comes to its end, or there is no memory

@@ -12,10 +12,12 @@
 //! - `shelf`, `sink`: the shelf of a system's files, and the sink of a writer.
 //! - `words`: the words of the command line, and the number that the process ends with.
 //! - `rigs`: a rig more for a run.
-//! - `running`: the run with a handler for each kind of command.
+//! - `deeds`: the handlers of deeds.
+//! - `running`: the run with a handler for each kind of command and of deed.
 #![tactic(auto)]
 
 mod again;
+mod deeds;
 mod device;
 mod faults;
 mod rigs;

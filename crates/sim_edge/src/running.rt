@@ -1,4 +1,4 @@
-//! The run with a handler for each kind of command, over any shelf and any sink. The program calls it with the real ones, and
+//! The run with a handler for each kind of command and of deed, over any shelf and any sink. The program calls it with the real ones, and
 //! the tests with those in memory.
 
 ghost use Rattle.std.specs.Prelude.{◌≡◌, All, IfOk, OnErr, length};
@@ -10,11 +10,13 @@ ghost use Rattle.sim_top.specs.Answers.{scene};
 ghost use Rattle.sim_top.specs.Words.{words_of};
 ghost use Rattle.sim_edge.specs.Run.{Ran};
 
+use crate::deeds::tributed;
 use sim_base::{Changes, Command, OutOfMemory, Setup, State};
 use sim_orders::{
     Handler, Help, OrderTable, Planner, attack_changes, delete_changes, place_changes,
     resign_changes, stop_changes, train_changes, walk_changes,
 };
+use sim_stock::{DeedFunction, DeedHandler, DeedTable};
 use sim_store::{Shelf, Sink};
 use sim_system::{Rig, System};
 use sim_top::{Status, run};
@@ -43,8 +45,8 @@ pub fn planned(
     }
 }
 
-/// Runs the words with these cleared rigs. Each kind of command has a handler of its own, and all of them plan by one function.
-/// Where there is no memory for the handlers, the run does not begin.
+/// Runs the words with these cleared rigs. Each kind of command has a handler of its own, and all of them plan by one function; each
+/// kind of deed has one too. Where there is no memory for the handlers, the run does not begin.
 pub fn run_with<S: Shelf, K: Sink>(
     alloc: Global,
     words: &[String],
@@ -66,6 +68,14 @@ pub fn run_with<S: Shelf, K: Sink>(
         let run: Planner = Box::new(alloc, planned)?;
         handlers.push(Handler { kind, run })?;
     }
-    let ended = run(alloc, words, shelf, out, rigs, &OrderTable::new(handlers));
+    let orders = OrderTable::new(handlers);
+    let tributes: DeedFunction = Box::new(alloc, tributed)?;
+    let deeds = DeedTable::new(vec![in alloc;
+        DeedHandler {
+            kind: 1,
+            run: tributes
+        },
+    ]?);
+    let ended = run(alloc, words, shelf, out, rigs, &orders, &deeds);
     Ok(ended.status)
 }

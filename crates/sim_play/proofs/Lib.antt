@@ -5,3 +5,4 @@ pub mod Starting
 pub mod PlayerLines
 pub mod Later
 pub mod ToldTurns
+pub mod PaidOnes

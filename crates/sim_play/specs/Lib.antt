@@ -3,3 +3,4 @@ pub mod Realms
 pub mod Seen
 pub mod States
 pub mod Films
+pub mod Paid

@@ -1,13 +1,15 @@
 //! A match that is played on a board, and the lines that are printed of it.
 //!
 //! It promises the lines and the states of the definition, that the systems of the rig stand for the state in which the match
-//! ends, and that each was built once at most. It stands on `sim_turn`, which plays the turns, on the sights and territories that
-//! follow their states, and on the texts of `sim_report`.
+//! ends, and that each was built once at most. It stands on `sim_turn` and `sim_stock`, which play the turns, on the sights and
+//! territories that follow their states, and on the texts of `sim_report`.
 //!
 //! - `lines`: a line for each turn of a board.
 //! - `matches`: a match from its first state or from a stored one, with a rig that is handed back.
 //! - `rejoin`: a match that a second client joins late, with a rig for each.
 //! - `trial`: the line of a trial.
+//! - `market`: the paid turns of a match with an economy; `due`: their commands; `balances`: what each player has in the end;
+//!   `paid_matches`: such a match with a rig that is handed back.
 //! - `follower`: whatever follows the states of a match.
 //! - `following`: a board that is played while something follows its states.
 //! - `realm`: the territories of a turn of a match.
@@ -16,18 +18,23 @@
 //! - `films`: the states of a match, so many turns apart.
 #![tactic(auto)]
 
+mod balances;
+mod due;
 mod films;
 mod follower;
 mod following;
 mod holdings;
 mod lines;
+mod market;
 mod matches;
+mod paid_matches;
 mod realm;
 mod rejoin;
 mod sights;
 mod trial;
 
 pub use films::film_text;
+pub use market::Market;
 pub use matches::{play_text, resume_text, state_at};
 pub use realm::realm_text;
 pub use rejoin::rejoin_text;

@@ -17,9 +17,10 @@ usage_text =
     (codes "       simcore trial SEED UNITS TURNS\n" ++
     (codes "       simcore sight MATCH TURN OUT\n" ++
     (codes "       simcore resight MATCH STATE MAP\n" ++
+    (codes "       simcore stock MATCH ECONOMY\n" ++
     (codes "       simcore realm MATCH TURN\n" ++
     (codes "       simcore film MATCH EVERY\n" ++
-    codes "       simcore parts MATCH\n"))))))))))))
+    codes "       simcore parts MATCH\n")))))))))))))
 
 -- whether a report of a turn carries a whole or a quick digest
 abbrev pub report_kind : ℕ → List ℕ
@@ -44,6 +45,10 @@ saved_line turn length digest = codes "state" ++ (spaced_number turn ++ (spaced_
 -- what a player holds of the ground: how many cells, and how many of these are rooted
 abbrev pub holding_line : ℕ → ℕ → ℕ → List ℕ
 holding_line player held rooted = codes "realm" ++ (spaced_number player ++ (codes " held" ++ (spaced_number held ++ (codes " rooted" ++ (spaced_number rooted ++ codes "\n")))))
+
+-- what a player has in the end, of food and of metal
+abbrev pub stock_line : ℕ → ℕ → ℕ → List ℕ
+stock_line player food metal = codes "stock" ++ (spaced_number player ++ (spaced_number food ++ (spaced_number metal ++ codes "\n")))
 
 -- who holds which cell, by the digest of the holders
 abbrev pub map_line : List ℕ → List ℕ

@@ -11,6 +11,7 @@
 //! - `event`: the events of a session.
 //! - `refusal`: why something is refused.
 //! - `place`: where two states differ.
+//! - `stock`: what each player has in the end.
 //! - `territory`: what each player holds of the ground.
 //! - `parts`: the templates of a match, with their parts.
 //! - `ways`: the ways of the rows of a state.
@@ -24,6 +25,7 @@ mod place;
 mod refusal;
 mod served;
 mod show;
+mod stock;
 mod territory;
 mod ways;
 
@@ -35,5 +37,6 @@ pub use place::{part_name, push_place};
 pub use refusal::{Refusal, push_refusal};
 pub use served::{push_kept, push_post, push_released};
 pub use show::push_show;
+pub use stock::push_stock;
 pub use territory::{push_holding, push_map};
 pub use ways::push_ways;

@@ -18,6 +18,7 @@ const USAGE: &str = "usage: simcore play MATCH
        simcore trial SEED UNITS TURNS
        simcore sight MATCH TURN OUT
        simcore resight MATCH STATE MAP
+       simcore stock MATCH ECONOMY
        simcore realm MATCH TURN
        simcore film MATCH EVERY
        simcore parts MATCH

@@ -1,4 +1,4 @@
-//! Why something is refused, as a line of its own. The five causes are one type, since a refused run of the program
+//! Why something is refused, as a line of its own. The six causes are one type, since a refused run of the program
 //! prints one of them and no more.
 
 ghost use Rattle.std.specs.Prelude.{◌≡◌, ◌++◌, OnOk, OnErr, string_bytes};
@@ -7,8 +7,8 @@ ghost use Rattle.sim_report.specs.Refusals.{refusal_text};
 use sim_base::OutOfMemory;
 
 /// A cause for which the program refuses what it was given: a match file, at this index of what its code speaks of; a
-/// stored state, in the file of this name; a list of steps or arrivals, at this index; a turn that the match lacks; or the
-/// explored cells of a file.
+/// stored state, in the file of this name; a list of steps or arrivals, at this index; a turn that the match lacks; the
+/// explored cells of a file; or an economy, at this index of its deeds.
 #[derive(Clone, Copy, Debug, PartialEq, Eq)]
 pub enum Refusal<'a> {
     Match { code: u8, index: u32 },
@@ -16,6 +16,7 @@ pub enum Refusal<'a> {
     List { index: u32 },
     Turn { asked: u32, turns: u32 },
     Sight { code: u8 },
+    Economy { index: u32 },
 }
 
 /// Appends the line of a refusal, or leaves the text as it was.
@@ -39,6 +40,7 @@ fn write_refusal(refusal: &Refusal, line: &mut String) -> Result<(), OutOfMemory
         Refusal::List { index } => writeln!(line, "list refused {index}")?,
         Refusal::Turn { asked, turns } => writeln!(line, "no turn {asked} of {turns}")?,
         Refusal::Sight { code } => writeln!(line, "sight refused {code}")?,
+        Refusal::Economy { index } => writeln!(line, "economy refused {index}")?,
     }
     Ok(())
 }

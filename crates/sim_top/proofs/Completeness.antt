@@ -15,12 +15,12 @@ use Rattle.sim_setup.specs.Setups.{setup_of}
 use Rattle.sim_setup.proofs.SetupLimits.{setup_of-id}
 use Rattle.sim_diff.specs.Difference.{difference_of}
 use Rattle.sim_diff.specs.declared.place.Place.{Place}
-use Rattle.sim_top.specs.Words.{Asked, asked_by, to_play, to_store, to_resume, to_rejoin, to_session, to_show, to_compare, to_serve, to_try, to_realm, to_sight, to_resight, to_film, to_parts}
-use Rattle.sim_top.specs.Outcome.{Outcome, Then, ThenStored, IsStored, IsOutcomeOf, bytes_in, match_in, session_match_in, schedule_in, steps_in, trial_match, match_by, setup_by, compare_by, state_by, store_outcome, rejoin_outcome, printed, turn_by, IsRealmOutcome, RealmAt, IsResighted, sight_outcome, map_at}
+use Rattle.sim_top.specs.Words.{Asked, asked_by, to_play, to_store, to_resume, to_rejoin, to_session, to_show, to_compare, to_serve, to_try, to_stock, to_realm, to_sight, to_resight, to_film, to_parts}
+use Rattle.sim_top.specs.Outcome.{Outcome, Then, ThenStored, IsStored, IsOutcomeOf, bytes_in, match_in, session_match_in, schedule_in, steps_in, trial_match, match_by, setup_by, compare_by, state_by, store_outcome, rejoin_outcome, printed, turn_by, economy_in, IsRealmOutcome, RealmAt, IsResighted, sight_outcome, map_at}
 use Rattle.sim_top.specs.Answers.{Scene, Meets, Causes}
 use Rattle.sim_top.specs.Readiness.{HoldsState, IsReady, IsFaultless, IsFinal}
 use Rattle.sim_top.specs.declared.status.Status.{Status}
-use Rattle.sim_top.specs.declared.status.Status.TheVariants.{Done, Differs, Usage, ReadFault, WriteFault, TooLong, MatchRefused, StateRefused, ListRefused, OutOfMemory, NoSuchTurn, NoFile, SightRefused}
+use Rattle.sim_top.specs.declared.status.Status.TheVariants.{Done, Differs, Usage, ReadFault, WriteFault, TooLong, MatchRefused, StateRefused, ListRefused, OutOfMemory, NoSuchTurn, NoFile, SightRefused, EconomyRefused}
 use Rattle.sim_top.proofs.Playing.{turn_there}
 
 -- an outcome with which a command comes to its end
@@ -107,6 +107,9 @@ ready_ends files (Some (to_compare game left right)) wanted ready h =
     ends_compared wanted (difference_of first.0 second.0) second.2
 ready_ends files (Some (to_serve name)) wanted ready h = done wanted _ refl (after_reading (schedule_in files name) ready.schedule _ wanted ready.read h)
 ready_ends files (Some (to_try seed units turns)) wanted ready h = done wanted _ refl (after_reading (trial_match seed units turns) ready.setup _ wanted ready.read h)
+ready_ends files (Some (to_stock game name)) wanted ready h =
+    done wanted _ refl (after_reading (economy_in files name ready.setup) ready.more.economy _ wanted ready.more.read
+    (after_reading (match_in files game) ready.setup _ wanted ready.read h))
 ready_ends files (Some (to_realm game turn)) wanted ready h =
     let at_turn = after_reading (match_in files game) ready.setup (RealmAt turn) wanted ready.read h in
     let told = after_reading (turn_by ready.setup turn) turn (λ turn. IsRealmOutcome ready.setup (after ready.setup (own_turns ready.setup 0 turn))) wanted (turn_there ready.setup turn ready.more) at_turn in
@@ -150,3 +153,4 @@ final ListRefused words files before now (wanted, is, status, done) caused ready
 final NoSuchTurn words files before now (wanted, is, status, done) caused ready faultless = absurd (no_end wanted NoSuchTurn status (λ e. cc) (λ e. cc) (ready_ends files (asked_by words) wanted ready is))
 final NoFile words files before now (wanted, is, status, done) caused ready faultless = absurd (no_end wanted NoFile status (λ e. cc) (λ e. cc) (ready_ends files (asked_by words) wanted ready is))
 final SightRefused words files before now (wanted, is, status, done) caused ready faultless = absurd (no_end wanted SightRefused status (λ e. cc) (λ e. cc) (ready_ends files (asked_by words) wanted ready is))
+final EconomyRefused words files before now (wanted, is, status, done) caused ready faultless = absurd (no_end wanted EconomyRefused status (λ e. cc) (λ e. cc) (ready_ends files (asked_by words) wanted ready is))

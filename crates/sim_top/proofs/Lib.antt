@@ -14,3 +14,5 @@ pub mod Films
 pub mod Parts
 pub mod Sighting
 pub mod Sights
+pub mod Stocking
+pub mod Balances

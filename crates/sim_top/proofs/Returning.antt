@@ -25,7 +25,7 @@ use Rattle.sim_top.specs.Reads.{HasEnded}
 use Rattle.sim_top.specs.Returning.{IsUnplayed, HasBegunBy, AreOfSession, RigsCameBackBy}
 use Rattle.sim_top.specs.Rigs.{StandForStored, RigStands, SecondStands, OfFirsts, HasPlayedBy, AreEightBy, clients, used}
 use Rattle.sim_top.specs.Stops.{IsState, status_of}
-use Rattle.sim_top.specs.Words.{Asked, to_play, to_store, to_resume, to_rejoin, to_session, to_show, to_compare, to_serve, to_try, to_realm, to_sight, to_resight, to_film, to_parts, is_session}
+use Rattle.sim_top.specs.Words.{Asked, to_play, to_store, to_resume, to_rejoin, to_session, to_show, to_compare, to_serve, to_try, to_stock, to_realm, to_sight, to_resight, to_film, to_parts, is_session}
 use Rattle.sim_top.specs.declared.commands.Answer.{Answer}
 use Rattle.sim_top.specs.declared.status.Status.{Status}
 use Rattle.sim_top.specs.declared.status.Status.TheVariants as status
@@ -81,6 +81,7 @@ idle_first files (Some (to_resume game name)) s none = absurd (omega (arith, non
 idle_first files (Some (to_rejoin game turn)) s none = absurd (omega (arith, none))
 idle_first files (Some (to_session game steps)) s none = absurd (omega (arith, none))
 idle_first files (Some (to_try seed units turns)) s none = absurd (omega (arith, none))
+idle_first files (Some (to_stock game name)) s none = absurd (omega (arith, none))
 idle_first files (Some (to_realm game turn)) s none = absurd (omega (arith, none))
 idle_first files (Some (to_sight game turn out)) s none = absurd (omega (arith, none))
 idle_first files (Some (to_resight game name map)) s none = absurd (omega (arith, none))

@@ -16,3 +16,4 @@ pub mod Territories
 pub mod Films
 pub mod Parts
 pub mod Sights
+pub mod Stocks

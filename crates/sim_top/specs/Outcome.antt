@@ -20,7 +20,7 @@ use Rattle.sim_lists.specs.declared.step_list.StepList.{StepList}
 use Rattle.sim_lists.specs.StepLists.{steps_of}
 use Rattle.sim_session_text.specs.SessionText.{session_text}
 use Rattle.sim_serve.specs.Served.{served_text}
-use Rattle.sim_report.specs.declared.refusal.Refusal.TheVariants.{Match, List as OfList, Turn, Sight}
+use Rattle.sim_report.specs.declared.refusal.Refusal.TheVariants.{Match, List as OfList, Turn, Sight, Economy as OfEconomy}
 use Rattle.sim_report.specs.Lines.{usage_text, saved_line}
 use Rattle.sim_report.specs.Refusals.{refusal_text, stored_text}
 use Rattle.sim_report.specs.Show.{show_text}
@@ -28,10 +28,13 @@ use Rattle.sim_report.specs.Parts.{parts_text}
 use Rattle.sim_report.specs.Places.{place_text}
 use Rattle.sim_diff.specs.Difference.{difference_of}
 use Rattle.sim_diff.specs.declared.place.Place.{Place}
-use Rattle.sim_top.specs.Words.{Asked, to_play, to_store, to_resume, to_rejoin, to_session, to_show, to_compare, to_serve, to_try, to_realm, to_sight, to_resight, to_film, to_parts, asked_by}
+use Rattle.sim_top.specs.Words.{Asked, to_play, to_store, to_resume, to_rejoin, to_session, to_show, to_compare, to_serve, to_try, to_stock, to_realm, to_sight, to_resight, to_film, to_parts, asked_by}
 use Rattle.sim_play.specs.Lines.{play_text, resume_text, rejoin_text, trial_line}
 use Rattle.sim_play.specs.Realms.{TellsRealm}
 use Rattle.sim_play.specs.Films.{film_text}
+use Rattle.sim_stock.specs.declared.economy.Economy.{Economy}
+use Rattle.sim_stock.specs.Economies.{economy_of}
+use Rattle.sim_play.specs.Paid.{stock_text}
 use Rattle.sim_territory.specs.Realms.{realm_of}
 use Rattle.sim_play.specs.Seen.{sight_text, sight_file, resight_text}
 use Rattle.sim_vision.specs.declared.fault.SightFault.{SightFault}
@@ -41,7 +44,7 @@ use Rattle.sim_vision.specs.Joining.{refusal_of}
 use Rattle.sim_vision.specs.Vision.{Vision, cells_in}
 use Rattle.sim_trial.specs.Trial.{text_of_trial}
 use Rattle.sim_top.specs.declared.status.Status.{Status}
-use Rattle.sim_top.specs.declared.status.Status.TheVariants.{Done, Differs, Usage, ReadFault, TooLong, MatchRefused, StateRefused, ListRefused, NoSuchTurn, NoFile, SightRefused}
+use Rattle.sim_top.specs.declared.status.Status.TheVariants.{Done, Differs, Usage, ReadFault, TooLong, MatchRefused, StateRefused, ListRefused, NoSuchTurn, NoFile, SightRefused, EconomyRefused}
 
 -- what a run comes to: a status, the whole text, and the file that it saves, if any
 pub record Outcome : Type 0 where
@@ -110,6 +113,20 @@ schedule_in files name = listed_by schedule_of (bytes_in files name)
 -- the list of steps of a file, for a match of so many players
 unfoldable pub steps_in : List File → List ℕ → ℕ → Result StepList Outcome
 steps_in files name players = listed_by (steps_of players) (bytes_in files name)
+
+-- the economy that was read, or the outcome of its refusal
+abbrev pub economy_by : Result Economy ℕ → Result Economy Outcome
+economy_by (Ok economy) = Ok economy
+economy_by (Err index) = Err (printed EconomyRefused (refusal_text (OfEconomy index)))
+
+-- the economy of a match that bytes are, if they were read
+abbrev pub economy_from : Setup → Result (List ℕ) Outcome → Result Economy Outcome
+economy_from setup (Ok bytes) = economy_by (economy_of setup bytes)
+economy_from setup (Err ended) = Err ended
+
+-- the economy of a match from a file
+unfoldable pub economy_in : List File → List ℕ → Setup → Result Economy Outcome
+economy_in files name setup = economy_from setup (bytes_in files name)
 
 -- an outcome of what comes next, or the one with which it ended before
 abbrev pub Then : {X : Type 0} → Result X Outcome → (X → Outcome → Type 0) → Outcome → Type 0
@@ -247,6 +264,8 @@ IsOutcomeOf files (Some (to_compare game left right)) wanted =
     Then (match_in files game) (λ setup. Then (bytes_in files left) (λ bytes. ThenStored setup left bytes (λ state. IsCompared setup right state (bytes_in files right)))) wanted
 IsOutcomeOf files (Some (to_serve name)) wanted = Then (schedule_in files name) (λ schedule wanted. wanted ≡ printed Done (served_text schedule)) wanted
 IsOutcomeOf files (Some (to_try seed units turns)) wanted = IsTrialOutcome seed units turns wanted
+IsOutcomeOf files (Some (to_stock game name)) wanted =
+    Then (match_in files game) (λ setup. Then (economy_in files name setup) (λ economy wanted. wanted ≡ printed Done (stock_text setup economy))) wanted
 IsOutcomeOf files (Some (to_realm game turn)) wanted = Then (match_in files game) (RealmAt turn) wanted
 IsOutcomeOf files (Some (to_sight game turn out)) wanted = Then (match_in files game) (λ setup wanted. wanted ≡ sight_outcome setup turn out) wanted
 IsOutcomeOf files (Some (to_resight game name map)) wanted =

@@ -7,8 +7,9 @@ use Rattle.sim_store.specs.Files.{File}
 use Rattle.sim_codec.specs.Loading.{StandsFor}
 use Rattle.sim_lists.specs.declared.schedule.Schedule.{Schedule}
 use Rattle.sim_lists.specs.declared.step_list.StepList.{StepList}
-use Rattle.sim_top.specs.Words.{Asked, to_play, to_store, to_resume, to_rejoin, to_session, to_show, to_compare, to_serve, to_try, to_realm, to_sight, to_resight, to_film, to_parts}
-use Rattle.sim_top.specs.Outcome.{bytes_in, match_in, session_match_in, schedule_in, steps_in, trial_match, map_at}
+use Rattle.sim_top.specs.Words.{Asked, to_play, to_store, to_resume, to_rejoin, to_session, to_show, to_compare, to_serve, to_try, to_stock, to_realm, to_sight, to_resight, to_film, to_parts}
+use Rattle.sim_top.specs.Outcome.{bytes_in, match_in, session_match_in, schedule_in, steps_in, trial_match, map_at, economy_in}
+use Rattle.sim_stock.specs.declared.economy.Economy.{Economy}
 use Rattle.sim_top.specs.Answers.{Scene}
 use Rattle.sim_top.specs.declared.status.Status.{Status}
 use Rattle.sim_top.specs.declared.status.Status.TheVariants.{Done, Differs, OutOfMemory}
@@ -38,6 +39,11 @@ pub record HoldsSession (files : List File) (game steps : List ℕ) : Type 0 whe
   pub read : session_match_in files game ≡ Ok setup
   pub listed : steps_in files steps setup.players ≡ Ok list
 
+-- a file is held and within its limit, and is an economy of the match
+pub record HoldsEconomy (files : List File) (setup : Setup) (name : List ℕ) : Type 0 where
+  pub economy : Economy
+  pub read : economy_in files name setup ≡ Ok economy
+
 -- so are two files, a stored state and explored cells that are taken over at it
 pub record HoldsSight (files : List File) (setup : Setup) (name map : List ℕ) : Type 0 where
   pub state : HoldsState files setup name
@@ -61,6 +67,7 @@ IsReady files (Some (to_show game name)) = HoldsMatch files game (λ setup. Hold
 IsReady files (Some (to_compare game left right)) = HoldsMatch files game (λ setup. HoldsState files setup left × HoldsState files setup right)
 IsReady files (Some (to_serve name)) = HoldsSchedule files name
 IsReady files (Some (to_try seed units turns)) = HoldsTrial seed units turns
+IsReady files (Some (to_stock game name)) = HoldsMatch files game (λ setup. HoldsEconomy files setup name)
 IsReady files (Some (to_realm game turn)) = HoldsMatch files game (λ setup. turn ≤ setup.turns)
 IsReady files (Some (to_sight game turn out)) = HoldsMatch files game (λ setup. turn ≤ setup.turns)
 IsReady files (Some (to_resight game name map)) = HoldsMatch files game (λ setup. HoldsSight files setup name map)

@@ -1,7 +1,7 @@
 -- How many bytes are read for what is asked, and which file is found missing before any memory is taken.
 use Rattle.std.specs.Prelude.{◌≡◌, ℕ, ◌+◌, List, length, Option, Some, None}
 use Rattle.sim_store.specs.Files.{File, file_in}
-use Rattle.sim_top.specs.Words.{Asked, to_play, to_store, to_resume, to_rejoin, to_session, to_show, to_compare, to_serve, to_try, to_realm, to_sight, to_resight, to_film, to_parts}
+use Rattle.sim_top.specs.Words.{Asked, to_play, to_store, to_resume, to_rejoin, to_session, to_show, to_compare, to_serve, to_try, to_stock, to_realm, to_sight, to_resight, to_film, to_parts}
 use Rattle.sim_top.specs.declared.status.Status.{Status}
 use Rattle.sim_top.specs.declared.status.Status.TheVariants.{Done, Differs, ReadFault, NoFile}
 
@@ -25,6 +25,7 @@ length_read files (to_show game stored) = length_in files game + length_in files
 length_read files (to_compare game left right) = length_in files game + length_in files left + length_in files right
 length_read files (to_serve schedule) = length_in files schedule
 length_read files (to_try seed units turns) = 0
+length_read files (to_stock game economy) = length_in files game + length_in files economy
 length_read files (to_realm game turn) = length_in files game
 length_read files (to_sight game turn out) = length_in files game
 length_read files (to_resight game stored map) = length_in files game + length_in files stored + length_in files map
@@ -42,6 +43,7 @@ length_first files (to_show game stored) = length_in files game
 length_first files (to_compare game left right) = length_in files game
 length_first files (to_serve schedule) = length_in files schedule
 length_first files (to_try seed units turns) = 0
+length_first files (to_stock game economy) = length_in files game
 length_first files (to_realm game turn) = length_in files game
 length_first files (to_sight game turn out) = length_in files game
 length_first files (to_resight game stored map) = length_in files game
@@ -63,6 +65,7 @@ LacksFirst files (to_show game stored) = Lacks files game
 LacksFirst files (to_compare game left right) = Lacks files game
 LacksFirst files (to_serve schedule) = Lacks files schedule
 LacksFirst files (to_try seed units turns) = ⊥
+LacksFirst files (to_stock game economy) = Lacks files game
 LacksFirst files (to_realm game turn) = Lacks files game
 LacksFirst files (to_sight game turn out) = Lacks files game
 LacksFirst files (to_resight game stored map) = Lacks files game

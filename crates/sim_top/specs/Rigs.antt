@@ -9,8 +9,9 @@ use Rattle.sim_system.specs.RigWords.{systems_by}
 use Rattle.sim_system.specs.declared.system.System.{Ghosts}
 use Rattle.sim_system.specs.declared.rig.Rig.{Rig}
 use Rattle.sim_play.specs.Lines.{end_from}
-use Rattle.sim_top.specs.Words.{Asked, to_play, to_store, to_resume, to_rejoin, to_session, to_show, to_compare, to_serve, to_try, to_realm, to_sight, to_resight, to_film, to_parts}
-use Rattle.sim_top.specs.Outcome.{Outcome, bytes_in, match_in, trial_match}
+use Rattle.sim_top.specs.Words.{Asked, to_play, to_store, to_resume, to_rejoin, to_session, to_show, to_compare, to_serve, to_try, to_stock, to_realm, to_sight, to_resight, to_film, to_parts}
+use Rattle.sim_top.specs.Outcome.{Outcome, bytes_in, match_in, trial_match, economy_in}
+use Rattle.sim_play.specs.Paid.{paid_state}
 use Rattle.sim_top.specs.Stops.{IsState}
 use Rattle.sim_top.specs.declared.commands.Answer.{Answer}
 use Rattle.sim_top.specs.declared.stop.Stop.{Stop}
@@ -26,6 +27,7 @@ clients (to_show game name) = 0
 clients (to_compare game left right) = 0
 clients (to_serve schedule) = 0
 clients (to_try seed units turns) = 1
+clients (to_stock game economy) = 1
 clients (to_realm game turn) = 1
 clients (to_sight game turn out) = 1
 clients (to_resight game name map) = 1
@@ -51,6 +53,10 @@ StandForTrial seed units turns t = IfOk (trial_match seed units turns) (λ setup
 abbrev pub StandForLast : List File → List ℕ → Systems → Type 0
 StandForLast files game t = IfOk (match_in files game) (λ setup. AreFed setup (after setup (own_turns setup 0 setup.turns)) t)
 
+-- the systems stand for the last paid turn of a match with an economy
+abbrev pub StandForPaid : List File → List ℕ → Setup → Systems → Type 0
+StandForPaid files name setup t = IfOk (economy_in files name setup) (λ economy. AreFed setup (paid_state setup economy setup.turns) t)
+
 -- the systems of the first rig before and after: they stand for the last state that was played, or nothing was played. What those of a
 -- session stand for is said of all of them at once.
 abbrev pub RigStands : List File → Option Asked → Systems → Systems → Type 0
@@ -64,6 +70,7 @@ RigStands files (Some (to_show game name)) s t = t ≡ s
 RigStands files (Some (to_compare game left right)) s t = t ≡ s
 RigStands files (Some (to_serve schedule)) s t = t ≡ s
 RigStands files (Some (to_try seed units turns)) s t = StandForTrial seed units turns t
+RigStands files (Some (to_stock game name)) s t = IfOk (match_in files game) (λ setup. StandForPaid files name setup t)
 RigStands files (Some (to_realm game turn)) s t = IfOk (match_in files game) (λ setup. AreFed setup (after setup (own_turns setup 0 turn)) t)
 RigStands files (Some (to_sight game turn out)) s t = IfOk (match_in files game) (λ setup. AreFed setup (after setup (own_turns setup 0 turn)) t)
 RigStands files (Some (to_resight game name map)) s t = IfOk (match_in files game) (λ setup. StandForStored setup (bytes_in files name) t)

@@ -14,7 +14,9 @@ use Rattle.sim_setup.specs.declared.fault.SetupFault.TheVariants as setup
 use Rattle.sim_lists.specs.declared.fault.ListFault.{ListFault}
 use Rattle.sim_lists.specs.declared.fault.ListFault.TheVariants as listed
 use Rattle.sim_codec.specs.Loading.{StandsFor}
-use Rattle.sim_report.specs.declared.refusal.Refusal.TheVariants.{Match, List as OfList, Turn, Sight}
+use Rattle.sim_stock.specs.declared.fault.EconomyFault.{EconomyFault}
+use Rattle.sim_stock.specs.declared.fault.EconomyFault.TheVariants as economy
+use Rattle.sim_report.specs.declared.refusal.Refusal.TheVariants.{Match, List as OfList, Turn, Sight, Economy as OfEconomy}
 use Rattle.sim_report.specs.Refusals.{refusal_text, stored_text}
 use Rattle.sim_vision.specs.declared.fault.SightFault.{SightFault}
 use Rattle.sim_vision.specs.declared.fault.SightFault.TheVariants as sights
@@ -26,7 +28,7 @@ use Rattle.sim_top.specs.Reads.{IsUnfound}
 use Rattle.sim_top.specs.declared.status.Status.{Status}
 use Rattle.sim_top.specs.declared.status.Status.TheVariants as status
 use Rattle.sim_top.specs.declared.stop.Stop.{Stop}
-use Rattle.sim_top.specs.declared.stop.Stop.TheVariants.{ReadFault, TooLong, NoFile, OutOfMemory, MatchRefused, StateRefused, ListRefused, NoSuchTurn, SightRefused}
+use Rattle.sim_top.specs.declared.stop.Stop.TheVariants.{ReadFault, TooLong, NoFile, OutOfMemory, MatchRefused, StateRefused, ListRefused, NoSuchTurn, SightRefused, EconomyRefused}
 
 -- the status with which a command ends there
 abbrev pub status_of : Stop → Status
@@ -39,6 +41,7 @@ status_of (StateRefused code name) = status.StateRefused
 status_of (ListRefused index) = status.ListRefused
 status_of (NoSuchTurn asked turns) = status.NoSuchTurn
 status_of (SightRefused code) = status.SightRefused
+status_of (EconomyRefused index) = status.EconomyRefused
 
 -- the text that it prints
 abbrev pub stop_text : Stop → List ℕ
@@ -51,6 +54,7 @@ stop_text (StateRefused code name) = stored_text code name.now
 stop_text (ListRefused index) = refusal_text (OfList index)
 stop_text (NoSuchTurn asked turns) = refusal_text (Turn asked turns)
 stop_text (SightRefused code) = refusal_text (Sight code)
+stop_text (EconomyRefused index) = refusal_text (OfEconomy index)
 
 -- the outcome with which a command ends there
 abbrev pub ended_by : Stop → Outcome
@@ -114,6 +118,11 @@ abbrev pub map_stop : SightFault → Stop
 map_stop sights.OutOfMemory = OutOfMemory
 map_stop fault = SightRefused (sight_code fault)
 
+-- why a command ends whose economy is refused
+abbrev pub economy_stop : EconomyFault → Stop
+economy_stop (economy.Refused index) = EconomyRefused index
+economy_stop economy.OutOfMemory = OutOfMemory
+
 -- these explored cells were taken over at a state
 pub record IsJoined (setup : Setup) (state : State) (taken : Result (List ℕ) Outcome) (sight : Vision) : Type 0 where
   pub bytes : List ℕ
@@ -147,6 +156,7 @@ IsOfMatch (StateRefused code name) = ⊥
 IsOfMatch (ListRefused index) = ⊥
 IsOfMatch (NoSuchTurn asked turns) = ⊥
 IsOfMatch (SightRefused code) = ⊥
+IsOfMatch (EconomyRefused index) = ⊥
 IsOfMatch other = Unit {0}
 
 -- that reads a stored state
@@ -155,6 +165,7 @@ IsOfState (MatchRefused code index) = ⊥
 IsOfState (ListRefused index) = ⊥
 IsOfState (NoSuchTurn asked turns) = ⊥
 IsOfState (SightRefused code) = ⊥
+IsOfState (EconomyRefused index) = ⊥
 IsOfState other = Unit {0}
 
 -- that reads a list
@@ -163,6 +174,7 @@ IsOfList (MatchRefused code index) = ⊥
 IsOfList (StateRefused code name) = ⊥
 IsOfList (NoSuchTurn asked turns) = ⊥
 IsOfList (SightRefused code) = ⊥
+IsOfList (EconomyRefused index) = ⊥
 IsOfList other = Unit {0}
 
 -- that reads explored cells
@@ -171,7 +183,17 @@ IsOfMap (MatchRefused code index) = ⊥
 IsOfMap (StateRefused code name) = ⊥
 IsOfMap (ListRefused index) = ⊥
 IsOfMap (NoSuchTurn asked turns) = ⊥
+IsOfMap (EconomyRefused index) = ⊥
 IsOfMap other = Unit {0}
+
+-- that reads an economy
+abbrev pub IsOfEconomy : Stop → Type 0
+IsOfEconomy (MatchRefused code index) = ⊥
+IsOfEconomy (StateRefused code name) = ⊥
+IsOfEconomy (ListRefused index) = ⊥
+IsOfEconomy (NoSuchTurn asked turns) = ⊥
+IsOfEconomy (SightRefused code) = ⊥
+IsOfEconomy other = Unit {0}
 
 -- a command ends since something is refused
 abbrev pub IsRefusal : Stop → Type 0

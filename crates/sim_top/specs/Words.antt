@@ -5,13 +5,14 @@ use Rattle.std.specs.Str.{bytes_eq}
 use Rattle.sim_base.specs.NumberText.{is_digit}
 use Rattle.sim_trial.specs.Trial.{is_trial}
 use Rattle.sim_top.specs.declared.words.Request.{Request}
-use Rattle.sim_top.specs.declared.words.Request.TheVariants.{Play, State, Resume, Rejoin, Session, Show, Compare, Serve, Trial, Realm, Sight, Resight, Film, Parts}
+use Rattle.sim_top.specs.declared.words.Request.TheVariants.{Play, State, Resume, Rejoin, Session, Show, Compare, Serve, Trial, Stock, Realm, Sight, Resight, Film, Parts}
 
 -- what is asked for: to play a match; to store the state of a turn of it in a file; to play on from a stored state; to play it with a
 -- second client that joins at a turn; to run a session of it over a list of steps; to show a stored state; to compare two; to run the
--- server over a schedule; to play the trial that is made of three numbers; to tell the territories of a turn of a match; to tell what its
--- players see at a turn, and store in a file what they have explored; to tell what they see in the end, from a stored state on and the
--- explored cells of a file; to tell the states of a match, so many turns apart; to tell the parts of its templates
+-- server over a schedule; to play the trial that is made of three numbers; to play a match by an economy; to tell the territories of a
+-- turn of a match; to tell what its players see at a turn, and store in a file what they have explored; to tell what they see in the end,
+-- from a stored state on and the explored cells of a file; to tell the states of a match, so many turns apart; to tell the parts of its
+-- templates
 pub data Asked : Type 0 where
   to_play : List ℕ → Asked
   to_store : List ℕ → ℕ → List ℕ → Asked
@@ -22,6 +23,7 @@ pub data Asked : Type 0 where
   to_compare : List ℕ → List ℕ → List ℕ → Asked
   to_serve : List ℕ → Asked
   to_try : ℕ → ℕ → ℕ → Asked
+  to_stock : List ℕ → List ℕ → Asked
   to_realm : List ℕ → ℕ → Asked
   to_sight : List ℕ → ℕ → List ℕ → Asked
   to_resight : List ℕ → List ℕ → List ℕ → Asked
@@ -39,6 +41,7 @@ asked (Show game stored) = to_show game.now stored.now
 asked (Compare game left right) = to_compare game.now left.now right.now
 asked (Serve schedule) = to_serve schedule.now
 asked (Trial seed units turns) = to_try seed units turns
+asked (Stock game economy) = to_stock game.now economy.now
 asked (Realm game turn) = to_realm game.now turn
 asked (Sight game turn out) = to_sight game.now turn out.now
 asked (Resight game stored map) = to_resight game.now stored.now map.now
@@ -84,6 +87,7 @@ asked_of_two command a b =
     else if bytes_eq command (codes "rejoin") then option_map (to_rejoin a) (turn_in b)
     else if bytes_eq command (codes "session") then Some (to_session a b)
     else if bytes_eq command (codes "show") then Some (to_show a b)
+    else if bytes_eq command (codes "stock") then Some (to_stock a b)
     else if bytes_eq command (codes "realm") then option_map (to_realm a) (turn_in b)
     else if bytes_eq command (codes "film") then option_map (to_film a) (every_in b) else None
 
@@ -154,6 +158,11 @@ reads_list other = false
 abbrev pub reads_map : Asked → Bool
 reads_map (to_resight game stored map) = true
 reads_map other = false
+
+-- whether it names a file with an economy
+abbrev pub reads_economy : Asked → Bool
+reads_economy (to_stock game economy) = true
+reads_economy other = false
 
 -- whether it names a file to be read
 abbrev pub reads_file : Asked → Bool

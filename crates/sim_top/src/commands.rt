@@ -22,6 +22,7 @@ mod seeing;
 mod serving;
 mod sessions;
 mod showing;
+mod stocks;
 mod storing;
 mod trials;
 
@@ -40,9 +41,11 @@ use sessions::session;
 use showing::show;
 use sim_base::OutOfMemory;
 use sim_orders::OrderTable;
+use sim_stock::DeedTable;
 use sim_store::Shelf;
 use sim_system::{Rig, System};
 use std::alloc::Global;
+use stocks::stock;
 use storing::store;
 use trials::trial;
 
@@ -68,6 +71,7 @@ pub fn answer_to<'w, S: Shelf>(
     shelf: &mut S,
     rigs: &mut Vec<Rig>,
     orders: &OrderTable,
+    deeds: &DeedTable,
 ) -> Result<Answer<'w>, Stop<'w>>
     requires eight { AreEight ⟦<dyn System as System>⟧ rigs.old.items }
     requires cleared { All (λ r. AreCleared (systems_of r ⟦<dyn System as System>⟧)) rigs.old.items }
@@ -85,6 +89,9 @@ pub fn answer_to<'w, S: Shelf>(
         Request::Compare { game, left, right } => compare(alloc, shelf, game, left, right),
         Request::Serve { schedule } => serve(alloc, shelf, schedule),
         Request::Trial { seed, units, turns } => trial(alloc, (seed, units, turns), rigs, orders),
+        Request::Stock { game, economy } => {
+            stock(alloc, shelf, game, economy, rigs, orders, deeds)
+        }
         Request::Realm { game, turn } => realm(alloc, shelf, game, turn, rigs, orders),
         Request::Sight { game, turn, out } => sight(alloc, shelf, game, turn, out, rigs, orders),
         Request::Resight { game, stored, map } => {

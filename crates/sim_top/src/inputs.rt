@@ -1,4 +1,4 @@
-//! What a command reads: the match of a file, a stored state of that match, explored cells, a schedule, and the match and the
+//! What a command reads: the match of a file, a stored state of that match, explored cells, an economy, a schedule, and the match and the
 //! steps of a session; and the match of a trial. What is refused without a look at its contents takes no memory.
 
 ghost use Rattle.std.specs.Prelude.{◌≡◌, List, Err, IfSome, IfOk, IfErr, IsErrAnd, Some, None, false};
@@ -9,10 +9,11 @@ ghost use Rattle.sim_codec.specs.Loading.{head_fault};
 ghost use Rattle.sim_lists.specs.Schedules.{schedule_of as schedule_of_bytes, IsSchedule};
 ghost use Rattle.sim_lists.specs.StepLists.{steps_of as steps_of_bytes, IsStepList};
 ghost use Rattle.sim_setup.specs.Setups.{setup_of as setup_of_bytes, session_setup_of as session_setup_of_bytes};
+ghost use Rattle.sim_stock.specs.Economies.{economy_of as economy_of_bytes, IsEconomy};
 ghost use Rattle.sim_store.specs.Files.{File, file_in};
 ghost use Rattle.sim_top.specs.Commands.{IsReading, shelved};
-ghost use Rattle.sim_top.specs.Outcome.{bytes_in, match_in, setup_by, session_match_in, trial_match as match_of_trial, schedule_in, steps_in, list_by, map_by, map_at};
-ghost use Rattle.sim_top.specs.Stops.{Reads, ReadsBytes, ReadsState, LoadsState, IsStateStop, IsOfContent, IsOfMatch, IsOfState, IsOfList, IsOfMap, IsMissed, Joins, ReadsCounting};
+ghost use Rattle.sim_top.specs.Outcome.{bytes_in, match_in, setup_by, session_match_in, trial_match as match_of_trial, schedule_in, steps_in, list_by, map_by, map_at, economy_by, economy_in};
+ghost use Rattle.sim_top.specs.Stops.{Reads, ReadsBytes, ReadsState, LoadsState, IsStateStop, IsOfContent, IsOfMatch, IsOfState, IsOfList, IsOfMap, IsOfEconomy, IsMissed, Joins, ReadsCounting};
 ghost use Rattle.sim_trial.specs.Trial.{IsTrial};
 ghost use Rattle.sim_vision.specs.Joining.{refusal_of};
 
@@ -21,6 +22,7 @@ use sim_base::{Setup, State};
 use sim_codec::load;
 use sim_lists::{Schedule, StepList, schedule_of, steps_of};
 use sim_setup::{session_setup_of, setup_of};
+use sim_stock::{Economy, economy_of};
 use sim_store::{Shelf, StoreFault, read_file};
 use sim_trial::trial_text;
 use sim_vision::Sight;
@@ -177,6 +179,34 @@ pub fn read_sight<'a, 'w, S: Shelf>(
 {
     let bytes = read_bytes(alloc, shelf, name)?;
     sight_of(alloc, setup, state, &bytes)
+}
+
+// The economy of a match that the bytes of a file are.
+fn economy_from<'w>(alloc: Global, setup: &Setup, bytes: &[u8]) -> Result<Economy, Stop<'w>>
+    ensures tells { Reads result (economy_by (economy_of_bytes setup.now bytes.now)) }
+    ensures limits { IfOk result (IsEconomy setup.now) }
+    ensures no_text { is_utf8 bytes.now ≡ false → result ≡ Err (Stop.EconomyRefused 0) }
+    ensures stops { IfErr result IsOfEconomy }
+    ensures content { IfErr result IsOfContent }
+{
+    Ok(economy_of(alloc, setup, bytes)?)
+}
+
+/// Reads the economy of a match from a file.
+#[tactic(auto, unfolding(crate::specs::Outcome::economy_in))]
+pub fn read_economy<'w, S: Shelf>(
+    alloc: Global,
+    shelf: &mut S,
+    setup: &Setup,
+    name: &str,
+) -> Result<Economy, Stop<'w>>
+    ensures tells { IfSome (S.held shelf.old) (λ files. Reads result (economy_in files name.now setup.now)) }
+    ensures limits { IfOk result (IsEconomy setup.now) }
+    ensures stops { IfErr result IsOfEconomy }
+    ensures reading { IsReading name.now result (shelved (S.held shelf.old) (S.counts shelf.old)) (shelved (S.held shelf.new) (S.counts shelf.new)) }
+{
+    let bytes = read_bytes(alloc, shelf, name)?;
+    economy_from(alloc, setup, &bytes)
 }
 
 // The schedule of the bytes of a file.

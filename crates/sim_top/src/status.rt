@@ -32,6 +32,8 @@ pub enum Status {
     NoFile,
     /// The explored cells of a file are refused.
     SightRefused,
+    /// The economy of a file is refused.
+    EconomyRefused,
 }
 
 impl Status {
@@ -53,6 +55,7 @@ impl Status {
             Status::NoSuchTurn => 10,
             Status::NoFile => 11,
             Status::SightRefused => 12,
+            Status::EconomyRefused => 14,
         }
     }
 }

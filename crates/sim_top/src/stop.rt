@@ -3,13 +3,14 @@
 
 ghost use Rattle.std.specs.Prelude.{◌≡◌};
 ghost use Rattle.sim_top.specs.declared.stop.Stop.TheVariants as stops;
-ghost use Rattle.sim_top.specs.Stops.{status_of, setup_stop, list_stop, map_stop, IsStateStop};
+ghost use Rattle.sim_top.specs.Stops.{status_of, setup_stop, list_stop, map_stop, economy_stop, IsStateStop};
 
 use crate::status::Status;
 use sim_base::OutOfMemory;
 use sim_codec::StateFault;
 use sim_lists::ListFault;
 use sim_setup::SetupFault;
+use sim_stock::EconomyFault;
 use sim_vision::SightFault;
 
 /// Why a command ends before it has its text.
@@ -33,6 +34,8 @@ pub enum Stop<'w> {
     NoSuchTurn { asked: u32, turns: u32 },
     /// The explored cells of a file are refused for this code.
     SightRefused { code: u8 },
+    /// The economy of a file is refused, at this deed, or at 0 for all else.
+    EconomyRefused { index: u32 },
 }
 
 impl<'w> From<OutOfMemory> for Stop<'w> {
@@ -78,6 +81,17 @@ impl<'w> From<SightFault> for Stop<'w> {
     }
 }
 
+impl<'w> From<EconomyFault> for Stop<'w> {
+    ghost from_gives = { λ fault stop. stop ≡ economy_stop fault };
+
+    fn from(fault: EconomyFault) -> Stop<'w> {
+        match fault {
+            EconomyFault::Refused { index } => Stop::EconomyRefused { index },
+            EconomyFault::OutOfMemory => Stop::OutOfMemory,
+        }
+    }
+}
+
 impl<'w> Stop<'w> {
     /// Why a command ends whose stored state, in the file of this name, is not loaded.
     pub fn of_state(fault: StateFault, name: &'w str) -> Stop<'w>
@@ -105,6 +119,7 @@ impl<'w> Stop<'w> {
             Stop::ListRefused { .. } => Status::ListRefused,
             Stop::NoSuchTurn { .. } => Status::NoSuchTurn,
             Stop::SightRefused { .. } => Status::SightRefused,
+            Stop::EconomyRefused { .. } => Status::EconomyRefused,
         }
     }
 }

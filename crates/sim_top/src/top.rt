@@ -23,6 +23,7 @@ ghost use Rattle.sim_top.specs.Reads.{LacksMatch, HasEnded, IsUnfound};
 ghost use Rattle.sim_top.specs.Returning.{RigsCameBack};
 ghost use Rattle.sim_top.specs.Rigs.{AreEight};
 ghost use Rattle.sim_top.specs.Sights.{TellsSights};
+ghost use Rattle.sim_top.specs.Stocks.{OfStock, Balances};
 ghost use Rattle.sim_top.specs.Stops.{stop_text as text_of_stop, status_of};
 ghost use Rattle.sim_top.specs.Territories.{OfRealm, Territories};
 ghost use Rattle.sim_top.specs.Words.{Asked, words_of, asked_by, out_of};
@@ -34,6 +35,7 @@ use crate::words::request_of;
 use sim_base::OutOfMemory;
 use sim_orders::OrderTable;
 use sim_report::{Refusal, push_refusal, push_usage};
+use sim_stock::DeedTable;
 use sim_store::{Shelf, Sink, StoreFault, write_file, write_out};
 use sim_system::{Rig, System};
 use std::alloc::Global;
@@ -55,6 +57,7 @@ pub fn run<S: Shelf, K: Sink>(
     out: &mut K,
     rigs: Vec<Rig>,
     orders: &OrderTable,
+    deeds: &DeedTable,
 ) -> Ended
     requires eight { length rigs.items ≡ 8 }
     requires kinds { All (λ r. HaveKinds (systems_of r ⟦<dyn System as System>⟧)) rigs.items }
@@ -82,6 +85,11 @@ pub fn run<S: Shelf, K: Sink>(
     ensures sights { IfSome (S.held shelf.old) (λ files. HasEnded result.status → TellsSights files (asked_by (words_of words.now))
         (scene (S.held shelf.old) (K.told out.old) (S.counts shelf.old) (K.faults out.old))
         (scene (S.held shelf.new) (K.told out.new) (S.counts shelf.new) (K.faults out.new))) }
+
+    // Where a match is played by an economy, what the sink was told is the state after each turn, without the commands that their
+    // players could not pay, and the exact balance of each player.
+    ensures stocks { IfSome (S.held shelf.old) (λ files. HasEnded result.status
+        → OfStock files (asked_by (words_of words.now)) (λ setup economy. Balances setup economy (K.told out.old) (K.told out.new))) }
 
     // Where the shelf tells its files, the status, the text and the saved file are those of the words, or a fault or
     // want of memory came between.
@@ -116,7 +124,7 @@ pub fn run<S: Shelf, K: Sink>(
     ensures back { RigsCameBack ⟦<dyn System as System>⟧ (asked_by (words_of words.now)) (S.held shelf.old) result.status rigs result.rigs }
 {
     let mut rigs = rigs;
-    let answer = made_answer(alloc, words, shelf, &mut rigs, orders);
+    let answer = made_answer(alloc, words, shelf, &mut rigs, orders, deeds);
     let status = finish(shelf, out, &answer);
     Ended { status, rigs }
 }
@@ -175,6 +183,7 @@ fn made_answer<'w, S: Shelf>(
     shelf: &mut S,
     rigs: &mut Vec<Rig>,
     orders: &OrderTable,
+    deeds: &DeedTable,
 ) -> Answer<'w>
     requires eight { AreEight ⟦<dyn System as System>⟧ rigs.old.items }
     requires cleared { All (λ r. AreCleared (systems_of r ⟦<dyn System as System>⟧)) rigs.old.items }
@@ -184,7 +193,7 @@ fn made_answer<'w, S: Shelf>(
     let Some(request) = request_of(words) else {
         return answered(alloc, Status::Usage, usage_text(alloc));
     };
-    match answer_to(alloc, request, shelf, rigs, orders) {
+    match answer_to(alloc, request, shelf, rigs, orders, deeds) {
         Ok(answer) => answer,
         Err(stop) => answered(alloc, stop.status(), stop_text(alloc, &stop)),
     }
@@ -228,6 +237,7 @@ fn stop_text(alloc: Global, stop: &Stop<'_>) -> Result<String, OutOfMemory>
         Stop::ListRefused { index } => Refusal::List { index },
         Stop::NoSuchTurn { asked, turns } => Refusal::Turn { asked, turns },
         Stop::SightRefused { code } => Refusal::Sight { code },
+        Stop::EconomyRefused { index } => Refusal::Economy { index },
         Stop::ReadFault | Stop::TooLong | Stop::NoFile | Stop::OutOfMemory => {
             return Ok(String::new(alloc));
         }

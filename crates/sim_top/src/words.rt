@@ -55,6 +55,11 @@ pub enum Request<'w> {
         units: u32,
         turns: u32,
     },
+    /// To play a match by the economy of a file.
+    Stock {
+        game: &'w str,
+        economy: &'w str,
+    },
     /// To tell the territories of a turn of a match.
     Realm {
         game: &'w str,
@@ -130,6 +135,12 @@ fn request_of_two<'w>(command: &str, a: &'w str, b: &'w str) -> Option<Request<'
     }
     if command == "show" {
         return Some(Request::Show { game: a, stored: b });
+    }
+    if command == "stock" {
+        return Some(Request::Stock {
+            game: a,
+            economy: b,
+        });
     }
     if command == "realm" {
         let turn = turn_of(b)?;

@@ -17,5 +17,7 @@ mod rest;
 mod steps;
 mod turns;
 
+pub use due::due_at;
 pub use playing::play;
-pub use turns::turn;
+pub use steps::obey;
+pub use turns::{run_phases, turn};

@@ -64,7 +64,19 @@ kept 2 2
 
 const TRIAL: &str = "trial 7 8 5 alive 8 f4cf71a654e6b6591dc7620ed28c6df9\n";
 
-const CASES: [Case; 9] = [
+// A camp that is told to train two walkers, of which its player can pay one.
+const CAMP: &str =
+    r#"{"size":[4,4],"closed":[],"players":[[]],"cap":4,"delay":1,"turns":1,"seed":0,"templates":[{"@name":"walker","Motion":{"Speed":4}},{"@name":"camp","Train":{"Units":"walker"}}],"entities":[["camp",1,"1.5","1.5"]],"commands":[[1,1,"train",2,0],[1,1,"train",2,0]]}"#;
+
+const ECONOMY: &str =
+    r#"{"start":[[50,0]],"prices":[["walker",30,0]],"income":[["walker",2,1]],"deeds":[]}"#;
+
+const STOCKS: &str = "turn 0 f62fc3c8daaf7e138a0146ea25f6b221
+turn 1 0d9544bb4e1d49dc65f86d786d5fd433
+stock 1 22 1
+";
+
+const CASES: [Case; 11] = [
     (&["play", "m"], &[("m", POSTS)], Status::Done, POSTS_LINES),
     (
         &["rejoin", "m", "1"],
@@ -80,6 +92,18 @@ const CASES: [Case; 9] = [
     ),
     (&["serve", "l"], &[("l", ARRIVALS)], Status::Done, SERVED),
     (&["trial", "7", "8", "5"], &[], Status::Done, TRIAL),
+    (
+        &["stock", "m", "e"],
+        &[("m", CAMP), ("e", ECONOMY)],
+        Status::Done,
+        STOCKS,
+    ),
+    (
+        &["stock", "m", "e"],
+        &[("m", CAMP), ("e", "{}")],
+        Status::EconomyRefused,
+        "economy refused 0\n",
+    ),
     (
         &["play", "m"],
         &[("m", "[]")],
@@ -175,6 +199,7 @@ fn statuses_have_their_numbers(rt: HostRuntime) {
         (Status::NoSuchTurn, 10),
         (Status::NoFile, 11),
         (Status::SightRefused, 12),
+        (Status::EconomyRefused, 14),
     ];
     for (status, number) in numbers {
         assert_eq!(rt; status.number(), number);

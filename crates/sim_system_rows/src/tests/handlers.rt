@@ -7,6 +7,7 @@ ghost use Rattle.sim_base.specs.declared.state.Row.{Row as AnyRow};
 ghost use Rattle.sim_base.specs.declared.change.Change.TheVariants.{Owner};
 ghost use Rattle.sim_client.specs.StageWords.{AreCleared};
 ghost use Rattle.sim_orders.specs.Orders.{kind_of, IsGiven, Obeys};
+ghost use Rattle.sim_stock.specs.Deeds.{deed as deed_of, IsAsked};
 ghost use Rattle.sim_system.specs.Meanings.{HaveKinds};
 ghost use Rattle.sim_system.specs.RigWords.{systems_of};
 
@@ -17,6 +18,7 @@ use sim_orders::{Handler, Help, OrderTable, Planner};
 use sim_range::Range;
 use sim_runs::games::HUTS_LEFT;
 use sim_runs::{Printed, add_rig, planned, print, rig, shelf_of, words_of};
+use sim_stock::{Deed, DeedFunction, DeedHandler, DeedTable, Stocks, tribute};
 use sim_store::{MemShelf, MemSink};
 use sim_system::{Rig, System};
 use sim_top::{Status, run};
@@ -81,6 +83,14 @@ fn resigned(
     left(alloc, state.rows.as_slice(), player)
 }
 
+// The stocks after a tribute.
+fn tributed(stocks: &Stocks, player: u8, deed: &Deed) -> Stocks
+    requires { IsAsked 1 stocks.now player deed.now }
+    ensures { result ≡ deed_of stocks.now player deed.now }
+{
+    tribute(stocks, player, deed)
+}
+
 // Runs the words with handlers of which the last plans by this function.
 fn run_here(
     alloc: Global,
@@ -88,6 +98,7 @@ fn run_here(
     shelf: &mut MemShelf,
     out: &mut MemSink,
     rigs: Vec<Rig>,
+    deeds: &DeedTable,
 ) -> Result<Status, OutOfMemory>
     requires eight { length rigs.items ≡ 8 }
     requires kinds { All (λ r. HaveKinds (systems_of r ⟦<dyn System as System>⟧)) rigs.items }
@@ -124,7 +135,8 @@ fn run_here(
             run: resign
         },
     ]?;
-    let ended = run(alloc, words, shelf, out, rigs, &OrderTable::new(handlers));
+    let orders = OrderTable::new(handlers);
+    let ended = run(alloc, words, shelf, out, rigs, &orders, deeds);
     Ok(ended.status)
 }
 
@@ -137,7 +149,14 @@ fn played(alloc: Global, file: &str) -> Result<Printed, OutOfMemory> {
     let words = words_of(alloc, &["play", "m"])?;
     let mut shelf = shelf_of(alloc, &[("m", file.as_bytes())])?;
     let mut out = MemSink::new(alloc, 100)?;
-    let status = run_here(alloc, &words, &mut shelf, &mut out, rigs)?;
+    let tributes: DeedFunction = Box::new(alloc, tributed)?;
+    let deeds = DeedTable::new(vec![in alloc;
+        DeedHandler {
+            kind: 1,
+            run: tributes
+        },
+    ]?);
+    let status = run_here(alloc, &words, &mut shelf, &mut out, rigs, &deeds)?;
     let text = String::from_utf8_lossy(alloc, out.told())?;
     Ok(Printed { status, text })
 }

@@ -40,5 +40,5 @@ loop-kind-preserved g c =
     subst (λ hs. AreKeyedBelow (λ (h : _). h.kind) hs (c.loop-kind.kind + 1)) (sym c.in_ok-push.ensures.items)
     (AreKeyedBelow-append (λ (h : _). h.kind) c.loop-kind.handlers.items _ c.loop-kind.kind refl c.loop-kind.invariant)
 
-pub new-requires-2 : goal.new-requires-2
-new-requires-2 g c kind low high = c.loop-kind.invariant.once kind low (omega (arith, high, c.loop-kind-test.false))
+pub new-orders-requires : goal.new-orders-requires
+new-orders-requires g c kind low high = c.loop-kind.invariant.once kind low (omega (arith, high, c.loop-kind-test.false))

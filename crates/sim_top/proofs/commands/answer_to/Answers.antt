@@ -76,6 +76,12 @@ returns-in-Trial-clause-back g c =
     let held = g.S.Shelf.held c.args.shelf.now in
     subst (λ (a : Asked). RigsCameBackBy (λ i v. (goal.System-dyn g (i, v)).meaning v) (Some a) held (status_made c.trial.result) c.args.rigs.now c.trial.new.rigs) (sym (ap asked c.in-Trial.is)) (c.trial.ensures.back held)
 
+pub returns-in-Stock-clause-answer : goal.returns-in-Stock-clause-answer
+returns-in-Stock-clause-answer g c = subst (λ (a : Asked). IsAnswerTo a c.stock.result (shelved (g.S.Shelf.held c.args.shelf.now) (g.S.Shelf.counts c.args.shelf.now)) (shelved (g.S.Shelf.held c.stock.new.shelf) (g.S.Shelf.counts c.stock.new.shelf))) (sym (ap asked c.in-Stock.is)) c.stock.ensures.answer
+
+pub returns-in-Stock-clause-back : goal.returns-in-Stock-clause-back
+returns-in-Stock-clause-back g c = subst (λ (a : Asked). RigsCameBackBy (λ i v. (goal.System-dyn g (i, v)).meaning v) (Some a) (g.S.Shelf.held c.args.shelf.now) (status_made c.stock.result) c.args.rigs.now c.stock.new.rigs) (sym (ap asked c.in-Stock.is)) c.stock.ensures.back
+
 pub returns-in-Realm-clause-answer : goal.returns-in-Realm-clause-answer
 returns-in-Realm-clause-answer g c = subst (λ (a : Asked). IsAnswerTo a c.realm.result (shelved (g.S.Shelf.held c.args.shelf.now) (g.S.Shelf.counts c.args.shelf.now)) (shelved (g.S.Shelf.held c.realm.new.shelf) (g.S.Shelf.counts c.realm.new.shelf))) (sym (ap asked c.in-Realm.is)) c.realm.ensures.answer
 

@@ -14,8 +14,10 @@ use Rattle.sim_top.specs.Parts.{OfParts, PartsTold}
 use Rattle.sim_top.specs.Readiness.{IsReady, IsFaultless, IsFinal}
 use Rattle.sim_top.specs.Reads.{HasEnded}
 use Rattle.sim_top.specs.Sights.{TellsSights}
+use Rattle.sim_top.specs.Stocks.{OfStock, Balances}
 use Rattle.sim_top.specs.Territories.{OfRealm, Territories}
 use Rattle.sim_top.specs.Words.{words_of, asked_by}
+use Rattle.sim_top.proofs.Balances.{balances_told}
 use Rattle.sim_top.proofs.Completeness.{final}
 use Rattle.sim_top.proofs.Ending.{told_unfound, told_usage, given_settled}
 use Rattle.sim_top.proofs.Films.{film_told}
@@ -118,6 +120,16 @@ returns-clause-sights g c =
     let now = scene (g.S.Shelf.held c.finish-status.new.shelf) (g.K.Sink.told c.finish-status.new.out) (g.S.Shelf.counts c.finish-status.new.shelf) (g.K.Sink.faults c.finish-status.new.out) in
     Told (λ files. Meets c.finish-status.result words files before now) (λ files. HasEnded c.finish-status.result → TellsSights files (asked_by words) before now) _
     (λ files h ended. sights_told c.finish-status.result words files before now h ended) (returns-clause-answers g c)
+
+-- and what was told of a match with an economy is its states and balances
+pub returns-clause-stocks : goal.returns-clause-stocks
+returns-clause-stocks g c =
+    let words = words_of c.args.words.now in
+    let before = scene (g.S.Shelf.held c.args.shelf.now) (g.K.Sink.told c.args.out.now) (g.S.Shelf.counts c.args.shelf.now) (g.K.Sink.faults c.args.out.now) in
+    let now = scene (g.S.Shelf.held c.finish-status.new.shelf) (g.K.Sink.told c.finish-status.new.out) (g.S.Shelf.counts c.finish-status.new.shelf) (g.K.Sink.faults c.finish-status.new.out) in
+    Told (λ files. Meets c.finish-status.result words files before now)
+    (λ files. HasEnded c.finish-status.result → OfStock files (asked_by words) (λ setup economy. Balances setup economy before.told now.told)) _
+    (λ files h ended. balances_told c.finish-status.result words files before now h ended) (returns-clause-answers g c)
 
 -- a run that is settled wrote without reading any more
 pub returns-clause-given : goal.returns-clause-given

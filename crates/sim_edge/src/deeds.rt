@@ -1,0 +1,14 @@
+//! The handlers of deeds that the program registers. They stand here since a handler is a function of the crate that stores it.
+
+ghost use Rattle.std.specs.Prelude.{◌≡◌};
+ghost use Rattle.sim_stock.specs.Deeds.{deed as deed_of, IsAsked};
+
+use sim_stock::{Deed, Stocks, tribute};
+
+/// The stocks after a tribute.
+pub fn tributed(stocks: &Stocks, player: u8, deed: &Deed) -> Stocks
+    requires { IsAsked 1 stocks.now player deed.now }
+    ensures { result ≡ deed_of stocks.now player deed.now }
+{
+    tribute(stocks, player, deed)
+}

@@ -1,0 +1,78 @@
+-- One paid turn more of a match: its books, its number and its line.
+use Rattle.std.proofs.Common.{◌≡◌, ℕ, zero, suc, ◌+◌, List, [], ◌++◌, All, refl, sym, ap, ◌∙◌, append_assoc, append-nil, arith}
+use Rattle.std.specs.Prelude.{codes, Result, Ok, Err, IfOk, OnOk}
+use Rattle.sim_base.specs.declared.setup.Setup.{Setup}
+use Rattle.sim_base.specs.declared.state.State.{State}
+use Rattle.sim_base.specs.Limits.{IsSetup}
+use Rattle.sim_base.specs.Spelling.{digest}
+use Rattle.sim_base.specs.Turn.{Turn, turns_in, orders_at}
+use Rattle.sim_report.specs.Lines.{turn_line}
+use Rattle.sim_turn_laws.specs.CommandLaws.{IsOrderOf}
+use Rattle.sim_turn_laws.proofs.Turning.{after_counts_turns, own_turns_are_of_players}
+use Rattle.sim_system.specs.Meanings.{Systems, AreFed}
+use Rattle.sim_board.specs.BoardWords.{AreKept}
+use Rattle.sim_stock.specs.declared.economy.Economy.{Economy}
+use Rattle.sim_stock.specs.declared.stocks.Stocks.{Stocks}
+use Rattle.sim_stock.specs.PaidTurns.{Books, books_of, books_after, kept_past, paid_turn}
+use Rattle.sim_stock.proofs.Paying.{states_are_after}
+use Rattle.sim_play.specs.Paid.{paid_state, paid_stocks, paid_lines}
+
+-- systems that nothing was told yet
+pub kept_so_far : (setup : Setup) (state : State) (s : Systems) → AreFed setup state s → AreKept s s
+kept_so_far setup state s fed = record {
+  kinds = record { ground = fed.ground.kinds; range = fed.range.kinds; watch = fed.watch.kinds; census = fed.census.kinds };
+  rebuilds = record { ground = refl; range = refl; watch = refl; census = refl };
+}
+
+-- the match's own commands of a turn are given by its players
+pub own_orders : (setup : Setup) (n : ℕ) → IsSetup setup → All (IsOrderOf setup) (orders_at (n + 1) setup.commands)
+own_orders setup n limits = own_turns_are_of_players setup n 1 limits 0 (Turn []) (omega arith)
+
+module _ (setup : Setup) (economy : Economy) where
+  kept_turns : (n : ℕ) → turns_in (kept_past setup economy n) ≡ n
+  kept_turns zero = refl
+  kept_turns (suc n) = ap suc (kept_turns n)
+
+  module _ (state : State) (stocks : Stocks) (n : ℕ) (so_far : books_of state stocks ≡ books_after setup economy n) where
+    -- the state of the books is that after the commands that were not left out
+    pub books_state : state ≡ paid_state setup economy n
+    books_state = ap (λ (books : Books). books.state) so_far ∙ states_are_after setup economy n
+
+    pub books_stocks : stocks ≡ (books_after setup economy n).stocks
+    books_stocks = ap (λ (books : Books). books.stocks) so_far
+
+    -- and stands at that turn
+    pub books_turn : state.turn ≡ n
+    books_turn = ap (λ (s : State). s.turn) books_state ∙ after_counts_turns setup (kept_past setup economy n) ∙ kept_turns n
+
+    -- one turn more
+    pub books_more : (new : State) (left : Stocks) → books_of new left ≡ paid_turn setup economy (books_of state stocks) (orders_at (suc n) setup.commands)
+        → books_of new left ≡ books_after setup economy (suc n)
+    books_more new left made = made ∙ ap (λ (books : Books). paid_turn setup economy books (orders_at (suc n) setup.commands)) so_far
+
+  -- the lines so far, and the line of one turn more
+  pub paid_lines_more : (n : ℕ) (old text more hash : List ℕ) → text ≡ old ++ paid_lines setup economy n → more ≡ text ++ turn_line (codes "turn") n hash
+      → hash ≡ digest setup (paid_state setup economy n) → more ≡ old ++ paid_lines setup economy (suc n)
+  paid_lines_more n old text more hash so_far written is =
+      let lines = paid_lines setup economy n in
+      written
+      ∙ ap (λ (xs : List ℕ). xs ++ turn_line (codes "turn") n hash) so_far
+      ∙ append_assoc old lines (turn_line (codes "turn") n hash)
+      ∙ ap (λ (d : List ℕ). old ++ (lines ++ turn_line (codes "turn") n d)) is
+
+  -- the line of turn 0
+  pub first_line : (old more hash : List ℕ) → more ≡ old ++ turn_line (codes "turn") 0 hash → hash ≡ digest setup (paid_state setup economy 0)
+      → more ≡ old ++ paid_lines setup economy 1
+  first_line old more hash written is = paid_lines_more 0 old old more hash (sym (append-nil old)) written is
+
+-- where all turns were played on a board of the same match
+pub ended_stocks : {E : Type 0} (r : Result Stocks E) (setup same : Setup) (economy : Economy) (state : State) → same ≡ setup
+    → IfOk r (λ stocks. books_of state stocks ≡ books_after same economy same.turns) → IfOk r (λ stocks. stocks ≡ paid_stocks setup economy setup.turns)
+ended_stocks (Err none) setup same economy state e is = tt
+ended_stocks (Ok stocks) setup same economy state e is = ap (λ (books : Books). books.stocks) is ∙ ap (λ (s : Setup). paid_stocks s economy s.turns) e
+
+pub ended_state : {E : Type 0} (r : Result Stocks E) (setup same : Setup) (economy : Economy) (state : State) → same ≡ setup
+    → IfOk r (λ stocks. books_of state stocks ≡ books_after same economy same.turns) → OnOk r (state ≡ paid_state setup economy setup.turns)
+ended_state (Err none) setup same economy state e is = tt
+ended_state (Ok stocks) setup same economy state e is =
+    ap (λ (books : Books). books.state) is ∙ states_are_after same economy same.turns ∙ ap (λ (s : Setup). paid_state s economy s.turns) e

@@ -1,0 +1,13 @@
+-- There is a line for each player so far.
+use Rattle.std.proofs.Common.{◌≡◌, ◌-◌, ◌++◌, ◌≤◌}
+use Rattle.std.specs.Prelude.{string_bytes}
+use Rattle.std.specs.List.{range_with_len, flat_map}
+use Rattle.sim_play.specs.Paid.{player_line}
+use Rattle.sim_play.proofs.balances.push_stocks.Given as goal
+
+abbrev pub invariant-loop-player : goal.invariant-loop-player
+invariant-loop-player l =
+    record {
+      begun : 1 ≤ l.player;
+      text : string_bytes l.out ≡ string_bytes l.initial.out ++ flat_map (player_line l.stocks) (range_with_len 1 (l.player - 1));
+    }

@@ -1,0 +1,7 @@
+-- The commands so far.
+use Rattle.std.proofs.Common.{◌≡◌, map, take}
+use Rattle.sim_base.specs.declared.setup.Timed.{Timed}
+use Rattle.sim_play.proofs.due.commands_of.Given as goal
+
+abbrev pub invariant-loop-timed : goal.invariant-loop-timed
+invariant-loop-timed l = l.commands.items ≡ map (λ (timed : Timed). timed.order) (take l.timed-index l.timeds)

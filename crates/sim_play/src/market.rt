@@ -1,0 +1,108 @@
+//! The paid turns of a match, with a line for each.
+
+ghost use Rattle.std.specs.Prelude.{◌≡◌, ◌+◌, ◌*◌, ◌^◌, ◌<◌, ◌≤◌, ◌++◌, suc, OnOk, IfOk, string_bytes};
+ghost use Rattle.sim_base.specs.Limits.{IsSetup};
+ghost use Rattle.sim_base.specs.Turn.{first_state, orders_at};
+ghost use Rattle.sim_base.specs.Validity.{IsValid};
+ghost use Rattle.sim_system.specs.Meanings.{HaveKinds, AreBuiltOnceAtMost};
+ghost use Rattle.sim_board.specs.BoardWords.{setup_in, state_in, systems, IsWhole, AreKept};
+ghost use Rattle.sim_stock.specs.Economies.{IsEconomy};
+ghost use Rattle.sim_stock.specs.PaidTurns.{books_of, books_after, paid_turn as paid_turn_by};
+ghost use Rattle.sim_stock.specs.Stocks.{total};
+ghost use Rattle.sim_play.specs.Paid.{paid_lines, paid_state, paid_stocks};
+
+use crate::due::commands_of;
+use crate::lines::push_line;
+use sim_base::OutOfMemory;
+use sim_board::Board;
+use sim_orders::OrderTable;
+use sim_stock::{DeedTable, Economy, Stocks, paid_turn};
+use sim_system::System;
+use sim_turn::due_at;
+use std::alloc::Global;
+
+/// What the paid turns of a match are played with.
+#[derive(Drop)]
+pub struct Market<'a> {
+    pub alloc: Global,
+    pub orders: &'a OrderTable,
+    pub deeds: &'a DeedTable,
+    pub economy: &'a Economy,
+}
+
+impl Market<'_> {
+    /// Starts a board and plays it to the last turn of its match, appends a line for each turn, and gives the stocks in the end.
+    pub fn start_lines(
+        &self,
+        board: &mut Board<'_>,
+        out: &mut String,
+    ) -> Result<Stocks, OutOfMemory>
+        requires limits { IsSetup (setup_in board.old) }
+        requires economy { IsEconomy (setup_in board.old) self.now.economy.now }
+        requires kinds { HaveKinds (systems board.old ⟦<dyn System as System>⟧) }
+        ensures stocks { IfOk result (λ stocks. stocks ≡ paid_stocks (setup_in board.old) self.now.economy.now (setup_in board.old).turns) }
+        ensures text { OnOk result (string_bytes out.new ≡ string_bytes out.old
+            ++ paid_lines (setup_in board.old) self.now.economy.now (suc (setup_in board.old).turns)) }
+        ensures state { OnOk result (state_in board.new ≡ paid_state (setup_in board.old) self.now.economy.now (setup_in board.old).turns) }
+        ensures whole { OnOk result (IsWhole board.new ⟦<dyn System as System>⟧) }
+        ensures kinds { HaveKinds (systems board.new ⟦<dyn System as System>⟧) }
+        ensures most { AreBuiltOnceAtMost (systems board.old ⟦<dyn System as System>⟧) (systems board.new ⟦<dyn System as System>⟧) }
+        ensures setup { setup_in board.new ≡ setup_in board.old }
+    {
+        board.start()?;
+        self.push_turns(board, out)
+    }
+
+    // Plays a board that has just started to the last turn of its match, and appends a line for each turn.
+    fn push_turns(&self, board: &mut Board<'_>, out: &mut String) -> Result<Stocks, OutOfMemory>
+        requires whole { IsWhole board.old ⟦<dyn System as System>⟧ }
+        requires valid { IsValid (setup_in board.old) (state_in board.old) }
+        requires started { state_in board.old ≡ first_state (setup_in board.old) }
+        requires economy { IsEconomy (setup_in board.old) self.now.economy.now }
+        ensures books { IfOk result (λ stocks. books_of (state_in board.new) stocks
+            ≡ books_after (setup_in board.old) self.now.economy.now (setup_in board.old).turns) }
+        ensures text { OnOk result (string_bytes out.new ≡ string_bytes out.old
+            ++ paid_lines (setup_in board.old) self.now.economy.now (suc (setup_in board.old).turns)) }
+        ensures whole { OnOk result (IsWhole board.new ⟦<dyn System as System>⟧) }
+        ensures kept { AreKept (systems board.old ⟦<dyn System as System>⟧) (systems board.new ⟦<dyn System as System>⟧) }
+        ensures setup { setup_in board.new ≡ setup_in board.old }
+    {
+        let setup = board.setup();
+        let mut stocks = self.economy.start;
+        push_line("turn", setup, board.scene().state, out)?;
+        for turn in 0..setup.turns {
+            self.play_turn(board, &mut stocks, turn + 1)?;
+            push_line("turn", setup, board.scene().state, out)?;
+        }
+        Ok(stocks)
+    }
+
+    // Plays the turn of this number with the match's own commands.
+    fn play_turn(
+        &self,
+        board: &mut Board<'_>,
+        stocks: &mut Stocks,
+        number: u32,
+    ) -> Result<(), OutOfMemory>
+        requires whole { IsWhole board.old ⟦<dyn System as System>⟧ }
+        requires valid { IsValid (setup_in board.old) (state_in board.old) }
+        requires below { (state_in board.old).turn < (setup_in board.old).turns }
+        requires number { number ≡ (state_in board.old).turn + 1 }
+        requires economy { IsEconomy (setup_in board.old) self.now.economy.now }
+        requires total { total stocks.old + 8192000 < 2 ^ 40 }
+        ensures books { OnOk result (books_of (state_in board.new) stocks.new
+            ≡ paid_turn_by (setup_in board.old) self.now.economy.now (books_of (state_in board.old) stocks.old)
+            (orders_at number (setup_in board.old).commands)) }
+        ensures total { OnOk result (total stocks.new ≤ total stocks.old + 8192000) }
+        ensures valid { OnOk result (IsValid (setup_in board.old) (state_in board.new)) }
+        ensures whole { OnOk result (IsWhole board.new ⟦<dyn System as System>⟧) }
+        ensures kept { AreKept (systems board.old ⟦<dyn System as System>⟧) (systems board.new ⟦<dyn System as System>⟧) }
+        ensures setup { setup_in board.new ≡ setup_in board.old }
+    {
+        let setup = board.setup();
+        let due = due_at(setup.commands.as_slice(), number);
+        let commands = commands_of(self.alloc, due)?;
+        let (alloc, orders, deeds) = (self.alloc, self.orders, self.deeds);
+        paid_turn(alloc, board, orders, deeds, self.economy, stocks, &commands)
+    }
+}

@@ -1,0 +1,53 @@
+//! A whole match with an economy. The systems of a rig play it, which is handed back.
+
+ghost use Rattle.std.specs.Prelude.{◌≡◌, IfOk, OnOk, string_bytes};
+ghost use Rattle.sim_base.specs.Limits.{IsSetup};
+ghost use Rattle.sim_board.specs.BoardWords.{setup_in, state_in, systems, IsWhole};
+ghost use Rattle.sim_play.specs.Paid.{paid_state, stock_text as text_of_stocks};
+ghost use Rattle.sim_stock.specs.Economies.{IsEconomy};
+ghost use Rattle.sim_system.specs.Meanings.{HaveKinds, AreFed, AreBuiltOnceAtMost};
+ghost use Rattle.sim_system.specs.RigWords.{systems_of};
+
+use crate::balances::push_stocks;
+use crate::market::Market;
+use sim_base::{OutOfMemory, Setup};
+use sim_board::Board;
+use sim_system::{Rig, System};
+
+impl Market<'_> {
+    /// The lines of a whole match, and of what each player has in the end. The rig comes back; where there was memory, it stands
+    /// for the last state.
+    pub fn stock_text(&self, setup: &Setup, rig: Rig) -> (Result<String, OutOfMemory>, Rig)
+        requires limits { IsSetup setup.now }
+        requires economy { IsEconomy setup.now self.now.economy.now }
+        requires kinds { HaveKinds (systems_of rig ⟦<dyn System as System>⟧) }
+        ensures text { IfOk result.0 (λ text. string_bytes text ≡ text_of_stocks setup.now self.now.economy.now) }
+        ensures fed { OnOk result.0 (AreFed setup.now (paid_state setup.now self.now.economy.now setup.now.turns) (systems_of result.1 ⟦<dyn System as System>⟧)) }
+        ensures kinds { HaveKinds (systems_of result.1 ⟦<dyn System as System>⟧) }
+        ensures most { AreBuiltOnceAtMost (systems_of rig ⟦<dyn System as System>⟧) (systems_of result.1 ⟦<dyn System as System>⟧) }
+    {
+        let mut board = Board::new(self.alloc, setup, rig);
+        let text = self.tell(&mut board);
+        let (_, rig) = board.finish();
+        (text, rig)
+    }
+
+    // Starts a board, plays it to the end, and tells each turn and what each player has then.
+    fn tell(&self, board: &mut Board<'_>) -> Result<String, OutOfMemory>
+        requires limits { IsSetup (setup_in board.old) }
+        requires economy { IsEconomy (setup_in board.old) self.now.economy.now }
+        requires kinds { HaveKinds (systems board.old ⟦<dyn System as System>⟧) }
+        ensures text { IfOk result (λ text. string_bytes text ≡ text_of_stocks (setup_in board.old) self.now.economy.now) }
+        ensures state { OnOk result (state_in board.new ≡ paid_state (setup_in board.old) self.now.economy.now (setup_in board.old).turns) }
+        ensures whole { OnOk result (IsWhole board.new ⟦<dyn System as System>⟧) }
+        ensures kinds { HaveKinds (systems board.new ⟦<dyn System as System>⟧) }
+        ensures most { AreBuiltOnceAtMost (systems board.old ⟦<dyn System as System>⟧) (systems board.new ⟦<dyn System as System>⟧) }
+        ensures setup { setup_in board.new ≡ setup_in board.old }
+    {
+        let setup = board.setup();
+        let mut text = String::new(self.alloc);
+        let stocks = self.start_lines(board, &mut text)?;
+        push_stocks(setup.players, &stocks, &mut text)?;
+        Ok(text)
+    }
+}

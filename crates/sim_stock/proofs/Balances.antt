@@ -1,0 +1,94 @@
+-- What deeds, prices and incomes make of all that there is.
+use Rattle.std.proofs.Common.{◌≡◌, ℕ, zero, suc, ◌+◌, ◌-◌, ◌^◌, ◌<◌, ◌≤◌, Bool, true, false, List, [], ◌∷◌, length, get_or, All, refl, arith}
+use Rattle.std.specs.Prelude.{◌==◌, ◌&&◌, nat_le, sum, IsTrue, if◌then◌else◌}
+use Rattle.std.proofs.Math.ListN.{set}
+use Rattle.std.proofs.lemmas.Bool.{and_parts, leb-true}
+use Rattle.std.proofs.lemmas.List.Sums.{sum_by-cons, get_or-le-sum_by}
+use Rattle.sim_base.specs.Limits.{IsFrom}
+use Rattle.sim_stock.specs.declared.stocks.Stocks.{Stocks}
+use Rattle.sim_stock.specs.declared.deed.Deed.{Deed}
+use Rattle.sim_stock.specs.declared.deed.Deed.TheVariants.{Tribute}
+use Rattle.sim_stock.specs.declared.deed.DatedDeed.{DatedDeed}
+use Rattle.sim_stock.specs.declared.rate.Rate.{Rate}
+use Rattle.sim_stock.specs.Stocks.{amounts, amount_of, with_amount, gained, spent, total, AreBelow}
+use Rattle.sim_stock.specs.Deeds.{kind_of, given, deed, IsDeedOf, IsDatedDeed, IsAsked}
+use Rattle.sim_stock.specs.PaidTurns.{affords, earned, paid}
+
+-- one amount is at most the sum
+at_most_sum : (xs : List ℕ) (i : ℕ) → get_or xs i 0 ≤ sum xs
+at_most_sum [] i = omega arith
+at_most_sum (x ∷ xs) zero = omega (arith, sum_by-cons (λ (y : ℕ). y) x xs)
+at_most_sum (x ∷ xs) (suc i) = omega (arith, sum_by-cons (λ (y : ℕ). y) x xs, at_most_sum xs i)
+
+-- an amount that rises
+sum_more : (xs : List ℕ) (i a : ℕ) → sum (set xs i (get_or xs i 0 + a)) ≤ sum xs + a
+sum_more [] i a = omega arith
+sum_more (x ∷ xs) zero a = omega (arith, sum_by-cons (λ (y : ℕ). y) x xs, sum_by-cons (λ (y : ℕ). y) (x + a) xs)
+sum_more (x ∷ xs) (suc i) a = omega (arith, sum_by-cons (λ (y : ℕ). y) x xs, sum_by-cons (λ (y : ℕ). y) x (set xs i (get_or xs i 0 + a)), sum_more xs i a)
+
+-- an amount that falls
+sum_less : (xs : List ℕ) (i a : ℕ) → a ≤ get_or xs i 0 → sum (set xs i (get_or xs i 0 - a)) + a ≤ sum xs
+sum_less [] i a le = omega (arith, le)
+sum_less (x ∷ xs) zero a le = omega (arith, le, sum_by-cons (λ (y : ℕ). y) x xs, sum_by-cons (λ (y : ℕ). y) (x - a) xs)
+sum_less (x ∷ xs) (suc i) a le = omega (arith, sum_by-cons (λ (y : ℕ). y) x xs, sum_by-cons (λ (y : ℕ). y) x (set xs i (get_or xs i 0 - a)), sum_less xs i a le)
+
+more_by : (b : Bool) (i a : ℕ) (q : Stocks) →
+    total (if b then record q { food = set q.food i (get_or (if b then q.food else q.metal) i 0 + a) } else record q { metal = set q.metal i (get_or (if b then q.food else q.metal) i 0 + a) }) ≤ total q + a
+more_by true i a q = omega (arith, sum_more q.food i a)
+more_by false i a q = omega (arith, sum_more q.metal i a)
+
+less_by : (b : Bool) (i a : ℕ) (q : Stocks) → a ≤ get_or (if b then q.food else q.metal) i 0 →
+    total (if b then record q { food = set q.food i (get_or (if b then q.food else q.metal) i 0 - a) } else record q { metal = set q.metal i (get_or (if b then q.food else q.metal) i 0 - a) }) + a ≤ total q
+less_by true i a q le = omega (arith, sum_less q.food i a le)
+less_by false i a q le = omega (arith, sum_less q.metal i a le)
+
+-- what one player gets, there is at most more
+pub gained_total : (player good a : ℕ) (q : Stocks) → total (gained player good a q) ≤ total q + a
+gained_total player good a q = more_by (good == 0) (player - 1) a q
+
+-- what one player gives away, there is less
+pub spent_total : (player good a : ℕ) (q : Stocks) → a ≤ amount_of player good q → total (spent player good a q) + a ≤ total q
+spent_total player good a q le = less_by (good == 0) (player - 1) a q le
+
+-- no player has more than there is
+pub food_within : (q : Stocks) (i : ℕ) → get_or q.food i 0 ≤ total q
+food_within q i = omega (arith, at_most_sum q.food i)
+
+pub metal_within : (q : Stocks) (i : ℕ) → get_or q.metal i 0 ≤ total q
+metal_within q i = omega (arith, at_most_sum q.metal i)
+
+-- where all that there is is below a limit, each amount is
+pub all_below : (limit : ℕ) (q : Stocks) → total q < limit → AreBelow limit q
+all_below limit q below = record {
+  food = λ k d lt. let within = get_or-le-sum_by (λ (y : ℕ). y) q.food k d lt in omega (arith, within, below);
+  metal = λ k d lt. let within = get_or-le-sum_by (λ (y : ℕ). y) q.metal k d lt in omega (arith, within, below);
+}
+
+given_by : (b : Bool) (q new : Stocks) (player good a : ℕ) → nat_le a (amount_of player good q) ≡ b → (a ≤ amount_of player good q → total new ≤ total q) →
+    total (if b then new else q) ≤ total q
+given_by true q new player good a is then_is = then_is (leb-true a (amount_of player good q) is)
+given_by false q new player good a is then_is = omega arith
+
+-- a deed may be done on stocks that are below the limit
+pub asked_for : (q : Stocks) (dated : DatedDeed) → IsDatedDeed dated → total q < 2 ^ 40 → IsAsked (kind_of dated.deed) q dated.player dated.deed
+asked_for q dated is below = record { below = all_below (2 ^ 40) q below; player_is = is.player_is; kind_is = refl; deed_is = is.deed_is }
+
+-- an income adds its two amounts at most
+pub earned_total : (player : ℕ) (rate : Rate) (q : Stocks) → total (earned player rate q) ≤ total q + rate.food + rate.metal
+earned_total player rate q = omega (arith, gained_total player 0 rate.food q, gained_total player 1 rate.metal (gained player 0 rate.food q))
+
+-- no deed makes the stocks more
+pub deed_total : (q : Stocks) (player : ℕ) (d : Deed) → total (deed q player d) ≤ total q
+deed_total q player (Tribute other good a) =
+    given_by (nat_le a (amount_of player good q)) q (gained other good a (spent player good a q)) player good a refl (λ le.
+    omega (arith, spent_total player good a q le, gained_total other good a (spent player good a q)))
+
+-- a price takes its two amounts away
+pub paid_total : (player : ℕ) (rate : Rate) (q : Stocks) → affords player rate q ≡ true → total (paid player rate q) ≤ total q
+paid_total player rate q can =
+    let (food, metal) = and_parts (nat_le rate.food (amount_of player 0 q)) (nat_le rate.metal (amount_of player 1 q)) can in
+    omega (
+      arith,
+      spent_total player 0 rate.food q (leb-true rate.food (amount_of player 0 q) food),
+      spent_total player 1 rate.metal (spent player 0 rate.food q) (leb-true rate.metal (amount_of player 1 q) metal),
+    )

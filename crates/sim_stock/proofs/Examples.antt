@@ -1,0 +1,20 @@
+-- Worked examples of deeds, computed.
+use Rattle.std.proofs.Common.{◌≡◌, ℕ, [], ◌∷◌, refl}
+use Rattle.sim_stock.specs.declared.stocks.Stocks.{Stocks}
+use Rattle.sim_stock.specs.declared.deed.Deed.TheVariants.{Tribute}
+use Rattle.sim_stock.specs.Deeds.{deed}
+
+-- the stocks of two players
+two_have : ℕ → ℕ → ℕ → ℕ → Stocks
+two_have food metal other_food other_metal =
+    record { food = food ∷ other_food ∷ 0 ∷ 0 ∷ 0 ∷ 0 ∷ 0 ∷ 0 ∷ []; metal = metal ∷ other_metal ∷ 0 ∷ 0 ∷ 0 ∷ 0 ∷ 0 ∷ 0 ∷ [] }
+
+-- 15 food go to the second player
+a_tribute : deed (two_have 22 45 20 60) 1 (Tribute 2 0 15) ≡ two_have 7 45 35 60
+unfolding two_have
+a_tribute = refl
+
+-- 40 food are not there
+a_tribute_too_great : deed (two_have 11 31 22 3) 1 (Tribute 2 0 40) ≡ two_have 11 31 22 3
+unfolding two_have
+a_tribute_too_great = refl

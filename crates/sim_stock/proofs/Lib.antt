@@ -1,0 +1,6 @@
+pub mod Balances
+mod Examples
+pub mod Paying
+mod RateLimits
+mod Runs
+mod Stretches

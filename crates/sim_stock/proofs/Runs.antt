@@ -1,0 +1,29 @@
+-- Deeds that ascend by their turns.
+use Rattle.std.proofs.Common.{◌≡◌, ℕ, ◌-◌, ◌<◌, ◌≤◌, List, [], ◌∷◌, ◌++◌, length, get_or, All, refl, sym, arith}
+use Rattle.std.specs.List.Sorted.{IsNonDecreasingBy}
+use Rattle.std.proofs.lemmas.List.Sums.{fold_push}
+use Rattle.std.proofs.lemmas.List.Elements.{All-push}
+use Rattle.std.proofs.lemmas.List.Sorted.{IsNonDecreasingBy-push}
+use Rattle.sim_stock.specs.declared.deed.DatedDeed.{DatedDeed}
+use Rattle.sim_stock.specs.Economies.{earliest}
+
+abbrev turn_of : DatedDeed → ℕ
+turn_of dated = dated.turn
+
+-- the deeds ascend up to a turn, which is that of the last
+pub record IsRun (turn : ℕ) (deeds : List DatedDeed) : Type 0 where
+  pub rising : IsNonDecreasingBy (λ (dated : DatedDeed). dated.turn) deeds
+  pub before : All (λ (dated : DatedDeed). dated.turn ≤ turn) deeds
+  pub last : turn ≡ earliest deeds
+
+-- none ascend
+pub no_run : IsRun 1 []
+no_run = record { rising = λ i j d le lt. absurd (omega (arith, lt)); before = λ k d lt. absurd (omega (arith, lt)); last = refl }
+
+-- a deed that is no earlier goes on
+pub run_on : (turn : ℕ) (deeds : List DatedDeed) (dated : DatedDeed) → IsRun turn deeds → turn ≤ dated.turn → IsRun dated.turn (deeds ++ dated ∷ [])
+run_on turn deeds dated run le = record {
+  rising = IsNonDecreasingBy-push turn_of deeds dated run.rising (λ d some. let last = run.before (length deeds - 1) d (omega (arith, some)) in omega (arith, last, le));
+  before = All-push (λ (it : DatedDeed). it.turn ≤ dated.turn) deeds dated (λ k d lt. let least = run.before k d lt in omega (arith, least, le)) (omega arith);
+  last = sym (fold_push (λ (turn : ℕ) (it : DatedDeed). it.turn) 1 deeds dated);
+}

@@ -1,0 +1,16 @@
+-- Each amount is the one of its place.
+use Rattle.std.proofs.Common.{◌≡◌, ℕ, map, arith}
+use Rattle.std.specs.List.{range_with_len}
+use Rattle.std.proofs.lemmas.List.FromFn.{fill_by_all}
+use Rattle.sim_stock.specs.Rates.{rate_at}
+use Rattle.sim_stock.proofs.amounts.opening.Goals as goal
+
+pub returns : goal.returns
+returns c =
+    let pairs = c.args.pairs.now in
+    let i = c.loop-place.invariant in
+    let food : c.loop-place.food ≡ map (λ (place : ℕ). (rate_at pairs place).food) (range_with_len 0 8) =
+    fill_by_all (λ (place : ℕ). (rate_at pairs place).food) c.loop-place.food 8 0 i.food_size (λ k lt. i.food k (omega (arith, lt))) in
+    let metal : c.loop-place.metal ≡ map (λ (place : ℕ). (rate_at pairs place).metal) (range_with_len 0 8) =
+    fill_by_all (λ (place : ℕ). (rate_at pairs place).metal) c.loop-place.metal 8 0 i.metal_size (λ k lt. i.metal k (omega (arith, lt))) in
+    cc

@@ -1,0 +1,12 @@
+-- The amounts of the players so far.
+use Rattle.std.proofs.Common.{◌≡◌, ℕ, ◌<◌, length, get_or}
+use Rattle.sim_stock.specs.Rates.{rate_at}
+use Rattle.sim_stock.proofs.amounts.opening.Given as goal
+
+abbrev pub invariant-loop-place : goal.invariant-loop-place
+invariant-loop-place l = record {
+  food_size : length l.food ≡ 8;
+  food : (k : ℕ) → k < l.place → get_or l.food k 0 ≡ (rate_at l.pairs k).food;
+  metal_size : length l.metal ≡ 8;
+  metal : (k : ℕ) → k < l.place → get_or l.metal k 0 ≡ (rate_at l.pairs k).metal;
+}

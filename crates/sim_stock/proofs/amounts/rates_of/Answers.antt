@@ -1,0 +1,10 @@
+-- One rate more.
+use Rattle.std.proofs.Common.{arith}
+use Rattle.std.proofs.lemmas.List.FromFn.{map-range_with_len_more}
+use Rattle.sim_stock.specs.Amounts.{rate_named}
+use Rattle.sim_stock.proofs.amounts.rates_of.Goals as goal
+
+pub loop-number-preserved : goal.loop-number-preserved
+loop-number-preserved c =
+    let more = map-range_with_len_more (rate_named c.args.named.now) 0 c.loop-number.number c.loop-number.number (omega arith) in
+    cc (c.in_ok-push.ensures.items, c.loop-number.invariant, c.rate_named.ensures)

@@ -1,0 +1,12 @@
+-- Pairs within the limits make stocks within the limits.
+use Rattle.std.proofs.Common.{All, ap, sym, subst, ◌∙◌}
+use Rattle.sim_stock.specs.Rates.{IsRate}
+use Rattle.sim_stock.specs.Stocks.{IsStart}
+use Rattle.sim_stock.specs.Amounts.{opening}
+use Rattle.sim_stock.proofs.RateLimits.{opening_start}
+use Rattle.sim_stock.proofs.amounts.start_in.Goals as goal
+
+pub returns-clause-limits : goal.returns-clause-limits
+returns-clause-limits c =
+    let all : All (IsRate 1000000000) c.in-Some-2.pairs.items = rw c.in-Some-2.is at c.in_ok-pairs.ensures.limits in
+    subst IsStart (sym (c.opening.ensures ∙ ap opening c.as_slice.ensures.value)) (opening_start c.in-Some-2.pairs.items all)

@@ -1,0 +1,13 @@
+-- A deed is asked of its handler on stocks that are small enough, and makes them no more.
+use Rattle.std.proofs.Common.{◌≤◌, sym, subst}
+use Rattle.sim_stock.specs.declared.stocks.Stocks.{Stocks}
+use Rattle.sim_stock.specs.Stocks.{total}
+use Rattle.sim_stock.proofs.Balances.{asked_for, deed_total}
+use Rattle.sim_stock.proofs.dealing.act.Goals as goal
+
+pub after-requires : goal.after-requires
+after-requires g c = asked_for c.args.stocks.now c.args.dated.now c.requires.dated c.requires.total
+
+pub returns-clause-total : goal.returns-clause-total
+returns-clause-total g c =
+    subst (λ (q : Stocks). total q ≤ total c.args.stocks.now) (sym c.after.ensures) (deed_total c.args.stocks.now c.args.dated.now.player c.args.dated.now.deed)

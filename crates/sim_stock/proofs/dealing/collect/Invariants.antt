@@ -1,0 +1,11 @@
+-- The stocks with the income of the rows so far.
+use Rattle.std.proofs.Common.{◌≡◌, ◌+◌, ◌*◌, ◌≤◌, take}
+use Rattle.sim_stock.specs.Stocks.{total}
+use Rattle.sim_stock.specs.PaidTurns.{collected}
+use Rattle.sim_stock.proofs.dealing.collect.Given as goal
+
+abbrev pub invariant-loop-row : goal.invariant-loop-row
+invariant-loop-row l = record {
+  stocks_are : l.stocks ≡ collected l.income l.fn.stocks (take l.row-index l.rows);
+  total_is : total l.stocks ≤ total l.fn.stocks + 2000 * l.row-index;
+}

@@ -1,0 +1,12 @@
+-- The test of the closure parts a list that ascends by turns.
+use Rattle.std.proofs.Common.{rules}
+use Rattle.std.specs.Prelude.{nat_lt}
+use Rattle.std.proofs.lemmas.List.Sorted.{IsPartitionedBy-ltb, IsPartitionPoint-from_clause}
+use Rattle.sim_stock.specs.declared.deed.DatedDeed.{DatedDeed}
+use Rattle.sim_stock.proofs.due.begin_of.Goals as goal
+
+pub returns-clause-point : goal.returns-clause-point
+returns-clause-point c =
+    let deeds = c.args.deeds.now in
+    IsPartitionPoint-from_clause (λ (dated : DatedDeed). nat_lt dated.turn c.args.turn) deeds c.partition_point.result c.partition_point.ensures.partitioned
+    (IsPartitionedBy-ltb (λ (dated : DatedDeed). dated.turn) deeds c.args.turn c.requires) (λ a r f called. search rules)

@@ -1,0 +1,9 @@
+use Rattle.std.proofs.Common.{◌≡◌, ◌==◌, count_by, length}
+use Rattle.sim_stock.specs.Deeds.{kind_of}
+use Rattle.sim_stock.proofs.table.DeedTable.after.Given as goal
+
+abbrev pub invariant-loop-rest : goal.invariant-loop-rest
+invariant-loop-rest g l = record { one_left : count_by (λ handler. handler.kind == l.kind) l.rest ≡ 1; kind : l.kind ≡ kind_of l.deed }
+
+abbrev pub decreases-loop-rest : goal.decreases-loop-rest
+decreases-loop-rest g l = length l.rest

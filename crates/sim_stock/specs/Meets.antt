@@ -1,0 +1,15 @@
+-- What a call that reads an economy answers. It may run out of memory, and is else what a definition says.
+use Rattle.std.specs.Prelude.{◌≡◌, ℕ, ◌+◌, Result, Ok, Err}
+use Rattle.sim_stock.specs.declared.fault.EconomyFault.{EconomyFault}
+use Rattle.sim_stock.specs.declared.fault.EconomyFault.TheVariants.{Refused, OutOfMemory}
+
+-- an answer is the wanted one, or memory ran out
+abbrev pub Meets : {X : Type 0} → Result X EconomyFault → Result X ℕ → Type 0
+Meets (Ok x) wanted = wanted ≡ Ok x
+Meets (Err (Refused index)) wanted = wanted ≡ Err index
+Meets (Err OutOfMemory) wanted = Unit {0}
+
+-- a fault is the refusal of this item, counted from 1, or memory ran out
+abbrev pub Tells : EconomyFault → ℕ → Type 0
+Tells (Refused index) item = index ≡ item + 1
+Tells OutOfMemory item = Unit {0}
