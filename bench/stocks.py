@@ -39,9 +39,9 @@ def match(standing, built, turns):
 
 
 def economy(turns):
-    """Huts cost and earn; in each of the first turns one player gives the next one food, and metal."""
+    """Huts cost and earn; in each of the first turns one player gives the next one food, and exchanges metal."""
     deeds = [[turn, 1 + turn % 8, *deed] for turn in range(1, min(turns, DEALT) + 1)
-             for deed in (["tribute", 1 + (turn + 1) % 8, 0, 7], ["tribute", 1 + (turn + 1) % 8, 1, 5])]
+             for deed in (["tribute", 1 + (turn + 1) % 8, 0, 7], ["barter", 1, 5])]
     return {"start": [[1000000, 1000000]] * PLAYERS, "prices": [["hut", 30, 10]], "income": [["hut", 2, 1]], "deeds": deeds}
 
 

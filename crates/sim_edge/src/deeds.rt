@@ -3,7 +3,7 @@
 ghost use Rattle.std.specs.Prelude.{◌≡◌};
 ghost use Rattle.sim_stock.specs.Deeds.{deed as deed_of, IsAsked};
 
-use sim_stock::{Deed, Stocks, tribute};
+use sim_stock::{Deed, Stocks, barter, tribute};
 
 /// The stocks after a tribute.
 pub fn tributed(stocks: &Stocks, player: u8, deed: &Deed) -> Stocks
@@ -11,4 +11,12 @@ pub fn tributed(stocks: &Stocks, player: u8, deed: &Deed) -> Stocks
     ensures { result ≡ deed_of stocks.now player deed.now }
 {
     tribute(stocks, player, deed)
+}
+
+/// The stocks after a barter.
+pub fn bartered(stocks: &Stocks, player: u8, deed: &Deed) -> Stocks
+    requires { IsAsked 2 stocks.now player deed.now }
+    ensures { result ≡ deed_of stocks.now player deed.now }
+{
+    barter(stocks, player, deed)
 }

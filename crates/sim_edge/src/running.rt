@@ -10,7 +10,7 @@ ghost use Rattle.sim_top.specs.Answers.{scene};
 ghost use Rattle.sim_top.specs.Words.{words_of};
 ghost use Rattle.sim_edge.specs.Run.{Ran};
 
-use crate::deeds::tributed;
+use crate::deeds::{bartered, tributed};
 use sim_base::{Changes, Command, OutOfMemory, Setup, State};
 use sim_orders::{
     Handler, Help, OrderTable, Planner, attack_changes, delete_changes, place_changes,
@@ -70,10 +70,15 @@ pub fn run_with<S: Shelf, K: Sink>(
     }
     let orders = OrderTable::new(handlers);
     let tributes: DeedFunction = Box::new(alloc, tributed)?;
+    let barters: DeedFunction = Box::new(alloc, bartered)?;
     let deeds = DeedTable::new(vec![in alloc;
         DeedHandler {
             kind: 1,
             run: tributes
+        },
+        DeedHandler {
+            kind: 2,
+            run: barters
         },
     ]?);
     let ended = run(alloc, words, shelf, out, rigs, &orders, &deeds);

@@ -1,5 +1,5 @@
 -- What deeds, prices and incomes make of all that there is.
-use Rattle.std.proofs.Common.{◌≡◌, ℕ, zero, suc, ◌+◌, ◌-◌, ◌^◌, ◌<◌, ◌≤◌, Bool, true, false, List, [], ◌∷◌, length, get_or, All, refl, arith}
+use Rattle.std.proofs.Common.{◌≡◌, ℕ, zero, suc, ◌+◌, ◌-◌, ◌*◌, ◌/◌, ◌^◌, ◌<◌, ◌≤◌, Bool, true, false, List, [], ◌∷◌, length, get_or, All, refl, arith}
 use Rattle.std.specs.Prelude.{◌==◌, ◌&&◌, nat_le, sum, IsTrue, if◌then◌else◌}
 use Rattle.std.proofs.Math.ListN.{set}
 use Rattle.std.proofs.lemmas.Bool.{and_parts, leb-true}
@@ -7,7 +7,7 @@ use Rattle.std.proofs.lemmas.List.Sums.{sum_by-cons, get_or-le-sum_by}
 use Rattle.sim_base.specs.Limits.{IsFrom}
 use Rattle.sim_stock.specs.declared.stocks.Stocks.{Stocks}
 use Rattle.sim_stock.specs.declared.deed.Deed.{Deed}
-use Rattle.sim_stock.specs.declared.deed.Deed.TheVariants.{Tribute}
+use Rattle.sim_stock.specs.declared.deed.Deed.TheVariants.{Tribute, Barter}
 use Rattle.sim_stock.specs.declared.deed.DatedDeed.{DatedDeed}
 use Rattle.sim_stock.specs.declared.rate.Rate.{Rate}
 use Rattle.sim_stock.specs.Stocks.{amounts, amount_of, with_amount, gained, spent, total, AreBelow}
@@ -82,6 +82,9 @@ pub deed_total : (q : Stocks) (player : ℕ) (d : Deed) → total (deed q player
 deed_total q player (Tribute other good a) =
     given_by (nat_le a (amount_of player good q)) q (gained other good a (spent player good a q)) player good a refl (λ le.
     omega (arith, spent_total player good a q le, gained_total other good a (spent player good a q)))
+deed_total q player (Barter good a) =
+    given_by (nat_le a (amount_of player good q)) q (gained player (1 - good) (a * 4 / 5) (spent player good a q)) player good a refl (λ le.
+    omega (arith, spent_total player good a q le, gained_total player (1 - good) (a * 4 / 5) (spent player good a q)))
 
 -- a price takes its two amounts away
 pub paid_total : (player : ℕ) (rate : Rate) (q : Stocks) → affords player rate q ≡ true → total (paid player rate q) ≤ total q

@@ -1,7 +1,7 @@
 -- Worked examples of deeds, computed.
 use Rattle.std.proofs.Common.{◌≡◌, ℕ, [], ◌∷◌, refl}
 use Rattle.sim_stock.specs.declared.stocks.Stocks.{Stocks}
-use Rattle.sim_stock.specs.declared.deed.Deed.TheVariants.{Tribute}
+use Rattle.sim_stock.specs.declared.deed.Deed.TheVariants.{Tribute, Barter}
 use Rattle.sim_stock.specs.Deeds.{deed}
 
 -- the stocks of two players
@@ -18,3 +18,18 @@ a_tribute = refl
 a_tribute_too_great : deed (two_have 11 31 22 3) 1 (Tribute 2 0 40) ≡ two_have 11 31 22 3
 unfolding two_have
 a_tribute_too_great = refl
+
+-- four fifths of 7 food are 5.6 metal, rounded down to 5
+a_barter : deed (two_have 11 65 45 2) 1 (Barter 0 7) ≡ two_have 4 70 45 2
+unfolding two_have
+a_barter = refl
+
+-- four fifths of 11 food are 8.8 metal
+another_barter : deed (two_have 50 0 0 0) 1 (Barter 0 11) ≡ two_have 39 8 0 0
+unfolding two_have
+another_barter = refl
+
+-- 51 food are not there
+a_barter_too_great : deed (two_have 50 0 0 0) 1 (Barter 0 51) ≡ two_have 50 0 0 0
+unfolding two_have
+a_barter_too_great = refl

@@ -16,7 +16,7 @@ use Rattle.sim_turn_laws.specs.CommandLaws.{IsOrderOf}
 use Rattle.sim_turn_laws.proofs.Turning.{turn_is_counted, turn_keeps_valid}
 use Rattle.sim_stock.specs.declared.stocks.Stocks.{Stocks}
 use Rattle.sim_stock.specs.declared.deed.Deed.{Deed}
-use Rattle.sim_stock.specs.declared.deed.Deed.TheVariants.{Tribute}
+use Rattle.sim_stock.specs.declared.deed.Deed.TheVariants.{Tribute, Barter}
 use Rattle.sim_stock.specs.declared.deed.DatedDeed.{DatedDeed}
 use Rattle.sim_stock.specs.declared.rate.Rate.{Rate}
 use Rattle.sim_stock.specs.declared.economy.Economy.{Economy}
@@ -133,6 +133,7 @@ module _ (setup : Setup) where
   dealt_by : (player : ℕ) (d : Deed) → IsSetup setup → IsDeedBy setup.players player d → IsDeedOf player d
   dealt_by player (Tribute other good amount) limits is =
       ((is.0.0, omega (arith, is.0.1, few_players limits)), is.1, record { good_is = is.2.good_is; amount_is = omega (arith, is.2.amount_is) })
+  dealt_by player (Barter good amount) limits is = record { good_is = is.good_is; amount_is = omega (arith, is.amount_is) }
 
   pub few_dealers : (economy : Economy) (t : ℕ) → IsSetup setup → IsEconomy setup economy → All IsDatedDeed (deeds_at t economy.deeds)
   few_dealers economy t limits is =

@@ -7,7 +7,7 @@ use Rattle.sim_base.specs.Limits.{IsFrom}
 use Rattle.sim_json.specs.Values.{list_of, natural_in, two, front_two}
 use Rattle.sim_json.specs.Records.{next_or}
 use Rattle.sim_stock.specs.declared.deed.Deed.{Deed}
-use Rattle.sim_stock.specs.declared.deed.Deed.TheVariants.{Tribute}
+use Rattle.sim_stock.specs.declared.deed.Deed.TheVariants.{Tribute, Barter}
 use Rattle.sim_stock.specs.declared.deed.DatedDeed.{DatedDeed}
 
 -- a good, 0 for food or 1 for metal, and an amount of it
@@ -20,9 +20,13 @@ tribute_from players player [] = None
 tribute_from players player (other ∷ rest) =
     next_or (natural_in 1 players other) None (λ other. if other == player then None else option_map (λ p. Tribute other p.0 p.1) (good_of rest))
 
+-- behind its word stand the good and the amount of a barter
+abbrev pub barter_from : List Data → Option Deed
+barter_from rest = option_map (λ p. Barter p.0 p.1) (good_of rest)
+
 -- a deed by its word
 abbrev pub deed_by : ℕ → ℕ → List ℕ → List Data → Option Deed
-deed_by players player word rest = if bytes_eq word (codes "tribute") then tribute_from players player rest else None
+deed_by players player word rest = if bytes_eq word (codes "tribute") then tribute_from players player rest else if bytes_eq word (codes "barter") then barter_from rest else None
 
 -- the same where the word is the first item
 abbrev pub deed_in : ℕ → ℕ → List Data → Option Deed
@@ -47,6 +51,7 @@ pub record IsAmountUpTo (limit good amount : ℕ) : Type 0 where
 -- the limits of a deed of one of so many players
 abbrev pub IsDeedBy : ℕ → ℕ → Deed → Type 0
 IsDeedBy players player (Tribute other good amount) = IsFrom 1 players other × (other ≢ player) × IsAmountUpTo 1000000000 good amount
+IsDeedBy players player (Barter good amount) = IsAmountUpTo 1000000000 good amount
 
 -- the same, and of its turn
 pub record IsDated (players turns : ℕ) (dated : DatedDeed) : Type 0 where

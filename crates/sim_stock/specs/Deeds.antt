@@ -1,23 +1,25 @@
 -- What a deed makes of the stocks, and what a handler of deeds may be asked.
-use Rattle.std.specs.Prelude.{◌≡◌, ◌≢◌, ℕ, ◌^◌, ◌<◌, ◌≤◌, nat_le, if◌then◌else◌}
+use Rattle.std.specs.Prelude.{◌≡◌, ◌≢◌, ℕ, ◌-◌, ◌*◌, ◌/◌, ◌^◌, ◌<◌, ◌≤◌, nat_le, if◌then◌else◌}
 use Rattle.sim_base.specs.Limits.{IsFrom}
 use Rattle.sim_stock.specs.declared.stocks.Stocks.{Stocks}
 use Rattle.sim_stock.specs.declared.deed.Deed.{Deed}
 use Rattle.sim_stock.specs.declared.deed.DatedDeed.{DatedDeed}
-use Rattle.sim_stock.specs.declared.deed.Deed.TheVariants.{Tribute}
+use Rattle.sim_stock.specs.declared.deed.Deed.TheVariants.{Tribute, Barter}
 use Rattle.sim_stock.specs.Stocks.{amount_of, gained, spent, AreBelow}
 
 -- the number of a deed's kind
 abbrev pub kind_of : Deed → ℕ
 kind_of (Tribute other good amount) = 1
+kind_of (Barter good amount) = 2
 
 -- a player gives an amount away and something comes of it, or he lacks the amount and nothing changes
 abbrev pub given : Stocks → ℕ → ℕ → ℕ → (Stocks → Stocks) → Stocks
 given stocks player good amount comes = if nat_le amount (amount_of player good stocks) then comes (spent player good amount stocks) else stocks
 
--- the stocks after a player's deed: a tribute goes to another player
+-- the stocks after a player's deed: a tribute goes to another player, and a barter brings four fifths, rounded down, of the other good
 abbrev pub deed : Stocks → ℕ → Deed → Stocks
 deed stocks player (Tribute other good amount) = given stocks player good amount (gained other good amount)
+deed stocks player (Barter good amount) = given stocks player good amount (gained player (1 - good) (amount * 4 / 5))
 
 -- an amount of food or metal
 pub record IsAmount (good amount : ℕ) : Type 0 where
@@ -27,6 +29,7 @@ pub record IsAmount (good amount : ℕ) : Type 0 where
 -- a player's deed gives an amount of a good, a tribute to another player
 abbrev pub IsDeedOf : ℕ → Deed → Type 0
 IsDeedOf player (Tribute other good amount) = IsFrom 1 8 other × (other ≢ player) × IsAmount good amount
+IsDeedOf player (Barter good amount) = IsAmount good amount
 
 -- a deed of this kind is done by a player on stocks below 2^40
 pub record IsAsked (kind : ℕ) (stocks : Stocks) (player : ℕ) (deed : Deed) : Type 0 where

@@ -6,21 +6,23 @@ ghost use Rattle.sim_stock.specs.Deeds.{kind_of};
 use sim_base::Items;
 
 /// What is done with an amount of a good, which is 0 for food and 1 for metal: it is given to
-/// another player.
+/// another player, or given up for four fifths of it of the other good.
 #[derive(Clone, Copy, Debug, PartialEq, Eq)]
 pub enum Deed {
     Tribute { other: u8, good: u8, amount: u64 },
+    Barter { good: u8, amount: u64 },
 }
 
 impl Deed {
-    /// The number of its kind: 1 for a tribute.
+    /// The number of its kind: 1 for a tribute, 2 for a barter.
     pub fn kind(&self) -> u8
         ensures value { result ≡ kind_of self.now }
         ensures from_one { 0 < result }
-        ensures to_last { result ≤ 1 }
+        ensures to_last { result ≤ 2 }
     {
         match self {
             Deed::Tribute { .. } => 1,
+            Deed::Barter { .. } => 2,
         }
     }
 }

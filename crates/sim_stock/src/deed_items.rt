@@ -3,7 +3,7 @@
 ghost use Rattle.std.specs.Prelude.{◌≡◌, ◌≤◌, map, option_map, option_and_then, IfSome};
 ghost use Rattle.serde_json.specs.View.{view};
 ghost use Rattle.sim_json.specs.Values.{list_of as list_of_data, front_two as front_two_of};
-ghost use Rattle.sim_stock.specs.DeedItems.{tribute_from as tribute_from_data, deed_by as deed_by_word, deed_in as deed_in_data, dated_of as dated_of_data, good_of as good_of_data, IsAmountUpTo, IsDeedBy, IsDated};
+ghost use Rattle.sim_stock.specs.DeedItems.{tribute_from as tribute_from_data, barter_from as barter_from_data, deed_by as deed_by_word, deed_in as deed_in_data, dated_of as dated_of_data, good_of as good_of_data, IsAmountUpTo, IsDeedBy, IsDated};
 
 use crate::deed::{DatedDeed, Deed};
 use serde_json::Value;
@@ -49,6 +49,9 @@ fn deed_by(players: u8, player: u8, word: &str, rest: &[Value]) -> Option<Deed>
     if word == "tribute" {
         return tribute_from(players, player, rest);
     }
+    if word == "barter" {
+        return barter_from(players, player, rest);
+    }
     None
 }
 
@@ -69,6 +72,14 @@ fn tribute_from(players: u8, player: u8, items: &[Value]) -> Option<Deed>
         good,
         amount,
     })
+}
+
+fn barter_from(players: u8, player: u8, items: &[Value]) -> Option<Deed>
+    ensures value { result ≡ barter_from_data (map view items.now) }
+    ensures limits { IfSome result (IsDeedBy players player) }
+{
+    let (good, amount) = good_of(items)?;
+    Some(Deed::Barter { good, amount })
 }
 
 // A good and an amount of it.

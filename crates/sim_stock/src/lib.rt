@@ -9,7 +9,7 @@
 //! - `deed`: what a player does with his stocks, and when.
 //! - `economy`: the records of an economy.
 //! - `fault`, `amounts`, `deed_items`, `reading`: an economy from the bytes of its file.
-//! - `tributes`: the handler of tributes.
+//! - `tributes`, `barters`: the handlers of tributes and barters.
 //! - `table`: the stored handlers.
 //! - `due`, `dealing`: the deeds of a turn, and the income.
 //! - `price`, `buying`: what a command costs, and commands that are paid for or left out.
@@ -17,6 +17,7 @@
 #![tactic(auto)]
 
 mod amounts;
+mod barters;
 mod buying;
 mod dealing;
 mod deed;
@@ -32,6 +33,7 @@ mod stocks;
 mod table;
 mod tributes;
 
+pub use barters::barter;
 pub use deed::{DatedDeed, DatedDeeds, Deed};
 pub use economy::Economy;
 pub use fault::EconomyFault;

@@ -35,13 +35,13 @@ impl DeedHandler {
 #[derive(Drop)]
 pub struct DeedTable {
     handlers: Vec<DeedHandler>,
-    ghost once: { (kind : ℕ) → 0 < kind → kind ≤ 1 → count_by (λ handler. handler.kind == kind) handlers.items ≡ 1 },
+    ghost once: { (kind : ℕ) → 0 < kind → kind ≤ 2 → count_by (λ handler. handler.kind == kind) handlers.items ≡ 1 },
 }
 
 impl DeedTable {
-    /// The table of these handlers, of which that of kind 1 stands once.
+    /// The table of these handlers, of which each kind from 1 to 2 stands once.
     pub fn new(handlers: Vec<DeedHandler>) -> DeedTable
-        requires { (kind : ℕ) → 0 < kind → kind ≤ 1 → count_by (λ handler. handler.kind == kind) handlers.items ≡ 1 }
+        requires { (kind : ℕ) → 0 < kind → kind ≤ 2 → count_by (λ handler. handler.kind == kind) handlers.items ≡ 1 }
         ensures { result.handlers ≡ handlers }
     {
         DeedTable { handlers }

@@ -15,7 +15,10 @@ pub fn tribute(stocks: &Stocks, player: u8, deed: &Deed) -> Stocks
         other,
         good,
         amount,
-    } = *deed;
+    } = *deed
+    else {
+        unreachable!()
+    };
     let mut left = *stocks;
     if amount <= stocks.amount(player, good) {
         left.spend(player, good, amount);

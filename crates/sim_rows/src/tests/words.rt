@@ -64,16 +64,16 @@ kept 2 2
 
 const TRIAL: &str = "trial 7 8 5 alive 8 f4cf71a654e6b6591dc7620ed28c6df9\n";
 
-// A camp that is told to train two walkers, of which its player can pay one.
+// A camp that is told to train two walkers, of which its player can pay one, after a barter.
 const CAMP: &str =
     r#"{"size":[4,4],"closed":[],"players":[[]],"cap":4,"delay":1,"turns":1,"seed":0,"templates":[{"@name":"walker","Motion":{"Speed":4}},{"@name":"camp","Train":{"Units":"walker"}}],"entities":[["camp",1,"1.5","1.5"]],"commands":[[1,1,"train",2,0],[1,1,"train",2,0]]}"#;
 
 const ECONOMY: &str =
-    r#"{"start":[[50,0]],"prices":[["walker",30,0]],"income":[["walker",2,1]],"deeds":[]}"#;
+    r#"{"start":[[50,0]],"prices":[["walker",30,0]],"income":[["walker",2,1]],"deeds":[[1,1,"barter",0,11]]}"#;
 
 const STOCKS: &str = "turn 0 f62fc3c8daaf7e138a0146ea25f6b221
 turn 1 0d9544bb4e1d49dc65f86d786d5fd433
-stock 1 22 1
+stock 1 11 9
 ";
 
 const CASES: [Case; 11] = [

@@ -18,7 +18,7 @@ use sim_orders::{Handler, Help, OrderTable, Planner};
 use sim_range::Range;
 use sim_runs::games::HUTS_LEFT;
 use sim_runs::{Printed, add_rig, planned, print, rig, shelf_of, words_of};
-use sim_stock::{Deed, DeedFunction, DeedHandler, DeedTable, Stocks, tribute};
+use sim_stock::{Deed, DeedFunction, DeedHandler, DeedTable, Stocks, barter, tribute};
 use sim_store::{MemShelf, MemSink};
 use sim_system::{Rig, System};
 use sim_top::{Status, run};
@@ -91,6 +91,14 @@ fn tributed(stocks: &Stocks, player: u8, deed: &Deed) -> Stocks
     tribute(stocks, player, deed)
 }
 
+// The stocks after a barter.
+fn bartered(stocks: &Stocks, player: u8, deed: &Deed) -> Stocks
+    requires { IsAsked 2 stocks.now player deed.now }
+    ensures { result ≡ deed_of stocks.now player deed.now }
+{
+    barter(stocks, player, deed)
+}
+
 // Runs the words with handlers of which the last plans by this function.
 fn run_here(
     alloc: Global,
@@ -150,10 +158,15 @@ fn played(alloc: Global, file: &str) -> Result<Printed, OutOfMemory> {
     let mut shelf = shelf_of(alloc, &[("m", file.as_bytes())])?;
     let mut out = MemSink::new(alloc, 100)?;
     let tributes: DeedFunction = Box::new(alloc, tributed)?;
+    let barters: DeedFunction = Box::new(alloc, bartered)?;
     let deeds = DeedTable::new(vec![in alloc;
         DeedHandler {
             kind: 1,
             run: tributes
+        },
+        DeedHandler {
+            kind: 2,
+            run: barters
         },
     ]?);
     let status = run_here(alloc, &words, &mut shelf, &mut out, rigs, &deeds)?;
