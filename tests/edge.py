@@ -25,6 +25,8 @@ import time
 TOP = pathlib.Path(__file__).resolve().parent.parent
 PROGRAM = pathlib.Path(sys.argv[1] if len(sys.argv) > 1 else TOP / "crates/simcore/out/simcore").resolve()
 MAX_FILE = 16_777_216
+# By the clock, for one run of the program: many times what any takes, since a machine can be full.
+SECONDS = 600
 
 EMPTY = (b'{"size":[4,4],"closed":[],"players":[[]],"cap":0,"delay":1,"turns":2,"seed":0,'
          b'"templates":[],"entities":[],"commands":[]}')
@@ -127,7 +129,7 @@ passed = failed = 0
 def run(words, folder, stdout=subprocess.PIPE, before=None, name=str(PROGRAM)):
     """The status, standard output and standard error of the program in that folder, started by that name."""
     done = subprocess.run([name, *words], executable=PROGRAM, cwd=folder, stdin=subprocess.DEVNULL, stdout=stdout,
-                          stderr=subprocess.PIPE, preexec_fn=before, timeout=120)
+                          stderr=subprocess.PIPE, preexec_fn=before, timeout=SECONDS)
     return done.returncode, done.stdout, done.stderr
 
 
@@ -488,7 +490,7 @@ def pages(folder):
     for page in ("README.md", "examples/README.md", "docs/DESYNC.md", "docs/STOCKS.md", "docs/TERRITORY.md", "docs/VISION.md"):
         for command, lines in commands_of(page):
             done = subprocess.run(["bash", "-c", command.replace("/tmp/", "")], cwd=folder, stdin=subprocess.DEVNULL,
-                                  stdout=subprocess.PIPE, stderr=subprocess.PIPE, timeout=120)
+                                  stdout=subprocess.PIPE, stderr=subprocess.PIPE, timeout=SECONDS)
             case(f"{page}: {command[:60]}", (0, done.stdout, done.stderr), 0, lines.encode())
 
 

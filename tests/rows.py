@@ -21,6 +21,8 @@ import sys
 import tempfile
 
 TOP = pathlib.Path(__file__).resolve().parent.parent
+# By the clock, for one run of the program: many times what any takes, since a machine can be full.
+SECONDS = 600
 TEXTS = {"usage": (TOP / "crates/simcore/stdout").read_text()}
 
 
@@ -37,7 +39,7 @@ def content(told):
 
 def answer(program, words, folder):
     """The status and the text of a run; what is on standard error counts as text."""
-    done = subprocess.run([program, *words], cwd=folder, stdin=subprocess.DEVNULL, capture_output=True, timeout=120)
+    done = subprocess.run([program, *words], cwd=folder, stdin=subprocess.DEVNULL, capture_output=True, timeout=SECONDS)
     return done.returncode, (done.stdout + done.stderr).decode()
 
 
