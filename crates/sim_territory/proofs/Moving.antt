@@ -12,7 +12,7 @@ use Rattle.sim_grid.proofs.Beside.{same_or_not}
 use Rattle.sim_territory.specs.declared.building.Building.{Building}
 use Rattle.sim_territory.specs.declared.sums.Sums.{Sums}
 use Rattle.sim_territory.specs.Buildings.{strength_of, share_of, SpansNear}
-use Rattle.sim_territory.specs.Tables.{size_in, sum_at, HasShapeOf, IsSummed, Moves, MayMove, IsPlaceIn, SumsMove, MaySumsMove, share_where}
+use Rattle.sim_territory.specs.Tables.{size_in, sum_at, HasShapeOf, IsSummed, Moves, MayMove, IsPlaceIn, SumsMove, MaySumsMove, share_where, in_part}
 use Rattle.sim_territory.proofs.Shares.{share-own, share-other, share-weak, where-true, where-false, where-weak, where-split, where-within, far-along, far-north, left_out}
 
 -- ---- one ground, and as many players
@@ -145,10 +145,6 @@ cell_stays more b cell sums weak = sums_none more (share_where (λ w. same_cell 
 
 -- ---- a row
 
--- the cells of row z from the first to before the end
-abbrev pub in_part : ℕ → ℕ → ℕ → Cell → Bool
-in_part z west x c = c.z == z && (nat_le west c.x && nat_lt c.x x)
-
 -- the cells of a row
 abbrev pub in_line : ℕ → Cell → Bool
 in_line z c = c.z == z
@@ -177,22 +173,63 @@ part_more z west x c le = by (c.z == z) (c.x == x) (one_more west x c.x le)
 part_apart : (z west x : ℕ) (c : Cell) → in_part z west x c ≡ true → same_cell c (record { x = x; z = z }) ≡ false
 part_apart z west x c e = and_left (c.x == x) (c.z == z) (past west x c.x (and_parts (c.z == z) (nat_le west c.x && nat_lt c.x x) e).1)
 
+shorter : (west x end n : ℕ) → x ≤ end → (nat_le west n && nat_lt n x) ≡ true → (nat_le west n && nat_lt n end) ≡ true
+shorter west x end n le e = grind (arith, nat_tests)
+
+part_shorter : (z west x end : ℕ) (c : Cell) → x ≤ end → in_part z west x c ≡ true → in_part z west end c ≡ true
+part_shorter z west x end c le e =
+    let parts = and_parts (c.z == z) (nat_le west c.x && nat_lt c.x x) e in
+    and_from (c.z == z) (nat_le west c.x && nat_lt c.x end) parts.0 (shorter west x end c.x le parts.1)
+
+between : (west x end n : ℕ) → west ≤ x → x < end → n ≡ x → (nat_le west n && nat_lt n end) ≡ true
+between west x end n le lt e = and_from (nat_le west n) (nat_lt n end) (le-leb west n (omega arith)) (lt-ltb n end (omega arith))
+
+cell_part : (z west x end : ℕ) (c : Cell) → west ≤ x → x < end → same_cell c (record { x = x; z = z }) ≡ true → in_part z west end c ≡ true
+cell_part z west x end c le lt e =
+    let parts = and_parts (c.x == x) (c.z == z) e in
+    and_from (c.z == z) (nat_le west c.x && nat_lt c.x end) parts.1 (between west x end c.x le lt (eqb-true c.x x parts.0))
+
 part_line : (z west x : ℕ) (c : Cell) → in_part z west x c ≡ true → in_line z c ≡ true
 part_line z west x c e = (and_parts (c.z == z) (nat_le west c.x && nat_lt c.x x) e).0
 
-cell_line : (z x : ℕ) (c : Cell) → same_cell c (record { x = x; z = z }) ≡ true → in_line z c ≡ true
-cell_line z x c e = (and_parts (c.x == x) (c.z == z) e).1
+beyond : (west middle east n : ℕ) → (nat_le west n && nat_lt n middle) ≡ true → (nat_le middle n && nat_lt n east) ≡ false
+beyond west middle east n e = grind (arith, nat_tests)
+
+parts_apart : (z west middle east : ℕ) (c : Cell) → in_part z west middle c ≡ true → in_part z middle east c ≡ false
+parts_apart z west middle east c e = and_right (c.z == z) (nat_le middle c.x && nat_lt c.x east) (beyond west middle east c.x (and_parts (c.z == z) (nat_le west c.x && nat_lt c.x middle) e).1)
+
+either : (west middle east n : ℕ) → west ≤ middle → middle ≤ east → (nat_le west n && nat_lt n east) ≡ ((nat_le west n && nat_lt n middle) || (nat_le middle n && nat_lt n east))
+either west middle east n f g = grind (arith, nat_tests)
+
+parts_join : (z west middle east : ℕ) (c : Cell) → west ≤ middle → middle ≤ east → in_part z west east c ≡ (in_part z west middle c || in_part z middle east c)
+parts_join z west middle east c f g = by (c.z == z) (nat_le west c.x && nat_lt c.x middle) (nat_le middle c.x && nat_lt c.x east) (nat_le west c.x && nat_lt c.x east) (either west middle east c.x f g)
+  where
+    by : (t p q r : Bool) → r ≡ (p || q) → (t && r) ≡ ((t && p) || (t && q))
+    by true p q r h = h
+    by false p q r h = refl
 
 module _ (more : Bool) (b : Building) (old mid : Sums) (z west : ℕ) where
   pub part_begins : SumsMove more (share_where (in_part z west west) b) old old
   part_begins = sums_none more (share_where (in_part z west west) b) old (λ player c at. where-false (in_part z west west) b player c (part_none z west c))
 
-  pub part_may : (x : ℕ) → SumsMove more (share_where (in_part z west x) b) old mid → MaySumsMove more (share_where (in_line z) b) old → MaySumsMove more (share_where (λ c. same_cell c (record { x = x; z = z })) b) mid
-  part_may x first may = sums_may more b (in_part z west x) (λ c. same_cell c (record { x = x; z = z })) (in_line z) old mid (part_line z west x) (cell_line z x) (part_apart z west x) first may
+  pub part_may : (x end : ℕ) → west ≤ x → x < end → SumsMove more (share_where (in_part z west x) b) old mid → MaySumsMove more (share_where (in_part z west end) b) old → MaySumsMove more (share_where (λ c. same_cell c (record { x = x; z = z })) b) mid
+  part_may x end from below first may =
+      let le : x ≤ end = omega arith in
+      sums_may more b (in_part z west x) (λ c. same_cell c (record { x = x; z = z })) (in_part z west end) old mid (λ c. part_shorter z west x end c le) (λ c. cell_part z west x end c from below) (part_apart z west x) first may
 
   pub part_moves : (x : ℕ) (new : Sums) → west ≤ x → SumsMove more (share_where (in_part z west x) b) old mid → SumsMove more (share_where (λ c. same_cell c (record { x = x; z = z })) b) mid new → SumsMove more (share_where (in_part z west (x + 1)) b) old new
   part_moves x new le first second =
       sums_more more b (in_part z west x) (λ c. same_cell c (record { x = x; z = z })) (in_part z west (x + 1)) old mid new (λ c. part_more z west x c le) (part_apart z west x) first second
+
+  pub west_may : (middle : ℕ) → MaySumsMove more (share_where (in_line z) b) old → MaySumsMove more (share_where (in_part z west middle) b) old
+  west_may middle may = sums_may more b (in_part z west west) (in_part z west middle) (in_line z) old old (part_line z west west) (part_line z west middle) (λ c e. absurd (let none = part_none z west c in cc)) part_begins may
+
+  pub east_may : (middle east : ℕ) → SumsMove more (share_where (in_part z west middle) b) old mid → MaySumsMove more (share_where (in_line z) b) old → MaySumsMove more (share_where (in_part z middle east) b) mid
+  east_may middle east first may = sums_may more b (in_part z west middle) (in_part z middle east) (in_line z) old mid (part_line z west middle) (part_line z middle east) (parts_apart z west middle east) first may
+
+  pub both_move : (middle east : ℕ) (new : Sums) → west ≤ middle → middle ≤ east → SumsMove more (share_where (in_part z west middle) b) old mid → SumsMove more (share_where (in_part z middle east) b) mid new → SumsMove more (share_where (in_part z west east) b) old new
+  both_move middle east new f g first second =
+      sums_more more b (in_part z west middle) (in_part z middle east) (in_part z west east) old mid new (λ c. parts_join z west middle east c f g) (parts_apart z west middle east) first second
 
   pub part_ends : (east : ℕ) → SpansNear b.cell.x (b.reach - 4 * abs_diff b.cell.z z) old.width (west, east) → SumsMove more (share_where (in_part z west east) b) old mid → SumsMove more (share_where (in_line z) b) old mid
   part_ends east spans = sums_same more (share_where (in_part z west east) b) (share_where (in_line z) b) old mid (λ player c at. same player c at.ground (cases_lt c.x west) (cases_lt c.x east))

@@ -106,3 +106,9 @@ left_out from reach cells n span all lt out = by (cases_lt (10 * abs_diff from n
     by : (10 * abs_diff from n < reach) ⊎ (reach ≤ 10 * abs_diff from n) → reach ≤ 10 * abs_diff from n
     by (inl near) = absurd (never out (all n lt near))
     by (inr far) = far
+
+-- ---- the octile distance
+
+-- diagonal steps along the shorter side weigh 4 more than straight ones, so it is the greater of two weights of the sides
+pub octile_is : (m n : ℕ) → 14 * min m n + 10 * (max m n - min m n) ≡ max (10 * m + 4 * n) (10 * n + 4 * m)
+octile_is m n = omega arith

@@ -1,5 +1,5 @@
 -- A table of influences, and how a building changes it.
-use Rattle.std.specs.Prelude.{◌≡◌, ℕ, ◌+◌, ◌*◌, ◌-◌, ◌^◌, ◌<◌, ◌≤◌, Bool, true, false, List, slice_index, sum_by, All, if◌then◌else◌}
+use Rattle.std.specs.Prelude.{◌≡◌, ℕ, ◌+◌, ◌*◌, ◌-◌, ◌^◌, ◌<◌, ◌≤◌, Bool, true, false, ◌==◌, ◌&&◌, nat_le, nat_lt, List, slice_index, sum_by, All, if◌then◌else◌}
 use Rattle.sim_base.specs.declared.place.Cell.{Cell}
 use Rattle.sim_base.specs.declared.setup.Setup.{Setup}
 use Rattle.sim_base.specs.Places.{Size}
@@ -67,6 +67,10 @@ MaySumsMove more by sums = (player : ℕ) (c : Cell) → IsPlaceIn sums player c
 -- what a building gives at some of the cells
 abbrev pub share_where : (Cell → Bool) → Building → ℕ → Cell → ℕ
 share_where which building player c = if which c then share_of building player c else 0
+
+-- the cells of row z from the first column to before the end
+abbrev pub in_part : ℕ → ℕ → ℕ → Cell → Bool
+in_part z first end c = c.z == z && (nat_le first c.x && nat_lt c.x end)
 
 -- what an entity gives to each player's influence at each cell
 abbrev pub share_by : Setup → Mark → ℕ → Cell → ℕ

@@ -1,15 +1,14 @@
 //! A building as the table of influences takes it: whose it is, where it stands and how far its strength reaches. It stands
 //! apart, so that no template is looked at for a cell.
 
-ghost use Rattle.std.specs.Prelude.{◌≡◌, ◌<◌, ◌≤◌, ◌*◌, ◌+◌, ◌-◌, MatchOption};
+ghost use Rattle.std.specs.Prelude.{◌≡◌, ◌<◌, ◌≤◌, ◌*◌, ◌+◌, ◌-◌, ◌^◌, min, max, MatchOption};
 ghost use Rattle.std.specs.Int.{abs_diff};
 ghost use Rattle.sim_base.specs.Limits.{IsSetup};
 ghost use Rattle.sim_base.specs.Steps.{IsOnGround};
-ghost use Rattle.sim_territory.specs.Buildings.{strength_of, IsBuildingOf, GivesNothing, SpansNear};
+ghost use Rattle.sim_territory.specs.Buildings.{IsBuildingOf, GivesNothing, SpansNear};
 ghost use Rattle.sim_territory.specs.Influence.{base_of as base_of_mark};
 
 use sim_base::{Base, Cell, Setup};
-use sim_grid::octile;
 use sim_trail::Mark;
 
 /// An obstruction of a player: its owner, its cell, and the octile distance at which its strength has come to nothing.
@@ -34,11 +33,16 @@ impl Building {
         })
     }
 
-    /// Its strength at a cell.
-    pub fn strength(&self, cell: Cell) -> u32
-        ensures { result ≡ strength_of self.now cell }
+    /// Its strength at a cell that is so many columns along from its own, and so many rows across. The octile distance is taken
+    /// as the greater of two sums, which needs one comparison.
+    #[tactic(auto, using(crate::proofs::Shares::octile_is))]
+    pub fn strength(&self, along: u32, across: u32) -> u32
+        requires along { along < 2 ^ 16 }
+        requires across { across < 2 ^ 16 }
+        ensures { result ≡ self.now.reach - (14 * min along across + 10 * (max along across - min along across)) }
     {
-        self.reach.saturating_sub(octile(self.cell, cell))
+        let farther = (10 * along + 4 * across).max(10 * across + 4 * along);
+        self.reach.saturating_sub(farther)
     }
 
     /// The columns of a ground that have all cells within its reach, from the first to before the end.
@@ -54,12 +58,13 @@ impl Building {
     }
 
     /// The columns of a ground that have all cells of a row within its reach, from the first to before the end. Of a row that is
-    /// not its own they are fewer.
+    /// not its own they are fewer, but its own column is one of them.
     pub fn columns_of(&self, z: u16, width: u16) -> (u16, u16)
         requires on { self.now.cell.x < width }
         requires narrow { width ≤ 256 }
         requires near { self.now.reach ≤ 1280 }
-        ensures order { result.0 ≤ result.1 }
+        ensures west { result.0 ≤ self.now.cell.x }
+        ensures east { self.now.cell.x < result.1 }
         ensures most { result.1 ≤ width }
         ensures all { SpansNear self.now.cell.x (self.now.reach - 4 * abs_diff self.now.cell.z z) width result }
     {
@@ -96,7 +101,8 @@ fn span(from: u16, reach: u32, cells: u16) -> (u16, u16)
     requires on { from < cells }
     requires few { cells ≤ 256 }
     requires near { reach ≤ 1280 }
-    ensures order { result.0 ≤ result.1 }
+    ensures first { result.0 ≤ from }
+    ensures end { from < result.1 }
     ensures most { result.1 ≤ cells }
     ensures all { SpansNear from reach cells result }
 {

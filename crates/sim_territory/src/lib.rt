@@ -2,7 +2,7 @@
 //!
 //! It promises that after any states that were followed, the influences and the holders that it lends, and the rooted cells,
 //! are those of the definition over the last state. It keeps them by the shifts of a trail, so that a turn costs what came
-//! and went. It stands on the trail, and on the distance and the steps of a grid.
+//! and went. It stands on the trail, and on the steps of a grid.
 //!
 //! - `building`: an obstruction of a player, its strength and the cells within its reach.
 //! - `changes`: what a shift is about, and what it does to one number.

@@ -30,7 +30,7 @@ impl Sums {
     ghost use Rattle.sim_territory.specs.Found.{AreFound, AreFoundNear};
     ghost use Rattle.sim_territory.specs.Holders.{holder_by};
     ghost use Rattle.sim_territory.specs.Keeping.{AreHolders};
-    ghost use Rattle.sim_territory.specs.Tables.{size_in, sum_place, sum_at, IsPlaceIn, SumsMove, MaySumsMove, share_where, IsMarkIn, share_by, FitShifts, FitsShift, AreShifted, IsShifted};
+    ghost use Rattle.sim_territory.specs.Tables.{size_in, sum_place, sum_at, IsPlaceIn, SumsMove, MaySumsMove, share_where, in_part, IsMarkIn, share_by, FitShifts, FitsShift, AreShifted, IsShifted};
 
     /// Nobody has influence anywhere.
     pub fn new(alloc: Global, width: u16, depth: u16, players: u8) -> Result<Sums, OutOfMemory>
@@ -162,6 +162,45 @@ impl Sums {
         &self.items.as_slice()[first..first + cells]
     }
 
+    // A building comes or goes at the cells of a row to the west of its own column, from a column on.
+    fn shift_west(&mut self, building: &Building, z: u16, west: u16, comes: bool)
+        requires place { IsPlaceIn self.old building.now.owner building.now.cell }
+        requires row { z < self.old.depth }
+        requires order { west ≤ building.now.cell.x }
+        requires may { MaySumsMove comes (share_where (in_part z west building.now.cell.x) building.now) self.old }
+        ensures { SumsMove comes (share_where (in_part z west building.now.cell.x) building.now) self.old self.new }
+    {
+        let it = *building;
+        let first = self.place(it.owner, Cell { x: 0, z });
+        let across = u32::from(it.cell.z.abs_diff(z));
+        for x in west..it.cell.x {
+            let place = first + usize::from(x);
+            let along = u32::from(it.cell.x - x);
+            let strength = it.strength(along, across);
+            self.items[place] = moved(self.items[place], strength, comes);
+        }
+    }
+
+    // A building comes or goes at the cells of a row from its own column on, to before a column.
+    fn shift_east(&mut self, building: &Building, z: u16, east: u16, comes: bool)
+        requires place { IsPlaceIn self.old building.now.owner building.now.cell }
+        requires row { z < self.old.depth }
+        requires order { building.now.cell.x ≤ east }
+        requires most { east ≤ self.old.width }
+        requires may { MaySumsMove comes (share_where (in_part z building.now.cell.x east) building.now) self.old }
+        ensures { SumsMove comes (share_where (in_part z building.now.cell.x east) building.now) self.old self.new }
+    {
+        let it = *building;
+        let first = self.place(it.owner, Cell { x: 0, z });
+        let across = u32::from(it.cell.z.abs_diff(z));
+        for x in it.cell.x..east {
+            let place = first + usize::from(x);
+            let along = u32::from(x - it.cell.x);
+            let strength = it.strength(along, across);
+            self.items[place] = moved(self.items[place], strength, comes);
+        }
+    }
+
     // A building comes or goes at the cells of a row.
     fn shift_row(&mut self, building: &Building, z: u16, comes: bool)
         requires place { IsPlaceIn self.old building.now.owner building.now.cell }
@@ -170,14 +209,9 @@ impl Sums {
         requires may { MaySumsMove comes (share_where (λ c. c.z == z) building.now) self.old }
         ensures { SumsMove comes (share_where (λ c. c.z == z) building.now) self.old self.new }
     {
-        let it = *building;
-        let first = self.place(it.owner, Cell { x: 0, z });
-        let (west, east) = it.columns_of(z, self.width);
-        for x in west..east {
-            let place = first + usize::from(x);
-            let strength = it.strength(Cell { x, z });
-            self.items[place] = moved(self.items[place], strength, comes);
-        }
+        let (west, east) = building.columns_of(z, self.width);
+        self.shift_west(building, z, west, comes);
+        self.shift_east(building, z, east, comes);
     }
 
     // A building comes or goes.

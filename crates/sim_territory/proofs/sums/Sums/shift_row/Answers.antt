@@ -1,61 +1,20 @@
--- One cell more of the row is changed.
-use Rattle.std.proofs.Common.{◌≡◌, ℕ, ◌+◌, ◌*◌, ◌<◌, length, get_or, refl, sym, ◌∙◌, ap, subst, arith}
-use Rattle.std.proofs.lemmas.List.{get_or_default}
-use Rattle.sim_territory.specs.Buildings.{strength_of}
-use Rattle.sim_territory.specs.Tables.{size_in, sum_place, SumsMove, Moves, MayMove, share_where}
-use Rattle.sim_territory.proofs.Moving.{in_part, part_begins, part_ends}
-use Rattle.sim_territory.proofs.RowSteps.{cell_on, along_row, step_within, step_may, step_moves}
+-- Both parts of a row are changed, one after the other.
+use Rattle.std.proofs.Common.{◌≤◌, arith}
+use Rattle.sim_territory.proofs.Moving.{west_may, east_may, both_move, part_ends}
 use Rattle.sim_territory.proofs.sums.Sums.shift_row.Goals as goal
 
-pub loop-x-init : goal.loop-x-init
-loop-x-init c = record {
-  from = omega arith;
-  moved = part_begins c.args.comes c.args.building.now c.args.self.now c.args.self.now c.args.z c.columns_of-west.result.0;
-}
+pub shift_west-requires-clause-may : goal.shift_west-requires-clause-may
+shift_west-requires-clause-may c = west_may c.args.comes c.args.building.now c.args.self.now c.args.self.now c.args.z c.columns_of-west.result.0 c.args.building.now.cell.x c.requires.may
 
-pub moved-requires : goal.moved-requires
-moved-requires c =
-    let b = c.args.building.now in
-    let old = c.args.self.now in
-    let mid = c.loop-x.self in
-    let x = c.loop-x.x in
-    let place = c.place-first.result + c.from.result in
-    let east : x < old.width = omega (arith, c.loop-x-test.true, c.columns_of-west.ensures.most) in
-    let is : place ≡ sum_place (size_in old) b.owner (cell_on x c.args.z) = ap (λ (n : ℕ). c.place-first.result + n) c.from.ensures ∙ along_row old b.owner c.args.z c.place-first.result x c.place-first.ensures.place in
-    let full : length mid.items.items ≡ mid.players * (mid.width * mid.depth) = omega (arith, mid.full, mid.items.ok.0) in
-    let within = step_within c.args.comes b old mid c.args.z c.columns_of-west.result.0 x place c.loop-x.invariant.moved c.requires.place east c.requires.row is full in
-    let found : c.index.result.now ≡ get_or mid.items.items place 0 = c.index.ensures ∙ get_or_default mid.items.items place c.index.result.now 0 within in
-    subst (λ (n : ℕ). MayMove c.args.comes n c.index.result.now) (sym c.strength-strength.ensures)
-    (subst (λ (n : ℕ). MayMove c.args.comes (strength_of b (cell_on x c.args.z)) n) (sym found)
-    (step_may c.args.comes b old mid c.args.z c.columns_of-west.result.0 x place c.loop-x.invariant.moved c.requires.place east c.requires.row is c.requires.may))
-
-pub loop-x-preserved : goal.loop-x-preserved
-loop-x-preserved c =
-    let b = c.args.building.now in
-    let old = c.args.self.now in
-    let mid = c.loop-x.self in
-    let x = c.loop-x.x in
-    let place = c.place-first.result + c.from.result in
-    let east : x < old.width = omega (arith, c.loop-x-test.true, c.columns_of-west.ensures.most) in
-    let is : place ≡ sum_place (size_in old) b.owner (cell_on x c.args.z) = ap (λ (n : ℕ). c.place-first.result + n) c.from.ensures ∙ along_row old b.owner c.args.z c.place-first.result x c.place-first.ensures.place in
-    let full : length mid.items.items ≡ mid.players * (mid.width * mid.depth) = omega (arith, mid.full, mid.items.ok.0) in
-    let within = step_within c.args.comes b old mid c.args.z c.columns_of-west.result.0 x place c.loop-x.invariant.moved c.requires.place east c.requires.row is full in
-    let found : c.index.result.now ≡ get_or mid.items.items place 0 = c.index.ensures ∙ get_or_default mid.items.items place c.index.result.now 0 within in
-    let step : Moves c.args.comes (strength_of b (cell_on x c.args.z)) (get_or mid.items.items place 0) c.moved.result =
-    subst (λ (n : ℕ). Moves c.args.comes n (get_or mid.items.items place 0) c.moved.result) c.strength-strength.ensures
-    (subst (λ (n : ℕ). Moves c.args.comes c.strength-strength.result n c.moved.result) found c.moved.ensures) in
-    record {
-      from = omega arith;
-      moved = step_moves c.args.comes b old mid c.args.z c.columns_of-west.result.0 x place c.loop-x.invariant.moved c.requires.place east c.requires.row is _ c.moved.result c.loop-x.invariant.from
-          (record { width = refl; depth = refl; players = refl }) refl full step;
-    }
+pub shift_east-requires-clause-may : goal.shift_east-requires-clause-may
+shift_east-requires-clause-may c =
+    east_may c.args.comes c.args.building.now c.args.self.now c.shift_west.new.self c.args.z c.columns_of-west.result.0 c.args.building.now.cell.x c.columns_of-west.result.1 c.shift_west.ensures c.requires.may
 
 pub returns : goal.returns
 returns c =
     let b = c.args.building.now in
-    let old = c.args.self.now in
-    let new = c.loop-x.self in
     let west = c.columns_of-west.result.0 in
-    let end : c.loop-x.x ≡ c.columns_of-west.result.1 = omega (arith, c.loop-x.auto.x-end, c.columns_of-west.ensures.order) in
-    part_ends c.args.comes b old new c.args.z west c.columns_of-west.result.1 c.columns_of-west.ensures.all
-    (subst (λ (n : ℕ). SumsMove c.args.comes (share_where (in_part c.args.z west n) b) old new) end c.loop-x.invariant.moved)
+    let east = c.columns_of-west.result.1 in
+    let below : b.cell.x ≤ east = omega (arith, c.columns_of-west.ensures.east) in
+    part_ends c.args.comes b c.args.self.now c.shift_east.new.self c.args.z west east c.columns_of-west.ensures.all
+    (both_move c.args.comes b c.args.self.now c.shift_west.new.self c.args.z west b.cell.x east c.shift_east.new.self c.columns_of-west.ensures.west below c.shift_west.ensures c.shift_east.ensures)

@@ -1,7 +1,6 @@
 use Rattle.std.proofs.Common.{◌≤◌}
-use Rattle.sim_territory.specs.Tables.{SumsMove, share_where}
-use Rattle.sim_territory.proofs.Moving.{in_part}
-use Rattle.sim_territory.proofs.sums.Sums.shift_row.Given as goal
+use Rattle.sim_territory.specs.Tables.{SumsMove, share_where, in_part}
+use Rattle.sim_territory.proofs.sums.Sums.shift_west.Given as goal
 
 abbrev pub invariant-loop-x : goal.invariant-loop-x
 invariant-loop-x l = record {

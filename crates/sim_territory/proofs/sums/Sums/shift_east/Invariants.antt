@@ -1,0 +1,9 @@
+use Rattle.std.proofs.Common.{◌≤◌}
+use Rattle.sim_territory.specs.Tables.{SumsMove, share_where, in_part}
+use Rattle.sim_territory.proofs.sums.Sums.shift_east.Given as goal
+
+abbrev pub invariant-loop-x : goal.invariant-loop-x
+invariant-loop-x l = record {
+  from : l.it.cell.x ≤ l.x;
+  moved : SumsMove l.comes (share_where (in_part l.z l.it.cell.x l.x) l.it) l.initial.self l.self;
+}
