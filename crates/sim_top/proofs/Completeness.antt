@@ -20,7 +20,7 @@ use Rattle.sim_top.specs.Outcome.{Outcome, Then, ThenStored, IsStored, IsOutcome
 use Rattle.sim_top.specs.Answers.{Scene, Meets, Causes}
 use Rattle.sim_top.specs.Readiness.{HoldsState, IsReady, IsFaultless, IsFinal}
 use Rattle.sim_top.specs.declared.status.Status.{Status}
-use Rattle.sim_top.specs.declared.status.Status.TheVariants.{Done, Differs, Usage, ReadFault, WriteFault, TooLong, MatchRefused, StateRefused, ListRefused, OutOfMemory, NoSuchTurn, NoFile, SightRefused, EconomyRefused}
+use Rattle.sim_top.specs.declared.status.Status.TheVariants.{Done, Differs, Usage, ReadFault, WriteFault, TooLong, MatchRefused, StateRefused, ListRefused, OutOfMemory, NoSuchTurn, NoFile, SightRefused, LogRefused, EconomyRefused}
 use Rattle.sim_top.proofs.Playing.{turn_there}
 
 -- an outcome with which a command comes to its end
@@ -153,4 +153,5 @@ final ListRefused words files before now (wanted, is, status, done) caused ready
 final NoSuchTurn words files before now (wanted, is, status, done) caused ready faultless = absurd (no_end wanted NoSuchTurn status (λ e. cc) (λ e. cc) (ready_ends files (asked_by words) wanted ready is))
 final NoFile words files before now (wanted, is, status, done) caused ready faultless = absurd (no_end wanted NoFile status (λ e. cc) (λ e. cc) (ready_ends files (asked_by words) wanted ready is))
 final SightRefused words files before now (wanted, is, status, done) caused ready faultless = absurd (no_end wanted SightRefused status (λ e. cc) (λ e. cc) (ready_ends files (asked_by words) wanted ready is))
+final LogRefused words files before now (wanted, is, status, done) caused ready faultless = absurd (no_end wanted LogRefused status (λ e. cc) (λ e. cc) (ready_ends files (asked_by words) wanted ready is))
 final EconomyRefused words files before now (wanted, is, status, done) caused ready faultless = absurd (no_end wanted EconomyRefused status (λ e. cc) (λ e. cc) (ready_ends files (asked_by words) wanted ready is))
