@@ -14,7 +14,9 @@ use Rattle.sim_base.specs.Turn.{Past, Item, Turn, Bend, turn, turns_in, after, o
 use Rattle.sim_turn_laws.specs.CommandLaws.{IsOrderOf}
 use Rattle.sim_turn_laws.proofs.Turning.{after_counts_turns}
 use Rattle.sim_play.specs.Films.{last_state}
-use Rattle.sim_play.specs.Logs.{past_of, state_after, digests_after, match_turns}
+use Rattle.sim_replay.specs.declared.log.Log.{Log}
+use Rattle.sim_replay.specs.Logs.{IsOfTurns}
+use Rattle.sim_play.specs.Logs.{past_of, state_after, digests_after, log_after, match_turns}
 use Rattle.sim_play.proofs.PaidOnes.{own_orders}
 
 -- ---- the past of turns
@@ -99,3 +101,11 @@ pub same_digests : {E : Type 0} (r : Result (List (List ℕ)) E) (setup same : S
     → IfOk r (λ digests. digests ≡ digests_after same turns) → IfOk r (λ digests. digests ≡ digests_after setup turns)
 same_digests (Err none) setup same turns e is = tt
 same_digests (Ok digests) setup same turns e is = is ∙ ap (λ (s : Setup). digests_after s turns) e
+
+-- the log of the match's own turns has as many digests as it must
+pub log_of_match : (setup : Setup) (log : Log) → log ≡ log_after setup (match_turns setup) → IsOfTurns setup log
+log_of_match setup log is =
+    let turns : length log.turns ≡ setup.turns = ap (λ (l : Log). length l.turns) is ∙ match_length setup in
+    let digests : length log.digests ≡ suc (length (match_turns setup)) =
+    ap (λ (l : Log). length l.digests) is ∙ length-map-range_with_len (λ n. digest setup (state_after setup (take n (match_turns setup)))) 0 (suc (length (match_turns setup))) in
+    record { few = omega (arith, turns); one_more = omega (arith, turns, digests, match_length setup) }
