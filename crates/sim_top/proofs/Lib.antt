@@ -17,3 +17,4 @@ pub mod Sights
 pub mod Stocking
 pub mod Balances
 pub mod Checking
+pub mod Logging
