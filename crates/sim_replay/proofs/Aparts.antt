@@ -1,5 +1,6 @@
 -- The first place at which two lists of digests differ.
-use Rattle.std.proofs.Common.{◌≡◌, ℕ, zero, suc, ◌+◌, ◌<◌, Bool, true, false, cond, List, [], ◌∷◌, length, slice_index, Option, Some, None, refl, ap, ◌∙◌, sym, subst, arith}
+use Rattle.std.proofs.Common.{◌≡◌, ℕ, zero, suc, ◌+◌, ◌<◌, Bool, true, false, cond, List, [], ◌∷◌, length, Option, Some, None, refl, ap, ◌∙◌, sym, subst, arith}
+use Rattle.std.specs.Prelude.{slice_get}
 use Rattle.std.specs.Str.{bytes_eq}
 use Rattle.std.proofs.lemmas.Slice.Eq.{bytes_eq-Decides}
 use Rattle.sim_replay.specs.declared.apart.Apart.{Apart}
@@ -11,10 +12,10 @@ record Found (turn : ℕ) (told played : List (List ℕ)) (apart : Apart) : Type
   at : apart.turn ≡ turn + place
   in_told : place < length told
   in_played : place < length played
-  told_is : slice_index told place ≡ apart.told
-  played_is : slice_index played place ≡ apart.played
+  told_is : slice_get told place ≡ Some apart.told
+  played_is : slice_get played place ≡ Some apart.played
   differ : apart.told ≡ apart.played → ⊥
-  before : (earlier : ℕ) → earlier < place → slice_index told earlier ≡ slice_index played earlier
+  before : (earlier : ℕ) → earlier < place → slice_get told earlier ≡ slice_get played earlier
 
 differs : (x y : List ℕ) → bytes_eq x y ≡ false → x ≡ y → ⊥
 differs x y other same = let yes = (bytes_eq-Decides x y).1 same in absurd cc
@@ -51,9 +52,9 @@ found turn (x ∷ xs) (y ∷ ys) apart e = by (bytes_eq x y) refl e
       before = earlier_same f.before;
     }
       where
-        earlier_same : {place : ℕ} → ((earlier : ℕ) → earlier < place → slice_index xs earlier ≡ slice_index ys earlier)
-            → (earlier : ℕ) → earlier < suc place → slice_index (x ∷ xs) earlier ≡ slice_index (y ∷ ys) earlier
-        earlier_same before zero less = same
+        earlier_same : {place : ℕ} → ((earlier : ℕ) → earlier < place → slice_get xs earlier ≡ slice_get ys earlier)
+            → (earlier : ℕ) → earlier < suc place → slice_get (x ∷ xs) earlier ≡ slice_get (y ∷ ys) earlier
+        earlier_same before zero less = ap Some same
         earlier_same before (suc earlier) less = before earlier (omega (arith, less))
 
     by : (same : Bool) → bytes_eq x y ≡ same → cond same (apart_from (turn + 1) xs ys) (Some here) ≡ Some apart → Found turn (x ∷ xs) (y ∷ ys) apart
@@ -67,8 +68,8 @@ first_is told played apart e =
     record {
       within_told = omega (arith, at, f.in_told);
       within_played = omega (arith, at, f.in_played);
-      told_is = ap (slice_index told) at ∙ f.told_is;
-      played_is = ap (slice_index played) at ∙ f.played_is;
+      told_is = ap (slice_get told) at ∙ f.told_is;
+      played_is = ap (slice_get played) at ∙ f.played_is;
       differ = f.differ;
       before = λ earlier less. f.before earlier (omega (arith, at, less));
     }

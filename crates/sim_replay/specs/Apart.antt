@@ -1,5 +1,5 @@
 -- The first place at which two lists of digests differ.
-use Rattle.std.specs.Prelude.{◌≡◌, ◌≢◌, ℕ, ◌+◌, ◌<◌, List, [], ◌∷◌, length, slice_index, Option, Some, None, if◌then◌else◌}
+use Rattle.std.specs.Prelude.{◌≡◌, ◌≢◌, ℕ, ◌+◌, ◌<◌, List, [], ◌∷◌, length, slice_get, Option, Some, None, if◌then◌else◌}
 use Rattle.std.specs.Str.{bytes_eq}
 use Rattle.sim_replay.specs.declared.apart.Apart.{Apart}
 
@@ -18,7 +18,7 @@ first_apart told played = apart_from 0 told played
 pub record IsFirstApart (told played : List (List ℕ)) (apart : Apart) : Type 0 where
   pub within_told : apart.turn < length told
   pub within_played : apart.turn < length played
-  pub told_is : slice_index told apart.turn ≡ apart.told
-  pub played_is : slice_index played apart.turn ≡ apart.played
+  pub told_is : slice_get told apart.turn ≡ Some apart.told
+  pub played_is : slice_get played apart.turn ≡ Some apart.played
   pub differ : apart.told ≢ apart.played
-  pub before : (turn : ℕ) → turn < apart.turn → slice_index told turn ≡ slice_index played turn
+  pub before : (turn : ℕ) → turn < apart.turn → slice_get told turn ≡ slice_get played turn

@@ -1,9 +1,9 @@
 -- What the sink was told of a log and what is stored of it, in the words of the rules.
-use Rattle.std.proofs.Common.{◌≡◌, ℕ, zero, suc, ◌+◌, ◌<◌, ◌≤◌, List, length, take, map, slice_index, get_or, refl, sym, ap, ◌∙◌, subst, ◌⊎◌, inl, inr, arith}
-use Rattle.std.specs.Prelude.{codes, Result, Ok, Err, Option, Some, None, IfOk}
+use Rattle.std.proofs.Common.{◌≡◌, ℕ, zero, suc, ◌+◌, ◌<◌, ◌≤◌, List, length, take, map, refl, sym, ap, ◌∙◌, subst, ◌⊎◌, inl, inr, arith}
+use Rattle.std.specs.Prelude.{codes, slice_get, Result, Ok, Err, Option, Some, None, IfOk}
 use Rattle.std.specs.Io.KnownBytes.{Appends}
 use Rattle.std.specs.List.{range_with_len}
-use Rattle.std.proofs.lemmas.List.FromFn.{length-map-range_with_len, get_or-map-range_with_len}
+use Rattle.std.proofs.lemmas.List.FromFn.{length-map-range_with_len, slice_get-map-range_with_len}
 use Rattle.sim_base.specs.declared.command.PlayerCommand.{PlayerCommand}
 use Rattle.sim_base.specs.declared.setup.Setup.{Setup}
 use Rattle.sim_base.specs.Spelling.{digest}
@@ -40,18 +40,18 @@ module _ (setup : Setup) (log : Log) (is_log : IsLog setup log) where
   same_length : length log.digests ≡ length (digests_after setup log.turns)
   same_length = omega (arith, is_log.one_more, played_length)
 
-  played_at : (turn : ℕ) → turn ≤ length log.turns → slice_index (digests_after setup log.turns) turn ≡ digest setup (state_after setup (take turn log.turns))
-  played_at turn within = get_or-map-range_with_len (λ n. digest setup (state_after setup (take n log.turns))) 0 (suc (length log.turns)) turn turn _ (omega (arith, within)) refl
+  played_at : (turn : ℕ) → turn ≤ length log.turns → slice_get (digests_after setup log.turns) turn ≡ Some (digest setup (state_after setup (take turn log.turns)))
+  played_at turn within = slice_get-map-range_with_len (λ n. digest setup (state_after setup (take n log.turns))) 0 (suc (length log.turns)) turn turn (omega (arith, within)) refl
 
   right : log.digests ≡ digests_after setup log.turns → IsRight setup log
-  right same turn within = ap (λ (ds : List (List ℕ)). slice_index ds turn) same ∙ played_at turn within
+  right same turn within = ap (λ (ds : List (List ℕ)). slice_get ds turn) same ∙ played_at turn within
 
   wrong : (apart : Apart) → IsFirstApart log.digests (digests_after setup log.turns) apart → IsFirstWrong setup log apart.turn
   wrong apart first =
       let within : apart.turn ≤ length log.turns = omega (arith, first.within_told, is_log.one_more) in
       record {
         within = within;
-        wrong = λ same. first.differ (sym first.told_is ∙ same ∙ sym (played_at apart.turn within) ∙ first.played_is);
+        wrong = λ same. first.differ (let one : Some apart.told ≡ Some apart.played = sym first.told_is ∙ same ∙ sym (played_at apart.turn within) ∙ first.played_is in cc);
         before = λ earlier less. first.before earlier less ∙ played_at earlier (omega (arith, less, within));
       }
 
@@ -68,8 +68,10 @@ module _ (setup : Setup) (log : Log) (is_log : IsLog setup log) where
         status_is = sym same ∙ ap (λ (o : Outcome). o.status) is;
         turn = apart.turn;
         first = at;
-        text = subst (λ (told : List ℕ). Appends before.told now.told (apart_lines apart.turn told (digest setup (state_after setup (take apart.turn log.turns))))) (sym first.told_is)
-            (subst (λ (played : List ℕ). Appends before.told now.told (apart_lines apart.turn apart.told played)) (sym first.played_is ∙ played_at apart.turn at.within) all.text);
+        told = apart.told;
+        told_is = first.told_is;
+        text = subst (λ (played : List ℕ). Appends before.told now.told (apart_lines apart.turn apart.told played))
+            (let one : Some apart.played ≡ Some (digest setup (state_after setup (take apart.turn log.turns))) = sym first.played_is ∙ played_at apart.turn at.within in cc) all.text;
       })
 
 module _ (files : List File) (setup : Setup) (name : List ℕ) (wanted : Outcome) (status : Status) (before now : Scene) (same : wanted.status ≡ status) (ended : HasEnded wanted.status)

@@ -1,6 +1,6 @@
 -- Logs, as one fact of a run. Of a match or a session it stores the log of its turns, each digest of which is that of the state `after` the
 -- first so many of them. One that is checked agrees exactly where each of its digests is that of the state after its own commands.
-use Rattle.std.specs.Prelude.{◌≡◌, ◌≢◌, ◌⊎◌, ℕ, ◌<◌, ◌≤◌, List, length, take, slice_index, codes, Option, Some, Ok, IfOk}
+use Rattle.std.specs.Prelude.{◌≡◌, ◌⊎◌, ℕ, ◌<◌, ◌≤◌, List, length, take, slice_get, codes, Option, Some, Ok, IfOk}
 use Rattle.std.specs.Io.KnownBytes.{Appends}
 use Rattle.sim_base.specs.declared.command.PlayerCommand.{PlayerCommand}
 use Rattle.sim_base.specs.declared.setup.Setup.{Setup}
@@ -26,7 +26,7 @@ pub record IsStored (word : List ℕ) (setup : Setup) (turns : List (List Player
 
 -- the digest of a log at a turn is that of the state after the first so many of its own turns
 abbrev pub IsRightAt : Setup → Log → ℕ → Type 0
-IsRightAt setup log turn = slice_index log.digests turn ≡ digest setup (state_after setup (take turn log.turns))
+IsRightAt setup log turn = slice_get log.digests turn ≡ Some (digest setup (state_after setup (take turn log.turns)))
 
 -- so it is at every turn
 abbrev pub IsRight : Setup → Log → Type 0
@@ -35,7 +35,7 @@ IsRight setup log = (turn : ℕ) → turn ≤ length log.turns → IsRightAt set
 -- a turn is the first at which it is not
 pub record IsFirstWrong (setup : Setup) (log : Log) (turn : ℕ) : Type 0 where
   pub within : turn ≤ length log.turns
-  pub wrong : slice_index log.digests turn ≢ digest setup (state_after setup (take turn log.turns))
+  pub wrong : IsRightAt setup log turn → ⊥
   pub before : (earlier : ℕ) → earlier < turn → IsRightAt setup log earlier
 
 -- every digest is right, and the log is said to agree up to its last turn
@@ -49,7 +49,9 @@ pub record Disagrees (setup : Setup) (log : Log) (status : Status) (before now :
   pub status_is : status ≡ Differs
   pub turn : ℕ
   pub first : IsFirstWrong setup log turn
-  pub text : Appends before.told now.told (apart_lines turn (slice_index log.digests turn) (digest setup (state_after setup (take turn log.turns))))
+  pub told : List ℕ
+  pub told_is : slice_get log.digests turn ≡ Some told
+  pub text : Appends before.told now.told (apart_lines turn told (digest setup (state_after setup (take turn log.turns))))
 
 -- the file of this name is a log of the match, and it agrees or does not
 pub record IsChecked (files : List File) (setup : Setup) (name : List ℕ) (status : Status) (before now : Scene) : Type 0 where
