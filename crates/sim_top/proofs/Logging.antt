@@ -1,9 +1,10 @@
 -- What the sink was told of a log and what is stored of it, in the words of the rules.
-use Rattle.std.proofs.Common.{◌≡◌, ℕ, zero, suc, ◌+◌, ◌<◌, ◌≤◌, List, length, take, map, refl, sym, ap, ◌∙◌, subst, ◌⊎◌, inl, inr, arith}
+use Rattle.std.proofs.Common.{◌≡◌, ℕ, zero, suc, ◌+◌, ◌<◌, ◌≤◌, List, [], length, take, map, refl, sym, ap, ◌∙◌, subst, ◌⊎◌, inl, inr, arith}
 use Rattle.std.specs.Prelude.{codes, slice_get, Result, Ok, Err, Option, Some, None, IfOk}
 use Rattle.std.specs.Io.KnownBytes.{Appends}
 use Rattle.std.specs.List.{range_with_len}
-use Rattle.std.proofs.lemmas.List.FromFn.{length-map-range_with_len, slice_get-map-range_with_len}
+use Rattle.std.proofs.lemmas.List.FromFn.{length-map-range_with_len, get_or-map-range_with_len}
+use Rattle.std.proofs.lemmas.Option.{slice_get-get_or}
 use Rattle.sim_base.specs.declared.command.PlayerCommand.{PlayerCommand}
 use Rattle.sim_base.specs.declared.setup.Setup.{Setup}
 use Rattle.sim_base.specs.Spelling.{digest}
@@ -41,7 +42,9 @@ module _ (setup : Setup) (log : Log) (is_log : IsLog setup log) where
   same_length = omega (arith, is_log.one_more, played_length)
 
   played_at : (turn : ℕ) → turn ≤ length log.turns → slice_get (digests_after setup log.turns) turn ≡ Some (digest setup (state_after setup (take turn log.turns)))
-  played_at turn within = slice_get-map-range_with_len (λ n. digest setup (state_after setup (take n log.turns))) 0 (suc (length log.turns)) turn turn (omega (arith, within)) refl
+  played_at turn within =
+      slice_get-get_or (digests_after setup log.turns) turn [] (omega (arith, within, played_length))
+      ∙ ap Some (get_or-map-range_with_len (λ n. digest setup (state_after setup (take n log.turns))) 0 (suc (length log.turns)) turn turn [] (omega (arith, within)) refl)
 
   right : log.digests ≡ digests_after setup log.turns → IsRight setup log
   right same turn within = ap (λ (ds : List (List ℕ)). slice_get ds turn) same ∙ played_at turn within
