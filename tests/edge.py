@@ -511,7 +511,7 @@ def pages(folder):
     """What the pages show is what the program prints, in a folder that looks like the top of the repository."""
     (folder / "simcore").symlink_to(PROGRAM)
     (folder / "examples").symlink_to(TOP / "examples")
-    for page in ("README.md", "examples/README.md", "docs/DESYNC.md", "docs/STOCKS.md", "docs/TERRITORY.md", "docs/VISION.md"):
+    for page in ("README.md", "examples/README.md", "docs/DESYNC.md", "docs/REPLAYS.md", "docs/STOCKS.md", "docs/TERRITORY.md", "docs/VISION.md"):
         for command, lines in commands_of(page):
             done = subprocess.run(["bash", "-c", command.replace("/tmp/", "")], cwd=folder, stdin=subprocess.DEVNULL,
                                   stdout=subprocess.PIPE, stderr=subprocess.PIPE, timeout=SECONDS)
