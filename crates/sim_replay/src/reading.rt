@@ -52,9 +52,10 @@ impl Reading {
     fn next_turn(&self, setup: &Setup) -> Option<u32>
         ensures { result ≡ (if nat_lt setup.now.turns (length self.now.digests) then None else Some (length self.now.digests)) }
     {
+        let last = setup.turns;
         match u32::try_from(self.digests.as_slice().len()) {
-            Ok(turn) if turn <= setup.turns => Some(turn),
-            _ => None,
+            Ok(turn) if turn <= last => Some(turn),
+            Ok(_) | Err(_) => None,
         }
     }
 
