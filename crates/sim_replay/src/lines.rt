@@ -1,6 +1,6 @@
 //! The lines of a log, each printed without the line feed at its end.
 
-ghost use Rattle.std.specs.Prelude.{◌≡◌, ◌++◌, OnOk, string_bytes};
+ghost use Rattle.std.specs.Prelude.{◌≡◌, ◌++◌, decimal, OnOk, string_bytes};
 ghost use Rattle.sim_replay.specs.Lines.{header_line, order_front, digest_front, digest_line};
 
 use sim_base::{OutOfMemory, Setup, push_decimal};
@@ -18,8 +18,7 @@ pub fn push_header(setup: &Setup, out: &mut String) -> Result<(), OutOfMemory>
 pub fn push_order_front(turn: u32, out: &mut String) -> Result<(), OutOfMemory>
     ensures { OnOk result (string_bytes out.new ≡ string_bytes out.old ++ order_front turn) }
 {
-    out.push_str("command turn ")?;
-    push_decimal(u64::from(turn), out)?;
+    push_number("command turn ", u64::from(turn), out)?;
     out.push_str(" player ")?;
     Ok(())
 }
@@ -28,10 +27,17 @@ pub fn push_order_front(turn: u32, out: &mut String) -> Result<(), OutOfMemory>
 pub fn push_digest_front(turn: u32, out: &mut String) -> Result<(), OutOfMemory>
     ensures { OnOk result (string_bytes out.new ≡ string_bytes out.old ++ digest_front turn) }
 {
-    out.push_str("turn ")?;
-    push_decimal(u64::from(turn), out)?;
+    push_number("turn ", u64::from(turn), out)?;
     out.push_str(" ")?;
     Ok(())
+}
+
+// A word and a number.
+fn push_number(word: &str, number: u64, out: &mut String) -> Result<(), OutOfMemory>
+    ensures { OnOk result (string_bytes out.new ≡ string_bytes out.old ++ (word.now ++ decimal number)) }
+{
+    out.push_str(word)?;
+    push_decimal(number, out)
 }
 
 /// Appends the line of a turn's end.
