@@ -1,0 +1,41 @@
+-- What passed, and then what passed behind it; and one line more is answered behind those that were.
+use Rattle.std.proofs.Common.{◌≡◌, ℕ, List, [], ◌∷◌, ◌++◌, refl, sym, ap, ◌∙◌, subst, append-nil, append_assoc, take, Option, Some, None}
+use Rattle.sim_talk.specs.Talks.{Passed, heard, told, Extends, IsBeginning, none_of, part_of}
+use Rattle.sim_talk.specs.Dialogues.{after_lines, dialogue, IsRest, nothing, unanswered, broken_off, whole_talk, IsStopped, unbegun, beginning, amid, ending}
+
+pub Extends-trans : (a b c : Option (List Passed)) (xs ys : List Passed) → Extends a b xs → Extends b c ys → Extends a c (xs ++ ys)
+Extends-trans None b c xs ys one two = tt
+Extends-trans (Some a) None c xs ys one two = absurd one
+Extends-trans (Some a) (Some b) None xs ys one two = absurd two
+Extends-trans (Some a) (Some b) (Some c) xs ys one two = two ∙ ap (λ (l : List Passed). l ++ ys) one ∙ append_assoc a xs ys
+
+-- nothing passed
+pub Extends-nothing : (a : Option (List Passed)) → Extends a a []
+Extends-nothing None = tt
+Extends-nothing (Some a) = sym (append-nil a)
+
+-- what he has come to after one line more
+pub after_lines-more : {S : Type 0} (next : S → List ℕ → S) (s : S) (lines : List (List ℕ)) (line : List ℕ) → after_lines next s (lines ++ line ∷ []) ≡ next (after_lines next s lines) line
+after_lines-more next s [] line = refl
+after_lines-more next s (l ∷ ls) line = after_lines-more next (next s l) ls line
+
+-- and what passed by then
+pub dialogue-more : {S : Type 0} (answer : S → List ℕ → List ℕ) (next : S → List ℕ → S) (s : S) (lines : List (List ℕ)) (line : List ℕ)
+    → dialogue answer next s (lines ++ line ∷ []) ≡ dialogue answer next s lines ++ heard line ∷ told (answer (after_lines next s lines) line) ∷ []
+dialogue-more answer next s [] line = refl
+dialogue-more answer next s (l ∷ ls) line = ap (λ (xs : List Passed). heard l ∷ told (answer s l) ∷ xs) (dialogue-more answer next (next s l) ls line)
+
+-- one line more was heard and answered
+pub answered_more : {S : Type 0} (answer : S → List ℕ → List ℕ) (next : S → List ℕ → S) (s : S) (lines : List (List ℕ)) (line text : List ℕ) (a b c d : Option (List Passed))
+    → text ≡ answer (after_lines next s lines) line → Extends a b (dialogue answer next s lines) → Extends b c (heard line ∷ []) → Extends c d (told text ∷ [])
+    → Extends a d (dialogue answer next s (lines ++ line ∷ []))
+answered_more answer next s lines line text a b c d is were one two =
+    subst (Extends a d) (ap (λ (t : List ℕ). dialogue answer next s lines ++ heard line ∷ told t ∷ []) is ∙ sym (dialogue-more answer next s lines line))
+    (Extends-trans a b d (dialogue answer next s lines) (heard line ∷ told text ∷ []) were (Extends-trans b c d (heard line ∷ []) (told text ∷ []) one two))
+
+-- a line was heard, and of its answer a beginning was told
+pub broke_off : {S : Type 0} (answer : S → List ℕ → List ℕ) (s : S) (line text : List ℕ) (more : List Passed) (b c d : Option (List Passed))
+    → text ≡ answer s line → Extends b c (heard line ∷ []) → IsBeginning text more → Extends c d more → (rest : List Passed) × IsRest answer s rest × Extends b d rest
+broke_off answer s line text [] b c d is one none_of two = (heard line ∷ [], unanswered line, Extends-trans b c d (heard line ∷ []) [] one two)
+broke_off answer s line text _ b c d is one (part_of part) two =
+    (_, subst (λ (t : List ℕ). IsRest answer s (heard line ∷ told (take part t) ∷ [])) (sym is) (broken_off line part), Extends-trans b c d (heard line ∷ []) _ one two)
