@@ -9,4 +9,4 @@
 
 mod hosting;
 
-pub use hosting::session_text;
+pub use hosting::{push_starts, session_text};
