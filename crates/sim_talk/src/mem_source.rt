@@ -1,7 +1,7 @@
 //! An input in memory. Whoever wants to talk to the program without a terminal, tests above all, hands it in: its bytes come in
 //! pieces of any size, and its list of calls makes any read fail.
 
-ghost use Rattle.std.specs.Prelude.{◌≡◌, ◌++◌, ◌∷◌, [], ◌≤◌, ◌↔◌, ◌×◌, Some, IfOk, IsOk, IsFalse, OnOk, OnErr, vec_len, length, min};
+ghost use Rattle.std.specs.Prelude.{◌≡◌, ◌++◌, ◌∷◌, [], ◌≤◌, ◌↔◌, Some, IfOk, IsOk, IsFalse, OnOk, OnErr, vec_len, length, min};
 ghost use Rattle.std.specs.Io.{ReadsAtMost};
 ghost use Rattle.std.specs.Io.KnownBytes.{ReadConsumes};
 ghost use Rattle.sim_store.specs.Counts.{raised};
