@@ -1,9 +1,12 @@
 //! A talk with a planner for each kind of command, over any shelf and any talk, and the number that the process then ends with.
 
-ghost use Rattle.std.specs.Prelude.{◌≡◌, All, length};
+ghost use Rattle.std.specs.Prelude.{◌≡◌, All, IfOk, IfSome, OnErr, length};
 ghost use Rattle.sim_client.specs.StageWords.{AreCleared};
 ghost use Rattle.sim_system.specs.Meanings.{HaveKinds};
 ghost use Rattle.sim_system.specs.RigWords.{systems_of};
+ghost use Rattle.sim_talk_top.specs.Talked.{TalksOf, IsTalk};
+ghost use Rattle.sim_talk_top.specs.Words.{talk_of};
+ghost use Rattle.sim_edge.specs.Process.{talk_number_of};
 
 use crate::running::planned;
 use sim_base::OutOfMemory;
@@ -40,6 +43,9 @@ pub fn talk_with<S: Shelf, T: Talk>(
     requires eight { length rigs.items ≡ 8 }
     requires kinds { All (λ r. HaveKinds (systems_of r ⟦<dyn System as System>⟧)) rigs.items }
     requires cleared { All (λ r. AreCleared (systems_of r ⟦<dyn System as System>⟧)) rigs.items }
+    requires limits { IsTalk (talk_of asked) }
+    ensures talked { IfOk result (λ ending. IfSome (S.held shelf.old) (λ files. TalksOf files (talk_of asked.entry) ending (T.passed other.old) (T.passed other.new))) }
+    ensures unbegun { OnErr result ((shelf.new ≡ shelf.old) × (other.new ≡ other.old)) }
 {
     let mut handlers = Vec::with_capacity(alloc, 7)?;
     for kind in 1..8u8 {
@@ -52,7 +58,9 @@ pub fn talk_with<S: Shelf, T: Talk>(
 }
 
 /// The number that the process ends with after a talk. Where there was no memory to begin, it is that of a run without memory.
-pub fn talk_number(ended: Result<Ending, OutOfMemory>) -> u8 {
+pub fn talk_number(ended: Result<Ending, OutOfMemory>) -> u8
+    ensures { result ≡ talk_number_of ended }
+{
     match ended {
         Ok(ending) => ending.number(),
         Err(OutOfMemory) => 9,

@@ -1,5 +1,8 @@
 //! How a talk ends: as any run does, or by a fault of hearing or telling. The numbers of the faults stand here and nowhere else.
 
+ghost use Rattle.std.specs.Prelude.{◌≡◌};
+ghost use Rattle.sim_talk_top.specs.Endings.{unheard_as, ending_of, number_of};
+
 use sim_talk::{HearFault, TalkFault};
 use sim_top::Status;
 
@@ -21,6 +24,8 @@ pub enum Ending {
 }
 
 impl From<TalkFault> for Ending {
+    ghost from_gives = { λ fault ending. ending ≡ ending_of fault };
+
     fn from(fault: TalkFault) -> Ending {
         match fault {
             TalkFault::Unheard { fault } => unheard(fault),
@@ -33,7 +38,9 @@ impl From<TalkFault> for Ending {
 }
 
 // The ending of a talk in which a line was not heard.
-fn unheard(fault: HearFault) -> Ending {
+fn unheard(fault: HearFault) -> Ending
+    ensures { result ≡ unheard_as fault }
+{
     match fault {
         HearFault::Failed => Ending::Unread,
         HearFault::CutOff => Ending::CutOff,
@@ -47,7 +54,9 @@ fn unheard(fault: HearFault) -> Ending {
 
 impl Ending {
     /// The number that the process ends with.
-    pub fn number(self) -> u8 {
+    pub fn number(self) -> u8
+        ensures { result ≡ number_of self }
+    {
         match self {
             Ending::Run { status } => status.number(),
             Ending::Unread => 15,

@@ -1,5 +1,15 @@
 //! The top call of talks: from the words to how it ended. The match is read before anything is told.
 
+ghost use Rattle.std.specs.Prelude.{◌≡◌, ◌≤◌, All, IfSome, IfOk, length, vec_capacity};
+ghost use Rattle.sim_base.specs.Limits.{IsSetup};
+ghost use Rattle.sim_client.specs.StageWords.{AreCleared};
+ghost use Rattle.sim_system.specs.Meanings.{HaveKinds};
+ghost use Rattle.sim_system.specs.RigWords.{systems_of};
+ghost use Rattle.sim_top.specs.Stops.{status_of, stop_text as text_of_stop};
+ghost use Rattle.sim_talk_top.specs.Endings.{ended_as};
+ghost use Rattle.sim_talk_top.specs.Talked.{TalksOf, TalkedOver, Refused, IsTalk, ReadsFor};
+ghost use Rattle.sim_talk_top.specs.Words.{talk_of};
+
 use crate::ending::Ending;
 use crate::words::Asked;
 use sim_base::Setup;
@@ -28,7 +38,17 @@ pub fn talk<S: Shelf, T: Talk>(
     talk: &mut T,
     rigs: Vec<Rig>,
     orders: &OrderTable,
-) -> Talked {
+) -> Talked
+    requires limits { IsTalk (talk_of asked) }
+    requires eight { length rigs.items ≡ 8 }
+    requires kinds { All (λ r. HaveKinds (systems_of r ⟦<dyn System as System>⟧)) rigs.items }
+    requires cleared { All (λ r. AreCleared (systems_of r ⟦<dyn System as System>⟧)) rigs.items }
+    ensures talks { IfSome (S.held shelf.old) (λ files. TalksOf files (talk_of asked.entry) result.ending (T.passed talk.old) (T.passed talk.new)) }
+    ensures held { S.held shelf.new ≡ S.held shelf.old }
+    ensures kinds { All (λ r. HaveKinds (systems_of r ⟦<dyn System as System>⟧)) result.rigs.items }
+    ensures eight { length result.rigs.items ≡ 8 }
+    ensures room { vec_capacity result.rigs ≡ vec_capacity rigs }
+{
     match asked {
         Asked::Live { game, clients } => {
             match session_match(alloc, shelf, game, clients) {
@@ -52,7 +72,12 @@ fn session_match<'w, S: Shelf>(
     shelf: &mut S,
     game: &'w str,
     clients: u8,
-) -> Result<Setup, Stop<'w>> {
+) -> Result<Setup, Stop<'w>>
+    ensures tells { IfSome (S.held shelf.old) (λ files. ReadsFor files game.now clients result) }
+    ensures limits { IfOk result IsSetup }
+    ensures players { IfOk result (λ setup. clients ≤ setup.players) }
+    ensures held { S.held shelf.new ≡ S.held shelf.old }
+{
     let setup = read_session_match(alloc, shelf, game)?;
     if clients > setup.players {
         return Err(Stop::ListRefused { index: 0 });
@@ -67,7 +92,17 @@ fn talk_live<T: Talk>(
     talk: &mut T,
     rigs: Vec<Rig>,
     orders: &OrderTable,
-) -> Talked {
+) -> Talked
+    requires limits { IsSetup setup.now }
+    requires clients { clients ≤ setup.now.players }
+    requires eight { length rigs.items ≡ 8 }
+    requires kinds { All (λ r. HaveKinds (systems_of r ⟦<dyn System as System>⟧)) rigs.items }
+    requires cleared { All (λ r. AreCleared (systems_of r ⟦<dyn System as System>⟧)) rigs.items }
+    ensures talked { TalkedOver setup.now clients result.ending (T.passed talk.old) (T.passed talk.new) }
+    ensures kinds { All (λ r. HaveKinds (systems_of r ⟦<dyn System as System>⟧)) result.rigs.items }
+    ensures eight { length result.rigs.items ≡ 8 }
+    ensures room { vec_capacity result.rigs ≡ vec_capacity rigs }
+{
     let (outcome, rigs) = live(alloc, setup, orders, clients, talk, rigs);
     Talked {
         ending: ended(outcome),
@@ -76,7 +111,9 @@ fn talk_live<T: Talk>(
 }
 
 // How a talk ended.
-fn ended(outcome: Result<(), TalkFault>) -> Ending {
+fn ended(outcome: Result<(), TalkFault>) -> Ending
+    ensures { result ≡ ended_as outcome }
+{
     match outcome {
         Ok(()) => Ending::Run {
             status: Status::Done,
@@ -86,7 +123,9 @@ fn ended(outcome: Result<(), TalkFault>) -> Ending {
 }
 
 // Tells why the talk does not begin.
-fn refused<T: Talk>(alloc: Global, stop: &Stop<'_>, talk: &mut T) -> Ending {
+fn refused<T: Talk>(alloc: Global, stop: &Stop<'_>, talk: &mut T) -> Ending
+    ensures { Refused (status_of stop.now) (text_of_stop stop.now) (T.passed talk.old) (T.passed talk.new) result }
+{
     let Ok(text) = stop_text(alloc, stop) else {
         return Ending::Run {
             status: Status::OutOfMemory,

@@ -1,6 +1,9 @@
 //! The words of a talk, and how long a line of it may be.
 
-ghost use Rattle.std.specs.Prelude.{◌≤◌, IfSome};
+ghost use Rattle.std.specs.Prelude.{◌≡◌, ◌≤◌, IfSome, option_map};
+ghost use Rattle.sim_top.specs.Words.{words_of};
+ghost use Rattle.sim_talk_top.specs.Talked.{IsTalk};
+ghost use Rattle.sim_talk_top.specs.Words.{talk_of, talk_by, most_in, number_in};
 
 use sim_relay::Relay;
 use sim_top::turn_of;
@@ -21,7 +24,10 @@ pub enum Asked<'w> {
 }
 
 /// The talk that the words ask for, if they ask for one.
-pub fn asked_of(words: &[String]) -> Option<Asked<'_>> {
+pub fn asked_of(words: &[String]) -> Option<Asked<'_>>
+    ensures asked { option_map talk_of result ≡ talk_by (words_of words.now) }
+    ensures limits { IfSome result (λ asked. IsTalk (talk_of asked)) }
+{
     match words {
         [command, game, clients] if command.as_str() == "live" => {
             let clients = number_of(clients.as_str(), 1, 8)? as u8;
@@ -49,7 +55,9 @@ pub fn asked_of(words: &[String]) -> Option<Asked<'_>> {
 }
 
 /// How many bytes a line of that talk may have.
-pub fn most_of(asked: &Asked<'_>) -> usize {
+pub fn most_of(asked: &Asked<'_>) -> usize
+    ensures { result ≡ most_in (talk_of asked.now) }
+{
     match asked {
         Asked::Live { .. } => MAX_LINE,
         Asked::Relay { .. } => MAX_RELAY_LINE,
@@ -58,7 +66,8 @@ pub fn most_of(asked: &Asked<'_>) -> usize {
 
 // The number within these limits that a word of one to nine digits is.
 fn number_of(word: &str, low: u32, high: u32) -> Option<u32>
-    ensures { IfSome result (λ n. (low ≤ n) × (n ≤ high)) }
+    ensures number { result ≡ number_in low high word.now }
+    ensures limits { IfSome result (λ n. (low ≤ n) × (n ≤ high)) }
 {
     let number = turn_of(word)?;
     if low <= number && number <= high {
