@@ -13,6 +13,7 @@ import os
 import pathlib
 import pty
 import select
+import socket
 import subprocess
 import sys
 import tempfile
@@ -272,6 +273,26 @@ def try_relay():
     check("relay: a line too long", ran(["relay", "2", "2", "2", "9"], b"x" * 5_242_881)[0] == 17)
 
 
+def try_sockets():
+    """The example that carries the relay over TCP: two clients are done, and both hear that a turn is released; one goes."""
+    carrier = subprocess.Popen([sys.executable, EXAMPLES / "relay_over_tcp.py", PROGRAM, "0", "2", "2", "2", "9"], stdout=subprocess.PIPE)
+    port = int(carrier.stdout.readline())
+    socks = [socket.create_connection(("127.0.0.1", port), timeout=20) for _ in range(2)]
+    for client, sock in enumerate(socks, 1):
+        sock.sendall(bytes([client]) + frame(b"\x03" + (3).to_bytes(4, "little")))
+    wanted = frame(b"\x04" + (3).to_bytes(4, "little"))
+    for client, sock in enumerate(socks, 1):
+        check(f"relay over TCP: client {client}", sock.recv(len(wanted), socket.MSG_WAITALL) == wanted)
+    socks[1].close()
+    socks[0].sendall(frame(b"\x03" + (4).to_bytes(4, "little")))
+    wanted = frame(b"\x04" + (4).to_bytes(4, "little"))
+    check("relay over TCP: one has gone", socks[0].recv(len(wanted), socket.MSG_WAITALL) == wanted)
+    socks[0].close()
+    carrier.terminate()
+    carrier.wait()
+    carrier.stdout.close()
+
+
 def typed(lines):
     """What the program tells at a terminal where somebody types these lines, and its status."""
     child, master = pty.fork()
@@ -315,7 +336,7 @@ def try_terminal():
     check("terminal: the desync is told", b"differ 1 2 entity 2 part Health" in text, text)
 
 
-for trial in (try_prefixes, try_steps, try_slow_reader, try_refusals, try_looks, try_faults, try_words, try_relay, try_terminal):
+for trial in (try_prefixes, try_steps, try_slow_reader, try_refusals, try_looks, try_faults, try_words, try_relay, try_sockets, try_terminal):
     trial()
 print(f"{FOUND['passed']} passed, {FOUND['failed']} failed")
 sys.exit(1 if FOUND["failed"] else 0)

@@ -1,2 +1,3 @@
 pub mod Pouring
+pub mod Reading
 pub mod Talking
