@@ -114,7 +114,7 @@ fn answer_all<T: Talk>(
 {
     let mut line = Vec::new(alloc);
     let mut made = 0;
-    for _ in 0..u64::MAX {
+    for _before in 0..u64::MAX {
         if !talk.hear(&mut line)? {
             return Ok(());
         }
