@@ -1,3 +1,4 @@
+pub mod Hearing
 pub mod Pouring
 pub mod Reading
 pub mod Talking

@@ -72,3 +72,12 @@ poured_much most at count bytes line fits none many =
       within = within_front count left fits none;
       many = omega (arith, length-append line (take count left), length-take-le count left fits);
     }
+
+-- the bytes from a place on, as the code has them
+pub slice_from : (raw bytes : List ℕ) (at : ℕ) → raw ≡ bytes → take (length raw - at) (drop at raw) ≡ drop at bytes
+slice_from raw bytes at is =
+    ap (λ (xs : List ℕ). take (length xs - at) (drop at xs)) is ∙ ap (λ k. take k (drop at bytes)) (sym (length-drop at bytes)) ∙ take-length (drop at bytes)
+
+-- a beginning, as the code has it
+pub slice_to : (count : ℕ) (xs : List ℕ) → take (count - 0) xs ≡ take count xs
+slice_to count xs = let e : count - 0 ≡ count = omega arith in ap (λ k. take k xs) e

@@ -1,7 +1,9 @@
 -- What passed, and then what passed behind it; and one line more is answered behind those that were.
-use Rattle.std.proofs.Common.{◌≡◌, ℕ, List, [], ◌∷◌, ◌++◌, refl, sym, ap, ◌∙◌, subst, append-nil, append_assoc, take, Option, Some, None}
+use Rattle.std.proofs.Common.{◌≡◌, ℕ, List, [], ◌∷◌, ◌++◌, refl, sym, ap, ◌∙◌, subst, append-nil, append_assoc, take, Option, Some, None, Result, Ok, Err}
+use Rattle.std.specs.Prelude.{⊤}
+use Rattle.sim_talk.specs.declared.fault.TalkFault.{TalkFault}
 use Rattle.sim_talk.specs.Talks.{Passed, heard, told, Extends, IsBeginning, none_of, part_of}
-use Rattle.sim_talk.specs.Dialogues.{after_lines, dialogue, IsRest, nothing, unanswered, broken_off, whole_talk, IsStopped, unbegun, beginning, amid, ending}
+use Rattle.sim_talk.specs.Dialogues.{after_lines, dialogue, IsRest, nothing, unanswered, broken_off, whole_talk, IsStopped, unbegun, beginning, amid, ending, Converses, TellsText}
 
 pub Extends-trans : (a b c : Option (List Passed)) (xs ys : List Passed) → Extends a b xs → Extends b c ys → Extends a c (xs ++ ys)
 Extends-trans None b c xs ys one two = tt
@@ -39,3 +41,40 @@ pub broke_off : {S : Type 0} (answer : S → List ℕ → List ℕ) (s : S) (lin
 broke_off answer s line text [] b c d is one none_of two = (heard line ∷ [], unanswered line, Extends-trans b c d (heard line ∷ []) [] one two)
 broke_off answer s line text _ b c d is one (part_of part) two =
     (_, subst (λ (t : List ℕ). IsRest answer s (heard line ∷ told (take part t) ∷ [])) (sym is) (broken_off line part), Extends-trans b c d (heard line ∷ []) _ one two)
+
+-- ---- a whole talk of its parts
+
+-- it stopped at its first text
+pub stopped_first : {S : Type 0} (answer : S → List ℕ → List ℕ) (next : S → List ℕ → S) (last : S → List ℕ) (s : S) (first : List ℕ) (fault : TalkFault) (more : List Passed) (a b : Option (List Passed))
+    → IsBeginning first more → Extends a b more → Converses (Err fault) answer next last s first a b
+stopped_first answer next last s first fault [] a b none_of told_part = ([], unbegun, told_part)
+stopped_first answer next last s first fault _ a b (part_of part) told_part = (_, beginning part, told_part)
+
+-- it stopped at a line
+pub stopped_amid : {S : Type 0} (answer : S → List ℕ → List ℕ) (next : S → List ℕ → S) (last : S → List ℕ) (s : S) (first : List ℕ) (fault : TalkFault) (lines : List (List ℕ)) (rest : List Passed) (a b c : Option (List Passed))
+    → IsRest answer (after_lines next s lines) rest → Extends a b (told first ∷ []) → Extends b c (dialogue answer next s lines ++ rest) → Converses (Err fault) answer next last s first a c
+stopped_amid answer next last s first fault lines rest a b c is one two =
+    (told first ∷ (dialogue answer next s lines ++ rest), amid lines rest is, Extends-trans a b c (told first ∷ []) (dialogue answer next s lines ++ rest) one two)
+
+-- it came to its end
+pub ended_whole : {S : Type 0} (answer : S → List ℕ → List ℕ) (next : S → List ℕ → S) (last : S → List ℕ) (s : S) (first : List ℕ) (lines : List (List ℕ)) (a b c d : Option (List Passed))
+    → Extends a b (told first ∷ []) → Extends b c (dialogue answer next s lines) → Extends c d (told (last (after_lines next s lines)) ∷ [])
+    → Extends a d (whole_talk answer next last s first lines)
+ended_whole answer next last s first lines a b c d one two three =
+    Extends-trans a b d (told first ∷ []) (dialogue answer next s lines ++ told (last (after_lines next s lines)) ∷ []) one
+    (Extends-trans b c d (dialogue answer next s lines) (told (last (after_lines next s lines)) ∷ []) two three)
+
+-- it stopped at its last text
+pub stopped_last : {S : Type 0} (answer : S → List ℕ → List ℕ) (next : S → List ℕ → S) (last : S → List ℕ) (s : S) (first : List ℕ) (fault : TalkFault) (lines : List (List ℕ)) (more : List Passed) (a b c d : Option (List Passed))
+    → Extends a b (told first ∷ []) → Extends b c (dialogue answer next s lines) → IsBeginning (last (after_lines next s lines)) more → Extends c d more
+    → Converses (Err fault) answer next last s first a d
+stopped_last answer next last s first fault lines [] a b c d one two none_of three =
+    stopped_amid answer next last s first fault lines [] a b d nothing one (Extends-trans b c d (dialogue answer next s lines) [] two three)
+stopped_last answer next last s first fault lines _ a b c d one two (part_of part) three =
+    (_, ending lines part, Extends-trans a b d (told first ∷ []) _ one (Extends-trans b c d (dialogue answer next s lines) _ two three))
+
+-- the same, whatever the answer to the last text
+pub ended_so : {S : Type 0} (answer : S → List ℕ → List ℕ) (next : S → List ℕ → S) (last : S → List ℕ) (s : S) (first : List ℕ) (lines : List (List ℕ)) (result : Result ⊤ TalkFault) (a b c d : Option (List Passed))
+    → Extends a b (told first ∷ []) → Extends b c (dialogue answer next s lines) → TellsText result (last (after_lines next s lines)) c d → Converses result answer next last s first a d
+ended_so answer next last s first lines (Ok done) a b c d one two three = (lines, ended_whole answer next last s first lines a b c d one two three)
+ended_so answer next last s first lines (Err fault) a b c d one two three = stopped_last answer next last s first fault lines three.0 a b c d one two three.1 three.2
