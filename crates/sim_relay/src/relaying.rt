@@ -29,7 +29,7 @@ pub struct Relay {
 /// Talks as the server.
 pub fn relay<T: Talk>(alloc: Global, rules: Relay, talk: &mut T) -> Result<(), TalkFault>
     requires { IsRelay rules }
-    ensures { Relays result rules (T.passed talk.old) (T.passed talk.new) }
+    ensures relays { Relays result rules (T.passed talk.old) (T.passed talk.new) }
 {
     let mut server = Server::new(alloc, rules.clients, rules.active, rules.delay, rules.turns)?;
     tell_released(alloc, &server, talk)?;

@@ -123,3 +123,10 @@ pub falls : (most count : ℕ) (ahead line ahead' line' : List ℕ) → line' �
 falls most count ahead line ahead' line' added few long some =
     let sum : length line' ≡ length line + length ahead = ap length added ∙ length-append line ahead in
     omega arith
+
+-- the same, where the fault is known by an equation
+pub heard_without : (most : ℕ) (result : Result Bool HearFault) (line : List ℕ) (a b : Option (List ℕ)) → result ≡ Err fault.OutOfMemory → HearsPart most a b → HearsOf most result line a b
+heard_without most result line a b is part = subst (λ r. HearsOf most r line a b) (sym is) part
+
+pub heard_no_more : (most : ℕ) (result : Result Bool HearFault) (line : List ℕ) (a b : Option (List ℕ)) → result ≡ Err fault.Failed → HearsPart most a b → HearsOf most result line a b
+heard_no_more most result line a b is part = subst (λ r. HearsOf most r line a b) (sym is) part

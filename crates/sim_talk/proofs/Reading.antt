@@ -1,7 +1,7 @@
 -- Which bytes of a piece are read, and which are poured into a line.
 use Rattle.std.proofs.Common.{◌≡◌, ℕ, suc, ◌+◌, ◌-◌, ◌<◌, ◌≤◌, List, [], ◌∷◌, ◌++◌, length, get_or, take, drop, refl, sym, ap, subst, ◌∙◌, arith, length-append, length-drop}
-use Rattle.std.proofs.lemmas.List.{get_or-take, get_or_default, length-take-le, take-append-drop, take-append_seam, drop-drop}
-use Rattle.std.proofs.Math.Seq.{drop-cons, take-length}
+use Rattle.std.proofs.lemmas.List.{get_or-take, get_or_default, length-take-le, take-append-drop, drop-drop}
+use Rattle.std.proofs.Math.Seq.{drop-cons, take-length, take-append_seam}
 use Rattle.sim_talk.specs.Lines.{IsWithinLine, PoursWhole, PoursOpen, PoursTooMuch}
 
 -- what a read copies to the front of the buffer, and what it leaves, is what was left before
@@ -77,7 +77,3 @@ poured_much most at count bytes line fits none many =
 pub slice_from : (raw bytes : List ℕ) (at : ℕ) → raw ≡ bytes → take (length raw - at) (drop at raw) ≡ drop at bytes
 slice_from raw bytes at is =
     ap (λ (xs : List ℕ). take (length xs - at) (drop at xs)) is ∙ ap (λ k. take k (drop at bytes)) (sym (length-drop at bytes)) ∙ take-length (drop at bytes)
-
--- a beginning, as the code has it
-pub slice_to : (count : ℕ) (xs : List ℕ) → take (count - 0) xs ≡ take count xs
-slice_to count xs = let e : count - 0 ≡ count = omega arith in ap (λ k. take k xs) e

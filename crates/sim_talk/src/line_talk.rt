@@ -56,7 +56,6 @@ impl<S: Source + Drop, K: Sink + Drop> LineTalk<S, K> {
         &self.sink
     }
 
-    #[tactic(none)]
     // The next line, without what ends it. No more of the input is read than the pieces in which it lies.
     fn read_line(&mut self, line: &mut Vec<u8>) -> Result<bool, HearFault>
         ensures taken { HearsOf self.old.most result line.new.items (prepend_known (bytes_ahead self.old.ahead) (S.left self.old.source)) (prepend_known (bytes_ahead self.new.ahead) (S.left self.new.source)) }

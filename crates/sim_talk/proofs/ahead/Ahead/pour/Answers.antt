@@ -1,6 +1,6 @@
 -- The bytes up to the first line feed go into the line.
 use Rattle.std.proofs.Common.{◌≡◌, ℕ, ◌-◌, ◌<◌, ◌≤◌, List, ◌++◌, length, get_or, take, drop, subst, refl, sym, ap, ◌∙◌, arith}
-use Rattle.sim_talk.proofs.Reading.{poured_much, poured_open, poured_whole, slice_from, slice_to}
+use Rattle.sim_talk.proofs.Reading.{poured_much, poured_open, poured_whole, slice_from}
 use Rattle.sim_talk.proofs.ahead.Ahead.pour.Goals as goal
 
 pub returns-then-count-most-clause-ok : goal.returns-then-count-most-clause-ok
@@ -22,7 +22,7 @@ returns-then-ends-clause-ok c =
     let left : take (length c.deref.result.now - at) (drop at c.deref.result.now) ≡ drop at bytes = slice_from c.deref.result.now bytes at c.deref.ensures.value in
     let few : count ≤ c.args.most - length line = omega (arith, c.if-count-most.false, c.len.ensures) in
     let added : c.extend_from_slice.new.self.items ≡ line ++ take count (drop at bytes) =
-    c.in_ok-extend_from_slice.ensures.items ∙ ap (λ (l : List ℕ). line ++ l) (slice_to count _ ∙ ap (λ (l : List ℕ). take count l) left) in
+    c.in_ok-extend_from_slice.ensures.items ∙ ap (λ (l : List ℕ). line ++ take count l) left in
     poured_whole c.args.most at count _ bytes line _ (subst (λ (l : List ℕ). count < length l) left c.if-ends.true)
     (λ k lt is. c.feed_in-count.ensures.before k lt (ap (λ (l : List ℕ). get_or l k 0) left ∙ is))
     (ap (λ (l : List ℕ). get_or l count 0) (sym left) ∙ c.feed_in-count.ensures.found c.if-ends.true) few c.requires added refl
@@ -39,5 +39,5 @@ returns-clause-ok c =
     let beyond : length (drop at bytes) ≤ count = subst (λ (l : List ℕ). length l ≤ count) left c.if-ends.false in
     let all : count ≡ length (drop at bytes) = omega arith in
     let added : c.extend_from_slice.new.self.items ≡ line ++ take count (drop at bytes) =
-    c.in_ok-extend_from_slice.ensures.items ∙ ap (λ (l : List ℕ). line ++ l) (slice_to count _ ∙ ap (λ (l : List ℕ). take count l) left) in
+    c.in_ok-extend_from_slice.ensures.items ∙ ap (λ (l : List ℕ). line ++ take count l) left in
     poured_open c.args.most at count _ bytes line _ all (λ k lt is. c.feed_in-count.ensures.before k lt (ap (λ (l : List ℕ). get_or l k 0) left ∙ is)) few c.requires added refl

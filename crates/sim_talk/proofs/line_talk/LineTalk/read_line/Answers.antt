@@ -9,8 +9,7 @@ use Rattle.sim_talk.specs.declared.fault.HearFault.TheVariants as fault
 use Rattle.sim_talk.specs.Ahead.{bytes_ahead}
 use Rattle.sim_talk.specs.LineTalk.{HearCounts}
 use Rattle.sim_talk.specs.Lines.{Pours, PoursWhole, PoursOpen, PoursTooMuch, HearsOf, IsPart}
-use Rattle.sim_talk.proofs.Hearing.{no_part, open_part, heard_whole, counted_text, heard_much, heard_part, heard_failed, taken_on, heard_end, counted_end, falls}
-use Rattle.sim_talk.proofs.Reading.{slice_to}
+use Rattle.sim_talk.proofs.Hearing.{no_part, open_part, heard_whole, counted_text, heard_much, heard_part, heard_failed, taken_on, heard_end, counted_end, falls, heard_without, heard_no_more}
 use Rattle.sim_talk.proofs.line_talk.LineTalk.read_line.Goals as goal
 
 pub pieces-init : goal.pieces-init
@@ -29,7 +28,7 @@ pub returns-in_err-pour-clause-taken : goal.returns-in_err-pour-clause-taken
 returns-in_err-pour-clause-taken g c =
     let was = c.pieces.invariant in
     let is : c.from_residual.result ≡ Err fault.OutOfMemory = search rules in
-    subst (λ r. HearsOf c.args.self.now.most r _ _ _) (sym is)
+    heard_without c.args.self.now.most c.from_residual.result _ _ _ is
     (heard_part c.args.self.now.most _ _ _ _ _ (subst (λ m. IsPart m c.pieces.line.items) was.most was.part) was.taken c.in_err-pour.ensures.err)
 
 pub returns-in_err-pour-clause-faults : goal.returns-in_err-pour-clause-faults
@@ -48,8 +47,10 @@ returns-in-Whole-clause-taken g c =
     let was = c.pieces.invariant in
     let whole : PoursWhole c.pieces.self.most (bytes_ahead c.pieces.self.ahead) c.pieces.line.items (bytes_ahead c.pour.new.self) c.pour.new.line.items =
     subst (λ p. Pours p c.pieces.self.most (bytes_ahead c.pieces.self.ahead) c.pieces.line.items (bytes_ahead c.pour.new.self) c.pour.new.line.items) c.in-Whole.is c.in_ok-pour.ensures.ok in
-    subst (λ m. HearsOf m c.text_of.result _ _ _) was.most
-    (heard_whole c.pieces.self.most c.text_of.result c.deref.result.now _ _ _ _ _ _ c.deref.ensures.value c.text_of.ensures was.part was.taken whole)
+    let part : IsPart c.args.self.now.most c.pieces.line.items = subst (λ m. IsPart m c.pieces.line.items) was.most was.part in
+    let whole' : PoursWhole c.args.self.now.most (bytes_ahead c.pieces.self.ahead) c.pieces.line.items (bytes_ahead c.pour.new.self) c.pour.new.line.items =
+    subst (λ m. PoursWhole m (bytes_ahead c.pieces.self.ahead) c.pieces.line.items (bytes_ahead c.pour.new.self) c.pour.new.line.items) was.most whole in
+    heard_whole c.args.self.now.most c.text_of.result c.deref.result.now _ _ _ _ _ _ c.deref.ensures.value c.text_of.ensures part was.taken whole'
 
 pub returns-in-Whole-clause-faults : goal.returns-in-Whole-clause-faults
 returns-in-Whole-clause-faults g c = counted_text c.text_of.result _ _ _ c.text_of.ensures c.pieces.invariant.faults
@@ -65,7 +66,10 @@ returns-in-TooLong-clause-taken g c =
     let was = c.pieces.invariant in
     let much : PoursTooMuch c.pieces.self.most (bytes_ahead c.pieces.self.ahead) c.pieces.line.items (bytes_ahead c.pour.new.self) =
     subst (λ p. Pours p c.pieces.self.most (bytes_ahead c.pieces.self.ahead) c.pieces.line.items (bytes_ahead c.pour.new.self) c.pour.new.line.items) c.in-TooLong.is c.in_ok-pour.ensures.ok in
-    subst (λ m. HearsOf m (Err fault.TooLong) c.pour.new.line.items _ _) was.most (heard_much c.pieces.self.most _ _ _ _ _ was.part was.taken much)
+    let part : IsPart c.args.self.now.most c.pieces.line.items = subst (λ m. IsPart m c.pieces.line.items) was.most was.part in
+    let much' : PoursTooMuch c.args.self.now.most (bytes_ahead c.pieces.self.ahead) c.pieces.line.items (bytes_ahead c.pour.new.self) =
+    subst (λ m. PoursTooMuch m (bytes_ahead c.pieces.self.ahead) c.pieces.line.items (bytes_ahead c.pour.new.self)) was.most much in
+    heard_much c.args.self.now.most _ _ _ _ _ part was.taken much'
 
 pub returns-in-TooLong-clause-faults : goal.returns-in-TooLong-clause-faults
 returns-in-TooLong-clause-faults g c = c.pieces.invariant.faults
@@ -84,13 +88,16 @@ returns-in_err-count-clause-taken g c =
     let was = c.pieces.invariant in
     let goes_on : PoursOpen c.pieces.self.most (bytes_ahead c.pieces.self.ahead) c.pieces.line.items (bytes_ahead c.pour.new.self) c.pour.new.line.items =
     subst (λ p. Pours p c.pieces.self.most (bytes_ahead c.pieces.self.ahead) c.pieces.line.items (bytes_ahead c.pour.new.self) c.pour.new.line.items) c.in-Open.is c.in_ok-pour.ensures.ok in
-    let is : c.from_residual.result ≡ Err fault.Failed = search rules in
-    subst (λ r. HearsOf c.args.self.now.most r _ _ _) (sym is)
-    (subst (λ m. HearsOf m (Err fault.Failed) c.pour.new.line.items _ _) was.most (heard_failed c.pieces.self.most _ _ _ _ _ _ _ was.part was.taken goes_on c.in_err-count.ensures.bytes))
+    let part : IsPart c.args.self.now.most c.pieces.line.items = subst (λ m. IsPart m c.pieces.line.items) was.most was.part in
+    let goes_on' : PoursOpen c.args.self.now.most (bytes_ahead c.pieces.self.ahead) c.pieces.line.items (bytes_ahead c.pour.new.self) c.pour.new.line.items =
+    subst (λ m. PoursOpen m (bytes_ahead c.pieces.self.ahead) c.pieces.line.items (bytes_ahead c.pour.new.self) c.pour.new.line.items) was.most goes_on in
+    let is : c.from_residual-in_err-count.result ≡ Err fault.Failed = search rules in
+    heard_no_more c.args.self.now.most c.from_residual-in_err-count.result _ _ _ is
+    (heard_failed c.args.self.now.most _ _ _ _ _ _ _ part was.taken goes_on' c.in_err-count.ensures.bytes)
 
 pub returns-in_err-count-clause-faults : goal.returns-in_err-count-clause-faults
 returns-in_err-count-clause-faults g c =
-    let is : c.from_residual.result ≡ Err fault.Failed = search rules in
+    let is : c.from_residual-in_err-count.result ≡ Err fault.Failed = search rules in
     subst (λ r. HearCounts r (g.S.Source.faults c.args.self.now.source) (g.S.Source.faults c.read.new.self)) (sym is)
     (c.in_err-count.ensures.counts ∙ ap (raised 1) c.pieces.invariant.faults)
 
@@ -107,8 +114,10 @@ returns-then-count-eq0-clause-taken g c =
     subst (λ p. Pours p c.pieces.self.most (bytes_ahead c.pieces.self.ahead) c.pieces.line.items (bytes_ahead c.pour.new.self) c.pour.new.line.items) c.in-Open.is c.in_ok-pour.ensures.ok in
     let none : take c.in_ok-count.count c.read.new.into ≡ [] = ap (λ k. take k c.read.new.into) c.if-count-eq0.true in
     let end : IsAtEnd (g.S.Source.left c.read.new.self) = search rules in
-    subst (λ m. HearsOf m c.end_of.result _ _ _) was.most
-    (heard_end c.pieces.self.most c.end_of.result c.deref.result.now _ _ _ _ _ _ _ _ c.deref.ensures.value c.end_of.ensures was.part was.taken goes_on c.in_ok-count.ensures.bytes.0 none end)
+    let part : IsPart c.args.self.now.most c.pieces.line.items = subst (λ m. IsPart m c.pieces.line.items) was.most was.part in
+    let goes_on' : PoursOpen c.args.self.now.most (bytes_ahead c.pieces.self.ahead) c.pieces.line.items (bytes_ahead c.pour.new.self) c.pour.new.line.items =
+    subst (λ m. PoursOpen m (bytes_ahead c.pieces.self.ahead) c.pieces.line.items (bytes_ahead c.pour.new.self) c.pour.new.line.items) was.most goes_on in
+    heard_end c.args.self.now.most c.end_of.result c.deref-then-count-eq0.result.now _ _ _ _ _ _ _ _ c.deref-then-count-eq0.ensures.value c.end_of.ensures part was.taken goes_on' c.in_ok-count.ensures.bytes.0 none end
 
 pub returns-then-count-eq0-clause-faults : goal.returns-then-count-eq0-clause-faults
 returns-then-count-eq0-clause-faults g c = counted_end c.end_of.result _ _ _ c.end_of.ensures (c.in_ok-count.ensures.counts ∙ c.pieces.invariant.faults)
@@ -133,7 +142,7 @@ pieces-smaller g c =
     let goes_on : PoursOpen c.pieces.self.most (bytes_ahead c.pieces.self.ahead) c.pieces.line.items (bytes_ahead c.pour.new.self) c.pour.new.line.items =
     subst (λ p. Pours p c.pieces.self.most (bytes_ahead c.pieces.self.ahead) c.pieces.line.items (bytes_ahead c.pour.new.self) c.pour.new.line.items) c.in-Open.is c.in_ok-pour.ensures.ok in
     let long : length (bytes_ahead c.hold.new.self) ≡ c.in_ok-count.count =
-    ap length (c.hold.ensures ∙ slice_to c.in_ok-count.count _) ∙ length-take-le c.in_ok-count.count c.read.new.into c.in_ok-count.ensures.bound in
+    ap length (c.hold.ensures) ∙ length-take-le c.in_ok-count.count c.read.new.into c.in_ok-count.ensures.bound in
     let some : 0 < c.in_ok-count.count = omega (arith, c.if-count-eq0.false) in
     falls c.pieces.self.most c.in_ok-count.count _ _ _ _ goes_on.added goes_on.few long some
 
@@ -144,7 +153,7 @@ pieces-preserved g c =
     subst (λ p. Pours p c.pieces.self.most (bytes_ahead c.pieces.self.ahead) c.pieces.line.items (bytes_ahead c.pour.new.self) c.pour.new.line.items) c.in-Open.is c.in_ok-pour.ensures.ok in
     record {
       part = open_part c.pieces.self.most _ _ _ _ was.part goes_on;
-      taken = taken_on c.pieces.self.most _ _ _ _ _ _ _ (take c.in_ok-count.count c.read.new.into) _ was.taken goes_on c.in_ok-count.ensures.bytes.0 (c.hold.ensures ∙ slice_to c.in_ok-count.count _);
+      taken = taken_on c.pieces.self.most _ _ _ _ _ _ _ (take c.in_ok-count.count c.read.new.into) _ was.taken goes_on c.in_ok-count.ensures.bytes.0 (c.hold.ensures);
       faults = c.in_ok-count.ensures.counts ∙ was.faults;
       sink = was.sink;
       most = was.most;
