@@ -14,7 +14,7 @@ use sim_orders::{Handler, OrderTable, Planner};
 use sim_store::Shelf;
 use sim_system::{Rig, System};
 use sim_talk::Talk;
-use sim_talk_top::{Asked, Ending, talk};
+use sim_talk_top::{Asked, Ending, converse};
 use std::alloc::Global;
 
 /// What somebody at a terminal is told where he asks for help.
@@ -53,7 +53,7 @@ pub fn talk_with<S: Shelf, T: Talk>(
         handlers.push(Handler { kind, run })?;
     }
     let orders = OrderTable::new(handlers);
-    let talked = talk(alloc, asked, shelf, other, rigs, &orders);
+    let talked = converse(alloc, asked, shelf, other, rigs, &orders);
     Ok(talked.ending)
 }
 

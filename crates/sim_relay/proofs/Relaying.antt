@@ -7,11 +7,11 @@ use Rattle.sim_talk.specs.declared.fault.TalkFault.{TalkFault}
 use Rattle.sim_talk.specs.Dialogues.{after_lines, dialogue, IsRest}
 use Rattle.sim_talk.specs.Talks.{Passed, heard, told, Extends}
 use Rattle.sim_talk.proofs.Talking.{Extends-trans, Extends-nothing, after_lines-more, answered_more}
-use Rattle.sim_relay.specs.declared.relaying.Relay.{Relay}
+use Rattle.sim_relay.specs.declared.relaying.RelayRules.{RelayRules}
 use Rattle.sim_relay.specs.Relays.{answer, next, rules_of, AnswersAll}
 
 -- some lines were answered, and the server stands for all that has arrived
-pub record HasAnswered (relay : Relay) (server : View) (count : ℕ) (old new : Option (List Passed)) : Type 0 where
+pub record HasAnswered (relay : RelayRules) (server : View) (count : ℕ) (old new : Option (List Passed)) : Type 0 where
   pub lines : List (List ℕ)
   pub rules : server.rules ≡ rules_of relay
   pub stands : StandsFor server relay.active (after_lines (next (rules_of relay)) [] lines)
@@ -19,11 +19,11 @@ pub record HasAnswered (relay : Relay) (server : View) (count : ℕ) (old new : 
   pub passed : Extends old new (dialogue (answer (rules_of relay) relay.active) (next (rules_of relay)) [] lines)
 
 -- none was yet
-pub answered_nothing : (relay : Relay) (server : View) (old : Option (List Passed)) → server.rules ≡ rules_of relay → StandsFor server relay.active [] → HasAnswered relay server 0 old old
+pub answered_nothing : (relay : RelayRules) (server : View) (old : Option (List Passed)) → server.rules ≡ rules_of relay → StandsFor server relay.active [] → HasAnswered relay server 0 old old
 answered_nothing relay server old rules stands = record { lines = []; rules = rules; stands = stands; counted = refl; passed = Extends-nothing old }
 
 -- one more was
-pub answered_line : (relay : Relay) (server server' : View) (count count' : ℕ) (line text : List ℕ) (a b c d : Option (List Passed))
+pub answered_line : (relay : RelayRules) (server server' : View) (count count' : ℕ) (line text : List ℕ) (a b c d : Option (List Passed))
     → HasAnswered relay server count a b → Extends b c (heard line ∷ []) → Extends c d (told text ∷ []) → server'.rules ≡ server.rules
     → ((h : List (Arrival (List ℕ))) → count ≡ length h → StandsFor server relay.active h → text ≡ answer (rules_of relay) relay.active h line)
     → ((h : List (Arrival (List ℕ))) → count ≡ length h → count' ≡ length (next (rules_of relay) h line))
@@ -41,7 +41,7 @@ answered_line relay server server' count count' line text a b c d was one two sa
     }
 
 -- it stopped, with this behind the answered lines
-pub stopped : (relay : Relay) (server server' : View) (count : ℕ) (fault : TalkFault) (a b d : Option (List Passed)) (was : HasAnswered relay server count a b) (rest : List Passed)
+pub stopped : (relay : RelayRules) (server server' : View) (count : ℕ) (fault : TalkFault) (a b d : Option (List Passed)) (was : HasAnswered relay server count a b) (rest : List Passed)
     → IsRest (answer (rules_of relay) relay.active) (after_lines (next (rules_of relay)) [] was.lines) rest → Extends b d rest → AnswersAll (Err fault) relay server' a d
 stopped relay server server' count fault a b d was rest is more =
     (was.lines, tt, (rest, is, Extends-trans a b d (dialogue (answer (rules_of relay) relay.active) (next (rules_of relay)) [] was.lines) rest was.passed more))

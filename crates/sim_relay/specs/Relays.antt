@@ -16,7 +16,7 @@ use Rattle.sim_talk.specs.Marks.{ok_line, refused_line}
 use Rattle.sim_talk.specs.Talks.{Passed}
 use Rattle.sim_wire.specs.Frames.{down_frame}
 use Rattle.sim_relay.specs.declared.arriving.Arriving.{Arriving}
-use Rattle.sim_relay.specs.declared.relaying.Relay.{Relay}
+use Rattle.sim_relay.specs.declared.relaying.RelayRules.{RelayRules}
 use Rattle.sim_relay.specs.Lines.{arriving_of, plain_of}
 
 -- who gets a message, and its frame
@@ -52,27 +52,27 @@ abbrev pub first_text : Rules → ℕ → List ℕ
 first_text rules active = released_line (server_after rules active []).released
 
 -- the rules of the server
-abbrev pub rules_of : Relay → Rules
+abbrev pub rules_of : RelayRules → Rules
 rules_of relay = record { clients = relay.clients; delay = relay.delay; turns = relay.turns }
 
 -- the limits of a schedule
-pub record IsRelay (relay : Relay) : Type 0 where
+pub record IsRelay (relay : RelayRules) : Type 0 where
   pub clients : IsFrom 1 8 relay.clients
   pub active : relay.active ≤ relay.clients
   pub delay : IsFrom 1 8 relay.delay
   pub turns : relay.turns ≤ 65535
 
 -- a talk with the server
-abbrev pub Relays : Result ⊤ TalkFault → Relay → Option (List Passed) → Option (List Passed) → Type 0
+abbrev pub Relays : Result ⊤ TalkFault → RelayRules → Option (List Passed) → Option (List Passed) → Type 0
 Relays result relay old new =
     Converses result (answer (rules_of relay) relay.active) (next (rules_of relay)) (last_text (rules_of relay) relay.active) [] (first_text (rules_of relay) relay.active) old new
 
 -- where all lines were answered, the server stands for all that has arrived
-abbrev pub StandsAfter : Result ⊤ TalkFault → Relay → View → List (List ℕ) → Type 0
+abbrev pub StandsAfter : Result ⊤ TalkFault → RelayRules → View → List (List ℕ) → Type 0
 StandsAfter (Ok done) relay server lines = (server.rules ≡ rules_of relay) × StandsFor server relay.active (after_lines (next (rules_of relay)) [] lines)
 StandsAfter (Err fault) relay server lines = Unit {0}
 
 -- some lines were answered; or it stopped, with at most one line more
-abbrev pub AnswersAll : Result ⊤ TalkFault → Relay → View → Option (List Passed) → Option (List Passed) → Type 0
+abbrev pub AnswersAll : Result ⊤ TalkFault → RelayRules → View → Option (List Passed) → Option (List Passed) → Type 0
 AnswersAll result relay server old new =
     (lines : List (List ℕ)) × StandsAfter result relay server lines × AnswersLines result (answer (rules_of relay) relay.active) (next (rules_of relay)) [] lines old new

@@ -15,4 +15,4 @@ mod arriving;
 mod relaying;
 
 pub use arriving::{Arriving, arriving_of};
-pub use relaying::{Relay, relay};
+pub use relaying::{RelayRules, relay};

@@ -19,7 +19,7 @@ use std::alloc::Global;
 /// What a server must know of the match of its clients: of so many clients, so many of whom are in it from the beginning, with its delay
 /// and its turns.
 #[derive(Clone, Copy, Debug, PartialEq, Eq)]
-pub struct Relay {
+pub struct RelayRules {
     pub clients: u8,
     pub active: u8,
     pub delay: u8,
@@ -27,7 +27,7 @@ pub struct Relay {
 }
 
 /// Talks as the server.
-pub fn relay<T: Talk>(alloc: Global, rules: Relay, talk: &mut T) -> Result<(), TalkFault>
+pub fn relay<T: Talk>(alloc: Global, rules: RelayRules, talk: &mut T) -> Result<(), TalkFault>
     requires { IsRelay rules }
     ensures relays { Relays result rules (T.passed talk.old) (T.passed talk.new) }
 {
@@ -51,7 +51,7 @@ fn tell_released<T: Talk>(alloc: Global, server: &Server, talk: &mut T) -> Resul
 fn answer_all<T: Talk>(
     alloc: Global,
     server: &mut Server,
-    rules: Relay,
+    rules: RelayRules,
     talk: &mut T,
 ) -> Result<(), TalkFault>
     requires rules { server.old.rules ≡ rules_of rules }

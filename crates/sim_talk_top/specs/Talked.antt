@@ -3,7 +3,7 @@ use Rattle.std.specs.Prelude.{◌≡◌, ℕ, ◌<◌, ◌≤◌, ◌⊎◌, Lis
 use Rattle.sim_base.specs.declared.setup.Setup.{Setup}
 use Rattle.sim_base.specs.Limits.{IsFrom}
 use Rattle.sim_live.specs.Live.{Lives}
-use Rattle.sim_relay.specs.declared.relaying.Relay.{Relay}
+use Rattle.sim_relay.specs.declared.relaying.RelayRules.{RelayRules}
 use Rattle.sim_relay.specs.Relays.{Relays, IsRelay}
 use Rattle.sim_report.specs.declared.refusal.Refusal.TheVariants.{List as OfList}
 use Rattle.sim_report.specs.Refusals.{refusal_text}
@@ -26,7 +26,7 @@ abbrev pub TalkedOver : Setup → ℕ → Ending → Option (List Passed) → Op
 TalkedOver setup clients ended old new = (outcome : Result ⊤ TalkFault) × (ended ≡ ended_as outcome) × Lives outcome setup clients old new
 
 -- that with the server did
-abbrev pub TalkedAs : Relay → Ending → Option (List Passed) → Option (List Passed) → Type 0
+abbrev pub TalkedAs : RelayRules → Ending → Option (List Passed) → Option (List Passed) → Type 0
 TalkedAs rules ended old new = (outcome : Result ⊤ TalkFault) × (ended ≡ ended_as outcome) × Relays outcome rules old new
 
 -- nothing was told, since the file could not be read, or memory was refused

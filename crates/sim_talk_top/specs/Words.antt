@@ -2,7 +2,7 @@
 use Rattle.std.specs.Prelude.{ℕ, ◌&&◌, nat_le, List, [], ◌∷◌, codes, Option, Some, None, option_map, option_and_then, if◌then◌else◌}
 use Rattle.std.specs.Str.{bytes_eq}
 use Rattle.sim_json.specs.Records.{next_or}
-use Rattle.sim_relay.specs.declared.relaying.Relay.{Relay as Rules}
+use Rattle.sim_relay.specs.declared.relaying.RelayRules.{RelayRules as Rules}
 use Rattle.sim_top.specs.Words.{turn_in}
 use Rattle.sim_talk_top.specs.declared.words.Asked.{Asked}
 use Rattle.sim_talk_top.specs.declared.words.Asked.TheVariants.{Live, Relay}

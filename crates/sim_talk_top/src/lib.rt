@@ -14,5 +14,5 @@ mod talking;
 mod words;
 
 pub use ending::Ending;
-pub use talking::{Talked, talk};
+pub use talking::{Talked, converse};
 pub use words::{Asked, MAX_LINE, MAX_RELAY_LINE, asked_of, most_of};

@@ -31,7 +31,7 @@ pub struct Talked {
 
 /// Talks as the words ask, over the match of a file of the shelf. In a session each client has the rig of its number. All eight come
 /// back, however it ended.
-pub fn talk<S: Shelf, T: Talk>(
+pub fn converse<S: Shelf, T: Talk>(
     alloc: Global,
     asked: Asked<'_>,
     shelf: &mut S,

@@ -5,7 +5,7 @@ ghost use Rattle.sim_top.specs.Words.{words_of};
 ghost use Rattle.sim_talk_top.specs.Talked.{IsTalk};
 ghost use Rattle.sim_talk_top.specs.Words.{talk_of, talk_by, most_in, number_in};
 
-use sim_relay::Relay;
+use sim_relay::RelayRules;
 use sim_top::turn_of;
 
 /// How many bytes a line of a session may have: 1 MiB.
@@ -20,7 +20,7 @@ pub enum Asked<'w> {
     /// A session of the match of a file, that begins with so many clients.
     Live { game: &'w str, clients: u8 },
     /// The server.
-    Relay { rules: Relay },
+    Relay { rules: RelayRules },
 }
 
 /// The talk that the words ask for, if they ask for one.
@@ -42,7 +42,7 @@ pub fn asked_of(words: &[String]) -> Option<Asked<'_>>
             let delay = number_of(delay.as_str(), 1, 8)?;
             let turns = number_of(turns.as_str(), 0, 65_535)?;
             Some(Asked::Relay {
-                rules: Relay {
+                rules: RelayRules {
                     clients: clients as u8,
                     active: active as u8,
                     delay: delay as u8,

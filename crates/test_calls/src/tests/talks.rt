@@ -1,6 +1,6 @@
 //! Lines that come in pieces of any size, each fault of a line, texts that are told in part, and the server as a talk in memory.
 
-use sim_relay::{Relay, relay};
+use sim_relay::{RelayRules, relay};
 use sim_store::{Failed, MemSink};
 use sim_talk::{HearFault, LineTalk, MemSource, MemTalk, Piece, Talk, TalkFault, json_of};
 use std::alloc::Global;
@@ -94,7 +94,7 @@ fn passed_in(alloc: Global, talk: &MemTalk) -> Result<Vec<u8>, Fail> {
 
 // The lines, of which the last comes first, and an output of so much room.
 fn relayed(alloc: Global, room: usize) -> Result<(Result<(), TalkFault>, Vec<u8>), Fail> {
-    let rules = Relay {
+    let rules = RelayRules {
         clients: 2,
         active: 1,
         delay: 1,
