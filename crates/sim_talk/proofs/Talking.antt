@@ -1,8 +1,9 @@
 -- What passed, and then what passed behind it; and one line more is answered behind those that were.
-use Rattle.std.proofs.Common.{◌≡◌, ℕ, List, [], ◌∷◌, ◌++◌, refl, sym, ap, ◌∙◌, subst, append-nil, append_assoc, take, Option, Some, None, Result, Ok, Err}
+use Rattle.std.proofs.Common.{◌≡◌, ℕ, zero, suc, List, [], ◌∷◌, ◌++◌, refl, sym, ap, ◌∙◌, subst, append-nil, append_assoc, take, Option, Some, None, Result, Ok, Err}
 use Rattle.std.specs.Prelude.{⊤}
+use Rattle.sim_store.specs.declared.fault.Failed.{Failed}
 use Rattle.sim_talk.specs.declared.fault.TalkFault.{TalkFault}
-use Rattle.sim_talk.specs.Talks.{Passed, heard, told, Extends, IsBeginning, none_of, part_of}
+use Rattle.sim_talk.specs.Talks.{Passed, heard, told, Extends, IsBeginning, none_of, part_of, Tells}
 use Rattle.sim_talk.specs.Dialogues.{after_lines, dialogue, IsRest, nothing, unanswered, broken_off, whole_talk, IsStopped, unbegun, beginning, amid, ending, Converses, TellsText}
 
 pub Extends-trans : (a b c : Option (List Passed)) (xs ys : List Passed) → Extends a b xs → Extends b c ys → Extends a c (xs ++ ys)
@@ -78,3 +79,21 @@ pub ended_so : {S : Type 0} (answer : S → List ℕ → List ℕ) (next : S →
     → Extends a b (told first ∷ []) → Extends b c (dialogue answer next s lines) → TellsText result (last (after_lines next s lines)) c d → Converses result answer next last s first a d
 ended_so answer next last s first lines (Ok done) a b c d one two three = (lines, ended_whole answer next last s first lines a b c d one two three)
 ended_so answer next last s first lines (Err fault) a b c d one two three = stopped_last answer next last s first fault lines three.0 a b c d one two three.1 three.2
+
+-- a beginning of a beginning is one
+part_again : (part count : ℕ) (text : List ℕ) → (k : ℕ) × (take part (take count text) ≡ take k text)
+part_again zero count text = (0, refl)
+part_again (suc part) zero text = (0, refl)
+part_again (suc part) (suc count) [] = (0, refl)
+part_again (suc part) (suc count) (b ∷ bs) = let rest = part_again part count bs in (suc rest.0, ap (λ (l : List ℕ). b ∷ l) rest.1)
+
+-- of a text of which a beginning was to be told, a beginning was told
+pub told_in_part : (result : Result ⊤ Failed) (failed : Failed) (text : List ℕ) (count : ℕ) (a b : Option (List Passed)) → Tells result (take count text) a b → Tells (Err failed) text a b
+told_in_part (Ok done) failed text count a b was = (told (take count text) ∷ [], part_of count, was)
+told_in_part (Err other) failed text count a b was = (was.0, shorter was.0 was.1, was.2)
+  where
+    shorter : (more : List Passed) → IsBeginning (take count text) more → IsBeginning text more
+    shorter [] none_of = none_of
+    shorter _ (part_of part) =
+        let again = part_again part count text in
+        subst (λ (t : List ℕ). IsBeginning text (told t ∷ [])) (sym again.1) (part_of again.0)
