@@ -1,5 +1,6 @@
 -- Which bytes of a piece are read, and which are poured into a line.
 use Rattle.std.proofs.Common.{◌≡◌, ℕ, suc, ◌+◌, ◌-◌, ◌<◌, ◌≤◌, List, [], ◌∷◌, ◌++◌, length, get_or, take, drop, refl, sym, ap, subst, ◌∙◌, arith, length-append, length-drop}
+use Rattle.std.specs.Prelude.{min}
 use Rattle.std.proofs.lemmas.List.{get_or-take, get_or_default, length-take-le, take-append-drop, drop-drop}
 use Rattle.std.proofs.Math.Seq.{drop-cons, take-length, take-append_seam}
 use Rattle.sim_talk.specs.Lines.{IsWithinLine, PoursWhole, PoursOpen, PoursTooMuch}
@@ -13,6 +14,21 @@ drop-read bytes into front at count fits copied =
     let left : drop (at + count) bytes ≡ drop count (drop at bytes) = sym (drop-drop count at bytes) in
     sym (take-append-drop count (drop at bytes)) ∙ ap (λ (l : List ℕ). l ++ drop count (drop at bytes)) (sym copied ∙ sym seam)
     ∙ ap (λ (l : List ℕ). take count (front ++ drop count into) ++ l) (sym left)
+
+-- no bytes where there are none
+empty_of : (xs : List ℕ) → length xs ≡ 0 → xs ≡ []
+empty_of [] is = refl
+empty_of (x ∷ xs) is = absurd (omega (arith, is))
+
+-- where a read gives nothing though it may, nothing was left
+pub nothing_left : (bytes into front : List ℕ) (at most count : ℕ) → count ≡ min (min (length (drop at bytes)) most) (length into) → 1 ≤ most → length front ≡ count
+    → count ≡ 0 → 0 < length (front ++ drop count into) → drop (at + count) bytes ≡ []
+nothing_left bytes into front at most count is some long none room =
+    let space : length (front ++ drop count into) ≡ length front + length (drop count into) = length-append front (drop count into) in
+    let rest : length (drop count into) ≡ length into - count = length-drop count into in
+    let before : length (drop at bytes) ≡ length bytes - at = length-drop at bytes in
+    let behind : length (drop (at + count) bytes) ≡ length bytes - (at + count) = length-drop (at + count) bytes in
+    empty_of (drop (at + count) bytes) (omega arith)
 
 -- none of the first bytes ends a line
 pub within_front : (count : ℕ) (left : List ℕ) → count ≤ length left → ((k : ℕ) → k < count → get_or left k 0 ≡ 10 → ⊥) → IsWithinLine (take count left)
@@ -56,10 +72,6 @@ poured_open most at count at' bytes line line' all none fits was added moved =
       within = subst IsWithinLine whole within;
       few = omega (arith, ap length added, length-append line (take count left), ap length whole, all);
     }
-  where
-    empty_of : (xs : List ℕ) → length xs ≡ 0 → xs ≡ []
-    empty_of [] is = refl
-    empty_of (x ∷ xs) is = absurd (omega (arith, is))
 
 -- it is longer than it may be
 pub poured_much : (most at count : ℕ) (bytes line : List ℕ) → count ≤ length (drop at bytes) → ((k : ℕ) → k < count → get_or (drop at bytes) k 0 ≡ 10 → ⊥)

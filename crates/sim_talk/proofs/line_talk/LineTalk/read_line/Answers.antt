@@ -142,7 +142,7 @@ pieces-smaller g c =
     let goes_on : PoursOpen c.pieces.self.most (bytes_ahead c.pieces.self.ahead) c.pieces.line.items (bytes_ahead c.pour.new.self) c.pour.new.line.items =
     subst (λ p. Pours p c.pieces.self.most (bytes_ahead c.pieces.self.ahead) c.pieces.line.items (bytes_ahead c.pour.new.self) c.pour.new.line.items) c.in-Open.is c.in_ok-pour.ensures.ok in
     let long : length (bytes_ahead c.hold.new.self) ≡ c.in_ok-count.count =
-    ap length (c.hold.ensures) ∙ length-take-le c.in_ok-count.count c.read.new.into c.in_ok-count.ensures.bound in
+    ap length (c.hold.ensures) ∙ length-take-le c.in_ok-count.count c.read.new.into c.in_ok-count.ensures.bound.0 in
     let some : 0 < c.in_ok-count.count = omega (arith, c.if-count-eq0.false) in
     falls c.pieces.self.most c.in_ok-count.count _ _ _ _ goes_on.added goes_on.few long some
 
