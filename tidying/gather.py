@@ -96,6 +96,11 @@ def origin(module, name):
     return origin(*further) if further and further != (module, name) else (module, name)
 
 
+def thing(module, name):
+    """What the name means, and the name itself: one thing may have two names."""
+    return *origin(module, name), name
+
+
 # --- files ---
 
 class Source:
@@ -344,13 +349,13 @@ def used(source, group):
                 yield entry
 
 
-def choose(imports_by_file, may, least):
+def choose(imports_by_file, may, least, unfolded):
     """From the origin of a name to the import, for the names that enough files import; one name is one thing."""
     count, first = Counter(), {}
     for imports in imports_by_file:
-        for module, name in {(origin(module, name), (module, name)) for module, name, _ in imports if may(module, name)}:
+        for module, name in {(thing(module, name), (module, name)) for module, name, _ in imports if may(module, name)}:
             count[module] += 1
-            if module not in first or preference(name) < preference(first[module]):
+            if module not in first or preference(name, unfolded) < preference(first[module], unfolded):
                 first[module] = name
     taken, chosen = {}, {}
     for key, times in sorted(count.items(), key=lambda it: (-it[1], it[0])):
@@ -361,9 +366,9 @@ def choose(imports_by_file, may, least):
     return chosen
 
 
-def preference(name):
+def preference(name, unfolded):
     module, word = name
-    return module != 'Rattle.std.proofs.Common', module != 'Rattle.std.specs.Prelude', module
+    return name not in unfolded, module != 'Rattle.std.proofs.Common', module != 'Rattle.std.specs.Prelude', module
 
 
 def facade(chosen, kind, unfolded, common):
@@ -382,7 +387,7 @@ def ways_through(chosen, module, imports_by_file):
     found = {}
     for imports in imports_by_file:
         for home, name, _ in imports:
-            if origin(home, name) in chosen:
+            if thing(home, name) in chosen:
                 found[home, name] = module
     return found
 
@@ -393,8 +398,8 @@ def best(sources, kind, may, module, unfolded, common):
     imports = [group['imports'] for _, group in groups]
     plain = sum(len(source.lines_of(group, common)) for source, group in groups)
     top, answer = plain, ({}, {})
-    for least in (2, 3, 4, 5, 6, 8, 10):
-        chosen = choose(imports, may, least)
+    for least in (1, 2, 3, 4, 6):
+        chosen = choose(imports, may, least, unfolded)
         if not chosen:
             break
         ways = {**common, **ways_through(chosen, module, imports)}
@@ -419,7 +424,7 @@ def declare(crate, kind, is_there):
         at = next((at for at, line in enumerate(lines) if re.match(r'(pub )?mod ', line)), 0)
         lines.insert(at, 'pub mod Common')
     new = '\n'.join(lines)
-    if new.strip() or lib.is_file():
+    if new != text:
         write(lib, new if new.endswith('\n') else new + '\n')
     path = crate.folder / kind / 'Common.antt'
     if not is_there and path.is_file():
@@ -450,6 +455,61 @@ def gather(crate, unfolded):
         declare(crate, kind, bool(chosen))
 
 
+# --- use items of .rt files ---
+
+def exported(text):
+    """From the path of each thing that a root file brings, without crate::, to its name there."""
+    found = {}
+    for path, names, alone in re.findall(r'(?m)^pub(?:\(crate\))? use ([a-z_][\w:]*)::(?:\{([^}]*)\}|(\w+));', text):
+        for name in re.split(r'[\s,]+', names) if names else [alone]:
+            if re.fullmatch(r'\w+', name) and name != 'self':
+                found[f'{path}::{name}'] = name
+    return found
+
+
+def paths_in(item):
+    """The paths of a `use crate::..` item with one level of braces, and None for any other."""
+    found = re.fullmatch(r'use crate::([\w:]*?)(?:::)?(?:\{([\w\s,]*)\}|(\w+));', item)
+    if not found:
+        return None
+    names = [name for name in re.split(r'[\s,]+', found[2]) if name] if found[2] is not None else [found[3]]
+    return [f'{found[1]}::{name}' if found[1] else name for name in names]
+
+
+def shorten(crate, root_file):
+    """Names that the crate's root exports are imported from there, all on one item a file: the formatter lays it out."""
+    names = exported(root_file.read_text('utf-8'))
+    for source in crate.of_kind('.rt'):
+        if source.path == root_file:
+            continue
+        text = source.path.read_text('utf-8')
+        items = re.findall(r'(?m)^use crate::[^;]*;\n', text)
+        read = [paths_in(re.sub(r'\s+', ' ', item.strip()).replace('{ ', '{').replace(', }', '}')) for item in items]
+        if not items or None in read:
+            continue
+        modules = defaultdict(set)
+        for path in sum(read, []):
+            if path in names:
+                modules[''].add(names[path])
+            else:
+                home, _, name = path.rpartition('::')
+                modules[home].add(name)
+        lines = []
+        for home, some in sorted(modules.items()):
+            inside = ', '.join(sorted(some))
+            lines.append(f'use crate::{home + "::" if home else ""}' + (f'{{{inside}}}' if len(some) > 1 else inside) + ';\n')
+        if len(lines) < len(items):
+            at = text.index(items[0])
+            for item in items:
+                text = text.replace(item, '', 1)
+            write(source.path, text[:at] + ''.join(lines) + text[at:])
+
+
+def fmt(paths):
+    for at in range(0, len(paths), 200):
+        subprocess.run([str(KIT / 'bin/rattle'), 'fmt', '--write', *map(str, paths[at : at + 200])], capture_output=True)
+
+
 def main(root):
     root = Path(root)
     listed = re.findall(r'(?m)^(\w+)[^:\n]*:', (root / 'crates.txt').read_text('utf-8'))
@@ -472,6 +532,11 @@ def main(root):
     unfolded = unfoldables(crates)
     for crate in crates:
         gather(crate, unfolded)
+    for crate in crates:
+        for name in ('lib.rt', 'main.rt'):
+            if (crate.folder / 'src' / name).is_file():
+                shorten(crate, crate.folder / 'src' / name)
+    fmt([source.path for crate in crates for source in crate.of_kind('.rt')])
     print(f'{dropped} unused imports dropped')
 
 
