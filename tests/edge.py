@@ -117,6 +117,9 @@ USAGE = b"""usage: simcore play MATCH
        simcore trial SEED UNITS TURNS
        simcore sight MATCH TURN OUT
        simcore resight MATCH STATE MAP
+       simcore log MATCH OUT
+       simcore record MATCH STEPS OUT
+       simcore check MATCH LOG
        simcore stock MATCH ECONOMY
        simcore realm MATCH TURN
        simcore film MATCH EVERY
@@ -334,6 +337,27 @@ def films(folder):
     case("a film of 4,096 posts", (status, told, error), 0, rows * 3)
 
 
+def logs(folder):
+    """Logs that find no room, of a match and of a session; the one that lies in examples; and one that is too long to be checked."""
+    camp = TOP / "examples/camp.json"
+    with open("/dev/full", "wb") as full:
+        case("a log whose line finds no room", run(["log", camp, "camp.log"], folder, full), 4, None)
+    kept = (folder / "camp.log").read_bytes()
+    case("it is saved whole before its line", run(["check", camp, "camp.log"], folder), 0, b"agree 7\n")
+    case("a log that finds no room", run(["log", camp, "/dev/full"], folder), 4, b"")
+    lies = (TOP / "examples/camp-lies.log").read_bytes()
+    case("the log that lies differs in a digit", (sum(a != b for a, b in zip(kept, lies)), len(kept) == len(lies), b""), 1, True)
+    case("the log that lies", run(["check", camp, TOP / "examples/camp-lies.log"], folder), 1,
+         b"differ turn 3\nlog a458831fc60120d3d18b505f1161fe63\nplay 08e55b0d148887ca83ed93911c4fd866\n")
+    resigned = b",".join(b'[%d,%d,"resign"]' % (1 + i // 512, 1 + i // 64 % 8) for i in range(1000 * 512))
+    (folder / "long.json").write_bytes(EMPTY.replace(b'"players":[[]]', b'"players":[[],[],[],[],[],[],[],[]]')
+                                       .replace(b'"turns":2', b'"turns":1000').replace(b'"commands":[]', b'"commands":[%s]' % resigned))
+    status, text, error = run(["log", "long.json", "long.log"], folder)
+    size = (folder / "long.log").stat().st_size
+    case("a log of more than 16,777,216 bytes", (status, text, error), 0, b"log 1000 %d\n" % size)
+    case("is too long to be checked", (run(["check", "long.json", "long.log"], folder)[0], size > 16777216, b""), 5, True)
+
+
 def step_list(clients, *steps):
     """A list of steps, in which so many clients begin."""
     return b'{"clients":%d,"steps":[%s]}' % (clients, b",".join(steps))
@@ -487,7 +511,7 @@ def pages(folder):
     """What the pages show is what the program prints, in a folder that looks like the top of the repository."""
     (folder / "simcore").symlink_to(PROGRAM)
     (folder / "examples").symlink_to(TOP / "examples")
-    for page in ("README.md", "examples/README.md", "docs/DESYNC.md", "docs/STOCKS.md", "docs/TERRITORY.md", "docs/VISION.md"):
+    for page in ("README.md", "examples/README.md", "docs/DESYNC.md", "docs/REPLAYS.md", "docs/STOCKS.md", "docs/TERRITORY.md", "docs/VISION.md"):
         for command, lines in commands_of(page):
             done = subprocess.run(["bash", "-c", command.replace("/tmp/", "")], cwd=folder, stdin=subprocess.DEVNULL,
                                   stdout=subprocess.PIPE, stderr=subprocess.PIPE, timeout=SECONDS)
@@ -698,6 +722,7 @@ def main():
         rejoins(folder)
         territories(folder)
         films(folder)
+        logs(folder)
         sessions_of_walkers(folder)
         refused_sessions(folder)
         memory(folder)

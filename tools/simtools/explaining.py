@@ -237,14 +237,14 @@ def explain_line(words, players=8):
     raise ToolFault(f"the program prints no such line: {' '.join(words)}")
 
 
-COMMANDS = ("play", "resume", "show", "rejoin", "compare", "session", "serve", "state")
+COMMANDS = ("play", "resume", "show", "rejoin", "compare", "session", "serve", "state", "log", "record", "check")
 
 
 def explain_run(words, program):
     """Runs the program with these words; where it refuses, what it prints and the lines about it."""
     status, text = Program(program).try_run(*words)
     said = text.strip()
-    if status not in (6, 7, 8, 10):
+    if status not in (6, 7, 8, 10, 13):
         raise ToolFault(f"the program refused nothing: it ended with status {status}")
     line = said.split(" ", 3) if said.startswith("state") else said.split()
     files = words[1:]
@@ -252,10 +252,10 @@ def explain_run(words, program):
         return [said, *explain_line([*line, files[0]])]
     if status == 7:
         return [said, *explain_line([*line, files[0], line[3]])]
-    if status == 10:
+    if status in (10, 13):
         return [said, *explain_line(line)]
     players = 8 if words[0] == "serve" else len(json.loads(read_bytes(files[0]))["players"])
-    return [said, *explain_list(number(line[2]), files[-1], players)]
+    return [said, *explain_list(number(line[2]), files[1] if words[0] == "record" else files[-1], players)]
 
 
 def main(words):

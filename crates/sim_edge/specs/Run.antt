@@ -8,6 +8,7 @@ use Rattle.sim_top.specs.Given.{GaveForWords}
 use Rattle.sim_top.specs.Films.{OfFilm, Film}
 use Rattle.sim_top.specs.Headline.{Headline}
 use Rattle.sim_top.specs.Hosting.{OfSession}
+use Rattle.sim_top.specs.Logs.{TellsLogs}
 use Rattle.sim_top.specs.Parts.{OfParts, PartsTold}
 use Rattle.sim_top.specs.Readiness.{IsReady, IsFaultless, IsFinal}
 use Rattle.sim_top.specs.Reads.{LacksMatch, HasEnded, IsUnfound}
@@ -35,6 +36,9 @@ pub record Ran (words : List (List ℕ)) (before now : Scene) (status : Status) 
   -- the exact balances
   pub stocks : IfSome before.held (λ files. HasEnded status
       → OfStock files (asked_by words) (λ setup economy. Balances setup economy before.told now.told))
+  -- what is stored of a log, of a match or of a session, is its turns with the digests after each; and a log that is checked is said to agree
+  -- exactly where each of its digests is that of the state after its own commands
+  pub logs : IfSome before.held (λ files. HasEnded status → TellsLogs files (asked_by words) status before now)
   -- the status, the text and the saved file are those of the words, or a fault or want of memory came between
   pub answers : IfSome before.held (λ files. Meets status words files before now)
   -- over good files and without a fault the command comes to its end, or there is no memory

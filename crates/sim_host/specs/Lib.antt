@@ -1,2 +1,3 @@
 pub mod Rigs
 pub mod Starts
+pub mod Recording

@@ -5,8 +5,11 @@
 //! for what these are in the end. It stands on `sim_session`, which makes the steps, and on the lines of `sim_session_text`.
 //!
 //! - `hosting`: a session that is begun, goes through its steps and is told.
+//! - `recording`: one that goes through its steps for the commands of its released turns.
 #![tactic(auto)]
 
 mod hosting;
+mod recording;
 
 pub use hosting::session_text;
+pub use recording::released_turns;

@@ -6,3 +6,4 @@ pub mod PlayerLines
 pub mod Later
 pub mod ToldTurns
 pub mod PaidOnes
+pub mod LogTurns

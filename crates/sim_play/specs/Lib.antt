@@ -4,3 +4,4 @@ pub mod Seen
 pub mod States
 pub mod Films
 pub mod Paid
+pub mod Logs

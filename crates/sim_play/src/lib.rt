@@ -16,6 +16,7 @@
 //! - `holdings`: what is told of them.
 //! - `sights`: what the players of a match see at a turn, and have explored up to it.
 //! - `films`: the states of a match, so many turns apart.
+//! - `own`: the turns of a match file; `logs`: a match that is played by the commands of a log, with the digests of its states.
 #![tactic(auto)]
 
 mod balances;
@@ -25,8 +26,10 @@ mod follower;
 mod following;
 mod holdings;
 mod lines;
+mod logs;
 mod market;
 mod matches;
+mod own;
 mod paid_matches;
 mod realm;
 mod rejoin;
@@ -34,6 +37,7 @@ mod sights;
 mod trial;
 
 pub use films::film_text;
+pub use logs::{digests_after, log_after, match_log};
 pub use market::Market;
 pub use matches::{play_text, resume_text, state_at};
 pub use realm::realm_text;

@@ -32,6 +32,10 @@ command_text command.Resign = codes "resign"
 abbrev pub order_text : PlayerCommand → List ℕ
 order_text order = codes " player " ++ (decimal order.player ++ (codes " " ++ command_text order.command))
 
+-- a turn, and what a player commands in it
+abbrev pub turn_order_text : ℕ → PlayerCommand → List ℕ
+turn_order_text turn order = codes "command turn " ++ (decimal turn ++ order_text order)
+
 -- a report of this turn by this client differs from the turn's first, and of which kind such reports are
 abbrev pub notice_text : ℕ → ℕ → List ℕ
 notice_text turn client = codes "notice " ++ (decimal turn ++ (codes " " ++ (decimal client ++ report_kind turn)))
@@ -40,7 +44,7 @@ notice_text turn client = codes "notice " ++ (decimal turn ++ (codes " " ++ (dec
 abbrev pub down_text : DownOf (List ℕ) → List ℕ
 down_text (Ask client) = codes "ask " ++ decimal client
 down_text (State done bytes) = codes "state done " ++ (decimal done ++ (codes " bytes " ++ decimal (length bytes)))
-down_text (OfTurn turn order) = codes "command turn " ++ (decimal turn ++ order_text order)
+down_text (OfTurn turn order) = turn_order_text turn order
 down_text (Release turn) = codes "release " ++ decimal turn
 down_text (Notice turn client) = notice_text turn client
 down_text (Refused code) = codes "refused " ++ decimal code

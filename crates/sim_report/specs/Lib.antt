@@ -1,5 +1,6 @@
 pub mod Events
 pub mod Lines
+pub mod LogLines
 pub mod Places
 pub mod Refusals
 pub mod Show

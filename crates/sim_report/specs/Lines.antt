@@ -17,10 +17,13 @@ usage_text =
     (codes "       simcore trial SEED UNITS TURNS\n" ++
     (codes "       simcore sight MATCH TURN OUT\n" ++
     (codes "       simcore resight MATCH STATE MAP\n" ++
+    (codes "       simcore log MATCH OUT\n" ++
+    (codes "       simcore record MATCH STEPS OUT\n" ++
+    (codes "       simcore check MATCH LOG\n" ++
     (codes "       simcore stock MATCH ECONOMY\n" ++
     (codes "       simcore realm MATCH TURN\n" ++
     (codes "       simcore film MATCH EVERY\n" ++
-    codes "       simcore parts MATCH\n")))))))))))))
+    codes "       simcore parts MATCH\n"))))))))))))))))
 
 -- whether a report of a turn carries a whole or a quick digest
 abbrev pub report_kind : ℕ → List ℕ

@@ -2,7 +2,7 @@
 
 ghost use Rattle.std.specs.Prelude.{◌≡◌, ◌++◌, length, take, flat_map, codes, decimal, OnOk, OnErr, string_bytes};
 ghost use Rattle.sim_report.specs.Show.{point_text};
-ghost use Rattle.sim_report.specs.Downs.{next_id, ids_text, command_text, order_text, notice_text, down_text};
+ghost use Rattle.sim_report.specs.Downs.{next_id, ids_text, command_text, order_text, turn_order_text, notice_text, down_text};
 
 use crate::line::report_kind;
 use crate::show::write_point;
@@ -24,6 +24,25 @@ pub fn push_down(message: &Down, out: &mut String) -> Result<(), OutOfMemory>
     }
 }
 
+/// Appends what a player commands in a turn, as the message of it is told, or leaves the text as it was.
+pub fn push_turn_order(
+    turn: u32,
+    order: &PlayerCommand,
+    out: &mut String,
+) -> Result<(), OutOfMemory>
+    ensures ok { OnOk result (string_bytes out.new ≡ string_bytes out.old ++ turn_order_text turn order.now) }
+    ensures err { OnErr result (string_bytes out.new ≡ string_bytes out.old) }
+{
+    let length = out.len();
+    match append_turn_order(turn, order, out) {
+        Ok(()) => Ok(()),
+        Err(stop) => {
+            out.truncate(length);
+            Err(stop)
+        }
+    }
+}
+
 /// Appends a message; after an error a part of it may stand behind the old text, here and below.
 pub fn append_down(message: &Down, out: &mut String) -> Result<(), OutOfMemory>
     ensures ok { OnOk result (string_bytes out.new ≡ string_bytes out.old ++ down_text message.now) }
@@ -35,14 +54,19 @@ pub fn append_down(message: &Down, out: &mut String) -> Result<(), OutOfMemory>
             append_number("state done ", u64::from(*done), out)?;
             append_number(" bytes ", bytes.as_slice().len() as u64, out)
         }
-        Down::Command { turn, order } => {
-            append_number("command turn ", u64::from(*turn), out)?;
-            append_order(order, out)
-        }
+        Down::Command { turn, order } => append_turn_order(*turn, order, out),
         Down::Release { turn } => append_number("release ", u64::from(*turn), out),
         Down::Notice { turn, client } => append_notice(*turn, *client, out),
         Down::Refused { code } => append_number("refused ", u64::from(*code), out),
     }
+}
+
+fn append_turn_order(turn: u32, order: &PlayerCommand, out: &mut String) -> Result<(), OutOfMemory>
+    ensures ok { OnOk result (string_bytes out.new ≡ string_bytes out.old ++ turn_order_text turn order.now) }
+    ensures err { OnErr result (take (length (string_bytes out.old)) (string_bytes out.new) ≡ string_bytes out.old) }
+{
+    append_number("command turn ", u64::from(turn), out)?;
+    append_order(order, out)
 }
 
 fn append_notice(turn: u32, client: u8, out: &mut String) -> Result<(), OutOfMemory>

@@ -5,6 +5,7 @@
 //! at which two states differ, on `sim_wire` for messages, and on `sim_bytes` for bytes in hexadecimal.
 //!
 //! - `line`: how the program is called, and the lines of a turn and of a stored state.
+//! - `log`: the lines about logs.
 //! - `show`: a state, row by row.
 //! - `down`: a message of the server.
 //! - `served`: the lines of a server.
@@ -20,6 +21,7 @@
 mod down;
 mod event;
 mod line;
+mod log;
 mod parts;
 mod place;
 mod refusal;
@@ -29,9 +31,10 @@ mod stock;
 mod territory;
 mod ways;
 
-pub use down::push_down;
+pub use down::{push_down, push_turn_order};
 pub use event::push_event;
 pub use line::{push_saved, push_turn, push_usage};
+pub use log::{push_agree, push_apart, push_logged};
 pub use parts::push_parts;
 pub use place::{part_name, push_place};
 pub use refusal::{Refusal, push_refusal};

@@ -18,6 +18,9 @@ const USAGE: &str = "usage: simcore play MATCH
        simcore trial SEED UNITS TURNS
        simcore sight MATCH TURN OUT
        simcore resight MATCH STATE MAP
+       simcore log MATCH OUT
+       simcore record MATCH STEPS OUT
+       simcore check MATCH LOG
        simcore stock MATCH ECONOMY
        simcore realm MATCH TURN
        simcore film MATCH EVERY

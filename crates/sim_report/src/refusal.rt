@@ -1,4 +1,4 @@
-//! Why something is refused, as a line of its own. The six causes are one type, since a refused run of the program
+//! Why something is refused, as a line of its own. The seven causes are one type, since a refused run of the program
 //! prints one of them and no more.
 
 ghost use Rattle.std.specs.Prelude.{◌≡◌, ◌++◌, OnOk, OnErr, string_bytes};
@@ -8,7 +8,7 @@ use sim_base::OutOfMemory;
 
 /// A cause for which the program refuses what it was given: a match file, at this index of what its code speaks of; a
 /// stored state, in the file of this name; a list of steps or arrivals, at this index; a turn that the match lacks; the
-/// explored cells of a file; or an economy, at this index of its deeds.
+/// explored cells of a file; a log, at this line; or an economy, at this index of its deeds.
 #[derive(Clone, Copy, Debug, PartialEq, Eq)]
 pub enum Refusal<'a> {
     Match { code: u8, index: u32 },
@@ -16,6 +16,7 @@ pub enum Refusal<'a> {
     List { index: u32 },
     Turn { asked: u32, turns: u32 },
     Sight { code: u8 },
+    Log { line: u32 },
     Economy { index: u32 },
 }
 
@@ -40,6 +41,7 @@ fn write_refusal(refusal: &Refusal, line: &mut String) -> Result<(), OutOfMemory
         Refusal::List { index } => writeln!(line, "list refused {index}")?,
         Refusal::Turn { asked, turns } => writeln!(line, "no turn {asked} of {turns}")?,
         Refusal::Sight { code } => writeln!(line, "sight refused {code}")?,
+        Refusal::Log { line: number } => writeln!(line, "log refused {number}")?,
         Refusal::Economy { index } => writeln!(line, "economy refused {index}")?,
     }
     Ok(())

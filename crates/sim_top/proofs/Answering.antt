@@ -20,7 +20,7 @@ use Rattle.sim_top.specs.declared.commands.Saved.{Saved}
 use Rattle.sim_top.specs.declared.status.Status.{Status}
 use Rattle.sim_top.specs.declared.status.Status.TheVariants as status
 use Rattle.sim_top.specs.declared.stop.Stop.{Stop}
-use Rattle.sim_top.specs.declared.stop.Stop.TheVariants.{ReadFault, TooLong, NoFile, OutOfMemory, MatchRefused, StateRefused, ListRefused, NoSuchTurn, SightRefused, EconomyRefused}
+use Rattle.sim_top.specs.declared.stop.Stop.TheVariants.{ReadFault, TooLong, NoFile, OutOfMemory, MatchRefused, StateRefused, ListRefused, NoSuchTurn, SightRefused, LogRefused, EconomyRefused}
 use Rattle.sim_top.proofs.Counting.{counted_after, content_causes, gave_both, gave_on, none_given, nothing_given}
 use Rattle.sim_top.proofs.Stopping.{Stopped-weaker, Then-read, Then-ended, Told, Told-both, state_ends, state_goes_on}
 
@@ -119,6 +119,7 @@ may_match asked (StateRefused code name) reads has of = absurd of
 may_match asked (ListRefused index) reads has of = absurd of
 may_match asked (NoSuchTurn turn turns) reads has of = absurd of
 may_match asked (SightRefused code) reads has of = absurd of
+may_match asked (LogRefused line) reads has of = absurd of
 may_match asked (EconomyRefused index) reads has of = absurd of
 
 pub may_state : (asked : Asked) (stop : Stop) → IsTrue (reads_file asked) → IsTrue (loads_state asked) → IsOfState stop → MayAnswer asked (status_of stop)
@@ -131,6 +132,7 @@ may_state asked (StateRefused code name) reads loads of = loads
 may_state asked (ListRefused index) reads loads of = absurd of
 may_state asked (NoSuchTurn turn turns) reads loads of = absurd of
 may_state asked (SightRefused code) reads loads of = absurd of
+may_state asked (LogRefused line) reads loads of = absurd of
 may_state asked (EconomyRefused index) reads loads of = absurd of
 
 may_list : (asked : Asked) (stop : Stop) → IsTrue (reads_file asked) → IsTrue (reads_list asked) → IsOfList stop → MayAnswer asked (status_of stop)
@@ -143,6 +145,7 @@ may_list asked (StateRefused code name) reads lists of = absurd of
 may_list asked (ListRefused index) reads lists of = lists
 may_list asked (NoSuchTurn turn turns) reads lists of = absurd of
 may_list asked (SightRefused code) reads lists of = absurd of
+may_list asked (LogRefused line) reads lists of = absurd of
 may_list asked (EconomyRefused index) reads lists of = absurd of
 
 gave_match : (files : List File) (asked : Asked) (stop : Stop) (n : ℕ) (old new : Counts) → length_first files asked ≡ n → IsOfMatch stop → (IsRefusal stop → Gave n old new)
@@ -156,6 +159,7 @@ gave_match files asked (StateRefused code name) n old new is of h = absurd of
 gave_match files asked (ListRefused index) n old new is of h = absurd of
 gave_match files asked (NoSuchTurn turn turns) n old new is of h = absurd of
 gave_match files asked (SightRefused code) n old new is of h = absurd of
+gave_match files asked (LogRefused line) n old new is of h = absurd of
 gave_match files asked (EconomyRefused index) n old new is of h = absurd of
 
 pub gave_state : (files : List File) (asked : Asked) (stop : Stop) (old new : Counts) → IsOfState stop → (IsRefusal stop → GaveToState files asked old new) → GaveFor files asked (status_of stop) old new
@@ -168,6 +172,7 @@ gave_state files asked (StateRefused code name) old new of h = h tt
 gave_state files asked (ListRefused index) old new of h = absurd of
 gave_state files asked (NoSuchTurn turn turns) old new of h = absurd of
 gave_state files asked (SightRefused code) old new of h = absurd of
+gave_state files asked (LogRefused line) old new of h = absurd of
 gave_state files asked (EconomyRefused index) old new of h = absurd of
 
 gave_list : (files : List File) (asked : Asked) (stop : Stop) (old new : Counts) → IsOfList stop → (IsRefusal stop → Gave (length_read files asked) old new) → GaveFor files asked (status_of stop) old new
@@ -180,6 +185,7 @@ gave_list files asked (StateRefused code name) old new of h = absurd of
 gave_list files asked (ListRefused index) old new of h = h tt
 gave_list files asked (NoSuchTurn turn turns) old new of h = absurd of
 gave_list files asked (SightRefused code) old new of h = absurd of
+gave_list files asked (LogRefused line) old new of h = absurd of
 gave_list files asked (EconomyRefused index) old new of h = absurd of
 
 -- ---- the file of a match is read first
@@ -354,6 +360,7 @@ module _ (seed units turns : ℕ) (shelf : Shelved) where
       by (ListRefused index) of content = absurd of
       by (NoSuchTurn turn turns) of content = absurd of
       by (SightRefused code) of content = absurd of
+      by (LogRefused line) of content = absurd of
       by (EconomyRefused index) of content = absurd of
 
   -- it was played

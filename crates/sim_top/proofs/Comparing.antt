@@ -15,7 +15,7 @@ use Rattle.sim_top.specs.Stops.{Stopped, ReadsState, IsState, IsRefused, IsOfSta
 use Rattle.sim_top.specs.Words.{to_compare}
 use Rattle.sim_top.specs.declared.commands.Answer.{Answer}
 use Rattle.sim_top.specs.declared.stop.Stop.{Stop}
-use Rattle.sim_top.specs.declared.stop.Stop.TheVariants.{ReadFault, TooLong, NoFile, OutOfMemory, MatchRefused, StateRefused, ListRefused, NoSuchTurn, SightRefused, EconomyRefused}
+use Rattle.sim_top.specs.declared.stop.Stop.TheVariants.{ReadFault, TooLong, NoFile, OutOfMemory, MatchRefused, StateRefused, ListRefused, NoSuchTurn, SightRefused, LogRefused, EconomyRefused}
 use Rattle.sim_top.proofs.Answering.{Opens, Loads, ends, comes_to, may_state, gave_state, match_there, at_files, both_same, both_told, both_causes, both_given}
 use Rattle.sim_top.proofs.Completeness.{id_of_match, not_refused, after_reading}
 use Rattle.sim_top.proofs.Counting.{counted_after, gave_both, gave_on}
@@ -58,6 +58,7 @@ unheld files setup name (MatchRefused code index) id of refused h holds = of
 unheld files setup name (ListRefused index) id of refused h holds = of
 unheld files setup name (NoSuchTurn turn turns) id of refused h holds = of
 unheld files setup name (SightRefused code) id of refused h holds = of
+unheld files setup name (LogRefused line) id of refused h holds = of
 unheld files setup name (EconomyRefused index) id of refused h holds = of
 unheld files setup name (StateRefused code text) id of refused h holds =
     let is : IsRefused setup name holds.bytes _ = after_reading (bytes_in files name) holds.bytes (IsRefused setup name) _ holds.read h in

@@ -15,12 +15,16 @@ use Rattle.sim_setup.specs.Setups.{setup_of}
 use Rattle.sim_setup.proofs.SetupLimits.{setup_of-id}
 use Rattle.sim_diff.specs.Difference.{difference_of}
 use Rattle.sim_diff.specs.declared.place.Place.{Place}
-use Rattle.sim_top.specs.Words.{Asked, asked_by, to_play, to_store, to_resume, to_rejoin, to_session, to_show, to_compare, to_serve, to_try, to_stock, to_realm, to_sight, to_resight, to_film, to_parts}
-use Rattle.sim_top.specs.Outcome.{Outcome, Then, ThenStored, IsStored, IsOutcomeOf, bytes_in, match_in, session_match_in, schedule_in, steps_in, trial_match, match_by, setup_by, compare_by, state_by, store_outcome, rejoin_outcome, printed, turn_by, economy_in, IsRealmOutcome, RealmAt, IsResighted, sight_outcome, map_at}
+use Rattle.sim_top.specs.Words.{Asked, asked_by, to_play, to_store, to_resume, to_rejoin, to_session, to_show, to_compare, to_serve, to_try, to_stock, to_realm, to_sight, to_resight, to_log, to_record, to_check, to_film, to_parts}
+use Rattle.sim_top.specs.Outcome.{Outcome, Then, ThenStored, IsStored, IsOutcomeOf, bytes_in, match_in, session_match_in, schedule_in, steps_in, trial_match, match_by, setup_by, compare_by, state_by, store_outcome, rejoin_outcome, printed, turn_by, economy_in, IsRealmOutcome, RealmAt, IsResighted, IsLogged, ThenLog, log_by, apart_by, sight_outcome, map_at}
 use Rattle.sim_top.specs.Answers.{Scene, Meets, Causes}
-use Rattle.sim_top.specs.Readiness.{HoldsState, IsReady, IsFaultless, IsFinal}
+use Rattle.sim_top.specs.Readiness.{HoldsState, HoldsLog, IsReady, IsFaultless, IsFinal}
 use Rattle.sim_top.specs.declared.status.Status.{Status}
-use Rattle.sim_top.specs.declared.status.Status.TheVariants.{Done, Differs, Usage, ReadFault, WriteFault, TooLong, MatchRefused, StateRefused, ListRefused, OutOfMemory, NoSuchTurn, NoFile, SightRefused, EconomyRefused}
+use Rattle.sim_top.specs.declared.status.Status.TheVariants.{Done, Differs, Usage, ReadFault, WriteFault, TooLong, MatchRefused, StateRefused, ListRefused, OutOfMemory, NoSuchTurn, NoFile, SightRefused, LogRefused, EconomyRefused}
+use Rattle.sim_replay.specs.declared.apart.Apart.{Apart}
+use Rattle.sim_replay.specs.declared.log.Log.{Log}
+use Rattle.sim_replay.specs.Apart.{first_apart}
+use Rattle.sim_play.specs.Logs.{digests_after}
 use Rattle.sim_top.proofs.Playing.{turn_there}
 
 -- an outcome with which a command comes to its end
@@ -66,6 +70,23 @@ after_state : (files : List File) (setup : Setup) (name : List ℕ) (next : Stat
 after_state files setup name next wanted id holds h =
     after_loading setup name holds.bytes holds.state next wanted id holds.stands
     (after_reading (bytes_in files name) holds.bytes (λ bytes. ThenStored setup name bytes next) wanted holds.read h)
+
+-- ---- a log is not refused
+
+after_log : (files : List File) (setup : Setup) (name : List ℕ) (next : Log → Outcome → Type 0) (wanted : Outcome) → (holds : HoldsLog files setup name)
+    → Then (bytes_in files name) (λ bytes. ThenLog setup bytes next) wanted → (found : Log) × next found wanted
+after_log files setup name next wanted holds h = by (after_reading (bytes_in files name) holds.bytes (λ bytes. ThenLog setup bytes next) wanted holds.read h)
+  where
+    of : (found : Result Log ℕ) → IsLogged setup holds.bytes found → Then (log_by found) next wanted → (log : Log) × next log wanted
+    of (Ok log) is goes_on = (log, goes_on)
+    of (Err line) is goes_on = absurd (is.no_log holds.log holds.is_log holds.text)
+
+    by : ThenLog setup holds.bytes next wanted → (log : Log) × next log wanted
+    by then = of then.found then.logged then.goes_on
+
+ends_checked : (wanted : Outcome) (last : ℕ) (apart : Option Apart) → wanted ≡ apart_by last apart → Ends wanted
+ends_checked wanted last None same = inl (ap (λ (o : Outcome). o.status) same)
+ends_checked wanted last (Some apart) same = inr (ap (λ (o : Outcome). o.status) same)
 
 -- ---- the commands
 
@@ -120,6 +141,13 @@ ready_ends files (Some (to_resight game name file)) wanted ready h =
     let id = id_of_match files game ready.setup ready.read in
     let first = after_state files ready.setup name (λ state. IsResighted ready.setup state (bytes_in files file)) wanted id ready.more.state (after_reading (match_in files game) ready.setup _ wanted ready.read h) in
     done wanted _ refl (after_reading (map_at ready.setup first.0 (bytes_in files file)) ready.more.explored _ wanted (ready.more.taken first.0 first.1) first.2)
+ready_ends files (Some (to_log game out)) wanted ready h = done wanted _ refl (after_reading (match_in files game) ready.setup _ wanted ready.read h)
+ready_ends files (Some (to_record game steps out)) wanted ready h =
+    done wanted _ refl (after_reading (steps_in files steps ready.setup.players) ready.list _ wanted ready.listed
+    (after_reading (session_match_in files game) ready.setup _ wanted ready.read h))
+ready_ends files (Some (to_check game name)) wanted ready h =
+    let found = after_log files ready.setup name _ wanted ready.more (after_reading (match_in files game) ready.setup _ wanted ready.read h) in
+    ends_checked wanted _ (first_apart found.0.digests (digests_after ready.setup found.0.turns)) found.1
 ready_ends files (Some (to_film game every)) wanted ready h = done wanted _ refl (after_reading (match_in files game) ready.setup _ wanted ready.read h)
 ready_ends files (Some (to_parts game)) wanted ready h = done wanted _ refl (after_reading (match_in files game) ready.setup _ wanted ready.read h)
 
@@ -153,4 +181,5 @@ final ListRefused words files before now (wanted, is, status, done) caused ready
 final NoSuchTurn words files before now (wanted, is, status, done) caused ready faultless = absurd (no_end wanted NoSuchTurn status (λ e. cc) (λ e. cc) (ready_ends files (asked_by words) wanted ready is))
 final NoFile words files before now (wanted, is, status, done) caused ready faultless = absurd (no_end wanted NoFile status (λ e. cc) (λ e. cc) (ready_ends files (asked_by words) wanted ready is))
 final SightRefused words files before now (wanted, is, status, done) caused ready faultless = absurd (no_end wanted SightRefused status (λ e. cc) (λ e. cc) (ready_ends files (asked_by words) wanted ready is))
+final LogRefused words files before now (wanted, is, status, done) caused ready faultless = absurd (no_end wanted LogRefused status (λ e. cc) (λ e. cc) (ready_ends files (asked_by words) wanted ready is))
 final EconomyRefused words files before now (wanted, is, status, done) caused ready faultless = absurd (no_end wanted EconomyRefused status (λ e. cc) (λ e. cc) (ready_ends files (asked_by words) wanted ready is))

@@ -14,7 +14,7 @@ use Rattle.sim_top.specs.Outcome.{bytes_by, bytes_in}
 use Rattle.sim_top.specs.Reads.{IsUnfound, length_of, length_in}
 use Rattle.sim_top.specs.Stops.{ReadsCounting, CausesOf, GaveAll, IsOfContent, IsRefusal, status_of}
 use Rattle.sim_top.specs.declared.stop.Stop.{Stop}
-use Rattle.sim_top.specs.declared.stop.Stop.TheVariants.{ReadFault, TooLong, NoFile, OutOfMemory, MatchRefused, StateRefused, ListRefused, NoSuchTurn, SightRefused, EconomyRefused}
+use Rattle.sim_top.specs.declared.stop.Stop.TheVariants.{ReadFault, TooLong, NoFile, OutOfMemory, MatchRefused, StateRefused, ListRefused, NoSuchTurn, SightRefused, LogRefused, EconomyRefused}
 
 pub gave : (n : ℕ) (old new : Counts) → new ≡ after_giving n old → OnlyGave old new
 gave n old new is =
@@ -47,6 +47,7 @@ counted (StateRefused code name) old new h = absurd h
 counted (ListRefused index) old new h = absurd h
 counted (NoSuchTurn asked turns) old new h = absurd h
 counted (SightRefused code) old new h = absurd h
+counted (LogRefused line) old new h = absurd h
 counted (EconomyRefused index) old new h = absurd h
 
 -- two files, one after another
@@ -91,6 +92,7 @@ counted_after stop old middle new first second = by stop second
     by (ListRefused index) h = only h
     by (NoSuchTurn turn turns) h = only h
     by (SightRefused code) h = only h
+    by (LogRefused line) h = only h
     by (EconomyRefused index) h = only h
 
 pub gave_on : (old middle new : Counts) → OnlyGave old middle → OnlyGave middle new → OnlyGave old new
@@ -118,6 +120,7 @@ content_causes (Err (StateRefused code name)) old new content gave = gave
 content_causes (Err (ListRefused index)) old new content gave = gave
 content_causes (Err (NoSuchTurn turn turns)) old new content gave = gave
 content_causes (Err (SightRefused code)) old new content gave = gave
+content_causes (Err (LogRefused line)) old new content gave = gave
 content_causes (Err (EconomyRefused index)) old new content gave = gave
 
 -- ---- a file is read
@@ -133,6 +136,7 @@ counted_is P fault long none memory (StateRefused code name) old new h = absurd 
 counted_is P fault long none memory (ListRefused index) old new h = absurd h
 counted_is P fault long none memory (NoSuchTurn turn turns) old new h = absurd h
 counted_is P fault long none memory (SightRefused code) old new h = absurd h
+counted_is P fault long none memory (LogRefused line) old new h = absurd h
 counted_is P fault long none memory (EconomyRefused index) old new h = absurd h
 
 -- it is not read to its end

@@ -13,7 +13,7 @@ use Rattle.sim_top.specs.Stops.{status_of}
 use Rattle.sim_top.specs.declared.stop.Stop.{Stop}
 use Rattle.sim_top.specs.declared.stop.Stop.TheVariants as stops
 use Rattle.sim_top.specs.declared.status.Status.{Status}
-use Rattle.sim_top.specs.declared.status.Status.TheVariants.{Done, Differs, Usage, ReadFault, WriteFault, TooLong, MatchRefused, StateRefused, ListRefused, OutOfMemory, NoSuchTurn, NoFile, SightRefused, EconomyRefused}
+use Rattle.sim_top.specs.declared.status.Status.TheVariants.{Done, Differs, Usage, ReadFault, WriteFault, TooLong, MatchRefused, StateRefused, ListRefused, OutOfMemory, NoSuchTurn, NoFile, SightRefused, LogRefused, EconomyRefused}
 use Rattle.sim_top.proofs.Finishing.{none_told}
 
 -- ---- any words may end with a write fault or for want of memory
@@ -91,6 +91,7 @@ told_usage usage result ListRefused text told told' faults faults' made tells = 
 told_usage usage result NoSuchTurn text told told' faults faults' made tells = absurd made
 told_usage usage result NoFile text told told' faults faults' made tells = absurd made
 told_usage usage result SightRefused text told told' faults faults' made tells = absurd made
+told_usage usage result LogRefused text told told' faults faults' made tells = absurd made
 told_usage usage result EconomyRefused text told told' faults faults' made tells = absurd made
 
 -- ---- a command that ended before it had its text
@@ -106,4 +107,5 @@ stopped_not_ended (stops.StateRefused code name) h = h
 stopped_not_ended (stops.ListRefused index) h = h
 stopped_not_ended (stops.NoSuchTurn asked turns) h = h
 stopped_not_ended (stops.SightRefused code) h = h
+stopped_not_ended (stops.LogRefused line) h = h
 stopped_not_ended (stops.EconomyRefused index) h = h

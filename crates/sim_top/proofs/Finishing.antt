@@ -10,7 +10,7 @@ use Rattle.sim_top.specs.Stops.{status_of}
 use Rattle.sim_top.specs.declared.stop.Stop.{Stop}
 use Rattle.sim_top.specs.declared.stop.Stop.TheVariants as stops
 use Rattle.sim_top.specs.declared.status.Status.{Status}
-use Rattle.sim_top.specs.declared.status.Status.TheVariants.{Done, Differs, Usage, ReadFault, WriteFault, TooLong, MatchRefused, StateRefused, ListRefused, OutOfMemory, NoSuchTurn, NoFile, SightRefused, EconomyRefused}
+use Rattle.sim_top.specs.declared.status.Status.TheVariants.{Done, Differs, Usage, ReadFault, WriteFault, TooLong, MatchRefused, StateRefused, ListRefused, OutOfMemory, NoSuchTurn, NoFile, SightRefused, LogRefused, EconomyRefused}
 
 untouched : (before now : Scene) (text : List ℕ) (saved : Option File) → text ≡ [] → saved ≡ None → Appends before.told now.told text → Saves saved before.held now.held → IsUntouched before now
 untouched before now text saved none unsaved told held = record {
@@ -33,6 +33,7 @@ done_meets ListRefused words files text saved before now h told held = (_, h, re
 done_meets NoSuchTurn words files text saved before now h told held = (_, h, refl, record { text = told; files = held })
 done_meets NoFile words files text saved before now h told held = (_, h, refl, record { text = told; files = held })
 done_meets SightRefused words files text saved before now h told held = (_, h, refl, record { text = told; files = held })
+done_meets LogRefused words files text saved before now h told held = (_, h, refl, record { text = told; files = held })
 done_meets EconomyRefused words files text saved before now h told held = (_, h, refl, record { text = told; files = held })
 
 pub none_told : (part : ℕ) (text : List ℕ) → part < length text → text ≡ [] → ⊥
@@ -53,6 +54,7 @@ untold_meets ListRefused words files text saved before now part h fails less tol
 untold_meets NoSuchTurn words files text saved before now part h fails less told held = (_, h, inr (record { fails = fails; part = part; less = less; text = told; files = held }))
 untold_meets NoFile words files text saved before now part h fails less told held = (_, h, inr (record { fails = fails; part = part; less = less; text = told; files = held }))
 untold_meets SightRefused words files text saved before now part h fails less told held = (_, h, inr (record { fails = fails; part = part; less = less; text = told; files = held }))
+untold_meets LogRefused words files text saved before now part h fails less told held = (_, h, inr (record { fails = fails; part = part; less = less; text = told; files = held }))
 untold_meets EconomyRefused words files text saved before now part h fails less told held = (_, h, inr (record { fails = fails; part = part; less = less; text = told; files = held }))
 
 no_part : (file : Option File) (old new : Option (List File)) → file ≡ None → SavesPart file old new → ⊥
@@ -73,6 +75,7 @@ unsaved_meets ListRefused words files text saved before now h fails held = (_, h
 unsaved_meets NoSuchTurn words files text saved before now h fails held = (_, h, inl (record { fails = fails; files = held }))
 unsaved_meets NoFile words files text saved before now h fails held = (_, h, inl (record { fails = fails; files = held }))
 unsaved_meets SightRefused words files text saved before now h fails held = (_, h, inl (record { fails = fails; files = held }))
+unsaved_meets LogRefused words files text saved before now h fails held = (_, h, inl (record { fails = fails; files = held }))
 unsaved_meets EconomyRefused words files text saved before now h fails held = (_, h, inl (record { fails = fails; files = held }))
 
 -- ---- what was counted where a command ended and its line found no memory
@@ -87,6 +90,7 @@ without_memory (stops.StateRefused code name) old new loud h = h
 without_memory (stops.ListRefused index) old new loud h = h
 without_memory (stops.NoSuchTurn asked turns) old new loud h = h
 without_memory (stops.SightRefused code) old new loud h = h
+without_memory (stops.LogRefused line) old new loud h = h
 without_memory (stops.EconomyRefused index) old new loud h = h
 
 -- ---- what was counted where the text was written
@@ -110,6 +114,7 @@ loud_gave ListRefused old new loud h = h
 loud_gave NoSuchTurn old new loud h = h
 loud_gave NoFile old new loud h = absurd (loud tt)
 loud_gave SightRefused old new loud h = h
+loud_gave LogRefused old new loud h = h
 loud_gave EconomyRefused old new loud h = h
 
 whole_causes : (status : Status) (before now : Scene) → status ≢ WriteFault → CountsBefore status before.counts now.counts → now.faults ≡ before.faults → Causes status before now
@@ -126,6 +131,7 @@ whole_causes ListRefused before now other h same = (h, same)
 whole_causes NoSuchTurn before now other h same = (h, same)
 whole_causes NoFile before now other h same = (h, same)
 whole_causes SightRefused before now other h same = (h, same)
+whole_causes LogRefused before now other h same = (h, same)
 whole_causes EconomyRefused before now other h same = (h, same)
 
 -- a text that was cut short is that of a status which is not silent

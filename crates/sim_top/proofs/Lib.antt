@@ -16,3 +16,5 @@ pub mod Sighting
 pub mod Sights
 pub mod Stocking
 pub mod Balances
+pub mod Checking
+pub mod Logging

@@ -64,6 +64,7 @@ stop_meets words files (stops.StateRefused code name) h = h
 stop_meets words files (stops.ListRefused index) h = h
 stop_meets words files (stops.NoSuchTurn turn turns) h = h
 stop_meets words files (stops.SightRefused code) h = h
+stop_meets words files (stops.LogRefused line) h = h
 stop_meets words files (stops.EconomyRefused index) h = h
 
 silent_text : (stop : Stop) → IsSilent (status_of stop) → stop_text stop ≡ []
@@ -76,6 +77,7 @@ silent_text (stops.StateRefused code name) h = absurd h
 silent_text (stops.ListRefused index) h = absurd h
 silent_text (stops.NoSuchTurn turn turns) h = absurd h
 silent_text (stops.SightRefused code) h = absurd h
+silent_text (stops.LogRefused line) h = absurd h
 silent_text (stops.EconomyRefused index) h = absurd h
 
 stop_unwritten : (stop : Stop) → status_of stop ≡ WriteFault → ⊥
@@ -88,6 +90,7 @@ stop_unwritten (stops.StateRefused code name) e = cc
 stop_unwritten (stops.ListRefused index) e = cc
 stop_unwritten (stops.NoSuchTurn turn turns) e = cc
 stop_unwritten (stops.SightRefused code) e = cc
+stop_unwritten (stops.LogRefused line) e = cc
 stop_unwritten (stops.EconomyRefused index) e = cc
 
 none_saved : (out : Option (List ℕ)) → IsSavedAs out None

@@ -18,14 +18,14 @@ use Rattle.sim_session.specs.SessionWords.{rigs_by}
 use Rattle.sim_session_text.specs.SessionText.{session_of}
 use Rattle.sim_play.specs.Lines.{end_from}
 use Rattle.sim_host.specs.Rigs.{AllStand, AllBuiltAtMost, builds_of}
-use Rattle.sim_top.specs.Hosting.{OfSession, IsHostedBy}
+use Rattle.sim_top.specs.Hosting.{OfSession, IsHostedBy, OfRecord, IsRecordedBy}
 use Rattle.sim_top.specs.Making.{IsMade, IsMadeAs, IsSettled, outcome_made, status_made}
 use Rattle.sim_top.specs.Outcome.{Outcome, bytes_in, session_match_in, steps_in}
 use Rattle.sim_top.specs.Reads.{HasEnded}
 use Rattle.sim_top.specs.Returning.{IsUnplayed, HasBegunBy, AreOfSession, RigsCameBackBy}
 use Rattle.sim_top.specs.Rigs.{StandForStored, RigStands, SecondStands, OfFirsts, HasPlayedBy, AreEightBy, clients, used}
 use Rattle.sim_top.specs.Stops.{IsState, status_of}
-use Rattle.sim_top.specs.Words.{Asked, to_play, to_store, to_resume, to_rejoin, to_session, to_show, to_compare, to_serve, to_try, to_stock, to_realm, to_sight, to_resight, to_film, to_parts, is_session}
+use Rattle.sim_top.specs.Words.{Asked, to_play, to_store, to_resume, to_rejoin, to_session, to_show, to_compare, to_serve, to_try, to_stock, to_realm, to_sight, to_resight, to_log, to_record, to_check, to_film, to_parts, is_session}
 use Rattle.sim_top.specs.declared.commands.Answer.{Answer}
 use Rattle.sim_top.specs.declared.status.Status.{Status}
 use Rattle.sim_top.specs.declared.status.Status.TheVariants as status
@@ -65,6 +65,11 @@ idle_session files None P le = tt
 idle_session files (Some (to_session game steps)) P le = absurd (omega (arith, le))
 idle_session files (Some other) P le = tt
 
+idle_record : (files : List File) (asked : Option Asked) (P : Setup → StepList → Type 0) → used asked ≤ 2 → OfRecord files asked P
+idle_record files None P le = tt
+idle_record files (Some (to_record game steps out)) P le = absurd (omega (arith, le))
+idle_record files (Some other) P le = tt
+
 idle_second : (files : List File) (asked : Option Asked) (t : Systems) → used asked ≤ 1 → SecondStands files asked t
 idle_second files None t le = tt
 idle_second files (Some (to_rejoin game turn)) t le = absurd (omega (arith, le))
@@ -85,6 +90,9 @@ idle_first files (Some (to_stock game name)) s none = absurd (omega (arith, none
 idle_first files (Some (to_realm game turn)) s none = absurd (omega (arith, none))
 idle_first files (Some (to_sight game turn out)) s none = absurd (omega (arith, none))
 idle_first files (Some (to_resight game name map)) s none = absurd (omega (arith, none))
+idle_first files (Some (to_log game out)) s none = absurd (omega (arith, none))
+idle_first files (Some (to_record game steps out)) s none = absurd (omega (arith, none))
+idle_first files (Some (to_check game name)) s none = absurd (omega (arith, none))
 idle_first files (Some (to_film game every)) s none = absurd (omega (arith, none))
 idle_first files (Some (to_parts game)) s none = refl
 
@@ -154,11 +162,13 @@ module _ {X : Type 0} {F : X → Type 0} (meaning : (i : X) → F i → Meaning)
   same_session : (held : Option (List File)) (asked : Option Asked) (rigs : List (Rig X F)) → AreOfSession meaning held asked rigs rigs
   same_session held None rigs = tt
   same_session held (Some (to_session game steps)) rigs = inl refl
+  same_session held (Some (to_record game steps out)) rigs = inl refl
   same_session held (Some other) rigs = tt
 
   idle_rigs : (held : Option (List File)) (asked : Option Asked) (old new : List (Rig X F)) → used asked ≤ 2 → AreOfSession meaning held asked old new
   idle_rigs held None old new le = tt
   idle_rigs held (Some (to_session game steps)) old new le = absurd (omega (arith, le))
+  idle_rigs held (Some (to_record game steps out)) old new le = absurd (omega (arith, le))
   idle_rigs held (Some other) old new le = tt
 
   -- ---- all as they were, where nothing was used or the command did not come to its end
@@ -175,6 +185,8 @@ module _ {X : Type 0} {F : X → Type 0} (meaning : (i : X) → F i → Meaning)
             (λ files ended. seconds_same rigs.items (Joins files asked) some (λ r. idle_second files asked (systems_by r meaning) (omega (arith, idle ended))));
         hosted = told_any held (λ files. HasEnded status → OfSession files asked (λ setup list. IsHostedBy meaning setup list rigs.items rigs.items))
             (λ files ended. idle_session files asked (λ setup list. IsHostedBy meaning setup list rigs.items rigs.items) (omega (arith, idle ended)));
+        recorded = told_any held (λ files. HasEnded status → OfRecord files asked (λ setup list. IsRecordedBy meaning setup list rigs.items))
+            (λ files ended. idle_record files asked (λ setup list. IsRecordedBy meaning setup list rigs.items) (omega (arith, idle ended)));
         most = λ none. firsts_same rigs.items Once one once_same;
         joined = λ none. seconds_same rigs.items Once some once_same;
         session = same_session held asked rigs.items;
@@ -243,6 +255,8 @@ module _ {X : Type 0} {F : X → Type 0} (meaning : (i : X) → F i → Meaning)
             (λ files done. seconds_kept old.items new.items (Joins files (Some asked)) others some (λ q. idle_second files (Some asked) (systems_by q meaning) (omega (arith, one))));
         hosted = told_any held (λ files. HasEnded (status_made made) → OfSession files (Some asked) (λ setup list. IsHostedBy meaning setup list old.items new.items))
             (λ files done. idle_session files (Some asked) (λ setup list. IsHostedBy meaning setup list old.items new.items) (omega (arith, one)));
+        recorded = told_any held (λ files. HasEnded (status_made made) → OfRecord files (Some asked) (λ setup list. IsRecordedBy meaning setup list new.items))
+            (λ files done. idle_record files (Some asked) (λ setup list. IsRecordedBy meaning setup list new.items) (omega (arith, one)));
         most = λ none. firsts_of old.items new.items rest rest r s Once was is played.most;
         joined = λ none. seconds_kept old.items new.items Once others some once_same;
         session = idle_rigs held (Some asked) old.items new.items (omega (arith, one));
@@ -280,6 +294,8 @@ module _ {X : Type 0} {F : X → Type 0} (meaning : (i : X) → F i → Meaning)
             (λ files h. seconds_of old.items new.items rest rest rest q r p s (Joins files (Some asked)) was is h) joins);
         hosted = told_any held (λ files. HasEnded (status_made made) → OfSession files (Some asked) (λ setup list. IsHostedBy meaning setup list old.items new.items))
             (λ files done. idle_session files (Some asked) (λ setup list. IsHostedBy meaning setup list old.items new.items) (omega (arith, two)));
+        recorded = told_any held (λ files. HasEnded (status_made made) → OfRecord files (Some asked) (λ setup list. IsRecordedBy meaning setup list new.items))
+            (λ files done. idle_record files (Some asked) (λ setup list. IsRecordedBy meaning setup list new.items) (omega (arith, two)));
         most = λ none. firsts_of old.items new.items (r ∷ rest) (s ∷ rest) q p Once was is first.most;
         joined = λ none. seconds_of old.items new.items rest rest rest q r p s Once was is second.most;
         session = idle_rigs held (Some asked) old.items new.items (omega (arith, two));
@@ -308,6 +324,7 @@ module _ {X : Type 0} {F : X → Type 0} (meaning : (i : X) → F i → Meaning)
         joins = told_any held (λ files. HasEnded (status_made made) → OfFirsts (drop 1 old.items) (drop 1 new.items) (Joins files (Some (to_session game steps))))
             (λ files done. any_seconds old.items new.items (omega (arith, was.count)) (omega (arith, is.count)));
         hosted = told_ended held made (λ files. OfSession files (Some (to_session game steps)) (λ setup list. IsHostedBy meaning setup list old.items new.items)) (hosts held read listed);
+        recorded = told_any held (λ files. HasEnded (status_made made) → Unit {0}) (λ files done. tt);
         most = λ none. absurd (false≢true (sym none));
         joined = λ none. absurd (false≢true (sym none));
         session = inr (record { setup = setup; list = list; read = read; listed = listed; limits = limits; within = within; built = built; spare = spare });
@@ -356,6 +373,7 @@ module _ {X : Type 0} {F : X → Type 0} (meaning : (i : X) → F i → Meaning)
         stands = later held (λ files. OfFirsts old.items new.items (Stands files asked)) back.stands;
         joins = later held (λ files. OfFirsts (drop 1 old.items) (drop 1 new.items) (Joins files asked)) back.joins;
         hosted = later held (λ files. OfSession files asked (λ setup list. IsHostedBy meaning setup list old.items new.items)) back.hosted;
+        recorded = later held (λ files. OfRecord files asked (λ setup list. IsRecordedBy meaning setup list new.items)) back.recorded;
         most = back.most;
         joined = back.joined;
         session = back.session;

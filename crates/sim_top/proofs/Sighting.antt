@@ -28,7 +28,7 @@ use Rattle.sim_top.specs.Words.{Asked, to_resight, reads_file, reads_map}
 use Rattle.sim_top.specs.declared.commands.Answer.{Answer}
 use Rattle.sim_top.specs.declared.status.Status.TheVariants.{Done, NoSuchTurn}
 use Rattle.sim_top.specs.declared.stop.Stop.{Stop}
-use Rattle.sim_top.specs.declared.stop.Stop.TheVariants.{ReadFault, TooLong, NoFile, OutOfMemory, MatchRefused, StateRefused, ListRefused, NoSuchTurn as NoTurn, SightRefused, EconomyRefused}
+use Rattle.sim_top.specs.declared.stop.Stop.TheVariants.{ReadFault, TooLong, NoFile, OutOfMemory, MatchRefused, StateRefused, ListRefused, NoSuchTurn as NoTurn, SightRefused, LogRefused, EconomyRefused}
 use Rattle.sim_top.proofs.Answering.{Loads, ends, comes_to_one, match_there, both_same, both_told, both_causes, both_given}
 use Rattle.sim_top.proofs.Counting.{counted_after, gave_both, gave_on}
 use Rattle.sim_top.proofs.Stopping.{Stopped-weaker, Then-read, Then-ended, Told-all, state_goes_on}
@@ -149,6 +149,7 @@ may_map asked (StateRefused code name) reads maps of = absurd of
 may_map asked (ListRefused index) reads maps of = absurd of
 may_map asked (NoTurn turn turns) reads maps of = absurd of
 may_map asked (SightRefused code) reads maps of = maps
+may_map asked (LogRefused line) reads maps of = absurd of
 may_map asked (EconomyRefused index) reads maps of = absurd of
 
 gave_map : (files : List File) (asked : Asked) (stop : Stop) (old new : Counts) → IsOfMap stop →
@@ -162,6 +163,7 @@ gave_map files asked (StateRefused code name) old new of h = absurd of
 gave_map files asked (ListRefused index) old new of h = absurd of
 gave_map files asked (NoTurn turn turns) old new of h = absurd of
 gave_map files asked (SightRefused code) old new of h = h tt
+gave_map files asked (LogRefused line) old new of h = absurd of
 gave_map files asked (EconomyRefused index) old new of h = absurd of
 
 may_finish : (game name file : List ℕ) (setup : Setup) (state : State) (sight : Vision) (wanted : Outcome) → IsSeenFrom setup state sight wanted →

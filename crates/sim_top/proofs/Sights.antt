@@ -25,7 +25,7 @@ use Rattle.sim_top.specs.declared.status.Status.TheVariants.{Done, Differs, NoSu
 use Rattle.sim_top.proofs.Sighting.{sight_done, taken_is}
 
 -- an outcome that ends a command before is none with which it came to its end
-no_end : (wanted other : Outcome) → wanted ≡ other → HasEnded wanted.status → HasEnded other.status
+pub no_end : (wanted other : Outcome) → wanted ≡ other → HasEnded wanted.status → HasEnded other.status
 no_end wanted other is ended = subst (λ (o : Outcome). HasEnded o.status) is ended
 
 -- a file, or an outcome with which no command came to its end
@@ -44,7 +44,7 @@ unread (Err store.OutOfMemory) = λ ended. ended
 bytes_end : (r : Result (List ℕ) StoreFault) (o : Outcome) → bytes_by r ≡ Err o → HasEnded o.status → ⊥
 bytes_end r o is ended = subst NoEnd is (unread r) ended
 
-file_end : (files : List File) (name : List ℕ) (o : Outcome) → bytes_in files name ≡ Err o → HasEnded o.status → ⊥
+pub file_end : (files : List File) (name : List ℕ) (o : Outcome) → bytes_in files name ≡ Err o → HasEnded o.status → ⊥
 unfolding bytes_in
 file_end files name o is ended = bytes_end (reading_of (file_in files name)) o is ended
 

@@ -18,7 +18,7 @@ use Rattle.sim_top.specs.Words.{Asked, to_stock, reads_file, reads_economy}
 use Rattle.sim_top.specs.declared.commands.Answer.{Answer}
 use Rattle.sim_top.specs.declared.status.Status.TheVariants as status
 use Rattle.sim_top.specs.declared.stop.Stop.{Stop}
-use Rattle.sim_top.specs.declared.stop.Stop.TheVariants.{ReadFault, TooLong, NoFile, OutOfMemory, MatchRefused, StateRefused, ListRefused, NoSuchTurn, SightRefused, EconomyRefused}
+use Rattle.sim_top.specs.declared.stop.Stop.TheVariants.{ReadFault, TooLong, NoFile, OutOfMemory, MatchRefused, StateRefused, ListRefused, NoSuchTurn, SightRefused, LogRefused, EconomyRefused}
 use Rattle.sim_top.proofs.Answering.{Opens, ends, comes_to, match_there, both_same, both_told, both_causes, both_given}
 use Rattle.sim_top.proofs.Returning.{stands_read, whatever_held}
 use Rattle.sim_top.proofs.Stopping.{Stopped-weaker, Then-read, Then-ended, Told-both}
@@ -33,6 +33,7 @@ may_economy asked (StateRefused code name) reads pays of = absurd of
 may_economy asked (ListRefused index) reads pays of = absurd of
 may_economy asked (NoSuchTurn turn turns) reads pays of = absurd of
 may_economy asked (SightRefused code) reads pays of = absurd of
+may_economy asked (LogRefused line) reads pays of = absurd of
 may_economy asked (EconomyRefused index) reads pays of = pays
 
 gave_economy : (files : List File) (asked : Asked) (stop : Stop) (old new : Counts) → IsOfEconomy stop
@@ -46,6 +47,7 @@ gave_economy files asked (StateRefused code name) old new of h = absurd of
 gave_economy files asked (ListRefused index) old new of h = absurd of
 gave_economy files asked (NoSuchTurn turn turns) old new of h = absurd of
 gave_economy files asked (SightRefused code) old new of h = absurd of
+gave_economy files asked (LogRefused line) old new of h = absurd of
 gave_economy files asked (EconomyRefused index) old new of h = h tt
 
 module _ (game name : List ℕ) where

@@ -11,7 +11,7 @@ use Rattle.sim_top.specs.declared.status.Status.{Status}
 use Rattle.sim_top.specs.declared.status.Status.TheVariants.{Done}
 use Rattle.sim_top.specs.Stops.{Stopped, IsRefused, IsState}
 use Rattle.sim_top.specs.declared.stop.Stop.{Stop}
-use Rattle.sim_top.specs.declared.stop.Stop.TheVariants.{ReadFault, TooLong, NoFile, OutOfMemory, MatchRefused, StateRefused, ListRefused, NoSuchTurn, SightRefused, EconomyRefused}
+use Rattle.sim_top.specs.declared.stop.Stop.TheVariants.{ReadFault, TooLong, NoFile, OutOfMemory, MatchRefused, StateRefused, ListRefused, NoSuchTurn, SightRefused, LogRefused, EconomyRefused}
 
 pub Stopped-weaker : (stop : Stop) (P Q : Outcome → Type 0) → ((o : Outcome) → P o → Q o) → Stopped stop P → Stopped stop Q
 Stopped-weaker ReadFault P Q f h = tt
@@ -23,6 +23,7 @@ Stopped-weaker (StateRefused code name) P Q f h = f _ h
 Stopped-weaker (ListRefused index) P Q f h = f _ h
 Stopped-weaker (NoSuchTurn asked turns) P Q f h = f _ h
 Stopped-weaker (SightRefused code) P Q f h = f _ h
+Stopped-weaker (LogRefused line) P Q f h = f _ h
 Stopped-weaker (EconomyRefused index) P Q f h = f _ h
 
 -- what was read, and what comes of it

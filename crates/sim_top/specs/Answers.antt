@@ -7,9 +7,9 @@ use Rattle.sim_store.specs.Files.{File, file_in}
 use Rattle.sim_store.specs.Shelf.{HeldSet}
 use Rattle.sim_store.specs.declared.counts.Counts.{Counts}
 use Rattle.sim_top.specs.Outcome.{Outcome, IsOutcome}
-use Rattle.sim_top.specs.Words.{Asked, is_comparison, has_match, has_turn, loads_state, reads_list, reads_map, reads_economy, reads_file}
+use Rattle.sim_top.specs.Words.{Asked, is_comparison, has_match, has_turn, loads_state, reads_list, reads_map, reads_log, reads_economy, reads_file}
 use Rattle.sim_top.specs.declared.status.Status.{Status}
-use Rattle.sim_top.specs.declared.status.Status.TheVariants.{Done, Differs, Usage, ReadFault, WriteFault, TooLong, MatchRefused, StateRefused, ListRefused, OutOfMemory, NoSuchTurn, NoFile, SightRefused, EconomyRefused}
+use Rattle.sim_top.specs.declared.status.Status.TheVariants.{Done, Differs, Usage, ReadFault, WriteFault, TooLong, MatchRefused, StateRefused, ListRefused, OutOfMemory, NoSuchTurn, NoFile, SightRefused, LogRefused, EconomyRefused}
 
 -- what the shelf holds and the sink was told, where they tell it, and what both have counted
 pub record Scene : Type 0 where
@@ -78,6 +78,7 @@ MayAnswer asked NoSuchTurn = IsTrue (has_turn asked)
 MayAnswer asked StateRefused = IsTrue (loads_state asked)
 MayAnswer asked ListRefused = IsTrue (reads_list asked)
 MayAnswer asked SightRefused = IsTrue (reads_map asked)
+MayAnswer asked LogRefused = IsTrue (reads_log asked)
 MayAnswer asked EconomyRefused = IsTrue (reads_economy asked)
 MayAnswer asked other = Unit {0}
 
@@ -174,4 +175,5 @@ status_number OutOfMemory = 9
 status_number NoSuchTurn = 10
 status_number NoFile = 11
 status_number SightRefused = 12
+status_number LogRefused = 13
 status_number EconomyRefused = 14

@@ -8,7 +8,7 @@ use Rattle.sim_top.specs.Readiness.{HoldsState}
 use Rattle.sim_top.specs.Reads.{length_in, length_first, length_read}
 use Rattle.sim_top.specs.Words.{Asked, to_compare, to_resight}
 use Rattle.sim_top.specs.declared.status.Status.{Status}
-use Rattle.sim_top.specs.declared.status.Status.TheVariants.{Done, Differs, MatchRefused, StateRefused, ListRefused, NoSuchTurn, SightRefused, EconomyRefused}
+use Rattle.sim_top.specs.declared.status.Status.TheVariants.{Done, Differs, MatchRefused, StateRefused, ListRefused, NoSuchTurn, SightRefused, LogRefused, EconomyRefused}
 
 -- just so many bytes were given, and nothing else was counted
 abbrev pub Gave : ℕ → Counts → Counts → Type 0
@@ -32,6 +32,7 @@ GaveFor files asked StateRefused old new = GaveToState files asked old new
 GaveFor files asked ListRefused old new = Gave (length_read files asked) old new
 GaveFor files asked NoSuchTurn old new = Gave (length_read files asked) old new
 GaveFor files asked SightRefused old new = Gave (length_read files asked) old new
+GaveFor files asked LogRefused old new = Gave (length_read files asked) old new
 GaveFor files asked EconomyRefused old new = Gave (length_read files asked) old new
 GaveFor files asked other old new = Unit {0}
 

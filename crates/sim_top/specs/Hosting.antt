@@ -1,17 +1,20 @@
 -- A session that is asked for: its match and its steps are those of the files that are held, and what its rigs have come to.
-use Rattle.std.specs.Prelude.{◌≡◌, List, drop, Option, Some, IfOk}
+use Rattle.std.specs.Prelude.{◌≡◌, ℕ, ◌+◌, ◌==◌, if◌then◌else◌, List, All, drop, slice_index_or, Option, Some, IfOk}
 use Rattle.sim_base.specs.declared.setup.Setup.{Setup}
 use Rattle.sim_base.specs.Limits.{IsSetup}
 use Rattle.sim_store.specs.Files.{File}
 use Rattle.sim_system.specs.declared.system.System.{Ghosts}
 use Rattle.sim_system.specs.declared.rig.Rig.{Rig}
-use Rattle.sim_system.specs.Meanings.{Meaning}
+use Rattle.sim_system.specs.Meanings.{Meaning, AreFed}
+use Rattle.sim_client.specs.StageWords.{AreCleared, nowhere}
+use Rattle.sim_host.specs.Recording.{released_turns}
+use Rattle.sim_play.specs.Logs.{state_after}
 use Rattle.sim_lists.specs.declared.step_list.StepList.{StepList}
 use Rattle.sim_lists.specs.StepLists.{IsStepList}
 use Rattle.sim_session.specs.SessionWords.{rigs_by}
 use Rattle.sim_session_text.specs.SessionText.{session_of}
 use Rattle.sim_host.specs.Rigs.{AllStand, AllBuiltAtMost, builds_of}
-use Rattle.sim_top.specs.Words.{Asked, to_session}
+use Rattle.sim_top.specs.Words.{Asked, to_session, to_record}
 use Rattle.sim_top.specs.Outcome.{session_match_in, steps_in}
 
 -- this holds of the match and the list of steps that the files of a session have, where one is asked for
@@ -31,3 +34,21 @@ pub record IsHostedBy {X : Type 0} {F : X → Type 0} (meaning : (i : X) → F i
 -- the same, as a clause has it
 abbrev pub IsHosted : {X : Type 0} {F : X → Type 0} → ((i : X) → Ghosts (F i)) → Setup → StepList → List (Rig X F) → List (Rig X F) → Type 0
 IsHosted sys setup list old new = IsHostedBy (λ i v. (sys i).meaning v) setup list old new
+
+-- this holds of the match and the list of steps of a session that is to be recorded
+abbrev pub OfRecord : List File → Option Asked → (Setup → StepList → Type 0) → Type 0
+OfRecord files (Some (to_record game steps out)) P = IfOk (session_match_in files game) (λ setup. IfOk (steps_in files steps setup.players) (P setup))
+OfRecord files other P = Unit {0}
+
+-- how often the rig of a client is built at most where the first of them plays the log too
+abbrev pub builds_with_log : Setup → StepList → ℕ → ℕ
+builds_with_log setup list c = builds_of setup list c + (if c == 1 then 1 else 0)
+
+-- a session was recorded: the first rig stands for the last state of the log, and the others are cleared
+pub record IsRecordedBy {X : Type 0} {F : X → Type 0} (meaning : (i : X) → F i → Meaning) (setup : Setup) (list : StepList) (new : List (Rig X F)) : Type 0 where
+  pub first : AreFed setup (state_after setup (released_turns (session_of setup list))) (slice_index_or (rigs_by new meaning) 0 nowhere)
+  pub others : All AreCleared (drop 1 (rigs_by new meaning))
+
+-- the same, as a clause has it
+abbrev pub IsRecorded : {X : Type 0} {F : X → Type 0} → ((i : X) → Ghosts (F i)) → Setup → StepList → List (Rig X F) → Type 0
+IsRecorded sys setup list new = IsRecordedBy (λ i v. (sys i).meaning v) setup list new

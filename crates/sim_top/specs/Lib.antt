@@ -17,3 +17,4 @@ pub mod Films
 pub mod Parts
 pub mod Sights
 pub mod Stocks
+pub mod Logs

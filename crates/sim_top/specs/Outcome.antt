@@ -18,9 +18,9 @@ use Rattle.sim_lists.specs.declared.schedule.Schedule.{Schedule}
 use Rattle.sim_lists.specs.Schedules.{schedule_of}
 use Rattle.sim_lists.specs.declared.step_list.StepList.{StepList}
 use Rattle.sim_lists.specs.StepLists.{steps_of}
-use Rattle.sim_session_text.specs.SessionText.{session_text}
+use Rattle.sim_session_text.specs.SessionText.{session_of, session_text}
 use Rattle.sim_serve.specs.Served.{served_text}
-use Rattle.sim_report.specs.declared.refusal.Refusal.TheVariants.{Match, List as OfList, Turn, Sight, Economy as OfEconomy}
+use Rattle.sim_report.specs.declared.refusal.Refusal.TheVariants.{Match, List as OfList, Turn, Sight, Log as OfLog, Economy as OfEconomy}
 use Rattle.sim_report.specs.Lines.{usage_text, saved_line}
 use Rattle.sim_report.specs.Refusals.{refusal_text, stored_text}
 use Rattle.sim_report.specs.Show.{show_text}
@@ -28,7 +28,7 @@ use Rattle.sim_report.specs.Parts.{parts_text}
 use Rattle.sim_report.specs.Places.{place_text}
 use Rattle.sim_diff.specs.Difference.{difference_of}
 use Rattle.sim_diff.specs.declared.place.Place.{Place}
-use Rattle.sim_top.specs.Words.{Asked, to_play, to_store, to_resume, to_rejoin, to_session, to_show, to_compare, to_serve, to_try, to_stock, to_realm, to_sight, to_resight, to_film, to_parts, asked_by}
+use Rattle.sim_top.specs.Words.{Asked, to_play, to_store, to_resume, to_rejoin, to_session, to_show, to_compare, to_serve, to_try, to_stock, to_realm, to_sight, to_resight, to_log, to_record, to_check, to_film, to_parts, asked_by}
 use Rattle.sim_play.specs.Lines.{play_text, resume_text, rejoin_text, trial_line}
 use Rattle.sim_play.specs.Realms.{TellsRealm}
 use Rattle.sim_play.specs.Films.{film_text}
@@ -43,8 +43,15 @@ use Rattle.sim_vision.specs.After.{joined_at}
 use Rattle.sim_vision.specs.Joining.{refusal_of}
 use Rattle.sim_vision.specs.Vision.{Vision, cells_in}
 use Rattle.sim_trial.specs.Trial.{text_of_trial}
+use Rattle.sim_host.specs.Recording.{released_turns}
+use Rattle.sim_play.specs.Logs.{log_after, digests_after, match_turns}
+use Rattle.sim_replay.specs.declared.log.Log.{Log}
+use Rattle.sim_replay.specs.declared.apart.Apart.{Apart}
+use Rattle.sim_replay.specs.Apart.{first_apart}
+use Rattle.sim_replay.specs.Logs.{IsLog, IsRefusedAt, text_of_log}
+use Rattle.sim_report.specs.LogLines.{logged_line, agree_line, apart_lines}
 use Rattle.sim_top.specs.declared.status.Status.{Status}
-use Rattle.sim_top.specs.declared.status.Status.TheVariants.{Done, Differs, Usage, ReadFault, TooLong, MatchRefused, StateRefused, ListRefused, NoSuchTurn, NoFile, SightRefused, EconomyRefused}
+use Rattle.sim_top.specs.declared.status.Status.TheVariants.{Done, Differs, Usage, ReadFault, TooLong, MatchRefused, StateRefused, ListRefused, NoSuchTurn, NoFile, SightRefused, LogRefused, EconomyRefused}
 
 -- what a run comes to: a status, the whole text, and the file that it saves, if any
 pub record Outcome : Type 0 where
@@ -248,6 +255,43 @@ abbrev pub IsCompared : Setup → List ℕ → State → Result (List ℕ) Outco
 IsCompared setup name state file wanted =
     Then file (λ bytes. ThenStored setup name bytes (λ other wanted. wanted ≡ compare_by (difference_of state other))) wanted
 
+-- the log that bytes are, or the line at which they are refused
+abbrev pub IsLogged : Setup → List ℕ → Result Log ℕ → Type 0
+IsLogged setup bytes (Ok log) = IsLog setup log × (bytes ≡ text_of_log setup log)
+IsLogged setup bytes (Err line) = IsRefusedAt setup bytes line
+
+-- the log that was read, or the outcome of its refusal
+abbrev pub log_by : Result Log ℕ → Result Log Outcome
+log_by (Ok log) = Ok log
+log_by (Err line) = Err (printed LogRefused (refusal_text (OfLog line)))
+
+-- an outcome of what comes next for the log that the bytes of a file are
+pub record ThenLog (setup : Setup) (bytes : List ℕ) (next : Log → Outcome → Type 0) (wanted : Outcome) : Type 0 where
+  pub found : Result Log ℕ
+  pub logged : IsLogged setup bytes found
+  pub goes_on : Then (log_by found) next wanted
+
+-- a log that is stored: the word that asked for it, its last turn, and how many bytes it has
+abbrev pub logged_as : List ℕ → Setup → List ℕ → Log → Outcome
+logged_as word setup out log = record {
+  status = Done;
+  text = logged_line word (length log.turns) (length (text_of_log setup log));
+  saved = Some (record { name = out; bytes = text_of_log setup log });
+}
+
+-- a log agrees with its match up to its last turn, or the first turn is told at which it does not
+abbrev pub apart_by : ℕ → Option Apart → Outcome
+apart_by last None = printed Done (agree_line last)
+apart_by last (Some apart) = printed Differs (apart_lines apart.turn apart.told apart.played)
+
+-- what comes of the digests of a log beside those that were played
+abbrev pub check_by : Log → List (List ℕ) → Outcome
+check_by log played = apart_by (length log.turns) (first_apart log.digests played)
+
+-- what comes of a log: its digests beside those of the states after its own commands
+abbrev pub check_outcome : Setup → Log → Outcome
+check_outcome setup log = check_by log (digests_after setup log.turns)
+
 -- an outcome of what is asked for
 abbrev pub IsOutcomeOf : List File → Option Asked → Outcome → Type 0
 IsOutcomeOf files None wanted = wanted ≡ printed Usage usage_text
@@ -270,6 +314,13 @@ IsOutcomeOf files (Some (to_realm game turn)) wanted = Then (match_in files game
 IsOutcomeOf files (Some (to_sight game turn out)) wanted = Then (match_in files game) (λ setup wanted. wanted ≡ sight_outcome setup turn out) wanted
 IsOutcomeOf files (Some (to_resight game name map)) wanted =
     Then (match_in files game) (λ setup. Then (bytes_in files name) (λ bytes. ThenStored setup name bytes (λ state. IsResighted setup state (bytes_in files map)))) wanted
+IsOutcomeOf files (Some (to_log game out)) wanted =
+    Then (match_in files game) (λ setup wanted. wanted ≡ logged_as (codes "log") setup out (log_after setup (match_turns setup))) wanted
+IsOutcomeOf files (Some (to_record game steps out)) wanted =
+    Then (session_match_in files game) (λ setup. Then (steps_in files steps setup.players)
+    (λ list wanted. wanted ≡ logged_as (codes "record") setup out (log_after setup (released_turns (session_of setup list))))) wanted
+IsOutcomeOf files (Some (to_check game name)) wanted =
+    Then (match_in files game) (λ setup. Then (bytes_in files name) (λ bytes. ThenLog setup bytes (λ log wanted. wanted ≡ check_outcome setup log))) wanted
 IsOutcomeOf files (Some (to_film game every)) wanted = Then (match_in files game) (λ setup wanted. wanted ≡ printed Done (film_text setup every)) wanted
 IsOutcomeOf files (Some (to_parts game)) wanted = Then (match_in files game) (λ setup wanted. wanted ≡ printed Done (parts_text setup.templates)) wanted
 

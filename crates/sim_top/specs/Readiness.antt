@@ -7,9 +7,11 @@ use Rattle.sim_store.specs.Files.{File}
 use Rattle.sim_codec.specs.Loading.{StandsFor}
 use Rattle.sim_lists.specs.declared.schedule.Schedule.{Schedule}
 use Rattle.sim_lists.specs.declared.step_list.StepList.{StepList}
-use Rattle.sim_top.specs.Words.{Asked, to_play, to_store, to_resume, to_rejoin, to_session, to_show, to_compare, to_serve, to_try, to_stock, to_realm, to_sight, to_resight, to_film, to_parts}
+use Rattle.sim_top.specs.Words.{Asked, to_play, to_store, to_resume, to_rejoin, to_session, to_show, to_compare, to_serve, to_try, to_stock, to_realm, to_sight, to_resight, to_log, to_record, to_check, to_film, to_parts}
 use Rattle.sim_top.specs.Outcome.{bytes_in, match_in, session_match_in, schedule_in, steps_in, trial_match, map_at, economy_in}
 use Rattle.sim_stock.specs.declared.economy.Economy.{Economy}
+use Rattle.sim_replay.specs.declared.log.Log.{Log}
+use Rattle.sim_replay.specs.Logs.{IsLog, text_of_log}
 use Rattle.sim_top.specs.Answers.{Scene}
 use Rattle.sim_top.specs.declared.status.Status.{Status}
 use Rattle.sim_top.specs.declared.status.Status.TheVariants.{Done, Differs, OutOfMemory}
@@ -50,6 +52,14 @@ pub record HoldsSight (files : List File) (setup : Setup) (name map : List ℕ) 
   pub explored : List ℕ
   pub taken : (found : State) → StandsFor setup state.bytes found → map_at setup found (bytes_in files map) ≡ Ok explored
 
+-- a file is held and within its limit, and is a log of the match
+pub record HoldsLog (files : List File) (setup : Setup) (name : List ℕ) : Type 0 where
+  pub bytes : List ℕ
+  pub log : Log
+  pub read : bytes_in files name ≡ Ok bytes
+  pub is_log : IsLog setup log
+  pub text : bytes ≡ text_of_log setup log
+
 -- the text of a trial is that of a match
 pub record HoldsTrial (seed units turns : ℕ) : Type 0 where
   pub setup : Setup
@@ -71,6 +81,9 @@ IsReady files (Some (to_stock game name)) = HoldsMatch files game (λ setup. Hol
 IsReady files (Some (to_realm game turn)) = HoldsMatch files game (λ setup. turn ≤ setup.turns)
 IsReady files (Some (to_sight game turn out)) = HoldsMatch files game (λ setup. turn ≤ setup.turns)
 IsReady files (Some (to_resight game name map)) = HoldsMatch files game (λ setup. HoldsSight files setup name map)
+IsReady files (Some (to_log game out)) = HoldsMatch files game (λ setup. Unit {0})
+IsReady files (Some (to_record game steps out)) = HoldsSession files game steps
+IsReady files (Some (to_check game name)) = HoldsMatch files game (λ setup. HoldsLog files setup name)
 IsReady files (Some (to_film game every)) = HoldsMatch files game (λ setup. Unit {0})
 IsReady files (Some (to_parts game)) = HoldsMatch files game (λ setup. Unit {0})
 

@@ -1,7 +1,7 @@
 -- How many bytes are read for what is asked, and which file is found missing before any memory is taken.
 use Rattle.std.specs.Prelude.{◌≡◌, ℕ, ◌+◌, List, length, Option, Some, None}
 use Rattle.sim_store.specs.Files.{File, file_in}
-use Rattle.sim_top.specs.Words.{Asked, to_play, to_store, to_resume, to_rejoin, to_session, to_show, to_compare, to_serve, to_try, to_stock, to_realm, to_sight, to_resight, to_film, to_parts}
+use Rattle.sim_top.specs.Words.{Asked, to_play, to_store, to_resume, to_rejoin, to_session, to_show, to_compare, to_serve, to_try, to_stock, to_realm, to_sight, to_resight, to_log, to_record, to_check, to_film, to_parts}
 use Rattle.sim_top.specs.declared.status.Status.{Status}
 use Rattle.sim_top.specs.declared.status.Status.TheVariants.{Done, Differs, ReadFault, NoFile}
 
@@ -29,6 +29,9 @@ length_read files (to_stock game economy) = length_in files game + length_in fil
 length_read files (to_realm game turn) = length_in files game
 length_read files (to_sight game turn out) = length_in files game
 length_read files (to_resight game stored map) = length_in files game + length_in files stored + length_in files map
+length_read files (to_log game out) = length_in files game
+length_read files (to_record game steps out) = length_in files game + length_in files steps
+length_read files (to_check game log) = length_in files game + length_in files log
 length_read files (to_film game every) = length_in files game
 length_read files (to_parts game) = length_in files game
 
@@ -47,6 +50,9 @@ length_first files (to_stock game economy) = length_in files game
 length_first files (to_realm game turn) = length_in files game
 length_first files (to_sight game turn out) = length_in files game
 length_first files (to_resight game stored map) = length_in files game
+length_first files (to_log game out) = length_in files game
+length_first files (to_record game steps out) = length_in files game
+length_first files (to_check game log) = length_in files game
 length_first files (to_film game every) = length_in files game
 length_first files (to_parts game) = length_in files game
 
@@ -69,6 +75,9 @@ LacksFirst files (to_stock game economy) = Lacks files game
 LacksFirst files (to_realm game turn) = Lacks files game
 LacksFirst files (to_sight game turn out) = Lacks files game
 LacksFirst files (to_resight game stored map) = Lacks files game
+LacksFirst files (to_log game out) = Lacks files game
+LacksFirst files (to_record game steps out) = Lacks files game
+LacksFirst files (to_check game log) = Lacks files game
 LacksFirst files (to_film game every) = Lacks files game
 LacksFirst files (to_parts game) = Lacks files game
 

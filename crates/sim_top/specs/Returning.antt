@@ -12,11 +12,11 @@ use Rattle.sim_lists.specs.declared.step_list.StepList.{StepList}
 use Rattle.sim_lists.specs.StepLists.{IsStepList}
 use Rattle.sim_session.specs.SessionWords.{rigs_by}
 use Rattle.sim_host.specs.Rigs.{AllBuiltAtMost, builds_of}
-use Rattle.sim_top.specs.Hosting.{OfSession, IsHostedBy}
+use Rattle.sim_top.specs.Hosting.{OfSession, IsHostedBy, OfRecord, IsRecordedBy, builds_with_log}
 use Rattle.sim_top.specs.Outcome.{session_match_in, steps_in}
 use Rattle.sim_top.specs.Reads.{HasEnded}
 use Rattle.sim_top.specs.Rigs.{RigStands, SecondStands, OfFirsts, used}
-use Rattle.sim_top.specs.Words.{Asked, to_session, is_session}
+use Rattle.sim_top.specs.Words.{Asked, to_session, to_record, is_session}
 use Rattle.sim_top.specs.declared.status.Status.{Status}
 use Rattle.sim_top.specs.declared.status.Status.TheVariants.{Done, Differs, WriteFault, OutOfMemory}
 
@@ -28,30 +28,32 @@ IsUnplayed WriteFault = ⊥
 IsUnplayed OutOfMemory = ⊥
 IsUnplayed other = Unit {0}
 
--- A session began over a match and steps, those of the files where the shelf tells them. The rig of each client was built at most once
--- for a start and once for each load, and the rigs of no client are as they were.
-pub record HasBegunBy {X : Type 0} {F : X → Type 0} (meaning : (i : X) → F i → Meaning) (held : Option (List File)) (game steps : List ℕ) (old new : List (Rig X F)) : Type 0 where
+-- A session began over a match and steps, those of the files where the shelf tells them. The rig of each client was built at most so
+-- often, and the rigs of no client are as they were.
+pub record HasBegunBy {X : Type 0} {F : X → Type 0} (meaning : (i : X) → F i → Meaning) (builds : Setup → StepList → ℕ → ℕ) (held : Option (List File)) (game steps : List ℕ) (old new : List (Rig X F)) : Type 0 where
   pub setup : Setup
   pub list : StepList
   pub read : IfSome held (λ files. session_match_in files game ≡ Ok setup)
   pub listed : IfSome held (λ files. steps_in files steps setup.players ≡ Ok list)
   pub limits : IsSetup setup
   pub within : IsStepList setup.players list
-  pub built : AllBuiltAtMost (builds_of setup list) setup.players (rigs_by old meaning) (rigs_by new meaning)
+  pub built : AllBuiltAtMost (builds setup list) setup.players (rigs_by old meaning) (rigs_by new meaning)
   pub spare : drop setup.players new ≡ drop setup.players old
 
 -- those of a session are as they were, or it began
 abbrev pub AreOfSession : {X : Type 0} {F : X → Type 0} → ((i : X) → F i → Meaning) → Option (List File) → Option Asked → List (Rig X F) → List (Rig X F) → Type 0
-AreOfSession meaning held (Some (to_session game steps)) old new = (new ≡ old) ⊎ HasBegunBy meaning held game steps old new
+AreOfSession meaning held (Some (to_session game steps)) old new = (new ≡ old) ⊎ HasBegunBy meaning builds_of held game steps old new
+AreOfSession meaning held (Some (to_record game steps out)) old new = (new ≡ old) ⊎ HasBegunBy meaning builds_with_log held game steps old new
 AreOfSession meaning held asked old new = Unit {0}
 
 -- what is asked for, what the shelf holds, the status, and the rigs before and after
 pub record RigsCameBackBy {X : Type 0} {F : X → Type 0} (meaning : (i : X) → F i → Meaning) (asked : Option Asked) (held : Option (List File)) (status : Status) (old new : Vec (Rig X F) Global) : Type 0 where
   -- At its end the first rig stands for the state to which its match came, and so does the second where a client joined; those of a
-  -- session stand for what its clients are in the end.
+  -- session stand for what its clients are in the end, and of one that is recorded the first stands for the last state of the log.
   pub stands : IfSome held (λ files. HasEnded status → OfFirsts old.items new.items (λ r s. RigStands files asked (systems_by r meaning) (systems_by s meaning)))
   pub joins : IfSome held (λ files. HasEnded status → OfFirsts (drop 1 old.items) (drop 1 new.items) (λ r s. SecondStands files asked (systems_by s meaning)))
   pub hosted : IfSome held (λ files. HasEnded status → OfSession files asked (λ setup list. IsHostedBy meaning setup list old.items new.items))
+  pub recorded : IfSome held (λ files. HasEnded status → OfRecord files asked (λ setup list. IsRecordedBy meaning setup list new.items))
   -- However it ends, each system of the first and the second rig was built once at most, where no session was asked for, and those of a
   -- session at most so often as its clients begin and load.
   pub most : is_session asked ≡ false → OfFirsts old.items new.items (λ r s. AreBuiltOnceAtMost (systems_by r meaning) (systems_by s meaning))

@@ -9,10 +9,12 @@ use Rattle.sim_system.specs.RigWords.{systems_by}
 use Rattle.sim_system.specs.declared.system.System.{Ghosts}
 use Rattle.sim_system.specs.declared.rig.Rig.{Rig}
 use Rattle.sim_play.specs.Lines.{end_from}
-use Rattle.sim_top.specs.Words.{Asked, to_play, to_store, to_resume, to_rejoin, to_session, to_show, to_compare, to_serve, to_try, to_stock, to_realm, to_sight, to_resight, to_film, to_parts}
+use Rattle.sim_top.specs.Words.{Asked, to_play, to_store, to_resume, to_rejoin, to_session, to_show, to_compare, to_serve, to_try, to_stock, to_realm, to_sight, to_resight, to_log, to_record, to_check, to_film, to_parts}
 use Rattle.sim_top.specs.Outcome.{Outcome, bytes_in, match_in, trial_match, economy_in}
+use Rattle.sim_play.specs.Logs.{state_after}
 use Rattle.sim_play.specs.Paid.{paid_state}
-use Rattle.sim_top.specs.Stops.{IsState}
+use Rattle.sim_replay.specs.declared.log.Log.{Log}
+use Rattle.sim_top.specs.Stops.{IsState, IsLogOf}
 use Rattle.sim_top.specs.declared.commands.Answer.{Answer}
 use Rattle.sim_top.specs.declared.stop.Stop.{Stop}
 
@@ -31,6 +33,9 @@ clients (to_stock game economy) = 1
 clients (to_realm game turn) = 1
 clients (to_sight game turn out) = 1
 clients (to_resight game name map) = 1
+clients (to_log game out) = 1
+clients (to_record game steps out) = 8
+clients (to_check game log) = 1
 clients (to_film game every) = 1
 clients (to_parts game) = 0
 
@@ -57,6 +62,12 @@ StandForLast files game t = IfOk (match_in files game) (λ setup. AreFed setup (
 abbrev pub StandForPaid : List File → List ℕ → Setup → Systems → Type 0
 StandForPaid files name setup t = IfOk (economy_in files name setup) (λ economy. AreFed setup (paid_state setup economy setup.turns) t)
 
+-- a file is read as a log, and the systems stand for the state after its turns
+pub record StandForLog (setup : Setup) (file : Result (List ℕ) Outcome) (t : Systems) : Type 0 where
+  pub log : Log
+  pub read : IsLogOf setup file log
+  pub fed : AreFed setup (state_after setup log.turns) t
+
 -- the systems of the first rig before and after: they stand for the last state that was played, or nothing was played. What those of a
 -- session stand for is said of all of them at once.
 abbrev pub RigStands : List File → Option Asked → Systems → Systems → Type 0
@@ -74,6 +85,9 @@ RigStands files (Some (to_stock game name)) s t = IfOk (match_in files game) (λ
 RigStands files (Some (to_realm game turn)) s t = IfOk (match_in files game) (λ setup. AreFed setup (after setup (own_turns setup 0 turn)) t)
 RigStands files (Some (to_sight game turn out)) s t = IfOk (match_in files game) (λ setup. AreFed setup (after setup (own_turns setup 0 turn)) t)
 RigStands files (Some (to_resight game name map)) s t = IfOk (match_in files game) (λ setup. StandForStored setup (bytes_in files name) t)
+RigStands files (Some (to_log game out)) s t = StandForLast files game t
+RigStands files (Some (to_record game steps out)) s t = Unit {0}
+RigStands files (Some (to_check game name)) s t = IfOk (match_in files game) (λ setup. StandForLog setup (bytes_in files name) t)
 RigStands files (Some (to_film game every)) s t = StandForLast files game t
 RigStands files (Some (to_parts game)) s t = t ≡ s
 

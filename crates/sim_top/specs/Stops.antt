@@ -14,21 +14,24 @@ use Rattle.sim_setup.specs.declared.fault.SetupFault.TheVariants as setup
 use Rattle.sim_lists.specs.declared.fault.ListFault.{ListFault}
 use Rattle.sim_lists.specs.declared.fault.ListFault.TheVariants as listed
 use Rattle.sim_codec.specs.Loading.{StandsFor}
+use Rattle.sim_replay.specs.declared.fault.LogFault.{LogFault}
+use Rattle.sim_replay.specs.declared.fault.LogFault.TheVariants as logged
+use Rattle.sim_replay.specs.declared.log.Log.{Log}
 use Rattle.sim_stock.specs.declared.fault.EconomyFault.{EconomyFault}
 use Rattle.sim_stock.specs.declared.fault.EconomyFault.TheVariants as economy
-use Rattle.sim_report.specs.declared.refusal.Refusal.TheVariants.{Match, List as OfList, Turn, Sight, Economy as OfEconomy}
+use Rattle.sim_report.specs.declared.refusal.Refusal.TheVariants.{Match, List as OfList, Turn, Sight, Log as OfLog, Economy as OfEconomy}
 use Rattle.sim_report.specs.Refusals.{refusal_text, stored_text}
 use Rattle.sim_vision.specs.declared.fault.SightFault.{SightFault}
 use Rattle.sim_vision.specs.declared.fault.SightFault.TheVariants as sights
 use Rattle.sim_vision.specs.After.{joined_at}
 use Rattle.sim_vision.specs.Vision.{Vision}
-use Rattle.sim_top.specs.Outcome.{Outcome, printed, Then, IsStored, code_of, state_by, sight_code}
+use Rattle.sim_top.specs.Outcome.{Outcome, printed, Then, IsStored, code_of, state_by, IsLogged, log_by, sight_code}
 use Rattle.sim_top.specs.Answers.{OnlyGave, CountsBefore}
 use Rattle.sim_top.specs.Reads.{IsUnfound}
 use Rattle.sim_top.specs.declared.status.Status.{Status}
 use Rattle.sim_top.specs.declared.status.Status.TheVariants as status
 use Rattle.sim_top.specs.declared.stop.Stop.{Stop}
-use Rattle.sim_top.specs.declared.stop.Stop.TheVariants.{ReadFault, TooLong, NoFile, OutOfMemory, MatchRefused, StateRefused, ListRefused, NoSuchTurn, SightRefused, EconomyRefused}
+use Rattle.sim_top.specs.declared.stop.Stop.TheVariants.{ReadFault, TooLong, NoFile, OutOfMemory, MatchRefused, StateRefused, ListRefused, NoSuchTurn, SightRefused, LogRefused, EconomyRefused}
 
 -- the status with which a command ends there
 abbrev pub status_of : Stop → Status
@@ -41,6 +44,7 @@ status_of (StateRefused code name) = status.StateRefused
 status_of (ListRefused index) = status.ListRefused
 status_of (NoSuchTurn asked turns) = status.NoSuchTurn
 status_of (SightRefused code) = status.SightRefused
+status_of (LogRefused line) = status.LogRefused
 status_of (EconomyRefused index) = status.EconomyRefused
 
 -- the text that it prints
@@ -54,6 +58,7 @@ stop_text (StateRefused code name) = stored_text code name.now
 stop_text (ListRefused index) = refusal_text (OfList index)
 stop_text (NoSuchTurn asked turns) = refusal_text (Turn asked turns)
 stop_text (SightRefused code) = refusal_text (Sight code)
+stop_text (LogRefused line) = refusal_text (OfLog line)
 stop_text (EconomyRefused index) = refusal_text (OfEconomy index)
 
 -- the outcome with which a command ends there
@@ -98,6 +103,23 @@ abbrev pub ReadsState : Result State Stop → Setup → List ℕ → Result (Lis
 ReadsState (Ok state) setup name file = IsState setup file state
 ReadsState (Err stop) setup name file = Stopped stop (Then file (IsRefused setup name))
 
+-- the bytes of a file are this log
+pub record IsLogOf (setup : Setup) (file : Result (List ℕ) Outcome) (log : Log) : Type 0 where
+  pub bytes : List ℕ
+  pub read : file ≡ Ok bytes
+  pub logged : IsLogged setup bytes (Ok log)
+
+-- the bytes are no log, and the command ends at the first line with which none goes on
+pub record IsNoLog (setup : Setup) (bytes : List ℕ) (wanted : Outcome) : Type 0 where
+  pub line : ℕ
+  pub refused : IsLogged setup bytes (Err line)
+  pub ended : log_by (Err line) ≡ Err wanted
+
+-- the log that the bytes of a file are, or the command ends
+abbrev pub ReadsLog : Result Log Stop → Setup → Result (List ℕ) Outcome → Type 0
+ReadsLog (Ok log) setup file = IsLogOf setup file log
+ReadsLog (Err stop) setup file = Stopped stop (Then file (IsNoLog setup))
+
 -- why a command ends whose match is refused
 abbrev pub setup_stop : SetupFault → Stop
 setup_stop (setup.Refused code index) = MatchRefused code index
@@ -117,6 +139,11 @@ IsStateStop fault name stop = ended_by stop ≡ printed status.StateRefused (sto
 abbrev pub map_stop : SightFault → Stop
 map_stop sights.OutOfMemory = OutOfMemory
 map_stop fault = SightRefused (sight_code fault)
+
+-- why a command ends whose log is refused
+abbrev pub log_stop : LogFault → Stop
+log_stop (logged.Refused line) = LogRefused line
+log_stop logged.OutOfMemory = OutOfMemory
 
 -- why a command ends whose economy is refused
 abbrev pub economy_stop : EconomyFault → Stop
@@ -157,6 +184,7 @@ IsOfMatch (ListRefused index) = ⊥
 IsOfMatch (NoSuchTurn asked turns) = ⊥
 IsOfMatch (SightRefused code) = ⊥
 IsOfMatch (EconomyRefused index) = ⊥
+IsOfMatch (LogRefused line) = ⊥
 IsOfMatch other = Unit {0}
 
 -- that reads a stored state
@@ -166,6 +194,7 @@ IsOfState (ListRefused index) = ⊥
 IsOfState (NoSuchTurn asked turns) = ⊥
 IsOfState (SightRefused code) = ⊥
 IsOfState (EconomyRefused index) = ⊥
+IsOfState (LogRefused line) = ⊥
 IsOfState other = Unit {0}
 
 -- that reads a list
@@ -175,6 +204,7 @@ IsOfList (StateRefused code name) = ⊥
 IsOfList (NoSuchTurn asked turns) = ⊥
 IsOfList (SightRefused code) = ⊥
 IsOfList (EconomyRefused index) = ⊥
+IsOfList (LogRefused line) = ⊥
 IsOfList other = Unit {0}
 
 -- that reads explored cells
@@ -184,7 +214,18 @@ IsOfMap (StateRefused code name) = ⊥
 IsOfMap (ListRefused index) = ⊥
 IsOfMap (NoSuchTurn asked turns) = ⊥
 IsOfMap (EconomyRefused index) = ⊥
+IsOfMap (LogRefused line) = ⊥
 IsOfMap other = Unit {0}
+
+-- that reads a log
+abbrev pub IsOfLog : Stop → Type 0
+IsOfLog (MatchRefused code index) = ⊥
+IsOfLog (StateRefused code name) = ⊥
+IsOfLog (ListRefused index) = ⊥
+IsOfLog (NoSuchTurn asked turns) = ⊥
+IsOfLog (SightRefused code) = ⊥
+IsOfLog (EconomyRefused index) = ⊥
+IsOfLog other = Unit {0}
 
 -- that reads an economy
 abbrev pub IsOfEconomy : Stop → Type 0
@@ -193,6 +234,7 @@ IsOfEconomy (StateRefused code name) = ⊥
 IsOfEconomy (ListRefused index) = ⊥
 IsOfEconomy (NoSuchTurn asked turns) = ⊥
 IsOfEconomy (SightRefused code) = ⊥
+IsOfEconomy (LogRefused line) = ⊥
 IsOfEconomy other = Unit {0}
 
 -- a command ends since something is refused

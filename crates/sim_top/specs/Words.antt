@@ -5,14 +5,14 @@ use Rattle.std.specs.Str.{bytes_eq}
 use Rattle.sim_base.specs.NumberText.{is_digit}
 use Rattle.sim_trial.specs.Trial.{is_trial}
 use Rattle.sim_top.specs.declared.words.Request.{Request}
-use Rattle.sim_top.specs.declared.words.Request.TheVariants.{Play, State, Resume, Rejoin, Session, Show, Compare, Serve, Trial, Stock, Realm, Sight, Resight, Film, Parts}
+use Rattle.sim_top.specs.declared.words.Request.TheVariants.{Play, State, Resume, Rejoin, Session, Show, Compare, Serve, Trial, Stock, Realm, Sight, Resight, Log, Record, Check, Film, Parts}
 
 -- what is asked for: to play a match; to store the state of a turn of it in a file; to play on from a stored state; to play it with a
 -- second client that joins at a turn; to run a session of it over a list of steps; to show a stored state; to compare two; to run the
 -- server over a schedule; to play the trial that is made of three numbers; to play a match by an economy; to tell the territories of a
 -- turn of a match; to tell what its players see at a turn, and store in a file what they have explored; to tell what they see in the end,
--- from a stored state on and the explored cells of a file; to tell the states of a match, so many turns apart; to tell the parts of its
--- templates
+-- from a stored state on and the explored cells of a file; to store the log of a match in a file; to run a session and store the log of its
+-- released turns; to check a log of a match; to tell the states of a match, so many turns apart; to tell the parts of its templates
 pub data Asked : Type 0 where
   to_play : List ℕ → Asked
   to_store : List ℕ → ℕ → List ℕ → Asked
@@ -27,6 +27,9 @@ pub data Asked : Type 0 where
   to_realm : List ℕ → ℕ → Asked
   to_sight : List ℕ → ℕ → List ℕ → Asked
   to_resight : List ℕ → List ℕ → List ℕ → Asked
+  to_log : List ℕ → List ℕ → Asked
+  to_record : List ℕ → List ℕ → List ℕ → Asked
+  to_check : List ℕ → List ℕ → Asked
   to_film : List ℕ → ℕ → Asked
   to_parts : List ℕ → Asked
 
@@ -45,6 +48,9 @@ asked (Stock game economy) = to_stock game.now economy.now
 asked (Realm game turn) = to_realm game.now turn
 asked (Sight game turn out) = to_sight game.now turn out.now
 asked (Resight game stored map) = to_resight game.now stored.now map.now
+asked (Log game out) = to_log game.now out.now
+asked (Record game steps out) = to_record game.now steps.now out.now
+asked (Check game log) = to_check game.now log.now
 asked (Film game every) = to_film game.now every
 asked (Parts game) = to_parts game.now
 
@@ -80,6 +86,11 @@ asked_of_one command file =
     if bytes_eq command (codes "play") then Some (to_play file) else if bytes_eq command (codes "serve") then Some (to_serve file)
     else if bytes_eq command (codes "parts") then Some (to_parts file) else None
 
+-- what a command asks about a log
+abbrev pub asked_of_log : List ℕ → List ℕ → List ℕ → Option Asked
+asked_of_log command a b =
+    if bytes_eq command (codes "log") then Some (to_log a b) else if bytes_eq command (codes "check") then Some (to_check a b) else None
+
 -- what it asks of two words
 abbrev pub asked_of_two : List ℕ → List ℕ → List ℕ → Option Asked
 asked_of_two command a b =
@@ -89,7 +100,7 @@ asked_of_two command a b =
     else if bytes_eq command (codes "show") then Some (to_show a b)
     else if bytes_eq command (codes "stock") then Some (to_stock a b)
     else if bytes_eq command (codes "realm") then option_map (to_realm a) (turn_in b)
-    else if bytes_eq command (codes "film") then option_map (to_film a) (every_in b) else None
+    else if bytes_eq command (codes "film") then option_map (to_film a) (every_in b) else asked_of_log command a b
 
 -- what a command asks about what the players see
 abbrev pub asked_of_sight : List ℕ → List ℕ → List ℕ → List ℕ → Option Asked
@@ -102,7 +113,8 @@ abbrev pub asked_of_three : List ℕ → List ℕ → List ℕ → List ℕ → 
 asked_of_three command a b c =
     if bytes_eq command (codes "state") then option_map (λ n. to_store a n c) (turn_in b)
     else if bytes_eq command (codes "compare") then Some (to_compare a b c)
-    else if bytes_eq command (codes "trial") then trial_of (turn_in a) (turn_in b) (turn_in c) else asked_of_sight command a b c
+    else if bytes_eq command (codes "trial") then trial_of (turn_in a) (turn_in b) (turn_in c)
+    else if bytes_eq command (codes "record") then Some (to_record a b c) else asked_of_sight command a b c
 
 -- what the words ask for, if they are in the table of commands
 abbrev pub asked_by : List (List ℕ) → Option Asked
@@ -115,16 +127,20 @@ asked_by other = None
 abbrev pub out_of : Option Asked → Option (List ℕ)
 out_of (Some (to_store game turn out)) = Some out
 out_of (Some (to_sight game turn out)) = Some out
+out_of (Some (to_log game out)) = Some out
+out_of (Some (to_record game steps out)) = Some out
 out_of other = None
 
--- whether it is to compare two states
+-- whether it is to compare two states, or a log and the match that is played by it
 abbrev pub is_comparison : Asked → Bool
 is_comparison (to_compare game left right) = true
+is_comparison (to_check game log) = true
 is_comparison other = false
 
 -- whether it is to run a session
 abbrev pub is_session : Option Asked → Bool
 is_session (Some (to_session game steps)) = true
+is_session (Some (to_record game steps out)) = true
 is_session other = false
 
 -- whether it names the file of a match, or makes a match
@@ -152,12 +168,18 @@ loads_state other = false
 abbrev pub reads_list : Asked → Bool
 reads_list (to_serve schedule) = true
 reads_list (to_session game steps) = true
+reads_list (to_record game steps out) = true
 reads_list other = false
 
 -- whether it names a file with explored cells
 abbrev pub reads_map : Asked → Bool
 reads_map (to_resight game stored map) = true
 reads_map other = false
+
+-- whether it names a file with a log
+abbrev pub reads_log : Asked → Bool
+reads_log (to_check game log) = true
+reads_log other = false
 
 -- whether it names a file with an economy
 abbrev pub reads_economy : Asked → Bool

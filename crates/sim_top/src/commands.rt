@@ -15,9 +15,11 @@ ghost use Rattle.sim_top.specs.Words.{asked};
 mod comparing;
 mod films;
 mod joining;
+mod logs;
 mod parts;
 mod playing;
 mod realms;
+mod recording;
 mod seeing;
 mod serving;
 mod sessions;
@@ -32,9 +34,11 @@ use crate::words::Request;
 use comparing::compare;
 use films::film;
 use joining::rejoin;
+use logs::{check, log};
 use parts::parts;
 use playing::{play, resume};
 use realms::realm;
+use recording::record;
 use seeing::{resight, sight};
 use serving::serve;
 use sessions::session;
@@ -97,6 +101,11 @@ pub fn answer_to<'w, S: Shelf>(
         Request::Resight { game, stored, map } => {
             resight(alloc, shelf, game, stored, map, rigs, orders)
         }
+        Request::Log { game, out } => log(alloc, shelf, game, out, rigs, orders),
+        Request::Record { game, steps, out } => {
+            record(alloc, shelf, game, steps, out, rigs, orders)
+        }
+        Request::Check { game, log } => check(alloc, shelf, game, log, rigs, orders),
         Request::Film { game, every } => film(alloc, shelf, game, every, rigs, orders),
         Request::Parts { game } => parts(alloc, shelf, game),
     }

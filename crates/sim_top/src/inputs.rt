@@ -1,19 +1,20 @@
-//! What a command reads: the match of a file, a stored state of that match, explored cells, an economy, a schedule, and the match and the
+//! What a command reads: the match of a file, a stored state of that match, explored cells, an economy, a log, a schedule, and the match and the
 //! steps of a session; and the match of a trial. What is refused without a look at its contents takes no memory.
 
-ghost use Rattle.std.specs.Prelude.{◌≡◌, List, Err, IfSome, IfOk, IfErr, IsErrAnd, Some, None, false};
+ghost use Rattle.std.specs.Prelude.{◌≡◌, List, Ok, Err, IfSome, IfOk, IfErr, IsErrAnd, Some, None, false};
 ghost use Rattle.std.specs.Str.{is_utf8};
 ghost use Rattle.sim_base.specs.Limits.{IsSetup};
 ghost use Rattle.sim_base.specs.Validity.{IsValid};
 ghost use Rattle.sim_codec.specs.Loading.{head_fault};
 ghost use Rattle.sim_lists.specs.Schedules.{schedule_of as schedule_of_bytes, IsSchedule};
 ghost use Rattle.sim_lists.specs.StepLists.{steps_of as steps_of_bytes, IsStepList};
+ghost use Rattle.sim_replay.specs.Logs.{IsLog};
 ghost use Rattle.sim_setup.specs.Setups.{setup_of as setup_of_bytes, session_setup_of as session_setup_of_bytes};
 ghost use Rattle.sim_stock.specs.Economies.{economy_of as economy_of_bytes, IsEconomy};
 ghost use Rattle.sim_store.specs.Files.{File, file_in};
 ghost use Rattle.sim_top.specs.Commands.{IsReading, shelved};
 ghost use Rattle.sim_top.specs.Outcome.{bytes_in, match_in, setup_by, session_match_in, trial_match as match_of_trial, schedule_in, steps_in, list_by, map_by, map_at, economy_by, economy_in};
-ghost use Rattle.sim_top.specs.Stops.{Reads, ReadsBytes, ReadsState, LoadsState, IsStateStop, IsOfContent, IsOfMatch, IsOfState, IsOfList, IsOfMap, IsOfEconomy, IsMissed, Joins, ReadsCounting};
+ghost use Rattle.sim_top.specs.Stops.{Reads, ReadsBytes, ReadsState, ReadsLog, LoadsState, IsStateStop, IsOfContent, IsOfMatch, IsOfState, IsOfList, IsOfMap, IsOfLog, IsOfEconomy, IsMissed, Joins, ReadsCounting};
 ghost use Rattle.sim_trial.specs.Trial.{IsTrial};
 ghost use Rattle.sim_vision.specs.Joining.{refusal_of};
 
@@ -21,6 +22,7 @@ use crate::stop::Stop;
 use sim_base::{Setup, State};
 use sim_codec::load;
 use sim_lists::{Schedule, StepList, schedule_of, steps_of};
+use sim_replay::{Log, log_of};
 use sim_setup::{session_setup_of, setup_of};
 use sim_stock::{Economy, economy_of};
 use sim_store::{Shelf, StoreFault, read_file};
@@ -207,6 +209,32 @@ pub fn read_economy<'w, S: Shelf>(
 {
     let bytes = read_bytes(alloc, shelf, name)?;
     economy_from(alloc, setup, &bytes)
+}
+
+// The log of a match that the bytes of a file are.
+fn log_from<'w>(alloc: Global, setup: &Setup, bytes: &[u8]) -> Result<Log, Stop<'w>>
+    ensures tells { ReadsLog result setup.now (Ok bytes.now) }
+    ensures limits { IfOk result (IsLog setup.now) }
+    ensures stops { IfErr result IsOfLog }
+    ensures content { IfErr result IsOfContent }
+{
+    Ok(log_of(alloc, setup, bytes)?)
+}
+
+/// Reads the log of a match from a file.
+pub fn read_log<'w, S: Shelf>(
+    alloc: Global,
+    shelf: &mut S,
+    setup: &Setup,
+    name: &str,
+) -> Result<Log, Stop<'w>>
+    ensures tells { IfSome (S.held shelf.old) (λ files. ReadsLog result setup.now (bytes_in files name.now)) }
+    ensures limits { IfOk result (IsLog setup.now) }
+    ensures stops { IfErr result IsOfLog }
+    ensures reading { IsReading name.now result (shelved (S.held shelf.old) (S.counts shelf.old)) (shelved (S.held shelf.new) (S.counts shelf.new)) }
+{
+    let bytes = read_bytes(alloc, shelf, name)?;
+    log_from(alloc, setup, &bytes)
 }
 
 // The schedule of the bytes of a file.

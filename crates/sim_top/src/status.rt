@@ -8,7 +8,7 @@ ghost use Rattle.sim_top.specs.Answers.{status_number};
 pub enum Status {
     /// All was done.
     Done,
-    /// All was done, and the two states that were compared differ.
+    /// All was done, and the two states that were compared differ, or a log and the match that is played by it.
     Differs,
     /// The words are none of a command.
     Usage,
@@ -32,6 +32,8 @@ pub enum Status {
     NoFile,
     /// The explored cells of a file are refused.
     SightRefused,
+    /// The log of a file is refused.
+    LogRefused,
     /// The economy of a file is refused.
     EconomyRefused,
 }
@@ -55,6 +57,7 @@ impl Status {
             Status::NoSuchTurn => 10,
             Status::NoFile => 11,
             Status::SightRefused => 12,
+            Status::LogRefused => 13,
             Status::EconomyRefused => 14,
         }
     }

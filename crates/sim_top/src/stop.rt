@@ -3,12 +3,13 @@
 
 ghost use Rattle.std.specs.Prelude.{◌≡◌};
 ghost use Rattle.sim_top.specs.declared.stop.Stop.TheVariants as stops;
-ghost use Rattle.sim_top.specs.Stops.{status_of, setup_stop, list_stop, map_stop, economy_stop, IsStateStop};
+ghost use Rattle.sim_top.specs.Stops.{status_of, setup_stop, list_stop, map_stop, log_stop, economy_stop, IsStateStop};
 
 use crate::status::Status;
 use sim_base::OutOfMemory;
 use sim_codec::StateFault;
 use sim_lists::ListFault;
+use sim_replay::LogFault;
 use sim_setup::SetupFault;
 use sim_stock::EconomyFault;
 use sim_vision::SightFault;
@@ -34,6 +35,8 @@ pub enum Stop<'w> {
     NoSuchTurn { asked: u32, turns: u32 },
     /// The explored cells of a file are refused for this code.
     SightRefused { code: u8 },
+    /// The log of a file is refused, at this line.
+    LogRefused { line: u32 },
     /// The economy of a file is refused, at this deed, or at 0 for all else.
     EconomyRefused { index: u32 },
 }
@@ -81,6 +84,17 @@ impl<'w> From<SightFault> for Stop<'w> {
     }
 }
 
+impl<'w> From<LogFault> for Stop<'w> {
+    ghost from_gives = { λ fault stop. stop ≡ log_stop fault };
+
+    fn from(fault: LogFault) -> Stop<'w> {
+        match fault {
+            LogFault::Refused { line } => Stop::LogRefused { line },
+            LogFault::OutOfMemory => Stop::OutOfMemory,
+        }
+    }
+}
+
 impl<'w> From<EconomyFault> for Stop<'w> {
     ghost from_gives = { λ fault stop. stop ≡ economy_stop fault };
 
@@ -119,6 +133,7 @@ impl<'w> Stop<'w> {
             Stop::ListRefused { .. } => Status::ListRefused,
             Stop::NoSuchTurn { .. } => Status::NoSuchTurn,
             Stop::SightRefused { .. } => Status::SightRefused,
+            Stop::LogRefused { .. } => Status::LogRefused,
             Stop::EconomyRefused { .. } => Status::EconomyRefused,
         }
     }

@@ -16,6 +16,7 @@ ghost use Rattle.sim_top.specs.Films.{OfFilm, Film};
 ghost use Rattle.sim_top.specs.Given.{GaveForWords};
 ghost use Rattle.sim_top.specs.Headline.{Headline};
 ghost use Rattle.sim_top.specs.Hosting.{OfSession};
+ghost use Rattle.sim_top.specs.Logs.{TellsLogs};
 ghost use Rattle.sim_top.specs.Making.{MeetsBefore, SavesIfDone, IsSavedAs, IsAnswered, SaveMeets, IsSettled, Tells, file_of};
 ghost use Rattle.sim_top.specs.Parts.{OfParts, PartsTold};
 ghost use Rattle.sim_top.specs.Readiness.{IsReady, IsFaultless, IsFinal};
@@ -90,6 +91,12 @@ pub fn run<S: Shelf, K: Sink>(
     // players could not pay, and the exact balance of each player.
     ensures stocks { IfSome (S.held shelf.old) (λ files. HasEnded result.status
         → OfStock files (asked_by (words_of words.now)) (λ setup economy. Balances setup economy (K.told out.old) (K.told out.new))) }
+
+    // Where a log is asked for, of a match or of a session, what is stored is the log of its turns; and a log that is checked is said to
+    // agree exactly where each of its digests is that of the state after its own commands, or else the first turn at which one is not.
+    ensures logs { IfSome (S.held shelf.old) (λ files. HasEnded result.status → TellsLogs files (asked_by (words_of words.now)) result.status
+        (scene (S.held shelf.old) (K.told out.old) (S.counts shelf.old) (K.faults out.old))
+        (scene (S.held shelf.new) (K.told out.new) (S.counts shelf.new) (K.faults out.new))) }
 
     // Where the shelf tells its files, the status, the text and the saved file are those of the words, or a fault or
     // want of memory came between.
@@ -237,6 +244,7 @@ fn stop_text(alloc: Global, stop: &Stop<'_>) -> Result<String, OutOfMemory>
         Stop::ListRefused { index } => Refusal::List { index },
         Stop::NoSuchTurn { asked, turns } => Refusal::Turn { asked, turns },
         Stop::SightRefused { code } => Refusal::Sight { code },
+        Stop::LogRefused { line } => Refusal::Log { line },
         Stop::EconomyRefused { index } => Refusal::Economy { index },
         Stop::ReadFault | Stop::TooLong | Stop::NoFile | Stop::OutOfMemory => {
             return Ok(String::new(alloc));

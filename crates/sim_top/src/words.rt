@@ -1,7 +1,7 @@
 //! The words after the program's name, and the request that they make. A word that is out of place makes none.
 
 ghost use Rattle.std.specs.Prelude.{◌≡◌, ◌≤◌, Some, IfSome, length, option_map};
-ghost use Rattle.sim_top.specs.Words.{asked, words_of, asked_by, asked_of_one, asked_of_two, asked_of_three, asked_of_sight, trial_of as trial_asked, turn_in, every_in, digits_from};
+ghost use Rattle.sim_top.specs.Words.{asked, words_of, asked_by, asked_of_one, asked_of_two, asked_of_three, asked_of_log, asked_of_sight, trial_of as trial_asked, turn_in, every_in, digits_from};
 ghost use Rattle.sim_top.specs.Trials.{CanBeTried};
 
 use sim_trial::is_trial;
@@ -77,6 +77,22 @@ pub enum Request<'w> {
         stored: &'w str,
         map: &'w str,
     },
+    /// To store the log of a match in a file.
+    Log {
+        game: &'w str,
+        out: &'w str,
+    },
+    /// To run a session of a match over a list of steps, and store the log of its released turns in a file.
+    Record {
+        game: &'w str,
+        steps: &'w str,
+        out: &'w str,
+    },
+    /// To check the log of a match.
+    Check {
+        game: &'w str,
+        log: &'w str,
+    },
     /// To tell the states of a match, at turns so many apart and at the last.
     Film {
         game: &'w str,
@@ -150,6 +166,20 @@ fn request_of_two<'w>(command: &str, a: &'w str, b: &'w str) -> Option<Request<'
         let every = every_of(b)?;
         return Some(Request::Film { game: a, every });
     }
+    request_of_log(command, a, b)
+}
+
+// A request about a log.
+fn request_of_log<'w>(command: &str, a: &'w str, b: &'w str) -> Option<Request<'w>>
+    ensures asked { option_map asked result ≡ asked_of_log command.now a.now b.now }
+    ensures trial { IfSome result (λ request. CanBeTried (asked request)) }
+{
+    if command == "log" {
+        return Some(Request::Log { game: a, out: b });
+    }
+    if command == "check" {
+        return Some(Request::Check { game: a, log: b });
+    }
     None
 }
 
@@ -174,6 +204,13 @@ fn request_of_three<'w>(command: &str, a: &'w str, b: &'w str, c: &'w str) -> Op
     }
     if command == "trial" {
         return trial_of(turn_of(a)?, turn_of(b)?, turn_of(c)?);
+    }
+    if command == "record" {
+        return Some(Request::Record {
+            game: a,
+            steps: b,
+            out: c,
+        });
     }
     request_of_sight(command, a, b, c)
 }

@@ -183,6 +183,32 @@ fn a_state_is_stored_shown_and_played_on(rt: HostRuntime) -> Result<(), Fail> {
     Ok(())
 }
 
+// Commands over the logs that the others store, and what they print.
+static LOGGED: [(&[&str], Status, &str); 6] = [
+    (&["log", "m", "o"], Status::Done, "log 2 212\n"),
+    (&["check", "m", "o"], Status::Done, "agree 2\n"),
+    (&["check", "m", "m"], Status::LogRefused, "log refused 1\n"),
+    (&["record", "t", "l", "p"], Status::Done, "record 3 252\n"),
+    (&["check", "t", "p"], Status::Done, "agree 3\n"),
+    (&["check", "t", "o"], Status::LogRefused, "log refused 1\n"),
+];
+
+#[test]
+fn a_log_is_stored_and_checked(rt: HostRuntime) -> Result<(), Fail> {
+    let files = [
+        ("m", STEP.as_bytes()),
+        ("t", TWO.as_bytes()),
+        ("l", STEPS.as_bytes()),
+    ];
+    let mut shelf = shelf_of(rt.alloc(), &files)?;
+    for (words, status, text) in LOGGED {
+        let printed = print(rt.alloc(), words, &mut shelf)?;
+        assert_eq!(rt; printed.status, status, "for {words:?}");
+        assert_eq!(rt; printed.text.as_str(), text, "for {words:?}");
+    }
+    Ok(())
+}
+
 #[test]
 fn statuses_have_their_numbers(rt: HostRuntime) {
     let numbers = [
@@ -199,6 +225,7 @@ fn statuses_have_their_numbers(rt: HostRuntime) {
         (Status::NoSuchTurn, 10),
         (Status::NoFile, 11),
         (Status::SightRefused, 12),
+        (Status::LogRefused, 13),
         (Status::EconomyRefused, 14),
     ];
     for (status, number) in numbers {

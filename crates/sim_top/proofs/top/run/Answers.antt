@@ -9,6 +9,7 @@ use Rattle.sim_top.specs.Answers.{scene, Meets, Causes}
 use Rattle.sim_top.specs.Headline.{Headline}
 use Rattle.sim_top.specs.Films.{OfFilm, Film}
 use Rattle.sim_top.specs.Hosting.{OfSession, IsHostedBy}
+use Rattle.sim_top.specs.Logs.{TellsLogs}
 use Rattle.sim_top.specs.Making.{MeetsBefore, file_of}
 use Rattle.sim_top.specs.Parts.{OfParts, PartsTold}
 use Rattle.sim_top.specs.Readiness.{IsReady, IsFaultless, IsFinal}
@@ -22,6 +23,7 @@ use Rattle.sim_top.proofs.Completeness.{final}
 use Rattle.sim_top.proofs.Ending.{told_unfound, told_usage, given_settled}
 use Rattle.sim_top.proofs.Films.{film_told}
 use Rattle.sim_top.proofs.Headlines.{lawful, of_both, of_end}
+use Rattle.sim_top.proofs.Logging.{logs_told}
 use Rattle.sim_top.proofs.Parts.{parts_told}
 use Rattle.sim_top.proofs.Returning.{rigs_later}
 use Rattle.sim_top.proofs.Sights.{sights_told}
@@ -120,6 +122,15 @@ returns-clause-sights g c =
     let now = scene (g.S.Shelf.held c.finish-status.new.shelf) (g.K.Sink.told c.finish-status.new.out) (g.S.Shelf.counts c.finish-status.new.shelf) (g.K.Sink.faults c.finish-status.new.out) in
     Told (λ files. Meets c.finish-status.result words files before now) (λ files. HasEnded c.finish-status.result → TellsSights files (asked_by words) before now) _
     (λ files h ended. sights_told c.finish-status.result words files before now h ended) (returns-clause-answers g c)
+
+-- and of a log that was asked for, what the rules say of it
+pub returns-clause-logs : goal.returns-clause-logs
+returns-clause-logs g c =
+    let words = words_of c.args.words.now in
+    let before = scene (g.S.Shelf.held c.args.shelf.now) (g.K.Sink.told c.args.out.now) (g.S.Shelf.counts c.args.shelf.now) (g.K.Sink.faults c.args.out.now) in
+    let now = scene (g.S.Shelf.held c.finish-status.new.shelf) (g.K.Sink.told c.finish-status.new.out) (g.S.Shelf.counts c.finish-status.new.shelf) (g.K.Sink.faults c.finish-status.new.out) in
+    Told (λ files. Meets c.finish-status.result words files before now) (λ files. HasEnded c.finish-status.result → TellsLogs files (asked_by words) c.finish-status.result before now) _
+    (λ files h ended. logs_told c.finish-status.result words files before now h ended) (returns-clause-answers g c)
 
 -- and what was told of a match with an economy is its states and balances
 pub returns-clause-stocks : goal.returns-clause-stocks

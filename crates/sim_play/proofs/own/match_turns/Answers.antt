@@ -1,0 +1,17 @@
+-- One turn more.
+use Rattle.std.proofs.Common.{◌≡◌, ℕ, ◌+◌, List, [], ◌∷◌, ◌++◌, refl, sym, ap, ◌∙◌, map, arith}
+use Rattle.std.specs.List.{range_with_len}
+use Rattle.std.proofs.lemmas.List.FromFn.{map-range_with_len_more}
+use Rattle.sim_base.specs.declared.command.PlayerCommand.{PlayerCommand}
+use Rattle.sim_base.specs.declared.setup.Timed.{Timed}
+use Rattle.sim_base.specs.Turn.{orders_at}
+use Rattle.sim_play.proofs.own.match_turns.Goals as goal
+
+pub loop-before-preserved : goal.loop-before-preserved
+loop-before-preserved c =
+    let own : ℕ → List PlayerCommand = λ t. orders_at t c.args.setup.now.commands in
+    let n = c.loop-before.before in
+    let commands : c.in_ok-commands.ensures.items ≡ own (n + 1) = c.in_ok-commands.ensures ∙ c.due_at-due.ensures ∙ ap (orders_at (n + 1)) c.as_slice.ensures in
+    c.in_ok-push.ensures.ok
+    ∙ ap (λ (ts : List (List PlayerCommand)). ts ++ own (n + 1) ∷ []) c.loop-before.invariant
+    ∙ sym (map-range_with_len_more own 1 n (n + 1) (omega arith))

@@ -1,0 +1,10 @@
+pub mod Options
+pub mod Cuts
+pub mod PrintedWords
+pub mod PrintedCommands
+pub mod FittingCommands
+pub mod PrintedLines
+pub mod Taking
+pub mod Ending
+pub mod Whole
+pub mod Aparts

@@ -1,0 +1,13 @@
+-- What is left differs first where the whole lists do.
+use Rattle.std.proofs.Common.{◌≡◌, ◌+◌, length}
+use Rattle.sim_replay.specs.Apart.{apart_from, first_apart}
+use Rattle.sim_replay.proofs.apart.search.Given as goal
+
+abbrev pub invariant-loop-rest : goal.invariant-loop-rest
+invariant-loop-rest l = record {
+  same : apart_from l.turn l.rest l.other ≡ first_apart l.told l.played;
+  counted : l.turn + length l.rest ≡ length l.told;
+}
+
+abbrev pub decreases-loop-rest : goal.decreases-loop-rest
+decreases-loop-rest l = length l.rest

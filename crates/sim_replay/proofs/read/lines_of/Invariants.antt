@@ -1,0 +1,14 @@
+-- The rest is read as the whole is.
+use Rattle.std.proofs.Common.{◌≡◌, ◌+◌, ◌≤◌, length}
+use Rattle.sim_replay.specs.Logs.{parts_of}
+use Rattle.sim_replay.specs.Reading.{nothing, read_parts}
+use Rattle.sim_replay.proofs.read.lines_of.Given as goal
+
+abbrev pub invariant-loop-rest : goal.invariant-loop-rest
+invariant-loop-rest l = record {
+  same : read_parts l.setup l.read l.number (parts_of l.rest) ≡ read_parts l.setup nothing 2 (parts_of l.bytes);
+  counted : l.number + length l.rest ≤ length l.bytes + 2;
+}
+
+abbrev pub decreases-loop-rest : goal.decreases-loop-rest
+decreases-loop-rest l = length l.rest

@@ -1,0 +1,45 @@
+-- Texts cut into words, and the numbers that words spell. A number may be spelled in more than one way here.
+use Rattle.std.specs.Prelude.{ℕ, ◌^◌, ◌&&◌, ◌==◌, nat_lt, List, [], ◌∷◌, ◌++◌, length, take, drop, codes, Option, Some, None, if◌then◌else◌}
+use Rattle.std.specs.Borrow.{Bor}
+use Rattle.std.specs.List.{list_all, before_first, after_first, slice_split}
+use Rattle.std.specs.Str.{bytes_eq}
+use Rattle.std.specs.Str.Parse.{digits_value}
+use Rattle.sim_base.specs.NumberText.{is_digit}
+use Rattle.sim_bytes.specs.Reading.{◌>>=◌}
+
+-- what a line has behind this front, if it begins with it
+abbrev pub behind : List ℕ → List ℕ → Option (List ℕ)
+behind front line = if bytes_eq (take (length front) line) front then Some (drop (length front) line) else None
+
+-- what stands before the first space
+abbrev pub first_word : List ℕ → List ℕ
+first_word text = before_first (λ b. b == 32) text
+
+-- what stands behind the first space
+abbrev pub other_words : List ℕ → List ℕ
+other_words text = after_first (λ b. b == 32) text
+
+-- a number, where it is below this limit
+abbrev pub below : ℕ → ℕ → Option ℕ
+below limit n = if nat_lt n limit then Some n else None
+
+-- the number of 32 bits that decimal digits spell
+unfoldable pub natural_of : List ℕ → Option ℕ
+natural_of text = if list_all is_digit text && nat_lt 0 (length text) then below (2 ^ 32) (digits_value 10 text) else None
+
+-- the same, where it is below this limit
+abbrev pub natural_below : ℕ → List ℕ → Option ℕ
+natural_below limit text = natural_of text >>= below limit
+
+-- the text of a word
+abbrev pub word_text : Bor (List ℕ) → List ℕ
+word_text word = word.now
+
+-- the numbers that words spell, behind those found so far
+abbrev pub naturals_behind : List ℕ → List (List ℕ) → Option (List ℕ)
+naturals_behind found [] = Some found
+naturals_behind found (word ∷ words) = natural_of word >>= λ n. naturals_behind (found ++ n ∷ []) words
+
+-- the ids of a text, which a comma separates; a dash is none
+unfoldable pub ids_of : List ℕ → Option (List ℕ)
+ids_of text = if bytes_eq text (codes "-") then Some [] else naturals_behind [] (slice_split (λ b. b == 44) text)

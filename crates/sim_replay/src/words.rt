@@ -1,0 +1,80 @@
+//! Words and whole numbers of a text. A number is read in any spelling: which one is printed is seen later.
+
+ghost use Rattle.std.specs.Prelude.{◌≡◌, ◌==◌, [], map, option_map, IfOk};
+ghost use Rattle.std.specs.List.{list_all, slice_split};
+ghost use Rattle.sim_base.specs.NumberText.{is_digit};
+ghost use Rattle.sim_replay.specs.Words.{behind as behind_front, first_word, other_words, natural_of, naturals_behind, word_text, ids_of as ids_of_text};
+
+use sim_base::{Ids, Items, OutOfMemory};
+use std::alloc::Global;
+
+/// What a line has behind this front, if it begins with it.
+pub fn behind<'a>(front: &str, line: &'a [u8]) -> Option<&'a [u8]>
+    ensures { option_map (λ rest. rest.now) result ≡ behind_front front.now line.now }
+{
+    line.strip_prefix(front.as_bytes())
+}
+
+/// The first word of a text, and what stands behind the space after it.
+pub fn cut(text: &str) -> (&str, &str)
+    ensures first { result.0.now ≡ first_word text.now }
+    ensures others { result.1.now ≡ other_words text.now }
+{
+    match text.split_once(' ') {
+        Some(parts) => parts,
+        None => (text, ""),
+    }
+}
+
+/// The number that decimal digits spell.
+#[tactic(auto, unfolding(crate::specs::Words::natural_of))]
+pub fn natural(text: &str) -> Option<u32>
+    ensures { result ≡ natural_of text.now }
+{
+    if all_digits(text) {
+        text.parse().ok()
+    } else {
+        None
+    }
+}
+
+fn all_digits(text: &str) -> bool
+    ensures { result ≡ list_all is_digit text.now }
+{
+    text.as_bytes().iter().all(|c| c.is_ascii_digit())
+}
+
+/// The ids of a text: numbers between commas, or a dash for none.
+#[tactic(auto, unfolding(crate::specs::Words::ids_of))]
+pub fn ids_of(alloc: Global, text: &str) -> Result<Option<Ids>, OutOfMemory>
+    ensures { IfOk result (λ ids. ids ≡ ids_of_text text.now) }
+{
+    if text == "-" {
+        return Ok(Some(Items::new(alloc)));
+    }
+    let words = words_of(alloc, text)?;
+    naturals(alloc, words.as_slice())
+}
+
+// What stands between the commas of a text.
+fn words_of(alloc: Global, text: &str) -> Result<Vec<&str>, OutOfMemory>
+    ensures { IfOk result (λ words. map word_text words.items ≡ slice_split (λ b. b == 44) text.now) }
+{
+    Ok(text.split(',').collect(alloc)?)
+}
+
+// The number that each word spells.
+fn naturals(alloc: Global, words: &[&str]) -> Result<Option<Ids>, OutOfMemory>
+    ensures { IfOk result (λ found. found ≡ naturals_behind [] (map word_text words.now)) }
+{
+    let mut found = Vec::new(alloc);
+    let mut rest = words;
+    while let [word, more @ ..] = rest {
+        match natural(word) {
+            Some(number) => found.push(number)?,
+            None => return Ok(None),
+        }
+        rest = more;
+    }
+    Ok(Some(Ids::from_items(found)))
+}

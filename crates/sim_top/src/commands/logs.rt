@@ -1,0 +1,184 @@
+//! The log of a match, which is stored in a file; and one that is checked, by playing the match as it says.
+
+ghost use Rattle.std.specs.Prelude.{◌≡◌, ◌+◌, ◌^◌, ◌<◌, codes, length, Err, IfOk, IfErr, OnErr, Some, string_bytes};
+ghost use Rattle.sim_base.specs.Limits.{IsSetup};
+ghost use Rattle.sim_play.specs.Films.{last_state};
+ghost use Rattle.sim_play.specs.Logs.{log_after as log_of_turns, match_turns, state_after, digests_after as digests_of_turns};
+ghost use Rattle.sim_replay.specs.Logs.{IsLog, IsOfTurns, text_of_log};
+ghost use Rattle.sim_report.specs.LogLines.{logged_line};
+ghost use Rattle.sim_system.specs.Meanings.{HaveKinds};
+ghost use Rattle.sim_system.specs.RigWords.{systems_of};
+ghost use Rattle.sim_top.specs.Commands.{IsAnswerTo, shelved};
+ghost use Rattle.sim_top.specs.Making.{IsMade, outcome_made, status_made};
+ghost use Rattle.sim_top.specs.Outcome.{logged_as, check_by, check_outcome};
+ghost use Rattle.sim_top.specs.Returning.{RigsCameBack};
+ghost use Rattle.sim_top.specs.Rigs.{AreEight, HasPlayed};
+ghost use Rattle.sim_top.specs.Words.{to_log, to_check};
+
+use super::{Answer, Saved};
+use crate::inputs::{read_log, read_match};
+use crate::rigs::{put_first, take_first};
+use crate::status::Status;
+use crate::stop::Stop;
+use sim_base::{OutOfMemory, Setup};
+use sim_orders::OrderTable;
+use sim_play::{digests_after, match_log};
+use sim_replay::{Digests, Log, first_apart, push_log};
+use sim_report::{push_agree, push_apart, push_logged};
+use sim_store::Shelf;
+use sim_system::{Rig, System};
+use std::alloc::Global;
+
+/// Stores the log of the match of a file.
+pub fn log<'w, S: Shelf>(
+    alloc: Global,
+    shelf: &mut S,
+    game: &'w str,
+    out: &'w str,
+    rigs: &mut Vec<Rig>,
+    orders: &OrderTable,
+) -> Result<Answer<'w>, Stop<'w>>
+    requires { AreEight ⟦<dyn System as System>⟧ rigs.old.items }
+    ensures answer { IsAnswerTo (to_log game.now out.now) result (shelved (S.held shelf.old) (S.counts shelf.old)) (shelved (S.held shelf.new) (S.counts shelf.new)) }
+    ensures back { RigsCameBack ⟦<dyn System as System>⟧ (Some (to_log game.now out.now)) (S.held shelf.old) (status_made result) rigs.old rigs.new }
+{
+    let setup = read_match(alloc, shelf, game)?;
+    let rig = take_first(rigs);
+    let (answer, rig) = log_match(alloc, &setup, out, rig, orders);
+    put_first(rigs, rig);
+    answer
+}
+
+// The log of a match as a file and its line.
+fn log_match<'w>(
+    alloc: Global,
+    setup: &Setup,
+    out: &'w str,
+    rig: Rig,
+    orders: &OrderTable,
+) -> (Result<Answer<'w>, Stop<'w>>, Rig)
+    requires limits { IsSetup setup.now }
+    requires kinds { HaveKinds (systems_of rig ⟦<dyn System as System>⟧) }
+    ensures made { IsMade (logged_as (codes "log") setup.now out.now (log_of_turns setup.now (match_turns setup.now))) result.0 }
+    ensures played { HasPlayed ⟦<dyn System as System>⟧ setup.now (last_state setup.now) result.0 rig result.1 }
+{
+    let (log, rig) = match_log(alloc, setup, rig, orders);
+    (stored_log(alloc, "log", setup, log, out), rig)
+}
+
+/// A log as a file, and its line, which begins with a word; if there was memory for it.
+pub fn stored_log<'w>(
+    alloc: Global,
+    word: &str,
+    setup: &Setup,
+    log: Result<Log, OutOfMemory>,
+    out: &'w str,
+) -> Result<Answer<'w>, Stop<'w>>
+    requires { IfOk log (IsOfTurns setup.now) }
+    ensures made { IfOk result (λ answer. IfOk log (λ log. outcome_made answer ≡ logged_as word.now setup.now out.now log)) }
+    ensures stops { IfErr result (λ stop. stop ≡ Stop.OutOfMemory) }
+    ensures refused { OnErr log (result ≡ Err Stop.OutOfMemory) }
+{
+    let log = log?;
+    let (bytes, text) = written(alloc, word, setup, &log)?;
+    Ok(Answer {
+        status: Status::Done,
+        text,
+        saved: Some(Saved { name: out, bytes }),
+    })
+}
+
+// The text of a log, and the line that is printed of it.
+fn written(
+    alloc: Global,
+    word: &str,
+    setup: &Setup,
+    log: &Log,
+) -> Result<(Vec<u8>, String), OutOfMemory>
+    requires { IsOfTurns setup.now log.now }
+    ensures bytes { IfOk result (λ made. made.0.items ≡ text_of_log setup.now log.now) }
+    ensures text { IfOk result (λ made. string_bytes made.1 ≡ logged_line word.now (length log.now.turns) (length (text_of_log setup.now log.now))) }
+{
+    let mut bytes = Vec::new(alloc);
+    push_log(setup, log, &mut bytes)?;
+    let mut text = String::new(alloc);
+    push_logged(word, log.turns.as_slice().len(), bytes.len(), &mut text)?;
+    Ok((bytes, text))
+}
+
+/// Checks the log of a file, by playing the match of another as it says.
+pub fn check<'w, S: Shelf>(
+    alloc: Global,
+    shelf: &mut S,
+    game: &'w str,
+    name: &'w str,
+    rigs: &mut Vec<Rig>,
+    orders: &OrderTable,
+) -> Result<Answer<'w>, Stop<'w>>
+    requires { AreEight ⟦<dyn System as System>⟧ rigs.old.items }
+    ensures answer { IsAnswerTo (to_check game.now name.now) result (shelved (S.held shelf.old) (S.counts shelf.old)) (shelved (S.held shelf.new) (S.counts shelf.new)) }
+    ensures back { RigsCameBack ⟦<dyn System as System>⟧ (Some (to_check game.now name.now)) (S.held shelf.old) (status_made result) rigs.old rigs.new }
+{
+    let setup = read_match(alloc, shelf, game)?;
+    let log = read_log(alloc, shelf, &setup, name)?;
+    let rig = take_first(rigs);
+    let (answer, rig) = check_log(alloc, &setup, &log, rig, orders);
+    put_first(rigs, rig);
+    answer
+}
+
+// Checks a log of a match.
+fn check_log<'w>(
+    alloc: Global,
+    setup: &Setup,
+    log: &Log,
+    rig: Rig,
+    orders: &OrderTable,
+) -> (Result<Answer<'w>, Stop<'w>>, Rig)
+    requires limits { IsSetup setup.now }
+    requires log { IsLog setup.now log.now }
+    requires kinds { HaveKinds (systems_of rig ⟦<dyn System as System>⟧) }
+    ensures made { IsMade (check_outcome setup.now log.now) result.0 }
+    ensures played { HasPlayed ⟦<dyn System as System>⟧ setup.now (state_after setup.now log.now.turns) result.0 rig result.1 }
+{
+    let (played, rig) = digests_after(alloc, setup, log.turns.as_slice(), rig, orders);
+    (compared(alloc, log, played), rig)
+}
+
+// What comes of the digests of a log beside those that were played, if there was memory for these.
+fn compared<'w>(
+    alloc: Global,
+    log: &Log,
+    played: Result<Digests, OutOfMemory>,
+) -> Result<Answer<'w>, Stop<'w>>
+    requires { length log.now.digests < 2 ^ 32 }
+    ensures made { IfOk result (λ answer. IfOk played (λ played. outcome_made answer ≡ check_by log.now played)) }
+    ensures stops { IfErr result (λ stop. stop ≡ Stop.OutOfMemory) }
+    ensures refused { OnErr played (result ≡ Err Stop.OutOfMemory) }
+{
+    let played = played?;
+    Ok(told(alloc, log, &played)?)
+}
+
+// Whether the digests of a log are those that were played, or the first turn at which they are not.
+fn told<'w>(alloc: Global, log: &Log, played: &Digests) -> Result<Answer<'w>, OutOfMemory>
+    requires { length log.now.digests < 2 ^ 32 }
+    ensures { IfOk result (λ answer. outcome_made answer ≡ check_by log.now played.now) }
+{
+    let mut text = String::new(alloc);
+    let status = match first_apart(log.digests.as_slice(), played.as_slice()) {
+        None => {
+            push_agree(log.turns.as_slice().len(), &mut text)?;
+            Status::Done
+        }
+        Some(apart) => {
+            push_apart(apart.turn, &apart.told, &apart.played, &mut text)?;
+            Status::Differs
+        }
+    };
+    Ok(Answer {
+        status,
+        text,
+        saved: None,
+    })
+}
