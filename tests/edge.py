@@ -124,6 +124,8 @@ USAGE = b"""usage: simcore play MATCH
        simcore realm MATCH TURN
        simcore film MATCH EVERY
        simcore parts MATCH
+       simcore live MATCH CLIENTS
+       simcore relay CLIENTS ACTIVE DELAY TURNS
 """
 
 passed = failed = 0

@@ -5,8 +5,9 @@ Usage: python3 tests/rows.py [PROGRAM] [NAME..]
 
 PROGRAM is by default the one that the gate leaves in crates/simcore/out; NAMEs are tables of tests/rows to run alone. A table is a
 list of cases. A case has a name, files by their names, and runs in one folder, each with its words, its status and its text, and
-maybe with files that it wrote, null where there is none. The text "usage" stands for what the program prints without words. A file is a text, or {"hex": ..}, or {"repeat": [before, item, count,
-after]}, where ^ in an item stands for its number and $ for the next.
+maybe with the input that it is given, and with files that it wrote, null where there is none. The text "usage" stands for what the
+program prints without words. A file or an input is a text, or {"hex": ..}, or {"repeat": [before, item, count, after]}, where ^ in an
+item stands for its number and $ for the next.
 
 The statuses and texts were worked out apart from the program. It prints the cases that fail, a line for each table, and a last line
 'N passed, M failed'; the exit status is 0 where none failed.
@@ -37,9 +38,9 @@ def content(told):
     return (before + "".join(items) + after).encode()
 
 
-def answer(program, words, folder):
-    """The status and the text of a run; what is on standard error counts as text."""
-    done = subprocess.run([program, *words], cwd=folder, stdin=subprocess.DEVNULL, capture_output=True, timeout=SECONDS)
+def answer(program, words, folder, typed=""):
+    """The status and the text of a run over this input; what is on standard error counts as text."""
+    done = subprocess.run([program, *words], cwd=folder, input=content(typed), capture_output=True, timeout=SECONDS)
     return done.returncode, (done.stdout + done.stderr).decode()
 
 
@@ -60,7 +61,7 @@ def faults(program, case):
         for name, told in case["files"].items():
             pathlib.Path(folder, name).write_bytes(content(told))
         for run in case["runs"]:
-            got = answer(program, run["words"], folder)
+            got = answer(program, run["words"], folder, run.get("input", ""))
             wanted = run["status"], TEXTS.get(run["text"], run["text"])
             if got != wanted:
                 found.append(f"{case['name']}: {' '.join(run['words'])}: {got} for {wanted}")

@@ -64,6 +64,12 @@ Reads gives (Some file) into result (Some file') into' =
     (answer : Result ℕ Error) × AnswersIn (read_call gives) TRIES (file, into) answer (file', into') × ReadAs answer result
 Reads gives old into result new into' = ⊥
 
+-- an input was read, and again where a signal interrupted that, and what the system answered is what is answered
+abbrev pub ReadsOnce : {File : Type 0} → (File → List ℕ → Result ℕ Error → File → List ℕ → Type 0)
+    → File → List ℕ → Result ℕ Failed → File → List ℕ → Type 0
+ReadsOnce gives file into result file' into' =
+    (answer : Result ℕ Error) × AnswersIn (read_call gives) TRIES (file, into) answer (file', into') × ReadAs answer result
+
 -- ---- writing
 
 -- a write took so much of a piece. One that took nothing of it would be made for ever, so it is a failed one.

@@ -6,6 +6,8 @@ use Rattle.std.specs.declared.alloc.Global.{Global}
 use Rattle.std.specs.declared.vec.IntoIter.{IntoIter}
 use Rattle.std.specs.declared.io.Error.{Error}
 use Rattle.std.specs.declared.io.ErrorKind.TheVariants.{OutOfMemory}
+use Rattle.sim_talk_top.specs.Endings as talk
+use Rattle.sim_talk_top.specs.declared.ending.Ending.{Ending}
 use Rattle.sim_top.specs.Answers.{status_number}
 use Rattle.sim_top.specs.declared.status.Status.{Status}
 
@@ -28,3 +30,8 @@ IsNoText (Err error) = error_kind error ≢ OutOfMemory
 abbrev pub number_of : {E : Type 0} → Result Status E → ℕ
 number_of (Ok status) = status_number status
 number_of (Err refused) = 9
+
+-- the same after a talk
+abbrev pub talk_number_of : {E : Type 0} → Result Ending E → ℕ
+talk_number_of (Ok ending) = talk.number_of ending
+talk_number_of (Err refused) = 9

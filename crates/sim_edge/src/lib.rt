@@ -9,10 +9,11 @@
 //! - `device`: what bytes are read from and written to.
 //! - `again`: one read and one write, made again where a signal interrupts it.
 //! - `faults`: what an error is called, and what is counted for it.
-//! - `shelf`, `sink`: the shelf of a system's files, and the sink of a writer.
+//! - `shelf`, `sink`, `source`: the shelf of a system's files, the sink of a writer, and the input of a reader.
 //! - `words`: the words of the command line, and the number that the process ends with.
 //! - `rigs`: a rig more for a run.
 //! - `deeds`: the handlers of deeds.
+//! - `talking`: a talk with a planner for each kind of command.
 //! - `running`: the run with a handler for each kind of command and of deed.
 #![tactic(auto)]
 
@@ -24,7 +25,9 @@ mod rigs;
 mod running;
 mod shelf;
 mod sink;
+mod source;
 mod system;
+mod talking;
 mod words;
 
 pub use device::{Readable, Writable};
@@ -32,5 +35,7 @@ pub use rigs::add_rig;
 pub use running::{planned, run_with};
 pub use shelf::FileShelf;
 pub use sink::OutSink;
+pub use source::InSource;
 pub use system::{FileSystem, SystemFiles};
+pub use talking::{HELP, talk_number, talk_with};
 pub use words::{exit_number, words_of};

@@ -41,8 +41,8 @@ fn push_start(client: &Client<'_>, number: u8, text: &mut String) -> Result<(), 
     }
 }
 
-// Appends the lines of the clients that are on at the beginning.
-fn push_starts(session: &Session<'_>, clients: u8, text: &mut String) -> Result<(), OutOfMemory>
+/// Appends the lines of the clients that are on at the beginning.
+pub fn push_starts(session: &Session<'_>, clients: u8, text: &mut String) -> Result<(), OutOfMemory>
     requires session { IsSession session.now ⟦<dyn System as System>⟧ }
     requires clients { clients ≤ (setup_in session.now).players }
     requires opened { StandsFor (setup_in session.now) (seen_in session.now) (opened (setup_in session.now) clients) }

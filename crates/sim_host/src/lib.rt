@@ -11,5 +11,5 @@
 mod hosting;
 mod recording;
 
-pub use hosting::session_text;
+pub use hosting::{push_starts, session_text};
 pub use recording::released_turns;

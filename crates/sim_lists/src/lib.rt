@@ -26,9 +26,11 @@ mod step_list;
 mod step_reading;
 mod steps;
 
+pub use arrivals::arrival_of;
 pub use fault::ListFault;
 pub use laws::{arrival_index_is_least, step_index_is_least};
 pub use reading::schedule_of;
 pub use schedule::{Arrival, Arrivals, Said, Schedule};
 pub use step_list::StepList;
 pub use step_reading::steps_of;
+pub use steps::step_of;

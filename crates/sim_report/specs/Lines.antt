@@ -23,7 +23,9 @@ usage_text =
     (codes "       simcore stock MATCH ECONOMY\n" ++
     (codes "       simcore realm MATCH TURN\n" ++
     (codes "       simcore film MATCH EVERY\n" ++
-    codes "       simcore parts MATCH\n"))))))))))))))))
+    (codes "       simcore parts MATCH\n" ++
+    (codes "       simcore live MATCH CLIENTS\n" ++
+    codes "       simcore relay CLIENTS ACTIVE DELAY TURNS\n"))))))))))))))))))
 
 -- whether a report of a turn carries a whole or a quick digest
 abbrev pub report_kind : ℕ → List ℕ

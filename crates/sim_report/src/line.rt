@@ -25,6 +25,8 @@ const USAGE: &str = "usage: simcore play MATCH
        simcore realm MATCH TURN
        simcore film MATCH EVERY
        simcore parts MATCH
+       simcore live MATCH CLIENTS
+       simcore relay CLIENTS ACTIVE DELAY TURNS
 ";
 
 /// Appends how the program is called, or leaves the text as it was.

@@ -77,8 +77,8 @@ fn push_ends(setup: &Setup, clients: &[Client<'_>], out: &mut String) -> Result<
     Ok(())
 }
 
-// Appends the lines of the two pipes of each client up to this one.
-fn push_pipes(exchange: &Exchange, clients: u8, out: &mut String) -> Result<(), OutOfMemory>
+/// Appends the lines of the two pipes of each client up to this one.
+pub fn push_pipes(exchange: &Exchange, clients: u8, out: &mut String) -> Result<(), OutOfMemory>
     requires { clients ≤ exchange.now.server.rules.clients }
     ensures { OnOk result (string_bytes out.new ≡ string_bytes out.old ++ pipes_seen (pipe_in exchange.now.ups) (pipe_in exchange.now.downs) clients) }
 {

@@ -23,7 +23,8 @@ mod pipe;
 mod told;
 
 pub use apart::{push_apart, push_difference};
-pub use closing::push_ending;
+pub use clients::end_of;
+pub use closing::{push_ending, push_pipes};
 pub use ending::{End, push_end};
 pub use laws::{
     clients_apart_differ, each_play_is_printed, endings_are_seen, printed_digests_are_of_pasts,

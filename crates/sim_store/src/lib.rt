@@ -25,6 +25,7 @@ mod shelf;
 mod sink;
 mod write;
 
+pub use calls::Calls;
 pub use counts::{Counts, one_more};
 pub use fault::{Failed, ShelfFault, StoreFault};
 pub use mem_shelf::MemShelf;

@@ -23,5 +23,8 @@ mod stop;
 mod top;
 mod words;
 
+pub use inputs::read_session_match;
 pub use status::Status;
-pub use top::{Ended, run};
+pub use stop::Stop;
+pub use top::{Ended, run, stop_text};
+pub use words::turn_of;

@@ -233,8 +233,8 @@ fn usage_text(alloc: Global) -> Result<String, OutOfMemory>
     Ok(text)
 }
 
-// The line that says why a command ended, or nothing where a fault or want of memory did.
-fn stop_text(alloc: Global, stop: &Stop<'_>) -> Result<String, OutOfMemory>
+/// The line that says why a command ended, or nothing where a fault or want of memory did.
+pub fn stop_text(alloc: Global, stop: &Stop<'_>) -> Result<String, OutOfMemory>
     ensures text { IfOk result (λ text. string_bytes text ≡ text_of_stop stop.now) }
     ensures silent { IsSilent (status_of stop.now) → IsOk result }
 {

@@ -250,8 +250,8 @@ fn trial_of<'w>(seed: u32, units: u32, turns: u32) -> Option<Request<'w>>
     }
 }
 
-// The turn that a word of one to nine digits is.
-fn turn_of(word: &str) -> Option<u32>
+/// The turn that a word of one to nine digits is.
+pub fn turn_of(word: &str) -> Option<u32>
     ensures { result ≡ turn_in word.now }
 {
     let digits = word.as_bytes();

@@ -8,4 +8,5 @@ mod records;
 mod sights;
 mod slow;
 mod states;
+mod talks;
 mod territories;

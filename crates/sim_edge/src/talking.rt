@@ -1,0 +1,68 @@
+//! A talk with a planner for each kind of command, over any shelf and any talk, and the number that the process then ends with.
+
+ghost use Rattle.std.specs.Prelude.{◌≡◌, All, IfOk, IfSome, OnErr, length};
+ghost use Rattle.sim_client.specs.StageWords.{AreCleared};
+ghost use Rattle.sim_system.specs.Meanings.{HaveKinds};
+ghost use Rattle.sim_system.specs.RigWords.{systems_of};
+ghost use Rattle.sim_talk_top.specs.Talked.{TalksOf, IsTalk};
+ghost use Rattle.sim_talk_top.specs.Words.{talk_of};
+ghost use Rattle.sim_edge.specs.Process.{talk_number_of};
+
+use crate::running::planned;
+use sim_base::OutOfMemory;
+use sim_orders::{Handler, OrderTable, Planner};
+use sim_store::Shelf;
+use sim_system::{Rig, System};
+use sim_talk::Talk;
+use sim_talk_top::{Asked, Ending, converse};
+use std::alloc::Global;
+
+/// What somebody at a terminal is told where he asks for help.
+pub const HELP: &str = "\
+a line is a step, a look, help or quit. Steps, C being a client:
+  up C                        the server hears the first message of C
+  down C                      C hears the first message for it
+  play C                      C plays its next turn
+  join C · cut C              C joins · its connection ends
+  bend C ENTITY HEALTH        a health of C's own state is bent: a desync
+  order C walk IDS to X Z     C commands; IDS as 2,3, or - for none
+  order C stop IDS · attack IDS on ID · delete IDS · place N at X Z · train ID N · resign
+looks:
+  digest C · show C · state C · pipes · kept
+the same as JSON: [\"order\",1,\"walk\",[2,3],\"6.5\",\"2.5\"]
+";
+
+/// Talks with these cleared rigs. Where there is no memory for the handlers, the talk does not begin.
+pub fn talk_with<S: Shelf, T: Talk>(
+    alloc: Global,
+    asked: Asked<'_>,
+    shelf: &mut S,
+    other: &mut T,
+    rigs: Vec<Rig>,
+) -> Result<Ending, OutOfMemory>
+    requires eight { length rigs.items ≡ 8 }
+    requires kinds { All (λ r. HaveKinds (systems_of r ⟦<dyn System as System>⟧)) rigs.items }
+    requires cleared { All (λ r. AreCleared (systems_of r ⟦<dyn System as System>⟧)) rigs.items }
+    requires limits { IsTalk (talk_of asked) }
+    ensures talked { IfOk result (λ ending. IfSome (S.held shelf.old) (λ files. TalksOf files (talk_of asked.entry) ending (T.passed other.old) (T.passed other.new))) }
+    ensures unbegun { OnErr result ((shelf.new ≡ shelf.old) × (other.new ≡ other.old)) }
+{
+    let mut handlers = Vec::with_capacity(alloc, 7)?;
+    for kind in 1..8u8 {
+        let run: Planner = Box::new(alloc, planned)?;
+        handlers.push(Handler { kind, run })?;
+    }
+    let orders = OrderTable::new(handlers);
+    let talked = converse(alloc, asked, shelf, other, rigs, &orders);
+    Ok(talked.ending)
+}
+
+/// The number that the process ends with after a talk. Where there was no memory to begin, it is that of a run without memory.
+pub fn talk_number(ended: Result<Ending, OutOfMemory>) -> u8
+    ensures { result ≡ talk_number_of ended }
+{
+    match ended {
+        Ok(ending) => ending.number(),
+        Err(OutOfMemory) => 9,
+    }
+}

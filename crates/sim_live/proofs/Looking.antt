@@ -1,0 +1,36 @@
+-- What is seen of a client in memory is what is told of the one that has a past.
+use Rattle.std.proofs.Common.{◌≡◌, ℕ, List, refl, ap, Some}
+use Rattle.sim_base.specs.declared.setup.Setup.{Setup}
+use Rattle.sim_base.specs.declared.state.State.{State}
+use Rattle.sim_plain_session.specs.Clients as plain
+use Rattle.sim_plain_session.proofs.PlayerLemmas.{same_turn}
+use Rattle.sim_client.specs.Lives.{Life, Off, Joining, On}
+use Rattle.sim_client.specs.LifeLaws.{Lives}
+use Rattle.sim_client.specs.ClientWords.{state_of}
+use Rattle.sim_session_text.specs.Endings.{end_of}
+use Rattle.sim_session_text.specs.Pairs.{state_at}
+use Rattle.sim_session_text.specs.Seen.{end_seen}
+
+-- what it is in the end
+pub end_same : (setup : Setup) (life : Life) (phase : plain.Phase) → Lives setup life phase → end_seen setup life ≡ end_of setup phase
+end_same setup Off plain.Off lives = refl
+end_same setup Off plain.Joining lives = absurd lives
+end_same setup Off (plain.On seat) lives = absurd lives
+end_same setup Joining plain.Off lives = absurd lives
+end_same setup Joining plain.Joining lives = refl
+end_same setup Joining (plain.On seat) lives = absurd lives
+end_same setup (On player) plain.Off lives = absurd lives
+end_same setup (On player) plain.Joining lives = absurd lives
+end_same setup (On player) (plain.On seat) lives = let same = same_turn setup player seat lives in let turn = same.0 in let shown = same.1 in cc
+
+-- and its state
+pub state_same : (setup : Setup) (life : Life) (phase : plain.Phase) → Lives setup life phase → state_of life ≡ state_at setup phase
+state_same setup Off plain.Off lives = refl
+state_same setup Off plain.Joining lives = absurd lives
+state_same setup Off (plain.On seat) lives = absurd lives
+state_same setup Joining plain.Off lives = absurd lives
+state_same setup Joining plain.Joining lives = refl
+state_same setup Joining (plain.On seat) lives = absurd lives
+state_same setup (On player) plain.Off lives = absurd lives
+state_same setup (On player) plain.Joining lives = absurd lives
+state_same setup (On player) (plain.On seat) lives = ap (λ (s : State). Some s) lives.state

@@ -1,0 +1,18 @@
+-- Some lines were answered, and the session stands for that over their steps.
+use Rattle.std.proofs.Common.{◌≡◌, ◌≤◌, length}
+use Rattle.std.specs.Prelude.{vec_capacity}
+use Rattle.sim_session.specs.SessionWords.{IsSessionBy, seen_in}
+use Rattle.sim_live.proofs.Living.{HasAnswered}
+use Rattle.sim_live.proofs.living.answer_all.Given as goal
+
+abbrev pub invariant-loop-_before : goal.invariant-loop-_before
+invariant-loop-_before g l =
+    record {
+      answered : HasAnswered l.fn.session.setup.now l.clients (seen_in l.session) l.made (g.T.Talk.passed l.fn.talk) (g.T.Talk.passed l.talk);
+      few : l.made ≤ l._before;
+      session : IsSessionBy l.session (λ i v. (goal.System-dyn g (i, v)).meaning v);
+      setup : l.session.setup.now ≡ l.fn.session.setup.now;
+      spare : l.session.rigs.items ≡ l.fn.session.rigs.items;
+      count : length l.session.clients.items ≡ length l.fn.session.clients.items;
+      room : vec_capacity l.session.rigs ≡ vec_capacity l.fn.session.rigs;
+    }

@@ -1,0 +1,5 @@
+pub mod Looks
+pub mod LineWords
+pub mod Shown
+pub mod Live
+pub mod Spoken

@@ -1,0 +1,47 @@
+-- A session as a talk: what is answered to a line after the steps that were made, and what a whole talk is.
+use Rattle.std.specs.Prelude.{ℕ, ◌+◌, List, [], ◌∷◌, ◌++◌, length, Option, Result, ⊤}
+use Rattle.sim_base.specs.declared.setup.Setup.{Setup}
+use Rattle.sim_base.specs.declared.step.Step.{Step as AnyStep}
+use Rattle.sim_plain_session.specs.Printed.{start_events, events}
+use Rattle.sim_plain_session.specs.Sessions.{session}
+use Rattle.sim_session_text.specs.SessionText.{lines_of, ending_lines}
+use Rattle.sim_talk.specs.declared.fault.TalkFault.{TalkFault}
+use Rattle.sim_talk.specs.Dialogues.{Converses}
+use Rattle.sim_talk.specs.Marks.{ok_line, refused_line}
+use Rattle.sim_talk.specs.Talks.{Passed}
+use Rattle.sim_live.specs.declared.line.Line.{Line}
+use Rattle.sim_live.specs.declared.line.Line.TheVariants.{Step, Look, Other}
+use Rattle.sim_live.specs.LineWords.{line_of}
+use Rattle.sim_live.specs.Shown.{look_text}
+
+-- to a step the lines of its events, to a look what it shows, and to anything else that it is refused, with the number of the step that
+-- was made, or that would have been
+abbrev pub answer_to : Setup → ℕ → List AnyStep → Line → List ℕ
+answer_to setup clients steps (Step x) = lines_of (events setup (session setup clients steps) x) ++ ok_line (length steps + 1)
+answer_to setup clients steps (Look look) = look_text setup (session setup clients steps) look ++ ok_line (length steps)
+answer_to setup clients steps Other = refused_line (length steps + 1)
+
+-- the steps with that of a line, if it is one
+abbrev pub steps_with : List AnyStep → Line → List AnyStep
+steps_with steps (Step x) = steps ++ x ∷ []
+steps_with steps (Look look) = steps
+steps_with steps Other = steps
+
+-- the same of the bytes of a line
+abbrev pub answer : Setup → ℕ → List AnyStep → List ℕ → List ℕ
+answer setup clients steps line = answer_to setup clients steps (line_of setup.players line)
+
+abbrev pub next : Setup → List AnyStep → List ℕ → List AnyStep
+next setup steps line = steps_with steps (line_of setup.players line)
+
+-- who is on in the beginning
+abbrev pub first_text : Setup → ℕ → List ℕ
+first_text setup clients = lines_of (start_events setup clients)
+
+-- what the session has come to
+abbrev pub last_text : Setup → ℕ → List AnyStep → List ℕ
+last_text setup clients steps = ending_lines setup (session setup clients steps)
+
+-- a talk over a session of a match that begins with so many clients
+abbrev pub Lives : Result ⊤ TalkFault → Setup → ℕ → Option (List Passed) → Option (List Passed) → Type 0
+Lives result setup clients old new = Converses result (answer setup clients) (next setup) (last_text setup clients) [] (first_text setup clients) old new

@@ -1,0 +1,4 @@
+pub mod Hearing
+pub mod Pouring
+pub mod Reading
+pub mod Talking

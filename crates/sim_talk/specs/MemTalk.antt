@@ -1,0 +1,14 @@
+-- What passed in a talk in memory.
+use Rattle.std.specs.Prelude.{ℕ, List, map}
+use Rattle.sim_talk.specs.Talks.{Passed, heard, told}
+use Rattle.sim_talk.specs.declared.mem_talk.Piece.{Piece}
+use Rattle.sim_talk.specs.declared.mem_talk.Piece.TheVariants as piece
+
+-- a piece as what passed
+abbrev pub passed_of : Piece → Passed
+passed_of (piece.Heard line) = heard line.items
+passed_of (piece.Told text) = told text.items
+
+-- all of them
+abbrev pub passed_in : List Piece → List Passed
+passed_in = map passed_of

@@ -1,0 +1,66 @@
+//! A talk with somebody at a terminal: he is asked for each line by a prompt, may type words in place of JSON, and is helped. It tells no
+//! history, since what he types is not what is heard.
+
+ghost use Rattle.std.specs.Prelude.{None};
+
+use crate::fault::HearFault;
+use crate::talk::Talk;
+use crate::words::json_of;
+use sim_store::Failed;
+use std::alloc::Global;
+
+/// Another talk, with a prompt before each line.
+#[derive(Drop)]
+pub struct PromptTalk<T: Talk + Drop> {
+    alloc: Global,
+    talk: T,
+    help: &'static str,
+}
+
+impl<T: Talk + Drop> PromptTalk<T> {
+    /// A talk with this help.
+    pub fn new(alloc: Global, talk: T, help: &'static str) -> PromptTalk<T> {
+        PromptTalk { alloc, talk, help }
+    }
+
+    // Asks for a line.
+    fn ask(&mut self, line: &mut Vec<u8>) -> Result<bool, HearFault> {
+        self.talk.tell(b"> ")?;
+        self.talk.hear(line)
+    }
+
+    // Makes of a line in words one in JSON.
+    fn read(&self, line: &mut Vec<u8>) -> Result<(), HearFault> {
+        if line.first() != Some(&b'[') {
+            *line = json_of(self.alloc, line.as_slice())?;
+        }
+        Ok(())
+    }
+}
+
+impl<T: Talk + Drop> Talk for PromptTalk<T> {
+    ghost passed = { λ s. None };
+
+    fn hear(&mut self, line: &mut Vec<u8>) -> Result<bool, HearFault> {
+        for _ in 0..u64::MAX {
+            if !self.ask(line)? {
+                let _ = self.talk.tell(b"\n");
+                return Ok(false);
+            }
+            match line.as_slice() {
+                b"" => {}
+                b"help" => self.talk.tell(self.help.as_bytes())?,
+                b"quit" => return Ok(false),
+                _ => {
+                    self.read(line)?;
+                    return Ok(true);
+                }
+            }
+        }
+        Ok(false)
+    }
+
+    fn tell(&mut self, text: &[u8]) -> Result<(), Failed> {
+        self.talk.tell(text)
+    }
+}

@@ -1,0 +1,78 @@
+-- What was told in a talk and how it ended, by what the words ask for and what the files hold.
+use Rattle.std.specs.Prelude.{◌≡◌, ℕ, ◌<◌, ◌≤◌, ◌⊎◌, List, [], ◌∷◌, Option, Result, Ok, Err, ⊤}
+use Rattle.sim_base.specs.declared.setup.Setup.{Setup}
+use Rattle.sim_base.specs.Limits.{IsFrom}
+use Rattle.sim_live.specs.Live.{Lives}
+use Rattle.sim_relay.specs.declared.relaying.RelayRules.{RelayRules}
+use Rattle.sim_relay.specs.Relays.{Relays, IsRelay}
+use Rattle.sim_report.specs.declared.refusal.Refusal.TheVariants.{List as OfList}
+use Rattle.sim_report.specs.Refusals.{refusal_text}
+use Rattle.sim_store.specs.Files.{File}
+use Rattle.sim_talk.specs.declared.fault.TalkFault.{TalkFault}
+use Rattle.sim_talk.specs.Talks.{Passed, told, Extends, IsBeginning}
+use Rattle.sim_top.specs.Outcome.{Outcome, session_match_in}
+use Rattle.sim_top.specs.Stops.{ended_by}
+use Rattle.sim_top.specs.declared.stop.Stop.{Stop}
+use Rattle.sim_top.specs.declared.stop.Stop.TheVariants as stop
+use Rattle.sim_top.specs.declared.status.Status.{Status}
+use Rattle.sim_top.specs.declared.status.Status.TheVariants as status
+use Rattle.sim_talk_top.specs.declared.ending.Ending.{Ending}
+use Rattle.sim_talk_top.specs.declared.ending.Ending.TheVariants as ending
+use Rattle.sim_talk_top.specs.Endings.{ended_as}
+use Rattle.sim_talk_top.specs.Words.{Talk, to_live, to_relay}
+
+-- the talk over a session of a match took place
+abbrev pub TalkedOver : Setup → ℕ → Ending → Option (List Passed) → Option (List Passed) → Type 0
+TalkedOver setup clients ended old new = (outcome : Result ⊤ TalkFault) × (ended ≡ ended_as outcome) × Lives outcome setup clients old new
+
+-- that with the server did
+abbrev pub TalkedAs : RelayRules → Ending → Option (List Passed) → Option (List Passed) → Type 0
+TalkedAs rules ended old new = (outcome : Result ⊤ TalkFault) × (ended ≡ ended_as outcome) × Relays outcome rules old new
+
+-- nothing was told, since the file could not be read, or memory was refused
+pub record CameBetween (ended : Ending) (old new : Option (List Passed)) : Type 0 where
+  pub cause : (ended ≡ ending.Run status.ReadFault) ⊎ (ended ≡ ending.Run status.OutOfMemory)
+  pub nothing : Extends old new []
+
+-- a refusal was told with its status, or it was not told whole, or something came between
+pub data Refused (s : Status) (text : List ℕ) (old new : Option (List Passed)) : Ending → Type 0 where
+  whole : Extends old new (told text ∷ []) → Refused s text old new (ending.Run s)
+  silent : text ≡ [] → Extends old new [] → Refused s text old new (ending.Run s)
+  in_part : (more : List Passed) → IsBeginning text more → Extends old new more → Refused s text old new ending.Untold
+  between : (ended : Ending) → CameBetween ended old new → Refused s text old new ended
+
+-- a session can't begin with more clients than the match has players: it is refused as a list that says so
+abbrev pub BeginsWith : Setup → ℕ → Ending → Option (List Passed) → Option (List Passed) → Type 0
+BeginsWith setup clients ended old new =
+    (clients ≤ setup.players → TalkedOver setup clients ended old new ⊎ CameBetween ended old new)
+    × (setup.players < clients → Refused status.ListRefused (refusal_text (OfList 0)) old new ended)
+
+-- by the match that was read, or why none was
+abbrev pub LiveBy : Result Setup Outcome → ℕ → Ending → Option (List Passed) → Option (List Passed) → Type 0
+LiveBy (Ok setup) clients ended old new = BeginsWith setup clients ended old new
+LiveBy (Err wanted) clients ended old new = Refused wanted.status wanted.text old new ended
+
+-- the match was read, or it says why the talk does not begin
+abbrev pub ReadsBy : Result Setup Outcome → ℕ → Result Setup Stop → Type 0
+ReadsBy (Ok setup) clients (Ok found) = (found ≡ setup) × (clients ≤ setup.players)
+ReadsBy (Ok setup) clients (Err stop.ReadFault) = Unit {0}
+ReadsBy (Ok setup) clients (Err stop.OutOfMemory) = Unit {0}
+ReadsBy (Ok setup) clients (Err (stop.ListRefused index)) = (setup.players < clients) × (index ≡ 0)
+ReadsBy (Ok setup) clients (Err other) = ⊥
+ReadsBy (Err wanted) clients (Ok found) = ⊥
+ReadsBy (Err wanted) clients (Err stop.ReadFault) = Unit {0}
+ReadsBy (Err wanted) clients (Err stop.OutOfMemory) = Unit {0}
+ReadsBy (Err wanted) clients (Err other) = wanted ≡ ended_by other
+
+abbrev pub ReadsFor : List File → List ℕ → ℕ → Result Setup Stop → Type 0
+ReadsFor files game clients found = ReadsBy (session_match_in files game) clients found
+
+-- what was told, and how it ended, over these files
+abbrev pub TalksOf : List File → Talk → Ending → Option (List Passed) → Option (List Passed) → Type 0
+TalksOf files (to_live game clients) ended old new = LiveBy (session_match_in files game) clients ended old new
+TalksOf files (to_relay rules) ended old new = TalkedAs rules ended old new
+
+-- its numbers are within their limits
+abbrev pub IsTalk : Talk → Type 0
+IsTalk (to_live game clients) = IsFrom 1 8 clients
+IsTalk (to_relay rules) = IsRelay rules

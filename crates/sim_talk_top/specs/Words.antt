@@ -1,0 +1,44 @@
+-- The words of a talk, and what they ask for.
+use Rattle.std.specs.Prelude.{ℕ, ◌&&◌, nat_le, List, [], ◌∷◌, codes, Option, Some, None, option_map, option_and_then, if◌then◌else◌}
+use Rattle.std.specs.Str.{bytes_eq}
+use Rattle.sim_json.specs.Records.{next_or}
+use Rattle.sim_relay.specs.declared.relaying.RelayRules.{RelayRules as Rules}
+use Rattle.sim_top.specs.Words.{turn_in}
+use Rattle.sim_talk_top.specs.declared.words.Asked.{Asked}
+use Rattle.sim_talk_top.specs.declared.words.Asked.TheVariants.{Live, Relay}
+
+-- what is asked for: a session of the match of a file, that begins with so many clients; or the server
+pub data Talk : Type 0 where
+  to_live : List ℕ → ℕ → Talk
+  to_relay : Rules → Talk
+
+-- the request of the code, with its name as bytes
+abbrev pub talk_of : Asked → Talk
+talk_of (Live game clients) = to_live game.now clients
+talk_of (Relay rules) = to_relay rules
+
+-- a number, where it is within the limits
+abbrev pub if_within : ℕ → ℕ → ℕ → Option ℕ
+if_within low high n = if nat_le low n && nat_le n high then Some n else None
+
+-- a word of one to nine digits, where its number is within the limits
+abbrev pub number_in : ℕ → ℕ → List ℕ → Option ℕ
+number_in low high word = option_and_then (if_within low high) (turn_in word)
+
+-- a server of 1 to 8 clients, some of whom are in from the beginning, with a delay of 1 to 8 and at most 65,535 turns
+abbrev pub relay_by : List ℕ → List ℕ → List ℕ → List ℕ → Option Talk
+relay_by clients active delay turns =
+    next_or (number_in 1 8 clients) None (λ c. next_or (number_in 0 c active) None (λ a.
+    next_or (number_in 1 8 delay) None (λ d. next_or (number_in 0 65535 turns) None (λ t.
+    Some (to_relay (record { clients = c; active = a; delay = d; turns = t }))))))
+
+-- what the words ask for, if they are those of a talk
+abbrev pub talk_by : List (List ℕ) → Option Talk
+talk_by (command ∷ game ∷ clients ∷ []) = if bytes_eq command (codes "live") then option_map (to_live game) (number_in 1 8 clients) else None
+talk_by (command ∷ clients ∷ active ∷ delay ∷ turns ∷ []) = if bytes_eq command (codes "relay") then relay_by clients active delay turns else None
+talk_by other = None
+
+-- how many bytes a line of it may have
+abbrev pub most_in : Talk → ℕ
+most_in (to_live game clients) = 1048576
+most_in (to_relay rules) = 5242880

@@ -1,0 +1,145 @@
+//! The top call of talks: from the words to how it ended. The match is read before anything is told.
+
+ghost use Rattle.std.specs.Prelude.{◌≡◌, ◌≤◌, All, IfSome, IfOk, length, vec_capacity};
+ghost use Rattle.sim_base.specs.Limits.{IsSetup};
+ghost use Rattle.sim_client.specs.StageWords.{AreCleared};
+ghost use Rattle.sim_system.specs.Meanings.{HaveKinds};
+ghost use Rattle.sim_system.specs.RigWords.{systems_of};
+ghost use Rattle.sim_top.specs.Stops.{status_of, stop_text as text_of_stop};
+ghost use Rattle.sim_talk_top.specs.Endings.{ended_as};
+ghost use Rattle.sim_talk_top.specs.Talked.{TalksOf, TalkedOver, Refused, IsTalk, ReadsFor};
+ghost use Rattle.sim_talk_top.specs.Words.{talk_of};
+
+use crate::ending::Ending;
+use crate::words::Asked;
+use sim_base::Setup;
+use sim_live::live;
+use sim_orders::OrderTable;
+use sim_relay::relay;
+use sim_store::Shelf;
+use sim_system::{Rig, System};
+use sim_talk::{Talk, TalkFault};
+use sim_top::{Status, Stop, read_session_match, stop_text};
+use std::alloc::Global;
+
+/// How a talk ended, and the rigs that it was handed.
+#[derive(Drop)]
+pub struct Talked {
+    pub ending: Ending,
+    pub rigs: Vec<Rig>,
+}
+
+/// Talks as the words ask, over the match of a file of the shelf. In a session each client has the rig of its number. All eight come
+/// back, however it ended.
+pub fn converse<S: Shelf, T: Talk>(
+    alloc: Global,
+    asked: Asked<'_>,
+    shelf: &mut S,
+    talk: &mut T,
+    rigs: Vec<Rig>,
+    orders: &OrderTable,
+) -> Talked
+    requires limits { IsTalk (talk_of asked) }
+    requires eight { length rigs.items ≡ 8 }
+    requires kinds { All (λ r. HaveKinds (systems_of r ⟦<dyn System as System>⟧)) rigs.items }
+    requires cleared { All (λ r. AreCleared (systems_of r ⟦<dyn System as System>⟧)) rigs.items }
+    ensures talks { IfSome (S.held shelf.old) (λ files. TalksOf files (talk_of asked.entry) result.ending (T.passed talk.old) (T.passed talk.new)) }
+    ensures held { S.held shelf.new ≡ S.held shelf.old }
+    ensures kinds { All (λ r. HaveKinds (systems_of r ⟦<dyn System as System>⟧)) result.rigs.items }
+    ensures eight { length result.rigs.items ≡ 8 }
+    ensures room { vec_capacity result.rigs ≡ vec_capacity rigs }
+{
+    match asked {
+        Asked::Live { game, clients } => {
+            match session_match(alloc, shelf, game, clients) {
+                Ok(setup) => talk_live(alloc, &setup, clients, talk, rigs, orders),
+                Err(stop) => Talked {
+                    ending: refused(alloc, &stop, talk),
+                    rigs,
+                },
+            }
+        }
+        Asked::Relay { rules } => Talked {
+            ending: ended(relay(alloc, rules, talk)),
+            rigs,
+        },
+    }
+}
+
+// The match of a session that begins with so many clients.
+fn session_match<'w, S: Shelf>(
+    alloc: Global,
+    shelf: &mut S,
+    game: &'w str,
+    clients: u8,
+) -> Result<Setup, Stop<'w>>
+    ensures tells { IfSome (S.held shelf.old) (λ files. ReadsFor files game.now clients result) }
+    ensures limits { IfOk result IsSetup }
+    ensures players { IfOk result (λ setup. clients ≤ setup.players) }
+    ensures held { S.held shelf.new ≡ S.held shelf.old }
+{
+    let setup = read_session_match(alloc, shelf, game)?;
+    if clients > setup.players {
+        return Err(Stop::ListRefused { index: 0 });
+    }
+    Ok(setup)
+}
+
+fn talk_live<T: Talk>(
+    alloc: Global,
+    setup: &Setup,
+    clients: u8,
+    talk: &mut T,
+    rigs: Vec<Rig>,
+    orders: &OrderTable,
+) -> Talked
+    requires limits { IsSetup setup.now }
+    requires clients { clients ≤ setup.now.players }
+    requires eight { length rigs.items ≡ 8 }
+    requires kinds { All (λ r. HaveKinds (systems_of r ⟦<dyn System as System>⟧)) rigs.items }
+    requires cleared { All (λ r. AreCleared (systems_of r ⟦<dyn System as System>⟧)) rigs.items }
+    ensures talked { TalkedOver setup.now clients result.ending (T.passed talk.old) (T.passed talk.new) }
+    ensures kinds { All (λ r. HaveKinds (systems_of r ⟦<dyn System as System>⟧)) result.rigs.items }
+    ensures eight { length result.rigs.items ≡ 8 }
+    ensures room { vec_capacity result.rigs ≡ vec_capacity rigs }
+{
+    let (outcome, rigs) = live(alloc, setup, orders, clients, talk, rigs);
+    Talked {
+        ending: ended(outcome),
+        rigs,
+    }
+}
+
+// How a talk ended.
+fn ended(outcome: Result<(), TalkFault>) -> Ending
+    ensures { result ≡ ended_as outcome }
+{
+    match outcome {
+        Ok(()) => Ending::Run {
+            status: Status::Done,
+        },
+        Err(fault) => Ending::from(fault),
+    }
+}
+
+// Tells why the talk does not begin.
+fn refused<T: Talk>(alloc: Global, stop: &Stop<'_>, talk: &mut T) -> Ending
+    ensures { Refused (status_of stop.now) (text_of_stop stop.now) (T.passed talk.old) (T.passed talk.new) result }
+{
+    let Ok(text) = stop_text(alloc, stop) else {
+        return Ending::Run {
+            status: Status::OutOfMemory,
+        };
+    };
+    if text.is_empty() {
+        return Ending::Run {
+            status: stop.status(),
+        };
+    }
+    match talk.tell(text.as_bytes()) {
+        Ok(()) => Ending::Run {
+            status: stop.status(),
+        },
+        Err(_) => Ending::Untold,
+    }
+}
