@@ -17,7 +17,7 @@ use Rattle.sim_base.specs.Filters.{is_near, within, seen}
 use Rattle.sim_base.specs.Move.{same_point}
 use Rattle.sim_base.specs.Validity.{IsKnownRow, IsLooselyValid}
 use Rattle.sim_laws.proofs.Members.{Has, Has-of_map}
-use Rattle.sim_turn_laws.proofs.Rows.{Has-of_filter, known_row, found_row, same_row, apart}
+use Rattle.sim_laws.proofs.Rows.{Has-of_filter, known_row, found_row, same_row, apart}
 use Rattle.sim_attack.specs.declared.finds.Find.{Find}
 use Rattle.sim_attack.specs.Nearest.{nearest_of}
 use Rattle.sim_attack.specs.Finds.{find_places, place_for, is_shared, shared, nearest_from, filled, AreFound}

@@ -16,7 +16,7 @@ use Rattle.sim_base.specs.Rows.{id_of, row_of, arms_of}
 use Rattle.sim_base.specs.Filters.{is_near}
 use Rattle.sim_base.specs.Hit.{Hit, lands, resist_of, taken, strikes, rests, strikes_near, fights, taken_from}
 use Rattle.sim_attack.specs.Fights.{fought_on, AreTaken}
-use Rattle.sim_lookup.proofs.Places.{ids_rise}
+use Rattle.sim_plans.proofs.Places.{ids_rise}
 
 -- one more hit
 taken_from-more : (id : ℕ) (hits : List Hit) (h : Hit) → taken_from id (hits ++ h ∷ []) ≡ taken_from id hits + cond (h.target == id) h.taken 0

@@ -20,7 +20,7 @@ ghost use Rattle.sim_attack.specs.Nearest.{nearest_of, better_of};
 
 use crate::finds::Finds;
 use sim_base::{Arms, Changes, Ids, Items, OutOfMemory, Point, Row, Setup, State, square};
-use sim_lookup::{RowIndex, arms_of, is_enemy_of, is_going, is_holding, is_near, target_of};
+use sim_plans::{RowIndex, arms_of, is_enemy_of, is_going, is_holding, is_near, target_of};
 use sim_plans::{push_target, push_turn};
 use sim_scene::Scene;
 use sim_system::{Answer, Ask, System};

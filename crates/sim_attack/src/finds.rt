@@ -8,7 +8,7 @@ ghost use Rattle.std.specs.Prelude.{◌≡◌, ◌<◌, [], None, Some, length, 
 ghost use Rattle.sim_attack.specs.Finds.{find_places, place_for, shared, is_shared as is_shared_by, filled};
 
 use sim_base::{Fixed, OutOfMemory, Point, Row};
-use sim_lookup::same_point;
+use sim_plans::same_point;
 use std::alloc::Global;
 
 // How many finds are kept at most.

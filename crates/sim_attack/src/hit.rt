@@ -14,7 +14,7 @@ ghost use Rattle.sim_attack.specs.Fights.{fought_on, AreTaken};
 
 use crate::damage::taken;
 use sim_base::{Aim, Change, Changes, Fixed, Items, OutOfMemory, Row, Setup, State, next_word};
-use sim_lookup::{RowIndex, arms_of, is_near, resist_of};
+use sim_plans::{RowIndex, arms_of, is_near, resist_of};
 use sim_scene::Scene;
 use sim_system::System;
 use std::alloc::Global;

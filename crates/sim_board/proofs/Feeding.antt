@@ -26,14 +26,14 @@ use Rattle.sim_system.specs.Facts.{fact_of, facts_of}
 use Rattle.sim_system.specs.Notes.{noted, NoteFits}
 use Rattle.sim_system.specs.Posts.{hears, posts, posts_on, posts_born}
 use Rattle.sim_laws.proofs.Members.{Has}
-use Rattle.sim_turn_laws.proofs.Rows.{apart, same_row, found_row}
-use Rattle.sim_fact_laws.proofs.FactLists.{facts-unchanged}
-use Rattle.sim_fact_laws.proofs.Parts.{part-aimed_watch}
-use Rattle.sim_fact_laws.proofs.Unheard.{unheard}
-use Rattle.sim_fact_laws.proofs.Changing.{IsTold}
-use Rattle.sim_fact_laws.proofs.Noting.{AreTold, change_told}
-use Rattle.sim_fact_laws.specs.Releases.{release_all, AreWatching}
-use Rattle.sim_fact_laws.proofs.Removing.{first_told, then_watching, released_is_state, watchers_are_watching, id_is_some, let_go_state, removed_is_left, left_told}
+use Rattle.sim_laws.proofs.Rows.{apart, same_row, found_row}
+use Rattle.sim_scene.proofs.FactLists.{facts-unchanged}
+use Rattle.sim_scene.proofs.Parts.{part-aimed_watch}
+use Rattle.sim_scene.proofs.Unheard.{unheard}
+use Rattle.sim_scene.proofs.Changing.{IsTold}
+use Rattle.sim_scene.proofs.Noting.{AreTold, change_told}
+use Rattle.sim_scene.specs.Releases.{release_all, AreWatching}
+use Rattle.sim_scene.proofs.Removing.{first_told, then_watching, released_is_state, watchers_are_watching, id_is_some, let_go_state, removed_is_left, left_told}
 use Rattle.sim_board.specs.Hearing.{AllMayHear, all_told}
 use Rattle.sim_board.specs.BoardWords.{AreKept}
 use Rattle.sim_system.specs.Meanings.{Meaning, Systems, four, told, MayHear, IsFed, AreFed}

@@ -12,10 +12,10 @@ use Rattle.sim_base.specs.Validity.{IsLooselyValid}
 use Rattle.sim_base.specs.Filters.{watchers}
 use Rattle.sim_base.specs.Changes.{released, removed}
 use Rattle.sim_laws.proofs.Members.{Has}
-use Rattle.sim_turn_laws.proofs.Rows.{Apart, apart, find_has}
-use Rattle.sim_fact_laws.specs.Releases.{release_all}
-use Rattle.sim_fact_laws.proofs.Releasing.{removed_is}
-use Rattle.sim_fact_laws.proofs.Removing.{id_is_some}
+use Rattle.sim_laws.proofs.Rows.{Apart, apart, find_has}
+use Rattle.sim_scene.specs.Releases.{release_all}
+use Rattle.sim_scene.proofs.Releasing.{removed_is}
+use Rattle.sim_scene.proofs.Removing.{id_is_some}
 use Rattle.sim_board.specs.Letting.{row_released, rows_released, left_by}
 
 -- ids stay

@@ -7,9 +7,9 @@ use Rattle.std.proofs.lemmas.List.{same_lists, get_or-map, length-map, get_or-se
 use Rattle.sim_base.specs.declared.state.Row.{Row}
 use Rattle.sim_base.specs.Rows.{id_of}
 use Rattle.sim_laws.proofs.Members.{Has}
-use Rattle.sim_turn_laws.proofs.Rows.{map_agree, find_has}
-use Rattle.sim_lookup.specs.Found.{found}
-use Rattle.sim_lookup.proofs.Places.{ids_rise}
+use Rattle.sim_laws.proofs.Rows.{map_agree, find_has}
+use Rattle.sim_plans.specs.Found.{found}
+use Rattle.sim_plans.proofs.Places.{ids_rise}
 
 -- rows at two places have two ids
 apart_at : (rows : List Row) (i j : ℕ) (d : Row) → IsStrictlyIncreasing (map id_of rows) → i < length rows → j < length rows → (i ≡ j → ⊥) → (get_or rows i d).id ≡ (get_or rows j d).id → ⊥

@@ -5,10 +5,10 @@ ghost use Rattle.std.specs.Prelude.{◌≡◌, ◌<◌, None, Some, length, map,
 ghost use Rattle.std.specs.List.{HoldsAt};
 ghost use Rattle.std.specs.List.Sorted.{IsStrictlyIncreasing};
 ghost use Rattle.sim_base.specs.Rows.{id_of};
-ghost use Rattle.sim_lookup.specs.Found.{found};
+ghost use Rattle.sim_plans.specs.Found.{found};
 
 use sim_base::{Change, Row};
-use sim_lookup::place_of;
+use sim_plans::place_of;
 
 // How many rows are looked at from a place on. Where those of two players take turns, the next one of a player is mostly the
 // second or third behind the last.

@@ -11,12 +11,12 @@ ghost use Rattle.sim_system.specs.Meanings.{AreFed};
 ghost use Rattle.sim_system.specs.RigWords.{systems_of};
 ghost use Rattle.sim_scene.specs.SceneWords.{IsStanding};
 ghost use Rattle.sim_board.specs.BoardWords.{AreKept};
-ghost use Rattle.sim_fact_laws.specs.Releases.{AreWatching, release_all};
+ghost use Rattle.sim_scene.specs.Releases.{AreWatching, release_all};
 
 use crate::row::{born, fact_of, living};
 use crate::tell::tell_all;
 use sim_base::{Aim, Change, Ids, OutOfMemory, Point, Setup, State};
-use sim_lookup::target_of;
+use sim_plans::target_of;
 use sim_scene::Scene;
 use sim_system::{Answer, Ask, Note, Rig, System, boxed};
 

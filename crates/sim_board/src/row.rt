@@ -12,7 +12,7 @@ ghost use Rattle.sim_system.specs.Facts.{fact_of as fact_by, vision_of as vision
 
 use crate::near::place_near;
 use sim_base::{Fixed, OutOfMemory, Point, Rect, Row, Setup, State, rect_of};
-use sim_lookup::{arms_of, target_of, template_at};
+use sim_plans::{arms_of, target_of, template_at};
 use sim_system::{Fact, Facts};
 use std::alloc::Global;
 

@@ -21,7 +21,7 @@ use Rattle.sim_plain_session.specs.Bytes.{spelled}
 use Rattle.sim_plain_session.specs.Players.{Player, IsPlayerOf}
 use Rattle.sim_plain_session.proofs.PlayerLemmas.{same_turn, same_mark, beginning_stands, playing_stands, bending_stands, learning_stands}
 use Rattle.sim_plain_session.proofs.Functions.{put_other}
-use Rattle.sim_turn_laws.proofs.Turning.{after_counts_turns}
+use Rattle.sim_laws.proofs.Turning.{after_counts_turns}
 use Rattle.sim_client.specs.Lives.{Life, Off, Joining, On, Act, may_order, ordered, orders, may_play, played, may_tell_done, told_with_done, told_alone, told, plays, bends, learns, releases, refused, loads, hands_on, hears}
 use Rattle.sim_client.specs.LifeLaws.{says_of, Follows, shows_after, order_shown, hearing_shown, StartingFollows, JoiningFollows, OrderingFollows, PlayingFollows, BendingFollows, HearingFollows}
 

@@ -7,7 +7,7 @@ use Rattle.sim_base.specs.declared.command.PlayerCommand.{PlayerCommand}
 use Rattle.sim_base.specs.declared.memory.OutOfMemory.{OutOfMemory}
 use Rattle.sim_base.specs.declared.setup.Setup.{Setup}
 use Rattle.sim_base.specs.declared.state.State.{State}
-use Rattle.sim_turn_laws.specs.CommandLaws.{IsOrderOf}
+use Rattle.sim_laws.specs.CommandLaws.{IsOrderOf}
 use Rattle.sim_system.specs.Meanings.{Meaning}
 use Rattle.sim_board.specs.declared.board.Board.{Board}
 use Rattle.sim_client.specs.declared.did.Did.{Did}

@@ -10,7 +10,7 @@ ghost use Rattle.sim_board.specs.BoardWords.{setup_in, state_in, systems, IsWhol
 
 use sim_base::{Change, Fixed, Row, Setup, State};
 use sim_board::Board;
-use sim_lookup::{find_row, template_at};
+use sim_plans::{find_row, template_at};
 use sim_system::System;
 
 // The greatest health of a row that has health.

@@ -5,15 +5,27 @@
 //! `specs/` also have the two ways in which a list of records is read, as a whole or up to the first item that is
 //! refused; every reader of a list meets one of them.
 //!
+//! Commands as match files, step lists and schedules spell them: a list of a kind and what follows it.
+//!
+//! It promises the one command that a list spells, of the seven kinds, or that it spells none. It stands on `sim_json`
+//! for the values of JSON and on `sim_base` for commands. What stands before the kind, as a turn or a player, is left
+//! to the lists that have commands in them.
+//!
 //! - `values`: texts, lists, numbers.
 //! - `kinds`: of which kind a value is.
 //! - `keys`: which keys an object has.
+//! - `ids`: ids and numbers of templates.
+//! - `commands_kinds`: commands by their kinds.
 #![tactic(auto)]
 
+mod commands_kinds;
+mod ids;
 mod keys;
 mod kinds;
 mod values;
 
+pub use commands_kinds::{command_of, three};
+pub use ids::{id_in, ids_of};
 pub use keys::{is_among, other_key};
 pub use kinds::{has_list, has_row, has_table, has_table_of, has_whole};
 pub use values::{

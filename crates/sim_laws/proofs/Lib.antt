@@ -14,3 +14,12 @@ pub mod WayByGround
 pub mod Examples
 pub mod Root
 pub mod Validity
+pub mod Rows
+pub mod RowWise
+pub mod Removing
+pub mod Aiming
+pub mod Moving
+pub mod Hitting
+pub mod Commanding
+pub mod Turning
+pub mod Others

@@ -5,7 +5,7 @@ use Rattle.serde_json.specs.Data.{Data}
 use Rattle.serde_json.specs.Find.{as_str}
 use Rattle.sim_json.specs.Values.{list_of, natural_in, two, front_two}
 use Rattle.sim_json.specs.Records.{next_or}
-use Rattle.sim_commands.specs.Commands.{command_of, three}
+use Rattle.sim_json.specs.Commands.{command_of, three}
 use Rattle.sim_plain.specs.declared.message.UpOf.{UpOf}
 use Rattle.sim_plain.specs.declared.message.UpOf.TheVariants.{Join, Command, Done, Report, State}
 use Rattle.sim_plain.specs.Messages as plain

@@ -7,7 +7,7 @@ use Rattle.sim_base.specs.declared.step.Step.{Step}
 use Rattle.sim_base.specs.declared.step.Step.TheVariants.{Order, Up, Down, Play, Join, Cut, Bend}
 use Rattle.sim_json.specs.Values.{list_of, natural_in, fixed, two, front_two}
 use Rattle.sim_json.specs.Records.{next_or}
-use Rattle.sim_commands.specs.Commands.{id_in, command_of}
+use Rattle.sim_json.specs.Commands.{id_in, command_of}
 
 -- a step that nothing follows
 abbrev pub alone : Step → List Data → Option Step

@@ -6,8 +6,8 @@ use Rattle.serde_json.specs.Data.{Data}
 use Rattle.serde_json.specs.Find.{as_str}
 use Rattle.sim_json.specs.Values.{list_of, natural_in, two, front_two}
 use Rattle.sim_json.specs.Records.{next_or}
-use Rattle.sim_commands.specs.Commands.{three}
-use Rattle.sim_commands.specs.Memory.{command_takes}
+use Rattle.sim_json.specs.Commands.{three}
+use Rattle.sim_json.specs.Memory.{command_takes}
 use Rattle.sim_lists.specs.Arrivals.{turn_in}
 use Rattle.sim_lists.specs.Hexadecimal.{is_hex, state_digits}
 

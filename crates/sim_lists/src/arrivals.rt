@@ -14,7 +14,7 @@ use crate::hexadecimal::{digest_of, raw_of, state_of};
 use crate::schedule::{Arrival, Said};
 use serde_json::Value;
 use sim_base::OutOfMemory;
-use sim_commands::{command_of, three};
+use sim_json::{command_of, three};
 use sim_json::{front_two, list_of, natural_in, two};
 use sim_wire::{Bytes, Up};
 use std::alloc::Global;

@@ -1,7 +1,7 @@
 //! Lists that are played as files: a schedule of arrivals at a server, and the steps of a session.
 //!
 //! It promises the one list that the bytes of a file spell, or the number of the first item that is refused. It stands on
-//! `sim_json` for the values of JSON, on `sim_commands` for commands, on `sim_base` for steps, and on `sim_wire` for the
+//! `sim_json` for the values of JSON, on `sim_json` for commands, on `sim_base` for steps, and on `sim_wire` for the
 //! messages.
 //! `docs/FORMATS.md` has the form.
 //!

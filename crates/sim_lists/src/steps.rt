@@ -10,7 +10,7 @@ ghost use Rattle.sim_lists.specs.Taking.{order_takes, step_takes};
 
 use serde_json::Value;
 use sim_base::{OutOfMemory, Step};
-use sim_commands::{command_of, id_in};
+use sim_json::{command_of, id_in};
 use sim_json::{fixed, front_two, list_of, natural_in, two};
 use std::alloc::Global;
 

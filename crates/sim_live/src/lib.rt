@@ -4,7 +4,7 @@
 //! end of the input what the session has come to; where it stopped, all lines but the last one are answered whole. So for each
 //! prefix of the steps that was read, the lines that were told are those of the defined session over that prefix. It stands on
 //! `sim_talk` for what is heard and told, on `sim_session` for the steps, on `sim_lists` for their reading, and on
-//! `sim_session_text` and `sim_host` for what is printed.
+//! `sim_session_text` and `sim_session_text` for what is printed.
 //!
 //! - `look`: what only looks.
 //! - `line`: what a line asks for.

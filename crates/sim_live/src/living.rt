@@ -15,7 +15,7 @@ ghost use Rattle.sim_live.specs.Spoken.{AnswersAll};
 
 use crate::answering::answer;
 use sim_base::{OutOfMemory, Setup};
-use sim_host::push_starts;
+use sim_session_text::push_starts;
 use sim_orders::OrderTable;
 use sim_session::Session;
 use sim_session_text::push_ending;

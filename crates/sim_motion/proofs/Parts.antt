@@ -1,7 +1,7 @@
 -- A share of a difference, up or down.
 use Rattle.std.proofs.Common.{◌≡◌, ℕ, zero, suc, ◌+◌, ◌-◌, ◌*◌, ◌/◌, ◌<◌, ◌≤◌, ℤ, pos, negsuc, neg_ℤ, ◌+ℤ◌, ◌-ℤ◌, ◌*ℤ◌, ◌≤ℤ◌, int_div, unsigned_abs, refl, sym, ap, ◌∙◌, arith}
 use Rattle.std.proofs.lemmas.Int.{ints}
-use Rattle.sim_turn_laws.proofs.Moving.{share_le, div_below_zero}
+use Rattle.sim_laws.proofs.Moving.{share_le, div_below_zero}
 
 pub part_up : (from to : ℤ) (k d : ℕ) → pos 0 ≤ℤ from → pos 0 ≤ℤ to → unsigned_abs from ≤ unsigned_abs to →
     pos (unsigned_abs from + (unsigned_abs to - unsigned_abs from) * k / d) ≡ from +ℤ int_div ((to -ℤ from) *ℤ pos k) (pos d)

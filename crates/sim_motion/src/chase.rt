@@ -8,7 +8,7 @@ ghost use Rattle.sim_base.specs.Move.{chasing};
 ghost use Rattle.sim_motion.specs.Moves.{chased, LeadsInside};
 
 use sim_base::{Motion, Point, Row, Setup, State};
-use sim_lookup::{RowIndex, arms_of, is_near, same_point, target_of};
+use sim_plans::{RowIndex, arms_of, is_near, same_point, target_of};
 
 /// Whether a row that can move stands still, goes on as it goes, or goes to a point.
 #[derive(Drop)]

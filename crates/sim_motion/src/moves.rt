@@ -14,7 +14,7 @@ ghost use Rattle.sim_motion.specs.Moves.{way_in, row_moved, along_way, MakesNoWa
 use crate::chase::{Chase, chase_of};
 use crate::walk::walk;
 use sim_base::{Items, Motion, OutOfMemory, Point, Row};
-use sim_lookup::RowIndex;
+use sim_plans::RowIndex;
 use sim_scene::Scene;
 use sim_system::{Answer, Ask, System, Way};
 use std::alloc::Global;

@@ -12,7 +12,7 @@ ghost use Rattle.sim_motion.specs.Moves.{motion_or, row_moved};
 
 use crate::moves::{Moved, move_of};
 use sim_base::{Change, Changes, Items, Motion, OutOfMemory, Row};
-use sim_lookup::{RowIndex, same_point, speed_of};
+use sim_plans::{RowIndex, same_point, speed_of};
 use sim_scene::Scene;
 use sim_system::System;
 use std::alloc::Global;

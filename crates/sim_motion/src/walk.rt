@@ -3,7 +3,7 @@
 ghost use Rattle.std.specs.Prelude.{◌≡◌, ◌<◌, ◌≤◌, ◌*◌, ◌/◌, pos, ◌+ℤ◌, ◌-ℤ◌, ◌*ℤ◌, int_div, All};
 ghost use Rattle.sim_base.specs.Places.{IsPlaced};
 ghost use Rattle.sim_base.specs.Move.{toward as toward_by, walked};
-ghost use Rattle.sim_lookup.specs.Sizes.{IsCoordinate};
+ghost use Rattle.sim_plans.specs.Sizes.{IsCoordinate};
 
 use crate::far::distance;
 use sim_base::{Fixed, Point};

@@ -7,7 +7,7 @@ use Rattle.sim_base.specs.declared.state.Row.{Row}
 use Rattle.sim_base.specs.declared.state.State.{State}
 use Rattle.sim_base.specs.Limits.{IsSetup}
 use Rattle.sim_base.specs.Filters.{spot}
-use Rattle.sim_turn_laws.proofs.Commanding.{spot_on_ground}
+use Rattle.sim_laws.proofs.Commanding.{spot_on_ground}
 
 pub spot_small : (setup : Setup) (state : State) (o : Option Row) (c : Cell) → IsSetup setup → option_and_then (λ (row : Row). spot setup state row.at) o ≡ Some c → (c.x < 256) × (c.z < 256)
 spot_small setup state None c limits e = absurd (cc)

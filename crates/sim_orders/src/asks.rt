@@ -12,7 +12,7 @@ ghost use Rattle.sim_orders.specs.Light.{NeedsNoSpot};
 
 use crate::help::Help;
 use sim_base::{Cell, Command, OutOfMemory, PlayerCommand, Point, Rect, rect_of};
-use sim_lookup::{find_row, is_inside, template_at};
+use sim_plans::{find_row, is_inside, template_at};
 use sim_scene::Scene;
 use sim_system::{Answer, Ask, System};
 

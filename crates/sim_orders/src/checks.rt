@@ -7,7 +7,7 @@ ghost use Rattle.sim_base.specs.Validity.{IsLooselyValid};
 ghost use Rattle.sim_base.specs.Commands.{is_enemy as is_enemy_by, trains as trains_by, lists as lists_by};
 
 use sim_base::{MAX_ROWS, Row, Setup, State, Template};
-use sim_lookup::{find_row, is_enemy_of, template_at};
+use sim_plans::{find_row, is_enemy_of, template_at};
 
 /// Whether the player may attack the row with this id: it is alive, has health, and is an enemy's.
 pub fn is_enemy(setup: &Setup, state: &State, player: u8, target: u32) -> bool

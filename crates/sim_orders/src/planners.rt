@@ -11,7 +11,7 @@ use crate::help::Help;
 use crate::named::sorted;
 use crate::ordered::{deleted, resigned, sent, set_on, stopped};
 use sim_base::{Change, Changes, Command, Items, OutOfMemory, Point, Setup, State, centre_of};
-use sim_lookup::{find_row, is_inside};
+use sim_plans::{find_row, is_inside};
 use std::alloc::Global;
 
 /// The changes of a walk: each named row that can move goes to a point of the ground, forgets its target and holds its

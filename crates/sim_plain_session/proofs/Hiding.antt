@@ -11,7 +11,7 @@ use Rattle.sim_base.specs.Changes.{with_row}
 use Rattle.sim_base.specs.Rows.{row_of}
 use Rattle.sim_base.specs.Spelling.{clock_bytes, section, position_part, position_bytes, rows_with, quick, is_full_turn}
 use Rattle.sim_base.specs.Turn.{may_bend, bent}
-use Rattle.sim_turn_laws.proofs.Turning.{after_counts_turns}
+use Rattle.sim_laws.proofs.Turning.{after_counts_turns}
 use Rattle.sim_plain_session.specs.Clients.{state_of, digest_of, bent_seat}
 use Rattle.sim_plain_session.specs.Marks.{FullIsDigest, OthersAreQuick, BendsAreHidden}
 

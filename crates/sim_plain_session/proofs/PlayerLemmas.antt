@@ -6,7 +6,7 @@ use Rattle.sim_base.specs.declared.state.State.{State}
 use Rattle.sim_base.specs.Turn.{turn, bent, turns_in}
 use Rattle.sim_base.specs.Spelling.{digest, mark}
 use Rattle.sim_plain.specs.Functions.{put}
-use Rattle.sim_turn_laws.proofs.Turning.{after_counts_turns}
+use Rattle.sim_laws.proofs.Turning.{after_counts_turns}
 use Rattle.sim_plain_session.proofs.Functions.{put_same, put_other}
 use Rattle.sim_plain_session.specs.Players.{SameTurn, SameMark, BeginningStands, PlayingStands, BendingStands, LearningStands}
 

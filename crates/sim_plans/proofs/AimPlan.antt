@@ -17,9 +17,9 @@ use Rattle.sim_base.specs.Filters.{is_near, within, seen}
 use Rattle.sim_base.specs.Validity.{IsValidRow, IsKnownRow, IsLooselyValid}
 use Rattle.sim_base.specs.Changes.{aimed_at, halted, released}
 use Rattle.sim_base.specs.Aim.{lets_go, with_releases, square_to, may_take, target_for, is_idle, looking, aimed}
-use Rattle.sim_turn_laws.proofs.Rows.{all_at, map-map, known_row, found_row}
-use Rattle.sim_turn_laws.proofs.Removing.{IsTarget}
-use Rattle.sim_turn_laws.proofs.Aiming.{target_for_is_target}
+use Rattle.sim_laws.proofs.Rows.{all_at, map-map, known_row, found_row}
+use Rattle.sim_laws.proofs.Removing.{IsTarget}
+use Rattle.sim_laws.proofs.Aiming.{target_for_is_target}
 use Rattle.sim_plans.specs.RowChanges.{set_by_all, Suits}
 use Rattle.sim_plans.specs.Plans.{next_target, aim_changes_by, aim_changes_of, aim_plan}
 use Rattle.sim_plans.specs.PlanLaws.{IsPlanOf, Plans}

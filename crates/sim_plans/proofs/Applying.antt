@@ -18,11 +18,11 @@ use Rattle.sim_base.specs.Limits.{IsSetup}
 use Rattle.sim_base.specs.Validity.{IsInside, IsValidMotion, IsValidAim, IsValidRow, IsLooselyValid, Both}
 use Rattle.sim_base.specs.Changes.{with_row, with_new, applied}
 use Rattle.sim_laws.proofs.Validity.{with_new_is_valid}
-use Rattle.sim_turn_laws.proofs.Rows.{apart, same_row, found_row, both_same}
-use Rattle.sim_turn_laws.proofs.RowWise.{Stays, mapped_is_state}
-use Rattle.sim_turn_laws.proofs.Removing.{same_stays, removed_is_state}
-use Rattle.sim_turn_laws.proofs.Commanding.{known_template}
-use Rattle.sim_turn_laws.proofs.Hitting.{with_word}
+use Rattle.sim_laws.proofs.Rows.{apart, same_row, found_row, both_same}
+use Rattle.sim_laws.proofs.RowWise.{Stays, mapped_is_state}
+use Rattle.sim_laws.proofs.Removing.{same_stays, removed_is_state}
+use Rattle.sim_laws.proofs.Commanding.{known_template}
+use Rattle.sim_laws.proofs.Hitting.{with_word}
 use Rattle.sim_plans.specs.Fits.{most_of, OfRow, Fits}
 use Rattle.sim_plans.specs.PlanLaws.{FittingKeepsLoose, AllFittingKeepLoose}
 

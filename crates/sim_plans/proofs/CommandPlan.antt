@@ -26,9 +26,9 @@ use Rattle.sim_base.specs.Validity.{IsInside, IsValidRow, IsKnownRow, IsLooselyV
 use Rattle.sim_base.specs.Changes.{created}
 use Rattle.sim_base.specs.Commands.{is_ordered, with_ordered, sent, stopped, set_on, is_enemy, has_room, is_placeable, trains, placed_on, trained, commanded_by}
 use Rattle.sim_laws.proofs.Members.{Has, Has-of_map}
-use Rattle.sim_turn_laws.proofs.Rows.{all_at, Has-of_filter, known_row, apart, row_found}
-use Rattle.sim_turn_laws.proofs.Removing.{IsTarget}
-use Rattle.sim_turn_laws.proofs.Commanding.{middle_inside, spot_on_ground, enemy_row, enemy_is_target, placeable, trained_template}
+use Rattle.sim_laws.proofs.Rows.{all_at, Has-of_filter, known_row, apart, row_found}
+use Rattle.sim_laws.proofs.Removing.{IsTarget}
+use Rattle.sim_laws.proofs.Commanding.{middle_inside, spot_on_ground, enemy_row, enemy_is_target, placeable, trained_template}
 use Rattle.sim_plans.specs.Fits.{OfRow}
 use Rattle.sim_plans.specs.RowPlans.{stance_changes}
 use Rattle.sim_plans.specs.RowChanges.{set_by_all, Suits}

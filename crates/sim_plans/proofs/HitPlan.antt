@@ -18,9 +18,9 @@ use Rattle.sim_base.specs.Rows.{row_of, arms_of, template_of}
 use Rattle.sim_base.specs.Filters.{is_near}
 use Rattle.sim_base.specs.Validity.{IsValidAim, IsValidRow, IsKnownRow, IsState, IsLooselyValid, Both}
 use Rattle.sim_base.specs.Hit.{Hit, hitting, taken_from, with_cooldown, hurt, hit}
-use Rattle.sim_turn_laws.proofs.Rows.{all_at, known_row}
-use Rattle.sim_turn_laws.proofs.RowWise.{mapped_is_state}
-use Rattle.sim_turn_laws.proofs.Hitting.{struck, fought_by, fought, hitting-rows, hitting-word, fought_stays, with_word}
+use Rattle.sim_laws.proofs.Rows.{all_at, known_row}
+use Rattle.sim_laws.proofs.RowWise.{mapped_is_state}
+use Rattle.sim_laws.proofs.Hitting.{struck, fought_by, fought, hitting-rows, hitting-word, fought_stays, with_word}
 use Rattle.sim_plans.specs.Fits.{most_of}
 use Rattle.sim_plans.specs.RowChanges.{set_by_all, Suits}
 use Rattle.sim_plans.specs.Plans.{cooldown_change, strike_changes, fight_changes_by, fight_changes_of, hurt_changes_by, hurt_changes_of, hit_plan}

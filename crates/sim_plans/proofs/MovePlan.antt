@@ -14,9 +14,9 @@ use Rattle.sim_base.specs.Rows.{row_of, target_of, speed_of, arms_of, template_o
 use Rattle.sim_base.specs.Filters.{field_of}
 use Rattle.sim_base.specs.Validity.{IsValidMotion, IsValidRow, IsKnownRow, IsLooselyValid, Both}
 use Rattle.sim_base.specs.Move.{along_found, chasing, moved_by, moved_row, moved}
-use Rattle.sim_turn_laws.proofs.Rows.{all_at, known_row, both_same}
-use Rattle.sim_turn_laws.proofs.RowWise.{Stays}
-use Rattle.sim_turn_laws.proofs.Moving.{moved_row_stays}
+use Rattle.sim_laws.proofs.Rows.{all_at, known_row, both_same}
+use Rattle.sim_laws.proofs.RowWise.{Stays}
+use Rattle.sim_laws.proofs.Moving.{moved_row_stays}
 use Rattle.sim_plans.specs.RowPlans.{goes_on, step_changes}
 use Rattle.sim_plans.specs.RowChanges.{set_by_all, Suits}
 use Rattle.sim_plans.specs.Plans.{move_changes_by, move_changes_of, move_plan}

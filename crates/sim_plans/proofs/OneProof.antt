@@ -18,7 +18,7 @@ use Rattle.sim_base.specs.declared.change.Change.TheVariants as change
 use Rattle.sim_base.specs.Changes.{applied}
 use Rattle.sim_base.specs.Limits.{IsSetup}
 use Rattle.sim_base.specs.Validity.{has_health, IsValidMotion, IsValidAim, IsLooselyValid}
-use Rattle.sim_turn_laws.proofs.Rows.{all_at, of_has_health}
+use Rattle.sim_laws.proofs.Rows.{all_at, of_has_health}
 use Rattle.sim_plans.specs.Fits.{Fits, AllFit}
 use Rattle.sim_plans.specs.PlanLaws.{IsPlanOf, IsOwnChange}
 use Rattle.sim_plans.proofs.Applying.{fitting_keeps_loose}

@@ -13,8 +13,8 @@ use Rattle.sim_base.specs.Validity.{IsLooselyValid}
 use Rattle.sim_base.specs.Changes.{removed, applied}
 use Rattle.sim_base.specs.Hit.{is_spent, gone}
 use Rattle.sim_laws.proofs.Members.{Has, Has-map}
-use Rattle.sim_turn_laws.proofs.Rows.{Has-filter, Has-of_filter, Apart, apart}
-use Rattle.sim_turn_laws.proofs.Removing.{removed-ids, removed_all}
+use Rattle.sim_laws.proofs.Rows.{Has-filter, Has-of_filter, Apart, apart}
+use Rattle.sim_laws.proofs.Removing.{removed-ids, removed_all}
 use Rattle.sim_plans.specs.Fits.{AllFit}
 use Rattle.sim_plans.specs.Plans.{gone_plan}
 use Rattle.sim_plans.specs.PlanLaws.{IsPlanOf}

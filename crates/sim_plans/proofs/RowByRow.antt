@@ -20,7 +20,7 @@ use Rattle.sim_base.specs.Rows.{id_of, row_of, arms_of}
 use Rattle.sim_base.specs.Validity.{IsValidAim, has_health}
 use Rattle.sim_base.specs.Changes.{applied, applied_all}
 use Rattle.sim_laws.proofs.Members.{Has, Has-append_cases}
-use Rattle.sim_turn_laws.proofs.Rows.{all_at, map_agree, Apart, apart}
+use Rattle.sim_laws.proofs.Rows.{all_at, map_agree, Apart, apart}
 use Rattle.sim_plans.specs.Fits.{Fits, AllFit}
 use Rattle.sim_plans.specs.RowChanges.{set_by, set_by_all, Suits}
 use Rattle.sim_plans.specs.PlanLaws.{IsPlanOf, RowByRow}

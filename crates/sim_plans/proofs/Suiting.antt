@@ -21,7 +21,7 @@ use Rattle.sim_base.specs.Rows.{template_of, arms_of}
 use Rattle.sim_base.specs.Validity.{IsInside, IsValidMotion, IsValidAim, IsValidRow, Both}
 use Rattle.sim_base.specs.Changes.{aimed_at, with_stance, halted}
 use Rattle.sim_base.specs.Move.{same_point}
-use Rattle.sim_turn_laws.proofs.Removing.{IsTarget}
+use Rattle.sim_laws.proofs.Removing.{IsTarget}
 use Rattle.sim_plans.specs.RowPlans.{target_changes, halt_changes, turn_changes, stance_changes, stand_changes, goes_on, motion_changes, step_changes}
 use Rattle.sim_plans.specs.RowChanges.{set_by, set_by_all, Suits}
 

@@ -15,11 +15,11 @@ use Rattle.sim_base.specs.Move.{moved}
 use Rattle.sim_base.specs.Hit.{hit, gone}
 use Rattle.sim_base.specs.Turn.{ticked}
 use Rattle.sim_laws.proofs.Validity.{valid_is_loose}
-use Rattle.sim_turn_laws.specs.CommandLaws.{IsOrderOf}
-use Rattle.sim_turn_laws.proofs.Aiming.{aimed_is_state}
-use Rattle.sim_turn_laws.proofs.Moving.{moved_is_state}
-use Rattle.sim_turn_laws.proofs.Hitting.{hit_is_state}
-use Rattle.sim_turn_laws.proofs.Turning.{command_keeps_loose, turn_is_counted}
+use Rattle.sim_laws.specs.CommandLaws.{IsOrderOf}
+use Rattle.sim_laws.proofs.Aiming.{aimed_is_state}
+use Rattle.sim_laws.proofs.Moving.{moved_is_state}
+use Rattle.sim_laws.proofs.Hitting.{hit_is_state}
+use Rattle.sim_laws.proofs.Turning.{command_keeps_loose, turn_is_counted}
 use Rattle.sim_plans.specs.Plans.{aim_plan, move_plan, hit_plan, gone_plan}
 use Rattle.sim_plans.specs.CommandPlans.{command_plan}
 use Rattle.sim_plans.specs.PlanLaws.{IsPlanOf}

@@ -13,7 +13,7 @@ use Rattle.sim_base.specs.Limits.{IsSetup}
 use Rattle.sim_base.specs.Validity.{IsLooselyValid}
 use Rattle.sim_base.specs.Changes.{applied, applied_all}
 use Rattle.sim_base.specs.Commands.{commanded}
-use Rattle.sim_turn_laws.specs.CommandLaws.{IsOrderOf}
+use Rattle.sim_laws.specs.CommandLaws.{IsOrderOf}
 use Rattle.sim_plans.specs.Fits.{OfRow, Fits, AllFit}
 use Rattle.sim_plans.specs.RowChanges.{set_by_all, Suits}
 use Rattle.sim_plans.specs.CommandPlans.{command_plan}

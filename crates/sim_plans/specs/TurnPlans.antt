@@ -9,7 +9,7 @@ use Rattle.sim_base.specs.Limits.{IsSetup}
 use Rattle.sim_base.specs.Validity.{IsValid}
 use Rattle.sim_base.specs.Changes.{applied_all}
 use Rattle.sim_base.specs.Turn.{turn}
-use Rattle.sim_turn_laws.specs.CommandLaws.{IsOrderOf}
+use Rattle.sim_laws.specs.CommandLaws.{IsOrderOf}
 use Rattle.sim_plans.specs.Plans.{aim_plan, move_plan, hit_plan, gone_plan}
 use Rattle.sim_plans.specs.CommandPlans.{command_plan}
 use Rattle.sim_plans.specs.PlanLaws.{IsPlanOf}

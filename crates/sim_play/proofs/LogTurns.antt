@@ -11,8 +11,8 @@ use Rattle.sim_base.specs.declared.state.State.{State}
 use Rattle.sim_base.specs.Limits.{IsSetup}
 use Rattle.sim_base.specs.Spelling.{digest}
 use Rattle.sim_base.specs.Turn.{Past, Item, Turn, Bend, turn, turns_in, after, orders_at, own_turns}
-use Rattle.sim_turn_laws.specs.CommandLaws.{IsOrderOf}
-use Rattle.sim_turn_laws.proofs.Turning.{after_counts_turns}
+use Rattle.sim_laws.specs.CommandLaws.{IsOrderOf}
+use Rattle.sim_laws.proofs.Turning.{after_counts_turns}
 use Rattle.sim_play.specs.Films.{last_state}
 use Rattle.sim_replay.specs.declared.log.Log.{Log}
 use Rattle.sim_replay.specs.Logs.{IsOfTurns}

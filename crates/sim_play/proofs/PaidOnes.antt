@@ -7,8 +7,8 @@ use Rattle.sim_base.specs.Limits.{IsSetup}
 use Rattle.sim_base.specs.Spelling.{digest}
 use Rattle.sim_base.specs.Turn.{Turn, turns_in, orders_at}
 use Rattle.sim_report.specs.Lines.{turn_line}
-use Rattle.sim_turn_laws.specs.CommandLaws.{IsOrderOf}
-use Rattle.sim_turn_laws.proofs.Turning.{after_counts_turns, own_turns_are_of_players}
+use Rattle.sim_laws.specs.CommandLaws.{IsOrderOf}
+use Rattle.sim_laws.proofs.Turning.{after_counts_turns, own_turns_are_of_players}
 use Rattle.sim_system.specs.Meanings.{Systems, AreFed}
 use Rattle.sim_board.specs.BoardWords.{AreKept}
 use Rattle.sim_stock.specs.declared.economy.Economy.{Economy}

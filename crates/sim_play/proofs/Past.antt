@@ -7,7 +7,7 @@ use Rattle.sim_base.specs.declared.setup.Setup.{Setup}
 use Rattle.sim_base.specs.declared.state.State.{State}
 use Rattle.sim_base.specs.Turn.{first_state, from, after, own_turns}
 use Rattle.sim_base.specs.Spelling.{digest}
-use Rattle.sim_turn_laws.proofs.Turning.{after_counts_turns, own_turns_are_so_many}
+use Rattle.sim_laws.proofs.Turning.{after_counts_turns, own_turns_are_so_many}
 use Rattle.sim_report.specs.Lines.{turn_line}
 use Rattle.sim_play.specs.Lines.{past_lines, rejoin_text}
 use Rattle.sim_play.proofs.Playing.{one_turn_more}

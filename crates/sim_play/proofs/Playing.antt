@@ -3,7 +3,7 @@ use Rattle.std.proofs.Common.{◌≡◌, ℕ, suc, ◌+◌, ◌-◌, ap, ◌∙�
 use Rattle.sim_base.specs.declared.setup.Setup.{Setup}
 use Rattle.sim_base.specs.declared.state.State.{State}
 use Rattle.sim_base.specs.Turn.{from, own_turns, orders_at, turn}
-use Rattle.sim_turn_laws.proofs.Turning.{from_counts_turns}
+use Rattle.sim_laws.proofs.Turning.{from_counts_turns}
 use Rattle.sim_system.specs.Meanings.{Systems}
 use Rattle.sim_board.specs.BoardWords.{AreKept}
 

@@ -6,7 +6,7 @@ use Rattle.sim_base.specs.Limits.{IsSetup}
 use Rattle.sim_base.specs.Turn.{first_state, from, after, own_turns}
 use Rattle.sim_base.specs.Validity.{IsValid}
 use Rattle.sim_laws.proofs.Validity.{first_state_is_valid}
-use Rattle.sim_turn_laws.proofs.Turning.{after_counts_turns}
+use Rattle.sim_laws.proofs.Turning.{after_counts_turns}
 use Rattle.sim_play.specs.Lines.{turn_lines, play_text}
 
 module _ (setup same : Setup) (state : State) (of_same : same ≡ setup) (is : state ≡ first_state setup) where

@@ -8,7 +8,7 @@ use Rattle.sim_base.specs.declared.setup.Land.{Land}
 use Rattle.sim_base.specs.Places.{IsPlaced, is_within, is_inside}
 use Rattle.sim_base.specs.Rows.{size_of}
 use Rattle.sim_base.specs.Limits.{IsLand}
-use Rattle.sim_turn_laws.proofs.Rows.{all_at, find_has}
+use Rattle.sim_laws.proofs.Rows.{all_at, find_has}
 use Rattle.sim_system.specs.declared.fact.Fact.{Fact}
 use Rattle.sim_system.specs.Notes.{fact_with}
 use Rattle.sim_fact_lists.specs.Places.{IsHeld, Holds}

@@ -8,7 +8,7 @@ use Rattle.sim_base.specs.declared.state.Row.{Row}
 use Rattle.sim_base.specs.declared.state.State.{State}
 use Rattle.sim_base.specs.Rows.{row_of, arms_of}
 use Rattle.sim_base.specs.Validity.{IsLooselyValid}
-use Rattle.sim_turn_laws.proofs.Rows.{apart}
+use Rattle.sim_laws.proofs.Rows.{apart}
 use Rattle.sim_system.specs.declared.fact.Fact.{Fact}
 use Rattle.sim_system.specs.declared.kind.Kind.{Kind}
 use Rattle.sim_system.specs.declared.kind.Kind.TheVariants.{Range}
@@ -17,8 +17,8 @@ use Rattle.sim_system.specs.declared.ask.Ask.TheVariants as ask
 use Rattle.sim_system.specs.declared.ask.Answer.{Answer}
 use Rattle.sim_system.specs.Facts.{facts_of}
 use Rattle.sim_system.specs.Answers.{answer, answer_over, kind_for}
-use Rattle.sim_fact_laws.proofs.FactLists.{part, fact_with-facts}
-use Rattle.sim_fact_laws.proofs.Answering.{answers_agree}
+use Rattle.sim_scene.proofs.FactLists.{part, fact_with-facts}
+use Rattle.sim_scene.proofs.Answering.{answers_agree}
 use Rattle.sim_system.specs.Meanings.{Meaning, AskFits, MayAnswer, IsAnswer, MayAsk, IsFed}
 
 -- a row that can attack is kept with a vision

@@ -1,1 +1,3 @@
 pub mod SceneWords
+pub mod FactLaws
+pub mod Releases

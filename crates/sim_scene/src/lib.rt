@@ -3,9 +3,19 @@
 //! It promises that a scene which stands answers what the rows of its state answer. It stands on the laws of facts, and is
 //! all that the planners of commands and phases know of the systems.
 //!
+//! Theorems about the words of `sim_system`, each the contract of a function that does nothing.
+//!
+//! They stand in a crate of their own, so that the systems are built without them. `specs/` says each law in one line.
+//!
 //! - `scene`: the scene, and its one call.
+//! - `changes`: systems that are told what a change posts keep what the changed state says.
+//! - `answers`: what is answered over the facts of a state is what is answered over its rows.
 #![tactic(auto)]
 
+mod answers;
+mod changes;
 mod scene;
 
+pub use answers::answers_are_those_over_the_rows;
+pub use changes::{a_change_is_noted, a_state_is_in_range, what_is_not_heard_changes_nothing};
 pub use scene::Scene;

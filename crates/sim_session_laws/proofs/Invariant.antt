@@ -7,7 +7,7 @@ use Rattle.sim_plain.specs.declared.message.UpOf.TheVariants as up
 use Rattle.sim_plain.specs.declared.message.DownOf.TheVariants as down
 use Rattle.sim_plain.specs.declared.status.Status.TheVariants.{Out, Waiting, In}
 use Rattle.sim_plain.specs.Server.{is_in, Server}
-use Rattle.sim_turn_laws.specs.TurnLaws.{IsPastOf}
+use Rattle.sim_laws.specs.TurnLaws.{IsPastOf}
 use Rattle.sim_plain.specs.declared.status.Status.{Status}
 use Rattle.sim_plain_session.specs.Clients.{Up, Down, Seat, Phase, Off, Joining, On, begun}
 use Rattle.sim_plain_session.specs.Pasts.{is_client, is_unbent, kept_turns}

@@ -10,8 +10,8 @@ use Rattle.sim_base.specs.Turn.{Past, Turn, Bend, may_bend, turns_in}
 use Rattle.sim_plain.specs.declared.message.UpOf.TheVariants as up
 use Rattle.sim_plain.specs.declared.message.DownOf.TheVariants as down
 use Rattle.sim_plain.specs.Functions.{put}
-use Rattle.sim_turn_laws.specs.CommandLaws.{IsOrderOf}
-use Rattle.sim_turn_laws.specs.TurnLaws.{IsItemOf}
+use Rattle.sim_laws.specs.CommandLaws.{IsOrderOf}
+use Rattle.sim_laws.specs.TurnLaws.{IsItemOf}
 use Rattle.sim_plain_session.proofs.Functions.{put_same, put_other}
 use Rattle.sim_plain_session.specs.Clients.{Up, Down, Seat, Phase, Off, Joining, On, Acted, idle, state_of, may_order, orders, may_play, played, may_tell_done, report_of, told, plays, bent_seat, shows_bend, ordered, told_with_done, told_alone, bends, learns, hears}
 use Rattle.sim_session_laws.proofs.Basics.{Grows, grows_same, good_past_grows, good_ups_grows, good_downs_grows, good_downs_append, commands_at-append, client_is, all_players_append, all_right}

@@ -4,8 +4,8 @@ use Rattle.std.proofs.lemmas.Bool.{and_parts, and_from, leb-true, le-leb, cond-f
 use Rattle.sim_base.specs.declared.setup.Setup.{Setup}
 use Rattle.sim_base.specs.declared.step.Step.{Step}
 use Rattle.sim_base.specs.declared.step.Step.TheVariants as step
-use Rattle.sim_turn_laws.specs.CommandLaws.{IsOrderOf}
-use Rattle.sim_turn_laws.specs.TurnLaws.{IsItemOf}
+use Rattle.sim_laws.specs.CommandLaws.{IsOrderOf}
+use Rattle.sim_laws.specs.TurnLaws.{IsItemOf}
 use Rattle.std.proofs.lemmas.List.Elements.{All-nil}
 use Rattle.sim_plain.specs.declared.status.Status.TheVariants.{Out, In}
 use Rattle.sim_plain.specs.Server.{opening}

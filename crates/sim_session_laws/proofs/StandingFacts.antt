@@ -9,7 +9,7 @@ use Rattle.sim_plain_session.specs.Bytes.{spelled}
 use Rattle.sim_plain.specs.declared.status.Status.TheVariants.{Out, Waiting}
 use Rattle.sim_plain.specs.Server.{is_in, donor, seat}
 use Rattle.sim_base.specs.Limits.{IsSetup}
-use Rattle.sim_turn_laws.proofs.Turning.{after_counts_turns, after_is_valid}
+use Rattle.sim_laws.proofs.Turning.{after_counts_turns, after_is_valid}
 use Rattle.sim_plain_session.specs.Clients.{Down, Joining}
 use Rattle.sim_plain_session.specs.Laws.{Carries}
 use Rattle.sim_plain_session.specs.Sessions.{Session, session}

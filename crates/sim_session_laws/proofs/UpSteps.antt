@@ -13,7 +13,7 @@ use Rattle.sim_plain.specs.Functions.{put}
 use Rattle.sim_plain.specs.Messages.{Heard}
 use Rattle.sim_plain.specs.Server.{Server, is_out, is_in, waits_for, donor, seat, with_status, raised, keeps, reported, is_by, crowd_fault, turn_fault, command_fault, done_fault, report_fault, takes_state, entry_done, unless, heard}
 use Rattle.sim_plain.specs.Posts.{nobody, to_one, release, asked, refusal, kept_above, loading}
-use Rattle.sim_turn_laws.specs.CommandLaws.{IsOrderOf}
+use Rattle.sim_laws.specs.CommandLaws.{IsOrderOf}
 use Rattle.sim_plain_session.proofs.Functions.{put_same, put_other}
 use Rattle.sim_plain_session.specs.Clients.{Up, Down, Seat, Phase, Off, Joining, On, begun}
 use Rattle.sim_plain_session.specs.Pasts.{rules_of, is_client}

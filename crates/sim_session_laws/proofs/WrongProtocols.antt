@@ -8,7 +8,7 @@ use Rattle.sim_base.specs.declared.step.Step.{Step}
 use Rattle.sim_base.specs.declared.step.Step.TheVariants as step
 use Rattle.sim_base.specs.Turn.{Turn}
 use Rattle.sim_base.proofs.ExampleMatches.{order}
-use Rattle.sim_turn_laws.specs.CommandLaws.{IsOrderOf}
+use Rattle.sim_laws.specs.CommandLaws.{IsOrderOf}
 use Rattle.sim_plain.specs.declared.message.UpOf.TheVariants as up
 use Rattle.sim_plain.specs.declared.message.DownOf.TheVariants as down
 use Rattle.sim_plain.specs.declared.status.Status.{Status}

@@ -11,7 +11,7 @@ use Rattle.sim_base.specs.declared.state.State.{State}
 use Rattle.sim_base.specs.Spelling.{spelling}
 use Rattle.sim_plain.specs.declared.status.Status.TheVariants.{Out, Waiting, In}
 use Rattle.sim_plain.specs.Server.{is_in}
-use Rattle.sim_turn_laws.specs.CommandLaws.{IsOrderOf}
+use Rattle.sim_laws.specs.CommandLaws.{IsOrderOf}
 use Rattle.sim_plain_session.specs.Bytes.{downs_of}
 use Rattle.sim_plain_session.specs.Clients.{Down, Seat, Off, Joining, On, orders}
 use Rattle.sim_plain_session.specs.Pasts.{is_client}

@@ -2,7 +2,7 @@
 //!
 //! Each fact has a name of its own in `specs/`, and each function, which does nothing, promises some of them of the session
 //! over every list of steps. They are proved together, by one invariant that each step keeps. It stands on the definition
-//! of a session (`sim_plain_session`) and on the laws of turns (`sim_turn_laws`).
+//! of a session (`sim_plain_session`) and on the laws of turns (`sim_laws`).
 //!
 //! - `standing`: whose past is valid, and who stands where. This excludes a cut after which old messages still come, and a
 //!   server that takes a client's word for who gives a command.

@@ -10,7 +10,7 @@ use Rattle.sim_diff.specs.declared.place.Place.{Place}
 use Rattle.sim_diff.specs.Difference.{difference_of}
 use Rattle.sim_diff.proofs.LeastPlace.{difference_of-none}
 use Rattle.sim_diff.proofs.OneSpelling.{same_bits-spelling, spelling-same, same-no_difference}
-use Rattle.sim_turn_laws.proofs.Turning.{after_counts_turns}
+use Rattle.sim_laws.proofs.Turning.{after_counts_turns}
 use Rattle.sim_plain_session.specs.Clients.{Phase, On, Seat}
 use Rattle.sim_session_laws.proofs.Runs.{holds_session}
 use Rattle.sim_session_laws.proofs.PastFacts.{unbent_agree}

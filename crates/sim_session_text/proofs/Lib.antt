@@ -4,3 +4,10 @@ pub mod Noticing
 pub mod Differing
 pub mod Seeing
 pub mod NextClients
+pub mod Beginning
+pub mod MoreSteps
+pub mod Coming
+pub mod HostTelling
+pub mod Loads
+pub mod Builds
+pub mod Stopping

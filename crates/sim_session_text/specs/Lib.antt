@@ -4,3 +4,6 @@ pub mod Pipes
 pub mod SessionText
 pub mod Laws
 pub mod Seen
+pub mod Rigs
+pub mod Starts
+pub mod Recording

@@ -11,7 +11,7 @@ use Rattle.sim_json.specs.Values.{list_of, two}
 use Rattle.sim_json.specs.Records.{records}
 use Rattle.sim_json.proofs.Readers.{next_some, and_then_some, map_some, then_some}
 use Rattle.sim_json.proofs.Reading.{numbered-length, numbered_from_records}
-use Rattle.sim_commands.specs.Commands.{id_in, template_in, ids_from, ids_of, point_of, three, walk_from, stop_from, attack_from, delete_from, place_from, train_from, resign_from, command_by, command_of}
+use Rattle.sim_json.specs.Commands.{id_in, template_in, ids_from, ids_of, point_of, three, walk_from, stop_from, attack_from, delete_from, place_from, train_from, resign_from, command_by, command_of}
 
 ids_of-few : (d : Data) (ids : List ℕ) → ids_of d ≡ Some ids → length ids ≤ 256
 ids_of-few d ids e =

@@ -11,7 +11,7 @@ use Rattle.sim_json.specs.Records.{numbered}
 use Rattle.sim_json.proofs.Readers.{next_some, and_then_some, if_some, natural_in-within}
 use Rattle.sim_json.proofs.Reading.{numbered-keeps}
 use Rattle.sim_setup.specs.Commands.{crowd, timed_from, timed_of, falls_at}
-use Rattle.sim_commands.specs.Commands.{command_of}
+use Rattle.sim_json.specs.Commands.{command_of}
 use Rattle.sim_setup.proofs.CommandIds.{command_of-few}
 use Rattle.sim_setup.proofs.Tally.{push_counted, both_same}
 

@@ -5,8 +5,8 @@ use Rattle.sim_base.specs.declared.setup.Timed.{Timed}
 use Rattle.sim_base.specs.Limits.{is_given}
 use Rattle.sim_json.specs.Values.{list_of, natural_in, front_two}
 use Rattle.sim_json.specs.Records.{next_or, numbered}
-use Rattle.sim_commands.specs.Commands.{command_of}
-use Rattle.sim_commands.specs.Memory.{command_takes}
+use Rattle.sim_json.specs.Commands.{command_of}
+use Rattle.sim_json.specs.Memory.{command_takes}
 use Rattle.sim_setup.specs.Refusals.{Refusal, coded, unless_at}
 
 -- how many commands a player has in a turn

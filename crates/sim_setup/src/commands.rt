@@ -1,4 +1,4 @@
-//! Codes 9 and 10 at the key `commands`: commands of turns and players, which `sim_commands` reads from their kinds on.
+//! Codes 9 and 10 at the key `commands`: commands of turns and players, which `sim_json` reads from their kinds on.
 
 ghost use Rattle.std.specs.Prelude.{◌≡◌, ◌≢◌, ◌<◌, ◌≤◌, ◌^◌, true, List, map, length, option_map, option_and_then, IfErr};
 ghost use Rattle.serde_json.specs.View.{view};
@@ -12,7 +12,7 @@ use crate::crowd::Crowd;
 use crate::fault::{SetupFault, refused};
 use serde_json::Value;
 use sim_base::{OutOfMemory, PlayerCommand, Timed, Timeds};
-use sim_commands::command_of;
+use sim_json::command_of;
 use sim_json::{front_two, list_of, natural_in};
 use std::alloc::Global;
 

@@ -4,7 +4,7 @@
 //! It promises that the answer is exactly that of its definition, that every setup meets the limits that the crates
 //! above count on, and that the index of a refusal is the least. It stands on `sim_base` for what a setup is, on
 //! `serde_json` for the text, on `md5` for the id of a match, on `sim_json` for values, on `sim_tree`, `sim_merge` and
-//! `sim_traits` for templates, and on `sim_commands` for commands.
+//! `sim_traits` for templates, and on `sim_json` for commands.
 //!
 //! One module has the passes of one code or key, in the order in which they run:
 //!

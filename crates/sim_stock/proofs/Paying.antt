@@ -12,8 +12,8 @@ use Rattle.sim_base.specs.Validity.{IsState, IsKnownRow, IsValid, IsValidRow}
 use Rattle.sim_base.specs.Rows.{template_of}
 use Rattle.sim_base.specs.Commands.{commanded}
 use Rattle.sim_base.specs.Turn.{first_state, turn, Turn, Past, from, after, orders_at}
-use Rattle.sim_turn_laws.specs.CommandLaws.{IsOrderOf}
-use Rattle.sim_turn_laws.proofs.Turning.{turn_is_counted, turn_keeps_valid}
+use Rattle.sim_laws.specs.CommandLaws.{IsOrderOf}
+use Rattle.sim_laws.proofs.Turning.{turn_is_counted, turn_keeps_valid}
 use Rattle.sim_stock.specs.declared.stocks.Stocks.{Stocks}
 use Rattle.sim_stock.specs.declared.deed.Deed.{Deed}
 use Rattle.sim_stock.specs.declared.deed.Deed.TheVariants.{Tribute, Barter}

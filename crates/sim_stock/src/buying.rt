@@ -3,7 +3,7 @@
 ghost use Rattle.std.specs.Prelude.{◌≡◌, ◌≤◌, true, All, OnOk, fold, if◌then◌else◌};
 ghost use Rattle.sim_base.specs.Commands.{commanded};
 ghost use Rattle.sim_base.specs.Limits.{IsFrom};
-ghost use Rattle.sim_turn_laws.specs.CommandLaws.{IsOrderOf};
+ghost use Rattle.sim_laws.specs.CommandLaws.{IsOrderOf};
 ghost use Rattle.sim_board.specs.BoardWords.{setup_in, state_in, systems, IsWhole, AreKept};
 ghost use Rattle.sim_stock.specs.PaidTurns.{books_of, affords, made_row, obeyed, paid};
 ghost use Rattle.sim_stock.specs.Stocks.{total};

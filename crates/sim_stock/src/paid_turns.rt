@@ -3,7 +3,7 @@
 ghost use Rattle.std.specs.Prelude.{◌≡◌, ◌+◌, ◌^◌, ◌<◌, ◌≤◌, All, OnOk};
 ghost use Rattle.sim_base.specs.Turn.{turn as turn_by};
 ghost use Rattle.sim_base.specs.Validity.{IsValid};
-ghost use Rattle.sim_turn_laws.specs.CommandLaws.{IsOrderOf};
+ghost use Rattle.sim_laws.specs.CommandLaws.{IsOrderOf};
 ghost use Rattle.sim_board.specs.BoardWords.{setup_in, state_in, systems, IsWhole, AreKept};
 ghost use Rattle.sim_stock.specs.Economies.{IsEconomy};
 ghost use Rattle.sim_stock.specs.PaidTurns.{books_of, kept_in, paid_turn as paid_turn_by, settled};

@@ -8,7 +8,7 @@ use Rattle.std.proofs.lemmas.Option.{slice_get-get_or}
 use Rattle.sim_base.specs.declared.command.PlayerCommand.{PlayerCommand}
 use Rattle.sim_base.specs.declared.setup.Setup.{Setup}
 use Rattle.sim_base.specs.Spelling.{digest}
-use Rattle.sim_host.specs.Recording.{released_turns}
+use Rattle.sim_session_text.specs.Recording.{released_turns}
 use Rattle.sim_lists.specs.declared.step_list.StepList.{StepList}
 use Rattle.sim_play.specs.Logs.{state_after, digests_after, log_after, match_turns}
 use Rattle.sim_replay.specs.declared.apart.Apart.{Apart}

@@ -7,7 +7,7 @@ use Rattle.sim_base.specs.declared.memory.OutOfMemory.{OutOfMemory as NoMemory}
 use Rattle.sim_base.specs.declared.setup.Setup.{Setup}
 use Rattle.sim_base.specs.declared.state.State.{State}
 use Rattle.sim_base.specs.Turn.{after, own_turns, turns_in}
-use Rattle.sim_turn_laws.proofs.Turning.{after_counts_turns}
+use Rattle.sim_laws.proofs.Turning.{after_counts_turns}
 use Rattle.sim_play.specs.Lines.{rejoin_text}
 use Rattle.sim_play.specs.Realms.{TellsRealm}
 use Rattle.sim_territory.specs.Realms.{realm_of}

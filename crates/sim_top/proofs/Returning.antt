@@ -17,7 +17,7 @@ use Rattle.sim_system.specs.declared.rig.Rig.{Rig}
 use Rattle.sim_session.specs.SessionWords.{rigs_by}
 use Rattle.sim_session_text.specs.SessionText.{session_of}
 use Rattle.sim_play.specs.Lines.{end_from}
-use Rattle.sim_host.specs.Rigs.{AllStand, AllBuiltAtMost, builds_of}
+use Rattle.sim_session_text.specs.Rigs.{AllStand, AllBuiltAtMost, builds_of}
 use Rattle.sim_top.specs.Hosting.{OfSession, IsHostedBy, OfRecord, IsRecordedBy}
 use Rattle.sim_top.specs.Making.{IsMade, IsMadeAs, IsSettled, outcome_made, status_made}
 use Rattle.sim_top.specs.Outcome.{Outcome, bytes_in, session_match_in, steps_in}

@@ -7,13 +7,13 @@ use Rattle.sim_system.specs.declared.system.System.{Ghosts}
 use Rattle.sim_system.specs.declared.rig.Rig.{Rig}
 use Rattle.sim_system.specs.Meanings.{Meaning, AreFed}
 use Rattle.sim_client.specs.StageWords.{AreCleared, nowhere}
-use Rattle.sim_host.specs.Recording.{released_turns}
+use Rattle.sim_session_text.specs.Recording.{released_turns}
 use Rattle.sim_play.specs.Logs.{state_after}
 use Rattle.sim_lists.specs.declared.step_list.StepList.{StepList}
 use Rattle.sim_lists.specs.StepLists.{IsStepList}
 use Rattle.sim_session.specs.SessionWords.{rigs_by}
 use Rattle.sim_session_text.specs.SessionText.{session_of}
-use Rattle.sim_host.specs.Rigs.{AllStand, AllBuiltAtMost, builds_of}
+use Rattle.sim_session_text.specs.Rigs.{AllStand, AllBuiltAtMost, builds_of}
 use Rattle.sim_top.specs.Words.{Asked, to_session, to_record}
 use Rattle.sim_top.specs.Outcome.{session_match_in, steps_in}
 

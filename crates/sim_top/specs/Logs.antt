@@ -5,7 +5,7 @@ use Rattle.std.specs.Io.KnownBytes.{Appends}
 use Rattle.sim_base.specs.declared.command.PlayerCommand.{PlayerCommand}
 use Rattle.sim_base.specs.declared.setup.Setup.{Setup}
 use Rattle.sim_base.specs.Spelling.{digest}
-use Rattle.sim_host.specs.Recording.{released_turns}
+use Rattle.sim_session_text.specs.Recording.{released_turns}
 use Rattle.sim_play.specs.Logs.{log_after, match_turns, state_after}
 use Rattle.sim_replay.specs.declared.log.Log.{Log}
 use Rattle.sim_replay.specs.Logs.{IsLog, text_of_log}

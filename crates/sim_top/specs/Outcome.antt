@@ -43,7 +43,7 @@ use Rattle.sim_vision.specs.After.{joined_at}
 use Rattle.sim_vision.specs.Joining.{refusal_of}
 use Rattle.sim_vision.specs.Vision.{Vision, cells_in}
 use Rattle.sim_trial.specs.Trial.{text_of_trial}
-use Rattle.sim_host.specs.Recording.{released_turns}
+use Rattle.sim_session_text.specs.Recording.{released_turns}
 use Rattle.sim_play.specs.Logs.{log_after, digests_after, match_turns}
 use Rattle.sim_replay.specs.declared.log.Log.{Log}
 use Rattle.sim_replay.specs.declared.apart.Apart.{Apart}

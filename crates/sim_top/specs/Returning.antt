@@ -11,7 +11,7 @@ use Rattle.sim_system.specs.RigWords.{systems_by}
 use Rattle.sim_lists.specs.declared.step_list.StepList.{StepList}
 use Rattle.sim_lists.specs.StepLists.{IsStepList}
 use Rattle.sim_session.specs.SessionWords.{rigs_by}
-use Rattle.sim_host.specs.Rigs.{AllBuiltAtMost, builds_of}
+use Rattle.sim_session_text.specs.Rigs.{AllBuiltAtMost, builds_of}
 use Rattle.sim_top.specs.Hosting.{OfSession, IsHostedBy, OfRecord, IsRecordedBy, builds_with_log}
 use Rattle.sim_top.specs.Outcome.{session_match_in, steps_in}
 use Rattle.sim_top.specs.Reads.{HasEnded}

@@ -9,8 +9,8 @@ use Rattle.sim_base.specs.Commands.{commanded}
 use Rattle.sim_base.specs.Limits.{IsSetup}
 use Rattle.sim_base.specs.Validity.{IsValid}
 use Rattle.sim_base.specs.Turn.{turn, Turn, orders_at}
-use Rattle.sim_turn_laws.specs.CommandLaws.{IsOrderOf}
-use Rattle.sim_turn_laws.proofs.Turning.{turn_is_counted, turn_keeps_valid, own_turns_are_of_players}
+use Rattle.sim_laws.specs.CommandLaws.{IsOrderOf}
+use Rattle.sim_laws.proofs.Turning.{turn_is_counted, turn_keeps_valid, own_turns_are_of_players}
 
 -- commands are no turn
 pub orders_keep_turn : (setup : Setup) (state : State) (orders : List PlayerCommand) → (fold (commanded setup) state orders).turn ≡ state.turn

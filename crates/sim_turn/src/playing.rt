@@ -5,7 +5,7 @@ ghost use Rattle.sim_base.specs.declared.setup.Timed.{Timed as AnyTimed};
 ghost use Rattle.sim_base.specs.Commands.{commanded};
 ghost use Rattle.sim_base.specs.Turn.{from, own_turns};
 ghost use Rattle.sim_base.specs.Validity.{IsValid};
-ghost use Rattle.sim_turn_laws.specs.CommandLaws.{IsOrderOf};
+ghost use Rattle.sim_laws.specs.CommandLaws.{IsOrderOf};
 ghost use Rattle.sim_board.specs.BoardWords.{setup_in, state_in, systems, IsWhole, AreKept};
 
 use crate::due::due_at;

@@ -5,7 +5,7 @@ ghost use Rattle.sim_base.specs.Commands.{commanded};
 ghost use Rattle.sim_base.specs.Aim.{aimed};
 ghost use Rattle.sim_base.specs.Move.{moved};
 ghost use Rattle.sim_base.specs.Hit.{hit as hit_by, gone as gone_by};
-ghost use Rattle.sim_turn_laws.specs.CommandLaws.{IsOrderOf};
+ghost use Rattle.sim_laws.specs.CommandLaws.{IsOrderOf};
 ghost use Rattle.sim_board.specs.BoardWords.{setup_in, state_in, systems, IsWhole, AreKept};
 
 use sim_attack::{aim_changes, gone_changes, hit_changes};

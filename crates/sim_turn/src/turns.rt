@@ -7,7 +7,7 @@ ghost use Rattle.sim_base.specs.Hit.{hit as hit_by, gone};
 ghost use Rattle.sim_base.specs.Move.{moved};
 ghost use Rattle.sim_base.specs.Turn.{turn as turn_by};
 ghost use Rattle.sim_base.specs.Validity.{IsValid};
-ghost use Rattle.sim_turn_laws.specs.CommandLaws.{IsOrderOf};
+ghost use Rattle.sim_laws.specs.CommandLaws.{IsOrderOf};
 ghost use Rattle.sim_board.specs.BoardWords.{setup_in, state_in, systems, IsWhole, AreKept};
 
 use crate::rest::all_rest;

@@ -9,7 +9,7 @@ use sim_base::{Change, Fixed, OutOfMemory, Point};
 use sim_board::Board;
 use sim_census::Census;
 use sim_ground::Ground;
-use sim_lookup::{find_row, is_inside};
+use sim_plans::{find_row, is_inside};
 use sim_range::Range;
 use sim_setup::setup_of;
 use sim_system::{Rig, System};

@@ -9,7 +9,7 @@ ghost use Rattle.sim_board.specs.BoardWords.{IsWhole};
 
 use sim_base::{Change, OutOfMemory, Setup, State};
 use sim_board::Board;
-use sim_lookup::{find_row, is_inside};
+use sim_plans::{find_row, is_inside};
 use sim_system::{Answer, Ask, System};
 
 // Whether a row is alive, and the owner is one of the match.

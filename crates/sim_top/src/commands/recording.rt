@@ -3,8 +3,8 @@
 ghost use Rattle.std.specs.Prelude.{◌≡◌, ◌≤◌, All, OnOk, codes, drop, length, vec_capacity, Some};
 ghost use Rattle.sim_base.specs.Limits.{IsSetup};
 ghost use Rattle.sim_client.specs.StageWords.{AreCleared};
-ghost use Rattle.sim_host.specs.Recording.{released_turns as turns_released};
-ghost use Rattle.sim_host.specs.Rigs.{AllBuiltAtMost};
+ghost use Rattle.sim_session_text.specs.Recording.{released_turns as turns_released};
+ghost use Rattle.sim_session_text.specs.Rigs.{AllBuiltAtMost};
 ghost use Rattle.sim_lists.specs.StepLists.{IsStepList};
 ghost use Rattle.sim_play.specs.Logs.{log_after as log_of_turns, state_after};
 ghost use Rattle.sim_session.specs.SessionWords.{rigs_of};
@@ -17,7 +17,7 @@ ghost use Rattle.sim_top.specs.Outcome.{logged_as};
 ghost use Rattle.sim_top.specs.Returning.{RigsCameBack};
 ghost use Rattle.sim_top.specs.Rigs.{AreEight, HasPlayed, OfFirsts};
 ghost use Rattle.sim_top.specs.Words.{to_record};
-ghost use Rattle.sim_turn_laws.specs.CommandLaws.{IsOrderOf};
+ghost use Rattle.sim_laws.specs.CommandLaws.{IsOrderOf};
 
 use super::Answer;
 use super::logs::stored_log;
@@ -25,7 +25,7 @@ use crate::inputs::{read_session_match, read_steps};
 use crate::rigs::{put_first, take_first};
 use crate::stop::Stop;
 use sim_base::Setup;
-use sim_host::released_turns;
+use sim_session_text::released_turns;
 use sim_lists::StepList;
 use sim_orders::OrderTable;
 use sim_play::log_after;

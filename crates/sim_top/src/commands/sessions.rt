@@ -3,7 +3,7 @@
 ghost use Rattle.std.specs.Prelude.{◌≡◌, All, OnOk, length, drop, vec_capacity, Some};
 ghost use Rattle.sim_base.specs.Limits.{IsSetup};
 ghost use Rattle.sim_client.specs.StageWords.{AreCleared};
-ghost use Rattle.sim_host.specs.Rigs.{AllStand, AllBuiltAtMost, builds_of};
+ghost use Rattle.sim_session_text.specs.Rigs.{AllStand, AllBuiltAtMost, builds_of};
 ghost use Rattle.sim_lists.specs.StepLists.{IsStepList};
 ghost use Rattle.sim_session.specs.SessionWords.{rigs_of};
 ghost use Rattle.sim_session_text.specs.SessionText.{session_of, session_text as text_of_session};
@@ -20,7 +20,7 @@ use crate::inputs::{read_session_match, read_steps};
 use crate::status::Status;
 use crate::stop::Stop;
 use sim_base::Setup;
-use sim_host::session_text;
+use sim_session_text::session_text;
 use sim_lists::StepList;
 use sim_orders::OrderTable;
 use sim_store::Shelf;

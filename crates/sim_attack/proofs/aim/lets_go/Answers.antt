@@ -1,6 +1,6 @@
 -- The target that is found has an owner of the match and stands inside, as the row does.
 use Rattle.std.proofs.Common.{sym}
-use Rattle.sim_lookup.proofs.Bounds.{found_owned, found_placed, row_placed}
+use Rattle.sim_plans.proofs.Bounds.{found_owned, found_placed, row_placed}
 use Rattle.sim_attack.proofs.aim.lets_go.Goals as goal
 
 pub is_enemy_of-requires-clause-other : goal.is_enemy_of-requires-clause-other

@@ -1,6 +1,6 @@
 -- A row that is found stands inside, and the range is within the limits.
 use Rattle.std.proofs.Common.{sym}
-use Rattle.sim_lookup.proofs.Bounds.{found_placed, arms_limited}
+use Rattle.sim_plans.proofs.Bounds.{found_placed, arms_limited}
 use Rattle.sim_attack.proofs.aim.may_take.Goals as goal
 
 pub is_near-requires-clause-from : goal.is_near-requires-clause-from

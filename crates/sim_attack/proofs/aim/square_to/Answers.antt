@@ -1,5 +1,5 @@
 use Rattle.std.proofs.Common.{sym}
-use Rattle.sim_lookup.proofs.Bounds.{found_placed}
+use Rattle.sim_plans.proofs.Bounds.{found_placed}
 use Rattle.sim_attack.proofs.aim.square_to.Goals as goal
 
 pub square-requires-clause-a : goal.square-requires-clause-a

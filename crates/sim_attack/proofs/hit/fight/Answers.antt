@@ -6,7 +6,7 @@ use Rattle.sim_base.specs.Numbers.{next_word}
 use Rattle.sim_base.specs.Rows.{row_of, arms_of}
 use Rattle.sim_base.specs.Filters.{is_near}
 use Rattle.sim_base.specs.Hit.{Hit, lands, taken, resist_of}
-use Rattle.sim_lookup.specs.Found.{found}
+use Rattle.sim_plans.specs.Found.{found}
 use Rattle.sim_attack.specs.Fights.{AreTaken}
 use Rattle.sim_attack.proofs.Sums.{hit_at, fought_lands}
 use Rattle.sim_attack.proofs.hit.fight.Goals as goal

@@ -1,7 +1,7 @@
 -- What is told of a state is in range.
 use Rattle.std.proofs.Common.{sym, ap, ◌∙◌, subst}
 use Rattle.sim_system.specs.Ranges.{AreInRange}
-use Rattle.sim_fact_laws.proofs.InRange.{state_in_range}
+use Rattle.sim_scene.proofs.InRange.{state_in_range}
 use Rattle.sim_system.specs.Meanings.{Meaning}
 use Rattle.sim_board.proofs.Counting.{not_built, built_once}
 use Rattle.sim_board.proofs.build.build.Goals as goal

@@ -1,6 +1,6 @@
 -- Those who aimed at the row are let go, and then it leaves.
 use Rattle.std.proofs.Common.{◌∙◌}
-use Rattle.sim_lookup.proofs.Bounds.{found_placed}
+use Rattle.sim_plans.proofs.Bounds.{found_placed}
 use Rattle.sim_board.proofs.Feeding.{all_watch, removal_may_hear, removal_fed}
 use Rattle.sim_board.proofs.post.removed.Goals as goal
 

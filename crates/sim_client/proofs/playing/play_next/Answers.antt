@@ -3,7 +3,7 @@ use Rattle.std.proofs.Common.{[], ◌+◌, subst, ◌∙◌}
 use Rattle.std.proofs.lemmas.List.Elements.{All-nil}
 use Rattle.sim_base.specs.declared.setup.Setup.{Setup}
 use Rattle.sim_base.specs.Validity.{IsValid}
-use Rattle.sim_turn_laws.specs.CommandLaws.{IsOrderOf}
+use Rattle.sim_laws.specs.CommandLaws.{IsOrderOf}
 use Rattle.sim_client.proofs.Knowing.{players_put}
 use Rattle.sim_client.proofs.playing.play_next.Goals as goal
 

@@ -1,7 +1,7 @@
 -- The target stands inside, and its square is tested against a range within the limits.
 use Rattle.std.proofs.Common.{◌≡◌, Some, sym, rules}
 use Rattle.sim_base.specs.Rows.{arms_of}
-use Rattle.sim_lookup.proofs.Bounds.{found_placed, found_inside, arms_limited}
+use Rattle.sim_plans.proofs.Bounds.{found_placed, found_inside, arms_limited}
 use Rattle.sim_motion.proofs.chase.chase_of.Goals as goal
 
 pub is_near-requires-clause-from : goal.is_near-requires-clause-from

@@ -4,7 +4,7 @@ use Rattle.sim_base.specs.declared.place.Point.{Point}
 use Rattle.sim_base.specs.Places.{IsPlaced}
 use Rattle.sim_base.specs.Filters.{field_of}
 use Rattle.sim_base.specs.Ways.{Way}
-use Rattle.sim_lookup.proofs.Bounds.{ground, way_placed}
+use Rattle.sim_plans.proofs.Bounds.{ground, way_placed}
 use Rattle.sim_motion.proofs.moves.go.Goals as goal
 
 pub along-requires-clause-way : goal.along-requires-clause-way

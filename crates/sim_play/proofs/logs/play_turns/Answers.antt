@@ -8,7 +8,7 @@ use Rattle.sim_base.specs.Turn.{turn}
 use Rattle.sim_base.specs.Validity.{IsValid}
 use Rattle.sim_system.specs.RigWords.{systems_by}
 use Rattle.sim_board.specs.BoardWords.{setup_in, state_in, rig_in}
-use Rattle.sim_turn_laws.specs.CommandLaws.{IsOrderOf}
+use Rattle.sim_laws.specs.CommandLaws.{IsOrderOf}
 use Rattle.sim_play.specs.Logs.{state_after}
 use Rattle.sim_play.proofs.LogTurns.{digests_to, digests_more, logged_turn, state_more}
 use Rattle.sim_play.proofs.PaidOnes.{kept_so_far}

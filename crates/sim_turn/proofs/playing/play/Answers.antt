@@ -6,8 +6,8 @@ use Rattle.sim_base.specs.declared.state.State.{State}
 use Rattle.sim_base.specs.Commands.{commanded}
 use Rattle.sim_base.specs.Validity.{IsValid}
 use Rattle.sim_base.specs.Turn.{turn, from, own_turns, orders_at}
-use Rattle.sim_turn_laws.specs.CommandLaws.{IsOrderOf}
-use Rattle.sim_turn_laws.proofs.Turning.{turn_is_counted, turn_keeps_valid}
+use Rattle.sim_laws.specs.CommandLaws.{IsOrderOf}
+use Rattle.sim_laws.proofs.Turning.{turn_is_counted, turn_keeps_valid}
 use Rattle.sim_board.specs.BoardWords.{setup_in, state_in}
 use Rattle.sim_turn.proofs.Counting.{orders_keep_turn, joined, players_at}
 use Rattle.sim_turn.proofs.Keeping.{kept_on}

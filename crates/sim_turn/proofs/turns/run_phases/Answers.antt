@@ -4,7 +4,7 @@ use Rattle.sim_base.specs.declared.state.State.{State}
 use Rattle.sim_base.specs.Aim.{aimed}
 use Rattle.sim_base.specs.Move.{moved}
 use Rattle.sim_base.specs.Hit.{hit}
-use Rattle.sim_turn_laws.proofs.Turning.{gone_keeps_turn}
+use Rattle.sim_laws.proofs.Turning.{gone_keeps_turn}
 use Rattle.sim_board.specs.BoardWords.{setup_in, state_in}
 use Rattle.sim_turn.proofs.Counting.{still_below}
 use Rattle.sim_turn.proofs.turns.run_phases.Goals as goal

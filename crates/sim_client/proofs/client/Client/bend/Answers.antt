@@ -3,7 +3,7 @@ use Rattle.std.proofs.Common.{◌≡◌, ◌∙◌, ap, sym, subst}
 use Rattle.sim_base.specs.declared.setup.Setup.{Setup}
 use Rattle.sim_base.specs.Turn.{bent}
 use Rattle.sim_base.specs.Validity.{IsValid}
-use Rattle.sim_turn_laws.proofs.Turning.{bend_keeps_valid}
+use Rattle.sim_laws.proofs.Turning.{bend_keeps_valid}
 use Rattle.sim_client.specs.declared.stage.Stage.{Stage}
 use Rattle.sim_client.specs.StageWords.{IsReady}
 use Rattle.std.specs.Prelude.{Some}

@@ -5,7 +5,7 @@ use Rattle.sim_base.specs.declared.command.PlayerCommand.{PlayerCommand}
 use Rattle.sim_base.specs.declared.setup.Setup.{Setup}
 use Rattle.sim_base.specs.Turn.{orders_at}
 use Rattle.sim_board.specs.BoardWords.{setup_in, state_in}
-use Rattle.sim_turn_laws.specs.CommandLaws.{IsOrderOf}
+use Rattle.sim_laws.specs.CommandLaws.{IsOrderOf}
 use Rattle.sim_stock.specs.PaidTurns.{books_of, paid_turn}
 use Rattle.sim_play.proofs.PaidOnes.{own_orders}
 use Rattle.sim_play.proofs.market.Market.play_turn.Goals as goal

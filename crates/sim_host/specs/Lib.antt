@@ -1,3 +1,0 @@
-pub mod Rigs
-pub mod Starts
-pub mod Recording

@@ -1,0 +1,18 @@
+-- The ids so far, and as many as there were items. Where an item is an id, the first one is.
+use Rattle.std.proofs.Common.{◌≡◌, ◌+◌, ◌≤◌, true, map, length, []}
+use Rattle.serde_json.specs.View.{view}
+use Rattle.sim_json.specs.Records.{records}
+use Rattle.sim_json.specs.Commands.{id_in}
+use Rattle.sim_json.specs.Memory.{begins_with_id}
+use Rattle.sim_json.proofs.ids.ids_from.Given as goal
+
+abbrev pub invariant-loop-rest : goal.invariant-loop-rest
+invariant-loop-rest l = record {
+  same : records (λ done. id_in) l.found.items (map view l.rest) ≡ records (λ done. id_in) [] (map view l.items);
+  count : length l.found.items + length l.rest ≡ length l.items;
+  few : length l.items ≤ 256;
+  first : begins_with_id (map view l.rest) ≡ true → begins_with_id (map view l.items) ≡ true;
+}
+
+abbrev pub decreases-loop-rest : goal.decreases-loop-rest
+decreases-loop-rest l = length l.rest

@@ -1,0 +1,172 @@
+//! Commands by their kinds. Each reader is handed what follows the kind.
+
+ghost use Rattle.std.specs.Prelude.{◌≡◌, map, option_map, IfOk, IfErr, IfSome, true};
+ghost use Rattle.serde_json.specs.View.{view};
+ghost use Rattle.sim_base.specs.Limits.{HasFewIds};
+ghost use Rattle.sim_json.specs.Commands.{point_of as point_of_data, three as three_of, walk_from as walk_from_data, stop_from as stop_from_data, attack_from as attack_from_data, delete_from as delete_from_data, place_from as place_from_data, train_from as train_from_data, resign_from as resign_from_data, command_by as command_by_kind, command_of as command_of_data};
+ghost use Rattle.sim_json.specs.Memory.{alone_take, aimed_take, sent_take, kind_takes, command_takes};
+
+use crate::ids::{id_in, ids_of, template_in};
+use serde_json::Value;
+use sim_base::{Command, OutOfMemory, Point};
+use crate::{fixed, two};
+use std::alloc::Global;
+
+/// The command that a list spells, from its kind on, or None where it spells none.
+#[tactic(auto, unfolding(crate::specs::Commands::command_of, crate::specs::Memory::command_takes))]
+pub fn command_of(alloc: Global, items: &[Value]) -> Result<Option<Command>, OutOfMemory>
+    ensures value { IfOk result (λ command. command ≡ command_of_data (map view items.now)) }
+    ensures few { IfOk result (λ found. IfSome found HasFewIds) }
+    ensures memory { IfErr result (λ fault. command_takes (map view items.now) ≡ true) }
+{
+    match items {
+        [kind, rest @ ..] => match kind.as_str() {
+            Some(kind) => command_by(alloc, kind, rest),
+            None => Ok(None),
+        },
+        [] => Ok(None),
+    }
+}
+
+fn command_by(alloc: Global, kind: &str, rest: &[Value]) -> Result<Option<Command>, OutOfMemory>
+    ensures value { IfOk result (λ command. command ≡ command_by_kind kind.now (map view rest.now)) }
+    ensures few { IfOk result (λ found. IfSome found HasFewIds) }
+    ensures memory { IfErr result (λ fault. kind_takes kind.now (map view rest.now) ≡ true) }
+{
+    if kind == "walk" {
+        return walk_from(alloc, rest);
+    }
+    if kind == "stop" {
+        return stop_from(alloc, rest);
+    }
+    if kind == "attack" {
+        return attack_from(alloc, rest);
+    }
+    if kind == "delete" {
+        return delete_from(alloc, rest);
+    }
+    if kind == "place" {
+        return Ok(place_from(rest));
+    }
+    if kind == "train" {
+        return Ok(train_from(rest));
+    }
+    if kind == "resign" {
+        return Ok(resign_from(rest));
+    }
+    Ok(None)
+}
+
+fn walk_from(alloc: Global, rest: &[Value]) -> Result<Option<Command>, OutOfMemory>
+    ensures value { IfOk result (λ command. command ≡ walk_from_data (map view rest.now)) }
+    ensures few { IfOk result (λ found. IfSome found HasFewIds) }
+    ensures memory { IfErr result (λ fault. sent_take (map view rest.now) ≡ true) }
+{
+    let Some((ids, x, z)) = three(rest) else {
+        return Ok(None);
+    };
+    let Some(ids) = ids_of(alloc, ids)? else {
+        return Ok(None);
+    };
+    let Some(to) = point_of(x, z) else {
+        return Ok(None);
+    };
+    Ok(Some(Command::Walk { ids, to }))
+}
+
+fn stop_from(alloc: Global, rest: &[Value]) -> Result<Option<Command>, OutOfMemory>
+    ensures value { IfOk result (λ command. command ≡ stop_from_data (map view rest.now)) }
+    ensures few { IfOk result (λ found. IfSome found HasFewIds) }
+    ensures memory { IfErr result (λ fault. alone_take (map view rest.now) ≡ true) }
+{
+    match rest {
+        [ids] => {
+            let Some(ids) = ids_of(alloc, ids)? else {
+                return Ok(None);
+            };
+            Ok(Some(Command::Stop { ids }))
+        }
+        _ => Ok(None),
+    }
+}
+
+fn attack_from(alloc: Global, rest: &[Value]) -> Result<Option<Command>, OutOfMemory>
+    ensures value { IfOk result (λ command. command ≡ attack_from_data (map view rest.now)) }
+    ensures few { IfOk result (λ found. IfSome found HasFewIds) }
+    ensures memory { IfErr result (λ fault. aimed_take (map view rest.now) ≡ true) }
+{
+    let Some((ids, target)) = two(rest) else {
+        return Ok(None);
+    };
+    let Some(ids) = ids_of(alloc, ids)? else {
+        return Ok(None);
+    };
+    let Some(target) = id_in(target) else {
+        return Ok(None);
+    };
+    Ok(Some(Command::Attack { ids, target }))
+}
+
+fn delete_from(alloc: Global, rest: &[Value]) -> Result<Option<Command>, OutOfMemory>
+    ensures value { IfOk result (λ command. command ≡ delete_from_data (map view rest.now)) }
+    ensures few { IfOk result (λ found. IfSome found HasFewIds) }
+    ensures memory { IfErr result (λ fault. alone_take (map view rest.now) ≡ true) }
+{
+    match rest {
+        [ids] => {
+            let Some(ids) = ids_of(alloc, ids)? else {
+                return Ok(None);
+            };
+            Ok(Some(Command::Delete { ids }))
+        }
+        _ => Ok(None),
+    }
+}
+
+fn place_from(rest: &[Value]) -> Option<Command>
+    ensures value { result ≡ place_from_data (map view rest.now) }
+    ensures few { IfSome result HasFewIds }
+{
+    let (template, x, z) = three(rest)?;
+    let template = template_in(template)?;
+    let at = point_of(x, z)?;
+    Some(Command::Place { template, at })
+}
+
+fn train_from(rest: &[Value]) -> Option<Command>
+    ensures value { result ≡ train_from_data (map view rest.now) }
+    ensures few { IfSome result HasFewIds }
+{
+    let (building, template) = two(rest)?;
+    let building = id_in(building)?;
+    let template = template_in(template)?;
+    Some(Command::Train { building, template })
+}
+
+fn resign_from(rest: &[Value]) -> Option<Command>
+    ensures value { result ≡ resign_from_data (map view rest.now) }
+    ensures few { IfSome result HasFewIds }
+{
+    match rest {
+        [] => Some(Command::Resign),
+        _ => None,
+    }
+}
+
+/// The three items of a list of exactly three.
+pub fn three(items: &[Value]) -> Option<(&Value, &Value, &Value)>
+    ensures { option_map (λ p. (view p.0.now, view p.1.now, view p.2.now)) result ≡ three_of (map view items.now) }
+{
+    match items {
+        [a, b, c] => Some((a, b, c)),
+        _ => None,
+    }
+}
+
+fn point_of(x: &Value, z: &Value) -> Option<Point>
+    ensures { result ≡ point_of_data (view x.now) (view z.now) }
+{
+    let x = fixed(x)?;
+    let z = fixed(z)?;
+    Some(Point { x, z })
+}

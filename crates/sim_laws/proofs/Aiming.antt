@@ -1,0 +1,62 @@
+-- The phase in which fighters aim keeps a state valid.
+use Rattle.std.proofs.Common.{◌≡◌, ℕ, Bool, true, false, cond, not, List, [], ◌∷◌, filter, Option, Some, None, refl, subst, inl, inr}
+use Rattle.std.specs.Prelude.{is_some, unwrap_or, ◌==◌, ◌&&◌}
+use Rattle.std.proofs.lemmas.Bool.{eqb-false, not-true, cond_both, and_parts}
+use Rattle.sim_base.specs.declared.template.Template.{Template}
+use Rattle.sim_base.specs.declared.template.Arms.{Arms}
+use Rattle.sim_base.specs.declared.setup.Setup.{Setup}
+use Rattle.sim_base.specs.declared.state.Row.{Row}
+use Rattle.sim_base.specs.declared.state.State.{State}
+use Rattle.sim_base.specs.Least.{least_of}
+use Rattle.sim_base.specs.Rows.{id_of, row_of, target_of, arms_of, in_mask, enemies_of}
+use Rattle.sim_base.specs.Filters.{is_near, within, seen}
+use Rattle.sim_base.specs.Validity.{IsValidRow, IsState, has_health}
+use Rattle.sim_base.specs.Changes.{released}
+use Rattle.sim_base.specs.Aim.{lets_go, with_releases, square_to, may_take, choices, target_for, is_idle, looking, with_targets, aimed}
+use Rattle.sim_laws.proofs.Members.{Has, Has-of_map}
+use Rattle.sim_laws.proofs.LeastMember.{least_of-some}
+use Rattle.sim_laws.proofs.Rows.{Has-of_filter, has_health_of}
+use Rattle.sim_laws.proofs.RowWise.{Stays, mapped_is_state}
+use Rattle.sim_laws.proofs.Removing.{IsTarget, same_stays, aimed_at_stays, released_stays}
+
+-- whom a row sees is another row that has health
+seen_is_target : (setup : Setup) (state : State) (row : Row) (arms : Arms) (id : ℕ) → Has (seen setup state row arms) id → IsTarget state.rows row id
+seen_is_target setup state row arms id h =
+    let (near, other) = Has-of_filter (λ (n : ℕ). not (n == row.id)) (within state row.at arms.vision (enemies_of setup row.owner)) id h in
+    let test : Row → Bool = λ (q : Row). is_some q.health && in_mask (enemies_of setup row.owner) q.owner && is_near q.at row.at arms.vision in
+    let (q, m, e) = Has-of_map id_of (filter test state.rows) id near in
+    let (k, passes) = Has-of_filter test state.rows q m in
+    let (first, rest) = and_parts (is_some q.health && in_mask (enemies_of setup row.owner) q.owner) (is_near q.at row.at arms.vision) passes in
+    let (some, enemy) = and_parts (is_some q.health) (in_mask (enemies_of setup row.owner) q.owner) first in
+    inr (eqb-false id row.id (not-true (id == row.id) other), subst (λ (n : ℕ). has_health state.rows n ≡ true) e (has_health_of state.rows q k some))
+
+pub target_for_is_target : (setup : Setup) (state : State) (row : Row) (arms : Arms) → IsTarget state.rows row (target_for setup state row arms)
+target_for_is_target setup state row arms = by (least_of key (choices setup state row arms)) refl
+  where
+    key : ℕ → List ℕ
+    key id = square_to state row id ∷ id ∷ []
+
+    by : (o : Option ℕ) → least_of (λ id. square_to state row id ∷ id ∷ []) (choices setup state row arms) ≡ o → IsTarget state.rows row (unwrap_or o 0)
+    by None e = inl refl
+    by (Some id) e =
+        let chosen = (least_of-some (λ id. square_to state row id ∷ id ∷ []) (choices setup state row arms) id e).member in
+        seen_is_target setup state row arms id ((Has-of_filter (may_take state row arms) (seen setup state row arms) id chosen).0)
+
+module _ (least : ℕ) (setup : Setup) (state : State) (valid : IsState least setup state) where
+  pub with_releases_is_state : IsState least setup (with_releases setup state)
+  with_releases_is_state =
+      mapped_is_state least least setup state (λ (row : Row). cond (lets_go setup row (row_of state (target_of row))) (released row) row) valid
+      (λ row t h e v. cond_both (lets_go setup row (row_of state (target_of row))) (released row) row (λ (new : Row). Stays least setup state.rows row new t)
+      (λ yes. released_stays least setup state.rows row t v) (λ no. same_stays least setup state.rows row t v))
+
+  pub with_targets_is_state : IsState least setup (with_targets setup state)
+  with_targets_is_state = mapped_is_state least least setup state (λ (row : Row). looking setup state row (is_idle row) (arms_of setup row)) valid (λ row t h e v. by row t v (is_idle row) (arms_of setup row))
+    where
+      by : (row : Row) (t : Template) → IsValidRow least setup state.rows row t → (idle : Bool) (arms : Option Arms)
+          → Stays least setup state.rows row (looking setup state row idle arms) t
+      by row t v true (Some arms) = aimed_at_stays least setup state.rows row t v (target_for setup state row arms) (target_for_is_target setup state row arms)
+      by row t v true None = same_stays least setup state.rows row t v
+      by row t v false arms = same_stays least setup state.rows row t v
+
+pub aimed_is_state : (least : ℕ) (setup : Setup) (state : State) → IsState least setup state → IsState least setup (aimed setup state)
+aimed_is_state least setup state valid = with_targets_is_state least setup (with_releases setup state) (with_releases_is_state least setup state valid)

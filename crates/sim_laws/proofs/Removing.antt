@@ -1,0 +1,286 @@
+-- A state stays valid where a row is removed. Where all rows whose health is spent are removed, the state is valid again.
+use Rattle.std.proofs.Common.{◌≡◌, ◌≢◌, ℕ, ◌<◌, ◌≤◌, Bool, true, false, cond, not, ℤ, pos, ◌≤ℤ◌, List, [], ◌∷◌, length, map, fold, filter, Option, Some, None, refl, sym, ap, ◌∙◌, subst, ◌⊎◌, ⊎_elim, inl, inr, arith}
+use Rattle.std.specs.Prelude.{is_some, IsTrue, option_map, unwrap_or, ◌==◌}
+use Rattle.std.specs.List.Sorted.{IsStrictlyIncreasing}
+use Rattle.std.proofs.lemmas.Bool.{eqb-false, ne_eqb, not-true, cond_both}
+use Rattle.std.proofs.lemmas.Int.{ints}
+use Rattle.std.proofs.lemmas.List.{length-map}
+use Rattle.std.proofs.lemmas.List.Elements.{All-map}
+use Rattle.std.proofs.lemmas.List.Kept.{IsStrictlyIncreasing-filter}
+use Rattle.sim_base.specs.declared.template.Template.{Template}
+use Rattle.sim_base.specs.declared.template.Arms.{Arms}
+use Rattle.sim_base.specs.declared.setup.Setup.{Setup}
+use Rattle.sim_base.specs.declared.state.Motion.{Motion}
+use Rattle.sim_base.specs.declared.state.Motion.TheVariants.{Still}
+use Rattle.sim_base.specs.declared.state.Aim.{Aim}
+use Rattle.sim_base.specs.declared.state.Row.{Row}
+use Rattle.sim_base.specs.declared.state.State.{State}
+use Rattle.sim_base.specs.Rows.{id_of, target_of}
+use Rattle.sim_base.specs.Validity.{IsValidAim, IsValidMotion, IsValidRow, IsKnownRow, IsState, IsValid, IsLooselyValid, Both, has_health}
+use Rattle.sim_base.specs.Changes.{aimed_at, with_stance, halted, released, removed}
+use Rattle.sim_base.specs.Hit.{is_spent, gone}
+use Rattle.sim_laws.proofs.Members.{Has, Has-map, Has-of_map}
+use Rattle.sim_laws.proofs.Rows.{all_at, all_from, map-map, map_agree, Has-filter, Has-of_filter, known_row, row_known, has_health_of, of_has_health}
+use Rattle.sim_laws.proofs.RowWise.{Stays}
+
+-- ---- rows that take another target, stand still, or are released
+
+-- a target that a row may have: none, or another row that has health
+abbrev pub IsTarget : List Row → Row → ℕ → Type 0
+IsTarget rows row target = (target ≡ 0) ⊎ ((target ≢ row.id) × IsTrue (has_health rows target))
+
+module _ (least : ℕ) (setup : Setup) (rows : List Row) (row : Row) (t : Template) where
+  pub aimed_at_is_valid : (target : ℕ) → IsTarget rows row target → IsValidRow least setup rows row t
+      → IsValidRow least setup rows (aimed_at target row) t
+  aimed_at_is_valid target may h = record { at = h.at; owner = h.owner; health = h.health; motion = h.motion; attack = by row.attack t.arms h.attack }
+    where
+      by : (a : Option Aim) (b : Option Arms) → Both a b (IsValidAim rows row.id)
+          → Both (option_map (λ (aim : Aim). record aim { target = target }) a) b (IsValidAim rows row.id)
+      by None None v = tt
+      by None (Some arms) v = absurd v
+      by (Some aim) None v = absurd v
+      by (Some aim) (Some arms) v = record { target = may; cooldown = v.cooldown }
+
+  pub with_stance_is_valid : (hold : Bool) → IsValidRow least setup rows row t → IsValidRow least setup rows (with_stance hold row) t
+  with_stance_is_valid hold h = record { at = h.at; owner = h.owner; health = h.health; motion = h.motion; attack = by row.attack t.arms h.attack }
+    where
+      by : (a : Option Aim) (b : Option Arms) → Both a b (IsValidAim rows row.id)
+          → Both (option_map (λ (aim : Aim). record aim { hold = hold }) a) b (IsValidAim rows row.id)
+      by None None v = tt
+      by None (Some arms) v = absurd v
+      by (Some aim) None v = absurd v
+      by (Some aim) (Some arms) v = record { target = v.target; cooldown = v.cooldown }
+
+  pub halted_is_valid : IsValidRow least setup rows row t → IsValidRow least setup rows (halted row) t
+  halted_is_valid h = record { at = h.at; owner = h.owner; health = h.health; motion = by row.motion t.speed h.motion; attack = h.attack }
+    where
+      by : (a : Option Motion) (b : Option ℤ) → Both a b (λ m s. IsValidMotion setup m)
+          → Both (option_map (λ (m : Motion). Still) a) b (λ m s. IsValidMotion setup m)
+      by None None v = tt
+      by None (Some speed) v = absurd v
+      by (Some motion) None v = absurd v
+      by (Some motion) (Some speed) v = tt
+
+module _ (least : ℕ) (setup : Setup) (rows : List Row) (row : Row) (t : Template) (h : IsValidRow least setup rows row t) where
+  pub same_stays : Stays least setup rows row row t
+  same_stays = record { id = refl; template = refl; valid = h }
+
+  pub aimed_at_stays : (target : ℕ) → IsTarget rows row target → Stays least setup rows row (aimed_at target row) t
+  aimed_at_stays target may = record { id = refl; template = refl; valid = aimed_at_is_valid least setup rows row t target may h }
+
+  pub halted_stays : Stays least setup rows row (halted row) t
+  halted_stays = record { id = refl; template = refl; valid = halted_is_valid least setup rows row t h }
+
+  -- also where it holds its place or does not from now on
+  pub placed_stays : (target : ℕ) (hold : Bool) → IsTarget rows row target → Stays least setup rows row (with_stance hold (aimed_at target row)) t
+  placed_stays target hold may =
+      record { id = refl; template = refl; valid = with_stance_is_valid least setup rows (aimed_at target row) t hold (aimed_at_is_valid least setup rows row t target may h) }
+
+  pub ordered_stays : (target : ℕ) (hold : Bool) → IsTarget rows row target → Stays least setup rows row (halted (with_stance hold (aimed_at target row))) t
+  ordered_stays target hold may =
+      record { id = refl; template = refl; valid = halted_is_valid least setup rows (with_stance hold (aimed_at target row)) t (placed_stays target hold may).valid }
+
+  pub released_stays : Stays least setup rows row (released row) t
+  released_stays = record { id = refl; template = refl; valid = halted_is_valid least setup rows (aimed_at 0 row) t (aimed_at_stays 0 (inl refl)).valid }
+
+-- ---- a row is removed
+
+map-filter : {X Y : Type 0} (f : X → Y) (p : Y → Bool) (xs : List X) → map f (filter (λ x. p (f x)) xs) ≡ filter p (map f xs)
+map-filter f p [] = refl
+map-filter f p (x ∷ xs) = by (p (f x)) (map-filter f p xs)
+  where
+    by : (b : Bool) → map f (filter (λ x. p (f x)) xs) ≡ filter p (map f xs)
+        → map f (cond b (x ∷ filter (λ x. p (f x)) xs) (filter (λ x. p (f x)) xs)) ≡ cond b (f x ∷ filter p (map f xs)) (filter p (map f xs))
+    by true e = ap (λ ys. f x ∷ ys) e
+    by false e = e
+
+filter_short : {X : Type 0} (p : X → Bool) (xs : List X) → length (filter p xs) ≤ length xs
+filter_short p [] = omega arith
+filter_short p (x ∷ xs) = by (p x) (filter_short p xs)
+  where
+    by : (b : Bool) → length (filter p xs) ≤ length xs → length (cond b (x ∷ filter p xs) (filter p xs)) ≤ length (x ∷ xs)
+    by true h = omega arith
+    by false h = omega arith
+
+-- what becomes of a row that stays when another is removed
+abbrev pub let_go : ℕ → Row → Row
+let_go id row = cond (target_of row == id) (released row) row
+
+pub let_go-id : (id : ℕ) (row : Row) → (let_go id row).id ≡ row.id
+let_go-id id row = by (target_of row == id)
+  where
+    by : (b : Bool) → (cond b (released row) row).id ≡ row.id
+    by true = refl
+    by false = refl
+
+let_go-health : (id : ℕ) (row : Row) → (let_go id row).health ≡ row.health
+let_go-health id row = by (target_of row == id)
+  where
+    by : (b : Bool) → (cond b (released row) row).health ≡ row.health
+    by true = refl
+    by false = refl
+
+abbrev pub others : ℕ → Row → Bool
+others id row = not (row.id == id)
+
+target_of-released : (row : Row) → target_of (released row) ≡ 0
+target_of-released row = by row.attack
+  where
+    by : (a : Option Aim) → unwrap_or (option_map (λ (aim : Aim). aim.target) (option_map (λ (aim : Aim). record aim { target = 0 }) a)) 0 ≡ 0
+    by None = refl
+    by (Some aim) = refl
+
+-- the ids that stay keep their order
+pub removed-ids : (state : State) (id : ℕ) → map id_of (removed id state).rows ≡ filter (λ n. not (n == id)) (map id_of state.rows)
+removed-ids state id =
+    let left = filter (others id) state.rows in
+    map-map (let_go id) id_of left ∙ map_agree (λ (row : Row). (let_go id row).id) id_of left (λ row h. let_go-id id row) ∙ map-filter id_of (λ n. not (n == id)) state.rows
+
+module _ (least : ℕ) (setup : Setup) (state : State) (id : ℕ) (valid : IsState least setup state) where
+  abbrev left : List Row
+  left = filter (others id) state.rows
+
+  abbrev rest : List Row
+  rest = map (let_go id) left
+
+  still_has_health : (n : ℕ) → (n ≡ id → ⊥) → has_health state.rows n ≡ true → has_health rest n ≡ true
+  still_has_health n other h =
+      let (row, m, e, k) = of_has_health state.rows n h in
+      let passes : others id row ≡ true = rw (ne_eqb row.id id (λ s. other (sym e ∙ s))) refl in
+      subst (λ (i : ℕ). has_health rest i ≡ true) (let_go-id id row ∙ e)
+      (has_health_of rest (let_go id row) (Has-map (let_go id) left row (Has-filter (others id) state.rows row m passes)) (ap is_some (let_go-health id row) ∙ k))
+
+  -- a row whose target stays, or that has none, is valid beside the rows that stay
+  valid_after : (row : Row) (t : Template) → (target_of row ≡ 0) ⊎ (target_of row ≡ id → ⊥) → IsValidRow least setup state.rows row t
+      → IsValidRow least setup rest row t
+  valid_after row t elsewhere h = record { at = h.at; owner = h.owner; health = h.health; motion = h.motion; attack = by row.attack t.arms elsewhere h.attack }
+    where
+      target_kept : (target : ℕ) → (target ≡ 0) ⊎ (target ≡ id → ⊥) → (target ≡ 0) ⊎ ((target ≢ row.id) × IsTrue (has_health state.rows target))
+          → (target ≡ 0) ⊎ ((target ≢ row.id) × IsTrue (has_health rest target))
+      target_kept target (inl none) v = inl none
+      target_kept target (inr other) (inl none) = inl none
+      target_kept target (inr other) (inr v) = inr (v.0, still_has_health target other v.1)
+
+      by : (a : Option Aim) (b : Option Arms)
+          → (unwrap_or (option_map (λ (aim : Aim). aim.target) a) 0 ≡ 0) ⊎ (unwrap_or (option_map (λ (aim : Aim). aim.target) a) 0 ≡ id → ⊥) →
+          Both a b (IsValidAim state.rows row.id) → Both a b (IsValidAim rest row.id)
+      by None None e v = tt
+      by None (Some arms) e v = absurd v
+      by (Some aim) None e v = absurd v
+      by (Some aim) (Some arms) e v = record { target = target_kept aim.target e v.target; cooldown = v.cooldown }
+
+  known_after : (row : Row) → Has left row → IsKnownRow least setup rest (let_go id row)
+  known_after row h =
+      let (m, passes) = Has-of_filter (others id) state.rows row h in
+      let (t, e, v) = known_row least setup state.rows row (all_at (IsKnownRow least setup state.rows) state.rows row valid.rows m) in
+      cond_both (target_of row == id) (released row) row (IsKnownRow least setup rest)
+      (λ same. row_known least setup rest (released row) t e (valid_after (released row) t (inl (target_of-released row)) (released_stays least setup state.rows row t v).valid))
+      (λ other. row_known least setup rest row t e (valid_after row t (inr (eqb-false (target_of row) id other)) v))
+
+  pub removed_is_state : IsState least setup (removed id state)
+  removed_is_state =
+      record {
+        turn = valid.turn;
+        next = valid.next;
+        word = valid.word;
+        few = omega (arith, valid.few, length-map left (let_go id), filter_short (others id) state.rows);
+        ascending = subst IsStrictlyIncreasing (sym (removed-ids state id)) (IsStrictlyIncreasing-filter (λ n. not (n == id)) (map id_of state.rows) valid.ascending);
+        ids = All-map (λ (r : Row). (2 ≤ r.id) × (r.id < state.next)) (let_go id) left
+            (all_from (λ (row : Row). (2 ≤ (let_go id row).id) × ((let_go id row).id < state.next)) left
+            (λ row h. let (m, passes) = Has-of_filter (others id) state.rows row h in let b = all_at (λ (r : Row). (2 ≤ r.id) × (r.id < state.next)) state.rows row valid.ids m in
+            (omega (arith, b.0, let_go-id id row), omega (arith, b.1, let_go-id id row))));
+        rows = All-map (IsKnownRow least setup rest) (let_go id) left (all_from (λ (row : Row). IsKnownRow least setup rest (let_go id row)) left known_after);
+      }
+
+-- ---- rows are removed one after another
+
+abbrev pub removed_all : State → List ℕ → State
+removed_all = fold (λ s id. removed id s)
+
+pub removed_all_is_state : (least : ℕ) (setup : Setup) (ids : List ℕ) (state : State) → IsState least setup state
+    → IsState least setup (removed_all state ids)
+removed_all_is_state least setup [] state valid = valid
+removed_all_is_state least setup (id ∷ ids) state valid = removed_all_is_state least setup ids (removed id state) (removed_is_state least setup state id valid)
+
+pub removed_all-turn : (ids : List ℕ) (state : State) → (removed_all state ids).turn ≡ state.turn
+removed_all-turn [] state = refl
+removed_all-turn (id ∷ ids) state = removed_all-turn ids (removed id state)
+
+-- where a row that is left comes from
+pub record IsLeft (rows : List Row) (ids : List ℕ) (row : Row) : Type 0 where
+  pub was : Row
+  pub has : Has rows was
+  pub id : row.id ≡ was.id
+  pub health : row.health ≡ was.health
+  pub not_removed : Has ids row.id → ⊥
+
+left_once : (id : ℕ) (state : State) (row : Row) → Has (removed id state).rows row → IsLeft state.rows (id ∷ []) row
+left_once id state row h =
+    let (was, m, e) = Has-of_map (let_go id) (filter (others id) state.rows) row h in
+    let (k, passes) = Has-of_filter (others id) state.rows was m in
+    let same : row.id ≡ was.id = ap id_of (sym e) ∙ let_go-id id was in
+    record {
+      was = was;
+      has = k;
+      id = same;
+      health = ap (λ (r : Row). r.health) (sym e) ∙ let_go-health id was;
+      not_removed = ⊎_elim (λ (s : id ≡ row.id). eqb-false was.id id (not-true (was.id == id) passes) (sym same ∙ sym s)) (λ (none : ⊥). none);
+    }
+
+pub left_all : (ids : List ℕ) (state : State) (row : Row) → Has (removed_all state ids).rows row → IsLeft state.rows ids row
+left_all [] state row h = record { was = row; has = h; id = refl; health = refl; not_removed = λ none. none }
+left_all (id ∷ ids) state row h =
+    let later = left_all ids (removed id state) row h in
+    let once = left_once id state later.was later.has in
+    record {
+      was = once.was;
+      has = once.has;
+      id = later.id ∙ once.id;
+      health = later.health ∙ once.health;
+      not_removed = ⊎_elim (λ (s : id ≡ row.id). once.not_removed (inl (s ∙ later.id))) later.not_removed;
+    }
+
+-- ---- those whose health is spent are gone
+
+not_spent : (health most : Option ℤ) → is_spent health ≡ false → Both health most (λ h m. (pos 0 ≤ℤ h) × (h ≤ℤ m))
+    → Both health most (λ h m. (pos 1 ≤ℤ h) × (h ≤ℤ m))
+not_spent None None e v = tt
+not_spent None (Some most) e v = absurd v
+not_spent (Some health) None e v = absurd v
+not_spent (Some health) (Some most) e v = let low : pos 1 ≤ℤ health = grind (arith, ints) in (low, v.1)
+
+unspent_row : (setup : Setup) (rows : List Row) (row : Row) → is_spent row.health ≡ false → IsKnownRow 0 setup rows row → IsKnownRow 1 setup rows row
+unspent_row setup rows row unspent known =
+    let (t, e, v) = known_row 0 setup rows row known in
+    row_known 1 setup rows row t e (record { at = v.at; owner = v.owner; health = not_spent row.health t.health unspent v.health; motion = v.motion; attack = v.attack })
+
+-- the ids of those whose health is spent
+abbrev pub spent_ids : State → List ℕ
+spent_ids state = map id_of (filter (λ (row : Row). is_spent row.health) state.rows)
+
+module _ (setup : Setup) (state : State) (loose : IsLooselyValid setup state) where
+  pub left_valid : IsState 0 setup (gone state)
+  left_valid = removed_all_is_state 0 setup (spent_ids state) state loose
+
+  pub unspent : (row : Row) → Has (gone state).rows row → is_spent row.health ≡ false
+  unspent row h = by (is_spent row.health) refl (left_all (spent_ids state) state row h)
+    where
+      by : (b : Bool) → is_spent row.health ≡ b → IsLeft state.rows (spent_ids state) row → b ≡ false
+      by false e from = refl
+      by true e from =
+          let listed : Has (spent_ids state) from.was.id = Has-map id_of (filter (λ (r : Row). is_spent r.health) state.rows) from.was
+          (Has-filter (λ (r : Row). is_spent r.health) state.rows from.was from.has (ap is_spent (sym from.health) ∙ e)) in
+          absurd (from.not_removed (subst (Has (spent_ids state)) (sym from.id) listed))
+
+  pub gone_is_valid : IsValid setup (gone state)
+  gone_is_valid =
+      record {
+        turn = left_valid.turn;
+        next = left_valid.next;
+        word = left_valid.word;
+        few = left_valid.few;
+        ascending = left_valid.ascending;
+        ids = left_valid.ids;
+        rows = all_from (IsKnownRow 1 setup (gone state).rows) (gone state).rows
+            (λ row h. unspent_row setup (gone state).rows row (unspent row h) (all_at (IsKnownRow 0 setup (gone state).rows) (gone state).rows row left_valid.rows h));
+      }

@@ -1,0 +1,77 @@
+-- Points of a valid state lie on the largest ground, and arms of a match are within their limits.
+use Rattle.std.proofs.Common.{◌≡◌, ℕ, ◌*◌, ◌<◌, ◌≤◌, true, ℤ, pos, ◌≤ℤ◌, ◌<ℤ◌, int_le, int_lt, List, Option, Some, None, refl, subst, arith, All}
+use Rattle.std.specs.Prelude.{IfSome, slice_get, option_and_then}
+use Rattle.std.proofs.lemmas.Bool.{and_parts}
+use Rattle.std.proofs.lemmas.List.Elements.{All-weaker}
+use Rattle.std.proofs.lemmas.Int.{ints}
+use Rattle.sim_base.specs.declared.place.Point.{Point}
+use Rattle.sim_base.specs.declared.template.Template.{Template}
+use Rattle.sim_base.specs.declared.template.Arms.{Arms}
+use Rattle.sim_base.specs.declared.setup.Setup.{Setup}
+use Rattle.sim_base.specs.declared.state.Row.{Row}
+use Rattle.sim_base.specs.declared.state.State.{State}
+use Rattle.sim_base.specs.Places.{Size, IsPlaced, is_within, is_inside}
+use Rattle.sim_base.specs.Steps.{Field}
+use Rattle.sim_base.specs.WayOf.{way_of}
+use Rattle.sim_base.specs.Rows.{arms_of, row_of, template_of, size_of}
+use Rattle.sim_base.specs.Limits.{IsSetup, IsArms}
+use Rattle.sim_base.specs.Validity.{IsInside, IsKnownRow, IsLooselyValid}
+use Rattle.sim_laws.proofs.WayInside.{inside-on_ground, way_of-inside}
+use Rattle.sim_laws.proofs.Rows.{all_at, known_row, found_row}
+use Rattle.sim_laws.proofs.Commanding.{known_template}
+use Rattle.sim_plans.specs.Sizes.{IsCoordinate, IsGround}
+
+coordinate : (raw : ℤ) (cells : ℕ) → cells ≤ 256 → is_within raw cells ≡ true → IsCoordinate raw
+coordinate raw cells le h =
+    let (low, high) = and_parts (int_le (pos 0) raw) (int_lt raw (pos (cells * 65536))) h in
+    let low_is : pos 0 ≤ℤ raw = grind (arith, ints) in
+    let high_is : raw <ℤ pos (cells * 65536) = grind (arith, ints) in
+    record { low = low_is; high = omega (arith, ints) }
+
+pub placed_in : (size : Size) (p : Point) → IsGround size → is_inside size p ≡ true → IsPlaced p
+placed_in size p ground inside =
+    let (x, z) = and_parts (is_within p.x size.width) (is_within p.z size.depth) inside in
+    let cx = coordinate p.x size.width ground.width x in
+    let cz = coordinate p.z size.depth ground.depth z in
+    record { west = cx.low; east = cx.high; south = cz.low; north = cz.high }
+
+pub ground : (setup : Setup) → IsSetup setup → IsGround (size_of setup.land)
+ground setup limits = record { width = limits.land.width.1; depth = limits.land.depth.1 }
+
+pub placed : (setup : Setup) (p : Point) → IsSetup setup → IsInside setup p → IsPlaced p
+placed setup p limits inside = placed_in (size_of setup.land) p (ground setup limits) inside
+
+-- the points of a way
+pub way_placed : (field : Field) (from goal : Point) → IsGround field.size → is_inside field.size from ≡ true → is_inside field.size goal ≡ true → All IsPlaced (way_of field from goal).points
+way_placed field from goal small in_from in_goal =
+    All-weaker (λ (p : Point). is_inside field.size p ≡ true) IsPlaced (λ p h. placed_in field.size p small h) (way_of field from goal).points
+    (way_of-inside field from goal (inside-on_ground field.size from in_from) in_goal)
+
+-- a row that is found stands inside
+pub found_inside : (setup : Setup) (state : State) (id : ℕ) (row : Row) → IsLooselyValid setup state → row_of state id ≡ Some row → IsInside setup row.at
+found_inside setup state id row valid e =
+    let (h, same) = found_row state id row e in
+    let (t, k, v) = known_row 0 setup state.rows row (all_at (IsKnownRow 0 setup state.rows) state.rows row valid.rows h) in
+    v.at
+
+pub row_placed : (setup : Setup) (rows : List Row) (row : Row) → IsSetup setup → IsKnownRow 0 setup rows row → IsPlaced row.at
+row_placed setup rows row limits known = let (t, e, v) = known_row 0 setup rows row known in placed setup row.at limits v.at
+
+pub found_placed : (setup : Setup) (state : State) (id : ℕ) (row : Row) → IsSetup setup → IsLooselyValid setup state → row_of state id ≡ Some row → IsPlaced row.at
+found_placed setup state id row limits valid e =
+    let (h, same) = found_row state id row e in
+    row_placed setup state.rows row limits (all_at (IsKnownRow 0 setup state.rows) state.rows row valid.rows h)
+
+pub arms_limited : (setup : Setup) (row : Row) (arms : Arms) → IsSetup setup → arms_of setup row ≡ Some arms → IsArms arms
+arms_limited setup row arms limits = by (template_of setup row) refl
+  where
+    by : (o : Option Template) → slice_get setup.templates row.template ≡ o → option_and_then (λ (t : Template). t.arms) o ≡ Some arms → IsArms arms
+    by None e f = absurd (cc)
+    by (Some t) e f = let h = known_template setup row.template t limits e in subst (λ (o : Option Arms). IfSome o IsArms) f h.arms
+
+-- the owner of a row that is found has a bit in a mask
+pub found_owned : (setup : Setup) (state : State) (id : ℕ) (row : Row) → IsSetup setup → IsLooselyValid setup state → row_of state id ≡ Some row → row.owner < 32
+found_owned setup state id row limits valid e =
+    let (h, same) = found_row state id row e in
+    let (t, k, v) = known_row 0 setup state.rows row (all_at (IsKnownRow 0 setup state.rows) state.rows row valid.rows h) in
+    omega (arith, v.owner, limits.players, limits.land.players)

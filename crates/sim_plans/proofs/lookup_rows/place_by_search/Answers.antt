@@ -1,0 +1,19 @@
+-- The closure gives the id of a row, and the ids ascend.
+use Rattle.std.proofs.Common.{rules, sym}
+use Rattle.std.proofs.lemmas.Cmp.{ranked}
+use Rattle.std.proofs.lemmas.List.Sorted.{answers_always}
+use Rattle.sim_base.specs.declared.state.Row.{Row}
+use Rattle.sim_plans.proofs.Places.{no_row, row_at, row_missing}
+use Rattle.sim_plans.proofs.lookup_rows.place_by_search.Goals as goal
+
+pub returns-in-Ok : goal.returns-in-Ok
+returns-in-Ok c =
+    let by_id = c.in-Ok.ensures.position (λ (row : Row). row.id) (answers_always _ _ _ (λ f a r g called. search rules)) in (
+      c.in-Ok.ensures.bound,
+      λ d. row_at c.args.rows.now c.args.id c.in-Ok.at d c.requires c.in-Ok.ensures.bound (λ e. ranked _ c.args.id _ (sym (by_id e))),
+    )
+
+pub returns-in-Err : goal.returns-in-Err
+returns-in-Err c =
+    let by_id = c.in-Err.ensures.position (λ (row : Row). row.id) (answers_always _ _ _ (λ f a r g called. search rules)) in
+    row_missing c.args.rows.now c.args.id (no_row c.args.rows.now c.args.id c.in-Err.field-0 c.requires c.in-Err.ensures.bound by_id)

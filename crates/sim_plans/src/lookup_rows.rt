@@ -1,0 +1,101 @@
+//! A row by its id. Ids ascend, so it is found by binary search; at once where each id from the first row on has a row.
+
+ghost use Rattle.std.specs.Prelude.{◌≡◌, ◌<◌, IsTrue, None, Some, length, map, option_copied, MatchOption, IfSome};
+ghost use Rattle.std.specs.List.{HoldsAt};
+ghost use Rattle.std.specs.List.Sorted.{IsStrictlyIncreasing};
+ghost use Rattle.sim_base.specs.Rows.{id_of, row_of, target_of as target_by, is_holding as is_holding_by, is_going as is_going_by};
+ghost use Rattle.sim_plans.specs.Found.{found};
+
+use sim_base::{Motion, Row, State};
+
+/// The row with this id, if it is alive.
+pub fn find_row(state: &State, id: u32) -> Option<&Row>
+    requires { IsStrictlyIncreasing (map id_of state.now.rows) }
+    ensures { option_copied result ≡ row_of state.now id }
+{
+    let rows = state.rows.as_slice();
+    match place_of(rows, id) {
+        Some(at) => Some(&rows[at]),
+        None => None,
+    }
+}
+
+/// The place of the row with this id, from 0.
+pub fn place_of(rows: &[Row], id: u32) -> Option<usize>
+    requires { IsStrictlyIncreasing (map id_of rows.now) }
+    ensures { MatchOption result (found rows.now id ≡ None) (λ at. (at < length rows.now) × HoldsAt (λ row. found rows.now id ≡ Some row) rows.now at) }
+{
+    if is_below(rows, id) {
+        return None;
+    }
+    match place_by_count(rows, id) {
+        Some(at) => Some(at),
+        None => place_by_search(rows, id),
+    }
+}
+
+// The place that the row has if each id from the first row's on has one.
+fn place_by_count(rows: &[Row], id: u32) -> Option<usize>
+    ensures { IfSome result (λ at. (at < length rows.now) × HoldsAt (λ row. row.id ≡ id) rows.now at) }
+{
+    let [first, ..] = rows else {
+        return None;
+    };
+    let at = id.checked_sub(first.id)? as usize;
+    match rows.get(at) {
+        Some(row) if row.id == id => Some(at),
+        _ => None,
+    }
+}
+
+// The place of the row, by binary search.
+fn place_by_search(rows: &[Row], id: u32) -> Option<usize>
+    requires { IsStrictlyIncreasing (map id_of rows.now) }
+    ensures { MatchOption result (found rows.now id ≡ None) (λ at. (at < length rows.now) × HoldsAt (λ row. found rows.now id ≡ Some row) rows.now at) }
+{
+    match rows.binary_search_by_key(&id, |row| row.id) {
+        Ok(at) => Some(at),
+        Err(_) => None,
+    }
+}
+
+// Whether the id is below those of all rows, as 0 is, which stands for nobody: most rows aim at nobody.
+fn is_below(rows: &[Row], id: u32) -> bool
+    requires { IsStrictlyIncreasing (map id_of rows.now) }
+    ensures { IsTrue result → found rows.now id ≡ None }
+{
+    match rows {
+        [first, ..] => id < first.id,
+        [] => true,
+    }
+}
+
+/// Whom a row attacks, or 0.
+pub fn target_of(row: &Row) -> u32
+    ensures { result ≡ target_by row.now }
+{
+    match row.attack {
+        Some(aim) => aim.target,
+        None => 0,
+    }
+}
+
+/// Whether a row holds its place: it takes only targets within its range, and chases none.
+pub fn is_holding(row: &Row) -> bool
+    ensures { result ≡ is_holding_by row.now }
+{
+    match row.attack {
+        Some(aim) => aim.hold,
+        None => false,
+    }
+}
+
+/// Whether a row is on its way to a goal.
+pub fn is_going(row: &Row) -> bool
+    ensures { result ≡ is_going_by row.now.motion }
+{
+    match &row.motion {
+        Some(Motion::Going { .. }) => true,
+        _ => false,
+    }
+}

@@ -1,5 +1,0 @@
-use Rattle.sim_turn_laws.proofs.Others.{command_leaves_others}
-use Rattle.sim_turn_laws.proofs.commands.a_command_leaves_others.Goals as goal
-
-pub returns : goal.returns
-returns c = command_leaves_others

@@ -1,6 +1,0 @@
-use Rattle.sim_turn_laws.proofs.Removing.{gone_is_valid}
-use Rattle.sim_turn_laws.proofs.Turning.{gone_keeps_turn}
-use Rattle.sim_turn_laws.proofs.phases.gone_is_valid.Goals as goal
-
-pub returns : goal.returns
-returns c = record { valid = gone_is_valid; turn = gone_keeps_turn }

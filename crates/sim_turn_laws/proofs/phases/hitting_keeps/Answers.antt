@@ -1,6 +1,0 @@
-use Rattle.std.proofs.Common.{refl}
-use Rattle.sim_turn_laws.proofs.Hitting.{hit_is_state}
-use Rattle.sim_turn_laws.proofs.phases.hitting_keeps.Goals as goal
-
-pub returns : goal.returns
-returns c = record { loose = hit_is_state; turn = λ setup state. refl }

@@ -1,5 +1,0 @@
-use Rattle.sim_turn_laws.proofs.Turning.{after_is_valid, after_counts_turns}
-use Rattle.sim_turn_laws.proofs.turns.after_a_past_a_state_is_valid.Goals as goal
-
-pub returns : goal.returns
-returns c = record { valid = after_is_valid; counted = after_counts_turns }

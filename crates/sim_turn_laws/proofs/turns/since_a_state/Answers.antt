@@ -1,5 +1,0 @@
-use Rattle.sim_turn_laws.proofs.Turning.{from_keeps_valid, from_counts_turns}
-use Rattle.sim_turn_laws.proofs.turns.since_a_state.Goals as goal
-
-pub returns : goal.returns
-returns c = record { valid = from_keeps_valid; counted = from_counts_turns }
