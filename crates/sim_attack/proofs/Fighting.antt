@@ -1,20 +1,12 @@
 -- The loop over the rows that fight.
-use Rattle.std.proofs.Common.{◌≡◌, ℕ, ◌+◌, ◌-◌, ◌<◌, ◌≤◌, Bool, true, false, cond, List, [], ◌∷◌, ◌++◌, length, fold, take, get_or, replicate, Option, Some, None, refl, sym, ap, ◌∙◌, subst, arith, append_assoc}
-use Rattle.std.specs.Prelude.{◌==◌}
-use Rattle.std.proofs.lemmas.List.{get_or_default, take_more, take_all, length-replicate, get_or-replicate}
-use Rattle.std.proofs.lemmas.List.Sums.{fold-append}
-use Rattle.sim_base.specs.declared.template.Arms.{Arms}
-use Rattle.sim_base.specs.declared.setup.Setup.{Setup}
-use Rattle.sim_base.specs.declared.state.Aim.{Aim}
-use Rattle.sim_base.specs.declared.state.Row.{Row}
-use Rattle.sim_base.specs.declared.state.State.{State}
-use Rattle.sim_base.specs.declared.change.Change.{Change}
-use Rattle.sim_base.specs.declared.change.Change.TheVariants.{Word}
-use Rattle.sim_base.specs.Rows.{row_of, arms_of}
-use Rattle.sim_base.specs.Filters.{is_near}
-use Rattle.sim_base.specs.Hit.{Hit, Hitting, with_cooldown, strikes, rests, strikes_near, fights, hitting, taken_from}
+use Rattle.{sim_attack.specs.Fights.AreTaken, sim_attack.specs.Fights.fought_first, sim_attack.specs.Fights.fought_on, std.specs.Prelude.◌==◌}
+use Rattle.std.proofs.Common.{Option, refl, ap, append_assoc, arith, subst, sym, ◌∙◌}
+use Rattle.std.proofs.Common.{◌≡◌, ℕ, ◌+◌, ◌-◌, ◌<◌, ◌≤◌, Bool, true, false, cond, List, [], ◌∷◌, ◌++◌, length, get_or, take, replicate, Some, None, fold}
+use Rattle.std.proofs.lemmas.List.{get_or-replicate, get_or_default, length-replicate, take_all, take_more, Sums.fold-append}
+use Rattle.sim_base.specs.{Filters.is_near, Rows.arms_of, Rows.row_of, declared.setup.Setup.Setup}
+use Rattle.sim_base.specs.Hit.{fights, Hit, Hitting, hitting, rests, strikes, strikes_near, taken_from, with_cooldown}
+use Rattle.sim_base.specs.declared.{change.Change.Change, change.Change.TheVariants.Word, state.Aim.Aim, state.Row.Row, state.State.State, template.Arms.Arms}
 use Rattle.sim_plans.specs.Plans.{hurt_changes_by, hurt_changes_of}
-use Rattle.sim_attack.specs.Fights.{fought_on, fought_first, AreTaken}
 
 -- the word and the hits after a fight do not depend on the rows so far
 record IsSameFight (a b : Hitting) : Type 0 where
@@ -26,7 +18,8 @@ near_same : (setup : Setup) (so_far : Hitting) (rows : List Row) (row : Row) (ai
 near_same setup so_far rows row aim arms None = record { word = refl; hits = refl }
 near_same setup so_far rows row aim arms (Some target) = by (is_near target.at row.at arms.range)
   where
-    by : (b : Bool) → IsSameFight (cond b (strikes setup so_far row aim arms target) (rests so_far row)) (cond b (strikes setup (record so_far { rows = rows }) row aim arms target) (rests (record so_far { rows = rows }) row))
+    by : (b : Bool) → IsSameFight (cond b (strikes setup so_far row aim arms target) (rests so_far row))
+        (cond b (strikes setup (record so_far { rows = rows }) row aim arms target) (rests (record so_far { rows = rows }) row))
     by true = record { word = refl; hits = refl }
     by false = record { word = refl; hits = refl }
 
@@ -34,8 +27,10 @@ fight_same : (setup : Setup) (state : State) (so_far : Hitting) (rows : List Row
     IsSameFight (fights setup state so_far row a b) (fights setup state (record so_far { rows = rows }) row a b)
 fight_same setup state so_far rows row (Some aim) (Some arms) = by (aim.cooldown == 0)
   where
-    by : (b : Bool) → IsSameFight (cond b (strikes_near setup so_far row aim arms (row_of state aim.target)) (rests so_far (with_cooldown row aim (aim.cooldown - 1))))
-        (cond b (strikes_near setup (record so_far { rows = rows }) row aim arms (row_of state aim.target)) (rests (record so_far { rows = rows }) (with_cooldown row aim (aim.cooldown - 1))))
+    by : (b : Bool) → IsSameFight (cond b (strikes_near setup so_far row aim arms (row_of state aim.target))
+        (rests so_far (with_cooldown row aim (aim.cooldown - 1))))
+        (cond b (strikes_near setup (record so_far { rows = rows }) row aim arms (row_of state aim.target))
+        (rests (record so_far { rows = rows }) (with_cooldown row aim (aim.cooldown - 1))))
     by true = near_same setup so_far rows row aim arms (row_of state aim.target)
     by false = record { word = refl; hits = refl }
 fight_same setup state so_far rows row (Some aim) None = record { word = refl; hits = refl }
@@ -45,9 +40,11 @@ module _ (setup : Setup) (state : State) where
   abbrev step : Hitting → Row → Hitting
   step so_far row = fights setup state so_far row row.attack (arms_of setup row)
 
-  first_more : (n : ℕ) (row : Row) → n < length state.rows → row ≡ get_or state.rows n row → fought_first setup state (n + 1) ≡ step (fought_first setup state n) row
+  first_more : (n : ℕ) (row : Row) → n < length state.rows → row ≡ get_or state.rows n row → fought_first setup state (n + 1) ≡ step
+      (fought_first setup state n) row
   first_more n row lt is =
-      ap (λ (rs : List Row). fold step (record { rows = []; word = state.word; hits = [] }) rs) (take_more state.rows n row lt ∙ ap (λ (r : Row). take n state.rows ++ r ∷ []) (sym is)) ∙
+      ap (λ (rs : List Row). fold step (record { rows = []; word = state.word; hits = [] }) rs) (take_more state.rows n row lt ∙
+      ap (λ (r : Row). take n state.rows ++ r ∷ []) (sym is)) ∙
       fold-append step (record { rows = []; word = state.word; hits = [] }) (take n state.rows) (row ∷ [])
 
   -- how far the loop has come
@@ -62,30 +59,37 @@ module _ (setup : Setup) (state : State) where
       let before = fought_first setup state n in
       let same = fight_same setup state before [] row row.attack (arms_of setup row) in
       let after = first_more n row lt is in
-      let word_at : fought_on setup state word before.hits row ≡ fought_on setup state before.word before.hits row = ap (λ (w : ℕ). fought_on setup state w before.hits row) far.word_is in
+      let word_at : fought_on setup state word before.hits row ≡ fought_on setup state before.word before.hits row =
+      ap (λ (w : ℕ). fought_on setup state w before.hits row) far.word_is in
       record {
         word_is = next_is before.hits ∙ ap (λ (h : Hitting). h.word) word_at ∙ sym same.word ∙ ap (λ (h : Hitting). h.word) (sym after);
-        taken = subst (λ (hs : List Hit). AreTaken state.rows hs more) (ap (λ (h : Hitting). h.hits) word_at ∙ sym same.hits ∙ ap (λ (h : Hitting). h.hits) (sym after)) (more_is before.hits far.taken);
+        taken = subst (λ (hs : List Hit). AreTaken state.rows hs more) (ap (λ (h : Hitting). h.hits) word_at ∙ sym same.hits ∙
+            ap (λ (h : Hitting). h.hits) (sym after)) (more_is before.hits far.taken);
       }
 
   pub far_none : (damage : List ℕ) → damage ≡ replicate (length state.rows) 0 → IsFar 0 state.word damage
   far_none damage e =
       record {
         word_is = refl;
-        taken = subst (AreTaken state.rows []) (sym e) (record { long = length-replicate (length state.rows) 0; each = λ i d within. get_or-replicate (length state.rows) i 0 0 within });
+        taken = subst (AreTaken state.rows []) (sym e)
+            (record { long = length-replicate (length state.rows) 0; each = λ i d within. get_or-replicate (length state.rows) i 0 0 within });
       }
 
-  pub far_all : (n word : ℕ) (damage : List ℕ) → length state.rows ≤ n → IsFar n word damage → (word ≡ (hitting setup state).word) × AreTaken state.rows (hitting setup state).hits damage
+  pub far_all : (n word : ℕ) (damage : List ℕ) → length state.rows ≤ n → IsFar n word damage → (word ≡ (hitting setup state).word)
+      × AreTaken state.rows (hitting setup state).hits damage
   far_all n word damage le far =
-      let all : fought_first setup state n ≡ hitting setup state = ap (λ (rs : List Row). fold step (record { rows = []; word = state.word; hits = [] }) rs) (take_all n state.rows le) in
+      let all : fought_first setup state n ≡ hitting setup state = ap (λ (rs : List Row). fold step (record { rows = []; word = state.word; hits = [] }) rs)
+      (take_all n state.rows le) in
       (far.word_is ∙ ap (λ (h : Hitting). h.word) all, subst (λ (h : Hitting). AreTaken state.rows h.hits damage) all far.taken)
 
 -- what a row's hits take stands at its place
-pub hurt_at : (rows : List Row) (hits : List Hit) (damage : List ℕ) (at : ℕ) (row : Row) (x : ℕ) → at < length rows → row ≡ get_or rows at row → x ≡ get_or damage at x → AreTaken rows hits damage →
+pub hurt_at : (rows : List Row) (hits : List Hit) (damage : List ℕ) (at : ℕ) (row : Row) (x : ℕ) → at < length rows → row ≡ get_or rows at row
+    → x ≡ get_or damage at x → AreTaken rows hits damage →
     hurt_changes_by row.id x row.health ≡ hurt_changes_of hits row
 hurt_at rows hits damage at row x lt is x_is taken =
     let inside : at < length damage = omega (arith, lt, taken.long) in
-    let value : x ≡ taken_from row.id hits = x_is ∙ get_or_default damage at x 0 inside ∙ taken.each at row lt ∙ ap (λ (r : Row). taken_from r.id hits) (sym is) in
+    let value : x ≡ taken_from row.id hits = x_is ∙ get_or_default damage at x 0 inside ∙ taken.each at row lt ∙ ap (λ (r : Row). taken_from r.id hits)
+    (sym is) in
     ap (λ (n : ℕ). hurt_changes_by row.id n row.health) value
 
 pub behind_word : (front : List Change) (word : ℕ) (back more : List Change) → (front ++ Word word ∷ back) ++ more ≡ front ++ Word word ∷ (back ++ more)

@@ -1,14 +1,9 @@
 -- The loop that finds the nearest.
-use Rattle.std.proofs.Common.{◌≡◌, ℕ, ◌+◌, ◌<◌, Bool, true, false, cond, List, [], ◌∷◌, ◌++◌, length, take, get_or, fold, Option, Some, None, refl, sym, ap, ◌∙◌, subst, arith}
-use Rattle.std.specs.Prelude.{option_map, unwrap_or}
-use Rattle.std.proofs.lemmas.List.{take_more, take_all}
-use Rattle.std.proofs.lemmas.List.Sums.{fold-append}
-use Rattle.sim_base.specs.declared.state.Row.{Row}
-use Rattle.sim_base.specs.declared.state.State.{State}
-use Rattle.sim_base.specs.Least.{is_before, lesser_of}
-use Rattle.sim_base.specs.Aim.{square_to}
-use Rattle.sim_attack.specs.declared.aim.Candidate.{Candidate}
-use Rattle.sim_attack.specs.Nearest.{nearest_of, better_of, StandsFor}
+use Rattle.std.proofs.{Common.subst, Common.sym, Common.◌∙◌, lemmas.List.take_all, lemmas.List.take_more, lemmas.List.Sums.fold-append}
+use Rattle.std.proofs.Common.{◌≡◌, ℕ, ◌+◌, ◌<◌, Bool, true, false, cond, List, [], ◌∷◌, ◌++◌, length, get_or, take, Some, None, fold, Option, refl, ap, arith}
+use Rattle.std.specs.Prelude.{unwrap_or, option_map}
+use Rattle.sim_attack.specs.{Nearest.better_of, Nearest.nearest_of, Nearest.StandsFor, declared.aim.Candidate.Candidate}
+use Rattle.sim_base.specs.{Aim.square_to, Least.is_before, Least.lesser_of, declared.state.Row.Row, declared.state.State.State}
 
 module _ (state : State) (row : Row) where
   abbrev key : ℕ → List ℕ
@@ -18,26 +13,33 @@ module _ (state : State) (row : Row) where
   abbrev pub least_first : ℕ → List ℕ → Option ℕ
   least_first n ids = fold (λ best id. Some (lesser_of key best id)) None (take n ids)
 
-  better_stands : (best : Option Candidate) (o : Option ℕ) (far id : ℕ) → far ≡ square_to state row id → StandsFor state row best o → StandsFor state row (Some (better_of best far id)) (Some (lesser_of key o id))
-  better_stands None o far id e h = subst (λ (p : Option ℕ). StandsFor state row (Some (record { far = far; id = id })) (Some (lesser_of key p id))) h.id (record { id = refl; far = e })
+  better_stands : (best : Option Candidate) (o : Option ℕ) (far id : ℕ) → far ≡ square_to state row id → StandsFor state row best o
+      → StandsFor state row (Some (better_of best far id)) (Some (lesser_of key o id))
+  better_stands None o far id e h = subst (λ (p : Option ℕ). StandsFor state row (Some (record { far = far; id = id })) (Some (lesser_of key p id))) h.id
+      (record { id = refl; far = e })
   better_stands (Some seen) o far id e h =
       subst (λ (p : Option ℕ). StandsFor state row (Some (better_of (Some seen) far id)) (Some (lesser_of key p id))) h.id
-      (subst (λ (b : Bool). StandsFor state row (Some (better_of (Some seen) far id)) (Some (cond b id seen.id))) same (by (is_before (far ∷ id ∷ []) (seen.far ∷ seen.id ∷ []))))
+      (subst (λ (b : Bool). StandsFor state row (Some (better_of (Some seen) far id)) (Some (cond b id seen.id))) same
+      (by (is_before (far ∷ id ∷ []) (seen.far ∷ seen.id ∷ []))))
     where
       same : is_before (far ∷ id ∷ []) (seen.far ∷ seen.id ∷ []) ≡ is_before (key id) (key seen.id)
-      same = ap (λ (n : ℕ). is_before (n ∷ id ∷ []) (seen.far ∷ seen.id ∷ [])) e ∙ ap (λ (n : ℕ). is_before (square_to state row id ∷ id ∷ []) (n ∷ seen.id ∷ [])) h.far
+      same = ap (λ (n : ℕ). is_before (n ∷ id ∷ []) (seen.far ∷ seen.id ∷ [])) e ∙
+          ap (λ (n : ℕ). is_before (square_to state row id ∷ id ∷ []) (n ∷ seen.id ∷ [])) h.far
 
       by : (b : Bool) → StandsFor state row (Some (cond b (record { far = far; id = id }) seen)) (Some (cond b id seen.id))
       by true = record { id = refl; far = e }
       by false = record { id = refl; far = h.far }
 
-  pub nearer_more : (ids : List ℕ) (n id far : ℕ) (best : Option Candidate) → n < length ids → id ≡ get_or ids n 0 → far ≡ square_to state row id → StandsFor state row best (least_first n ids) →
+  pub nearer_more : (ids : List ℕ) (n id far : ℕ) (best : Option Candidate) → n < length ids → id ≡ get_or ids n 0 → far ≡ square_to state row id
+      → StandsFor state row best (least_first n ids) →
       StandsFor state row (Some (better_of best far id)) (least_first (n + 1) ids)
   nearer_more ids n id far best lt is e h =
       let step : least_first (n + 1) ids ≡ Some (lesser_of key (least_first n ids) id) =
-      ap (fold (λ b i. Some (lesser_of key b i)) None) (take_more ids n 0 lt ∙ ap (λ (i : ℕ). take n ids ++ i ∷ []) (sym is)) ∙ fold-append (λ b i. Some (lesser_of key b i)) None (take n ids) (id ∷ []) in
+      ap (fold (λ b i. Some (lesser_of key b i)) None) (take_more ids n 0 lt ∙ ap (λ (i : ℕ). take n ids ++ i ∷ []) (sym is)) ∙
+      fold-append (λ b i. Some (lesser_of key b i)) None (take n ids) (id ∷ []) in
       subst (StandsFor state row (Some (better_of best far id))) (sym step) (better_stands best (least_first n ids) far id e h)
 
-  pub nearer_all : (ids : List ℕ) (n : ℕ) (best : Option Candidate) → n ≡ length ids → StandsFor state row best (least_first n ids) → unwrap_or (option_map (λ (seen : Candidate). seen.id) best) 0 ≡ nearest_of state row ids
+  pub nearer_all : (ids : List ℕ) (n : ℕ) (best : Option Candidate) → n ≡ length ids → StandsFor state row best (least_first n ids)
+      → unwrap_or (option_map (λ (seen : Candidate). seen.id) best) 0 ≡ nearest_of state row ids
   nearer_all ids n best e h =
       ap (λ (o : Option ℕ). unwrap_or o 0) (h.id ∙ ap (fold (λ b i. Some (lesser_of key b i)) None) (take_all n ids (omega arith)))

@@ -1,26 +1,14 @@
 -- Rows of one owner that stand at one point and see equally far have the same nearest enemy.
-use Rattle.std.proofs.Common.{◌≡◌, ℕ, ◌<◌, nat_lt, get_or, subst, Bool, true, false, cond, not, ℤ, int_eq, List, [], ◌∷◌, filter, Option, Some, None, refl, sym, ap, ◌∙◌, inl, inr, arith}
-use Rattle.std.specs.Prelude.{length, replicate, is_some, ◌==◌, ◌&&◌, IfSome, unwrap_or, option_map}
-use Rattle.std.proofs.Math.ListN.{get_or-eq_default}
-use Rattle.std.proofs.lemmas.Bool.{eqb-true, ne_eqb, and_parts}
-use Rattle.std.proofs.lemmas.List.Elements.{All-get_or, All-replicate}
-use Rattle.sim_base.specs.declared.place.Point.{Point}
-use Rattle.sim_base.specs.declared.template.Arms.{Arms}
-use Rattle.sim_base.specs.declared.setup.Setup.{Setup}
-use Rattle.sim_base.specs.declared.state.Row.{Row}
-use Rattle.sim_base.specs.declared.state.State.{State}
-use Rattle.sim_base.specs.Places.{square}
-use Rattle.sim_base.specs.Least.{least_of}
-use Rattle.sim_base.specs.Limits.{IsSetup}
-use Rattle.sim_base.specs.Rows.{id_of, row_of, in_mask, enemies_of}
-use Rattle.sim_base.specs.Filters.{is_near, within, seen}
-use Rattle.sim_base.specs.Move.{same_point}
-use Rattle.sim_base.specs.Validity.{IsKnownRow, IsLooselyValid}
-use Rattle.sim_laws.proofs.Members.{Has, Has-of_map}
-use Rattle.sim_laws.proofs.Rows.{Has-of_filter, known_row, found_row, same_row, apart}
-use Rattle.sim_attack.specs.declared.finds.Find.{Find}
-use Rattle.sim_attack.specs.Nearest.{nearest_of}
-use Rattle.sim_attack.specs.Finds.{find_places, place_for, is_shared, shared, nearest_from, filled, AreFound}
+use Rattle.std.proofs.{Common.inr, Common.int_eq, Common.subst, Common.sym, Common.◌∙◌, Math.ListN.get_or-eq_default}
+use Rattle.std.proofs.Common.{◌≡◌, ℕ, ◌<◌, Bool, true, false, cond, not, List, [], ◌∷◌, get_or, ℤ, nat_lt, Some, None, filter, Option, refl, ap, arith, inl}
+use Rattle.std.proofs.lemmas.{Bool.and_parts, Bool.eqb-true, Bool.ne_eqb, List.Elements.All-get_or, List.Elements.All-replicate}
+use Rattle.std.specs.Prelude.{◌&&◌, length, replicate, is_some, IfSome, ◌==◌, unwrap_or, option_map}
+use Rattle.sim_attack.specs.{Nearest.nearest_of, declared.finds.Find.Find}
+use Rattle.sim_attack.specs.Finds.{AreFound, filled, find_places, is_shared, nearest_from, place_for, shared}
+use Rattle.sim_base.specs.{Filters.is_near, Filters.seen, Filters.within, Move.same_point, Rows.enemies_of, Rows.id_of, Rows.in_mask, Rows.row_of}
+use Rattle.sim_base.specs.{Least.least_of, Limits.IsSetup, Places.square, Validity.IsKnownRow, Validity.IsLooselyValid}
+use Rattle.sim_base.specs.declared.{place.Point.Point, setup.Setup.Setup, state.Row.Row, state.State.State, template.Arms.Arms}
+use Rattle.sim_laws.proofs.{Members.Has, Members.Has-of_map, Rows.apart, Rows.found_row, Rows.Has-of_filter, Rows.known_row, Rows.same_row}
 
 -- a filter that each member passes
 filter_all : {X : Type 0} (p : X → Bool) (xs : List X) → ((x : X) → Has xs x → p x ≡ true) → filter p xs ≡ xs
@@ -29,7 +17,8 @@ filter_all p (x ∷ xs) each =
     let first : p x ≡ true = each x (inl refl) in
     rw first (ap (λ ys. x ∷ ys) (filter_all p xs (λ y h. each y (inr h))))
 
-module _ (setup : Setup) (state : State) (row : Row) (limits : IsSetup setup) (valid : IsLooselyValid setup state) (known : IsKnownRow 0 setup state.rows row) (found : row_of state row.id ≡ Some row) where
+module _ (setup : Setup) (state : State) (row : Row) (limits : IsSetup setup) (valid : IsLooselyValid setup state) (known : IsKnownRow 0 setup state.rows row)
+    (found : row_of state row.id ≡ Some row) where
   -- the row is none of its own enemies
   not_itself : in_mask (enemies_of setup row.owner) row.owner ≡ false
   not_itself =
@@ -53,7 +42,8 @@ module _ (setup : Setup) (state : State) (row : Row) (limits : IsSetup setup) (v
   pub seen_is_nearest : (arms : Arms) → nearest_of state row (seen setup state row arms) ≡ nearest_from setup state row.owner row.at arms.vision
   seen_is_nearest arms =
       let ids = within state row.at arms.vision (enemies_of setup row.owner) in
-      ap (λ (found : List ℕ). unwrap_or (least_of (λ id. unwrap_or (option_map (λ (other : Row). square other.at row.at) (row_of state id)) 0 ∷ id ∷ []) found) 0)
+      ap (λ (found : List ℕ). unwrap_or (least_of (λ id. unwrap_or (option_map (λ (other : Row). square other.at row.at) (row_of state id)) 0 ∷ id ∷ []) found)
+      0)
       (filter_all (λ id. not (id == row.id)) ids (other_ids arms.vision))
 
 same_point-true : (p q : Point) → same_point p q ≡ true → p ≡ q
@@ -64,7 +54,8 @@ same_point-true p q e =
     λ i. record { x = ex i; z = ez i }
 
 -- what is taken from a find is what the row's owner finds from there
-pub shared_is_nearest : (setup : Setup) (state : State) (row : Row) (vision : ℤ) (o : Option Find) (target : ℕ) → IfSome o (λ (find : Find). find.target ≡ nearest_from setup state find.owner find.at find.vision) →
+pub shared_is_nearest : (setup : Setup) (state : State) (row : Row) (vision : ℤ) (o : Option Find) (target : ℕ)
+    → IfSome o (λ (find : Find). find.target ≡ nearest_from setup state find.owner find.at find.vision) →
     shared row vision o ≡ Some target → target ≡ nearest_from setup state row.owner row.at vision
 shared_is_nearest setup state row vision None target h e = absurd (cc)
 shared_is_nearest setup state row vision (Some find) target h e = by (is_shared row vision find) refl e
@@ -78,7 +69,8 @@ shared_is_nearest setup state row vision (Some find) target h e = by (is_shared 
         let same_at : find.at ≡ row.at = same_point-true find.at row.at place in
         let same_far : find.vision ≡ vision = grind arith in
         let same : find.target ≡ target = cc in
-        sym same ∙ h ∙ ap (λ (n : ℕ). nearest_from setup state n find.at find.vision) same_owner ∙ ap (λ (p : Point). nearest_from setup state row.owner p find.vision) same_at ∙
+        sym same ∙ h ∙ ap (λ (n : ℕ). nearest_from setup state n find.at find.vision) same_owner ∙
+        ap (λ (p : Point). nearest_from setup state row.owner p find.vision) same_at ∙
         ap (nearest_from setup state row.owner row.at) same_far
 
 -- a find has one of the places

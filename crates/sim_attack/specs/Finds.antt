@@ -1,16 +1,9 @@
 -- What fighters have found, and which others find the same.
-use Rattle.std.specs.Prelude.{◌≡◌, ℕ, ◌+◌, ◌*◌, ◌/◌, ◌%◌, Bool, ◌&&◌, ◌==◌, ℤ, unsigned_abs, List, [], ◌∷◌, All, Option, Some, None, IfSome, option_map, unwrap_or, if◌then◌else◌, replicate}
-use Rattle.std.specs.Ordering.{int_eq}
-use Rattle.sim_base.specs.declared.place.Point.{Point}
-use Rattle.sim_base.specs.declared.setup.Setup.{Setup}
-use Rattle.sim_base.specs.declared.state.Row.{Row}
-use Rattle.sim_base.specs.declared.state.State.{State}
-use Rattle.sim_base.specs.Places.{square}
-use Rattle.sim_base.specs.Least.{least_of}
-use Rattle.sim_base.specs.Rows.{row_of, enemies_of}
-use Rattle.sim_base.specs.Filters.{within}
-use Rattle.sim_base.specs.Move.{same_point}
+use Rattle.std.specs.{Ordering.int_eq, Prelude.Option, Prelude.unwrap_or, Prelude.option_map}
+use Rattle.std.specs.Prelude.{◌≡◌, ℕ, ◌+◌, ◌*◌, ◌/◌, ◌%◌, Bool, ◌&&◌, List, [], ◌∷◌, replicate, ℤ, IfSome, if◌then◌else◌, ◌==◌, unsigned_abs, Some, None, All}
 use Rattle.sim_attack.specs.declared.finds.Find.{Find}
+use Rattle.sim_base.specs.{Filters.within, Least.least_of, Places.square, Rows.enemies_of, Rows.row_of}
+use Rattle.sim_base.specs.{Move.same_point, declared.place.Point.Point, declared.setup.Setup.Setup, declared.state.Row.Row, declared.state.State.State}
 
 -- how many finds are kept at most
 abbrev pub find_places : ℕ
@@ -37,7 +30,8 @@ shared row vision (Some find) = if is_shared row vision find then Some find.targ
 -- the nearest enemy of an owner that is seen from a point, of several the one with the least id, or 0
 abbrev pub nearest_from : Setup → State → ℕ → Point → ℤ → ℕ
 nearest_from setup state owner at vision =
-    unwrap_or (least_of (λ id. unwrap_or (option_map (λ (other : Row). square other.at at) (row_of state id)) 0 ∷ id ∷ []) (within state at vision (enemies_of setup owner))) 0
+    unwrap_or (least_of (λ id. unwrap_or (option_map (λ (other : Row). square other.at at) (row_of state id)) 0 ∷ id ∷ [])
+    (within state at vision (enemies_of setup owner))) 0
 
 -- each find is the nearest enemy that its owner sees from there
 abbrev pub AreFound : Setup → State → List (Option Find) → Type 0

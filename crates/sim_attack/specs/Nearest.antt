@@ -1,10 +1,7 @@
 -- The nearest of some rows.
-use Rattle.std.specs.Prelude.{◌≡◌, ℕ, List, [], ◌∷◌, Option, Some, None, IfSome, option_map, unwrap_or, if◌then◌else◌}
-use Rattle.sim_base.specs.declared.state.Row.{Row}
-use Rattle.sim_base.specs.declared.state.State.{State}
-use Rattle.sim_base.specs.Least.{is_before, least_of}
+use Rattle.std.specs.Prelude.{◌≡◌, ℕ, List, [], ◌∷◌, IfSome, if◌then◌else◌, Some, None, Option, unwrap_or, option_map}
 use Rattle.sim_attack.specs.declared.aim.Candidate.{Candidate}
-use Rattle.sim_base.specs.Aim.{square_to}
+use Rattle.sim_base.specs.{Aim.square_to, Least.is_before, Least.least_of, declared.state.Row.Row, declared.state.State.State}
 
 -- the id of the nearest, of several the least, or 0
 abbrev pub nearest_of : State → Row → List ℕ → ℕ

@@ -4,24 +4,20 @@
 //! holds its place. So the nearest enemy that one row finds is kept for others of its owner that stand where it stands. A row
 //! that holds its place takes it where it is within range; if it is not, no other is.
 
-ghost use Rattle.std.specs.Prelude.{◌≡◌, ◌++◌, IfOk, OnOk, IsSome, MatchOption, Some};
-ghost use Rattle.std.specs.Result.{ForOk};
-ghost use Rattle.sim_base.specs.Limits.{IsSetup};
-ghost use Rattle.sim_base.specs.Places.{IsPlaced};
-ghost use Rattle.sim_base.specs.Rows.{row_of, target_of as target_by, arms_of as arms_by};
-ghost use Rattle.sim_base.specs.Validity.{IsKnownRow, IsLooselyValid};
-ghost use Rattle.sim_base.specs.Aim.{aimed, lets_go as lets_go_by, reaches as reaches_by, may_take as may_take_by, is_idle as is_idle_by, square_to as square_to_by};
-ghost use Rattle.sim_system.specs.Answers.{seen_from};
-ghost use Rattle.sim_plans.specs.Plans.{aim_changes_of, aim_plan, next_target};
-ghost use Rattle.sim_plans.specs.PlanLaws.{IsPlanOf};
-ghost use Rattle.sim_scene.specs.SceneWords.{Stands};
-ghost use Rattle.sim_attack.specs.Finds.{AreFound, nearest_from};
-ghost use Rattle.sim_attack.specs.Nearest.{nearest_of, better_of};
+ghost use Rattle.{sim_scene.specs.SceneWords.Stands, sim_system.specs.Answers.seen_from};
+ghost use Rattle.std.specs.{Prelude.◌≡◌, Prelude.◌++◌, Prelude.IfOk, Prelude.OnOk, Prelude.IsSome, Prelude.MatchOption, Prelude.Some, Result.ForOk};
+ghost use Rattle.sim_attack.specs.{Finds.AreFound, Finds.nearest_from, Nearest.better_of, Nearest.nearest_of};
+ghost use Rattle.sim_base.specs.{Aim.square_to as square_to_by, Limits.IsSetup, Places.IsPlaced};
+ghost use Rattle.sim_base.specs.{Rows.arms_of as arms_by, Rows.row_of, Rows.target_of as target_by, Validity.IsKnownRow, Validity.IsLooselyValid};
+ghost use Rattle.sim_base.specs.Aim.{aimed, is_idle as is_idle_by, lets_go as lets_go_by, may_take as may_take_by, reaches as reaches_by};
+ghost use Rattle.sim_plans.specs.{PlanLaws.IsPlanOf, Plans.aim_changes_of, Plans.aim_plan, Plans.next_target};
 
 use crate::finds::Finds;
 use sim_base::{Arms, Changes, Ids, Items, OutOfMemory, Point, Row, Setup, State, square};
-use sim_plans::{RowIndex, arms_of, is_enemy_of, is_going, is_holding, is_near, target_of};
-use sim_plans::{push_target, push_turn};
+use sim_plans::{
+    RowIndex, arms_of, is_enemy_of, is_going, is_holding, is_near, push_target, push_turn,
+    target_of,
+};
 use sim_scene::Scene;
 use sim_system::{Answer, Ask, System};
 use std::alloc::Global;

@@ -4,8 +4,8 @@
 //! enemy. What one of them finds has a place that owner and point give. Another find may take that place: then the first
 //! is looked for again.
 
-ghost use Rattle.std.specs.Prelude.{◌≡◌, ◌<◌, [], None, Some, length, slice_index_or, slice_set, OnErr, OnOk};
-ghost use Rattle.sim_attack.specs.Finds.{find_places, place_for, shared, is_shared as is_shared_by, filled};
+ghost use Rattle.std.specs.Prelude.{◌≡◌, ◌<◌, [], length, OnOk, OnErr, slice_index_or, slice_set, Some, None};
+ghost use Rattle.sim_attack.specs.Finds.{filled, find_places, is_shared as is_shared_by, place_for, shared};
 
 use sim_base::{Fixed, OutOfMemory, Point, Row};
 use sim_plans::same_point;
@@ -66,7 +66,8 @@ impl Finds {
 
     /// Keeps the target of a row that sees so far.
     pub fn keep(&mut self, row: &Row, vision: Fixed, target: u32) -> Result<(), OutOfMemory>
-        ensures ok { OnOk result (self.new.kept.items ≡ slice_set (filled self.old.kept.items) (place_for row.now.owner row.now.at) (Some (record { owner = row.now.owner; at = row.now.at; vision = vision; target = target }))) }
+        ensures ok { OnOk result (self.new.kept.items ≡ slice_set (filled self.old.kept.items) (place_for row.now.owner row.now.at)
+            (Some (record { owner = row.now.owner; at = row.now.at; vision = vision; target = target }))) }
         ensures err { OnErr result (self.new.kept.items ≡ self.old.kept.items) }
     {
         self.make_places()?;

@@ -1,10 +1,7 @@
 //! The phase in which those without health leave.
 
-ghost use Rattle.std.specs.Prelude.{◌≡◌, IfOk};
-ghost use Rattle.std.specs.Result.{ForOk};
-ghost use Rattle.sim_base.specs.Hit.{gone, is_spent as is_spent_health};
-ghost use Rattle.sim_plans.specs.Plans.{gone_plan};
-ghost use Rattle.sim_plans.specs.PlanLaws.{IsPlanOf};
+ghost use Rattle.{sim_base.specs.Hit.gone, sim_base.specs.Hit.is_spent as is_spent_health, sim_plans.specs.PlanLaws.IsPlanOf, sim_plans.specs.Plans.gone_plan};
+ghost use Rattle.std.specs.{Prelude.◌≡◌, Prelude.IfOk, Result.ForOk};
 ghost use Rattle.sim_scene.specs.SceneWords.{Stands};
 
 use sim_base::{Change, Changes, Items, OutOfMemory, Row, State};

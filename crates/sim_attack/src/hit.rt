@@ -2,15 +2,10 @@
 //!
 //! Each row fights against the state as it was; what landed hits take is kept in one sum for each row, at its place.
 
-ghost use Rattle.std.specs.Prelude.{◌≡◌, ◌++◌, ◌+◌, ◌^◌, ◌<◌, ◌≤◌, ◌∷◌, [], ℕ, List, All, IfOk, OnOk, length};
-ghost use Rattle.std.specs.Result.{ForOk};
-ghost use Rattle.sim_base.specs.Limits.{IsSetup};
-ghost use Rattle.sim_base.specs.Validity.{IsKnownRow, IsLooselyValid};
-ghost use Rattle.sim_base.specs.Hit.{Hit, hit, lands as lands_by};
-ghost use Rattle.sim_plans.specs.Plans.{cooldown_change, fight_changes_of, hurt_changes_by, hit_plan};
-ghost use Rattle.sim_plans.specs.PlanLaws.{IsPlanOf};
-ghost use Rattle.sim_scene.specs.SceneWords.{Stands};
-ghost use Rattle.sim_attack.specs.Fights.{fought_on, AreTaken};
+ghost use Rattle.{sim_attack.specs.Fights.AreTaken, sim_attack.specs.Fights.fought_on, sim_scene.specs.SceneWords.Stands, std.specs.Result.ForOk};
+ghost use Rattle.std.specs.Prelude.{◌≡◌, ℕ, ◌+◌, ◌^◌, ◌<◌, ◌≤◌, List, [], ◌∷◌, ◌++◌, length, IfOk, OnOk, All};
+ghost use Rattle.sim_base.specs.{Hit.Hit, Hit.hit, Hit.lands as lands_by, Limits.IsSetup, Validity.IsKnownRow, Validity.IsLooselyValid};
+ghost use Rattle.sim_plans.specs.{PlanLaws.IsPlanOf, Plans.cooldown_change, Plans.fight_changes_of, Plans.hit_plan, Plans.hurt_changes_by};
 
 use crate::damage::taken;
 use sim_base::{Aim, Change, Changes, Fixed, Items, OutOfMemory, Row, Setup, State, next_word};
@@ -67,7 +62,8 @@ fn fight(
     ensures changes { OnOk result (changes.new ≡ changes.old ++ fight_changes_of setup.now state.now row.now) }
     ensures word { IfOk result (λ next. (hits : List Hit) → next ≡ (fought_on setup.now state.now word hits row.now).word) }
     ensures is_word { IfOk result (λ next. next < 2 ^ 48) }
-    ensures damage { OnOk result ((hits : List Hit) → AreTaken state.now.rows hits damage.old.items → AreTaken state.now.rows (fought_on setup.now state.now word hits row.now).hits damage.new.items) }
+    ensures damage { OnOk result ((hits : List Hit) → AreTaken state.now.rows hits damage.old.items
+        → AreTaken state.now.rows (fought_on setup.now state.now word hits row.now).hits damage.new.items) }
     ensures small { OnOk result ((most : ℕ) → All (λ n. n ≤ most) damage.old.items → All (λ n. n ≤ most + 196608000) damage.new.items) }
 {
     let Some(aim) = row.attack else {

@@ -1,12 +1,8 @@
 -- What is appended to a text in parts: the old text stays before them, and the new one may be cut there.
-use Rattle.std.proofs.Common.{◌≡◌, ℕ, ◌≤◌, List, ◌++◌, take, length, sym, ap, subst, ◌∙◌, arith}
-use Rattle.std.specs.Prelude.{String, string_bytes}
-use Rattle.std.specs.Str.{IsUtf8}
-use Rattle.std.specs.String.{string_len}
-use Rattle.std.specs.String.Boundary.{IsSplitPoint}
+use Rattle.std.proofs.Common.{◌≡◌, ℕ, ◌≤◌, List, ◌++◌, length, take, ap, arith, subst, sym, ◌∙◌}
 use Rattle.std.proofs.Math.Seq.{take-append_seam}
-use Rattle.std.proofs.lemmas.List.{length-append, length-take, take-take}
-use Rattle.std.proofs.lemmas.Str.{IsUtf8-string_bytes, IsCharBoundary-from_take}
+use Rattle.std.proofs.lemmas.{List.length-append, List.length-take, List.take-take, Str.IsCharBoundary-from_take, Str.IsUtf8-string_bytes}
+use Rattle.std.specs.{Prelude.string_bytes, Prelude.String, Str.IsUtf8, String.string_len, String.Boundary.IsSplitPoint}
 
 -- the old text stands before what was appended to it, and then to that
 pub take-appended_more : (old rest mid new : List ℕ) → mid ≡ old ++ rest → take (length mid) new ≡ mid → take (length old) new ≡ old
@@ -15,7 +11,8 @@ take-appended_more old rest mid new e kept =
     sym (take-take (length old) (length mid) new within) ∙ ap (take (length old)) (kept ∙ e) ∙ take-append_seam old rest
 
 -- a character begins where the old text ended, since both are texts
-pub IsSplitPoint-appended : {Z : Type 0} (old new : String Z) (n : ℕ) → n ≡ string_len old → take (length (string_bytes old)) (string_bytes new) ≡ string_bytes old → IsSplitPoint (string_bytes new) n
+pub IsSplitPoint-appended : {Z : Type 0} (old new : String Z) (n : ℕ) → n ≡ string_len old → take (length (string_bytes old)) (string_bytes new) ≡
+    string_bytes old → IsSplitPoint (string_bytes new) n
 IsSplitPoint-appended old new n place kept =
     let before = string_bytes old in
     let after = string_bytes new in

@@ -1,24 +1,11 @@
 -- Worked matches, by computation: what turns make of a few rows, and the bytes of small states. Each value is one that was worked out by
 -- hand, so that a definition that says something else is refused here.
-use Rattle.std.proofs.Common.{◌≡◌, ℕ, ◌*◌, ◌+◌, pos, refl, Some, None, List, [], ◌∷◌, false}
-use Rattle.std.specs.Prelude.{codes, map}
-use Rattle.std.specs.List.{range_with_len}
-use Rattle.sim_base.specs.declared.place.Point.{Point}
-use Rattle.sim_base.specs.declared.template.Template.{Template}
-use Rattle.sim_base.specs.declared.template.Harm.{Harm}
-use Rattle.sim_base.specs.declared.command.Command.{Command}
-use Rattle.sim_base.specs.declared.command.Command.TheVariants.{Attack, Delete, Place, Train, Resign}
-use Rattle.sim_base.specs.declared.command.PlayerCommand.{PlayerCommand}
-use Rattle.sim_base.specs.declared.setup.First.{First}
-use Rattle.sim_base.specs.declared.setup.Setup.{Setup}
-use Rattle.sim_base.specs.declared.state.Motion.TheVariants.{Still}
-use Rattle.sim_base.specs.declared.state.Row.{Row}
-use Rattle.sim_base.specs.declared.state.State.{State}
-use Rattle.sim_base.specs.Hit.{no_resist}
-use Rattle.sim_base.specs.Commands.{commanded}
-use Rattle.sim_base.specs.Turn.{first_state, turn}
-use Rattle.sim_base.specs.Bytes.{u16_bytes, u32_bytes, u64_bytes, i32_bytes}
-use Rattle.sim_base.specs.Spelling.{spelling}
+use Rattle.{sim_base.specs.Spelling.spelling, std.specs.List.range_with_len, std.specs.Prelude.map, std.specs.Prelude.codes}
+use Rattle.std.proofs.Common.{◌≡◌, ℕ, ◌+◌, ◌*◌, false, List, [], ◌∷◌, pos, Some, None, refl}
+use Rattle.sim_base.specs.{Bytes.i32_bytes, Bytes.u16_bytes, Bytes.u32_bytes, Bytes.u64_bytes, Commands.commanded, Hit.no_resist, Turn.first_state, Turn.turn}
+use Rattle.sim_base.specs.declared.{command.PlayerCommand.PlayerCommand, place.Point.Point, setup.First.First, setup.Setup.Setup}
+use Rattle.sim_base.specs.declared.{state.Motion.TheVariants.Still, state.Row.Row, state.State.State, template.Harm.Harm, template.Template.Template}
+use Rattle.sim_base.specs.declared.command.Command.{Command, TheVariants.Attack, TheVariants.Delete, TheVariants.Place, TheVariants.Resign, TheVariants.Train}
 
 -- the middle of a cell
 abbrev pub mid : ℕ → ℕ → Point
@@ -152,7 +139,8 @@ bows_aim = refl
 abbrev pub huts : Setup
 huts = alone 16 4 (hut 2 ∷ []) []
 
-huts_placed : turn huts (first_state huts) (order 1 (Place 0 (mid 5 5)) ∷ order 1 (Place 0 (mid 6 5)) ∷ order 1 (Place 0 (mid 7 5)) ∷ order 1 (Place 0 (mid 0 0)) ∷ order 1 Resign ∷ [])
+huts_placed : turn huts (first_state huts) (order 1 (Place 0 (mid 5 5)) ∷ order 1 (Place 0 (mid 6 5)) ∷ order 1 (Place 0 (mid 7 5)) ∷
+    order 1 (Place 0 (mid 0 0)) ∷ order 1 Resign ∷ [])
     ≡ record { turn = 1; next = 4; word = 0; rows = row 2 0 0 (mid 5 5) (hut 2) ∷ row 3 0 0 (mid 7 5) (hut 2) ∷ [] }
 huts_placed = refl
 
@@ -174,7 +162,12 @@ barracks_full = refl
 
 -- with as many rows as a state may have none is made, however few of them are the player's
 abbrev crowded : State
-crowded = record { turn = 0; next = 4098; word = 0; rows = row 2 1 1 (mid 5 5) barracks ∷ map (λ id. record (still id (mid 1 1)) { owner = 0 }) (range_with_len 3 4095) }
+crowded = record {
+  turn = 0;
+  next = 4098;
+  word = 0;
+  rows = row 2 1 1 (mid 5 5) barracks ∷ map (λ id. record (still id (mid 1 1)) { owner = 0 }) (range_with_len 3 4095);
+}
 
 barracks_crowded : commanded (alone 16 4096 (walker ∷ barracks ∷ []) []) crowded (order 1 (Train 2 0)) ≡ crowded
 barracks_crowded = refl

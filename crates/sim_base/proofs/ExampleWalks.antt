@@ -1,24 +1,10 @@
 -- Worked matches with a walker, by computation. The root stays closed, and is given by its square and the next one.
-use Rattle.std.proofs.Common.{◌≡◌, ℕ, refl, ap, ◌∙◌, fold, Some, List, [], ◌∷◌, true, false, lit≤, lit<}
-use Rattle.sim_base.specs.declared.place.Point.{Point}
-use Rattle.sim_base.specs.declared.command.Command.TheVariants.{Walk, Place}
-use Rattle.sim_base.specs.declared.command.PlayerCommand.{PlayerCommand}
-use Rattle.sim_base.specs.declared.setup.Setup.{Setup}
-use Rattle.sim_base.specs.declared.state.Motion.TheVariants.{Going}
-use Rattle.sim_base.specs.declared.state.Row.{Row}
-use Rattle.sim_base.specs.declared.state.State.{State}
-use Rattle.sim_base.specs.Numbers.{root}
-use Rattle.sim_base.specs.WayOf.{way_of}
-use Rattle.sim_base.specs.Filters.{field_of}
-use Rattle.sim_base.specs.Commands.{commanded}
-use Rattle.sim_base.specs.Aim.{aimed}
-use Rattle.sim_base.specs.Move.{moved}
-use Rattle.sim_base.specs.Hit.{hit, gone}
-use Rattle.sim_base.specs.Turn.{first_state, turn, ticked}
-use Rattle.sim_base.specs.Bytes.{u32_bytes, i32_bytes}
-use Rattle.sim_base.specs.Spelling.{moving_bytes}
-use Rattle.sim_base.proofs.RootLemmas.{root_is}
-use Rattle.sim_base.proofs.ExampleMatches.{mid, order, walker, hut, alone, first, row, still}
+use Rattle.std.proofs.Common.{◌≡◌, ℕ, true, false, List, [], ◌∷◌, Some, fold, refl, ap, lit<, lit≤, ◌∙◌}
+use Rattle.sim_base.{proofs.RootLemmas.root_is, specs.Aim.aimed, specs.Filters.field_of, specs.Hit.gone, specs.Hit.hit, specs.WayOf.way_of}
+use Rattle.sim_base.proofs.ExampleMatches.{alone, first, hut, mid, order, row, still, walker}
+use Rattle.sim_base.specs.{Bytes.i32_bytes, Bytes.u32_bytes, Commands.commanded, Numbers.root, Spelling.moving_bytes, Turn.first_state, Turn.ticked, Turn.turn}
+use Rattle.sim_base.specs.{Move.moved, declared.setup.Setup.Setup, declared.state.Motion.TheVariants.Going, declared.state.Row.Row, declared.state.State.State}
+use Rattle.sim_base.specs.declared.{command.Command.TheVariants.Place, command.Command.TheVariants.Walk, command.PlayerCommand.PlayerCommand, place.Point.Point}
 
 -- two neighbouring cells are a metre apart
 metre : root 4294967296 ≡ 65536
@@ -59,7 +45,12 @@ abbrev hidden : ℕ → Setup
 hidden n = alone 16 4 (walker ∷ hut n ∷ []) (first 0 1 (mid 5 5) ∷ [])
 
 abbrev leaving : ℕ → State
-leaving n = record { turn = 0; next = 4; word = 0; rows = record (still 2 (mid 5 5)) { motion = Some (Going (mid 9 5) [] false) } ∷ row 3 1 1 (mid 5 5) (hut n) ∷ [] }
+leaving n = record {
+  turn = 0;
+  next = 4;
+  word = 0;
+  rows = record (still 2 (mid 5 5)) { motion = Some (Going (mid 9 5) [] false) } ∷ row 3 1 1 (mid 5 5) (hut n) ∷ [];
+}
 
 way_out : way_of (field_of (hidden 2) (leaving 2)) (mid 5 5) (mid 9 5) ≡ record { points = mid 6 5 ∷ mid 7 5 ∷ mid 8 5 ∷ mid 9 5 ∷ []; whole = true }
 unfolding way_of
@@ -89,5 +80,6 @@ walk_out =
 walked_out : turn (hidden 2) half_out [] ≡ record { turn = 2; next = 4; word = 0; rows = still 2 (mid 9 5) ∷ row 3 1 1 (mid 5 5) (hut 2) ∷ [] }
 walked_out = simp metre
 
-stuck : turn (hidden 3) (first_state (hidden 3)) hut_and_walk ≡ record { turn = 1; next = 4; word = 0; rows = still 2 (mid 5 5) ∷ row 3 1 1 (mid 5 5) (hut 3) ∷ [] }
+stuck : turn (hidden 3) (first_state (hidden 3)) hut_and_walk ≡
+    record { turn = 1; next = 4; word = 0; rows = still 2 (mid 5 5) ∷ row 3 1 1 (mid 5 5) (hut 3) ∷ [] }
 stuck = simp no_way_out

@@ -1,14 +1,9 @@
 -- Worked examples, computed from the definitions: each value was worked out by hand or by another program.
-use Rattle.std.proofs.Common.{◌≡◌, ◌%◌, pos, neg_ℤ, refl, Some, None, [], ◌∷◌, true, false, replicate, lit≤, lit<}
-use Rattle.std.specs.Prelude.{codes}
-use Rattle.std.specs.Fmt.{digits}
-use Rattle.sim_base.specs.declared.place.Point.{Point}
-use Rattle.sim_base.specs.Numbers.{product, quotient, is_raw, root, next_word}
-use Rattle.sim_base.specs.NumberText.{number_of, text_of}
-use Rattle.sim_base.specs.Names.{is_name}
-use Rattle.sim_base.specs.Places.{is_inside, cell_of, centre_of, square, rect_of, covers, is_rect_inside, cells_of}
-use Rattle.sim_base.specs.Least.{least_of}
-use Rattle.sim_base.proofs.RootLemmas.{root_is}
+use Rattle.std.proofs.Common.{◌≡◌, ◌%◌, true, false, [], ◌∷◌, replicate, pos, neg_ℤ, Some, None, refl, lit<, lit≤}
+use Rattle.std.specs.{Fmt.digits, Prelude.codes}
+use Rattle.sim_base.{proofs.RootLemmas.root_is, specs.Least.least_of, specs.Names.is_name, specs.declared.place.Point.Point}
+use Rattle.sim_base.specs.{NumberText.number_of, NumberText.text_of, Numbers.is_raw, Numbers.next_word, Numbers.product, Numbers.quotient, Numbers.root}
+use Rattle.sim_base.specs.Places.{cell_of, cells_of, centre_of, covers, is_inside, is_rect_inside, rect_of, square}
 
 -- ---- products and quotients
 
@@ -186,7 +181,8 @@ inside_to_the_last_unit = refl
 outside_from_the_border : is_inside (record { width = 2; depth = 1 }) (record { x = pos 0; z = pos 65536 }) ≡ false
 outside_from_the_border = refl
 
-cells_by_rows : cells_of (record { width = 2; depth = 2 }) ≡ record { x = 0; z = 0 } ∷ record { x = 1; z = 0 } ∷ record { x = 0; z = 1 } ∷ record { x = 1; z = 1 } ∷ []
+cells_by_rows : cells_of (record { width = 2; depth = 2 }) ≡ record { x = 0; z = 0 } ∷ record { x = 1; z = 0 } ∷ record { x = 0; z = 1 } ∷
+    record { x = 1; z = 1 } ∷ []
 cells_by_rows = refl
 
 -- ---- the least member

@@ -1,17 +1,12 @@
 -- Digits of a text: their value, one digit at a time; how large a raw they spell; and where the point stands among them.
-use Rattle.std.proofs.Common.{◌≡◌, ℕ, suc, ◌+◌, ◌-◌, ◌*◌, ◌/◌, ◌<◌, ◌≤◌, ◌^◌, Bool, true, false, cond, ltb, leb, not, ◌&&◌, ◌||◌, List, [], ◌∷◌, ◌++◌, take, drop, get_or, length, Option, Some, None, refl, ap, ◌∙◌, arith, rules}
-use Rattle.std.specs.List.{list_all, list_any, position, position_or_len, before_first, after_first}
-use Rattle.std.specs.Int.{IsInRange}
-use Rattle.std.specs.Char.{digit_value}
+use Rattle.std.proofs.{Math.Nat.pow-le-pow_right, Math.Nat.pow-succ', lemmas.List.drop_all, lemmas.List.take_all, lemmas.List.take_more}
+use Rattle.std.proofs.Common.{get_or, take, drop, Some, None, Option, refl, ap, arith, rules, ◌∙◌}
+use Rattle.std.proofs.Common.{◌≡◌, ℕ, suc, ◌+◌, ◌-◌, ◌*◌, ◌/◌, ◌^◌, ◌<◌, ◌≤◌, Bool, true, false, cond, not, ◌&&◌, ◌||◌, ltb, leb, List, [], ◌∷◌, ◌++◌, length}
+use Rattle.std.proofs.lemmas.{Nat.div_below, Nat.mul-le, Str.digit_value_digit, Str.Parse.digit_at, Str.Parse.IsNumeralModel, Str.Parse.numerals_by_value}
+use Rattle.std.proofs.lemmas.Bool.{and_from, and_parts, and_right, cond-false, cond-true, le-ltb, leb-true, lt-ltb, or_from, or_left, Decides.nat_tests}
+use Rattle.std.specs.{Char.digit_value, Int.IsInRange, List.position, List.after_first, List.before_first, List.list_all, List.list_any, List.position_or_len}
 use Rattle.std.specs.Str.Parse.{digits_value, digits_value_after}
-use Rattle.std.proofs.Math.Nat.{pow-succ', pow-le-pow_right}
-use Rattle.std.proofs.lemmas.Bool.{and_parts, leb-true, lt-ltb, le-ltb, cond-true, cond-false, and_from, and_right, or_left, or_from}
-use Rattle.std.proofs.lemmas.Bool.Decides.{nat_tests}
-use Rattle.std.proofs.lemmas.List.{take_more, take_all, drop_all}
-use Rattle.std.proofs.lemmas.Nat.{mul-le, div_below}
-use Rattle.std.proofs.lemmas.Str.{digit_value_digit}
-use Rattle.std.proofs.lemmas.Str.Parse.{IsNumeralModel, numerals_by_value, digit_at}
-use Rattle.sim_base.specs.NumberText.{is_digit, is_point, are_digits, raw_of_digits, magnitude_of}
+use Rattle.sim_base.specs.NumberText.{are_digits, is_digit, is_point, magnitude_of, raw_of_digits}
 
 -- ---- the value of digits
 
@@ -44,23 +39,32 @@ digit_more_small n value digit i h l = let e : i + 1 ≡ suc i = omega arith in 
 -- so sixteen digits stay below their bound
 pub digit_more_fits : (n value digit i len : ℕ) → value < (n + 1) * 10 ^ i → digit ≤ 9 → i < len → (n + 1) * 10 ^ len ≤ 10 ^ 16 → value * 10 + digit < 10 ^ 16
 digit_more_fits n value digit i len h l inside room =
-    omega (arith, digit_more_small n value digit i h l, mul-le (n + 1) (10 ^ (i + 1)) (n + 1) (10 ^ len) (omega arith) (pow-le-pow_right {n = 10} (omega arith) {i = i + 1} {j = len} (omega arith)))
+    omega (
+      arith,
+      digit_more_small n value digit i h l,
+      mul-le (n + 1) (10 ^ (i + 1)) (n + 1) (10 ^ len) (omega arith)
+          (pow-le-pow_right {n = 10} (omega arith) {i = i + 1} {j = len} (omega arith)),
+    )
 
 -- ---- how large a raw is
 
 pub few_digits : (most : ℕ) (ds : List ℕ) → are_digits most ds ≡ true → length ds ≤ most
-few_digits most ds e = leb-true (length ds) most (and_parts (leb 1 (length ds)) (leb (length ds) most) (and_parts (leb 1 (length ds) && leb (length ds) most) (list_all is_digit ds) e).0).1
+few_digits most ds e = leb-true (length ds) most
+    (and_parts (leb 1 (length ds)) (leb (length ds) most) (and_parts (leb 1 (length ds) && leb (length ds) most) (list_all is_digit ds) e).0).1
 
 -- ten digits and six more have room
 pub sixteen_digits : (whole before behind : ℕ) → whole < (0 + 1) * 10 ^ before → before ≤ 10 → behind ≤ 6 → (whole + 1) * 10 ^ behind ≤ 10 ^ 16
 sixteen_digits whole before behind h few more =
-    mul-le (whole + 1) (10 ^ behind) (10 ^ 10) (10 ^ 6) (omega (arith, pow-le-pow_right {n = 10} (omega arith) few)) (pow-le-pow_right {n = 10} (omega arith) more)
+    mul-le (whole + 1) (10 ^ behind) (10 ^ 10) (10 ^ 6) (omega (arith, pow-le-pow_right {n = 10} (omega arith) few))
+    (pow-le-pow_right {n = 10} (omega arith) more)
 
 -- ten digits before the point spell a raw below ten thousand million metres
-pub raw_small : (whole value before behind : ℕ) → whole < (0 + 1) * 10 ^ before → before ≤ 10 → value < (whole + 1) * 10 ^ behind → value * 65536 / 10 ^ behind < 2 ^ 62
+pub raw_small : (whole value before behind : ℕ) → whole < (0 + 1) * 10 ^ before → before ≤ 10 → value < (whole + 1) * 10 ^ behind
+    → value * 65536 / 10 ^ behind < 2 ^ 62
 raw_small whole value before behind h few l =
     let positive : 0 < 10 ^ behind = pow-le-pow_right {n = 10} (omega arith) {i = 0} {j = behind} (omega arith) in
-    let most : (whole + 1) * 10 ^ behind ≤ 10 ^ 10 * 10 ^ behind = mul-le (whole + 1) (10 ^ behind) (10 ^ 10) (10 ^ behind) (omega (arith, pow-le-pow_right {n = 10} (omega arith) few)) (omega arith) in
+    let most : (whole + 1) * 10 ^ behind ≤ 10 ^ 10 * 10 ^ behind = mul-le (whole + 1) (10 ^ behind) (10 ^ 10) (10 ^ behind)
+    (omega (arith, pow-le-pow_right {n = 10} (omega arith) few)) (omega arith) in
     omega (arith, div_below (value * 65536) (10 ^ behind) (10 ^ 10 * 65536) positive (omega arith))
 
 -- ---- where the point is
@@ -70,7 +74,8 @@ list_any-position : {X : Type 0} (p : X → Bool) (xs : List X) → list_any p x
 list_any-position p [] = refl
 list_any-position p (x ∷ xs) = by (p x) (list_any-position p xs)
   where
-    by : (t : Bool) → list_any p xs ≡ ltb (position_or_len p xs) (length xs) → (t || list_any p xs) ≡ ltb (cond (not t) (1 + position_or_len p xs) 0) (suc (length xs))
+    by : (t : Bool) → list_any p xs ≡ ltb (position_or_len p xs) (length xs) → (t || list_any p xs) ≡ ltb (cond (not t) (1 + position_or_len p xs) 0)
+        (suc (length xs))
     by true ih = grind (arith, nat_tests)
     by false ih = grind (arith, nat_tests)
 
@@ -112,7 +117,8 @@ Splits-at text at some =
 magnitude_by : List ℕ → List ℕ → Bool → Option ℕ
 magnitude_by before behind pointed = cond (are_digits 10 before && (are_digits 6 behind || not pointed)) (Some (raw_of_digits before behind)) None
 
-magnitude_of-Splits : (text before behind : List ℕ) (pointed : Bool) → Splits text before behind pointed → magnitude_of text ≡ magnitude_by before behind pointed
+magnitude_of-Splits : (text before behind : List ℕ) (pointed : Bool) → Splits text before behind pointed → magnitude_of text ≡ magnitude_by before behind
+    pointed
 unfolding magnitude_by
 magnitude_of-Splits text before behind pointed s =
     ap (λ (xs : List ℕ). magnitude_by xs (after_first is_point text) (list_any is_point text)) s.before_is
@@ -121,12 +127,15 @@ magnitude_of-Splits text before behind pointed s =
 
 pub magnitude_of-whole : (text : List ℕ) → position is_point text ≡ None → are_digits 10 text ≡ true → magnitude_of text ≡ Some (raw_of_digits text [])
 unfolding magnitude_by
-magnitude_of-whole text none digits = magnitude_of-Splits text text [] false (Splits-whole text none) ∙ cond-true _ _ _ (and_from (are_digits 10 text) true digits refl)
+magnitude_of-whole text none digits = magnitude_of-Splits text text [] false (Splits-whole text none) ∙
+    cond-true _ _ _ (and_from (are_digits 10 text) true digits refl)
 
-pub magnitude_of-pointed : (text before behind : List ℕ) → Splits text before behind true → are_digits 10 before ≡ true → are_digits 6 behind ≡ true → magnitude_of text ≡ Some (raw_of_digits before behind)
+pub magnitude_of-pointed : (text before behind : List ℕ) → Splits text before behind true → are_digits 10 before ≡ true → are_digits 6 behind ≡ true
+    → magnitude_of text ≡ Some (raw_of_digits before behind)
 unfolding magnitude_by
 magnitude_of-pointed text before behind s whole rest =
-    magnitude_of-Splits text before behind true s ∙ cond-true _ _ _ (and_from (are_digits 10 before) (are_digits 6 behind || false) whole (or_left (are_digits 6 behind) false rest))
+    magnitude_of-Splits text before behind true s ∙
+    cond-true _ _ _ (and_from (are_digits 10 before) (are_digits 6 behind || false) whole (or_left (are_digits 6 behind) false rest))
 
 pub magnitude_of-refused : (text : List ℕ) (at : ℕ) → position is_point text ≡ Some at → are_digits 6 (drop (at + 1) text) ≡ false → magnitude_of text ≡ None
 unfolding magnitude_by

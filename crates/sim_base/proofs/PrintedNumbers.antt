@@ -1,28 +1,23 @@
 -- A printed number reads back as itself: its text has the digits of the whole metres, a point and five digits more, and
 -- five digits, rounded up, tell each unit of 1/65536 from the next.
-use Rattle.std.proofs.Common.{◌≡◌, ℕ, zero, suc, ◌+◌, ◌-◌, ◌*◌, ◌/◌, ◌%◌, ◌^◌, ◌<◌, ◌≤◌, Bool, true, false, cond, leb, eqb, not, ◌&&◌, List, [], ◌∷◌, ◌++◌, take, drop, length, replicate, ℤ, pos, negsuc, neg_ℤ, Some, None, refl, ap, ◌∙◌, arith, append-nil, ◌==◌}
-use Rattle.std.specs.Prelude.{option_and_then, codes, decimal, nat_eq, FitsSigned}
-use Rattle.std.specs.List.{list_all, list_any, starts_with, position, position_or_len}
-use Rattle.std.specs.Int.{w32, div_ceil}
-use Rattle.std.specs.Char.{digit_value}
-use Rattle.std.specs.Str.Parse.{digits_value, digits_value_after}
-use Rattle.std.proofs.Math.Nat.{pow-succ'}
-use Rattle.std.proofs.Math.Seq.{take-append_seam, drop-append-add}
-use Rattle.std.proofs.lemmas.Bool.{and_from, and_parts, leb-true, le-leb, cond-true, cond-false, ne_eqb, not_from_false, le-ltb, or_right, eqb-true, and_left}
-use Rattle.std.proofs.lemmas.Bool.Decides.{nat_tests}
-use Rattle.std.proofs.lemmas.Int.{ints}
-use Rattle.std.proofs.lemmas.List.{drop-replicate, length-append, length-replicate}
-use Rattle.std.proofs.lemmas.List.Folds.{list_all-append, list_any-append}
-use Rattle.std.proofs.lemmas.Fmt.{length-decimal-le, decimal_nonempty, digits_decimal, digits_value-decimal}
-use Rattle.sim_base.specs.NumberText.{is_digit, is_point, are_digits, magnitude_of, number_of, five_digits, fraction_text, magnitude_text, text_of, in_range}
-use Rattle.sim_base.proofs.NumberTextLemmas.{are_numerals, digits_value_after-append, Splits, magnitude_of-whole, magnitude_of-pointed}
+use Rattle.std.proofs.Common.{length, take, drop, replicate, ℤ, pos, negsuc, neg_ℤ, ◌==◌, Some, None, refl, ap, append-nil, arith, ◌∙◌}
+use Rattle.std.proofs.Common.{◌≡◌, ℕ, zero, suc, ◌+◌, ◌-◌, ◌*◌, ◌/◌, ◌%◌, ◌^◌, ◌<◌, ◌≤◌, Bool, true, false, cond, not, ◌&&◌, eqb, leb, List, [], ◌∷◌, ◌++◌}
+use Rattle.std.proofs.Math.{Nat.pow-succ', Seq.drop-append-add, Seq.take-append_seam}
+use Rattle.std.proofs.lemmas.{Bool.Decides.nat_tests, Fmt.decimal_nonempty, Fmt.digits_decimal, Fmt.digits_value-decimal, Fmt.length-decimal-le}
+use Rattle.std.proofs.lemmas.{Int.ints, List.drop-replicate, List.length-append, List.length-replicate, List.Folds.list_all-append, List.Folds.list_any-append}
+use Rattle.std.proofs.lemmas.Bool.{and_from, and_left, and_parts, cond-false, cond-true, eqb-true, le-leb, le-ltb, leb-true, ne_eqb, not_from_false, or_right}
+use Rattle.std.specs.{Char.digit_value, Int.div_ceil, Int.w32, Prelude.nat_eq, Prelude.FitsSigned, Prelude.codes, Prelude.decimal, Prelude.option_and_then}
+use Rattle.std.specs.{List.position, List.list_all, List.list_any, List.position_or_len, List.starts_with, Str.Parse.digits_value, Str.Parse.digits_value_after}
+use Rattle.sim_base.proofs.NumberTextLemmas.{are_numerals, digits_value_after-append, magnitude_of-pointed, magnitude_of-whole, Splits}
+use Rattle.sim_base.specs.NumberText.{are_digits, five_digits, fraction_text, in_range, is_digit, is_point, magnitude_of, magnitude_text, number_of, text_of}
 
 -- ---- the value of digits
 
 -- a number before digits counts by their weight
 digits_value_after_is : (n : ℕ) (ds : List ℕ) → digits_value_after 10 n ds ≡ n * 10 ^ length ds + digits_value 10 ds
 digits_value_after_is n [] = omega arith
-digits_value_after_is n (d ∷ ds) = rw (pow-succ' 10 (length ds)) (omega (arith, digits_value_after_is (n * 10 + digit_value d) ds, digits_value_after_is (0 + digit_value d) ds))
+digits_value_after_is n (d ∷ ds) =
+    rw (pow-succ' 10 (length ds)) (omega (arith, digits_value_after_is (n * 10 + digit_value d) ds, digits_value_after_is (0 + digit_value d) ds))
 
 digits_value-append : (xs ys : List ℕ) → digits_value 10 (xs ++ ys) ≡ digits_value 10 xs * 10 ^ length ys + digits_value 10 ys
 digits_value-append xs ys = digits_value_after-append 0 xs ys ∙ digits_value_after_is (digits_value 10 xs) ys
@@ -47,7 +42,9 @@ record Spells (least most n : ℕ) (ds : List ℕ) : Type 0 where
 
 are_digits-Spells : (least most n : ℕ) (ds : List ℕ) (bound : ℕ) → 1 ≤ least → most ≤ bound → Spells least most n ds → are_digits bound ds ≡ true
 are_digits-Spells least most n ds bound low high s =
-    and_from (leb 1 (length ds) && leb (length ds) bound) (list_all is_digit ds) (and_from (leb 1 (length ds)) (leb (length ds) bound) (le-leb 1 (length ds) (omega (arith, s.long))) (le-leb (length ds) bound (omega (arith, s.short)))) s.digits
+    and_from (leb 1 (length ds) && leb (length ds) bound) (list_all is_digit ds)
+    (and_from (leb 1 (length ds)) (leb (length ds) bound) (le-leb 1 (length ds) (omega (arith, s.long)))
+    (le-leb (length ds) bound (omega (arith, s.short)))) s.digits
 
 Spells-decimal : (most n : ℕ) → 0 < most → n < 10 ^ most → n < 2 ^ 64 → Spells 1 most n (decimal n)
 Spells-decimal most n positive below fits = record {
@@ -62,7 +59,8 @@ Spells-five_digits n below =
     let s = Spells-decimal 5 n (omega arith) (omega arith) (omega arith) in
     let k = length (decimal n) in
     let padded : five_digits n ≡ replicate (5 - k) 48 ++ decimal n = ap (λ (xs : List ℕ). xs ++ decimal n) (drop-replicate k 5 48) in
-    let len : length (five_digits n) ≡ 5 = ap length padded ∙ length-append (replicate (5 - k) 48) (decimal n) ∙ omega (arith, length-replicate {A = ℕ} (5 - k) 48, s.short) in
+    let len : length (five_digits n) ≡ 5 = ap length padded ∙ length-append (replicate (5 - k) 48) (decimal n) ∙
+    omega (arith, length-replicate {A = ℕ} (5 - k) 48, s.short) in
     record {
       long = omega (arith, len);
       short = omega (arith, len);
@@ -77,7 +75,8 @@ not_point : (c : ℕ) → is_digit c ≡ true → is_point c ≡ false
 not_point c digit = ne_eqb c 46 (λ e. omega (arith, e, leb-true 48 c (and_parts (leb 48 c) (leb c 57) digit).0))
 
 -- the first point stands behind the digits before it
-position_or_len-digits : (before rest : List ℕ) → list_all is_digit before ≡ true → position_or_len is_point (before ++ rest) ≡ length before + position_or_len is_point rest
+position_or_len-digits : (before rest : List ℕ) → list_all is_digit before ≡ true → position_or_len is_point (before ++ rest) ≡ length before +
+    position_or_len is_point rest
 position_or_len-digits [] rest digits = omega arith
 position_or_len-digits (c ∷ cs) rest digits =
     let parts = and_parts (is_digit c) (list_all is_digit cs) digits in
@@ -105,12 +104,14 @@ magnitude_of-whole_text metres ds s =
     magnitude_of-whole ds (position-digits ds s.digits) (are_digits-Spells 1 10 metres ds 10 (omega arith) (omega arith) s)
     ∙ ap Some (rw append-nil (omega (arith, s.value)))
 
-magnitude_of-point_text : (metres parts : ℕ) (ds es : List ℕ) → Spells 1 10 metres ds → Spells 5 5 parts es → magnitude_of (ds ++ 46 ∷ es) ≡ Some ((metres * 100000 + parts) * 65536 / 100000)
+magnitude_of-point_text : (metres parts : ℕ) (ds es : List ℕ) → Spells 1 10 metres ds → Spells 5 5 parts es → magnitude_of (ds ++ 46 ∷ es) ≡ Some
+    ((metres * 100000 + parts) * 65536 / 100000)
 magnitude_of-point_text metres parts ds es s t =
     let len : length es ≡ 5 = omega (arith, t.long, t.short) in
     let power : 10 ^ length es ≡ 100000 = ap (λ (k : ℕ). 10 ^ k) len in
     let value : digits_value 10 (ds ++ es) ≡ metres * 100000 + parts = digits_value-append ds es ∙ rw power (omega (arith, s.value, t.value)) in
-    magnitude_of-pointed (ds ++ 46 ∷ es) ds es (Splits-digits ds es s.digits) (are_digits-Spells 1 10 metres ds 10 (omega arith) (omega arith) s) (are_digits-Spells 5 5 parts es 6 (omega arith) (omega arith) t)
+    magnitude_of-pointed (ds ++ 46 ∷ es) ds es (Splits-digits ds es s.digits) (are_digits-Spells 1 10 metres ds 10 (omega arith) (omega arith) s)
+    (are_digits-Spells 5 5 parts es 6 (omega arith) (omega arith) t)
     ∙ ap Some (ap (λ (x : ℕ). x * 65536 / 10 ^ length es) value ∙ ap (λ (p : ℕ). (metres * 100000 + parts) * 65536 / p) power)
 
 -- ---- five digits are enough
@@ -139,7 +140,8 @@ magnitude_of-magnitude_text n h = by (n % 65536 == 0) refl
     by : (b : Bool) → (n % 65536 == 0) ≡ b → magnitude_of (decimal metres ++ cond b [] (46 ∷ five_digits parts)) ≡ Some n
     by true e = rw append-nil (magnitude_of-whole_text metres (decimal metres) (Spells-metres n h) ∙ ap Some (omega (arith, eqb-true (n % 65536) 0 e)))
     by false e =
-        magnitude_of-point_text metres parts (decimal metres) (five_digits parts) (Spells-metres n h) (Spells-five_digits parts (hundred_thousandths-lt (n % 65536) (omega arith)))
+        magnitude_of-point_text metres parts (decimal metres) (five_digits parts) (Spells-metres n h)
+        (Spells-five_digits parts (hundred_thousandths-lt (n % 65536) (omega arith)))
         ∙ ap Some (hundred_thousandths_back metres (n % 65536) (omega arith) ∙ omega arith)
 
 -- digits begin with no minus sign

@@ -1,17 +1,17 @@
 -- The root of a number is determined by its square and the next one.
-use Rattle.std.proofs.Common.{◌≡◌, ℕ, zero, suc, ◌+◌, ◌*◌, ◌<◌, ◌≤◌, Bool, true, false, cond, leb, refl, sym, ap, ◌∙◌, ⊎_elim, arith}
-use Rattle.std.proofs.Math.Nat.{eq-or-lt_of_le}
-use Rattle.std.proofs.lemmas.Bool.{true≢false, le-leb, lt-leb}
-use Rattle.std.proofs.lemmas.Nat.{mul-le}
-use Rattle.sim_base.specs.Numbers.{greatest, root, IsRoot}
+use Rattle.std.proofs.{Math.Nat.eq-or-lt_of_le, lemmas.Bool.le-leb, lemmas.Bool.lt-leb, lemmas.Bool.true≢false, lemmas.Nat.mul-le}
+use Rattle.std.proofs.Common.{◌≡◌, ℕ, zero, suc, ◌+◌, ◌*◌, ◌<◌, ◌≤◌, Bool, true, false, cond, leb, refl, ap, arith, sym, ⊎_elim, ◌∙◌}
+use Rattle.sim_base.specs.Numbers.{greatest, IsRoot, root}
 
 -- a number that passes, where none above it does, is the greatest
 greatest_is : (test : ℕ → Bool) (bound r : ℕ) → r ≤ bound → test r ≡ true → ((k : ℕ) → r < k → k ≤ bound → test k ≡ false) → greatest test bound ≡ r
 greatest_is test zero r within passes above_fail = omega arith
-greatest_is test (suc bound) r within passes above_fail = by (test (suc bound)) refl (λ h. greatest_is test bound r (omega arith) passes (λ k l m. above_fail k l (omega arith)))
+greatest_is test (suc bound) r within passes above_fail =
+    by (test (suc bound)) refl (λ h. greatest_is test bound r (omega arith) passes (λ k l m. above_fail k l (omega arith)))
   where
     by : (b : Bool) → test (suc bound) ≡ b → (r < suc bound → greatest test bound ≡ r) → cond b (suc bound) (greatest test bound) ≡ r
-    by true e ih = ⊎_elim (λ (h : r ≡ suc bound). sym h) (λ (h : r < suc bound). absurd (true≢false (sym e ∙ above_fail (suc bound) h (omega arith)))) (eq-or-lt_of_le within)
+    by true e ih = ⊎_elim (λ (h : r ≡ suc bound). sym h) (λ (h : r < suc bound). absurd (true≢false (sym e ∙ above_fail (suc bound) h (omega arith))))
+        (eq-or-lt_of_le within)
     by false e ih = ⊎_elim (λ (h : r ≡ suc bound). absurd (true≢false (sym passes ∙ ap test h ∙ e))) ih (eq-or-lt_of_le within)
 
 self_le_square : (r : ℕ) → r ≤ r * r

@@ -1,15 +1,9 @@
 -- The phase in which fighters choose their targets.
-use Rattle.std.specs.Prelude.{ℕ, ◌*◌, Bool, true, false, ◌&&◌, ◌||◌, not, nat_le, ◌==◌, unsigned_abs, List, [], ◌∷◌, map, filter, Option, Some, None, is_some, unwrap_or, option_map, if◌then◌else◌}
-use Rattle.sim_base.specs.declared.place.Point.{Point}
-use Rattle.sim_base.specs.declared.template.Arms.{Arms}
-use Rattle.sim_base.specs.declared.setup.Setup.{Setup}
-use Rattle.sim_base.specs.declared.state.Row.{Row}
-use Rattle.sim_base.specs.declared.state.State.{State}
-use Rattle.sim_base.specs.Places.{square}
-use Rattle.sim_base.specs.Least.{least_of}
-use Rattle.sim_base.specs.Rows.{row_of, target_of, is_holding, is_going, arms_of, in_mask, enemies_of}
-use Rattle.sim_base.specs.Filters.{seen, is_near}
-use Rattle.sim_base.specs.Changes.{aimed_at, released}
+use Rattle.std.specs.Prelude.{filter, Option, unwrap_or, option_map}
+use Rattle.std.specs.Prelude.{ℕ, ◌*◌, Bool, true, false, not, ◌&&◌, ◌||◌, List, [], ◌∷◌, map, is_some, if◌then◌else◌, nat_le, ◌==◌, unsigned_abs, Some, None}
+use Rattle.sim_base.specs.{Changes.aimed_at, Changes.released, Filters.is_near, Filters.seen, Places.square}
+use Rattle.sim_base.specs.{Least.least_of, Rows.arms_of, Rows.enemies_of, Rows.in_mask, Rows.is_going, Rows.is_holding, Rows.row_of, Rows.target_of}
+use Rattle.sim_base.specs.declared.{place.Point.Point, setup.Setup.Setup, state.Row.Row, state.State.State, template.Arms.Arms}
 
 -- a point is within the range of a row with these arms
 abbrev pub reaches : Row → Option Arms → Point → Bool

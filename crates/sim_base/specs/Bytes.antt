@@ -1,6 +1,6 @@
 -- Numbers as bytes, the lowest byte first. They stay closed, so that no proof computes with single bytes by chance.
-use Rattle.std.specs.Prelude.{ℕ, Bool, ℤ, List, [], ◌∷◌, if◌then◌else◌}
-use Rattle.std.specs.Int.{to_le_bytes, w16, w32, w64, cast_unsigned}
+use Rattle.std.specs.Int.{cast_unsigned, to_le_bytes, w16, w32, w64}
+use Rattle.std.specs.Prelude.{ℕ, Bool, List, [], ◌∷◌, ℤ, if◌then◌else◌}
 
 -- two bytes
 unfoldable pub u16_bytes : ℕ → List ℕ

@@ -1,17 +1,9 @@
 -- What a change makes of a state.
-use Rattle.std.specs.Prelude.{ℕ, ◌+◌, Bool, false, ◌==◌, not, ℤ, List, [], ◌∷◌, ◌++◌, map, filter, fold, Option, Some, None, option_map, slice_get, if◌then◌else◌}
-use Rattle.sim_base.specs.declared.place.Point.{Point}
-use Rattle.sim_base.specs.declared.template.Template.{Template}
-use Rattle.sim_base.specs.declared.template.Arms.{Arms}
-use Rattle.sim_base.specs.declared.setup.Setup.{Setup}
-use Rattle.sim_base.specs.declared.state.Motion.{Motion}
-use Rattle.sim_base.specs.declared.state.Motion.TheVariants.{Still}
-use Rattle.sim_base.specs.declared.state.Aim.{Aim}
-use Rattle.sim_base.specs.declared.state.Row.{Row}
-use Rattle.sim_base.specs.declared.state.State.{State}
-use Rattle.sim_base.specs.declared.change.Change.{Change}
+use Rattle.{sim_base.specs.Rows.target_of, std.specs.Prelude.option_map}
+use Rattle.std.specs.Prelude.{ℕ, ◌+◌, Bool, false, not, List, [], ◌∷◌, ◌++◌, map, ℤ, if◌then◌else◌, ◌==◌, slice_get, Some, None, fold, filter, Option}
+use Rattle.sim_base.specs.declared.{change.Change.Change, state.Aim.Aim, state.Motion.Motion, state.Motion.TheVariants.Still, state.Row.Row, state.State.State}
+use Rattle.sim_base.specs.declared.{place.Point.Point, setup.Setup.Setup, template.Arms.Arms, template.Template.Template}
 use Rattle.sim_base.specs.declared.change.Change.TheVariants as change
-use Rattle.sim_base.specs.Rows.{target_of}
 
 -- a row with another target
 abbrev pub aimed_at : ℕ → Row → Row

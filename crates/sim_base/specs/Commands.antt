@@ -1,24 +1,13 @@
 -- What a command of a player makes of a state. A command whose condition fails leaves it.
-use Rattle.std.specs.Prelude.{ℕ, Bool, true, false, ◌&&◌, nat_lt, ◌==◌, List, [], length, map, filter, fold, Option, Some, None, is_some, is_none, slice_get, if◌then◌else◌}
-use Rattle.std.specs.List.{list_any}
-use Rattle.sim_base.specs.declared.place.Point.{Point}
-use Rattle.sim_base.specs.declared.place.Cell.{Cell}
-use Rattle.sim_base.specs.declared.template.Template.{Template}
-use Rattle.sim_base.specs.declared.template.Base.{Base}
-use Rattle.sim_base.specs.declared.command.Command.{Command}
-use Rattle.sim_base.specs.declared.command.Command.TheVariants.{Walk, Stop, Attack, Delete, Place, Train, Resign}
-use Rattle.sim_base.specs.declared.command.PlayerCommand.{PlayerCommand}
-use Rattle.sim_base.specs.declared.setup.Setup.{Setup}
-use Rattle.sim_base.specs.declared.state.Motion.{Motion}
-use Rattle.sim_base.specs.declared.state.Motion.TheVariants.{Going}
-use Rattle.sim_base.specs.declared.state.Aim.{Aim}
-use Rattle.sim_base.specs.declared.state.Row.{Row}
-use Rattle.sim_base.specs.declared.state.State.{State}
-use Rattle.sim_base.specs.Places.{is_inside, rect_of, centre_of}
-use Rattle.sim_base.specs.Rows.{id_of, row_of, template_of, size_of, in_mask, enemies_of}
-use Rattle.sim_base.specs.Limits.{row_limit}
-use Rattle.sim_base.specs.Filters.{is_free_rect, population, spot}
-use Rattle.sim_base.specs.Changes.{aimed_at, with_stance, halted, released, removed, created}
+use Rattle.std.specs.{List.list_any, Prelude.filter, Prelude.Option}
+use Rattle.std.specs.Prelude.{ℕ, Bool, true, false, ◌&&◌, List, [], map, length, is_some, is_none, if◌then◌else◌, nat_lt, ◌==◌, slice_get, Some, None, fold}
+use Rattle.sim_base.specs.{Changes.aimed_at, Changes.created, Changes.halted, Changes.released, Changes.removed, Changes.with_stance, Limits.row_limit}
+use Rattle.sim_base.specs.{Filters.is_free_rect, Filters.population, Filters.spot, declared.place.Cell.Cell, declared.place.Point.Point}
+use Rattle.sim_base.specs.Places.{centre_of, is_inside, rect_of}
+use Rattle.sim_base.specs.Rows.{enemies_of, id_of, in_mask, row_of, size_of, template_of}
+use Rattle.sim_base.specs.declared.{command.Command.Command, command.PlayerCommand.PlayerCommand, template.Base.Base, template.Template.Template}
+use Rattle.sim_base.specs.declared.{setup.Setup.Setup, state.Aim.Aim, state.Motion.Motion, state.Motion.TheVariants.Going, state.Row.Row, state.State.State}
+use Rattle.sim_base.specs.declared.command.Command.TheVariants.{Attack, Delete, Place, Resign, Stop, Train, Walk}
 
 -- a row is ordered where the commander owns it and its id is among those named, however often
 abbrev pub is_ordered : ℕ → List ℕ → Row → Bool
@@ -96,13 +85,15 @@ trained_if setup state player number building true = placed_on setup state playe
 abbrev pub trained : Setup → State → ℕ → ℕ → Option Row → State
 trained setup state player number None = state
 trained setup state player number (Some building) =
-    trained_if setup state player number building (building.owner == player && trains (template_of setup building) number (slice_get setup.templates number) && has_room setup state player)
+    trained_if setup state player number building (building.owner == player && trains (template_of setup building) number (slice_get setup.templates number)
+    && has_room setup state player)
 
 -- the state after a player's command
 abbrev pub commanded_by : Setup → State → ℕ → Command → State
 commanded_by setup state player (Walk ids p) = if is_inside (size_of setup.land) p then with_ordered player ids (sent p) state else state
 commanded_by setup state player (Stop ids) = with_ordered player ids stopped state
-commanded_by setup state player (Attack ids target) = if is_enemy setup player (row_of state target) then with_ordered player ids (set_on target) state else state
+commanded_by setup state player (Attack ids target) = if is_enemy setup player (row_of state target) then with_ordered player ids (set_on target) state
+    else state
 commanded_by setup state player (Delete ids) = fold (λ s id. removed id s) state (map id_of (filter (is_ordered player ids) state.rows))
 commanded_by setup state player (Place number p) =
     if is_placeable setup state p (slice_get setup.templates number) && has_room setup state player then created setup state number p player else state

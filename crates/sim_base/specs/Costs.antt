@@ -1,13 +1,9 @@
 -- The least costs of walks from a start to all cells, found round by round: first of walks with no step, then of walks
 -- with one step more, until a round changes nothing.
-use Rattle.std.specs.Prelude.{ℕ, zero, suc, ◌+◌, ◌*◌, Bool, true, false, ◌||◌, nat_eq, List, [], ◌∷◌, filter_map, Option, Some, None, option_and_then, option_map, if◌then◌else◌}
-use Rattle.std.specs.List.{range_with_len}
-use Rattle.std.specs.Option.{option_eq}
-use Rattle.sim_base.specs.declared.place.Cell.{Cell}
-use Rattle.sim_base.specs.Places.{Size, same_cell}
-use Rattle.sim_base.specs.Least.{least_of}
-use Rattle.sim_base.specs.Steps.{Field, neighbour, is_free, is_straight, beside_open, step_cost}
-use Rattle.sim_base.specs.Tables.{Table, table_of, entry, same_table}
+use Rattle.std.specs.{List.range_with_len, Option.option_eq, Prelude.option_and_then}
+use Rattle.std.specs.Prelude.{ℕ, zero, suc, ◌+◌, ◌*◌, Bool, true, false, ◌||◌, List, [], ◌∷◌, if◌then◌else◌, nat_eq, Some, None, filter_map, Option, option_map}
+use Rattle.sim_base.specs.{Least.least_of, Tables.entry, Tables.same_table, Tables.Table, Tables.table_of, declared.place.Cell.Cell}
+use Rattle.sim_base.specs.{Places.same_cell, Places.Size, Steps.beside_open, Steps.Field, Steps.is_free, Steps.is_straight, Steps.neighbour, Steps.step_cost}
 
 -- a step into a cell: the cell that it comes from, and what it costs
 pub record Source : Type 0 where
@@ -17,7 +13,8 @@ pub record Source : Type 0 where
 -- the step into c from its neighbour in that direction, if there is one
 abbrev pub step_from : Size → (Cell → Bool) → Cell → ℕ → Option Source
 step_from size free c which =
-    option_and_then (λ p. if is_straight which || beside_open free p c then Some (record { cell = p; cost = step_cost which }) else None) (neighbour size c which)
+    option_and_then (λ p. if is_straight which || beside_open free p c then Some (record { cell = p; cost = step_cost which }) else None)
+    (neighbour size c which)
 
 -- the steps into c, in the order of the directions, where the test says which cells are free
 abbrev pub steps_into : Size → (Cell → Bool) → Cell → List Source

@@ -1,17 +1,9 @@
 -- What is asked of a state: each answer is a filter, a count or a least member over all rows or all cells.
-use Rattle.std.specs.Prelude.{ℕ, ◌*◌, Bool, false, not, ◌&&◌, ◌||◌, nat_le, ◌==◌, ℤ, unsigned_abs, List, [], ◌∷◌, map, filter, count_by, Option, Some, None, is_some}
-use Rattle.std.specs.List.{list_any, list_all}
-use Rattle.sim_base.specs.declared.place.Point.{Point}
-use Rattle.sim_base.specs.declared.place.Cell.{Cell}
-use Rattle.sim_base.specs.declared.place.Rect.{Rect}
-use Rattle.sim_base.specs.declared.template.Arms.{Arms}
-use Rattle.sim_base.specs.declared.setup.Setup.{Setup}
-use Rattle.sim_base.specs.declared.state.Row.{Row}
-use Rattle.sim_base.specs.declared.state.State.{State}
-use Rattle.sim_base.specs.Places.{covers, is_rect_inside, square, cells_of, centre_of}
-use Rattle.sim_base.specs.Least.{least_of}
-use Rattle.sim_base.specs.Steps.{Field}
-use Rattle.sim_base.specs.Rows.{id_of, target_of, rect_of_row, size_of, in_mask, enemies_of}
+use Rattle.std.specs.{List.list_all, List.list_any, Prelude.Option}
+use Rattle.std.specs.Prelude.{ℕ, ◌*◌, Bool, false, not, ◌&&◌, ◌||◌, List, [], ◌∷◌, map, ℤ, is_some, nat_le, ◌==◌, unsigned_abs, Some, None, count_by, filter}
+use Rattle.sim_base.specs.{Least.least_of, Places.cells_of, Places.centre_of, Places.covers, Places.is_rect_inside, Places.square}
+use Rattle.sim_base.specs.{Rows.enemies_of, Rows.id_of, Rows.in_mask, Rows.rect_of_row, Rows.size_of, Rows.target_of, Steps.Field, declared.setup.Setup.Setup}
+use Rattle.sim_base.specs.declared.{place.Cell.Cell, place.Point.Point, place.Rect.Rect, state.Row.Row, state.State.State, template.Arms.Arms}
 
 abbrev pub rect_covers : Option Rect → Cell → Bool
 rect_covers None c = false

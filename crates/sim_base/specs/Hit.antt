@@ -1,18 +1,10 @@
 -- The phases in which fighters hit, and in which those without health go.
-use Rattle.std.specs.Prelude.{ℕ, zero, suc, ◌+◌, ◌-◌, ◌/◌, ◌%◌, ◌^◌, Bool, false, ◌==◌, nat_lt, ℤ, pos, ◌-ℤ◌, int_le, unsigned_abs, List, [], ◌∷◌, ◌++◌, map, filter, fold, sum_by, Option, Some, None, option_map, unwrap_or, if◌then◌else◌}
 use Rattle.std.specs.Int.{int_max}
-use Rattle.sim_base.specs.declared.template.Template.{Template}
-use Rattle.sim_base.specs.declared.template.Arms.{Arms}
-use Rattle.sim_base.specs.declared.template.Harm.{Harm}
-use Rattle.sim_base.specs.declared.template.Resist.{Resist}
-use Rattle.sim_base.specs.declared.setup.Setup.{Setup}
-use Rattle.sim_base.specs.declared.state.Aim.{Aim}
-use Rattle.sim_base.specs.declared.state.Row.{Row}
-use Rattle.sim_base.specs.declared.state.State.{State}
-use Rattle.sim_base.specs.Numbers.{product, unit, next_word}
-use Rattle.sim_base.specs.Rows.{id_of, row_of, template_of, arms_of}
-use Rattle.sim_base.specs.Filters.{is_near}
-use Rattle.sim_base.specs.Changes.{removed}
+use Rattle.std.specs.Prelude.{unsigned_abs, int_le, Some, None, fold, sum_by, filter, Option, unwrap_or, option_map}
+use Rattle.std.specs.Prelude.{ℕ, zero, suc, ◌+◌, ◌-◌, ◌/◌, ◌%◌, ◌^◌, Bool, false, List, [], ◌∷◌, ◌++◌, map, ℤ, pos, ◌-ℤ◌, if◌then◌else◌, nat_lt, ◌==◌}
+use Rattle.sim_base.specs.{Changes.removed, Filters.is_near, Numbers.next_word, Numbers.product, Numbers.unit}
+use Rattle.sim_base.specs.{Rows.arms_of, Rows.id_of, Rows.row_of, Rows.template_of, declared.state.Aim.Aim, declared.state.Row.Row, declared.state.State.State}
+use Rattle.sim_base.specs.declared.{setup.Setup.Setup, template.Arms.Arms, template.Harm.Harm, template.Resist.Resist, template.Template.Template}
 
 -- what is left of a damage of 1 at a level of resistance: nine tenths at each level
 abbrev pub left_at : ℕ → ℤ

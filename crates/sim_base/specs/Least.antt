@@ -1,7 +1,6 @@
 -- The least member of a list by a key of several numbers.
-use Rattle.std.specs.Prelude.{ℕ, Bool, List, Option, Some, None, if◌then◌else◌, fold}
-use Rattle.std.specs.Ordering.{is_lt, nat_cmp}
-use Rattle.std.specs.Cmp.Lexicographic.{slice_cmp}
+use Rattle.std.specs.{Cmp.Lexicographic.slice_cmp, Ordering.is_lt, Ordering.nat_cmp}
+use Rattle.std.specs.Prelude.{ℕ, Bool, List, if◌then◌else◌, Some, None, fold, Option}
 
 -- the first key is less: at the first place where the two differ
 abbrev pub is_before : List ℕ → List ℕ → Bool

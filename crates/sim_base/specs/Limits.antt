@@ -1,18 +1,10 @@
 -- How many rows, waypoints and bytes there may be, and the limits that the setup of every match meets.
-use Rattle.std.specs.Prelude.{◌≡◌, ◌≢◌, ℕ, ◌+◌, ◌^◌, ◌<◌, ◌≤◌, Bool, false, ◌&&◌, ◌==◌, IsTrue, ℤ, pos, ◌≤ℤ◌, length, map, count_by, All, AllPairs, EachIndex, IfSome, IsSome, IsNone, slice_index}
-use Rattle.std.specs.List.Sorted.{IsNonDecreasing}
-use Rattle.sim_base.specs.declared.place.Rect.{Rect}
-use Rattle.sim_base.specs.declared.template.Template.{Template}
-use Rattle.sim_base.specs.declared.template.Arms.{Arms}
-use Rattle.sim_base.specs.declared.command.Command.{Command}
-use Rattle.sim_base.specs.declared.command.Command.TheVariants.{Walk, Stop, Attack, Delete, Place, Train, Resign}
-use Rattle.sim_base.specs.declared.setup.Land.{Land}
-use Rattle.sim_base.specs.declared.setup.First.{First}
-use Rattle.sim_base.specs.declared.setup.Timed.{Timed}
-use Rattle.sim_base.specs.declared.setup.Setup.{Setup}
+use Rattle.std.specs.{List.Sorted.IsNonDecreasing, Prelude.EachIndex, Prelude.All, Prelude.count_by, Prelude.AllPairs}
+use Rattle.std.specs.Prelude.{◌≡◌, ℕ, ◌+◌, ◌^◌, ◌<◌, ◌≤◌, Bool, false, ◌&&◌, ◌≢◌, map, length, ℤ, pos, ◌≤ℤ◌, IfSome, IsSome, IsNone, IsTrue, ◌==◌, slice_index}
+use Rattle.sim_base.specs.{Places.is_inside, Places.is_rect_inside, Rows.in_mask, Rows.size_of, declared.command.Command.Command, declared.place.Rect.Rect}
 use Rattle.sim_base.specs.Names.{is_name}
-use Rattle.sim_base.specs.Places.{is_inside, is_rect_inside}
-use Rattle.sim_base.specs.Rows.{size_of, in_mask}
+use Rattle.sim_base.specs.declared.{setup.First.First, setup.Land.Land, setup.Setup.Setup, setup.Timed.Timed, template.Arms.Arms, template.Template.Template}
+use Rattle.sim_base.specs.declared.command.Command.TheVariants.{Attack, Delete, Place, Resign, Stop, Train, Walk}
 
 -- how many rows a state has at most
 abbrev pub row_limit : ℕ

@@ -1,18 +1,9 @@
 -- The phase in which rows move. Each is moved by the one state before the phase.
-use Rattle.std.specs.Prelude.{ℕ, ◌-◌, ◌/◌, Bool, true, false, ◌&&◌, nat_le, ℤ, pos, ◌+ℤ◌, ◌-ℤ◌, ◌*ℤ◌, int_div, unsigned_abs, List, [], ◌∷◌, map, Option, Some, None, if◌then◌else◌}
-use Rattle.std.specs.Ordering.{int_eq}
-use Rattle.sim_base.specs.declared.place.Point.{Point}
-use Rattle.sim_base.specs.declared.template.Arms.{Arms}
-use Rattle.sim_base.specs.declared.setup.Setup.{Setup}
-use Rattle.sim_base.specs.declared.state.Motion.{Motion}
-use Rattle.sim_base.specs.declared.state.Motion.TheVariants.{Still, Going}
-use Rattle.sim_base.specs.declared.state.Row.{Row}
-use Rattle.sim_base.specs.declared.state.State.{State}
-use Rattle.sim_base.specs.Numbers.{root}
-use Rattle.sim_base.specs.Places.{square}
-use Rattle.sim_base.specs.WayOf.{way_of}
-use Rattle.sim_base.specs.Rows.{row_of, target_of, speed_of, arms_of}
-use Rattle.sim_base.specs.Filters.{field_of, is_near}
+use Rattle.std.specs.{Ordering.int_eq, Prelude.Some, Prelude.None, Prelude.Option}
+use Rattle.std.specs.Prelude.{ℕ, ◌-◌, ◌/◌, Bool, true, false, ◌&&◌, List, [], ◌∷◌, map, ℤ, pos, ◌+ℤ◌, ◌-ℤ◌, ◌*ℤ◌, if◌then◌else◌, nat_le, unsigned_abs, int_div}
+use Rattle.sim_base.specs.{Filters.field_of, Filters.is_near, Numbers.root, declared.place.Point.Point, declared.setup.Setup.Setup, declared.template.Arms.Arms}
+use Rattle.sim_base.specs.{Places.square, Rows.arms_of, Rows.row_of, Rows.speed_of, Rows.target_of, WayOf.way_of}
+use Rattle.sim_base.specs.declared.state.{Motion.Motion, Motion.TheVariants.Going, Motion.TheVariants.Still, Row.Row, State.State}
 
 abbrev pub same_point : Point → Point → Bool
 same_point p q = int_eq p.x q.x && int_eq p.z q.z

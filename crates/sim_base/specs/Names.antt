@@ -1,6 +1,5 @@
 -- Names: words of 1 to 64 bytes of printed ASCII.
-use Rattle.std.specs.Prelude.{ℕ, Bool, ◌&&◌, nat_le, List, length}
-use Rattle.std.specs.List.{list_all}
+use Rattle.std.specs.{List.list_all, Prelude.ℕ, Prelude.Bool, Prelude.◌&&◌, Prelude.List, Prelude.length, Prelude.nat_le}
 
 -- printed, and no space
 abbrev pub is_name_byte : ℕ → Bool

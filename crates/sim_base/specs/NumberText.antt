@@ -1,9 +1,8 @@
 -- Fixed-point numbers as text, which is a list of bytes: what is read as a number, and what is printed of one.
-use Rattle.std.specs.Prelude.{ℕ, ◌*◌, ◌/◌, ◌%◌, ◌^◌, Bool, ◌&&◌, ◌||◌, not, nat_le, ◌==◌, nat_eq, List, [], ◌++◌, length, drop, decimal, ℤ, pos, neg_ℤ, unsigned_abs, int_lt, Option, Some, None, if◌then◌else◌, codes, option_and_then}
-use Rattle.std.specs.List.{list_all, starts_with, before_first, after_first, list_any}
-use Rattle.std.specs.Int.{div_ceil}
-use Rattle.std.specs.Str.Parse.{digits_value}
-use Rattle.sim_base.specs.Numbers.{unit, is_raw}
+use Rattle.std.specs.{Int.div_ceil, List.after_first, List.before_first, List.list_all, List.list_any, List.starts_with, Str.Parse.digits_value}
+use Rattle.std.specs.Prelude.{unsigned_abs, int_lt, Some, None, codes, decimal, Option, option_and_then}
+use Rattle.std.specs.Prelude.{ℕ, ◌*◌, ◌/◌, ◌%◌, ◌^◌, Bool, not, ◌&&◌, ◌||◌, List, [], ◌++◌, length, drop, ℤ, pos, neg_ℤ, if◌then◌else◌, nat_eq, nat_le, ◌==◌}
+use Rattle.sim_base.specs.Numbers.{is_raw, unit}
 
 -- an ASCII digit
 abbrev pub is_digit : ℕ → Bool

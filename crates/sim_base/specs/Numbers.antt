@@ -1,6 +1,6 @@
 -- Fixed-point numbers by their raws, the whole numbers of units of 1/65536; the root; the random word.
-use Rattle.std.specs.Prelude.{ℕ, zero, suc, ◌+◌, ◌*◌, ◌%◌, ◌^◌, ◌<◌, ◌≤◌, Bool, ◌&&◌, nat_le, ℤ, pos, ◌*ℤ◌, neg_ℤ, int_le, int_div, if◌then◌else◌}
 use Rattle.std.specs.Int.{int_div_euclid}
+use Rattle.std.specs.Prelude.{ℕ, zero, suc, ◌+◌, ◌*◌, ◌%◌, ◌^◌, ◌<◌, ◌≤◌, Bool, ◌&&◌, ℤ, pos, ◌*ℤ◌, neg_ℤ, if◌then◌else◌, nat_le, int_le, int_div}
 
 -- the raw of 1
 abbrev pub unit : ℕ

@@ -1,10 +1,7 @@
 -- Points, cells and rectangles of a ground.
-use Rattle.std.specs.Prelude.{ℕ, ◌+◌, ◌*◌, ◌/◌, Bool, ◌&&◌, ◌==◌, ℤ, pos, ◌+ℤ◌, ◌-ℤ◌, ◌≤ℤ◌, ◌<ℤ◌, int_le, int_lt, unsigned_abs, List, map}
-use Rattle.std.specs.List.{range_with_len, flat_map}
-use Rattle.sim_base.specs.declared.place.Point.{Point}
-use Rattle.sim_base.specs.declared.place.Cell.{Cell}
-use Rattle.sim_base.specs.declared.place.Rect.{Rect}
-use Rattle.sim_base.specs.Numbers.{unit}
+use Rattle.std.specs.List.{flat_map, range_with_len}
+use Rattle.std.specs.Prelude.{ℕ, ◌+◌, ◌*◌, ◌/◌, Bool, ◌&&◌, List, map, ℤ, pos, ◌+ℤ◌, ◌-ℤ◌, ◌≤ℤ◌, ◌<ℤ◌, ◌==◌, unsigned_abs, int_lt, int_le}
+use Rattle.sim_base.specs.{Numbers.unit, declared.place.Cell.Cell, declared.place.Point.Point, declared.place.Rect.Rect}
 
 -- a ground has width by depth cells of one metre
 pub record Size : Type 0 where

@@ -1,17 +1,8 @@
 -- What is read of a row, by itself and beside its template.
-use Rattle.std.specs.Prelude.{ℕ, ◌/◌, ◌%◌, ◌^◌, Bool, true, false, ◌==◌, ℤ, find, Option, Some, None, option_map, option_and_then, unwrap_or, slice_get, slice_index}
-use Rattle.sim_base.specs.declared.place.Rect.{Rect}
-use Rattle.sim_base.specs.declared.template.Template.{Template}
-use Rattle.sim_base.specs.declared.template.Arms.{Arms}
-use Rattle.sim_base.specs.declared.template.Base.{Base}
-use Rattle.sim_base.specs.declared.setup.Land.{Land}
-use Rattle.sim_base.specs.declared.setup.Setup.{Setup}
-use Rattle.sim_base.specs.declared.state.Motion.{Motion}
-use Rattle.sim_base.specs.declared.state.Motion.TheVariants.{Still, Going}
-use Rattle.sim_base.specs.declared.state.Aim.{Aim}
-use Rattle.sim_base.specs.declared.state.Row.{Row}
-use Rattle.sim_base.specs.declared.state.State.{State}
-use Rattle.sim_base.specs.Places.{Size, rect_of}
+use Rattle.{sim_base.specs.Places.rect_of, sim_base.specs.Places.Size, std.specs.Prelude.option_and_then}
+use Rattle.std.specs.Prelude.{ℕ, ◌/◌, ◌%◌, ◌^◌, Bool, true, false, ℤ, ◌==◌, slice_get, slice_index, Some, None, find, Option, unwrap_or, option_map}
+use Rattle.sim_base.specs.declared.{place.Rect.Rect, setup.Land.Land, setup.Setup.Setup, template.Arms.Arms, template.Base.Base, template.Template.Template}
+use Rattle.sim_base.specs.declared.state.{Aim.Aim, Motion.Motion, Motion.TheVariants.Going, Motion.TheVariants.Still, Row.Row, State.State}
 
 abbrev pub id_of : Row → ℕ
 id_of row = row.id

@@ -1,15 +1,9 @@
 -- The bytes of a state: a head, the clock, and seven sections, each with the rows that have its part.
-use Rattle.std.specs.Prelude.{ℕ, ◌%◌, Bool, false, ◌==◌, if◌then◌else◌, ℤ, pos, List, [], ◌∷◌, ◌++◌, length, Option, Some, option_map, codes}
-use Rattle.std.specs.List.{flat_map, filter_map}
+use Rattle.{sim_base.specs.declared.place.Point.Point, sim_base.specs.declared.setup.Setup.Setup, std.specs.List.flat_map, std.specs.List.filter_map}
+use Rattle.std.specs.Prelude.{ℕ, ◌%◌, Bool, false, List, [], ◌∷◌, ◌++◌, length, ℤ, pos, if◌then◌else◌, ◌==◌, Some, codes, Option, option_map}
 use Rattle.md5.specs.Md5.{md5}
-use Rattle.sim_base.specs.declared.place.Point.{Point}
-use Rattle.sim_base.specs.declared.setup.Setup.{Setup}
-use Rattle.sim_base.specs.declared.state.Motion.{Motion}
-use Rattle.sim_base.specs.declared.state.Motion.TheVariants.{Still, Going}
-use Rattle.sim_base.specs.declared.state.Aim.{Aim}
-use Rattle.sim_base.specs.declared.state.Row.{Row}
-use Rattle.sim_base.specs.declared.state.State.{State}
-use Rattle.sim_base.specs.Bytes.{u16_bytes, u32_bytes, u64_bytes, i32_bytes, flag_bytes}
+use Rattle.sim_base.specs.Bytes.{flag_bytes, i32_bytes, u16_bytes, u32_bytes, u64_bytes}
+use Rattle.sim_base.specs.declared.state.{Aim.Aim, Motion.Motion, Motion.TheVariants.Going, Motion.TheVariants.Still, Row.Row, State.State}
 
 -- the version of the layout that is written; version 1 is read too
 abbrev pub version : ℕ

@@ -1,8 +1,7 @@
 -- Steps over a ground: from a cell to one of the eight about it.
-use Rattle.std.specs.Prelude.{◌≡◌, ℕ, ◌+◌, ◌*◌, ◌-◌, ◌<◌, min, max, Bool, ◌&&◌, ◌||◌, nat_lt, IsTrue, ℤ, pos, neg_ℤ, ◌+ℤ◌, int_le, int_lt, unsigned_abs, List, [], ◌∷◌, Option, Some, None, option_and_then, slice_get, if◌then◌else◌}
-use Rattle.std.specs.Int.{abs_diff}
-use Rattle.sim_base.specs.declared.place.Cell.{Cell}
-use Rattle.sim_base.specs.Places.{Size, same_cell}
+use Rattle.{sim_base.specs.Places.same_cell, sim_base.specs.Places.Size, sim_base.specs.declared.place.Cell.Cell, std.specs.Int.abs_diff}
+use Rattle.std.specs.Prelude.{slice_get, unsigned_abs, int_lt, int_le, Some, None, Option, option_and_then}
+use Rattle.std.specs.Prelude.{◌≡◌, ℕ, ◌+◌, ◌-◌, ◌*◌, ◌<◌, min, max, Bool, ◌&&◌, ◌||◌, List, [], ◌∷◌, ℤ, pos, ◌+ℤ◌, neg_ℤ, if◌then◌else◌, IsTrue, nat_lt}
 
 -- a ground, and which of its cells are open
 pub record Field : Type 0 where

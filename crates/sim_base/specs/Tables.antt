@@ -1,9 +1,6 @@
 -- Tables: a value for each cell of a ground, row by row.
-use Rattle.std.specs.Prelude.{Bool, List, [], map, slice_index_or}
-use Rattle.std.specs.List.{range_with_len}
-use Rattle.std.specs.Cmp.Lexicographic.{pointwise}
-use Rattle.sim_base.specs.declared.place.Cell.{Cell}
-use Rattle.sim_base.specs.Places.{Size}
+use Rattle.std.specs.{Cmp.Lexicographic.pointwise, List.range_with_len, Prelude.Bool, Prelude.List, Prelude.[], Prelude.map, Prelude.slice_index_or}
+use Rattle.sim_base.specs.{Places.Size, declared.place.Cell.Cell}
 
 -- the rows of a ground, from the first on, each with a value for each of its cells
 abbrev pub Table : Type 0 → Type 0

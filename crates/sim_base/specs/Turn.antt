@@ -1,18 +1,8 @@
 -- A turn, and what a match has come to after a past.
-use Rattle.std.specs.Prelude.{ℕ, zero, suc, ◌+◌, Bool, true, false, ◌&&◌, ◌==◌, ℤ, pos, int_le, List, [], ◌∷◌, map, filter, fold, Option, Some, None, option_and_then, if◌then◌else◌}
-use Rattle.sim_base.specs.declared.template.Template.{Template}
-use Rattle.sim_base.specs.declared.command.PlayerCommand.{PlayerCommand}
-use Rattle.sim_base.specs.declared.setup.First.{First}
-use Rattle.sim_base.specs.declared.setup.Timed.{Timed}
-use Rattle.sim_base.specs.declared.setup.Setup.{Setup}
-use Rattle.sim_base.specs.declared.state.Row.{Row}
-use Rattle.sim_base.specs.declared.state.State.{State}
-use Rattle.sim_base.specs.Rows.{row_of, template_of}
-use Rattle.sim_base.specs.Changes.{with_row, created}
-use Rattle.sim_base.specs.Commands.{commanded}
-use Rattle.sim_base.specs.Aim.{aimed}
-use Rattle.sim_base.specs.Move.{moved}
-use Rattle.sim_base.specs.Hit.{hit, gone}
+use Rattle.{sim_base.specs.Aim.aimed, sim_base.specs.Commands.commanded, sim_base.specs.Hit.gone, sim_base.specs.Hit.hit, std.specs.Prelude.option_and_then}
+use Rattle.std.specs.Prelude.{ℕ, zero, suc, ◌+◌, Bool, false, ◌&&◌, List, [], ◌∷◌, map, ℤ, pos, if◌then◌else◌, ◌==◌, int_le, Some, None, fold, filter, Option}
+use Rattle.sim_base.specs.{Changes.created, Changes.with_row, Move.moved, Rows.row_of, Rows.template_of, declared.state.Row.Row, declared.state.State.State}
+use Rattle.sim_base.specs.declared.{command.PlayerCommand.PlayerCommand, setup.First.First, setup.Setup.Setup, setup.Timed.Timed, template.Template.Template}
 
 -- the entities of the match file are made one by one, with ids from 2
 abbrev pub first_state : Setup → State

@@ -1,19 +1,9 @@
 -- Which states are valid in a match.
-use Rattle.std.specs.Prelude.{◌≡◌, ℕ, ◌^◌, ◌<◌, ◌≤◌, ◌≢◌, ◌⊎◌, Bool, false, ◌&&◌, ◌==◌, IsTrue, pos, ◌≤ℤ◌, List, length, map, All, Option, Some, None, is_some, MatchOption}
-use Rattle.std.specs.List.{list_any}
-use Rattle.std.specs.List.Sorted.{IsStrictlyIncreasing}
-use Rattle.sim_base.specs.declared.place.Point.{Point}
-use Rattle.sim_base.specs.declared.template.Template.{Template}
-use Rattle.sim_base.specs.declared.template.Arms.{Arms}
-use Rattle.sim_base.specs.declared.setup.Setup.{Setup}
-use Rattle.sim_base.specs.declared.state.Motion.{Motion}
-use Rattle.sim_base.specs.declared.state.Motion.TheVariants.{Still, Going}
-use Rattle.sim_base.specs.declared.state.Aim.{Aim}
-use Rattle.sim_base.specs.declared.state.Row.{Row}
-use Rattle.sim_base.specs.declared.state.State.{State}
-use Rattle.sim_base.specs.Places.{is_inside}
-use Rattle.sim_base.specs.Rows.{id_of, size_of, template_of}
-use Rattle.sim_base.specs.Limits.{row_limit, waypoint_limit}
+use Rattle.std.specs.{List.list_any, List.Sorted.IsStrictlyIncreasing, Prelude.Option}
+use Rattle.std.specs.Prelude.{◌≡◌, ℕ, ◌^◌, ◌<◌, ◌≤◌, Bool, ◌&&◌, ◌≢◌, ◌⊎◌, List, map, length, pos, ◌≤ℤ◌, is_some, IsTrue, ◌==◌, MatchOption, Some, None, All}
+use Rattle.sim_base.specs.{Limits.row_limit, Limits.waypoint_limit, Places.is_inside, Rows.id_of, Rows.size_of, Rows.template_of}
+use Rattle.sim_base.specs.declared.{place.Point.Point, setup.Setup.Setup, template.Arms.Arms, template.Template.Template}
+use Rattle.sim_base.specs.declared.state.{Aim.Aim, Motion.Motion, Motion.TheVariants.Going, Motion.TheVariants.Still, Row.Row, State.State}
 
 -- a point lies on the ground of the match
 abbrev pub IsInside : Setup → Point → Type 0

@@ -1,15 +1,9 @@
 -- The way as a plain, slow program: from the least costs it takes the end, the trail back from there, and the points.
 -- What is used more than once is handed on as an argument, so that it is computed once.
-use Rattle.std.specs.Prelude.{ℕ, zero, suc, ◌-◌, Bool, true, false, nat_eq, List, [], ◌∷◌, find, filter_map, reverse, Option, Some, None, option_map}
-use Rattle.std.specs.Option.{option_eq}
-use Rattle.sim_base.specs.declared.place.Cell.{Cell}
-use Rattle.sim_base.specs.declared.place.Point.{Point}
-use Rattle.sim_base.specs.Places.{Size, cell_of, cells_of, same_cell}
-use Rattle.sim_base.specs.Least.{least_of}
-use Rattle.sim_base.specs.Steps.{Field}
-use Rattle.sim_base.specs.Tables.{Table, entry}
-use Rattle.sim_base.specs.Costs.{Source, Costs, cost_by, steps_of, costs_of}
-use Rattle.sim_base.specs.Ways.{Way, first_points, waypoints, end_key}
+use Rattle.{sim_base.specs.Steps.Field, sim_base.specs.Tables.entry, sim_base.specs.Tables.Table, std.specs.Option.option_eq}
+use Rattle.std.specs.Prelude.{ℕ, zero, suc, ◌-◌, Bool, true, false, List, [], ◌∷◌, reverse, nat_eq, Some, None, find, filter_map, Option, option_map}
+use Rattle.sim_base.specs.{Costs.cost_by, Costs.Costs, Costs.costs_of, Costs.Source, Costs.steps_of, Ways.end_key, Ways.first_points, Ways.Way, Ways.waypoints}
+use Rattle.sim_base.specs.{Least.least_of, Places.cell_of, Places.cells_of, Places.same_cell, Places.Size, declared.place.Cell.Cell, declared.place.Point.Point}
 
 -- a cell that is reached, and its cost
 pub record Reached : Type 0 where

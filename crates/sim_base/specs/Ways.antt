@@ -1,12 +1,7 @@
 -- The way from a point to another over a ground.
-use Rattle.std.specs.Prelude.{◌≡◌, ◌≢◌, ℕ, ◌+◌, ◌<◌, Bool, true, false, nat_le, List, [], ◌∷◌, length, map, take, reverse, Some, if◌then◌else◌, MatchBool}
-use Rattle.sim_base.specs.declared.place.Cell.{Cell}
-use Rattle.sim_base.specs.declared.place.Point.{Point}
-use Rattle.sim_base.specs.Places.{cell_of, centre_of, same_cell}
-use Rattle.sim_base.specs.Limits.{waypoint_limit}
-use Rattle.sim_base.specs.Least.{is_before}
-use Rattle.sim_base.specs.Walks.{IsLeastCost}
-use Rattle.sim_base.specs.Steps.{Field, IsStep, neighbour, octile}
+use Rattle.std.specs.Prelude.{◌≡◌, ℕ, ◌+◌, ◌<◌, Bool, true, false, ◌≢◌, List, [], ◌∷◌, map, reverse, length, take, if◌then◌else◌, nat_le, Some, MatchBool}
+use Rattle.sim_base.specs.{Least.is_before, Limits.waypoint_limit, Places.cell_of, Places.centre_of, Places.same_cell}
+use Rattle.sim_base.specs.{Steps.Field, Steps.IsStep, Steps.neighbour, Steps.octile, Walks.IsLeastCost, declared.place.Cell.Cell, declared.place.Point.Point}
 
 -- the least cost of a walk from the start to c
 abbrev pub IsCost : Field → Cell → Cell → ℕ → Type 0
@@ -39,7 +34,8 @@ pub record IsPredecessor (field : Field) (start p c : Cell) (d : ℕ) : Type 0 w
 -- the cells are those from c back to the start, each the predecessor of the one before, without the start
 abbrev pub IsTrail : Field → Cell → Cell → List Cell → Type 0
 IsTrail field start c [] = c ≡ start
-IsTrail field start c (x ∷ cells) = (x ≡ c) × (c ≢ start) × (d : ℕ) × IsCost field start c d × (p : Cell) × IsPredecessor field start p c d × IsTrail field start p cells
+IsTrail field start c (x ∷ cells) = (x ≡ c) × (c ≢ start) × (d : ℕ) × IsCost field start c d × (p : Cell) × IsPredecessor field start p c d
+    × IsTrail field start p cells
 
 -- the centres of the cells, but for the goal's cell the goal itself
 abbrev pub waypoints : Point → List Cell → List Point

@@ -1,9 +1,6 @@
 //! The small steps of which a turn is made.
 
-use crate::fixed::Fixed;
-use crate::items::Items;
-use crate::place::Point;
-use crate::state::{Aim, Motion};
+use crate::{Aim, Fixed, Items, Motion, Point};
 
 /// One change of a state: a part of one entity is set, an entity leaves or is made, the random word is set, or the turn
 /// is counted.

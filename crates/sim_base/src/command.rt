@@ -2,9 +2,7 @@
 
 ghost use Rattle.std.specs.Prelude.{◌≡◌, IfOk};
 
-use crate::items::Ids;
-use crate::memory::OutOfMemory;
-use crate::place::Point;
+use crate::{Ids, OutOfMemory, Point};
 
 /// What a player orders: entities by their ids, and a point, a target or a template by its number.
 #[derive(Debug, Drop)]

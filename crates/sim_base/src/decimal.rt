@@ -1,7 +1,7 @@
 //! Decimal numbers, appended to a text. The lines that the program prints are made of them and of words, so that no
 //! number is made as a text of its own.
 
-ghost use Rattle.std.specs.Prelude.{◌≡◌, ◌<◌, ◌+◌, ◌∷◌, [], ◌++◌, length, take, OnOk, OnErr, string_bytes, decimal};
+ghost use Rattle.std.specs.Prelude.{◌≡◌, ◌+◌, ◌<◌, [], ◌∷◌, ◌++◌, length, take, OnOk, OnErr, string_bytes, decimal};
 
 use crate::memory::OutOfMemory;
 

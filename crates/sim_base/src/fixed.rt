@@ -1,9 +1,9 @@
 //! Fixed-point numbers: whole numbers of units of 1/65536, with arithmetic that is exact or refused. They are a type
 //! of their own, so that a raw is never taken for a number of metres.
 
-ghost use Rattle.std.specs.Prelude.{◌≡◌, ◌≢◌, ◌+ℤ◌, ◌-ℤ◌, ◌*ℤ◌, pos, SomeIff, FitsSigned};
-ghost use Rattle.std.specs.Int.{w32, int_div_euclid};
-ghost use Rattle.sim_base.specs.Numbers.{unit, product, quotient};
+ghost use Rattle.std.specs.Int.{int_div_euclid, w32};
+ghost use Rattle.std.specs.Prelude.{◌≡◌, ◌≢◌, pos, ◌+ℤ◌, ◌-ℤ◌, ◌*ℤ◌, SomeIff, FitsSigned};
+ghost use Rattle.sim_base.specs.Numbers.{product, quotient, unit};
 
 use std::marker::Model;
 

@@ -1,7 +1,7 @@
 //! The one list type under all plural names. It stands over a `Vec`, keeps its allocator, and is to contracts just the
 //! list of its items: a record that holds one can be compared with a value of a definition.
 
-ghost use Rattle.std.specs.Prelude.{◌≡◌, ◌<◌, [], ◌∷◌, ◌++◌, length, slice_get, slice_set, remove, Some, IfOk, OnOk, OnErr};
+ghost use Rattle.std.specs.Prelude.{◌≡◌, ◌<◌, [], ◌∷◌, ◌++◌, length, IfOk, OnOk, OnErr, slice_get, slice_set, Some, remove};
 
 use crate::memory::OutOfMemory;
 use std::alloc::Global;

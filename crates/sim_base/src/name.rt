@@ -1,8 +1,7 @@
 //! Names of templates, of their parts and of the children of a tree: short words of printed ASCII, which need no
 //! quotes in any text of the program.
 
-ghost use Rattle.std.specs.Prelude.{◌≡◌, true, false, IsTrue, IfOk, MatchOption};
-ghost use Rattle.std.specs.List.{list_all};
+ghost use Rattle.std.specs.{List.list_all, Prelude.◌≡◌, Prelude.true, Prelude.false, Prelude.IfOk, Prelude.IsTrue, Prelude.MatchOption};
 ghost use Rattle.sim_base.specs.Names.{is_name, is_name_byte};
 
 use crate::memory::OutOfMemory;
@@ -16,8 +15,7 @@ pub struct Name {
 }
 
 impl Model for Name {
-    ghost use Rattle.std.specs.Prelude.{List, ℕ, IsTrue, string_bytes};
-    ghost use Rattle.sim_base.specs.Names.{is_name};
+    ghost use Rattle.{sim_base.specs.Names.is_name, std.specs.Prelude.ℕ, std.specs.Prelude.List, std.specs.Prelude.IsTrue, std.specs.Prelude.string_bytes};
 
     ghost Value = { List ℕ };
 

@@ -1,11 +1,10 @@
 //! Points, cells and rectangles. A point has two fixed-point numbers, a cell is a square metre of the ground, and the
 //! first is turned into the second here and nowhere else.
 
-ghost use Rattle.std.specs.Prelude.{◌≡◌, ◌<◌, ◌/◌, pos, ◌+ℤ◌, ◌-ℤ◌, unsigned_abs};
-ghost use Rattle.sim_base.specs.Places.{IsPlaced, cell_of as cell_at, centre_of as centre_at, square as square_between, rect_of as rect_at};
+ghost use Rattle.std.specs.Prelude.{◌≡◌, ◌/◌, ◌<◌, pos, ◌+ℤ◌, ◌-ℤ◌, unsigned_abs};
+ghost use Rattle.sim_base.specs.Places.{cell_of as cell_at, centre_of as centre_at, IsPlaced, rect_of as rect_at, square as square_between};
 
-use crate::fixed::Fixed;
-use crate::items::Items;
+use crate::{Fixed, Items};
 
 /// A point of the ground, in metres.
 #[derive(Clone, Copy, Debug, PartialEq, Eq)]

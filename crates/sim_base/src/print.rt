@@ -1,12 +1,11 @@
 //! Prints a number: a minus sign where it is negative, the whole metres, and where it is not whole a point and five
 //! digits, rounded up in magnitude, so that reading them gives the same number again.
 
-ghost use Rattle.std.specs.Prelude.{◌≡◌, ◌<◌, ◌++◌, length, take, drop, codes, Some, OnOk, OnErr, string_bytes, decimal};
-ghost use Rattle.sim_base.specs.NumberText.{number_of, text_of, magnitude_text, five_digits};
+ghost use Rattle.std.specs.Prelude.{◌≡◌, ◌<◌, ◌++◌, length, take, drop, OnOk, OnErr, Some, string_bytes, codes, decimal};
+ghost use Rattle.sim_base.specs.NumberText.{five_digits, magnitude_text, number_of, text_of};
 
 use crate::decimal::push_digits;
-use crate::fixed::Fixed;
-use crate::memory::OutOfMemory;
+use crate::{Fixed, OutOfMemory};
 
 impl Fixed {
     /// Appends the number as text, or leaves the text as it was. `docs/FORMATS.md` has the spelling.

@@ -1,10 +1,9 @@
 //! Reads a number from its text: an optional minus sign, one to ten digits, and perhaps a point and one to six digits
 //! more. Digits past what a raw can hold are rounded down in magnitude.
 
-ghost use Rattle.std.specs.Prelude.{◌≡◌, ◌+◌, ◌*◌, ◌^◌, ◌<◌, ◌≤◌, true, false, if◌then◌else◌, pos, neg_ℤ, length, position, IfSome, MatchOption};
-ghost use Rattle.std.specs.List.{list_all};
-ghost use Rattle.std.specs.Str.Parse.{digits_value_after};
-ghost use Rattle.sim_base.specs.NumberText.{is_digit, is_point, are_digits, raw_of_digits, magnitude_of, number_of, in_range};
+ghost use Rattle.std.specs.{List.list_all, Str.Parse.digits_value_after};
+ghost use Rattle.std.specs.Prelude.{◌≡◌, ◌+◌, ◌*◌, ◌^◌, ◌<◌, ◌≤◌, true, false, length, pos, neg_ℤ, IfSome, if◌then◌else◌, MatchOption, position};
+ghost use Rattle.sim_base.specs.NumberText.{are_digits, in_range, is_digit, is_point, magnitude_of, number_of, raw_of_digits};
 
 use crate::fixed::Fixed;
 

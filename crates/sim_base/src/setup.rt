@@ -1,9 +1,6 @@
 //! A match before it begins: its ground, its templates, what stands there first and what is ordered in it.
 
-use crate::command::PlayerCommand;
-use crate::items::{Ids, Items};
-use crate::place::{Point, Rects};
-use crate::template::Templates;
+use crate::{Ids, Items, PlayerCommand, Point, Rects, Templates};
 
 /// The ground of a match: its size in cells, what is closed for good, and the enemies of each owner.
 ///

@@ -2,10 +2,7 @@
 
 ghost use Rattle.std.specs.Prelude.{◌≡◌, IfOk};
 
-use crate::fixed::Fixed;
-use crate::items::Items;
-use crate::memory::OutOfMemory;
-use crate::place::{Point, Points};
+use crate::{Fixed, Items, OutOfMemory, Point, Points};
 
 /// Whether an entity moves. One that is going has a goal and the waypoints still to be reached; `whole` says that the
 /// way leads to its end. An empty way that is not whole has still to be asked.

@@ -1,8 +1,6 @@
 //! The steps of a session, and the events that it prints.
 
-use crate::command::Command;
-use crate::fixed::Fixed;
-use crate::items::Items;
+use crate::{Command, Fixed, Items};
 
 /// One step of a session, by or at one client, from 1 to 8.
 ///

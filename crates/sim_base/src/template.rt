@@ -1,8 +1,6 @@
 //! What a kind of entity is: the parts of its template. A part that is None is one that entities of this kind lack.
 
-use crate::fixed::Fixed;
-use crate::items::{Ids, Items};
-use crate::name::Name;
+use crate::{Fixed, Ids, Items, Name};
 
 /// How well a body withstands each kind of damage: levels from 0 to 40.
 #[derive(Clone, Copy, Debug, PartialEq, Eq)]

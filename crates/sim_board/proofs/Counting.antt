@@ -1,6 +1,5 @@
 -- A system was built once, or not at all.
-use Rattle.std.proofs.Common.{◌≡◌, arith}
-use Rattle.sim_system.specs.Meanings.{Meaning, one_more, IsBuiltOnceAtMost}
+use Rattle.sim_board.proofs.Common.{◌≡◌, arith, IsBuiltOnceAtMost, Meaning, one_more}
 
 pub not_built : (m : Meaning) → IsBuiltOnceAtMost m m
 not_built m = record { low = omega arith; high = omega arith }

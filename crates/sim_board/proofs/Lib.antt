@@ -1,3 +1,4 @@
+pub mod Common
 pub mod Feeding
 pub mod Beginning
 pub mod Setting

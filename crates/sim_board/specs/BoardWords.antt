@@ -1,13 +1,8 @@
 -- What a board is to its callers. A clause passes ⟦<dyn System as System>⟧ for `sys`.
+use Rattle.{sim_base.specs.declared.setup.Setup.Setup, sim_base.specs.declared.state.State.State, sim_scene.specs.SceneWords.IsStanding}
+use Rattle.{sim_board.specs.declared.board.Board.Board, sim_system.specs.declared.rig.Rig.Rig, sim_system.specs.declared.system.System.Ghosts}
 use Rattle.std.specs.Prelude.{◌≡◌, Bool, true}
-use Rattle.sim_base.specs.declared.setup.Setup.{Setup}
-use Rattle.sim_base.specs.declared.state.State.{State}
-use Rattle.sim_system.specs.declared.system.System.{Ghosts}
-use Rattle.sim_system.specs.declared.rig.Rig.{Rig}
-use Rattle.sim_system.specs.Meanings.{Meaning, Systems, HaveKinds, HaveSameRebuilds}
-use Rattle.sim_system.specs.RigWords.{systems_by, systems_of}
-use Rattle.sim_scene.specs.SceneWords.{IsStanding}
-use Rattle.sim_board.specs.declared.board.Board.{Board}
+use Rattle.sim_system.specs.{Meanings.HaveKinds, Meanings.HaveSameRebuilds, Meanings.Meaning, Meanings.Systems, RigWords.systems_by, RigWords.systems_of}
 
 -- the match that it is about
 abbrev pub setup_in : {X : Type 0} {F : X → Type 0} → Board X F → Setup

@@ -1,10 +1,7 @@
 -- Changes that are made in one way or another.
 use Rattle.std.specs.Prelude.{◌≡◌, MatchOption}
-use Rattle.sim_base.specs.declared.state.Row.{Row}
-use Rattle.sim_base.specs.declared.state.State.{State}
-use Rattle.sim_base.specs.declared.change.Change.{Change}
+use Rattle.sim_base.specs.{Rows.row_of, Rows.target_of, declared.change.Change.Change, declared.state.Row.Row, declared.state.State.State}
 use Rattle.sim_base.specs.declared.change.Change.TheVariants as change
-use Rattle.sim_base.specs.Rows.{row_of, target_of}
 
 -- a motion, a health, the word and the turn are set without memory, and no system is told
 abbrev pub NeedsNoMemory : Change → Type 0

@@ -1,6 +1,5 @@
 -- All four systems are told of a note.
-use Rattle.sim_system.specs.declared.note.Note.{Note}
-use Rattle.sim_system.specs.Meanings.{Systems, four, told, MayHear}
+use Rattle.sim_system.specs.{Meanings.four, Meanings.MayHear, Meanings.Systems, Meanings.told, declared.note.Note.Note}
 
 -- each may be told
 pub record AllMayHear (s : Systems) (note : Note) : Type 0 where

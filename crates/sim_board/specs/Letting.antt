@@ -1,8 +1,6 @@
 -- Rows are released, one after another.
-use Rattle.std.specs.Prelude.{ℕ, ◌==◌, not, List, map, filter, fold, if◌then◌else◌}
-use Rattle.sim_base.specs.declared.state.Row.{Row}
-use Rattle.sim_base.specs.declared.state.State.{State}
-use Rattle.sim_base.specs.Changes.{released}
+use Rattle.std.specs.Prelude.{ℕ, not, List, map, if◌then◌else◌, ◌==◌, fold, filter}
+use Rattle.sim_base.specs.{Changes.released, declared.state.Row.Row, declared.state.State.State}
 
 -- the row with this id is released
 abbrev pub row_released : List Row → ℕ → List Row

@@ -1,15 +1,11 @@
 //! The calls of a board.
 
-ghost use Rattle.std.specs.Prelude.{◌≡◌, OnOk, OnErr, IsOk, true, false, []};
-ghost use Rattle.sim_base.specs.Limits.{IsSetup};
-ghost use Rattle.sim_base.specs.Validity.{IsValid};
-ghost use Rattle.sim_base.specs.Changes.{applied};
-ghost use Rattle.sim_base.specs.Turn.{first_state as first_state_of};
+ghost use Rattle.{sim_board.specs.ChangeKinds.KeepsTarget, sim_board.specs.ChangeKinds.NeedsNoMemory, sim_scene.specs.SceneWords.Stands};
+ghost use Rattle.std.specs.Prelude.{◌≡◌, true, false, [], OnOk, OnErr, IsOk};
+ghost use Rattle.sim_base.specs.{Changes.applied, Limits.IsSetup, Turn.first_state as first_state_of, Validity.IsValid};
+ghost use Rattle.sim_board.specs.BoardWords.{AreKept, is_whole, IsWhole, rig_in, setup_in, state_in, systems};
 ghost use Rattle.sim_plans.specs.Fits.{Fits};
-ghost use Rattle.sim_board.specs.ChangeKinds.{NeedsNoMemory, KeepsTarget};
-ghost use Rattle.sim_system.specs.Meanings.{HaveKinds, AreBuiltOnce, AreBuiltOnceAtMost};
-ghost use Rattle.sim_scene.specs.SceneWords.{Stands};
-ghost use Rattle.sim_board.specs.BoardWords.{setup_in, state_in, is_whole, rig_in, systems, IsWhole, AreKept};
+ghost use Rattle.sim_system.specs.Meanings.{AreBuiltOnce, AreBuiltOnceAtMost, HaveKinds};
 
 use crate::build::build;
 use crate::first::first_state;

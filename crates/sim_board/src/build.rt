@@ -1,10 +1,7 @@
 //! The systems are built from a state.
 
-ghost use Rattle.std.specs.Prelude.{OnOk};
-ghost use Rattle.sim_base.specs.Limits.{IsSetup};
-ghost use Rattle.sim_base.specs.Validity.{IsLooselyValid};
-ghost use Rattle.sim_system.specs.Meanings.{HaveKinds, AreBuiltOnce, AreBuiltOnceAtMost, AreFed};
-ghost use Rattle.sim_system.specs.RigWords.{systems_of};
+ghost use Rattle.{sim_base.specs.Limits.IsSetup, sim_base.specs.Validity.IsLooselyValid, std.specs.Prelude.OnOk};
+ghost use Rattle.sim_system.specs.{Meanings.AreBuiltOnce, Meanings.AreBuiltOnceAtMost, Meanings.AreFed, Meanings.HaveKinds, RigWords.systems_of};
 
 use crate::row::told;
 use sim_base::{OutOfMemory, Setup, State};

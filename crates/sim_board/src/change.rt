@@ -1,15 +1,9 @@
 //! The state after a change. No system is told here. Near which place the row of a change stands is a hint.
 
-ghost use Rattle.std.specs.Prelude.{◌≡◌, ◌<◌, ◌-◌, ◌^◌, [], length, map, OnOk, IsOk};
-ghost use Rattle.std.specs.List.Sorted.{IsStrictlyIncreasing};
-ghost use Rattle.sim_base.specs.Limits.{IsSetup};
-ghost use Rattle.sim_base.specs.Validity.{IsLooselyValid};
-ghost use Rattle.sim_base.specs.Changes.{applied, created};
-ghost use Rattle.sim_base.specs.Rows.{id_of};
-ghost use Rattle.sim_plans.specs.Fits.{Fits};
-ghost use Rattle.sim_board.specs.Letting.{left_by};
-ghost use Rattle.sim_base.specs.declared.setup.Setup.{Setup as SetupOf};
-ghost use Rattle.sim_board.specs.ChangeKinds.{IsNoRemoval, IsNoCreation};
+ghost use Rattle.{sim_plans.specs.Fits.Fits, std.specs.List.Sorted.IsStrictlyIncreasing};
+ghost use Rattle.std.specs.Prelude.{◌≡◌, ◌-◌, ◌^◌, ◌<◌, [], map, length, OnOk, IsOk};
+ghost use Rattle.sim_base.specs.{Changes.applied, Changes.created, Limits.IsSetup, Rows.id_of, Validity.IsLooselyValid, declared.setup.Setup.Setup as SetupOf};
+ghost use Rattle.sim_board.specs.{ChangeKinds.IsNoCreation, ChangeKinds.IsNoRemoval, Letting.left_by};
 
 use crate::edit::{
     add_row, release_rows, set_at, set_attack, set_health, set_motion, set_owner, take_row,

@@ -1,12 +1,9 @@
 //! One part of one row is set, or a row is released, leaves or is made. A row is found near the last one or by halves, and no
 //! other is touched.
 
-ghost use Rattle.std.specs.Prelude.{◌≡◌, ◌++◌, [], ◌∷◌, not, ◌==◌, map, filter, Some, OnOk, if◌then◌else◌};
-ghost use Rattle.std.specs.List.Sorted.{IsStrictlyIncreasing};
-ghost use Rattle.sim_base.specs.declared.state.Row.{Row as AnyRow};
-ghost use Rattle.sim_base.specs.Rows.{id_of};
-ghost use Rattle.sim_base.specs.Changes.{released as released_by, new_row as row_made};
-ghost use Rattle.sim_board.specs.Letting.{row_released, rows_released};
+ghost use Rattle.{sim_board.specs.Letting.row_released, sim_board.specs.Letting.rows_released, std.specs.List.Sorted.IsStrictlyIncreasing};
+ghost use Rattle.std.specs.Prelude.{◌≡◌, not, [], ◌∷◌, ◌++◌, map, if◌then◌else◌, OnOk, ◌==◌, Some, filter};
+ghost use Rattle.sim_base.specs.{Changes.new_row as row_made, Changes.released as released_by, Rows.id_of, declared.state.Row.Row as AnyRow};
 
 use crate::near::place_near;
 use sim_base::{Aim, Fixed, Motion, OutOfMemory, Point, Row, Template};

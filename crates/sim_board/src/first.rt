@@ -1,9 +1,7 @@
 //! The state in which a match begins.
 
 ghost use Rattle.std.specs.Prelude.{◌≡◌, IfOk};
-ghost use Rattle.sim_base.specs.Limits.{IsSetup};
-ghost use Rattle.sim_base.specs.Validity.{IsValid};
-ghost use Rattle.sim_base.specs.Turn.{first_state as first_state_of};
+ghost use Rattle.sim_base.specs.{Limits.IsSetup, Turn.first_state as first_state_of, Validity.IsValid};
 
 use crate::change::create;
 use sim_base::{Items, OutOfMemory, Setup, State};

@@ -1,13 +1,10 @@
 //! A board over a list of changes: whatever is applied after a start or an adoption, its scene stands.
 
 ghost use Rattle.std.specs.Prelude.{◌≡◌, false, OnOk, OnErr};
-ghost use Rattle.sim_base.specs.Limits.{IsSetup};
-ghost use Rattle.sim_base.specs.Validity.{IsValid};
-ghost use Rattle.sim_base.specs.Changes.{applied_all};
-ghost use Rattle.sim_base.specs.Turn.{first_state};
+ghost use Rattle.sim_base.specs.{Changes.applied_all, Limits.IsSetup, Turn.first_state, Validity.IsValid};
+ghost use Rattle.sim_board.specs.BoardWords.{AreKept, is_whole, IsWhole, setup_in, state_in, systems};
 ghost use Rattle.sim_plans.specs.Fits.{AllFit};
-ghost use Rattle.sim_system.specs.Meanings.{HaveKinds, AreBuiltOnce, AreBuiltOnceAtMost};
-ghost use Rattle.sim_board.specs.BoardWords.{setup_in, state_in, is_whole, systems, IsWhole, AreKept};
+ghost use Rattle.sim_system.specs.Meanings.{AreBuiltOnce, AreBuiltOnceAtMost, HaveKinds};
 
 use crate::board::Board;
 use sim_base::{Changes, OutOfMemory, State};

@@ -1,11 +1,8 @@
 //! The place of a row, looked for first where the row of the last change stood, and a little behind it: the changes of a phase
 //! ascend by id. Where the last one stood is a hint, so any number is right.
 
-ghost use Rattle.std.specs.Prelude.{◌≡◌, ◌<◌, None, Some, length, map, IfSome, MatchOption};
-ghost use Rattle.std.specs.List.{HoldsAt};
-ghost use Rattle.std.specs.List.Sorted.{IsStrictlyIncreasing};
-ghost use Rattle.sim_base.specs.Rows.{id_of};
-ghost use Rattle.sim_plans.specs.Found.{found};
+ghost use Rattle.{sim_base.specs.Rows.id_of, sim_plans.specs.Found.found, std.specs.List.HoldsAt, std.specs.List.Sorted.IsStrictlyIncreasing};
+ghost use Rattle.std.specs.Prelude.{◌≡◌, ◌<◌, map, length, IfSome, MatchOption, Some, None};
 
 use sim_base::{Change, Row};
 use sim_plans::place_of;

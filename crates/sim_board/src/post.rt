@@ -1,17 +1,12 @@
 //! The notes of each change, to the systems that keep it. The state is still as it was before. Near which place the row of a
 //! change stands is a hint.
 
-ghost use Rattle.std.specs.Prelude.{◌≡◌, OnOk, IfOk, IsOk};
+ghost use Rattle.{sim_plans.specs.Fits.Fits, sim_scene.specs.Releases.AreWatching, sim_scene.specs.Releases.release_all, sim_scene.specs.SceneWords.IsStanding};
+ghost use Rattle.std.specs.Prelude.{◌≡◌, IfOk, OnOk, IsOk};
+ghost use Rattle.sim_base.specs.{Changes.applied, Filters.watchers as watchers_of};
+ghost use Rattle.sim_board.specs.{BoardWords.AreKept, ChangeKinds.IsNoRemoval, ChangeKinds.KeepsTarget, ChangeKinds.NeedsNoMemory};
+ghost use Rattle.sim_system.specs.{Meanings.AreFed, RigWords.systems_of};
 ghost use Rattle.sim_base.specs.declared.change.Change.TheVariants as change;
-ghost use Rattle.sim_base.specs.Filters.{watchers as watchers_of};
-ghost use Rattle.sim_base.specs.Changes.{applied};
-ghost use Rattle.sim_plans.specs.Fits.{Fits};
-ghost use Rattle.sim_board.specs.ChangeKinds.{NeedsNoMemory, KeepsTarget, IsNoRemoval};
-ghost use Rattle.sim_system.specs.Meanings.{AreFed};
-ghost use Rattle.sim_system.specs.RigWords.{systems_of};
-ghost use Rattle.sim_scene.specs.SceneWords.{IsStanding};
-ghost use Rattle.sim_board.specs.BoardWords.{AreKept};
-ghost use Rattle.sim_scene.specs.Releases.{AreWatching, release_all};
 
 use crate::row::{born, fact_of, living};
 use crate::tell::tell_all;
@@ -163,7 +158,8 @@ fn created(
 ) -> Result<(), OutOfMemory>
     requires stands { IsStanding setup.now state.now (systems_of rig.old ⟦<dyn System as System>⟧) }
     requires fits { Fits setup.now state.now (change.Create number at.now owner) }
-    ensures fed { OnOk result (AreFed setup.now (applied setup.now state.now (change.Create number at.now owner)) (systems_of rig.new ⟦<dyn System as System>⟧)) }
+    ensures fed { OnOk result (AreFed setup.now (applied setup.now state.now (change.Create number at.now owner))
+        (systems_of rig.new ⟦<dyn System as System>⟧)) }
     ensures kept { AreKept (systems_of rig.old ⟦<dyn System as System>⟧) (systems_of rig.new ⟦<dyn System as System>⟧) }
 {
     let fact = born(setup, state.next, number, at, owner);

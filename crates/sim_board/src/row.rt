@@ -1,14 +1,9 @@
 //! A living row, and what systems are told of it.
 
-ghost use Rattle.std.specs.Prelude.{◌≡◌, ◌<◌, Some, IsSome, IfOk, length, map, slice_get};
-ghost use Rattle.std.specs.List.Sorted.{IsStrictlyIncreasing};
-ghost use Rattle.sim_base.specs.declared.template.Template.{Template as AnyTemplate};
-ghost use Rattle.sim_base.specs.Places.{IsPlaced};
-ghost use Rattle.sim_base.specs.Changes.{new_row};
-ghost use Rattle.sim_base.specs.Limits.{IsSetup};
-ghost use Rattle.sim_base.specs.Rows.{id_of, row_of, rect_of_row};
-ghost use Rattle.sim_base.specs.Validity.{IsLooselyValid};
-ghost use Rattle.sim_system.specs.Facts.{fact_of as fact_by, vision_of as vision_by, told_of};
+ghost use Rattle.{sim_base.specs.Changes.new_row, sim_base.specs.Limits.IsSetup, sim_base.specs.Places.IsPlaced, std.specs.List.Sorted.IsStrictlyIncreasing};
+ghost use Rattle.std.specs.Prelude.{◌≡◌, ◌<◌, map, length, IfOk, IsSome, slice_get, Some};
+ghost use Rattle.sim_base.specs.{Rows.id_of, Rows.rect_of_row, Rows.row_of, Validity.IsLooselyValid, declared.template.Template.Template as AnyTemplate};
+ghost use Rattle.sim_system.specs.Facts.{fact_of as fact_by, told_of, vision_of as vision_by};
 
 use crate::near::place_near;
 use sim_base::{Fixed, OutOfMemory, Point, Rect, Row, Setup, State, rect_of};

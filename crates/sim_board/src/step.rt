@@ -1,14 +1,10 @@
 //! A change with its notes. The notes come first, while the state is as it was: they alone may want memory that is not
 //! there, but for a new row.
 
+ghost use Rattle.{sim_base.specs.Changes.applied, sim_plans.specs.Fits.Fits, sim_scene.specs.SceneWords.IsStanding, sim_system.specs.RigWords.systems_of};
 ghost use Rattle.std.specs.Prelude.{◌≡◌, OnOk, IsOk};
+ghost use Rattle.sim_board.specs.{BoardWords.AreKept, ChangeKinds.IsNoRemoval, ChangeKinds.KeepsTarget, ChangeKinds.NeedsNoMemory};
 ghost use Rattle.sim_base.specs.declared.change.Change.TheVariants as change;
-ghost use Rattle.sim_base.specs.Changes.{applied};
-ghost use Rattle.sim_plans.specs.Fits.{Fits};
-ghost use Rattle.sim_system.specs.RigWords.{systems_of};
-ghost use Rattle.sim_scene.specs.SceneWords.{IsStanding};
-ghost use Rattle.sim_board.specs.BoardWords.{AreKept};
-ghost use Rattle.sim_board.specs.ChangeKinds.{NeedsNoMemory, KeepsTarget, IsNoRemoval};
 
 use crate::change::{make, remove};
 use crate::near::place_for;

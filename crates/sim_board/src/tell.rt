@@ -1,10 +1,8 @@
 //! One note to all four systems.
 
 ghost use Rattle.std.specs.Prelude.{◌≡◌, OnOk};
-ghost use Rattle.sim_system.specs.Meanings.{HaveKinds};
-ghost use Rattle.sim_system.specs.RigWords.{systems_of};
-ghost use Rattle.sim_board.specs.BoardWords.{AreKept};
-ghost use Rattle.sim_board.specs.Hearing.{AllMayHear, all_told};
+ghost use Rattle.sim_board.specs.{BoardWords.AreKept, Hearing.all_told, Hearing.AllMayHear};
+ghost use Rattle.sim_system.specs.{Meanings.HaveKinds, RigWords.systems_of};
 
 use sim_base::OutOfMemory;
 use sim_system::{Note, Rig, System, boxed};

@@ -1,14 +1,11 @@
 -- A comparison goes on.
-use Rattle.std.proofs.Common.{◌≡◌, ℕ, ◌<◌, Bool, true, false, List, [], ◌∷◌, ◌++◌, length, take, drop, refl, sym, ap, ◌∙◌, append_assoc, eqb, arith}
-use Rattle.std.specs.Bool.{Decides}
-use Rattle.std.specs.Cmp.Lexicographic.{pointwise}
-use Rattle.std.proofs.lemmas.Bool.{false≢true, eqb-true}
-use Rattle.std.proofs.lemmas.Bool.Decides.{Decides-eqb}
-use Rattle.std.proofs.lemmas.Slice.Eq.{slice_eq-Decides}
-use Rattle.std.proofs.lemmas.List.{take-append-drop, append_cancel_left, take_at, append-nil, length-append}
-use Rattle.sim_bytes.specs.Telling.{Compared}
+use Rattle.{sim_bytes.specs.Telling.Compared, std.proofs.lemmas.Bool.eqb-true, std.proofs.lemmas.Bool.false≢true, std.proofs.lemmas.Bool.Decides.Decides-eqb}
+use Rattle.std.proofs.Common.{◌≡◌, ℕ, ◌<◌, Bool, true, false, eqb, List, [], ◌∷◌, ◌++◌, length, take, drop, refl, ap, append_assoc, arith, sym, ◌∙◌}
+use Rattle.std.proofs.lemmas.{List.append-nil, List.append_cancel_left, List.length-append, List.take-append-drop, List.take_at, Slice.Eq.slice_eq-Decides}
+use Rattle.std.specs.{Bool.Decides, Cmp.Lexicographic.pointwise}
 
-pub compared_more : (wanted rest bytes told front back : List ℕ) (same : Bool) → same ≡ pointwise eqb front bytes → front ≡ take (length bytes) rest → back ≡ drop (length bytes) rest
+pub compared_more : (wanted rest bytes told front back : List ℕ) (same : Bool) → same ≡ pointwise eqb front bytes → front ≡ take (length bytes) rest
+    → back ≡ drop (length bytes) rest
     → wanted ≡ told ++ rest → Compared wanted back same (told ++ bytes)
 compared_more wanted rest bytes told front back same test front-is back-is so_far = record {
   so_far = λ e. so_far ∙ ap (λ (x : List ℕ). told ++ x) (parts (both.0 e)) ∙ sym (append_assoc told bytes back);
@@ -34,7 +31,11 @@ too_long wanted rest bytes told short so_far = record {
       omega (arith, ap length tail, length-append bytes more);
 }
 
-pub ended : (wanted rest told : List ℕ) (empty : Bool) → empty ≡ eqb (length rest) 0 → wanted ≡ told ++ rest → (empty ≡ true → wanted ≡ told) × (wanted ≡ told → empty ≡ true)
+pub ended : (wanted rest told : List ℕ) (empty : Bool) → empty ≡ eqb (length rest) 0 → wanted ≡ told ++ rest → (empty ≡ true → wanted ≡ told)
+    × (wanted ≡ told → empty ≡ true)
 ended wanted [] told empty test so_far = (λ e. so_far ∙ append-nil told, λ e. test)
-ended wanted (x ∷ rest) told empty test so_far =
-    (λ e. absurd (omega (arith, eqb-true (length (x ∷ rest)) 0 (sym test ∙ e))), λ e. absurd (omega (arith, ap length (sym e ∙ so_far), length-append told (x ∷ rest))))
+ended wanted (x ∷ rest) told empty test so_far = (
+  λ e. absurd (omega (arith, eqb-true (length (x ∷ rest)) 0 (sym test ∙ e))),
+  λ e. absurd
+      (omega (arith, ap length (sym e ∙ so_far), length-append told (x ∷ rest))),
+)

@@ -1,7 +1,6 @@
 -- What a digest was told of which the last bytes are still waiting.
+use Rattle.{md5.specs.Md5.Holds, sim_bytes.specs.declared.digesting.Digesting.Digesting}
 use Rattle.std.specs.Prelude.{◌≡◌, ℕ, List, ◌++◌}
-use Rattle.md5.specs.Md5.{Holds}
-use Rattle.sim_bytes.specs.declared.digesting.Digesting.{Digesting}
 
 -- the hash holds what was told before the bytes that are waiting
 pub record Gathers (digesting : Digesting) (told : List ℕ) : Type 0 where

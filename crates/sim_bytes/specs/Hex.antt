@@ -1,6 +1,6 @@
 -- Which texts are hexadecimal.
-use Rattle.std.specs.Prelude.{◌≡◌, ℕ, ◌%◌, Bool, ◌&&◌, ◌||◌, nat_le, IsTrue, List, length}
 use Rattle.std.specs.List.{list_all}
+use Rattle.std.specs.Prelude.{◌≡◌, ℕ, ◌%◌, Bool, ◌&&◌, ◌||◌, List, length, IsTrue, nat_le}
 
 -- one of 0 to 9 and a to f
 abbrev pub is_digit : ℕ → Bool

@@ -1,16 +1,13 @@
 -- A number's bytes are read as that number, whatever follows.
-use Rattle.std.proofs.Common.{◌≡◌, ℕ, ◌^◌, ◌<◌, List, ◌++◌, length, ltb, false, Some, refl, arith, ℤ}
-use Rattle.std.specs.Prelude.{FitsSigned}
-use Rattle.std.specs.Int.{Width, w16, w32, w64, byte_len, to_le_bytes, from_le_bytes, cast_unsigned}
-use Rattle.std.proofs.lemmas.Bool.{le-ltb}
-use Rattle.std.proofs.lemmas.List.{take_at, drop_at, length-append}
-use Rattle.std.proofs.lemmas.Int.{to_z-of_z}
-use Rattle.std.proofs.Math.Facts.{Fits-of_z}
-use Rattle.std.proofs.lemmas.Nat.{from_le_bytes-to_le_bytes_2, from_le_bytes-to_le_bytes_4, from_le_bytes-to_le_bytes_8}
+use Rattle.std.proofs.{Math.Facts.Fits-of_z, lemmas.List.drop_at, lemmas.List.length-append, lemmas.List.take_at}
+use Rattle.std.proofs.Common.{◌≡◌, ℕ, ◌^◌, ◌<◌, false, ltb, List, ◌++◌, length, ℤ, Some, refl, arith}
+use Rattle.std.proofs.lemmas.{Bool.le-ltb, Int.to_z-of_z, Nat.from_le_bytes-to_le_bytes_2, Nat.from_le_bytes-to_le_bytes_4, Nat.from_le_bytes-to_le_bytes_8}
+use Rattle.std.specs.{Int.byte_len, Int.cast_unsigned, Int.from_le_bytes, Int.to_le_bytes, Int.w16, Int.w32, Int.w64, Int.Width, Prelude.FitsSigned}
+use Rattle.sim_base.specs.Bytes.{i32_bytes, u16_bytes, u32_bytes, u64_bytes}
 use Rattle.sim_bytes.specs.Reading.{number_at, signed_at}
-use Rattle.sim_base.specs.Bytes.{u16_bytes, u32_bytes, u64_bytes, i32_bytes}
 
-pub number_back : (w : Width) (n : ℕ) (rest : List ℕ) → length (to_le_bytes w n) ≡ byte_len w → from_le_bytes w (to_le_bytes w n) ≡ n → number_at w (to_le_bytes w n ++ rest) ≡ Some (n, rest)
+pub number_back : (w : Width) (n : ℕ) (rest : List ℕ) → length (to_le_bytes w n) ≡ byte_len w → from_le_bytes w (to_le_bytes w n) ≡ n
+    → number_at w (to_le_bytes w n ++ rest) ≡ Some (n, rest)
 number_back w n rest len again =
     let long : ltb (length (to_le_bytes w n ++ rest)) (byte_len w) ≡ false = le-ltb _ _ (omega (arith, length-append (to_le_bytes w n) rest)) in
     rw (long, take_at (to_le_bytes w n) rest (byte_len w) len, drop_at (to_le_bytes w n) rest (byte_len w) len, again) refl

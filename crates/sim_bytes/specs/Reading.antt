@@ -1,7 +1,7 @@
 -- What is read from the front of bytes: a value and the bytes after it, or nothing. A reader is a function on lists, so that readers
 -- are put together from smaller ones by `>>=`.
-use Rattle.std.specs.Prelude.{◌≡◌, ℕ, List, [], ◌∷◌, length, take, drop, Option, Some, None, Result, Ok, Err, nat_lt, if◌then◌else◌, ℤ}
-use Rattle.std.specs.Int.{Width, w32, byte_len, from_le_bytes, cast_signed}
+use Rattle.std.specs.Int.{byte_len, cast_signed, from_le_bytes, w32, Width}
+use Rattle.std.specs.Prelude.{◌≡◌, ℕ, List, [], ◌∷◌, length, take, drop, ℤ, if◌then◌else◌, nat_lt, Some, None, Ok, Err, Option, Result}
 use Rattle.sim_bytes.specs.declared.take.Short.{Short}
 
 -- the second step, if the first gave a value

@@ -1,5 +1,5 @@
 -- What a place to which bytes go was told.
-use Rattle.std.specs.Prelude.{◌≡◌, ℕ, ◌≤◌, List, ◌++◌, length, Bool, true, false, Vec}
+use Rattle.std.specs.Prelude.{◌≡◌, ℕ, ◌≤◌, Bool, true, false, List, ◌++◌, length, Vec}
 use Rattle.std.specs.declared.alloc.Global.{Global}
 
 -- whatever was told before, these bytes came after it; `about` is what the place was made for, and stays

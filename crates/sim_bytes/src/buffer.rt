@@ -2,7 +2,7 @@
 //! that wait to be hashed.
 
 ghost use Rattle.std.specs.Prelude.{◌≡◌, ◌+◌, ◌<◌, ◌≤◌, [], ◌++◌, length, OnOk};
-ghost use Rattle.sim_bytes.specs.Telling.{Tells, RoomHolds};
+ghost use Rattle.sim_bytes.specs.Telling.{RoomHolds, Tells};
 
 use crate::sink::ByteSink;
 use std::convert::Infallible;
@@ -16,7 +16,7 @@ pub struct Buffer<const ROOM: usize> {
 }
 
 impl<const ROOM: usize> Model for Buffer<ROOM> {
-    ghost use Rattle.std.specs.Prelude.{List, ℕ, ◌≤◌, take};
+    ghost use Rattle.std.specs.Prelude.{ℕ, ◌≤◌, List, take};
 
     ghost Value = { List ℕ };
 

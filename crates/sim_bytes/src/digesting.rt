@@ -1,12 +1,10 @@
 //! MD5 of bytes that come in small pieces. The pieces are gathered first, so that the hash is handed few large ones:
 //! most of what a small piece costs it is bookkeeping.
 
-ghost use Rattle.std.specs.Prelude.{◌≡◌, ℕ, List, [], ◌++◌};
-ghost use Rattle.md5.specs.Md5.{md5};
-ghost use Rattle.sim_bytes.specs.Digesting.{Gathers};
+ghost use Rattle.{md5.specs.Md5.md5, sim_bytes.specs.Digesting.Gathers};
+ghost use Rattle.std.specs.Prelude.{◌≡◌, ℕ, List, []};
 
-use crate::buffer::Buffer;
-use crate::sink::ByteSink;
+use crate::{Buffer, ByteSink};
 use md5::{Digest, Md5};
 use std::convert::Infallible;
 

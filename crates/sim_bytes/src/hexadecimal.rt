@@ -1,10 +1,8 @@
 //! Hexadecimal text: two digits a byte, in lower case alone, so that bytes have one text.
 
-ghost use Rattle.std.specs.Prelude.{◌≡◌, ◌↔◌, ◌<◌, ◌++◌, length, Ok, None, OnOk, OnErr, IfOk, IfErr, IsSome, IfSome, IsTrue};
-ghost use Rattle.std.specs.List.{list_all};
-ghost use Rattle.std.specs.String.{string_bytes};
-ghost use Rattle.hex.specs.Hex.{encode_lower, decode_of};
-ghost use Rattle.sim_bytes.specs.Hex.{IsHex, is_digit};
+ghost use Rattle.{sim_bytes.specs.Hex.is_digit, sim_bytes.specs.Hex.IsHex, std.specs.List.list_all, std.specs.String.string_bytes};
+ghost use Rattle.std.specs.Prelude.{◌≡◌, ◌<◌, ◌↔◌, ◌++◌, length, IfSome, IfOk, IfErr, OnOk, OnErr, IsSome, IsTrue, None, Ok};
+ghost use Rattle.hex.specs.Hex.{decode_of, encode_lower};
 
 use sim_base::OutOfMemory;
 use std::alloc::Global;

@@ -1,9 +1,8 @@
 //! Theorems about the definitions, each the contract of a function that does nothing.
 
-ghost use Rattle.std.specs.Prelude.{◌≡◌, ◌^◌, ◌<◌, ◌++◌, ℕ, ℤ, List, Some, FitsSigned};
-ghost use Rattle.std.specs.Int.{w16, w32, w64};
-ghost use Rattle.sim_base.specs.Bytes.{u16_bytes, u32_bytes, u64_bytes, i32_bytes};
-ghost use Rattle.sim_bytes.specs.Reading.{number_at, signed_at};
+ghost use Rattle.{sim_bytes.specs.Reading.number_at, sim_bytes.specs.Reading.signed_at, std.specs.Int.w16, std.specs.Int.w32, std.specs.Int.w64};
+ghost use Rattle.std.specs.Prelude.{◌≡◌, ℕ, ◌^◌, ◌<◌, List, ◌++◌, ℤ, FitsSigned, Some};
+ghost use Rattle.sim_base.specs.Bytes.{i32_bytes, u16_bytes, u32_bytes, u64_bytes};
 
 /// The bytes of a number are read as that number, whatever follows them.
 pub fn numbers_are_read_back()

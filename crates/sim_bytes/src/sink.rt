@@ -1,9 +1,9 @@
 //! Places to which bytes are told piece by piece. One writer serves them all: what is spelled into a list is also what
 //! is digested and what is compared, with no copy between.
 
-ghost use Rattle.std.specs.Prelude.{◌≡◌, ◌↔◌, ℕ, List, [], ◌∷◌, OnOk, OnErr, IsTrue};
-ghost use Rattle.sim_base.specs.Bytes.{u16_bytes, u32_bytes, u64_bytes, i32_bytes};
-ghost use Rattle.sim_bytes.specs.Telling.{Tells, ListHolds, Compared};
+ghost use Rattle.std.specs.Prelude.{◌≡◌, ℕ, ◌↔◌, List, [], ◌∷◌, OnOk, OnErr, IsTrue};
+ghost use Rattle.sim_base.specs.Bytes.{i32_bytes, u16_bytes, u32_bytes, u64_bytes};
+ghost use Rattle.sim_bytes.specs.Telling.{Compared, ListHolds, Tells};
 
 use sim_base::OutOfMemory;
 use std::convert::Infallible;

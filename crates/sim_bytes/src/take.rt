@@ -1,8 +1,7 @@
 //! The reader of bytes. It stands apart so that every format is read through calls that cannot pass the end.
 
-ghost use Rattle.std.specs.Prelude.{◌≡◌, length};
-ghost use Rattle.std.specs.Int.{w16, w32, w64};
-ghost use Rattle.sim_bytes.specs.Reading.{ReadsOrStays, byte_at, number_at, signed_at};
+ghost use Rattle.std.specs.{Int.w16, Int.w32, Int.w64, Prelude.◌≡◌, Prelude.length};
+ghost use Rattle.sim_bytes.specs.Reading.{byte_at, number_at, ReadsOrStays, signed_at};
 
 use std::marker::Model;
 
@@ -17,7 +16,7 @@ pub struct Take<'a> {
 }
 
 impl<'a> Model for Take<'a> {
-    ghost use Rattle.std.specs.Prelude.{List, ℕ};
+    ghost use Rattle.std.specs.Prelude.{ℕ, List};
 
     ghost Value = { List ℕ };
 

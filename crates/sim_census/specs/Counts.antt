@@ -1,7 +1,6 @@
 -- The numbers that are kept.
-use Rattle.std.specs.Prelude.{◌≡◌, ℕ, ◌<◌, Bool, ◌==◌, List, slice_index}
-use Rattle.sim_system.specs.declared.fact.Fact.{Fact}
-use Rattle.sim_system.specs.Answers.{population_among}
+use Rattle.std.specs.Prelude.{◌≡◌, ℕ, ◌<◌, Bool, List, ◌==◌, slice_index}
+use Rattle.sim_system.specs.{Answers.population_among, declared.fact.Fact.Fact}
 
 -- an entity is of this owner
 abbrev pub is_owned_by : ℕ → Fact → Bool

@@ -1,8 +1,7 @@
 //! The system: the owner of each entity, and the number of each owner's entities beside them.
 
-ghost use Rattle.std.specs.Prelude.{◌≡◌, None, [], length, slice_index};
-ghost use Rattle.sim_system.specs.declared.kind.Kind.TheVariants.{Census as CensusKind};
-ghost use Rattle.sim_census.specs.Counts.{AreCounts};
+ghost use Rattle.{sim_census.specs.Counts.AreCounts, sim_system.specs.declared.kind.Kind.TheVariants.Census as CensusKind};
+ghost use Rattle.std.specs.Prelude.{◌≡◌, [], length, slice_index, None};
 
 use crate::counts::{counts_of, join, leave};
 use sim_base::{Land, OutOfMemory};

@@ -1,8 +1,7 @@
 //! How many entities each owner has: nine numbers, since a match has at most nine owners.
 
-ghost use Rattle.std.specs.Prelude.{◌≡◌, ℕ, ◌+◌, ◌<◌, ◌≤◌, IfSome, length, slice_index};
-ghost use Rattle.sim_system.specs.Answers.{population_among};
-ghost use Rattle.sim_fact_lists.specs.Changes.{passes, one_if};
+ghost use Rattle.{sim_fact_lists.specs.Changes.one_if, sim_fact_lists.specs.Changes.passes, sim_system.specs.Answers.population_among};
+ghost use Rattle.std.specs.Prelude.{◌≡◌, ℕ, ◌+◌, ◌<◌, ◌≤◌, length, IfSome, slice_index};
 ghost use Rattle.sim_census.specs.Counts.{AreCounts, is_owned_by};
 
 use sim_system::Fact;

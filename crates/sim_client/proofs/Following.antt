@@ -1,29 +1,18 @@
 -- A client that has a state follows one that has a past, through each step and each message.
-use Rattle.std.proofs.Common.{◌≡◌, ℕ, suc, ◌+◌, ◌<◌, Bool, true, false, List, [], ◌∷◌, ◌++◌, refl, ap, arith}
-use Rattle.std.specs.Prelude.{min, max, ◌&&◌, ◌==◌, nat_lt, ℤ, if◌then◌else◌, Option, Some, None}
-use Rattle.std.proofs.lemmas.Bool.{ltb-true, ltb-false}
-use Rattle.sim_base.specs.declared.command.Command.{Command}
-use Rattle.sim_base.specs.declared.command.PlayerCommand.{PlayerCommand}
-use Rattle.sim_base.specs.declared.setup.Setup.{Setup}
-use Rattle.sim_base.specs.declared.state.State.{State}
-use Rattle.sim_base.specs.declared.step.Event.{Event}
+use Rattle.{sim_base.specs.Rows.row_of, sim_laws.proofs.Turning.after_counts_turns, sim_plain.specs.Messages.carry_down}
+use Rattle.std.{proofs.Common.suc, proofs.Common.◌<◌, proofs.lemmas.Bool.ltb-false, specs.Prelude.min, specs.Prelude.max, specs.Prelude.ℤ}
+use Rattle.sim_base.specs.{Spelling.digest, Spelling.mark, Spelling.spelling, Turn.after, Turn.may_bend, Turn.Past, Turn.turns_in, declared.step.Event.Event}
+use Rattle.sim_client.proofs.Common.{arith, bent, Command, hears, is_client, Life, ltb-true, On, orders, PlayerCommand, put, Setup, State}
+use Rattle.sim_client.proofs.Common.{◌≡◌, ℕ, ◌+◌, Bool, true, false, ◌&&◌, List, [], ◌∷◌, ◌++◌, if◌then◌else◌, nat_lt, ◌==◌, Some, None, Option, refl, Act, ap}
+use Rattle.sim_client.specs.{LifeLaws.says_of, LifeLaws.shows_after, LifeLaws.StartingFollows, Lives.told, Lives.told_alone, Lives.told_with_done}
+use Rattle.sim_client.specs.LifeLaws.{BendingFollows, Follows, hearing_shown, HearingFollows, JoiningFollows, order_shown, OrderingFollows, PlayingFollows}
+use Rattle.sim_client.specs.Lives.{bends, hands_on, Joining, learns, loads, may_order, may_play, may_tell_done, Off, ordered, played, plays, refused, releases}
+use Rattle.sim_plain_session.{proofs.Functions.put_other, specs.Bytes.spelled, specs.Players.IsPlayerOf, specs.Players.Player}
+use Rattle.sim_plain_session.proofs.PlayerLemmas.{beginning_stands, bending_stands, learning_stands, playing_stands, same_mark, same_turn}
 use Rattle.sim_base.specs.declared.step.Event.TheVariants as event
-use Rattle.sim_base.specs.Rows.{row_of}
-use Rattle.sim_base.specs.Turn.{Past, after, turns_in, may_bend, bent}
-use Rattle.sim_base.specs.Spelling.{spelling, digest, mark}
-use Rattle.sim_plain.specs.declared.message.UpOf.TheVariants as up
 use Rattle.sim_plain.specs.declared.message.DownOf.TheVariants as down
-use Rattle.sim_plain.specs.Functions.{put}
-use Rattle.sim_plain.specs.Messages.{carry_down}
+use Rattle.sim_plain.specs.declared.message.UpOf.TheVariants as up
 use Rattle.sim_plain_session.specs.Clients as plain
-use Rattle.sim_plain_session.specs.Pasts.{is_client}
-use Rattle.sim_plain_session.specs.Bytes.{spelled}
-use Rattle.sim_plain_session.specs.Players.{Player, IsPlayerOf}
-use Rattle.sim_plain_session.proofs.PlayerLemmas.{same_turn, same_mark, beginning_stands, playing_stands, bending_stands, learning_stands}
-use Rattle.sim_plain_session.proofs.Functions.{put_other}
-use Rattle.sim_laws.proofs.Turning.{after_counts_turns}
-use Rattle.sim_client.specs.Lives.{Life, Off, Joining, On, Act, may_order, ordered, orders, may_play, played, may_tell_done, told_with_done, told_alone, told, plays, bends, learns, releases, refused, loads, hands_on, hears}
-use Rattle.sim_client.specs.LifeLaws.{says_of, Follows, shows_after, order_shown, hearing_shown, StartingFollows, JoiningFollows, OrderingFollows, PlayingFollows, BendingFollows, HearingFollows}
 
 pub starting_follows : StartingFollows
 starting_follows setup = beginning_stands setup (min setup.turns setup.delay) (min setup.turns setup.delay) []
@@ -61,7 +50,8 @@ module _ (setup : Setup) (player : Player) (seat : plain.Seat) (s : IsPlayerOf s
   ordering_on : (c : ℕ) (command : Command) →
       (let act = orders setup command (On player) in Follows setup (On player) act (order_shown c (says_of act)) (plain.orders setup c command (plain.On seat)))
   ordering_on c command =
-      branch setup (On player) (ordered command player) (λ act. order_shown c (says_of act)) (λ b. if b then plain.ordered c command seat else plain.idle (plain.On seat)) (may_order setup player)
+      branch setup (On player) (ordered command player) (λ act. order_shown c (says_of act)) (λ b. if b then plain.ordered c command seat
+      else plain.idle (plain.On seat)) (may_order setup player)
       (plain.may_order setup seat) (λ i. nat_lt (s.done i) setup.turns && nat_lt (s.orders i) 64)
       (λ e. record {
         lives = record { state = s.state; known = s.known; released = s.released; done = s.done; orders = ap suc s.orders };
@@ -71,12 +61,14 @@ module _ (setup : Setup) (player : Player) (seat : plain.Seat) (s : IsPlayerOf s
       (λ e. record { lives = s; said = refl; printed = refl })
 
   -- a turn that was played is told
-  telling : (c : ℕ) (old : Life) → Follows setup old (Some (told setup player)) (shows_after setup (event.Play c) (Some (told setup player))) (plain.told setup c seat)
+  telling : (c : ℕ) (old : Life) → Follows setup old (Some (told setup player)) (shows_after setup (event.Play c) (Some (told setup player)))
+      (plain.told setup c seat)
   telling c old = by (may_tell_done setup player) (plain.may_tell_done setup seat) (λ i. nat_lt (s.done i) (min setup.turns (at i + setup.delay)))
     where
       by : (x y : Bool) → x ≡ y →
           (let act = if x then told_with_done setup player else told_alone setup player in
-          Follows setup old (Some act) (shows_after setup (event.Play c) (Some act)) (if y then plain.told_with_done setup c seat else plain.told_alone setup c seat))
+          Follows setup old (Some act) (shows_after setup (event.Play c) (Some act)) (if y then plain.told_with_done setup c seat
+          else plain.told_alone setup c seat))
       by true true e =
           record {
             lives = record { state = s.state; known = s.known; released = s.released; done = ap suc s.done; orders = refl };
@@ -93,10 +85,12 @@ module _ (setup : Setup) (player : Player) (seat : plain.Seat) (s : IsPlayerOf s
       (λ t above. put_other (suc player.state.turn) [] player.known t (λ e. absurd (omega (arith, e, above))))
 
   bending_on : (c id : ℕ) (health : ℤ) →
-      (let act = bends setup id health (On player) in Follows setup (On player) act (shows_after setup (event.Bend c) act) (plain.bends setup c id health (plain.On seat)))
+      (let act = bends setup id health (On player) in Follows setup (On player) act (shows_after setup (event.Bend c) act)
+      (plain.bends setup c id health (plain.On seat)))
   bending_on c id health =
       branch setup (On player) (record { life = On changed; says = [] }) (shows_after setup (event.Bend c))
-      (λ b. if b then plain.shows_bend setup c (plain.bent_seat id health seat) else plain.idle (plain.On seat)) (may_bend setup health (row_of player.state id))
+      (λ b. if b then plain.shows_bend setup c (plain.bent_seat id health seat) else plain.idle (plain.On seat))
+      (may_bend setup health (row_of player.state id))
       (may_bend setup health (row_of (plain.state_of setup seat) id)) (ap (λ (state : State). may_bend setup health (row_of state id)) s.state)
       (λ e. record { lives = stands; said = refl; printed = (λ i. event.Bend c (same.0 i) (same.1 i) ∷ []) })
       (λ e. record { lives = s; said = refl; printed = refl })
@@ -113,10 +107,12 @@ module _ (setup : Setup) (player : Player) (seat : plain.Seat) (s : IsPlayerOf s
   asked : (c client : ℕ) → Follows setup (On player) (Some (hands_on setup client player)) [] (plain.hears setup c (plain.On seat) (down.Ask client))
   asked c client = record { lives = s; said = (λ i. up.State client (at i) (spelling setup (s.state i)) ∷ []); printed = refl }
 
-  learning : (c t : ℕ) (order : PlayerCommand) → Follows setup (On player) (learns setup t order player) [] (plain.hears setup c (plain.On seat) (down.Command t order))
+  learning : (c t : ℕ) (order : PlayerCommand) → Follows setup (On player) (learns setup t order player) []
+      (plain.hears setup c (plain.On seat) (down.Command t order))
   learning c t order =
       branch setup (On player) (record { life = On (record player { known = put t (player.known t ++ order ∷ []) player.known }); says = [] }) (λ act. [])
-      (λ b. plain.idle (plain.On (if b then record seat { known = put t (seat.known t ++ order ∷ []) seat.known } else seat))) (nat_lt player.state.turn t && is_client setup order.player)
+      (λ b. plain.idle (plain.On (if b then record seat { known = put t (seat.known t ++ order ∷ []) seat.known } else seat)))
+      (nat_lt player.state.turn t && is_client setup order.player)
       (nat_lt (turns_in seat.past) t && is_client setup order.player) (λ i. nat_lt (at i) t && is_client setup order.player)
       (λ e. record { lives = learning_stands setup player seat t order s (above e); said = refl; printed = refl })
       (λ e. record { lives = s; said = refl; printed = refl })
@@ -130,10 +126,12 @@ module _ (setup : Setup) (player : Player) (seat : plain.Seat) (s : IsPlayerOf s
 
   releasing : (c t : ℕ) → Follows setup (On player) (releases t player) [] (plain.hears setup c (plain.On seat) (down.Release t))
   releasing c t =
-      branch setup (On player) (record { life = On (record player { released = t }); says = [] }) (λ act. []) (λ b. plain.hears setup c (plain.On seat) (down.Release t)) (nat_lt player.released t)
+      branch setup (On player) (record { life = On (record player { released = t }); says = [] }) (λ act. [])
+      (λ b. plain.hears setup c (plain.On seat) (down.Release t)) (nat_lt player.released t)
       (nat_lt player.released t) refl
       (λ e. let less = ltb-true player.released t e in record { lives = knowing t (omega (arith, s.released, less)); said = refl; printed = refl })
-      (λ e. let more = ltb-false player.released t e in record { lives = knowing player.released (omega (arith, s.released, more)); said = refl; printed = refl })
+      (λ e. let more = ltb-false player.released t e in
+      record { lives = knowing player.released (omega (arith, s.released, more)); said = refl; printed = refl })
     where
       knowing : (r : ℕ) → r ≡ max seat.released t → IsPlayerOf setup (record player { released = r }) (record seat { released = max seat.released t })
       knowing r is = record { state = s.state; known = s.known; released = is; done = s.done; orders = s.orders }
@@ -142,7 +140,8 @@ module _ (setup : Setup) (player : Player) (seat : plain.Seat) (s : IsPlayerOf s
 playing_on : (setup : Setup) (player : Player) (seat : plain.Seat) (s : IsPlayerOf setup player seat) (c : ℕ) →
     (let act = plays setup (On player) in Follows setup (On player) act (shows_after setup (event.Play c) act) (plain.plays setup c (plain.On seat)))
 playing_on setup player seat s c =
-    branch setup (On player) (told setup (played setup player)) (shows_after setup (event.Play c)) (λ b. if b then plain.told setup c (plain.played seat) else plain.idle (plain.On seat))
+    branch setup (On player) (told setup (played setup player)) (shows_after setup (event.Play c)) (λ b. if b then plain.told setup c (plain.played seat)
+    else plain.idle (plain.On seat))
     (may_play setup player) (plain.may_play setup seat) (λ i. nat_lt (at setup player seat s i) setup.turns && nat_lt (at setup player seat s i) (s.released i))
     (λ e. telling setup (played setup player) (plain.played seat) (played_stands setup player seat s) c (On player))
     (λ e. record { lives = s; said = refl; printed = refl })
@@ -194,7 +193,8 @@ loading setup c done past loaded is =
     })
 
 -- the refusal of the wish to join
-refusing : (setup : Setup) (c code : ℕ) → Follows setup Joining (refused code) (event.Refused c code ∷ []) (plain.hears setup c plain.Joining (down.Refused code))
+refusing : (setup : Setup) (c code : ℕ) → Follows setup Joining (refused code) (event.Refused c code ∷ [])
+    (plain.hears setup c plain.Joining (down.Refused code))
 refusing setup c code = by (code == 4) refl
   where
     by : (b : Bool) → (code == 4) ≡ b → Follows setup Joining (refused code) (event.Refused c code ∷ []) (plain.hears setup c plain.Joining (down.Refused code))

@@ -1,15 +1,7 @@
 -- What is known of a turn, put there twice; and that players of the match gave it.
-use Rattle.std.proofs.Common.{◌≡◌, ℕ, Bool, true, false, List, refl, sym, subst, arith, All}
-use Rattle.std.specs.Prelude.{◌==◌, ◌&&◌, nat_lt, nat_le, if◌then◌else◌}
-use Rattle.std.proofs.lemmas.Bool.{ltb-true, leb-true}
-use Rattle.sim_base.specs.declared.command.PlayerCommand.{PlayerCommand}
-use Rattle.sim_base.specs.declared.setup.Setup.{Setup}
-use Rattle.sim_base.specs.Limits.{IsFrom}
-use Rattle.sim_laws.specs.CommandLaws.{IsOrderOf}
-use Rattle.sim_plain_session.specs.Pasts.{is_client}
-use Rattle.sim_client.specs.declared.known.Known.{Known}
-use Rattle.sim_client.specs.KnownWords.{known_in, AreByPlayers}
-use Rattle.sim_plain.specs.Functions.{put}
+use Rattle.{sim_base.specs.Limits.IsFrom, std.proofs.lemmas.Bool.leb-true, std.specs.Prelude.nat_le}
+use Rattle.sim_client.proofs.Common.{Known, known_in, ltb-true, PlayerCommand, put, Setup, subst, sym}
+use Rattle.sim_client.proofs.Common.{◌≡◌, ℕ, Bool, true, false, ◌&&◌, List, if◌then◌else◌, nat_lt, ◌==◌, All, refl, AreByPlayers, arith, is_client, IsOrderOf}
 
 -- only the last one counts
 pub put_again : {X : Type 0} (n : ℕ) (x y : X) (f : ℕ → X) → put n x (put n y f) ≡ put n x f
@@ -20,7 +12,8 @@ put_again n x y f = λ i m. by (m == n) (f m) i
     by false z = refl
 
 -- other commands of a turn, by players too
-pub players_put : (setup : Setup) (old new : Known) (n : ℕ) (orders : List PlayerCommand) → known_in new ≡ put n orders (known_in old) → AreByPlayers setup old → All (IsOrderOf setup) orders →
+pub players_put : (setup : Setup) (old new : Known) (n : ℕ) (orders : List PlayerCommand) → known_in new ≡ put n orders (known_in old) → AreByPlayers setup old
+    → All (IsOrderOf setup) orders →
     AreByPlayers setup new
 players_put setup old new n orders is all these = λ t. subst (All (IsOrderOf setup)) (sym (λ i. is i t)) (by t (t == n))
   where

@@ -1,3 +1,4 @@
+pub mod Common
 pub mod Following
 pub mod Knowing
 pub mod Standing

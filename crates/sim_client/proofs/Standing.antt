@@ -1,24 +1,11 @@
 -- A client that is sound, before and after a step.
-use Rattle.std.proofs.Common.{◌≡◌, ℕ, Bool, true, false, List, [], All, Result, Ok, Err, refl, sym, subst}
-use Rattle.std.specs.Prelude.{OnOk, Option, Some, None, ◌&&◌, nat_lt, if◌then◌else◌}
-use Rattle.std.proofs.lemmas.List.Elements.{All-nil}
-use Rattle.sim_base.specs.declared.command.Command.{Command}
-use Rattle.sim_base.specs.declared.command.PlayerCommand.{PlayerCommand}
-use Rattle.sim_base.specs.declared.memory.OutOfMemory.{OutOfMemory}
-use Rattle.sim_base.specs.declared.setup.Setup.{Setup}
-use Rattle.sim_base.specs.declared.state.State.{State}
-use Rattle.sim_laws.specs.CommandLaws.{IsOrderOf}
-use Rattle.sim_system.specs.Meanings.{Meaning}
+use Rattle.{sim_base.specs.declared.memory.OutOfMemory.OutOfMemory, std.proofs.Common.Ok, std.proofs.Common.Err, std.proofs.Common.Result}
+use Rattle.{sim_client.proofs.Common.sym, sim_client.specs.declared.did.Did.Did, sim_client.specs.declared.stage.Seat.Seat, sim_system.specs.Meanings.Meaning}
 use Rattle.sim_board.specs.declared.board.Board.{Board}
-use Rattle.sim_client.specs.declared.did.Did.{Did}
-use Rattle.sim_client.specs.declared.known.Known.{Known}
-use Rattle.sim_client.specs.declared.stage.Seat.{Seat}
-use Rattle.sim_client.specs.declared.stage.Stage.{Stage}
+use Rattle.sim_client.proofs.Common.{AreByPlayers, Command, IsOrderOf, IsReady, Known, known_in, Life, On, orders, PlayerCommand, Setup, Stage, State, subst}
+use Rattle.sim_client.proofs.Common.{◌≡◌, ℕ, Bool, true, false, ◌&&◌, List, [], if◌then◌else◌, OnOk, nat_lt, Some, None, All, Option, refl, Act, All-nil}
+use Rattle.sim_client.specs.{ClientWords.Answers, StageWords.IsPlayingBy, StageWords.IsSoundAt, StageWords.life_at, StageWords.player_at}
 use Rattle.sim_client.specs.declared.stage.Stage.TheVariants as stage
-use Rattle.sim_client.specs.KnownWords.{known_in, AreByPlayers}
-use Rattle.sim_client.specs.Lives.{Life, On, Act, orders}
-use Rattle.sim_client.specs.StageWords.{player_at, life_at, IsPlayingBy, IsReady, IsSoundAt}
-use Rattle.sim_client.specs.ClientWords.{Answers}
 
 -- what holds anyway holds where a result is Ok
 pub anyway : {V E : Type 0} {P : Type 0} (r : Result V E) → P → OnOk r P
@@ -40,11 +27,13 @@ module _ {X : Type 0} {F : X → Type 0} (setup : Setup) (m : (i : X) → F i �
       by (stage.On seat) h = h.same
 
   -- one that is on is playing
-  pub playing_of : (at : Stage) (boards : Option (Board X F)) (seat : Seat) (board : Board X F) → at ≡ stage.On seat → boards ≡ Some board → IsReady setup at boards m → IsPlayingBy setup board seat m
+  pub playing_of : (at : Stage) (boards : Option (Board X F)) (seat : Seat) (board : Board X F) → at ≡ stage.On seat → boards ≡ Some board
+      → IsReady setup at boards m → IsPlayingBy setup board seat m
   playing_of at boards seat board on is ready = subst (λ (p : Stage × Option (Board X F)). IsReady setup p.0 p.1 m) (λ i. (on i, is i)) ready
 
   -- a seat that knows the same commands may be taken for another
-  pub seated : (number : ℕ) (at : Stage) (board : Option (Board X F)) (seat new : Seat) → at ≡ stage.On seat → new.known ≡ seat.known → IsSoundAt setup number at board m →
+  pub seated : (number : ℕ) (at : Stage) (board : Option (Board X F)) (seat new : Seat) → at ≡ stage.On seat → new.known ≡ seat.known
+      → IsSoundAt setup number at board m →
       IsSoundAt setup number (stage.On new) board m
   seated number at board seat new on known sound =
       record { limits = sound.limits; number_is = sound.number_is; ready = by board (subst (λ (s : Stage). IsReady setup s board m) on sound.ready) }
@@ -54,15 +43,19 @@ module _ {X : Type 0} {F : X → Type 0} (setup : Setup) (m : (i : X) → F i �
       by (Some b) h = record { same = h.same; whole = h.whole; valid = h.valid; known = subst (AreByPlayers setup) (sym known) h.known }
 
   -- what is answered of a client that is on, by its seat and its board
-  pub answered : (step : Life → Option Act) (result : Result Did OutOfMemory) (at : Stage) (boards : Option (Board X F)) (seat new : Seat) (board : Board X F) (state : State) →
-      at ≡ stage.On seat → boards ≡ Some board → state ≡ board.state → Answers (step (On (player_at state seat))) (On (player_at state seat)) result (On (player_at state new)) →
+  pub answered : (step : Life → Option Act) (result : Result Did OutOfMemory) (at : Stage) (boards : Option (Board X F)) (seat new : Seat) (board : Board X F)
+      (state : State) →
+      at ≡ stage.On seat → boards ≡ Some board → state ≡ board.state → Answers (step (On (player_at state seat))) (On (player_at state seat)) result
+      (On (player_at state new)) →
       Answers (step (life_at at boards)) (life_at at boards) result (life_at (stage.On new) boards)
   answered step result at boards seat new board state on is same h =
       let here = subst (λ (s : State). Answers (step (On (player_at s seat))) (On (player_at s seat)) result (On (player_at s new))) same h in
-      subst (λ (p : Stage × Option (Board X F)). Answers (step (life_at p.0 p.1)) (life_at p.0 p.1) result (life_at (stage.On new) p.1)) (λ i. (sym on i, sym is i)) here
+      subst (λ (p : Stage × Option (Board X F)). Answers (step (life_at p.0 p.1)) (life_at p.0 p.1) result (life_at (stage.On new) p.1))
+      (λ i. (sym on i, sym is i)) here
 
   -- a command that is not given, where a client is on
-  pub unordered : (command : Command) (at : Stage) (boards : Option (Board X F)) (seat : Seat) → at ≡ stage.On seat → IsReady setup at boards m → orders setup command (life_at at boards) ≡ None →
+  pub unordered : (command : Command) (at : Stage) (boards : Option (Board X F)) (seat : Seat) → at ≡ stage.On seat → IsReady setup at boards m
+      → orders setup command (life_at at boards) ≡ None →
       (nat_lt seat.done setup.turns && nat_lt seat.orders 64) ≡ false
   unordered command at boards seat on ready none =
       by boards (subst (λ (s : Stage). IsReady setup s boards m) on ready) (subst (λ (s : Stage). orders setup command (life_at s boards) ≡ None) on none)
@@ -71,6 +64,7 @@ module _ {X : Type 0} {F : X → Type 0} (setup : Setup) (m : (i : X) → F i �
       test true act h = absurd (cc)
       test false act h = refl
 
-      by : (boards : Option (Board X F)) → IsReady setup (stage.On seat) boards m → orders setup command (life_at (stage.On seat) boards) ≡ None → (nat_lt seat.done setup.turns && nat_lt seat.orders 64) ≡ false
+      by : (boards : Option (Board X F)) → IsReady setup (stage.On seat) boards m → orders setup command (life_at (stage.On seat) boards) ≡ None
+          → (nat_lt seat.done setup.turns && nat_lt seat.orders 64) ≡ false
       by None h none = absurd h
       by (Some b) h none = test (nat_lt seat.done setup.turns && nat_lt seat.orders 64) _ none

@@ -1,18 +1,11 @@
 -- What a client is to its callers. A clause passes ⟦<dyn System as System>⟧ for `sys`.
-use Rattle.std.specs.Prelude.{◌≡◌, ℕ, Bool, true, false, List, Option, Some, None, Result, Ok, Err}
-use Rattle.sim_base.specs.declared.memory.OutOfMemory.{OutOfMemory}
-use Rattle.sim_base.specs.declared.setup.Setup.{Setup}
-use Rattle.sim_base.specs.declared.state.State.{State}
-use Rattle.sim_base.specs.Spelling.{digest, mark}
-use Rattle.sim_system.specs.declared.system.System.{Ghosts}
-use Rattle.sim_system.specs.Meanings.{Systems}
-use Rattle.sim_plain.specs.declared.message.DownOf.TheVariants as down
-use Rattle.sim_codec.specs.Loading.{StandsFor}
-use Rattle.sim_client.specs.declared.client.Client.{Client}
-use Rattle.sim_client.specs.declared.did.Did.{Did}
+use Rattle.{sim_codec.specs.Loading.StandsFor, sim_system.specs.Meanings.Systems, sim_system.specs.declared.system.System.Ghosts}
+use Rattle.std.specs.Prelude.{◌≡◌, ℕ, Bool, true, false, List, Some, None, Ok, Err, Option, Result}
+use Rattle.sim_base.specs.{Spelling.digest, Spelling.mark, declared.memory.OutOfMemory.OutOfMemory, declared.setup.Setup.Setup, declared.state.State.State}
+use Rattle.sim_client.specs.{Lives.Act, Lives.Joining, Lives.Life, Lives.Off, Lives.On, Lives.Told, declared.client.Client.Client, declared.did.Did.Did}
+use Rattle.sim_client.specs.StageWords.{IsSoundAt, life_at, systems_on}
 use Rattle.sim_client.specs.declared.did.Did.TheVariants as did
-use Rattle.sim_client.specs.Lives.{Life, Off, Joining, On, Act, Told}
-use Rattle.sim_client.specs.StageWords.{life_at, systems_on, IsSoundAt}
+use Rattle.sim_plain.specs.declared.message.DownOf.TheVariants as down
 
 -- the match that it takes part in
 abbrev pub setup_in : {Y X : Type 0} {G : Y → Type 0} {F : X → Type 0} {M : _} → Client Y X G F M → Setup

@@ -1,11 +1,7 @@
 -- What is known of a turn.
-use Rattle.std.specs.Prelude.{ℕ, List, [], All, unwrap_or}
-use Rattle.std.specs.Ordering.{nat_cmp}
-use Rattle.std.specs.BTreeMap.{get}
-use Rattle.sim_base.specs.declared.command.PlayerCommand.{PlayerCommand}
-use Rattle.sim_base.specs.declared.setup.Setup.{Setup}
+use Rattle.{sim_base.specs.declared.command.PlayerCommand.PlayerCommand, sim_base.specs.declared.setup.Setup.Setup, sim_client.specs.declared.known.Known.Known}
+use Rattle.std.specs.{BTreeMap.get, Ordering.nat_cmp, Prelude.ℕ, Prelude.List, Prelude.[], Prelude.All, Prelude.unwrap_or}
 use Rattle.sim_laws.specs.CommandLaws.{IsOrderOf}
-use Rattle.sim_client.specs.declared.known.Known.{Known}
 
 -- the commands of a turn
 abbrev pub known_in : Known → ℕ → List PlayerCommand

@@ -1,20 +1,14 @@
 -- A client that has a state follows one that has a past: through each step and each message it stands for it, says the same, and
 -- what is printed can be seen of it.
-use Rattle.std.specs.Prelude.{◌≡◌, ℕ, min, ℤ, List, [], ◌∷◌, map, Option, Some, None}
-use Rattle.sim_base.specs.declared.command.Command.{Command}
-use Rattle.sim_base.specs.declared.setup.Setup.{Setup}
-use Rattle.sim_base.specs.declared.state.State.{State}
-use Rattle.sim_base.specs.declared.step.Event.{Event}
+use Rattle.{sim_base.specs.Turn.after, sim_plain_session.specs.Bytes.spelled, sim_plain_session.specs.Players.IsPlayerOf}
+use Rattle.std.specs.Prelude.{◌≡◌, ℕ, min, List, [], ◌∷◌, map, ℤ, Some, None, Option}
+use Rattle.sim_base.specs.{Spelling.digest, declared.command.Command.Command, declared.setup.Setup.Setup, declared.state.State.State, declared.step.Event.Event}
+use Rattle.sim_client.specs.Lives.{Act, bends, hears, Joining, joins, Life, Off, On, orders, plays, Said, starts, Told}
+use Rattle.sim_plain.specs.Messages.{carry_down, carry_up}
 use Rattle.sim_base.specs.declared.step.Event.TheVariants as event
-use Rattle.sim_base.specs.Turn.{after}
-use Rattle.sim_base.specs.Spelling.{digest}
-use Rattle.sim_plain.specs.declared.message.UpOf.TheVariants as up
 use Rattle.sim_plain.specs.declared.message.DownOf.TheVariants as down
-use Rattle.sim_plain.specs.Messages.{carry_up, carry_down}
+use Rattle.sim_plain.specs.declared.message.UpOf.TheVariants as up
 use Rattle.sim_plain_session.specs.Clients as plain
-use Rattle.sim_plain_session.specs.Bytes.{spelled}
-use Rattle.sim_plain_session.specs.Players.{IsPlayerOf}
-use Rattle.sim_client.specs.Lives.{Said, Told, Life, Off, Joining, On, Act, starts, joins, orders, plays, bends, hears}
 
 -- a client that has a state stands for one that has a past
 abbrev pub Lives : Setup → Life → plain.Phase → Type 0
@@ -88,7 +82,8 @@ StartingFollows = (setup : Setup) → Lives setup (starts setup) (plain.On (plai
 
 abbrev pub JoiningFollows : Type 0
 JoiningFollows =
-    (setup : Setup) (c : ℕ) (life : Life) (phase : plain.Phase) → Lives setup life phase → Follows setup life (joins life) (join_shown c (joins life)) (plain.joins c phase)
+    (setup : Setup) (c : ℕ) (life : Life) (phase : plain.Phase) → Lives setup life phase → Follows setup life (joins life) (join_shown c (joins life))
+    (plain.joins c phase)
 
 abbrev pub OrderingFollows : Type 0
 OrderingFollows =
@@ -118,6 +113,7 @@ LoadsAs setup loaded plain.Joining (down.Refused code) = Unit {0}
 
 abbrev pub HearingFollows : Type 0
 HearingFollows =
-    (setup : Setup) (c : ℕ) (loaded : Option State) (said : plain.Down) (life : Life) (phase : plain.Phase) → Lives setup life phase → LoadsAs setup loaded phase said
+    (setup : Setup) (c : ℕ) (loaded : Option State) (said : plain.Down) (life : Life) (phase : plain.Phase) → Lives setup life phase
+    → LoadsAs setup loaded phase said
     → (let heard = hears setup loaded (carry_down (spelled setup) said) life in
     Follows setup life heard (hearing_shown setup c (carry_down (spelled setup) said) heard) (plain.hears setup c phase said))

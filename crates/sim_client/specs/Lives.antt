@@ -1,20 +1,12 @@
 -- A client that has a state in place of a past: what it is, and what a step or a message that it hears makes of it. Messages carry the
 -- bytes of states.
-use Rattle.std.specs.Prelude.{ℕ, suc, ◌+◌, min, Bool, ◌&&◌, nat_lt, ◌==◌, ℤ, if◌then◌else◌, List, [], ◌∷◌, ◌++◌, Option, Some, None}
-use Rattle.sim_base.specs.declared.command.Command.{Command}
-use Rattle.sim_base.specs.declared.command.PlayerCommand.{PlayerCommand}
-use Rattle.sim_base.specs.declared.setup.Setup.{Setup}
-use Rattle.sim_base.specs.declared.state.State.{State}
-use Rattle.sim_base.specs.Rows.{row_of}
-use Rattle.sim_base.specs.Turn.{first_state, turn, may_bend, bent}
-use Rattle.sim_base.specs.Spelling.{spelling, mark}
-use Rattle.sim_plain.specs.declared.message.UpOf.{UpOf}
-use Rattle.sim_plain.specs.declared.message.UpOf.TheVariants as up
-use Rattle.sim_plain.specs.declared.message.DownOf.{DownOf}
+use Rattle.std.specs.Prelude.{ℕ, suc, ◌+◌, min, Bool, ◌&&◌, List, [], ◌∷◌, ◌++◌, ℤ, if◌then◌else◌, nat_lt, ◌==◌, Some, None, Option}
+use Rattle.sim_base.specs.{Rows.row_of, Spelling.mark, Spelling.spelling, Turn.bent, Turn.first_state, Turn.may_bend, Turn.turn}
+use Rattle.sim_base.specs.declared.{command.Command.Command, command.PlayerCommand.PlayerCommand, setup.Setup.Setup, state.State.State}
+use Rattle.sim_plain.specs.{Functions.put, declared.message.DownOf.DownOf, declared.message.UpOf.UpOf}
+use Rattle.sim_plain_session.specs.{Pasts.is_client, Players.Player}
 use Rattle.sim_plain.specs.declared.message.DownOf.TheVariants as down
-use Rattle.sim_plain.specs.Functions.{put}
-use Rattle.sim_plain_session.specs.Pasts.{is_client}
-use Rattle.sim_plain_session.specs.Players.{Player}
+use Rattle.sim_plain.specs.declared.message.UpOf.TheVariants as up
 
 -- what a client says
 abbrev pub Said : Type 0
@@ -75,7 +67,8 @@ may_play setup player = nat_lt player.state.turn setup.turns && nat_lt player.st
 
 -- the next turn is played with the commands that are known of it, and these are forgotten
 abbrev pub played : Setup → Player → Player
-played setup player = record player { state = turn setup player.state (player.known (suc player.state.turn)); known = put (suc player.state.turn) [] player.known }
+played setup player = record player
+    { state = turn setup player.state (player.known (suc player.state.turn)); known = put (suc player.state.turn) [] player.known }
 
 -- it may be done with one turn more
 abbrev pub may_tell_done : Setup → Player → Bool
@@ -87,7 +80,8 @@ report_of setup player = up.Report player.state.turn (mark setup player.state)
 
 -- a report goes up, and behind it a done; the commands that it gives are counted anew
 abbrev pub told_with_done : Setup → Player → Act
-told_with_done setup player = record { life = On (record player { done = suc player.done; orders = 0 }); says = report_of setup player ∷ up.Done (suc player.done) ∷ [] }
+told_with_done setup player =
+    record { life = On (record player { done = suc player.done; orders = 0 }); says = report_of setup player ∷ up.Done (suc player.done) ∷ [] }
 
 -- a report goes up alone
 abbrev pub told_alone : Setup → Player → Act
@@ -110,7 +104,8 @@ abbrev pub bends : Setup → ℕ → ℤ → Life → Option Act
 bends setup id health Off = None
 bends setup id health Joining = None
 bends setup id health (On player) =
-    if may_bend setup health (row_of player.state id) then Some (record { life = On (record player { state = bent setup player.state id health }); says = [] }) else None
+    if may_bend setup health (row_of player.state id) then Some (record { life = On (record player { state = bent setup player.state id health }); says = [] })
+    else None
 
 -- ---- a client hears a message
 
@@ -121,7 +116,8 @@ hands_on setup client player = record { life = On player; says = up.State client
 -- a command of a turn that it has not played is known from now on
 abbrev pub learns : Setup → ℕ → PlayerCommand → Player → Option Act
 learns setup t order player =
-    if nat_lt player.state.turn t && is_client setup order.player then Some (record { life = On (record player { known = put t (player.known t ++ order ∷ []) player.known }); says = [] })
+    if nat_lt player.state.turn t && is_client setup order.player
+    then Some (record { life = On (record player { known = put t (player.known t ++ order ∷ []) player.known }); says = [] })
     else None
 
 -- more turns are released

@@ -1,21 +1,12 @@
 -- What a client keeps beside its board, and what it is with that board. Members of systems are passed as in the words of boards.
-use Rattle.std.specs.Prelude.{◌≡◌, ℕ, [], Option, Some, None}
-use Rattle.sim_base.specs.declared.setup.Setup.{Setup}
-use Rattle.sim_base.specs.declared.state.State.{State}
-use Rattle.sim_base.specs.Limits.{IsSetup, IsFrom}
-use Rattle.sim_base.specs.Validity.{IsValid}
-use Rattle.sim_system.specs.declared.kind.Kind.TheVariants.{Ground}
-use Rattle.sim_system.specs.declared.system.System.{Ghosts}
-use Rattle.sim_system.specs.Meanings.{Meaning, Systems, four, HaveKinds, AreFed}
-use Rattle.sim_system.specs.RigWords.{systems_by}
-use Rattle.sim_board.specs.declared.board.Board.{Board}
-use Rattle.sim_board.specs.BoardWords.{IsWholeBy}
-use Rattle.sim_plain_session.specs.Players.{Player}
-use Rattle.sim_client.specs.declared.stage.Seat.{Seat}
-use Rattle.sim_client.specs.declared.stage.Stage.{Stage}
+use Rattle.{sim_plain_session.specs.Players.Player, sim_system.specs.declared.kind.Kind.TheVariants.Ground, sim_system.specs.declared.system.System.Ghosts}
+use Rattle.std.specs.Prelude.{◌≡◌, ℕ, [], Some, None, Option}
+use Rattle.sim_base.specs.{Limits.IsFrom, Limits.IsSetup, Validity.IsValid, declared.setup.Setup.Setup, declared.state.State.State}
+use Rattle.sim_board.specs.{BoardWords.IsWholeBy, declared.board.Board.Board}
+use Rattle.sim_client.specs.{Lives.Joining, Lives.Life, Lives.Off, Lives.On, declared.stage.Seat.Seat, declared.stage.Stage.Stage}
+use Rattle.sim_client.specs.KnownWords.{AreByPlayers, known_in}
+use Rattle.sim_system.specs.{Meanings.AreFed, Meanings.four, Meanings.HaveKinds, Meanings.Meaning, Meanings.Systems, RigWords.systems_by}
 use Rattle.sim_client.specs.declared.stage.Stage.TheVariants as stage
-use Rattle.sim_client.specs.KnownWords.{known_in, AreByPlayers}
-use Rattle.sim_client.specs.Lives.{Life, Off, Joining, On}
 
 -- a seat beside a state
 abbrev pub player_at : State → Seat → Player
@@ -85,7 +76,8 @@ IsReady setup stage.Joining (Some board) meaning = IsRestingBy setup board meani
 IsReady setup (stage.On seat) (Some board) meaning = IsPlayingBy setup board seat meaning
 
 -- the match is within its limits, the number is a player's, and the board is as the stage asks
-pub record IsSoundAt {X : Type 0} {F : X → Type 0} (setup : Setup) (number : ℕ) (at : Stage) (board : Option (Board X F)) (meaning : (i : X) → F i → Meaning) : Type 0 where
+pub record IsSoundAt {X : Type 0} {F : X → Type 0} (setup : Setup) (number : ℕ) (at : Stage) (board : Option (Board X F)) (meaning : (i : X) → F i → Meaning) :
+    Type 0 where
   pub limits : IsSetup setup
   pub number_is : IsFrom 1 setup.players number
   pub ready : IsReady setup at board meaning

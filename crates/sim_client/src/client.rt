@@ -3,14 +3,12 @@
 //! Its systems are always on a board. A client that is not on has one that is not whole, and its systems are cleared. The
 //! board is taken out only to be made anew, as the client is cut off.
 
-ghost use Rattle.std.specs.Prelude.{◌≡◌, None, min, option_copied, IsOk, OnOk};
-ghost use Rattle.sim_base.specs.Limits.{IsSetup, IsFrom, HasFewIds};
-ghost use Rattle.sim_system.specs.Meanings.{HaveKinds, AreBuiltOnceAtMost, all_cleared};
-ghost use Rattle.sim_system.specs.RigWords.{systems_of};
-ghost use Rattle.sim_board.specs.BoardWords.{AreKept};
-ghost use Rattle.sim_client.specs.Lives.{Off, starts, joins, orders as orders_by, plays, bends};
+ghost use Rattle.{sim_base.specs.Limits.HasFewIds, sim_base.specs.Limits.IsFrom, sim_base.specs.Limits.IsSetup, sim_board.specs.BoardWords.AreKept};
+ghost use Rattle.std.specs.Prelude.{◌≡◌, min, OnOk, IsOk, None, option_copied};
+ghost use Rattle.sim_client.specs.ClientWords.{Answers, digest_of, is_joining, IsSound, life, mark_of, number_in, setup_in, state_of, systems, Tells, turn_of};
+ghost use Rattle.sim_client.specs.Lives.{bends, joins, Off, orders as orders_by, plays, starts};
 ghost use Rattle.sim_client.specs.StageWords.{AreCleared, AreOf};
-ghost use Rattle.sim_client.specs.ClientWords.{setup_in, number_in, life, systems, IsSound, Answers, Tells, is_joining, turn_of, digest_of, mark_of, state_of};
+ghost use Rattle.sim_system.specs.{Meanings.all_cleared, Meanings.AreBuiltOnceAtMost, Meanings.HaveKinds, RigWords.systems_of};
 
 mod hearing;
 
@@ -236,7 +234,8 @@ impl<'a> Client<'a> {
     pub fn finish(self) -> Rig
         requires { HaveKinds (systems self ⟦<dyn System as System>⟧) }
         ensures systems { systems_of result ⟦<dyn System as System>⟧ ≡ systems self.entry ⟦<dyn System as System>⟧ }
-        ensures stands { IsSound self.entry ⟦<dyn System as System>⟧ → AreOf (setup_in self.entry) (life self.entry) (systems_of result ⟦<dyn System as System>⟧) }
+        ensures stands { IsSound self.entry ⟦<dyn System as System>⟧ → AreOf (setup_in self.entry) (life self.entry)
+            (systems_of result ⟦<dyn System as System>⟧) }
     {
         let Client { board, .. } = self;
         match board {

@@ -1,17 +1,12 @@
 //! What a client that is on does with its board, and what it keeps beside.
 
-ghost use Rattle.std.specs.Prelude.{◌≡◌, ◌<◌, ◌+◌, ◌^◌, [], ◌∷◌, Option, None, Ok, min, nat_lt, ◌&&◌, false, OnOk, IfOk, IsOk};
-ghost use Rattle.sim_base.specs.declared.state.State.{State as AnyState};
-ghost use Rattle.sim_base.specs.Limits.{IsSetup};
-ghost use Rattle.sim_base.specs.Spelling.{spelling};
-ghost use Rattle.sim_base.specs.Validity.{IsValid};
+ghost use Rattle.{sim_client.specs.StageWords.IsPlaying, sim_client.specs.StageWords.player_at, sim_plain_session.specs.Pasts.is_client as is_client_by};
+ghost use Rattle.std.specs.Prelude.{◌≡◌, ◌+◌, ◌^◌, ◌<◌, min, false, ◌&&◌, [], ◌∷◌, IfOk, OnOk, IsOk, nat_lt, None, Ok, Option};
+ghost use Rattle.sim_base.specs.{Limits.IsSetup, Spelling.spelling, Validity.IsValid, declared.state.State.State as AnyState};
+ghost use Rattle.sim_board.specs.BoardWords.{AreKept, state_in, systems};
+ghost use Rattle.sim_client.specs.{ClientWords.Answers, ClientWords.NeedsNoMemory, KnownWords.AreByPlayers, KnownWords.known_in};
+ghost use Rattle.sim_client.specs.Lives.{hears, learns, may_play as may_play_by, On, orders as orders_by, played, plays, releases, told};
 ghost use Rattle.sim_plain.specs.declared.message.UpOf.TheVariants as up;
-ghost use Rattle.sim_plain_session.specs.Pasts.{is_client as is_client_by};
-ghost use Rattle.sim_board.specs.BoardWords.{state_in, systems, AreKept};
-ghost use Rattle.sim_client.specs.KnownWords.{known_in, AreByPlayers};
-ghost use Rattle.sim_client.specs.Lives.{On, orders as orders_by, may_play as may_play_by, played, told, plays, learns, releases, hears};
-ghost use Rattle.sim_client.specs.StageWords.{player_at, IsPlaying};
-ghost use Rattle.sim_client.specs.ClientWords.{Answers, NeedsNoMemory};
 
 use crate::did::{Did, Ups, one, silent};
 use crate::known::Known;
@@ -55,7 +50,8 @@ pub fn order(
     command: &Command,
 ) -> Result<Did, OutOfMemory>
     requires { IsSetup setup.now }
-    ensures answers { (state : AnyState) → let old = On (player_at state seat.old) in Answers (orders_by setup.now command.now old) old result (On (player_at state seat.new)) }
+    ensures answers { (state : AnyState) → let old = On (player_at state seat.old) in Answers (orders_by setup.now command.now old) old result
+        (On (player_at state seat.new)) }
     ensures idle { (nat_lt seat.old.done setup.now.turns && nat_lt seat.old.orders 64) ≡ false → IsOk result }
     ensures known { seat.new.known ≡ seat.old.known }
 {
@@ -136,7 +132,8 @@ pub fn play(
     seat: &mut Seat,
 ) -> Result<Did, OutOfMemory>
     requires playing { IsPlaying setup.now board.old seat.old ⟦<dyn System as System>⟧ }
-    ensures answers { let old = On (player_at (state_in board.old) seat.old) in Answers (plays setup.now old) old result (On (player_at (state_in board.new) seat.new)) }
+    ensures answers { let old = On (player_at (state_in board.old) seat.old) in Answers (plays setup.now old) old result
+        (On (player_at (state_in board.new) seat.new)) }
     ensures playing { OnOk result (IsPlaying setup.now board.new seat.new ⟦<dyn System as System>⟧) }
     ensures idle { may_play_by setup.now (player_at (state_in board.old) seat.old) ≡ false → IsOk result }
     ensures kept { AreKept (systems board.old ⟦<dyn System as System>⟧) (systems board.new ⟦<dyn System as System>⟧) }
@@ -202,7 +199,8 @@ fn learn(
 
 // More turns are released.
 fn release(alloc: Global, seat: &mut Seat, turn: u32) -> Did
-    ensures answers { (state : AnyState) → let old = player_at state seat.old in Answers (releases turn old) (On old) (Ok result) (On (player_at state seat.new)) }
+    ensures answers { (state : AnyState) → let old = player_at state seat.old in Answers (releases turn old) (On old) (Ok result)
+        (On (player_at state seat.new)) }
     ensures known { seat.new.known ≡ seat.old.known }
 {
     if turn <= seat.released {
@@ -222,7 +220,8 @@ pub fn heed(
 ) -> Result<Did, OutOfMemory>
     requires valid { IsValid setup.now state.now }
     requires players { AreByPlayers setup.now seat.old.known }
-    ensures answers { (loaded : Option AnyState) → let old = On (player_at state.now seat.old) in Answers (hears setup.now loaded down old) old result (On (player_at state.now seat.new)) }
+    ensures answers { (loaded : Option AnyState) → let old = On (player_at state.now seat.old) in Answers (hears setup.now loaded down old) old result
+        (On (player_at state.now seat.new)) }
     ensures idle { hears setup.now None down (On (player_at state.now seat.old)) ≡ None → IsOk result }
     ensures sure { NeedsNoMemory (On (player_at state.now seat.old)) down → IsOk result }
     ensures players { OnOk result (AreByPlayers setup.now seat.new.known) }

@@ -1,40 +1,15 @@
 -- The bytes of a valid state are read as that state.
-use Rattle.std.proofs.Common.{◌≡◌, ℕ, suc, ◌+◌, ◌^◌, ◌<◌, ◌≤◌, Bool, false, ltb, List, [], ◌∷◌, ◌++◌, length, Option, Some, None, refl, sym, ap, ◌∙◌, append_assoc, arith, ℤ, subst}
-use Rattle.std.specs.Prelude.{◌&&◌, IfSome, FitsSigned, MatchOption, is_some, slice_get, option_map, unwrap_or}
-use Rattle.std.specs.Int.{w32}
-use Rattle.std.specs.List.{flat_map, cons_option, AllByRecursion}
-use Rattle.std.proofs.lemmas.Bool.{le-ltb}
-use Rattle.std.proofs.lemmas.List.{append-nil}
-use Rattle.std.proofs.lemmas.List.Elements.{recursion_from_All}
-use Rattle.sim_base.specs.declared.state.Row.{Row}
-use Rattle.sim_base.specs.declared.state.Aim.{Aim}
-use Rattle.sim_base.specs.declared.state.Motion.{Motion}
-use Rattle.sim_base.specs.declared.state.State.{State}
-use Rattle.sim_base.specs.declared.setup.Setup.{Setup}
-use Rattle.sim_base.specs.declared.template.Template.{Template}
-use Rattle.sim_base.specs.Spelling.{rows_with, entity_part, entity_bytes, position_part, position_bytes, owner_part, owner_bytes, health_part, health_bytes, motion_part, moving_bytes, attack_part, attack_bytes, stance_part, stance_bytes, section, clock_bytes}
-use Rattle.sim_base.specs.Limits.{IsSetup}
-use Rattle.sim_base.specs.Rows.{is_holding}
-use Rattle.sim_base.specs.Validity.{Both, IsValid, IsValidRow, IsKnownRow}
-use Rattle.sim_base.specs.Bytes.{u32_bytes, u64_bytes}
-use Rattle.sim_bytes.specs.Numbers.{u32_back, u64_back}
-use Rattle.sim_bytes.specs.Reading.{Reader}
-use Rattle.sim_sections.specs.declared.version.Version.{Version}
-use Rattle.sim_sections.specs.declared.version.Version.TheVariants.{One, Two}
-use Rattle.sim_sections.specs.declared.walk.Walk.{Walk}
-use Rattle.sim_sections.specs.declared.walk.Parts.{Parts}
-use Rattle.sim_sections.specs.Rows.{with_id, IsEntity, entity_at, IsPosition, position_at, IsOwner, owner_at, IsHealth, health_at, IsMotion, IsMoving, moving_at, IsAttack, attack_at, IsStance, stance_at}
-use Rattle.sim_sections.specs.Laws.{entity_back, position_back, owner_back, health_back, moving_back, attack_back, stance_back}
-use Rattle.sim_sections.specs.Sections.{IsAhead, section_at, row_if}
-use Rattle.sim_sections.specs.SectionLaws.{Back, section_back, row_if_back}
-use Rattle.sim_sections.specs.Versions.{has_stances}
-use Rattle.sim_sections.specs.Walking.{stances_at, sections_at, parts_at, holds, row_of}
-use Rattle.sim_codec.specs.Parts.{HasParts}
-use Rattle.sim_codec.specs.PartLaws.{is_some-map, health_like, motion_like, attack_like}
-use Rattle.sim_codec.specs.Reading.{row_at, rows_at, state_at}
-use Rattle.sim_codec.specs.Versions.{stances, sections_by, CanSay}
-use Rattle.sim_codec.proofs.Clock.{clock_regrouped}
-use Rattle.sim_codec.proofs.Fits.{RowFits, rows_fit}
+use Rattle.sim_codec.proofs.{Clock.clock_regrouped, Common.Walk, Common.with_id, Common.◌∙◌, Fits.RowFits, Fits.rows_fit}
+use Rattle.sim_codec.proofs.Common.{FitsSigned, MatchOption, Some, None, flat_map, Option, unwrap_or, option_map, refl, Aim, AllByRecursion, ap, append-nil}
+use Rattle.sim_codec.proofs.Common.{IsMoving, IsOwner, IsPosition, IsSetup, IsStance, IsValid, IsValidRow, le-ltb, Motion, motion_like, motion_part, moving_at}
+use Rattle.sim_codec.proofs.Common.{append_assoc, arith, attack_at, attack_back, attack_bytes, attack_like, attack_part, Back, Both, CanSay, clock_bytes}
+use Rattle.sim_codec.proofs.Common.{cons_option, entity_at, entity_back, entity_bytes, entity_part, has_stances, HasParts, health_at, health_back, health_bytes}
+use Rattle.sim_codec.proofs.Common.{health_like, health_part, holds, is_holding, is_some-map, IsAhead, IsAttack, IsEntity, IsHealth, IsKnownRow, IsMotion}
+use Rattle.sim_codec.proofs.Common.{moving_back, moving_bytes, One, owner_at, owner_back, owner_bytes, owner_part, Parts, parts_at, position_at, position_back}
+use Rattle.sim_codec.proofs.Common.{position_bytes, position_part, Reader, recursion_from_All, Row, row_at, row_if, row_if_back, row_of, rows_at, rows_with}
+use Rattle.sim_codec.proofs.Common.{section, section_at, section_back, sections_at, sections_by, Setup, stance_at, stance_back, stance_bytes, stance_part}
+use Rattle.sim_codec.proofs.Common.{stances, stances_at, State, state_at, subst, sym, Template, Two, u32_back, u32_bytes, u64_back, u64_bytes, Version, w32}
+use Rattle.sim_codec.proofs.Common.{◌≡◌, ℕ, suc, ◌+◌, ◌^◌, ◌<◌, ◌≤◌, Bool, false, ◌&&◌, ltb, List, [], ◌∷◌, ◌++◌, length, ℤ, is_some, IfSome, slice_get}
 
 -- ---- the rows of the sections fit
 
@@ -42,7 +17,8 @@ cons_fit : {X : Type 0} (Fits : X → Type 0) (o : Option X) (xs : List X) → I
 cons_fit Fits None xs h rest = rest
 cons_fit Fits (Some x) xs h rest = (h, rest)
 
-pub sections_fit : {X : Type 0} (part : Row → Option X) (Fits : ℕ × X → Type 0) → ((row : Row) → RowFits row → IfSome (with_id part row) Fits) → (rows : List Row) → AllByRecursion RowFits rows → AllByRecursion Fits (rows_with part rows)
+pub sections_fit : {X : Type 0} (part : Row → Option X) (Fits : ℕ × X → Type 0) → ((row : Row) → RowFits row → IfSome (with_id part row) Fits)
+    → (rows : List Row) → AllByRecursion RowFits rows → AllByRecursion Fits (rows_with part rows)
 sections_fit part Fits one [] fits = tt
 sections_fit part Fits one (row ∷ rows) fits = cons_fit Fits (with_id part row) (rows_with part rows) (one row fits.0) (sections_fit part Fits one rows fits.1)
 
@@ -72,7 +48,8 @@ moving_fits row fits = at row.motion fits.motion
 attack_fits : (row : Row) → RowFits row → IfSome (with_id attack_part row) IsAttack
 attack_fits row fits = at row.attack fits.attack
   where
-    at : (o : Option Aim) → IfSome o (λ (aim : Aim). (aim.target < 2 ^ 32) × (aim.cooldown < 2 ^ 16)) → IfSome (option_map (λ (x : ℕ × ℕ). (row.id, x)) (option_map (λ (aim : Aim). (aim.target, aim.cooldown)) o)) IsAttack
+    at : (o : Option Aim) → IfSome o (λ (aim : Aim). (aim.target < 2 ^ 32) × (aim.cooldown < 2 ^ 16))
+        → IfSome (option_map (λ (x : ℕ × ℕ). (row.id, x)) (option_map (λ (aim : Aim). (aim.target, aim.cooldown)) o)) IsAttack
     at None h = tt
     at (Some aim) h = record { id = fits.id; target = h.0; cooldown = h.1 }
 
@@ -113,9 +90,11 @@ pub record AreAhead (version : Version) (rows : List Row) (walk : Walk) : Type 0
   pub stance : StancesAhead version rows walk.stance
 
 -- the section of a part, with whatever follows it
-part_back : {X : Type 0} (part : Row → Option X) (Fits : ℕ × X → Type 0) (spelled : ℕ × X → List ℕ) (at : Reader (ℕ × X)) → Back Fits spelled at → ((row : Row) → RowFits row → IfSome (with_id part row) Fits)
+part_back : {X : Type 0} (part : Row → Option X) (Fits : ℕ × X → Type 0) (spelled : ℕ × X → List ℕ) (at : Reader (ℕ × X)) → Back Fits spelled at →
+    ((row : Row) → RowFits row → IfSome (with_id part row) Fits)
     → (tag : ℕ) (rows : List Row) (rest : List ℕ) → AllByRecursion RowFits rows → length rows < 2 ^ 32
-    → section_at tag at (section tag spelled (rows_with part rows) ++ rest) ≡ Some ((length (rows_with part rows), flat_map spelled (rows_with part rows) ++ rest), rest)
+    → section_at tag at (section tag spelled (rows_with part rows) ++ rest) ≡ Some
+    ((length (rows_with part rows), flat_map spelled (rows_with part rows) ++ rest), rest)
 part_back part Fits spelled at back one tag rows rest fits few =
     section_back Fits spelled at back tag (rows_with part rows) rest (sections_fit part Fits one rows fits) (omega (arith, length-rows_with part rows))
 
@@ -125,7 +104,8 @@ unfolding stances_at
 stances_back One rows fits few = ([], refl, tt)
 stances_back Two rows fits few =
     let s7 = section 7 stance_bytes (rows_with stance_part rows) in
-    let seven = ap (section_at 7 stance_at) (sym (append-nil s7)) ∙ part_back stance_part IsStance stance_bytes stance_at stance_back stance_fits 7 rows [] fits few in
+    let seven = ap (section_at 7 stance_at) (sym (append-nil s7)) ∙ part_back stance_part IsStance stance_bytes stance_at stance_back stance_fits 7 rows [] fits
+    few in
     (flat_map stance_bytes (rows_with stance_part rows) ++ [], rw seven refl, record { rest = []; is = refl })
 
 sections_back : (version : Version) (rows : List Row) → AllByRecursion RowFits rows → length rows < 2 ^ 32
@@ -186,35 +166,50 @@ parts_of version row = record {
   stance = stance_by version row.id row.attack;
 }
 
-next_back : {X : Type 0} (Fits : X → Type 0) (spelled : X → List ℕ) (at : Reader X) → Back Fits spelled at → (x : X) (xs : List X) (bytes : List ℕ) → Fits x → IsAhead spelled (x ∷ xs) bytes
+next_back : {X : Type 0} (Fits : X → Type 0) (spelled : X → List ℕ) (at : Reader X) → Back Fits spelled at → (x : X) (xs : List X) (bytes : List ℕ) → Fits x
+    → IsAhead spelled (x ∷ xs) bytes
     → (after : List ℕ) × (at bytes ≡ Some (x, after)) × IsAhead spelled xs after
-next_back Fits spelled at back x xs bytes fits ahead =
-    (flat_map spelled xs ++ ahead.rest, ap at (ahead.is ∙ append_assoc (spelled x) (flat_map spelled xs) ahead.rest) ∙ back x (flat_map spelled xs ++ ahead.rest) fits, record { rest = ahead.rest; is = refl })
+next_back Fits spelled at back x xs bytes fits ahead = (
+  flat_map spelled xs ++ ahead.rest,
+  ap at (ahead.is ∙ append_assoc (spelled x) (flat_map spelled xs) ahead.rest) ∙
+      back x (flat_map spelled xs ++ ahead.rest) fits,
+  record { rest = ahead.rest; is = refl },
+)
 
-next_stance : (version : Version) (row : Row) (rows : List Row) (arms : Bool) (bytes : List ℕ) → RowFits row → is_some row.attack ≡ arms → StancesAhead version (row ∷ rows) bytes
-    → (after : List ℕ) × (row_if stance_at (has_stances version && arms) bytes ≡ Some (stance_by version row.id row.attack, after)) × StancesAhead version rows after
+next_stance : (version : Version) (row : Row) (rows : List Row) (arms : Bool) (bytes : List ℕ) → RowFits row → is_some row.attack ≡ arms
+    → StancesAhead version (row ∷ rows) bytes
+    → (after : List ℕ) × (row_if stance_at (has_stances version && arms) bytes ≡ Some (stance_by version row.id row.attack, after))
+    × StancesAhead version rows after
 unfolding row_if
 next_stance One row rows arms bytes fits is ahead = (bytes, refl, tt)
 next_stance Two row rows arms bytes fits is ahead =
     let s = row_if_back IsStance stance_bytes stance_at stance_back (with_id stance_part row) (rows_with stance_part rows) bytes (stance_fits row fits) ahead in
-    let flag : is_some (with_id stance_part row) ≡ arms = is_some-map (λ (x : Bool). (row.id, x)) (stance_part row) ∙ is_some-map (λ (aim : Aim). aim.hold) row.attack ∙ is in
+    let flag : is_some (with_id stance_part row) ≡ arms = is_some-map (λ (x : Bool). (row.id, x)) (stance_part row) ∙
+    is_some-map (λ (aim : Aim). aim.hold) row.attack ∙ is in
     (s.0, subst (λ b. row_if stance_at b bytes ≡ Some (with_id stance_part row, s.0)) flag s.1, s.2)
 
-parts_back : (version : Version) (templates : List Template) (row : Row) (rows : List Row) (w : Walk) → RowFits row → HasParts templates row → AreAhead version (row ∷ rows) w
+parts_back : (version : Version) (templates : List Template) (row : Row) (rows : List Row) (w : Walk) → RowFits row → HasParts templates row
+    → AreAhead version (row ∷ rows) w
     → (after : Walk) × (parts_at templates w ≡ Some (parts_of version row, after)) × AreAhead version rows after
 unfolding parts_at
 parts_back version templates row rows w fits has ahead =
-    let e = next_back IsEntity entity_bytes entity_at entity_back (row.id, row.template) (rows_with entity_part rows) w.entity (entity_fits row fits) ahead.entity in
-    let p = next_back IsPosition position_bytes position_at position_back (row.id, row.at) (rows_with position_part rows) w.position (position_fits row fits) ahead.position in
+    let e = next_back IsEntity entity_bytes entity_at entity_back (row.id, row.template) (rows_with entity_part rows) w.entity (entity_fits row fits)
+    ahead.entity in
+    let p = next_back IsPosition position_bytes position_at position_back (row.id, row.at) (rows_with position_part rows) w.position (position_fits row fits)
+    ahead.position in
     let o = next_back IsOwner owner_bytes owner_at owner_back (row.id, row.owner) (rows_with owner_part rows) w.owner (owner_fits row fits) ahead.owner in
-    let h = row_if_back IsHealth health_bytes health_at health_back (with_id health_part row) (rows_with health_part rows) w.health (health_fits row fits) ahead.health in
-    let m = row_if_back IsMoving moving_bytes moving_at moving_back (with_id motion_part row) (rows_with motion_part rows) w.motion (moving_fits row fits) ahead.motion in
-    let a = row_if_back IsAttack attack_bytes attack_at attack_back (with_id attack_part row) (rows_with attack_part rows) w.attack (attack_fits row fits) ahead.attack in
+    let h = row_if_back IsHealth health_bytes health_at health_back (with_id health_part row) (rows_with health_part rows) w.health (health_fits row fits)
+    ahead.health in
+    let m = row_if_back IsMoving moving_bytes moving_at moving_back (with_id motion_part row) (rows_with motion_part rows) w.motion (moving_fits row fits)
+    ahead.motion in
+    let a = row_if_back IsAttack attack_bytes attack_at attack_back (with_id attack_part row) (rows_with attack_part rows) w.attack (attack_fits row fits)
+    ahead.attack in
     let s = next_stance version row rows (is_some has.template.arms) w.stance fits has.like.attack ahead.stance in
     let h1 = subst (λ b. row_if health_at b w.health ≡ Some (with_id health_part row, h.0)) (health_like row has.template has.like) h.1 in
     let m1 = subst (λ b. row_if moving_at b w.motion ≡ Some (with_id motion_part row, m.0)) (motion_like row has.template has.like) m.1 in
     let a1 = subst (λ b. row_if attack_at b w.attack ≡ Some (with_id attack_part row, a.0)) (attack_like row has.template has.like) a.1 in
-    let s1 = subst (λ v. row_if stance_at (has_stances v && is_some has.template.arms) w.stance ≡ Some (stance_by version row.id row.attack, s.0)) (sym ahead.by) s.1 in (
+    let s1 = subst (λ v. row_if stance_at (has_stances v && is_some has.template.arms) w.stance ≡ Some (stance_by version row.id row.attack, s.0))
+    (sym ahead.by) s.1 in (
       record { version = w.version; entity = e.0; position = p.0; owner = o.0; health = h.0; motion = m.0; attack = a.0; stance = s.0 },
       rw (e.1, has.known, p.1, o.1, h1, m1, a1, s1) refl,
       record { by = ahead.by; entity = e.2; position = p.2; owner = o.2; health = h.2; motion = m.2; attack = a.2; stance = s.2 },
@@ -233,7 +228,8 @@ all_said Two (row ∷ rows) h = (tt, all_said Two rows tt)
 -- whom the row attacks, as it is put together
 abbrev aim_by : Version → ℕ → Option Aim → Option Aim
 aim_by version id attack =
-    option_map (λ (r : ℕ × (ℕ × ℕ)). record { target = r.1.0; cooldown = r.1.1; hold = holds (stance_by version id attack) }) (option_map (λ (x : ℕ × ℕ). (id, x)) (option_map (λ (aim : Aim). (aim.target, aim.cooldown)) attack))
+    option_map (λ (r : ℕ × (ℕ × ℕ)). record { target = r.1.0; cooldown = r.1.1; hold = holds (stance_by version id attack) })
+    (option_map (λ (x : ℕ × ℕ). (id, x)) (option_map (λ (aim : Aim). (aim.target, aim.cooldown)) attack))
 
 same_row : (version : Version) (row : Row) → Says version row → row_of (parts_of version row) ≡ row
 same_row version row says =
@@ -255,14 +251,16 @@ same_row version row says =
     aim_back One r h = unheld r.id r.attack h
     aim_back Two r h = said r.id r.attack
 
-row_back : (version : Version) (templates : List Template) (row : Row) (rows : List Row) (w : Walk) → RowFits row → HasParts templates row → Says version row → AreAhead version (row ∷ rows) w
+row_back : (version : Version) (templates : List Template) (row : Row) (rows : List Row) (w : Walk) → RowFits row → HasParts templates row → Says version row
+    → AreAhead version (row ∷ rows) w
     → (after : Walk) × (row_at templates w ≡ Some (row, after)) × AreAhead version rows after
 unfolding row_at
 row_back version templates row rows w fits has says ahead =
     let p = parts_back version templates row rows w fits has ahead in
     (p.0, rw (p.1, same_row version row says) refl, p.2)
 
-rows_back : (version : Version) (templates : List Template) (rows : List Row) (w : Walk) → AllByRecursion RowFits rows → AllByRecursion (HasParts templates) rows → AllByRecursion (Says version) rows → AreAhead version rows w
+rows_back : (version : Version) (templates : List Template) (rows : List Row) (w : Walk) → AllByRecursion RowFits rows
+    → AllByRecursion (HasParts templates) rows → AllByRecursion (Says version) rows → AreAhead version rows w
     → (after : Walk) × (rows_at templates (length rows) w ≡ Some (rows, after))
 unfolding rows_at
 rows_back version templates [] w fits has says ahead = (w, refl)
@@ -279,19 +277,25 @@ both_some None (Some y) P h = absurd h
 both_some (Some x) None P h = absurd h
 both_some (Some x) (Some y) P h = refl
 
-has_parts : (setup : Setup) (all : List Row) (row : Row) (o : Option Template) → slice_get setup.templates row.template ≡ o → MatchOption o ⊥ (IsValidRow 1 setup all row) → HasParts setup.templates row
+has_parts : (setup : Setup) (all : List Row) (row : Row) (o : Option Template) → slice_get setup.templates row.template ≡ o
+    → MatchOption o ⊥ (IsValidRow 1 setup all row) → HasParts setup.templates row
 has_parts setup all row None e h = absurd h
 has_parts setup all row (Some t) e h = record {
   template = t;
   known = e;
-  like = record { health = both_some row.health t.health _ h.health; motion = both_some row.motion t.speed _ h.motion; attack = both_some row.attack t.arms _ h.attack };
+  like = record {
+    health = both_some row.health t.health _ h.health;
+    motion = both_some row.motion t.speed _ h.motion;
+    attack = both_some row.attack t.arms _ h.attack;
+  };
 }
 
 all_have_parts : (setup : Setup) (all rows : List Row) → AllByRecursion (IsKnownRow 1 setup all) rows → AllByRecursion (HasParts setup.templates) rows
 all_have_parts setup all [] h = tt
 all_have_parts setup all (row ∷ rows) h = (has_parts setup all row (slice_get setup.templates row.template) refl h.0, all_have_parts setup all rows h.1)
 
-pub state_back : (version : Version) (setup : Setup) (s : State) → IsSetup setup → IsValid setup s → CanSay version s.rows → state_at version setup (clock_bytes s ++ sections_by version s.rows) ≡ Some s
+pub state_back : (version : Version) (setup : Setup) (s : State) → IsSetup setup → IsValid setup s → CanSay version s.rows
+    → state_at version setup (clock_bytes s ++ sections_by version s.rows) ≡ Some s
 unfolding state_at
 state_back version setup s is valid can =
     let fits = rows_fit setup is s valid in

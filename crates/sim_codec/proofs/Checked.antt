@@ -1,18 +1,14 @@
 -- Rows that were looked at one by one.
-use Rattle.std.proofs.Common.{◌≡◌, refl, ℕ, ◌+◌, ◌-◌, ◌<◌, ◌≤◌, Bool, true, false, List, length, take, get_or, All, map, sym, inl, inr, subst, ◌∙◌, arith}
-use Rattle.std.specs.Prelude.{IsTrue, ◌↔◌, nat_lt}
-use Rattle.std.specs.List.{IsAllAdjacentAnswer}
-use Rattle.std.proofs.lemmas.Bool.{false≢true, cases_lt, ltb-true, ltb-false}
-use Rattle.std.specs.List.Sorted.{IsStrictlyIncreasing}
-use Rattle.sim_base.specs.declared.state.Row.{Row}
-use Rattle.sim_base.specs.Rows.{id_of}
-use Rattle.std.proofs.lemmas.List.{take_all, get_or-map, length-map}
-use Rattle.std.proofs.lemmas.List.Elements.{All-more}
+use Rattle.sim_codec.proofs.Common.{arith, cases_lt, false≢true, get_or-map, id_of, inl, inr, IsAllAdjacentAnswer, IsStrictlyIncreasing, length-map, ltb-false}
+use Rattle.sim_codec.proofs.Common.{ltb-true, Row, subst, sym, take_all, ◌∙◌}
+use Rattle.sim_codec.proofs.Common.{◌≡◌, ℕ, ◌+◌, ◌-◌, ◌<◌, ◌≤◌, Bool, true, false, ◌↔◌, List, map, length, get_or, take, IsTrue, nat_lt, All, refl, All-more}
 
-pub one_more : {X : Type 0} (P : X → Type 0) (xs : List X) (i : ℕ) (x : X) (good : Bool) → i < length xs → x ≡ get_or xs i x → (IsTrue good ↔ P x) → good ≡ true → All P (take i xs) → All P (take (i + 1) xs)
+pub one_more : {X : Type 0} (P : X → Type 0) (xs : List X) (i : ℕ) (x : X) (good : Bool) → i < length xs → x ≡ get_or xs i x → (IsTrue good ↔ P x) → good ≡ true
+    → All P (take i xs) → All P (take (i + 1) xs)
 one_more P xs i x good lt is says yes' so_far = All-more P xs i x lt so_far (subst P is (says.0 yes'))
 
-pub not_all : {X : Type 0} (P : X → Type 0) (xs : List X) (i : ℕ) (x : X) (good : Bool) → i < length xs → x ≡ get_or xs i x → (IsTrue good ↔ P x) → good ≡ false → All P xs → ⊥
+pub not_all : {X : Type 0} (P : X → Type 0) (xs : List X) (i : ℕ) (x : X) (good : Bool) → i < length xs → x ≡ get_or xs i x → (IsTrue good ↔ P x) → good ≡ false
+    → All P xs → ⊥
 not_all P xs i x good lt is says no' all = false≢true (sym no' ∙ says.1 (subst P (sym is) (all i x lt)))
 
 pub all_seen : {X : Type 0} (P : X → Type 0) (xs : List X) (i : ℕ) → length xs ≤ i → All P (take i xs) → All P xs
@@ -35,14 +31,16 @@ above_more rows i x y from lt above so_far k h =
           rw k-is (rw e (rw (id_at_is rows (i - 1) x (omega arith), id_at_is rows i y lt) above))
     ]
 
-pub not_above : (rows : List Row) (i : ℕ) (x y : Row) → 1 ≤ i → i < length rows → (get_or rows i y).id ≤ (get_or rows (i - 1) x).id → IsStrictlyIncreasing (map id_of rows) → ⊥
+pub not_above : (rows : List Row) (i : ℕ) (x y : Row) → 1 ≤ i → i < length rows → (get_or rows i y).id ≤ (get_or rows (i - 1) x).id
+    → IsStrictlyIncreasing (map id_of rows) → ⊥
 not_above rows i x y from lt le increasing =
     let e : i - 1 + 1 ≡ i = omega arith in
     let h = increasing (i - 1) (rw (length-map rows id_of) (omega arith)) in
     omega (arith, rw e at h, id_at_is rows (i - 1) x (omega arith), id_at_is rows i y lt)
 
 -- where each was asked whether its key is below that of the next
-pub ascending_answer : {A : Type 0} (key : A → ℕ) (d : A) (xs : List A) (answer : Bool) → IsAllAdjacentAnswer (λ x y b. b ≡ nat_lt (key x) (key y)) xs answer → IsTrue answer ↔ IsStrictlyIncreasing (map key xs)
+pub ascending_answer : {A : Type 0} (key : A → ℕ) (d : A) (xs : List A) (answer : Bool) → IsAllAdjacentAnswer (λ x y b. b ≡ nat_lt (key x) (key y)) xs answer
+    → IsTrue answer ↔ IsStrictlyIncreasing (map key xs)
 ascending_answer key d xs true all = (λ _ k lt. rises k (omega (arith, lt, length-map xs key)), λ _. refl)
   where
     rises : (k : ℕ) → k + 1 < length xs → get_or (map key xs) k 0 < get_or (map key xs) (k + 1) 0

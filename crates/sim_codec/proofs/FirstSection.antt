@@ -1,30 +1,14 @@
 -- What the first section says of ids and templates is what the rows say that are read.
-use Rattle.std.proofs.Common.{◌≡◌, ℕ, zero, suc, ◌+◌, ◌*◌, ◌≤◌, Bool, true, false, ltb, cond, List, [], ◌∷◌, length, map, take, drop, Option, Some, None, refl, sym, ap, subst, ◌∙◌, arith}
-use Rattle.std.specs.Prelude.{is_some, count_by}
-use Rattle.std.specs.Int.{Width, w16, w32, byte_len, from_le_bytes}
-use Rattle.std.specs.List.{list_any, filter_map, cons_option}
-use Rattle.std.specs.Simd.{first_chunks}
-use Rattle.std.proofs.lemmas.Bool.{ltb-false}
-use Rattle.std.proofs.lemmas.List.{drop-take, drop-drop, length-drop}
-use Rattle.std.proofs.lemmas.List.Sums.{sum_by-cons}
-use Rattle.sim_base.specs.Rows.{id_of}
-use Rattle.sim_base.specs.declared.state.Row.{Row}
-use Rattle.sim_base.specs.declared.template.Template.{Template}
-use Rattle.sim_base.specs.Validity.{has_health}
-use Rattle.sim_bytes.specs.Reading.{number_at}
-use Rattle.sim_sections.specs.declared.walk.Walk.{Walk}
-use Rattle.sim_sections.specs.declared.walk.Parts.{Parts}
-use Rattle.sim_sections.specs.Rows.{entity_at}
-use Rattle.sim_sections.specs.Walking.{parts_at}
-use Rattle.sim_codec.specs.Entities.{id_in, template_in, passes, lives_as}
-use Rattle.sim_codec.specs.Parts.{IsLike, HasParts}
-use Rattle.sim_codec.specs.Reading.{rows_at}
-use Rattle.sim_codec.specs.Stored.{rows_in}
-use Rattle.sim_codec.proofs.TakenRows.{bind_some, inject, first_of, next_row, can_next, must_go_on, no_more}
+use Rattle.sim_codec.proofs.Common.{count_by, filter_map, Option, refl, ap, arith, byte_len, cons_option, drop-drop, drop-take, entity_at, first_chunks}
+use Rattle.sim_codec.proofs.Common.{from_le_bytes, has_health, HasParts, id_in, id_of, IsLike, length-drop, list_any, lives_as, ltb-false, number_at, Parts}
+use Rattle.sim_codec.proofs.Common.{parts_at, passes, Row, rows_at, rows_in, subst, sum_by-cons, sym, Template, template_in, w16, w32, Walk, Width, ◌∙◌}
+use Rattle.sim_codec.proofs.Common.{◌≡◌, ℕ, zero, suc, ◌+◌, ◌*◌, ◌≤◌, Bool, true, false, cond, ltb, List, [], ◌∷◌, map, length, take, drop, is_some, Some, None}
+use Rattle.sim_codec.proofs.TakenRows.{bind_some, can_next, first_of, inject, must_go_on, next_row, no_more}
 
 -- ---- six bytes
 
-number_is : (w : Width) (bytes : List ℕ) (x : ℕ × List ℕ) → number_at w bytes ≡ Some x → (byte_len w ≤ length bytes) × ((from_le_bytes w (take (byte_len w) bytes), drop (byte_len w) bytes) ≡ x)
+number_is : (w : Width) (bytes : List ℕ) (x : ℕ × List ℕ) → number_at w bytes ≡ Some x → (byte_len w ≤ length bytes)
+    × ((from_le_bytes w (take (byte_len w) bytes), drop (byte_len w) bytes) ≡ x)
 number_is w bytes x h = by (ltb (length bytes) (byte_len w)) refl
   where
     value : ℕ × List ℕ
@@ -52,7 +36,8 @@ entity_is bytes e after h =
     let rest : drop 4 bytes ≡ id.0.1 = ap (λ (x : ℕ × List ℕ). x.1) first.1 in
     record {
       id = ap (from_le_bytes w32) (take-take bytes) ∙ ap (λ (x : ℕ × List ℕ). x.0) first.1 ∙ ap (λ (x : (ℕ × ℕ) × List ℕ). x.0.0) same;
-      template = ap (λ (b : List ℕ). from_le_bytes w16 (take 2 b)) (drop-take 4 2 bytes) ∙ ap (from_le_bytes w16) (take_two (drop 4 bytes)) ∙ ap (λ (b : List ℕ). from_le_bytes w16 (take 2 b)) rest
+      template = ap (λ (b : List ℕ). from_le_bytes w16 (take 2 b)) (drop-take 4 2 bytes) ∙ ap (from_le_bytes w16) (take_two (drop 4 bytes)) ∙
+          ap (λ (b : List ℕ). from_le_bytes w16 (take 2 b)) rest
           ∙ ap (λ (x : ℕ × List ℕ). x.0) second.1 ∙ ap (λ (x : (ℕ × ℕ) × List ℕ). x.0.1) same;
       behind = sym (drop-drop 2 4 bytes) ∙ ap (drop 2) rest ∙ ap (λ (x : ℕ × List ℕ). x.1) second.1 ∙ ap (λ (x : (ℕ × ℕ) × List ℕ). x.1) same;
       long = omega (arith, first.0, second.0, ap length rest, length-drop 4 bytes);
@@ -85,11 +70,13 @@ AreEntriesOf ts (bytes ∷ entries) (row ∷ rows) = IsEntryOf ts bytes row × A
 
 -- ---- the rows that are read
 
-entries_read : (ts : List Template) (n : ℕ) (w : Walk) → is_some (rows_at ts n w) ≡ true → AreEntriesOf ts (first_chunks 6 n w.entity) (rows_in (rows_at ts n w))
+entries_read : (ts : List Template) (n : ℕ) (w : Walk) → is_some (rows_at ts n w) ≡ true → AreEntriesOf ts (first_chunks 6 n w.entity)
+    (rows_in (rows_at ts n w))
 entries_read ts zero w some = rw (no_more ts w) tt
 entries_read ts (suc n) w some = by (parts_at ts w) refl (λ after. entries_read ts n after)
   where
-    by : (o : Option (Parts × Walk)) → parts_at ts w ≡ o → ((after : Walk) → is_some (rows_at ts n after) ≡ true → AreEntriesOf ts (first_chunks 6 n after.entity) (rows_in (rows_at ts n after)))
+    by : (o : Option (Parts × Walk)) → parts_at ts w ≡ o
+        → ((after : Walk) → is_some (rows_at ts n after) ≡ true → AreEntriesOf ts (first_chunks 6 n after.entity) (rows_in (rows_at ts n after)))
         → AreEntriesOf ts (first_chunks 6 (suc n) w.entity) (rows_in (rows_at ts (suc n) w))
     by None h all = absurd (must_go_on ts (suc n) n w refl h some)
     by (Some p) h all =
@@ -103,7 +90,8 @@ chunks_fit : (ts : List Template) (n : ℕ) (w : Walk) → is_some (rows_at ts n
 chunks_fit ts zero w some = omega arith
 chunks_fit ts (suc n) w some = by (parts_at ts w) refl (λ after. chunks_fit ts n after)
   where
-    by : (o : Option (Parts × Walk)) → parts_at ts w ≡ o → ((after : Walk) → is_some (rows_at ts n after) ≡ true → n * 6 ≤ length after.entity) → suc n * 6 ≤ length w.entity
+    by : (o : Option (Parts × Walk)) → parts_at ts w ≡ o → ((after : Walk) → is_some (rows_at ts n after) ≡ true → n * 6 ≤ length after.entity)
+        → suc n * 6 ≤ length w.entity
     by None h all = absurd (must_go_on ts (suc n) n w refl h some)
     by (Some p) h all =
         let is = entity_is w.entity p.0.entity p.1.entity (first_of ts w p.0 p.1 h).entity in
@@ -111,9 +99,11 @@ chunks_fit ts (suc n) w some = by (parts_at ts w) refl (λ after. chunks_fit ts 
         omega (arith, others, is.long, ap length is.behind, length-drop 6 w.entity)
 
 -- the entries that are found where the section begins
-pub entries_of : (ts : List Template) (n : ℕ) (w : Walk) (bytes : List ℕ) (entries : List (List ℕ)) (rows : List Row) → is_some (rows_at ts n w) ≡ true → bytes ≡ w.entity → entries ≡ first_chunks 6 n bytes → rows_in (rows_at ts n w) ≡ rows
+pub entries_of : (ts : List Template) (n : ℕ) (w : Walk) (bytes : List ℕ) (entries : List (List ℕ)) (rows : List Row) → is_some (rows_at ts n w) ≡ true
+    → bytes ≡ w.entity → entries ≡ first_chunks 6 n bytes → rows_in (rows_at ts n w) ≡ rows
     → AreEntriesOf ts entries rows
-entries_of ts n w bytes entries rows some from is view = subst (λ e. AreEntriesOf ts e rows) (sym (is ∙ ap (first_chunks 6 n) from)) (subst (AreEntriesOf ts (first_chunks 6 n w.entity)) view (entries_read ts n w some))
+entries_of ts n w bytes entries rows some from is view = subst (λ e. AreEntriesOf ts e rows) (sym (is ∙ ap (first_chunks 6 n) from))
+    (subst (AreEntriesOf ts (first_chunks 6 n w.entity)) view (entries_read ts n w some))
 
 pub entries_fit : (ts : List Template) (n : ℕ) (w : Walk) (bytes : List ℕ) → is_some (rows_at ts n w) ≡ true → bytes ≡ w.entity → n * 6 ≤ length bytes
 entries_fit ts n w bytes some from = subst (λ b. n * 6 ≤ length b) (sym from) (chunks_fit ts n w some)
@@ -141,16 +131,19 @@ module _ {X : Type 0} (part : Row → Option X) (test : Template → Bool) (by :
   length-cons_option None xs = omega arith
   length-cons_option (Some x) xs = omega arith
 
-  pub same_count : (ts : List Template) (entries : List (List ℕ)) (rows : List Row) → AreEntriesOf ts entries rows → count_by (λ bytes. passes test ts (template_in bytes)) entries ≡ length (filter_map part rows)
+  pub same_count : (ts : List Template) (entries : List (List ℕ)) (rows : List Row) → AreEntriesOf ts entries rows
+      → count_by (λ bytes. passes test ts (template_in bytes)) entries ≡ length (filter_map part rows)
   same_count ts [] [] are = refl
   same_count ts [] (row ∷ rows) are = absurd are
   same_count ts (bytes ∷ entries) [] are = absurd are
   same_count ts (bytes ∷ entries) (row ∷ rows) are =
-      sum_by-cons (λ b. cond (passes test ts (template_in b)) 1 0) bytes entries ∙ ap (λ b. cond b 1 0 + count_by (λ c. passes test ts (template_in c)) entries) (by_template ts bytes row are.0)
+      sum_by-cons (λ b. cond (passes test ts (template_in b)) 1 0) bytes entries ∙ ap (λ b. cond b 1 0 + count_by (λ c. passes test ts (template_in c)) entries)
+      (by_template ts bytes row are.0)
       ∙ ap (λ n. cond (is_some (part row)) 1 0 + n) (same_count ts entries rows are.1) ∙ sym (length-cons_option (part row) (filter_map part rows))
 
 -- one of them has an id and a template with health just where one of the rows has it and health
-pub same_lives : (ts : List Template) (id : ℕ) (entries : List (List ℕ)) (rows : List Row) → AreEntriesOf ts entries rows → list_any (lives_as ts id) entries ≡ has_health rows id
+pub same_lives : (ts : List Template) (id : ℕ) (entries : List (List ℕ)) (rows : List Row) → AreEntriesOf ts entries rows → list_any (lives_as ts id) entries ≡
+    has_health rows id
 same_lives ts id [] [] are = refl
 same_lives ts id [] (row ∷ rows) are = absurd are
 same_lives ts id (bytes ∷ entries) [] are = absurd are

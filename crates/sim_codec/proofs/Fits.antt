@@ -1,26 +1,9 @@
 -- The numbers of a valid state fit the bytes that they get, by the limits of its match.
-use Rattle.std.proofs.Common.{◌≡◌, ℕ, ◌*◌, ◌^◌, ◌<◌, ◌≤◌, List, length, get_or, All, Option, Some, None, refl, subst, inl, inr, ◌⊎◌, ℤ, pos, negsuc, ◌≤ℤ◌, arith}
-use Rattle.std.specs.Prelude.{IfSome, IsTrue, FitsSigned, MatchOption, slice_get, ◌≢◌, is_some, ◌==◌, ◌&&◌, int_le, int_lt}
-use Rattle.std.specs.Int.{w32}
-use Rattle.std.specs.List.{AllByRecursion}
-use Rattle.std.proofs.lemmas.Bool.{and_parts, eqb-true, ltb-true}
-use Rattle.std.proofs.lemmas.Int.{ints}
-use Rattle.std.proofs.lemmas.List.Elements.{recursion_from_All}
-use Rattle.std.proofs.lemmas.List.Folds.{Any-from_list_any}
-use Rattle.std.proofs.lemmas.Option.{slice_get_within, get_or_from_slice_get}
-use Rattle.sim_base.specs.declared.place.Point.{Point}
-use Rattle.sim_base.specs.declared.setup.Setup.{Setup}
-use Rattle.sim_base.specs.declared.state.Row.{Row}
-use Rattle.sim_base.specs.declared.state.Aim.{Aim}
-use Rattle.sim_base.specs.declared.state.Motion.{Motion}
-use Rattle.sim_base.specs.declared.state.Motion.TheVariants.{Still, Going}
-use Rattle.sim_base.specs.declared.state.State.{State}
-use Rattle.sim_base.specs.declared.template.Template.{Template}
-use Rattle.sim_base.specs.declared.template.Arms.{Arms}
-use Rattle.sim_base.specs.Places.{is_within}
-use Rattle.sim_base.specs.Limits.{IsSetup, IsTemplate, IsArms, IsRawFrom}
-use Rattle.sim_base.specs.Validity.{IsInside, has_health, IsValidMotion, Both, IsValidAim, IsValidRow, IsKnownRow, IsValid}
-use Rattle.sim_sections.specs.Rows.{IsPoint, IsMotion}
+use Rattle.sim_codec.proofs.Common.{Any-from_list_any, arith, Arms, Both, eqb-true, get_or_from_slice_get, Going, has_health, inl, inr, ints, is_within, IsArms}
+use Rattle.sim_codec.proofs.Common.{IsInside, IsKnownRow, IsMotion, IsPoint, IsRawFrom, IsSetup, IsTemplate, IsValid, IsValidAim, IsValidMotion, IsValidRow}
+use Rattle.sim_codec.proofs.Common.{ltb-true, Motion, Point, recursion_from_All, Row, Setup, slice_get_within, State, Still, subst, Template, w32}
+use Rattle.sim_codec.proofs.Common.{slice_get, int_lt, int_le, FitsSigned, MatchOption, Some, None, All, Option, refl, Aim, AllByRecursion, and_parts}
+use Rattle.sim_codec.proofs.Common.{◌≡◌, ℕ, ◌*◌, ◌^◌, ◌<◌, ◌≤◌, ◌&&◌, ◌≢◌, ◌⊎◌, List, length, get_or, ℤ, pos, negsuc, ◌≤ℤ◌, is_some, IfSome, IsTrue, ◌==◌}
 
 -- each number of a row fits, and no way is too long
 pub record RowFits (row : Row) : Type 0 where
@@ -44,7 +27,8 @@ point_fits setup is p h =
     let parts = and_parts (is_within p.x setup.land.width) (is_within p.z setup.land.depth) h in
     record { x = raw_fits p.x setup.land.width is.land.width.1 parts.0; z = raw_fits p.z setup.land.depth is.land.depth.1 parts.1 }
 
-health_fits : (health most : Option ℤ) → Both health most (λ health most. (pos 1 ≤ℤ health) × (health ≤ℤ most)) → IfSome most (IsRawFrom 1 1048576000) → IfSome health (FitsSigned w32)
+health_fits : (health most : Option ℤ) → Both health most (λ health most. (pos 1 ≤ℤ health) × (health ≤ℤ most)) → IfSome most (IsRawFrom 1 1048576000)
+    → IfSome health (FitsSigned w32)
 health_fits None most h limits = tt
 health_fits (Some health) None h limits = absurd h
 health_fits (Some health) (Some most) h limits =
@@ -53,7 +37,8 @@ health_fits (Some health) (Some most) h limits =
     let top : most ≤ℤ pos 1048576000 = limits.1 in
     omega (arith, ints)
 
-motion_fits : (setup : Setup) → IsSetup setup → (motion : Option Motion) (speed : Option ℤ) → Both motion speed (λ motion speed. IsValidMotion setup motion) → IfSome motion IsMotion
+motion_fits : (setup : Setup) → IsSetup setup → (motion : Option Motion) (speed : Option ℤ) → Both motion speed (λ motion speed. IsValidMotion setup motion)
+    → IfSome motion IsMotion
 motion_fits setup is None speed h = tt
 motion_fits setup is (Some motion) None h = absurd h
 motion_fits setup is (Some Still) (Some speed) h = tt
@@ -69,7 +54,8 @@ id_below rows id next ids h =
     let here : found.1.id < next = subst (λ (row : Row). row.id < next) found.3 below in
     omega arith
 
-attack_fits : (rows : List Row) (id next : ℕ) (attack : Option Aim) (arms : Option Arms) → All (λ (row : Row). (2 ≤ row.id) × (row.id < next)) rows → next ≤ 0x20000000 → Both attack arms (IsValidAim rows id) → IfSome arms IsArms
+attack_fits : (rows : List Row) (id next : ℕ) (attack : Option Aim) (arms : Option Arms) → All (λ (row : Row). (2 ≤ row.id) × (row.id < next)) rows
+    → next ≤ 0x20000000 → Both attack arms (IsValidAim rows id) → IfSome arms IsArms
     → IfSome attack (λ (aim : Aim). (aim.target < 2 ^ 32) × (aim.cooldown < 2 ^ 16))
 attack_fits rows id next None arms ids le h limits = tt
 attack_fits rows id next (Some aim) None ids le h limits = absurd h
@@ -79,12 +65,14 @@ attack_fits rows id next (Some aim) (Some arms) ids le h limits = (target h.targ
     target (inl none) = omega arith
     target (inr other) = omega (arith, id_below rows aim.target next ids other.1)
 
-template_fits : (setup : Setup) → IsSetup setup → (n : ℕ) (t : Template) → slice_get setup.templates n ≡ Some t → (n < 2 ^ 16) × IsTemplate (length setup.templates) t
+template_fits : (setup : Setup) → IsSetup setup → (n : ℕ) (t : Template) → slice_get setup.templates n ≡ Some t → (n < 2 ^ 16)
+    × IsTemplate (length setup.templates) t
 template_fits setup is n t e =
     let lt = slice_get_within setup.templates n t e in
     (omega (arith, is.few_templates), subst (IsTemplate (length setup.templates)) (get_or_from_slice_get setup.templates n t t e) (is.templates n t lt))
 
-row_fits : (setup : Setup) → IsSetup setup → (rows : List Row) (next : ℕ) → All (λ (row : Row). (2 ≤ row.id) × (row.id < next)) rows → next ≤ 0x20000000 → (row : Row) → row.id < next → IsKnownRow 1 setup rows row → RowFits row
+row_fits : (setup : Setup) → IsSetup setup → (rows : List Row) (next : ℕ) → All (λ (row : Row). (2 ≤ row.id) × (row.id < next)) rows → next ≤ 0x20000000
+    → (row : Row) → row.id < next → IsKnownRow 1 setup rows row → RowFits row
 row_fits setup is rows next ids le row below known = by_template (slice_get setup.templates row.template) refl known
   where
     by_template : (o : Option Template) → slice_get setup.templates row.template ≡ o → MatchOption o ⊥ (IsValidRow 1 setup rows row) → RowFits row
@@ -103,4 +91,5 @@ row_fits setup is rows next ids le row below known = by_template (slice_get setu
 
 pub rows_fit : (setup : Setup) → IsSetup setup → (s : State) → IsValid setup s → AllByRecursion RowFits s.rows
 rows_fit setup is s valid =
-    recursion_from_All RowFits s.rows (λ k d lt. row_fits setup is s.rows s.next valid.ids valid.next.1 (get_or s.rows k d) (valid.ids k d lt).1 (valid.rows k d lt))
+    recursion_from_All RowFits s.rows (λ k d lt. row_fits setup is s.rows s.next valid.ids valid.next.1 (get_or s.rows k d) (valid.ids k d lt).1
+    (valid.rows k d lt))

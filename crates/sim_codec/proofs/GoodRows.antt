@@ -1,16 +1,6 @@
 -- Rows that were tested one after the other are those of a valid state.
-use Rattle.std.proofs.Common.{ℕ, ◌<◌, ◌≤◌, ◌^◌, Bool, List, [], ◌∷◌, length, map, All}
-use Rattle.std.specs.Prelude.{◌↔◌, IsTrue}
-use Rattle.std.specs.List.{AllByRecursion}
-use Rattle.std.specs.List.Sorted.{IsStrictlyIncreasing}
-use Rattle.std.proofs.lemmas.List.Elements.{All-from_recursion, recursion_from_All}
-use Rattle.sim_base.specs.declared.state.Row.{Row}
-use Rattle.sim_base.specs.declared.state.State.{State}
-use Rattle.sim_base.specs.declared.setup.Setup.{Setup}
-use Rattle.sim_base.specs.Limits.{row_limit}
-use Rattle.sim_base.specs.Rows.{id_of}
-use Rattle.sim_base.specs.Validity.{IsKnownRow, IsValid}
-use Rattle.sim_codec.specs.Stored.{AreGood}
+use Rattle.sim_codec.proofs.Common.{IsKnownRow, IsStrictlyIncreasing, IsValid, recursion_from_All, Row, row_limit, Setup, State}
+use Rattle.sim_codec.proofs.Common.{ℕ, ◌^◌, ◌<◌, ◌≤◌, Bool, ◌↔◌, List, [], ◌∷◌, map, length, IsTrue, All, All-from_recursion, AllByRecursion, AreGood, id_of}
 
 module _ (setup : Setup) (all : List Row) (next : ℕ) where
   abbrev IsBelow : Row → Type 0
@@ -37,7 +27,8 @@ module _ (setup : Setup) (all : List Row) (next : ℕ) where
 abbrev Clock : Setup → State → Type 0
 Clock setup s = (s.turn ≤ setup.turns) × ((2 ≤ s.next) × (s.next ≤ 0x20000000)) × (s.word < 2 ^ 48)
 
-pub valid_of : (setup : Setup) (s : State) (answer : Bool) → Clock setup s → length s.rows ≤ row_limit → (IsTrue answer ↔ (IsStrictlyIncreasing (map id_of s.rows) × AreGood setup s.rows s.next s.rows))
+pub valid_of : (setup : Setup) (s : State) (answer : Bool) → Clock setup s → length s.rows ≤ row_limit
+    → (IsTrue answer ↔ (IsStrictlyIncreasing (map id_of s.rows) × AreGood setup s.rows s.next s.rows))
     → (IsTrue answer → IsValid setup s) × (IsValid setup s → IsTrue answer)
 valid_of setup s answer clock few says = (
   λ h. (

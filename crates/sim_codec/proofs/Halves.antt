@@ -1,16 +1,8 @@
 -- Among items whose keys ascend, a key stands once, so that halving finds it, and what is asked of any item with that key is asked of that one.
-use Rattle.std.proofs.Common.{◌≡◌, ℕ, ◌<◌, ◌≤◌, Bool, true, false, List, length, get_or, map, All, Err, sym, inl, inr, ◌∙◌, arith, refl}
-use Rattle.std.specs.Prelude.{◌==◌, ◌&&◌, ◌≢◌}
-use Rattle.std.specs.List.{HoldsAt, list_any}
-use Rattle.std.specs.List.Sorted.{IsStrictlyIncreasing, IsNonDecreasingBy, IsBinarySearchResult}
-use Rattle.std.specs.Ordering.{nat_cmp, ordering_index}
-use Rattle.std.proofs.lemmas.Bool.{cases_lt, eq-eqb, ne_eqb}
-use Rattle.std.proofs.lemmas.Bool.Decides.{nat_tests}
-use Rattle.std.proofs.lemmas.Cmp.{ranked}
-use Rattle.std.proofs.lemmas.List.{get_or-map, length-map, get_or_default}
-use Rattle.std.proofs.lemmas.List.Folds.{list_any_at, list_any_none}
-use Rattle.std.proofs.lemmas.List.Kept.{AllPairs-from_increasing}
-use Rattle.std.proofs.lemmas.List.Sorted.{IsNonDecreasingBy-from_default}
+use Rattle.sim_codec.proofs.Common.{AllPairs-from_increasing, arith, cases_lt, eq-eqb, get_or-map, get_or_default, inl, inr, IsBinarySearchResult}
+use Rattle.sim_codec.proofs.Common.{IsNonDecreasingBy, IsNonDecreasingBy-from_default, IsStrictlyIncreasing, length-map, list_any, list_any_at, list_any_none}
+use Rattle.sim_codec.proofs.Common.{nat_cmp, nat_tests, ne_eqb, ordering_index, ranked, sym, ◌∙◌}
+use Rattle.sim_codec.proofs.Common.{◌≡◌, ℕ, ◌<◌, ◌≤◌, Bool, true, false, ◌&&◌, ◌≢◌, List, map, length, get_or, ◌==◌, Err, All, HoldsAt, refl}
 
 module _ {A : Type 0} (key : A → ℕ) where
   -- each key is below all later ones
@@ -22,7 +14,8 @@ module _ {A : Type 0} (key : A → ℕ) where
       omega arith
 
   -- along rising keys the comparisons with a key rise
-  comparisons_rise : (xs : List A) (wanted : ℕ) (d : A) → IsStrictlyIncreasing (map key xs) → IsNonDecreasingBy (λ x. ordering_index (nat_cmp (key x) wanted)) xs
+  comparisons_rise : (xs : List A) (wanted : ℕ) (d : A) → IsStrictlyIncreasing (map key xs) → IsNonDecreasingBy (λ x. ordering_index (nat_cmp (key x) wanted))
+      xs
   comparisons_rise xs wanted d up =
       IsNonDecreasingBy-from_default (λ x. ordering_index (nat_cmp (key x) wanted)) xs d (λ i j le lt.
       elim (cases_lt i j) [
@@ -31,7 +24,8 @@ module _ {A : Type 0} (key : A → ℕ) where
       ])
 
   -- a key that was not found is no item's
-  pub no_key : (xs : List A) (wanted at : ℕ) → IsStrictlyIncreasing (map key xs) → at ≤ length xs → IsBinarySearchResult (λ x. nat_cmp (key x) wanted) xs (Err at) → All (λ x. key x ≢ wanted) xs
+  pub no_key : (xs : List A) (wanted at : ℕ) → IsStrictlyIncreasing (map key xs) → at ≤ length xs → IsBinarySearchResult (λ x. nat_cmp (key x) wanted) xs
+      (Err at) → All (λ x. key x ≢ wanted) xs
   no_key xs wanted at up le parted k d lt =
       let parts = parted (comparisons_rise xs wanted d up) in
       elim (cases_lt k at) [
@@ -51,7 +45,8 @@ module _ {A : Type 0} (key : A → ℕ) where
     other wanted x differs = rw (ne_eqb (key x) wanted differs) refl
 
     -- the item that was found is the only one of this key
-    pub found : (xs : List A) (wanted i : ℕ) (x : A) (answer : Bool) → IsStrictlyIncreasing (map key xs) → i < length xs → x ≡ get_or xs i x → HoldsAt (λ y. key y ≡ wanted) xs i → answer ≡ flag (get_or xs i x)
+    pub found : (xs : List A) (wanted i : ℕ) (x : A) (answer : Bool) → IsStrictlyIncreasing (map key xs) → i < length xs → x ≡ get_or xs i x
+        → HoldsAt (λ y. key y ≡ wanted) xs i → answer ≡ flag (get_or xs i x)
         → answer ≡ list_any (is_flagged wanted) xs
     found xs wanted i x answer up lt is at_key says = says ∙ by_flag (flag (get_or xs i x)) refl
       where

@@ -1,45 +1,29 @@
 -- Of what is read by version 1 no row holds its place.
-use Rattle.std.proofs.Common.{◌≡◌, ℕ, zero, suc, Bool, true, false, ltb, cond, List, Option, Some, None, refl, sym, ap, ◌∙◌, subst}
-use Rattle.std.specs.Prelude.{is_some, option_map, unwrap_or}
-use Rattle.std.specs.Int.{w32, w64}
-use Rattle.std.specs.List.{AllByRecursion}
-use Rattle.std.proofs.lemmas.List.Elements.{All-from_recursion}
-use Rattle.sim_base.specs.declared.setup.Setup.{Setup}
-use Rattle.sim_base.specs.declared.state.Aim.{Aim}
-use Rattle.sim_base.specs.declared.state.Row.{Row}
-use Rattle.sim_base.specs.declared.state.State.{State}
-use Rattle.sim_base.specs.declared.template.Template.{Template}
-use Rattle.sim_base.specs.Rows.{is_holding}
-use Rattle.sim_bytes.specs.Reading.{◌>>=◌, number_at}
-use Rattle.sim_sections.specs.declared.version.Version.{Version}
-use Rattle.sim_sections.specs.declared.version.Version.TheVariants.{One}
-use Rattle.sim_sections.specs.declared.walk.Walk.{Walk}
-use Rattle.sim_sections.specs.declared.walk.Parts.{Parts}
-use Rattle.sim_sections.specs.Rows.{entity_at, position_at, owner_at, health_at, moving_at, attack_at}
-use Rattle.sim_sections.specs.Sections.{section_at}
-use Rattle.sim_sections.specs.Versions.{has_stances}
-use Rattle.sim_sections.specs.Walking.{stances_at, sections_at, parts_at, holds, row_of}
-use Rattle.sim_codec.specs.Reading.{rows_at, state_at}
-use Rattle.sim_codec.specs.Stored.{rows_in}
-use Rattle.sim_codec.specs.Versions.{HoldsNone}
-use Rattle.sim_codec.proofs.TakenRows.{first_of, bind_some, next_row, can_next, must_go_on, no_more}
+use Rattle.sim_codec.proofs.Common.{All-from_recursion, AllByRecursion, ap, attack_at, entity_at, has_stances, health_at, holds, HoldsNone, is_holding}
+use Rattle.sim_codec.proofs.Common.{Setup, stances_at, State, state_at, subst, sym, Template, Version, w32, w64, Walk, ◌>>=◌, ◌∙◌}
+use Rattle.sim_codec.proofs.Common.{moving_at, number_at, One, owner_at, Parts, parts_at, position_at, Row, row_of, rows_at, rows_in, section_at, sections_at}
+use Rattle.sim_codec.proofs.Common.{◌≡◌, ℕ, zero, suc, Bool, true, false, cond, ltb, List, is_some, Some, None, Option, unwrap_or, option_map, refl, Aim}
+use Rattle.sim_codec.proofs.TakenRows.{bind_some, can_next, first_of, must_go_on, next_row, no_more}
 
 -- of whom nothing is said, he does not hold his place
 unsaid : (p : Parts) → is_some p.stance ≡ false → is_holding (row_of p) ≡ false
 unsaid p none = by p.stance p.attack none
   where
     by : (stance : Option (ℕ × Bool)) (attack : Option (ℕ × (ℕ × ℕ))) → is_some stance ≡ false
-        → unwrap_or (option_map (λ (aim : Aim). aim.hold) (option_map (λ (r : ℕ × (ℕ × ℕ)). record { target = r.1.0; cooldown = r.1.1; hold = holds stance }) attack)) false ≡ false
+        → unwrap_or (option_map (λ (aim : Aim). aim.hold) (option_map (λ (r : ℕ × (ℕ × ℕ)). record { target = r.1.0; cooldown = r.1.1; hold = holds stance })
+        attack)) false ≡ false
     by (Some r) attack h = absurd cc
     by None None h = refl
     by None (Some a) h = refl
 
-rows_hold_none : (ts : List Template) (n : ℕ) (w : Walk) → w.version ≡ One → is_some (rows_at ts n w) ≡ true → AllByRecursion (λ (row : Row). is_holding row ≡ false) (rows_in (rows_at ts n w))
+rows_hold_none : (ts : List Template) (n : ℕ) (w : Walk) → w.version ≡ One → is_some (rows_at ts n w) ≡ true
+    → AllByRecursion (λ (row : Row). is_holding row ≡ false) (rows_in (rows_at ts n w))
 rows_hold_none ts zero w old some = rw (no_more ts w) tt
 rows_hold_none ts (suc n) w old some = by (parts_at ts w) refl (λ after. rows_hold_none ts n after)
   where
     by : (o : Option (Parts × Walk)) → parts_at ts w ≡ o
-        → ((after : Walk) → after.version ≡ One → is_some (rows_at ts n after) ≡ true → AllByRecursion (λ (row : Row). is_holding row ≡ false) (rows_in (rows_at ts n after)))
+        → ((after : Walk) → after.version ≡ One → is_some (rows_at ts n after) ≡ true → AllByRecursion (λ (row : Row). is_holding row ≡ false)
+        (rows_in (rows_at ts n after)))
         → AllByRecursion (λ (row : Row). is_holding row ≡ false) (rows_in (rows_at ts (suc n) w))
     by None h all = absurd (must_go_on ts (suc n) n w refl h some)
     by (Some p) h all =
@@ -74,14 +58,18 @@ old_holds_none setup bytes s h =
     let old = walk_by One word.0.1 found.0 found.1 in
     by (ltb 4096 n) n w (turn.0.0, next.0.0, word.0.0) old found.2
   where
-    read : (n : ℕ) (w : Walk) (rs : List Row × Walk) → w.version ≡ One → rows_at setup.templates n w ≡ Some rs → AllByRecursion (λ (row : Row). is_holding row ≡ false) rs.0
+    read : (n : ℕ) (w : Walk) (rs : List Row × Walk) → w.version ≡ One → rows_at setup.templates n w ≡ Some rs
+        → AllByRecursion (λ (row : Row). is_holding row ≡ false) rs.0
     read n w rs old e =
-        subst (λ (o : Option (List Row × Walk)). AllByRecursion (λ (row : Row). is_holding row ≡ false) (rows_in o)) e (rows_hold_none setup.templates n w old (ap is_some e))
+        subst (λ (o : Option (List Row × Walk)). AllByRecursion (λ (row : Row). is_holding row ≡ false) (rows_in o)) e
+        (rows_hold_none setup.templates n w old (ap is_some e))
 
     by : (b : Bool) (n : ℕ) (w : Walk) (clock : ℕ × ℕ × ℕ) → w.version ≡ One
-        → cond b None (rows_at setup.templates n w >>= λ rs. Some (record { turn = clock.0; next = clock.1; word = clock.2; rows = rs.0 })) ≡ Some s → HoldsNone s.rows
+        → cond b None (rows_at setup.templates n w >>= λ rs. Some (record { turn = clock.0; next = clock.1; word = clock.2; rows = rs.0 })) ≡ Some s
+        → HoldsNone s.rows
     by true n w clock old e = absurd cc
     by false n w clock old e =
         let rs = bind_some (rows_at setup.templates n w) _ s e in
         let same : rs.0.0 ≡ s.rows = ap (λ (o : Option State). (unwrap_or o s).rows) rs.2 in
-        All-from_recursion (λ (row : Row). is_holding row ≡ false) s.rows (subst (AllByRecursion (λ (row : Row). is_holding row ≡ false)) same (read n w rs.0 old rs.1))
+        All-from_recursion (λ (row : Row). is_holding row ≡ false) s.rows (subst (AllByRecursion (λ (row : Row). is_holding row ≡ false)) same
+        (read n w rs.0 old rs.1))

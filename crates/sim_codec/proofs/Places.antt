@@ -1,20 +1,17 @@
 -- Among rows whose ids ascend, an id stands once, so that the first row of an id is the one that was found.
-use Rattle.std.proofs.Common.{◌≡◌, ℕ, ◌<◌, Bool, true, false, List, [], ◌∷◌, zero, suc, length, get_or, map, All, Some, None, refl, ap, ◌∙◌, arith}
-use Rattle.std.specs.Prelude.{◌==◌, ◌≢◌, find}
-use Rattle.std.specs.List.{HoldsAt}
-use Rattle.std.specs.List.Sorted.{IsStrictlyIncreasing}
-use Rattle.std.proofs.lemmas.Bool.{eq-eqb, ne_eqb}
-use Rattle.sim_base.specs.declared.state.Row.{Row}
-use Rattle.sim_base.specs.Rows.{id_of}
+use Rattle.sim_codec.proofs.Common.{refl, ap, arith, eq-eqb, id_of, IsStrictlyIncreasing, ne_eqb, Row, ◌∙◌}
+use Rattle.sim_codec.proofs.Common.{◌≡◌, ℕ, zero, suc, ◌<◌, Bool, true, false, ◌≢◌, List, [], ◌∷◌, map, length, get_or, ◌==◌, Some, None, All, HoldsAt, find}
 use Rattle.sim_codec.proofs.Halves.{keys_rise}
 
 -- each id is below all later ones
-pub ids_rise : (rows : List Row) → IsStrictlyIncreasing (map id_of rows) → (i j : ℕ) (d : Row) → i < j → j < length rows → (get_or rows i d).id < (get_or rows j d).id
+pub ids_rise : (rows : List Row) → IsStrictlyIncreasing (map id_of rows) → (i j : ℕ) (d : Row) → i < j → j < length rows
+    → (get_or rows i d).id < (get_or rows j d).id
 ids_rise = keys_rise id_of
 
 -- ---- the first row with an id
 
-pub find_at : {X : Type 0} (p : X → Bool) (xs : List X) (i : ℕ) (x : X) → i < length xs → x ≡ get_or xs i x → p x ≡ true → ((k : ℕ) → k < i → p (get_or xs k x) ≡ false) → find p xs ≡ Some x
+pub find_at : {X : Type 0} (p : X → Bool) (xs : List X) (i : ℕ) (x : X) → i < length xs → x ≡ get_or xs i x → p x ≡ true
+    → ((k : ℕ) → k < i → p (get_or xs k x) ≡ false) → find p xs ≡ Some x
 find_at p [] i x lt is here before = absurd (omega arith)
 find_at p (y ∷ ys) zero x lt is here before = rw (← is, here) refl
 find_at p (y ∷ ys) (suc i) x lt is here before =
@@ -27,10 +24,12 @@ find_none p (y ∷ ys) none =
     let first : p y ≡ false = none 0 y (omega arith) in
     rw first (find_none p ys (λ k d lt. none (suc k) d (omega arith)))
 
-pub row_there : (rows : List Row) (id i : ℕ) (x : Row) → IsStrictlyIncreasing (map id_of rows) → i < length rows → x ≡ get_or rows i x → HoldsAt (λ (row : Row). row.id ≡ id) rows i → find (λ (row : Row). row.id == id) rows ≡ Some x
+pub row_there : (rows : List Row) (id i : ℕ) (x : Row) → IsStrictlyIncreasing (map id_of rows) → i < length rows → x ≡ get_or rows i x
+    → HoldsAt (λ (row : Row). row.id ≡ id) rows i → find (λ (row : Row). row.id == id) rows ≡ Some x
 row_there rows id i x up lt is at_id =
     let here : x.id ≡ id = ap (λ (row : Row). row.id) is ∙ at_id x in
-    find_at (λ (row : Row). row.id == id) rows i x lt is (eq-eqb x.id id here) (λ k before. ne_eqb (get_or rows k x).id id (λ f. omega (arith, ids_rise rows up k i x before lt, at_id x)))
+    find_at (λ (row : Row). row.id == id) rows i x lt is (eq-eqb x.id id here)
+    (λ k before. ne_eqb (get_or rows k x).id id (λ f. omega (arith, ids_rise rows up k i x before lt, at_id x)))
 
 pub row_absent : (rows : List Row) (id : ℕ) → All (λ (row : Row). row.id ≢ id) rows → find (λ (row : Row). row.id == id) rows ≡ None
 row_absent rows id all = find_none (λ (row : Row). row.id == id) rows (λ k d lt. ne_eqb (get_or rows k d).id id (all k d lt))

@@ -1,24 +1,8 @@
 -- What a quick digest is made of tells the clock and the place of every row, and nothing else.
-use Rattle.std.proofs.Common.{◌≡◌, ℕ, ◌^◌, ◌<◌, List, [], ◌∷◌, ◌++◌, length, map, drop, Some, refl, sym, ap, ◌∙◌, arith}
-use Rattle.std.specs.Prelude.{◌↔◌}
-use Rattle.std.specs.Int.{w32, w64}
-use Rattle.std.specs.List.{flat_map, AllByRecursion}
-use Rattle.sim_base.specs.declared.place.Point.{Point}
-use Rattle.sim_base.specs.declared.setup.Setup.{Setup}
-use Rattle.sim_base.specs.declared.state.Row.{Row}
-use Rattle.sim_base.specs.declared.state.State.{State}
-use Rattle.sim_base.specs.Bytes.{u32_bytes, u64_bytes}
-use Rattle.sim_base.specs.Limits.{IsSetup}
-use Rattle.sim_base.specs.Spelling.{rows_with, position_part, position_bytes, section, quick_bytes}
-use Rattle.sim_base.specs.Validity.{IsValid}
-use Rattle.sim_bytes.specs.Numbers.{u32_back, u64_back}
-use Rattle.sim_bytes.specs.Reading.{Reader, number_at}
-use Rattle.sim_sections.specs.Rows.{IsPosition, position_at}
-use Rattle.sim_sections.specs.Laws.{position_back}
-use Rattle.sim_sections.specs.SectionLaws.{Back}
-use Rattle.sim_codec.specs.Quick.{place_of, HaveSamePlaces}
-use Rattle.sim_codec.proofs.Back.{sections_fit, position_fits, length-rows_with}
-use Rattle.sim_codec.proofs.Clock.{clock_regrouped}
+use Rattle.sim_codec.proofs.{Back.length-rows_with, Back.position_fits, Back.sections_fit, Clock.clock_regrouped, Common.w32, Common.w64, Common.◌∙◌}
+use Rattle.sim_codec.proofs.Common.{HaveSamePlaces, IsPosition, IsSetup, IsValid, number_at, place_of, Point, position_at, position_back, position_bytes}
+use Rattle.sim_codec.proofs.Common.{position_part, quick_bytes, Reader, Row, rows_with, section, Setup, State, sym, u32_back, u32_bytes, u64_back, u64_bytes}
+use Rattle.sim_codec.proofs.Common.{◌≡◌, ℕ, ◌^◌, ◌<◌, ◌↔◌, List, [], ◌∷◌, ◌++◌, map, length, drop, Some, flat_map, refl, AllByRecursion, ap, arith, Back}
 use Rattle.sim_codec.proofs.Fits.{rows_fit}
 
 module _ {X : Type 0} (Fits : X → Type 0) (spelled : X → List ℕ) (at : Reader X) (back : Back Fits spelled at) where
@@ -63,18 +47,23 @@ told_same setup s t is s-valid t-valid same =
     let s-clock = clock_fits setup s is s-valid in
     let t-clock = clock_fits setup t is t-valid in
     let told = sym (clock_regrouped s (places_in s)) ∙ same ∙ clock_regrouped t (places_in t) in
-    let turn = first_told (λ n. n < 2 ^ 32) u32_bytes (number_at w32) u32_back s.turn t.turn (u32_bytes s.next ++ (u64_bytes s.word ++ places_in s)) (u32_bytes t.next ++ (u64_bytes t.word ++ places_in t)) s-clock.turn t-clock.turn told in
-    let next = first_told (λ n. n < 2 ^ 32) u32_bytes (number_at w32) u32_back s.next t.next (u64_bytes s.word ++ places_in s) (u64_bytes t.word ++ places_in t) s-clock.next t-clock.next (ap (λ (p : ℕ × List ℕ). p.1) turn) in
-    let word = first_told (λ n. n < 2 ^ 64) u64_bytes (number_at w64) u64_back s.word t.word (places_in s) (places_in t) s-clock.word t-clock.word (ap (λ (p : ℕ × List ℕ). p.1) next) in
+    let turn = first_told (λ n. n < 2 ^ 32) u32_bytes (number_at w32) u32_back s.turn t.turn (u32_bytes s.next ++ (u64_bytes s.word ++ places_in s))
+    (u32_bytes t.next ++ (u64_bytes t.word ++ places_in t)) s-clock.turn t-clock.turn told in
+    let next = first_told (λ n. n < 2 ^ 32) u32_bytes (number_at w32) u32_back s.next t.next (u64_bytes s.word ++ places_in s) (u64_bytes t.word ++ places_in t)
+    s-clock.next t-clock.next (ap (λ (p : ℕ × List ℕ). p.1) turn) in
+    let word = first_told (λ n. n < 2 ^ 64) u64_bytes (number_at w64) u64_back s.word t.word (places_in s) (places_in t) s-clock.word t-clock.word
+    (ap (λ (p : ℕ × List ℕ). p.1) next) in
     let xs = rows_with position_part s.rows in
     let ys = rows_with position_part t.rows in
     let xs-few : length xs < 2 ^ 32 = omega (arith, length-rows_with position_part s.rows, s-valid.few) in
     let ys-few : length ys < 2 ^ 32 = omega (arith, length-rows_with position_part t.rows, t-valid.few) in
     let behind = ap (λ (p : ℕ × List ℕ). drop 1 p.1) word in
-    let counted = first_told (λ n. n < 2 ^ 32) u32_bytes (number_at w32) u32_back (length xs) (length ys) (flat_map position_bytes xs) (flat_map position_bytes ys) xs-few ys-few behind in
+    let counted = first_told (λ n. n < 2 ^ 32) u32_bytes (number_at w32) u32_back (length xs) (length ys) (flat_map position_bytes xs)
+    (flat_map position_bytes ys) xs-few ys-few behind in
     let xs-fit = sections_fit position_part IsPosition position_fits s.rows (rows_fit setup is s s-valid) in
     let ys-fit = sections_fit position_part IsPosition position_fits t.rows (rows_fit setup is t t-valid) in
-    let rows = rows_told IsPosition position_bytes position_at position_back xs ys xs-fit ys-fit (ap (λ (p : ℕ × List ℕ). p.0) counted) (ap (λ (p : ℕ × List ℕ). p.1) counted) in
+    let rows = rows_told IsPosition position_bytes position_at position_back xs ys xs-fit ys-fit (ap (λ (p : ℕ × List ℕ). p.0) counted)
+    (ap (λ (p : ℕ × List ℕ). p.1) counted) in
     record {
       turn = ap (λ (p : ℕ × List ℕ). p.0) turn;
       next = ap (λ (p : ℕ × List ℕ). p.0) next;

@@ -1,22 +1,16 @@
 -- In a state that is valid, or loosely valid, no way is too long to be told.
-use Rattle.std.proofs.Common.{ℕ, ◌<◌, ◌^◌, List, length, get_or, All, Option, Some, None, arith}
-use Rattle.std.specs.Prelude.{IfSome, MatchOption, slice_get}
-use Rattle.sim_base.specs.declared.setup.Setup.{Setup}
-use Rattle.sim_base.specs.declared.state.Motion.{Motion}
-use Rattle.sim_base.specs.declared.state.Motion.TheVariants.{Still, Going}
-use Rattle.sim_base.specs.declared.state.Row.{Row}
-use Rattle.sim_base.specs.declared.state.State.{State}
-use Rattle.sim_base.specs.declared.template.Template.{Template}
-use Rattle.sim_base.specs.Validity.{Both, IsValidMotion, IsValidRow, IsState}
-use Rattle.sim_sections.specs.Rows.{IsShort, HasShortWay}
+use Rattle.sim_codec.proofs.Common.{IsShort, IsState, IsValidMotion, IsValidRow, Motion, Row, Setup, State, Still, Template}
+use Rattle.sim_codec.proofs.Common.{ℕ, ◌^◌, ◌<◌, List, length, get_or, IfSome, slice_get, MatchOption, Some, None, All, Option, arith, Both, Going, HasShortWay}
 
-by_motion : {X : Type 0} (setup : Setup) (motion : Option Motion) (speed : Option X) → Both motion speed (λ motion speed. IsValidMotion setup motion) → IfSome motion IsShort
+by_motion : {X : Type 0} (setup : Setup) (motion : Option Motion) (speed : Option X) → Both motion speed (λ motion speed. IsValidMotion setup motion)
+    → IfSome motion IsShort
 by_motion setup None speed h = tt
 by_motion setup (Some motion) None h = absurd h
 by_motion setup (Some Still) (Some speed) h = tt
 by_motion setup (Some (Going goal way whole)) (Some speed) h = h.2
 
-by_template : (least : ℕ) (setup : Setup) (rows : List Row) (row : Row) (o : Option Template) → MatchOption o ⊥ (IsValidRow least setup rows row) → HasShortWay row
+by_template : (least : ℕ) (setup : Setup) (rows : List Row) (row : Row) (o : Option Template) → MatchOption o ⊥ (IsValidRow least setup rows row)
+    → HasShortWay row
 by_template least setup rows row None h = absurd h
 by_template least setup rows row (Some t) h = by_motion setup row.motion t.speed h.motion
 

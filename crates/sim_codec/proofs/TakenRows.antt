@@ -1,20 +1,8 @@
 -- Rows that are taken one after the other from where they stand.
-use Rattle.std.proofs.Common.{◌≡◌, ℕ, zero, suc, ◌+◌, ◌-◌, ◌<◌, ◌≤◌, Bool, true, false, List, [], ◌∷◌, length, Option, Some, None, refl, sym, ap, ◌∙◌, arith, ℤ}
-use Rattle.std.specs.Prelude.{◌&&◌, is_some, slice_get, option_map, option_and_then, unwrap_or}
-use Rattle.sim_base.specs.declared.place.Point.{Point}
-use Rattle.sim_base.specs.declared.state.Row.{Row}
-use Rattle.sim_base.specs.declared.template.Template.{Template}
-use Rattle.sim_bytes.specs.Reading.{Reader, ◌>>=◌}
-use Rattle.sim_sections.specs.declared.walk.Walk.{Walk}
-use Rattle.sim_sections.specs.declared.walk.Parts.{Parts}
-use Rattle.sim_sections.specs.Rows.{entity_at, position_at, owner_at, health_at, moving_at, attack_at, stance_at}
-use Rattle.sim_sections.specs.Sections.{row_if}
-use Rattle.sim_sections.specs.Versions.{has_stances}
-use Rattle.sim_sections.specs.Walking.{parts_at, row_of}
-use Rattle.sim_codec.specs.Reading.{row_at, rows_at}
-use Rattle.sim_codec.specs.Parts.{HasParts}
-use Rattle.sim_codec.specs.PartLaws.{is_some-map}
-use Rattle.sim_codec.specs.Stored.{rows_in}
+use Rattle.sim_codec.proofs.Common.{Option, unwrap_or, option_map, option_and_then, refl, ap, arith, attack_at, entity_at, has_stances, HasParts, health_at}
+use Rattle.sim_codec.proofs.Common.{is_some-map, moving_at, owner_at, Parts, parts_at, Point, position_at, Reader, Row, row_at, row_if, row_of, rows_at}
+use Rattle.sim_codec.proofs.Common.{rows_in, stance_at, sym, Template, Walk, ◌>>=◌, ◌∙◌}
+use Rattle.sim_codec.proofs.Common.{◌≡◌, ℕ, zero, suc, ◌+◌, ◌-◌, ◌<◌, ◌≤◌, Bool, true, false, ◌&&◌, List, [], ◌∷◌, length, ℤ, is_some, slice_get, Some, None}
 
 -- a row in front of others that are read
 abbrev before : Row → Option (List Row × Walk) → Option (List Row × Walk)
@@ -28,7 +16,8 @@ none : (ts : List Template) (w : Walk) → parts_at ts w ≡ None → row_at ts 
 unfolding row_at
 none ts w h = rw h refl
 
-pub goes_on : (ts : List Template) (n : ℕ) (w : Walk) (p : Parts) (after : Walk) → parts_at ts w ≡ Some (p, after) → rows_at ts (suc n) w ≡ before (row_of p) (rows_at ts n after)
+pub goes_on : (ts : List Template) (n : ℕ) (w : Walk) (p : Parts) (after : Walk) → parts_at ts w ≡ Some (p, after) → rows_at ts (suc n) w ≡ before (row_of p)
+    (rows_at ts n after)
 unfolding rows_at
 goes_on ts n w p after h = rw (one ts w p after h) refl
 
@@ -50,12 +39,15 @@ rows_before : (row : Row) (read : Option (List Row × Walk)) → is_some (before
 rows_before row None h = absurd cc
 rows_before row (Some rs) h = refl
 
-pub can_more : (ts : List Template) (count i : ℕ) (w : Walk) (p : Parts) (after : Walk) (wanted : Bool) → i < count → parts_at ts w ≡ Some (p, after) → is_some (rows_at ts (count - i) w) ≡ wanted → is_some (rows_at ts (count - (i + 1)) after) ≡ wanted
+pub can_more : (ts : List Template) (count i : ℕ) (w : Walk) (p : Parts) (after : Walk) (wanted : Bool) → i < count → parts_at ts w ≡ Some (p, after)
+    → is_some (rows_at ts (count - i) w) ≡ wanted → is_some (rows_at ts (count - (i + 1)) after) ≡ wanted
 can_more ts count i w p after wanted lt h so_far =
     let k : count - i ≡ suc (count - (i + 1)) = omega arith in
-    sym (some_before (row_of p) (rows_at ts (count - (i + 1)) after)) ∙ ap is_some (sym (goes_on ts (count - (i + 1)) w p after h)) ∙ ap (λ n. is_some (rows_at ts n w)) (sym k) ∙ so_far
+    sym (some_before (row_of p) (rows_at ts (count - (i + 1)) after)) ∙ ap is_some (sym (goes_on ts (count - (i + 1)) w p after h)) ∙
+    ap (λ n. is_some (rows_at ts n w)) (sym k) ∙ so_far
 
-pub can_not : (ts : List Template) (count i : ℕ) (w : Walk) (wanted : Bool) → i < count → parts_at ts w ≡ None → is_some (rows_at ts (count - i) w) ≡ wanted → false ≡ wanted
+pub can_not : (ts : List Template) (count i : ℕ) (w : Walk) (wanted : Bool) → i < count → parts_at ts w ≡ None → is_some (rows_at ts (count - i) w) ≡ wanted
+    → false ≡ wanted
 can_not ts count i w wanted lt h so_far =
     let k : count - i ≡ suc (count - (i + 1)) = omega arith in
     ap is_some (sym (ends ts (count - (i + 1)) w h)) ∙ ap (λ n. is_some (rows_at ts n w)) (sym k) ∙ so_far
@@ -79,12 +71,14 @@ is_not_read (Some r) h = absurd cc
 pub no_row_left : (ts : List Template) (n : ℕ) (w : Walk) → n ≡ 0 → rows_in (rows_at ts n w) ≡ []
 no_row_left ts n w e = rw (e, no_more ts w) refl
 
-pub next_row : (ts : List Template) (n m : ℕ) (w : Walk) (p : Parts) (after : Walk) → n ≡ suc m → parts_at ts w ≡ Some (p, after) → is_some (rows_at ts n w) ≡ true → rows_in (rows_at ts n w) ≡ row_of p ∷ rows_in (rows_at ts m after)
+pub next_row : (ts : List Template) (n m : ℕ) (w : Walk) (p : Parts) (after : Walk) → n ≡ suc m → parts_at ts w ≡ Some (p, after)
+    → is_some (rows_at ts n w) ≡ true → rows_in (rows_at ts n w) ≡ row_of p ∷ rows_in (rows_at ts m after)
 next_row ts n m w p after e h some =
     let is : rows_at ts n w ≡ before (row_of p) (rows_at ts m after) = ap (λ k. rows_at ts k w) e ∙ goes_on ts m w p after h in
     ap rows_in is ∙ rows_before (row_of p) (rows_at ts m after) (ap is_some (sym is) ∙ some)
 
-pub can_next : (ts : List Template) (n m : ℕ) (w : Walk) (p : Parts) (after : Walk) → n ≡ suc m → parts_at ts w ≡ Some (p, after) → is_some (rows_at ts n w) ≡ true → is_some (rows_at ts m after) ≡ true
+pub can_next : (ts : List Template) (n m : ℕ) (w : Walk) (p : Parts) (after : Walk) → n ≡ suc m → parts_at ts w ≡ Some (p, after)
+    → is_some (rows_at ts n w) ≡ true → is_some (rows_at ts m after) ≡ true
 can_next ts n m w p after e h some =
     let is : rows_at ts n w ≡ before (row_of p) (rows_at ts m after) = ap (λ k. rows_at ts k w) e ∙ goes_on ts m w p after h in
     sym (some_before (row_of p) (rows_at ts m after)) ∙ ap is_some (sym is) ∙ some
@@ -101,16 +95,20 @@ pub length_read : (ts : List Template) (n : ℕ) (w : Walk) → is_some (rows_at
 length_read ts zero w some = ap (λ (r : Option (List Row × Walk)). length (rows_in r)) (no_more ts w)
 length_read ts (suc n) w some = by (parts_at ts w) refl (λ after. length_read ts n after)
   where
-    by : (o : Option (Parts × Walk)) → parts_at ts w ≡ o → ((after : Walk) → is_some (rows_at ts n after) ≡ true → length (rows_in (rows_at ts n after)) ≡ n) → length (rows_in (rows_at ts (suc n) w)) ≡ suc n
+    by : (o : Option (Parts × Walk)) → parts_at ts w ≡ o → ((after : Walk) → is_some (rows_at ts n after) ≡ true → length (rows_in (rows_at ts n after)) ≡ n)
+        → length (rows_in (rows_at ts (suc n) w)) ≡ suc n
     by None h others = absurd (must_go_on ts (suc n) n w refl h some)
     by (Some p) h others = rw (next_row ts (suc n) n w p.0 p.1 refl h some) (ap suc (others p.1 (can_next ts (suc n) n w p.0 p.1 refl h some)))
 
-pub few_read : (ts : List Template) (n : ℕ) (w : Walk) (rows : List Row) → Some rows ≡ option_map (λ (r : List Row × Walk). r.0) (rows_at ts n w) → length rows ≡ n
+pub few_read : (ts : List Template) (n : ℕ) (w : Walk) (rows : List Row) → Some rows ≡ option_map (λ (r : List Row × Walk). r.0) (rows_at ts n w)
+    → length rows ≡ n
 few_read ts n w rows e = by (rows_at ts n w) refl e (length_read ts n w)
   where
-    by : (o : Option (List Row × Walk)) → rows_at ts n w ≡ o → Some rows ≡ option_map (λ (r : List Row × Walk). r.0) o → (is_some (rows_at ts n w) ≡ true → length (rows_in (rows_at ts n w)) ≡ n) → length rows ≡ n
+    by : (o : Option (List Row × Walk)) → rows_at ts n w ≡ o → Some rows ≡ option_map (λ (r : List Row × Walk). r.0) o
+        → (is_some (rows_at ts n w) ≡ true → length (rows_in (rows_at ts n w)) ≡ n) → length rows ≡ n
     by None h f all = absurd cc
-    by (Some r) h f all = ap (λ (o : Option (List Row)). length (unwrap_or o [])) f ∙ ap (λ (o : Option (List Row × Walk)). length (rows_in o)) (sym h) ∙ all (ap is_some h)
+    by (Some r) h f all = ap (λ (o : Option (List Row)). length (unwrap_or o [])) f ∙ ap (λ (o : Option (List Row × Walk)). length (rows_in o)) (sym h) ∙
+        all (ap is_some h)
 
 -- ---- what a row is read from
 
@@ -145,15 +143,18 @@ pub record Ended (w : Walk) (t : Template) (e : (ℕ × ℕ) × List ℕ) (h : O
   pub stance : is_some p.stance ≡ (has_stances w.version && is_some t.arms)
 
 -- the last three sections, behind what was read before them
-abbrev read_last : (w : Walk) (t : Template) (e : (ℕ × ℕ) × List ℕ) (place : (ℕ × Point) × List ℕ) (owner : (ℕ × ℕ) × List ℕ) (h : Option (ℕ × ℤ) × List ℕ) → Option (Parts × Walk)
+abbrev read_last : (w : Walk) (t : Template) (e : (ℕ × ℕ) × List ℕ) (place : (ℕ × Point) × List ℕ) (owner : (ℕ × ℕ) × List ℕ) (h : Option (ℕ × ℤ) × List ℕ)
+    → Option (Parts × Walk)
 read_last w t e place owner h =
-    row_if moving_at (is_some t.speed) w.motion >>= λ m. row_if attack_at (is_some t.arms) w.attack >>= λ a. row_if stance_at (has_stances w.version && is_some t.arms) w.stance >>= λ s.
+    row_if moving_at (is_some t.speed) w.motion >>= λ m. row_if attack_at (is_some t.arms) w.attack >>= λ a. row_if stance_at
+    (has_stances w.version && is_some t.arms) w.stance >>= λ s.
     Some (
       record { entity = e.0; position = place.0; owner = owner.0; health = h.0; motion = m.0; attack = a.0; stance = s.0 },
       record { version = w.version; entity = e.1; position = place.1; owner = owner.1; health = h.1; motion = m.1; attack = a.1; stance = s.1 },
     )
 
-ended : (w : Walk) (t : Template) (e : (ℕ × ℕ) × List ℕ) (place : (ℕ × Point) × List ℕ) (owner : (ℕ × ℕ) × List ℕ) (h : Option (ℕ × ℤ) × List ℕ) (p : Parts) (after : Walk)
+ended : (w : Walk) (t : Template) (e : (ℕ × ℕ) × List ℕ) (place : (ℕ × Point) × List ℕ) (owner : (ℕ × ℕ) × List ℕ) (h : Option (ℕ × ℤ) × List ℕ) (p : Parts)
+    (after : Walk)
     → read_last w t e place owner h ≡ Some (p, after) → Ended w t e h.0 p after
 ended w t e place owner h p after read =
     let motion = bind_some (row_if moving_at (is_some t.speed) w.motion) _ (p, after) read in
@@ -166,7 +167,8 @@ ended w t e place owner h p after read =
       motion = ap (λ (x : Parts × Walk). is_some x.0.motion) (sym same) ∙ is_some-if moving_at (is_some t.speed) w.motion motion.0 motion.1;
       attack = ap (λ (x : Parts × Walk). is_some x.0.attack) (sym same) ∙ is_some-if attack_at (is_some t.arms) w.attack attack.0 attack.1;
       by = ap (λ (x : Parts × Walk). x.1.version) same;
-      stance = ap (λ (x : Parts × Walk). is_some x.0.stance) (sym same) ∙ is_some-if stance_at (has_stances w.version && is_some t.arms) w.stance stance.0 stance.1;
+      stance = ap (λ (x : Parts × Walk). is_some x.0.stance) (sym same) ∙ is_some-if stance_at (has_stances w.version && is_some t.arms) w.stance stance.0
+          stance.1;
     }
 
 pub first_of : (ts : List Template) (w : Walk) (p : Parts) (after : Walk) → parts_at ts w ≡ Some (p, after) → IsFirst ts w p after

@@ -1,16 +1,16 @@
 -- Pieces that are told one behind the other.
-use Rattle.std.proofs.Common.{List, ℕ, ◌++◌, Result, Ok, Err, ap, subst, append_assoc}
-use Rattle.std.specs.Prelude.{OnOk, codes}
-use Rattle.sim_bytes.specs.Telling.{Tells}
+use Rattle.sim_codec.proofs.Common.{ℕ, List, ◌++◌, OnOk, Ok, Err, codes, Result, ap, append_assoc, subst, Tells}
 
 -- a piece before what a last call tells
-pub first : {K E : Type 0} (holds : K → List ℕ → List ℕ → Type 0) (a b c : K) (x y : List ℕ) (r : Result (Unit {0}) E) → Tells holds a b x → OnOk r (Tells holds b c y) → OnOk r (Tells holds a c (x ++ y))
+pub first : {K E : Type 0} (holds : K → List ℕ → List ℕ → Type 0) (a b c : K) (x y : List ℕ) (r : Result (Unit {0}) E) → Tells holds a b x
+    → OnOk r (Tells holds b c y) → OnOk r (Tells holds a c (x ++ y))
 first holds a b c x y (Ok done) p q = λ about told h. subst (holds c about) (append_assoc told x y) (q about (told ++ x) (p about told h))
 first holds a b c x y (Err fault) p q = tt
 
 -- the magic, the version and the id, before the clock and what a last call tells
 pub headed : {K E : Type 0} (holds : K → List ℕ → List ℕ → Type 0) (a b c d : K) (version id clock rest : List ℕ) (r : Result (Unit {0}) E)
-    → Tells holds a b (codes "RSIM" ++ (version ++ id)) → Tells holds b c clock → OnOk r (Tells holds c d rest) → OnOk r (Tells holds a d (codes "RSIM" ++ (version ++ (id ++ (clock ++ rest)))))
+    → Tells holds a b (codes "RSIM" ++ (version ++ id)) → Tells holds b c clock → OnOk r (Tells holds c d rest)
+    → OnOk r (Tells holds a d (codes "RSIM" ++ (version ++ (id ++ (clock ++ rest)))))
 headed holds a b c d version id clock rest r p q s =
     subst (λ bytes. OnOk r (Tells holds a d bytes)) (ap (λ (x : List ℕ). codes "RSIM" ++ x) (append_assoc version id (clock ++ rest)))
     (first holds a b d (codes "RSIM" ++ (version ++ id)) (clock ++ rest) r p (first holds b c d clock rest r q s))

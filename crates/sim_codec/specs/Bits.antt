@@ -1,12 +1,9 @@
 -- The bytes of one entity in one section.
-use Rattle.std.specs.Prelude.{ℕ, ◌==◌, if◌then◌else◌, List, Option, Some, None, option_map, option_and_then}
-use Rattle.sim_base.specs.declared.state.Row.{Row}
-use Rattle.sim_base.specs.declared.state.State.{State}
-use Rattle.sim_base.specs.Rows.{row_of}
-use Rattle.sim_base.specs.Spelling.{clock_bytes, entity_part, entity_bytes, position_part, position_bytes, owner_part, owner_bytes, health_part, health_bytes, motion_part, moving_bytes, attack_part, attack_bytes, stance_part, stance_bytes}
-use Rattle.sim_sections.specs.Rows.{with_id}
-use Rattle.sim_codec.specs.declared.bits.Part.{Part}
-use Rattle.sim_codec.specs.declared.bits.Part.TheVariants.{Clock, Entity, Position, Owner, Health, Motion, Attack, Stance}
+use Rattle.{sim_base.specs.Rows.row_of, sim_codec.specs.declared.bits.Part.Part}
+use Rattle.std.specs.Prelude.{ℕ, List, if◌then◌else◌, ◌==◌, Some, None, Option, option_map, option_and_then}
+use Rattle.sim_codec.specs.Common.{attack_bytes, attack_part, clock_bytes, entity_bytes, entity_part, health_bytes, health_part, motion_part, moving_bytes}
+use Rattle.sim_codec.specs.Common.{owner_bytes, owner_part, position_bytes, position_part, Row, stance_bytes, stance_part, State, with_id}
+use Rattle.sim_codec.specs.declared.bits.Part.TheVariants.{Attack, Clock, Entity, Health, Motion, Owner, Position, Stance}
 
 -- the clock, and no other part
 abbrev pub clock_bits : State → Part → Option (List ℕ)

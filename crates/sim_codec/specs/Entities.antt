@@ -1,7 +1,6 @@
 -- The rows of the first section, each of six bytes: what they say of an entity, and what its template then says.
-use Rattle.std.specs.Prelude.{ℕ, ◌==◌, ◌&&◌, Bool, false, is_some, List, take, drop, option_map, unwrap_or, slice_get}
-use Rattle.std.specs.Int.{w16, w32, from_le_bytes}
-use Rattle.sim_base.specs.declared.template.Template.{Template}
+use Rattle.std.specs.Prelude.{ℕ, Bool, false, ◌&&◌, List, take, drop, is_some, ◌==◌, slice_get, unwrap_or, option_map}
+use Rattle.sim_codec.specs.Common.{from_le_bytes, Template, w16, w32}
 
 -- the id
 abbrev pub id_in : List ℕ → ℕ

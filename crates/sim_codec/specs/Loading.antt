@@ -1,15 +1,9 @@
 -- What bytes stand for, and what they are refused for.
-use Rattle.std.specs.Prelude.{◌≡◌, ◌⊎◌, ℕ, not, nat_lt, List, length, take, drop, Option, Some, None, is_some, Result, Ok, Err, if◌then◌else◌}
+use Rattle.std.specs.Prelude.{◌≡◌, ℕ, not, ◌⊎◌, List, length, take, drop, is_some, if◌then◌else◌, nat_lt, Some, None, Ok, Err, Option, Result}
 use Rattle.std.specs.Str.{bytes_eq}
-use Rattle.sim_base.specs.declared.state.State.{State}
-use Rattle.sim_base.specs.declared.setup.Setup.{Setup}
-use Rattle.sim_base.specs.Spelling.{spelling, old_spelling}
-use Rattle.sim_base.specs.Validity.{IsValid}
-use Rattle.sim_sections.specs.declared.version.Version.{Version}
-use Rattle.sim_sections.specs.declared.version.Version.TheVariants.{One, Two}
-use Rattle.sim_codec.specs.declared.fault.StateFault.{StateFault}
+use Rattle.sim_codec.specs.{Versions.HoldsNone, Versions.start_bytes, declared.fault.StateFault.StateFault}
+use Rattle.sim_codec.specs.Common.{IsValid, old_spelling, One, Setup, spelling, State, Two, Version}
 use Rattle.sim_codec.specs.declared.fault.StateFault.TheVariants as faults
-use Rattle.sim_codec.specs.Versions.{start_bytes, HoldsNone}
 
 -- the version whose magic and number these are
 abbrev pub version_of : List ℕ → Option Version

@@ -1,11 +1,7 @@
 -- A row that is like its template stands in the sections of the parts that the template has, and in no other.
-use Rattle.std.proofs.Common.{◌≡◌, Option, Some, None, refl, ◌∙◌}
-use Rattle.std.specs.Prelude.{is_some, option_map}
-use Rattle.sim_base.specs.declared.state.Row.{Row}
-use Rattle.sim_base.specs.declared.template.Template.{Template}
-use Rattle.sim_base.specs.Spelling.{health_part, motion_part, attack_part, stance_part}
-use Rattle.sim_sections.specs.Rows.{with_id}
-use Rattle.sim_codec.specs.Parts.{IsLike}
+use Rattle.{sim_codec.specs.Parts.IsLike, std.specs.Prelude.is_some, std.specs.Prelude.option_map}
+use Rattle.std.proofs.Common.{◌≡◌, Some, None, Option, refl, ◌∙◌}
+use Rattle.sim_codec.specs.Common.{attack_part, health_part, motion_part, Row, stance_part, Template, with_id}
 
 pub is_some-map : {X Y : Type 0} (f : X → Y) (o : Option X) → is_some (option_map f o) ≡ is_some o
 is_some-map f None = refl

@@ -1,7 +1,6 @@
 -- Which parts a row has by its template.
-use Rattle.std.specs.Prelude.{◌≡◌, is_some, List, Some, slice_get}
-use Rattle.sim_base.specs.declared.state.Row.{Row}
-use Rattle.sim_base.specs.declared.template.Template.{Template}
+use Rattle.std.specs.Prelude.{◌≡◌, List, is_some, slice_get, Some}
+use Rattle.sim_codec.specs.Common.{Row, Template}
 
 -- a row has the parts of its template
 pub record IsLike (row : Row) (template : Template) : Type 0 where

@@ -1,8 +1,6 @@
 -- What a quick digest tells of a state.
 use Rattle.std.specs.Prelude.{◌≡◌, ℕ, map}
-use Rattle.sim_base.specs.declared.place.Point.{Point}
-use Rattle.sim_base.specs.declared.state.Row.{Row}
-use Rattle.sim_base.specs.declared.state.State.{State}
+use Rattle.sim_codec.specs.Common.{Point, Row, State}
 
 -- which entity it is, and where
 abbrev pub place_of : Row → ℕ × Point

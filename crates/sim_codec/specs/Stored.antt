@@ -1,9 +1,6 @@
 -- Rows that stand in bytes: which they are, and what is tested of them one after the other.
-use Rattle.std.specs.Prelude.{ℕ, ◌<◌, ◌≤◌, List, [], ◌∷◌, Option, Some, None}
-use Rattle.sim_base.specs.declared.state.Row.{Row}
-use Rattle.sim_base.specs.declared.setup.Setup.{Setup}
-use Rattle.sim_base.specs.Validity.{IsKnownRow}
-use Rattle.sim_sections.specs.declared.walk.Walk.{Walk}
+use Rattle.std.specs.Prelude.{ℕ, ◌<◌, ◌≤◌, List, [], ◌∷◌, Some, None, Option}
+use Rattle.sim_codec.specs.Common.{IsKnownRow, Row, Setup, Walk}
 
 -- the rows that were read, none where they cannot be
 abbrev pub rows_in : Option (List Row × Walk) → List Row

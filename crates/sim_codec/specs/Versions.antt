@@ -1,14 +1,7 @@
 -- The bytes of a state by each version of the layout.
-use Rattle.std.specs.Prelude.{◌≡◌, ℕ, false, List, [], ◌++◌, All, codes}
-use Rattle.sim_base.specs.declared.setup.Setup.{Setup}
-use Rattle.sim_base.specs.declared.state.Row.{Row}
-use Rattle.sim_base.specs.declared.state.State.{State}
-use Rattle.sim_base.specs.Bytes.{u32_bytes}
-use Rattle.sim_base.specs.Rows.{is_holding}
-use Rattle.sim_base.specs.Spelling.{rows_with, stance_part, stance_bytes, section, six_sections, clock_bytes, head_bytes}
-use Rattle.sim_sections.specs.declared.version.Version.{Version}
-use Rattle.sim_sections.specs.declared.version.Version.TheVariants.{One, Two}
-use Rattle.sim_sections.specs.Versions.{number_of}
+use Rattle.std.specs.Prelude.{◌≡◌, ℕ, false, List, [], ◌++◌, codes, All}
+use Rattle.sim_codec.specs.Common.{State, Two, u32_bytes, Version}
+use Rattle.sim_codec.specs.Common.{clock_bytes, head_bytes, is_holding, number_of, One, Row, rows_with, section, Setup, six_sections, stance_bytes, stance_part}
 
 -- the magic and the number of the version
 abbrev pub start_bytes : Version → List ℕ

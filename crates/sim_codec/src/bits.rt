@@ -1,11 +1,7 @@
 //! The bytes of one entity in one section. Two states are compared by them, entity by entity and part by part.
 
-ghost use Rattle.std.specs.Prelude.{◌≡◌, All, map, Some, None, option_map};
-ghost use Rattle.sim_base.specs.Spelling.{clock_bytes};
-ghost use Rattle.std.specs.List.Sorted.{IsStrictlyIncreasing};
-ghost use Rattle.sim_base.specs.Rows.{id_of};
-ghost use Rattle.sim_sections.specs.Rows.{HasShortWay};
-ghost use Rattle.sim_codec.specs.Bits.{bits, clock_bits, row_bits};
+ghost use Rattle.std.specs.Prelude.{◌≡◌, map, Some, None, All, option_map};
+ghost use Rattle.sim_codec.specs.{Bits.bits, Bits.clock_bits, Bits.row_bits, Common.clock_bytes, Common.HasShortWay, Common.id_of, Common.IsStrictlyIncreasing};
 
 use crate::look_up::place_of;
 use crate::spelling::tell_clock;
@@ -36,7 +32,7 @@ pub struct Bits {
 }
 
 impl Model for Bits {
-    ghost use Rattle.std.specs.Prelude.{List, ℕ, Option};
+    ghost use Rattle.std.specs.Prelude.{ℕ, List, Option};
 
     ghost Value = { Option (List ℕ) };
 

@@ -1,11 +1,9 @@
 //! The rows of the first section, each of six bytes: the id of an entity and the number of its template. What these two
 //! say of all entities is read off them, so that no row is taken from any section for it.
 
-ghost use Rattle.std.specs.Prelude.{◌≡◌, ◌↔◌, ◌≤◌, ◌*◌, IsTrue, length, map, count_by};
-ghost use Rattle.std.specs.List.{list_any};
-ghost use Rattle.std.specs.List.Sorted.{IsStrictlyIncreasing};
-ghost use Rattle.std.specs.Simd.{first_chunks};
-ghost use Rattle.sim_codec.specs.Entities.{id_in, template_in, passes, lives_as};
+ghost use Rattle.std.specs.Prelude.{◌≡◌, ◌*◌, ◌≤◌, ◌↔◌, map, length, IsTrue, count_by};
+ghost use Rattle.sim_codec.specs.Common.{first_chunks, IsStrictlyIncreasing, list_any};
+ghost use Rattle.sim_codec.specs.Entities.{id_in, lives_as, passes, template_in};
 
 use crate::part::PartForm;
 use sim_base::Template;

@@ -1,11 +1,8 @@
 //! The test of a state that still stands in its bytes: what `validity` asks of one in memory. The ids are seen to ascend
 //! first, so that each target is then found by halves.
 
-ghost use Rattle.std.specs.Prelude.{◌≡◌, ◌↔◌, ◌<◌, ◌≤◌, IsTrue, map, option_map};
-ghost use Rattle.std.specs.List.Sorted.{IsStrictlyIncreasing};
-ghost use Rattle.sim_base.specs.Rows.{id_of};
-ghost use Rattle.sim_base.specs.Validity.{IsValidMotion, Both, IsValidAim, IsValidRow, IsKnownRow, IsValid};
-ghost use Rattle.sim_sections.specs.Walking.{row_of};
+ghost use Rattle.std.specs.Prelude.{◌≡◌, ◌<◌, ◌≤◌, ◌↔◌, map, IsTrue, option_map};
+ghost use Rattle.sim_codec.specs.Common.{Both, id_of, IsKnownRow, IsStrictlyIncreasing, IsValid, IsValidAim, IsValidMotion, IsValidRow, row_of};
 ghost use Rattle.sim_codec.specs.Stored.{AreGood};
 
 use crate::stored::{Stored, StoredRows};

@@ -1,21 +1,11 @@
 //! Theorems about the definitions, each the contract of a function that does nothing; and that what is spelled is taken,
 //! which is the contract of a function that asks.
 
-ghost use Rattle.std.specs.Prelude.{◌≡◌, ◌↔◌, ◌<◌, ◌^◌, ℕ, List, length, drop, All, IsOk, Some, None};
-ghost use Rattle.sim_base.specs.declared.setup.Setup.{Setup};
-ghost use Rattle.sim_base.specs.declared.state.State.{State};
-ghost use Rattle.sim_base.specs.Limits.{IsSetup};
-ghost use Rattle.sim_base.specs.Spelling.{spelling, old_spelling, quick_bytes};
-ghost use Rattle.sim_base.specs.Validity.{IsState, IsValid};
-ghost use Rattle.sim_sections.specs.Rows.{HasShortWay};
-ghost use Rattle.sim_codec.specs.Loading.{head_fault, StandsFor};
-ghost use Rattle.sim_codec.specs.Quick.{HaveSamePlaces};
-ghost use Rattle.sim_codec.specs.Reading.{state_at};
-ghost use Rattle.sim_codec.specs.Versions.{HoldsNone};
-ghost use Rattle.sim_sections.specs.declared.version.Version.TheVariants.{One, Two};
+ghost use Rattle.std.specs.Prelude.{◌≡◌, ℕ, ◌^◌, ◌<◌, ◌↔◌, List, length, drop, IsOk, Some, None, All};
+ghost use Rattle.sim_codec.specs.{Loading.head_fault, Loading.StandsFor, Quick.HaveSamePlaces, Reading.state_at, Versions.HoldsNone};
+ghost use Rattle.sim_codec.specs.Common.{HasShortWay, IsSetup, IsState, IsValid, old_spelling, One, quick_bytes, Setup, spelling, State, Two};
 
-use crate::fault::StateFault;
-use crate::loading::stands;
+use crate::{StateFault, stands};
 use sim_base::Setup;
 
 /// In a state that is valid, or valid but for healths of 0, no way is too long to be told and the rows can be counted:
@@ -30,8 +20,10 @@ pub fn states_can_be_told()
 pub fn spellings_are_read_back()
     ensures head { (setup : Setup) (state : State) → IsSetup setup → IsValid setup state → head_fault setup (spelling setup state) ≡ None }
     ensures state { (setup : Setup) (state : State) → IsSetup setup → IsValid setup state → state_at Two setup (drop 24 (spelling setup state)) ≡ Some state }
-    ensures old_head { (setup : Setup) (state : State) → IsSetup setup → IsValid setup state → HoldsNone state.rows → head_fault setup (old_spelling setup state) ≡ None }
-    ensures old_state { (setup : Setup) (state : State) → IsSetup setup → IsValid setup state → HoldsNone state.rows → state_at One setup (drop 24 (old_spelling setup state)) ≡ Some state }
+    ensures old_head { (setup : Setup) (state : State) → IsSetup setup → IsValid setup state → HoldsNone state.rows
+        → head_fault setup (old_spelling setup state) ≡ None }
+    ensures old_state { (setup : Setup) (state : State) → IsSetup setup → IsValid setup state → HoldsNone state.rows
+        → state_at One setup (drop 24 (old_spelling setup state)) ≡ Some state }
 {}
 
 /// Bytes stand for at most one state of a match, so two valid states with one spelling are the same.

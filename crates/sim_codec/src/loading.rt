@@ -1,12 +1,9 @@
 //! The state that bytes stand for. The reader is lax: what it read is tested as a state, and spelled again and compared,
 //! before any memory is taken. So it is enough that it reads back what is spelled.
 
-ghost use Rattle.std.specs.Prelude.{◌≡◌, ◌≢◌, ◌↔◌, IsTrue, take, drop, None, Some, IsOk, IfOk, IfErr, IfSome, MatchResult};
-ghost use Rattle.sim_base.specs.declared.state.State.{State};
-ghost use Rattle.sim_base.specs.Limits.{IsSetup};
-ghost use Rattle.sim_base.specs.Validity.{IsValid};
-ghost use Rattle.sim_codec.specs.Loading.{version_of as version_in, head_fault, StandsFor, Stands, Loads, RefusedFor};
-ghost use Rattle.sim_codec.specs.Versions.{start_bytes, spelled_by};
+ghost use Rattle.std.specs.Prelude.{◌≡◌, ◌≢◌, ◌↔◌, take, drop, IfSome, IfOk, IfErr, IsOk, IsTrue, MatchResult, Some, None};
+ghost use Rattle.sim_codec.specs.{Common.IsSetup, Common.IsValid, Common.State, Versions.spelled_by, Versions.start_bytes};
+ghost use Rattle.sim_codec.specs.Loading.{head_fault, Loads, RefusedFor, Stands, StandsFor, version_of as version_in};
 
 use crate::fault::StateFault;
 use crate::good::is_valid_stored;
@@ -42,7 +39,8 @@ fn version_of(start: &[u8]) -> Option<Version>
 // The version, and what follows the id of the match.
 #[tactic(auto, unfolding(crate::specs::Loading::head_fault))]
 fn behind_head<'a>(setup: &Setup, bytes: &'a [u8]) -> Result<(Version, &'a [u8]), StateFault>
-    ensures { MatchResult result (λ read. (head_fault setup.now bytes.now ≡ None) × (version_in (take 8 bytes.now) ≡ Some read.0) × (read.1.now ≡ drop 24 bytes.now)) (λ fault. head_fault setup.now bytes.now ≡ Some fault) }
+    ensures { MatchResult result (λ read. (head_fault setup.now bytes.now ≡ None) × (version_in (take 8 bytes.now) ≡ Some read.0)
+        × (read.1.now ≡ drop 24 bytes.now)) (λ fault. head_fault setup.now bytes.now ≡ Some fault) }
 {
     if bytes.len() < 24 {
         return Err(StateFault::NotState);

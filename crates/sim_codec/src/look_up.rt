@@ -1,9 +1,7 @@
 //! The place of a row by its id. Ids ascend, so it is found by halves.
 
-ghost use Rattle.std.specs.Prelude.{◌≡◌, ◌≢◌, ◌<◌, All, length, map, MatchOption};
-ghost use Rattle.std.specs.List.{HoldsAt};
-ghost use Rattle.std.specs.List.Sorted.{IsStrictlyIncreasing};
-ghost use Rattle.sim_base.specs.Rows.{id_of};
+ghost use Rattle.std.specs.{List.HoldsAt, Prelude.◌≡◌, Prelude.◌<◌, Prelude.◌≢◌, Prelude.map, Prelude.length, Prelude.MatchOption, Prelude.All};
+ghost use Rattle.sim_codec.specs.Common.{id_of, IsStrictlyIncreasing};
 
 use sim_base::Row;
 

@@ -2,10 +2,7 @@
 //! section of all rows has, so that rows that do not belong together are not spelled as they stand.
 
 ghost use Rattle.std.specs.Prelude.{◌≡◌, Bool, is_some};
-ghost use Rattle.sim_base.specs.declared.state.Row.{Row};
-ghost use Rattle.sim_base.specs.declared.template.Template.{Template};
-ghost use Rattle.sim_codec.specs.Parts.{IsLike};
-ghost use Rattle.sim_sections.specs.Walking.{row_of};
+ghost use Rattle.sim_codec.specs.{Common.Row, Common.row_of, Common.Template, Parts.IsLike};
 
 use sim_base::Template;
 use sim_sections::{
@@ -30,8 +27,7 @@ pub trait PartForm: RowForm {
 }
 
 impl PartForm for EntityRow {
-    ghost use Rattle.std.specs.Prelude.{true};
-    ghost use Rattle.std.proofs.Common.{refl};
+    ghost use Rattle.std.{proofs.Common.refl, specs.Prelude.true};
 
     ghost of_template = { λ template. true };
 
@@ -47,8 +43,7 @@ impl PartForm for EntityRow {
 }
 
 impl PartForm for PositionRow {
-    ghost use Rattle.std.specs.Prelude.{true};
-    ghost use Rattle.std.proofs.Common.{refl};
+    ghost use Rattle.std.{proofs.Common.refl, specs.Prelude.true};
 
     ghost of_template = { λ template. true };
 
@@ -67,8 +62,7 @@ impl PartForm for PositionRow {
 }
 
 impl PartForm for OwnerRow {
-    ghost use Rattle.std.specs.Prelude.{true};
-    ghost use Rattle.std.proofs.Common.{refl};
+    ghost use Rattle.std.{proofs.Common.refl, specs.Prelude.true};
 
     ghost of_template = { λ template. true };
 
@@ -87,8 +81,7 @@ impl PartForm for OwnerRow {
 }
 
 impl PartForm for HealthRow {
-    ghost use Rattle.std.specs.Prelude.{is_some};
-    ghost use Rattle.sim_codec.specs.PartLaws.{health_like};
+    ghost use Rattle.{sim_codec.specs.PartLaws.health_like, std.specs.Prelude.is_some};
 
     ghost of_template = { λ template. is_some template.health };
 
@@ -107,8 +100,7 @@ impl PartForm for HealthRow {
 }
 
 impl PartForm for MotionRow {
-    ghost use Rattle.std.specs.Prelude.{is_some};
-    ghost use Rattle.sim_codec.specs.PartLaws.{motion_like};
+    ghost use Rattle.{sim_codec.specs.PartLaws.motion_like, std.specs.Prelude.is_some};
 
     ghost of_template = { λ template. is_some template.speed };
 
@@ -127,8 +119,7 @@ impl PartForm for MotionRow {
 }
 
 impl PartForm for AttackRow {
-    ghost use Rattle.std.specs.Prelude.{is_some};
-    ghost use Rattle.sim_codec.specs.PartLaws.{attack_like};
+    ghost use Rattle.{sim_codec.specs.PartLaws.attack_like, std.specs.Prelude.is_some};
 
     ghost of_template = { λ template. is_some template.arms };
 
@@ -147,8 +138,7 @@ impl PartForm for AttackRow {
 }
 
 impl PartForm for StanceRow {
-    ghost use Rattle.std.specs.Prelude.{is_some};
-    ghost use Rattle.sim_codec.specs.PartLaws.{stance_like};
+    ghost use Rattle.{sim_codec.specs.PartLaws.stance_like, std.specs.Prelude.is_some};
 
     ghost of_template = { λ template. is_some template.arms };
 

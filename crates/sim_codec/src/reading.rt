@@ -1,7 +1,7 @@
 //! A state in memory of its own, made of one that still stands in its bytes.
 
-ghost use Rattle.std.specs.Prelude.{◌≡◌, None, IfOk};
-ghost use Rattle.sim_sections.specs.Walking.{row_of};
+ghost use Rattle.std.specs.Prelude.{◌≡◌, IfOk, None};
+ghost use Rattle.sim_codec.specs.Common.{row_of};
 
 use crate::stored::{Stored, StoredRows};
 use sim_base::{Items, Motion, OutOfMemory, Row, Rows, State};

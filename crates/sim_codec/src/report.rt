@@ -1,10 +1,8 @@
 //! What a report of a state carries: the whole digest at some turns, and at the others a quick one, of the clock and the
 //! places alone.
 
-ghost use Rattle.std.specs.Prelude.{◌≡◌, ◌<◌, ◌^◌, All, length, OnOk};
-ghost use Rattle.sim_base.specs.Spelling.{quick_bytes, quick as quick_of, is_full_turn as is_full, mark as mark_of};
-ghost use Rattle.sim_bytes.specs.Telling.{Tells};
-ghost use Rattle.sim_sections.specs.Rows.{HasShortWay};
+ghost use Rattle.std.specs.Prelude.{◌≡◌, ◌^◌, ◌<◌, length, OnOk, All};
+ghost use Rattle.sim_codec.specs.Common.{HasShortWay, is_full_turn as is_full, mark as mark_of, quick as quick_of, quick_bytes, Tells};
 
 use crate::spelling::{digest, tell_clock};
 use sim_base::{Setup, State};

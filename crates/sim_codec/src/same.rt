@@ -1,11 +1,8 @@
 //! Whether bytes are the spelling of the state that was read from them. The spelling is told into a comparison, row by
 //! row as the rows are taken, so that no memory is needed for it.
 
-ghost use Rattle.std.specs.Prelude.{◌≡◌, ◌↔◌, IsTrue, OnOk};
-ghost use Rattle.std.specs.List.{flat_map, filter_map};
-ghost use Rattle.sim_base.specs.Spelling.{section};
-ghost use Rattle.sim_bytes.specs.Telling.{Tells};
-ghost use Rattle.sim_codec.specs.Versions.{stances, sections_by, spelled_by};
+ghost use Rattle.std.specs.{List.flat_map, List.filter_map, Prelude.◌≡◌, Prelude.◌↔◌, Prelude.OnOk, Prelude.IsTrue};
+ghost use Rattle.sim_codec.specs.{Common.section, Common.Tells, Versions.sections_by, Versions.spelled_by, Versions.stances};
 
 use crate::part::PartForm;
 use crate::spelling::{tell_clock, tell_head};

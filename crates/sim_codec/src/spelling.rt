@@ -1,12 +1,8 @@
 //! The spelling of a state. It is told once, piece by piece, into a list, into a digest or into a comparison, so that
 //! the three cannot differ.
 
-ghost use Rattle.std.specs.Prelude.{◌≡◌, ◌<◌, ◌^◌, All, length, OnOk, IfOk, ◌++◌, codes};
-ghost use Rattle.sim_base.specs.Bytes.{u32_bytes, u64_bytes};
-ghost use Rattle.sim_base.specs.Spelling.{sections, spelling, digest as digest_of};
-ghost use Rattle.sim_bytes.specs.Telling.{Tells};
-ghost use Rattle.sim_sections.specs.Rows.{HasShortWay};
-ghost use Rattle.sim_sections.specs.Versions.{number_of};
+ghost use Rattle.std.specs.Prelude.{◌≡◌, ◌^◌, ◌<◌, ◌++◌, length, IfOk, OnOk, codes, All};
+ghost use Rattle.sim_codec.specs.Common.{digest as digest_of, HasShortWay, number_of, sections, spelling, Tells, u32_bytes, u64_bytes};
 
 use sim_base::{OutOfMemory, Row, Setup, State};
 use sim_bytes::{ByteSink, Digesting, tell_u32, tell_u64};

@@ -1,14 +1,9 @@
 //! A state that still stands in its bytes. Its rows are taken one after the other as often as they are wanted, and no
 //! memory with them.
 
-ghost use Rattle.std.specs.Prelude.{◌≡◌, ◌↔◌, [], ◌∷◌, ◌≤◌, IsTrue, length, map, is_some, None, Some, MatchOption, MatchResult, option_map};
-ghost use Rattle.std.specs.List.{filter_map};
-ghost use Rattle.std.specs.List.Sorted.{IsStrictlyIncreasing};
-ghost use Rattle.sim_base.specs.Rows.{id_of};
-ghost use Rattle.sim_base.specs.Validity.{has_health};
-ghost use Rattle.sim_sections.specs.Walking.{row_of};
-ghost use Rattle.sim_codec.specs.Reading.{rows_at, state_at};
-ghost use Rattle.sim_codec.specs.Stored.{rows_in};
+ghost use Rattle.{sim_codec.specs.Stored.rows_in, std.specs.List.filter_map};
+ghost use Rattle.std.specs.Prelude.{◌≡◌, ◌≤◌, ◌↔◌, [], ◌∷◌, map, length, is_some, IsTrue, MatchOption, MatchResult, Some, None, option_map};
+ghost use Rattle.sim_codec.specs.{Common.has_health, Common.id_of, Common.IsStrictlyIncreasing, Common.row_of, Reading.rows_at, Reading.state_at};
 
 use crate::entities::{are_ascending, count, entities_in, is_living};
 use crate::part::PartForm;
@@ -26,10 +21,8 @@ pub struct StoredRows<'a> {
 }
 
 impl<'a> Model for StoredRows<'a> {
-    ghost use Rattle.std.specs.Prelude.{◌≡◌, List, true, is_some};
-    ghost use Rattle.sim_base.specs.declared.state.Row.{Row};
-    ghost use Rattle.sim_codec.specs.Reading.{rows_at};
-    ghost use Rattle.sim_codec.specs.Stored.{rows_in};
+    ghost use Rattle.std.specs.Prelude.{◌≡◌, true, List, is_some};
+    ghost use Rattle.sim_codec.specs.{Common.Row, Reading.rows_at, Stored.rows_in};
 
     ghost Value = { List Row };
 
@@ -146,8 +139,7 @@ pub struct Stored<'a> {
 
 impl<'a> Model for Stored<'a> {
     ghost use Rattle.std.specs.Prelude.{◌≤◌, length};
-    ghost use Rattle.sim_base.specs.declared.state.State.{State};
-    ghost use Rattle.sim_base.specs.Limits.{row_limit};
+    ghost use Rattle.sim_codec.specs.Common.{row_limit, State};
 
     ghost Value = { State };
 

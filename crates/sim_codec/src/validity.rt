@@ -1,11 +1,9 @@
 //! The test of a state: whether all holds of it that holds between two turns of its match. It takes no memory, and goes
 //! over the rows once but for the look-ups of targets.
 
-ghost use Rattle.std.specs.Prelude.{◌≡◌, ◌^◌, ◌≤◌, ◌<◌, ◌↔◌, IsTrue, ◌≤ℤ◌, pos, All, map};
-ghost use Rattle.std.specs.List.Sorted.{IsStrictlyIncreasing};
-ghost use Rattle.sim_base.specs.Places.{is_within};
-ghost use Rattle.sim_base.specs.Rows.{id_of};
-ghost use Rattle.sim_base.specs.Validity.{IsInside, has_health, IsValidMotion, Both, IsValidAim, IsValidRow, IsKnownRow, IsValid};
+ghost use Rattle.std.specs.Prelude.{◌≡◌, ◌^◌, ◌<◌, ◌≤◌, ◌↔◌, map, pos, ◌≤ℤ◌, IsTrue, All};
+ghost use Rattle.sim_codec.specs.Common.{Both, has_health, id_of, is_within, IsInside, IsKnownRow, IsStrictlyIncreasing, IsValid, IsValidAim, IsValidMotion};
+ghost use Rattle.sim_codec.specs.Common.{IsValidRow};
 
 use crate::look_up::place_of;
 use sim_base::{

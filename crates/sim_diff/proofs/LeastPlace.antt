@@ -1,20 +1,10 @@
 -- What the definition answers is the least place over every entity and part, and there is one least place at most.
-use Rattle.std.proofs.Common.{◌≡◌, ◌≢◌, ℕ, ◌<◌, Bool, true, false, cond, List, [], ◌∷◌, map, filter, Option, Some, None, refl, sym, ap, ◌∙◌, ◌⊎◌, inl, inr, arith, find, option_and_then}
-use Rattle.std.specs.Prelude.{◌==◌}
-use Rattle.std.proofs.lemmas.Bool.{true≢false, cases_eq, cases_order, lt-ltb, le-ltb, eq-eqb, ne_eqb, eqb-true}
-use Rattle.std.proofs.lemmas.Option.{none-some}
-use Rattle.sim_base.specs.declared.state.Row.{Row}
-use Rattle.sim_base.specs.declared.state.State.{State}
-use Rattle.sim_base.specs.Least.{is_before}
-use Rattle.sim_base.specs.Rows.{id_of, row_of}
-use Rattle.sim_laws.proofs.Members.{Has, Has-append_left, Has-append_right, Has-map, Has-of_map, Has-flat_map, Has-of_flat_map}
-use Rattle.sim_laws.proofs.LeastMember.{least_of-some, least_of-has}
-use Rattle.sim_codec.specs.declared.bits.Part.{Part}
-use Rattle.sim_codec.specs.declared.bits.Part.TheVariants.{Clock, Entity, Position, Owner, Health, Motion, Attack, Stance}
-use Rattle.sim_codec.specs.Bits.{bits, row_bits}
-use Rattle.sim_diff.specs.declared.place.Place.{Place}
-use Rattle.sim_diff.specs.Difference.{parts, number_of, place_at, is_different, entities, places, key_of, difference_of, IsBefore, IsLeastDifference, HaveSameBits}
-use Rattle.sim_diff.proofs.Parts.{different_not_same, not_different_same, number_of-one}
+use Rattle.sim_diff.proofs.{Common.true≢false, Common.◌∙◌, Parts.different_not_same, Parts.not_different_same, Parts.number_of-one}
+use Rattle.sim_diff.proofs.Common.{Has-append_left, Has-append_right, Has-flat_map, Has-map, Has-of_flat_map, Has-of_map, HaveSameBits, Health, id_of, inl, inr}
+use Rattle.sim_diff.proofs.Common.{is_before, is_different, IsBefore, IsLeastDifference, key_of, le-ltb, least_of-has, least_of-some, lt-ltb, Motion, ne_eqb}
+use Rattle.sim_diff.proofs.Common.{none-some, number_of, Owner, Part, parts, Place, place_at, places, Position, Row, row_bits, row_of, Stance, State, sym}
+use Rattle.sim_diff.proofs.Common.{refl, ap, arith, Attack, bits, cases_eq, cases_order, Clock, difference_of, entities, Entity, eq-eqb, eqb-true, Has}
+use Rattle.sim_diff.proofs.Common.{◌≡◌, ℕ, ◌<◌, Bool, true, false, cond, ◌≢◌, ◌⊎◌, List, [], ◌∷◌, map, ◌==◌, Some, None, filter, find, Option, option_and_then}
 
 -- ---- members
 
@@ -51,7 +41,8 @@ Has-found : (rows : List Row) (entity : ℕ) (row : Row) → find (λ (row : Row
 Has-found [] entity row found = absurd (none-some row found)
 Has-found (r ∷ rs) entity row found = by (r.id == entity) refl found (Has-found rs entity row)
   where
-    by : (b : Bool) → (r.id == entity) ≡ b → cond b (Some r) (find (λ (row : Row). row.id == entity) rs) ≡ Some row → (find (λ (row : Row). row.id == entity) rs ≡ Some row → Has (map id_of rs) entity) → Has (map id_of (r ∷ rs)) entity
+    by : (b : Bool) → (r.id == entity) ≡ b → cond b (Some r) (find (λ (row : Row). row.id == entity) rs) ≡ Some row
+        → (find (λ (row : Row). row.id == entity) rs ≡ Some row → Has (map id_of rs) entity) → Has (map id_of (r ∷ rs)) entity
     by true e f rest = inl (eqb-true r.id entity e)
     by false e f rest = inr (rest f)
 
@@ -63,17 +54,21 @@ Has-entity : (left right : State) (entity : ℕ) (part : Part) → bits left ent
 Has-entity left right entity part differs = by_clock (cases_eq entity 1)
   where
     by_rows : (entity ≡ 1 → ⊥) → (l r : Option Row) → row_of left entity ≡ l → row_of right entity ≡ r → Has (entities left right) entity
-    by_rows not_clock (Some row) r in_left in_right = inr (Has-append_left (map id_of left.rows) (map id_of right.rows) entity (Has-found left.rows entity row in_left))
-    by_rows not_clock None (Some row) in_left in_right = inr (Has-append_right (map id_of left.rows) (map id_of right.rows) entity (Has-found right.rows entity row in_right))
+    by_rows not_clock (Some row) r in_left in_right =
+        inr (Has-append_left (map id_of left.rows) (map id_of right.rows) entity (Has-found left.rows entity row in_left))
+    by_rows not_clock None (Some row) in_left in_right =
+        inr (Has-append_right (map id_of left.rows) (map id_of right.rows) entity (Has-found right.rows entity row in_right))
     by_rows not_clock None None in_left in_right =
-        absurd (differs (bits-row left entity part not_clock ∙ ap (option_and_then (row_bits part)) (in_left ∙ sym in_right) ∙ sym (bits-row right entity part not_clock)))
+        absurd (differs (bits-row left entity part not_clock ∙ ap (option_and_then (row_bits part)) (in_left ∙ sym in_right) ∙
+        sym (bits-row right entity part not_clock)))
 
     by_clock : (entity ≡ 1) ⊎ (entity ≡ 1 → ⊥) → Has (entities left right) entity
     by_clock (inl clock) = inl (sym clock)
     by_clock (inr not_clock) = by_rows not_clock (row_of left entity) (row_of right entity) refl refl
 
 -- a place that is different is among those of which the least is taken
-Has-place : (left right : State) (entity : ℕ) (part : Part) → is_different (place_at left right entity part) ≡ true → Has (filter is_different (places left right)) (place_at left right entity part)
+Has-place : (left right : State) (entity : ℕ) (part : Part) → is_different (place_at left right entity part) ≡ true
+    → Has (filter is_different (places left right)) (place_at left right entity part)
 Has-place left right entity part differs =
     let here = Has-entity left right entity part (different_not_same (place_at left right entity part) differs) in
     let there = Has-map (place_at left right entity) parts part (Has-parts part) in
@@ -102,10 +97,12 @@ difference_of-some left right place is =
       least = λ e p before. alike e p before l.least (is_different (place_at left right e p)) refl;
     }
   where
-    alike : (e : ℕ) (p : Part) → IsBefore e p place → ((y : Place) → Has (filter is_different (places left right)) y → is_before (key_of y) (key_of place) ≡ false) → (b : Bool) → is_different (place_at left right e p) ≡ b → bits left e p ≡ bits right e p
+    alike : (e : ℕ) (p : Part) → IsBefore e p place → ((y : Place) → Has (filter is_different (places left right)) y → is_before (key_of y) (key_of place) ≡
+        false) → (b : Bool) → is_different (place_at left right e p) ≡ b → bits left e p ≡ bits right e p
     alike e p before least false same = not_different_same (place_at left right e p) same
     alike e p before least true differs =
-        absurd (true≢false (sym (before_keys e (number_of p) place.entity (number_of place.part) before) ∙ least (place_at left right e p) (Has-place left right e p differs)))
+        absurd (true≢false (sym (before_keys e (number_of p) place.entity (number_of place.part) before) ∙ least (place_at left right e p)
+        (Has-place left right e p differs)))
 
 pub difference_of-none : (left right : State) → difference_of left right ≡ None → HaveSameBits left right
 unfolding difference_of
@@ -114,7 +111,8 @@ difference_of-none left right is = λ entity part. by entity part (is_different 
     by : (entity : ℕ) (part : Part) (b : Bool) → is_different (place_at left right entity part) ≡ b → bits left entity part ≡ bits right entity part
     by entity part false same = not_different_same (place_at left right entity part) same
     by entity part true differs =
-        let (r, some, least) = least_of-has key_of (filter is_different (places left right)) (place_at left right entity part) (Has-place left right entity part differs) in
+        let (r, some, least) = least_of-has key_of (filter is_different (places left right)) (place_at left right entity part)
+        (Has-place left right entity part differs) in
         absurd (none-some r (sym is ∙ some))
 
 -- ---- and there is one at most
@@ -131,14 +129,16 @@ one_least : (left right : State) (p q : Place) → IsLeastDifference left right 
 one_least left right p q one other =
     let entities_same : p.entity ≡ q.entity = by_entity (cases_order p.entity q.entity) in
     let parts_same : p.part ≡ q.part = number_of-one p.part q.part (by_part entities_same (cases_order (number_of p.part) (number_of q.part))) in
-    is_place_at left right p one ∙ ap (λ e. place_at left right e p.part) entities_same ∙ ap (place_at left right q.entity) parts_same ∙ sym (is_place_at left right q other)
+    is_place_at left right p one ∙ ap (λ e. place_at left right e p.part) entities_same ∙ ap (place_at left right q.entity) parts_same ∙
+    sym (is_place_at left right q other)
   where
     by_entity : (p.entity ≡ q.entity) ⊎ ((p.entity < q.entity) ⊎ (q.entity < p.entity)) → p.entity ≡ q.entity
     by_entity (inl same) = same
     by_entity (inr (inl less)) = absurd (not_before left right p q one other (inl less))
     by_entity (inr (inr more)) = absurd (not_before left right q p other one (inl more))
 
-    by_part : p.entity ≡ q.entity → (number_of p.part ≡ number_of q.part) ⊎ ((number_of p.part < number_of q.part) ⊎ (number_of q.part < number_of p.part)) → number_of p.part ≡ number_of q.part
+    by_part : p.entity ≡ q.entity → (number_of p.part ≡ number_of q.part) ⊎ ((number_of p.part < number_of q.part) ⊎ (number_of q.part < number_of p.part))
+        → number_of p.part ≡ number_of q.part
     by_part at (inl same) = same
     by_part at (inr (inl less)) = absurd (not_before left right p q one other (inr (at, less)))
     by_part at (inr (inr more)) = absurd (not_before left right q p other one (inr (sym at, more)))

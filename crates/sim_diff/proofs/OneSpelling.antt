@@ -1,25 +1,12 @@
 -- Two states that have the same bytes of every part of every entity have one spelling: their rows have the same ids, and so each section the same rows.
-use Rattle.std.proofs.Common.{◌≡◌, ℕ, ◌<◌, ◌≤◌, List, [], ◌∷◌, ◌++◌, length, map, Option, Some, None, refl, sym, ap, ◌∙◌, ◌⊎◌, inl, inr, arith, option_and_then, flat_map, filter_map, find}
-use Rattle.std.specs.Prelude.{◌==◌, option_map}
-use Rattle.std.specs.List.{cons_option}
-use Rattle.std.proofs.lemmas.Bool.{cases_eq, cases_lt, cases_order, eq-eqb, ne_eqb}
-use Rattle.std.proofs.lemmas.List.{length-map}
-use Rattle.std.proofs.lemmas.Option.{same_Some, none-some}
-use Rattle.sim_base.specs.declared.setup.Setup.{Setup}
-use Rattle.sim_base.specs.declared.state.Row.{Row}
-use Rattle.sim_base.specs.declared.state.State.{State}
-use Rattle.sim_base.specs.Bytes.{u32_bytes}
-use Rattle.sim_base.specs.Spelling.{section, sections, rows_with, spelling, clock_bytes, entity_part, entity_bytes, position_part, position_bytes, owner_part, owner_bytes, health_part, health_bytes, motion_part, moving_bytes, attack_part, attack_bytes, stance_part, stance_bytes}
-use Rattle.sim_base.specs.Limits.{IsSetup}
-use Rattle.sim_base.specs.Validity.{IsValid}
-use Rattle.sim_sections.specs.Rows.{with_id}
-use Rattle.sim_codec.specs.declared.bits.Part.{Part}
-use Rattle.sim_codec.specs.declared.bits.Part.TheVariants.{Clock, Entity, Position, Owner, Health, Motion, Attack, Stance}
-use Rattle.sim_codec.specs.Bits.{bits, row_bits}
-use Rattle.sim_codec.proofs.Standing.{one_state}
-use Rattle.sim_diff.specs.Difference.{difference_of, HaveSameBits}
+use Rattle.sim_diff.proofs.Common.{clock_bytes, cons_option, difference_of, Entity, entity_bytes, entity_part, eq-eqb, HaveSameBits, Health, health_bytes}
+use Rattle.sim_diff.proofs.Common.{health_part, inl, inr, IsSetup, IsValid, length-map, Motion, motion_part, moving_bytes, ne_eqb, none-some, one_state, Owner}
+use Rattle.sim_diff.proofs.Common.{option_and_then, refl, ap, arith, Attack, attack_bytes, attack_part, bits, cases_eq, cases_lt, cases_order, Clock}
+use Rattle.sim_diff.proofs.Common.{owner_bytes, owner_part, Part, Position, position_bytes, position_part, Row, row_bits, rows_with, same_Some, section}
+use Rattle.sim_diff.proofs.Common.{sections, Setup, spelling, Stance, stance_bytes, stance_part, State, sym, u32_bytes, with_id, ◌∙◌}
+use Rattle.sim_diff.proofs.Common.{◌≡◌, ℕ, ◌<◌, ◌≤◌, ◌⊎◌, List, [], ◌∷◌, ◌++◌, map, length, ◌==◌, Some, None, find, flat_map, filter_map, Option, option_map}
 use Rattle.sim_diff.proofs.LeastPlace.{bits-row, same-difference_of}
-use Rattle.sim_diff.proofs.Rising.{Above, Rising, Lacks, above_each, rising, above-lacks, lacks-none}
+use Rattle.sim_diff.proofs.Rising.{Above, above-lacks, above_each, Lacks, lacks-none, Rising, rising}
 
 -- ---- the rows
 
@@ -57,7 +44,8 @@ same_rows part [] (y ∷ ys) l r same = absurd (not_missing y ys [] (λ id p. sy
 same_rows part (x ∷ xs) [] l r same = absurd (not_missing x xs [] same tt)
 same_rows part (x ∷ xs) (y ∷ ys) l r same = by (cases_order x.id y.id) (λ e. same_rows part xs ys l.1 r.1 (rest_same x y xs ys e l r same))
   where
-    by : (x.id ≡ y.id) ⊎ ((x.id < y.id) ⊎ (y.id < x.id)) → (x.id ≡ y.id → filter_map (row_bits part) xs ≡ filter_map (row_bits part) ys) → filter_map (row_bits part) (x ∷ xs) ≡ filter_map (row_bits part) (y ∷ ys)
+    by : (x.id ≡ y.id) ⊎ ((x.id < y.id) ⊎ (y.id < x.id)) → (x.id ≡ y.id → filter_map (row_bits part) xs ≡ filter_map (row_bits part) ys)
+        → filter_map (row_bits part) (x ∷ xs) ≡ filter_map (row_bits part) (y ∷ ys)
     by (inl e) rest =
         let first : row_bits part x ≡ row_bits part y = sym (bits_in-first x xs x.id part refl) ∙ same x.id part ∙ bits_in-first y ys x.id part (sym e) in
         ap (λ (o : Option (List ℕ)). cons_option o (filter_map (row_bits part) xs)) first ∙ ap (cons_option (row_bits part y)) (rest e)
@@ -74,7 +62,8 @@ map-filter_map : {X Y Z : Type 0} (f : Y → Z) (h : X → Option Y) (xs : List 
 map-filter_map f h [] = refl
 map-filter_map {X = X} {Y = Y} {Z = Z} f h (x ∷ xs) = by (h x) (map-filter_map f h xs)
   where
-    by : (o : Option Y) → map f (filter_map h xs) ≡ filter_map (λ x. option_map f (h x)) xs → map f (cons_option o (filter_map h xs)) ≡ cons_option (option_map f o) (filter_map (λ x. option_map f (h x)) xs)
+    by : (o : Option Y) → map f (filter_map h xs) ≡ filter_map (λ x. option_map f (h x)) xs → map f (cons_option o (filter_map h xs)) ≡ cons_option
+        (option_map f o) (filter_map (λ x. option_map f (h x)) xs)
     by None rest = rest
     by (Some y) rest = ap (λ zs. f y ∷ zs) rest
 
@@ -82,16 +71,19 @@ flat_map-map : {X : Type 0} (f : X → List ℕ) (xs : List X) → flat_map f xs
 flat_map-map f [] = refl
 flat_map-map f (x ∷ xs) = ap (λ (more : List ℕ). f x ++ more) (flat_map-map f xs)
 
-section-told : {X : Type 0} (tag : ℕ) (spelled : ℕ × X → List ℕ) (part : Row → Option X) (rows : List Row) → section tag spelled (rows_with part rows) ≡ told tag (filter_map (λ row. option_map spelled (with_id part row)) rows)
+section-told : {X : Type 0} (tag : ℕ) (spelled : ℕ × X → List ℕ) (part : Row → Option X) (rows : List Row) → section tag spelled (rows_with part rows) ≡
+    told tag (filter_map (λ row. option_map spelled (with_id part row)) rows)
 unfolding told
 section-told tag spelled part rows =
-    let each : map spelled (rows_with part rows) ≡ filter_map (λ row. option_map spelled (with_id part row)) rows = map-filter_map spelled (with_id part) rows in
+    let each : map spelled (rows_with part rows) ≡ filter_map (λ row. option_map spelled (with_id part row)) rows =
+    map-filter_map spelled (with_id part) rows in
     let count = ap length (sym each) ∙ length-map (rows_with part rows) spelled in
     let bytes = flat_map-map spelled (rows_with part rows) ∙ ap (flat_map (λ (row : List ℕ). row)) each in
     rw (count, bytes) refl
 
 section_same : {X : Type 0} (tag : ℕ) (spelled : ℕ × X → List ℕ) (part : Row → Option X) (xs ys : List Row)
-    → filter_map (λ row. option_map spelled (with_id part row)) xs ≡ filter_map (λ row. option_map spelled (with_id part row)) ys → section tag spelled (rows_with part xs) ≡ section tag spelled (rows_with part ys)
+    → filter_map (λ row. option_map spelled (with_id part row)) xs ≡ filter_map (λ row. option_map spelled (with_id part row)) ys
+    → section tag spelled (rows_with part xs) ≡ section tag spelled (rows_with part ys)
 section_same tag spelled part xs ys same = section-told tag spelled part xs ∙ ap (told tag) same ∙ sym (section-told tag spelled part ys)
 
 joined : {a b c d : List ℕ} → a ≡ b → c ≡ d → a ++ c ≡ b ++ d
@@ -121,15 +113,19 @@ rows_have_same setup left right l r same id part = by (cases_eq id 1)
         ∙ sym (bits_in-lacks right.rows id part (above-lacks 1 id right.rows (omega arith) (above_first setup right r)))
     by (inr other) = sym (bits-row left id part other) ∙ same id part ∙ bits-row right id part other
 
-pub same_bits-spelling : (setup : Setup) (left right : State) → IsValid setup left → IsValid setup right → HaveSameBits left right → spelling setup left ≡ spelling setup right
+pub same_bits-spelling : (setup : Setup) (left right : State) → IsValid setup left → IsValid setup right → HaveSameBits left right
+    → spelling setup left ≡ spelling setup right
 same_bits-spelling setup left right l r same =
     let clocks : clock_bytes left ≡ clock_bytes right = same_Some _ _ (same 1 Clock) in
     let rows = rows_have_same setup left right l r same in
-    let all = sections_same left.rows right.rows (λ part. same_rows part left.rows right.rows (rising left.rows l.ascending) (rising right.rows r.ascending) rows) in
+    let all = sections_same left.rows right.rows (λ part. same_rows part left.rows right.rows (rising left.rows l.ascending) (rising right.rows r.ascending)
+    rows) in
     rw (clocks, all) refl
 
-pub spelling-same : (setup : Setup) (left right : State) → IsSetup setup → IsValid setup left → IsValid setup right → spelling setup left ≡ spelling setup right → left ≡ right
-spelling-same setup left right is l r same = one_state setup (spelling setup left) left right is (record { valid = l; spelled = inl refl }) (record { valid = r; spelled = inl same })
+pub spelling-same : (setup : Setup) (left right : State) → IsSetup setup → IsValid setup left → IsValid setup right → spelling setup left ≡ spelling setup right
+    → left ≡ right
+spelling-same setup left right is l r same = one_state setup (spelling setup left) left right is (record { valid = l; spelled = inl refl })
+    (record { valid = r; spelled = inl same })
 
 pub same-no_difference : (left right : State) → left ≡ right → difference_of left right ≡ None
 same-no_difference left right same = sym (same-difference_of left right (λ id part. ap (λ state. bits state id part) same))

@@ -1,17 +1,8 @@
 -- The first part of one entity that differs: all parts before it are the same, and where there is none, all are.
-use Rattle.std.proofs.Common.{◌≡◌, ◌≢◌, ℕ, ◌+◌, ◌<◌, ◌≤◌, Bool, true, false, cond, List, [], ◌∷◌, map, get_or, Option, Some, None, refl, sym, ap, subst, ◌∙◌, ⊎_elim, ◌⊎◌, arith, find}
-use Rattle.std.specs.Bool.{Decides}
-use Rattle.std.specs.Option.{option_eq}
-use Rattle.std.specs.Str.{bytes_eq}
-use Rattle.std.proofs.lemmas.Option.{same_Some, none-some}
-use Rattle.std.proofs.lemmas.Bool.{true≢false, not-true, not-false}
-use Rattle.std.proofs.lemmas.Slice.Eq.{bytes_eq-Decides}
-use Rattle.sim_base.specs.declared.state.State.{State}
-use Rattle.sim_codec.specs.declared.bits.Part.{Part}
-use Rattle.sim_codec.specs.declared.bits.Part.TheVariants.{Clock, Entity, Position, Owner, Health, Motion, Attack, Stance}
-use Rattle.sim_codec.specs.Bits.{bits}
-use Rattle.sim_diff.specs.declared.place.Place.{Place}
-use Rattle.sim_diff.specs.Difference.{parts, number_of, place_at, is_different, difference_in}
+use Rattle.sim_diff.proofs.Common.{Option, refl, ap, arith, Attack, bits, bytes_eq-Decides, Clock, difference_in, Entity, Health, is_different, Motion}
+use Rattle.sim_diff.proofs.Common.{State, subst, sym, true≢false, ⊎_elim, ◌∙◌}
+use Rattle.sim_diff.proofs.Common.{none-some, not-false, not-true, number_of, option_eq, Owner, Part, parts, Place, place_at, Position, same_Some, Stance}
+use Rattle.sim_diff.proofs.Common.{◌≡◌, ℕ, ◌+◌, ◌<◌, ◌≤◌, Bool, true, false, cond, ◌≢◌, ◌⊎◌, List, [], ◌∷◌, map, get_or, Some, None, bytes_eq, Decides, find}
 
 -- ---- the test
 
@@ -74,14 +65,17 @@ module _ (left right : State) (entity : ℕ) where
   Finds n (Some place) = IsFirst n place
 
   one_more : (n : ℕ) (p : Part) (rest : Option Place) → number_of p ≡ n → bits left entity p ≡ bits right entity p → Finds (n + 1) rest → Finds n rest
-  one_more n p None is here more = λ part from. ⊎_elim (λ (e : number_of p ≡ number_of part). ap (bits left entity) (sym (number_of-one p part e)) ∙ here ∙ ap (bits right entity) (number_of-one p part e)) (λ (up : n + 1 ≤ number_of part). more part up) (here_or_more (number_of p) n (number_of part) is from)
+  one_more n p None is here more = λ part from. ⊎_elim (λ (e : number_of p ≡ number_of part). ap (bits left entity) (sym (number_of-one p part e)) ∙ here ∙
+      ap (bits right entity) (number_of-one p part e)) (λ (up : n + 1 ≤ number_of part). more part up) (here_or_more (number_of p) n (number_of part) is from)
     where
       here_or_more : (a n j : ℕ) → a ≡ n → n ≤ j → (a ≡ j) ⊎ (n + 1 ≤ j)
       here_or_more a n j e f = grind arith
   one_more n p (Some place) is here more = record {
     is = more.is;
     different = more.different;
-    before = λ part from below. ⊎_elim (λ (e : number_of p ≡ number_of part). ap (bits left entity) (sym (number_of-one p part e)) ∙ here ∙ ap (bits right entity) (number_of-one p part e)) (λ (up : n + 1 ≤ number_of part). more.before part up below) (here_or_more (number_of p) n (number_of part) is from);
+    before = λ part from below. ⊎_elim (λ (e : number_of p ≡ number_of part). ap (bits left entity) (sym (number_of-one p part e)) ∙ here ∙
+        ap (bits right entity) (number_of-one p part e)) (λ (up : n + 1 ≤ number_of part). more.before part up below)
+        (here_or_more (number_of p) n (number_of part) is from);
   }
     where
       here_or_more : (a n j : ℕ) → a ≡ n → n ≤ j → (a ≡ j) ⊎ (n + 1 ≤ j)
@@ -120,4 +114,14 @@ module _ (left right : State) (entity : ℕ) where
 
   pub same-no_first : ((part : Part) → bits left entity part ≡ bits right entity part) → None ≡ difference_in left right entity
   same-no_first same =
-      rw (alike Clock (same Clock), alike Entity (same Entity), alike Position (same Position), alike Owner (same Owner), alike Health (same Health), alike Motion (same Motion), alike Attack (same Attack), alike Stance (same Stance)) refl
+      rw (
+        alike Clock (same Clock),
+        alike Entity (same Entity),
+        alike Position (same Position),
+        alike Owner (same Owner),
+        alike Health (same Health),
+        alike
+            Motion (same Motion),
+        alike Attack (same Attack),
+        alike Stance (same Stance),
+      ) refl

@@ -1,11 +1,6 @@
 -- Rows whose ids rise, and ids that no row has, by recursion on the rows.
-use Rattle.std.proofs.Common.{◌≡◌, ℕ, suc, ◌<◌, ◌≤◌, List, [], ◌∷◌, length, get_or, map, None, arith, refl}
-use Rattle.std.specs.Prelude.{◌==◌, find}
-use Rattle.std.specs.List.Sorted.{IsStrictlyIncreasing}
-use Rattle.std.proofs.lemmas.Bool.{ne_eqb}
-use Rattle.sim_base.specs.declared.state.Row.{Row}
-use Rattle.sim_base.specs.Rows.{id_of}
-use Rattle.sim_codec.proofs.Places.{ids_rise}
+use Rattle.sim_diff.proofs.Common.{IsStrictlyIncreasing, ne_eqb, Row}
+use Rattle.sim_diff.proofs.Common.{◌≡◌, ℕ, suc, ◌<◌, ◌≤◌, List, [], ◌∷◌, map, length, get_or, ◌==◌, None, find, refl, arith, id_of, ids_rise}
 
 -- each row has an id above n
 abbrev pub Above : ℕ → List Row → Type 0

@@ -1,19 +1,8 @@
 -- A step of the walk: what is behind the next entity, and that all that was passed is the same.
-use Rattle.std.proofs.Common.{◌≡◌, ℕ, ◌+◌, ◌<◌, ◌≤◌, min, Bool, true, false, cond, List, [], ◌∷◌, length, Some, None, refl, sym, ap, ◌∙◌, ◌⊎◌, inl, inr, arith, option_and_then}
-use Rattle.std.specs.Prelude.{◌==◌}
-use Rattle.std.proofs.lemmas.Bool.{cases_eq, cases_lt, eqb-true, eq-eqb, ne_eqb}
-use Rattle.std.proofs.lemmas.Option.{same_Some, none-some}
-use Rattle.sim_base.specs.declared.state.Row.{Row}
-use Rattle.sim_base.specs.declared.state.State.{State}
-use Rattle.sim_base.specs.Rows.{row_of}
-use Rattle.sim_codec.specs.declared.bits.Part.{Part}
-use Rattle.sim_codec.specs.Bits.{bits, row_bits}
-use Rattle.sim_diff.specs.declared.place.Place.{Place}
-use Rattle.sim_diff.specs.Difference.{IsBefore, IsLeastDifference, HaveSameBits}
-use Rattle.sim_diff.specs.Merge.{next_id, rows_behind, HaveSameFirst, AreRowsOf}
-use Rattle.sim_diff.proofs.Parts.{IsFirst}
-use Rattle.sim_diff.proofs.LeastPlace.{bits-row}
-use Rattle.sim_diff.proofs.Rising.{Rising, Lacks, above-lacks, lacks-none}
+use Rattle.sim_diff.proofs.{LeastPlace.bits-row, Parts.IsFirst, Rising.above-lacks, Rising.Lacks, Rising.lacks-none, Rising.Rising}
+use Rattle.sim_diff.proofs.Common.{AreRowsOf, arith, bits, cases_eq, cases_lt, eq-eqb, eqb-true, HaveSameBits, HaveSameFirst, inl, inr, IsBefore}
+use Rattle.sim_diff.proofs.Common.{IsLeastDifference, ne_eqb, next_id, none-some, Part, Place, Row, row_bits, row_of, rows_behind, same_Some, State, sym, ◌∙◌}
+use Rattle.sim_diff.proofs.Common.{◌≡◌, ℕ, ◌+◌, ◌<◌, ◌≤◌, min, Bool, true, false, cond, ◌⊎◌, List, [], ◌∷◌, length, ◌==◌, Some, None, option_and_then, refl, ap}
 
 -- ---- what is behind an entity
 
@@ -47,7 +36,8 @@ length_behind_first entity row rows e = rw (eq-eqb row.id entity e) (omega arith
 -- ---- the next entity
 
 -- some row goes
-pub fewer_behind : (lefts rights : List Row) (entity : ℕ) → next_id lefts rights ≡ Some entity → length (rows_behind entity lefts) + length (rows_behind entity rights) < length lefts + length rights
+pub fewer_behind : (lefts rights : List Row) (entity : ℕ) → next_id lefts rights ≡ Some entity → length (rows_behind entity lefts) +
+    length (rows_behind entity rights) < length lefts + length rights
 fewer_behind [] [] entity next = absurd (none-some entity next)
 fewer_behind (x ∷ xs) [] entity next = omega (arith, length_behind_first entity x xs (same_Some _ _ next))
 fewer_behind [] (y ∷ ys) entity next = omega (arith, length_behind_first entity y ys (same_Some _ _ next))
@@ -64,7 +54,8 @@ lacks_above : (row : Row) (rows : List Row) (entity id : ℕ) → Rising (row �
 lacks_above row rows entity id up from below = (λ e. omega arith, above-lacks row.id id rows (omega arith) up.0)
 
 -- neither list has an id below it
-none_below : (lefts rights : List Row) (entity id : ℕ) → next_id lefts rights ≡ Some entity → Rising lefts → Rising rights → id < entity → Lacks lefts id × Lacks rights id
+none_below : (lefts rights : List Row) (entity id : ℕ) → next_id lefts rights ≡ Some entity → Rising lefts → Rising rights → id < entity → Lacks lefts id
+    × Lacks rights id
 none_below [] [] entity id next l r below = absurd (none-some entity next)
 none_below (x ∷ xs) [] entity id next l r below = (lacks_above x xs entity id l (omega (arith, same_Some _ _ next)) below, tt)
 none_below [] (y ∷ ys) entity id next l r below = (tt, lacks_above y ys entity id r (omega (arith, same_Some _ _ next)) below)
@@ -78,28 +69,33 @@ none_below (x ∷ xs) (y ∷ ys) entity id next l r below =
 abbrev pub IsSameElsewhere : State → State → List Row → List Row → Type 0
 IsSameElsewhere left right lefts rights = (id : ℕ) → Lacks lefts id → Lacks rights id → (part : Part) → bits left id part ≡ bits right id part
 
-pub same_behind : (left right : State) (lefts rights : List Row) (entity : ℕ) → IsSameElsewhere left right lefts rights → ((part : Part) → bits left entity part ≡ bits right entity part) → IsSameElsewhere left right (rows_behind entity lefts) (rows_behind entity rights)
+pub same_behind : (left right : State) (lefts rights : List Row) (entity : ℕ) → IsSameElsewhere left right lefts rights
+    → ((part : Part) → bits left entity part ≡ bits right entity part) → IsSameElsewhere left right (rows_behind entity lefts) (rows_behind entity rights)
 same_behind left right lefts rights entity elsewhere here id in_left in_right part = by (cases_eq id entity)
   where
     by : (id ≡ entity) ⊎ (id ≡ entity → ⊥) → bits left id part ≡ bits right id part
     by (inl same) = rw same (here part)
     by (inr other) = elsewhere id (lacks_behind entity id lefts other in_left) (lacks_behind entity id rights other in_right) part
 
-pub same_at_first : (left right : State) → ((id : ℕ) → id < 2 → (part : Part) → bits left id part ≡ bits right id part) → IsSameElsewhere left right left.rows right.rows
+pub same_at_first : (left right : State) → ((id : ℕ) → id < 2 → (part : Part) → bits left id part ≡ bits right id part)
+    → IsSameElsewhere left right left.rows right.rows
 same_at_first left right first id in_left in_right part = by (cases_eq id 1)
   where
     by : (id ≡ 1) ⊎ (id ≡ 1 → ⊥) → bits left id part ≡ bits right id part
     by (inl clock) = first id (omega arith) part
-    by (inr other) = bits-row left id part other ∙ ap (option_and_then (row_bits part)) (lacks-none left.rows id in_left ∙ sym (lacks-none right.rows id in_right)) ∙ sym (bits-row right id part other)
+    by (inr other) = bits-row left id part other ∙ ap (option_and_then (row_bits part)) (lacks-none left.rows id in_left ∙
+        sym (lacks-none right.rows id in_right)) ∙ sym (bits-row right id part other)
 
-pub same_at_last : (left right : State) (lefts rights : List Row) → next_id lefts rights ≡ None → IsSameElsewhere left right lefts rights → HaveSameBits left right
+pub same_at_last : (left right : State) (lefts rights : List Row) → next_id lefts rights ≡ None → IsSameElsewhere left right lefts rights
+    → HaveSameBits left right
 same_at_last left right [] [] next elsewhere = λ id part. elsewhere id tt tt part
 same_at_last left right (x ∷ xs) [] next elsewhere = absurd (none-some x.id (sym next))
 same_at_last left right [] (y ∷ ys) next elsewhere = absurd (none-some y.id (sym next))
 same_at_last left right (x ∷ xs) (y ∷ ys) next elsewhere = absurd (none-some (min x.id y.id) (sym next))
 
 -- the first part that differs of an entity before which all is the same is the least difference
-pub first_is_least : (left right : State) (entity : ℕ) (place : Place) → IsFirst left right entity 0 place → ((id : ℕ) → id < entity → (part : Part) → bits left id part ≡ bits right id part) → IsLeastDifference left right place
+pub first_is_least : (left right : State) (entity : ℕ) (place : Place) → IsFirst left right entity 0 place
+    → ((id : ℕ) → id < entity → (part : Part) → bits left id part ≡ bits right id part) → IsLeastDifference left right place
 first_is_least left right entity place first below = record {
   in_left = ap (λ (p : Place). p.left) first.is ∙ sym (ap (λ e. bits left e place.part) at);
   in_right = ap (λ (p : Place). p.right) first.is ∙ sym (ap (λ e. bits right e place.part) at);
@@ -117,7 +113,8 @@ first_is_least left right entity place first below = record {
         rw here (first.before part (omega arith) before)
 
 -- one entity more that is the same
-pub same_more : (left right : State) (entity : ℕ) → ((id : ℕ) → id < entity → (part : Part) → bits left id part ≡ bits right id part) → ((part : Part) → bits left entity part ≡ bits right entity part) → (id : ℕ) → id < entity + 1 → (part : Part) → bits left id part ≡ bits right id part
+pub same_more : (left right : State) (entity : ℕ) → ((id : ℕ) → id < entity → (part : Part) → bits left id part ≡ bits right id part)
+    → ((part : Part) → bits left entity part ≡ bits right entity part) → (id : ℕ) → id < entity + 1 → (part : Part) → bits left id part ≡ bits right id part
 same_more left right entity below here id lt part = by (cases_eq id entity)
   where
     by : (id ≡ entity) ⊎ (id ≡ entity → ⊥) → bits left id part ≡ bits right id part
@@ -125,7 +122,8 @@ same_more left right entity below here id lt part = by (cases_eq id entity)
     by (inr other) = below id (omega arith) part
 
 -- all entities below the next one are the same
-pub same_below : (left right : State) (lefts rights : List Row) (entity : ℕ) → next_id lefts rights ≡ Some entity → Rising lefts → Rising rights → IsSameElsewhere left right lefts rights → (id : ℕ) → id < entity → (part : Part) → bits left id part ≡ bits right id part
+pub same_below : (left right : State) (lefts rights : List Row) (entity : ℕ) → next_id lefts rights ≡ Some entity → Rising lefts → Rising rights
+    → IsSameElsewhere left right lefts rights → (id : ℕ) → id < entity → (part : Part) → bits left id part ≡ bits right id part
 same_below left right lefts rights entity next l r elsewhere id below part =
     let lacks = none_below lefts rights entity id next l r below in
     elsewhere id lacks.0 lacks.1 part
@@ -151,12 +149,14 @@ rows_of_behind state entity (row ∷ rows) up are = by (row.id == entity)
     by false = are
 
 -- of an entity of which both lists begin with the same row all is the same
-pub same_first-bits : (left right : State) (lefts rights : List Row) (entity : ℕ) → 1 < entity → AreRowsOf left lefts → AreRowsOf right rights → next_id lefts rights ≡ Some entity → HaveSameFirst lefts rights
+pub same_first-bits : (left right : State) (lefts rights : List Row) (entity : ℕ) → 1 < entity → AreRowsOf left lefts → AreRowsOf right rights
+    → next_id lefts rights ≡ Some entity → HaveSameFirst lefts rights
     → (part : Part) → bits left entity part ≡ bits right entity part
 same_first-bits left right [] rights entity above l r next same part = absurd same
 same_first-bits left right (x ∷ xs) [] entity above l r next same part = absurd same
 same_first-bits left right (x ∷ xs) (y ∷ ys) entity above l r next same part =
-    bits-row left entity part (λ e. omega arith) ∙ ap (option_and_then (row_bits part)) (in_left ∙ sym in_right) ∙ sym (bits-row right entity part (λ e. omega arith))
+    bits-row left entity part (λ e. omega arith) ∙ ap (option_and_then (row_bits part)) (in_left ∙ sym in_right) ∙
+    sym (bits-row right entity part (λ e. omega arith))
   where
     least : min x.id y.id ≡ entity
     least = same_Some _ _ next

@@ -1,14 +1,8 @@
 -- Where two states differ: the least entity and part of which they have not the same bytes.
-use Rattle.std.specs.Prelude.{◌≡◌, ◌≢◌, ℕ, ◌<◌, ◌⊎◌, Bool, not, List, [], ◌∷◌, ◌++◌, map, flat_map, filter, find, Option}
-use Rattle.std.specs.Option.{option_eq}
-use Rattle.std.specs.Str.{bytes_eq}
-use Rattle.sim_base.specs.declared.state.State.{State}
-use Rattle.sim_base.specs.Least.{least_of}
-use Rattle.sim_base.specs.Rows.{id_of}
-use Rattle.sim_codec.specs.declared.bits.Part.{Part}
-use Rattle.sim_codec.specs.declared.bits.Part.TheVariants.{Clock, Entity, Position, Owner, Health, Motion, Attack, Stance}
-use Rattle.sim_codec.specs.Bits.{bits}
-use Rattle.sim_diff.specs.declared.place.Place.{Place}
+use Rattle.{sim_base.specs.Least.least_of, sim_base.specs.Rows.id_of, sim_base.specs.declared.state.State.State, sim_diff.specs.declared.place.Place.Place}
+use Rattle.{sim_codec.specs.Bits.bits, sim_codec.specs.declared.bits.Part.Part, std.specs.Option.option_eq, std.specs.Str.bytes_eq}
+use Rattle.std.specs.Prelude.{◌≡◌, ℕ, ◌<◌, Bool, not, ◌≢◌, ◌⊎◌, List, [], ◌∷◌, ◌++◌, map, filter, find, flat_map, Option}
+use Rattle.sim_codec.specs.declared.bits.Part.TheVariants.{Attack, Clock, Entity, Health, Motion, Owner, Position, Stance}
 
 -- the parts in their order
 abbrev pub parts : List Part

@@ -1,9 +1,7 @@
 -- A step of the walk over the rows of two states: the entity that comes next, the rows behind it, and whether both lists
 -- begin with one row.
-use Rattle.std.specs.Prelude.{◌≡◌, ℕ, min, ◌==◌, if◌then◌else◌, List, [], ◌∷◌, find, Option, Some, None}
-use Rattle.sim_base.specs.declared.state.Row.{Row}
-use Rattle.sim_base.specs.declared.state.State.{State}
-use Rattle.sim_base.specs.Rows.{row_of}
+use Rattle.std.specs.Prelude.{◌≡◌, ℕ, min, List, [], ◌∷◌, if◌then◌else◌, ◌==◌, Some, None, find, Option}
+use Rattle.sim_base.specs.{Rows.row_of, declared.state.Row.Row, declared.state.State.State}
 
 -- the lesser of the first ids
 abbrev pub next_id : List Row → List Row → Option ℕ

@@ -1,13 +1,8 @@
 //! Theorems about the definition of a difference, each the contract of a function that does nothing.
 
 ghost use Rattle.std.specs.Prelude.{◌≡◌, ◌↔◌, Some, None};
-ghost use Rattle.sim_base.specs.declared.setup.Setup.{Setup};
-ghost use Rattle.sim_base.specs.declared.state.State.{State};
-ghost use Rattle.sim_base.specs.Limits.{IsSetup};
-ghost use Rattle.sim_base.specs.Spelling.{spelling};
-ghost use Rattle.sim_base.specs.Validity.{IsValid};
-ghost use Rattle.sim_diff.specs.declared.place.Place.{Place};
-ghost use Rattle.sim_diff.specs.Difference.{difference_of, IsLeastDifference, HaveSameBits};
+ghost use Rattle.sim_base.specs.{Limits.IsSetup, Spelling.spelling, Validity.IsValid, declared.setup.Setup.Setup, declared.state.State.State};
+ghost use Rattle.sim_diff.specs.{Difference.difference_of, Difference.HaveSameBits, Difference.IsLeastDifference, declared.place.Place.Place};
 
 /// What the definition answers is the least place over every number and every part, and the only one. It answers none
 /// exactly where the bytes of every part of every number are the same.
@@ -19,6 +14,8 @@ pub fn the_difference_is_least()
 /// Two states that are valid in one match have no difference exactly where they have one spelling, and exactly where
 /// they are the same state.
 pub fn no_difference_is_one_spelling()
-    ensures spelling { (setup : Setup) (left right : State) → IsSetup setup → IsValid setup left → IsValid setup right → (difference_of left right ≡ None) ↔ (spelling setup left ≡ spelling setup right) }
-    ensures state { (setup : Setup) (left right : State) → IsSetup setup → IsValid setup left → IsValid setup right → (difference_of left right ≡ None) ↔ (left ≡ right) }
+    ensures spelling { (setup : Setup) (left right : State) → IsSetup setup → IsValid setup left → IsValid setup right → (difference_of left right ≡ None)
+        ↔ (spelling setup left ≡ spelling setup right) }
+    ensures state { (setup : Setup) (left right : State) → IsSetup setup → IsValid setup left → IsValid setup right → (difference_of left right ≡ None)
+        ↔ (left ≡ right) }
 {}

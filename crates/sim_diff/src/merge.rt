@@ -1,11 +1,9 @@
 //! The walk over the entities of two states: one pass over both lists of rows, which ascend by id.
 
-ghost use Rattle.std.specs.Prelude.{◌≡◌, ◌↔◌, All, map, Some, IsNone, IfSome};
-ghost use Rattle.std.specs.List.Sorted.{IsStrictlyIncreasing};
+ghost use Rattle.{sim_diff.specs.Merge.AreRowsOf, sim_diff.specs.Merge.next_id, sim_diff.specs.Merge.rows_behind, sim_sections.specs.Rows.HasShortWay};
+ghost use Rattle.std.specs.{List.Sorted.IsStrictlyIncreasing, Prelude.◌≡◌, Prelude.◌↔◌, Prelude.map, Prelude.IfSome, Prelude.IsNone, Prelude.Some, Prelude.All};
 ghost use Rattle.sim_base.specs.Rows.{id_of};
-ghost use Rattle.sim_sections.specs.Rows.{HasShortWay};
-ghost use Rattle.sim_diff.specs.Difference.{difference_in, difference_of, IsLeastDifference, HaveSameBits};
-ghost use Rattle.sim_diff.specs.Merge.{next_id, rows_behind, AreRowsOf};
+ghost use Rattle.sim_diff.specs.Difference.{difference_in, difference_of, HaveSameBits, IsLeastDifference};
 
 use crate::place::{Place, first_difference};
 use crate::same::have_same_first;

@@ -1,11 +1,9 @@
 //! A part of an entity in two states, and the first part of one entity that differs. It stands apart from the walk over
 //! the entities, which knows nothing of parts.
 
-ghost use Rattle.std.specs.Prelude.{◌≡◌, All, map};
-ghost use Rattle.std.specs.List.Sorted.{IsStrictlyIncreasing};
-ghost use Rattle.sim_base.specs.Rows.{id_of};
-ghost use Rattle.sim_sections.specs.Rows.{HasShortWay};
-ghost use Rattle.sim_diff.specs.Difference.{place_at, is_different as is_different_place, difference_in};
+ghost use Rattle.{sim_base.specs.Rows.id_of, sim_sections.specs.Rows.HasShortWay};
+ghost use Rattle.std.specs.{List.Sorted.IsStrictlyIncreasing, Prelude.◌≡◌, Prelude.map, Prelude.All};
+ghost use Rattle.sim_diff.specs.Difference.{difference_in, is_different as is_different_place, place_at};
 
 use sim_base::State;
 use sim_codec::{Bits, Part, bits_of};

@@ -59,7 +59,8 @@ fn has_same_attack(left: Option<Aim>, right: Option<Aim>) -> bool
 
 // Whether all that a row says but its motion is the same.
 fn has_same_place(left: &Row, right: &Row) -> bool
-    ensures { IsTrue result ↔ ((left.now.id ≡ right.now.id) × (left.now.template ≡ right.now.template) × (left.now.at ≡ right.now.at) × (left.now.owner ≡ right.now.owner)) }
+    ensures { IsTrue result ↔ ((left.now.id ≡ right.now.id) × (left.now.template ≡ right.now.template) × (left.now.at ≡ right.now.at)
+        × (left.now.owner ≡ right.now.owner)) }
 {
     left.id == right.id
         && left.template == right.template

@@ -1,8 +1,6 @@
 -- Calls that are made again: what one more call adds to them.
-use Rattle.std.proofs.Common.{◌≡◌, ℕ, zero, suc, ◌+◌, ◌-◌, ◌<◌, sym, subst, arith, inl, inr}
-use Rattle.std.specs.Prelude.{Result}
-use Rattle.std.specs.declared.io.Error.{Error}
-use Rattle.sim_edge.specs.Again.{IsInterrupted, AnswersIn}
+use Rattle.{sim_edge.specs.Again.AnswersIn, sim_edge.specs.Again.IsInterrupted, std.specs.Prelude.Result, std.specs.declared.io.Error.Error}
+use Rattle.std.proofs.Common.{◌≡◌, ℕ, zero, suc, ◌+◌, ◌-◌, ◌<◌, arith, inl, inr, subst, sym}
 
 -- a call that was not interrupted is the last
 pub AnswersIn-last : {S T : Type 0} (call : S → Result T Error → S → Type 0) (tries : ℕ) (old : S) (answer : Result T Error) (new : S)

@@ -1,16 +1,10 @@
 -- What the edge answers and counts, by what the system answered.
-use Rattle.std.specs.Prelude.{◌≡◌, ◌≢◌, ℕ, ◌<◌, Bool, true, false, List, length, Option, Some, None, Result, Ok, Err, IsOk, IsErr, ⊤}
-use Rattle.std.specs.IoError.{error_kind}
-use Rattle.std.specs.declared.io.Error.{Error}
-use Rattle.std.specs.declared.io.ErrorKind.{ErrorKind}
-use Rattle.std.specs.declared.io.ErrorKind.TheVariants.{NotFound, OutOfMemory}
-use Rattle.sim_store.specs.Counts.{after_miss, after_read_fault, after_write_fault}
-use Rattle.sim_store.specs.declared.counts.Counts.{Counts}
-use Rattle.sim_store.specs.declared.fault.Failed.{Failed}
-use Rattle.sim_store.specs.declared.fault.ShelfFault.{ShelfFault}
+use Rattle.{sim_store.specs.Counts.after_miss, sim_store.specs.Counts.after_read_fault, sim_store.specs.Counts.after_write_fault, std.specs.IoError.error_kind}
+use Rattle.std.specs.Prelude.{◌≡◌, ℕ, ◌<◌, Bool, true, false, ◌≢◌, List, length, IsOk, IsErr, ⊤, Some, None, Ok, Err, Option, Result}
+use Rattle.std.specs.declared.io.{Error.Error, ErrorKind.ErrorKind, ErrorKind.TheVariants.NotFound, ErrorKind.TheVariants.OutOfMemory}
+use Rattle.sim_edge.specs.{Again.AnswersIn, Again.read_call, Again.write_call, declared.again.TheConstants.TRIES}
+use Rattle.sim_store.specs.declared.{counts.Counts.Counts, fault.Failed.Failed, fault.ShelfFault.ShelfFault}
 use Rattle.sim_store.specs.declared.fault.ShelfFault.TheVariants as fault
-use Rattle.sim_edge.specs.Again.{AnswersIn, read_call, write_call}
-use Rattle.sim_edge.specs.declared.again.TheConstants.{TRIES}
 
 -- ---- opening
 

@@ -1,22 +1,10 @@
 -- What a run has done, by its words and by what the shelf holds, the sink was told and both have counted, before it and after.
-use Rattle.std.specs.Prelude.{◌≡◌, ℕ, List, [], Some, None, IfSome}
-use Rattle.std.specs.Io.KnownBytes.{Appends}
-use Rattle.sim_report.specs.Lines.{usage_text}
-use Rattle.sim_store.specs.Files.{File}
-use Rattle.sim_top.specs.Answers.{Scene, Meets, Causes, MayEnd, IsUsageTold, KeepsAllBut, IsSilent}
-use Rattle.sim_top.specs.Given.{GaveForWords}
-use Rattle.sim_top.specs.Films.{OfFilm, Film}
-use Rattle.sim_top.specs.Headline.{Headline}
-use Rattle.sim_top.specs.Hosting.{OfSession}
-use Rattle.sim_top.specs.Logs.{TellsLogs}
-use Rattle.sim_top.specs.Parts.{OfParts, PartsTold}
-use Rattle.sim_top.specs.Readiness.{IsReady, IsFaultless, IsFinal}
-use Rattle.sim_top.specs.Reads.{LacksMatch, HasEnded, IsUnfound}
-use Rattle.sim_top.specs.Sights.{TellsSights}
-use Rattle.sim_top.specs.Stocks.{OfStock, Balances}
-use Rattle.sim_top.specs.Territories.{OfRealm, Territories}
-use Rattle.sim_top.specs.Words.{asked_by, out_of}
-use Rattle.sim_top.specs.declared.status.Status.{Status}
+use Rattle.{sim_report.specs.Lines.usage_text, sim_store.specs.Files.File, sim_top.specs.Logs.TellsLogs}
+use Rattle.std.specs.{Io.KnownBytes.Appends, Prelude.◌≡◌, Prelude.ℕ, Prelude.List, Prelude.[], Prelude.IfSome, Prelude.Some, Prelude.None}
+use Rattle.sim_top.specs.{Films.Film, Films.OfFilm, Headline.Headline, Hosting.OfSession, Words.asked_by, Words.out_of, declared.status.Status.Status}
+use Rattle.sim_top.specs.{Given.GaveForWords, Readiness.IsFaultless, Readiness.IsFinal, Readiness.IsReady, Reads.HasEnded, Reads.IsUnfound, Reads.LacksMatch}
+use Rattle.sim_top.specs.{Parts.OfParts, Parts.PartsTold, Sights.TellsSights, Stocks.Balances, Stocks.OfStock, Territories.OfRealm, Territories.Territories}
+use Rattle.sim_top.specs.Answers.{Causes, IsSilent, IsUsageTold, KeepsAllBut, MayEnd, Meets, Scene}
 
 -- a run of the words ended so: the clauses of the top call, but those of its rigs
 pub record Ran (words : List (List ℕ)) (before now : Scene) (status : Status) : Type 0 where

@@ -1,9 +1,7 @@
 //! One read and one write. A signal may interrupt either before it has moved anything; then it is made again.
 
-ghost use Rattle.std.specs.Prelude.{◌↔◌, IsTrue};
-ghost use Rattle.std.specs.Io.{ReadsAtMost, WritesAtMost};
-ghost use Rattle.std.specs.Io.KnownBytes.{ReadConsumes, WriteAppends};
-ghost use Rattle.sim_edge.specs.Again.{IsInterrupted, AnswersIn, read_call, write_call};
+ghost use Rattle.std.specs.{Io.ReadsAtMost, Io.WritesAtMost, Io.KnownBytes.ReadConsumes, Io.KnownBytes.WriteAppends, Prelude.◌↔◌, Prelude.IsTrue};
+ghost use Rattle.sim_edge.specs.Again.{AnswersIn, IsInterrupted, read_call, write_call};
 
 use crate::device::{Readable, Writable};
 use std::io;

@@ -1,10 +1,8 @@
 //! What bytes are read from and written to. Std's traits say which bytes a call moves, and not which answer it gives. These two
 //! also name the answer, so that a function over them is held to what it was answered.
 
+ghost use Rattle.std.specs.{Io.ReadsAtMost, Io.WritesAtMost, Io.KnownBytes.ReadConsumes, Io.KnownBytes.WriteAppends, declared.io.Error.Error};
 ghost use Rattle.std.specs.Prelude.{ℕ, List, Option, Result};
-ghost use Rattle.std.specs.Io.{ReadsAtMost, WritesAtMost};
-ghost use Rattle.std.specs.Io.KnownBytes.{ReadConsumes, WriteAppends};
-ghost use Rattle.std.specs.declared.io.Error.{Error};
 
 use std::io;
 use std::io::{Read, Write};

@@ -1,10 +1,7 @@
 //! What an error of the system is called, and what is counted for it.
 
-ghost use Rattle.std.specs.Prelude.{◌≡◌, ℕ, List, Option};
-ghost use Rattle.std.specs.Io.{WritesAtMost};
-ghost use Rattle.std.specs.Io.KnownBytes.{WriteAppends};
-ghost use Rattle.sim_store.specs.Pieces.{TakesSome};
-ghost use Rattle.sim_edge.specs.Answers.{Unopened, Unmade, WrittenAs};
+ghost use Rattle.{sim_edge.specs.Answers.Unmade, sim_edge.specs.Answers.Unopened, sim_edge.specs.Answers.WrittenAs, sim_store.specs.Pieces.TakesSome};
+ghost use Rattle.std.specs.{Io.WritesAtMost, Io.KnownBytes.WriteAppends, Prelude.ℕ, Prelude.List, Prelude.Option};
 
 use sim_store::{Counts, Failed, ShelfFault};
 use std::io;

@@ -1,10 +1,8 @@
 //! A rig more for a run. Whoever runs the program makes the boxes of its systems in his own body, since a function may hand out
 //! none that it makes.
 
-ghost use Rattle.std.specs.Prelude.{◌≡◌, ◌+◌, All, OnOk, length};
-ghost use Rattle.sim_client.specs.StageWords.{AreCleared};
-ghost use Rattle.sim_system.specs.Meanings.{HaveKinds};
-ghost use Rattle.sim_system.specs.RigWords.{systems_of};
+ghost use Rattle.{sim_client.specs.StageWords.AreCleared, sim_system.specs.Meanings.HaveKinds, sim_system.specs.RigWords.systems_of};
+ghost use Rattle.std.specs.Prelude.{◌≡◌, ◌+◌, length, OnOk, All};
 
 use sim_base::OutOfMemory;
 use sim_system::{Rig, System};

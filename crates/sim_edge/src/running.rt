@@ -1,13 +1,9 @@
 //! The run with a handler for each kind of command and of deed, over any shelf and any sink. The program calls it with the real ones, and
 //! the tests with those in memory.
 
-ghost use Rattle.std.specs.Prelude.{◌≡◌, All, IfOk, OnErr, length};
-ghost use Rattle.sim_client.specs.StageWords.{AreCleared};
-ghost use Rattle.sim_orders.specs.Orders.{kind_of, IsGiven, Obeys};
-ghost use Rattle.sim_system.specs.Meanings.{HaveKinds};
-ghost use Rattle.sim_system.specs.RigWords.{systems_of};
-ghost use Rattle.sim_top.specs.Answers.{scene};
-ghost use Rattle.sim_top.specs.Words.{words_of};
+ghost use Rattle.{sim_client.specs.StageWords.AreCleared, sim_orders.specs.Orders.IsGiven, sim_orders.specs.Orders.kind_of, sim_orders.specs.Orders.Obeys};
+ghost use Rattle.{sim_system.specs.Meanings.HaveKinds, sim_system.specs.RigWords.systems_of, sim_top.specs.Answers.scene, sim_top.specs.Words.words_of};
+ghost use Rattle.std.specs.Prelude.{◌≡◌, length, IfOk, OnErr, All};
 ghost use Rattle.sim_edge.specs.Run.{Ran};
 
 use crate::deeds::{bartered, tributed};

@@ -2,13 +2,10 @@
 //! answers to each call has a name, and so have the bytes that a file has left and those that it holds. The shelf is held to
 //! these: it asks for the file that it was asked for, hands on what the system answers, and reads and writes each byte once.
 
-ghost use Rattle.std.specs.Prelude.{◌≡◌, ℕ, List, Option, [], None, IsOk, IsTrue, OnOk, is_ok, is_some};
-ghost use Rattle.std.specs.Io.{ReadsAtMost};
-ghost use Rattle.std.specs.Io.KnownBytes.{IsAtEnd, ReadConsumes, WriteAppends};
-ghost use Rattle.sim_store.specs.Pieces.{TakesSome};
-ghost use Rattle.sim_store.specs.Shelf.{opens, OpenCounts, ReadCounts, MakeCounts, WriteCounts};
-ghost use Rattle.sim_edge.specs.Answers.{Opens, Reads, Makes, WritesMade, Closes};
-ghost use Rattle.sim_edge.specs.Known.{known_of};
+ghost use Rattle.std.specs.Io.{ReadsAtMost, KnownBytes.IsAtEnd, KnownBytes.ReadConsumes, KnownBytes.WriteAppends};
+ghost use Rattle.std.specs.Prelude.{◌≡◌, [], is_some, is_ok, OnOk, IsOk, IsTrue, None, Option};
+ghost use Rattle.sim_edge.specs.{Answers.Closes, Answers.Makes, Answers.Opens, Answers.Reads, Answers.WritesMade, Known.known_of};
+ghost use Rattle.sim_store.specs.{Pieces.TakesSome, Shelf.MakeCounts, Shelf.OpenCounts, Shelf.opens, Shelf.ReadCounts, Shelf.WriteCounts};
 
 use crate::again::read_again;
 use crate::faults::{not_made, not_opened};

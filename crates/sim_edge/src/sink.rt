@@ -1,9 +1,6 @@
 //! The sink of a writer, be it standard output or another, and a count of what failed.
 
-ghost use Rattle.std.specs.Io.KnownBytes.{WriteAppends};
-ghost use Rattle.sim_store.specs.Pieces.{TakesSome};
-ghost use Rattle.sim_store.specs.Sink.{SinkCounts};
-ghost use Rattle.sim_edge.specs.Answers.{Writes};
+ghost use Rattle.{sim_edge.specs.Answers.Writes, sim_store.specs.Pieces.TakesSome, sim_store.specs.Sink.SinkCounts, std.specs.Io.KnownBytes.WriteAppends};
 
 use crate::again::write_again;
 use crate::device::Writable;

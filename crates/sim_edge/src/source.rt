@@ -1,10 +1,6 @@
 //! The input of a reader, be it standard input or another, and a count of what failed.
 
-ghost use Rattle.std.specs.Prelude.{◌≡◌};
-ghost use Rattle.std.specs.Io.{ReadsAtMost};
-ghost use Rattle.std.specs.Io.KnownBytes.{ReadConsumes};
-ghost use Rattle.sim_store.specs.Sink.{SinkCounts};
-ghost use Rattle.sim_edge.specs.Answers.{ReadsOnce};
+ghost use Rattle.{sim_edge.specs.Answers.ReadsOnce, sim_store.specs.Sink.SinkCounts, std.specs.Io.ReadsAtMost, std.specs.Io.KnownBytes.ReadConsumes};
 
 use crate::again::read_again;
 use crate::device::Readable;

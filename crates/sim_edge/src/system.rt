@@ -1,9 +1,7 @@
 //! The files of a system, by their paths. They are a trait, so that the shelf over them is proved for every system, and tried over
 //! one in memory that interrupts, cuts short and refuses.
 
-ghost use Rattle.std.specs.Prelude.{ℕ, List, IfOk, Result};
-ghost use Rattle.std.specs.Io.KnownBytes.{IsAtEnd};
-ghost use Rattle.std.specs.declared.io.Error.{Error};
+ghost use Rattle.std.specs.{Io.KnownBytes.IsAtEnd, Prelude.ℕ, Prelude.List, Prelude.IfOk, Prelude.Result, declared.io.Error.Error};
 
 use crate::device::{Readable, Writable};
 use std::fs::File;

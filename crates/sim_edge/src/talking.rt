@@ -1,12 +1,8 @@
 //! A talk with a planner for each kind of command, over any shelf and any talk, and the number that the process then ends with.
 
-ghost use Rattle.std.specs.Prelude.{◌≡◌, All, IfOk, IfSome, OnErr, length};
-ghost use Rattle.sim_client.specs.StageWords.{AreCleared};
-ghost use Rattle.sim_system.specs.Meanings.{HaveKinds};
-ghost use Rattle.sim_system.specs.RigWords.{systems_of};
-ghost use Rattle.sim_talk_top.specs.Talked.{TalksOf, IsTalk};
-ghost use Rattle.sim_talk_top.specs.Words.{talk_of};
-ghost use Rattle.sim_edge.specs.Process.{talk_number_of};
+ghost use Rattle.{sim_client.specs.StageWords.AreCleared, sim_system.specs.Meanings.HaveKinds, sim_system.specs.RigWords.systems_of};
+ghost use Rattle.{sim_edge.specs.Process.talk_number_of, sim_talk_top.specs.Talked.IsTalk, sim_talk_top.specs.Talked.TalksOf, sim_talk_top.specs.Words.talk_of};
+ghost use Rattle.std.specs.Prelude.{◌≡◌, length, IfSome, IfOk, OnErr, All};
 
 use crate::running::planned;
 use sim_base::OutOfMemory;
@@ -44,7 +40,8 @@ pub fn talk_with<S: Shelf, T: Talk>(
     requires kinds { All (λ r. HaveKinds (systems_of r ⟦<dyn System as System>⟧)) rigs.items }
     requires cleared { All (λ r. AreCleared (systems_of r ⟦<dyn System as System>⟧)) rigs.items }
     requires limits { IsTalk (talk_of asked) }
-    ensures talked { IfOk result (λ ending. IfSome (S.held shelf.old) (λ files. TalksOf files (talk_of asked.entry) ending (T.passed other.old) (T.passed other.new))) }
+    ensures talked { IfOk result
+        (λ ending. IfSome (S.held shelf.old) (λ files. TalksOf files (talk_of asked.entry) ending (T.passed other.old) (T.passed other.new))) }
     ensures unbegun { OnErr result ((shelf.new ≡ shelf.old) × (other.new ≡ other.old)) }
 {
     let mut handlers = Vec::with_capacity(alloc, 7)?;

@@ -1,8 +1,7 @@
 //! What the process is handed and what it ends with: the words of its command line, and its number.
 
-ghost use Rattle.std.specs.Prelude.{◌≡◌, drop, IfOk, IsOk, IsErr};
-ghost use Rattle.std.specs.Vec.Iter.{into_iter_items};
-ghost use Rattle.sim_edge.specs.Process.{words_behind, IsUnread, IsNoText, number_of};
+ghost use Rattle.std.specs.{Prelude.◌≡◌, Prelude.drop, Prelude.IfOk, Prelude.IsOk, Prelude.IsErr, Vec.Iter.into_iter_items};
+ghost use Rattle.sim_edge.specs.Process.{IsNoText, IsUnread, number_of, words_behind};
 
 use sim_base::OutOfMemory;
 use sim_top::Status;

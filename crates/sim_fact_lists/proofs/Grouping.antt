@@ -1,19 +1,10 @@
 -- The groups that are kept are those of the facts, also after a note.
-use Rattle.std.proofs.Common.{◌≡◌, ℕ, zero, suc, ◌+◌, ◌<◌, ◌≤◌, Bool, true, false, cond, not, List, [], ◌∷◌, length, map, get_or, take, Option, Some, None, refl, sym, ap, ◌∙◌, subst, arith}
-use Rattle.std.specs.Prelude.{◌==◌, nat_lt, filter}
-use Rattle.std.proofs.lemmas.Bool.{eqb-true}
-use Rattle.sim_system.specs.declared.fact.Fact.{Fact}
-use Rattle.sim_system.specs.declared.kind.Kind.{Kind}
-use Rattle.sim_system.specs.Facts.{id_of_fact, kept, kept_of}
-use Rattle.std.specs.List.{cons_option}
-use Rattle.sim_fact_lists.proofs.OneFact.{kept_id}
-use Rattle.sim_system.specs.Notes.{fact_with, without, placed, with_kept}
-use Rattle.sim_fact_lists.specs.Places.{Ascend, with_only}
-use Rattle.sim_fact_lists.specs.declared.group.Group.{Group}
-use Rattle.sim_fact_lists.specs.Ids.{without_id, with_id}
-use Rattle.sim_fact_lists.specs.Groups.{listed, left_by, joined_by, keyed, AreGroups}
-use Rattle.sim_fact_lists.proofs.Rising.{Above as FactsAbove, Rising as FactsRising, Missing, rising as facts_rising, above_less, above_at, missing_above, missing_without, not_found, without_missing, found_id, rising_without}
-use Rattle.sim_fact_lists.proofs.Ids.{Above, with_first, with_behind}
+use Rattle.sim_fact_lists.proofs.{Common.without, Common.without_id, Common.◌∙◌, Ids.Above, Ids.with_behind, Ids.with_first}
+use Rattle.sim_fact_lists.proofs.{OneFact.kept_id, Rising.Rising as FactsRising, Rising.rising as facts_rising, Rising.rising_without, Rising.without_missing}
+use Rattle.sim_fact_lists.proofs.Common.{Some, None, filter, Option, refl, ap, AreGroups, arith, Ascend, cons_option, eqb-true, Fact, fact_with, Group}
+use Rattle.sim_fact_lists.proofs.Common.{id_of_fact, joined_by, kept, kept_of, keyed, Kind, left_by, listed, placed, subst, sym, with_id, with_kept, with_only}
+use Rattle.sim_fact_lists.proofs.Common.{◌≡◌, ℕ, zero, suc, ◌+◌, ◌<◌, ◌≤◌, Bool, true, false, cond, not, List, [], ◌∷◌, map, length, get_or, take, nat_lt, ◌==◌}
+use Rattle.sim_fact_lists.proofs.Rising.{Above as FactsAbove, above_at, above_less, found_id, Missing, missing_above, missing_without, not_found}
 
 -- by any key
 module _ (key : Fact → ℕ) where
@@ -21,7 +12,8 @@ module _ (key : Fact → ℕ) where
   keyed-cons : (t : ℕ) (f : Fact) (facts : List Fact) → keyed key t (f ∷ facts) ≡ cond (key f == t) (f.id ∷ keyed key t facts) (keyed key t facts)
   keyed-cons t f facts = by (key f == t)
     where
-      by : (c : Bool) → map id_of_fact (cond c (f ∷ filter (λ (g : Fact). key g == t) facts) (filter (λ (g : Fact). key g == t) facts)) ≡ cond c (f.id ∷ keyed key t facts) (keyed key t facts)
+      by : (c : Bool) → map id_of_fact (cond c (f ∷ filter (λ (g : Fact). key g == t) facts) (filter (λ (g : Fact). key g == t) facts)) ≡ cond c
+          (f.id ∷ keyed key t facts) (keyed key t facts)
       by true = refl
       by false = refl
 
@@ -40,32 +32,38 @@ module _ (key : Fact → ℕ) where
   keyed_without t id [] = refl
   keyed_without t id (f ∷ facts) = by (f.id == id) refl (keyed_without t id facts) ∙ sym (ap (without_id id) (keyed-cons t f facts))
     where
-      gone : (c : Bool) → (f.id == id) ≡ true → keyed key t (without id facts) ≡ without_id id (keyed key t facts) → keyed key t (without id facts) ≡ without_id id (cond c (f.id ∷ keyed key t facts) (keyed key t facts))
+      gone : (c : Bool) → (f.id == id) ≡ true → keyed key t (without id facts) ≡ without_id id (keyed key t facts) → keyed key t (without id facts) ≡
+          without_id id (cond c (f.id ∷ keyed key t facts) (keyed key t facts))
       gone true e rest = rw e rest
       gone false e rest = rest
 
       stays : (c : Bool) → (f.id == id) ≡ false → keyed key t (without id facts) ≡ without_id id (keyed key t facts) →
-          cond c (f.id ∷ keyed key t (without id facts)) (keyed key t (without id facts)) ≡ without_id id (cond c (f.id ∷ keyed key t facts) (keyed key t facts))
+          cond c (f.id ∷ keyed key t (without id facts)) (keyed key t (without id facts)) ≡ without_id id
+          (cond c (f.id ∷ keyed key t facts) (keyed key t facts))
       stays true e rest = rw e (ap (λ (xs : List ℕ). f.id ∷ xs) rest)
       stays false e rest = rest
 
       by : (b : Bool) → (f.id == id) ≡ b → keyed key t (without id facts) ≡ without_id id (keyed key t facts) →
-          keyed key t (cond (not b) (f ∷ without id facts) (without id facts)) ≡ without_id id (cond (key f == t) (f.id ∷ keyed key t facts) (keyed key t facts))
+          keyed key t (cond (not b) (f ∷ without id facts) (without id facts)) ≡ without_id id
+          (cond (key f == t) (f.id ∷ keyed key t facts) (keyed key t facts))
       by true e rest = gone (key f == t) e rest
       by false e rest = keyed-cons t f (without id facts) ∙ stays (key f == t) e rest
 
   -- it is in no group but that of its key
-  keyed_others : (t id : ℕ) (facts : List Fact) (f : Fact) → FactsRising facts → fact_with facts id ≡ Some f → (key f == t) ≡ false → keyed key t (without id facts) ≡ keyed key t facts
+  keyed_others : (t id : ℕ) (facts : List Fact) (f : Fact) → FactsRising facts → fact_with facts id ≡ Some f → (key f == t) ≡ false
+      → keyed key t (without id facts) ≡ keyed key t facts
   keyed_others t id [] f r found other = refl
   keyed_others t id (g ∷ facts) f r found other = by (g.id == id) refl found (keyed_others t id facts f r.1)
     where
-      by : (b : Bool) → (g.id == id) ≡ b → cond b (Some g) (fact_with facts id) ≡ Some f → (fact_with facts id ≡ Some f → (key f == t) ≡ false → keyed key t (without id facts) ≡ keyed key t facts) →
+      by : (b : Bool) → (g.id == id) ≡ b → cond b (Some g) (fact_with facts id) ≡ Some f
+          → (fact_with facts id ≡ Some f → (key f == t) ≡ false → keyed key t (without id facts) ≡ keyed key t facts) →
           keyed key t (cond (not b) (g ∷ without id facts) (without id facts)) ≡ keyed key t (g ∷ facts)
       by true e s rest =
           let same : g ≡ f = cc in
           let here : (key g == t) ≡ false = ap (λ (h : Fact). key h == t) same ∙ other in
           let above : FactsAbove id facts = subst (λ (n : ℕ). FactsAbove n facts) (eqb-true g.id id e) r.0 in
-          ap (keyed key t) (missing_without id facts (missing_above id facts above)) ∙ sym (keyed-cons t g facts ∙ ap (λ (c : Bool). cond c (g.id ∷ keyed key t facts) (keyed key t facts)) here)
+          ap (keyed key t) (missing_without id facts (missing_above id facts above)) ∙
+          sym (keyed-cons t g facts ∙ ap (λ (c : Bool). cond c (g.id ∷ keyed key t facts) (keyed key t facts)) here)
       by false e s rest = keyed-cons t g (without id facts) ∙ ap (λ (xs : List ℕ). cond (key g == t) (g.id ∷ xs) xs) (rest s other) ∙ sym (keyed-cons t g facts)
 
   left_is : (t id : ℕ) (facts : List Fact) → FactsRising facts → left_by key (fact_with facts id) t (keyed key t facts) ≡ keyed key t (without id facts)
@@ -84,16 +82,20 @@ module _ (key : Fact → ℕ) where
 
   -- ---- an entity comes
 
-  keyed_placed : (t : ℕ) (f : Fact) (facts : List Fact) → FactsRising facts → Missing f.id facts → keyed key t (placed f facts) ≡ cond (key f == t) (with_id f.id (keyed key t facts)) (keyed key t facts)
+  keyed_placed : (t : ℕ) (f : Fact) (facts : List Fact) → FactsRising facts → Missing f.id facts → keyed key t (placed f facts) ≡ cond (key f == t)
+      (with_id f.id (keyed key t facts)) (keyed key t facts)
   keyed_placed t f [] r m = keyed-cons t f []
   keyed_placed t f (g ∷ facts) r m = by (nat_lt f.id g.id) refl (keyed_placed t f facts r.1 m.1)
     where
-      first : nat_lt f.id g.id ≡ true → (c : Bool) → cond c (f.id ∷ keyed key t (g ∷ facts)) (keyed key t (g ∷ facts)) ≡ cond c (with_id f.id (keyed key t (g ∷ facts))) (keyed key t (g ∷ facts))
-      first e true = let lt : f.id < g.id = grind arith in sym (with_first f.id (keyed key t (g ∷ facts)) (keyed_above f.id t (g ∷ facts) (lt, above_less f.id g.id facts (omega (arith, lt)) r.0)))
+      first : nat_lt f.id g.id ≡ true → (c : Bool) → cond c (f.id ∷ keyed key t (g ∷ facts)) (keyed key t (g ∷ facts)) ≡ cond c
+          (with_id f.id (keyed key t (g ∷ facts))) (keyed key t (g ∷ facts))
+      first e true = let lt : f.id < g.id = grind arith in
+          sym (with_first f.id (keyed key t (g ∷ facts)) (keyed_above f.id t (g ∷ facts) (lt, above_less f.id g.id facts (omega (arith, lt)) r.0)))
       first e false = refl
 
       behind : g.id < f.id → (b c : Bool) → keyed key t (placed f facts) ≡ cond c (with_id f.id (keyed key t facts)) (keyed key t facts) →
-          cond b (g.id ∷ keyed key t (placed f facts)) (keyed key t (placed f facts)) ≡ cond c (with_id f.id (cond b (g.id ∷ keyed key t facts) (keyed key t facts))) (cond b (g.id ∷ keyed key t facts) (keyed key t facts))
+          cond b (g.id ∷ keyed key t (placed f facts)) (keyed key t (placed f facts)) ≡ cond c
+          (with_id f.id (cond b (g.id ∷ keyed key t facts) (keyed key t facts))) (cond b (g.id ∷ keyed key t facts) (keyed key t facts))
       behind lt true true e = ap (λ (xs : List ℕ). g.id ∷ xs) e ∙ sym (with_behind f.id g.id (keyed key t facts) lt)
       behind lt true false e = ap (λ (xs : List ℕ). g.id ∷ xs) e
       behind lt false true e = e
@@ -106,9 +108,11 @@ module _ (key : Fact → ℕ) where
           let le : g.id ≤ f.id = grind arith in
           let apart : g.id ≡ f.id → ⊥ = m.0 in
           let lt : g.id < f.id = omega (arith, le, apart) in
-          keyed-cons t g (placed f facts) ∙ behind lt (key g == t) (key f == t) rest ∙ sym (ap (λ (xs : List ℕ). cond (key f == t) (with_id f.id xs) xs) (keyed-cons t g facts))
+          keyed-cons t g (placed f facts) ∙ behind lt (key g == t) (key f == t) rest ∙
+          sym (ap (λ (xs : List ℕ). cond (key f == t) (with_id f.id xs) xs) (keyed-cons t g facts))
 
-  joined_is : (t id : ℕ) (o : Option Fact) (facts : List Fact) → ((f : Fact) → o ≡ Some f → f.id ≡ id) → FactsRising facts → Missing id facts → joined_by key o t (keyed key t facts) ≡ keyed key t (with_kept o facts)
+  joined_is : (t id : ℕ) (o : Option Fact) (facts : List Fact) → ((f : Fact) → o ≡ Some f → f.id ≡ id) → FactsRising facts → Missing id facts
+      → joined_by key o t (keyed key t facts) ≡ keyed key t (with_kept o facts)
   joined_is t id None facts named r m = refl
   joined_is t id (Some f) facts named r m = sym (keyed_placed t f facts r (subst (λ (n : ℕ). Missing n facts) (sym (named f refl)) m))
 
@@ -118,7 +122,8 @@ module _ (key : Fact → ℕ) where
       before ≡ fact_with facts id → ((f : Fact) → part ≡ Some f → f.id ≡ id) → with_only id part facts ≡ after →
       ((t : ℕ) → listed t mid ≡ left_by key before t (listed t old)) → ((t : ℕ) → listed t new ≡ joined_by key part t (listed t mid)) → AreGroups key after new
   relisted id before part facts after old mid new r are found named is left joined t =
-      joined t ∙ ap (joined_by key part t) (left t ∙ ap (left_by key before t) (are t) ∙ ap (λ (o : Option Fact). left_by key o t (keyed key t facts)) found ∙ left_is t id facts r)
+      joined t ∙ ap (joined_by key part t) (left t ∙ ap (left_by key before t) (are t) ∙ ap (λ (o : Option Fact). left_by key o t (keyed key t facts)) found ∙
+      left_is t id facts r)
       ∙ joined_is t id part (without id facts) named (rising_without id facts r) (without_missing id facts) ∙ ap (keyed key t) is
 
   -- ---- several entities, one after another
@@ -131,13 +136,17 @@ module _ (key : Fact → ℕ) where
       first : (o : Option Fact) → joined_by key o t [] ≡ keyed key t (cons_option o [])
       first None = refl
       first (Some h) = sym (keyed-cons t h [])
-  next_joined kind t (g ∷ facts) (suc k) d r lt = by (kept kind g) (kept kind (get_or facts k d)) (kept_id kind g) (kept_id kind (get_or facts k d)) (next_joined kind t facts k d r.1 (omega arith))
+  next_joined kind t (g ∷ facts) (suc k) d r lt = by (kept kind g) (kept kind (get_or facts k d)) (kept_id kind g) (kept_id kind (get_or facts k d))
+      (next_joined kind t facts k d r.1 (omega arith))
     where
       later : g.id < (get_or facts k d).id
       later = above_at g.id facts k d r.0 (omega arith)
 
-      on : (h f : Fact) → h.id < f.id → (b c : Bool) → cond c (with_id f.id (keyed key t (kept_of kind (take k facts)))) (keyed key t (kept_of kind (take k facts))) ≡ keyed key t (kept_of kind (take (suc k) facts)) →
-          cond c (with_id f.id (cond b (h.id ∷ keyed key t (kept_of kind (take k facts))) (keyed key t (kept_of kind (take k facts))))) (cond b (h.id ∷ keyed key t (kept_of kind (take k facts))) (keyed key t (kept_of kind (take k facts)))) ≡ cond b (h.id ∷ keyed key t (kept_of kind (take (suc k) facts))) (keyed key t (kept_of kind (take (suc k) facts)))
+      on : (h f : Fact) → h.id < f.id → (b c : Bool) → cond c (with_id f.id (keyed key t (kept_of kind (take k facts))))
+          (keyed key t (kept_of kind (take k facts))) ≡ keyed key t (kept_of kind (take (suc k) facts)) →
+          cond c (with_id f.id (cond b (h.id ∷ keyed key t (kept_of kind (take k facts))) (keyed key t (kept_of kind (take k facts)))))
+          (cond b (h.id ∷ keyed key t (kept_of kind (take k facts))) (keyed key t (kept_of kind (take k facts)))) ≡ cond b
+          (h.id ∷ keyed key t (kept_of kind (take (suc k) facts))) (keyed key t (kept_of kind (take (suc k) facts)))
       on h f less true true e = with_behind f.id h.id (keyed key t (kept_of kind (take k facts))) less ∙ ap (λ (zs : List ℕ). h.id ∷ zs) e
       on h f less true false e = ap (λ (zs : List ℕ). h.id ∷ zs) e
       on h f less false true e = e
@@ -147,13 +156,17 @@ module _ (key : Fact → ℕ) where
           joined_by key p t (keyed key t (kept_of kind (take k facts))) ≡ keyed key t (kept_of kind (take (suc k) facts)) →
           joined_by key p t (keyed key t (cons_option o (kept_of kind (take k facts)))) ≡ keyed key t (cons_option o (kept_of kind (take (suc k) facts)))
       by None p one other e = e
-      by (Some h) None one other e = keyed-cons t h (kept_of kind (take k facts)) ∙ ap (λ (zs : List ℕ). cond (key h == t) (h.id ∷ zs) zs) e ∙ sym (keyed-cons t h (kept_of kind (take (suc k) facts)))
+      by (Some h) None one other e = keyed-cons t h (kept_of kind (take k facts)) ∙ ap (λ (zs : List ℕ). cond (key h == t) (h.id ∷ zs) zs) e ∙
+          sym (keyed-cons t h (kept_of kind (take (suc k) facts)))
       by (Some h) (Some f) one other e =
-          ap (joined_by key (Some f) t) (keyed-cons t h (kept_of kind (take k facts))) ∙ on h f (omega (arith, one h refl, other f refl, later)) (key h == t) (key f == t) e ∙ sym (keyed-cons t h (kept_of kind (take (suc k) facts)))
+          ap (joined_by key (Some f) t) (keyed-cons t h (kept_of kind (take k facts))) ∙ on h f (omega (arith, one h refl, other f refl, later)) (key h == t)
+          (key f == t) e ∙ sym (keyed-cons t h (kept_of kind (take (suc k) facts)))
 
-  pub one_more_grouped : (kind : Kind) (facts : List Fact) (k : ℕ) (f : Fact) (old new : List Group) → Ascend facts → AreGroups key (kept_of kind (take k facts)) old → k < length facts → f ≡ get_or facts k f →
+  pub one_more_grouped : (kind : Kind) (facts : List Fact) (k : ℕ) (f : Fact) (old new : List Group) → Ascend facts
+      → AreGroups key (kept_of kind (take k facts)) old → k < length facts → f ≡ get_or facts k f →
       ((t : ℕ) → listed t new ≡ joined_by key (kept kind f) t (listed t old)) → AreGroups key (kept_of kind (take (k + 1) facts)) new
   one_more_grouped kind facts k f old new up are lt is joined t =
       let next : suc k ≡ k + 1 = omega arith in
       joined t ∙ ap (joined_by key (kept kind f) t) (are t)
-      ∙ ap (λ (g : Fact). joined_by key (kept kind g) t (keyed key t (kept_of kind (take k facts)))) is ∙ next_joined kind t facts k f (facts_rising facts up) lt ∙ ap (λ (n : ℕ). keyed key t (kept_of kind (take n facts))) next
+      ∙ ap (λ (g : Fact). joined_by key (kept kind g) t (keyed key t (kept_of kind (take k facts)))) is ∙ next_joined kind t facts k f (facts_rising facts up)
+      lt ∙ ap (λ (n : ℕ). keyed key t (kept_of kind (take n facts))) next

@@ -1,25 +1,11 @@
 -- The facts that a system holds stay such.
-use Rattle.std.proofs.Common.{◌≡◌, ℕ, ◌≤◌, Bool, true, false, cond, not, ℤ, List, [], ◌∷◌, length, Option, Some, None, refl, sym, ap, ◌∙◌, subst, arith, All}
-use Rattle.std.specs.Prelude.{Result, Ok, Err, OnOk, OnErr, IsTrue, IsSome, IfSome, MatchOption, ◌==◌, nat_lt}
-use Rattle.std.specs.List.{cons_option}
-use Rattle.std.proofs.lemmas.Bool.{cond_both}
-use Rattle.std.proofs.lemmas.List.Elements.{All-nil, All-cons, All-head, All-tail}
-use Rattle.sim_base.specs.declared.setup.Land.{Land}
-use Rattle.sim_base.specs.Places.{is_inside}
-use Rattle.sim_base.specs.Rows.{size_of}
-use Rattle.sim_base.specs.Limits.{IsLand, IsRawFrom}
-use Rattle.sim_system.specs.declared.fact.Fact.{Fact}
-use Rattle.sim_system.specs.declared.kind.Kind.{Kind}
-use Rattle.sim_system.specs.declared.kind.Kind.TheVariants.{Ground, Range, Watch, Census}
-use Rattle.sim_system.specs.declared.note.Note.{Note}
-use Rattle.sim_system.specs.declared.note.Note.TheVariants.{Born, Gone, Moved, Owned, Aimed}
-use Rattle.sim_system.specs.Facts.{origin, keeps, part_for, kept, kept_of}
-use Rattle.sim_system.specs.Ranges.{IsInRange, AreInRange}
-use Rattle.sim_system.specs.Notes.{fact_with, noted, placed, without, with_kept, with_changed, aim_of, NoteFits}
-use Rattle.sim_fact_lists.specs.Places.{Ascend, IsHeld, AreHeld, Holds, HoldsIfAny, with_only}
-use Rattle.sim_fact_lists.specs.Changes.{id_in, part_noted}
-use Rattle.sim_fact_lists.proofs.Rising.{rising, ascends, found_id}
-use Rattle.sim_fact_lists.proofs.OneFact.{rising_kept, noted_only, noted_is, part_named}
+use Rattle.sim_fact_lists.proofs.{OneFact.noted_is, OneFact.noted_only, OneFact.part_named, OneFact.rising_kept, Rising.ascends, Rising.found_id, Rising.rising}
+use Rattle.sim_fact_lists.proofs.Common.{AreHeld, AreInRange, arith, Ascend, Born, Census, cond_both, cons_option, Fact, fact_with, Gone, Ground, Holds}
+use Rattle.sim_fact_lists.proofs.Common.{HoldsIfAny, id_in, is_inside, IsHeld, IsInRange, IsLand, IsRawFrom, keeps, kept, kept_of, Kind, Land, Moved, Note}
+use Rattle.sim_fact_lists.proofs.Common.{MatchOption, Some, None, Ok, Err, All, Option, Result, refl, aim_of, Aimed, All-cons, All-head, All-nil, All-tail, ap}
+use Rattle.sim_fact_lists.proofs.Common.{noted, NoteFits, origin, Owned, part_for, part_noted, placed, Range, size_of, subst, sym, Watch, with_changed}
+use Rattle.sim_fact_lists.proofs.Common.{with_kept, with_only, without, ◌∙◌}
+use Rattle.sim_fact_lists.proofs.Common.{◌≡◌, ℕ, ◌≤◌, Bool, true, false, cond, not, List, [], ◌∷◌, length, ℤ, IfSome, OnOk, OnErr, IsSome, IsTrue, nat_lt, ◌==◌}
 
 module _ (land : Land) (limits : IsLand land) where
   origin_inside : IsTrue (is_inside (size_of land) origin)
@@ -46,7 +32,8 @@ module _ (land : Land) (limits : IsLand land) where
 
   all_held : (kind : Kind) (facts : List Fact) → All (IsInRange land) facts → All (IsHeld land) (kept_of kind facts)
   all_held kind [] all = All-nil (IsHeld land)
-  all_held kind (fact ∷ facts) all = by (kept kind fact) (kept_held kind fact (All-head (IsInRange land) fact facts all)) (all_held kind facts (All-tail (IsInRange land) fact facts all))
+  all_held kind (fact ∷ facts) all = by (kept kind fact) (kept_held kind fact (All-head (IsInRange land) fact facts all))
+      (all_held kind facts (All-tail (IsInRange land) fact facts all))
     where
       by : (o : Option Fact) → IfSome o (IsHeld land) → All (IsHeld land) (kept_of kind facts) → All (IsHeld land) (cons_option o (kept_of kind facts))
       by None h rest = rest
@@ -85,23 +72,30 @@ module _ (land : Land) (limits : IsLand land) where
       by true rest = All-cons (IsHeld land) f (without id facts) (All-head (IsHeld land) f facts all) rest
       by false rest = rest
 
-  changed_held : (id : ℕ) (changed : Fact → Fact) (facts : List Fact) → ((f : Fact) → IsHeld land f → IsHeld land (changed f)) → All (IsHeld land) facts → All (IsHeld land) (with_changed id changed facts)
+  changed_held : (id : ℕ) (changed : Fact → Fact) (facts : List Fact) → ((f : Fact) → IsHeld land f → IsHeld land (changed f)) → All (IsHeld land) facts
+      → All (IsHeld land) (with_changed id changed facts)
   changed_held id changed [] each all = all
   changed_held id changed (f ∷ facts) each all =
       let h = All-head (IsHeld land) f facts all in
-      All-cons (IsHeld land) (cond (f.id == id) (changed f) f) (with_changed id changed facts) (cond_both (f.id == id) (changed f) f (IsHeld land) (λ same. each f h) (λ other. h)) (changed_held id changed facts each (All-tail (IsHeld land) f facts all))
+      All-cons (IsHeld land) (cond (f.id == id) (changed f) f) (with_changed id changed facts)
+      (cond_both (f.id == id) (changed f) f (IsHeld land) (λ same. each f h) (λ other. h))
+      (changed_held id changed facts each (All-tail (IsHeld land) f facts all))
 
-  each_held : (kind : Kind) (facts : List Fact) (note : Note) → NoteFits kind land facts note → All (IsHeld land) facts → All (IsHeld land) (noted kind facts note)
+  each_held : (kind : Kind) (facts : List Fact) (note : Note) → NoteFits kind land facts note → All (IsHeld land) facts
+      → All (IsHeld land) (noted kind facts note)
   each_held kind facts (Born fact) fits all = with_kept_held (kept kind fact) facts (kept_held kind fact fits.agrees.0) all
   each_held kind facts (Gone fact) fits all = without_held fact.id facts all
   each_held Ground facts (Moved id from to) fits all = all
-  each_held Range facts (Moved id from to) fits all = changed_held id (λ (f : Fact). record f { at = to }) facts (λ f h. record { at = fits.agrees.1; owner = h.owner; vision = h.vision }) all
+  each_held Range facts (Moved id from to) fits all = changed_held id (λ (f : Fact). record f { at = to }) facts
+      (λ f h. record { at = fits.agrees.1; owner = h.owner; vision = h.vision }) all
   each_held Watch facts (Moved id from to) fits all = all
   each_held Census facts (Moved id from to) fits all = all
   each_held Ground facts (Owned id from to) fits all = all
-  each_held Range facts (Owned id from to) fits all = changed_held id (λ (f : Fact). record f { owner = to }) facts (λ f h. record { at = h.at; owner = fits.agrees.1; vision = h.vision }) all
+  each_held Range facts (Owned id from to) fits all = changed_held id (λ (f : Fact). record f { owner = to }) facts
+      (λ f h. record { at = h.at; owner = fits.agrees.1; vision = h.vision }) all
   each_held Watch facts (Owned id from to) fits all = all
-  each_held Census facts (Owned id from to) fits all = changed_held id (λ (f : Fact). record f { owner = to }) facts (λ f h. record { at = h.at; owner = fits.agrees.1; vision = h.vision }) all
+  each_held Census facts (Owned id from to) fits all = changed_held id (λ (f : Fact). record f { owner = to }) facts
+      (λ f h. record { at = h.at; owner = fits.agrees.1; vision = h.vision }) all
   each_held Ground facts (Aimed id from to) fits all = all
   each_held Range facts (Aimed id from to) fits all = all
   each_held Watch facts (Aimed id from to) fits all = with_kept_held (kept Watch (aim_of id to)) (without id facts) (aim_held id to) (without_held id facts all)
@@ -127,23 +121,27 @@ held_ascend None facts h some = absurd (cc)
 held_ascend (Some l) facts h some = (h l refl).held.ascending
 
 -- after a note that may not have been taken up, whatever the land
-pub still_held : {E : Type 0} (r : Result (Unit {0}) E) (kind : Kind) (land : Option Land) (facts after : List Fact) (note : Note) → MatchOption land ⊥ (λ (l : Land). NoteFits kind l facts note) → HoldsIfAny land facts →
+pub still_held : {E : Type 0} (r : Result (Unit {0}) E) (kind : Kind) (land : Option Land) (facts after : List Fact) (note : Note)
+    → MatchOption land ⊥ (λ (l : Land). NoteFits kind l facts note) → HoldsIfAny land facts →
     OnOk r (after ≡ noted kind facts note) → OnErr r (after ≡ facts) → HoldsIfAny land after
 still_held r kind None facts after note fits h ok err l same = absurd fits
 still_held (Ok u) kind (Some land) facts after note fits h is err l same =
     let known = h land refl in
     let one : land ≡ l = cc in
-    subst (λ (m : Land). Holds m after) one (subst (Holds land) (sym is) (record { limits = known.limits; held = noted_held land known.limits kind facts note fits known.held }))
+    subst (λ (m : Land). Holds m after) one
+    (subst (Holds land) (sym is) (record { limits = known.limits; held = noted_held land known.limits kind facts note fits known.held }))
 still_held (Err e) kind (Some land) facts after note fits h ok is l same = subst (Holds l) (sym is) (h l same)
 
 -- after a rebuild
-pub newly_held : (kind : Kind) (land copied : Land) (facts after : List Fact) → IsLand land → AreInRange land facts → copied ≡ land → after ≡ kept_of kind facts → HoldsIfAny (Some copied) after
+pub newly_held : (kind : Kind) (land copied : Land) (facts after : List Fact) → IsLand land → AreInRange land facts → copied ≡ land → after ≡ kept_of kind facts
+    → HoldsIfAny (Some copied) after
 newly_held kind land copied facts after limits h copy is l same =
     let one : land ≡ l = cc in
     subst (λ (m : Land). Holds m after) one (subst (Holds land) (sym is) (record { limits = limits; held = rebuilt_held land limits kind facts h }))
 
 -- where there is a land, it is within its limits and the facts are held on it
-pub holds_where : (land : Option Land) (facts : List Fact) (P : Land → Type 0) → HoldsIfAny land facts → MatchOption land ⊥ P → (l : Land) × (land ≡ Some l) × Holds l facts × P l
+pub holds_where : (land : Option Land) (facts : List Fact) (P : Land → Type 0) → HoldsIfAny land facts → MatchOption land ⊥ P → (l : Land) × (land ≡ Some l)
+    × Holds l facts × P l
 holds_where None facts P h p = absurd p
 holds_where (Some l) facts P h p = (l, refl, h l refl, p)
 
@@ -157,11 +155,13 @@ pub has_land : (land : Option Land) (P : Land → Type 0) → MatchOption land �
 has_land None P h = absurd h
 has_land (Some l) P h = refl
 
-pub put_named : (kind : Kind) (facts : List Fact) (note : Note) (id : ℕ) (old part : Option Fact) → id ≡ id_in note → old ≡ fact_with facts id → part ≡ part_noted kind old note → IfSome part (λ (f : Fact). f.id ≡ id)
+pub put_named : (kind : Kind) (facts : List Fact) (note : Note) (id : ℕ) (old part : Option Fact) → id ≡ id_in note → old ≡ fact_with facts id
+    → part ≡ part_noted kind old note → IfSome part (λ (f : Fact). f.id ≡ id)
 put_named kind facts note id old part e found is =
     subst (λ (o : Option Fact). IfSome o (λ (f : Fact). f.id ≡ id)) (sym is) (part_named kind id old note e (λ f has. found_id id facts f (sym found ∙ has)))
 
-pub put_is : (kind : Kind) (land : Option Land) (facts : List Fact) (note : Note) (id : ℕ) (old part : Option Fact) → MatchOption land ⊥ (λ (l : Land). NoteFits kind l facts note) → HoldsIfAny land facts →
+pub put_is : (kind : Kind) (land : Option Land) (facts : List Fact) (note : Note) (id : ℕ) (old part : Option Fact)
+    → MatchOption land ⊥ (λ (l : Land). NoteFits kind l facts note) → HoldsIfAny land facts →
     id ≡ id_in note → old ≡ fact_with facts id → part ≡ part_noted kind old note → with_only id part facts ≡ noted kind facts note
 put_is kind None facts note id old part fits h e found is = absurd fits
 put_is kind (Some l) facts note id old part fits h e found is =

@@ -1,13 +1,8 @@
 -- Ids that ascend: where one stands or belongs, and the list with one fewer or one more.
-use Rattle.std.proofs.Common.{◌≡◌, ℕ, zero, suc, ◌+◌, ◌-◌, ◌<◌, ◌≤◌, Bool, true, false, cond, not, List, [], ◌∷◌, length, get_or, refl, sym, ap, ◌∙◌, subst, arith, inl, inr}
-use Rattle.std.specs.Prelude.{◌==◌, nat_lt, Result, Ok, Err, MatchResult}
-use Rattle.std.specs.List.{insert, remove}
-use Rattle.std.specs.List.Sorted.{IsStrictlyIncreasing, IsBinarySearchResult}
-use Rattle.std.specs.Ordering.{nat_cmp}
-use Rattle.std.proofs.lemmas.Bool.{eq-eqb, ne_eqb, lt-ltb, le-ltb, cases_lt}
-use Rattle.std.proofs.lemmas.List.Kept.{AllPairs-from_increasing}
-use Rattle.std.proofs.lemmas.List.Sorted.{searched}
-use Rattle.sim_fact_lists.specs.Ids.{IdStands, IdBelongs, without_id, with_id}
+use Rattle.sim_fact_lists.proofs.Common.{IdStands, inl, inr, IsBinarySearchResult, IsStrictlyIncreasing, le-ltb, lt-ltb, nat_cmp, ne_eqb, searched, subst, sym}
+use Rattle.sim_fact_lists.proofs.Common.{MatchResult, Ok, Err, insert, remove, Result, refl, AllPairs-from_increasing, ap, arith, cases_lt, eq-eqb, IdBelongs}
+use Rattle.sim_fact_lists.proofs.Common.{with_id, without_id, ◌∙◌}
+use Rattle.sim_fact_lists.proofs.Common.{◌≡◌, ℕ, zero, suc, ◌+◌, ◌-◌, ◌<◌, ◌≤◌, Bool, true, false, cond, not, List, [], ◌∷◌, length, get_or, nat_lt, ◌==◌}
 
 -- all of the ids are above a number
 abbrev pub Above : ℕ → List ℕ → Type 0
@@ -54,18 +49,21 @@ above_at n (x ∷ xs) (suc k) a lt = above_at n xs k a.1 (omega arith)
 -- ---- a search by halves
 
 found : (xs : List ℕ) (i : ℕ) (r : Result ℕ ℕ) → IsStrictlyIncreasing xs → IsBinarySearchResult (λ (y : ℕ). nat_cmp y i) xs r →
-    MatchResult r (λ at. (at < length xs) × (get_or xs at 0 ≡ i)) (λ at. (at ≤ length xs) × ((k : ℕ) → k < at → get_or xs k 0 < i) × ((k : ℕ) → at ≤ k → k < length xs → i < get_or xs k 0))
+    MatchResult r (λ at. (at < length xs) × (get_or xs at 0 ≡ i)) (λ at. (at ≤ length xs) × ((k : ℕ) → k < at → get_or xs k 0 < i)
+    × ((k : ℕ) → at ≤ k → k < length xs → i < get_or xs k 0))
 found xs i r up h = searched xs i r h (λ k l le lt. elim (cases_lt k l) [
   | inl before ↦ (let less = AllPairs-from_increasing xs up k l 0 before lt in omega (arith, less))
   | inr same ↦ (let e : k ≡ l = omega arith in omega (arith, ap (λ (n : ℕ). get_or xs n 0) e))
 ])
 
-pub searched_for : (xs : List ℕ) (i : ℕ) (r : Result ℕ ℕ) → IsStrictlyIncreasing xs → IsBinarySearchResult (λ (y : ℕ). nat_cmp y i) xs r → MatchResult r (IdStands xs i) (IdBelongs xs i)
+pub searched_for : (xs : List ℕ) (i : ℕ) (r : Result ℕ ℕ) → IsStrictlyIncreasing xs → IsBinarySearchResult (λ (y : ℕ). nat_cmp y i) xs r
+    → MatchResult r (IdStands xs i) (IdBelongs xs i)
 searched_for xs i (Ok at) up h = let there = found xs i (Ok at) up h in record { within = there.0; same = there.1 }
 searched_for xs i (Err at) up h = let there = found xs i (Err at) up h in record { within = there.0; before = there.1; behind = there.2 }
 
 -- one that is above the last belongs behind it
-pub belongs_last : (xs : List ℕ) (i last : ℕ) → IsStrictlyIncreasing xs → 1 ≤ length xs → last ≡ get_or xs (length xs - 1) 0 → last < i → IdBelongs xs i (length xs)
+pub belongs_last : (xs : List ℕ) (i last : ℕ) → IsStrictlyIncreasing xs → 1 ≤ length xs → last ≡ get_or xs (length xs - 1) 0 → last < i
+    → IdBelongs xs i (length xs)
 belongs_last xs i last up some is less = record {
   within = omega arith;
   before = λ k lt. elim (cases_lt k (length xs - 1)) [
@@ -79,7 +77,8 @@ belongs_last xs i last up some is less = record {
 
 without_above : (i : ℕ) (xs : List ℕ) → Above i xs → xs ≡ without_id i xs
 without_above i [] a = refl
-without_above i (x ∷ xs) a = let first : i < x = a.0 in let other : (x == i) ≡ false = ne_eqb x i (λ e. omega (arith, first)) in rw other (ap (λ (ys : List ℕ). x ∷ ys) (without_above i xs a.1))
+without_above i (x ∷ xs) a = let first : i < x = a.0 in let other : (x == i) ≡ false = ne_eqb x i (λ e. omega (arith, first)) in
+    rw other (ap (λ (ys : List ℕ). x ∷ ys) (without_above i xs a.1))
 
 pub removed_there : (xs : List ℕ) (i at : ℕ) → Rising xs → at < length xs → get_or xs at 0 ≡ i → remove xs at ≡ without_id i xs
 removed_there [] i at r lt is = absurd (omega arith)
@@ -106,13 +105,15 @@ rising_without i (x ∷ xs) r = by (not (x == i)) (rising_without i xs r.1)
     by false rest = rest
 
 -- an id that does not stand there stands nowhere
-pub absent_there : (xs : List ℕ) (i at : ℕ) → ((k : ℕ) → k < at → get_or xs k 0 < i) → ((k : ℕ) → at ≤ k → k < length xs → i < get_or xs k 0) → xs ≡ without_id i xs
+pub absent_there : (xs : List ℕ) (i at : ℕ) → ((k : ℕ) → k < at → get_or xs k 0 < i) → ((k : ℕ) → at ≤ k → k < length xs → i < get_or xs k 0)
+    → xs ≡ without_id i xs
 absent_there [] i at before behind = refl
 absent_there (x ∷ xs) i zero before behind = without_above i (x ∷ xs) (above_by i (x ∷ xs) (λ k lt. behind k (omega arith) lt))
 absent_there (x ∷ xs) i (suc at) before behind =
     let first : x < i = before zero (omega arith) in
     let other : (x == i) ≡ false = ne_eqb x i (λ e. omega (arith, first)) in
-    rw other (ap (λ (ys : List ℕ). x ∷ ys) (absent_there xs i at (λ k lt. before (suc k) (omega arith)) (λ k le lt. behind (suc k) (omega arith) (omega arith))))
+    rw other (ap (λ (ys : List ℕ). x ∷ ys)
+    (absent_there xs i at (λ k lt. before (suc k) (omega arith)) (λ k le lt. behind (suc k) (omega arith) (omega arith))))
 
 -- ---- one more
 
@@ -133,12 +134,14 @@ there_again (x ∷ xs) i (suc at) r lt is =
     let less : x < get_or xs at 0 = above_at x xs at r.0 (omega arith) in
     ap (λ (ys : List ℕ). x ∷ ys) (there_again xs i at r.1 (omega arith) is) ∙ sym (with_behind i x xs (omega (arith, less, is)))
 
-pub inserted_there : (xs : List ℕ) (i at : ℕ) → at ≤ length xs → ((k : ℕ) → k < at → get_or xs k 0 < i) → ((k : ℕ) → at ≤ k → k < length xs → i < get_or xs k 0) → insert xs at i ≡ with_id i xs
+pub inserted_there : (xs : List ℕ) (i at : ℕ) → at ≤ length xs → ((k : ℕ) → k < at → get_or xs k 0 < i) → ((k : ℕ) → at ≤ k → k < length xs → i < get_or xs k 0)
+    → insert xs at i ≡ with_id i xs
 inserted_there [] i zero le before behind = refl
 inserted_there [] i (suc at) le before behind = absurd (omega arith)
 inserted_there (x ∷ xs) i zero le before behind = sym (with_first i (x ∷ xs) (above_by i (x ∷ xs) (λ k lt. behind k (omega arith) lt)))
 inserted_there (x ∷ xs) i (suc at) le before behind =
-    ap (λ (ys : List ℕ). x ∷ ys) (inserted_there xs i at (omega arith) (λ k lt. before (suc k) (omega arith)) (λ k le lt. behind (suc k) (omega arith) (omega arith)))
+    ap (λ (ys : List ℕ). x ∷ ys) (inserted_there xs i at (omega arith) (λ k lt. before (suc k) (omega arith))
+    (λ k le lt. behind (suc k) (omega arith) (omega arith)))
     ∙ sym (with_behind i x xs (before zero (omega arith)))
 
 above_with : (n i : ℕ) (xs : List ℕ) → n < i → Above n xs → Above n (with_id i xs)

@@ -1,20 +1,10 @@
 -- A note changes what is kept of one id, and nothing else.
-use Rattle.std.proofs.Common.{◌≡◌, ℕ, ◌+◌, ◌<◌, Bool, true, false, cond, not, List, [], ◌∷◌, Option, Some, None, refl, sym, ap, ◌∙◌, subst, arith}
-use Rattle.std.specs.Prelude.{◌==◌, nat_lt, count_by, option_map, IfSome}
-use Rattle.std.specs.List.{cons_option}
-use Rattle.std.proofs.lemmas.Bool.{eqb-true, eq-eqb, ne_eqb}
-use Rattle.std.proofs.lemmas.List.Sums.{sum_by-cons}
-use Rattle.sim_base.specs.declared.setup.Land.{Land}
-use Rattle.sim_system.specs.declared.fact.Fact.{Fact}
-use Rattle.sim_system.specs.declared.kind.Kind.{Kind}
-use Rattle.sim_system.specs.declared.kind.Kind.TheVariants.{Ground, Range, Watch, Census}
-use Rattle.sim_system.specs.declared.note.Note.{Note}
-use Rattle.sim_system.specs.declared.note.Note.TheVariants.{Born, Gone, Moved, Owned, Aimed}
-use Rattle.sim_system.specs.Facts.{id_of_fact, kept, keeps, part_for, kept_of}
-use Rattle.sim_system.specs.Notes.{fact_with, without, placed, with_kept, with_changed, noted, aim_of, NoteFits}
-use Rattle.sim_fact_lists.specs.Places.{with_only}
-use Rattle.sim_fact_lists.specs.Changes.{id_in, passes, one_if, part_noted}
-use Rattle.sim_fact_lists.proofs.Rising.{Above, Rising, Missing, missing_above, missing_found, missing_without, not_found, without_missing, rising_without, rising_placed, rising_changed, only_itself}
+use Rattle.sim_fact_lists.proofs.Common.{id_in, id_of_fact, keeps, kept, kept_of, Kind, Land, Moved, ne_eqb, Note, noted, NoteFits, one_if, Owned, part_for}
+use Rattle.sim_fact_lists.proofs.Common.{option_map, refl, aim_of, Aimed, ap, arith, Born, Census, cons_option, eq-eqb, eqb-true, Fact, fact_with, Gone, Ground}
+use Rattle.sim_fact_lists.proofs.Common.{part_noted, passes, placed, Range, subst, sum_by-cons, sym, Watch, with_changed, with_kept, with_only, without, ◌∙◌}
+use Rattle.sim_fact_lists.proofs.Common.{◌≡◌, ℕ, ◌+◌, ◌<◌, Bool, true, false, cond, not, List, [], ◌∷◌, IfSome, nat_lt, ◌==◌, Some, None, count_by, Option}
+use Rattle.sim_fact_lists.proofs.Rising.{Above, Missing, missing_above, missing_found, missing_without, not_found, only_itself, Rising, rising_changed}
+use Rattle.sim_fact_lists.proofs.Rising.{rising_placed, rising_without, without_missing}
 
 -- the facts before and after agree but for one id
 pub record OnlyAt (id : ℕ) (facts after : List Fact) : Type 0 where
@@ -42,7 +32,8 @@ without_changed : (id : ℕ) (h : Fact → Fact) (facts : List Fact) → ((f : F
 without_changed id h [] keeps = refl
 without_changed id h (f ∷ facts) keeps = by (f.id == id) refl (without_changed id h facts keeps)
   where
-    by : (b : Bool) → (f.id == id) ≡ b → without id (with_changed id h facts) ≡ without id facts → without id (cond b (h f) f ∷ with_changed id h facts) ≡ cond (not b) (f ∷ without id facts) (without id facts)
+    by : (b : Bool) → (f.id == id) ≡ b → without id (with_changed id h facts) ≡ without id facts → without id (cond b (h f) f ∷ with_changed id h facts) ≡ cond
+        (not b) (f ∷ without id facts) (without id facts)
     by true e rest = let here : ((h f).id == id) ≡ true = eq-eqb (h f).id id (keeps f ∙ eqb-true f.id id e) in rw here rest
     by false e rest = rw e (ap (λ (fs : List Fact). f ∷ fs) rest)
 
@@ -61,7 +52,8 @@ left_out : (id : ℕ) (facts : List Fact) → Rising facts → OnlyAt id facts (
 left_out id facts r = record { before = r; later = rising_without id facts r; same = without_twice id facts }
 
 -- what is kept of an id is put among facts without it
-put_in : (id : ℕ) (o : Option Fact) (facts : List Fact) → ((f : Fact) → o ≡ Some f → f.id ≡ id) → Missing id facts → Rising facts → OnlyAt id facts (with_kept o facts)
+put_in : (id : ℕ) (o : Option Fact) (facts : List Fact) → ((f : Fact) → o ≡ Some f → f.id ≡ id) → Missing id facts → Rising facts
+    → OnlyAt id facts (with_kept o facts)
 put_in id None facts named m r = stays id facts r
 put_in id (Some f) facts named m r =
     let same : f.id ≡ id = named f refl in
@@ -106,7 +98,8 @@ rising_kept kind (fact ∷ facts) r = by (kept kind fact) (kept_id kind fact) (r
     by None named rest = rest
     by (Some f) named rest = (subst (λ (m : ℕ). Above m (kept_of kind facts)) (sym (named f refl)) (above_kept kind fact.id facts r.0), rest)
 
-pub noted_only : (kind : Kind) (land : Land) (facts : List Fact) (note : Note) → Rising facts → NoteFits kind land facts note → OnlyAt (id_in note) facts (noted kind facts note)
+pub noted_only : (kind : Kind) (land : Land) (facts : List Fact) (note : Note) → Rising facts → NoteFits kind land facts note
+    → OnlyAt (id_in note) facts (noted kind facts note)
 noted_only kind land facts (Born fact) r fits = put_in fact.id (kept kind fact) facts (kept_id kind fact) (not_found fact.id facts fits.agrees.1) r
 noted_only kind land facts (Gone fact) r fits = left_out fact.id facts r
 noted_only Ground land facts (Moved id from to) r fits = stays id facts r
@@ -138,7 +131,8 @@ found_put id (Some f) facts named m =
     let same : f.id ≡ id = named f refl in
     subst (λ (n : ℕ). fact_with (placed f facts) n ≡ Some f) same (found_placed f facts (subst (λ (n : ℕ). Missing n facts) (sym same) m))
 
-found_changed : (id : ℕ) (h : Fact → Fact) (facts : List Fact) → ((f : Fact) → (h f).id ≡ f.id) → fact_with (with_changed id h facts) id ≡ option_map h (fact_with facts id)
+found_changed : (id : ℕ) (h : Fact → Fact) (facts : List Fact) → ((f : Fact) → (h f).id ≡ f.id) → fact_with (with_changed id h facts) id ≡ option_map h
+    (fact_with facts id)
 found_changed id h [] keeps = refl
 found_changed id h (f ∷ facts) keeps = by (f.id == id) refl (found_changed id h facts keeps)
   where
@@ -151,7 +145,8 @@ if_named : (id : ℕ) (o : Option Fact) → ((f : Fact) → o ≡ Some f → f.i
 if_named id None named = tt
 if_named id (Some f) named = named f refl
 
-pub part_is : (kind : Kind) (land : Land) (facts : List Fact) (note : Note) → NoteFits kind land facts note → fact_with (noted kind facts note) (id_in note) ≡ part_noted kind (fact_with facts (id_in note)) note
+pub part_is : (kind : Kind) (land : Land) (facts : List Fact) (note : Note) → NoteFits kind land facts note → fact_with (noted kind facts note) (id_in note) ≡
+    part_noted kind (fact_with facts (id_in note)) note
 part_is kind land facts (Born fact) fits = found_put fact.id (kept kind fact) facts (kept_id kind fact) (not_found fact.id facts fits.agrees.1)
 part_is kind land facts (Gone fact) fits = missing_found fact.id (without fact.id facts) (without_missing fact.id facts)
 part_is Ground land facts (Moved id from to) fits = refl
@@ -164,16 +159,20 @@ part_is Watch land facts (Owned id from to) fits = refl
 part_is Census land facts (Owned id from to) fits = found_changed id (λ (f : Fact). record f { owner = to }) facts (λ f. refl)
 part_is Ground land facts (Aimed id from to) fits = refl
 part_is Range land facts (Aimed id from to) fits = refl
-part_is Watch land facts (Aimed id from to) fits = found_put id (kept Watch (aim_of id to)) (without id facts) (kept_id Watch (aim_of id to)) (without_missing id facts)
+part_is Watch land facts (Aimed id from to) fits = found_put id (kept Watch (aim_of id to)) (without id facts) (kept_id Watch (aim_of id to))
+    (without_missing id facts)
 part_is Census land facts (Aimed id from to) fits = refl
 
 -- what is put in place of an id after a note makes the list that the note makes
-pub noted_is : (kind : Kind) (land : Land) (facts : List Fact) (note : Note) → Rising facts → NoteFits kind land facts note → with_only (id_in note) (part_noted kind (fact_with facts (id_in note)) note) facts ≡ noted kind facts note
+pub noted_is : (kind : Kind) (land : Land) (facts : List Fact) (note : Note) → Rising facts → NoteFits kind land facts note
+    → with_only (id_in note) (part_noted kind (fact_with facts (id_in note)) note) facts ≡ noted kind facts note
 noted_is kind land facts note r fits =
-    ap (λ (o : Option Fact). with_only (id_in note) o facts) (sym (part_is kind land facts note fits)) ∙ after_is (id_in note) facts (noted kind facts note) (noted_only kind land facts note r fits)
+    ap (λ (o : Option Fact). with_only (id_in note) o facts) (sym (part_is kind land facts note fits)) ∙ after_is (id_in note) facts (noted kind facts note)
+    (noted_only kind land facts note r fits)
 
 -- the part is of the id
-pub part_named : (kind : Kind) (id : ℕ) (o : Option Fact) (note : Note) → id ≡ id_in note → ((f : Fact) → o ≡ Some f → f.id ≡ id) → IfSome (part_noted kind o note) (λ (f : Fact). f.id ≡ id)
+pub part_named : (kind : Kind) (id : ℕ) (o : Option Fact) (note : Note) → id ≡ id_in note → ((f : Fact) → o ≡ Some f → f.id ≡ id)
+    → IfSome (part_noted kind o note) (λ (f : Fact). f.id ≡ id)
 part_named kind id o (Born fact) e named = by (kept kind fact) (kept_id kind fact)
   where
     by : (p : Option Fact) → ((f : Fact) → p ≡ Some f → f.id ≡ fact.id) → IfSome p (λ (f : Fact). f.id ≡ id)
@@ -202,7 +201,8 @@ part_named Census id o (Aimed i from to) e named = if_named id o named
 
 -- ---- counts
 
-count_without : (p : Fact → Bool) (id : ℕ) (facts : List Fact) → Rising facts → count_by p facts ≡ count_by p (without id facts) + one_if (passes p (fact_with facts id))
+count_without : (p : Fact → Bool) (id : ℕ) (facts : List Fact) → Rising facts → count_by p facts ≡ count_by p (without id facts) +
+    one_if (passes p (fact_with facts id))
 count_without p id [] r = omega arith
 count_without p id (f ∷ facts) r = by (f.id == id) refl (count_without p id facts r.1)
   where
@@ -215,10 +215,12 @@ count_without p id (f ∷ facts) r = by (f.id == id) refl (count_without p id fa
         rw stays (let more : count_by p (f ∷ facts) ≡ cond (p f) 1 0 + count_by p facts = sum_by-cons (λ (g : Fact). cond (p g) 1 0) f facts in omega arith)
     by false e rest =
         let more : count_by p (f ∷ facts) ≡ cond (p f) 1 0 + count_by p facts = sum_by-cons (λ (g : Fact). cond (p g) 1 0) f facts in
-        let fewer : count_by p (f ∷ without id facts) ≡ cond (p f) 1 0 + count_by p (without id facts) = sum_by-cons (λ (g : Fact). cond (p g) 1 0) f (without id facts) in
+        let fewer : count_by p (f ∷ without id facts) ≡ cond (p f) 1 0 + count_by p (without id facts) = sum_by-cons (λ (g : Fact). cond (p g) 1 0) f
+        (without id facts) in
         omega arith
 
-pub count_after : (p : Fact → Bool) (id : ℕ) (facts after : List Fact) → OnlyAt id facts after → count_by p after + one_if (passes p (fact_with facts id)) ≡ count_by p facts + one_if (passes p (fact_with after id))
+pub count_after : (p : Fact → Bool) (id : ℕ) (facts after : List Fact) → OnlyAt id facts after → count_by p after + one_if (passes p (fact_with facts id)) ≡
+    count_by p facts + one_if (passes p (fact_with after id))
 count_after p id facts after h =
     let old = count_without p id facts h.before in
     let new = count_without p id after h.later in

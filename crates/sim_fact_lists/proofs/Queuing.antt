@@ -1,7 +1,5 @@
 -- A list whose front has left: what is left when one more leaves.
-use Rattle.std.proofs.Common.{◌≡◌, ℕ, zero, suc, ◌+◌, ◌<◌, List, [], ◌∷◌, length, drop, sym, ap, arith}
-use Rattle.std.specs.List.{remove}
-use Rattle.std.proofs.lemmas.List.{drop-drop}
+use Rattle.sim_fact_lists.proofs.Common.{◌≡◌, ℕ, zero, suc, ◌+◌, ◌<◌, List, [], ◌∷◌, length, drop, remove, ap, arith, drop-drop, sym}
 
 -- the first one that is still there leaves
 pub first_leaves : (n : ℕ) (xs : List ℕ) → drop (n + 1) xs ≡ remove (drop n xs) 0

@@ -1,13 +1,8 @@
 -- Facts whose ids ascend, by recursion: what is found, taken out and put in place.
-use Rattle.std.proofs.Common.{◌≡◌, ℕ, zero, suc, ◌+◌, ◌<◌, ◌≤◌, Bool, true, false, cond, not, List, [], ◌∷◌, length, map, get_or, Option, Some, None, refl, sym, ap, ◌∙◌, subst, arith, All, inl, inr}
-use Rattle.std.specs.Prelude.{◌==◌, nat_lt}
-use Rattle.std.proofs.lemmas.Bool.{eqb-true, eq-eqb, ne_eqb, lt-ltb, le-ltb, cases_eq}
-use Rattle.std.proofs.lemmas.List.Kept.{AllPairs-from_increasing}
-use Rattle.std.proofs.lemmas.List.Elements.{All-head, All-tail}
-use Rattle.sim_system.specs.declared.fact.Fact.{Fact}
-use Rattle.sim_system.specs.Facts.{id_of_fact}
-use Rattle.sim_system.specs.Notes.{fact_with, without, placed, with_kept, with_changed}
-use Rattle.sim_fact_lists.specs.Places.{Ascend, with_only}
+use Rattle.sim_fact_lists.proofs.Common.{Fact, fact_with, id_of_fact, inl, inr, le-ltb, lt-ltb, ne_eqb, placed, subst, sym, with_changed, with_kept, with_only}
+use Rattle.sim_fact_lists.proofs.Common.{None, All, Option, refl, All-head, All-tail, AllPairs-from_increasing, ap, arith, Ascend, cases_eq, eq-eqb, eqb-true}
+use Rattle.sim_fact_lists.proofs.Common.{without, ◌∙◌}
+use Rattle.sim_fact_lists.proofs.Common.{◌≡◌, ℕ, zero, suc, ◌+◌, ◌<◌, ◌≤◌, Bool, true, false, cond, not, List, [], ◌∷◌, map, length, get_or, nat_lt, ◌==◌, Some}
 
 -- all ids are above a number
 abbrev pub Above : ℕ → List Fact → Type 0
@@ -30,7 +25,8 @@ above_by : (n : ℕ) (facts : List Fact) → ((k : ℕ) → k < length (map id_o
 above_by n [] h = tt
 above_by n (f ∷ facts) h = (h zero (omega arith), above_by n facts (λ k lt. h (suc k) (omega arith)))
 
-rising_by : (facts : List Fact) → ((i j : ℕ) → i < j → j < length (map id_of_fact facts) → get_or (map id_of_fact facts) i 0 < get_or (map id_of_fact facts) j 0) → Rising facts
+rising_by : (facts : List Fact) → ((i j : ℕ) → i < j → j < length (map id_of_fact facts) → get_or (map id_of_fact facts) i 0 < get_or (map id_of_fact facts) j
+    0) → Rising facts
 rising_by [] p = tt
 rising_by (f ∷ facts) p = (
   above_by f.id facts (λ k lt. p zero (suc k) (omega arith) (omega arith)),
@@ -40,7 +36,8 @@ rising_by (f ∷ facts) p = (
 pub rising : (facts : List Fact) → Ascend facts → Rising facts
 rising facts up = rising_by facts (λ i j before within. AllPairs-from_increasing (map id_of_fact facts) up i j 0 before within)
 
-steps_up : (facts : List Fact) → Rising facts → (k : ℕ) → suc k < length (map id_of_fact facts) → get_or (map id_of_fact facts) k 0 < get_or (map id_of_fact facts) (suc k) 0
+steps_up : (facts : List Fact) → Rising facts → (k : ℕ) → suc k < length (map id_of_fact facts) → get_or (map id_of_fact facts) k 0 < get_or
+    (map id_of_fact facts) (suc k) 0
 steps_up [] r k lt = absurd (omega arith)
 steps_up (f ∷ []) r k lt = absurd (omega arith)
 steps_up (f ∷ g ∷ facts) r zero lt = r.0.0
@@ -90,11 +87,13 @@ missing_found id (f ∷ facts) m = let other : (f.id == id) ≡ false = ne_eqb f
 
 pub missing_without : (id : ℕ) (facts : List Fact) → Missing id facts → without id facts ≡ facts
 missing_without id [] m = refl
-missing_without id (f ∷ facts) m = let other : (f.id == id) ≡ false = ne_eqb f.id id m.0 in rw other (ap (λ (fs : List Fact). f ∷ fs) (missing_without id facts m.1))
+missing_without id (f ∷ facts) m = let other : (f.id == id) ≡ false = ne_eqb f.id id m.0 in
+    rw other (ap (λ (fs : List Fact). f ∷ fs) (missing_without id facts m.1))
 
 pub missing_changed : (id : ℕ) (h : Fact → Fact) (facts : List Fact) → Missing id facts → with_changed id h facts ≡ facts
 missing_changed id h [] m = refl
-missing_changed id h (f ∷ facts) m = let other : (f.id == id) ≡ false = ne_eqb f.id id m.0 in rw other (ap (λ (fs : List Fact). f ∷ fs) (missing_changed id h facts m.1))
+missing_changed id h (f ∷ facts) m = let other : (f.id == id) ≡ false = ne_eqb f.id id m.0 in
+    rw other (ap (λ (fs : List Fact). f ∷ fs) (missing_changed id h facts m.1))
 
 pub not_found : (id : ℕ) (facts : List Fact) → fact_with facts id ≡ None → Missing id facts
 not_found id [] e = tt

@@ -1,16 +1,10 @@
 -- The place of a fact by its id: what stands there, and what an edit there makes of the list.
-use Rattle.std.proofs.Common.{◌≡◌, ℕ, zero, suc, ◌<◌, true, false, List, [], ◌∷◌, length, get_or, set, Option, Some, None, refl, sym, ap, ◌∙◌, subst, arith, inl, inr}
-use Rattle.std.specs.Prelude.{Result, Ok, Err, MatchResult, IfSome, ◌==◌}
-use Rattle.std.specs.List.{insert, remove}
-use Rattle.std.specs.List.Sorted.{IsNonDecreasingBy, IsBinarySearchResult, IsSearchInRange}
-use Rattle.std.specs.Ordering.{nat_cmp, ordering_index}
-use Rattle.std.proofs.lemmas.Bool.{eq-eqb, ne_eqb, cases_lt}
-use Rattle.std.proofs.lemmas.Bool.Decides.{nat_tests}
-use Rattle.std.proofs.lemmas.Cmp.{ranked}
-use Rattle.sim_system.specs.declared.fact.Fact.{Fact}
-use Rattle.sim_system.specs.Notes.{fact_with, without, placed, with_changed}
-use Rattle.sim_fact_lists.specs.Places.{Ascend, Stands, Belongs, with_only}
-use Rattle.sim_fact_lists.proofs.Rising.{Above, Rising, Missing, above_at, missing_above, missing_without, missing_found, missing_changed, placed_first, placed_behind, rising}
+use Rattle.sim_fact_lists.proofs.Common.{Err, insert, remove, Option, Result, refl, ap, arith, Ascend, Belongs, cases_lt, eq-eqb, Fact, fact_with, inl, inr}
+use Rattle.sim_fact_lists.proofs.Common.{IsBinarySearchResult, IsNonDecreasingBy, IsSearchInRange, nat_cmp, nat_tests, ne_eqb, ordering_index, placed, ranked}
+use Rattle.sim_fact_lists.proofs.Common.{Stands, subst, sym, with_changed, with_only, without, ◌∙◌}
+use Rattle.sim_fact_lists.proofs.Common.{◌≡◌, ℕ, zero, suc, ◌<◌, true, false, List, [], ◌∷◌, length, get_or, set, IfSome, ◌==◌, MatchResult, Some, None, Ok}
+use Rattle.sim_fact_lists.proofs.Rising.{Above, above_at, Missing, missing_above, missing_changed, missing_found, missing_without, placed_behind, placed_first}
+use Rattle.sim_fact_lists.proofs.Rising.{Rising, rising}
 
 -- ---- what a search by halves answers
 
@@ -27,7 +21,8 @@ comparisons_rise facts id r i j d le lt =
       | inr same ↦ (let e : i ≡ j = omega arith in rw e (omega arith))
     ]
 
-pub place_by : (facts : List Fact) (id : ℕ) (r : Result ℕ ℕ) → Ascend facts → IsSearchInRange r (length facts) → IsBinarySearchResult (λ (fact : Fact). nat_cmp fact.id id) facts r → MatchResult r (Stands facts id) (Belongs facts id)
+pub place_by : (facts : List Fact) (id : ℕ) (r : Result ℕ ℕ) → Ascend facts → IsSearchInRange r (length facts)
+    → IsBinarySearchResult (λ (fact : Fact). nat_cmp fact.id id) facts r → MatchResult r (Stands facts id) (Belongs facts id)
 place_by facts id (Ok at) up within there = record { within = within; same = λ d. ranked _ id _ (sym (there d)) }
 place_by facts id (Err at) up within parted =
     let parts = parted (comparisons_rise facts id (rising facts up)) in
@@ -62,12 +57,16 @@ found_there (f ∷ facts) id (suc at) d r s = let other = first_is_not f facts i
 pub removed_there : (facts : List Fact) (id at : ℕ) → Rising facts → Stands facts id at → remove facts at ≡ without id facts
 removed_there [] id at r s = absurd (omega (arith, s.within))
 removed_there (f ∷ facts) id zero r s = let here = first_is f facts id s in rw here (sym (missing_without id facts (rest_missing f facts id r s)))
-removed_there (f ∷ facts) id (suc at) r s = let other = first_is_not f facts id at r s in rw other (ap (λ (fs : List Fact). f ∷ fs) (removed_there facts id at r.1 (next_stands f facts id at s)))
+removed_there (f ∷ facts) id (suc at) r s = let other = first_is_not f facts id at r s in
+    rw other (ap (λ (fs : List Fact). f ∷ fs) (removed_there facts id at r.1 (next_stands f facts id at s)))
 
-pub changed_there : (facts : List Fact) (id at : ℕ) (h : Fact → Fact) (d : Fact) → Rising facts → Stands facts id at → set facts at (h (get_or facts at d)) ≡ with_changed id h facts
+pub changed_there : (facts : List Fact) (id at : ℕ) (h : Fact → Fact) (d : Fact) → Rising facts → Stands facts id at → set facts at (h (get_or facts at d)) ≡
+    with_changed id h facts
 changed_there [] id at h d r s = absurd (omega (arith, s.within))
-changed_there (f ∷ facts) id zero h d r s = let here = first_is f facts id s in rw here (ap (λ (fs : List Fact). h f ∷ fs) (sym (missing_changed id h facts (rest_missing f facts id r s))))
-changed_there (f ∷ facts) id (suc at) h d r s = let other = first_is_not f facts id at r s in rw other (ap (λ (fs : List Fact). f ∷ fs) (changed_there facts id at h d r.1 (next_stands f facts id at s)))
+changed_there (f ∷ facts) id zero h d r s = let here = first_is f facts id s in
+    rw here (ap (λ (fs : List Fact). h f ∷ fs) (sym (missing_changed id h facts (rest_missing f facts id r s))))
+changed_there (f ∷ facts) id (suc at) h d r s = let other = first_is_not f facts id at r s in
+    rw other (ap (λ (fs : List Fact). f ∷ fs) (changed_there facts id at h d r.1 (next_stands f facts id at s)))
 
 -- ---- where it belongs
 
@@ -92,7 +91,8 @@ all_above (f ∷ facts) id b = (
 pub missing_there : (facts : List Fact) (id at : ℕ) → Belongs facts id at → Missing id facts
 missing_there [] id at b = tt
 missing_there (f ∷ facts) id zero b = missing_above id (f ∷ facts) (all_above (f ∷ facts) id b)
-missing_there (f ∷ facts) id (suc at) b = let first : f.id < id = b.before zero f (omega arith) in ((λ e. omega arith), missing_there facts id at (next_belongs f facts id at b))
+missing_there (f ∷ facts) id (suc at) b = let first : f.id < id = b.before zero f (omega arith) in
+    ((λ e. omega arith), missing_there facts id at (next_belongs f facts id at b))
 
 pub inserted_there : (facts : List Fact) (f : Fact) (at : ℕ) → Belongs facts f.id at → insert facts at f ≡ placed f facts
 inserted_there [] f zero b = refl
@@ -114,7 +114,8 @@ set_there (g ∷ facts) f (suc at) r s =
     let other = first_is_not g facts f.id at r s in
     let there : (get_or facts at g).id ≡ f.id = s.same g in
     let above : g.id < (get_or facts at g).id = above_at g.id facts at g r.0 (omega (arith, s.within)) in
-    rw other (ap (λ (fs : List Fact). g ∷ fs) (set_there facts f at r.1 (next_stands g facts f.id at s)) ∙ sym (placed_behind f g (without f.id facts) (omega arith)))
+    rw other (ap (λ (fs : List Fact). g ∷ fs) (set_there facts f at r.1 (next_stands g facts f.id at s)) ∙
+    sym (placed_behind f g (without f.id facts) (omega arith)))
 
 pub inserted_only : (facts : List Fact) (f : Fact) (at : ℕ) → Belongs facts f.id at → insert facts at f ≡ placed f (without f.id facts)
 inserted_only facts f at b = inserted_there facts f at b ∙ sym (ap (placed f) (missing_without f.id facts (missing_there facts f.id at b)))
@@ -124,18 +125,21 @@ absent_there facts id at b = sym (missing_without id facts (missing_there facts 
 
 -- ---- the same where the list is lent, and the part is matched
 
-pub put_over : (lent facts : List Fact) (id at : ℕ) (o : Option Fact) (f : Fact) → lent ≡ facts → Ascend facts → Stands lent id at → o ≡ Some f → IfSome o (λ (g : Fact). g.id ≡ id) → set facts at f ≡ with_only id o facts
+pub put_over : (lent facts : List Fact) (id at : ℕ) (o : Option Fact) (f : Fact) → lent ≡ facts → Ascend facts → Stands lent id at → o ≡ Some f
+    → IfSome o (λ (g : Fact). g.id ≡ id) → set facts at f ≡ with_only id o facts
 put_over lent facts id at None f is up s e named = absurd (cc)
 put_over lent facts id at (Some g) f is up s e named =
     let same : g ≡ f = cc in
     let here : Stands facts g.id at = subst (λ (n : ℕ). Stands facts n at) (sym named) (subst (λ (fs : List Fact). Stands fs id at) is s) in
     ap (set facts at) (sym same) ∙ set_there facts g at (rising facts up) here ∙ ap (λ (n : ℕ). placed g (without n facts)) named
 
-pub put_nothing : (lent facts : List Fact) (id at : ℕ) (o : Option Fact) → lent ≡ facts → Ascend facts → Stands lent id at → o ≡ None → remove facts at ≡ with_only id o facts
+pub put_nothing : (lent facts : List Fact) (id at : ℕ) (o : Option Fact) → lent ≡ facts → Ascend facts → Stands lent id at → o ≡ None
+    → remove facts at ≡ with_only id o facts
 put_nothing lent facts id at None is up s e = removed_there facts id at (rising facts up) (subst (λ (fs : List Fact). Stands fs id at) is s)
 put_nothing lent facts id at (Some g) is up s e = absurd (cc)
 
-pub put_new : (lent facts : List Fact) (id at : ℕ) (o : Option Fact) (f : Fact) → lent ≡ facts → Belongs lent id at → o ≡ Some f → IfSome o (λ (g : Fact). g.id ≡ id) → insert facts at f ≡ with_only id o facts
+pub put_new : (lent facts : List Fact) (id at : ℕ) (o : Option Fact) (f : Fact) → lent ≡ facts → Belongs lent id at → o ≡ Some f
+    → IfSome o (λ (g : Fact). g.id ≡ id) → insert facts at f ≡ with_only id o facts
 put_new lent facts id at None f is b e named = absurd (cc)
 put_new lent facts id at (Some g) f is b e named =
     let same : g ≡ f = cc in

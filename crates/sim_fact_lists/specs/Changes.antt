@@ -1,13 +1,8 @@
 -- What a note changes: all that is kept of one id.
-use Rattle.std.specs.Prelude.{ℕ, Bool, false, Option, Some, None, option_map, if◌then◌else◌}
-use Rattle.sim_base.specs.declared.place.Point.{Point}
-use Rattle.sim_system.specs.declared.fact.Fact.{Fact}
-use Rattle.sim_system.specs.declared.kind.Kind.{Kind}
-use Rattle.sim_system.specs.declared.kind.Kind.TheVariants.{Ground, Range, Watch, Census}
-use Rattle.sim_system.specs.declared.note.Note.{Note}
-use Rattle.sim_system.specs.declared.note.Note.TheVariants.{Born, Gone, Moved, Owned, Aimed}
-use Rattle.sim_system.specs.Facts.{kept}
-use Rattle.sim_system.specs.Notes.{aim_of}
+use Rattle.{sim_base.specs.declared.place.Point.Point, sim_system.specs.Facts.kept, sim_system.specs.Notes.aim_of, sim_system.specs.declared.fact.Fact.Fact}
+use Rattle.std.specs.Prelude.{ℕ, Bool, false, if◌then◌else◌, Some, None, Option, option_map}
+use Rattle.sim_system.specs.declared.kind.Kind.{Kind, TheVariants.Census, TheVariants.Ground, TheVariants.Range, TheVariants.Watch}
+use Rattle.sim_system.specs.declared.note.Note.{Note, TheVariants.Aimed, TheVariants.Born, TheVariants.Gone, TheVariants.Moved, TheVariants.Owned}
 
 -- the id of which a note tells
 abbrev pub id_in : Note → ℕ

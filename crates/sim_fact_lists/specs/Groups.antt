@@ -1,11 +1,7 @@
 -- Ids in groups by key: a list of groups, ascending by key.
-use Rattle.std.specs.Prelude.{◌≡◌, ℕ, ◌<◌, ◌≤◌, not, ◌==◌, List, [], length, map, filter, find, slice_index_or, Option, Some, None, MatchOption, if◌then◌else◌}
-use Rattle.std.specs.List.Sorted.{IsStrictlyIncreasing}
-use Rattle.sim_system.specs.declared.fact.Fact.{Fact}
-use Rattle.sim_system.specs.Facts.{id_of_fact}
-use Rattle.sim_fact_lists.specs.declared.group.Group.{Group}
-use Rattle.sim_fact_lists.specs.Ids.{without_id, with_id}
-use Rattle.sim_fact_lists.specs.Queues.{queued, HasPlace}
+use Rattle.{sim_system.specs.Facts.id_of_fact, sim_system.specs.declared.fact.Fact.Fact, std.specs.List.Sorted.IsStrictlyIncreasing}
+use Rattle.std.specs.Prelude.{◌≡◌, ℕ, ◌<◌, ◌≤◌, not, List, [], map, length, if◌then◌else◌, ◌==◌, slice_index_or, MatchOption, Some, None, filter, find, Option}
+use Rattle.sim_fact_lists.specs.{Ids.with_id, Ids.without_id, Queues.HasPlace, Queues.queued, declared.group.Group.Group}
 
 abbrev pub key_of : Group → ℕ
 key_of group = group.key

@@ -1,5 +1,5 @@
 -- Ids that ascend, with one fewer or one more.
-use Rattle.std.specs.Prelude.{ℕ, ◌≡◌, ◌<◌, ◌≤◌, not, nat_lt, ◌==◌, List, [], ◌∷◌, length, filter, slice_index_or, if◌then◌else◌}
+use Rattle.std.specs.Prelude.{◌≡◌, ℕ, ◌<◌, ◌≤◌, not, List, [], ◌∷◌, length, if◌then◌else◌, nat_lt, ◌==◌, slice_index_or, filter}
 
 -- ids without one
 abbrev pub without_id : ℕ → List ℕ → List ℕ

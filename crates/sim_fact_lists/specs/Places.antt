@@ -1,13 +1,8 @@
 -- Where the fact of an id stands in a list by id, and which facts a system holds.
-use Rattle.std.specs.Prelude.{◌≡◌, ℕ, ◌<◌, ◌≤◌, IsTrue, ℤ, List, length, map, slice_index_or, All, Option, Some}
 use Rattle.std.specs.List.Sorted.{IsStrictlyIncreasing}
-use Rattle.sim_base.specs.declared.setup.Land.{Land}
-use Rattle.sim_base.specs.Places.{is_inside}
-use Rattle.sim_base.specs.Rows.{size_of}
-use Rattle.sim_base.specs.Limits.{IsRawFrom, IsLand}
-use Rattle.sim_system.specs.declared.fact.Fact.{Fact}
-use Rattle.sim_system.specs.Facts.{id_of_fact}
-use Rattle.sim_system.specs.Notes.{without, with_kept}
+use Rattle.std.specs.Prelude.{◌≡◌, ℕ, ◌<◌, ◌≤◌, List, map, length, ℤ, IsTrue, slice_index_or, Some, All, Option}
+use Rattle.sim_base.specs.{Limits.IsLand, Limits.IsRawFrom, Places.is_inside, Rows.size_of, declared.setup.Land.Land}
+use Rattle.sim_system.specs.{Facts.id_of_fact, Notes.with_kept, Notes.without, declared.fact.Fact.Fact}
 
 -- the fact of this id stands there
 pub record Stands (facts : List Fact) (id place : ℕ) : Type 0 where

@@ -1,8 +1,8 @@
 //! Facts in a list by id: found near a place or by halves, and all that is kept of one id set.
 
-ghost use Rattle.std.specs.Prelude.{◌≡◌, ◌<◌, IfSome, IsTrue, OnOk, OnErr, IsOk, MatchResult, vec_len, vec_capacity, option_copied};
+ghost use Rattle.std.specs.Prelude.{◌≡◌, ◌<◌, IfSome, OnOk, OnErr, IsOk, IsTrue, MatchResult, vec_len, vec_capacity, option_copied};
+ghost use Rattle.sim_fact_lists.specs.Places.{Ascend, Belongs, Stands, with_only};
 ghost use Rattle.sim_system.specs.Notes.{fact_with};
-ghost use Rattle.sim_fact_lists.specs.Places.{Ascend, Stands, Belongs, with_only};
 
 use sim_base::OutOfMemory;
 use sim_system::Fact;

@@ -1,9 +1,7 @@
 //! The ids of one key.
 
-ghost use Rattle.std.specs.Prelude.{◌≡◌, [], OnOk, MatchResult};
-ghost use Rattle.std.specs.List.Sorted.{IsStrictlyIncreasing};
-ghost use Rattle.sim_fact_lists.specs.Ids.{IdStands, IdBelongs, with_id, without_id};
-ghost use Rattle.sim_fact_lists.specs.Queues.{queued, HasPlace};
+ghost use Rattle.std.specs.{List.Sorted.IsStrictlyIncreasing, Prelude.◌≡◌, Prelude.[], Prelude.OnOk, Prelude.MatchResult};
+ghost use Rattle.sim_fact_lists.specs.{Ids.IdBelongs, Ids.IdStands, Ids.with_id, Ids.without_id, Queues.HasPlace, Queues.queued};
 
 use crate::queue::Queue;
 use sim_base::OutOfMemory;

@@ -2,9 +2,9 @@
 //! comes or goes moves no id of another key. A key is found where the last one was or by halves; one that has lost its last id
 //! keeps its list for the next. A system keeps such groups beside its facts.
 
-ghost use Rattle.std.specs.Prelude.{◌≡◌, ◌==◌, ℕ, [], IsTrue, OnOk, MatchResult, if◌then◌else◌};
+ghost use Rattle.std.specs.Prelude.{◌≡◌, ℕ, [], if◌then◌else◌, OnOk, IsTrue, ◌==◌, MatchResult};
+ghost use Rattle.sim_fact_lists.specs.Groups.{forgotten, GroupBelongs, GroupStands, HasRoom, KeysAscend, listed};
 ghost use Rattle.sim_fact_lists.specs.Ids.{with_id, without_id};
-ghost use Rattle.sim_fact_lists.specs.Groups.{KeysAscend, GroupStands, GroupBelongs, HasRoom, listed, forgotten};
 
 use crate::group::Group;
 use sim_base::OutOfMemory;
@@ -83,7 +83,8 @@ impl Groups {
 
     /// Takes an id out of the group of a key, if it is there.
     pub fn leave(&mut self, key: u32, id: u32)
-        ensures left { (k : ℕ) → listed k self.new.groups.items ≡ (if key == k then without_id id (listed k self.old.groups.items) else listed k self.old.groups.items) }
+        ensures left { (k : ℕ) → listed k self.new.groups.items ≡ (if key == k then without_id id (listed k self.old.groups.items)
+            else listed k self.old.groups.items) }
         ensures room { (k : ℕ) → HasRoom k self.old.groups.items → HasRoom k self.new.groups.items }
     {
         if let Ok(at) = self.place_of(key) {
@@ -106,7 +107,8 @@ impl Groups {
     /// Puts an id into the group of a key, unless it is there. The room was made before.
     pub fn join(&mut self, key: u32, id: u32)
         requires { HasRoom key self.old.groups.items }
-        ensures { (k : ℕ) → listed k self.new.groups.items ≡ (if key == k then with_id id (listed k self.old.groups.items) else listed k self.old.groups.items) }
+        ensures { (k : ℕ) → listed k self.new.groups.items ≡ (if key == k then with_id id (listed k self.old.groups.items)
+            else listed k self.old.groups.items) }
     {
         if let Ok(at) = self.place_of(key) {
             self.groups[at].join(id);

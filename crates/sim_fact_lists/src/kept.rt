@@ -1,12 +1,8 @@
 //! The land and the facts of a system.
 
-ghost use Rattle.std.specs.Prelude.{◌≡◌, ◌<◌, [], Some, None, OnOk, OnErr, IsOk, IsSome, MatchOption, vec_len, vec_capacity};
-ghost use Rattle.sim_base.specs.Limits.{IsLand};
-ghost use Rattle.sim_system.specs.Facts.{kept_of};
-ghost use Rattle.sim_system.specs.Ranges.{AreInRange};
-ghost use Rattle.sim_system.specs.Notes.{fact_with, noted, NoteFits};
-ghost use Rattle.sim_system.specs.Meanings.{one_more};
-ghost use Rattle.sim_fact_lists.specs.Places.{HoldsIfAny};
+ghost use Rattle.{sim_base.specs.Limits.IsLand, sim_fact_lists.specs.Places.HoldsIfAny};
+ghost use Rattle.std.specs.Prelude.{◌≡◌, ◌<◌, [], OnOk, OnErr, IsSome, IsOk, MatchOption, Some, None, vec_len, vec_capacity};
+ghost use Rattle.sim_system.specs.{Facts.kept_of, Meanings.one_more, Notes.fact_with, Notes.noted, Notes.NoteFits, Ranges.AreInRange};
 
 use crate::edit::{place_near, put};
 use crate::land::copy_of;

@@ -16,9 +16,9 @@ pub struct Queue {
 }
 
 impl Queue {
-    ghost use Rattle.std.specs.Prelude.{◌≡◌, ◌<◌, ◌≤◌, [], OnOk, length};
-    ghost use Rattle.std.specs.List.{remove as removed, insert as inserted};
-    ghost use Rattle.sim_fact_lists.specs.Queues.{queued, HasPlace};
+    ghost use Rattle.std.specs.List.{insert as inserted, remove as removed};
+    ghost use Rattle.std.specs.Prelude.{◌≡◌, ◌<◌, ◌≤◌, [], length, OnOk};
+    ghost use Rattle.sim_fact_lists.specs.Queues.{HasPlace, queued};
 
     /// It has no id, and takes no memory yet.
     pub fn new(alloc: Global) -> Queue

@@ -1,19 +1,14 @@
 -- The steps from a cell are told by its neighbours, so one cell that is opened or closed changes those of the cells about it alone.
-use Rattle.std.proofs.Common.{◌≡◌, ◌≢◌, ℕ, zero, suc, ◌+◌, ◌*◌, ◌<◌, ◌≤◌, Bool, true, false, cond, ◌&&◌, ◌||◌, List, length, get_or, set, [], ◌∷◌, ◌++◌, Option, Some, None, ℤ, pos, ◌+ℤ◌, refl, sym, ap, ap₂, ◌∙◌, subst, ◌⊎◌, ⊎_elim, inl, inr, arith, length-append}
-use Rattle.std.specs.Int.{bit_at}
-use Rattle.std.proofs.lemmas.Int.{ints}
-use Rattle.std.proofs.lemmas.Bool.{cases_Bool, true≢false}
-use Rattle.std.proofs.lemmas.List.{get_or-set_other, get_or_append_left}
-use Rattle.std.proofs.lemmas.Nat.{mul-add-lt, same_from_place}
-use Rattle.sim_base.specs.declared.place.Cell.{Cell}
-use Rattle.sim_base.specs.Places.{Size, same_cell}
-use Rattle.sim_base.specs.Steps.{Field, IsOnGround, forward, level, back, cell_at, neighbour, is_straight, beside_open}
-use Rattle.std.proofs.lemmas.Grind.{common_steps}
-use Rattle.std.proofs.Math.Nat.{eq-or-lt_of_le}
-use Rattle.sim_laws.proofs.Ground.{same_by_parts, same_cell-true, same_cell-self}
-use Rattle.sim_laws.proofs.Neighbours.{IsPlaceOf, cell_at-some, cell_at-is, neighbour-back, neighbour-on, neighbour-below_eight}
-use Rattle.sim_grid.specs.Grids.{OpenCells, IsGrid, place_of, field_of_grid, is_open_at}
-use Rattle.sim_grid.specs.StepBits.{is_open_to, is_open_step, AreStepsFrom, HasSteps, AreSteps, AreFirstSteps, AreStepsApart, AreStepsBefore, IsNoted}
+use Rattle.std.proofs.{Math.Nat.eq-or-lt_of_le, lemmas.Grind.common_steps}
+use Rattle.std.proofs.Common.{pos, ◌+ℤ◌, Some, None, Option, refl, ap, ap₂, arith, inl, inr, length-append, subst, sym, ⊎_elim, ◌∙◌}
+use Rattle.std.proofs.Common.{◌≡◌, ℕ, zero, suc, ◌+◌, ◌*◌, ◌<◌, ◌≤◌, Bool, true, false, cond, ◌&&◌, ◌||◌, ◌≢◌, ◌⊎◌, List, [], ◌∷◌, ◌++◌, length, get_or, set, ℤ}
+use Rattle.std.proofs.lemmas.{Bool.cases_Bool, Bool.true≢false, Int.ints, List.get_or-set_other, List.get_or_append_left, Nat.mul-add-lt, Nat.same_from_place}
+use Rattle.sim_base.specs.{Places.same_cell, Places.Size, declared.place.Cell.Cell}
+use Rattle.sim_base.specs.Steps.{back, beside_open, cell_at, forward, is_straight, IsOnGround, level, neighbour}
+use Rattle.sim_grid.specs.Grids.{field_of_grid, is_open_at, OpenCells, place_of}
+use Rattle.sim_grid.specs.StepBits.{AreFirstSteps, AreSteps, AreStepsApart, AreStepsBefore, AreStepsFrom, HasSteps, is_open_step, is_open_to, IsNoted}
+use Rattle.sim_laws.proofs.Ground.{same_by_parts, same_cell-self, same_cell-true}
+use Rattle.sim_laws.proofs.Neighbours.{cell_at-is, cell_at-some, neighbour-back, neighbour-below_eight, neighbour-on}
 
 -- ---- two cells of a ground stand in two places
 
@@ -79,7 +74,8 @@ module _ (g : OpenCells) (cell : Cell) (free : Bool) (cell_on : IsOnGround g.siz
   open-elsewhere e on ne = get_or-set_other g.cells (place_of g.size cell) (place_of g.size e) free false (places-apart g.size e cell on cell_on ne)
 
   -- a cell that is not beside the one that is set has the same steps as before
-  step-same : (c : Cell) (which : ℕ) → IsOnGround g.size c → ((w : ℕ) → neighbour g.size cell w ≢ Some c) → is_open_step (field_of_grid next) c which ≡ is_open_step (field_of_grid g) c which
+  step-same : (c : Cell) (which : ℕ) → IsOnGround g.size c → ((w : ℕ) → neighbour g.size cell w ≢ Some c) → is_open_step (field_of_grid next) c which ≡
+      is_open_step (field_of_grid g) c which
   step-same c which on none = by (neighbour g.size c which) refl
     where
       apart : (e : Cell) (w : ℕ) → neighbour g.size e w ≡ Some c → e ≢ cell
@@ -133,7 +129,8 @@ module _ (g : OpenCells) where
             (same_or_not c about);
       }
 
-  pub noted-more : (about b : Cell) (n : ℕ) (old new : List ℕ) → neighbour g.size about n ≡ Some b → AreStepsBefore g about n old → IsNoted g old new b → AreStepsBefore g about (n + 1) new
+  pub noted-more : (about b : Cell) (n : ℕ) (old new : List ℕ) → neighbour g.size about n ≡ Some b → AreStepsBefore g about n old → IsNoted g old new b
+      → AreStepsBefore g about (n + 1) new
   noted-more about b n old new leads s m =
       record {
         full = m.full ∙ s.full;
@@ -144,11 +141,13 @@ module _ (g : OpenCells) where
             (same_or_not c b);
       }
     where
-      further : (c : Cell) → c ≢ b → ((w : ℕ) → n + 1 ≤ w → neighbour g.size about w ≢ Some c) → (w : ℕ) → neighbour g.size about w ≡ Some c → (n ≡ w) ⊎ (n < w) → ⊥
+      further : (c : Cell) → c ≢ b → ((w : ℕ) → n + 1 ≤ w → neighbour g.size about w ≢ Some c) → (w : ℕ) → neighbour g.size about w ≡ Some c → (n ≡ w) ⊎ (n < w)
+          → ⊥
       further c ne none w f (inl e) = let both : Some c ≡ Some b = sym f ∙ ap (neighbour g.size about) (sym e) ∙ leads in let equal : c ≡ b = cc in ne equal
       further c ne none w f (inr lt) = none w (omega arith) f
 
-  pub noted-past : (about : Cell) (n : ℕ) (steps : List ℕ) → neighbour g.size about n ≡ None → AreStepsBefore g about n steps → AreStepsBefore g about (n + 1) steps
+  pub noted-past : (about : Cell) (n : ℕ) (steps : List ℕ) → neighbour g.size about n ≡ None → AreStepsBefore g about n steps
+      → AreStepsBefore g about (n + 1) steps
   noted-past about n steps leads s = record { full = s.full; right = λ c on none. s.right c on (λ w le f. further c none w f (eq-or-lt_of_le le)) }
     where
       further : (c : Cell) → ((w : ℕ) → n + 1 ≤ w → neighbour g.size about w ≢ Some c) → (w : ℕ) → neighbour g.size about w ≡ Some c → (n ≡ w) ⊎ (n < w) → ⊥
@@ -156,9 +155,11 @@ module _ (g : OpenCells) where
       further c none w f (inr lt) = none w (omega arith) f
 
   pub noted-all : (about : Cell) (n : ℕ) (steps : List ℕ) → 8 ≤ n → AreStepsBefore g about n steps → AreSteps g steps
-  noted-all about n steps last s = record { full = s.full; right = λ c on. s.right c on (λ w le f. let below = neighbour-below_eight g.size about c w f in omega arith) }
+  noted-all about n steps last s =
+      record { full = s.full; right = λ c on. s.right c on (λ w le f. let below = neighbour-below_eight g.size about c w f in omega arith) }
 
-  pub first-more : (x z made : ℕ) (steps : List ℕ) → x < g.size.width → AreFirstSteps g (z * g.size.width + x) steps → AreStepsFrom (field_of_grid g) (record { x = x; z = z }) made →
+  pub first-more : (x z made : ℕ) (steps : List ℕ) → x < g.size.width → AreFirstSteps g (z * g.size.width + x) steps
+      → AreStepsFrom (field_of_grid g) (record { x = x; z = z }) made →
       AreFirstSteps g (z * g.size.width + (x + 1)) (steps ++ made ∷ [])
   first-more x z made steps lt s own =
       record {
@@ -172,12 +173,15 @@ module _ (g : OpenCells) where
       last : (n : ℕ) → n ≡ length steps → get_or (steps ++ made ∷ []) n 0 ≡ made
       last n e = grind (arith, common_steps)
 
-      by : (c : Cell) → IsOnGround g.size c → (suc (place_of g.size c) ≡ z * g.size.width + (x + 1)) ⊎ (suc (place_of g.size c) < z * g.size.width + (x + 1)) → HasSteps g (steps ++ made ∷ []) c
+      by : (c : Cell) → IsOnGround g.size c → (suc (place_of g.size c) ≡ z * g.size.width + (x + 1)) ⊎ (suc (place_of g.size c) < z * g.size.width + (x + 1))
+          → HasSteps g (steps ++ made ∷ []) c
       by c on (inl e) =
           let same : place_of g.size here ≡ place_of g.size c = omega arith in
           let parts = same_from_place z x c.z c.x g.size.width lt on.east same in
           let equal : here ≡ c = same_by_parts here c parts.1 parts.0 in
-          subst (λ (n : ℕ). AreStepsFrom (field_of_grid g) c n) (sym (last (place_of g.size c) (omega (arith, s.full)))) (subst (λ (v : Cell). AreStepsFrom (field_of_grid g) v made) equal own)
+          subst (λ (n : ℕ). AreStepsFrom (field_of_grid g) c n) (sym (last (place_of g.size c) (omega (arith, s.full))))
+          (subst (λ (v : Cell). AreStepsFrom (field_of_grid g) v made) equal own)
       by c on (inr below) =
           let before : place_of g.size c < z * g.size.width + x = omega arith in
-          subst (λ (n : ℕ). AreStepsFrom (field_of_grid g) c n) (sym (get_or_append_left steps (made ∷ []) 0 (place_of g.size c) (omega (arith, s.full)))) (s.right c on before)
+          subst (λ (n : ℕ). AreStepsFrom (field_of_grid g) c n) (sym (get_or_append_left steps (made ∷ []) 0 (place_of g.size c) (omega (arith, s.full))))
+          (s.right c on before)

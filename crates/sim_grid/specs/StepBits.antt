@@ -1,9 +1,7 @@
 -- The steps that lead over open cells, as a bit for each direction.
-use Rattle.std.specs.Prelude.{◌≡◌, ◌≢◌, ℕ, ◌*◌, ◌<◌, ◌≤◌, Bool, false, ◌&&◌, ◌||◌, List, length, Option, Some, None, slice_index_or, if◌then◌else◌}
-use Rattle.std.specs.Int.{bit_at}
-use Rattle.sim_base.specs.declared.place.Cell.{Cell}
-use Rattle.sim_base.specs.Steps.{Field, IsOnGround, neighbour, is_straight, beside_open}
-use Rattle.sim_grid.specs.Grids.{OpenCells, place_of, field_of_grid}
+use Rattle.{sim_grid.specs.Grids.field_of_grid, sim_grid.specs.Grids.OpenCells, sim_grid.specs.Grids.place_of, std.specs.Int.bit_at}
+use Rattle.std.specs.Prelude.{◌≡◌, ℕ, ◌*◌, ◌<◌, ◌≤◌, Bool, false, ◌&&◌, ◌||◌, ◌≢◌, List, length, if◌then◌else◌, slice_index_or, Some, None, Option}
+use Rattle.sim_base.specs.{Steps.beside_open, Steps.Field, Steps.is_straight, Steps.IsOnGround, Steps.neighbour, declared.place.Cell.Cell}
 
 -- whether a step from a to b, if that is its neighbour in that direction, leads over open cells
 abbrev pub is_open_to : Field → Cell → ℕ → Option Cell → Bool

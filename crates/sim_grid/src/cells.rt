@@ -1,9 +1,9 @@
 //! Which cells of a ground are open: one truth value for each, row by row. It stands below the grid, which keeps beside
 //! it what steps they leave.
 
-ghost use Rattle.std.specs.Prelude.{◌≡◌, ◌≢◌, ◌≤◌, ◌<◌, ◌*◌, ◌↔◌, IsTrue, IfOk, Some, None, pos, ◌+ℤ◌, ◌≤ℤ◌, true, replicate, slice_get, slice_set};
-ghost use Rattle.sim_base.specs.Steps.{IsOnGround, neighbour as neighbour_of, cell_at as cell_of_numbers, offsets};
-ghost use Rattle.sim_grid.specs.Grids.{IsGrid, IsOneOff, is_open_at, place_of};
+ghost use Rattle.std.specs.Prelude.{◌≡◌, ◌*◌, ◌<◌, ◌≤◌, true, ◌≢◌, ◌↔◌, replicate, pos, ◌+ℤ◌, ◌≤ℤ◌, IfOk, IsTrue, slice_get, slice_set, Some, None};
+ghost use Rattle.sim_base.specs.Steps.{cell_at as cell_of_numbers, IsOnGround, neighbour as neighbour_of, offsets};
+ghost use Rattle.sim_grid.specs.Grids.{is_open_at, IsGrid, IsOneOff, place_of};
 
 use sim_base::{Cell, OutOfMemory};
 use std::alloc::Global;
@@ -18,7 +18,7 @@ pub struct Cells {
 }
 
 impl Model for Cells {
-    ghost use Rattle.sim_grid.specs.Grids.{OpenCells, IsGrid};
+    ghost use Rattle.sim_grid.specs.Grids.{IsGrid, OpenCells};
 
     ghost Value = { OpenCells };
 

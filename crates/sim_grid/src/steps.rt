@@ -1,10 +1,9 @@
 //! The steps that lead over open cells, as a bit for each of the eight directions. They are noted for each cell when the
 //! cells change, so that whoever goes from cell to cell reads one byte and looks at none of those about it.
 
-ghost use Rattle.std.specs.Prelude.{◌≡◌, ◌<◌, ◌+◌, ◌*◌, vec_len, OnOk, IfOk};
-ghost use Rattle.sim_base.specs.Steps.{IsOnGround, beside_open};
-ghost use Rattle.sim_grid.specs.Grids.{field_of_grid, is_open_at};
-ghost use Rattle.sim_grid.specs.StepBits.{is_open_step, AreStepsFrom, AreSteps, AreFirstSteps, AreStepsApart, IsNoted};
+ghost use Rattle.{sim_base.specs.Steps.beside_open, sim_base.specs.Steps.IsOnGround, sim_grid.specs.Grids.field_of_grid, sim_grid.specs.Grids.is_open_at};
+ghost use Rattle.std.specs.Prelude.{◌≡◌, ◌+◌, ◌*◌, ◌<◌, IfOk, OnOk, vec_len};
+ghost use Rattle.sim_grid.specs.StepBits.{AreFirstSteps, AreSteps, AreStepsApart, AreStepsFrom, is_open_step, IsNoted};
 
 use crate::cells::Cells;
 use sim_base::{Cell, OutOfMemory};

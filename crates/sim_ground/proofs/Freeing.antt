@@ -1,21 +1,8 @@
 -- A rectangle of the land is free where it has no cell in common with another one.
-use Rattle.std.proofs.Common.{◌≡◌, ℕ, ◌≤◌, Bool, true, false, not, ℤ, pos, negsuc, ◌≤ℤ◌, ◌<ℤ◌, List, [], ◌∷◌, refl, sym, ap, ◌∙◌, subst, ◌⊎◌, ⊎_elim, inl, inr, arith}
-use Rattle.std.specs.Prelude.{◌&&◌, ◌||◌, int_le, int_lt, Option, Some, None}
-use Rattle.std.specs.List.{list_any, list_all}
-use Rattle.std.proofs.lemmas.Bool.{and_parts, and_from, or_cases, or_left, or_right}
-use Rattle.std.proofs.lemmas.Int.{ints}
-use Rattle.sim_base.specs.declared.place.Cell.{Cell}
-use Rattle.sim_base.specs.declared.place.Rect.{Rect}
-use Rattle.sim_base.specs.declared.setup.Land.{Land}
-use Rattle.sim_base.specs.Places.{Size, covers, is_rect_inside, cells_of}
-use Rattle.sim_base.specs.Filters.{rect_covers}
-use Rattle.sim_base.specs.Rows.{size_of}
-use Rattle.sim_base.specs.Steps.{IsOnGround}
-use Rattle.sim_laws.proofs.Members.{Has}
-use Rattle.sim_laws.proofs.Ground.{Has-cells_of}
-use Rattle.sim_system.specs.declared.fact.Fact.{Fact}
-use Rattle.sim_system.specs.Answers.{is_open_among, is_free_among}
-use Rattle.sim_ground.specs.Overlaps.{meet, overlap, overlaps_any}
+use Rattle.sim_ground.proofs.Common.{None, Option, refl, and_from, and_parts, ap, arith, Cell, cells_of, covers, Fact, Has, Has-cells_of, inl, inr, ints}
+use Rattle.sim_ground.proofs.Common.{is_free_among, is_open_among, is_rect_inside, IsOnGround, Land, list_all, list_any, meet, or_cases, or_left, or_right}
+use Rattle.sim_ground.proofs.Common.{overlap, overlaps_any, Rect, rect_covers, Size, size_of, subst, sym, ⊎_elim, ◌∙◌}
+use Rattle.sim_ground.proofs.Common.{◌≡◌, ℕ, ◌≤◌, Bool, true, false, not, ◌&&◌, ◌||◌, ◌⊎◌, List, [], ◌∷◌, ℤ, pos, negsuc, ◌≤ℤ◌, ◌<ℤ◌, int_lt, int_le, Some}
 
 -- ---- numbers of two stretches
 
@@ -54,8 +41,16 @@ meets a b p q low h =
     let (first, second) = and_parts (int_le a q) (int_le p b) cross in
     let (n, g) = greater a p low in
     ⊎_elim
-    (λ (is : pos n ≡ a). (n, record { from = g.first; to = subst (λ (z : ℤ). z ≤ℤ b) (sym is) (le_true a b own) }, record { from = g.second; to = subst (λ (z : ℤ). z ≤ℤ q) (sym is) (le_true a q first) }))
-    (λ (is : pos n ≡ p). (n, record { from = g.first; to = subst (λ (z : ℤ). z ≤ℤ b) (sym is) (le_true p b second) }, record { from = g.second; to = subst (λ (z : ℤ). z ≤ℤ q) (sym is) (le_true p q theirs) }))
+    (λ (is : pos n ≡ a). (
+      n,
+      record { from = g.first; to = subst (λ (z : ℤ). z ≤ℤ b) (sym is) (le_true a b own) },
+      record { from = g.second; to = subst (λ (z : ℤ). z ≤ℤ q) (sym is) (le_true a q first) },
+    ))
+    (λ (is : pos n ≡ p). (
+      n,
+      record { from = g.first; to = subst (λ (z : ℤ). z ≤ℤ b) (sym is) (le_true p b second) },
+      record { from = g.second; to = subst (λ (z : ℤ). z ≤ℤ q) (sym is) (le_true p q theirs) },
+    ))
     g.one
 
 meet_from : (a b p q : ℤ) (n : ℕ) → IsIn a b n → IsIn p q n → meet a b p q ≡ true
@@ -75,19 +70,25 @@ covered r c h =
     let (three, north) = and_parts ((int_le r.x0 (pos c.x) && int_le (pos c.x) r.x1) && int_le r.z0 (pos c.z)) (int_le (pos c.z) r.z1) h in
     let (two, south) = and_parts (int_le r.x0 (pos c.x) && int_le (pos c.x) r.x1) (int_le r.z0 (pos c.z)) three in
     let (west, east) = and_parts (int_le r.x0 (pos c.x)) (int_le (pos c.x) r.x1) two in
-    record { x = record { from = le_true r.x0 (pos c.x) west; to = le_true (pos c.x) r.x1 east }; z = record { from = le_true r.z0 (pos c.z) south; to = le_true (pos c.z) r.z1 north } }
+    record {
+      x = record { from = le_true r.x0 (pos c.x) west; to = le_true (pos c.x) r.x1 east };
+      z =
+          record { from = le_true r.z0 (pos c.z) south; to = le_true (pos c.z) r.z1 north };
+    }
 
 covers_from : (r : Rect) (c : Cell) → IsCovered r c → covers r c ≡ true
 covers_from r c h =
     and_from ((int_le r.x0 (pos c.x) && int_le (pos c.x) r.x1) && int_le r.z0 (pos c.z)) (int_le (pos c.z) r.z1)
     (and_from (int_le r.x0 (pos c.x) && int_le (pos c.x) r.x1) (int_le r.z0 (pos c.z))
-    (and_from (int_le r.x0 (pos c.x)) (int_le (pos c.x) r.x1) (le_test r.x0 (pos c.x) h.x.from) (le_test (pos c.x) r.x1 h.x.to)) (le_test r.z0 (pos c.z) h.z.from)) (le_test (pos c.z) r.z1 h.z.to)
+    (and_from (int_le r.x0 (pos c.x)) (int_le (pos c.x) r.x1) (le_test r.x0 (pos c.x) h.x.from) (le_test (pos c.x) r.x1 h.x.to))
+    (le_test r.z0 (pos c.z) h.z.from)) (le_test (pos c.z) r.z1 h.z.to)
 
 overlap_from : (r a : Rect) (c : Cell) → covers r c ≡ true → covers a c ≡ true → overlap r a ≡ true
 overlap_from r a c one other =
     let first = covered r c one in
     let second = covered a c other in
-    and_from (meet r.x0 r.x1 a.x0 a.x1) (meet r.z0 r.z1 a.z0 a.z1) (meet_from r.x0 r.x1 a.x0 a.x1 c.x first.x second.x) (meet_from r.z0 r.z1 a.z0 a.z1 c.z first.z second.z)
+    and_from (meet r.x0 r.x1 a.x0 a.x1) (meet r.z0 r.z1 a.z0 a.z1) (meet_from r.x0 r.x1 a.x0 a.x1 c.x first.x second.x)
+    (meet_from r.z0 r.z1 a.z0 a.z1 c.z first.z second.z)
 
 overlaps_from : (r : Rect) (o : Option Rect) (c : Cell) → covers r c ≡ true → rect_covers o c ≡ true → overlaps_any r o ≡ true
 overlaps_from r None c one other = other
@@ -105,7 +106,13 @@ within size r h =
     let (three, north) = and_parts ((int_le (pos 0) r.x0 && int_lt r.x1 (pos size.width)) && int_le (pos 0) r.z0) (int_lt r.z1 (pos size.depth)) h in
     let (two, south) = and_parts (int_le (pos 0) r.x0 && int_lt r.x1 (pos size.width)) (int_le (pos 0) r.z0) three in
     let (west, east) = and_parts (int_le (pos 0) r.x0) (int_lt r.x1 (pos size.width)) two in
-    record { west = le_true (pos 0) r.x0 west; east = lt_true r.x1 (pos size.width) east; south = le_true (pos 0) r.z0 south; north = lt_true r.z1 (pos size.depth) north }
+    record {
+      west = le_true (pos 0) r.x0 west;
+      east = lt_true r.x1 (pos size.width) east;
+      south = le_true (pos 0) r.z0 south;
+      north =
+          lt_true r.z1 (pos size.depth) north;
+    }
   where
     lt_true : (a b : ℤ) → int_lt a b ≡ true → a <ℤ b
     lt_true a b h = grind (arith, ints)
@@ -139,7 +146,8 @@ common_any size r (Some a) inside h = common size r a inside h
 module _ {X : Type 0} (p : X → Bool) where
   any_has : (xs : List X) → list_any p xs ≡ true → (x : X) × Has xs x × (p x ≡ true)
   any_has [] h = absurd (cc)
-  any_has (x ∷ xs) h = ⊎_elim (λ (here : p x ≡ true). (x, inl refl, here)) (λ (later : list_any p xs ≡ true). let (y, m, e) = any_has xs later in (y, inr m, e)) (or_cases (p x) (list_any p xs) h)
+  any_has (x ∷ xs) h = ⊎_elim (λ (here : p x ≡ true). (x, inl refl, here)) (λ (later : list_any p xs ≡ true). let (y, m, e) = any_has xs later in (y, inr m, e))
+      (or_cases (p x) (list_any p xs) h)
 
   has_any : (xs : List X) (x : X) → Has xs x → p x ≡ true → list_any p xs ≡ true
   has_any [] x h e = absurd h
@@ -188,7 +196,8 @@ module _ (land : Land) (facts : List Fact) (r : Rect) where
         let (a, m, e) = any_has (overlap r) land.closed some in
         let (c, both) = common (size_of land) r a inside e in
         let there : closed_at c ≡ true = has_any (λ (q : Rect). covers q c) land.closed a m both.second in
-        let not_there = (shut (covers r c) (closed_at c) (built_at c) (all_has test (cells_of (size_of land)) c (Has-cells_of (size_of land) c both.on_land) all) both.first).0 in
+        let not_there = (shut (covers r c) (closed_at c) (built_at c) (all_has test (cells_of (size_of land)) c (Has-cells_of (size_of land) c both.on_land)
+        all) both.first).0 in
         absurd (cc (there, not_there))
 
     no_built : list_all test (cells_of (size_of land)) ≡ true → list_any (λ (fact : Fact). overlaps_any r fact.rect) facts ≡ true → ⊥
@@ -196,11 +205,14 @@ module _ (land : Land) (facts : List Fact) (r : Rect) where
         let (fact, m, e) = any_has (λ (f : Fact). overlaps_any r f.rect) facts some in
         let (c, both) = common_any (size_of land) r fact.rect inside e in
         let there : built_at c ≡ true = has_any (λ (f : Fact). rect_covers f.rect c) facts fact m both.second in
-        let not_there = (shut (covers r c) (closed_at c) (built_at c) (all_has test (cells_of (size_of land)) c (Has-cells_of (size_of land) c both.on_land) all) both.first).1 in
+        let not_there = (shut (covers r c) (closed_at c) (built_at c) (all_has test (cells_of (size_of land)) c (Has-cells_of (size_of land) c both.on_land)
+        all) both.first).1 in
         absurd (cc (there, not_there))
 
-    all_open : list_any (overlap r) land.closed ≡ false → list_any (λ (fact : Fact). overlaps_any r fact.rect) facts ≡ false → list_all test (cells_of (size_of land)) ≡ true
-    all_open none nobody = all_from test (cells_of (size_of land)) (λ c m. open_from (covers r c) (closed_at c) (built_at c) (λ h. not_true (closed_at c) (no_rect c h)) (λ h. not_true (built_at c) (no_fact c h)))
+    all_open : list_any (overlap r) land.closed ≡ false → list_any (λ (fact : Fact). overlaps_any r fact.rect) facts ≡ false
+        → list_all test (cells_of (size_of land)) ≡ true
+    all_open none nobody = all_from test (cells_of (size_of land))
+        (λ c m. open_from (covers r c) (closed_at c) (built_at c) (λ h. not_true (closed_at c) (no_rect c h)) (λ h. not_true (built_at c) (no_fact c h)))
       where
         no_rect : (c : Cell) → covers r c ≡ true → closed_at c ≡ true → ⊥
         no_rect c h some =
@@ -222,12 +234,17 @@ module _ (land : Land) (facts : List Fact) (r : Rect) where
     apart_is_open false true false first second third = refl
     apart_is_open false false all first second third = sym (third refl refl)
 
-    same : (not (list_any (overlap r) land.closed) && not (list_any (λ (fact : Fact). overlaps_any r fact.rect) facts)) ≡ list_all test (cells_of (size_of land))
-    same = apart_is_open (list_any (overlap r) land.closed) (list_any (λ (fact : Fact). overlaps_any r fact.rect) facts) (list_all test (cells_of (size_of land))) no_closed no_built all_open
+    same : (not (list_any (overlap r) land.closed) && not (list_any (λ (fact : Fact). overlaps_any r fact.rect) facts)) ≡ list_all test
+        (cells_of (size_of land))
+    same = apart_is_open (list_any (overlap r) land.closed) (list_any (λ (fact : Fact). overlaps_any r fact.rect) facts)
+        (list_all test (cells_of (size_of land))) no_closed no_built all_open
 
-  pub free_is : (is_rect_inside (size_of land) r && (not (list_any (overlap r) land.closed) && not (list_any (λ (fact : Fact). overlaps_any r fact.rect) facts))) ≡ is_free_among land facts r
+  pub free_is : (is_rect_inside (size_of land) r
+      && (not (list_any (overlap r) land.closed) && not (list_any (λ (fact : Fact). overlaps_any r fact.rect) facts))) ≡ is_free_among land facts r
   free_is = by (is_rect_inside (size_of land) r) refl
     where
-      by : (b : Bool) → is_rect_inside (size_of land) r ≡ b → (b && (not (list_any (overlap r) land.closed) && not (list_any (λ (fact : Fact). overlaps_any r fact.rect) facts))) ≡ (b && list_all test (cells_of (size_of land)))
+      by : (b : Bool) → is_rect_inside (size_of land) r ≡ b
+          → (b && (not (list_any (overlap r) land.closed) && not (list_any (λ (fact : Fact). overlaps_any r fact.rect) facts))) ≡
+          (b && list_all test (cells_of (size_of land)))
       by true e = same (within (size_of land) r e)
       by false e = refl

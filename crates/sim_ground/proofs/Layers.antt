@@ -1,19 +1,11 @@
 -- Layers over cells, one cell after another.
-use Rattle.std.proofs.Common.{◌≡◌, ℕ, ◌+◌, ◌*◌, ◌<◌, ◌≤◌, Bool, true, false, List, length, get_or, set, replicate, take, refl, sym, ap, ◌∙◌, subst, arith, length-set, length-take}
-use Rattle.std.specs.Prelude.{◌||◌, ◌==◌, count_by}
-use Rattle.std.proofs.lemmas.Bool.Decides.{nat_tests}
-use Rattle.std.proofs.lemmas.List.{get_or_default, get_or-set_same, get_or-set_other, get_or-replicate, length-replicate}
-use Rattle.std.proofs.lemmas.List.Sums.{count_by-le-length, count_by_more_yes, count_by_more_no}
-use Rattle.std.proofs.lemmas.Nat.{mul-add-lt, same_from_place}
-use Rattle.sim_base.specs.declared.place.Cell.{Cell}
-use Rattle.sim_base.specs.Places.{Size, same_cell}
-use Rattle.sim_base.specs.Steps.{IsOnGround}
-use Rattle.sim_laws.proofs.Ground.{same_by_parts, same_cell-true}
-use Rattle.sim_grid.specs.Grids.{OpenCells, IsGrid, place_of, is_open_at}
-use Rattle.sim_fact_lists.specs.Changes.{one_if}
-use Rattle.sim_ground.specs.Closing.{in_row, in_rows}
-use Rattle.sim_ground.proofs.Stretches.{row_more, row_apart, row_next, row_has, rows_more, rows_apart, rows_next, rows_has}
-use Rattle.sim_ground.specs.Layers.{layers_at, AreOpenWhereNone, Steps, MayStep, LayersChange, MayChange, LayersRise, AreAtMost, most_layers}
+use Rattle.sim_ground.proofs.Common.{AreAtMost, AreOpenWhereNone, arith, Cell, count_by-le-length, count_by_more_no, count_by_more_yes, get_or-replicate}
+use Rattle.sim_ground.proofs.Common.{LayersChange, LayersRise, length-replicate, length-set, length-take, MayChange, MayStep, most_layers, mul-add-lt}
+use Rattle.sim_ground.proofs.Common.{get_or-set_other, get_or-set_same, get_or_default, in_row, in_rows, is_open_at, IsGrid, IsOnGround, layers_at}
+use Rattle.sim_ground.proofs.Common.{nat_tests, one_if, OpenCells, place_of, same_by_parts, same_cell, same_cell-true, same_from_place, Size, Steps, subst, sym}
+use Rattle.sim_ground.proofs.Common.{◌∙◌}
+use Rattle.sim_ground.proofs.Common.{◌≡◌, ℕ, ◌+◌, ◌*◌, ◌<◌, ◌≤◌, Bool, true, false, ◌||◌, List, length, get_or, take, set, replicate, ◌==◌, count_by, refl, ap}
+use Rattle.sim_ground.proofs.Stretches.{row_apart, row_has, row_more, row_next, rows_apart, rows_has, rows_more, rows_next}
 
 -- ---- steps
 
@@ -39,27 +31,34 @@ steps_same false old new h = omega (arith, h)
 
 module _ (more : Bool) (size : Size) where
   pub changes_nothing : (which : Cell → Bool) (xs : List ℕ) → ((c : Cell) → which c ≡ false) → LayersChange more which size xs xs
-  changes_nothing which xs none c on = subst (λ (b : Bool). Steps more (one_if b) (layers_at size xs c) (layers_at size xs c)) (sym (none c)) (steps_none more (layers_at size xs c))
+  changes_nothing which xs none c on = subst (λ (b : Bool). Steps more (one_if b) (layers_at size xs c) (layers_at size xs c)) (sym (none c))
+      (steps_none more (layers_at size xs c))
 
-  pub changes_more : (p q r : Cell → Bool) (old mid new : List ℕ) → ((c : Cell) → r c ≡ (p c || q c)) → ((c : Cell) → p c ≡ true → q c ≡ false) → LayersChange more p size old mid → LayersChange more q size mid new → LayersChange more r size old new
+  pub changes_more : (p q r : Cell → Bool) (old mid new : List ℕ) → ((c : Cell) → r c ≡ (p c || q c)) → ((c : Cell) → p c ≡ true → q c ≡ false)
+      → LayersChange more p size old mid → LayersChange more q size mid new → LayersChange more r size old new
   changes_more p q r old mid new split apart first second c on =
       subst (λ (n : ℕ). Steps more n (layers_at size old c) (layers_at size new c)) (sym (ap one_if (split c) ∙ one_apart (p c) (q c) (apart c)))
       (steps_more more (one_if (p c)) (one_if (q c)) (layers_at size old c) (layers_at size mid c) (layers_at size new c) (first c on) (second c on))
 
-  pub changes_same : (p q : Cell → Bool) (old new : List ℕ) → ((c : Cell) → IsOnGround size c → p c ≡ q c) → LayersChange more p size old new → LayersChange more q size old new
+  pub changes_same : (p q : Cell → Bool) (old new : List ℕ) → ((c : Cell) → IsOnGround size c → p c ≡ q c) → LayersChange more p size old new
+      → LayersChange more q size old new
   changes_same p q old new same h c on = subst (λ (b : Bool). Steps more (one_if b) (layers_at size old c) (layers_at size new c)) (same c on) (h c on)
 
   -- a cell that did not change yet may change as it might before
-  pub may_at : (p r : Cell → Bool) (old new : List ℕ) (c : Cell) → IsOnGround size c → p c ≡ false → r c ≡ true → LayersChange more p size old new → MayChange more r size old → MayStep more (layers_at size new c)
+  pub may_at : (p r : Cell → Bool) (old new : List ℕ) (c : Cell) → IsOnGround size c → p c ≡ false → r c ≡ true → LayersChange more p size old new
+      → MayChange more r size old → MayStep more (layers_at size new c)
   may_at p r old new c on apart inside h may =
-      subst (MayStep more) (sym (steps_same more (layers_at size old c) (layers_at size new c) (subst (λ (b : Bool). Steps more (one_if b) (layers_at size old c) (layers_at size new c)) apart (h c on)))) (may c on inside)
+      subst (MayStep more) (sym
+      (steps_same more (layers_at size old c) (layers_at size new c)
+      (subst (λ (b : Bool). Steps more (one_if b) (layers_at size old c) (layers_at size new c)) apart (h c on)))) (may c on inside)
 
   pub may_where : (p q : Cell → Bool) (xs : List ℕ) → ((c : Cell) → IsOnGround size c → p c ≡ q c) → MayChange more q size xs → MayChange more p size xs
   may_where p q xs same may c on e = may c on (sym (same c on) ∙ e)
 
 -- ---- one cell
 
-module _ (g : OpenCells) (xs ys : List ℕ) (here : Cell) (after : ℕ) (full : length xs ≡ g.size.width * g.size.depth) (there : IsOnGround g.size here) (is : ys ≡ set xs (place_of g.size here) after) where
+module _ (g : OpenCells) (xs ys : List ℕ) (here : Cell) (after : ℕ) (full : length xs ≡ g.size.width * g.size.depth) (there : IsOnGround g.size here)
+    (is : ys ≡ set xs (place_of g.size here) after) where
   pub place_within : place_of g.size here < length xs
   place_within = subst (λ (n : ℕ). place_of g.size here < n) (sym full) (mul-add-lt here.z g.size.width here.x g.size.depth there.north there.east)
 
@@ -73,10 +72,12 @@ module _ (g : OpenCells) (xs ys : List ℕ) (here : Cell) (after : ℕ) (full : 
       self_is v = grind (arith, nat_tests)
 
   at_here : (c : Cell) → same_cell c here ≡ true → layers_at g.size ys c ≡ after
-  at_here c e = ap (λ (v : Cell). layers_at g.size ys v) (same_cell-true c here e) ∙ ap (λ (zs : List ℕ). layers_at g.size zs here) is ∙ get_or-set_same xs (place_of g.size here) after 0 place_within
+  at_here c e = ap (λ (v : Cell). layers_at g.size ys v) (same_cell-true c here e) ∙ ap (λ (zs : List ℕ). layers_at g.size zs here) is ∙
+      get_or-set_same xs (place_of g.size here) after 0 place_within
 
   elsewhere : (c : Cell) → IsOnGround g.size c → same_cell c here ≡ false → layers_at g.size ys c ≡ layers_at g.size xs c
-  elsewhere c on e = ap (λ (zs : List ℕ). layers_at g.size zs c) is ∙ get_or-set_other xs (place_of g.size here) (place_of g.size c) after 0 (apart c on (differs c e))
+  elsewhere c on e = ap (λ (zs : List ℕ). layers_at g.size zs c) is ∙ get_or-set_other xs (place_of g.size here) (place_of g.size c) after 0
+      (apart c on (differs c e))
 
   pub cell_changes : (more : Bool) → Steps more 1 (layers_at g.size xs here) after → LayersChange more (λ c. same_cell c here) g.size xs ys
   cell_changes more step c on = by (same_cell c here) refl
@@ -91,17 +92,22 @@ module _ (g : OpenCells) (xs ys : List ℕ) (here : Cell) (after : ℕ) (full : 
   ys_full = ap length is ∙ length-set xs (place_of g.size here) after ∙ full
 
   -- the grid is told where this opened or closed the cell
-  pub cell_told : (new : OpenCells) (free : Bool) → IsGrid g → AreOpenWhereNone g xs → free ≡ (after == 0) → new ≡ record g { cells = set g.cells (place_of g.size here) free } → AreOpenWhereNone new ys
-  cell_told new free grid agree e told = subst (λ (h : OpenCells). AreOpenWhereNone h ys) (sym told) (record { full = ys_full; each = λ c on. by c on (same_cell c here) refl })
+  pub cell_told : (new : OpenCells) (free : Bool) → IsGrid g → AreOpenWhereNone g xs → free ≡ (after == 0)
+      → new ≡ record g { cells = set g.cells (place_of g.size here) free } → AreOpenWhereNone new ys
+  cell_told new free grid agree e told = subst (λ (h : OpenCells). AreOpenWhereNone h ys) (sym told)
+      (record { full = ys_full; each = λ c on. by c on (same_cell c here) refl })
     where
       inside : place_of g.size here < length g.cells
       inside = subst (λ (n : ℕ). place_of g.size here < n) (sym grid.full) (mul-add-lt here.z g.size.width here.x g.size.depth there.north there.east)
 
-      by : (c : Cell) → IsOnGround g.size c → (b : Bool) → same_cell c here ≡ b → get_or (set g.cells (place_of g.size here) free) (place_of g.size c) false ≡ (layers_at g.size ys c == 0)
+      by : (c : Cell) → IsOnGround g.size c → (b : Bool) → same_cell c here ≡ b → get_or (set g.cells (place_of g.size here) free) (place_of g.size c) false ≡
+          (layers_at g.size ys c == 0)
       by c on true s =
-          ap (λ (v : Cell). get_or (set g.cells (place_of g.size here) free) (place_of g.size v) false) (same_cell-true c here s) ∙ get_or-set_same g.cells (place_of g.size here) free false inside ∙ e
+          ap (λ (v : Cell). get_or (set g.cells (place_of g.size here) free) (place_of g.size v) false) (same_cell-true c here s) ∙
+          get_or-set_same g.cells (place_of g.size here) free false inside ∙ e
           ∙ sym (ap (λ (n : ℕ). n == 0) (at_here c s))
-      by c on false s = get_or-set_other g.cells (place_of g.size here) (place_of g.size c) free false (apart c on (differs c s)) ∙ agree.each c on ∙ sym (ap (λ (n : ℕ). n == 0) (elsewhere c on s))
+      by c on false s = get_or-set_other g.cells (place_of g.size here) (place_of g.size c) free false (apart c on (differs c s)) ∙ agree.each c on ∙
+          sym (ap (λ (n : ℕ). n == 0) (elsewhere c on s))
 
   -- and it is as it was where this did not
   pub cell_stays : AreOpenWhereNone g xs → (layers_at g.size xs here == 0) ≡ (after == 0) → AreOpenWhereNone g ys
@@ -114,17 +120,21 @@ module _ (g : OpenCells) (xs ys : List ℕ) (here : Cell) (after : ℕ) (full : 
 
 -- ---- no layer yet
 
-pub none_yet : (g : OpenCells) (size : Size) (xs : List ℕ) → g ≡ record { size = size; cells = replicate (size.width * size.depth) true } → xs ≡ replicate (size.width * size.depth) 0 → AreOpenWhereNone g xs
-none_yet g size xs e f = subst (λ (h : OpenCells). AreOpenWhereNone h xs) (sym e) (subst (AreOpenWhereNone (record { size = size; cells = replicate (size.width * size.depth) true })) (sym f) (record {
-  full = length-replicate (size.width * size.depth) 0;
-  each = λ c on.
-      let lt = mul-add-lt c.z size.width c.x size.depth on.north on.east in
-      get_or-replicate (size.width * size.depth) (c.z * size.width + c.x) true false lt ∙ sym (ap (λ (n : ℕ). n == 0) (get_or-replicate (size.width * size.depth) (c.z * size.width + c.x) 0 0 lt));
-}))
+pub none_yet : (g : OpenCells) (size : Size) (xs : List ℕ) → g ≡ record { size = size; cells = replicate (size.width * size.depth) true }
+    → xs ≡ replicate (size.width * size.depth) 0 → AreOpenWhereNone g xs
+none_yet g size xs e f = subst (λ (h : OpenCells). AreOpenWhereNone h xs) (sym e)
+    (subst (AreOpenWhereNone (record { size = size; cells = replicate (size.width * size.depth) true })) (sym f) (record {
+      full = length-replicate (size.width * size.depth) 0;
+      each = λ c on.
+          let lt = mul-add-lt c.z size.width c.x size.depth on.north on.east in
+          get_or-replicate (size.width * size.depth) (c.z * size.width + c.x) true false lt ∙
+          sym (ap (λ (n : ℕ). n == 0) (get_or-replicate (size.width * size.depth) (c.z * size.width + c.x) 0 0 lt));
+    }))
 
 -- ---- the cell that is stepped on
 
-module _ (g : OpenCells) (xs : List ℕ) (here : Cell) (place before after : ℕ) (full : length xs ≡ g.size.width * g.size.depth) (there : IsOnGround g.size here) (e : place ≡ place_of g.size here) (r : before ≡ get_or xs place before) where
+module _ (g : OpenCells) (xs : List ℕ) (here : Cell) (place before after : ℕ) (full : length xs ≡ g.size.width * g.size.depth) (there : IsOnGround g.size here)
+    (e : place ≡ place_of g.size here) (r : before ≡ get_or xs place before) where
   ys_is : set xs place after ≡ set xs (place_of g.size here) after
   ys_is = ap (λ (n : ℕ). set xs n after) e
 
@@ -136,7 +146,8 @@ module _ (g : OpenCells) (xs : List ℕ) (here : Cell) (place before after : ℕ
   pub step_layers : (more : Bool) → Steps more 1 before after → LayersChange more (λ c. same_cell c here) g.size xs (set xs place after)
   step_layers more step = cell_changes g xs (set xs place after) here after full there ys_is more (subst (λ (n : ℕ). Steps more 1 n after) read_is step)
 
-  pub step_told : (new : OpenCells) (free : Bool) → IsGrid g → AreOpenWhereNone g xs → free ≡ (after == 0) → new ≡ record g { cells = set g.cells (place_of g.size here) free } → AreOpenWhereNone new (set xs place after)
+  pub step_told : (new : OpenCells) (free : Bool) → IsGrid g → AreOpenWhereNone g xs → free ≡ (after == 0)
+      → new ≡ record g { cells = set g.cells (place_of g.size here) free } → AreOpenWhereNone new (set xs place after)
   step_told = cell_told g xs (set xs place after) here after full there ys_is
 
   pub step_stays : AreOpenWhereNone g xs → (before == 0) ≡ (after == 0) → AreOpenWhereNone g (set xs place after)
@@ -145,35 +156,46 @@ module _ (g : OpenCells) (xs : List ℕ) (here : Cell) (place before after : ℕ
 -- ---- a row, and several
 
 module _ (more : Bool) (size later : Size) (old mid : List ℕ) (same : later ≡ size) where
-  pub row_may : (z west east x : ℕ) → west ≤ x → x < east → IsOnGround size (record { x = x; z = z }) → LayersChange more (in_row z west x) size old mid → MayChange more (in_row z west east) size old → MayStep more (layers_at later mid (record { x = x; z = z }))
+  pub row_may : (z west east x : ℕ) → west ≤ x → x < east → IsOnGround size (record { x = x; z = z }) → LayersChange more (in_row z west x) size old mid
+      → MayChange more (in_row z west east) size old → MayStep more (layers_at later mid (record { x = x; z = z }))
   row_may z west east x le lt on h may =
       let here : Cell = record { x = x; z = z } in
-      subst (λ (s : Size). MayStep more (layers_at s mid here)) (sym same) (may_at more size (in_row z west x) (in_row z west east) old mid here on (row_next z west x) (row_has z west x east le lt) h may)
+      subst (λ (s : Size). MayStep more (layers_at s mid here)) (sym same) (may_at more size (in_row z west x) (in_row z west east) old mid here on
+      (row_next z west x) (row_has z west x east le lt) h may)
 
-  pub row_steps : (z west x : ℕ) (new : List ℕ) → west ≤ x → LayersChange more (in_row z west x) size old mid → LayersChange more (λ c. same_cell c (record { x = x; z = z })) later mid new → LayersChange more (in_row z west (x + 1)) size old new
+  pub row_steps : (z west x : ℕ) (new : List ℕ) → west ≤ x → LayersChange more (in_row z west x) size old mid
+      → LayersChange more (λ c. same_cell c (record { x = x; z = z })) later mid new → LayersChange more (in_row z west (x + 1)) size old new
   row_steps z west x new le h step =
       let here : Cell = record { x = x; z = z } in
-      changes_more more size (in_row z west x) (λ (c : Cell). same_cell c here) (in_row z west (x + 1)) old mid new (λ c. row_more z west x c le) (row_apart z west x) h
+      changes_more more size (in_row z west x) (λ (c : Cell). same_cell c here) (in_row z west (x + 1)) old mid new (λ c. row_more z west x c le)
+      (row_apart z west x) h
       (subst (λ (s : Size). LayersChange more (λ c. same_cell c here) s mid new) same step)
 
-  pub rows_may : (south north west east z : ℕ) → south ≤ z → z < north → LayersChange more (in_rows south z west east) size old mid → MayChange more (in_rows south north west east) size old → MayChange more (in_row z west east) later mid
+  pub rows_may : (south north west east z : ℕ) → south ≤ z → z < north → LayersChange more (in_rows south z west east) size old mid
+      → MayChange more (in_rows south north west east) size old → MayChange more (in_row z west east) later mid
   rows_may south north west east z le lt h may =
       subst (λ (s : Size). MayChange more (in_row z west east) s mid) (sym same)
-      (λ c on e. may_at more size (in_rows south z west east) (in_rows south north west east) old mid c on (rows_next south z west east c e) (rows_has south z north west east c le lt e) h may)
+      (λ c on e. may_at more size (in_rows south z west east) (in_rows south north west east) old mid c on (rows_next south z west east c e)
+      (rows_has south z north west east c le lt e) h may)
 
-  pub rows_steps : (south west east z : ℕ) (new : List ℕ) → south ≤ z → LayersChange more (in_rows south z west east) size old mid → LayersChange more (in_row z west east) later mid new → LayersChange more (in_rows south (z + 1) west east) size old new
+  pub rows_steps : (south west east z : ℕ) (new : List ℕ) → south ≤ z → LayersChange more (in_rows south z west east) size old mid
+      → LayersChange more (in_row z west east) later mid new → LayersChange more (in_rows south (z + 1) west east) size old new
   rows_steps south west east z new le h step =
-      changes_more more size (in_rows south z west east) (in_row z west east) (in_rows south (z + 1) west east) old mid new (λ c. rows_more south z west east c le) (rows_apart south z west east) h
+      changes_more more size (in_rows south z west east) (in_row z west east) (in_rows south (z + 1) west east) old mid new
+      (λ c. rows_more south z west east c le) (rows_apart south z west east) h
       (subst (λ (s : Size). LayersChange more (in_row z west east) s mid new) same step)
 
 -- ---- several rectangles
 
-pub next_may : {X : Type 0} (has : X → Cell → Bool) (xs : List X) (size later : Size) (old mid : List ℕ) (i : ℕ) (x : X) → later ≡ size → i < length xs → LayersRise (λ c. count_by (λ (y : X). has y c) (take i xs)) size old mid → AreAtMost most_layers size old → length xs ≤ 4096 → MayChange true (has x) later mid
+pub next_may : {X : Type 0} (has : X → Cell → Bool) (xs : List X) (size later : Size) (old mid : List ℕ) (i : ℕ) (x : X) → later ≡ size → i < length xs
+    → LayersRise (λ c. count_by (λ (y : X). has y c) (take i xs)) size old mid → AreAtMost most_layers size old → length xs ≤ 4096
+    → MayChange true (has x) later mid
 next_may has xs size later old mid i x same below h most few =
     subst (λ (s : Size). MayChange true (has x) s mid) (sym same)
     (λ c on e. omega (arith, h c on, most c on, few, below, count_by-le-length (λ y. has y c) (take i xs), length-take i xs))
 
-module _ {X : Type 0} (has : X → Cell → Bool) (xs : List X) (size later : Size) (old mid : List ℕ) (i : ℕ) (d : X) (same : later ≡ size) (below : i < length xs) (h : LayersRise (λ c. count_by (λ (y : X). has y c) (take i xs)) size old mid) where
+module _ {X : Type 0} (has : X → Cell → Bool) (xs : List X) (size later : Size) (old mid : List ℕ) (i : ℕ) (d : X) (same : later ≡ size) (below : i < length xs)
+    (h : LayersRise (λ c. count_by (λ (y : X). has y c) (take i xs)) size old mid) where
   next_count : (c : Cell) → count_by (λ (y : X). has y c) (take (i + 1) xs) ≡ count_by (λ (y : X). has y c) (take i xs) + one_if (has (get_or xs i d) c)
   next_count c = by (has (get_or xs i d) c) refl
     where
@@ -181,8 +203,10 @@ module _ {X : Type 0} (has : X → Cell → Bool) (xs : List X) (size later : Si
       by true e = count_by_more_yes (λ (y : X). has y c) xs i d below e
       by false e = count_by_more_no (λ (y : X). has y c) xs i d below e ∙ omega arith
 
-  pub next_rises : (new : List ℕ) → LayersChange true (has (get_or xs i d)) later mid new → LayersRise (λ c. count_by (λ (y : X). has y c) (take (i + 1) xs)) size old new
+  pub next_rises : (new : List ℕ) → LayersChange true (has (get_or xs i d)) later mid new → LayersRise (λ c. count_by (λ (y : X). has y c) (take (i + 1) xs))
+      size old new
   next_rises new step c on = omega (arith, h c on, next_count c, subst (λ (s : Size). LayersChange true (has (get_or xs i d)) s mid new) same step c on)
 
-  pub next_rises_at : d ≡ get_or xs i d → (new : List ℕ) → LayersChange true (has d) later mid new → LayersRise (λ c. count_by (λ (y : X). has y c) (take (i + 1) xs)) size old new
+  pub next_rises_at : d ≡ get_or xs i d → (new : List ℕ) → LayersChange true (has d) later mid new
+      → LayersRise (λ c. count_by (λ (y : X). has y c) (take (i + 1) xs)) size old new
   next_rises_at is new step = next_rises new (subst (λ (y : X). LayersChange true (has y) later mid new) is step)

@@ -1,23 +1,14 @@
 -- What a ground lends of what it keeps.
-use Rattle.std.proofs.Common.{ℕ, ◌*◌, List, [], Option, Some, None, refl, ap, ◌∙◌}
-use Rattle.std.specs.Prelude.{option_map}
-use Rattle.sim_base.specs.declared.setup.Land.{Land}
-use Rattle.sim_base.specs.Places.{Size}
-use Rattle.sim_grid.specs.Grids.{field_of_grid}
-use Rattle.sim_search.specs.Floods.{label_in}
-use Rattle.sim_system.specs.declared.fact.Fact.{Fact}
-use Rattle.sim_ground.specs.declared.opened.Opened.{Opened}
-use Rattle.sim_ground.specs.Opening.{IsKept}
-use Rattle.sim_ground.specs.Lent.{AreLayers, AreRegions}
-use Rattle.sim_ground.proofs.Relabelling.{labels_again}
-use Rattle.sim_ground.proofs.Regions.{labels_among}
-use Rattle.sim_ground.proofs.Turning.{over_is}
+use Rattle.sim_ground.proofs.{Common.Land, Common.Opened, Common.Size, Common.◌∙◌, Regions.labels_among, Relabelling.labels_again, Turning.over_is}
+use Rattle.sim_ground.proofs.Common.{ℕ, ◌*◌, List, [], Some, None, Option, option_map, refl, ap, AreLayers, AreRegions, Fact, field_of_grid, IsKept, label_in}
 
-pub regions_are : (land : Option Land) (facts : List Fact) (opened : Option Opened) → IsKept land facts opened → AreRegions land facts (option_map (λ (o : Opened). o.labels) opened)
+pub regions_are : (land : Option Land) (facts : List Fact) (opened : Option Opened) → IsKept land facts opened
+    → AreRegions land facts (option_map (λ (o : Opened). o.labels) opened)
 regions_are None facts None h = refl
 regions_are None facts (Some o) h = absurd (let e = h.same in cc)
 regions_are (Some l) facts None h = absurd (let e = h.same in cc)
-regions_are (Some l) facts (Some o) h = let known = h.each l o refl refl in labels_among l facts o.cover.grid (label_in o.labels) (over_is l facts o known) (labels_again (field_of_grid o.cover.grid) (label_in o.labels) o.labelled)
+regions_are (Some l) facts (Some o) h = let known = h.each l o refl refl in labels_among l facts o.cover.grid (label_in o.labels) (over_is l facts o known)
+    (labels_again (field_of_grid o.cover.grid) (label_in o.labels) o.labelled)
 
 -- the layers of what is kept, if anything
 abbrev pub layers_of : Option Opened → List ℕ

@@ -1,18 +1,8 @@
 -- Labels that some proof shows to be right are right: which cells are joined is found out by the least costs of walks.
-use Rattle.std.proofs.Common.{◌≡◌, ℕ, ◌+◌, ◌*◌, ◌/◌, ◌%◌, ◌<◌, true, Option, Some, None, refl, sym, ap, ◌∙◌, subst, ◌⊎◌, inl, inr, arith}
-use Rattle.std.specs.Prelude.{is_some}
-use Rattle.std.proofs.Props.{props}
-use Rattle.std.proofs.Math.Logic.{∥∥₁_elim, ∥∥₁_prop}
-use Rattle.std.proofs.lemmas.Nat.{same_from_place}
-use Rattle.sim_base.specs.declared.place.Cell.{Cell}
-use Rattle.sim_base.specs.Tables.{entry}
-use Rattle.sim_base.specs.Walks.{Walk, stay}
-use Rattle.sim_base.specs.Steps.{Field, IsOnGround, IsStep}
-use Rattle.sim_grid.specs.Grids.{place_of}
-use Rattle.sim_laws.proofs.Ground.{same_by_parts}
-use Rattle.sim_laws.proofs.Rounds.{costs, costs-le, IsCost-from_costs}
-use Rattle.sim_search.specs.Regions.{IsJoined, alone, on, IsLabel, AreLabels, IsShore, itself, beside}
-use Rattle.sim_search.proofs.Regions.{from-on, from-open, joined-on, joined-chain, joined-reached, IsAshore, ashore}
+use Rattle.sim_ground.proofs.Common.{Cell, costs, costs-le, entry, Field, from-on, from-open, inl, inr, IsAshore, IsCost-from_costs, IsJoined, IsLabel}
+use Rattle.sim_ground.proofs.Common.{IsOnGround, IsShore, IsStep, itself, joined-chain, joined-on, joined-reached, on, place_of, props, same_by_parts}
+use Rattle.sim_ground.proofs.Common.{same_from_place, stay, subst, sym, Walk, ∥∥₁_elim, ∥∥₁_prop, ◌∙◌}
+use Rattle.sim_ground.proofs.Common.{◌≡◌, ℕ, ◌+◌, ◌*◌, ◌/◌, ◌%◌, ◌<◌, true, ◌⊎◌, is_some, Some, None, Option, refl, alone, ap, AreLabels, arith, ashore, beside}
 
 module _ (field : Field) where
   module _ (a : Cell) (on_a : IsOnGround field.size a) (open_a : field.is_open a ≡ true) where
@@ -67,7 +57,8 @@ module _ (field : Field) where
     label_again : IsLabel field c l
     label_again = record {
       first = first;
-      joined = joined_again c on_c open_c first (∥∥₁_elim known (hlevel props) (λ h. subst (IsOnGround field.size) (sym (first_is h)) (joined-on field h.joined)))
+      joined = joined_again c on_c open_c first
+          (∥∥₁_elim known (hlevel props) (λ h. subst (IsOnGround field.size) (sym (first_is h)) (joined-on field h.joined)))
           (∥∥₁_elim known ∥∥₁_prop (λ h. ∣ subst (IsJoined field c) (sym (first_is h)) h.joined ∣₁));
       place = ∥∥₁_elim known (hlevel props) (λ h. ap (place_of field.size) (first_is h) ∙ h.place);
       least = λ e j. ∥∥₁_elim known (hlevel props) (λ h. h.least e j);

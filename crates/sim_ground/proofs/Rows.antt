@@ -1,12 +1,6 @@
 -- One cell more of a row, and one row more of a ground.
-use Rattle.std.proofs.Common.{◌≡◌, ℕ, zero, suc, ◌+◌, Bool, true, false, cond, List, [], ◌∷◌, ◌++◌, map, filter, fold, sym, ap, ◌∙◌, arith, flat_map}
-use Rattle.std.specs.List.{range_with_len}
-use Rattle.std.proofs.lemmas.List.{map-append, append-nil}
-use Rattle.std.proofs.lemmas.List.Concat.{flat_map-append}
-use Rattle.std.proofs.lemmas.List.Sums.{fold-append}
-use Rattle.std.proofs.lemmas.List.Elements.{filter-append}
-use Rattle.sim_base.specs.declared.place.Cell.{Cell}
-use Rattle.sim_ground.specs.Cells.{row_of, rows_of}
+use Rattle.sim_ground.proofs.Common.{Cell, filter-append, flat_map-append, fold-append, map-append, range_with_len, row_of, rows_of, sym, ◌∙◌}
+use Rattle.sim_ground.proofs.Common.{◌≡◌, ℕ, zero, suc, ◌+◌, Bool, true, false, cond, List, [], ◌∷◌, ◌++◌, map, fold, filter, flat_map, ap, append-nil, arith}
 
 range-more : (a n : ℕ) → range_with_len a (n + 1) ≡ range_with_len a n ++ (a + n) ∷ []
 range-more a n = ap (range_with_len a) (next n) ∙ by a n
@@ -25,14 +19,16 @@ range-more a n = ap (range_with_len a) (next n) ∙ by a n
         shift a n = omega arith
 
 pub row-more : (z n : ℕ) → row_of z (n + 1) ≡ row_of z n ++ record { x = n; z = z } ∷ []
-row-more z n = ap (map (λ (x : ℕ). record { x = x; z = z })) (range-more 0 n ∙ ap (λ (k : ℕ). range_with_len 0 n ++ k ∷ []) (same n)) ∙ map-append (λ (x : ℕ). record { x = x; z = z }) (range_with_len 0 n) (n ∷ [])
+row-more z n = ap (map (λ (x : ℕ). record { x = x; z = z })) (range-more 0 n ∙ ap (λ (k : ℕ). range_with_len 0 n ++ k ∷ []) (same n)) ∙
+    map-append (λ (x : ℕ). record { x = x; z = z }) (range_with_len 0 n) (n ∷ [])
   where
     same : (n : ℕ) → 0 + n ≡ n
     same n = omega arith
 
 pub rows-more : (width n : ℕ) → rows_of width (n + 1) ≡ rows_of width n ++ row_of n width
 rows-more width n =
-    ap (flat_map (λ (z : ℕ). row_of z width)) (range-more 0 n ∙ ap (λ (k : ℕ). range_with_len 0 n ++ k ∷ []) (same n)) ∙ flat_map-append (λ (z : ℕ). row_of z width) (range_with_len 0 n) (n ∷ [])
+    ap (flat_map (λ (z : ℕ). row_of z width)) (range-more 0 n ∙ ap (λ (k : ℕ). range_with_len 0 n ++ k ∷ []) (same n)) ∙
+    flat_map-append (λ (z : ℕ). row_of z width) (range_with_len 0 n) (n ∷ [])
     ∙ ap (λ (cs : List Cell). rows_of width n ++ cs) (append-nil (row_of n width))
   where
     same : (n : ℕ) → 0 + n ≡ n
@@ -41,19 +37,28 @@ rows-more width n =
 -- ---- folded
 
 module _ {B : Type 0} (step : B → Cell → B) (test : Cell → Bool) where
-  pub fold-more_row : (width n : ℕ) (start best after : B) → best ≡ fold step start (filter test (rows_of width n)) → after ≡ fold step best (filter test (row_of n width)) → after ≡ fold step start (filter test (rows_of width (n + 1)))
+  pub fold-more_row : (width n : ℕ) (start best after : B) → best ≡ fold step start (filter test (rows_of width n))
+      → after ≡ fold step best (filter test (row_of n width)) → after ≡ fold step start (filter test (rows_of width (n + 1)))
   fold-more_row width n start best after is now =
-      now ∙ ap (λ (b : B). fold step b (filter test (row_of n width))) is ∙ sym (fold-append step start (filter test (rows_of width n)) (filter test (row_of n width)))
+      now ∙ ap (λ (b : B). fold step b (filter test (row_of n width))) is ∙
+      sym (fold-append step start (filter test (rows_of width n)) (filter test (row_of n width)))
       ∙ ap (fold step start) (sym (filter-append test (rows_of width n) (row_of n width)) ∙ ap (filter test) (sym (rows-more width n)))
 
-  fold-cell : (z n : ℕ) (start : B) → fold step start (filter test (row_of z (n + 1))) ≡ fold step (fold step start (filter test (row_of z n))) (filter test (record { x = n; z = z } ∷ []))
+  fold-cell : (z n : ℕ) (start : B) → fold step start (filter test (row_of z (n + 1))) ≡ fold step (fold step start (filter test (row_of z n)))
+      (filter test (record { x = n; z = z } ∷ []))
   fold-cell z n start =
-      ap (fold step start) (ap (filter test) (row-more z n) ∙ filter-append test (row_of z n) (record { x = n; z = z } ∷ [])) ∙ fold-append step start (filter test (row_of z n)) (filter test (record { x = n; z = z } ∷ []))
+      ap (fold step start) (ap (filter test) (row-more z n) ∙ filter-append test (row_of z n) (record { x = n; z = z } ∷ [])) ∙
+      fold-append step start (filter test (row_of z n)) (filter test (record { x = n; z = z } ∷ []))
 
-  pub fold-more_cell : (z n : ℕ) (start best after : B) → best ≡ fold step start (filter test (row_of z n)) → test (record { x = n; z = z }) ≡ true → after ≡ step best (record { x = n; z = z }) → after ≡ fold step start (filter test (row_of z (n + 1)))
+  pub fold-more_cell : (z n : ℕ) (start best after : B) → best ≡ fold step start (filter test (row_of z n)) → test (record { x = n; z = z }) ≡ true
+      → after ≡ step best (record { x = n; z = z }) → after ≡ fold step start (filter test (row_of z (n + 1)))
   fold-more_cell z n start best after is passes now =
-      now ∙ ap (λ (b : B). step b (record { x = n; z = z })) is ∙ ap (λ (t : Bool). fold step (fold step start (filter test (row_of z n))) (cond t (record { x = n; z = z } ∷ []) [])) (sym passes) ∙ sym (fold-cell z n start)
+      now ∙ ap (λ (b : B). step b (record { x = n; z = z })) is ∙
+      ap (λ (t : Bool). fold step (fold step start (filter test (row_of z n))) (cond t (record { x = n; z = z } ∷ []) [])) (sym passes) ∙
+      sym (fold-cell z n start)
 
-  pub fold-past_cell : (z n : ℕ) (start best : B) → best ≡ fold step start (filter test (row_of z n)) → test (record { x = n; z = z }) ≡ false → best ≡ fold step start (filter test (row_of z (n + 1)))
+  pub fold-past_cell : (z n : ℕ) (start best : B) → best ≡ fold step start (filter test (row_of z n)) → test (record { x = n; z = z }) ≡ false
+      → best ≡ fold step start (filter test (row_of z (n + 1)))
   fold-past_cell z n start best is fails =
-      is ∙ ap (λ (t : Bool). fold step (fold step start (filter test (row_of z n))) (cond t (record { x = n; z = z } ∷ []) [])) (sym fails) ∙ sym (fold-cell z n start)
+      is ∙ ap (λ (t : Bool). fold step (fold step start (filter test (row_of z n))) (cond t (record { x = n; z = z } ∷ []) [])) (sym fails) ∙
+      sym (fold-cell z n start)

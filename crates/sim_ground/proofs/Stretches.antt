@@ -1,12 +1,6 @@
 -- Stretches of cells, one cell or one row more.
-use Rattle.std.proofs.Common.{◌≡◌, ℕ, ◌+◌, ◌<◌, ◌≤◌, Bool, true, false, refl, ap, ◌∙◌, arith}
-use Rattle.std.specs.Prelude.{◌&&◌, ◌||◌, ◌==◌, nat_le, nat_lt, int_le, pos}
-use Rattle.std.proofs.lemmas.Bool.Decides.{nat_tests}
-use Rattle.sim_base.specs.declared.place.Cell.{Cell}
-use Rattle.sim_base.specs.declared.place.Rect.{Rect}
-use Rattle.sim_base.specs.Places.{Size, same_cell, covers}
-use Rattle.sim_base.specs.Steps.{IsOnGround}
-use Rattle.sim_ground.specs.Closing.{in_row, in_rows}
+use Rattle.sim_ground.proofs.Common.{in_row, in_rows, IsOnGround, nat_tests, Rect, same_cell, Size, ◌∙◌}
+use Rattle.sim_ground.proofs.Common.{◌≡◌, ℕ, ◌+◌, ◌<◌, ◌≤◌, Bool, true, false, ◌&&◌, ◌||◌, pos, nat_lt, nat_le, ◌==◌, int_le, refl, ap, arith, Cell, covers}
 
 -- ---- truth values
 
@@ -69,7 +63,8 @@ row_none z west c = not_second (c.z == z) (nat_le west c.x && nat_lt c.x west) (
 pub row_more : (z west x : ℕ) (c : Cell) → west ≤ x → in_row z west (x + 1) c ≡ (in_row z west x c || same_cell c (record { x = x; z = z }))
 row_more z west x c le = by (c.z == z) (c.x == x) (one_more west x c.x le)
   where
-    by : (b e : Bool) → (nat_le west c.x && nat_lt c.x (x + 1)) ≡ ((nat_le west c.x && nat_lt c.x x) || e) → (b && (nat_le west c.x && nat_lt c.x (x + 1))) ≡ ((b && (nat_le west c.x && nat_lt c.x x)) || (e && b))
+    by : (b e : Bool) → (nat_le west c.x && nat_lt c.x (x + 1)) ≡ ((nat_le west c.x && nat_lt c.x x) || e) → (b && (nat_le west c.x && nat_lt c.x (x + 1))) ≡
+        ((b && (nat_le west c.x && nat_lt c.x x)) || (e && b))
     by true true h = h
     by true false h = h
     by false true h = refl
@@ -92,10 +87,12 @@ rows_none south west east c = ap (λ (b : Bool). b && (nat_le west c.x && nat_lt
 
 pub rows_more : (south z west east : ℕ) (c : Cell) → south ≤ z → in_rows south (z + 1) west east c ≡ (in_rows south z west east c || in_row z west east c)
 rows_more south z west east c le =
-    ap (λ (b : Bool). b && (nat_le west c.x && nat_lt c.x east)) (one_more south z c.z le) ∙ or_and (nat_le south c.z && nat_lt c.z z) (c.z == z) (nat_le west c.x && nat_lt c.x east)
+    ap (λ (b : Bool). b && (nat_le west c.x && nat_lt c.x east)) (one_more south z c.z le) ∙ or_and (nat_le south c.z && nat_lt c.z z) (c.z == z)
+    (nat_le west c.x && nat_lt c.x east)
 
 pub rows_apart : (south z west east : ℕ) (c : Cell) → in_rows south z west east c ≡ true → in_row z west east c ≡ false
-rows_apart south z west east c e = ap (λ (b : Bool). b && (nat_le west c.x && nat_lt c.x east)) (past south z c.z (first_of (nat_le south c.z && nat_lt c.z z) (nat_le west c.x && nat_lt c.x east) e))
+rows_apart south z west east c e = ap (λ (b : Bool). b && (nat_le west c.x && nat_lt c.x east))
+    (past south z c.z (first_of (nat_le south c.z && nat_lt c.z z) (nat_le west c.x && nat_lt c.x east) e))
 
 -- the cells of the next row are not among those before
 pub rows_next : (south z west east : ℕ) (c : Cell) → in_row z west east c ≡ true → in_rows south z west east c ≡ false
@@ -108,12 +105,16 @@ rows_next south z west east c e = by (in_rows south z west east c) refl
 pub rows_has : (south z north west east : ℕ) (c : Cell) → south ≤ z → z < north → in_row z west east c ≡ true → in_rows south north west east c ≡ true
 rows_has south z north west east c le lt e =
     let row : (c.z == z) ≡ true = first_of (c.z == z) (nat_le west c.x && nat_lt c.x east) e in
-    both (nat_le south c.z && nat_lt c.z north) (nat_le west c.x && nat_lt c.x east) (grind (arith, nat_tests)) (second_of (c.z == z) (nat_le west c.x && nat_lt c.x east) e)
+    both (nat_le south c.z && nat_lt c.z north) (nat_le west c.x && nat_lt c.x east) (grind (arith, nat_tests))
+    (second_of (c.z == z) (nat_le west c.x && nat_lt c.x east) e)
 
 -- ---- a rectangle
 
-pub rect_is : (size : Size) (r : Rect) (south north west east : ℕ) → ((n : ℕ) → n < size.depth → (nat_le south n && nat_lt n north) ≡ (int_le r.z0 (pos n) && int_le (pos n) r.z1)) →
-    ((n : ℕ) → n < size.width → (nat_le west n && nat_lt n east) ≡ (int_le r.x0 (pos n) && int_le (pos n) r.x1)) → (c : Cell) → IsOnGround size c → in_rows south north west east c ≡ covers r c
+pub rect_is : (size : Size) (r : Rect) (south north west east : ℕ)
+    → ((n : ℕ) → n < size.depth → (nat_le south n && nat_lt n north) ≡ (int_le r.z0 (pos n) && int_le (pos n) r.z1)) →
+    ((n : ℕ) → n < size.width → (nat_le west n && nat_lt n east) ≡ (int_le r.x0 (pos n) && int_le (pos n) r.x1)) → (c : Cell) → IsOnGround size c
+    → in_rows south north west east c ≡ covers r c
 rect_is size r south north west east rows cells c on =
-    ap (λ (b : Bool). b && (nat_le west c.x && nat_lt c.x east)) (rows c.z on.north) ∙ ap (λ (b : Bool). (int_le r.z0 (pos c.z) && int_le (pos c.z) r.z1) && b) (cells c.x on.east)
+    ap (λ (b : Bool). b && (nat_le west c.x && nat_lt c.x east)) (rows c.z on.north) ∙ ap (λ (b : Bool). (int_le r.z0 (pos c.z) && int_le (pos c.z) r.z1) && b)
+    (cells c.x on.east)
     ∙ turned (int_le r.x0 (pos c.x) && int_le (pos c.x) r.x1) (int_le r.z0 (pos c.z)) (int_le (pos c.z) r.z1)

@@ -1,28 +1,9 @@
 -- The grid and the layers that are kept are those of the facts, also after a note.
-use Rattle.std.proofs.Common.{◌≡◌, ℕ, ◌+◌, ◌<◌, Bool, true, false, cond, not, List, [], ◌∷◌, Option, Some, refl, sym, ap, ◌∙◌, subst, arith}
-use Rattle.std.specs.Prelude.{◌&&◌, ◌||◌, ◌==◌, count_by}
-use Rattle.std.specs.List.{list_any}
-use Rattle.std.proofs.lemmas.Bool.Decides.{nat_tests}
-use Rattle.std.proofs.lemmas.List.Sums.{sum_by-cons, count_by-le-length}
-use Rattle.sim_base.specs.declared.place.Cell.{Cell}
-use Rattle.sim_base.specs.declared.place.Rect.{Rect}
-use Rattle.sim_base.specs.declared.setup.Land.{Land}
-use Rattle.sim_base.specs.Places.{Size, covers}
-use Rattle.sim_base.specs.Filters.{rect_covers}
-use Rattle.sim_base.specs.Steps.{IsOnGround}
-use Rattle.sim_system.specs.declared.fact.Fact.{Fact}
-use Rattle.sim_system.specs.declared.kind.Kind.TheVariants.{Ground}
-use Rattle.sim_system.specs.declared.note.Note.{Note}
-use Rattle.sim_system.specs.Notes.{fact_with, noted, NoteFits}
-use Rattle.sim_system.specs.Answers.{is_open_among}
-use Rattle.sim_fact_lists.specs.Places.{Holds}
-use Rattle.sim_fact_lists.specs.Changes.{id_in, passes, one_if, part_noted}
-use Rattle.sim_fact_lists.proofs.Rising.{rising}
-use Rattle.sim_fact_lists.proofs.OneFact.{noted_only, part_is, count_after}
-use Rattle.sim_ground.specs.declared.opened.Opened.{Opened}
-use Rattle.sim_ground.specs.Closing.{IsOver}
-use Rattle.sim_ground.specs.Layers.{layers_at, layers_among, part_covers, no_part, MayChange, LayersTurn, AreAtMost, most_layers, AreLayersOf}
-use Rattle.sim_ground.specs.Opening.{IsOpened}
+use Rattle.sim_ground.proofs.Common.{AreAtMost, AreLayersOf, arith, Cell, count_after, count_by-le-length, covers, Fact, fact_with, Ground, Holds, id_in}
+use Rattle.sim_ground.proofs.Common.{is_open_among, IsOnGround, IsOpened, IsOver, Land, layers_among, layers_at, LayersTurn, list_any, MayChange, most_layers}
+use Rattle.sim_ground.proofs.Common.{nat_tests, no_part, Note, noted, noted_only, NoteFits, one_if, Opened, part_covers, part_is, part_noted, passes, Rect}
+use Rattle.sim_ground.proofs.Common.{rect_covers, rising, Size, subst, sum_by-cons, sym, ◌∙◌}
+use Rattle.sim_ground.proofs.Common.{◌≡◌, ℕ, ◌+◌, ◌<◌, Bool, true, false, cond, not, ◌&&◌, ◌||◌, List, [], ◌∷◌, ◌==◌, Some, count_by, Option, refl, ap}
 
 -- ---- no layer, no cover
 
@@ -47,7 +28,8 @@ pub over_is : (land : Land) (facts : List Fact) (o : Opened) → IsOpened land f
 over_is land facts o h = record {
   size = h.size;
   opens = λ c on.
-      o.cover.agree.each c (subst (λ (s : Size). IsOnGround s c) (sym h.size) on) ∙ ap (λ (s : Size). layers_at s o.cover.layers.items c == 0) h.size ∙ ap (λ (n : ℕ). n == 0) (h.layers c on) ∙ none_covers land facts c;
+      o.cover.agree.each c (subst (λ (s : Size). IsOnGround s c) (sym h.size) on) ∙ ap (λ (s : Size). layers_at s o.cover.layers.items c == 0) h.size ∙
+      ap (λ (n : ℕ). n == 0) (h.layers c on) ∙ none_covers land facts c;
 }
 
 -- ---- an obstruction comes or goes
@@ -59,7 +41,8 @@ one_at_least p (g ∷ facts) id o e h = by (g.id == id) e (one_at_least p facts 
     more : count_by p (g ∷ facts) ≡ one_if (p g) + count_by p facts
     more = sum_by-cons (λ (f : Fact). one_if (p f)) g facts
 
-    by : (b : Bool) → o ≡ cond b (Some g) (fact_with facts id) → (o ≡ fact_with facts id → passes p o ≡ true → 0 < count_by p facts) → 0 < count_by p (g ∷ facts)
+    by : (b : Bool) → o ≡ cond b (Some g) (fact_with facts id) → (o ≡ fact_with facts id → passes p o ≡ true → 0 < count_by p facts)
+        → 0 < count_by p (g ∷ facts)
     by true s rest = let here : one_if (p g) ≡ one_if true = ap one_if (sym (ap (passes p) s) ∙ h) in omega (arith, more, here)
     by false s rest = omega (arith, more, rest s h)
 
@@ -69,21 +52,35 @@ module _ (l : Land) (facts : List Fact) (holds : Holds l facts) (o : Opened) (h 
 
   pub few_layers : AreAtMost most_layers o.cover.grid.size o.cover.layers.items
   few_layers c on =
-      omega (arith, layers_are c on, count_by-le-length (λ (r : Rect). covers r c) l.closed, count_by-le-length (λ (fact : Fact). rect_covers fact.rect c) facts, holds.limits.few_closed, holds.held.few)
+      omega (
+        arith,
+        layers_are c on,
+        count_by-le-length (λ (r : Rect). covers r c) l.closed,
+        count_by-le-length (λ (fact : Fact). rect_covers fact.rect c) facts,
+        holds.limits.few_closed,
+        holds.held.few,
+      )
 
   pub may_go : (id : ℕ) (before : Option Fact) → before ≡ fact_with facts id → MayChange false (part_covers before) o.cover.grid.size o.cover.layers.items
   may_go id before e c on covered = omega (arith, layers_are c on, one_at_least (λ (fact : Fact). rect_covers fact.rect c) facts id before e covered)
 
   -- after a note that was not taken up
-  pub still_opened : (k : Opened) → k.cover.grid.size ≡ o.cover.grid.size → LayersTurn no_part no_part o.cover.grid.size o.cover.layers.items k.cover.layers.items → IsOpened l facts k
+  pub still_opened : (k : Opened) → k.cover.grid.size ≡ o.cover.grid.size → LayersTurn no_part no_part o.cover.grid.size o.cover.layers.items
+      k.cover.layers.items → IsOpened l facts k
   still_opened k e turn = record {
     size = e ∙ h.size;
-    layers = λ c on. omega (arith, h.layers c on, subst (λ (s : Size). LayersTurn no_part no_part s o.cover.layers.items k.cover.layers.items) h.size turn c on);
+    layers = λ c on. omega (
+      arith,
+      h.layers c on,
+      subst (λ (s : Size). LayersTurn no_part no_part s o.cover.layers.items k.cover.layers.items) h.size turn c on,
+    );
   }
 
   -- after one that was
-  pub turned_opened : (note : Note) (id : ℕ) (before part : Option Fact) (after : List Fact) (k : Opened) → NoteFits Ground l facts note → id ≡ id_in note → before ≡ fact_with facts id → part ≡ part_noted Ground before note → after ≡ noted Ground facts note →
-      k.cover.grid.size ≡ o.cover.grid.size → LayersTurn (part_covers before) (part_covers part) o.cover.grid.size o.cover.layers.items k.cover.layers.items → IsOpened l after k
+  pub turned_opened : (note : Note) (id : ℕ) (before part : Option Fact) (after : List Fact) (k : Opened) → NoteFits Ground l facts note → id ≡ id_in note
+      → before ≡ fact_with facts id → part ≡ part_noted Ground before note → after ≡ noted Ground facts note →
+      k.cover.grid.size ≡ o.cover.grid.size → LayersTurn (part_covers before) (part_covers part) o.cover.grid.size o.cover.layers.items k.cover.layers.items
+      → IsOpened l after k
   turned_opened note id before part after k fits is found made new e turn = record { size = e ∙ h.size; layers = layers }
     where
       old : before ≡ fact_with facts (id_in note)
@@ -95,8 +92,18 @@ module _ (l : Land) (facts : List Fact) (holds : Holds l facts) (o : Opened) (h 
       layers : AreLayersOf l after k.cover.layers.items
       layers c on =
           let covered : Fact → Bool = λ (fact : Fact). rect_covers fact.rect c in
-          let count = count_after covered (id_in note) facts (noted Ground facts note) (noted_only Ground l facts note (rising facts holds.held.ascending) fits) in
+          let count = count_after covered (id_in note) facts (noted Ground facts note)
+          (noted_only Ground l facts note (rising facts holds.held.ascending) fits) in
           let fewer = ap (λ (p : Option Fact). one_if (passes covered p)) old in
           let more = ap (λ (p : Option Fact). one_if (passes covered p)) now in
           let same = ap (count_by covered) new in
-          omega (arith, count, fewer, more, same, h.layers c on, subst (λ (s : Size). LayersTurn (part_covers before) (part_covers part) s o.cover.layers.items k.cover.layers.items) h.size turn c on)
+          omega (
+            arith,
+            count,
+            fewer,
+            more,
+            same,
+            h.layers c on,
+            subst (λ (s : Size). LayersTurn (part_covers before) (part_covers part) s o.cover.layers.items
+                k.cover.layers.items) h.size turn c on,
+          )

@@ -1,10 +1,7 @@
 -- The cells of a ground, row by row, and the nearer one of two.
-use Rattle.std.specs.Prelude.{◌≡◌, ℕ, ◌<◌, List, [], ◌∷◌, map, Option, Some}
-use Rattle.std.specs.List.{range_with_len, flat_map}
-use Rattle.sim_base.specs.declared.place.Cell.{Cell}
-use Rattle.sim_base.specs.declared.place.Point.{Point}
-use Rattle.sim_base.specs.Places.{square, centre_of}
-use Rattle.sim_base.specs.Least.{lesser_of}
+use Rattle.std.specs.List.{flat_map, range_with_len}
+use Rattle.std.specs.Prelude.{◌≡◌, ℕ, ◌<◌, List, [], ◌∷◌, map, Some, Option}
+use Rattle.sim_base.specs.{Least.lesser_of, Places.centre_of, Places.square, declared.place.Cell.Cell, declared.place.Point.Point}
 
 -- the first n cells of row z
 abbrev pub row_of : ℕ → ℕ → List Cell

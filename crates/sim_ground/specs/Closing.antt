@@ -1,12 +1,7 @@
 -- Stretches of cells, and the grid of the open cells of a land with obstructions.
-use Rattle.std.specs.Prelude.{◌≡◌, ℕ, Bool, ◌&&◌, nat_le, nat_lt, ◌==◌, List}
-use Rattle.sim_base.specs.declared.place.Cell.{Cell}
-use Rattle.sim_base.specs.declared.setup.Land.{Land}
-use Rattle.sim_base.specs.Steps.{IsOnGround}
-use Rattle.sim_base.specs.Rows.{size_of}
-use Rattle.sim_grid.specs.Grids.{OpenCells, is_open_at}
-use Rattle.sim_system.specs.declared.fact.Fact.{Fact}
-use Rattle.sim_system.specs.Answers.{is_open_among}
+use Rattle.{sim_grid.specs.Grids.is_open_at, sim_grid.specs.Grids.OpenCells, sim_system.specs.Answers.is_open_among, sim_system.specs.declared.fact.Fact.Fact}
+use Rattle.std.specs.Prelude.{◌≡◌, ℕ, Bool, ◌&&◌, List, nat_lt, nat_le, ◌==◌}
+use Rattle.sim_base.specs.{Rows.size_of, Steps.IsOnGround, declared.place.Cell.Cell, declared.setup.Land.Land}
 
 -- the cells of a row, from the first to before the end
 abbrev pub in_row : ℕ → ℕ → ℕ → Cell → Bool

@@ -1,14 +1,8 @@
 -- How many rectangles cover each cell, and what one more or fewer changes.
-use Rattle.std.specs.Prelude.{◌≡◌, ℕ, ◌+◌, ◌*◌, ◌<◌, ◌≤◌, Bool, true, false, ◌==◌, List, length, slice_index, count_by, Option}
-use Rattle.sim_base.specs.declared.place.Cell.{Cell}
-use Rattle.sim_base.specs.declared.setup.Land.{Land}
-use Rattle.sim_base.specs.Places.{Size, covers}
-use Rattle.sim_base.specs.Filters.{rect_covers}
-use Rattle.sim_base.specs.Rows.{size_of}
-use Rattle.sim_base.specs.Steps.{IsOnGround}
-use Rattle.sim_grid.specs.Grids.{OpenCells, place_of, is_open_at}
-use Rattle.sim_system.specs.declared.fact.Fact.{Fact}
-use Rattle.sim_fact_lists.specs.Changes.{passes, one_if}
+use Rattle.{sim_grid.specs.Grids.is_open_at, sim_grid.specs.Grids.OpenCells, sim_grid.specs.Grids.place_of, sim_system.specs.declared.fact.Fact.Fact}
+use Rattle.std.specs.Prelude.{◌≡◌, ℕ, ◌+◌, ◌*◌, ◌<◌, ◌≤◌, Bool, true, false, List, length, ◌==◌, slice_index, count_by, Option}
+use Rattle.sim_base.specs.{Filters.rect_covers, Places.covers, Places.Size, Rows.size_of, Steps.IsOnGround, declared.place.Cell.Cell, declared.setup.Land.Land}
+use Rattle.sim_fact_lists.specs.Changes.{one_if, passes}
 
 -- the number of closed rectangles and of obstructions that cover a cell
 abbrev pub layers_among : Land → List Fact → Cell → ℕ

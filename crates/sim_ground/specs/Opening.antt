@@ -1,12 +1,8 @@
 -- What a ground keeps beside its obstructions.
-use Rattle.std.specs.Prelude.{◌≡◌, Bool, false, List, Option, Some, is_some}
-use Rattle.sim_base.specs.declared.setup.Land.{Land}
-use Rattle.sim_base.specs.Rows.{size_of}
-use Rattle.sim_system.specs.declared.fact.Fact.{Fact}
-use Rattle.sim_system.specs.declared.note.Note.{Note}
-use Rattle.sim_system.specs.declared.note.Note.TheVariants.{Born, Gone, Moved, Owned, Aimed}
-use Rattle.sim_ground.specs.declared.opened.Opened.{Opened}
-use Rattle.sim_ground.specs.Layers.{AreLayersOf}
+use Rattle.{sim_ground.specs.Layers.AreLayersOf, sim_ground.specs.declared.opened.Opened.Opened, sim_system.specs.declared.fact.Fact.Fact}
+use Rattle.std.specs.Prelude.{◌≡◌, Bool, false, List, is_some, Some, Option}
+use Rattle.sim_base.specs.{Rows.size_of, declared.setup.Land.Land}
+use Rattle.sim_system.specs.declared.note.Note.{Note, TheVariants.Aimed, TheVariants.Born, TheVariants.Gone, TheVariants.Moved, TheVariants.Owned}
 
 -- the size is that of the land, and the layers are those of the facts
 pub record IsOpened (land : Land) (facts : List Fact) (o : Opened) : Type 0 where

@@ -1,5 +1,5 @@
 -- Rectangles with a cell in common.
-use Rattle.std.specs.Prelude.{Bool, false, ◌&&◌, ℤ, int_le, Option, Some, None}
+use Rattle.std.specs.Prelude.{Bool, false, ◌&&◌, ℤ, int_le, Some, None, Option}
 use Rattle.sim_base.specs.declared.place.Rect.{Rect}
 
 -- two stretches of numbers, whose ends are theirs, have a number in common

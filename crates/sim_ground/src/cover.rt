@@ -1,15 +1,10 @@
 //! How many rectangles cover each cell, and beside that the grid of the cells that none covers. A rectangle that comes or
 //! goes changes the cells that it covers and no other.
 
-ghost use Rattle.std.specs.Prelude.{◌≡◌, ◌+◌, ◌*◌, ◌<◌, ◌≤◌, length, true, false, replicate, IfOk, count_by};
-ghost use Rattle.sim_base.specs.Limits.{IsLand};
-ghost use Rattle.sim_base.specs.Places.{same_cell, covers};
-ghost use Rattle.sim_base.specs.Filters.{rect_covers};
-ghost use Rattle.sim_base.specs.Rows.{size_of};
-ghost use Rattle.sim_base.specs.Steps.{IsOnGround};
-ghost use Rattle.sim_grid.specs.Grids.{IsGroundSize};
-ghost use Rattle.sim_ground.specs.Closing.{in_row, in_rows};
-ghost use Rattle.sim_ground.specs.Layers.{AreOpenWhereNone, Steps, MayStep, LayersChange, MayChange, LayersTurn, LayersRise, AreAtMost, AreLayersOf, layers_at, most_layers, part_covers};
+ghost use Rattle.std.specs.Prelude.{◌≡◌, ◌+◌, ◌*◌, ◌<◌, ◌≤◌, true, false, length, replicate, IfOk, count_by};
+ghost use Rattle.sim_base.specs.{Filters.rect_covers, Limits.IsLand, Places.covers, Places.same_cell, Rows.size_of, Steps.IsOnGround};
+ghost use Rattle.sim_ground.specs.{Closing.in_row, Closing.in_rows, Layers.most_layers, Layers.part_covers, Layers.Steps};
+ghost use Rattle.sim_ground.specs.Layers.{AreAtMost, AreLayersOf, AreOpenWhereNone, layers_at, LayersChange, LayersRise, LayersTurn, MayChange, MayStep};
 
 use crate::span::span;
 use sim_base::{Cell, Land, OutOfMemory, Rect};

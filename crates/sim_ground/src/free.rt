@@ -1,10 +1,7 @@
 //! Whether a rectangle is free. It is compared with the other rectangles, and no cell is gone through.
 
-ghost use Rattle.std.specs.Prelude.{◌≡◌, ◌&&◌, not};
-ghost use Rattle.std.specs.List.{list_any};
-ghost use Rattle.sim_base.specs.Places.{is_rect_inside};
-ghost use Rattle.sim_base.specs.Rows.{size_of};
-ghost use Rattle.sim_system.specs.Answers.{is_free_among};
+ghost use Rattle.{sim_base.specs.Places.is_rect_inside, sim_base.specs.Rows.size_of, sim_system.specs.Answers.is_free_among};
+ghost use Rattle.std.specs.{List.list_any, Prelude.◌≡◌, Prelude.not, Prelude.◌&&◌};
 ghost use Rattle.sim_ground.specs.Overlaps.{meet, overlap as overlap_of, overlaps_any};
 
 use sim_base::{Land, Rect};

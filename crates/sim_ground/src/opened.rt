@@ -1,12 +1,9 @@
 //! The layers over each cell, the open cells as a grid, and the labels of their regions. A note changes the layers, and the
 //! labels are made anew only where it closed or opened a cell. They serve every ask until the next note does.
 
+ghost use Rattle.{sim_base.specs.Limits.IsLand, sim_base.specs.Rows.size_of, sim_search.specs.Floods.label_in, sim_search.specs.Regions.AreLabels};
 ghost use Rattle.std.specs.Prelude.{◌≡◌, ◌≤◌, false, length, IfOk, OnOk, OnErr};
-ghost use Rattle.sim_base.specs.Limits.{IsLand};
-ghost use Rattle.sim_base.specs.Rows.{size_of};
 ghost use Rattle.sim_grid.specs.Grids.{field_of_grid};
-ghost use Rattle.sim_search.specs.Regions.{AreLabels};
-ghost use Rattle.sim_search.specs.Floods.{label_in};
 ghost use Rattle.sim_ground.specs.Layers.{AreAtMost, AreLayersOf, LayersTurn, MayChange, most_layers, no_part, part_covers};
 
 use crate::cover::Cover;
@@ -46,7 +43,8 @@ impl Opened {
         requires there { MayChange false (part_covers before.now) self.old.cover.grid.size self.old.cover.layers.items }
         requires few { AreAtMost most_layers self.old.cover.grid.size self.old.cover.layers.items }
         ensures size { self.new.cover.grid.size ≡ self.old.cover.grid.size }
-        ensures ok { OnOk result (LayersTurn (part_covers before.now) (part_covers after.now) self.old.cover.grid.size self.old.cover.layers.items self.new.cover.layers.items) }
+        ensures ok { OnOk result (LayersTurn (part_covers before.now) (part_covers after.now) self.old.cover.grid.size self.old.cover.layers.items
+            self.new.cover.layers.items) }
         ensures err { OnErr result (LayersTurn no_part no_part self.old.cover.grid.size self.old.cover.layers.items self.new.cover.layers.items) }
     {
         if self.cover.turn(before, after) {

@@ -1,6 +1,6 @@
 //! Which cells of a row a rectangle has, or which rows: its ends are any numbers, and those of the ground are not.
 
-ghost use Rattle.std.specs.Prelude.{◌≡◌, ℕ, ◌<◌, ◌≤◌, ◌&&◌, nat_le, nat_lt, int_le, pos};
+ghost use Rattle.std.specs.Prelude.{◌≡◌, ℕ, ◌<◌, ◌≤◌, ◌&&◌, pos, nat_lt, nat_le, int_le};
 
 // The first of so many cells that is not below a number.
 fn first_from(low: i32, cells: u16) -> u16

@@ -1,10 +1,8 @@
 //! The system: the obstructions, and beside them the layers over each cell, the grid of the open cells and its labels.
 
-ghost use Rattle.std.specs.Prelude.{◌≡◌, None, [], OnOk, OnErr, MatchOption, option_copied};
-ghost use Rattle.sim_system.specs.Notes.{noted, NoteFits};
-ghost use Rattle.sim_system.specs.declared.kind.Kind.TheVariants.{Ground as GroundKind};
-ghost use Rattle.sim_ground.specs.Opening.{IsKept, builds};
-ghost use Rattle.sim_ground.specs.Lent.{AreLayers, AreRegions};
+ghost use Rattle.std.specs.Prelude.{◌≡◌, [], OnOk, OnErr, MatchOption, None, option_copied};
+ghost use Rattle.sim_ground.specs.{Lent.AreLayers, Lent.AreRegions, Opening.builds, Opening.IsKept};
+ghost use Rattle.sim_system.specs.{Notes.noted, Notes.NoteFits, declared.kind.Kind.TheVariants.Ground as GroundKind};
 
 use crate::free::is_free;
 use crate::opened::Opened;

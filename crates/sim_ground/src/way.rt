@@ -1,13 +1,9 @@
 //! Ways over the open cells. The rooms of the search stand in a cell, since an ask only reads the system: it takes them
 //! out, and puts them back for the next ask.
 
-ghost use Rattle.std.specs.Prelude.{◌≡◌, IsTrue, IfOk};
-ghost use Rattle.sim_base.specs.Places.{is_inside};
-ghost use Rattle.sim_base.specs.WayOf.{way_of};
-ghost use Rattle.sim_grid.specs.Grids.{field_of_grid};
-ghost use Rattle.sim_search.specs.Regions.{AreLabels};
-ghost use Rattle.sim_search.specs.Floods.{label_in};
-ghost use Rattle.sim_path.specs.Answers.{way_in};
+ghost use Rattle.{sim_base.specs.Places.is_inside, sim_base.specs.WayOf.way_of, sim_search.specs.Floods.label_in, sim_search.specs.Regions.AreLabels};
+ghost use Rattle.{sim_grid.specs.Grids.field_of_grid, sim_path.specs.Answers.way_in};
+ghost use Rattle.std.specs.Prelude.{◌≡◌, IfOk, IsTrue};
 
 use crate::opened::Opened;
 use sim_base::{OutOfMemory, Point};

@@ -1,9 +1,7 @@
 -- What holds of the records of a list, from what holds of each.
-use Rattle.std.proofs.Common.{◌≡◌, ℕ, ◌+◌, All, List, [], ◌∷◌, ◌++◌, length, Option, None, Some, Ok, Err, refl, sym, ap, subst, arith, length-append, append_assoc}
-use Rattle.std.proofs.lemmas.List.{append-nil, length_push}
-use Rattle.std.proofs.lemmas.List.Elements.{All-push}
-use Rattle.sim_json.specs.Records.{next_or, records, numbered}
-use Rattle.sim_json.specs.Least.{IsLeast}
+use Rattle.std.proofs.{Common.sym, lemmas.List.append-nil, lemmas.List.length_push, lemmas.List.Elements.All-push}
+use Rattle.std.proofs.Common.{◌≡◌, ℕ, ◌+◌, List, [], ◌∷◌, ◌++◌, length, Some, None, Ok, Err, All, Option, refl, ap, append_assoc, arith, length-append, subst}
+use Rattle.sim_json.specs.{Least.IsLeast, Records.next_or, Records.numbered, Records.records}
 
 module _ {X D : Type 0} (read : List X → D → Option X) where
   with_item : (done : List X) (d : D) (ds : List D) (i : ℕ) (x : X) → read done d ≡ Some x → IsLeast read (done ++ x ∷ []) ds i → IsLeast read done (d ∷ ds) i
@@ -48,7 +46,8 @@ module _ {X D : Type 0} (read : List X → D → Option X) where
       by (read done d) refl e (λ x. numbered-keeps Keeps step (front ++ d ∷ []) (done ++ x ∷ []) ds xs)
     where
       by : (o : Option X) → read done d ≡ o → next_or o (Err (length done)) (λ x. numbered read (done ++ x ∷ []) ds) ≡ Ok xs
-          → ((x : X) → numbered read (done ++ x ∷ []) ds ≡ Ok xs → Keeps (front ++ d ∷ []) (done ++ x ∷ []) → Keeps ((front ++ d ∷ []) ++ ds) xs) → Keeps (front ++ d ∷ ds) xs
+          → ((x : X) → numbered read (done ++ x ∷ []) ds ≡ Ok xs → Keeps (front ++ d ∷ []) (done ++ x ∷ []) → Keeps ((front ++ d ∷ []) ++ ds) xs)
+          → Keeps (front ++ d ∷ ds) xs
       by None is e later = absurd cc
       by (Some x) is e later =
           subst (λ es. Keeps es xs) (append_assoc front (d ∷ []) ds) (later x e (step front done d x is kept))

@@ -1,12 +1,8 @@
 -- What a reader of texts says, in the words of the definitions.
-use Rattle.std.proofs.Common.{◌≡◌, List, [], ◌∷◌, map, ap, ℕ, Bool, true, false, refl, Option, Some, None, if◌then◌else◌}
-use Rattle.std.specs.Str.{IsUtf8, is_utf8}
-use Rattle.std.proofs.lemmas.Str.{IsUtf8-from_is_utf8, is_utf8-from_IsUtf8}
-use Rattle.serde_json.specs.Data.{Data}
-use Rattle.serde_json.specs.Read.{read}
-use Rattle.serde_json.specs.View.{view, items_view}
-use Rattle.serde_json.specs.declared.value.Value.{Value}
-use Rattle.sim_json.specs.Values.{value_of, listed}
+use Rattle.std.{proofs.lemmas.Str.is_utf8-from_IsUtf8, proofs.lemmas.Str.IsUtf8-from_is_utf8, specs.Str.IsUtf8, specs.Str.is_utf8}
+use Rattle.std.proofs.Common.{◌≡◌, ℕ, Bool, true, false, List, [], ◌∷◌, map, if◌then◌else◌, None, Option, refl, ap}
+use Rattle.serde_json.specs.{Data.Data, Read.read, View.items_view, View.view, declared.value.Value.Value}
+use Rattle.sim_json.specs.Values.{listed, value_of}
 
 -- bytes in UTF-8 have the value of the text that they are
 pub utf8_value : (bytes : List ℕ) → IsUtf8 bytes → value_of bytes ≡ read bytes

@@ -1,13 +1,9 @@
 -- Commands as lists of JSON: a kind, and what follows it. Whether an id or a template is there is not asked here.
-use Rattle.std.specs.Prelude.{ℕ, ◌-◌, ◌^◌, nat_le, List, [], ◌∷◌, length, codes, Option, Some, None, option_map, option_and_then, if◌then◌else◌}
-use Rattle.std.specs.Str.{bytes_eq}
-use Rattle.serde_json.specs.Data.{Data}
-use Rattle.serde_json.specs.Find.{as_str}
-use Rattle.sim_base.specs.declared.place.Point.{Point}
-use Rattle.sim_base.specs.declared.command.Command.{Command}
-use Rattle.sim_base.specs.declared.command.Command.TheVariants.{Walk, Stop, Attack, Delete, Place, Train, Resign}
-use Rattle.sim_json.specs.Values.{list_of, natural_in, fixed, two}
-use Rattle.sim_json.specs.Records.{next_or, records}
+use Rattle.{sim_base.specs.declared.command.Command.Command, sim_base.specs.declared.place.Point.Point, std.specs.Str.bytes_eq}
+use Rattle.std.specs.Prelude.{ℕ, ◌-◌, ◌^◌, List, [], ◌∷◌, length, if◌then◌else◌, nat_le, Some, None, codes, Option, option_map, option_and_then}
+use Rattle.serde_json.specs.{Data.Data, Find.as_str}
+use Rattle.sim_base.specs.declared.command.Command.TheVariants.{Attack, Delete, Place, Resign, Stop, Train, Walk}
+use Rattle.sim_json.specs.{Records.next_or, Records.records, Values.fixed, Values.list_of, Values.natural_in, Values.two}
 
 -- the id of an entity, be it there or not
 abbrev pub id_in : Data → Option ℕ
@@ -58,7 +54,8 @@ place_from rest = next_or (three rest) None (λ p. next_or (template_in p.0) Non
 
 -- to train: the building, and a template
 abbrev pub train_from : List Data → Option Command
-train_from rest = next_or (two rest) None (λ p. next_or (id_in p.0) None (λ building. next_or (template_in p.1) None (λ template. Some (Train building template))))
+train_from rest = next_or (two rest) None
+    (λ p. next_or (id_in p.0) None (λ building. next_or (template_in p.1) None (λ template. Some (Train building template))))
 
 -- to resign: nothing
 abbrev pub resign_from : List Data → Option Command

@@ -1,10 +1,7 @@
 -- Which keys an object has. A key that a text has twice is there once, with its last value.
-use Rattle.std.specs.Prelude.{ℕ, ◌||◌, not, Bool, false, List, map, Option, Some, None}
-use Rattle.std.specs.List.{list_any}
-use Rattle.std.specs.Str.{bytes_eq}
-use Rattle.std.specs.Borrow.{Bor}
-use Rattle.serde_json.specs.Data.{Data, Members, no_members, member}
-use Rattle.serde_json.specs.Find.{as_object}
+use Rattle.std.specs.{Borrow.Bor, List.list_any, Str.bytes_eq}
+use Rattle.std.specs.Prelude.{ℕ, Bool, false, not, ◌||◌, List, map, Some, None, Option}
+use Rattle.serde_json.specs.{Data.Data, Data.member, Data.Members, Data.no_members, Find.as_object}
 
 -- a text is one of these
 abbrev pub among : List ℕ → List (List ℕ) → Bool

@@ -1,10 +1,8 @@
 -- Kinds of values: whole numbers, lists, and lists of lists of whole numbers. What a number is at most is no matter of
 -- its kind.
-use Rattle.std.specs.Prelude.{ℕ, ◌==◌, ◌&&◌, Bool, false, List, length, Option, Some, None, option_and_then, is_some}
-use Rattle.std.specs.List.{list_all}
-use Rattle.serde_json.specs.Data.{Data}
-use Rattle.serde_json.specs.Find.{as_number, as_integer, as_array}
-use Rattle.sim_json.specs.Values.{list_of}
+use Rattle.{sim_json.specs.Values.list_of, std.specs.List.list_all}
+use Rattle.std.specs.Prelude.{ℕ, Bool, false, ◌&&◌, List, length, is_some, ◌==◌, Some, None, Option, option_and_then}
+use Rattle.serde_json.specs.{Data.Data, Find.as_array, Find.as_integer, Find.as_number}
 
 -- a whole number, also one below 0
 abbrev pub is_whole : Data → Bool

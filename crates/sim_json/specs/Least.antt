@@ -1,5 +1,5 @@
 -- What the number of a refusal says.
-use Rattle.std.specs.Prelude.{◌≡◌, ℕ, ◌+◌, List, ◌∷◌, ◌++◌, length, Option, None, Ok}
+use Rattle.std.specs.Prelude.{◌≡◌, ℕ, ◌+◌, List, ◌∷◌, ◌++◌, length, None, Ok, Option}
 use Rattle.sim_json.specs.Records.{numbered}
 
 -- the items before the i-th are read, and the i-th is not, beside their records

@@ -1,12 +1,8 @@
 -- Which commands ask for memory while they are read. Ids alone do; so whatever else is wrong with a command is found
 -- without memory.
-use Rattle.std.specs.Prelude.{ℕ, ◌&&◌, Bool, false, nat_le, List, [], ◌∷◌, length, codes, is_some, if◌then◌else◌}
-use Rattle.std.specs.Str.{bytes_eq}
-use Rattle.serde_json.specs.Data.{Data}
-use Rattle.serde_json.specs.Find.{as_str}
-use Rattle.sim_json.specs.Values.{list_of, two}
-use Rattle.sim_json.specs.Records.{next_or}
-use Rattle.sim_json.specs.Commands.{id_in, three}
+use Rattle.{serde_json.specs.Data.Data, serde_json.specs.Find.as_str, std.specs.Str.bytes_eq}
+use Rattle.std.specs.Prelude.{ℕ, Bool, false, ◌&&◌, List, [], ◌∷◌, length, is_some, if◌then◌else◌, nat_le, codes}
+use Rattle.sim_json.specs.{Commands.id_in, Commands.three, Records.next_or, Values.list_of, Values.two}
 
 -- the first of some items is an id
 abbrev pub begins_with_id : List Data → Bool

@@ -1,6 +1,6 @@
 -- Lists of records. An item is read beside the records of the items before it; what it may not be beside them, it is
 -- refused for.
-use Rattle.std.specs.Prelude.{ℕ, List, [], ◌∷◌, ◌++◌, length, Option, Some, None, Result, Ok, Err}
+use Rattle.std.specs.Prelude.{ℕ, List, [], ◌∷◌, ◌++◌, length, Some, None, Ok, Err, Option, Result}
 
 -- what comes next, where there is a value, or else an answer
 abbrev pub next_or : {X Y : Type 0} → Option X → Y → (X → Y) → Y

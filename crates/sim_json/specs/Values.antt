@@ -1,11 +1,8 @@
 -- Values of JSON: what a text stands for, and the lists, texts and whole numbers in it.
-use Rattle.std.specs.Prelude.{ℕ, ℤ, pos, ◌*ℤ◌, ◌&&◌, nat_le, List, [], ◌∷◌, Option, Some, None, option_map, option_and_then, is_some, if◌then◌else◌}
+use Rattle.{serde_json.specs.Read.read, sim_base.specs.NumberText.in_range, sim_base.specs.NumberText.number_of, sim_base.specs.Numbers.unit}
+use Rattle.std.specs.Prelude.{ℕ, ◌&&◌, List, [], ◌∷◌, ℤ, pos, ◌*ℤ◌, is_some, if◌then◌else◌, nat_le, Some, None, Option, option_map, option_and_then}
 use Rattle.std.specs.Str.{is_utf8}
-use Rattle.serde_json.specs.Data.{Data, Items, no_items, item}
-use Rattle.serde_json.specs.Read.{read}
-use Rattle.serde_json.specs.Find.{get, as_number, as_u64, as_i64, as_str, as_array}
-use Rattle.sim_base.specs.Numbers.{unit}
-use Rattle.sim_base.specs.NumberText.{number_of, in_range}
+use Rattle.serde_json.specs.{Data.Data, Data.item, Data.Items, Data.no_items, Find.as_array, Find.as_i64, Find.as_number, Find.as_str, Find.as_u64, Find.get}
 
 -- the value of a text, where the bytes are UTF-8 and a text that has one
 abbrev pub value_of : List ℕ → Option Data

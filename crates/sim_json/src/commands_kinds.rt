@@ -1,15 +1,16 @@
 //! Commands by their kinds. Each reader is handed what follows the kind.
 
-ghost use Rattle.std.specs.Prelude.{◌≡◌, map, option_map, IfOk, IfErr, IfSome, true};
-ghost use Rattle.serde_json.specs.View.{view};
-ghost use Rattle.sim_base.specs.Limits.{HasFewIds};
-ghost use Rattle.sim_json.specs.Commands.{point_of as point_of_data, three as three_of, walk_from as walk_from_data, stop_from as stop_from_data, attack_from as attack_from_data, delete_from as delete_from_data, place_from as place_from_data, train_from as train_from_data, resign_from as resign_from_data, command_by as command_by_kind, command_of as command_of_data};
-ghost use Rattle.sim_json.specs.Memory.{alone_take, aimed_take, sent_take, kind_takes, command_takes};
+ghost use Rattle.{serde_json.specs.View.view, sim_base.specs.Limits.HasFewIds, sim_json.specs.Commands.walk_from as walk_from_data};
+ghost use Rattle.std.specs.Prelude.{◌≡◌, true, map, IfSome, IfOk, IfErr, option_map};
+ghost use Rattle.sim_json.specs.Commands.{attack_from as attack_from_data, command_by as command_by_kind, command_of as command_of_data};
+ghost use Rattle.sim_json.specs.Commands.{delete_from as delete_from_data, place_from as place_from_data, point_of as point_of_data};
+ghost use Rattle.sim_json.specs.Commands.{resign_from as resign_from_data, stop_from as stop_from_data, three as three_of, train_from as train_from_data};
+ghost use Rattle.sim_json.specs.Memory.{aimed_take, alone_take, command_takes, kind_takes, sent_take};
 
 use crate::ids::{id_in, ids_of, template_in};
+use crate::{fixed, two};
 use serde_json::Value;
 use sim_base::{Command, OutOfMemory, Point};
-use crate::{fixed, two};
 use std::alloc::Global;
 
 /// The command that a list spells, from its kind on, or None where it spells none.

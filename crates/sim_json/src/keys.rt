@@ -1,8 +1,8 @@
 //! Which keys an object has, so that a file with a key too many is refused.
 
 ghost use Rattle.std.specs.Prelude.{◌≡◌};
-ghost use Rattle.serde_json.specs.View.{view, members_view};
-ghost use Rattle.sim_json.specs.Keys.{among, other_member, other_key as has_other_key, texts_of};
+ghost use Rattle.serde_json.specs.View.{members_view, view};
+ghost use Rattle.sim_json.specs.Keys.{among, other_key as has_other_key, other_member, texts_of};
 
 use serde_json::{Map, Value};
 

@@ -1,11 +1,10 @@
 //! Texts, lists and whole numbers of JSON. A reader answers None where the value is something else.
 
-ghost use Rattle.std.specs.Prelude.{◌≡◌, ◌<◌, ◌≤◌, false, None, map, length, option_map, IfOk, IfErr, IsErr, IfSome};
+ghost use Rattle.{serde_json.specs.Errors.IsMemory, serde_json.specs.Read.read, serde_json.specs.View.view, sim_json.specs.Values.value_of as value_of_bytes};
+ghost use Rattle.std.specs.Prelude.{◌≡◌, ◌<◌, ◌≤◌, false, map, length, IfSome, IfOk, IfErr, IsErr, None, option_map};
 ghost use Rattle.std.specs.Str.{is_utf8};
-ghost use Rattle.serde_json.specs.Errors.{IsMemory};
-ghost use Rattle.serde_json.specs.Read.{read};
-ghost use Rattle.serde_json.specs.View.{view};
-ghost use Rattle.sim_json.specs.Values.{value_of as value_of_bytes, list_of as list_of_data, list_at as list_at_key, natural as natural_of, natural_in as natural_within, natural_at as natural_at_key, fixed as fixed_of, metres as metres_of, two as two_of, four as four_of, front_two as front_two_of};
+ghost use Rattle.sim_json.specs.Values.{fixed as fixed_of, four as four_of, front_two as front_two_of, list_at as list_at_key, list_of as list_of_data};
+ghost use Rattle.sim_json.specs.Values.{metres as metres_of, natural as natural_of, natural_at as natural_at_key, natural_in as natural_within, two as two_of};
 
 use serde_json::{Category, Error, Value};
 use sim_base::{Fixed, OutOfMemory};

@@ -1,23 +1,11 @@
 -- The phase in which fighters aim keeps a state valid.
-use Rattle.std.proofs.Common.{◌≡◌, ℕ, Bool, true, false, cond, not, List, [], ◌∷◌, filter, Option, Some, None, refl, subst, inl, inr}
-use Rattle.std.specs.Prelude.{is_some, unwrap_or, ◌==◌, ◌&&◌}
-use Rattle.std.proofs.lemmas.Bool.{eqb-false, not-true, cond_both, and_parts}
-use Rattle.sim_base.specs.declared.template.Template.{Template}
-use Rattle.sim_base.specs.declared.template.Arms.{Arms}
-use Rattle.sim_base.specs.declared.setup.Setup.{Setup}
-use Rattle.sim_base.specs.declared.state.Row.{Row}
-use Rattle.sim_base.specs.declared.state.State.{State}
-use Rattle.sim_base.specs.Least.{least_of}
-use Rattle.sim_base.specs.Rows.{id_of, row_of, target_of, arms_of, in_mask, enemies_of}
-use Rattle.sim_base.specs.Filters.{is_near, within, seen}
-use Rattle.sim_base.specs.Validity.{IsValidRow, IsState, has_health}
-use Rattle.sim_base.specs.Changes.{released}
-use Rattle.sim_base.specs.Aim.{lets_go, with_releases, square_to, may_take, choices, target_for, is_idle, looking, with_targets, aimed}
-use Rattle.sim_laws.proofs.Members.{Has, Has-of_map}
-use Rattle.sim_laws.proofs.LeastMember.{least_of-some}
-use Rattle.sim_laws.proofs.Rows.{Has-of_filter, has_health_of}
-use Rattle.sim_laws.proofs.RowWise.{Stays, mapped_is_state}
-use Rattle.sim_laws.proofs.Removing.{IsTarget, same_stays, aimed_at_stays, released_stays}
+use Rattle.sim_base.specs.Aim.{choices, is_idle, lets_go, looking, may_take, square_to, target_for, with_releases, with_targets}
+use Rattle.sim_base.specs.Filters.{seen, within}
+use Rattle.sim_laws.proofs.{LeastMember.least_of-some, Members.Has, Members.Has-of_map, Rows.Has-of_filter, Rows.has_health_of}
+use Rattle.sim_laws.proofs.{Removing.aimed_at_stays, Removing.IsTarget, Removing.released_stays, Removing.same_stays, RowWise.mapped_is_state, RowWise.Stays}
+use Rattle.sim_laws.proofs.Common.{IsValidRow, least_of, not-true, released, Row, row_of, Setup, State, subst, target_of, Template}
+use Rattle.sim_laws.proofs.Common.{and_parts, Arms, arms_of, cond_both, enemies_of, eqb-false, has_health, id_of, in_mask, inl, inr, is_near, IsState}
+use Rattle.sim_laws.proofs.Common.{◌≡◌, ℕ, Bool, true, false, cond, not, ◌&&◌, List, [], ◌∷◌, is_some, ◌==◌, Some, None, filter, Option, unwrap_or, refl, aimed}
 
 -- whom a row sees is another row that has health
 seen_is_target : (setup : Setup) (state : State) (row : Row) (arms : Arms) (id : ℕ) → Has (seen setup state row arms) id → IsTarget state.rows row id
@@ -50,7 +38,8 @@ module _ (least : ℕ) (setup : Setup) (state : State) (valid : IsState least se
       (λ yes. released_stays least setup state.rows row t v) (λ no. same_stays least setup state.rows row t v))
 
   pub with_targets_is_state : IsState least setup (with_targets setup state)
-  with_targets_is_state = mapped_is_state least least setup state (λ (row : Row). looking setup state row (is_idle row) (arms_of setup row)) valid (λ row t h e v. by row t v (is_idle row) (arms_of setup row))
+  with_targets_is_state = mapped_is_state least least setup state (λ (row : Row). looking setup state row (is_idle row) (arms_of setup row)) valid
+      (λ row t h e v. by row t v (is_idle row) (arms_of setup row))
     where
       by : (row : Row) (t : Template) → IsValidRow least setup state.rows row t → (idle : Bool) (arms : Option Arms)
           → Stays least setup state.rows row (looking setup state row idle arms) t

@@ -1,37 +1,16 @@
 -- Each command of a player of the match keeps a state valid.
-use Rattle.std.proofs.Common.{◌≡◌, ℕ, ◌+◌, ◌*◌, ◌<◌, ◌≤◌, true, false, cond, leb, ltb, ℤ, pos, List, [], ◌∷◌, length, map, filter, Option, Some, None, refl, sym, ap, ◌∙◌, subst, ⊎_elim, inl, inr, arith, le-leb, lt-ltb}
-use Rattle.std.specs.Prelude.{is_some, slice_get, ◌==◌, ◌&&◌, nat_lt}
-use Rattle.std.specs.List.{list_any}
-use Rattle.std.proofs.lemmas.Bool.{cond_both, and_parts, and_from, eqb-true, ltb-true, cases_Bool}
-use Rattle.std.proofs.lemmas.Option.{slice_get_within, get_or_from_slice_get}
-use Rattle.std.proofs.lemmas.List.Elements.{All-nil}
-use Rattle.sim_base.specs.declared.place.Point.{Point}
-use Rattle.sim_base.specs.declared.place.Cell.{Cell}
-use Rattle.sim_base.specs.declared.template.Template.{Template}
-use Rattle.sim_base.specs.declared.template.Base.{Base}
-use Rattle.sim_base.specs.declared.command.Command.{Command}
-use Rattle.sim_base.specs.declared.command.Command.TheVariants.{Walk, Stop, Attack, Delete, Place, Train, Resign}
-use Rattle.sim_base.specs.declared.setup.Setup.{Setup}
-use Rattle.sim_base.specs.declared.state.Motion.{Motion}
-use Rattle.sim_base.specs.declared.state.Motion.TheVariants.{Going}
-use Rattle.sim_base.specs.declared.state.Aim.{Aim}
-use Rattle.sim_base.specs.declared.state.Row.{Row}
-use Rattle.sim_base.specs.declared.state.State.{State}
-use Rattle.sim_base.specs.Places.{Size, is_within, is_inside, cells_of, centre_of, square}
-use Rattle.sim_base.specs.Steps.{IsOnGround}
-use Rattle.sim_base.specs.Rows.{id_of, row_of, template_of, size_of, in_mask, enemies_of}
-use Rattle.sim_base.specs.Limits.{IsSetup, IsTemplate}
-use Rattle.sim_base.specs.Filters.{is_open, spot}
-use Rattle.sim_base.specs.Validity.{IsInside, IsValidMotion, IsValidRow, IsState, Both, has_health}
-use Rattle.sim_base.specs.Changes.{with_new, created}
-use Rattle.sim_base.specs.Commands.{is_ordered, with_ordered, sent, stopped, set_on, is_enemy, has_room, is_placeable, trains, placed_on, trained, commanded_by}
-use Rattle.sim_laws.proofs.Ground.{Has-of_cells_of}
-use Rattle.sim_laws.proofs.LeastMember.{least_of-some}
-use Rattle.sim_laws.proofs.Members.{Has}
-use Rattle.sim_laws.proofs.Validity.{with_new_is_valid}
-use Rattle.sim_laws.proofs.Rows.{Has-of_filter, apart, same_row, found_row, has_health_of}
-use Rattle.sim_laws.proofs.RowWise.{Stays, mapped_is_state}
-use Rattle.sim_laws.proofs.Removing.{IsTarget, same_stays, placed_stays, ordered_stays, removed_all_is_state}
+use Rattle.std.{proofs.lemmas.Option.get_or_from_slice_get, specs.Prelude.nat_lt}
+use Rattle.sim_base.specs.{Filters.is_open, declared.command.Command.TheVariants.Walk, declared.template.Base.Base}
+use Rattle.sim_laws.proofs.{Ground.Has-of_cells_of, LeastMember.least_of-some, Validity.with_new_is_valid}
+use Rattle.sim_laws.proofs.{Members.Has, Removing.IsTarget, Removing.ordered_stays, Removing.placed_stays, Removing.removed_all_is_state, Removing.same_stays}
+use Rattle.sim_laws.proofs.{RowWise.mapped_is_state, RowWise.Stays, Rows.apart, Rows.found_row, Rows.Has-of_filter, Rows.has_health_of, Rows.same_row}
+use Rattle.sim_laws.proofs.Common.{IsTemplate, IsValidMotion, IsValidRow, le-leb, list_any, lt-ltb, ltb-true, Motion, Place, placed_on, Point, Resign, Row}
+use Rattle.sim_laws.proofs.Common.{Some, None, filter, Option, refl, Aim, All-nil, and_from, and_parts, ap, arith, Attack, Both, cases_Bool, Cell, cells_of}
+use Rattle.sim_laws.proofs.Common.{centre_of, Command, commanded_by, cond_both, created, Delete, enemies_of, eqb-true, Going, has_health, has_room, id_of}
+use Rattle.sim_laws.proofs.Common.{in_mask, inl, inr, is_enemy, is_inside, is_ordered, is_placeable, is_within, IsInside, IsOnGround, IsSetup, IsState}
+use Rattle.sim_laws.proofs.Common.{row_of, sent, set_on, Setup, Size, size_of, slice_get_within, spot, square, State, Stop, stopped, subst, sym, Template}
+use Rattle.sim_laws.proofs.Common.{template_of, Train, trained, trains, with_new, with_ordered, ⊎_elim, ◌∙◌}
+use Rattle.sim_laws.proofs.Common.{◌≡◌, ℕ, ◌+◌, ◌*◌, ◌<◌, ◌≤◌, true, false, cond, ◌&&◌, ltb, leb, List, [], ◌∷◌, map, length, ℤ, pos, is_some, ◌==◌, slice_get}
 
 -- a template of a known number is one of the match
 pub known_template : (setup : Setup) (number : ℕ) (t : Template) → IsSetup setup → slice_get setup.templates number ≡ Some t
@@ -54,18 +33,21 @@ middle_inside size c on =
 -- the spot for a new row lies on the ground
 pub spot_on_ground : (setup : Setup) (state : State) (p : Point) (c : Cell) → spot setup state p ≡ Some c → IsOnGround (size_of setup.land) c
 spot_on_ground setup state p c e =
-    let (h, free) = Has-of_filter (is_open setup state) (cells_of (size_of setup.land)) c ((least_of-some (λ (x : Cell). square (centre_of x) p ∷ x.z ∷ x.x ∷ []) (filter (is_open setup state) (cells_of (size_of setup.land))) c e).member) in
+    let (h, free) = Has-of_filter (is_open setup state) (cells_of (size_of setup.land)) c
+    ((least_of-some (λ (x : Cell). square (centre_of x) p ∷ x.z ∷ x.x ∷ []) (filter (is_open setup state) (cells_of (size_of setup.land))) c e).member) in
     Has-of_cells_of (size_of setup.land) c h
 
 module _ (least : ℕ) (setup : Setup) (limits : IsSetup setup) (state : State) (valid : IsState least setup state) (player : ℕ) where
   -- each row that is ordered stays valid
   ordered_is_state : (ids : List ℕ) (changed : Row → Row) →
-      ((row : Row) (t : Template) → Has state.rows row → row.owner ≡ player → template_of setup row ≡ Some t → IsValidRow least setup state.rows row t → Stays least setup state.rows row (changed row) t) →
+      ((row : Row) (t : Template) → Has state.rows row → row.owner ≡ player → template_of setup row ≡ Some t → IsValidRow least setup state.rows row t
+      → Stays least setup state.rows row (changed row) t) →
       IsState least setup (with_ordered player ids changed state)
   ordered_is_state ids changed each =
       mapped_is_state least least setup state (λ (row : Row). cond (is_ordered player ids row) (changed row) row) valid
       (λ row t h e v. cond_both (is_ordered player ids row) (changed row) row (λ (new : Row). Stays least setup state.rows row new t)
-      (λ holds. let (own, named) = and_parts (row.owner == player) (list_any (λ (id : ℕ). id == row.id) ids) holds in each row t h (eqb-true row.owner player own) e v)
+      (λ holds. let (own, named) = and_parts (row.owner == player) (list_any (λ (id : ℕ). id == row.id) ids) holds in
+      each row t h (eqb-true row.owner player own) e v)
       (λ fails. same_stays least setup state.rows row t v))
 
   sent_stays : (p : Point) → IsInside setup p → (row : Row) (t : Template) → IsValidRow least setup state.rows row t
@@ -82,7 +64,12 @@ module _ (least : ℕ) (setup : Setup) (limits : IsSetup setup) (state : State) 
       by None w = same_stays least setup state.rows (record row { motion = None }) t w
       by (Some m) w =
           let a = placed_stays least setup state.rows (record row { motion = Some m }) t w 0 false (inl refl) in
-          record { id = refl; template = refl; valid = record { at = w.at; owner = w.owner; health = w.health; motion = going t.speed m w.motion; attack = a.valid.attack } }
+          record {
+            id = refl;
+            template = refl;
+            valid =
+                record { at = w.at; owner = w.owner; health = w.health; motion = going t.speed m w.motion; attack = a.valid.attack };
+          }
 
   set_on_stays : (target : ℕ) (row : Row) (t : Template) → IsTarget state.rows row target → IsValidRow least setup state.rows row t
       → Stays least setup state.rows row (set_on target row) t
@@ -112,13 +99,21 @@ module _ (least : ℕ) (setup : Setup) (limits : IsSetup setup) (state : State) 
       by (Some row) e holds =
           let (h, same) = found_row state target row e in
           let (some, enemy) = and_parts (is_some row.health) (in_mask (enemies_of setup player) row.owner) holds in
-          record { row = row; has = h; id = same; some = some; not_own = λ own. let other = not_own_enemy known in let itself : in_mask (enemies_of setup player) player ≡ true = ap (in_mask (enemies_of setup player)) (sym own) ∙ enemy in absurd (cc) }
+          record {
+            row = row;
+            has = h;
+            id = same;
+            some = some;
+            not_own = λ own. let other = not_own_enemy known in
+                let itself : in_mask (enemies_of setup player) player ≡ true = ap (in_mask (enemies_of setup player)) (sym own) ∙ enemy in absurd (cc);
+          }
 
   -- so it may be the target of each of the player's rows
   pub enemy_is_target : (target : ℕ) → IsEnemyRow target → (row : Row) → Has state.rows row → row.owner ≡ player → IsTarget state.rows row target
   enemy_is_target target enemy row h own =
       inr (
-        (λ same. enemy.not_own (ap (λ (r : Row). r.owner) (same_row state.rows enemy.row row (apart state.rows valid.ascending) enemy.has h (enemy.id ∙ same)) ∙ own)),
+        (λ same. enemy.not_own (ap (λ (r : Row). r.owner) (same_row state.rows enemy.row row (apart state.rows valid.ascending) enemy.has h (enemy.id ∙ same)) ∙
+            own)),
         subst (λ (n : ℕ). has_health state.rows n ≡ true) enemy.id (has_health_of state.rows enemy.row enemy.has enemy.some),
       )
 
@@ -130,7 +125,8 @@ module _ (least : ℕ) (setup : Setup) (limits : IsSetup setup) (state : State) 
       let (first, capped) = and_parts (nat_lt (length state.rows) 4096 && nat_lt state.next 0x20000000) _ room in
       let (few, free) = and_parts (nat_lt (length state.rows) 4096) (nat_lt state.next 0x20000000) first in
       subst (λ (o : Option Template). IsState least setup (with_new number p player o state)) (sym e)
-      (with_new_is_valid least setup state number p player t valid (record { low = low; inside = inside; known_owner = known }) e (known_template setup number t limits e)
+      (with_new_is_valid least setup state number p player t valid (record { low = low; inside = inside; known_owner = known }) e
+      (known_template setup number t limits e)
       (ltb-true (length state.rows) 4096 few) (ltb-true state.next 0x20000000 free))
 
   -- what may be placed is of a known template, and inside
@@ -164,17 +160,20 @@ module _ (least : ℕ) (setup : Setup) (limits : IsSetup setup) (state : State) 
         let c = building.owner == player && trains (template_of setup building) number (slice_get setup.templates number) && has_room setup state player in
         ⊎_elim (λ (holds : c ≡ true). rw holds (yes_case holds)) (λ (fails : c ≡ false). rw fails valid) (cases_Bool c)
       where
-        yes_case : (building.owner == player && trains (template_of setup building) number (slice_get setup.templates number) && has_room setup state player) ≡ true
+        yes_case : (building.owner == player && trains (template_of setup building) number (slice_get setup.templates number) && has_room setup state player) ≡
+            true
             → IsState least setup (placed_on setup state player number (spot setup state building.at))
         yes_case holds =
-            let (first, room) = and_parts (building.owner == player && trains (template_of setup building) number (slice_get setup.templates number)) (has_room setup state player) holds in
+            let (first, room) = and_parts (building.owner == player && trains (template_of setup building) number (slice_get setup.templates number))
+            (has_room setup state player) holds in
             let (own, can) = and_parts (building.owner == player) (trains (template_of setup building) number (slice_get setup.templates number)) first in
             let (t, e) = trained_template (template_of setup building) number (slice_get setup.templates number) can in
             placed_on_is_state number t e room building.at
 
     resigned_stays : (row : Row) (t : Template) → IsValidRow least setup state.rows row t
         → Stays least setup state.rows row (record row { owner = 0 }) t
-    resigned_stays row t v = record { id = refl; template = refl; valid = record { at = v.at; owner = omega arith; health = v.health; motion = v.motion; attack = v.attack } }
+    resigned_stays row t v =
+        record { id = refl; template = refl; valid = record { at = v.at; owner = omega arith; health = v.health; motion = v.motion; attack = v.attack } }
 
     pub commanded_by_is_state : (command : Command) → IsState least setup (commanded_by setup state player command)
     commanded_by_is_state (Walk ids p) =
@@ -183,10 +182,12 @@ module _ (least : ℕ) (setup : Setup) (limits : IsSetup setup) (state : State) 
     commanded_by_is_state (Stop ids) = ordered_is_state ids stopped (λ row t h own e v. ordered_stays least setup state.rows row t v 0 true (inl refl))
     commanded_by_is_state (Attack ids target) =
         cond_both (is_enemy setup player (row_of state target)) (with_ordered player ids (set_on target) state) state (IsState least setup)
-        (λ holds. ordered_is_state ids (set_on target) (λ row t h own e v. set_on_stays target row t (enemy_is_target target (enemy_row known target holds) row h own) v)) (λ fails. valid)
+        (λ holds. ordered_is_state ids (set_on target)
+        (λ row t h own e v. set_on_stays target row t (enemy_is_target target (enemy_row known target holds) row h own) v)) (λ fails. valid)
     commanded_by_is_state (Delete ids) = removed_all_is_state least setup (map id_of (filter (is_ordered player ids) state.rows)) state valid
     commanded_by_is_state (Place number p) =
-        cond_both (is_placeable setup state p (slice_get setup.templates number) && has_room setup state player) (created setup state number p player) state (IsState least setup)
+        cond_both (is_placeable setup state p (slice_get setup.templates number) && has_room setup state player) (created setup state number p player) state
+        (IsState least setup)
         (λ holds. let (can, room) = and_parts (is_placeable setup state p (slice_get setup.templates number)) (has_room setup state player) holds in
         let (t, e, inside) = placeable p (slice_get setup.templates number) can in created_is_state low known number p t e inside room) (λ fails. valid)
     commanded_by_is_state (Train building number) = trained_is_state number (row_of state building)

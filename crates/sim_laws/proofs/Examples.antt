@@ -1,10 +1,6 @@
 -- Ways that were worked out by hand, computed.
-use Rattle.std.proofs.Common.{◌≡◌, ℕ, ◌+◌, ◌*◌, Bool, true, false, ◌&&◌, ◌||◌, not, leb, pos, map, [], ◌∷◌, refl}
-use Rattle.std.specs.List.{range_with_len}
-use Rattle.sim_base.specs.declared.place.Cell.{Cell}
-use Rattle.sim_base.specs.declared.place.Point.{Point}
-use Rattle.sim_base.specs.Steps.{Field}
-use Rattle.sim_base.specs.WayOf.{way_of}
+use Rattle.sim_laws.proofs.Common.{way_of}
+use Rattle.sim_laws.proofs.Common.{◌≡◌, ℕ, ◌+◌, ◌*◌, Bool, true, false, not, ◌&&◌, ◌||◌, leb, [], ◌∷◌, map, pos, refl, Cell, Field, Point, range_with_len}
 
 -- the point in the middle of a cell
 abbrev middle : ℕ → ℕ → Point
@@ -19,12 +15,14 @@ abbrev field : ℕ → ℕ → (Cell → Bool) → Field
 field width depth closed = record { size = record { width = width; depth = depth }; is_open = λ c. not (closed c) }
 
 -- The goal's cell is closed. Two cells are as near to it and cost as much, and the one with the smaller z is the end.
-around_two : way_of (field 8 5 (λ c. lies_in 4 6 1 3 c || lies_in 3 3 2 2 c)) (middle 0 2) (middle 5 2) ≡ record { points = middle 1 1 ∷ middle 2 0 ∷ middle 3 0 ∷ middle 4 0 ∷ middle 5 0 ∷ []; whole = true }
+around_two : way_of (field 8 5 (λ c. lies_in 4 6 1 3 c || lies_in 3 3 2 2 c)) (middle 0 2) (middle 5 2) ≡
+    record { points = middle 1 1 ∷ middle 2 0 ∷ middle 3 0 ∷ middle 4 0 ∷ middle 5 0 ∷ []; whole = true }
 unfolding way_of
 around_two = refl
 
 -- From (0.5, 0.5) to (0.25, 0.75), in one cell: the goal alone.
-in_one_cell : way_of (field 4 4 (λ c. false)) (middle 0 0) (record { x = pos 16384; z = pos 49152 }) ≡ record { points = record { x = pos 16384; z = pos 49152 } ∷ []; whole = true }
+in_one_cell : way_of (field 4 4 (λ c. false)) (middle 0 0) (record { x = pos 16384; z = pos 49152 }) ≡
+    record { points = record { x = pos 16384; z = pos 49152 } ∷ []; whole = true }
 unfolding way_of
 in_one_cell = refl
 
@@ -39,7 +37,8 @@ unfolding way_of
 out_of_closed = refl
 
 -- A way leads out of a closed rectangle.
-out_of_building : way_of (field 16 16 (lies_in 4 5 4 5)) (middle 5 5) (middle 9 5) ≡ record { points = middle 6 5 ∷ middle 7 5 ∷ middle 8 5 ∷ middle 9 5 ∷ []; whole = true }
+out_of_building : way_of (field 16 16 (lies_in 4 5 4 5)) (middle 5 5) (middle 9 5) ≡
+    record { points = middle 6 5 ∷ middle 7 5 ∷ middle 8 5 ∷ middle 9 5 ∷ []; whole = true }
 unfolding way_of
 out_of_building = refl
 

@@ -1,13 +1,8 @@
 -- The cells of a ground, and tables over it.
-use Rattle.std.proofs.Common.{◌≡◌, ℕ, true, eqb, List, [], map, get_or, refl, ap, ◌∙◌, arith, eqb-true, eq-eqb}
-use Rattle.std.specs.List.{range_with_len}
 use Rattle.std.proofs.lemmas.List.FromFn.{get_or-map-range_with_len}
-use Rattle.std.proofs.lemmas.Bool.{and_parts, and_from}
-use Rattle.sim_base.specs.declared.place.Cell.{Cell}
-use Rattle.sim_base.specs.Places.{Size, same_cell, cells_of}
-use Rattle.sim_base.specs.Steps.{IsOnGround}
-use Rattle.sim_base.specs.Tables.{table_of, entry}
-use Rattle.sim_laws.proofs.Members.{Has, Has-range, Has-in_range, Has-map, Has-of_map, Has-flat_map, Has-of_flat_map}
+use Rattle.sim_laws.proofs.Common.{IsOnGround, range_with_len, same_cell, Size, table_of, ◌∙◌}
+use Rattle.sim_laws.proofs.Common.{◌≡◌, ℕ, true, eqb, List, [], map, get_or, refl, and_from, and_parts, ap, arith, Cell, cells_of, entry, eq-eqb, eqb-true}
+use Rattle.sim_laws.proofs.Members.{Has, Has-flat_map, Has-in_range, Has-map, Has-of_flat_map, Has-of_map, Has-range}
 
 pub same_by_parts : (c e : Cell) → c.x ≡ e.x → c.z ≡ e.z → c ≡ e
 same_by_parts c e f g = ap (λ (z : ℕ). record { x = c.x; z = z }) g ∙ ap (λ (x : ℕ). record { x = x; z = e.z }) f
@@ -24,7 +19,8 @@ pub entry-table_of : {X : Type 0} (size : Size) (other : X) (f : Cell → X) (c 
 entry-table_of {X} size other f c on =
     let row : ℕ → List X = λ z. map (λ x. f (record { x = x; z = z })) (range_with_len 0 size.width) in
     let at_row : get_or (table_of size f) c.z [] ≡ row c.z = get_or-map-range_with_len row 0 size.depth c.z c.z [] on.north (omega arith) in
-    let at_place : get_or (row c.z) c.x other ≡ f c = get_or-map-range_with_len (λ x. f (record { x = x; z = c.z })) 0 size.width c.x c.x other on.east (omega arith) in
+    let at_place : get_or (row c.z) c.x other ≡ f c = get_or-map-range_with_len (λ x. f (record { x = x; z = c.z })) 0 size.width c.x c.x other on.east
+    (omega arith) in
     ap (λ (r : List X). get_or r c.x other) at_row ∙ at_place
 
 abbrev cells_in_row : Size → ℕ → List Cell

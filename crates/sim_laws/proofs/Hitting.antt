@@ -1,23 +1,10 @@
 -- The phase in which fighters hit keeps a state loosely valid. Which rows come out of it does not hang on the word.
-use Rattle.std.proofs.Common.{◌≡◌, ℕ, ◌+◌, ◌-◌, ◌*◌, ◌^◌, ◌<◌, ◌≤◌, Bool, true, false, cond, ℤ, pos, ◌-ℤ◌, ◌≤ℤ◌, List, [], ◌∷◌, ◌++◌, map, fold, Option, Some, None, refl, sym, ap, ◌∙◌, subst, arith, append_assoc, append-nil}
-use Rattle.std.specs.Prelude.{option_map, option_and_then, ◌==◌}
-use Rattle.std.specs.Int.{int_max}
-use Rattle.std.proofs.lemmas.Bool.{cond_both}
-use Rattle.std.proofs.lemmas.Int.{ints, clamps}
-use Rattle.std.proofs.lemmas.Nat.{mod_below}
-use Rattle.sim_base.specs.declared.template.Template.{Template}
-use Rattle.sim_base.specs.declared.template.Arms.{Arms}
-use Rattle.sim_base.specs.declared.setup.Setup.{Setup}
-use Rattle.sim_base.specs.declared.state.Aim.{Aim}
-use Rattle.sim_base.specs.declared.state.Row.{Row}
-use Rattle.sim_base.specs.declared.state.State.{State}
-use Rattle.sim_base.specs.Rows.{row_of, template_of, arms_of}
-use Rattle.sim_base.specs.Filters.{is_near}
-use Rattle.sim_base.specs.Validity.{IsValidAim, IsValidRow, IsState, IsLooselyValid, Both}
-use Rattle.sim_base.specs.Hit.{Hit, Hitting, with_cooldown, strikes, rests, strikes_near, fights, hitting, taken_from, hurt, hit}
-use Rattle.sim_laws.proofs.Rows.{map-map}
-use Rattle.sim_laws.proofs.RowWise.{Stays, mapped_is_state}
-use Rattle.sim_laws.proofs.Removing.{same_stays}
+use Rattle.std.{proofs.Common.◌^◌, proofs.Common.append_assoc, proofs.lemmas.Int.clamps, proofs.lemmas.Nat.mod_below, specs.Int.int_max}
+use Rattle.sim_base.specs.Hit.{fights, Hit, Hitting, hitting, hurt, rests, strikes, strikes_near, taken_from, with_cooldown}
+use Rattle.sim_laws.proofs.{Removing.same_stays, RowWise.mapped_is_state, RowWise.Stays, Rows.map-map}
+use Rattle.sim_laws.proofs.Common.{fold, Option, option_map, option_and_then, refl, Aim, ap, append-nil, arith, Arms, arms_of, Both, cond_both, hit, ints}
+use Rattle.sim_laws.proofs.Common.{is_near, IsLooselyValid, IsState, IsValidAim, IsValidRow, Row, row_of, Setup, State, subst, sym, Template, template_of, ◌∙◌}
+use Rattle.sim_laws.proofs.Common.{◌≡◌, ℕ, ◌+◌, ◌-◌, ◌*◌, ◌<◌, ◌≤◌, Bool, true, false, cond, List, [], ◌∷◌, ◌++◌, map, ℤ, pos, ◌-ℤ◌, ◌≤ℤ◌, ◌==◌, Some, None}
 
 -- ---- what the phase makes of a row before it is hurt
 
@@ -80,7 +67,8 @@ module _ (setup : Setup) (state : State) where
       let once = fights_is_step setup state so_far row row.attack (arms_of setup row) in
       let rest = fought_rows rows (fight so_far row) in
       record {
-        rows_are = rest.rows_are ∙ ap (λ (rs : List Row). rs ++ map (fought setup state) rows) once.rows ∙ append_assoc so_far.rows (fought setup state row ∷ []) (map (fought setup state) rows);
+        rows_are = rest.rows_are ∙ ap (λ (rs : List Row). rs ++ map (fought setup state) rows) once.rows ∙
+            append_assoc so_far.rows (fought setup state row ∷ []) (map (fought setup state) rows);
         word_is = λ h. rest.word_is (once.word h);
       }
 
@@ -91,7 +79,8 @@ module _ (setup : Setup) (state : State) where
   pub hitting-word : state.word < 2 ^ 48 → (hitting setup state).word < 2 ^ 48
   hitting-word = (fought_rows state.rows (record { rows = []; word = state.word; hits = [] })).word_is
 
-  pub hit-is_map : hit setup state ≡ record state { word = (hitting setup state).word; rows = map (λ row. hurt (hitting setup state).hits (fought setup state row)) state.rows }
+  pub hit-is_map : hit setup state ≡
+      record state { word = (hitting setup state).word; rows = map (λ row. hurt (hitting setup state).hits (fought setup state row)) state.rows }
   hit-is_map =
       ap (λ (rs : List Row). record state { word = (hitting setup state).word; rows = rs })
       (ap (map (hurt (hitting setup state).hits)) hitting-rows ∙ map-map (fought setup state) (hurt (hitting setup state).hits) state.rows)
@@ -102,17 +91,26 @@ module _ (least : ℕ) (setup : Setup) (rows : List Row) (row : Row) (t : Templa
   with_cooldown_is_valid : (aim : Aim) (arms : Arms) (cooldown : ℕ) → row.attack ≡ Some aim → t.arms ≡ Some arms → cooldown ≤ arms.repeat
       → IsValidRow least setup rows row t → IsValidRow least setup rows (with_cooldown row aim cooldown) t
   with_cooldown_is_valid aim arms cooldown is_aim is_arms within v =
-      record { at = v.at; owner = v.owner; health = v.health; motion = v.motion; attack = subst (λ (o : Option Arms). Both (Some (record aim { cooldown = cooldown })) o (IsValidAim rows row.id)) (sym is_arms) ok }
+      record {
+        at = v.at;
+        owner = v.owner;
+        health = v.health;
+        motion = v.motion;
+        attack =
+            subst (λ (o : Option Arms). Both (Some (record aim { cooldown = cooldown })) o (IsValidAim rows row.id)) (sym is_arms) ok;
+      }
     where
       both : (a : Option Aim) (b : Option Arms) → a ≡ Some aim → b ≡ Some arms → Both a b (IsValidAim rows row.id) → IsValidAim rows row.id aim arms
-      both a b e f h = subst (λ (o : Option Aim). Both o (Some arms) (IsValidAim rows row.id)) e (subst (λ (o : Option Arms). Both a o (IsValidAim rows row.id)) f h)
+      both a b e f h = subst (λ (o : Option Aim). Both o (Some arms) (IsValidAim rows row.id)) e
+          (subst (λ (o : Option Arms). Both a o (IsValidAim rows row.id)) f h)
 
       ok : IsValidAim rows row.id (record aim { cooldown = cooldown }) arms
       ok = let h = both row.attack t.arms is_aim is_arms v.attack in record { target = h.target; cooldown = within }
 
   pub waits : (aim : Aim) (arms : Arms) → row.attack ≡ Some aim → t.arms ≡ Some arms → IsValidRow least setup rows row t
       → IsValidAim rows row.id aim arms
-  waits aim arms e f v = subst (λ (o : Option Aim). Both o (Some arms) (IsValidAim rows row.id)) e (subst (λ (o : Option Arms). Both row.attack o (IsValidAim rows row.id)) f v.attack)
+  waits aim arms e f v = subst (λ (o : Option Aim). Both o (Some arms) (IsValidAim rows row.id)) e
+      (subst (λ (o : Option Arms). Both row.attack o (IsValidAim rows row.id)) f v.attack)
 
 pub fought_stays : (least : ℕ) (setup : Setup) (state : State) (row : Row) (t : Template) → template_of setup row ≡ Some t
     → IsValidRow least setup state.rows row t → Stays least setup state.rows row (fought setup state row) t
@@ -123,7 +121,8 @@ fought_stays least setup state row t e v = by row.attack (arms_of setup row) ref
 
     waiting : (aim : Aim) (arms : Arms) (cooldown : ℕ) → row.attack ≡ Some aim → t.arms ≡ Some arms → cooldown ≤ arms.repeat
         → Stays least setup state.rows row (with_cooldown row aim cooldown) t
-    waiting aim arms cooldown f g within = record { id = refl; template = refl; valid = with_cooldown_is_valid least setup state.rows row t aim arms cooldown f g within v }
+    waiting aim arms cooldown f g within =
+        record { id = refl; template = refl; valid = with_cooldown_is_valid least setup state.rows row t aim arms cooldown f g within v }
 
     struck_stays : (aim : Aim) (arms : Arms) → row.attack ≡ Some aim → t.arms ≡ Some arms → (o : Option Row)
         → Stays least setup state.rows row (struck row aim arms o) t
@@ -134,9 +133,11 @@ fought_stays least setup state row t e v = by row.attack (arms_of setup row) ref
 
     by : (a : Option Aim) (b : Option Arms) → row.attack ≡ a → b ≡ t.arms → Stays least setup state.rows row (fought_by state row a b) t
     by (Some aim) (Some arms) f g =
-        cond_both (aim.cooldown == 0) (struck row aim arms (row_of state aim.target)) (with_cooldown row aim (aim.cooldown - 1)) (λ (new : Row). Stays least setup state.rows row new t)
+        cond_both (aim.cooldown == 0) (struck row aim arms (row_of state aim.target)) (with_cooldown row aim (aim.cooldown - 1))
+        (λ (new : Row). Stays least setup state.rows row new t)
         (λ ready. struck_stays aim arms f (sym g) (row_of state aim.target))
-        (λ waiting_on. let h = waits least setup state.rows row t aim arms f (sym g) v in waiting aim arms (aim.cooldown - 1) f (sym g) (omega (arith, h.cooldown)))
+        (λ waiting_on. let h = waits least setup state.rows row t aim arms f (sym g) v in waiting aim arms (aim.cooldown - 1) f (sym g)
+        (omega (arith, h.cooldown)))
     by (Some aim) None f g = same_stays least setup state.rows row t v
     by None b f g = same_stays least setup state.rows row t v
 
@@ -146,7 +147,13 @@ hurt_stays setup rows row new t hits s =
     record {
       id = s.id;
       template = s.template;
-      valid = record { at = s.valid.at; owner = s.valid.owner; health = by new.health t.health s.valid.health; motion = s.valid.motion; attack = s.valid.attack };
+      valid = record {
+        at = s.valid.at;
+        owner = s.valid.owner;
+        health = by new.health t.health s.valid.health;
+        motion = s.valid.motion;
+        attack = s.valid.attack;
+      };
     }
   where
     by : (a b : Option ℤ) → Both a b (λ h m. (pos 0 ≤ℤ h) × (h ≤ℤ m))

@@ -1,10 +1,8 @@
 -- Lists of numbers as keys: of two keys neither of which comes first, the two are one, and one that does not come first has no lesser first number.
-use Rattle.std.proofs.Common.{◌≡◌, ℕ, ◌≤◌, true, false, List, ◌∷◌, refl, sym, ap, ◌∙◌, Ordering, Less, Equal, Greater}
-use Rattle.std.specs.Ordering.{is_lt, is_eq, ordering_reverse, ordering_then, nat_cmp}
-use Rattle.std.specs.Cmp.Lexicographic.{slice_cmp, nat_list_cmp_total, texts_ties, same_text}
-use Rattle.std.proofs.lemmas.Bool.{true≢false}
-use Rattle.std.proofs.lemmas.Map.Keys.{ge_from_not_lt}
-use Rattle.sim_base.specs.Least.{is_before}
+use Rattle.std.proofs.{Common.Equal, Common.Greater, Common.Less, Common.Ordering, lemmas.Map.Keys.ge_from_not_lt}
+use Rattle.std.specs.Cmp.Lexicographic.{same_text, slice_cmp, texts_ties}
+use Rattle.std.specs.Ordering.{is_eq, is_lt, nat_cmp, ordering_reverse, ordering_then}
+use Rattle.sim_laws.proofs.Common.{◌≡◌, ℕ, ◌≤◌, true, false, List, ◌∷◌, refl, ap, is_before, nat_list_cmp_total, sym, true≢false, ◌∙◌}
 
 neither : (o : Ordering) → is_lt o ≡ false → is_lt (ordering_reverse o) ≡ false → is_eq o ≡ true
 neither Less f g = absurd (true≢false f)

@@ -1,12 +1,9 @@
 -- The least member of a list by a key: it is a member, and no member's key comes before its own. Among the members that pass a
 -- test which all members before one that passes pass too, it is the least of all, or there is none.
-use Rattle.std.proofs.Common.{◌≡◌, ℕ, Bool, true, false, cond, List, [], ◌∷◌, filter, Option, Some, None, refl, sym, ap, ◌∙◌, ◌⊎◌, inl, inr, fold}
-use Rattle.std.specs.Cmp.Lexicographic.{nat_list_cmp_total}
-use Rattle.std.specs.Cmp.{IsStrictWeakOrder}
-use Rattle.std.proofs.lemmas.List.MinMax.{ranks_by}
-use Rattle.std.proofs.lemmas.Map.Entries.{option_filter}
-use Rattle.sim_base.specs.Least.{is_before, lesser_of, least_of}
-use Rattle.sim_laws.proofs.Members.{Has}
+use Rattle.std.{proofs.lemmas.List.MinMax.ranks_by, proofs.lemmas.Map.Entries.option_filter, specs.Cmp.IsStrictWeakOrder}
+use Rattle.sim_base.specs.Least.{lesser_of}
+use Rattle.sim_laws.proofs.{Common.least_of, Common.nat_list_cmp_total, Common.sym, Common.◌∙◌, Members.Has}
+use Rattle.sim_laws.proofs.Common.{◌≡◌, ℕ, Bool, true, false, cond, ◌⊎◌, List, [], ◌∷◌, Some, None, fold, filter, Option, refl, ap, inl, inr, is_before}
 
 module _ {X : Type 0} (key : X → List ℕ) where
   order : IsStrictWeakOrder (λ (x y : X). is_before (key x) (key y))
@@ -35,7 +32,8 @@ module _ {X : Type 0} (key : X → List ℕ) where
       Result : X → Type 0
       Result b = (r : X) × (fold (λ c y. Some (lesser_of key c y)) (Some b) xs ≡ Some r) × IsLeast (b ∷ xs) r
 
-      by : (b : Bool) → is_before (key x) (key best) ≡ b → Result x → Result best → (r : X) × (fold (λ c y. Some (lesser_of key c y)) (Some (cond b x best)) xs ≡ Some r) × IsLeast (best ∷ x ∷ xs) r
+      by : (b : Bool) → is_before (key x) (key best) ≡ b → Result x → Result best → (r : X)
+          × (fold (λ c y. Some (lesser_of key c y)) (Some (cond b x best)) xs ≡ Some r) × IsLeast (best ∷ x ∷ xs) r
       by true e (r, f, l) other = (r, f, record { member = inr l.member; least = all })
         where
           all : (y : X) → Has (best ∷ x ∷ xs) y → is_before (key y) (key r) ≡ false
@@ -83,7 +81,8 @@ module _ {X : Type 0} (key : X → List ℕ) where
     takes_next None x e = (refl, e)
     takes_next (Some best) x e = by (p best) (is_before (key x) (key best)) refl refl
       where
-        by : (b c : Bool) → p best ≡ b → is_before (key x) (key best) ≡ c → lesser_of key (cond b (Some best) None) x ≡ cond c x best × (p (cond c x best) ≡ true)
+        by : (b c : Bool) → p best ≡ b → is_before (key x) (key best) ≡ c → lesser_of key (cond b (Some best) None) x ≡ cond c x best
+            × (p (cond c x best) ≡ true)
         by true true f g = (ap (λ (d : Bool). cond d x best) g, e)
         by true false f g = (ap (λ (d : Bool). cond d x best) g, f)
         by false true f g = (refl, e)
@@ -108,7 +107,8 @@ module _ {X : Type 0} (key : X → List ℕ) where
             → fold step (option_filter p best) (cond b (x ∷ filter p xs) (filter p xs)) ≡ option_filter p (fold step (step best x) xs)
         by true e rest =
             let (same, passes) = takes_next best x e in
-            ap (λ (y : X). fold step (Some y) (filter p xs)) same ∙ ap (λ (b : Bool). fold step (cond b (step best x) None) (filter p xs)) (sym passes) ∙ rest (step best x)
+            ap (λ (y : X). fold step (Some y) (filter p xs)) same ∙ ap (λ (b : Bool). fold step (cond b (step best x) None) (filter p xs)) (sym passes) ∙
+            rest (step best x)
         by false e rest = ap (λ (o : Option X). fold step o (filter p xs)) (sym (leaves_next best x e)) ∙ rest (step best x)
 
     pub least_of-filter : (xs : List X) → least_of key (filter p xs) ≡ option_filter p (least_of key xs)

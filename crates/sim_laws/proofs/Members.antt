@@ -1,6 +1,7 @@
 -- What is among the members of a list, by recursion on the list; of a range, a map, a filter, and joined lists.
-use Rattle.std.proofs.Common.{◌≡◌, ℕ, zero, suc, ◌+◌, ◌<◌, ◌≤◌, Bool, true, false, cond, List, [], ◌∷◌, ◌++◌, map, Option, Some, None, refl, sym, ap, ◌∙◌, ◌⊎◌, ⊎_elim, inl, inr, arith, filter_map, flat_map, find}
-use Rattle.std.specs.List.{range_with_len, cons_option}
+use Rattle.std.{proofs.Common.flat_map, specs.List.cons_option}
+use Rattle.sim_laws.proofs.Common.{Option, refl, ap, arith, inl, inr, range_with_len, sym, ⊎_elim, ◌∙◌}
+use Rattle.sim_laws.proofs.Common.{◌≡◌, ℕ, zero, suc, ◌+◌, ◌<◌, ◌≤◌, Bool, true, false, cond, ◌⊎◌, List, [], ◌∷◌, ◌++◌, map, Some, None, find, filter_map}
 
 -- x is a member of the list
 abbrev pub Has : {X : Type 0} → List X → X → Type 0
@@ -74,7 +75,8 @@ module _ {X Y : Type 0} where
   Has-of_filter_map f [] y h = absurd h
   Has-of_filter_map f (v ∷ xs) y h = by (f v) refl h (Has-of_filter_map f xs y)
     where
-      by : (o : Option Y) → f v ≡ o → Has (cons_option o (filter_map f xs)) y → (Has (filter_map f xs) y → (x : X) × Has xs x × (f x ≡ Some y)) → (x : X) × Has (v ∷ xs) x × (f x ≡ Some y)
+      by : (o : Option Y) → f v ≡ o → Has (cons_option o (filter_map f xs)) y → (Has (filter_map f xs) y → (x : X) × Has xs x × (f x ≡ Some y)) → (x : X)
+          × Has (v ∷ xs) x × (f x ≡ Some y)
       by None e m rest = let (x, k, g) = rest m in (x, inr k, g)
       by (Some w) e (inl k) rest = (v, inl refl, e ∙ ap Some k)
       by (Some w) e (inr k) rest = let (x, l, g) = rest k in (x, inr l, g)

@@ -1,30 +1,14 @@
 -- The phase in which rows move keeps a state valid: a row walks between points of the ground.
-use Rattle.std.proofs.Common.{◌≡◌, ℕ, zero, suc, ◌+◌, ◌-◌, ◌*◌, ◌/◌, ◌<◌, ◌≤◌, Bool, true, false, leb, ltb, ℤ, pos, negsuc, neg_ℤ, ◌+ℤ◌, ◌-ℤ◌, ◌*ℤ◌, int_div, unsigned_abs, List, [], ◌∷◌, length, Option, Some, None, refl, sym, ap, ◌∙◌, subst, arith, All, le-leb, lt-ltb}
-use Rattle.std.specs.Prelude.{option_and_then, nat_le}
-use Rattle.std.proofs.Math.Nat.{div-le_of_le-mul, div-le_self, mul_comm}
-use Rattle.std.proofs.lemmas.Bool.{and_parts, and_from, cond_both, ltb-true, leb-false}
-use Rattle.std.proofs.lemmas.Nat.{mul-le}
-use Rattle.std.proofs.lemmas.Int.{ints}
-use Rattle.std.proofs.lemmas.List.Elements.{All-nil, All-head, All-tail}
-use Rattle.sim_base.specs.declared.place.Point.{Point}
-use Rattle.sim_base.specs.declared.template.Template.{Template}
-use Rattle.sim_base.specs.declared.template.Arms.{Arms}
-use Rattle.sim_base.specs.declared.setup.Setup.{Setup}
-use Rattle.sim_base.specs.declared.state.Motion.{Motion}
-use Rattle.sim_base.specs.declared.state.Motion.TheVariants.{Still, Going}
-use Rattle.sim_base.specs.declared.state.Row.{Row}
-use Rattle.sim_base.specs.declared.state.State.{State}
-use Rattle.sim_base.specs.Numbers.{root}
-use Rattle.sim_base.specs.Places.{Size, is_within, is_inside, square}
-use Rattle.sim_base.specs.WayOf.{way_of}
-use Rattle.sim_base.specs.Rows.{row_of, target_of, speed_of, arms_of, size_of, template_of}
-use Rattle.sim_base.specs.Filters.{field_of, is_near}
-use Rattle.sim_base.specs.Validity.{IsInside, IsValidMotion, IsValidRow, IsKnownRow, IsState, Both}
-use Rattle.sim_base.specs.Move.{same_point, headed, chasing, toward, Walked, walked, after_walk, along, along_found, moved_by, moved_row, moved}
-use Rattle.sim_laws.proofs.WayInside.{inside-on_ground, way_of-inside, way_of-short}
-use Rattle.sim_laws.proofs.Rows.{all_at, known_row, found_row}
-use Rattle.sim_laws.proofs.RowWise.{Stays, mapped_is_state}
-use Rattle.sim_laws.proofs.Removing.{same_stays}
+use Rattle.{sim_laws.proofs.Removing.same_stays, sim_laws.proofs.RowWise.mapped_is_state, sim_laws.proofs.RowWise.Stays, std.specs.Prelude.nat_le}
+use Rattle.std.proofs.{Common.◌*ℤ◌, Common.neg_ℤ, Common.int_div, Math.Nat.div-le_of_le-mul, Math.Nat.div-le_self, Math.Nat.mul_comm, lemmas.Bool.leb-false}
+use Rattle.sim_base.specs.{Filters.field_of, Rows.speed_of}
+use Rattle.sim_base.specs.Move.{after_walk, along, along_found, chasing, headed, moved_by, moved_row, same_point, toward, Walked, walked}
+use Rattle.sim_laws.proofs.{Rows.all_at, Rows.found_row, Rows.known_row, WayInside.inside-on_ground, WayInside.way_of-inside, WayInside.way_of-short}
+use Rattle.sim_laws.proofs.Common.{IsValidMotion, IsValidRow, le-leb, lt-ltb, ltb-true, Motion, moved, mul-le, Point, root, Row, row_of, Setup, Size, size_of}
+use Rattle.sim_laws.proofs.Common.{arith, Arms, arms_of, Both, cond_both, Going, ints, is_inside, is_near, is_within, IsInside, IsKnownRow, IsState}
+use Rattle.sim_laws.proofs.Common.{square, State, Still, subst, sym, target_of, Template, template_of, way_of, ◌∙◌}
+use Rattle.sim_laws.proofs.Common.{◌-ℤ◌, unsigned_abs, Some, None, All, Option, option_and_then, refl, All-head, All-nil, All-tail, and_from, and_parts, ap}
+use Rattle.sim_laws.proofs.Common.{◌≡◌, ℕ, zero, suc, ◌+◌, ◌-◌, ◌*◌, ◌/◌, ◌<◌, ◌≤◌, Bool, true, false, ltb, leb, List, [], ◌∷◌, length, ℤ, pos, negsuc, ◌+ℤ◌}
 
 -- ---- a share of the way between two numbers
 
@@ -50,7 +34,8 @@ between_at x y k d cells (negsuc m) e h in_x in_y =
     let q = suc m * k / d in
     let small : q ≤ suc m = share_le (suc m) k d h in
     let back : suc m ≤ x = omega (arith, ints, e) in
-    let is : pos x +ℤ int_div (neg_ℤ (pos (suc m * k))) (pos d) ≡ pos (x - q) = ap (λ (w : ℤ). pos x +ℤ w) (div_below_zero (suc m * k) d) ∙ minus x q (omega arith) in
+    let is : pos x +ℤ int_div (neg_ℤ (pos (suc m * k))) (pos d) ≡ pos (x - q) = ap (λ (w : ℤ). pos x +ℤ w) (div_below_zero (suc m * k) d) ∙
+    minus x q (omega arith) in
     subst (λ (w : ℤ). is_within w cells ≡ true) (sym is) (within_at (x - q) cells (omega arith))
   where
     minus : (a b : ℕ) → b ≤ a → pos a +ℤ neg_ℤ (pos b) ≡ pos (a - b)
@@ -101,13 +86,15 @@ headed_is_valid : (setup : Setup) (p : Point) (motion : Motion) → IsInside set
     → IsValidMotion setup (headed p motion)
 headed_is_valid setup p Still on v = (on, All-nil (IsInside setup), omega arith)
 headed_is_valid setup p (Going goal way whole) on v =
-    cond_both (same_point goal p) (Going goal way whole) (Going p [] false) (IsValidMotion setup) (λ same. v) (λ other. (on, All-nil (IsInside setup), omega arith))
+    cond_both (same_point goal p) (Going goal way whole) (Going p [] false) (IsValidMotion setup) (λ same. v)
+    (λ other. (on, All-nil (IsInside setup), omega arith))
 
 module _ (least : ℕ) (setup : Setup) (state : State) (valid : IsState least setup state) where
   chasing_is_valid : (row : Row) (motion : Motion) (o : Option Row) → ((target : Row) → o ≡ Some target → IsInside setup target.at)
       → (arms : Option Arms) → IsValidMotion setup motion → IsValidMotion setup (chasing row motion o arms)
   chasing_is_valid row motion (Some target) on (Some arms) v =
-      cond_both (is_near target.at row.at arms.range) Still (headed target.at motion) (IsValidMotion setup) (λ near. tt) (λ far. headed_is_valid setup target.at motion (on target refl) v)
+      cond_both (is_near target.at row.at arms.range) Still (headed target.at motion) (IsValidMotion setup) (λ near. tt)
+      (λ far. headed_is_valid setup target.at motion (on target refl) v)
   chasing_is_valid row motion (Some target) on None v = v
   chasing_is_valid row motion None on arms v = v
 
@@ -137,7 +124,8 @@ module _ (least : ℕ) (setup : Setup) (state : State) (valid : IsState least se
         → Stays least setup state.rows row (along row budget goal way whole) t
     along_stays budget goal way whole on all short =
         let w = walked_inside (size_of setup.land) 64 way row.at budget v.at all short in
-        set_motion (walked row.at budget way).at (after_walk goal whole (walked row.at budget way).way) w.at (after_walk_is_valid setup goal whole (walked row.at budget way).way on w.way w.short)
+        set_motion (walked row.at budget way).at (after_walk goal whole (walked row.at budget way).way) w.at
+        (after_walk_is_valid setup goal whole (walked row.at budget way).way on w.way w.short)
 
     along_found_stays : (budget : ℕ) (goal : Point) (way : List Point) (whole : Bool) → IsInside setup goal → All (IsInside setup) way
         → length way ≤ 64 → Stays least setup state.rows row (along_found row budget goal way whole) t
@@ -171,4 +159,5 @@ module _ (least : ℕ) (setup : Setup) (state : State) (valid : IsState least se
           (chasing_is_valid row motion (row_of state (target_of row)) (found_inside (target_of row)) (arms_of setup row) ok)
 
   pub moved_is_state : IsState least setup (moved setup state)
-  moved_is_state = mapped_is_state least least setup state (λ (row : Row). moved_row setup state row row.motion (speed_of setup row)) valid (λ row t h e v. moved_row_stays row t e v)
+  moved_is_state = mapped_is_state least least setup state (λ (row : Row). moved_row setup state row row.motion (speed_of setup row)) valid
+      (λ row t h e v. moved_row_stays row t e v)

@@ -1,12 +1,9 @@
 -- The eight directions: a neighbour lies on the ground, has the cell as its own neighbour, and stands in one row or one column with it just where
 -- the direction is straight.
-use Rattle.std.proofs.Common.{◌≡◌, ℕ, zero, suc, ◌<◌, Bool, true, false, ◌&&◌, ◌||◌, eqb, Option, Some, None, ℤ, pos, negsuc, ◌+ℤ◌, unsigned_abs, int_le, int_lt, refl, sym, ap, ap₂, ◌∙◌, arith, true≢false, leb, ltb, ltb-true, eq-eqb, lt-ltb, le-leb, ne_eqb, slice_get, option_and_then}
-use Rattle.std.proofs.lemmas.Bool.{and_parts, and_from, cond-true}
-use Rattle.std.proofs.lemmas.Option.{cond_some, slice_get_within}
-use Rattle.std.proofs.lemmas.Int.{ints}
-use Rattle.sim_base.specs.declared.place.Cell.{Cell}
-use Rattle.sim_base.specs.Places.{Size}
-use Rattle.sim_base.specs.Steps.{IsOnGround, forward, level, back, offsets, cell_at, neighbour, is_straight}
+use Rattle.sim_base.specs.Steps.{back, cell_at, forward, level, offsets}
+use Rattle.sim_laws.proofs.Common.{int_le, Some, None, Option, option_and_then, refl, and_from, and_parts, ap, ap₂, arith, Cell, cond-true, cond_some, eq-eqb}
+use Rattle.sim_laws.proofs.Common.{ints, is_straight, IsOnGround, le-leb, lt-ltb, ltb-true, ne_eqb, neighbour, Size, slice_get_within, sym, true≢false, ◌∙◌}
+use Rattle.sim_laws.proofs.Common.{◌≡◌, ℕ, zero, suc, ◌<◌, Bool, true, false, ◌&&◌, ◌||◌, eqb, ltb, leb, ℤ, pos, negsuc, ◌+ℤ◌, slice_get, unsigned_abs, int_lt}
 
 -- the two numbers are those of c, which lies on the ground
 pub record IsPlaceOf (size : Size) (x z : ℤ) (c : Cell) : Type 0 where
@@ -47,11 +44,13 @@ cell_at-is size x z c p =
     all : in_bounds size (pos c.x) (pos c.z) ≡ true
     all =
         and_from (leb 0 c.x && ltb c.x size.width && leb 0 c.z) (ltb c.z size.depth)
-        (and_from (leb 0 c.x && ltb c.x size.width) (leb 0 c.z) (and_from (leb 0 c.x) (ltb c.x size.width) (le-leb 0 c.x (omega arith)) (lt-ltb c.x size.width p.on.east)) (le-leb 0 c.z (omega arith)))
+        (and_from (leb 0 c.x && ltb c.x size.width) (leb 0 c.z) (and_from (leb 0 c.x) (ltb c.x size.width) (le-leb 0 c.x (omega arith))
+        (lt-ltb c.x size.width p.on.east)) (le-leb 0 c.z (omega arith)))
         (lt-ltb c.z size.depth p.on.north)
 
 -- where c has p in a direction, p has c in the opposite one
-back_at : (size : Size) (c p : Cell) (x z u v : ℤ) → x +ℤ u ≡ pos 0 → z +ℤ v ≡ pos 0 → IsOnGround size c → cell_at size (pos c.x +ℤ x) (pos c.z +ℤ z) ≡ Some p → cell_at size (pos p.x +ℤ u) (pos p.z +ℤ v) ≡ Some c
+back_at : (size : Size) (c p : Cell) (x z u v : ℤ) → x +ℤ u ≡ pos 0 → z +ℤ v ≡ pos 0 → IsOnGround size c → cell_at size (pos c.x +ℤ x) (pos c.z +ℤ z) ≡ Some p
+    → cell_at size (pos p.x +ℤ u) (pos p.z +ℤ v) ≡ Some c
 back_at size c p x z u v f g on e =
     let place = cell_at-some size (pos c.x +ℤ x) (pos c.z +ℤ z) p e in
     cell_at-is size (pos p.x +ℤ u) (pos p.z +ℤ v) c (record {
@@ -73,11 +72,16 @@ pub neighbour-back : (size : Size) (c p : Cell) (which : ℕ) → IsOnGround siz
 neighbour-back size c p zero on e = record { way_back = 2; leads = back_at size c p forward level back level refl refl on e; as_straight = refl }
 neighbour-back size c p (suc zero) on e = record { way_back = 3; leads = back_at size c p level forward level back refl refl on e; as_straight = refl }
 neighbour-back size c p (suc (suc zero)) on e = record { way_back = 0; leads = back_at size c p back level forward level refl refl on e; as_straight = refl }
-neighbour-back size c p (suc (suc (suc zero))) on e = record { way_back = 1; leads = back_at size c p level back level forward refl refl on e; as_straight = refl }
-neighbour-back size c p (suc (suc (suc (suc zero)))) on e = record { way_back = 6; leads = back_at size c p forward forward back back refl refl on e; as_straight = refl }
-neighbour-back size c p (suc (suc (suc (suc (suc zero))))) on e = record { way_back = 7; leads = back_at size c p back forward forward back refl refl on e; as_straight = refl }
-neighbour-back size c p (suc (suc (suc (suc (suc (suc zero)))))) on e = record { way_back = 4; leads = back_at size c p back back forward forward refl refl on e; as_straight = refl }
-neighbour-back size c p (suc (suc (suc (suc (suc (suc (suc zero))))))) on e = record { way_back = 5; leads = back_at size c p forward back back forward refl refl on e; as_straight = refl }
+neighbour-back size c p (suc (suc (suc zero))) on e =
+    record { way_back = 1; leads = back_at size c p level back level forward refl refl on e; as_straight = refl }
+neighbour-back size c p (suc (suc (suc (suc zero)))) on e =
+    record { way_back = 6; leads = back_at size c p forward forward back back refl refl on e; as_straight = refl }
+neighbour-back size c p (suc (suc (suc (suc (suc zero))))) on e =
+    record { way_back = 7; leads = back_at size c p back forward forward back refl refl on e; as_straight = refl }
+neighbour-back size c p (suc (suc (suc (suc (suc (suc zero)))))) on e =
+    record { way_back = 4; leads = back_at size c p back back forward forward refl refl on e; as_straight = refl }
+neighbour-back size c p (suc (suc (suc (suc (suc (suc (suc zero))))))) on e =
+    record { way_back = 5; leads = back_at size c p forward back back forward refl refl on e; as_straight = refl }
 neighbour-back size c p (suc (suc (suc (suc (suc (suc (suc (suc w)))))))) on e = absurd (past_eight size c p w e)
 
 as_far : (a b : ℕ) → pos a +ℤ level ≡ pos b → eqb a b ≡ true
@@ -93,7 +97,8 @@ less_far a b e = ne_eqb a b (λ (s : a ≡ b). omega (arith, ints))
 abbrev pub in_line : Cell → Cell → Bool
 in_line c p = eqb c.x p.x || eqb c.z p.z
 
-line_at : (size : Size) (c p : Cell) (x z : ℤ) (s t : Bool) → (pos c.x +ℤ x ≡ pos p.x → eqb c.x p.x ≡ s) → (pos c.z +ℤ z ≡ pos p.z → eqb c.z p.z ≡ t) → cell_at size (pos c.x +ℤ x) (pos c.z +ℤ z) ≡ Some p → (s || t) ≡ in_line c p
+line_at : (size : Size) (c p : Cell) (x z : ℤ) (s t : Bool) → (pos c.x +ℤ x ≡ pos p.x → eqb c.x p.x ≡ s) → (pos c.z +ℤ z ≡ pos p.z → eqb c.z p.z ≡ t)
+    → cell_at size (pos c.x +ℤ x) (pos c.z +ℤ z) ≡ Some p → (s || t) ≡ in_line c p
 line_at size c p x z s t f g e =
     let place = cell_at-some size (pos c.x +ℤ x) (pos c.z +ℤ z) p e in
     sym (ap₂ (λ (a b : Bool). a || b) (f place.by_x) (g place.by_z))
@@ -109,14 +114,16 @@ straight-in_line size c p (suc (suc (suc (suc (suc (suc zero)))))) e = line_at s
 straight-in_line size c p (suc (suc (suc (suc (suc (suc (suc zero))))))) e = line_at size c p forward back false false (further c.x p.x) (less_far c.z p.z) e
 straight-in_line size c p (suc (suc (suc (suc (suc (suc (suc (suc w)))))))) e = absurd (past_eight size c p w e)
 
-by_offset : (size : Size) (c p : Cell) (o : Option (ℤ × ℤ)) → option_and_then (λ (d : ℤ × ℤ). cell_at size (pos c.x +ℤ d.0) (pos c.z +ℤ d.1)) o ≡ Some p → IsOnGround size p
+by_offset : (size : Size) (c p : Cell) (o : Option (ℤ × ℤ)) → option_and_then (λ (d : ℤ × ℤ). cell_at size (pos c.x +ℤ d.0) (pos c.z +ℤ d.1)) o ≡ Some p
+    → IsOnGround size p
 by_offset size c p None e = absurd (cc)
 by_offset size c p (Some d) e = (cell_at-some size (pos c.x +ℤ d.0) (pos c.z +ℤ d.1) p e).on
 
 pub neighbour-on : (size : Size) (c p : Cell) (which : ℕ) → neighbour size c which ≡ Some p → IsOnGround size p
 neighbour-on size c p which e = by_offset size c p (slice_get offsets which) e
 
-some_offset : (size : Size) (c p : Cell) (o : Option (ℤ × ℤ)) → option_and_then (λ (d : ℤ × ℤ). cell_at size (pos c.x +ℤ d.0) (pos c.z +ℤ d.1)) o ≡ Some p → (d : ℤ × ℤ) × (o ≡ Some d)
+some_offset : (size : Size) (c p : Cell) (o : Option (ℤ × ℤ)) → option_and_then (λ (d : ℤ × ℤ). cell_at size (pos c.x +ℤ d.0) (pos c.z +ℤ d.1)) o ≡ Some p
+    → (d : ℤ × ℤ) × (o ≡ Some d)
 some_offset size c p None e = absurd (cc)
 some_offset size c p (Some d) e = (d, refl)
 

@@ -1,13 +1,7 @@
 -- The definition of a way determines it.
-use Rattle.std.proofs.Common.{◌≡◌, ℕ, ◌<◌, Bool, true, false, List, [], ◌∷◌, Some, refl, sym, ap, ◌∙◌, subst, ◌⊎◌, ⊎_elim, arith, MatchBool, reverse}
-use Rattle.std.proofs.lemmas.Bool.{cases_order}
-use Rattle.sim_base.specs.declared.place.Cell.{Cell}
-use Rattle.sim_base.specs.Places.{cell_of, same_cell}
-use Rattle.sim_base.specs.Steps.{Field, neighbour}
-use Rattle.sim_base.specs.Ways.{IsCost, IsEnd, IsPredecessor, IsTrail, IsFound, end_key, first_points, waypoints}
-use Rattle.sim_laws.specs.WayLaws.{WayIsUnique}
-use Rattle.sim_laws.proofs.Ground.{same_by_parts}
-use Rattle.sim_laws.proofs.Keys.{same_key}
+use Rattle.{sim_laws.proofs.Ground.same_by_parts, sim_laws.proofs.Keys.same_key, sim_laws.specs.WayLaws.WayIsUnique, std.proofs.lemmas.Bool.cases_order}
+use Rattle.sim_laws.proofs.Common.{first_points, IsCost, IsEnd, IsFound, IsPredecessor, IsTrail, neighbour, same_cell, subst, sym, waypoints, ⊎_elim, ◌∙◌}
+use Rattle.sim_laws.proofs.Common.{◌≡◌, ℕ, ◌<◌, Bool, true, false, ◌⊎◌, List, [], ◌∷◌, reverse, Some, MatchBool, refl, ap, arith, Cell, cell_of, end_key, Field}
 
 module _ (field : Field) (start : Cell) where
   pub cost_unique : (c : Cell) (d e : ℕ) → IsCost field start c d → IsCost field start c e → d ≡ e
@@ -40,7 +34,8 @@ module _ (field : Field) (start : Cell) where
 pub way_unique : WayIsUnique
 way_unique field from goal v w = by (same_cell (cell_of from) (cell_of goal))
   where
-    by : (b : Bool) → MatchBool b (v ≡ record { points = goal ∷ []; whole = true }) (IsFound field from goal v) → MatchBool b (w ≡ record { points = goal ∷ []; whole = true }) (IsFound field from goal w) → v ≡ w
+    by : (b : Bool) → MatchBool b (v ≡ record { points = goal ∷ []; whole = true }) (IsFound field from goal v)
+        → MatchBool b (w ≡ record { points = goal ∷ []; whole = true }) (IsFound field from goal w) → v ≡ w
     by true f g = f ∙ sym g
     by false f g =
         let start = cell_of from in

@@ -1,27 +1,13 @@
 -- A command leaves the rows of other owners as they are, but for those whose target leaves.
-use Rattle.std.proofs.Common.{◌≡◌, ℕ, ◌≤◌, ◌<◌, Bool, true, false, cond, not, List, [], ◌∷◌, map, filter, Option, Some, None, refl, sym, ap, ◌∙◌, subst, ◌⊎◌, ⊎_elim, inl, inr, arith}
-use Rattle.std.specs.Prelude.{is_some, IsSome, slice_get, ◌==◌, ◌&&◌}
-use Rattle.std.specs.List.{list_any}
-use Rattle.std.proofs.lemmas.Bool.{ne_eqb, cases_Bool}
-use Rattle.sim_base.specs.declared.place.Point.{Point}
-use Rattle.sim_base.specs.declared.place.Cell.{Cell}
-use Rattle.sim_base.specs.declared.template.Template.{Template}
-use Rattle.sim_base.specs.declared.command.Command.{Command}
-use Rattle.sim_base.specs.declared.command.Command.TheVariants.{Walk, Stop, Attack, Delete, Place, Train, Resign}
-use Rattle.sim_base.specs.declared.setup.Setup.{Setup}
-use Rattle.sim_base.specs.declared.state.Row.{Row}
-use Rattle.sim_base.specs.declared.state.State.{State}
-use Rattle.sim_base.specs.Places.{is_inside, centre_of}
-use Rattle.sim_base.specs.Rows.{id_of, row_of, target_of, template_of, size_of}
-use Rattle.sim_base.specs.Filters.{spot}
-use Rattle.sim_base.specs.Validity.{IsLooselyValid}
-use Rattle.sim_base.specs.Changes.{released, removed, new_row, with_new, created}
-use Rattle.sim_base.specs.Commands.{is_ordered, with_ordered, sent, stopped, set_on, is_enemy, has_room, is_placeable, trains, placed_on, trained, commanded_by, commanded}
-use Rattle.sim_laws.proofs.Members.{Has, Has-map, Has-of_map, Has-append_left}
-use Rattle.sim_laws.specs.CommandLaws.{CommandLeavesOthers}
-use Rattle.sim_laws.proofs.Rows.{all_at, Has-filter, Has-of_filter, apart, same_row, found_row, row_found}
-use Rattle.sim_laws.proofs.Removing.{let_go, others, removed_all, left_all}
-use Rattle.sim_laws.proofs.Turning.{command_keeps_loose}
+use Rattle.{sim_base.specs.declared.command.Command.TheVariants.Walk, sim_laws.specs.CommandLaws.CommandLeavesOthers, std.specs.Prelude.IsSome}
+use Rattle.sim_laws.proofs.{Members.Has, Members.Has-append_left, Members.Has-map, Members.Has-of_map, Turning.command_keeps_loose}
+use Rattle.sim_laws.proofs.Common.{Option, refl, ap, arith, Attack, cases_Bool, Cell, centre_of, Command, commanded, commanded_by, created, Delete, has_room}
+use Rattle.sim_laws.proofs.Common.{Point, released, removed, Resign, Row, row_of, sent, set_on, Setup, size_of, spot, State, Stop, stopped, subst, sym}
+use Rattle.sim_laws.proofs.Common.{id_of, inl, inr, is_enemy, is_inside, is_ordered, is_placeable, IsLooselyValid, list_any, ne_eqb, new_row, Place, placed_on}
+use Rattle.sim_laws.proofs.Common.{target_of, Template, template_of, Train, trained, trains, with_new, with_ordered, ⊎_elim, ◌∙◌}
+use Rattle.sim_laws.proofs.Common.{◌≡◌, ℕ, ◌<◌, ◌≤◌, Bool, true, false, cond, not, ◌&&◌, ◌⊎◌, List, [], ◌∷◌, map, is_some, ◌==◌, slice_get, Some, None, filter}
+use Rattle.sim_laws.proofs.Removing.{left_all, let_go, others, removed_all}
+use Rattle.sim_laws.proofs.Rows.{all_at, apart, found_row, Has-filter, Has-of_filter, row_found, same_row}
 
 -- a row stays as it is where another one leaves that is not its target
 left_alone : (id : ℕ) (state : State) (row : Row) → Has state.rows row → (row.id ≡ id → ⊥) → (target_of row ≡ id → ⊥)
@@ -35,9 +21,11 @@ all_left_alone : (ids : List ℕ) (state : State) (row : Row) → Has state.rows
     → Has (removed_all state ids).rows row
 all_left_alone [] state row h other elsewhere = h
 all_left_alone (id ∷ ids) state row h other elsewhere =
-    all_left_alone ids (removed id state) row (left_alone id state row h (λ e. other (inl (sym e))) (λ e. elsewhere (inl (sym e)))) (λ m. other (inr m)) (λ m. elsewhere (inr m))
+    all_left_alone ids (removed id state) row (left_alone id state row h (λ e. other (inl (sym e))) (λ e. elsewhere (inl (sym e)))) (λ m. other (inr m))
+    (λ m. elsewhere (inr m))
 
-module _ (setup : Setup) (state : State) (valid : IsLooselyValid setup state) (player : ℕ) (row : Row) (here : Has state.rows row) (not_own : row.owner ≡ player → ⊥) where
+module _ (setup : Setup) (state : State) (valid : IsLooselyValid setup state) (player : ℕ) (row : Row) (here : Has state.rows row) (not_own : row.owner ≡ player
+    → ⊥) where
   -- its target is none, or is still there
   abbrev HasTargetIn : State → Type 0
   HasTargetIn new = (target_of row ≡ 0) ⊎ IsSome (row_of new (target_of row))
@@ -107,10 +95,12 @@ module _ (setup : Setup) (state : State) (valid : IsLooselyValid setup state) (p
       → Has (commanded_by setup state player command).rows row
   stays_there (Walk ids p) target = either (is_inside (size_of setup.land) p) (with_ordered player ids (sent p) state) (ordered ids (sent p))
   stays_there (Stop ids) target = ordered ids stopped
-  stays_there (Attack ids enemy) target = either (is_enemy setup player (row_of state enemy)) (with_ordered player ids (set_on enemy) state) (ordered ids (set_on enemy))
+  stays_there (Attack ids enemy) target = either (is_enemy setup player (row_of state enemy)) (with_ordered player ids (set_on enemy) state)
+      (ordered ids (set_on enemy))
   stays_there (Delete ids) target = deleted ids target
   stays_there (Place number p) target =
-      either (is_placeable setup state p (slice_get setup.templates number) && has_room setup state player) (created setup state number p player) (made number p (slice_get setup.templates number))
+      either (is_placeable setup state p (slice_get setup.templates number) && has_room setup state player) (created setup state number p player)
+      (made number p (slice_get setup.templates number))
   stays_there (Train building number) target = trained_by number (row_of state building)
   stays_there Resign target = unchanged state.rows (λ r. r.owner == player) (λ r. record r { owner = 0 }) here not_owned
 
@@ -118,4 +108,5 @@ pub command_leaves_others : CommandLeavesOthers
 command_leaves_others setup state order row limits player valid found not_own target =
     let (here, same) = found_row state row.id row found in
     let new = command_keeps_loose setup state order limits player valid in
-    row_found (commanded setup state order) row (apart (commanded setup state order).rows new.ascending) (stays_there setup state valid order.player row here not_own order.command target)
+    row_found (commanded setup state order) row (apart (commanded setup state order).rows new.ascending)
+    (stays_there setup state valid order.player row here not_own order.command target)

@@ -1,27 +1,12 @@
 -- A state stays valid where a row is removed. Where all rows whose health is spent are removed, the state is valid again.
-use Rattle.std.proofs.Common.{◌≡◌, ◌≢◌, ℕ, ◌<◌, ◌≤◌, Bool, true, false, cond, not, ℤ, pos, ◌≤ℤ◌, List, [], ◌∷◌, length, map, fold, filter, Option, Some, None, refl, sym, ap, ◌∙◌, subst, ◌⊎◌, ⊎_elim, inl, inr, arith}
-use Rattle.std.specs.Prelude.{is_some, IsTrue, option_map, unwrap_or, ◌==◌}
-use Rattle.std.specs.List.Sorted.{IsStrictlyIncreasing}
-use Rattle.std.proofs.lemmas.Bool.{eqb-false, ne_eqb, not-true, cond_both}
-use Rattle.std.proofs.lemmas.Int.{ints}
-use Rattle.std.proofs.lemmas.List.{length-map}
-use Rattle.std.proofs.lemmas.List.Elements.{All-map}
 use Rattle.std.proofs.lemmas.List.Kept.{IsStrictlyIncreasing-filter}
-use Rattle.sim_base.specs.declared.template.Template.{Template}
-use Rattle.sim_base.specs.declared.template.Arms.{Arms}
-use Rattle.sim_base.specs.declared.setup.Setup.{Setup}
-use Rattle.sim_base.specs.declared.state.Motion.{Motion}
-use Rattle.sim_base.specs.declared.state.Motion.TheVariants.{Still}
-use Rattle.sim_base.specs.declared.state.Aim.{Aim}
-use Rattle.sim_base.specs.declared.state.Row.{Row}
-use Rattle.sim_base.specs.declared.state.State.{State}
-use Rattle.sim_base.specs.Rows.{id_of, target_of}
-use Rattle.sim_base.specs.Validity.{IsValidAim, IsValidMotion, IsValidRow, IsKnownRow, IsState, IsValid, IsLooselyValid, Both, has_health}
-use Rattle.sim_base.specs.Changes.{aimed_at, with_stance, halted, released, removed}
-use Rattle.sim_base.specs.Hit.{is_spent, gone}
-use Rattle.sim_laws.proofs.Members.{Has, Has-map, Has-of_map}
-use Rattle.sim_laws.proofs.Rows.{all_at, all_from, map-map, map_agree, Has-filter, Has-of_filter, known_row, row_known, has_health_of, of_has_health}
-use Rattle.sim_laws.proofs.RowWise.{Stays}
+use Rattle.sim_base.specs.{Changes.aimed_at, Changes.halted, Changes.with_stance, Hit.gone, Hit.is_spent}
+use Rattle.sim_laws.proofs.{Common.target_of, Common.Template, Common.⊎_elim, Common.◌∙◌, Members.Has, Members.Has-map, Members.Has-of_map, RowWise.Stays}
+use Rattle.sim_laws.proofs.Common.{IsValidMotion, IsValidRow, length-map, Motion, ne_eqb, not-true, released, removed, Row, Setup, State, Still, subst, sym}
+use Rattle.sim_laws.proofs.Common.{Some, None, fold, filter, Option, unwrap_or, option_map, refl, Aim, All-map, ap, arith, Arms, Both, cond_both, eqb-false}
+use Rattle.sim_laws.proofs.Common.{has_health, id_of, inl, inr, ints, IsKnownRow, IsLooselyValid, IsState, IsStrictlyIncreasing, IsValid, IsValidAim}
+use Rattle.sim_laws.proofs.Common.{◌≡◌, ℕ, ◌<◌, ◌≤◌, Bool, true, false, cond, not, ◌≢◌, ◌⊎◌, List, [], ◌∷◌, map, length, ℤ, pos, ◌≤ℤ◌, is_some, IsTrue, ◌==◌}
+use Rattle.sim_laws.proofs.Rows.{all_at, all_from, Has-filter, Has-of_filter, has_health_of, known_row, map-map, map_agree, of_has_health, row_known}
 
 -- ---- rows that take another target, stand still, or are released
 
@@ -74,11 +59,20 @@ module _ (least : ℕ) (setup : Setup) (rows : List Row) (row : Row) (t : Templa
   -- also where it holds its place or does not from now on
   pub placed_stays : (target : ℕ) (hold : Bool) → IsTarget rows row target → Stays least setup rows row (with_stance hold (aimed_at target row)) t
   placed_stays target hold may =
-      record { id = refl; template = refl; valid = with_stance_is_valid least setup rows (aimed_at target row) t hold (aimed_at_is_valid least setup rows row t target may h) }
+      record {
+        id = refl;
+        template = refl;
+        valid = with_stance_is_valid least setup rows (aimed_at target row) t hold
+            (aimed_at_is_valid least setup rows row t target may h);
+      }
 
   pub ordered_stays : (target : ℕ) (hold : Bool) → IsTarget rows row target → Stays least setup rows row (halted (with_stance hold (aimed_at target row))) t
   ordered_stays target hold may =
-      record { id = refl; template = refl; valid = halted_is_valid least setup rows (with_stance hold (aimed_at target row)) t (placed_stays target hold may).valid }
+      record {
+        id = refl;
+        template = refl;
+        valid = halted_is_valid least setup rows (with_stance hold (aimed_at target row)) t (placed_stays target hold may).valid;
+      }
 
   pub released_stays : Stays least setup rows row (released row) t
   released_stays = record { id = refl; template = refl; valid = halted_is_valid least setup rows (aimed_at 0 row) t (aimed_at_stays 0 (inl refl)).valid }
@@ -134,7 +128,8 @@ target_of-released row = by row.attack
 pub removed-ids : (state : State) (id : ℕ) → map id_of (removed id state).rows ≡ filter (λ n. not (n == id)) (map id_of state.rows)
 removed-ids state id =
     let left = filter (others id) state.rows in
-    map-map (let_go id) id_of left ∙ map_agree (λ (row : Row). (let_go id row).id) id_of left (λ row h. let_go-id id row) ∙ map-filter id_of (λ n. not (n == id)) state.rows
+    map-map (let_go id) id_of left ∙ map_agree (λ (row : Row). (let_go id row).id) id_of left (λ row h. let_go-id id row) ∙
+    map-filter id_of (λ n. not (n == id)) state.rows
 
 module _ (least : ℕ) (setup : Setup) (state : State) (id : ℕ) (valid : IsState least setup state) where
   abbrev left : List Row
@@ -148,7 +143,8 @@ module _ (least : ℕ) (setup : Setup) (state : State) (id : ℕ) (valid : IsSta
       let (row, m, e, k) = of_has_health state.rows n h in
       let passes : others id row ≡ true = rw (ne_eqb row.id id (λ s. other (sym e ∙ s))) refl in
       subst (λ (i : ℕ). has_health rest i ≡ true) (let_go-id id row ∙ e)
-      (has_health_of rest (let_go id row) (Has-map (let_go id) left row (Has-filter (others id) state.rows row m passes)) (ap is_some (let_go-health id row) ∙ k))
+      (has_health_of rest (let_go id row) (Has-map (let_go id) left row (Has-filter (others id) state.rows row m passes)) (ap is_some (let_go-health id row) ∙
+      k))
 
   -- a row whose target stays, or that has none, is valid beside the rows that stay
   valid_after : (row : Row) (t : Template) → (target_of row ≡ 0) ⊎ (target_of row ≡ id → ⊥) → IsValidRow least setup state.rows row t
@@ -174,7 +170,8 @@ module _ (least : ℕ) (setup : Setup) (state : State) (id : ℕ) (valid : IsSta
       let (m, passes) = Has-of_filter (others id) state.rows row h in
       let (t, e, v) = known_row least setup state.rows row (all_at (IsKnownRow least setup state.rows) state.rows row valid.rows m) in
       cond_both (target_of row == id) (released row) row (IsKnownRow least setup rest)
-      (λ same. row_known least setup rest (released row) t e (valid_after (released row) t (inl (target_of-released row)) (released_stays least setup state.rows row t v).valid))
+      (λ same. row_known least setup rest (released row) t e
+      (valid_after (released row) t (inl (target_of-released row)) (released_stays least setup state.rows row t v).valid))
       (λ other. row_known least setup rest row t e (valid_after row t (inr (eqb-false (target_of row) id other)) v))
 
   pub removed_is_state : IsState least setup (removed id state)
@@ -184,10 +181,12 @@ module _ (least : ℕ) (setup : Setup) (state : State) (id : ℕ) (valid : IsSta
         next = valid.next;
         word = valid.word;
         few = omega (arith, valid.few, length-map left (let_go id), filter_short (others id) state.rows);
-        ascending = subst IsStrictlyIncreasing (sym (removed-ids state id)) (IsStrictlyIncreasing-filter (λ n. not (n == id)) (map id_of state.rows) valid.ascending);
+        ascending = subst IsStrictlyIncreasing (sym (removed-ids state id)) (IsStrictlyIncreasing-filter (λ n. not (n == id)) (map id_of state.rows)
+            valid.ascending);
         ids = All-map (λ (r : Row). (2 ≤ r.id) × (r.id < state.next)) (let_go id) left
             (all_from (λ (row : Row). (2 ≤ (let_go id row).id) × ((let_go id row).id < state.next)) left
-            (λ row h. let (m, passes) = Has-of_filter (others id) state.rows row h in let b = all_at (λ (r : Row). (2 ≤ r.id) × (r.id < state.next)) state.rows row valid.ids m in
+            (λ row h. let (m, passes) = Has-of_filter (others id) state.rows row h in let b = all_at (λ (r : Row). (2 ≤ r.id) × (r.id < state.next)) state.rows
+            row valid.ids m in
             (omega (arith, b.0, let_go-id id row), omega (arith, b.1, let_go-id id row))));
         rows = All-map (IsKnownRow least setup rest) (let_go id) left (all_from (λ (row : Row). IsKnownRow least setup rest (let_go id row)) left known_after);
       }
@@ -252,7 +251,8 @@ not_spent (Some health) (Some most) e v = let low : pos 1 ≤ℤ health = grind 
 unspent_row : (setup : Setup) (rows : List Row) (row : Row) → is_spent row.health ≡ false → IsKnownRow 0 setup rows row → IsKnownRow 1 setup rows row
 unspent_row setup rows row unspent known =
     let (t, e, v) = known_row 0 setup rows row known in
-    row_known 1 setup rows row t e (record { at = v.at; owner = v.owner; health = not_spent row.health t.health unspent v.health; motion = v.motion; attack = v.attack })
+    row_known 1 setup rows row t e
+    (record { at = v.at; owner = v.owner; health = not_spent row.health t.health unspent v.health; motion = v.motion; attack = v.attack })
 
 -- the ids of those whose health is spent
 abbrev pub spent_ids : State → List ℕ
@@ -282,5 +282,6 @@ module _ (setup : Setup) (state : State) (loose : IsLooselyValid setup state) wh
         ascending = left_valid.ascending;
         ids = left_valid.ids;
         rows = all_from (IsKnownRow 1 setup (gone state).rows) (gone state).rows
-            (λ row h. unspent_row setup (gone state).rows row (unspent row h) (all_at (IsKnownRow 0 setup (gone state).rows) (gone state).rows row left_valid.rows h));
+            (λ row h. unspent_row setup (gone state).rows row (unspent row h)
+            (all_at (IsKnownRow 0 setup (gone state).rows) (gone state).rows row left_valid.rows h));
       }

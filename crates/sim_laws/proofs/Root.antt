@@ -1,11 +1,7 @@
 -- The root, which is the greatest number that passes a test, is the one number whose square is within and the next one's is not.
-use Rattle.std.proofs.Common.{◌≡◌, ℕ, zero, suc, ◌+◌, ◌*◌, ◌<◌, ◌≤◌, Bool, true, false, cond, leb, refl, sym, ◌∙◌, ⊎_elim, arith}
-use Rattle.std.proofs.Math.Nat.{eq-or-lt_of_le}
-use Rattle.std.proofs.lemmas.Bool.{true≢false, le-leb, leb-true, cases_lt}
-use Rattle.std.proofs.lemmas.Nat.{mul-le}
-use Rattle.sim_base.specs.Numbers.{greatest, root}
-use Rattle.sim_base.proofs.RootLemmas.{root_is}
-use Rattle.sim_laws.specs.NumberLaws.{RootIsGreatest, RootIsUnique}
+use Rattle.{sim_base.proofs.RootLemmas.root_is, sim_base.specs.Numbers.greatest, std.proofs.Math.Nat.eq-or-lt_of_le, std.proofs.lemmas.Bool.leb-true}
+use Rattle.sim_laws.{proofs.Common.true≢false, proofs.Common.⊎_elim, proofs.Common.◌∙◌, specs.NumberLaws.RootIsGreatest, specs.NumberLaws.RootIsUnique}
+use Rattle.sim_laws.proofs.Common.{◌≡◌, ℕ, zero, suc, ◌+◌, ◌*◌, ◌<◌, ◌≤◌, Bool, true, false, cond, leb, refl, arith, cases_lt, le-leb, mul-le, root, sym}
 
 -- where 0 passes, the greatest passes
 greatest_passes : (test : ℕ → Bool) (bound : ℕ) → test 0 ≡ true → test (greatest test bound) ≡ true
@@ -41,7 +37,8 @@ root_is_greatest n =
     record {
       within = leb-true (r * r) n (greatest_passes test n (le-leb (0 * 0) n (omega arith)));
       above = ⊎_elim (λ (h : n < (r + 1) * (r + 1)). h)
-          (λ (h : (r + 1) * (r + 1) ≤ n). absurd (let k : r + 1 ≤ r = greatest_above test n (r + 1) (omega (arith, self_le_square (r + 1), h)) (le-leb ((r + 1) * (r + 1)) n h) in omega arith))
+          (λ (h : (r + 1) * (r + 1) ≤ n). absurd (let k : r + 1 ≤ r = greatest_above test n (r + 1) (omega (arith, self_le_square (r + 1), h))
+          (le-leb ((r + 1) * (r + 1)) n h) in omega arith))
           (cases_lt n ((r + 1) * (r + 1)));
     }
 

@@ -1,21 +1,12 @@
 -- The costs that the rounds find are the least costs of walks.
-use Rattle.std.proofs.Common.{◌≡◌, ℕ, zero, suc, ◌+◌, ◌*◌, ◌≤◌, Bool, true, false, cond, nat_eq, ltb, List, [], ◌∷◌, length, Option, Some, None, refl, sym, ap, ◌∙◌, inl, inr, arith, filter_map, option_map, eqb-true, eq-eqb, ltb-false, true≢false, add-zero}
-use Rattle.std.specs.Option.{option_eq}
-use Rattle.std.specs.Cmp.Lexicographic.{pointwise_decides}
-use Rattle.sim_base.specs.declared.place.Cell.{Cell}
-use Rattle.sim_base.specs.Places.{same_cell}
-use Rattle.sim_base.specs.Least.{is_before}
-use Rattle.sim_base.specs.Walks.{Walk, stay, go}
-use Rattle.sim_base.specs.Steps.{Field, IsOnGround, IsStep}
-use Rattle.sim_base.specs.Tables.{Table, entry, same_table}
-use Rattle.sim_base.specs.Costs.{Source, Costs, steps_of, cost_by, least_by, next_costs, first_costs, unless_same, costs_after, costs_of}
-use Rattle.sim_base.specs.Ways.{IsCost}
-use Rattle.sim_laws.proofs.Members.{Has, Has-filter_map, Has-of_filter_map}
-use Rattle.sim_laws.proofs.LeastMember.{least_of-some, least_of-has}
-use Rattle.sim_laws.proofs.Ground.{entry-table_of, same_cell-true, same_cell-self}
-use Rattle.sim_laws.proofs.Neighbours.{neighbour-on}
-use Rattle.sim_laws.proofs.Sources.{IsSource-from_has, Has-source}
-use Rattle.sim_laws.proofs.Trips.{Trip, begin, more, cut, cut-short, walk-on, trip-on}
+use Rattle.std.{proofs.Common.add-zero, proofs.Common.ltb-false, specs.Cmp.Lexicographic.pointwise_decides}
+use Rattle.sim_base.specs.{Costs.costs_after, Costs.costs_of, Costs.first_costs, Costs.least_by, Costs.next_costs, Costs.unless_same, Tables.same_table}
+use Rattle.sim_laws.proofs.{Ground.entry-table_of, Ground.same_cell-self, Ground.same_cell-true, Members.Has, Members.Has-filter_map, Members.Has-of_filter_map}
+use Rattle.sim_laws.proofs.{LeastMember.least_of-has, LeastMember.least_of-some, Sources.Has-source, Sources.IsSource-from_has}
+use Rattle.sim_laws.proofs.{Neighbours.neighbour-on, Trips.begin, Trips.cut, Trips.cut-short, Trips.more, Trips.Trip, Trips.trip-on, Trips.walk-on}
+use Rattle.sim_laws.proofs.Common.{IsOnGround, IsStep, option_eq, same_cell, Source, stay, steps_of, sym, Table, true≢false, Walk, ◌∙◌}
+use Rattle.sim_laws.proofs.Common.{Option, option_map, refl, ap, arith, Cell, cost_by, Costs, entry, eq-eqb, eqb-true, Field, go, inl, inr, is_before, IsCost}
+use Rattle.sim_laws.proofs.Common.{◌≡◌, ℕ, zero, suc, ◌+◌, ◌*◌, ◌≤◌, Bool, true, false, cond, ltb, List, [], ◌∷◌, length, nat_eq, Some, None, filter_map}
 
 not_before : (a b : ℕ) → is_before (a ∷ []) (b ∷ []) ≡ false → b ≤ a
 not_before a b h = by (ltb a b) refl
@@ -37,12 +28,14 @@ cost_by-is costs s e h = ap (option_map (λ d. d + s.cost)) h
 abbrev standing : Cell → Source
 standing c = record { cell = c; cost = 0 }
 
-least_by-some : (costs : Costs) (c : Cell) (steps : List Source) (d : ℕ) → least_by costs c steps ≡ Some d → (s : Source) × Has (standing c ∷ steps) s × (cost_by costs s ≡ Some d)
+least_by-some : (costs : Costs) (c : Cell) (steps : List Source) (d : ℕ) → least_by costs c steps ≡ Some d → (s : Source) × Has (standing c ∷ steps) s
+    × (cost_by costs s ≡ Some d)
 least_by-some costs c steps d e =
     let least = least_of-some (λ (n : ℕ). n ∷ []) (filter_map (cost_by costs) (standing c ∷ steps)) d e in
     Has-of_filter_map (cost_by costs) (standing c ∷ steps) d least.member
 
-least_by-le : (costs : Costs) (c : Cell) (steps : List Source) (s : Source) (k : ℕ) → Has (standing c ∷ steps) s → cost_by costs s ≡ Some k → (d : ℕ) × (least_by costs c steps ≡ Some d) × (d ≤ k)
+least_by-le : (costs : Costs) (c : Cell) (steps : List Source) (s : Source) (k : ℕ) → Has (standing c ∷ steps) s → cost_by costs s ≡ Some k → (d : ℕ)
+    × (least_by costs c steps ≡ Some d) × (d ≤ k)
 least_by-le costs c steps s k h e =
     let all = filter_map (cost_by costs) (standing c ∷ steps) in
     let member = Has-filter_map (cost_by costs) (standing c ∷ steps) s k h e in
@@ -104,7 +97,8 @@ module _ (field : Field) (start : Cell) (start_on : IsOnGround field.size start)
       let (s, h, f) = least_by-some costs c (entry [] (steps field start) c) d (sym (round-at costs c on) ∙ e) in
       by s h (cost_by-some costs s d f)
     where
-      by : (s : Source) → Has (standing c ∷ entry [] (steps field start) c) s → (n : ℕ) × (entry None costs s.cell ≡ Some n) × (n + s.cost ≡ d) → Walk (IsStep field start) start c d
+      by : (s : Source) → Has (standing c ∷ entry [] (steps field start) c) s → (n : ℕ) × (entry None costs s.cell ≡ Some n) × (n + s.cost ≡ d)
+          → Walk (IsStep field start) start c d
       by s (inl is) (n, f, g) =
           let here : s.cell ≡ c = ap (λ (v : Source). v.cell) (sym is) in
           let nothing : s.cost ≡ 0 = ap (λ (v : Source). v.cost) (sym is) in
@@ -117,7 +111,8 @@ module _ (field : Field) (start : Cell) (start_on : IsOnGround field.size start)
   round-within : (m : ℕ) (costs : Costs) → IsWithin m costs → IsWithin (suc m) (round costs)
   round-within m costs within c xs k begin h =
       let (d, e, f) = within start [] 0 begin (omega arith) in
-      let (n, g, le) = least_by-le costs start (entry [] (steps field start) start) (standing start) (d + 0) (inl refl) (cost_by-is costs (standing start) d e) in
+      let (n, g, le) = least_by-le costs start (entry [] (steps field start) start) (standing start) (d + 0) (inl refl)
+      (cost_by-is costs (standing start) d e) in
       (n, round-at costs start start_on ∙ g, omega arith)
   round-within m costs within c xs k (more {a = a} {b = b} {xs = ys} {n = n} {k = j} t s) h =
       let (d, e, f) = within a ys n t (omega arith) in
@@ -135,7 +130,8 @@ module _ (field : Field) (start : Cell) (start_on : IsOnGround field.size start)
 
   pub rounds-sound : (n : ℕ) (costs : Costs) → IsSound costs → IsSound (rounds n costs)
   rounds-sound zero costs sound = sound
-  rounds-sound (suc n) costs sound = by (same_table (option_eq nat_eq) costs (round costs)) (round-sound costs sound) (rounds-sound n (round costs) (round-sound costs sound))
+  rounds-sound (suc n) costs sound = by (same_table (option_eq nat_eq) costs (round costs)) (round-sound costs sound)
+      (rounds-sound n (round costs) (round-sound costs sound))
     where
       by : (b : Bool) → IsSound (round costs) → IsSound (rounds n (round costs)) → IsSound (unless_same (rounds n) (round costs) b)
       by true one all = one
@@ -146,7 +142,8 @@ module _ (field : Field) (start : Cell) (start_on : IsOnGround field.size start)
   rounds-within (suc n) m costs within =
       by (same_table (option_eq nat_eq) costs (round costs)) refl (rounds-within n (suc m) (round costs) (round-within m costs within))
     where
-      by : (b : Bool) → same_table (option_eq nat_eq) costs (round costs) ≡ b → IsWithin (suc m + n) (rounds n (round costs)) → IsWithin (m + suc n) (unless_same (rounds n) (round costs) b)
+      by : (b : Bool) → same_table (option_eq nat_eq) costs (round costs) ≡ b → IsWithin (suc m + n) (rounds n (round costs))
+          → IsWithin (m + suc n) (unless_same (rounds n) (round costs) b)
       by true e all = let same : costs ≡ round costs = same_table-true costs (round costs) e in rw (← same) (still-within m costs same within (suc n))
       by false e all = λ c xs k t h. all c xs k t (omega arith)
 

@@ -1,20 +1,8 @@
 -- A state stays valid where each row is changed for itself and is still a valid row of its template.
-use Rattle.std.proofs.Common.{◌≡◌, ◌≢◌, ℕ, ◌<◌, ◌≤◌, true, List, map, Some, sym, ap, ◌∙◌, subst, ⊎_elim, inl, inr, arith}
-use Rattle.std.specs.Prelude.{is_some, slice_get, IsTrue}
-use Rattle.std.specs.List.Sorted.{IsStrictlyIncreasing}
-use Rattle.std.proofs.lemmas.List.{length-map}
-use Rattle.std.proofs.lemmas.List.Elements.{All-map}
-use Rattle.sim_base.specs.declared.template.Template.{Template}
-use Rattle.sim_base.specs.declared.template.Arms.{Arms}
-use Rattle.sim_base.specs.declared.setup.Setup.{Setup}
-use Rattle.sim_base.specs.declared.state.Aim.{Aim}
-use Rattle.sim_base.specs.declared.state.Row.{Row}
-use Rattle.sim_base.specs.declared.state.State.{State}
-use Rattle.sim_base.specs.Rows.{id_of, template_of}
-use Rattle.sim_base.specs.Validity.{IsValidAim, IsValidRow, IsKnownRow, IsState, has_health}
-use Rattle.sim_laws.proofs.Members.{Has, Has-map}
-use Rattle.sim_laws.proofs.Validity.{Both-weaker}
-use Rattle.sim_laws.proofs.Rows.{all_at, all_from, map_agree, map-map, known_row, row_known, both_same, has_health_of, of_has_health}
+use Rattle.sim_laws.proofs.{Common.Template, Common.template_of, Common.⊎_elim, Common.◌∙◌, Members.Has, Members.Has-map, Validity.Both-weaker}
+use Rattle.sim_laws.proofs.Common.{inl, inr, IsKnownRow, IsState, IsStrictlyIncreasing, IsValidAim, IsValidRow, length-map, Row, Setup, State, subst, sym}
+use Rattle.sim_laws.proofs.Common.{◌≡◌, ℕ, ◌<◌, ◌≤◌, true, ◌≢◌, List, map, is_some, IsTrue, slice_get, Some, Aim, All-map, ap, arith, Arms, has_health, id_of}
+use Rattle.sim_laws.proofs.Rows.{all_at, all_from, both_same, has_health_of, known_row, map-map, map_agree, of_has_health, row_known}
 
 -- a row beside what it was, a row of template t: it is the same entity, and still a valid row of t
 pub record Stays (least : ℕ) (setup : Setup) (rows : List Row) (row new : Row) (t : Template) : Type 0 where
@@ -37,14 +25,16 @@ valid_beside least setup rows more kept row t h =
     aim_kept : (aim : Aim) (arms : Arms) → IsValidAim rows row.id aim arms → IsValidAim more row.id aim arms
     aim_kept aim arms v =
         record {
-          target = ⊎_elim (λ (none : aim.target ≡ 0). inl none) (λ (other : (aim.target ≢ row.id) × IsTrue (has_health rows aim.target)). inr (other.0, kept aim.target other.1)) v.target;
+          target = ⊎_elim (λ (none : aim.target ≡ 0). inl none) (λ (other : (aim.target ≢ row.id) × IsTrue (has_health rows aim.target)). inr
+              (other.0, kept aim.target other.1)) v.target;
           cooldown = v.cooldown;
         }
 
 module _ (old least : ℕ) (setup : Setup) (state : State) (f : Row → Row) where
   -- each row of the state is the same entity after f, and valid beside the rows before
   abbrev pub EachStays : Type 0
-  EachStays = (row : Row) (t : Template) → Has state.rows row → template_of setup row ≡ Some t → IsValidRow old setup state.rows row t → Stays least setup state.rows row (f row) t
+  EachStays = (row : Row) (t : Template) → Has state.rows row → template_of setup row ≡ Some t → IsValidRow old setup state.rows row t
+      → Stays least setup state.rows row (f row) t
 
   module _ (valid : IsState old setup state) (each : EachStays) where
     stays : (row : Row) → Has state.rows row
@@ -75,7 +65,8 @@ module _ (old least : ℕ) (setup : Setup) (state : State) (f : Row → Row) whe
               (all_from (λ (row : Row). (2 ≤ (f row).id) × ((f row).id < state.next)) state.rows
               (λ row h. let (t, e, v, s) = stays row h in let b = all_at (λ (r : Row). (2 ≤ r.id) × (r.id < state.next)) state.rows row valid.ids h in
               (omega (arith, b.0, s.id), omega (arith, b.1, s.id))));
-          rows = All-map (IsKnownRow least setup (map f state.rows)) f state.rows (all_from (λ (row : Row). IsKnownRow least setup (map f state.rows) (f row)) state.rows is_known);
+          rows = All-map (IsKnownRow least setup (map f state.rows)) f state.rows (all_from (λ (row : Row). IsKnownRow least setup (map f state.rows) (f row))
+              state.rows is_known);
         }
       where
         is_known : (row : Row) → Has state.rows row → IsKnownRow least setup (map f state.rows) (f row)

@@ -1,16 +1,10 @@
 -- The steps into a cell, as `steps_of` lists them, are all the steps that the definition has.
-use Rattle.std.proofs.Common.{◌≡◌, ℕ, Bool, true, false, cond, ◌&&◌, ◌||◌, [], Option, Some, None, refl, sym, ap, ap₂, ◌∙◌, arith, filter_map}
-use Rattle.std.specs.List.{range_with_len}
-use Rattle.std.proofs.lemmas.Bool.{cond-true}
-use Rattle.std.proofs.lemmas.Option.{cond_some, option_and_then_some}
-use Rattle.sim_base.specs.declared.place.Cell.{Cell}
-use Rattle.sim_base.specs.Places.{Size}
-use Rattle.sim_base.specs.Steps.{Field, IsOnGround, IsStep, neighbour, is_straight, is_free, beside_open, step_cost}
-use Rattle.sim_base.specs.Tables.{table_of, entry}
-use Rattle.sim_base.specs.Costs.{Source, step_from, steps_into, steps_of}
-use Rattle.sim_laws.proofs.Members.{Has, Has-range, Has-filter_map, Has-of_filter_map}
-use Rattle.sim_laws.proofs.Ground.{entry-table_of}
-use Rattle.sim_laws.proofs.Neighbours.{neighbour-back, neighbour-on, neighbour-below_eight}
+use Rattle.{sim_base.specs.Costs.steps_into, std.proofs.lemmas.Option.option_and_then_some}
+use Rattle.sim_laws.proofs.{Common.step_cost, Common.step_from, Common.steps_of, Common.sym, Common.table_of, Common.◌∙◌, Ground.entry-table_of}
+use Rattle.sim_laws.proofs.Common.{cond-true, cond_some, entry, Field, is_free, is_straight, IsOnGround, IsStep, neighbour, range_with_len, Size, Source}
+use Rattle.sim_laws.proofs.Common.{◌≡◌, ℕ, Bool, true, false, cond, ◌&&◌, ◌||◌, [], Some, None, filter_map, Option, refl, ap, ap₂, arith, beside_open, Cell}
+use Rattle.sim_laws.proofs.Members.{Has, Has-filter_map, Has-of_filter_map, Has-range}
+use Rattle.sim_laws.proofs.Neighbours.{neighbour-back, neighbour-below_eight, neighbour-on}
 
 abbrev pub may_pass : (Cell → Bool) → Cell → Cell → ℕ → Bool
 may_pass free p c which = is_straight which || beside_open free p c
@@ -21,7 +15,8 @@ pub record IsStepFrom (size : Size) (free : Cell → Bool) (c : Cell) (which : �
   pub passes : may_pass free s.cell c which ≡ true
   pub cost_is : s.cost ≡ step_cost which
 
-pub step_from-some : (size : Size) (free : Cell → Bool) (c : Cell) (which : ℕ) (s : Source) → step_from size free c which ≡ Some s → IsStepFrom size free c which s
+pub step_from-some : (size : Size) (free : Cell → Bool) (c : Cell) (which : ℕ) (s : Source) → step_from size free c which ≡ Some s
+    → IsStepFrom size free c which s
 step_from-some size free c which s e = option_and_then_some step (neighbour size c which) s e by
   where
     step : Cell → Option Source
@@ -37,7 +32,8 @@ step_from-some size free c which s e = option_and_then_some step (neighbour size
           cost_is = sym (ap (λ (v : Source). v.cost) is);
         }
 
-pub step_from-is : (size : Size) (free : Cell → Bool) (c p : Cell) (which : ℕ) → neighbour size c which ≡ Some p → may_pass free p c which ≡ true → step_from size free c which ≡ Some (record { cell = p; cost = step_cost which })
+pub step_from-is : (size : Size) (free : Cell → Bool) (c p : Cell) (which : ℕ) → neighbour size c which ≡ Some p → may_pass free p c which ≡ true
+    → step_from size free c which ≡ Some (record { cell = p; cost = step_cost which })
 step_from-is size free c p which e f = rw e (cond-true (may_pass free p c which) (Some (record { cell = p; cost = step_cost which })) None f)
 
 module _ (field : Field) (start : Cell) where
@@ -57,13 +53,15 @@ module _ (field : Field) (start : Cell) where
       (free-is (record { x = p.x; z = c.z }) (record { east = f.east; north = g.north }))
       (free-is (record { x = c.x; z = p.z }) (record { east = g.east; north = f.north }))
 
-  same_passes : (p c : Cell) (v w : ℕ) → IsOnGround field.size p → IsOnGround field.size c → is_straight v ≡ is_straight w → may_pass free p c v ≡ may_pass (is_free field start) p c w
+  same_passes : (p c : Cell) (v w : ℕ) → IsOnGround field.size p → IsOnGround field.size c → is_straight v ≡ is_straight w
+      → may_pass free p c v ≡ may_pass (is_free field start) p c w
   same_passes p c v w f g e = ap₂ (λ (a b : Bool). a || b) e (beside-is p c f g)
 
   same_cost : (v w : ℕ) → is_straight v ≡ is_straight w → step_cost v ≡ step_cost w
   same_cost v w e = ap (λ (b : Bool). cond b 10 14) e
 
-  pub IsStep-from : (c : Cell) (which : ℕ) (s : Source) → IsOnGround field.size c → is_free field start c ≡ true → IsStepFrom field.size free c which s → IsStep field start s.cell c s.cost
+  pub IsStep-from : (c : Cell) (which : ℕ) (s : Source) → IsOnGround field.size c → is_free field start c ≡ true → IsStepFrom field.size free c which s
+      → IsStep field start s.cell c s.cost
   IsStep-from c which s on is_free h =
       let back = neighbour-back field.size c s.cell which on h.leads in
       let there = neighbour-on field.size c s.cell which h.leads in
@@ -111,7 +109,8 @@ module _ (field : Field) (start : Cell) where
   pub free_of : (p c : Cell) (k : ℕ) → IsOnGround field.size c → IsStep field start p c k → free c ≡ true
   free_of p c k on h = free-is c on ∙ h.free
 
-  pub Has-source : (p c : Cell) (k : ℕ) → IsOnGround field.size p → IsStep field start p c k → Has (entry [] (steps_of field start) c) (record { cell = p; cost = k })
+  pub Has-source : (p c : Cell) (k : ℕ) → IsOnGround field.size p → IsStep field start p c k → Has (entry [] (steps_of field start) c)
+      (record { cell = p; cost = k })
   Has-source p c k on h =
       let there = neighbour-on field.size p c h.which h.leads in
       let listed = IsListed-from_step p c k on h in
@@ -120,4 +119,5 @@ module _ (field : Field) (start : Cell) where
       let eight = neighbour-below_eight field.size c p listed.which listed.leads in
       let made : ℕ → Option Source = λ n. Some (record { cell = p; cost = n }) in
       let is = step_from-is field.size free c p listed.which listed.leads listed.passes ∙ ap made (sym listed.cost_is) in
-      rw all (Has-filter_map (step_from field.size free c) (range_with_len 0 8) listed.which (record { cell = p; cost = k }) (Has-range 0 8 listed.which (omega arith) (omega arith)) is)
+      rw all (Has-filter_map (step_from field.size free c) (range_with_len 0 8) listed.which (record { cell = p; cost = k })
+      (Has-range 0 8 listed.which (omega arith) (omega arith)) is)

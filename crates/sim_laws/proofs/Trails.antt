@@ -1,23 +1,14 @@
 -- The end that the function finds is the definition's end, and the cells that it goes back by are a trail.
-use Rattle.std.proofs.Common.{◌≡◌, ℕ, zero, suc, ◌+◌, ◌-◌, ◌≤◌, Bool, true, false, cond, ◌||◌, nat_eq, List, [], Option, Some, None, refl, sym, ap, ◌∙◌, subst, ◌⊎◌, ⊎_elim, inl, inr, arith, filter_map, find, option_map, true≢false}
-use Rattle.std.specs.List.{range_with_len}
-use Rattle.std.specs.Option.{option_eq}
-use Rattle.std.proofs.lemmas.Bool.{cond-true, cond-false, cond_both}
-use Rattle.sim_base.specs.declared.place.Cell.{Cell}
-use Rattle.sim_base.specs.Places.{cells_of}
-use Rattle.sim_base.specs.Walks.{Walk, stay, go}
-use Rattle.sim_base.specs.Steps.{Field, IsOnGround, IsStep, neighbour, is_free, is_straight, beside_open, step_cost}
-use Rattle.sim_base.specs.Tables.{entry}
-use Rattle.sim_base.specs.Costs.{Source, Costs, step_from, cost_by}
-use Rattle.sim_base.specs.Ways.{IsCost, IsEnd, LeadsTo, IsPredecessor, IsTrail, end_key}
-use Rattle.sim_base.specs.WayOf.{Reached, reached_of, end_of, predecessor, trail_by, trail_of}
-use Rattle.sim_laws.proofs.Members.{Has, Has-filter_map, Has-of_filter_map, Finds, find-filter_map}
-use Rattle.sim_laws.proofs.LeastMember.{least_of-has}
-use Rattle.sim_laws.proofs.Ground.{Has-cells_of, Has-of_cells_of}
-use Rattle.sim_laws.proofs.Neighbours.{neighbour-on, neighbour-below_eight, straight-in_line}
-use Rattle.sim_laws.proofs.Sources.{step_from-some, step_from-is, free, steps-is, free-is, free_of, IsStep-from, IsListed-from_step}
-use Rattle.sim_laws.proofs.Trips.{walk-on}
-use Rattle.sim_laws.proofs.Rounds.{cost_by-some, cost_by-is, same_option, option_map-some, steps, costs, IsCost-from_costs, costs-from_IsCost}
+use Rattle.{sim_laws.proofs.Trips.walk-on, std.proofs.lemmas.Bool.cond-false}
+use Rattle.sim_base.specs.{WayOf.end_of, WayOf.predecessor, WayOf.reached_of, WayOf.trail_by, Ways.LeadsTo}
+use Rattle.sim_laws.proofs.{Ground.Has-cells_of, Ground.Has-of_cells_of, Neighbours.neighbour-below_eight, Neighbours.neighbour-on, Neighbours.straight-in_line}
+use Rattle.sim_laws.proofs.{LeastMember.least_of-has, Members.find-filter_map, Members.Finds, Members.Has, Members.Has-filter_map, Members.Has-of_filter_map}
+use Rattle.sim_laws.proofs.Common.{inl, inr, is_free, is_straight, IsCost, IsEnd, IsOnGround, IsPredecessor, IsStep, IsTrail, neighbour, option_eq}
+use Rattle.sim_laws.proofs.Common.{option_map, refl, ap, arith, beside_open, Cell, cells_of, cond-true, cond_both, cost_by, Costs, end_key, entry, Field, go}
+use Rattle.sim_laws.proofs.Common.{range_with_len, Reached, Source, stay, step_cost, step_from, subst, sym, trail_of, true≢false, Walk, ⊎_elim, ◌∙◌}
+use Rattle.sim_laws.proofs.Common.{◌≡◌, ℕ, zero, suc, ◌+◌, ◌-◌, ◌≤◌, Bool, true, false, cond, ◌||◌, ◌⊎◌, List, [], nat_eq, Some, None, find, filter_map, Option}
+use Rattle.sim_laws.proofs.Rounds.{cost_by-is, cost_by-some, costs, costs-from_IsCost, IsCost-from_costs, option_map-some, same_option, steps}
+use Rattle.sim_laws.proofs.Sources.{free, free-is, free_of, IsListed-from_step, IsStep-from, step_from-is, step_from-some, steps-is}
 
 least_step : (which : ℕ) → 10 ≤ step_cost which
 least_step which = cond_both (is_straight which) 10 14 (λ (n : ℕ). 10 ≤ n) (λ e. omega arith) (λ e. omega arith)
@@ -47,7 +38,8 @@ module _ (field : Field) (start : Cell) where
     reached-has c d h =
         let on = walk-on field start start_on h.walk in
         let reach : ℕ → Reached = λ n. record { cell = c; cost = n } in
-        Has-filter_map made (cells_of field.size) c (reach d) (Has-cells_of field.size c on) (ap (option_map reach) (costs-from_IsCost field start start_on c d h))
+        Has-filter_map made (cells_of field.size) c (reach d) (Has-cells_of field.size c on)
+        (ap (option_map reach) (costs-from_IsCost field start start_on c d h))
 
     reached-is : (r : Reached) → Has (reached_of field.size found) r → IsCost field start r.cell r.cost
     reached-is r h =
@@ -76,16 +68,19 @@ module _ (field : Field) (start : Cell) where
     abbrev makes_up : ℕ → Source → Bool
     makes_up d s = option_eq nat_eq (cost_by found s) (Some d)
 
-    leads_from : (c : Cell) (d : ℕ) (s : Source) → IsStep field start s.cell c s.cost → IsOnGround field.size s.cell → makes_up d s ≡ true → LeadsTo field start s.cell c d
+    leads_from : (c : Cell) (d : ℕ) (s : Source) → IsStep field start s.cell c s.cost → IsOnGround field.size s.cell → makes_up d s ≡ true
+        → LeadsTo field start s.cell c d
     leads_from c d s step on h =
         let (n, e, sum) = cost_by-some found s d ((same_option (cost_by found s) (Some d)).0 h) in
         record { before = n; last = s.cost; reached = IsCost-from_costs field start start_on s.cell n on e; step = step; sum = sum }
 
-    makes_up_from : (p c : Cell) (d j : ℕ) → LeadsTo field start p c d → neighbour field.size c j ≡ Some p → (s : Source) × (step_from field.size (free field start) c j ≡ Some s) × (makes_up d s ≡ true)
+    makes_up_from : (p c : Cell) (d j : ℕ) → LeadsTo field start p c d → neighbour field.size c j ≡ Some p → (s : Source)
+        × (step_from field.size (free field start) c j ≡ Some s) × (makes_up d s ≡ true)
     makes_up_from p c d j h e =
         let on = walk-on field start start_on h.reached.walk in
         let step = IsListed-from_step field start p c h.last on h.step in
-        let straight : is_straight j ≡ is_straight step.which = straight-in_line field.size c p j e ∙ sym (straight-in_line field.size c p step.which step.leads) in
+        let straight : is_straight j ≡ is_straight step.which = straight-in_line field.size c p j e ∙
+        sym (straight-in_line field.size c p step.which step.leads) in
         let passes = ap (λ (b : Bool). b || beside_open (free field start) p c) straight ∙ step.passes in
         let s : Source = record { cell = p; cost = step_cost j } in
         let same : step_cost j ≡ h.last = ap (λ (b : Bool). cond b 10 14) straight ∙ sym step.cost_is in
@@ -96,13 +91,15 @@ module _ (field : Field) (start : Cell) where
     -- what the search for a predecessor of c, which costs d, finds
     abbrev Answers : Cell → ℕ → Option Source → Type 0
     Answers c d None = c ≡ start
-    Answers c d (Some s) = IsPredecessor field start s.cell c d × IsOnGround field.size s.cell × (entry None found s.cell ≡ Some (d - s.cost)) × (1 ≤ s.cost) × (s.cost ≤ d)
+    Answers c d (Some s) = IsPredecessor field start s.cell c d × IsOnGround field.size s.cell × (entry None found s.cell ≡ Some (d - s.cost)) × (1 ≤ s.cost)
+        × (s.cost ≤ d)
 
     -- c is the start, or a step leads to it
     last_step : (c : Cell) (d : ℕ) → IsCost field start c d → (c ≡ start) ⊎ ((p : Cell) × LeadsTo field start p c d)
     last_step c d h = by h.walk h.least
       where
-        by : {e : Cell} {n : ℕ} → Walk (IsStep field start) start e n → ((m : ℕ) → Walk (IsStep field start) start e m → n ≤ m) → (e ≡ start) ⊎ ((p : Cell) × LeadsTo field start p e n)
+        by : {e : Cell} {n : ℕ} → Walk (IsStep field start) start e n → ((m : ℕ) → Walk (IsStep field start) start e m → n ≤ m) → (e ≡ start)
+            ⊎ ((p : Cell) × LeadsTo field start p e n)
         by stay least = inl refl
         by (go {a = a} {b = b} {n = n} {k = k} w s) least =
             let is_least : (m : ℕ) → Walk (IsStep field start) start a m → n ≤ m = λ m v. omega (arith, least (m + k) (go v s)) in
@@ -114,7 +111,8 @@ module _ (field : Field) (start : Cell) where
         from : ℕ → Option Source
         from = step_from field.size (free field start) c
 
-        by_last : (o : Option Source) → Finds from (makes_up d) 0 8 o → is_free field start c ≡ true → (c ≡ start) ⊎ ((p : Cell) × LeadsTo field start p c d) → Answers c d o
+        by_last : (o : Option Source) → Finds from (makes_up d) 0 8 o → is_free field start c ≡ true → (c ≡ start) ⊎ ((p : Cell) × LeadsTo field start p c d)
+            → Answers c d o
         by_last None none is_open (inl e) = e
         by_last None none is_open (inr (p, leads)) =
             let there = walk-on field start start_on leads.reached.walk in
@@ -132,7 +130,8 @@ module _ (field : Field) (start : Cell) where
                 which = first.place;
                 neighbour_is = found_step.leads;
                 leads = leads_from c d s step there first.passes;
-                first = λ j q lt e leads. let (t, gives, fits) = makes_up_from q c d j leads e in true≢false (sym fits ∙ first.none_before j t (omega arith) lt gives);
+                first = λ j q lt e leads. let (t, gives, fits) = makes_up_from q c d j leads e in
+                    true≢false (sym fits ∙ first.none_before j t (omega arith) lt gives);
               },
               there,
               e ∙ ap Some rest,
@@ -142,8 +141,10 @@ module _ (field : Field) (start : Cell) where
 
         by_free : (b : Bool) → free field start c ≡ b → Answers c d (predecessor found d (listed c))
         by_free true e =
-            let all : listed c ≡ filter_map from (range_with_len 0 8) = steps-is field start c on ∙ cond-true (free field start c) (filter_map from (range_with_len 0 8)) [] e in
-            rw all (by_last (find (makes_up d) (filter_map from (range_with_len 0 8))) (find-filter_map from (makes_up d) 0 8) (sym (free-is field start c on) ∙ e) (last_step c d h))
+            let all : listed c ≡ filter_map from (range_with_len 0 8) = steps-is field start c on ∙
+            cond-true (free field start c) (filter_map from (range_with_len 0 8)) [] e in
+            rw all (by_last (find (makes_up d) (filter_map from (range_with_len 0 8))) (find-filter_map from (makes_up d) 0 8) (sym (free-is field start c on) ∙
+            e) (last_step c d h))
         by_free false e =
             let all : listed c ≡ [] = steps-is field start c on ∙ cond-false (free field start c) (filter_map from (range_with_len 0 8)) [] e in
             rw all
@@ -152,7 +153,8 @@ module _ (field : Field) (start : Cell) where
             (λ (l : (p : Cell) × LeadsTo field start p c d). absurd (true≢false (sym (free_of field start l.0 c l.1.last on l.1.step) ∙ e)))
             (last_step c d h))
 
-    pub trail_is : (n : ℕ) (c : Cell) (d : ℕ) → IsOnGround field.size c → entry None found c ≡ Some d → d ≤ n → IsTrail field start c (trail_of (steps field start) found n c d)
+    pub trail_is : (n : ℕ) (c : Cell) (d : ℕ) → IsOnGround field.size c → entry None found c ≡ Some d → d ≤ n
+        → IsTrail field start c (trail_of (steps field start) found n c d)
     trail_is zero c d on e h =
         let cost = IsCost-from_costs field start start_on c d on e in
         let none : d ≡ 0 = omega arith in
@@ -163,7 +165,8 @@ module _ (field : Field) (start : Cell) where
         cost : IsCost field start c d
         cost = IsCost-from_costs field start start_on c d on e
 
-        by : (o : Option Source) → Answers c d o → ((p : Cell) (m : ℕ) → IsOnGround field.size p → entry None found p ≡ Some m → m ≤ n → IsTrail field start p (trail_of (steps field start) found n p m)) → IsTrail field start c (trail_by (trail_of (steps field start) found n) c d o)
+        by : (o : Option Source) → Answers c d o → ((p : Cell) (m : ℕ) → IsOnGround field.size p → entry None found p ≡ Some m → m ≤ n
+            → IsTrail field start p (trail_of (steps field start) found n p m)) → IsTrail field start c (trail_by (trail_of (steps field start) found n) c d o)
         by None is rest = is
         by (Some s) (is, there, known, one, le) rest =
             let own : c ≡ start → Walk (IsStep field start) start c 0 = λ f. rw f stay in

@@ -1,17 +1,10 @@
 -- Walks by the cells that they come through. Each walk can be cut down to one that is at no cell twice and costs no more, and such a one has
 -- fewer steps than the ground has cells.
-use Rattle.std.proofs.Common.{◌≡◌, ℕ, suc, ◌+◌, ◌*◌, ◌<◌, ◌≤◌, Bool, true, false, ◌||◌, eqb, List, [], ◌∷◌, map, length, refl, sym, ap, ⊎_elim, arith, eqb-true}
-use Rattle.std.specs.List.{list_any, AllByRecursion, IsDistinct}
-use Rattle.std.proofs.lemmas.Bool.{or_parts, or_cases, true≢false}
-use Rattle.std.proofs.lemmas.Nat.{mul-add-lt, same_from_place}
-use Rattle.std.proofs.lemmas.Map.Keys.{IsDistinct-cons, IsDistinct-tail, IsDistinct-from_apart}
-use Rattle.std.proofs.lemmas.Map.Steps.{length-le_from_distinct_below}
-use Rattle.sim_base.specs.declared.place.Cell.{Cell}
-use Rattle.sim_base.specs.Places.{Size}
-use Rattle.sim_base.specs.Walks.{Walk, stay, go}
-use Rattle.sim_base.specs.Steps.{Field, IsOnGround, IsStep}
-use Rattle.sim_laws.proofs.Ground.{same_by_parts}
-use Rattle.sim_laws.proofs.Neighbours.{neighbour-on}
+use Rattle.std.{proofs.lemmas.Bool.or_parts, proofs.lemmas.Nat.mul-add-lt, proofs.lemmas.Nat.same_from_place, specs.List.AllByRecursion, specs.List.IsDistinct}
+use Rattle.std.proofs.lemmas.Map.{Keys.IsDistinct-cons, Keys.IsDistinct-from_apart, Keys.IsDistinct-tail, Steps.length-le_from_distinct_below}
+use Rattle.sim_laws.proofs.{Ground.same_by_parts, Neighbours.neighbour-on}
+use Rattle.sim_laws.proofs.Common.{Field, go, IsOnGround, IsStep, list_any, or_cases, Size, stay, sym, true≢false, Walk, ⊎_elim}
+use Rattle.sim_laws.proofs.Common.{◌≡◌, ℕ, suc, ◌+◌, ◌*◌, ◌<◌, ◌≤◌, Bool, true, false, ◌||◌, eqb, List, [], ◌∷◌, map, length, refl, ap, arith, Cell, eqb-true}
 
 -- a walk from the start to a cell, by the cells that it was at before, the latest first, and its cost
 pub data Trip (field : Field) (start : Cell) : Cell → List Cell → ℕ → Type 0 where
@@ -58,16 +51,19 @@ module _ (field : Field) (start : Cell) (start_on : IsOnGround field.size start)
   trip-on (more {a = a} {b = b} t s) = neighbour-on field.size a b s.which s.leads
 
   -- where a trip has come through c, its part up to there
-  cut_at : {a : Cell} {xs : List Cell} {n : ℕ} → (c : Cell) → IsOnGround field.size c → Trip field start a xs n → AreApart (a ∷ xs) → is_among c (a ∷ xs) ≡ true → IsCut c n
+  cut_at : {a : Cell} {xs : List Cell} {n : ℕ} → (c : Cell) → IsOnGround field.size c → Trip field start a xs n → AreApart (a ∷ xs) → is_among c (a ∷ xs) ≡ true
+      → IsCut c n
   cut_at c on begin apart h = by (eqb (number field.size c) (number field.size start)) refl h
     where
       by : (b : Bool) → eqb (number field.size c) (number field.size start) ≡ b → (b || false) ≡ true → IsCut c 0
       by true e f = rw (same_number field.size c start on start_on e) (record { before = []; cost = 0; trip = begin; within = omega arith; apart = apart })
       by false e f = absurd (true≢false (sym f))
   cut_at c on (more {a = a} {b = b} {xs = xs} {n = n} {k = k} t s) apart h =
-      by (eqb (number field.size c) (number field.size b)) refl h (cut_at c on t (IsDistinct-tail eqb (number field.size b) (map (number field.size) (a ∷ xs)) apart))
+      by (eqb (number field.size c) (number field.size b)) refl h
+      (cut_at c on t (IsDistinct-tail eqb (number field.size b) (map (number field.size) (a ∷ xs)) apart))
     where
-      by : (r : Bool) → eqb (number field.size c) (number field.size b) ≡ r → (r || is_among c (a ∷ xs)) ≡ true → (is_among c (a ∷ xs) ≡ true → IsCut c n) → IsCut c (n + k)
+      by : (r : Bool) → eqb (number field.size c) (number field.size b) ≡ r → (r || is_among c (a ∷ xs)) ≡ true → (is_among c (a ∷ xs) ≡ true → IsCut c n)
+          → IsCut c (n + k)
       by true e f rest =
           let same : c ≡ b = same_number field.size c b on (neighbour-on field.size a b s.which s.leads) e in
           rw same (record { before = a ∷ xs; cost = n + k; trip = more t s; within = omega arith; apart = apart })
@@ -91,17 +87,26 @@ module _ (field : Field) (start : Cell) (start_on : IsOnGround field.size start)
           then : (r : Bool) → is_among b (a ∷ shorter.before) ≡ r → IsCut b (n + k)
           then true e =
               let earlier = cut_at b on shorter.trip shorter.apart e in
-              record { before = earlier.before; cost = earlier.cost; trip = earlier.trip; within = let f = earlier.within in let g = shorter.within in omega arith; apart = earlier.apart }
+              record {
+                before = earlier.before;
+                cost = earlier.cost;
+                trip = earlier.trip;
+                within = let f = earlier.within in let g = shorter.within in
+                    omega arith;
+                apart = earlier.apart;
+              }
           then false e =
               record {
                 before = a ∷ shorter.before;
                 cost = shorter.cost + k;
                 trip = more shorter.trip s;
                 within = let g = shorter.within in omega arith;
-                apart = IsDistinct-cons eqb (number field.size b) (map (number field.size) (a ∷ shorter.before)) (none_equal (number field.size b) (map (number field.size) (a ∷ shorter.before)) e) shorter.apart;
+                apart = IsDistinct-cons eqb (number field.size b) (map (number field.size) (a ∷ shorter.before))
+                    (none_equal (number field.size b) (map (number field.size) (a ∷ shorter.before)) e) shorter.apart;
               }
 
-  numbers_below : {c : Cell} {xs : List Cell} {n : ℕ} → Trip field start c xs n → (q : ℕ) → list_any (eqb q) (map (number field.size) (c ∷ xs)) ≡ true → q < field.size.width * field.size.depth
+  numbers_below : {c : Cell} {xs : List Cell} {n : ℕ} → Trip field start c xs n → (q : ℕ) → list_any (eqb q) (map (number field.size) (c ∷ xs)) ≡ true
+      → q < field.size.width * field.size.depth
   numbers_below begin q h =
       ⊎_elim
       (λ (e : eqb q (number field.size start) ≡ true). omega (arith, eqb-true q (number field.size start) e, number-below field.size start start_on))
@@ -109,7 +114,8 @@ module _ (field : Field) (start : Cell) (start_on : IsOnGround field.size start)
       (or_cases (eqb q (number field.size start)) false h)
   numbers_below (more {a = a} {b = b} {xs = xs} t s) q h =
       ⊎_elim
-      (λ (e : eqb q (number field.size b) ≡ true). omega (arith, eqb-true q (number field.size b) e, number-below field.size b (neighbour-on field.size a b s.which s.leads)))
+      (λ (e : eqb q (number field.size b) ≡ true).
+      omega (arith, eqb-true q (number field.size b) e, number-below field.size b (neighbour-on field.size a b s.which s.leads)))
       (λ (e : list_any (eqb q) (map (number field.size) (a ∷ xs)) ≡ true). numbers_below t q e)
       (or_cases (eqb q (number field.size b)) (list_any (eqb q) (map (number field.size) (a ∷ xs))) h)
 

@@ -1,46 +1,20 @@
 -- A turn, a bend and a whole past keep a state valid.
-use Rattle.std.proofs.Common.{◌≡◌, ℕ, zero, suc, ◌+◌, ◌≤◌, Bool, true, false, cond, not, ℤ, pos, ◌≤ℤ◌, int_le, List, [], ◌∷◌, ◌++◌, map, filter, fold, Option, Some, None, refl, sym, ap, ◌∙◌, subst, ⊎_elim, arith, All, append-nil}
-use Rattle.std.specs.Prelude.{option_and_then, slice_get, ◌==◌, ◌&&◌}
-use Rattle.std.proofs.lemmas.Bool.{cond_both, and_parts, eqb-true, cases_Bool}
-use Rattle.std.proofs.lemmas.Int.{ints}
-use Rattle.std.proofs.lemmas.List.{map-append}
-use Rattle.std.proofs.lemmas.List.Elements.{All-nil, All-cons, All-head, All-tail, All-map, All-filter, All-weaker}
-use Rattle.sim_base.specs.declared.place.Point.{Point}
-use Rattle.sim_base.specs.declared.place.Cell.{Cell}
-use Rattle.sim_base.specs.declared.template.Template.{Template}
-use Rattle.sim_base.specs.declared.command.Command.{Command}
-use Rattle.sim_base.specs.declared.command.Command.TheVariants.{Walk, Stop, Attack, Delete, Place, Train, Resign}
-use Rattle.sim_base.specs.declared.command.PlayerCommand.{PlayerCommand}
-use Rattle.sim_base.specs.declared.setup.Setup.{Setup}
-use Rattle.sim_base.specs.declared.setup.First.{First}
-use Rattle.sim_base.specs.declared.setup.Timed.{Timed}
-use Rattle.sim_base.specs.declared.state.Motion.{Motion}
-use Rattle.sim_base.specs.declared.state.Aim.{Aim}
-use Rattle.sim_base.specs.declared.state.Row.{Row}
-use Rattle.sim_base.specs.declared.state.State.{State}
-use Rattle.sim_base.specs.Places.{is_inside, centre_of}
-use Rattle.sim_base.specs.Limits.{IsSetup, IsTimed}
-use Rattle.sim_base.specs.Rows.{id_of, row_of, template_of, size_of}
-use Rattle.sim_base.specs.Validity.{IsValidRow, IsValid, Both}
-use Rattle.sim_base.specs.Changes.{removed, new_row, with_row, with_new, created}
-use Rattle.sim_base.specs.Filters.{spot}
-use Rattle.sim_base.specs.Commands.{is_ordered, with_ordered, sent, stopped, set_on, is_enemy, has_room, is_placeable, trains, placed_on, trained, commanded_by, commanded}
-use Rattle.sim_base.specs.Aim.{aimed}
-use Rattle.sim_base.specs.Move.{moved}
-use Rattle.sim_base.specs.Hit.{hit}
-use Rattle.sim_base.specs.Turn.{first_state, Turn, Bend, is_health_of, may_bend, from, orders_at, own_turns}
-use Rattle.sim_laws.proofs.Members.{Has}
-use Rattle.sim_laws.proofs.Validity.{valid_is_loose, first_state_is_valid}
-use Rattle.sim_laws.specs.CommandLaws.{IsOrderOf, CommandKeepsValid, CommandKeepsLoose, CommandKeepsTurn, KeepsOrder, CommandKeepsOrder}
-use Rattle.sim_laws.specs.PhaseLaws.{GoneKeepsTurn}
-use Rattle.sim_laws.specs.TurnLaws.{TurnKeepsValid, TurnIsCounted, BendKeepsValid, BendKeepsTurn, IsItemOf, FromKeepsValid, FromCountsTurns, AfterIsValid, AfterCountsTurns, OwnTurnsAreOfPlayers, OwnTurnsAreSoMany}
-use Rattle.sim_laws.proofs.Rows.{map-map, map_agree, apart, same_row, found_row}
-use Rattle.sim_laws.proofs.RowWise.{Stays, mapped_is_state}
-use Rattle.sim_laws.proofs.Removing.{same_stays, removed_all, removed_all-turn, removed-ids, spent_ids, gone_is_valid}
-use Rattle.sim_laws.proofs.Aiming.{aimed_is_state}
-use Rattle.sim_laws.proofs.Moving.{moved_is_state}
-use Rattle.sim_laws.proofs.Hitting.{hit_is_state}
-use Rattle.sim_laws.proofs.Commanding.{commanded_by_is_state}
+use Rattle.std.proofs.lemmas.List.Elements.{All-filter}
+use Rattle.sim_base.specs.{Changes.with_row, Turn.Bend, Turn.from, Turn.is_health_of, Turn.may_bend, Turn.orders_at, Turn.own_turns, Turn.Turn}
+use Rattle.sim_base.specs.{Limits.IsTimed, declared.command.Command.TheVariants.Walk, declared.command.PlayerCommand.PlayerCommand, declared.setup.Timed.Timed}
+use Rattle.sim_laws.proofs.{Aiming.aimed_is_state, Hitting.hit_is_state, Members.Has, Moving.moved_is_state, RowWise.mapped_is_state, RowWise.Stays}
+use Rattle.sim_laws.proofs.{Commanding.commanded_by_is_state, Common.trained, Common.trains, Common.with_new, Common.with_ordered, Common.⊎_elim, Common.◌∙◌}
+use Rattle.sim_laws.proofs.{Rows.apart, Rows.found_row, Rows.map-map, Rows.map_agree, Rows.same_row, Validity.first_state_is_valid, Validity.valid_is_loose}
+use Rattle.sim_laws.proofs.Common.{All-tail, All-weaker, and_parts, ap, append-nil, arith, Attack, Both, cases_Bool, Cell, centre_of, Command, commanded}
+use Rattle.sim_laws.proofs.Common.{Resign, Row, row_of, sent, set_on, Setup, size_of, spot, State, Stop, stopped, subst, sym, Template, template_of, Train}
+use Rattle.sim_laws.proofs.Common.{commanded_by, cond_both, created, Delete, eqb-true, First, first_state, has_room, hit, id_of, ints, is_enemy, is_inside}
+use Rattle.sim_laws.proofs.Common.{int_le, Some, None, fold, All, filter, Option, option_and_then, refl, Aim, aimed, All-cons, All-head, All-map, All-nil}
+use Rattle.sim_laws.proofs.Common.{is_ordered, is_placeable, IsSetup, IsValid, IsValidRow, map-append, Motion, moved, new_row, Place, placed_on, Point, removed}
+use Rattle.sim_laws.proofs.Common.{◌≡◌, ℕ, zero, suc, ◌+◌, ◌≤◌, Bool, true, false, cond, not, ◌&&◌, List, [], ◌∷◌, ◌++◌, map, ℤ, pos, ◌≤ℤ◌, ◌==◌, slice_get}
+use Rattle.sim_laws.proofs.Removing.{gone_is_valid, removed-ids, removed_all, removed_all-turn, same_stays, spent_ids}
+use Rattle.sim_laws.specs.{PhaseLaws.GoneKeepsTurn, TurnLaws.OwnTurnsAreOfPlayers, TurnLaws.OwnTurnsAreSoMany, TurnLaws.TurnIsCounted, TurnLaws.TurnKeepsValid}
+use Rattle.sim_laws.specs.CommandLaws.{CommandKeepsLoose, CommandKeepsOrder, CommandKeepsTurn, CommandKeepsValid, IsOrderOf, KeepsOrder}
+use Rattle.sim_laws.specs.TurnLaws.{AfterCountsTurns, AfterIsValid, BendKeepsTurn, BendKeepsValid, FromCountsTurns, FromKeepsValid, IsItemOf}
 
 -- ---- commands
 
@@ -91,10 +65,12 @@ module _ (setup : Setup) (state : State) (player : ℕ) (P : State → Type 0) (
   pub after_command : (command : Command) → P (commanded_by setup state player command)
   after_command (Walk ids p) = either (is_inside (size_of setup.land) p) (with_ordered player ids (sent p) state) (ordered ids (sent p) (sent-id p))
   after_command (Stop ids) = ordered ids stopped (λ row. refl)
-  after_command (Attack ids target) = either (is_enemy setup player (row_of state target)) (with_ordered player ids (set_on target) state) (ordered ids (set_on target) (set_on-id target))
+  after_command (Attack ids target) = either (is_enemy setup player (row_of state target)) (with_ordered player ids (set_on target) state)
+      (ordered ids (set_on target) (set_on-id target))
   after_command (Delete ids) = fewer (map id_of (filter (is_ordered player ids) state.rows))
   after_command (Place number p) =
-      either (is_placeable setup state p (slice_get setup.templates number) && has_room setup state player) (created setup state number p player) (more number p (slice_get setup.templates number))
+      either (is_placeable setup state p (slice_get setup.templates number) && has_room setup state player) (created setup state number p player)
+      (more number p (slice_get setup.templates number))
   after_command (Train building number) = trained_by number (row_of state building)
   after_command Resign =
       each (λ row. cond (row.owner == player) (record row { owner = 0 }) row)
@@ -106,7 +82,8 @@ with_new-turn state number p owner (Some t) = refl
 
 pub command_keeps_turn : CommandKeepsTurn
 command_keeps_turn setup state order =
-    after_command setup state order.player (λ (new : State). new.turn ≡ state.turn) refl (λ f e. refl) (λ ids. removed_all-turn ids state) (λ number p o. with_new-turn state number p order.player o) order.command
+    after_command setup state order.player (λ (new : State). new.turn ≡ state.turn) refl (λ f e. refl) (λ ids. removed_all-turn ids state)
+    (λ number p o. with_new-turn state number p order.player o) order.command
 
 -- ---- the order of the rows
 
@@ -131,7 +108,13 @@ removed_all-ids (id ∷ ids) state =
 
 module _ (old : State) where
   in_order : (new : State) → map id_of new.rows ≡ map id_of old.rows → KeepsOrder old new
-  in_order new e = record { stays = λ n. true; made = []; ids = e ∙ sym (filter_all (map id_of old.rows)) ∙ sym (append-nil (filter (λ n. true) (map id_of old.rows))); made_later = All-nil (λ id. old.next ≤ id) }
+  in_order new e = record {
+    stays = λ n. true;
+    made = [];
+    ids = e ∙ sym (filter_all (map id_of old.rows)) ∙ sym (append-nil (filter (λ n. true) (map id_of old.rows)));
+    made_later =
+        All-nil (λ id. old.next ≤ id);
+  }
 
   with_new-order : (number : ℕ) (p : Point) (owner : ℕ) (o : Option Template) → KeepsOrder old (with_new number p owner o old)
   with_new-order number p owner None = in_order old refl
@@ -146,7 +129,8 @@ module _ (old : State) where
 pub command_keeps_order : CommandKeepsOrder
 command_keeps_order setup state order =
     after_command setup state order.player (KeepsOrder state) (in_order state state refl)
-    (λ f e. in_order state (record state { rows = map f state.rows }) (map-map f id_of state.rows ∙ map_agree (λ (row : Row). (f row).id) id_of state.rows (λ row h. e row)))
+    (λ f e. in_order state (record state { rows = map f state.rows }) (map-map f id_of state.rows ∙ map_agree (λ (row : Row). (f row).id) id_of state.rows
+    (λ row h. e row)))
     (λ ids. let (stays, e) = removed_all-ids ids state in
     record { stays = stays; made = []; ids = e ∙ sym (append-nil (filter stays (map id_of state.rows))); made_later = All-nil (λ id. state.next ≤ id) })
     (λ number p o. with_new-order state number p order.player o) order.command
@@ -180,7 +164,16 @@ turn_keeps_valid setup state orders limits of_players valid below =
     let moves = moved_is_state 0 setup (aimed setup commands) aims in
     let hits = hit_is_state setup (moved setup (aimed setup commands)) moves in
     let v = gone_is_valid setup (hit setup (moved setup (aimed setup commands))) hits in
-    record { turn = omega (arith, turn_is_counted setup state orders, below); next = v.next; word = v.word; few = v.few; ascending = v.ascending; ids = v.ids; rows = v.rows }
+    record {
+      turn = omega (arith, turn_is_counted setup state orders, below);
+      next = v.next;
+      word = v.word;
+      few = v.few;
+      ascending = v.ascending;
+      ids = v.ids;
+      rows =
+          v.rows;
+    }
 
 -- ---- a bend
 
@@ -204,8 +197,14 @@ module _ (setup : Setup) (state : State) (id : ℕ) (health : ℤ) (valid : IsVa
       let (m, is_id) = found_row state id found e in
       let is_row : found ≡ row = same_row state.rows found row (apart state.rows valid.ascending) m h (is_id ∙ sym same) in
       let may_row : may_bend setup health (Some row) ≡ true = subst (λ (r : Row). may_bend setup health (Some r) ≡ true) is_row may in
-      let fits : is_health_of health row.health t.health ≡ true = subst (λ (o : Option Template). is_health_of health row.health (option_and_then (λ (u : Template). u.health) o) ≡ true) known may_row in
-      record { id = refl; template = refl; valid = record { at = v.at; owner = v.owner; health = bent_health health row.health t.health fits; motion = v.motion; attack = v.attack } }
+      let fits : is_health_of health row.health t.health ≡ true =
+      subst (λ (o : Option Template). is_health_of health row.health (option_and_then (λ (u : Template). u.health) o) ≡ true) known may_row in
+      record {
+        id = refl;
+        template = refl;
+        valid =
+            record { at = v.at; owner = v.owner; health = bent_health health row.health t.health fits; motion = v.motion; attack = v.attack };
+      }
 
   bent_is_valid : (o : Option Row) → row_of state id ≡ o → (b : Bool) → may_bend setup health o ≡ b
       → IsValid setup (cond b (with_row id bend state) state)
@@ -231,7 +230,8 @@ bend_keeps_turn setup state id health = by (may_bend setup health (row_of state 
 pub from_counts_turns : FromCountsTurns
 from_counts_turns setup state [] = omega arith
 from_counts_turns setup state (Turn orders ∷ past) = omega (arith, turn_is_counted setup (from setup state past) orders, from_counts_turns setup state past)
-from_counts_turns setup state (Bend id health ∷ past) = omega (arith, bend_keeps_turn setup (from setup state past) id health, from_counts_turns setup state past)
+from_counts_turns setup state (Bend id health ∷ past) =
+    omega (arith, bend_keeps_turn setup (from setup state past) id health, from_counts_turns setup state past)
 
 pub from_keeps_valid : FromKeepsValid
 from_keeps_valid setup state [] limits of_players valid room = valid
@@ -240,7 +240,8 @@ from_keeps_valid setup state (Turn orders ∷ past) limits of_players valid room
     (from_keeps_valid setup state past limits (All-tail (IsItemOf setup) (Turn orders) past of_players) valid (omega (arith, room)))
     (omega (arith, room, from_counts_turns setup state past))
 from_keeps_valid setup state (Bend id health ∷ past) limits of_players valid room =
-    bend_keeps_valid setup (from setup state past) id health (from_keeps_valid setup state past limits (All-tail (IsItemOf setup) (Bend id health) past of_players) valid room)
+    bend_keeps_valid setup (from setup state past) id health
+    (from_keeps_valid setup state past limits (All-tail (IsItemOf setup) (Bend id health) past of_players) valid room)
 
 first-turn : (setup : Setup) → (first_state setup).turn ≡ 0
 first-turn setup = by setup.first (record { turn = 0; next = 2; word = setup.seed; rows = [] })
@@ -248,10 +249,12 @@ first-turn setup = by setup.first (record { turn = 0; next = 2; word = setup.see
     by : (firsts : List First) (state : State)
         → (fold (λ s (first : First). created setup s first.template first.at first.owner) state firsts).turn ≡ state.turn
     by [] state = refl
-    by (first ∷ firsts) state = by firsts (created setup state first.template first.at first.owner) ∙ with_new-turn state first.template first.at first.owner (slice_get setup.templates first.template)
+    by (first ∷ firsts) state = by firsts (created setup state first.template first.at first.owner) ∙ with_new-turn state first.template first.at first.owner
+        (slice_get setup.templates first.template)
 
 pub after_is_valid : AfterIsValid
-after_is_valid setup past limits of_players room = from_keeps_valid setup (first_state setup) past limits of_players (first_state_is_valid setup limits) (omega (arith, room, first-turn setup))
+after_is_valid setup past limits of_players room = from_keeps_valid setup (first_state setup) past limits of_players (first_state_is_valid setup limits)
+    (omega (arith, room, first-turn setup))
 
 pub after_counts_turns : AfterCountsTurns
 after_counts_turns setup past = omega (arith, from_counts_turns setup (first_state setup) past, first-turn setup)
@@ -266,7 +269,8 @@ own_turns_are_of_players setup start (suc n) limits =
 
     listed : All (IsOrderOf setup) (orders_at (start + suc n) setup.commands)
     listed = All-map (IsOrderOf setup) (λ (timed : Timed). timed.order) (filter (λ (timed : Timed). timed.turn == (start + suc n)) setup.commands)
-        (All-weaker (IsTimed setup) (λ (timed : Timed). IsOrderOf setup timed.order) (λ timed h. h.player) (filter (λ (timed : Timed). timed.turn == (start + suc n)) setup.commands)
+        (All-weaker (IsTimed setup) (λ (timed : Timed). IsOrderOf setup timed.order) (λ timed h. h.player)
+        (filter (λ (timed : Timed). timed.turn == (start + suc n)) setup.commands)
         (All-filter (λ (timed : Timed). timed.turn == (start + suc n)) (IsTimed setup) setup.commands limits.commands))
 
 pub own_turns_are_so_many : OwnTurnsAreSoMany

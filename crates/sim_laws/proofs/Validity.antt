@@ -1,27 +1,11 @@
 -- A valid state is loosely valid, a state stays valid where a row is made, and so the first state of a match is valid.
-use Rattle.std.proofs.Common.{◌≡◌, ◌≢◌, ℕ, ◌+◌, ◌-◌, ◌<◌, ◌≤◌, true, false, ℤ, pos, ◌≤ℤ◌, List, [], ◌∷◌, ◌++◌, length, map, fold, get_or, Option, Some, None, refl, sym, ap, ◌∙◌, subst, ⊎_elim, inl, inr, arith, All, MatchOption, IfSome, length-append}
-use Rattle.std.specs.Prelude.{slice_get, IsTrue, option_map}
-use Rattle.std.specs.List.Sorted.{IsStrictlyIncreasing}
-use Rattle.std.proofs.lemmas.Bool.{cases_lt, or_left}
-use Rattle.std.proofs.lemmas.Int.{ints}
-use Rattle.std.proofs.lemmas.List.{get_or_append_left, get_or-append_right, map-append}
-use Rattle.std.proofs.lemmas.List.Elements.{All-weaker, All-push, All-map, All-head, All-tail}
-use Rattle.std.proofs.lemmas.List.Folds.{list_any-append}
-use Rattle.std.proofs.lemmas.Option.{slice_get-get_or}
-use Rattle.sim_base.specs.declared.place.Point.{Point}
-use Rattle.sim_base.specs.declared.template.Template.{Template}
-use Rattle.sim_base.specs.declared.template.Arms.{Arms}
-use Rattle.sim_base.specs.declared.setup.First.{First}
-use Rattle.sim_base.specs.declared.setup.Setup.{Setup}
-use Rattle.sim_base.specs.declared.state.Motion.TheVariants.{Still}
-use Rattle.sim_base.specs.declared.state.Aim.{Aim}
-use Rattle.sim_base.specs.declared.state.Row.{Row}
-use Rattle.sim_base.specs.declared.state.State.{State}
-use Rattle.sim_base.specs.Rows.{id_of, template_of}
-use Rattle.sim_base.specs.Limits.{IsSetup, IsTemplate, IsFirst, IsRawFrom}
-use Rattle.sim_base.specs.Validity.{IsInside, IsValidMotion, IsValidAim, IsValidRow, IsKnownRow, IsState, IsValid, IsLooselyValid, Both, has_health}
-use Rattle.sim_base.specs.Changes.{new_row, with_new, created}
-use Rattle.sim_base.specs.Turn.{first_state}
+use Rattle.{sim_base.specs.Limits.IsFirst, sim_base.specs.Limits.IsRawFrom, std.proofs.Common.IfSome, std.proofs.Common.length-append}
+use Rattle.std.proofs.lemmas.{List.get_or-append_right, List.get_or_append_left, List.Elements.All-push, List.Folds.list_any-append, Option.slice_get-get_or}
+use Rattle.sim_laws.proofs.Common.{Both, cases_lt, created, First, first_state, has_health, id_of, inl, inr, ints, IsInside, IsKnownRow, IsLooselyValid}
+use Rattle.sim_laws.proofs.Common.{IsSetup, IsState, IsStrictlyIncreasing, IsTemplate, IsValid, IsValidAim, IsValidMotion, IsValidRow, map-append, new_row}
+use Rattle.sim_laws.proofs.Common.{MatchOption, Some, None, fold, All, Option, option_map, refl, Aim, All-head, All-map, All-tail, All-weaker, ap, arith, Arms}
+use Rattle.sim_laws.proofs.Common.{or_left, Point, Row, Setup, State, Still, subst, sym, Template, template_of, with_new, ⊎_elim, ◌∙◌}
+use Rattle.sim_laws.proofs.Common.{◌≡◌, ℕ, ◌+◌, ◌-◌, ◌<◌, ◌≤◌, true, false, ◌≢◌, List, [], ◌∷◌, ◌++◌, map, length, get_or, ℤ, pos, ◌≤ℤ◌, IsTrue, slice_get}
 
 -- what is said of two parts may be weakened
 pub Both-weaker : {X Y : Type 0} (P Q : X → Y → Type 0) → ((x : X) (y : Y) → P x y → Q x y) → (a : Option X) (b : Option Y) → Both a b P → Both a b Q
@@ -39,7 +23,8 @@ row_is_loose setup rows row t h =
       owner = h.owner;
       motion = h.motion;
       attack = h.attack;
-      health = Both-weaker (λ (x most : ℤ). (pos 1 ≤ℤ x) × (x ≤ℤ most)) (λ (x most : ℤ). (pos 0 ≤ℤ x) × (x ≤ℤ most)) (λ x most p. (omega (arith, ints, p.0), p.1)) row.health t.health h.health;
+      health = Both-weaker (λ (x most : ℤ). (pos 1 ≤ℤ x) × (x ≤ℤ most)) (λ (x most : ℤ). (pos 0 ≤ℤ x) × (x ≤ℤ most))
+          (λ x most p. (omega (arith, ints, p.0), p.1)) row.health t.health h.health;
     }
 
 known_is_loose : (setup : Setup) (rows : List Row) (row : Row) → IsKnownRow 1 setup rows row → IsKnownRow 0 setup rows row
@@ -86,7 +71,8 @@ has_health-append rows more id h = list_any-append _ rows more ∙ or_left (has_
 aim_stays : (rows more : List Row) (id : ℕ) (aim : Aim) (arms : Arms) → IsValidAim rows id aim arms → IsValidAim (rows ++ more) id aim arms
 aim_stays rows more id aim arms h =
     record {
-      target = ⊎_elim (λ (none : aim.target ≡ 0). inl none) (λ (other : (aim.target ≢ id) × IsTrue (has_health rows aim.target)). inr (other.0, has_health-append rows more aim.target other.1)) h.target;
+      target = ⊎_elim (λ (none : aim.target ≡ 0). inl none) (λ (other : (aim.target ≢ id) × IsTrue (has_health rows aim.target)). inr
+          (other.0, has_health-append rows more aim.target other.1)) h.target;
       cooldown = h.cooldown;
     }
 
@@ -148,12 +134,15 @@ with_new_is_valid least setup state number p owner t v may known is_template few
           let Q : List ℕ → Type 0 = IsStrictlyIncreasing in
           subst Q (sym (map-append id_of state.rows (row ∷ [])))
           (IsStrictlyIncreasing-push (map id_of state.rows) state.next v.ascending
-          (All-map (λ (n : ℕ). n < state.next) id_of state.rows (All-weaker (λ (r : Row). (2 ≤ r.id) × (r.id < state.next)) (λ (r : Row). r.id < state.next) (λ r h. h.1) state.rows v.ids)));
+          (All-map (λ (n : ℕ). n < state.next) id_of state.rows (All-weaker (λ (r : Row). (2 ≤ r.id) × (r.id < state.next)) (λ (r : Row). r.id < state.next)
+          (λ r h. h.1) state.rows v.ids)));
       ids = All-push (λ (r : Row). (2 ≤ r.id) × (r.id < state.next + 1)) state.rows row
-          (All-weaker (λ (r : Row). (2 ≤ r.id) × (r.id < state.next)) (λ (r : Row). (2 ≤ r.id) × (r.id < state.next + 1)) (λ r h. (h.0, omega (arith, h.1))) state.rows v.ids)
+          (All-weaker (λ (r : Row). (2 ≤ r.id) × (r.id < state.next)) (λ (r : Row). (2 ≤ r.id) × (r.id < state.next + 1)) (λ r h. (h.0, omega (arith, h.1)))
+          state.rows v.ids)
           (v.next.0, omega arith);
       rows = All-push (IsKnownRow least setup (state.rows ++ row ∷ [])) state.rows row
-          (All-weaker (IsKnownRow least setup state.rows) (IsKnownRow least setup (state.rows ++ row ∷ [])) (known_stays least setup state.rows (row ∷ [])) state.rows v.rows)
+          (All-weaker (IsKnownRow least setup state.rows) (IsKnownRow least setup (state.rows ++ row ∷ [])) (known_stays least setup state.rows (row ∷ []))
+          state.rows v.rows)
           (subst P (sym known) (new_row_is_valid least setup (state.rows ++ row ∷ []) state.next number p owner t may is_template));
     }
 
@@ -168,14 +157,16 @@ record IsMade (setup : Setup) (n : ℕ) (state : State) : Type 0 where
   next : state.next ≡ n + 2
   rows : length state.rows ≡ n
 
-made_more : (setup : Setup) → IsSetup setup → (n : ℕ) → n < 4096 → (state : State) → IsMade setup n state → (first : First) → IsFirst setup first → IsMade setup (n + 1) (make setup state first)
+made_more : (setup : Setup) → IsSetup setup → (n : ℕ) → n < 4096 → (state : State) → IsMade setup n state → (first : First) → IsFirst setup first
+    → IsMade setup (n + 1) (make setup state first)
 made_more setup limits n few state made first is_first =
     let t = get_or setup.templates first.template nobody in
     let known : slice_get setup.templates first.template ≡ Some t = slice_get-get_or setup.templates first.template nobody is_first.template in
     let P : Option Template → Type 0 = λ o. IsMade setup (n + 1) (with_new first.template first.at first.owner o state) in
     subst P (sym known) (record {
       valid = with_new_is_valid 1 setup state first.template first.at first.owner t made.valid
-          (record { low = omega arith; inside = is_first.at; known_owner = is_first.owner }) known (limits.templates first.template nobody is_first.template) (omega (arith, made.rows)) (omega (arith, made.next));
+          (record { low = omega arith; inside = is_first.at; known_owner = is_first.owner }) known (limits.templates first.template nobody is_first.template)
+          (omega (arith, made.rows)) (omega (arith, made.next));
       next = omega (arith, made.next);
       rows = length-append state.rows (new_row state.next first.template first.at first.owner t ∷ []) ∙ ap (λ (k : ℕ). k + 1) made.rows;
     })
@@ -183,7 +174,8 @@ made_more setup limits n few state made first is_first =
     nobody : Template
     nobody = record { name = []; health = None; resist = record { hack = 0; pierce = 0; crush = 0 }; speed = None; obstruct = None; arms = None; train = None }
 
-all_made : (setup : Setup) → IsSetup setup → (firsts : List First) → All (IsFirst setup) firsts → (n : ℕ) → n + length firsts ≤ 4096 → (state : State) → IsMade setup n state →
+all_made : (setup : Setup) → IsSetup setup → (firsts : List First) → All (IsFirst setup) firsts → (n : ℕ) → n + length firsts ≤ 4096 → (state : State)
+    → IsMade setup n state →
     IsValid setup (fold (make setup) state firsts)
 all_made setup limits [] good n few state made = made.valid
 all_made setup limits (first ∷ firsts) good n few state made =

@@ -1,13 +1,7 @@
 -- A way depends on the cells of the ground alone.
-use Rattle.std.proofs.Common.{◌≡◌, ℕ, zero, suc, ◌+◌, ◌<◌, Bool, true, false, ◌||◌, List, ◌∷◌, map, refl, ap, ap₂, arith}
-use Rattle.std.specs.List.{range_with_len}
-use Rattle.sim_base.specs.declared.place.Cell.{Cell}
-use Rattle.sim_base.specs.Places.{Size, cell_of, same_cell}
-use Rattle.sim_base.specs.Steps.{Field, IsOnGround, is_free}
-use Rattle.sim_base.specs.Tables.{Table, table_of}
-use Rattle.sim_base.specs.Costs.{steps_by}
-use Rattle.sim_base.specs.WayOf.{way_between, way_over, way_of}
-use Rattle.sim_laws.specs.WayLaws.{WayOfByGround}
+use Rattle.{sim_base.specs.Costs.steps_by, sim_base.specs.WayOf.way_over, sim_laws.specs.WayLaws.WayOfByGround}
+use Rattle.sim_laws.proofs.Common.{IsOnGround, range_with_len, same_cell, Size, Table, table_of, way_between, way_of}
+use Rattle.sim_laws.proofs.Common.{◌≡◌, ℕ, zero, suc, ◌+◌, ◌<◌, Bool, true, false, ◌||◌, List, ◌∷◌, map, refl, ap, ap₂, arith, Cell, cell_of, Field, is_free}
 
 same_map : {X : Type 0} (f g : ℕ → X) (a n : ℕ) → ((j : ℕ) → j < a + n → f j ≡ g j) → map f (range_with_len a n) ≡ map g (range_with_len a n)
 same_map f g a zero h = refl
@@ -15,7 +9,8 @@ same_map {X} f g a (suc n) h = ap₂ {C = List X} (λ x xs. x ∷ xs) (h a (omeg
 
 same_table_of : {X : Type 0} (size : Size) (f g : Cell → X) → ((c : Cell) → IsOnGround size c → f c ≡ g c) → table_of size f ≡ table_of size g
 same_table_of {X = X} size f g h =
-    same_map (row f) (row g) 0 size.depth (λ z north. same_map (at f z) (at g z) 0 size.width (λ x east. h (record { x = x; z = z }) (record { east = omega arith; north = omega arith })))
+    same_map (row f) (row g) 0 size.depth
+    (λ z north. same_map (at f z) (at g z) 0 size.width (λ x east. h (record { x = x; z = z }) (record { east = omega arith; north = omega arith })))
   where
     at : (Cell → X) → ℕ → ℕ → X
     at k z x = k (record { x = x; z = z })

@@ -1,19 +1,11 @@
 -- The points of a way lie on the ground, and are at most 64.
-use Rattle.std.proofs.Common.{◌≡◌, ℕ, ◌+◌, ◌*◌, ◌/◌, ◌<◌, ◌≤◌, Bool, true, false, cond, leb, ltb, List, [], ◌∷◌, reverse, length, ℤ, pos, int_le, int_lt, unsigned_abs, sym, subst, arith, All, MatchBool, le-leb, lt-ltb, length-take}
-use Rattle.std.proofs.lemmas.Bool.{and_parts, and_from, cond_both}
-use Rattle.std.proofs.lemmas.Nat.{div_below}
-use Rattle.std.proofs.lemmas.List.Elements.{All-nil, All-cons, All-map, All-take, All-weaker}
-use Rattle.std.proofs.lemmas.List.Sorted.{All-permutation, IsPermutation-reverse}
-use Rattle.sim_base.specs.declared.place.Cell.{Cell}
-use Rattle.sim_base.specs.declared.place.Point.{Point}
-use Rattle.sim_base.specs.Places.{Size, is_within, is_inside, cell_of, centre_of, same_cell}
-use Rattle.sim_base.specs.Steps.{Field, IsOnGround}
-use Rattle.sim_base.specs.Ways.{Way, IsFound, IsTrail, first_points, waypoints}
-use Rattle.sim_base.specs.WayOf.{way_between, way_of}
-use Rattle.sim_laws.specs.WayLaws.{InsideIsOnGround, WayOfStaysInside, WayOfIsShort}
-use Rattle.sim_laws.proofs.Neighbours.{below}
-use Rattle.sim_laws.proofs.Trips.{walk-on}
-use Rattle.sim_laws.proofs.WayIs.{way_of-is_way}
+use Rattle.{sim_base.specs.Ways.Way, sim_laws.specs.WayLaws.InsideIsOnGround, sim_laws.specs.WayLaws.WayOfIsShort, sim_laws.specs.WayLaws.WayOfStaysInside}
+use Rattle.std.proofs.Common.{length-take}
+use Rattle.std.proofs.lemmas.{List.Elements.All-take, List.Sorted.All-permutation, List.Sorted.IsPermutation-reverse, Nat.div_below}
+use Rattle.sim_laws.proofs.{Common.subst, Common.sym, Common.way_between, Common.way_of, Common.waypoints, Neighbours.below, Trips.walk-on, WayIs.way_of-is_way}
+use Rattle.sim_laws.proofs.Common.{cond_both, Field, first_points, is_inside, is_within, IsFound, IsOnGround, IsTrail, le-leb, lt-ltb, Point, same_cell, Size}
+use Rattle.sim_laws.proofs.Common.{int_lt, int_le, MatchBool, All, All-cons, All-map, All-nil, All-weaker, and_from, and_parts, arith, Cell, cell_of, centre_of}
+use Rattle.sim_laws.proofs.Common.{◌≡◌, ℕ, ◌+◌, ◌*◌, ◌/◌, ◌<◌, ◌≤◌, Bool, true, false, cond, ltb, leb, List, [], ◌∷◌, reverse, length, ℤ, pos, unsigned_abs}
 
 within-below : (raw : ℤ) (cells : ℕ) → is_within raw cells ≡ true → unsigned_abs raw / 65536 < cells
 within-below raw cells h =
@@ -44,7 +36,8 @@ module _ (field : Field) (start : Cell) (start_on : IsOnGround field.size start)
 abbrev Inside : Size → Point → Type 0
 Inside size p = is_inside size p ≡ true
 
-waypoints-inside : (size : Size) (goal : Point) (cells : List Cell) → is_inside size goal ≡ true → All (IsOnGround size) cells → All (Inside size) (waypoints goal cells)
+waypoints-inside : (size : Size) (goal : Point) (cells : List Cell) → is_inside size goal ≡ true → All (IsOnGround size) cells
+    → All (Inside size) (waypoints goal cells)
 waypoints-inside size goal cells inside on =
     All-map (Inside size) (λ (c : Cell). cond (same_cell c (cell_of goal)) goal (centre_of c)) cells (All-weaker (IsOnGround size) at cell-inside cells on)
   where
@@ -54,7 +47,8 @@ waypoints-inside size goal cells inside on =
     cell-inside : (c : Cell) → IsOnGround size c → at c
     cell-inside c h = cond_both (same_cell c (cell_of goal)) goal (centre_of c) (Inside size) (λ e. inside) (λ e. centre-inside size c h)
 
-found-inside : (field : Field) (from goal : Point) (way : Way) → IsOnGround field.size (cell_of from) → is_inside field.size goal ≡ true → IsFound field from goal way → All (Inside field.size) way.points
+found-inside : (field : Field) (from goal : Point) (way : Way) → IsOnGround field.size (cell_of from) → is_inside field.size goal ≡ true
+    → IsFound field from goal way → All (Inside field.size) way.points
 found-inside field from goal way on inside h =
     let back = trail-on field (cell_of from) on h.last h.trail h.is_trail in
     let cells = All-permutation (IsOnGround field.size) h.trail (reverse h.trail) (IsPermutation-reverse h.trail) back in

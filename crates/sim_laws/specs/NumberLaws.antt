@@ -1,6 +1,6 @@
 -- What the laws of numbers say.
 use Rattle.std.specs.Prelude.{◌≡◌, ℕ}
-use Rattle.sim_base.specs.Numbers.{root, IsRoot}
+use Rattle.sim_base.specs.Numbers.{IsRoot, root}
 
 -- the square of the root is within the number, and no greater number's is
 abbrev pub RootIsGreatest : Type 0

@@ -1,9 +1,5 @@
 -- What the laws of states say.
-use Rattle.sim_base.specs.declared.setup.Setup.{Setup}
-use Rattle.sim_base.specs.declared.state.State.{State}
-use Rattle.sim_base.specs.Limits.{IsSetup}
-use Rattle.sim_base.specs.Validity.{IsValid, IsLooselyValid}
-use Rattle.sim_base.specs.Turn.{first_state}
+use Rattle.sim_base.specs.{Limits.IsSetup, Turn.first_state, Validity.IsLooselyValid, Validity.IsValid, declared.setup.Setup.Setup, declared.state.State.State}
 
 -- what is valid between two turns is valid inside a turn
 abbrev pub ValidIsLooselyValid : Type 0

@@ -1,17 +1,14 @@
 -- What the laws of turns and pasts say.
-use Rattle.std.specs.Prelude.{◌≡◌, ℕ, ◌+◌, ◌<◌, ◌≤◌, ℤ, List, All}
-use Rattle.sim_base.specs.declared.command.PlayerCommand.{PlayerCommand}
-use Rattle.sim_base.specs.declared.setup.Setup.{Setup}
-use Rattle.sim_base.specs.declared.state.State.{State}
-use Rattle.sim_base.specs.Limits.{IsSetup}
-use Rattle.sim_base.specs.Validity.{IsValid}
-use Rattle.sim_base.specs.Turn.{turn, Item, Turn, Bend, Past, bent, from, after, turns_in, own_turns}
-use Rattle.sim_laws.specs.CommandLaws.{IsOrderOf}
+use Rattle.{sim_base.specs.Limits.IsSetup, sim_laws.specs.CommandLaws.IsOrderOf}
+use Rattle.std.specs.Prelude.{◌≡◌, ℕ, ◌+◌, ◌<◌, ◌≤◌, List, ℤ, All}
+use Rattle.sim_base.specs.{Validity.IsValid, declared.command.PlayerCommand.PlayerCommand, declared.setup.Setup.Setup, declared.state.State.State}
+use Rattle.sim_base.specs.Turn.{after, Bend, bent, from, Item, own_turns, Past, Turn, turn, turns_in}
 
 -- a turn below the last one, with commands of players of the match, keeps a state valid
 abbrev pub TurnKeepsValid : Type 0
 TurnKeepsValid =
-    (setup : Setup) (state : State) (orders : List PlayerCommand) → IsSetup setup → All (IsOrderOf setup) orders → IsValid setup state → state.turn < setup.turns → IsValid setup (turn setup state orders)
+    (setup : Setup) (state : State) (orders : List PlayerCommand) → IsSetup setup → All (IsOrderOf setup) orders → IsValid setup state
+    → state.turn < setup.turns → IsValid setup (turn setup state orders)
 
 -- a turn is counted
 abbrev pub TurnIsCounted : Type 0
@@ -37,7 +34,8 @@ IsPastOf setup past = All (IsItemOf setup) past
 -- a past that does not lead beyond the last turn keeps a state valid
 abbrev pub FromKeepsValid : Type 0
 FromKeepsValid =
-    (setup : Setup) (state : State) (past : Past) → IsSetup setup → IsPastOf setup past → IsValid setup state → state.turn + turns_in past ≤ setup.turns → IsValid setup (from setup state past)
+    (setup : Setup) (state : State) (past : Past) → IsSetup setup → IsPastOf setup past → IsValid setup state → state.turn + turns_in past ≤ setup.turns
+    → IsValid setup (from setup state past)
 
 -- its turns are counted
 abbrev pub FromCountsTurns : Type 0

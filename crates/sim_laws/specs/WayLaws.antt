@@ -1,12 +1,7 @@
 -- What the laws of ways say.
-use Rattle.std.specs.Prelude.{◌≡◌, ◌≤◌, Bool, IsTrue, length, All}
-use Rattle.sim_base.specs.declared.place.Cell.{Cell}
-use Rattle.sim_base.specs.declared.place.Point.{Point}
-use Rattle.sim_base.specs.Places.{Size, is_inside, cell_of}
-use Rattle.sim_base.specs.Steps.{Field, IsOnGround}
-use Rattle.sim_base.specs.Limits.{waypoint_limit}
-use Rattle.sim_base.specs.Ways.{Way, IsWay}
-use Rattle.sim_base.specs.WayOf.{way_of}
+use Rattle.std.specs.Prelude.{◌≡◌, ◌≤◌, Bool, length, IsTrue, All}
+use Rattle.sim_base.specs.{Limits.waypoint_limit, WayOf.way_of, Ways.IsWay, Ways.Way}
+use Rattle.sim_base.specs.{Places.cell_of, Places.is_inside, Places.Size, Steps.Field, Steps.IsOnGround, declared.place.Cell.Cell, declared.place.Point.Point}
 
 -- two ways of one question are equal
 abbrev pub WayIsUnique : Type 0
@@ -26,7 +21,8 @@ InsideIsOnGround = (size : Size) (p : Point) → IsTrue (is_inside size p) → I
 
 -- a way to a point of the ground stays on the ground
 abbrev pub WayOfStaysInside : Type 0
-WayOfStaysInside = (field : Field) (from goal : Point) → IsOnGround field.size (cell_of from) → IsTrue (is_inside field.size goal) → All (λ p. IsTrue (is_inside field.size p)) (way_of field from goal).points
+WayOfStaysInside = (field : Field) (from goal : Point) → IsOnGround field.size (cell_of from) → IsTrue (is_inside field.size goal)
+    → All (λ p. IsTrue (is_inside field.size p)) (way_of field from goal).points
 
 -- a way has no more points than it may have
 abbrev pub WayOfIsShort : Type 0

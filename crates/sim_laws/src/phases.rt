@@ -1,9 +1,7 @@
 //! Laws of the phases of a turn.
 
-ghost use Rattle.sim_base.specs.Aim.{aimed};
-ghost use Rattle.sim_base.specs.Move.{moved};
-ghost use Rattle.sim_base.specs.Hit.{hit};
-ghost use Rattle.sim_laws.specs.PhaseLaws.{KeepsLoose, KeepsValid, KeepsTurn, GoneIsValid, GoneKeepsTurn};
+ghost use Rattle.sim_base.specs.{Aim.aimed, Hit.hit, Move.moved};
+ghost use Rattle.sim_laws.specs.PhaseLaws.{GoneIsValid, GoneKeepsTurn, KeepsLoose, KeepsTurn, KeepsValid};
 
 /// The phase in which fighters choose their targets keeps a state valid or loosely valid.
 pub fn aiming_keeps()

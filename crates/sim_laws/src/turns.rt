@@ -1,6 +1,7 @@
 //! Laws of turns, bends and pasts.
 
-ghost use Rattle.sim_laws.specs.TurnLaws.{TurnKeepsValid, TurnIsCounted, BendKeepsValid, BendKeepsTurn, FromKeepsValid, FromCountsTurns, AfterIsValid, AfterCountsTurns, OwnTurnsAreOfPlayers, OwnTurnsAreSoMany};
+ghost use Rattle.sim_laws.specs.TurnLaws.{AfterCountsTurns, AfterIsValid, BendKeepsTurn, BendKeepsValid, FromCountsTurns, FromKeepsValid, OwnTurnsAreOfPlayers};
+ghost use Rattle.sim_laws.specs.TurnLaws.{OwnTurnsAreSoMany, TurnIsCounted, TurnKeepsValid};
 
 /// A turn with commands of players of the match keeps a state valid that is not at the last turn, and is counted.
 pub fn a_turn_keeps_a_state_valid()

@@ -1,7 +1,7 @@
 //! Laws of ways. The definition, by least costs of walks, has exactly one way for each question, and the plain slow
 //! function answers that one. So what is shown of either holds of both.
 
-ghost use Rattle.sim_laws.specs.WayLaws.{WayIsUnique, WayOfIsWay, WayIsWayOf, InsideIsOnGround, WayOfStaysInside, WayOfIsShort, WayOfByGround};
+ghost use Rattle.sim_laws.specs.WayLaws.{InsideIsOnGround, WayIsUnique, WayIsWayOf, WayOfByGround, WayOfIsShort, WayOfIsWay, WayOfStaysInside};
 
 /// Two ways of one question are equal.
 pub fn one_way()

@@ -1,15 +1,13 @@
 -- A text has two digits for each byte.
-use Rattle.std.proofs.Common.{◌≡◌, ℕ, ◌*◌, Bool, true, false, List, length, Some, None, Result, Ok, Err, refl, subst, if◌then◌else◌}
-use Rattle.std.specs.Result.{result_ok}
-use Rattle.hex.specs.Hex.{decode_of}
-use Rattle.hex.specs.declared.error.FromHexError.{FromHexError}
-use Rattle.hex.proofs.HexLemmas.{decode_of-ok}
-use Rattle.sim_lists.specs.Hexadecimal.{is_hex, hex_of}
+use Rattle.{hex.proofs.HexLemmas.decode_of-ok, hex.specs.Hex.decode_of, hex.specs.declared.error.FromHexError.FromHexError, std.specs.Result.result_ok}
+use Rattle.std.proofs.Common.{◌≡◌, ℕ, ◌*◌, Bool, true, false, List, length, if◌then◌else◌, Some, None, Ok, Err, Result, refl, subst}
+use Rattle.sim_lists.specs.Hexadecimal.{hex_of, is_hex}
 
 pub hex_length : (text bytes : List ℕ) → hex_of text ≡ Some bytes → length text ≡ 2 * length bytes
 hex_length text bytes = by (is_hex text) (decode_of text) refl
   where
     by : (b : Bool) (r : Result (List ℕ) FromHexError) → decode_of text ≡ r → (if b then result_ok r else None) ≡ Some bytes → length text ≡ 2 * length bytes
-    by true (Ok found) decoded e = let same : found ≡ bytes = cc in subst (λ (l : List ℕ). length text ≡ 2 * length l) same ((decode_of-ok text found decoded).2)
+    by true (Ok found) decoded e = let same : found ≡ bytes = cc in subst (λ (l : List ℕ). length text ≡ 2 * length l) same
+        ((decode_of-ok text found decoded).2)
     by true (Err fault) decoded e = absurd cc
     by false r decoded e = absurd cc

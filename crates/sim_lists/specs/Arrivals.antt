@@ -1,19 +1,11 @@
 -- Arrivals as a schedule spells them: a client, a word, and what follows it.
-use Rattle.std.specs.Prelude.{ℕ, ◌-◌, ◌^◌, List, [], ◌∷◌, codes, Option, Some, None, option_map, option_and_then, if◌then◌else◌}
-use Rattle.std.specs.Str.{bytes_eq}
-use Rattle.serde_json.specs.Data.{Data}
-use Rattle.serde_json.specs.Find.{as_str}
-use Rattle.sim_json.specs.Values.{list_of, natural_in, two, front_two}
-use Rattle.sim_json.specs.Records.{next_or}
-use Rattle.sim_json.specs.Commands.{command_of, three}
-use Rattle.sim_plain.specs.declared.message.UpOf.{UpOf}
-use Rattle.sim_plain.specs.declared.message.UpOf.TheVariants.{Join, Command, Done, Report, State}
-use Rattle.sim_plain.specs.Messages as plain
-use Rattle.sim_wire.specs.Heard.{raw}
-use Rattle.sim_lists.specs.declared.schedule.Arrival.{Arrival}
-use Rattle.sim_lists.specs.declared.schedule.Said.{Said}
+use Rattle.{serde_json.specs.Data.Data, serde_json.specs.Find.as_str, sim_wire.specs.Heard.raw, std.specs.Str.bytes_eq}
+use Rattle.std.specs.Prelude.{ℕ, ◌-◌, ◌^◌, List, [], ◌∷◌, if◌then◌else◌, Some, None, codes, Option, option_map, option_and_then}
+use Rattle.sim_json.specs.{Commands.command_of, Commands.three, Records.next_or, Values.front_two, Values.list_of, Values.natural_in, Values.two}
+use Rattle.sim_lists.specs.{Hexadecimal.digest_of, Hexadecimal.raw_of, Hexadecimal.state_of, declared.schedule.Arrival.Arrival, declared.schedule.Said.Said}
+use Rattle.sim_plain.specs.declared.message.UpOf.{UpOf, TheVariants.Command, TheVariants.Done, TheVariants.Join, TheVariants.Report, TheVariants.State}
 use Rattle.sim_lists.specs.declared.schedule.Said.TheVariants as said
-use Rattle.sim_lists.specs.Hexadecimal.{digest_of, state_of, raw_of}
+use Rattle.sim_plain.specs.Messages as plain
 
 -- a turn, be it one of the match or not
 abbrev pub turn_in : Data → Option ℕ
@@ -36,12 +28,14 @@ done_from other = None
 
 -- to report, the turn and a digest
 abbrev pub report_from : List Data → Option (UpOf (List ℕ))
-report_from rest = next_or (two rest) None (λ p. next_or (turn_in p.0) None (λ turn. next_or (option_and_then digest_of (as_str p.1)) None (λ digest. Some (Report turn digest))))
+report_from rest = next_or (two rest) None
+    (λ p. next_or (turn_in p.0) None (λ turn. next_or (option_and_then digest_of (as_str p.1)) None (λ digest. Some (Report turn digest))))
 
 -- to hand a state on, the client who waits for it, its turn and its bytes
 abbrev pub state_from : List Data → Option (UpOf (List ℕ))
 state_from rest =
-    next_or (three rest) None (λ p. next_or (natural_in 0 255 p.0) None (λ client. next_or (turn_in p.1) None (λ turn. next_or (option_and_then state_of (as_str p.2)) None (λ bytes.
+    next_or (three rest) None
+    (λ p. next_or (natural_in 0 255 p.0) None (λ client. next_or (turn_in p.1) None (λ turn. next_or (option_and_then state_of (as_str p.2)) None (λ bytes.
     Some (State client turn bytes)))))
 
 -- what a client says, by its word

@@ -1,15 +1,9 @@
 -- What of a list is refused before memory is taken for its items: the object, its numbers, too many items, and a first item that
 -- asks for no memory. The number is that of the refusal.
-use Rattle.std.specs.Prelude.{ℕ, Bool, List, [], ◌∷◌, codes, Option, Some, None, option_and_then, is_some, if◌then◌else◌}
+use Rattle.std.specs.Prelude.{ℕ, Bool, List, [], ◌∷◌, is_some, if◌then◌else◌, Some, None, codes, Option, option_and_then}
 use Rattle.serde_json.specs.Data.{Data}
-use Rattle.sim_json.specs.Values.{list_at, natural_at}
-use Rattle.sim_json.specs.Keys.{other_key}
-use Rattle.sim_json.specs.Records.{next_or}
-use Rattle.sim_lists.specs.Arrivals.{arrival_of}
-use Rattle.sim_lists.specs.Schedules.{keys, few}
-use Rattle.sim_lists.specs.StepLists.{step_keys}
-use Rattle.sim_lists.specs.Steps.{step_of}
-use Rattle.sim_lists.specs.Taking.{arrival_takes, step_takes}
+use Rattle.sim_json.specs.{Keys.other_key, Records.next_or, Values.list_at, Values.natural_at}
+use Rattle.sim_lists.specs.{Arrivals.arrival_of, Schedules.few, Schedules.keys, StepLists.step_keys, Steps.step_of, Taking.arrival_takes, Taking.step_takes}
 
 -- of items, by what one is read as and whether it asks for memory
 abbrev pub early_items : {X : Type 0} → (Data → Option X) → (Data → Bool) → List Data → Option ℕ

@@ -1,10 +1,6 @@
 -- Texts of hexadecimal digits as bytes.
-use Rattle.std.specs.Prelude.{ℕ, ◌*◌, ◌%◌, ◌==◌, ◌&&◌, nat_le, Bool, List, length, Option, None, if◌then◌else◌}
-use Rattle.std.specs.List.{list_all}
-use Rattle.std.specs.Result.{result_ok}
-use Rattle.hex.specs.Hex.{decode_of}
-use Rattle.sim_bytes.specs.Hex.{is_digit}
-use Rattle.sim_wire.specs.Fits.{state_limit}
+use Rattle.{hex.specs.Hex.decode_of, sim_bytes.specs.Hex.is_digit, sim_wire.specs.Fits.state_limit, std.specs.List.list_all, std.specs.Result.result_ok}
+use Rattle.std.specs.Prelude.{ℕ, ◌*◌, ◌%◌, Bool, ◌&&◌, List, length, if◌then◌else◌, nat_le, ◌==◌, None, Option}
 
 -- pairs of lower-case digits
 abbrev pub is_hex : List ℕ → Bool

@@ -1,13 +1,8 @@
 -- The schedule that bytes spell, or the number of what is refused.
-use Rattle.std.specs.Prelude.{ℕ, ◌+◌, ◌≤◌, nat_le, All, List, [], ◌∷◌, length, codes, Option, Some, None, option_and_then, Result, Ok, Err, if◌then◌else◌}
-use Rattle.serde_json.specs.Data.{Data}
-use Rattle.sim_base.specs.Limits.{IsFrom}
-use Rattle.sim_json.specs.Values.{value_of, list_at, natural_at}
-use Rattle.sim_json.specs.Keys.{other_key}
-use Rattle.sim_json.specs.Records.{next_or, numbered}
-use Rattle.sim_lists.specs.declared.schedule.Arrival.{Arrival}
-use Rattle.sim_lists.specs.declared.schedule.Schedule.{Schedule}
-use Rattle.sim_lists.specs.Arrivals.{arrival_of}
+use Rattle.{serde_json.specs.Data.Data, sim_base.specs.Limits.IsFrom}
+use Rattle.std.specs.Prelude.{ℕ, ◌+◌, ◌≤◌, List, [], ◌∷◌, length, if◌then◌else◌, nat_le, Some, None, Ok, Err, codes, All, Option, Result, option_and_then}
+use Rattle.sim_json.specs.{Keys.other_key, Records.next_or, Records.numbered, Values.list_at, Values.natural_at, Values.value_of}
+use Rattle.sim_lists.specs.{Arrivals.arrival_of, declared.schedule.Arrival.Arrival, declared.schedule.Schedule.Schedule}
 
 -- the five keys
 abbrev pub keys : List (List ℕ)

@@ -1,15 +1,9 @@
 -- The list of steps that bytes spell, or the number of what is refused. Its clients are players of a match.
-use Rattle.std.specs.Prelude.{ℕ, All, List, [], ◌∷◌, codes, option_and_then, Result, Ok, Err, if◌then◌else◌}
-use Rattle.serde_json.specs.Data.{Data}
-use Rattle.sim_base.specs.declared.step.Step.{Step}
-use Rattle.sim_base.specs.declared.step.Step.TheVariants.{Order, Up, Down, Play, Join, Cut, Bend}
-use Rattle.sim_base.specs.Limits.{IsFrom, HasFewIds}
-use Rattle.sim_json.specs.Values.{value_of, list_at, natural_at}
-use Rattle.sim_json.specs.Keys.{other_key}
-use Rattle.sim_json.specs.Records.{next_or, numbered}
-use Rattle.sim_lists.specs.declared.step_list.StepList.{StepList}
-use Rattle.sim_lists.specs.Schedules.{few, counted}
-use Rattle.sim_lists.specs.Steps.{step_of}
+use Rattle.{serde_json.specs.Data.Data, sim_base.specs.Limits.HasFewIds, sim_base.specs.Limits.IsFrom, sim_base.specs.declared.step.Step.Step}
+use Rattle.std.specs.Prelude.{ℕ, List, [], ◌∷◌, if◌then◌else◌, Ok, Err, codes, All, Result, option_and_then}
+use Rattle.sim_base.specs.declared.step.Step.TheVariants.{Bend, Cut, Down, Join, Order, Play, Up}
+use Rattle.sim_json.specs.{Keys.other_key, Records.next_or, Records.numbered, Values.list_at, Values.natural_at, Values.value_of}
+use Rattle.sim_lists.specs.{Schedules.counted, Schedules.few, Steps.step_of, declared.step_list.StepList.StepList}
 
 -- the two keys
 abbrev pub step_keys : List (List ℕ)

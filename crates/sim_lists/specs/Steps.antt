@@ -1,13 +1,8 @@
 -- The steps of a session as a list spells them: a word, a client, and what follows them.
-use Rattle.std.specs.Prelude.{ℕ, List, [], codes, Option, Some, None, option_map, option_and_then, if◌then◌else◌}
-use Rattle.std.specs.Str.{bytes_eq}
-use Rattle.serde_json.specs.Data.{Data}
-use Rattle.serde_json.specs.Find.{as_str}
-use Rattle.sim_base.specs.declared.step.Step.{Step}
-use Rattle.sim_base.specs.declared.step.Step.TheVariants.{Order, Up, Down, Play, Join, Cut, Bend}
-use Rattle.sim_json.specs.Values.{list_of, natural_in, fixed, two, front_two}
-use Rattle.sim_json.specs.Records.{next_or}
-use Rattle.sim_json.specs.Commands.{id_in, command_of}
+use Rattle.{serde_json.specs.Data.Data, serde_json.specs.Find.as_str, sim_base.specs.declared.step.Step.Step, std.specs.Str.bytes_eq}
+use Rattle.std.specs.Prelude.{ℕ, List, [], if◌then◌else◌, Some, None, codes, Option, option_map, option_and_then}
+use Rattle.sim_base.specs.declared.step.Step.TheVariants.{Bend, Cut, Down, Join, Order, Play, Up}
+use Rattle.sim_json.specs.{Commands.command_of, Commands.id_in, Records.next_or, Values.fixed, Values.front_two, Values.list_of, Values.natural_in, Values.two}
 
 -- a step that nothing follows
 abbrev pub alone : Step → List Data → Option Step
@@ -16,7 +11,8 @@ alone step other = None
 
 -- to bend a health, what follows is the entity and its new health
 abbrev pub bend_from : ℕ → List Data → Option Step
-bend_from client rest = next_or (two rest) None (λ p. next_or (id_in p.0) None (λ entity. next_or (fixed p.1) None (λ health. Some (Bend client entity health))))
+bend_from client rest = next_or (two rest) None
+    (λ p. next_or (id_in p.0) None (λ entity. next_or (fixed p.1) None (λ health. Some (Bend client entity health))))
 
 -- a step that gives no command, by its word
 abbrev pub plain_step_by : List ℕ → ℕ → List Data → Option Step

@@ -1,15 +1,9 @@
 -- Which items ask for memory while they are read: a digest, a state or raw bytes where their text is one of digits, and a command
 -- that names entities. Whatever else is wrong with an item is found without memory.
-use Rattle.std.specs.Prelude.{ℕ, ◌==◌, nat_lt, nat_le, Bool, false, List, [], ◌∷◌, length, codes, option_and_then, if◌then◌else◌}
-use Rattle.std.specs.Str.{bytes_eq}
-use Rattle.serde_json.specs.Data.{Data}
-use Rattle.serde_json.specs.Find.{as_str}
-use Rattle.sim_json.specs.Values.{list_of, natural_in, two, front_two}
-use Rattle.sim_json.specs.Records.{next_or}
-use Rattle.sim_json.specs.Commands.{three}
-use Rattle.sim_json.specs.Memory.{command_takes}
-use Rattle.sim_lists.specs.Arrivals.{turn_in}
-use Rattle.sim_lists.specs.Hexadecimal.{is_hex, state_digits}
+use Rattle.{sim_lists.specs.Arrivals.turn_in, sim_lists.specs.Hexadecimal.is_hex, sim_lists.specs.Hexadecimal.state_digits, std.specs.Str.bytes_eq}
+use Rattle.std.specs.Prelude.{ℕ, Bool, false, List, [], ◌∷◌, length, if◌then◌else◌, nat_lt, nat_le, ◌==◌, codes, option_and_then}
+use Rattle.serde_json.specs.{Data.Data, Find.as_str}
+use Rattle.sim_json.specs.{Commands.three, Memory.command_takes, Records.next_or, Values.front_two, Values.list_of, Values.natural_in, Values.two}
 
 -- a text of pairs of digits that is not empty
 abbrev pub hex_takes : List ℕ → Bool
@@ -43,7 +37,8 @@ report_takes rest = next_or (two rest) false (λ p. next_or (turn_in p.0) false 
 
 -- behind a client and a turn stands such a state
 abbrev pub handed_takes : List Data → Bool
-handed_takes rest = next_or (three rest) false (λ p. next_or (natural_in 0 255 p.0) false (λ client. next_or (turn_in p.1) false (λ turn. next_or (as_str p.2) false state_takes)))
+handed_takes rest = next_or (three rest) false
+    (λ p. next_or (natural_in 0 255 p.0) false (λ client. next_or (turn_in p.1) false (λ turn. next_or (as_str p.2) false state_takes)))
 
 -- what a client says, by its word
 abbrev pub up_takes : List ℕ → List Data → Bool
@@ -61,7 +56,8 @@ word_takes word rest = if bytes_eq word (codes "cut") then false else if bytes_e
 
 -- an arrival of one of so many clients
 unfoldable pub arrival_takes : ℕ → Data → Bool
-arrival_takes clients d = next_or (option_and_then front_two (list_of d)) false (λ p. next_or (natural_in 1 clients p.0) false (λ from. next_or (as_str p.1) false (λ word. word_takes word p.2)))
+arrival_takes clients d = next_or (option_and_then front_two (list_of d)) false
+    (λ p. next_or (natural_in 1 clients p.0) false (λ from. next_or (as_str p.1) false (λ word. word_takes word p.2)))
 
 -- behind an order stands a command that asks for memory
 abbrev pub order_takes : List ℕ → List Data → Bool
@@ -69,4 +65,5 @@ order_takes word rest = if bytes_eq word (codes "order") then command_takes rest
 
 -- a step of one of so many players
 unfoldable pub step_takes : ℕ → Data → Bool
-step_takes players d = next_or (option_and_then front_two (list_of d)) false (λ p. next_or (as_str p.0) false (λ word. next_or (natural_in 1 players p.1) false (λ client. order_takes word p.2)))
+step_takes players d = next_or (option_and_then front_two (list_of d)) false
+    (λ p. next_or (as_str p.0) false (λ word. next_or (natural_in 1 players p.1) false (λ client. order_takes word p.2)))

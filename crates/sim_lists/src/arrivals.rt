@@ -1,21 +1,20 @@
 //! One arrival of a schedule. Each reader is handed what follows its word.
 
-ghost use Rattle.std.specs.Prelude.{◌≡◌, false, map, option_map, option_and_then, IfOk, IsOk, IfSome};
-ghost use Rattle.serde_json.specs.View.{view};
-ghost use Rattle.serde_json.specs.Find.{as_str};
-ghost use Rattle.sim_json.specs.Records.{next_or};
-ghost use Rattle.sim_json.specs.Values.{list_of as list_of_data, front_two as front_two_of};
-ghost use Rattle.sim_lists.specs.Hexadecimal.{digest_of as digest_of_text, state_of as state_of_text, raw_of as raw_of_text};
-ghost use Rattle.sim_lists.specs.Arrivals.{turn_in as turn_in_data, join_from as join_from_data, command_from as command_from_data, done_from as done_from_data, report_from as report_from_data, state_from as state_from_data, up_by as up_by_word, cut_from as cut_from_data, bytes_from as bytes_from_data, arrival_by as arrival_by_word, arrival_of as arrival_of_data};
-ghost use Rattle.sim_lists.specs.Schedules.{IsFromClient};
-ghost use Rattle.sim_lists.specs.Taking.{digest_takes, state_takes, raw_takes, bytes_take, ordered_takes, report_takes, handed_takes, up_takes, word_takes, arrival_takes};
+ghost use Rattle.std.specs.Prelude.{◌≡◌, false, map, IfSome, IfOk, IsOk, option_map, option_and_then};
+ghost use Rattle.serde_json.specs.{Find.as_str, View.view};
+ghost use Rattle.sim_json.specs.{Records.next_or, Values.front_two as front_two_of, Values.list_of as list_of_data};
+ghost use Rattle.sim_lists.specs.{Arrivals.turn_in as turn_in_data, Arrivals.up_by as up_by_word, Schedules.IsFromClient, Taking.word_takes};
+ghost use Rattle.sim_lists.specs.Arrivals.{arrival_by as arrival_by_word, arrival_of as arrival_of_data, bytes_from as bytes_from_data};
+ghost use Rattle.sim_lists.specs.Arrivals.{command_from as command_from_data, cut_from as cut_from_data, done_from as done_from_data};
+ghost use Rattle.sim_lists.specs.Arrivals.{join_from as join_from_data, report_from as report_from_data, state_from as state_from_data};
+ghost use Rattle.sim_lists.specs.Hexadecimal.{digest_of as digest_of_text, raw_of as raw_of_text, state_of as state_of_text};
+ghost use Rattle.sim_lists.specs.Taking.{arrival_takes, bytes_take, digest_takes, handed_takes, ordered_takes, raw_takes, report_takes, state_takes, up_takes};
 
 use crate::hexadecimal::{digest_of, raw_of, state_of};
 use crate::schedule::{Arrival, Said};
 use serde_json::Value;
 use sim_base::OutOfMemory;
-use sim_json::{command_of, three};
-use sim_json::{front_two, list_of, natural_in, two};
+use sim_json::{command_of, front_two, list_of, natural_in, three, two};
 use sim_wire::{Bytes, Up};
 use std::alloc::Global;
 

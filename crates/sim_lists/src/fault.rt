@@ -1,6 +1,6 @@
 //! How a list is refused: by one number, which says where.
 
-ghost use Rattle.std.specs.Prelude.{◌≢◌, ◌+◌, ◌^◌, ◌<◌};
+ghost use Rattle.std.specs.Prelude.{◌+◌, ◌^◌, ◌<◌, ◌≢◌};
 ghost use Rattle.sim_lists.specs.Meets.{Tells};
 
 use sim_base::OutOfMemory;

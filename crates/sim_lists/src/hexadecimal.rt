@@ -1,8 +1,8 @@
 //! Digests, states and raw bytes as text.
 
 ghost use Rattle.std.specs.Prelude.{◌≡◌, false, IfOk, IsOk};
-ghost use Rattle.sim_lists.specs.Hexadecimal.{hex_of, digest_of as digest_of_text, state_of as state_of_text, raw_of as raw_of_text};
-ghost use Rattle.sim_lists.specs.Taking.{hex_takes, digest_takes, state_takes, raw_takes};
+ghost use Rattle.sim_lists.specs.Hexadecimal.{digest_of as digest_of_text, hex_of, raw_of as raw_of_text, state_of as state_of_text};
+ghost use Rattle.sim_lists.specs.Taking.{digest_takes, hex_takes, raw_takes, state_takes};
 
 use sim_base::{Items, MAX_STATE, OutOfMemory};
 use sim_bytes::read_hex;

@@ -1,18 +1,13 @@
 //! The whole schedule: the object and its numbers first, then each arrival.
 
-ghost use Rattle.std.specs.Prelude.{◌≡◌, ◌≤◌, false, map, option_map, option_and_then, All, IfOk, IfSome};
-ghost use Rattle.std.specs.Str.{is_utf8};
-ghost use Rattle.serde_json.specs.View.{view};
-ghost use Rattle.sim_json.specs.Values.{list_at as list_at_key};
-ghost use Rattle.sim_lists.specs.Early.{early_items, early_schedule, early_schedule_within};
-ghost use Rattle.sim_lists.specs.Meets.{Meets};
-ghost use Rattle.sim_lists.specs.Arrivals.{arrival_of as arrival_of_data};
-ghost use Rattle.sim_lists.specs.Taking.{arrival_takes};
-ghost use Rattle.sim_lists.specs.Schedules.{few as few_of, arrivals_from as arrivals_from_data, schedule_within as schedule_within_data, schedule_in as schedule_in_data, schedule_of as schedule_of_bytes, IsFromClient, IsSchedule};
+ghost use Rattle.{serde_json.specs.View.view, sim_json.specs.Values.list_at as list_at_key, std.specs.Str.is_utf8};
+ghost use Rattle.std.specs.Prelude.{◌≡◌, false, map, IfSome, IfOk, All, option_map, option_and_then};
+ghost use Rattle.sim_lists.specs.{Arrivals.arrival_of as arrival_of_data, Early.early_items, Early.early_schedule, Early.early_schedule_within, Meets.Meets};
+ghost use Rattle.sim_lists.specs.{Schedules.schedule_of as schedule_of_bytes, Schedules.schedule_within as schedule_within_data, Taking.arrival_takes};
+ghost use Rattle.sim_lists.specs.Schedules.{arrivals_from as arrivals_from_data, few as few_of, IsFromClient, IsSchedule, schedule_in as schedule_in_data};
 
-use crate::arrivals::arrival_of;
-use crate::fault::{ListFault, refused};
-use crate::schedule::{Arrivals, Schedule};
+use crate::fault::refused;
+use crate::{Arrivals, ListFault, Schedule, arrival_of};
 use serde_json::Value;
 use sim_json::{list_at, natural_at, other_key, value_of};
 use std::alloc::Global;
@@ -94,7 +89,8 @@ pub(crate) fn few<'v>(value: &'v Value, key: &str) -> Option<&'v [Value]>
 fn arrivals_from(alloc: Global, clients: u8, items: &[Value]) -> Result<Arrivals, ListFault>
     ensures meets { Meets result (arrivals_from_data clients (map view items.now)) }
     ensures clients { IfOk result (λ arrivals. All (IsFromClient clients) arrivals) }
-    ensures early { IfSome (early_items (arrival_of_data clients) (arrival_takes clients) (map view items.now)) (λ index. result ≡ Err (ListFault.Refused index)) }
+    ensures early { IfSome (early_items (arrival_of_data clients) (arrival_takes clients) (map view items.now))
+        (λ index. result ≡ Err (ListFault.Refused index)) }
 {
     let mut found = Vec::new(alloc);
     let mut rest = items;

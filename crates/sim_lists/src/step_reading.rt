@@ -1,18 +1,13 @@
 //! The whole list of steps: the object and its number of clients first, then each step.
 
-ghost use Rattle.std.specs.Prelude.{◌≡◌, false, map, All, IfOk, IfSome};
-ghost use Rattle.std.specs.Str.{is_utf8};
-ghost use Rattle.serde_json.specs.View.{view};
-ghost use Rattle.sim_lists.specs.Early.{early_items, early_steps, early_steps_within};
-ghost use Rattle.sim_lists.specs.Meets.{Meets};
-ghost use Rattle.sim_lists.specs.Steps.{step_of as step_of_data};
-ghost use Rattle.sim_lists.specs.Taking.{step_takes};
-ghost use Rattle.sim_lists.specs.StepLists.{steps_from as steps_from_data, steps_within as steps_within_data, steps_in as steps_in_data, steps_of as steps_of_bytes, IsStep, IsStepList};
+ghost use Rattle.{serde_json.specs.View.view, sim_lists.specs.Steps.step_of as step_of_data, sim_lists.specs.Taking.step_takes};
+ghost use Rattle.std.specs.{Prelude.◌≡◌, Prelude.false, Prelude.map, Prelude.IfSome, Prelude.IfOk, Prelude.All, Str.is_utf8};
+ghost use Rattle.sim_lists.specs.{Early.early_items, Early.early_steps, Early.early_steps_within, Meets.Meets, StepLists.steps_within as steps_within_data};
+ghost use Rattle.sim_lists.specs.StepLists.{IsStep, IsStepList, steps_from as steps_from_data, steps_in as steps_in_data, steps_of as steps_of_bytes};
 
-use crate::fault::{ListFault, refused};
+use crate::fault::refused;
 use crate::reading::{NO_LIST, few};
-use crate::step_list::StepList;
-use crate::steps::step_of;
+use crate::{ListFault, StepList, step_of};
 use serde_json::Value;
 use sim_base::Steps;
 use sim_json::{natural_at, other_key, value_of};

@@ -1,17 +1,14 @@
 //! One step of a session. Each reader is handed what follows its word and its client.
 
-ghost use Rattle.std.specs.Prelude.{◌≡◌, ◌≤◌, false, map, option_map, option_and_then, IfOk, IsOk, IfSome};
-ghost use Rattle.serde_json.specs.View.{view};
-ghost use Rattle.sim_base.specs.Limits.{IsFrom};
-ghost use Rattle.sim_json.specs.Values.{list_of as list_of_data, front_two as front_two_of};
-ghost use Rattle.sim_lists.specs.Steps.{alone as alone_in, bend_from as bend_from_data, plain_step_by as plain_step_by_word, step_by as step_by_word, step_of as step_of_data};
-ghost use Rattle.sim_lists.specs.StepLists.{client_of, OrdersFew, IsStep};
-ghost use Rattle.sim_lists.specs.Taking.{order_takes, step_takes};
+ghost use Rattle.{serde_json.specs.View.view, sim_json.specs.Values.front_two as front_two_of, sim_json.specs.Values.list_of as list_of_data};
+ghost use Rattle.std.specs.Prelude.{◌≡◌, false, map, IfSome, IfOk, IsOk, option_map, option_and_then};
+ghost use Rattle.sim_lists.specs.{StepLists.client_of, StepLists.IsStep, StepLists.OrdersFew, Taking.order_takes, Taking.step_takes};
+ghost use Rattle.sim_lists.specs.Steps.{alone as alone_in, bend_from as bend_from_data, plain_step_by as plain_step_by_word, step_by as step_by_word};
+ghost use Rattle.sim_lists.specs.Steps.{step_of as step_of_data};
 
 use serde_json::Value;
 use sim_base::{OutOfMemory, Step};
-use sim_json::{command_of, id_in};
-use sim_json::{fixed, front_two, list_of, natural_in, two};
+use sim_json::{command_of, fixed, front_two, id_in, list_of, natural_in, two};
 use std::alloc::Global;
 
 /// A step of one of so many players, or None where the item is none.

@@ -1,15 +1,9 @@
 -- What is seen of a client in memory is what is told of the one that has a past.
-use Rattle.std.proofs.Common.{◌≡◌, ℕ, List, refl, ap, Some}
-use Rattle.sim_base.specs.declared.setup.Setup.{Setup}
-use Rattle.sim_base.specs.declared.state.State.{State}
+use Rattle.{sim_plain_session.proofs.PlayerLemmas.same_turn, std.proofs.Common.◌≡◌, std.proofs.Common.Some, std.proofs.Common.refl, std.proofs.Common.ap}
+use Rattle.sim_base.specs.declared.{setup.Setup.Setup, state.State.State}
+use Rattle.sim_client.specs.{ClientWords.state_of, LifeLaws.Lives, Lives.Joining, Lives.Life, Lives.Off, Lives.On}
+use Rattle.sim_session_text.specs.{Endings.end_of, Pairs.state_at, Seen.end_seen}
 use Rattle.sim_plain_session.specs.Clients as plain
-use Rattle.sim_plain_session.proofs.PlayerLemmas.{same_turn}
-use Rattle.sim_client.specs.Lives.{Life, Off, Joining, On}
-use Rattle.sim_client.specs.LifeLaws.{Lives}
-use Rattle.sim_client.specs.ClientWords.{state_of}
-use Rattle.sim_session_text.specs.Endings.{end_of}
-use Rattle.sim_session_text.specs.Pairs.{state_at}
-use Rattle.sim_session_text.specs.Seen.{end_seen}
 
 -- what it is in the end
 pub end_same : (setup : Setup) (life : Life) (phase : plain.Phase) → Lives setup life phase → end_seen setup life ≡ end_of setup phase

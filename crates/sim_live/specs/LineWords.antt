@@ -1,15 +1,8 @@
 -- What a line of a talk asks for.
-use Rattle.std.specs.Prelude.{ℕ, List, Option, Some, None}
-use Rattle.serde_json.specs.Data.{Data}
-use Rattle.sim_base.specs.declared.step.Step.{Step as AnyStep}
-use Rattle.sim_json.specs.Values.{value_of}
-use Rattle.sim_json.specs.Records.{next_or}
-use Rattle.sim_lists.specs.Steps.{step_of}
-use Rattle.sim_lists.specs.StepLists.{IsStep}
-use Rattle.sim_live.specs.declared.line.Line.{Line}
-use Rattle.sim_live.specs.declared.line.Line.TheVariants.{Step, Look, Other}
-use Rattle.sim_live.specs.declared.look.Look.{Look as AnyLook}
-use Rattle.sim_live.specs.Looks.{look_of, IsLook}
+use Rattle.{serde_json.specs.Data.Data, std.specs.Prelude.ℕ, std.specs.Prelude.List, std.specs.Prelude.Some, std.specs.Prelude.None, std.specs.Prelude.Option}
+use Rattle.{sim_json.specs.Records.next_or, sim_json.specs.Values.value_of, sim_lists.specs.StepLists.IsStep, sim_lists.specs.Steps.step_of}
+use Rattle.sim_live.specs.{Looks.IsLook, Looks.look_of, declared.look.Look.Look as AnyLook}
+use Rattle.sim_live.specs.declared.line.Line.{Line, TheVariants.Look, TheVariants.Other, TheVariants.Step}
 
 -- a look, or nothing
 abbrev pub looked : Option AnyLook → Line

@@ -1,18 +1,11 @@
 -- A session as a talk: what is answered to a line after the steps that were made, and what a whole talk is.
-use Rattle.std.specs.Prelude.{ℕ, ◌+◌, List, [], ◌∷◌, ◌++◌, length, Option, Result, ⊤}
-use Rattle.sim_base.specs.declared.setup.Setup.{Setup}
-use Rattle.sim_base.specs.declared.step.Step.{Step as AnyStep}
-use Rattle.sim_plain_session.specs.Printed.{start_events, events}
-use Rattle.sim_plain_session.specs.Sessions.{session}
-use Rattle.sim_session_text.specs.SessionText.{lines_of, ending_lines}
-use Rattle.sim_talk.specs.declared.fault.TalkFault.{TalkFault}
-use Rattle.sim_talk.specs.Dialogues.{Converses}
-use Rattle.sim_talk.specs.Marks.{ok_line, refused_line}
-use Rattle.sim_talk.specs.Talks.{Passed}
-use Rattle.sim_live.specs.declared.line.Line.{Line}
-use Rattle.sim_live.specs.declared.line.Line.TheVariants.{Step, Look, Other}
-use Rattle.sim_live.specs.LineWords.{line_of}
-use Rattle.sim_live.specs.Shown.{look_text}
+use Rattle.std.specs.Prelude.{ℕ, ◌+◌, List, [], ◌∷◌, ◌++◌, length, ⊤, Option, Result}
+use Rattle.sim_base.specs.declared.{setup.Setup.Setup, step.Step.Step as AnyStep}
+use Rattle.sim_live.specs.{LineWords.line_of, Shown.look_text}
+use Rattle.sim_live.specs.declared.line.Line.{Line, TheVariants.Look, TheVariants.Other, TheVariants.Step}
+use Rattle.sim_plain_session.specs.{Printed.events, Printed.start_events, Sessions.session}
+use Rattle.sim_session_text.specs.SessionText.{ending_lines, lines_of}
+use Rattle.sim_talk.specs.{Dialogues.Converses, Marks.ok_line, Marks.refused_line, Talks.Passed, declared.fault.TalkFault.TalkFault}
 
 -- to a step the lines of its events, to a look what it shows, and to anything else that it is refused, with the number of the step that
 -- was made, or that would have been

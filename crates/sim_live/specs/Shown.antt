@@ -1,17 +1,9 @@
 -- What is answered to a look at a session.
-use Rattle.std.specs.Prelude.{ℕ, List, ◌++◌, codes, decimal, Option, Some, None}
-use Rattle.hex.specs.Hex.{encode_lower}
-use Rattle.sim_base.specs.declared.setup.Setup.{Setup}
-use Rattle.sim_base.specs.declared.state.State.{State}
-use Rattle.sim_base.specs.Spelling.{spelling}
-use Rattle.sim_plain_session.specs.Sessions.{Session}
+use Rattle.{hex.specs.Hex.encode_lower, sim_base.specs.Spelling.spelling, sim_base.specs.declared.setup.Setup.Setup, sim_base.specs.declared.state.State.State}
+use Rattle.{sim_live.specs.declared.look.Look.Look, sim_plain_session.specs.Sessions.Session, sim_session_text.specs.Pairs.state_at}
+use Rattle.std.specs.Prelude.{ℕ, List, ◌++◌, Some, None, codes, Option}
 use Rattle.sim_report.specs.Show.{show_text}
-use Rattle.sim_session_text.specs.declared.ending.End.{End}
-use Rattle.sim_session_text.specs.Endings.{end_line, end_of, of_client}
-use Rattle.sim_session_text.specs.Pairs.{state_at}
-use Rattle.sim_session_text.specs.Pipes.{pipe_lines}
-use Rattle.sim_session_text.specs.SessionText.{server_lines}
-use Rattle.sim_live.specs.declared.look.Look.{Look}
+use Rattle.sim_session_text.specs.{Endings.end_line, Endings.end_of, Endings.of_client, Pipes.pipe_lines, SessionText.server_lines, declared.ending.End.End}
 use Rattle.sim_live.specs.declared.look.Look.TheVariants as look
 
 -- a client that has a state, row by row; any other as it would be in the end

@@ -1,12 +1,8 @@
 -- What the parts of a talk over a session come to.
-use Rattle.std.specs.Prelude.{ℕ, List, [], Option, Result, Ok, Err, ⊤}
-use Rattle.sim_base.specs.declared.setup.Setup.{Setup}
-use Rattle.sim_plain_session.specs.Sessions.{session}
-use Rattle.sim_session.specs.Standing.{Seen, StandsFor}
-use Rattle.sim_talk.specs.declared.fault.TalkFault.{TalkFault}
-use Rattle.sim_talk.specs.Dialogues.{after_lines, AnswersLines}
-use Rattle.sim_talk.specs.Talks.{Passed}
-use Rattle.sim_live.specs.Live.{answer, next}
+use Rattle.{sim_base.specs.declared.setup.Setup.Setup, sim_plain_session.specs.Sessions.session}
+use Rattle.{sim_live.specs.Live.answer, sim_live.specs.Live.next, sim_session.specs.Standing.Seen, sim_session.specs.Standing.StandsFor}
+use Rattle.std.specs.Prelude.{ℕ, List, [], ⊤, Ok, Err, Option, Result}
+use Rattle.sim_talk.specs.{Dialogues.after_lines, Dialogues.AnswersLines, Talks.Passed, declared.fault.TalkFault.TalkFault}
 
 -- where all lines were answered, the session stands for that over their steps
 abbrev pub StandsAfter : Result ⊤ TalkFault → Setup → ℕ → Seen → List (List ℕ) → Type 0

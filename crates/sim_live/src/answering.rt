@@ -1,15 +1,11 @@
 //! What is answered to a line: the whole text is made before any of it is told.
 
-ghost use Rattle.std.specs.Prelude.{◌≡◌, ◌+◌, ◌^◌, ◌<◌, ◌≤◌, ◌∷◌, ◌++◌, [], ℕ, List, IfOk, OnOk, length, string_bytes};
-ghost use Rattle.sim_base.specs.declared.step.Step.{Step as AnyStep};
-ghost use Rattle.sim_lists.specs.StepLists.{IsStep};
-ghost use Rattle.sim_plain_session.specs.Printed.{events as events_in};
-ghost use Rattle.sim_plain_session.specs.Sessions.{session as session_over};
-ghost use Rattle.sim_session.specs.SessionWords.{setup_in, clients_in, seen_in, spare_in, room_in, MayFinish, IsSession};
-ghost use Rattle.sim_session.specs.Standing.{StandsFor, StandsForSome};
-ghost use Rattle.sim_session_text.specs.SessionText.{lines_of};
-ghost use Rattle.sim_live.specs.LineWords.{IsLine};
-ghost use Rattle.sim_live.specs.Live.{answer as answer_of, answer_to, next, steps_with};
+ghost use Rattle.{sim_base.specs.declared.step.Step.Step as AnyStep, sim_session.specs.Standing.StandsFor, sim_session.specs.Standing.StandsForSome};
+ghost use Rattle.{sim_lists.specs.StepLists.IsStep, sim_session_text.specs.SessionText.lines_of};
+ghost use Rattle.std.specs.Prelude.{◌≡◌, ℕ, ◌+◌, ◌^◌, ◌<◌, ◌≤◌, List, [], ◌∷◌, ◌++◌, length, IfOk, OnOk, string_bytes};
+ghost use Rattle.sim_live.specs.{LineWords.IsLine, Live.answer as answer_of, Live.answer_to, Live.next, Live.steps_with};
+ghost use Rattle.sim_plain_session.specs.{Printed.events as events_in, Sessions.session as session_over};
+ghost use Rattle.sim_session.specs.SessionWords.{clients_in, IsSession, MayFinish, room_in, seen_in, setup_in, spare_in};
 
 use crate::line::{Line, line_of};
 use crate::looking::push_look;
@@ -102,7 +98,8 @@ fn push_step(session: &mut Session<'_>, step: &Step, out: &mut String) -> Result
     requires step { IsStep (setup_in session.old).players step.now }
     ensures text { OnOk result ((clients : ℕ) (steps : List AnyStep) → clients ≤ (setup_in session.old).players
         → StandsFor (setup_in session.old) (seen_in session.old) (session_over (setup_in session.old) clients steps)
-        → string_bytes out.new ≡ string_bytes out.old ++ lines_of (events_in (setup_in session.old) (session_over (setup_in session.old) clients steps) step.now)) }
+        → string_bytes out.new ≡ string_bytes out.old ++ lines_of (events_in (setup_in session.old) (session_over (setup_in session.old) clients steps)
+        step.now)) }
     ensures stands { OnOk result ((clients : ℕ) (steps : List AnyStep) → clients ≤ (setup_in session.old).players
         → StandsFor (setup_in session.old) (seen_in session.old) (session_over (setup_in session.old) clients steps)
         → StandsFor (setup_in session.old) (seen_in session.new) (session_over (setup_in session.old) clients (steps ++ step.now ∷ []))) }

@@ -2,7 +2,7 @@
 
 ghost use Rattle.std.specs.Prelude.{◌≡◌, IfOk};
 ghost use Rattle.serde_json.specs.View.{view};
-ghost use Rattle.sim_live.specs.LineWords.{line_of as line_of_bytes, line_in as line_in_data, IsLine};
+ghost use Rattle.sim_live.specs.LineWords.{IsLine, line_in as line_in_data, line_of as line_of_bytes};
 
 use crate::look::{Look, look_of};
 use serde_json::Value;

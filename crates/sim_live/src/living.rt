@@ -1,24 +1,18 @@
 //! The whole talk: the session begins, each line is answered before the next one is heard, and at the end of the input it is told what
 //! the session has come to.
 
-ghost use Rattle.std.specs.Prelude.{◌≡◌, ◌≤◌, All, List, Option, OnOk, [], drop, length, string_bytes, vec_capacity};
-ghost use Rattle.sim_base.specs.Limits.{IsSetup};
-ghost use Rattle.sim_base.specs.declared.step.Step.{Step as AnyStep};
-ghost use Rattle.sim_client.specs.StageWords.{AreCleared};
-ghost use Rattle.sim_plain_session.specs.Sessions.{opened, session as session_over};
-ghost use Rattle.sim_session.specs.SessionWords.{setup_in, clients_in, seen_in, spare_in, room_in, rigs_of, MayFinish, IsSession};
-ghost use Rattle.sim_session.specs.Standing.{StandsFor};
-ghost use Rattle.sim_system.specs.Meanings.{HaveKinds};
-ghost use Rattle.sim_talk.specs.Dialogues.{TellsText};
-ghost use Rattle.sim_live.specs.Live.{Lives, first_text, last_text};
-ghost use Rattle.sim_live.specs.Spoken.{AnswersAll};
+ghost use Rattle.{sim_base.specs.Limits.IsSetup, sim_base.specs.declared.step.Step.Step as AnyStep, sim_session.specs.Standing.StandsFor};
+ghost use Rattle.{sim_client.specs.StageWords.AreCleared, sim_plain_session.specs.Sessions.opened, sim_plain_session.specs.Sessions.session as session_over};
+ghost use Rattle.{sim_system.specs.Meanings.HaveKinds, sim_talk.specs.Dialogues.TellsText};
+ghost use Rattle.std.specs.Prelude.{◌≡◌, ◌≤◌, List, length, drop, OnOk, vec_capacity, All};
+ghost use Rattle.sim_live.specs.{Live.first_text, Live.last_text, Live.Lives, Spoken.AnswersAll};
+ghost use Rattle.sim_session.specs.SessionWords.{clients_in, IsSession, MayFinish, rigs_of, room_in, seen_in, setup_in, spare_in};
 
 use crate::answering::answer;
 use sim_base::{OutOfMemory, Setup};
-use sim_session_text::push_starts;
 use sim_orders::OrderTable;
 use sim_session::Session;
-use sim_session_text::push_ending;
+use sim_session_text::{push_ending, push_starts};
 use sim_system::{Rig, System};
 use sim_talk::{Talk, TalkFault};
 use std::alloc::Global;

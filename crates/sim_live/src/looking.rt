@@ -1,15 +1,10 @@
 //! What is answered to a look. A client that is not on has no state, and is told as it would be in the end.
 
+ghost use Rattle.{sim_base.specs.Validity.IsValid, sim_plain_session.specs.Sessions.Session as PlainSession, sim_session_text.specs.Seen.end_seen};
 ghost use Rattle.std.specs.Prelude.{◌≡◌, ◌++◌, OnOk, string_bytes};
-ghost use Rattle.sim_base.specs.Validity.{IsValid};
 ghost use Rattle.sim_client.specs.ClientWords.{IsSound, life, setup_in as client_setup_in, state_of};
-ghost use Rattle.sim_plain_session.specs.Sessions.{Session as PlainSession};
-ghost use Rattle.sim_session.specs.SessionWords.{setup_in, seen_in, IsSession};
-ghost use Rattle.sim_session.specs.Standing.{StandsFor, IsNumber};
-ghost use Rattle.sim_session_text.specs.Endings.{end_line};
-ghost use Rattle.sim_session_text.specs.Seen.{end_seen};
-ghost use Rattle.sim_live.specs.Looks.{IsLook};
-ghost use Rattle.sim_live.specs.Shown.{look_text, shown_as, told_as, bytes_line};
+ghost use Rattle.sim_live.specs.{Looks.IsLook, Shown.bytes_line, Shown.look_text, Shown.shown_as, Shown.told_as};
+ghost use Rattle.sim_session.specs.{SessionWords.IsSession, SessionWords.seen_in, SessionWords.setup_in, Standing.StandsFor};
 
 use crate::look::Look;
 use sim_base::{OutOfMemory, Setup, State};
@@ -47,7 +42,8 @@ fn push_shown(
 ) -> Result<(), OutOfMemory>
     requires sound { IsSound client.now ⟦<dyn System as System>⟧ }
     requires same { client_setup_in client.now ≡ setup.now }
-    ensures { OnOk result (string_bytes out.new ≡ string_bytes out.old ++ shown_as setup.now number (end_seen setup.now (life client.now)) (state_of (life client.now))) }
+    ensures { OnOk result (string_bytes out.new ≡ string_bytes out.old ++ shown_as setup.now number (end_seen setup.now (life client.now))
+        (state_of (life client.now))) }
 {
     match client.state() {
         Some(state) => push_show(setup, state, out),
@@ -64,7 +60,8 @@ fn push_told(
 ) -> Result<(), OutOfMemory>
     requires sound { IsSound client.now ⟦<dyn System as System>⟧ }
     requires same { client_setup_in client.now ≡ setup.now }
-    ensures { OnOk result (string_bytes out.new ≡ string_bytes out.old ++ told_as setup.now number (end_seen setup.now (life client.now)) (state_of (life client.now))) }
+    ensures { OnOk result (string_bytes out.new ≡ string_bytes out.old ++ told_as setup.now number (end_seen setup.now (life client.now))
+        (state_of (life client.now))) }
 {
     match client.state() {
         Some(state) => push_bytes(number, setup, state, out),

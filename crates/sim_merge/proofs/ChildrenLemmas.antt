@@ -1,11 +1,8 @@
 -- Lists of children: one behind another, and the places of a name in a list that ascends.
-use Rattle.std.proofs.Common.{◌≡◌, ℕ, Bool, true, false, ◌&&◌, List, [], ◌∷◌, ◌++◌, Option, Some, None, refl, sym, ap, ◌∙◌, true≢false}
-use Rattle.std.specs.Str.{bytes_eq}
-use Rattle.std.proofs.lemmas.Bool.{cond-true, cond-false}
-use Rattle.std.proofs.lemmas.Slice.Eq.{bytes_eq-Decides}
-use Rattle.sim_tree.specs.Trees.{Node, Children, child, no_children, children_of, child_named, is_before, is_least, is_sound, are_sound}
-use Rattle.sim_merge.specs.Laying.{there, before, behind, followed_by, with_lower, with_laid}
-use Rattle.sim_merge.proofs.NameOrder.{is_before-trans, is_before-asym, is_before-irrefl, bytes_eq-before, bytes_eq-behind, is_before-total}
+use Rattle.sim_merge.proofs.Common.{bytes_eq-Decides, child, child_named, Children, children_of, cond-false, cond-true, followed_by, is_before, is_least}
+use Rattle.sim_merge.proofs.Common.{is_sound, no_children, Node, sym, there, true≢false, with_laid, with_lower, ◌∙◌}
+use Rattle.sim_merge.proofs.Common.{◌≡◌, ℕ, Bool, true, false, ◌&&◌, List, [], ◌∷◌, ◌++◌, Some, None, bytes_eq, Option, refl, ap, are_sound, before, behind}
+use Rattle.sim_merge.proofs.NameOrder.{bytes_eq-before, bytes_eq-behind, is_before-asym, is_before-irrefl, is_before-total, is_before-trans}
 
 -- ---- one behind another
 
@@ -74,10 +71,12 @@ behind-least name (child other n cs) least =
 -- ---- the first child
 
 -- it stands before the name
-pub before-passed : (name other : List ℕ) (n : Node) (cs : Children) → is_before other name ≡ true → before name (child other n cs) ≡ child other n (before name cs)
+pub before-passed : (name other : List ℕ) (n : Node) (cs : Children) → is_before other name ≡ true → before name (child other n cs) ≡ child other n
+    (before name cs)
 before-passed name other n cs e = cond-true (is_before other name) _ _ e
 
-pub child_named-passed : (name other : List ℕ) (n : Node) (cs : Children) → is_before other name ≡ true → child_named name (child other n cs) ≡ child_named name cs
+pub child_named-passed : (name other : List ℕ) (n : Node) (cs : Children) → is_before other name ≡ true → child_named name (child other n cs) ≡ child_named name
+    cs
 child_named-passed name other n cs e = cond-false (bytes_eq other name) _ _ (bytes_eq-before other name e)
 
 pub behind-passed : (name other : List ℕ) (n : Node) (cs : Children) → is_before other name ≡ true → behind name (child other n cs) ≡ behind name cs
@@ -93,17 +92,20 @@ pub is_least-rest : (other : List ℕ) (n : Node) (cs : Children) → are_sound 
 is_least-rest other n cs sound = and_left (is_least other cs) (is_sound n && are_sound cs) sound
 
 -- it has the name
-pub is_least-same : (name other : List ℕ) (n : Node) (cs : Children) → are_sound (child other n cs) ≡ true → bytes_eq other name ≡ true → is_least name cs ≡ true
+pub is_least-same : (name other : List ℕ) (n : Node) (cs : Children) → are_sound (child other n cs) ≡ true → bytes_eq other name ≡ true
+    → is_least name cs ≡ true
 is_least-same name other n cs sound e =
     ap (λ x. is_least x cs) (sym ((bytes_eq-Decides other name).0 e)) ∙ is_least-rest other n cs sound
 
-pub behind-same : (name other : List ℕ) (n : Node) (cs : Children) → are_sound (child other n cs) ≡ true → bytes_eq other name ≡ true → behind name (child other n cs) ≡ cs
+pub behind-same : (name other : List ℕ) (n : Node) (cs : Children) → are_sound (child other n cs) ≡ true → bytes_eq other name ≡ true
+    → behind name (child other n cs) ≡ cs
 behind-same name other n cs sound e =
     cond-false (is_before name other) _ _ (ap (is_before name) ((bytes_eq-Decides other name).0 e) ∙ is_before-irrefl name)
     ∙ behind-least name cs (is_least-same name other n cs sound e)
 
 -- it stands behind the name
-pub is_least-stopped : (name other : List ℕ) (n : Node) (cs : Children) → are_sound (child other n cs) ≡ true → is_before other name ≡ false → bytes_eq other name ≡ false →
+pub is_least-stopped : (name other : List ℕ) (n : Node) (cs : Children) → are_sound (child other n cs) ≡ true → is_before other name ≡ false
+    → bytes_eq other name ≡ false →
     is_least name (child other n cs) ≡ true
 is_least-stopped name other n cs sound e f =
     let here : is_before name other ≡ true = is_before-total other name e f in
@@ -129,12 +131,14 @@ is_before-stopped name other n cs none = by (is_before other name) refl
     by true is = differ n (before name cs) (sym (before-passed name other n cs is) ∙ none)
     by false is = is
 
-pub child_named-stopped : (name other : List ℕ) (n : Node) (cs : Children) → are_sound (child other n cs) ≡ true → before name (child other n cs) ≡ no_children → bytes_eq other name ≡ false →
+pub child_named-stopped : (name other : List ℕ) (n : Node) (cs : Children) → are_sound (child other n cs) ≡ true → before name (child other n cs) ≡ no_children
+    → bytes_eq other name ≡ false →
     child_named name (child other n cs) ≡ None
 child_named-stopped name other n cs sound none e =
     child_named-least name (child other n cs) (is_least-stopped name other n cs sound (is_before-stopped name other n cs none) e)
 
-pub behind-stopped : (name other : List ℕ) (n : Node) (cs : Children) → are_sound (child other n cs) ≡ true → before name (child other n cs) ≡ no_children → bytes_eq other name ≡ false →
+pub behind-stopped : (name other : List ℕ) (n : Node) (cs : Children) → are_sound (child other n cs) ≡ true → before name (child other n cs) ≡ no_children
+    → bytes_eq other name ≡ false →
     behind name (child other n cs) ≡ child other n cs
 behind-stopped name other n cs sound none e =
     behind-least name (child other n cs) (is_least-stopped name other n cs sound (is_before-stopped name other n cs none) e)

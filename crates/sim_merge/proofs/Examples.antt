@@ -1,17 +1,7 @@
 -- Worked overlays and chains, computed from the definitions.
-use Rattle.std.proofs.Common.{◌≡◌, ℕ, List, [], ◌∷◌, Option, Some, None, Err, true, false, refl}
-use Rattle.std.specs.Prelude.{codes, map}
-use Rattle.std.specs.List.{range_with_len}
-use Rattle.std.specs.Fmt.{digits}
-use Rattle.sim_tree.specs.declared.tree.TreeMark.{TreeMark}
-use Rattle.sim_tree.specs.declared.tree.TreeMark.TheVariants.{Disable, Replace, Merge, Add, Mul, Tokens}
-use Rattle.sim_tree.specs.Trees.{Node, Children, Entry, node, child, no_children, at}
-use Rattle.sim_tree.specs.Sources.{Origin}
-use Rattle.sim_merge.specs.declared.fault.MergeFault.TheVariants.{NoParent, Cycle, BadOp}
-use Rattle.sim_merge.specs.Values.{text_by, words_over}
-use Rattle.sim_merge.specs.Laying.{refused, there, laid}
-use Rattle.sim_merge.specs.Overlay.{Path, plain, lay, is_refused_at}
-use Rattle.sim_merge.specs.Resolution.{resolution_of, members, is_endless, bare}
+use Rattle.sim_merge.proofs.Common.{Origin, Path, plain, range_with_len, refused, Replace, resolution_of, text_by, there, Tokens, TreeMark, words_over}
+use Rattle.sim_merge.proofs.Common.{digits, Disable, Entry, is_endless, is_refused_at, laid, lay, members, Merge, Mul, no_children, Node, node, NoParent}
+use Rattle.sim_merge.proofs.Common.{◌≡◌, ℕ, true, false, List, [], ◌∷◌, map, Some, None, Err, codes, Option, refl, Add, at, BadOp, bare, child, Children, Cycle}
 
 abbrev leaf : List ℕ → Node
 leaf text = node (Some text) None no_children

@@ -1,11 +1,10 @@
 -- A sound tree laid over a resolved one is resolved: it ascends by name, has no marks, and has no more levels.
-use Rattle.std.proofs.Common.{◌≡◌, ℕ, zero, suc, ◌≤◌, Bool, true, false, ◌&&◌, List, Option, Some, None, refl, arith, if◌then◌else◌}
-use Rattle.std.specs.Str.{bytes_eq}
-use Rattle.sim_tree.specs.declared.tree.TreeMark.TheVariants.{Disable, Replace, Merge, Add, Mul, Tokens}
-use Rattle.sim_tree.specs.Trees.{Node, Children, node, child, no_children, under, value_of, child_named, is_before, is_least, bears, is_sound, are_sound, is_plain, are_plain, levels, levels_under}
-use Rattle.sim_merge.specs.Values.{Value, value_over, sum_of, product_of, words_over}
-use Rattle.sim_merge.specs.Laying.{Laying, refused, absent, there, laid, laid_under, lower_value, lower_children, before, behind, followed_by, with_lower, with_laid, over_children, with_value}
-use Rattle.sim_merge.proofs.ChildrenLemmas.{and_left, and_right, and_both, is_least-before, is_least-rest, is_sound-first, are_sound-rest}
+use Rattle.sim_merge.proofs.ChildrenLemmas.{and_both, and_left, and_right, are_sound-rest, is_least-before, is_least-rest, is_sound-first}
+use Rattle.sim_merge.proofs.Common.{Node, node, over_children, product_of, refused, Replace, sum_of, there, Tokens, under, Value, value_of, value_over}
+use Rattle.sim_merge.proofs.Common.{are_plain, are_sound, arith, bears, before, behind, child, child_named, Children, Disable, followed_by, is_before, is_least}
+use Rattle.sim_merge.proofs.Common.{is_plain, is_sound, laid, laid_under, Laying, levels, levels_under, lower_children, lower_value, Merge, Mul, no_children}
+use Rattle.sim_merge.proofs.Common.{with_laid, with_lower, with_value, words_over}
+use Rattle.sim_merge.proofs.Common.{◌≡◌, ℕ, zero, suc, ◌≤◌, Bool, true, false, ◌&&◌, List, if◌then◌else◌, Some, None, bytes_eq, Option, refl, absent, Add}
 
 -- ---- what a resolved tree meets, with so many levels at most
 
@@ -107,14 +106,16 @@ fit-before k name no_children fit = fit
 fit-before k name (child other n cs) fit =
     let rest = fit-before k name cs (fit-rest k other n cs fit) in
     if-cases (AreFit k) (is_before other name) _ _
-    (λ e. fit-child k other n (before name cs) (fit-first k other n cs fit) rest (is_least-before-name other name cs (is_least-rest other n cs fit.sound))) (λ e. rest)
+    (λ e. fit-child k other n (before name cs) (fit-first k other n cs fit) rest (is_least-before-name other name cs (is_least-rest other n cs fit.sound)))
+    (λ e. rest)
 
 fit-behind : (k : ℕ) (name : List ℕ) (cs : Children) → AreFit k cs → AreFit k (behind name cs)
 fit-behind k name no_children fit = fit
 fit-behind k name (child other n cs) fit =
     let rest = fit-behind k name cs (fit-rest k other n cs fit) in
     if-cases (AreFit k) (is_before name other) _ _
-    (λ e. fit-child k other n (behind name cs) (fit-first k other n cs fit) rest (is_least-behind-name other name cs (is_least-rest other n cs fit.sound))) (λ e. rest)
+    (λ e. fit-child k other n (behind name cs) (fit-first k other n cs fit) rest (is_least-behind-name other name cs (is_least-rest other n cs fit.sound)))
+    (λ e. rest)
 
 all_before-before : (name : List ℕ) (cs : Children) → all_before name (before name cs) ≡ true
 all_before-before name no_children = refl
@@ -141,7 +142,8 @@ fit-named k name (child other n cs) fit =
 is_least-followed_by : (x : List ℕ) (xs ys : Children) → is_least x xs ≡ true → is_least x ys ≡ true → is_least x (followed_by xs ys) ≡ true
 is_least-followed_by x no_children ys e f = f
 is_least-followed_by x (child other n xs) ys e f =
-    and_both (is_before x other) (is_least x (followed_by xs ys)) (and_left (is_before x other) (is_least x xs) e) (is_least-followed_by x xs ys (and_right (is_before x other) (is_least x xs) e) f)
+    and_both (is_before x other) (is_least x (followed_by xs ys)) (and_left (is_before x other) (is_least x xs) e)
+    (is_least-followed_by x xs ys (and_right (is_before x other) (is_least x xs) e) f)
 
 fit-followed_by : (k : ℕ) (name : List ℕ) (xs ys : Children) → AreFit k xs → all_before name xs ≡ true → AreFit k ys →
     ((x : List ℕ) → is_before x name ≡ true → is_least x ys ≡ true) → AreFit k (followed_by xs ys)
@@ -154,7 +156,8 @@ fit-followed_by k name (child other n xs) ys fit less rest least =
 -- ---- a step of an overlay
 
 step : (k : ℕ) (name : List ℕ) (lower os : Children) (o : Node) (laying : Laying) (more : Option Children) → AreFit k lower → is_least name os ≡ true →
-    IfThere (IsFit k) laying → IfLaid k (behind name lower) os more → IfLaid k lower (child name o os) (with_lower (before name lower) (with_laid name laying more))
+    IfThere (IsFit k) laying → IfLaid k (behind name lower) os more
+    → IfLaid k lower (child name o os) (with_lower (before name lower) (with_laid name laying more))
 step k name lower os o refused more fit ahead here rest = tt
 step k name lower os o absent None fit ahead here rest = tt
 step k name lower os o absent (Some cs) fit ahead here rest = record {
@@ -175,7 +178,8 @@ step k name lower os o (there n) (Some cs) fit ahead here rest =
           (rest.least x (is_least-behind-name x name lower e) (and_right (is_before x name) (is_least x os) f)));
     }
 
-over-fit : (k : ℕ) (value : Value) (lower os : Children) (laying : Option Children) → IfLaid k lower os laying → IfThere (IsFit (suc k)) (over_children value laying)
+over-fit : (k : ℕ) (value : Value) (lower os : Children) (laying : Option Children) → IfLaid k lower os laying
+    → IfThere (IsFit (suc k)) (over_children value laying)
 over-fit k value lower os None fit = tt
 over-fit k value lower os (Some cs) fit = fit-node k value cs fit.fit
 
@@ -184,7 +188,8 @@ with-fit k None cs fit = tt
 with-fit k (Some text) cs fit = fit-node k (Some text) cs fit
 
 mutual
-  pub fit-laid : (k : ℕ) (lower : Option Node) (upper : Node) → IfNode (IsFit k) lower → is_sound upper ≡ true → levels upper ≤ k → IfThere (IsFit k) (laid lower upper)
+  pub fit-laid : (k : ℕ) (lower : Option Node) (upper : Node) → IfNode (IsFit k) lower → is_sound upper ≡ true → levels upper ≤ k
+      → IfThere (IsFit k) (laid lower upper)
   fit-laid zero lower (node value mark os) fit sound few = absurd (omega (arith, few))
   fit-laid (suc k) lower (node value None os) fit sound few =
       over-fit k (value_over value (lower_value lower)) (lower_children lower) os (laid_under (lower_children lower) os)
@@ -197,8 +202,10 @@ mutual
       over-fit k (value_over value (value_of lower)) (under lower) os (laid_under (under lower) os)
       (fit-laid_under k (under lower) os (fit-under-node k lower fit) sound (omega (arith, few)))
   fit-laid (suc k) lower (node value (Some Add) os) fit sound few = with-fit k (sum_of (lower_value lower) value) (lower_children lower) (fit-lower k lower fit)
-  fit-laid (suc k) lower (node value (Some Mul) os) fit sound few = with-fit k (product_of (lower_value lower) value) (lower_children lower) (fit-lower k lower fit)
-  fit-laid (suc k) lower (node value (Some Tokens) os) fit sound few = fit-node k (Some (words_over value (lower_value lower))) (lower_children lower) (fit-lower k lower fit)
+  fit-laid (suc k) lower (node value (Some Mul) os) fit sound few = with-fit k (product_of (lower_value lower) value) (lower_children lower)
+      (fit-lower k lower fit)
+  fit-laid (suc k) lower (node value (Some Tokens) os) fit sound few = fit-node k (Some (words_over value (lower_value lower))) (lower_children lower)
+      (fit-lower k lower fit)
 
   pub fit-laid_under : (k : ℕ) (lower os : Children) → AreFit k lower → are_sound os ≡ true → levels_under os ≤ k → IfLaid k lower os (laid_under lower os)
   fit-laid_under k lower no_children fit sound few = record { fit = fit; least = λ x e f. e }

@@ -1,34 +1,20 @@
 -- Trees that are kept while templates are resolved.
-use Rattle.std.proofs.Common.{◌≡◌, ℕ, zero, suc, ◌+◌, ◌<◌, ◌≢◌, nat_eq, Bool, true, false, List, [], ◌∷◌, ◌++◌, length, map, get_or, set, position, Option, Some, None, Result, refl, sym, ap, ◌∙◌, arith, subst, replicate, zero-add}
-use Rattle.std.specs.Prelude.{slice_get, filter_map, option_and_then, option_map}
-use Rattle.std.specs.List.{list_all, range_with_len, cons_option}
-use Rattle.std.proofs.lemmas.List.{length-map, length-set, length-replicate, get_or-map, get_or-set_same, get_or-set_other}
-use Rattle.std.proofs.lemmas.Option.{slice_get-get_or}
-use Rattle.std.proofs.lemmas.List.Elements.{filter_map-append}
-use Rattle.std.proofs.lemmas.Bool.Decides.{nat_tests}
-use Rattle.std.proofs.lemmas.List.Quantifiers.{position-Some}
-use Rattle.std.specs.Str.{bytes_eq}
-use Rattle.sim_tree.specs.declared.tree.Tree.{Tree}
-use Rattle.sim_tree.specs.declared.source.Source.{Source}
-use Rattle.sim_tree.specs.Trees.{Node, node_of}
-use Rattle.sim_tree.specs.Sources.{Origin, origin_of}
-use Rattle.sim_merge.specs.declared.fault.MergeFault.{MergeFault}
+use Rattle.sim_merge.proofs.{ChildrenLemmas.and_both, ChildrenLemmas.and_left, ChildrenLemmas.and_right, FitLemmas.IfNode, FitLemmas.IfThere}
+use Rattle.sim_merge.proofs.Common.{AreWithin, arith, bare, chain_root, cons_option, filter_map-append, get_or-map, get_or-set_other, get_or-set_same, Has}
+use Rattle.sim_merge.proofs.Common.{IfRefusal, inherited, is_endless, is_layable, is_missing, is_resolved, IsKept, IsTreeOf, KeepsAll, laid, Laying, layings}
+use Rattle.sim_merge.proofs.Common.{Origin, origin_of, origins_of, OverlayFault, parent_among, parents_in, position-Some, range_with_len, refused, root_in}
+use Rattle.sim_merge.proofs.Common.{length-map, length-replicate, length-set, list_all, members, MergeFault, name_in, names_in, nat_tests, Node, node_of}
+use Rattle.sim_merge.proofs.Common.{root_refusal, root_there, roots_in, slice_get-get_or, Source, subst, sym, there, Tree, zero-add, ◌∙◌}
+use Rattle.sim_merge.proofs.Common.{slice_get, Some, None, bytes_eq, position, filter_map, Option, Result, option_map, option_and_then, refl, ap, AreResolved}
+use Rattle.sim_merge.proofs.Common.{◌≡◌, ℕ, zero, suc, ◌+◌, ◌<◌, Bool, true, false, ◌≢◌, List, [], ◌∷◌, ◌++◌, map, length, get_or, set, replicate, nat_eq}
+use Rattle.sim_merge.proofs.ResolutionLemmas.{members-first, members-parent, position-map, position-no_number, position-number}
+use Rattle.sim_merge.proofs.ResolvedLemmas.{chain_root-resolved, if-all, IsGood, there-resolved}
 use Rattle.sim_merge.specs.declared.fault.MergeFault.TheVariants as merge
-use Rattle.sim_merge.specs.declared.fault.OverlayFault.{OverlayFault}
-use Rattle.sim_merge.specs.Faults.{IfRefusal}
-use Rattle.sim_merge.specs.Libraries.{is_resolved, is_layable}
-use Rattle.sim_merge.specs.Laying.{Laying, refused, there, laid}
-use Rattle.sim_merge.specs.Resolution.{origins_of, names_in, name_in, parents_in, parent_among, roots_in, root_in, bare, members, is_endless, inherited, chain_root, layings, is_missing, root_there, root_refusal}
-use Rattle.sim_merge.specs.Merging.{IsTreeOf}
-use Rattle.sim_merge.specs.Keeping.{AreWithin, Has, IsKept, KeepsAll, AreResolved}
-use Rattle.sim_merge.proofs.ChildrenLemmas.{and_left, and_right, and_both}
-use Rattle.sim_merge.proofs.FitLemmas.{IfNode, IfThere}
-use Rattle.sim_merge.proofs.ResolvedLemmas.{IsGood, chain_root-resolved, there-resolved, if-all}
-use Rattle.sim_merge.proofs.ResolutionLemmas.{members-parent, members-first, position-map, position-number, position-no_number}
 
 -- ---- chains
 
-pub chain_root-first : (parents : List (Option ℕ)) (roots : List Node) (number : ℕ) (own : Node) → get_or parents number None ≡ None → slice_get roots number ≡ Some own →
+pub chain_root-first : (parents : List (Option ℕ)) (roots : List Node) (number : ℕ) (own : Node) → get_or parents number None ≡ None
+    → slice_get roots number ≡ Some own →
     chain_root roots (members parents number) ≡ laid (Some bare) own
 chain_root-first parents roots number own first is =
     ap (chain_root roots) (members-first parents number first) ∙ ap (inherited (there bare)) is
@@ -74,13 +60,15 @@ has-set kept number other tree within has = by (nat_eq other number) refl
     by false e = let differ : other ≢ number = grind (arith, nat_tests) in
         record { tree = has.tree; is = get_or-set_other kept number other (Some tree) None differ ∙ has.is }
 
-pub KeepsAll-set : (old kept : List (Option Tree)) (number : ℕ) (tree : Tree) → number < length kept → KeepsAll old kept → KeepsAll old (set kept number (Some tree))
+pub KeepsAll-set : (old kept : List (Option Tree)) (number : ℕ) (tree : Tree) → number < length kept → KeepsAll old kept
+    → KeepsAll old (set kept number (Some tree))
 KeepsAll-set old kept number tree within keeps = record { stays = λ other has. has-set kept number other tree within (keeps.stays other has) }
 
 pub Has-set : (kept : List (Option Tree)) (number : ℕ) (tree : Tree) → number < length kept → Has (set kept number (Some tree)) number
 Has-set kept number tree within = record { tree = tree; is = get_or-set_same kept number (Some tree) None within }
 
-pub IsKept-set : (parents : List (Option ℕ)) (roots : List Node) (kept : List (Option Tree)) (number : ℕ) (tree : Tree) → number < length kept → IsKept parents roots kept →
+pub IsKept-set : (parents : List (Option ℕ)) (roots : List Node) (kept : List (Option Tree)) (number : ℕ) (tree : Tree) → number < length kept
+    → IsKept parents roots kept →
     chain_root roots (members parents number) ≡ there (node_of tree) → IsKept parents roots (set kept number (Some tree))
 IsKept-set parents roots kept number tree within is new = record {
   same = length-set kept number (Some tree) ∙ is.same;
@@ -90,16 +78,19 @@ IsKept-set parents roots kept number tree within is new = record {
     some-same : (s t : Tree) → Some s ≡ Some t → s ≡ t
     some-same s t e = cc
 
-    by : (other : ℕ) (t : Tree) → get_or (set kept number (Some tree)) other None ≡ Some t → (b : Bool) → nat_eq other number ≡ b → chain_root roots (members parents other) ≡ there (node_of t)
+    by : (other : ℕ) (t : Tree) → get_or (set kept number (Some tree)) other None ≡ Some t → (b : Bool) → nat_eq other number ≡ b
+        → chain_root roots (members parents other) ≡ there (node_of t)
     by other t e true f =
         let same : other ≡ number = grind (arith, nat_tests) in
-        let tree-is : tree ≡ t = some-same tree t (sym (ap (λ k. get_or (set kept number (Some tree)) k None) same ∙ get_or-set_same kept number (Some tree) None within) ∙ e) in
+        let tree-is : tree ≡ t =
+        some-same tree t (sym (ap (λ k. get_or (set kept number (Some tree)) k None) same ∙ get_or-set_same kept number (Some tree) None within) ∙ e) in
         ap (λ k. chain_root roots (members parents k)) same ∙ new ∙ ap (λ s. there (node_of s)) tree-is
     by other t e false f =
         let differ : other ≢ number = grind (arith, nat_tests) in
         is.trees other t (sym (get_or-set_other kept number other (Some tree) None differ) ∙ e)
 
-pub nothing-kept : (parents : List (Option ℕ)) (roots : List Node) (kept : List (Option Tree)) → kept ≡ replicate (length parents) None → IsKept parents roots kept
+pub nothing-kept : (parents : List (Option ℕ)) (roots : List Node) (kept : List (Option Tree)) → kept ≡ replicate (length parents) None
+    → IsKept parents roots kept
 nothing-kept parents roots kept is = record {
   same = ap length is ∙ length-replicate (length parents) None;
   trees = λ number tree e. absurd (differ tree (sym (ap (λ ks. get_or ks number None) is ∙ none (length parents) number) ∙ e));
@@ -115,7 +106,8 @@ nothing-kept parents roots kept is = record {
 
 -- ---- the trees of all
 
-pub filter_map-push : (kept : List (Option Tree)) (slot : Option Tree) → filter_map (λ s. s) (kept ++ slot ∷ []) ≡ filter_map (λ s. s) kept ++ cons_option slot []
+pub filter_map-push : (kept : List (Option Tree)) (slot : Option Tree) → filter_map (λ s. s) (kept ++ slot ∷ []) ≡ filter_map (λ s. s) kept ++
+    cons_option slot []
 filter_map-push kept slot = filter_map-append (λ s. s) kept (slot ∷ [])
 
 record IsCollected (n : ℕ) (ls : List Laying) (trees : List Tree) : Type 0 where
@@ -138,12 +130,14 @@ collected (Some tree ∷ kept) a f has are good =
     let here : f a ≡ there (node_of tree) = ap f (let same : a ≡ a + 0 = omega arith in same) ∙ are 0 tree refl in
     record {
       count = ap suc rest.count;
-      is = ap (λ ns. node_of tree ∷ ns) rest.is ∙ ap (λ l. cons_option (root_there l) (filter_map root_there (map f (range_with_len (a + 1) (length kept))))) (sym here);
+      is = ap (λ ns. node_of tree ∷ ns) rest.is ∙ ap (λ l. cons_option (root_there l) (filter_map root_there (map f (range_with_len (a + 1) (length kept)))))
+          (sym here);
       resolved = and_both (is_resolved (node_of tree)) (list_all is_resolved (map node_of (filter_map (λ s. s) kept)))
           (there-resolved (f a) (node_of tree) here (good a)) rest.resolved;
     }
 
-pub all-collected : (parents : List (Option ℕ)) (roots : List Node) (kept : List (Option Tree)) (trees : List Tree) → IsKept parents roots kept → ((k : ℕ) → k < length parents → Has kept k) →
+pub all-collected : (parents : List (Option ℕ)) (roots : List Node) (kept : List (Option Tree)) (trees : List Tree) → IsKept parents roots kept
+    → ((k : ℕ) → k < length parents → Has kept k) →
     list_all is_layable roots ≡ true → trees ≡ filter_map (λ s. s) kept → AreResolved parents roots trees
 all-collected parents roots kept trees is has layable made =
     let all = collected kept 0 (λ n. chain_root roots (members parents n)) (λ k h. has k (omega (arith, is.same)))
@@ -154,10 +148,12 @@ all-collected parents roots kept trees is has layable made =
       resolved = ap (λ ts. list_all is_resolved (map node_of ts)) made ∙ all.resolved;
     }
 
-is_missing-kept : (parents : List (Option ℕ)) (roots : List Node) (kept : List (Option Tree)) → IsKept parents roots kept → (k : ℕ) → Has kept k → is_missing (chain_root roots (members parents k)) ≡ false
+is_missing-kept : (parents : List (Option ℕ)) (roots : List Node) (kept : List (Option Tree)) → IsKept parents roots kept → (k : ℕ) → Has kept k
+    → is_missing (chain_root roots (members parents k)) ≡ false
 is_missing-kept parents roots kept is k has = ap is_missing (is.trees k has.tree has.is)
 
-pub root_refusal-at : (parents : List (Option ℕ)) (roots : List Node) (kept : List (Option Tree)) (number : ℕ) → number < length parents → IsKept parents roots kept →
+pub root_refusal-at : (parents : List (Option ℕ)) (roots : List Node) (kept : List (Option Tree)) (number : ℕ) → number < length parents
+    → IsKept parents roots kept →
     ((k : ℕ) → k < number → Has kept k) → chain_root roots (members parents number) ≡ refused → root_refusal (layings parents roots) ≡ Some (merge.BadOp number)
 root_refusal-at parents roots kept number within is has here =
     ap (option_map merge.BadOp)
@@ -181,14 +177,16 @@ IfRefusal-weaker merge.OutOfMemory P Q f p = tt
 
 -- ---- parents are templates
 
-parent_among-within : (names : List (List ℕ)) (parent : Option (List ℕ)) (number : ℕ) → option_and_then (λ name. position (bytes_eq name) names) parent ≡ Some number → number < length names
+parent_among-within : (names : List (List ℕ)) (parent : Option (List ℕ)) (number : ℕ) → option_and_then (λ name. position (bytes_eq name) names) parent ≡
+    Some number → number < length names
 parent_among-within names None number e = absurd (differ number e)
   where
     differ : (number : ℕ) → None ≡ Some number → ⊥
     differ number e = cc
 parent_among-within names (Some name) number e = (position-Some (bytes_eq name) names number [] e).0
 
-within-map : {X : Type 0} (f : X → Option ℕ) (n : ℕ) → ((x : X) (r : ℕ) → f x ≡ Some r → r < n) → (xs : List X) (i r : ℕ) → get_or (map f xs) i None ≡ Some r → r < n
+within-map : {X : Type 0} (f : X → Option ℕ) (n : ℕ) → ((x : X) (r : ℕ) → f x ≡ Some r → r < n) → (xs : List X) (i r : ℕ) → get_or (map f xs) i None ≡ Some r
+    → r < n
 within-map f n bound [] i r e = absurd (differ r e)
   where
     differ : (r : ℕ) → None ≡ Some r → ⊥
@@ -200,12 +198,14 @@ pub AreWithin-parents_in : (origins : List Origin) → AreWithin (parents_in ori
 AreWithin-parents_in origins = record {
   within = λ number parent e.
       let small : parent < length (names_in origins) =
-      within-map (parent_among (names_in origins)) (length (names_in origins)) (λ o r f. parent_among-within (names_in origins) o.parent r f) origins number parent e in
+      within-map (parent_among (names_in origins)) (length (names_in origins)) (λ o r f. parent_among-within (names_in origins) o.parent r f) origins number
+      parent e in
       omega (arith, length-map origins name_in, length-map origins (parent_among (names_in origins)));
 }
 
 -- a source more whose tree may be laid
-pub layable-push : (sources : List Source) (source : Source) → list_all is_layable (roots_in (origins_of sources)) ≡ true → is_layable (node_of source.tree) ≡ true →
+pub layable-push : (sources : List Source) (source : Source) → list_all is_layable (roots_in (origins_of sources)) ≡ true → is_layable (node_of source.tree) ≡
+    true →
     list_all is_layable (roots_in (origins_of (sources ++ source ∷ []))) ≡ true
 layable-push [] source all one = and_both (is_layable (node_of source.tree)) true one refl
 layable-push (s ∷ sources) source all one =

@@ -1,11 +1,6 @@
 -- A set of what a list lacks of some words, while one word after another is put behind the list.
-use Rattle.std.proofs.Common.{◌≡◌, ℕ, ◌&&◌, ◌||◌, not, Bool, true, false, List, [], ◌∷◌, ◌++◌, refl, sym, ap, ◌∙◌, if◌then◌else◌}
-use Rattle.std.specs.List.{list_any}
-use Rattle.std.specs.Str.{bytes_eq}
-use Rattle.std.proofs.lemmas.Slice.Eq.{bytes_eq-Decides}
-use Rattle.std.proofs.lemmas.List.Folds.{list_any-append}
-use Rattle.sim_merge.specs.Values.{including}
-use Rattle.sim_merge.specs.Survivors.{TellsLacking}
+use Rattle.sim_merge.proofs.Common.{including, list_any, list_any-append, sym, TellsLacking, ◌∙◌}
+use Rattle.sim_merge.proofs.Common.{◌≡◌, ℕ, Bool, true, false, not, ◌&&◌, ◌||◌, List, [], ◌∷◌, ◌++◌, if◌then◌else◌, bytes_eq, refl, ap, bytes_eq-Decides}
 
 -- ---- whether a word is in a list
 
@@ -29,7 +24,8 @@ any_including o w found = by (list_any (bytes_eq w) found) refl
         let found_here : list_any (bytes_eq o) found ≡ true = ap (λ x. list_any (bytes_eq x) found) ((bytes_eq-Decides o w).0 e) ∙ is in
         found_here ∙ sym (or_true (list_any (bytes_eq o) found))
 
-    by : (b : Bool) → list_any (bytes_eq w) found ≡ b → list_any (bytes_eq o) (if b then found else found ++ w ∷ []) ≡ (list_any (bytes_eq o) found || bytes_eq o w)
+    by : (b : Bool) → list_any (bytes_eq w) found ≡ b → list_any (bytes_eq o) (if b then found else found ++ w ∷ []) ≡
+        (list_any (bytes_eq o) found || bytes_eq o w)
     by true is = here is (bytes_eq o w) refl
     by false is = any_last o w found
 

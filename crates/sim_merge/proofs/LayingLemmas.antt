@@ -1,18 +1,10 @@
 -- The steps of an overlay, as steps of its definition.
-use Rattle.std.proofs.Common.{◌≡◌, ℕ, true, List, Option, Some, None, refl, sym, ap, ◌∙◌}
-use Rattle.sim_tree.specs.declared.tree.Tree.{Tree}
-use Rattle.sim_tree.specs.declared.tree.Child.{Child}
-use Rattle.sim_tree.specs.declared.tree.Child.TheOpen.{Tree-F}
-use Rattle.sim_tree.specs.declared.tree.Child.TheViews.{out-Tree, roll-Tree}
-use Rattle.sim_tree.specs.Trees.{Node, Children, node, child, node_of, nodes_of, under, value_of, child_named, are_sound}
-use Rattle.sim_merge.specs.Values.{Value, value_over}
-use Rattle.sim_merge.specs.declared.fault.OverlayFault.{OverlayFault}
-use Rattle.sim_merge.specs.declared.fault.OverlayFault.TheVariants.{BadOp, OutOfMemory}
-use Rattle.sim_merge.specs.Faults.{IfBadOp}
-use Rattle.sim_merge.specs.Laying.{Laying, refused, there, laid, laid_under, lower_value, lower_children, before, behind, followed_by, with_lower, with_laid, over_children}
-use Rattle.sim_merge.specs.Merging.{IsPast, IsMerged, laid_unmarked}
-use Rattle.sim_merge.proofs.ChildrenLemmas.{with_lower-followed_by}
+use Rattle.sim_merge.proofs.{ChildrenLemmas.with_lower-followed_by, Common.value_of, Common.value_over, Common.with_laid, Common.with_lower, Common.◌∙◌}
+use Rattle.sim_merge.proofs.Common.{followed_by, IfBadOp, IsMerged, IsPast, laid, laid_under, laid_unmarked, Laying, lower_children, lower_value, Node, node}
+use Rattle.sim_merge.proofs.Common.{node_of, nodes_of, out-Tree, over_children, OverlayFault, refused, roll-Tree, sym, there, Tree, Tree-F, under, Value}
+use Rattle.sim_merge.proofs.Common.{◌≡◌, ℕ, true, List, Some, None, Option, refl, ap, are_sound, before, behind, Child, child, child_named, Children}
 use Rattle.sim_merge.proofs.NodeLemmas.{node_of-out, node_of-roll}
+use Rattle.sim_merge.specs.declared.fault.OverlayFault.TheVariants.{BadOp, OutOfMemory}
 
 pub IfBadOp-weaker : (fault : OverlayFault) (P Q : Type 0) → (P → Q) → IfBadOp fault P → IfBadOp fault Q
 IfBadOp-weaker BadOp P Q f p = f p
@@ -20,7 +12,8 @@ IfBadOp-weaker OutOfMemory P Q f p = tt
 
 -- an upper child, once the lower children before it are passed
 laid_under-past : (name : List ℕ) (upper : Node) (old pushed lower rest : Children) → IsPast name old pushed lower rest → (more : Children) →
-    with_lower old (laid_under lower (child name upper more)) ≡ with_lower pushed (with_laid name (laid (child_named name rest) upper) (laid_under (behind name rest) more))
+    with_lower old (laid_under lower (child name upper more)) ≡ with_lower pushed
+    (with_laid name (laid (child_named name rest) upper) (laid_under (behind name rest) more))
 laid_under-past name upper old pushed lower rest past more =
     sym (with_lower-followed_by old (before name lower) (with_laid name (laid (child_named name lower) upper) (laid_under (behind name lower) more)))
     ∙ ap (λ cs. with_lower cs (with_laid name (laid (child_named name lower) upper) (laid_under (behind name lower) more))) (sym past.passed)
@@ -56,8 +49,10 @@ refused-step name upper old pushed lower rest past is more =
 under-out : (t : Tree) → under (node_of t) ≡ nodes_of (out-Tree t).children.items
 under-out t = ap under (node_of-out t)
 
-pub unmarked-there : (lower : Option Node) (upper : Tree) (made : Tree-F Child Tree) → made.value ≡ value_over (value_of (node_of upper)) (lower_value lower) → made.mark ≡ None →
-    laid_under (lower_children lower) (nodes_of (out-Tree upper).children.items) ≡ Some (nodes_of made.children.items) → laid_unmarked lower (node_of upper) ≡ there (node_of (roll-Tree made))
+pub unmarked-there : (lower : Option Node) (upper : Tree) (made : Tree-F Child Tree) → made.value ≡ value_over (value_of (node_of upper)) (lower_value lower)
+    → made.mark ≡ None →
+    laid_under (lower_children lower) (nodes_of (out-Tree upper).children.items) ≡ Some (nodes_of made.children.items) → laid_unmarked lower (node_of upper) ≡
+    there (node_of (roll-Tree made))
 unmarked-there lower upper made value mark children =
     ap (λ os. over_children (value_over (value_of (node_of upper)) (lower_value lower)) (laid_under (lower_children lower) os)) (under-out upper)
     ∙ ap (over_children (value_over (value_of (node_of upper)) (lower_value lower))) children

@@ -1,3 +1,4 @@
+pub mod Common
 pub mod TextLemmas
 pub mod ListLemmas
 pub mod NameOrder

@@ -1,13 +1,6 @@
 -- The order of names: of two names that differ exactly one stands before the other.
-use Rattle.std.proofs.Common.{◌≡◌, ℕ, Bool, true, false, List, refl, sym, ap, ◌∙◌, true≢false}
-use Rattle.std.specs.Str.{bytes_eq}
-use Rattle.std.specs.Ordering.{nat_cmp, is_lt, is_eq, ordering_reverse}
-use Rattle.std.specs.declared.cmp.Ordering.{Ordering}
-use Rattle.std.specs.declared.cmp.Ordering.TheVariants.{Less, Equal, Greater}
-use Rattle.std.specs.Cmp.Lexicographic.{slice_cmp}
-use Rattle.std.proofs.lemmas.Cmp.{nat_list_cmp_total}
-use Rattle.std.proofs.lemmas.Map.Text.{is_eq-slice_cmp}
-use Rattle.sim_tree.specs.Trees.{is_before}
+use Rattle.sim_merge.proofs.Common.{nat_cmp, nat_list_cmp_total, Ordering, ordering_reverse, slice_cmp, sym, true≢false, ◌∙◌}
+use Rattle.sim_merge.proofs.Common.{◌≡◌, ℕ, Bool, true, false, List, bytes_eq, refl, ap, Equal, Greater, is_before, is_eq, is_eq-slice_cmp, is_lt, Less}
 
 less_from : (o : Ordering) → is_lt o ≡ true → o ≡ Less
 less_from Less e = refl

@@ -1,16 +1,10 @@
 -- The nodes that lists of children in memory stand for.
-use Rattle.std.proofs.Common.{◌≡◌, ℕ, ◌+◌, ◌<◌, true, false, List, [], ◌∷◌, ◌++◌, length, map, drop, get_or, None, sym, ap, ◌∙◌, subst}
-use Rattle.std.specs.Str.{bytes_eq}
-use Rattle.std.proofs.lemmas.List.{at_drop_more, map-append}
-use Rattle.sim_tree.specs.declared.tree.Tree.{Tree}
-use Rattle.sim_tree.specs.declared.tree.Child.{Child}
-use Rattle.sim_tree.specs.declared.tree.Child.TheOpen.{Tree-F, Child-F}
-use Rattle.sim_tree.specs.declared.tree.Child.TheViews.{out-Tree, roll-Tree, out-Child, roll-Child}
-use Rattle.sim_tree.specs.declared.tree.Child.TheFolds.{fold_out-Tree, fold_out-Child, fold-roll-Tree, fold-roll-Child}
-use Rattle.sim_tree.specs.Trees.{Node, Children, node, child, no_children, node_of, named_of, nodes_of, children_of, child_step, node_step, child_named, is_before, is_sound, are_sound}
-use Rattle.sim_merge.specs.Laying.{before, behind, followed_by}
-use Rattle.sim_merge.specs.Merging.{IsPast}
-use Rattle.sim_merge.proofs.ChildrenLemmas.{children_of-append, followed_by-end, child_named-stopped, behind-stopped, behind-same, before-stopped, before-passed, child_named-passed, behind-passed, are_sound-rest, is_sound-first}
+use Rattle.sim_merge.proofs.ChildrenLemmas.{are_sound-rest, before-passed, before-stopped, behind-passed, behind-same, behind-stopped, child_named-passed}
+use Rattle.sim_merge.proofs.ChildrenLemmas.{child_named-stopped, children_of-append, followed_by-end, is_sound-first}
+use Rattle.sim_merge.proofs.Common.{before, behind, Child, child, Child-F, child_named, child_step, Children, children_of, fold-roll-Child, fold-roll-Tree}
+use Rattle.sim_merge.proofs.Common.{fold_out-Child, fold_out-Tree, followed_by, is_before, is_sound, IsPast, map-append, named_of, no_children, Node, node}
+use Rattle.sim_merge.proofs.Common.{node_of, node_step, nodes_of, out-Child, out-Tree, roll-Child, roll-Tree, subst, sym, Tree, Tree-F, ◌∙◌}
+use Rattle.sim_merge.proofs.Common.{◌≡◌, ℕ, ◌+◌, ◌<◌, true, false, List, [], ◌∷◌, ◌++◌, map, length, get_or, drop, None, bytes_eq, ap, are_sound, at_drop_more}
 
 pub named_of-roll : (c : Child-F Child Tree) → named_of (roll-Child c) ≡ (c.name, node_of c.tree)
 named_of-roll = fold-roll-Child (List ℕ × Node) Node child_step node_step
@@ -27,8 +21,10 @@ node_of-roll = fold-roll-Tree (List ℕ × Node) Node child_step node_step
 pub nodes_of-append : (xs ys : List Child) → nodes_of (xs ++ ys) ≡ followed_by (nodes_of xs) (nodes_of ys)
 nodes_of-append xs ys = ap children_of (map-append named_of xs ys) ∙ children_of-append (map named_of xs) (map named_of ys)
 
-pub nodes_of-push : (xs : List Child) (c : Child-F Child Tree) → nodes_of (xs ++ roll-Child c ∷ []) ≡ followed_by (nodes_of xs) (child c.name (node_of c.tree) no_children)
-nodes_of-push xs c = nodes_of-append xs (roll-Child c ∷ []) ∙ ap (λ (p : List ℕ × Node). followed_by (nodes_of xs) (child p.0 p.1 no_children)) (named_of-roll c)
+pub nodes_of-push : (xs : List Child) (c : Child-F Child Tree) → nodes_of (xs ++ roll-Child c ∷ []) ≡ followed_by (nodes_of xs)
+    (child c.name (node_of c.tree) no_children)
+nodes_of-push xs c = nodes_of-append xs (roll-Child c ∷ []) ∙ ap (λ (p : List ℕ × Node). followed_by (nodes_of xs) (child p.0 p.1 no_children))
+    (named_of-roll c)
 
 -- the child at a place, and those behind it
 pub nodes_of-at : (xs : List Child) (i : ℕ) (c : Child) → i < length xs → c ≡ get_or xs i c →
@@ -42,13 +38,15 @@ nodes_of-first xs c within is = nodes_of-at xs 0 c within is
 
 -- ---- the first child
 
-pub first_named-other : (xs : List Child) (c : Child) (name : List ℕ) → 0 < length xs → c ≡ get_or xs 0 c → are_sound (nodes_of xs) ≡ true → before name (nodes_of xs) ≡ no_children →
+pub first_named-other : (xs : List Child) (c : Child) (name : List ℕ) → 0 < length xs → c ≡ get_or xs 0 c → are_sound (nodes_of xs) ≡ true
+    → before name (nodes_of xs) ≡ no_children →
     bytes_eq (named_of c).0 name ≡ false → child_named name (nodes_of xs) ≡ None
 first_named-other xs c name within is sound none other =
     let P : Children → Type 0 = λ cs. are_sound cs ≡ true → before name cs ≡ no_children → child_named name cs ≡ None in
     subst P (sym (nodes_of-first xs c within is)) (λ s n. child_named-stopped name (named_of c).0 (named_of c).1 (nodes_of (drop 1 xs)) s n other) sound none
 
-pub behind-other : (xs : List Child) (c : Child) (name : List ℕ) → 0 < length xs → c ≡ get_or xs 0 c → are_sound (nodes_of xs) ≡ true → before name (nodes_of xs) ≡ no_children →
+pub behind-other : (xs : List Child) (c : Child) (name : List ℕ) → 0 < length xs → c ≡ get_or xs 0 c → are_sound (nodes_of xs) ≡ true
+    → before name (nodes_of xs) ≡ no_children →
     bytes_eq (named_of c).0 name ≡ false → behind name (nodes_of xs) ≡ nodes_of xs
 behind-other xs c name within is sound none other =
     let P : Children → Type 0 = λ cs. are_sound cs ≡ true → before name cs ≡ no_children → behind name cs ≡ cs in
@@ -60,19 +58,22 @@ behind-first xs c name within is sound same =
     let P : Children → Type 0 = λ cs. are_sound cs ≡ true → behind name cs ≡ nodes_of (drop 1 xs) in
     subst P (sym (nodes_of-first xs c within is)) (λ s. behind-same name (named_of c).0 (named_of c).1 (nodes_of (drop 1 xs)) s same) sound
 
-pub are_sound-drop : (xs : List Child) (i : ℕ) (c : Child) → i < length xs → c ≡ get_or xs i c → are_sound (nodes_of (drop i xs)) ≡ true → are_sound (nodes_of (drop (i + 1) xs)) ≡ true
+pub are_sound-drop : (xs : List Child) (i : ℕ) (c : Child) → i < length xs → c ≡ get_or xs i c → are_sound (nodes_of (drop i xs)) ≡ true
+    → are_sound (nodes_of (drop (i + 1) xs)) ≡ true
 are_sound-drop xs i c within is sound =
     are_sound-rest (named_of c).0 (named_of c).1 (nodes_of (drop (i + 1) xs)) (ap are_sound (sym (nodes_of-at xs i c within is)) ∙ sound)
 
 -- the tree of the first child is sound
-pub is_sound-first_named : (xs : List Child) (c : Child) → 0 < length xs → c ≡ get_or xs 0 c → are_sound (nodes_of xs) ≡ true → is_sound (node_of (out-Child c).tree) ≡ true
+pub is_sound-first_named : (xs : List Child) (c : Child) → 0 < length xs → c ≡ get_or xs 0 c → are_sound (nodes_of xs) ≡ true
+    → is_sound (node_of (out-Child c).tree) ≡ true
 is_sound-first_named xs c within is sound =
     ap (λ (p : List ℕ × Node). is_sound p.1) (sym (named_of-out c))
     ∙ is_sound-first (named_of c).0 (named_of c).1 (nodes_of (drop 1 xs)) (ap are_sound (sym (nodes_of-first xs c within is)) ∙ sound)
 
 -- ---- the children before a name
 
-pub past : (name : List ℕ) (old out lower rest : Children) → followed_by out (before name rest) ≡ followed_by old (before name lower) → before name rest ≡ no_children →
+pub past : (name : List ℕ) (old out lower rest : Children) → followed_by out (before name rest) ≡ followed_by old (before name lower)
+    → before name rest ≡ no_children →
     child_named name rest ≡ child_named name lower → behind name rest ≡ behind name lower → are_sound rest ≡ true → IsPast name old out lower rest
 past name old out lower rest passed none named behind sound = record {
   passed = sym (followed_by-end out) ∙ ap (followed_by out) (sym none) ∙ passed;
@@ -84,18 +85,22 @@ past name old out lower rest passed none named behind sound = record {
 
 pub before-at : (xs : List Child) (i : ℕ) (c : Child) (name : List ℕ) → i < length xs → c ≡ get_or xs i c → is_before (named_of c).0 name ≡ true →
     before name (nodes_of (drop i xs)) ≡ child (named_of c).0 (named_of c).1 (before name (nodes_of (drop (i + 1) xs)))
-before-at xs i c name within is e = ap (before name) (nodes_of-at xs i c within is) ∙ before-passed name (named_of c).0 (named_of c).1 (nodes_of (drop (i + 1) xs)) e
+before-at xs i c name within is e = ap (before name) (nodes_of-at xs i c within is) ∙ before-passed name (named_of c).0 (named_of c).1
+    (nodes_of (drop (i + 1) xs)) e
 
 pub child_named-at : (xs : List Child) (i : ℕ) (c : Child) (name : List ℕ) → i < length xs → c ≡ get_or xs i c → is_before (named_of c).0 name ≡ true →
     child_named name (nodes_of (drop i xs)) ≡ child_named name (nodes_of (drop (i + 1) xs))
-child_named-at xs i c name within is e = ap (child_named name) (nodes_of-at xs i c within is) ∙ child_named-passed name (named_of c).0 (named_of c).1 (nodes_of (drop (i + 1) xs)) e
+child_named-at xs i c name within is e = ap (child_named name) (nodes_of-at xs i c within is) ∙ child_named-passed name (named_of c).0 (named_of c).1
+    (nodes_of (drop (i + 1) xs)) e
 
 pub behind-at : (xs : List Child) (i : ℕ) (c : Child) (name : List ℕ) → i < length xs → c ≡ get_or xs i c → is_before (named_of c).0 name ≡ true →
     behind name (nodes_of (drop i xs)) ≡ behind name (nodes_of (drop (i + 1) xs))
-behind-at xs i c name within is e = ap (behind name) (nodes_of-at xs i c within is) ∙ behind-passed name (named_of c).0 (named_of c).1 (nodes_of (drop (i + 1) xs)) e
+behind-at xs i c name within is e = ap (behind name) (nodes_of-at xs i c within is) ∙ behind-passed name (named_of c).0 (named_of c).1
+    (nodes_of (drop (i + 1) xs)) e
 
 -- a child that does not stand before the name stops the walk
-pub before-at-stop : (xs : List Child) (i : ℕ) (c : Child) (name : List ℕ) → i < length xs → c ≡ get_or xs i c → are_sound (nodes_of (drop i xs)) ≡ true → is_before (named_of c).0 name ≡ false →
+pub before-at-stop : (xs : List Child) (i : ℕ) (c : Child) (name : List ℕ) → i < length xs → c ≡ get_or xs i c → are_sound (nodes_of (drop i xs)) ≡ true
+    → is_before (named_of c).0 name ≡ false →
     before name (nodes_of (drop i xs)) ≡ no_children
 before-at-stop xs i c name within is sound e =
     let at = nodes_of-at xs i c within is in

@@ -1,15 +1,6 @@
 -- Operations on texts, by their results as numbers.
-use Rattle.std.proofs.Common.{◌≡◌, ℕ, ℤ, pos, negsuc, Bool, true, false, List, Option, Some, None, refl, sym, ap, ◌∙◌, arith}
-use Rattle.std.specs.Prelude.{option_and_then, option_map, FitsSigned}
-use Rattle.std.specs.Option.{SomeIff}
-use Rattle.std.specs.Int.{w32}
-use Rattle.std.proofs.lemmas.Bool.{cond-true, cond-false}
-use Rattle.std.proofs.lemmas.Bool.Decides.{nat_tests}
-use Rattle.std.proofs.lemmas.Int.{ints}
-use Rattle.sim_base.specs.Numbers.{is_raw}
-use Rattle.sim_base.specs.NumberText.{number_of, in_range, text_of}
-use Rattle.sim_merge.specs.Values.{text_by}
-use Rattle.sim_merge.specs.Operations.{number_by}
+use Rattle.sim_merge.proofs.Common.{ap, arith, cond-false, cond-true, in_range, ints, is_raw, nat_tests, number_by, number_of, sym, text_by, text_of, w32, ◌∙◌}
+use Rattle.sim_merge.proofs.Common.{◌≡◌, ℕ, Bool, true, false, List, ℤ, pos, negsuc, SomeIff, FitsSigned, Some, None, Option, option_map, option_and_then, refl}
 
 is_raw-FitsSigned : (z : ℤ) → FitsSigned w32 z → is_raw z ≡ true
 is_raw-FitsSigned (pos n) fits = grind (arith, ints, nat_tests)
@@ -42,7 +33,8 @@ pub text_by-number_by : (operation : ℤ → ℤ → ℤ) (lower upper : List �
 unfolding text_by
 text_by-number_by operation lower upper = by (number_of lower) (number_of upper)
   where
-    by : (l u : Option ℤ) → option_and_then (λ x. option_and_then (λ y. option_map text_of (in_range (operation x y))) u) l ≡ option_map text_of (combined operation l u)
+    by : (l u : Option ℤ) → option_and_then (λ x. option_and_then (λ y. option_map text_of (in_range (operation x y))) u) l ≡ option_map text_of
+        (combined operation l u)
     by None u = refl
     by (Some x) None = refl
     by (Some x) (Some y) = refl

@@ -1,18 +1,12 @@
 -- What is laid over a tree has at each path what the map from paths says.
-use Rattle.std.proofs.Common.{◌≡◌, ℕ, Bool, true, false, List, [], ◌∷◌, Option, Some, None, refl, sym, ap, ◌∙◌, subst, true≢false, if◌then◌else◌}
-use Rattle.std.specs.Prelude.{is_some, is_none}
-use Rattle.std.specs.Str.{bytes_eq}
-use Rattle.std.proofs.lemmas.Bool.{cond-true, cond-false, false_from_ne_true}
-use Rattle.std.proofs.Math.Path.{fun_ext}
-use Rattle.std.proofs.lemmas.Slice.Eq.{bytes_eq-Decides}
-use Rattle.sim_tree.specs.declared.tree.TreeMark.{TreeMark}
-use Rattle.sim_tree.specs.declared.tree.TreeMark.TheVariants.{Disable, Replace, Merge, Add, Mul, Tokens}
-use Rattle.sim_tree.specs.Trees.{Node, Children, Entry, node, child, no_children, at, at_child, child_named, value_of, under, is_before, is_least, is_sound, are_sound, is_plain, are_plain}
-use Rattle.sim_merge.specs.Values.{Value, value_over, sum_of, product_of, words_over}
-use Rattle.sim_merge.specs.Laying.{Laying, refused, absent, there, laid, laid_under, lower_value, lower_children, before, behind, followed_by, with_lower, with_laid, over_children, with_value}
-use Rattle.sim_merge.specs.Overlay.{Path, Paths, at_if, below, below_if, root_value, root_mark, plain, root_with, root_by, unmarked_below, lay, paths_if, laying_at}
-use Rattle.sim_merge.proofs.NameOrder.{is_before-asym, is_before-irrefl, is_before-total}
-use Rattle.sim_merge.proofs.ChildrenLemmas.{and_left, and_right, is_least-before, is_least-rest, is_sound-first, are_sound-rest, child_named-least}
+use Rattle.sim_merge.proofs.{Common.with_value, Common.words_over, Common.◌∙◌, NameOrder.is_before-asym, NameOrder.is_before-irrefl, NameOrder.is_before-total}
+use Rattle.sim_merge.proofs.ChildrenLemmas.{and_left, and_right, are_sound-rest, child_named-least, is_least-before, is_least-rest, is_sound-first}
+use Rattle.sim_merge.proofs.Common.{Children, cond-false, cond-true, Disable, Entry, false_from_ne_true, followed_by, fun_ext, is_before, is_least, is_plain}
+use Rattle.sim_merge.proofs.Common.{ap, are_plain, are_sound, at, at_child, at_if, before, behind, below, below_if, bytes_eq-Decides, child, child_named}
+use Rattle.sim_merge.proofs.Common.{is_sound, laid, laid_under, lay, Laying, laying_at, lower_children, lower_value, Merge, Mul, no_children, Node, node}
+use Rattle.sim_merge.proofs.Common.{over_children, Path, Paths, paths_if, plain, product_of, refused, Replace, root_by, root_mark, root_value, root_with, subst}
+use Rattle.sim_merge.proofs.Common.{sum_of, sym, there, Tokens, TreeMark, true≢false, under, unmarked_below, Value, value_of, value_over, with_laid, with_lower}
+use Rattle.sim_merge.proofs.Common.{◌≡◌, ℕ, Bool, true, false, List, [], ◌∷◌, is_some, is_none, if◌then◌else◌, Some, None, bytes_eq, Option, refl, absent, Add}
 use Rattle.sim_merge.proofs.FitLemmas.{IfNode}
 
 -- ---- options
@@ -110,12 +104,15 @@ behind_first first absent rest = rest
 behind_first first (there n) rest = child first n rest
 
 -- one step by name: the first upper child, and the rest by what is known of it
-merged-step : (name first : List ℕ) (lower os rest : Children) (o : Node) (laying : Laying) → (laying ≡ refused → ⊥) → laid (child_named first lower) o ≡ laying → is_least first os ≡ true →
+merged-step : (name first : List ℕ) (lower os rest : Children) (o : Node) (laying : Laying) → (laying ≡ refused → ⊥) → laid (child_named first lower) o ≡ laying
+    → is_least first os ≡ true →
     found (child_named name rest) ≡ merged (child_named name os) (child_named name (behind first lower)) →
-    found (child_named name (followed_by (before first lower) (behind_first first laying rest))) ≡ merged (child_named name (child first o os)) (child_named name lower)
+    found (child_named name (followed_by (before first lower) (behind_first first laying rest))) ≡ merged (child_named name (child first o os))
+    (child_named name lower)
 merged-step name first lower os rest o laying stands is least known = by (bytes_eq first name) refl (is_before name first) refl
   where
-    open_ : found (child_named name (followed_by (before first lower) (behind_first first laying rest))) ≡ found (or_else (child_named name (before first lower)) (child_named name (behind_first first laying rest)))
+    open_ : found (child_named name (followed_by (before first lower) (behind_first first laying rest))) ≡ found
+        (or_else (child_named name (before first lower)) (child_named name (behind_first first laying rest)))
     open_ = ap found (child_named-followed_by name (before first lower) (behind_first first laying rest))
 
     skip : (l : Laying) → bytes_eq first name ≡ false → child_named name (behind_first first l rest) ≡ child_named name rest
@@ -127,20 +124,23 @@ merged-step name first lower os rest o laying stands is least known = by (bytes_
     keeps None r e = ap found (e refl)
     keeps (Some n) r e = refl
 
-    here : (l : Laying) → (l ≡ refused → ⊥) → bytes_eq first name ≡ true → child_named name rest ≡ None → found (child_named name (behind_first first l rest)) ≡ l
+    here : (l : Laying) → (l ≡ refused → ⊥) → bytes_eq first name ≡ true → child_named name rest ≡ None → found (child_named name (behind_first first l rest)) ≡
+        l
     here refused f e none = absurd (f refl)
     here absent f e none = ap found none
     here (there n) f e none = ap found (cond-true (bytes_eq first name) _ _ e)
 
     by : (b : Bool) → bytes_eq first name ≡ b → (c : Bool) → is_before name first ≡ c →
-        found (child_named name (followed_by (before first lower) (behind_first first laying rest))) ≡ merged (child_named name (child first o os)) (child_named name lower)
+        found (child_named name (followed_by (before first lower) (behind_first first laying rest))) ≡ merged (child_named name (child first o os))
+        (child_named name lower)
     by true e c f =
         let same : first ≡ name = (bytes_eq-Decides first name).0 e in
         let not_before : is_before name first ≡ false = ap (is_before name) same ∙ is_before-irrefl name in
         let not_behind : is_before first name ≡ false = ap (λ x. is_before x name) same ∙ is_before-irrefl name in
         let no_other : child_named name os ≡ None = child_named-least name os (ap (λ x. is_least x os) (sym same) ∙ least) in
         let none : child_named name rest ≡ None =
-        none-found (child_named name rest) (known ∙ ap (λ m. merged m (child_named name (behind first lower))) no_other ∙ ap found (child_named-not_behind name first lower not_behind)) in
+        none-found (child_named name rest) (known ∙ ap (λ m. merged m (child_named name (behind first lower))) no_other ∙
+        ap found (child_named-not_behind name first lower not_behind)) in
         open_ ∙ ap (λ l. found (or_else l (child_named name (behind_first first laying rest)))) (child_named-not_before name first lower not_before)
         ∙ here laying stands e none ∙ sym is ∙ ap (λ x. laid (child_named x lower) o) same
         ∙ ap (λ m. merged m (child_named name lower)) (sym (cond-true (bytes_eq first name) _ _ e))
@@ -148,7 +148,8 @@ merged-step name first lower os rest o laying stands is least known = by (bytes_
         let not_behind : is_before first name ≡ false = is_before-asym name first f in
         let no_other : child_named name os ≡ None = child_named-least name os (is_least-before name first os f least) in
         let none : child_named name (behind_first first laying rest) ≡ None =
-        skip laying e ∙ none-found (child_named name rest) (known ∙ ap (λ m. merged m (child_named name (behind first lower))) no_other ∙ ap found (child_named-not_behind name first lower not_behind)) in
+        skip laying e ∙ none-found (child_named name rest) (known ∙ ap (λ m. merged m (child_named name (behind first lower))) no_other ∙
+        ap found (child_named-not_behind name first lower not_behind)) in
         open_ ∙ ap (λ l. found (or_else l (child_named name (behind_first first laying rest)))) (child_named-before name first lower f)
         ∙ keeps (child_named name lower) (child_named name (behind_first first laying rest)) (λ g. none)
         ∙ ap (λ m. merged m (child_named name lower)) (sym (cond-false (bytes_eq first name) _ _ e ∙ no_other))
@@ -166,7 +167,8 @@ record Parts (first : List ℕ) (lower cs : Children) (laying : Laying) (more : 
   more-is : more ≡ Some rest
   is : cs ≡ followed_by (before first lower) (behind_first first laying rest)
 
-parts : (first : List ℕ) (lower cs : Children) (laying : Laying) (more : Option Children) → with_lower (before first lower) (with_laid first laying more) ≡ Some cs → Parts first lower cs laying more
+parts : (first : List ℕ) (lower cs : Children) (laying : Laying) (more : Option Children) → with_lower (before first lower) (with_laid first laying more) ≡
+    Some cs → Parts first lower cs laying more
 parts first lower cs refused more e = none-some cs e
 parts first lower cs absent None e = none-some cs e
 parts first lower cs absent (Some rest) e = record { rest = rest; stands = λ f. differ f; more-is = refl; is = sym (some-same _ _ e) }
@@ -253,7 +255,8 @@ sound-named name (child other n cs) e = by (bytes_eq other name) (sound-named na
 
 -- what is known of the rest of a path
 abbrev pub Law : Path → Type 0
-Law path = (lower : Option Node) (upper : Node) → IsPlainIf lower → is_sound upper ≡ true → (laid lower upper ≡ refused → ⊥) → laying_at (laid lower upper) path ≡ lay (paths_if lower) (at upper) path
+Law path = (lower : Option Node) (upper : Node) → IsPlainIf lower → is_sound upper ≡ true → (laid lower upper ≡ refused → ⊥)
+    → laying_at (laid lower upper) path ≡ lay (paths_if lower) (at upper) path
 
 pub unrefused : (o : Option Node) (l : Laying) → found o ≡ l → l ≡ refused → ⊥
 unrefused None l e f = differ (e ∙ f)
@@ -265,7 +268,8 @@ unrefused (Some n) l e f = differ (e ∙ f)
     differ : there n ≡ refused → ⊥
     differ g = cc
 
-below-law : (name : List ℕ) (path : Path) → Law path → (value : Value) (mark : Option TreeMark) (lower : Option Node) (os cs : Children) → IsPlainIf lower → are_sound os ≡ true →
+below-law : (name : List ℕ) (path : Path) → Law path → (value : Value) (mark : Option TreeMark) (lower : Option Node) (os cs : Children) → IsPlainIf lower
+    → are_sound os ≡ true →
     laid_under (lower_children lower) os ≡ Some cs →
     at_child cs name path ≡ unmarked_below (at (node value mark os)) (paths_if lower) name path (λ b. lay b (λ more. at_child os name more) path)
 below-law name path law value mark lower os cs plain sound e =
@@ -278,18 +282,22 @@ below-law name path law value mark lower os cs plain sound e =
     known : found (child_named name cs) ≡ merged (child_named name os) (child_named name (lower_children lower))
     known = named-laid_under name (lower_children lower) os cs sound e
 
-    by : (o : Option Node) → child_named name os ≡ o → IfNode (λ n. is_sound n ≡ true) (child_named name os) → laying_at (merged (child_named name os) (child_named name (lower_children lower))) path
-        ≡ (if is_some (at_child os name []) then lay (below_if name (paths_if lower)) (λ more. at_child os name more) path else at_if (paths_if lower) (name ∷ path))
+    by : (o : Option Node) → child_named name os ≡ o → IfNode (λ n. is_sound n ≡ true) (child_named name os)
+        → laying_at (merged (child_named name os) (child_named name (lower_children lower))) path
+        ≡ (if is_some (at_child os name []) then lay (below_if name (paths_if lower)) (λ more. at_child os name more) path else at_if (paths_if lower)
+        (name ∷ path))
     by None is fit =
         ap (λ m. laying_at (merged m (child_named name (lower_children lower))) path) is
-        ∙ laying_at-found (child_named name (lower_children lower)) path ∙ sym (at_child-named (lower_children lower) name path) ∙ sym (at_if-below lower name path)
+        ∙ laying_at-found (child_named name (lower_children lower)) path ∙ sym (at_child-named (lower_children lower) name path) ∙
+        sym (at_if-below lower name path)
         ∙ sym (cond-false (is_some (at_child os name [])) _ _ (ap is_some (at_child-named os name [] ∙ ap (λ m. at_if (paths_if m) []) is)))
     by (Some o) is fit =
         let P : Option Node → Type 0 = λ m. IfNode (λ n. is_sound n ≡ true) m in
         let fits : is_sound o ≡ true = subst P is fit in
         let upper : (λ more. at_child os name more) ≡ at o = fun_ext (λ more. at_child-named os name more ∙ ap (λ m. at_if (paths_if m) more) is) in
         let stands : laid (child_named name (lower_children lower)) o ≡ refused → ⊥ =
-        unrefused (child_named name cs) (laid (child_named name (lower_children lower)) o) (known ∙ ap (λ m. merged m (child_named name (lower_children lower))) is) in
+        unrefused (child_named name cs) (laid (child_named name (lower_children lower)) o)
+        (known ∙ ap (λ m. merged m (child_named name (lower_children lower))) is) in
         ap (λ m. laying_at (merged m (child_named name (lower_children lower))) path) is
         ∙ law (child_named name (lower_children lower)) o (plain-named name (lower_children lower) (plain-children lower plain)) fits stands
         ∙ ap (λ b. lay b (at o) path) (sym (below_if-paths_if name lower)) ∙ ap (λ (u : Paths). lay (below_if name (paths_if lower)) u path) (sym upper)
@@ -319,12 +327,14 @@ root_with-plain value (node own mark cs) e = ap (entry_of value) (sym (none-mark
 root-law : (lower : Option Node) (upper : Node) → IsPlainIf lower → (laid lower upper ≡ refused → ⊥) →
     laying_at (laid lower upper) [] ≡ root_by (root_mark (at upper)) (root_value (Some (at upper))) (paths_if lower)
 root-law lower (node value None os) plainly stands =
-    over-root (value_over value (lower_value lower)) (laid_under (lower_children lower) os) stands ∙ ap (λ v. plain (value_over value v)) (sym (root_value-paths_if lower))
+    over-root (value_over value (lower_value lower)) (laid_under (lower_children lower) os) stands ∙ ap (λ v. plain (value_over value v))
+    (sym (root_value-paths_if lower))
 root-law lower (node value (Some Disable) os) plainly stands = refl
 root-law lower (node value (Some Replace) os) plainly stands = over-root value (laid_under no_children os) stands
 root-law None (node value (Some Merge) os) plainly stands = refl
 root-law (Some lower) (node value (Some Merge) os) plainly stands =
-    over-root (value_over value (value_of lower)) (laid_under (under lower) os) stands ∙ ap (λ v. plain (value_over value v)) (sym (root_value-paths_if (Some lower)))
+    over-root (value_over value (value_of lower)) (laid_under (under lower) os) stands ∙ ap (λ v. plain (value_over value v))
+    (sym (root_value-paths_if (Some lower)))
 root-law None (node value (Some Add) os) plainly stands = absurd (stands refl)
 root-law (Some lower) (node value (Some Add) os) plainly stands =
     with-root (sum_of (value_of lower) value) (under lower) stands
@@ -332,14 +342,17 @@ root-law (Some lower) (node value (Some Add) os) plainly stands =
 root-law None (node value (Some Mul) os) plainly stands = absurd (stands refl)
 root-law (Some lower) (node value (Some Mul) os) plainly stands =
     with-root (product_of (value_of lower) value) (under lower) stands
-    ∙ ap (λ v. plain (product_of v value)) (sym (root_value-paths_if (Some lower))) ∙ root_with-plain (product_of (root_value (Some (at lower))) value) lower plainly
+    ∙ ap (λ v. plain (product_of v value)) (sym (root_value-paths_if (Some lower))) ∙ root_with-plain (product_of (root_value (Some (at lower))) value) lower
+    plainly
 root-law lower (node value (Some Tokens) os) plainly stands = ap (λ v. plain (Some (words_over value v))) (sym (root_value-paths_if lower))
 
 -- ---- the law
 
-over-below : (name : List ℕ) (path : Path) → Law path → (v value : Value) (mark : Option TreeMark) (lower : Option Node) (os : Children) → IsPlainIf lower → are_sound os ≡ true →
+over-below : (name : List ℕ) (path : Path) → Law path → (v value : Value) (mark : Option TreeMark) (lower : Option Node) (os : Children) → IsPlainIf lower
+    → are_sound os ≡ true →
     (m : Option Children) → laid_under (lower_children lower) os ≡ m → (over_children v m ≡ refused → ⊥) →
-    laying_at (over_children v m) (name ∷ path) ≡ unmarked_below (at (node value mark os)) (paths_if lower) name path (λ b. lay b (λ more. at_child os name more) path)
+    laying_at (over_children v m) (name ∷ path) ≡ unmarked_below (at (node value mark os)) (paths_if lower) name path
+    (λ b. lay b (λ more. at_child os name more) path)
 over-below name path law v value mark lower os plainly sound None e stands = absurd (stands refl)
 over-below name path law v value mark lower os plainly sound (Some cs) e stands = below-law name path law value mark lower os cs plainly sound e
 

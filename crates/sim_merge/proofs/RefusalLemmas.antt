@@ -1,26 +1,20 @@
 -- What is laid over a tree is refused exactly where an operation at a met path is.
-use Rattle.std.proofs.Common.{◌≡◌, ℕ, Bool, true, false, ◌&&◌, List, [], ◌∷◌, Option, Some, None, refl, sym, ap, ◌∙◌, subst, inl, inr, ⊎_elim, ◌⊎◌, true≢false}
-use Rattle.std.specs.Prelude.{is_none}
-use Rattle.std.specs.Str.{bytes_eq}
-use Rattle.std.proofs.Math.Path.{fun_ext}
-use Rattle.std.proofs.lemmas.Bool.{cond-true, cond-false, false_from_ne_true}
-use Rattle.std.proofs.lemmas.Slice.Eq.{bytes_eq-Decides}
-use Rattle.sim_tree.specs.declared.tree.TreeMark.TheVariants.{Disable, Replace, Merge, Add, Mul, Tokens}
-use Rattle.sim_tree.specs.Trees.{Node, Children, node, child, no_children, at, at_child, child_named, value_of, under, is_before, is_least, is_sound, are_sound}
-use Rattle.sim_merge.specs.Values.{Value, value_over, sum_of, product_of}
-use Rattle.sim_merge.specs.Laying.{Laying, refused, absent, there, laid, laid_under, lower_value, lower_children, before, behind, with_lower, with_laid, over_children, with_value}
-use Rattle.sim_merge.specs.Overlay.{HasLaid, IsRefused, laying_at, Path, Paths, at_if, below_if, paths_if, is_bad, lower_at, is_refused_at}
+use Rattle.sim_merge.proofs.{FitLemmas.IfNode, PathLemmas.sound-named, PathLemmas.unrefused, ResolvedLemmas.fit-is_resolved, ResolvedLemmas.is_sound-layable}
+use Rattle.sim_merge.proofs.ChildrenLemmas.{and_left, and_right, are_sound-rest, is_least-rest, is_sound-first}
+use Rattle.sim_merge.proofs.Common.{Tokens, true≢false, under, Value, value_of, value_over, with_laid, with_lower, with_value, ⊎_elim, ◌∙◌}
+use Rattle.sim_merge.proofs.Common.{are_sound, at, at_child, at_if, before, behind, below_if, bytes_eq-Decides, child, child_named, Children, cond-false}
+use Rattle.sim_merge.proofs.Common.{cond-true, Disable, false_from_ne_true, fun_ext, HasLaid, inl, inr, is_bad, is_before, is_layable, is_least, is_refused_at}
+use Rattle.sim_merge.proofs.Common.{is_resolved, is_sound, IsRefused, laid, laid_under, Laying, laying_at, lower_at, lower_children, lower_value, Merge, Mul}
+use Rattle.sim_merge.proofs.Common.{no_children, Node, node, over_children, Path, Paths, paths_if, product_of, refused, Replace, subst, sum_of, sym, there}
+use Rattle.sim_merge.proofs.Common.{◌≡◌, ℕ, Bool, true, false, ◌&&◌, ◌⊎◌, List, [], ◌∷◌, is_none, Some, None, bytes_eq, Option, refl, absent, Add, ap}
 use Rattle.sim_merge.proofs.NameOrder.{bytes_eq-before}
-use Rattle.sim_merge.proofs.ChildrenLemmas.{and_left, and_right, is_least-rest, is_sound-first, are_sound-rest}
-use Rattle.sim_merge.proofs.FitLemmas.{IfNode}
-use Rattle.sim_merge.specs.Libraries.{is_resolved, is_layable}
-use Rattle.sim_merge.proofs.ResolvedLemmas.{fit-is_resolved, is_sound-layable}
-use Rattle.sim_merge.proofs.PathLemmas.{lay-laid, merged, unrefused, named-laid_under, at_child-named, below_if-paths_if, root_value-paths_if, sound-named, child_named-behind}
+use Rattle.sim_merge.proofs.PathLemmas.{at_child-named, below_if-paths_if, child_named-behind, lay-laid, merged, named-laid_under, root_value-paths_if}
 
 -- ---- below a name
 
 into-named : (name : List ℕ) (path : Path) (lower : Option Node) (os : Children) (o : Node) → child_named name os ≡ Some o →
-    is_refused_at (below_if name (paths_if lower)) (λ more. at_child os name more) path ≡ is_refused_at (paths_if (child_named name (lower_children lower))) (at o) path
+    is_refused_at (below_if name (paths_if lower)) (λ more. at_child os name more) path ≡ is_refused_at (paths_if (child_named name (lower_children lower)))
+    (at o) path
 into-named name path lower os o is =
     let upper : (λ more. at_child os name more) ≡ at o = fun_ext (λ more. at_child-named os name more ∙ ap (λ m. at_if (paths_if m) more) is) in
     ap (λ b. is_refused_at b (λ more. at_child os name more) path) (below_if-paths_if name lower)
@@ -31,17 +25,20 @@ and-false true b e = e
 and-false false b e = refl
 
 -- nothing is refused where the upper tree has no such name
-into-none : (name : List ℕ) (path : Path) (b : Option Paths) (os : Children) → child_named name os ≡ None → is_refused_at b (λ more. at_child os name more) path ≡ false
+into-none : (name : List ℕ) (path : Path) (b : Option Paths) (os : Children) → child_named name os ≡ None → is_refused_at b (λ more. at_child os name more)
+    path ≡ false
 into-none name path b os is =
     and-false _ _ (ap (λ e. is_bad e (lower_at b (λ more. at_child os name more) path)) (at_child-named os name path ∙ ap (λ m. at_if (paths_if m) path) is))
 
-under-refused : (name : List ℕ) (lower os : Children) (o : Node) → are_sound os ≡ true → child_named name os ≡ Some o → laid (child_named name lower) o ≡ refused → laid_under lower os ≡ None
+under-refused : (name : List ℕ) (lower os : Children) (o : Node) → are_sound os ≡ true → child_named name os ≡ Some o → laid (child_named name lower) o ≡
+    refused → laid_under lower os ≡ None
 under-refused name lower os o sound is e = by (laid_under lower os) refl
   where
     by : (m : Option Children) → laid_under lower os ≡ m → laid_under lower os ≡ None
     by None f = f
     by (Some cs) f =
-        absurd (unrefused (child_named name cs) (laid (child_named name lower) o) (named-laid_under name lower os cs sound f ∙ ap (λ m. merged m (child_named name lower)) is) e)
+        absurd (unrefused (child_named name cs) (laid (child_named name lower) o) (named-laid_under name lower os cs sound f ∙
+        ap (λ m. merged m (child_named name lower)) is) e)
 
 -- ---- a refused path refuses
 
@@ -64,10 +61,12 @@ root-refuses lower (node value (Some Mul) os) e =
 root-refuses lower (node value (Some Tokens) os) e = absurd (true≢false (sym e))
 
 below-refuses : (name : List ℕ) (path : Path) → Refuses path → (v : Value) (lower : Option Node) (os : Children) → are_sound os ≡ true →
-    is_refused_at (below_if name (paths_if lower)) (λ more. at_child os name more) path ≡ true → over_children v (laid_under (lower_children lower) os) ≡ refused
+    is_refused_at (below_if name (paths_if lower)) (λ more. at_child os name more) path ≡ true → over_children v (laid_under (lower_children lower) os) ≡
+    refused
 below-refuses name path refuses v lower os sound e = by (child_named name os) refl (sound-named name os sound)
   where
-    by : (o : Option Node) → child_named name os ≡ o → IfNode (λ n. is_sound n ≡ true) (child_named name os) → over_children v (laid_under (lower_children lower) os) ≡ refused
+    by : (o : Option Node) → child_named name os ≡ o → IfNode (λ n. is_sound n ≡ true) (child_named name os)
+        → over_children v (laid_under (lower_children lower) os) ≡ refused
     by None is fit = absurd (true≢false (sym e ∙ into-none name path (below_if name (paths_if lower)) os is))
     by (Some o) is fit =
         let P : Option Node → Type 0 = λ m. IfNode (λ n. is_sound n ≡ true) m in
@@ -80,12 +79,16 @@ step-refuses name path refuses lower (node value None os) sound e = below-refuse
 step-refuses name path refuses lower (node value (Some Disable) os) sound e = absurd (true≢false (sym e))
 step-refuses name path refuses lower (node value (Some Replace) os) sound e = below-refuses name path refuses value None os sound e
 step-refuses name path refuses None (node value (Some Merge) os) sound e = absurd (true≢false (sym e))
-step-refuses name path refuses (Some lower) (node value (Some Merge) os) sound e = below-refuses name path refuses (value_over value (value_of lower)) (Some lower) os sound e
-step-refuses name path refuses lower (node value (Some Add) no_children) sound e = absurd (true≢false (sym e ∙ into-none name path (below_if name (paths_if lower)) no_children refl))
+step-refuses name path refuses (Some lower) (node value (Some Merge) os) sound e = below-refuses name path refuses (value_over value (value_of lower))
+    (Some lower) os sound e
+step-refuses name path refuses lower (node value (Some Add) no_children) sound e =
+    absurd (true≢false (sym e ∙ into-none name path (below_if name (paths_if lower)) no_children refl))
 step-refuses name path refuses lower (node value (Some Add) (child c n cs)) sound e = absurd (true≢false (sym sound))
-step-refuses name path refuses lower (node value (Some Mul) no_children) sound e = absurd (true≢false (sym e ∙ into-none name path (below_if name (paths_if lower)) no_children refl))
+step-refuses name path refuses lower (node value (Some Mul) no_children) sound e =
+    absurd (true≢false (sym e ∙ into-none name path (below_if name (paths_if lower)) no_children refl))
 step-refuses name path refuses lower (node value (Some Mul) (child c n cs)) sound e = absurd (true≢false (sym sound))
-step-refuses name path refuses lower (node value (Some Tokens) no_children) sound e = absurd (true≢false (sym e ∙ into-none name path (below_if name (paths_if lower)) no_children refl))
+step-refuses name path refuses lower (node value (Some Tokens) no_children) sound e =
+    absurd (true≢false (sym e ∙ into-none name path (below_if name (paths_if lower)) no_children refl))
 step-refuses name path refuses lower (node value (Some Tokens) (child c n cs)) sound e = absurd (true≢false (sym sound))
 
 pub refuses : (path : Path) → Refuses path
@@ -127,7 +130,8 @@ not-absent e = cc
 not-none : {X : Type 0} (cs : Children) → Some cs ≡ None → X
 not-none cs e = cc
 
-either : (first : List ℕ) (lower : Children) (laying : Laying) (more : Option Children) → with_lower (before first lower) (with_laid first laying more) ≡ None → (laying ≡ refused) ⊎ (more ≡ None)
+either : (first : List ℕ) (lower : Children) (laying : Laying) (more : Option Children) → with_lower (before first lower) (with_laid first laying more) ≡ None
+    → (laying ≡ refused) ⊎ (more ≡ None)
 either first lower refused more e = inl refl
 either first lower absent None e = inr refl
 either first lower absent (Some cs) e = not-none _ e
@@ -139,7 +143,8 @@ least-named first name no_children o least is = absurd (differ is)
   where
     differ : None ≡ Some o → ⊥
     differ e = cc
-least-named first name (child other n os) o least is = by (bytes_eq other name) refl (least-named first name os o (and_right (is_before first other) (is_least first os) least))
+least-named first name (child other n os) o least is =
+    by (bytes_eq other name) refl (least-named first name os o (and_right (is_before first other) (is_least first os) least))
   where
     by : (b : Bool) → bytes_eq other name ≡ b → (child_named name os ≡ Some o → is_before first name ≡ true) → is_before first name ≡ true
     by true e rest = ap (is_before first) (sym ((bytes_eq-Decides other name).0 e)) ∙ and_left (is_before first other) (is_least first os) least
@@ -154,7 +159,8 @@ here-refused first o lower os at_path = record {
   refused = at_path.1;
 }
 
-later-refused : (first : List ℕ) (o : Node) (lower os : Children) → is_least first os ≡ true → RefusedBelow (behind first lower) os → RefusedBelow lower (child first o os)
+later-refused : (first : List ℕ) (o : Node) (lower os : Children) → is_least first os ≡ true → RefusedBelow (behind first lower) os
+    → RefusedBelow lower (child first o os)
 later-refused first o lower os least b =
     let behind-it : is_before first b.name ≡ true = least-named first b.name os b.upper least b.is in
     record {
@@ -165,23 +171,32 @@ later-refused first o lower os least b =
       refused = ap (λ l. is_refused_at (paths_if l) (at b.upper) b.path) (sym (child_named-behind b.name first lower behind-it)) ∙ b.refused;
     }
 
-up : (lower : Option Node) (os : Children) (b : RefusedBelow (lower_children lower) os) → is_refused_at (below_if b.name (paths_if lower)) (λ more. at_child os b.name more) b.path ≡ true
+up : (lower : Option Node) (os : Children) (b : RefusedBelow (lower_children lower) os) → is_refused_at (below_if b.name (paths_if lower))
+    (λ more. at_child os b.name more) b.path ≡ true
 up lower os b = into-named b.name b.path lower os b.upper b.is ∙ b.refused
 
 mutual
   pub refused-path : (lower : Option Node) (upper : Node) → is_sound upper ≡ true → laid lower upper ≡ refused → RefusedAt lower upper
   refused-path lower (node value None os) sound e =
-      let b = refused-under (lower_children lower) os sound (over-refused (value_over value (lower_value lower)) (laid_under (lower_children lower) os) e) in (b.name ∷ b.path, up lower os b)
+      let b = refused-under (lower_children lower) os sound (over-refused (value_over value (lower_value lower)) (laid_under (lower_children lower) os) e) in
+      (b.name ∷ b.path, up lower os b)
   refused-path lower (node value (Some Disable) os) sound e = not-absent e
   refused-path lower (node value (Some Replace) os) sound e =
       let b = refused-under no_children os sound (over-refused value (laid_under no_children os) e) in (b.name ∷ b.path, up None os b)
   refused-path None (node value (Some Merge) os) sound e = not-absent e
   refused-path (Some lower) (node value (Some Merge) os) sound e =
-      let b = refused-under (under lower) os sound (over-refused (value_over value (value_of lower)) (laid_under (under lower) os) e) in (b.name ∷ b.path, up (Some lower) os b)
-  refused-path lower (node value (Some Add) os) sound e =
-      ([], ap (λ v. is_none (sum_of v value)) (root_value-paths_if lower) ∙ ap is_none (with-refused (sum_of (lower_value lower) value) (lower_children lower) e))
-  refused-path lower (node value (Some Mul) os) sound e =
-      ([], ap (λ v. is_none (product_of v value)) (root_value-paths_if lower) ∙ ap is_none (with-refused (product_of (lower_value lower) value) (lower_children lower) e))
+      let b = refused-under (under lower) os sound (over-refused (value_over value (value_of lower)) (laid_under (under lower) os) e) in
+      (b.name ∷ b.path, up (Some lower) os b)
+  refused-path lower (node value (Some Add) os) sound e = (
+    [],
+    ap (λ v. is_none (sum_of v value)) (root_value-paths_if lower) ∙
+        ap is_none (with-refused (sum_of (lower_value lower) value) (lower_children lower) e),
+  )
+  refused-path lower (node value (Some Mul) os) sound e = (
+    [],
+    ap (λ v. is_none (product_of v value)) (root_value-paths_if lower) ∙
+        ap is_none (with-refused (product_of (lower_value lower) value) (lower_children lower) e),
+  )
   refused-path lower (node value (Some Tokens) os) sound e = not-refused _ e
 
   refused-under : (lower os : Children) → are_sound os ≡ true → laid_under lower os ≡ None → RefusedBelow lower os

@@ -1,15 +1,9 @@
 -- Facts of parents and chains.
-use Rattle.std.proofs.Common.{◌≡◌, ℕ, zero, suc, ◌+◌, ◌-◌, ◌<◌, ◌≤◌, Bool, true, false, not, ◌||◌, nat_lt, List, [], ◌∷◌, length, map, get_or, position, Option, Some, None, refl, sym, ap, ◌∙◌, arith, cond, true≢false, zero-add}
-use Rattle.std.specs.Prelude.{option_map}
-use Rattle.std.specs.List.{prefix_len, position_or_len, range_with_len}
-use Rattle.std.proofs.lemmas.Bool.{cond-true, cond-false}
-use Rattle.std.proofs.lemmas.Bool.Decides.{nat_tests}
-use Rattle.std.proofs.lemmas.List.Sums.{position_or_len_is}
-use Rattle.std.proofs.lemmas.List.FromFn.{get_or-range_with_len, length-range_with_len}
-use Rattle.sim_merge.specs.Resolution.{is_endless, repeats, chain_from, members, chain_fault, chain_refusal}
-use Rattle.sim_merge.specs.Faults.{IfRefusal}
-use Rattle.sim_merge.specs.declared.fault.MergeFault.{MergeFault}
-use Rattle.sim_merge.specs.declared.fault.MergeFault.TheVariants.{NoParent, Cycle, ChainTooLong, BadOp, OutOfMemory}
+use Rattle.sim_merge.proofs.Common.{None, position, Option, option_map, refl, ap, arith, BadOp, chain_fault, chain_from, chain_refusal, ChainTooLong}
+use Rattle.sim_merge.proofs.Common.{cond-false, cond-true, Cycle, get_or-range_with_len, IfRefusal, is_endless, length-range_with_len, members, MergeFault}
+use Rattle.sim_merge.proofs.Common.{nat_tests, NoParent, OutOfMemory, position_or_len, position_or_len_is, prefix_len, range_with_len, repeats, sym, true≢false}
+use Rattle.sim_merge.proofs.Common.{zero-add, ◌∙◌}
+use Rattle.sim_merge.proofs.Common.{◌≡◌, ℕ, zero, suc, ◌+◌, ◌-◌, ◌<◌, ◌≤◌, Bool, true, false, cond, not, ◌||◌, List, [], ◌∷◌, map, length, get_or, nat_lt, Some}
 
 length-map' : {X Y : Type 0} (f : X → Y) (xs : List X) → length (map f xs) ≡ length xs
 length-map' f [] = refl
@@ -24,7 +18,8 @@ position-map f p xs = rw (prefix_len-map f p xs, length-map' f xs)
 
 -- ---- first places
 
-pub position-at : {X : Type 0} (p : X → Bool) (xs : List X) (i : ℕ) (d : X) → i < length xs → p (get_or xs i d) ≡ true → ((k : ℕ) → k < i → p (get_or xs k d) ≡ false) →
+pub position-at : {X : Type 0} (p : X → Bool) (xs : List X) (i : ℕ) (d : X) → i < length xs → p (get_or xs i d) ≡ true
+    → ((k : ℕ) → k < i → p (get_or xs k d) ≡ false) →
     position p xs ≡ Some i
 position-at p xs i d within here before =
     let at : position_or_len p xs ≡ i = position_or_len_is p xs i d (omega arith) before (λ h. here) in
@@ -47,7 +42,8 @@ position-number p n i within here before =
 
 pub position-no_number : (p : ℕ → Bool) (n : ℕ) → ((k : ℕ) → k < n → p k ≡ false) → position p (range_with_len 0 n) ≡ None
 position-no_number p n before =
-    position-none p (range_with_len 0 n) 0 (λ k h. let within : k < n = omega (arith, length-range_with_len 0 n) in ap p (number-at n k 0 within) ∙ before k within)
+    position-none p (range_with_len 0 n) 0 (λ k h. let within : k < n = omega (arith, length-range_with_len 0 n) in ap p (number-at n k 0 within) ∙
+    before k within)
 
 -- ---- chains
 
@@ -81,7 +77,8 @@ chain_from-next parents seen member within =
 
 -- ---- the chain of a parent
 
-chain_from-more : (parents : List (Option ℕ)) (k : ℕ) (o : Option ℕ) → length (chain_from parents k o) < k → chain_from parents (suc k) o ≡ chain_from parents k o
+chain_from-more : (parents : List (Option ℕ)) (k : ℕ) (o : Option ℕ) → length (chain_from parents k o) < k → chain_from parents (suc k) o ≡ chain_from parents k
+    o
 chain_from-more parents zero o few = absurd (omega arith)
 chain_from-more parents (suc k) None few = refl
 chain_from-more parents (suc k) (Some number) few =

@@ -1,16 +1,9 @@
 -- Trees of a library, and trees that may be laid over them.
-use Rattle.std.proofs.Common.{◌≡◌, ℕ, zero, suc, ◌≤◌, ◌&&◌, Bool, true, nat_le, List, [], ◌∷◌, Option, Some, None, refl, sym, ◌∙◌, arith, subst, true≢false}
-use Rattle.std.specs.Prelude.{is_none, slice_get}
-use Rattle.std.specs.List.{list_all}
-use Rattle.std.proofs.lemmas.Bool.Decides.{nat_tests}
-use Rattle.sim_tree.specs.declared.tree.TreeMark.{TreeMark}
-use Rattle.sim_tree.specs.Trees.{Node, node, mark_of, is_sound, is_plain, levels}
-use Rattle.sim_merge.specs.Laying.{Laying, refused, absent, there, laid}
-use Rattle.sim_merge.specs.Libraries.{is_resolved, is_layable}
-use Rattle.sim_merge.specs.Merging.{laid_unmarked}
-use Rattle.sim_merge.specs.Resolution.{inherited, chain_root}
-use Rattle.sim_merge.proofs.ChildrenLemmas.{and_left, and_right, and_both}
-use Rattle.sim_merge.proofs.FitLemmas.{IsFit, IfNode, IfThere, fit-laid}
+use Rattle.sim_merge.proofs.ChildrenLemmas.{and_both, and_left, and_right}
+use Rattle.sim_merge.proofs.Common.{arith, chain_root, inherited, is_layable, is_plain, is_resolved, is_sound, laid, laid_unmarked, Laying, levels, list_all}
+use Rattle.sim_merge.proofs.Common.{mark_of, nat_tests, Node, node, refused, subst, sym, there, TreeMark, true≢false, ◌∙◌}
+use Rattle.sim_merge.proofs.Common.{◌≡◌, ℕ, zero, suc, ◌≤◌, Bool, true, ◌&&◌, List, [], ◌∷◌, is_none, nat_le, slice_get, Some, None, Option, refl, absent}
+use Rattle.sim_merge.proofs.FitLemmas.{fit-laid, IfNode, IfThere, IsFit}
 
 le-true : (n k : ℕ) → nat_le n k ≡ true → n ≤ k
 le-true n k e = grind (arith, nat_tests)
@@ -29,7 +22,8 @@ fit-is_resolved n e =
 
 is_resolved-fit : (n : Node) → IsFit 32 n → is_resolved n ≡ true
 is_resolved-fit n fit =
-    and_both (is_sound n) (is_plain n && nat_le (levels n) 32) fit.sound (and_both (is_plain n) (nat_le (levels n) 32) fit.plain (true-le (levels n) 32 fit.few))
+    and_both (is_sound n) (is_plain n && nat_le (levels n) 32) fit.sound
+    (and_both (is_plain n) (nat_le (levels n) 32) fit.plain (true-le (levels n) 32 fit.few))
 
 pub is_sound-layable : (n : Node) → is_layable n ≡ true → is_sound n ≡ true
 is_sound-layable n e = and_left (is_sound n) (is_none (mark_of n) && nat_le (levels n) 32) e
@@ -56,7 +50,8 @@ weaker (there n) fit = is_resolved-fit n fit
 
 -- what is laid over a resolved tree is resolved
 pub laid-resolved : (lower upper : Node) → is_resolved lower ≡ true → is_layable upper ≡ true → IfThere IsGood (laid (Some lower) upper)
-laid-resolved lower upper e f = weaker (laid (Some lower) upper) (fit-laid 32 (Some lower) upper (fit-is_resolved lower e) (is_sound-layable upper f) (levels-layable upper f))
+laid-resolved lower upper e f = weaker (laid (Some lower) upper) (fit-laid 32 (Some lower) upper (fit-is_resolved lower e) (is_sound-layable upper f)
+    (levels-layable upper f))
 
 pub there-resolved : (laying : Laying) (n : Node) → laying ≡ there n → IfThere IsGood laying → is_resolved n ≡ true
 there-resolved laying n e good = let P : Laying → Type 0 = λ l. IfThere IsGood l in subst P e good

@@ -1,13 +1,7 @@
 -- A set of texts, and what it has once a text is put in.
-use Rattle.std.proofs.Common.{◌≡◌, ℕ, ◌&&◌, ◌||◌, not, Bool, true, false, List, String, string_bytes, refl, sym, ap, ◌∙◌, cond, true≢false}
-use Rattle.std.specs.Str.{bytes_eq}
-use Rattle.std.specs.String.{string_cmp}
-use Rattle.std.specs.Ordering.{nat_cmp}
-use Rattle.std.specs.Cmp.Lexicographic.{slice_cmp}
-use Rattle.std.specs.BTreeSet.{BTreeSet, UpdatesBy, contains_text}
-use Rattle.std.proofs.lemmas.Bool.{false_from_ne_true}
-use Rattle.std.proofs.lemmas.Map.Text.{btree_set_updates_text}
-use Rattle.std.proofs.lemmas.Slice.Eq.{bytes_eq-Decides}
+use Rattle.sim_merge.proofs.Common.{UpdatesBy, ◌∙◌}
+use Rattle.sim_merge.proofs.Common.{btree_set_updates_text, BTreeSet, bytes_eq-Decides, contains_text, false_from_ne_true, nat_cmp, slice_cmp, sym, true≢false}
+use Rattle.sim_merge.proofs.Common.{◌≡◌, ℕ, Bool, true, false, cond, not, ◌&&◌, ◌||◌, List, string_bytes, string_cmp, bytes_eq, String, refl, ap}
 
 -- ---- equal bytes, and the cases of a change
 

@@ -1,13 +1,7 @@
 -- Texts in a set beside the list of their bytes.
-use Rattle.std.proofs.Common.{◌≡◌, ℕ, suc, ◌+◌, ◌||◌, not, Bool, true, false, List, [], ◌∷◌, ◌++◌, length, map, position, String, Global, string_bytes, refl, sym, ap, ◌∙◌, subst, true≢false, cond, append_assoc}
-use Rattle.std.specs.List.{list_any, prefix_len}
-use Rattle.std.specs.Str.{bytes_eq}
-use Rattle.std.specs.String.{string_eq}
-use Rattle.std.proofs.lemmas.Bool.{false_from_ne_true}
-use Rattle.std.proofs.lemmas.Slice.Eq.{bytes_eq-Decides}
-use Rattle.indexmap.specs.IndexSet.{insert_key}
-use Rattle.sim_merge.specs.Resolution.{are_distinct}
-use Rattle.sim_merge.proofs.ChildrenLemmas.{and_left, and_right}
+use Rattle.sim_merge.proofs.{ChildrenLemmas.and_left, ChildrenLemmas.and_right, Common.prefix_len, Common.subst, Common.sym, Common.true≢false, Common.◌∙◌}
+use Rattle.sim_merge.proofs.Common.{position, String, refl, ap, append_assoc, are_distinct, bytes_eq-Decides, false_from_ne_true, Global, insert_key, list_any}
+use Rattle.sim_merge.proofs.Common.{◌≡◌, ℕ, suc, ◌+◌, Bool, true, false, cond, not, ◌||◌, List, [], ◌∷◌, ◌++◌, map, length, string_bytes, string_eq, bytes_eq}
 
 -- the bytes of each text
 abbrev pub texts_of : List (String Global) → List (List ℕ)
@@ -52,7 +46,8 @@ differs_from d name (x ∷ done) rest e = differs_from d name done rest (or_righ
 fresh : (done : List (List ℕ)) (name : List ℕ) (rest : List (List ℕ)) → are_distinct (done ++ name ∷ rest) ≡ true → list_any (bytes_eq name) done ≡ false
 fresh [] name rest e = refl
 fresh (d ∷ done) name rest e =
-    let here : bytes_eq name d ≡ false = differ_sym d name (differs_from d name done rest (not_true _ (and_left (not (list_any (bytes_eq d) (done ++ name ∷ rest))) _ e))) in
+    let here : bytes_eq name d ≡ false =
+    differ_sym d name (differs_from d name done rest (not_true _ (and_left (not (list_any (bytes_eq d) (done ++ name ∷ rest))) _ e))) in
     let later : list_any (bytes_eq name) done ≡ false = fresh done name rest (and_right (not (list_any (bytes_eq d) (done ++ name ∷ rest))) _ e) in
     rw (here, later)
 
@@ -68,5 +63,6 @@ texts_of-push (x ∷ keys) k = ap (λ ts. string_bytes x ∷ ts) (texts_of-push 
 pub goes_last : (names : List (List ℕ)) (keys : List (String Global)) (k : String Global) (more : List (List ℕ)) → are_distinct names ≡ true →
     names ≡ texts_of keys ++ string_bytes k ∷ more → names ≡ texts_of (insert_key string_eq keys k) ++ more
 goes_last names keys k more distinct made =
-    let new : list_any (string_eq k) keys ≡ false = list_any-texts_of k keys ∙ fresh (texts_of keys) (string_bytes k) more (subst (λ ns. are_distinct ns ≡ true) made distinct) in
+    let new : list_any (string_eq k) keys ≡ false = list_any-texts_of k keys ∙ fresh (texts_of keys) (string_bytes k) more
+    (subst (λ ns. are_distinct ns ≡ true) made distinct) in
     made ∙ rw (new, texts_of-push keys k) (sym (append_assoc (texts_of keys) (string_bytes k ∷ []) more))

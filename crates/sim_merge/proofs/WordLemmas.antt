@@ -1,8 +1,6 @@
 -- Words with single spaces between them.
-use Rattle.std.proofs.Common.{◌≡◌, ℕ, zero, suc, ◌+◌, ◌<◌, false, List, [], ◌∷◌, ◌++◌, length, length-take-le, take, get_or, refl, sym, ap, ◌∙◌, append_assoc, if◌then◌else◌, ◌==◌, arith}
-use Rattle.std.specs.List.{join_with_byte}
-use Rattle.std.proofs.lemmas.List.{take_more}
-use Rattle.std.proofs.lemmas.Bool.Decides.{nat_tests}
+use Rattle.sim_merge.proofs.Common.{arith, join_with_byte, length-take-le, nat_tests, sym, take_more, ◌∙◌}
+use Rattle.sim_merge.proofs.Common.{◌≡◌, ℕ, zero, suc, ◌+◌, ◌<◌, false, List, [], ◌∷◌, ◌++◌, length, get_or, take, if◌then◌else◌, ◌==◌, refl, ap, append_assoc}
 
 -- a word behind at least one other
 joined-behind : (x : List ℕ) (xs : List (List ℕ)) (w : List ℕ) → join_with_byte 0x20 ((x ∷ xs) ++ w ∷ []) ≡ join_with_byte 0x20 (x ∷ xs) ++ (0x20 ∷ w)

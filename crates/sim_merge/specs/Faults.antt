@@ -1,8 +1,7 @@
 -- What faults tell: a refusal tells a fact, and want of memory tells nothing.
-use Rattle.sim_merge.specs.declared.fault.OverlayFault.{OverlayFault}
-use Rattle.sim_merge.specs.declared.fault.OverlayFault.TheVariants as overlay
-use Rattle.sim_merge.specs.declared.fault.MergeFault.{MergeFault}
+use Rattle.sim_merge.specs.declared.fault.{MergeFault.MergeFault, OverlayFault.OverlayFault}
 use Rattle.sim_merge.specs.declared.fault.MergeFault.TheVariants as merge
+use Rattle.sim_merge.specs.declared.fault.OverlayFault.TheVariants as overlay
 
 -- a fact of a refused overlay
 abbrev pub IfBadOp : OverlayFault → Type 0 → Type 0

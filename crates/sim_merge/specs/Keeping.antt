@@ -1,12 +1,8 @@
 -- What is known of parents, chains and trees while templates are resolved.
-use Rattle.std.specs.Prelude.{◌≡◌, ℕ, ◌<◌, true, false, List, length, map, filter_map, Option, Some, None, slice_index_or, Result, Ok, Err}
-use Rattle.std.specs.List.{list_all}
-use Rattle.sim_tree.specs.declared.tree.Tree.{Tree}
-use Rattle.sim_tree.specs.Trees.{Node, node_of}
-use Rattle.sim_merge.specs.declared.fault.MergeFault.{MergeFault}
-use Rattle.sim_merge.specs.Libraries.{is_resolved}
-use Rattle.sim_merge.specs.Laying.{there}
-use Rattle.sim_merge.specs.Resolution.{is_endless, chain_fault, members, chain_root, layings, root_there}
+use Rattle.{sim_merge.specs.Laying.there, sim_merge.specs.Libraries.is_resolved, sim_merge.specs.declared.fault.MergeFault.MergeFault, std.specs.List.list_all}
+use Rattle.std.specs.Prelude.{◌≡◌, ℕ, ◌<◌, true, false, List, map, length, slice_index_or, Some, None, Ok, Err, filter_map, Option, Result}
+use Rattle.sim_merge.specs.Resolution.{chain_fault, chain_root, is_endless, layings, members, root_there}
+use Rattle.sim_tree.specs.{Trees.Node, Trees.node_of, declared.tree.Tree.Tree}
 
 -- each parent's number is that of a template
 pub record AreWithin (parents : List (Option ℕ)) : Type 0 where

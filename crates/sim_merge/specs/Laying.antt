@@ -1,8 +1,8 @@
 -- What a node laid over another one comes to, as a recursion over the upper node. The children of both ascend by name.
-use Rattle.std.specs.Prelude.{ℕ, List, Option, Some, None, if◌then◌else◌}
-use Rattle.sim_tree.specs.declared.tree.TreeMark.TheVariants.{Disable, Replace, Merge, Add, Mul, Tokens}
-use Rattle.sim_tree.specs.Trees.{Node, Children, node, child, no_children, value_of, under, child_named, is_before}
-use Rattle.sim_merge.specs.Values.{Value, value_over, sum_of, product_of, words_over}
+use Rattle.std.specs.Prelude.{ℕ, List, if◌then◌else◌, Some, None, Option}
+use Rattle.sim_merge.specs.Values.{product_of, sum_of, Value, value_over, words_over}
+use Rattle.sim_tree.specs.Trees.{child, child_named, Children, is_before, no_children, Node, node, under, value_of}
+use Rattle.sim_tree.specs.declared.tree.TreeMark.TheVariants.{Add, Disable, Merge, Mul, Replace, Tokens}
 
 -- an operation is refused, or nothing is there, or a node
 pub data Laying : Type 0 where

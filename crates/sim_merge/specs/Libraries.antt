@@ -1,9 +1,8 @@
 -- What a library holds: templates by name, each with its resolved tree.
-use Rattle.std.specs.Prelude.{◌≡◌, ℕ, ◌≤◌, Bool, ◌&&◌, nat_le, is_none, IsTrue, List, length, refl}
-use Rattle.std.specs.Coded.{Coded, code_by, coded×, coded_ℕ, coded_list}
-use Rattle.std.specs.List.{list_all}
-use Rattle.sim_tree.specs.Trees.{Node, mark_of, is_sound, is_plain, levels}
+use Rattle.std.specs.{Coded.code_by, Coded.Coded, Coded.coded_list, Coded.coded_ℕ, Coded.coded×, List.list_all}
+use Rattle.std.specs.Prelude.{◌≡◌, ℕ, ◌≤◌, Bool, ◌&&◌, List, length, is_none, IsTrue, nat_le, refl}
 use Rattle.sim_merge.specs.NodeCodes.{node_code}
+use Rattle.sim_tree.specs.Trees.{is_plain, is_sound, levels, mark_of, Node}
 
 -- the names of templates, and beside each name the root of its tree
 pub record Holding : Type 0 where

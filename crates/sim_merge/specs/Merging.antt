@@ -1,12 +1,9 @@
 -- What the steps of an overlay do to lists of children: the words in which its functions speak of trees in memory.
-use Rattle.std.specs.Prelude.{◌≡◌, ℕ, Bool, true, List, Option, Some, None, Result, Ok, Err}
-use Rattle.std.specs.Borrow.{Bor}
-use Rattle.sim_tree.specs.declared.tree.Tree.{Tree}
-use Rattle.sim_tree.specs.Trees.{Node, Children, child, no_children, node_of, under, value_of, child_named, is_sound, are_sound}
-use Rattle.sim_merge.specs.declared.fault.OverlayFault.{OverlayFault}
-use Rattle.sim_merge.specs.Faults.{IfBadOp}
-use Rattle.sim_merge.specs.Values.{value_over}
-use Rattle.sim_merge.specs.Laying.{Laying, refused, absent, there, lower_value, lower_children, before, behind, followed_by, with_lower, over_children, laid_under}
+use Rattle.{sim_tree.specs.declared.tree.Tree.Tree, std.specs.Borrow.Bor}
+use Rattle.std.specs.Prelude.{◌≡◌, ℕ, Bool, true, List, Some, None, Ok, Err, Option, Result}
+use Rattle.sim_merge.specs.{Faults.IfBadOp, Laying.with_lower, Values.value_over, declared.fault.OverlayFault.OverlayFault}
+use Rattle.sim_merge.specs.Laying.{absent, before, behind, followed_by, laid_under, Laying, lower_children, lower_value, over_children, refused, there}
+use Rattle.sim_tree.specs.Trees.{are_sound, child, child_named, Children, is_sound, no_children, Node, node_of, under, value_of}
 
 -- the node behind a reference, if there is a tree
 abbrev pub node_if : Option (Bor Tree) → Option Node

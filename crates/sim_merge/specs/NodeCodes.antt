@@ -1,10 +1,9 @@
 -- A code for nodes, which is a list of steps that build the node: so a proof can tell the values of a library apart.
-use Rattle.std.specs.Prelude.{◌≡◌, ℕ, zero, suc, List, [], ◌∷◌, Option, Some, None, slice_get, ◌⊎◌, refl}
-use Rattle.std.proofs.Common.{inl, inr, ap, ◌∙◌}
-use Rattle.std.specs.Coded.{Coded, code_by, coded×, coded⊎, coded_ℕ, coded_list, coded_option}
-use Rattle.sim_tree.specs.declared.tree.TreeMark.{TreeMark}
-use Rattle.sim_tree.specs.declared.tree.TreeMark.TheVariants.{Disable, Replace, Merge, Add, Mul, Tokens}
-use Rattle.sim_tree.specs.Trees.{Node, Children, node, child, no_children}
+use Rattle.std.proofs.Common.{ap, inl, inr, ◌∙◌}
+use Rattle.std.specs.Coded.{code_by, Coded, coded_list, coded_option, coded_ℕ, coded×, coded⊎}
+use Rattle.std.specs.Prelude.{◌≡◌, ℕ, zero, suc, ◌⊎◌, List, [], ◌∷◌, slice_get, Some, None, Option, refl}
+use Rattle.sim_tree.specs.{Trees.child, Trees.Children, Trees.no_children, Trees.Node, Trees.node, declared.tree.TreeMark.TreeMark}
+use Rattle.sim_tree.specs.declared.tree.TreeMark.TheVariants.{Add, Disable, Merge, Mul, Replace, Tokens}
 
 -- ---- a mark as a number
 
@@ -66,7 +65,8 @@ abbrev mutual
   built_node (node value mark cs) more ns css =
       built_children cs (Some (inr (value, mark_number mark)) ∷ more) ns css ∙ ap (λ m. built more (node value m cs ∷ ns) css) (mark_back mark)
 
-  pub built_children : (cs : Children) (more : List Step) (ns : List Node) (css : List Children) → built (children_steps cs more) ns css ≡ built more ns (cs ∷ css)
+  pub built_children : (cs : Children) (more : List Step) (ns : List Node) (css : List Children) → built (children_steps cs more) ns css ≡ built more ns
+      (cs ∷ css)
   built_children no_children more ns css = refl
   built_children (child name n cs) more ns css =
       built_children cs (node_steps n (Some (inl name) ∷ more)) ns css ∙ built_node n (Some (inl name) ∷ more) ns (cs ∷ css)

@@ -1,9 +1,7 @@
 -- The operations on numbers, and their results before they are printed.
-use Rattle.std.specs.Prelude.{ℤ, ◌+ℤ◌, List, ℕ, Option, option_and_then}
-use Rattle.sim_base.specs.Numbers.{product}
-use Rattle.sim_base.specs.NumberText.{number_of, in_range}
-use Rattle.sim_merge.specs.declared.operation.Operation.{Operation}
-use Rattle.sim_merge.specs.declared.operation.Operation.TheVariants.{Sum, Product}
+use Rattle.std.specs.Prelude.{ℕ, List, ℤ, ◌+ℤ◌, Option, option_and_then}
+use Rattle.sim_base.specs.{NumberText.in_range, NumberText.number_of, Numbers.product}
+use Rattle.sim_merge.specs.declared.operation.Operation.{Operation, TheVariants.Product, TheVariants.Sum}
 
 -- what an operation makes of two raws
 abbrev pub function_of : Operation → ℤ → ℤ → ℤ

@@ -1,12 +1,11 @@
 -- What a tree laid over another one has at each path, with one line for each mark. A tree is here a map from paths,
 -- which are lists of names, to what stands there.
-use Rattle.std.specs.Prelude.{◌≡◌, IsTrue, ℕ, Bool, true, false, ◌&&◌, List, [], ◌∷◌, Option, Some, None, is_some, is_none, option_map, option_and_then, if◌then◌else◌}
-use Rattle.sim_tree.specs.declared.tree.TreeMark.{TreeMark}
-use Rattle.sim_tree.specs.declared.tree.TreeMark.TheVariants.{Disable, Replace, Merge, Add, Mul, Tokens}
-use Rattle.sim_tree.specs.Trees.{Node, Entry, at}
-use Rattle.sim_merge.specs.Values.{Value, value_over, sum_of, product_of, words_over}
-use Rattle.sim_merge.specs.Laying.{Laying, refused, absent, there, laid}
-use Rattle.sim_merge.specs.Libraries.{is_resolved, is_layable}
+use Rattle.std.specs.Prelude.{option_and_then}
+use Rattle.std.specs.Prelude.{◌≡◌, ℕ, Bool, true, false, ◌&&◌, List, [], ◌∷◌, is_some, is_none, if◌then◌else◌, IsTrue, Some, None, Option, option_map}
+use Rattle.sim_merge.specs.{Libraries.is_layable, Libraries.is_resolved, Values.product_of, Values.sum_of, Values.Value, Values.value_over, Values.words_over}
+use Rattle.sim_merge.specs.Laying.{absent, laid, Laying, refused, there}
+use Rattle.sim_tree.specs.{Trees.at, Trees.Entry, Trees.Node, declared.tree.TreeMark.TreeMark}
+use Rattle.sim_tree.specs.declared.tree.TreeMark.TheVariants.{Add, Disable, Merge, Mul, Replace, Tokens}
 
 -- names, from the root on
 abbrev pub Path : Type 0

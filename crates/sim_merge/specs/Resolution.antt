@@ -1,13 +1,10 @@
 -- The resolved trees of templates, each with all that it inherits, or the first template that has none.
-use Rattle.std.specs.Prelude.{ℕ, zero, suc, Bool, true, false, ◌&&◌, not, ◌||◌, nat_lt, ◌==◌, List, [], ◌∷◌, length, map, position, filter_map, Option, Some, None, is_some, is_none, option_map, option_and_then, slice_get, slice_index_or, Result, Ok, Err, if◌then◌else◌}
-use Rattle.std.specs.List.{list_any, range_with_len}
-use Rattle.std.specs.Str.{bytes_eq}
-use Rattle.sim_tree.specs.Trees.{Node, node, no_children}
-use Rattle.sim_tree.specs.declared.source.Source.{Source}
-use Rattle.sim_tree.specs.Sources.{Origin, origin_of}
-use Rattle.sim_merge.specs.declared.fault.MergeFault.{MergeFault}
-use Rattle.sim_merge.specs.declared.fault.MergeFault.TheVariants.{NoParent, Cycle, ChainTooLong, BadOp}
-use Rattle.sim_merge.specs.Laying.{Laying, refused, absent, there, laid}
+use Rattle.std.specs.{List.list_any, List.range_with_len, Str.bytes_eq}
+use Rattle.std.specs.Prelude.{slice_get, slice_index_or, Some, None, Ok, Err, position, filter_map, Option, Result, option_map, option_and_then}
+use Rattle.std.specs.Prelude.{ℕ, zero, suc, Bool, true, false, not, ◌&&◌, ◌||◌, List, [], ◌∷◌, map, length, is_some, is_none, if◌then◌else◌, nat_lt, ◌==◌}
+use Rattle.sim_merge.specs.Laying.{absent, laid, Laying, refused, there}
+use Rattle.sim_merge.specs.declared.fault.MergeFault.{MergeFault, TheVariants.BadOp, TheVariants.ChainTooLong, TheVariants.Cycle, TheVariants.NoParent}
+use Rattle.sim_tree.specs.{Sources.Origin, Sources.origin_of, Trees.no_children, Trees.Node, Trees.node, declared.source.Source.Source}
 
 -- ---- names
 

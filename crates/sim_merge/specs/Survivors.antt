@@ -1,8 +1,6 @@
 -- Lists of words read from the back: which words of an upper list take words away, and which of its words stay.
-use Rattle.std.specs.Prelude.{◌≡◌, ℕ, Bool, ◌&&◌, ◌||◌, not, List, [], ◌∷◌, drop, map, filter, reverse, if◌then◌else◌}
-use Rattle.std.specs.List.{list_any}
-use Rattle.std.specs.Str.{bytes_eq}
-use Rattle.sim_merge.specs.Values.{is_removal, including}
+use Rattle.{sim_merge.specs.Values.including, sim_merge.specs.Values.is_removal, std.specs.List.list_any, std.specs.Str.bytes_eq}
+use Rattle.std.specs.Prelude.{◌≡◌, ℕ, Bool, not, ◌&&◌, ◌||◌, List, [], ◌∷◌, map, reverse, drop, if◌then◌else◌, filter}
 
 -- the words that are taken away by the removals among these words
 abbrev pub removed_words : List (List ℕ) → List (List ℕ)

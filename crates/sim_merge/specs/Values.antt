@@ -1,9 +1,7 @@
 -- What becomes of a value where a node is laid over another one.
-use Rattle.std.specs.Prelude.{ℕ, Bool, not, ◌&&◌, nat_lt, nat_eq, ℤ, ◌+ℤ◌, List, [], ◌∷◌, ◌++◌, length, drop, filter, fold, codes, Option, Some, None, option_map, option_and_then, if◌then◌else◌}
-use Rattle.std.specs.List.{list_any, starts_with, join_with_byte}
-use Rattle.std.specs.Str.{bytes_eq}
-use Rattle.sim_base.specs.Numbers.{product}
-use Rattle.sim_base.specs.NumberText.{number_of, in_range, text_of}
+use Rattle.std.specs.{List.join_with_byte, List.list_any, List.starts_with, Prelude.Option, Prelude.option_map, Prelude.option_and_then, Str.bytes_eq}
+use Rattle.std.specs.Prelude.{ℕ, Bool, not, ◌&&◌, List, [], ◌∷◌, ◌++◌, length, drop, ℤ, ◌+ℤ◌, if◌then◌else◌, nat_eq, nat_lt, Some, None, codes, fold, filter}
+use Rattle.sim_base.specs.{NumberText.in_range, NumberText.number_of, NumberText.text_of, Numbers.product}
 use Rattle.sim_tree.specs.Tokens.{tokens_in}
 
 abbrev pub Value : Type 0

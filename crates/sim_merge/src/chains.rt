@@ -1,12 +1,10 @@
 //! Chains of parents: the numbers of parents, and the first template whose chain has no end.
 
-ghost use Rattle.std.specs.Prelude.{◌≡◌, ◌<◌, ◌≤◌, ◌++◌, ◌∷◌, ◌==◌, true, None, Some, ℕ, List, IfOk, IfSome, OnOk, MatchResult, IsOk, length, map, position, slice_get, string_bytes};
-ghost use Rattle.std.specs.List.{list_any};
-ghost use Rattle.std.specs.Str.{bytes_eq};
-ghost use Rattle.sim_tree.specs.Sources.{origin_of};
-ghost use Rattle.sim_merge.specs.Faults.{IfRefusal};
-ghost use Rattle.sim_merge.specs.Resolution.{origins_of, names_in, are_distinct, parent_among, parents_in, is_orphan as is_orphan_among, orphan_refusal, members, repeats as repeats_in, chain_refusal};
-ghost use Rattle.sim_merge.specs.Keeping.{AreWithin, IsForest, ChainMeets};
+ghost use Rattle.{sim_merge.specs.Keeping.AreWithin, sim_merge.specs.Keeping.ChainMeets, sim_merge.specs.Keeping.IsForest, sim_tree.specs.Sources.origin_of};
+ghost use Rattle.std.specs.{List.list_any, Prelude.position, Str.bytes_eq};
+ghost use Rattle.std.specs.Prelude.{◌≡◌, ℕ, ◌<◌, ◌≤◌, true, List, ◌∷◌, ◌++◌, map, length, IfSome, IfOk, OnOk, ◌==◌, MatchResult, Some, None, string_bytes};
+ghost use Rattle.sim_merge.specs.{Faults.IfRefusal, Resolution.parent_among, Resolution.parents_in, Resolution.repeats as repeats_in};
+ghost use Rattle.sim_merge.specs.Resolution.{are_distinct, chain_refusal, is_orphan as is_orphan_among, members, names_in, origins_of, orphan_refusal};
 
 use crate::fault::MergeFault;
 use indexmap::IndexSet;

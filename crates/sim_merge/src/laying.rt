@@ -1,14 +1,11 @@
 //! A tree laid over another one: the two are walked at once, by their marks and by the names of their children.
 
-ghost use Rattle.std.specs.Prelude.{◌≡◌, true, IsTrue, Some, None, Ok, Err, MatchResult, IfOk, IfErr, Option};
-ghost use Rattle.sim_tree.specs.Trees.{node_of, nodes_of, named_of, is_sound, are_sound, mark_of, value_of as value_of_node, Children, child, node};
-ghost use Rattle.sim_merge.specs.Libraries.{is_resolved, is_layable};
-ghost use Rattle.sim_merge.specs.Faults.{IfBadOp};
-ghost use Rattle.sim_merge.specs.Values.{value_over as value_over_value, value_by, words_over as words_over_words};
-ghost use Rattle.sim_merge.specs.Operations.{function_of};
-ghost use Rattle.sim_merge.specs.Laying.{refused, there, laid, laid_under, lower_value, lower_children, with_value};
-ghost use Rattle.sim_merge.specs.Overlay.{HasLaid, IsRefused};
-ghost use Rattle.sim_merge.specs.Merging.{node_if, is_sound_if, laying_of, laid_unmarked, IsMerged, IsTreeOf};
+ghost use Rattle.std.specs.Prelude.{◌≡◌, true, IfOk, IfErr, IsTrue, MatchResult, Some, None, Ok, Err, Option};
+ghost use Rattle.sim_merge.specs.{Faults.IfBadOp, Libraries.is_layable, Libraries.is_resolved, Overlay.HasLaid, Overlay.IsRefused};
+ghost use Rattle.sim_merge.specs.{Operations.function_of, Values.value_by, Values.value_over as value_over_value, Values.words_over as words_over_words};
+ghost use Rattle.sim_merge.specs.Laying.{laid, laid_under, lower_children, lower_value, refused, there, with_value};
+ghost use Rattle.sim_merge.specs.Merging.{is_sound_if, IsMerged, IsTreeOf, laid_unmarked, laying_of, node_if};
+ghost use Rattle.sim_tree.specs.Trees.{are_sound, child, Children, is_sound, mark_of, named_of, node, node_of, nodes_of, value_of as value_of_node};
 
 use crate::fault::OverlayFault;
 use crate::merge::{
@@ -42,8 +39,10 @@ fn lay(alloc: Global, upper: &Tree, lower: Option<&Tree>) -> Result<Option<Tree>
         (λ fault. IfBadOp fault (laid (node_if lower.entry) (node_of upper.now) ≡ refused)) }
     ensures disabled { mark_of (node_of upper.now) ≡ Some TreeMark.Disable → result ≡ Ok None }
     ensures nothing_below { mark_of (node_of upper.now) ≡ Some TreeMark.Merge → node_if lower.entry ≡ None → result ≡ Ok None }
-    ensures no_sum { mark_of (node_of upper.now) ≡ Some TreeMark.Add → value_by (function_of Operation.Sum) (lower_value (node_if lower.entry)) (value_of_node (node_of upper.now)) ≡ None → result ≡ Err OverlayFault.BadOp }
-    ensures no_product { mark_of (node_of upper.now) ≡ Some TreeMark.Mul → value_by (function_of Operation.Product) (lower_value (node_if lower.entry)) (value_of_node (node_of upper.now)) ≡ None → result ≡ Err OverlayFault.BadOp }
+    ensures no_sum { mark_of (node_of upper.now) ≡ Some TreeMark.Add → value_by (function_of Operation.Sum) (lower_value (node_if lower.entry))
+        (value_of_node (node_of upper.now)) ≡ None → result ≡ Err OverlayFault.BadOp }
+    ensures no_product { mark_of (node_of upper.now) ≡ Some TreeMark.Mul → value_by (function_of Operation.Product) (lower_value (node_if lower.entry))
+        (value_of_node (node_of upper.now)) ≡ None → result ≡ Err OverlayFault.BadOp }
 {
     let mark = match upper.mark {
         None => return Ok(Some(unmarked(alloc, upper, lower)?)),
@@ -107,7 +106,8 @@ fn push_merged<'t>(
 ) -> Result<&'t [Child], OverlayFault>
     requires { are_sound (nodes_of lower.now) ≡ true }
     ensures { MatchResult result
-        (λ rest. IsMerged (named_of upper.now).0 (named_of upper.now).1 (nodes_of children.old.items) (nodes_of children.new.items) (nodes_of lower.now) (nodes_of rest.now))
+        (λ rest. IsMerged (named_of upper.now).0 (named_of upper.now).1 (nodes_of children.old.items) (nodes_of children.new.items) (nodes_of lower.now)
+        (nodes_of rest.now))
         (λ fault. IfBadOp fault ((more : Children) →
         laid_under (nodes_of lower.now) (child (named_of upper.now).0 (named_of upper.now).1 more) ≡ None)) }
 {
@@ -142,7 +142,8 @@ fn operated(
     upper: &Tree,
     lower: Option<&Tree>,
 ) -> Result<Tree, OverlayFault>
-    ensures bad { value_by (function_of operation) (lower_value (node_if lower.entry)) (value_of_node (node_of upper.now)) ≡ None → result ≡ Err OverlayFault.BadOp }
+    ensures bad { value_by (function_of operation) (lower_value (node_if lower.entry)) (value_of_node (node_of upper.now)) ≡ None
+        → result ≡ Err OverlayFault.BadOp }
     ensures value { let value = value_by (function_of operation) (lower_value (node_if lower.entry)) (value_of_node (node_of upper.now)) in
         MatchResult result
         (λ tree. with_value value (lower_children (node_if lower.entry)) ≡ there (node_of tree))

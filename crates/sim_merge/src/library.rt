@@ -1,9 +1,7 @@
 //! The library: the templates of a match by name and by number, each with its resolved tree.
 
-ghost use Rattle.std.specs.Prelude.{◌≡◌, ◌<◌, ◌≤◌, Some, IsTrue, position, length, map, slice_get, string_bytes};
-ghost use Rattle.std.specs.Str.{bytes_eq};
-ghost use Rattle.sim_tree.specs.Trees.{node_of};
-ghost use Rattle.sim_merge.specs.Libraries.{is_resolved, IsLibrary};
+ghost use Rattle.{sim_merge.specs.Libraries.is_resolved, sim_merge.specs.Libraries.IsLibrary, sim_tree.specs.Trees.node_of, std.specs.Str.bytes_eq};
+ghost use Rattle.std.specs.Prelude.{◌≡◌, ◌<◌, ◌≤◌, map, length, IsTrue, slice_get, Some, string_bytes, position};
 
 use crate::chains::place_of;
 use indexmap::IndexSet;
@@ -19,9 +17,8 @@ pub struct Library {
 }
 
 impl Model for Library {
-    ghost use Rattle.std.specs.Prelude.{map, string_bytes};
-    ghost use Rattle.sim_tree.specs.Trees.{node_of};
-    ghost use Rattle.sim_merge.specs.Libraries.{Holding, IsLibrary, holding_code};
+    ghost use Rattle.{sim_tree.specs.Trees.node_of, std.specs.Prelude.map, std.specs.Prelude.string_bytes};
+    ghost use Rattle.sim_merge.specs.Libraries.{Holding, holding_code, IsLibrary};
 
     ghost Value = { Holding };
 

@@ -1,11 +1,10 @@
 //! Children by name: copies of them, and the places that a name has among children that ascend.
 
-ghost use Rattle.std.specs.Prelude.{◌≡◌, true, [], ◌∷◌, Some, None, IfOk, OnOk, Option};
-ghost use Rattle.std.specs.Option.{option_copied};
-ghost use Rattle.std.specs.Str.{bytes_eq};
-ghost use Rattle.sim_tree.specs.Trees.{Children, node_of, nodes_of, named_of, is_before, child, no_children, child_named, are_sound};
-ghost use Rattle.sim_merge.specs.Laying.{before, behind as nodes_behind, followed_by, with_lower, with_laid, lower_value, lower_children};
-ghost use Rattle.sim_merge.specs.Merging.{node_if, is_sound_if, laying_of, IsPast};
+ghost use Rattle.std.specs.{Option.option_copied, Str.bytes_eq};
+ghost use Rattle.std.specs.Prelude.{◌≡◌, true, [], ◌∷◌, IfOk, OnOk, Some, None, Option};
+ghost use Rattle.sim_merge.specs.Laying.{before, behind as nodes_behind, followed_by, lower_children, lower_value, with_laid, with_lower};
+ghost use Rattle.sim_merge.specs.Merging.{is_sound_if, IsPast, laying_of, node_if};
+ghost use Rattle.sim_tree.specs.Trees.{are_sound, child, child_named, Children, is_before, named_of, no_children, node_of, nodes_of};
 
 use sim_base::{Name, OutOfMemory};
 use sim_tree::{Child, Text, Tree, copy_name};

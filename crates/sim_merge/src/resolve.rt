@@ -1,19 +1,14 @@
 //! Templates with all that they inherit: each tree is laid over that of its parent, parents before children.
 
-ghost use Rattle.std.specs.Prelude.{[], ◌++◌, ◌≡◌, ◌<◌, ◌≤◌, true, false, None, Some, Ok, Err, IsTrue, IfOk, IfErr, OnOk, MatchResult, length, replicate, slice_index_or, slice_get, filter_map};
-ghost use Rattle.std.specs.List.{list_all, cons_option};
+ghost use Rattle.std.specs.{List.cons_option, List.list_all, Prelude.Some, Prelude.None, Prelude.Ok, Prelude.Err, Prelude.filter_map};
+ghost use Rattle.std.specs.Prelude.{◌≡◌, ◌<◌, ◌≤◌, true, false, [], ◌++◌, length, replicate, IfOk, IfErr, OnOk, IsTrue, slice_get, slice_index_or, MatchResult};
+ghost use Rattle.sim_merge.specs.{Faults.IfBadOp, Faults.IfRefusal, Keeping.AreResolved, Keeping.Has, Keeping.IsForest, Keeping.IsKept, Keeping.KeepsAll};
+ghost use Rattle.sim_merge.specs.{Laying.refused, Libraries.is_layable, Merging.IsTreeOf, Resolution.root_refusal, Resolution.roots_in};
+ghost use Rattle.sim_merge.specs.Resolution.{are_distinct, bare as bare_node, chain_root, is_endless, layings, members, names_in, origins_of, resolution_of};
 ghost use Rattle.sim_tree.specs.Trees.{node_of};
-ghost use Rattle.sim_merge.specs.Faults.{IfBadOp, IfRefusal};
-ghost use Rattle.sim_merge.specs.Libraries.{is_layable};
-ghost use Rattle.sim_merge.specs.Laying.{laid, refused, there};
-ghost use Rattle.sim_merge.specs.Merging.{IsTreeOf};
-ghost use Rattle.sim_merge.specs.Resolution.{origins_of, names_in, are_distinct, roots_in, members, is_endless, chain_root, layings, root_refusal, resolution_of, bare as bare_node};
-ghost use Rattle.sim_merge.specs.Keeping.{IsForest, IsKept, Has, KeepsAll, AreResolved};
 
 use crate::chains::{check_chains, names_of, parents_of};
-use crate::fault::{MergeFault, OverlayFault};
-use crate::laying::overlay;
-use crate::library::Library;
+use crate::{Library, MergeFault, OverlayFault, overlay};
 use sim_base::OutOfMemory;
 use sim_tree::{Source, Tree};
 use std::alloc::Global;

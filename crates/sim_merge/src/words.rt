@@ -5,14 +5,11 @@
 //! each word is looked up in a set and never in a list, and n words take about n steps times their logarithm. The sets are
 //! ordered trees: whoever writes a match picks its words, and could pick ones that a hash with a known seed gives one place.
 
-ghost use Rattle.std.specs.Prelude.{◌≡◌, ◌++◌, ◌∷◌, [], ◌&&◌, ◌||◌, not, ℕ, List, if◌then◌else◌, filter, fold, reverse, IfOk, OnOk, string_bytes, drop, Some, None, MatchOption, true, false};
-ghost use Rattle.std.specs.List.{list_any, join_with_byte};
-ghost use Rattle.std.specs.Str.{bytes_eq};
-ghost use Rattle.std.specs.Option.{option_copied};
-ghost use Rattle.std.specs.BTreeSet.{contains_text};
-ghost use Rattle.sim_tree.specs.Tokens.{tokens_in as words_of_value};
-ghost use Rattle.sim_merge.specs.Values.{words_over as words_over_words, including, is_removal};
-ghost use Rattle.sim_merge.specs.Survivors.{TellsWords, TellsLacking, AreChanges, with_added as with_added_word};
+ghost use Rattle.{sim_tree.specs.Tokens.tokens_in as words_of_value, std.specs.Option.option_copied, std.specs.Str.bytes_eq};
+ghost use Rattle.std.specs.{BTreeSet.contains_text, List.join_with_byte, List.list_any, Prelude.None, Prelude.string_bytes, Prelude.fold, Prelude.filter};
+ghost use Rattle.std.specs.Prelude.{◌≡◌, ℕ, true, false, not, ◌&&◌, ◌||◌, List, [], ◌∷◌, ◌++◌, reverse, drop, IfOk, if◌then◌else◌, OnOk, MatchOption, Some};
+ghost use Rattle.sim_merge.specs.Survivors.{AreChanges, TellsLacking, TellsWords, with_added as with_added_word};
+ghost use Rattle.sim_merge.specs.Values.{including, is_removal, words_over as words_over_words};
 
 use sim_base::OutOfMemory;
 use sim_tree::{Names, Text, tokens_in};
@@ -117,8 +114,10 @@ fn with_added(alloc: Global, lower: Names, added: Names) -> Result<Names, OutOfM
 
 // Adds a word at the end of a list that lacks it, where the set has what the list lacks of this word and those to come.
 fn include(found: &mut Names, lacking: &mut BTreeSet<String>, word: Text) -> Result<(), OutOfMemory>
-    ensures found { OnOk result ((more : List (List ℕ)) → TellsLacking (contains_text lacking.old) (more ++ word ∷ []) found.old → found.new ≡ including word found.old) }
-    ensures lacking { OnOk result ((more : List (List ℕ)) → TellsLacking (contains_text lacking.old) (more ++ word ∷ []) found.old → TellsLacking (contains_text lacking.new) more found.new) }
+    ensures found { OnOk result ((more : List (List ℕ)) → TellsLacking (contains_text lacking.old) (more ++ word ∷ []) found.old
+        → found.new ≡ including word found.old) }
+    ensures lacking { OnOk result ((more : List (List ℕ)) → TellsLacking (contains_text lacking.old) (more ++ word ∷ []) found.old
+        → TellsLacking (contains_text lacking.new) more found.new) }
 {
     if take_word(lacking, word.as_str()) {
         found.push(word)?;

@@ -1,11 +1,12 @@
 -- A share of a difference, up or down.
-use Rattle.std.proofs.Common.{◌≡◌, ℕ, zero, suc, ◌+◌, ◌-◌, ◌*◌, ◌/◌, ◌<◌, ◌≤◌, ℤ, pos, negsuc, neg_ℤ, ◌+ℤ◌, ◌-ℤ◌, ◌*ℤ◌, ◌≤ℤ◌, int_div, unsigned_abs, refl, sym, ap, ◌∙◌, arith}
-use Rattle.std.proofs.lemmas.Int.{ints}
-use Rattle.sim_laws.proofs.Moving.{share_le, div_below_zero}
+use Rattle.std.proofs.{Common.arith, Common.sym, Common.◌∙◌, lemmas.Int.ints}
+use Rattle.std.proofs.Common.{◌≡◌, ℕ, zero, suc, ◌+◌, ◌-◌, ◌*◌, ◌/◌, ◌<◌, ◌≤◌, ℤ, pos, negsuc, ◌+ℤ◌, ◌-ℤ◌, ◌*ℤ◌, neg_ℤ, ◌≤ℤ◌, unsigned_abs, int_div, refl, ap}
+use Rattle.sim_laws.proofs.Moving.{div_below_zero, share_le}
 
 pub part_up : (from to : ℤ) (k d : ℕ) → pos 0 ≤ℤ from → pos 0 ≤ℤ to → unsigned_abs from ≤ unsigned_abs to →
     pos (unsigned_abs from + (unsigned_abs to - unsigned_abs from) * k / d) ≡ from +ℤ int_div ((to -ℤ from) *ℤ pos k) (pos d)
-part_up (pos x) (pos y) k d a b le = let gap : pos y -ℤ pos x ≡ pos (y - x) = omega (arith, ints) in ap (λ (z : ℤ). pos x +ℤ int_div (z *ℤ pos k) (pos d)) (sym gap)
+part_up (pos x) (pos y) k d a b le = let gap : pos y -ℤ pos x ≡ pos (y - x) = omega (arith, ints) in ap (λ (z : ℤ). pos x +ℤ int_div (z *ℤ pos k) (pos d))
+    (sym gap)
 part_up (pos x) (negsuc y) k d a b le = absurd (omega (arith, ints))
 part_up (negsuc x) to k d a b le = absurd (omega (arith, ints))
 
@@ -20,7 +21,8 @@ part_down (pos x) (pos y) k d within a b lt = by (x - y) refl
         let q = suc m * k / d in
         let small : q ≤ suc m = share_le (suc m) k d within in
         let down : pos (x - q) ≡ pos x +ℤ neg_ℤ (pos q) = minus x q (omega arith) in
-        ap (λ (n : ℕ). pos (x - n * k / d)) (sym e) ∙ down ∙ ap (λ (z : ℤ). pos x +ℤ z) (sym (div_below_zero (suc m * k) d)) ∙ ap (λ (z : ℤ). pos x +ℤ int_div (z *ℤ pos k) (pos d)) (sym gap)
+        ap (λ (n : ℕ). pos (x - n * k / d)) (sym e) ∙ down ∙ ap (λ (z : ℤ). pos x +ℤ z) (sym (div_below_zero (suc m * k) d)) ∙
+        ap (λ (z : ℤ). pos x +ℤ int_div (z *ℤ pos k) (pos d)) (sym gap)
       where
         minus : (a b : ℕ) → b ≤ a → pos (a - b) ≡ pos a +ℤ neg_ℤ (pos b)
         minus a b h = omega (arith, ints)

@@ -1,17 +1,10 @@
 -- How the code speaks of rows that move.
-use Rattle.std.specs.Prelude.{◌≡◌, ◌⊎◌, ℕ, Bool, true, false, List, [], Option, Some, None}
-use Rattle.sim_base.specs.declared.place.Point.{Point}
-use Rattle.sim_base.specs.declared.setup.Setup.{Setup}
-use Rattle.sim_base.specs.declared.state.Motion.{Motion}
-use Rattle.sim_base.specs.declared.state.Motion.TheVariants.{Still, Going}
-use Rattle.sim_base.specs.declared.state.Row.{Row}
-use Rattle.sim_base.specs.Validity.{IsInside}
+use Rattle.{sim_motion.specs.declared.moves.Moved.Moved, sim_system.specs.declared.Way.Way}
+use Rattle.std.specs.Prelude.{◌≡◌, ℕ, Bool, true, false, ◌⊎◌, List, [], Some, None, Option}
+use Rattle.sim_base.specs.{Move.along_found, Move.walked, Validity.IsInside, declared.setup.Setup.Setup}
+use Rattle.sim_base.specs.declared.{place.Point.Point, state.Motion.Motion, state.Motion.TheVariants.Going, state.Motion.TheVariants.Still, state.Row.Row}
+use Rattle.sim_motion.specs.declared.chase.Chase.{Chase, TheVariants.Go, TheVariants.Keep, TheVariants.Stay}
 use Rattle.sim_base.specs.Ways as ways
-use Rattle.sim_base.specs.Move.{walked, along_found}
-use Rattle.sim_system.specs.declared.Way.{Way}
-use Rattle.sim_motion.specs.declared.chase.Chase.{Chase}
-use Rattle.sim_motion.specs.declared.chase.Chase.TheVariants.{Stay, Keep, Go}
-use Rattle.sim_motion.specs.declared.moves.Moved.{Moved}
 
 -- the way that an answer stands for
 abbrev pub way_in : Way → ways.Way

@@ -2,8 +2,7 @@
 //! taken only where it is the root, so that any guess is right.
 
 ghost use Rattle.std.specs.Prelude.{◌≡◌, IsTrue};
-ghost use Rattle.sim_base.specs.Numbers.{IsRoot, root as root_of};
-ghost use Rattle.sim_base.specs.Places.{IsPlaced, square as square_of};
+ghost use Rattle.sim_base.specs.{Numbers.IsRoot, Numbers.root as root_of, Places.IsPlaced, Places.square as square_of};
 
 use sim_base::{Point, root, square};
 

@@ -1,15 +1,11 @@
 //! Where a row comes to, and how it goes on.
 
-ghost use Rattle.std.specs.Prelude.{◌≡◌, true, [], All, IfOk, IsOk, IsTrue, Some};
-ghost use Rattle.sim_base.specs.declared.state.Motion.TheVariants.{Still, Going};
-ghost use Rattle.sim_base.specs.Places.{IsPlaced, is_inside};
-ghost use Rattle.sim_base.specs.Rows.{row_of, size_of, target_of as target_by, arms_of as arms_by};
-ghost use Rattle.sim_base.specs.Filters.{field_of};
-ghost use Rattle.sim_base.specs.Validity.{IsKnownRow};
-ghost use Rattle.sim_base.specs.WayOf.{way_of};
-ghost use Rattle.sim_base.specs.Move.{chasing, moved_by, walked, along as along_by, after_walk as after_walk_by};
+ghost use Rattle.std.specs.Prelude.{◌≡◌, true, [], IfOk, IsOk, IsTrue, Some, All};
+ghost use Rattle.sim_base.specs.{Filters.field_of, Rows.arms_of as arms_by, Rows.row_of, Rows.size_of, Rows.target_of as target_by, WayOf.way_of};
+ghost use Rattle.sim_base.specs.{Move.after_walk as after_walk_by, Move.along as along_by, Move.chasing, Move.moved_by, Move.walked, Validity.IsKnownRow};
+ghost use Rattle.sim_base.specs.{Places.is_inside, Places.IsPlaced, declared.state.Motion.TheVariants.Going, declared.state.Motion.TheVariants.Still};
+ghost use Rattle.sim_motion.specs.Moves.{along_way, MakesNoWay, NeedsNoMemory, row_moved, way_in};
 ghost use Rattle.sim_scene.specs.SceneWords.{Stands};
-ghost use Rattle.sim_motion.specs.Moves.{way_in, row_moved, along_way, MakesNoWay, NeedsNoMemory};
 
 use crate::chase::{Chase, chase_of};
 use crate::walk::walk;
@@ -38,8 +34,10 @@ pub fn move_of(
     requires stands { Stands scene.now ⟦<dyn System as System>⟧ }
     requires row { IsKnownRow 0 scene.now.setup.now scene.now.state.now.rows row.now }
     requires motion { row.now.motion ≡ Some motion.now }
-    ensures value { IfOk result (λ new. row_moved row.now new ≡ moved_by scene.now.setup.now scene.now.state.now row.now budget (chasing row.now motion.now (row_of scene.now.state.now (target_by row.now)) (arms_by scene.now.setup.now row.now))) }
-    ensures light { NeedsNoMemory row.now.at budget (chasing row.now motion.now (row_of scene.now.state.now (target_by row.now)) (arms_by scene.now.setup.now row.now)) → IsOk result }
+    ensures value { IfOk result (λ new. row_moved row.now new ≡ moved_by scene.now.setup.now scene.now.state.now row.now budget
+        (chasing row.now motion.now (row_of scene.now.state.now (target_by row.now)) (arms_by scene.now.setup.now row.now))) }
+    ensures light { NeedsNoMemory row.now.at budget (chasing row.now motion.now (row_of scene.now.state.now (target_by row.now))
+        (arms_by scene.now.setup.now row.now)) → IsOk result }
 {
     match chase_of(index, scene.setup, scene.state, row, motion) {
         Chase::Stay => Ok(stay(row)),
@@ -78,7 +76,8 @@ fn go(
     requires stands { Stands scene.now ⟦<dyn System as System>⟧ }
     requires at { IsTrue (is_inside (size_of scene.now.setup.now.land) row.now.at) }
     requires goal { IsTrue (is_inside (size_of scene.now.setup.now.land) goal.now) }
-    ensures { IfOk result (λ new. row_moved row.now new ≡ along_way row.now budget goal.now (way_of (field_of scene.now.setup.now scene.now.state.now) row.now.at goal.now)) }
+    ensures { IfOk result (λ new. row_moved row.now new ≡ along_way row.now budget goal.now
+        (way_of (field_of scene.now.setup.now scene.now.state.now) row.now.at goal.now)) }
 {
     let way = way(scene, &row.at, goal)?;
     let points = way.points.as_slice();

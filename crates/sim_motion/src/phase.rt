@@ -1,14 +1,9 @@
 //! The changes of the phase in which rows move.
 
-ghost use Rattle.std.specs.Prelude.{◌≡◌, ◌++◌, [], IfOk, OnOk, IsOk, IsSome, None, Some};
-ghost use Rattle.std.specs.Result.{ForOk};
-ghost use Rattle.sim_base.specs.Move.{moved};
-ghost use Rattle.sim_base.specs.Validity.{IsKnownRow};
-ghost use Rattle.sim_plans.specs.RowPlans.{goes_on as goes_on_by, step_changes, motion_changes as motion_changes_by};
-ghost use Rattle.sim_plans.specs.Plans.{move_changes_of, move_plan};
-ghost use Rattle.sim_plans.specs.PlanLaws.{IsPlanOf};
-ghost use Rattle.sim_scene.specs.SceneWords.{Stands};
-ghost use Rattle.sim_motion.specs.Moves.{motion_or, row_moved};
+ghost use Rattle.{sim_base.specs.Move.moved, sim_base.specs.Validity.IsKnownRow, sim_scene.specs.SceneWords.Stands, std.specs.Result.ForOk};
+ghost use Rattle.{sim_motion.specs.Moves.motion_or, sim_motion.specs.Moves.row_moved, sim_plans.specs.Plans.move_changes_of, sim_plans.specs.Plans.move_plan};
+ghost use Rattle.std.specs.Prelude.{◌≡◌, [], ◌++◌, IfOk, OnOk, IsSome, IsOk, Some, None};
+ghost use Rattle.sim_plans.specs.{PlanLaws.IsPlanOf, RowPlans.goes_on as goes_on_by, RowPlans.motion_changes as motion_changes_by, RowPlans.step_changes};
 
 use crate::moves::{Moved, move_of};
 use sim_base::{Change, Changes, Items, Motion, OutOfMemory, Row};

@@ -1,9 +1,7 @@
 //! How far a budget leads along waypoints.
 
-ghost use Rattle.std.specs.Prelude.{◌≡◌, ◌<◌, ◌≤◌, ◌*◌, ◌/◌, pos, ◌+ℤ◌, ◌-ℤ◌, ◌*ℤ◌, int_div, All};
-ghost use Rattle.sim_base.specs.Places.{IsPlaced};
-ghost use Rattle.sim_base.specs.Move.{toward as toward_by, walked};
-ghost use Rattle.sim_plans.specs.Sizes.{IsCoordinate};
+ghost use Rattle.{sim_base.specs.Move.toward as toward_by, sim_base.specs.Move.walked, sim_base.specs.Places.IsPlaced, sim_plans.specs.Sizes.IsCoordinate};
+ghost use Rattle.std.specs.Prelude.{◌≡◌, ◌*◌, ◌/◌, ◌<◌, ◌≤◌, pos, ◌+ℤ◌, ◌-ℤ◌, ◌*ℤ◌, int_div, All};
 
 use crate::far::distance;
 use sim_base::{Fixed, Point};

@@ -1,3 +1,4 @@
+pub mod Common
 pub mod Halves
 pub mod Planning
 pub mod Spots

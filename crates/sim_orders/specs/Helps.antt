@@ -1,14 +1,8 @@
 -- What a planner of commands is told of the systems' answers.
-use Rattle.std.specs.Prelude.{◌≡◌, ℕ, Bool, false, Option, None, slice_get, option_and_then}
-use Rattle.sim_base.specs.declared.place.Cell.{Cell}
-use Rattle.sim_base.specs.declared.command.Command.{Command}
-use Rattle.sim_base.specs.declared.command.Command.TheVariants.{Walk, Stop, Attack, Delete, Place, Train, Resign}
-use Rattle.sim_base.specs.declared.setup.Setup.{Setup}
-use Rattle.sim_base.specs.declared.state.Row.{Row}
-use Rattle.sim_base.specs.declared.state.State.{State}
-use Rattle.sim_base.specs.Rows.{row_of}
-use Rattle.sim_base.specs.Filters.{population, spot}
-use Rattle.sim_base.specs.Commands.{is_placeable}
+use Rattle.std.specs.Prelude.{◌≡◌, ℕ, Bool, false, slice_get, None, Option, option_and_then}
+use Rattle.sim_base.specs.{Commands.is_placeable, Filters.population, Filters.spot, Rows.row_of}
+use Rattle.sim_base.specs.declared.{command.Command.Command, place.Cell.Cell, setup.Setup.Setup, state.Row.Row, state.State.State}
+use Rattle.sim_base.specs.declared.command.Command.TheVariants.{Attack, Delete, Place, Resign, Stop, Train, Walk}
 use Rattle.sim_orders.specs.declared.help.Help.{Help}
 
 -- whether the command places something where it may stand

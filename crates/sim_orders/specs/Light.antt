@@ -1,14 +1,8 @@
 -- Commands whose planners take no memory, since they change nothing and it is seen without any.
-use Rattle.std.specs.Prelude.{◌≡◌, ℕ, ◌==◌, false, List, [], All, None}
-use Rattle.sim_base.specs.declared.command.Command.{Command}
-use Rattle.sim_base.specs.declared.command.Command.TheVariants.{Walk, Stop, Attack, Delete, Place, Train, Resign}
-use Rattle.sim_base.specs.declared.setup.Setup.{Setup}
-use Rattle.sim_base.specs.declared.state.Row.{Row}
-use Rattle.sim_base.specs.declared.state.State.{State}
-use Rattle.sim_base.specs.Places.{is_inside}
-use Rattle.sim_base.specs.Rows.{row_of, size_of}
-use Rattle.sim_base.specs.Commands.{is_enemy}
-use Rattle.sim_plans.specs.CommandPlans.{command_plan_by}
+use Rattle.{sim_base.specs.Places.is_inside, sim_base.specs.Rows.row_of, sim_base.specs.Rows.size_of, sim_plans.specs.CommandPlans.command_plan_by}
+use Rattle.std.specs.Prelude.{◌≡◌, ℕ, false, List, [], ◌==◌, None, All}
+use Rattle.sim_base.specs.{Commands.is_enemy, declared.command.Command.Command, declared.setup.Setup.Setup, declared.state.Row.Row, declared.state.State.State}
+use Rattle.sim_base.specs.declared.command.Command.TheVariants.{Attack, Delete, Place, Resign, Stop, Train, Walk}
 
 -- none of the rows is the player's
 abbrev pub OwnsNone : ℕ → List Row → Type 0

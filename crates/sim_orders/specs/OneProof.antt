@@ -1,17 +1,9 @@
 -- What is answered to a command is as it has to be in one way at most, so it may be kept beside a stored function.
-use Rattle.std.specs.Prelude.{ℕ, List, Result}
 use mathlib.Core.HLevel.{Π_prop}
-use Rattle.sim_base.specs.declared.memory.OutOfMemory.{OutOfMemory}
-use Rattle.sim_base.specs.declared.command.Command.{Command}
-use Rattle.sim_base.specs.declared.setup.Setup.{Setup}
-use Rattle.sim_base.specs.declared.state.State.{State}
-use Rattle.sim_base.specs.declared.change.Change.{Change}
-use Rattle.sim_base.specs.Limits.{IsSetup}
-use Rattle.sim_base.specs.Validity.{IsLooselyValid}
-use Rattle.sim_base.specs.Commands.{commanded_by}
-use Rattle.sim_plans.proofs.OneProof.{plan_prop, all_own_prop}
-use Rattle.sim_orders.specs.declared.help.Help.{Help}
-use Rattle.sim_orders.specs.Orders.{IsGiven, IsPlanned, Obeys}
+use Rattle.{sim_plans.proofs.OneProof.all_own_prop, sim_plans.proofs.OneProof.plan_prop, std.specs.Prelude.ℕ, std.specs.Prelude.List, std.specs.Prelude.Result}
+use Rattle.sim_base.specs.{Commands.commanded_by, Limits.IsSetup, Validity.IsLooselyValid}
+use Rattle.sim_base.specs.declared.{change.Change.Change, command.Command.Command, memory.OutOfMemory.OutOfMemory, setup.Setup.Setup, state.State.State}
+use Rattle.sim_orders.specs.{Orders.IsGiven, Orders.IsPlanned, Orders.Obeys, declared.help.Help.Help}
 
 -- of the changes
 planned_prop : (setup : Setup) (state : State) (player : ℕ) (command : Command) (changes : List Change) → IsSetup setup → IsLooselyValid setup state →

@@ -1,18 +1,9 @@
 -- What a planner of commands may be asked, and what it has to answer. All of it is plain data, and knows of no boxes.
-use Rattle.std.specs.Prelude.{◌≡◌, ℕ, List, All, Result}
-use Rattle.std.specs.Result.{ForOk}
-use Rattle.sim_base.specs.declared.memory.OutOfMemory.{OutOfMemory}
-use Rattle.sim_base.specs.declared.command.Command.{Command}
-use Rattle.sim_base.specs.declared.command.Command.TheVariants.{Walk, Stop, Attack, Delete, Place, Train, Resign}
-use Rattle.sim_base.specs.declared.setup.Setup.{Setup}
-use Rattle.sim_base.specs.declared.state.State.{State}
-use Rattle.sim_base.specs.declared.change.Change.{Change}
-use Rattle.sim_base.specs.Limits.{IsFrom, IsSetup}
-use Rattle.sim_base.specs.Validity.{IsLooselyValid}
-use Rattle.sim_base.specs.Commands.{commanded_by}
-use Rattle.sim_plans.specs.PlanLaws.{IsPlanOf, IsOwnChange}
-use Rattle.sim_orders.specs.declared.help.Help.{Help}
-use Rattle.sim_orders.specs.Helps.{IsHelp}
+use Rattle.{sim_orders.specs.Helps.IsHelp, sim_orders.specs.declared.help.Help.Help, sim_plans.specs.PlanLaws.IsOwnChange, sim_plans.specs.PlanLaws.IsPlanOf}
+use Rattle.std.specs.{Prelude.◌≡◌, Prelude.ℕ, Prelude.List, Prelude.All, Prelude.Result, Result.ForOk}
+use Rattle.sim_base.specs.{Commands.commanded_by, Limits.IsFrom, Limits.IsSetup, Validity.IsLooselyValid}
+use Rattle.sim_base.specs.declared.{change.Change.Change, command.Command.Command, memory.OutOfMemory.OutOfMemory, setup.Setup.Setup, state.State.State}
+use Rattle.sim_base.specs.declared.command.Command.TheVariants.{Attack, Delete, Place, Resign, Stop, Train, Walk}
 
 -- the number of a command's kind
 abbrev pub kind_of : Command → ℕ

@@ -1,8 +1,6 @@
 //! The ids that a command names, sorted once, so that each row is found among them at once or by halves.
 
-ghost use Rattle.std.specs.Prelude.{◌≡◌, ◌==◌, false, IfOk};
-ghost use Rattle.std.specs.List.{list_any};
-ghost use Rattle.std.specs.List.Sorted.{IsNonDecreasing, IsPermutation};
+ghost use Rattle.std.specs.{List.list_any, List.Sorted.IsPermutation, List.Sorted.IsNonDecreasing, Prelude.◌≡◌, Prelude.false, Prelude.IfOk, Prelude.◌==◌};
 ghost use Rattle.sim_base.specs.Commands.{is_ordered as is_ordered_by};
 
 use sim_base::{Ids, OutOfMemory, Row};

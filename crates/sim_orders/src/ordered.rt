@@ -1,14 +1,10 @@
 //! The changes of the rows that a command orders, row by row. The ids ascend.
 
-ghost use Rattle.std.specs.Prelude.{◌≡◌, ◌==◌, ◌++◌, [], ◌∷◌, map, filter, None, OnOk, IfOk, IsOk, if◌then◌else◌};
-ghost use Rattle.std.specs.List.{flat_map};
-ghost use Rattle.std.specs.List.Sorted.{IsNonDecreasing};
-ghost use Rattle.sim_base.specs.declared.state.Row.{Row as AnyRow};
-ghost use Rattle.sim_base.specs.declared.change.Change.TheVariants.{Remove, Owner};
-ghost use Rattle.sim_base.specs.Rows.{id_of};
-ghost use Rattle.sim_base.specs.Commands.{is_ordered as is_ordered_by};
-ghost use Rattle.sim_orders.specs.Light.{OwnsNone};
-ghost use Rattle.sim_plans.specs.CommandPlans.{sent_changes, stop_changes, set_on_changes};
+ghost use Rattle.{sim_base.specs.Commands.is_ordered as is_ordered_by, sim_base.specs.Rows.id_of, sim_orders.specs.Light.OwnsNone};
+ghost use Rattle.std.specs.List.{flat_map, Sorted.IsNonDecreasing};
+ghost use Rattle.std.specs.Prelude.{◌≡◌, [], ◌∷◌, ◌++◌, map, IfOk, if◌then◌else◌, OnOk, IsOk, ◌==◌, None, filter};
+ghost use Rattle.sim_base.specs.declared.{change.Change.TheVariants.Owner, change.Change.TheVariants.Remove, state.Row.Row as AnyRow};
+ghost use Rattle.sim_plans.specs.CommandPlans.{sent_changes, set_on_changes, stop_changes};
 
 use crate::named::is_ordered;
 use sim_base::{Change, Changes, Items, Motion, OutOfMemory, Point, Row};

@@ -1,10 +1,9 @@
 //! The seven planners, one for each kind of command. They take plain data, and have one signature. Whether there is anything to
 //! change is asked before memory is taken.
 
-ghost use Rattle.std.specs.Prelude.{◌≡◌, ◌∷◌, [], IfOk, IsOk};
+ghost use Rattle.std.specs.Prelude.{◌≡◌, [], ◌∷◌, IfOk, IsOk};
 ghost use Rattle.sim_base.specs.declared.change.Change.TheVariants.{Create};
-ghost use Rattle.sim_orders.specs.Light.{NeedsNoMemory};
-ghost use Rattle.sim_orders.specs.Orders.{IsGiven, Obeys};
+ghost use Rattle.sim_orders.specs.{Light.NeedsNoMemory, Orders.IsGiven, Orders.Obeys};
 
 use crate::checks::{has_room, is_enemy, trains};
 use crate::help::Help;

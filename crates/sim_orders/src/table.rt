@@ -1,14 +1,11 @@
 //! The table of the stored planners, and the help that it makes for them.
 
-ghost use Rattle.std.specs.Prelude.{◌≡◌, ◌<◌, ◌≤◌, ℕ, ◌==◌, count_by};
-ghost use Rattle.sim_base.specs.Limits.{IsFrom};
-ghost use Rattle.sim_scene.specs.SceneWords.{Stands};
-ghost use Rattle.sim_orders.specs.Orders.{kind_of as kind_by, IsGiven, Obeys};
-ghost use Rattle.sim_orders.specs.OneProof.{obeys_prop};
+ghost use Rattle.{sim_base.specs.Limits.IsFrom, sim_scene.specs.SceneWords.Stands};
+ghost use Rattle.std.specs.Prelude.{◌≡◌, ℕ, ◌<◌, ◌≤◌, ◌==◌, count_by};
+ghost use Rattle.sim_orders.specs.{OneProof.obeys_prop, Orders.IsGiven, Orders.kind_of as kind_by, Orders.Obeys};
 
 use crate::asks::help_of;
-use crate::help::Help;
-use crate::kind::kind_of;
+use crate::{Help, kind_of};
 use sim_base::{Changes, Command, OutOfMemory, PlayerCommand, Setup, State};
 use sim_scene::Scene;
 use sim_system::System;

@@ -1,22 +1,9 @@
 -- Where a search has come to no cost of a cell yet, a step that makes up its floor comes from straight beyond it, as seen from the goal.
-use Rattle.std.proofs.Common.{◌≡◌, ℕ, zero, suc, ◌+◌, ◌*◌, ◌-◌, ◌/◌, ◌%◌, ◌<◌, ◌≤◌, min, max, Bool, true, false, cond, ◌&&◌, Option, Some, None, pos, ◌+ℤ◌, ◌⊎◌, inl, inr, arith, subst, ◌∙◌, ap, refl}
-use Rattle.std.specs.Prelude.{nat_le}
-use Rattle.std.specs.Int.{abs_diff, bit_at}
-use Rattle.std.proofs.lemmas.Int.{ints}
-use Rattle.std.proofs.lemmas.Bool.{cases_lt, leb-true, le-leb, and_parts, and_from}
-use Rattle.sim_base.specs.declared.place.Cell.{Cell}
-use Rattle.sim_base.specs.Places.{Size}
-use Rattle.sim_base.specs.Steps.{Field, IsOnGround, IsStep, forward, level, back, neighbour, is_free, octile, step_cost}
-use Rattle.sim_laws.proofs.Neighbours.{cell_at-some}
-use Rattle.sim_path.specs.Away.{leads_away, AreAway}
-use Rattle.sim_search.specs.Estimates.{estimate_to}
-use Rattle.sim_path.specs.Floors.{IsFront, IsUnknown, known_or, floor_of, left_of}
-use Rattle.sim_search.specs.Moves.{step_to}
-use Rattle.sim_path.specs.Straight.{IsTightStep}
-use Rattle.sim_search.specs.Tables.{cost_in}
-use Rattle.sim_path.specs.declared.floor.Front.{Front}
-use Rattle.sim_search.proofs.Moves.{least_step, move-of, step_back, even_step}
-use Rattle.sim_search.proofs.Octile.{beside_of, octile-near, estimate-falls}
+use Rattle.sim_path.proofs.Common.{IsOnGround, IsStep, IsTightStep, IsUnknown, known_or, le-leb, leads_away, least_step, leb-true, left_of, level, move-of}
+use Rattle.sim_path.proofs.Common.{None, Option, refl, abs_diff, and_from, and_parts, ap, AreAway, arith, back, beside_of, bit_at, cases_lt, Cell, cell_at-some}
+use Rattle.sim_path.proofs.Common.{cost_in, estimate-falls, estimate_to, even_step, Field, floor_of, forward, Front, inl, inr, ints, is_free, IsFront}
+use Rattle.sim_path.proofs.Common.{neighbour, octile, octile-near, Size, step_back, step_cost, step_to, subst, ◌∙◌}
+use Rattle.sim_path.proofs.Common.{◌≡◌, ℕ, zero, suc, ◌+◌, ◌-◌, ◌*◌, ◌/◌, ◌%◌, ◌<◌, ◌≤◌, min, max, Bool, true, false, cond, ◌&&◌, ◌⊎◌, pos, ◌+ℤ◌, nat_le, Some}
 
 abbrev pub far : ℕ → ℕ → ℕ
 far x z = 14 * min x z + 10 * (max x z - min x z)
@@ -68,10 +55,12 @@ apart_down a p g e (inl l) = inr (omega arith)
 apart_down a p g e (inr l) = inl (omega arith)
 
 moved_up : (a p g : ℕ) → pos a +ℤ forward ≡ pos p → IsMoved (g ≤ a) (abs_diff a g) (abs_diff p g)
-moved_up a p g e = let f : p ≡ a + 1 = omega (arith, ints) in record { more = λ l. omega arith; side = λ l. omega arith; apart = apart_up a p g f (cases_lt a g) }
+moved_up a p g e = let f : p ≡ a + 1 = omega (arith, ints) in
+    record { more = λ l. omega arith; side = λ l. omega arith; apart = apart_up a p g f (cases_lt a g) }
 
 moved_down : (a p g : ℕ) → pos a +ℤ back ≡ pos p → IsMoved (a ≤ g) (abs_diff a g) (abs_diff p g)
-moved_down a p g e = let f : a ≡ p + 1 = omega (arith, ints) in record { more = λ l. omega arith; side = λ l. omega arith; apart = apart_down a p g f (cases_lt g a) }
+moved_down a p g e = let f : a ≡ p + 1 = omega (arith, ints) in
+    record { more = λ l. omega arith; side = λ l. omega arith; apart = apart_down a p g f (cases_lt g a) }
 
 as_far : (a p : ℕ) → pos a +ℤ level ≡ pos p → a ≡ p
 as_far a p e = omega (arith, ints)
@@ -123,11 +112,16 @@ module _ (at goal p : Cell) where
         told = λ h. let (f, g) = across_by x y z w h m.apart n.apart in both_tested a b c d (m.side f) (n.side g);
       }
 
-  pub away-told : (size : Size) (which : ℕ) → neighbour size at which ≡ Some p → IsTold (leads_away at goal which) (octile at goal) (octile p goal) (step_cost which)
-  away-told size zero e = let c = cell_at-some size (pos at.x +ℤ forward) (pos at.z +ℤ level) p e in told_x goal.x at.x (moved_up at.x p.x goal.x c.by_x) (as_far at.z p.z c.by_z)
-  away-told size (suc zero) e = let c = cell_at-some size (pos at.x +ℤ level) (pos at.z +ℤ forward) p e in told_z goal.z at.z (moved_up at.z p.z goal.z c.by_z) (as_far at.x p.x c.by_x)
-  away-told size (suc (suc zero)) e = let c = cell_at-some size (pos at.x +ℤ back) (pos at.z +ℤ level) p e in told_x at.x goal.x (moved_down at.x p.x goal.x c.by_x) (as_far at.z p.z c.by_z)
-  away-told size (suc (suc (suc zero))) e = let c = cell_at-some size (pos at.x +ℤ level) (pos at.z +ℤ back) p e in told_z at.z goal.z (moved_down at.z p.z goal.z c.by_z) (as_far at.x p.x c.by_x)
+  pub away-told : (size : Size) (which : ℕ) → neighbour size at which ≡ Some p → IsTold (leads_away at goal which) (octile at goal) (octile p goal)
+      (step_cost which)
+  away-told size zero e = let c = cell_at-some size (pos at.x +ℤ forward) (pos at.z +ℤ level) p e in told_x goal.x at.x (moved_up at.x p.x goal.x c.by_x)
+      (as_far at.z p.z c.by_z)
+  away-told size (suc zero) e = let c = cell_at-some size (pos at.x +ℤ level) (pos at.z +ℤ forward) p e in told_z goal.z at.z (moved_up at.z p.z goal.z c.by_z)
+      (as_far at.x p.x c.by_x)
+  away-told size (suc (suc zero)) e = let c = cell_at-some size (pos at.x +ℤ back) (pos at.z +ℤ level) p e in
+      told_x at.x goal.x (moved_down at.x p.x goal.x c.by_x) (as_far at.z p.z c.by_z)
+  away-told size (suc (suc (suc zero))) e = let c = cell_at-some size (pos at.x +ℤ level) (pos at.z +ℤ back) p e in
+      told_z at.z goal.z (moved_down at.z p.z goal.z c.by_z) (as_far at.x p.x c.by_x)
   away-told size (suc (suc (suc (suc zero)))) e =
       let c = cell_at-some size (pos at.x +ℤ forward) (pos at.z +ℤ forward) p e in
       told_both goal.x at.x goal.z at.z (moved_up at.x p.x goal.x c.by_x) (moved_up at.z p.z goal.z c.by_z)
@@ -178,7 +172,8 @@ low_known (Some d) o l far le = omega (arith, far d refl)
 no_cost : (c : Option ℕ) (n : ℕ) → c ≡ None → c ≡ Some n → ⊥
 no_cost c n e f = cc
 
-module _ (field : Field) (start : Cell) (front : Front) (f : IsFront field start front) (at : Cell) (on : IsOnGround field.size at) (free : is_free field start at ≡ true) (u : IsUnknown front start at) where
+module _ (field : Field) (start : Cell) (front : Front) (f : IsFront field start front) (at : Cell) (on : IsOnGround field.size at)
+    (free : is_free field start at ≡ true) (u : IsUnknown front start at) where
   abbrev goal : Cell
   goal = front.aim.goal
 
@@ -194,23 +189,28 @@ module _ (field : Field) (start : Cell) (front : Front) (f : IsFront field start
       by (inr le) = omega arith
 
   -- such a step is one straight away from the goal, and leaves enough for the octile distance
-  pub unknown-near : (p : Cell) (which : ℕ) → IsTightStep field start (floor_of front start) at p which → (leads_away at goal which ≡ true) × (octile p start + step_cost which ≤ left_of front at)
+  pub unknown-near : (p : Cell) (which : ℕ) → IsTightStep field start (floor_of front start) at p which → (leads_away at goal which ≡ true)
+      × (octile p start + step_cost which ≤ left_of front at)
   unknown-near p which t =
       let k = step_cost which in
       let s = step_back field start at p which on free t.leads in
       let beside = (move-of field start at p which t.leads).leads in
       let low = least_known (cost_in front.costs.now p) (octile p start) (left_of front p) (waits p k s) in
-      let (rises, most, less) = all_left front.key (estimate_to front.aim at) (estimate_to front.aim p) k (floor_of front start p) low (t.sum ∙ floor-at) ((estimate-falls front.aim field start).falls p at k s) (least_step which) in
-      let away = rises_by (octile at goal) (octile p goal) k front.aim.near (octile-even at goal) (octile-even p goal) (even_step which) (least_step which) (octile-near goal (beside_of field start p at k s)) rises in
+      let (rises, most, less) = all_left front.key (estimate_to front.aim at) (estimate_to front.aim p) k (floor_of front start p) low (t.sum ∙ floor-at)
+      ((estimate-falls front.aim field start).falls p at k s) (least_step which) in
+      let away = rises_by (octile at goal) (octile p goal) k front.aim.near (octile-even at goal) (octile-even p goal) (even_step which) (least_step which)
+      (octile-near goal (beside_of field start p at k s)) rises in
       let o = low_known (cost_in front.costs.now p) (octile p start) (left_of front p) (f.far p) most in
       ((away-told at goal p field.size which beside).told away, omega (arith, o, less))
 
-  pub near-unknown : (p : Cell) (which : ℕ) → step_to field start at which ≡ Some p → leads_away at goal which ≡ true → octile p start + step_cost which ≤ left_of front at → IsTightStep field start (floor_of front start) at p which
+  pub near-unknown : (p : Cell) (which : ℕ) → step_to field start at which ≡ Some p → leads_away at goal which ≡ true → octile p start + step_cost which ≤
+      left_of front at → IsTightStep field start (floor_of front start) at p which
   near-unknown p which leads away near =
       let k = step_cost which in
       let s = step_back field start at p which on free leads in
       let beside = (move-of field start at p which leads).leads in
-      let rises = rises_so (octile at goal) (octile p goal) k front.aim.near (even_step which) u.beyond ((away-told at goal p field.size which beside).rises away) in
+      let rises = rises_so (octile at goal) (octile p goal) k front.aim.near (even_step which) u.beyond
+      ((away-told at goal p field.size which beside).rises away) in
       let (o, less) = left_less front.key (estimate_to front.aim at) (estimate_to front.aim p) k (octile p start) rises near in
       let is = is_known (cost_in front.costs.now p) (octile p start) (left_of front p) (waits p k s) o in
       record { leads = leads; sum = omega (arith, is, less, floor-at) }

@@ -1,20 +1,8 @@
 -- No walk costs less than the octile distance, nor than what a search knows that has come to a key.
-use Rattle.std.proofs.Common.{◌≡◌, ℕ, ◌+◌, ◌-◌, ◌<◌, ◌≤◌, max, min, Bool, true, false, Option, Some, None, refl, sym, subst, arith, ◌⊎◌, inl, inr}
-use Rattle.std.proofs.lemmas.Bool.{cases_Bool}
-use Rattle.sim_base.specs.declared.place.Cell.{Cell}
-use Rattle.sim_base.specs.Walks.{Walk, stay, go}
-use Rattle.sim_base.specs.Steps.{Field, IsStep, octile}
-use Rattle.sim_search.specs.Estimates.{IsEstimate, estimate_to}
-use Rattle.sim_path.specs.Floors.{IsFloor, IsFront, known_or}
-use Rattle.sim_path.specs.Straight.{octile_from}
-use Rattle.sim_search.specs.Queues.{Ready, taken_in}
-use Rattle.sim_search.specs.Tables.{cost_in}
-use Rattle.sim_search.specs.Taking.{HasCost, IsSearch}
-use Rattle.sim_search.specs.declared.aim.Aim.{Aim}
-use Rattle.sim_path.specs.declared.floor.Front.{Front}
-use Rattle.sim_search.specs.declared.search.Search.{Search}
-use Rattle.sim_search.specs.declared.costs.Costs.{Costs}
-use Rattle.sim_search.proofs.Octile.{beside_of, turned, octile-near, octile-self, estimate-falls}
+use Rattle.sim_path.proofs.Common.{Cell, cost_in, Costs, estimate-falls, estimate_to, Field, Front, go, HasCost, inl, inr, IsEstimate, IsFloor, IsFront}
+use Rattle.sim_path.proofs.Common.{IsSearch, IsStep, known_or, octile, octile-near, octile-self, octile_from, Ready, Search, stay, subst, sym, taken_in, turned}
+use Rattle.sim_path.proofs.Common.{Walk}
+use Rattle.sim_path.proofs.Common.{◌≡◌, ℕ, ◌+◌, ◌-◌, ◌<◌, ◌≤◌, min, max, Bool, true, false, ◌⊎◌, Some, None, Option, refl, Aim, arith, beside_of, cases_Bool}
 
 octile-rises : (field : Field) (start a b : Cell) (k : ℕ) → IsStep field start a b k → octile b start ≤ octile a start + k
 octile-rises field start a b k s = omega (arith, octile-near start (turned (beside_of field start a b k s)))
@@ -44,12 +32,14 @@ most-low o n d e f = omega arith
 abbrev pub floor_by : (Cell → Option ℕ) → (Cell → ℕ) → ℕ → Cell → Cell → ℕ
 floor_by cost estimate now start c = known_or (cost c) (max (octile c start) (now - estimate c))
 
-module _ (field : Field) (start : Cell) (estimate : Cell → ℕ) (cost : Cell → Option ℕ) (taken : Cell → Bool) (now : ℕ) (good : IsEstimate (IsStep field start) estimate) (s : IsSearch (IsStep field start) start estimate cost taken now) where
+module _ (field : Field) (start : Cell) (estimate : Cell → ℕ) (cost : Cell → Option ℕ) (taken : Cell → Bool) (now : ℕ)
+    (good : IsEstimate (IsStep field start) estimate) (s : IsSearch (IsStep field start) start estimate cost taken now) where
   abbrev bound : Cell → ℕ
   bound c = max (octile c start) (now - estimate c)
 
   bound-rises : (a b : Cell) (k : ℕ) → IsStep field start a b k → bound b ≤ bound a + k
-  bound-rises a b k step = most_rises (octile a start) (now - estimate a) (octile b start) (now - estimate b) k (octile-rises field start a b k step) (omega (arith, good.falls a b k step))
+  bound-rises a b k step = most_rises (octile a start) (now - estimate a) (octile b start) (now - estimate b) k (octile-rises field start a b k step)
+      (omega (arith, good.falls a b k step))
 
   known-low : (c : Cell) (n : ℕ) → HasCost cost c n → known_or (cost c) (bound c) ≤ n
   known-low c n h = subst (λ (o : Option ℕ). known_or o (bound c) ≤ n) (sym h.is) (omega (arith, h.low))
@@ -62,14 +52,22 @@ module _ (field : Field) (start : Cell) (estimate : Cell → ℕ) (cost : Cell �
 
       by_taken : (d : ℕ) → cost a ≡ Some d → (taken a ≡ true) ⊎ (taken a ≡ false) → known_or (cost b) (bound b) ≤ min d (bound a) + k
       by_taken d e (inl t) = omega (arith, most, known-low b (d + k) (s.reckoned a b k d t e step))
-      by_taken d e (inr f) = omega (arith, most, most-low (octile a start) (now - estimate a) d (octile-far field start (s.walks a d e)) (omega (arith, s.waiting a d e f)))
+      by_taken d e (inr f) = omega (
+        arith,
+        most,
+        most-low (octile a start) (now - estimate a) d (octile-far field start (s.walks a d e)) (omega (arith, s.waiting a d e f)),
+      )
 
       by : (o : Option ℕ) → cost a ≡ o → known_or (cost b) (bound b) ≤ known_or o (bound a) + k
       by None e = most
       by (Some d) e = by_taken d e (cases_Bool (taken a))
 
   is-floor : IsFloor field start (floor_by cost estimate now start)
-  is-floor = record { begins = none-below (known_or (cost start) (bound start)) (known-low start 0 (record { value = 0; is = s.begins; low = omega arith })); rises = known-rises }
+  is-floor = record {
+    begins = none-below (known_or (cost start) (bound start)) (known-low start 0 (record { value = 0; is = s.begins; low = omega arith }));
+    rises =
+        known-rises;
+  }
 
   by_key : (a b : Cell) (k d : ℕ) → cost a ≡ Some d → d + estimate a < now → IsStep field start a b k → HasCost cost b (d + k)
   by_key a b k d e lt step = by (cases_Bool (taken a))
@@ -96,7 +94,9 @@ knows field s aim now idle r =
       reckoned = by_key field s.start (estimate_to aim) (cost_in s.costs) (taken_in s) now good r.search;
     }
 
-pub known-front : (field : Field) (front : Front) (s : Search) (start : Cell) (idle : ℕ) → s.costs ≡ front.costs.now → s.start ≡ start → Ready (estimate_to front.aim) field s front.key idle → IsFront field start front
+pub known-front : (field : Field) (front : Front) (s : Search) (start : Cell) (idle : ℕ) → s.costs ≡ front.costs.now → s.start ≡ start
+    → Ready (estimate_to front.aim) field s front.key idle → IsFront field start front
 known-front field front s start idle e f r =
-    let k = subst (λ (v : Cell). Knows field front.aim front.key front.costs.now v) f (subst (λ (v : Costs). Knows field front.aim front.key v s.start) e (knows field s front.aim front.key idle r)) in
+    let k = subst (λ (v : Cell). Knows field front.aim front.key front.costs.now v) f (subst (λ (v : Costs). Knows field front.aim front.key v s.start) e
+    (knows field s front.aim front.key idle r)) in
     record { floor = k.floor; far = k.far; reckoned = k.reckoned }

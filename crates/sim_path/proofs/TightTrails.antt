@@ -1,23 +1,10 @@
 -- Why the cells that are found backwards by tight steps are the trail of the definition.
-use Rattle.std.proofs.Common.{◌≡◌, ◌≢◌, ℕ, ◌<◌, ◌≤◌, true, false, List, [], ◌∷◌, ◌++◌, Contains, Some, None, refl, sym, ap, ◌∙◌, subst, ◌⊎◌, ⊎_elim, inl, inr, arith, append_assoc, append-nil, length, length-append, Bool}
-use Rattle.std.proofs.lemmas.Bool.{cases_lt, true≢false}
-use Rattle.std.proofs.lemmas.List.{same_from_push}
-use Rattle.sim_base.specs.declared.place.Cell.{Cell}
-use Rattle.sim_base.specs.Least.{is_before}
-use Rattle.sim_base.specs.Walks.{Walk, stay, go}
-use Rattle.sim_base.specs.Steps.{Field, IsOnGround, IsStep, neighbour, is_free, step_cost, octile}
-use Rattle.sim_base.specs.Ways.{IsCost, IsEnd, LeadsTo, IsPredecessor, IsTrail, end_key}
-use Rattle.sim_laws.proofs.Neighbours.{neighbour-below_eight, neighbour-back, neighbour-on}
-use Rattle.sim_laws.proofs.Trips.{walk-on}
-use Rattle.sim_path.specs.declared.reached.Reached.{Reached}
-use Rattle.sim_path.specs.Ends.{IsBest}
-use Rattle.sim_path.specs.WayEnds.{AreEnds}
-use Rattle.sim_path.specs.Floors.{IsFloor}
-use Rattle.sim_path.specs.Straight.{IsTight, IsTightStep, AreDead, IsFirstTight, IsTightTrail, floor_cost}
-use Rattle.sim_search.proofs.Moves.{move-of, step_back, back_step, free-of_walk}
-use Rattle.sim_path.proofs.BestOf.{later, same_first, at_least}
-use Rattle.sim_path.proofs.Ends.{last_step}
-use Rattle.sim_search.proofs.Cells.{same_or_not}
+use Rattle.sim_path.proofs.{BestOf.at_least, BestOf.later, BestOf.same_first, Ends.last_step}
+use Rattle.sim_path.proofs.Common.{IsTightTrail, IsTrail, LeadsTo, length-append, move-of, neighbour, neighbour-back, neighbour-below_eight, neighbour-on}
+use Rattle.sim_path.proofs.Common.{append_assoc, AreDead, AreEnds, arith, back_step, cases_lt, Cell, end_key, Field, floor_cost, free-of_walk, go, inl, inr}
+use Rattle.sim_path.proofs.Common.{is_before, is_free, IsBest, IsCost, IsEnd, IsFirstTight, IsFloor, IsOnGround, IsPredecessor, IsStep, IsTight, IsTightStep}
+use Rattle.sim_path.proofs.Common.{octile, Reached, same_from_push, same_or_not, stay, step_back, step_cost, subst, sym, true≢false, Walk, walk-on, ⊎_elim, ◌∙◌}
+use Rattle.sim_path.proofs.Common.{◌≡◌, ℕ, ◌<◌, ◌≤◌, Bool, true, false, ◌≢◌, ◌⊎◌, List, [], ◌∷◌, ◌++◌, length, Some, None, Contains, refl, ap, append-nil}
 
 module _ (field : Field) (start : Cell) (floor : Cell → ℕ) where
   -- where p is tight, c is, and p is its predecessor
@@ -70,14 +57,16 @@ module _ (field : Field) (start : Cell) (floor : Cell → ℕ) (start_on : IsOnG
       subst (λ (n : ℕ). IsCost field start p n) equal l.reached
 
   -- and leads to it by a tight step, in each direction in which it lies
-  leads-tight_step : (p c : Cell) (which : ℕ) → LeadsTo field start p c (floor c) → neighbour field.size c which ≡ Some p → IsTightStep field start floor c p which
+  leads-tight_step : (p c : Cell) (which : ℕ) → LeadsTo field start p c (floor c) → neighbour field.size c which ≡ Some p
+      → IsTightStep field start floor c p which
   leads-tight_step p c which l e =
       let back = back_step field start c p which l.last (walk-on field start start_on l.reached.walk) (free-of_walk field start l.reached.walk) l.step e in
       let near = is_floor.rises p c l.last l.step in
       record { leads = back.leads; sum = omega (arith, back.cost_is, near, l.sum, walk-far l.reached.walk) }
 
   -- a tight step from a cell that is free
-  module _ (c p : Cell) (which : ℕ) (c_on : IsOnGround field.size c) (t : IsTightStep field start floor c p which) (c_free : IsStep field start p c (step_cost which)) where
+  module _ (c p : Cell) (which : ℕ) (c_on : IsOnGround field.size c) (t : IsTightStep field start floor c p which)
+      (c_free : IsStep field start p c (step_cost which)) where
     pub tight-more : IsTight field start floor p → IsTight field start floor c
     tight-more own = tight-of_walk c (subst (λ (n : ℕ). Walk (IsStep field start) start c n) t.sum (go own.walk c_free))
 
@@ -88,7 +77,8 @@ module _ (field : Field) (start : Cell) (floor : Cell → ℕ) (start_on : IsOnG
       subst (λ (v : List Cell). IsChain field start floor end v b) f (subst (λ (v : Cell). IsChain field start floor end ys v) g ch)
 
   -- where the last cell is tight, the chain is a trail
-  chain-trail : (end at : Cell) (xs rest : List Cell) → IsChain field start floor end xs at → IsTight field start floor at → IsTrail field start at rest → IsTightTrail field start floor end (xs ++ rest)
+  chain-trail : (end at : Cell) (xs rest : List Cell) → IsChain field start floor end xs at → IsTight field start floor at → IsTrail field start at rest
+      → IsTightTrail field start floor end (xs ++ rest)
   chain-trail end at xs rest begin t h = record { tight = t; is_trail = h }
   chain-trail end at zs rest (more {xs = xs} {c = c} {p = p} ch link) t h =
       let own = link.tight t in
@@ -97,7 +87,8 @@ module _ (field : Field) (start : Cell) (floor : Cell → ℕ) (start_on : IsOnG
 
   pub chain-done : (end at : Cell) (xs : List Cell) → IsChain field start floor end xs at → at ≡ start → IsTightTrail field start floor end xs
   chain-done end at xs ch e =
-      subst (λ (v : List Cell). IsTightTrail field start floor end v) (append-nil xs) (chain-trail end at xs [] ch (subst (λ (v : Cell). IsTight field start floor v) (sym e) tight-start) e)
+      subst (λ (v : List Cell). IsTightTrail field start floor end v) (append-nil xs)
+      (chain-trail end at xs [] ch (subst (λ (v : Cell). IsTight field start floor v) (sym e) tight-start) e)
 
   -- ---- one cell further back, or a dead one
 
@@ -107,7 +98,8 @@ module _ (field : Field) (start : Cell) (floor : Cell → ℕ) (start_on : IsOnG
       let (g, h) = same_from_push ys xs c b e in
       (subst (AreFree field start floor) g f, subst (IsFree field start floor) h free)
 
-  pub link-of : (dead : Cell → Bool) (c p : Cell) → c ≢ start → IsOnGround field.size c → is_free field start c ≡ true → AreDead field start floor dead → IsFirstTight field start floor dead c 8 (Some p) → IsLink field start floor c p
+  pub link-of : (dead : Cell → Bool) (c p : Cell) → c ≢ start → IsOnGround field.size c → is_free field start c ≡ true → AreDead field start floor dead
+      → IsFirstTight field start floor dead c 8 (Some p) → IsLink field start floor c p
   link-of dead c p other c_on c_free are_dead (which, lt, t, first) =
       record {
         other = other;
@@ -124,9 +116,11 @@ module _ (field : Field) (start : Cell) (floor : Cell → ℕ) (start_on : IsOnG
       step = step_back field start c p which c_on c_free t.leads
 
   pub step-free : (dead : Cell → Bool) (c p : Cell) → IsFirstTight field start floor dead c 8 (Some p) → IsFree field start floor p
-  step-free dead c p (which, lt, t, first) = let m = move-of field start c p which t.leads in record { on = neighbour-on field.size c p which m.leads; free = m.free }
+  step-free dead c p (which, lt, t, first) = let m = move-of field start c p which t.leads in
+      record { on = neighbour-on field.size c p which m.leads; free = m.free }
 
-  pub dead-more : (dead next : Cell → Bool) (c : Cell) → c ≢ start → ((v : Cell) → v ≢ c → next v ≡ dead v) → AreDead field start floor dead → IsFirstTight field start floor dead c 8 None → AreDead field start floor next
+  pub dead-more : (dead next : Cell → Bool) (c : Cell) → c ≢ start → ((v : Cell) → v ≢ c → next v ≡ dead v) → AreDead field start floor dead
+      → IsFirstTight field start floor dead c 8 None → AreDead field start floor next
   dead-more dead next c other elsewhere are_dead none =
       λ v h t.
       ⊎_elim
@@ -141,26 +135,41 @@ module _ (field : Field) (start : Cell) (floor : Cell → ℕ) (start_on : IsOnG
           (λ (l : (p : Cell) × LeadsTo field start p c (floor c)).
           let leads = l.1 in
           let back = neighbour-back field.size l.0 c leads.step.which (walk-on field start start_on leads.reached.walk) leads.step.leads in
-          let is_dead = none back.way_back l.0 (neighbour-below_eight field.size c l.0 back.way_back back.leads) (leads-tight_step l.0 c back.way_back leads back.leads) in
+          let is_dead = none back.way_back l.0 (neighbour-below_eight field.size c l.0 back.way_back back.leads)
+          (leads-tight_step l.0 c back.way_back leads back.leads) in
           are_dead l.0 is_dead (leads-tight l.0 c leads))
           (last_step field start (λ v. None) start_on c (floor c) t)
 
   pub at-begins : (end : Cell) (dead : Cell → Bool) → ((c : Cell) → dead c ≡ false) → IsFree field start floor end → IsAt field start floor end [] dead end
   at-begins end dead none f = record { chain = begin; frees = no_more; free = f; are_dead = λ c h t. true≢false (sym h ∙ none c) }
 
-  pub at-further : (end : Cell) (trail : List Cell) (dead : Cell → Bool) (at from : Cell) → at ≢ start → IsAt field start floor end trail dead at → IsFirstTight field start floor dead at 8 (Some from) → IsAt field start floor end (trail ++ at ∷ []) dead from
+  pub at-further : (end : Cell) (trail : List Cell) (dead : Cell → Bool) (at from : Cell) → at ≢ start → IsAt field start floor end trail dead at →
+      IsFirstTight field start floor dead at 8 (Some from) → IsAt field start floor end (trail ++ at ∷ []) dead from
   at-further end trail dead at from other a first =
-      record { chain = more a.chain (link-of dead at from other a.free.on a.free.free a.are_dead first); frees = one_more a.frees a.free; free = step-free dead at from first; are_dead = a.are_dead }
+      record {
+        chain = more a.chain (link-of dead at from other a.free.on a.free.free a.are_dead first);
+        frees = one_more a.frees a.free;
+        free =
+            step-free dead at from first;
+        are_dead = a.are_dead;
+      }
 
-  pub at-back : (end : Cell) (trail rest : List Cell) (dead next : Cell → Bool) (at last : Cell) → at ≢ start → ((v : Cell) → v ≢ at → next v ≡ dead v) → IsAt field start floor end trail dead at → IsFirstTight field start floor dead at 8 None → trail ≡ rest ++ last ∷ [] →
+  pub at-back : (end : Cell) (trail rest : List Cell) (dead next : Cell → Bool) (at last : Cell) → at ≢ start → ((v : Cell) → v ≢ at → next v ≡ dead v)
+      → IsAt field start floor end trail dead at → IsFirstTight field start floor dead at 8 None → trail ≡ rest ++ last ∷ [] →
       IsAt field start floor end rest next last
   at-back end trail rest dead next at last other elsewhere a none e =
       let (frees, free) = free-last rest trail last a.frees e in
-      record { chain = chain-pop end rest trail last at a.chain e; frees = frees; free = free; are_dead = dead-more dead next at other elsewhere a.are_dead none }
+      record {
+        chain = chain-pop end rest trail last at a.chain e;
+        frees = frees;
+        free = free;
+        are_dead = dead-more dead next at other elsewhere a.are_dead none;
+      }
 
   -- ---- the end
 
-  pub tight-end : (goal : Cell) (near : ℕ) (ends : List Cell) (best : Reached) → AreEnds field start goal near ends → IsBest (floor_cost floor) goal (Contains ends) best → Contains ends best.cell →
+  pub tight-end : (goal : Cell) (near : ℕ) (ends : List Cell) (best : Reached) → AreEnds field start goal near ends
+      → IsBest (floor_cost floor) goal (Contains ends) best → Contains ends best.cell →
       IsTight field start floor best.cell → IsEnd field start goal best.cell (floor best.cell)
   tight-end goal near ends best a b among tight = record { reached = tight; least = λ c n h. compared c n h (cases_lt near (octile c goal)) }
     where
@@ -176,17 +185,21 @@ module _ (field : Field) (start : Cell) (floor : Cell → ℕ) (start_on : IsOnG
       cost_is : floor e ≡ best.cost
       cost_is = cc
 
-      tied : (c : Cell) (n : ℕ) → IsCost field start c n → octile c goal ≡ octile e goal → (floor c < n) ⊎ (n ≤ floor c) → is_before (end_key goal c n) (end_key goal e (floor e)) ≡ false
+      tied : (c : Cell) (n : ℕ) → IsCost field start c n → octile c goal ≡ octile e goal → (floor c < n) ⊎ (n ≤ floor c)
+          → is_before (end_key goal c n) (end_key goal e (floor e)) ≡ false
       tied c n h same (inl lt) =
           let first = same_first (octile c goal) (octile e goal) (floor c ∷ c.z ∷ c.x ∷ []) (best.cost ∷ e.z ∷ e.x ∷ []) same in
-          let low = at_least (floor c) best.cost (c.z ∷ c.x ∷ []) (e.z ∷ e.x ∷ []) (sym first ∙ b.least c (floor c) (a.all c n h.walk (same ∙ best_near)) refl) in
-          same_first (octile c goal) (octile e goal) (n ∷ c.z ∷ c.x ∷ []) (floor e ∷ e.z ∷ e.x ∷ []) same ∙ later n (floor e) (c.z ∷ c.x ∷ []) (e.z ∷ e.x ∷ []) (omega (arith, low, cost_is))
+          let low = at_least (floor c) best.cost (c.z ∷ c.x ∷ []) (e.z ∷ e.x ∷ [])
+          (sym first ∙ b.least c (floor c) (a.all c n h.walk (same ∙ best_near)) refl) in
+          same_first (octile c goal) (octile e goal) (n ∷ c.z ∷ c.x ∷ []) (floor e ∷ e.z ∷ e.x ∷ []) same ∙ later n (floor e) (c.z ∷ c.x ∷ []) (e.z ∷ e.x ∷ [])
+          (omega (arith, low, cost_is))
       tied c n h same (inr le) =
           let equal : floor c ≡ n = omega (arith, walk-far h.walk) in
           let known = b.least c (floor c) (a.all c n h.walk (same ∙ best_near)) refl in
           subst (λ (m : ℕ). is_before (end_key goal c m) (end_key goal e (floor e)) ≡ false) equal
           (subst (λ (m : ℕ). is_before (end_key goal c (floor c)) (end_key goal e m) ≡ false) (sym cost_is) known)
 
-      compared : (c : Cell) (n : ℕ) → IsCost field start c n → (near < octile c goal) ⊎ (octile c goal ≤ near) → is_before (end_key goal c n) (end_key goal e (floor e)) ≡ false
+      compared : (c : Cell) (n : ℕ) → IsCost field start c n → (near < octile c goal) ⊎ (octile c goal ≤ near)
+          → is_before (end_key goal c n) (end_key goal e (floor e)) ≡ false
       compared c n h (inl lt) = later (octile c goal) (octile e goal) (n ∷ c.z ∷ c.x ∷ []) (floor e ∷ e.z ∷ e.x ∷ []) (omega (arith, best_near))
       compared c n h (inr le) = tied c n h (omega (arith, best_near, a.away c n h.walk)) (cases_lt (floor c) n)

@@ -1,11 +1,7 @@
 -- What walks from a start cost at least, by what a search knows.
-use Rattle.std.specs.Prelude.{◌≡◌, ℕ, ◌+◌, ◌-◌, ◌<◌, ◌≤◌, max, min, Option, Some, None}
-use Rattle.sim_base.specs.declared.place.Cell.{Cell}
-use Rattle.sim_base.specs.Steps.{Field, IsStep, octile}
-use Rattle.sim_search.specs.Tables.{cost_in}
-use Rattle.sim_search.specs.Taking.{HasCost}
-use Rattle.sim_search.specs.Estimates.{estimate_to}
-use Rattle.sim_path.specs.declared.floor.Front.{Front}
+use Rattle.{sim_path.specs.declared.floor.Front.Front, sim_search.specs.Estimates.estimate_to, sim_search.specs.Tables.cost_in, sim_search.specs.Taking.HasCost}
+use Rattle.std.specs.Prelude.{◌≡◌, ℕ, ◌+◌, ◌-◌, ◌<◌, ◌≤◌, min, max, Some, None, Option}
+use Rattle.sim_base.specs.{Steps.Field, Steps.IsStep, Steps.octile, declared.place.Cell.Cell}
 
 -- a floor is nothing at the start, and rises along a step by at most what the step costs, so no walk costs less
 pub record IsFloor (field : Field) (start : Cell) (floor : Cell → ℕ) : Type 0 where
@@ -29,7 +25,8 @@ floor_of front start c = known_or (cost_in front.costs.now c) (max (octile c sta
 pub record IsFront (field : Field) (start : Cell) (front : Front) : Type 0 where
   pub floor : IsFloor field start (floor_of front start)
   pub far : (c : Cell) (d : ℕ) → cost_in front.costs.now c ≡ Some d → octile c start ≤ d
-  pub reckoned : (a b : Cell) (k d : ℕ) → cost_in front.costs.now a ≡ Some d → d + estimate_to front.aim a < front.key → IsStep field start a b k → HasCost (cost_in front.costs.now) b (d + k)
+  pub reckoned : (a b : Cell) (k d : ℕ) → cost_in front.costs.now a ≡ Some d → d + estimate_to front.aim a < front.key → IsStep field start a b k
+      → HasCost (cost_in front.costs.now) b (d + k)
 
 -- a cell has no cost yet, and what is left of the key for it is its floor; it is no nearer to the goal than the ends are
 pub record IsUnknown (front : Front) (start c : Cell) : Type 0 where

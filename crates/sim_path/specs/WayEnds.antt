@@ -1,14 +1,8 @@
 -- The ends that a way can have, the best of them, and what the costs tell of the way back from it.
-use Rattle.std.specs.Prelude.{◌≡◌, ℕ, ◌+◌, ◌≤◌, List, Contains, Option, Some, None}
-use Rattle.sim_base.specs.declared.place.Cell.{Cell}
-use Rattle.sim_base.specs.Steps.{Field, IsStep, octile}
-use Rattle.sim_base.specs.Ways.{IsEnd, IsTrail}
-use Rattle.sim_base.specs.Walks.{Walk}
-use Rattle.sim_search.specs.Estimates.{IsEstimate}
-use Rattle.sim_search.specs.Regions.{IsReached}
-use Rattle.sim_search.specs.Comes.{AreCostsUpTo}
-use Rattle.sim_path.specs.Ends.{IsBest}
-use Rattle.sim_path.specs.declared.reached.Reached.{Reached}
+use Rattle.std.specs.Prelude.{◌≡◌, ℕ, ◌+◌, ◌≤◌, List, Some, None, Contains, Option}
+use Rattle.sim_base.specs.{Steps.Field, Steps.IsStep, Steps.octile, Walks.Walk, Ways.IsEnd, Ways.IsTrail, declared.place.Cell.Cell}
+use Rattle.sim_path.specs.{Ends.IsBest, declared.reached.Reached.Reached}
+use Rattle.sim_search.specs.{Comes.AreCostsUpTo, Estimates.IsEstimate, Regions.IsReached}
 
 -- The costs tell the way back from a cell: with some estimate, the least costs are known up to its cost and estimate.
 pub record LeadBack (field : Field) (start : Cell) (cost : Cell → Option ℕ) (end : Reached) : Type 0 where

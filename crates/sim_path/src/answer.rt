@@ -1,18 +1,11 @@
 //! The way from a point to another, by its points.
 
-ghost use Rattle.std.specs.Prelude.{◌≡◌, ◌<◌, ◌∷◌, [], All, OnOk, IfOk, IsTrue, true, reverse, if◌then◌else◌};
-ghost use Rattle.sim_base.specs.Places.{IsPlaced, is_inside, centre_of as centre_at, same_cell, cell_of as cell_at};
-ghost use Rattle.sim_base.specs.Steps.{IsOnGround};
-ghost use Rattle.sim_base.specs.Ways.{IsEnd, IsFound, IsWay, first_points, waypoints};
-ghost use Rattle.sim_base.specs.WayOf.{way_of};
-ghost use Rattle.sim_grid.specs.Grids.{IsGroundSize, field_of_grid};
-ghost use Rattle.sim_search.specs.Tables.{cost_in, size_of};
-ghost use Rattle.sim_search.specs.Estimates.{estimate_to, IsNarrow};
-ghost use Rattle.sim_path.specs.WayEnds.{AreEnds, IsTrailToEnd, IsWayEnd, LeadBack};
-ghost use Rattle.sim_search.specs.Comes.{IsSearched};
-ghost use Rattle.sim_search.specs.Regions.{AreLabels};
-ghost use Rattle.sim_search.specs.Floods.{label_in};
-ghost use Rattle.sim_path.specs.Answers.{way_in};
+ghost use Rattle.{sim_grid.specs.Grids.field_of_grid, sim_search.specs.Floods.label_in};
+ghost use Rattle.std.specs.Prelude.{◌≡◌, ◌<◌, true, [], ◌∷◌, reverse, IfOk, if◌then◌else◌, OnOk, IsTrue, All};
+ghost use Rattle.sim_base.specs.{Places.cell_of as cell_at, Places.centre_of as centre_at, Places.is_inside, Places.IsPlaced, Places.same_cell, WayOf.way_of};
+ghost use Rattle.sim_base.specs.{Steps.IsOnGround, Ways.first_points, Ways.IsEnd, Ways.IsFound, Ways.IsWay, Ways.waypoints};
+ghost use Rattle.sim_path.specs.{Answers.way_in, WayEnds.AreEnds, WayEnds.IsTrailToEnd, WayEnds.IsWayEnd, WayEnds.LeadBack};
+ghost use Rattle.sim_search.specs.{Comes.IsSearched, Estimates.estimate_to, Estimates.IsNarrow, Regions.AreLabels, Tables.cost_in, Tables.size_of};
 
 use crate::end::{best_of, end_of};
 use crate::floor::Front;
@@ -163,17 +156,10 @@ pub struct Searcher {
 }
 
 impl Searcher {
-    ghost use Rattle.std.specs.Prelude.{◌≡◌, ◌<◌, ◌^◌, OnOk, IfOk, IsTrue, true};
-    ghost use Rattle.sim_base.specs.Places.{is_inside, cell_of as cell_at};
-    ghost use Rattle.sim_base.specs.Ways.{IsFound, IsWay};
-    ghost use Rattle.sim_base.specs.WayOf.{way_of};
-    ghost use Rattle.sim_grid.specs.Grids.{field_of_grid};
-    ghost use Rattle.sim_path.specs.WayEnds.{AreEnds, IsTrailToEnd};
-    ghost use Rattle.sim_path.specs.Floors.{IsFront};
-    ghost use Rattle.sim_search.specs.Queues.{Ready};
-    ghost use Rattle.sim_search.specs.Regions.{AreLabels};
-    ghost use Rattle.sim_search.specs.Floods.{label_in};
-    ghost use Rattle.sim_path.specs.Answers.{way_in};
+    ghost use Rattle.{sim_grid.specs.Grids.field_of_grid, sim_search.specs.Floods.label_in, sim_search.specs.Queues.Ready, sim_search.specs.Regions.AreLabels};
+    ghost use Rattle.std.specs.Prelude.{◌≡◌, ◌^◌, ◌<◌, true, IfOk, OnOk, IsTrue};
+    ghost use Rattle.sim_base.specs.{Places.cell_of as cell_at, Places.is_inside, WayOf.way_of, Ways.IsFound, Ways.IsWay};
+    ghost use Rattle.sim_path.specs.{Answers.way_in, Floors.IsFront, WayEnds.AreEnds, WayEnds.IsTrailToEnd};
 
     /// A searcher that has no rooms yet.
     pub fn new() -> Searcher {

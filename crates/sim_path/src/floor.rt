@@ -2,7 +2,7 @@
 //! since the ways back that are found by it read no more of it.
 
 ghost use Rattle.std.specs.Prelude.{◌≡◌, ◌↔◌, IsTrue};
-ghost use Rattle.sim_path.specs.Floors.{IsUnknown, floor_of, left_of};
+ghost use Rattle.sim_path.specs.Floors.{floor_of, IsUnknown, left_of};
 
 use sim_base::Cell;
 use sim_grid::octile;

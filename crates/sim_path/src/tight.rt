@@ -2,15 +2,12 @@
 //! tried in the order of the directions, and those to which none leads are noted. So the way to an end is found before
 //! all cells are taken that cost as much.
 
-ghost use Rattle.std.specs.Prelude.{◌≡◌, ◌<◌, IfOk, true, Some, None};
-ghost use Rattle.sim_base.specs.declared.place.Cell.{Cell};
-ghost use Rattle.sim_base.specs.Steps.{IsOnGround, is_free as is_free_in};
-ghost use Rattle.sim_grid.specs.Grids.{field_of_grid};
+ghost use Rattle.{sim_grid.specs.Grids.field_of_grid, sim_path.specs.MarkTables.IsNoneMarked, sim_path.specs.MarkTables.marked_in};
+ghost use Rattle.std.specs.Prelude.{◌≡◌, ◌<◌, true, IfOk, Some, None};
+ghost use Rattle.sim_base.specs.{Steps.is_free as is_free_in, Steps.IsOnGround, declared.place.Cell.Cell};
+ghost use Rattle.sim_path.specs.{Floors.floor_of, Floors.IsFront, Floors.IsUnknown, Floors.left_of, WayEnds.AreEnds, WayEnds.IsBestOf, WayEnds.IsTrailToEnd};
+ghost use Rattle.sim_path.specs.Straight.{floor_cost, IsFirstTight, IsNearStep, IsTightStep, IsTightTrail};
 ghost use Rattle.sim_search.specs.Moves.{AreMoves};
-ghost use Rattle.sim_path.specs.MarkTables.{IsNoneMarked, marked_in};
-ghost use Rattle.sim_path.specs.Floors.{IsFront, IsUnknown, floor_of, left_of};
-ghost use Rattle.sim_path.specs.Straight.{IsFirstTight, IsNearStep, IsTightStep, IsTightTrail, floor_cost};
-ghost use Rattle.sim_path.specs.WayEnds.{AreEnds, IsBestOf, IsTrailToEnd};
 
 use crate::away::away_from;
 use crate::end::better_than;
@@ -35,7 +32,8 @@ fn tight_step(
     requires at_on { IsOnGround grid.now.size at.cell }
     requires moves { AreMoves (field_of_grid grid.now) start at.cell moves }
     requires cost { at.cost ≡ floor_of front.now start at.cell }
-    ensures none { result ≡ None → (p : Cell) → IsTightStep (field_of_grid grid.now) start (floor_of front.now start) at.cell p which → marked_in dead.now p ≡ true }
+    ensures none { result ≡ None → (p : Cell) → IsTightStep (field_of_grid grid.now) start (floor_of front.now start) at.cell p which
+        → marked_in dead.now p ≡ true }
     ensures some { (p : Cell) → result ≡ Some p → IsTightStep (field_of_grid grid.now) start (floor_of front.now start) at.cell p which }
 {
     let from = step(grid, start, at.cell, moves, which)?;

@@ -1,23 +1,12 @@
 -- An exchange goes on having the server and the pipes of a session, through each of its calls.
-use Rattle.std.proofs.Common.{◌≡◌, ◌⊎◌, inl, inr, ℕ, zero, suc, ◌<◌, ◌≤◌, List, [], ◌∷◌, ◌++◌, length, get_or, set, map, refl, sym, ap, ◌∙◌, subst, arith, Result, Ok, Err, get_or-set_same, get_or-set_other}
-use Rattle.std.specs.Prelude.{OnOk}
-use Rattle.std.proofs.lemmas.Bool.{cases_eq, eq-eqb, ne_eqb, cond-true, cond-false}
-use Rattle.sim_base.specs.declared.setup.Setup.{Setup}
-use Rattle.sim_base.specs.Turn.{Past}
-use Rattle.sim_plain.specs.declared.message.UpOf.{UpOf}
-use Rattle.sim_plain.specs.declared.rules.Rules.{Rules}
-use Rattle.sim_plain.specs.Functions.{put}
-use Rattle.sim_plain.specs.Messages.{Arrival, Heard, Cut, carry_arrival, carry_up, carry_down}
-use Rattle.sim_plain.specs.Posts.{posts}
-use Rattle.sim_plain.specs.Server.{heard}
-use Rattle.sim_plain_session.specs.Bytes.{spelled, ups_of, downs_of}
-use Rattle.sim_plain_session.specs.Clients.{Up, Down, Phase, Off}
-use Rattle.sim_plain_session.specs.Sessions.{Session, arrives, rises, cut}
-use Rattle.sim_plain_session.proofs.InBytes.{server_hears_bytes, bytes_go_down}
-use Rattle.sim_server.specs.Standing.{View}
-use Rattle.sim_wire.specs.Fits.{IsUpFrame, IsDownFrame}
-use Rattle.sim_pipes.specs.Exchanges.{Held, Conveys}
-use Rattle.sim_pipes.specs.Pipes.{AreFrames, Sends, pipe_in}
+use Rattle.std.proofs.Common.{set, get_or-set_other, get_or-set_same}
+use Rattle.sim_base.specs.{Turn.Past, declared.setup.Setup.Setup}
+use Rattle.sim_pipes.proofs.Common.{arith, Arrival, cases_eq, cond-false, cond-true, Conveys, Cut, eq-eqb, Heard, Held, inl, inr, IsDownFrame, IsUpFrame}
+use Rattle.sim_pipes.proofs.Common.{ne_eqb, pipe_in, posts, Rules, Sends, subst, sym, UpOf, View, ◌∙◌}
+use Rattle.sim_pipes.proofs.Common.{◌≡◌, ℕ, zero, suc, ◌<◌, ◌≤◌, ◌⊎◌, List, [], ◌∷◌, ◌++◌, map, length, get_or, OnOk, Ok, Err, Result, refl, ap, AreFrames}
+use Rattle.sim_plain.specs.{Functions.put, Messages.carry_arrival, Messages.carry_down, Messages.carry_up, Server.heard}
+use Rattle.sim_plain_session.{proofs.InBytes.bytes_go_down, proofs.InBytes.server_hears_bytes, specs.Bytes.downs_of, specs.Bytes.spelled, specs.Bytes.ups_of}
+use Rattle.sim_plain_session.specs.{Clients.Down, Clients.Off, Clients.Phase, Clients.Up, Sessions.arrives, Sessions.cut, Sessions.rises, Sessions.Session}
 
 abbrev Frames : Type 0
 Frames = List (List ℕ)
@@ -28,7 +17,8 @@ same_frames : {M : Type 0} (IsFrame : List ℕ → M → Type 0) (frames others 
 same_frames IsFrame frames others messages more e f are = subst (λ l. AreFrames IsFrame l more) (sym e) (subst (AreFrames IsFrame frames) (sym f) are)
 
 -- what is in each pipe, where one is another
-module _ {M X : Type 0} (IsFrame : List ℕ → M → Type 0) (carry : X → M) (pipes : List Frames) (pipe : Frames) (in_each : ℕ → List X) (others : List X) (n c : ℕ) (long : length pipes ≡ suc n) (high : c ≤ n) where
+module _ {M X : Type 0} (IsFrame : List ℕ → M → Type 0) (carry : X → M) (pipes : List Frames) (pipe : Frames) (in_each : ℕ → List X) (others : List X) (n c : ℕ)
+    (long : length pipes ≡ suc n) (high : c ≤ n) where
   one_more : ((d : ℕ) → 0 < d → d ≤ n → AreFrames IsFrame (pipe_in pipes d) (map carry (in_each d))) → AreFrames IsFrame pipe (map carry others)
       → (d : ℕ) → 0 < d → d ≤ n → AreFrames IsFrame (pipe_in (set pipes c pipe) d) (map carry (put c others in_each d))
   one_more each are d low le = by (cases_eq d c)
@@ -43,12 +33,14 @@ module _ {M X : Type 0} (IsFrame : List ℕ → M → Type 0) (carry : X → M) 
           (get_or-set_other pipes c d pipe [] apart)
           (ap (map carry) (cond-false _ others (in_each d) (ne_eqb d c apart))) (each d low le)
 
-module _ (setup : Setup) (ups downs : List Frames) (server : View) (s : Session) (conv : Conveys setup (record { ups = ups; downs = downs; server = server }) s) where
+module _ (setup : Setup) (ups downs : List Frames) (server : View) (s : Session) (conv : Conveys setup (record { ups = ups; downs = downs; server = server })
+    s) where
   players : server.rules.clients ≡ setup.players
   players = ap (λ (r : Rules). r.clients) conv.rules
 
   -- the pipe from one client has other messages
-  pub ups_put : (c : ℕ) (pipe : Frames) (said : List Up) → length ups ≡ suc server.rules.clients → c ≤ server.rules.clients → AreFrames IsUpFrame pipe (map (carry_up (spelled setup)) said)
+  pub ups_put : (c : ℕ) (pipe : Frames) (said : List Up) → length ups ≡ suc server.rules.clients → c ≤ server.rules.clients
+      → AreFrames IsUpFrame pipe (map (carry_up (spelled setup)) said)
       → Conveys setup (record { ups = set ups c pipe; downs = downs; server = server }) (record s { ups = put c said s.ups })
   ups_put c pipe said long high are = record {
     rules = conv.rules;
@@ -58,13 +50,15 @@ module _ (setup : Setup) (ups downs : List Frames) (server : View) (s : Session)
   }
 
   -- the pipe to one client has other messages
-  pub downs_put : (c : ℕ) (pipe : Frames) (said : List Down) → length downs ≡ suc server.rules.clients → c ≤ server.rules.clients → AreFrames IsDownFrame pipe (map (carry_down (spelled setup)) said)
+  pub downs_put : (c : ℕ) (pipe : Frames) (said : List Down) → length downs ≡ suc server.rules.clients → c ≤ server.rules.clients
+      → AreFrames IsDownFrame pipe (map (carry_down (spelled setup)) said)
       → Conveys setup (record { ups = ups; downs = set downs c pipe; server = server }) (record s { downs = put c said s.downs })
   downs_put c pipe said long high are = record {
     rules = conv.rules;
     server = conv.server;
     ups = conv.ups;
-    downs = one_more IsDownFrame (carry_down (spelled setup)) downs pipe s.downs said setup.players c (long ∙ ap suc players) (omega (arith, players, high)) conv.downs are;
+    downs = one_more IsDownFrame (carry_down (spelled setup)) downs pipe s.downs said setup.players c (long ∙ ap suc players) (omega (arith, players, high))
+        conv.downs are;
   }
 
   -- a client is something else
@@ -72,7 +66,8 @@ module _ (setup : Setup) (ups downs : List Frames) (server : View) (s : Session)
   client_put client = record { rules = conv.rules; server = conv.server; ups = conv.ups; downs = conv.downs }
 
   -- something has arrived, and what the server says of it is sent
-  pub arrived : (a : Arrival Past) (view : View) (pipes : List Frames) → view.rules ≡ server.rules → Sends server downs (carry_arrival (spelled setup) a) view pipes
+  pub arrived : (a : Arrival Past) (view : View) (pipes : List Frames) → view.rules ≡ server.rules → Sends server downs (carry_arrival (spelled setup) a) view
+      pipes
       → Conveys setup (record { ups = ups; downs = pipes; server = view }) (arrives setup a s)
   arrived a view pipes same sent = record {
     rules = same ∙ conv.rules;
@@ -84,29 +79,38 @@ module _ (setup : Setup) (ups downs : List Frames) (server : View) (s : Session)
   }
 
 -- what a client says is heard
-pub risen : {T E : Type 0} (setup : Setup) (held : Held) (s : Session) (c : ℕ) (frame : List ℕ) (pipe : Frames) (view : View) (pipes : List Frames) (r : Result T E) → Conveys setup held s
-    → length held.ups ≡ suc held.server.rules.clients → 0 < c → c ≤ held.server.rules.clients → pipe_in held.ups c ≡ frame ∷ pipe → view.rules ≡ held.server.rules
+pub risen : {T E : Type 0} (setup : Setup) (held : Held) (s : Session) (c : ℕ) (frame : List ℕ) (pipe : Frames) (view : View) (pipes : List Frames)
+    (r : Result T E) → Conveys setup held s
+    → length held.ups ≡ suc held.server.rules.clients → 0 < c → c ≤ held.server.rules.clients → pipe_in held.ups c ≡ frame ∷ pipe
+    → view.rules ≡ held.server.rules
     → ((message : UpOf (List ℕ)) → IsUpFrame frame message → OnOk r (Sends held.server held.downs (Heard c message) view pipes))
     → OnOk r (Conveys setup (record { ups = set held.ups c pipe; downs = pipes; server = view }) (rises setup c (s.ups c) s))
 risen setup held s c frame pipe view pipes (Err e) conv long low high first same sent = tt
 risen setup held s c frame pipe view pipes (Ok x) conv long low high first same sent =
-    by (s.ups c) (subst (λ l. AreFrames IsUpFrame l (ups_of setup s c)) first (conv.ups c low (omega (arith, players setup held.ups held.downs held.server s conv, high))))
+    by (s.ups c) (subst (λ l. AreFrames IsUpFrame l (ups_of setup s c)) first
+    (conv.ups c low (omega (arith, players setup held.ups held.downs held.server s conv, high))))
   where
-    by : (said : List Up) → AreFrames IsUpFrame (frame ∷ pipe) (map (carry_up (spelled setup)) said) → Conveys setup (record { ups = set held.ups c pipe; downs = pipes; server = view }) (rises setup c said s)
+    by : (said : List Up) → AreFrames IsUpFrame (frame ∷ pipe) (map (carry_up (spelled setup)) said)
+        → Conveys setup (record { ups = set held.ups c pipe; downs = pipes; server = view }) (rises setup c said s)
     by [] are = absurd are
     by (x ∷ rest) are =
         arrived setup (set held.ups c pipe) held.downs held.server (record s { ups = put c rest s.ups })
         (ups_put setup held.ups held.downs held.server s conv c pipe rest long high are.1) (Heard c x) view pipes same (sent (carry_up (spelled setup) x) are.0)
 
 -- a client is cut off, and both of its pipes are empty
-pub cut_off : (setup : Setup) (held : Held) (s : Session) (c : ℕ) (up down : Frames) (view : View) (pipes : List Frames) → Conveys setup held s → length held.ups ≡ suc held.server.rules.clients
-    → length held.downs ≡ suc held.server.rules.clients → c ≤ held.server.rules.clients → up ≡ [] → down ≡ [] → view.rules ≡ held.server.rules → Sends held.server (set held.downs c down) (Cut c) view pipes
+pub cut_off : (setup : Setup) (held : Held) (s : Session) (c : ℕ) (up down : Frames) (view : View) (pipes : List Frames) → Conveys setup held s
+    → length held.ups ≡ suc held.server.rules.clients
+    → length held.downs ≡ suc held.server.rules.clients → c ≤ held.server.rules.clients → up ≡ [] → down ≡ [] → view.rules ≡ held.server.rules
+    → Sends held.server (set held.downs c down) (Cut c) view pipes
     → Conveys setup (record { ups = set held.ups c up; downs = pipes; server = view }) (cut setup c s)
 cut_off setup held s c up down view pipes conv long deep high no_up no_down same sent =
     let first = ups_put setup held.ups held.downs held.server s conv c up [] long high (subst (λ l. AreFrames IsUpFrame l []) (sym no_up) tt) in
-    let second = downs_put setup (set held.ups c up) held.downs held.server (record s { ups = put c [] s.ups }) first c down [] deep high (subst (λ l. AreFrames IsDownFrame l []) (sym no_down) tt) in
-    arrived setup (set held.ups c up) (set held.downs c down) held.server (record s { client = put c Off s.client; ups = put c [] s.ups; downs = put c [] s.downs })
-    (client_put setup (set held.ups c up) (set held.downs c down) held.server (record s { ups = put c [] s.ups; downs = put c [] s.downs }) second (put c Off s.client))
+    let second = downs_put setup (set held.ups c up) held.downs held.server (record s { ups = put c [] s.ups }) first c down [] deep high
+    (subst (λ l. AreFrames IsDownFrame l []) (sym no_down) tt) in
+    arrived setup (set held.ups c up) (set held.downs c down) held.server
+    (record s { client = put c Off s.client; ups = put c [] s.ups; downs = put c [] s.downs })
+    (client_put setup (set held.ups c up) (set held.downs c down) held.server (record s { ups = put c [] s.ups; downs = put c [] s.downs }) second
+    (put c Off s.client))
     (Cut c) view pipes same sent
 
 -- a pipe more that is empty

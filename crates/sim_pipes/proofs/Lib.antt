@@ -1,3 +1,4 @@
+pub mod Common
 pub mod Frames
 pub mod Telling
 pub mod Noticing

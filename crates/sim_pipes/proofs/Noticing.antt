@@ -1,21 +1,13 @@
 -- Who is heard is told of the notice that this gives.
-use Rattle.std.proofs.Common.{◌≡◌, ℕ, ◌+◌, ◌<◌, ◌≤◌, Bool, true, false, List, [], ◌∷◌, ◌++◌, length, take, get_or, map, refl, sym, ap, ◌∙◌, if◌then◌else◌, is_none, true≢false}
-use Rattle.std.specs.Prelude.{filter_map, filter}
-use Rattle.std.proofs.lemmas.List.{map-append}
-use Rattle.std.proofs.lemmas.List.Elements.{filter_map-append}
+use Rattle.{sim_pipes.proofs.Telling.told_each, sim_pipes.proofs.Telling.told_more, sim_plain.proofs.Told.notices_are_told, std.specs.Prelude.filter}
+use Rattle.std.proofs.{Common.is_none, Common.true≢false, lemmas.List.map-append, lemmas.List.Elements.filter_map-append}
+use Rattle.sim_pipes.proofs.Common.{ap, Arrival, Cut, Heard, notice_events, notice_in, PostOf, posts, Rules, sym, told_to, ◌∙◌}
+use Rattle.sim_pipes.proofs.Common.{◌≡◌, ℕ, ◌+◌, ◌<◌, ◌≤◌, Bool, true, false, List, [], ◌∷◌, ◌++◌, map, length, get_or, take, if◌then◌else◌, filter_map, refl}
+use Rattle.sim_plain.specs.{Messages.sender, Notices.noticed, Notices.Report, Posts.differs, Posts.posts_of}
+use Rattle.sim_plain.specs.Server.{command_fault, done_fault, is_in, is_out, report_fault, Server, takes_state}
+use Rattle.sim_plain.specs.declared.status.Status.{Status, TheVariants.In, TheVariants.Out, TheVariants.Waiting}
 use Rattle.sim_base.specs.declared.step.Event.TheVariants as event
-use Rattle.sim_plain.specs.declared.message.PostOf.{PostOf}
 use Rattle.sim_plain.specs.declared.message.UpOf.TheVariants as up
-use Rattle.sim_plain.specs.declared.rules.Rules.{Rules}
-use Rattle.sim_plain.specs.declared.status.Status.{Status}
-use Rattle.sim_plain.specs.declared.status.Status.TheVariants.{Out, Waiting, In}
-use Rattle.sim_plain.specs.Messages.{Arrival, Heard, Cut, sender}
-use Rattle.sim_plain.specs.Server.{Server, is_in, is_out, command_fault, done_fault, report_fault, takes_state}
-use Rattle.sim_plain.specs.Posts.{posts, posts_of, differs}
-use Rattle.sim_plain.specs.Notices.{Report, notice_in, noticed}
-use Rattle.sim_plain.proofs.Told.{notices_are_told}
-use Rattle.sim_pipes.specs.Posts.{told_to, notice_events}
-use Rattle.sim_pipes.proofs.Telling.{told_each, told_more}
 
 -- the notices of some reports
 abbrev told : Server → List Report → List (ℕ × ℕ)
@@ -52,7 +44,8 @@ sender_is_noticed rules s a low high = ap (filter_map notice_in) (told_each rule
 
 -- the notices of one post more
 pub notices_more : {B : Type 0} (c : ℕ) (all : List (PostOf B)) (i : ℕ) (post : PostOf B) → i < length all → post ≡ get_or all i post
-    → notice_events (filter_map notice_in (told_to c (take (i + 1) all))) ≡ notice_events (filter_map notice_in (told_to c (take i all))) ++ notice_events (filter_map notice_in (told_to c (post ∷ [])))
+    → notice_events (filter_map notice_in (told_to c (take (i + 1) all))) ≡ notice_events (filter_map notice_in (told_to c (take i all))) ++ notice_events
+    (filter_map notice_in (told_to c (post ∷ [])))
 notices_more c all i post lt is =
     ap (λ l. notice_events (filter_map notice_in l)) (told_more c all i post lt is)
     ∙ ap notice_events (filter_map-append notice_in (told_to c (take i all)) (told_to c (post ∷ [])))

@@ -1,17 +1,7 @@
 -- What an exchange is, and the sessions whose server and pipes it has.
-use Rattle.std.specs.Prelude.{◌≡◌, ℕ, suc, ◌<◌, ◌≤◌, List, [], ◌∷◌, length, Option, Some, None}
-use Rattle.sim_base.specs.declared.setup.Setup.{Setup}
-use Rattle.sim_plain.specs.declared.message.DownOf.{DownOf}
-use Rattle.sim_plain.specs.Functions.{put}
-use Rattle.sim_plain.specs.Messages.{carry_down}
-use Rattle.sim_plain_session.specs.Bytes.{spelled, ups_of, downs_of}
-use Rattle.sim_plain_session.specs.Clients.{Down}
-use Rattle.sim_plain_session.specs.Pasts.{rules_of}
-use Rattle.sim_plain_session.specs.Sessions.{Session}
-use Rattle.sim_server.specs.Small.{IsSmallServer}
-use Rattle.sim_server.specs.Standing.{View, server_of}
-use Rattle.sim_wire.specs.Fits.{IsUpFrame, IsDownFrame}
-use Rattle.sim_pipes.specs.Pipes.{AreFrames, pipe_in}
+use Rattle.std.specs.Prelude.{◌≡◌, ℕ, suc, ◌<◌, ◌≤◌, List, [], ◌∷◌, length, Some, None, Option}
+use Rattle.sim_pipes.specs.{Common.ups_of, Common.View, Pipes.AreFrames, Pipes.pipe_in}
+use Rattle.sim_pipes.specs.Common.{carry_down, Down, DownOf, downs_of, IsDownFrame, IsSmallServer, IsUpFrame, put, rules_of, server_of, Session, Setup, spelled}
 
 -- the frames in the pipes up and down, by the number of the client, and the server
 pub record Held : Type 0 where

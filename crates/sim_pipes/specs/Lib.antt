@@ -1,3 +1,4 @@
+pub mod Common
 pub mod Pipes
 pub mod Posts
 pub mod Exchanges

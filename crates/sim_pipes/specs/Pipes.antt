@@ -1,11 +1,6 @@
 -- What lies in a pipe, and in the pipes of all clients.
-use Rattle.std.specs.Prelude.{◌≡◌, ℕ, ◌<◌, ◌≤◌, List, [], ◌∷◌, ◌++◌, length, Option, Some, None, slice_index_or}
-use Rattle.sim_plain.specs.declared.message.DownOf.{DownOf}
-use Rattle.sim_plain.specs.Messages.{Arrival}
-use Rattle.sim_plain.specs.Posts.{posts}
-use Rattle.sim_plain.specs.Server.{heard}
-use Rattle.sim_server.specs.Standing.{View, server_of}
-use Rattle.sim_wire.specs.Fits.{IsDownFrame}
+use Rattle.std.specs.Prelude.{◌≡◌, ℕ, ◌<◌, ◌≤◌, List, [], ◌∷◌, ◌++◌, length, slice_index_or, Some, None, Option}
+use Rattle.sim_pipes.specs.Common.{Arrival, DownOf, heard, IsDownFrame, posts, server_of, View}
 
 -- a frame is taken from the front, or there is none
 abbrev pub Takes : List (List ℕ) → Option (List ℕ) → List (List ℕ) → Type 0

@@ -1,14 +1,7 @@
 -- What each client gets of a list of posts, and which notices are among them.
-use Rattle.std.specs.Prelude.{◌≡◌, ℕ, ◌<◌, ◌≤◌, List, [], ◌∷◌, ◌==◌, if◌then◌else◌, All, map, filter_map}
-use Rattle.sim_base.specs.declared.step.Event.{Event}
+use Rattle.std.specs.Prelude.{◌≡◌, ℕ, ◌<◌, ◌≤◌, List, [], ◌∷◌, map, if◌then◌else◌, ◌==◌, All, filter_map}
+use Rattle.sim_pipes.specs.Common.{Arrival, DownOf, Event, notice_in, noticed, PostOf, posts, posts_of, Rules, sender, Server}
 use Rattle.sim_base.specs.declared.step.Event.TheVariants as event
-use Rattle.sim_plain.specs.declared.message.DownOf.{DownOf}
-use Rattle.sim_plain.specs.declared.message.PostOf.{PostOf}
-use Rattle.sim_plain.specs.declared.rules.Rules.{Rules}
-use Rattle.sim_plain.specs.Messages.{Arrival, sender}
-use Rattle.sim_plain.specs.Notices.{noticed, notice_in}
-use Rattle.sim_plain.specs.Posts.{posts, posts_of}
-use Rattle.sim_plain.specs.Server.{Server}
 
 -- the messages for one client, in order
 abbrev pub told_to : {B : Type 0} → ℕ → List (PostOf B) → List (DownOf B)
@@ -30,4 +23,5 @@ ClientsAreTold B = (rules : Rules) (s : Server) (a : Arrival B) → All (λ (pos
 -- who is heard is told of the notice that this gives
 abbrev pub SenderIsNoticed : Type 0 → Type 0
 SenderIsNoticed B =
-    (rules : Rules) (s : Server) (a : Arrival B) → 0 < sender a → sender a ≤ rules.clients → filter_map notice_in (told_to (sender a) (posts_of rules s a)) ≡ noticed rules s a
+    (rules : Rules) (s : Server) (a : Arrival B) → 0 < sender a → sender a ≤ rules.clients → filter_map notice_in (told_to (sender a) (posts_of rules s a)) ≡
+    noticed rules s a

@@ -2,22 +2,10 @@
 //!
 //! After want of memory it may only be let go: a message may be lost then.
 
-ghost use Rattle.std.specs.Prelude.{◌≡◌, ◌≤◌, suc, ℕ, false, List, [], ◌∷◌, IfOk, OnOk, IsOk, All, map, if◌then◌else◌};
-ghost use Rattle.sim_base.specs.declared.setup.Setup.{Setup as PlainSetup};
-ghost use Rattle.sim_plain.specs.declared.message.DownOf.{DownOf};
-ghost use Rattle.sim_plain.specs.declared.message.UpOf.{UpOf};
-ghost use Rattle.sim_plain.specs.Messages.{Heard, Cut, carry_up};
-ghost use Rattle.sim_plain_session.specs.Bytes.{spelled};
-ghost use Rattle.sim_plain_session.specs.Clients.{Acted};
-ghost use Rattle.sim_plain_session.specs.Pasts.{rules_of};
-ghost use Rattle.sim_plain_session.specs.Printed.{rise_events};
-ghost use Rattle.sim_plain_session.specs.Sessions.{Session, opened, acts, rises, cut as cut_off};
-ghost use Rattle.sim_server.specs.Silence.{IsSilent};
-ghost use Rattle.sim_server.specs.Standing.{IsClient, server_of};
-ghost use Rattle.sim_wire.specs.Fits.{IsSmallUp, IsUpFrame, IsDownFrame};
-ghost use Rattle.sim_wire.specs.Memory.{up_carries, down_carries};
-ghost use Rattle.sim_pipes.specs.Exchanges.{Conveys, Falls};
-ghost use Rattle.sim_pipes.specs.Pipes.{AreFrames, pipe_in, AreEmpty, Reads};
+ghost use Rattle.std.specs.Prelude.{◌≡◌, ℕ, suc, ◌≤◌, false, List, [], ◌∷◌, map, IfOk, if◌then◌else◌, OnOk, IsOk, All};
+ghost use Rattle.sim_pipes.specs.{Exchanges.Conveys, Exchanges.Falls, Pipes.AreEmpty, Pipes.AreFrames, Pipes.pipe_in, Pipes.Reads};
+ghost use Rattle.sim_pipes.specs.Common.{Acted, acts, carry_up, Cut, cut as cut_off, down_carries, DownOf, Heard, IsClient, IsDownFrame, IsSilent, IsSmallUp};
+ghost use Rattle.sim_pipes.specs.Common.{IsUpFrame, opened, rise_events, rises, rules_of, server_of, Session, Setup as PlainSetup, spelled, up_carries, UpOf};
 
 use crate::hearing::{hear, see_cut};
 use crate::pipe::Pipe;
@@ -88,7 +76,8 @@ impl Exchange {
     ) -> Result<Exchange, OutOfMemory>
         requires clients { clients ≤ 8 }
         requires active { active ≤ clients }
-        ensures { IfOk result (λ x. (setup : PlainSetup) → rules_of setup ≡ record { clients = clients; delay = delay; turns = turns } → Conveys setup x (opened setup active)) }
+        ensures { IfOk result (λ x. (setup : PlainSetup) → rules_of setup ≡ record { clients = clients; delay = delay; turns = turns }
+            → Conveys setup x (opened setup active)) }
     {
         Ok(Exchange {
             alloc,
@@ -132,8 +121,10 @@ impl Exchange {
     /// The server hears the first frame in the pipe of a client, if there is one.
     pub fn rise(&mut self, client: u8) -> Result<Events, OutOfMemory>
         requires { IsClient self.old.server client }
-        ensures stands { (setup : PlainSetup) (s : Session) → Conveys setup self.old s → OnOk result (Conveys setup self.new (rises setup client (s.ups client) s)) }
-        ensures events { (setup : PlainSetup) (s : Session) → Conveys setup self.old s → IfOk result (λ events. events ≡ rise_events setup s.server client (s.ups client)) }
+        ensures stands { (setup : PlainSetup) (s : Session) → Conveys setup self.old s
+            → OnOk result (Conveys setup self.new (rises setup client (s.ups client) s)) }
+        ensures events { (setup : PlainSetup) (s : Session) → Conveys setup self.old s
+            → IfOk result (λ events. events ≡ rise_events setup s.server client (s.ups client)) }
         ensures none { pipe_in self.old.ups client ≡ [] → result ≡ Ok [] }
         ensures light { (frame : List ℕ) (rest : List (List ℕ)) (message : UpOf (List ℕ)) → pipe_in self.old.ups client ≡ frame ∷ rest → IsUpFrame frame message
             → up_carries message ≡ false → IsSilent self.old.server.rules (server_of self.old.server) (Heard client message) → IsOk result }
@@ -156,7 +147,8 @@ impl Exchange {
         requires { IsClient self.old.server client }
         ensures stands { (setup : PlainSetup) (s : Session) → Conveys setup self.old s → IfOk result (Falls setup self.new client s (s.downs client)) }
         ensures none { pipe_in self.old.downs client ≡ [] → result ≡ Ok None }
-        ensures light { (frame : List ℕ) (rest : List (List ℕ)) (message : DownOf (List ℕ)) → pipe_in self.old.downs client ≡ frame ∷ rest → IsDownFrame frame message
+        ensures light { (frame : List ℕ) (rest : List (List ℕ)) (message : DownOf (List ℕ)) → pipe_in self.old.downs client ≡ frame ∷ rest
+            → IsDownFrame frame message
             → down_carries message ≡ false → result ≡ Ok (Some message) }
         ensures rules { self.new.server.rules ≡ self.old.server.rules }
     {

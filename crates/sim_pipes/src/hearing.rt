@@ -1,16 +1,8 @@
 //! What the server hears, with its answer sent down the pipes of the clients.
 
-ghost use Rattle.std.specs.Prelude.{◌≡◌, suc, ℕ, false, List, length, IfOk, OnOk, IsOk};
-ghost use Rattle.sim_plain.specs.declared.message.UpOf.{UpOf};
-ghost use Rattle.sim_plain.specs.Messages.{Heard, Cut};
-ghost use Rattle.sim_plain.specs.Notices.{noticed};
-ghost use Rattle.sim_wire.specs.Fits.{IsUpFrame};
-ghost use Rattle.sim_wire.specs.Memory.{up_carries};
-ghost use Rattle.sim_server.specs.Silence.{IsSilent};
-ghost use Rattle.sim_server.specs.Small.{IsSmallServer};
-ghost use Rattle.sim_server.specs.Standing.{server_of, IsClient};
-ghost use Rattle.sim_pipes.specs.Pipes.{Sends};
-ghost use Rattle.sim_pipes.specs.Posts.{notice_events};
+ghost use Rattle.std.specs.Prelude.{◌≡◌, ℕ, suc, false, List, length, IfOk, OnOk, IsOk};
+ghost use Rattle.sim_pipes.specs.{Pipes.Sends, Posts.notice_events};
+ghost use Rattle.sim_pipes.specs.Common.{Cut, Heard, IsClient, IsSilent, IsSmallServer, IsUpFrame, noticed, server_of, up_carries, UpOf};
 
 use crate::notice::push_notices;
 use crate::pipe::Pipe;
@@ -30,8 +22,10 @@ pub fn hear(
     requires client { IsClient server.old client }
     requires small { IsSmallServer (server_of server.old) }
     requires count { length downs.old.items ≡ suc server.old.rules.clients }
-    ensures heard { (message : UpOf (List ℕ)) → IsUpFrame frame.now message → OnOk result (Sends server.old downs.old.items (Heard client message) server.new downs.new.items) }
-    ensures events { (message : UpOf (List ℕ)) → IsUpFrame frame.now message → IfOk result (λ events. events ≡ notice_events (noticed server.old.rules (server_of server.old) (Heard client message))) }
+    ensures heard { (message : UpOf (List ℕ)) → IsUpFrame frame.now message
+        → OnOk result (Sends server.old downs.old.items (Heard client message) server.new downs.new.items) }
+    ensures events { (message : UpOf (List ℕ)) → IsUpFrame frame.now message
+        → IfOk result (λ events. events ≡ notice_events (noticed server.old.rules (server_of server.old) (Heard client message))) }
     ensures light { (message : UpOf (List ℕ)) → IsUpFrame frame.now message → up_carries message ≡ false
         → IsSilent server.old.rules (server_of server.old) (Heard client message) → IsOk result }
     ensures rules { server.new.rules ≡ server.old.rules }

@@ -1,6 +1,6 @@
 //! Theorems about the definitions, each the contract of a function that does nothing.
 
-ghost use Rattle.sim_pipes.specs.Posts.{EachIsTold, ClientsAreTold, SenderIsNoticed};
+ghost use Rattle.sim_pipes.specs.Posts.{ClientsAreTold, EachIsTold, SenderIsNoticed};
 
 /// Each client gets what the server says to it, nobody else is told anything, and who is heard is told of the notice that
 /// this gives.

@@ -1,8 +1,7 @@
 //! What is printed of the notices among posts.
 
-ghost use Rattle.std.specs.Prelude.{◌≡◌, ◌++◌, ◌∷◌, [], filter_map, if◌then◌else◌, ◌==◌, OnOk, IsOk};
-ghost use Rattle.sim_plain.specs.Notices.{notice_in};
-ghost use Rattle.sim_pipes.specs.Posts.{told_to, notice_events};
+ghost use Rattle.std.specs.Prelude.{◌≡◌, [], ◌∷◌, ◌++◌, OnOk, IsOk, filter_map};
+ghost use Rattle.sim_pipes.specs.{Common.notice_in, Posts.notice_events, Posts.told_to};
 
 use sim_base::{Event, Events, OutOfMemory};
 use sim_server::{Post, Posts};

@@ -21,7 +21,7 @@ pub struct Pipe {
 }
 
 impl Model for Pipe {
-    ghost use Rattle.std.specs.Prelude.{ℕ, List, ◌≤◌, length, drop};
+    ghost use Rattle.std.specs.Prelude.{ℕ, ◌≤◌, List, length, drop};
 
     ghost Value = { List (List ℕ) };
 

@@ -1,12 +1,9 @@
 //! Messages framed into the pipes of all clients. The pipes stand in a list by the number of their client, the first of
 //! which is nobody's.
 
-ghost use Rattle.std.specs.Prelude.{◌≡◌, ℕ, List, ◌<◌, ◌++◌, ◌∷◌, [], length, All, OnOk, IsOk, slice_set};
-ghost use Rattle.sim_plain.specs.declared.message.UpOf.{UpOf};
-ghost use Rattle.sim_plain.specs.declared.message.DownOf.{DownOf};
-ghost use Rattle.sim_wire.specs.Fits.{IsSmallUp, IsSmallDown, IsUpFrame, IsDownFrame};
+ghost use Rattle.std.specs.Prelude.{◌≡◌, ℕ, ◌<◌, List, [], ◌∷◌, ◌++◌, length, OnOk, IsOk, All};
+ghost use Rattle.sim_pipes.specs.{Common.DownOf, Common.IsDownFrame, Common.IsSmallDown, Common.IsSmallUp, Common.IsUpFrame, Common.UpOf, Posts.told_to};
 ghost use Rattle.sim_pipes.specs.Pipes.{AreFrames, pipe_in};
-ghost use Rattle.sim_pipes.specs.Posts.{told_to};
 
 use crate::pipe::Pipe;
 use sim_base::{Items, OutOfMemory};
@@ -38,7 +35,8 @@ pub fn send_all_up(alloc: Global, pipe: &mut Pipe, ups: &[Up]) -> Result<(), Out
 // Sends one message down a pipe.
 fn send_down(alloc: Global, pipe: &mut Pipe, down: &Down) -> Result<(), OutOfMemory>
     requires { IsSmallDown down.now }
-    ensures { OnOk result ((before : List (DownOf (List ℕ))) → AreFrames IsDownFrame pipe.old before → AreFrames IsDownFrame pipe.new (before ++ down.now ∷ [])) }
+    ensures { OnOk result ((before : List (DownOf (List ℕ))) → AreFrames IsDownFrame pipe.old before
+        → AreFrames IsDownFrame pipe.new (before ++ down.now ∷ [])) }
 {
     let frame = frame_down(alloc, down)?;
     pipe.push(Items::from_items(frame))

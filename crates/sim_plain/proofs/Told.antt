@@ -1,19 +1,10 @@
 -- The notices among what is told are those that the arrival gives, for each client that is in.
-use Rattle.std.proofs.Common.{◌≡◌, ℕ, zero, suc, ◌+◌, ◌-◌, Bool, true, false, List, [], ◌∷◌, ◌++◌, map, refl, sym, ◌∙◌, if◌then◌else◌, ◌==◌, nat_lt, Option, Some, None, is_none}
-use Rattle.std.specs.Prelude.{filter_map, filter}
-use Rattle.std.proofs.lemmas.List.Elements.{filter_map-append}
-use Rattle.sim_base.specs.declared.command.PlayerCommand.{PlayerCommand}
+use Rattle.sim_plain.proofs.Common.{Posts, posts, put, raised, refusal, Refused, Release, release, Report, report_fault, Rules, Server, Status, sym}
+use Rattle.sim_plain.proofs.Common.{filter, filter_map, Option, refl, Arrival, Ask, asked, Command, command_fault, Cut, differs, done_fault, donor, DownOf}
+use Rattle.sim_plain.proofs.Common.{filter_map-append, Heard, In, is_in, is_out, kept_above, loading, nobody, Notice, notice_in, noticed, Out, PlayerCommand}
+use Rattle.sim_plain.proofs.Common.{takes_state, to_all, to_one, up_to, waits_for, with_status, ◌∙◌}
+use Rattle.sim_plain.proofs.Common.{◌≡◌, ℕ, zero, suc, ◌+◌, ◌-◌, Bool, true, false, List, [], ◌∷◌, ◌++◌, map, is_none, if◌then◌else◌, nat_lt, ◌==◌, Some, None}
 use Rattle.sim_plain.specs.declared.message.UpOf.TheVariants as up
-use Rattle.sim_plain.specs.declared.message.DownOf.{DownOf}
-use Rattle.sim_plain.specs.declared.message.DownOf.TheVariants.{Ask, Command, Release, Notice, Refused}
-use Rattle.sim_plain.specs.declared.rules.Rules.{Rules}
-use Rattle.sim_plain.specs.declared.status.Status.{Status}
-use Rattle.sim_plain.specs.declared.status.Status.TheVariants.{Out, In}
-use Rattle.sim_plain.specs.Functions.{put, up_to}
-use Rattle.sim_plain.specs.Messages.{Arrival, Heard, Cut}
-use Rattle.sim_plain.specs.Server.{Server, is_in, is_out, waits_for, donor, with_status, raised, command_fault, done_fault, report_fault, takes_state}
-use Rattle.sim_plain.specs.Posts.{Posts, posts, nobody, to_one, to_all, release, asked, refusal, kept_above, loading, differs}
-use Rattle.sim_plain.specs.Notices.{Report, notice_in, noticed}
 
 -- the notices among messages
 abbrev among : {B : Type 0} → List (DownOf B) → List (ℕ × ℕ)
@@ -48,10 +39,12 @@ none_commands B t (x ∷ xs) = none_commands B t xs
 
 none_above : (B : Type 0) (kept : ℕ → List PlayerCommand) (t n : ℕ) → among (kept_above {B = B} kept t n) ≡ []
 none_above B kept t zero = refl
-none_above B kept t (suc n) = none_in_both (kept_above kept t n) (map (Command (suc (t + n))) (kept (suc (t + n)))) (none_above B kept t n) (none_commands B (suc (t + n)) (kept (suc (t + n))))
+none_above B kept t (suc n) = none_in_both (kept_above kept t n) (map (Command (suc (t + n))) (kept (suc (t + n)))) (none_above B kept t n)
+    (none_commands B (suc (t + n)) (kept (suc (t + n))))
 
 none_loading : {B : Type 0} (rules : Rules) (s : Server) (t : ℕ) (carried : B) → among (loading rules s t carried) ≡ []
-none_loading {B} rules s t carried = none_in_both (kept_above s.kept t (rules.turns - t)) (Release s.released ∷ []) (none_above B s.kept t (rules.turns - t)) refl
+none_loading {B} rules s t carried = none_in_both (kept_above s.kept t (rules.turns - t)) (Release s.released ∷ []) (none_above B s.kept t (rules.turns - t))
+    refl
 
 none_refusal : {B : Type 0} (c : ℕ) (o : Option ℕ) (said : Posts B) (d : ℕ) → among (said d) ≡ [] → among (refusal c o said d) ≡ []
 none_refusal c None said d e = e
@@ -62,22 +55,26 @@ abbrev pair : Report → ℕ × ℕ
 pair r = (r.0, r.1.0)
 
 -- an arrival that is no report gives no notice
-none_noticed : (s : Server) (here accepted : Bool) → (if here then map pair (filter (λ (r : Report). differs (s.reference r.0) r.1.1) (if accepted then [] else [])) else []) ≡ []
+none_noticed : (s : Server) (here accepted : Bool)
+    → (if here then map pair (filter (λ (r : Report). differs (s.reference r.0) r.1.1) (if accepted then [] else [])) else []) ≡ []
 none_noticed s true true = refl
 none_noticed s true false = refl
 none_noticed s false accepted = refl
 
-pub notices_are_told : {B : Type 0} (rules : Rules) (s : Server) (a : Arrival B) (d : ℕ) → filter_map notice_in (posts rules s a d) ≡ (if is_in (s.status d) then noticed rules s a else [])
+pub notices_are_told : {B : Type 0} (rules : Rules) (s : Server) (a : Arrival B) (d : ℕ) → filter_map notice_in (posts rules s a d) ≡
+    (if is_in (s.status d) then noticed rules s a else [])
 notices_are_told {B} rules s (Heard c up.Join) d = by (is_out (s.status c)) ∙ sym (none_noticed s (is_in (s.status d)) (is_out (s.status c)))
   where
     by : (b : Bool) → among ((if b then asked (donor rules s) (c ∷ []) (λ x. x == c) else nobody {B = B}) d) ≡ []
     by true = none_asked B (donor rules s) (c ∷ []) (λ x. x == c) d
     by false = refl
 notices_are_told rules s (Heard c (up.Command t x)) d =
-    none_refusal c (command_fault rules (s.kept t) c t (s.status c)) (to_all s.status (Command t (record { player = c; command = x }))) d (if_none (is_in (s.status d)) (Command t (record { player = c; command = x }) ∷ []) refl)
+    none_refusal c (command_fault rules (s.kept t) c t (s.status c)) (to_all s.status (Command t (record { player = c; command = x }))) d
+    (if_none (is_in (s.status d)) (Command t (record { player = c; command = x }) ∷ []) refl)
     ∙ sym (none_noticed s (is_in (s.status d)) (is_none (command_fault rules (s.kept t) c t (s.status c))))
 notices_are_told {B} rules s (Heard c (up.Done t)) d =
-    none_refusal c (done_fault rules s.released t (s.status c)) _ d (none_release B (put c (In t) s.status) s.released (raised rules (with_status c (In t) s)).released d)
+    none_refusal c (done_fault rules s.released t (s.status c)) _ d
+    (none_release B (put c (In t) s.status) s.released (raised rules (with_status c (In t) s)).released d)
     ∙ sym (none_noticed s (is_in (s.status d)) (is_none (done_fault rules s.released t (s.status c))))
 notices_are_told {B} rules s (Heard c (up.Report t g)) d = by (report_fault s.released t (s.status c))
   where
@@ -89,7 +86,8 @@ notices_are_told {B} rules s (Heard c (up.Report t g)) d = by (report_fault s.re
     nothing true = refl
     nothing false = refl
 
-    differing : (b : Bool) → among ((if b then to_all s.status (Notice t c) else nobody {B = B}) d) ≡ (if is_in (s.status d) then map pair (if b then (t, (c, g)) ∷ [] else []) else [])
+    differing : (b : Bool) → among ((if b then to_all s.status (Notice t c) else nobody {B = B}) d) ≡
+        (if is_in (s.status d) then map pair (if b then (t, (c, g)) ∷ [] else []) else [])
     differing true = here (is_in (s.status d))
     differing false = nothing (is_in (s.status d))
 
@@ -97,13 +95,15 @@ notices_are_told {B} rules s (Heard c (up.Report t g)) d = by (report_fault s.re
         ≡ (if is_in (s.status d) then map pair (filter (λ (r : Report). differs (s.reference r.0) r.1.1) (if is_none o then (t, (c, g)) ∷ [] else [])) else [])
     by None = differing (differs (s.reference t) g)
     by (Some code) = if_none (d == c) (Refused code ∷ []) refl ∙ sym (none_noticed s (is_in (s.status d)) false)
-notices_are_told {B} rules s (Heard c (up.State j t carried)) d = by (takes_state s.released c t (s.status j)) ∙ sym (none_noticed s (is_in (s.status d)) (takes_state s.released c t (s.status j)))
+notices_are_told {B} rules s (Heard c (up.State j t carried)) d = by (takes_state s.released c t (s.status j)) ∙
+    sym (none_noticed s (is_in (s.status d)) (takes_state s.released c t (s.status j)))
   where
     by : (b : Bool) → among ((if b then to_one j (loading rules s t carried) else nobody {B = B}) d) ≡ []
     by true = if_none (d == j) (loading rules s t carried) (none_loading rules s t carried)
     by false = refl
 notices_are_told {B} rules s (Cut c) d =
-    none_in_both (release s1.status s1.released (raised rules s1).released d) _ (none_release B s1.status s1.released (raised rules s1).released d) (none_asked B (donor rules s1) (filter (λ j. waits_for c (s1.status j)) (up_to rules.clients)) (λ j. waits_for c (s1.status j)) d)
+    none_in_both (release s1.status s1.released (raised rules s1).released d) _ (none_release B s1.status s1.released (raised rules s1).released d)
+    (none_asked B (donor rules s1) (filter (λ j. waits_for c (s1.status j)) (up_to rules.clients)) (λ j. waits_for c (s1.status j)) d)
     ∙ sym (none_noticed s (is_in (s.status d)) true)
   where
     s1 : Server

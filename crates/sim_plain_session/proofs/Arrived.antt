@@ -1,23 +1,13 @@
 -- A session's server is what its arrivals make it, and its notices are theirs.
-use Rattle.std.proofs.Common.{◌≡◌, ℕ, Bool, true, false, List, [], ◌∷◌, ◌++◌, map, refl, sym, ap, ◌∙◌, append-nil, append_assoc, if◌then◌else◌, ℤ}
-use Rattle.sim_base.specs.declared.step.Step.{Step}
-use Rattle.sim_base.specs.declared.step.Step.TheVariants as step
+use Rattle.sim_plain_session.proofs.Common.{Heard, heard, hears, is_client, Joining, joins, leave_events, leaves, may_bend, may_order, may_play, may_tell_done}
+use Rattle.sim_plain_session.proofs.Common.{append_assoc, bends, client_of, Command, Cut, Down, Event, events, events_after, events_by, fall_events, falls}
+use Rattle.sim_plain_session.proofs.Common.{noticed, notices_are, notices_given, notices_in, NoticesAreOfArrivals, Off, On, opened, orders, Past, Phase, played}
+use Rattle.sim_plain_session.proofs.Common.{plays, rise_events, rises, row_of, rules_of, Server, server_after, ServerIsAfterArrivals, Session, session, Setup}
+use Rattle.sim_plain_session.proofs.Common.{state_of, Step, stepped, stepped_by, sym, Up, ◌∙◌}
+use Rattle.sim_plain_session.proofs.Common.{◌≡◌, ℕ, Bool, true, false, List, [], ◌∷◌, ◌++◌, map, ℤ, if◌then◌else◌, refl, Acted, after_steps, ap, append-nil}
 use Rattle.sim_base.specs.declared.step.Event.TheVariants as event
-use Rattle.sim_base.specs.Rows.{row_of}
-use Rattle.sim_base.specs.Turn.{may_bend, Past}
-use Rattle.sim_base.specs.declared.command.Command.{Command}
-use Rattle.sim_base.specs.declared.setup.Setup.{Setup}
-use Rattle.sim_base.specs.declared.step.Event.{Event}
+use Rattle.sim_base.specs.declared.step.Step.TheVariants as step
 use Rattle.sim_plain.specs.declared.message.DownOf.TheVariants as down
-use Rattle.sim_plain.specs.Messages.{Heard, Cut}
-use Rattle.sim_plain.specs.Server.{Server, heard, server_after}
-use Rattle.sim_plain.specs.Notices.{noticed, notices_given}
-use Rattle.sim_plain.proofs.Notices.{notices_are}
-use Rattle.sim_plain_session.specs.Clients.{Up, Down, Phase, Off, Joining, On, Acted, state_of, may_order, orders, may_play, played, may_tell_done, plays, joins, bends, hears}
-use Rattle.sim_plain_session.specs.Laws.{ServerIsAfterArrivals, notices_in, NoticesAreOfArrivals}
-use Rattle.sim_plain_session.specs.Pasts.{rules_of, is_client}
-use Rattle.sim_plain_session.specs.Printed.{rise_events, fall_events, leave_events, events_by, events, events_after}
-use Rattle.sim_plain_session.specs.Sessions.{Session, opened, rises, falls, leaves, client_of, stepped_by, stepped, after_steps, session}
 
 -- the server is the one after the arrivals
 abbrev Arrived : Setup → ℕ → Session → Type 0
@@ -119,11 +109,13 @@ noticed_are (n ∷ ns) = ap (λ (l : List (ℕ × ℕ)). n ∷ l) (noticed_are n
 -- a step gives the notices that its arrival gives
 notices_by : (setup : Setup) (active : ℕ) (s : Session) (x : Step) → Arrived setup active s →
     notices_given (rules_of setup) active (stepped_by setup s x).arrivals ≡ notices_given (rules_of setup) active s.arrivals ++ notices_in (events_by setup s x)
-notices_by setup active s (step.Order c x) h = sym (append-nil _) ∙ ap (λ l. notices_given (rules_of setup) active s.arrivals ++ l) (sym (quiet_orders setup c x (s.client c)))
+notices_by setup active s (step.Order c x) h = sym (append-nil _) ∙ ap (λ l. notices_given (rules_of setup) active s.arrivals ++ l)
+    (sym (quiet_orders setup c x (s.client c)))
 notices_by setup active s (step.Up c) h = by (s.ups c)
   where
     by : (ups : List Up)
-        → notices_given (rules_of setup) active (rises setup c ups s).arrivals ≡ notices_given (rules_of setup) active s.arrivals ++ notices_in (rise_events setup s.server c ups)
+        → notices_given (rules_of setup) active (rises setup c ups s).arrivals ≡ notices_given (rules_of setup) active s.arrivals ++
+        notices_in (rise_events setup s.server c ups)
     by [] = sym (append-nil _)
     by (x ∷ rest) =
         ap (λ l. notices_given (rules_of setup) active s.arrivals ++ l)
@@ -131,19 +123,24 @@ notices_by setup active s (step.Up c) h = by (s.ups c)
 notices_by setup active s (step.Down c) h = by (s.downs c)
   where
     by : (downs : List Down)
-        → notices_given (rules_of setup) active (falls setup c downs s).arrivals ≡ notices_given (rules_of setup) active s.arrivals ++ notices_in (fall_events setup c (s.client c) downs)
+        → notices_given (rules_of setup) active (falls setup c downs s).arrivals ≡ notices_given (rules_of setup) active s.arrivals ++
+        notices_in (fall_events setup c (s.client c) downs)
     by [] = sym (append-nil _)
     by (x ∷ rest) = sym (append-nil _) ∙ ap (λ l. notices_given (rules_of setup) active s.arrivals ++ l) (sym (quiet_hears setup c (s.client c) x))
-notices_by setup active s (step.Play c) h = sym (append-nil _) ∙ ap (λ l. notices_given (rules_of setup) active s.arrivals ++ l) (sym (quiet_plays setup c (s.client c)))
-notices_by setup active s (step.Join c) h = sym (append-nil _) ∙ ap (λ l. notices_given (rules_of setup) active s.arrivals ++ l) (sym (quiet_joins c (s.client c)))
+notices_by setup active s (step.Play c) h = sym (append-nil _) ∙ ap (λ l. notices_given (rules_of setup) active s.arrivals ++ l)
+    (sym (quiet_plays setup c (s.client c)))
+notices_by setup active s (step.Join c) h = sym (append-nil _) ∙ ap (λ l. notices_given (rules_of setup) active s.arrivals ++ l)
+    (sym (quiet_joins c (s.client c)))
 notices_by setup active s (step.Cut c) h = by (s.client c)
   where
     by : (ph : Phase)
-        → notices_given (rules_of setup) active (leaves setup c ph s).arrivals ≡ notices_given (rules_of setup) active s.arrivals ++ notices_in (leave_events c ph)
+        → notices_given (rules_of setup) active (leaves setup c ph s).arrivals ≡ notices_given (rules_of setup) active s.arrivals ++
+        notices_in (leave_events c ph)
     by Off = sym (append-nil _)
     by Joining = refl
     by (On o) = refl
-notices_by setup active s (step.Bend c e g) h = sym (append-nil _) ∙ ap (λ l. notices_given (rules_of setup) active s.arrivals ++ l) (sym (quiet_bends setup c e g (s.client c)))
+notices_by setup active s (step.Bend c e g) h = sym (append-nil _) ∙ ap (λ l. notices_given (rules_of setup) active s.arrivals ++ l)
+    (sym (quiet_bends setup c e g (s.client c)))
 
 notices_in-append : (xs ys : List Event) → notices_in (xs ++ ys) ≡ notices_in xs ++ notices_in ys
 notices_in-append [] ys = refl
@@ -162,12 +159,14 @@ notices_stepped : (setup : Setup) (active : ℕ) (s : Session) (x : Step) → Ar
 notices_stepped setup active s x h = by (is_client setup (client_of x))
   where
     by : (b : Bool)
-        → notices_given (rules_of setup) active (if b then stepped_by setup s x else s).arrivals ≡ notices_given (rules_of setup) active s.arrivals ++ notices_in (if b then events_by setup s x else [])
+        → notices_given (rules_of setup) active (if b then stepped_by setup s x else s).arrivals ≡ notices_given (rules_of setup) active s.arrivals ++
+        notices_in (if b then events_by setup s x else [])
     by true = notices_by setup active s x h
     by false = sym (append-nil _)
 
 notices_after : (setup : Setup) (active : ℕ) (s : Session) (xs : List Step) → Arrived setup active s →
-    notices_given (rules_of setup) active (after_steps setup s xs).arrivals ≡ notices_given (rules_of setup) active s.arrivals ++ notices_in (events_after setup s xs)
+    notices_given (rules_of setup) active (after_steps setup s xs).arrivals ≡ notices_given (rules_of setup) active s.arrivals ++
+    notices_in (events_after setup s xs)
 notices_after setup active s [] h = sym (append-nil _)
 notices_after setup active s (x ∷ xs) h =
     notices_after setup active (stepped setup s x) xs (arrived_stepped setup active s x h)

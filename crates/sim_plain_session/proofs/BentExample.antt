@@ -1,20 +1,11 @@
 -- Sessions in which a client is bent, with digests computed. A health that differs is in the whole digest alone: no quick report shows it,
 -- and the first full one does.
-use Rattle.std.proofs.Common.{◌≡◌, ℕ, zero, suc, pos, refl, List, [], ◌∷◌, ◌++◌, true, false}
-use Rattle.std.specs.Str.{bytes_eq}
-use Rattle.md5.specs.Md5.{block_words, rounds, compress, hash_after, digest_bytes, md5}
-use Rattle.sim_base.specs.declared.setup.Setup.{Setup}
-use Rattle.sim_base.specs.declared.step.Step.{Step}
-use Rattle.sim_base.specs.declared.step.Step.TheVariants as step
+use Rattle.sim_plain_session.proofs.Common.{compress, digest, digest_bytes, first, hash_after, i32_bytes, is_full_turn, mark, md5, no_id, notices_in, Past}
+use Rattle.sim_plain_session.proofs.Common.{post, quick, rounds, session, session_events, Setup, setup_of, Step, Turn, u16_bytes, u32_bytes, u64_bytes}
+use Rattle.sim_plain_session.proofs.Common.{◌≡◌, ℕ, zero, suc, true, false, List, [], ◌∷◌, ◌++◌, pos, bytes_eq, refl, after, at_metre, Bend, block_words}
 use Rattle.sim_base.specs.declared.step.Event.TheVariants as event
+use Rattle.sim_base.specs.declared.step.Step.TheVariants as step
 use Rattle.sim_plain.specs.declared.message.UpOf.TheVariants as up
-use Rattle.sim_base.specs.Bytes.{u16_bytes, u32_bytes, u64_bytes, i32_bytes}
-use Rattle.sim_base.specs.Turn.{Past, Turn, Bend, after}
-use Rattle.sim_base.specs.Spelling.{digest, quick, mark, is_full_turn}
-use Rattle.sim_base.proofs.ExampleMatches.{setup_of, no_id, post, first, at_metre}
-use Rattle.sim_plain_session.specs.Laws.{notices_in}
-use Rattle.sim_plain_session.specs.Printed.{session_events}
-use Rattle.sim_plain_session.specs.Sessions.{session}
 
 abbrev pub guarded : Setup
 guarded = record (setup_of no_id 16 (0 ∷ 0 ∷ 0 ∷ 0 ∷ []) 3 0 (post ∷ []) (first 0 1 (at_metre 2) ∷ [])) { delay = 2; turns = 3 }

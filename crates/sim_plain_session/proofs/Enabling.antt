@@ -1,28 +1,15 @@
 -- An event of a step is of that step, and a step that an event is of has just that one.
-use Rattle.std.proofs.Common.{◌≡◌, inl, inr, ℕ, suc, Bool, true, false, nat_lt, List, [], ◌∷◌, map, filter, Option, Some, None, is_none, refl, sym, ap, ◌∙◌, subst, if◌then◌else◌, ℤ}
-use Rattle.std.proofs.lemmas.Bool.{and_parts, and_from, lt-ltb, ltb-true, cond-true}
-use Rattle.sim_base.specs.declared.command.Command.{Command}
-use Rattle.sim_base.specs.declared.setup.Setup.{Setup}
-use Rattle.sim_base.specs.declared.step.Step.{Step}
-use Rattle.sim_base.specs.declared.step.Step.TheVariants as step
-use Rattle.sim_base.specs.declared.step.Event.{Event}
+use Rattle.sim_plain_session.proofs.Common.{ReportsOther, rise_events, row_of, rules_of, Seat, Session, Setup, shows_bend, Step, StepsHaveEvents, subst, sym}
+use Rattle.sim_plain_session.proofs.Common.{client_of, Command, cond-true, differs, digest, Down, Event, events_by, EventsAreOfSteps, fall_events, Heard, idle}
+use Rattle.sim_plain_session.proofs.Common.{inl, inr, is_accepted, is_client, IsOfStep, Joining, joins, leave_events, lt-ltb, ltb-true, may_bend, may_order}
+use Rattle.sim_plain_session.proofs.Common.{may_play, may_tell_done, Off, On, ordered, orders, Past, Phase, play_event, played, plays, Report, report_fault}
+use Rattle.sim_plain_session.proofs.Common.{refl, after, and_from, and_parts, ap, bend_event, bends, bent_seat, CanBend, CanLoad, CanOrder, CanPlay, Carries}
+use Rattle.sim_plain_session.proofs.Common.{told, told_alone, told_with_done, Turn, turns_in, Up, ◌∙◌}
+use Rattle.sim_plain_session.proofs.Common.{◌≡◌, ℕ, suc, Bool, true, false, List, [], ◌∷◌, map, ℤ, is_none, if◌then◌else◌, nat_lt, Some, None, filter, Option}
 use Rattle.sim_base.specs.declared.step.Event.TheVariants as event
-use Rattle.sim_base.specs.Rows.{row_of}
-use Rattle.sim_base.specs.Turn.{Past, Turn, may_bend, after, turns_in}
-use Rattle.sim_base.specs.Spelling.{digest}
-use Rattle.sim_plain.specs.declared.message.UpOf.TheVariants as up
+use Rattle.sim_base.specs.declared.step.Step.TheVariants as step
 use Rattle.sim_plain.specs.declared.message.DownOf.TheVariants as down
-use Rattle.sim_plain.specs.History.{is_accepted}
-use Rattle.sim_plain.specs.Messages.{Heard}
-use Rattle.sim_plain.specs.Notices.{Report}
-use Rattle.sim_plain.specs.Posts.{differs}
-use Rattle.sim_plain.specs.Server.{report_fault}
-use Rattle.sim_plain_session.specs.Clients.{Up, Down, Seat, Phase, Off, Joining, On, idle, may_order, ordered, orders, may_play, played, may_tell_done, play_event, told_with_done, told_alone, told, plays, joins, bent_seat, bend_event, shows_bend, bends}
-use Rattle.sim_plain_session.specs.Enabled.{CanOrder, CanPlay, CanBend, CanLoad, ReportsOther, IsOfStep, EventsAreOfSteps, StepsHaveEvents}
-use Rattle.sim_plain_session.specs.Laws.{Carries}
-use Rattle.sim_plain_session.specs.Pasts.{rules_of, is_client}
-use Rattle.sim_plain_session.specs.Printed.{rise_events, fall_events, leave_events, events_by}
-use Rattle.sim_plain_session.specs.Sessions.{Session, client_of}
+use Rattle.sim_plain.specs.declared.message.UpOf.TheVariants as up
 
 -- ---- an event of a step is of that step
 

@@ -1,20 +1,11 @@
 -- Sessions, computed step by step.
-use Rattle.std.proofs.Common.{◌≡◌, ℕ, zero, suc, ◌++◌, length, ◌+◌, ◌*◌, pos, refl, List, [], ◌∷◌}
-use Rattle.sim_base.specs.declared.place.Point.{Point}
-use Rattle.sim_base.specs.declared.command.Command.TheVariants.{Walk, Stop, Resign}
-use Rattle.sim_base.specs.declared.command.PlayerCommand.{PlayerCommand}
-use Rattle.sim_base.specs.declared.setup.Setup.{Setup}
-use Rattle.sim_base.specs.declared.step.Step.{Step}
-use Rattle.sim_base.specs.declared.step.Step.TheVariants as step
+use Rattle.sim_plain_session.proofs.Common.{Off, On, order, Past, Phase, PlayerCommand, Point, quick, Resign, session, session_events, Setup, setup_of, Step}
+use Rattle.sim_plain_session.proofs.Common.{Stop, Turn, Walk, walker}
+use Rattle.sim_plain_session.proofs.Common.{◌≡◌, ℕ, zero, suc, ◌+◌, ◌*◌, List, [], ◌∷◌, ◌++◌, length, pos, refl, after, digest, events, first, Joining, no_id}
 use Rattle.sim_base.specs.declared.step.Event.TheVariants as event
-use Rattle.sim_base.specs.Turn.{Past, Turn, after}
-use Rattle.sim_base.specs.Spelling.{digest, quick}
-use Rattle.sim_base.proofs.ExampleMatches.{setup_of, no_id, walker, first, order}
-use Rattle.sim_plain.specs.declared.message.UpOf.TheVariants as up
+use Rattle.sim_base.specs.declared.step.Step.TheVariants as step
 use Rattle.sim_plain.specs.declared.message.DownOf.TheVariants as down
-use Rattle.sim_plain_session.specs.Clients.{Phase, Off, Joining, On}
-use Rattle.sim_plain_session.specs.Printed.{events, session_events}
-use Rattle.sim_plain_session.specs.Sessions.{session}
+use Rattle.sim_plain.specs.declared.message.UpOf.TheVariants as up
 
 -- the point half a metre behind these metres
 abbrev pub half : ℕ → ℕ → Point

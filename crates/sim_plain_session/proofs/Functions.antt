@@ -1,7 +1,5 @@
 -- One value of a function is another.
-use Rattle.std.proofs.Common.{◌≡◌, ℕ, refl}
-use Rattle.std.proofs.lemmas.Bool.{eq-eqb, ne_eqb, cond-true, cond-false}
-use Rattle.sim_plain.specs.Functions.{put}
+use Rattle.sim_plain_session.proofs.Common.{◌≡◌, ℕ, refl, cond-false, cond-true, eq-eqb, ne_eqb, put}
 
 pub put_same : {X : Type 0} (c : ℕ) (x : X) (f : ℕ → X) → put c x f c ≡ x
 put_same c x f = cond-true _ x (f c) (eq-eqb c c refl)

@@ -1,20 +1,10 @@
 -- Generated sessions, as they come out of an independent program: two clients, delay 2 and 6 turns, where fencers of enemies fight.
-use Rattle.std.proofs.Common.{◌≡◌, ℕ, pos, refl, Some, List, [], ◌∷◌}
-use Rattle.std.specs.Prelude.{codes}
-use Rattle.md5.specs.Md5.{block_words, rounds, compress, hash_after, digest_bytes, md5}
-use Rattle.sim_base.specs.declared.command.Command.TheVariants.{Attack, Delete, Resign, Stop}
-use Rattle.sim_base.specs.declared.template.Template.{Template}
-use Rattle.sim_base.specs.declared.setup.Setup.{Setup}
-use Rattle.sim_base.specs.declared.step.Step.{Step}
-use Rattle.sim_base.specs.declared.step.Step.TheVariants as step
-use Rattle.sim_base.specs.declared.step.Event.TheVariants as event
-use Rattle.sim_base.specs.Bytes.{u16_bytes, u32_bytes, u64_bytes, i32_bytes}
-use Rattle.sim_base.specs.Spelling.{digest, quick}
-use Rattle.sim_base.proofs.ExampleMatches.{setup_of, guard, harm, first, mid}
-use Rattle.sim_plain.specs.declared.status.Status.TheVariants.{Out, Waiting, In}
-use Rattle.sim_plain_session.specs.Sessions.{session}
-use Rattle.sim_plain_session.specs.Printed.{session_events}
+use Rattle.sim_plain_session.proofs.Common.{guard, harm, hash_after, i32_bytes, In, md5, mid, Out, quick, Resign, rounds, session, session_events, Setup}
+use Rattle.sim_plain_session.proofs.Common.{setup_of, Step, Stop, Template, u16_bytes, u32_bytes, u64_bytes, Waiting}
+use Rattle.sim_plain_session.proofs.Common.{◌≡◌, ℕ, List, [], ◌∷◌, pos, Some, codes, refl, Attack, block_words, compress, Delete, digest, digest_bytes, first}
 use Rattle.sim_plain_session.proofs.Left.{left}
+use Rattle.sim_base.specs.declared.step.Event.TheVariants as event
+use Rattle.sim_base.specs.declared.step.Step.TheVariants as step
 
 -- a guard that hits less, and not each time
 abbrev fencer : Template

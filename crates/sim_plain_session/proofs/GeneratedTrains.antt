@@ -1,18 +1,9 @@
 -- Generated sessions, as they come out of an independent program: four clients, delay 3 and 8 turns, where barracks train walkers.
-use Rattle.std.proofs.Common.{◌≡◌, ℕ, pos, refl, List, [], ◌∷◌}
-use Rattle.md5.specs.Md5.{block_words, rounds, compress, hash_after, digest_bytes, md5}
-use Rattle.sim_base.specs.declared.command.Command.TheVariants.{Delete, Resign, Stop, Train}
-use Rattle.sim_base.specs.declared.setup.Setup.{Setup}
-use Rattle.sim_base.specs.declared.step.Step.{Step}
-use Rattle.sim_base.specs.declared.step.Step.TheVariants as step
+use Rattle.sim_plain_session.proofs.{Common.u16_bytes, Common.u32_bytes, Common.u64_bytes, Common.Waiting, Common.walker, Left.left}
+use Rattle.sim_plain_session.proofs.Common.{i32_bytes, In, md5, mid, Out, quick, Resign, rounds, session, session_events, Setup, setup_of, Step, Stop, Train}
+use Rattle.sim_plain_session.proofs.Common.{◌≡◌, ℕ, List, [], ◌∷◌, pos, refl, barracks, block_words, compress, Delete, digest, digest_bytes, first, hash_after}
 use Rattle.sim_base.specs.declared.step.Event.TheVariants as event
-use Rattle.sim_base.specs.Bytes.{u16_bytes, u32_bytes, u64_bytes, i32_bytes}
-use Rattle.sim_base.specs.Spelling.{digest, quick}
-use Rattle.sim_base.proofs.ExampleMatches.{setup_of, walker, barracks, first, mid}
-use Rattle.sim_plain.specs.declared.status.Status.TheVariants.{Out, Waiting, In}
-use Rattle.sim_plain_session.specs.Sessions.{session}
-use Rattle.sim_plain_session.specs.Printed.{session_events}
-use Rattle.sim_plain_session.proofs.Left.{left}
+use Rattle.sim_base.specs.declared.step.Step.TheVariants as step
 
 abbrev match : Setup
 match =

@@ -1,14 +1,7 @@
 -- Steps behind other steps.
-use Rattle.std.specs.List.{enumerate_from}
-use Rattle.std.proofs.Common.{ap, append_assoc, append-nil, ◌≡◌, ℕ, ◌+◌, List, [], ◌∷◌, ◌++◌, length, take, flat_map, refl, sym, ◌∙◌}
-use Rattle.std.proofs.Math.Seq.{take-append_seam}
-use Rattle.std.proofs.lemmas.List.{length-append}
-use Rattle.sim_base.specs.declared.step.Step.{Step}
-use Rattle.sim_base.specs.declared.setup.Setup.{Setup}
-use Rattle.sim_base.specs.declared.step.Event.{Event}
-use Rattle.sim_plain_session.specs.Laws.{SessionGoesOn, EventsGoOn, EventsAreInOrder}
-use Rattle.sim_plain_session.specs.Printed.{start_events, events, events_after}
-use Rattle.sim_plain_session.specs.Sessions.{Session, opened, stepped, after_steps, session}
+use Rattle.sim_plain_session.proofs.Common.{SessionGoesOn, Setup, start_events, Step, stepped, sym, take-append_seam, ◌∙◌}
+use Rattle.sim_plain_session.proofs.Common.{enumerate_from, Event, events, events_after, EventsAreInOrder, EventsGoOn, length-append, opened, Session, session}
+use Rattle.sim_plain_session.proofs.Common.{◌≡◌, ℕ, ◌+◌, List, [], ◌∷◌, ◌++◌, length, take, flat_map, refl, after_steps, ap, append-nil, append_assoc}
 
 pub after_steps-append : (setup : Setup) (s : Session) (xs ys : List Step)
     → after_steps setup s (xs ++ ys) ≡ after_steps setup (after_steps setup s xs) ys
@@ -28,7 +21,8 @@ events_after-append setup s (x ∷ xs) ys =
 pub events_go_on : EventsGoOn
 events_go_on setup active steps x =
     ap (λ l. start_events setup active ++ l)
-    (events_after-append setup (opened setup active) steps (x ∷ []) ∙ ap (λ l. events_after setup (opened setup active) steps ++ l) (append-nil (events setup (session setup active steps) x)))
+    (events_after-append setup (opened setup active) steps (x ∷ []) ∙ ap (λ l. events_after setup (opened setup active) steps ++ l)
+    (append-nil (events setup (session setup active steps) x)))
     ∙ sym (append_assoc (start_events setup active) (events_after setup (opened setup active) steps) (events setup (session setup active steps) x))
 
 -- ---- the events of the steps, each after the steps before it

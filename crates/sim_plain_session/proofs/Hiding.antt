@@ -1,19 +1,8 @@
 -- What a report shows of its client, by the turn.
-use Rattle.std.proofs.Common.{◌≡◌, ℕ, Bool, true, false, Some, List, [], ◌∷◌, ◌++◌, map, refl, sym, ap, ◌∙◌}
-use Rattle.std.specs.Prelude.{ℤ, if◌then◌else◌, ◌==◌}
-use Rattle.std.proofs.lemmas.Bool.{cond-true, cond-false}
-use Rattle.md5.specs.Md5.{md5}
-use Rattle.sim_base.specs.declared.place.Point.{Point}
-use Rattle.sim_base.specs.declared.setup.Setup.{Setup}
-use Rattle.sim_base.specs.declared.state.Row.{Row}
-use Rattle.sim_base.specs.declared.state.State.{State}
-use Rattle.sim_base.specs.Changes.{with_row}
-use Rattle.sim_base.specs.Rows.{row_of}
-use Rattle.sim_base.specs.Spelling.{clock_bytes, section, position_part, position_bytes, rows_with, quick, is_full_turn}
-use Rattle.sim_base.specs.Turn.{may_bend, bent}
-use Rattle.sim_laws.proofs.Turning.{after_counts_turns}
-use Rattle.sim_plain_session.specs.Clients.{state_of, digest_of, bent_seat}
-use Rattle.sim_plain_session.specs.Marks.{FullIsDigest, OthersAreQuick, BendsAreHidden}
+use Rattle.sim_plain_session.proofs.Common.{BendsAreHidden, bent, bent_seat, clock_bytes, cond-false, cond-true, digest_of, FullIsDigest, is_full_turn}
+use Rattle.sim_plain_session.proofs.Common.{State, state_of, sym, with_row, ◌∙◌}
+use Rattle.sim_plain_session.proofs.Common.{may_bend, md5, OthersAreQuick, Point, position_bytes, position_part, quick, Row, row_of, rows_with, section, Setup}
+use Rattle.sim_plain_session.proofs.Common.{◌≡◌, ℕ, Bool, true, false, List, [], ◌∷◌, ◌++◌, map, ℤ, if◌then◌else◌, ◌==◌, Some, refl, after_counts_turns, ap}
 
 pub full_is_digest : FullIsDigest
 full_is_digest setup seat full =

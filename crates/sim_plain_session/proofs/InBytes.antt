@@ -1,17 +1,8 @@
 -- A session in bytes.
-use Rattle.std.proofs.Common.{◌≡◌, ℕ, List, [], ◌∷◌, map, ◌++◌, refl, sym, ap, ◌∙◌}
-use Rattle.std.proofs.lemmas.List.{map-append}
-use Rattle.sim_plain.specs.Messages.{Arrival, carry_arrival, carry_up, carry_down}
-use Rattle.sim_plain.specs.declared.rules.Rules.{Rules}
-use Rattle.sim_plain.specs.Server.{Server, heard, server_after}
-use Rattle.sim_plain.proofs.Carrying.{heard_carry, posts_carry}
-use Rattle.sim_plain.specs.Posts.{posts}
-use Rattle.sim_plain_session.proofs.Arrived.{server_is_after_arrivals}
-use Rattle.sim_plain_session.proofs.Functions.{put_same}
-use Rattle.sim_plain_session.specs.Bytes.{spelled, downs_of, ServerHearsBytes, ServerIsAfterBytes, BytesGoDown, BytesGoUp}
-use Rattle.sim_plain_session.specs.Clients.{Up}
-use Rattle.sim_plain_session.specs.Pasts.{rules_of}
-use Rattle.sim_plain_session.specs.Sessions.{session}
+use Rattle.sim_plain_session.proofs.{Arrived.server_is_after_arrivals, Functions.put_same}
+use Rattle.sim_plain_session.proofs.Common.{ServerHearsBytes, ServerIsAfterBytes, session, spelled, sym, Up, ◌∙◌}
+use Rattle.sim_plain_session.proofs.Common.{downs_of, heard, heard_carry, map-append, posts, posts_carry, Rules, rules_of, Server, server_after}
+use Rattle.sim_plain_session.proofs.Common.{◌≡◌, ℕ, List, [], ◌∷◌, ◌++◌, map, refl, ap, Arrival, BytesGoDown, BytesGoUp, carry_arrival, carry_down, carry_up}
 
 server_after-carried : {A B : Type 0} (f : A → B) (rules : Rules) (active : ℕ) (h : List (Arrival A))
     → server_after rules active (map (carry_arrival f) h) ≡ server_after rules active h
@@ -33,4 +24,5 @@ bytes_go_down setup s a c =
 
 pub bytes_go_up : BytesGoUp
 bytes_go_up setup s c acted =
-    ap (λ (l : List Up). map (carry_up (spelled setup)) l) (put_same c (s.ups c ++ acted.says) s.ups) ∙ map-append (carry_up (spelled setup)) (s.ups c) acted.says
+    ap (λ (l : List Up). map (carry_up (spelled setup)) l) (put_same c (s.ups c ++ acted.says) s.ups) ∙ map-append (carry_up (spelled setup)) (s.ups c)
+    acted.says

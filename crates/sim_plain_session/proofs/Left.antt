@@ -1,9 +1,5 @@
 -- What a session leaves behind, in numbers.
-use Rattle.std.specs.Prelude.{ℕ, List, map, length}
-use Rattle.sim_base.specs.declared.setup.Setup.{Setup}
-use Rattle.sim_plain.specs.declared.status.Status.{Status}
-use Rattle.sim_plain.specs.Functions.{up_to}
-use Rattle.sim_plain_session.specs.Sessions.{Session}
+use Rattle.sim_plain_session.proofs.Common.{ℕ, List, map, length, Session, Setup, Status, up_to}
 
 -- what clients are to the server, the released turns, how many commands are kept by turn, and how many messages lie in the pipes by client
 pub record Left : Type 0 where

@@ -1,3 +1,4 @@
+pub mod Common
 pub mod Functions
 pub mod GoingOn
 pub mod Arrived

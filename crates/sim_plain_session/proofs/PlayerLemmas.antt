@@ -1,14 +1,7 @@
 -- A client with a state goes on standing for one with a past.
-use Rattle.std.proofs.Common.{◌≡◌, ◌⊎◌, inl, inr, ℕ, suc, ◌<◌, List, [], ◌∷◌, ◌++◌, refl, sym, ap, ◌∙◌, subst, arith}
-use Rattle.std.proofs.lemmas.Bool.{cases_eq}
-use Rattle.sim_base.specs.declared.command.PlayerCommand.{PlayerCommand}
-use Rattle.sim_base.specs.declared.state.State.{State}
-use Rattle.sim_base.specs.Turn.{turn, bent, turns_in}
-use Rattle.sim_base.specs.Spelling.{digest, mark}
-use Rattle.sim_plain.specs.Functions.{put}
-use Rattle.sim_laws.proofs.Turning.{after_counts_turns}
-use Rattle.sim_plain_session.proofs.Functions.{put_same, put_other}
-use Rattle.sim_plain_session.specs.Players.{SameTurn, SameMark, BeginningStands, PlayingStands, BendingStands, LearningStands}
+use Rattle.sim_plain_session.proofs.{Common.State, Common.subst, Common.sym, Common.turn, Common.turns_in, Common.◌∙◌, Functions.put_other, Functions.put_same}
+use Rattle.sim_plain_session.proofs.Common.{bent, cases_eq, digest, inl, inr, LearningStands, mark, PlayerCommand, PlayingStands, put, SameMark, SameTurn}
+use Rattle.sim_plain_session.proofs.Common.{◌≡◌, ℕ, suc, ◌<◌, ◌⊎◌, List, [], ◌∷◌, ◌++◌, refl, after_counts_turns, ap, arith, BeginningStands, BendingStands}
 
 pub same_turn : SameTurn
 same_turn setup player seat s =
@@ -45,6 +38,7 @@ learning_stands setup player seat t order s above =
         → put t (player.known t ++ order ∷ []) player.known u ≡ put t (seat.known t ++ order ∷ []) seat.known u
     by u over (inl e) =
         subst (λ v. put t (player.known t ++ order ∷ []) player.known v ≡ put t (seat.known t ++ order ∷ []) seat.known v) (sym e)
-        (put_same t (player.known t ++ order ∷ []) player.known ∙ ap (λ (l : List PlayerCommand). l ++ order ∷ []) (s.known t above) ∙ sym (put_same t (seat.known t ++ order ∷ []) seat.known))
+        (put_same t (player.known t ++ order ∷ []) player.known ∙ ap (λ (l : List PlayerCommand). l ++ order ∷ []) (s.known t above) ∙
+        sym (put_same t (seat.known t ++ order ∷ []) seat.known))
     by u over (inr apart) =
         put_other t (player.known t ++ order ∷ []) player.known u apart ∙ s.known u over ∙ sym (put_other t (seat.known t ++ order ∷ []) seat.known u apart)

@@ -1,24 +1,13 @@
 -- What is printed of a state is that of the client's past.
-use Rattle.std.proofs.lemmas.List.{map-append}
-use Rattle.std.proofs.Common.{◌≡◌, ◌⊎◌, inl, inr, ℕ, zero, suc, ◌≤◌, min, Bool, true, false, List, [], ◌∷◌, ◌++◌, map, refl, subst, arith, if◌then◌else◌, ℤ}
-use Rattle.std.proofs.lemmas.Bool.{and_from, le-leb, lt-ltb, cond-true}
-use Rattle.sim_base.specs.declared.step.Step.{Step}
-use Rattle.sim_base.specs.declared.step.Step.TheVariants as step
+use Rattle.sim_plain_session.proofs.{Common.stepped_by, Common.subst, Common.turns_in, Common.Up, Common.up_to, Functions.put_same}
+use Rattle.sim_plain_session.proofs.Common.{EventsAreShown, fall_events, falls, hears, inl, inr, is_active, is_client, IsAt, IsShown, Joining, joins, le-leb}
+use Rattle.sim_plain_session.proofs.Common.{Phase, played, plays, put, rise_events, rises, row_of, Session, Setup, start_events, StartsAreShown, state_of, Step}
+use Rattle.sim_plain_session.proofs.Common.{after, and_from, arith, begun, bends, Carries, client_of, Command, cond-true, digest, Down, Event, events_by}
+use Rattle.sim_plain_session.proofs.Common.{leave_events, leaves, lt-ltb, map-append, may_bend, may_order, may_play, may_tell_done, Off, On, opened, orders}
+use Rattle.sim_plain_session.proofs.Common.{◌≡◌, ℕ, zero, suc, ◌≤◌, min, Bool, true, false, ◌⊎◌, List, [], ◌∷◌, ◌++◌, map, ℤ, if◌then◌else◌, refl, Acted, acts}
 use Rattle.sim_base.specs.declared.step.Event.TheVariants as event
-use Rattle.sim_base.specs.Rows.{row_of}
-use Rattle.sim_base.specs.Turn.{may_bend, after, turns_in}
-use Rattle.sim_base.specs.Spelling.{digest}
-use Rattle.sim_base.specs.declared.command.Command.{Command}
-use Rattle.sim_base.specs.declared.setup.Setup.{Setup}
-use Rattle.sim_base.specs.declared.step.Event.{Event}
+use Rattle.sim_base.specs.declared.step.Step.TheVariants as step
 use Rattle.sim_plain.specs.declared.message.DownOf.TheVariants as down
-use Rattle.sim_plain.specs.Functions.{put, up_to}
-use Rattle.sim_plain_session.proofs.Functions.{put_same}
-use Rattle.sim_plain_session.specs.Clients.{Up, Down, Phase, Off, Joining, On, Acted, state_of, begun, may_order, orders, may_play, played, may_tell_done, plays, joins, bends, hears}
-use Rattle.sim_plain_session.specs.Laws.{Carries, IsAt, IsShown, EventsAreShown, StartsAreShown}
-use Rattle.sim_plain_session.specs.Pasts.{is_client}
-use Rattle.sim_plain_session.specs.Printed.{start_events, rise_events, fall_events, leave_events, events_by}
-use Rattle.sim_plain_session.specs.Sessions.{Session, is_active, opened, acts, rises, falls, leaves, client_of, stepped_by}
 
 -- a client that is this is at a turn, and its state has this digest
 abbrev AtPhase : Setup → Phase → ℕ → List ℕ → Type 0
@@ -84,7 +73,8 @@ shows_orders setup c x (On o) = shows_if setup c (may_order setup o) _ _ (tt, tt
 shows_plays : (setup : Setup) (c : ℕ) (ph : Phase) → Shows setup c (plays setup c ph)
 shows_plays setup c Off = tt
 shows_plays setup c Joining = tt
-shows_plays setup c (On o) = shows_if setup c (may_play setup o) _ _ (shows_if setup c (may_tell_done setup (played o)) _ _ ((refl, (refl, refl)), tt) ((refl, (refl, refl)), tt)) tt
+shows_plays setup c (On o) = shows_if setup c (may_play setup o) _ _ (shows_if setup c (may_tell_done setup (played o)) _ _ ((refl, (refl, refl)), tt)
+    ((refl, (refl, refl)), tt)) tt
 
 shows_joins : (setup : Setup) (c : ℕ) (ph : Phase) → Shows setup c (joins c ph)
 shows_joins setup c Off = (tt, tt)
@@ -118,7 +108,8 @@ shows_hears setup c (On o) (down.Refused code) = (tt, tt)
 
 acts_shown : (setup : Setup) (s : Session) (c : ℕ) (acted : Acted) (e : Event) → Shows setup c acted → Carries acted.events e
     → IsShown setup (acts c acted s) e
-acts_shown setup s c acted e h has = shown_at setup (acts c acted s) c acted.phase e (put_same c acted.phase s.client) (one_shown setup c acted.phase acted.events e h has)
+acts_shown setup s c acted e h has = shown_at setup (acts c acted s) c acted.phase e (put_same c acted.phase s.client)
+    (one_shown setup c acted.phase acted.events e h has)
 
 -- ---- a step
 
@@ -175,7 +166,10 @@ map_up_to f n = map-append f (up_to n) (suc n ∷ [])
 
 starts_to : (setup : Setup) (active n : ℕ) (e : Event) → n ≤ active → Carries (start_events setup n) e → IsShown setup (opened setup active) e
 starts_to setup active zero e le has = absurd has
-starts_to setup active (suc n) e le has = by (carries_either (start_events setup n) (first ∷ []) e (subst (λ (l : List Event). Carries l e) (map_up_to (λ c. event.Start c (digest setup (after setup []))) n) has)) (λ (more : Carries (start_events setup n) e). starts_to setup active n e (omega arith) more)
+starts_to setup active (suc n) e le has =
+    by (carries_either (start_events setup n) (first ∷ []) e
+    (subst (λ (l : List Event). Carries l e) (map_up_to (λ c. event.Start c (digest setup (after setup []))) n) has))
+    (λ (more : Carries (start_events setup n) e). starts_to setup active n e (omega arith) more)
   where
     first : Event
     first = event.Start (suc n) (digest setup (after setup []))

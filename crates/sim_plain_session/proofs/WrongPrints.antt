@@ -1,25 +1,12 @@
 -- What is printed where the protocol is wrong.
-use Rattle.std.proofs.Common.{◌≡◌, ℕ, ◌%◌, ◌==◌, true, false, pos, refl, sym, ap, ◌∙◌, List, [], ◌∷◌, flat_map, arith, if◌then◌else◌}
-use Rattle.std.specs.Str.{bytes_eq}
-use Rattle.md5.specs.Md5.{block_words, rounds, compress, hash_after, digest_bytes, md5}
-use Rattle.sim_base.specs.declared.setup.Setup.{Setup}
-use Rattle.sim_base.specs.declared.step.Step.{Step}
-use Rattle.sim_base.specs.declared.step.Step.TheVariants as step
-use Rattle.sim_base.specs.declared.step.Event.{Event}
+use Rattle.sim_plain_session.proofs.BentExample.{begin, begin_bent, guarded, one, one_bent, they_differ}
+use Rattle.sim_plain_session.proofs.Common.{Arrival, begun, Bend, block_words, CanPlay, client_of, compress, digest, digest_bytes, Event, events, hash_after}
+use Rattle.sim_plain_session.proofs.Common.{Heard, i32_bytes, is_client, IsOfStep, IsShown, Joining, md5, notices, Off, On, Past, Phase, quick, rounds}
+use Rattle.sim_plain_session.proofs.Common.{rules_of, Seat, Session, session, Setup, Step, sym, Turn, u16_bytes, u32_bytes, u64_bytes, ◌∙◌}
+use Rattle.sim_plain_session.proofs.Common.{◌≡◌, ℕ, ◌%◌, true, false, List, [], ◌∷◌, pos, if◌then◌else◌, ◌==◌, bytes_eq, flat_map, refl, after, ap, arith}
 use Rattle.sim_base.specs.declared.step.Event.TheVariants as event
-use Rattle.sim_base.specs.Bytes.{u16_bytes, u32_bytes, u64_bytes, i32_bytes}
-use Rattle.sim_base.specs.Spelling.{digest, quick}
-use Rattle.sim_base.specs.Turn.{Past, Turn, Bend, after}
+use Rattle.sim_base.specs.declared.step.Step.TheVariants as step
 use Rattle.sim_plain.specs.declared.message.UpOf.TheVariants as up
-use Rattle.sim_plain.specs.Messages.{Arrival, Heard}
-use Rattle.sim_plain.specs.Notices.{notices}
-use Rattle.sim_plain_session.specs.Clients.{Seat, Phase, Off, Joining, On, begun}
-use Rattle.sim_plain_session.specs.Enabled.{CanPlay, IsOfStep}
-use Rattle.sim_plain_session.specs.Laws.{IsShown}
-use Rattle.sim_plain_session.specs.Pasts.{rules_of, is_client}
-use Rattle.sim_plain_session.specs.Printed.{events}
-use Rattle.sim_plain_session.specs.Sessions.{Session, client_of, session}
-use Rattle.sim_plain_session.proofs.BentExample.{guarded, begin, begin_bent, one, one_bent, they_differ}
 
 -- ---- a server that compares a report with the one before it, in place of the first of its turn
 

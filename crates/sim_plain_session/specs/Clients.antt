@@ -1,20 +1,10 @@
 -- A client alone: what it is, and what a step or a message that it hears makes of it. A message carries a past in place of bytes.
-use Rattle.std.specs.Prelude.{ℕ, suc, ◌+◌, min, max, Bool, ◌&&◌, nat_lt, ◌==◌, ℤ, if◌then◌else◌, List, [], ◌∷◌, ◌++◌}
-use Rattle.sim_base.specs.declared.command.Command.{Command}
-use Rattle.sim_base.specs.declared.command.PlayerCommand.{PlayerCommand}
-use Rattle.sim_base.specs.declared.setup.Setup.{Setup}
-use Rattle.sim_base.specs.declared.state.State.{State}
-use Rattle.sim_base.specs.declared.step.Event.{Event}
+use Rattle.std.specs.Prelude.{ℕ, suc, ◌+◌, min, max, Bool, ◌&&◌, List, [], ◌∷◌, ◌++◌, ℤ, if◌then◌else◌, nat_lt, ◌==◌}
+use Rattle.sim_plain_session.specs.{Common.turns_in, Common.UpOf, Pasts.is_client}
+use Rattle.sim_plain_session.specs.Common.{after, Bend, Command, digest, DownOf, Event, mark, may_bend, Past, PlayerCommand, put, row_of, Setup, State, Turn}
 use Rattle.sim_base.specs.declared.step.Event.TheVariants as event
-use Rattle.sim_base.specs.Rows.{row_of}
-use Rattle.sim_base.specs.Turn.{Past, Turn, Bend, may_bend, after, turns_in}
-use Rattle.sim_base.specs.Spelling.{digest, mark}
-use Rattle.sim_plain.specs.declared.message.UpOf.{UpOf}
-use Rattle.sim_plain.specs.declared.message.UpOf.TheVariants as up
-use Rattle.sim_plain.specs.declared.message.DownOf.{DownOf}
 use Rattle.sim_plain.specs.declared.message.DownOf.TheVariants as down
-use Rattle.sim_plain.specs.Functions.{put}
-use Rattle.sim_plain_session.specs.Pasts.{is_client}
+use Rattle.sim_plain.specs.declared.message.UpOf.TheVariants as up
 
 -- what a client says
 abbrev pub Up : Type 0
@@ -73,7 +63,12 @@ may_order setup seat = nat_lt seat.done setup.turns && nat_lt seat.orders 64
 
 -- the command goes up, for that turn
 abbrev pub ordered : ℕ → Command → Seat → Acted
-ordered c command seat = record { phase = On (record seat { orders = suc seat.orders }); says = up.Command (suc seat.done) command ∷ []; events = event.Order c (suc seat.done) ∷ [] }
+ordered c command seat =
+    record {
+      phase = On (record seat { orders = suc seat.orders });
+      says = up.Command (suc seat.done) command ∷ [];
+      events = event.Order c (suc seat.done) ∷ [];
+    }
 
 -- a client that is on gives a command, where it may
 abbrev pub orders : Setup → ℕ → Command → Phase → Acted
@@ -159,7 +154,8 @@ bends setup c id health (On seat) =
 
 -- a command of a turn that it has not played is known from now on
 abbrev pub learns : Setup → ℕ → PlayerCommand → Seat → Seat
-learns setup t order seat = if nat_lt (turns_in seat.past) t && is_client setup order.player then record seat { known = put t (seat.known t ++ order ∷ []) seat.known } else seat
+learns setup t order seat = if nat_lt (turns_in seat.past) t && is_client setup order.player
+    then record seat { known = put t (seat.known t ++ order ∷ []) seat.known } else seat
 
 -- nobody was there to ask, so it is off again
 abbrev pub refused : ℕ → Phase
@@ -174,7 +170,8 @@ hears setup c Off (down.Release t) = idle Off
 hears setup c Off (down.Notice t j) = idle Off
 hears setup c Off (down.Refused code) = record { phase = Off; says = []; events = event.Refused c code ∷ [] }
 hears setup c Joining (down.Ask j) = idle Joining
-hears setup c Joining (down.State done past) = record { phase = On (begun done (turns_in past) past); says = []; events = event.Load c (turns_in past) (digest setup (after setup past)) ∷ [] }
+hears setup c Joining (down.State done past) =
+    record { phase = On (begun done (turns_in past) past); says = []; events = event.Load c (turns_in past) (digest setup (after setup past)) ∷ [] }
 hears setup c Joining (down.Command t order) = idle Joining
 hears setup c Joining (down.Release t) = idle Joining
 hears setup c Joining (down.Notice t j) = idle Joining

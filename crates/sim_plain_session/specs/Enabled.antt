@@ -1,22 +1,12 @@
 -- Which steps have an event in a session, and which one: those that can be done, but for messages of which nothing is told.
-use Rattle.std.specs.Prelude.{◌≡◌, ◌≢◌, ℕ, suc, ◌<◌, true, ℤ, List, [], ◌∷◌, None}
-use Rattle.sim_base.specs.declared.setup.Setup.{Setup}
-use Rattle.sim_base.specs.declared.step.Step.{Step}
-use Rattle.sim_base.specs.declared.step.Step.TheVariants as step
-use Rattle.sim_base.specs.declared.step.Event.{Event}
+use Rattle.std.specs.Prelude.{◌≡◌, ℕ, suc, ◌<◌, true, ◌≢◌, List, [], ◌∷◌, ℤ, None}
+use Rattle.sim_plain_session.specs.{Clients.Down, Clients.Joining, Clients.Off, Clients.On, Clients.Seat, Clients.Up, Sessions.client_of, Sessions.Session}
+use Rattle.sim_plain_session.specs.{Laws.Carries, Pasts.is_client, Printed.events}
+use Rattle.sim_plain_session.specs.Common.{after, Bend, differs, digest, Event, may_bend, Past, report_fault, row_of, Setup, Step, Turn, turns_in}
 use Rattle.sim_base.specs.declared.step.Event.TheVariants as event
-use Rattle.sim_base.specs.Rows.{row_of}
-use Rattle.sim_base.specs.Turn.{Past, Turn, Bend, may_bend, after, turns_in}
-use Rattle.sim_base.specs.Spelling.{digest}
-use Rattle.sim_plain.specs.declared.message.UpOf.TheVariants as up
+use Rattle.sim_base.specs.declared.step.Step.TheVariants as step
 use Rattle.sim_plain.specs.declared.message.DownOf.TheVariants as down
-use Rattle.sim_plain.specs.Posts.{differs}
-use Rattle.sim_plain.specs.Server.{report_fault}
-use Rattle.sim_plain_session.specs.Clients.{Up, Down, Seat, Off, Joining, On}
-use Rattle.sim_plain_session.specs.Laws.{Carries}
-use Rattle.sim_plain_session.specs.Pasts.{is_client}
-use Rattle.sim_plain_session.specs.Printed.{events}
-use Rattle.sim_plain_session.specs.Sessions.{Session, client_of}
+use Rattle.sim_plain.specs.declared.message.UpOf.TheVariants as up
 
 -- a client can order: it is on, the turn behind its done is one of the match, and it has given fewer than 64 commands for it
 pub record CanOrder (setup : Setup) (s : Session) (c : ℕ) (seat : Seat) : Type 0 where

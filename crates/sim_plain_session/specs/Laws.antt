@@ -1,22 +1,14 @@
 -- What holds of every session whatever its steps are, without a look at what came before.
 use Rattle.std.specs.Prelude.{◌≡◌, ℕ, ◌⊎◌, List, [], ◌∷◌, ◌++◌, take, flat_map}
-use Rattle.std.specs.List.{enumerate_from}
-use Rattle.sim_base.specs.declared.setup.Setup.{Setup}
-use Rattle.sim_base.specs.Turn.{after, turns_in}
-use Rattle.sim_base.specs.Spelling.{digest}
-use Rattle.sim_plain.specs.Server.{server_after}
-use Rattle.sim_base.specs.declared.step.Step.{Step}
-use Rattle.sim_base.specs.declared.step.Event.{Event}
+use Rattle.sim_plain_session.specs.{Clients.On, Clients.Seat, Printed.events, Printed.events_after, Printed.session_events, Printed.start_events}
+use Rattle.sim_plain_session.specs.{Pasts.rules_of, Sessions.opened, Sessions.Session, Sessions.session, Sessions.stepped}
+use Rattle.sim_plain_session.specs.Common.{after, digest, enumerate_from, Event, notices, server_after, Setup, Step, turns_in}
 use Rattle.sim_base.specs.declared.step.Event.TheVariants as event
-use Rattle.sim_plain.specs.Notices.{notices}
-use Rattle.sim_plain_session.specs.Clients.{Seat, On}
-use Rattle.sim_plain_session.specs.Pasts.{rules_of}
-use Rattle.sim_plain_session.specs.Printed.{start_events, events, events_after, session_events}
-use Rattle.sim_plain_session.specs.Sessions.{Session, opened, stepped, session}
 
 -- the server is the one after the arrivals
 abbrev pub ServerIsAfterArrivals : Type 0
-ServerIsAfterArrivals = (setup : Setup) (active : ℕ) (steps : List Step) → (session setup active steps).server ≡ server_after (rules_of setup) active (session setup active steps).arrivals
+ServerIsAfterArrivals = (setup : Setup) (active : ℕ) (steps : List Step) → (session setup active steps).server ≡ server_after (rules_of setup) active
+    (session setup active steps).arrivals
 
 -- the notices among events
 abbrev pub notices_in : List Event → List (ℕ × ℕ)
@@ -34,7 +26,8 @@ notices_in (event.Notice t c ∷ events) = (t, c) ∷ notices_in events
 -- a notice is printed for each accepted report that differs from the first of its turn, in order, and no other
 abbrev pub NoticesAreOfArrivals : Type 0
 NoticesAreOfArrivals =
-    (setup : Setup) (active : ℕ) (steps : List Step) → notices_in (events_after setup (opened setup active) steps) ≡ notices (rules_of setup) active (session setup active steps).arrivals
+    (setup : Setup) (active : ℕ) (steps : List Step) → notices_in (events_after setup (opened setup active) steps) ≡ notices (rules_of setup) active
+    (session setup active steps).arrivals
 
 -- this is one of a list
 abbrev pub Carries : {X : Type 0} → List X → X → Type 0
@@ -67,11 +60,13 @@ StartsAreShown = (setup : Setup) (active : ℕ) (e : Event) → Carries (start_e
 
 -- one step more is a step of the session so far
 abbrev pub SessionGoesOn : Type 0
-SessionGoesOn = (setup : Setup) (active : ℕ) (steps : List Step) (x : Step) → session setup active (steps ++ x ∷ []) ≡ stepped setup (session setup active steps) x
+SessionGoesOn = (setup : Setup) (active : ℕ) (steps : List Step) (x : Step) → session setup active (steps ++ x ∷ []) ≡ stepped setup
+    (session setup active steps) x
 
 -- and its events are printed behind those so far
 abbrev pub EventsGoOn : Type 0
-EventsGoOn = (setup : Setup) (active : ℕ) (steps : List Step) (x : Step) → session_events setup active (steps ++ x ∷ []) ≡ session_events setup active steps ++ events setup (session setup active steps) x
+EventsGoOn = (setup : Setup) (active : ℕ) (steps : List Step) (x : Step) → session_events setup active (steps ++ x ∷ []) ≡ session_events setup active steps ++
+    events setup (session setup active steps) x
 
 -- what is printed are the events of the start, and then those of each step, as it comes after the steps before it
 abbrev pub EventsAreInOrder : Type 0

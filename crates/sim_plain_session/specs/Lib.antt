@@ -1,3 +1,4 @@
+pub mod Common
 pub mod Pasts
 pub mod Clients
 pub mod Sessions

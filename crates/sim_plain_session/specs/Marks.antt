@@ -1,9 +1,7 @@
 -- What a report shows of its client, by the turn.
 use Rattle.std.specs.Prelude.{◌≡◌, ℕ, true, false, ℤ}
-use Rattle.sim_base.specs.declared.setup.Setup.{Setup}
-use Rattle.sim_base.specs.Turn.{turns_in}
-use Rattle.sim_base.specs.Spelling.{quick, is_full_turn}
-use Rattle.sim_plain_session.specs.Clients.{Seat, state_of, digest_of, mark_of, bent_seat}
+use Rattle.sim_plain_session.specs.Clients.{bent_seat, digest_of, mark_of, Seat, state_of}
+use Rattle.sim_plain_session.specs.Common.{is_full_turn, quick, Setup, turns_in}
 
 -- at a full turn it shows the whole digest
 abbrev pub FullIsDigest : Type 0

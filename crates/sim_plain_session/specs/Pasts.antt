@@ -1,9 +1,6 @@
 -- Pasts as a session speaks of them, and what its server must know of a match.
-use Rattle.std.specs.Prelude.{ℕ, zero, suc, Bool, true, false, ◌&&◌, nat_lt, nat_le, List, [], ◌∷◌}
-use Rattle.sim_base.specs.declared.command.PlayerCommand.{PlayerCommand}
-use Rattle.sim_base.specs.declared.setup.Setup.{Setup}
-use Rattle.sim_base.specs.Turn.{Past, Turn, Bend}
-use Rattle.sim_plain.specs.declared.rules.Rules.{Rules}
+use Rattle.std.specs.Prelude.{ℕ, zero, suc, Bool, true, false, ◌&&◌, List, [], ◌∷◌, nat_lt, nat_le}
+use Rattle.sim_plain_session.specs.Common.{Bend, Past, PlayerCommand, Rules, Setup, Turn}
 
 -- a server has as many clients as the match has players, and its delay and turns
 abbrev pub rules_of : Setup → Rules

@@ -1,12 +1,7 @@
 -- When a client that has a state stands for one that has a past.
-use Rattle.std.specs.Prelude.{◌≡◌, ℕ, suc, ◌<◌, ℤ, List, [], ◌∷◌, ◌++◌}
-use Rattle.sim_base.specs.declared.command.PlayerCommand.{PlayerCommand}
-use Rattle.sim_base.specs.declared.setup.Setup.{Setup}
-use Rattle.sim_base.specs.declared.state.State.{State}
-use Rattle.sim_base.specs.Turn.{Past, turn, bent, after, turns_in}
-use Rattle.sim_base.specs.Spelling.{digest, mark}
-use Rattle.sim_plain.specs.Functions.{put}
-use Rattle.sim_plain_session.specs.Clients.{Seat, digest_of, mark_of, begun, played, bent_seat}
+use Rattle.std.specs.Prelude.{◌≡◌, ℕ, suc, ◌<◌, List, [], ◌∷◌, ◌++◌, ℤ}
+use Rattle.sim_plain_session.specs.Clients.{begun, bent_seat, digest_of, mark_of, played, Seat}
+use Rattle.sim_plain_session.specs.Common.{after, bent, digest, mark, Past, PlayerCommand, put, Setup, State, turn, turns_in}
 
 -- a client with its state, and with no past
 pub record Player : Type 0 where
@@ -26,7 +21,8 @@ pub record IsPlayerOf (setup : Setup) (player : Player) (seat : Seat) : Type 0 w
 
 -- it is at the turn of the past, with its digest
 abbrev pub SameTurn : Type 0
-SameTurn = (setup : Setup) (player : Player) (seat : Seat) → IsPlayerOf setup player seat → (player.state.turn ≡ turns_in seat.past) × (digest setup player.state ≡ digest_of setup seat)
+SameTurn = (setup : Setup) (player : Player) (seat : Seat) → IsPlayerOf setup player seat → (player.state.turn ≡ turns_in seat.past)
+    × (digest setup player.state ≡ digest_of setup seat)
 
 -- and with its mark
 abbrev pub SameMark : Type 0
@@ -55,4 +51,5 @@ BendingStands =
 abbrev pub LearningStands : Type 0
 LearningStands =
     (setup : Setup) (player : Player) (seat : Seat) (t : ℕ) (order : PlayerCommand) → IsPlayerOf setup player seat → turns_in seat.past < t
-    → IsPlayerOf setup (record player { known = put t (player.known t ++ order ∷ []) player.known }) (record seat { known = put t (seat.known t ++ order ∷ []) seat.known })
+    → IsPlayerOf setup (record player { known = put t (player.known t ++ order ∷ []) player.known })
+    (record seat { known = put t (seat.known t ++ order ∷ []) seat.known })

@@ -1,19 +1,10 @@
 -- What is printed of a session.
-use Rattle.std.specs.Prelude.{ℕ, if◌then◌else◌, List, [], ◌∷◌, ◌++◌, map}
-use Rattle.sim_base.specs.declared.setup.Setup.{Setup}
-use Rattle.sim_base.specs.declared.step.Step.{Step}
-use Rattle.sim_base.specs.declared.step.Step.TheVariants as step
-use Rattle.sim_base.specs.declared.step.Event.{Event}
+use Rattle.std.specs.Prelude.{ℕ, List, [], ◌∷◌, ◌++◌, map, if◌then◌else◌}
+use Rattle.sim_plain_session.specs.{Pasts.is_client, Pasts.rules_of, Sessions.client_of, Sessions.opened, Sessions.Session, Sessions.stepped}
+use Rattle.sim_plain_session.specs.Clients.{bends, Down, hears, Joining, joins, Off, On, orders, Phase, plays, Up}
+use Rattle.sim_plain_session.specs.Common.{after, Arrival, digest, Event, Heard, noticed, Past, Server, Setup, Step, up_to}
 use Rattle.sim_base.specs.declared.step.Event.TheVariants as event
-use Rattle.sim_base.specs.Turn.{Past, after}
-use Rattle.sim_base.specs.Spelling.{digest}
-use Rattle.sim_plain.specs.Functions.{up_to}
-use Rattle.sim_plain.specs.Messages.{Arrival, Heard}
-use Rattle.sim_plain.specs.Server.{Server}
-use Rattle.sim_plain.specs.Notices.{noticed}
-use Rattle.sim_plain_session.specs.Clients.{Up, Down, Phase, Off, Joining, On, orders, plays, joins, bends, hears}
-use Rattle.sim_plain_session.specs.Pasts.{rules_of, is_client}
-use Rattle.sim_plain_session.specs.Sessions.{Session, opened, client_of, stepped}
+use Rattle.sim_base.specs.declared.step.Step.TheVariants as step
 
 -- clients that are on at the beginning
 abbrev pub start_events : Setup → ℕ → List Event

@@ -1,15 +1,9 @@
 -- A session: a server, clients, and between them pipes of messages, over a list of steps.
-use Rattle.std.specs.Prelude.{ℕ, min, Bool, ◌&&◌, nat_lt, nat_le, if◌then◌else◌, List, [], ◌∷◌, ◌++◌}
-use Rattle.sim_base.specs.declared.setup.Setup.{Setup}
-use Rattle.sim_base.specs.declared.step.Step.{Step}
+use Rattle.std.specs.Prelude.{ℕ, min, Bool, ◌&&◌, List, [], ◌∷◌, ◌++◌, if◌then◌else◌, nat_lt, nat_le}
+use Rattle.sim_plain_session.specs.Clients.{Acted, begun, bends, Down, hears, Joining, joins, Off, On, orders, Phase, plays, Up}
+use Rattle.sim_plain_session.specs.Common.{Arrival, Cut, Heard, heard, opening, Past, Posts, posts, put, Server, Setup, Step}
+use Rattle.sim_plain_session.specs.Pasts.{is_client, rules_of}
 use Rattle.sim_base.specs.declared.step.Step.TheVariants as step
-use Rattle.sim_base.specs.Turn.{Past}
-use Rattle.sim_plain.specs.Functions.{put}
-use Rattle.sim_plain.specs.Messages.{Arrival, Heard, Cut}
-use Rattle.sim_plain.specs.Server.{Server, opening, heard}
-use Rattle.sim_plain.specs.Posts.{Posts, posts}
-use Rattle.sim_plain_session.specs.Clients.{Up, Down, Phase, Off, Joining, On, Acted, begun, orders, plays, joins, bends, hears}
-use Rattle.sim_plain_session.specs.Pasts.{rules_of, is_client}
 
 -- the server and all that has arrived at it, the newest first; and by client what it is, and the two pipes, the first to be heard first
 pub record Session : Type 0 where

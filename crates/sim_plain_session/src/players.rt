@@ -1,6 +1,6 @@
 //! A client that has a state in place of a past.
 
-ghost use Rattle.sim_plain_session.specs.Players.{SameTurn, SameMark, BeginningStands, PlayingStands, BendingStands, LearningStands};
+ghost use Rattle.sim_plain_session.specs.Players.{BeginningStands, BendingStands, LearningStands, PlayingStands, SameMark, SameTurn};
 
 /// A client that has a state and knows of the turns to come goes on standing for one that has a past, whatever it forgets
 /// of the turns that it has played.

@@ -1,7 +1,7 @@
 //! What a session prints.
 
-ghost use Rattle.sim_plain_session.specs.Laws.{ServerIsAfterArrivals, NoticesAreOfArrivals, EventsAreShown, StartsAreShown, SessionGoesOn, EventsGoOn, EventsAreInOrder};
-ghost use Rattle.sim_plain_session.specs.Enabled.{EventsAreOfSteps, StepsHaveEvents};
+ghost use Rattle.sim_plain_session.specs.{Enabled.EventsAreOfSteps, Enabled.StepsHaveEvents, Laws.StartsAreShown};
+ghost use Rattle.sim_plain_session.specs.Laws.{EventsAreInOrder, EventsAreShown, EventsGoOn, NoticesAreOfArrivals, ServerIsAfterArrivals, SessionGoesOn};
 
 /// The server of a session is the one after all arrivals, and the notices that are printed are those of them: one, in
 /// order, for each accepted report that differs from the first of its turn.

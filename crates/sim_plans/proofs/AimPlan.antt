@@ -1,36 +1,20 @@
 -- The plan of the phase in which fighters aim: its changes, all found from the one state before, fit and give the phase.
-use Rattle.std.proofs.Common.{◌≡◌, ℕ, ◌<◌, ◌≤◌, Bool, true, false, cond, not, List, [], ◌∷◌, map, filter, find, Option, Some, None, refl, sym, ap, ◌∙◌, subst, inl, arith, All}
-use Rattle.std.specs.Prelude.{◌*◌, is_some, option_map, unwrap_or, unsigned_abs, nat_le, ◌==◌, ◌&&◌, ◌||◌}
-use Rattle.std.proofs.lemmas.Bool.{and_parts}
-use Rattle.std.proofs.lemmas.List.Elements.{All-nil}
-use Rattle.sim_base.specs.declared.template.Template.{Template}
-use Rattle.sim_base.specs.declared.template.Arms.{Arms}
-use Rattle.sim_base.specs.declared.setup.Setup.{Setup}
-use Rattle.sim_base.specs.declared.state.Motion.{Motion}
-use Rattle.sim_base.specs.declared.state.Aim.{Aim}
-use Rattle.sim_base.specs.declared.state.Row.{Row}
-use Rattle.sim_base.specs.declared.state.State.{State}
-use Rattle.sim_base.specs.Places.{square}
-use Rattle.sim_base.specs.Least.{least_of}
-use Rattle.sim_base.specs.Rows.{id_of, row_of, target_of, is_holding, arms_of, is_going, in_mask, enemies_of, template_of}
-use Rattle.sim_base.specs.Filters.{is_near, within, seen}
-use Rattle.sim_base.specs.Validity.{IsValidRow, IsKnownRow, IsLooselyValid}
-use Rattle.sim_base.specs.Changes.{aimed_at, halted, released}
-use Rattle.sim_base.specs.Aim.{lets_go, with_releases, square_to, may_take, target_for, is_idle, looking, aimed}
-use Rattle.sim_laws.proofs.Rows.{all_at, map-map, known_row, found_row}
-use Rattle.sim_laws.proofs.Removing.{IsTarget}
-use Rattle.sim_laws.proofs.Aiming.{target_for_is_target}
-use Rattle.sim_plans.specs.RowChanges.{set_by_all, Suits}
-use Rattle.sim_plans.specs.Plans.{next_target, aim_changes_by, aim_changes_of, aim_plan}
-use Rattle.sim_plans.specs.PlanLaws.{IsPlanOf, Plans}
-use Rattle.sim_plans.proofs.RowByRow.{row_by_row_to}
-use Rattle.sim_plans.proofs.Suiting.{armed, target_changes-set, turn_changes-set, target_changes_suit, turn_changes_suit}
+use Rattle.{sim_laws.proofs.Aiming.target_for_is_target, sim_laws.proofs.Rows.map-map, std.specs.Prelude.unwrap_or, std.specs.Prelude.option_map}
+use Rattle.sim_base.specs.{Aim.is_idle, Aim.lets_go, Aim.looking, Aim.may_take, Aim.square_to, Aim.target_for, Aim.with_releases, Filters.seen, Filters.within}
+use Rattle.sim_base.specs.{Changes.released, Least.least_of, Rows.enemies_of, Rows.in_mask, Rows.is_going, Rows.is_holding}
+use Rattle.sim_plans.{proofs.RowByRow.row_by_row_to, specs.Plans.aim_changes_by, specs.Plans.aim_changes_of, specs.Plans.next_target}
+use Rattle.sim_plans.proofs.Common.{Motion, Plans, Row, row_of, set_by_all, Setup, square, State, subst, Suits, sym, target_of, Template, template_of, ◌∙◌}
+use Rattle.sim_plans.proofs.Common.{Some, None, All, filter, find, Option, refl, Aim, aim_plan, aimed, aimed_at, All-nil, all_at, and_parts, ap, arith, Arms}
+use Rattle.sim_plans.proofs.Common.{arms_of, found_row, halted, id_of, inl, is_near, IsKnownRow, IsLooselyValid, IsPlanOf, IsTarget, IsValidRow, known_row}
+use Rattle.sim_plans.proofs.Common.{◌≡◌, ℕ, ◌*◌, ◌<◌, ◌≤◌, Bool, true, false, cond, not, ◌&&◌, ◌||◌, List, [], ◌∷◌, map, is_some, nat_le, ◌==◌, unsigned_abs}
+use Rattle.sim_plans.proofs.Suiting.{armed, target_changes-set, target_changes_suit, turn_changes-set, turn_changes_suit}
 
 filter-map : {X Y : Type 0} (p : Y → Bool) (f : X → Y) (xs : List X) → filter p (map f xs) ≡ map f (filter (λ x. p (f x)) xs)
 filter-map p f [] = refl
 filter-map p f (x ∷ xs) = by (p (f x)) (filter-map p f xs)
   where
-    by : (b : Bool) → filter p (map f xs) ≡ map f (filter (λ x. p (f x)) xs) → cond b (f x ∷ filter p (map f xs)) (filter p (map f xs)) ≡ map f (cond b (x ∷ filter (λ x. p (f x)) xs) (filter (λ x. p (f x)) xs))
+    by : (b : Bool) → filter p (map f xs) ≡ map f (filter (λ x. p (f x)) xs) → cond b (f x ∷ filter p (map f xs)) (filter p (map f xs)) ≡ map f
+        (cond b (x ∷ filter (λ x. p (f x)) xs) (filter (λ x. p (f x)) xs))
     by true e = ap (λ ys. f x ∷ ys) e
     by false e = e
 
@@ -38,7 +22,8 @@ find-map : {X Y : Type 0} (p : Y → Bool) (f : X → Y) (xs : List X) → find 
 find-map p f [] = refl
 find-map p f (x ∷ xs) = by (p (f x)) (find-map p f xs)
   where
-    by : (b : Bool) → find p (map f xs) ≡ option_map f (find (λ x. p (f x)) xs) → cond b (Some (f x)) (find p (map f xs)) ≡ option_map f (cond b (Some x) (find (λ x. p (f x)) xs))
+    by : (b : Bool) → find p (map f xs) ≡ option_map f (find (λ x. p (f x)) xs) → cond b (Some (f x)) (find p (map f xs)) ≡ option_map f
+        (cond b (Some x) (find (λ x. p (f x)) xs))
     by true e = refl
     by false e = e
 
@@ -73,7 +58,8 @@ module _ (setup : Setup) (state : State) where
   within-same : (row : Row) (arms : Arms) (mask : ℕ) → within after_releases row.at arms.vision mask ≡ within state row.at arms.vision mask
   within-same row arms mask =
       let test : Row → Bool = λ (q : Row). is_some q.health && in_mask mask q.owner && is_near q.at row.at arms.vision in
-      let tests : (λ (q : Row). test (freed q)) ≡ test = λ i q. is_some ((freed-as_before q).health i) && in_mask mask ((freed-as_before q).owner i) && is_near ((freed-as_before q).at i) row.at arms.vision in
+      let tests : (λ (q : Row). test (freed q)) ≡ test = λ i q. is_some ((freed-as_before q).health i) && in_mask mask ((freed-as_before q).owner i)
+      && is_near ((freed-as_before q).at i) row.at arms.vision in
       ap (map id_of) (filter-map test freed state.rows) ∙ map-map freed id_of (filter (λ (q : Row). test (freed q)) state.rows) ∙
       (λ i. map (λ (q : Row). (freed-as_before q).id i) (filter (tests i) state.rows))
 
@@ -83,7 +69,8 @@ module _ (setup : Setup) (state : State) where
   square_to-same : (row : Row) (id : ℕ) → square_to after_releases row id ≡ square_to state row id
   square_to-same row id = ap (λ (o : Option Row). unwrap_or (option_map (λ (other : Row). square other.at row.at) o) 0) (row_of-same id) ∙ by (row_of state id)
     where
-      by : (o : Option Row) → unwrap_or (option_map (λ (other : Row). square other.at row.at) (option_map freed o)) 0 ≡ unwrap_or (option_map (λ (other : Row). square other.at row.at) o) 0
+      by : (o : Option Row) → unwrap_or (option_map (λ (other : Row). square other.at row.at) (option_map freed o)) 0 ≡ unwrap_or
+          (option_map (λ (other : Row). square other.at row.at) o) 0
       by None = refl
       by (Some other) = λ i. square ((freed-as_before other).at i) row.at
 
@@ -92,8 +79,10 @@ module _ (setup : Setup) (state : State) where
   target_for-same row arms =
       let new = freed row in
       let same = freed-as_before row in
-      let far : (id : ℕ) → square_to after_releases new id ≡ square_to state row id = λ id. moved_square (lets_go setup row (row_of state (target_of row))) id in
-      let may : (id : ℕ) → may_take after_releases new arms id ≡ may_take state row arms id = λ id i. not (same.hold i) || nat_le (far id i) (unsigned_abs arms.range * unsigned_abs arms.range) in
+      let far : (id : ℕ) → square_to after_releases new id ≡ square_to state row id = λ id. moved_square (lets_go setup row (row_of state (target_of row)))
+      id in
+      let may : (id : ℕ) → may_take after_releases new arms id ≡ may_take state row arms id = λ id i. not (same.hold i) || nat_le (far id i)
+      (unsigned_abs arms.range * unsigned_abs arms.range) in
       let ids : seen setup after_releases new arms ≡ seen setup state row arms = seen_by (lets_go setup row (row_of state (target_of row))) in
       λ i. unwrap_or (least_of (λ id. far id i ∷ id ∷ []) (filter (λ id. may id i) (ids i))) 0
     where
@@ -111,7 +100,8 @@ module _ (setup : Setup) (state : State) where
 
   aimed-is_map : aimed setup state ≡ record state { rows = map aimed_row state.rows }
   aimed-is_map =
-      ap (λ (rs : List Row). record state { rows = rs }) (map-map freed (λ (row : Row). looking setup after_releases row (is_idle row) (arms_of setup row)) state.rows)
+      ap (λ (rs : List Row). record state { rows = rs }) (map-map freed (λ (row : Row). looking setup after_releases row (is_idle row) (arms_of setup row))
+      state.rows)
 
   -- a row that lets go of its target, or is idle, can attack
   loosing_armed : IsLooselyValid setup state → (row : Row) → lets_go setup row (row_of state (target_of row)) ≡ true → (aim : Aim) × (row.attack ≡ Some aim)
@@ -129,7 +119,8 @@ module _ (setup : Setup) (state : State) where
           aiming row.attack refl (omega (arith, ids.0, same))
 
   idle_armed : (row : Row) → is_idle row ≡ true → (aim : Aim) × (row.attack ≡ Some aim)
-  idle_armed row idle = by row.attack refl ((and_parts (is_some row.attack) (target_of row == 0) ((and_parts (is_some row.attack && target_of row == 0) (not (is_going row.motion)) idle).0)).0)
+  idle_armed row idle = by row.attack refl
+      ((and_parts (is_some row.attack) (target_of row == 0) ((and_parts (is_some row.attack && target_of row == 0) (not (is_going row.motion)) idle).0)).0)
     where
       by : (a : Option Aim) → row.attack ≡ a → is_some a ≡ true → (aim : Aim) × (row.attack ≡ Some aim)
       by None e h = absurd (cc)
@@ -137,7 +128,8 @@ module _ (setup : Setup) (state : State) where
 
   -- a row that is released looks for a target, and takes it
   released_looks : (row : Row) (aim : Aim) (arms : Arms) → row.attack ≡ Some aim → arms_of setup row ≡ Some arms →
-      looking setup after_releases (released row) (is_idle (released row)) (arms_of setup row) ≡ halted (aimed_at (target_for setup after_releases (released row) arms) row)
+      looking setup after_releases (released row) (is_idle (released row)) (arms_of setup row) ≡ halted
+      (aimed_at (target_for setup after_releases (released row) arms) row)
   released_looks row aim arms armed has_arms = by row.attack row.motion (arms_of setup row) armed has_arms
     where
       by : (a : Option Aim) (m : Option Motion) (o : Option Arms) → a ≡ Some aim → o ≡ Some arms →
@@ -145,10 +137,15 @@ module _ (setup : Setup) (state : State) where
           halted (aimed_at (target_for setup after_releases (released (record row { attack = a; motion = m })) arms) (record row { attack = a; motion = m }))
       by None m o e f = absurd (cc)
       by (Some aim_b) m None e f = absurd (cc)
-      by (Some aim_b) None (Some arms_b) e f = let same : arms_b ≡ arms = cc in ap (λ (n : Arms). aimed_at (target_for setup after_releases (released (record row { attack = Some aim_b; motion = None })) n) (released (record row { attack = Some aim_b; motion = None }))) same
-      by (Some aim_b) (Some motion) (Some arms_b) e f = let same : arms_b ≡ arms = cc in ap (λ (n : Arms). aimed_at (target_for setup after_releases (released (record row { attack = Some aim_b; motion = Some motion })) n) (released (record row { attack = Some aim_b; motion = Some motion }))) same
+      by (Some aim_b) None (Some arms_b) e f = let same : arms_b ≡ arms = cc in
+          ap (λ (n : Arms). aimed_at (target_for setup after_releases (released (record row { attack = Some aim_b; motion = None })) n)
+          (released (record row { attack = Some aim_b; motion = None }))) same
+      by (Some aim_b) (Some motion) (Some arms_b) e f = let same : arms_b ≡ arms = cc in
+          ap (λ (n : Arms). aimed_at (target_for setup after_releases (released (record row { attack = Some aim_b; motion = Some motion })) n)
+          (released (record row { attack = Some aim_b; motion = Some motion }))) same
 
-  module _ (valid : IsLooselyValid setup state) (row : Row) (t : Template) (known : template_of setup row ≡ Some t) (v : IsValidRow 0 setup state.rows row t) where
+  module _ (valid : IsLooselyValid setup state) (row : Row) (t : Template) (known : template_of setup row ≡ Some t)
+      (v : IsValidRow 0 setup state.rows row t) where
     next_is_target : IsTarget state.rows row (next_target setup state row (arms_of setup row))
     next_is_target = by (arms_of setup row)
       where
@@ -172,18 +169,22 @@ module _ (setup : Setup) (state : State) where
       where
         by : (friend idle : Bool) → lets_go setup row (row_of state (target_of row)) ≡ friend → is_idle row ≡ idle →
             set_by_all (aim_changes_by friend idle (next_target setup state row (arms_of setup row)) row) row ≡
-            looking setup after_releases (cond friend (released row) row) (is_idle (cond friend (released row) row)) (arms_of setup (cond friend (released row) row))
+            looking setup after_releases (cond friend (released row) row) (is_idle (cond friend (released row) row))
+            (arms_of setup (cond friend (released row) row))
         by true idle e f =
             let (aim, attacks) = loosing_armed valid row e in
             let a = armed 0 setup state.rows row t known v aim attacks in
             let free : freed row ≡ released row = ap (λ (b : Bool). cond b (released row) row) e in
-            let found : target_for setup after_releases (released row) a.arms ≡ target_for setup state row a.arms = ap (λ (r : Row). target_for setup after_releases r a.arms) (sym free) ∙ target_for-same row a.arms in
-            turn_changes-set (next_target setup state row (arms_of setup row)) row ∙ ap (λ (n : ℕ). halted (aimed_at n row)) (next_is a.arms a.arms_is ∙ sym found) ∙ sym (released_looks row aim a.arms attacks a.arms_is)
+            let found : target_for setup after_releases (released row) a.arms ≡ target_for setup state row a.arms =
+            ap (λ (r : Row). target_for setup after_releases r a.arms) (sym free) ∙ target_for-same row a.arms in
+            turn_changes-set (next_target setup state row (arms_of setup row)) row ∙ ap (λ (n : ℕ). halted (aimed_at n row))
+            (next_is a.arms a.arms_is ∙ sym found) ∙ sym (released_looks row aim a.arms attacks a.arms_is)
         by false true e f =
             let (aim, attacks) = idle_armed row f in
             let a = armed 0 setup state.rows row t known v aim attacks in
             let free : freed row ≡ row = ap (λ (b : Bool). cond b (released row) row) e in
-            let found : target_for setup after_releases row a.arms ≡ target_for setup state row a.arms = ap (λ (r : Row). target_for setup after_releases r a.arms) (sym free) ∙ target_for-same row a.arms in
+            let found : target_for setup after_releases row a.arms ≡ target_for setup state row a.arms =
+            ap (λ (r : Row). target_for setup after_releases r a.arms) (sym free) ∙ target_for-same row a.arms in
             target_changes-set (next_target setup state row (arms_of setup row)) row ∙ ap (λ (n : ℕ). aimed_at n row) (next_is a.arms a.arms_is ∙ sym found) ∙
             sym (ap (λ (b : Bool). looking setup after_releases row b (arms_of setup row)) f ∙ ap (looking setup after_releases row true) a.arms_is)
         by false false e f = sym (ap (λ (b : Bool). looking setup after_releases row b (arms_of setup row)) f)
@@ -192,5 +193,7 @@ pub aim_plan_is : Plans aim_plan aimed
 aim_plan_is setup state valid =
     subst (IsPlanOf setup state (aim_plan setup state)) (sym (aimed-is_map setup state))
     (row_by_row_to setup state (aim_changes_of setup state) (aimed_row setup state) valid.ascending
-    (λ row h. let (t, e, v) = known_row 0 setup state.rows row (all_at (IsKnownRow 0 setup state.rows) state.rows row valid.rows h) in changes_suit setup state valid row t e v)
-    (λ row h. let (t, e, v) = known_row 0 setup state.rows row (all_at (IsKnownRow 0 setup state.rows) state.rows row valid.rows h) in changes_make setup state valid row t e v))
+    (λ row h. let (t, e, v) = known_row 0 setup state.rows row (all_at (IsKnownRow 0 setup state.rows) state.rows row valid.rows h) in
+    changes_suit setup state valid row t e v)
+    (λ row h. let (t, e, v) = known_row 0 setup state.rows row (all_at (IsKnownRow 0 setup state.rows) state.rows row valid.rows h) in
+    changes_make setup state valid row t e v))

@@ -1,19 +1,15 @@
 -- What an answer says of the changes that it has.
-use Rattle.std.proofs.Common.{◌≡◌, List, Result, Ok, sym, subst}
-use Rattle.std.specs.Prelude.{IfOk}
-use Rattle.std.specs.Result.{ForOk}
+use Rattle.std.{proofs.Common.Ok, proofs.Common.Result, specs.Prelude.IfOk, specs.Result.ForOk}
 use Rattle.sim_base.specs.declared.memory.OutOfMemory.{OutOfMemory}
-use Rattle.sim_base.specs.declared.setup.Setup.{Setup}
-use Rattle.sim_base.specs.declared.state.State.{State}
-use Rattle.sim_base.specs.declared.change.Change.{Change}
-use Rattle.sim_plans.specs.PlanLaws.{IsPlanOf}
+use Rattle.sim_plans.proofs.Common.{◌≡◌, List, Change, IsPlanOf, Setup, State, subst, sym}
 
 -- what is said of an answer where it is one
 pub of_answer : (P : List Change → Type 0) (result : Result (List Change) OutOfMemory) (changes : List Change) → result ≡ Ok changes → IfOk result P → P changes
 of_answer P result changes e h = subst (λ (r : Result (List Change) OutOfMemory). IfOk r P) e h
 
 -- changes that are those of a plan are a plan
-pub answered : (result : Result (List Change) OutOfMemory) (setup : Setup) (state after : State) (plan : List Change) → IfOk result (λ changes. changes ≡ plan) → IsPlanOf setup state plan after →
+pub answered : (result : Result (List Change) OutOfMemory) (setup : Setup) (state after : State) (plan : List Change) → IfOk result (λ changes. changes ≡ plan)
+    → IsPlanOf setup state plan after →
     ForOk result (λ changes. IsPlanOf setup state changes after)
 answered result setup state after plan told is =
     λ changes e. subst (λ (cs : List Change). IsPlanOf setup state cs after) (sym (of_answer (λ cs. cs ≡ plan) result changes e told)) is

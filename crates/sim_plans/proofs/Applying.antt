@@ -1,35 +1,18 @@
 -- A change that fits keeps a state loosely valid.
-use Rattle.std.proofs.Common.{◌≡◌, ℕ, ◌<◌, ◌≤◌, true, cond, ℤ, pos, ◌≤ℤ◌, [], ◌∷◌, length, Option, Some, None, refl, sym, ◌∙◌, subst, ⊎_elim, arith, MatchOption}
-use Rattle.std.specs.Prelude.{is_some, IsSome, slice_get, option_and_then, ◌==◌}
-use Rattle.std.proofs.lemmas.Bool.{cond_both, eqb-true}
-use Rattle.std.proofs.lemmas.Option.{slice_get_cases}
-use Rattle.sim_base.specs.declared.place.Point.{Point}
-use Rattle.sim_base.specs.declared.template.Template.{Template}
-use Rattle.sim_base.specs.declared.template.Arms.{Arms}
-use Rattle.sim_base.specs.declared.setup.Setup.{Setup}
-use Rattle.sim_base.specs.declared.state.Motion.{Motion}
-use Rattle.sim_base.specs.declared.state.Aim.{Aim}
-use Rattle.sim_base.specs.declared.state.Row.{Row}
-use Rattle.sim_base.specs.declared.state.State.{State}
-use Rattle.sim_base.specs.declared.change.Change.{Change}
+use Rattle.{sim_plans.specs.PlanLaws.AllFittingKeepLoose, sim_plans.specs.PlanLaws.FittingKeepsLoose, std.proofs.lemmas.Option.slice_get_cases}
+use Rattle.sim_base.specs.Changes.{with_new, with_row}
+use Rattle.sim_laws.proofs.{Removing.removed_is_state, Removing.same_stays, Rows.same_row, Validity.with_new_is_valid}
+use Rattle.sim_plans.proofs.Common.{Fits, found_row, IsInside, IsLooselyValid, IsSetup, IsValidAim, IsValidMotion, IsValidRow, known_template, mapped_is_state}
+use Rattle.sim_plans.proofs.Common.{Option, option_and_then, refl, Aim, apart, applied, arith, Arms, arms_of, Both, both_same, Change, cond_both, eqb-true}
+use Rattle.sim_plans.proofs.Common.{most_of, Motion, OfRow, Point, Row, row_of, Setup, State, Stays, subst, sym, Template, template_of, with_word, ⊎_elim, ◌∙◌}
+use Rattle.sim_plans.proofs.Common.{◌≡◌, ℕ, ◌<◌, ◌≤◌, true, cond, [], ◌∷◌, length, ℤ, pos, ◌≤ℤ◌, is_some, IsSome, ◌==◌, slice_get, MatchOption, Some, None}
 use Rattle.sim_base.specs.declared.change.Change.TheVariants as change
-use Rattle.sim_base.specs.Rows.{row_of, template_of, arms_of}
-use Rattle.sim_base.specs.Limits.{IsSetup}
-use Rattle.sim_base.specs.Validity.{IsInside, IsValidMotion, IsValidAim, IsValidRow, IsLooselyValid, Both}
-use Rattle.sim_base.specs.Changes.{with_row, with_new, applied}
-use Rattle.sim_laws.proofs.Validity.{with_new_is_valid}
-use Rattle.sim_laws.proofs.Rows.{apart, same_row, found_row, both_same}
-use Rattle.sim_laws.proofs.RowWise.{Stays, mapped_is_state}
-use Rattle.sim_laws.proofs.Removing.{same_stays, removed_is_state}
-use Rattle.sim_laws.proofs.Commanding.{known_template}
-use Rattle.sim_laws.proofs.Hitting.{with_word}
-use Rattle.sim_plans.specs.Fits.{most_of, OfRow, Fits}
-use Rattle.sim_plans.specs.PlanLaws.{FittingKeepsLoose, AllFittingKeepLoose}
 
 module _ (setup : Setup) (state : State) (valid : IsLooselyValid setup state) where
   -- the row that a change names, what is asked of it, and that it is the only one
   set_one : (id : ℕ) (P : Row → Type 0) (g : Row → Row) → OfRow state id P →
-      ((row : Row) (t : Template) → row.id ≡ id → P row → template_of setup row ≡ Some t → IsValidRow 0 setup state.rows row t → Stays 0 setup state.rows row (g row) t) →
+      ((row : Row) (t : Template) → row.id ≡ id → P row → template_of setup row ≡ Some t → IsValidRow 0 setup state.rows row t
+      → Stays 0 setup state.rows row (g row) t) →
       IsLooselyValid setup (with_row id g state)
   set_one id P g asked each = by (row_of state id) refl asked
     where
@@ -45,29 +28,61 @@ module _ (setup : Setup) (state : State) (valid : IsLooselyValid setup state) wh
 
   module _ (row : Row) (t : Template) (v : IsValidRow 0 setup state.rows row t) where
     moved_stays : (p : Point) → IsInside setup p → Stays 0 setup state.rows row (record row { at = p }) t
-    moved_stays p inside = record { id = refl; template = refl; valid = record { at = inside; owner = v.owner; health = v.health; motion = v.motion; attack = v.attack } }
+    moved_stays p inside = record {
+      id = refl;
+      template = refl;
+      valid = record { at = inside; owner = v.owner; health = v.health; motion = v.motion; attack = v.attack };
+    }
 
     owned_stays : (owner : ℕ) → owner ≤ setup.players → Stays 0 setup state.rows row (record row { owner = owner }) t
-    owned_stays owner known = record { id = refl; template = refl; valid = record { at = v.at; owner = known; health = v.health; motion = v.motion; attack = v.attack } }
+    owned_stays owner known =
+        record { id = refl; template = refl; valid = record { at = v.at; owner = known; health = v.health; motion = v.motion; attack = v.attack } }
 
     motion_stays : (motion : Motion) → IsSome row.motion → IsValidMotion setup motion → Stays 0 setup state.rows row (record row { motion = Some motion }) t
     motion_stays motion some ok =
-        record { id = refl; template = refl; valid = record { at = v.at; owner = v.owner; health = v.health; motion = by t.speed (sym (both_same (λ m s. IsValidMotion setup m) row.motion t.speed v.motion) ∙ some); attack = v.attack } }
+        record {
+          id = refl;
+          template = refl;
+          valid =
+              record {
+                at = v.at;
+                owner = v.owner;
+                health = v.health;
+                motion =
+                    by t.speed (sym (both_same (λ m s. IsValidMotion setup m) row.motion t.speed v.motion) ∙ some);
+                attack = v.attack;
+              };
+        }
       where
         by : (s : Option ℤ) → is_some s ≡ true → Both (Some motion) s (λ m s. IsValidMotion setup m)
         by None e = absurd (cc)
         by (Some speed) e = ok
 
-    attack_stays : (id : ℕ) (aim : Aim) → row.id ≡ id → template_of setup row ≡ Some t → MatchOption (arms_of setup row) ⊥ (IsValidAim state.rows id aim) → Stays 0 setup state.rows row (record row { attack = Some aim }) t
+    attack_stays : (id : ℕ) (aim : Aim) → row.id ≡ id → template_of setup row ≡ Some t → MatchOption (arms_of setup row) ⊥ (IsValidAim state.rows id aim)
+        → Stays 0 setup state.rows row (record row { attack = Some aim }) t
     attack_stays id aim same known ok =
-        let at_t : MatchOption t.arms ⊥ (IsValidAim state.rows id aim) = subst (λ (o : Option Template). MatchOption (option_and_then (λ (u : Template). u.arms) o) ⊥ (IsValidAim state.rows id aim)) known ok in
-        record { id = refl; template = refl; valid = record { at = v.at; owner = v.owner; health = v.health; motion = v.motion; attack = by t.arms (subst (λ (n : ℕ). MatchOption t.arms ⊥ (IsValidAim state.rows n aim)) (sym same) at_t) } }
+        let at_t : MatchOption t.arms ⊥ (IsValidAim state.rows id aim) =
+        subst (λ (o : Option Template). MatchOption (option_and_then (λ (u : Template). u.arms) o) ⊥ (IsValidAim state.rows id aim)) known ok in
+        record {
+          id = refl;
+          template = refl;
+          valid =
+              record {
+                at = v.at;
+                owner = v.owner;
+                health = v.health;
+                motion = v.motion;
+                attack =
+                    by t.arms (subst (λ (n : ℕ). MatchOption t.arms ⊥ (IsValidAim state.rows n aim)) (sym same) at_t);
+              };
+        }
       where
         by : (b : Option Arms) → MatchOption b ⊥ (IsValidAim state.rows row.id aim) → Both (Some aim) b (IsValidAim state.rows row.id)
         by None h = absurd h
         by (Some arms) h = h
 
-    health_stays : (health : ℤ) → template_of setup row ≡ Some t → MatchOption (most_of setup row) ⊥ (λ most. (pos 0 ≤ℤ health) × (health ≤ℤ most)) → Stays 0 setup state.rows row (record row { health = Some health }) t
+    health_stays : (health : ℤ) → template_of setup row ≡ Some t → MatchOption (most_of setup row) ⊥ (λ most. (pos 0 ≤ℤ health) × (health ≤ℤ most))
+        → Stays 0 setup state.rows row (record row { health = Some health }) t
     health_stays health known ok =
         record {
           id = refl;
@@ -75,7 +90,8 @@ module _ (setup : Setup) (state : State) (valid : IsLooselyValid setup state) wh
           valid = record {
             at = v.at;
             owner = v.owner;
-            health = by t.health (subst (λ (o : Option Template). MatchOption (option_and_then (λ (u : Template). u.health) o) ⊥ (λ most. (pos 0 ≤ℤ health) × (health ≤ℤ most))) known ok);
+            health = by t.health (subst (λ (o : Option Template). MatchOption (option_and_then (λ (u : Template). u.health) o) ⊥
+                (λ most. (pos 0 ≤ℤ health) × (health ≤ℤ most))) known ok);
             motion = v.motion;
             attack = v.attack;
           };
@@ -90,25 +106,37 @@ module _ (setup : Setup) (state : State) (valid : IsLooselyValid setup state) wh
     fitting_keeps (change.Move id p) fit =
         set_one id (λ row. IsSome row.motion × IsInside setup p) (λ row. record row { at = p }) fit (λ row t same h known v. moved_stays row t v p h.1)
     fitting_keeps (change.Motion id motion) fit =
-        set_one id (λ row. IsSome row.motion × IsValidMotion setup motion) (λ row. record row { motion = Some motion }) fit (λ row t same h known v. motion_stays row t v motion h.0 h.1)
+        set_one id (λ row. IsSome row.motion × IsValidMotion setup motion) (λ row. record row { motion = Some motion }) fit
+        (λ row t same h known v. motion_stays row t v motion h.0 h.1)
     fitting_keeps (change.Attack id aim) fit =
         set_one id (λ row. IsSome row.attack × MatchOption (arms_of setup row) ⊥ (IsValidAim state.rows id aim)) (λ row. record row { attack = Some aim }) fit
         (λ row t same h known v. attack_stays row t v id aim same known h.1)
     fitting_keeps (change.Health id health) fit =
-        set_one id (λ row. IsSome row.health × MatchOption (most_of setup row) ⊥ (λ most. (pos 0 ≤ℤ health) × (health ≤ℤ most))) (λ row. record row { health = Some health }) fit
+        set_one id (λ row. IsSome row.health × MatchOption (most_of setup row) ⊥ (λ most. (pos 0 ≤ℤ health) × (health ≤ℤ most)))
+        (λ row. record row { health = Some health }) fit
         (λ row t same h known v. health_stays row t v health known h.1)
-    fitting_keeps (change.Owner id owner) fit = set_one id (λ row. owner ≤ setup.players) (λ row. record row { owner = owner }) fit (λ row t same h known v. owned_stays row t v owner h)
+    fitting_keeps (change.Owner id owner) fit = set_one id (λ row. owner ≤ setup.players) (λ row. record row { owner = owner }) fit
+        (λ row t same h known v. owned_stays row t v owner h)
     fitting_keeps (change.Remove id) fit = removed_is_state 0 setup state id valid
     fitting_keeps (change.Create number p owner) fit =
         ⊎_elim
         (λ (inside : (t : Template) × (number < length setup.templates) × (slice_get setup.templates number ≡ Some t) × (_)).
         subst (λ (o : Option Template). IsLooselyValid setup (with_new number p owner o state)) (sym inside.2)
-        (with_new_is_valid 0 setup state number p owner inside.0 valid (record { low = omega arith; inside = fit.1; known_owner = fit.2 }) inside.2 (known_template setup number inside.0 limits inside.2) fit.3 fit.4))
+        (with_new_is_valid 0 setup state number p owner inside.0 valid (record { low = omega arith; inside = fit.1; known_owner = fit.2 }) inside.2
+        (known_template setup number inside.0 limits inside.2) fit.3 fit.4))
         (λ past. absurd (omega (arith, fit.0, past.0)))
         ((slice_get_cases setup.templates number).1)
     fitting_keeps (change.Word word) fit = with_word 0 setup state word fit valid
     fitting_keeps change.Tick fit =
-        record { turn = omega (arith, fit); next = valid.next; word = valid.word; few = valid.few; ascending = valid.ascending; ids = valid.ids; rows = valid.rows }
+        record {
+          turn = omega (arith, fit);
+          next = valid.next;
+          word = valid.word;
+          few = valid.few;
+          ascending = valid.ascending;
+          ids = valid.ids;
+          rows = valid.rows;
+        }
 
 pub fitting_keeps_loose : FittingKeepsLoose
 fitting_keeps_loose setup state c limits valid fit = fitting_keeps setup state valid limits c fit

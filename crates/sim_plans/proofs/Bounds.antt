@@ -1,24 +1,10 @@
 -- Points of a valid state lie on the largest ground, and arms of a match are within their limits.
-use Rattle.std.proofs.Common.{◌≡◌, ℕ, ◌*◌, ◌<◌, ◌≤◌, true, ℤ, pos, ◌≤ℤ◌, ◌<ℤ◌, int_le, int_lt, List, Option, Some, None, refl, subst, arith, All}
-use Rattle.std.specs.Prelude.{IfSome, slice_get, option_and_then}
-use Rattle.std.proofs.lemmas.Bool.{and_parts}
-use Rattle.std.proofs.lemmas.List.Elements.{All-weaker}
-use Rattle.std.proofs.lemmas.Int.{ints}
-use Rattle.sim_base.specs.declared.place.Point.{Point}
-use Rattle.sim_base.specs.declared.template.Template.{Template}
-use Rattle.sim_base.specs.declared.template.Arms.{Arms}
-use Rattle.sim_base.specs.declared.setup.Setup.{Setup}
-use Rattle.sim_base.specs.declared.state.Row.{Row}
-use Rattle.sim_base.specs.declared.state.State.{State}
-use Rattle.sim_base.specs.Places.{Size, IsPlaced, is_within, is_inside}
-use Rattle.sim_base.specs.Steps.{Field}
-use Rattle.sim_base.specs.WayOf.{way_of}
-use Rattle.sim_base.specs.Rows.{arms_of, row_of, template_of, size_of}
-use Rattle.sim_base.specs.Limits.{IsSetup, IsArms}
-use Rattle.sim_base.specs.Validity.{IsInside, IsKnownRow, IsLooselyValid}
+use Rattle.std.{proofs.Common.◌<ℤ◌, proofs.Common.int_lt, proofs.Common.int_le, specs.Prelude.IfSome}
+use Rattle.sim_base.specs.{Limits.IsArms, Places.is_within, Places.IsPlaced, Places.Size, Steps.Field}
 use Rattle.sim_laws.proofs.WayInside.{inside-on_ground, way_of-inside}
-use Rattle.sim_laws.proofs.Rows.{all_at, known_row, found_row}
-use Rattle.sim_laws.proofs.Commanding.{known_template}
+use Rattle.sim_plans.proofs.Common.{all_at, and_parts, arith, Arms, arms_of, found_row, ints, is_inside, IsInside, IsKnownRow, IsLooselyValid, IsSetup}
+use Rattle.sim_plans.proofs.Common.{known_row, known_template, Point, Row, row_of, Setup, size_of, State, subst, Template, template_of, way_of}
+use Rattle.sim_plans.proofs.Common.{◌≡◌, ℕ, ◌*◌, ◌<◌, ◌≤◌, true, List, ℤ, pos, ◌≤ℤ◌, slice_get, Some, None, All, Option, option_and_then, refl, All-weaker}
 use Rattle.sim_plans.specs.Sizes.{IsCoordinate, IsGround}
 
 coordinate : (raw : ℤ) (cells : ℕ) → cells ≤ 256 → is_within raw cells ≡ true → IsCoordinate raw
@@ -42,7 +28,8 @@ pub placed : (setup : Setup) (p : Point) → IsSetup setup → IsInside setup p 
 placed setup p limits inside = placed_in (size_of setup.land) p (ground setup limits) inside
 
 -- the points of a way
-pub way_placed : (field : Field) (from goal : Point) → IsGround field.size → is_inside field.size from ≡ true → is_inside field.size goal ≡ true → All IsPlaced (way_of field from goal).points
+pub way_placed : (field : Field) (from goal : Point) → IsGround field.size → is_inside field.size from ≡ true → is_inside field.size goal ≡ true
+    → All IsPlaced (way_of field from goal).points
 way_placed field from goal small in_from in_goal =
     All-weaker (λ (p : Point). is_inside field.size p ≡ true) IsPlaced (λ p h. placed_in field.size p small h) (way_of field from goal).points
     (way_of-inside field from goal (inside-on_ground field.size from in_from) in_goal)
@@ -57,7 +44,8 @@ found_inside setup state id row valid e =
 pub row_placed : (setup : Setup) (rows : List Row) (row : Row) → IsSetup setup → IsKnownRow 0 setup rows row → IsPlaced row.at
 row_placed setup rows row limits known = let (t, e, v) = known_row 0 setup rows row known in placed setup row.at limits v.at
 
-pub found_placed : (setup : Setup) (state : State) (id : ℕ) (row : Row) → IsSetup setup → IsLooselyValid setup state → row_of state id ≡ Some row → IsPlaced row.at
+pub found_placed : (setup : Setup) (state : State) (id : ℕ) (row : Row) → IsSetup setup → IsLooselyValid setup state → row_of state id ≡ Some row
+    → IsPlaced row.at
 found_placed setup state id row limits valid e =
     let (h, same) = found_row state id row e in
     row_placed setup state.rows row limits (all_at (IsKnownRow 0 setup state.rows) state.rows row valid.rows h)
@@ -70,7 +58,8 @@ arms_limited setup row arms limits = by (template_of setup row) refl
     by (Some t) e f = let h = known_template setup row.template t limits e in subst (λ (o : Option Arms). IfSome o IsArms) f h.arms
 
 -- the owner of a row that is found has a bit in a mask
-pub found_owned : (setup : Setup) (state : State) (id : ℕ) (row : Row) → IsSetup setup → IsLooselyValid setup state → row_of state id ≡ Some row → row.owner < 32
+pub found_owned : (setup : Setup) (state : State) (id : ℕ) (row : Row) → IsSetup setup → IsLooselyValid setup state → row_of state id ≡ Some row
+    → row.owner < 32
 found_owned setup state id row limits valid e =
     let (h, same) = found_row state id row e in
     let (t, k, v) = known_row 0 setup state.rows row (all_at (IsKnownRow 0 setup state.rows) state.rows row valid.rows h) in

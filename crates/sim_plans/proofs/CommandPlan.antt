@@ -1,48 +1,27 @@
 -- The plan of a command: its changes fit and give the command, and each names a row of the commander or makes one for him.
-use Rattle.std.proofs.Common.{◌≡◌, ℕ, ◌≤◌, Bool, true, false, cond, List, [], ◌∷◌, length, map, filter, Option, Some, None, refl, sym, ap, ◌∙◌, subst, ⊎_elim, inl, inr, arith, All, MatchOption, flat_map}
-use Rattle.std.specs.Prelude.{is_some, slice_get, ◌==◌, ◌&&◌, nat_lt}
-use Rattle.std.specs.List.{list_any}
-use Rattle.std.proofs.lemmas.Bool.{cond_both, and_parts, eqb-true, ltb-true, cases_Bool}
-use Rattle.std.proofs.lemmas.Option.{slice_get_within}
-use Rattle.std.proofs.lemmas.List.Elements.{All-nil, All-cons, All-append, All-weaker}
-use Rattle.sim_base.specs.declared.place.Point.{Point}
-use Rattle.sim_base.specs.declared.place.Cell.{Cell}
-use Rattle.sim_base.specs.declared.template.Template.{Template}
-use Rattle.sim_base.specs.declared.command.Command.{Command}
-use Rattle.sim_base.specs.declared.command.Command.TheVariants.{Walk, Stop, Attack, Delete, Place, Train, Resign}
-use Rattle.sim_base.specs.declared.setup.Setup.{Setup}
-use Rattle.sim_base.specs.declared.state.Motion.{Motion}
-use Rattle.sim_base.specs.declared.state.Motion.TheVariants.{Going}
-use Rattle.sim_base.specs.declared.state.Aim.{Aim}
-use Rattle.sim_base.specs.declared.state.Row.{Row}
-use Rattle.sim_base.specs.declared.state.State.{State}
-use Rattle.sim_base.specs.declared.change.Change.{Change}
+use Rattle.std.{proofs.lemmas.Bool.cases_Bool, proofs.lemmas.Bool.ltb-true, proofs.lemmas.Option.slice_get_within, specs.Prelude.nat_lt}
+use Rattle.sim_base.specs.{Changes.created, Filters.spot, Places.centre_of, declared.command.Command.Command, declared.place.Cell.Cell}
+use Rattle.sim_base.specs.Commands.{commanded_by, has_room, is_enemy, is_ordered, is_placeable, placed_on, sent, set_on, stopped, trained, trains, with_ordered}
+use Rattle.sim_base.specs.declared.command.Command.TheVariants.{Attack, Delete, Place, Resign, Stop, Train, Walk}
+use Rattle.sim_laws.proofs.{Members.Has-of_map, Rows.row_found}
+use Rattle.sim_laws.proofs.Commanding.{enemy_is_target, enemy_row, middle_inside, placeable, spot_on_ground, trained_template}
+use Rattle.sim_plans.proofs.{RemovePlan.remove_plan, RowByRow.row_by_row_to}
+use Rattle.sim_plans.proofs.Common.{All, filter, flat_map, Option, refl, Aim, All-append, All-cons, All-nil, All-weaker, all_at, and_parts, ap, apart, arith}
+use Rattle.sim_plans.proofs.Common.{Change, cond_both, eqb-true, Going, Has, Has-of_filter, id_of, inl, inr, is_inside, IsInside, IsKnownRow, IsLooselyValid}
+use Rattle.sim_plans.proofs.Common.{IsOwnChange, IsPlanOf, IsSetup, IsTarget, IsValidRow, known_row, list_any, Motion, OfRow, Point, Row, row_of, set_by_all}
+use Rattle.sim_plans.proofs.Common.{Setup, size_of, stance_changes, State, subst, Suits, sym, Template, template_of, ⊎_elim, ◌∙◌}
+use Rattle.sim_plans.proofs.Common.{◌≡◌, ℕ, ◌≤◌, Bool, true, false, cond, ◌&&◌, List, [], ◌∷◌, map, length, is_some, ◌==◌, slice_get, MatchOption, Some, None}
+use Rattle.sim_plans.proofs.Suiting.{motion_suits, one_suits, stance_changes-set, stance_changes_suit, stand_changes-set, stand_changes_suit}
+use Rattle.sim_plans.specs.{CommandPlans.stop_changes, CommandPlans.train_changes, PlanLaws.CommandIsOwn, PlanLaws.CommandIsPlanned}
+use Rattle.sim_plans.specs.CommandPlans.{command_plan_by, ordered_changes, place_changes, sent_changes, sent_changes_by, set_on_changes, set_on_changes_by}
 use Rattle.sim_base.specs.declared.change.Change.TheVariants as change
-use Rattle.sim_base.specs.Places.{is_inside, centre_of}
-use Rattle.sim_base.specs.Limits.{IsSetup}
-use Rattle.sim_base.specs.Rows.{id_of, row_of, template_of, size_of}
-use Rattle.sim_base.specs.Filters.{spot}
-use Rattle.sim_base.specs.Validity.{IsInside, IsValidRow, IsKnownRow, IsLooselyValid}
-use Rattle.sim_base.specs.Changes.{created}
-use Rattle.sim_base.specs.Commands.{is_ordered, with_ordered, sent, stopped, set_on, is_enemy, has_room, is_placeable, trains, placed_on, trained, commanded_by}
-use Rattle.sim_laws.proofs.Members.{Has, Has-of_map}
-use Rattle.sim_laws.proofs.Rows.{all_at, Has-of_filter, known_row, apart, row_found}
-use Rattle.sim_laws.proofs.Removing.{IsTarget}
-use Rattle.sim_laws.proofs.Commanding.{middle_inside, spot_on_ground, enemy_row, enemy_is_target, placeable, trained_template}
-use Rattle.sim_plans.specs.Fits.{OfRow}
-use Rattle.sim_plans.specs.RowPlans.{stance_changes}
-use Rattle.sim_plans.specs.RowChanges.{set_by_all, Suits}
-use Rattle.sim_plans.specs.CommandPlans.{ordered_changes, sent_changes_by, sent_changes, stop_changes, set_on_changes_by, set_on_changes, place_changes, train_changes, command_plan_by}
-use Rattle.sim_plans.specs.PlanLaws.{IsPlanOf, IsOwnChange, CommandIsPlanned, CommandIsOwn}
-use Rattle.sim_plans.proofs.RowByRow.{row_by_row_to}
-use Rattle.sim_plans.proofs.Suiting.{one_suits, stance_changes-set, stand_changes-set, stance_changes_suit, stand_changes_suit, motion_suits}
-use Rattle.sim_plans.proofs.RemovePlan.{remove_plan}
 
 All-flat_map : {X Y : Type 0} (P : Y → Type 0) (f : X → List Y) (xs : List X) → ((x : X) → Has xs x → All P (f x)) → All P (flat_map f xs)
 All-flat_map P f [] each = All-nil P
 All-flat_map P f (x ∷ xs) each = All-append P (f x) (flat_map f xs) (each x (inl refl)) (All-flat_map P f xs (λ y h. each y (inr h)))
 
-module _ (setup : Setup) (limits : IsSetup setup) (state : State) (valid : IsLooselyValid setup state) (player : ℕ) (known_player : player ≤ setup.players) where
+module _ (setup : Setup) (limits : IsSetup setup) (state : State) (valid : IsLooselyValid setup state) (player : ℕ)
+    (known_player : player ≤ setup.players) where
   -- the changes give this state, and are the player's own
   record IsOwnPlan (changes : List Change) (after : State) : Type 0 where
     plan : IsPlanOf setup state changes after
@@ -61,7 +40,8 @@ module _ (setup : Setup) (limits : IsSetup setup) (state : State) (valid : IsLoo
     where
       of_row : (id : ℕ) → id ≡ row.id → OfRow state id (λ r. r.owner ≡ player)
       of_row id e =
-          subst (λ (o : Option Row). MatchOption o ⊥ (λ r. r.owner ≡ player)) (sym (ap (row_of state) e ∙ row_found state row (apart state.rows valid.ascending) h)) own
+          subst (λ (o : Option Row). MatchOption o ⊥ (λ r. r.owner ≡ player))
+          (sym (ap (row_of state) e ∙ row_found state row (apart state.rows valid.ascending) h)) own
 
       by : (c : Change) → Suits setup state.rows row c → IsOwnChange state player c
       by (change.Move id p) s = of_row id s.0
@@ -76,19 +56,22 @@ module _ (setup : Setup) (limits : IsSetup setup) (state : State) (valid : IsLoo
 
   -- changes of rows of the player that pass a test
   own_rows : (test : Row → Bool) (changes : Row → List Change) (f : Row → Row) → ((row : Row) → test row ≡ true → row.owner ≡ player) →
-      ((row : Row) (t : Template) → Has state.rows row → row.owner ≡ player → template_of setup row ≡ Some t → IsValidRow 0 setup state.rows row t → All (Suits setup state.rows row) (changes row)) →
+      ((row : Row) (t : Template) → Has state.rows row → row.owner ≡ player → template_of setup row ≡ Some t → IsValidRow 0 setup state.rows row t
+      → All (Suits setup state.rows row) (changes row)) →
       ((row : Row) → set_by_all (changes row) row ≡ f row) →
       IsOwnPlan (flat_map (λ row. cond (test row) (changes row) []) state.rows) (record state { rows = map (λ row. cond (test row) (f row) row) state.rows })
   own_rows test changes f owned suits make =
       record {
-        plan = row_by_row_to setup state (λ (row : Row). cond (test row) (changes row) []) (λ (row : Row). cond (test row) (f row) row) valid.ascending all_suit (λ row h. made row (test row));
+        plan = row_by_row_to setup state (λ (row : Row). cond (test row) (changes row) []) (λ (row : Row). cond (test row) (f row) row) valid.ascending all_suit
+            (λ row h. made row (test row));
         own = All-flat_map (IsOwnChange state player) (λ (row : Row). cond (test row) (changes row) []) state.rows (λ row h. all_own row h (test row) refl);
       }
     where
       all_suit : (row : Row) → Has state.rows row → All (Suits setup state.rows row) (cond (test row) (changes row) [])
       all_suit row h =
           let (t, e, v) = known_row 0 setup state.rows row (all_at (IsKnownRow 0 setup state.rows) state.rows row valid.rows h) in
-          cond_both (test row) (changes row) [] (All (Suits setup state.rows row)) (λ holds. suits row t h (owned row holds) e v) (λ fails. All-nil (Suits setup state.rows row))
+          cond_both (test row) (changes row) [] (All (Suits setup state.rows row)) (λ holds. suits row t h (owned row holds) e v)
+          (λ fails. All-nil (Suits setup state.rows row))
 
       made : (row : Row) (b : Bool) → set_by_all (cond b (changes row) []) row ≡ cond b (f row) row
       made row true = make row
@@ -101,11 +84,13 @@ module _ (setup : Setup) (limits : IsSetup setup) (state : State) (valid : IsLoo
           All-weaker (Suits setup state.rows row) (IsOwnChange state player) (suits_own row h (owned row e)) (changes row) (suits row t h (owned row e) known v)
 
   ordered_plan : (ids : List ℕ) (changes : Row → List Change) (f : Row → Row) →
-      ((row : Row) (t : Template) → Has state.rows row → row.owner ≡ player → template_of setup row ≡ Some t → IsValidRow 0 setup state.rows row t → All (Suits setup state.rows row) (changes row)) →
+      ((row : Row) (t : Template) → Has state.rows row → row.owner ≡ player → template_of setup row ≡ Some t → IsValidRow 0 setup state.rows row t
+      → All (Suits setup state.rows row) (changes row)) →
       ((row : Row) → set_by_all (changes row) row ≡ f row) → IsOwnPlan (ordered_changes player ids changes state) (with_ordered player ids f state)
   ordered_plan ids changes f suits make =
       own_rows (is_ordered player ids) changes f
-      (λ row holds. let (own, named) = and_parts (row.owner == player) (list_any (λ (id : ℕ). id == row.id) ids) holds in eqb-true row.owner player own) suits make
+      (λ row holds. let (own, named) = and_parts (row.owner == player) (list_any (λ (id : ℕ). id == row.id) ids) holds in eqb-true row.owner player own) suits
+      make
 
   -- ---- walk
 
@@ -116,7 +101,8 @@ module _ (setup : Setup) (limits : IsSetup setup) (state : State) (valid : IsLoo
       by None = refl
       by (Some motion) = stance_changes-set 0 false (record row { motion = Some (Going p [] false) })
 
-  sent_suit : (p : Point) → IsInside setup p → (row : Row) (t : Template) → template_of setup row ≡ Some t → IsValidRow 0 setup state.rows row t → All (Suits setup state.rows row) (sent_changes p row)
+  sent_suit : (p : Point) → IsInside setup p → (row : Row) (t : Template) → template_of setup row ≡ Some t → IsValidRow 0 setup state.rows row t
+      → All (Suits setup state.rows row) (sent_changes p row)
   sent_suit p inside row t known v = by row.motion refl
     where
       by : (m : Option Motion) → row.motion ≡ m → All (Suits setup state.rows row) (sent_changes_by p row.id m row.attack)
@@ -131,11 +117,13 @@ module _ (setup : Setup) (limits : IsSetup setup) (state : State) (valid : IsLoo
   set_on_make : (target : ℕ) (row : Row) → set_by_all (set_on_changes target row) row ≡ set_on target row
   set_on_make target row = by row.attack
     where
-      by : (a : Option Aim) → set_by_all (set_on_changes_by target (record row { attack = a }) a) (record row { attack = a }) ≡ set_on target (record row { attack = a })
+      by : (a : Option Aim) → set_by_all (set_on_changes_by target (record row { attack = a }) a) (record row { attack = a }) ≡ set_on target
+          (record row { attack = a })
       by None = refl
       by (Some aim) = stand_changes-set target false (record row { attack = Some aim })
 
-  set_on_suit : (target : ℕ) (row : Row) (t : Template) → IsTarget state.rows row target → template_of setup row ≡ Some t → IsValidRow 0 setup state.rows row t → All (Suits setup state.rows row) (set_on_changes target row)
+  set_on_suit : (target : ℕ) (row : Row) (t : Template) → IsTarget state.rows row target → template_of setup row ≡ Some t → IsValidRow 0 setup state.rows row t
+      → All (Suits setup state.rows row) (set_on_changes target row)
   set_on_suit target row t may known v = by row.attack
     where
       by : (a : Option Aim) → All (Suits setup state.rows row) (set_on_changes_by target row a)
@@ -151,7 +139,10 @@ module _ (setup : Setup) (limits : IsSetup setup) (state : State) (valid : IsLoo
       let (few, free) = and_parts (nat_lt (length state.rows) 4096) (nat_lt state.next 0x20000000) first in
       record {
         plan = record {
-          fit = ((slice_get_within setup.templates number t e, inside, known_player, ltb-true (length state.rows) 4096 few, ltb-true state.next 0x20000000 free), tt);
+          fit = (
+            (slice_get_within setup.templates number t e, inside, known_player, ltb-true (length state.rows) 4096 few, ltb-true state.next 0x20000000 free),
+            tt,
+          );
           give = refl;
         };
         own = All-cons (IsOwnChange state player) (change.Create number p player) [] refl (All-nil (IsOwnChange state player));
@@ -171,10 +162,12 @@ module _ (setup : Setup) (limits : IsSetup setup) (state : State) (valid : IsLoo
       let c = building.owner == player && trains (template_of setup building) number (slice_get setup.templates number) && has_room setup state player in
       ⊎_elim (λ (holds : c ≡ true). rw holds (allowed holds)) (λ (fails : c ≡ false). rw fails nothing) (cases_Bool c)
     where
-      allowed : (building.owner == player && trains (template_of setup building) number (slice_get setup.templates number) && has_room setup state player) ≡ true →
+      allowed : (building.owner == player && trains (template_of setup building) number (slice_get setup.templates number) && has_room setup state player) ≡
+          true →
           IsOwnPlan (place_changes player number (spot setup state building.at)) (placed_on setup state player number (spot setup state building.at))
       allowed holds =
-          let (first, room) = and_parts (building.owner == player && trains (template_of setup building) number (slice_get setup.templates number)) (has_room setup state player) holds in
+          let (first, room) = and_parts (building.owner == player && trains (template_of setup building) number (slice_get setup.templates number))
+          (has_room setup state player) holds in
           let (own, can) = and_parts (building.owner == player) (trains (template_of setup building) number (slice_get setup.templates number)) first in
           let (t, e) = trained_template 0 setup limits state valid player (template_of setup building) number (slice_get setup.templates number) can in
           place_plan number t e room building.at
@@ -187,9 +180,11 @@ module _ (setup : Setup) (limits : IsSetup setup) (state : State) (valid : IsLoo
       let (k, passes) = Has-of_filter (is_ordered player ids) state.rows row m in
       let (own, named) = and_parts (row.owner == player) (list_any (λ (n : ℕ). n == row.id) ids) passes in
       subst (λ (n : ℕ). OfRow state n (λ r. r.owner ≡ player)) e
-      (subst (λ (o : Option Row). MatchOption o ⊥ (λ r. r.owner ≡ player)) (sym (row_found state row (apart state.rows valid.ascending) k)) (eqb-true row.owner player own))
+      (subst (λ (o : Option Row). MatchOption o ⊥ (λ r. r.owner ≡ player)) (sym (row_found state row (apart state.rows valid.ascending) k))
+      (eqb-true row.owner player own))
 
-  all_removals : (ids : List ℕ) → ((id : ℕ) → Has ids id → IsOwnChange state player (change.Remove id)) → All (IsOwnChange state player) (map (λ id. change.Remove id) ids)
+  all_removals : (ids : List ℕ) → ((id : ℕ) → Has ids id → IsOwnChange state player (change.Remove id))
+      → All (IsOwnChange state player) (map (λ id. change.Remove id) ids)
   all_removals [] each = All-nil (IsOwnChange state player)
   all_removals (id ∷ ids) each =
       All-cons (IsOwnChange state player) (change.Remove id) (map (λ id. change.Remove id) ids) (each id (inl refl)) (all_removals ids (λ n h. each n (inr h)))
@@ -200,18 +195,23 @@ module _ (setup : Setup) (limits : IsSetup setup) (state : State) (valid : IsLoo
   planned (Walk ids p) =
       either (is_inside (size_of setup.land) p) (ordered_changes player ids (sent_changes p) state) (with_ordered player ids (sent p) state)
       (λ inside. ordered_plan ids (sent_changes p) (sent p) (λ row t h own e v. sent_suit p inside row t e v) (sent_make p))
-  planned (Stop ids) = ordered_plan ids stop_changes stopped (λ row t h own e v. stand_changes_suit 0 setup state.rows row t e v 0 true (inl refl)) (stand_changes-set 0 true)
+  planned (Stop ids) = ordered_plan ids stop_changes stopped (λ row t h own e v. stand_changes_suit 0 setup state.rows row t e v 0 true (inl refl))
+      (stand_changes-set 0 true)
   planned (Attack ids target) =
-      either (is_enemy setup player (row_of state target)) (ordered_changes player ids (set_on_changes target) state) (with_ordered player ids (set_on target) state)
+      either (is_enemy setup player (row_of state target)) (ordered_changes player ids (set_on_changes target) state)
+      (with_ordered player ids (set_on target) state)
       (λ holds. ordered_plan ids (set_on_changes target) (set_on target)
-      (λ row t h own e v. set_on_suit target row t (enemy_is_target 0 setup limits state valid player target (enemy_row 0 setup limits state valid player known_player target holds) row h own) e v) (set_on_make target))
+      (λ row t h own e v. set_on_suit target row t
+      (enemy_is_target 0 setup limits state valid player target (enemy_row 0 setup limits state valid player known_player target holds) row h own) e v)
+      (set_on_make target))
   planned (Delete ids) =
       record {
         plan = remove_plan setup state (is_ordered player ids) valid.ascending;
         own = all_removals (map id_of (filter (is_ordered player ids) state.rows)) (delete_own ids);
       }
   planned (Place number p) =
-      either (is_placeable setup state p (slice_get setup.templates number) && has_room setup state player) (change.Create number p player ∷ []) (created setup state number p player)
+      either (is_placeable setup state p (slice_get setup.templates number) && has_room setup state player) (change.Create number p player ∷ [])
+      (created setup state number p player)
       (λ holds. let (can, room) = and_parts (is_placeable setup state p (slice_get setup.templates number)) (has_room setup state player) holds in
       let (t, e, inside) = placeable 0 setup limits state valid player p (slice_get setup.templates number) can in create_plan number p t e inside room)
   planned (Train building number) = train_plan number (row_of state building)

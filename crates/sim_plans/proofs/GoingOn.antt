@@ -1,29 +1,18 @@
 -- A row that goes on to the same goal with as many waypoints as before goes on as it went.
-use Rattle.std.proofs.Common.{◌≡◌, ℕ, suc, ◌-◌, ◌≤◌, Bool, true, false, cond, List, [], ◌∷◌, length, Option, Some, None, refl, sym, ap, ◌∙◌, arith}
-use Rattle.std.specs.Prelude.{◌==◌, nat_le}
-use Rattle.std.specs.Ordering.{int_eq}
-use Rattle.std.proofs.lemmas.Bool.{eqb-true, eq-eqb, and_parts, and_from, both_ways}
-use Rattle.std.proofs.lemmas.Bool.Decides.{Decides-int_eq}
-use Rattle.sim_base.specs.declared.place.Point.{Point}
-use Rattle.sim_base.specs.declared.template.Arms.{Arms}
-use Rattle.sim_base.specs.declared.setup.Setup.{Setup}
-use Rattle.sim_base.specs.declared.state.Motion.{Motion}
-use Rattle.sim_base.specs.declared.state.Motion.TheVariants.{Still, Going}
-use Rattle.sim_base.specs.declared.state.Row.{Row}
-use Rattle.sim_base.specs.declared.state.State.{State}
-use Rattle.sim_base.specs.Numbers.{root}
-use Rattle.sim_base.specs.Places.{square}
-use Rattle.sim_base.specs.WayOf.{way_of}
-use Rattle.sim_base.specs.Filters.{field_of, is_near}
-use Rattle.sim_base.specs.Move.{same_point, headed, chasing, toward, Walked, walked, after_walk, along_found, moved_by}
-use Rattle.sim_plans.specs.RowPlans.{goes_on}
+use Rattle.std.proofs.lemmas.Bool.{and_from, both_ways, Decides.Decides-int_eq}
+use Rattle.sim_base.specs.{Move.after_walk, Move.headed, Move.toward, Move.Walked, Move.walked, Numbers.root}
+use Rattle.sim_plans.proofs.Common.{Row, same_point, Setup, square, State, Still, sym, way_of, ◌∙◌}
+use Rattle.sim_plans.proofs.Common.{and_parts, ap, arith, Arms, chasing, eq-eqb, eqb-true, field_of, goes_on, Going, int_eq, is_near, Motion, moved_by, Point}
+use Rattle.sim_plans.proofs.Common.{◌≡◌, ℕ, suc, ◌-◌, ◌≤◌, Bool, true, false, cond, List, [], ◌∷◌, length, nat_le, ◌==◌, Some, None, Option, refl, along_found}
 
 -- no more waypoints are left than there were
 rest_is_short : (p : Point) (budget : ℕ) (way : List Point) → length (walked p budget way).way ≤ length way
 rest_is_short p budget [] = omega arith
 rest_is_short p budget (q ∷ way) = by (rest_is_short q (budget - root (square p q)) way) (nat_le (root (square p q)) budget)
   where
-    by : length (walked q (budget - root (square p q)) way).way ≤ length way → (b : Bool) → length (cond b (walked q (budget - root (square p q)) way) (record { at = toward p q budget (root (square p q)); way = q ∷ way })).way ≤ suc (length way)
+    by : length (walked q (budget - root (square p q)) way).way ≤ length way → (b : Bool)
+        → length (cond b (walked q (budget - root (square p q)) way) (record { at = toward p q budget (root (square p q)); way = q ∷ way })).way ≤
+        suc (length way)
     by less true = omega arith
     by less false = omega arith
 
@@ -35,12 +24,14 @@ none_reached p budget (q ∷ way) e = by (nat_le (root (square p q)) budget) e
     stop : Walked
     stop = record { at = toward p q budget (root (square p q)); way = q ∷ way }
 
-    by : (b : Bool) → suc (length way) ≡ length (cond b (walked q (budget - root (square p q)) way) stop).way → (cond b (walked q (budget - root (square p q)) way) stop).way ≡ q ∷ way
+    by : (b : Bool) → suc (length way) ≡ length (cond b (walked q (budget - root (square p q)) way) stop).way
+        → (cond b (walked q (budget - root (square p q)) way) stop).way ≡ q ∷ way
     by true e = absurd (omega (arith, rest_is_short q (budget - root (square p q)) way, e))
     by false e = refl
 
 -- a row that goes on keeps its way, whatever it is after the walk
-walked_on : (goal : Point) (way : List Point) (whole : Bool) (rest : List Point) → (length way ≡ length rest → rest ≡ way) → goes_on (Some (Going goal way whole)) (after_walk goal whole rest) ≡ true →
+walked_on : (goal : Point) (way : List Point) (whole : Bool) (rest : List Point) → (length way ≡ length rest → rest ≡ way)
+    → goes_on (Some (Going goal way whole)) (after_walk goal whole rest) ≡ true →
     Going goal way whole ≡ after_walk goal whole rest
 walked_on goal way true [] same e = absurd (cc)
 walked_on goal way false [] same e =
@@ -54,16 +45,19 @@ no_more : (n : ℕ) → (0 == suc n) ≡ true → ⊥
 no_more n e = absurd (omega (arith, eqb-true 0 (suc n) e))
 
 -- one that asked a way has none left only where it must ask again
-asked_on : (goal : Point) (whole : Bool) (rest : List Point) → goes_on (Some (Going goal [] false)) (after_walk goal whole rest) ≡ true → Going goal [] false ≡ after_walk goal whole rest
+asked_on : (goal : Point) (whole : Bool) (rest : List Point) → goes_on (Some (Going goal [] false)) (after_walk goal whole rest) ≡ true
+    → Going goal [] false ≡ after_walk goal whole rest
 asked_on goal true [] e = absurd (cc)
 asked_on goal false [] e = refl
 asked_on goal whole (q ∷ rest) e = let (here, many) = and_parts (same_point goal goal) (0 == suc (length rest)) e in absurd (no_more (length rest) many)
 
 -- one that goes elsewhere does not go on
-turned : (goal to : Point) (way rest : List Point) (whole all : Bool) → same_point goal to ≡ false → goes_on (Some (Going goal way whole)) (after_walk to all rest) ≡ true → ⊥
+turned : (goal to : Point) (way rest : List Point) (whole all : Bool) → same_point goal to ≡ false → goes_on (Some (Going goal way whole))
+    (after_walk to all rest) ≡ true → ⊥
 turned goal to way [] whole true other e = absurd (cc)
 turned goal to way [] whole false other e = let (here, many) = and_parts (same_point goal to) (length way == 0) e in both_ways (same_point goal to) other here
-turned goal to way (q ∷ rest) whole all other e = let (here, many) = and_parts (same_point goal to) (length way == suc (length rest)) e in both_ways (same_point goal to) other here
+turned goal to way (q ∷ rest) whole all other e = let (here, many) = and_parts (same_point goal to) (length way == suc (length rest)) e in
+    both_ways (same_point goal to) other here
 
 -- one that stood still does not go on
 started : (to : Point) (rest : List Point) (all : Bool) → goes_on (Some Still) (after_walk to all rest) ≡ true → Still ≡ after_walk to all rest
@@ -79,7 +73,8 @@ stopped (Going goal way whole) e = absurd (cc)
 pub goes_on_itself : (motion : Motion) → goes_on (Some motion) motion ≡ true
 goes_on_itself Still = refl
 goes_on_itself (Going goal way whole) =
-    and_from (same_point goal goal) (length way == length way) (and_from (int_eq goal.x goal.x) (int_eq goal.z goal.z) ((Decides-int_eq goal.x goal.x).1 refl) ((Decides-int_eq goal.z goal.z).1 refl)) (eq-eqb (length way) (length way) refl)
+    and_from (same_point goal goal) (length way == length way) (and_from (int_eq goal.x goal.x) (int_eq goal.z goal.z) ((Decides-int_eq goal.x goal.x).1 refl)
+    ((Decides-int_eq goal.z goal.z).1 refl)) (eq-eqb (length way) (length way) refl)
 
 -- what is the same as before where it goes on as before
 abbrev Same : Motion → Option Motion → Type 0
@@ -91,10 +86,12 @@ same_by motion new same m e on =
     ap (λ (o : Motion). Some o) (same (ap (goes_on (Some motion)) is ∙ on) ∙ is)
 
 module _ (setup : Setup) (state : State) (row : Row) (budget : ℕ) where
-  found_same : (motion : Motion) (goal : Point) (way : List Point) (whole : Bool) → ((rest : List Point) → goes_on (Some motion) (after_walk goal whole rest) ≡ true → motion ≡ after_walk goal whole rest) →
+  found_same : (motion : Motion) (goal : Point) (way : List Point) (whole : Bool)
+      → ((rest : List Point) → goes_on (Some motion) (after_walk goal whole rest) ≡ true → motion ≡ after_walk goal whole rest) →
       Same motion (along_found row budget goal way whole).motion
   found_same motion goal [] whole same = same_by motion Still (stopped motion)
-  found_same motion goal (q ∷ way) whole same = same_by motion (after_walk goal whole (walked row.at budget (q ∷ way)).way) (same (walked row.at budget (q ∷ way)).way)
+  found_same motion goal (q ∷ way) whole same = same_by motion (after_walk goal whole (walked row.at budget (q ∷ way)).way)
+      (same (walked row.at budget (q ∷ way)).way)
 
   kept_same : (motion : Motion) → Same motion (moved_by setup state row budget motion).motion
   kept_same Still = same_by Still Still (stopped Still)
@@ -112,13 +109,15 @@ module _ (setup : Setup) (state : State) (row : Row) (budget : ℕ) where
       found_same Still to way.points way.whole (λ rest. started to rest way.whole)
   headed_same (Going goal way whole) to = by (same_point goal to) refl
     where
-      by : (b : Bool) → same_point goal to ≡ b → Same (Going goal way whole) (moved_by setup state row budget (cond b (Going goal way whole) (Going to [] false))).motion
+      by : (b : Bool) → same_point goal to ≡ b
+          → Same (Going goal way whole) (moved_by setup state row budget (cond b (Going goal way whole) (Going to [] false))).motion
       by true e = kept_same (Going goal way whole)
       by false e =
           let found = way_of (field_of setup state) row.at to in
           found_same (Going goal way whole) to found.points found.whole (λ rest on. absurd (turned goal to way rest whole found.whole e on))
 
-  pub goes_on_same : (motion : Motion) (target : Option Row) (arms : Option Arms) → Same motion (moved_by setup state row budget (chasing row motion target arms)).motion
+  pub goes_on_same : (motion : Motion) (target : Option Row) (arms : Option Arms)
+      → Same motion (moved_by setup state row budget (chasing row motion target arms)).motion
   goes_on_same motion None None = kept_same motion
   goes_on_same motion None (Some arms) = kept_same motion
   goes_on_same motion (Some target) None = kept_same motion

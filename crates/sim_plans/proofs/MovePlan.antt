@@ -1,29 +1,11 @@
 -- The plan of the phase in which rows move: its changes fit and give the phase.
-use Rattle.std.proofs.Common.{◌≡◌, ℕ, ◌/◌, Bool, true, false, ℤ, unsigned_abs, List, [], ◌∷◌, Option, Some, None, refl, sym, ap, ◌∙◌, subst, All}
-use Rattle.std.specs.Prelude.{is_some}
-use Rattle.std.proofs.lemmas.List.Elements.{All-nil}
-use Rattle.sim_base.specs.declared.place.Point.{Point}
-use Rattle.sim_base.specs.declared.template.Template.{Template}
-use Rattle.sim_base.specs.declared.setup.Setup.{Setup}
-use Rattle.sim_base.specs.declared.state.Motion.{Motion}
-use Rattle.sim_base.specs.declared.state.Motion.TheVariants.{Still, Going}
-use Rattle.sim_base.specs.declared.state.Row.{Row}
-use Rattle.sim_base.specs.declared.state.State.{State}
-use Rattle.sim_base.specs.WayOf.{way_of}
-use Rattle.sim_base.specs.Rows.{row_of, target_of, speed_of, arms_of, template_of}
-use Rattle.sim_base.specs.Filters.{field_of}
-use Rattle.sim_base.specs.Validity.{IsValidMotion, IsValidRow, IsKnownRow, IsLooselyValid, Both}
-use Rattle.sim_base.specs.Move.{along_found, chasing, moved_by, moved_row, moved}
-use Rattle.sim_laws.proofs.Rows.{all_at, known_row, both_same}
-use Rattle.sim_laws.proofs.RowWise.{Stays}
-use Rattle.sim_laws.proofs.Moving.{moved_row_stays}
-use Rattle.sim_plans.specs.RowPlans.{goes_on, step_changes}
-use Rattle.sim_plans.specs.RowChanges.{set_by_all, Suits}
-use Rattle.sim_plans.specs.Plans.{move_changes_by, move_changes_of, move_plan}
-use Rattle.sim_plans.specs.PlanLaws.{Plans}
-use Rattle.sim_plans.proofs.RowByRow.{row_by_row_to}
-use Rattle.sim_plans.proofs.GoingOn.{goes_on_same}
-use Rattle.sim_plans.proofs.Suiting.{step_changes-set, step_changes_suit}
+use Rattle.{sim_base.specs.Move.moved_row, sim_base.specs.Rows.speed_of, sim_plans.specs.Plans.move_changes_by, sim_plans.specs.Plans.move_changes_of}
+use Rattle.{sim_laws.proofs.Moving.moved_row_stays, std.proofs.Common.◌/◌}
+use Rattle.sim_plans.proofs.{GoingOn.goes_on_same, RowByRow.row_by_row_to, Suiting.step_changes-set, Suiting.step_changes_suit}
+use Rattle.sim_plans.proofs.Common.{IsValidRow, known_row, Motion, move_plan, moved, moved_by, Plans, Point, Row, row_of, set_by_all, Setup, State, Stays}
+use Rattle.sim_plans.proofs.Common.{along_found, ap, arms_of, Both, both_same, chasing, field_of, goes_on, Going, IsKnownRow, IsLooselyValid, IsValidMotion}
+use Rattle.sim_plans.proofs.Common.{step_changes, Still, subst, Suits, sym, target_of, Template, template_of, way_of, ◌∙◌}
+use Rattle.sim_plans.proofs.Common.{◌≡◌, ℕ, Bool, true, false, List, [], ◌∷◌, ℤ, is_some, unsigned_abs, Some, None, All, Option, refl, All-nil, all_at}
 
 -- a row that moves changes in its place and its motion alone
 abbrev OnlyMoves : Row → Row → Type 0
@@ -35,11 +17,13 @@ found_moves row budget goal (q ∷ way) whole = refl
 
 moved_by_moves : (setup : Setup) (state : State) (row : Row) (budget : ℕ) (motion : Motion) → OnlyMoves row (moved_by setup state row budget motion)
 moved_by_moves setup state row budget Still = refl
-moved_by_moves setup state row budget (Going goal [] false) = found_moves row budget goal (way_of (field_of setup state) row.at goal).points (way_of (field_of setup state) row.at goal).whole
+moved_by_moves setup state row budget (Going goal [] false) = found_moves row budget goal (way_of (field_of setup state) row.at goal).points
+    (way_of (field_of setup state) row.at goal).whole
 moved_by_moves setup state row budget (Going goal [] true) = refl
 moved_by_moves setup state row budget (Going goal (q ∷ way) whole) = refl
 
-module _ (setup : Setup) (state : State) (valid : IsLooselyValid setup state) (row : Row) (t : Template) (known : template_of setup row ≡ Some t) (v : IsValidRow 0 setup state.rows row t) where
+module _ (setup : Setup) (state : State) (valid : IsLooselyValid setup state) (row : Row) (t : Template) (known : template_of setup row ≡ Some t)
+    (v : IsValidRow 0 setup state.rows row t) where
   abbrev new : Row
   new = moved_row setup state row row.motion (speed_of setup row)
 
@@ -47,7 +31,8 @@ module _ (setup : Setup) (state : State) (valid : IsLooselyValid setup state) (r
   stays = moved_row_stays 0 setup state valid row t known v
 
   can_move : is_some new.motion ≡ is_some row.motion
-  can_move = both_same (λ m s. IsValidMotion setup m) new.motion t.speed stays.valid.motion ∙ sym (both_same (λ m s. IsValidMotion setup m) row.motion t.speed v.motion)
+  can_move = both_same (λ m s. IsValidMotion setup m) new.motion t.speed stays.valid.motion ∙
+      sym (both_same (λ m s. IsValidMotion setup m) row.motion t.speed v.motion)
 
   valid_motion : (motion : Motion) → new.motion ≡ Some motion → IsValidMotion setup motion
   valid_motion motion e = by t.speed (subst (λ (o : Option Motion). Both o t.speed (λ m s. IsValidMotion setup m)) e stays.valid.motion)
@@ -63,25 +48,32 @@ module _ (setup : Setup) (state : State) (valid : IsLooselyValid setup state) (r
       by None s e f = All-nil (Suits setup state.rows row)
       by (Some motion) None e f = All-nil (Suits setup state.rows row)
       by (Some motion) (Some speed) e f =
-          let is : new ≡ moved_row setup state row (Some motion) (Some speed) = ap (λ (o : Option Motion). moved_row setup state row o (speed_of setup row)) e ∙ ap (moved_row setup state row (Some motion)) f in
+          let is : new ≡ moved_row setup state row (Some motion) (Some speed) = ap (λ (o : Option Motion). moved_row setup state row o (speed_of setup row)) e ∙
+          ap (moved_row setup state row (Some motion)) f in
           subst (λ (r : Row). All (Suits setup state.rows row) (step_changes row r)) is
           (step_changes_suit 0 setup state.rows row t known v new can_move stays.valid.at valid_motion (ap is_some e))
 
   changes_make : set_by_all (move_changes_of setup state row) row ≡ new
   changes_make = by row.motion (speed_of setup row) refl refl
     where
-      by : (m : Option Motion) (s : Option ℤ) → row.motion ≡ m → speed_of setup row ≡ s → set_by_all (move_changes_by setup state row m s) row ≡ moved_row setup state row m s
+      by : (m : Option Motion) (s : Option ℤ) → row.motion ≡ m → speed_of setup row ≡ s → set_by_all (move_changes_by setup state row m s) row ≡ moved_row setup
+          state row m s
       by None s e f = refl
       by (Some motion) None e f = refl
       by (Some motion) (Some speed) e f =
-          let is : new ≡ moved_row setup state row (Some motion) (Some speed) = ap (λ (o : Option Motion). moved_row setup state row o (speed_of setup row)) e ∙ ap (moved_row setup state row (Some motion)) f in
-          let same : is_some (moved_row setup state row (Some motion) (Some speed)).motion ≡ is_some row.motion = ap (λ (r : Row). is_some r.motion) (sym is) ∙ can_move in
+          let is : new ≡ moved_row setup state row (Some motion) (Some speed) = ap (λ (o : Option Motion). moved_row setup state row o (speed_of setup row)) e ∙
+          ap (moved_row setup state row (Some motion)) f in
+          let same : is_some (moved_row setup state row (Some motion) (Some speed)).motion ≡ is_some row.motion = ap (λ (r : Row). is_some r.motion) (sym is) ∙
+          can_move in
           step_changes-set row (moved_row setup state row (Some motion) (Some speed)) same
-          (λ m after on. e ∙ goes_on_same setup state row (unsigned_abs speed / 5) motion (row_of state (target_of row)) (arms_of setup row) m after (ap (λ (o : Option Motion). goes_on o m) (sym e) ∙ on)) ∙
+          (λ m after on. e ∙ goes_on_same setup state row (unsigned_abs speed / 5) motion (row_of state (target_of row)) (arms_of setup row) m after
+          (ap (λ (o : Option Motion). goes_on o m) (sym e) ∙ on)) ∙
           moved_by_moves setup state row (unsigned_abs speed / 5) (chasing row motion (row_of state (target_of row)) (arms_of setup row))
 
 pub move_plan_is : Plans move_plan moved
 move_plan_is setup state valid =
     row_by_row_to setup state (move_changes_of setup state) (λ (row : Row). moved_row setup state row row.motion (speed_of setup row)) valid.ascending
-    (λ row h. let (t, e, v) = known_row 0 setup state.rows row (all_at (IsKnownRow 0 setup state.rows) state.rows row valid.rows h) in changes_suit setup state valid row t e v)
-    (λ row h. let (t, e, v) = known_row 0 setup state.rows row (all_at (IsKnownRow 0 setup state.rows) state.rows row valid.rows h) in changes_make setup state valid row t e v)
+    (λ row h. let (t, e, v) = known_row 0 setup state.rows row (all_at (IsKnownRow 0 setup state.rows) state.rows row valid.rows h) in
+    changes_suit setup state valid row t e v)
+    (λ row h. let (t, e, v) = known_row 0 setup state.rows row (all_at (IsKnownRow 0 setup state.rows) state.rows row valid.rows h) in
+    changes_make setup state valid row t e v)

@@ -1,27 +1,13 @@
 -- That changes fit in order and give a state, and that they are a player's own, has one proof at most. So a struct may keep
 -- these facts.
-use Rattle.std.proofs.Common.{◌≡◌, ℕ, ◌<◌, ◌≤◌, true, List, [], ◌∷◌, sym, ap, ◌∙◌, inl, inr, arith, All}
-use Rattle.std.specs.Prelude.{IsTrue, ◌⊎◌, ◌≢◌}
-use Rattle.std.proofs.Props.{props}
 use base.Stored.{Coded-set}
 use mathlib.Core.HLevel.{Unit-prop}
+use Rattle.{sim_laws.proofs.Rows.of_has_health, std.proofs.Props.props, std.specs.Prelude.◌⊎◌}
+use Rattle.sim_plans.proofs.{Applying.fitting_keeps_loose, Common.Still, Common.sym, Common.◌∙◌}
+use Rattle.sim_plans.proofs.Common.{has_health, inl, inr, IsLooselyValid, IsOwnChange, IsPlanOf, IsSetup, IsValidAim, IsValidMotion, Motion, Row, Setup, State}
+use Rattle.sim_plans.proofs.Common.{◌≡◌, ℕ, ◌<◌, ◌≤◌, true, ◌≢◌, List, [], ◌∷◌, IsTrue, All, Aim, all_at, AllFit, ap, applied, arith, Arms, Change, Fits, Going}
 use Rattle.sim_base.specs.contracts.state.State as state_row
-use Rattle.sim_base.specs.declared.template.Arms.{Arms}
-use Rattle.sim_base.specs.declared.setup.Setup.{Setup}
-use Rattle.sim_base.specs.declared.state.Aim.{Aim}
-use Rattle.sim_base.specs.declared.state.Motion.{Motion}
-use Rattle.sim_base.specs.declared.state.Motion.TheVariants.{Still, Going}
-use Rattle.sim_base.specs.declared.state.Row.{Row}
-use Rattle.sim_base.specs.declared.state.State.{State}
-use Rattle.sim_base.specs.declared.change.Change.{Change}
 use Rattle.sim_base.specs.declared.change.Change.TheVariants as change
-use Rattle.sim_base.specs.Changes.{applied}
-use Rattle.sim_base.specs.Limits.{IsSetup}
-use Rattle.sim_base.specs.Validity.{has_health, IsValidMotion, IsValidAim, IsLooselyValid}
-use Rattle.sim_laws.proofs.Rows.{all_at, of_has_health}
-use Rattle.sim_plans.specs.Fits.{Fits, AllFit}
-use Rattle.sim_plans.specs.PlanLaws.{IsPlanOf, IsOwnChange}
-use Rattle.sim_plans.proofs.Applying.{fitting_keeps_loose}
 
 -- ids begin with 2, so no row has the id that stands for no target
 none_is_zero : (setup : Setup) (state : State) → IsLooselyValid setup state → has_health state.rows 0 ≡ true → ⊥
@@ -81,7 +67,8 @@ own_prop state player (change.Word word) = hlevel props
 own_prop state player change.Tick = hlevel props
 
 -- a plan of a state that is loosely valid
-pub plan_prop : (setup : Setup) (state : State) (changes : List Change) (after : State) → IsSetup setup → IsLooselyValid setup state → IsProp (IsPlanOf setup state changes after)
+pub plan_prop : (setup : Setup) (state : State) (changes : List Change) (after : State) → IsSetup setup → IsLooselyValid setup state
+    → IsProp (IsPlanOf setup state changes after)
 plan_prop setup state changes after limits valid x y =
     λ i. record {
       fit = all_fit_prop setup state changes limits valid x.fit y.fit i;

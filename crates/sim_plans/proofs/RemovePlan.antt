@@ -1,30 +1,18 @@
 -- Rows are removed one after another: each is still alive when it is its turn.
-use Rattle.std.proofs.Common.{◌≡◌, ℕ, Bool, true, false, cond, not, List, [], ◌∷◌, map, filter, Some, refl, sym, ap, subst, inl, inr, arith, find}
-use Rattle.std.specs.Prelude.{is_some, ◌==◌}
-use Rattle.std.specs.List.Sorted.{IsStrictlyIncreasing}
-use Rattle.std.proofs.lemmas.Bool.{ne_eqb, eq-eqb}
-use Rattle.std.proofs.lemmas.List.Folds.{fold-map}
-use Rattle.sim_base.specs.declared.setup.Setup.{Setup}
-use Rattle.sim_base.specs.declared.state.Row.{Row}
-use Rattle.sim_base.specs.declared.state.State.{State}
+use Rattle.{sim_base.specs.Changes.removed, sim_base.specs.Hit.is_spent, std.proofs.lemmas.List.Folds.fold-map}
+use Rattle.sim_laws.proofs.{Members.Has-map, Removing.removed-ids, Removing.removed_all, Rows.Has-filter}
+use Rattle.sim_plans.proofs.Common.{IsStrictlyIncreasing, ne_eqb, Row, Setup, State, subst, sym}
+use Rattle.sim_plans.proofs.Common.{applied, arith, eq-eqb, gone, gone_plan, Has, Has-of_filter, id_of, inl, inr, IsLooselyValid, IsPlanOf}
+use Rattle.sim_plans.proofs.Common.{◌≡◌, ℕ, Bool, true, false, cond, not, List, [], ◌∷◌, map, is_some, ◌==◌, Some, filter, find, refl, AllFit, ap, Apart, apart}
 use Rattle.sim_base.specs.declared.change.Change.TheVariants as change
-use Rattle.sim_base.specs.Rows.{id_of}
-use Rattle.sim_base.specs.Validity.{IsLooselyValid}
-use Rattle.sim_base.specs.Changes.{removed, applied}
-use Rattle.sim_base.specs.Hit.{is_spent, gone}
-use Rattle.sim_laws.proofs.Members.{Has, Has-map}
-use Rattle.sim_laws.proofs.Rows.{Has-filter, Has-of_filter, Apart, apart}
-use Rattle.sim_laws.proofs.Removing.{removed-ids, removed_all}
-use Rattle.sim_plans.specs.Fits.{AllFit}
-use Rattle.sim_plans.specs.Plans.{gone_plan}
-use Rattle.sim_plans.specs.PlanLaws.{IsPlanOf}
 
 -- an id among those of the rows is found
 alive : (rows : List Row) (id : ℕ) → Has (map id_of rows) id → is_some (find (λ (r : Row). r.id == id) rows) ≡ true
 alive [] id h = absurd h
 alive (q ∷ rows) id h = by (q.id == id) refl h (alive rows id)
   where
-    by : (b : Bool) → (q.id == id) ≡ b → Has (map id_of (q ∷ rows)) id → (Has (map id_of rows) id → is_some (find (λ (r : Row). r.id == id) rows) ≡ true) → is_some (cond b (Some q) (find (λ (r : Row). r.id == id) rows)) ≡ true
+    by : (b : Bool) → (q.id == id) ≡ b → Has (map id_of (q ∷ rows)) id → (Has (map id_of rows) id → is_some (find (λ (r : Row). r.id == id) rows) ≡ true)
+        → is_some (cond b (Some q) (find (λ (r : Row). r.id == id) rows)) ≡ true
     by true e m rest = refl
     by false e (inl s) rest = let same : (q.id == id) ≡ true = eq-eqb q.id id s in absurd (cc)
     by false e (inr m) rest = rest m
@@ -37,7 +25,8 @@ apart-filter p (row ∷ rows) h = by (p row) (apart-filter p rows h.1)
     by true rest = ((λ q m. let (k, passes) = Has-of_filter p rows q m in h.0 q k), rest)
     by false rest = rest
 
-removals_fit : (setup : Setup) (qs : List Row) → Apart qs → (state : State) → ((q : Row) → Has qs q → Has (map id_of state.rows) q.id) → AllFit setup state (map (λ id. change.Remove id) (map id_of qs))
+removals_fit : (setup : Setup) (qs : List Row) → Apart qs → (state : State) → ((q : Row) → Has qs q → Has (map id_of state.rows) q.id)
+    → AllFit setup state (map (λ id. change.Remove id) (map id_of qs))
 removals_fit setup [] h state there = tt
 removals_fit setup (q ∷ qs) h state there = (
   alive state.rows q.id (there q (inl refl)),
@@ -52,7 +41,8 @@ pub remove_plan : (setup : Setup) (state : State) (p : Row → Bool) → IsStric
     IsPlanOf setup state (map (λ id. change.Remove id) (map id_of (filter p state.rows))) (removed_all state (map id_of (filter p state.rows)))
 remove_plan setup state p ascending =
     record {
-      fit = removals_fit setup (filter p state.rows) (apart-filter p state.rows (apart state.rows ascending)) state (λ q m. let (k, passes) = Has-of_filter p state.rows q m in Has-map id_of state.rows q k);
+      fit = removals_fit setup (filter p state.rows) (apart-filter p state.rows (apart state.rows ascending)) state
+          (λ q m. let (k, passes) = Has-of_filter p state.rows q m in Has-map id_of state.rows q k);
       give = fold-map (applied setup) (λ (id : ℕ). change.Remove id) state (map id_of (filter p state.rows));
     }
 

@@ -1,37 +1,22 @@
 -- Changes that each touch their own row, taken row by row, fit in order and give the state in which each row is changed.
-use Rattle.std.proofs.Common.{◌≡◌, ◌≢◌, ℕ, Bool, true, cond, ℤ, pos, ◌≤ℤ◌, List, [], ◌∷◌, ◌++◌, map, find, Option, Some, None, refl, sym, ap, ◌∙◌, subst, ⊎_elim, inl, inr, arith, All, MatchOption, flat_map, append_assoc}
-use Rattle.std.specs.Prelude.{is_some, IsTrue, slice_get, option_and_then, ◌==◌, ◌&&◌, ◌||◌}
-use Rattle.std.specs.List.{list_any}
-use Rattle.std.specs.List.Sorted.{IsStrictlyIncreasing}
-use Rattle.std.proofs.lemmas.Bool.{cond-true, cond-false, eq-eqb, ne_eqb}
-use Rattle.std.proofs.lemmas.List.{map-append, map-id}
-use Rattle.std.proofs.lemmas.List.Elements.{All-head, All-tail, All-weaker}
-use Rattle.std.proofs.lemmas.List.Folds.{list_any-append}
-use Rattle.std.proofs.lemmas.List.Sums.{fold-append}
-use Rattle.sim_base.specs.declared.template.Template.{Template}
-use Rattle.sim_base.specs.declared.template.Arms.{Arms}
-use Rattle.sim_base.specs.declared.setup.Setup.{Setup}
-use Rattle.sim_base.specs.declared.state.Aim.{Aim}
-use Rattle.sim_base.specs.declared.state.Row.{Row}
-use Rattle.sim_base.specs.declared.state.State.{State}
-use Rattle.sim_base.specs.declared.change.Change.{Change}
+use Rattle.{sim_laws.proofs.Members.Has-append_cases, sim_laws.proofs.Rows.map_agree, sim_plans.specs.PlanLaws.RowByRow, std.proofs.Common.append_assoc}
+use Rattle.std.proofs.lemmas.{Bool.cond-false, Bool.cond-true, List.map-append, List.map-id, List.Folds.list_any-append}
+use Rattle.sim_plans.proofs.Common.{AllFit, ap, Apart, apart, applied, applied_all, arith, Arms, arms_of, Change, eq-eqb, Fits, fold-append, Has, has_health}
+use Rattle.sim_plans.proofs.Common.{MatchOption, Some, None, All, find, flat_map, Option, option_and_then, refl, Aim, All-head, All-tail, All-weaker, all_at}
+use Rattle.sim_plans.proofs.Common.{State, subst, Suits, sym, Template, ⊎_elim, ◌∙◌}
+use Rattle.sim_plans.proofs.Common.{id_of, inl, inr, IsPlanOf, IsStrictlyIncreasing, IsValidAim, list_any, ne_eqb, Row, row_of, set_by, set_by_all, Setup}
+use Rattle.sim_plans.proofs.Common.{◌≡◌, ℕ, Bool, true, cond, ◌&&◌, ◌||◌, ◌≢◌, List, [], ◌∷◌, ◌++◌, map, ℤ, pos, ◌≤ℤ◌, is_some, IsTrue, ◌==◌, slice_get}
 use Rattle.sim_base.specs.declared.change.Change.TheVariants as change
-use Rattle.sim_base.specs.Rows.{id_of, row_of, arms_of}
-use Rattle.sim_base.specs.Validity.{IsValidAim, has_health}
-use Rattle.sim_base.specs.Changes.{applied, applied_all}
-use Rattle.sim_laws.proofs.Members.{Has, Has-append_cases}
-use Rattle.sim_laws.proofs.Rows.{all_at, map_agree, Apart, apart}
-use Rattle.sim_plans.specs.Fits.{Fits, AllFit}
-use Rattle.sim_plans.specs.RowChanges.{set_by, set_by_all, Suits}
-use Rattle.sim_plans.specs.PlanLaws.{IsPlanOf, RowByRow}
 
 -- ---- plans one after another
 
-pub fit_append : (setup : Setup) (state : State) (first second : List Change) → AllFit setup state first → AllFit setup (applied_all setup state first) second → AllFit setup state (first ++ second)
+pub fit_append : (setup : Setup) (state : State) (first second : List Change) → AllFit setup state first → AllFit setup (applied_all setup state first) second
+    → AllFit setup state (first ++ second)
 fit_append setup state [] second fit more = more
 fit_append setup state (c ∷ first) second fit more = (fit.0, fit_append setup (applied setup state c) first second fit.1 more)
 
-pub plan_then : (setup : Setup) (state middle after : State) (first second : List Change) → IsPlanOf setup state first middle → IsPlanOf setup middle second after → IsPlanOf setup state (first ++ second) after
+pub plan_then : (setup : Setup) (state middle after : State) (first second : List Change) → IsPlanOf setup state first middle
+    → IsPlanOf setup middle second after → IsPlanOf setup state (first ++ second) after
 plan_then setup state middle after first second p q =
     record {
       fit = fit_append setup state first second p.fit (subst (λ (s : State). AllFit setup s second) (sym p.give) q.fit);
@@ -48,7 +33,13 @@ record IsAlike (row new : Row) : Type 0 where
   health : is_some new.health ≡ is_some row.health
 
 alike_then : (a b c : Row) → IsAlike a b → IsAlike b c → IsAlike a c
-alike_then a b c h k = record { id = k.id ∙ h.id; template = k.template ∙ h.template; motion = k.motion ∙ h.motion; attack = k.attack ∙ h.attack; health = k.health ∙ h.health }
+alike_then a b c h k = record {
+  id = k.id ∙ h.id;
+  template = k.template ∙ h.template;
+  motion = k.motion ∙ h.motion;
+  attack = k.attack ∙ h.attack;
+  health = k.health ∙ h.health;
+}
 
 set_by-alike : (setup : Setup) (rows : List Row) (row : Row) (c : Change) → Suits setup rows row c → IsAlike row (set_by c row)
 set_by-alike setup rows row (change.Move id p) h = record { id = refl; template = refl; motion = refl; attack = refl; health = refl }
@@ -67,11 +58,13 @@ match_weaker : {X : Type 0} (P Q : X → Type 0) → ((x : X) → P x → Q x) �
 match_weaker P Q weaker None h = h
 match_weaker P Q weaker (Some x) h = weaker x h
 
-module _ (setup : Setup) (rows more : List Row) (kept : (id : ℕ) → has_health rows id ≡ true → has_health more id ≡ true) (row new : Row) (alike : IsAlike row new) where
+module _ (setup : Setup) (rows more : List Row) (kept : (id : ℕ) → has_health rows id ≡ true → has_health more id ≡ true) (row new : Row)
+    (alike : IsAlike row new) where
   aim_beside : (id : ℕ) (aim : Aim) (arms : Arms) → IsValidAim rows id aim arms → IsValidAim more id aim arms
   aim_beside id aim arms v =
       record {
-        target = ⊎_elim (λ (none : aim.target ≡ 0). inl none) (λ (other : (aim.target ≢ id) × IsTrue (has_health rows aim.target)). inr (other.0, kept aim.target other.1)) v.target;
+        target = ⊎_elim (λ (none : aim.target ≡ 0). inl none) (λ (other : (aim.target ≢ id) × IsTrue (has_health rows aim.target)). inr
+            (other.0, kept aim.target other.1)) v.target;
         cooldown = v.cooldown;
       }
 
@@ -79,24 +72,32 @@ module _ (setup : Setup) (rows more : List Row) (kept : (id : ℕ) → has_healt
   suits_still (change.Move id p) h = (h.0 ∙ sym alike.id, alike.motion ∙ h.1, h.2)
   suits_still (change.Motion id motion) h = (h.0 ∙ sym alike.id, alike.motion ∙ h.1, h.2)
   suits_still (change.Attack id aim) h =
-      let ok : MatchOption (arms_of setup row) ⊥ (IsValidAim more id aim) = match_weaker (IsValidAim rows id aim) (IsValidAim more id aim) (aim_beside id aim) (arms_of setup row) h.2 in (
+      let ok : MatchOption (arms_of setup row) ⊥ (IsValidAim more id aim) = match_weaker (IsValidAim rows id aim) (IsValidAim more id aim) (aim_beside id aim)
+      (arms_of setup row) h.2 in (
         h.0 ∙ sym alike.id,
         alike.attack ∙ h.1,
-        subst (λ (n : ℕ). MatchOption (option_and_then (λ (t : Template). t.arms) (slice_get setup.templates n)) ⊥ (IsValidAim more id aim)) (sym alike.template) ok,
+        subst (λ (n : ℕ). MatchOption (option_and_then (λ (t : Template). t.arms) (slice_get setup.templates n)) ⊥ (IsValidAim more id aim))
+            (sym alike.template) ok,
       )
-  suits_still (change.Health id health) h =
-      (h.0 ∙ sym alike.id, alike.health ∙ h.1, subst (λ (n : ℕ). MatchOption (option_and_then (λ (t : Template). t.health) (slice_get setup.templates n)) ⊥ (λ (most : ℤ). (pos 0 ≤ℤ health) × (health ≤ℤ most))) (sym alike.template) h.2)
+  suits_still (change.Health id health) h = (
+    h.0 ∙ sym alike.id,
+    alike.health ∙ h.1,
+    subst (λ (n : ℕ). MatchOption (option_and_then (λ (t : Template). t.health) (slice_get setup.templates n)) ⊥
+        (λ (most : ℤ). (pos 0 ≤ℤ health) × (health ≤ℤ most))) (sym alike.template) h.2,
+  )
   suits_still (change.Owner id owner) h = (h.0 ∙ sym alike.id, h.1)
   suits_still (change.Remove id) h = h
   suits_still (change.Create number p owner) h = h
   suits_still (change.Word word) h = h
   suits_still change.Tick h = h
 
-has_health_swap : (done rest : List Row) (row new : Row) → IsAlike row new → (id : ℕ) → has_health (done ++ row ∷ rest) id ≡ true → has_health (done ++ new ∷ rest) id ≡ true
+has_health_swap : (done rest : List Row) (row new : Row) → IsAlike row new → (id : ℕ) → has_health (done ++ row ∷ rest) id ≡ true
+    → has_health (done ++ new ∷ rest) id ≡ true
 has_health_swap done rest row new alike id h =
     let test : Row → Bool = λ (r : Row). r.id == id && is_some r.health in
     let same : test new ≡ test row = ap (λ (n : ℕ). n == id && is_some new.health) alike.id ∙ ap (λ (b : Bool). row.id == id && b) alike.health in
-    list_any-append test done (new ∷ rest) ∙ ap (λ (b : Bool). list_any test done || (b || list_any test rest)) same ∙ sym (list_any-append test done (row ∷ rest)) ∙ h
+    list_any-append test done (new ∷ rest) ∙ ap (λ (b : Bool). list_any test done || (b || list_any test rest)) same ∙
+    sym (list_any-append test done (row ∷ rest)) ∙ h
 
 -- ---- one row, at its place between the others
 
@@ -104,11 +105,15 @@ module _ (setup : Setup) (state : State) where
   abbrev pub with_rows : List Row → State
   with_rows rows = record state { rows = rows }
 
-  applied_is : (rows others : List Row) (row : Row) (c : Change) → Suits setup others row c → applied setup (with_rows rows) c ≡ with_rows (map (λ (r : Row). cond (r.id == row.id) (set_by c r) r) rows)
+  applied_is : (rows others : List Row) (row : Row) (c : Change) → Suits setup others row c → applied setup (with_rows rows) c ≡ with_rows
+      (map (λ (r : Row). cond (r.id == row.id) (set_by c r) r) rows)
   applied_is rows others row (change.Move id p) h = ap (λ (n : ℕ). with_rows (map (λ (r : Row). cond (r.id == n) (record r { at = p }) r) rows)) h.0
-  applied_is rows others row (change.Motion id motion) h = ap (λ (n : ℕ). with_rows (map (λ (r : Row). cond (r.id == n) (record r { motion = Some motion }) r) rows)) h.0
-  applied_is rows others row (change.Attack id aim) h = ap (λ (n : ℕ). with_rows (map (λ (r : Row). cond (r.id == n) (record r { attack = Some aim }) r) rows)) h.0
-  applied_is rows others row (change.Health id health) h = ap (λ (n : ℕ). with_rows (map (λ (r : Row). cond (r.id == n) (record r { health = Some health }) r) rows)) h.0
+  applied_is rows others row (change.Motion id motion) h =
+      ap (λ (n : ℕ). with_rows (map (λ (r : Row). cond (r.id == n) (record r { motion = Some motion }) r) rows)) h.0
+  applied_is rows others row (change.Attack id aim) h = ap (λ (n : ℕ). with_rows (map (λ (r : Row). cond (r.id == n) (record r { attack = Some aim }) r) rows))
+      h.0
+  applied_is rows others row (change.Health id health) h =
+      ap (λ (n : ℕ). with_rows (map (λ (r : Row). cond (r.id == n) (record r { health = Some health }) r) rows)) h.0
   applied_is rows others row (change.Owner id owner) h = ap (λ (n : ℕ). with_rows (map (λ (r : Row). cond (r.id == n) (record r { owner = owner }) r) rows)) h.0
   applied_is rows others row (change.Remove id) h = absurd h
   applied_is rows others row (change.Create number p owner) h = absurd h
@@ -138,9 +143,11 @@ module _ (setup : Setup) (state : State) where
 
   others_stay : (rows : List Row) (id : ℕ) (f : Row → Row) → Elsewhere rows id → map (λ (r : Row). cond (r.id == id) (f r) r) rows ≡ rows
   others_stay rows id f elsewhere =
-      map_agree (λ (r : Row). cond (r.id == id) (f r) r) (λ (r : Row). r) rows (λ r h. cond-false (r.id == id) (f r) r (ne_eqb r.id id (elsewhere r h))) ∙ map-id rows
+      map_agree (λ (r : Row). cond (r.id == id) (f r) r) (λ (r : Row). r) rows (λ r h. cond-false (r.id == id) (f r) r (ne_eqb r.id id (elsewhere r h))) ∙
+      map-id rows
 
-  row_set : (done rest : List Row) (row : Row) (f : Row → Row) → Elsewhere done row.id → Elsewhere rest row.id → map (λ (r : Row). cond (r.id == row.id) (f r) r) (done ++ row ∷ rest) ≡ done ++ f row ∷ rest
+  row_set : (done rest : List Row) (row : Row) (f : Row → Row) → Elsewhere done row.id → Elsewhere rest row.id
+      → map (λ (r : Row). cond (r.id == row.id) (f r) r) (done ++ row ∷ rest) ≡ done ++ f row ∷ rest
   row_set done rest row f before after =
       let g : Row → Row = λ (r : Row). cond (r.id == row.id) (f r) r in
       let head : g row ≡ f row = cond-true (row.id == row.id) (f row) row (eq-eqb row.id row.id refl) in
@@ -150,7 +157,8 @@ module _ (setup : Setup) (state : State) where
   row_here : (done rest : List Row) (row : Row) → Elsewhere done row.id → row_of (with_rows (done ++ row ∷ rest)) row.id ≡ Some row
   row_here [] rest row before = cond-true (row.id == row.id) (Some row) (find (λ (r : Row). r.id == row.id) rest) (eq-eqb row.id row.id refl)
   row_here (d ∷ done) rest row before =
-      cond-false (d.id == row.id) (Some d) (find (λ (r : Row). r.id == row.id) (done ++ row ∷ rest)) (ne_eqb d.id row.id (before d (inl refl))) ∙ row_here done rest row (λ r h. before r (inr h))
+      cond-false (d.id == row.id) (Some d) (find (λ (r : Row). r.id == row.id) (done ++ row ∷ rest)) (ne_eqb d.id row.id (before d (inl refl))) ∙
+      row_here done rest row (λ r h. before r (inr h))
 
   -- the changes of the row at its place
   record IsRowPlan (changes : List Change) (done rest : List Row) (row : Row) : Type 0 where
@@ -158,8 +166,10 @@ module _ (setup : Setup) (state : State) where
     give : applied_all setup (with_rows (done ++ row ∷ rest)) changes ≡ with_rows (done ++ set_by_all changes row ∷ rest)
     alike : IsAlike row (set_by_all changes row)
 
-  row_plan : (changes : List Change) (done rest : List Row) (row : Row) → Elsewhere done row.id → Elsewhere rest row.id → All (Suits setup (done ++ row ∷ rest) row) changes → IsRowPlan changes done rest row
-  row_plan [] done rest row before after suits = record { fit = tt; give = refl; alike = record { id = refl; template = refl; motion = refl; attack = refl; health = refl } }
+  row_plan : (changes : List Change) (done rest : List Row) (row : Row) → Elsewhere done row.id → Elsewhere rest row.id
+      → All (Suits setup (done ++ row ∷ rest) row) changes → IsRowPlan changes done rest row
+  row_plan [] done rest row before after suits =
+      record { fit = tt; give = refl; alike = record { id = refl; template = refl; motion = refl; attack = refl; health = refl } }
   row_plan (c ∷ changes) done rest row before after suits =
       let P = Suits setup (done ++ row ∷ rest) row in
       let here = All-head P c changes suits in
@@ -168,7 +178,8 @@ module _ (setup : Setup) (state : State) where
       let step : applied setup (with_rows (done ++ row ∷ rest)) c ≡ with_rows (done ++ new ∷ rest) =
       applied_is (done ++ row ∷ rest) (done ++ row ∷ rest) row c here ∙ ap with_rows (row_set done rest row (set_by c) before after) in
       let later = row_plan changes done rest new (λ r h e. before r h (e ∙ alike.id)) (λ r h e. after r h (e ∙ alike.id))
-      (All-weaker P (Suits setup (done ++ new ∷ rest) new) (suits_still setup (done ++ row ∷ rest) (done ++ new ∷ rest) (has_health_swap done rest row new alike) row new alike) changes
+      (All-weaker P (Suits setup (done ++ new ∷ rest) new)
+      (suits_still setup (done ++ row ∷ rest) (done ++ new ∷ rest) (has_health_swap done rest row new alike) row new alike) changes
       (All-tail P c changes suits)) in
       record {
         fit = (suits_fits (done ++ row ∷ rest) row c (row_here done rest row before) here, subst (λ (s : State). AllFit setup s changes) (sym step) later.fit);
@@ -182,25 +193,31 @@ module _ (setup : Setup) (state : State) where
     abbrev planned : Row → Row
     planned row = set_by_all (plan row) row
 
-    rows_plan : (todo done : List Row) → Apart todo → ((d r : Row) → Has done d → Has todo r → d.id ≡ r.id → ⊥) → ((r : Row) → Has todo r → All (Suits setup (done ++ todo) r) (plan r)) →
+    rows_plan : (todo done : List Row) → Apart todo → ((d r : Row) → Has done d → Has todo r → d.id ≡ r.id → ⊥)
+        → ((r : Row) → Has todo r → All (Suits setup (done ++ todo) r) (plan r)) →
         IsPlanOf setup (with_rows (done ++ todo)) (flat_map plan todo) (with_rows (done ++ map planned todo))
     rows_plan [] done apart before suits = record { fit = tt; give = refl }
     rows_plan (row ∷ rest) done apart before suits =
         let new = planned row in
-        let once = row_plan (plan row) done rest row (λ d h e. before d row h (inl refl) e) (λ r h e. let below = apart.0 r h in absurd (omega (arith, below))) (suits row (inl refl)) in
+        let once = row_plan (plan row) done rest row (λ d h e. before d row h (inl refl) e) (λ r h e. let below = apart.0 r h in absurd (omega (arith, below)))
+        (suits row (inl refl)) in
         let place : (done ++ new ∷ []) ++ rest ≡ done ++ new ∷ rest = append_assoc done (new ∷ []) rest in
         let more = rows_plan rest (done ++ new ∷ []) apart.1
         (λ d r h k e. ⊎_elim (λ (m : Has done d). before d r m (inr k) e)
-        (λ (m : Has (new ∷ []) d). ⊎_elim (λ (s : new ≡ d). let below = apart.0 r k in let same : row.id ≡ r.id = sym once.alike.id ∙ ap id_of s ∙ e in absurd (omega (arith, below, same))) (λ (none : ⊥). none) m)
+        (λ (m : Has (new ∷ []) d). ⊎_elim (λ (s : new ≡ d). let below = apart.0 r k in let same : row.id ≡ r.id = sym once.alike.id ∙ ap id_of s ∙ e in
+        absurd (omega (arith, below, same))) (λ (none : ⊥). none) m)
         (Has-append_cases done (new ∷ []) d h))
         (λ r k. All-weaker (Suits setup (done ++ row ∷ rest) r) (Suits setup ((done ++ new ∷ []) ++ rest) r)
-        (suits_still setup (done ++ row ∷ rest) ((done ++ new ∷ []) ++ rest) (λ id h. subst (λ (rs : List Row). has_health rs id ≡ true) (sym place) (has_health_swap done rest row new once.alike id h))
+        (suits_still setup (done ++ row ∷ rest) ((done ++ new ∷ []) ++ rest) (λ id h. subst (λ (rs : List Row). has_health rs id ≡ true) (sym place)
+        (has_health_swap done rest row new once.alike id h))
         r r (record { id = refl; template = refl; motion = refl; attack = refl; health = refl })) (plan r) (suits r (inr k))) in
-        plan_then setup (with_rows (done ++ row ∷ rest)) (with_rows (done ++ new ∷ rest)) (with_rows (done ++ new ∷ map planned rest)) (plan row) (flat_map plan rest)
+        plan_then setup (with_rows (done ++ row ∷ rest)) (with_rows (done ++ new ∷ rest)) (with_rows (done ++ new ∷ map planned rest)) (plan row)
+        (flat_map plan rest)
         (record { fit = once.fit; give = once.give })
         (record {
           fit = subst (λ (rs : List Row). AllFit setup (with_rows rs) (flat_map plan rest)) place more.fit;
-          give = ap (λ (rs : List Row). applied_all setup (with_rows rs) (flat_map plan rest)) (sym place) ∙ more.give ∙ ap with_rows (append_assoc done (new ∷ []) (map planned rest));
+          give = ap (λ (rs : List Row). applied_all setup (with_rows rs) (flat_map plan rest)) (sym place) ∙ more.give ∙
+              ap with_rows (append_assoc done (new ∷ []) (map planned rest));
         })
 
     -- the changes of all rows, row by row
@@ -209,10 +226,13 @@ module _ (setup : Setup) (state : State) where
     row_by_row ascending suits = rows_plan state.rows [] (apart state.rows ascending) (λ d r none k e. none) suits
 
     -- the same for what each row is to become
-    pub row_by_row_to : (f : Row → Row) → IsStrictlyIncreasing (map id_of state.rows) → ((row : Row) → Has state.rows row → All (Suits setup state.rows row) (plan row)) →
-        ((row : Row) → Has state.rows row → set_by_all (plan row) row ≡ f row) → IsPlanOf setup state (flat_map plan state.rows) (record state { rows = map f state.rows })
+    pub row_by_row_to : (f : Row → Row) → IsStrictlyIncreasing (map id_of state.rows)
+        → ((row : Row) → Has state.rows row → All (Suits setup state.rows row) (plan row)) →
+        ((row : Row) → Has state.rows row → set_by_all (plan row) row ≡ f row) → IsPlanOf setup state (flat_map plan state.rows)
+        (record state { rows = map f state.rows })
     row_by_row_to f ascending suits becomes =
-        subst (λ (rs : List Row). IsPlanOf setup state (flat_map plan state.rows) (record state { rows = rs })) (map_agree (λ (row : Row). set_by_all (plan row) row) f state.rows becomes) (row_by_row ascending suits)
+        subst (λ (rs : List Row). IsPlanOf setup state (flat_map plan state.rows) (record state { rows = rs }))
+        (map_agree (λ (row : Row). set_by_all (plan row) row) f state.rows becomes) (row_by_row ascending suits)
 
 pub row_by_row_is : RowByRow
 row_by_row_is setup state changes become ascending suits makes =

@@ -1,29 +1,12 @@
 -- The changes by which a row takes a target, stands still, or comes to stand and go as another one: they suit it, and make just that of it.
-use Rattle.std.proofs.Common.{◌≡◌, ℕ, Bool, true, false, cond, List, [], ◌∷◌, ◌++◌, Option, Some, None, refl, sym, ap, ◌∙◌, subst, arith, All, MatchOption}
-use Rattle.std.specs.Prelude.{is_some, IsSome, option_and_then, ◌==◌, ◌&&◌}
-use Rattle.std.specs.Ordering.{int_eq}
-use Rattle.std.specs.Bool.{beq}
-use Rattle.std.specs.Cmp.{booleans_Decides}
-use Rattle.std.proofs.lemmas.Bool.{eqb-true, and_parts, cond_both}
-use Rattle.std.proofs.lemmas.List.Elements.{All-nil, All-cons, All-append}
-use Rattle.std.proofs.lemmas.List.Sums.{fold-append}
-use Rattle.sim_base.specs.declared.place.Point.{Point}
-use Rattle.sim_base.specs.declared.template.Template.{Template}
-use Rattle.sim_base.specs.declared.template.Arms.{Arms}
-use Rattle.sim_base.specs.declared.setup.Setup.{Setup}
-use Rattle.sim_base.specs.declared.state.Motion.{Motion}
-use Rattle.sim_base.specs.declared.state.Motion.TheVariants.{Still, Going}
-use Rattle.sim_base.specs.declared.state.Aim.{Aim}
-use Rattle.sim_base.specs.declared.state.Row.{Row}
-use Rattle.sim_base.specs.declared.change.Change.{Change}
+use Rattle.{sim_plans.proofs.Common.template_of, sim_plans.proofs.Common.◌∙◌, std.specs.Bool.beq, std.specs.Cmp.booleans_Decides}
+use Rattle.sim_base.specs.Changes.{with_stance}
+use Rattle.sim_plans.proofs.Common.{Motion, Point, Row, same_point, set_by, set_by_all, Setup, stance_changes, step_changes, Still, subst, Suits, sym, Template}
+use Rattle.sim_plans.proofs.Common.{cond_both, eqb-true, fold-append, goes_on, Going, halted, int_eq, IsInside, IsTarget, IsValidAim, IsValidMotion, IsValidRow}
+use Rattle.sim_plans.proofs.Common.{option_and_then, refl, Aim, aimed_at, All-append, All-cons, All-nil, and_parts, ap, arith, Arms, arms_of, Both, Change}
+use Rattle.sim_plans.proofs.Common.{◌≡◌, ℕ, Bool, true, false, cond, ◌&&◌, List, [], ◌∷◌, ◌++◌, is_some, IsSome, ◌==◌, MatchOption, Some, None, All, Option}
+use Rattle.sim_plans.specs.RowPlans.{halt_changes, motion_changes, stand_changes, target_changes, turn_changes}
 use Rattle.sim_base.specs.declared.change.Change.TheVariants as change
-use Rattle.sim_base.specs.Rows.{template_of, arms_of}
-use Rattle.sim_base.specs.Validity.{IsInside, IsValidMotion, IsValidAim, IsValidRow, Both}
-use Rattle.sim_base.specs.Changes.{aimed_at, with_stance, halted}
-use Rattle.sim_base.specs.Move.{same_point}
-use Rattle.sim_laws.proofs.Removing.{IsTarget}
-use Rattle.sim_plans.specs.RowPlans.{target_changes, halt_changes, turn_changes, stance_changes, stand_changes, goes_on, motion_changes, step_changes}
-use Rattle.sim_plans.specs.RowChanges.{set_by, set_by_all, Suits}
 
 -- a list of one change, or of none
 pub one_suits : (setup : Setup) (rows : List Row) (row : Row) (c : Change) → Suits setup rows row c → All (Suits setup rows row) (c ∷ [])
@@ -38,7 +21,8 @@ pub target_changes-set : (target : ℕ) (row : Row) → set_by_all (target_chang
 target_changes-set target row = by row.attack
   where
     test : (aim : Aim) (b : Bool) → (aim.target == target) ≡ b →
-        set_by_all (cond b [] (change.Attack row.id (record aim { target = target }) ∷ [])) (record row { attack = Some aim }) ≡ record row { attack = Some (record aim { target = target }) }
+        set_by_all (cond b [] (change.Attack row.id (record aim { target = target }) ∷ [])) (record row { attack = Some aim }) ≡
+        record row { attack = Some (record aim { target = target }) }
     test aim true e = ap (λ (n : ℕ). record row { attack = Some (record aim { target = n }) }) (eqb-true aim.target target e)
     test aim false e = refl
 
@@ -56,9 +40,11 @@ halt_changes-set row = by row.motion
 
 pub turn_changes-set : (target : ℕ) (row : Row) → set_by_all (turn_changes target row) row ≡ halted (aimed_at target row)
 turn_changes-set target row =
-    set_by-append (target_changes target row.id row.attack) (halt_changes row.id row.motion) row ∙ ap (set_by_all (halt_changes row.id row.motion)) (target_changes-set target row) ∙ halt_changes-set (aimed_at target row)
+    set_by-append (target_changes target row.id row.attack) (halt_changes row.id row.motion) row ∙ ap (set_by_all (halt_changes row.id row.motion))
+    (target_changes-set target row) ∙ halt_changes-set (aimed_at target row)
 
-pub stance_changes-set : (target : ℕ) (hold : Bool) (row : Row) → set_by_all (stance_changes target hold row.id row.attack) row ≡ with_stance hold (aimed_at target row)
+pub stance_changes-set : (target : ℕ) (hold : Bool) (row : Row) → set_by_all (stance_changes target hold row.id row.attack) row ≡ with_stance hold
+    (aimed_at target row)
 stance_changes-set target hold row = by row.attack
   where
     test : (aim : Aim) (b : Bool) → (aim.target == target && beq aim.hold hold) ≡ b →
@@ -71,13 +57,16 @@ stance_changes-set target hold row = by row.attack
         λ i. record row { attack = Some (record aim { target = t i; hold = h i }) }
     test aim false e = refl
 
-    by : (a : Option Aim) → set_by_all (stance_changes target hold row.id a) (record row { attack = a }) ≡ with_stance hold (aimed_at target (record row { attack = a }))
+    by : (a : Option Aim) → set_by_all (stance_changes target hold row.id a) (record row { attack = a }) ≡ with_stance hold
+        (aimed_at target (record row { attack = a }))
     by None = refl
     by (Some aim) = test aim (aim.target == target && beq aim.hold hold) refl
 
-pub stand_changes-set : (target : ℕ) (hold : Bool) (row : Row) → set_by_all (stand_changes target hold row) row ≡ halted (with_stance hold (aimed_at target row))
+pub stand_changes-set : (target : ℕ) (hold : Bool) (row : Row) → set_by_all (stand_changes target hold row) row ≡ halted
+    (with_stance hold (aimed_at target row))
 stand_changes-set target hold row =
-    set_by-append (stance_changes target hold row.id row.attack) (halt_changes row.id row.motion) row ∙ ap (set_by_all (halt_changes row.id row.motion)) (stance_changes-set target hold row) ∙
+    set_by-append (stance_changes target hold row.id row.attack) (halt_changes row.id row.motion) row ∙ ap (set_by_all (halt_changes row.id row.motion))
+    (stance_changes-set target hold row) ∙
     halt_changes-set (with_stance hold (aimed_at target row))
 
 same_point-true : (p q : Point) → same_point p q ≡ true → p ≡ q
@@ -89,7 +78,8 @@ same_point-true p q e =
 
 -- a row that comes to stand and to go as another one; it can move exactly if the other one can, and where it goes on as it
 -- went the other one does too
-pub step_changes-set : (row new : Row) → is_some new.motion ≡ is_some row.motion → ((motion : Motion) → new.motion ≡ Some motion → goes_on row.motion motion ≡ true → row.motion ≡ Some motion) →
+pub step_changes-set : (row new : Row) → is_some new.motion ≡ is_some row.motion
+    → ((motion : Motion) → new.motion ≡ Some motion → goes_on row.motion motion ≡ true → row.motion ≡ Some motion) →
     set_by_all (step_changes row new) row ≡ record row { at = new.at; motion = new.motion }
 step_changes-set row new same on =
     set_by-append (cond (same_point row.at new.at) [] (change.Move row.id new.at ∷ [])) (motion_changes row.id row.motion new.motion) row ∙
@@ -112,7 +102,8 @@ step_changes-set row new same on =
 
 -- ---- the changes suit the row
 
-module _ (least : ℕ) (setup : Setup) (rows : List Row) (row : Row) (t : Template) (known : template_of setup row ≡ Some t) (v : IsValidRow least setup rows row t) where
+module _ (least : ℕ) (setup : Setup) (rows : List Row) (row : Row) (t : Template) (known : template_of setup row ≡ Some t)
+    (v : IsValidRow least setup rows row t) where
   pub arms_are : arms_of setup row ≡ t.arms
   arms_are = ap (λ (o : Option Template). option_and_then (λ (u : Template). u.arms) o) known
 
@@ -130,7 +121,8 @@ module _ (least : ℕ) (setup : Setup) (rows : List Row) (row : Row) (t : Templa
       by (Some arms) f h = record { arms = arms; arms_is = arms_are ∙ f; valid = h }
 
   -- another aim suits it where it is a valid one
-  pub attack_suits : (aim new : Aim) → row.attack ≡ Some aim → ((arms : Arms) → IsValidAim rows row.id aim arms → arms_of setup row ≡ Some arms → IsValidAim rows row.id new arms) → Suits setup rows row (change.Attack row.id new)
+  pub attack_suits : (aim new : Aim) → row.attack ≡ Some aim → ((arms : Arms) → IsValidAim rows row.id aim arms → arms_of setup row ≡ Some arms
+      → IsValidAim rows row.id new arms) → Suits setup rows row (change.Attack row.id new)
   attack_suits aim new e ok =
       let a = armed aim e in
       (refl, ap is_some e, subst (λ (o : Option Arms). MatchOption o ⊥ (IsValidAim rows row.id new)) (sym a.arms_is) (ok a.arms a.valid a.arms_is))
@@ -141,8 +133,10 @@ module _ (least : ℕ) (setup : Setup) (rows : List Row) (row : Row) (t : Templa
       by : (a : Option Aim) → row.attack ≡ a → All (Suits setup rows row) (target_changes target row.id a)
       by None e = All-nil (Suits setup rows row)
       by (Some aim) e =
-          cond_both (aim.target == target) [] (change.Attack row.id (record aim { target = target }) ∷ []) (All (Suits setup rows row)) (λ same. All-nil (Suits setup rows row))
-          (λ other. one_suits setup rows row (change.Attack row.id (record aim { target = target })) (attack_suits aim (record aim { target = target }) e (λ arms h f. record { target = may; cooldown = h.cooldown })))
+          cond_both (aim.target == target) [] (change.Attack row.id (record aim { target = target }) ∷ []) (All (Suits setup rows row))
+          (λ same. All-nil (Suits setup rows row))
+          (λ other. one_suits setup rows row (change.Attack row.id (record aim { target = target }))
+          (attack_suits aim (record aim { target = target }) e (λ arms h f. record { target = may; cooldown = h.cooldown })))
 
   pub stance_changes_suit : (target : ℕ) (hold : Bool) → IsTarget rows row target → All (Suits setup rows row) (stance_changes target hold row.id row.attack)
   stance_changes_suit target hold may = by row.attack refl
@@ -151,7 +145,8 @@ module _ (least : ℕ) (setup : Setup) (rows : List Row) (row : Row) (t : Templa
       by None e = All-nil (Suits setup rows row)
       by (Some aim) e =
           let new : Aim = record aim { target = target; hold = hold } in
-          cond_both (aim.target == target && beq aim.hold hold) [] (change.Attack row.id new ∷ []) (All (Suits setup rows row)) (λ same. All-nil (Suits setup rows row))
+          cond_both (aim.target == target && beq aim.hold hold) [] (change.Attack row.id new ∷ []) (All (Suits setup rows row))
+          (λ same. All-nil (Suits setup rows row))
           (λ other. one_suits setup rows row (change.Attack row.id new) (attack_suits aim new e (λ arms h f. record { target = may; cooldown = h.cooldown })))
 
   pub motion_suits : (motion : Motion) → IsSome row.motion → IsValidMotion setup motion → Suits setup rows row (change.Motion row.id motion)
@@ -167,17 +162,21 @@ module _ (least : ℕ) (setup : Setup) (rows : List Row) (row : Row) (t : Templa
 
   pub turn_changes_suit : (target : ℕ) → IsTarget rows row target → All (Suits setup rows row) (turn_changes target row)
   turn_changes_suit target may =
-      All-append (Suits setup rows row) (target_changes target row.id row.attack) (halt_changes row.id row.motion) (target_changes_suit target may) halt_changes_suit
+      All-append (Suits setup rows row) (target_changes target row.id row.attack) (halt_changes row.id row.motion) (target_changes_suit target may)
+      halt_changes_suit
 
   pub stand_changes_suit : (target : ℕ) (hold : Bool) → IsTarget rows row target → All (Suits setup rows row) (stand_changes target hold row)
   stand_changes_suit target hold may =
-      All-append (Suits setup rows row) (stance_changes target hold row.id row.attack) (halt_changes row.id row.motion) (stance_changes_suit target hold may) halt_changes_suit
+      All-append (Suits setup rows row) (stance_changes target hold row.id row.attack) (halt_changes row.id row.motion) (stance_changes_suit target hold may)
+      halt_changes_suit
 
-  pub step_changes_suit : (new : Row) → is_some new.motion ≡ is_some row.motion → IsInside setup new.at → ((motion : Motion) → new.motion ≡ Some motion → IsValidMotion setup motion) → IsSome row.motion →
+  pub step_changes_suit : (new : Row) → is_some new.motion ≡ is_some row.motion → IsInside setup new.at
+      → ((motion : Motion) → new.motion ≡ Some motion → IsValidMotion setup motion) → IsSome row.motion →
       All (Suits setup rows row) (step_changes row new)
   step_changes_suit new same inside ok some =
       All-append (Suits setup rows row) (cond (same_point row.at new.at) [] (change.Move row.id new.at ∷ [])) (motion_changes row.id row.motion new.motion)
-      (cond_both (same_point row.at new.at) [] (change.Move row.id new.at ∷ []) (All (Suits setup rows row)) (λ here. All-nil (Suits setup rows row)) (λ there. one_suits setup rows row (change.Move row.id new.at) (refl, some, inside)))
+      (cond_both (same_point row.at new.at) [] (change.Move row.id new.at ∷ []) (All (Suits setup rows row)) (λ here. All-nil (Suits setup rows row))
+      (λ there. one_suits setup rows row (change.Move row.id new.at) (refl, some, inside)))
       (by row.motion new.motion ok)
     where
       by : (a b : Option Motion) → ((motion : Motion) → b ≡ Some motion → IsValidMotion setup motion) → All (Suits setup rows row) (motion_changes row.id a b)

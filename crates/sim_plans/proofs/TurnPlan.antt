@@ -1,52 +1,35 @@
 -- The changes of a turn fit in order and give it.
-use Rattle.std.proofs.Common.{◌≡◌, ◌+◌, List, [], ◌∷◌, fold, refl, sym, subst, All, arith}
-use Rattle.std.proofs.lemmas.List.Elements.{All-head, All-tail}
-use Rattle.sim_base.specs.declared.command.PlayerCommand.{PlayerCommand}
-use Rattle.sim_base.specs.declared.setup.Setup.{Setup}
-use Rattle.sim_base.specs.declared.state.State.{State}
-use Rattle.sim_base.specs.declared.change.Change.{Change}
-use Rattle.sim_base.specs.declared.change.Change.TheVariants.{Tick}
-use Rattle.sim_base.specs.Limits.{IsSetup}
-use Rattle.sim_base.specs.Validity.{IsLooselyValid}
-use Rattle.sim_base.specs.Changes.{applied_all}
-use Rattle.sim_base.specs.Commands.{commanded}
-use Rattle.sim_base.specs.Aim.{aimed}
-use Rattle.sim_base.specs.Move.{moved}
-use Rattle.sim_base.specs.Hit.{hit, gone}
-use Rattle.sim_base.specs.Turn.{ticked}
-use Rattle.sim_laws.proofs.Validity.{valid_is_loose}
-use Rattle.sim_laws.specs.CommandLaws.{IsOrderOf}
-use Rattle.sim_laws.proofs.Aiming.{aimed_is_state}
-use Rattle.sim_laws.proofs.Moving.{moved_is_state}
-use Rattle.sim_laws.proofs.Hitting.{hit_is_state}
-use Rattle.sim_laws.proofs.Turning.{command_keeps_loose, turn_is_counted}
-use Rattle.sim_plans.specs.Plans.{aim_plan, move_plan, hit_plan, gone_plan}
-use Rattle.sim_plans.specs.CommandPlans.{command_plan}
-use Rattle.sim_plans.specs.PlanLaws.{IsPlanOf}
-use Rattle.sim_plans.specs.TurnPlans.{orders_plan, then_plan, gone_on, hit_on, move_on, aim_on, TurnIsPlanned}
-use Rattle.sim_plans.proofs.RowByRow.{plan_then}
-use Rattle.sim_plans.proofs.AimPlan.{aim_plan_is}
-use Rattle.sim_plans.proofs.MovePlan.{move_plan_is}
-use Rattle.sim_plans.proofs.HitPlan.{hit_plan_is}
-use Rattle.sim_plans.proofs.RemovePlan.{gone_plan_is}
-use Rattle.sim_plans.proofs.CommandPlan.{command_is_planned}
+use Rattle.{sim_plans.proofs.RowByRow.plan_then, sim_plans.specs.CommandPlans.command_plan, std.proofs.Common.◌+◌, std.proofs.Common.fold}
+use Rattle.sim_base.specs.{Commands.commanded, Turn.ticked, declared.change.Change.TheVariants.Tick, declared.command.PlayerCommand.PlayerCommand}
+use Rattle.sim_laws.{proofs.Hitting.hit_is_state, specs.CommandLaws.IsOrderOf}
+use Rattle.sim_laws.proofs.{Aiming.aimed_is_state, Moving.moved_is_state, Turning.command_keeps_loose, Turning.turn_is_counted, Validity.valid_is_loose}
+use Rattle.sim_plans.proofs.{AimPlan.aim_plan_is, CommandPlan.command_is_planned, HitPlan.hit_plan_is, MovePlan.move_plan_is, RemovePlan.gone_plan_is}
+use Rattle.sim_plans.proofs.Common.{hit_plan, IsLooselyValid, IsPlanOf, IsSetup, move_plan, moved, Setup, State, subst, sym}
+use Rattle.sim_plans.proofs.Common.{◌≡◌, List, [], ◌∷◌, All, refl, aim_plan, aimed, All-head, All-tail, applied_all, arith, Change, gone, gone_plan, hit}
+use Rattle.sim_plans.specs.TurnPlans.{aim_on, gone_on, hit_on, move_on, orders_plan, then_plan, TurnIsPlanned}
 
 -- a plan, and a plan for the state to which it leads
-then_is_plan : (setup : Setup) (state middle after : State) (first : List Change) (second : State → List Change) → IsPlanOf setup state first middle → IsPlanOf setup middle (second middle) after →
+then_is_plan : (setup : Setup) (state middle after : State) (first : List Change) (second : State → List Change) → IsPlanOf setup state first middle
+    → IsPlanOf setup middle (second middle) after →
     IsPlanOf setup state (then_plan setup state first second) after
 then_is_plan setup state middle after first second p q =
-    plan_then setup state middle after first (second (applied_all setup state first)) p (subst (λ (s : State). IsPlanOf setup middle (second s) after) (sym p.give) q)
+    plan_then setup state middle after first (second (applied_all setup state first)) p
+    (subst (λ (s : State). IsPlanOf setup middle (second s) after) (sym p.give) q)
 
-orders_are_planned : (setup : Setup) → IsSetup setup → (orders : List PlayerCommand) → All (IsOrderOf setup) orders → (state : State) → IsLooselyValid setup state →
+orders_are_planned : (setup : Setup) → IsSetup setup → (orders : List PlayerCommand) → All (IsOrderOf setup) orders → (state : State)
+    → IsLooselyValid setup state →
     IsPlanOf setup state (orders_plan setup state orders) (fold (commanded setup) state orders)
 orders_are_planned setup limits [] of_players state valid = record { fit = tt; give = refl }
 orders_are_planned setup limits (order ∷ orders) of_players state valid =
     let player = All-head (IsOrderOf setup) order orders of_players in
-    then_is_plan setup state (commanded setup state order) (fold (commanded setup) (commanded setup state order) orders) (command_plan setup state order) (λ s. orders_plan setup s orders)
+    then_is_plan setup state (commanded setup state order) (fold (commanded setup) (commanded setup state order) orders) (command_plan setup state order)
+    (λ s. orders_plan setup s orders)
     (command_is_planned setup state order limits player valid)
-    (orders_are_planned setup limits orders (All-tail (IsOrderOf setup) order orders of_players) (commanded setup state order) (command_keeps_loose setup state order limits player valid))
+    (orders_are_planned setup limits orders (All-tail (IsOrderOf setup) order orders of_players) (commanded setup state order)
+    (command_keeps_loose setup state order limits player valid))
 
-orders_keep_loose : (setup : Setup) → IsSetup setup → (orders : List PlayerCommand) → All (IsOrderOf setup) orders → (state : State) → IsLooselyValid setup state → IsLooselyValid setup (fold (commanded setup) state orders)
+orders_keep_loose : (setup : Setup) → IsSetup setup → (orders : List PlayerCommand) → All (IsOrderOf setup) orders → (state : State)
+    → IsLooselyValid setup state → IsLooselyValid setup (fold (commanded setup) state orders)
 orders_keep_loose setup limits [] of_players state valid = valid
 orders_keep_loose setup limits (order ∷ orders) of_players state valid =
     orders_keep_loose setup limits orders (All-tail (IsOrderOf setup) order orders of_players) (commanded setup state order)

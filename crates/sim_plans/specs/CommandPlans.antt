@@ -1,24 +1,9 @@
 -- The changes that make up a command.
-use Rattle.std.specs.Prelude.{ℕ, true, false, ◌&&◌, ◌==◌, List, [], ◌∷◌, map, filter, Option, Some, None, slice_get, if◌then◌else◌}
-use Rattle.std.specs.List.{flat_map}
-use Rattle.sim_base.specs.declared.place.Point.{Point}
-use Rattle.sim_base.specs.declared.place.Cell.{Cell}
-use Rattle.sim_base.specs.declared.command.Command.{Command}
-use Rattle.sim_base.specs.declared.command.Command.TheVariants.{Walk, Stop, Attack, Delete, Place, Train, Resign}
-use Rattle.sim_base.specs.declared.command.PlayerCommand.{PlayerCommand}
-use Rattle.sim_base.specs.declared.setup.Setup.{Setup}
-use Rattle.sim_base.specs.declared.state.Motion.{Motion}
-use Rattle.sim_base.specs.declared.state.Motion.TheVariants.{Going}
-use Rattle.sim_base.specs.declared.state.Aim.{Aim}
-use Rattle.sim_base.specs.declared.state.Row.{Row}
-use Rattle.sim_base.specs.declared.state.State.{State}
-use Rattle.sim_base.specs.declared.change.Change.{Change}
+use Rattle.{sim_plans.specs.Common.Walk, sim_plans.specs.RowPlans.stance_changes, sim_plans.specs.RowPlans.stand_changes, std.specs.List.flat_map}
+use Rattle.std.specs.Prelude.{ℕ, true, false, ◌&&◌, List, [], ◌∷◌, map, if◌then◌else◌, ◌==◌, slice_get, Some, None, filter, Option}
+use Rattle.sim_plans.specs.Common.{Aim, Attack, Cell, centre_of, Change, Command, Delete, Going, has_room, id_of, is_enemy, is_inside, is_ordered, is_placeable}
+use Rattle.sim_plans.specs.Common.{Motion, Place, PlayerCommand, Point, Resign, Row, row_of, Setup, size_of, spot, State, Stop, template_of, Train, trains}
 use Rattle.sim_base.specs.declared.change.Change.TheVariants as change
-use Rattle.sim_base.specs.Places.{is_inside, centre_of}
-use Rattle.sim_base.specs.Rows.{id_of, row_of, template_of, size_of}
-use Rattle.sim_base.specs.Filters.{spot}
-use Rattle.sim_base.specs.Commands.{is_ordered, is_enemy, has_room, is_placeable, trains}
-use Rattle.sim_plans.specs.RowPlans.{stance_changes, stand_changes}
 
 -- the changes of each row that is ordered
 abbrev pub ordered_changes : ℕ → List ℕ → (Row → List Change) → State → List Change
@@ -60,7 +45,8 @@ train_changes setup state player number (Some building) =
 abbrev pub command_plan_by : Setup → State → ℕ → Command → List Change
 command_plan_by setup state player (Walk ids p) = if is_inside (size_of setup.land) p then ordered_changes player ids (sent_changes p) state else []
 command_plan_by setup state player (Stop ids) = ordered_changes player ids stop_changes state
-command_plan_by setup state player (Attack ids target) = if is_enemy setup player (row_of state target) then ordered_changes player ids (set_on_changes target) state else []
+command_plan_by setup state player (Attack ids target) = if is_enemy setup player (row_of state target) then ordered_changes player ids (set_on_changes target)
+    state else []
 command_plan_by setup state player (Delete ids) = map (λ id. change.Remove id) (map id_of (filter (is_ordered player ids) state.rows))
 command_plan_by setup state player (Place number p) =
     if is_placeable setup state p (slice_get setup.templates number) && has_room setup state player then change.Create number p player ∷ [] else []

@@ -1,30 +1,18 @@
 -- What the laws of plans say.
-use Rattle.std.specs.Prelude.{◌≡◌, ℕ, List, ◌++◌, map, All}
-use Rattle.std.specs.List.{flat_map}
-use Rattle.std.specs.List.Sorted.{IsStrictlyIncreasing}
-use Rattle.sim_base.specs.declared.command.PlayerCommand.{PlayerCommand}
-use Rattle.sim_base.specs.declared.setup.Setup.{Setup}
-use Rattle.sim_base.specs.declared.state.Row.{Row}
-use Rattle.sim_base.specs.declared.state.State.{State}
-use Rattle.sim_base.specs.declared.change.Change.{Change}
+use Rattle.std.specs.{List.flat_map, Prelude.◌≡◌, Prelude.ℕ, Prelude.List, Prelude.◌++◌, Prelude.map, Prelude.All}
+use Rattle.sim_plans.specs.{CommandPlans.command_plan, Common.Setup, Common.State, Fits.AllFit, Fits.Fits, Fits.OfRow, RowChanges.set_by_all, RowChanges.Suits}
+use Rattle.sim_plans.specs.Common.{applied, applied_all, Change, commanded, id_of, IsLooselyValid, IsOrderOf, IsSetup, IsStrictlyIncreasing, PlayerCommand, Row}
 use Rattle.sim_base.specs.declared.change.Change.TheVariants as change
-use Rattle.sim_base.specs.Rows.{id_of}
-use Rattle.sim_base.specs.Limits.{IsSetup}
-use Rattle.sim_base.specs.Validity.{IsLooselyValid}
-use Rattle.sim_base.specs.Changes.{applied, applied_all}
-use Rattle.sim_base.specs.Commands.{commanded}
-use Rattle.sim_laws.specs.CommandLaws.{IsOrderOf}
-use Rattle.sim_plans.specs.Fits.{OfRow, Fits, AllFit}
-use Rattle.sim_plans.specs.RowChanges.{set_by_all, Suits}
-use Rattle.sim_plans.specs.CommandPlans.{command_plan}
 
 -- a change that fits keeps a state loosely valid
 abbrev pub FittingKeepsLoose : Type 0
-FittingKeepsLoose = (setup : Setup) (state : State) (c : Change) → IsSetup setup → IsLooselyValid setup state → Fits setup state c → IsLooselyValid setup (applied setup state c)
+FittingKeepsLoose = (setup : Setup) (state : State) (c : Change) → IsSetup setup → IsLooselyValid setup state → Fits setup state c
+    → IsLooselyValid setup (applied setup state c)
 
 -- and so do changes that fit in order
 abbrev pub AllFittingKeepLoose : Type 0
-AllFittingKeepLoose = (setup : Setup) (state : State) (changes : List Change) → IsSetup setup → IsLooselyValid setup state → AllFit setup state changes → IsLooselyValid setup (applied_all setup state changes)
+AllFittingKeepLoose = (setup : Setup) (state : State) (changes : List Change) → IsSetup setup → IsLooselyValid setup state → AllFit setup state changes
+    → IsLooselyValid setup (applied_all setup state changes)
 
 -- the changes of a plan fit in order, and give the phase
 pub record IsPlanOf (setup : Setup) (state : State) (changes : List Change) (after : State) : Type 0 where

@@ -1,21 +1,9 @@
 -- The changes that make up a phase of a turn, all found from the one state before it: row by row, by ascending id.
-use Rattle.std.specs.Prelude.{ℕ, ◌-◌, Bool, true, false, ◌==◌, ℤ, pos, ◌-ℤ◌, List, [], ◌∷◌, ◌++◌, map, filter, Option, Some, None, if◌then◌else◌}
-use Rattle.std.specs.Int.{int_max}
-use Rattle.std.specs.List.{flat_map}
-use Rattle.sim_base.specs.declared.template.Arms.{Arms}
-use Rattle.sim_base.specs.declared.setup.Setup.{Setup}
-use Rattle.sim_base.specs.declared.state.Motion.{Motion}
-use Rattle.sim_base.specs.declared.state.Aim.{Aim}
-use Rattle.sim_base.specs.declared.state.Row.{Row}
-use Rattle.sim_base.specs.declared.state.State.{State}
-use Rattle.sim_base.specs.declared.change.Change.{Change}
+use Rattle.{sim_plans.specs.RowPlans.step_changes, sim_plans.specs.RowPlans.target_changes, sim_plans.specs.RowPlans.turn_changes, std.specs.List.flat_map}
+use Rattle.std.specs.Prelude.{ℕ, ◌-◌, Bool, true, false, List, [], ◌∷◌, ◌++◌, map, ℤ, pos, ◌-ℤ◌, if◌then◌else◌, ◌==◌, Some, None, filter, Option}
+use Rattle.sim_plans.specs.Common.{Aim, Arms, arms_of, Change, Hit, hitting, id_of, int_max, is_idle, is_near, is_spent, lets_go, Motion, moved_row, Row}
+use Rattle.sim_plans.specs.Common.{row_of, Setup, speed_of, State, taken_from, target_for, target_of}
 use Rattle.sim_base.specs.declared.change.Change.TheVariants as change
-use Rattle.sim_base.specs.Rows.{id_of, row_of, target_of, speed_of, arms_of}
-use Rattle.sim_base.specs.Filters.{is_near}
-use Rattle.sim_base.specs.Aim.{lets_go, target_for, is_idle}
-use Rattle.sim_base.specs.Move.{moved_row}
-use Rattle.sim_base.specs.Hit.{Hit, hitting, taken_from, is_spent}
-use Rattle.sim_plans.specs.RowPlans.{target_changes, turn_changes, step_changes}
 
 -- ---- aims
 
@@ -31,7 +19,8 @@ aim_changes_by false true target row = target_changes target row.id row.attack
 aim_changes_by false false target row = []
 
 abbrev pub aim_changes_of : Setup → State → Row → List Change
-aim_changes_of setup state row = aim_changes_by (lets_go setup row (row_of state (target_of row))) (is_idle row) (next_target setup state row (arms_of setup row)) row
+aim_changes_of setup state row = aim_changes_by (lets_go setup row (row_of state (target_of row))) (is_idle row)
+    (next_target setup state row (arms_of setup row)) row
 
 abbrev pub aim_plan : Setup → State → List Change
 aim_plan setup state = flat_map (aim_changes_of setup state) state.rows
@@ -82,7 +71,8 @@ hurt_changes_of hits row = hurt_changes_by row.id (taken_from row.id hits) row.h
 -- first all rows fight, then the word is what it has come to, and then healths fall
 abbrev pub hit_plan : Setup → State → List Change
 hit_plan setup state =
-    flat_map (fight_changes_of setup state) state.rows ++ change.Word (hitting setup state).word ∷ flat_map (hurt_changes_of (hitting setup state).hits) state.rows
+    flat_map (fight_changes_of setup state) state.rows ++ change.Word (hitting setup state).word ∷ flat_map (hurt_changes_of (hitting setup state).hits)
+    state.rows
 
 -- ---- those without health go
 

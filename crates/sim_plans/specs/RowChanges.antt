@@ -1,12 +1,7 @@
 -- Changes of one row: which it may take beside the others, and what they make of it.
-use Rattle.std.specs.Prelude.{◌≡◌, ◌≤◌, pos, ◌≤ℤ◌, List, fold, Some, IsSome, MatchOption}
-use Rattle.sim_base.specs.declared.setup.Setup.{Setup}
-use Rattle.sim_base.specs.declared.state.Row.{Row}
-use Rattle.sim_base.specs.declared.change.Change.{Change}
+use Rattle.std.specs.Prelude.{◌≡◌, ◌≤◌, List, pos, ◌≤ℤ◌, IsSome, MatchOption, Some, fold}
+use Rattle.sim_plans.specs.{Common.arms_of, Common.Change, Common.IsInside, Common.IsValidAim, Common.IsValidMotion, Common.Row, Common.Setup, Fits.most_of}
 use Rattle.sim_base.specs.declared.change.Change.TheVariants as change
-use Rattle.sim_base.specs.Rows.{arms_of}
-use Rattle.sim_base.specs.Validity.{IsInside, IsValidMotion, IsValidAim}
-use Rattle.sim_plans.specs.Fits.{most_of}
 
 -- what a change makes of the row that it names
 abbrev pub set_by : Change → Row → Row
@@ -29,7 +24,8 @@ abbrev pub Suits : Setup → List Row → Row → Change → Type 0
 Suits setup rows row (change.Move id p) = (id ≡ row.id) × IsSome row.motion × IsInside setup p
 Suits setup rows row (change.Motion id motion) = (id ≡ row.id) × IsSome row.motion × IsValidMotion setup motion
 Suits setup rows row (change.Attack id aim) = (id ≡ row.id) × IsSome row.attack × MatchOption (arms_of setup row) ⊥ (IsValidAim rows id aim)
-Suits setup rows row (change.Health id health) = (id ≡ row.id) × IsSome row.health × MatchOption (most_of setup row) ⊥ (λ most. (pos 0 ≤ℤ health) × (health ≤ℤ most))
+Suits setup rows row (change.Health id health) = (id ≡ row.id) × IsSome row.health × MatchOption (most_of setup row) ⊥
+    (λ most. (pos 0 ≤ℤ health) × (health ≤ℤ most))
 Suits setup rows row (change.Owner id owner) = (id ≡ row.id) × (owner ≤ setup.players)
 Suits setup rows row (change.Remove id) = ⊥
 Suits setup rows row (change.Create number p owner) = ⊥

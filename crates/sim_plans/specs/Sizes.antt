@@ -1,6 +1,6 @@
 -- How large a ground is at most.
-use Rattle.std.specs.Prelude.{◌≤◌, ◌<ℤ◌, ◌≤ℤ◌, ℤ, pos}
-use Rattle.sim_base.specs.Places.{Size}
+use Rattle.std.specs.Prelude.{◌≤◌, ℤ, pos, ◌≤ℤ◌, ◌<ℤ◌}
+use Rattle.sim_plans.specs.Common.{Size}
 
 -- a coordinate of the largest ground
 pub record IsCoordinate (raw : ℤ) : Type 0 where

@@ -1,18 +1,7 @@
 -- A turn as changes: each command's plan and each phase's plan is made for the state which those before it leave.
 use Rattle.std.specs.Prelude.{◌<◌, List, [], ◌∷◌, ◌++◌, All}
-use Rattle.sim_base.specs.declared.command.PlayerCommand.{PlayerCommand}
-use Rattle.sim_base.specs.declared.setup.Setup.{Setup}
-use Rattle.sim_base.specs.declared.state.State.{State}
-use Rattle.sim_base.specs.declared.change.Change.{Change}
-use Rattle.sim_base.specs.declared.change.Change.TheVariants.{Tick}
-use Rattle.sim_base.specs.Limits.{IsSetup}
-use Rattle.sim_base.specs.Validity.{IsValid}
-use Rattle.sim_base.specs.Changes.{applied_all}
-use Rattle.sim_base.specs.Turn.{turn}
-use Rattle.sim_laws.specs.CommandLaws.{IsOrderOf}
-use Rattle.sim_plans.specs.Plans.{aim_plan, move_plan, hit_plan, gone_plan}
-use Rattle.sim_plans.specs.CommandPlans.{command_plan}
-use Rattle.sim_plans.specs.PlanLaws.{IsPlanOf}
+use Rattle.sim_plans.specs.{CommandPlans.command_plan, PlanLaws.IsPlanOf, Plans.aim_plan, Plans.gone_plan, Plans.hit_plan, Plans.move_plan}
+use Rattle.sim_plans.specs.Common.{applied_all, Change, IsOrderOf, IsSetup, IsValid, PlayerCommand, Setup, State, Tick, turn}
 
 -- the changes of commands, in order
 abbrev pub orders_plan : Setup → State → List PlayerCommand → List Change
@@ -43,5 +32,6 @@ turn_plan setup state orders = then_plan setup state (orders_plan setup state or
 -- they fit in order, and give the turn
 abbrev pub TurnIsPlanned : Type 0
 TurnIsPlanned =
-    (setup : Setup) (state : State) (orders : List PlayerCommand) → IsSetup setup → All (IsOrderOf setup) orders → IsValid setup state → state.turn < setup.turns
+    (setup : Setup) (state : State) (orders : List PlayerCommand) → IsSetup setup → All (IsOrderOf setup) orders → IsValid setup state
+    → state.turn < setup.turns
     → IsPlanOf setup state (turn_plan setup state orders) (turn setup state orders)

@@ -1,10 +1,8 @@
 //! The places of rows, noted once for the many questions of a phase.
 
-ghost use Rattle.std.specs.Prelude.{◌≡◌, ◌<◌, None, Some, length, map, option_copied, MatchOption, IfSome};
 ghost use Rattle.std.specs.List.{HoldsAt};
-ghost use Rattle.std.specs.List.Sorted.{IsStrictlyIncreasing};
-ghost use Rattle.sim_base.specs.Rows.{id_of, row_of};
-ghost use Rattle.sim_plans.specs.Found.{found};
+ghost use Rattle.std.specs.Prelude.{◌≡◌, ◌<◌, map, length, IfSome, MatchOption, Some, None, option_copied};
+ghost use Rattle.sim_plans.specs.{Common.id_of, Common.IsStrictlyIncreasing, Common.row_of, Found.found};
 
 use crate::lookup_rows;
 use sim_base::{OutOfMemory, Row, State};

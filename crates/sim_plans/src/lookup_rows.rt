@@ -1,10 +1,8 @@
 //! A row by its id. Ids ascend, so it is found by binary search; at once where each id from the first row on has a row.
 
-ghost use Rattle.std.specs.Prelude.{◌≡◌, ◌<◌, IsTrue, None, Some, length, map, option_copied, MatchOption, IfSome};
-ghost use Rattle.std.specs.List.{HoldsAt};
-ghost use Rattle.std.specs.List.Sorted.{IsStrictlyIncreasing};
-ghost use Rattle.sim_base.specs.Rows.{id_of, row_of, target_of as target_by, is_holding as is_holding_by, is_going as is_going_by};
-ghost use Rattle.sim_plans.specs.Found.{found};
+ghost use Rattle.{sim_plans.specs.Found.found, std.specs.List.HoldsAt};
+ghost use Rattle.std.specs.Prelude.{◌≡◌, ◌<◌, map, length, IfSome, IsTrue, MatchOption, Some, None, option_copied};
+ghost use Rattle.sim_plans.specs.Common.{id_of, is_going as is_going_by, is_holding as is_holding_by, IsStrictlyIncreasing, row_of, target_of as target_by};
 
 use sim_base::{Motion, Row, State};
 

@@ -1,7 +1,7 @@
 //! Who is an enemy of whom.
 
 ghost use Rattle.std.specs.Prelude.{◌≡◌, ◌<◌, length};
-ghost use Rattle.sim_base.specs.Rows.{in_mask as in_mask_of, enemies_of};
+ghost use Rattle.sim_plans.specs.Common.{enemies_of, in_mask as in_mask_of};
 
 use sim_base::Setup;
 

@@ -1,9 +1,6 @@
 //! Laws of the changes of a phase.
 
-ghost use Rattle.sim_base.specs.Aim.{aimed};
-ghost use Rattle.sim_base.specs.Move.{moved};
-ghost use Rattle.sim_base.specs.Hit.{hit, gone};
-ghost use Rattle.sim_plans.specs.Plans.{aim_plan, move_plan, hit_plan, gone_plan};
+ghost use Rattle.sim_plans.specs.{Common.aimed, Common.gone, Common.hit, Common.moved, Plans.aim_plan, Plans.gone_plan, Plans.hit_plan, Plans.move_plan};
 ghost use Rattle.sim_plans.specs.PlanLaws.{Plans};
 
 /// The changes by which fighters choose their targets.

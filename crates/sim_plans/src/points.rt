@@ -1,11 +1,7 @@
 //! How points lie on the ground and to one another.
 
 ghost use Rattle.std.specs.Prelude.{◌≡◌};
-ghost use Rattle.sim_base.specs.Limits.{IsRawFrom};
-ghost use Rattle.sim_base.specs.Places.{IsPlaced, is_inside as is_inside_of};
-ghost use Rattle.sim_base.specs.Rows.{size_of};
-ghost use Rattle.sim_base.specs.Filters.{is_near as is_near_by};
-ghost use Rattle.sim_base.specs.Move.{same_point as same_point_by};
+ghost use Rattle.sim_plans.specs.Common.{is_inside as is_inside_of, is_near as is_near_by, IsPlaced, IsRawFrom, same_point as same_point_by, size_of};
 
 use sim_base::{Fixed, Land, Point, square};
 

@@ -1,8 +1,7 @@
 //! What the template of a row says.
 
-ghost use Rattle.std.specs.Prelude.{◌≡◌, option_copied, slice_get};
-ghost use Rattle.sim_base.specs.Rows.{arms_of as arms_by, speed_of as speed_by};
-ghost use Rattle.sim_base.specs.Hit.{resist_of as resist_by};
+ghost use Rattle.std.specs.Prelude.{◌≡◌, slice_get, option_copied};
+ghost use Rattle.sim_plans.specs.Common.{arms_of as arms_by, resist_of as resist_by, speed_of as speed_by};
 
 use sim_base::{Arms, Fixed, Resist, Row, Setup, Template};
 

@@ -1,27 +1,10 @@
 -- The states of turns, one more at the end or the first apart.
-use Rattle.std.proofs.Common.{◌≡◌, ℕ, zero, suc, ◌+◌, ◌-◌, ◌*◌, List, [], ◌∷◌, length, map, refl, sym, ap, ◌∙◌, arith}
-use Rattle.std.specs.Prelude.{◌||◌, fold, Result, Ok, Err, IfOk, String, string_bytes}
-use Rattle.std.specs.declared.alloc.Global.{Global}
-use Rattle.std.specs.List.{range_with_len}
-use Rattle.std.proofs.lemmas.List.FromFn.{map-range_with_len_more}
-use Rattle.std.proofs.lemmas.List.Sums.{fold-append}
-use Rattle.sim_base.specs.declared.memory.OutOfMemory.{OutOfMemory}
-use Rattle.sim_base.specs.declared.setup.Setup.{Setup}
-use Rattle.sim_base.specs.declared.state.State.{State}
-use Rattle.sim_base.specs.Turn.{first_state, from, after, own_turns}
-use Rattle.sim_territory.specs.Realms.{RealmOf, realm_of}
-use Rattle.sim_play.proofs.Past.{own_turn}
-use Rattle.sim_vision.specs.Vision.{Vision, is_visible, cells_in}
-use Rattle.sim_vision.specs.After.{blind, joined_at, vision_after, last_of, was_visible}
-use Rattle.sim_vision.specs.Joining.{is_set}
-use Rattle.sim_vision.specs.Keeping.{extent_in}
-use Rattle.sim_vision.specs.Spans.{one_if}
-use Rattle.sim_vision.specs.Told.{sight_lines, explored_file, sight_text as text_of_vision}
-use Rattle.sim_vision.specs.Watching.{flag_in}
-use Rattle.sim_vision.proofs.After.{explored_start}
-use Rattle.sim_vision.proofs.Telling.{told_from_the_start, told_from_a_file}
-use Rattle.sim_play.specs.States.{states_to, later_of}
-use Rattle.sim_play.specs.Seen.{sight_text, sight_file, resight_text}
+use Rattle.sim_play.{proofs.Past.own_turn, specs.Seen.sight_text}
+use Rattle.sim_play.proofs.Common.{after, ap, arith, blind, cells_in, explored_file, explored_start, extent_in, first_state, flag_in, fold-append, from, Global}
+use Rattle.sim_play.proofs.Common.{is_set, is_visible, joined_at, last_of, later_of, map-range_with_len_more, one_if, OutOfMemory, own_turns, range_with_len}
+use Rattle.sim_play.proofs.Common.{realm_of, RealmOf, resight_text, Setup, sight_file, sight_lines, sight_text as text_of_vision, State, states_to, sym}
+use Rattle.sim_play.proofs.Common.{told_from_a_file, told_from_the_start, Vision, vision_after, was_visible, ◌∙◌}
+use Rattle.sim_play.proofs.Common.{◌≡◌, ℕ, zero, suc, ◌+◌, ◌-◌, ◌*◌, ◌||◌, List, [], ◌∷◌, map, length, IfOk, Ok, Err, string_bytes, fold, Result, String, refl}
 
 -- whatever has followed so many states of turns, after one turn more
 pub followed_more : {X : Type 0} (next : X → State → X) (setup : Setup) (start state : State) (n : ℕ) (first : X) →

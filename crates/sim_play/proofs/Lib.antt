@@ -1,3 +1,4 @@
+pub mod Common
 pub mod Past
 pub mod PlayLines
 pub mod Playing

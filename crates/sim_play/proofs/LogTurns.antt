@@ -1,23 +1,9 @@
 -- One turn of a log more, and the match's own turns as those of a log.
-use Rattle.std.proofs.Common.{◌≡◌, ℕ, zero, suc, ◌+◌, ◌<◌, ◌≤◌, List, [], ◌∷◌, ◌++◌, length, take, map, reverse, get_or, refl, sym, subst, ap, ◌∙◌, arith}
-use Rattle.std.specs.Prelude.{All, Result, Ok, Err, IfOk, OnOk}
-use Rattle.std.specs.List.{range_with_len}
-use Rattle.std.proofs.lemmas.List.{map-append, reverse-append, take_all, take_more}
-use Rattle.std.proofs.lemmas.List.Elements.{All-nil, All-cons}
-use Rattle.std.proofs.lemmas.List.FromFn.{length-map-range_with_len, map-range_with_len_more}
-use Rattle.sim_base.specs.declared.command.PlayerCommand.{PlayerCommand}
-use Rattle.sim_base.specs.declared.setup.Setup.{Setup}
-use Rattle.sim_base.specs.declared.state.State.{State}
-use Rattle.sim_base.specs.Limits.{IsSetup}
-use Rattle.sim_base.specs.Spelling.{digest}
-use Rattle.sim_base.specs.Turn.{Past, Item, Turn, Bend, turn, turns_in, after, orders_at, own_turns}
-use Rattle.sim_laws.specs.CommandLaws.{IsOrderOf}
-use Rattle.sim_laws.proofs.Turning.{after_counts_turns}
-use Rattle.sim_play.specs.Films.{last_state}
-use Rattle.sim_replay.specs.declared.log.Log.{Log}
-use Rattle.sim_replay.specs.Logs.{IsOfTurns}
-use Rattle.sim_play.specs.Logs.{past_of, state_after, digests_after, log_after, match_turns}
-use Rattle.sim_play.proofs.PaidOnes.{own_orders}
+use Rattle.sim_play.proofs.{Common.take_more, Common.Turn, Common.turn, Common.turns_in, Common.◌∙◌, PaidOnes.own_orders}
+use Rattle.sim_play.proofs.Common.{after, after_counts_turns, All-cons, All-nil, ap, arith, Bend, digest, digests_after, IsOfTurns, IsOrderOf, IsSetup}
+use Rattle.sim_play.proofs.Common.{last_state, length-map-range_with_len, Log, log_after, map-append, map-range_with_len_more, match_turns, orders_at}
+use Rattle.sim_play.proofs.Common.{own_turns, Past, past_of, PlayerCommand, range_with_len, reverse-append, Setup, State, state_after, subst, sym, take_all}
+use Rattle.sim_play.proofs.Common.{◌≡◌, ℕ, zero, suc, ◌+◌, ◌<◌, ◌≤◌, List, [], ◌∷◌, ◌++◌, map, reverse, length, get_or, take, IfOk, Ok, Err, All, Result, refl}
 
 -- ---- the past of turns
 
@@ -51,7 +37,8 @@ state_more setup turns n orders less is =
 abbrev pub digests_to : Setup → List (List PlayerCommand) → ℕ → List (List ℕ)
 digests_to setup turns count = map (λ n. digest setup (state_after setup (take n turns))) (range_with_len 0 count)
 
-pub digests_more : (setup : Setup) (turns : List (List PlayerCommand)) (n : ℕ) (state : State) (digests new : List (List ℕ)) → state ≡ state_after setup (take n turns)
+pub digests_more : (setup : Setup) (turns : List (List PlayerCommand)) (n : ℕ) (state : State) (digests new : List (List ℕ))
+    → state ≡ state_after setup (take n turns)
     → digests ≡ digests_to setup turns n → new ≡ digests ++ digest setup state ∷ [] → new ≡ digests_to setup turns (n + 1)
 digests_more setup turns n state digests new is so_far made =
     made
@@ -94,7 +81,8 @@ match_players setup limits = by 1 setup.turns (omega arith)
     by zero (suc n) low = absurd (omega (arith, low))
     by (suc before) (suc n) low =
         let here : before + 1 ≡ suc before = omega arith in
-        All-cons (All (IsOrderOf setup)) _ _ (subst (λ (t : ℕ). All (IsOrderOf setup) (orders_at t setup.commands)) here (own_orders setup before limits)) (by (suc (suc before)) n (omega arith))
+        All-cons (All (IsOrderOf setup)) _ _ (subst (λ (t : ℕ). All (IsOrderOf setup) (orders_at t setup.commands)) here (own_orders setup before limits))
+        (by (suc (suc before)) n (omega arith))
 
 -- what is known of the digests of a board of the same match
 pub same_digests : {E : Type 0} (r : Result (List (List ℕ)) E) (setup same : Setup) (turns : List (List PlayerCommand)) → same ≡ setup
@@ -107,5 +95,6 @@ pub log_of_match : (setup : Setup) (log : Log) → log ≡ log_after setup (matc
 log_of_match setup log is =
     let turns : length log.turns ≡ setup.turns = ap (λ (l : Log). length l.turns) is ∙ match_length setup in
     let digests : length log.digests ≡ suc (length (match_turns setup)) =
-    ap (λ (l : Log). length l.digests) is ∙ length-map-range_with_len (λ n. digest setup (state_after setup (take n (match_turns setup)))) 0 (suc (length (match_turns setup))) in
+    ap (λ (l : Log). length l.digests) is ∙ length-map-range_with_len (λ n. digest setup (state_after setup (take n (match_turns setup)))) 0
+    (suc (length (match_turns setup))) in
     record { few = omega (arith, turns); one_more = omega (arith, turns, digests, match_length setup) }

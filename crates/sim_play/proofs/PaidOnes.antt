@@ -1,21 +1,8 @@
 -- One paid turn more of a match: its books, its number and its line.
-use Rattle.std.proofs.Common.{◌≡◌, ℕ, zero, suc, ◌+◌, List, [], ◌++◌, All, refl, sym, ap, ◌∙◌, append_assoc, append-nil, arith}
-use Rattle.std.specs.Prelude.{codes, Result, Ok, Err, IfOk, OnOk}
-use Rattle.sim_base.specs.declared.setup.Setup.{Setup}
-use Rattle.sim_base.specs.declared.state.State.{State}
-use Rattle.sim_base.specs.Limits.{IsSetup}
-use Rattle.sim_base.specs.Spelling.{digest}
-use Rattle.sim_base.specs.Turn.{Turn, turns_in, orders_at}
-use Rattle.sim_report.specs.Lines.{turn_line}
-use Rattle.sim_laws.specs.CommandLaws.{IsOrderOf}
-use Rattle.sim_laws.proofs.Turning.{after_counts_turns, own_turns_are_of_players}
-use Rattle.sim_system.specs.Meanings.{Systems, AreFed}
-use Rattle.sim_board.specs.BoardWords.{AreKept}
-use Rattle.sim_stock.specs.declared.economy.Economy.{Economy}
-use Rattle.sim_stock.specs.declared.stocks.Stocks.{Stocks}
-use Rattle.sim_stock.specs.PaidTurns.{Books, books_of, books_after, kept_past, paid_turn}
-use Rattle.sim_stock.proofs.Paying.{states_are_after}
-use Rattle.sim_play.specs.Paid.{paid_state, paid_stocks, paid_lines}
+use Rattle.sim_play.proofs.Common.{append_assoc, AreFed, AreKept, arith, Books, books_after, books_of, digest, Economy, IsOrderOf, IsSetup, kept_past}
+use Rattle.sim_play.proofs.Common.{orders_at, own_turns_are_of_players, paid_lines, paid_state, paid_stocks, paid_turn, Setup, State, states_are_after, Stocks}
+use Rattle.sim_play.proofs.Common.{sym, Systems, Turn, turn_line, turns_in, ◌∙◌}
+use Rattle.sim_play.proofs.Common.{◌≡◌, ℕ, zero, suc, ◌+◌, List, [], ◌++◌, IfOk, OnOk, Ok, Err, codes, All, Result, refl, after_counts_turns, ap, append-nil}
 
 -- systems that nothing was told yet
 pub kept_so_far : (setup : Setup) (state : State) (s : Systems) → AreFed setup state s → AreKept s s

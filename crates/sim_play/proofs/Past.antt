@@ -1,15 +1,7 @@
 -- One turn more of a match's own past: its state and its line.
-use Rattle.std.proofs.Common.{◌≡◌, ℕ, zero, suc, ◌+◌, ◌-◌, ◌≤◌, List, [], ◌++◌, sym, ap, ◌∙◌, append_assoc, append-nil, arith}
-use Rattle.std.specs.Prelude.{Result, Ok, Err, OnOk, IfOk, String, string_bytes, codes}
-use Rattle.std.specs.declared.alloc.Global.{Global}
-use Rattle.sim_base.specs.declared.memory.OutOfMemory.{OutOfMemory}
-use Rattle.sim_base.specs.declared.setup.Setup.{Setup}
-use Rattle.sim_base.specs.declared.state.State.{State}
-use Rattle.sim_base.specs.Turn.{first_state, from, after, own_turns}
-use Rattle.sim_base.specs.Spelling.{digest}
-use Rattle.sim_laws.proofs.Turning.{after_counts_turns, own_turns_are_so_many}
-use Rattle.sim_report.specs.Lines.{turn_line}
-use Rattle.sim_play.specs.Lines.{past_lines, rejoin_text}
+use Rattle.sim_play.proofs.Common.{after_counts_turns, ap, append-nil, append_assoc, arith, digest, first_state, from, Global, OutOfMemory, own_turns}
+use Rattle.sim_play.proofs.Common.{own_turns_are_so_many, past_lines, rejoin_text, Setup, State, sym, turn_line, ◌∙◌}
+use Rattle.sim_play.proofs.Common.{◌≡◌, ℕ, zero, suc, ◌+◌, ◌-◌, ◌≤◌, List, [], ◌++◌, IfOk, OnOk, Ok, Err, string_bytes, codes, Result, String, after}
 use Rattle.sim_play.proofs.Playing.{one_turn_more}
 
 -- after so many turns the state stands at that turn
@@ -20,7 +12,8 @@ first_turn : (setup : Setup) → (first_state setup).turn ≡ 0
 first_turn setup = after_counts_turns setup []
 
 -- the turn that is played next is the match's own
-pub own_more : (setup : Setup) (old new : State) (t : ℕ) → old.turn ≡ t → new ≡ from setup old (own_turns setup old.turn (t + 1 - old.turn)) → old ≡ after setup (own_turns setup 0 t)
+pub own_more : (setup : Setup) (old new : State) (t : ℕ) → old.turn ≡ t → new ≡ from setup old (own_turns setup old.turn (t + 1 - old.turn))
+    → old ≡ after setup (own_turns setup 0 t)
     → new ≡ after setup (own_turns setup 0 (t + 1))
 own_more setup old new t at is so_far =
     let start = first_state setup in
@@ -32,7 +25,8 @@ own_more setup old new t at is so_far =
     ∙ ap (λ (k : ℕ). after setup (own_turns setup 0 k)) more
 
 -- the lines so far, and the line of one turn more
-pub past_lines-more : (word : List ℕ) (setup : Setup) (start n t : ℕ) (old text more hash : List ℕ) → text ≡ old ++ past_lines word setup start n → more ≡ text ++ turn_line word t hash → t ≡ start + n
+pub past_lines-more : (word : List ℕ) (setup : Setup) (start n t : ℕ) (old text more hash : List ℕ) → text ≡ old ++ past_lines word setup start n
+    → more ≡ text ++ turn_line word t hash → t ≡ start + n
     → hash ≡ digest setup (after setup (own_turns setup 0 t)) → more ≡ old ++ past_lines word setup start (suc n)
 past_lines-more word setup start n t old text more hash so_far written number is =
     let lines = past_lines word setup start n in
@@ -43,7 +37,8 @@ past_lines-more word setup start n t old text more hash so_far written number is
     ∙ ap (λ (k : ℕ). old ++ (lines ++ turn_line word k (digest setup (after setup (own_turns setup 0 k))))) number
 
 -- the lines of two stretches of turns, one behind the other
-pub past_lines-append : (word : List ℕ) (setup : Setup) (start m n : ℕ) → past_lines word setup start m ++ past_lines word setup (start + m) n ≡ past_lines word setup start (m + n)
+pub past_lines-append : (word : List ℕ) (setup : Setup) (start m n : ℕ) → past_lines word setup start m ++ past_lines word setup (start + m) n ≡ past_lines word
+    setup start (m + n)
 past_lines-append word setup start m zero =
     let none : m ≡ m + 0 = omega arith in
     append-nil (past_lines word setup start m) ∙ ap (past_lines word setup start) none
@@ -57,7 +52,8 @@ past_lines-append word setup start m (suc n) =
     ∙ ap (past_lines word setup start) many
 
 -- the line of a turn, and those of the turns behind it
-pub past_lines-first : (word : List ℕ) (setup : Setup) (start n : ℕ) → turn_line word start (digest setup (after setup (own_turns setup 0 start))) ++ past_lines word setup (suc start) n ≡ past_lines word setup start (suc n)
+pub past_lines-first : (word : List ℕ) (setup : Setup) (start n : ℕ) → turn_line word start (digest setup (after setup (own_turns setup 0 start))) ++
+    past_lines word setup (suc start) n ≡ past_lines word setup start (suc n)
 past_lines-first word setup start n =
     let line = λ (k : ℕ). turn_line word k (digest setup (after setup (own_turns setup 0 k))) in
     let same : start ≡ start + 0 = omega arith in
@@ -81,8 +77,10 @@ module _ (setup : Setup) (state : State) (n : ℕ) (is : state ≡ after setup (
   own_by_turn = is ∙ ap (λ (k : ℕ). after setup (own_turns setup 0 k)) (sym own_at)
 
 -- the line of a state, and those of the turns behind it
-pub begun_lines : (word : List ℕ) (setup same : Setup) (state : State) (n : ℕ) (old middle new : List ℕ) → same ≡ setup → state ≡ after setup (own_turns setup 0 state.turn)
-    → middle ≡ old ++ turn_line word state.turn (digest same state) → new ≡ middle ++ past_lines word same (suc state.turn) n → new ≡ old ++ past_lines word setup state.turn (suc n)
+pub begun_lines : (word : List ℕ) (setup same : Setup) (state : State) (n : ℕ) (old middle new : List ℕ) → same ≡ setup
+    → state ≡ after setup (own_turns setup 0 state.turn)
+    → middle ≡ old ++ turn_line word state.turn (digest same state) → new ≡ middle ++ past_lines word same (suc state.turn) n
+    → new ≡ old ++ past_lines word setup state.turn (suc n)
 begun_lines word setup same state n old middle new of_same own first rest =
     rest
     ∙ ap (λ (xs : List ℕ). xs ++ past_lines word same (suc state.turn) n) first
@@ -93,7 +91,8 @@ begun_lines word setup same state n old middle new of_same own first rest =
 
 -- the lines up to a turn, and those of the turns behind it
 pub ended_lines : (word : List ℕ) (setup same : Setup) (at turn until : ℕ) (old middle new : List ℕ) → same ≡ setup → at ≡ turn → turn ≤ until
-    → middle ≡ old ++ past_lines word setup 0 (suc turn) → new ≡ middle ++ past_lines word same (suc at) (until - at) → new ≡ old ++ past_lines word setup 0 (suc until)
+    → middle ≡ old ++ past_lines word setup 0 (suc turn) → new ≡ middle ++ past_lines word same (suc at) (until - at) → new ≡ old ++ past_lines word setup 0
+    (suc until)
 ended_lines word setup same at turn until old middle new of_same is le first rest =
     let next : suc turn ≡ 0 + suc turn = omega arith in
     let many : suc turn + (until - turn) ≡ suc until = omega (arith, le) in
@@ -112,8 +111,10 @@ of_done (Ok x) P Q f h = f h
 of_done (Err e) P Q f h = tt
 
 -- the lines of the first client, and those of the second from the turn at which it joined
-pub joined_text : (setup : Setup) (at turn : ℕ) (first : List ℕ) (text : Result (String Global) OutOfMemory) → at ≡ turn → first ≡ past_lines (codes "first") setup 0 (suc setup.turns)
-    → IfOk text (λ made. string_bytes made ≡ first ++ past_lines (codes "second") setup at (suc (setup.turns - at))) → IfOk text (λ made. string_bytes made ≡ rejoin_text setup turn)
+pub joined_text : (setup : Setup) (at turn : ℕ) (first : List ℕ) (text : Result (String Global) OutOfMemory) → at ≡ turn
+    → first ≡ past_lines (codes "first") setup 0 (suc setup.turns)
+    → IfOk text (λ made. string_bytes made ≡ first ++ past_lines (codes "second") setup at (suc (setup.turns - at)))
+    → IfOk text (λ made. string_bytes made ≡ rejoin_text setup turn)
 joined_text setup at turn first (Err none) is lines h = tt
 joined_text setup at turn first (Ok made) is lines h =
     h ∙ ap (λ (xs : List ℕ). xs ++ past_lines (codes "second") setup at (suc (setup.turns - at))) lines

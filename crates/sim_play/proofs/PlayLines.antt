@@ -1,15 +1,9 @@
 -- One turn more of a match: its line.
-use Rattle.std.proofs.Common.{◌≡◌, ℕ, suc, ◌+◌, List, ◌++◌, ap, ◌∙◌, append_assoc}
-use Rattle.std.specs.Prelude.{codes}
-use Rattle.sim_base.specs.declared.setup.Setup.{Setup}
-use Rattle.sim_base.specs.declared.state.State.{State}
-use Rattle.sim_base.specs.Turn.{from, own_turns}
-use Rattle.sim_base.specs.Spelling.{digest}
-use Rattle.sim_report.specs.Lines.{turn_line}
-use Rattle.sim_play.specs.Lines.{turn_lines}
+use Rattle.sim_play.proofs.Common.{◌≡◌, ℕ, suc, ◌+◌, List, ◌++◌, codes, ap, append_assoc, digest, from, own_turns, Setup, State, turn_line, turn_lines, ◌∙◌}
 
 -- the lines so far, and the line of one turn more
-pub lines_more : (setup : Setup) (state : State) (start n turn : ℕ) (old text more hash : List ℕ) → text ≡ old ++ turn_lines setup state start (suc n) → more ≡ text ++ turn_line (codes "turn") turn hash →
+pub lines_more : (setup : Setup) (state : State) (start n turn : ℕ) (old text more hash : List ℕ) → text ≡ old ++ turn_lines setup state start (suc n)
+    → more ≡ text ++ turn_line (codes "turn") turn hash →
     turn ≡ start + suc n → hash ≡ digest setup (from setup state (own_turns setup start (suc n))) → more ≡ old ++ turn_lines setup state start (suc (suc n))
 lines_more setup state start n turn old text more hash so_far written number is =
     let lines = turn_lines setup state start (suc n) in

@@ -1,13 +1,6 @@
 -- A board that was started stands at turn 0.
-use Rattle.std.proofs.Common.{◌≡◌, ℕ, suc, ◌-◌, [], sym, ap, ◌∙◌, subst, arith}
-use Rattle.sim_base.specs.declared.setup.Setup.{Setup}
-use Rattle.sim_base.specs.declared.state.State.{State}
-use Rattle.sim_base.specs.Limits.{IsSetup}
-use Rattle.sim_base.specs.Turn.{first_state, from, after, own_turns}
-use Rattle.sim_base.specs.Validity.{IsValid}
-use Rattle.sim_laws.proofs.Validity.{first_state_is_valid}
-use Rattle.sim_laws.proofs.Turning.{after_counts_turns}
-use Rattle.sim_play.specs.Lines.{turn_lines, play_text}
+use Rattle.sim_play.proofs.Common.{own_turns, play_text, Setup, State, subst, sym, turn_lines, ◌∙◌}
+use Rattle.sim_play.proofs.Common.{◌≡◌, ℕ, suc, ◌-◌, [], after, after_counts_turns, ap, arith, first_state, first_state_is_valid, from, IsSetup, IsValid}
 
 module _ (setup same : Setup) (state : State) (of_same : same ≡ setup) (is : state ≡ first_state setup) where
   pub started_valid : IsSetup setup → IsValid same state

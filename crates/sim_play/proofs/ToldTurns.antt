@@ -1,15 +1,8 @@
 -- The frame of one turn more, if it is told.
-use Rattle.std.proofs.Common.{◌≡◌, ℕ, ◌+◌, Bool, true, false, List, [], ◌∷◌, ◌++◌, refl, sym, ap, ◌∙◌, append_assoc, append-nil, arith}
-use Rattle.std.specs.Prelude.{filter, flat_map, if◌then◌else◌}
-use Rattle.std.specs.List.{range_with_len}
-use Rattle.std.proofs.lemmas.Grind.{flat_map-append}
-use Rattle.std.proofs.lemmas.List.{map-id}
-use Rattle.std.proofs.lemmas.List.FromFn.{filter_of_map_range_with_len_more}
-use Rattle.sim_base.specs.declared.setup.Setup.{Setup}
-use Rattle.sim_base.specs.declared.state.State.{State}
-use Rattle.sim_base.specs.Turn.{after, own_turns}
-use Rattle.sim_play.specs.Films.{is_told, told_turns, frame_at, frame_text, frames, told_frame}
-use Rattle.sim_play.proofs.Past.{own_at}
+use Rattle.std.specs.Prelude.{flat_map}
+use Rattle.sim_play.proofs.{Common.Setup, Common.State, Common.sym, Common.told_frame, Common.told_turns, Common.◌∙◌, Past.own_at}
+use Rattle.sim_play.proofs.Common.{filter_of_map_range_with_len_more, flat_map-append, frame_at, frame_text, frames, is_told, map-id, own_turns, range_with_len}
+use Rattle.sim_play.proofs.Common.{◌≡◌, ℕ, ◌+◌, Bool, true, false, List, [], ◌∷◌, ◌++◌, if◌then◌else◌, filter, refl, after, ap, append-nil, append_assoc, arith}
 
 -- one turn more is told or not
 told_more : (every last n : ℕ)

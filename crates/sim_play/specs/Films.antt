@@ -1,13 +1,6 @@
 -- A film of a match: its states, so many turns apart, as text.
-use Rattle.std.specs.Prelude.{ℕ, ◌+◌, ◌%◌, Bool, ◌||◌, ◌==◌, List, [], ◌++◌, filter, flat_map, if◌then◌else◌, codes}
-use Rattle.std.specs.List.{range_with_len}
-use Rattle.sim_base.specs.declared.setup.Setup.{Setup}
-use Rattle.sim_base.specs.declared.state.State.{State}
-use Rattle.sim_base.specs.Turn.{after, own_turns}
-use Rattle.sim_base.specs.Spelling.{digest}
-use Rattle.sim_report.specs.Lines.{turn_line}
-use Rattle.sim_report.specs.Show.{show_text}
-use Rattle.sim_report.specs.Ways.{ways_text}
+use Rattle.std.specs.Prelude.{ℕ, ◌+◌, ◌%◌, Bool, ◌||◌, List, [], ◌++◌, if◌then◌else◌, ◌==◌, codes, filter, flat_map}
+use Rattle.sim_play.specs.Common.{after, digest, own_turns, range_with_len, Setup, show_text, State, turn_line, ways_text}
 
 -- the state of the last turn
 abbrev pub last_state : Setup → State

@@ -1,10 +1,6 @@
 -- The lines of a match that is played.
 use Rattle.std.specs.Prelude.{ℕ, zero, suc, ◌+◌, ◌-◌, List, [], ◌++◌, length, codes}
-use Rattle.sim_base.specs.declared.setup.Setup.{Setup}
-use Rattle.sim_base.specs.declared.state.State.{State}
-use Rattle.sim_base.specs.Turn.{first_state, from, after, own_turns}
-use Rattle.sim_base.specs.Spelling.{digest}
-use Rattle.sim_report.specs.Lines.{turn_line, spaced_number, line_end}
+use Rattle.sim_play.specs.Common.{after, digest, first_state, from, line_end, own_turns, Setup, spaced_number, State, turn_line}
 
 -- So many lines from a state on that stands at a turn: the digest of each is that of the turn function, folded from that
 -- state over the match's own turns.

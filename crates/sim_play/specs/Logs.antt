@@ -1,12 +1,6 @@
 -- The log of turns of a match: their commands, and the digests of the states after the first so many of them.
-use Rattle.std.specs.Prelude.{ℕ, suc, List, length, take, map, reverse}
-use Rattle.std.specs.List.{range_with_len}
-use Rattle.sim_base.specs.declared.command.PlayerCommand.{PlayerCommand}
-use Rattle.sim_base.specs.declared.setup.Setup.{Setup}
-use Rattle.sim_base.specs.declared.state.State.{State}
-use Rattle.sim_base.specs.Spelling.{digest}
-use Rattle.sim_base.specs.Turn.{Past, Turn, after, orders_at}
-use Rattle.sim_replay.specs.declared.log.Log.{Log}
+use Rattle.std.specs.Prelude.{ℕ, suc, List, map, reverse, length, take}
+use Rattle.sim_play.specs.Common.{after, digest, Log, orders_at, Past, PlayerCommand, range_with_len, Setup, State, Turn}
 
 -- the past in which just these turns were played, the newest first
 abbrev pub past_of : List (List PlayerCommand) → Past

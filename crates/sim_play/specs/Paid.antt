@@ -1,15 +1,6 @@
 -- The lines of a match with an economy: one for each of its paid turns, and one for what each player has in the end.
-use Rattle.std.specs.Prelude.{ℕ, zero, suc, List, [], ◌++◌, codes}
-use Rattle.std.specs.List.{range_with_len, flat_map}
-use Rattle.sim_base.specs.declared.setup.Setup.{Setup}
-use Rattle.sim_base.specs.declared.state.State.{State}
-use Rattle.sim_base.specs.Turn.{after}
-use Rattle.sim_base.specs.Spelling.{digest}
-use Rattle.sim_report.specs.Lines.{turn_line, stock_line}
-use Rattle.sim_stock.specs.declared.stocks.Stocks.{Stocks}
-use Rattle.sim_stock.specs.declared.economy.Economy.{Economy}
-use Rattle.sim_stock.specs.PaidTurns.{books_after, kept_past}
-use Rattle.sim_stock.specs.Stocks.{amount_of}
+use Rattle.std.specs.{List.flat_map, Prelude.ℕ, Prelude.zero, Prelude.suc, Prelude.List, Prelude.[], Prelude.◌++◌, Prelude.codes}
+use Rattle.sim_play.specs.Common.{after, amount_of, books_after, digest, Economy, kept_past, range_with_len, Setup, State, stock_line, Stocks, turn_line}
 
 -- the state after so many paid turns, which is that after their commands without those that were left out
 abbrev pub paid_state : Setup → Economy → ℕ → State

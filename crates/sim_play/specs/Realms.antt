@@ -1,10 +1,7 @@
 -- The territories of a state, as text.
-use Rattle.std.specs.Prelude.{◌≡◌, ℕ, Bool, ◌&&◌, ◌==◌, List, ◌++◌, zip, count_by}
-use Rattle.std.specs.List.{range_with_len, flat_map}
-use Rattle.md5.specs.Md5.{md5}
-use Rattle.sim_report.specs.Lines.{holding_line, map_line}
-use Rattle.sim_territory.specs.Realms.{RealmOf, holders_in}
-use Rattle.sim_territory.specs.Rooted.{AreRooted}
+use Rattle.std.specs.List.{flat_map}
+use Rattle.std.specs.Prelude.{◌≡◌, ℕ, Bool, ◌&&◌, List, ◌++◌, ◌==◌, count_by, zip}
+use Rattle.sim_play.specs.Common.{AreRooted, holders_in, holding_line, map_line, md5, range_with_len, RealmOf}
 
 -- how many cells a player holds
 abbrev pub held : List ℕ → ℕ → ℕ

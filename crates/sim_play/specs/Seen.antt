@@ -1,17 +1,7 @@
 -- What the players of a match see, and have explored, at a turn of it.
 use Rattle.std.specs.Prelude.{ℕ, ◌-◌, ◌||◌, List, map}
-use Rattle.sim_base.specs.declared.setup.Setup.{Setup}
-use Rattle.sim_base.specs.declared.state.State.{State}
-use Rattle.sim_base.specs.Turn.{after, own_turns}
-use Rattle.sim_play.specs.Lines.{end_from}
-use Rattle.sim_play.specs.States.{states_to, later_of}
-use Rattle.sim_vision.specs.After.{was_visible, all_seen}
-use Rattle.sim_vision.specs.Joining.{is_set}
-use Rattle.sim_vision.specs.Keeping.{extent_in}
-use Rattle.sim_vision.specs.Spans.{one_if}
-use Rattle.sim_vision.specs.Told.{sight_lines}
-use Rattle.sim_vision.specs.Vision.{is_visible}
-use Rattle.sim_vision.specs.Watching.{flag_in}
+use Rattle.sim_play.specs.{Lines.end_from, States.later_of, States.states_to}
+use Rattle.sim_play.specs.Common.{after, all_seen, extent_in, flag_in, is_set, is_visible, one_if, own_turns, Setup, sight_lines, State, was_visible}
 
 -- a line for each player: the cells that he sees at a turn, and those that were visible in one of the states up to it
 abbrev pub sight_text : Setup → ℕ → List ℕ

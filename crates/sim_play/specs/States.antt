@@ -1,9 +1,6 @@
 -- The states of turns of a match.
 use Rattle.std.specs.Prelude.{ℕ, suc, List, map}
-use Rattle.std.specs.List.{range_with_len}
-use Rattle.sim_base.specs.declared.setup.Setup.{Setup}
-use Rattle.sim_base.specs.declared.state.State.{State}
-use Rattle.sim_base.specs.Turn.{from, after, own_turns}
+use Rattle.sim_play.specs.Common.{after, from, own_turns, range_with_len, Setup, State}
 
 -- the states of turns 0 to this one
 abbrev pub states_to : Setup → ℕ → List State

@@ -1,7 +1,7 @@
 //! The commands of a turn, as a list of their own: a paid turn is handed commands, and a match file has them with their turns.
 
 ghost use Rattle.std.specs.Prelude.{◌≡◌, map, IfOk};
-ghost use Rattle.sim_base.specs.declared.setup.Timed.{Timed as AnyTimed};
+ghost use Rattle.sim_play.specs.Common.{Timed as AnyTimed};
 
 use sim_base::{OutOfMemory, PlayerCommand, Timed};
 use std::alloc::Global;

@@ -1,13 +1,9 @@
 //! A film of a match: its states, so many turns apart, each with the digest, the rows and their ways. The match is played once.
 
 ghost use Rattle.std.specs.Prelude.{◌≡◌, ◌≤◌, ◌++◌, IfOk, OnOk, string_bytes};
-ghost use Rattle.sim_base.specs.Limits.{IsSetup};
-ghost use Rattle.sim_base.specs.Turn.{first_state};
-ghost use Rattle.sim_base.specs.Validity.{IsValid};
-ghost use Rattle.sim_system.specs.Meanings.{HaveKinds, AreFed, AreBuiltOnceAtMost};
-ghost use Rattle.sim_system.specs.RigWords.{systems_of};
-ghost use Rattle.sim_board.specs.BoardWords.{setup_in, state_in, systems, IsWhole, AreKept};
-ghost use Rattle.sim_play.specs.Films.{film_text as text_of_film, last_state, frame_text, is_told as is_turn_told, told_frame};
+ghost use Rattle.sim_play.specs.Common.{AreBuiltOnceAtMost, AreFed, AreKept, first_state, HaveKinds, IsSetup, IsValid, IsWhole, setup_in, state_in, systems};
+ghost use Rattle.sim_play.specs.Common.{systems_of};
+ghost use Rattle.sim_play.specs.Films.{film_text as text_of_film, frame_text, is_told as is_turn_told, last_state, told_frame};
 
 use crate::lines::push_line;
 use sim_base::{OutOfMemory, Setup, State};

@@ -1,9 +1,7 @@
 //! Whatever follows the states of a match while it is played, so that one loop serves all that does.
 
 ghost use Rattle.std.specs.Prelude.{◌≡◌, OnOk};
-ghost use Rattle.sim_base.specs.declared.setup.Setup.{Setup};
-ghost use Rattle.sim_base.specs.declared.state.State.{State as AnyState};
-ghost use Rattle.sim_base.specs.Validity.{IsValid};
+ghost use Rattle.sim_play.specs.Common.{IsValid, Setup, State as AnyState};
 
 use sim_base::{OutOfMemory, State};
 use sim_territory::Realm;
@@ -25,7 +23,7 @@ pub trait Follower {
 }
 
 impl<'a> Follower for Realm<'a> {
-    ghost use Rattle.sim_territory.specs.Realms.{realm_of};
+    ghost use Rattle.sim_play.specs.Common.{realm_of};
 
     ghost match_of = { λ realm. realm.setup };
 
@@ -37,7 +35,7 @@ impl<'a> Follower for Realm<'a> {
 }
 
 impl<'a> Follower for Sight<'a> {
-    ghost use Rattle.sim_vision.specs.After.{vision_next};
+    ghost use Rattle.sim_play.specs.Common.{vision_next};
 
     ghost match_of = { λ sight. sight.setup };
 

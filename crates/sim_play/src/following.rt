@@ -1,13 +1,8 @@
 //! A board that is played, and a follower that follows each of its states.
 
-ghost use Rattle.std.specs.Prelude.{◌≡◌, ◌≤◌, ◌-◌, fold, OnOk};
-ghost use Rattle.sim_base.specs.Limits.{IsSetup};
-ghost use Rattle.sim_base.specs.Turn.{from, after, own_turns};
-ghost use Rattle.sim_base.specs.Validity.{IsValid};
-ghost use Rattle.sim_board.specs.BoardWords.{setup_in, state_in, systems, IsWhole, AreKept};
-ghost use Rattle.sim_play.specs.Lines.{end_from};
-ghost use Rattle.sim_play.specs.States.{later_of, states_to};
-ghost use Rattle.sim_system.specs.Meanings.{HaveKinds, AreBuiltOnceAtMost};
+ghost use Rattle.std.specs.Prelude.{◌≡◌, ◌-◌, ◌≤◌, OnOk, fold};
+ghost use Rattle.sim_play.specs.{Lines.end_from, States.later_of, States.states_to};
+ghost use Rattle.sim_play.specs.Common.{after, AreBuiltOnceAtMost, AreKept, from, HaveKinds, IsSetup, IsValid, IsWhole, own_turns, setup_in, state_in, systems};
 
 use crate::follower::Follower;
 use sim_base::{OutOfMemory, State};

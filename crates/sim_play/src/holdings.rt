@@ -1,8 +1,7 @@
 //! What a realm tells: how many cells each player holds, how many of these are rooted, and a digest of all holders.
 
-ghost use Rattle.std.specs.Prelude.{◌≡◌, ◌≤◌, ◌++◌, length, IfOk, OnOk, string_bytes};
-ghost use Rattle.std.specs.List.{range_with_len, flat_map};
-ghost use Rattle.sim_play.specs.Realms.{TellsRealm, held as held_in, held_rooted as held_rooted_in, player_line};
+ghost use Rattle.std.specs.{List.flat_map, Prelude.◌≡◌, Prelude.◌≤◌, Prelude.◌++◌, Prelude.IfOk, Prelude.OnOk, Prelude.string_bytes};
+ghost use Rattle.sim_play.specs.{Common.range_with_len, Realms.held as held_in, Realms.held_rooted as held_rooted_in, Realms.player_line, Realms.TellsRealm};
 
 use md5::{Digest, Md5};
 use sim_base::OutOfMemory;

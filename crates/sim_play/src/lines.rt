@@ -1,12 +1,8 @@
 //! A line for each turn of a board.
 
-ghost use Rattle.std.specs.Prelude.{◌≡◌, ◌≤◌, ◌++◌, ◌-◌, suc, OnOk, string_bytes};
-ghost use Rattle.sim_base.specs.Spelling.{digest as digest_of};
-ghost use Rattle.sim_base.specs.Turn.{after, own_turns};
-ghost use Rattle.sim_base.specs.Validity.{IsValid};
-ghost use Rattle.sim_report.specs.Lines.{turn_line as line_of_turn};
-ghost use Rattle.sim_board.specs.BoardWords.{setup_in, state_in, systems, IsWhole, AreKept};
-ghost use Rattle.sim_play.specs.Lines.{turn_lines, past_lines, end_from};
+ghost use Rattle.std.specs.Prelude.{◌≡◌, suc, ◌-◌, ◌≤◌, ◌++◌, OnOk, string_bytes};
+ghost use Rattle.sim_play.specs.{Common.turn_line as line_of_turn, Lines.end_from, Lines.past_lines, Lines.turn_lines};
+ghost use Rattle.sim_play.specs.Common.{after, AreKept, digest as digest_of, IsValid, IsWhole, own_turns, setup_in, state_in, systems};
 
 use sim_base::{OutOfMemory, Setup, State};
 use sim_board::Board;

@@ -1,15 +1,9 @@
 //! A match that is played by the commands of a log, with the digest of the state after each turn.
 
-ghost use Rattle.std.specs.Prelude.{◌≡◌, ◌≤◌, All, IfOk, OnOk, length};
-ghost use Rattle.sim_base.specs.Limits.{IsSetup};
-ghost use Rattle.sim_base.specs.Turn.{first_state};
-ghost use Rattle.sim_base.specs.Validity.{IsValid};
-ghost use Rattle.sim_laws.specs.CommandLaws.{IsOrderOf};
-ghost use Rattle.sim_system.specs.Meanings.{HaveKinds, AreFed, AreBuiltOnceAtMost};
-ghost use Rattle.sim_system.specs.RigWords.{systems_of};
-ghost use Rattle.sim_board.specs.BoardWords.{setup_in, state_in, systems, IsWhole, AreKept};
-ghost use Rattle.sim_play.specs.Films.{last_state};
-ghost use Rattle.sim_play.specs.Logs.{state_after, digests_after as digests_of_turns, log_after as log_of_turns, match_turns as turns_of_match};
+ghost use Rattle.std.specs.Prelude.{◌≡◌, ◌≤◌, length, IfOk, OnOk, All};
+ghost use Rattle.sim_play.specs.{Common.systems, Common.systems_of, Films.last_state};
+ghost use Rattle.sim_play.specs.Common.{AreBuiltOnceAtMost, AreFed, AreKept, first_state, HaveKinds, IsOrderOf, IsSetup, IsValid, IsWhole, setup_in, state_in};
+ghost use Rattle.sim_play.specs.Logs.{digests_after as digests_of_turns, log_after as log_of_turns, match_turns as turns_of_match, state_after};
 
 use crate::own::match_turns;
 use sim_base::{OutOfMemory, Setup};

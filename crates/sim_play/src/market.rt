@@ -1,14 +1,8 @@
 //! The paid turns of a match, with a line for each.
 
-ghost use Rattle.std.specs.Prelude.{◌≡◌, ◌+◌, ◌*◌, ◌^◌, ◌<◌, ◌≤◌, ◌++◌, suc, OnOk, IfOk, string_bytes};
-ghost use Rattle.sim_base.specs.Limits.{IsSetup};
-ghost use Rattle.sim_base.specs.Turn.{first_state, orders_at};
-ghost use Rattle.sim_base.specs.Validity.{IsValid};
-ghost use Rattle.sim_system.specs.Meanings.{HaveKinds, AreBuiltOnceAtMost};
-ghost use Rattle.sim_board.specs.BoardWords.{setup_in, state_in, systems, IsWhole, AreKept};
-ghost use Rattle.sim_stock.specs.Economies.{IsEconomy};
-ghost use Rattle.sim_stock.specs.PaidTurns.{books_of, books_after, paid_turn as paid_turn_by};
-ghost use Rattle.sim_stock.specs.Stocks.{total};
+ghost use Rattle.std.specs.Prelude.{◌≡◌, suc, ◌+◌, ◌^◌, ◌<◌, ◌≤◌, ◌++◌, IfOk, OnOk, string_bytes};
+ghost use Rattle.sim_play.specs.Common.{AreBuiltOnceAtMost, AreKept, books_after, books_of, first_state, HaveKinds, IsEconomy, IsSetup, IsValid, IsWhole};
+ghost use Rattle.sim_play.specs.Common.{orders_at, paid_turn as paid_turn_by, setup_in, state_in, systems, total};
 ghost use Rattle.sim_play.specs.Paid.{paid_lines, paid_state, paid_stocks};
 
 use crate::due::commands_of;

@@ -1,13 +1,8 @@
 //! A match that is played with the systems of a rig, which is handed back.
 
 ghost use Rattle.std.specs.Prelude.{◌≡◌, ◌≤◌, ◌++◌, IfOk, OnOk, string_bytes};
-ghost use Rattle.sim_base.specs.Limits.{IsSetup};
-ghost use Rattle.sim_base.specs.Turn.{first_state, after, own_turns};
-ghost use Rattle.sim_base.specs.Validity.{IsValid};
-ghost use Rattle.sim_system.specs.Meanings.{HaveKinds, AreFed, AreBuiltOnceAtMost};
-ghost use Rattle.sim_system.specs.RigWords.{systems_of};
-ghost use Rattle.sim_board.specs.BoardWords.{setup_in, state_in, systems, IsWhole};
-ghost use Rattle.sim_play.specs.Lines.{play_text as text_of_play, resume_text as text_of_resume, end_from};
+ghost use Rattle.sim_play.specs.{Common.systems, Common.systems_of, Lines.end_from, Lines.play_text as text_of_play, Lines.resume_text as text_of_resume};
+ghost use Rattle.sim_play.specs.Common.{after, AreBuiltOnceAtMost, AreFed, first_state, HaveKinds, IsSetup, IsValid, IsWhole, own_turns, setup_in, state_in};
 
 use crate::lines::push_turns;
 use sim_base::{OutOfMemory, Setup, State};

@@ -1,12 +1,8 @@
 //! A whole match with an economy. The systems of a rig play it, which is handed back.
 
 ghost use Rattle.std.specs.Prelude.{◌≡◌, IfOk, OnOk, string_bytes};
-ghost use Rattle.sim_base.specs.Limits.{IsSetup};
-ghost use Rattle.sim_board.specs.BoardWords.{setup_in, state_in, systems, IsWhole};
+ghost use Rattle.sim_play.specs.Common.{AreBuiltOnceAtMost, AreFed, HaveKinds, IsEconomy, IsSetup, IsWhole, setup_in, state_in, systems, systems_of};
 ghost use Rattle.sim_play.specs.Paid.{paid_state, stock_text as text_of_stocks};
-ghost use Rattle.sim_stock.specs.Economies.{IsEconomy};
-ghost use Rattle.sim_system.specs.Meanings.{HaveKinds, AreFed, AreBuiltOnceAtMost};
-ghost use Rattle.sim_system.specs.RigWords.{systems_of};
 
 use crate::balances::push_stocks;
 use crate::market::Market;
@@ -22,7 +18,8 @@ impl Market<'_> {
         requires economy { IsEconomy setup.now self.now.economy.now }
         requires kinds { HaveKinds (systems_of rig ⟦<dyn System as System>⟧) }
         ensures text { IfOk result.0 (λ text. string_bytes text ≡ text_of_stocks setup.now self.now.economy.now) }
-        ensures fed { OnOk result.0 (AreFed setup.now (paid_state setup.now self.now.economy.now setup.now.turns) (systems_of result.1 ⟦<dyn System as System>⟧)) }
+        ensures fed { OnOk result.0 (AreFed setup.now (paid_state setup.now self.now.economy.now setup.now.turns)
+            (systems_of result.1 ⟦<dyn System as System>⟧)) }
         ensures kinds { HaveKinds (systems_of result.1 ⟦<dyn System as System>⟧) }
         ensures most { AreBuiltOnceAtMost (systems_of rig ⟦<dyn System as System>⟧) (systems_of result.1 ⟦<dyn System as System>⟧) }
     {

@@ -1,13 +1,8 @@
 //! The territories of a match at a turn: a realm follows the states of all turns up to it.
 
 ghost use Rattle.std.specs.Prelude.{◌≡◌, ◌≤◌, IfOk, OnOk, string_bytes};
-ghost use Rattle.sim_base.specs.Limits.{IsSetup};
-ghost use Rattle.sim_base.specs.Turn.{after, own_turns};
-ghost use Rattle.sim_system.specs.Meanings.{HaveKinds, AreFed, AreBuiltOnceAtMost};
-ghost use Rattle.sim_system.specs.RigWords.{systems_of};
-ghost use Rattle.sim_board.specs.BoardWords.{setup_in, state_in, systems, IsWhole};
-ghost use Rattle.sim_territory.specs.Realms.{realm_of};
-ghost use Rattle.sim_play.specs.Realms.{TellsRealm};
+ghost use Rattle.sim_play.specs.{Common.systems_of, Realms.TellsRealm};
+ghost use Rattle.sim_play.specs.Common.{after, AreBuiltOnceAtMost, AreFed, HaveKinds, IsSetup, IsWhole, own_turns, realm_of, setup_in, state_in, systems};
 
 use crate::following::start_following;
 use crate::holdings::told;
@@ -51,7 +46,8 @@ fn told_at(
     requires limits { IsSetup (setup_in board.old) }
     requires turn { turn ≤ (setup_in board.old).turns }
     requires kinds { HaveKinds (systems board.old ⟦<dyn System as System>⟧) }
-    ensures text { IfOk result (λ text. TellsRealm (realm_of (setup_in board.old) (after (setup_in board.old) (own_turns (setup_in board.old) 0 turn))) (string_bytes text)) }
+    ensures text { IfOk result (λ text. TellsRealm (realm_of (setup_in board.old) (after (setup_in board.old) (own_turns (setup_in board.old) 0 turn)))
+        (string_bytes text)) }
     ensures state { OnOk result (state_in board.new ≡ after (setup_in board.old) (own_turns (setup_in board.old) 0 turn)) }
     ensures whole { OnOk result (IsWhole board.new ⟦<dyn System as System>⟧) }
     ensures kinds { HaveKinds (systems board.new ⟦<dyn System as System>⟧) }

@@ -1,15 +1,9 @@
 //! A match that a second client joins late: the first plays all of it, and gives the bytes of its state at a turn; the second
 //! loads them, and plays on with systems of its own.
 
-ghost use Rattle.std.specs.Prelude.{◌≡◌, ◌≤◌, ◌++◌, ◌-◌, suc, codes, IfOk, OnOk, string_bytes};
-ghost use Rattle.sim_base.specs.declared.state.State.{State as AnyState};
-ghost use Rattle.sim_base.specs.Limits.{IsSetup};
-ghost use Rattle.sim_base.specs.Turn.{after, own_turns};
-ghost use Rattle.sim_base.specs.Validity.{IsValid};
-ghost use Rattle.sim_codec.specs.Loading.{StandsFor};
-ghost use Rattle.sim_system.specs.Meanings.{HaveKinds, AreFed, AreBuiltOnceAtMost};
-ghost use Rattle.sim_system.specs.RigWords.{systems_of};
-ghost use Rattle.sim_board.specs.BoardWords.{setup_in, state_in, systems, IsWhole};
+ghost use Rattle.std.specs.Prelude.{◌≡◌, suc, ◌-◌, ◌≤◌, ◌++◌, IfOk, OnOk, string_bytes, codes};
+ghost use Rattle.sim_play.specs.Common.{State as AnyState, state_in, systems, systems_of};
+ghost use Rattle.sim_play.specs.Common.{after, AreBuiltOnceAtMost, AreFed, HaveKinds, IsSetup, IsValid, IsWhole, own_turns, setup_in, StandsFor};
 ghost use Rattle.sim_play.specs.Lines.{past_lines, rejoin_text as text_of_rejoin};
 
 use crate::lines::{push_line, push_past};
@@ -36,7 +30,8 @@ pub fn rejoin_text(
     requires second { HaveKinds (systems_of second ⟦<dyn System as System>⟧) }
     ensures text { IfOk result.0 (λ text. string_bytes text ≡ text_of_rejoin setup.now turn) }
     ensures fed { OnOk result.0 (AreFed setup.now (after setup.now (own_turns setup.now 0 setup.now.turns)) (systems_of result.1 ⟦<dyn System as System>⟧)) }
-    ensures fed_later { OnOk result.0 (AreFed setup.now (after setup.now (own_turns setup.now 0 setup.now.turns)) (systems_of result.2 ⟦<dyn System as System>⟧)) }
+    ensures fed_later { OnOk result.0 (AreFed setup.now (after setup.now (own_turns setup.now 0 setup.now.turns))
+        (systems_of result.2 ⟦<dyn System as System>⟧)) }
     ensures kinds { HaveKinds (systems_of result.1 ⟦<dyn System as System>⟧) }
     ensures kinds_later { HaveKinds (systems_of result.2 ⟦<dyn System as System>⟧) }
     ensures most { AreBuiltOnceAtMost (systems_of first ⟦<dyn System as System>⟧) (systems_of result.1 ⟦<dyn System as System>⟧) }
@@ -94,7 +89,8 @@ fn first_lines(
     requires turn { turn ≤ (setup_in board.old).turns }
     requires kinds { HaveKinds (systems board.old ⟦<dyn System as System>⟧) }
     ensures bytes { IfOk result (λ bytes. StandsFor (setup_in board.old) bytes.items (after (setup_in board.old) (own_turns (setup_in board.old) 0 turn))) }
-    ensures text { OnOk result (string_bytes out.new ≡ string_bytes out.old ++ past_lines (codes "first") (setup_in board.old) 0 (suc (setup_in board.old).turns)) }
+    ensures text { OnOk result (string_bytes out.new ≡ string_bytes out.old ++ past_lines (codes "first") (setup_in board.old) 0
+        (suc (setup_in board.old).turns)) }
     ensures state { OnOk result (state_in board.new ≡ after (setup_in board.old) (own_turns (setup_in board.old) 0 (setup_in board.old).turns)) }
     ensures whole { OnOk result (IsWhole board.new ⟦<dyn System as System>⟧) }
     ensures kinds { HaveKinds (systems board.new ⟦<dyn System as System>⟧) }
@@ -163,7 +159,8 @@ fn second_text(
     requires own { state ≡ after setup.now (own_turns setup.now 0 state.turn) }
     requires within { state.turn ≤ setup.now.turns }
     requires kinds { HaveKinds (systems_of rig ⟦<dyn System as System>⟧) }
-    ensures text { IfOk result.0 (λ made. string_bytes made ≡ string_bytes text ++ past_lines (codes "second") setup.now state.turn (suc (setup.now.turns - state.turn))) }
+    ensures text { IfOk result.0 (λ made. string_bytes made ≡ string_bytes text ++ past_lines (codes "second") setup.now state.turn
+        (suc (setup.now.turns - state.turn))) }
     ensures fed { OnOk result.0 (AreFed setup.now (after setup.now (own_turns setup.now 0 setup.now.turns)) (systems_of result.1 ⟦<dyn System as System>⟧)) }
     ensures kinds { HaveKinds (systems_of result.1 ⟦<dyn System as System>⟧) }
     ensures most { AreBuiltOnceAtMost (systems_of rig ⟦<dyn System as System>⟧) (systems_of result.1 ⟦<dyn System as System>⟧) }

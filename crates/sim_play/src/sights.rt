@@ -1,18 +1,9 @@
 //! What the players of a match see, and have explored, at a turn of it. The systems of a rig play it, which is handed back.
 
-ghost use Rattle.std.specs.Prelude.{◌≡◌, ◌≤◌, ◌-◌, ◌*◌, ℕ, List, length, IfOk, OnOk, string_bytes};
-ghost use Rattle.sim_base.specs.Limits.{IsSetup};
-ghost use Rattle.sim_base.specs.Turn.{after, own_turns};
-ghost use Rattle.sim_base.specs.Validity.{IsValid};
-ghost use Rattle.sim_board.specs.BoardWords.{setup_in, state_in, systems, IsWhole};
-ghost use Rattle.sim_play.specs.Lines.{end_from};
-ghost use Rattle.sim_play.specs.Seen.{sight_text as text_of_sight, sight_file, resight_text as text_of_resight};
-ghost use Rattle.sim_play.specs.States.{later_of};
-ghost use Rattle.sim_system.specs.Meanings.{HaveKinds, AreFed, AreBuiltOnceAtMost};
-ghost use Rattle.sim_system.specs.RigWords.{systems_of};
-ghost use Rattle.sim_vision.specs.After.{joined_at, vision_after};
-ghost use Rattle.sim_vision.specs.Told.{sight_text as text_of_vision};
-ghost use Rattle.sim_vision.specs.Vision.{cells_in};
+ghost use Rattle.std.specs.Prelude.{◌≡◌, ℕ, ◌-◌, ◌*◌, ◌≤◌, List, length, IfOk, OnOk, string_bytes};
+ghost use Rattle.sim_play.specs.{Common.sight_text as text_of_vision, Common.state_in, Common.systems, Common.systems_of, Common.vision_after, States.later_of};
+ghost use Rattle.sim_play.specs.{Lines.end_from, Seen.resight_text as text_of_resight, Seen.sight_file, Seen.sight_text as text_of_sight};
+ghost use Rattle.sim_play.specs.Common.{after, AreBuiltOnceAtMost, AreFed, cells_in, HaveKinds, IsSetup, IsValid, IsWhole, joined_at, own_turns, setup_in};
 
 use crate::following::{adopt_following, start_following};
 use sim_base::{OutOfMemory, Setup, State};
@@ -112,7 +103,8 @@ pub fn resight_text(
     requires valid { IsValid setup.now state }
     requires kinds { HaveKinds (systems_of rig ⟦<dyn System as System>⟧) }
     requires same { sight.setup ≡ setup.now }
-    ensures text { IfOk result.0 (λ text. (bytes : List ℕ) → sight.entry ≡ joined_at setup.now state bytes → length bytes ≡ setup.now.players * cells_in setup.now →
+    ensures text { IfOk result.0 (λ text. (bytes : List ℕ) → sight.entry ≡ joined_at setup.now state bytes → length bytes ≡ setup.now.players *
+        cells_in setup.now →
         string_bytes text ≡ text_of_resight setup.now state bytes) }
     ensures fed { OnOk result.0 (AreFed setup.now (end_from setup.now state) (systems_of result.1 ⟦<dyn System as System>⟧)) }
     ensures kinds { HaveKinds (systems_of result.1 ⟦<dyn System as System>⟧) }

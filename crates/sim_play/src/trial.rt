@@ -1,9 +1,7 @@
 //! The line of a trial, which names how it ended by one digest.
 
 ghost use Rattle.std.specs.Prelude.{◌≡◌, ◌++◌, OnOk, string_bytes};
-ghost use Rattle.sim_base.specs.Validity.{IsValid};
-ghost use Rattle.sim_report.specs.Lines.{spaced_number, line_end};
-ghost use Rattle.sim_play.specs.Lines.{trial_line};
+ghost use Rattle.sim_play.specs.{Common.IsValid, Common.line_end, Common.spaced_number, Lines.trial_line};
 
 use sim_base::{OutOfMemory, Setup, State, push_decimal};
 use sim_bytes::push_hex;

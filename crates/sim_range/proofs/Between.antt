@@ -1,26 +1,16 @@
 -- A move that all see from a bucket, before and after, changes nothing for those who stand in it.
-use Rattle.std.proofs.Common.{◌≡◌, ℕ, ◌+◌, ◌*◌, ◌/◌, ◌%◌, ◌≤◌, Bool, true, false, not, ℤ, pos, ◌-ℤ◌, ◌≤ℤ◌, List, [], Option, Some, None, refl, sym, ap, ◌∙◌, subst, arith, All}
-use Rattle.std.specs.Prelude.{◌==◌, ◌&&◌, nat_le, unsigned_abs, IfSome, slice_index}
-use Rattle.std.proofs.lemmas.Nat.{mul-le}
-use Rattle.sim_base.specs.declared.place.Point.{Point}
-use Rattle.sim_base.specs.declared.setup.Land.{Land}
-use Rattle.sim_base.specs.Places.{cell_of, square}
-use Rattle.sim_base.specs.Rows.{in_mask}
-use Rattle.sim_base.specs.Filters.{is_near}
-use Rattle.sim_system.specs.declared.fact.Fact.{Fact}
-use Rattle.sim_range.specs.Buckets.{ArePlaced, held_in}
-use Rattle.sim_range.proofs.Bucketing.{small_west}
-use Rattle.sim_range.proofs.Nearing.{chosen}
-use Rattle.sim_range.specs.Areas.{IsClose, IsInner}
-use Rattle.sim_range.specs.Sights.{is_seen_by, is_seen, sees, differ, HasOnlyMoved, SeesFrom}
-use Rattle.sim_range.proofs.Areas.{row_is, column_is}
-use Rattle.sim_range.proofs.Planning.{abs_swap, none_held}
+use Rattle.sim_range.proofs.{Areas.column_is, Areas.row_is, Bucketing.small_west, Common.◌∙◌, Nearing.chosen, Planning.abs_swap, Planning.none_held}
+use Rattle.sim_range.proofs.Common.{held_in, in_mask, is_near, is_seen, is_seen_by, IsClose, IsInner, Land, mul-le, Point, sees, SeesFrom, square, subst, sym}
+use Rattle.sim_range.proofs.Common.{slice_index, unsigned_abs, Some, None, All, Option, refl, ap, ArePlaced, arith, cell_of, differ, Fact, HasOnlyMoved}
+use Rattle.sim_range.proofs.Common.{◌≡◌, ℕ, ◌+◌, ◌*◌, ◌/◌, ◌%◌, ◌≤◌, Bool, true, false, not, ◌&&◌, List, [], ℤ, pos, ◌-ℤ◌, ◌≤ℤ◌, IfSome, nat_le, ◌==◌}
 
 -- ---- points of a bucket
 
 -- none is further away than its furthest corner
-pub close_by : (k near : ℕ) (corner q : Point) → ((other : ℤ) → pos 0 ≤ℤ other → unsigned_abs other / 65536 / 16 ≡ k % 16 → unsigned_abs (other -ℤ q.x) ≤ unsigned_abs (corner.x -ℤ q.x)) →
-    ((other : ℤ) → pos 0 ≤ℤ other → unsigned_abs other / 65536 / 16 ≡ k / 16 → unsigned_abs (other -ℤ q.z) ≤ unsigned_abs (corner.z -ℤ q.z)) → square corner q ≤ near * near → IsClose k near q
+pub close_by : (k near : ℕ) (corner q : Point) → ((other : ℤ) → pos 0 ≤ℤ other → unsigned_abs other / 65536 / 16 ≡ k % 16 → unsigned_abs (other -ℤ q.x) ≤
+    unsigned_abs (corner.x -ℤ q.x)) →
+    ((other : ℤ) → pos 0 ≤ℤ other → unsigned_abs other / 65536 / 16 ≡ k / 16 → unsigned_abs (other -ℤ q.z) ≤ unsigned_abs (corner.z -ℤ q.z))
+    → square corner q ≤ near * near → IsClose k near q
 close_by k near corner q columns rows le p placed key =
     let low = small_west p placed in
     let x = columns p.x placed.west (column_is ((cell_of p).z / 16) ((cell_of p).x / 16) k low key) in
@@ -58,7 +48,8 @@ module _ (land : Land) (near : ℕ) (a b f : Fact) (moved : HasOnlyMoved a b) (w
       by : (o : Option ℤ) → f.vision ≡ o → is_seen_by land f o a ≡ is_seen_by land f o b
       by None e = refl
       by (Some v) e =
-          ap (λ (n : ℕ). test n a.health a.owner (is_near a.at f.at v)) moved.0 ∙ ap (λ (h : Bool). test b.id h a.owner (is_near a.at f.at v)) moved.2 ∙ ap (λ (n : ℕ). test b.id b.health n (is_near a.at f.at v)) moved.1
+          ap (λ (n : ℕ). test n a.health a.owner (is_near a.at f.at v)) moved.0 ∙ ap (λ (h : Bool). test b.id h a.owner (is_near a.at f.at v)) moved.2 ∙
+          ap (λ (n : ℕ). test b.id b.health n (is_near a.at f.at v)) moved.1
           ∙ ap (test b.id b.health b.owner) (close_to a v was (from v e) ∙ sym (close_to b v is (from v e)))
 
   pub sees_alike : SeesFrom near a → is_seen_by land a a.vision f ≡ is_seen_by land b b.vision f
@@ -81,14 +72,17 @@ alike a b e = ap (λ (c : Bool). differ c b) e ∙ by b
     by false = refl
 
 module _ (land : Land) (near k : ℕ) (facts : List Fact) (placed : ArePlaced facts) (from : All (SeesFrom near) facts) where
-  pub none_turned : (before after : Option Fact) → IsInner k near before after → chosen (λ (f : Fact). differ (is_seen land f before) (is_seen land f after)) (held_in k facts) ≡ []
+  pub none_turned : (before after : Option Fact) → IsInner k near before after → chosen (λ (f : Fact). differ (is_seen land f before) (is_seen land f after))
+      (held_in k facts) ≡ []
   none_turned None after inner = absurd inner
   none_turned (Some a) None inner = absurd inner
   none_turned (Some a) (Some b) inner =
       none_held (λ (f : Fact). differ (is_seen land f (Some a)) (is_seen land f (Some b))) (SeesFrom near) k facts placed from
-      (λ f at far key. alike (is_seen land f (Some a)) (is_seen land f (Some b)) (seen_alike land near a b f inner.0 (inner.1 f.at at key) (inner.2 f.at at key) far))
+      (λ f at far key. alike (is_seen land f (Some a)) (is_seen land f (Some b)) (seen_alike land near a b f inner.0 (inner.1 f.at at key) (inner.2 f.at at key)
+      far))
 
-  pub none_in_sight : (before after : Option Fact) → IfSome before (SeesFrom near) → IsInner k near before after → chosen (λ (f : Fact). differ (sees land before f) (sees land after f)) (held_in k facts) ≡ []
+  pub none_in_sight : (before after : Option Fact) → IfSome before (SeesFrom near) → IsInner k near before after
+      → chosen (λ (f : Fact). differ (sees land before f) (sees land after f)) (held_in k facts) ≡ []
   none_in_sight None after own inner = absurd inner
   none_in_sight (Some a) None own inner = absurd inner
   none_in_sight (Some a) (Some b) own inner =
@@ -97,5 +91,7 @@ module _ (land : Land) (near k : ℕ) (facts : List Fact) (placed : ArePlaced fa
 
 -- ---- both ends
 
-pub inner_is : (k near : ℕ) (before after : Option Fact) (from to : Fact) → before ≡ Some from → after ≡ Some to → HasOnlyMoved from to × IsClose k near from.at × IsClose k near to.at → IsInner k near before after
-inner_is k near before after from to one two between = subst (λ (o : Option Fact). IsInner k near o after) (sym one) (subst (λ (o : Option Fact). IsInner k near (Some from) o) (sym two) between)
+pub inner_is : (k near : ℕ) (before after : Option Fact) (from to : Fact) → before ≡ Some from → after ≡ Some to → HasOnlyMoved from to × IsClose k near from.at
+    × IsClose k near to.at → IsInner k near before after
+inner_is k near before after from to one two between = subst (λ (o : Option Fact). IsInner k near o after) (sym one)
+    (subst (λ (o : Option Fact). IsInner k near (Some from) o) (sym two) between)

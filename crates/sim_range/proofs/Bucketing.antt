@@ -1,23 +1,8 @@
 -- Who stands in which bucket, also after a note.
-use Rattle.std.proofs.Common.{◌≡◌, ℕ, ◌+◌, ◌*◌, ◌/◌, ◌<◌, Bool, cond, List, [], ◌∷◌, map, Option, Some, None, refl, sym, ap, ◌∙◌, subst, arith}
-use Rattle.std.specs.Prelude.{◌==◌, ◌&&◌, filter, IfSome, MatchOption}
-use Rattle.std.proofs.lemmas.Bool.Decides.{nat_tests}
-use Rattle.std.proofs.lemmas.Int.{ints}
-use Rattle.std.proofs.lemmas.List.Elements.{All-head, All-tail, All-weaker}
-use Rattle.sim_base.specs.declared.place.Point.{Point}
-use Rattle.sim_base.specs.declared.setup.Land.{Land}
-use Rattle.sim_base.specs.Places.{IsPlaced, cell_of}
-use Rattle.sim_system.specs.declared.fact.Fact.{Fact}
-use Rattle.sim_system.specs.declared.kind.Kind.{Kind}
-use Rattle.sim_system.specs.declared.note.Note.{Note}
-use Rattle.sim_system.specs.Facts.{id_of_fact}
-use Rattle.sim_system.specs.Notes.{fact_with, noted, NoteFits}
-use Rattle.sim_fact_lists.specs.Places.{IsHeld, Holds, HoldsIfAny}
-use Rattle.sim_fact_lists.specs.Changes.{id_in, part_noted}
-use Rattle.sim_fact_lists.proofs.Rising.{found_all}
-use Rattle.sim_fact_lists.proofs.Holding.{noted_held}
-use Rattle.sim_fact_lists.proofs.OneFact.{part_is}
-use Rattle.sim_range.specs.Buckets.{ArePlaced, bucket_at, bucket_key, held_in, is_in_bucket, in_bucket}
+use Rattle.sim_range.proofs.Common.{held_in, Holds, HoldsIfAny, id_in, id_of_fact, in_bucket, ints, is_in_bucket, IsHeld, IsPlaced, Kind, Land, nat_tests, Note}
+use Rattle.sim_range.proofs.Common.{noted, noted_held, NoteFits, part_is, part_noted, Point, subst, sym, ◌∙◌}
+use Rattle.sim_range.proofs.Common.{refl, All-head, All-tail, All-weaker, ap, ArePlaced, arith, bucket_at, bucket_key, cell_of, Fact, fact_with, found_all}
+use Rattle.sim_range.proofs.Common.{◌≡◌, ℕ, ◌+◌, ◌*◌, ◌/◌, ◌<◌, Bool, cond, ◌&&◌, List, [], ◌∷◌, map, IfSome, ◌==◌, MatchOption, Some, None, filter, Option}
 use Rattle.sim_range.proofs.Held.{placed_on}
 
 -- ---- numbers of buckets
@@ -40,7 +25,8 @@ bucket_is bx bz facts lt placed = ap (map id_of_fact) (same facts placed)
     same : (fs : List Fact) → ArePlaced fs → filter (λ (f : Fact). bucket_key f == bz * 16 + bx) fs ≡ filter (λ (f : Fact). is_in_bucket bx bz f.at) fs
     same [] all = refl
     same (f ∷ fs) all =
-        ap (λ (b : Bool). cond b (f ∷ filter (λ (g : Fact). bucket_key g == bz * 16 + bx) fs) (filter (λ (g : Fact). bucket_key g == bz * 16 + bx) fs)) (test_is bx bz f lt (All-head (λ (g : Fact). IsPlaced g.at) f fs all))
+        ap (λ (b : Bool). cond b (f ∷ filter (λ (g : Fact). bucket_key g == bz * 16 + bx) fs) (filter (λ (g : Fact). bucket_key g == bz * 16 + bx) fs))
+        (test_is bx bz f lt (All-head (λ (g : Fact). IsPlaced g.at) f fs all))
         ∙ ap (λ (gs : List Fact). cond (is_in_bucket bx bz f.at) (f ∷ gs) gs) (same fs (All-tail (λ (g : Fact). IsPlaced g.at) f fs all))
 
 -- ---- where the facts stand
@@ -52,7 +38,8 @@ pub all_placed : (land : Option Land) (P : Land → Type 0) (facts : List Fact) 
 all_placed None P facts fits h = absurd fits
 all_placed (Some l) P facts fits h = held_placed l facts (h l refl)
 
-pub placed_after : (land later : Option Land) (P : Land → Type 0) (facts : List Fact) → MatchOption land ⊥ P → later ≡ land → HoldsIfAny later facts → ArePlaced facts
+pub placed_after : (land later : Option Land) (P : Land → Type 0) (facts : List Fact) → MatchOption land ⊥ P → later ≡ land → HoldsIfAny later facts
+    → ArePlaced facts
 placed_after land later P facts fits same h = all_placed land P facts fits (subst (λ (m : Option Land). HoldsIfAny m facts) same h)
 
 pub found_placed : (facts : List Fact) (id : ℕ) (o : Option Fact) → o ≡ fact_with facts id → ArePlaced facts → IfSome o (λ (f : Fact). IsPlaced f.at)
@@ -61,12 +48,16 @@ found_placed facts id (Some f) e all = found_all (λ (g : Fact). IsPlaced g.at) 
 
 -- the facts after a note
 placed_noted : (kind : Kind) (l : Land) (facts : List Fact) (note : Note) → NoteFits kind l facts note → Holds l facts → ArePlaced (noted kind facts note)
-placed_noted kind l facts note fits h = held_placed l (noted kind facts note) (record { limits = h.limits; held = noted_held l h.limits kind facts note fits h.held })
+placed_noted kind l facts note fits h = held_placed l (noted kind facts note)
+    (record { limits = h.limits; held = noted_held l h.limits kind facts note fits h.held })
 
 -- what is kept of the id after the note
-pub part_placed : (kind : Kind) (land : Option Land) (facts : List Fact) (note : Note) (id : ℕ) (before part : Option Fact) → MatchOption land ⊥ (λ (l : Land). NoteFits kind l facts note) → HoldsIfAny land facts → id ≡ id_in note → before ≡ fact_with facts id → part ≡ part_noted kind before note →
+pub part_placed : (kind : Kind) (land : Option Land) (facts : List Fact) (note : Note) (id : ℕ) (before part : Option Fact)
+    → MatchOption land ⊥ (λ (l : Land). NoteFits kind l facts note) → HoldsIfAny land facts → id ≡ id_in note → before ≡ fact_with facts id
+    → part ≡ part_noted kind before note →
     IfSome part (λ (f : Fact). IsPlaced f.at)
 part_placed kind None facts note id before part fits h e found is = absurd fits
 part_placed kind (Some l) facts note id before part fits h e found is =
     let here : before ≡ fact_with facts (id_in note) = found ∙ ap (fact_with facts) e in
-    found_placed (noted kind facts note) (id_in note) part (is ∙ ap (λ (o : Option Fact). part_noted kind o note) here ∙ sym (part_is kind l facts note fits)) (placed_noted kind l facts note fits (h l refl))
+    found_placed (noted kind facts note) (id_in note) part (is ∙ ap (λ (o : Option Fact). part_noted kind o note) here ∙ sym (part_is kind l facts note fits))
+    (placed_noted kind l facts note fits (h l refl))

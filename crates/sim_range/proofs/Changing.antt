@@ -1,37 +1,30 @@
 -- The list of buckets when one fact changes.
-use Rattle.std.proofs.Common.{◌≡◌, ℕ, ◌+◌, ◌*◌, ◌<◌, true, List, length, map, get_or, take, Option, Some, None, refl, sym, ap, ◌∙◌, arith}
-use Rattle.std.specs.Prelude.{MatchOption, IsSome, nat_lt}
-use Rattle.sim_base.specs.declared.setup.Land.{Land}
-use Rattle.sim_system.specs.declared.fact.Fact.{Fact}
-use Rattle.sim_system.specs.declared.kind.Kind.{Kind}
-use Rattle.sim_system.specs.declared.note.Note.{Note}
-use Rattle.sim_system.specs.Facts.{id_of_fact}
-use Rattle.sim_system.specs.Notes.{fact_with, noted, NoteFits}
-use Rattle.sim_fact_lists.specs.Places.{Ascend, HoldsIfAny}
-use Rattle.sim_fact_lists.specs.Changes.{id_in, part_noted}
-use Rattle.sim_fact_lists.proofs.Rising.{rising}
-use Rattle.sim_fact_lists.proofs.Holding.{put_is}
-use Rattle.sim_range.specs.declared.bucket.Bucket.{Bucket}
-use Rattle.sim_range.specs.Buckets.{ArePlaced, held_in, in_bucket}
-use Rattle.sim_range.specs.Bucketed.{facts_at, AreBuckets, changed_at}
-use Rattle.sim_range.proofs.Bucketing.{bucket_is}
-use Rattle.sim_range.proofs.Holding.{changed_is, one_more_held}
+use Rattle.sim_range.proofs.{Bucketing.bucket_is, Holding.changed_is, Holding.one_more_held}
+use Rattle.sim_range.proofs.Common.{AreBuckets, ArePlaced, arith, Ascend, Bucket, changed_at, Fact, fact_with, facts_at, held_in, HoldsIfAny, id_in, id_of_fact}
+use Rattle.sim_range.proofs.Common.{in_bucket, Kind, Land, Note, noted, NoteFits, part_noted, put_is, rising, sym, ◌∙◌}
+use Rattle.sim_range.proofs.Common.{◌≡◌, ℕ, ◌+◌, ◌*◌, ◌<◌, true, List, map, length, get_or, take, IsSome, nat_lt, MatchOption, Some, None, Option, refl, ap}
 
 -- ---- the buckets are those of the facts
 
-pub one_more_bucketed : (facts : List Fact) (i : ℕ) (f : Fact) (old room new : List Bucket) → Ascend facts → i < length facts → f ≡ get_or facts i f → length old ≡ 256 → length new ≡ 256 → AreBuckets (take i facts) old →
-    ((k : ℕ) (d : Bucket) → k < 256 → facts_at room k d ≡ facts_at old k d) → ((k : ℕ) (d : Bucket) → k < 256 → facts_at new k d ≡ changed_at k f.id None (Some f) (facts_at room k d)) → AreBuckets (take (i + 1) facts) new
+pub one_more_bucketed : (facts : List Fact) (i : ℕ) (f : Fact) (old room new : List Bucket) → Ascend facts → i < length facts → f ≡ get_or facts i f
+    → length old ≡ 256 → length new ≡ 256 → AreBuckets (take i facts) old →
+    ((k : ℕ) (d : Bucket) → k < 256 → facts_at room k d ≡ facts_at old k d)
+    → ((k : ℕ) (d : Bucket) → k < 256 → facts_at new k d ≡ changed_at k f.id None (Some f) (facts_at room k d)) → AreBuckets (take (i + 1) facts) new
 one_more_bucketed facts i f old room new up within is many also are same changed k d lt =
     let low : k < 256 = omega (arith, lt, also) in
-    changed k d low ∙ ap (changed_at k f.id None (Some f)) (same k d low ∙ are k d (omega (arith, low, many))) ∙ one_more_held k i f facts (rising facts up) within is
+    changed k d low ∙ ap (changed_at k f.id None (Some f)) (same k d low ∙ are k d (omega (arith, low, many))) ∙ one_more_held k i f facts (rising facts up)
+    within is
 
-pub noted_buckets : (kind : Kind) (land : Option Land) (note : Note) (id : ℕ) (before part : Option Fact) (facts after : List Fact) (old room new : List Bucket) → MatchOption land ⊥ (λ (l : Land). NoteFits kind l facts note) → HoldsIfAny land facts → length old ≡ 256 → length new ≡ 256 → AreBuckets facts old →
-    id ≡ id_in note → before ≡ fact_with facts id → part ≡ part_noted kind before note → after ≡ noted kind facts note → ((k : ℕ) (d : Bucket) → k < 256 → facts_at room k d ≡ facts_at old k d) →
+pub noted_buckets : (kind : Kind) (land : Option Land) (note : Note) (id : ℕ) (before part : Option Fact) (facts after : List Fact) (old room new : List Bucket)
+    → MatchOption land ⊥ (λ (l : Land). NoteFits kind l facts note) → HoldsIfAny land facts → length old ≡ 256 → length new ≡ 256 → AreBuckets facts old →
+    id ≡ id_in note → before ≡ fact_with facts id → part ≡ part_noted kind before note → after ≡ noted kind facts note
+    → ((k : ℕ) (d : Bucket) → k < 256 → facts_at room k d ≡ facts_at old k d) →
     ((k : ℕ) (d : Bucket) → k < 256 → facts_at new k d ≡ changed_at k id before part (facts_at room k d)) → AreBuckets after new
 noted_buckets kind None note id before part facts after old room new fits h many also are is found made told same changed k d lt = absurd fits
 noted_buckets kind (Some l) note id before part facts after old room new fits h many also are is found made told same changed k d lt =
     let low : k < 256 = omega (arith, lt, also) in
-    changed k d low ∙ ap (changed_at k id before part) (same k d low ∙ are k d (omega (arith, low, many))) ∙ changed_is k id before part facts (rising facts (h l refl).held.ascending) found
+    changed k d low ∙ ap (changed_at k id before part) (same k d low ∙ are k d (omega (arith, low, many))) ∙ changed_is k id before part facts
+    (rising facts (h l refl).held.ascending) found
     ∙ ap (held_in k) (put_is kind (Some l) facts note id before part fits h is found made ∙ sym told)
 
 -- what is built is not bare
@@ -41,9 +34,12 @@ still_built (Some l) later some same none = absurd (cc)
 
 -- ---- what is lent
 
-pub lent_is : (bx bz number : ℕ) (facts : List Fact) (lent buckets : List Bucket) (b : Bucket) (ids : List ℕ) → bx < 16 → ArePlaced facts → AreBuckets facts buckets → number ≡ bz * 16 + bx → lent ≡ buckets → true ≡ nat_lt number (length lent) → b ≡ get_or lent number b → ids ≡ b.ids.items → ids ≡ in_bucket bx bz facts
+pub lent_is : (bx bz number : ℕ) (facts : List Fact) (lent buckets : List Bucket) (b : Bucket) (ids : List ℕ) → bx < 16 → ArePlaced facts
+    → AreBuckets facts buckets → number ≡ bz * 16 + bx → lent ≡ buckets → true ≡ nat_lt number (length lent) → b ≡ get_or lent number b → ids ≡ b.ids.items
+    → ids ≡ in_bucket bx bz facts
 lent_is bx bz number facts lent buckets b ids low placed are is same within there given =
     let also : length lent ≡ length buckets = ap (λ (bs : List Bucket). length bs) same in
     let first : number < length lent = grind arith in
     let lt : number < length buckets = omega (arith, first, also) in
-    given ∙ b.named ∙ ap (map id_of_fact) (ap (λ (c : Bucket). c.facts.items) (there ∙ ap (λ (bs : List Bucket). get_or bs number b) same) ∙ are number b lt ∙ ap (λ (n : ℕ). held_in n facts) is) ∙ bucket_is bx bz facts low placed
+    given ∙ b.named ∙ ap (map id_of_fact) (ap (λ (c : Bucket). c.facts.items) (there ∙ ap (λ (bs : List Bucket). get_or bs number b) same) ∙ are number b lt ∙
+    ap (λ (n : ℕ). held_in n facts) is) ∙ bucket_is bx bz facts low placed

@@ -1,17 +1,6 @@
 -- A fact that is held stands on the largest ground, and its owner has a bit in a mask.
-use Rattle.std.proofs.Common.{◌≡◌, ℕ, ◌*◌, ◌<◌, ◌≤◌, true, ℤ, pos, ◌≤ℤ◌, ◌<ℤ◌, int_le, int_lt, List, Some, arith}
-use Rattle.std.specs.Prelude.{IsTrue, ◌==◌}
-use Rattle.std.proofs.lemmas.Bool.{and_parts}
-use Rattle.std.proofs.lemmas.Int.{ints}
-use Rattle.sim_base.specs.declared.place.Point.{Point}
-use Rattle.sim_base.specs.declared.setup.Land.{Land}
-use Rattle.sim_base.specs.Places.{IsPlaced, is_within, is_inside}
-use Rattle.sim_base.specs.Rows.{size_of}
-use Rattle.sim_base.specs.Limits.{IsLand}
-use Rattle.sim_laws.proofs.Rows.{all_at, find_has}
-use Rattle.sim_system.specs.declared.fact.Fact.{Fact}
-use Rattle.sim_system.specs.Notes.{fact_with}
-use Rattle.sim_fact_lists.specs.Places.{IsHeld, Holds}
+use Rattle.sim_range.proofs.Common.{fact_with, find_has, Holds, ints, is_inside, is_within, IsHeld, IsLand, IsPlaced, Land, Point, size_of}
+use Rattle.sim_range.proofs.Common.{◌≡◌, ℕ, ◌*◌, ◌<◌, ◌≤◌, true, List, ℤ, pos, ◌≤ℤ◌, ◌<ℤ◌, IsTrue, ◌==◌, int_lt, int_le, Some, all_at, and_parts, arith, Fact}
 
 record IsCoordinate (raw : ℤ) : Type 0 where
   low : pos 0 ≤ℤ raw

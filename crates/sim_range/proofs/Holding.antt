@@ -1,13 +1,8 @@
 -- The facts in a bucket when one of all facts changes.
-use Rattle.std.proofs.Common.{◌≡◌, ℕ, zero, suc, ◌+◌, ◌<◌, Bool, true, false, cond, not, List, [], ◌∷◌, length, get_or, take, Option, Some, None, refl, sym, ap, ◌∙◌, arith}
-use Rattle.std.specs.Prelude.{◌==◌, ◌&&◌, nat_lt}
-use Rattle.std.proofs.lemmas.Bool.{eq-eqb, ne_eqb}
-use Rattle.sim_system.specs.declared.fact.Fact.{Fact}
-use Rattle.sim_system.specs.Notes.{fact_with, without, placed}
-use Rattle.sim_fact_lists.specs.Places.{with_only}
-use Rattle.sim_fact_lists.proofs.Rising.{Above, Rising, Missing, above_less, above_at, missing_without, found_above, rising_without, placed_first, placed_behind}
-use Rattle.sim_range.specs.Buckets.{bucket_key, held_in, is_in, part_in}
-use Rattle.sim_range.specs.Bucketed.{changed_at}
+use Rattle.sim_range.proofs.Common.{None, Option, refl, Above, above_at, above_less, ap, arith, bucket_key, changed_at, eq-eqb, Fact, fact_with, found_above}
+use Rattle.sim_range.proofs.Common.{held_in, is_in, Missing, missing_without, ne_eqb, part_in, placed, placed_behind, placed_first, Rising, rising_without, sym}
+use Rattle.sim_range.proofs.Common.{with_only, without, ◌∙◌}
+use Rattle.sim_range.proofs.Common.{◌≡◌, ℕ, zero, suc, ◌+◌, ◌<◌, Bool, true, false, cond, not, ◌&&◌, List, [], ◌∷◌, length, get_or, take, nat_lt, ◌==◌, Some}
 
 -- ---- one is taken out, or put in place
 
@@ -30,7 +25,8 @@ above_held n k (f ∷ facts) a = by (bucket_key f == k) (above_held n k facts a.
     by true rest = (a.0, rest)
     by false rest = rest
 
-held_placed : (k : ℕ) (f : Fact) (facts : List Fact) → Rising facts → held_in k (placed f facts) ≡ cond (bucket_key f == k) (placed f (held_in k facts)) (held_in k facts)
+held_placed : (k : ℕ) (f : Fact) (facts : List Fact) → Rising facts → held_in k (placed f facts) ≡ cond (bucket_key f == k) (placed f (held_in k facts))
+    (held_in k facts)
 held_placed k f [] r = refl
 held_placed k f (g ∷ facts) r = by (nat_lt f.id g.id) refl (held_placed k f facts r.1)
   where
@@ -38,7 +34,8 @@ held_placed k f (g ∷ facts) r = by (nat_lt f.id g.id) refl (held_placed k f fa
     behind fs e = rw e refl
 
     on : nat_lt f.id g.id ≡ false → (b c : Bool) → held_in k (placed f facts) ≡ cond c (placed f (held_in k facts)) (held_in k facts) →
-        cond b (g ∷ held_in k (placed f facts)) (held_in k (placed f facts)) ≡ cond c (placed f (cond b (g ∷ held_in k facts) (held_in k facts))) (cond b (g ∷ held_in k facts) (held_in k facts))
+        cond b (g ∷ held_in k (placed f facts)) (held_in k (placed f facts)) ≡ cond c (placed f (cond b (g ∷ held_in k facts) (held_in k facts)))
+        (cond b (g ∷ held_in k facts) (held_in k facts))
     on e true true rest = ap (λ (fs : List Fact). g ∷ fs) rest ∙ sym (behind (held_in k facts) e)
     on e true false rest = ap (λ (fs : List Fact). g ∷ fs) rest
     on e false true rest = rest
@@ -49,10 +46,12 @@ held_placed k f (g ∷ facts) r = by (nat_lt f.id g.id) refl (held_placed k f fa
     by true e rest =
         let lt : f.id < g.id = grind arith in
         let above : Above f.id (g ∷ facts) = (lt, above_less f.id g.id facts (omega (arith, lt)) r.0) in
-        ap (λ (fs : List Fact). cond (bucket_key f == k) fs (held_in k (g ∷ facts))) (sym (placed_first f (held_in k (g ∷ facts)) (above_held f.id k (g ∷ facts) above)))
+        ap (λ (fs : List Fact). cond (bucket_key f == k) fs (held_in k (g ∷ facts)))
+        (sym (placed_first f (held_in k (g ∷ facts)) (above_held f.id k (g ∷ facts) above)))
     by false e rest = on e (bucket_key g == k) (bucket_key f == k) rest
 
-only_held : (k id : ℕ) (part : Option Fact) (facts : List Fact) → Rising facts → held_in k (with_only id part facts) ≡ with_only id (part_in k part) (held_in k facts)
+only_held : (k id : ℕ) (part : Option Fact) (facts : List Fact) → Rising facts → held_in k (with_only id part facts) ≡ with_only id (part_in k part)
+    (held_in k facts)
 only_held k id None facts r = held_without k id facts
 only_held k id (Some f) facts r = held_placed k f (without id facts) (rising_without id facts r) ∙ by (bucket_key f == k)
   where
@@ -62,7 +61,8 @@ only_held k id (Some f) facts r = held_placed k f (without id facts) (rising_wit
 
 -- ---- one that is in another bucket, if it is kept
 
-missing_held : (k id : ℕ) (facts : List Fact) → Rising facts → ((f : Fact) → fact_with facts id ≡ Some f → (bucket_key f == k) ≡ false) → Missing id (held_in k facts)
+missing_held : (k id : ℕ) (facts : List Fact) → Rising facts → ((f : Fact) → fact_with facts id ≡ Some f → (bucket_key f == k) ≡ false)
+    → Missing id (held_in k facts)
 missing_held k id [] r h = tt
 missing_held k id (g ∷ facts) r h = by (bucket_key g == k) refl (missing_held k id facts r.1 later)
   where
@@ -79,30 +79,35 @@ missing_held k id (g ∷ facts) r h = by (bucket_key g == k) refl (missing_held 
     by true e rest = ((λ same. let no = here same in absurd (cc)), rest)
     by false e rest = rest
 
-gone_from : (k id : ℕ) (before : Option Fact) (facts : List Fact) → Rising facts → before ≡ fact_with facts id → cond (is_in k before && true) (without id (held_in k facts)) (held_in k facts) ≡ without id (held_in k facts)
+gone_from : (k id : ℕ) (before : Option Fact) (facts : List Fact) → Rising facts → before ≡ fact_with facts id
+    → cond (is_in k before && true) (without id (held_in k facts)) (held_in k facts) ≡ without id (held_in k facts)
 gone_from k id None facts r found = sym (missing_without id (held_in k facts) (missing_held k id facts r (λ f is. let no = found ∙ is in absurd (cc))))
 gone_from k id (Some f) facts r found = by (bucket_key f == k) refl
   where
     by : (b : Bool) → (bucket_key f == k) ≡ b → cond (b && true) (without id (held_in k facts)) (held_in k facts) ≡ without id (held_in k facts)
     by true e = refl
-    by false e = sym (missing_without id (held_in k facts) (missing_held k id facts r (λ g is. let both = found ∙ is in let same : f ≡ g = cc in ap (λ (h : Fact). bucket_key h == k) (sym same) ∙ e)))
+    by false e = sym (missing_without id (held_in k facts)
+        (missing_held k id facts r (λ g is. let both = found ∙ is in let same : f ≡ g = cc in ap (λ (h : Fact). bucket_key h == k) (sym same) ∙ e)))
 
 -- ---- what is kept of one changes
 
-pub changed_is : (k id : ℕ) (before part : Option Fact) (facts : List Fact) → Rising facts → before ≡ fact_with facts id → changed_at k id before part (held_in k facts) ≡ held_in k (with_only id part facts)
+pub changed_is : (k id : ℕ) (before part : Option Fact) (facts : List Fact) → Rising facts → before ≡ fact_with facts id
+    → changed_at k id before part (held_in k facts) ≡ held_in k (with_only id part facts)
 changed_is k id before None facts r found = gone_from k id before facts r found ∙ sym (held_without k id facts)
 changed_is k id before (Some f) facts r found = by (bucket_key f == k) refl
   where
     is : (b : Bool) → (bucket_key f == k) ≡ b → held_in k (with_only id (Some f) facts) ≡ with_only id (cond b (Some f) None) (held_in k facts)
     is b e = only_held k id (Some f) facts r ∙ ap (λ (c : Bool). with_only id (cond c (Some f) None) (held_in k facts)) e
 
-    by : (b : Bool) → (bucket_key f == k) ≡ b → cond b (with_only id (Some f) (held_in k facts)) (cond (is_in k before && not b) (without id (held_in k facts)) (held_in k facts)) ≡ held_in k (with_only id (Some f) facts)
+    by : (b : Bool) → (bucket_key f == k) ≡ b → cond b (with_only id (Some f) (held_in k facts))
+        (cond (is_in k before && not b) (without id (held_in k facts)) (held_in k facts)) ≡ held_in k (with_only id (Some f) facts)
     by true e = sym (is true e)
     by false e = gone_from k id before facts r found ∙ sym (is false e)
 
 -- ---- several, one after another
 
-pub next_only : (facts : List Fact) (k : ℕ) (d : Fact) → Rising facts → k < length facts → with_only (get_or facts k d).id (Some (get_or facts k d)) (take k facts) ≡ take (suc k) facts
+pub next_only : (facts : List Fact) (k : ℕ) (d : Fact) → Rising facts → k < length facts → with_only (get_or facts k d).id (Some (get_or facts k d))
+    (take k facts) ≡ take (suc k) facts
 next_only [] k d r lt = absurd (omega arith)
 next_only (g ∷ facts) zero d r lt = refl
 next_only (g ∷ facts) (suc k) d r lt =
@@ -131,7 +136,8 @@ rising_take (f ∷ facts) (suc k) r = (above_take f.id facts k r.0, rising_take 
     above_take n (g ∷ fs) zero a = tt
     above_take n (g ∷ fs) (suc j) a = (a.0, above_take n fs j a.1)
 
-pub one_more_held : (k i : ℕ) (f : Fact) (facts : List Fact) → Rising facts → i < length facts → f ≡ get_or facts i f → changed_at k f.id None (Some f) (held_in k (take i facts)) ≡ held_in k (take (i + 1) facts)
+pub one_more_held : (k i : ℕ) (f : Fact) (facts : List Fact) → Rising facts → i < length facts → f ≡ get_or facts i f
+    → changed_at k f.id None (Some f) (held_in k (take i facts)) ≡ held_in k (take (i + 1) facts)
 one_more_held k i f facts r lt is =
     let next : suc i ≡ i + 1 = omega arith in
     let missing : None ≡ fact_with (take i facts) f.id = sym (ap (λ (g : Fact). fact_with (take i facts) g.id) is ∙ next_missing facts i f r lt) in

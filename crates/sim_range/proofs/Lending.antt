@@ -1,26 +1,19 @@
 -- What is lent of what an entity sees, and what the system keeps of it.
-use Rattle.std.proofs.Common.{◌≡◌, ℕ, ◌<◌, true, false, List, [], ◌∷◌, length, map, get_or, Option, Some, None, refl, sym, ap, ◌∙◌, subst, arith, not, All}
-use Rattle.std.specs.Prelude.{◌==◌, nat_lt, MatchOption, IfSome, IsSome, is_some}
-use Rattle.std.proofs.lemmas.Bool.{cond_both}
-use Rattle.std.proofs.lemmas.List.Elements.{All-cons, All-head, All-tail, All-filter}
-use Rattle.sim_base.specs.declared.setup.Land.{Land}
-use Rattle.sim_system.specs.declared.fact.Fact.{Fact}
-use Rattle.sim_system.specs.Notes.{fact_with, without, placed}
-use Rattle.sim_system.specs.Answers.{seen_among}
-use Rattle.sim_fact_lists.specs.Places.{Ascend, Stands, Belongs, HoldsIfAny, with_only}
-use Rattle.sim_fact_lists.proofs.Rising.{rising, found_all}
-use Rattle.sim_fact_lists.proofs.Standing.{found_there, found_read, not_there}
-use Rattle.sim_range.specs.declared.sight.Sight.{Sight}
-use Rattle.sim_range.specs.Sights.{sight, ids_of, ids_at, AreSightsIfAny}
-use Rattle.sim_range.proofs.Watching.{read_map, map_by, long_as}
+use Rattle.sim_range.proofs.Common.{Fact, fact_with, found_all, found_read, found_there, HoldsIfAny, ids_at, ids_of, Land, not_there, placed, rising}
+use Rattle.sim_range.proofs.Common.{None, All, Option, refl, All-cons, All-filter, All-head, All-tail, ap, AreSightsIfAny, arith, Ascend, Belongs, cond_both}
+use Rattle.sim_range.proofs.Common.{seen_among, Sight, sight, Stands, subst, sym, with_only, without, ◌∙◌}
+use Rattle.sim_range.proofs.Common.{◌≡◌, ℕ, ◌<◌, true, false, not, List, [], ◌∷◌, map, length, get_or, is_some, IfSome, IsSome, nat_lt, ◌==◌, MatchOption, Some}
+use Rattle.sim_range.proofs.Watching.{long_as, map_by, read_map}
 
-pub same_sights : (land later : Option Land) (facts after : List Fact) (old new : List Sight) → later ≡ land → after ≡ facts → length new ≡ length old → ((k : ℕ) (d : Sight) → ids_at new k d ≡ ids_at old k d) → AreSightsIfAny land facts old → AreSightsIfAny later after new
+pub same_sights : (land later : Option Land) (facts after : List Fact) (old new : List Sight) → later ≡ land → after ≡ facts → length new ≡ length old
+    → ((k : ℕ) (d : Sight) → ids_at new k d ≡ ids_at old k d) → AreSightsIfAny land facts old → AreSightsIfAny later after new
 same_sights land later facts after old new same is along each seen l here =
     let known = seen l (sym same ∙ here) in
     let step = map_by ids_of ids_of new old along (λ i d e lt. each i d ∙ read_map ids_of ids_of old old i d e refl lt) in
     step ∙ known ∙ ap (λ (fs : List Fact). map (sight l fs) fs) (sym is)
 
-module _ (land : Option Land) (facts : List Fact) (sights : List Sight) (held : HoldsIfAny land facts) (bare : land ≡ None → facts ≡ []) (seen : AreSightsIfAny land facts sights) where
+module _ (land : Option Land) (facts : List Fact) (sights : List Sight) (held : HoldsIfAny land facts) (bare : land ≡ None → facts ≡ [])
+    (seen : AreSightsIfAny land facts sights) where
   pub ascend_any : Ascend facts
   ascend_any = by land refl
     where
@@ -35,7 +28,8 @@ module _ (land : Option Land) (facts : List Fact) (sights : List Sight) (held : 
       by None e = absurd (omega (arith, ap (λ (fs : List Fact). length fs) (bare e)))
       by (Some l) e = omega (arith, long_as ids_of (sight l facts) sights facts (seen l e))
 
-  pub lent_sight : (id at : ℕ) (f : Fact) (s : Sight) (ids : List ℕ) → Stands facts id at → s ≡ get_or sights at s → ids ≡ s.ids.items → MatchOption land ⊥ (λ (l : Land). ids ≡ seen_among l facts (fact_with facts id))
+  pub lent_sight : (id at : ℕ) (f : Fact) (s : Sight) (ids : List ℕ) → Stands facts id at → s ≡ get_or sights at s → ids ≡ s.ids.items
+      → MatchOption land ⊥ (λ (l : Land). ids ≡ seen_among l facts (fact_with facts id))
   lent_sight id at f s ids there is given = by land refl
     where
       by : (o : Option Land) → land ≡ o → MatchOption o ⊥ (λ (l : Land). ids ≡ seen_among l facts (fact_with facts id))
@@ -66,7 +60,8 @@ module _ (lent facts : List Fact) (id at : ℕ) (same : lent ≡ facts) where
 
 -- ---- what holds of all facts, also after a note
 
-pub found_for : (facts : List Fact) (id : ℕ) (before after : Option Fact) → before ≡ fact_with facts id → IfSome after (λ (f : Fact). f.id ≡ id) → IfSome after (λ (f : Fact). before ≡ fact_with facts f.id)
+pub found_for : (facts : List Fact) (id : ℕ) (before after : Option Fact) → before ≡ fact_with facts id → IfSome after (λ (f : Fact). f.id ≡ id)
+    → IfSome after (λ (f : Fact). before ≡ fact_with facts f.id)
 found_for facts id before None found named = tt
 found_for facts id before (Some f) found named = found ∙ ap (fact_with facts) (sym named)
 

@@ -1,27 +1,11 @@
 -- Who is near a point, bucket by bucket.
-use Rattle.std.proofs.Common.{◌≡◌, ℕ, suc, ◌+◌, ◌*◌, ◌<◌, ◌≤◌, Bool, true, false, cond, ℤ, ◌-ℤ◌, List, [], ◌∷◌, ◌++◌, length, map, get_or, refl, sym, ap, ◌∙◌, subst, arith, All, IsPermutation, inl, inr}
-use Rattle.std.specs.Prelude.{◌==◌, ◌&&◌, nat_lt, nat_le, unsigned_abs, filter}
-use Rattle.std.specs.List.Sorted.{IsNonDecreasing}
-use Rattle.std.proofs.lemmas.Bool.{lt-ltb, eqb-true, and_parts, cases_lt}
-use Rattle.std.proofs.lemmas.Nat.{mul-le, mul-add-lt}
-use Rattle.std.proofs.lemmas.List.Elements.{All-head, All-tail, All-filter}
-use Rattle.std.proofs.lemmas.List.Sorted.{IsPermutation-refl, IsPermutation-cons, IsPermutation-trans, IsPermutation-sym, IsPermutation-middle, IsPermutation-append_left}
-use Rattle.sim_base.specs.declared.place.Point.{Point}
-use Rattle.sim_base.specs.declared.setup.Land.{Land}
-use Rattle.sim_base.specs.Places.{IsPlaced}
-use Rattle.sim_base.specs.Rows.{in_mask}
-use Rattle.sim_base.specs.Filters.{is_near}
-use Rattle.sim_system.specs.declared.fact.Fact.{Fact}
-use Rattle.sim_system.specs.Facts.{id_of_fact}
-use Rattle.sim_system.specs.Answers.{within_among}
-use Rattle.sim_fact_lists.specs.Places.{Ascend, IsHeld, Holds}
-use Rattle.sim_fact_lists.proofs.Rising.{Above, Rising, rising}
-use Rattle.sim_range.specs.declared.bucket.Bucket.{Bucket}
-use Rattle.sim_range.specs.Buckets.{ArePlaced, bucket_at, bucket_key, held_in}
-use Rattle.sim_range.specs.Bucketed.{AreBuckets}
-use Rattle.sim_range.specs.Nearness.{below_bucket}
-use Rattle.sim_range.proofs.Bucketing.{small_bucket}
-use Rattle.sim_range.proofs.Sorting.{AtLeast, Climbs, same_order}
+use Rattle.sim_range.proofs.{Bucketing.small_bucket, Sorting.AtLeast, Sorting.Climbs, Sorting.same_order}
+use Rattle.sim_range.proofs.Common.{AreBuckets, ArePlaced, arith, Ascend, below_bucket, Bucket, bucket_at, bucket_key, cases_lt, eqb-true, Fact, held_in, Holds}
+use Rattle.sim_range.proofs.Common.{IsPermutation-middle, IsPermutation-refl, IsPermutation-sym, IsPermutation-trans, IsPlaced, Land, lt-ltb, mul-add-lt}
+use Rattle.sim_range.proofs.Common.{id_of_fact, in_mask, inl, inr, is_near, IsHeld, IsNonDecreasing, IsPermutation-append_left, IsPermutation-cons}
+use Rattle.sim_range.proofs.Common.{mul-le, Point, Rising, rising, subst, sym, within_among, ◌∙◌}
+use Rattle.sim_range.proofs.Common.{nat_le, ◌==◌, unsigned_abs, All, filter, IsPermutation, refl, Above, All-filter, All-head, All-tail, and_parts, ap}
+use Rattle.sim_range.proofs.Common.{◌≡◌, ℕ, suc, ◌+◌, ◌*◌, ◌<◌, ◌≤◌, Bool, true, false, cond, ◌&&◌, List, [], ◌∷◌, ◌++◌, map, length, get_or, ℤ, ◌-ℤ◌, nat_lt}
 
 -- whether one has health and a masked owner, and is near a point
 abbrev pub near_by : Point → ℤ → ℕ → Fact → Bool
@@ -41,19 +25,24 @@ module _ (g : Fact → Bool) where
       by false = refl
 
   -- one more of the first, in front or behind
-  in_front : (f : Fact) (all low here : List Fact) → IsPermutation (chosen all) (chosen low ++ chosen here) → IsPermutation (chosen (f ∷ all)) (chosen (f ∷ low) ++ chosen here)
-  in_front f all low here same = subst (λ (xs : List ℕ). IsPermutation xs (chosen (f ∷ low) ++ chosen here)) (sym (chosen-cons f all)) (subst (λ (xs : List ℕ). IsPermutation (cond (g f) (f.id ∷ chosen all) (chosen all)) (xs ++ chosen here)) (sym (chosen-cons f low)) (by (g f)))
+  in_front : (f : Fact) (all low here : List Fact) → IsPermutation (chosen all) (chosen low ++ chosen here)
+      → IsPermutation (chosen (f ∷ all)) (chosen (f ∷ low) ++ chosen here)
+  in_front f all low here same = subst (λ (xs : List ℕ). IsPermutation xs (chosen (f ∷ low) ++ chosen here)) (sym (chosen-cons f all))
+      (subst (λ (xs : List ℕ). IsPermutation (cond (g f) (f.id ∷ chosen all) (chosen all)) (xs ++ chosen here)) (sym (chosen-cons f low)) (by (g f)))
     where
       by : (c : Bool) → IsPermutation (cond c (f.id ∷ chosen all) (chosen all)) (cond c (f.id ∷ chosen low) (chosen low) ++ chosen here)
       by true = IsPermutation-cons f.id (chosen all) (chosen low ++ chosen here) same
       by false = same
 
-  behind : (f : Fact) (all low here : List Fact) → IsPermutation (chosen all) (chosen low ++ chosen here) → IsPermutation (chosen (f ∷ all)) (chosen low ++ chosen (f ∷ here))
-  behind f all low here same = subst (λ (xs : List ℕ). IsPermutation xs (chosen low ++ chosen (f ∷ here))) (sym (chosen-cons f all)) (subst (λ (xs : List ℕ). IsPermutation (cond (g f) (f.id ∷ chosen all) (chosen all)) (chosen low ++ xs)) (sym (chosen-cons f here)) (by (g f)))
+  behind : (f : Fact) (all low here : List Fact) → IsPermutation (chosen all) (chosen low ++ chosen here)
+      → IsPermutation (chosen (f ∷ all)) (chosen low ++ chosen (f ∷ here))
+  behind f all low here same = subst (λ (xs : List ℕ). IsPermutation xs (chosen low ++ chosen (f ∷ here))) (sym (chosen-cons f all))
+      (subst (λ (xs : List ℕ). IsPermutation (cond (g f) (f.id ∷ chosen all) (chosen all)) (chosen low ++ xs)) (sym (chosen-cons f here)) (by (g f)))
     where
       by : (c : Bool) → IsPermutation (cond c (f.id ∷ chosen all) (chosen all)) (chosen low ++ cond c (f.id ∷ chosen here) (chosen here))
       by true =
-          IsPermutation-trans (f.id ∷ chosen all) (f.id ∷ (chosen low ++ chosen here)) (chosen low ++ f.id ∷ chosen here) (IsPermutation-cons f.id (chosen all) (chosen low ++ chosen here) same)
+          IsPermutation-trans (f.id ∷ chosen all) (f.id ∷ (chosen low ++ chosen here)) (chosen low ++ f.id ∷ chosen here)
+          (IsPermutation-cons f.id (chosen all) (chosen low ++ chosen here) same)
           (IsPermutation-sym (chosen low ++ f.id ∷ chosen here) (f.id ∷ (chosen low ++ chosen here)) (IsPermutation-middle (chosen low) f.id (chosen here)))
       by false = same
 
@@ -77,12 +66,14 @@ module _ (g : Fact → Bool) where
       by false true lower same rest = let within : nat_lt (bucket_key f) (suc k) ≡ true = grind arith in rw within (behind f all low here rest)
       by false false lower same rest = let beyond : nat_lt (bucket_key f) (suc k) ≡ false = grind arith in rw beyond rest
 
-  pub more_chosen : (k : ℕ) (facts : List Fact) (ids new : List ℕ) → IsPermutation (chosen (below_bucket k facts)) ids → new ≡ ids ++ chosen (held_in k facts) → IsPermutation (chosen (below_bucket (k + 1) facts)) new
+  pub more_chosen : (k : ℕ) (facts : List Fact) (ids new : List ℕ) → IsPermutation (chosen (below_bucket k facts)) ids → new ≡ ids ++ chosen (held_in k facts)
+      → IsPermutation (chosen (below_bucket (k + 1) facts)) new
   more_chosen k facts ids new same is =
       let next : suc k ≡ k + 1 = omega arith in
       subst (λ (n : ℕ). IsPermutation (chosen (below_bucket n facts)) new) next
       (subst (IsPermutation (chosen (below_bucket (suc k) facts))) (sym is)
-      (IsPermutation-trans (chosen (below_bucket (suc k) facts)) (chosen (below_bucket k facts) ++ chosen (held_in k facts)) (ids ++ chosen (held_in k facts)) (next_bucket k facts)
+      (IsPermutation-trans (chosen (below_bucket (suc k) facts)) (chosen (below_bucket k facts) ++ chosen (held_in k facts)) (ids ++ chosen (held_in k facts))
+      (next_bucket k facts)
       (IsPermutation-append_left (chosen (held_in k facts)) (chosen (below_bucket k facts)) ids same)))
 
   -- nobody stands below the first bucket
@@ -118,7 +109,8 @@ module _ (g : Fact → Bool) where
       by false rest = rest
 
   -- those of all buckets, in order
-  pub all_chosen : (facts : List Fact) (ids new : List ℕ) → Ascend facts → ArePlaced facts → IsPermutation (chosen (below_bucket 256 facts)) ids → IsPermutation ids new → IsNonDecreasing new → new ≡ chosen facts
+  pub all_chosen : (facts : List Fact) (ids new : List ℕ) → Ascend facts → ArePlaced facts → IsPermutation (chosen (below_bucket 256 facts)) ids
+      → IsPermutation ids new → IsNonDecreasing new → new ≡ chosen facts
   all_chosen facts ids new up placed same sorted order =
       same_order (chosen facts) new (chosen_climbs facts (rising facts up)) order
       (IsPermutation-trans (chosen facts) ids new (subst (λ (fs : List Fact). IsPermutation (chosen fs) ids) (all_below facts placed) same) sorted)
@@ -139,7 +131,8 @@ root_le a b r h =
 le_by : (m n : ℕ) → nat_le m n ≡ true → m ≤ n
 le_by m n h = grind arith
 
-pub gap_le : (p q : Point) (radius : ℤ) → is_near p q radius ≡ true → (unsigned_abs (p.x -ℤ q.x) ≤ unsigned_abs radius) × (unsigned_abs (p.z -ℤ q.z) ≤ unsigned_abs radius)
+pub gap_le : (p q : Point) (radius : ℤ) → is_near p q radius ≡ true → (unsigned_abs (p.x -ℤ q.x) ≤ unsigned_abs radius)
+    × (unsigned_abs (p.z -ℤ q.z) ≤ unsigned_abs radius)
 gap_le p q radius near =
     let x = unsigned_abs (p.x -ℤ q.x) in
     let z = unsigned_abs (p.z -ℤ q.z) in
@@ -152,12 +145,14 @@ abbrev pub IsBeyond : ℕ → Point → ℕ → Type 0
 IsBeyond k at reach = (p : Point) → IsPlaced p → bucket_at p ≡ k → unsigned_abs (p.x -ℤ at.x) ≤ reach → unsigned_abs (p.z -ℤ at.z) ≤ reach → ⊥
 
 pub beyond_by : (k : ℕ) (at : Point) (radius : ℤ) (reach : ℕ) (touched : Bool) → reach ≡ unsigned_abs radius → touched ≡ false →
-    ((p : Point) → IsPlaced p → bucket_at p ≡ k → unsigned_abs (p.x -ℤ at.x) ≤ reach → unsigned_abs (p.z -ℤ at.z) ≤ reach → touched ≡ true) → IsBeyond k at (unsigned_abs radius)
+    ((p : Point) → IsPlaced p → bucket_at p ≡ k → unsigned_abs (p.x -ℤ at.x) ≤ reach → unsigned_abs (p.z -ℤ at.z) ≤ reach → touched ≡ true)
+    → IsBeyond k at (unsigned_abs radius)
 beyond_by k at radius reach touched is out h p placed key x z =
     let yes = h p placed key (omega (arith, is, x)) (omega (arith, is, z)) in
     absurd (cc)
 
-pub none_beyond : (k mask : ℕ) (at : Point) (radius : ℤ) (facts : List Fact) → ArePlaced facts → IsBeyond k at (unsigned_abs radius) → within_among (held_in k facts) at radius mask ≡ []
+pub none_beyond : (k mask : ℕ) (at : Point) (radius : ℤ) (facts : List Fact) → ArePlaced facts → IsBeyond k at (unsigned_abs radius)
+    → within_among (held_in k facts) at radius mask ≡ []
 none_beyond k mask at radius [] all beyond = refl
 none_beyond k mask at radius (f ∷ facts) all beyond =
     by (bucket_key f == k) refl (none_beyond k mask at radius facts (All-tail (λ (h : Fact). IsPlaced h.at) f facts all) beyond)
@@ -172,12 +167,16 @@ none_beyond k mask at radius (f ∷ facts) all beyond =
         let gaps = gap_le f.at at radius close in
         absurd (beyond f.at placed (eqb-true (bucket_key f) k e) gaps.0 gaps.1)
 
-    by : (b : Bool) → (bucket_key f == k) ≡ b → within_among (held_in k facts) at radius mask ≡ [] → within_among (cond b (f ∷ held_in k facts) (held_in k facts)) at radius mask ≡ []
-    by true e rest = chosen-cons (near_by at radius mask) f (held_in k facts) ∙ ap (λ (c : Bool). cond c (f.id ∷ chosen (near_by at radius mask) (held_in k facts)) (chosen (near_by at radius mask) (held_in k facts))) (away e (near_by at radius mask f) refl) ∙ rest
+    by : (b : Bool) → (bucket_key f == k) ≡ b → within_among (held_in k facts) at radius mask ≡ []
+        → within_among (cond b (f ∷ held_in k facts) (held_in k facts)) at radius mask ≡ []
+    by true e rest = chosen-cons (near_by at radius mask) f (held_in k facts) ∙
+        ap (λ (c : Bool). cond c (f.id ∷ chosen (near_by at radius mask) (held_in k facts)) (chosen (near_by at radius mask) (held_in k facts)))
+        (away e (near_by at radius mask f) refl) ∙ rest
     by false e rest = rest
 
 -- what is lent of a bucket
-pub lent_held : (facts : List Fact) (k : ℕ) (buckets : List Bucket) (b : Bucket) (lent : List Fact) → AreBuckets facts buckets → k < length buckets → b ≡ get_or buckets k b → lent ≡ b.facts.items → lent ≡ held_in k facts
+pub lent_held : (facts : List Fact) (k : ℕ) (buckets : List Bucket) (b : Bucket) (lent : List Fact) → AreBuckets facts buckets → k < length buckets
+    → b ≡ get_or buckets k b → lent ≡ b.facts.items → lent ≡ held_in k facts
 lent_held facts k buckets b lent are lt there is = is ∙ ap (λ (c : Bucket). c.facts.items) there ∙ are k b lt
 
 pub nothing_more : (ids more : List ℕ) → more ≡ [] → ids ≡ ids ++ more
@@ -188,6 +187,8 @@ nothing_more ids more none = sym (append_nil ids) ∙ ap (λ (xs : List ℕ). id
     append_nil (x ∷ xs) = ap (λ (ys : List ℕ). x ∷ ys) (append_nil xs)
 
 -- those of a bucket are held on the land
-pub bucket_held : (land : Land) (facts : List Fact) (k : ℕ) (buckets : List Bucket) (b : Bucket) (lent : List Fact) → Holds land facts → AreBuckets facts buckets → k < length buckets → b ≡ get_or buckets k b → lent ≡ b.facts.items → All (IsHeld land) lent
+pub bucket_held : (land : Land) (facts : List Fact) (k : ℕ) (buckets : List Bucket) (b : Bucket) (lent : List Fact) → Holds land facts
+    → AreBuckets facts buckets → k < length buckets → b ≡ get_or buckets k b → lent ≡ b.facts.items → All (IsHeld land) lent
 bucket_held land facts k buckets b lent holds are lt there is =
-    subst (All (IsHeld land)) (sym (lent_held facts k buckets b lent are lt there is)) (All-filter (λ (f : Fact). bucket_key f == k) (IsHeld land) facts holds.held.each)
+    subst (All (IsHeld land)) (sym (lent_held facts k buckets b lent are lt there is))
+    (All-filter (λ (f : Fact). bucket_key f == k) (IsHeld land) facts holds.held.each)

@@ -1,19 +1,8 @@
 -- Buckets out of reach have nobody who sees the entity or is seen by it.
-use Rattle.std.proofs.Common.{◌≡◌, ℕ, ◌<◌, ◌≤◌, Bool, true, false, cond, not, ℤ, ◌-ℤ◌, List, [], ◌∷◌, Option, Some, None, refl, sym, ap, ◌∙◌, subst, arith, All}
-use Rattle.std.specs.Prelude.{◌==◌, ◌&&◌, nat_lt, unsigned_abs, IfSome, slice_index}
-use Rattle.std.proofs.lemmas.Bool.{eqb-true, and_parts}
-use Rattle.std.proofs.lemmas.Int.{ints}
-use Rattle.std.proofs.lemmas.List.Elements.{All-head, All-tail}
-use Rattle.sim_base.specs.declared.place.Point.{Point}
-use Rattle.sim_base.specs.declared.setup.Land.{Land}
-use Rattle.sim_base.specs.Places.{IsPlaced}
-use Rattle.sim_base.specs.Rows.{in_mask}
-use Rattle.sim_base.specs.Filters.{is_near}
-use Rattle.sim_system.specs.declared.fact.Fact.{Fact}
-use Rattle.sim_range.specs.Buckets.{ArePlaced, bucket_key, held_in}
-use Rattle.sim_range.specs.Nearness.{below_bucket}
-use Rattle.sim_range.specs.Areas.{AreApart, IsOut}
-use Rattle.sim_range.specs.Sights.{is_seen_by, is_seen, sees, differ, turned_watchers, turned_seen, SeesWithin}
+use Rattle.sim_range.proofs.Common.{bucket_key, differ, eqb-true, Fact, held_in, in_mask, ints, is_near, is_seen, is_seen_by, IsOut, IsPlaced, Land, Point}
+use Rattle.sim_range.proofs.Common.{sees, SeesWithin, subst, sym, turned_seen, turned_watchers, ◌∙◌}
+use Rattle.sim_range.proofs.Common.{unsigned_abs, Some, None, All, Option, refl, All-head, All-tail, and_parts, ap, AreApart, ArePlaced, arith, below_bucket}
+use Rattle.sim_range.proofs.Common.{◌≡◌, ℕ, ◌<◌, ◌≤◌, Bool, true, false, cond, not, ◌&&◌, List, [], ◌∷◌, ℤ, ◌-ℤ◌, IfSome, nat_lt, ◌==◌, slice_index}
 use Rattle.sim_range.proofs.Nearing.{chosen, chosen-cons, gap_le}
 
 pub abs_swap : (a b : ℤ) → unsigned_abs (a -ℤ b) ≡ unsigned_abs (b -ℤ a)
@@ -38,18 +27,21 @@ not_seen land reach w f far apart = by w.vision refl
     by None e = refl
     by (Some v) e = away v e (is_seen_by land w (Some v) f) refl
 
-unseen : (land : Land) (reach : ℕ) (part : Option Fact) (f : Fact) → SeesWithin reach f → IfSome part (λ (e : Fact). AreApart reach f.at e.at) → is_seen land f part ≡ false
+unseen : (land : Land) (reach : ℕ) (part : Option Fact) (f : Fact) → SeesWithin reach f → IfSome part (λ (e : Fact). AreApart reach f.at e.at)
+    → is_seen land f part ≡ false
 unseen land reach None f far out = refl
 unseen land reach (Some e) f far out = not_seen land reach f e far (swapped reach f.at e.at out)
 
-unseeing : (land : Land) (reach : ℕ) (part : Option Fact) (f : Fact) → IfSome part (SeesWithin reach) → IfSome part (λ (e : Fact). AreApart reach f.at e.at) → sees land part f ≡ false
+unseeing : (land : Land) (reach : ℕ) (part : Option Fact) (f : Fact) → IfSome part (SeesWithin reach) → IfSome part (λ (e : Fact). AreApart reach f.at e.at)
+    → sees land part f ≡ false
 unseeing land reach None f far out = refl
 unseeing land reach (Some e) f far out = not_seen land reach e f far out
 
 both_false : (a b : Bool) → a ≡ false → b ≡ false → differ a b ≡ false
 both_false a b one two = ap (λ (c : Bool). cond c (not b) b) one ∙ two
 
-pub none_held : (g : Fact → Bool) (Q : Fact → Type 0) (k : ℕ) (facts : List Fact) → ArePlaced facts → All Q facts → ((f : Fact) → IsPlaced f.at → Q f → bucket_key f ≡ k → g f ≡ false) → chosen g (held_in k facts) ≡ []
+pub none_held : (g : Fact → Bool) (Q : Fact → Type 0) (k : ℕ) (facts : List Fact) → ArePlaced facts → All Q facts
+    → ((f : Fact) → IsPlaced f.at → Q f → bucket_key f ≡ k → g f ≡ false) → chosen g (held_in k facts) ≡ []
 none_held g Q k [] placed all none = refl
 none_held g Q k (f ∷ facts) placed all none =
     by (bucket_key f == k) refl (none_held g Q k facts (All-tail (λ (h : Fact). IsPlaced h.at) f facts placed) (All-tail Q f facts all) none)
@@ -57,47 +49,62 @@ none_held g Q k (f ∷ facts) placed all none =
     by : (b : Bool) → (bucket_key f == k) ≡ b → chosen g (held_in k facts) ≡ [] → chosen g (cond b (f ∷ held_in k facts) (held_in k facts)) ≡ []
     by true e rest =
         chosen-cons g f (held_in k facts)
-        ∙ ap (λ (c : Bool). cond c (f.id ∷ chosen g (held_in k facts)) (chosen g (held_in k facts))) (none f (All-head (λ (h : Fact). IsPlaced h.at) f facts placed) (All-head Q f facts all) (eqb-true (bucket_key f) k e)) ∙ rest
+        ∙ ap (λ (c : Bool). cond c (f.id ∷ chosen g (held_in k facts)) (chosen g (held_in k facts)))
+        (none f (All-head (λ (h : Fact). IsPlaced h.at) f facts placed) (All-head Q f facts all) (eqb-true (bucket_key f) k e)) ∙ rest
     by false e rest = rest
 
-module _ (land : Land) (reach k : ℕ) (before after : Option Fact) (facts : List Fact) (placed : ArePlaced facts) (far : All (SeesWithin reach) facts) (old_out : IsOut k reach before) (new_out : IsOut k reach after) where
+module _ (land : Land) (reach k : ℕ) (before after : Option Fact) (facts : List Fact) (placed : ArePlaced facts) (far : All (SeesWithin reach) facts)
+    (old_out : IsOut k reach before) (new_out : IsOut k reach after) where
   pub no_watchers : chosen (λ (f : Fact). differ (is_seen land f before) (is_seen land f after)) (held_in k facts) ≡ []
   no_watchers =
       none_held (λ (f : Fact). differ (is_seen land f before) (is_seen land f after)) (SeesWithin reach) k facts placed far
-      (λ f at q key. both_false (is_seen land f before) (is_seen land f after) (unseen land reach before f q (old_out f.at at key)) (unseen land reach after f q (new_out f.at at key)))
+      (λ f at q key. both_false (is_seen land f before) (is_seen land f after) (unseen land reach before f q (old_out f.at at key))
+      (unseen land reach after f q (new_out f.at at key)))
 
-  pub none_in_view : IfSome before (SeesWithin reach) → IfSome after (SeesWithin reach) → chosen (λ (f : Fact). differ (sees land before f) (sees land after f)) (held_in k facts) ≡ []
+  pub none_in_view : IfSome before (SeesWithin reach) → IfSome after (SeesWithin reach) → chosen (λ (f : Fact). differ (sees land before f) (sees land after f))
+      (held_in k facts) ≡ []
   none_in_view old_far new_far =
       none_held (λ (f : Fact). differ (sees land before f) (sees land after f)) (SeesWithin reach) k facts placed far
-      (λ f at q key. both_false (sees land before f) (sees land after f) (unseeing land reach before f old_far (old_out f.at at key)) (unseeing land reach after f new_far (new_out f.at at key)))
+      (λ f at q key. both_false (sees land before f) (sees land after f) (unseeing land reach before f old_far (old_out f.at at key))
+      (unseeing land reach after f new_far (new_out f.at at key)))
 
 -- ---- several buckets out of reach, one after another
 
-passed : (g : Fact → Bool) (Q : Fact → Type 0) (a b : ℕ) → a ≤ b → (facts : List Fact) → ArePlaced facts → All Q facts → ((f : Fact) → IsPlaced f.at → Q f → a ≤ bucket_key f → bucket_key f < b → g f ≡ false) → chosen g (below_bucket b facts) ≡ chosen g (below_bucket a facts)
+passed : (g : Fact → Bool) (Q : Fact → Type 0) (a b : ℕ) → a ≤ b → (facts : List Fact) → ArePlaced facts → All Q facts
+    → ((f : Fact) → IsPlaced f.at → Q f → a ≤ bucket_key f → bucket_key f < b → g f ≡ false) → chosen g (below_bucket b facts) ≡ chosen g (below_bucket a facts)
 passed g Q a b le [] placed all none = refl
 passed g Q a b le (f ∷ facts) placed all none =
-    by (nat_lt (bucket_key f) a) (nat_lt (bucket_key f) b) refl refl (passed g Q a b le facts (All-tail (λ (h : Fact). IsPlaced h.at) f facts placed) (All-tail Q f facts all) none)
+    by (nat_lt (bucket_key f) a) (nat_lt (bucket_key f) b) refl refl (passed g Q a b le facts (All-tail (λ (h : Fact). IsPlaced h.at) f facts placed)
+    (All-tail Q f facts all) none)
   where
     quiet : a ≤ bucket_key f → bucket_key f < b → g f ≡ false
     quiet = none f (All-head (λ (h : Fact). IsPlaced h.at) f facts placed) (All-head Q f facts all)
 
     by : (c d : Bool) → nat_lt (bucket_key f) a ≡ c → nat_lt (bucket_key f) b ≡ d → chosen g (below_bucket b facts) ≡ chosen g (below_bucket a facts) →
         chosen g (cond d (f ∷ below_bucket b facts) (below_bucket b facts)) ≡ chosen g (cond c (f ∷ below_bucket a facts) (below_bucket a facts))
-    by true true lower under rest = chosen-cons g f (below_bucket b facts) ∙ ap (λ (xs : List ℕ). cond (g f) (f.id ∷ xs) xs) rest ∙ sym (chosen-cons g f (below_bucket a facts))
+    by true true lower under rest = chosen-cons g f (below_bucket b facts) ∙ ap (λ (xs : List ℕ). cond (g f) (f.id ∷ xs) xs) rest ∙
+        sym (chosen-cons g f (below_bucket a facts))
     by true false lower under rest = absurd (grind arith)
     by false true lower under rest =
         let low : a ≤ bucket_key f = grind arith in
         let high : bucket_key f < b = grind arith in
-        chosen-cons g f (below_bucket b facts) ∙ ap (λ (c : Bool). cond c (f.id ∷ chosen g (below_bucket b facts)) (chosen g (below_bucket b facts))) (quiet low high) ∙ rest
+        chosen-cons g f (below_bucket b facts) ∙ ap (λ (c : Bool). cond c (f.id ∷ chosen g (below_bucket b facts)) (chosen g (below_bucket b facts)))
+        (quiet low high) ∙ rest
     by false false lower under rest = rest
 
-module _ (land : Land) (reach : ℕ) (before after : Option Fact) (facts : List Fact) (placed : ArePlaced facts) (far : All (SeesWithin reach) facts) (a b : ℕ) (le : a ≤ b) (old_out : (k : ℕ) → a ≤ k → k < b → IsOut k reach before) (new_out : (k : ℕ) → a ≤ k → k < b → IsOut k reach after) where
+module _ (land : Land) (reach : ℕ) (before after : Option Fact) (facts : List Fact) (placed : ArePlaced facts) (far : All (SeesWithin reach) facts) (a b : ℕ)
+    (le : a ≤ b) (old_out : (k : ℕ) → a ≤ k → k < b → IsOut k reach before) (new_out : (k : ℕ) → a ≤ k → k < b → IsOut k reach after) where
   pub pass_watchers : turned_watchers land before after (below_bucket b facts) ≡ turned_watchers land before after (below_bucket a facts)
   pass_watchers =
       passed (λ (f : Fact). differ (is_seen land f before) (is_seen land f after)) (SeesWithin reach) a b le facts placed far
-      (λ f at q low high. both_false (is_seen land f before) (is_seen land f after) (unseen land reach before f q (old_out (bucket_key f) low high f.at at refl)) (unseen land reach after f q (new_out (bucket_key f) low high f.at at refl)))
+      (λ f at q low high. both_false (is_seen land f before) (is_seen land f after)
+      (unseen land reach before f q (old_out (bucket_key f) low high f.at at refl))
+      (unseen land reach after f q (new_out (bucket_key f) low high f.at at refl)))
 
-  pub pass_view : IfSome before (SeesWithin reach) → IfSome after (SeesWithin reach) → turned_seen land before after (below_bucket b facts) ≡ turned_seen land before after (below_bucket a facts)
+  pub pass_view : IfSome before (SeesWithin reach) → IfSome after (SeesWithin reach) → turned_seen land before after (below_bucket b facts) ≡ turned_seen land
+      before after (below_bucket a facts)
   pass_view old_far new_far =
       passed (λ (f : Fact). differ (sees land before f) (sees land after f)) (SeesWithin reach) a b le facts placed far
-      (λ f at q low high. both_false (sees land before f) (sees land after f) (unseeing land reach before f old_far (old_out (bucket_key f) low high f.at at refl)) (unseeing land reach after f new_far (new_out (bucket_key f) low high f.at at refl)))
+      (λ f at q low high. both_false (sees land before f) (sees land after f)
+      (unseeing land reach before f old_far (old_out (bucket_key f) low high f.at at refl))
+      (unseeing land reach after f new_far (new_out (bucket_key f) low high f.at at refl)))

@@ -1,9 +1,6 @@
 -- Ascending numbers are in one order: two such lists of the same numbers are the same.
-use Rattle.std.proofs.Common.{◌≡◌, ℕ, zero, suc, ◌+◌, ◌<◌, ◌≤◌, Bool, true, false, cond, List, [], ◌∷◌, length, get_or, refl, sym, ap, ◌∙◌, arith, IsPermutation, sum_by}
-use Rattle.std.specs.Prelude.{nat_lt}
-use Rattle.std.specs.List.Sorted.{IsNonDecreasing}
-use Rattle.std.proofs.lemmas.List.Sums.{sum_by-cons}
-use Rattle.std.proofs.lemmas.List.Sorted.{sum_by-IsPermutation}
+use Rattle.sim_range.proofs.Common.{refl, ap, arith, IsNonDecreasing, sum_by-cons, sum_by-IsPermutation, sym, ◌∙◌}
+use Rattle.sim_range.proofs.Common.{◌≡◌, ℕ, zero, suc, ◌+◌, ◌<◌, ◌≤◌, Bool, true, false, cond, List, [], ◌∷◌, length, get_or, nat_lt, sum_by, IsPermutation}
 
 -- all numbers are at least this
 abbrev pub AtLeast : ℕ → List ℕ → Type 0
@@ -58,7 +55,8 @@ same_sums (x ∷ xs) (y ∷ ys) up also h =
     let high : y ≤ x = first_at_least y x xs (sym (h (below y)) ∙ none_below y (y ∷ ys) (omega arith, also.0)) in
     let same : y ≡ x = omega (arith, low, high) in
     let rest : (f : ℕ → ℕ) → sum_by f ys ≡ sum_by f xs =
-    λ f. (let all : f y + sum_by f ys ≡ f x + sum_by f xs = sym (sum_by-cons f y ys) ∙ h f ∙ sum_by-cons f x xs in let first : f y ≡ f x = ap f same in omega (arith, all, first)) in
+    λ f. (let all : f y + sum_by f ys ≡ f x + sum_by f xs = sym (sum_by-cons f y ys) ∙ h f ∙ sum_by-cons f x xs in let first : f y ≡ f x = ap f same in
+    omega (arith, all, first)) in
     ap (λ (n : ℕ). n ∷ ys) same ∙ ap (λ (ns : List ℕ). x ∷ ns) (same_sums xs ys up.1 also.1 rest)
 
 pub same_order : (xs ys : List ℕ) → Climbs xs → IsNonDecreasing ys → IsPermutation xs ys → ys ≡ xs

@@ -1,14 +1,8 @@
 -- Ascending ids when one comes or goes.
-use Rattle.std.proofs.Common.{◌≡◌, ℕ, zero, suc, ◌+◌, ◌<◌, ◌≤◌, Bool, true, false, cond, List, [], ◌∷◌, length, get_or, refl, sym, ap, ◌∙◌, subst, arith, inl, inr}
-use Rattle.std.specs.Prelude.{◌==◌, nat_lt, Ok, Err}
-use Rattle.std.specs.List.{insert, remove}
-use Rattle.std.specs.List.Sorted.{IsStrictlyIncreasing, IsBinarySearchResult}
-use Rattle.std.specs.Ordering.{nat_cmp}
-use Rattle.std.proofs.lemmas.Bool.{eq-eqb, ne_eqb, lt-ltb, le-ltb, cases_lt, cases_eq}
-use Rattle.std.proofs.lemmas.List.Kept.{AllPairs-from_increasing}
-use Rattle.std.proofs.lemmas.List.Sorted.{searched}
-use Rattle.sim_fact_lists.specs.Ids.{with_id, without_id}
-use Rattle.sim_fact_lists.proofs.Ids.{Above, with_first, with_behind}
+use Rattle.{sim_fact_lists.proofs.Ids.Above, sim_range.proofs.Common.◌∙◌}
+use Rattle.sim_range.proofs.Common.{IsStrictlyIncreasing, le-ltb, lt-ltb, nat_cmp, ne_eqb, searched, subst, sym, with_behind, with_first, with_id, without_id}
+use Rattle.sim_range.proofs.Common.{remove, refl, AllPairs-from_increasing, ap, arith, cases_eq, cases_lt, eq-eqb, inl, inr, IsBinarySearchResult}
+use Rattle.sim_range.proofs.Common.{◌≡◌, ℕ, zero, suc, ◌+◌, ◌<◌, ◌≤◌, Bool, true, false, cond, List, [], ◌∷◌, length, get_or, nat_lt, ◌==◌, Ok, Err, insert}
 
 -- each number is below all later ones
 abbrev pub Ups : List ℕ → Type 0
@@ -64,7 +58,8 @@ without_above id (x ∷ xs) a =
 
 -- ---- it comes
 
-pub come_new : (xs : List ℕ) (id at : ℕ) → at ≤ length xs → ((k : ℕ) → k < at → get_or xs k 0 < id) → ((k : ℕ) → at ≤ k → k < length xs → id < get_or xs k 0) → insert xs at id ≡ with_id id xs
+pub come_new : (xs : List ℕ) (id at : ℕ) → at ≤ length xs → ((k : ℕ) → k < at → get_or xs k 0 < id) → ((k : ℕ) → at ≤ k → k < length xs → id < get_or xs k 0)
+    → insert xs at id ≡ with_id id xs
 come_new [] id zero le low high = refl
 come_new [] id (suc at) le low high = absurd (omega arith)
 come_new (x ∷ xs) id zero le low high = let less : nat_lt id x ≡ true = lt-ltb id x (high zero (omega arith) (omega arith)) in rw less refl
@@ -100,8 +95,11 @@ apart (x ∷ xs) id h =
     let other : (x == id) ≡ false = ne_eqb x id (h zero (omega arith)) in
     rw other (ap (λ (ys : List ℕ). x ∷ ys) (apart xs id (λ k lt. h (suc k) (omega arith))))
 
-pub go_not : (xs : List ℕ) (id at : ℕ) → ((k : ℕ) → k < at → get_or xs k 0 < id) → ((k : ℕ) → at ≤ k → k < length xs → id < get_or xs k 0) → xs ≡ without_id id xs
-go_not xs id at low high = apart xs id (λ k lt. elim (cases_lt k at) [ inl before ↦ (let h = low k before in λ e. omega (arith, h, e)) | inr behind ↦ (let h = high k (omega arith) lt in λ e. omega (arith, h, e)) ])
+pub go_not : (xs : List ℕ) (id at : ℕ) → ((k : ℕ) → k < at → get_or xs k 0 < id) → ((k : ℕ) → at ≤ k → k < length xs → id < get_or xs k 0)
+    → xs ≡ without_id id xs
+go_not xs id at low high =
+    apart xs id (λ k lt. elim (cases_lt k at)
+    [ inl before ↦ (let h = low k before in λ e. omega (arith, h, e)) | inr behind ↦ (let h = high k (omega arith) lt in λ e. omega (arith, h, e)) ])
 
 -- ---- it goes and comes again
 
@@ -112,12 +110,14 @@ with_without id (x ∷ xs) u =
       | inl same ↦
           (let here : (x == id) ≡ true = eq-eqb x id same in
           let above : Above id xs = subst (λ (n : ℕ). Above n xs) same u.0 in
-          rw here (ap (with_id id) (without_above id xs above) ∙ with_first id xs above ∙ ap (λ (n : ℕ). n ∷ xs) (sym same) ∙ come_again (x ∷ xs) id zero u (omega arith) same))
+          rw here (ap (with_id id) (without_above id xs above) ∙ with_first id xs above ∙ ap (λ (n : ℕ). n ∷ xs) (sym same) ∙
+          come_again (x ∷ xs) id zero u (omega arith) same))
       | inr differ ↦
           (let other : (x == id) ≡ false = ne_eqb x id (λ e. omega (arith, differ, e)) in
           rw other (elim (cases_lt x id) [
             | inl less ↦ with_behind id x (without_id id xs) less ∙ ap (λ (ys : List ℕ). x ∷ ys) (with_without id xs u.1) ∙ sym (with_behind id x xs less)
-            | inr more ↦ (let lt : id < x = omega (arith, more, differ) in ap (λ (ys : List ℕ). with_id id (x ∷ ys)) (without_above id xs (above_less id x xs (omega (arith, lt)) u.0)))
+            | inr more ↦ (let lt : id < x = omega (arith, more, differ) in ap (λ (ys : List ℕ). with_id id (x ∷ ys))
+                (without_above id xs (above_less id x xs (omega (arith, lt)) u.0)))
           ]))
     ]
 
@@ -141,7 +141,8 @@ module _ (lent xs : List ℕ) (id at : ℕ) (is : lent ≡ xs) (up : IsStrictlyI
   stands : IsBinarySearchResult (λ (y : ℕ). nat_cmp y id) lent (Ok at) → (at < length xs) × (get_or xs at 0 ≡ id)
   stands h = searched xs id (Ok at) (subst (λ (ys : List ℕ). IsBinarySearchResult (λ (y : ℕ). nat_cmp y id) ys (Ok at)) is h) (rises xs up)
 
-  belongs : IsBinarySearchResult (λ (y : ℕ). nat_cmp y id) lent (Err at) → (at ≤ length xs) × ((k : ℕ) → k < at → get_or xs k 0 < id) × ((k : ℕ) → at ≤ k → k < length xs → id < get_or xs k 0)
+  belongs : IsBinarySearchResult (λ (y : ℕ). nat_cmp y id) lent (Err at) → (at ≤ length xs) × ((k : ℕ) → k < at → get_or xs k 0 < id)
+      × ((k : ℕ) → at ≤ k → k < length xs → id < get_or xs k 0)
   belongs h = searched xs id (Err at) (subst (λ (ys : List ℕ). IsBinarySearchResult (λ (y : ℕ). nat_cmp y id) ys (Err at)) is h) (rises xs up)
 
   pub comes_again : IsBinarySearchResult (λ (y : ℕ). nat_cmp y id) lent (Ok at) → xs ≡ with_id id xs

@@ -1,23 +1,11 @@
 -- The sights beside the facts, when some of them are changed in turn.
-use Rattle.std.proofs.Common.{◌≡◌, ℕ, zero, suc, ◌+◌, ◌<◌, Bool, true, false, cond, List, [], ◌∷◌, length, map, get_or, set, take, Option, Some, None, refl, sym, ap, ◌∙◌, subst, arith, inl, inr}
-use Rattle.std.specs.Prelude.{◌==◌, ◌||◌, nat_lt, IfSome, vec_len, vec_capacity}
-use Rattle.std.specs.List.{insert, remove}
-use Rattle.std.specs.List.Sorted.{IsStrictlyIncreasing}
-use Rattle.std.proofs.lemmas.Bool.{eq-eqb, ne_eqb, cases_lt, cases_eq}
-use Rattle.std.proofs.lemmas.List.{map-set, length-map, get_or_read}
-use Rattle.std.proofs.lemmas.List.Folds.{list_any_more, list_any_at}
-use Rattle.sim_base.specs.declared.setup.Land.{Land}
-use Rattle.sim_system.specs.declared.fact.Fact.{Fact}
-use Rattle.sim_system.specs.Notes.{fact_with, without, placed, with_kept}
-use Rattle.sim_fact_lists.specs.Places.{Ascend, Stands, Belongs, with_only}
-use Rattle.sim_fact_lists.specs.Ids.{with_id}
-use Rattle.sim_fact_lists.proofs.Rising.{Rising, Missing, rising, above_at, missing_without, without_missing}
-use Rattle.sim_fact_lists.proofs.Standing.{put_over, put_nothing, put_new, nothing_new}
-use Rattle.sim_range.specs.declared.sight.Sight.{Sight}
-use Rattle.sim_range.specs.Sights.{is_seen, sight, turned, ids_of, ids_at, is_among, HasPlace, HaveRooms, AreChanging}
-use Rattle.sim_range.proofs.Putting.{only_ascends}
-use Rattle.sim_range.proofs.Turning.{increasing}
-use Rattle.sim_range.proofs.Seeing.{sight_ups, turned_is, still_sees}
+use Rattle.sim_range.proofs.{Common.with_only, Common.without, Common.without_missing, Common.◌∙◌, Seeing.sight_ups, Seeing.still_sees, Seeing.turned_is}
+use Rattle.sim_range.proofs.{Putting.only_ascends, Turning.increasing}
+use Rattle.sim_range.proofs.Common.{IsStrictlyIncreasing, Land, length-map, list_any_at, list_any_more, map-set, Missing, missing_without, ne_eqb, nothing_new}
+use Rattle.sim_range.proofs.Common.{cases_eq, cases_lt, eq-eqb, Fact, fact_with, get_or_read, HasPlace, HaveRooms, ids_at, ids_of, inl, inr, is_among, is_seen}
+use Rattle.sim_range.proofs.Common.{placed, put_new, put_nothing, put_over, Rising, rising, Sight, sight, Stands, subst, sym, turned, with_id, with_kept}
+use Rattle.sim_range.proofs.Common.{◌==◌, Some, None, vec_len, vec_capacity, insert, remove, Option, refl, above_at, ap, AreChanging, arith, Ascend, Belongs}
+use Rattle.sim_range.proofs.Common.{◌≡◌, ℕ, zero, suc, ◌+◌, ◌<◌, Bool, true, false, cond, ◌||◌, List, [], ◌∷◌, map, length, get_or, take, set, IfSome, nat_lt}
 
 -- ---- lists in step
 
@@ -29,7 +17,8 @@ module _ {X Y : Type 0} (f : X → List ℕ) (g : Y → List ℕ) where
   read_map (x ∷ xs) (y ∷ ys) zero d e same lt = cc
   read_map (x ∷ xs) (y ∷ ys) (suc i) d e same lt = read_map xs ys i d e (cc) (omega arith)
 
-  pub map_by : (xs : List X) (ys : List Y) → length xs ≡ length ys → ((i : ℕ) (d : X) (e : Y) → i < length ys → f (get_or xs i d) ≡ g (get_or ys i e)) → map f xs ≡ map g ys
+  pub map_by : (xs : List X) (ys : List Y) → length xs ≡ length ys → ((i : ℕ) (d : X) (e : Y) → i < length ys → f (get_or xs i d) ≡ g (get_or ys i e))
+      → map f xs ≡ map g ys
   map_by [] [] along same = refl
   map_by [] (y ∷ ys) along same = absurd (omega arith)
   map_by (x ∷ xs) [] along same = absurd (omega arith)
@@ -56,10 +45,13 @@ module _ {X : Type 0} (f : X → List ℕ) where
 
 -- ---- one sight is put in its place, or taken out
 
-module _ (see : Fact → List ℕ) (facts : List Fact) (sights : List Sight) (in_step : map ids_of sights ≡ map see facts) (up : Ascend facts) (id at : ℕ) (o : Option Fact) (named : IfSome o (λ (f : Fact). f.id ≡ id)) where
-  pub sight_over : (f : Fact) (own : Sight) → IfSome o (λ (g : Fact). own.ids.items ≡ see g) → Stands facts id at → o ≡ Some f → map ids_of (set sights at own) ≡ map see (with_only id o facts)
+module _ (see : Fact → List ℕ) (facts : List Fact) (sights : List Sight) (in_step : map ids_of sights ≡ map see facts) (up : Ascend facts) (id at : ℕ)
+    (o : Option Fact) (named : IfSome o (λ (f : Fact). f.id ≡ id)) where
+  pub sight_over : (f : Fact) (own : Sight) → IfSome o (λ (g : Fact). own.ids.items ≡ see g) → Stands facts id at → o ≡ Some f
+      → map ids_of (set sights at own) ≡ map see (with_only id o facts)
   sight_over f own given s is =
-      map-set ids_of sights at own ∙ ap (λ (zs : List (List ℕ)). set zs at (ids_of own)) in_step ∙ ap (set (map see facts) at) (by o given is) ∙ sym (map-set see facts at f)
+      map-set ids_of sights at own ∙ ap (λ (zs : List (List ℕ)). set zs at (ids_of own)) in_step ∙ ap (set (map see facts) at) (by o given is) ∙
+      sym (map-set see facts at f)
       ∙ ap (map see) (put_over facts facts id at o f refl up s is named)
     where
       by : (p : Option Fact) → IfSome p (λ (g : Fact). own.ids.items ≡ see g) → p ≡ Some f → own.ids.items ≡ see f
@@ -68,11 +60,14 @@ module _ (see : Fact → List ℕ) (facts : List Fact) (sights : List Sight) (in
 
   pub sight_out : Stands facts id at → o ≡ None → map ids_of (remove sights at) ≡ map see (with_only id o facts)
   sight_out s is =
-      map-removed ids_of sights at ∙ ap (λ (zs : List (List ℕ)). remove zs at) in_step ∙ sym (map-removed see facts at) ∙ ap (map see) (put_nothing facts facts id at o refl up s is)
+      map-removed ids_of sights at ∙ ap (λ (zs : List (List ℕ)). remove zs at) in_step ∙ sym (map-removed see facts at) ∙
+      ap (map see) (put_nothing facts facts id at o refl up s is)
 
-  pub sight_in : (f : Fact) (own : Sight) → IfSome o (λ (g : Fact). own.ids.items ≡ see g) → Belongs facts id at → o ≡ Some f → map ids_of (insert sights at own) ≡ map see (with_only id o facts)
+  pub sight_in : (f : Fact) (own : Sight) → IfSome o (λ (g : Fact). own.ids.items ≡ see g) → Belongs facts id at → o ≡ Some f
+      → map ids_of (insert sights at own) ≡ map see (with_only id o facts)
   sight_in f own given b is =
-      map-inserted ids_of sights at own ∙ ap (λ (zs : List (List ℕ)). insert zs at (ids_of own)) in_step ∙ ap (insert (map see facts) at) (by o given is) ∙ sym (map-inserted see facts at f)
+      map-inserted ids_of sights at own ∙ ap (λ (zs : List (List ℕ)). insert zs at (ids_of own)) in_step ∙ ap (insert (map see facts) at) (by o given is) ∙
+      sym (map-inserted see facts at f)
       ∙ ap (map see) (put_new facts facts id at o f refl b is named)
     where
       by : (p : Option Fact) → IfSome p (λ (g : Fact). own.ids.items ≡ see g) → p ≡ Some f → own.ids.items ≡ see f
@@ -87,7 +82,8 @@ ok_sights a xs ys zs ok is = is ∙ ap (λ (c : Bool). cond c ys xs) ok
 
 -- ---- the places of ids
 
-same_place : (facts : List Fact) (i j : ℕ) (d e : Fact) → Rising facts → i < length facts → j < length facts → (get_or facts i d).id ≡ (get_or facts j e).id → i ≡ j
+same_place : (facts : List Fact) (i j : ℕ) (d e : Fact) → Rising facts → i < length facts → j < length facts → (get_or facts i d).id ≡ (get_or facts j e).id
+    → i ≡ j
 same_place [] i j d e r one two same = absurd (omega arith)
 same_place (f ∷ facts) zero zero d e r one two same = refl
 same_place (f ∷ facts) zero (suc j) d e r one two same = let above = above_at f.id facts j e r.0 (omega arith) in absurd (omega (arith, above, same))
@@ -98,7 +94,12 @@ only_there : (facts : List Fact) (id at i : ℕ) (d : Fact) → Ascend facts →
 only_there facts id at i d up s lt is = same_place facts i at d d (rising facts up) lt s.within (is ∙ sym (s.same d))
 
 pub nowhere : (facts : List Fact) (id at i : ℕ) (d : Fact) → Belongs facts id at → i < length facts → (get_or facts i d).id ≡ id → ⊥
-nowhere facts id at i d b lt is = elim (cases_lt i at) [ inl before ↦ (let h = b.before i d before in absurd (omega (arith, h, is))) | inr behind ↦ (let h = b.behind i d (omega arith) lt in absurd (omega (arith, h, is))) ]
+nowhere facts id at i d b lt is =
+    elim (cases_lt i at) [
+      | inl before ↦ (let h = b.before i d before in absurd (omega (arith, h, is)))
+      | inr behind ↦ (let h = b.behind i d (omega arith) lt in
+          absurd (omega (arith, h, is)))
+    ]
 
 -- one watcher more is among them
 module _ (watchers : List ℕ) (j n : ℕ) (lt : j < length watchers) where
@@ -122,7 +123,9 @@ module _ (watchers : List ℕ) (j n : ℕ) (lt : j < length watchers) where
 -- ---- rooms
 
 module _ (facts : List Fact) (watchers : List ℕ) (j : ℕ) (lt : j < length watchers) (old : List Sight) (rooms : HaveRooms facts (take j watchers) old) where
-  pub more_rooms : (at : ℕ) (new : List Sight) → Ascend facts → Stands facts (get_or watchers j 0) at → ((d : Sight) → vec_len (get_or new at d).ids < vec_capacity (get_or new at d).ids) → ((k : ℕ) (d : Sight) → (k ≡ at → ⊥) → get_or new k d ≡ get_or old k d) → HaveRooms facts (take (j + 1) watchers) new
+  pub more_rooms : (at : ℕ) (new : List Sight) → Ascend facts → Stands facts (get_or watchers j 0) at →
+      ((d : Sight) → vec_len (get_or new at d).ids < vec_capacity (get_or new at d).ids)
+      → ((k : ℕ) (d : Sight) → (k ≡ at → ⊥) → get_or new k d ≡ get_or old k d) → HaveRooms facts (take (j + 1) watchers) new
   more_rooms at new up s there others i f d within among =
       elim (cases_eq i at) [
         | inl here ↦ subst (λ (k : ℕ). vec_len (get_or new k d).ids < vec_capacity (get_or new k d).ids) (sym here) (there d)
@@ -184,17 +187,24 @@ module _ (land : Land) (id : ℕ) (after : Option Fact) (facts : List Fact) (up 
   state_turned false w = turned_is land w id after facts (rising facts up) named
 
   -- in the end all are
-  pub all_turned : (before : Option Fact) (watchers all : List ℕ) (sights : List Sight) → before ≡ fact_with facts id → all ≡ watchers → length sights ≡ length facts →
-      ((i : ℕ) (f : Fact) (d : Sight) → i < length facts → ids_at sights i d ≡ state (is_among all (get_or facts i f).id) (get_or facts i f)) → AreChanging land facts before after watchers → map ids_of sights ≡ map (sight land (with_only id after facts)) facts
+  pub all_turned : (before : Option Fact) (watchers all : List ℕ) (sights : List Sight) → before ≡ fact_with facts id → all ≡ watchers
+      → length sights ≡ length facts →
+      ((i : ℕ) (f : Fact) (d : Sight) → i < length facts → ids_at sights i d ≡ state (is_among all (get_or facts i f).id) (get_or facts i f))
+      → AreChanging land facts before after watchers → map ids_of sights ≡ map (sight land (with_only id after facts)) facts
   all_turned before watchers all sights found is along seen changing =
-      map_by ids_of (sight land later) sights facts along (λ i d f lt. seen i f d lt ∙ ap (λ (ws : List ℕ). state (is_among ws (get_or facts i f).id) (get_or facts i f)) is ∙ by i f lt (is_among watchers (get_or facts i f).id) refl)
+      map_by ids_of (sight land later) sights facts along
+      (λ i d f lt. seen i f d lt ∙ ap (λ (ws : List ℕ). state (is_among ws (get_or facts i f).id) (get_or facts i f)) is ∙
+      by i f lt (is_among watchers (get_or facts i f).id) refl)
     where
-      by : (i : ℕ) (f : Fact) → i < length facts → (b : Bool) → is_among watchers (get_or facts i f).id ≡ b → state b (get_or facts i f) ≡ sight land later (get_or facts i f)
+      by : (i : ℕ) (f : Fact) → i < length facts → (b : Bool) → is_among watchers (get_or facts i f).id ≡ b → state b (get_or facts i f) ≡ sight land later
+          (get_or facts i f)
       by i f lt true e = refl
       by i f lt false e = sym (still_sees land (get_or facts i f) id before after facts (rising facts up) found named (changing i f lt e))
 
-  module _ (watchers : List ℕ) (j : ℕ) (lt : j < length watchers) (old : List Sight) (seen : (i : ℕ) (f : Fact) (d : Sight) → i < length facts → ids_at old i d ≡ state (is_among (take j watchers) (get_or facts i f).id) (get_or facts i f))
-      (room : (i : ℕ) (f : Fact) (d : Sight) → i < length facts → is_among watchers (get_or facts i f).id ≡ true → is_among (take j watchers) (get_or facts i f).id ≡ false → vec_len (get_or old i d).ids < vec_capacity (get_or old i d).ids) where
+  module _ (watchers : List ℕ) (j : ℕ) (lt : j < length watchers) (old : List Sight) (seen : (i : ℕ) (f : Fact) (d : Sight) → i < length facts
+      → ids_at old i d ≡ state (is_among (take j watchers) (get_or facts i f).id) (get_or facts i f))
+      (room : (i : ℕ) (f : Fact) (d : Sight) → i < length facts → is_among watchers (get_or facts i f).id ≡ true
+      → is_among (take j watchers) (get_or facts i f).id ≡ false → vec_len (get_or old i d).ids < vec_capacity (get_or old i d).ids) where
     module _ (at : ℕ) (s : Stands facts (get_or watchers j 0) at) (f : Fact) (is : f ≡ get_or facts at f) where
       pub ready_up : (d : Sight) → IsStrictlyIncreasing (ids_at old at d)
       ready_up d = subst IsStrictlyIncreasing (sym (seen at f d s.within)) (state_up (is_among (take j watchers) (get_or facts at f).id) (get_or facts at f))
@@ -211,7 +221,8 @@ module _ (land : Land) (id : ℕ) (after : Option Fact) (facts : List Fact) (up 
           by : (c : Bool) → is_among (take j watchers) w.id ≡ c → vec_len (get_or old at d).ids < vec_capacity (get_or old at d).ids
           by true e =
               let known : ids_at old at d ≡ sight land later w = seen at f d s.within ∙ ap (λ (c : Bool). state c w) e in
-              let same : with_id id (sight land later w) ≡ sight land later w = sym (ap (λ (c : Bool). turned c id (sight land later w)) sees) ∙ state_turned true w in
+              let same : with_id id (sight land later w) ≡ sight land later w = sym (ap (λ (c : Bool). turned c id (sight land later w)) sees) ∙
+              state_turned true w in
               absurd (new (ap (with_id id) known ∙ same ∙ sym known))
           by false e = room at f d s.within (list_any_at (λ (m : ℕ). m == w.id) watchers j 0 lt (eq-eqb (get_or watchers j 0) w.id (sym (s.same f)))) e
 
@@ -219,13 +230,15 @@ module _ (land : Land) (id : ℕ) (after : Option Fact) (facts : List Fact) (up 
         away : (i : ℕ) (g : Fact) → i < length facts → (i ≡ at → ⊥) → get_or watchers j 0 ≡ (get_or facts i g).id → ⊥
         away i g within differ e = differ (only_there facts (get_or watchers j 0) at i g up s within (sym e))
 
-        pub next_seen : (b : Bool) → b ≡ is_seen land f after → ((d : Sight) → ids_at new at d ≡ turned b id (ids_at old at d)) → (i : ℕ) (g : Fact) (d : Sight) → i < length facts → ids_at new i d ≡ state (is_among (take (j + 1) watchers) (get_or facts i g).id) (get_or facts i g)
+        pub next_seen : (b : Bool) → b ≡ is_seen land f after → ((d : Sight) → ids_at new at d ≡ turned b id (ids_at old at d)) → (i : ℕ) (g : Fact) (d : Sight)
+            → i < length facts → ids_at new i d ≡ state (is_among (take (j + 1) watchers) (get_or facts i g).id) (get_or facts i g)
         next_seen b test there i g d within =
             elim (cases_eq i at) [
               | inl here ↦ subst (λ (k : ℕ). ids_at new k d ≡ state (is_among (take (j + 1) watchers) (get_or facts k g).id) (get_or facts k g)) (sym here) now
               | inr differ ↦
                   (let apart : i ≡ at → ⊥ = λ e. absurd (omega (arith, differ, e)) in
-                  ap ids_of (others i d apart) ∙ seen i g d within ∙ ap (λ (c : Bool). state c (get_or facts i g)) (sym (among_still watchers j (get_or facts i g).id lt (away i g within apart))))
+                  ap ids_of (others i d apart) ∙ seen i g d within ∙ ap (λ (c : Bool). state c (get_or facts i g))
+                  (sym (among_still watchers j (get_or facts i g).id lt (away i g within apart))))
             ]
           where
             w : Fact
@@ -236,10 +249,12 @@ module _ (land : Land) (id : ℕ) (after : Option Fact) (facts : List Fact) (up 
 
             now : ids_at new at d ≡ state (is_among (take (j + 1) watchers) w.id) w
             now =
-                there d ∙ ap (turned b id) (seen at g d s.within) ∙ ap (λ (c : Bool). turned c id (state (is_among (take j watchers) w.id) w)) test_at ∙ state_turned (is_among (take j watchers) w.id) w
+                there d ∙ ap (turned b id) (seen at g d s.within) ∙ ap (λ (c : Bool). turned c id (state (is_among (take j watchers) w.id) w)) test_at ∙
+                state_turned (is_among (take j watchers) w.id) w
                 ∙ ap (λ (c : Bool). state c w) (sym (among_now watchers j w.id lt (sym (s.same g))))
 
-        pub next_room : (i : ℕ) (g : Fact) (d : Sight) → i < length facts → is_among watchers (get_or facts i g).id ≡ true → is_among (take (j + 1) watchers) (get_or facts i g).id ≡ false → vec_len (get_or new i d).ids < vec_capacity (get_or new i d).ids
+        pub next_room : (i : ℕ) (g : Fact) (d : Sight) → i < length facts → is_among watchers (get_or facts i g).id ≡ true
+            → is_among (take (j + 1) watchers) (get_or facts i g).id ≡ false → vec_len (get_or new i d).ids < vec_capacity (get_or new i d).ids
         next_room i g d within among later_on =
             elim (cases_eq i at) [
               | inl here ↦
@@ -248,15 +263,19 @@ module _ (land : Land) (id : ℕ) (after : Option Fact) (facts : List Fact) (up 
                   absurd (cc))
               | inr differ ↦
                   (let apart : i ≡ at → ⊥ = λ e. absurd (omega (arith, differ, e)) in
-                  subst (λ (t : Sight). vec_len t.ids < vec_capacity t.ids) (sym (others i d apart)) (room i g d within among (sym (among_still watchers j (get_or facts i g).id lt (away i g within apart)) ∙ later_on)))
+                  subst (λ (t : Sight). vec_len t.ids < vec_capacity t.ids) (sym (others i d apart))
+                  (room i g d within among (sym (among_still watchers j (get_or facts i g).id lt (away i g within apart)) ∙ later_on)))
             ]
 
     module _ (at : ℕ) (b : Belongs facts (get_or watchers j 0) at) where
       other : (i : ℕ) (g : Fact) → i < length facts → get_or watchers j 0 ≡ (get_or facts i g).id → ⊥
       other i g within e = nowhere facts (get_or watchers j 0) at i g b within (sym e)
 
-      pub same_seen : (i : ℕ) (g : Fact) (d : Sight) → i < length facts → ids_at old i d ≡ state (is_among (take (j + 1) watchers) (get_or facts i g).id) (get_or facts i g)
-      same_seen i g d within = seen i g d within ∙ ap (λ (c : Bool). state c (get_or facts i g)) (sym (among_still watchers j (get_or facts i g).id lt (other i g within)))
+      pub same_seen : (i : ℕ) (g : Fact) (d : Sight) → i < length facts → ids_at old i d ≡ state (is_among (take (j + 1) watchers) (get_or facts i g).id)
+          (get_or facts i g)
+      same_seen i g d within = seen i g d within ∙ ap (λ (c : Bool). state c (get_or facts i g))
+          (sym (among_still watchers j (get_or facts i g).id lt (other i g within)))
 
-      pub same_room : (i : ℕ) (g : Fact) (d : Sight) → i < length facts → is_among watchers (get_or facts i g).id ≡ true → is_among (take (j + 1) watchers) (get_or facts i g).id ≡ false → vec_len (get_or old i d).ids < vec_capacity (get_or old i d).ids
+      pub same_room : (i : ℕ) (g : Fact) (d : Sight) → i < length facts → is_among watchers (get_or facts i g).id ≡ true
+          → is_among (take (j + 1) watchers) (get_or facts i g).id ≡ false → vec_len (get_or old i d).ids < vec_capacity (get_or old i d).ids
       same_room i g d within among later_on = room i g d within among (sym (among_still watchers j (get_or facts i g).id lt (other i g within)) ∙ later_on)

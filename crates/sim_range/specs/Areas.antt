@@ -1,12 +1,7 @@
 -- Buckets out of reach, and buckets so near that all see from them.
-use Rattle.std.specs.Prelude.{◌≡◌, ℕ, ◌*◌, ◌<◌, ◌≤◌, ◌/◌, ◌%◌, ◌-ℤ◌, unsigned_abs, Option, Some, None, IfSome}
-use Rattle.sim_base.specs.declared.place.Point.{Point}
-use Rattle.sim_base.specs.Places.{IsPlaced, square}
-use Rattle.sim_system.specs.declared.fact.Fact.{Fact}
+use Rattle.std.specs.Prelude.{◌≡◌, ℕ, ◌*◌, ◌/◌, ◌%◌, ◌<◌, ◌≤◌, ◌-ℤ◌, IfSome, unsigned_abs, Some, None, Option}
+use Rattle.sim_range.specs.{Common.Fact, Common.IsPlaced, Common.Point, Common.square, Sights.HasOnlyMoved, declared.area.Area.Area, declared.area.Span.Span}
 use Rattle.sim_range.specs.Buckets.{bucket_at}
-use Rattle.sim_range.specs.declared.area.Span.{Span}
-use Rattle.sim_range.specs.declared.area.Area.{Area}
-use Rattle.sim_range.specs.Sights.{HasOnlyMoved}
 
 -- two points are further apart than so many raws, by columns or by rows
 abbrev pub AreApart : ℕ → Point → Point → Type 0

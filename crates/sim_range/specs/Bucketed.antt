@@ -1,9 +1,6 @@
 -- Facts in a list of buckets.
-use Rattle.std.specs.Prelude.{◌≡◌, ℕ, ◌<◌, not, ◌&&◌, List, length, slice_index_or, Option, None, IfSome, vec_len, vec_capacity, if◌then◌else◌}
-use Rattle.sim_system.specs.declared.fact.Fact.{Fact}
-use Rattle.sim_fact_lists.specs.Places.{with_only}
-use Rattle.sim_range.specs.declared.bucket.Bucket.{Bucket}
-use Rattle.sim_range.specs.Buckets.{bucket_key, held_in, is_in}
+use Rattle.std.specs.Prelude.{◌≡◌, ℕ, ◌<◌, not, ◌&&◌, List, length, IfSome, if◌then◌else◌, slice_index_or, None, vec_len, vec_capacity, Option}
+use Rattle.sim_range.specs.{Buckets.bucket_key, Buckets.held_in, Buckets.is_in, Common.Fact, Common.with_only, declared.bucket.Bucket.Bucket}
 
 -- the facts in the bucket of this number
 abbrev pub facts_at : List Bucket → ℕ → Bucket → List Fact

@@ -1,9 +1,6 @@
 -- Buckets of 16 by 16 cells.
-use Rattle.std.specs.Prelude.{ℕ, ◌+◌, ◌*◌, ◌/◌, Bool, false, ◌&&◌, ◌==◌, List, map, filter, All, Option, Some, None, if◌then◌else◌}
-use Rattle.sim_base.specs.declared.place.Point.{Point}
-use Rattle.sim_base.specs.Places.{IsPlaced, cell_of}
-use Rattle.sim_system.specs.declared.fact.Fact.{Fact}
-use Rattle.sim_system.specs.Facts.{id_of_fact}
+use Rattle.std.specs.Prelude.{ℕ, ◌+◌, ◌*◌, ◌/◌, Bool, false, ◌&&◌, List, map, if◌then◌else◌, ◌==◌, Some, None, All, filter, Option}
+use Rattle.sim_range.specs.Common.{cell_of, Fact, id_of_fact, IsPlaced, Point}
 
 -- each stands on the largest ground
 abbrev pub ArePlaced : List Fact → Type 0

@@ -1,8 +1,6 @@
 -- Whom all see, as it is kept beside the facts, and what is made ready of it before a note is taken up.
-use Rattle.std.specs.Prelude.{◌≡◌, ◌<◌, List, Option, Some, IfSome, All, vec_len, vec_capacity}
-use Rattle.sim_base.specs.declared.setup.Land.{Land}
-use Rattle.sim_system.specs.declared.fact.Fact.{Fact}
-use Rattle.sim_range.specs.declared.ready.Sights.{Sights}
+use Rattle.std.specs.Prelude.{◌≡◌, ◌<◌, List, IfSome, Some, vec_len, vec_capacity, All, Option}
+use Rattle.sim_range.specs.{Common.Fact, Common.Land, declared.ready.Sights.Sights}
 use Rattle.sim_range.specs.Sights.{AreChanging, AreSightsIfAny, HaveRooms, SeesFrom, SeesWithin, sight}
 
 -- sights are those of these facts, and they say how far anybody sees

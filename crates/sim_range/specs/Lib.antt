@@ -1,3 +1,4 @@
+pub mod Common
 pub mod Buckets
 pub mod Bucketed
 pub mod Nearness

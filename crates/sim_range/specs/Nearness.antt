@@ -1,7 +1,6 @@
 -- Facts by the numbers of their buckets.
-use Rattle.std.specs.Prelude.{ℕ, nat_lt, List, filter}
-use Rattle.sim_system.specs.declared.fact.Fact.{Fact}
-use Rattle.sim_range.specs.Buckets.{bucket_key}
+use Rattle.std.specs.Prelude.{ℕ, List, nat_lt, filter}
+use Rattle.sim_range.specs.{Buckets.bucket_key, Common.Fact}
 
 -- those who stand in a bucket of a lower number
 abbrev pub below_bucket : ℕ → List Fact → List Fact

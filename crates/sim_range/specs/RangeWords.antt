@@ -1,6 +1,5 @@
 -- What a range is to its callers beside its meaning.
-use Rattle.std.specs.Prelude.{Bool}
-use Rattle.sim_range.specs.declared.range.Range.{Range}
+use Rattle.{sim_range.specs.declared.range.Range.Range, std.specs.Prelude.Bool}
 
 -- whether it keeps whom each entity sees
 abbrev pub keeps : Range → Bool

@@ -1,19 +1,14 @@
 -- What entities see, in step with their facts.
-use Rattle.std.specs.Prelude.{◌≡◌, ℕ, ◌<◌, ◌≤◌, Bool, true, false, not, ◌&&◌, ◌==◌, ℤ, unsigned_abs, List, length, map, filter, Option, Some, None, slice_index, slice_index_or, vec_len, vec_capacity, if◌then◌else◌}
-use Rattle.std.specs.List.{list_any}
-use Rattle.sim_base.specs.declared.setup.Land.{Land}
-use Rattle.sim_base.specs.Rows.{in_mask}
-use Rattle.sim_base.specs.Filters.{is_near}
-use Rattle.sim_system.specs.declared.fact.Fact.{Fact}
-use Rattle.sim_system.specs.Facts.{id_of_fact}
-use Rattle.sim_system.specs.Answers.{seen_among}
-use Rattle.sim_fact_lists.specs.Ids.{with_id, without_id}
+use Rattle.std.specs.Prelude.{unsigned_abs, Some, None, vec_len, vec_capacity, filter, Option}
+use Rattle.std.specs.Prelude.{◌≡◌, ℕ, ◌<◌, ◌≤◌, Bool, true, false, not, ◌&&◌, List, map, length, ℤ, if◌then◌else◌, ◌==◌, slice_index, slice_index_or}
+use Rattle.sim_range.specs.Common.{Fact, id_of_fact, in_mask, is_near, Land, list_any, seen_among, with_id, without_id}
 use Rattle.sim_range.specs.declared.sight.Sight.{Sight}
 
 -- whether a watcher that sees so far sees an entity: another one, with health, an enemy, and near
 abbrev pub is_seen_by : Land → Fact → Option ℤ → Fact → Bool
 is_seen_by land watcher None fact = false
-is_seen_by land watcher (Some vision) fact = not (fact.id == watcher.id) && (fact.health && in_mask (slice_index land.masks watcher.owner) fact.owner && is_near fact.at watcher.at vision)
+is_seen_by land watcher (Some vision) fact = not (fact.id == watcher.id) && (fact.health && in_mask (slice_index land.masks watcher.owner) fact.owner
+    && is_near fact.at watcher.at vision)
 
 -- whether a watcher sees what is kept of an entity, if anything
 abbrev pub is_seen : Land → Fact → Option Fact → Bool
@@ -74,11 +69,13 @@ HasPlace id s = (with_id id s.ids.items ≡ s.ids.items → ⊥) → vec_len s.i
 
 -- there is room for one more in the sights of these watchers
 abbrev pub HaveRooms : List Fact → List ℕ → List Sight → Type 0
-HaveRooms facts watchers sights = (i : ℕ) (f : Fact) (d : Sight) → i < length facts → is_among watchers (slice_index_or facts i f).id ≡ true → vec_len (slice_index_or sights i d).ids < vec_capacity (slice_index_or sights i d).ids
+HaveRooms facts watchers sights = (i : ℕ) (f : Fact) (d : Sight) → i < length facts → is_among watchers (slice_index_or facts i f).id ≡ true
+    → vec_len (slice_index_or sights i d).ids < vec_capacity (slice_index_or sights i d).ids
 
 -- of all facts whose ids are not among these, both tests say the same
 abbrev pub AgreeElsewhere : (Fact → Bool) → (Fact → Bool) → List Fact → List ℕ → Type 0
-AgreeElsewhere g h facts ids = (i : ℕ) (f : Fact) → i < length facts → is_among ids (slice_index_or facts i f).id ≡ false → g (slice_index_or facts i f) ≡ h (slice_index_or facts i f)
+AgreeElsewhere g h facts ids = (i : ℕ) (f : Fact) → i < length facts → is_among ids (slice_index_or facts i f).id ≡ false → g (slice_index_or facts i f) ≡
+    h (slice_index_or facts i f)
 
 -- all who begin to see an entity, or see it no more, are among these
 abbrev pub AreChanging : Land → List Fact → Option Fact → Option Fact → List ℕ → Type 0

@@ -1,10 +1,7 @@
 //! Which buckets come within reach of where an entity was and of where it is: those of a few rows and columns.
 
-ghost use Rattle.std.specs.Prelude.{◌≡◌, ◌<◌, ◌≤◌, ◌/◌, ◌-ℤ◌, ◌≤ℤ◌, ◌<ℤ◌, ℕ, ℤ, pos, IfSome, unsigned_abs, true, false};
-ghost use Rattle.sim_base.specs.declared.place.Point.{Point};
-ghost use Rattle.sim_base.specs.Places.{IsPlaced};
-ghost use Rattle.sim_range.specs.Buckets.{bucket_at};
-ghost use Rattle.sim_range.specs.Areas.{AreApart, IsBeside, IsIn, IsOut};
+ghost use Rattle.std.specs.Prelude.{◌≡◌, ℕ, ◌/◌, ◌<◌, ◌≤◌, true, false, ℤ, pos, ◌-ℤ◌, ◌≤ℤ◌, ◌<ℤ◌, IfSome, unsigned_abs};
+ghost use Rattle.sim_range.specs.{Areas.AreApart, Areas.IsBeside, Areas.IsIn, Areas.IsOut, Buckets.bucket_at, Common.IsPlaced, Common.Point};
 
 use sim_base::{Fixed, Point};
 use sim_system::Fact;

@@ -1,8 +1,7 @@
 //! A bucket: the facts of those who stand in it, and beside them their ids, so that these can be lent.
 
-ghost use Rattle.std.specs.Prelude.{◌≡◌, ◌<◌, [], map, OnOk, IfSome, IsSome, vec_len, vec_capacity};
-ghost use Rattle.sim_system.specs.Facts.{id_of_fact};
-ghost use Rattle.sim_fact_lists.specs.Places.{Ascend, with_only};
+ghost use Rattle.std.specs.Prelude.{◌≡◌, ◌<◌, [], map, IfSome, OnOk, IsSome, vec_len, vec_capacity};
+ghost use Rattle.sim_range.specs.Common.{Ascend, id_of_fact, with_only};
 
 use sim_base::OutOfMemory;
 use sim_fact_lists::place_near;

@@ -1,10 +1,8 @@
 //! Who stands in which bucket of 16 by 16 cells: 256 buckets by their numbers.
 
-ghost use Rattle.std.specs.Prelude.{◌≡◌, ◌<◌, ℕ, [], length, slice_index_or, OnOk, IfOk, IfSome, IsSome};
-ghost use Rattle.sim_base.specs.Places.{IsPlaced};
-ghost use Rattle.sim_fact_lists.specs.Places.{Ascend, with_only};
-ghost use Rattle.sim_range.specs.Buckets.{ArePlaced, bucket_at, is_in};
-ghost use Rattle.sim_range.specs.Bucketed.{AreBuckets, HasRoom, HaveRoom, changed_at, facts_at, left_at};
+ghost use Rattle.std.specs.Prelude.{◌≡◌, ℕ, ◌<◌, [], length, IfSome, IfOk, OnOk, IsSome, slice_index_or};
+ghost use Rattle.sim_range.specs.{Buckets.ArePlaced, Buckets.bucket_at, Buckets.is_in, Common.Ascend, Common.IsPlaced, Common.with_only};
+ghost use Rattle.sim_range.specs.Bucketed.{AreBuckets, changed_at, facts_at, HasRoom, HaveRoom, left_at};
 
 use crate::bucket::Bucket;
 use sim_base::{OutOfMemory, Point, cell_of};

@@ -1,10 +1,8 @@
 //! Which buckets lie so near to both ends of a move that it changes nothing for those who stand in them: all of these see the
 //! entity before and after, as far as they see anybody.
 
-ghost use Rattle.std.specs.Prelude.{◌≡◌, ◌↔◌, ◌<◌, ◌≤◌, ◌/◌, ◌-ℤ◌, ◌≤ℤ◌, ◌<ℤ◌, ℤ, pos, IsTrue, IfSome, unsigned_abs};
-ghost use Rattle.sim_base.specs.Places.{IsPlaced};
-ghost use Rattle.sim_range.specs.Areas.{IsClose, IsInner};
-ghost use Rattle.sim_range.specs.Sights.{HasOnlyMoved};
+ghost use Rattle.std.specs.Prelude.{◌≡◌, ◌/◌, ◌<◌, ◌≤◌, ◌↔◌, ℤ, pos, ◌-ℤ◌, ◌≤ℤ◌, ◌<ℤ◌, IfSome, IsTrue, unsigned_abs};
+ghost use Rattle.sim_range.specs.{Areas.IsClose, Areas.IsInner, Common.IsPlaced, Sights.HasOnlyMoved};
 
 use sim_base::{Fixed, Point, square};
 use sim_system::Fact;

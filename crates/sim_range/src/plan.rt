@@ -1,15 +1,10 @@
 //! What a note changes of what is seen: found in the buckets about the place where the entity stood and about that where it
 //! stands, before anything is changed.
 
-ghost use Rattle.std.specs.Prelude.{◌≡◌, ◌<◌, ◌%◌, ◌⊎◌, ◌++◌, false, Some, OnOk, IfSome, All, length};
-ghost use Rattle.sim_base.specs.Places.{IsPlaced};
-ghost use Rattle.sim_base.specs.Limits.{IsLand};
-ghost use Rattle.sim_system.specs.Notes.{fact_with};
-ghost use Rattle.sim_fact_lists.specs.Places.{Holds, IsHeld};
-ghost use Rattle.sim_range.specs.Buckets.{ArePlaced};
+ghost use Rattle.std.specs.Prelude.{◌≡◌, ◌%◌, ◌<◌, false, ◌⊎◌, ◌++◌, length, IfSome, OnOk, Some, All};
+ghost use Rattle.sim_range.specs.{Areas.IsIn, Areas.IsInner, Buckets.ArePlaced, Common.fact_with, Common.Holds, Common.IsHeld, Common.IsLand, Common.IsPlaced};
 ghost use Rattle.sim_range.specs.Bucketed.{AreBuckets};
-ghost use Rattle.sim_range.specs.Areas.{IsIn, IsInner};
-ghost use Rattle.sim_range.specs.Sights.{AreChanging, AreInView, AreSights, SeesFrom, SeesWithin, sight, turned_watchers, turned_seen, view};
+ghost use Rattle.sim_range.specs.Sights.{AreChanging, AreInView, AreSights, SeesFrom, SeesWithin, sight, turned_seen, turned_watchers, view};
 
 use crate::area::{Span, area_of};
 use crate::bucket::Bucket;

@@ -1,16 +1,9 @@
 //! The system: the place, owner, health and vision of each entity, and beside them buckets of ids by place, and whom each
 //! entity sees, where that is kept.
 
-ghost use Rattle.std.specs.Prelude.{◌≡◌, ◌↔◌, ◌<◌, None, [], false, true, length, IsSome, IsTrue, IfOk, IfSome, OnErr, OnOk, MatchOption};
-ghost use Rattle.sim_range.specs.Buckets.{ArePlaced, in_bucket};
-ghost use Rattle.sim_range.specs.Bucketed.{AreBuckets};
-ghost use Rattle.sim_range.specs.Keeping.{AreKept};
-ghost use Rattle.sim_system.specs.declared.kind.Kind.TheVariants.{Range as RangeKind};
-ghost use Rattle.sim_system.specs.Notes.{fact_with};
-ghost use Rattle.sim_system.specs.Answers.{seen_among};
-ghost use Rattle.sim_system.specs.Meanings.{MayHear, built, cleared, counted, told};
-ghost use Rattle.sim_system.specs.Ranges.{AreInRange};
-ghost use Rattle.sim_base.specs.Limits.{IsLand};
+ghost use Rattle.std.specs.Prelude.{◌≡◌, ◌<◌, true, false, ◌↔◌, [], length, IfSome, IfOk, OnOk, OnErr, IsSome, IsTrue, MatchOption, None};
+ghost use Rattle.sim_range.specs.{Bucketed.AreBuckets, Buckets.ArePlaced, Buckets.in_bucket, Keeping.AreKept};
+ghost use Rattle.sim_range.specs.Common.{AreInRange, built, cleared, counted, fact_with, IsLand, MayHear, Range as RangeKind, seen_among, told};
 
 use crate::bucket::Bucket;
 use crate::buckets::change;

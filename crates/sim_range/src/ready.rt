@@ -1,14 +1,9 @@
 //! A note in two steps: all that may want memory is made ready, and then it is taken up without any. So a note for which no
 //! memory is found leaves all as it was.
 
-ghost use Rattle.std.specs.Prelude.{◌≡◌, ◌<◌, ℕ, Some, IfOk, OnOk, IfSome, IsSome, IsTrue, length, vec_len, vec_capacity};
-ghost use Rattle.sim_base.specs.Places.{IsPlaced};
-ghost use Rattle.sim_system.specs.Notes.{fact_with};
-ghost use Rattle.sim_fact_lists.specs.Places.{Holds, IsHeld, with_only};
-ghost use Rattle.sim_range.specs.Buckets.{ArePlaced};
-ghost use Rattle.sim_range.specs.Bucketed.{AreBuckets, HaveRoom, facts_at};
-ghost use Rattle.sim_range.specs.Keeping.{AreKept, AreReady};
-ghost use Rattle.sim_range.specs.Sights.{SeesFrom, SeesWithin};
+ghost use Rattle.std.specs.Prelude.{◌≡◌, ℕ, ◌<◌, length, IfSome, IfOk, OnOk, IsSome, IsTrue, Some, vec_len, vec_capacity};
+ghost use Rattle.sim_range.specs.{Bucketed.AreBuckets, Bucketed.facts_at, Bucketed.HaveRoom, Buckets.ArePlaced, Keeping.AreKept, Keeping.AreReady};
+ghost use Rattle.sim_range.specs.{Common.fact_with, Common.Holds, Common.IsHeld, Common.IsPlaced, Common.with_only, Sights.SeesFrom, Sights.SeesWithin};
 
 use crate::bucket::Bucket;
 use crate::buckets::{buckets_of, make_room};

@@ -1,13 +1,8 @@
 //! Whom an entity sees, looked for among the buckets: at a question, where the system is built, and where the entity itself has
 //! changed.
 
-ghost use Rattle.std.specs.Prelude.{◌≡◌, IfOk, IsSome, MatchOption, length};
-ghost use Rattle.sim_system.specs.Notes.{fact_with};
-ghost use Rattle.sim_system.specs.Answers.{seen_among};
-ghost use Rattle.sim_fact_lists.specs.Places.{IsHeld, Holds};
-ghost use Rattle.sim_range.specs.Buckets.{ArePlaced};
-ghost use Rattle.sim_range.specs.Bucketed.{AreBuckets};
-ghost use Rattle.sim_range.specs.Sights.{sight};
+ghost use Rattle.std.specs.Prelude.{◌≡◌, length, IfOk, IsSome, MatchOption};
+ghost use Rattle.sim_range.specs.{Bucketed.AreBuckets, Buckets.ArePlaced, Common.fact_with, Common.Holds, Common.IsHeld, Common.seen_among, Sights.sight};
 
 use crate::bucket::Bucket;
 use crate::sight::Sight;

@@ -1,8 +1,7 @@
 //! What an entity sees: the ids of others, which come and go one by one as these move, so that it is not drawn anew.
 
-ghost use Rattle.std.specs.Prelude.{◌≡◌, ◌<◌, [], IsTrue, OnOk, vec_len, vec_capacity};
-ghost use Rattle.std.specs.List.Sorted.{IsStrictlyIncreasing};
-ghost use Rattle.sim_range.specs.Sights.{turned, HasPlace};
+ghost use Rattle.std.specs.Prelude.{◌≡◌, ◌<◌, [], OnOk, IsTrue, vec_len, vec_capacity};
+ghost use Rattle.sim_range.specs.{Common.IsStrictlyIncreasing, Sights.HasPlace, Sights.turned};
 
 use sim_base::OutOfMemory;
 use std::alloc::Global;

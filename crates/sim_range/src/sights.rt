@@ -1,13 +1,10 @@
 //! What entities see: a list beside the facts, one by one. When an entity changes, the lists of those change for whom it
 //! changes whether they see it.
 
-ghost use Rattle.std.specs.Prelude.{◌≡◌, ◌<◌, ℕ, IsTrue, IfSome, IsSome, IfOk, OnOk, map, length, slice_index_or, vec_len, vec_capacity};
-ghost use Rattle.std.specs.List.Sorted.{IsStrictlyIncreasing};
-ghost use Rattle.sim_system.specs.Notes.{fact_with};
-ghost use Rattle.sim_fact_lists.specs.Places.{Ascend, IsHeld, Holds, with_only};
-ghost use Rattle.sim_range.specs.Buckets.{ArePlaced};
-ghost use Rattle.sim_range.specs.Bucketed.{AreBuckets};
-ghost use Rattle.sim_range.specs.Sights.{AreSights, AreChanging, HasPlace, HaveRooms, ids_at, ids_of, sight as sight_among, turned};
+ghost use Rattle.std.specs.Prelude.{◌≡◌, ℕ, ◌<◌, map, length, IfSome, IfOk, OnOk, IsSome, IsTrue, slice_index_or, vec_len, vec_capacity};
+ghost use Rattle.sim_range.specs.{Bucketed.AreBuckets, Buckets.ArePlaced};
+ghost use Rattle.sim_range.specs.Common.{Ascend, fact_with, Holds, IsHeld, IsStrictlyIncreasing, with_only};
+ghost use Rattle.sim_range.specs.Sights.{AreChanging, AreSights, HasPlace, HaveRooms, ids_at, ids_of, sight as sight_among, turned};
 
 use crate::bucket::Bucket;
 use crate::seen::sight_of;
@@ -97,7 +94,8 @@ pub fn turn_all(
     requires sights { AreSights land.now facts.now sights.old.items }
     requires room { HaveRooms facts.now watchers.now sights.old.items }
     ensures along { length sights.new.items ≡ length sights.old.items }
-    ensures changed { AreChanging land.now facts.now (fact_with facts.now id) after.now watchers.now → map ids_of sights.new.items ≡ map (sight_among land.now (with_only id after.now facts.now)) facts.now }
+    ensures changed { AreChanging land.now facts.now (fact_with facts.now id) after.now watchers.now → map ids_of sights.new.items ≡
+        map (sight_among land.now (with_only id after.now facts.now)) facts.now }
     ensures room { vec_len sights.old < vec_capacity sights.old → vec_len sights.new < vec_capacity sights.new }
 {
     for watcher in watchers {

@@ -1,7 +1,7 @@
 //! How far anybody sees. At most: buckets further away need not be looked into. At least: nor need buckets that lie within it
 //! before and after a move.
 
-ghost use Rattle.std.specs.Prelude.{◌≤◌, All, IfSome};
+ghost use Rattle.std.specs.Prelude.{◌≤◌, IfSome, All};
 ghost use Rattle.sim_range.specs.Sights.{SeesFrom, SeesWithin};
 
 use sim_system::Fact;

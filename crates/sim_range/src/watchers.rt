@@ -1,11 +1,8 @@
 //! Who sees whom.
 
-ghost use Rattle.std.specs.Prelude.{◌≡◌, ◌<◌, ℕ, false, IfSome, length, slice_index};
-ghost use Rattle.sim_base.specs.Limits.{IsLand};
-ghost use Rattle.sim_base.specs.Rows.{in_mask as in_mask_of};
-ghost use Rattle.sim_system.specs.declared.fact.Fact.{Fact};
-ghost use Rattle.sim_fact_lists.specs.Places.{IsHeld};
-ghost use Rattle.sim_range.specs.Sights.{is_seen_by as is_seen_by_of, is_seen as is_seen_of, sees as sees_of};
+ghost use Rattle.std.specs.Prelude.{◌≡◌, ℕ, ◌<◌, false, length, IfSome, slice_index};
+ghost use Rattle.sim_range.specs.Common.{Fact, in_mask as in_mask_of, IsHeld, IsLand};
+ghost use Rattle.sim_range.specs.Sights.{is_seen as is_seen_of, is_seen_by as is_seen_by_of, sees as sees_of};
 
 use crate::within::{in_mask, is_within};
 use sim_base::Land;

@@ -1,14 +1,8 @@
 //! Who is near a point: looked for in the buckets about it, or among all where these would be many.
 
-ghost use Rattle.std.specs.Prelude.{◌≡◌, ◌<◌, ◌≤◌, ◌/◌, ℤ, pos, ◌-ℤ◌, ◌≤ℤ◌, unsigned_abs, ◌&&◌, ◌++◌, IsTrue, IfOk, OnOk, All, length};
-ghost use Rattle.sim_base.specs.Places.{IsPlaced, is_inside};
-ghost use Rattle.sim_base.specs.Limits.{IsLand};
-ghost use Rattle.sim_base.specs.Rows.{size_of, in_mask as in_mask_of};
-ghost use Rattle.sim_base.specs.Filters.{is_near as is_near_of};
-ghost use Rattle.sim_system.specs.Answers.{within_among};
-ghost use Rattle.sim_fact_lists.specs.Places.{IsHeld, Holds};
-ghost use Rattle.sim_range.specs.Buckets.{ArePlaced, bucket_at};
-ghost use Rattle.sim_range.specs.Bucketed.{AreBuckets};
+ghost use Rattle.std.specs.Prelude.{◌≡◌, ◌/◌, ◌<◌, ◌≤◌, ◌&&◌, ◌++◌, length, ℤ, pos, ◌-ℤ◌, ◌≤ℤ◌, IfOk, OnOk, IsTrue, unsigned_abs, All};
+ghost use Rattle.sim_range.specs.{Bucketed.AreBuckets, Buckets.ArePlaced, Buckets.bucket_at};
+ghost use Rattle.sim_range.specs.Common.{Holds, in_mask as in_mask_of, is_inside, is_near as is_near_of, IsHeld, IsLand, IsPlaced, size_of, within_among};
 
 use crate::bucket::Bucket;
 use sim_base::{Fixed, Ids, Land, OutOfMemory, Point, square};
@@ -87,7 +81,8 @@ fn is_reached(part: usize, from: Fixed, reach: u32) -> bool
 // Whether a bucket comes within reach of a point, by rows and by columns.
 fn touches(number: usize, at: &Point, reach: u32) -> bool
     requires { number < 256 }
-    ensures { (p : Point) → IsPlaced p → bucket_at p ≡ number → unsigned_abs (p.x -ℤ at.now.x) ≤ reach → unsigned_abs (p.z -ℤ at.now.z) ≤ reach → IsTrue result }
+    ensures { (p : Point) → IsPlaced p → bucket_at p ≡ number → unsigned_abs (p.x -ℤ at.now.x) ≤ reach → unsigned_abs (p.z -ℤ at.now.z) ≤ reach
+        → IsTrue result }
 {
     is_reached(number % 16, at.x, reach) && is_reached(number / 16, at.z, reach)
 }

@@ -1,23 +1,11 @@
 -- The server as a talk: what is answered to a line behind all that has arrived, and what a whole talk is.
-use Rattle.std.specs.Prelude.{◌≡◌, ℕ, ◌+◌, ◌≤◌, List, [], ◌∷◌, ◌++◌, length, flat_map, codes, decimal, Option, Some, None, Result, Ok, Err, ⊤}
+use Rattle.{sim_base.specs.Limits.IsFrom, sim_report.specs.Downs.released_line, sim_serve.specs.Served.kept_lines, sim_wire.specs.Frames.down_frame}
+use Rattle.{sim_server.specs.Standing.StandsFor, sim_server.specs.Standing.View, sim_talk.specs.Marks.ok_line, sim_talk.specs.Marks.refused_line}
+use Rattle.std.specs.Prelude.{◌≡◌, ℕ, ◌+◌, ◌≤◌, List, [], ◌∷◌, ◌++◌, length, ⊤, Some, None, Ok, Err, codes, decimal, flat_map, Option, Result}
 use Rattle.hex.specs.Hex.{encode_lower}
-use Rattle.sim_base.specs.Limits.{IsFrom}
-use Rattle.sim_plain.specs.declared.message.PostOf.{PostOf}
-use Rattle.sim_plain.specs.declared.rules.Rules.{Rules}
-use Rattle.sim_plain.specs.Messages.{Arrival}
-use Rattle.sim_plain.specs.Posts.{posts_of}
-use Rattle.sim_plain.specs.Server.{Server, opening, server_after}
-use Rattle.sim_report.specs.Downs.{released_line}
-use Rattle.sim_serve.specs.Served.{kept_lines}
-use Rattle.sim_server.specs.Standing.{View, StandsFor}
-use Rattle.sim_talk.specs.declared.fault.TalkFault.{TalkFault}
-use Rattle.sim_talk.specs.Dialogues.{after_lines, AnswersLines, Converses}
-use Rattle.sim_talk.specs.Marks.{ok_line, refused_line}
-use Rattle.sim_talk.specs.Talks.{Passed}
-use Rattle.sim_wire.specs.Frames.{down_frame}
-use Rattle.sim_relay.specs.declared.arriving.Arriving.{Arriving}
-use Rattle.sim_relay.specs.declared.relaying.RelayRules.{RelayRules}
-use Rattle.sim_relay.specs.Lines.{arriving_of, plain_of}
+use Rattle.sim_plain.specs.{Messages.Arrival, Posts.posts_of, Server.Server, Server.server_after, declared.message.PostOf.PostOf, declared.rules.Rules.Rules}
+use Rattle.sim_relay.specs.{Lines.arriving_of, Lines.plain_of, declared.arriving.Arriving.Arriving, declared.relaying.RelayRules.RelayRules}
+use Rattle.sim_talk.specs.{Dialogues.after_lines, Dialogues.AnswersLines, Dialogues.Converses, Talks.Passed, declared.fault.TalkFault.TalkFault}
 
 -- who gets a message, and its frame
 abbrev pub frame_line : PostOf (List ℕ) → List ℕ
@@ -65,7 +53,8 @@ pub record IsRelay (relay : RelayRules) : Type 0 where
 -- a talk with the server
 abbrev pub Relays : Result ⊤ TalkFault → RelayRules → Option (List Passed) → Option (List Passed) → Type 0
 Relays result relay old new =
-    Converses result (answer (rules_of relay) relay.active) (next (rules_of relay)) (last_text (rules_of relay) relay.active) [] (first_text (rules_of relay) relay.active) old new
+    Converses result (answer (rules_of relay) relay.active) (next (rules_of relay)) (last_text (rules_of relay) relay.active) []
+    (first_text (rules_of relay) relay.active) old new
 
 -- where all lines were answered, the server stands for all that has arrived
 abbrev pub StandsAfter : Result ⊤ TalkFault → RelayRules → View → List (List ℕ) → Type 0
@@ -75,4 +64,5 @@ StandsAfter (Err fault) relay server lines = Unit {0}
 -- some lines were answered; or it stopped, with at most one line more
 abbrev pub AnswersAll : Result ⊤ TalkFault → RelayRules → View → Option (List Passed) → Option (List Passed) → Type 0
 AnswersAll result relay server old new =
-    (lines : List (List ℕ)) × StandsAfter result relay server lines × AnswersLines result (answer (rules_of relay) relay.active) (next (rules_of relay)) [] lines old new
+    (lines : List (List ℕ)) × StandsAfter result relay server lines × AnswersLines result (answer (rules_of relay) relay.active) (next (rules_of relay)) []
+    lines old new

@@ -1,14 +1,9 @@
 //! What is answered to a line: a line of each message that the server says at the arrival, as the frame in which it goes.
 
-ghost use Rattle.std.specs.Prelude.{◌≡◌, ◌+◌, ◌^◌, ◌<◌, ◌≤◌, ◌++◌, ◌∷◌, ℕ, List, All, IfOk, OnOk, length, flat_map, string_bytes};
-ghost use Rattle.sim_plain.specs.Messages.{Arrival as PlainArrival};
-ghost use Rattle.sim_plain.specs.Posts.{posts_of};
-ghost use Rattle.sim_plain.specs.Server.{server_after};
-ghost use Rattle.sim_server.specs.Standing.{server_of, StandsFor, Answers};
-ghost use Rattle.sim_server.specs.Small.{IsSmallServer};
-ghost use Rattle.sim_wire.specs.Fits.{IsSmallDown};
-ghost use Rattle.sim_relay.specs.Lines.{plain_of, IsFromOne};
-ghost use Rattle.sim_relay.specs.Relays.{frame_line, answer as answer_of, next};
+ghost use Rattle.{sim_plain.specs.Messages.Arrival as PlainArrival, sim_wire.specs.Fits.IsSmallDown};
+ghost use Rattle.std.specs.Prelude.{◌≡◌, ℕ, ◌+◌, ◌^◌, ◌<◌, ◌≤◌, List, ◌++◌, length, IfOk, OnOk, string_bytes, All, flat_map};
+ghost use Rattle.sim_relay.specs.{Lines.IsFromOne, Lines.plain_of, Relays.answer as answer_of, Relays.frame_line, Relays.next};
+ghost use Rattle.sim_server.specs.{Small.IsSmallServer, Standing.Answers, Standing.server_of, Standing.StandsFor};
 
 use crate::arriving::{Arriving, arriving_of};
 use sim_base::OutOfMemory;
@@ -34,7 +29,8 @@ pub fn answer(
         → string_bytes told.0 ≡ answer_of server.old.rules active h line.now) }
     ensures count { IfOk result (λ told. (h : List (PlainArrival (List ℕ))) → heard ≡ length h → told.1 ≡ length (next server.old.rules h line.now)) }
     ensures few { IfOk result (λ told. told.1 ≤ heard + 1) }
-    ensures stands { OnOk result ((active : ℕ) (h : List (PlainArrival (List ℕ))) → StandsFor server.old active h → StandsFor server.new active (next server.old.rules h line.now)) }
+    ensures stands { OnOk result ((active : ℕ) (h : List (PlainArrival (List ℕ))) → StandsFor server.old active h
+        → StandsFor server.new active (next server.old.rules h line.now)) }
     ensures small { OnOk result (IsSmallServer (server_of server.new)) }
     ensures rules { server.new.rules ≡ server.old.rules }
 {

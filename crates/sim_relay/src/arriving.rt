@@ -1,9 +1,9 @@
 //! What arrives by a line: bytes of a client, or the end of its connection, as a schedule spells them. A schedule can spell messages in
 //! words too; who relays has them as bytes, and a line with words is refused.
 
-ghost use Rattle.std.specs.Prelude.{◌≡◌, IfOk, IfSome};
+ghost use Rattle.std.specs.Prelude.{◌≡◌, IfSome, IfOk};
 ghost use Rattle.serde_json.specs.View.{view};
-ghost use Rattle.sim_relay.specs.Lines.{arriving_of as arriving_of_bytes, arriving_in as arriving_in_data, told_of, IsFromOne};
+ghost use Rattle.sim_relay.specs.Lines.{arriving_in as arriving_in_data, arriving_of as arriving_of_bytes, IsFromOne, told_of};
 
 use serde_json::Value;
 use sim_base::OutOfMemory;

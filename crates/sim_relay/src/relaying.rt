@@ -1,12 +1,10 @@
 //! The whole talk: the server begins, each line is answered before the next one is heard, and at the end of the input it is told what
 //! the server has come to.
 
+ghost use Rattle.{sim_report.specs.Downs.released_line, sim_talk.specs.Dialogues.TellsText};
 ghost use Rattle.std.specs.Prelude.{◌≡◌, []};
-ghost use Rattle.sim_report.specs.Downs.{released_line};
-ghost use Rattle.sim_server.specs.Small.{IsSmallServer};
-ghost use Rattle.sim_server.specs.Standing.{server_of, StandsFor};
-ghost use Rattle.sim_talk.specs.Dialogues.{TellsText};
-ghost use Rattle.sim_relay.specs.Relays.{Relays, AnswersAll, IsRelay, rules_of, end_lines};
+ghost use Rattle.sim_relay.specs.Relays.{AnswersAll, end_lines, IsRelay, Relays, rules_of};
+ghost use Rattle.sim_server.specs.{Small.IsSmallServer, Standing.server_of, Standing.StandsFor};
 
 use crate::answering::answer;
 use sim_base::OutOfMemory;

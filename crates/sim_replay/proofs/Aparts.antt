@@ -1,10 +1,6 @@
 -- The first place at which two lists of digests differ.
-use Rattle.std.proofs.Common.{◌≡◌, ℕ, zero, suc, ◌+◌, ◌<◌, Bool, true, false, cond, List, [], ◌∷◌, length, Option, Some, None, refl, ap, ◌∙◌, sym, subst, arith}
-use Rattle.std.specs.Prelude.{slice_get}
-use Rattle.std.specs.Str.{bytes_eq}
-use Rattle.std.proofs.lemmas.Slice.Eq.{bytes_eq-Decides}
-use Rattle.sim_replay.specs.declared.apart.Apart.{Apart}
-use Rattle.sim_replay.specs.Apart.{apart_from, first_apart, IsFirstApart}
+use Rattle.sim_replay.proofs.Common.{Apart, apart_from, arith, bytes_eq-Decides, first_apart, IsFirstApart, subst, ◌∙◌}
+use Rattle.sim_replay.proofs.Common.{◌≡◌, ℕ, zero, suc, ◌+◌, ◌<◌, Bool, true, false, cond, List, [], ◌∷◌, length, slice_get, Some, None, bytes_eq, refl, ap}
 
 -- so many places behind this turn two lists differ for the first time
 record Found (turn : ℕ) (told played : List (List ℕ)) (apart : Apart) : Type 0 where
@@ -80,7 +76,8 @@ none_apart turn [] (y ∷ ys) long e = absurd (omega (arith, long))
 none_apart turn (x ∷ xs) [] long e = absurd (omega (arith, long))
 none_apart turn (x ∷ xs) (y ∷ ys) long e = by (bytes_eq x y) refl e
   where
-    by : (same : Bool) → bytes_eq x y ≡ same → cond same (apart_from (turn + 1) xs ys) (Some (record { turn = turn; told = x; played = y })) ≡ None → (x ∷ xs) ≡ (y ∷ ys)
+    by : (same : Bool) → bytes_eq x y ≡ same → cond same (apart_from (turn + 1) xs ys) (Some (record { turn = turn; told = x; played = y })) ≡ None
+        → (x ∷ xs) ≡ (y ∷ ys)
     by true same h =
         let first = (bytes_eq-Decides x y).0 same in
         let rest = none_apart (turn + 1) xs ys (omega (arith, long)) h in cc

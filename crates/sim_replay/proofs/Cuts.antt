@@ -1,18 +1,9 @@
 -- Texts of bytes that pass one test, cut where bytes pass another; and fronts of lines.
-use Rattle.std.proofs.Common.{◌≡◌, ℕ, zero, suc, ◌+◌, ◌≤◌, ◌<◌, Bool, true, false, cond, leb, eqb, not, ◌&&◌, List, [], ◌∷◌, ◌++◌, take, drop, length, Some, ◌==◌, refl, ap, ◌∙◌, arith}
-use Rattle.std.specs.Prelude.{nat_le}
-use Rattle.std.specs.List.{list_all, before_first, after_first, position_or_len, slice_split, onto_first}
-use Rattle.std.specs.Str.{bytes_eq, IsAscii}
-use Rattle.std.proofs.Math.Seq.{take-append_seam, drop-append_seam, drop-append-add}
-use Rattle.std.proofs.lemmas.Bool.{and_from, and_parts, cond-true, cond-false, not_from_false, leb-true, le-leb, ne_eqb}
-use Rattle.std.proofs.lemmas.List.{append-nil, take_all, drop_all}
-use Rattle.std.proofs.lemmas.List.Folds.{list_all-append}
-use Rattle.std.proofs.lemmas.List.Splits.{slice_split-cons_yes, slice_split-cons_no}
-use Rattle.std.proofs.lemmas.Slice.Eq.{bytes_eq-Decides}
-use Rattle.std.proofs.lemmas.Str.Ascii.{IsAscii-nil, IsAscii-cons}
-use Rattle.sim_base.specs.NumberText.{is_digit}
-use Rattle.sim_base.specs.Names.{is_name_byte}
-use Rattle.sim_replay.specs.Words.{behind, first_word, other_words}
+use Rattle.sim_replay.proofs.Common.{drop-append_seam, first_word, is_digit, is_name_byte, IsAscii-cons, IsAscii-nil, le-leb, leb-true, list_all}
+use Rattle.sim_replay.proofs.Common.{list_all-append, ne_eqb, not_from_false, onto_first, other_words, position_or_len, slice_split, slice_split-cons_no}
+use Rattle.sim_replay.proofs.Common.{slice_split-cons_yes, take-append_seam, ◌∙◌}
+use Rattle.sim_replay.proofs.Common.{◌==◌, Some, IsAscii, bytes_eq, refl, and_from, and_parts, ap, arith, behind, bytes_eq-Decides, cond-true, drop-append-add}
+use Rattle.sim_replay.proofs.Common.{◌≡◌, ℕ, zero, suc, ◌+◌, ◌≤◌, Bool, true, false, cond, not, ◌&&◌, eqb, leb, List, [], ◌∷◌, ◌++◌, length, take, drop, nat_le}
 
 -- a printed byte or a space
 abbrev pub is_plain : ℕ → Bool
@@ -75,7 +66,8 @@ plain_is_ascii (c ∷ cs) all =
 -- ---- cuts
 
 -- what passes the one test is passed over by a search for the other
-passes_over : (p q : ℕ → Bool) → ((c : ℕ) → q c ≡ true → p c ≡ false) → (xs rest : List ℕ) → list_all q xs ≡ true → position_or_len p (xs ++ rest) ≡ length xs + position_or_len p rest
+passes_over : (p q : ℕ → Bool) → ((c : ℕ) → q c ≡ true → p c ≡ false) → (xs rest : List ℕ) → list_all q xs ≡ true → position_or_len p (xs ++ rest) ≡ length xs +
+    position_or_len p rest
 passes_over p q apart [] rest all = omega arith
 passes_over p q apart (c ∷ cs) rest all =
     let parts = and_parts (q c) (list_all q cs) all in
@@ -85,17 +77,20 @@ passes_over p q apart (c ∷ cs) rest all =
 pub first_word-is : (word rest : List ℕ) → list_all is_name_byte word ≡ true → first_word (word ++ 32 ∷ rest) ≡ word
 first_word-is word rest all =
     let text = word ++ 32 ∷ rest in
-    let place : position_or_len (λ b. b == 32) text ≡ length word = passes_over (λ b. b == 32) is_name_byte name_is_no_space word (32 ∷ rest) all ∙ omega arith in
+    let place : position_or_len (λ b. b == 32) text ≡ length word = passes_over (λ b. b == 32) is_name_byte name_is_no_space word (32 ∷ rest) all ∙
+    omega arith in
     ap (λ (n : ℕ). take n text) place ∙ take-append_seam word (32 ∷ rest)
 
 pub other_words-is : (word rest : List ℕ) → list_all is_name_byte word ≡ true → other_words (word ++ 32 ∷ rest) ≡ rest
 other_words-is word rest all =
     let text = word ++ 32 ∷ rest in
-    let place : position_or_len (λ b. b == 32) text ≡ length word = passes_over (λ b. b == 32) is_name_byte name_is_no_space word (32 ∷ rest) all ∙ omega arith in
+    let place : position_or_len (λ b. b == 32) text ≡ length word = passes_over (λ b. b == 32) is_name_byte name_is_no_space word (32 ∷ rest) all ∙
+    omega arith in
     ap (λ (n : ℕ). drop (n + 1) text) place ∙ drop-append-add word (32 ∷ rest) 1
 
 -- the parts of a text, of which the first ends at a byte that passes
-pub split_first : (p q : ℕ → Bool) → ((c : ℕ) → q c ≡ true → p c ≡ false) → (word : List ℕ) (y : ℕ) (rest : List ℕ) → list_all q word ≡ true → p y ≡ true → slice_split p (word ++ y ∷ rest) ≡ word ∷ slice_split p rest
+pub split_first : (p q : ℕ → Bool) → ((c : ℕ) → q c ≡ true → p c ≡ false) → (word : List ℕ) (y : ℕ) (rest : List ℕ) → list_all q word ≡ true → p y ≡ true
+    → slice_split p (word ++ y ∷ rest) ≡ word ∷ slice_split p rest
 split_first p q apart [] y rest all passes = slice_split-cons_yes p y rest passes
 split_first p q apart (c ∷ cs) y rest all passes =
     let parts = and_parts (q c) (list_all q cs) all in
@@ -115,5 +110,6 @@ bytes_eq-same xs = (bytes_eq-Decides xs xs).1 refl
 
 pub behind-append : (front rest : List ℕ) → behind front (front ++ rest) ≡ Some rest
 behind-append front rest =
-    let same : bytes_eq (take (length front) (front ++ rest)) front ≡ true = ap (λ (xs : List ℕ). bytes_eq xs front) (take-append_seam front rest) ∙ bytes_eq-same front in
+    let same : bytes_eq (take (length front) (front ++ rest)) front ≡ true = ap (λ (xs : List ℕ). bytes_eq xs front) (take-append_seam front rest) ∙
+    bytes_eq-same front in
     cond-true _ _ _ same ∙ ap Some (drop-append_seam front rest)

@@ -1,24 +1,13 @@
 -- What is read can be ended to a log, and the lines of a log are read as it.
-use Rattle.std.proofs.Common.{◌≡◌, ℕ, zero, suc, ◌+◌, ◌-◌, ◌^◌, ◌<◌, ◌≤◌, Bool, true, false, cond, ltb, eqb, ◌==◌, ◌&&◌, List, [], ◌∷◌, ◌++◌, drop, map, length, replicate, slice_index, Option, Some, None, refl, ap, ◌∙◌, sym, subst, arith, eq-eqb}
-use Rattle.std.specs.Prelude.{count_by, All}
-use Rattle.std.proofs.Math.Seq.{drop-append_seam}
-use Rattle.std.proofs.lemmas.Bool.{and_from, and_parts, lt-ltb, le-ltb, ltb-true, cond-true, cond-false, eqb-true}
-use Rattle.std.proofs.lemmas.List.{append-nil, append_assoc, length-append}
-use Rattle.std.proofs.lemmas.List.Elements.{All-nil, All-cons, All-head, All-tail, All-rest, All-drop}
-use Rattle.std.proofs.lemmas.List.Sums.{sum_by-append}
-use Rattle.hex.specs.Hex.{IsBytes}
-use Rattle.sim_base.specs.declared.command.PlayerCommand.{PlayerCommand}
-use Rattle.sim_base.specs.declared.setup.Setup.{Setup}
-use Rattle.sim_bytes.specs.Reading.{◌>>=◌}
-use Rattle.sim_wire.specs.Fits.{CommandFits}
-use Rattle.sim_replay.specs.declared.log.Log.{Log}
-use Rattle.sim_replay.specs.declared.reading.Reading.{Reading}
-use Rattle.sim_replay.specs.Lines.{header_line, order_line, digest_line}
-use Rattle.sim_replay.specs.Logs.{is_by, IsOrder, AreOrders, IsDigest, IsLog, turn_lines, lines_from, log_lines, BeginsLog}
-use Rattle.sim_replay.specs.Reading.{ids_in, digest_in, order_in, nothing, with_digest, with_order, taken_order, taken_by, taken, log_in}
+use Rattle.sim_replay.proofs.Common.{Setup, subst, sum_by-append, sym, taken, taken_by, turn_lines, with_digest, with_order, ◌>>=◌, ◌∙◌}
+use Rattle.sim_replay.proofs.Common.{and_from, and_parts, ap, append-nil, append_assoc, AreOrders, arith, BeginsLog, CommandFits, cond-false, cond-true}
+use Rattle.sim_replay.proofs.Common.{digest_in, digest_line, drop-append_seam, eq-eqb, eqb-true, header_line, is_by, IsDigest, IsLog, IsOrder, le-ltb}
+use Rattle.sim_replay.proofs.Common.{drop, replicate, ◌==◌, slice_index, Some, All, Option, refl, All-cons, All-drop, All-head, All-nil, All-rest, All-tail}
+use Rattle.sim_replay.proofs.Common.{length-append, lines_from, Log, log_in, log_lines, lt-ltb, ltb-true, nothing, order_in, order_line, PlayerCommand, Reading}
+use Rattle.sim_replay.proofs.Common.{◌≡◌, ℕ, zero, suc, ◌+◌, ◌-◌, ◌^◌, ◌<◌, ◌≤◌, Bool, true, false, cond, ◌&&◌, eqb, ltb, List, [], ◌∷◌, ◌++◌, map, length}
 use Rattle.sim_replay.proofs.Options.{bind_some, bound, passed}
 use Rattle.sim_replay.proofs.PrintedLines.{digest_in-line, digest_in-order, order_in-line}
-use Rattle.sim_replay.proofs.Taking.{Spells, spells-nothing, spells-digest, spells-taken, MayHave, may_have-from, few_ids}
+use Rattle.sim_replay.proofs.Taking.{few_ids, may_have-from, MayHave, Spells, spells-digest, spells-taken}
 
 -- ---- the end
 
@@ -31,7 +20,8 @@ pub record Ends (setup : Setup) (lines : List (List ℕ)) (log : Log) : Type 0 w
 abbrev log_read : Reading → Log
 log_read read = record { turns = drop 1 read.turns; digests = read.digests }
 
-ends-read : (setup : Setup) (read : Reading) (lines : List (List ℕ)) → Spells setup read lines → 0 < length read.digests → read.orders ≡ [] → Ends setup lines (log_read read)
+ends-read : (setup : Setup) (read : Reading) (lines : List (List ℕ)) → Spells setup read lines → 0 < length read.digests → read.orders ≡ []
+    → Ends setup lines (log_read read)
 ends-read setup read lines s some none =
     let first = s.first some in
     let more : length read.turns ≡ suc (length (drop 1 read.turns)) = ap length first in
@@ -52,7 +42,8 @@ ends-log setup read lines log s e =
     let p = passed (ltb 0 (length read.digests) && (length read.orders == 0)) (Some (log_read read)) log e in
     let q = and_parts (ltb 0 (length read.digests)) (length read.orders == 0) p.yes in
     let same : log_read read ≡ log = let h = p.gives in cc in
-    subst (Ends setup lines) same (ends-read setup read lines s (ltb-true 0 (length read.digests) q.0) (empty read.orders (eqb-true (length read.orders) 0 q.1)))
+    subst (Ends setup lines) same (ends-read setup read lines s (ltb-true 0 (length read.digests) q.0)
+    (empty read.orders (eqb-true (length read.orders) 0 q.1)))
   where
     empty : (os : List PlayerCommand) → length os ≡ 0 → os ≡ []
     empty [] h = refl
@@ -93,7 +84,8 @@ abbrev pub taken_all : Setup → Reading → List (List ℕ) → Option Reading
 taken_all setup read [] = Some read
 taken_all setup read (line ∷ lines) = taken setup read line >>= λ next. taken_all setup next lines
 
-chain : (setup : Setup) (read mid : Reading) (lines more : List (List ℕ)) (r : Option Reading) → taken_all setup read lines ≡ Some mid → taken_all setup mid more ≡ r → taken_all setup read (lines ++ more) ≡ r
+chain : (setup : Setup) (read mid : Reading) (lines more : List (List ℕ)) (r : Option Reading) → taken_all setup read lines ≡ Some mid
+    → taken_all setup mid more ≡ r → taken_all setup read (lines ++ more) ≡ r
 chain setup read mid [] more r e h = let same : read ≡ mid = cc in ap (λ (x : Reading). taken_all setup x more) same ∙ h
 chain setup read mid (line ∷ lines) more r e h =
     let b = bound (taken setup read line) _ mid e in
@@ -111,7 +103,8 @@ front setup read last (line ∷ lines) more e =
     let f = front setup b.x last lines more b.second in
     record { mid = f.mid; taken_are = bind_some (taken setup read line) b.x _ (Some f.mid) b.first f.taken_are }
 
-pub spells-all : (setup : Setup) (read next : Reading) (lines more : List (List ℕ)) → Spells setup read lines → taken_all setup read more ≡ Some next → Spells setup next (lines ++ more)
+pub spells-all : (setup : Setup) (read next : Reading) (lines more : List (List ℕ)) → Spells setup read lines → taken_all setup read more ≡ Some next
+    → Spells setup next (lines ++ more)
 spells-all setup read next lines [] s e =
     let same : read ≡ next = cc in
     rw append-nil (subst (λ (r : Reading). Spells setup r lines) same s)
@@ -127,13 +120,15 @@ pub record Small (setup : Setup) : Type 0 where
   pub players : setup.players < 2 ^ 8
   pub turns : setup.turns < 2 ^ 32
 
-digest-taken : (setup : Setup) (read : Reading) (digest : List ℕ) → length read.digests ≤ setup.turns → IsDigest digest → taken setup read (digest_line (length read.digests) digest) ≡ Some (with_digest read digest)
+digest-taken : (setup : Setup) (read : Reading) (digest : List ℕ) → length read.digests ≤ setup.turns → IsDigest digest
+    → taken setup read (digest_line (length read.digests) digest) ≡ Some (with_digest read digest)
 unfolding taken
 digest-taken setup read digest below is =
     let turn = length read.digests in
     cond-false _ _ _ (le-ltb setup.turns turn below) ∙ ap (taken_by setup read (digest_line turn digest)) (digest_in-line turn digest is)
 
-order-taken : (setup : Setup) (read : Reading) (order : PlayerCommand) → Small setup → 0 < length read.digests → length read.digests ≤ setup.turns → MayHave setup read.orders order → CommandFits order.command
+order-taken : (setup : Setup) (read : Reading) (order : PlayerCommand) → Small setup → 0 < length read.digests → length read.digests ≤ setup.turns
+    → MayHave setup read.orders order → CommandFits order.command
     → taken setup read (order_line (length read.digests) order) ≡ Some (with_order read order)
 unfolding taken
 order-taken setup read order small some below may fits =
@@ -147,30 +142,43 @@ abbrev one_if : Bool → ℕ
 one_if b = cond b 1 0
 
 -- a turn may have the next of its commands
-may-next : (setup : Setup) (orders more : List PlayerCommand) (order : PlayerCommand) → AreOrders setup (orders ++ order ∷ more) → MayHave setup orders order × CommandFits order.command
+may-next : (setup : Setup) (orders more : List PlayerCommand) (order : PlayerCommand) → AreOrders setup (orders ++ order ∷ more) → MayHave setup orders order
+    × CommandFits order.command
 may-next setup orders more order are =
-    let behind : All (IsOrder setup) (order ∷ more) = subst (All (IsOrder setup)) (drop-append_seam orders (order ∷ more)) (All-drop (IsOrder setup) (length orders) (orders ++ order ∷ more) are.each) in
+    let behind : All (IsOrder setup) (order ∷ more) = subst (All (IsOrder setup)) (drop-append_seam orders (order ∷ more))
+    (All-drop (IsOrder setup) (length orders) (orders ++ order ∷ more) are.each) in
     let is = All-head (IsOrder setup) order more behind in
     let one : one_if (is_by order.player order) ≡ 1 = ap one_if (eq-eqb order.player order.player refl) in
     let count = sum_by-append (λ (o : PlayerCommand). cond (is_by order.player o) 1 0) orders (order ∷ more) in
-    let count_more = sum_by-append (λ (o : PlayerCommand). cond (is_by order.player o) 1 0) (order ∷ []) more in
-    (record { least = is.player.0; most = is.player.1; ids = few_ids order.command is.fits; room = omega (arith, one, count, count_more, are.few order.player) }, is.fits)
+    let count_more = sum_by-append (λ (o : PlayerCommand). cond (is_by order.player o) 1 0) (order ∷ []) more in (
+      record {
+        least = is.player.0;
+        most = is.player.1;
+        ids = few_ids order.command is.fits;
+        room = omega (arith, one, count, count_more, are.few order.player);
+      },
+      is.fits,
+    )
 
-orders-taken : (setup : Setup) (read : Reading) (orders : List PlayerCommand) → Small setup → 0 < length read.digests → length read.digests ≤ setup.turns → AreOrders setup (read.orders ++ orders)
+orders-taken : (setup : Setup) (read : Reading) (orders : List PlayerCommand) → Small setup → 0 < length read.digests → length read.digests ≤ setup.turns
+    → AreOrders setup (read.orders ++ orders)
     → taken_all setup read (map (order_line (length read.digests)) orders) ≡ Some (record read { orders = read.orders ++ orders })
 orders-taken setup read [] small some below are = ap (λ (os : List PlayerCommand). Some (record read { orders = os })) (sym (append-nil read.orders))
 orders-taken setup read (order ∷ orders) small some below are =
     let may = may-next setup read.orders orders order are in
     let same = append_assoc read.orders (order ∷ []) orders in
     bind_some _ (with_order read order) _ _ (order-taken setup read order small some below may.0 may.1)
-    (orders-taken setup (with_order read order) orders small some below (subst (AreOrders setup) (sym same) are) ∙ ap (λ (os : List PlayerCommand). Some (record read { orders = os })) same)
+    (orders-taken setup (with_order read order) orders small some below (subst (AreOrders setup) (sym same) are) ∙
+    ap (λ (os : List PlayerCommand). Some (record read { orders = os })) same)
 
 -- nothing of the next turn is read
 abbrev pub between : List (List PlayerCommand) → List (List ℕ) → Reading
 between turns digests = record { turns = turns; digests = digests; orders = [] }
 
-turn-taken : (setup : Setup) (turns : List (List PlayerCommand)) (digests : List (List ℕ)) (orders : List PlayerCommand) (digest : List ℕ) → Small setup → length digests ≤ setup.turns → (length digests ≡ 0 → orders ≡ [])
-    → AreOrders setup orders → IsDigest digest → taken_all setup (between turns digests) (turn_lines (length digests) orders digest) ≡ Some (between (turns ++ orders ∷ []) (digests ++ digest ∷ []))
+turn-taken : (setup : Setup) (turns : List (List PlayerCommand)) (digests : List (List ℕ)) (orders : List PlayerCommand) (digest : List ℕ) → Small setup
+    → length digests ≤ setup.turns → (length digests ≡ 0 → orders ≡ [])
+    → AreOrders setup orders → IsDigest digest → taken_all setup (between turns digests) (turn_lines (length digests) orders digest) ≡ Some
+    (between (turns ++ orders ∷ []) (digests ++ digest ∷ []))
 turn-taken setup turns digests orders digest small below start are is =
     let read = between turns digests in
     let mid : Reading = record { turns = turns; digests = digests; orders = orders } in
@@ -183,22 +191,28 @@ turn-taken setup turns digests orders digest small below start are is =
     all (o ∷ os) [] start are below = let e = start refl in absurd cc
     all (o ∷ os) (d ∷ ds) start are below = orders-taken setup (between turns (d ∷ ds)) (o ∷ os) small (omega arith) below are
 
-turns-taken : (setup : Setup) (turn : ℕ) (done turns : List (List PlayerCommand)) (seen digests : List (List ℕ)) → Small setup → length seen ≡ turn → length turns ≡ length digests → turn + length digests ≤ setup.turns + 1
+turns-taken : (setup : Setup) (turn : ℕ) (done turns : List (List PlayerCommand)) (seen digests : List (List ℕ)) → Small setup → length seen ≡ turn
+    → length turns ≡ length digests → turn + length digests ≤ setup.turns + 1
     → (turn ≡ 0 → turns ≡ [] ∷ drop 1 turns) → All (AreOrders setup) turns → All IsDigest digests
     → taken_all setup (between done seen) (lines_from turn turns digests) ≡ Some (between (done ++ turns) (seen ++ digests))
 turns-taken setup turn done [] seen [] small at same few start are is =
-    ap (λ (ts : List (List PlayerCommand)). Some (between ts seen)) (sym (append-nil done)) ∙ ap (λ (ds : List (List ℕ)). Some (between (done ++ []) ds)) (sym (append-nil seen))
+    ap (λ (ts : List (List PlayerCommand)). Some (between ts seen)) (sym (append-nil done)) ∙ ap (λ (ds : List (List ℕ)). Some (between (done ++ []) ds))
+    (sym (append-nil seen))
 turns-taken setup turn done [] seen (d ∷ ds) small at same few start are is = absurd (omega arith)
 turns-taken setup turn done (o ∷ os) seen [] small at same few start are is = absurd (omega arith)
 turns-taken setup turn done (o ∷ os) seen (d ∷ ds) small at same few start are is =
     let one : taken_all setup (between done seen) (turn_lines turn o d) ≡ Some (between (done ++ o ∷ []) (seen ++ d ∷ []))
     = subst (λ (t : ℕ). taken_all setup (between done seen) (turn_lines t o d) ≡ Some (between (done ++ o ∷ []) (seen ++ d ∷ []))) at
-    (turn-taken setup done seen o d small (omega arith) (λ z. let h = start (omega arith) in cc) (All-head (AreOrders setup) o os are) (All-head IsDigest d ds is)) in
-    let more = turns-taken setup (turn + 1) (done ++ o ∷ []) os (seen ++ d ∷ []) ds small (length-append seen (d ∷ []) ∙ omega arith) (omega arith) (omega arith) (λ z. absurd (omega arith)) (All-tail (AreOrders setup) o os are) (All-tail IsDigest d ds is) in
+    (turn-taken setup done seen o d small (omega arith) (λ z. let h = start (omega arith) in cc) (All-head (AreOrders setup) o os are)
+    (All-head IsDigest d ds is)) in
+    let more = turns-taken setup (turn + 1) (done ++ o ∷ []) os (seen ++ d ∷ []) ds small (length-append seen (d ∷ []) ∙ omega arith) (omega arith)
+    (omega arith) (λ z. absurd (omega arith)) (All-tail (AreOrders setup) o os are) (All-tail IsDigest d ds is) in
     chain setup (between done seen) (between (done ++ o ∷ []) (seen ++ d ∷ [])) (turn_lines turn o d) (lines_from (turn + 1) os ds) _ one
-    (more ∙ ap (λ (ts : List (List PlayerCommand)). Some (between ts ((seen ++ d ∷ []) ++ ds))) (append_assoc done (o ∷ []) os) ∙ ap (λ (xs : List (List ℕ)). Some (between (done ++ o ∷ os) xs)) (append_assoc seen (d ∷ []) ds))
+    (more ∙ ap (λ (ts : List (List PlayerCommand)). Some (between ts ((seen ++ d ∷ []) ++ ds))) (append_assoc done (o ∷ []) os) ∙
+    ap (λ (xs : List (List ℕ)). Some (between (done ++ o ∷ os) xs)) (append_assoc seen (d ∷ []) ds))
 
-pub log-taken : (setup : Setup) (log : Log) → Small setup → IsLog setup log → taken_all setup nothing (lines_from 0 ([] ∷ log.turns) log.digests) ≡ Some (between ([] ∷ log.turns) log.digests)
+pub log-taken : (setup : Setup) (log : Log) → Small setup → IsLog setup log → taken_all setup nothing (lines_from 0 ([] ∷ log.turns) log.digests) ≡ Some
+    (between ([] ∷ log.turns) log.digests)
 log-taken setup log small is =
     turns-taken setup 0 [] ([] ∷ log.turns) [] log.digests small refl (omega (arith, is.one_more)) (omega (arith, is.one_more, is.few)) (λ z. refl)
     (All-cons (AreOrders setup) [] log.turns (record { each = All-nil (IsOrder setup); few = λ player. omega arith }) is.turns) is.digests

@@ -1,24 +1,10 @@
 -- Numbers that are read fit, and so do commands with few ids.
-use Rattle.std.proofs.Common.{◌≡◌, ℕ, ◌^◌, ◌<◌, ◌≤◌, Bool, true, false, cond, ltb, leb, List, [], ◌∷◌, ◌++◌, drop, length, ◌==◌, ℤ, pos, negsuc, neg_ℤ, Option, Some, None, refl, ap, ◌∙◌, sym, subst, arith}
-use Rattle.std.specs.Prelude.{codes, option_map, option_and_then, FitsSigned, nat_eq}
-use Rattle.std.specs.List.{list_all, slice_split, starts_with, AllByRecursion}
-use Rattle.std.specs.Int.{w32}
-use Rattle.std.specs.Str.{bytes_eq}
-use Rattle.std.specs.Str.Parse.{digits_value}
-use Rattle.std.proofs.lemmas.Bool.{ltb-true, leb-true, and_parts}
-use Rattle.std.proofs.lemmas.Int.{ints}
-use Rattle.sim_base.specs.declared.place.Point.{Point}
-use Rattle.sim_base.specs.declared.command.Command.{Command}
-use Rattle.sim_base.specs.declared.command.Command.TheVariants.{Walk, Stop, Attack, Delete, Place, Train, Resign}
-use Rattle.sim_base.specs.declared.command.PlayerCommand.{PlayerCommand}
-use Rattle.sim_base.specs.Numbers.{is_raw}
-use Rattle.sim_base.specs.NumberText.{is_digit, in_range, magnitude_of, number_of}
-use Rattle.sim_bytes.specs.Reading.{◌>>=◌}
-use Rattle.sim_sections.specs.Rows.{IsPoint}
-use Rattle.sim_wire.specs.Fits.{IdsFit, CommandFits}
-use Rattle.sim_replay.specs.Words.{first_word, other_words, below, natural_of, natural_below, naturals_behind, ids_of}
-use Rattle.sim_replay.specs.Commands.{point_of, behind_two, walk_of, attack_of, place_of, train_of, command_by, command_of, order_of}
-use Rattle.sim_replay.specs.Reading.{ids_in}
+use Rattle.sim_replay.proofs.Common.{FitsSigned, Some, None, codes, bytes_eq, Option, option_map, option_and_then, AllByRecursion, and_parts, ap, arith, Attack}
+use Rattle.sim_replay.proofs.Common.{attack_of, behind_two, below, Command, command_by, command_of, CommandFits, Delete, digits_value, first_word, ids_in}
+use Rattle.sim_replay.proofs.Common.{ids_of, in_range, ints, is_raw, IsPoint, leb-true, ltb-true, magnitude_of, natural_below, natural_of, naturals_behind}
+use Rattle.sim_replay.proofs.Common.{number_of, order_of, other_words, Place, place_of, PlayerCommand, Point, point_of, Resign, slice_split, starts_with, Stop}
+use Rattle.sim_replay.proofs.Common.{subst, Train, train_of, w32, Walk, walk_of}
+use Rattle.sim_replay.proofs.Common.{◌≡◌, ℕ, ◌^◌, ◌<◌, ◌≤◌, Bool, true, false, cond, ltb, leb, List, [], ◌∷◌, ◌++◌, drop, ℤ, pos, negsuc, neg_ℤ, nat_eq, ◌==◌}
 use Rattle.sim_replay.proofs.Options.{bound, mapped, passed}
 
 -- ---- numbers
@@ -40,7 +26,8 @@ fit-push : (found : List ℕ) (id : ℕ) → AllByRecursion (λ id. id < 2 ^ 32)
 fit-push [] id fit small = (small, tt)
 fit-push (n ∷ ns) id fit small = (fit.0, fit-push ns id fit.1 small)
 
-naturals-fit : (found : List ℕ) (words : List (List ℕ)) (ids : List ℕ) → AllByRecursion (λ id. id < 2 ^ 32) found → naturals_behind found words ≡ Some ids → AllByRecursion (λ id. id < 2 ^ 32) ids
+naturals-fit : (found : List ℕ) (words : List (List ℕ)) (ids : List ℕ) → AllByRecursion (λ id. id < 2 ^ 32) found → naturals_behind found words ≡ Some ids
+    → AllByRecursion (λ id. id < 2 ^ 32) ids
 naturals-fit found [] ids fit e =
     let same : found ≡ ids = cc in
     subst (λ (ns : List ℕ). AllByRecursion (λ id. id < 2 ^ 32) ns) same fit
@@ -73,7 +60,8 @@ mapped_range (Some n) f y e = in_range-fits (f n) y e
 number_of-fits : (text : List ℕ) (y : ℤ) → number_of text ≡ Some y → FitsSigned w32 y
 number_of-fits text y e = by (starts_with nat_eq text (codes "-")) e
   where
-    by : (b : Bool) → cond b (option_and_then (λ n. in_range (neg_ℤ (pos n))) (magnitude_of (drop 1 text))) (option_and_then (λ n. in_range (pos n)) (magnitude_of text)) ≡ Some y → FitsSigned w32 y
+    by : (b : Bool) → cond b (option_and_then (λ n. in_range (neg_ℤ (pos n))) (magnitude_of (drop 1 text)))
+        (option_and_then (λ n. in_range (pos n)) (magnitude_of text)) ≡ Some y → FitsSigned w32 y
     by true h = mapped_range (magnitude_of (drop 1 text)) (λ n. neg_ℤ (pos n)) y h
     by false h = mapped_range (magnitude_of text) pos y h
 
@@ -136,7 +124,8 @@ delete-fits text command e =
 command_by-fits : (kind text : List ℕ) (command : Command) → command_by kind text ≡ Some command → FitsIfFew command
 unfolding command_by
 command_by-fits kind text command e =
-    by (bytes_eq kind (codes "walk")) (bytes_eq kind (codes "stop")) (bytes_eq kind (codes "attack")) (bytes_eq kind (codes "delete")) (bytes_eq kind (codes "place")) (bytes_eq kind (codes "train")) (bytes_eq kind (codes "resign")) e
+    by (bytes_eq kind (codes "walk")) (bytes_eq kind (codes "stop")) (bytes_eq kind (codes "attack")) (bytes_eq kind (codes "delete"))
+    (bytes_eq kind (codes "place")) (bytes_eq kind (codes "train")) (bytes_eq kind (codes "resign")) e
   where
     by : (walks stops attacks deletes places trains resigns : Bool)
         → cond walks (walk_of text) (cond stops (option_map Stop (ids_of text)) (cond attacks (attack_of text) (cond deletes (option_map Delete (ids_of text))

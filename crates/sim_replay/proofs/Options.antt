@@ -1,7 +1,5 @@
 -- Steps that each may give nothing, one behind the other.
-use Rattle.std.proofs.Common.{◌≡◌, Bool, true, false, cond, Option, Some, None, refl, ap, ◌∙◌, sym}
-use Rattle.std.specs.Prelude.{option_map}
-use Rattle.sim_bytes.specs.Reading.{◌>>=◌}
+use Rattle.sim_replay.proofs.Common.{◌≡◌, Bool, true, false, cond, Some, None, Option, option_map, refl, ap, ◌>>=◌, ◌∙◌}
 
 -- both steps give something
 pub bind_some : {A B : Type 0} (o : Option A) (x : A) (f : A → Option B) (r : Option B) → o ≡ Some x → f x ≡ r → (o >>= f) ≡ r

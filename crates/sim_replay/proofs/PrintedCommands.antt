@@ -1,24 +1,10 @@
 -- Printed commands are plain, and are read as themselves.
-use Rattle.std.proofs.Common.{◌≡◌, ℕ, ◌^◌, ◌<◌, Bool, true, List, [], ◌∷◌, ◌++◌, Option, Some, None, refl, ap, ◌∙◌, arith}
-use Rattle.std.specs.Prelude.{codes, decimal, option_map}
-use Rattle.std.specs.List.{list_all, AllByRecursion}
-use Rattle.sim_base.specs.declared.place.Point.{Point}
-use Rattle.sim_base.specs.declared.command.Command.{Command}
-use Rattle.sim_base.specs.declared.command.Command.TheVariants.{Walk, Stop, Attack, Delete, Place, Train, Resign}
-use Rattle.sim_base.specs.declared.command.PlayerCommand.{PlayerCommand}
-use Rattle.sim_base.specs.NumberText.{number_of, text_of}
-use Rattle.sim_base.specs.Names.{is_name_byte}
-use Rattle.sim_base.proofs.PrintedNumbers.{number_of-text_of}
-use Rattle.sim_bytes.specs.Reading.{◌>>=◌}
-use Rattle.sim_sections.specs.Rows.{IsPoint}
-use Rattle.sim_wire.specs.Fits.{IdsFit, CommandFits}
-use Rattle.sim_report.specs.Show.{point_text}
-use Rattle.sim_report.specs.Downs.{ids_text, command_text}
-use Rattle.sim_replay.specs.Words.{first_word, other_words, below, natural_of, natural_below, ids_of}
-use Rattle.sim_replay.specs.Commands.{point_of, behind_two, walk_of, attack_of, place_of, train_of, command_by, command_of, order_of}
-use Rattle.sim_replay.proofs.Options.{bind_some}
-use Rattle.sim_replay.proofs.Cuts.{is_plain, all-weaker, all-append, name_is_plain, first_word-is, other_words-is}
-use Rattle.sim_replay.proofs.PrintedWords.{name-decimal, below-is, natural_of-decimal, name-text_of, name-ids_text, ids_of-ids_text}
+use Rattle.sim_replay.proofs.{Cuts.all-append, Cuts.all-weaker, Cuts.first_word-is, Cuts.is_plain, Cuts.name_is_plain, Cuts.other_words-is, Options.bind_some}
+use Rattle.sim_replay.proofs.Common.{Command, command_by, command_of, command_text, CommandFits, Delete, first_word, ids_of, ids_text, IdsFit, is_name_byte}
+use Rattle.sim_replay.proofs.Common.{IsPoint, list_all, natural_below, natural_of, number_of, number_of-text_of, order_of, other_words, Place, place_of}
+use Rattle.sim_replay.proofs.Common.{PlayerCommand, Point, point_of, point_text, Resign, Stop, text_of, Train, train_of, Walk, walk_of, ◌∙◌}
+use Rattle.sim_replay.proofs.Common.{◌≡◌, ℕ, ◌^◌, ◌<◌, true, List, ◌∷◌, ◌++◌, Some, codes, decimal, option_map, refl, ap, arith, Attack, attack_of, below}
+use Rattle.sim_replay.proofs.PrintedWords.{below-is, ids_of-ids_text, name-decimal, name-ids_text, name-text_of, natural_of-decimal}
 
 -- ---- read as themselves
 
@@ -37,18 +23,21 @@ walk-back ids to fit is =
     bind_some _ ids _ _ (ap ids_of (first_word-is (ids_text ids) rest name) ∙ ids_of-ids_text ids fit.each)
     (bind_some _ to _ _ (ap (λ (text : List ℕ). point_of (other_words text)) (other_words-is (ids_text ids) rest name) ∙ point_of-point_text to is) refl)
 
-attack-back : (ids : List ℕ) (target : ℕ) → IdsFit ids → target < 2 ^ 32 → attack_of (ids_text ids ++ (codes " on " ++ decimal target)) ≡ Some (Attack ids target)
+attack-back : (ids : List ℕ) (target : ℕ) → IdsFit ids → target < 2 ^ 32 → attack_of (ids_text ids ++ (codes " on " ++ decimal target)) ≡ Some
+    (Attack ids target)
 unfolding attack_of
 attack-back ids target fit small =
     let rest = codes "on " ++ decimal target in
     let name = name-ids_text ids fit.each in
     bind_some _ ids _ _ (ap ids_of (first_word-is (ids_text ids) rest name) ∙ ids_of-ids_text ids fit.each)
-    (bind_some _ target _ _ (ap (λ (text : List ℕ). natural_of (other_words text)) (other_words-is (ids_text ids) rest name) ∙ natural_of-decimal target small) refl)
+    (bind_some _ target _ _ (ap (λ (text : List ℕ). natural_of (other_words text)) (other_words-is (ids_text ids) rest name) ∙ natural_of-decimal target small)
+    refl)
 
 below-back : (limit n : ℕ) (text : List ℕ) → n < limit → n < 2 ^ 32 → text ≡ decimal n → natural_below limit text ≡ Some n
 below-back limit n text small fits is = bind_some _ n _ _ (ap natural_of is ∙ natural_of-decimal n fits) (below-is limit n small)
 
-place-back : (template : ℕ) (at : Point) → template < 2 ^ 16 → IsPoint at → place_of (decimal template ++ (codes " at " ++ point_text at)) ≡ Some (Place template at)
+place-back : (template : ℕ) (at : Point) → template < 2 ^ 16 → IsPoint at → place_of (decimal template ++ (codes " at " ++ point_text at)) ≡ Some
+    (Place template at)
 unfolding place_of
 place-back template at small is =
     let rest = codes "at " ++ point_text at in
@@ -56,7 +45,8 @@ place-back template at small is =
     bind_some _ template _ _ (below-back (2 ^ 16) template _ small (omega arith) (first_word-is (decimal template) rest name))
     (bind_some _ at _ _ (ap (λ (text : List ℕ). point_of (other_words text)) (other_words-is (decimal template) rest name) ∙ point_of-point_text at is) refl)
 
-train-back : (building template : ℕ) → building < 2 ^ 32 → template < 2 ^ 16 → train_of (decimal building ++ (codes " " ++ decimal template)) ≡ Some (Train building template)
+train-back : (building template : ℕ) → building < 2 ^ 32 → template < 2 ^ 16 → train_of (decimal building ++ (codes " " ++ decimal template)) ≡ Some
+    (Train building template)
 unfolding train_of
 train-back building template big small =
     let name = name-decimal building (omega arith) in
@@ -73,7 +63,8 @@ command_of-command_text (Place template at) fits = place-back template at fits.0
 command_of-command_text (Train building template) fits = train-back building template fits.0 fits.1
 command_of-command_text Resign fits = refl
 
-pub order_of-text : (order : PlayerCommand) → order.player < 2 ^ 8 → CommandFits order.command → order_of (decimal order.player ++ (codes " " ++ command_text order.command)) ≡ Some order
+pub order_of-text : (order : PlayerCommand) → order.player < 2 ^ 8 → CommandFits order.command
+    → order_of (decimal order.player ++ (codes " " ++ command_text order.command)) ≡ Some order
 unfolding order_of
 order_of-text order small fits =
     let name = name-decimal order.player (omega arith) in
@@ -90,7 +81,8 @@ pub plain-decimal : (n : ℕ) → n < 2 ^ 64 → list_all is_plain (decimal n) �
 plain-decimal n fits = plain-name (decimal n) (name-decimal n fits)
 
 plain-point : (p : Point) → IsPoint p → list_all is_plain (point_text p) ≡ true
-plain-point p is = all-append is_plain (text_of p.x) (32 ∷ text_of p.z) (plain-name (text_of p.x) (name-text_of p.x is.x)) (plain-name (text_of p.z) (name-text_of p.z is.z))
+plain-point p is = all-append is_plain (text_of p.x) (32 ∷ text_of p.z) (plain-name (text_of p.x) (name-text_of p.x is.x))
+    (plain-name (text_of p.z) (name-text_of p.z is.z))
 
 plain-ids : (ids : List ℕ) → IdsFit ids → list_all is_plain (ids_text ids) ≡ true
 plain-ids ids fit = plain-name (ids_text ids) (name-ids_text ids fit.each)
@@ -98,9 +90,12 @@ plain-ids ids fit = plain-name (ids_text ids) (name-ids_text ids fit.each)
 pub plain-command : (command : Command) → CommandFits command → list_all is_plain (command_text command) ≡ true
 plain-command (Walk ids to) fits = all-append is_plain (ids_text ids) (codes " to " ++ point_text to) (plain-ids ids fits.0) (plain-point to fits.1)
 plain-command (Stop ids) fits = plain-ids ids fits
-plain-command (Attack ids target) fits = all-append is_plain (ids_text ids) (codes " on " ++ decimal target) (plain-ids ids fits.0) (plain-decimal target (omega (arith, fits.1)))
+plain-command (Attack ids target) fits = all-append is_plain (ids_text ids) (codes " on " ++ decimal target) (plain-ids ids fits.0)
+    (plain-decimal target (omega (arith, fits.1)))
 plain-command (Delete ids) fits = plain-ids ids fits
-plain-command (Place template at) fits = all-append is_plain (decimal template) (codes " at " ++ point_text at) (plain-decimal template (omega (arith, fits.0))) (plain-point at fits.1)
+plain-command (Place template at) fits = all-append is_plain (decimal template) (codes " at " ++ point_text at) (plain-decimal template (omega (arith, fits.0)))
+    (plain-point at fits.1)
 plain-command (Train building template) fits =
-    all-append is_plain (decimal building) (codes " " ++ decimal template) (plain-decimal building (omega (arith, fits.0))) (plain-decimal template (omega (arith, fits.1)))
+    all-append is_plain (decimal building) (codes " " ++ decimal template) (plain-decimal building (omega (arith, fits.0)))
+    (plain-decimal template (omega (arith, fits.1)))
 plain-command Resign fits = refl

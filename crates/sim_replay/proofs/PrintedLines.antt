@@ -1,30 +1,13 @@
 -- A line is read as what it is printed of, and what is read of a line is printed so.
-use Rattle.std.proofs.Common.{◌≡◌, ℕ, zero, suc, ◌*◌, ◌/◌, ◌%◌, ◌^◌, ◌<◌, ◌≤◌, Bool, true, false, cond, List, [], ◌∷◌, ◌++◌, take, length, slice_index, Option, Some, None, Result, Ok, Err, refl, ap, ◌∙◌, sym, subst, arith}
-use Rattle.std.specs.Prelude.{codes, decimal}
-use Rattle.std.specs.List.{list_all}
-use Rattle.std.specs.Result.{result_ok}
-use Rattle.std.specs.Str.{bytes_eq, is_utf8}
-use Rattle.std.proofs.lemmas.Bool.{cond-true, and_from, and_parts}
-use Rattle.std.proofs.lemmas.List.{append_assoc}
-use Rattle.std.proofs.lemmas.Slice.Eq.{bytes_eq-Decides}
-use Rattle.std.proofs.lemmas.Str.{IsUtf8-from_ascii, is_utf8-from_IsUtf8}
-use Rattle.hex.specs.Hex.{encode_lower, encode_with, lower_digits, decode_sized}
-use Rattle.hex.specs.declared.error.FromHexError.{FromHexError}
-use Rattle.hex.proofs.HexLemmas.{decode_of-ok, decode_sized-encode_lower, decode_sized-ok, decode_sized-twice}
-use Rattle.sim_base.specs.declared.command.PlayerCommand.{PlayerCommand}
-use Rattle.sim_base.specs.declared.setup.Setup.{Setup}
-use Rattle.sim_bytes.specs.Reading.{◌>>=◌}
-use Rattle.sim_wire.specs.Fits.{CommandFits}
-use Rattle.sim_report.specs.Downs.{command_text}
-use Rattle.sim_replay.specs.Lines.{header_line, order_front, order_line, digest_front, digest_line}
-use Rattle.sim_replay.specs.Logs.{IsDigest}
-use Rattle.sim_replay.specs.Words.{behind}
-use Rattle.sim_replay.specs.Commands.{order_of}
-use Rattle.sim_replay.specs.Reading.{digest_of, spelled, digest_in, text_in, order_in, ids_in}
-use Rattle.sim_replay.proofs.Options.{bind_some, bind_none, bound, passed}
-use Rattle.sim_replay.proofs.Cuts.{is_plain, is_inner, all-weaker, all-append, plain_is_inner, plain_is_ascii, bytes_eq-same, behind-append}
-use Rattle.sim_replay.proofs.PrintedCommands.{order_of-text, plain-decimal, plain-command}
-use Rattle.sim_replay.proofs.FittingCommands.{order_of-fits}
+use Rattle.sim_replay.proofs.{FittingCommands.order_of-fits, PrintedCommands.order_of-text, PrintedCommands.plain-command, PrintedCommands.plain-decimal}
+use Rattle.sim_replay.proofs.Common.{Ok, Err, codes, bytes_eq, decimal, Result, refl, and_from, and_parts, ap, append_assoc, arith, behind, bytes_eq-Decides}
+use Rattle.sim_replay.proofs.Common.{command_text, CommandFits, cond-true, decode_of-ok, decode_sized, decode_sized-encode_lower, decode_sized-ok}
+use Rattle.sim_replay.proofs.Common.{decode_sized-twice, digest_front, digest_in, digest_line, digest_of, encode_lower, encode_with, FromHexError, header_line}
+use Rattle.sim_replay.proofs.Common.{ids_in, is_utf8, is_utf8-from_IsUtf8, IsDigest, IsUtf8-from_ascii, list_all, lower_digits, order_front, order_in}
+use Rattle.sim_replay.proofs.Common.{order_line, order_of, PlayerCommand, result_ok, Setup, spelled, subst, sym, text_in, ◌∙◌}
+use Rattle.sim_replay.proofs.Common.{◌≡◌, ℕ, zero, suc, ◌*◌, ◌/◌, ◌%◌, ◌^◌, ◌<◌, ◌≤◌, true, cond, List, [], ◌∷◌, ◌++◌, length, take, slice_index, Some, None}
+use Rattle.sim_replay.proofs.Cuts.{all-append, all-weaker, behind-append, bytes_eq-same, is_inner, is_plain, plain_is_ascii, plain_is_inner}
+use Rattle.sim_replay.proofs.Options.{bind_some, bound, passed}
 
 -- ---- the spelling
 
@@ -86,10 +69,12 @@ abbrev order_rest : PlayerCommand → List ℕ
 order_rest order = decimal order.player ++ (codes " " ++ command_text order.command)
 
 order_line-is : (turn : ℕ) (order : PlayerCommand) → order_line turn order ≡ order_front turn ++ order_rest order
-order_line-is turn order = ap (λ (xs : List ℕ). codes "command turn " ++ xs) (sym (append_assoc (decimal turn) (codes " player ") (order_rest order))) ∙ sym (append_assoc (codes "command turn ") (decimal turn ++ codes " player ") (order_rest order))
+order_line-is turn order = ap (λ (xs : List ℕ). codes "command turn " ++ xs) (sym (append_assoc (decimal turn) (codes " player ") (order_rest order))) ∙
+    sym (append_assoc (codes "command turn ") (decimal turn ++ codes " player ") (order_rest order))
 
 plain-rest : (order : PlayerCommand) → order.player < 2 ^ 8 → CommandFits order.command → list_all is_plain (order_rest order) ≡ true
-plain-rest order small fits = all-append is_plain (decimal order.player) (32 ∷ command_text order.command) (plain-decimal order.player (omega arith)) (plain-command order.command fits)
+plain-rest order small fits = all-append is_plain (decimal order.player) (32 ∷ command_text order.command) (plain-decimal order.player (omega arith))
+    (plain-command order.command fits)
 
 pub order_in-line : (turn : ℕ) (order : PlayerCommand) → order.player < 2 ^ 8 → CommandFits order.command → order_in turn (order_line turn order) ≡ Some order
 unfolding order_in
@@ -141,9 +126,11 @@ inner-header setup = all-append is_inner (codes "simlog 1 ") (encode_lower setup
 pub inner-digest_line : (turn : ℕ) (digest : List ℕ) → turn < 2 ^ 64 → list_all is_inner (digest_line turn digest) ≡ true
 inner-digest_line turn digest small =
     let number = inner-plain (decimal turn) (plain-decimal turn small) in
-    all-append is_inner (digest_front turn) (encode_lower digest) (all-append is_inner (codes "turn ") (decimal turn ++ codes " ") refl (all-append is_inner (decimal turn) (codes " ") number refl)) (inner-digits digest)
+    all-append is_inner (digest_front turn) (encode_lower digest) (all-append is_inner (codes "turn ") (decimal turn ++ codes " ") refl
+    (all-append is_inner (decimal turn) (codes " ") number refl)) (inner-digits digest)
 
-pub inner-order_line : (turn : ℕ) (order : PlayerCommand) → turn < 2 ^ 64 → order.player < 2 ^ 8 → CommandFits order.command → list_all is_inner (order_line turn order) ≡ true
+pub inner-order_line : (turn : ℕ) (order : PlayerCommand) → turn < 2 ^ 64 → order.player < 2 ^ 8 → CommandFits order.command
+    → list_all is_inner (order_line turn order) ≡ true
 inner-order_line turn order small player fits =
     inner-plain (order_line turn order) (all-append is_plain (codes "command turn ") (decimal turn ++ (codes " player " ++ order_rest order)) refl
     (all-append is_plain (decimal turn) (codes " player " ++ order_rest order) (plain-decimal turn small) (plain-rest order player fits)))

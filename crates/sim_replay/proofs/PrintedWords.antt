@@ -1,21 +1,11 @@
 -- Printed numbers and ids are words, and are read as themselves.
-use Rattle.std.proofs.Common.{◌≡◌, ℕ, zero, suc, ◌+◌, ◌*◌, ◌/◌, ◌%◌, ◌^◌, ◌<◌, ◌≤◌, Bool, true, false, cond, leb, ltb, eqb, ◌&&◌, List, [], ◌∷◌, ◌++◌, map, drop, length, ℤ, pos, negsuc, ◌==◌, Option, Some, None, refl, sym, ap, ◌∙◌, arith}
-use Rattle.std.specs.Prelude.{codes, decimal, flat_map, int_lt, FitsSigned}
-use Rattle.std.specs.List.{list_all, slice_split, AllByRecursion}
-use Rattle.std.specs.Str.{bytes_eq}
-use Rattle.std.specs.Str.Parse.{digits_value}
-use Rattle.std.specs.Int.{w32, div_ceil}
-use Rattle.std.proofs.lemmas.Bool.{and_from, and_parts, and_left, lt-ltb, leb-true, ne_eqb, cond-true, cond-false}
-use Rattle.std.proofs.lemmas.Int.{ints}
-use Rattle.std.proofs.lemmas.List.{append-nil, append_assoc}
-use Rattle.std.proofs.lemmas.Fmt.{decimal_nonempty, digits_decimal, digits_value-decimal}
-use Rattle.sim_base.specs.NumberText.{is_digit, five_digits, fraction_text, magnitude_text, text_of}
-use Rattle.sim_base.specs.Names.{is_name_byte}
-use Rattle.sim_base.proofs.NumberTextLemmas.{are_numerals}
-use Rattle.sim_report.specs.Downs.{next_id, ids_text}
-use Rattle.sim_replay.specs.Words.{below, natural_of, naturals_behind, ids_of}
-use Rattle.sim_replay.proofs.Options.{bind_some}
-use Rattle.sim_replay.proofs.Cuts.{all-weaker, all-append, all-drop, digit_is_name, digit_is_no_comma, split_first, split_whole}
+use Rattle.sim_replay.proofs.{Common.text_of, Common.w32, Common.◌∙◌, Options.bind_some}
+use Rattle.sim_replay.proofs.Common.{and_left, and_parts, ap, append-nil, append_assoc, are_numerals, arith, below, cond-false, cond-true, decimal_nonempty}
+use Rattle.sim_replay.proofs.Common.{digits_decimal, digits_value, digits_value-decimal, div_ceil, five_digits, fraction_text, ids_of, ids_text, ints, is_digit}
+use Rattle.sim_replay.proofs.Common.{drop, ℤ, pos, negsuc, ◌==◌, int_lt, FitsSigned, Some, codes, bytes_eq, decimal, flat_map, refl, AllByRecursion, and_from}
+use Rattle.sim_replay.proofs.Common.{is_name_byte, leb-true, list_all, lt-ltb, magnitude_text, natural_of, naturals_behind, ne_eqb, next_id, slice_split, sym}
+use Rattle.sim_replay.proofs.Common.{◌≡◌, ℕ, suc, ◌+◌, ◌*◌, ◌/◌, ◌%◌, ◌^◌, ◌<◌, ◌≤◌, Bool, true, false, cond, eqb, ltb, leb, List, [], ◌∷◌, ◌++◌, map, length}
+use Rattle.sim_replay.proofs.Cuts.{all-append, all-drop, all-weaker, digit_is_name, digit_is_no_comma, split_first, split_whole}
 
 -- ---- whole numbers
 
@@ -40,7 +30,8 @@ natural_of-decimal n h =
 -- ---- numbers with a fraction
 
 name-five_digits : (n : ℕ) → n < 2 ^ 64 → list_all is_name_byte (five_digits n) ≡ true
-name-five_digits n fits = all-append is_name_byte (drop (length (decimal n)) (codes "00000")) (decimal n) (all-drop is_name_byte (length (decimal n)) (codes "00000") refl) (name-decimal n fits)
+name-five_digits n fits = all-append is_name_byte (drop (length (decimal n)) (codes "00000")) (decimal n)
+    (all-drop is_name_byte (length (decimal n)) (codes "00000") refl) (name-decimal n fits)
 
 name-fraction : (f : ℕ) → f < 65536 → list_all is_name_byte (fraction_text f) ≡ true
 name-fraction f small = by (f == 0)
@@ -50,14 +41,16 @@ name-fraction f small = by (f == 0)
     by false = name-five_digits (div_ceil (f * 100000) 65536) (omega arith)
 
 name-magnitude : (n : ℕ) → n < 2 ^ 32 → list_all is_name_byte (magnitude_text n) ≡ true
-name-magnitude n h = all-append is_name_byte (decimal (n / 65536)) (fraction_text (n % 65536)) (name-decimal (n / 65536) (omega arith)) (name-fraction (n % 65536) (omega arith))
+name-magnitude n h = all-append is_name_byte (decimal (n / 65536)) (fraction_text (n % 65536)) (name-decimal (n / 65536) (omega arith))
+    (name-fraction (n % 65536) (omega arith))
 
 name-sign : (b : Bool) → list_all is_name_byte (cond b (codes "-") []) ≡ true
 name-sign true = refl
 name-sign false = refl
 
 pub name-text_of : (z : ℤ) → FitsSigned w32 z → list_all is_name_byte (text_of z) ≡ true
-name-text_of (pos n) fits = all-append is_name_byte (cond (int_lt (pos n) (pos 0)) (codes "-") []) (magnitude_text n) (name-sign (int_lt (pos n) (pos 0))) (name-magnitude n (omega (arith, ints)))
+name-text_of (pos n) fits = all-append is_name_byte (cond (int_lt (pos n) (pos 0)) (codes "-") []) (magnitude_text n) (name-sign (int_lt (pos n) (pos 0)))
+    (name-magnitude n (omega (arith, ints)))
 name-text_of (negsuc n) fits = all-append is_name_byte (codes "-") (magnitude_text (suc n)) refl (name-magnitude (suc n) (omega (arith, ints)))
 
 -- ---- ids
@@ -70,9 +63,11 @@ pub name-ids_text : (ids : List ℕ) → AllByRecursion (λ id. id < 2 ^ 32) ids
 name-ids_text [] fit = refl
 name-ids_text (id ∷ ids) fit = all-append is_name_byte (decimal id) (flat_map next_id ids) (name-decimal id (omega (arith, fit.0))) (name-more ids fit.1)
 
-split-ids : (id : ℕ) (ids : List ℕ) → AllByRecursion (λ id. id < 2 ^ 32) (id ∷ ids) → slice_split (λ b. b == 44) (decimal id ++ flat_map next_id ids) ≡ map decimal (id ∷ ids)
+split-ids : (id : ℕ) (ids : List ℕ) → AllByRecursion (λ id. id < 2 ^ 32) (id ∷ ids) → slice_split (λ b. b == 44) (decimal id ++ flat_map next_id ids) ≡
+    map decimal (id ∷ ids)
 split-ids id [] fit =
-    ap (slice_split (λ b. b == 44)) (append-nil (decimal id)) ∙ split_whole (λ b. b == 44) is_digit digit_is_no_comma (decimal id) (digits-decimal id (omega (arith, fit.0)))
+    ap (slice_split (λ b. b == 44)) (append-nil (decimal id)) ∙ split_whole (λ b. b == 44) is_digit digit_is_no_comma (decimal id)
+    (digits-decimal id (omega (arith, fit.0)))
 split-ids id (next ∷ ids) fit =
     split_first (λ b. b == 44) is_digit digit_is_no_comma (decimal id) 44 (decimal next ++ flat_map next_id ids) (digits-decimal id (omega (arith, fit.0))) refl
     ∙ ap (λ (words : List (List ℕ)). decimal id ∷ words) (split-ids next ids fit.1)
@@ -80,7 +75,8 @@ split-ids id (next ∷ ids) fit =
 naturals-decimals : (found ids : List ℕ) → AllByRecursion (λ id. id < 2 ^ 32) ids → naturals_behind found (map decimal ids) ≡ Some (found ++ ids)
 naturals-decimals found [] fit = ap Some (sym (append-nil found))
 naturals-decimals found (id ∷ ids) fit =
-    bind_some (natural_of (decimal id)) id _ _ (natural_of-decimal id fit.0) (naturals-decimals (found ++ id ∷ []) ids fit.1 ∙ ap Some (append_assoc found (id ∷ []) ids))
+    bind_some (natural_of (decimal id)) id _ _ (natural_of-decimal id fit.0) (naturals-decimals (found ++ id ∷ []) ids fit.1 ∙
+    ap Some (append_assoc found (id ∷ []) ids))
 
 -- digits are no dash
 not_dash : (ds rest : List ℕ) → 1 ≤ length ds → list_all is_digit ds ≡ true → bytes_eq (ds ++ rest) (codes "-") ≡ false
@@ -94,5 +90,6 @@ unfolding ids_of
 ids_of-ids_text [] fit = refl
 ids_of-ids_text (id ∷ ids) fit =
     let small : id < 2 ^ 64 = omega (arith, fit.0) in
-    let digits : bytes_eq (decimal id ++ flat_map next_id ids) (codes "-") ≡ false = not_dash (decimal id) (flat_map next_id ids) (decimal_nonempty id small) (digits-decimal id small) in
+    let digits : bytes_eq (decimal id ++ flat_map next_id ids) (codes "-") ≡ false = not_dash (decimal id) (flat_map next_id ids) (decimal_nonempty id small)
+    (digits-decimal id small) in
     cond-false _ _ _ digits ∙ ap (naturals_behind []) (split-ids id ids fit) ∙ naturals-decimals [] (id ∷ ids) fit

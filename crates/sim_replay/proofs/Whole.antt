@@ -1,27 +1,15 @@
 -- Bytes that are read are the text of the log, and those that are refused are the text of none.
-use Rattle.std.proofs.Common.{◌≡◌, ◌≢◌, ℕ, zero, suc, ◌+◌, ◌-◌, ◌^◌, ◌<◌, ◌≤◌, Bool, true, false, cond, eqb, ◌==◌, List, [], ◌∷◌, ◌++◌, take, drop, map, length, Option, Some, None, Result, Ok, Err, refl, ap, ◌∙◌, sym, subst, arith, inl, inr}
-use Rattle.std.specs.Prelude.{flat_map, All}
-use Rattle.std.specs.List.{list_all, slice_split, join_with_byte}
-use Rattle.std.specs.Str.{bytes_eq}
-use Rattle.std.proofs.Math.Seq.{take-append_seam}
-use Rattle.std.proofs.lemmas.Bool.{cond-true, cond-false, eqb-true, false≢true, cases_lt}
-use Rattle.std.proofs.lemmas.List.{append-nil, append_assoc, length-append, take_all, take-take, take-append-drop}
-use Rattle.std.proofs.lemmas.List.Elements.{All-nil, All-cons, All-head, All-tail, All-append, All-map, All-weaker}
-use Rattle.std.proofs.lemmas.List.Splits.{length-slice_split, join_with_byte-slice_split}
-use Rattle.std.proofs.lemmas.Slice.Eq.{bytes_eq-Decides}
-use Rattle.sim_base.specs.declared.command.PlayerCommand.{PlayerCommand}
-use Rattle.sim_base.specs.declared.setup.Setup.{Setup}
-use Rattle.sim_bytes.specs.Reading.{◌>>=◌}
-use Rattle.sim_replay.specs.declared.log.Log.{Log}
-use Rattle.sim_replay.specs.declared.reading.Reading.{Reading}
-use Rattle.sim_replay.specs.Lines.{header_line, order_line, digest_line}
-use Rattle.sim_replay.specs.Logs.{IsOrder, AreOrders, IsDigest, IsLog, turn_lines, lines_from, log_lines, ended, text_of_log, parts_of, whole_lines, BeginsLog, IsRefusedAt}
-use Rattle.sim_replay.specs.Reading.{nothing, taken, log_in, or_refused, next_or_refused, read_parts, log_of_parts, log_of}
-use Rattle.sim_replay.proofs.Options.{bind_some, bind_none}
-use Rattle.sim_replay.proofs.Cuts.{is_inner, inner_is_no_end, split_first, bytes_eq-same}
-use Rattle.sim_replay.proofs.PrintedLines.{inner-header, inner-digest_line, inner-order_line}
-use Rattle.sim_replay.proofs.Taking.{Spells, spells-nothing}
-use Rattle.sim_replay.proofs.Ending.{Ends, ends-log, begins-read, taken_all, Front, front, spells-all, Small, between, log-taken, log_in-log}
+use Rattle.sim_replay.proofs.{Cuts.bytes_eq-same, Cuts.inner_is_no_end, Cuts.is_inner, Cuts.split_first, Taking.spells-nothing}
+use Rattle.sim_replay.proofs.{Options.bind_none, Options.bind_some, PrintedLines.inner-digest_line, PrintedLines.inner-header, PrintedLines.inner-order_line}
+use Rattle.sim_replay.proofs.Common.{All-nil, All-tail, All-weaker, ap, append-nil, append_assoc, AreOrders, arith, BeginsLog, bytes_eq-Decides, cases_lt}
+use Rattle.sim_replay.proofs.Common.{Reading, Setup, slice_split, subst, sym, take-append-drop, take-append_seam, take-take, take_all, taken, text_of_log}
+use Rattle.sim_replay.proofs.Common.{cond-false, cond-true, digest_line, ended, eqb-true, false≢true, header_line, inl, inr, IsLog, IsOrder, IsRefusedAt}
+use Rattle.sim_replay.proofs.Common.{drop, ◌==◌, Some, None, Ok, Err, bytes_eq, All, flat_map, Option, Result, refl, All-append, All-cons, All-head, All-map}
+use Rattle.sim_replay.proofs.Common.{join_with_byte, join_with_byte-slice_split, length-append, length-slice_split, lines_from, list_all, Log, log_in}
+use Rattle.sim_replay.proofs.Common.{log_lines, log_of, log_of_parts, next_or_refused, nothing, or_refused, order_line, parts_of, PlayerCommand, read_parts}
+use Rattle.sim_replay.proofs.Common.{turn_lines, whole_lines, ◌>>=◌, ◌∙◌}
+use Rattle.sim_replay.proofs.Common.{◌≡◌, ℕ, zero, suc, ◌+◌, ◌-◌, ◌^◌, ◌<◌, ◌≤◌, Bool, true, false, cond, eqb, ◌≢◌, List, [], ◌∷◌, ◌++◌, map, length, take}
+use Rattle.sim_replay.proofs.Ending.{begins-read, between, ends-log, Front, front, log-taken, log_in-log, Small, spells-all, taken_all}
 
 -- ---- the parts of a text of lines
 
@@ -35,7 +23,8 @@ parts-ended (line ∷ lines) inner =
 joined-ended : (lines : List (List ℕ)) → join_with_byte 10 (lines ++ [] ∷ []) ≡ flat_map ended lines
 joined-ended [] = refl
 joined-ended (line ∷ []) = sym (append-nil (line ++ 10 ∷ []))
-joined-ended (line ∷ next ∷ lines) = ap (λ (bytes : List ℕ). line ++ (10 ∷ bytes)) (joined-ended (next ∷ lines)) ∙ sym (append_assoc line (10 ∷ []) (flat_map ended (next ∷ lines)))
+joined-ended (line ∷ next ∷ lines) = ap (λ (bytes : List ℕ). line ++ (10 ∷ bytes)) (joined-ended (next ∷ lines)) ∙
+    sym (append_assoc line (10 ∷ []) (flat_map ended (next ∷ lines)))
 
 -- parts are lines, and what stands behind the last line feed
 record Lined (parts : List (List ℕ)) : Type 0 where
@@ -58,19 +47,24 @@ whole-is bytes lines rest e =
 
 -- ---- the lines of a log
 
-inner-turn : (setup : Setup) (turn : ℕ) (orders : List PlayerCommand) (digest : List ℕ) → Small setup → turn < 2 ^ 64 → AreOrders setup orders → All (λ line. list_all is_inner line ≡ true) (turn_lines turn orders digest)
+inner-turn : (setup : Setup) (turn : ℕ) (orders : List PlayerCommand) (digest : List ℕ) → Small setup → turn < 2 ^ 64 → AreOrders setup orders
+    → All (λ line. list_all is_inner line ≡ true) (turn_lines turn orders digest)
 inner-turn setup turn orders digest small below are =
     All-append (λ line. list_all is_inner line ≡ true) (map (order_line turn) orders) (digest_line turn digest ∷ [])
     (All-map (λ line. list_all is_inner line ≡ true) (order_line turn) orders
-    (All-weaker (IsOrder setup) (λ (o : PlayerCommand). list_all is_inner (order_line turn o) ≡ true) (λ o is. inner-order_line turn o below (omega (arith, is.player.1, small.players)) is.fits) orders are.each))
-    (All-cons (λ line. list_all is_inner line ≡ true) (digest_line turn digest) [] (inner-digest_line turn digest below) (All-nil (λ line. list_all is_inner line ≡ true)))
+    (All-weaker (IsOrder setup) (λ (o : PlayerCommand). list_all is_inner (order_line turn o) ≡ true)
+    (λ o is. inner-order_line turn o below (omega (arith, is.player.1, small.players)) is.fits) orders are.each))
+    (All-cons (λ line. list_all is_inner line ≡ true) (digest_line turn digest) [] (inner-digest_line turn digest below)
+    (All-nil (λ line. list_all is_inner line ≡ true)))
 
-inner-turns : (setup : Setup) (turn : ℕ) (turns : List (List PlayerCommand)) (digests : List (List ℕ)) → Small setup → turn + length turns < 2 ^ 64 → All (AreOrders setup) turns → All (λ line. list_all is_inner line ≡ true) (lines_from turn turns digests)
+inner-turns : (setup : Setup) (turn : ℕ) (turns : List (List PlayerCommand)) (digests : List (List ℕ)) → Small setup → turn + length turns < 2 ^ 64
+    → All (AreOrders setup) turns → All (λ line. list_all is_inner line ≡ true) (lines_from turn turns digests)
 inner-turns setup turn [] digests small below are = All-nil (λ line. list_all is_inner line ≡ true)
 inner-turns setup turn (o ∷ os) [] small below are = All-nil (λ line. list_all is_inner line ≡ true)
 inner-turns setup turn (o ∷ os) (d ∷ ds) small below are =
     All-append (λ line. list_all is_inner line ≡ true) (turn_lines turn o d) (lines_from (turn + 1) os ds)
-    (inner-turn setup turn o d small (omega arith) (All-head (AreOrders setup) o os are)) (inner-turns setup (turn + 1) os ds small (omega arith) (All-tail (AreOrders setup) o os are))
+    (inner-turn setup turn o d small (omega arith) (All-head (AreOrders setup) o os are))
+    (inner-turns setup (turn + 1) os ds small (omega arith) (All-tail (AreOrders setup) o os are))
 
 inner-log : (setup : Setup) (log : Log) → Small setup → IsLog setup log → All (λ line. list_all is_inner line ≡ true) (log_lines setup log)
 inner-log setup log small is =
@@ -84,7 +78,8 @@ inner-log setup log small is =
 abbrev last_of : Reading → ℕ → List ℕ → Result Log ℕ
 last_of read number rest = cond (length rest == 0) (or_refused number (log_in read)) (Err number)
 
-step : (setup : Setup) (read : Reading) (number : ℕ) (line : List ℕ) (parts : List (List ℕ)) → 0 < length parts → read_parts setup read number (line ∷ parts) ≡ next_or_refused number (taken setup read line) (λ next. read_parts setup next (number + 1) parts)
+step : (setup : Setup) (read : Reading) (number : ℕ) (line : List ℕ) (parts : List (List ℕ)) → 0 < length parts → read_parts setup read number (line ∷ parts) ≡
+    next_or_refused number (taken setup read line) (λ next. read_parts setup next (number + 1) parts)
 unfolding read_parts
 step setup read number line [] some = absurd (omega arith)
 step setup read number line (part ∷ parts) some = refl
@@ -92,7 +87,8 @@ step setup read number line (part ∷ parts) some = refl
 some_parts : (lines : List (List ℕ)) (rest : List ℕ) → 0 < length (lines ++ rest ∷ [])
 some_parts lines rest = omega (arith, length-append lines (rest ∷ []))
 
-all-read : (setup : Setup) (read last : Reading) (number : ℕ) (lines : List (List ℕ)) (rest : List ℕ) → taken_all setup read lines ≡ Some last → read_parts setup read number (lines ++ rest ∷ []) ≡ last_of last (number + length lines) rest
+all-read : (setup : Setup) (read last : Reading) (number : ℕ) (lines : List (List ℕ)) (rest : List ℕ) → taken_all setup read lines ≡ Some last
+    → read_parts setup read number (lines ++ rest ∷ []) ≡ last_of last (number + length lines) rest
 unfolding read_parts
 all-read setup read last number [] rest e =
     let same : read ≡ last = cc in
@@ -100,12 +96,15 @@ all-read setup read last number [] rest e =
     ap (λ (r : Reading). last_of r number rest) same ∙ ap (λ (n : ℕ). last_of last n rest) count
 all-read setup read last number (line ∷ lines) rest e = by (λ next h. all-read setup next last (number + 1) lines rest h) (taken setup read line) refl e
   where
-    by : ((next : Reading) → taken_all setup next lines ≡ Some last → read_parts setup next (number + 1) (lines ++ rest ∷ []) ≡ last_of last (number + 1 + length lines) rest)
-        → (o : Option Reading) → taken setup read line ≡ o → (o >>= λ next. taken_all setup next lines) ≡ Some last → read_parts setup read number (line ∷ (lines ++ rest ∷ [])) ≡ last_of last (number + length (line ∷ lines)) rest
+    by : ((next : Reading) → taken_all setup next lines ≡ Some last → read_parts setup next (number + 1) (lines ++ rest ∷ []) ≡ last_of last
+        (number + 1 + length lines) rest)
+        → (o : Option Reading) → taken setup read line ≡ o → (o >>= λ next. taken_all setup next lines) ≡ Some last
+        → read_parts setup read number (line ∷ (lines ++ rest ∷ [])) ≡ last_of last (number + length (line ∷ lines)) rest
     by more None is h = absurd cc
     by more (Some next) is h =
         let count : number + 1 + length lines ≡ number + length (line ∷ lines) = omega arith in
-        step setup read number line (lines ++ rest ∷ []) (some_parts lines rest) ∙ ap (λ (o : Option Reading). next_or_refused number o (λ n. read_parts setup n (number + 1) (lines ++ rest ∷ []))) is
+        step setup read number line (lines ++ rest ∷ []) (some_parts lines rest) ∙
+        ap (λ (o : Option Reading). next_or_refused number o (λ n. read_parts setup n (number + 1) (lines ++ rest ∷ []))) is
         ∙ more next h ∙ ap (λ (n : ℕ). last_of last n rest) count
 
 -- the lines before the one that is refused were taken
@@ -117,18 +116,21 @@ record Stopped (setup : Setup) (read : Reading) (number : ℕ) (lines : List (Li
   here : taken_all setup read (take (count + 1) lines) ≡ None
   gives : read_parts setup read number (lines ++ rest ∷ []) ≡ Err (number + count)
 
-stopped : (setup : Setup) (read : Reading) (number : ℕ) (lines : List (List ℕ)) (rest : List ℕ) → taken_all setup read lines ≡ None → Stopped setup read number lines rest
+stopped : (setup : Setup) (read : Reading) (number : ℕ) (lines : List (List ℕ)) (rest : List ℕ) → taken_all setup read lines ≡ None
+    → Stopped setup read number lines rest
 stopped setup read number [] rest e = absurd cc
 stopped setup read number (line ∷ lines) rest e = by (λ next h. stopped setup next (number + 1) lines rest h) (taken setup read line) refl e
   where
-    by : ((next : Reading) → taken_all setup next lines ≡ None → Stopped setup next (number + 1) lines rest) → (o : Option Reading) → taken setup read line ≡ o → (o >>= λ next. taken_all setup next lines) ≡ None → Stopped setup read number (line ∷ lines) rest
+    by : ((next : Reading) → taken_all setup next lines ≡ None → Stopped setup next (number + 1) lines rest) → (o : Option Reading) → taken setup read line ≡ o
+        → (o >>= λ next. taken_all setup next lines) ≡ None → Stopped setup read number (line ∷ lines) rest
     by later None is h = record {
       count = 0;
       less = omega arith;
       mid = read;
       before = refl;
       here = bind_none (taken setup read line) _ is;
-      gives = step setup read number line (lines ++ rest ∷ []) (some_parts lines rest) ∙ ap (λ (o : Option Reading). next_or_refused number o (λ n. read_parts setup n (number + 1) (lines ++ rest ∷ []))) is
+      gives = step setup read number line (lines ++ rest ∷ []) (some_parts lines rest) ∙
+          ap (λ (o : Option Reading). next_or_refused number o (λ n. read_parts setup n (number + 1) (lines ++ rest ∷ []))) is
           ∙ ap Err (omega arith);
     }
     by later (Some next) is h =
@@ -140,7 +142,8 @@ stopped setup read number (line ∷ lines) rest e = by (λ next h. stopped setup
           mid = s.mid;
           before = bind_some (taken setup read line) next _ _ is s.before;
           here = ap (λ (n : ℕ). taken_all setup read (take n (line ∷ lines))) more ∙ bind_some (taken setup read line) next _ _ is s.here;
-          gives = step setup read number line (lines ++ rest ∷ []) (some_parts lines rest) ∙ ap (λ (o : Option Reading). next_or_refused number o (λ n. read_parts setup n (number + 1) (lines ++ rest ∷ []))) is
+          gives = step setup read number line (lines ++ rest ∷ []) (some_parts lines rest) ∙
+              ap (λ (o : Option Reading). next_or_refused number o (λ n. read_parts setup n (number + 1) (lines ++ rest ∷ []))) is
               ∙ s.gives ∙ ap Err (omega arith);
         }
 
@@ -185,19 +188,22 @@ record Refuses (setup : Setup) (lines : List (List ℕ)) (line : ℕ) : Type 0 w
 
 -- some log begins
 begins-any : (setup : Setup) → BeginsLog setup []
-begins-any setup = let b = begins-read setup nothing [] (spells-nothing setup) in record { log = b.log; is_log = b.is_log; others = log_lines setup b.log; begins = refl }
+begins-any setup = let b = begins-read setup nothing [] (spells-nothing setup) in
+    record { log = b.log; is_log = b.is_log; others = log_lines setup b.log; begins = refl }
 
 heads : {X : Type 0} (x y : X) (xs ys : List X) → x ∷ xs ≡ y ∷ ys → (x ≡ y) × (xs ≡ ys)
 heads x y xs ys e = (cc, cc)
 
-refuses-header : (setup : Setup) (lines : List (List ℕ)) → ((line : List ℕ) (more : List (List ℕ)) → lines ≡ line ∷ more → bytes_eq line (header_line setup) ≡ false) → Refuses setup lines 1
+refuses-header : (setup : Setup) (lines : List (List ℕ)) → ((line : List ℕ) (more : List (List ℕ)) → lines ≡ line ∷ more → bytes_eq line (header_line setup) ≡
+    false) → Refuses setup lines 1
 refuses-header setup lines other = record {
   counted = (omega arith, omega arith);
   begins = begins-any setup;
   most = λ count few b. by lines other count few b;
 }
   where
-    by : (lines : List (List ℕ)) → ((line : List ℕ) (more : List (List ℕ)) → lines ≡ line ∷ more → bytes_eq line (header_line setup) ≡ false) → (count : ℕ) → count ≤ length lines → BeginsLog setup (take count lines) → count < 1
+    by : (lines : List (List ℕ)) → ((line : List ℕ) (more : List (List ℕ)) → lines ≡ line ∷ more → bytes_eq line (header_line setup) ≡ false) → (count : ℕ)
+        → count ≤ length lines → BeginsLog setup (take count lines) → count < 1
     by lines other zero few b = omega arith
     by [] other (suc count) few b = absurd (omega arith)
     by (line ∷ lines) other (suc count) few b =
@@ -205,18 +211,22 @@ refuses-header setup lines other = record {
         absurd (false≢true (sym (other line lines refl) ∙ (bytes_eq-Decides line (header_line setup)).1 (sym h.0)))
 
 -- the first lines of a log, behind the header, are taken
-begun-taken : (setup : Setup) (lines : List (List ℕ)) (count : ℕ) → Small setup → BeginsLog setup (header_line setup ∷ take count lines) → (less : ℕ) → less ≤ count → Front setup nothing (take less lines)
+begun-taken : (setup : Setup) (lines : List (List ℕ)) (count : ℕ) → Small setup → BeginsLog setup (header_line setup ∷ take count lines) → (less : ℕ)
+    → less ≤ count → Front setup nothing (take less lines)
 begun-taken setup lines count small b less few =
     let h = heads (header_line setup) (header_line setup) (lines_from 0 ([] ∷ b.log.turns) b.log.digests) (take count lines ++ b.others) b.begins in
-    let f = front setup nothing (between ([] ∷ b.log.turns) b.log.digests) (take count lines) b.others (ap (taken_all setup nothing) (sym h.1) ∙ log-taken setup b.log small b.is_log) in
+    let f = front setup nothing (between ([] ∷ b.log.turns) b.log.digests) (take count lines) b.others (ap (taken_all setup nothing) (sym h.1) ∙
+    log-taken setup b.log small b.is_log) in
     let cut : take count lines ≡ take less lines ++ drop less (take count lines)
     = sym (take-append-drop less (take count lines)) ∙ ap (λ (ls : List (List ℕ)). ls ++ drop less (take count lines)) (take-take less count lines few) in
     front setup nothing f.mid (take less lines) (drop less (take count lines)) (ap (taken_all setup nothing) (sym cut) ∙ f.taken_are)
 
-refuses-stopped : (setup : Setup) (lines : List (List ℕ)) (rest : List ℕ) → Small setup → (s : Stopped setup nothing 2 lines rest) → Refuses setup (header_line setup ∷ lines) (2 + s.count)
+refuses-stopped : (setup : Setup) (lines : List (List ℕ)) (rest : List ℕ) → Small setup → (s : Stopped setup nothing 2 lines rest)
+    → Refuses setup (header_line setup ∷ lines) (2 + s.count)
 refuses-stopped setup lines rest small s = record {
   counted = (omega arith, omega (arith, s.less));
-  begins = subst (BeginsLog setup) (sym less) (begins-read setup s.mid (take s.count lines) (spells-all setup nothing s.mid [] (take s.count lines) (spells-nothing setup) s.before));
+  begins = subst (BeginsLog setup) (sym less)
+      (begins-read setup s.mid (take s.count lines) (spells-all setup nothing s.mid [] (take s.count lines) (spells-nothing setup) s.before));
   most = λ count few b. by count b;
 }
   where
@@ -229,14 +239,16 @@ refuses-stopped setup lines rest small s = record {
     within : (count : ℕ) → BeginsLog setup (header_line setup ∷ take count lines) → suc count < 2 + s.count
     within count b = elim (cases_lt count (s.count + 1)) [
       | inl below ↦ omega arith
-      | inr above ↦ let f = begun-taken setup lines count small b (s.count + 1) above in absurd (apart (taken_all setup nothing (take (s.count + 1) lines)) f.mid s.here f.taken_are)
+      | inr above ↦ let f = begun-taken setup lines count small b (s.count + 1) above in
+          absurd (apart (taken_all setup nothing (take (s.count + 1) lines)) f.mid s.here f.taken_are)
     ]
 
     by : (count : ℕ) → BeginsLog setup (take count (header_line setup ∷ lines)) → count < 2 + s.count
     by zero b = omega arith
     by (suc count) b = within count b
 
-refuses-end : (setup : Setup) (lines : List (List ℕ)) (last : Reading) → taken_all setup nothing lines ≡ Some last → Refuses setup (header_line setup ∷ lines) (2 + length lines)
+refuses-end : (setup : Setup) (lines : List (List ℕ)) (last : Reading) → taken_all setup nothing lines ≡ Some last → Refuses setup (header_line setup ∷ lines)
+    (2 + length lines)
 refuses-end setup lines last e = record {
   counted = (omega arith, omega arith);
   begins = subst (BeginsLog setup) (sym whole) (begins-read setup last lines (spells-all setup nothing last [] lines (spells-nothing setup) e));
@@ -244,10 +256,12 @@ refuses-end setup lines last e = record {
 }
   where
     whole : take (2 + length lines - 1) (header_line setup ∷ lines) ≡ header_line setup ∷ lines
-    whole = let e : 2 + length lines - 1 ≡ suc (length lines) = omega arith in ap (λ (n : ℕ). take n (header_line setup ∷ lines)) e ∙ ap (λ (ls : List (List ℕ)). header_line setup ∷ ls) (take_all (length lines) lines (omega arith))
+    whole = let e : 2 + length lines - 1 ≡ suc (length lines) = omega arith in ap (λ (n : ℕ). take n (header_line setup ∷ lines)) e ∙
+        ap (λ (ls : List (List ℕ)). header_line setup ∷ ls) (take_all (length lines) lines (omega arith))
 
 -- what is said of bytes whose lines are refused
-refused-bytes : (setup : Setup) (bytes : List ℕ) (lines : List (List ℕ)) (line : ℕ) → Small setup → whole_lines bytes ≡ lines → log_of setup bytes ≡ Err line → Refuses setup lines line → IsRefusedAt setup bytes line
+refused-bytes : (setup : Setup) (bytes : List ℕ) (lines : List (List ℕ)) (line : ℕ) → Small setup → whole_lines bytes ≡ lines → log_of setup bytes ≡ Err line
+    → Refuses setup lines line → IsRefusedAt setup bytes line
 refused-bytes setup bytes lines line small whole e r =
     let f : Refuses setup (whole_lines bytes) line = subst (λ (ls : List (List ℕ)). Refuses setup ls line) (sym whole) r in
     record {
@@ -261,7 +275,8 @@ refused-bytes setup bytes lines line small whole e r =
     apart o log e h = cc
 
 -- what is said of the last reading
-says-last : (setup : Setup) (bytes : List ℕ) (lines : List (List ℕ)) (rest : List ℕ) (last : Reading) → Small setup → parts_of bytes ≡ (header_line setup ∷ lines) ++ rest ∷ [] → taken_all setup nothing lines ≡ Some last
+says-last : (setup : Setup) (bytes : List ℕ) (lines : List (List ℕ)) (rest : List ℕ) (last : Reading) → Small setup
+    → parts_of bytes ≡ (header_line setup ∷ lines) ++ rest ∷ [] → taken_all setup nothing lines ≡ Some last
     → log_of setup bytes ≡ last_of last (2 + length lines) rest → Says setup bytes (log_of setup bytes)
 says-last setup bytes lines rest last small parts all e = by (length rest == 0) (log_in last) refl refl (log_of setup bytes) refl e
   where
@@ -284,7 +299,8 @@ says-last setup bytes lines rest last small parts all e = by (length rest == 0) 
               ∙ joined-ended (header_line setup ∷ lines) ∙ ap (flat_map ended) (sym n.lines_are),
         )
 
-    by : (none : Bool) (o : Option Log) → (length rest == 0) ≡ none → log_in last ≡ o → (r : Result Log ℕ) → log_of setup bytes ≡ r → r ≡ cond none (or_refused (2 + length lines) o) (Err (2 + length lines)) → Says setup bytes r
+    by : (none : Bool) (o : Option Log) → (length rest == 0) ≡ none → log_in last ≡ o → (r : Result Log ℕ) → log_of setup bytes ≡ r
+        → r ≡ cond none (or_refused (2 + length lines) o) (Err (2 + length lines)) → Says setup bytes r
     by true (Some log) n is r same h = subst (Says setup bytes) (sym h) (log_said log n is)
     by true None n is r same h = subst (Says setup bytes) (sym h) (refused (same ∙ h))
     by false o n is r same h = subst (Says setup bytes) (sym h) (refused (same ∙ h))
@@ -297,16 +313,20 @@ says setup bytes small =
     err : (line : ℕ) → log_of setup bytes ≡ Err line → IsRefusedAt setup bytes line → Says setup bytes (log_of setup bytes)
     err line e is = subst (Says setup bytes) (sym e) is
 
-    headed : (lines : List (List ℕ)) (rest : List ℕ) → parts_of bytes ≡ (header_line setup ∷ lines) ++ rest ∷ [] → (o : Option Reading) → taken_all setup nothing lines ≡ o → Says setup bytes (log_of setup bytes)
+    headed : (lines : List (List ℕ)) (rest : List ℕ) → parts_of bytes ≡ (header_line setup ∷ lines) ++ rest ∷ [] → (o : Option Reading)
+        → taken_all setup nothing lines ≡ o → Says setup bytes (log_of setup bytes)
     headed lines rest parts (Some last) all =
         says-last setup bytes lines rest last small parts all
         (ap (log_of_parts setup) parts ∙ behind_header setup (lines ++ rest ∷ []) (some_parts lines rest) ∙ all-read setup nothing last 2 lines rest all)
     headed lines rest parts None all =
         let s = stopped setup nothing 2 lines rest all in
-        let e : log_of setup bytes ≡ Err (2 + s.count) = ap (log_of_parts setup) parts ∙ behind_header setup (lines ++ rest ∷ []) (some_parts lines rest) ∙ s.gives in
-        err (2 + s.count) e (refused-bytes setup bytes (header_line setup ∷ lines) (2 + s.count) small (whole-is bytes (header_line setup ∷ lines) rest parts) e (refuses-stopped setup lines rest small s))
+        let e : log_of setup bytes ≡ Err (2 + s.count) = ap (log_of_parts setup) parts ∙ behind_header setup (lines ++ rest ∷ []) (some_parts lines rest) ∙
+        s.gives in
+        err (2 + s.count) e (refused-bytes setup bytes (header_line setup ∷ lines) (2 + s.count) small (whole-is bytes (header_line setup ∷ lines) rest parts) e
+        (refuses-stopped setup lines rest small s))
 
-    first : (line : List ℕ) (lines : List (List ℕ)) (rest : List ℕ) → parts_of bytes ≡ (line ∷ lines) ++ rest ∷ [] → (same : Bool) → bytes_eq line (header_line setup) ≡ same → Says setup bytes (log_of setup bytes)
+    first : (line : List ℕ) (lines : List (List ℕ)) (rest : List ℕ) → parts_of bytes ≡ (line ∷ lines) ++ rest ∷ [] → (same : Bool)
+        → bytes_eq line (header_line setup) ≡ same → Says setup bytes (log_of setup bytes)
     first line lines rest parts true same =
         let is : line ≡ header_line setup = (bytes_eq-Decides line (header_line setup)).0 same in
         headed lines rest (parts ∙ ap (λ (l : List ℕ). (l ∷ lines) ++ rest ∷ []) is) (taken_all setup nothing lines) refl

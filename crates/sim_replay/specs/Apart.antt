@@ -1,7 +1,6 @@
 -- The first place at which two lists of digests differ.
-use Rattle.std.specs.Prelude.{◌≡◌, ◌≢◌, ℕ, ◌+◌, ◌<◌, List, [], ◌∷◌, length, slice_get, Option, Some, None, if◌then◌else◌}
-use Rattle.std.specs.Str.{bytes_eq}
-use Rattle.sim_replay.specs.declared.apart.Apart.{Apart}
+use Rattle.{sim_replay.specs.declared.apart.Apart.Apart, std.specs.Str.bytes_eq}
+use Rattle.std.specs.Prelude.{◌≡◌, ℕ, ◌+◌, ◌<◌, ◌≢◌, List, [], ◌∷◌, length, if◌then◌else◌, slice_get, Some, None, Option}
 
 -- the first turn from this one on whose digests differ
 abbrev pub apart_from : ℕ → List (List ℕ) → List (List ℕ) → Option Apart

@@ -1,13 +1,10 @@
 -- Commands as texts, read in any spelling: the words that every command of a kind has are passed over.
-use Rattle.std.specs.Prelude.{ℕ, ◌^◌, List, codes, Option, Some, None, option_map, if◌then◌else◌}
+use Rattle.std.specs.Prelude.{ℕ, ◌^◌, List, if◌then◌else◌, Some, None, codes, Option, option_map}
 use Rattle.std.specs.Str.{bytes_eq}
-use Rattle.sim_base.specs.declared.place.Point.{Point}
-use Rattle.sim_base.specs.declared.command.Command.{Command}
-use Rattle.sim_base.specs.declared.command.Command.TheVariants.{Walk, Stop, Attack, Delete, Place, Train, Resign}
-use Rattle.sim_base.specs.declared.command.PlayerCommand.{PlayerCommand}
-use Rattle.sim_base.specs.NumberText.{number_of}
+use Rattle.sim_base.specs.{NumberText.number_of, declared.command.Command.Command, declared.command.PlayerCommand.PlayerCommand, declared.place.Point.Point}
+use Rattle.sim_base.specs.declared.command.Command.TheVariants.{Attack, Delete, Place, Resign, Stop, Train, Walk}
 use Rattle.sim_bytes.specs.Reading.{◌>>=◌}
-use Rattle.sim_replay.specs.Words.{first_word, other_words, natural_of, natural_below, ids_of}
+use Rattle.sim_replay.specs.Words.{first_word, ids_of, natural_below, natural_of, other_words}
 
 -- a point from both coordinates
 unfoldable pub point_of : List ℕ → Option Point

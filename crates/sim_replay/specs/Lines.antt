@@ -1,9 +1,7 @@
 -- The lines of a log, each without the line feed at its end.
+use Rattle.{sim_base.specs.declared.command.PlayerCommand.PlayerCommand, sim_base.specs.declared.setup.Setup.Setup, sim_report.specs.Downs.turn_order_text}
 use Rattle.std.specs.Prelude.{ℕ, List, ◌++◌, codes, decimal}
 use Rattle.hex.specs.Hex.{encode_lower}
-use Rattle.sim_base.specs.declared.command.PlayerCommand.{PlayerCommand}
-use Rattle.sim_base.specs.declared.setup.Setup.{Setup}
-use Rattle.sim_report.specs.Downs.{turn_order_text}
 
 -- the match that a log is of, by its id
 abbrev pub header_line : Setup → List ℕ

@@ -1,13 +1,8 @@
 -- Logs of a match: which logs it has, their lines and their text, and at which line bytes that are none are refused.
-use Rattle.std.specs.Prelude.{◌≡◌, ◌≢◌, ℕ, ◌+◌, ◌-◌, ◌<◌, ◌≤◌, Bool, ◌==◌, List, [], ◌∷◌, ◌++◌, length, take, map, flat_map, count_by, All}
-use Rattle.std.specs.List.{slice_split}
-use Rattle.hex.specs.Hex.{IsBytes}
-use Rattle.sim_base.specs.declared.command.PlayerCommand.{PlayerCommand}
-use Rattle.sim_base.specs.declared.setup.Setup.{Setup}
-use Rattle.sim_base.specs.Limits.{IsFrom}
-use Rattle.sim_wire.specs.Fits.{CommandFits}
-use Rattle.sim_replay.specs.declared.log.Log.{Log}
-use Rattle.sim_replay.specs.Lines.{header_line, order_line, digest_line}
+use Rattle.{hex.specs.Hex.IsBytes, sim_wire.specs.Fits.CommandFits, std.specs.List.slice_split}
+use Rattle.std.specs.Prelude.{◌≡◌, ℕ, ◌+◌, ◌-◌, ◌<◌, ◌≤◌, Bool, ◌≢◌, List, [], ◌∷◌, ◌++◌, map, length, take, ◌==◌, All, count_by, flat_map}
+use Rattle.sim_base.specs.{Limits.IsFrom, declared.command.PlayerCommand.PlayerCommand, declared.setup.Setup.Setup}
+use Rattle.sim_replay.specs.{Lines.digest_line, Lines.header_line, Lines.order_line, declared.log.Log.Log}
 
 -- a command is this player's
 abbrev pub is_by : ℕ → PlayerCommand → Bool

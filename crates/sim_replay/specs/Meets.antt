@@ -1,7 +1,6 @@
 -- What a call that reads a log answers. It may run out of memory, and is else what a definition says.
-use Rattle.std.specs.Prelude.{◌≡◌, ℕ, Result, Ok, Err}
-use Rattle.sim_replay.specs.declared.fault.LogFault.{LogFault}
-use Rattle.sim_replay.specs.declared.fault.LogFault.TheVariants.{Refused, OutOfMemory}
+use Rattle.std.specs.Prelude.{◌≡◌, ℕ, Ok, Err, Result}
+use Rattle.sim_replay.specs.declared.fault.LogFault.{LogFault, TheVariants.OutOfMemory, TheVariants.Refused}
 
 -- an answer is the wanted one, or memory ran out
 abbrev pub Meets : {X : Type 0} → Result X LogFault → Result X ℕ → Type 0

@@ -1,19 +1,12 @@
 -- How a log is read, line by line: a line is read in any spelling, and taken only where it is printed so.
-use Rattle.std.specs.Prelude.{◌≡◌, ℕ, ◌+◌, ◌==◌, ◌&&◌, nat_lt, nat_le, Bool, List, [], ◌∷◌, ◌++◌, length, drop, count_by, Option, Some, None, Result, Ok, Err, if◌then◌else◌}
-use Rattle.std.specs.Result.{result_ok}
-use Rattle.std.specs.Str.{bytes_eq, is_utf8}
+use Rattle.std.specs.{Prelude.Option, Prelude.Result, Result.result_ok, Str.bytes_eq, Str.is_utf8}
+use Rattle.std.specs.Prelude.{◌≡◌, ℕ, ◌+◌, Bool, ◌&&◌, List, [], ◌∷◌, ◌++◌, length, drop, if◌then◌else◌, nat_lt, nat_le, ◌==◌, Some, None, Ok, Err, count_by}
 use Rattle.hex.specs.Hex.{decode_sized}
-use Rattle.sim_base.specs.declared.command.Command.{Command}
-use Rattle.sim_base.specs.declared.command.Command.TheVariants.{Walk, Stop, Attack, Delete, Place, Train, Resign}
-use Rattle.sim_base.specs.declared.command.PlayerCommand.{PlayerCommand}
-use Rattle.sim_base.specs.declared.setup.Setup.{Setup}
+use Rattle.sim_base.specs.declared.{command.Command.Command, command.PlayerCommand.PlayerCommand, setup.Setup.Setup}
+use Rattle.sim_base.specs.declared.command.Command.TheVariants.{Attack, Delete, Place, Resign, Stop, Train, Walk}
 use Rattle.sim_bytes.specs.Reading.{◌>>=◌}
-use Rattle.sim_replay.specs.declared.log.Log.{Log}
-use Rattle.sim_replay.specs.declared.reading.Reading.{Reading}
-use Rattle.sim_replay.specs.Lines.{header_line, order_front, order_line, digest_front, digest_line}
-use Rattle.sim_replay.specs.Logs.{is_by, parts_of}
-use Rattle.sim_replay.specs.Words.{behind}
-use Rattle.sim_replay.specs.Commands.{order_of}
+use Rattle.sim_replay.specs.{Commands.order_of, Words.behind, declared.log.Log.Log, declared.reading.Reading.Reading}
+use Rattle.sim_replay.specs.{Lines.digest_front, Lines.digest_line, Lines.header_line, Lines.order_front, Lines.order_line, Logs.is_by, Logs.parts_of}
 
 -- the digest that hexadecimal digits of either case spell
 abbrev pub digest_of : List ℕ → Option (List ℕ)

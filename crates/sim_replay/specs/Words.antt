@@ -1,9 +1,6 @@
 -- Texts cut into words, and the numbers that words spell. A number may be spelled in more than one way here.
-use Rattle.std.specs.Prelude.{ℕ, ◌^◌, ◌&&◌, ◌==◌, nat_lt, List, [], ◌∷◌, ◌++◌, length, take, drop, codes, Option, Some, None, if◌then◌else◌}
-use Rattle.std.specs.Borrow.{Bor}
-use Rattle.std.specs.List.{list_all, before_first, after_first, slice_split}
-use Rattle.std.specs.Str.{bytes_eq}
-use Rattle.std.specs.Str.Parse.{digits_value}
+use Rattle.std.specs.{Borrow.Bor, List.after_first, List.before_first, List.list_all, List.slice_split, Str.bytes_eq, Str.Parse.digits_value}
+use Rattle.std.specs.Prelude.{ℕ, ◌^◌, ◌&&◌, List, [], ◌∷◌, ◌++◌, length, take, drop, if◌then◌else◌, nat_lt, ◌==◌, Some, None, codes, Option}
 use Rattle.sim_base.specs.NumberText.{is_digit}
 use Rattle.sim_bytes.specs.Reading.{◌>>=◌}
 

@@ -2,8 +2,9 @@
 //! taken later, where it is printed so.
 
 ghost use Rattle.std.specs.Prelude.{◌≡◌, ◌^◌, IfOk};
-ghost use Rattle.sim_replay.specs.Words.{natural_below};
-ghost use Rattle.sim_replay.specs.Commands.{point_of as point_of_text, behind_two as behind_two_words, walk_of as walk_of_text, attack_of as attack_of_text, place_of as place_of_text, train_of as train_of_text, command_by as command_by_kind, order_of as order_of_text};
+ghost use Rattle.sim_replay.specs.{Commands.walk_of as walk_of_text, Words.natural_below};
+ghost use Rattle.sim_replay.specs.Commands.{attack_of as attack_of_text, behind_two as behind_two_words, command_by as command_by_kind};
+ghost use Rattle.sim_replay.specs.Commands.{order_of as order_of_text, place_of as place_of_text, point_of as point_of_text, train_of as train_of_text};
 
 use crate::words::{cut, ids_of, natural};
 use sim_base::{Command, Fixed, OutOfMemory, PlayerCommand, Point};

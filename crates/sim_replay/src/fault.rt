@@ -1,6 +1,6 @@
 //! How bytes that are no log are refused.
 
-ghost use Rattle.std.specs.Prelude.{◌≢◌, ◌^◌, ◌<◌};
+ghost use Rattle.std.specs.Prelude.{◌^◌, ◌<◌, ◌≢◌};
 ghost use Rattle.sim_replay.specs.Meets.{Tells};
 
 use sim_base::OutOfMemory;

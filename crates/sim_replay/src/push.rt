@@ -1,8 +1,7 @@
 //! A whole log, printed.
 
-ghost use Rattle.std.specs.Prelude.{◌≡◌, ◌≤◌, ◌++◌, length, take, map, flat_map, OnOk, OnErr};
-ghost use Rattle.sim_replay.specs.Logs.{IsOfTurns, ended, text_of_log, lines_from};
-ghost use Rattle.sim_replay.specs.Lines.{header_line, order_line, digest_line};
+ghost use Rattle.std.specs.Prelude.{◌≡◌, ◌≤◌, ◌++◌, map, length, take, OnOk, OnErr, flat_map};
+ghost use Rattle.sim_replay.specs.{Lines.digest_line, Lines.header_line, Lines.order_line, Logs.ended, Logs.IsOfTurns, Logs.lines_from, Logs.text_of_log};
 
 use crate::lines::{push_digest_line, push_header};
 use crate::log::{Log, Orders};

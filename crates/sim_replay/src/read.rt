@@ -1,10 +1,8 @@
 //! A whole log, read: the line that names the match first, and then line by line.
 
-ghost use Rattle.std.specs.Prelude.{◌≡◌, ℕ, ◌^◌, ◌<◌, ◌∷◌, [], IfOk, MatchOption};
-ghost use Rattle.sim_replay.specs.declared.log.Log.{Log};
-ghost use Rattle.sim_replay.specs.Meets.{Meets};
-ghost use Rattle.sim_replay.specs.Logs.{IsLog, IsRefusedAt, text_of_log, parts_of};
-ghost use Rattle.sim_replay.specs.Reading.{nothing, read_parts, log_of as log_of_bytes, IsFirstLine};
+ghost use Rattle.std.specs.Prelude.{◌≡◌, ℕ, ◌^◌, ◌<◌, [], ◌∷◌, IfOk, MatchOption};
+ghost use Rattle.sim_replay.specs.{Meets.Meets, Reading.IsFirstLine, Reading.log_of as log_of_bytes, Reading.nothing, Reading.read_parts, declared.log.Log.Log};
+ghost use Rattle.sim_replay.specs.Logs.{IsLog, IsRefusedAt, parts_of, text_of_log};
 
 use crate::fault::{LogFault, refused};
 use crate::log::Log;

@@ -1,8 +1,8 @@
 //! What was read of a log so far.
 
-ghost use Rattle.std.specs.Prelude.{◌≡◌, nat_lt, if◌then◌else◌, length, count_by, IfOk};
+ghost use Rattle.std.specs.Prelude.{◌≡◌, length, IfOk, if◌then◌else◌, nat_lt, count_by};
 ghost use Rattle.sim_replay.specs.Logs.{is_by};
-ghost use Rattle.sim_replay.specs.Reading.{ids_in as ids_in_command, may_have, nothing, with_digest, with_order, taken_order, taken_other, taken, log_in};
+ghost use Rattle.sim_replay.specs.Reading.{ids_in as ids_in_command, log_in, may_have, nothing, taken, taken_order, taken_other, with_digest, with_order};
 
 use crate::log::{Digests, Log, Orders, Turns};
 use crate::spelled::{digest_in, order_in};

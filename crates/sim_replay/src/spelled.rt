@@ -1,9 +1,8 @@
 //! A line that is taken only as it is printed: it is read in any spelling, printed, and compared.
 
-ghost use Rattle.std.specs.Prelude.{◌≡◌, IfOk};
-ghost use Rattle.std.specs.Str.{bytes_eq};
-ghost use Rattle.sim_replay.specs.Lines.{header_line, order_line, digest_line};
-ghost use Rattle.sim_replay.specs.Reading.{digest_of as digest_of_text, digest_in as digest_in_line, order_in as order_in_line, spelled};
+ghost use Rattle.std.specs.{Prelude.◌≡◌, Prelude.IfOk, Str.bytes_eq};
+ghost use Rattle.sim_replay.specs.Lines.{digest_line, header_line, order_line};
+ghost use Rattle.sim_replay.specs.Reading.{digest_in as digest_in_line, digest_of as digest_of_text, order_in as order_in_line, spelled};
 
 use crate::commands::order_of;
 use crate::lines::{push_digest_front, push_digest_line, push_header, push_order_front};

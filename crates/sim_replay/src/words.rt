@@ -1,9 +1,8 @@
 //! Words and whole numbers of a text. A number is read in any spelling: which one is printed is seen later.
 
-ghost use Rattle.std.specs.Prelude.{◌≡◌, ◌==◌, [], map, option_map, IfOk};
-ghost use Rattle.std.specs.List.{list_all, slice_split};
+ghost use Rattle.std.specs.{List.list_all, List.slice_split, Prelude.◌≡◌, Prelude.[], Prelude.map, Prelude.IfOk, Prelude.◌==◌, Prelude.option_map};
 ghost use Rattle.sim_base.specs.NumberText.{is_digit};
-ghost use Rattle.sim_replay.specs.Words.{behind as behind_front, first_word, other_words, natural_of, naturals_behind, word_text, ids_of as ids_of_text};
+ghost use Rattle.sim_replay.specs.Words.{behind as behind_front, first_word, ids_of as ids_of_text, natural_of, naturals_behind, other_words, word_text};
 
 use sim_base::{Ids, Items, OutOfMemory};
 use std::alloc::Global;

@@ -1,12 +1,5 @@
 -- A worked line of a state, computed from the definitions.
-use Rattle.std.proofs.Common.{◌≡◌, refl, Some, None, [], ◌∷◌, true}
-use Rattle.std.specs.Prelude.{codes}
-use Rattle.std.specs.Fmt.{digits}
-use Rattle.sim_base.specs.declared.setup.Setup.{Setup}
-use Rattle.sim_base.specs.declared.state.Motion.TheVariants.{Going}
-use Rattle.sim_base.specs.declared.state.Row.{Row}
-use Rattle.sim_base.proofs.ExampleMatches.{mid, post, walker, enemies}
-use Rattle.sim_report.specs.Show.{row_line}
+use Rattle.sim_report.proofs.Common.{◌≡◌, true, [], ◌∷◌, Some, None, codes, refl, digits, enemies, Going, mid, post, Row, row_line, Setup, walker}
 
 -- a match of two templates, of which the second one walks
 abbrev two_kinds : Setup

@@ -1,11 +1,6 @@
 -- A valid state has rows of known templates alone: what a caller of `push_show` owes for a state that it loaded.
-use Rattle.std.proofs.Common.{◌≡◌, ℕ, ◌<◌, List, length, Option, Some, None, refl}
-use Rattle.std.specs.Prelude.{All, MatchOption, slice_get}
-use Rattle.std.proofs.lemmas.Option.{slice_get_within}
-use Rattle.sim_base.specs.declared.setup.Setup.{Setup}
-use Rattle.sim_base.specs.declared.state.State.{State}
-use Rattle.sim_base.specs.Validity.{IsState}
-use Rattle.sim_report.specs.Show.{HasTemplate}
+use Rattle.sim_report.proofs.Common.{slice_get_within, State}
+use Rattle.sim_report.proofs.Common.{◌≡◌, ℕ, ◌<◌, List, length, slice_get, MatchOption, Some, None, All, Option, refl, HasTemplate, IsState, Setup}
 
 -- a place where something stands lies within the list
 within_list : {X : Type 0} (P : X → Type 0) (xs : List X) (i : ℕ) (found : Option X) → slice_get xs i ≡ found → MatchOption found ⊥ P → i < length xs

@@ -1,8 +1,6 @@
 -- The line of one template more.
-use Rattle.std.proofs.Common.{◌≡◌, ℕ, suc, ◌+◌, ◌<◌, ◌≤◌, List, [], ◌∷◌, ◌++◌, length, take, get_or, sym, ap, ◌∙◌, append_assoc, append-nil, arith}
-use Rattle.std.proofs.lemmas.List.{take_more, length-take-le}
-use Rattle.sim_base.specs.declared.template.Template.{Template}
-use Rattle.sim_report.specs.Parts.{template_line, template_lines, parts_text}
+use Rattle.sim_report.proofs.Common.{parts_text, sym, take_more, Template, template_line, template_lines, ◌∙◌}
+use Rattle.sim_report.proofs.Common.{◌≡◌, ℕ, suc, ◌+◌, ◌<◌, List, [], ◌∷◌, ◌++◌, length, get_or, take, ap, append-nil, append_assoc, arith, length-take-le}
 
 -- behind those of others, from a number on
 lines_behind : (number : ℕ) (templates : List Template) (last : Template)

@@ -1,7 +1,7 @@
 -- The lines of the events of a session.
 use Rattle.std.specs.Prelude.{ℕ, List, ◌++◌, codes}
 use Rattle.sim_base.specs.declared.step.Event.{Event}
-use Rattle.sim_base.specs.declared.step.Event.TheVariants.{Start, Order, Play, Join, Load, Refused, Cut, Bend, Notice}
+use Rattle.sim_base.specs.declared.step.Event.TheVariants.{Bend, Cut, Join, Load, Notice, Order, Play, Refused, Start}
 use Rattle.sim_report.specs.Lines.{report_kind, spaced_number, turn_line}
 
 -- the client of an event, before what it did

@@ -1,7 +1,6 @@
 -- The texts of one piece: how the program is called, and the lines that name a turn by its digest.
+use Rattle.{hex.specs.Hex.encode_lower, sim_base.specs.Spelling.is_full_turn}
 use Rattle.std.specs.Prelude.{ℕ, List, ◌++◌, if◌then◌else◌, codes, decimal}
-use Rattle.hex.specs.Hex.{encode_lower}
-use Rattle.sim_base.specs.Spelling.{is_full_turn}
 
 -- how the program is called
 abbrev pub usage_text : List ℕ
@@ -49,7 +48,8 @@ saved_line turn length digest = codes "state" ++ (spaced_number turn ++ (spaced_
 
 -- what a player holds of the ground: how many cells, and how many of these are rooted
 abbrev pub holding_line : ℕ → ℕ → ℕ → List ℕ
-holding_line player held rooted = codes "realm" ++ (spaced_number player ++ (codes " held" ++ (spaced_number held ++ (codes " rooted" ++ (spaced_number rooted ++ codes "\n")))))
+holding_line player held rooted =
+    codes "realm" ++ (spaced_number player ++ (codes " held" ++ (spaced_number held ++ (codes " rooted" ++ (spaced_number rooted ++ codes "\n")))))
 
 -- what a player has in the end, of food and of metal
 abbrev pub stock_line : ℕ → ℕ → ℕ → List ℕ

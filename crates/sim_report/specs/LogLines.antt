@@ -1,6 +1,6 @@
 -- The lines about logs of a match.
 use Rattle.std.specs.Prelude.{ℕ, List, ◌++◌, codes}
-use Rattle.sim_report.specs.Lines.{spaced_number, line_end}
+use Rattle.sim_report.specs.Lines.{line_end, spaced_number}
 
 -- a log that was stored: the word that asked for it, how many turns it has, and how many bytes
 abbrev pub logged_line : List ℕ → ℕ → ℕ → List ℕ

@@ -1,13 +1,7 @@
 -- The templates of a match as text: a line for each, with the parts that it has.
-use Rattle.std.specs.Prelude.{ℕ, ◌+◌, ℤ, List, [], ◌∷◌, ◌++◌, Option, Some, None, codes, decimal}
-use Rattle.sim_base.specs.declared.template.Template.{Template}
-use Rattle.sim_base.specs.declared.template.Resist.{Resist}
-use Rattle.sim_base.specs.declared.template.Harm.{Harm}
-use Rattle.sim_base.specs.declared.template.Base.{Base}
-use Rattle.sim_base.specs.declared.template.Arms.{Arms}
-use Rattle.sim_base.specs.NumberText.{text_of}
-use Rattle.sim_report.specs.Downs.{ids_text}
-use Rattle.sim_report.specs.Show.{health_text}
+use Rattle.{sim_base.specs.NumberText.text_of, sim_report.specs.Downs.ids_text, sim_report.specs.Show.health_text}
+use Rattle.std.specs.Prelude.{ℕ, ◌+◌, List, [], ◌∷◌, ◌++◌, ℤ, Some, None, codes, decimal, Option}
+use Rattle.sim_base.specs.declared.template.{Arms.Arms, Base.Base, Harm.Harm, Resist.Resist, Template.Template}
 
 -- the levels of resistance against each kind of damage, which every template has
 abbrev pub resist_text : Resist → List ℕ

@@ -1,9 +1,7 @@
 -- The text of a place at which two states differ.
-use Rattle.std.specs.Prelude.{ℕ, List, ◌++◌, Option, Some, None, codes, decimal}
-use Rattle.hex.specs.Hex.{encode_lower}
-use Rattle.sim_codec.specs.declared.bits.Part.{Part}
-use Rattle.sim_codec.specs.declared.bits.Part.TheVariants.{Clock, Entity, Position, Owner, Health, Motion, Attack, Stance}
-use Rattle.sim_diff.specs.declared.place.Place.{Place}
+use Rattle.{hex.specs.Hex.encode_lower, sim_codec.specs.declared.bits.Part.Part, sim_diff.specs.declared.place.Place.Place}
+use Rattle.std.specs.Prelude.{ℕ, List, ◌++◌, Some, None, codes, decimal, Option}
+use Rattle.sim_codec.specs.declared.bits.Part.TheVariants.{Attack, Clock, Entity, Health, Motion, Owner, Position, Stance}
 
 -- how a part is printed
 abbrev pub part_name : Part → List ℕ

@@ -1,7 +1,7 @@
 -- The lines that say why something is refused.
 use Rattle.std.specs.Prelude.{ℕ, List, ◌++◌, codes, decimal}
 use Rattle.sim_report.specs.declared.refusal.Refusal.{Refusal}
-use Rattle.sim_report.specs.declared.refusal.Refusal.TheVariants.{Match, Stored, List as OfList, Turn, Sight, Log, Economy}
+use Rattle.sim_report.specs.declared.refusal.Refusal.TheVariants.{List as OfList, Economy, Log, Match, Sight, Stored, Turn}
 
 -- a stored state, for a code, in the file of a name
 abbrev pub stored_text : ℕ → List ℕ → List ℕ

@@ -1,15 +1,7 @@
 -- A state as text: a line of its clock, and a line of each row with the parts that the row has.
-use Rattle.std.specs.Prelude.{ℕ, ◌<◌, Bool, ℤ, List, [], ◌++◌, length, flat_map, Option, Some, None, option_map, unwrap_or, if◌then◌else◌, codes, decimal}
-use Rattle.sim_base.specs.declared.place.Point.{Point}
-use Rattle.sim_base.specs.declared.template.Template.{Template}
-use Rattle.sim_base.specs.declared.setup.Setup.{Setup}
-use Rattle.sim_base.specs.declared.state.Motion.{Motion}
-use Rattle.sim_base.specs.declared.state.Motion.TheVariants.{Still, Going}
-use Rattle.sim_base.specs.declared.state.Aim.{Aim}
-use Rattle.sim_base.specs.declared.state.Row.{Row}
-use Rattle.sim_base.specs.declared.state.State.{State}
-use Rattle.sim_base.specs.Rows.{template_of}
-use Rattle.sim_base.specs.NumberText.{text_of}
+use Rattle.std.specs.Prelude.{ℕ, ◌<◌, Bool, List, [], ◌++◌, length, ℤ, if◌then◌else◌, Some, None, codes, decimal, flat_map, Option, unwrap_or, option_map}
+use Rattle.sim_base.specs.{NumberText.text_of, Rows.template_of, declared.place.Point.Point, declared.setup.Setup.Setup, declared.template.Template.Template}
+use Rattle.sim_base.specs.declared.state.{Aim.Aim, Motion.Motion, Motion.TheVariants.Going, Motion.TheVariants.Still, Row.Row, State.State}
 
 -- the match has the row's template
 abbrev pub HasTemplate : Setup → Row → Type 0

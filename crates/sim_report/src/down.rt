@@ -1,8 +1,8 @@
 //! The messages of the server as text.
 
-ghost use Rattle.std.specs.Prelude.{◌≡◌, ◌++◌, length, take, flat_map, codes, decimal, OnOk, OnErr, string_bytes};
+ghost use Rattle.std.specs.Prelude.{◌≡◌, ◌++◌, length, take, OnOk, OnErr, string_bytes, codes, decimal, flat_map};
+ghost use Rattle.sim_report.specs.Downs.{command_text, down_text, ids_text, next_id, notice_text, order_text, turn_order_text};
 ghost use Rattle.sim_report.specs.Show.{point_text};
-ghost use Rattle.sim_report.specs.Downs.{next_id, ids_text, command_text, order_text, turn_order_text, notice_text, down_text};
 
 use crate::line::report_kind;
 use crate::show::write_point;

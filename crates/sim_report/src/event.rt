@@ -1,8 +1,7 @@
 //! What a session prints of its steps, a line for each event.
 
 ghost use Rattle.std.specs.Prelude.{◌≡◌, ◌++◌, length, take, OnOk, OnErr, string_bytes};
-ghost use Rattle.sim_report.specs.Lines.{turn_line};
-ghost use Rattle.sim_report.specs.Events.{client_text, number_line, notice_line, event_line};
+ghost use Rattle.sim_report.specs.{Events.client_text, Events.event_line, Events.notice_line, Events.number_line, Lines.turn_line};
 
 use crate::line::{append_number, append_turn, report_kind};
 use sim_base::{Event, OutOfMemory};

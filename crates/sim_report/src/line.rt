@@ -1,7 +1,7 @@
 //! The texts of one piece: how the program is called, and the lines that name a turn by its digest.
 
 ghost use Rattle.std.specs.Prelude.{◌≡◌, ◌++◌, length, take, OnOk, OnErr, string_bytes};
-ghost use Rattle.sim_report.specs.Lines.{usage_text, report_kind as kind_of_report, spaced_number, line_end, turn_line, saved_line};
+ghost use Rattle.sim_report.specs.Lines.{line_end, report_kind as kind_of_report, saved_line, spaced_number, turn_line, usage_text};
 
 use sim_base::{OutOfMemory, push_decimal};
 use sim_bytes::push_hex;

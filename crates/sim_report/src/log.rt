@@ -1,7 +1,7 @@
 //! The lines about logs of a match.
 
 ghost use Rattle.std.specs.Prelude.{◌≡◌, ◌++◌, length, take, OnOk, OnErr, string_bytes};
-ghost use Rattle.sim_report.specs.LogLines.{logged_line, agree_line, apart_lines};
+ghost use Rattle.sim_report.specs.LogLines.{agree_line, apart_lines, logged_line};
 
 use crate::line::{append_digest, append_number};
 use sim_base::OutOfMemory;

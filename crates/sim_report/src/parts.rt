@@ -1,8 +1,8 @@
 //! The templates of a match as text: a line for each, with the parts that it has.
 
-ghost use Rattle.std.specs.Prelude.{◌≡◌, ◌++◌, length, take, codes, OnOk, OnErr, string_bytes};
-ghost use Rattle.sim_report.specs.Parts.{parts_text, template_line, heading_text, body_text, deeds_text, resist_text, speed_text, obstruct_text, harm_text, reach_text, pace_text, arms_text, attack_text, train_text};
-ghost use Rattle.sim_report.specs.Show.{health_text};
+ghost use Rattle.std.specs.Prelude.{◌≡◌, ◌++◌, length, take, OnOk, OnErr, string_bytes, codes};
+ghost use Rattle.sim_report.specs.{Parts.reach_text, Parts.resist_text, Parts.speed_text, Parts.template_line, Parts.train_text, Show.health_text};
+ghost use Rattle.sim_report.specs.Parts.{arms_text, attack_text, body_text, deeds_text, harm_text, heading_text, obstruct_text, pace_text, parts_text};
 
 use crate::down::{append_ids, append_number};
 use crate::show::write_fixed;

@@ -1,7 +1,7 @@
 //! The place at which two states differ, as text: which part of which entity, and the bytes that each state has of it.
 
 ghost use Rattle.std.specs.Prelude.{◌≡◌, ◌++◌, OnOk, OnErr, string_bytes};
-ghost use Rattle.sim_report.specs.Places.{place_text, part_name as name_of_part, bits_line};
+ghost use Rattle.sim_report.specs.Places.{bits_line, part_name as name_of_part, place_text};
 
 use sim_base::OutOfMemory;
 use sim_bytes::push_hex;

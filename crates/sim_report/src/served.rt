@@ -1,7 +1,7 @@
 //! The lines of a server: what it tells whom, and what it has come to.
 
 ghost use Rattle.std.specs.Prelude.{◌≡◌, ◌++◌, length, take, OnOk, OnErr, string_bytes};
-ghost use Rattle.sim_report.specs.Downs.{post_line, released_line, kept_line};
+ghost use Rattle.sim_report.specs.Downs.{kept_line, post_line, released_line};
 
 use crate::down::{append_down, append_number};
 use sim_base::OutOfMemory;

@@ -1,8 +1,8 @@
 //! A state as text: a line of its clock, and a line of each row with the parts that the row has.
 
-ghost use Rattle.std.specs.Prelude.{◌≡◌, ◌++◌, All, length, take, OnOk, OnErr, string_bytes};
+ghost use Rattle.std.specs.Prelude.{◌≡◌, ◌++◌, length, take, OnOk, OnErr, string_bytes, All};
 ghost use Rattle.sim_base.specs.NumberText.{text_of};
-ghost use Rattle.sim_report.specs.Show.{HasTemplate, show_text, clock_line, row_line, row_head, point_text, health_text, motion_text, hold_text, attack_text};
+ghost use Rattle.sim_report.specs.Show.{attack_text, clock_line, HasTemplate, health_text, hold_text, motion_text, point_text, row_head, row_line, show_text};
 
 use sim_base::{Aim, Fixed, Motion, OutOfMemory, Point, Row, Setup, State};
 

@@ -2,7 +2,7 @@
 //! cell.
 
 ghost use Rattle.std.specs.Prelude.{◌≡◌, ◌++◌, length, take, OnOk, OnErr, string_bytes};
-ghost use Rattle.sim_report.specs.Lines.{spaced_number, holding_line, map_line};
+ghost use Rattle.sim_report.specs.Lines.{holding_line, map_line, spaced_number};
 
 use crate::line::{append_digest, append_number};
 use sim_base::OutOfMemory;

@@ -1,7 +1,7 @@
 //! The ways of the rows of a state as text: a line for each row that has waypoints ahead.
 
-ghost use Rattle.std.specs.Prelude.{◌≡◌, ◌++◌, length, take, flat_map, OnOk, OnErr, string_bytes};
-ghost use Rattle.sim_report.specs.Ways.{next_point, way_ahead as points_ahead, way_line, row_way, ways_text};
+ghost use Rattle.std.specs.Prelude.{◌≡◌, ◌++◌, length, take, OnOk, OnErr, string_bytes, flat_map};
+ghost use Rattle.sim_report.specs.Ways.{next_point, row_way, way_ahead as points_ahead, way_line, ways_text};
 
 use crate::down::append_number;
 use crate::show::write_point;

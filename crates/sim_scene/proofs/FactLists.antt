@@ -1,18 +1,10 @@
 -- The facts of a list of rows: where a row is changed, leaves or comes, and where a fact is found.
-use Rattle.std.proofs.Common.{◌≡◌, ℕ, ◌+◌, ◌<◌, ◌≤◌, Bool, true, false, cond, not, List, [], ◌∷◌, ◌++◌, map, filter, find, length, Option, Some, None, refl, sym, ap, ◌∙◌, subst, inl, inr, arith}
-use Rattle.std.specs.Prelude.{option_map, option_and_then, nat_lt, ◌==◌}
-use Rattle.std.specs.List.{cons_option}
-use Rattle.std.proofs.lemmas.Bool.{cond_both, eq-eqb, ne_eqb, eqb-true}
-use Rattle.sim_base.specs.declared.setup.Setup.{Setup}
-use Rattle.sim_base.specs.declared.state.Row.{Row}
-use Rattle.sim_base.specs.Rows.{id_of}
-use Rattle.sim_laws.proofs.Members.{Has, Has-of_map, Has-of_filter_map}
-use Rattle.sim_laws.proofs.Rows.{Apart}
-use Rattle.sim_system.specs.declared.fact.Fact.{Fact}
-use Rattle.sim_system.specs.declared.kind.Kind.{Kind}
-use Rattle.sim_system.specs.declared.kind.Kind.TheVariants.{Ground, Range, Watch, Census}
-use Rattle.sim_system.specs.Facts.{fact_of, id_of_fact, keeps, part_for, kept, kept_of}
-use Rattle.sim_system.specs.Notes.{fact_with, without, placed, with_kept, with_changed}
+use Rattle.{sim_system.specs.Facts.kept_of, sim_system.specs.Notes.placed, sim_system.specs.Notes.with_changed, std.proofs.Common.◌+◌, std.specs.Prelude.nat_lt}
+use Rattle.sim_laws.proofs.Members.{Has-of_filter_map, Has-of_map}
+use Rattle.sim_scene.proofs.Common.{Watch, with_kept, without, ◌∙◌}
+use Rattle.sim_scene.proofs.Common.{fact_with, Ground, Has, id_of, id_of_fact, inl, inr, keeps, kept, Kind, ne_eqb, part_for, Range, Row, Setup, subst, sym}
+use Rattle.sim_scene.proofs.Common.{option_map, option_and_then, refl, ap, Apart, arith, Census, cond_both, cons_option, eq-eqb, eqb-true, Fact, fact_of}
+use Rattle.sim_scene.proofs.Common.{◌≡◌, ℕ, ◌<◌, ◌≤◌, Bool, true, false, cond, not, List, [], ◌∷◌, ◌++◌, map, length, ◌==◌, Some, None, filter, find, Option}
 
 -- what is kept of an entity has its id
 part_for-id : (kind : Kind) (fact : Fact) → (part_for kind fact).id ≡ fact.id
@@ -61,31 +53,38 @@ module _ (kind : Kind) (setup : Setup) where
   pub facts-same : (g : Row → Row) (rows : List Row) → ((row : Row) → Has rows row → part (g row) ≡ part row) → facts (map g rows) ≡ facts rows
   facts-same g [] each = refl
   facts-same g (row ∷ rows) each =
-      ap (λ (o : Option Fact). cons_option o (facts (map g rows))) (each row (inl refl)) ∙ ap (cons_option (part row)) (facts-same g rows (λ r h. each r (inr h)))
+      ap (λ (o : Option Fact). cons_option o (facts (map g rows))) (each row (inl refl)) ∙
+      ap (cons_option (part row)) (facts-same g rows (λ r h. each r (inr h)))
 
   cons-map : (h : Fact → Fact) (o : Option Fact) (fs : List Fact) → cons_option (option_map h o) (map h fs) ≡ map h (cons_option o fs)
   cons-map h None fs = refl
   cons-map h (Some f) fs = refl
 
   -- where what is kept of each row is changed, the facts are changed
-  pub facts-map : (g : Row → Row) (h : Fact → Fact) (rows : List Row) → ((row : Row) → part (g row) ≡ option_map h (part row)) → facts (map g rows) ≡ map h (facts rows)
+  pub facts-map : (g : Row → Row) (h : Fact → Fact) (rows : List Row) → ((row : Row) → part (g row) ≡ option_map h (part row))
+      → facts (map g rows) ≡ map h (facts rows)
   facts-map g h [] each = refl
   facts-map g h (row ∷ rows) each =
-      ap (λ (o : Option Fact). cons_option o (facts (map g rows))) (each row) ∙ ap (cons_option (option_map h (part row))) (facts-map g h rows each) ∙ cons-map h (part row) (facts rows)
+      ap (λ (o : Option Fact). cons_option o (facts (map g rows))) (each row) ∙ ap (cons_option (option_map h (part row))) (facts-map g h rows each) ∙
+      cons-map h (part row) (facts rows)
 
   -- the row with an id is changed
   abbrev pub changing : ℕ → (Row → Row) → Row → Row
   changing id changed row = cond (row.id == id) (changed row) row
 
-  pub facts-unchanged : (id : ℕ) (changed : Row → Row) (rows : List Row) → ((row : Row) → Has rows row → row.id ≡ id → part (changed row) ≡ part row) → facts (map (changing id changed) rows) ≡ facts rows
+  pub facts-unchanged : (id : ℕ) (changed : Row → Row) (rows : List Row) → ((row : Row) → Has rows row → row.id ≡ id → part (changed row) ≡ part row)
+      → facts (map (changing id changed) rows) ≡ facts rows
   facts-unchanged id changed rows each =
-      facts-same (changing id changed) rows (λ row h. cond_both (row.id == id) (changed row) row (λ (r : Row). part r ≡ part row) (λ same. each row h (eqb-true row.id id same)) (λ other. refl))
+      facts-same (changing id changed) rows (λ row h. cond_both (row.id == id) (changed row) row (λ (r : Row). part r ≡ part row)
+      (λ same. each row h (eqb-true row.id id same)) (λ other. refl))
 
-  pub facts-changed : (id : ℕ) (changed : Row → Row) (h : Fact → Fact) (rows : List Row) → ((row : Row) → part (changed row) ≡ option_map h (part row)) → facts (map (changing id changed) rows) ≡ with_changed id h (facts rows)
+  pub facts-changed : (id : ℕ) (changed : Row → Row) (h : Fact → Fact) (rows : List Row) → ((row : Row) → part (changed row) ≡ option_map h (part row))
+      → facts (map (changing id changed) rows) ≡ with_changed id h (facts rows)
   facts-changed id changed h rows each =
       facts-map (changing id changed) (λ (f : Fact). cond (f.id == id) (h f) f) rows (λ row. by row (row.id == id) (part row) refl refl)
     where
-      by : (row : Row) (b : Bool) (o : Option Fact) → (row.id == id) ≡ b → part row ≡ o → part (cond (row.id == id) (changed row) row) ≡ option_map (λ (f : Fact). cond (f.id == id) (h f) f) (part row)
+      by : (row : Row) (b : Bool) (o : Option Fact) → (row.id == id) ≡ b → part row ≡ o → part (cond (row.id == id) (changed row) row) ≡ option_map
+          (λ (f : Fact). cond (f.id == id) (h f) f) (part row)
       by row true None e k = rw (e, k) (each row ∙ ap (option_map h) k)
       by row true (Some f) e k =
           let same : (f.id == id) ≡ true = ap (λ (n : ℕ). n == id) (part-id row f k) ∙ e in
@@ -102,7 +101,8 @@ module _ (kind : Kind) (setup : Setup) where
   facts-without id (row ∷ rows) = by (row.id == id) (part row) refl refl (facts-without id rows)
     where
       by : (b : Bool) (o : Option Fact) → (row.id == id) ≡ b → part row ≡ o → facts (filter (λ (r : Row). not (r.id == id)) rows) ≡ without id (facts rows) →
-          facts (cond (not (row.id == id)) (row ∷ filter (λ (r : Row). not (r.id == id)) rows) (filter (λ (r : Row). not (r.id == id)) rows)) ≡ without id (cons_option (part row) (facts rows))
+          facts (cond (not (row.id == id)) (row ∷ filter (λ (r : Row). not (r.id == id)) rows) (filter (λ (r : Row). not (r.id == id)) rows)) ≡ without id
+          (cons_option (part row) (facts rows))
       by true None e k rest = rw (e, k) rest
       by true (Some f) e k rest =
           let same : (f.id == id) ≡ true = ap (λ (n : ℕ). n == id) (part-id row f k) ∙ e in
@@ -134,10 +134,12 @@ module _ (kind : Kind) (setup : Setup) where
       by None k = refl
       by (Some g) k = placed-behind f g fs (omega (arith, above, part-id row g k))
 
-  pub facts-appended : (new : Row) (rows : List Row) → ((row : Row) → Has rows row → row.id < new.id) → facts (rows ++ new ∷ []) ≡ with_kept (part new) (facts rows)
+  pub facts-appended : (new : Row) (rows : List Row) → ((row : Row) → Has rows row → row.id < new.id) → facts (rows ++ new ∷ []) ≡ with_kept (part new)
+      (facts rows)
   facts-appended new rows below = by (part new) refl
     where
-      at_end : (f : Fact) → f.id ≡ new.id → (rs : List Row) → ((row : Row) → Has rs row → row.id < new.id) → cons_option (Some f) [] ≡ facts (new ∷ []) → facts (rs ++ new ∷ []) ≡ placed f (facts rs)
+      at_end : (f : Fact) → f.id ≡ new.id → (rs : List Row) → ((row : Row) → Has rs row → row.id < new.id) → cons_option (Some f) [] ≡ facts (new ∷ [])
+          → facts (rs ++ new ∷ []) ≡ placed f (facts rs)
       at_end f e [] below k = sym k
       at_end f e (row ∷ rs) below k =
           ap (cons_option (part row)) (at_end f e rs (λ r h. below r (inr h)) k) ∙ sym (placed-kept f row (facts rs) (omega (arith, below row (inl refl), e)))
@@ -180,30 +182,37 @@ module _ (kind : Kind) (setup : Setup) where
   rows_stay id changed [] elsewhere = refl
   rows_stay id changed (row ∷ rows) elsewhere =
       let other : (row.id == id) ≡ false = ne_eqb row.id id (elsewhere row (inl refl)) in
-      ap (λ (b : Bool). cond b (changed row) row ∷ map (changing id changed) rows) other ∙ ap (λ (rs : List Row). row ∷ rs) (rows_stay id changed rows (λ r h. elsewhere r (inr h)))
+      ap (λ (b : Bool). cond b (changed row) row ∷ map (changing id changed) rows) other ∙ ap (λ (rs : List Row). row ∷ rs)
+      (rows_stay id changed rows (λ r h. elsewhere r (inr h)))
 
   with_kept-first : (o : Option Fact) (fs : List Fact) → ((f : Fact) → o ≡ Some f → (g : Fact) → Has fs g → f.id < g.id) → cons_option o fs ≡ with_kept o fs
   with_kept-first None fs below = refl
   with_kept-first (Some f) fs below = sym (placed-first f fs (below f refl))
 
-  with_kept-behind : (o : Option Fact) (row : Row) (fs : List Fact) → ((f : Fact) → o ≡ Some f → row.id < f.id) → cons_option (part row) (with_kept o fs) ≡ with_kept o (cons_option (part row) fs)
+  with_kept-behind : (o : Option Fact) (row : Row) (fs : List Fact) → ((f : Fact) → o ≡ Some f → row.id < f.id) → cons_option (part row) (with_kept o fs) ≡
+      with_kept o (cons_option (part row) fs)
   with_kept-behind None row fs above = refl
   with_kept-behind (Some f) row fs above = sym (placed-kept f row fs (above f refl))
 
-  pub facts-replaced : (changed : Row → Row) (row : Row) (rows : List Row) → Apart rows → Has rows row → (changed row).id ≡ row.id → facts (map (changing row.id changed) rows) ≡ with_kept (part (changed row)) (without row.id (facts rows))
+  pub facts-replaced : (changed : Row → Row) (row : Row) (rows : List Row) → Apart rows → Has rows row → (changed row).id ≡ row.id
+      → facts (map (changing row.id changed) rows) ≡ with_kept (part (changed row)) (without row.id (facts rows))
   facts-replaced changed row [] apart h same = absurd h
-  facts-replaced changed row (q ∷ rows) apart (inl e) same = subst (λ (r : Row). facts (map (changing r.id changed) (q ∷ rows)) ≡ with_kept (part (changed r)) (without r.id (facts (q ∷ rows)))) e (
+  facts-replaced changed row (q ∷ rows) apart (inl e) same =
+      subst (λ (r : Row). facts (map (changing r.id changed) (q ∷ rows)) ≡ with_kept (part (changed r)) (without r.id (facts (q ∷ rows)))) e (
       let here : (q.id == q.id) ≡ true = eq-eqb q.id q.id refl in
       let id_is : (changed q).id ≡ q.id = ap (λ (r : Row). (changed r).id) e ∙ same ∙ ap id_of (sym e) in
-      let gone : without q.id (cons_option (part q) (facts rows)) ≡ facts rows = without-here q (facts rows) ∙ without-none q.id (facts rows) (λ f h s. omega (arith, facts_above q.id rows apart.0 f h, s)) in
-      ap (λ (b : Bool). facts (cond b (changed q) q ∷ map (changing q.id changed) rows)) here ∙ ap (λ (rs : List Row). facts (changed q ∷ rs)) (rows_stay q.id changed rows (λ r h s. omega (arith, apart.0 r h, s)))
+      let gone : without q.id (cons_option (part q) (facts rows)) ≡ facts rows = without-here q (facts rows) ∙
+      without-none q.id (facts rows) (λ f h s. omega (arith, facts_above q.id rows apart.0 f h, s)) in
+      ap (λ (b : Bool). facts (cond b (changed q) q ∷ map (changing q.id changed) rows)) here ∙ ap (λ (rs : List Row). facts (changed q ∷ rs))
+      (rows_stay q.id changed rows (λ r h s. omega (arith, apart.0 r h, s)))
       ∙ with_kept-first (part (changed q)) (facts rows) (λ f k g h. omega (arith, facts_above q.id rows apart.0 g h, part-id (changed q) f k, id_is))
       ∙ ap (with_kept (part (changed q))) (sym gone)
       )
   facts-replaced changed row (q ∷ rows) apart (inr h) same =
       let below : q.id < row.id = apart.0 row h in
       let other : (q.id == row.id) ≡ false = ne_eqb q.id row.id (λ s. omega (arith, below, s)) in
-      ap (λ (b : Bool). facts (cond b (changed q) q ∷ map (changing row.id changed) rows)) other ∙ ap (cons_option (part q)) (facts-replaced changed row rows apart.1 h same)
+      ap (λ (b : Bool). facts (cond b (changed q) q ∷ map (changing row.id changed) rows)) other ∙
+      ap (cons_option (part q)) (facts-replaced changed row rows apart.1 h same)
       ∙ with_kept-behind (part (changed row)) q (without row.id (facts rows)) (λ f k. omega (arith, below, part-id (changed row) f k, same))
       ∙ ap (with_kept (part (changed row))) (sym (without-other row.id q (facts rows) (λ s. omega (arith, below, s))))
 
@@ -223,7 +232,8 @@ module _ (kind : Kind) (setup : Setup) where
       none_later : row.id ≡ id → fact_with (facts rows) id ≡ None
       none_later e = fact_with-none id (facts rows) (λ f h s. omega (arith, facts_above row.id rows apart.0 f h, s, e))
 
-      by : (b : Bool) (o : Option Fact) → (row.id == id) ≡ b → part row ≡ o → fact_with (facts rows) id ≡ option_and_then part (find (λ (r : Row). r.id == id) rows) →
+      by : (b : Bool) (o : Option Fact) → (row.id == id) ≡ b → part row ≡ o → fact_with (facts rows) id ≡ option_and_then part
+          (find (λ (r : Row). r.id == id) rows) →
           fact_with (cons_option (part row) (facts rows)) id ≡ option_and_then part (cond (row.id == id) (Some row) (find (λ (r : Row). r.id == id) rows))
       by true None e k rest = rw (e, k) (none_later (eqb-true row.id id e))
       by true (Some f) e k rest =

@@ -1,15 +1,7 @@
 -- What systems are told of a state is in range.
-use Rattle.std.proofs.Common.{sym, subst, arith}
-use Rattle.std.specs.List.Sorted.{IsStrictlyIncreasing}
-use Rattle.std.proofs.lemmas.List.{length-map}
-use Rattle.std.proofs.lemmas.List.Elements.{All-map}
-use Rattle.sim_base.specs.declared.state.Row.{Row}
-use Rattle.sim_base.specs.Validity.{IsKnownRow}
-use Rattle.sim_laws.proofs.Rows.{all_at, all_from, map-map}
-use Rattle.sim_system.specs.Facts.{fact_of, id_of_fact}
-use Rattle.sim_system.specs.Ranges.{IsInRange}
-use Rattle.sim_scene.specs.FactLaws.{StateIsInRange}
-use Rattle.sim_scene.proofs.Changing.{row_in_range}
+use Rattle.{sim_laws.proofs.Rows.all_from, sim_laws.proofs.Rows.map-map, sim_scene.proofs.Changing.row_in_range, sim_scene.specs.FactLaws.StateIsInRange}
+use Rattle.std.{proofs.lemmas.List.length-map, proofs.lemmas.List.Elements.All-map, specs.List.Sorted.IsStrictlyIncreasing}
+use Rattle.sim_scene.proofs.Common.{all_at, arith, fact_of, id_of_fact, IsInRange, IsKnownRow, Row, subst, sym}
 
 pub state_in_range : StateIsInRange
 state_in_range setup state limits valid =

@@ -1,26 +1,10 @@
 -- What each kind keeps of a row that was changed.
-use Rattle.std.proofs.Common.{◌≡◌, ℕ, Bool, true, false, cond, ℤ, Option, Some, None, refl, sym, ap, ◌∙◌, subst, MatchOption}
-use Rattle.std.specs.Prelude.{is_some, IsSome, IsNone, option_map, option_and_then, unwrap_or}
-use Rattle.sim_base.specs.declared.place.Point.{Point}
-use Rattle.sim_base.specs.declared.template.Template.{Template}
-use Rattle.sim_base.specs.declared.setup.Setup.{Setup}
-use Rattle.sim_base.specs.declared.state.Motion.{Motion}
-use Rattle.sim_base.specs.declared.state.Aim.{Aim}
-use Rattle.sim_base.specs.declared.state.Row.{Row}
-use Rattle.sim_base.specs.declared.state.State.{State}
-use Rattle.sim_base.specs.Rows.{row_of, target_of, template_of}
-use Rattle.sim_base.specs.Limits.{IsSetup}
-use Rattle.sim_base.specs.Validity.{IsLooselyValid, IsKnownRow, IsValidMotion}
-use Rattle.sim_base.specs.Changes.{released}
-use Rattle.sim_laws.proofs.Members.{Has}
-use Rattle.sim_laws.proofs.Rows.{all_at, known_row, both_same, apart, same_row, found_row}
-use Rattle.sim_laws.proofs.Commanding.{known_template}
-use Rattle.sim_plans.specs.Fits.{OfRow}
-use Rattle.sim_system.specs.declared.fact.Fact.{Fact}
-use Rattle.sim_system.specs.declared.kind.Kind.TheVariants.{Ground, Range, Watch}
-use Rattle.sim_system.specs.Facts.{fact_of, keeps, part_for, kept}
-use Rattle.sim_system.specs.Notes.{aim_of}
-use Rattle.sim_scene.proofs.FactLists.{part}
+use Rattle.{sim_base.specs.Rows.template_of, sim_base.specs.Validity.IsValidMotion, sim_laws.proofs.Rows.both_same, sim_laws.proofs.Rows.same_row}
+use Rattle.std.specs.Prelude.{IsNone}
+use Rattle.sim_scene.proofs.{Common.subst, Common.sym, Common.target_of, Common.Template, Common.Watch, Common.◌∙◌, FactLists.part}
+use Rattle.sim_scene.proofs.Common.{IsSetup, keeps, kept, known_row, known_template, Motion, OfRow, part_for, Point, Range, released, Row, row_of, Setup, State}
+use Rattle.sim_scene.proofs.Common.{option_and_then, refl, Aim, aim_of, all_at, ap, apart, Fact, fact_of, found_row, Ground, Has, IsKnownRow, IsLooselyValid}
+use Rattle.sim_scene.proofs.Common.{◌≡◌, ℕ, Bool, true, false, cond, ℤ, is_some, IsSome, MatchOption, Some, None, Option, unwrap_or, option_map}
 
 -- ---- the row that a change names
 
@@ -33,7 +17,8 @@ named_row state id P h = by (row_of state id) refl h
     by (Some row) e h = (row, e, h)
 
 -- it holds of each row that has the id
-pub of_each_named : (setup : Setup) (state : State) (id : ℕ) (P : Row → Type 0) → IsLooselyValid setup state → OfRow state id P → (row : Row) → Has state.rows row → row.id ≡ id → P row
+pub of_each_named : (setup : Setup) (state : State) (id : ℕ) (P : Row → Type 0) → IsLooselyValid setup state → OfRow state id P → (row : Row)
+    → Has state.rows row → row.id ≡ id → P row
 of_each_named setup state id P valid fit row h e =
     let (named, found, holds) = named_row state id P fit in
     let (m, is_id) = found_row state id named found in
@@ -47,27 +32,33 @@ module _ (setup : Setup) where
   none_is (Some x) h = absurd (cc)
 
   -- a row that can move is no obstruction
-  pub no_obstruction : (state : State) (row : Row) → IsSetup setup → IsLooselyValid setup state → Has state.rows row → IsSome row.motion → option_and_then (λ (t : Template). t.obstruct) (template_of setup row) ≡ None
+  pub no_obstruction : (state : State) (row : Row) → IsSetup setup → IsLooselyValid setup state → Has state.rows row → IsSome row.motion
+      → option_and_then (λ (t : Template). t.obstruct) (template_of setup row) ≡ None
   no_obstruction state row limits valid h moves =
       let (t, e, v) = known_row 0 setup state.rows row (all_at (IsKnownRow 0 setup state.rows) state.rows row valid.rows h) in
       let has_speed : is_some t.speed ≡ true = sym (both_same (λ (m : Motion) (s : ℤ). IsValidMotion setup m) row.motion t.speed v.motion) ∙ moves in
       ap (option_and_then (λ (t : Template). t.obstruct)) e ∙ none_is t.obstruct ((known_template setup row.template t limits e).moves_or_obstructs has_speed)
 
-  pub part-moved_ground : (p : Point) (row : Row) → option_and_then (λ (t : Template). t.obstruct) (template_of setup row) ≡ None → part Ground setup (record row { at = p }) ≡ part Ground setup row
+  pub part-moved_ground : (p : Point) (row : Row) → option_and_then (λ (t : Template). t.obstruct) (template_of setup row) ≡ None
+      → part Ground setup (record row { at = p }) ≡ part Ground setup row
   part-moved_ground p row none = rw none refl
 
-  pub part-moved_range : (p : Point) (row : Row) → part Range setup (record row { at = p }) ≡ option_map (λ (f : Fact). record f { at = p }) (part Range setup row)
+  pub part-moved_range : (p : Point) (row : Row) → part Range setup (record row { at = p }) ≡ option_map (λ (f : Fact). record f { at = p })
+      (part Range setup row)
   part-moved_range p row =
-      elim (keeps Range (fact_of setup row)) as (λ b. cond b (Some (part_for Range (fact_of setup (record row { at = p })))) None ≡ option_map (λ (f : Fact). record f { at = p }) (cond b (Some (part_for Range (fact_of setup row))) None)) [
+      elim (keeps Range (fact_of setup row)) as (λ b. cond b (Some (part_for Range (fact_of setup (record row { at = p })))) None ≡ option_map
+      (λ (f : Fact). record f { at = p }) (cond b (Some (part_for Range (fact_of setup row))) None)) [
         | true ↦ refl
         | false ↦ refl
       ]
 
   -- ---- a change of owner
 
-  pub part-owned_range : (owner : ℕ) (row : Row) → part Range setup (record row { owner = owner }) ≡ option_map (λ (f : Fact). record f { owner = owner }) (part Range setup row)
+  pub part-owned_range : (owner : ℕ) (row : Row) → part Range setup (record row { owner = owner }) ≡ option_map (λ (f : Fact). record f { owner = owner })
+      (part Range setup row)
   part-owned_range owner row =
-      elim (keeps Range (fact_of setup row)) as (λ b. cond b (Some (part_for Range (fact_of setup (record row { owner = owner })))) None ≡ option_map (λ (f : Fact). record f { owner = owner }) (cond b (Some (part_for Range (fact_of setup row))) None)) [
+      elim (keeps Range (fact_of setup row)) as (λ b. cond b (Some (part_for Range (fact_of setup (record row { owner = owner })))) None ≡ option_map
+      (λ (f : Fact). record f { owner = owner }) (cond b (Some (part_for Range (fact_of setup row))) None)) [
         | true ↦ refl
         | false ↦ refl
       ]
@@ -87,4 +78,5 @@ module _ (setup : Setup) where
       by (Some aim) = refl
 
   pub part-aimed_watch : (id target : ℕ) (row : Row) → row.id ≡ id → target_of row ≡ target → part Watch setup row ≡ kept Watch (aim_of id target)
-  part-aimed_watch id target row id_is target_is = ap (λ (i : ℕ). kept Watch (aim_of i (target_of row))) id_is ∙ ap (λ (t : ℕ). kept Watch (aim_of id t)) target_is
+  part-aimed_watch id target row id_is target_is = ap (λ (i : ℕ). kept Watch (aim_of i (target_of row))) id_is ∙ ap (λ (t : ℕ). kept Watch (aim_of id t))
+      target_is

@@ -1,7 +1,5 @@
 -- A note outside the table of subscriptions changes nothing.
-use Rattle.std.proofs.Common.{refl}
-use Rattle.sim_system.specs.declared.note.Note.TheVariants.{Born, Gone, Moved, Owned, Aimed}
-use Rattle.sim_system.specs.declared.kind.Kind.TheVariants.{Ground, Range, Watch, Census}
+use Rattle.sim_scene.proofs.Common.{refl, Aimed, Born, Census, Gone, Ground, Moved, Owned, Range, Watch}
 use Rattle.sim_scene.specs.FactLaws.{UnheardChangesNothing}
 
 pub unheard : UnheardChangesNothing

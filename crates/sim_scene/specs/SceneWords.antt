@@ -1,12 +1,7 @@
 -- When a scene stands.
-use Rattle.sim_base.specs.declared.setup.Setup.{Setup}
-use Rattle.sim_base.specs.declared.state.State.{State}
-use Rattle.sim_base.specs.Limits.{IsSetup}
-use Rattle.sim_base.specs.Validity.{IsLooselyValid}
-use Rattle.sim_system.specs.declared.system.System.{Ghosts}
-use Rattle.sim_system.specs.Meanings.{Systems, AreFed}
-use Rattle.sim_system.specs.RigWords.{systems_of}
+use Rattle.sim_base.specs.{Limits.IsSetup, Validity.IsLooselyValid, declared.setup.Setup.Setup, declared.state.State.State}
 use Rattle.sim_scene.specs.declared.scene.Scene.{Scene}
+use Rattle.sim_system.specs.{Meanings.AreFed, Meanings.Systems, RigWords.systems_of, declared.system.System.Ghosts}
 
 -- the setup is within its limits, the state loosely valid, and the systems were told of it
 pub record IsStanding (setup : Setup) (state : State) (s : Systems) : Type 0 where

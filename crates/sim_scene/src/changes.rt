@@ -1,6 +1,6 @@
 //! Laws of changes and of the notes that they post.
 
-ghost use Rattle.sim_scene.specs.FactLaws.{ChangeIsNoted, NotesOfAChangeFit, UnheardChangesNothing, StateIsInRange};
+ghost use Rattle.sim_scene.specs.FactLaws.{ChangeIsNoted, NotesOfAChangeFit, StateIsInRange, UnheardChangesNothing};
 
 /// Where the notes of a change are told in order, a system keeps of the changed state what its kind keeps, and each
 /// note fits what it kept before.

@@ -1,14 +1,8 @@
 -- Cells: two are one or not, and what a list by z, then x, has at each.
-use Rattle.std.proofs.Common.{◌≡◌, ◌≢◌, ◌*◌, ◌<◌, true, false, List, Option, Some, None, length, get_or, set, sym, ap, ◌∙◌, ◌⊎◌, inl, inr, arith, ltb-true, lt-ltb, ltb}
-use Rattle.std.proofs.lemmas.Bool.{cases_Bool, cond-true, cond-false, and_parts, and_from, true≢false}
-use Rattle.std.proofs.lemmas.List.{get_or-set_same, get_or-set_other}
-use Rattle.std.proofs.lemmas.Nat.{mul-add-lt, same_from_place}
-use Rattle.sim_base.specs.declared.place.Cell.{Cell}
-use Rattle.sim_base.specs.Places.{Size, same_cell}
-use Rattle.sim_base.specs.Steps.{IsOnGround}
-use Rattle.sim_grid.specs.Grids.{place_of}
-use Rattle.sim_laws.proofs.Ground.{same_by_parts, same_cell-true, same_cell-self}
-use Rattle.sim_search.specs.Tables.{has_cell, entry_at}
+use Rattle.sim_search.proofs.Common.{cases_Bool, Cell, cond-false, cond-true, entry_at, get_or-set_other, get_or-set_same, has_cell, inl, inr, IsOnGround}
+use Rattle.sim_search.proofs.Common.{lt-ltb, ltb-true, mul-add-lt, place_of, same_by_parts, same_cell, same_cell-self, same_cell-true, same_from_place, Size}
+use Rattle.sim_search.proofs.Common.{sym, true≢false, ◌∙◌}
+use Rattle.sim_search.proofs.Common.{◌≡◌, ◌*◌, ◌<◌, true, false, ltb, ◌≢◌, ◌⊎◌, List, length, get_or, set, Some, None, Option, and_from, and_parts, ap, arith}
 
 pub same_or_not : (c e : Cell) → (c ≡ e) ⊎ (c ≢ e)
 same_or_not c e = by (cases_Bool (same_cell c e))
@@ -21,7 +15,8 @@ pub place-below : (size : Size) (c : Cell) → IsOnGround size c → place_of si
 place-below size c on = mul-add-lt c.z size.width c.x size.depth on.north on.east
 
 pub has_cell-true : (size : Size) (c : Cell) → has_cell size c ≡ true → IsOnGround size c
-has_cell-true size c h = let (e, n) = and_parts (ltb c.x size.width) (ltb c.z size.depth) h in record { east = ltb-true c.x size.width e; north = ltb-true c.z size.depth n }
+has_cell-true size c h = let (e, n) = and_parts (ltb c.x size.width) (ltb c.z size.depth) h in
+    record { east = ltb-true c.x size.width e; north = ltb-true c.z size.depth n }
 
 pub on-has_cell : (size : Size) (c : Cell) → IsOnGround size c → has_cell size c ≡ true
 on-has_cell size c on = and_from (ltb c.x size.width) (ltb c.z size.depth) (lt-ltb c.x size.width on.east) (lt-ltb c.z size.depth on.north)
@@ -33,17 +28,22 @@ module _ {X : Type 0} (other : X) (size : Size) where
   pub entry_at-off : (xs : List X) (c : Cell) → has_cell size c ≡ false → entry_at other size xs c ≡ other
   entry_at-off xs c h = cond-false (has_cell size c) (get_or xs (place_of size c) other) other h
 
-  pub entry_at-set_same : (xs : List X) (c : Cell) (v : X) → IsOnGround size c → length xs ≡ size.width * size.depth → entry_at other size (set xs (place_of size c) v) c ≡ v
-  entry_at-set_same xs c v on full = entry_at-on (set xs (place_of size c) v) c on ∙ get_or-set_same xs (place_of size c) v other (omega (arith, place-below size c on))
+  pub entry_at-set_same : (xs : List X) (c : Cell) (v : X) → IsOnGround size c → length xs ≡ size.width * size.depth
+      → entry_at other size (set xs (place_of size c) v) c ≡ v
+  entry_at-set_same xs c v on full = entry_at-on (set xs (place_of size c) v) c on ∙ get_or-set_same xs (place_of size c) v other
+      (omega (arith, place-below size c on))
 
-  pub entry_at-set_other : (xs : List X) (c e : Cell) (v : X) → IsOnGround size c → e ≢ c → entry_at other size (set xs (place_of size c) v) e ≡ entry_at other size xs e
+  pub entry_at-set_other : (xs : List X) (c e : Cell) (v : X) → IsOnGround size c → e ≢ c → entry_at other size (set xs (place_of size c) v) e ≡ entry_at other
+      size xs e
   entry_at-set_other xs c e v on ne = by (cases_Bool (has_cell size e))
     where
       by : (has_cell size e ≡ true) ⊎ (has_cell size e ≡ false) → entry_at other size (set xs (place_of size c) v) e ≡ entry_at other size xs e
       by (inl h) =
           let there = has_cell-true size e h in
-          let apart : place_of size e ≢ place_of size c = λ f. let parts = same_from_place e.z e.x c.z c.x size.width there.east on.east f in ne (same_by_parts e c parts.1 parts.0) in
-          entry_at-on (set xs (place_of size c) v) e there ∙ get_or-set_other xs (place_of size c) (place_of size e) v other apart ∙ sym (entry_at-on xs e there)
+          let apart : place_of size e ≢ place_of size c = λ f. let parts = same_from_place e.z e.x c.z c.x size.width there.east on.east f in
+          ne (same_by_parts e c parts.1 parts.0) in
+          entry_at-on (set xs (place_of size c) v) e there ∙ get_or-set_other xs (place_of size c) (place_of size e) v other apart ∙
+          sym (entry_at-on xs e there)
       by (inr h) = entry_at-off (set xs (place_of size c) v) e h ∙ sym (entry_at-off xs e h)
 
 pub entry_at-there : {X : Type 0} (size : Size) (xs : List (Option X)) (c : Cell) (v : X) → entry_at None size xs c ≡ Some v → IsOnGround size c

@@ -1,11 +1,9 @@
 -- Whether a search has come to one of its ends, one more end at a time.
-use Rattle.std.proofs.Common.{◌≡◌, ℕ, ◌≤◌, List, [], ◌∷◌, ◌++◌, Option, Some, ap, ◌∙◌, ⊎_elim, arith, Contains}
-use Rattle.std.proofs.lemmas.List.Elements.{Contains-push_cases}
-use Rattle.sim_base.specs.declared.place.Cell.{Cell}
-use Rattle.sim_search.specs.Comes.{IsComeTo}
+use Rattle.sim_search.proofs.Common.{◌≡◌, ℕ, ◌≤◌, List, [], ◌∷◌, ◌++◌, Some, Contains, Option, ap, arith, Cell, Contains-push_cases, IsComeTo, ⊎_elim, ◌∙◌}
 
 -- an end that has no cost below this is past
-pub come-past : (cost : Cell → Option ℕ) (xs : List Cell) (x : Cell) (now : ℕ) → ((v : ℕ) → cost x ≡ Some v → now ≤ v) → (IsComeTo cost xs now → ⊥) → IsComeTo cost (xs ++ x ∷ []) now → ⊥
+pub come-past : (cost : Cell → Option ℕ) (xs : List Cell) (x : Cell) (now : ℕ) → ((v : ℕ) → cost x ≡ Some v → now ≤ v) → (IsComeTo cost xs now → ⊥)
+    → IsComeTo cost (xs ++ x ∷ []) now → ⊥
 come-past cost xs x now late none come =
     ⊎_elim
     (λ (m : Contains xs come.end). none (record { end = come.end; value = come.value; among = m; reached = come.reached; below = come.below }))

@@ -1,26 +1,12 @@
 -- What a lowered cost, a taken cell and an emptied bucket leave of a search by buckets, for every estimate that fits the ring.
-use Rattle.std.proofs.Common.{◌≡◌, ◌≢◌, ℕ, zero, suc, ◌+◌, ◌*◌, ◌-◌, ◌%◌, ◌<◌, ◌≤◌, Bool, true, false, cond, List, [], ◌∷◌, ◌++◌, length, get_or, set, Option, Some, None, refl, sym, ap, ap₂, ◌∙◌, subst, ◌⊎◌, ⊎_elim, inl, inr, arith, Contains, count_by, not}
-use Rattle.std.proofs.lemmas.Bool.{cases_Bool, cases_eq, true≢false}
-use Rattle.std.proofs.Math.Nat.{eq-or-lt_of_le}
-use Rattle.std.proofs.lemmas.List.{get_or-set_same, get_or-set_other, set-get_or}
-use Rattle.std.proofs.lemmas.List.Elements.{Contains-append_left, Contains-push}
-use Rattle.sim_base.specs.declared.place.Cell.{Cell}
-use Rattle.sim_base.specs.Places.{Size}
-use Rattle.sim_base.specs.Walks.{Walk, stay}
-use Rattle.sim_base.specs.Steps.{Field, IsStep, step_cost}
-use Rattle.sim_base.specs.Ways.{IsCost}
-use Rattle.sim_search.specs.Tables.{entry_at, size_of, cost_in, AreCosts}
-use Rattle.sim_search.specs.Moves.{step_to}
-use Rattle.sim_search.specs.Estimates.{IsEstimate, IsNear, estimate_to}
-use Rattle.sim_search.specs.declared.aim.Aim.{Aim}
-use Rattle.sim_search.specs.Comes.{AreCostsUpTo, HasStopped, IsComeTo}
-use Rattle.sim_search.specs.Taking.{HasCost, IsSearch}
-use Rattle.sim_search.specs.Queues.{Begins, IsKept, IsLowered, Lowers, Takes, Empties, Waits, Drains, Ready, Progress, Expands, taken_in, takens, bucket_in, untaken}
-use Rattle.sim_search.specs.declared.search.Search.{Search}
-use Rattle.sim_search.proofs.Cells.{same_or_not}
-use Rattle.sim_search.proofs.Octile.{estimate-falls, estimate-rises, estimate-even, walk-even}
-use Rattle.sim_search.proofs.Moves.{step-of, direction-of}
-use Rattle.sim_search.proofs.Taking.{lowers, takes, goes-on, cost-least, all-found, walk-found}
+use Rattle.sim_search.proofs.{Cells.same_or_not, Taking.all-found, Taking.cost-least, Taking.goes-on, Taking.lowers, Taking.takes, Taking.walk-found}
+use Rattle.sim_search.proofs.{Moves.direction-of, Moves.step-of, Octile.estimate-even, Octile.estimate-falls, Octile.estimate-rises, Octile.walk-even}
+use Rattle.sim_search.proofs.Common.{IsEstimate, IsKept, IsLowered, IsNear, IsSearch, IsStep, Lowers, Progress, Ready, Search, set-get_or, Size, size_of, stay}
+use Rattle.sim_search.proofs.Common.{cases_Bool, cases_eq, Cell, Contains-append_left, Contains-push, cost_in, Drains, Empties, entry_at, eq-or-lt_of_le}
+use Rattle.sim_search.proofs.Common.{estimate_to, Expands, Field, get_or-set_other, get_or-set_same, HasCost, HasStopped, inl, inr, IsComeTo, IsCost}
+use Rattle.sim_search.proofs.Common.{get_or, set, Some, None, Contains, count_by, Option, refl, Aim, ap, ap₂, AreCosts, AreCostsUpTo, arith, Begins, bucket_in}
+use Rattle.sim_search.proofs.Common.{step_cost, step_to, subst, sym, taken_in, takens, Takes, true≢false, untaken, Waits, Walk, ⊎_elim, ◌∙◌}
+use Rattle.sim_search.proofs.Common.{◌≡◌, ℕ, zero, suc, ◌+◌, ◌-◌, ◌*◌, ◌%◌, ◌<◌, ◌≤◌, Bool, true, false, cond, not, ◌≢◌, ◌⊎◌, List, [], ◌∷◌, ◌++◌, length}
 
 -- an estimate that falls by at most a step's cost, and with which the keys of waiting cells fit the ring
 pub record IsFit (h : Cell → ℕ) (field : Field) (start : Cell) : Type 0 where
@@ -38,13 +24,16 @@ ring-length s = omega (arith, s.ring, s.buckets.ok.0)
 abbrev SearchAt : (Cell → ℕ) → Field → ℕ → (Cell → Option ℕ) → Cell → Size → List Bool → Type 0
 SearchAt h field now cost start size taken = IsSearch (IsStep field start) start h cost (entry_at false size taken) now
 
-same_search : (h : Cell → ℕ) (field : Field) (now : ℕ) (cost : Cell → Option ℕ) (start start' : Cell) (size size' : Size) (taken taken' : List Bool) → start' ≡ start → size' ≡ size → taken' ≡ taken →
+same_search : (h : Cell → ℕ) (field : Field) (now : ℕ) (cost : Cell → Option ℕ) (start start' : Cell) (size size' : Size) (taken taken' : List Bool)
+    → start' ≡ start → size' ≡ size → taken' ≡ taken →
     SearchAt h field now cost start size taken → SearchAt h field now cost start' size' taken'
 same_search h field now cost start start' size size' taken taken' e f g s =
-    subst (λ (x : Cell). SearchAt h field now cost x size' taken') (sym e) (subst (λ (x : Size). SearchAt h field now cost start x taken') (sym f) (subst (λ (x : List Bool). SearchAt h field now cost start size x) (sym g) s))
+    subst (λ (x : Cell). SearchAt h field now cost x size' taken') (sym e) (subst (λ (x : Size). SearchAt h field now cost start x taken') (sym f)
+    (subst (λ (x : List Bool). SearchAt h field now cost start size x) (sym g) s))
 
 -- one bucket gets a cell, and the others keep theirs
-bucket_grows : (q : List (List Cell)) (j b : ℕ) (y x : Cell) → j < length q → Contains (get_or q b []) x → Contains (get_or (set q j (get_or q j [] ++ y ∷ [])) b []) x
+bucket_grows : (q : List (List Cell)) (j b : ℕ) (y x : Cell) → j < length q → Contains (get_or q b []) x
+    → Contains (get_or (set q j (get_or q j [] ++ y ∷ [])) b []) x
 bucket_grows q j b y x h is_in = by (cases_eq b j)
   where
     more : List Cell
@@ -53,18 +42,24 @@ bucket_grows q j b y x h is_in = by (cases_eq b j)
     by : (b ≡ j) ⊎ (b ≡ j → ⊥) → Contains (get_or (set q j more) b []) x
     by (inl e) =
         subst (λ (k : ℕ). Contains (get_or (set q j more) k []) x) (sym e)
-        (subst (λ (l : List Cell). Contains l x) (sym (get_or-set_same q j more [] h)) (Contains-append_left (get_or q j []) (y ∷ []) x (subst (λ (k : ℕ). Contains (get_or q k []) x) e is_in)))
+        (subst (λ (l : List Cell). Contains l x) (sym (get_or-set_same q j more [] h))
+        (Contains-append_left (get_or q j []) (y ∷ []) x (subst (λ (k : ℕ). Contains (get_or q k []) x) e is_in)))
     by (inr e) = subst (λ (l : List Cell). Contains l x) (sym (get_or-set_other q j b more [] e)) is_in
 
 -- ---- a cost is lowered
 
-module _ (h : Cell → ℕ) (field : Field) (old new : Search) (u to : Cell) (d k : ℕ) (fit : IsFit h field old.start) (at_u : cost_in old.costs u ≡ Some d) (step : IsStep field old.start u to k) (l : Lowers h old new to (d + k)) where
+module _ (h : Cell → ℕ) (field : Field) (old new : Search) (u to : Cell) (d k : ℕ) (fit : IsFit h field old.start) (at_u : cost_in old.costs u ≡ Some d)
+    (step : IsStep field old.start u to k) (l : Lowers h old new to (d + k)) where
   -- a cost only falls
   pub falls : (c : Cell) (n : ℕ) → HasCost (cost_in old.costs) c n → HasCost (cost_in new.costs) c n
   falls c n b = by l
     where
       lowered : IsLowered h old new to (d + k) → (c ≡ to) ⊎ (c ≢ to) → HasCost (cost_in new.costs) c n
-      lowered p (inl e) = record { value = d + k; is = ap (cost_in new.costs) e ∙ p.here; low = omega (arith, p.higher b.value (ap (cost_in old.costs) (sym e) ∙ b.is), b.low) }
+      lowered p (inl e) = record {
+        value = d + k;
+        is = ap (cost_in new.costs) e ∙ p.here;
+        low = omega (arith, p.higher b.value (ap (cost_in old.costs) (sym e) ∙ b.is), b.low);
+      }
       lowered p (inr e) = record { value = b.value; is = p.elsewhere c e ∙ b.is; low = b.low }
 
       by : IsKept old new to (d + k) ⊎ IsLowered h old new to (d + k) → HasCost (cost_in new.costs) c n
@@ -97,10 +92,12 @@ module _ (h : Cell → ℕ) (field : Field) (old new : Search) (u to : Cell) (d 
       lowered p =
           record {
             size_is = p.size_is ∙ dr.size_is;
-            search = same_search h field now (cost_in new.costs) old.start new.start (size_of old.costs) (size_of new.costs) (takens old) (takens new) p.start_is p.size_is p.taken_is
+            search = same_search h field now (cost_in new.costs) old.start new.start (size_of old.costs) (size_of new.costs) (takens old) (takens new)
+                p.start_is p.size_is p.taken_is
                 (lowers same_or_not fit.falls dr.search (cost_in new.costs) u to k d at_u refl step p.higher p.here p.elsewhere);
             near = λ c n e t. near c n e t (same_or_not c to);
-            queued = λ c n e t. subst (λ (q : List (List Cell)). ((n + h c ≡ now) × Contains rest c) ⊎ Contains (get_or q ((n + h c) % 32) []) c) (sym p.queued) (queued c n e t (same_or_not c to));
+            queued = λ c n e t. subst (λ (q : List (List Cell)). ((n + h c ≡ now) × Contains rest c) ⊎ Contains (get_or q ((n + h c) % 32) []) c) (sym p.queued)
+                (queued c n e t (same_or_not c to));
           }
         where
           b : ℕ
@@ -116,13 +113,15 @@ module _ (h : Cell → ℕ) (field : Field) (old new : Search) (u to : Cell) (d 
           same_taken c = ap₂ (λ (size : Size) (xs : List Bool). entry_at false size xs c) p.size_is p.taken_is
 
           total_is : (c : Cell) (n : ℕ) → cost_in new.costs c ≡ Some n → c ≡ to → n + h c ≡ d + k + h to
-          total_is c n e f = let both : Some n ≡ Some (d + k) = sym e ∙ ap (cost_in new.costs) f ∙ p.here in let equal : n ≡ d + k = cc in ap₂ (λ (a b : ℕ). a + b) equal (ap h f)
+          total_is c n e f = let both : Some n ≡ Some (d + k) = sym e ∙ ap (cost_in new.costs) f ∙ p.here in let equal : n ≡ d + k = cc in
+              ap₂ (λ (a b : ℕ). a + b) equal (ap h f)
 
           near : (c : Cell) (n : ℕ) → cost_in new.costs c ≡ Some n → taken_in new c ≡ false → (c ≡ to) ⊎ (c ≢ to) → n + h c < now + 32
           near c n e t (inl f) = omega (arith, total_is c n e f, fit.rises.rises u to k step)
           near c n e t (inr f) = dr.near c n (sym (p.elsewhere c f) ∙ e) (sym (same_taken c) ∙ t)
 
-          queued : (c : Cell) (n : ℕ) → cost_in new.costs c ≡ Some n → taken_in new c ≡ false → (c ≡ to) ⊎ (c ≢ to) → ((n + h c ≡ now) × Contains rest c) ⊎ Contains (get_or more ((n + h c) % 32) []) c
+          queued : (c : Cell) (n : ℕ) → cost_in new.costs c ≡ Some n → taken_in new c ≡ false → (c ≡ to) ⊎ (c ≢ to) → ((n + h c ≡ now) × Contains rest c)
+              ⊎ Contains (get_or more ((n + h c) % 32) []) c
           queued c n e t (inl f) =
               inr (subst (λ (x : ℕ). Contains (get_or more (x % 32) []) c) (sym (total_is c n e f))
               (subst (λ (xs : List Cell). Contains xs c) (sym (get_or-set_same old.buckets.items b (get_or old.buckets.items b [] ++ to ∷ []) [] b_in))
@@ -156,11 +155,13 @@ pub record Expanding (h : Cell → ℕ) (field : Field) (first s : Search) (from
   pub taken_is : takens s ≡ takens first
   pub steps : (b : Cell) (j : ℕ) → j < which → step_to field first.start from j ≡ Some b → HasCost (cost_in s.costs) b (cost + step_cost j)
 
-pub expanding_begins : (h : Cell → ℕ) (field : Field) (first : Search) (from : Cell) (cost : ℕ) → cost_in first.costs from ≡ Some cost → Expanding h field first first from cost 0
+pub expanding_begins : (h : Cell → ℕ) (field : Field) (first : Search) (from : Cell) (cost : ℕ) → cost_in first.costs from ≡ Some cost
+    → Expanding h field first first from cost 0
 expanding_begins h field first from cost e =
     record { kept = λ rest dr. dr; from_is = e; start_is = refl; size_is = refl; taken_is = refl; steps = λ b j lt f. absurd (omega arith) }
 
-pub expanding_more : (h : Cell → ℕ) (field : Field) (first old new : Search) (from to : Cell) (cost which : ℕ) → ((start : Cell) → IsFit h field start) → Expanding h field first old from cost which → step_to field old.start from which ≡ Some to →
+pub expanding_more : (h : Cell → ℕ) (field : Field) (first old new : Search) (from to : Cell) (cost which : ℕ) → ((start : Cell) → IsFit h field start)
+    → Expanding h field first old from cost which → step_to field old.start from which ≡ Some to →
     Lowers h old new to (cost + step_cost which) → Expanding h field first new from cost (which + 1)
 expanding_more h field first old new from to cost which fit x e l =
     record {
@@ -175,27 +176,40 @@ expanding_more h field first old new from to cost which fit x e l =
     step : IsStep field old.start from to (step_cost which)
     step = step-of field old.start from to which e
 
-    steps : (b : Cell) (j : ℕ) → step_to field first.start from j ≡ Some b → (suc j ≡ which + 1) ⊎ (suc j < which + 1) → HasCost (cost_in new.costs) b (cost + step_cost j)
+    steps : (b : Cell) (j : ℕ) → step_to field first.start from j ≡ Some b → (suc j ≡ which + 1) ⊎ (suc j < which + 1)
+        → HasCost (cost_in new.costs) b (cost + step_cost j)
     steps b j f (inl same) =
         let j_is : j ≡ which = omega arith in
         let both : Some to ≡ Some b = sym e ∙ ap₂ (λ (s : Cell) (w : ℕ). step_to field s from w) x.start_is (sym j_is) ∙ f in
         let to_is : to ≡ b = cc in
         let r = reached h field old new from to cost (step_cost which) (fit old.start) x.from_is step l in
         record { value = r.value; is = ap (cost_in new.costs) (sym to_is) ∙ r.is; low = omega (arith, r.low, ap step_cost j_is) }
-    steps b j f (inr before) = falls h field old new from to cost (step_cost which) (fit old.start) x.from_is step l b (cost + step_cost j) (x.steps b j (omega arith) f)
+    steps b j f (inr before) = falls h field old new from to cost (step_cost which) (fit old.start) x.from_is step l b (cost + step_cost j)
+        (x.steps b j (omega arith) f)
 
-pub expanding_none : (h : Cell → ℕ) (field : Field) (first s : Search) (from : Cell) (cost which : ℕ) → Expanding h field first s from cost which → step_to field s.start from which ≡ None → Expanding h field first s from cost (which + 1)
+pub expanding_none : (h : Cell → ℕ) (field : Field) (first s : Search) (from : Cell) (cost which : ℕ) → Expanding h field first s from cost which
+    → step_to field s.start from which ≡ None → Expanding h field first s from cost (which + 1)
 expanding_none h field first s from cost which x e =
-    record { kept = x.kept; from_is = x.from_is; start_is = x.start_is; size_is = x.size_is; taken_is = x.taken_is; steps = λ b j lt f. steps b j f (eq-or-lt_of_le lt) }
+    record {
+      kept = x.kept;
+      from_is = x.from_is;
+      start_is = x.start_is;
+      size_is = x.size_is;
+      taken_is = x.taken_is;
+      steps =
+          λ b j lt f. steps b j f (eq-or-lt_of_le lt);
+    }
   where
-    steps : (b : Cell) (j : ℕ) → step_to field first.start from j ≡ Some b → (suc j ≡ which + 1) ⊎ (suc j < which + 1) → HasCost (cost_in s.costs) b (cost + step_cost j)
+    steps : (b : Cell) (j : ℕ) → step_to field first.start from j ≡ Some b → (suc j ≡ which + 1) ⊎ (suc j < which + 1)
+        → HasCost (cost_in s.costs) b (cost + step_cost j)
     steps b j f (inl same) =
         let j_is : j ≡ which = omega arith in
         let none : None ≡ Some b = sym e ∙ ap₂ (λ (v : Cell) (w : ℕ). step_to field v from w) x.start_is (sym j_is) ∙ f in
         cc
     steps b j f (inr before) = x.steps b j (omega arith) f
 
-pub expanded : (h : Cell → ℕ) (field : Field) (first s : Search) (from : Cell) (cost which : ℕ) → 8 ≤ which → Expanding h field first s from cost which → Expands h field first s from cost
+pub expanded : (h : Cell → ℕ) (field : Field) (first s : Search) (from : Cell) (cost which : ℕ) → 8 ≤ which → Expanding h field first s from cost which
+    → Expands h field first s from cost
 expanded h field first s from cost which all x =
     record {
       kept = x.kept;
@@ -216,7 +230,8 @@ contains_tail x c rest e (zero, h, is) = absurd (e (sym is))
 contains_tail x c rest e (suc k, h, is) = (k, omega arith, is)
 
 -- the first of the rest does not wait by this key
-pub drains_past : (h : Cell → ℕ) (field : Field) (s : Search) (now : ℕ) (x : Cell) (rest : List Cell) → ((d : ℕ) → Waits h s now x d → ⊥) → Drains h field s now (x ∷ rest) → Drains h field s now rest
+pub drains_past : (h : Cell → ℕ) (field : Field) (s : Search) (now : ℕ) (x : Cell) (rest : List Cell) → ((d : ℕ) → Waits h s now x d → ⊥)
+    → Drains h field s now (x ∷ rest) → Drains h field s now rest
 drains_past h field s now x rest stale dr =
     record {
       size_is = dr.size_is;
@@ -225,15 +240,18 @@ drains_past h field s now x rest stale dr =
       queued = λ c n e t.
           ⊎_elim
           (λ (q : (n + h c ≡ now) × Contains (x ∷ rest) c).
-          let other : c ≢ x = λ f. stale n (record { cost = ap (cost_in s.costs) (sym f) ∙ e; not_taken = ap (taken_in s) (sym f) ∙ t; key = ap (λ (v : Cell). n + h v) (sym f) ∙ q.0 }) in
+          let other : c ≢ x = λ f. stale n
+          (record { cost = ap (cost_in s.costs) (sym f) ∙ e; not_taken = ap (taken_in s) (sym f) ∙ t; key = ap (λ (v : Cell). n + h v) (sym f) ∙ q.0 }) in
           inl (q.0, contains_tail x c rest other q.1))
           (λ (q : Contains (bucket_in s ((n + h c) % 32)) c). inr q)
           (dr.queued c n e t);
     }
 
 -- the first of the rest is taken
-pub drains_taken : (h : Cell → ℕ) (field : Field) (old new : Search) (now : ℕ) (x : Cell) (d : ℕ) (rest : List Cell) → ((start : Cell) → IsFit h field start) → Takes old new x → cost_in old.costs x ≡ Some d → d + h x ≡ now →
-    ((b : Cell) (k : ℕ) → IsStep field old.start x b k → HasCost (cost_in old.costs) b (d + k)) → Drains h field old now (x ∷ rest) → Drains h field new now rest
+pub drains_taken : (h : Cell → ℕ) (field : Field) (old new : Search) (now : ℕ) (x : Cell) (d : ℕ) (rest : List Cell) → ((start : Cell) → IsFit h field start)
+    → Takes old new x → cost_in old.costs x ≡ Some d → d + h x ≡ now →
+    ((b : Cell) (k : ℕ) → IsStep field old.start x b k → HasCost (cost_in old.costs) b (d + k)) → Drains h field old now (x ∷ rest)
+    → Drains h field new now rest
 drains_taken h field old new now x d rest fit t at_x key steps dr =
     record {
       size_is = ap size_of t.costs_are ∙ dr.size_is;
@@ -263,19 +281,28 @@ pub record Draining (h : Cell → ℕ) (field : Field) (first s : Search) (now :
 pub draining_begins : (h : Cell → ℕ) (field : Field) (s : Search) (now : ℕ) (rest : List Cell) → Drains h field s now rest → Draining h field s s now rest false
 draining_begins h field s now rest d = record { drains = d; progress = record { start_is = refl; fewer = omega arith; same = λ e. refl } }
 
-pub draining_past : (h : Cell → ℕ) (field : Field) (first s : Search) (now : ℕ) (x : Cell) (rest : List Cell) (any : Bool) → ((d : ℕ) → Waits h s now x d → ⊥) → Draining h field first s now (x ∷ rest) any → Draining h field first s now rest any
+pub draining_past : (h : Cell → ℕ) (field : Field) (first s : Search) (now : ℕ) (x : Cell) (rest : List Cell) (any : Bool) → ((d : ℕ) → Waits h s now x d → ⊥)
+    → Draining h field first s now (x ∷ rest) any → Draining h field first s now rest any
 draining_past h field first s now x rest any stale t = record { drains = drains_past h field s now x rest stale t.drains; progress = t.progress }
 
-pub draining_taken : (h : Cell → ℕ) (field : Field) (first s expanded new : Search) (now : ℕ) (x : Cell) (d : ℕ) (rest : List Cell) (any : Bool) → ((start : Cell) → IsFit h field start) → Waits h s now x d → Expands h field s expanded x d → Takes expanded new x →
+pub draining_taken : (h : Cell → ℕ) (field : Field) (first s expanded new : Search) (now : ℕ) (x : Cell) (d : ℕ) (rest : List Cell) (any : Bool)
+    → ((start : Cell) → IsFit h field start) → Waits h s now x d → Expands h field s expanded x d → Takes expanded new x →
     Draining h field first s now (x ∷ rest) any → Draining h field first new now rest true
 draining_taken h field first s expanded new now x d rest any fit w ex t dr =
     record {
       drains = drains_taken h field expanded new now x d rest fit t ex.from_is w.key
           (λ b k step. ex.steps b k (subst (λ (v : Cell). IsStep field v x b k) ex.start_is step))
-          (subst (λ (n : ℕ). Drains h field expanded n (x ∷ rest)) w.key (ex.kept (x ∷ rest) (subst (λ (n : ℕ). Drains h field s n (x ∷ rest)) (sym w.key) dr.drains)));
+          (subst (λ (n : ℕ). Drains h field expanded n (x ∷ rest)) w.key
+          (ex.kept (x ∷ rest) (subst (λ (n : ℕ). Drains h field s n (x ∷ rest)) (sym w.key) dr.drains)));
       progress = record {
         start_is = t.start_is ∙ ex.start_is ∙ dr.progress.start_is;
-        fewer = omega (arith, t.fewer (ap₂ (λ (size : Size) (xs : List Bool). entry_at false size xs x) ex.size_is ex.taken_is ∙ w.not_taken), untaken_same, dr.progress.fewer, no_less any);
+        fewer = omega (
+          arith,
+          t.fewer (ap₂ (λ (size : Size) (xs : List Bool). entry_at false size xs x) ex.size_is ex.taken_is ∙ w.not_taken),
+          untaken_same,
+          dr.progress.fewer,
+          no_less any,
+        );
         same = λ e. absurd (true≢false e);
       };
     }
@@ -292,15 +319,18 @@ draining_taken h field first s expanded new now x d rest any fit w ex t dr =
 -- ---- one bucket after another
 
 -- a bucket is taken out
-pub drains_first : (h : Cell → ℕ) (field : Field) (old new : Search) (now idle : ℕ) → Ready h field old now idle → Empties old new (now % 32) → Drains h field new now (bucket_in old (now % 32))
+pub drains_first : (h : Cell → ℕ) (field : Field) (old new : Search) (now idle : ℕ) → Ready h field old now idle → Empties old new (now % 32)
+    → Drains h field new now (bucket_in old (now % 32))
 drains_first h field old new now idle r t =
     record {
       size_is = ap size_of t.costs_are ∙ r.size_is;
-      search = same_search h field now (cost_in new.costs) old.start new.start (size_of old.costs) (size_of new.costs) (takens old) (takens new) t.start_is (ap size_of t.costs_are) t.taken_is
+      search = same_search h field now (cost_in new.costs) old.start new.start (size_of old.costs) (size_of new.costs) (takens old) (takens new) t.start_is
+          (ap size_of t.costs_are) t.taken_is
           (subst (λ (v : Cell → Option ℕ). IsSearch (IsStep field old.start) old.start h v (taken_in old) now) (ap cost_in (sym t.costs_are)) r.search);
       near = λ c n e f. omega (arith, r.near c n (same_cost c ∙ e) (same_taken c ∙ f));
       queued = λ c n e f.
-          subst (λ (q : List (List Cell)). ((n + h c ≡ now) × Contains (bucket_in old (now % 32)) c) ⊎ Contains (get_or q ((n + h c) % 32) []) c) (sym t.buckets_are)
+          subst (λ (q : List (List Cell)). ((n + h c ≡ now) × Contains (bucket_in old (now % 32)) c) ⊎ Contains (get_or q ((n + h c) % 32) []) c)
+          (sym t.buckets_are)
           (queued c n (same_cost c ∙ e) (same_taken c ∙ f) (cases_eq ((n + h c) % 32) (now % 32)));
     }
   where
@@ -339,10 +369,12 @@ ready_again h field s now even d =
 
 -- how many keys have had no cell to take may be forgotten
 pub ready_anew : (h : Cell → ℕ) (field : Field) (s : Search) (now idle : ℕ) → Ready h field s now idle → Ready h field s now 0
-ready_anew h field s now idle r = record { even = r.even; size_is = r.size_is; search = r.search; near = λ c n e f. omega (arith, r.near c n e f); queued = r.queued }
+ready_anew h field s now idle r =
+    record { even = r.even; size_is = r.size_is; search = r.search; near = λ c n e f. omega (arith, r.near c n e f); queued = r.queued }
 
 -- a bucket had no cell to take, and the search goes on to the next even key
-pub ready_next : (h : Cell → ℕ) (field : Field) (old new : Search) (now idle : ℕ) → ((start : Cell) → IsFit h field start) → Ready h field old now idle → Empties old new (now % 32) → Drains h field new now [] → Ready h field new (now + 2) (idle + 2)
+pub ready_next : (h : Cell → ℕ) (field : Field) (old new : Search) (now idle : ℕ) → ((start : Cell) → IsFit h field start) → Ready h field old now idle
+    → Empties old new (now % 32) → Drains h field new now [] → Ready h field new (now + 2) (idle + 2)
 ready_next h field old new now idle fit r t d =
     let again = ready_again h field new now r.even d in
     record {
@@ -363,7 +395,8 @@ ready_next h field old new now idle fit r t d =
     two = omega arith
 
     emptied : bucket_in new (now % 32) ≡ []
-    emptied = ap (λ (q : List (List Cell)). get_or q (now % 32) []) t.buckets_are ∙ get_or-set_same old.buckets.items (now % 32) [] [] (omega (arith, ring-length old))
+    emptied = ap (λ (q : List (List Cell)). get_or q (now % 32) []) t.buckets_are ∙ get_or-set_same old.buckets.items (now % 32) [] []
+        (omega (arith, ring-length old))
 
     same_cost : (c : Cell) → cost_in old.costs c ≡ cost_in new.costs c
     same_cost c = ap (λ v. cost_in v c) (sym t.costs_are)
@@ -372,21 +405,31 @@ ready_next h field old new now idle fit r t d =
     same_taken c = ap₂ (λ (size : Size) (xs : List Bool). entry_at false size xs c) (ap size_of (sym t.costs_are)) (sym t.taken_is)
 
 -- a bucket is empty, and the search goes on to the next even key
-pub ready_passed : (h : Cell → ℕ) (field : Field) (s : Search) (now idle : ℕ) → ((start : Cell) → IsFit h field start) → Ready h field s now idle → bucket_in s (now % 32) ≡ [] → Ready h field s (now + 2) (idle + 2)
-ready_passed h field s now idle fit r none = ready_next h field s s now idle fit r (record { start_is = refl; costs_are = refl; taken_is = refl; buckets_are = sym (ap (set s.buckets.items (now % 32)) (sym none) ∙ set-get_or s.buckets.items (now % 32) []) }) drains
+pub ready_passed : (h : Cell → ℕ) (field : Field) (s : Search) (now idle : ℕ) → ((start : Cell) → IsFit h field start) → Ready h field s now idle
+    → bucket_in s (now % 32) ≡ [] → Ready h field s (now + 2) (idle + 2)
+ready_passed h field s now idle fit r none = ready_next h field s s now idle fit r
+    (record {
+      start_is = refl;
+      costs_are = refl;
+      taken_is = refl;
+      buckets_are =
+          sym (ap (set s.buckets.items (now % 32)) (sym none) ∙ set-get_or s.buckets.items (now % 32) []);
+    }) drains
   where
     drains : Drains h field s now []
     drains = record { size_is = r.size_is; search = r.search; near = λ c n e f. omega (arith, r.near c n e f); queued = λ c n e f. inr (r.queued c n e f) }
 
 -- after as many buckets with no cell to take as there are, none waits
-ready_last : (h : Cell → ℕ) (field : Field) (s : Search) (now idle : ℕ) → 32 ≤ idle → Ready h field s now idle → (c : Cell) (d : ℕ) → cost_in s.costs c ≡ Some d → taken_in s c ≡ true
+ready_last : (h : Cell → ℕ) (field : Field) (s : Search) (now idle : ℕ) → 32 ≤ idle → Ready h field s now idle → (c : Cell) (d : ℕ) → cost_in s.costs c ≡ Some d
+    → taken_in s c ≡ true
 ready_last h field s now idle all r c d e = by (cases_Bool (taken_in s c))
   where
     by : (taken_in s c ≡ true) ⊎ (taken_in s c ≡ false) → taken_in s c ≡ true
     by (inl f) = f
     by (inr f) = absurd (omega (arith, r.near c d e f, r.search.waiting c d e f))
 
-pub costs-found : (h : Cell → ℕ) (field : Field) (s : Search) (now idle : ℕ) → ((start : Cell) → IsFit h field start) → 32 ≤ idle → Ready h field s now idle → AreCosts field s.start (cost_in s.costs)
+pub costs-found : (h : Cell → ℕ) (field : Field) (s : Search) (now idle : ℕ) → ((start : Cell) → IsFit h field start) → 32 ≤ idle → Ready h field s now idle
+    → AreCosts field s.start (cost_in s.costs)
 costs-found h field s now idle fit last r =
     record {
       least = least;
@@ -405,7 +448,8 @@ costs-found h field s now idle fit last r =
         cost-least same_or_not (fit s.start).falls r.search c d e (omega arith)
 
 -- what has its least cost before all cells have been taken
-pub costs-up_to : (h : Cell → ℕ) (field : Field) (s : Search) (now idle bound : ℕ) → ((start : Cell) → IsFit h field start) → Ready h field s now idle → bound < now → AreCostsUpTo field s.start h bound (cost_in s.costs)
+pub costs-up_to : (h : Cell → ℕ) (field : Field) (s : Search) (now idle bound : ℕ) → ((start : Cell) → IsFit h field start) → Ready h field s now idle
+    → bound < now → AreCostsUpTo field s.start h bound (cost_in s.costs)
 costs-up_to h field s now idle bound fit r lt =
     record {
       least = least;
@@ -423,7 +467,8 @@ costs-up_to h field s now idle bound fit r lt =
         v.is ∙ ap Some equal
 
 -- a search that has come to an end may stop
-pub stopped : (h : Cell → ℕ) (field : Field) (s : Search) (now idle : ℕ) (ends : List Cell) → ((start : Cell) → IsFit h field start) → Ready h field s now idle → IsComeTo (cost_in s.costs) ends now → HasStopped field s.start h ends (cost_in s.costs)
+pub stopped : (h : Cell → ℕ) (field : Field) (s : Search) (now idle : ℕ) (ends : List Cell) → ((start : Cell) → IsFit h field start) → Ready h field s now idle
+    → IsComeTo (cost_in s.costs) ends now → HasStopped field s.start h ends (cost_in s.costs)
 stopped h field s zero idle ends fit r come = absurd (omega (arith, come.below))
 stopped h field s (suc n) idle ends fit r come =
     record {
@@ -432,7 +477,8 @@ stopped h field s (suc n) idle ends fit r come =
       up_to = costs-up_to h field s (suc n) idle n fit r (omega arith);
     }
 
-pub ready_begins : (h : Cell → ℕ) (size : Size) (is_open : Cell → Bool) (start : Cell) (s : Search) → h start % 2 ≡ 0 → Begins h size start s → Ready h (record { size = size; is_open = is_open }) s (h start) 0
+pub ready_begins : (h : Cell → ℕ) (size : Size) (is_open : Cell → Bool) (start : Cell) (s : Search) → h start % 2 ≡ 0 → Begins h size start s
+    → Ready h (record { size = size; is_open = is_open }) s (h start) 0
 ready_begins h size is_open start s even b =
     record {
       even = even;
@@ -440,7 +486,8 @@ ready_begins h size is_open start s even b =
       search = record {
         begins = ap (cost_in s.costs) b.start_is ∙ b.here;
         walks = λ c d e. let p = at_start c d e in
-            subst (λ (x : Cell). Walk (IsStep field s.start) s.start x d) (b.start_is ∙ sym p.0) (subst (λ (n : ℕ). Walk (IsStep field s.start) s.start s.start n) (sym p.1) stay);
+            subst (λ (x : Cell). Walk (IsStep field s.start) s.start x d) (b.start_is ∙ sym p.0)
+            (subst (λ (n : ℕ). Walk (IsStep field s.start) s.start s.start n) (sym p.1) stay);
         passed = λ c f. absurd (true≢false (sym f ∙ b.none_taken c));
         reckoned = λ a v k d f. absurd (true≢false (sym f ∙ b.none_taken a));
         waiting = λ c d e f. let p = at_start c d e in omega (arith, p.1, ap h p.0);
@@ -469,7 +516,8 @@ pub record Round (h : Cell → ℕ) (field : Field) (old new : Search) (now now'
   pub falls : now' + (33 * untaken new + (33 - idle')) ≤ now + (33 * untaken old + (33 - idle))
   pub smaller : 33 * untaken new + (33 - idle') < 33 * untaken old + (33 - idle)
 
-pub round-of : (h : Cell → ℕ) (field : Field) (old between new : Search) (now now' idle idle' : ℕ) (any : Bool) → ((start : Cell) → IsFit h field start) → idle < 32 → Ready h field old now idle → Empties old between (now % 32) → Drains h field new now [] → Progress between new any →
+pub round-of : (h : Cell → ℕ) (field : Field) (old between new : Search) (now now' idle idle' : ℕ) (any : Bool) → ((start : Cell) → IsFit h field start)
+    → idle < 32 → Ready h field old now idle → Empties old between (now % 32) → Drains h field new now [] → Progress between new any →
     (any ≡ true → (now' ≡ now) × (idle' ≡ 0)) → (any ≡ false → (now' ≡ now + 2) × (idle' ≡ idle + 2)) → Round h field old new now now' idle idle'
 round-of h field old between new now now' idle idle' true fit lt r t d p e f =
     let (stays, none) = e refl in
@@ -486,7 +534,9 @@ round-of h field old between new now now' idle idle' false fit lt r t d p e f =
     let back : Drains h field between now [] = subst (λ (s : Search). Drains h field s now []) same d in
     record {
       start_is = p.start_is ∙ t.start_is;
-      ready = subst (λ (n : ℕ). Ready h field new n idle') (sym goes) (subst (Ready h field new (now + 2)) (sym more) (subst (λ (s : Search). Ready h field s (now + 2) (idle + 2)) (sym same) (ready_next h field old between now idle fit r t back)));
+      ready = subst (λ (n : ℕ). Ready h field new n idle') (sym goes)
+          (subst (Ready h field new (now + 2)) (sym more) (subst (λ (s : Search). Ready h field s (now + 2) (idle + 2)) (sym same)
+          (ready_next h field old between now idle fit r t back)));
       idle_in = omega arith;
       falls = omega (arith, p.fewer, ap (count_by not) t.taken_is);
       smaller = omega (arith, p.fewer, ap (count_by not) t.taken_is);

@@ -1,19 +1,10 @@
 -- Why the flood finds the labels.
-use Rattle.std.proofs.Common.{◌≡◌, ◌≢◌, ℕ, ◌+◌, ◌*◌, ◌<◌, ◌≤◌, true, List, [], ◌∷◌, ◌++◌, Contains, Option, Some, None, refl, sym, ap, ◌∙◌, subst, ◌⊎◌, ⊎_elim, inl, inr, arith, suc}
-use Rattle.std.proofs.Math.Nat.{eq-or-lt_of_le}
-use Rattle.std.specs.Option.{is_none}
-use Rattle.std.proofs.lemmas.Bool.{cases_lt, true≢false}
-use Rattle.std.proofs.lemmas.List.Elements.{Contains-append_left, Contains-push, Contains-push_cases}
-use Rattle.sim_base.specs.declared.place.Cell.{Cell}
-use Rattle.sim_base.specs.Steps.{Field, IsOnGround, neighbour}
-use Rattle.sim_grid.specs.Grids.{place_of}
-use Rattle.sim_laws.proofs.Neighbours.{neighbour-on}
-use Rattle.sim_search.specs.NumberTables.{size_in, entry_in}
-use Rattle.sim_search.specs.Regions.{IsOpenStep, IsJoined, alone, on, IsLabel, AreLabels}
-use Rattle.sim_search.specs.Floods.{HasLabel, Floods, Flooded, Marks, Spreads, Fills, is_none_late, is_late, work_left}
-use Rattle.sim_search.specs.declared.labels.Flood.{Flood}
-use Rattle.sim_search.proofs.Cells.{same_or_not, place-below}
-use Rattle.sim_search.proofs.Regions.{place-same, joined-on, joined-open, from-on, from-open, joined-turned, joined-chain}
+use Rattle.sim_search.proofs.Cells.{place-below, same_or_not}
+use Rattle.sim_search.proofs.Common.{Field, Fills, Flood, Flooded, Floods, HasLabel, inl, inr, is_late, is_none_late, IsJoined, IsLabel, IsOnGround, IsOpenStep}
+use Rattle.sim_search.proofs.Common.{Marks, neighbour, neighbour-on, on, place_of, size_in, Spreads, subst, sym, true≢false, work_left, ⊎_elim, ◌∙◌}
+use Rattle.sim_search.proofs.Common.{ap, AreLabels, arith, cases_lt, Cell, Contains-append_left, Contains-push, Contains-push_cases, entry_in, eq-or-lt_of_le}
+use Rattle.sim_search.proofs.Common.{◌≡◌, ℕ, suc, ◌+◌, ◌*◌, ◌<◌, ◌≤◌, true, ◌≢◌, ◌⊎◌, List, [], ◌∷◌, ◌++◌, is_none, Some, None, Contains, Option, refl, alone}
+use Rattle.sim_search.proofs.Regions.{from-on, from-open, joined-chain, joined-on, joined-open, joined-turned, place-same}
 
 pub none-is : (o : Option ℕ) → is_none o ≡ true → o ≡ None
 none-is None e = refl
@@ -21,9 +12,11 @@ none-is (Some n) e = absurd (true≢false (sym e))
 
 -- ---- one cell is marked
 
-marked-keeps : (field : Field) (old new : Flood) (cell : Cell) (label : ℕ) → Marks field old new cell label → (c : Cell) (l : ℕ) → entry_in old.table c ≡ Some l → entry_in new.table c ≡ Some l
+marked-keeps : (field : Field) (old new : Flood) (cell : Cell) (label : ℕ) → Marks field old new cell label → (c : Cell) (l : ℕ) → entry_in old.table c ≡ Some l
+    → entry_in new.table c ≡ Some l
 marked-keeps field old new cell label (inl p) c l e = ap (λ (s : Flood). entry_in s.table c) p.same ∙ e
-marked-keeps field old new cell label (inr m) c l e = m.elsewhere c (λ f. let both : None ≡ Some l = sym m.had_none ∙ ap (entry_in old.table) (sym f) ∙ e in cc) ∙ e
+marked-keeps field old new cell label (inr m) c l e = m.elsewhere c (λ f. let both : None ≡ Some l = sym m.had_none ∙ ap (entry_in old.table) (sym f) ∙ e in
+    cc) ∙ e
 
 marked-less : (field : Field) (old new : Flood) (cell : Cell) (label : ℕ) → Marks field old new cell label → work_left new ≤ work_left old
 marked-less field old new cell label (inl p) = omega (arith, ap work_left p.same)
@@ -34,7 +27,8 @@ marked-has : (field : Field) (old new : Flood) (cell : Cell) (label : ℕ) → M
 marked-has field old new cell label (inl p) e = subst (λ (s : Flood). HasLabel s.table cell) (sym p.same) (p.has e)
 marked-has field old new cell label (inr m) e = (label, m.here)
 
-marked-floods : (field : Field) (old new : Flood) (cell : Cell) (label : ℕ) (Late : Cell → Type 0) → (field.is_open cell ≡ true → entry_in old.table cell ≡ None → IsLabel field cell label) →
+marked-floods : (field : Field) (old new : Flood) (cell : Cell) (label : ℕ) (Late : Cell → Type 0)
+    → (field.is_open cell ≡ true → entry_in old.table cell ≡ None → IsLabel field cell label) →
     Marks field old new cell label → Floods field old label Late → Floods field new label Late
 marked-floods field old new cell label Late right (inl p) f = subst (λ (s : Flood). Floods field s label Late) (sym p.same) f
 marked-floods field old new cell label Late right (inr m) f =
@@ -59,11 +53,15 @@ marked-floods field old new cell label Late right (inr m) f =
     stacked c (inl h) = keeps c label (f.stacked c h)
     stacked c (inr g) = ap (entry_in new.table) (sym g) ∙ m.here
 
-    closed : (c : Cell) (l : ℕ) → entry_in new.table c ≡ Some l → (c ≡ cell) ⊎ (c ≢ cell) → Contains new.waiting.items c ⊎ Late c ⊎ ((e : Cell) → IsOpenStep field c e → HasLabel new.table e)
-    closed c l e (inl g) = inl (subst (λ (xs : List Cell). Contains xs c) (sym m.waits) (subst (λ (v : Cell). Contains (old.waiting.items ++ cell ∷ []) v) (sym g) (Contains-push old.waiting.items cell)))
+    closed : (c : Cell) (l : ℕ) → entry_in new.table c ≡ Some l → (c ≡ cell) ⊎ (c ≢ cell) → Contains new.waiting.items c ⊎ Late c
+        ⊎ ((e : Cell) → IsOpenStep field c e → HasLabel new.table e)
+    closed c l e (inl g) = inl
+        (subst (λ (xs : List Cell). Contains xs c) (sym m.waits) (subst (λ (v : Cell). Contains (old.waiting.items ++ cell ∷ []) v) (sym g)
+        (Contains-push old.waiting.items cell)))
     closed c l e (inr g) = by (f.closed c l (sym (m.elsewhere c g) ∙ e))
       where
-        by : Contains old.waiting.items c ⊎ Late c ⊎ ((v : Cell) → IsOpenStep field c v → HasLabel old.table v) → Contains new.waiting.items c ⊎ Late c ⊎ ((v : Cell) → IsOpenStep field c v → HasLabel new.table v)
+        by : Contains old.waiting.items c ⊎ Late c ⊎ ((v : Cell) → IsOpenStep field c v → HasLabel old.table v) → Contains new.waiting.items c ⊎ Late c
+            ⊎ ((v : Cell) → IsOpenStep field c v → HasLabel new.table v)
         by (inl h) = inl (subst (λ (xs : List Cell). Contains xs c) (sym m.waits) (Contains-append_left old.waiting.items (cell ∷ []) c h))
         by (inr (inl h)) = inr (inl h)
         by (inr (inr h)) = inr (inr (λ v s. let (k, is) = h v s in (k, keeps v k is)))
@@ -76,22 +74,32 @@ pub record Spreading (field : Field) (first s : Flood) (from : Cell) (label whic
   pub spreads : Spreads first s
   pub done : (j : ℕ) (e : Cell) → j < which → neighbour field.size from j ≡ Some e → field.is_open e ≡ true → HasLabel s.table e
 
-pub spreading_begins : (field : Field) (first : Flood) (from : Cell) (label : ℕ) → Floods field first label (is_late from) → entry_in first.table from ≡ Some label → Spreading field first first from label 0
+pub spreading_begins : (field : Field) (first : Flood) (from : Cell) (label : ℕ) → Floods field first label (is_late from)
+    → entry_in first.table from ≡ Some label → Spreading field first first from label 0
 spreading_begins field first from label f e =
     record { floods = f; from_is = e; spreads = record { keeps = λ c l h. h; less = omega arith }; done = λ j v lt. absurd (omega arith) }
 
 -- a neighbour of a labelled cell has its label
-beside-label : (field : Field) (from to : Cell) (label which : ℕ) → which < 4 → IsLabel field from label → neighbour field.size from which ≡ Some to → field.is_open to ≡ true → IsLabel field to label
+beside-label : (field : Field) (from to : Cell) (label which : ℕ) → which < 4 → IsLabel field from label → neighbour field.size from which ≡ Some to
+    → field.is_open to ≡ true → IsLabel field to label
 beside-label field from to label which lt own e f =
     let there = neighbour-on field.size from to which e in
     let step : IsOpenStep field from to = record { which = which; straight = lt; leads = e; free = f } in
     let out = on (alone (from-on field own.joined) (from-open field own.joined)) step in
-    record { first = own.first; joined = joined-chain field (joined-turned field out) own.joined; place = own.place; least = λ v j. own.least v (joined-chain field out j) }
+    record {
+      first = own.first;
+      joined = joined-chain field (joined-turned field out) own.joined;
+      place = own.place;
+      least =
+          λ v j. own.least v (joined-chain field out j);
+    }
 
-pub spreading_more : (field : Field) (first old new : Flood) (from to : Cell) (label which : ℕ) → which < 4 → Spreading field first old from label which → neighbour field.size from which ≡ Some to → Marks field old new to label → Spreading field first new from label (which + 1)
+pub spreading_more : (field : Field) (first old new : Flood) (from to : Cell) (label which : ℕ) → which < 4 → Spreading field first old from label which
+    → neighbour field.size from which ≡ Some to → Marks field old new to label → Spreading field first new from label (which + 1)
 spreading_more field first old new from to label which lt x e m =
     record {
-      floods = marked-floods field old new to label (is_late from) (λ f none. beside-label field from to label which lt (x.floods.sound from label x.from_is) e f) m x.floods;
+      floods = marked-floods field old new to label (is_late from) (λ f none. beside-label field from to label which lt (x.floods.sound from label x.from_is) e
+          f) m x.floods;
       from_is = marked-keeps field old new to label m from label x.from_is;
       spreads = record {
         keeps = λ c l h. marked-keeps field old new to label m c l (x.spreads.keeps c l h);
@@ -108,8 +116,10 @@ spreading_more field first old new from to label which lt x e m =
         subst (λ (c : Cell). HasLabel new.table c) to_is (marked-has field old new to label m (subst (λ (c : Cell). field.is_open c ≡ true) (sym to_is) g))
     done j v f g (inr before) = let (l, is) = x.done j v (omega arith) f g in (l, marked-keeps field old new to label m v l is)
 
-pub spreading_none : (field : Field) (first s : Flood) (from : Cell) (label which : ℕ) → Spreading field first s from label which → neighbour field.size from which ≡ None → Spreading field first s from label (which + 1)
-spreading_none field first s from label which x e = record { floods = x.floods; from_is = x.from_is; spreads = x.spreads; done = λ j v below f g. done j v f g (eq-or-lt_of_le below) }
+pub spreading_none : (field : Field) (first s : Flood) (from : Cell) (label which : ℕ) → Spreading field first s from label which
+    → neighbour field.size from which ≡ None → Spreading field first s from label (which + 1)
+spreading_none field first s from label which x e =
+    record { floods = x.floods; from_is = x.from_is; spreads = x.spreads; done = λ j v below f g. done j v f g (eq-or-lt_of_le below) }
   where
     done : (j : ℕ) (v : Cell) → neighbour field.size from j ≡ Some v → field.is_open v ≡ true → (suc j ≡ which + 1) ⊎ (suc j < which + 1) → HasLabel s.table v
     done j v f g (inl same) =
@@ -118,11 +128,13 @@ spreading_none field first s from label which x e = record { floods = x.floods; 
         cc
     done j v f g (inr before) = x.done j v (omega arith) f g
 
-pub spread-done : (field : Field) (first s : Flood) (from : Cell) (label which : ℕ) → 4 ≤ which → Spreading field first s from label which → Floods field s label is_none_late
+pub spread-done : (field : Field) (first s : Flood) (from : Cell) (label which : ℕ) → 4 ≤ which → Spreading field first s from label which
+    → Floods field s label is_none_late
 spread-done field first s from label which all x =
     record { size_is = x.floods.size_is; sound = x.floods.sound; stacked = x.floods.stacked; closed = λ c l e. closed c (x.floods.closed c l e) }
   where
-    closed : (c : Cell) → Contains s.waiting.items c ⊎ (c ≡ from) ⊎ ((e : Cell) → IsOpenStep field c e → HasLabel s.table e) → Contains s.waiting.items c ⊎ ⊥ ⊎ ((e : Cell) → IsOpenStep field c e → HasLabel s.table e)
+    closed : (c : Cell) → Contains s.waiting.items c ⊎ (c ≡ from) ⊎ ((e : Cell) → IsOpenStep field c e → HasLabel s.table e) → Contains s.waiting.items c ⊎ ⊥
+        ⊎ ((e : Cell) → IsOpenStep field c e → HasLabel s.table e)
     closed c (inl h) = inl h
     closed c (inr (inl same)) =
         inr (inr (λ e t. x.done t.which e (let lt = t.straight in omega arith) (ap (λ (v : Cell). neighbour field.size v t.which) (sym same) ∙ t.leads) t.free))
@@ -131,7 +143,8 @@ spread-done field first s from label which all x =
 -- ---- the cells that wait are taken one by one
 
 -- the last cell that waits is taken, and is late
-pub popped : (field : Field) (old new : Flood) (from : Cell) (label : ℕ) → new.table ≡ old.table → old.waiting.items ≡ new.waiting.items ++ from ∷ [] → Floods field old label is_none_late → Floods field new label (is_late from)
+pub popped : (field : Field) (old new : Flood) (from : Cell) (label : ℕ) → new.table ≡ old.table → old.waiting.items ≡ new.waiting.items ++ from ∷ []
+    → Floods field old label is_none_late → Floods field new label (is_late from)
 popped field old new from label t w f =
     record {
       size_is = ap size_in t ∙ f.size_is;
@@ -143,7 +156,8 @@ popped field old new from label t w f =
     same : (c : Cell) → entry_in old.table c ≡ entry_in new.table c
     same c = ap (λ v. entry_in v c) (sym t)
 
-    closed : (c : Cell) → Contains old.waiting.items c ⊎ ⊥ ⊎ ((e : Cell) → IsOpenStep field c e → HasLabel old.table e) → Contains new.waiting.items c ⊎ (c ≡ from) ⊎ ((e : Cell) → IsOpenStep field c e → HasLabel new.table e)
+    closed : (c : Cell) → Contains old.waiting.items c ⊎ ⊥ ⊎ ((e : Cell) → IsOpenStep field c e → HasLabel old.table e) → Contains new.waiting.items c
+        ⊎ (c ≡ from) ⊎ ((e : Cell) → IsOpenStep field c e → HasLabel new.table e)
     closed c (inl h) =
         ⊎_elim
         (λ (k : Contains new.waiting.items c). inl k)
@@ -152,8 +166,10 @@ popped field old new from label t w f =
     closed c (inr (inl h)) = absurd h
     closed c (inr (inr h)) = inr (inr (λ e s. let (l, is) = h e s in (l, sym (same e) ∙ is)))
 
-pub popped-label : (field : Field) (old new : Flood) (from : Cell) (label : ℕ) → new.table ≡ old.table → old.waiting.items ≡ new.waiting.items ++ from ∷ [] → Floods field old label is_none_late → entry_in new.table from ≡ Some label
-popped-label field old new from label t w f = ap (λ v. entry_in v from) t ∙ f.stacked from (subst (λ (xs : List Cell). Contains xs from) (sym w) (Contains-push new.waiting.items from))
+pub popped-label : (field : Field) (old new : Flood) (from : Cell) (label : ℕ) → new.table ≡ old.table → old.waiting.items ≡ new.waiting.items ++ from ∷ []
+    → Floods field old label is_none_late → entry_in new.table from ≡ Some label
+popped-label field old new from label t w f = ap (λ v. entry_in v from) t ∙
+    f.stacked from (subst (λ (xs : List Cell). Contains xs from) (sym w) (Contains-push new.waiting.items from))
 
 -- ---- one region after another
 
@@ -166,11 +182,13 @@ region-has field s n f (alone h e) has = has
 region-has field s n f (on {b = b} {c = c} j t) has = let (l, e) = region-has field s n f j has in f.closed b l e c t
 
 -- a cell with no label has its own place as its label, where the cells before it are labelled
-pub seed-label : (field : Field) (s : Flood) (cell : Cell) → Flooded field s (place_of field.size cell) → IsOnGround field.size cell → field.is_open cell ≡ true → entry_in s.table cell ≡ None → IsLabel field cell (place_of field.size cell)
+pub seed-label : (field : Field) (s : Flood) (cell : Cell) → Flooded field s (place_of field.size cell) → IsOnGround field.size cell → field.is_open cell ≡ true
+    → entry_in s.table cell ≡ None → IsLabel field cell (place_of field.size cell)
 seed-label field s cell f there e none =
     record { first = cell; joined = alone there e; place = refl; least = λ v j. by v j (cases_lt (place_of field.size v) (place_of field.size cell)) }
   where
-    by : (v : Cell) → IsJoined field cell v → (place_of field.size v < place_of field.size cell) ⊎ (place_of field.size cell ≤ place_of field.size v) → place_of field.size cell ≤ place_of field.size v
+    by : (v : Cell) → IsJoined field cell v → (place_of field.size v < place_of field.size cell) ⊎ (place_of field.size cell ≤ place_of field.size v)
+        → place_of field.size cell ≤ place_of field.size v
     by v j (inl lt) =
         let (l, is) = region-has field s (place_of field.size cell) f (joined-turned field j) (f.past v (joined-on field j) lt (joined-open field j)) in
         let both : None ≡ Some l = sym none ∙ is in
@@ -178,9 +196,11 @@ seed-label field s cell f there e none =
         absurd never
     by v j (inr le) = le
 
-pub seed-floods : (field : Field) (old new : Flood) (cell : Cell) (label : ℕ) → label ≡ place_of field.size cell → Flooded field old (place_of field.size cell) → IsOnGround field.size cell → Marks field old new cell label → Floods field new label is_none_late
+pub seed-floods : (field : Field) (old new : Flood) (cell : Cell) (label : ℕ) → label ≡ place_of field.size cell → Flooded field old (place_of field.size cell)
+    → IsOnGround field.size cell → Marks field old new cell label → Floods field new label is_none_late
 seed-floods field old new cell label is f there m =
-    marked-floods field old new cell label is_none_late (λ e none. subst (λ (n : ℕ). IsLabel field cell n) (sym is) (seed-label field old cell f there e none)) m
+    marked-floods field old new cell label is_none_late (λ e none. subst (λ (n : ℕ). IsLabel field cell n) (sym is) (seed-label field old cell f there e none))
+    m
     (record {
       size_is = f.size_is;
       sound = f.sound;
@@ -188,7 +208,8 @@ seed-floods field old new cell label is f there m =
       closed = λ c l e. inr (inr (f.closed c l e));
     })
 
-pub seed-done : (field : Field) (first marked last : Flood) (cell : Cell) (label : ℕ) → Flooded field first (place_of field.size cell) → IsOnGround field.size cell → Marks field first marked cell label →
+pub seed-done : (field : Field) (first marked last : Flood) (cell : Cell) (label : ℕ) → Flooded field first (place_of field.size cell)
+    → IsOnGround field.size cell → Marks field first marked cell label →
     Floods field last label is_none_late → Fills marked last → Flooded field last (place_of field.size cell + 1)
 seed-done field first marked last cell label f there m floods fills =
     record {
@@ -199,12 +220,14 @@ seed-done field first marked last cell label f there m floods fills =
       past = λ c h lt o. past c h o (eq-or-lt_of_le lt);
     }
   where
-    closed : (c : Cell) → Contains last.waiting.items c ⊎ ⊥ ⊎ ((e : Cell) → IsOpenStep field c e → HasLabel last.table e) → (e : Cell) → IsOpenStep field c e → HasLabel last.table e
+    closed : (c : Cell) → Contains last.waiting.items c ⊎ ⊥ ⊎ ((e : Cell) → IsOpenStep field c e → HasLabel last.table e) → (e : Cell) → IsOpenStep field c e
+        → HasLabel last.table e
     closed c (inl h) = absurd (nothing_in c (subst (λ (xs : List Cell). Contains xs c) fills.none_wait h))
     closed c (inr (inl h)) = absurd h
     closed c (inr (inr h)) = h
 
-    past : (c : Cell) → IsOnGround field.size c → field.is_open c ≡ true → (suc (place_of field.size c) ≡ place_of field.size cell + 1) ⊎ (suc (place_of field.size c) < place_of field.size cell + 1) → HasLabel last.table c
+    past : (c : Cell) → IsOnGround field.size c → field.is_open c ≡ true → (suc (place_of field.size c) ≡ place_of field.size cell + 1)
+        ⊎ (suc (place_of field.size c) < place_of field.size cell + 1) → HasLabel last.table c
     past c h o (inl same) =
         let equal : cell ≡ c = place-same field.size cell c there h (omega arith) in
         let (l, is) = marked-has field first marked cell label m (subst (λ (v : Cell). field.is_open v ≡ true) (sym equal) o) in

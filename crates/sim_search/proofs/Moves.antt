@@ -1,17 +1,9 @@
 -- The steps by their directions are the definition's steps, forwards from a cell and backwards into one.
-use Rattle.std.proofs.Common.{◌≡◌, ◌≢◌, ℕ, ◌%◌, ◌<◌, ◌≤◌, Bool, true, false, cond, ◌&&◌, ◌||◌, Option, Some, None, refl, sym, ap, ap₂, ◌∙◌, ◌⊎◌, inl, inr, arith, option_and_then}
-use Rattle.std.specs.Int.{bit_at}
-use Rattle.std.specs.Option.{is_some}
-use Rattle.std.proofs.lemmas.Bool.{cases_Bool, cond-true, and_parts, and_from, true≢false}
-use Rattle.std.proofs.lemmas.Option.{cond_some, option_and_then_some}
-use Rattle.sim_base.specs.declared.place.Cell.{Cell}
-use Rattle.sim_base.specs.Walks.{Walk, stay, go}
-use Rattle.sim_base.specs.Steps.{Field, IsOnGround, IsStep, neighbour, is_free, is_straight, beside_open, step_cost}
-use Rattle.sim_base.specs.Places.{same_cell}
-use Rattle.sim_grid.specs.StepBits.{is_open_to, AreStepsFrom}
-use Rattle.sim_laws.proofs.Ground.{same_cell-self, same_cell-true}
-use Rattle.sim_laws.proofs.Neighbours.{neighbour-back, neighbour-below_eight, straight-in_line}
-use Rattle.sim_search.specs.Moves.{may_go, step_to, AreMoves}
+use Rattle.sim_search.proofs.Common.{Field, go, inl, inr, is_free, is_open_to, is_straight, IsOnGround, IsStep, may_go, neighbour, neighbour-back}
+use Rattle.sim_search.proofs.Common.{and_from, and_parts, ap, ap₂, AreMoves, AreStepsFrom, arith, beside_open, bit_at, cases_Bool, Cell, cond-true, cond_some}
+use Rattle.sim_search.proofs.Common.{neighbour-below_eight, option_and_then_some, same_cell, same_cell-self, same_cell-true, stay, step_cost, step_to}
+use Rattle.sim_search.proofs.Common.{straight-in_line, sym, true≢false, Walk, ◌∙◌}
+use Rattle.sim_search.proofs.Common.{◌≡◌, ℕ, ◌%◌, ◌<◌, ◌≤◌, Bool, true, false, cond, ◌&&◌, ◌||◌, ◌≢◌, ◌⊎◌, is_some, Some, None, Option, option_and_then, refl}
 
 and-comm : (a b : Bool) → (a && b) ≡ (b && a)
 and-comm true true = refl
@@ -65,7 +57,8 @@ module _ (field : Field) (start : Cell) where
 
   pub step_to-is : (a b : Cell) (which : ℕ) → IsMove a b which → step_to field start a which ≡ Some b
   step_to-is a b which m =
-      rw m.leads (cond-true (may_go field start a b which) (Some b) None (and_from (is_free field start b) (is_straight which || beside_open (is_free field start) a b) m.free m.beside))
+      rw m.leads (cond-true (may_go field start a b which) (Some b) None
+      (and_from (is_free field start b) (is_straight which || beside_open (is_free field start) a b) m.free m.beside))
 
   pub step-of : (a b : Cell) (which : ℕ) → step_to field start a which ≡ Some b → IsStep field start a b (step_cost which)
   step-of a b which e = let m = move-of a b which e in record { which = which; leads = m.leads; free = m.free; beside = m.beside; cost_is = refl }
@@ -94,7 +87,8 @@ module _ (field : Field) (start : Cell) where
   beside-comm a b = and-comm (is_free field start (record { x = a.x; z = b.z })) (is_free field start (record { x = b.x; z = a.z }))
 
   -- a step from c to p is one from p to c where c is free
-  pub step_back : (c p : Cell) (which : ℕ) → IsOnGround field.size c → is_free field start c ≡ true → step_to field start c which ≡ Some p → IsStep field start p c (step_cost which)
+  pub step_back : (c p : Cell) (which : ℕ) → IsOnGround field.size c → is_free field start c ≡ true → step_to field start c which ≡ Some p
+      → IsStep field start p c (step_cost which)
   step_back c p which on free e =
       let m = move-of c p which e in
       let back = neighbour-back field.size c p which on m.leads in
@@ -111,10 +105,12 @@ module _ (field : Field) (start : Cell) where
     pub leads : step_to field start c which ≡ Some p
     pub cost_is : k ≡ step_cost which
 
-  pub back_step : (c p : Cell) (which k : ℕ) → IsOnGround field.size p → is_free field start p ≡ true → IsStep field start p c k → neighbour field.size c which ≡ Some p → IsBackStep c p which k
+  pub back_step : (c p : Cell) (which k : ℕ) → IsOnGround field.size p → is_free field start p ≡ true → IsStep field start p c k
+      → neighbour field.size c which ≡ Some p → IsBackStep c p which k
   back_step c p which k on free s e =
       let back = neighbour-back field.size p c s.which on s.leads in
-      let straight : is_straight which ≡ is_straight s.which = straight-in_line field.size c p which e ∙ sym (straight-in_line field.size c p back.way_back back.leads) ∙ back.as_straight in
+      let straight : is_straight which ≡ is_straight s.which = straight-in_line field.size c p which e ∙
+      sym (straight-in_line field.size c p back.way_back back.leads) ∙ back.as_straight in
       record {
         leads = step_to-is c p which (record { leads = e; free = free; beside = ap₂ (λ (a b : Bool). a || b) straight (beside-comm c p) ∙ s.beside });
         cost_is = s.cost_is ∙ same_cost s.which which (sym straight);
@@ -150,10 +146,12 @@ module _ (field : Field) (start : Cell) where
     go-open a which None = refl
     go-open a which (Some b) =
         ap₂ (λ (p q : Bool). p && q) (free-open b)
-        (ap (λ (t : Bool). is_straight which || t) (ap₂ (λ (p q : Bool). p && q) (free-open (record { x = a.x; z = b.z })) (free-open (record { x = b.x; z = a.z }))))
+        (ap (λ (t : Bool). is_straight which || t) (ap₂ (λ (p q : Bool). p && q) (free-open (record { x = a.x; z = b.z }))
+        (free-open (record { x = b.x; z = a.z }))))
 
     pub open-moves : (a : Cell) (moves : ℕ) → AreStepsFrom field a moves → AreMoves field start a moves
-    open-moves a moves s which lt = s which lt ∙ ap (λ (t : Bool). cond t 1 0) (sym (allowed-is a which (neighbour field.size a which) refl ∙ go-open a which (neighbour field.size a which)))
+    open-moves a moves s which lt = s which lt ∙
+        ap (λ (t : Bool). cond t 1 0) (sym (allowed-is a which (neighbour field.size a which) refl ∙ go-open a which (neighbour field.size a which)))
 
   bit_is : (t : Bool) (n : ℕ) → n ≡ cond t 1 0 → n ≡ 1 → t ≡ true
   bit_is true n e f = refl
@@ -172,8 +170,11 @@ module _ (field : Field) (start : Cell) where
   is_some-none (Some x) h = absurd (true≢false h)
 
   -- a bit that is set stands for a step, and one that isn't for none
-  pub move-by_bit : (a : Cell) (moves which : ℕ) → which < 8 → AreMoves field start a moves → bit_at moves which ≡ 1 → (b : Cell) × (step_to field start a which ≡ Some b)
-  move-by_bit a moves which lt m set = is_some-some (step_to field start a which) (bit_is (is_some (step_to field start a which)) (bit_at moves which) (m which lt) set)
+  pub move-by_bit : (a : Cell) (moves which : ℕ) → which < 8 → AreMoves field start a moves → bit_at moves which ≡ 1 → (b : Cell)
+      × (step_to field start a which ≡ Some b)
+  move-by_bit a moves which lt m set = is_some-some (step_to field start a which) (bit_is (is_some (step_to field start a which)) (bit_at moves which)
+      (m which lt) set)
 
   pub no_move-by_bit : (a : Cell) (moves which : ℕ) → which < 8 → AreMoves field start a moves → bit_at moves which ≢ 1 → step_to field start a which ≡ None
-  no_move-by_bit a moves which lt m unset = is_some-none (step_to field start a which) (bit_not_is (is_some (step_to field start a which)) (bit_at moves which) (m which lt) unset)
+  no_move-by_bit a moves which lt m unset = is_some-none (step_to field start a which) (bit_not_is (is_some (step_to field start a which)) (bit_at moves which)
+      (m which lt) unset)

@@ -1,15 +1,7 @@
 -- The octile distance to a cell falls and rises along a step by at most what the step costs.
-use Rattle.std.proofs.Common.{◌%◌, ◌/◌, ◌≡◌, ℕ, zero, suc, ◌+◌, ◌*◌, ◌-◌, ◌≤◌, min, max, Some, ℤ, pos, ◌+ℤ◌, sym, ap₂, subst, arith}
-use Rattle.std.specs.Int.{abs_diff}
-use Rattle.std.proofs.lemmas.Int.{ints}
-use Rattle.sim_base.specs.declared.place.Cell.{Cell}
-use Rattle.sim_base.specs.Places.{Size}
-use Rattle.sim_base.specs.Walks.{Walk, stay, go}
-use Rattle.sim_base.specs.Steps.{Field, IsStep, forward, level, back, cell_at, neighbour, step_cost, octile}
-use Rattle.sim_laws.proofs.Ground.{same_by_parts}
-use Rattle.sim_laws.proofs.Neighbours.{cell_at-some}
-use Rattle.sim_search.specs.Estimates.{IsEstimate, IsNear, estimate_to}
-use Rattle.sim_search.specs.declared.aim.Aim.{Aim}
+use Rattle.sim_search.proofs.Common.{cell_at, cell_at-some, estimate_to, Field, forward, go, ints, IsEstimate, IsNear, IsStep, level, neighbour, octile}
+use Rattle.sim_search.proofs.Common.{same_by_parts, Size, stay, step_cost, subst, sym, Walk}
+use Rattle.sim_search.proofs.Common.{◌≡◌, ℕ, zero, suc, ◌+◌, ◌-◌, ◌*◌, ◌/◌, ◌%◌, ◌≤◌, min, max, ℤ, pos, ◌+ℤ◌, Some, abs_diff, Aim, ap₂, arith, back, Cell}
 
 -- how far two cells lie apart that are beside one another
 pub data IsBeside (a b : Cell) : ℕ → Type 0 where
@@ -20,13 +12,18 @@ pub data IsBeside (a b : Cell) : ℕ → Type 0 where
 past_eight : (size : Size) (c p : Cell) (w : ℕ) → neighbour size c (suc (suc (suc (suc (suc (suc (suc (suc w)))))))) ≡ Some p → ⊥
 past_eight size c p w e = cc
 
-row_at : (size : Size) (a b : Cell) (x : ℤ) → (pos a.x +ℤ x ≡ pos b.x → (a.x ≤ b.x + 1) × (b.x ≤ a.x + 1)) → cell_at size (pos a.x +ℤ x) (pos a.z +ℤ level) ≡ Some b → IsBeside a b 10
-row_at size a b x f e = let p = cell_at-some size (pos a.x +ℤ x) (pos a.z +ℤ level) b e in let by_z = p.by_z in let (l, r) = f p.by_x in in_row l r (omega (arith, ints))
+row_at : (size : Size) (a b : Cell) (x : ℤ) → (pos a.x +ℤ x ≡ pos b.x → (a.x ≤ b.x + 1) × (b.x ≤ a.x + 1)) → cell_at size (pos a.x +ℤ x) (pos a.z +ℤ level) ≡
+    Some b → IsBeside a b 10
+row_at size a b x f e = let p = cell_at-some size (pos a.x +ℤ x) (pos a.z +ℤ level) b e in let by_z = p.by_z in let (l, r) = f p.by_x in
+    in_row l r (omega (arith, ints))
 
-column_at : (size : Size) (a b : Cell) (z : ℤ) → (pos a.z +ℤ z ≡ pos b.z → (a.z ≤ b.z + 1) × (b.z ≤ a.z + 1)) → cell_at size (pos a.x +ℤ level) (pos a.z +ℤ z) ≡ Some b → IsBeside a b 10
-column_at size a b z f e = let p = cell_at-some size (pos a.x +ℤ level) (pos a.z +ℤ z) b e in let by_x = p.by_x in let (l, r) = f p.by_z in in_column (omega (arith, ints)) l r
+column_at : (size : Size) (a b : Cell) (z : ℤ) → (pos a.z +ℤ z ≡ pos b.z → (a.z ≤ b.z + 1) × (b.z ≤ a.z + 1)) → cell_at size (pos a.x +ℤ level) (pos a.z +ℤ z) ≡
+    Some b → IsBeside a b 10
+column_at size a b z f e = let p = cell_at-some size (pos a.x +ℤ level) (pos a.z +ℤ z) b e in let by_x = p.by_x in let (l, r) = f p.by_z in
+    in_column (omega (arith, ints)) l r
 
-across_at : (size : Size) (a b : Cell) (x z : ℤ) → (pos a.x +ℤ x ≡ pos b.x → (a.x ≤ b.x + 1) × (b.x ≤ a.x + 1)) → (pos a.z +ℤ z ≡ pos b.z → (a.z ≤ b.z + 1) × (b.z ≤ a.z + 1)) → cell_at size (pos a.x +ℤ x) (pos a.z +ℤ z) ≡ Some b → IsBeside a b 14
+across_at : (size : Size) (a b : Cell) (x z : ℤ) → (pos a.x +ℤ x ≡ pos b.x → (a.x ≤ b.x + 1) × (b.x ≤ a.x + 1))
+    → (pos a.z +ℤ z ≡ pos b.z → (a.z ≤ b.z + 1) × (b.z ≤ a.z + 1)) → cell_at size (pos a.x +ℤ x) (pos a.z +ℤ z) ≡ Some b → IsBeside a b 14
 across_at size a b x z f g e = let p = cell_at-some size (pos a.x +ℤ x) (pos a.z +ℤ z) b e in let (l, r) = f p.by_x in let (m, s) = g p.by_z in across l r m s
 
 up : (a b : ℕ) → pos a +ℤ forward ≡ pos b → (a ≤ b + 1) × (b ≤ a + 1)
@@ -82,7 +79,8 @@ octile-near {a} {b} g (in_row l m e) =
 octile-near {a} {b} g (in_column e l m) =
     let h = far_upright (abs_diff a.x g.x) (abs_diff a.z g.z) (abs_diff b.z g.z) (about a.z b.z g.z l m) in
     subst (λ (n : ℕ). far (abs_diff a.x g.x) (abs_diff a.z g.z) ≤ 10 + far (abs_diff n g.x) (abs_diff b.z g.z)) e h
-octile-near {a} {b} g (across l m p q) = far_across (abs_diff a.x g.x) (abs_diff b.x g.x) (abs_diff a.z g.z) (abs_diff b.z g.z) (about a.x b.x g.x l m) (about a.z b.z g.z p q)
+octile-near {a} {b} g (across l m p q) = far_across (abs_diff a.x g.x) (abs_diff b.x g.x) (abs_diff a.z g.z) (abs_diff b.z g.z) (about a.x b.x g.x l m)
+    (about a.z b.z g.z p q)
 
 most_beside : {a b : Cell} {k : ℕ} → IsBeside a b k → k ≤ 14
 most_beside (in_row l m e) = omega arith
@@ -95,13 +93,19 @@ even_beside (in_column e l m) = omega arith
 even_beside (across l m p q) = omega arith
 
 pub estimate-falls : (aim : Aim) (field : Field) (start : Cell) → IsEstimate (IsStep field start) (estimate_to aim)
-estimate-falls aim field start = record { falls = λ a b k s. let w = beside_of field start a b k s in less (octile a aim.goal) (octile b aim.goal) k aim.near (even_beside w) (octile-near aim.goal w) }
+estimate-falls aim field start = record {
+  falls = λ a b k s. let w = beside_of field start a b k s in less (octile a aim.goal) (octile b aim.goal) k aim.near
+      (even_beside w) (octile-near aim.goal w);
+}
   where
     less : (m n k near : ℕ) → k % 2 ≡ 0 → m ≤ k + n → (m - near) / 2 * 2 ≤ k + (n - near) / 2 * 2
     less m n k near e h = omega arith
 
 pub estimate-rises : (aim : Aim) (field : Field) (start : Cell) → IsNear (IsStep field start) (estimate_to aim) 32
-estimate-rises aim field start = record { rises = λ a b k s. let w = beside_of field start a b k s in more (octile a aim.goal) (octile b aim.goal) k aim.near (even_beside w) (octile-near aim.goal (turned w)) (most_beside w) }
+estimate-rises aim field start = record {
+  rises = λ a b k s. let w = beside_of field start a b k s in more (octile a aim.goal) (octile b aim.goal) k aim.near
+      (even_beside w) (octile-near aim.goal (turned w)) (most_beside w);
+}
   where
     more : (m n k near : ℕ) → k % 2 ≡ 0 → n ≤ k + m → k ≤ 14 → k + (n - near) / 2 * 2 + 1 ≤ (m - near) / 2 * 2 + 32
     more m n k near e h l = omega arith

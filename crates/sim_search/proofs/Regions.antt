@@ -1,19 +1,10 @@
 -- Regions: cells are joined both ways, labels tell which are, and so which cells a walk reaches.
-use Rattle.std.proofs.Common.{◌≡◌, ◌≢◌, ℕ, ◌+◌, ◌<◌, Bool, true, false, ◌||◌, Option, Some, None, ℤ, pos, ◌+ℤ◌, refl, sym, ap, ◌∙◌, subst, ◌⊎◌, inl, inr, arith, ltb-true, lt-ltb, zero, suc}
-use Rattle.std.proofs.lemmas.Bool.{cases_Bool, and_parts, true≢false}
-use Rattle.std.proofs.lemmas.Nat.{same_from_place}
-use Rattle.std.proofs.lemmas.Int.{ints}
-use Rattle.sim_base.specs.declared.place.Cell.{Cell}
-use Rattle.sim_base.specs.Places.{Size, same_cell}
-use Rattle.sim_base.specs.Walks.{Walk, stay, go}
-use Rattle.sim_base.specs.Steps.{Field, IsOnGround, IsStep, forward, level, back, cell_at, neighbour, is_free, is_straight, beside_open, step_cost}
-use Rattle.sim_grid.specs.Grids.{place_of}
-use Rattle.sim_laws.proofs.Ground.{same_by_parts, same_cell-true}
-use Rattle.sim_laws.proofs.Neighbours.{cell_at-some, cell_at-is, neighbour-back, neighbour-on}
-use Rattle.sim_laws.proofs.Trips.{walk-on}
-use Rattle.sim_search.specs.Regions.{IsOpenStep, IsJoined, alone, on, IsLabel, AreLabels, IsReached, IsShore, itself, beside, HasShoreLabel}
-use Rattle.sim_search.specs.RegionLaws.{LabelsTell, NoLabelIsClosed}
-use Rattle.sim_search.proofs.Cells.{same_or_not}
+use Rattle.sim_search.proofs.{Cells.same_or_not, Common.◌∙◌}
+use Rattle.sim_search.proofs.Common.{HasShoreLabel, inl, inr, ints, is_free, is_straight, IsJoined, IsLabel, IsOnGround, IsOpenStep, IsReached, IsShore, IsStep}
+use Rattle.sim_search.proofs.Common.{ap, AreLabels, arith, back, beside, beside_open, cases_Bool, Cell, cell_at, cell_at-is, cell_at-some, Field, forward, go}
+use Rattle.sim_search.proofs.Common.{itself, LabelsTell, level, lt-ltb, ltb-true, neighbour, neighbour-back, neighbour-on, NoLabelIsClosed, on, place_of}
+use Rattle.sim_search.proofs.Common.{same_by_parts, same_cell, same_cell-true, same_from_place, Size, stay, step_cost, subst, sym, true≢false, Walk, walk-on}
+use Rattle.sim_search.proofs.Common.{◌≡◌, ℕ, zero, suc, ◌+◌, ◌<◌, Bool, true, false, ◌||◌, ◌≢◌, ◌⊎◌, ℤ, pos, ◌+ℤ◌, Some, None, Option, refl, alone, and_parts}
 
 pub place-same : (size : Size) (c e : Cell) → IsOnGround size c → IsOnGround size e → place_of size c ≡ place_of size e → c ≡ e
 place-same size c e f g h = let parts = same_from_place c.z c.x e.z e.x size.width f.east g.east h in same_by_parts c e parts.1 parts.0
@@ -77,12 +68,15 @@ pub record IsCorner (size : Size) (a b : Cell) : Type 0 where
   pub to_corner : neighbour size a first ≡ Some (record { x = a.x; z = b.z })
   pub from_corner : neighbour size (record { x = a.x; z = b.z }) last ≡ Some b
 
-corner-in : (size : Size) (a b : Cell) (x z : ℤ) → IsOnGround size a → cell_at size (pos a.x +ℤ x) (pos a.z +ℤ z) ≡ Some b → cell_at size (pos a.x +ℤ level) (pos a.z +ℤ z) ≡ Some (record { x = a.x; z = b.z })
+corner-in : (size : Size) (a b : Cell) (x z : ℤ) → IsOnGround size a → cell_at size (pos a.x +ℤ x) (pos a.z +ℤ z) ≡ Some b
+    → cell_at size (pos a.x +ℤ level) (pos a.z +ℤ z) ≡ Some (record { x = a.x; z = b.z })
 corner-in size a b x z h e =
     let p = cell_at-some size (pos a.x +ℤ x) (pos a.z +ℤ z) b e in
-    cell_at-is size (pos a.x +ℤ level) (pos a.z +ℤ z) (record { x = a.x; z = b.z }) (record { on = record { east = h.east; north = p.on.north }; by_x = omega (arith, ints); by_z = p.by_z })
+    cell_at-is size (pos a.x +ℤ level) (pos a.z +ℤ z) (record { x = a.x; z = b.z })
+    (record { on = record { east = h.east; north = p.on.north }; by_x = omega (arith, ints); by_z = p.by_z })
 
-corner-out : (size : Size) (a b : Cell) (x z : ℤ) → cell_at size (pos a.x +ℤ x) (pos a.z +ℤ z) ≡ Some b → cell_at size (pos a.x +ℤ x) (pos b.z +ℤ level) ≡ Some b
+corner-out : (size : Size) (a b : Cell) (x z : ℤ) → cell_at size (pos a.x +ℤ x) (pos a.z +ℤ z) ≡ Some b → cell_at size (pos a.x +ℤ x) (pos b.z +ℤ level) ≡
+    Some b
 corner-out size a b x z e =
     let p = cell_at-some size (pos a.x +ℤ x) (pos a.z +ℤ z) b e in
     cell_at-is size (pos a.x +ℤ x) (pos b.z +ℤ level) b (record { on = p.on; by_x = p.by_x; by_z = omega (arith, ints) })
@@ -95,10 +89,46 @@ corner size a b zero h e f = absurd (true≢false f)
 corner size a b (suc zero) h e f = absurd (true≢false f)
 corner size a b (suc (suc zero)) h e f = absurd (true≢false f)
 corner size a b (suc (suc (suc zero))) h e f = absurd (true≢false f)
-corner size a b (suc (suc (suc (suc zero)))) h e f = record { first = 1; last = 0; first_straight = omega arith; last_straight = omega arith; to_corner = corner-in size a b forward forward h e; from_corner = corner-out size a b forward forward e }
-corner size a b (suc (suc (suc (suc (suc zero))))) h e f = record { first = 1; last = 2; first_straight = omega arith; last_straight = omega arith; to_corner = corner-in size a b back forward h e; from_corner = corner-out size a b back forward e }
-corner size a b (suc (suc (suc (suc (suc (suc zero)))))) h e f = record { first = 3; last = 2; first_straight = omega arith; last_straight = omega arith; to_corner = corner-in size a b back back h e; from_corner = corner-out size a b back back e }
-corner size a b (suc (suc (suc (suc (suc (suc (suc zero))))))) h e f = record { first = 3; last = 0; first_straight = omega arith; last_straight = omega arith; to_corner = corner-in size a b forward back h e; from_corner = corner-out size a b forward back e }
+corner size a b (suc (suc (suc (suc zero)))) h e f =
+    record {
+      first = 1;
+      last = 0;
+      first_straight = omega arith;
+      last_straight = omega arith;
+      to_corner = corner-in size a b forward forward h e;
+      from_corner =
+          corner-out size a b forward forward e;
+    }
+corner size a b (suc (suc (suc (suc (suc zero))))) h e f =
+    record {
+      first = 1;
+      last = 2;
+      first_straight = omega arith;
+      last_straight = omega arith;
+      to_corner = corner-in size a b back forward h e;
+      from_corner =
+          corner-out size a b back forward e;
+    }
+corner size a b (suc (suc (suc (suc (suc (suc zero)))))) h e f =
+    record {
+      first = 3;
+      last = 2;
+      first_straight = omega arith;
+      last_straight = omega arith;
+      to_corner = corner-in size a b back back h e;
+      from_corner =
+          corner-out size a b back back e;
+    }
+corner size a b (suc (suc (suc (suc (suc (suc (suc zero))))))) h e f =
+    record {
+      first = 3;
+      last = 0;
+      first_straight = omega arith;
+      last_straight = omega arith;
+      to_corner = corner-in size a b forward back h e;
+      from_corner =
+          corner-out size a b forward back e;
+    }
 corner size a b (suc (suc (suc (suc (suc (suc (suc (suc w)))))))) h e f = absurd (past_eight size a b w e)
 
 -- ---- which cells a walk reaches
@@ -129,7 +159,8 @@ module _ (field : Field) (start : Cell) (start_on : IsOnGround field.size start)
 
   go-on : (b c : Cell) (which : ℕ) → which < 4 → neighbour field.size b which ≡ Some c → field.is_open c ≡ true → (b ≡ start) ⊎ IsAshore b → IsAshore c
   go-on b c which lt e f (inl same) = landed c which lt (subst (λ (v : Cell). neighbour field.size v which ≡ Some c) same e) f
-  go-on b c which lt e f (inr a) = record { shore = a.shore; is_shore = a.is_shore; joined = on a.joined (record { which = which; straight = lt; leads = e; free = f }) }
+  go-on b c which lt e f (inr a) =
+      record { shore = a.shore; is_shore = a.is_shore; joined = on a.joined (record { which = which; straight = lt; leads = e; free = f }) }
 
   pub ashore : {c : Cell} {n : ℕ} → Walk (IsStep field start) start c n → (c ≡ start) ⊎ IsAshore c
   ashore stay = inl refl
@@ -146,19 +177,30 @@ module _ (field : Field) (start : Cell) (start_on : IsOnGround field.size start)
           corner_cell = record { x = b.x; z = c.z }
 
           free : is_free field start corner_cell ≡ true
-          free = (and_parts (is_free field start (record { x = b.x; z = c.z })) (is_free field start (record { x = c.x; z = b.z })) (ap (λ (t : Bool). t || beside_open (is_free field start) b c) (sym across) ∙ s.beside)).0
+          free = (and_parts (is_free field start (record { x = b.x; z = c.z })) (is_free field start (record { x = c.x; z = b.z }))
+              (ap (λ (t : Bool). t || beside_open (is_free field start) b c) (sym across) ∙ s.beside)).0
 
           round : (corner_cell ≡ start) ⊎ (corner_cell ≢ start) → IsAshore c
-          round (inl e) = landed c way_round.last way_round.last_straight (subst (λ (v : Cell). neighbour field.size v way_round.last ≡ Some c) e way_round.from_corner) f
-          round (inr e) = go-on corner_cell c way_round.last way_round.last_straight way_round.from_corner f (inr (go-on b corner_cell way_round.first way_round.first_straight way_round.to_corner (free-open corner_cell e free) h))
+          round (inl e) = landed c way_round.last way_round.last_straight
+              (subst (λ (v : Cell). neighbour field.size v way_round.last ≡ Some c) e way_round.from_corner) f
+          round (inr e) = go-on corner_cell c way_round.last way_round.last_straight way_round.from_corner f
+              (inr (go-on b corner_cell way_round.first way_round.first_straight way_round.to_corner (free-open corner_cell e free) h))
 
       by : (c ≡ start) ⊎ (c ≢ start) → (b ≡ start) ⊎ IsAshore b → (c ≡ start) ⊎ IsAshore c
       by (inl e) h = inl e
       by (inr e) h = inr (around (free-open c e s.free) h (cases_Bool (is_straight s.which)))
 
-  straight-step : (a b : Cell) (which : ℕ) → which < 4 → neighbour field.size a which ≡ Some b → field.is_open b ≡ true → IsStep field start a b (step_cost which)
+  straight-step : (a b : Cell) (which : ℕ) → which < 4 → neighbour field.size a which ≡ Some b → field.is_open b ≡ true
+      → IsStep field start a b (step_cost which)
   straight-step a b which lt e f =
-      record { which = which; leads = e; free = open-free b f; beside = ap (λ (t : Bool). t || beside_open (is_free field start) a b) (lt-ltb which 4 lt); cost_is = refl }
+      record {
+        which = which;
+        leads = e;
+        free = open-free b f;
+        beside = ap (λ (t : Bool). t || beside_open (is_free field start) a b) (lt-ltb which 4 lt);
+        cost_is =
+            refl;
+      }
 
   shore-reached : {a : Cell} → IsShore field start a → field.is_open a ≡ true → IsReached field start a
   shore-reached itself e = record { cost = 0; walk = stay }
@@ -185,7 +227,8 @@ labels-tell field label start start_on known = record { reached = reached; back 
     back : (c : Cell) → HasShoreLabel field label start c → IsReached field start c
     back c h =
         let own = known.sound h.shore h.value h.of_shore in
-        joined-reached field start start_on (shore-reached field start start_on h.is_shore (from-open field own.joined)) (label-shared field h.shore c h.value own (known.sound c h.value h.of_cell))
+        joined-reached field start start_on (shore-reached field start start_on h.is_shore (from-open field own.joined))
+        (label-shared field h.shore c h.value own (known.sound c h.value h.of_cell))
 
 pub no_label-closed : NoLabelIsClosed
 no_label-closed field label c known on_ground = (closed, none)

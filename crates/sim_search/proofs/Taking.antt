@@ -1,20 +1,16 @@
 -- Why a search that takes cells by ascending cost and estimate finds the least costs: for any steps, and any estimate that falls by at most
 -- what a step costs.
-use Rattle.std.proofs.Common.{◌≡◌, ◌≢◌, ℕ, ◌+◌, ◌<◌, ◌≤◌, Bool, true, false, Option, Some, sym, ap, ◌∙◌, subst, ◌⊎◌, ⊎_elim, inl, inr, arith}
-use Rattle.std.proofs.lemmas.Bool.{cases_Bool, true≢false}
-use Rattle.std.proofs.Math.Nat.{eq-or-lt_of_le}
-use Rattle.sim_base.specs.Walks.{Walk, IsLeastCost, stay, go}
-use Rattle.sim_search.specs.Estimates.{IsEstimate}
-use Rattle.sim_search.specs.Taking.{HasCost, IsSearch}
-use Rattle.sim_search.specs.TakingLaws.{TakenIsLeast, TakenInOrder, LoweringKeeps, TakingKeeps}
-use Rattle.sim_search.proofs.Cells.{same_or_not}
+use Rattle.sim_search.proofs.{Cells.same_or_not, Common.true≢false, Common.Walk, Common.⊎_elim, Common.◌∙◌}
+use Rattle.sim_search.proofs.Common.{inr, IsEstimate, IsLeastCost, IsSearch, LoweringKeeps, stay, subst, sym, TakenInOrder, TakenIsLeast, TakingKeeps}
+use Rattle.sim_search.proofs.Common.{◌≡◌, ℕ, ◌+◌, ◌<◌, ◌≤◌, Bool, true, false, ◌≢◌, ◌⊎◌, Some, Option, ap, arith, cases_Bool, eq-or-lt_of_le, go, HasCost, inl}
 
 module _ {X : Type 0} {Step : X → X → ℕ → Type 0} {start : X} {estimate : X → ℕ} {cost : X → Option ℕ} {taken : X → Bool} {now : ℕ}
     (same : (c e : X) → (c ≡ e) ⊎ (c ≢ e)) (good : IsEstimate Step estimate) (s : IsSearch Step start estimate cost taken now) where
   -- each walk ends at a cell that has a cost as low, or its cost and estimate are as high as what the search has come to
   pub walk-found : {c : X} {n : ℕ} → Walk Step start c n → (now ≤ n + estimate c) ⊎ HasCost cost c n
   walk-found stay = inr (record { value = 0; is = s.begins; low = omega arith })
-  walk-found (go {a = a} {b = b} {n = n} {k = k} walk step) = ⊎_elim (λ (h : now ≤ n + estimate a). inl (omega (arith, good.falls a b k step))) (λ (l : HasCost cost a n). from l (cases_Bool (taken a))) (walk-found walk)
+  walk-found (go {a = a} {b = b} {n = n} {k = k} walk step) = ⊎_elim (λ (h : now ≤ n + estimate a). inl (omega (arith, good.falls a b k step)))
+      (λ (l : HasCost cost a n). from l (cases_Bool (taken a))) (walk-found walk)
     where
       from : HasCost cost a n → (taken a ≡ true) ⊎ (taken a ≡ false) → (now ≤ n + k + estimate b) ⊎ HasCost cost b (n + k)
       from l (inl h) = let r = s.reckoned a b k l.value h l.is step in inr (record { value = r.value; is = r.is; low = omega (arith, r.low, l.low) })
@@ -94,7 +90,8 @@ module _ {X : Type 0} {Step : X → X → ℕ → Type 0} {start : X} {estimate 
         by_wait c v e h (inr f) = s.waiting c v (sym (elsewhere c f) ∙ e) h
 
   -- a cell at what the search has come to, all steps from which are reckoned with, is taken
-  module _ (next : X → Bool) (u : X) (d : ℕ) (at_u : cost u ≡ Some d) (key_u : d + estimate u ≡ now) (steps : (b : X) (k : ℕ) → Step u b k → HasCost cost b (d + k))
+  module _ (next : X → Bool) (u : X) (d : ℕ) (at_u : cost u ≡ Some d) (key_u : d + estimate u ≡ now) (steps : (b : X) (k : ℕ) → Step u b k
+      → HasCost cost b (d + k))
       (here : next u ≡ true) (elsewhere : (c : X) → c ≢ u → next c ≡ taken c) where
     pub takes : IsSearch Step start estimate cost next now
     takes =
@@ -138,7 +135,9 @@ taken-before field start estimate cost taken now s c e d f t is w lower =
     omega (arith, s.waiting e f lower w)
 
 pub lowering-keeps : LoweringKeeps
-lowering-keeps field start estimate cost lowered taken now good s from to k d at key step higher here elsewhere = lowers same_or_not good s lowered from to k d at key step higher here elsewhere
+lowering-keeps field start estimate cost lowered taken now good s from to k d at key step higher here elsewhere =
+    lowers same_or_not good s lowered from to k d at key step higher here elsewhere
 
 pub taking-keeps : TakingKeeps
-taking-keeps field start estimate cost taken more now good s from d at key steps here elsewhere = takes same_or_not good s more from d at key steps here elsewhere
+taking-keeps field start estimate cost taken more now good s from d at key steps here elsewhere = takes same_or_not good s more from d at key steps here
+    elsewhere

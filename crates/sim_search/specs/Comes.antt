@@ -1,9 +1,6 @@
 -- A search that stops when it has come to an end, and what it knows by then.
-use Rattle.std.specs.Prelude.{◌≡◌, ℕ, ◌+◌, ◌<◌, ◌≤◌, ◌⊎◌, List, Contains, Option, Some}
-use Rattle.sim_base.specs.declared.place.Cell.{Cell}
-use Rattle.sim_base.specs.Steps.{Field}
-use Rattle.sim_base.specs.Ways.{IsCost}
-use Rattle.sim_search.specs.Tables.{AreCosts}
+use Rattle.std.specs.Prelude.{◌≡◌, ℕ, ◌+◌, ◌<◌, ◌≤◌, ◌⊎◌, List, Some, Contains, Option}
+use Rattle.sim_search.specs.{Common.Cell, Common.Field, Common.IsCost, Tables.AreCosts}
 
 -- one of the ends has a cost below this
 pub record IsComeTo (cost : Cell → Option ℕ) (ends : List Cell) (now : ℕ) : Type 0 where

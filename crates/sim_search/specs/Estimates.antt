@@ -1,8 +1,6 @@
 -- What is known of the cost from a cell on.
-use Rattle.std.specs.Prelude.{ℕ, ◌+◌, ◌-◌, ◌*◌, ◌/◌, ◌≤◌, ◌<◌}
-use Rattle.sim_base.specs.declared.place.Cell.{Cell}
-use Rattle.sim_base.specs.Steps.{octile}
-use Rattle.sim_search.specs.declared.aim.Aim.{Aim}
+use Rattle.std.specs.Prelude.{ℕ, ◌+◌, ◌-◌, ◌*◌, ◌/◌, ◌<◌, ◌≤◌}
+use Rattle.sim_search.specs.{Common.Cell, Common.octile, declared.aim.Aim.Aim}
 
 -- An estimate falls along a step by at most what the step costs. So it is never more than what a walk to a cell with estimate 0 costs.
 pub record IsEstimate {X : Type 0} (Step : X → X → ℕ → Type 0) (estimate : X → ℕ) : Type 0 where

@@ -1,14 +1,8 @@
 -- A flood that labels one region after another.
-use Rattle.std.specs.Prelude.{◌≡◌, ◌≢◌, ℕ, ◌+◌, ◌*◌, ◌<◌, ◌≤◌, ◌⊎◌, true, [], ◌∷◌, ◌++◌, length, Contains, count_by, Option, Some, None}
 use Rattle.std.specs.Option.{is_none}
-use Rattle.sim_base.specs.declared.place.Cell.{Cell}
-use Rattle.sim_base.specs.Steps.{Field, IsOnGround}
-use Rattle.sim_grid.specs.Grids.{place_of}
-use Rattle.sim_search.specs.NumberTables.{size_in, entry_in}
-use Rattle.sim_search.specs.Regions.{IsOpenStep, IsLabel}
-use Rattle.sim_search.specs.declared.table.Table.{Table}
-use Rattle.sim_search.specs.declared.labels.Labels.{Labels}
-use Rattle.sim_search.specs.declared.labels.Flood.{Flood}
+use Rattle.std.specs.Prelude.{◌≡◌, ℕ, ◌+◌, ◌*◌, ◌<◌, ◌≤◌, true, ◌≢◌, ◌⊎◌, [], ◌∷◌, ◌++◌, length, Some, None, Contains, count_by, Option}
+use Rattle.sim_search.specs.{Common.Cell, Common.Field, Common.IsOnGround, Common.place_of, NumberTables.entry_in, NumberTables.size_in}
+use Rattle.sim_search.specs.{Regions.IsLabel, Regions.IsOpenStep, declared.labels.Flood.Flood, declared.labels.Labels.Labels, declared.table.Table.Table}
 
 -- the label of a cell, if it has one
 abbrev pub label_in : Labels → Cell → Option ℕ

@@ -1,10 +1,6 @@
 -- Numbers by cells.
-use Rattle.std.specs.Prelude.{◌≡◌, ◌≢◌, ℕ, Option, Some, None, slice_set}
-use Rattle.sim_base.specs.declared.place.Cell.{Cell}
-use Rattle.sim_base.specs.Places.{Size}
-use Rattle.sim_grid.specs.Grids.{place_of}
-use Rattle.sim_search.specs.Tables.{entry_at}
-use Rattle.sim_search.specs.declared.table.Table.{Table}
+use Rattle.std.specs.Prelude.{◌≡◌, ℕ, ◌≢◌, slice_set, Some, None, Option}
+use Rattle.sim_search.specs.{Common.Cell, Common.place_of, Common.Size, Tables.entry_at, declared.table.Table.Table}
 
 abbrev pub size_in : Table → Size
 size_in t = record { width = t.width; depth = t.depth }

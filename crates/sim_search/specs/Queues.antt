@@ -1,11 +1,8 @@
 -- The cells that wait in a ring of buckets, for any estimate.
-use Rattle.std.specs.Prelude.{◌≡◌, ◌≢◌, ℕ, ◌+◌, ◌%◌, ◌<◌, ◌≤◌, Bool, true, false, not, ◌⊎◌, List, [], ◌∷◌, ◌++◌, Some, None, slice_index_or, slice_set, Contains, count_by, map, nat_eq, if◌then◌else◌}
-use Rattle.sim_base.specs.declared.place.Cell.{Cell}
-use Rattle.sim_base.specs.Places.{Size}
-use Rattle.sim_base.specs.Steps.{Field, IsStep}
-use Rattle.sim_search.specs.Tables.{entry_at, size_of, cost_in}
-use Rattle.sim_search.specs.Taking.{HasCost, IsSearch}
-use Rattle.sim_search.specs.declared.search.Search.{Search}
+use Rattle.std.specs.Prelude.{slice_set, Some, None, Contains, count_by}
+use Rattle.std.specs.Prelude.{◌≡◌, ℕ, ◌+◌, ◌%◌, ◌<◌, ◌≤◌, Bool, true, false, not, ◌≢◌, ◌⊎◌, List, [], ◌∷◌, ◌++◌, map, if◌then◌else◌, nat_eq, slice_index_or}
+use Rattle.sim_search.specs.{Common.Cell, Common.Field, Common.IsStep, Common.Size, Tables.cost_in, Tables.entry_at, Tables.size_of}
+use Rattle.sim_search.specs.{Taking.HasCost, Taking.IsSearch, declared.search.Search.Search}
 
 -- which cells were taken: those that have the stamp of this search
 abbrev pub takens : Search → List Bool

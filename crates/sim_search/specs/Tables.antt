@@ -1,12 +1,6 @@
 -- Costs by cells.
-use Rattle.std.specs.Prelude.{◌≡◌, ◌≢◌, ℕ, Bool, true, ◌&&◌, nat_lt, nat_eq, ◌+◌, map, List, Option, Some, None, slice_index_or, if◌then◌else◌}
-use Rattle.sim_base.specs.declared.place.Cell.{Cell}
-use Rattle.sim_base.specs.Places.{Size}
-use Rattle.sim_base.specs.Steps.{Field}
-use Rattle.sim_base.specs.Ways.{IsCost}
-use Rattle.sim_grid.specs.Grids.{place_of}
-use Rattle.sim_search.specs.declared.costs.Costs.{Costs}
-use Rattle.sim_search.specs.declared.entry.Entry.{Entry}
+use Rattle.std.specs.Prelude.{◌≡◌, ℕ, ◌+◌, Bool, true, ◌&&◌, ◌≢◌, List, map, if◌then◌else◌, nat_eq, nat_lt, slice_index_or, Some, None, Option}
+use Rattle.sim_search.specs.{Common.Cell, Common.Field, Common.IsCost, Common.place_of, Common.Size, declared.costs.Costs.Costs, declared.entry.Entry.Entry}
 
 -- whether a ground has a cell
 abbrev pub has_cell : Size → Cell → Bool

@@ -1,10 +1,6 @@
 -- What the laws of the search say, for every estimate.
-use Rattle.std.specs.Prelude.{◌≡◌, ◌≢◌, ℕ, ◌+◌, ◌<◌, ◌≤◌, Bool, true, false, Option, Some}
-use Rattle.sim_base.specs.declared.place.Cell.{Cell}
-use Rattle.sim_base.specs.Steps.{Field, IsStep}
-use Rattle.sim_base.specs.Ways.{IsCost}
-use Rattle.sim_search.specs.Estimates.{IsEstimate}
-use Rattle.sim_search.specs.Taking.{HasCost, IsSearch}
+use Rattle.std.specs.Prelude.{◌≡◌, ℕ, ◌+◌, ◌<◌, ◌≤◌, Bool, true, false, ◌≢◌, Some, Option}
+use Rattle.sim_search.specs.{Common.Cell, Common.Field, Common.IsCost, Common.IsStep, Estimates.IsEstimate, Taking.HasCost, Taking.IsSearch}
 
 -- a cell that was taken has its least cost over all walks
 abbrev pub TakenIsLeast : Type 0

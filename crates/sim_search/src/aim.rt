@@ -1,6 +1,6 @@
 //! Where a search goes, and so what is known of the cost from a cell on. The search takes cells by their cost and this estimate.
 
-ghost use Rattle.std.specs.Prelude.{◌≡◌, ◌<◌, ◌^◌};
+ghost use Rattle.std.specs.Prelude.{◌≡◌, ◌^◌, ◌<◌};
 ghost use Rattle.sim_search.specs.Estimates.{estimate_to};
 
 use sim_base::Cell;
@@ -16,8 +16,7 @@ pub struct Aim {
 
 impl Aim {
     ghost use Rattle.std.specs.Prelude.{◌≡◌};
-    ghost use Rattle.sim_base.specs.declared.place.Cell.{Cell};
-    ghost use Rattle.sim_search.specs.Estimates.{estimate_to, IsNarrow};
+    ghost use Rattle.sim_search.specs.{Common.Cell, Estimates.estimate_to, Estimates.IsNarrow};
 
     /// No cell of a ground is as far from a goal as this. A search with this aim goes everywhere alike.
     pub fn nowhere(goal: Cell) -> Aim

@@ -22,10 +22,9 @@ pub struct Costs {
 }
 
 impl Costs {
-    ghost use Rattle.std.specs.Prelude.{◌≡◌, ◌≢◌, ◌+◌, ◌-◌, ◌^◌, ◌*◌, ◌<◌, ◌↔◌, IsTrue, IfOk, Some, None, replicate};
-    ghost use Rattle.sim_base.specs.declared.place.Cell.{Cell};
-    ghost use Rattle.sim_base.specs.Steps.{IsOnGround};
-    ghost use Rattle.sim_search.specs.Tables.{size_of, cost_in, place_in, read_entry, IsSet, IsForgotten};
+    ghost use Rattle.std.specs.Prelude.{◌≡◌, ◌+◌, ◌-◌, ◌*◌, ◌^◌, ◌<◌, ◌↔◌, IsTrue, Some, None};
+    ghost use Rattle.sim_search.specs.Common.{Cell, IsOnGround};
+    ghost use Rattle.sim_search.specs.Tables.{cost_in, IsForgotten, IsSet, place_in, read_entry, size_of};
 
     /// Whether the ground has this cell.
     pub(crate) fn has(&self, cell: Cell) -> bool

@@ -1,21 +1,12 @@
 //! The search, bucket by bucket: cells are taken by ascending keys, and each one with its least cost.
 
-ghost use Rattle.std.specs.Prelude.{◌≡◌, ◌<◌, ◌≤◌, ◌+◌, ◌^◌, ◌↔◌, [], Some, ℕ, List, OnOk, IfOk, IsTrue, true, false};
-ghost use Rattle.sim_base.specs.declared.place.Cell.{Cell};
-ghost use Rattle.sim_base.specs.Steps.{Field, IsOnGround};
-ghost use Rattle.sim_grid.specs.Grids.{field_of_grid};
-ghost use Rattle.sim_search.specs.Tables.{AreCosts, size_of, cost_in};
-ghost use Rattle.sim_search.specs.Taking.{HasCost};
-ghost use Rattle.sim_search.specs.Estimates.{estimate_to};
-ghost use Rattle.sim_search.specs.declared.aim.Aim.{Aim};
-ghost use Rattle.sim_search.specs.Comes.{IsComeTo, IsSearched};
-ghost use Rattle.sim_search.specs.Queues.{Begins, Drains, Expands, Progress, Ready};
+ghost use Rattle.std.specs.Prelude.{◌≡◌, ◌+◌, ◌^◌, ◌<◌, ◌≤◌, true, false, ◌↔◌, [], IfOk, OnOk, IsTrue, Some};
+ghost use Rattle.sim_search.specs.{Comes.IsComeTo, Comes.IsSearched, Queues.Begins, Queues.Drains, Queues.Expands, Queues.Progress, Queues.Ready};
+ghost use Rattle.sim_search.specs.{Common.Cell, Common.Field, Common.field_of_grid, Common.IsOnGround, Tables.AreCosts, Tables.cost_in, Tables.size_of};
+ghost use Rattle.sim_search.specs.{Estimates.estimate_to, declared.aim.Aim.Aim};
 
-use crate::aim::{Aim, estimate};
-use crate::costs::Costs;
 use crate::queue::{begun, emptied, is_empty, lower, swap_bucket, take, waiting};
-use crate::search::Search;
-use crate::steps::{moves_from, step, step_cost};
+use crate::{Aim, Costs, Search, estimate, moves_from, step, step_cost};
 use sim_base::{Cell, Items, OutOfMemory};
 use sim_grid::Grid;
 use std::alloc::Global;
@@ -88,7 +79,8 @@ fn is_come_to(costs: &Costs, ends: &[Cell], now: u32) -> bool
 fn passed(search: &Search, mut now: u32, mut idle: u32) -> (u32, u32)
     requires idle { idle < 32 }
     requires small { now < 2 ^ 31 }
-    ensures ready { (aim : Aim) (field : Field) → Ready (estimate_to aim) field search.now now idle → Ready (estimate_to aim) field search.now result.0 result.1 }
+    ensures ready { (aim : Aim) (field : Field) → Ready (estimate_to aim) field search.now now idle → Ready (estimate_to aim) field search.now result.0
+        result.1 }
     ensures gap { result.0 + idle ≡ now + result.1 }
     ensures least { idle ≤ result.1 }
     ensures most { result.1 < 32 }

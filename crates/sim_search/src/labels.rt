@@ -1,12 +1,9 @@
 //! Labels of regions. Two open cells have one label just where steps to the east, north, west and south over open cells
 //! join them.
 
-ghost use Rattle.std.specs.Prelude.{◌≡◌, ◌<◌, ◌+◌, ◌*◌, IfOk, OnOk, Some};
-ghost use Rattle.sim_base.specs.Steps.{IsOnGround};
-ghost use Rattle.sim_grid.specs.Grids.{field_of_grid, place_of};
-ghost use Rattle.sim_search.specs.NumberTables.{size_in, entry_in};
-ghost use Rattle.sim_search.specs.Regions.{AreLabels};
-ghost use Rattle.sim_search.specs.Floods.{label_in, Flooded, Floods, Marks, Spreads, Fills, is_none_late, is_late};
+ghost use Rattle.std.specs.Prelude.{◌≡◌, ◌+◌, ◌*◌, ◌<◌, IfOk, OnOk, Some};
+ghost use Rattle.sim_search.specs.{Common.field_of_grid, Common.IsOnGround, Common.place_of, NumberTables.entry_in, NumberTables.size_in, Regions.AreLabels};
+ghost use Rattle.sim_search.specs.Floods.{Fills, Flooded, Floods, is_late, is_none_late, label_in, Marks, Spreads};
 
 use crate::table::{Table, no_numbers};
 use sim_base::{Cell, OutOfMemory};

@@ -1,15 +1,11 @@
 //! The cells that wait, in a ring of buckets, each of which holds those of one key: the sum of cost and estimate.
 
-ghost use Rattle.std.specs.Prelude.{◌≡◌, ◌<◌, ◌≤◌, ◌+◌, ◌-◌, ◌↔◌, IsTrue, ◌%◌, ◌^◌, ◌*◌, [], None, Some, OnOk, IfOk, ℕ, replicate, slice_index_or, vec_len};
-ghost use Rattle.sim_base.specs.Steps.{IsOnGround};
-ghost use Rattle.sim_search.specs.Tables.{size_of, cost_in, is_lower_than};
-ghost use Rattle.sim_search.specs.Estimates.{estimate_to};
-ghost use Rattle.sim_search.specs.Queues.{Begins, IsBlank, Lowers, Waits, Takes, Empties, taken_in, bucket_in};
+ghost use Rattle.std.specs.Prelude.{◌≡◌, ℕ, ◌+◌, ◌-◌, ◌*◌, ◌%◌, ◌^◌, ◌<◌, ◌≤◌, ◌↔◌, [], replicate, IfOk, OnOk, IsTrue, slice_index_or, Some, None, vec_len};
+ghost use Rattle.sim_search.specs.{Common.IsOnGround, Estimates.estimate_to, Tables.cost_in, Tables.is_lower_than, Tables.size_of};
+ghost use Rattle.sim_search.specs.Queues.{Begins, bucket_in, Empties, IsBlank, Lowers, taken_in, Takes, Waits};
 
-use crate::aim::{Aim, estimate};
-use crate::costs::Costs;
 use crate::entry::Entry;
-use crate::search::Search;
+use crate::{Aim, Costs, Search, estimate};
 use sim_base::{Cell, Items, OutOfMemory};
 use std::alloc::Global;
 use std::mem;

@@ -1,10 +1,8 @@
 //! The steps that are allowed over a grid.
 
-ghost use Rattle.std.specs.Prelude.{◌≡◌, ◌<◌, IfSome};
-ghost use Rattle.std.specs.Option.{is_some};
-ghost use Rattle.sim_base.specs.Steps.{IsOnGround, is_free as is_free_in, beside_open, is_straight, step_cost as cost_of_step};
-ghost use Rattle.sim_grid.specs.Grids.{field_of_grid};
-ghost use Rattle.sim_search.specs.Moves.{step_to, AreMoves};
+ghost use Rattle.std.specs.{Option.is_some, Prelude.◌≡◌, Prelude.◌<◌, Prelude.IfSome};
+ghost use Rattle.sim_search.specs.Common.{beside_open, field_of_grid, is_free as is_free_in, IsOnGround, step_cost as cost_of_step};
+ghost use Rattle.sim_search.specs.Moves.{AreMoves, step_to};
 
 use sim_base::Cell;
 use sim_grid::Grid;

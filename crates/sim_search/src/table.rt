@@ -1,6 +1,6 @@
 //! A number for some of the cells of a ground.
 
-ghost use Rattle.std.specs.Prelude.{◌≡◌, ◌*◌, ◌<◌, ◌≤◌, vec_len, IfOk, None, replicate};
+ghost use Rattle.std.specs.Prelude.{◌≡◌, ◌*◌, ◌<◌, ◌≤◌, replicate, IfOk, None, vec_len};
 
 use sim_base::{Cell, OutOfMemory};
 use std::alloc::Global;
@@ -17,10 +17,9 @@ pub struct Table {
 }
 
 impl Table {
-    ghost use Rattle.std.specs.Prelude.{◌≡◌, ◌≢◌, ◌+◌, ◌*◌, ◌<◌, ◌↔◌, IsTrue, IfOk, Some, None, replicate};
-    ghost use Rattle.sim_base.specs.declared.place.Cell.{Cell};
-    ghost use Rattle.sim_base.specs.Steps.{IsOnGround};
-    ghost use Rattle.sim_search.specs.NumberTables.{size_in, entry_in, place_at, IsEntered};
+    ghost use Rattle.std.specs.Prelude.{◌≡◌, ◌+◌, ◌*◌, ◌<◌, ◌↔◌, replicate, IfOk, IsTrue, Some, None};
+    ghost use Rattle.sim_search.specs.Common.{Cell, IsOnGround};
+    ghost use Rattle.sim_search.specs.NumberTables.{entry_in, IsEntered, place_at, size_in};
 
     /// Whether the ground has this cell.
     pub fn has(&self, cell: Cell) -> bool

@@ -1,26 +1,25 @@
 -- Reading points one after the other, as a loop does.
-use Rattle.std.proofs.Common.{◌≡◌, ℕ, suc, ◌-◌, ◌+◌, ◌≤◌, ◌<◌, List, [], ◌∷◌, ◌++◌, length, take, Option, Some, None, refl, sym, ap, ◌∙◌, append_assoc, arith, add-one}
-use Rattle.std.proofs.Math.ListN.{set}
-use Rattle.std.proofs.Math.Seq.{take-suc-set}
-use Rattle.std.proofs.lemmas.List.{append-nil}
-use Rattle.sim_base.specs.declared.place.Point.{Point}
-use Rattle.sim_bytes.specs.Reading.{◌>>=◌}
-use Rattle.sim_sections.specs.Rows.{point_at, points_at}
+use Rattle.{sim_base.specs.declared.place.Point.Point, sim_bytes.specs.Reading.◌>>=◌, sim_sections.specs.Rows.point_at, sim_sections.specs.Rows.points_at}
+use Rattle.std.proofs.{Common.sym, Common.◌∙◌, Math.ListN.set, Math.Seq.take-suc-set, lemmas.List.append-nil}
+use Rattle.std.proofs.Common.{◌≡◌, ℕ, suc, ◌+◌, ◌-◌, ◌<◌, ◌≤◌, List, [], ◌∷◌, ◌++◌, length, take, Some, None, Option, refl, add-one, ap, append_assoc, arith}
 
 -- what was read before, and what is still read
 abbrev pub with_front : List Point → Option (List Point × List ℕ) → Option (List Point × List ℕ)
 with_front front read = read >>= λ x. Some (front ++ x.0, x.1)
 
-regroup : (front : List Point) (p : Point) (read : Option (List Point × List ℕ)) → with_front front (read >>= λ x. Some (p ∷ x.0, x.1)) ≡ with_front (front ++ p ∷ []) read
+regroup : (front : List Point) (p : Point) (read : Option (List Point × List ℕ)) → with_front front (read >>= λ x. Some (p ∷ x.0, x.1)) ≡ with_front
+    (front ++ p ∷ []) read
 regroup front p (Some x) = ap (λ (ps : List Point). Some (ps, x.1)) (simp append_assoc)
 regroup front p None = refl
 
-pub goes_on : (front : List Point) (count i : ℕ) (bytes : List ℕ) (p : Point) (after : List ℕ) (total : Option (List Point × List ℕ)) → i < count → point_at bytes ≡ Some (p, after)
+pub goes_on : (front : List Point) (count i : ℕ) (bytes : List ℕ) (p : Point) (after : List ℕ) (total : Option (List Point × List ℕ)) → i < count
+    → point_at bytes ≡ Some (p, after)
     → with_front front (points_at (count - i) bytes) ≡ total → with_front (front ++ p ∷ []) (points_at (count - (i + 1)) after) ≡ total
 unfolding points_at
 goes_on front count i bytes p after total lt h so_far =
     let k : count - i ≡ suc (count - (i + 1)) = omega arith in
-    let one : with_front front (points_at (count - i) bytes) ≡ with_front (front ++ p ∷ []) (points_at (count - (i + 1)) after) = rw (k, h) (regroup front p (points_at (count - (i + 1)) after)) in
+    let one : with_front front (points_at (count - i) bytes) ≡ with_front (front ++ p ∷ []) (points_at (count - (i + 1)) after) =
+    rw (k, h) (regroup front p (points_at (count - (i + 1)) after)) in
     sym one ∙ so_far
 
 pub ends : (front : List Point) (count i : ℕ) (bytes : List ℕ) (total : Option (List Point × List ℕ)) → i < count → point_at bytes ≡ None
@@ -31,7 +30,8 @@ ends front count i bytes total lt h so_far =
     let one : with_front front (points_at (count - i) bytes) ≡ None = rw (k, h) refl in
     sym so_far ∙ one
 
-pub is_done : (front : List Point) (count i : ℕ) (bytes : List ℕ) (total : Option (List Point × List ℕ)) → count ≤ i → with_front front (points_at (count - i) bytes) ≡ total → total ≡ Some (front, bytes)
+pub is_done : (front : List Point) (count i : ℕ) (bytes : List ℕ) (total : Option (List Point × List ℕ)) → count ≤ i
+    → with_front front (points_at (count - i) bytes) ≡ total → total ≡ Some (front, bytes)
 unfolding points_at
 is_done front count i bytes total le so_far =
     let k : count - i ≡ 0 = omega arith in

@@ -1,19 +1,16 @@
 -- The bytes of a row are read as that row, whatever follows. From this one law of each form follows that no row's bytes begin another's.
-use Rattle.std.proofs.Common.{◌≡◌, ℕ, List, [], ◌∷◌, ◌++◌, length, ltb, true, false, Bool, Some, refl, sym, ap, ◌∙◌, append_assoc, rules, ℤ, pos, not, eqb, cond}
-use Rattle.std.specs.List.{flat_map, AllByRecursion}
-use Rattle.std.proofs.lemmas.Bool.{le-ltb}
-use Rattle.std.proofs.lemmas.List.{append-nil}
-use Rattle.sim_bytes.specs.Reading.{Reader}
-use Rattle.sim_base.specs.declared.place.Point.{Point}
-use Rattle.sim_base.specs.declared.state.Motion.{Motion}
-use Rattle.sim_base.specs.declared.state.Motion.TheVariants.{Still, Going}
-use Rattle.sim_base.specs.Spelling.{entity_bytes, position_bytes, owner_bytes, health_bytes, attack_bytes, stance_bytes, moving_bytes, motion_bytes, point_bytes}
-use Rattle.sim_bytes.specs.Numbers.{u16_back, u32_back, i32_back}
-use Rattle.sim_base.specs.Bytes.{u16_bytes, u32_bytes, i32_bytes, flag_bytes}
-use Rattle.sim_sections.specs.Rows.{IsEntity, entity_at, IsPosition, position_at, IsOwner, owner_at, IsHealth, health_at, IsAttack, attack_at, IsStance, stance_at, IsPoint, IsMotion, IsMoving, point_at, points_at, motion_at, moving_at}
+use Rattle.std.{proofs.Common.◌∙◌, proofs.lemmas.Bool.le-ltb, proofs.lemmas.List.append-nil, specs.List.flat_map, specs.List.AllByRecursion}
+use Rattle.std.proofs.Common.{◌≡◌, ℕ, Bool, true, false, cond, not, eqb, ltb, List, [], ◌∷◌, ◌++◌, length, ℤ, pos, Some, refl, ap, append_assoc, rules, sym}
+use Rattle.sim_base.specs.{Bytes.flag_bytes, Bytes.i32_bytes, Bytes.u16_bytes, Bytes.u32_bytes, Spelling.stance_bytes}
+use Rattle.sim_base.specs.Spelling.{attack_bytes, entity_bytes, health_bytes, motion_bytes, moving_bytes, owner_bytes, point_bytes, position_bytes}
+use Rattle.sim_base.specs.declared.{place.Point.Point, state.Motion.Motion, state.Motion.TheVariants.Going, state.Motion.TheVariants.Still}
+use Rattle.sim_bytes.specs.{Numbers.i32_back, Numbers.u16_back, Numbers.u32_back, Reading.Reader}
+use Rattle.sim_sections.specs.Rows.{attack_at, entity_at, health_at, IsAttack, IsEntity, IsHealth, IsMotion, IsMoving, IsOwner, IsPoint, IsPosition, IsStance}
+use Rattle.sim_sections.specs.Rows.{motion_at, moving_at, owner_at, point_at, points_at, position_at, stance_at}
 
 -- where rows are read back, no row's bytes begin another's
-pub prefix_nil : {X : Type 0} (at : Reader X) (spelled : X → List ℕ) (IsRow : X → Type 0) → ((row : X) (rest : List ℕ) → IsRow row → at (spelled row ++ rest) ≡ Some (row, rest))
+pub prefix_nil : {X : Type 0} (at : Reader X) (spelled : X → List ℕ) (IsRow : X → Type 0)
+    → ((row : X) (rest : List ℕ) → IsRow row → at (spelled row ++ rest) ≡ Some (row, rest))
     → (row other : X) (more : List ℕ) → IsRow row → IsRow other → spelled other ≡ spelled row ++ more → more ≡ []
 prefix_nil {X} at spelled IsRow back row other more fits other_fits e =
     let one : at (spelled other) ≡ Some (other, []) = ap at (sym (append-nil (spelled other))) ∙ back other [] other_fits in
@@ -52,8 +49,15 @@ pub attack_back : (r : ℕ × (ℕ × ℕ)) (rest : List ℕ) → IsAttack r →
 unfolding attack_at
 attack_back r rest fits =
     let regrouped : attack_bytes r ++ rest ≡ u32_bytes r.0 ++ (u32_bytes r.1.0 ++ (u16_bytes r.1.1 ++ rest)) =
-    append_assoc (u32_bytes r.0) (u32_bytes r.1.0 ++ u16_bytes r.1.1) rest ∙ ap (λ (x : List ℕ). u32_bytes r.0 ++ x) (append_assoc (u32_bytes r.1.0) (u16_bytes r.1.1) rest) in
-    ap attack_at regrouped ∙ rw (u32_back r.0 (u32_bytes r.1.0 ++ (u16_bytes r.1.1 ++ rest)) fits.id, u32_back r.1.0 (u16_bytes r.1.1 ++ rest) fits.target, u16_back r.1.1 rest fits.cooldown) refl
+    append_assoc (u32_bytes r.0) (u32_bytes r.1.0 ++ u16_bytes r.1.1) rest ∙ ap (λ (x : List ℕ). u32_bytes r.0 ++ x)
+    (append_assoc (u32_bytes r.1.0) (u16_bytes r.1.1) rest) in
+    ap attack_at regrouped ∙
+    rw (
+      u32_back r.0 (u32_bytes r.1.0 ++ (u16_bytes r.1.1 ++ rest)) fits.id,
+      u32_back r.1.0 (u16_bytes r.1.1 ++ rest) fits.target,
+      u16_back r.1.1 rest
+          fits.cooldown,
+    ) refl
 
 flag_back : (flag : Bool) → not (eqb (cond flag 1 0) 0) ≡ flag
 flag_back true = refl
@@ -68,7 +72,8 @@ pub points_back : (ps : List Point) (rest : List ℕ) → AllByRecursion IsPoint
 unfolding points_at
 points_back [] rest fits = refl
 points_back (p ∷ ps) rest fits =
-    ap (points_at (length (p ∷ ps))) (append_assoc (point_bytes p) (flat_map point_bytes ps) rest) ∙ rw (point_back p (flat_map point_bytes ps ++ rest) fits.0, points_back ps rest fits.1) refl
+    ap (points_at (length (p ∷ ps))) (append_assoc (point_bytes p) (flat_map point_bytes ps) rest) ∙
+    rw (point_back p (flat_map point_bytes ps ++ rest) fits.0, points_back ps rest fits.1) refl
 
 going_back : (goal : Point) (way : List Point) (whole : Bool) (rest : List ℕ) → IsMotion (Going goal way whole)
     → motion_at (1 ∷ (point_bytes goal ++ (flag_bytes whole ++ length way ∷ (flat_map point_bytes way ++ rest)))) ≡ Some (Going goal way whole, rest)
@@ -80,16 +85,19 @@ going_back goal way whole rest fits =
 pub motion_back : (m : Motion) (rest : List ℕ) → IsMotion m → motion_at (motion_bytes m ++ rest) ≡ Some (m, rest)
 unfolding motion_at points_at
 motion_back Still rest fits =
-    ap motion_at (ap (λ (x : List ℕ). 0 ∷ x) still_bytes) ∙ rw (point_back (record { x = pos 0; z = pos 0 }) (0 ∷ 0 ∷ rest) (record { x = search rules; z = search rules })) refl
+    ap motion_at (ap (λ (x : List ℕ). 0 ∷ x) still_bytes) ∙
+    rw (point_back (record { x = pos 0; z = pos 0 }) (0 ∷ 0 ∷ rest) (record { x = search rules; z = search rules })) refl
   where
     still_bytes : (i32_bytes (pos 0) ++ (i32_bytes (pos 0) ++ (0 ∷ 0 ∷ []))) ++ rest ≡ point_bytes (record { x = pos 0; z = pos 0 }) ++ 0 ∷ 0 ∷ rest
     still_bytes = simp append_assoc
 motion_back (Going goal way whole) rest fits =
-    let regrouped : motion_bytes (Going goal way whole) ++ rest ≡ 1 ∷ (point_bytes goal ++ (flag_bytes whole ++ length way ∷ (flat_map point_bytes way ++ rest))) =
+    let regrouped : motion_bytes (Going goal way whole) ++ rest ≡ 1 ∷
+    (point_bytes goal ++ (flag_bytes whole ++ length way ∷ (flat_map point_bytes way ++ rest))) =
     ap (λ (x : List ℕ). 1 ∷ x) (append_assoc (point_bytes goal) (flag_bytes whole ++ length way ∷ flat_map point_bytes way) rest) in
     ap motion_at regrouped ∙ going_back goal way whole rest fits
 
 pub moving_back : (r : ℕ × Motion) (rest : List ℕ) → IsMoving r → moving_at (moving_bytes r ++ rest) ≡ Some (r, rest)
 unfolding moving_at
 moving_back r rest fits =
-    ap moving_at (append_assoc (u32_bytes r.0) (motion_bytes r.1) rest) ∙ rw (u32_back r.0 (motion_bytes r.1 ++ rest) fits.id, motion_back r.1 rest fits.motion) refl
+    ap moving_at (append_assoc (u32_bytes r.0) (motion_bytes r.1) rest) ∙ rw (u32_back r.0 (motion_bytes r.1 ++ rest) fits.id, motion_back r.1 rest fits.motion)
+    refl

@@ -1,26 +1,25 @@
 -- How many bytes a row has in each section: at most 527, which a motion with a way of 64 waypoints has.
-use Rattle.std.proofs.Common.{◌≡◌, ℕ, ◌*◌, ◌≤◌, List, [], ◌∷◌, ◌++◌, length, Option, Some, None, refl, arith, pos, length-append}
-use Rattle.std.specs.Prelude.{IfSome, option_map}
-use Rattle.std.specs.List.{flat_map}
-use Rattle.sim_base.specs.declared.place.Point.{Point}
-use Rattle.sim_base.specs.declared.state.Motion.{Motion}
-use Rattle.sim_base.specs.declared.state.Motion.TheVariants.{Still, Going}
-use Rattle.sim_base.specs.declared.state.Row.{Row}
-use Rattle.sim_base.specs.Bytes.{u16_bytes, u32_bytes, i32_bytes, flag_bytes}
-use Rattle.sim_base.specs.Spelling.{entity_bytes, entity_part, position_bytes, position_part, owner_bytes, owner_part, health_bytes, health_part, attack_bytes, attack_part, stance_bytes, stance_part, moving_bytes, motion_bytes, motion_part, point_bytes}
-use Rattle.sim_bytes.specs.Numbers.{length-u16_bytes, length-u32_bytes, length-i32_bytes}
-use Rattle.sim_sections.specs.Rows.{with_id, IsShort, HasShortWay}
+use Rattle.std.proofs.Common.{◌≡◌, ℕ, ◌*◌, ◌≤◌, List, [], ◌∷◌, ◌++◌, length, pos, Some, None, Option, refl, arith, length-append}
+use Rattle.std.specs.{List.flat_map, Prelude.IfSome, Prelude.option_map}
+use Rattle.sim_base.specs.Bytes.{flag_bytes, i32_bytes, u16_bytes, u32_bytes}
+use Rattle.sim_base.specs.Spelling.{attack_bytes, attack_part, entity_bytes, entity_part, health_bytes, health_part, motion_bytes, motion_part, moving_bytes}
+use Rattle.sim_base.specs.Spelling.{owner_bytes, owner_part, point_bytes, position_bytes, position_part, stance_bytes, stance_part}
+use Rattle.sim_base.specs.declared.{place.Point.Point, state.Motion.Motion, state.Motion.TheVariants.Going, state.Motion.TheVariants.Still, state.Row.Row}
+use Rattle.sim_bytes.specs.Numbers.{length-i32_bytes, length-u16_bytes, length-u32_bytes}
+use Rattle.sim_sections.specs.Rows.{HasShortWay, IsShort, with_id}
 
 -- a row of a state is spelled in at most 527 bytes
 abbrev pub IsFew : {X : Type 0} → (ℕ × X → List ℕ) → Option (ℕ × X) → Type 0
 IsFew spelled o = IfSome o (λ found. length (spelled found) ≤ 527)
 
 -- the parts of a row, by whether it has them
-few_of : {X : Type 0} (spelled : ℕ × X → List ℕ) (id : ℕ) (part : Option X) → IfSome part (λ x. length (spelled (id, x)) ≤ 527) → IsFew spelled (option_map (λ (x : X). (id, x)) part)
+few_of : {X : Type 0} (spelled : ℕ × X → List ℕ) (id : ℕ) (part : Option X) → IfSome part (λ x. length (spelled (id, x)) ≤ 527)
+    → IsFew spelled (option_map (λ (x : X). (id, x)) part)
 few_of spelled id None h = tt
 few_of spelled id (Some x) h = h
 
-always : {X : Type 0} (spelled : ℕ × X → List ℕ) (id : ℕ) (part : Option X) → ((x : X) → length (spelled (id, x)) ≤ 527) → IsFew spelled (option_map (λ (x : X). (id, x)) part)
+always : {X : Type 0} (spelled : ℕ × X → List ℕ) (id : ℕ) (part : Option X) → ((x : X) → length (spelled (id, x)) ≤ 527)
+    → IsFew spelled (option_map (λ (x : X). (id, x)) part)
 always spelled id None h = tt
 always spelled id (Some x) h = h x
 
@@ -41,7 +40,8 @@ pub owner_few : (row : Row) → HasShortWay row → IsFew owner_bytes (with_id o
 owner_few row short = omega (arith, length-append (u32_bytes row.id) (row.owner ∷ []), length-u32_bytes row.id)
 
 pub health_few : (row : Row) → HasShortWay row → IsFew health_bytes (with_id health_part row)
-health_few row short = always health_bytes row.id row.health (λ h. omega (arith, length-append (u32_bytes row.id) (i32_bytes h), length-u32_bytes row.id, length-i32_bytes h))
+health_few row short = always health_bytes row.id row.health
+    (λ h. omega (arith, length-append (u32_bytes row.id) (i32_bytes h), length-u32_bytes row.id, length-i32_bytes h))
 
 pub attack_few : (row : Row) → HasShortWay row → IsFew attack_bytes (with_id attack_part row)
 attack_few row short = always attack_bytes row.id (attack_part row) (λ x. omega (
@@ -54,7 +54,8 @@ attack_few row short = always attack_bytes row.id (attack_part row) (λ x. omega
 ))
 
 pub stance_few : (row : Row) → HasShortWay row → IsFew stance_bytes (with_id stance_part row)
-stance_few row short = always stance_bytes row.id (stance_part row) (λ x. omega (arith, length-append (u32_bytes row.id) (flag_bytes x), length-u32_bytes row.id))
+stance_few row short = always stance_bytes row.id (stance_part row)
+    (λ x. omega (arith, length-append (u32_bytes row.id) (flag_bytes x), length-u32_bytes row.id))
 
 length-motion_bytes : (m : Motion) → IsShort m → length (motion_bytes m) ≤ 523
 length-motion_bytes Still short =

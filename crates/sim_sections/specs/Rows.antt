@@ -1,13 +1,9 @@
 -- The rows of the sections as they are read: for each an id and a part, with the bytes that follow.
-use Rattle.std.specs.Prelude.{ℕ, zero, suc, ◌^◌, ◌<◌, ◌≤◌, Bool, not, ◌==◌, nat_lt, if◌then◌else◌, ℤ, FitsSigned, List, [], ◌∷◌, length, Option, None, Some, IfSome, option_map}
-use Rattle.std.specs.Int.{w16, w32}
-use Rattle.std.specs.List.{AllByRecursion}
-use Rattle.sim_base.specs.declared.place.Point.{Point}
-use Rattle.sim_base.specs.declared.state.Row.{Row}
-use Rattle.sim_base.specs.declared.state.Motion.{Motion}
-use Rattle.sim_base.specs.declared.state.Motion.TheVariants.{Still, Going}
+use Rattle.std.specs.{Int.w16, Int.w32, List.AllByRecursion, Prelude.Option, Prelude.option_map}
+use Rattle.std.specs.Prelude.{ℕ, zero, suc, ◌^◌, ◌<◌, ◌≤◌, Bool, not, List, [], ◌∷◌, length, ℤ, IfSome, if◌then◌else◌, nat_lt, ◌==◌, FitsSigned, Some, None}
 use Rattle.sim_base.specs.Limits.{waypoint_limit}
-use Rattle.sim_bytes.specs.Reading.{Reader, ◌>>=◌, number_at, byte_at, signed_at}
+use Rattle.sim_base.specs.declared.{place.Point.Point, state.Motion.Motion, state.Motion.TheVariants.Going, state.Motion.TheVariants.Still, state.Row.Row}
+use Rattle.sim_bytes.specs.Reading.{byte_at, number_at, Reader, signed_at, ◌>>=◌}
 
 -- a part beside the id of its row
 abbrev pub with_id : {X : Type 0} → (Row → Option X) → Row → Option (ℕ × X)
@@ -100,7 +96,8 @@ made_motion going goal way whole = if going then Going goal way whole else Still
 unfoldable pub motion_at : Reader Motion
 motion_at bytes =
     byte_at bytes >>= λ mode. point_at mode.1 >>= λ goal. byte_at goal.1 >>= λ whole. byte_at whole.1 >>= λ count.
-    if nat_lt waypoint_limit count.0 then None else (points_at count.0 count.1 >>= λ way. Some (made_motion (not (mode.0 == 0)) goal.0 way.0 (not (whole.0 == 0)), way.1))
+    if nat_lt waypoint_limit count.0 then None
+    else (points_at count.0 count.1 >>= λ way. Some (made_motion (not (mode.0 == 0)) goal.0 way.0 (not (whole.0 == 0)), way.1))
 
 -- reads an id and a motion
 unfoldable pub moving_at : Reader (ℕ × Motion)
@@ -116,7 +113,8 @@ pub record IsAttack (r : ℕ × (ℕ × ℕ)) : Type 0 where
 
 -- reads an id, a target and a cooldown
 unfoldable pub attack_at : Reader (ℕ × (ℕ × ℕ))
-attack_at bytes = number_at w32 bytes >>= λ id. number_at w32 id.1 >>= λ target. number_at w16 target.1 >>= λ cooldown. Some ((id.0, (target.0, cooldown.0)), cooldown.1)
+attack_at bytes = number_at w32 bytes >>= λ id. number_at w32 id.1 >>= λ target. number_at w16 target.1 >>= λ cooldown. Some
+    ((id.0, (target.0, cooldown.0)), cooldown.1)
 
 -- ---- stance
 

@@ -1,7 +1,6 @@
 -- The versions of the layout of a stored state.
 use Rattle.std.specs.Prelude.{ℕ, Bool, true, false}
-use Rattle.sim_sections.specs.declared.version.Version.{Version}
-use Rattle.sim_sections.specs.declared.version.Version.TheVariants.{One, Two}
+use Rattle.sim_sections.specs.declared.version.Version.{Version, TheVariants.One, TheVariants.Two}
 
 -- the number that stands behind the magic
 abbrev pub number_of : Version → ℕ

@@ -1,17 +1,10 @@
 -- A state as it is read: the sections are found, and then each row is put together from a reader in each of them.
-use Rattle.std.specs.Prelude.{◌≡◌, ℕ, Bool, false, ◌&&◌, List, Option, Some, None, Result, Ok, Err, is_some, slice_get, option_map, unwrap_or}
-use Rattle.sim_base.specs.declared.state.Aim.{Aim}
-use Rattle.sim_base.specs.declared.state.Row.{Row}
-use Rattle.sim_base.specs.declared.template.Template.{Template}
-use Rattle.sim_bytes.specs.declared.take.Short.{Short}
-use Rattle.sim_bytes.specs.Reading.{Reader, ◌>>=◌}
-use Rattle.sim_sections.specs.declared.walk.Walk.{Walk}
-use Rattle.sim_sections.specs.declared.walk.Parts.{Parts}
-use Rattle.sim_sections.specs.declared.version.Version.{Version}
-use Rattle.sim_sections.specs.declared.version.Version.TheVariants.{One, Two}
-use Rattle.sim_sections.specs.Rows.{entity_at, position_at, owner_at, health_at, moving_at, attack_at, stance_at}
-use Rattle.sim_sections.specs.Sections.{section_at, row_if}
-use Rattle.sim_sections.specs.Versions.{has_stances}
+use Rattle.std.specs.Prelude.{◌≡◌, ℕ, Bool, false, ◌&&◌, List, is_some, slice_get, Some, None, Ok, Err, Option, Result, unwrap_or, option_map}
+use Rattle.sim_base.specs.declared.{state.Aim.Aim, state.Row.Row, template.Template.Template}
+use Rattle.sim_bytes.specs.{Reading.Reader, Reading.◌>>=◌, declared.take.Short.Short}
+use Rattle.sim_sections.specs.{Sections.row_if, Sections.section_at, Versions.has_stances, declared.walk.Parts.Parts, declared.walk.Walk.Walk}
+use Rattle.sim_sections.specs.Rows.{attack_at, entity_at, health_at, moving_at, owner_at, position_at, stance_at}
+use Rattle.sim_sections.specs.declared.version.Version.{Version, TheVariants.One, TheVariants.Two}
 
 -- a reader in the section of stances, which version 1 does not have
 unfoldable pub stances_at : Version → Reader (List ℕ)
@@ -24,13 +17,17 @@ sections_at version bytes =
     section_at 1 entity_at bytes >>= λ e. section_at 2 position_at e.1 >>= λ p. section_at 3 owner_at p.1 >>= λ o.
     section_at 4 health_at o.1 >>= λ h. section_at 5 moving_at h.1 >>= λ m. section_at 6 attack_at m.1 >>= λ a.
     stances_at version a.1 >>= λ s.
-    Some ((e.0.0, record { version = version; entity = e.0.1; position = p.0.1; owner = o.0.1; health = h.0.1; motion = m.0.1; attack = a.0.1; stance = s.0 }), s.1)
+    Some (
+      (e.0.0, record { version = version; entity = e.0.1; position = p.0.1; owner = o.0.1; health = h.0.1; motion = m.0.1; attack = a.0.1; stance = s.0 }),
+      s.1,
+    )
 
 -- what stands of the next row in each section; its template says which
 unfoldable pub parts_at : List Template → Walk → Option (Parts × Walk)
 parts_at templates w =
     entity_at w.entity >>= λ e. slice_get templates e.0.1 >>= λ t. position_at w.position >>= λ p. owner_at w.owner >>= λ o.
-    row_if health_at (is_some t.health) w.health >>= λ h. row_if moving_at (is_some t.speed) w.motion >>= λ m. row_if attack_at (is_some t.arms) w.attack >>= λ a.
+    row_if health_at (is_some t.health) w.health >>= λ h. row_if moving_at (is_some t.speed) w.motion >>= λ m. row_if attack_at (is_some t.arms) w.attack >>=
+    λ a.
     row_if stance_at (has_stances w.version && is_some t.arms) w.stance >>= λ s.
     Some (
       record { entity = e.0; position = p.0; owner = o.0; health = h.0; motion = m.0; attack = a.0; stance = s.0 },

@@ -1,10 +1,8 @@
 //! What the rows of every section have in common. Writers and readers are written once over this trait, so that a new
 //! section is one more form and no change of theirs.
 
-ghost use Rattle.std.specs.Prelude.{◌≡◌, ◌≤◌, ℕ, List, [], ◌++◌, length, Option, Some, IfSome, is_some, OnOk};
-ghost use Rattle.sim_base.specs.declared.state.Row.{Row};
-ghost use Rattle.sim_bytes.specs.Reading.{Reader, Reads};
-ghost use Rattle.sim_bytes.specs.Telling.{Tells};
+ghost use Rattle.{sim_base.specs.declared.state.Row.Row, sim_bytes.specs.Reading.Reader, sim_bytes.specs.Reading.Reads, sim_bytes.specs.Telling.Tells};
+ghost use Rattle.std.specs.Prelude.{◌≡◌, ℕ, ◌≤◌, List, [], ◌++◌, length, is_some, IfSome, OnOk, Some, Option};
 ghost use Rattle.sim_sections.specs.Rows.{HasShortWay};
 
 use sim_base::Row;

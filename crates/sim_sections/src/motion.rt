@@ -1,14 +1,10 @@
 //! The row of a motion: its length depends on the way. The way stands in place, so that a row is read and told without
 //! memory.
 
-ghost use Rattle.std.specs.Prelude.{◌≡◌, ◌≤◌, ℕ, List, length, take, OnOk};
-ghost use Rattle.std.specs.List.{flat_map};
-ghost use Rattle.sim_base.specs.Spelling.{point_bytes, motion_bytes, moving_bytes};
-ghost use Rattle.sim_base.specs.Bytes.{flag_bytes};
-ghost use Rattle.sim_base.specs.Limits.{waypoint_limit};
-ghost use Rattle.sim_base.specs.declared.state.Motion.TheVariants.{Still, Going};
-ghost use Rattle.sim_bytes.specs.Reading.{Reads, ReadsBy};
-ghost use Rattle.sim_bytes.specs.Telling.{Tells};
+ghost use Rattle.std.specs.{List.flat_map, Prelude.ℕ, Prelude.◌≤◌, Prelude.length, Prelude.take, Prelude.OnOk};
+ghost use Rattle.sim_base.specs.{Bytes.flag_bytes, Limits.waypoint_limit, declared.state.Motion.TheVariants.Going, declared.state.Motion.TheVariants.Still};
+ghost use Rattle.sim_base.specs.Spelling.{motion_bytes, moving_bytes, point_bytes};
+ghost use Rattle.sim_bytes.specs.{Reading.Reads, Reading.ReadsBy, Telling.Tells};
 ghost use Rattle.sim_sections.specs.Rows.{IsShort, point_at, points_at};
 
 use crate::form::RowForm;
@@ -30,8 +26,7 @@ pub struct MotionRow {
 impl Model for MotionRow {
     ghost use Rattle.std.specs.Prelude.{ℕ, ◌≤◌, take, if◌then◌else◌};
     ghost use Rattle.sim_base.specs.Limits.{waypoint_limit};
-    ghost use Rattle.sim_base.specs.declared.state.Motion.{Motion};
-    ghost use Rattle.sim_base.specs.declared.state.Motion.TheVariants.{Still, Going};
+    ghost use Rattle.sim_base.specs.declared.state.Motion.{Motion, TheVariants.Going, TheVariants.Still};
 
     ghost Value = { ℕ × Motion };
 
@@ -140,10 +135,8 @@ fn tell_pieces<K: ByteSink>(out: &mut K, row: &MotionRow) -> Result<(), K::Fault
 }
 
 impl RowForm for MotionRow {
-    ghost use Rattle.sim_base.specs.Spelling.{moving_bytes, motion_part};
-    ghost use Rattle.sim_sections.specs.Rows.{with_id, IsMoving, moving_at};
-    ghost use Rattle.sim_sections.specs.Laws.{moving_back, prefix_nil};
-    ghost use Rattle.sim_sections.specs.Lengths.{moving_few};
+    ghost use Rattle.sim_base.specs.Spelling.{motion_part, moving_bytes};
+    ghost use Rattle.sim_sections.specs.{Laws.moving_back, Laws.prefix_nil, Lengths.moving_few, Rows.IsMoving, Rows.moving_at, Rows.with_id};
 
     const TAG: u8 = 5;
 

@@ -1,6 +1,6 @@
 //! The rows of fixed length. Each is an id and a part, and contracts see it as that pair.
 
-ghost use Rattle.std.specs.Prelude.{◌≡◌, ℕ, List};
+ghost use Rattle.std.specs.Prelude.{◌≡◌, ℕ};
 ghost use Rattle.sim_base.specs.Spelling.{position_bytes};
 
 use crate::form::RowForm;
@@ -26,9 +26,7 @@ impl Model for EntityRow {
 
 impl RowForm for EntityRow {
     ghost use Rattle.sim_base.specs.Spelling.{entity_bytes, entity_part};
-    ghost use Rattle.sim_sections.specs.Rows.{with_id, IsEntity, entity_at};
-    ghost use Rattle.sim_sections.specs.Laws.{entity_back, prefix_nil};
-    ghost use Rattle.sim_sections.specs.Lengths.{entity_few};
+    ghost use Rattle.sim_sections.specs.{Laws.entity_back, Laws.prefix_nil, Lengths.entity_few, Rows.entity_at, Rows.IsEntity, Rows.with_id};
 
     const TAG: u8 = 1;
 
@@ -82,8 +80,7 @@ pub struct PositionRow {
 }
 
 impl Model for PositionRow {
-    ghost use Rattle.std.specs.Prelude.{ℕ};
-    ghost use Rattle.sim_base.specs.declared.place.Point.{Point};
+    ghost use Rattle.{sim_base.specs.declared.place.Point.Point, std.specs.Prelude.ℕ};
 
     ghost Value = { ℕ × Point };
 
@@ -92,9 +89,7 @@ impl Model for PositionRow {
 
 impl RowForm for PositionRow {
     ghost use Rattle.sim_base.specs.Spelling.{position_bytes, position_part};
-    ghost use Rattle.sim_sections.specs.Rows.{with_id, IsPosition, position_at};
-    ghost use Rattle.sim_sections.specs.Laws.{position_back, prefix_nil};
-    ghost use Rattle.sim_sections.specs.Lengths.{position_few};
+    ghost use Rattle.sim_sections.specs.{Laws.position_back, Laws.prefix_nil, Lengths.position_few, Rows.IsPosition, Rows.position_at, Rows.with_id};
 
     const TAG: u8 = 2;
 
@@ -164,9 +159,7 @@ impl Model for OwnerRow {
 
 impl RowForm for OwnerRow {
     ghost use Rattle.sim_base.specs.Spelling.{owner_bytes, owner_part};
-    ghost use Rattle.sim_sections.specs.Rows.{with_id, IsOwner, owner_at};
-    ghost use Rattle.sim_sections.specs.Laws.{owner_back, prefix_nil};
-    ghost use Rattle.sim_sections.specs.Lengths.{owner_few};
+    ghost use Rattle.sim_sections.specs.{Laws.owner_back, Laws.prefix_nil, Lengths.owner_few, Rows.IsOwner, Rows.owner_at, Rows.with_id};
 
     const TAG: u8 = 3;
 
@@ -228,9 +221,7 @@ impl Model for HealthRow {
 
 impl RowForm for HealthRow {
     ghost use Rattle.sim_base.specs.Spelling.{health_bytes, health_part};
-    ghost use Rattle.sim_sections.specs.Rows.{with_id, IsHealth, health_at};
-    ghost use Rattle.sim_sections.specs.Laws.{health_back, prefix_nil};
-    ghost use Rattle.sim_sections.specs.Lengths.{health_few};
+    ghost use Rattle.sim_sections.specs.{Laws.health_back, Laws.prefix_nil, Lengths.health_few, Rows.health_at, Rows.IsHealth, Rows.with_id};
 
     const TAG: u8 = 4;
 
@@ -297,9 +288,7 @@ impl Model for AttackRow {
 
 impl RowForm for AttackRow {
     ghost use Rattle.sim_base.specs.Spelling.{attack_bytes, attack_part};
-    ghost use Rattle.sim_sections.specs.Rows.{with_id, IsAttack, attack_at};
-    ghost use Rattle.sim_sections.specs.Laws.{attack_back, prefix_nil};
-    ghost use Rattle.sim_sections.specs.Lengths.{attack_few};
+    ghost use Rattle.sim_sections.specs.{Laws.attack_back, Laws.prefix_nil, Lengths.attack_few, Rows.attack_at, Rows.IsAttack, Rows.with_id};
 
     const TAG: u8 = 6;
 
@@ -372,9 +361,7 @@ impl Model for StanceRow {
 
 impl RowForm for StanceRow {
     ghost use Rattle.sim_base.specs.Spelling.{stance_bytes, stance_part};
-    ghost use Rattle.sim_sections.specs.Rows.{with_id, IsStance, stance_at};
-    ghost use Rattle.sim_sections.specs.Laws.{stance_back, prefix_nil};
-    ghost use Rattle.sim_sections.specs.Lengths.{stance_few};
+    ghost use Rattle.sim_sections.specs.{Laws.prefix_nil, Laws.stance_back, Lengths.stance_few, Rows.IsStance, Rows.stance_at, Rows.with_id};
 
     const TAG: u8 = 7;
 

@@ -1,12 +1,8 @@
 //! A section: a tag, the number of its rows, and the rows. Written once for all forms.
 
-ghost use Rattle.std.specs.Prelude.{◌≡◌, ◌<◌, ◌≤◌, ◌^◌, ℕ, List, length, All, OnOk};
-ghost use Rattle.std.specs.List.{flat_map, filter_map};
-ghost use Rattle.sim_base.specs.Spelling.{section};
-ghost use Rattle.sim_bytes.specs.Reading.{Reads};
-ghost use Rattle.sim_bytes.specs.Telling.{Tells};
-ghost use Rattle.sim_sections.specs.Rows.{HasShortWay};
-ghost use Rattle.sim_sections.specs.Sections.{Skips, section_at, row_if};
+ghost use Rattle.{sim_base.specs.Spelling.section, sim_bytes.specs.Reading.Reads, sim_bytes.specs.Telling.Tells};
+ghost use Rattle.std.specs.{List.flat_map, List.filter_map, Prelude.◌≡◌, Prelude.◌^◌, Prelude.◌<◌, Prelude.◌≤◌, Prelude.length, Prelude.OnOk, Prelude.All};
+ghost use Rattle.sim_sections.specs.{Rows.HasShortWay, Sections.row_if, Sections.section_at, Sections.Skips};
 
 use crate::form::RowForm;
 use sim_base::Row;

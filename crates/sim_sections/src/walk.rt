@@ -3,13 +3,12 @@
 
 ghost use Rattle.std.specs.Prelude.{◌≡◌};
 ghost use Rattle.sim_bytes.specs.Reading.{Reads};
-ghost use Rattle.sim_sections.specs.Walking.{stances_at, sections_at, parts_at, aim_of, holds as is_held, Walks};
+ghost use Rattle.sim_sections.specs.Walking.{aim_of, holds as is_held, parts_at, sections_at, stances_at, Walks};
 
-use crate::form::RowForm;
-use crate::motion::MotionRow;
-use crate::rows::{AttackRow, EntityRow, HealthRow, OwnerRow, PositionRow, StanceRow};
-use crate::section::{open_section, take_if};
-use crate::version::Version;
+use crate::{
+    AttackRow, EntityRow, HealthRow, MotionRow, OwnerRow, PositionRow, RowForm, StanceRow, Version,
+    open_section, take_if,
+};
 use sim_base::{Aim, Template};
 use sim_bytes::{Short, Take};
 

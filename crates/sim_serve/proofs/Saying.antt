@@ -1,17 +1,12 @@
 -- A client that reports is told its own notice.
-use Rattle.std.proofs.Common.{◌≡◌, ℕ, Bool, true, false, List, [], ◌∷◌, ◌++◌, map, refl, sym, ◌∙◌, if◌then◌else◌, is_none, true≢false}
-use Rattle.std.specs.Prelude.{filter_map, filter}
-use Rattle.sim_plain.specs.declared.message.UpOf.TheVariants as up
-use Rattle.sim_plain.specs.declared.rules.Rules.{Rules}
-use Rattle.sim_plain.specs.declared.status.Status.{Status}
-use Rattle.sim_plain.specs.declared.status.Status.TheVariants.{Out, Waiting, In}
-use Rattle.sim_plain.specs.Messages.{Arrival, Heard, Cut, sender}
-use Rattle.sim_plain.specs.Server.{Server, is_in, is_out, command_fault, done_fault, report_fault, takes_state, server_after}
-use Rattle.sim_plain.specs.Posts.{posts, differs}
-use Rattle.sim_plain.specs.Notices.{Report, notice_in, noticed, notices, notices_given}
-use Rattle.sim_plain.proofs.Told.{notices_are_told}
-use Rattle.sim_plain.proofs.Notices.{notices_are}
+use Rattle.{sim_plain.proofs.Notices.notices_are, sim_plain.proofs.Told.notices_are_told, std.specs.Prelude.filter, std.specs.Prelude.filter_map}
+use Rattle.std.proofs.Common.{◌≡◌, ℕ, Bool, true, false, List, [], ◌∷◌, ◌++◌, map, is_none, if◌then◌else◌, refl, sym, true≢false, ◌∙◌}
+use Rattle.sim_plain.specs.{Messages.Arrival, Messages.Cut, Messages.Heard, Messages.sender, declared.rules.Rules.Rules}
+use Rattle.sim_plain.specs.{Notices.notice_in, Notices.noticed, Notices.notices, Notices.notices_given, Notices.Report, Posts.differs, Posts.posts}
+use Rattle.sim_plain.specs.Server.{command_fault, done_fault, is_in, is_out, report_fault, Server, server_after, takes_state}
+use Rattle.sim_plain.specs.declared.status.Status.{Status, TheVariants.In, TheVariants.Out, TheVariants.Waiting}
 use Rattle.sim_serve.specs.Laws.{told_to_senders}
+use Rattle.sim_plain.specs.declared.message.UpOf.TheVariants as up
 
 abbrev Bytes : Type 0
 Bytes = List ℕ

@@ -1,10 +1,6 @@
 -- What the notices among all that is said are.
 use Rattle.std.specs.Prelude.{◌≡◌, ℕ, List, [], ◌∷◌, ◌++◌, filter_map}
-use Rattle.sim_plain.specs.Messages.{Arrival, sender}
-use Rattle.sim_plain.specs.declared.rules.Rules.{Rules}
-use Rattle.sim_plain.specs.Server.{server_after}
-use Rattle.sim_plain.specs.Posts.{posts}
-use Rattle.sim_plain.specs.Notices.{notice_in, notices}
+use Rattle.sim_plain.specs.{Messages.Arrival, Messages.sender, Notices.notice_in, Notices.notices, Posts.posts, Server.server_after, declared.rules.Rules.Rules}
 
 -- the notices that each client from whom something arrives is told at that arrival; the newest arrival is the first in the list
 abbrev pub told_to_senders : Rules → ℕ → List (Arrival (List ℕ)) → List (ℕ × ℕ)

@@ -1,14 +1,10 @@
 //! The run of a schedule: each arrival is heard and its answer is printed before the next one is heard.
 
-ghost use Rattle.std.specs.Prelude.{◌≡◌, ◌≤◌, ◌∷◌, ◌++◌, [], ℕ, List, length, map, flat_map, All, IfOk, OnOk, string_bytes};
-ghost use Rattle.sim_plain.specs.Messages.{Arrival as PlainArrival};
-ghost use Rattle.sim_plain.specs.Server.{server_after};
-ghost use Rattle.sim_plain.specs.Posts.{posts_of};
-ghost use Rattle.sim_lists.specs.Arrivals.{plain_arrival};
-ghost use Rattle.sim_lists.specs.Schedules.{IsFromClient, IsSchedule};
-ghost use Rattle.sim_report.specs.Downs.{post_line};
-ghost use Rattle.sim_server.specs.Standing.{server_of as plain_server, IsClient, StandsFor, Answers};
-ghost use Rattle.sim_serve.specs.Served.{history, said_lines, kept_of, kept_lines, served_text as text_of_schedule};
+ghost use Rattle.{sim_plain.specs.Messages.Arrival as PlainArrival, sim_report.specs.Downs.post_line};
+ghost use Rattle.std.specs.Prelude.{◌≡◌, ℕ, List, ◌++◌, map, length, IfOk, OnOk, string_bytes, All, flat_map};
+ghost use Rattle.sim_lists.specs.{Arrivals.plain_arrival, Schedules.IsFromClient, Schedules.IsSchedule};
+ghost use Rattle.sim_serve.specs.Served.{history, kept_lines, kept_of, said_lines, served_text as text_of_schedule};
+ghost use Rattle.sim_server.specs.Standing.{Answers, IsClient, server_of as plain_server, StandsFor};
 
 use sim_base::OutOfMemory;
 use sim_lists::{Arrival, Arrivals, Said, Schedule};

@@ -1,7 +1,6 @@
 -- Lists as functions of a place, with a value for each place behind the end.
-use Rattle.std.proofs.Common.{◌≡◌, ◌⊎◌, inl, inr, ℕ, zero, suc, ◌<◌, ◌≤◌, List, [], ◌∷◌, ◌++◌, length, get_or, set, refl, sym, ap, ◌∙◌, arith, if◌then◌else◌, ◌==◌, get_or-set_other, get_or-set_same}
-use Rattle.std.proofs.lemmas.Bool.{cases_eq, eq-eqb, ne_eqb, cond-true, cond-false}
-use Rattle.sim_plain.specs.Functions.{put}
+use Rattle.sim_server.proofs.Common.{cond-false, cond-true, eq-eqb, get_or-set_other, get_or-set_same, inl, inr, ne_eqb, put, sym, ◌∙◌}
+use Rattle.sim_server.proofs.Common.{◌≡◌, ℕ, zero, suc, ◌<◌, ◌≤◌, ◌⊎◌, List, [], ◌∷◌, ◌++◌, length, get_or, set, if◌then◌else◌, ◌==◌, refl, ap, arith, cases_eq}
 
 -- one more value that was there already
 at_end : {X : Type 0} (xs : List X) (d : X) (t : ℕ) → get_or (xs ++ d ∷ []) t d ≡ get_or xs t d

@@ -1,25 +1,14 @@
 -- What each arrival makes of a server, over plain values.
-use Rattle.std.proofs.Common.{◌≡◌, ◌⊎◌, inl, inr, ℕ, zero, suc, ◌-◌, ◌<◌, ◌≤◌, ◌&&◌, nat_lt, nat_le, min, Bool, true, false, List, [], ◌∷◌, ◌++◌, length, map, filter, set, refl, sym, ap, ◌∙◌, arith, if◌then◌else◌, ◌==◌, Option, Some, None, Result, Ok, Err, length-set}
-use Rattle.std.specs.Prelude.{IfOk}
-use Rattle.std.proofs.lemmas.Bool.{cases_eq, cases_lt, ne_eqb, cond-true, cond-false, and_parts, ltb-true, leb-true, false≢true}
-use Rattle.std.proofs.lemmas.List.{length-map}
-use Rattle.sim_base.specs.declared.command.PlayerCommand.{PlayerCommand}
-use Rattle.sim_base.specs.declared.memory.OutOfMemory.{OutOfMemory}
+use Rattle.sim_server.proofs.{Lists.put_is, Said.list_nobody, Said.list_to_one}
+use Rattle.sim_server.proofs.Common.{Arrival, Ask, asked, asked_one, cases_eq, cases_lt, cond-false, cond-true, Cut, cut_said, done_fault, donor, entry_done}
+use Rattle.sim_server.proofs.Common.{OutOfMemory, PlayerCommand, post_list, posted_to, PostOf, Posts, posts, posts_of, put, raised, raised_to, reference_in}
+use Rattle.sim_server.proofs.Common.{false≢true, Heard, heard, In, inl, inr, is_out, IsClient, IsSeated, kept_above, kept_in, least_done, least_in}
+use Rattle.sim_server.proofs.Common.{if◌then◌else◌, nat_lt, nat_le, ◌==◌, Some, None, Ok, Err, filter, Option, Result, refl, and_parts, Answers, ap, arith}
+use Rattle.sim_server.proofs.Common.{least_in_inside, leb-true, length-map, length-set, loading, ltb-true, Made, Makes, moved, ne_eqb, nobody, opening, Out}
+use Rattle.sim_server.proofs.Common.{refusal, Refused, Release, release, Rules, seat, Server, server_after, server_of, StandsFor, State, Status, status_in, sym}
+use Rattle.sim_server.proofs.Common.{takes_state, to_one, unless, up_to, View, waits_for, with_status, ◌∙◌}
+use Rattle.sim_server.proofs.Common.{◌≡◌, ℕ, zero, suc, ◌-◌, ◌<◌, ◌≤◌, min, Bool, true, false, ◌&&◌, ◌⊎◌, List, [], ◌∷◌, ◌++◌, map, length, set, IfOk}
 use Rattle.sim_plain.specs.declared.message.UpOf.TheVariants as up
-use Rattle.sim_plain.specs.declared.message.DownOf.TheVariants.{Ask, State, Release, Refused}
-use Rattle.sim_plain.specs.declared.message.PostOf.{PostOf}
-use Rattle.sim_plain.specs.declared.rules.Rules.{Rules}
-use Rattle.sim_plain.specs.declared.status.Status.{Status}
-use Rattle.sim_plain.specs.declared.status.Status.TheVariants.{Out, In}
-use Rattle.sim_plain.specs.Functions.{put, up_to}
-use Rattle.sim_plain.specs.Messages.{Arrival, Heard, Cut}
-use Rattle.sim_plain.specs.Server.{Server, is_out, waits_for, least_in, least_done, raised_to, raised, seat, donor, with_status, done_fault, takes_state, entry_done, unless, heard, opening, server_after}
-use Rattle.sim_plain.specs.Posts.{Posts, nobody, to_one, release, asked, refusal, loading, kept_above, posts, posts_of, posted_to, post_list}
-use Rattle.sim_plain.proofs.Calm.{least_in_inside}
-use Rattle.sim_server.specs.Views.{status_in, kept_in, reference_in, moved, asked_one, cut_said}
-use Rattle.sim_server.specs.Standing.{View, server_of, IsClient, IsSeated, Made, Makes, StandsFor, Answers}
-use Rattle.sim_server.proofs.Lists.{put_is}
-use Rattle.sim_server.proofs.Said.{list_nobody, list_to_one}
 
 abbrev Bytes : Type 0
 Bytes = List ℕ
@@ -36,7 +25,8 @@ is_client clients (suc c) = by (cases_lt clients (suc c))
     by (inr less) = inl (omega arith, less)
 
 -- one that waits is a client
-pub waiting_client : (rules : Rules) (seats : List Status) (c j : ℕ) → IsSeated rules seats → waits_for c (status_in seats j) ≡ true → (0 < j) × (j ≤ rules.clients)
+pub waiting_client : (rules : Rules) (seats : List Status) (c j : ℕ) → IsSeated rules seats → waits_for c (status_in seats j) ≡ true → (0 < j)
+    × (j ≤ rules.clients)
 waiting_client rules seats c j whole waits = by (is_client rules.clients j)
   where
     by : ((0 < j) × (j ≤ rules.clients)) ⊎ (0 < j → j ≤ rules.clients → ⊥) → (0 < j) × (j ≤ rules.clients)
@@ -46,7 +36,8 @@ waiting_client rules seats c j whole waits = by (is_client rules.clients j)
 -- ---- seats
 
 -- a client's seat is set
-pub status_set : (rules : Rules) (seats : List Status) (c : ℕ) (x : Status) → IsSeated rules seats → c ≤ rules.clients → status_in (set seats c x) ≡ put c x (status_in seats)
+pub status_set : (rules : Rules) (seats : List Status) (c : ℕ) (x : Status) → IsSeated rules seats → c ≤ rules.clients → status_in (set seats c x) ≡ put c x
+    (status_in seats)
 status_set rules seats c x whole le = put_is seats Out x c (let a = whole.few in let b = whole.nine in omega arith)
 
 -- a seat of all that are moved
@@ -73,12 +64,14 @@ seated_moved rules seats c other whole = record {
   outside = λ d apart. status_moved c other seats d ∙ ap (moved c other) (whole.outside d apart);
 }
 
-pub seated_cut : (rules : Rules) (seats : List Status) (c : ℕ) (other : Status) → IsSeated rules seats → 0 < c → c ≤ rules.clients → IsSeated rules (map (moved c other) (set seats c Out))
+pub seated_cut : (rules : Rules) (seats : List Status) (c : ℕ) (other : Status) → IsSeated rules seats → 0 < c → c ≤ rules.clients
+    → IsSeated rules (map (moved c other) (set seats c Out))
 seated_cut rules seats c other whole a b = seated_moved rules (set seats c Out) c other (seated_set rules seats c Out whole a b)
 
 -- ---- the start
 
-pub seated_start : (rules : Rules) (seats : List Status) (active done : ℕ) → rules.clients ≤ 8 → active ≤ rules.clients → length seats ≡ 9 → status_in seats ≡ (λ c. if nat_lt 0 c && nat_le c active then In done else Out) → IsSeated rules seats
+pub seated_start : (rules : Rules) (seats : List Status) (active done : ℕ) → rules.clients ≤ 8 → active ≤ rules.clients → length seats ≡ 9
+    → status_in seats ≡ (λ c. if nat_lt 0 c && nat_le c active then In done else Out) → IsSeated rules seats
 seated_start rules seats active done few le nine is = record {
   few = few;
   nine = nine;
@@ -94,19 +87,27 @@ pub opens : (rules : Rules) (seats : List Status) (active released : ℕ) (kept 
     → server_of (record { rules = rules; seats = seats; released = released; kept = kept; references = references }) ≡ opening rules active
 opens rules seats active released kept references seats-is released-is kept-is references-is =
     (λ i. record { status = seats-is i; released = released; kept = kept_in (kept-is i); reference = reference_in (references-is i) })
-    ∙ (λ i. record { status = λ c. if nat_lt 0 c && nat_le c active then In (released-is i) else Out; released = released-is i; kept = λ t. []; reference = λ t. None })
+    ∙ (λ i. record {
+      status = λ c. if nat_lt 0 c && nat_le c active then In (released-is i) else Out;
+      released = released-is i;
+      kept = λ t. [];
+      reference = λ t. None;
+    })
 
 -- ---- refusals
 
 -- the one who is refused is told why, and nothing changes
-pub refused : (v : View) (a : Arrival Bytes) (c code : ℕ) (fault : Option ℕ) (accepted : Server) (said : Posts Bytes) (r : Result (List (PostOf Bytes)) OutOfMemory)
-    → IsClient v c → fault ≡ Some code → heard v.rules (server_of v) a ≡ unless fault accepted (server_of v) → ((d : ℕ) → posts v.rules (server_of v) a d ≡ refusal c fault said d)
+pub refused : (v : View) (a : Arrival Bytes) (c code : ℕ) (fault : Option ℕ) (accepted : Server) (said : Posts Bytes)
+    (r : Result (List (PostOf Bytes)) OutOfMemory)
+    → IsClient v c → fault ≡ Some code → heard v.rules (server_of v) a ≡ unless fault accepted (server_of v)
+    → ((d : ℕ) → posts v.rules (server_of v) a d ≡ refusal c fault said d)
     → IfOk r (λ sent. sent ≡ posted_to c (Refused code ∷ [])) → Makes v a r v
 refused v a c code fault accepted said (Err e) client is heard-is posts-is sent = record { rules = refl; server = refl }
 refused v a c code fault accepted said (Ok posts) client is heard-is posts-is sent = record {
   rules = refl;
   server = sym (heard-is ∙ ap (λ (o : Option ℕ). unless o accepted (server_of v)) is);
-  said = sent ∙ sym (list_to_one v.rules.clients c (Refused code ∷ []) client.0 client.1) ∙ ap (post_list v.rules.clients) (λ i d. sym (posts-is d ∙ ap (λ (o : Option ℕ). refusal c o said d) is) i);
+  said = sent ∙ sym (list_to_one v.rules.clients c (Refused code ∷ []) client.0 client.1) ∙
+      ap (post_list v.rules.clients) (λ i d. sym (posts-is d ∙ ap (λ (o : Option ℕ). refusal c o said d) is) i);
 }
 
 -- ---- join
@@ -115,20 +116,29 @@ pub joins_not : (v : View) (c : ℕ) (sent : List (PostOf Bytes)) → is_out (st
 joins_not v c sent e none = record {
   rules = refl;
   server = sym (cond-false _ (with_status c (seat (donor v.rules (server_of v))) (server_of v)) (server_of v) e);
-  said = none ∙ sym (list_nobody v.rules.clients) ∙ ap (post_list v.rules.clients) (sym (cond-false _ (asked (donor v.rules (server_of v)) (c ∷ []) (λ d. d == c)) nobody e));
+  said = none ∙ sym (list_nobody v.rules.clients) ∙
+      ap (post_list v.rules.clients) (sym (cond-false _ (asked (donor v.rules (server_of v)) (c ∷ []) (λ d. d == c)) nobody e));
 }
 
-asked_list : (seats : List Status) (clients c : ℕ) (who : Option ℕ) → 0 < c → c ≤ clients → least_in (status_in seats) clients ≡ who → asked_one {B = Bytes} who c ≡ post_list clients (asked who (c ∷ []) (λ d. d == c))
+asked_list : (seats : List Status) (clients c : ℕ) (who : Option ℕ) → 0 < c → c ≤ clients → least_in (status_in seats) clients ≡ who
+    → asked_one {B = Bytes} who c ≡ post_list clients (asked who (c ∷ []) (λ d. d == c))
 asked_list seats clients c None a b e = sym (list_to_one clients c (Refused 4 ∷ []) a b)
-asked_list seats clients c (Some k) a b e = (let inside = least_in_inside (status_in seats) clients k e in sym (list_to_one clients k (Ask c ∷ []) inside.0 inside.1))
+asked_list seats clients c (Some k) a b e = (let inside = least_in_inside (status_in seats) clients k e in
+    sym (list_to_one clients k (Ask c ∷ []) inside.0 inside.1))
 
-pub joins : (v : View) (c : ℕ) (who : Option ℕ) (x : Status) (sent : List (PostOf Bytes)) → IsSeated v.rules v.seats → IsClient v c → is_out (status_in v.seats c) ≡ true
-    → who ≡ least_in (status_in v.seats) v.rules.clients → x ≡ seat who → sent ≡ asked_one who c → Made v (Heard c up.Join) sent (record v { seats = set v.seats c x })
+pub joins : (v : View) (c : ℕ) (who : Option ℕ) (x : Status) (sent : List (PostOf Bytes)) → IsSeated v.rules v.seats → IsClient v c
+    → is_out (status_in v.seats c) ≡ true
+    → who ≡ least_in (status_in v.seats) v.rules.clients → x ≡ seat who → sent ≡ asked_one who c
+    → Made v (Heard c up.Join) sent (record v { seats = set v.seats c x })
 joins v c who x sent whole client out who-is x-is sent-is = record {
   rules = refl;
-  server = (λ i. record (server_of v) { status = (status_set v.rules v.seats c x whole client.1 ∙ ap (λ y. put c y (status_in v.seats)) (x-is ∙ ap seat who-is)) i })
+  server = (λ i. record (server_of v) {
+    status = (status_set v.rules v.seats c x whole client.1 ∙ ap (λ y. put c y (status_in v.seats)) (x-is ∙ ap seat who-is))
+        i;
+  })
       ∙ sym (cond-true _ (with_status c (seat (donor v.rules (server_of v))) (server_of v)) (server_of v) out);
-  said = sent-is ∙ asked_list v.seats v.rules.clients c who client.0 client.1 (sym who-is) ∙ ap (λ o. post_list v.rules.clients (asked o (c ∷ []) (λ d. d == c))) who-is
+  said = sent-is ∙ asked_list v.seats v.rules.clients c who client.0 client.1 (sym who-is) ∙
+      ap (λ o. post_list v.rules.clients (asked o (c ∷ []) (λ d. d == c))) who-is
       ∙ ap (post_list v.rules.clients) (sym (cond-true _ (asked (donor v.rules (server_of v)) (c ∷ []) (λ d. d == c)) nobody out));
 }
 
@@ -138,14 +148,18 @@ pub no_fault : (fault : Option ℕ) → ((code : ℕ) → fault ≡ Some code �
 no_fault None apart = refl
 no_fault (Some code) apart = absurd (apart code refl)
 
-pub is_done : (v : View) (c t risen : ℕ) (sent : List (PostOf Bytes)) → IsSeated v.rules v.seats → IsClient v c → done_fault v.rules v.released t (status_in v.seats c) ≡ None
-    → risen ≡ raised_to v.released (least_done (status_in (set v.seats c (In t))) v.rules.clients) → sent ≡ post_list v.rules.clients (release (status_in (set v.seats c (In t))) v.released risen)
+pub is_done : (v : View) (c t risen : ℕ) (sent : List (PostOf Bytes)) → IsSeated v.rules v.seats → IsClient v c
+    → done_fault v.rules v.released t (status_in v.seats c) ≡ None
+    → risen ≡ raised_to v.released (least_done (status_in (set v.seats c (In t))) v.rules.clients)
+    → sent ≡ post_list v.rules.clients (release (status_in (set v.seats c (In t))) v.released risen)
     → Made v (Heard c (up.Done t)) sent (record v { seats = set v.seats c (In t); released = risen })
 is_done v c t risen sent whole client fine risen-is sent-is = record {
   rules = refl;
-  server = (λ i. record (server_of v) { status = seats-is i; released = risen-to i }) ∙ sym (ap (λ (o : Option ℕ). unless o (raised v.rules (with_status c (In t) (server_of v))) (server_of v)) fine);
+  server = (λ i. record (server_of v) { status = seats-is i; released = risen-to i }) ∙
+      sym (ap (λ (o : Option ℕ). unless o (raised v.rules (with_status c (In t) (server_of v))) (server_of v)) fine);
   said = sent-is ∙ (λ i. post_list v.rules.clients (release (seats-is i) v.released (risen-to i)))
-      ∙ ap (λ (o : Option ℕ). post_list v.rules.clients (refusal c o (release (put c (In t) (status_in v.seats)) v.released (raised v.rules (with_status c (In t) (server_of v))).released))) (sym fine);
+      ∙ ap (λ (o : Option ℕ). post_list v.rules.clients
+      (refusal c o (release (put c (In t) (status_in v.seats)) v.released (raised v.rules (with_status c (In t) (server_of v))).released))) (sym fine);
 }
   where
     seats-is : status_in (set v.seats c (In t)) ≡ put c (In t) (status_in v.seats)
@@ -156,23 +170,29 @@ is_done v c t risen sent whole client fine risen-is sent-is = record {
 
 -- ---- state
 
-pub takes_not : (v : View) (c j t : ℕ) (carried : List ℕ) (sent : List (PostOf Bytes)) → takes_state v.released c t (status_in v.seats j) ≡ false → sent ≡ [] → Made v (Heard c (up.State j t carried)) sent v
+pub takes_not : (v : View) (c j t : ℕ) (carried : List ℕ) (sent : List (PostOf Bytes)) → takes_state v.released c t (status_in v.seats j) ≡ false → sent ≡ []
+    → Made v (Heard c (up.State j t carried)) sent v
 takes_not v c j t carried sent e none = record {
   rules = refl;
   server = sym (cond-false _ (with_status j (In (entry_done v.rules v.released t)) (server_of v)) (server_of v) e);
-  said = none ∙ sym (list_nobody v.rules.clients) ∙ ap (post_list v.rules.clients) (sym (cond-false _ (to_one j (loading v.rules (server_of v) t carried)) nobody e));
+  said = none ∙ sym (list_nobody v.rules.clients) ∙
+      ap (post_list v.rules.clients) (sym (cond-false _ (to_one j (loading v.rules (server_of v) t carried)) nobody e));
 }
 
-pub takes_it : (v : View) (c j t done : ℕ) (carried : List ℕ) (known : List (List PlayerCommand)) (sent : List (PostOf Bytes)) → known ≡ v.kept → IsSeated v.rules v.seats → takes_state v.released c t (status_in v.seats j) ≡ true
-    → done ≡ entry_done v.rules v.released t → sent ≡ posted_to j (State done carried ∷ (kept_above (kept_in known) t (v.rules.turns - t) ++ Release v.released ∷ []))
+pub takes_it : (v : View) (c j t done : ℕ) (carried : List ℕ) (known : List (List PlayerCommand)) (sent : List (PostOf Bytes)) → known ≡ v.kept
+    → IsSeated v.rules v.seats → takes_state v.released c t (status_in v.seats j) ≡ true
+    → done ≡ entry_done v.rules v.released t
+    → sent ≡ posted_to j (State done carried ∷ (kept_above (kept_in known) t (v.rules.turns - t) ++ Release v.released ∷ []))
     → Made v (Heard c (up.State j t carried)) sent (record v { seats = set v.seats j (In done) })
 takes_it v c j t done carried known sent known-is whole e done-is sent-is =
     let client = waiting_client v.rules v.seats c j whole ((and_parts _ _ e).0) in
     record {
       rules = refl;
-      server = (λ i. record (server_of v) { status = (status_set v.rules v.seats j (In done) whole client.1 ∙ ap (λ n. put j (In n) (status_in v.seats)) done-is) i })
+      server = (λ i. record (server_of v)
+          { status = (status_set v.rules v.seats j (In done) whole client.1 ∙ ap (λ n. put j (In n) (status_in v.seats)) done-is) i })
           ∙ sym (cond-true _ (with_status j (In (entry_done v.rules v.released t)) (server_of v)) (server_of v) e);
-      said = sent-is ∙ ap (λ (l : List (List PlayerCommand)). posted_to j (State done carried ∷ (kept_above (kept_in l) t (v.rules.turns - t) ++ Release v.released ∷ []))) known-is
+      said = sent-is ∙ ap (λ (l : List (List PlayerCommand)). posted_to j
+          (State done carried ∷ (kept_above (kept_in l) t (v.rules.turns - t) ++ Release v.released ∷ []))) known-is
           ∙ ap (λ n. posted_to j (State n carried ∷ (kept_above (kept_in v.kept) t (v.rules.turns - t) ++ Release v.released ∷ []))) done-is
           ∙ sym (list_to_one v.rules.clients j (loading v.rules (server_of v) t carried) client.0 client.1)
           ∙ ap (post_list v.rules.clients) (sym (cond-true _ (to_one j (loading v.rules (server_of v) t carried)) nobody e));
@@ -180,15 +200,18 @@ takes_it v c j t done carried known sent known-is whole e done-is sent-is =
 
 -- ---- cut
 
-pub is_cut : (v : View) (c risen : ℕ) (who : Option ℕ) (other : Status) (sent : List (PostOf Bytes)) (seats : List Status) → IsSeated v.rules v.seats → IsClient v c
-    → risen ≡ raised_to v.released (least_done (status_in (set v.seats c Out)) v.rules.clients) → who ≡ least_in (status_in (set v.seats c Out)) v.rules.clients → other ≡ seat who
+pub is_cut : (v : View) (c risen : ℕ) (who : Option ℕ) (other : Status) (sent : List (PostOf Bytes)) (seats : List Status) → IsSeated v.rules v.seats
+    → IsClient v c
+    → risen ≡ raised_to v.released (least_done (status_in (set v.seats c Out)) v.rules.clients) → who ≡ least_in (status_in (set v.seats c Out)) v.rules.clients
+    → other ≡ seat who
     → sent ≡ post_list v.rules.clients (cut_said (set v.seats c Out) v.rules.clients v.released risen c) → seats ≡ map (moved c other) (set v.seats c Out)
     → Made v (Cut c) sent (record v { seats = seats; released = risen })
 is_cut v c risen who other sent seats whole client risen-is who-is other-is sent-is seats-is = record {
   rules = refl;
   server = (λ i. record (server_of v) { status = status-is i; released = risen-to i });
   said = sent-is ∙ (λ i. post_list v.rules.clients (λ d.
-      release (out-is i) v.released (risen-to i) d ++ asked (least_in (out-is i) v.rules.clients) (filter (λ j. waits_for c (out-is i j)) (up_to v.rules.clients)) (λ j. waits_for c (out-is i j)) d));
+      release (out-is i) v.released (risen-to i) d ++ asked (least_in (out-is i) v.rules.clients)
+      (filter (λ j. waits_for c (out-is i j)) (up_to v.rules.clients)) (λ j. waits_for c (out-is i j)) d));
 }
   where
     out : ℕ → Status
@@ -208,7 +231,8 @@ is_cut v c risen who other sent seats whole client risen-is who-is other-is sent
 
 -- ---- over a list of arrivals
 
-pub answers : (old new : View) (active : ℕ) (h : List (Arrival Bytes)) (a : Arrival Bytes) (r : Result (List (PostOf Bytes)) OutOfMemory) → Makes old a r new → StandsFor old active h → Answers old active h a r new
+pub answers : (old new : View) (active : ℕ) (h : List (Arrival Bytes)) (a : Arrival Bytes) (r : Result (List (PostOf Bytes)) OutOfMemory) → Makes old a r new
+    → StandsFor old active h → Answers old active h a r new
 answers old new active h a (Ok sent) made stands = (
   made.server ∙ (λ i. heard (sym made.rules i) (stands-to i) a),
   made.said ∙ ap (λ (s : Server). posts_of old.rules s a) stands,

@@ -1,30 +1,13 @@
 -- At a silent arrival nobody is told anything.
-use Rattle.std.proofs.Common.{◌≡◌, ℕ, zero, suc, ◌+◌, ◌≤◌, Bool, true, false, not, List, [], ◌∷◌, ◌++◌, length, filter, map, refl, ap, ◌∙◌, arith, if◌then◌else◌, ◌==◌, Option, Some, None, Result, Ok, Err, set, subst}
-use Rattle.std.specs.Prelude.{IsOk, IfErr}
-use Rattle.std.proofs.lemmas.Bool.{cond-false, le-ltb, false≢true}
-use Rattle.std.proofs.lemmas.Slice.Eq.{bytes_eq-Decides}
-use Rattle.sim_base.specs.declared.memory.OutOfMemory.{OutOfMemory}
-use Rattle.sim_plain.specs.declared.message.UpOf.{UpOf}
+use Rattle.sim_server.proofs.{Made.status_set, Said.list_nobody, Said.list_release}
+use Rattle.sim_server.proofs.Common.{differs, donor, false≢true, GoesUnseen, Heard, In, IsClient, IsNoted, IsSeated, IsSilent, IsUpFrame, le-ltb, least_done}
+use Rattle.sim_server.proofs.Common.{loading, Makes, nobody, Notice, Out, OutOfMemory, post_list, posted_to, PostOf, Posts, posts, posts_of, put, raised}
+use Rattle.sim_server.proofs.Common.{raised_to, reference_in, refusal, Refused, RefusedFor, Release, release, ReleasesNothing, Rules, SaysNoted, Server}
+use Rattle.sim_server.proofs.Common.{server_of, Status, status_in, subst, to_all, to_one, up_carries, up_to, UpOf, View, waits_for, WireFault, with_status, ◌∙◌}
+use Rattle.sim_server.proofs.Common.{◌==◌, Some, None, Ok, Err, filter, Option, Result, refl, ap, arith, Arrival, Ask, asked, bytes_eq-Decides, cond-false, Cut}
+use Rattle.sim_server.proofs.Common.{◌≡◌, ℕ, zero, suc, ◌+◌, ◌≤◌, Bool, true, false, not, List, [], ◌∷◌, ◌++◌, map, length, set, IfErr, if◌then◌else◌, IsOk}
 use Rattle.sim_plain.specs.declared.message.UpOf.TheVariants as up
-use Rattle.sim_plain.specs.declared.message.DownOf.TheVariants.{Ask, Notice, Release, Refused}
-use Rattle.sim_plain.specs.declared.message.PostOf.{PostOf}
-use Rattle.sim_plain.specs.declared.rules.Rules.{Rules}
-use Rattle.sim_plain.specs.declared.status.Status.{Status}
-use Rattle.sim_plain.specs.declared.status.Status.TheVariants.{Out, In}
-use Rattle.sim_plain.specs.Functions.{put, up_to}
-use Rattle.sim_plain.specs.Messages.{Arrival, Heard, Cut}
-use Rattle.sim_plain.specs.Server.{Server, waits_for, least_done, raised_to, raised, donor, with_status}
-use Rattle.sim_plain.specs.Posts.{Posts, nobody, to_one, to_all, release, asked, refusal, loading, differs, posts, posts_of, post_list, posted_to}
-use Rattle.sim_wire.specs.Fits.{IsUpFrame}
-use Rattle.sim_wire.specs.Memory.{up_carries}
-use Rattle.sim_wire.specs.Refusals.{RefusedFor}
-use Rattle.sim_wire.specs.declared.fault.WireFault.{WireFault}
 use Rattle.sim_wire.specs.declared.fault.WireFault.TheVariants as faults
-use Rattle.sim_server.specs.Views.{status_in, reference_in}
-use Rattle.sim_server.specs.Standing.{View, server_of, IsClient, IsSeated, Makes}
-use Rattle.sim_server.specs.Silence.{IsSilent, ReleasesNothing, GoesUnseen, IsNoted, SaysNoted}
-use Rattle.sim_server.proofs.Said.{list_nobody, list_release}
-use Rattle.sim_server.proofs.Made.{status_set}
 
 abbrev Bytes : Type 0
 Bytes = List ℕ
@@ -62,27 +45,35 @@ gone_says rules s c gone d =
     let risen : ℕ = (raised rules (with_status c Out s)).released in
     let stays : risen ≤ s.released = (let e = gone.stays in omega arith) in
     let waits : ℕ → Bool = λ j. waits_for c ((with_status c Out s).status j) in
-    let first : release {B = Bytes} (with_status c Out s).status s.released risen d ≡ [] = ap (λ (f : Posts Bytes). f d) (cond-false _ (to_all (with_status c Out s).status (Release risen)) nobody (le-ltb s.released risen stays)) in
-    let second : asked {B = Bytes} (donor rules (with_status c Out s)) (filter waits (up_to rules.clients)) waits d ≡ [] = none_asked (donor rules (with_status c Out s)) (filter waits (up_to rules.clients)) waits d (none_found waits (up_to rules.clients) gone.alone) (gone.alone d) in
+    let first : release {B = Bytes} (with_status c Out s).status s.released risen d ≡ [] =
+    ap (λ (f : Posts Bytes). f d) (cond-false _ (to_all (with_status c Out s).status (Release risen)) nobody (le-ltb s.released risen stays)) in
+    let second : asked {B = Bytes} (donor rules (with_status c Out s)) (filter waits (up_to rules.clients)) waits d ≡ [] =
+    none_asked (donor rules (with_status c Out s)) (filter waits (up_to rules.clients)) waits d (none_found waits (up_to rules.clients) gone.alone)
+    (gone.alone d) in
     (λ i. first i ++ second i)
 
 silent_says : (rules : Rules) (s : Server) (a : Arrival Bytes) → IsSilent rules s a → posts_of rules s a ≡ []
-silent_says rules s (Heard c up.Join) out = ap (post_list rules.clients) (cond-false _ (asked (donor rules s) (c ∷ []) (λ d. d == c)) nobody out) ∙ list_nobody rules.clients
+silent_says rules s (Heard c up.Join) out = ap (post_list rules.clients) (cond-false _ (asked (donor rules s) (c ∷ []) (λ d. d == c)) nobody out) ∙
+    list_nobody rules.clients
 silent_says rules s (Heard c (up.Command t command)) none = absurd none
 silent_says rules s (Heard c (up.Done t)) done =
     let status : ℕ → Status = put c (In t) s.status in
     let risen : ℕ = (raised rules (with_status c (In t) s)).released in
     let stays : risen ≤ s.released = (let e = done.stays in omega arith) in
-    ap (λ (o : Option ℕ). post_list rules.clients (refusal c o (release {B = Bytes} status s.released risen))) done.taken ∙ list_release status rules.clients s.released risen stays
+    ap (λ (o : Option ℕ). post_list rules.clients (refusal c o (release {B = Bytes} status s.released risen))) done.taken ∙
+    list_release status rules.clients s.released risen stays
 silent_says rules s (Heard c (up.Report t digest)) report =
     let said : Posts Bytes = if differs (s.reference t) digest then to_all s.status (Notice t c) else nobody in
     ap (λ (o : Option ℕ). post_list rules.clients (refusal c o said)) report.taken
-    ∙ ap (post_list rules.clients) (cond-false _ (to_all s.status (Notice t c)) nobody (same_digest (s.reference t) digest report.same)) ∙ list_nobody rules.clients
-silent_says rules s (Heard c (up.State j t carried)) left = none_told rules.clients (posts {B = Bytes} rules s (Heard c (up.State j t carried))) (λ d. ap (λ (f : Posts Bytes). f d) (cond-false _ (to_one j (loading rules s t carried)) nobody left))
+    ∙ ap (post_list rules.clients) (cond-false _ (to_all s.status (Notice t c)) nobody (same_digest (s.reference t) digest report.same)) ∙
+    list_nobody rules.clients
+silent_says rules s (Heard c (up.State j t carried)) left = none_told rules.clients (posts {B = Bytes} rules s (Heard c (up.State j t carried)))
+    (λ d. ap (λ (f : Posts Bytes). f d) (cond-false _ (to_one j (loading rules s t carried)) nobody left))
 silent_says rules s (Cut c) gone = none_told rules.clients (posts {B = Bytes} rules s (Cut c)) (gone_says rules s c gone)
 
 -- a call that has what it wants says nothing at a silent arrival
-pub silent : (old new : View) (a : Arrival Bytes) (r : Result (List (PostOf Bytes)) OutOfMemory) → Makes old a r new → IsOk r → IsSilent old.rules (server_of old) a → r ≡ Ok []
+pub silent : (old new : View) (a : Arrival Bytes) (r : Result (List (PostOf Bytes)) OutOfMemory) → Makes old a r new → IsOk r
+    → IsSilent old.rules (server_of old) a → r ≡ Ok []
 silent old new a (Ok sent) made ok still = ap Ok (made.said ∙ silent_says old.rules (server_of old) a still)
 silent old new a (Err e) made ok still = absurd (false≢true ok)
 
@@ -91,9 +82,11 @@ noted_says : (v : View) (c t : ℕ) (digest : List ℕ) → IsNoted v c t digest
 noted_says v c t digest report =
     let s : Server = server_of v in
     let said : Posts Bytes = if differs (s.reference t) digest then to_all s.status (Notice t c) else nobody in
-    ap (λ (o : Option ℕ). post_list v.rules.clients (refusal c o said)) report.taken ∙ ap (post_list v.rules.clients) (cond-false _ (to_all s.status (Notice t c)) nobody report.same) ∙ list_nobody v.rules.clients
+    ap (λ (o : Option ℕ). post_list v.rules.clients (refusal c o said)) report.taken ∙
+    ap (post_list v.rules.clients) (cond-false _ (to_all s.status (Notice t c)) nobody report.same) ∙ list_nobody v.rules.clients
 
-pub noted : (old new : View) (c t : ℕ) (digest : List ℕ) (r : Result (List (PostOf Bytes)) OutOfMemory) → Makes old (Heard c (up.Report t digest)) r new → IsOk r → IsNoted old c t digest → r ≡ Ok []
+pub noted : (old new : View) (c t : ℕ) (digest : List ℕ) (r : Result (List (PostOf Bytes)) OutOfMemory) → Makes old (Heard c (up.Report t digest)) r new
+    → IsOk r → IsNoted old c t digest → r ≡ Ok []
 noted old new c t digest (Ok sent) made ok report = ap Ok (made.said ∙ noted_says old c t digest report)
 noted old new c t digest (Err e) made ok report = absurd (false≢true ok)
 
@@ -111,17 +104,22 @@ pub not_both : (o : Option ℕ) (code : ℕ) → o ≡ Some code → o ≡ None 
 not_both (Some x) code is none = cc
 not_both None code is none = cc
 
-pub done_stays : (v : View) (c t risen : ℕ) → IsSeated v.rules v.seats → IsClient v c → risen ≡ raised_to v.released (least_done (status_in (set v.seats c (In t))) v.rules.clients) → ReleasesNothing v.rules (server_of v) c t → risen ≤ v.released
+pub done_stays : (v : View) (c t risen : ℕ) → IsSeated v.rules v.seats → IsClient v c
+    → risen ≡ raised_to v.released (least_done (status_in (set v.seats c (In t))) v.rules.clients) → ReleasesNothing v.rules (server_of v) c t
+    → risen ≤ v.released
 done_stays v c t risen seated client is done =
-    let e = is ∙ ap (λ (f : ℕ → Status). raised_to v.released (least_done f v.rules.clients)) (status_set v.rules v.seats c (In t) seated client.1) ∙ done.stays in
+    let e = is ∙ ap (λ (f : ℕ → Status). raised_to v.released (least_done f v.rules.clients)) (status_set v.rules v.seats c (In t) seated client.1) ∙
+    done.stays in
     omega (arith, e)
 
-pub cut_stays : (v : View) (c risen : ℕ) → IsSeated v.rules v.seats → IsClient v c → risen ≡ raised_to v.released (least_done (status_in (set v.seats c Out)) v.rules.clients) → GoesUnseen v.rules (server_of v) c → risen ≤ v.released
+pub cut_stays : (v : View) (c risen : ℕ) → IsSeated v.rules v.seats → IsClient v c
+    → risen ≡ raised_to v.released (least_done (status_in (set v.seats c Out)) v.rules.clients) → GoesUnseen v.rules (server_of v) c → risen ≤ v.released
 cut_stays v c risen seated client is gone =
     let e = is ∙ ap (λ (f : ℕ → Status). raised_to v.released (least_done f v.rules.clients)) (status_set v.rules v.seats c Out seated client.1) ∙ gone.stays in
     omega (arith, e)
 
-pub cut_alone : (v : View) (c : ℕ) → IsSeated v.rules v.seats → IsClient v c → GoesUnseen v.rules (server_of v) c → (j : ℕ) → waits_for c (status_in (set v.seats c Out) j) ≡ false
+pub cut_alone : (v : View) (c : ℕ) → IsSeated v.rules v.seats → IsClient v c → GoesUnseen v.rules (server_of v) c → (j : ℕ)
+    → waits_for c (status_in (set v.seats c Out) j) ≡ false
 cut_alone v c seated client gone j = ap (λ (f : ℕ → Status). waits_for c (f j)) (status_set v.rules v.seats c Out seated client.1) ∙ gone.alone j
 
 pub is_listed : (references : List (Option (List ℕ))) (t : ℕ) (first : List ℕ) → reference_in references t ≡ Some first → t + 1 ≤ length references
@@ -132,7 +130,8 @@ is_listed (x ∷ references) (suc t) first e = (let le = is_listed references t 
 -- ---- frames
 
 -- bytes for which memory was refused are a frame
-pub is_frame : (bytes : List ℕ) (r : Result (UpOf (List ℕ)) WireFault) → IfErr r (RefusedFor IsUpFrame bytes) → r ≡ Err faults.OutOfMemory → ((message : UpOf (List ℕ)) → IsUpFrame bytes message → ⊥) → ⊥
+pub is_frame : (bytes : List ℕ) (r : Result (UpOf (List ℕ)) WireFault) → IfErr r (RefusedFor IsUpFrame bytes) → r ≡ Err faults.OutOfMemory
+    → ((message : UpOf (List ℕ)) → IsUpFrame bytes message → ⊥) → ⊥
 is_frame bytes r refused is none = by (subst (λ (x : Result (UpOf (List ℕ)) WireFault). IfErr x (RefusedFor IsUpFrame bytes)) is refused)
   where
     by : (message : UpOf (List ℕ)) × IsUpFrame bytes message → ⊥

@@ -1,14 +1,8 @@
 -- Arrivals at which nobody is told anything and nothing is kept, so that no memory is wanted.
 use Rattle.std.specs.Prelude.{◌≡◌, ℕ, ◌<◌, false, List, length, Some, None}
-use Rattle.sim_plain.specs.declared.rules.Rules.{Rules}
-use Rattle.sim_plain.specs.declared.status.Status.TheVariants.{Out, In}
-use Rattle.sim_plain.specs.declared.message.UpOf.{UpOf}
+use Rattle.sim_server.specs.{Common.waits_for, Common.with_status, Standing.View, Views.reference_in, Views.status_in}
+use Rattle.sim_server.specs.Common.{Arrival, Cut, differs, done_fault, Heard, In, is_out, Out, raised, report_fault, Rules, Server, takes_state, UpOf}
 use Rattle.sim_plain.specs.declared.message.UpOf.TheVariants as up
-use Rattle.sim_plain.specs.Messages.{Arrival, Heard, Cut}
-use Rattle.sim_plain.specs.Server.{Server, is_out, waits_for, with_status, raised, done_fault, report_fault, takes_state}
-use Rattle.sim_plain.specs.Posts.{differs}
-use Rattle.sim_server.specs.Views.{status_in, reference_in}
-use Rattle.sim_server.specs.Standing.{View}
 
 -- a done that is taken and releases nothing
 pub record ReleasesNothing (rules : Rules) (s : Server) (c t : ℕ) : Type 0 where

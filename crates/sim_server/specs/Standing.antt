@@ -1,18 +1,8 @@
 -- For which server of the definitions a server in memory stands, and what a call makes of it.
-use Rattle.std.specs.Prelude.{◌≡◌, ℕ, ◌<◌, ◌≤◌, Bool, false, not, List, ◌∷◌, ◌++◌, length, Option, Result, Ok, Err}
-use Rattle.std.specs.List.{AllByRecursion}
-use Rattle.sim_base.specs.declared.command.PlayerCommand.{PlayerCommand}
-use Rattle.sim_base.specs.declared.memory.OutOfMemory.{OutOfMemory}
-use Rattle.sim_plain.specs.declared.message.PostOf.{PostOf}
-use Rattle.sim_plain.specs.declared.rules.Rules.{Rules}
-use Rattle.sim_plain.specs.declared.status.Status.{Status}
-use Rattle.sim_plain.specs.declared.status.Status.TheVariants.{Out, In}
-use Rattle.sim_plain.specs.declared.message.UpOf.{UpOf}
+use Rattle.std.specs.Prelude.{◌≡◌, ℕ, ◌<◌, ◌≤◌, Bool, false, not, List, ◌∷◌, ◌++◌, length, Ok, Err, Option, Result}
+use Rattle.sim_server.specs.{Common.Status, Common.takes_state, Common.UpOf, Views.kept_in, Views.reference_in, Views.status_in}
+use Rattle.sim_server.specs.Common.{AllByRecursion, Arrival, heard, In, is_out, Out, OutOfMemory, PlayerCommand, PostOf, posts_of, Rules, Server, server_after}
 use Rattle.sim_plain.specs.declared.message.UpOf.TheVariants as up
-use Rattle.sim_plain.specs.Messages.{Arrival}
-use Rattle.sim_plain.specs.Server.{Server, is_out, takes_state, heard, server_after}
-use Rattle.sim_plain.specs.Posts.{posts_of}
-use Rattle.sim_server.specs.Views.{status_in, kept_in, reference_in}
 
 -- what contracts see of a server: what clients are, by number, and lists by turn
 pub record View : Type 0 where

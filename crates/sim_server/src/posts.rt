@@ -1,11 +1,8 @@
 //! What the server says, as lists of posts by ascending receiver.
 
-ghost use Rattle.std.specs.Prelude.{◌≡◌, ℕ, ◌-◌, ◌≤◌, false, [], ◌∷◌, ◌++◌, min, if◌then◌else◌, length, map, filter, IfOk, IsOk, OnOk};
-ghost use Rattle.sim_plain.specs.declared.message.DownOf.TheVariants.{Ask, State, Command, Release, Notice, Refused};
-ghost use Rattle.sim_plain.specs.Functions.{up_to};
-ghost use Rattle.sim_plain.specs.Server.{waits_for, least_in};
-ghost use Rattle.sim_plain.specs.Posts.{nobody, to_all, release, asked, kept_above, posted_to, post_list};
-ghost use Rattle.sim_server.specs.Views.{status_in, kept_in, asked_one, cut_said};
+ghost use Rattle.std.specs.Prelude.{◌≡◌, ℕ, ◌-◌, ◌≤◌, min, false, [], ◌∷◌, ◌++◌, map, length, IfOk, if◌then◌else◌, OnOk, IsOk, filter};
+ghost use Rattle.sim_server.specs.{Common.to_all, Common.up_to, Common.waits_for, Views.asked_one, Views.cut_said, Views.kept_in, Views.status_in};
+ghost use Rattle.sim_server.specs.Common.{Ask, asked, Command, kept_above, least_in, nobody, Notice, post_list, posted_to, Refused, Release, release, State};
 
 use crate::kept::{Orders, kept_of};
 use crate::seats::{is_inside, least_in_of, status_of, waits};
@@ -171,7 +168,9 @@ fn push_asks(
     client: u8,
     to: u8,
 ) -> Result<(), OutOfMemory>
-    ensures told { OnOk result (posts.new ≡ posts.old ++ posted_to to (asked donor (filter (λ j. waits_for client (status_in seats.now j)) (up_to clients)) (λ j. waits_for client (status_in seats.now j)) to)) }
+    ensures told { OnOk result
+        (posts.new ≡ posts.old ++ posted_to to (asked donor (filter (λ j. waits_for client (status_in seats.now j)) (up_to clients))
+        (λ j. waits_for client (status_in seats.now j)) to)) }
     ensures quiet { ((j : ℕ) → waits_for client (status_in seats.now j) ≡ false) → IsOk result }
 {
     match donor {

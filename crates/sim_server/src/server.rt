@@ -3,16 +3,11 @@
 //! A call that is refused memory leaves the server as it was: what it says is made before anything is changed, and lists
 //! by turn are grown by empty turns first, which say nothing.
 
-ghost use Rattle.std.specs.Prelude.{◌≡◌, ◌<◌, ◌≤◌, ℕ, true, false, List, [], OnOk, OnErr, IfOk, IsOk, length};
-ghost use Rattle.sim_plain.specs.Server.{is_out, takes_state};
-ghost use Rattle.sim_plain.specs.declared.message.UpOf.{UpOf};
+ghost use Rattle.std.specs.Prelude.{◌≡◌, ℕ, ◌<◌, ◌≤◌, true, false, List, [], IfOk, IsOk};
+ghost use Rattle.sim_server.specs.Common.{Arrival, Cut, Heard, is_out, IsUpFrame, raw, takes_state, up_carries, UpOf};
+ghost use Rattle.sim_server.specs.Silence.{IsNoted, IsSilent, ReleasesNothing, SaysNoted, SaysTheSame};
+ghost use Rattle.sim_server.specs.Standing.{Answers, is_dropped, IsClient, IsLater, Makes, server_of, StandsFor};
 ghost use Rattle.sim_plain.specs.declared.message.UpOf.TheVariants as up;
-ghost use Rattle.sim_plain.specs.Messages.{Arrival, Heard, Cut};
-ghost use Rattle.sim_wire.specs.Fits.{IsUpFrame};
-ghost use Rattle.sim_wire.specs.Heard.{raw};
-ghost use Rattle.sim_wire.specs.Memory.{up_carries};
-ghost use Rattle.sim_server.specs.Silence.{IsSilent, ReleasesNothing, SaysTheSame, IsNoted, SaysNoted};
-ghost use Rattle.sim_server.specs.Standing.{server_of, IsClient, Makes, StandsFor, Answers, IsLater, is_dropped};
 
 use crate::faults::{
     command_fault_of, done_fault_of, entry_done_of, released_at_start, report_fault_of, takes,
@@ -41,7 +36,7 @@ pub struct Server {
 }
 
 impl Model for Server {
-    ghost use Rattle.sim_server.specs.Standing.{View, IsWhole};
+    ghost use Rattle.sim_server.specs.Standing.{IsWhole, View};
 
     ghost Value = { View };
 
@@ -255,9 +250,11 @@ impl Server {
         ensures frame { (message : UpOf (List ℕ)) → IsUpFrame bytes.now message → Makes self.old (Heard from message) result self.new }
         ensures other { ((message : UpOf (List ℕ)) → IsUpFrame bytes.now message → ⊥) → Makes self.old (Cut from) result self.new }
         ensures made { Makes self.old (raw from bytes.now) result self.new }
-        ensures answers { (active : ℕ) (h : List (Arrival (List ℕ))) → StandsFor self.old active h → Answers self.old active h (raw from bytes.now) result self.new }
+        ensures answers { (active : ℕ) (h : List (Arrival (List ℕ))) → StandsFor self.old active h → Answers self.old active h (raw from bytes.now) result
+            self.new }
         ensures later { IsLater from (server_of self.old) (server_of self.new) }
-        ensures silent { ((message : UpOf (List ℕ)) → IsUpFrame bytes.now message → ⊥) → IsSilent self.old.rules (server_of self.old) (Cut from) → result ≡ Ok [] }
+        ensures silent { ((message : UpOf (List ℕ)) → IsUpFrame bytes.now message → ⊥) → IsSilent self.old.rules (server_of self.old) (Cut from)
+            → result ≡ Ok [] }
         ensures light { (message : UpOf (List ℕ)) → IsUpFrame bytes.now message → up_carries message ≡ false
             → IsSilent self.old.rules (server_of self.old) (Heard from message) → result ≡ Ok [] }
         ensures noted { (message : UpOf (List ℕ)) → IsUpFrame bytes.now message → SaysNoted self.old from message → result ≡ Ok [] }

@@ -1,44 +1,18 @@
 -- A client that acts beside the exchange makes just what the definition of a session says, over plain values.
-use Rattle.std.proofs.Common.{◌≡◌, ◌⊎◌, inl, inr, ℕ, ℤ, suc, List, [], ◌∷◌, ◌++◌, map, refl, sym, ap, ◌∙◌, subst, arith, append-nil, Bool, true, false, if◌then◌else◌, All, Result, Ok, Err}
-use Rattle.std.specs.Prelude.{Option, Some, None, OnOk, IfOk}
-use Rattle.std.proofs.lemmas.Bool.{cases_eq, eq-eqb, ne_eqb, cond-true, cond-false, false≢true}
-use Rattle.std.proofs.lemmas.List.Elements.{All-nil, All-cons}
-use Rattle.sim_base.specs.declared.command.Command.{Command}
-use Rattle.sim_base.specs.declared.memory.OutOfMemory.{OutOfMemory}
-use Rattle.sim_base.specs.declared.setup.Setup.{Setup}
-use Rattle.sim_base.specs.declared.step.Event.{Event}
+use Rattle.sim_session.proofs.{Common.told_with_done, Common.Up, Common.◌∙◌, Stepping.rises_stay}
+use Rattle.sim_session.proofs.Common.{AreKept, arith, bending_follows, bends, bent, carry_up, cases_eq, client_of, Command, cond-false, cond-true, Conveys, cut}
+use Rattle.sim_session.proofs.Common.{Did, digest, Done, eq-eqb, Event, events_by, false≢true, Follows, has_happened, HasFewIds, Held, Idle, inl, inr}
+use Rattle.sim_session.proofs.Common.{On, order_shown, ordered, ordering_follows, orders, OutOfMemory, Phase, pipe_in, played, played_events, Player}
+use Rattle.sim_session.proofs.Common.{Option, Result, refl, Act, Acted, acts, All-cons, All-nil, Answers, ap, append-nil, AreBuilt, AreBuiltIf, AreFrames}
+use Rattle.sim_session.proofs.Common.{Session, Setup, shows, shows_after, spelled, StandBeside, Step, stepped_by, subst, sym, Systems, Tells, told, told_alone}
+use Rattle.sim_session.proofs.Common.{is_full_turn, is_off, IsBuiltOnceAtMost, IsDigestOf, IsSmallUp, IsUpFrame, join_shown, Joining, joining_follows, joins}
+use Rattle.sim_session.proofs.Common.{leave_events, leaves, Life, life_after, Lives, Makes, may_bend, may_order, may_play, may_tell_done, Meaning, ne_eqb, Off}
+use Rattle.sim_session.proofs.Common.{playing_follows, plays, put, put_same, quick, report_of, rise_events, rises, row_of, Said, said_by, said_events, says_of}
+use Rattle.sim_session.proofs.Common.{◌≡◌, ℕ, suc, Bool, true, false, ◌⊎◌, List, [], ◌∷◌, ◌++◌, map, ℤ, IfOk, if◌then◌else◌, OnOk, Some, None, Ok, Err, All}
 use Rattle.sim_base.specs.declared.step.Event.TheVariants as event
-use Rattle.sim_base.specs.declared.step.Step.{Step}
 use Rattle.sim_base.specs.declared.step.Step.TheVariants as step
-use Rattle.sim_base.specs.Limits.{HasFewIds}
-use Rattle.sim_base.specs.Rows.{row_of}
-use Rattle.sim_base.specs.Spelling.{digest, quick, is_full_turn}
-use Rattle.sim_base.specs.Turn.{may_bend, bent}
 use Rattle.sim_plain.specs.declared.message.UpOf.TheVariants as up
-use Rattle.sim_plain.specs.Functions.{put}
-use Rattle.sim_plain.specs.Messages.{carry_up}
-use Rattle.sim_plain_session.specs.Bytes.{spelled}
 use Rattle.sim_plain_session.specs.Clients as plain
-use Rattle.sim_plain_session.specs.Clients.{Up, Phase, Acted}
-use Rattle.sim_plain_session.specs.Players.{Player}
-use Rattle.sim_plain_session.specs.Printed.{events_by, rise_events, leave_events}
-use Rattle.sim_plain_session.specs.Sessions.{Session, client_of, acts, rises, cut, leaves, stepped_by}
-use Rattle.sim_plain_session.proofs.Functions.{put_same}
-use Rattle.sim_system.specs.Meanings.{Meaning, Systems, IsBuiltOnceAtMost}
-use Rattle.sim_board.specs.BoardWords.{AreKept}
-use Rattle.sim_client.specs.declared.did.Did.{Did}
-use Rattle.sim_client.specs.declared.did.Did.TheVariants.{Idle, Done}
-use Rattle.sim_client.specs.ClientWords.{Answers, Tells}
-use Rattle.sim_client.specs.LifeLaws.{Lives, Follows, life_after, says_of, shows, shows_after, order_shown, join_shown}
-use Rattle.sim_client.specs.Lives.{Life, Off, Joining, On, Act, Said, may_order, ordered, orders, joins, may_play, played, may_tell_done, report_of, told_with_done, told_alone, told, plays, bends}
-use Rattle.sim_client.proofs.Following.{ordering_follows, joining_follows, playing_follows, bending_follows}
-use Rattle.sim_pipes.specs.Exchanges.{Held, Conveys}
-use Rattle.sim_pipes.specs.Pipes.{AreFrames, pipe_in}
-use Rattle.sim_wire.specs.Fits.{IsUpFrame, IsSmallUp}
-use Rattle.sim_session.specs.Building.{AreBuilt, AreBuiltIf}
-use Rattle.sim_session.specs.Printing.{said_events, played_events, has_happened, is_off, IsDigestOf}
-use Rattle.sim_session.specs.Standing.{said_by, StandBeside, Makes}
-use Rattle.sim_session.proofs.Stepping.{rises_stay}
 
 -- ---- answers
 
@@ -94,12 +68,14 @@ told_by setup make (Some act) old b new h = (h.1, ap (λ (b : Bool). if b then s
 
 -- ---- what is printed of what a client says is what is seen of it
 
-order_printed : (setup : Setup) (c : ℕ) (command : Command) (l : Life) → said_events c (says_of (orders setup command l)) ≡ order_shown c (says_of (orders setup command l))
+order_printed : (setup : Setup) (c : ℕ) (command : Command) (l : Life) → said_events c (says_of (orders setup command l)) ≡ order_shown c
+    (says_of (orders setup command l))
 order_printed setup c command Off = refl
 order_printed setup c command Joining = refl
 order_printed setup c command (On player) = by (may_order setup player)
   where
-    by : (b : Bool) → said_events c (says_of (if b then Some (ordered command player) else None)) ≡ order_shown c (says_of (if b then Some (ordered command player) else None))
+    by : (b : Bool) → said_events c (says_of (if b then Some (ordered command player) else None)) ≡ order_shown c
+        (says_of (if b then Some (ordered command player) else None))
     by true = refl
     by false = refl
 
@@ -118,7 +94,8 @@ happened_shown setup make (Some act) old (Done ups) new h = ap (shows setup make
 
 -- ---- the report of a full turn carries the whole digest
 
-digest_told : (setup : Setup) (p : Player) (b : Bool) → (let act = if b then told_with_done setup p else told_alone setup p in IsDigestOf setup act.life act.says)
+digest_told : (setup : Setup) (p : Player) (b : Bool) → (let act = if b then told_with_done setup p else told_alone setup p in
+    IsDigestOf setup act.life act.says)
 digest_told setup p true = λ full. ap Some (sym (cond-true (is_full_turn p.state.turn) (digest setup p.state) (quick p.state) full))
 digest_told setup p false = λ full. ap Some (sym (cond-true (is_full_turn p.state.turn) (digest setup p.state) (quick p.state) full))
 
@@ -134,7 +111,8 @@ play_digest setup (On player) did new h = by (may_play setup player) did h
 
     by : (b : Bool) (did : Did) → Answers (if b then Some (told setup next) else None) (On player) (Ok did) new → IsDigestOf setup new (said_by did)
     by true Idle h = absurd h
-    by true (Done ups) h = subst (λ (l : Life). IsDigestOf setup l ups) (sym h.0) (subst (IsDigestOf setup (told setup next).life) (sym h.1) (digest_told setup next (may_tell_done setup next)))
+    by true (Done ups) h = subst (λ (l : Life). IsDigestOf setup l ups) (sym h.0)
+        (subst (IsDigestOf setup (told setup next).life) (sym h.1) (digest_told setup next (may_tell_done setup next)))
     by false Idle h = tt
     by false (Done ups) h = absurd h
 
@@ -168,10 +146,12 @@ plays_small setup (On player) = by (may_play setup player)
     by false = All-nil IsSmallUp
 
 -- what was said has frames, where what is to be said has them
-pub said_small : (act : Option Act) (old : Life) (did : Did) (new : Life) → Answers act old (Ok did) new → All IsSmallUp (says_of act) → All IsSmallUp (said_by did)
+pub said_small : (act : Option Act) (old : Life) (did : Did) (new : Life) → Answers act old (Ok did) new → All IsSmallUp (says_of act)
+    → All IsSmallUp (said_by did)
 said_small act old did new answers small = subst (All IsSmallUp) (sym (done_by act old did new answers).1) small
 
-pub order_small : (setup : Setup) (command : Command) (old : Life) (did : Did) (new : Life) → HasFewIds command → Answers (orders setup command old) old (Ok did) new → All IsSmallUp (said_by did)
+pub order_small : (setup : Setup) (command : Command) (old : Life) (did : Did) (new : Life) → HasFewIds command → Answers (orders setup command old) old
+    (Ok did) new → All IsSmallUp (said_by did)
 order_small setup command old did new few answers = said_small (orders setup command old) old did new answers (orders_small setup command old few)
 
 pub join_small : (old : Life) (did : Did) (new : Life) → Answers (joins old) old (Ok did) new → All IsSmallUp (said_by did)
@@ -193,7 +173,8 @@ acts_beside setup c s old new act shown acted behind follows is conveys = record
 -- what it said has gone up, or memory was refused
 abbrev pub IsSent : Setup → ℕ → Held → List Said → Result (List Event) OutOfMemory → Held → Type 0
 IsSent setup c before said result behind =
-    (s : Session) (acted : Acted) → Conveys setup before s → said ≡ map (carry_up (spelled setup)) acted.says → OnOk result (Conveys setup behind (acts c acted s))
+    (s : Session) (acted : Acted) → Conveys setup before s → said ≡ map (carry_up (spelled setup)) acted.says
+    → OnOk result (Conveys setup behind (acts c acted s))
 
 told_makes : (setup : Setup) (x : Step) (old new : Life) (before behind : Held) (did : Did) (result : Result (List Event) OutOfMemory)
     (act : Option Act) (shown : List Event) (acted : Phase → Acted)
@@ -252,7 +233,8 @@ silent : (setup : Setup) (held : Held) (s : Session) (c : ℕ) (acted : Acted) �
 silent setup held s c acted none conveys = record {
   rules = conveys.rules;
   server = conveys.server;
-  ups = λ d low high. subst (λ (said : List Up). AreFrames IsUpFrame (pipe_in held.ups d) (map (carry_up (spelled setup)) said)) (sym (at d (cases_eq d c))) (conveys.ups d low high);
+  ups = λ d low high. subst (λ (said : List Up). AreFrames IsUpFrame (pipe_in held.ups d) (map (carry_up (spelled setup)) said)) (sym (at d (cases_eq d c)))
+      (conveys.ups d low high);
   downs = conveys.downs;
 }
   where
@@ -274,7 +256,8 @@ bends_silent setup id health (On player) = by (may_bend setup health (row_of pla
     by false = refl
 
 pub bend_makes : (setup : Setup) (c id : ℕ) (health : ℤ) (old new : Life) (held : Held) (b : Bool) (events : List Event)
-    → Tells (bends setup id health old) old b new → events ≡ (if b then shows setup (event.Bend c) new else []) → Makes setup (step.Bend c id health) old held new held events
+    → Tells (bends setup id health old) old b new → events ≡ (if b then shows setup (event.Bend c) new else []) → Makes setup (step.Bend c id health) old held
+    new held events
 bend_makes setup c id health old new held b events tells told =
     let act = bends setup id health old in
     let done = told_by setup (event.Bend c) act old b new tells in
@@ -314,7 +297,8 @@ off_makes setup c life held off = record {
 }
 
 -- any other is off then
-pub cut_makes : (setup : Setup) (c : ℕ) (old new : Life) (before behind : Held) (events : List Event) → is_off old ≡ false → new ≡ Off → events ≡ event.Cut c ∷ []
+pub cut_makes : (setup : Setup) (c : ℕ) (old new : Life) (before behind : Held) (events : List Event) → is_off old ≡ false → new ≡ Off
+    → events ≡ event.Cut c ∷ []
     → ((s : Session) → Conveys setup before s → Conveys setup behind (cut setup c s)) → Makes setup (step.Cut c) old before new behind events
 cut_makes setup c old new before behind events on is told stands = record {
   stand = λ s valid at. (by s (at.held) old on (s.client c) at.lives).0;
@@ -322,7 +306,11 @@ cut_makes setup c old new before behind events on is told stands = record {
 }
   where
     gone : (s : Session) → Conveys setup before s → StandBeside setup c new behind (cut setup c s)
-    gone s held = record { lives = subst (Lives setup new) (sym (put_same c plain.Off s.client)) (subst (λ (l : Life). Lives setup l plain.Off) (sym is) tt); held = stands s held }
+    gone s held = record {
+      lives = subst (Lives setup new) (sym (put_same c plain.Off s.client)) (subst (λ (l : Life). Lives setup l plain.Off) (sym is) tt);
+      held =
+          stands s held;
+    }
 
     by : (s : Session) → Conveys setup before s → (l : Life) → is_off l ≡ false → (phase : Phase) → Lives setup l phase
         → StandBeside setup c new behind (leaves setup c phase s) × (leave_events c phase ≡ event.Cut c ∷ [])

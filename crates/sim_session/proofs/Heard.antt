@@ -1,42 +1,17 @@
 -- What a client of a session hears loads as the state that was meant, and what it does then is what the definition says, over
 -- plain values.
-use Rattle.std.proofs.Common.{◌≡◌, inl, ℕ, Bool, true, false, List, [], ◌∷◌, All, Option, Some, None, Ok, refl, sym, ap, ◌∙◌, subst, map, if◌then◌else◌, ◌&&◌, nat_lt, ◌==◌, ◌++◌}
-use Rattle.std.proofs.lemmas.List.Elements.{All-nil, All-cons}
-use Rattle.std.proofs.lemmas.Option.{none-some}
-use Rattle.sim_base.specs.declared.setup.Setup.{Setup}
-use Rattle.sim_base.specs.declared.state.State.{State}
-use Rattle.sim_base.specs.declared.step.Event.{Event}
+use Rattle.sim_session.proofs.{Beside.acts_beside, Beside.done_by, Beside.kept_built, Beside.said_small, Spelled.states_are_short}
+use Rattle.sim_session.proofs.Common.{Act, Acted, acts, after, All-cons, All-nil, Answers, ap, AreBuiltIf, AreBuiltOnceAtMost, AreKept, carry_down, carry_up}
+use Rattle.sim_session.proofs.Common.{Conveys, Did, Done, Down, Event, fall_events, Falls, falls, Follows, has_happened, has_load, HasValidStates, heard_events}
+use Rattle.sim_session.proofs.Common.{Lives, LoadsAs, LoadsFrom, Makes, may_load, none-some, Off, On, Past, Phase, put, refusal_in, said_by, says_of, Session}
+use Rattle.sim_session.proofs.Common.{Setup, shows, shows_after, spelled, spelling, StandBeside, State, subst, sym, Systems, Told, ◌∙◌}
+use Rattle.sim_session.proofs.Common.{hearing_follows, hearing_shown, hears, Held, Idle, inl, is_client, is_state, IsSetup, IsSmallUp, IsValid, Joining, Life}
+use Rattle.sim_session.proofs.Common.{◌≡◌, ℕ, Bool, true, false, ◌&&◌, List, [], ◌∷◌, ◌++◌, map, if◌then◌else◌, nat_lt, ◌==◌, Some, None, Ok, All, Option, refl}
 use Rattle.sim_base.specs.declared.step.Event.TheVariants as event
 use Rattle.sim_base.specs.declared.step.Step.TheVariants as step
-use Rattle.sim_base.specs.Limits.{IsSetup}
-use Rattle.sim_base.specs.Spelling.{spelling}
-use Rattle.sim_base.specs.Turn.{Past, after}
-use Rattle.sim_base.specs.Validity.{IsValid}
-use Rattle.sim_plain.specs.declared.message.UpOf.TheVariants as up
 use Rattle.sim_plain.specs.declared.message.DownOf.TheVariants as down
-use Rattle.sim_plain.specs.Functions.{put}
-use Rattle.sim_plain.specs.Messages.{carry_up, carry_down}
-use Rattle.sim_plain_session.specs.Bytes.{spelled}
+use Rattle.sim_plain.specs.declared.message.UpOf.TheVariants as up
 use Rattle.sim_plain_session.specs.Clients as plain
-use Rattle.sim_plain_session.specs.Clients.{Down, Phase, Acted}
-use Rattle.sim_plain_session.specs.Pasts.{is_client}
-use Rattle.sim_plain_session.specs.Printed.{fall_events}
-use Rattle.sim_plain_session.specs.Sessions.{Session, acts, falls}
-use Rattle.sim_system.specs.Meanings.{Systems, AreBuiltOnceAtMost}
-use Rattle.sim_board.specs.BoardWords.{AreKept}
-use Rattle.sim_client.specs.declared.did.Did.{Did}
-use Rattle.sim_client.specs.declared.did.Did.TheVariants.{Idle, Done}
-use Rattle.sim_client.specs.ClientWords.{Answers, LoadsFrom, may_load}
-use Rattle.sim_client.specs.LifeLaws.{Lives, LoadsAs, Follows, says_of, shows, shows_after, hearing_shown}
-use Rattle.sim_client.specs.Lives.{Life, Off, Joining, On, Act, Told, hears}
-use Rattle.sim_client.proofs.Following.{hearing_follows}
-use Rattle.sim_pipes.specs.Exchanges.{Held, Conveys, Falls}
-use Rattle.sim_wire.specs.Fits.{IsSmallUp}
-use Rattle.sim_session.specs.Building.{AreBuiltIf, has_load}
-use Rattle.sim_session.specs.Printing.{refusal_in, is_state, has_happened, heard_events}
-use Rattle.sim_session.specs.Standing.{said_by, HasValidStates, StandBeside, Makes}
-use Rattle.sim_session.proofs.Spelled.{states_are_short}
-use Rattle.sim_session.proofs.Beside.{kept_built, done_by, said_small, acts_beside}
 
 -- the state that a message means
 abbrev loaded_of : Setup → Down → Option State
@@ -47,7 +22,8 @@ loaded_of setup (down.Release t) = None
 loaded_of setup (down.Notice t j) = None
 loaded_of setup (down.Refused code) = None
 
-loads_from : (setup : Setup) (s : Session) (c : ℕ) (said : Down) (rest : List Down) → HasValidStates setup c s → s.downs c ≡ said ∷ rest → LoadsFrom setup (carry_down (spelled setup) said) (loaded_of setup said)
+loads_from : (setup : Setup) (s : Session) (c : ℕ) (said : Down) (rest : List Down) → HasValidStates setup c s → s.downs c ≡ said ∷ rest
+    → LoadsFrom setup (carry_down (spelled setup) said) (loaded_of setup said)
 loads_from setup s c (down.Ask j) rest valid first = tt
 loads_from setup s c (down.State done past) rest valid first = record { valid = valid.heard done past rest first; spelled = inl refl }
 loads_from setup s c (down.Command t order) rest valid first = tt
@@ -85,11 +61,13 @@ hear_small setup loaded (down.Refused code) Joining phase limits lives valid = b
 hear_small setup loaded (down.Ask j) (On player) plain.Off limits lives valid = absurd lives
 hear_small setup loaded (down.Ask j) (On player) plain.Joining limits lives valid = absurd lives
 hear_small setup loaded (down.Ask j) (On player) (plain.On seat) limits lives valid =
-    All-cons IsSmallUp (up.State j player.state.turn (spelling setup player.state)) [] (states_are_short setup player.state limits (subst (IsValid setup) (sym lives.state) (valid seat refl))) none
+    All-cons IsSmallUp (up.State j player.state.turn (spelling setup player.state)) []
+    (states_are_short setup player.state limits (subst (IsValid setup) (sym lives.state) (valid seat refl))) none
 hear_small setup loaded (down.State done bytes) (On player) phase limits lives valid = none
 hear_small setup loaded (down.Command t order) (On player) phase limits lives valid = by (nat_lt player.state.turn t && is_client setup order.player)
   where
-    by : (b : Bool) → All IsSmallUp (says_of (if b then Some (record { life = On (record player { known = put t (player.known t ++ order ∷ []) player.known }); says = [] }) else None))
+    by : (b : Bool) → All IsSmallUp
+        (says_of (if b then Some (record { life = On (record player { known = put t (player.known t ++ order ∷ []) player.known }); says = [] }) else None))
     by true = none
     by false = none
 hear_small setup loaded (down.Release t) (On player) phase limits lives valid = by (nat_lt player.released t)
@@ -127,13 +105,16 @@ DoesHear setup down old did new = (loaded : Option State) → LoadsFrom setup do
 abbrev pub IsTaken : Setup → ℕ → Held → Told → Held → Type 0
 IsTaken setup c before down mid = (s : Session) → Conveys setup before s → Falls setup mid c s (s.downs c) (Some down)
 
-answered : (setup : Setup) (c : ℕ) (s : Session) → HasValidStates setup c s → (down : Told) (mid : Held) (h : IsHead setup c s down mid) (old : Life) (did : Did) (new : Life) → DoesHear setup down old did new
+answered : (setup : Setup) (c : ℕ) (s : Session) → HasValidStates setup c s → (down : Told) (mid : Held) (h : IsHead setup c s down mid) (old : Life)
+    (did : Did) (new : Life) → DoesHear setup down old did new
     → Answers (hears setup (loaded_of setup h.said) down old) old (Ok did) new
 answered setup c s valid down mid h old did new does =
-    does (loaded_of setup h.said) (subst (λ (d : Told). LoadsFrom setup d (loaded_of setup h.said)) (sym h.down_is) (loads_from setup s c h.said h.rest valid h.first))
+    does (loaded_of setup h.said) (subst (λ (d : Told). LoadsFrom setup d (loaded_of setup h.said)) (sym h.down_is)
+    (loads_from setup s c h.said h.rest valid h.first))
 
 -- what it says has frames
-pub heard_small : (setup : Setup) (c : ℕ) (s : Session) (old : Life) (down : Told) (did : Did) (new : Life) (before mid : Held) → IsSetup setup → HasValidStates setup c s → StandBeside setup c old before s
+pub heard_small : (setup : Setup) (c : ℕ) (s : Session) (old : Life) (down : Told) (did : Did) (new : Life) (before mid : Held) → IsSetup setup
+    → HasValidStates setup c s → StandBeside setup c old before s
     → IsTaken setup c before down mid → DoesHear setup down old did new → All IsSmallUp (said_by did)
 heard_small setup c s old down did new before mid limits valid at taken does =
     let h = head setup c s down mid (taken s at.held) in
@@ -151,7 +132,8 @@ heard_shown : (setup : Setup) (c : ℕ) (down : Told) (act : Option Act) (old : 
 heard_shown setup c (down.Ask j) act old did new answers = nothing (has_happened did) (shows setup (event.Load c) new)
 heard_shown setup c (down.State done bytes) act old did new answers = by act did answers
   where
-    by : (act : Option Act) (did : Did) → Answers act old (Ok did) new → heard_events setup c new None true (has_happened did) ≡ shows_after setup (event.Load c) act
+    by : (act : Option Act) (did : Did) → Answers act old (Ok did) new → heard_events setup c new None true (has_happened did) ≡ shows_after setup
+        (event.Load c) act
     by None Idle h = refl
     by None (Done ups) h = absurd h
     by (Some act) Idle h = absurd h
@@ -170,16 +152,22 @@ load_built setup c said old it did new S T is =
     subst (λ (d : Told). Answers (hears setup (loaded_of setup said) d old) old (Ok did) new → (may_load old d ≡ false → AreKept S T) → AreBuiltOnceAtMost S T
     → AreBuiltIf (has_load (heard_events setup c new (refusal_in d) (is_state d) (has_happened did))) S T) (sym is) (by old said)
   where
-    loads : (done : ℕ) (past : Past) (did : Did) → Answers (hears setup (Some (after setup past)) (down.State done (spelled setup past)) Joining) Joining (Ok did) new → AreBuiltOnceAtMost S T
+    loads : (done : ℕ) (past : Past) (did : Did) → Answers (hears setup (Some (after setup past)) (down.State done (spelled setup past)) Joining) Joining
+        (Ok did) new → AreBuiltOnceAtMost S T
         → AreBuiltIf (has_load (heard_events setup c new None true (has_happened did))) S T
     loads done past Idle answers most = absurd answers
     loads done past (Done ups) answers most = subst (λ (l : Life). AreBuiltIf (has_load (shows setup (event.Load c) l)) S T) (sym answers.0) most
 
     by : (old : Life) (said : Down) → Answers (hears setup (loaded_of setup said) (carry_down (spelled setup) said) old) old (Ok did) new
         → (may_load old (carry_down (spelled setup) said) ≡ false → AreKept S T) → AreBuiltOnceAtMost S T
-        → AreBuiltIf (has_load (heard_events setup c new (refusal_in (carry_down (spelled setup) said)) (is_state (carry_down (spelled setup) said)) (has_happened did))) S T
-    by Off said answers kept most = kept_built (has_load (heard_events setup c new (refusal_in (carry_down (spelled setup) said)) (is_state (carry_down (spelled setup) said)) (has_happened did))) S T (kept refl)
-    by (On player) said answers kept most = kept_built (has_load (heard_events setup c new (refusal_in (carry_down (spelled setup) said)) (is_state (carry_down (spelled setup) said)) (has_happened did))) S T (kept refl)
+        → AreBuiltIf (has_load (heard_events setup c new (refusal_in (carry_down (spelled setup) said)) (is_state (carry_down (spelled setup) said))
+        (has_happened did))) S T
+    by Off said answers kept most =
+        kept_built (has_load (heard_events setup c new (refusal_in (carry_down (spelled setup) said)) (is_state (carry_down (spelled setup) said))
+        (has_happened did))) S T (kept refl)
+    by (On player) said answers kept most =
+        kept_built (has_load (heard_events setup c new (refusal_in (carry_down (spelled setup) said)) (is_state (carry_down (spelled setup) said))
+        (has_happened did))) S T (kept refl)
     by Joining (down.Ask j) answers kept most = kept_built (has_load (heard_events setup c new None false (has_happened did))) S T (kept refl)
     by Joining (down.State done past) answers kept most = loads done past did answers most
     by Joining (down.Command t order) answers kept most = kept_built (has_load (heard_events setup c new None false (has_happened did))) S T (kept refl)
@@ -188,7 +176,8 @@ load_built setup c said old it did new S T is =
     by Joining (down.Refused code) answers kept most = kept_built false S T (kept refl)
 
 -- they are where the definition of the session has a load, whatever came of it
-load_kept : (setup : Setup) (c : ℕ) (said : Down) (it : Told) (S T : Systems) → it ≡ carry_down (spelled setup) said → (old : Life) (phase : Phase) → Lives setup old phase
+load_kept : (setup : Setup) (c : ℕ) (said : Down) (it : Told) (S T : Systems) → it ≡ carry_down (spelled setup) said → (old : Life) (phase : Phase)
+    → Lives setup old phase
     → (may_load old it ≡ false → AreKept S T) → AreBuiltOnceAtMost S T → AreBuiltIf (has_load (plain.hears setup c phase said).events) S T
 load_kept setup c said it S T is old phase lives kept most = by old phase said lives (subst (λ (d : Told). may_load old d ≡ false → AreKept S T) is kept)
   where
@@ -208,7 +197,8 @@ load_kept setup c said it S T is old phase lives kept most = by old phase said l
     by Joining plain.Joining (down.Notice t j) lives kept = idle plain.Joining (down.Notice t j) (kept refl)
     by Joining plain.Joining (down.Refused code) lives kept = idle plain.Joining (down.Refused code) (kept refl)
 
-pub heard_loads : (setup : Setup) (c : ℕ) (s : Session) (old : Life) (down : Told) (before mid : Held) (S T : Systems) → StandBeside setup c old before s → IsTaken setup c before down mid
+pub heard_loads : (setup : Setup) (c : ℕ) (s : Session) (old : Life) (down : Told) (before mid : Held) (S T : Systems) → StandBeside setup c old before s
+    → IsTaken setup c before down mid
     → (may_load old down ≡ false → AreKept S T) → AreBuiltOnceAtMost S T → AreBuiltIf (has_load (fall_events setup c (s.client c) (s.downs c))) S T
 heard_loads setup c s old down before mid S T at taken kept most =
     let h = head setup c s down mid (taken s at.held) in
@@ -222,12 +212,15 @@ module _ (setup : Setup) (c : ℕ) (old : Life) (down : Told) (did : Did) (new :
     (told : events ≡ heard_events setup c new (refusal_in down) (is_state down) (has_happened did)) where
   -- it follows the client of the session
   follows : (s : Session) (valid : HasValidStates setup c s) (at : StandBeside setup c old before s) (h : IsHead setup c s down mid)
-      → Follows setup old (hears setup (loaded_of setup h.said) down old) (hearing_shown setup c down (hears setup (loaded_of setup h.said) down old)) (plain.hears setup c (s.client c) h.said)
+      → Follows setup old (hears setup (loaded_of setup h.said) down old) (hearing_shown setup c down (hears setup (loaded_of setup h.said) down old))
+      (plain.hears setup c (s.client c) h.said)
   follows s valid at h =
-      subst (λ (d : Told). Follows setup old (hears setup (loaded_of setup h.said) d old) (hearing_shown setup c d (hears setup (loaded_of setup h.said) d old)) (plain.hears setup c (s.client c) h.said))
+      subst (λ (d : Told). Follows setup old (hears setup (loaded_of setup h.said) d old) (hearing_shown setup c d (hears setup (loaded_of setup h.said) d old))
+      (plain.hears setup c (s.client c) h.said))
       (sym h.down_is) (hearing_follows setup c (loaded_of setup h.said) h.said old (s.client c) at.lives (loads_as setup (s.client c) h.said))
 
-  pub heard_makes : ((s : Session) (acted : Acted) → Conveys setup mid s → said_by did ≡ map (carry_up (spelled setup)) acted.says → Conveys setup behind (acts c acted s))
+  pub heard_makes : ((s : Session) (acted : Acted) → Conveys setup mid s → said_by did ≡ map (carry_up (spelled setup)) acted.says
+      → Conveys setup behind (acts c acted s))
       → Makes setup (step.Down c) old before new behind events
   heard_makes sent = record {
     stand = λ s valid at.
@@ -247,7 +240,8 @@ module _ (setup : Setup) (c : ℕ) (old : Life) (down : Told) (did : Did) (new :
   }
 
   -- systems were built only by a load
-  pub heard_built : (s : Session) (S T : Systems) → HasValidStates setup c s → StandBeside setup c old before s → (may_load old down ≡ false → AreKept S T) → AreBuiltOnceAtMost S T
+  pub heard_built : (s : Session) (S T : Systems) → HasValidStates setup c s → StandBeside setup c old before s → (may_load old down ≡ false → AreKept S T)
+      → AreBuiltOnceAtMost S T
       → AreBuiltIf (has_load events) S T
   heard_built s S T valid at kept most =
       let h = head setup c s down mid (taken s at.held) in
@@ -255,7 +249,8 @@ module _ (setup : Setup) (c : ℕ) (old : Life) (down : Told) (did : Did) (new :
       (load_built setup c h.said old down did new S T h.down_is (answered setup c s valid down mid h old did new does) kept most)
 
 -- there is no message
-pub none_makes : (setup : Setup) (c : ℕ) (life : Life) (before mid : Held) → ((s : Session) → Conveys setup before s → Falls setup mid c s (s.downs c) None) → Makes setup (step.Down c) life before life mid []
+pub none_makes : (setup : Setup) (c : ℕ) (life : Life) (before mid : Held) → ((s : Session) → Conveys setup before s → Falls setup mid c s (s.downs c) None)
+    → Makes setup (step.Down c) life before life mid []
 none_makes setup c life before mid taken = record {
   stand = λ s valid at. (by s at (s.downs c) (taken s at.held)).0;
   printed = λ s valid at. (by s at (s.downs c) (taken s at.held)).1;

@@ -1,35 +1,14 @@
 -- A step that is not enabled: what this says of its client and of the pipes.
-use Rattle.std.proofs.Common.{◌≡◌, ℕ, ℤ, ◌≤◌, Bool, true, false, if◌then◌else◌, List, [], ◌∷◌, Ok, length, map, refl, sym, ap, ◌∙◌, subst, arith}
-use Rattle.std.specs.Prelude.{Option, Some, None}
-use Rattle.sim_base.specs.declared.command.Command.{Command}
-use Rattle.sim_base.specs.declared.setup.Setup.{Setup}
+use Rattle.sim_session.proofs.{Beside.done_by, Common.told_alone, Common.told_with_done, Common.Up, Common.◌∙◌}
+use Rattle.sim_session.proofs.Common.{ap, AreFrames, arith, bending_follows, bends, bent, carry_down, carry_up, client_of, Command, Conveys, Did, Done, Down}
+use Rattle.sim_session.proofs.Common.{events_by, falls, has_happened, Held, Idle, is_off, IsClient, IsDownFrame, IsUpFrame, join_shown, Joining}
+use Rattle.sim_session.proofs.Common.{joining_follows, joins, leave_events, Life, Lives, may_bend, may_order, may_play, may_tell_done, Off, On, order_shown}
+use Rattle.sim_session.proofs.Common.{ordered, ordering_follows, orders, Phase, pipe_in, played, Player, playing_follows, plays, put_same, rises, row_of, Rules}
+use Rattle.sim_session.proofs.Common.{said_by, says_of, Session, Setup, shows, shows_after, spelled, StandBeside, Step, stepped_by, subst, sym, told}
+use Rattle.sim_session.proofs.Common.{◌≡◌, ℕ, ◌≤◌, Bool, true, false, List, [], ◌∷◌, map, length, ℤ, if◌then◌else◌, Some, None, Ok, Option, refl, Act, Answers}
 use Rattle.sim_base.specs.declared.step.Event.TheVariants as event
-use Rattle.sim_base.specs.declared.step.Step.{Step}
 use Rattle.sim_base.specs.declared.step.Step.TheVariants as step
-use Rattle.sim_base.specs.Rows.{row_of}
-use Rattle.sim_base.specs.Turn.{may_bend, bent}
-use Rattle.sim_plain.specs.declared.rules.Rules.{Rules}
-use Rattle.sim_plain.specs.Messages.{carry_up, carry_down}
-use Rattle.sim_plain_session.specs.Bytes.{spelled}
 use Rattle.sim_plain_session.specs.Clients as plain
-use Rattle.sim_plain_session.specs.Clients.{Up, Down, Phase}
-use Rattle.sim_plain_session.specs.Printed.{events_by, leave_events}
-use Rattle.sim_plain_session.specs.Sessions.{Session, client_of, rises, falls, stepped_by}
-use Rattle.sim_plain_session.specs.Players.{Player}
-use Rattle.sim_plain_session.proofs.Functions.{put_same}
-use Rattle.sim_client.specs.declared.did.Did.{Did}
-use Rattle.sim_client.specs.declared.did.Did.TheVariants.{Idle, Done}
-use Rattle.sim_client.specs.ClientWords.{Answers}
-use Rattle.sim_client.specs.LifeLaws.{Lives, says_of, shows, shows_after, order_shown, join_shown}
-use Rattle.sim_client.specs.Lives.{Life, Off, Joining, On, Act, may_order, ordered, orders, joins, may_play, played, may_tell_done, told_with_done, told_alone, told, plays, bends}
-use Rattle.sim_client.proofs.Following.{ordering_follows, joining_follows, playing_follows, bending_follows}
-use Rattle.sim_pipes.specs.Exchanges.{Held, Conveys}
-use Rattle.sim_pipes.specs.Pipes.{AreFrames, pipe_in}
-use Rattle.sim_server.specs.Standing.{IsClient}
-use Rattle.sim_wire.specs.Fits.{IsUpFrame, IsDownFrame}
-use Rattle.sim_session.specs.Printing.{has_happened, is_off}
-use Rattle.sim_session.specs.Standing.{said_by, StandBeside}
-use Rattle.sim_session.proofs.Beside.{done_by}
 
 -- ---- a client that does nothing
 
@@ -47,10 +26,12 @@ nothing_done (Some act) old did new answers none = absurd (cc)
 abbrev pub WhereIdle : Setup → Step → Life → Held → Type 0 → Type 0
 WhereIdle setup x own held P = (s : Session) → StandBeside setup (client_of x) own held s → events_by setup s x ≡ [] → stepped_by setup s x ≡ s → P
 
-pub order_idle : (setup : Setup) (c : ℕ) (command : Command) (own : Life) (held : Held) (P : Type 0) → (orders setup command own ≡ None → P) → WhereIdle setup (step.Order c command) own held P
+pub order_idle : (setup : Setup) (c : ℕ) (command : Command) (own : Life) (held : Held) (P : Type 0) → (orders setup command own ≡ None → P)
+    → WhereIdle setup (step.Order c command) own held P
 order_idle setup c command own held P follows s at none same = follows (by own ((ordering_follows setup c command own (s.client c) at.lives).printed ∙ none))
   where
-    test : (b : Bool) (player : Player) → order_shown c (says_of (if b then Some (ordered command player) else None)) ≡ [] → (if b then Some (ordered command player) else None) ≡ None
+    test : (b : Bool) (player : Player) → order_shown c (says_of (if b then Some (ordered command player) else None)) ≡ []
+        → (if b then Some (ordered command player) else None) ≡ None
     test true player shown = absurd (cc)
     test false player shown = refl
 
@@ -66,7 +47,8 @@ play_idle setup c own held P follows s at none same = follows (by own ((playing_
     seen true p shown = absurd (cc)
     seen false p shown = absurd (cc)
 
-    test : (b : Bool) (p : Player) → shows_after setup (event.Play c) (if b then Some (told setup p) else None) ≡ [] → (if b then Some (told setup p) else None) ≡ None
+    test : (b : Bool) (p : Player) → shows_after setup (event.Play c) (if b then Some (told setup p) else None) ≡ []
+        → (if b then Some (told setup p) else None) ≡ None
     test true p shown = absurd (seen (may_tell_done setup p) p shown)
     test false p shown = refl
 
@@ -83,10 +65,12 @@ join_idle setup c own held P follows s at none same = follows (by own ((joining_
     by Joining shown = refl
     by (On player) shown = refl
 
-pub bend_idle : (setup : Setup) (c id : ℕ) (health : ℤ) (own : Life) (held : Held) (P : Type 0) → (bends setup id health own ≡ None → P) → WhereIdle setup (step.Bend c id health) own held P
+pub bend_idle : (setup : Setup) (c id : ℕ) (health : ℤ) (own : Life) (held : Held) (P : Type 0) → (bends setup id health own ≡ None → P)
+    → WhereIdle setup (step.Bend c id health) own held P
 bend_idle setup c id health own held P follows s at none same = follows (by own ((bending_follows setup c id health own (s.client c) at.lives).printed ∙ none))
   where
-    test : (b : Bool) (player : Player) → (let act : Option Act = (if b then Some (record { life = On (record player { state = bent setup player.state id health }); says = [] }) else None) in
+    test : (b : Bool) (player : Player)
+        → (let act : Option Act = (if b then Some (record { life = On (record player { state = bent setup player.state id health }); says = [] }) else None) in
         shows_after setup (event.Bend c) act ≡ [] → act ≡ None)
     test true player shown = absurd (cc)
     test false player shown = refl
@@ -120,22 +104,26 @@ no_frames IsFrame (frame ∷ frames) are = absurd are
 number_fits : (setup : Setup) (c : ℕ) (held : Held) (s : Session) → IsClient held.server c → Conveys setup held s → c ≤ setup.players
 number_fits setup c held s client conveys = let same = ap (λ (r : Rules). r.clients) conveys.rules in omega (arith, same, client.1)
 
-pub up_idle : (setup : Setup) (c : ℕ) (own : Life) (held : Held) (P : Type 0) → IsClient held.server c → (pipe_in held.ups c ≡ [] → P) → WhereIdle setup (step.Up c) own held P
+pub up_idle : (setup : Setup) (c : ℕ) (own : Life) (held : Held) (P : Type 0) → IsClient held.server c → (pipe_in held.ups c ≡ [] → P)
+    → WhereIdle setup (step.Up c) own held P
 up_idle setup c own held P client follows s at none same = follows (by (s.ups c) refl)
   where
     by : (ups : List Up) → s.ups c ≡ ups → pipe_in held.ups c ≡ []
     by [] e = no_frames IsUpFrame (pipe_in held.ups c)
-        (subst (λ (ups : List Up). AreFrames IsUpFrame (pipe_in held.ups c) (map (carry_up (spelled setup)) ups)) e (at.held.ups c client.0 (number_fits setup c held s client at.held)))
+        (subst (λ (ups : List Up). AreFrames IsUpFrame (pipe_in held.ups c) (map (carry_up (spelled setup)) ups)) e
+        (at.held.ups c client.0 (number_fits setup c held s client at.held)))
     by (said ∷ rest) e =
         let heard : rises setup c (said ∷ rest) s ≡ s = ap (λ (ups : List Up). rises setup c ups s) (sym e) ∙ same in
         absurd (longer said rest (sym (put_same c rest s.ups) ∙ ap (λ (t : Session). t.ups c) heard ∙ e))
 
-pub down_idle : (setup : Setup) (c : ℕ) (own : Life) (held : Held) (P : Type 0) → IsClient held.server c → (pipe_in held.downs c ≡ [] → P) → WhereIdle setup (step.Down c) own held P
+pub down_idle : (setup : Setup) (c : ℕ) (own : Life) (held : Held) (P : Type 0) → IsClient held.server c → (pipe_in held.downs c ≡ [] → P)
+    → WhereIdle setup (step.Down c) own held P
 down_idle setup c own held P client follows s at none same = follows (by (s.downs c) refl)
   where
     by : (downs : List Down) → s.downs c ≡ downs → pipe_in held.downs c ≡ []
     by [] e = no_frames IsDownFrame (pipe_in held.downs c)
-        (subst (λ (downs : List Down). AreFrames IsDownFrame (pipe_in held.downs c) (map (carry_down (spelled setup)) downs)) e (at.held.downs c client.0 (number_fits setup c held s client at.held)))
+        (subst (λ (downs : List Down). AreFrames IsDownFrame (pipe_in held.downs c) (map (carry_down (spelled setup)) downs)) e
+        (at.held.downs c client.0 (number_fits setup c held s client at.held)))
     by (said ∷ rest) e =
         let heard : falls setup c (said ∷ rest) s ≡ s = ap (λ (downs : List Down). falls setup c downs s) (sym e) ∙ same in
         absurd (longer said rest (sym (put_same c rest s.downs) ∙ ap (λ (t : Session). t.downs c) heard ∙ e))

@@ -1,20 +1,12 @@
 -- The systems of each client stand for what it is.
-use Rattle.std.proofs.Common.{◌≡◌, ℕ, zero, suc, ◌-◌, ◌<◌, List, [], ◌∷◌, ◌++◌, length, get_or, sym, subst, arith}
-use Rattle.std.specs.Prelude.{Option, Some, None}
-use Rattle.std.proofs.lemmas.List.{get_or_append_left, length-map}
-use Rattle.std.proofs.lemmas.List.Elements.{All-head, All-tail}
-use Rattle.sim_base.specs.declared.setup.Setup.{Setup}
-use Rattle.sim_system.specs.Meanings.{Meaning, Systems, AreFed}
+use Rattle.sim_session.proofs.Common.{AreMembersBy, AreOf, AreOfClients, arith, Board, Client, get_or_append_left, IsMemberBy, IsReady, length-map, life_at}
+use Rattle.sim_session.proofs.Common.{lives_of, Meaning, nowhere, Off, Setup, Stage, subst, sym, Systems, systems_by, systems_on}
+use Rattle.sim_session.proofs.Common.{◌≡◌, ℕ, zero, suc, ◌-◌, ◌<◌, List, [], ◌∷◌, ◌++◌, length, get_or, Some, None, Option, All-head, All-tail, AreFed}
 use Rattle.sim_system.specs.RigWords.{systems_by as rig_by}
-use Rattle.sim_board.specs.declared.board.Board.{Board}
-use Rattle.sim_client.specs.declared.client.Client.{Client}
-use Rattle.sim_client.specs.declared.stage.Stage.{Stage}
 use Rattle.sim_client.specs.declared.stage.Stage.TheVariants as stage
-use Rattle.sim_client.specs.Lives.{Off}
-use Rattle.sim_client.specs.StageWords.{AreOf, IsReady, life_at, nowhere, systems_on}
-use Rattle.sim_session.specs.SessionWords.{AreMembersBy, AreOfClients, IsMemberBy, lives_of, systems_by}
 
-of_stage : {X : Type 0} {F : X → Type 0} (setup : Setup) (at : Stage) (board : Option (Board X F)) (m : (i : X) → F i → Meaning) → IsReady setup at board m → AreOf setup (life_at at board) (systems_on board m)
+of_stage : {X : Type 0} {F : X → Type 0} (setup : Setup) (at : Stage) (board : Option (Board X F)) (m : (i : X) → F i → Meaning) → IsReady setup at board m
+    → AreOf setup (life_at at board) (systems_on board m)
 of_stage setup stage.Off None m ready = absurd ready
 of_stage setup stage.Off (Some board) m ready = ready.cleared
 of_stage setup stage.Joining None m ready = absurd ready
@@ -24,17 +16,22 @@ of_stage setup (stage.On seat) (Some board) m ready = subst (λ (s : Setup). Are
 
 module _ {Y X : Type 0} {G : Y → Type 0} {F : X → Type 0} {M : _} (setup : Setup) (m : (i : X) → F i → Meaning) where
   of_member : (c : Client Y X G F M) → IsMemberBy setup c m → AreOf setup (life_at c.stage c.board) (systems_on c.board m)
-  of_member c member = subst (λ (s : Setup). AreOf s (life_at c.stage c.board) (systems_on c.board m)) member.same (of_stage c.setup.now c.stage c.board m member.sound.ready)
+  of_member c member = subst (λ (s : Setup). AreOf s (life_at c.stage c.board) (systems_on c.board m)) member.same
+      (of_stage c.setup.now c.stage c.board m member.sound.ready)
 
-  of_place : (clients : List (Client Y X G F M)) (i : ℕ) → i < length clients → AreMembersBy setup clients m → AreOf setup (get_or (lives_of clients) i Off) (get_or (systems_by clients m) i nowhere)
+  of_place : (clients : List (Client Y X G F M)) (i : ℕ) → i < length clients → AreMembersBy setup clients m → AreOf setup (get_or (lives_of clients) i Off)
+      (get_or (systems_by clients m) i nowhere)
   of_place [] i low members = absurd (omega (arith, low))
   of_place (c ∷ clients) zero low members = of_member c (All-head (λ (c : Client Y X G F M). IsMemberBy setup c m) c clients members)
-  of_place (c ∷ clients) (suc i) low members = of_place clients i (omega (arith, low)) (All-tail (λ (c : Client Y X G F M). IsMemberBy setup c m) c clients members)
+  of_place (c ∷ clients) (suc i) low members = of_place clients i (omega (arith, low))
+      (All-tail (λ (c : Client Y X G F M). IsMemberBy setup c m) c clients members)
 
   -- also where other systems stand behind them
-  pub of_clients : (clients : List (Client Y X G F M)) (rest : List Systems) → length clients ≡ setup.players → AreMembersBy setup clients m → AreOfClients setup (lives_of clients) (systems_by clients m ++ rest)
+  pub of_clients : (clients : List (Client Y X G F M)) (rest : List Systems) → length clients ≡ setup.players → AreMembersBy setup clients m
+      → AreOfClients setup (lives_of clients) (systems_by clients m ++ rest)
   of_clients clients rest count members c low high =
       let within : c - 1 < length clients = omega (arith, count, low, high) in
       subst (λ (s : Systems). AreOf setup (get_or (lives_of clients) (c - 1) Off) s)
-      (sym (get_or_append_left (systems_by clients m) rest nowhere (c - 1) (omega (arith, within, length-map clients (λ (c : Client Y X G F M). systems_on c.board m)))))
+      (sym (get_or_append_left (systems_by clients m) rest nowhere (c - 1)
+      (omega (arith, within, length-map clients (λ (c : Client Y X G F M). systems_on c.board m)))))
       (of_place clients (c - 1) within members)

@@ -1,3 +1,4 @@
+pub mod Common
 pub mod Spelled
 pub mod Seating
 pub mod Stepping

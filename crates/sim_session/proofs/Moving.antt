@@ -1,8 +1,9 @@
 -- A rig moves from one list to another, and what stands in both, one behind the other, is as it was.
-use Rattle.std.proofs.Common.{◌≡◌, ℕ, zero, suc, add-one, ◌+◌, ◌-◌, ◌<◌, ◌≤◌, List, [], ◌∷◌, ◌++◌, length, get_or, drop, map, refl, sym, ap, ◌∙◌, arith, append_assoc}
-use Rattle.std.proofs.lemmas.List.{map-append}
+use Rattle.sim_session.proofs.Common.{arith, map-append, sym, ◌∙◌}
+use Rattle.sim_session.proofs.Common.{◌≡◌, ℕ, zero, suc, ◌+◌, ◌-◌, ◌<◌, ◌≤◌, List, [], ◌∷◌, ◌++◌, map, length, get_or, drop, refl, add-one, ap, append_assoc}
 
-pub moved : {X Y Z : Type 0} (f : X → Z) (h : Y → Z) (xs : List X) (x : X) (ys : List Y) (y : Y) → f x ≡ h y → map f (xs ++ x ∷ []) ++ map h ys ≡ map f xs ++ map h (y ∷ ys)
+pub moved : {X Y Z : Type 0} (f : X → Z) (h : Y → Z) (xs : List X) (x : X) (ys : List Y) (y : Y) → f x ≡ h y → map f (xs ++ x ∷ []) ++ map h ys ≡ map f xs ++
+    map h (y ∷ ys)
 moved f h xs x ys y same =
     ap (λ l. l ++ map h ys) (map-append f xs (x ∷ [])) ∙ append_assoc (map f xs) (f x ∷ []) (map h ys) ∙ ap (λ z. map f xs ++ z ∷ map h ys) same
 

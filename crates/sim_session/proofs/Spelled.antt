@@ -1,26 +1,15 @@
 -- A valid state has no more bytes than any may have: 75, and 573 for each row.
-use Rattle.std.proofs.Common.{◌≡◌, ℕ, suc, ◌+◌, ◌*◌, ◌≤◌, List, [], ◌∷◌, ◌++◌, length, All, Option, Some, None, arith, length-append}
-use Rattle.std.proofs.Math.Nat.{suc-mul}
-use Rattle.std.specs.Prelude.{IfSome, option_map, codes}
-use Rattle.std.specs.List.{flat_map, cons_option}
-use Rattle.std.proofs.lemmas.List.Elements.{All-head, All-tail}
-use Rattle.sim_base.specs.declared.place.Point.{Point}
-use Rattle.sim_base.specs.declared.state.Motion.{Motion}
-use Rattle.sim_base.specs.declared.state.Row.{Row}
-use Rattle.sim_base.specs.declared.state.State.{State}
-use Rattle.sim_base.specs.declared.setup.Setup.{Setup}
-use Rattle.sim_base.specs.Limits.{IsSetup}
-use Rattle.sim_base.specs.Validity.{IsValid}
-use Rattle.sim_base.specs.Bytes.{u16_bytes, u32_bytes, u64_bytes, i32_bytes, flag_bytes}
-use Rattle.sim_base.specs.Spelling.{entity_bytes, entity_part, position_bytes, position_part, owner_bytes, owner_part, health_bytes, health_part, attack_bytes, attack_part, moving_bytes, motion_part, stance_bytes, stance_part, point_bytes, rows_with, section, sections, clock_bytes, version, spelling}
-use Rattle.sim_bytes.specs.Numbers.{length-u16_bytes, length-u32_bytes, length-u64_bytes, length-i32_bytes}
-use Rattle.sim_sections.specs.Lengths.{length-moving_bytes}
-use Rattle.sim_sections.specs.Rows.{IsShort, HasShortWay}
-use Rattle.sim_codec.proofs.ShortWays.{short_ways}
-use Rattle.sim_wire.specs.Fits.{IsShortState}
+use Rattle.sim_session.proofs.Common.{All-head, All-tail, arith, attack_bytes, attack_part, clock_bytes, cons_option, entity_bytes, entity_part, flag_bytes}
+use Rattle.sim_session.proofs.Common.{HasShortWay, health_bytes, health_part, i32_bytes, IsSetup, IsShort, IsShortState, IsValid, length-append}
+use Rattle.sim_session.proofs.Common.{length-i32_bytes, length-moving_bytes, length-u16_bytes, length-u32_bytes, length-u64_bytes, Motion, motion_part}
+use Rattle.sim_session.proofs.Common.{moving_bytes, owner_bytes, owner_part, Point, point_bytes, position_bytes, position_part, Row, rows_with, section}
+use Rattle.sim_session.proofs.Common.{sections, Setup, short_ways, spelling, stance_bytes, stance_part, State, suc-mul, u16_bytes, u32_bytes, u64_bytes}
+use Rattle.sim_session.proofs.Common.{version}
+use Rattle.sim_session.proofs.Common.{◌≡◌, ℕ, suc, ◌+◌, ◌*◌, ◌≤◌, List, [], ◌∷◌, ◌++◌, length, IfSome, Some, None, codes, All, flat_map, Option, option_map}
 
 -- the rows of a section, each of at most so many bytes
-rows_few : {X : Type 0} (most : ℕ) (spelled : ℕ × X → List ℕ) (part : Row → Option X) (rows : List Row) → ((row : Row) → HasShortWay row → IfSome (part row) (λ x. length (spelled (row.id, x)) ≤ most)) → All HasShortWay rows
+rows_few : {X : Type 0} (most : ℕ) (spelled : ℕ × X → List ℕ) (part : Row → Option X) (rows : List Row)
+    → ((row : Row) → HasShortWay row → IfSome (part row) (λ x. length (spelled (row.id, x)) ≤ most)) → All HasShortWay rows
     → length (flat_map spelled (rows_with part rows)) ≤ length rows * most
 rows_few most spelled part [] each short = omega arith
 rows_few {X} most spelled part (row ∷ rows) each short =
@@ -32,7 +21,8 @@ rows_few {X} most spelled part (row ∷ rows) each short =
     by (Some x) h rest = omega (arith, rest, h, suc-mul (length rows) most, length-append (spelled (row.id, x)) (flat_map spelled (rows_with part rows)))
 
 -- every part has so many bytes
-have : {X : Type 0} (spelled : ℕ × X → List ℕ) (most id : ℕ) (o : Option X) → ((x : X) → length (spelled (id, x)) ≤ most) → IfSome o (λ x. length (spelled (id, x)) ≤ most)
+have : {X : Type 0} (spelled : ℕ × X → List ℕ) (most id : ℕ) (o : Option X) → ((x : X) → length (spelled (id, x)) ≤ most)
+    → IfSome o (λ x. length (spelled (id, x)) ≤ most)
 have spelled most id None h = tt
 have spelled most id (Some x) h = h x
 
@@ -55,15 +45,30 @@ sections_few rows short =
     let five = section 5 moving_bytes (rows_with motion_part rows) in
     let six = section 6 attack_bytes (rows_with attack_part rows) in
     let seven = section 7 stance_bytes (rows_with stance_part rows) in
-    let a = rows_few 6 entity_bytes entity_part rows (λ row h. omega (arith, length-append (u32_bytes row.id) (u16_bytes row.template), length-u32_bytes row.id, length-u16_bytes row.template)) short in
-    let b = rows_few 12 position_bytes position_part rows (λ row h. omega (arith, length-append (u32_bytes row.id) (point_bytes row.at), length-u32_bytes row.id, point_long row.at)) short in
+    let a = rows_few 6 entity_bytes entity_part rows
+    (λ row h. omega (arith, length-append (u32_bytes row.id) (u16_bytes row.template), length-u32_bytes row.id, length-u16_bytes row.template)) short in
+    let b = rows_few 12 position_bytes position_part rows
+    (λ row h. omega (arith, length-append (u32_bytes row.id) (point_bytes row.at), length-u32_bytes row.id, point_long row.at)) short in
     let c = rows_few 5 owner_bytes owner_part rows (λ row h. omega (arith, length-append (u32_bytes row.id) (row.owner ∷ []), length-u32_bytes row.id)) short in
-    let d = rows_few 8 health_bytes health_part rows (λ row h. have health_bytes 8 row.id row.health (λ x. omega (arith, length-append (u32_bytes row.id) (i32_bytes x), length-u32_bytes row.id, length-i32_bytes x))) short in
+    let d = rows_few 8 health_bytes health_part rows
+    (λ row h. have health_bytes 8 row.id row.health
+    (λ x. omega (arith, length-append (u32_bytes row.id) (i32_bytes x), length-u32_bytes row.id, length-i32_bytes x))) short in
     let e = rows_few 527 moving_bytes motion_part rows (λ row h. moving row.id row.motion h) short in
-    let f = rows_few 10 attack_bytes attack_part rows (λ row h. have attack_bytes 10 row.id (attack_part row) (λ x. omega (arith, length-append (u32_bytes row.id) (u32_bytes x.0 ++ u16_bytes x.1), length-append (u32_bytes x.0) (u16_bytes x.1), length-u32_bytes row.id, length-u32_bytes x.0, length-u16_bytes x.1))) short in
+    let f = rows_few 10 attack_bytes attack_part rows
+    (λ row h. have attack_bytes 10 row.id (attack_part row)
+    (λ x. omega (
+      arith,
+      length-append (u32_bytes row.id) (u32_bytes x.0 ++ u16_bytes x.1),
+      length-append (u32_bytes x.0) (u16_bytes x.1),
+      length-u32_bytes
+          row.id,
+      length-u32_bytes x.0,
+      length-u16_bytes x.1,
+    ))) short in
     let g =
     rows_few 5 stance_bytes stance_part rows
-    (λ row h. have stance_bytes 5 row.id (stance_part row) (λ x. omega (arith, length-append (u32_bytes row.id) (flag_bytes x), length-u32_bytes row.id))) short in
+    (λ row h. have stance_bytes 5 row.id (stance_part row) (λ x. omega (arith, length-append (u32_bytes row.id) (flag_bytes x), length-u32_bytes row.id)))
+    short in
     omega (
       arith,
       a,

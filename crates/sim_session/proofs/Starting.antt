@@ -1,11 +1,7 @@
 -- Clients begin in the match, one after the other.
-use Rattle.std.proofs.Common.{◌≡◌, ◌⊎◌, inl, inr, ℕ, ◌+◌, ◌-◌, ◌<◌, ◌≤◌, List, length, map, get_or, set, refl, sym, ap, ◌∙◌, subst, arith}
-use Rattle.std.proofs.lemmas.Bool.{cases_lt}
-use Rattle.sim_system.specs.Meanings.{Meaning, Systems, IsBuiltOnceAtMost, AreBuiltOnceAtMost}
-use Rattle.sim_client.specs.Lives.{Life, Off}
-use Rattle.sim_session.specs.Building.{ChangeAt, AreBuilt, StartsOnly}
-use Rattle.sim_session.specs.Standing.{life_of}
-use Rattle.sim_session.proofs.Seating.{put_there, put_elsewhere, was_there}
+use Rattle.sim_session.proofs.Common.{ChangeAt, inl, inr, IsBuiltOnceAtMost, Life, life_of, Meaning, Off, StartsOnly, subst, sym, Systems, ◌∙◌}
+use Rattle.sim_session.proofs.Common.{◌≡◌, ℕ, ◌+◌, ◌-◌, ◌<◌, ◌≤◌, ◌⊎◌, List, map, length, get_or, set, refl, ap, AreBuilt, AreBuiltOnceAtMost, arith, cases_lt}
+use Rattle.sim_session.proofs.Seating.{put_elsewhere, put_there, was_there}
 
 once_same : (m : Meaning) → IsBuiltOnceAtMost m m
 once_same m = record { low = omega arith; high = omega arith }
@@ -38,7 +34,8 @@ starts_on n old mid new starts change = record {
   where
     at_last : (i : ℕ) (d : Systems) → i ≡ n → i < length old → AreBuiltOnceAtMost (get_or old i d) (get_or new i d)
     at_last i d is low =
-        let here = subst (λ (k : ℕ). k < length mid → AreBuilt (get_or mid k d) (get_or new k d)) (sym is) (change.there d) (omega (arith, low, starts.count)) in
+        let here = subst (λ (k : ℕ). k < length mid → AreBuilt (get_or mid k d) (get_or new k d)) (sym is) (change.there d)
+        (omega (arith, low, starts.count)) in
         subst (λ (s : Systems). AreBuiltOnceAtMost s (get_or new i d)) (starts.others i d (omega (arith, is))) here.most
 
     by : (i : ℕ) (d : Systems) → i < length old → i < n + 1 → (i < n) ⊎ (n ≤ i) → AreBuiltOnceAtMost (get_or old i d) (get_or new i d)
@@ -49,7 +46,8 @@ starts_on n old mid new starts change = record {
 -- ---- what the clients are
 
 -- the first so many and one more are at the first state
-pub begun_more : {C : Type 0} (f : C → Life) (xs : List C) (i : ℕ) (new : C) (first : Life) → i < length xs → f new ≡ first → ((d : ℕ) → 0 < d → d ≤ i → life_of (map f xs) d ≡ first)
+pub begun_more : {C : Type 0} (f : C → Life) (xs : List C) (i : ℕ) (new : C) (first : Life) → i < length xs → f new ≡ first
+    → ((d : ℕ) → 0 < d → d ≤ i → life_of (map f xs) d ≡ first)
     → (d : ℕ) → 0 < d → d ≤ i + 1 → life_of (map f (set xs i new)) d ≡ first
 begun_more f xs i new first within is begun d low high = by (cases_lt i d)
   where
@@ -62,10 +60,12 @@ begun_more f xs i new first within is begun d low high = by (cases_lt i d)
 -- and all behind them are as they were
 pub others_more : {C : Type 0} (f : C → Life) (old xs : List C) (i n : ℕ) (new : C) → i < n → ((d : ℕ) → i < d → life_of (map f xs) d ≡ life_of (map f old) d)
     → (d : ℕ) → n < d → life_of (map f (set xs i new)) d ≡ life_of (map f old) d
-others_more f old xs i n new under others d above = put_elsewhere f xs i new (d - 1) Off (λ e. omega (arith, under, above, e)) ∙ others d (omega (arith, under, above))
+others_more f old xs i n new under others d above = put_elsewhere f xs i new (d - 1) Off (λ e. omega (arith, under, above, e)) ∙
+    others d (omega (arith, under, above))
 
 -- the next is as it was
-pub next_was : {C : Type 0} (f : C → Life) (old xs : List C) (i : ℕ) (x : C) → i < length xs → x ≡ get_or xs i x → ((d : ℕ) → i < d → life_of (map f xs) d ≡ life_of (map f old) d)
+pub next_was : {C : Type 0} (f : C → Life) (old xs : List C) (i : ℕ) (x : C) → i < length xs → x ≡ get_or xs i x
+    → ((d : ℕ) → i < d → life_of (map f xs) d ≡ life_of (map f old) d)
     → life_of (map f old) (i + 1) ≡ f x
 next_was f old xs i x within is others =
     let here : i + 1 - 1 ≡ i = omega arith in

@@ -1,25 +1,12 @@
 -- What stands for a session goes on standing for it through a step of one client.
-use Rattle.std.proofs.Common.{◌≡◌, ◌⊎◌, inl, inr, ℕ, ◌-◌, ◌<◌, ◌≤◌, ◌≢◌, List, [], ◌∷◌, length, map, get_or, set, refl, sym, ap, ◌∙◌, subst, arith, true}
-use Rattle.std.proofs.lemmas.Bool.{cases_eq, cond-true}
-use Rattle.sim_base.specs.declared.setup.Setup.{Setup}
-use Rattle.sim_base.specs.declared.step.Event.{Event}
-use Rattle.sim_base.specs.declared.step.Step.{Step}
+use Rattle.sim_plain_session.specs.Clients.{bends, hears, joins, orders, plays}
+use Rattle.sim_session.proofs.{Common.Steps, Common.subst, Common.sym, Common.Up, Common.◌∙◌, Seating.put_elsewhere, Seating.put_there, Seating.was_there}
+use Rattle.sim_session.proofs.Common.{IsSetup, leaves, Life, life_of, Lives, Makes, no_state_is_ever_refused, Off, pasts_are_always_valid, Phase, put_other}
+use Rattle.sim_session.proofs.Common.{client_of_player, cond-true, Down, Event, events, events_by, falls, HasValidStates, Held, inl, inr, is_client, IsNumber}
+use Rattle.sim_session.proofs.Common.{rises, Seen, Session, session, session_goes_on, Setup, StandBeside, StandsFor, StandsForSome, Step, stepped, stepped_by}
+use Rattle.sim_session.proofs.Common.{◌≡◌, ℕ, ◌-◌, ◌<◌, ◌≤◌, true, ◌≢◌, ◌⊎◌, List, [], ◌∷◌, map, length, get_or, set, refl, ap, arith, cases_eq, client_of}
 use Rattle.sim_base.specs.declared.step.Step.TheVariants as step
-use Rattle.sim_base.specs.Limits.{IsSetup}
 use Rattle.sim_plain_session.specs.Clients as plain
-use Rattle.sim_plain_session.specs.Clients.{Up, Down, Phase, orders, plays, joins, bends, hears}
-use Rattle.sim_plain_session.specs.Pasts.{is_client}
-use Rattle.sim_plain_session.specs.Printed.{events_by, events}
-use Rattle.sim_plain_session.specs.Sessions.{Session, client_of, rises, falls, leaves, stepped_by, stepped, session}
-use Rattle.sim_plain_session.proofs.Functions.{put_other}
-use Rattle.sim_plain_session.proofs.GoingOn.{session_goes_on}
-use Rattle.sim_session_laws.proofs.Basics.{client_of_player}
-use Rattle.sim_session_laws.proofs.StandingFacts.{pasts_are_always_valid, no_state_is_ever_refused}
-use Rattle.sim_client.specs.LifeLaws.{Lives}
-use Rattle.sim_client.specs.Lives.{Life, Off}
-use Rattle.sim_pipes.specs.Exchanges.{Held}
-use Rattle.sim_session.proofs.Seating.{put_there, put_elsewhere, was_there}
-use Rattle.sim_session.specs.Standing.{IsNumber, Seen, StandsFor, StandsForSome, StandBeside, HasValidStates, Makes, Steps, life_of}
 
 -- ---- a step of one client leaves all others as they are
 
@@ -109,10 +96,12 @@ module _ (setup : Setup) (limits : IsSetup setup) (x : Step) (number : IsNumber 
   pub one_beside : (match : Setup) (seen : Seen) (own : Life) → match ≡ setup → life_of seen.lives (client_of x) ≡ own → (s : Session) → StandsFor setup seen s
       → StandBeside match (client_of x) own seen.held s
   one_beside match seen own same own_is s stands =
-      subst (λ (m : Setup). StandBeside m (client_of x) own seen.held s) (sym same) (subst (λ (l : Life). StandBeside setup (client_of x) l seen.held s) own_is (beside seen s stands))
+      subst (λ (m : Setup). StandBeside m (client_of x) own seen.held s) (sym same) (subst (λ (l : Life). StandBeside setup (client_of x) l seen.held s) own_is
+      (beside seen s stands))
 
   -- the client of the step stands in its place in a list
-  pub goes_on_at : {C : Type 0} (f : C → Life) (clients : List C) (i : ℕ) (old new : C) (before behind : Held) (answered : List Event) → length clients ≡ setup.players → i ≡ client_of x - 1
+  pub goes_on_at : {C : Type 0} (f : C → Life) (clients : List C) (i : ℕ) (old new : C) (before behind : Held) (answered : List Event)
+      → length clients ≡ setup.players → i ≡ client_of x - 1
       → old ≡ get_or clients i old → Makes setup x (f old) before (f new) behind answered
       → Steps setup (record { lives = map f clients; held = before }) x (record { lives = map f (set clients i new); held = behind }) answered
   goes_on_at f clients i old new before behind answered count place is makes =

@@ -1,8 +1,8 @@
 -- How often the systems of clients are built.
-use Rattle.std.specs.Prelude.{◌≡◌, ℕ, ◌<◌, ◌≤◌, ◌≢◌, Bool, true, false, ◌||◌, List, [], ◌∷◌, length, slice_index_or}
+use Rattle.std.specs.Prelude.{◌≡◌, ℕ, ◌<◌, ◌≤◌, Bool, true, false, ◌||◌, ◌≢◌, List, [], ◌∷◌, length, slice_index_or}
 use Rattle.sim_base.specs.declared.step.Event.{Event}
+use Rattle.sim_system.specs.Meanings.{AreBuiltOnceAtMost, HaveKinds, HaveSameRebuilds, Systems}
 use Rattle.sim_base.specs.declared.step.Event.TheVariants as event
-use Rattle.sim_system.specs.Meanings.{Systems, HaveKinds, HaveSameRebuilds, AreBuiltOnceAtMost}
 
 -- a state was loaded
 abbrev pub is_load : Event → Bool

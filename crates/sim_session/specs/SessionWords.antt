@@ -1,18 +1,12 @@
 -- What a session is to its callers. A clause passes ⟦<dyn System as System>⟧ for `sys`; words that take the meaning of a system in
 -- its place are for proofs.
-use Rattle.std.specs.Prelude.{◌≡◌, ℕ, ◌+◌, ◌≤◌, ◌<◌, ◌-◌, List, length, map, All, slice_index_or, vec_capacity}
-use Rattle.sim_base.specs.declared.setup.Setup.{Setup}
-use Rattle.sim_base.specs.Limits.{IsSetup}
-use Rattle.sim_system.specs.declared.system.System.{Ghosts}
-use Rattle.sim_system.specs.declared.rig.Rig.{Rig}
-use Rattle.sim_system.specs.Meanings.{Meaning, Systems, HaveKinds}
-use Rattle.sim_system.specs.RigWords as rig
-use Rattle.sim_client.specs.declared.client.Client.{Client}
+use Rattle.std.specs.Prelude.{◌≡◌, ℕ, ◌+◌, ◌-◌, ◌<◌, ◌≤◌, List, map, length, slice_index_or, vec_capacity, All}
+use Rattle.sim_base.specs.{Limits.IsSetup, declared.setup.Setup.Setup}
+use Rattle.sim_client.specs.{Lives.Life, StageWords.AreOf, StageWords.IsSoundAt, StageWords.nowhere, StageWords.systems_on, declared.client.Client.Client}
+use Rattle.sim_session.specs.{Standing.life_of, Standing.Seen, declared.session.Session.Session}
+use Rattle.sim_system.specs.{Meanings.HaveKinds, Meanings.Meaning, Meanings.Systems, declared.rig.Rig.Rig, declared.system.System.Ghosts}
 use Rattle.sim_client.specs.ClientWords as client
-use Rattle.sim_client.specs.Lives.{Life}
-use Rattle.sim_client.specs.StageWords.{AreOf, IsSoundAt, nowhere, systems_on}
-use Rattle.sim_session.specs.Standing.{Seen, life_of}
-use Rattle.sim_session.specs.declared.session.Session.{Session}
+use Rattle.sim_system.specs.RigWords as rig
 
 -- ---- rigs
 
@@ -39,7 +33,8 @@ abbrev pub systems_of : {Y X : Type 0} {G : Y → Type 0} {F : X → Type 0} {M 
 systems_of clients sys = systems_by clients (λ i v. (sys i).meaning v)
 
 -- a client of this match, which may be called
-pub record IsMemberBy {Y X : Type 0} {G : Y → Type 0} {F : X → Type 0} {M : _} (setup : Setup) (c : Client Y X G F M) (meaning : (i : X) → F i → Meaning) : Type 0 where
+pub record IsMemberBy {Y X : Type 0} {G : Y → Type 0} {F : X → Type 0} {M : _} (setup : Setup) (c : Client Y X G F M) (meaning : (i : X) → F i → Meaning) :
+    Type 0 where
   pub sound : IsSoundAt c.setup.now c.number c.stage c.board meaning
   pub same : c.setup.now ≡ setup
 

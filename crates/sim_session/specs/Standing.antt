@@ -1,21 +1,12 @@
 -- For which session of the definition a session in memory stands.
-use Rattle.std.specs.Prelude.{◌≡◌, ℕ, ◌<◌, ◌≤◌, ◌-◌, List, ◌∷◌, [], ◌++◌, slice_index_or}
-use Rattle.sim_base.specs.declared.setup.Setup.{Setup}
-use Rattle.sim_base.specs.declared.step.Event.{Event}
-use Rattle.sim_base.specs.declared.step.Step.{Step}
+use Rattle.{sim_base.specs.Validity.IsValid, sim_client.specs.LifeLaws.Lives, sim_pipes.specs.Exchanges.Conveys, sim_pipes.specs.Exchanges.Held}
+use Rattle.std.specs.Prelude.{◌≡◌, ℕ, ◌-◌, ◌<◌, ◌≤◌, List, [], ◌∷◌, ◌++◌, slice_index_or}
+use Rattle.sim_base.specs.{Limits.HasFewIds, Turn.after, Turn.Past, declared.setup.Setup.Setup, declared.step.Event.Event, declared.step.Step.Step}
+use Rattle.sim_client.specs.{Lives.Life, Lives.Off, Lives.Said, declared.did.Did.Did, declared.did.Did.TheVariants.Done, declared.did.Did.TheVariants.Idle}
+use Rattle.sim_plain_session.specs.{Clients.Down, Clients.On, Clients.Seat, Printed.events, Printed.events_by}
+use Rattle.sim_plain_session.specs.Sessions.{client_of, Session, session, stepped, stepped_by}
 use Rattle.sim_base.specs.declared.step.Step.TheVariants as step
-use Rattle.sim_base.specs.Limits.{HasFewIds}
-use Rattle.sim_base.specs.Turn.{Past, after}
-use Rattle.sim_base.specs.Validity.{IsValid}
 use Rattle.sim_plain.specs.declared.message.DownOf.TheVariants as down
-use Rattle.sim_plain_session.specs.Clients.{Down, Seat, On}
-use Rattle.sim_plain_session.specs.Printed.{events_by, events}
-use Rattle.sim_plain_session.specs.Sessions.{Session, client_of, stepped_by, stepped, session}
-use Rattle.sim_client.specs.declared.did.Did.{Did}
-use Rattle.sim_client.specs.declared.did.Did.TheVariants.{Idle, Done}
-use Rattle.sim_client.specs.LifeLaws.{Lives}
-use Rattle.sim_client.specs.Lives.{Life, Off, Said}
-use Rattle.sim_pipes.specs.Exchanges.{Held, Conveys}
 
 -- a number of a client
 abbrev pub IsNumber : Setup → ℕ → Type 0
@@ -55,7 +46,8 @@ pub record StandBeside (setup : Setup) (c : ℕ) (own : Life) (pipes : Held) (s 
 
 -- of every session with valid states for which they stood, they stand for what a step makes of it, and just its events are answered
 pub record Makes (setup : Setup) (x : Step) (old : Life) (before : Held) (new : Life) (behind : Held) (answered : List Event) : Type 0 where
-  pub stand : (s : Session) → HasValidStates setup (client_of x) s → StandBeside setup (client_of x) old before s → StandBeside setup (client_of x) new behind (stepped_by setup s x)
+  pub stand : (s : Session) → HasValidStates setup (client_of x) s → StandBeside setup (client_of x) old before s → StandBeside setup (client_of x) new behind
+      (stepped_by setup s x)
   pub printed : (s : Session) → HasValidStates setup (client_of x) s → StandBeside setup (client_of x) old before s → answered ≡ events_by setup s x
 
 -- ---- all clients
@@ -83,5 +75,7 @@ pub record StandsForSome (setup : Setup) (seen : Seen) : Type 0 where
 
 -- what stood for the session over some steps stands for that over one step more, and just the events of that step are answered
 pub record Steps (setup : Setup) (old : Seen) (x : Step) (new : Seen) (answered : List Event) : Type 0 where
-  pub stands : (active : ℕ) (steps : List Step) → active ≤ setup.players → StandsFor setup old (session setup active steps) → StandsFor setup new (session setup active (steps ++ x ∷ []))
-  pub printed : (active : ℕ) (steps : List Step) → active ≤ setup.players → StandsFor setup old (session setup active steps) → answered ≡ events setup (session setup active steps) x
+  pub stands : (active : ℕ) (steps : List Step) → active ≤ setup.players → StandsFor setup old (session setup active steps)
+      → StandsFor setup new (session setup active (steps ++ x ∷ []))
+  pub printed : (active : ℕ) (steps : List Step) → active ≤ setup.players → StandsFor setup old (session setup active steps)
+      → answered ≡ events setup (session setup active steps) x

@@ -1,25 +1,17 @@
 //! The kinds of step, each by one client beside the server and the pipes.
 
-ghost use Rattle.std.specs.Prelude.{◌≡◌, ℕ, [], true, false, None, map, All, IfOk, OnOk, IsOk};
-ghost use Rattle.sim_base.specs.declared.setup.Setup.{Setup as AnySetup};
-ghost use Rattle.sim_base.specs.declared.step.Step.TheVariants as step;
-ghost use Rattle.sim_base.specs.declared.step.Event.TheVariants as event;
-ghost use Rattle.sim_base.specs.Limits.{HasFewIds};
-ghost use Rattle.sim_plain.specs.Messages.{carry_up};
-ghost use Rattle.sim_plain_session.specs.Bytes.{spelled};
-ghost use Rattle.sim_plain_session.specs.Clients.{Acted};
-ghost use Rattle.sim_plain_session.specs.Printed.{events_by};
-ghost use Rattle.sim_plain_session.specs.Sessions.{Session, acts, stepped_by, client_of as client_in};
-ghost use Rattle.sim_board.specs.BoardWords.{AreKept};
-ghost use Rattle.sim_client.specs.ClientWords.{setup_in, life, systems, IsSound};
-ghost use Rattle.sim_client.specs.LifeLaws.{shows};
-ghost use Rattle.sim_client.specs.Lives.{orders, plays, joins, bends};
-ghost use Rattle.sim_pipes.specs.Exchanges.{Conveys};
-ghost use Rattle.sim_server.specs.Standing.{IsClient};
-ghost use Rattle.sim_wire.specs.Fits.{IsSmallUp};
+ghost use Rattle.{sim_base.specs.Limits.HasFewIds, sim_base.specs.declared.setup.Setup.Setup as AnySetup, sim_board.specs.BoardWords.AreKept};
+ghost use Rattle.{sim_pipes.specs.Exchanges.Conveys, sim_plain.specs.Messages.carry_up, sim_wire.specs.Fits.IsSmallUp};
+ghost use Rattle.{sim_plain_session.specs.Bytes.spelled, sim_plain_session.specs.Clients.Acted, sim_server.specs.Standing.IsClient};
+ghost use Rattle.std.specs.Prelude.{◌≡◌, true, false, [], map, IfOk, OnOk, IsOk, None, All};
+ghost use Rattle.sim_client.specs.{ClientWords.IsSound, ClientWords.life, ClientWords.setup_in, ClientWords.systems, LifeLaws.shows};
+ghost use Rattle.sim_client.specs.Lives.{bends, joins, orders, plays};
+ghost use Rattle.sim_plain_session.specs.{Printed.events_by, Sessions.acts, Sessions.client_of as client_in, Sessions.Session, Sessions.stepped_by};
 ghost use Rattle.sim_session.specs.Building.{AreBuilt, AreBuiltIf, has_load};
-ghost use Rattle.sim_session.specs.Printing.{said_events as events_said, played_events, has_happened, is_off as is_off_of, IsDigestOf};
-ghost use Rattle.sim_session.specs.Standing.{HasValidStates, IsSmallStep, Makes, StandBeside, said_by};
+ghost use Rattle.sim_session.specs.Printing.{has_happened, is_off as is_off_of, IsDigestOf, played_events, said_events as events_said};
+ghost use Rattle.sim_session.specs.Standing.{HasValidStates, IsSmallStep, Makes, said_by, StandBeside};
+ghost use Rattle.sim_base.specs.declared.step.Event.TheVariants as event;
+ghost use Rattle.sim_base.specs.declared.step.Step.TheVariants as step;
 
 use crate::hearing::down;
 use crate::printing::{digest_of_play, one, said_events, shown};
@@ -70,7 +62,8 @@ fn order(
     requires sound { IsSound client.old ⟦<dyn System as System>⟧ }
     requires client { IsClient exchange.old.server number }
     requires few { HasFewIds command.now }
-    ensures made { IfOk result (λ events. Makes (setup_in client.old) (step.Order number command.now) (life client.old) exchange.old (life client.new) exchange.new events) }
+    ensures made { IfOk result (λ events. Makes (setup_in client.old) (step.Order number command.now) (life client.old) exchange.old (life client.new)
+        exchange.new events) }
     ensures idle { orders (setup_in client.old) command.now (life client.old) ≡ None → IsOk result }
     ensures sound { OnOk result (IsSound client.new ⟦<dyn System as System>⟧) }
     ensures kept { AreKept (systems client.old ⟦<dyn System as System>⟧) (systems client.new ⟦<dyn System as System>⟧) }
@@ -182,7 +175,8 @@ fn bend(
     health: Fixed,
 ) -> Result<Events, OutOfMemory>
     requires sound { IsSound client.old ⟦<dyn System as System>⟧ }
-    ensures made { IfOk result (λ events. Makes (setup_in client.old) (step.Bend number entity health) (life client.old) exchange.now (life client.new) exchange.now events) }
+    ensures made { IfOk result (λ events. Makes (setup_in client.old) (step.Bend number entity health) (life client.old) exchange.now (life client.new)
+        exchange.now events) }
     ensures idle { bends (setup_in client.old) entity health (life client.old) ≡ None → IsOk result }
     ensures sound { IsSound client.new ⟦<dyn System as System>⟧ }
     ensures kept { AreKept (systems client.old ⟦<dyn System as System>⟧) (systems client.new ⟦<dyn System as System>⟧) }
@@ -251,13 +245,16 @@ pub fn act(
     requires sound { IsSound client.old ⟦<dyn System as System>⟧ }
     requires client { IsClient exchange.old.server (client_in step.now) }
     requires few { IsSmallStep step.now }
-    requires some { (s : Session) × HasValidStates (setup_in client.old) (client_in step.now) s × StandBeside (setup_in client.old) (client_in step.now) (life client.old) exchange.old s }
+    requires some { (s : Session) × HasValidStates (setup_in client.old) (client_in step.now) s × StandBeside (setup_in client.old) (client_in step.now)
+        (life client.old) exchange.old s }
     ensures made { IfOk result (λ events. Makes (setup_in client.old) step.now (life client.old) exchange.old (life client.new) exchange.new events) }
     ensures sound { OnOk result (IsSound client.new ⟦<dyn System as System>⟧) }
-    ensures built { IfOk result (λ events. AreBuiltIf (has_load events) (systems client.old ⟦<dyn System as System>⟧) (systems client.new ⟦<dyn System as System>⟧)) }
+    ensures built { IfOk result (λ events. AreBuiltIf (has_load events) (systems client.old ⟦<dyn System as System>⟧)
+        (systems client.new ⟦<dyn System as System>⟧)) }
     ensures most { AreBuilt (systems client.old ⟦<dyn System as System>⟧) (systems client.new ⟦<dyn System as System>⟧) }
     ensures loads { (s : Session) → StandBeside (setup_in client.old) (client_in step.now) (life client.old) exchange.old s
-        → AreBuiltIf (has_load (events_by (setup_in client.old) s step.now)) (systems client.old ⟦<dyn System as System>⟧) (systems client.new ⟦<dyn System as System>⟧) }
+        → AreBuiltIf (has_load (events_by (setup_in client.old) s step.now)) (systems client.old ⟦<dyn System as System>⟧)
+        (systems client.new ⟦<dyn System as System>⟧) }
     ensures idle { (s : Session) → StandBeside (setup_in client.old) (client_in step.now) (life client.old) exchange.old s
         → events_by (setup_in client.old) s step.now ≡ [] → stepped_by (setup_in client.old) s step.now ≡ s → IsOk result }
     ensures setup { setup_in client.new ≡ setup_in client.old }

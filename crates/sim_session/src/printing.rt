@@ -1,8 +1,8 @@
 //! The events of what a client did.
 
 ghost use Rattle.std.specs.Prelude.{◌≡◌, [], ◌∷◌, IfOk, IsOk};
-ghost use Rattle.sim_client.specs.ClientWords.{setup_in, life, digest_of, IsSound};
-ghost use Rattle.sim_session.specs.Printing.{said_events as events_said, shown_of, IsDigestOf};
+ghost use Rattle.sim_client.specs.ClientWords.{digest_of, IsSound, life, setup_in};
+ghost use Rattle.sim_session.specs.Printing.{IsDigestOf, said_events as events_said, shown_of};
 
 use sim_base::{Event, Events, Items, OutOfMemory};
 use sim_client::Client;

@@ -1,11 +1,8 @@
 //! Clients made of rigs, and rigs taken back from clients. The rigs that have no client stay in the list in which all came,
 //! and so does its room.
 
-ghost use Rattle.std.specs.Prelude.{◌≡◌, ◌+◌, ◌≤◌, ◌<◌, ◌++◌, ◌∷◌, [], length, replicate, map, take, drop, All, vec_capacity};
-ghost use Rattle.sim_base.specs.Limits.{IsSetup};
-ghost use Rattle.sim_system.specs.Meanings.{HaveKinds};
-ghost use Rattle.sim_client.specs.Lives.{Off};
-ghost use Rattle.sim_client.specs.StageWords.{AreCleared};
+ghost use Rattle.{sim_base.specs.Limits.IsSetup, sim_client.specs.Lives.Off, sim_client.specs.StageWords.AreCleared, sim_system.specs.Meanings.HaveKinds};
+ghost use Rattle.std.specs.Prelude.{◌≡◌, ◌+◌, ◌<◌, ◌≤◌, [], ◌∷◌, ◌++◌, length, drop, replicate, vec_capacity, All};
 ghost use Rattle.sim_session.specs.SessionWords.{AreMembers, lives_of, rigs_of, systems_of};
 
 use sim_base::Setup;
@@ -31,7 +28,8 @@ fn seat_one<'a>(
     requires cleared { All AreCleared (rigs_of rigs.old.items ⟦<dyn System as System>⟧) }
     requires members { AreMembers setup.now clients.old.items ⟦<dyn System as System>⟧ }
     ensures rigs { rigs.new.items ≡ drop 1 rigs.old.items }
-    ensures systems { systems_of clients.new.items ⟦<dyn System as System>⟧ ++ rigs_of rigs.new.items ⟦<dyn System as System>⟧ ≡ systems_of clients.old.items ⟦<dyn System as System>⟧ ++ rigs_of rigs.old.items ⟦<dyn System as System>⟧ }
+    ensures systems { systems_of clients.new.items ⟦<dyn System as System>⟧ ++ rigs_of rigs.new.items ⟦<dyn System as System>⟧ ≡ systems_of clients.old.items
+        ⟦<dyn System as System>⟧ ++ rigs_of rigs.old.items ⟦<dyn System as System>⟧ }
     ensures members { AreMembers setup.now clients.new.items ⟦<dyn System as System>⟧ }
     ensures off { lives_of clients.new.items ≡ lives_of clients.old.items ++ Off ∷ [] }
     ensures room { vec_capacity clients.old ≤ vec_capacity clients.new }
@@ -59,7 +57,8 @@ pub fn seat<'a>(
     requires kinds { All HaveKinds (rigs_of rigs.old.items ⟦<dyn System as System>⟧) }
     requires cleared { All AreCleared (rigs_of rigs.old.items ⟦<dyn System as System>⟧) }
     ensures rigs { rigs.new.items ≡ drop setup.now.players rigs.old.items }
-    ensures systems { systems_of clients.new.items ⟦<dyn System as System>⟧ ++ rigs_of rigs.new.items ⟦<dyn System as System>⟧ ≡ rigs_of rigs.old.items ⟦<dyn System as System>⟧ }
+    ensures systems { systems_of clients.new.items ⟦<dyn System as System>⟧ ++ rigs_of rigs.new.items ⟦<dyn System as System>⟧ ≡ rigs_of rigs.old.items
+        ⟦<dyn System as System>⟧ }
     ensures members { AreMembers setup.now clients.new.items ⟦<dyn System as System>⟧ }
     ensures off { lives_of clients.new.items ≡ replicate setup.now.players Off }
     ensures kept { vec_capacity rigs.new ≡ vec_capacity rigs.old }
@@ -85,7 +84,8 @@ fn put_back(rigs: &mut Vec<Rig>, rig: Rig)
 pub fn unseat(clients: Vec<Client<'_>>, rigs: Vec<Rig>) -> Vec<Rig>
     requires kinds { All HaveKinds (systems_of clients.items ⟦<dyn System as System>⟧) }
     requires room { length clients.items + length rigs.items ≤ vec_capacity rigs }
-    ensures systems { rigs_of result.items ⟦<dyn System as System>⟧ ≡ systems_of clients.entry.items ⟦<dyn System as System>⟧ ++ rigs_of rigs.items ⟦<dyn System as System>⟧ }
+    ensures systems { rigs_of result.items ⟦<dyn System as System>⟧ ≡ systems_of clients.entry.items ⟦<dyn System as System>⟧ ++ rigs_of rigs.items
+        ⟦<dyn System as System>⟧ }
     ensures rest { drop (length clients.entry.items) result.items ≡ rigs.items }
     ensures kept { vec_capacity result ≡ vec_capacity rigs }
 {

@@ -1,18 +1,14 @@
 //! A session. After want of memory it may only be finished.
 
-ghost use Rattle.std.specs.Prelude.{◌≡◌, ◌<◌, ◌≤◌, ◌-◌, ◌++◌, if◌then◌else◌, ℕ, length, map, take, drop, All, IfOk, IfErr, OnOk, IsOk, List, vec_capacity};
-ghost use Rattle.sim_base.specs.Limits.{IsSetup};
-ghost use Rattle.sim_base.specs.declared.step.Step.{Step as AnyStep};
-ghost use Rattle.sim_plain_session.specs.Printed.{events as events_in};
-ghost use Rattle.sim_plain_session.specs.Sessions.{opened, session as session_over, client_of as client_in};
-ghost use Rattle.sim_system.specs.Meanings.{HaveKinds};
-ghost use Rattle.sim_client.specs.ClientWords.{life, IsSound, setup_in as client_setup_in};
-ghost use Rattle.sim_client.specs.Lives.{Off, starts};
-ghost use Rattle.sim_client.specs.StageWords.{AreCleared};
-ghost use Rattle.sim_pipes.specs.Pipes.{pipe_in};
-ghost use Rattle.sim_session.specs.Building.{ChangeAt, AreBuilt, AreBuiltIf, has_load, StartsOnly};
-ghost use Rattle.sim_session.specs.SessionWords.{setup_in, clients_in, seen_in, systems_in, spare_in, room_in, lives_of, rigs_of, systems_of, AreMembers, MayFinish, IsSession, AreOfClients};
-ghost use Rattle.sim_session.specs.Standing.{life_of, IsNumber, IsSmallStep, IsIdle, StandsFor, StandsForSome, Steps};
+ghost use Rattle.{sim_base.specs.Limits.IsSetup, sim_base.specs.declared.step.Step.Step as AnyStep, sim_client.specs.StageWords.AreCleared};
+ghost use Rattle.{sim_pipes.specs.Pipes.pipe_in, sim_system.specs.Meanings.HaveKinds};
+ghost use Rattle.std.specs.Prelude.{◌≡◌, ℕ, ◌-◌, ◌<◌, ◌≤◌, List, ◌++◌, length, drop, IfOk, IfErr, if◌then◌else◌, OnOk, IsOk, vec_capacity, All};
+ghost use Rattle.sim_client.specs.{ClientWords.IsSound, ClientWords.life, ClientWords.setup_in as client_setup_in, Lives.Off, Lives.starts};
+ghost use Rattle.sim_plain_session.specs.{Printed.events as events_in, Sessions.client_of as client_in, Sessions.opened, Sessions.session as session_over};
+ghost use Rattle.sim_session.specs.Building.{AreBuilt, AreBuiltIf, ChangeAt, has_load, StartsOnly};
+ghost use Rattle.sim_session.specs.SessionWords.{AreMembers, AreOfClients, clients_in, IsSession, lives_of, MayFinish, rigs_of, room_in, seen_in, setup_in};
+ghost use Rattle.sim_session.specs.SessionWords.{spare_in, systems_in, systems_of};
+ghost use Rattle.sim_session.specs.Standing.{IsIdle, IsNumber, IsSmallStep, life_of, StandsFor, StandsForSome, Steps};
 
 use crate::acting::{act, client_of};
 use crate::rigs::{seat, unseat};
@@ -70,7 +66,8 @@ impl<'a> Session<'a> {
         ensures session { IfOk result (λ session. IsSession session ⟦<dyn System as System>⟧) }
         ensures setup { IfOk result (λ session. setup_in session ≡ setup.now) }
         ensures opened { IfOk result (λ session. StandsFor setup.now (seen_in session) (opened setup.now 0)) }
-        ensures systems { IfOk result (λ session. systems_in session ⟦<dyn System as System>⟧ ++ rigs_of (spare_in session) ⟦<dyn System as System>⟧ ≡ rigs_of rigs.items ⟦<dyn System as System>⟧) }
+        ensures systems { IfOk result (λ session. systems_in session ⟦<dyn System as System>⟧ ++ rigs_of (spare_in session) ⟦<dyn System as System>⟧ ≡
+            rigs_of rigs.items ⟦<dyn System as System>⟧) }
         ensures spare { IfOk result (λ session. spare_in session ≡ drop setup.now.players rigs.items) }
         ensures room { IfOk result (λ session. room_in session ≡ vec_capacity rigs) }
         ensures back { IfErr result (λ given. given ≡ rigs) }
@@ -128,11 +125,16 @@ impl<'a> Session<'a> {
         ensures steps { IfOk result (λ events. Steps (setup_in self.old) (seen_in self.old) step.now (seen_in self.new) events) }
         ensures session { OnOk result (IsSession self.new ⟦<dyn System as System>⟧) }
         ensures finish { MayFinish self.new ⟦<dyn System as System>⟧ }
-        ensures built { IfOk result (λ events. ChangeAt (AreBuiltIf (has_load events)) (client_in step.now - 1) (systems_in self.old ⟦<dyn System as System>⟧) (systems_in self.new ⟦<dyn System as System>⟧)) }
-        ensures most { ChangeAt AreBuilt (client_in step.now - 1) (systems_in self.old ⟦<dyn System as System>⟧) (systems_in self.new ⟦<dyn System as System>⟧) }
-        ensures loads { (active : ℕ) (steps : List AnyStep) → active ≤ (setup_in self.old).players → StandsFor (setup_in self.old) (seen_in self.old) (session_over (setup_in self.old) active steps)
-            → ChangeAt (AreBuiltIf (has_load (events_in (setup_in self.old) (session_over (setup_in self.old) active steps) step.now))) (client_in step.now - 1) (systems_in self.old ⟦<dyn System as System>⟧) (systems_in self.new ⟦<dyn System as System>⟧) }
-        ensures idle { (active : ℕ) (steps : List AnyStep) → active ≤ (setup_in self.old).players → StandsFor (setup_in self.old) (seen_in self.old) (session_over (setup_in self.old) active steps)
+        ensures built { IfOk result (λ events. ChangeAt (AreBuiltIf (has_load events)) (client_in step.now - 1) (systems_in self.old ⟦<dyn System as System>⟧)
+            (systems_in self.new ⟦<dyn System as System>⟧)) }
+        ensures most { ChangeAt AreBuilt (client_in step.now - 1) (systems_in self.old ⟦<dyn System as System>⟧)
+            (systems_in self.new ⟦<dyn System as System>⟧) }
+        ensures loads { (active : ℕ) (steps : List AnyStep) → active ≤ (setup_in self.old).players → StandsFor (setup_in self.old) (seen_in self.old)
+            (session_over (setup_in self.old) active steps)
+            → ChangeAt (AreBuiltIf (has_load (events_in (setup_in self.old) (session_over (setup_in self.old) active steps) step.now))) (client_in step.now - 1)
+            (systems_in self.old ⟦<dyn System as System>⟧) (systems_in self.new ⟦<dyn System as System>⟧) }
+        ensures idle { (active : ℕ) (steps : List AnyStep) → active ≤ (setup_in self.old).players → StandsFor (setup_in self.old) (seen_in self.old)
+            (session_over (setup_in self.old) active steps)
             → IsIdle (setup_in self.old) (session_over (setup_in self.old) active steps) step.now → IsOk result }
         ensures setup { setup_in self.new ≡ setup_in self.old }
         ensures spare { spare_in self.new ≡ spare_in self.old }
@@ -194,8 +196,10 @@ impl<'a> Session<'a> {
     /// Gives back all rigs, in the order and in the room in which they came. Those of clients come as these leave them.
     pub fn finish(self) -> Vec<Rig>
         requires { MayFinish self ⟦<dyn System as System>⟧ }
-        ensures systems { rigs_of result.items ⟦<dyn System as System>⟧ ≡ systems_in self.entry ⟦<dyn System as System>⟧ ++ rigs_of (spare_in self.entry) ⟦<dyn System as System>⟧ }
-        ensures stand { IsSession self.entry ⟦<dyn System as System>⟧ → AreOfClients (setup_in self.entry) (seen_in self.entry).lives (rigs_of result.items ⟦<dyn System as System>⟧) }
+        ensures systems { rigs_of result.items ⟦<dyn System as System>⟧ ≡ systems_in self.entry ⟦<dyn System as System>⟧ ++ rigs_of (spare_in self.entry)
+            ⟦<dyn System as System>⟧ }
+        ensures stand { IsSession self.entry ⟦<dyn System as System>⟧ → AreOfClients (setup_in self.entry) (seen_in self.entry).lives
+            (rigs_of result.items ⟦<dyn System as System>⟧) }
         ensures spare { drop (length (systems_in self.entry ⟦<dyn System as System>⟧)) result.items ≡ spare_in self.entry }
         ensures room { vec_capacity result ≡ room_in self.entry }
     {

@@ -1,19 +1,10 @@
 -- Small facts on functions with one value changed, and on pasts and pipes.
-use Rattle.std.proofs.Common.{◌≡◌, ℕ, zero, suc, ◌≤◌, max, Bool, true, false, List, [], ◌∷◌, ◌++◌, refl, sym, ap, ◌∙◌, arith, ◌<◌, ◌==◌, nat_lt, nat_le, if◌then◌else◌, All}
-use Rattle.std.proofs.lemmas.Bool.{and_from, and_parts, lt-ltb, le-leb, ltb-true, leb-true}
-use Rattle.std.proofs.lemmas.List.Elements.{All-nil, All-cons, All-head, All-tail, All-append}
-use Rattle.sim_base.specs.Limits.{IsFrom}
-use Rattle.sim_laws.specs.CommandLaws.{IsOrderOf}
-use Rattle.sim_base.specs.declared.command.PlayerCommand.{PlayerCommand}
-use Rattle.sim_base.specs.declared.setup.Setup.{Setup}
-use Rattle.sim_base.specs.Turn.{Past, Turn, turns_in}
-use Rattle.sim_plain.specs.declared.message.UpOf.TheVariants as up
+use Rattle.sim_session_laws.proofs.{Common.Turn, Common.turns_in, Common.Up, Common.◌∙◌, Invariant.GoodDowns, Invariant.GoodPast, Invariant.GoodUps}
+use Rattle.sim_session_laws.proofs.Common.{Down, is_client, IsFrom, IsOrderOf, kept_turns, le-leb, leb-true, lt-ltb, ltb-true, Past, PlayerCommand, Setup, sym}
+use Rattle.sim_session_laws.proofs.Common.{refl, All-append, All-cons, All-head, All-nil, All-tail, AllPlayers, and_from, and_parts, ap, arith, commands_at}
+use Rattle.sim_session_laws.proofs.Common.{◌≡◌, ℕ, zero, suc, ◌<◌, ◌≤◌, max, Bool, true, false, List, [], ◌∷◌, ◌++◌, if◌then◌else◌, nat_lt, nat_le, ◌==◌, All}
 use Rattle.sim_plain.specs.declared.message.DownOf.TheVariants as down
-use Rattle.sim_plain_session.specs.Clients.{Up, Down}
-use Rattle.sim_plain_session.specs.Pasts.{is_client, kept_turns}
-use Rattle.sim_session_laws.proofs.Invariant.{GoodPast, GoodUps, GoodDowns}
-use Rattle.sim_session_laws.specs.Pipes.{commands_at}
-use Rattle.sim_session_laws.specs.Standing.{AllPlayers}
+use Rattle.sim_plain.specs.declared.message.UpOf.TheVariants as up
 
 -- Released turns are final.
 pub record Grows (released : ℕ) (kept : ℕ → List PlayerCommand) (released' : ℕ) (kept' : ℕ → List PlayerCommand) : Type 0 where
@@ -45,17 +36,21 @@ pub good_ups_grows : (setup : Setup) (released released' : ℕ) (kept kept' : �
 good_ups_grows setup r r' k k' from own [] g h = h
 good_ups_grows setup r r' k k' from own (up.Join ∷ ups) g h = good_ups_grows setup r r' k k' from own ups g h
 good_ups_grows setup r r' k k' from own (up.Command t x ∷ ups) g h = good_ups_grows setup r r' k k' from own ups g h
-good_ups_grows setup r r' k k' from own (up.Done t ∷ ups) g h = (h.0, h.1, (let a = g.more in let b = h.2 in omega arith), good_ups_grows setup r r' k k' t own ups g h.3)
+good_ups_grows setup r r' k k' from own (up.Done t ∷ ups) g h =
+    (h.0, h.1, (let a = g.more in let b = h.2 in omega arith), good_ups_grows setup r r' k k' t own ups g h.3)
 good_ups_grows setup r r' k k' from own (up.Report t d ∷ ups) g h = good_ups_grows setup r r' k k' from own ups g h
-good_ups_grows setup r r' k k' from own (up.State j t past ∷ ups) g h = (h.0, good_past_grows setup r r' k k' past g h.1, good_ups_grows setup r r' k k' from own ups g h.2)
+good_ups_grows setup r r' k k' from own (up.State j t past ∷ ups) g h =
+    (h.0, good_past_grows setup r r' k k' past g h.1, good_ups_grows setup r r' k k' from own ups g h.2)
 
 pub good_downs_grows : (setup : Setup) (released released' : ℕ) (kept kept' : ℕ → List PlayerCommand) (low : ℕ) (downs : List Down)
     → Grows released kept released' kept' → GoodDowns setup released kept low downs → GoodDowns setup released' kept' low downs
 good_downs_grows setup r r' k k' low [] g h = h
 good_downs_grows setup r r' k k' low (down.Ask j ∷ downs) g h = good_downs_grows setup r r' k k' low downs g h
-good_downs_grows setup r r' k k' low (down.State done past ∷ downs) g h = (good_past_grows setup r r' k k' past g h.0, good_downs_grows setup r r' k k' low downs g h.1)
+good_downs_grows setup r r' k k' low (down.State done past ∷ downs) g h =
+    (good_past_grows setup r r' k k' past g h.0, good_downs_grows setup r r' k k' low downs g h.1)
 good_downs_grows setup r r' k k' low (down.Command t x ∷ downs) g h = (h.0, good_downs_grows setup r r' k k' low downs g h.1)
-good_downs_grows setup r r' k k' low (down.Release t ∷ downs) g h = ((let a = g.more in let b = h.0 in omega arith), good_downs_grows setup r r' k k' (max low t) downs g h.1)
+good_downs_grows setup r r' k k' low (down.Release t ∷ downs) g h =
+    ((let a = g.more in let b = h.0 in omega arith), good_downs_grows setup r r' k k' (max low t) downs g h.1)
 good_downs_grows setup r r' k k' low (down.Notice t j ∷ downs) g h = good_downs_grows setup r r' k k' low downs g h
 good_downs_grows setup r r' k k' low (down.Refused code ∷ downs) g h = good_downs_grows setup r r' k k' low downs g h
 
@@ -66,7 +61,8 @@ good_downs_append setup r k low [] news le h more = more low le
 good_downs_append setup r k low (down.Ask j ∷ downs) news le h more = good_downs_append setup r k low downs news le h more
 good_downs_append setup r k low (down.State done past ∷ downs) news le h more = (h.0, good_downs_append setup r k low downs news le h.1 more)
 good_downs_append setup r k low (down.Command t x ∷ downs) news le h more = (h.0, good_downs_append setup r k low downs news le h.1 more)
-good_downs_append setup r k low (down.Release t ∷ downs) news le h more = (h.0, good_downs_append setup r k (max low t) downs news (let a = h.0 in omega arith) h.1 more)
+good_downs_append setup r k low (down.Release t ∷ downs) news le h more =
+    (h.0, good_downs_append setup r k (max low t) downs news (let a = h.0 in omega arith) h.1 more)
 good_downs_append setup r k low (down.Notice t j ∷ downs) news le h more = good_downs_append setup r k low downs news le h more
 good_downs_append setup r k low (down.Refused code ∷ downs) news le h more = good_downs_append setup r k low downs news le h more
 
@@ -77,7 +73,8 @@ commands_at-append u (down.State done past ∷ downs) news = commands_at-append 
 commands_at-append u (down.Command t x ∷ downs) news = by (t == u) (commands_at-append u downs news)
   where
     by : (b : Bool) → commands_at u (downs ++ news) ≡ commands_at u downs ++ commands_at u news
-        → (if b then x ∷ commands_at u (downs ++ news) else commands_at u (downs ++ news)) ≡ (if b then x ∷ commands_at u downs else commands_at u downs) ++ commands_at u news
+        → (if b then x ∷ commands_at u (downs ++ news) else commands_at u (downs ++ news)) ≡ (if b then x ∷ commands_at u downs else commands_at u downs) ++
+        commands_at u news
     by true e = ap (λ (l : List PlayerCommand). x ∷ l) e
     by false e = e
 commands_at-append u (down.Release t ∷ downs) news = commands_at-append u downs news

@@ -1,24 +1,16 @@
 -- The steps of one client keep what fits.
-use Rattle.std.proofs.Common.{◌≡◌, ◌⊎◌, inl, inr, ℕ, ℤ, List, [], ◌∷◌, ◌++◌, refl, sym, ap, ◌∙◌, subst, append-nil}
-use Rattle.std.proofs.lemmas.Bool.{cases_eq}
-use Rattle.sim_base.specs.declared.command.Command.{Command}
-use Rattle.sim_base.specs.declared.setup.Setup.{Setup}
-use Rattle.sim_plain.specs.declared.message.UpOf.TheVariants as up
+use Rattle.sim_session_laws.proofs.Common.{Session, Setup, Status, subst, sym, turns_in, Up, Waiting, ◌∙◌}
+use Rattle.sim_session_laws.proofs.Common.{hears, idle, In, inl, inr, Joining, joins, Off, On, orders, Out, Phase, plays, put, put_other, put_same, Server}
+use Rattle.sim_session_laws.proofs.Common.{◌≡◌, ℕ, ◌⊎◌, List, [], ◌∷◌, ◌++◌, ℤ, refl, Acted, acts, ap, append-nil, begun, bends, cases_eq, Command, Down, falls}
+use Rattle.sim_session_laws.proofs.Invariant.{Fits, Holds, Plays, Sound}
+use Rattle.sim_session_laws.proofs.PlaysLemmas.{plays_bends, plays_heard, plays_ordered, plays_plays, PlaysThen}
 use Rattle.sim_plain.specs.declared.message.DownOf.TheVariants as down
-use Rattle.sim_plain.specs.declared.status.Status.{Status}
-use Rattle.sim_plain.specs.declared.status.Status.TheVariants.{Out, Waiting, In}
-use Rattle.sim_plain.specs.Functions.{put}
-use Rattle.sim_plain.specs.Server.{Server}
-use Rattle.sim_base.specs.Turn.{turns_in}
-use Rattle.sim_plain_session.proofs.Functions.{put_same, put_other}
-use Rattle.sim_plain_session.specs.Clients.{Up, Down, Phase, Off, Joining, On, Acted, idle, begun, orders, plays, joins, bends, hears}
-use Rattle.sim_plain_session.specs.Sessions.{Session, acts, falls}
-use Rattle.sim_session_laws.proofs.Invariant.{Plays, Fits, Sound, Holds}
-use Rattle.sim_session_laws.proofs.PlaysLemmas.{PlaysThen, plays_heard, plays_ordered, plays_plays, plays_bends}
+use Rattle.sim_plain.specs.declared.message.UpOf.TheVariants as up
 
 pub fits_as : (setup : Setup) (s : Server) (st st' : Status) (ph ph' : Phase) (ups ups' : List Up) (downs downs' : List Down) → st ≡ st' → ph ≡ ph'
     → ups ≡ ups' → downs ≡ downs' → Fits setup s st ph ups downs → Fits setup s st' ph' ups' downs'
-fits_as setup s st st' ph ph' ups ups' downs downs' a b c d h = subst (λ (x : Status × Phase × List Up × List Down). Fits setup s x.0 x.1 x.2 x.3) (λ i. (a i, b i, c i, d i)) h
+fits_as setup s st st' ph ph' ups ups' downs downs' a b c d h = subst (λ (x : Status × Phase × List Up × List Down). Fits setup s x.0 x.1 x.2 x.3)
+    (λ i. (a i, b i, c i, d i)) h
 
 -- an action and what it leaves
 abbrev pub FitsThen : Setup → Server → Status → List Up → List Down → Acted → Type 0
@@ -87,8 +79,10 @@ fits_hears setup s c (In done) Joining ups x downs sound h =
     let first : x ≡ down.State done h.carried = cc in
     let rest : downs ≡ h.rest = cc in
     subst (λ (y : Down). FitsThen setup s (In done) ups downs (hears setup c Joining y)) (sym first)
-    (subst (λ (z : List Up × List Down). Plays setup s.released s.kept done (begun done (turns_in h.carried) h.carried) z.0 z.1) (λ i. ((sym (append-nil ups ∙ h.empty)) i, sym rest i)) h.soon)
-fits_hears setup s c (In done) (On o) ups x downs sound h = fits_then setup s done ups downs _ _ (plays_heard setup s.released s.kept done c o ups x downs sound.players h)
+    (subst (λ (z : List Up × List Down). Plays setup s.released s.kept done (begun done (turns_in h.carried) h.carried) z.0 z.1)
+    (λ i. ((sym (append-nil ups ∙ h.empty)) i, sym rest i)) h.soon)
+fits_hears setup s c (In done) (On o) ups x downs sound h = fits_then setup s done ups downs _ _
+    (plays_heard setup s.released s.kept done c o ups x downs sound.players h)
 
 -- ---- the session
 
@@ -103,7 +97,8 @@ holds_acts setup s c a downs h own = record { server = h.server; each = λ d. by
     by : (d : ℕ) → (d ≡ c) ⊎ (d ≡ c → ⊥) → Fits setup s'.server (s'.server.status d) (s'.client d) (s'.ups d) (s'.downs d)
     by d (inl e) =
         subst (λ z. Fits setup s'.server (s'.server.status z) (s'.client z) (s'.ups z) (s'.downs z)) (sym e)
-        (fits_as setup s.server _ _ _ _ _ _ _ _ refl (sym (put_same c a.phase s.client)) (sym (put_same c (s.ups c ++ a.says) s.ups)) (sym (put_same c downs s.downs)) own)
+        (fits_as setup s.server _ _ _ _ _ _ _ _ refl (sym (put_same c a.phase s.client)) (sym (put_same c (s.ups c ++ a.says) s.ups))
+        (sym (put_same c downs s.downs)) own)
     by d (inr apart) =
         fits_as setup s.server _ _ _ _ _ _ _ _ refl (sym (put_other c a.phase s.client d apart)) (sym (put_other c (s.ups c ++ a.says) s.ups d apart))
         (sym (put_other c downs s.downs d apart)) (h.each d)
@@ -120,23 +115,29 @@ holds_acts_alone setup s c a h own = record { server = h.server; each = λ d. by
     by d (inl e) =
         subst (λ z. Fits setup s'.server (s'.server.status z) (s'.client z) (s'.ups z) (s'.downs z)) (sym e)
         (fits_as setup s.server _ _ _ _ _ _ _ _ refl (sym (put_same c a.phase s.client)) (sym (put_same c (s.ups c ++ a.says) s.ups)) refl own)
-    by d (inr apart) = fits_as setup s.server _ _ _ _ _ _ _ _ refl (sym (put_other c a.phase s.client d apart)) (sym (put_other c (s.ups c ++ a.says) s.ups d apart)) refl (h.each d)
+    by d (inr apart) = fits_as setup s.server _ _ _ _ _ _ _ _ refl (sym (put_other c a.phase s.client d apart))
+        (sym (put_other c (s.ups c ++ a.says) s.ups d apart)) refl (h.each d)
 
 pub holds_order : (setup : Setup) (s : Session) (c : ℕ) (x : Command) → Holds setup s → Holds setup (acts c (orders setup c x (s.client c)) s)
-holds_order setup s c x h = holds_acts_alone setup s c (orders setup c x (s.client c)) h (fits_orders setup s.server c x (s.server.status c) (s.client c) (s.ups c) (s.downs c) (h.each c))
+holds_order setup s c x h = holds_acts_alone setup s c (orders setup c x (s.client c)) h (fits_orders setup s.server c x (s.server.status c) (s.client c)
+    (s.ups c) (s.downs c) (h.each c))
 
 pub holds_play : (setup : Setup) (s : Session) (c : ℕ) → Holds setup s → Holds setup (acts c (plays setup c (s.client c)) s)
-holds_play setup s c h = holds_acts_alone setup s c (plays setup c (s.client c)) h (fits_plays setup s.server c (s.server.status c) (s.client c) (s.ups c) (s.downs c) (h.each c))
+holds_play setup s c h = holds_acts_alone setup s c (plays setup c (s.client c)) h (fits_plays setup s.server c (s.server.status c) (s.client c) (s.ups c)
+    (s.downs c) (h.each c))
 
 pub holds_bend : (setup : Setup) (s : Session) (c e : ℕ) (g : ℤ) → Holds setup s → Holds setup (acts c (bends setup c e g (s.client c)) s)
-holds_bend setup s c e g h = holds_acts_alone setup s c (bends setup c e g (s.client c)) h (fits_bends setup s.server c e g (s.server.status c) (s.client c) (s.ups c) (s.downs c) (h.each c))
+holds_bend setup s c e g h = holds_acts_alone setup s c (bends setup c e g (s.client c)) h (fits_bends setup s.server c e g (s.server.status c) (s.client c)
+    (s.ups c) (s.downs c) (h.each c))
 
 pub holds_join : (setup : Setup) (s : Session) (c : ℕ) → Holds setup s → Holds setup (acts c (joins c (s.client c)) s)
-holds_join setup s c h = holds_acts_alone setup s c (joins c (s.client c)) h (fits_joins setup s.server c (s.server.status c) (s.client c) (s.ups c) (s.downs c) (h.each c))
+holds_join setup s c h = holds_acts_alone setup s c (joins c (s.client c)) h (fits_joins setup s.server c (s.server.status c) (s.client c) (s.ups c) (s.downs c)
+    (h.each c))
 
 pub holds_down : (setup : Setup) (s : Session) (c : ℕ) → Holds setup s → Holds setup (falls setup c (s.downs c) s)
 holds_down setup s c h = by (s.downs c) (h.each c)
   where
     by : (downs : List Down) → Fits setup s.server (s.server.status c) (s.client c) (s.ups c) downs → Holds setup (falls setup c downs s)
     by [] own = h
-    by (x ∷ downs) own = holds_acts setup s c (hears setup c (s.client c) x) downs h (fits_hears setup s.server c (s.server.status c) (s.client c) (s.ups c) x downs h.server own)
+    by (x ∷ downs) own = holds_acts setup s c (hears setup c (s.client c) x) downs h (fits_hears setup s.server c (s.server.status c) (s.client c) (s.ups c) x
+        downs h.server own)

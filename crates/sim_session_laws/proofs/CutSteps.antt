@@ -1,22 +1,12 @@
 -- A client is cut.
-use Rattle.std.proofs.Common.{◌≡◌, ◌⊎◌, inl, inr, ℕ, ◌≤◌, Bool, true, false, true≢false, List, [], ◌∷◌, ◌++◌, map, refl, sym, ap, ◌∙◌, subst, append-nil, append_assoc, nat_lt, Option, Some, None, filter}
-use Rattle.std.proofs.lemmas.Bool.{cases_eq, and_right, eq-eqb, ne_eqb, cond-true, cond-false}
-use Rattle.sim_base.specs.declared.setup.Setup.{Setup}
-use Rattle.sim_base.specs.Turn.{Past}
+use Rattle.sim_session_laws.proofs.{ClientSteps.fits_as, Common.with_status, Common.◌∙◌, Invariant.Fits, Invariant.Holds, Invariant.Plays, Invariant.Sound}
+use Rattle.sim_session_laws.proofs.{ServerLemmas.told_raised, UpSteps.donor_in, UpSteps.ins_high, UpSteps.sound_raised, UpSteps.sound_status, UpSteps.waits_is}
+use Rattle.sim_session_laws.proofs.Common.{ap, append-nil, append_assoc, asked, cases_eq, cond-false, cond-true, cut, cut_posts, donor, Down, eq-eqb, In, inl}
+use Rattle.sim_session_laws.proofs.Common.{inr, is_client, is_in, Joining, leaves, ne_eqb, Off, On, Out, Past, Phase, put_other, put_same, raised, release}
+use Rattle.sim_session_laws.proofs.Common.{reseated, rules_of, seat, Server, Session, Setup, Status, subst, sym, true≢false, Up, up_to, Waiting, waits_for}
+use Rattle.sim_session_laws.proofs.Common.{◌≡◌, ℕ, ◌≤◌, Bool, true, false, ◌⊎◌, List, [], ◌∷◌, ◌++◌, map, nat_lt, Some, None, filter, Option, refl, and_right}
+use Rattle.sim_session_laws.proofs.ServerLemmas.{fits_goes, fits_told, Goes, goes_one, IsQuiet, quiet_asks, quiet_none, release_is, Stay, Told, told_quiet}
 use Rattle.sim_plain.specs.declared.message.DownOf.TheVariants as down
-use Rattle.sim_plain.specs.declared.status.Status.{Status}
-use Rattle.sim_plain.specs.declared.status.Status.TheVariants.{Out, Waiting, In}
-use Rattle.sim_plain.specs.Functions.{up_to}
-use Rattle.sim_plain.specs.Server.{Server, is_in, waits_for, donor, seat, with_status, raised, reseated}
-use Rattle.sim_plain.specs.Posts.{cut_posts, release, asked}
-use Rattle.sim_plain_session.proofs.Functions.{put_same, put_other}
-use Rattle.sim_plain_session.specs.Clients.{Up, Down, Phase, Off, Joining, On}
-use Rattle.sim_plain_session.specs.Pasts.{rules_of, is_client}
-use Rattle.sim_plain_session.specs.Sessions.{Session, cut, leaves}
-use Rattle.sim_session_laws.proofs.ClientSteps.{fits_as}
-use Rattle.sim_session_laws.proofs.Invariant.{Plays, Fits, Sound, Holds}
-use Rattle.sim_session_laws.proofs.ServerLemmas.{Told, fits_told, IsQuiet, Stay, told_quiet, quiet_none, quiet_asks, release_is, told_raised, Goes, fits_goes, goes_one}
-use Rattle.sim_session_laws.proofs.UpSteps.{sound_status, sound_raised, ins_high, waits_is, donor_in}
 
 in_waits_not : (c : ℕ) (st : Status) → is_in st ≡ true → waits_for c st ≡ false
 in_waits_not c Out e = absurd (true≢false (sym e))
@@ -81,9 +71,11 @@ goes_reseated setup c s who d e = by (donor (rules_of setup) s) refl
         let none = cond-false (waits_for c (s.status d)) turned_away [] e in
         record {
           same = reseated_stays setup c s d e;
-          told = told_quiet setup s s' (s.status d) _ refl refl (reseated_in setup c s) (subst (λ (l : List Down). IsQuiet setup l) (sym none) (quiet_none setup)) (λ g. none);
+          told = told_quiet setup s s' (s.status d) _ refl refl (reseated_in setup c s)
+              (subst (λ (l : List Down). IsQuiet setup l) (sym none) (quiet_none setup)) (λ g. none);
         }
-    by (Some k) f = goes_one setup s s' k d (map down.Ask who) refl refl (reseated_in setup c s) (reseated_stays setup c s d e) (donor_in setup s k f) (quiet_asks setup who)
+    by (Some k) f = goes_one setup s s' k d (map down.Ask who) refl refl (reseated_in setup c s) (reseated_stays setup c s d e) (donor_in setup s k f)
+        (quiet_asks setup who)
 
 fits_other : (setup : Setup) (s : Server) (c d : ℕ) (ph : Phase) (ups : List Up) (downs : List Down) → Sound setup (with_status c Out s)
     → (d ≡ c → ⊥) → waits_for c (s.status d) ≡ false → Fits setup s (s.status d) ph ups downs → FitsAfter setup c (with_status c Out s) d ph ups downs
@@ -109,7 +101,8 @@ fits_other setup s c d ph ups downs sound apart e h =
     same = put_other c Out s.status d apart
 
     first : Fits setup s1 (s1.status d) ph ups downs
-    first = fits_as setup s1 _ _ _ _ _ _ _ _ (sym same) refl refl (append-nil downs) (fits_told setup s s1 (s.status d) [] ph ups downs (told_out setup s c (s.status d) e) h)
+    first = fits_as setup s1 _ _ _ _ _ _ _ _ (sym same) refl refl (append-nil downs)
+        (fits_told setup s s1 (s.status d) [] ph ups downs (told_out setup s c (s.status d) e) h)
 
     second : Fits setup s2 (s2.status d) ph ups (downs ++ told)
     second = fits_told setup s1 s2 (s1.status d) told ph ups downs (told_raised setup s1 d sound.clients) first
@@ -233,7 +226,8 @@ holds_cut setup s c client h =
     by : (d : ℕ) → (d ≡ c) ⊎ (d ≡ c → ⊥) → Fits setup s'.server (s'.server.status d) (s'.client d) (s'.ups d) (s'.downs d)
     by d (inl e) =
         subst (λ z. Fits setup s'.server (s'.server.status z) (s'.client z) (s'.ups z) (s'.downs z)) (sym e)
-        (fits_as setup s'.server _ _ _ _ _ _ _ _ refl (sym (put_same c Off s.client)) (sym (put_same c [] s.ups)) (λ i. (sym (put_same c [] s.downs)) i ++ told c)
+        (fits_as setup s'.server _ _ _ _ _ _ _ _ refl (sym (put_same c Off s.client)) (sym (put_same c [] s.ups))
+        (λ i. (sym (put_same c [] s.downs)) i ++ told c)
         (fits_cut setup c s1 (put_same c Out s.server.status)))
     by d (inr apart) =
         fits_as setup s'.server _ _ _ _ _ _ _ _ refl (sym (put_other c Off s.client d apart)) (sym (put_other c [] s.ups d apart))

@@ -1,28 +1,14 @@
 -- What is released is final.
-use Rattle.std.proofs.Common.{◌≡◌, ℕ, suc, ◌<◌, ◌≤◌, Bool, true, false, ◌&&◌, List, [], ◌∷◌, ◌++◌, refl, sym, ◌∙◌, subst, arith, if◌then◌else◌, ◌==◌, nat_lt, nat_le, Option, Some, None, count_by}
-use Rattle.std.proofs.lemmas.Bool.{and_parts, eqb-true}
-use Rattle.sim_base.specs.declared.step.Step.{Step}
+use Rattle.sim_session_laws.proofs.{Basics.Grows, Basics.grows_same, Invariant.Holds, Runs.holds_session, Runs.holds_stepped, TurnNumberFacts.dones_are_turns}
+use Rattle.sim_session_laws.proofs.{PlaysLemmas.keeps_final, ServerLemmas.raised_more}
+use Rattle.sim_session_laws.proofs.Common.{Joining, keeps, least_done, leaves, Off, On, opened, Out, Past, Phase, PlayerCommand, put, raised, ReleasedAreFinal}
+use Rattle.sim_session_laws.proofs.Common.{ReleasedOnlyRise, report_fault, reported, rises, rules_of, seat, Server, Session, session, Setup, Status, Step}
+use Rattle.sim_session_laws.proofs.Common.{count_by, Option, refl, after_steps, after_steps-append, and_parts, arith, Arrival, client_of, command_fault}
+use Rattle.sim_session_laws.proofs.Common.{crowd_fault, Cut, done_fault, donor, Down, entry_done, eqb-true, falls, Heard, heard, In, is_by, is_client, is_out}
+use Rattle.sim_session_laws.proofs.Common.{stepped, stepped_by, subst, sym, takes_state, unless, Up, Waiting, with_status, ◌∙◌}
+use Rattle.sim_session_laws.proofs.Common.{◌≡◌, ℕ, suc, ◌<◌, ◌≤◌, Bool, true, false, ◌&&◌, List, [], ◌∷◌, ◌++◌, if◌then◌else◌, nat_lt, nat_le, ◌==◌, Some, None}
 use Rattle.sim_base.specs.declared.step.Step.TheVariants as step
-use Rattle.sim_base.specs.declared.command.PlayerCommand.{PlayerCommand}
-use Rattle.sim_base.specs.declared.setup.Setup.{Setup}
-use Rattle.sim_base.specs.Turn.{Past}
 use Rattle.sim_plain.specs.declared.message.UpOf.TheVariants as up
-use Rattle.sim_plain.specs.declared.status.Status.{Status}
-use Rattle.sim_plain.specs.declared.status.Status.TheVariants.{Out, Waiting, In}
-use Rattle.sim_plain.specs.Functions.{put}
-use Rattle.sim_plain.specs.Messages.{Arrival, Heard, Cut}
-use Rattle.sim_plain.specs.Server.{Server, is_out, least_done, donor, seat, with_status, raised, keeps, reported, is_by, crowd_fault, command_fault, done_fault, report_fault, takes_state, entry_done, unless, heard}
-use Rattle.sim_plain_session.specs.Clients.{Up, Down, Phase, Off, Joining, On}
-use Rattle.sim_plain_session.specs.Pasts.{rules_of, is_client}
-use Rattle.sim_plain_session.proofs.GoingOn.{after_steps-append}
-use Rattle.sim_plain_session.specs.Sessions.{Session, opened, rises, falls, leaves, client_of, stepped_by, stepped, after_steps, session}
-use Rattle.sim_session_laws.proofs.Basics.{Grows, grows_same}
-use Rattle.sim_session_laws.proofs.TurnNumberFacts.{dones_are_turns}
-use Rattle.sim_session_laws.proofs.Invariant.{Holds}
-use Rattle.sim_session_laws.proofs.PlaysLemmas.{keeps_final}
-use Rattle.sim_session_laws.proofs.Runs.{holds_stepped, holds_session}
-use Rattle.sim_session_laws.proofs.ServerLemmas.{raised_more}
-use Rattle.sim_session_laws.specs.TurnNumbers.{ReleasedAreFinal, ReleasedOnlyRise}
 
 -- an accepted command is of a turn that is not released, where no client that is in is done with less than that
 command_above : (setup : Setup) (released : ℕ) (kept : List PlayerCommand) (c t : ℕ) (st : Status) → ((done : ℕ) → st ≡ In done → released ≤ done)
@@ -31,7 +17,8 @@ command_above setup released kept c t Out low f = absurd (cc)
 command_above setup released kept c t (Waiting j) low f = absurd (cc)
 command_above setup released kept c t (In n) low f = test (t == suc n && nat_le t setup.turns) refl f
   where
-    test : (b : Bool) → (t == suc n && nat_le t setup.turns) ≡ b → (let o : Option ℕ = (if b then crowd_fault (nat_lt (count_by (is_by c) kept) 64) else Some 2) in o ≡ None) → released < t
+    test : (b : Bool) → (t == suc n && nat_le t setup.turns) ≡ b
+        → (let o : Option ℕ = (if b then crowd_fault (nat_lt (count_by (is_by c) kept) 64) else Some 2) in o ≡ None) → released < t
     test true k g = let next : t ≡ suc n = eqb-true t (suc n) ((and_parts _ _ k).0) in let a = low n refl in omega arith
     test false k g = absurd (cc)
 
@@ -116,12 +103,14 @@ after_grows setup s [] h = same
     same : Grown s.server s.server
     same = grows_same s.server.released s.server.kept
 after_grows setup s (x ∷ xs) h =
-    grown_then s.server (stepped setup s x).server (after_steps setup (stepped setup s x) xs).server (stepped_grows setup s x h) (after_grows setup (stepped setup s x) xs (holds_stepped setup s x h))
+    grown_then s.server (stepped setup s x).server (after_steps setup (stepped setup s x) xs).server (stepped_grows setup s x h)
+    (after_grows setup (stepped setup s x) xs (holds_stepped setup s x h))
 
 session_grows : (setup : Setup) (active : ℕ) (steps more : List Step) → active ≤ setup.players
     → Grown (session setup active steps).server (session setup active (steps ++ more)).server
 session_grows setup active steps more few =
-    subst (λ (s : Session). Grown (session setup active steps).server s.server) (sym (after_steps-append setup (opened setup active) steps more)) (after_grows setup (session setup active steps) more (holds_session setup active steps few))
+    subst (λ (s : Session). Grown (session setup active steps).server s.server) (sym (after_steps-append setup (opened setup active) steps more))
+    (after_grows setup (session setup active steps) more (holds_session setup active steps few))
 
 pub released_are_final : ReleasedAreFinal
 released_are_final setup active steps more t few le = (session_grows setup active steps more few).final t le

@@ -1,20 +1,11 @@
 -- What a client has that fits, and what each pipe has.
-use Rattle.std.proofs.Common.{◌≡◌, inl, inr, ℕ, ◌≤◌, List, [], ◌∷◌, refl, sym, subst, arith}
-use Rattle.sim_base.specs.declared.setup.Setup.{Setup}
-use Rattle.sim_base.specs.Turn.{Past, turns_in}
-use Rattle.sim_plain.specs.declared.message.UpOf.TheVariants as up
-use Rattle.sim_plain.specs.declared.message.DownOf.TheVariants as down
-use Rattle.sim_plain.specs.declared.status.Status.{Status}
-use Rattle.sim_plain.specs.declared.status.Status.TheVariants.{Out, Waiting, In}
-use Rattle.sim_plain.specs.Server.{Server, seat}
-use Rattle.sim_plain_session.specs.Clients.{Up, Down, Seat, Phase, Off, Joining, On, refused}
-use Rattle.sim_plain_session.specs.Laws.{Carries}
-use Rattle.sim_plain_session.specs.Sessions.{Session, session}
-use Rattle.sim_session_laws.proofs.Invariant.{GoodPast, GoodUps, GoodDowns, Plays, Loads, Fits, Holds}
+use Rattle.sim_session_laws.proofs.Common.{Out, Past, Phase, refused, Seat, seat, Server, Session, session, Setup, Status, subst, sym, turns_in, Up, Waiting}
+use Rattle.sim_session_laws.proofs.Common.{◌≡◌, ℕ, ◌≤◌, List, [], ◌∷◌, refl, Always, arith, Behind, Carries, Down, Fact, In, inl, inr, IsPast, Joining, Off, On}
+use Rattle.sim_session_laws.proofs.GoodPipes.{good_behind, good_down, good_up, IsGoodDown, IsGoodUp, lower}
+use Rattle.sim_session_laws.proofs.Invariant.{Fits, GoodDowns, GoodPast, GoodUps, Holds, Loads, Plays}
 use Rattle.sim_session_laws.proofs.Runs.{holds_session}
-use Rattle.sim_session_laws.specs.Always.{Fact, Always}
-use Rattle.sim_session_laws.specs.Pipes.{Behind, IsPast}
-use Rattle.sim_session_laws.proofs.GoodPipes.{IsGoodUp, IsGoodDown, good_up, good_down, good_behind, lower}
+use Rattle.sim_plain.specs.declared.message.DownOf.TheVariants as down
+use Rattle.sim_plain.specs.declared.message.UpOf.TheVariants as up
 
 -- a client that is on is in, and plays
 abbrev pub OnIs : Setup → Server → Status → Seat → List Up → List Down → Type 0
@@ -26,7 +17,8 @@ on_is setup s st Off o ups downs e h = absurd (cc)
 on_is setup s st Joining o ups downs e h = absurd (cc)
 on_is setup s Out (On p) o ups downs e h = absurd h
 on_is setup s (Waiting j) (On p) o ups downs e h = absurd h
-on_is setup s (In done) (On p) o ups downs e h = let same : p ≡ o = cc in (done, refl, subst (λ (y : Seat). Plays setup s.released s.kept done y ups downs) same h)
+on_is setup s (In done) (On p) o ups downs e h = let same : p ≡ o = cc in
+    (done, refl, subst (λ (y : Seat). Plays setup s.released s.kept done y ups downs) same h)
 
 pub good_on : (setup : Setup) (s : Session) (c : ℕ) (o : Seat) → Holds setup s → s.client c ≡ On o
     → OnIs setup s.server (s.server.status c) o (s.ups c) (s.downs c)
@@ -71,7 +63,8 @@ each_down setup s P none refused good (Waiting j) Off ups downs h = absurd h
 each_down setup s P none refused good (Waiting j) Joining ups downs h = subst P (sym h.nothing.no_downs) none
 each_down setup s P none refused good (Waiting j) (On o) ups downs h = absurd h
 each_down setup s P none refused good (In done) Off ups downs h = absurd h
-each_down setup s P none refused good (In done) Joining ups downs h = subst P (sym h.first) (good (turns_in h.carried) (down.State done h.carried ∷ h.rest) h.soon.past.turn (h.soon.past, h.soon.pipe))
+each_down setup s P none refused good (In done) Joining ups downs h =
+    subst P (sym h.first) (good (turns_in h.carried) (down.State done h.carried ∷ h.rest) h.soon.past.turn (h.soon.past, h.soon.pipe))
 each_down setup s P none refused good (In done) (On o) ups downs h = good o.released downs h.known_release h.pipe
 
 -- ---- every message, every past
@@ -81,7 +74,8 @@ pub each_up_is_good : (setup : Setup) (s : Session) (c : ℕ) (x : Up) → Holds
     → IsGoodUp setup s.server.released s.server.kept x
 each_up_is_good setup s c x h =
     each_up setup s.server (λ ups. Carries ups x → IsGoodUp setup s.server.released s.server.kept x) (λ has. absurd has) wish
-    (λ done seat ups good. good_up setup s.server.released s.server.kept done seat.done ups x good) (s.server.status c) (s.client c) (s.ups c) (s.downs c) (h.each c)
+    (λ done seat ups good. good_up setup s.server.released s.server.kept done seat.done ups x good) (s.server.status c) (s.client c) (s.ups c) (s.downs c)
+    (h.each c)
   where
     wish : Carries (up.Join ∷ []) x → IsGoodUp setup s.server.released s.server.kept x
     wish (inl e) = subst (IsGoodUp setup s.server.released s.server.kept) e tt
@@ -92,21 +86,25 @@ pub each_down_is_good : (setup : Setup) (s : Session) (c : ℕ) (x : Down) → H
     → IsGoodDown setup s.server.released s.server.kept 0 x
 each_down_is_good setup s c x h =
     each_down setup s.server (λ downs. Carries downs x → IsGoodDown setup s.server.released s.server.kept 0 x) (λ has. absurd has) wish
-    (λ low downs le good has. from_zero low (good_down setup s.server.released s.server.kept low downs x good has)) (s.server.status c) (s.client c) (s.ups c) (s.downs c) (h.each c)
+    (λ low downs le good has. from_zero low (good_down setup s.server.released s.server.kept low downs x good has)) (s.server.status c) (s.client c) (s.ups c)
+    (s.downs c) (h.each c)
   where
     wish : Carries (down.Refused 4 ∷ []) x → IsGoodDown setup s.server.released s.server.kept 0 x
     wish (inl e) = subst (IsGoodDown setup s.server.released s.server.kept 0) e tt
     wish (inr none) = absurd none
 
     from_zero : (low : ℕ) → IsGoodDown setup s.server.released s.server.kept low x → IsGoodDown setup s.server.released s.server.kept 0 x
-    from_zero low good = lower setup s.server.released s.server.kept 0 low x (subst (λ n. IsGoodDown setup s.server.released s.server.kept n x) (omega arith) good)
+    from_zero low good = lower setup s.server.released s.server.kept 0 low x (subst (λ n. IsGoodDown setup s.server.released s.server.kept n x) (omega arith)
+        good)
 
 -- a message behind a release is good behind it
 pub each_behind_is_good : (setup : Setup) (s : Session) (c t : ℕ) (rest : List Down) (x : Down) → Holds setup s
     → Behind (s.downs c) (down.Release t) rest → Carries rest x → IsGoodDown setup s.server.released s.server.kept t x
 each_behind_is_good setup s c t rest x h =
-    each_down setup s.server (λ downs. Behind downs (down.Release t) rest → Carries rest x → IsGoodDown setup s.server.released s.server.kept t x) (λ at. absurd at) wish
-    (λ low downs le good. good_behind setup s.server.released s.server.kept low downs rest t x good) (s.server.status c) (s.client c) (s.ups c) (s.downs c) (h.each c)
+    each_down setup s.server (λ downs. Behind downs (down.Release t) rest → Carries rest x → IsGoodDown setup s.server.released s.server.kept t x)
+    (λ at. absurd at) wish
+    (λ low downs le good. good_behind setup s.server.released s.server.kept low downs rest t x good) (s.server.status c) (s.client c) (s.ups c) (s.downs c)
+    (h.each c)
   where
     wish : Behind (down.Refused 4 ∷ []) (down.Release t) rest → Carries rest x → IsGoodDown setup s.server.released s.server.kept t x
     wish (inl e) = let f = e.0 in absurd (cc)

@@ -1,14 +1,8 @@
 -- What holds of each message in a good pipe.
-use Rattle.std.proofs.Common.{◌≡◌, inl, inr, ℕ, ◌+◌, ◌<◌, ◌≤◌, max, List, [], ◌∷◌, sym, subst, arith}
-use Rattle.sim_base.specs.declared.command.PlayerCommand.{PlayerCommand}
-use Rattle.sim_base.specs.declared.setup.Setup.{Setup}
-use Rattle.sim_base.specs.Turn.{turns_in}
-use Rattle.sim_plain.specs.declared.message.UpOf.TheVariants as up
+use Rattle.sim_session_laws.proofs.{Common.turns_in, Common.Up, Invariant.GoodDowns, Invariant.GoodPast, Invariant.GoodUps}
+use Rattle.sim_session_laws.proofs.Common.{◌≡◌, ℕ, ◌+◌, ◌<◌, ◌≤◌, max, List, [], ◌∷◌, arith, Behind, Carries, Down, inl, inr, PlayerCommand, Setup, subst, sym}
 use Rattle.sim_plain.specs.declared.message.DownOf.TheVariants as down
-use Rattle.sim_plain_session.specs.Clients.{Up, Down}
-use Rattle.sim_plain_session.specs.Laws.{Carries}
-use Rattle.sim_session_laws.proofs.Invariant.{GoodPast, GoodUps, GoodDowns}
-use Rattle.sim_session_laws.specs.Pipes.{Behind}
+use Rattle.sim_plain.specs.declared.message.UpOf.TheVariants as up
 
 -- what holds of a message in a good up pipe
 abbrev pub IsGoodUp : Setup → ℕ → (ℕ → List PlayerCommand) → Up → Type 0

@@ -1,19 +1,9 @@
 -- What every step of a session keeps: one case for each client, by what it is to the server and what it is itself.
-use Rattle.std.specs.Prelude.{◌≡◌, ℕ, suc, ◌+◌, ◌<◌, ◌≤◌, true, false, ◌⊎◌, List, [], ◌∷◌, ◌++◌, max}
-use Rattle.sim_base.specs.declared.command.PlayerCommand.{PlayerCommand}
-use Rattle.sim_base.specs.declared.setup.Setup.{Setup}
-use Rattle.sim_base.specs.Turn.{Past, turns_in}
-use Rattle.sim_plain.specs.declared.message.UpOf.TheVariants as up
+use Rattle.sim_session_laws.proofs.Common.{Session, Setup, Status, turns_in, Up, Waiting}
+use Rattle.sim_session_laws.proofs.Common.{is_client, is_in, is_unbent, IsPastOf, Joining, kept_turns, Off, On, Out, Past, Phase, PlayerCommand, Seat, Server}
+use Rattle.sim_session_laws.proofs.Common.{◌≡◌, ℕ, suc, ◌+◌, ◌<◌, ◌≤◌, max, true, false, ◌⊎◌, List, [], ◌∷◌, ◌++◌, AllPlayers, begun, commands_at, Down, In}
 use Rattle.sim_plain.specs.declared.message.DownOf.TheVariants as down
-use Rattle.sim_plain.specs.declared.status.Status.TheVariants.{Out, Waiting, In}
-use Rattle.sim_plain.specs.Server.{is_in, Server}
-use Rattle.sim_laws.specs.TurnLaws.{IsPastOf}
-use Rattle.sim_plain.specs.declared.status.Status.{Status}
-use Rattle.sim_plain_session.specs.Clients.{Up, Down, Seat, Phase, Off, Joining, On, begun}
-use Rattle.sim_plain_session.specs.Pasts.{is_client, is_unbent, kept_turns}
-use Rattle.sim_plain_session.specs.Sessions.{Session}
-use Rattle.sim_session_laws.specs.Pipes.{commands_at}
-use Rattle.sim_session_laws.specs.Standing.{AllPlayers}
+use Rattle.sim_plain.specs.declared.message.UpOf.TheVariants as up
 
 -- a past that a client has or a message carries, where the turns up to `released` are final
 pub record GoodPast (setup : Setup) (released : ℕ) (kept : ℕ → List PlayerCommand) (past : Past) : Type 0 where
@@ -26,9 +16,11 @@ abbrev pub GoodUps : Setup → ℕ → (ℕ → List PlayerCommand) → ℕ → 
 GoodUps setup released kept from own [] = from ≡ own
 GoodUps setup released kept from own (up.Join ∷ ups) = GoodUps setup released kept from own ups
 GoodUps setup released kept from own (up.Command t x ∷ ups) = GoodUps setup released kept from own ups
-GoodUps setup released kept from own (up.Done t ∷ ups) = (t ≡ suc from) × (t ≤ setup.turns) × (t ≤ released + setup.delay) × GoodUps setup released kept t own ups
+GoodUps setup released kept from own (up.Done t ∷ ups) = (t ≡ suc from) × (t ≤ setup.turns) × (t ≤ released + setup.delay)
+    × GoodUps setup released kept t own ups
 GoodUps setup released kept from own (up.Report t g ∷ ups) = GoodUps setup released kept from own ups
-GoodUps setup released kept from own (up.State j t past ∷ ups) = (t ≡ turns_in past) × GoodPast setup released kept past × GoodUps setup released kept from own ups
+GoodUps setup released kept from own (up.State j t past ∷ ups) = (t ≡ turns_in past) × GoodPast setup released kept past
+    × GoodUps setup released kept from own ups
 
 -- each command is of a turn above `low`, the greatest release heard or passed so far, and each release is one of the server
 abbrev pub GoodDowns : Setup → ℕ → (ℕ → List PlayerCommand) → ℕ → List Down → Type 0

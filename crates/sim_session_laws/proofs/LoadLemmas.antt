@@ -1,20 +1,9 @@
 -- What a client that loads is sent.
-use Rattle.std.proofs.Common.{◌≡◌, ◌⊎◌, inl, inr, ℕ, zero, suc, ◌+◌, ◌-◌, ◌<◌, ◌≤◌, List, [], ◌∷◌, ◌++◌, refl, sym, ap, ◌∙◌, subst, arith, append-nil, append_assoc}
-use Rattle.std.proofs.lemmas.List.Elements.{All-nil}
-use Rattle.sim_laws.specs.CommandLaws.{IsOrderOf}
-use Rattle.std.specs.Prelude.{map}
-use Rattle.std.proofs.lemmas.Bool.{cases_eq, cases_lt, eq-eqb, ne_eqb, cond-true, cond-false}
-use Rattle.sim_base.specs.declared.command.PlayerCommand.{PlayerCommand}
-use Rattle.sim_base.specs.declared.setup.Setup.{Setup}
-use Rattle.sim_base.specs.Turn.{Past, turns_in}
+use Rattle.sim_session_laws.proofs.{Basics.commands_at-append, Invariant.GoodDowns, Invariant.GoodPast, Invariant.Plays, Invariant.Sound}
+use Rattle.sim_session_laws.proofs.Common.{arith, begun, cases_eq, cases_lt, commands_at, cond-false, cond-true, Down, entry_done, eq-eqb, inl, inr, IsOrderOf}
+use Rattle.sim_session_laws.proofs.Common.{kept_above, ne_eqb, Past, PlayerCommand, rules_of, Server, Setup, subst, sym, turns_in, ◌∙◌}
+use Rattle.sim_session_laws.proofs.Common.{◌≡◌, ℕ, zero, suc, ◌+◌, ◌-◌, ◌<◌, ◌≤◌, ◌⊎◌, List, [], ◌∷◌, ◌++◌, map, refl, All-nil, ap, append-nil, append_assoc}
 use Rattle.sim_plain.specs.declared.message.DownOf.TheVariants as down
-use Rattle.sim_plain.specs.Server.{Server, entry_done}
-use Rattle.sim_plain.specs.Posts.{kept_above}
-use Rattle.sim_plain_session.specs.Clients.{Down, begun}
-use Rattle.sim_plain_session.specs.Pasts.{rules_of}
-use Rattle.sim_session_laws.proofs.Basics.{commands_at-append}
-use Rattle.sim_session_laws.proofs.Invariant.{GoodPast, GoodDowns, Plays, Sound}
-use Rattle.sim_session_laws.specs.Pipes.{commands_at}
 
 good_ordered : (setup : Setup) (r : ℕ) (k : ℕ → List PlayerCommand) (low u : ℕ) (xs : List PlayerCommand) (tail : List Down) → low < u
     → GoodDowns setup r k low tail → GoodDowns setup r k low (map (down.Command u) xs ++ tail)
@@ -26,7 +15,8 @@ good_above : (setup : Setup) (r : ℕ) (k : ℕ → List PlayerCommand) (t n : �
 good_above setup r k t zero tail good = good
 good_above setup r k t (suc n) tail good =
     subst (λ (l : List Down). GoodDowns setup r k t l) (sym (append_assoc (kept_above k t n) (map (down.Command (suc (t + n))) (k (suc (t + n)))) tail))
-    (good_above setup r k t n (map (down.Command (suc (t + n))) (k (suc (t + n))) ++ tail) (good_ordered setup r k t (suc (t + n)) (k (suc (t + n))) tail (omega arith) good))
+    (good_above setup r k t n (map (down.Command (suc (t + n))) (k (suc (t + n))) ++ tail)
+    (good_ordered setup r k t (suc (t + n)) (k (suc (t + n))) tail (omega arith) good))
 
 at_ordered : (u : ℕ) (xs : List PlayerCommand) → commands_at u (map (down.Command u) xs) ≡ xs
 at_ordered u [] = refl
@@ -45,19 +35,23 @@ past_above k t (suc n) u h =
 at_above : (k : ℕ → List PlayerCommand) (t n u : ℕ) → t < u → u ≤ t + n → commands_at u (kept_above k t n) ≡ k u
 at_above k t zero u low high = absurd (omega arith)
 at_above k t (suc n) u low high =
-    commands_at-append u (kept_above k t n) (map (down.Command (suc (t + n))) (k (suc (t + n)))) ∙ by (cases_eq u (suc (t + n))) (λ (h : u ≤ t + n). at_above k t n u low h)
+    commands_at-append u (kept_above k t n) (map (down.Command (suc (t + n))) (k (suc (t + n)))) ∙
+    by (cases_eq u (suc (t + n))) (λ (h : u ≤ t + n). at_above k t n u low h)
   where
     v : ℕ
     v = suc (t + n)
 
     by : (u ≡ v) ⊎ (u ≡ v → ⊥) → (u ≤ t + n → commands_at u (kept_above k t n) ≡ k u)
         → commands_at u (kept_above k t n) ++ commands_at u (map (down.Command v) (k v)) ≡ k u
-    by (inl e) rec = ap (λ (l : List PlayerCommand). l ++ commands_at u (map (down.Command v) (k v))) (past_above k t n u (omega arith)) ∙ subst (λ x. commands_at u (map (down.Command x) (k x)) ≡ k u) e (at_ordered u (k u))
-    by (inr apart) rec = ap (λ (l : List PlayerCommand). commands_at u (kept_above k t n) ++ l) (at_other u v (k v) (λ e. apart (sym e))) ∙ append-nil _ ∙ rec (omega arith)
+    by (inl e) rec = ap (λ (l : List PlayerCommand). l ++ commands_at u (map (down.Command v) (k v))) (past_above k t n u (omega arith)) ∙
+        subst (λ x. commands_at u (map (down.Command x) (k x)) ≡ k u) e (at_ordered u (k u))
+    by (inr apart) rec = ap (λ (l : List PlayerCommand). commands_at u (kept_above k t n) ++ l) (at_other u v (k v) (λ e. apart (sym e))) ∙ append-nil _ ∙
+        rec (omega arith)
 
 -- as soon as it hears its state, it plays
 pub plays_begun : (setup : Setup) (s : Server) (past : Past) → Sound setup s → GoodPast setup s.released s.kept past
-    → Plays setup s.released s.kept (entry_done (rules_of setup) s.released (turns_in past)) (begun (entry_done (rules_of setup) s.released (turns_in past)) (turns_in past) past) []
+    → Plays setup s.released s.kept (entry_done (rules_of setup) s.released (turns_in past)) (begun (entry_done (rules_of setup) s.released (turns_in past))
+    (turns_in past) past) []
     (kept_above s.kept (turns_in past) (setup.turns - turns_in past) ++ down.Release s.released ∷ [])
 plays_begun setup s past sound good =
     record {

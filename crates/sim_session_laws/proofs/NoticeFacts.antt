@@ -1,27 +1,11 @@
 -- What a notice shows.
-use Rattle.std.proofs.Common.{◌≡◌, inl, inr, ℕ, Bool, true, false, List, [], ◌∷◌, All, map, refl, sym, ap, ◌∙◌, subst, if◌then◌else◌, Option, Some, None}
-use Rattle.std.specs.Prelude.{filter, ◌==◌}
-use Rattle.std.specs.Str.{bytes_eq}
-use Rattle.std.proofs.lemmas.Bool.{eqb-true}
-use Rattle.std.proofs.lemmas.Slice.Eq.{bytes_eq-Decides}
-use Rattle.std.proofs.lemmas.List.Elements.{All-nil, All-cons, All-head, All-tail, All-append}
-use Rattle.sim_base.specs.declared.setup.Setup.{Setup}
-use Rattle.sim_base.specs.declared.step.Step.{Step}
-use Rattle.sim_base.specs.Turn.{Past}
-use Rattle.sim_base.specs.Spelling.{is_full_turn}
-use Rattle.sim_plain.specs.declared.message.UpOf.TheVariants as up
-use Rattle.sim_plain.specs.declared.rules.Rules.{Rules}
-use Rattle.sim_plain.specs.History.{is_accepted}
-use Rattle.sim_plain.specs.Messages.{Arrival, Heard, Cut}
-use Rattle.sim_plain.specs.Notices.{Report, report_of, reports, first_mark}
-use Rattle.sim_plain.specs.Posts.{differs}
-use Rattle.sim_plain.specs.Server.{server_after}
-use Rattle.sim_plain_session.specs.Laws.{Carries}
-use Rattle.sim_plain_session.specs.Pasts.{rules_of}
-use Rattle.sim_plain_session.specs.Sessions.{session}
-use Rattle.sim_plain_session.proofs.Hiding.{full_is_digest, others_are_quick}
-use Rattle.sim_session_laws.specs.Reports.{WasMark, WereApart, NoticesShowDifferences}
+use Rattle.sim_plain.specs.Notices.{report_of}
+use Rattle.sim_session_laws.proofs.Common.{All-append, All-cons, All-head, All-nil, All-tail, ap, Arrival, bytes_eq-Decides, Carries, Cut, differs, eqb-true}
+use Rattle.sim_session_laws.proofs.Common.{Past, Report, reports, Rules, rules_of, server_after, session, Setup, Step, subst, sym, WasMark, WereApart, ◌∙◌}
+use Rattle.sim_session_laws.proofs.Common.{first_mark, full_is_digest, Heard, inl, inr, is_accepted, is_full_turn, NoticesShowDifferences, others_are_quick}
+use Rattle.sim_session_laws.proofs.Common.{◌≡◌, ℕ, Bool, true, false, List, [], ◌∷◌, map, if◌then◌else◌, ◌==◌, Some, None, bytes_eq, All, filter, Option, refl}
 use Rattle.sim_session_laws.proofs.Reporting.{Arrives, marks_of_session, one_of_all}
+use Rattle.sim_plain.specs.declared.message.UpOf.TheVariants as up
 
 -- what a report in a list of reports says
 abbrev IsReported : (ℕ → ℕ → List ℕ → Type 0) → Report → Type 0
@@ -79,7 +63,8 @@ apart_by setup active steps t c d one other left right apart = record {
 }
 
 -- a report that differs from the reference of its turn
-report_apart : (setup : Setup) (active : ℕ) (steps : List Step) (rs : List Report) (r : Report) → All (IsReported (WasMark setup active steps)) rs → Carries rs r
+report_apart : (setup : Setup) (active : ℕ) (steps : List Step) (rs : List Report) (r : Report) → All (IsReported (WasMark setup active steps)) rs
+    → Carries rs r
     → differs (first_mark r.0 rs) r.1.1 ≡ true → WereApart setup active steps r.0 r.1.0
 report_apart setup active steps rs r all has = by (first_mark r.0 rs) refl
   where

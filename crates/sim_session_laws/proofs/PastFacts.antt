@@ -1,19 +1,9 @@
 -- Which commands clients know, and what their pasts are.
-use Rattle.std.proofs.Common.{◌≡◌, inl, inr, ℕ, ◌<◌, List, ◌∷◌, refl, sym, ap, ◌∙◌, subst}
-use Rattle.sim_base.specs.declared.setup.Setup.{Setup}
-use Rattle.sim_base.specs.Turn.{Past, after, turns_in}
+use Rattle.sim_session_laws.proofs.{Fitting.each_behind_is_good, Fitting.Follows, Fitting.good_on, Fitting.good_pasts, GoodPipes.good_down, Invariant.Fits}
+use Rattle.sim_session_laws.proofs.Common.{Out, Past, Phase, seat, Server, Setup, Status, subst, sym, turns_in, UnbentAgree, UnbentAreKept, Up, Waiting, ◌∙◌}
+use Rattle.sim_session_laws.proofs.Common.{inl, inr, Joining, kept_turns, KeptAreOfPlayers, KeptAreTurns, KnownAndComingAreKept, NoneBehindRelease, Off, On}
+use Rattle.sim_session_laws.proofs.Common.{◌≡◌, ℕ, ◌<◌, List, ◌∷◌, refl, after, ap, BehindStateAreKept, ComingAreAboveRelease, commands_at, digest, Down, In}
 use Rattle.sim_plain.specs.declared.message.DownOf.TheVariants as down
-use Rattle.sim_plain.specs.declared.status.Status.{Status}
-use Rattle.sim_plain.specs.declared.status.Status.TheVariants.{Out, Waiting, In}
-use Rattle.sim_plain.specs.Server.{Server, seat}
-use Rattle.sim_base.specs.Spelling.{digest}
-use Rattle.sim_plain_session.specs.Clients.{Up, Down, Phase, Off, Joining, On}
-use Rattle.sim_plain_session.specs.Pasts.{kept_turns}
-use Rattle.sim_session_laws.proofs.Invariant.{Fits}
-use Rattle.sim_session_laws.specs.Commands.{KeptAreOfPlayers, KeptAreTurns, KnownAndComingAreKept, ComingAreAboveRelease, NoneBehindRelease, BehindStateAreKept, UnbentAreKept, UnbentAgree}
-use Rattle.sim_session_laws.specs.Pipes.{commands_at}
-use Rattle.sim_session_laws.proofs.GoodPipes.{good_down}
-use Rattle.sim_session_laws.proofs.Fitting.{good_on, each_behind_is_good, good_pasts, Follows}
 
 loads_of : (setup : Setup) (s : Server) (st : Status) (ph : Phase) (ups : List Up) (downs rest : List Down) (done t : ℕ) (past : Past) → ph ≡ Joining
     → downs ≡ down.State done past ∷ rest → turns_in past < t → Fits setup s st ph ups downs → commands_at t rest ≡ s.kept t
@@ -48,7 +38,8 @@ unbent_are_kept setup s h past is = (good_pasts setup s past h is).unbent
 pub unbent_agree : Follows UnbentAgree
 unbent_agree setup s h c d a b on_a on_b unbent_a unbent_b same =
     let pasts : a.past ≡ b.past =
-    unbent_are_kept setup s h a.past (inl (c, a, on_a, refl)) unbent_a ∙ ap (kept_turns s.server.kept) same ∙ sym (unbent_are_kept setup s h b.past (inl (d, b, on_b, refl)) unbent_b) in
+    unbent_are_kept setup s h a.past (inl (c, a, on_a, refl)) unbent_a ∙ ap (kept_turns s.server.kept) same ∙
+    sym (unbent_are_kept setup s h b.past (inl (d, b, on_b, refl)) unbent_b) in
     (ap (after setup) pasts, ap (λ (past : Past). digest setup (after setup past)) pasts)
 
 pub kept_are_of_players : Follows KeptAreOfPlayers

@@ -1,23 +1,15 @@
 -- What keeps a client that plays.
-use Rattle.std.proofs.Common.{◌≡◌, ◌⊎◌, inl, inr, ℕ, suc, ◌+◌, ◌<◌, ◌≤◌, min, max, Bool, true, false, List, [], ◌∷◌, ◌++◌, refl, sym, ap, ◌∙◌, subst, arith, append_assoc, append-nil, true≢false, if◌then◌else◌, ℤ}
-use Rattle.std.proofs.lemmas.List.Elements.{All-head, All-cons}
-use Rattle.std.proofs.lemmas.Bool.{eq-eqb, ne_eqb, cases_eq, and_parts, and_from, ltb-true, lt-ltb, cond-true, cond-false}
-use Rattle.sim_base.specs.declared.command.Command.{Command}
-use Rattle.sim_base.specs.declared.command.PlayerCommand.{PlayerCommand}
-use Rattle.sim_base.specs.declared.setup.Setup.{Setup}
-use Rattle.sim_base.specs.Rows.{row_of}
-use Rattle.sim_base.specs.Turn.{Past, Turn, Bend, may_bend, turns_in}
-use Rattle.sim_plain.specs.declared.message.UpOf.TheVariants as up
+use Rattle.sim_session_laws.proofs.Basics.{all_players_append, all_right, client_is, commands_at-append, good_downs_append, good_downs_grows, good_past_grows}
+use Rattle.sim_session_laws.proofs.Basics.{good_ups_grows, Grows, grows_same}
+use Rattle.sim_session_laws.proofs.Common.{All-cons, All-head, AllPlayers, and_from, and_parts, ap, append-nil, append_assoc, arith, Bend, bends, bent_seat}
+use Rattle.sim_session_laws.proofs.Common.{Joining, learns, lt-ltb, ltb-true, may_bend, may_order, may_play, may_tell_done, ne_eqb, Off, On, ordered, orders}
+use Rattle.sim_session_laws.proofs.Common.{Past, Phase, played, PlayerCommand, plays, put, put_other, put_same, report_of, row_of, Seat, Setup, shows_bend}
+use Rattle.sim_session_laws.proofs.Common.{cases_eq, Command, commands_at, cond-false, cond-true, Down, eq-eqb, hears, idle, inl, inr, IsItemOf, IsOrderOf}
+use Rattle.sim_session_laws.proofs.Common.{state_of, subst, sym, told, told_alone, told_with_done, true≢false, Turn, turns_in, Up, ◌∙◌}
+use Rattle.sim_session_laws.proofs.Common.{◌≡◌, ℕ, suc, ◌+◌, ◌<◌, ◌≤◌, min, max, Bool, true, false, ◌⊎◌, List, [], ◌∷◌, ◌++◌, ℤ, if◌then◌else◌, refl, Acted}
+use Rattle.sim_session_laws.proofs.Invariant.{GoodDowns, GoodPast, GoodUps, Plays}
 use Rattle.sim_plain.specs.declared.message.DownOf.TheVariants as down
-use Rattle.sim_plain.specs.Functions.{put}
-use Rattle.sim_laws.specs.CommandLaws.{IsOrderOf}
-use Rattle.sim_laws.specs.TurnLaws.{IsItemOf}
-use Rattle.sim_plain_session.proofs.Functions.{put_same, put_other}
-use Rattle.sim_plain_session.specs.Clients.{Up, Down, Seat, Phase, Off, Joining, On, Acted, idle, state_of, may_order, orders, may_play, played, may_tell_done, report_of, told, plays, bent_seat, shows_bend, ordered, told_with_done, told_alone, bends, learns, hears}
-use Rattle.sim_session_laws.proofs.Basics.{Grows, grows_same, good_past_grows, good_ups_grows, good_downs_grows, good_downs_append, commands_at-append, client_is, all_players_append, all_right}
-use Rattle.sim_session_laws.proofs.Invariant.{GoodPast, GoodUps, GoodDowns, Plays}
-use Rattle.sim_session_laws.specs.Pipes.{commands_at}
-use Rattle.sim_session_laws.specs.Standing.{AllPlayers}
+use Rattle.sim_plain.specs.declared.message.UpOf.TheVariants as up
 
 -- ---- what the server does, as a client sees it
 
@@ -34,7 +26,8 @@ plays_told setup r r' k k' done o ups downs news p g le good same =
       known_release = (let a = p.known_release in let b = g.more in omega arith);
       said = good_ups_grows setup r r' k k' done o.done ups g p.said;
       players = p.players;
-      pipe = good_downs_append setup r' k' o.released downs news (let a = p.known_release in let b = g.more in omega arith) (good_downs_grows setup r r' k k' o.released downs g p.pipe) good;
+      pipe = good_downs_append setup r' k' o.released downs news (let a = p.known_release in let b = g.more in omega arith)
+          (good_downs_grows setup r r' k k' o.released downs g p.pipe) good;
       commands = λ t above.
           ap (λ (l : List PlayerCommand). o.known t ++ l) (commands_at-append t downs news)
           ∙ sym (append_assoc (o.known t) (commands_at t downs) (commands_at t news))
@@ -47,7 +40,8 @@ pub plays_posted : (setup : Setup) (r : ℕ) (k : ℕ → List PlayerCommand) (d
     → Plays setup r k done o ups downs → ((l : ℕ) → GoodDowns setup r k l news) → ((t : ℕ) → commands_at t news ≡ [])
     → Plays setup r k done o ups (downs ++ news)
 plays_posted setup r k done o ups downs news p good none =
-    plays_told setup r r k k done o ups downs news p (grows_same r k) p.low (λ l h. good l) (λ t. ap (λ (l : List PlayerCommand). k t ++ l) (none t) ∙ append-nil (k t))
+    plays_told setup r r k k done o ups downs news p (grows_same r k) p.low (λ l h. good l) (λ t. ap (λ (l : List PlayerCommand). k t ++ l) (none t) ∙
+    append-nil (k t))
 
 pub keeps_final : (r : ℕ) (k : ℕ → List PlayerCommand) (t : ℕ) (x : PlayerCommand) → r < t → Grows r k r (put t (k t ++ x ∷ []) k)
 keeps_final r k t x h = record { more = omega arith; final = λ u le. put_other t (k t ++ x ∷ []) k u (λ e. absurd (omega arith)) }
@@ -56,13 +50,15 @@ keeps_final r k t x h = record { more = omega arith; final = λ u le. put_other 
 pub plays_kept : (setup : Setup) (r : ℕ) (k : ℕ → List PlayerCommand) (done : ℕ) (o : Seat) (ups : List Up) (downs : List Down) (t : ℕ) (item : PlayerCommand)
     → r < t → Plays setup r k done o ups downs → Plays setup r (put t (k t ++ item ∷ []) k) done o ups (downs ++ down.Command t item ∷ [])
 plays_kept setup r k done o ups downs t item h p =
-    plays_told setup r r k (put t (k t ++ item ∷ []) k) done o ups downs (down.Command t item ∷ []) p (keeps_final r k t item h) p.low (λ l le. ((let a = h in omega arith), tt)) same
+    plays_told setup r r k (put t (k t ++ item ∷ []) k) done o ups downs (down.Command t item ∷ []) p (keeps_final r k t item h) p.low
+    (λ l le. ((let a = h in omega arith), tt)) same
   where
     by : (u : ℕ) → (t ≡ u) ⊎ (t ≡ u → ⊥) → k u ++ commands_at u (down.Command t item ∷ []) ≡ put t (k t ++ item ∷ []) k u
     by u (inl e) =
         subst (λ v. k v ++ commands_at v (down.Command t item ∷ []) ≡ put t (k t ++ item ∷ []) k v) e
         (ap (λ (l : List PlayerCommand). k t ++ l) (cond-true _ (item ∷ []) [] (eq-eqb t t refl)) ∙ sym (put_same t (k t ++ item ∷ []) k))
-    by u (inr apart) = ap (λ (l : List PlayerCommand). k u ++ l) (cond-false _ (item ∷ []) [] (ne_eqb t u apart)) ∙ append-nil (k u) ∙ sym (put_other t (k t ++ item ∷ []) k u (λ e. apart (sym e)))
+    by u (inr apart) = ap (λ (l : List PlayerCommand). k u ++ l) (cond-false _ (item ∷ []) [] (ne_eqb t u apart)) ∙ append-nil (k u) ∙
+        sym (put_other t (k t ++ item ∷ []) k u (λ e. apart (sym e)))
 
     same : (u : ℕ) → k u ++ commands_at u (down.Command t item ∷ []) ≡ put t (k t ++ item ∷ []) k u
     same u = by u (cases_eq t u)
@@ -71,7 +67,8 @@ plays_kept setup r k done o ups downs t item h p =
 pub plays_released : (setup : Setup) (r r' : ℕ) (k : ℕ → List PlayerCommand) (done : ℕ) (o : Seat) (ups : List Up) (downs : List Down) → r ≤ r'
     → r' ≤ done → Plays setup r k done o ups downs → Plays setup r' k done o ups (downs ++ down.Release r' ∷ [])
 plays_released setup r r' k done o ups downs le high p =
-    plays_told setup r r' k k done o ups downs (down.Release r' ∷ []) p (record { more = le; final = λ t h. refl }) high (λ l h. ((omega arith), tt)) (λ t. append-nil (k t))
+    plays_told setup r r' k k done o ups downs (down.Release r' ∷ []) p (record { more = le; final = λ t h. refl }) high (λ l h. ((omega arith), tt))
+    (λ t. append-nil (k t))
 
 -- ---- what the client does itself
 
@@ -110,7 +107,8 @@ pub none_below : (setup : Setup) (r : ℕ) (k : ℕ → List PlayerCommand) (low
 none_below setup r k low u [] le h = refl
 none_below setup r k low u (down.Ask j ∷ downs) le h = none_below setup r k low u downs le h
 none_below setup r k low u (down.State done past ∷ downs) le h = none_below setup r k low u downs le h.1
-none_below setup r k low u (down.Command t x ∷ downs) le h = cond-false _ _ _ (ne_eqb t u (let a = h.0 in λ e. absurd (omega arith))) ∙ none_below setup r k low u downs le h.1
+none_below setup r k low u (down.Command t x ∷ downs) le h = cond-false _ _ _ (ne_eqb t u (let a = h.0 in λ e. absurd (omega arith))) ∙
+    none_below setup r k low u downs le h.1
 none_below setup r k low u (down.Release t ∷ downs) le h = none_below setup r k (max low t) u downs (omega arith) h.1
 none_below setup r k low u (down.Notice t j ∷ downs) le h = none_below setup r k low u downs le h
 none_below setup r k low u (down.Refused code ∷ downs) le h = none_below setup r k low u downs le h
@@ -166,7 +164,8 @@ player_in : (setup : Setup) (xs : List PlayerCommand) (x : PlayerCommand) (ys : 
     → IsOrderOf setup x
 player_in setup xs x ys h = All-head (IsOrderOf setup) x ys (all_right (IsOrderOf setup) xs (x ∷ ys) h)
 
-pub plays_learned : (setup : Setup) (r : ℕ) (k : ℕ → List PlayerCommand) (done : ℕ) (o : Seat) (ups : List Up) (t : ℕ) (item : PlayerCommand) (downs : List Down)
+pub plays_learned : (setup : Setup) (r : ℕ) (k : ℕ → List PlayerCommand) (done : ℕ) (o : Seat) (ups : List Up) (t : ℕ) (item : PlayerCommand)
+    (downs : List Down)
     → ((u : ℕ) → AllPlayers setup (k u)) → Plays setup r k done o ups (down.Command t item ∷ downs)
     → Plays setup r k done (learns setup t item o) ups downs
 plays_learned setup r k done o ups t item downs players p =
@@ -176,7 +175,8 @@ plays_learned setup r k done o ups t item downs players p =
     above = let a = p.behind in let b = p.pipe.0 in omega arith
 
     here : o.known t ++ item ∷ commands_at t downs ≡ k t
-    here = ap (λ (l : List PlayerCommand). o.known t ++ l) (sym (cond-true _ (item ∷ commands_at t downs) (commands_at t downs) (eq-eqb t t refl))) ∙ p.commands t above
+    here = ap (λ (l : List PlayerCommand). o.known t ++ l) (sym (cond-true _ (item ∷ commands_at t downs) (commands_at t downs) (eq-eqb t t refl))) ∙
+        p.commands t above
 
     is_one : IsOrderOf setup item
     is_one = player_in setup (o.known t) item (commands_at t downs) (subst (λ (l : List PlayerCommand). AllPlayers setup l) (sym here) (players t))
@@ -190,7 +190,8 @@ plays_learned setup r k done o ups t item downs players p =
     by : (u : ℕ) → turns_in o.past < u → (t ≡ u) ⊎ (t ≡ u → ⊥) → more.known u ++ commands_at u downs ≡ k u
     by u over (inl e) =
         subst (λ v. more.known v ++ commands_at v downs ≡ k v) e
-        (ap (λ (l : List PlayerCommand). l ++ commands_at t downs) (put_same t (o.known t ++ item ∷ []) o.known) ∙ append_assoc (o.known t) (item ∷ []) (commands_at t downs) ∙ here)
+        (ap (λ (l : List PlayerCommand). l ++ commands_at t downs) (put_same t (o.known t ++ item ∷ []) o.known) ∙ append_assoc (o.known t) (item ∷ [])
+        (commands_at t downs) ∙ here)
     by u over (inr apart) =
         ap (λ (l : List PlayerCommand). l ++ commands_at u downs) (put_other t (o.known t ++ item ∷ []) o.known u (λ e. apart (sym e)))
         ∙ ap (λ (l : List PlayerCommand). o.known u ++ l) (sym (cond-false _ (item ∷ commands_at u downs) (commands_at u downs) (ne_eqb t u apart)))
@@ -199,7 +200,8 @@ plays_learned setup r k done o ups t item downs players p =
     known : (u : ℕ) → (u ≡ t) ⊎ (u ≡ t → ⊥) → AllPlayers setup (more.known u)
     known u (inl e) =
         subst (λ v. AllPlayers setup (more.known v)) (sym e)
-        (subst (λ (l : List PlayerCommand). AllPlayers setup l) (sym (put_same t (o.known t ++ item ∷ []) o.known)) (all_players_append setup (o.known t) item (p.players t) is_one))
+        (subst (λ (l : List PlayerCommand). AllPlayers setup l) (sym (put_same t (o.known t ++ item ∷ []) o.known))
+        (all_players_append setup (o.known t) item (p.players t) is_one))
     known u (inr apart) = subst (λ (l : List PlayerCommand). AllPlayers setup l) (sym (put_other t (o.known t ++ item ∷ []) o.known u apart)) (p.players u)
 
     now : Plays setup r k done more ups downs
@@ -266,12 +268,17 @@ pub plays_heard : (setup : Setup) (r : ℕ) (k : ℕ → List PlayerCommand) (do
     → ((u : ℕ) → AllPlayers setup (k u)) → Plays setup r k done o ups (x ∷ downs)
     → PlaysAfter setup r k done ups downs (hears setup c (On o) x)
 plays_heard setup r k done c o ups (down.Ask j) downs players p =
-    plays_said setup r k done o o ups (up.State j (turns_in o.past) o.past ∷ []) downs (heard_nothing setup r k done o ups (down.Ask j) downs p p.pipe (λ u. refl)) refl refl refl (refl, p.past, refl)
-plays_heard setup r k done c o ups (down.State d past) downs players p = says_nothing setup r k done o ups downs (heard_nothing setup r k done o ups (down.State d past) downs p p.pipe.1 (λ u. refl))
-plays_heard setup r k done c o ups (down.Command t x) downs players p = says_nothing setup r k done _ ups downs (plays_learned setup r k done o ups t x downs players p)
+    plays_said setup r k done o o ups (up.State j (turns_in o.past) o.past ∷ []) downs (heard_nothing setup r k done o ups (down.Ask j) downs p p.pipe
+    (λ u. refl)) refl refl refl (refl, p.past, refl)
+plays_heard setup r k done c o ups (down.State d past) downs players p = says_nothing setup r k done o ups downs
+    (heard_nothing setup r k done o ups (down.State d past) downs p p.pipe.1 (λ u. refl))
+plays_heard setup r k done c o ups (down.Command t x) downs players p = says_nothing setup r k done _ ups downs
+    (plays_learned setup r k done o ups t x downs players p)
 plays_heard setup r k done c o ups (down.Release t) downs players p = says_nothing setup r k done _ ups downs (heard_release setup r k done o ups t downs p)
-plays_heard setup r k done c o ups (down.Notice t j) downs players p = says_nothing setup r k done o ups downs (heard_nothing setup r k done o ups (down.Notice t j) downs p p.pipe (λ u. refl))
-plays_heard setup r k done c o ups (down.Refused code) downs players p = says_nothing setup r k done o ups downs (heard_nothing setup r k done o ups (down.Refused code) downs p p.pipe (λ u. refl))
+plays_heard setup r k done c o ups (down.Notice t j) downs players p = says_nothing setup r k done o ups downs
+    (heard_nothing setup r k done o ups (down.Notice t j) downs p p.pipe (λ u. refl))
+plays_heard setup r k done c o ups (down.Refused code) downs players p = says_nothing setup r k done o ups downs
+    (heard_nothing setup r k done o ups (down.Refused code) downs p p.pipe (λ u. refl))
 
 pub plays_ordered : (setup : Setup) (r : ℕ) (k : ℕ → List PlayerCommand) (done c : ℕ) (x : Command) (o : Seat) (ups : List Up) (downs : List Down)
     → Plays setup r k done o ups downs → PlaysAfter setup r k done ups downs (orders setup c x (On o))
@@ -289,7 +296,8 @@ plays_told_up setup r k done c o ups downs p = by (may_tell_done setup o) refl
     by : (b : Bool) → may_tell_done setup o ≡ b → PlaysAfter setup r k done ups downs (if b then told_with_done setup c o else told_alone setup c o)
     by true e =
         let room : o.done < min setup.turns (turns_in o.past + setup.delay) = ltb-true _ _ e in
-        plays_said setup r k done o (record o { done = suc o.done; orders = 0 }) ups (report_of setup o ∷ up.Done (suc o.done) ∷ []) downs p refl refl refl (refl, (omega arith), (let a = p.past.turn in omega arith), refl)
+        plays_said setup r k done o (record o { done = suc o.done; orders = 0 }) ups (report_of setup o ∷ up.Done (suc o.done) ∷ []) downs p refl refl refl
+        (refl, (omega arith), (let a = p.past.turn in omega arith), refl)
     by false e = plays_said setup r k done o o ups (report_of setup o ∷ []) downs p refl refl refl refl
 
 pub plays_plays : (setup : Setup) (r : ℕ) (k : ℕ → List PlayerCommand) (done c : ℕ) (o : Seat) (ups : List Up) (downs : List Down)

@@ -1,22 +1,11 @@
 -- Where nobody is bent, no report differs from the first of its turn.
-use Rattle.std.proofs.Common.{◌≡◌, ℕ, Bool, true, false, List, [], ◌∷◌, All, refl, sym, ap, ◌∙◌, if◌then◌else◌, Option, Some, None}
-use Rattle.std.specs.Prelude.{filter, map, not, ◌==◌}
-use Rattle.std.proofs.lemmas.Bool.{eqb-true}
-use Rattle.std.proofs.lemmas.Slice.Eq.{bytes_eq-Decides}
-use Rattle.std.proofs.lemmas.List.Elements.{All-nil, All-cons, All-head, All-tail, All-append, All-weaker}
-use Rattle.sim_base.specs.declared.setup.Setup.{Setup}
-use Rattle.sim_base.specs.Turn.{Past}
+use Rattle.sim_plain.specs.Notices.{report_of}
+use Rattle.sim_session_laws.proofs.Common.{All-append, All-cons, All-head, All-nil, All-tail, All-weaker, ap, Arrival, bytes_eq-Decides, Cut, differs, eqb-true}
+use Rattle.sim_session_laws.proofs.Common.{first_mark, Heard, is_accepted, NoticesNeedBends, Past, Report, reports, Rules, rules_of, Server, server_after}
+use Rattle.sim_session_laws.proofs.Common.{session, Setup, sym, ◌∙◌}
+use Rattle.sim_session_laws.proofs.Common.{◌≡◌, ℕ, Bool, true, false, not, List, [], ◌∷◌, map, if◌then◌else◌, ◌==◌, Some, None, All, filter, Option, refl}
+use Rattle.sim_session_laws.proofs.Straight.{IsStraightArrival, mark_at, straight_session}
 use Rattle.sim_plain.specs.declared.message.UpOf.TheVariants as up
-use Rattle.sim_plain.specs.declared.rules.Rules.{Rules}
-use Rattle.sim_plain.specs.History.{is_accepted}
-use Rattle.sim_plain.specs.Messages.{Arrival, Heard, Cut}
-use Rattle.sim_plain.specs.Notices.{Report, report_of, reports, first_mark}
-use Rattle.sim_plain.specs.Posts.{differs}
-use Rattle.sim_plain.specs.Server.{Server, server_after}
-use Rattle.sim_plain_session.specs.Pasts.{rules_of}
-use Rattle.sim_plain_session.specs.Sessions.{session}
-use Rattle.sim_session_laws.specs.Reports.{NoticesNeedBends}
-use Rattle.sim_session_laws.proofs.Straight.{mark_at, IsStraightArrival, straight_session}
 
 -- a report says what all of its turn say
 abbrev Agrees : Setup → Server → Report → Type 0

@@ -1,25 +1,14 @@
 -- Each report of a session was the mark of its sender.
-use Rattle.std.proofs.Common.{◌≡◌, inl, inr, ℕ, suc, ◌==◌, Bool, true, false, List, [], ◌∷◌, ◌++◌, All, refl, subst, if◌then◌else◌, ap, ◌∙◌, append_assoc, append-nil, sym}
-use Rattle.std.specs.Prelude.{ℤ}
-use Rattle.std.proofs.lemmas.Bool.{eqb-true}
-use Rattle.std.proofs.lemmas.List.Elements.{All-nil, All-cons, All-head, All-tail, All-append, All-weaker}
-use Rattle.sim_base.specs.declared.command.Command.{Command}
-use Rattle.sim_base.specs.declared.setup.Setup.{Setup}
-use Rattle.sim_base.specs.declared.step.Step.{Step}
+use Rattle.sim_session_laws.proofs.Common.{All-cons, All-head, All-nil, All-tail, All-weaker, ap, append-nil, append_assoc, Arrival, bends, bent_seat, Carries}
+use Rattle.sim_session_laws.proofs.Common.{client_of, Command, Cut, Down, eqb-true, falls, Heard, hears, idle, inl, inr, is_client, Joining, joins, leaves}
+use Rattle.sim_session_laws.proofs.Common.{mark_of, may_bend, may_order, may_play, may_tell_done, Off, On, ordered, orders, Past, Phase, played, plays, put}
+use Rattle.sim_session_laws.proofs.Common.{put_same, refused, report_of, ReportsAreMarks, rises, row_of, Seat, Session, session, session_goes_on, Setup}
+use Rattle.sim_session_laws.proofs.Common.{shows_bend, state_of, Step, stepped, stepped_by, subst, sym, told, told_alone, told_with_done, turns_in, Up, WasMark}
+use Rattle.sim_session_laws.proofs.Common.{◌∙◌}
+use Rattle.sim_session_laws.proofs.Common.{◌≡◌, ℕ, suc, Bool, true, false, List, [], ◌∷◌, ◌++◌, ℤ, if◌then◌else◌, ◌==◌, All, refl, Acted, acts, All-append}
 use Rattle.sim_base.specs.declared.step.Step.TheVariants as step
-use Rattle.sim_base.specs.Rows.{row_of}
-use Rattle.sim_base.specs.Turn.{Past, may_bend, turns_in}
-use Rattle.sim_plain.specs.declared.message.UpOf.TheVariants as up
 use Rattle.sim_plain.specs.declared.message.DownOf.TheVariants as down
-use Rattle.sim_plain.specs.Functions.{put}
-use Rattle.sim_plain.specs.Messages.{Arrival, Heard, Cut}
-use Rattle.sim_plain_session.specs.Clients.{Up, Down, Seat, Phase, Off, Joining, On, Acted, state_of, may_order, ordered, idle, orders, may_play, played, may_tell_done, told_with_done, told_alone, told, plays, joins, shows_bend, bent_seat, bends, refused, hears, mark_of, report_of}
-use Rattle.sim_plain_session.specs.Laws.{Carries}
-use Rattle.sim_plain_session.specs.Pasts.{is_client}
-use Rattle.sim_plain_session.specs.Sessions.{Session, acts, rises, falls, leaves, client_of, stepped_by, stepped, session}
-use Rattle.sim_plain_session.proofs.Functions.{put_same}
-use Rattle.sim_plain_session.proofs.GoingOn.{session_goes_on}
-use Rattle.sim_session_laws.specs.Reports.{WasMark, ReportsAreMarks}
+use Rattle.sim_plain.specs.declared.message.UpOf.TheVariants as up
 
 -- something is so of the turn and the bytes of a report
 abbrev Says : (ℕ → List ℕ → Type 0) → Up → Type 0
@@ -218,7 +207,8 @@ was_then setup active steps x c t g h =
     }
 
 -- and what a client is now it was after all steps
-is_now : (setup : Setup) (active : ℕ) (steps : List Step) (x : Step) → IsOf setup (WasMark setup active (steps ++ x ∷ [])) (stepped setup (session setup active steps) x)
+is_now : (setup : Setup) (active : ℕ) (steps : List Step) (x : Step) → IsOf setup (WasMark setup active (steps ++ x ∷ []))
+    (stepped setup (session setup active steps) x)
 is_now setup active steps x c t g own =
     record {
       seat = own.0;

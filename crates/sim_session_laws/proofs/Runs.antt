@@ -1,26 +1,21 @@
 -- Every session that a list of steps reaches.
-use Rattle.std.proofs.Common.{◌≡◌, ℕ, ◌≤◌, min, Bool, true, false, true≢false, List, [], ◌∷◌, refl, sym, ◌∙◌, arith, if◌then◌else◌, nat_lt, nat_le}
-use Rattle.std.proofs.lemmas.Bool.{and_parts, and_from, leb-true, le-leb, cond-false}
-use Rattle.sim_base.specs.declared.setup.Setup.{Setup}
-use Rattle.sim_base.specs.declared.step.Step.{Step}
+use Rattle.sim_session_laws.proofs.{Common.true≢false, Common.◌∙◌, CutSteps.holds_leaves, Invariant.Fits, Invariant.Holds, UpSteps.holds_up}
+use Rattle.sim_session_laws.proofs.ClientSteps.{holds_bend, holds_down, holds_join, holds_order, holds_play}
+use Rattle.sim_session_laws.proofs.Common.{and_from, and_parts, arith, begun, client_of, cond-false, In, is_active, is_client, IsItemOf, IsOrderOf, le-leb}
+use Rattle.sim_session_laws.proofs.Common.{leb-true, Off, On, opened, opening, Out, rules_of, Session, session, Setup, Step, stepped, stepped_by, sym}
+use Rattle.sim_session_laws.proofs.Common.{◌≡◌, ℕ, ◌≤◌, min, Bool, true, false, List, [], ◌∷◌, if◌then◌else◌, nat_lt, nat_le, refl, after_steps, All-nil}
 use Rattle.sim_base.specs.declared.step.Step.TheVariants as step
-use Rattle.sim_laws.specs.CommandLaws.{IsOrderOf}
-use Rattle.sim_laws.specs.TurnLaws.{IsItemOf}
-use Rattle.std.proofs.lemmas.List.Elements.{All-nil}
-use Rattle.sim_plain.specs.declared.status.Status.TheVariants.{Out, In}
-use Rattle.sim_plain.specs.Server.{opening}
-use Rattle.sim_plain_session.specs.Clients.{Off, On, begun}
-use Rattle.sim_plain_session.specs.Pasts.{rules_of, is_client}
-use Rattle.sim_plain_session.specs.Sessions.{Session, is_active, opened, client_of, stepped_by, stepped, after_steps, session}
-use Rattle.sim_session_laws.proofs.ClientSteps.{holds_order, holds_play, holds_bend, holds_join, holds_down}
-use Rattle.sim_session_laws.proofs.CutSteps.{holds_leaves}
-use Rattle.sim_session_laws.proofs.Invariant.{Fits, Holds}
-use Rattle.sim_session_laws.proofs.UpSteps.{holds_up}
 
 pub holds_opened : (setup : Setup) (active : ℕ) → active ≤ setup.players → Holds setup (opened setup active)
 holds_opened setup active few =
     record {
-      server = record { released = omega arith; players = λ t. All-nil (IsOrderOf setup); inside = λ t h. refl; clients = λ c none. cond-false _ _ _ (outside c none (is_active active c) refl) };
+      server = record {
+        released = omega arith;
+        players = λ t. All-nil (IsOrderOf setup);
+        inside = λ t h. refl;
+        clients =
+            λ c none. cond-false _ _ _ (outside c none (is_active active c) refl);
+      };
       each = λ c. by (is_active active c);
     }
   where

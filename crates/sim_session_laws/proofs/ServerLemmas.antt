@@ -1,24 +1,15 @@
 -- What the server does, as each client sees it.
-use Rattle.std.proofs.Common.{◌≡◌, ◌⊎◌, inl, inr, ℕ, zero, suc, ◌<◌, ◌≤◌, min, Bool, true, false, true≢false, ◌&&◌, List, [], ◌∷◌, ◌++◌, map, refl, sym, ap, ◌∙◌, subst, arith, append-nil, if◌then◌else◌, ◌==◌, nat_lt, nat_le, Option, Some, None, count_by}
-use Rattle.std.proofs.lemmas.Bool.{cases_eq, and_parts, eq-eqb, ne_eqb, eqb-true, ltb-true, leb-true, cond-true, cond-false}
-use Rattle.sim_base.specs.declared.command.Command.{Command}
-use Rattle.sim_base.specs.declared.command.PlayerCommand.{PlayerCommand}
-use Rattle.sim_base.specs.declared.setup.Setup.{Setup}
-use Rattle.sim_base.specs.Turn.{Past, turns_in}
-use Rattle.sim_plain.specs.declared.message.UpOf.TheVariants as up
+use Rattle.sim_session_laws.proofs.Common.{Heard, heard, In, inl, inr, is_by, is_client, is_in, is_out, Joining, keeps, least_done, least_in, leb-true, lesser}
+use Rattle.sim_session_laws.proofs.Common.{command_fault, commands_at, cond-false, cond-true, crowd_fault, differs, donor, Down, eq-eqb, eqb-true, first_or}
+use Rattle.sim_session_laws.proofs.Common.{ltb-true, ne_eqb, nobody, Off, On, Out, Past, Phase, PlayerCommand, posts, put, put_other, put_same, raised}
+use Rattle.sim_session_laws.proofs.Common.{nat_le, ◌==◌, Some, None, count_by, Option, refl, and_parts, ap, append-nil, arith, asked, begun, cases_eq, Command}
+use Rattle.sim_session_laws.proofs.Common.{raised_to, refusal, release, report_fault, reported, rules_of, Seat, seat, Server, Setup, Status, subst, sym, to_all}
+use Rattle.sim_session_laws.proofs.Common.{true≢false, turns_in, unless, Up, Waiting, with_status, ◌∙◌}
+use Rattle.sim_session_laws.proofs.Common.{◌≡◌, ℕ, zero, suc, ◌<◌, ◌≤◌, min, Bool, true, false, ◌&&◌, ◌⊎◌, List, [], ◌∷◌, ◌++◌, map, if◌then◌else◌, nat_lt}
+use Rattle.sim_session_laws.proofs.Invariant.{Fits, GoodDowns, Plays}
+use Rattle.sim_session_laws.proofs.PlaysLemmas.{plays_kept, plays_posted, plays_released, plays_told}
 use Rattle.sim_plain.specs.declared.message.DownOf.TheVariants as down
-use Rattle.sim_plain.specs.declared.status.Status.{Status}
-use Rattle.sim_plain.specs.declared.status.Status.TheVariants.{Out, Waiting, In}
-use Rattle.sim_plain.specs.Functions.{put}
-use Rattle.sim_plain.specs.Messages.{Heard}
-use Rattle.sim_plain.specs.Server.{Server, is_out, is_in, first_or, least_in, lesser, least_done, raised_to, donor, seat, with_status, raised, keeps, reported, is_by, crowd_fault, command_fault, report_fault, unless, heard}
-use Rattle.sim_plain.specs.Posts.{nobody, to_all, release, asked, refusal, differs, posts}
-use Rattle.sim_plain_session.proofs.Functions.{put_same, put_other}
-use Rattle.sim_plain_session.specs.Clients.{Up, Down, Seat, Phase, Off, Joining, On, begun}
-use Rattle.sim_plain_session.specs.Pasts.{rules_of, is_client}
-use Rattle.sim_session_laws.proofs.Invariant.{GoodDowns, Plays, Fits}
-use Rattle.sim_session_laws.proofs.PlaysLemmas.{plays_told, plays_posted, plays_kept, plays_released}
-use Rattle.sim_session_laws.specs.Pipes.{commands_at}
+use Rattle.sim_plain.specs.declared.message.UpOf.TheVariants as up
 
 -- ---- the least
 
@@ -89,7 +80,8 @@ raised_bound status (suc n) r top le h = lesser_bound (status (suc n)) (least_do
 abbrev pub Told : Setup → Server → Server → Status → List Down → Type 0
 Told setup s s' Out news = news ≡ []
 Told setup s s' (Waiting j) news = (news ≡ []) × (is_in (s.status j) ≡ true → is_in (s'.status j) ≡ true)
-Told setup s s' (In done) news = (o : Seat) (ups : List Up) (downs : List Down) → Plays setup s.released s.kept done o ups downs → Plays setup s'.released s'.kept done o ups (downs ++ news)
+Told setup s s' (In done) news = (o : Seat) (ups : List Up) (downs : List Down) → Plays setup s.released s.kept done o ups downs
+    → Plays setup s'.released s'.kept done o ups (downs ++ news)
 
 pub fits_told : (setup : Setup) (s s' : Server) (st : Status) (news : List Down) (ph : Phase) (ups : List Up) (downs : List Down)
     → Told setup s s' st news → Fits setup s st ph ups downs → Fits setup s' st ph ups (downs ++ news)
@@ -98,7 +90,8 @@ fits_told setup s s' Out news Joining ups downs t (inl h) = inl (h.0, λ i. h.1 
 fits_told setup s s' Out news Joining ups downs t (inr h) = inr (h.0, λ i. h.1 i ++ t i)
 fits_told setup s s' Out news (On o) ups downs t h = absurd h
 fits_told setup s s' (Waiting j) news Off ups downs t h = absurd h
-fits_told setup s s' (Waiting j) news Joining ups downs t h = record { nothing = record { no_ups = h.nothing.no_ups; no_downs = λ i. h.nothing.no_downs i ++ t.0 i }; there = t.1 h.there }
+fits_told setup s s' (Waiting j) news Joining ups downs t h =
+    record { nothing = record { no_ups = h.nothing.no_ups; no_downs = λ i. h.nothing.no_downs i ++ t.0 i }; there = t.1 h.there }
 fits_told setup s s' (Waiting j) news (On o) ups downs t h = absurd h
 fits_told setup s s' (In done) news Off ups downs t h = absurd h
 fits_told setup s s' (In done) news Joining ups downs t h =
@@ -128,7 +121,8 @@ told_quiet setup s s' (In done) news a b stay quiet none = λ o ups downs p.
     (plays_posted setup s.released s.kept done o ups downs news p (quiet.good s.released s.kept) quiet.none)
 
 pub told_all : (setup : Setup) (s s' : Server) (st : Status) (x : Down) → Stay s s'
-    → ((done : ℕ) (o : Seat) (ups : List Up) (downs : List Down) → st ≡ In done → Plays setup s.released s.kept done o ups downs → Plays setup s'.released s'.kept done o ups (downs ++ x ∷ []))
+    → ((done : ℕ) (o : Seat) (ups : List Up) (downs : List Down) → st ≡ In done → Plays setup s.released s.kept done o ups downs
+    → Plays setup s'.released s'.kept done o ups (downs ++ x ∷ []))
     → Told setup s s' st (if is_in st then x ∷ [] else [])
 told_all setup s s' Out x stay h = refl
 told_all setup s s' (Waiting j) x stay h = (refl, stay j)
@@ -161,7 +155,8 @@ release_is status r r' d = by (nat_lt r r')
 pub told_raised : (setup : Setup) (s : Server) (d : ℕ) → ((c : ℕ) → is_client setup c ≡ false → s.status c ≡ Out)
     → Told setup s (raised (rules_of setup) s) (s.status d) (release s.status s.released (raised (rules_of setup) s).released d)
 told_raised setup s d inside =
-    subst (λ (l : List Down). Told setup s (raised (rules_of setup) s) (s.status d) l) (sym (release_is s.status s.released r' d)) (by (s.status d) refl (nat_lt s.released r') refl)
+    subst (λ (l : List Down). Told setup s (raised (rules_of setup) s) (s.status d) l) (sym (release_is s.status s.released r' d))
+    (by (s.status d) refl (nat_lt s.released r') refl)
   where
     r' : ℕ
     r' = (raised (rules_of setup) s).released
@@ -183,7 +178,8 @@ told_raised setup s d inside =
         plays_released setup s.released r' s.kept done o ups downs (raised_more s.released (least_done s.status setup.players)) (least done e p.low) p
     by (In done) e false f = λ o ups downs p.
         plays_told setup s.released r' s.kept s.kept done o ups downs [] p
-        (record { more = raised_more s.released (least_done s.status setup.players); final = λ t h. refl }) (least done e p.low) (λ l h. tt) (λ t. append-nil (s.kept t))
+        (record { more = raised_more s.released (least_done s.status setup.players); final = λ t h. refl }) (least done e p.low) (λ l h. tt)
+        (λ t. append-nil (s.kept t))
 
 -- ---- one arrival
 
@@ -194,7 +190,8 @@ pub record Goes (setup : Setup) (s s' : Server) (news : List Down) (d : ℕ) : T
 
 pub fits_goes : (setup : Setup) (s s' : Server) (news : List Down) (d : ℕ) (ph : Phase) (ups : List Up) (downs : List Down) → Goes setup s s' news d
     → Fits setup s (s.status d) ph ups downs → Fits setup s' (s'.status d) ph ups (downs ++ news)
-fits_goes setup s s' news d ph ups downs g h = subst (λ (st : Status). Fits setup s' st ph ups (downs ++ news)) (sym g.same) (fits_told setup s s' (s.status d) news ph ups downs g.told h)
+fits_goes setup s s' news d ph ups downs g h = subst (λ (st : Status). Fits setup s' st ph ups (downs ++ news)) (sym g.same)
+    (fits_told setup s s' (s.status d) news ph ups downs g.told h)
 
 pub goes_nothing : (setup : Setup) (s : Server) (d : ℕ) → Goes setup s s [] d
 goes_nothing setup s d = record { same = refl; told = told_quiet setup s s (s.status d) [] refl refl (λ j h. h) (quiet_none setup) (λ e. refl) }
@@ -213,7 +210,8 @@ goes_one setup s s' c d news a b stay same here quiet = by (cases_eq d c)
         let in_here : is_in (s.status d) ≡ true = subst (λ x. is_in (s.status x) ≡ true) (sym e) here in
         record {
           same = same;
-          told = told_quiet setup s s' (s.status d) out a b stay (subst (λ (l : List Down). IsQuiet setup l) (sym now) quiet) (λ f. absurd (true≢false (sym in_here ∙ f)));
+          told = told_quiet setup s s' (s.status d) out a b stay (subst (λ (l : List Down). IsQuiet setup l) (sym now) quiet)
+              (λ f. absurd (true≢false (sym in_here ∙ f)));
         }
     by (inr apart) =
         let now : out ≡ [] = cond-false _ news [] (ne_eqb d c apart) in
@@ -235,7 +233,8 @@ goes_command setup s c t d done x e low = by (command_fault (rules_of setup) (s.
     above (Waiting j) f g = absurd (cc)
     above (In n) f g = let same : n ≡ done = cc in test same (t == suc n && nat_le t setup.turns) refl g
       where
-        test : n ≡ done → (b : Bool) → (t == suc n && nat_le t setup.turns) ≡ b → (let o : Option ℕ = (if b then crowd_fault (nat_lt (count_by (is_by c) (s.kept t)) 64) else Some 2) in o ≡ None) → s.released < t
+        test : n ≡ done → (b : Bool) → (t == suc n && nat_le t setup.turns) ≡ b
+            → (let o : Option ℕ = (if b then crowd_fault (nat_lt (count_by (is_by c) (s.kept t)) 64) else Some 2) in o ≡ None) → s.released < t
         test same true k g = let next : t ≡ suc n = eqb-true t (suc n) ((and_parts _ _ k).0) in omega arith
         test same false k g = absurd (cc)
 
@@ -244,7 +243,8 @@ goes_command setup s c t d done x e low = by (command_fault (rules_of setup) (s.
     by None f =
         record {
           same = refl;
-          told = told_all setup s (keeps t item s) (s.status d) (down.Command t item) (λ j h. h) (λ n o ups downs k p. plays_kept setup s.released s.kept n o ups downs t item (above (s.status c) e f) p);
+          told = told_all setup s (keeps t item s) (s.status d) (down.Command t item) (λ j h. h)
+              (λ n o ups downs k p. plays_kept setup s.released s.kept n o ups downs t item (above (s.status c) e f) p);
         }
     by (Some code) f = goes_one setup s s c d (down.Refused code ∷ []) refl refl (λ j h. h) refl (ap is_in e) (quiet_refused setup code)
 
@@ -261,7 +261,8 @@ goes_report setup s c t g d here = by (report_fault s.released t (s.status c)) (
     by None true =
         record {
           same = refl;
-          told = told_all setup s s1 (s.status d) (down.Notice t c) (λ j h. h) (λ n o ups downs k p. plays_posted setup s.released s.kept n o ups downs (down.Notice t c ∷ []) p (λ l. tt) (λ u. refl));
+          told = told_all setup s s1 (s.status d) (down.Notice t c) (λ j h. h) (λ n o ups downs k p. plays_posted setup s.released s.kept n o ups downs
+              (down.Notice t c ∷ []) p (λ l. tt) (λ u. refl));
         }
     by None false = record { same = refl; told = told_quiet setup s s1 (s.status d) [] refl refl (λ j h. h) (quiet_none setup) (λ e. refl) }
     by (Some code) b = goes_one setup s s c d (down.Refused code ∷ []) refl refl (λ j h. h) refl here (quiet_refused setup code)
@@ -272,7 +273,8 @@ pub goes_join_again : (setup : Setup) (s : Server) (c d : ℕ) → is_out (s.sta
 goes_join_again setup s c d e = by (is_out (s.status c)) e
   where
     by : (b : Bool) → b ≡ false
-        → Goes setup s (if b then with_status c (seat (donor (rules_of setup) s)) s else s) ((if b then asked {B = Past} (donor (rules_of setup) s) (c ∷ []) (λ x. x == c) else nobody) d) d
+        → Goes setup s (if b then with_status c (seat (donor (rules_of setup) s)) s else s)
+        ((if b then asked {B = Past} (donor (rules_of setup) s) (c ∷ []) (λ x. x == c) else nobody) d) d
     by true f = absurd (true≢false f)
     by false f = goes_nothing setup s d
 
@@ -282,7 +284,8 @@ pub stay_put : (s : Server) (c : ℕ) (st : Status) → (is_in (s.status c) ≡ 
 stay_put s c st h j e = by (cases_eq j c)
   where
     by : (j ≡ c) ⊎ (j ≡ c → ⊥) → is_in (put c st s.status j) ≡ true
-    by (inl same) = subst (λ x. is_in (put c st s.status x) ≡ true) (sym same) (ap is_in (put_same c st s.status) ∙ h (subst (λ x. is_in (s.status x) ≡ true) same e))
+    by (inl same) = subst (λ x. is_in (put c st s.status x) ≡ true) (sym same) (ap is_in (put_same c st s.status) ∙
+        h (subst (λ x. is_in (s.status x) ≡ true) same e))
     by (inr apart) = ap is_in (put_other c st s.status j apart) ∙ e
 
 -- A state that is accepted, for a client other than the one that loads.
@@ -293,5 +296,6 @@ goes_state setup s j d entry news apart =
     let same : put j (In entry) s.status d ≡ s.status d = put_other j (In entry) s.status d apart in
     record {
       same = same;
-      told = told_quiet setup s (with_status j (In entry) s) (s.status d) _ refl refl (stay_put s j (In entry) (λ h. refl)) (subst (λ (l : List Down). IsQuiet setup l) (sym now) (quiet_none setup)) (λ f. now);
+      told = told_quiet setup s (with_status j (In entry) s) (s.status d) _ refl refl (stay_put s j (In entry) (λ h. refl))
+          (subst (λ (l : List Down). IsQuiet setup l) (sym now) (quiet_none setup)) (λ f. now);
     }

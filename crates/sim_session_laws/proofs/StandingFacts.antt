@@ -1,23 +1,11 @@
 -- Valid states, and who stands where.
-use Rattle.std.proofs.Common.{◌≡◌, ℕ, inl, inr, List, [], ◌∷◌, map, refl, sym, ap, subst, arith}
-use Rattle.sim_base.specs.declared.setup.Setup.{Setup}
-use Rattle.sim_plain.specs.declared.message.DownOf.{DownOf}
+use Rattle.sim_session_laws.proofs.{Fitting.fits_at, Fitting.Follows, Fitting.good_on, Fitting.good_pasts, Fitting.loads_at, Fitting.off_is, Runs.holds_session}
+use Rattle.sim_session_laws.proofs.Common.{NoStateIsRefused, OffIsOut, OnIsIn, Out, OutHasWish, Past, PastsAreValid, seat, Session, session, Setup, spelled}
+use Rattle.sim_session_laws.proofs.Common.{StatesHaveTurns, StrangersAreOut, subst, sym, Waiting, WaitingHasDonor}
+use Rattle.sim_session_laws.proofs.Common.{donor, Down, DownOf, HeardBytesSpellAState, InHasState, inl, inr, is_in, IsSetup, Joining, KnownAreOfPlayers}
+use Rattle.sim_session_laws.proofs.Common.{◌≡◌, ℕ, List, [], ◌∷◌, map, refl, after, after_counts_turns, after_is_valid, Always, ap, arith, Carries, carry_down}
+use Rattle.sim_session_laws.proofs.Invariant.{Holds, Waits}
 use Rattle.sim_plain.specs.declared.message.DownOf.TheVariants as down
-use Rattle.sim_plain.specs.Messages.{carry_down}
-use Rattle.sim_base.specs.Turn.{Past, after}
-use Rattle.sim_plain_session.specs.Bytes.{spelled}
-use Rattle.sim_plain.specs.declared.status.Status.TheVariants.{Out, Waiting}
-use Rattle.sim_plain.specs.Server.{is_in, donor, seat}
-use Rattle.sim_base.specs.Limits.{IsSetup}
-use Rattle.sim_laws.proofs.Turning.{after_counts_turns, after_is_valid}
-use Rattle.sim_plain_session.specs.Clients.{Down, Joining}
-use Rattle.sim_plain_session.specs.Laws.{Carries}
-use Rattle.sim_plain_session.specs.Sessions.{Session, session}
-use Rattle.sim_session_laws.proofs.Invariant.{Waits, Holds}
-use Rattle.sim_session_laws.proofs.Runs.{holds_session}
-use Rattle.sim_session_laws.specs.Always.{Always}
-use Rattle.sim_session_laws.specs.Standing.{PastsAreValid, KnownAreOfPlayers, StatesHaveTurns, NoStateIsRefused, HeardBytesSpellAState, OffIsOut, OnIsIn, OutHasWish, WaitingHasDonor, InHasState, StrangersAreOut}
-use Rattle.sim_session_laws.proofs.Fitting.{good_on, off_is, fits_at, good_pasts, loads_at, Follows}
 
 pub known_are_of_players : Follows KnownAreOfPlayers
 known_are_of_players setup s h c t seat e = (good_on setup s c seat h e).2.players t
@@ -32,7 +20,8 @@ pub out_has_wish : Follows OutHasWish
 out_has_wish setup s h c e out = fits_at setup s c Joining Out h e out
 
 pub waiting_has_donor : Follows WaitingHasDonor
-waiting_has_donor setup s h c donor e w = let f : Waits s.server donor (s.ups c) (s.downs c) = fits_at setup s c Joining (Waiting donor) h e w in (f.nothing.no_ups, f.nothing.no_downs, f.there)
+waiting_has_donor setup s h c donor e w = let f : Waits s.server donor (s.ups c) (s.downs c) = fits_at setup s c Joining (Waiting donor) h e w in
+    (f.nothing.no_ups, f.nothing.no_downs, f.there)
 
 pub in_has_state : Follows InHasState
 in_has_state setup s h c done e w = let f = loads_at setup s c done h e w in (f.empty, done, f.carried, f.rest, f.first)

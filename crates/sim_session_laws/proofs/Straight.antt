@@ -1,34 +1,19 @@
 -- A session in which nobody is bent: no past has a bend, and each report of a turn is the mark after the kept turns.
-use Rattle.std.proofs.Common.{◌≡◌, ℕ, zero, suc, ◌≤◌, ◌==◌, Bool, true, false, List, [], ◌∷◌, ◌++◌, All, map, refl, sym, ap, ◌∙◌, subst, arith}
-use Rattle.std.specs.Prelude.{nat_lt, min, filter, if◌then◌else◌, Option, Some, None, ◌&&◌, ◌+◌, ◌-◌}
-use Rattle.std.proofs.lemmas.List.Elements.{All-nil, All-cons, All-head, All-tail, All-append, All-weaker}
-use Rattle.sim_base.specs.declared.command.Command.{Command}
-use Rattle.sim_base.specs.declared.command.PlayerCommand.{PlayerCommand}
-use Rattle.sim_base.specs.declared.setup.Setup.{Setup}
-use Rattle.sim_base.specs.declared.step.Step.{Step}
-use Rattle.sim_base.specs.declared.step.Step.TheVariants as step
-use Rattle.sim_base.specs.Spelling.{mark}
-use Rattle.sim_base.specs.Turn.{Past, after, turns_in}
-use Rattle.sim_plain.specs.declared.message.UpOf.TheVariants as up
-use Rattle.sim_plain.specs.declared.message.DownOf.TheVariants as down
-use Rattle.sim_plain.specs.declared.status.Status.{Status}
-use Rattle.sim_plain.specs.declared.status.Status.TheVariants.{Out, In}
-use Rattle.sim_plain.specs.Functions.{put, up_to}
-use Rattle.sim_plain.specs.Messages.{Arrival, Heard, Cut}
-use Rattle.sim_plain.specs.Posts.{Posts, nobody, to_one, to_all, release, asked, refusal, kept_above, differs, loading, posts}
-use Rattle.sim_plain.specs.Server.{Server, is_in, is_out, waits_for, donor, with_status, raised, command_fault, done_fault, report_fault, takes_state, entry_done, heard}
-use Rattle.sim_plain_session.specs.Clients.{Up, Down, Seat, Phase, Off, Joining, On, Acted, mark_of, may_order, ordered, idle, orders, may_play, played, begun, may_tell_done, report_of, told_with_done, told_alone, told, plays, joins, learns, refused, hears}
-use Rattle.sim_plain_session.specs.Pasts.{rules_of, is_client, is_unbent, kept_turns}
-use Rattle.sim_plain_session.specs.Sessions.{Session, is_active, opened, acts, arrives, rises, falls, cut, leaves, client_of, stepped_by, stepped, after_steps, session}
-use Rattle.sim_plain_session.proofs.Functions.{put_same}
-use Rattle.sim_session_laws.specs.Reports.{is_bend}
-use Rattle.sim_session_laws.proofs.Basics.{kept_turns_final}
-use Rattle.sim_session_laws.proofs.ClientSteps.{holds_order, holds_play, holds_join, holds_down}
-use Rattle.sim_session_laws.proofs.Final.{Grown, heard_grows}
-use Rattle.sim_session_laws.proofs.Fitting.{good_on}
+use Rattle.sim_session_laws.proofs.{Basics.kept_turns_final, ClientSteps.holds_down, ClientSteps.holds_join, ClientSteps.holds_order, ClientSteps.holds_play}
+use Rattle.sim_session_laws.proofs.{Final.Grown, Final.heard_grows, Fitting.good_on, Runs.holds_opened, Runs.holds_stepped, TurnNumberFacts.dones_are_turns}
+use Rattle.sim_session_laws.proofs.Common.{All-nil, All-tail, All-weaker, ap, arith, Arrival, arrives, asked, begun, client_of, Command, command_fault, Cut}
+use Rattle.sim_session_laws.proofs.Common.{PlayerCommand, plays, Posts, posts, put, put_same, raised, refusal, refused, release, report_fault, report_of, rises}
+use Rattle.sim_session_laws.proofs.Common.{cut, differs, done_fault, donor, Down, entry_done, falls, Heard, heard, hears, idle, In, is_active, is_bend}
+use Rattle.sim_session_laws.proofs.Common.{is_client, is_in, is_out, is_unbent, Joining, joins, kept_above, kept_turns, learns, leaves, loading, mark, mark_of}
+use Rattle.sim_session_laws.proofs.Common.{may_order, may_play, may_tell_done, nobody, Off, On, opened, ordered, orders, Out, Past, Phase, played}
+use Rattle.sim_session_laws.proofs.Common.{rules_of, Seat, Server, Session, session, Setup, Status, Step, stepped, stepped_by, subst, sym, takes_state, to_all}
+use Rattle.sim_session_laws.proofs.Common.{to_one, told, told_alone, told_with_done, turns_in, Up, up_to, waits_for, with_status, ◌∙◌}
+use Rattle.sim_session_laws.proofs.Common.{◌==◌, Some, None, All, filter, Option, refl, Acted, acts, after, after_steps, All-append, All-cons, All-head}
+use Rattle.sim_session_laws.proofs.Common.{◌≡◌, ℕ, zero, suc, ◌+◌, ◌-◌, ◌≤◌, min, Bool, true, false, ◌&&◌, List, [], ◌∷◌, ◌++◌, map, if◌then◌else◌, nat_lt}
 use Rattle.sim_session_laws.proofs.Invariant.{Holds}
-use Rattle.sim_session_laws.proofs.Runs.{holds_opened, holds_stepped}
-use Rattle.sim_session_laws.proofs.TurnNumberFacts.{dones_are_turns}
+use Rattle.sim_base.specs.declared.step.Step.TheVariants as step
+use Rattle.sim_plain.specs.declared.message.DownOf.TheVariants as down
+use Rattle.sim_plain.specs.declared.message.UpOf.TheVariants as up
 
 -- what a report of a turn says where nobody was bent
 abbrev pub mark_at : Setup → Server → ℕ → List ℕ

@@ -1,17 +1,11 @@
 -- How far clients may be ahead, and what is released.
-use Rattle.std.proofs.Common.{◌≡◌, inr, ℕ, length, ◌+◌, ◌≤◌, List, [], ◌∷◌, refl, sym, ◌∙◌, arith}
-use Rattle.sim_base.specs.declared.command.PlayerCommand.{PlayerCommand}
-use Rattle.sim_base.specs.declared.setup.Setup.{Setup}
-use Rattle.sim_base.specs.Turn.{Past}
-use Rattle.sim_plain.specs.declared.message.UpOf.TheVariants as up
+use Rattle.sim_session_laws.proofs.Common.{DonesAreTurns, DonesGoOn, Down, GoOn, In, inr, Joining, Off, On, Past, Phase, PlayerCommand, ReleasedAreTurns}
+use Rattle.sim_session_laws.proofs.Common.{ReleasesAreReleased, seat, Server, Setup, StampsAreTurns, StateHasDone, sym, TurnsAreReleased, Up, ◌∙◌}
+use Rattle.sim_session_laws.proofs.Common.{◌≡◌, ℕ, ◌+◌, ◌≤◌, List, [], ◌∷◌, length, refl, arith, CarriedAreReleased, dones_in, DonesAreCounted, DonesAreNear}
+use Rattle.sim_session_laws.proofs.Fitting.{each_down_is_good, each_up_is_good, fits_at, Follows, good_on, good_pasts, loads_at, plays_at}
+use Rattle.sim_session_laws.proofs.Invariant.{Fits, GoodUps, Loads}
 use Rattle.sim_plain.specs.declared.message.DownOf.TheVariants as down
-use Rattle.sim_plain.specs.declared.status.Status.TheVariants.{In}
-use Rattle.sim_plain.specs.Server.{Server, seat}
-use Rattle.sim_plain_session.specs.Clients.{Up, Down, Phase, Off, Joining, On}
-use Rattle.sim_session_laws.proofs.Invariant.{GoodUps, Loads, Fits}
-use Rattle.sim_session_laws.specs.Pipes.{dones_in, GoOn}
-use Rattle.sim_session_laws.specs.TurnNumbers.{ReleasedAreTurns, DonesAreTurns, DonesAreCounted, DonesGoOn, DonesAreNear, StateHasDone, ReleasesAreReleased, TurnsAreReleased, CarriedAreReleased, StampsAreTurns}
-use Rattle.sim_session_laws.proofs.Fitting.{good_on, fits_at, each_up_is_good, each_down_is_good, good_pasts, loads_at, plays_at, Follows}
+use Rattle.sim_plain.specs.declared.message.UpOf.TheVariants as up
 
 count_dones : (setup : Setup) (r : ℕ) (k : ℕ → List PlayerCommand) (from own : ℕ) (ups : List Up) → GoodUps setup r k from own ups
     → own ≡ from + length (dones_in ups)
@@ -48,7 +42,8 @@ pub dones_are_turns : Follows DonesAreTurns
 dones_are_turns setup s h c done e = dones_of setup s.server done (s.client c) (s.ups c) (s.downs c) (fits_at setup s c (s.client c) (In done) h refl e)
 
 pub dones_are_counted : Follows DonesAreCounted
-dones_are_counted setup s h c done seat on e = count_dones setup s.server.released s.server.kept done seat.done (s.ups c) (plays_at setup s c done seat h on e).said
+dones_are_counted setup s h c done seat on e = count_dones setup s.server.released s.server.kept done seat.done (s.ups c)
+    (plays_at setup s c done seat h on e).said
 
 pub dones_go_on : Follows DonesGoOn
 dones_go_on setup s h c done seat on e = go_on setup s.server.released s.server.kept done seat.done (s.ups c) (plays_at setup s c done seat h on e).said

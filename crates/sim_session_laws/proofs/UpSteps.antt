@@ -1,29 +1,17 @@
 -- The server hears what a client says.
-use Rattle.std.proofs.Common.{◌≡◌, ◌⊎◌, inl, inr, ℕ, suc, ◌+◌, ◌-◌, ◌≤◌, Bool, true, false, true≢false, ◌&&◌, List, [], ◌∷◌, ◌++◌, refl, sym, ap, ◌∙◌, subst, arith, append-nil, if◌then◌else◌, ◌==◌, nat_lt, nat_le, Option, Some, None, count_by}
-use Rattle.std.proofs.lemmas.Bool.{cases_eq, and_parts, and_from, eq-eqb, ne_eqb, eqb-true, leb-true, le-leb, cond-true, cond-false}
-use Rattle.sim_base.specs.declared.command.Command.{Command}
-use Rattle.sim_base.specs.declared.command.PlayerCommand.{PlayerCommand}
-use Rattle.sim_base.specs.declared.setup.Setup.{Setup}
-use Rattle.sim_base.specs.Turn.{Past, turns_in}
-use Rattle.sim_plain.specs.declared.message.UpOf.TheVariants as up
+use Rattle.sim_session_laws.proofs.{Basics.all_players_append, Basics.player_is, ClientSteps.fits_as, LoadLemmas.plays_begun}
+use Rattle.sim_session_laws.proofs.Common.{Some, None, count_by, Option, refl, AllPlayers, and_from, and_parts, ap, append-nil, arith, arrives, asked, begun}
+use Rattle.sim_session_laws.proofs.Common.{cases_eq, Command, command_fault, cond-false, cond-true, crowd_fault, done_fault, donor, Down, entry_done, eq-eqb}
+use Rattle.sim_session_laws.proofs.Common.{eqb-true, Heard, heard, In, inl, inr, is_by, is_client, is_in, is_out, IsOrderOf, Joining, keeps, kept_above, le-leb}
+use Rattle.sim_session_laws.proofs.Common.{leb-true, loading, ne_eqb, nobody, Off, On, Out, Past, Phase, PlayerCommand, put, put_other, put_same, raised}
+use Rattle.sim_session_laws.proofs.Common.{refusal, release, report_fault, reported, rises, rules_of, Seat, seat, Server, Session, Setup, Status, subst, sym}
+use Rattle.sim_session_laws.proofs.Common.{taken, takes_state, to_one, true≢false, turn_fault, turns_in, unless, Up, Waiting, waits_for, with_status, ◌∙◌}
+use Rattle.sim_session_laws.proofs.Common.{◌≡◌, ℕ, suc, ◌+◌, ◌-◌, ◌≤◌, Bool, true, false, ◌&&◌, ◌⊎◌, List, [], ◌∷◌, ◌++◌, if◌then◌else◌, nat_lt, nat_le, ◌==◌}
+use Rattle.sim_session_laws.proofs.Invariant.{Fits, GoodPast, GoodUps, Holds, Plays, Sound}
+use Rattle.sim_session_laws.proofs.ServerLemmas.{fits_goes, Goes, goes_command, goes_join_again, goes_nothing, goes_one, goes_report, goes_state, IsQuiet}
+use Rattle.sim_session_laws.proofs.ServerLemmas.{least_in_is, quiet_asks, quiet_none, raised_bound, Stay, stay_put, told_quiet, told_raised}
 use Rattle.sim_plain.specs.declared.message.DownOf.TheVariants as down
-use Rattle.sim_plain.specs.declared.status.Status.{Status}
-use Rattle.sim_plain.specs.declared.status.Status.TheVariants.{Out, Waiting, In}
-use Rattle.sim_plain.specs.Functions.{put}
-use Rattle.sim_plain.specs.Messages.{Heard}
-use Rattle.sim_plain.specs.Server.{Server, is_out, is_in, waits_for, donor, seat, with_status, raised, keeps, reported, is_by, crowd_fault, turn_fault, command_fault, done_fault, report_fault, takes_state, entry_done, unless, heard}
-use Rattle.sim_plain.specs.Posts.{nobody, to_one, release, asked, refusal, kept_above, loading}
-use Rattle.sim_laws.specs.CommandLaws.{IsOrderOf}
-use Rattle.sim_plain_session.proofs.Functions.{put_same, put_other}
-use Rattle.sim_plain_session.specs.Clients.{Up, Down, Seat, Phase, Off, Joining, On, begun}
-use Rattle.sim_plain_session.specs.Pasts.{rules_of, is_client}
-use Rattle.sim_plain_session.specs.Sessions.{Session, taken, arrives, rises}
-use Rattle.sim_session_laws.proofs.Basics.{player_is, all_players_append}
-use Rattle.sim_session_laws.proofs.ClientSteps.{fits_as}
-use Rattle.sim_session_laws.proofs.Invariant.{GoodPast, GoodUps, Plays, Fits, Sound, Holds}
-use Rattle.sim_session_laws.proofs.LoadLemmas.{plays_begun}
-use Rattle.sim_session_laws.proofs.ServerLemmas.{least_in_is, raised_bound, IsQuiet, Stay, told_quiet, quiet_none, quiet_asks, told_raised, Goes, fits_goes, goes_nothing, goes_one, goes_command, goes_report, goes_join_again, stay_put, goes_state}
-use Rattle.sim_session_laws.specs.Standing.{AllPlayers}
+use Rattle.sim_plain.specs.declared.message.UpOf.TheVariants as up
 
 -- ---- what stays sound
 
@@ -43,7 +31,8 @@ sound_kept setup s t x sound le client =
     players : (u : ℕ) → (u ≡ t) ⊎ (u ≡ t → ⊥) → AllPlayers setup (new u)
     players u (inl e) =
         subst (λ v. AllPlayers setup (new v)) (sym e)
-        (subst (λ (l : List PlayerCommand). AllPlayers setup l) (sym (put_same t (s.kept t ++ x ∷ []) s.kept)) (all_players_append setup (s.kept t) x (sound.players t) client))
+        (subst (λ (l : List PlayerCommand). AllPlayers setup l) (sym (put_same t (s.kept t ++ x ∷ []) s.kept))
+        (all_players_append setup (s.kept t) x (sound.players t) client))
     players u (inr apart) = subst (λ (l : List PlayerCommand). AllPlayers setup l) (sym (put_other t (s.kept t ++ x ∷ []) s.kept u apart)) (sound.players u)
 
 pub sound_status : (setup : Setup) (s : Server) (c : ℕ) (st : Status) → Sound setup s → is_client setup c ≡ true → Sound setup (with_status c st s)
@@ -52,7 +41,8 @@ sound_status setup s c st sound client =
       released = sound.released;
       players = sound.players;
       inside = sound.inside;
-      clients = λ d none. put_other c st s.status d (λ e. absurd (true≢false (sym client ∙ subst (λ x. is_client setup x ≡ false) e none))) ∙ sound.clients d none;
+      clients = λ d none. put_other c st s.status d (λ e. absurd (true≢false (sym client ∙ subst (λ x. is_client setup x ≡ false) e none))) ∙
+          sound.clients d none;
     }
 
 pub in_high : (setup : Setup) (s : Server) (done : ℕ) (ph : Phase) (ups : List Up) (downs : List Down) → Fits setup s (In done) ph ups downs
@@ -99,7 +89,8 @@ each_popped : (setup : Setup) (s : Server) (client : ℕ → Phase) (ups : ℕ �
 each_popped setup s client ups downs c rest each own d = by (cases_eq d c)
   where
     by : (d ≡ c) ⊎ (d ≡ c → ⊥) → Fits setup s (s.status d) (client d) (put c rest ups d) (downs d)
-    by (inl e) = subst (λ z. Fits setup s (s.status z) (client z) (put c rest ups z) (downs z)) (sym e) (fits_as setup s _ _ _ _ _ _ _ _ refl refl (sym (put_same c rest ups)) refl own)
+    by (inl e) = subst (λ z. Fits setup s (s.status z) (client z) (put c rest ups z) (downs z)) (sym e)
+        (fits_as setup s _ _ _ _ _ _ _ _ refl refl (sym (put_same c rest ups)) refl own)
     by (inr apart) = fits_as setup s _ _ _ _ _ _ _ _ refl refl (sym (put_other c rest ups d apart)) refl (each d)
 
 -- one status and one up pipe changed, and nobody waits for that client unless it is In afterwards
@@ -112,8 +103,10 @@ each_status setup s client ups downs c st rest stays each own d = by (cases_eq d
     s' = with_status c st s
 
     by : (d ≡ c) ⊎ (d ≡ c → ⊥) → Fits setup s' (s'.status d) (client d) (put c rest ups d) (downs d)
-    by (inl e) = subst (λ z. Fits setup s' (s'.status z) (client z) (put c rest ups z) (downs z)) (sym e) (fits_as setup s' _ _ _ _ _ _ _ _ (sym (put_same c st s.status)) refl (sym (put_same c rest ups)) refl own)
-    by (inr apart) = fits_as setup s' _ _ _ _ _ _ _ _ refl refl (sym (put_other c rest ups d apart)) (append-nil (downs d)) (fits_goes setup s s' [] d (client d) (ups d) (downs d) goes (each d))
+    by (inl e) = subst (λ z. Fits setup s' (s'.status z) (client z) (put c rest ups z) (downs z)) (sym e)
+        (fits_as setup s' _ _ _ _ _ _ _ _ (sym (put_same c st s.status)) refl (sym (put_same c rest ups)) refl own)
+    by (inr apart) = fits_as setup s' _ _ _ _ _ _ _ _ refl refl (sym (put_other c rest ups d apart)) (append-nil (downs d))
+        (fits_goes setup s s' [] d (client d) (ups d) (downs d) goes (each d))
       where
         same : put c st s.status d ≡ s.status d
         same = put_other c st s.status d apart
@@ -136,7 +129,8 @@ each_raised setup s client ups downs inside each =
 
 pub ins_high : (setup : Setup) (s : Server) (client : ℕ → Phase) (ups : ℕ → List Up) (downs : ℕ → List Down) → Each setup s client ups downs
     → (d done : ℕ) → s.status d ≡ In done → done ≤ setup.turns
-ins_high setup s client ups downs each d done e = in_high setup s done (client d) (ups d) (downs d) (subst (λ (st : Status). Fits setup s st (client d) (ups d) (downs d)) e (each d))
+ins_high setup s client ups downs each d done e = in_high setup s done (client d) (ups d) (downs d)
+    (subst (λ (st : Status). Fits setup s st (client d) (ups d) (downs d)) e (each d))
 
 -- ---- a done
 
@@ -169,13 +163,15 @@ holds_done setup s c t rest done o client h is_done is_on p = by (done_fault (ru
     own = heard_up setup s.server.released s.server.kept done t o (up.Done t ∷ rest) rest (s.downs c) (let a = p.low in omega arith) high p.said.3 p
 
     each : Each setup s1 s.client popped.ups s.downs
-    each = each_status setup s.server s.client s.ups s.downs c (In t) rest (λ e. refl) h.each (fits_as setup s1 (In t) (In t) (On o) (s.client c) rest rest (s.downs c) (s.downs c) refl (sym is_on) refl refl own)
+    each = each_status setup s.server s.client s.ups s.downs c (In t) rest (λ e. refl) h.each
+        (fits_as setup s1 (In t) (In t) (On o) (s.client c) rest rest (s.downs c) (s.downs c) refl (sym is_on) refl refl own)
 
     sound : Sound setup s1
     sound = sound_status setup s.server c (In t) h.server client
 
     by : (f : Option ℕ) → f ≡ None
-        → Holds setup (taken (Heard c (up.Done t)) (unless f (raised (rules_of setup) s1) s.server) (refusal c f (release s1.status s1.released (raised (rules_of setup) s1).released)) popped)
+        → Holds setup (taken (Heard c (up.Done t)) (unless f (raised (rules_of setup) s1) s.server)
+        (refusal c f (release s1.status s1.released (raised (rules_of setup) s1).released)) popped)
     by None e =
         record {
           server = sound_raised setup s1 sound (ins_high setup s1 s.client popped.ups s.downs each);
@@ -194,13 +190,15 @@ sound_command setup s c t x sound client = by (command_fault (rules_of setup) (s
     high (Waiting j) f = absurd (cc)
     high (In n) f = test (t == suc n && nat_le t setup.turns) refl f
       where
-        test : (b : Bool) → (t == suc n && nat_le t setup.turns) ≡ b → (let o : Option ℕ = (if b then crowd_fault (nat_lt (count_by (is_by c) (s.kept t)) 64) else Some 2) in o ≡ None) → t ≤ setup.turns
+        test : (b : Bool) → (t == suc n && nat_le t setup.turns) ≡ b
+            → (let o : Option ℕ = (if b then crowd_fault (nat_lt (count_by (is_by c) (s.kept t)) 64) else Some 2) in o ≡ None) → t ≤ setup.turns
         test true k g = leb-true t setup.turns ((and_parts (t == suc n) (nat_le t setup.turns) k).1)
         test false k g = absurd (cc)
 
     by : (fault : Option ℕ) → command_fault (rules_of setup) (s.kept t) c t (s.status c) ≡ fault
         → Sound setup (unless fault (keeps t (record { player = c; command = x }) s) s)
-    by None f = sound_kept setup s t (record { player = c; command = x }) sound (high (s.status c) f) (player_is setup (record { player = c; command = x }) client)
+    by None f = sound_kept setup s t (record { player = c; command = x }) sound (high (s.status c) f)
+        (player_is setup (record { player = c; command = x }) client)
     by (Some code) f = sound
 
 sound_report : (setup : Setup) (s : Server) (c t : ℕ) (g : List ℕ) → Sound setup s
@@ -245,7 +243,8 @@ loads_new setup s s' c past (Waiting j) Joining ups downs a b sound good e h =
       rest = rest;
       empty = h.nothing.no_ups;
       first = ap (λ (l : List Down). l ++ loading (rules_of setup) s (turns_in past) past) h.nothing.no_downs;
-      soon = subst (λ (x : ℕ × (ℕ → List PlayerCommand)). Plays setup x.0 x.1 done (begun done (turns_in past) past) [] rest) (λ i. (sym a i, sym b i)) (plays_begun setup s past sound good);
+      soon = subst (λ (x : ℕ × (ℕ → List PlayerCommand)). Plays setup x.0 x.1 done (begun done (turns_in past) past) [] rest) (λ i. (sym a i, sym b i))
+          (plays_begun setup s past sound good);
     }
   where
     done : ℕ
@@ -257,7 +256,8 @@ loads_new setup s s' c past (Waiting j) Joining ups downs a b sound good e h =
 -- a status becomes In
 each_loads : (setup : Setup) (s : Server) (client : ℕ → Phase) (ups : ℕ → List Up) (downs : ℕ → List Down) (c j : ℕ) (past : Past) → Sound setup s
     → GoodPast setup s.released s.kept past → s.status j ≡ Waiting c → Each setup s client ups downs
-    → Each setup (with_status j (In (entry_done (rules_of setup) s.released (turns_in past))) s) client ups (λ d. downs d ++ to_one j (loading (rules_of setup) s (turns_in past) past) d)
+    → Each setup (with_status j (In (entry_done (rules_of setup) s.released (turns_in past))) s) client ups
+    (λ d. downs d ++ to_one j (loading (rules_of setup) s (turns_in past) past) d)
 each_loads setup s client ups downs c j past sound good waits each d = by (cases_eq d j)
   where
     done : ℕ
@@ -293,7 +293,8 @@ each_joins setup s client ups downs c out joining no_ups no_downs each d = by (d
     by : (o : Option ℕ) → donor (rules_of setup) s ≡ o → (d ≡ c) ⊎ (d ≡ c → ⊥)
         → Fits setup (with_status c (seat o) s) (put c (seat o) s.status d) (client d) (ups d) (downs d ++ asked o (c ∷ []) (λ x. x == c) d)
     by None e (inl same) =
-        subst (λ z. Fits setup (with_status c Out s) (put c Out s.status z) (client z) (ups z) (downs z ++ (if z == c then down.Refused 4 ∷ [] else []))) (sym same)
+        subst (λ z. Fits setup (with_status c Out s) (put c Out s.status z) (client z) (ups z) (downs z ++ (if z == c then down.Refused 4 ∷ [] else [])))
+        (sym same)
         (fits_as setup _ _ _ _ _ _ _ _ _ (sym (put_same c Out s.status)) (sym joining) refl
         (λ i. (sym no_downs) i ++ (sym (cond-true _ (down.Refused 4 ∷ []) [] (eq-eqb c c refl))) i)
         (inr (no_ups, refl)))
@@ -302,11 +303,13 @@ each_joins setup s client ups downs c out joining no_ups no_downs each d = by (d
         (record {
           same = put_other c Out s.status d apart;
           told = (let none = cond-false _ (down.Refused 4 ∷ []) [] (ne_eqb d c apart) in
-              told_quiet setup s (with_status c Out s) (s.status d) _ refl refl (stays Out) (subst (λ (l : List Down). IsQuiet setup l) (sym none) (quiet_none setup)) (λ f. none));
+              told_quiet setup s (with_status c Out s) (s.status d) _ refl refl (stays Out)
+              (subst (λ (l : List Down). IsQuiet setup l) (sym none) (quiet_none setup)) (λ f. none));
         })
         (each d apart)
     by (Some k) e (inl same) =
-        subst (λ z. Fits setup (with_status c (Waiting k) s) (put c (Waiting k) s.status z) (client z) (ups z) (downs z ++ (if z == k then down.Ask c ∷ [] else []))) (sym same)
+        subst (λ z. Fits setup (with_status c (Waiting k) s) (put c (Waiting k) s.status z) (client z) (ups z)
+        (downs z ++ (if z == k then down.Ask c ∷ [] else []))) (sym same)
         (fits_as setup _ _ _ _ _ _ _ _ _ (sym (put_same c (Waiting k) s.status)) (sym joining) refl
         (λ i. (sym no_downs) i ++ (sym (cond-false _ (down.Ask c ∷ []) [] (ne_eqb c k apart))) i)
         (record { nothing = record { no_ups = no_ups; no_downs = refl }; there = stays (Waiting k) k (donor_in setup s k e) }))
@@ -315,7 +318,8 @@ each_joins setup s client ups downs c out joining no_ups no_downs each d = by (d
         apart f = true≢false (sym (donor_in setup s k e) ∙ ap is_in (ap s.status (sym f) ∙ out))
     by (Some k) e (inr apart) =
         fits_goes setup s (with_status c (Waiting k) s) _ d (client d) (ups d) (downs d)
-        (goes_one setup s (with_status c (Waiting k) s) k d (down.Ask c ∷ []) refl refl (stays (Waiting k)) (put_other c (Waiting k) s.status d apart) (donor_in setup s k e) (quiet_asks setup (c ∷ [])))
+        (goes_one setup s (with_status c (Waiting k) s) k d (down.Ask c ∷ []) refl refl (stays (Waiting k)) (put_other c (Waiting k) s.status d apart)
+        (donor_in setup s k e) (quiet_asks setup (c ∷ [])))
         (each d apart)
 
 -- ---- the server hears the first message of an up pipe
@@ -335,18 +339,21 @@ holds_up_plays : (setup : Setup) (s : Session) (c : ℕ) (x : Up) (rest : List U
 holds_up_plays setup s c up.Join rest done o client h is_done is_on p =
     record {
       server = sound_join setup s.server c h.server client;
-      each = each_goes setup s.server _ s.client (put c rest s.ups) s.downs _ (λ d. goes_join_again setup s.server c d (ap is_out is_done)) (plays_up setup s c up.Join rest done o h is_done is_on p.said p);
+      each = each_goes setup s.server _ s.client (put c rest s.ups) s.downs _ (λ d. goes_join_again setup s.server c d (ap is_out is_done))
+          (plays_up setup s c up.Join rest done o h is_done is_on p.said p);
     }
 holds_up_plays setup s c (up.Command t x) rest done o client h is_done is_on p =
     record {
       server = sound_command setup s.server c t x h.server client;
-      each = each_goes setup s.server _ s.client (put c rest s.ups) s.downs _ (λ d. goes_command setup s.server c t d done x is_done p.low) (plays_up setup s c (up.Command t x) rest done o h is_done is_on p.said p);
+      each = each_goes setup s.server _ s.client (put c rest s.ups) s.downs _ (λ d. goes_command setup s.server c t d done x is_done p.low)
+          (plays_up setup s c (up.Command t x) rest done o h is_done is_on p.said p);
     }
 holds_up_plays setup s c (up.Done t) rest done o client h is_done is_on p = holds_done setup s c t rest done o client h is_done is_on p
 holds_up_plays setup s c (up.Report t g) rest done o client h is_done is_on p =
     record {
       server = sound_report setup s.server c t g h.server;
-      each = each_goes setup s.server _ s.client (put c rest s.ups) s.downs _ (λ d. goes_report setup s.server c t g d (ap is_in is_done)) (plays_up setup s c (up.Report t g) rest done o h is_done is_on p.said p);
+      each = each_goes setup s.server _ s.client (put c rest s.ups) s.downs _ (λ d. goes_report setup s.server c t g d (ap is_in is_done))
+          (plays_up setup s c (up.Report t g) rest done o h is_done is_on p.said p);
     }
 holds_up_plays setup s c (up.State j t past) rest done o client h is_done is_on p = by (takes_state s.server.released c t (s.server.status j)) refl
   where
@@ -360,7 +367,8 @@ holds_up_plays setup s c (up.State j t past) rest done o client h is_done is_on 
     entry = entry_done (rules_of setup) s.server.released t
 
     by : (b : Bool) → takes_state s.server.released c t (s.server.status j) ≡ b
-        → Holds setup (taken (Heard c (up.State j t past)) (if b then with_status j (In entry) s.server else s.server) (if b then to_one j (loading (rules_of setup) s.server t past) else nobody) popped)
+        → Holds setup (taken (Heard c (up.State j t past)) (if b then with_status j (In entry) s.server else s.server)
+        (if b then to_one j (loading (rules_of setup) s.server t past) else nobody) popped)
     by false e =
         record {
           server = h.server;
@@ -369,9 +377,11 @@ holds_up_plays setup s c (up.State j t past) rest done o client h is_done is_on 
     by true e =
         let waits = waits_is c (s.server.status j) ((and_parts _ _ e).0) in
         record {
-          server = sound_status setup s.server j (In entry) h.server (out_of setup s.server j (is_client setup j) h.server refl (λ f. let both = waits in absurd (cc)));
+          server = sound_status setup s.server j (In entry) h.server
+              (out_of setup s.server j (is_client setup j) h.server refl (λ f. let both = waits in absurd (cc)));
           each = subst
-              (λ n. Each setup (with_status j (In (entry_done (rules_of setup) s.server.released n)) s.server) s.client popped.ups (λ d. s.downs d ++ to_one j (loading (rules_of setup) s.server n past) d))
+              (λ n. Each setup (with_status j (In (entry_done (rules_of setup) s.server.released n)) s.server) s.client popped.ups
+              (λ d. s.downs d ++ to_one j (loading (rules_of setup) s.server n past) d))
               (sym p.said.0) (each_loads setup s.server s.client popped.ups s.downs c j past h.server p.said.1 waits each);
         }
 
@@ -387,7 +397,8 @@ holds_up_joins setup s c x rest client h is_out_c joining first no_rest no_downs
     others d apart = fits_as setup s.server _ _ _ _ _ _ _ _ refl refl (sym (put_other c rest s.ups d apart)) refl (h.each d)
 
     by : (b : Bool) → b ≡ true
-        → Holds setup (taken (Heard c up.Join) (if b then with_status c (seat (donor (rules_of setup) s.server)) s.server else s.server) (if b then asked (donor (rules_of setup) s.server) (c ∷ []) (λ z. z == c) else nobody) popped)
+        → Holds setup (taken (Heard c up.Join) (if b then with_status c (seat (donor (rules_of setup) s.server)) s.server else s.server)
+        (if b then asked (donor (rules_of setup) s.server) (c ∷ []) (λ z. z == c) else nobody) popped)
     by true e =
         record {
           server = sound_status setup s.server c (seat (donor (rules_of setup) s.server)) h.server client;

@@ -1,26 +1,12 @@
 -- Protocols that are wrong, each with the law whose words it breaks: a few steps lead it to a session of which the law is false.
-use Rattle.std.proofs.Common.{◌≡◌, inl, inr, ℕ, ◌≤◌, min, max, List, [], ◌∷◌, ◌++◌, refl, arith}
-use Rattle.std.proofs.lemmas.List.Elements.{All-head}
-use Rattle.sim_base.specs.declared.command.Command.TheVariants.{Resign}
-use Rattle.sim_base.specs.declared.command.PlayerCommand.{PlayerCommand}
-use Rattle.sim_base.specs.declared.setup.Setup.{Setup}
-use Rattle.sim_base.specs.declared.step.Step.{Step}
+use Rattle.sim_session_laws.proofs.Common.{BehindStateAreKept, DonesAreNear, DonesAreTurns, Down, idle, In, inl, inr, IsOrderOf, Joining, keeps}
+use Rattle.sim_session_laws.proofs.Common.{KeptAreOfPlayers, KnownAndComingAreKept, Off, OffIsOut, On, opened, order, Out, Phase, played, PlayerCommand, put}
+use Rattle.sim_session_laws.proofs.Common.{Resign, Seat, Server, Session, session, Setup, Status, Step, stepped, three, told, Turn, TurnsAreReleased, two}
+use Rattle.sim_session_laws.proofs.Common.{UnbentAreKept, Waiting}
+use Rattle.sim_session_laws.proofs.Common.{◌≡◌, ℕ, ◌≤◌, min, max, List, [], ◌∷◌, ◌++◌, refl, Acted, acts, after_steps, All-head, arith, begun}
 use Rattle.sim_base.specs.declared.step.Step.TheVariants as step
-use Rattle.sim_base.specs.Turn.{Turn}
-use Rattle.sim_base.proofs.ExampleMatches.{order}
-use Rattle.sim_laws.specs.CommandLaws.{IsOrderOf}
-use Rattle.sim_plain.specs.declared.message.UpOf.TheVariants as up
 use Rattle.sim_plain.specs.declared.message.DownOf.TheVariants as down
-use Rattle.sim_plain.specs.declared.status.Status.{Status}
-use Rattle.sim_plain.specs.declared.status.Status.TheVariants.{Out, Waiting, In}
-use Rattle.sim_plain.specs.Functions.{put}
-use Rattle.sim_plain.specs.Server.{Server, keeps}
-use Rattle.sim_plain_session.specs.Clients.{Down, Seat, Phase, Off, Joining, On, Acted, idle, begun, told, played}
-use Rattle.sim_plain_session.specs.Sessions.{Session, opened, acts, stepped, after_steps, session}
-use Rattle.sim_plain_session.proofs.Examples.{two, three}
-use Rattle.sim_session_laws.specs.Standing.{OffIsOut}
-use Rattle.sim_session_laws.specs.TurnNumbers.{DonesAreTurns, DonesAreNear, TurnsAreReleased}
-use Rattle.sim_session_laws.specs.Commands.{KeptAreOfPlayers, KnownAndComingAreKept, BehindStateAreKept, UnbentAreKept}
+use Rattle.sim_plain.specs.declared.message.UpOf.TheVariants as up
 
 abbrev resigns : ℕ → PlayerCommand
 resigns player = order player Resign
@@ -109,7 +95,8 @@ overtaken = after_steps two impatient (step.Order 2 Resign ∷ step.Up 2 ∷ [])
 
 impatient_differs : UnbentAreKept two overtaken → ⊥
 impatient_differs law =
-    let same : Turn [] ∷ Turn [] ∷ Turn [] ∷ [] ≡ Turn (resigns 2 ∷ []) ∷ Turn [] ∷ Turn [] ∷ [] = law (Turn [] ∷ Turn [] ∷ Turn [] ∷ []) (inl (1, seat_of (overtaken.client 1), refl, refl)) refl in cc
+    let same : Turn [] ∷ Turn [] ∷ Turn [] ∷ [] ≡ Turn (resigns 2 ∷ []) ∷ Turn [] ∷ Turn [] ∷ [] = law (Turn [] ∷ Turn [] ∷ Turn [] ∷ [])
+    (inl (1, seat_of (overtaken.client 1), refl, refl)) refl in cc
 
 -- ---- a client that keeps what it knew at a load
 

@@ -1,8 +1,6 @@
 -- A fact that holds of every session.
 use Rattle.std.specs.Prelude.{ℕ, ◌≤◌, List}
-use Rattle.sim_base.specs.declared.setup.Setup.{Setup}
-use Rattle.sim_base.specs.declared.step.Step.{Step}
-use Rattle.sim_base.specs.Limits.{IsSetup}
+use Rattle.sim_base.specs.{Limits.IsSetup, declared.setup.Setup.Setup, declared.step.Step.Step}
 use Rattle.sim_plain_session.specs.Sessions.{Session, session}
 
 -- something that may hold of a session

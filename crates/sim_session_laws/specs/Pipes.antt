@@ -1,12 +1,9 @@
 -- What lies in the pipes of a session.
-use Rattle.std.specs.Prelude.{◌≡◌, ℕ, suc, ◌⊎◌, List, [], ◌∷◌, ◌==◌, if◌then◌else◌}
-use Rattle.sim_base.specs.declared.command.PlayerCommand.{PlayerCommand}
-use Rattle.sim_base.specs.Turn.{Past}
-use Rattle.sim_plain.specs.declared.message.UpOf.TheVariants as up
+use Rattle.std.specs.Prelude.{◌≡◌, ℕ, suc, ◌⊎◌, List, [], ◌∷◌, if◌then◌else◌, ◌==◌}
+use Rattle.sim_base.specs.{Turn.Past, declared.command.PlayerCommand.PlayerCommand}
+use Rattle.sim_plain_session.specs.{Clients.Down, Clients.On, Clients.Seat, Clients.Up, Laws.Carries, Sessions.Session}
 use Rattle.sim_plain.specs.declared.message.DownOf.TheVariants as down
-use Rattle.sim_plain_session.specs.Clients.{Up, Down, Seat, On}
-use Rattle.sim_plain_session.specs.Laws.{Carries}
-use Rattle.sim_plain_session.specs.Sessions.{Session}
+use Rattle.sim_plain.specs.declared.message.UpOf.TheVariants as up
 
 -- these are the messages behind one of a pipe
 abbrev pub Behind : List Down → Down → List Down → Type 0

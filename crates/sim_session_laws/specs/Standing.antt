@@ -1,22 +1,12 @@
 -- Valid states, and who stands where.
+use Rattle.{sim_base.specs.Turn.after, sim_base.specs.Turn.Past, sim_base.specs.Turn.turns_in, sim_base.specs.Validity.IsValid, sim_plain.specs.Server.is_in}
+use Rattle.{sim_laws.specs.CommandLaws.IsOrderOf, sim_session_laws.specs.Always.Fact, sim_session_laws.specs.Pipes.IsPast}
 use Rattle.std.specs.Prelude.{◌≡◌, ℕ, true, false, ◌⊎◌, List, [], ◌∷◌, All}
-use Rattle.sim_base.specs.declared.command.PlayerCommand.{PlayerCommand}
-use Rattle.sim_base.specs.declared.setup.Setup.{Setup}
-use Rattle.sim_base.specs.Turn.{Past, after, turns_in}
-use Rattle.sim_base.specs.Validity.{IsValid}
-use Rattle.sim_plain.specs.declared.message.UpOf.TheVariants as up
-use Rattle.sim_plain.specs.declared.message.DownOf.{DownOf}
+use Rattle.sim_base.specs.{Spelling.spelling, declared.command.PlayerCommand.PlayerCommand, declared.setup.Setup.Setup, declared.state.State.State}
+use Rattle.sim_plain.specs.declared.{message.DownOf.DownOf, status.Status.TheVariants.In, status.Status.TheVariants.Out, status.Status.TheVariants.Waiting}
+use Rattle.sim_plain_session.specs.{Bytes.downs_of, Clients.Down, Clients.Joining, Clients.Off, Clients.On, Clients.orders, Clients.Seat, Pasts.is_client}
 use Rattle.sim_plain.specs.declared.message.DownOf.TheVariants as down
-use Rattle.sim_base.specs.declared.state.State.{State}
-use Rattle.sim_base.specs.Spelling.{spelling}
-use Rattle.sim_plain.specs.declared.status.Status.TheVariants.{Out, Waiting, In}
-use Rattle.sim_plain.specs.Server.{is_in}
-use Rattle.sim_laws.specs.CommandLaws.{IsOrderOf}
-use Rattle.sim_plain_session.specs.Bytes.{downs_of}
-use Rattle.sim_plain_session.specs.Clients.{Down, Seat, Off, Joining, On, orders}
-use Rattle.sim_plain_session.specs.Pasts.{is_client}
-use Rattle.sim_session_laws.specs.Always.{Fact}
-use Rattle.sim_session_laws.specs.Pipes.{IsPast}
+use Rattle.sim_plain.specs.declared.message.UpOf.TheVariants as up
 
 -- all are by players of the match
 abbrev pub AllPlayers : Setup → List PlayerCommand → Type 0
@@ -55,7 +45,8 @@ OnIsIn setup s = (c : ℕ) (seat : Seat) → s.client c ≡ On seat → is_in (s
 -- a client that is joining and out has its wish in the up pipe or a refusal of it in the down pipe, and nothing else
 abbrev pub OutHasWish : Fact
 OutHasWish setup s =
-    (c : ℕ) → s.client c ≡ Joining → s.server.status c ≡ Out → ((s.ups c ≡ up.Join ∷ []) × (s.downs c ≡ [])) ⊎ ((s.ups c ≡ []) × (s.downs c ≡ down.Refused 4 ∷ []))
+    (c : ℕ) → s.client c ≡ Joining → s.server.status c ≡ Out → ((s.ups c ≡ up.Join ∷ []) × (s.downs c ≡ []))
+    ⊎ ((s.ups c ≡ []) × (s.downs c ≡ down.Refused 4 ∷ []))
 
 -- a client that is joining and waits has empty pipes, and its donor is in
 abbrev pub WaitingHasDonor : Fact

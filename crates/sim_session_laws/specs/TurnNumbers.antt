@@ -1,16 +1,11 @@
 -- How far clients may be ahead, and what is released.
 use Rattle.std.specs.Prelude.{◌≡◌, ℕ, ◌+◌, ◌≤◌, List, ◌∷◌, ◌++◌, length}
-use Rattle.sim_base.specs.declared.setup.Setup.{Setup}
-use Rattle.sim_base.specs.Turn.{Past, turns_in}
-use Rattle.sim_plain.specs.declared.message.UpOf.TheVariants as up
-use Rattle.sim_plain.specs.declared.message.DownOf.TheVariants as down
+use Rattle.sim_base.specs.{Turn.Past, Turn.turns_in, declared.setup.Setup.Setup, declared.step.Step.Step}
 use Rattle.sim_plain.specs.declared.status.Status.TheVariants.{In}
-use Rattle.sim_base.specs.declared.step.Step.{Step}
-use Rattle.sim_plain_session.specs.Clients.{Down, Seat, Joining, On}
-use Rattle.sim_plain_session.specs.Laws.{Carries}
-use Rattle.sim_plain_session.specs.Sessions.{session}
-use Rattle.sim_session_laws.specs.Always.{Fact}
-use Rattle.sim_session_laws.specs.Pipes.{dones_in, GoOn, IsCarried}
+use Rattle.sim_plain_session.specs.{Clients.Down, Clients.Joining, Clients.On, Clients.Seat, Laws.Carries, Sessions.session}
+use Rattle.sim_session_laws.specs.{Always.Fact, Pipes.dones_in, Pipes.GoOn, Pipes.IsCarried}
+use Rattle.sim_plain.specs.declared.message.DownOf.TheVariants as down
+use Rattle.sim_plain.specs.declared.message.UpOf.TheVariants as up
 
 -- no turn is released that the match has not
 abbrev pub ReleasedAreTurns : Fact
@@ -35,7 +30,8 @@ DonesAreNear setup s = (c t : ℕ) → Carries (s.ups c) (up.Done t) → (t ≤ 
 -- the done in the state that waits for a joining client is the server's
 abbrev pub StateHasDone : Fact
 StateHasDone setup s =
-    (c done first : ℕ) (past : Past) (rest : List Down) → s.client c ≡ Joining → s.server.status c ≡ In done → s.downs c ≡ down.State first past ∷ rest → first ≡ done
+    (c done first : ℕ) (past : Past) (rest : List Down) → s.client c ≡ Joining → s.server.status c ≡ In done → s.downs c ≡ down.State first past ∷ rest
+    → first ≡ done
 
 -- a release on its way is of released turns
 abbrev pub ReleasesAreReleased : Fact
@@ -62,4 +58,5 @@ ReleasedAreFinal =
 -- and no turn that is released is taken back
 abbrev pub ReleasedOnlyRise : Type 0
 ReleasedOnlyRise =
-    (setup : Setup) (active : ℕ) (steps more : List Step) → active ≤ setup.players → (session setup active steps).server.released ≤ (session setup active (steps ++ more)).server.released
+    (setup : Setup) (active : ℕ) (steps more : List Step) → active ≤ setup.players → (session setup active steps).server.released ≤
+    (session setup active (steps ++ more)).server.released

@@ -1,6 +1,6 @@
 //! The reports and the notices of a session.
 
-ghost use Rattle.sim_session_laws.specs.Reports.{ReportsAreMarks, NoticesShowDifferences, NoticesNeedBends};
+ghost use Rattle.sim_session_laws.specs.Reports.{NoticesNeedBends, NoticesShowDifferences, ReportsAreMarks};
 
 /// Each report that the server has heard was the mark of its sender, at some moment of the session. So a notice shows that its
 /// client and another one were apart at its turn: a full one in the digest, a quick one in the clock or in where entities stand.

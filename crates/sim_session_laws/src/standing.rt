@@ -1,7 +1,7 @@
 //! Valid pasts, and who stands where.
 
-ghost use Rattle.sim_session_laws.specs.Standing.{StrangersAreOut, PastsAreValid, StatesHaveTurns, NoStateIsRefused, HeardBytesSpellAState, KnownAreOfPlayers, OffIsOut, OnIsIn, OutHasWish, WaitingHasDonor, InHasState};
-ghost use Rattle.sim_session_laws.specs.Always.{Always};
+ghost use Rattle.sim_session_laws.specs.{Always.Always, Standing.PastsAreValid, Standing.StatesHaveTurns, Standing.StrangersAreOut, Standing.WaitingHasDonor};
+ghost use Rattle.sim_session_laws.specs.Standing.{HeardBytesSpellAState, InHasState, KnownAreOfPlayers, NoStateIsRefused, OffIsOut, OnIsIn, OutHasWish};
 
 /// The state after every past in a session is valid and at the turn that the past has, and so no state that a client
 /// hears is refused: in bytes, it is the spelling of a valid state. Every command that a client knows is by a player of the match.

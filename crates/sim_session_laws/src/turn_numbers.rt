@@ -1,7 +1,8 @@
 //! The turn numbers of a session.
 
-ghost use Rattle.sim_session_laws.specs.TurnNumbers.{StampsAreTurns, ReleasedAreTurns, DonesAreTurns, DonesAreCounted, DonesGoOn, DonesAreNear, StateHasDone, ReleasesAreReleased, TurnsAreReleased, CarriedAreReleased, ReleasedAreFinal, ReleasedOnlyRise};
 ghost use Rattle.sim_session_laws.specs.Always.{Always};
+ghost use Rattle.sim_session_laws.specs.TurnNumbers.{CarriedAreReleased, DonesAreCounted, DonesAreNear, DonesAreTurns, DonesGoOn, ReleasedAreFinal};
+ghost use Rattle.sim_session_laws.specs.TurnNumbers.{ReleasedAreTurns, ReleasedOnlyRise, ReleasesAreReleased, StampsAreTurns, StateHasDone, TurnsAreReleased};
 
 /// The dones of a client go on by one from what the server has of it, and each will be accepted.
 pub fn dones_are_accepted()

@@ -1,47 +1,37 @@
 -- The clients that are on at the beginning, one after the other.
-use Rattle.std.proofs.Common.{◌≡◌, ℕ, suc, ◌+◌, ◌<◌, Bool, true, List, [], ◌∷◌, ◌++◌, Some, sym, ap, ◌∙◌, subst, append-nil, add-one, arith}
-use Rattle.std.specs.Prelude.{if◌then◌else◌, min, nat_lt, nat_le}
-use Rattle.std.proofs.lemmas.Grind.{flat_map-append}
-use Rattle.std.proofs.lemmas.List.{map-append}
-use Rattle.std.proofs.lemmas.Bool.{lt-ltb, le-leb}
-use Rattle.sim_base.specs.declared.setup.Setup.{Setup}
-use Rattle.sim_base.specs.declared.step.Event.{Event}
+use Rattle.{sim_client.specs.ClientWords.digest_of, std.proofs.lemmas.List.map-append}
+use Rattle.sim_session_text.proofs.Common.{append-nil, arith, digest, Event, event_line, flat_map-append, is_active, Joining, le-leb, Life, lines_of, Lives}
+use Rattle.sim_session_text.proofs.Common.{lt-ltb, Off, On, opened, Setup, start_events, start_lines, State, subst, sym, up_to, ◌∙◌}
+use Rattle.sim_session_text.proofs.Common.{◌≡◌, ℕ, suc, ◌+◌, ◌<◌, min, Bool, true, List, [], ◌∷◌, ◌++◌, if◌then◌else◌, nat_lt, nat_le, Some, add-one, after, ap}
 use Rattle.sim_base.specs.declared.step.Event.TheVariants as event
-use Rattle.sim_base.specs.declared.state.State.{State}
-use Rattle.sim_base.specs.Spelling.{digest}
-use Rattle.sim_base.specs.Turn.{after}
-use Rattle.sim_plain.specs.Functions.{up_to}
 use Rattle.sim_plain_session.specs.Clients as plain
-use Rattle.sim_plain_session.specs.Printed.{start_events}
-use Rattle.sim_plain_session.specs.Sessions.{opened, is_active}
-use Rattle.sim_client.specs.ClientWords.{digest_of}
-use Rattle.sim_client.specs.Lives.{Life, Off, Joining, On}
-use Rattle.sim_client.specs.LifeLaws.{Lives}
-use Rattle.sim_report.specs.Events.{event_line}
-use Rattle.sim_session_text.specs.SessionText.{lines_of}
-use Rattle.sim_session_text.specs.Starts.{start_lines}
 
 -- a client that begins is shown with the first state
-shown : (setup : Setup) (life : Life) (done released : ℕ) → Lives setup life (plain.On (plain.begun done released [])) → digest_of setup life ≡ Some (digest setup (after setup []))
+shown : (setup : Setup) (life : Life) (done released : ℕ) → Lives setup life (plain.On (plain.begun done released []))
+    → digest_of setup life ≡ Some (digest setup (after setup []))
 shown setup Off done released lives = absurd lives
 shown setup Joining done released lives = absurd lives
 shown setup (On player) done released lives = ap (λ (s : State). Some (digest setup s)) lives.state
 
 -- so is each of the first clients of a session that has just begun
-pub start_shown : (setup : Setup) (active n : ℕ) (life : Life) → n < active → Lives setup life ((opened setup active).client (n + 1)) → digest_of setup life ≡ Some (digest setup (after setup []))
+pub start_shown : (setup : Setup) (active n : ℕ) (life : Life) → n < active → Lives setup life ((opened setup active).client (n + 1))
+    → digest_of setup life ≡ Some (digest setup (after setup []))
 start_shown setup active n life lt lives =
     let low : nat_lt 0 (n + 1) ≡ true = lt-ltb 0 (n + 1) (omega arith) in
     let high : nat_le (n + 1) active ≡ true = le-leb (n + 1) active (omega (arith, lt)) in
     let is : is_active active (n + 1) ≡ true = cc in
     let phase : plain.Phase = plain.On (plain.begun (min setup.turns setup.delay) (min setup.turns setup.delay) []) in
-    shown setup life (min setup.turns setup.delay) (min setup.turns setup.delay) (subst (λ (b : Bool). Lives setup life (if b then phase else plain.Off)) is lives)
+    shown setup life (min setup.turns setup.delay) (min setup.turns setup.delay) (subst (λ (b : Bool). Lives setup life (if b then phase else plain.Off)) is
+    lives)
 
 -- the line of one more stands behind those so far
-pub starts_more : (setup : Setup) (n : ℕ) → lines_of (start_events setup (n + 1)) ≡ lines_of (start_events setup n) ++ start_lines (n + 1) (Some (digest setup (after setup [])))
+pub starts_more : (setup : Setup) (n : ℕ) → lines_of (start_events setup (n + 1)) ≡ lines_of (start_events setup n) ++ start_lines (n + 1)
+    (Some (digest setup (after setup [])))
 starts_more setup n =
     let make : ℕ → Event = λ c. event.Start c (digest setup (after setup [])) in
     let next : start_events setup (suc n) ≡ start_events setup n ++ make (suc n) ∷ [] = map-append make (up_to n) (suc n ∷ []) in
     let lines = flat_map-append event_line (start_events setup n) (make (suc n) ∷ []) in
     let last = append-nil (event_line (make (suc n))) in
-    let here : lines_of (start_events setup (suc n)) ≡ lines_of (start_events setup n) ++ event_line (make (suc n)) = ap lines_of next ∙ lines ∙ ap (λ (l : List ℕ). lines_of (start_events setup n) ++ l) last in
+    let here : lines_of (start_events setup (suc n)) ≡ lines_of (start_events setup n) ++ event_line (make (suc n)) = ap lines_of next ∙ lines ∙
+    ap (λ (l : List ℕ). lines_of (start_events setup n) ++ l) last in
     subst (λ (k : ℕ). lines_of (start_events setup k) ≡ lines_of (start_events setup n) ++ event_line (make k)) (sym (add-one n)) here

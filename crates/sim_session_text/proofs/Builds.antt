@@ -1,13 +1,10 @@
 -- How often systems were built, over one step and then another.
-use Rattle.std.proofs.Common.{◌≡◌, ⊎_elim, ℕ, ◌+◌, ◌-◌, ◌<◌, ◌≤◌, Bool, true, false, List, ◌++◌, length, get_or, refl, sym, ap, ◌∙◌, subst, arith}
-use Rattle.std.specs.Prelude.{nat_le, if◌then◌else◌}
-use Rattle.std.proofs.lemmas.Bool.{cases_eq, cases_lt, le-leb}
-use Rattle.std.proofs.Math.ListN.{get_or-append}
-use Rattle.sim_base.specs.declared.step.Event.{Event}
-use Rattle.sim_system.specs.Meanings.{Meaning, Systems, HaveSameRebuilds, AreBuiltOnceAtMost, IsBuiltOnceAtMost}
-use Rattle.sim_client.specs.StageWords.{nowhere}
-use Rattle.sim_session.specs.Building.{AreBuiltIf, ChangeAt, StartsOnly, has_load}
-use Rattle.sim_session_text.specs.Rigs.{IsBuiltAtMost, AreBuiltAtMost, AllBuiltAtMost, begun_by, loads_in}
+use Rattle.std.proofs.{Common.⊎_elim, Math.ListN.get_or-append, lemmas.Bool.cases_eq, lemmas.Bool.cases_lt}
+use Rattle.sim_session_text.proofs.Common.{AllBuiltAtMost, ap, AreBuiltIf, arith, begun_by, ChangeAt, Event, has_load, le-leb, loads_in, Meaning, nowhere}
+use Rattle.sim_session_text.proofs.Common.{StartsOnly, subst, sym, Systems, ◌∙◌}
+use Rattle.sim_session_text.proofs.Common.{◌≡◌, ℕ, ◌+◌, ◌-◌, ◌<◌, ◌≤◌, Bool, true, false, List, ◌++◌, length, get_or, if◌then◌else◌, nat_le, refl}
+use Rattle.sim_session_text.specs.Rigs.{AreBuiltAtMost, IsBuiltAtMost}
+use Rattle.sim_system.specs.Meanings.{AreBuiltOnceAtMost, HaveSameRebuilds, IsBuiltOnceAtMost}
 
 one_so : (j k most : ℕ) (l m n : Meaning) → j + k ≤ most → IsBuiltAtMost j l m → IsBuiltAtMost k m n → IsBuiltAtMost most l n
 one_so j k most l m n few first second = record { low = omega (arith, first.low, second.low); high = omega (arith, few, first.high, second.high) }
@@ -34,7 +31,13 @@ same_built most s t same = record {
 }
 
 pub never_built : (most : ℕ) (s t : Systems) → t ≡ s → AreBuiltAtMost most s t
-never_built most s t is = same_built most s t (record { ground = λ i. (is i).ground.rebuilds; range = λ i. (is i).range.rebuilds; watch = λ i. (is i).watch.rebuilds; census = λ i. (is i).census.rebuilds })
+never_built most s t is =
+    same_built most s t (record {
+      ground = λ i. (is i).ground.rebuilds;
+      range = λ i. (is i).range.rebuilds;
+      watch = λ i. (is i).watch.rebuilds;
+      census = λ i. (is i).census.rebuilds;
+    })
 
 -- each was built once at most
 one_once : (most : ℕ) (m n : Meaning) → 1 ≤ most → IsBuiltOnceAtMost m n → IsBuiltAtMost most m n
@@ -53,23 +56,30 @@ built_if true most s t few built = once_built most s t (few refl) built
 built_if false most s t few built = same_built most s t built
 
 -- in a step those of its client, if it loads
-pub step_built : (own players : ℕ) (events : List Event) (old new : List Systems) → 0 < own → length old ≡ players → (has_load events ≡ true → 1 ≤ loads_in events own)
+pub step_built : (own players : ℕ) (events : List Event) (old new : List Systems) → 0 < own → length old ≡ players
+    → (has_load events ≡ true → 1 ≤ loads_in events own)
     → ChangeAt (AreBuiltIf (has_load events)) (own - 1) old new → AllBuiltAtMost (loads_in events) players old new
 step_built own players events old new number count loads change = λ c low high.
     ⊎_elim
-    (λ is. built_if (has_load events) (loads_in events c) (get_or old (c - 1) nowhere) (get_or new (c - 1) nowhere) (λ load. subst (λ k. 1 ≤ loads_in events k) (sym is) (loads load))
-    (subst (λ k. AreBuiltIf (has_load events) (get_or old (k - 1) nowhere) (get_or new (k - 1) nowhere)) (sym is) (change.there nowhere (omega (arith, count, low, high, is)))))
-    (λ other. never_built (loads_in events c) (get_or old (c - 1) nowhere) (get_or new (c - 1) nowhere) (change.others (c - 1) nowhere (λ same. other (omega (arith, same, low, number)))))
+    (λ is. built_if (has_load events) (loads_in events c) (get_or old (c - 1) nowhere) (get_or new (c - 1) nowhere)
+    (λ load. subst (λ k. 1 ≤ loads_in events k) (sym is) (loads load))
+    (subst (λ k. AreBuiltIf (has_load events) (get_or old (k - 1) nowhere) (get_or new (k - 1) nowhere)) (sym is)
+    (change.there nowhere (omega (arith, count, low, high, is)))))
+    (λ other. never_built (loads_in events c) (get_or old (c - 1) nowhere) (get_or new (c - 1) nowhere)
+    (change.others (c - 1) nowhere (λ same. other (omega (arith, same, low, number)))))
     (cases_eq c own)
 
 -- at the start those of the clients that begin
-pub start_built : (clients players : ℕ) (old new : List Systems) → length old ≡ players → StartsOnly clients old new → AllBuiltAtMost (begun_by clients) players old new
+pub start_built : (clients players : ℕ) (old new : List Systems) → length old ≡ players → StartsOnly clients old new
+    → AllBuiltAtMost (begun_by clients) players old new
 start_built clients players old new count starts = λ c low high.
     ⊎_elim
-    (λ late. never_built (begun_by clients c) (get_or old (c - 1) nowhere) (get_or new (c - 1) nowhere) (starts.others (c - 1) nowhere (omega (arith, late, low))))
+    (λ late. never_built (begun_by clients c) (get_or old (c - 1) nowhere) (get_or new (c - 1) nowhere)
+    (starts.others (c - 1) nowhere (omega (arith, late, low))))
     (λ begins.
     let counted : nat_le c clients ≡ true = le-leb c clients begins in
-    once_built (begun_by clients c) (get_or old (c - 1) nowhere) (get_or new (c - 1) nowhere) (subst (λ (b : Bool). 1 ≤ (if b then 1 else 0)) (sym counted) (omega arith))
+    once_built (begun_by clients c) (get_or old (c - 1) nowhere) (get_or new (c - 1) nowhere)
+    (subst (λ (b : Bool). 1 ≤ (if b then 1 else 0)) (sym counted) (omega arith))
     (starts.there (c - 1) nowhere (omega (arith, begins, low)) (omega (arith, count, low, high))))
     (cases_lt clients c)
 
@@ -77,15 +87,20 @@ start_built clients players old new count starts = λ c low high.
 pub all_built_so : (first second most : ℕ → ℕ) (players : ℕ) (old now new : List Systems) → ((c : ℕ) → first c + second c ≤ most c)
     → AllBuiltAtMost first players old now → AllBuiltAtMost second players now new → AllBuiltAtMost most players old new
 all_built_so first second most players old now new few one two = λ c low high.
-    built_so (first c) (second c) (most c) (get_or old (c - 1) nowhere) (get_or now (c - 1) nowhere) (get_or new (c - 1) nowhere) (few c) (one c low high) (two c low high)
+    built_so (first c) (second c) (most c) (get_or old (c - 1) nowhere) (get_or now (c - 1) nowhere) (get_or new (c - 1) nowhere) (few c) (one c low high)
+    (two c low high)
 
 pub none_built : (most : ℕ → ℕ) (players : ℕ) (old : List Systems) → AllBuiltAtMost most players old old
 none_built most players old = λ c low high. never_built (most c) (get_or old (c - 1) nowhere) (get_or old (c - 1) nowhere) refl
 
 -- what stands behind the systems of clients is not counted
-pub front_built : (most : ℕ → ℕ) (players : ℕ) (old new kept spare given out : List Systems) → given ≡ old ++ kept → out ≡ new ++ spare → length old ≡ players → length new ≡ players
+pub front_built : (most : ℕ → ℕ) (players : ℕ) (old new kept spare given out : List Systems) → given ≡ old ++ kept → out ≡ new ++ spare → length old ≡ players
+    → length new ≡ players
     → AllBuiltAtMost most players old new → AllBuiltAtMost most players given out
 front_built most players old new kept spare given out given_is out_is many more built = λ c low high.
-    let at : get_or given (c - 1) nowhere ≡ get_or old (c - 1) nowhere = ap (λ (xs : List Systems). get_or xs (c - 1) nowhere) given_is ∙ get_or-append old kept nowhere (c - 1) (omega (arith, many, low, high)) in
-    let now : get_or out (c - 1) nowhere ≡ get_or new (c - 1) nowhere = ap (λ (xs : List Systems). get_or xs (c - 1) nowhere) out_is ∙ get_or-append new spare nowhere (c - 1) (omega (arith, more, low, high)) in
-    subst (λ (s : Systems). AreBuiltAtMost (most c) s (get_or out (c - 1) nowhere)) (sym at) (subst (AreBuiltAtMost (most c) (get_or old (c - 1) nowhere)) (sym now) (built c low high))
+    let at : get_or given (c - 1) nowhere ≡ get_or old (c - 1) nowhere = ap (λ (xs : List Systems). get_or xs (c - 1) nowhere) given_is ∙
+    get_or-append old kept nowhere (c - 1) (omega (arith, many, low, high)) in
+    let now : get_or out (c - 1) nowhere ≡ get_or new (c - 1) nowhere = ap (λ (xs : List Systems). get_or xs (c - 1) nowhere) out_is ∙
+    get_or-append new spare nowhere (c - 1) (omega (arith, more, low, high)) in
+    subst (λ (s : Systems). AreBuiltAtMost (most c) s (get_or out (c - 1) nowhere)) (sym at)
+    (subst (AreBuiltAtMost (most c) (get_or old (c - 1) nowhere)) (sym now) (built c low high))

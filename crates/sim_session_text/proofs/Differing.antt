@@ -1,23 +1,11 @@
 -- Clients that differ at one turn have different states.
-use Rattle.std.proofs.Common.{◌≡◌, inl, ℕ, Bool, true, false, List, [], Option, Some, None, refl, sym, ap, ◌∙◌, if◌then◌else◌}
-use Rattle.std.specs.Prelude.{nat_lt, ◌==◌}
-use Rattle.std.proofs.lemmas.Bool.{eq-eqb, eqb-true, lt-ltb, cond-true}
-use Rattle.sim_base.specs.declared.setup.Setup.{Setup}
-use Rattle.sim_base.specs.declared.state.State.{State}
-use Rattle.sim_base.specs.Turn.{after, turns_in}
-use Rattle.sim_base.specs.Validity.{IsValid}
-use Rattle.sim_diff.specs.declared.place.Place.{Place}
-use Rattle.sim_diff.specs.Difference.{difference_of}
-use Rattle.sim_diff.proofs.LeastPlace.{difference_of-none}
-use Rattle.sim_diff.proofs.OneSpelling.{same_bits-spelling, spelling-same, same-no_difference}
-use Rattle.sim_laws.proofs.Turning.{after_counts_turns}
-use Rattle.sim_plain_session.specs.Clients.{Phase, On, Seat}
-use Rattle.sim_session_laws.proofs.Runs.{holds_session}
-use Rattle.sim_session_laws.proofs.PastFacts.{unbent_agree}
-use Rattle.sim_session_laws.proofs.StandingFacts.{pasts_are_always_valid}
-use Rattle.sim_session_text.specs.Pairs.{apart_at, states_apart, state_at, both_apart, clients_apart}
-use Rattle.sim_session_text.specs.SessionText.{session_of}
-use Rattle.sim_session_text.specs.Laws.{ApartWhereDifferent, UnbentAreTogether}
+use Rattle.{sim_diff.specs.Difference.difference_of, sim_diff.specs.declared.place.Place.Place, sim_laws.proofs.Turning.after_counts_turns}
+use Rattle.{sim_plain_session.specs.Clients.On, sim_plain_session.specs.Clients.Seat, std.proofs.lemmas.Bool.eqb-true}
+use Rattle.{sim_session_laws.proofs.PastFacts.unbent_agree, sim_session_laws.proofs.StandingFacts.pasts_are_always_valid, sim_session_text.proofs.Common.◌∙◌}
+use Rattle.sim_diff.proofs.{LeastPlace.difference_of-none, OneSpelling.same-no_difference, OneSpelling.same_bits-spelling, OneSpelling.spelling-same}
+use Rattle.sim_session_text.proofs.Common.{cond-true, eq-eqb, holds_session, inl, IsValid, lt-ltb, Phase, session_of, Setup, State, state_at, sym, turns_in}
+use Rattle.sim_session_text.proofs.Common.{◌≡◌, ℕ, Bool, true, false, List, [], if◌then◌else◌, nat_lt, ◌==◌, Some, None, Option, refl, after, ap, clients_apart}
+use Rattle.sim_session_text.specs.{Laws.ApartWhereDifferent, Laws.UnbentAreTogether, Pairs.apart_at, Pairs.both_apart, Pairs.states_apart}
 
 -- a line has at least one character
 no_line : (a b : ℕ) (place : Option Place) → apart_at a b place ≡ [] → place ≡ None
@@ -46,10 +34,13 @@ pub apart_where_different : ApartWhereDifferent
 apart_where_different setup list a b left right limits is before on_left on_right turns =
     let s = session_of setup list in
     let few = is.clients.1 in
-    let pair : clients_apart setup s a b ≡ both_apart a b (state_at setup (s.client a)) (state_at setup (s.client b)) = cond-true (nat_lt a b) _ [] (lt-ltb a b before) in
+    let pair : clients_apart setup s a b ≡ both_apart a b (state_at setup (s.client a)) (state_at setup (s.client b)) =
+    cond-true (nat_lt a b) _ [] (lt-ltb a b before) in
     let line = pair ∙ both setup a b (s.client a) (s.client b) left right on_left on_right ∙ compared a b _ _ (same_turn setup left right turns) in
-    let valid_left : IsValid setup (after setup left.past) = pasts_are_always_valid setup list.clients list.steps limits few left.past (inl (a, left, on_left, refl)) in
-    let valid_right : IsValid setup (after setup right.past) = pasts_are_always_valid setup list.clients list.steps limits few right.past (inl (b, right, on_right, refl)) in (
+    let valid_left : IsValid setup (after setup left.past) = pasts_are_always_valid setup list.clients list.steps limits few left.past
+    (inl (a, left, on_left, refl)) in
+    let valid_right : IsValid setup (after setup right.past) = pasts_are_always_valid setup list.clients list.steps limits few right.past
+    (inl (b, right, on_right, refl)) in (
       λ silent. spelling-same setup _ _ limits valid_left valid_right
           (same_bits-spelling setup _ _ valid_left valid_right (difference_of-none _ _ (no_line a b _ (sym line ∙ silent)))),
       λ same. line ∙ no_place a b _ (same-no_difference _ _ same),
@@ -64,9 +55,11 @@ unbent_are_together setup list a b left right limits is on_left on_right unbent_
     let s = session_of setup list in
     let whole = both setup a b (s.client a) (s.client b) left right on_left on_right in
     let agree : turns_in left.past ≡ turns_in right.past → after setup left.past ≡ after setup right.past =
-    λ turns. (unbent_agree setup s (holds_session setup list.clients list.steps is.clients.1) a b left right on_left on_right unbent_left unbent_right turns).0 in
+    λ turns. (unbent_agree setup s (holds_session setup list.clients list.steps is.clients.1) a b left right on_left on_right unbent_left unbent_right
+    turns).0 in
     let turns : (after setup left.past).turn ≡ (after setup right.past).turn → turns_in left.past ≡ turns_in right.past =
     λ same. sym (after_counts_turns setup left.past) ∙ same ∙ after_counts_turns setup right.past in
     let silent : states_apart a b (after setup left.past) (after setup right.past) ≡ [] =
-    silent_where ((after setup left.past).turn == (after setup right.past).turn) _ (λ test. no_place a b _ (same-no_difference _ _ (agree (turns (eqb-true _ _ test))))) in
+    silent_where ((after setup left.past).turn == (after setup right.past).turn) _
+    (λ test. no_place a b _ (same-no_difference _ _ (agree (turns (eqb-true _ _ test))))) in
     silent_where (nat_lt a b) _ (λ test. whole ∙ silent)

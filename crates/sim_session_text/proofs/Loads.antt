@@ -1,24 +1,14 @@
 -- A load among the events of a step is one of its client.
-use Rattle.std.proofs.Common.{◌≡◌, ℕ, ◌+◌, ◌≤◌, Bool, true, false, List, [], ◌∷◌, map, refl, sym, ◌∙◌, subst, arith}
-use Rattle.std.specs.Prelude.{if◌then◌else◌, ◌==◌}
-use Rattle.std.proofs.lemmas.Bool.{true≢false, eq-eqb}
-use Rattle.sim_base.specs.declared.setup.Setup.{Setup}
-use Rattle.sim_base.specs.declared.step.Event.{Event}
+use Rattle.{sim_base.specs.Rows.row_of, sim_base.specs.Turn.may_bend, sim_plain.specs.Messages.Heard, sim_plain.specs.Notices.noticed}
+use Rattle.std.proofs.lemmas.Bool.{true≢false}
+use Rattle.sim_plain_session.specs.{Pasts.rules_of, Printed.events_by, Printed.fall_events, Printed.leave_events, Printed.rise_events}
+use Rattle.sim_plain_session.specs.Clients.{Acted, bends, bent_seat, Down, hears, idle, Joining, joins, may_order, may_play, may_tell_done, Off, On, ordered}
+use Rattle.sim_plain_session.specs.Clients.{orders, played, plays, shows_bend, state_of, told_alone, told_with_done, Up}
+use Rattle.sim_session_text.proofs.Common.{eq-eqb, Event, events, has_load, is_client, loads_in, Phase, Session, Setup, Step, subst, sym, turns_in, ◌∙◌}
+use Rattle.sim_session_text.proofs.Common.{◌≡◌, ℕ, ◌+◌, ◌≤◌, Bool, true, false, List, [], ◌∷◌, map, if◌then◌else◌, ◌==◌, refl, after, arith, client_of, digest}
 use Rattle.sim_base.specs.declared.step.Event.TheVariants as event
-use Rattle.sim_base.specs.declared.step.Step.{Step}
 use Rattle.sim_base.specs.declared.step.Step.TheVariants as step
-use Rattle.sim_base.specs.Rows.{row_of}
-use Rattle.sim_base.specs.Spelling.{digest}
-use Rattle.sim_base.specs.Turn.{may_bend, after, turns_in}
 use Rattle.sim_plain.specs.declared.message.DownOf.TheVariants as down
-use Rattle.sim_plain.specs.Messages.{Heard}
-use Rattle.sim_plain.specs.Notices.{noticed}
-use Rattle.sim_plain_session.specs.Clients.{Acted, Phase, Off, Joining, On, Up, Down, may_order, may_play, may_tell_done, ordered, idle, played, told_with_done, told_alone, bent_seat, shows_bend, state_of, orders, plays, joins, bends, hears}
-use Rattle.sim_plain_session.specs.Pasts.{rules_of, is_client}
-use Rattle.sim_plain_session.specs.Printed.{rise_events, fall_events, leave_events, events_by, events}
-use Rattle.sim_plain_session.specs.Sessions.{Session, client_of}
-use Rattle.sim_session.specs.Building.{has_load}
-use Rattle.sim_session_text.specs.Rigs.{loads_in}
 
 -- where one of these events is a load, one of them is a load of this client
 abbrev OwnLoads : ℕ → List Event → Type 0
@@ -36,7 +26,8 @@ either c false one other p q = q
 ordering : (setup : Setup) (c : ℕ) (command : _) (phase : Phase) → OwnLoads c (orders setup c command phase).events
 ordering setup c command Off = none c [] refl
 ordering setup c command Joining = none c [] refl
-ordering setup c command (On seat) = either c (may_order setup seat) (ordered c command seat) (idle (On seat)) (none c (ordered c command seat).events refl) (none c [] refl)
+ordering setup c command (On seat) = either c (may_order setup seat) (ordered c command seat) (idle (On seat)) (none c (ordered c command seat).events refl)
+    (none c [] refl)
 
 playing : (setup : Setup) (c : ℕ) (phase : Phase) → OwnLoads c (plays setup c phase).events
 playing setup c Off = none c [] refl
@@ -44,7 +35,8 @@ playing setup c Joining = none c [] refl
 playing setup c (On seat) =
     let next = played seat in
     either c (may_play setup seat) (if may_tell_done setup next then told_with_done setup c next else told_alone setup c next) (idle (On seat))
-    (either c (may_tell_done setup next) (told_with_done setup c next) (told_alone setup c next) (none c (told_with_done setup c next).events refl) (none c (told_alone setup c next).events refl)) (none c [] refl)
+    (either c (may_tell_done setup next) (told_with_done setup c next) (told_alone setup c next) (none c (told_with_done setup c next).events refl)
+    (none c (told_alone setup c next).events refl)) (none c [] refl)
 
 joining : (c : ℕ) (phase : Phase) → OwnLoads c (joins c phase).events
 joining c Off = none c (joins c Off).events refl
@@ -55,7 +47,8 @@ bending : (setup : Setup) (c id : ℕ) (health : _) (phase : Phase) → OwnLoads
 bending setup c id health Off = none c [] refl
 bending setup c id health Joining = none c [] refl
 bending setup c id health (On seat) =
-    either c (may_bend setup health (row_of (state_of setup seat) id)) (shows_bend setup c (bent_seat id health seat)) (idle (On seat)) (none c (shows_bend setup c (bent_seat id health seat)).events refl) (none c [] refl)
+    either c (may_bend setup health (row_of (state_of setup seat) id)) (shows_bend setup c (bent_seat id health seat)) (idle (On seat))
+    (none c (shows_bend setup c (bent_seat id health seat)).events refl) (none c [] refl)
 
 leaving : (c : ℕ) (phase : Phase) → OwnLoads c (leave_events c phase)
 leaving c Off = none c [] refl

@@ -1,21 +1,13 @@
 -- A step behind other steps.
-use Rattle.std.proofs.Common.{◌≡◌, ℕ, zero, suc, ◌+◌, ◌<◌, ◌≤◌, List, [], ◌∷◌, ◌++◌, length, take, get_or, sym, ap, ◌∙◌, subst, append-nil, append_assoc, arith}
-use Rattle.std.proofs.lemmas.Grind.{flat_map-append}
-use Rattle.std.proofs.lemmas.List.{take_more}
-use Rattle.std.proofs.lemmas.List.Sums.{sum_by-append}
-use Rattle.std.specs.Prelude.{cond}
-use Rattle.sim_base.specs.declared.setup.Setup.{Setup}
-use Rattle.sim_base.specs.declared.step.Event.{Event}
-use Rattle.sim_base.specs.declared.step.Step.{Step}
-use Rattle.sim_plain_session.specs.Printed.{events, events_after}
-use Rattle.sim_plain_session.specs.Sessions.{Session, opened, stepped, after_steps, session}
-use Rattle.sim_report.specs.Events.{event_line}
-use Rattle.sim_session.specs.Standing.{Seen, StandsFor, Steps}
-use Rattle.sim_session_text.specs.SessionText.{lines_of}
-use Rattle.sim_session_text.specs.Rigs.{is_load_of, loads_in}
+use Rattle.{sim_plain_session.specs.Sessions.after_steps, std.proofs.lemmas.List.take_more, std.proofs.lemmas.List.Sums.sum_by-append, std.specs.Prelude.cond}
+use Rattle.sim_session_text.proofs.Common.{Event, event_line, events, events_after, flat_map-append, lines_of, loads_in, opened, Seen, Session, session, Setup}
+use Rattle.sim_session_text.proofs.Common.{StandsFor, Step, stepped, Steps, subst, sym, ◌∙◌}
+use Rattle.sim_session_text.proofs.Common.{◌≡◌, ℕ, zero, suc, ◌+◌, ◌<◌, ◌≤◌, List, [], ◌∷◌, ◌++◌, length, get_or, take, ap, append-nil, append_assoc, arith}
+use Rattle.sim_session_text.specs.Rigs.{is_load_of}
 
 -- its events come behind theirs
-events_more : (setup : Setup) (s : Session) (xs : List Step) (x : Step) → events_after setup s (xs ++ x ∷ []) ≡ events_after setup s xs ++ events setup (after_steps setup s xs) x
+events_more : (setup : Setup) (s : Session) (xs : List Step) (x : Step) → events_after setup s (xs ++ x ∷ []) ≡ events_after setup s xs ++
+    events setup (after_steps setup s xs) x
 events_more setup s [] x = append-nil (events setup s x)
 events_more setup s (y ∷ ys) x =
     ap (λ (l : List Event). events setup s y ++ l) (events_more setup (stepped setup s y) ys x)
@@ -32,8 +24,10 @@ lines_more setup active n steps x lt is =
     ∙ flat_map-append event_line (events_after setup (opened setup active) (take n steps)) (events setup (session setup active (take n steps)) x)
 
 -- what stood for the session over the steps so far stands for that over one more
-pub stands_more : (setup : Setup) (active n : ℕ) (steps : List Step) (x : Step) (old new : Seen) (answered : List Event) → active ≤ setup.players → n < length steps → x ≡ get_or steps n x
-    → Steps setup old x new answered → StandsFor setup old (session setup active (take n steps)) → StandsFor setup new (session setup active (take (n + 1) steps))
+pub stands_more : (setup : Setup) (active n : ℕ) (steps : List Step) (x : Step) (old new : Seen) (answered : List Event) → active ≤ setup.players
+    → n < length steps → x ≡ get_or steps n x
+    → Steps setup old x new answered → StandsFor setup old (session setup active (take n steps))
+    → StandsFor setup new (session setup active (take (n + 1) steps))
 stands_more setup active n steps x old new answered few lt is made stands =
     let more : take (n + 1) steps ≡ take n steps ++ x ∷ [] = take_more steps n x lt ∙ ap (λ (y : Step). take n steps ++ y ∷ []) (sym is) in
     subst (λ (xs : List Step). StandsFor setup new (session setup active xs)) (sym more) (made.stands active (take n steps) few stands)
@@ -56,7 +50,8 @@ pub loads_behind : (c : ℕ) (xs ys : List Event) → loads_in ys c ≤ loads_in
 loads_behind c xs ys = omega (arith, sum_by-append (λ e. cond (is_load_of c e) 1 0) xs ys)
 
 -- those of some steps are no more than those of all
-loads_grow : (setup : Setup) (s : Session) (n : ℕ) (steps : List Step) (c : ℕ) → loads_in (events_after setup s (take n steps)) c ≤ loads_in (events_after setup s steps) c
+loads_grow : (setup : Setup) (s : Session) (n : ℕ) (steps : List Step) (c : ℕ) → loads_in (events_after setup s (take n steps)) c ≤ loads_in
+    (events_after setup s steps) c
 loads_grow setup s zero steps c = omega arith
 loads_grow setup s (suc n) [] c = omega arith
 loads_grow setup s (suc n) (x ∷ xs) c =
@@ -66,5 +61,6 @@ loads_grow setup s (suc n) (x ∷ xs) c =
     omega (arith, some, all, loads_grow setup next n xs c)
 
 pub loads_within : (setup : Setup) (active n : ℕ) (steps : List Step) (x : Step) (c : ℕ) → n < length steps → x ≡ get_or steps n x
-    → loads_in (events_after setup (opened setup active) (take n steps)) c + loads_in (events setup (session setup active (take n steps)) x) c ≤ loads_in (events_after setup (opened setup active) steps) c
+    → loads_in (events_after setup (opened setup active) (take n steps)) c + loads_in (events setup (session setup active (take n steps)) x) c ≤ loads_in
+    (events_after setup (opened setup active) steps) c
 loads_within setup active n steps x c lt is = omega (arith, loads_more setup active n steps x c lt is, loads_grow setup (opened setup active) (n + 1) steps c)

@@ -1,18 +1,9 @@
 -- The client of the next number, and what is known of the state of one that may be called.
-use Rattle.std.proofs.Common.{◌≡◌, ℕ, ◌+◌, ◌-◌, ◌<◌, List, length, get_or, map, All, Option, Some, None, sym, ap, ◌∙◌, subst, arith}
-use Rattle.std.specs.Prelude.{IfSome}
-use Rattle.std.proofs.lemmas.List.{get_or-map}
-use Rattle.sim_base.specs.declared.setup.Setup.{Setup}
-use Rattle.sim_base.specs.Validity.{IsValid}
-use Rattle.sim_system.specs.Meanings.{Meaning}
-use Rattle.sim_board.specs.declared.board.Board.{Board}
-use Rattle.sim_client.specs.declared.client.Client.{Client}
-use Rattle.sim_client.specs.declared.stage.Stage.{Stage}
+use Rattle.{sim_board.specs.declared.board.Board.Board, std.proofs.lemmas.List.get_or-map, std.specs.Prelude.IfSome}
+use Rattle.sim_client.specs.{ClientWords.life, StageWords.IsReady, StageWords.life_at as life_on, declared.client.Client.Client, declared.stage.Stage.Stage}
+use Rattle.sim_session_text.proofs.Common.{Meaning, Off, Setup, state_of, subst, sym, ◌∙◌}
+use Rattle.sim_session_text.proofs.Common.{◌≡◌, ℕ, ◌+◌, ◌-◌, ◌<◌, List, map, length, get_or, Some, None, All, Option, ap, arith, IsValid, Life, life_at}
 use Rattle.sim_client.specs.declared.stage.Stage.TheVariants as stage
-use Rattle.sim_client.specs.ClientWords.{life, state_of}
-use Rattle.sim_client.specs.Lives.{Life, Off}
-use Rattle.sim_client.specs.StageWords.{life_at as life_on, IsReady}
-use Rattle.sim_session_text.specs.Seen.{life_at}
 
 -- behind so many clients stands the one of the next number
 pub life_next : {Y X : Type 0} {G : Y → Type 0} {F : X → Type 0} {M : _} (clients : List (Client Y X G F M)) (n : ℕ) (c : Client Y X G F M)

@@ -1,22 +1,12 @@
 -- What is seen of clients that have states is what is told of those that have pasts.
-use Rattle.std.proofs.Common.{◌≡◌, ℕ, ◌<◌, ◌≤◌, List, [], ◌∷◌, ◌++◌, Some, map, refl, ap}
-use Rattle.std.specs.Prelude.{codes}
-use Rattle.sim_base.specs.declared.setup.Setup.{Setup}
-use Rattle.sim_base.specs.declared.state.State.{State}
+use Rattle.{sim_plain_session.proofs.PlayerLemmas.same_turn, sim_session_text.specs.Endings.end_lines, sim_session_text.specs.Pairs.apart_lines}
+use Rattle.sim_pipes.specs.Pipes.{AreFrames}
+use Rattle.sim_session_text.proofs.{Common.State, Common.state_at, Common.state_of, Common.told_of, Telling.told_same}
+use Rattle.sim_session_text.proofs.Common.{end_seen, ends_seen, Joining, Life, Lives, Off, On, pair_apart, pipe_in, pipe_line, pipes_seen, Session, Setup}
+use Rattle.sim_session_text.proofs.Common.{◌≡◌, ℕ, ◌<◌, ◌≤◌, List, [], ◌∷◌, ◌++◌, map, Some, codes, refl, ap, beside_seen, clients_apart, end_line, end_of}
+use Rattle.sim_session_text.specs.{Pipes.down_frames, Pipes.pipe_lines, Pipes.pipes_of, Pipes.up_frames, Seen.AllLive, Seen.EndingsAreSeen, Seen.pairs_seen}
+use Rattle.sim_wire.specs.{Fits.IsDownFrame, Fits.IsUpFrame, Frames.down_frame, Frames.up_frame}
 use Rattle.sim_plain_session.specs.Clients as plain
-use Rattle.sim_plain_session.specs.Sessions.{Session}
-use Rattle.sim_plain_session.proofs.PlayerLemmas.{same_turn}
-use Rattle.sim_client.specs.Lives.{Life, Off, Joining, On}
-use Rattle.sim_client.specs.LifeLaws.{Lives}
-use Rattle.sim_client.specs.ClientWords.{state_of}
-use Rattle.sim_pipes.specs.Pipes.{AreFrames, pipe_in}
-use Rattle.sim_wire.specs.Fits.{IsUpFrame, IsDownFrame}
-use Rattle.sim_wire.specs.Frames.{up_frame, down_frame}
-use Rattle.sim_session_text.specs.Endings.{told_of, end_line, end_of, end_lines}
-use Rattle.sim_session_text.specs.Pairs.{state_at, pair_apart, clients_apart, apart_lines}
-use Rattle.sim_session_text.specs.Pipes.{pipe_line, pipes_of, pipe_lines, up_frames, down_frames}
-use Rattle.sim_session_text.specs.Seen.{end_seen, ends_seen, beside_seen, pairs_seen, pipes_seen, AllLive, EndingsAreSeen}
-use Rattle.sim_session_text.proofs.Telling.{told_same}
 
 end_same : (setup : Setup) (life : Life) (phase : plain.Phase) → Lives setup life phase → end_seen setup life ≡ end_of setup phase
 end_same setup Off plain.Off lives = refl

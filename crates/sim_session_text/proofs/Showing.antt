@@ -1,35 +1,19 @@
 -- An event of a session shows what the steps up to its own led to, and each step has the events that are of it.
-use Rattle.std.proofs.Common.{◌≡◌, ◌⊎◌, inl, inr, ℕ, zero, suc, ◌≤◌, min, true, All, List, [], ◌∷◌, ◌++◌, refl, sym, ap, ◌∙◌, subst, arith, append_assoc, append-nil}
-use Rattle.std.proofs.lemmas.Bool.{and_from, lt-ltb, le-leb, cond-true}
-use Rattle.std.proofs.lemmas.List.Elements.{All-head}
-use Rattle.sim_base.specs.declared.command.PlayerCommand.{PlayerCommand}
-use Rattle.sim_base.specs.declared.setup.Setup.{Setup}
-use Rattle.sim_base.specs.declared.step.Step.{Step}
-use Rattle.sim_base.specs.declared.step.Step.TheVariants as step
-use Rattle.sim_base.specs.declared.step.Event.{Event}
+use Rattle.{sim_plain_session.specs.Pasts.kept_turns, sim_session_text.proofs.Common.turns_in, sim_session_text.proofs.Common.◌∙◌}
+use Rattle.std.proofs.{Common.◌⊎◌, Common.inr, lemmas.Bool.and_from, lemmas.List.Elements.All-head}
+use Rattle.sim_base.specs.{Limits.IsFrom, Turn.Turn, declared.command.PlayerCommand.PlayerCommand}
+use Rattle.sim_lists.specs.StepLists.{IsStepList}
+use Rattle.sim_plain_session.proofs.{Enabling.steps_have_events, GoingOn.session_goes_on, Shown.events_are_shown, Shown.starts_are_shown}
+use Rattle.sim_plain_session.specs.{Clients.begun, Clients.digest_of, Clients.Joining, Clients.Off, Clients.On, Laws.Carries, Laws.IsAt, Laws.IsShown}
+use Rattle.sim_session_laws.proofs.{Basics.all_right, Final.released_are_final, PastFacts.unbent_are_kept, TurnNumberFacts.turns_are_released}
+use Rattle.sim_session_text.proofs.Common.{client_of, cond-true, digest, end_of, Event, events_after, holds_session, inl, is_active, is_client, IsStep, le-leb}
+use Rattle.sim_session_text.proofs.Common.{lt-ltb, opened, Phase, Session, session, session_of, Setup, start_events, Step, StepList, stepped, subst, sym}
+use Rattle.sim_session_text.proofs.Common.{◌≡◌, ℕ, zero, suc, ◌≤◌, min, true, List, [], ◌∷◌, ◌++◌, All, refl, after, ap, append-nil, append_assoc, arith}
+use Rattle.sim_session_text.specs.{Laws.StepsShowPasts, SessionText.events_of, SessionText.session_at, SessionText.step_events}
+use Rattle.sim_session_text.specs.Laws.{EndsShowPasts, EventsShowPasts, IsStepAt, PlaysAreTold, ShowsPast, StandsAt, StartsShowPasts, StepsAreTold}
 use Rattle.sim_base.specs.declared.step.Event.TheVariants as event
-use Rattle.sim_base.specs.Limits.{IsFrom}
-use Rattle.sim_base.specs.Spelling.{digest}
-use Rattle.sim_base.specs.Turn.{Turn, after, turns_in}
-use Rattle.sim_lists.specs.declared.step_list.StepList.{StepList}
-use Rattle.sim_lists.specs.StepLists.{IsStep, IsStepList}
-use Rattle.sim_plain_session.specs.Clients.{Phase, Off, Joining, On, begun, digest_of}
-use Rattle.sim_plain_session.specs.Laws.{Carries, IsAt, IsShown}
-use Rattle.sim_plain_session.specs.Pasts.{is_client, kept_turns}
-use Rattle.sim_plain_session.specs.Printed.{start_events, events_after}
-use Rattle.sim_plain_session.specs.Sessions.{Session, client_of, is_active, opened, stepped, session}
-use Rattle.sim_plain_session.proofs.Enabling.{steps_have_events}
-use Rattle.sim_plain_session.proofs.GoingOn.{session_goes_on}
-use Rattle.sim_plain_session.proofs.Shown.{events_are_shown, starts_are_shown}
-use Rattle.sim_session_laws.proofs.Basics.{all_right}
-use Rattle.sim_session_laws.proofs.Runs.{holds_session}
-use Rattle.sim_session_laws.proofs.PastFacts.{unbent_are_kept}
-use Rattle.sim_session_laws.proofs.TurnNumberFacts.{turns_are_released}
-use Rattle.sim_session_laws.proofs.Final.{released_are_final}
+use Rattle.sim_base.specs.declared.step.Step.TheVariants as step
 use Rattle.sim_session_text.specs.declared.ending.End.TheVariants as ends
-use Rattle.sim_session_text.specs.Endings.{end_of}
-use Rattle.sim_session_text.specs.SessionText.{session_at, session_of, events_of, step_events}
-use Rattle.sim_session_text.specs.Laws.{IsStepAt, StandsAt, ShowsPast, StartsShowPasts, StepsShowPasts, EventsShowPasts, EndsShowPasts, PlaysAreTold, StepsAreTold}
 
 -- ---- the commands of released turns stay
 
@@ -40,7 +24,8 @@ same_turns f g (suc n) same =
     let rest : kept_turns f n ≡ kept_turns g n = same_turns f g n (λ t within. same t (omega (arith, within))) in
     cc
 
-final_turns : (setup : Setup) (active : ℕ) (before rest all : List Step) (n : ℕ) → active ≤ setup.players → before ++ rest ≡ all → n ≤ (session setup active before).server.released
+final_turns : (setup : Setup) (active : ℕ) (before rest all : List Step) (n : ℕ) → active ≤ setup.players → before ++ rest ≡ all
+    → n ≤ (session setup active before).server.released
     → kept_turns (session setup active before).server.kept n ≡ kept_turns (session setup active all).server.kept n
 final_turns setup active before rest all n few whole released =
     subst (λ (steps : List Step). kept_turns (session setup active before).server.kept n ≡ kept_turns (session setup active steps).server.kept n) whole

@@ -1,9 +1,9 @@
 -- What is told of one client more, and of one event more.
-use Rattle.std.proofs.Common.{◌≡◌, ℕ, zero, suc, ◌+◌, ◌<◌, ◌≤◌, List, ◌++◌, refl, sym, ap, ◌∙◌, append_assoc, add-one, arith}
-use Rattle.sim_session_text.specs.Endings.{told_of}
+use Rattle.sim_session_text.proofs.Common.{◌≡◌, ℕ, zero, suc, ◌+◌, ◌<◌, ◌≤◌, List, ◌++◌, refl, add-one, ap, append_assoc, arith, sym, told_of, ◌∙◌}
 
 -- the line of one more stands behind those so far
-pub told_more : (tell : ℕ → List ℕ) (i : ℕ) (start old new : List ℕ) → old ≡ start ++ told_of tell i → new ≡ old ++ tell (i + 1) → new ≡ start ++ told_of tell (i + 1)
+pub told_more : (tell : ℕ → List ℕ) (i : ℕ) (start old new : List ℕ) → old ≡ start ++ told_of tell i → new ≡ old ++ tell (i + 1)
+    → new ≡ start ++ told_of tell (i + 1)
 told_more tell i start old new old-is new-is =
     new-is ∙ ap (λ (l : List ℕ). l ++ tell (i + 1)) old-is ∙ append_assoc start (told_of tell i) (tell (i + 1))
     ∙ ap (λ n. start ++ (told_of tell i ++ tell n)) (add-one i) ∙ ap (λ n. start ++ told_of tell n) (sym (add-one i))

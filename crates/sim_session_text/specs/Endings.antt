@@ -1,11 +1,8 @@
 -- What each client of a session has come to.
+use Rattle.{sim_base.specs.Turn.turns_in, sim_base.specs.declared.setup.Setup.Setup, sim_session_text.specs.declared.ending.End.End}
 use Rattle.std.specs.Prelude.{ℕ, zero, suc, List, [], ◌++◌, codes, decimal}
-use Rattle.sim_base.specs.declared.setup.Setup.{Setup}
-use Rattle.sim_base.specs.Turn.{turns_in}
+use Rattle.sim_plain_session.specs.{Clients.digest_of, Clients.Joining, Clients.Off, Clients.On, Clients.Phase, Sessions.Session}
 use Rattle.sim_report.specs.Lines.{turn_line}
-use Rattle.sim_plain_session.specs.Clients.{Phase, Off, Joining, On, digest_of}
-use Rattle.sim_plain_session.specs.Sessions.{Session}
-use Rattle.sim_session_text.specs.declared.ending.End.{End}
 use Rattle.sim_session_text.specs.declared.ending.End.TheVariants as ends
 
 -- what is told of each of 1 to n, in their order

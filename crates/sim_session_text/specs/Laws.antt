@@ -1,24 +1,13 @@
 -- What the text of a session shows, whatever its steps are.
-use Rattle.std.specs.Prelude.{◌≡◌, ◌↔◌, ℕ, suc, ◌<◌, ◌≤◌, true, List, [], ◌∷◌, ◌++◌}
-use Rattle.sim_base.specs.declared.setup.Setup.{Setup}
-use Rattle.sim_base.specs.declared.step.Event.{Event}
+use Rattle.{sim_base.specs.Spelling.digest, sim_plain.specs.Notices.notices, sim_plain_session.specs.Clients.On, sim_plain_session.specs.Clients.Seat}
+use Rattle.{sim_lists.specs.StepLists.IsStepList, sim_lists.specs.declared.step_list.StepList.StepList, sim_session_text.specs.Endings.end_of}
+use Rattle.std.specs.Prelude.{◌≡◌, ℕ, suc, ◌<◌, ◌≤◌, true, ◌↔◌, List, [], ◌∷◌, ◌++◌}
+use Rattle.sim_base.specs.{Limits.IsSetup, Turn.after, Turn.Turn, Turn.turns_in, declared.setup.Setup.Setup, declared.step.Event.Event, declared.step.Step.Step}
+use Rattle.sim_plain_session.specs.{Enabled.CanPlay, Enabled.IsOfStep, Laws.Carries, Laws.notices_in, Pasts.is_unbent, Pasts.kept_turns, Pasts.rules_of}
+use Rattle.sim_session_text.specs.{Pairs.clients_apart, SessionText.events_of, SessionText.session_at, SessionText.session_of, SessionText.step_events}
 use Rattle.sim_base.specs.declared.step.Event.TheVariants as event
-use Rattle.sim_base.specs.declared.step.Step.{Step}
 use Rattle.sim_base.specs.declared.step.Step.TheVariants as step
-use Rattle.sim_base.specs.Limits.{IsSetup}
-use Rattle.sim_base.specs.Turn.{Turn, after, turns_in}
-use Rattle.sim_base.specs.Spelling.{digest}
-use Rattle.sim_plain.specs.Notices.{notices}
-use Rattle.sim_lists.specs.declared.step_list.StepList.{StepList}
-use Rattle.sim_lists.specs.StepLists.{IsStepList}
-use Rattle.sim_plain_session.specs.Clients.{Seat, On}
-use Rattle.sim_plain_session.specs.Enabled.{CanPlay, IsOfStep}
-use Rattle.sim_plain_session.specs.Laws.{Carries, notices_in}
-use Rattle.sim_plain_session.specs.Pasts.{rules_of, is_unbent, kept_turns}
 use Rattle.sim_session_text.specs.declared.ending.End.TheVariants as ends
-use Rattle.sim_session_text.specs.Endings.{end_of}
-use Rattle.sim_session_text.specs.Pairs.{clients_apart}
-use Rattle.sim_session_text.specs.SessionText.{session_at, session_of, events_of, step_events}
 
 -- a step of the list, with the steps before it
 pub record IsStepAt (list : StepList) (before : List Step) (x : Step) : Type 0 where

@@ -1,13 +1,9 @@
 -- Which clients of a session have come to different states in one turn.
-use Rattle.std.specs.Prelude.{ℕ, nat_lt, ◌==◌, if◌then◌else◌, List, [], ◌++◌, codes, decimal, Option, Some, None}
-use Rattle.sim_base.specs.declared.setup.Setup.{Setup}
-use Rattle.sim_base.specs.declared.state.State.{State}
-use Rattle.sim_diff.specs.declared.place.Place.{Place}
-use Rattle.sim_diff.specs.Difference.{difference_of}
-use Rattle.sim_report.specs.Places.{part_name}
-use Rattle.sim_plain_session.specs.Clients.{Phase, Off, Joining, On, state_of}
-use Rattle.sim_plain_session.specs.Sessions.{Session}
-use Rattle.sim_session_text.specs.Endings.{told_of, of_client}
+use Rattle.{sim_base.specs.declared.setup.Setup.Setup, sim_base.specs.declared.state.State.State, sim_report.specs.Places.part_name}
+use Rattle.std.specs.Prelude.{ℕ, List, [], ◌++◌, if◌then◌else◌, nat_lt, ◌==◌, Some, None, codes, decimal, Option}
+use Rattle.sim_diff.specs.{Difference.difference_of, declared.place.Place.Place}
+use Rattle.sim_plain_session.specs.{Clients.Joining, Clients.Off, Clients.On, Clients.Phase, Clients.state_of, Sessions.Session}
+use Rattle.sim_session_text.specs.Endings.{of_client, told_of}
 
 -- the entity and the part of a place
 abbrev pub place_name : Place → List ℕ

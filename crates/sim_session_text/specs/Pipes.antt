@@ -1,11 +1,8 @@
 -- What still lies in the pipes of a session.
-use Rattle.std.specs.Prelude.{ℕ, List, ◌++◌, codes, length, map, flat_map}
-use Rattle.sim_base.specs.declared.setup.Setup.{Setup}
-use Rattle.sim_wire.specs.Frames.{up_frame, down_frame}
-use Rattle.sim_report.specs.Lines.{spaced_number}
-use Rattle.sim_plain_session.specs.Bytes.{ups_of, downs_of}
-use Rattle.sim_plain_session.specs.Sessions.{Session}
-use Rattle.sim_session_text.specs.Endings.{told_of, of_client}
+use Rattle.{sim_base.specs.declared.setup.Setup.Setup, sim_report.specs.Lines.spaced_number}
+use Rattle.{sim_session_text.specs.Endings.of_client, sim_session_text.specs.Endings.told_of, sim_wire.specs.Frames.down_frame, sim_wire.specs.Frames.up_frame}
+use Rattle.std.specs.Prelude.{ℕ, List, ◌++◌, map, length, codes, flat_map}
+use Rattle.sim_plain_session.specs.{Bytes.downs_of, Bytes.ups_of, Sessions.Session}
 
 -- how long each frame is, the first to be heard first
 abbrev pub lengths_text : List (List ℕ) → List ℕ

@@ -1,14 +1,10 @@
 -- What the systems of clients stand for when a session has ended, and how often they were built in it.
-use Rattle.std.specs.Prelude.{ℕ, ◌+◌, ◌<◌, ◌≤◌, ◌-◌, Bool, false, ◌==◌, nat_le, if◌then◌else◌, List, count_by, slice_index_or}
-use Rattle.sim_base.specs.declared.setup.Setup.{Setup}
-use Rattle.sim_base.specs.declared.step.Event.{Event}
+use Rattle.{sim_base.specs.declared.setup.Setup.Setup, sim_base.specs.declared.step.Event.Event, sim_lists.specs.declared.step_list.StepList.StepList}
+use Rattle.{sim_client.specs.StageWords.AreCleared, sim_client.specs.StageWords.nowhere, sim_session_text.specs.SessionText.events_of}
+use Rattle.std.specs.Prelude.{ℕ, ◌+◌, ◌-◌, ◌<◌, ◌≤◌, Bool, false, List, if◌then◌else◌, nat_le, ◌==◌, slice_index_or, count_by}
+use Rattle.sim_plain_session.specs.{Clients.Joining, Clients.Off, Clients.On, Clients.Phase, Clients.state_of, Sessions.Session}
+use Rattle.sim_system.specs.Meanings.{AreFed, Meaning, Systems}
 use Rattle.sim_base.specs.declared.step.Event.TheVariants as event
-use Rattle.sim_system.specs.Meanings.{Meaning, Systems, AreFed}
-use Rattle.sim_lists.specs.declared.step_list.StepList.{StepList}
-use Rattle.sim_session_text.specs.SessionText.{events_of}
-use Rattle.sim_client.specs.StageWords.{AreCleared, nowhere}
-use Rattle.sim_plain_session.specs.Clients.{Phase, Off, Joining, On, state_of}
-use Rattle.sim_plain_session.specs.Sessions.{Session}
 
 -- those of a client that is on have the facts of its state, and those of any other none
 abbrev pub StandFor : Setup → Phase → Systems → Type 0

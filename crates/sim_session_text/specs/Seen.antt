@@ -1,23 +1,12 @@
 -- What is printed of a session in the end, as it is seen of clients that have states and of pipes of frames.
-use Rattle.std.specs.Prelude.{◌≡◌, ℕ, ◌-◌, ◌<◌, ◌≤◌, List, ◌++◌, codes, map, slice_index_or}
-use Rattle.sim_base.specs.declared.setup.Setup.{Setup}
-use Rattle.sim_base.specs.Spelling.{digest}
-use Rattle.sim_server.specs.Standing.{server_of}
-use Rattle.sim_system.specs.declared.system.System.{Ghosts}
-use Rattle.sim_plain_session.specs.Sessions.{Session}
-use Rattle.sim_pipes.specs.Exchanges.{Held, Conveys}
-use Rattle.sim_pipes.specs.Pipes.{pipe_in}
-use Rattle.sim_client.specs.declared.client.Client.{Client}
-use Rattle.sim_client.specs.Lives.{Life, Off, Joining, On}
-use Rattle.sim_client.specs.LifeLaws.{Lives}
+use Rattle.{sim_base.specs.Spelling.digest, sim_base.specs.declared.setup.Setup.Setup, sim_server.specs.Standing.server_of}
+use Rattle.{sim_pipes.specs.Exchanges.Conveys, sim_pipes.specs.Exchanges.Held, sim_pipes.specs.Pipes.pipe_in, sim_system.specs.declared.system.System.Ghosts}
+use Rattle.{sim_plain_session.specs.Sessions.Session, sim_session_text.specs.Pairs.pair_apart, sim_session_text.specs.Pipes.pipe_line}
+use Rattle.std.specs.Prelude.{◌≡◌, ℕ, ◌-◌, ◌<◌, ◌≤◌, List, ◌++◌, map, slice_index_or, codes}
+use Rattle.sim_client.specs.{ClientWords.state_of, LifeLaws.Lives, Lives.Joining, Lives.Life, Lives.Off, Lives.On, declared.client.Client.Client}
+use Rattle.sim_session_text.specs.{Endings.end_line, Endings.told_of, SessionText.ending_lines, SessionText.server_lines, declared.ending.End.End}
 use Rattle.sim_client.specs.ClientWords as client
-use Rattle.sim_client.specs.ClientWords.{state_of}
-use Rattle.sim_session_text.specs.declared.ending.End.{End}
 use Rattle.sim_session_text.specs.declared.ending.End.TheVariants as ends
-use Rattle.sim_session_text.specs.Endings.{told_of, end_line}
-use Rattle.sim_session_text.specs.Pairs.{pair_apart}
-use Rattle.sim_session_text.specs.Pipes.{pipe_line}
-use Rattle.sim_session_text.specs.SessionText.{server_lines, ending_lines}
 
 -- what a client is that has a state
 abbrev pub end_seen : Setup → Life → End
@@ -51,7 +40,8 @@ abbrev pub life_at : {Y X : Type 0} {G : Y → Type 0} {F : X → Type 0} {M : _
 life_at clients c = slice_index_or (map (λ x. client.life x) clients) (c - 1) Off
 
 -- a client of this match, whose calls may be made
-pub record IsMember {Y X : Type 0} {G : Y → Type 0} {F : X → Type 0} {M : _} (setup : Setup) (sys : (i : X) → Ghosts (F i)) (c : Client Y X G F M) : Type 0 where
+pub record IsMember {Y X : Type 0} {G : Y → Type 0} {F : X → Type 0} {M : _} (setup : Setup) (sys : (i : X) → Ghosts (F i)) (c : Client Y X G F M) :
+    Type 0 where
   pub sound : client.IsSound c sys
   pub same : client.setup_in c ≡ setup
 

@@ -1,18 +1,10 @@
 -- The whole text of a session.
+use Rattle.{sim_lists.specs.declared.step_list.StepList.StepList, sim_report.specs.Downs.released_line, sim_report.specs.Events.event_line}
+use Rattle.{sim_plain.specs.Server.Server, sim_serve.specs.Served.kept_lines}
 use Rattle.std.specs.Prelude.{ℕ, List, ◌++◌, flat_map}
-use Rattle.sim_base.specs.declared.setup.Setup.{Setup}
-use Rattle.sim_base.specs.declared.step.Event.{Event}
-use Rattle.sim_base.specs.declared.step.Step.{Step}
-use Rattle.sim_plain.specs.Server.{Server}
-use Rattle.sim_lists.specs.declared.step_list.StepList.{StepList}
-use Rattle.sim_report.specs.Downs.{released_line}
-use Rattle.sim_report.specs.Events.{event_line}
-use Rattle.sim_serve.specs.Served.{kept_lines}
-use Rattle.sim_plain_session.specs.Printed.{events, session_events}
-use Rattle.sim_plain_session.specs.Sessions.{Session, session}
-use Rattle.sim_session_text.specs.Endings.{end_lines}
-use Rattle.sim_session_text.specs.Pairs.{apart_lines}
-use Rattle.sim_session_text.specs.Pipes.{pipe_lines}
+use Rattle.sim_base.specs.declared.{setup.Setup.Setup, step.Event.Event, step.Step.Step}
+use Rattle.sim_plain_session.specs.{Printed.events, Printed.session_events, Sessions.Session, Sessions.session}
+use Rattle.sim_session_text.specs.{Endings.end_lines, Pairs.apart_lines, Pipes.pipe_lines}
 
 -- the session of a list after some of its steps
 abbrev pub session_at : Setup → StepList → List Step → Session

@@ -1,11 +1,9 @@
 //! The lines of clients whose states differ. The bytes that each has there are not told, as they are where two stored
 //! states are compared.
 
-ghost use Rattle.std.specs.Prelude.{◌≡◌, ◌++◌, All, OnOk, OnErr, map, string_bytes};
-ghost use Rattle.std.specs.List.Sorted.{IsStrictlyIncreasing};
-ghost use Rattle.sim_base.specs.Rows.{id_of};
-ghost use Rattle.sim_sections.specs.Rows.{HasShortWay};
-ghost use Rattle.sim_session_text.specs.Pairs.{apart_line, states_apart};
+ghost use Rattle.{sim_base.specs.Rows.id_of, sim_sections.specs.Rows.HasShortWay};
+ghost use Rattle.{sim_session_text.specs.Pairs.apart_line, sim_session_text.specs.Pairs.states_apart, std.specs.List.Sorted.IsStrictlyIncreasing};
+ghost use Rattle.std.specs.Prelude.{◌≡◌, ◌++◌, map, OnOk, OnErr, string_bytes, All};
 
 use sim_base::{OutOfMemory, State};
 use sim_diff::{Place, difference};

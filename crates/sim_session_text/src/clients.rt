@@ -1,12 +1,10 @@
 //! What is seen of a client in the end.
 
 ghost use Rattle.std.specs.Prelude.{◌≡◌, ◌++◌, OnOk, string_bytes};
-ghost use Rattle.sim_client.specs.ClientWords.{setup_in, life, IsSound, state_of};
-ghost use Rattle.sim_session_text.specs.Pairs.{pair_apart};
-ghost use Rattle.sim_session_text.specs.Seen.{end_seen};
+ghost use Rattle.sim_client.specs.ClientWords.{IsSound, life, setup_in, state_of};
+ghost use Rattle.sim_session_text.specs.{Pairs.pair_apart, Seen.end_seen};
 
-use crate::apart::push_difference;
-use crate::ending::End;
+use crate::{End, push_difference};
 use sim_base::OutOfMemory;
 use sim_client::Client;
 use sim_system::System;
@@ -32,7 +30,8 @@ pub fn push_pair(
 ) -> Result<(), OutOfMemory>
     requires left { IsSound left.now ⟦<dyn System as System>⟧ }
     requires right { IsSound right.now ⟦<dyn System as System>⟧ }
-    ensures { OnOk result (string_bytes out.new ≡ string_bytes out.old ++ pair_apart clients.0 clients.1 (state_of (life left.now)) (state_of (life right.now))) }
+    ensures { OnOk result (string_bytes out.new ≡ string_bytes out.old ++ pair_apart clients.0 clients.1 (state_of (life left.now))
+        (state_of (life right.now))) }
 {
     if clients.1 <= clients.0 {
         return Ok(());

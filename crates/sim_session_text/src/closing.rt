@@ -1,14 +1,11 @@
 //! What a session has come to: its server, the clients that differ, what each client is, and what lies in the pipes.
 
-ghost use Rattle.std.specs.Prelude.{◌≡◌, ◌++◌, ◌≤◌, All, OnOk, length, string_bytes};
-ghost use Rattle.sim_client.specs.ClientWords.{life};
-ghost use Rattle.sim_pipes.specs.Pipes.{pipe_in};
-ghost use Rattle.sim_session_text.specs.Seen.{IsMember, life_at, beside_seen, pairs_seen, ends_seen, pipes_seen, ending_seen};
+ghost use Rattle.{sim_client.specs.ClientWords.life, sim_pipes.specs.Pipes.pipe_in};
+ghost use Rattle.std.specs.Prelude.{◌≡◌, ◌≤◌, ◌++◌, length, OnOk, string_bytes, All};
+ghost use Rattle.sim_session_text.specs.Seen.{beside_seen, ending_seen, ends_seen, IsMember, life_at, pairs_seen, pipes_seen};
 
-use crate::clients::{end_of, push_pair};
-use crate::ending::push_end;
-use crate::pipe::push_pipe;
-use crate::told::push_server;
+use crate::clients::push_pair;
+use crate::{end_of, push_end, push_pipe, push_server};
 use sim_base::{OutOfMemory, Setup};
 use sim_client::Client;
 use sim_pipes::Exchange;

@@ -1,26 +1,21 @@
 //! A session that is begun, goes through its steps and is told.
 
-ghost use Rattle.std.specs.Prelude.{◌≡◌, ◌≤◌, ◌++◌, All, IfOk, OnOk, length, drop, string_bytes, vec_capacity};
-ghost use Rattle.sim_base.specs.Limits.{IsSetup};
-ghost use Rattle.sim_client.specs.ClientWords.{IsSound, life, digest_of, setup_in as client_setup_in};
-ghost use Rattle.sim_client.specs.StageWords.{AreCleared};
-ghost use Rattle.sim_lists.specs.StepLists.{IsStepList};
-ghost use Rattle.sim_plain_session.specs.Printed.{start_events, events_after};
-ghost use Rattle.sim_plain_session.specs.Sessions.{opened};
-ghost use Rattle.sim_session.specs.SessionWords.{setup_in, clients_in, systems_in, seen_in, spare_in, room_in, rigs_of, MayFinish, IsSession};
-ghost use Rattle.sim_session.specs.Standing.{StandsFor};
-ghost use Rattle.sim_session_text.specs.SessionText.{lines_of, session_of, session_text as text_of_session};
-ghost use Rattle.sim_system.specs.Meanings.{HaveKinds};
-ghost use Rattle.sim_session_text.specs.Rigs.{AllStand, AllBuiltAtMost, builds_of, loads_in};
-ghost use Rattle.sim_session_text.specs.Starts.{start_lines};
+ghost use Rattle.{sim_base.specs.Limits.IsSetup, sim_system.specs.Meanings.HaveKinds};
+ghost use Rattle.{sim_client.specs.StageWords.AreCleared, sim_lists.specs.StepLists.IsStepList, sim_session.specs.Standing.StandsFor};
+ghost use Rattle.std.specs.Prelude.{◌≡◌, ◌≤◌, ◌++◌, length, drop, IfOk, OnOk, vec_capacity, string_bytes, All};
+ghost use Rattle.sim_client.specs.ClientWords.{digest_of, IsSound, life, setup_in as client_setup_in};
+ghost use Rattle.sim_plain_session.specs.{Printed.events_after, Printed.start_events, Sessions.opened};
+ghost use Rattle.sim_session.specs.SessionWords.{clients_in, IsSession, MayFinish, rigs_of, room_in, seen_in, setup_in, spare_in, systems_in};
+ghost use Rattle.sim_session_text.specs.{SessionText.lines_of, SessionText.session_of, SessionText.session_text as text_of_session, Starts.start_lines};
+ghost use Rattle.sim_session_text.specs.Rigs.{AllBuiltAtMost, AllStand, builds_of, loads_in};
 
+use crate::{push_ending, push_events};
 use sim_base::{Event, OutOfMemory, Setup};
 use sim_client::Client;
 use sim_lists::StepList;
 use sim_orders::OrderTable;
 use sim_report::push_event;
 use sim_session::Session;
-use crate::{push_ending, push_events};
 use sim_system::{Rig, System};
 use std::alloc::Global;
 
@@ -65,8 +60,10 @@ fn push_steps(
     requires list { IsStepList (setup_in session.old).players list.now }
     requires opened { StandsFor (setup_in session.old) (seen_in session.old) (opened (setup_in session.old) list.now.clients) }
     ensures stands { OnOk result (StandsFor (setup_in session.old) (seen_in session.new) (session_of (setup_in session.old) list.now)) }
-    ensures text { OnOk result (string_bytes text.new ≡ string_bytes text.old ++ lines_of (events_after (setup_in session.old) (opened (setup_in session.old) list.now.clients) list.now.steps)) }
-    ensures built { AllBuiltAtMost (loads_in (events_after (setup_in session.old) (opened (setup_in session.old) list.now.clients) list.now.steps)) (setup_in session.old).players (systems_in session.old ⟦<dyn System as System>⟧) (systems_in session.new ⟦<dyn System as System>⟧) }
+    ensures text { OnOk result (string_bytes text.new ≡ string_bytes text.old ++
+        lines_of (events_after (setup_in session.old) (opened (setup_in session.old) list.now.clients) list.now.steps)) }
+    ensures built { AllBuiltAtMost (loads_in (events_after (setup_in session.old) (opened (setup_in session.old) list.now.clients) list.now.steps))
+        (setup_in session.old).players (systems_in session.old ⟦<dyn System as System>⟧) (systems_in session.new ⟦<dyn System as System>⟧) }
     ensures session { OnOk result (IsSession session.new ⟦<dyn System as System>⟧) }
     ensures finish { MayFinish session.new ⟦<dyn System as System>⟧ }
     ensures setup { setup_in session.new ≡ setup_in session.old }
@@ -92,7 +89,8 @@ fn push_session(
     requires opened { StandsFor (setup_in session.old) (seen_in session.old) (opened (setup_in session.old) 0) }
     ensures stands { OnOk result (StandsFor (setup_in session.old) (seen_in session.new) (session_of (setup_in session.old) list.now)) }
     ensures text { OnOk result (string_bytes text.new ≡ string_bytes text.old ++ text_of_session (setup_in session.old) list.now) }
-    ensures built { AllBuiltAtMost (builds_of (setup_in session.old) list.now) (setup_in session.old).players (systems_in session.old ⟦<dyn System as System>⟧) (systems_in session.new ⟦<dyn System as System>⟧) }
+    ensures built { AllBuiltAtMost (builds_of (setup_in session.old) list.now) (setup_in session.old).players (systems_in session.old ⟦<dyn System as System>⟧)
+        (systems_in session.new ⟦<dyn System as System>⟧) }
     ensures session { OnOk result (IsSession session.new ⟦<dyn System as System>⟧) }
     ensures finish { MayFinish session.new ⟦<dyn System as System>⟧ }
     ensures setup { setup_in session.new ≡ setup_in session.old }
@@ -124,7 +122,8 @@ pub fn session_text(
     requires cleared { All AreCleared (rigs_of rigs.items ⟦<dyn System as System>⟧) }
     ensures text { IfOk result.0 (λ text. string_bytes text ≡ text_of_session setup.now list.now) }
     ensures stand { OnOk result.0 (AllStand setup.now (session_of setup.now list.now) (rigs_of result.1.items ⟦<dyn System as System>⟧)) }
-    ensures built { AllBuiltAtMost (builds_of setup.now list.now) setup.now.players (rigs_of rigs.items ⟦<dyn System as System>⟧) (rigs_of result.1.items ⟦<dyn System as System>⟧) }
+    ensures built { AllBuiltAtMost (builds_of setup.now list.now) setup.now.players (rigs_of rigs.items ⟦<dyn System as System>⟧)
+        (rigs_of result.1.items ⟦<dyn System as System>⟧) }
     ensures kinds { All HaveKinds (rigs_of result.1.items ⟦<dyn System as System>⟧) }
     ensures spare { drop setup.now.players result.1.items ≡ drop setup.now.players rigs.items }
     ensures eight { length result.1.items ≡ 8 }

@@ -1,7 +1,7 @@
 //! What the text of a session shows, as the contracts of functions that do nothing.
 
-ghost use Rattle.sim_session_text.specs.Laws.{StartsShowPasts, StepsShowPasts, EventsShowPasts, EndsShowPasts, PlaysAreTold, StepsAreTold, NoticesAreOfReports, ApartWhereDifferent, UnbentAreTogether};
-ghost use Rattle.sim_session_text.specs.Seen.{EndingsAreSeen};
+ghost use Rattle.sim_session_text.specs.{Laws.StepsAreTold, Laws.StepsShowPasts, Laws.UnbentAreTogether, Seen.EndingsAreSeen};
+ghost use Rattle.sim_session_text.specs.Laws.{ApartWhereDifferent, EndsShowPasts, EventsShowPasts, NoticesAreOfReports, PlaysAreTold, StartsShowPasts};
 
 /// Each digest that is printed is that of the state which the plain turn function gives for the past that its client has
 /// right after the step of the line. A past without a bend is exactly the turns with the commands that the server keeps of

@@ -1,19 +1,11 @@
 //! A session that is gone through without a word of it, for the commands that were kept of its released turns.
 
-ghost use Rattle.std.specs.Prelude.{◌≡◌, All, IfOk, OnOk, length, take, drop, map, ◌≤◌, vec_capacity};
-ghost use Rattle.std.specs.List.{range_with_len};
-ghost use Rattle.sim_base.specs.Limits.{IsSetup};
-ghost use Rattle.sim_client.specs.StageWords.{AreCleared};
-ghost use Rattle.sim_session_text.specs.Recording.{released_turns as turns_released};
-ghost use Rattle.sim_session_text.specs.Rigs.{AllBuiltAtMost, builds_of, loads_in};
-ghost use Rattle.sim_lists.specs.StepLists.{IsStepList};
-ghost use Rattle.sim_plain_session.specs.Printed.{events_after};
-ghost use Rattle.sim_plain_session.specs.Sessions.{opened};
-ghost use Rattle.sim_server.specs.Standing.{server_of};
-ghost use Rattle.sim_session.specs.SessionWords.{setup_in, clients_in, systems_in, seen_in, spare_in, room_in, rigs_of, MayFinish, IsSession};
-ghost use Rattle.sim_session.specs.Standing.{StandsFor};
-ghost use Rattle.sim_session_text.specs.SessionText.{session_of};
-ghost use Rattle.sim_system.specs.Meanings.{HaveKinds};
+ghost use Rattle.{sim_base.specs.Limits.IsSetup, sim_server.specs.Standing.server_of, sim_system.specs.Meanings.HaveKinds, std.specs.List.range_with_len};
+ghost use Rattle.{sim_client.specs.StageWords.AreCleared, sim_lists.specs.StepLists.IsStepList, sim_session.specs.Standing.StandsFor};
+ghost use Rattle.{sim_plain_session.specs.Printed.events_after, sim_plain_session.specs.Sessions.opened, sim_session_text.specs.SessionText.session_of};
+ghost use Rattle.std.specs.Prelude.{◌≡◌, ◌≤◌, map, length, take, drop, IfOk, OnOk, vec_capacity, All};
+ghost use Rattle.sim_session.specs.SessionWords.{clients_in, IsSession, MayFinish, rigs_of, room_in, seen_in, setup_in, spare_in, systems_in};
+ghost use Rattle.sim_session_text.specs.{Recording.released_turns as turns_released, Rigs.AllBuiltAtMost, Rigs.builds_of, Rigs.loads_in};
 
 use sim_base::{Items, OutOfMemory, PlayerCommand, Setup};
 use sim_lists::StepList;
@@ -30,7 +22,8 @@ fn make_steps(session: &mut Session<'_>, list: &StepList) -> Result<(), OutOfMem
     requires list { IsStepList (setup_in session.old).players list.now }
     requires opened { StandsFor (setup_in session.old) (seen_in session.old) (opened (setup_in session.old) list.now.clients) }
     ensures stands { OnOk result (StandsFor (setup_in session.old) (seen_in session.new) (session_of (setup_in session.old) list.now)) }
-    ensures built { AllBuiltAtMost (loads_in (events_after (setup_in session.old) (opened (setup_in session.old) list.now.clients) list.now.steps)) (setup_in session.old).players (systems_in session.old ⟦<dyn System as System>⟧) (systems_in session.new ⟦<dyn System as System>⟧) }
+    ensures built { AllBuiltAtMost (loads_in (events_after (setup_in session.old) (opened (setup_in session.old) list.now.clients) list.now.steps))
+        (setup_in session.old).players (systems_in session.old ⟦<dyn System as System>⟧) (systems_in session.new ⟦<dyn System as System>⟧) }
     ensures session { OnOk result (IsSession session.new ⟦<dyn System as System>⟧) }
     ensures finish { MayFinish session.new ⟦<dyn System as System>⟧ }
     ensures setup { setup_in session.new ≡ setup_in session.old }
@@ -50,7 +43,8 @@ fn record(alloc: Global, session: &mut Session<'_>, list: &StepList) -> Result<T
     requires list { IsStepList (setup_in session.old).players list.now }
     requires opened { StandsFor (setup_in session.old) (seen_in session.old) (opened (setup_in session.old) 0) }
     ensures turns { IfOk result (λ turns. turns ≡ turns_released (session_of (setup_in session.old) list.now)) }
-    ensures built { AllBuiltAtMost (builds_of (setup_in session.old) list.now) (setup_in session.old).players (systems_in session.old ⟦<dyn System as System>⟧) (systems_in session.new ⟦<dyn System as System>⟧) }
+    ensures built { AllBuiltAtMost (builds_of (setup_in session.old) list.now) (setup_in session.old).players (systems_in session.old ⟦<dyn System as System>⟧)
+        (systems_in session.new ⟦<dyn System as System>⟧) }
     ensures finish { MayFinish session.new ⟦<dyn System as System>⟧ }
     ensures setup { setup_in session.new ≡ setup_in session.old }
     ensures spare { spare_in session.new ≡ spare_in session.old }
@@ -114,7 +108,8 @@ pub fn released_turns(
     requires kinds { All HaveKinds (rigs_of rigs.items ⟦<dyn System as System>⟧) }
     requires cleared { All AreCleared (rigs_of rigs.items ⟦<dyn System as System>⟧) }
     ensures turns { IfOk result.0 (λ turns. turns ≡ turns_released (session_of setup.now list.now)) }
-    ensures built { AllBuiltAtMost (builds_of setup.now list.now) setup.now.players (rigs_of rigs.items ⟦<dyn System as System>⟧) (rigs_of result.1.items ⟦<dyn System as System>⟧) }
+    ensures built { AllBuiltAtMost (builds_of setup.now list.now) setup.now.players (rigs_of rigs.items ⟦<dyn System as System>⟧)
+        (rigs_of result.1.items ⟦<dyn System as System>⟧) }
     ensures cleared { All AreCleared (rigs_of result.1.items ⟦<dyn System as System>⟧) }
     ensures kinds { All HaveKinds (rigs_of result.1.items ⟦<dyn System as System>⟧) }
     ensures spare { drop setup.now.players result.1.items ≡ drop setup.now.players rigs.items }

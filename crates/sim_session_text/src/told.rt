@@ -1,10 +1,8 @@
 //! The lines of what a session tells: its events, and what its server has come to.
 
+ghost use Rattle.{sim_report.specs.Downs.released_line, sim_server.specs.Standing.server_of as plain_server, sim_session_text.specs.SessionText.lines_of};
 ghost use Rattle.std.specs.Prelude.{◌≡◌, ◌++◌, OnOk, string_bytes};
-ghost use Rattle.sim_server.specs.Standing.{server_of as plain_server};
 ghost use Rattle.sim_serve.specs.Served.{kept_lines};
-ghost use Rattle.sim_report.specs.Downs.{released_line};
-ghost use Rattle.sim_session_text.specs.SessionText.{lines_of};
 
 use sim_base::{Events, OutOfMemory};
 use sim_report::{push_event, push_released};

@@ -1,17 +1,10 @@
 -- A command that is read names few entities, whatever its kind.
-use Rattle.std.proofs.Common.{◌≡◌, ℕ, ◌≤◌, Bool, true, false, nat_le, List, [], ◌∷◌, length, codes, Option, Some, subst, arith, if◌then◌else◌}
-use Rattle.std.specs.Str.{bytes_eq}
-use Rattle.std.proofs.lemmas.Bool.{leb-true}
-use Rattle.serde_json.specs.Data.{Data}
-use Rattle.serde_json.specs.Find.{as_str}
-use Rattle.sim_base.specs.declared.command.Command.{Command}
-use Rattle.sim_base.specs.declared.command.Command.TheVariants.{Walk, Stop, Attack, Delete, Place, Train, Resign}
-use Rattle.sim_base.specs.Limits.{HasFewIds}
-use Rattle.sim_json.specs.Values.{list_of, two}
-use Rattle.sim_json.specs.Records.{records}
-use Rattle.sim_json.proofs.Readers.{next_some, and_then_some, map_some, then_some}
-use Rattle.sim_json.proofs.Reading.{numbered-length, numbered_from_records}
-use Rattle.sim_json.specs.Commands.{id_in, template_in, ids_from, ids_of, point_of, three, walk_from, stop_from, attack_from, delete_from, place_from, train_from, resign_from, command_by, command_of}
+use Rattle.sim_base.specs.declared.command.Command.TheVariants.{Attack, Delete, Place, Resign, Stop, Train, Walk}
+use Rattle.sim_json.{proofs.Readers.map_some, specs.Commands.three, specs.Commands.train_from, specs.Commands.walk_from}
+use Rattle.sim_json.specs.Commands.{attack_from, command_by, delete_from, id_in, ids_from, ids_of, place_from, point_of, resign_from, stop_from, template_in}
+use Rattle.sim_setup.proofs.Common.{arith, as_str, Command, command_of, Data, HasFewIds, leb-true, list_of, next_some, numbered-length, numbered_from_records}
+use Rattle.sim_setup.proofs.Common.{records, subst, then_some, two}
+use Rattle.sim_setup.proofs.Common.{◌≡◌, ℕ, ◌≤◌, Bool, true, false, List, [], ◌∷◌, length, if◌then◌else◌, nat_le, Some, codes, bytes_eq, Option, and_then_some}
 
 ids_of-few : (d : Data) (ids : List ℕ) → ids_of d ≡ Some ids → length ids ≤ 256
 ids_of-few d ids e =
@@ -71,7 +64,8 @@ resign_from-few [] command e = is_few Resign command tt e
 resign_from-few (d ∷ rest) command e = absurd cc
 
 -- one kind, or another
-either : (is : Bool) (these others : Option Command) (command : Command) → (these ≡ Some command → HasFewIds command) → (others ≡ Some command → HasFewIds command)
+either : (is : Bool) (these others : Option Command) (command : Command) → (these ≡ Some command → HasFewIds command)
+    → (others ≡ Some command → HasFewIds command)
     → (if is then these else others) ≡ Some command → HasFewIds command
 either true these others command first second e = first e
 either false these others command first second e = second e

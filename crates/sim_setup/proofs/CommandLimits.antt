@@ -1,19 +1,10 @@
 -- What holds of the commands of a match file.
-use Rattle.std.proofs.Common.{◌≡◌, ℕ, zero, suc, ◌+◌, ◌<◌, ◌≤◌, Bool, true, false, nat_lt, List, [], ◌∷◌, ◌++◌, count_by, map, All, Some, None, option_and_then, Ok, refl, subst, arith, if◌then◌else◌}
-use Rattle.std.specs.List.Sorted.{IsNonDecreasing}
-use Rattle.std.proofs.lemmas.Bool.{ltb-true, ltb-false}
-use Rattle.std.proofs.lemmas.List.Elements.{All-cons}
-use Rattle.serde_json.specs.Data.{Data}
-use Rattle.sim_base.specs.declared.setup.Timed.{Timed}
-use Rattle.sim_base.specs.Limits.{IsFrom, HasFewIds, is_given}
-use Rattle.sim_json.specs.Values.{list_of, natural_in, front_two}
-use Rattle.sim_json.specs.Records.{numbered}
-use Rattle.sim_json.proofs.Readers.{next_some, and_then_some, if_some, natural_in-within}
-use Rattle.sim_json.proofs.Reading.{numbered-keeps}
-use Rattle.sim_setup.specs.Commands.{crowd, timed_from, timed_of, falls_at}
-use Rattle.sim_json.specs.Commands.{command_of}
-use Rattle.sim_setup.proofs.CommandIds.{command_of-few}
-use Rattle.sim_setup.proofs.Tally.{push_counted, both_same}
+use Rattle.std.{proofs.Common.count_by, proofs.lemmas.Bool.ltb-false, proofs.lemmas.Bool.ltb-true, specs.List.Sorted.IsNonDecreasing}
+use Rattle.sim_json.specs.Values.{front_two}
+use Rattle.sim_setup.{proofs.CommandIds.command_of-few, proofs.Tally.both_same, proofs.Tally.push_counted, specs.Commands.timed_from}
+use Rattle.sim_setup.proofs.Common.{IsFrom, list_of, natural_in, natural_in-within, next_some, numbered, numbered-keeps, subst, Timed, timed_of}
+use Rattle.sim_setup.proofs.Common.{option_and_then, refl, All-cons, and_then_some, arith, command_of, crowd, Data, falls_at, HasFewIds, if_some, is_given}
+use Rattle.sim_setup.proofs.Common.{◌≡◌, ℕ, zero, suc, ◌+◌, ◌<◌, ◌≤◌, Bool, true, false, List, [], ◌∷◌, ◌++◌, map, if◌then◌else◌, nat_lt, Some, None, Ok, All}
 
 -- ---- who orders, and when
 
@@ -23,7 +14,8 @@ pub record IsRead (turns players : ℕ) (done : List Timed) (timed : Timed) : Ty
   pub ids : HasFewIds timed.order.command
   pub room : crowd timed.turn timed.order.player done < 64
 
-timed_from-is : (turns players : ℕ) (done : List Timed) (p : Data × Data × List Data) (timed : Timed) → timed_from turns players done p ≡ Some timed → IsRead turns players done timed
+timed_from-is : (turns players : ℕ) (done : List Timed) (p : Data × Data × List Data) (timed : Timed) → timed_from turns players done p ≡ Some timed
+    → IsRead turns players done timed
 timed_from-is turns players done p timed e =
     let turn = next_some (natural_in 1 turns p.0) _ timed e in
     let player = next_some (natural_in 1 players p.1) _ timed turn.2 in
@@ -36,7 +28,8 @@ timed_from-is turns players done p timed e =
       room = ltb-true (crowd turn.0 player.0 done) 64 kept.0;
     })
 
-pub timed_of-is : (turns players : ℕ) (done : List Timed) (d : Data) (timed : Timed) → timed_of turns players done d ≡ Some timed → IsRead turns players done timed
+pub timed_of-is : (turns players : ℕ) (done : List Timed) (d : Data) (timed : Timed) → timed_of turns players done d ≡ Some timed
+    → IsRead turns players done timed
 unfolding timed_of
 timed_of-is turns players done d timed e =
     let p = and_then_some (option_and_then front_two (list_of d)) (timed_from turns players done) timed e in
@@ -61,7 +54,8 @@ pub timeds-not_crowded : (turns players : ℕ) (ds : List Data) (commands : List
     → (turn player : ℕ) → count_by (is_given turn player) commands ≤ 64
 timeds-not_crowded turns players ds commands e =
     numbered-keeps (timed_of turns players) (λ front done. NotCrowded done)
-    (λ front done d timed is so_far. more_crowded done timed (timed_of-is turns players done d timed is).room so_far) [] [] ds commands e (λ turn player. omega arith)
+    (λ front done d timed is so_far. more_crowded done timed (timed_of-is turns players done d timed is).room so_far) [] [] ds commands e
+    (λ turn player. omega arith)
 
 -- ---- turns that do not fall
 

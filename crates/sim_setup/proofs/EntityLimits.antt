@@ -1,17 +1,9 @@
 -- What holds of the entities of a match file.
-use Rattle.std.proofs.Common.{◌≡◌, ℕ, ◌<◌, ◌≤◌, List, [], length, Some, option_and_then, IsTrue, subst}
-use Rattle.std.proofs.lemmas.List.Quantifiers.{position-Some}
-use Rattle.serde_json.specs.Data.{Data}
-use Rattle.serde_json.specs.Find.{as_str}
-use Rattle.sim_base.specs.declared.place.Point.{Point}
-use Rattle.sim_base.specs.declared.setup.Land.{Land}
-use Rattle.sim_base.specs.declared.setup.First.{First}
-use Rattle.sim_base.specs.Places.{is_inside}
-use Rattle.sim_base.specs.Rows.{size_of}
-use Rattle.sim_json.specs.Values.{list_of, natural_in, four}
-use Rattle.sim_json.proofs.Readers.{next_some, and_then_some, if_some, natural_in-within}
-use Rattle.std.specs.Str.{bytes_eq}
-use Rattle.sim_setup.specs.Entities.{point_of, if_inside, number_of, first_from, first_of}
+use Rattle.std.proofs.{Common.IsTrue, lemmas.List.Quantifiers.position-Some}
+use Rattle.sim_base.specs.{Places.is_inside, Rows.size_of, declared.place.Point.Point}
+use Rattle.sim_setup.proofs.Common.{if_some, Land, list_of, natural_in, natural_in-within, next_some, subst}
+use Rattle.sim_setup.proofs.Common.{◌≡◌, ℕ, ◌<◌, ◌≤◌, List, [], length, Some, bytes_eq, option_and_then, and_then_some, as_str, Data, First, first_of, four}
+use Rattle.sim_setup.specs.Entities.{first_from, if_inside, number_of, point_of}
 
 -- an entity is of a known template and owner, and inside
 pub record IsOn (names : List (List ℕ)) (land : Land) (players : ℕ) (first : First) : Type 0 where
@@ -27,7 +19,8 @@ inside land p at e =
     let kept = if_some (is_inside (size_of land) p) p at e in
     subst (λ q. IsTrue (is_inside (size_of land) q)) kept.1 kept.0
 
-first_from-is : (names : List (List ℕ)) (land : Land) (players : ℕ) (p : Data × Data × Data × Data) (first : First) → first_from names land players p ≡ Some first → IsOn names land players first
+first_from-is : (names : List (List ℕ)) (land : Land) (players : ℕ) (p : Data × Data × Data × Data) (first : First) → first_from names land players p ≡
+    Some first → IsOn names land players first
 first_from-is names land players p first e =
     let template = next_some (option_and_then (number_of names) (as_str p.0)) _ first e in
     let owner = next_some (natural_in 0 players p.1) _ first template.2 in
@@ -40,7 +33,8 @@ first_from-is names land players p first e =
       at = inside land found.0 at.0 found.2;
     })
 
-pub first_of-is : (names : List (List ℕ)) (land : Land) (players : ℕ) (d : Data) (first : First) → first_of names land players d ≡ Some first → IsOn names land players first
+pub first_of-is : (names : List (List ℕ)) (land : Land) (players : ℕ) (d : Data) (first : First) → first_of names land players d ≡ Some first
+    → IsOn names land players first
 unfolding first_of
 first_of-is names land players d first e =
     let p = and_then_some (option_and_then four (list_of d)) (first_from names land players) first e in

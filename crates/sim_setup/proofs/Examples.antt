@@ -1,20 +1,9 @@
 -- Worked examples of templates, computed from the definitions.
-use Rattle.std.proofs.Common.{◌≡◌, ℕ, pos, List, [], ◌∷◌, Option, Some, None, Ok, Err, refl}
-use Rattle.std.specs.Prelude.{codes}
-use Rattle.std.specs.Fmt.{digits}
-use Rattle.serde_json.specs.Data.{null, string, object, no_members, member}
-use Rattle.sim_base.specs.declared.template.Template.{Template}
-use Rattle.sim_tree.specs.declared.tree.TreeMark.{TreeMark}
-use Rattle.sim_tree.specs.declared.tree.TreeMark.TheVariants.{Mul}
-use Rattle.sim_tree.specs.Trees.{Node, node, no_children, child}
-use Rattle.sim_tree.specs.Sources.{Origin}
-use Rattle.sim_tree.specs.Reading.{source_in}
-use Rattle.sim_merge.specs.Values.{text_by}
-use Rattle.sim_merge.specs.Resolution.{members}
-use Rattle.sim_traits.specs.Parts.{template_in}
-use Rattle.sim_setup.specs.Refusals.{refusal, after}
-use Rattle.sim_setup.specs.Sources.{source_of, sources_from}
-use Rattle.sim_setup.specs.Templates.{roots_of, template_at, templates_from}
+use Rattle.{sim_merge.specs.Resolution.members, sim_merge.specs.Values.text_by, sim_tree.specs.Reading.source_in, std.proofs.Common.pos, std.specs.Fmt.digits}
+use Rattle.serde_json.specs.Data.{member, no_members, null, object, string}
+use Rattle.sim_setup.{proofs.Common.template_at, proofs.Common.template_in, proofs.Common.templates_from, specs.Refusals.refusal, specs.Sources.sources_from}
+use Rattle.sim_setup.proofs.Common.{◌≡◌, ℕ, List, [], ◌∷◌, Some, None, Ok, Err, codes, Option, refl, after, Node, Origin, roots_of, source_of, Template}
+use Rattle.sim_tree.specs.{Trees.child, Trees.no_children, Trees.node, declared.tree.TreeMark.TreeMark, declared.tree.TreeMark.TheVariants.Mul}
 
 -- a part with one child
 abbrev part : List ℕ → List ℕ → Option TreeMark → List ℕ → Node

@@ -1,9 +1,6 @@
 -- The first command whose turn falls, by its place.
-use Rattle.std.proofs.Common.{◌≡◌, ℕ, zero, suc, ◌+◌, ◌<◌, Bool, true, false, List, [], ◌∷◌, length, Some, refl, subst, arith, if◌then◌else◌}
-use Rattle.std.specs.Prelude.{nat_lt}
-use Rattle.sim_base.specs.declared.setup.Timed.{Timed}
-use Rattle.sim_setup.specs.Commands.{falls_at}
-use Rattle.sim_setup.specs.Laws.{turns_of, falls, IsLeastFall}
+use Rattle.sim_setup.{proofs.Common.subst, proofs.Common.Timed, specs.Laws.falls, specs.Laws.IsLeastFall, specs.Laws.turns_of}
+use Rattle.sim_setup.proofs.Common.{◌≡◌, ℕ, zero, suc, ◌+◌, ◌<◌, Bool, true, false, List, [], ◌∷◌, length, if◌then◌else◌, nat_lt, Some, refl, arith, falls_at}
 
 -- the place counted from the command that is held against `before`
 record Place (before n : ℕ) (turns : List ℕ) (i : ℕ) : Type 0 where

@@ -1,26 +1,15 @@
 -- What holds of the land of a match file.
-use Rattle.std.proofs.Common.{◌≡◌, ◌≢◌, ℕ, ◌+◌, ◌^◌, ◌<◌, ◌≤◌, max, ◌==◌, ◌&&◌, Bool, true, nat_le, nat_lt, bit_or, List, [], ◌∷◌, ◌++◌, length, codes, All, EachIndex, Some, option_and_then, Ok, refl, sym, ap, ◌∙◌, subst, arith, slice_index, true≢false, eq-eqb, ◌⊎◌, inl, inr}
-use Rattle.std.proofs.lemmas.Bool.{leb-true, cases_lt}
-use Rattle.std.proofs.lemmas.List.{length_push, get_or_append_left}
-use Rattle.std.proofs.Math.Seq.{get_or-append_seam}
-use Rattle.std.proofs.lemmas.Int.{ints}
-use Rattle.std.proofs.Math.Dec.{leb-zero}
-use Rattle.std.proofs.lemmas.Nat.{or_lt, pow_pos}
-use Rattle.std.proofs.lemmas.Nat.Bits.{bit_at_or, bit_at-pow_other, bit_at-zero}
-use Rattle.std.specs.Int.{bit_at}
-use Rattle.std.proofs.Math.Pow.{pow-lt}
-use Rattle.serde_json.specs.Data.{Data}
-use Rattle.sim_base.specs.declared.place.Rect.{Rect}
-use Rattle.sim_base.specs.declared.setup.Land.{Land}
-use Rattle.sim_base.specs.Limits.{IsFrom, IsClosed, IsMask, IsLand}
-use Rattle.sim_json.specs.Values.{list_of, list_at, natural, natural_in, two, four}
-use Rattle.sim_json.specs.Records.{records}
-use Rattle.sim_json.proofs.Readers.{next_some, and_then_some, if_some, then_some, else_some, both_true, natural_in-within}
-use Rattle.sim_json.proofs.Reading.{numbered-keeps, numbered-All, numbered-length, numbered_from_records}
-use Rattle.sim_setup.specs.declared.ground.Size.{Size}
-use Rattle.sim_setup.specs.Ground.{size_from, size_in, rect_on, rect_from, rect_of, rects_from, closed_in, land_in}
-use Rattle.sim_setup.specs.Players.{enemy_in, mask_from, mask_of, masks_from, masks_in}
-use Rattle.sim_setup.proofs.Refused.{need_ok, ok_same}
+use Rattle.{sim_setup.specs.Players.enemy_in, sim_setup.specs.Players.masks_from, sim_setup.specs.Players.masks_in, std.specs.Int.bit_at}
+use Rattle.std.proofs.{Common.max, Common.EachIndex, Common.bit_or, Math.Dec.leb-zero, Math.Pow.pow-lt, Math.Seq.get_or-append_seam, lemmas.Bool.cases_lt}
+use Rattle.std.proofs.lemmas.{Int.ints, List.get_or_append_left, Nat.or_lt, Nat.pow_pos, Nat.Bits.bit_at-pow_other, Nat.Bits.bit_at-zero, Nat.Bits.bit_at_or}
+use Rattle.sim_base.specs.{Limits.IsClosed, Limits.IsMask, declared.place.Rect.Rect}
+use Rattle.sim_json.{proofs.Readers.else_some, specs.Values.natural}
+use Rattle.sim_setup.proofs.{Common.true≢false, Common.two, Common.◌∙◌, Refused.need_ok, Refused.ok_same}
+use Rattle.sim_setup.proofs.Common.{IsFrom, IsLand, Land, land_in, leb-true, length_push, list_at, list_of, mask_from, mask_of, natural_in, natural_in-within}
+use Rattle.sim_setup.proofs.Common.{Some, Ok, codes, All, option_and_then, refl, and_then_some, ap, arith, both_true, Data, eq-eqb, four, if_some, inl, inr}
+use Rattle.sim_setup.proofs.Common.{next_some, numbered-All, numbered-keeps, numbered-length, numbered_from_records, records, rect_of, subst, sym, then_some}
+use Rattle.sim_setup.proofs.Common.{◌≡◌, ℕ, ◌+◌, ◌^◌, ◌<◌, ◌≤◌, Bool, true, ◌&&◌, ◌≢◌, ◌⊎◌, List, [], ◌∷◌, ◌++◌, length, nat_lt, nat_le, ◌==◌, slice_index}
+use Rattle.sim_setup.specs.{Ground.closed_in, Ground.rect_from, Ground.rect_on, Ground.rects_from, Ground.size_from, Ground.size_in, declared.ground.Size.Size}
 
 -- ---- the size
 
@@ -84,7 +73,8 @@ closed_in-limits size masks d closed e =
     let few : length ds.0 ≤ 4096 = leb-true (length ds.0) 4096 kept.0 in
     record {
       few = omega (arith, few, numbered-length (λ done. rect_of size) [] ds.0 closed read);
-      each = numbered-All (λ done. rect_of size) (IsClosed (land_with size closed masks)) (λ done d r is. rect_of-limits size closed masks d r is) ds.0 closed read;
+      each = numbered-All (λ done. rect_of size) (IsClosed (land_with size closed masks)) (λ done d r is. rect_of-limits size closed masks d r is) ds.0 closed
+          read;
     }
 
 -- ---- masks
@@ -93,10 +83,12 @@ max-zero : (n : ℕ) → max n 0 ≡ n
 max-zero n = omega arith
 
 -- a mask with one more enemy
-with_enemy : (players player mask enemy : ℕ) → enemy ≤ players → enemy ≢ player → IsMask (players + 1) player mask → IsMask (players + 1) player (bit_or mask (2 ^ enemy))
+with_enemy : (players player mask enemy : ℕ) → enemy ≤ players → enemy ≢ player → IsMask (players + 1) player mask
+    → IsMask (players + 1) player (bit_or mask (2 ^ enemy))
 with_enemy players player mask enemy known other is = record {
   owners_alone = or_lt (players + 1) mask (2 ^ enemy) is.owners_alone (pow-lt (omega arith));
-  not_itself = ap (λ n. n == 1) (bit_at_or mask (2 ^ enemy) player ∙ rw (bit_at-pow_other enemy player (λ h. other (sym h))) (max-zero (bit_at mask player))) ∙ is.not_itself;
+  not_itself = ap (λ n. n == 1) (bit_at_or mask (2 ^ enemy) player ∙ rw (bit_at-pow_other enemy player (λ h. other (sym h))) (max-zero (bit_at mask player))) ∙
+      is.not_itself;
 }
 
 some_same : (m n : ℕ) → Some m ≡ Some n → m ≡ n
@@ -109,7 +101,8 @@ enemy_in-other players player d enemy e =
     subst (λ n. (n ≤ players) × (n ≢ player)) (some_same read.0 enemy kept.1)
     ((natural_in-within 0 players d read.0 read.1).1, λ h. true≢false (sym (eq-eqb read.0 player h) ∙ kept.0))
 
-mask_from-limits : (players player mask : ℕ) (ds : List Data) (result : ℕ) → mask_from players player mask ds ≡ Some result → IsMask (players + 1) player mask → IsMask (players + 1) player result
+mask_from-limits : (players player mask : ℕ) (ds : List Data) (result : ℕ) → mask_from players player mask ds ≡ Some result → IsMask (players + 1) player mask
+    → IsMask (players + 1) player result
 mask_from-limits players player mask [] result e is = let same : mask ≡ result = cc in subst (IsMask (players + 1) player) same is
 mask_from-limits players player mask (d ∷ ds) result e is =
     let enemy = next_some (enemy_in players player d) _ result e in
@@ -145,7 +138,8 @@ module _ (players : ℕ) where
     each = λ owner within. by owner within (cases_lt owner (length done));
   }
     where
-      by : (owner : ℕ) → owner < length (done ++ mask ∷ []) → (owner < length done) ⊎ (length done ≤ owner) → IsMask (players + 1) owner (slice_index (done ++ mask ∷ []) owner)
+      by : (owner : ℕ) → owner < length (done ++ mask ∷ []) → (owner < length done) ⊎ (length done ≤ owner)
+          → IsMask (players + 1) owner (slice_index (done ++ mask ∷ []) owner)
       by owner within (inl before) = rw (get_or_append_left done (mask ∷ []) 0 owner before) (so_far.each owner before)
       by owner within (inr here) =
           let same : owner ≡ length done = omega (arith, length_push done mask) in
@@ -160,7 +154,8 @@ masks_in-limits d masks e =
     let read = numbered_from_records (mask_of players) (0 ∷ []) ds.0 masks kept.1 in
     let count : length masks ≡ players + 1 = omega (arith, numbered-length (mask_of players) (0 ∷ []) ds.0 masks read) in
     let all = numbered-keeps (mask_of players) (λ front done. AreMasks (players + 1) done)
-    (λ front done item mask is so_far. one_more players done mask (mask_of-limits players done item mask is) so_far) [] (0 ∷ []) ds.0 masks read (gaia_alone players) in
+    (λ front done item mask is so_far. one_more players done mask (mask_of-limits players done item mask is) so_far) [] (0 ∷ []) ds.0 masks read
+    (gaia_alone players) in
     let most : players ≤ 8 = leb-true players 8 within.1 in
     let least : 1 ≤ players = leb-true 1 players within.0 in
     ((omega arith, omega arith), subst (λ n. AreMasks n masks) (sym count) all)

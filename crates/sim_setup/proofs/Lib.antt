@@ -1,3 +1,4 @@
+pub mod Common
 pub mod Tally
 pub mod Refused
 pub mod Falls

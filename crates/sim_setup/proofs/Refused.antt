@@ -1,8 +1,9 @@
 -- What is known where a pass refuses nothing: no step of it has refused.
-use Rattle.std.proofs.Common.{◌≡◌, ℕ, Option, Some, None, Result, Ok, Err, refl, ap}
-use Rattle.sim_setup.specs.Refusals.{Refusal, need, after, unless_at, coded}
+use Rattle.sim_setup.proofs.Common.{◌≡◌, ℕ, Some, None, Ok, Err, Option, Result, refl, after, ap}
+use Rattle.sim_setup.specs.Refusals.{coded, need, Refusal, unless_at}
 
-pub need_ok : {X Y : Type 0} (code index : ℕ) (o : Option X) (next : X → Result Y Refusal) (y : Y) → need code index o next ≡ Ok y → (x : X) × (o ≡ Some x) × (next x ≡ Ok y)
+pub need_ok : {X Y : Type 0} (code index : ℕ) (o : Option X) (next : X → Result Y Refusal) (y : Y) → need code index o next ≡ Ok y → (x : X) × (o ≡ Some x)
+    × (next x ≡ Ok y)
 need_ok code index None next y e = absurd cc
 need_ok code index (Some x) next y e = (x, refl, e)
 

@@ -1,39 +1,17 @@
 -- Every setup that is read meets the limits of a match.
-use Rattle.std.proofs.Common.{◌≡◌, ℕ, ◌-◌, ◌^◌, ◌<◌, ◌≤◌, ◌&&◌, true, nat_le, List, [], length, codes, All, Some, None, Result, Ok, Err, IfOk, subst, arith, length-append}
-use Rattle.std.proofs.lemmas.List.{length-map}
-use Rattle.sim_setup.specs.Refusals.{after}
-use Rattle.std.proofs.lemmas.Bool.{leb-true}
-use Rattle.serde_json.specs.Data.{Data}
-use Rattle.md5.specs.Md5.{md5, digest_bytes}
-use Rattle.sim_base.specs.declared.setup.Land.{Land}
-use Rattle.sim_base.specs.declared.setup.First.{First}
-use Rattle.sim_base.specs.declared.setup.Timed.{Timed}
-use Rattle.sim_base.specs.declared.setup.Setup.{Setup}
-use Rattle.sim_base.specs.Limits.{IsFrom, IsLand, IsTemplate, IsFirst, IsTimed, IsSetup}
-use Rattle.sim_json.specs.Values.{value_of, list_at, natural_at}
-use Rattle.sim_json.specs.Records.{numbered}
-use Rattle.sim_json.proofs.Readers.{and_then_some, if_some, both_true, natural_at-within}
-use Rattle.sim_json.proofs.Reading.{numbered-All, numbered-length}
-use Rattle.sim_setup.specs.declared.rules.Rules.{Rules}
-use Rattle.sim_setup.specs.declared.passes.Lists.{Lists}
-use Rattle.sim_setup.specs.declared.fault.SetupFault.{SetupFault}
-use Rattle.sim_setup.specs.Meets.{Meets}
-use Rattle.sim_setup.specs.Shape.{misplaced}
-use Rattle.sim_setup.specs.Ground.{land_in}
-use Rattle.sim_setup.specs.Rules.{rules_in}
-use Rattle.sim_tree.specs.Trees.{Node}
-use Rattle.sim_tree.specs.Sources.{Origin}
-use Rattle.sim_merge.specs.Resolution.{name_in, names_in, are_distinct}
-use Rattle.sim_setup.specs.Sources.{sources_in}
-use Rattle.sim_setup.specs.Templates.{few_sources, roots_of, templates_from, next_template}
-use Rattle.sim_setup.specs.Entities.{entities_within, entities_in, firsts_from, first_of}
-use Rattle.sim_setup.specs.Commands.{timeds_from, timed_of, in_order, falls_at}
-use Rattle.sim_setup.specs.Setups.{players_of, commands_in, items_in, lists_in, setup_with, limits_in, setup_in, setup_of}
-use Rattle.sim_setup.proofs.Refused.{need_ok, after_ok, unless_ok, coded_ok, ok_same}
-use Rattle.sim_setup.proofs.LandLimits.{land_in-limits}
-use Rattle.sim_setup.proofs.TemplateLimits.{names-differ}
-use Rattle.sim_setup.proofs.EntityLimits.{first_of-is}
-use Rattle.sim_setup.proofs.CommandLimits.{timed_of-is, timeds-not_crowded, in_order-IsNonDecreasing}
+use Rattle.{md5.specs.Md5.digest_bytes, md5.specs.Md5.md5, std.proofs.Common.◌-◌, std.proofs.Common.IfOk, std.proofs.Common.length-append}
+use Rattle.sim_base.specs.{Limits.IsFirst, Limits.IsSetup, Limits.IsTimed, declared.setup.Setup.Setup}
+use Rattle.sim_json.{proofs.Readers.natural_at-within, specs.Values.natural_at, specs.Values.value_of}
+use Rattle.sim_setup.{proofs.EntityLimits.first_of-is, specs.Rules.rules_in, specs.Shape.misplaced}
+use Rattle.sim_setup.proofs.{CommandLimits.in_order-IsNonDecreasing, CommandLimits.timed_of-is, CommandLimits.timeds-not_crowded, TemplateLimits.names-differ}
+use Rattle.sim_setup.proofs.{LandLimits.land_in-limits, Refused.after_ok, Refused.coded_ok, Refused.need_ok, Refused.ok_same, Refused.unless_ok}
+use Rattle.sim_setup.proofs.Common.{Origin, roots_of, setup_of, subst, templates_from, Timed, timed_of}
+use Rattle.sim_setup.proofs.Common.{are_distinct, arith, both_true, Data, falls_at, First, first_of, if_some, IsFrom, IsLand, IsTemplate, Land, land_in}
+use Rattle.sim_setup.proofs.Common.{leb-true, length-map, list_at, Meets, name_in, names_in, next_template, Node, numbered, numbered-All, numbered-length}
+use Rattle.sim_setup.proofs.Common.{◌≡◌, ℕ, ◌^◌, ◌<◌, ◌≤◌, true, ◌&&◌, List, [], length, nat_le, Some, None, Ok, Err, codes, All, Result, after, and_then_some}
+use Rattle.sim_setup.specs.{Commands.in_order, Commands.timeds_from, Entities.entities_in, Entities.entities_within, Entities.firsts_from, Sources.sources_in}
+use Rattle.sim_setup.specs.{Templates.few_sources, declared.fault.SetupFault.SetupFault, declared.passes.Lists.Lists, declared.rules.Rules.Rules}
+use Rattle.sim_setup.specs.Setups.{commands_in, items_in, limits_in, lists_in, players_of, setup_in, setup_with}
 
 -- ---- the rules
 
@@ -71,10 +49,12 @@ module _ (land : Land) (rules : Rules) where
     each : numbered (timed_of rules.turns (players_of land)) [] ds ≡ Ok commands
     ordered : falls_at 0 0 commands ≡ None
 
-  ordered-are : (ds : List Data) (timeds commands : List Timed) → timeds_from rules.turns (players_of land) ds ≡ Ok timeds → in_order timeds ≡ Ok commands → AreRead ds commands
+  ordered-are : (ds : List Data) (timeds commands : List Timed) → timeds_from rules.turns (players_of land) ds ≡ Ok timeds → in_order timeds ≡ Ok commands
+      → AreRead ds commands
   ordered-are ds timeds commands read e =
       let kept = unless_ok 10 (falls_at 0 0 timeds) (Ok timeds) commands e in
-      subst (AreRead ds) (ok_same timeds commands kept.1) (record { each = coded_ok 9 (numbered (timed_of rules.turns (players_of land)) [] ds) timeds read; ordered = kept.0 })
+      subst (AreRead ds) (ok_same timeds commands kept.1)
+      (record { each = coded_ok 9 (numbered (timed_of rules.turns (players_of land)) [] ds) timeds read; ordered = kept.0 })
 
   commands_in-are : (d : Data) (commands : List Timed) → commands_in land rules d ≡ Ok commands → (ds : List Data) × AreRead ds commands
   commands_in-are d commands e =
@@ -137,7 +117,8 @@ module _ (land : Land) (rules : Rules) where
       let same = numbered-length (next_template (names_in is.origins) is.roots) [] is.origins lists.templates is.read in
       omega (arith, same)
 
-  setup_with-limits : (id : List ℕ) (lists : Lists) → length id ≡ 16 → IsLand land → AreRules rules → IsRead lists → All (IsTemplate (length lists.templates)) lists.templates
+  setup_with-limits : (id : List ℕ) (lists : Lists) → length id ≡ 16 → IsLand land → AreRules rules → IsRead lists
+      → All (IsTemplate (length lists.templates)) lists.templates
       → IsSetup (setup_with id land rules lists)
   setup_with-limits id lists long ground limits is templates = record {
     id = long;
@@ -150,19 +131,27 @@ module _ (land : Land) (rules : Rules) where
     few_templates = omega (arith, is.few_templates, counted lists is);
     templates = templates;
     names = names-differ (names_in is.origins) is.roots is.origins lists.templates is.distinct is.read;
-    few_first = omega (arith, is.few_entities, numbered-length (λ done. first_of (names_in is.origins) land (players_of land)) [] is.entities lists.first is.firsts);
-    first = numbered-All (λ done. first_of (names_in is.origins) land (players_of land)) (IsFirst (setup_with id land rules lists)) entity is.entities lists.first is.firsts;
-    commands = numbered-All (timed_of rules.turns (players_of land)) (IsTimed (setup_with id land rules lists)) command is.commands lists.commands is.timeds.each;
+    few_first = omega (
+      arith,
+      is.few_entities,
+      numbered-length (λ done. first_of (names_in is.origins) land (players_of land)) [] is.entities lists.first is.firsts,
+    );
+    first = numbered-All (λ done. first_of (names_in is.origins) land (players_of land)) (IsFirst (setup_with id land rules lists)) entity is.entities
+        lists.first is.firsts;
+    commands = numbered-All (timed_of rules.turns (players_of land)) (IsTimed (setup_with id land rules lists)) command is.commands lists.commands
+        is.timeds.each;
     in_order = in_order-IsNonDecreasing lists.commands is.timeds.ordered;
     not_crowded = timeds-not_crowded rules.turns (players_of land) is.commands lists.commands is.timeds.each;
   }
     where
-      entity : (done : List First) (d : Data) (first : First) → first_of (names_in is.origins) land (players_of land) d ≡ Some first → IsFirst (setup_with id land rules lists) first
+      entity : (done : List First) (d : Data) (first : First) → first_of (names_in is.origins) land (players_of land) d ≡ Some first
+          → IsFirst (setup_with id land rules lists) first
       entity done d first e =
           let on = first_of-is (names_in is.origins) land (players_of land) d first e in
           record { template = omega (arith, on.template, length-map is.origins name_in, counted lists is); owner = on.owner; at = on.at }
 
-      command : (done : List Timed) (d : Data) (timed : Timed) → timed_of rules.turns (players_of land) done d ≡ Some timed → IsTimed (setup_with id land rules lists) timed
+      command : (done : List Timed) (d : Data) (timed : Timed) → timed_of rules.turns (players_of land) done d ≡ Some timed
+          → IsTimed (setup_with id land rules lists) timed
       command done d timed e =
           let read = timed_of-is rules.turns (players_of land) done d timed e in
           record { turn = read.turn; player = read.player; ids = read.ids }

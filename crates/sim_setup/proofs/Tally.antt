@@ -1,18 +1,15 @@
 -- The table of counts, one more command at a time.
-use Rattle.std.proofs.Common.{◌≡◌, ℕ, zero, suc, ◌+◌, ◌*◌, ◌<◌, ◌≤◌, ◌==◌, ◌&&◌, Bool, true, false, List, [], ◌∷◌, ◌++◌, length, get_or, set, refl, sym, ap, ◌∙◌, arith, ◌⊎◌, inl, inr, true≢false, eqb-true, eq-eqb, get_or-set_same, get_or-set_other, cond, replicate, add-zero, length-set, lt-ltb, subst, slice_index}
-use Rattle.std.specs.List.{sum_by}
-use Rattle.std.proofs.lemmas.List.Sums.{sum_by-append}
-use Rattle.std.proofs.lemmas.Bool.{cases_eq, false_from_ne_true}
-use Rattle.sim_base.specs.declared.command.Command.{Command}
-use Rattle.sim_base.specs.declared.setup.Timed.{Timed}
-use Rattle.sim_base.specs.Limits.{is_given}
-use Rattle.sim_setup.specs.Commands.{crowd}
-use Rattle.sim_setup.specs.Crowds.{Tallies, timed, Counts}
+use Rattle.std.{proofs.lemmas.Bool.cases_eq, proofs.lemmas.Bool.false_from_ne_true, proofs.lemmas.List.Sums.sum_by-append, specs.List.sum_by}
+use Rattle.std.proofs.Common.{◌*◌, cond, get_or, set, replicate, add-zero, eqb-true, get_or-set_other, get_or-set_same, length-set, lt-ltb}
+use Rattle.sim_setup.proofs.Common.{arith, Command, crowd, eq-eqb, inl, inr, is_given, subst, sym, Tallies, Timed, true≢false, ◌∙◌}
+use Rattle.sim_setup.proofs.Common.{◌≡◌, ℕ, zero, suc, ◌+◌, ◌<◌, ◌≤◌, Bool, true, false, ◌&&◌, ◌⊎◌, List, [], ◌∷◌, ◌++◌, length, ◌==◌, slice_index, refl, ap}
+use Rattle.sim_setup.specs.Crowds.{Counts, timed}
 
 one_more : (f : Timed → ℕ) (done : List Timed) (t : Timed) → sum_by f (done ++ t ∷ []) ≡ sum_by f done + f t
 one_more f done t = grind (arith, sum_by-append)
 
-pub push_counted : (turn player : ℕ) (done : List Timed) (t : Timed) (b : Bool) → is_given turn player t ≡ b → crowd turn player (done ++ t ∷ []) ≡ crowd turn player done + cond b 1 0
+pub push_counted : (turn player : ℕ) (done : List Timed) (t : Timed) (b : Bool) → is_given turn player t ≡ b → crowd turn player (done ++ t ∷ []) ≡
+    crowd turn player done + cond b 1 0
 push_counted turn player done t b e = one_more (λ (c : Timed). cond (is_given turn player c) 1 0) done t ∙ ap (λ x. crowd turn player done + cond x 1 0) e
 
 both : (a b : Bool) → (a && b) ≡ true → (a ≡ true) × (b ≡ true)
@@ -26,9 +23,12 @@ both_eq : (a b c d : ℕ) → a ≡ b → c ≡ d → ((a == b) && (c == d)) ≡
 both_eq a b c d e f = rw (eq-eqb a b e, eq-eqb c d f)
 
 -- the entry at another place, or at this one
-module _ (table : List ℕ) (done : List Timed) (turn player : ℕ) (command : Command) (tallies : Tallies table done) (small : player ≤ 8) (within : turn * 9 + player < length table) where
-  tally_at : (turn' player' : ℕ) → player' ≤ 8 → turn' * 9 + player' < length table → (turn' * 9 + player' ≡ turn * 9 + player) ⊎ (turn' * 9 + player' ≡ turn * 9 + player → ⊥)
-      → get_or (set table (turn * 9 + player) (crowd turn player done + 1)) (turn' * 9 + player') 0 ≡ crowd turn' player' (done ++ timed turn player command ∷ [])
+module _ (table : List ℕ) (done : List Timed) (turn player : ℕ) (command : Command) (tallies : Tallies table done) (small : player ≤ 8)
+    (within : turn * 9 + player < length table) where
+  tally_at : (turn' player' : ℕ) → player' ≤ 8 → turn' * 9 + player' < length table → (turn' * 9 + player' ≡ turn * 9 + player)
+      ⊎ (turn' * 9 + player' ≡ turn * 9 + player → ⊥)
+      → get_or (set table (turn * 9 + player) (crowd turn player done + 1)) (turn' * 9 + player') 0 ≡ crowd turn' player'
+      (done ++ timed turn player command ∷ [])
   tally_at turn' player' small' within' (inl e) =
       let same_turn : turn ≡ turn' = omega arith in
       let same_player : player ≡ player' = omega arith in
@@ -44,7 +44,8 @@ pub tally_more : (table : List ℕ) (done : List Timed) (turn player : ℕ) (com
     → Tallies (set table (turn * 9 + player) (crowd turn player done + 1)) (done ++ timed turn player command ∷ [])
 tally_more table done turn player command tallies small within = record {
   right = λ turn' player' small' within'.
-      tally_at table done turn player command tallies small within turn' player' small' (omega (arith, length-set table (turn * 9 + player) (crowd turn player done + 1))) (cases_eq (turn' * 9 + player') (turn * 9 + player));
+      tally_at table done turn player command tallies small within turn' player' small'
+      (omega (arith, length-set table (turn * 9 + player) (crowd turn player done + 1))) (cases_eq (turn' * 9 + player') (turn * 9 + player));
 }
 
 -- what counting a command leaves

@@ -1,25 +1,14 @@
 -- What holds of the templates of a match file.
-use Rattle.std.proofs.Common.{◌≡◌, ◌≢◌, ℕ, ◌&&◌, ◌||◌, not, Bool, true, false, List, [], ◌∷◌, ◌++◌, length, map, All, AllPairs, Option, Some, is_some, slice_get, unwrap_or, Result, Ok, Err, refl, sym, ap, ◌∙◌, subst, arith, true≢false, if◌then◌else◌}
-use Rattle.std.specs.Str.{bytes_eq}
-use Rattle.std.specs.List.{list_any}
-use Rattle.std.specs.Result.{result_ok}
-use Rattle.std.proofs.lemmas.List.{map-append}
-use Rattle.std.proofs.lemmas.List.Elements.{All-cons}
-use Rattle.std.proofs.lemmas.List.Kept.{AllPairs-cons}
-use Rattle.std.proofs.lemmas.Slice.Eq.{bytes_eq-Decides}
-use Rattle.sim_base.specs.declared.template.Template.{Template}
-use Rattle.sim_json.specs.Records.{numbered}
-use Rattle.sim_json.proofs.Readers.{and_then_some, both_true}
-use Rattle.sim_json.proofs.Reading.{numbered-keeps}
-use Rattle.sim_tree.specs.Trees.{Node}
-use Rattle.sim_tree.specs.Sources.{Origin}
-use Rattle.sim_merge.specs.Resolution.{name_in, names_in, are_distinct}
-use Rattle.sim_traits.specs.declared.fault.TraitFault.{TraitFault}
-use Rattle.sim_traits.specs.declared.fault.TraitFault.TheVariants.{Clash, UnknownPart}
-use Rattle.sim_traits.specs.Table.{health_part, resist_part, motion_part, obstruct_part, attack_part, train_part, has_known_parts}
-use Rattle.sim_traits.specs.Values.{health_in, resist_in, speed_in, base_in, arms_in, train_in}
-use Rattle.sim_traits.specs.Parts.{part_of, after, unarmoured, template_of_parts, template_in}
-use Rattle.sim_setup.specs.Templates.{template_at, next_template}
+use Rattle.std.proofs.Common.{not, ◌||◌, is_some, slice_get, AllPairs, unwrap_or}
+use Rattle.std.proofs.lemmas.{List.map-append, List.Kept.AllPairs-cons, Slice.Eq.bytes_eq-Decides}
+use Rattle.std.specs.{List.list_any, Result.result_ok}
+use Rattle.sim_setup.proofs.Common.{Result, refl, All-cons, and_then_some, ap, are_distinct, arith, both_true, name_in, names_in, next_template, Node, numbered}
+use Rattle.sim_setup.proofs.Common.{numbered-keeps, Origin, subst, sym, Template, template_at, template_in, true≢false, ◌∙◌}
+use Rattle.sim_setup.proofs.Common.{◌≡◌, ℕ, Bool, true, false, ◌&&◌, ◌≢◌, List, [], ◌∷◌, ◌++◌, map, length, if◌then◌else◌, Some, Ok, Err, bytes_eq, All, Option}
+use Rattle.sim_traits.specs.Parts.{after, part_of, template_of_parts, unarmoured}
+use Rattle.sim_traits.specs.Table.{attack_part, has_known_parts, health_part, motion_part, obstruct_part, resist_part, train_part}
+use Rattle.sim_traits.specs.Values.{arms_in, base_in, health_in, resist_in, speed_in, train_in}
+use Rattle.sim_traits.specs.declared.fault.TraitFault.{TraitFault, TheVariants.Clash, TheVariants.UnknownPart}
 
 -- ---- a template that is read
 
@@ -65,7 +54,8 @@ ok_some (Err fault) t e = absurd cc
 ok_some (Ok u) t e = let same : u ≡ t = cc in ap Ok same
 
 -- a template that is read has the name of its source
-pub template_at-named : (names : List (List ℕ)) (roots : List Node) (number : ℕ) (origin : Origin) (t : Template) → template_at names roots number origin ≡ Some t → t.name ≡ origin.name
+pub template_at-named : (names : List (List ℕ)) (roots : List Node) (number : ℕ) (origin : Origin) (t : Template) → template_at names roots number origin ≡
+    Some t → t.name ≡ origin.name
 unfolding template_at
 template_at-named names roots number origin t e =
     let root = and_then_some (slice_get roots number) (λ root. result_ok (template_in origin.name root names)) t e in
@@ -85,7 +75,8 @@ name_of t = t.name
 abbrev named : List Origin → List Template → Type 0
 named front done = map name_in front ≡ map name_of done
 
-more_named : (front : List Origin) (done : List Template) (origin : Origin) (t : Template) → t.name ≡ origin.name → named front done → named (front ++ origin ∷ []) (done ++ t ∷ [])
+more_named : (front : List Origin) (done : List Template) (origin : Origin) (t : Template) → t.name ≡ origin.name → named front done
+    → named (front ++ origin ∷ []) (done ++ t ∷ [])
 more_named front done origin t is so_far =
     map-append name_in front (origin ∷ []) ∙ ap (λ names. names ++ origin.name ∷ []) so_far ∙ ap (λ name. map name_of done ++ name ∷ []) (sym is)
     ∙ sym (map-append name_of done (t ∷ []))
@@ -115,5 +106,6 @@ pub names-differ : (names : List (List ℕ)) (roots : List Node) (origins : List
     → numbered (next_template names roots) [] origins ≡ Ok templates → AllPairs (λ a b. a ≢ b) (map (λ (t : Template). t.name) templates)
 names-differ names roots origins templates distinct e =
     let same = numbered-keeps (next_template names roots) named
-    (λ front done origin t is so_far. more_named front done origin t (template_at-named names roots (length done) origin t is) so_far) [] [] origins templates e refl in
+    (λ front done origin t is so_far. more_named front done origin t (template_at-named names roots (length done) origin t is) so_far) [] [] origins templates e
+    refl in
     differ (map name_of templates) (subst (λ texts. are_distinct texts ≡ true) same distinct)

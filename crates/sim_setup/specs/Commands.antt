@@ -1,13 +1,7 @@
 -- The commands of a match file: of which turn and which player each is, and in which order they stand.
-use Rattle.std.specs.Prelude.{ℕ, ◌+◌, Bool, false, nat_lt, List, [], ◌∷◌, count_by, Option, Some, None, option_and_then, Result, Ok, if◌then◌else◌}
-use Rattle.serde_json.specs.Data.{Data}
-use Rattle.sim_base.specs.declared.setup.Timed.{Timed}
-use Rattle.sim_base.specs.Limits.{is_given}
-use Rattle.sim_json.specs.Values.{list_of, natural_in, front_two}
-use Rattle.sim_json.specs.Records.{next_or, numbered}
-use Rattle.sim_json.specs.Commands.{command_of}
-use Rattle.sim_json.specs.Memory.{command_takes}
-use Rattle.sim_setup.specs.Refusals.{Refusal, coded, unless_at}
+use Rattle.std.specs.Prelude.{ℕ, ◌+◌, Bool, false, List, [], ◌∷◌, if◌then◌else◌, nat_lt, Some, None, Ok, count_by, Option, Result, option_and_then}
+use Rattle.sim_setup.specs.Common.{command_of, command_takes, Data, front_two, is_given, list_of, natural_in, next_or, numbered, Timed}
+use Rattle.sim_setup.specs.Refusals.{coded, Refusal, unless_at}
 
 -- how many commands a player has in a turn
 abbrev pub crowd : ℕ → ℕ → List Timed → ℕ

@@ -1,9 +1,7 @@
 -- How many commands each player has in each turn, as a table.
-use Rattle.std.specs.Prelude.{◌≡◌, ℕ, ◌+◌, ◌*◌, ◌<◌, ◌≤◌, Bool, true, false, nat_lt, List, [], ◌∷◌, ◌++◌, length, slice_index, Option, Some, None, Result, Ok, Err}
-use Rattle.sim_base.specs.declared.memory.OutOfMemory.{OutOfMemory}
-use Rattle.sim_base.specs.declared.command.Command.{Command}
-use Rattle.sim_base.specs.declared.setup.Timed.{Timed}
-use Rattle.sim_setup.specs.Commands.{crowd}
+use Rattle.std.specs.Prelude.{Result}
+use Rattle.std.specs.Prelude.{◌≡◌, ℕ, ◌+◌, ◌*◌, ◌<◌, ◌≤◌, Bool, true, false, List, [], ◌∷◌, ◌++◌, length, nat_lt, slice_index, Some, None, Ok, Err, Option}
+use Rattle.sim_setup.specs.{Commands.crowd, Common.Command, Common.OutOfMemory, Common.Timed}
 
 -- a table has a count for Gaia and eight players in each turn
 abbrev pub place_of : ℕ → ℕ → ℕ
@@ -22,7 +20,8 @@ timed turn player command = record { turn = turn; order = record { player = play
 
 -- a command of that player in that turn is counted where there is room for it, and else nothing is
 abbrev pub Counts : Bool → ℕ → ℕ → List ℕ → List Timed → Type 0
-Counts true turn player table done = (nat_lt (crowd turn player done) 64 ≡ true) × ((command : Command) → Tallies table (done ++ timed turn player command ∷ []))
+Counts true turn player table done = (nat_lt (crowd turn player done) 64 ≡ true)
+    × ((command : Command) → Tallies table (done ++ timed turn player command ∷ []))
 Counts false turn player table done = (nat_lt (crowd turn player done) 64 ≡ false) × Tallies table done
 
 -- a command is the wanted one and is counted, or none is wanted, or memory ran out

@@ -1,17 +1,7 @@
 -- The entities that stand there when a match begins.
-use Rattle.std.specs.Prelude.{ℕ, nat_le, List, [], length, position, codes, Option, Some, None, option_and_then, Result, if◌then◌else◌}
-use Rattle.std.specs.Str.{bytes_eq}
-use Rattle.serde_json.specs.Data.{Data}
-use Rattle.serde_json.specs.Find.{as_str}
-use Rattle.sim_base.specs.declared.place.Point.{Point}
-use Rattle.sim_base.specs.declared.setup.Land.{Land}
-use Rattle.sim_base.specs.declared.setup.First.{First}
-use Rattle.sim_base.specs.Places.{is_inside}
-use Rattle.sim_base.specs.Rows.{size_of}
-use Rattle.sim_base.specs.Limits.{row_limit}
-use Rattle.sim_json.specs.Values.{list_of, list_at, natural_in, fixed, four}
-use Rattle.sim_json.specs.Records.{next_or, numbered}
-use Rattle.sim_setup.specs.Refusals.{Refusal, coded}
+use Rattle.{sim_setup.specs.Common.size_of, sim_setup.specs.Refusals.coded, sim_setup.specs.Refusals.Refusal, std.specs.Str.bytes_eq}
+use Rattle.std.specs.Prelude.{ℕ, List, [], length, if◌then◌else◌, nat_le, Some, None, codes, position, Option, Result, option_and_then}
+use Rattle.sim_setup.specs.Common.{as_str, Data, First, fixed, four, is_inside, Land, list_at, list_of, natural_in, next_or, numbered, Point, row_limit}
 
 -- no more entities than rows
 abbrev pub entities_within : List Data → Option (List Data)

@@ -1,13 +1,7 @@
 -- The ground of a match: its size and what is closed for good, and with the players' masks the whole land.
-use Rattle.std.specs.Prelude.{ℕ, ◌&&◌, nat_le, nat_lt, pos, List, [], length, codes, Option, Some, None, option_and_then, Result, Ok, if◌then◌else◌}
-use Rattle.serde_json.specs.Data.{Data}
-use Rattle.sim_base.specs.declared.place.Rect.{Rect}
-use Rattle.sim_base.specs.declared.setup.Land.{Land}
-use Rattle.sim_json.specs.Values.{list_of, list_at, natural, natural_in, two, four}
-use Rattle.sim_json.specs.Records.{next_or, records}
-use Rattle.sim_setup.specs.declared.ground.Size.{Size}
-use Rattle.sim_setup.specs.Refusals.{Refusal, need}
-use Rattle.sim_setup.specs.Players.{masks_in}
+use Rattle.std.specs.Prelude.{ℕ, ◌&&◌, List, [], length, pos, if◌then◌else◌, nat_lt, nat_le, Some, None, Ok, codes, Option, Result, option_and_then}
+use Rattle.sim_setup.specs.{Players.masks_in, Refusals.need, Refusals.Refusal, declared.ground.Size.Size}
+use Rattle.sim_setup.specs.Common.{Data, four, Land, list_at, list_of, natural, natural_in, next_or, records, Rect, two}
 
 -- a width and a depth from 1 to 256
 abbrev pub size_from : Data × Data → Option Size

@@ -1,16 +1,7 @@
 -- What the index of a refusal says of a list, for each list of a match file.
-use Rattle.std.specs.Prelude.{◌≡◌, ℕ, zero, suc, ◌<◌, nat_lt, Bool, true, false, List, [], ◌∷◌, map, Some, Err}
-use Rattle.serde_json.specs.Data.{Data}
-use Rattle.sim_base.specs.declared.setup.Land.{Land}
-use Rattle.sim_base.specs.declared.setup.Timed.{Timed}
-use Rattle.sim_json.specs.Records.{numbered}
-use Rattle.sim_json.specs.Least.{IsLeast}
-use Rattle.sim_tree.specs.Trees.{Node}
-use Rattle.sim_tree.specs.Sources.{Origin}
-use Rattle.sim_setup.specs.Sources.{source_of}
-use Rattle.sim_setup.specs.Templates.{next_template}
-use Rattle.sim_setup.specs.Entities.{first_of}
-use Rattle.sim_setup.specs.Commands.{timed_of, falls_at}
+use Rattle.std.specs.Prelude.{◌≡◌, ℕ, zero, suc, ◌<◌, Bool, true, false, List, [], ◌∷◌, map, nat_lt, Some, Err}
+use Rattle.sim_setup.specs.{Commands.falls_at, Commands.timed_of, Entities.first_of, Sources.source_of}
+use Rattle.sim_setup.specs.{Common.Data, Common.IsLeast, Common.Land, Common.Node, Common.numbered, Common.Origin, Common.Timed, Templates.next_template}
 
 abbrev pub SourceIndexIsLeast : Type 0
 SourceIndexIsLeast = (ds : List Data) (i : ℕ) → numbered (λ done. source_of) [] ds ≡ Err i → IsLeast (λ done. source_of) [] ds i

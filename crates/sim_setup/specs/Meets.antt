@@ -1,16 +1,9 @@
 -- What a call that reads a match file answers. It may run out of memory, and is else what a definition says.
-use Rattle.std.specs.Prelude.{◌≡◌, ℕ, List, Result, Ok, Err, Vec}
-use Rattle.std.specs.declared.alloc.Global.{Global}
-use Rattle.sim_tree.specs.declared.source.Source.{Source}
-use Rattle.sim_tree.specs.Trees.{Node}
-use Rattle.sim_tree.specs.Sources.{Origin}
-use Rattle.sim_merge.specs.declared.fault.MergeFault.{MergeFault}
-use Rattle.sim_merge.specs.declared.fault.MergeFault.TheVariants as merge
-use Rattle.sim_merge.specs.Libraries.{Holding}
-use Rattle.sim_merge.specs.Resolution.{names_in, origins_of}
-use Rattle.sim_setup.specs.declared.fault.SetupFault.{SetupFault}
-use Rattle.sim_setup.specs.declared.fault.SetupFault.TheVariants.{Refused, OutOfMemory}
+use Rattle.std.specs.Prelude.{◌≡◌, ℕ, List, Ok, Err, Result, Vec}
+use Rattle.sim_setup.specs.Common.{Global, Holding, MergeFault, names_in, Node, Origin, origins_of, Source}
 use Rattle.sim_setup.specs.Refusals.{Refusal, refusal}
+use Rattle.sim_setup.specs.declared.fault.SetupFault.{SetupFault, TheVariants.OutOfMemory, TheVariants.Refused}
+use Rattle.sim_merge.specs.declared.fault.MergeFault.TheVariants as merge
 
 -- an answer is the wanted one, or memory ran out
 abbrev pub Meets : {X : Type 0} → Result X SetupFault → Result X Refusal → Type 0

@@ -1,8 +1,6 @@
 -- The players of a match, each given by the list of his enemies.
-use Rattle.std.specs.Prelude.{ℕ, ◌^◌, ◌==◌, ◌&&◌, nat_le, bit_or, List, [], ◌∷◌, length, codes, Option, Some, None, option_and_then, if◌then◌else◌}
-use Rattle.serde_json.specs.Data.{Data}
-use Rattle.sim_json.specs.Values.{list_of, list_at, natural_in}
-use Rattle.sim_json.specs.Records.{next_or, records}
+use Rattle.std.specs.Prelude.{ℕ, ◌^◌, ◌&&◌, List, [], ◌∷◌, length, if◌then◌else◌, nat_le, ◌==◌, bit_or, Some, None, codes, Option, option_and_then}
+use Rattle.sim_setup.specs.Common.{Data, list_at, list_of, natural_in, next_or, records}
 
 -- an enemy of a player: Gaia, who is 0, or one of so many players, but not the player himself
 abbrev pub enemy_in : ℕ → ℕ → Data → Option ℕ

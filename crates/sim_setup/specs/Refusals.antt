@@ -1,5 +1,5 @@
 -- Why a match file has no setup, and how the passes over it follow one another: the first refusal is the answer.
-use Rattle.std.specs.Prelude.{ℕ, ◌+◌, Option, Some, None, Result, Ok, Err}
+use Rattle.std.specs.Prelude.{ℕ, ◌+◌, Some, None, Ok, Err, Option, Result}
 
 -- a code from 1 to 10, and where in the file it applies
 pub record Refusal : Type 0 where

@@ -1,10 +1,6 @@
 -- The numbers that rule a match.
-use Rattle.std.specs.Prelude.{◌-◌, ◌^◌, codes, Result, Ok}
-use Rattle.serde_json.specs.Data.{Data}
-use Rattle.sim_base.specs.Limits.{row_limit}
-use Rattle.sim_json.specs.Values.{natural_at}
-use Rattle.sim_setup.specs.declared.rules.Rules.{Rules}
-use Rattle.sim_setup.specs.Refusals.{Refusal, need}
+use Rattle.std.specs.Prelude.{◌-◌, ◌^◌, Ok, codes, Result}
+use Rattle.sim_setup.specs.{Common.Data, Common.natural_at, Common.row_limit, Refusals.need, Refusals.Refusal, declared.rules.Rules.Rules}
 
 -- each number within its limits
 abbrev pub rules_in : Data → Result Rules Refusal

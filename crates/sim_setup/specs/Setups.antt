@@ -1,23 +1,9 @@
 -- The setup of a match file, or why it has none: the passes over the file, in the order of their codes.
-use Rattle.std.specs.Prelude.{ℕ, ◌-◌, ◌==◌, List, length, codes, Result, Ok, Err, if◌then◌else◌}
-use Rattle.serde_json.specs.Data.{Data}
-use Rattle.md5.specs.Md5.{md5}
-use Rattle.sim_base.specs.declared.setup.Land.{Land}
-use Rattle.sim_base.specs.declared.setup.Timed.{Timed}
-use Rattle.sim_base.specs.declared.setup.Setup.{Setup}
-use Rattle.sim_json.specs.Values.{value_of, list_at}
-use Rattle.sim_setup.specs.declared.rules.Rules.{Rules}
-use Rattle.sim_setup.specs.declared.passes.Lists.{Lists}
-use Rattle.sim_setup.specs.Refusals.{Refusal, refusal, need, after, unless_at}
-use Rattle.sim_setup.specs.Shape.{misplaced}
-use Rattle.sim_setup.specs.Ground.{land_in}
-use Rattle.sim_setup.specs.Rules.{rules_in}
-use Rattle.sim_tree.specs.Sources.{Origin}
-use Rattle.sim_merge.specs.Resolution.{names_in}
-use Rattle.sim_setup.specs.Sources.{sources_in}
-use Rattle.sim_setup.specs.Templates.{few_sources, roots_of, templates_from}
-use Rattle.sim_setup.specs.Entities.{entities_in, firsts_from}
-use Rattle.sim_setup.specs.Commands.{timeds_from, in_order}
+use Rattle.std.specs.Prelude.{ℕ, ◌-◌, List, length, if◌then◌else◌, ◌==◌, Ok, Err, codes, Result}
+use Rattle.sim_setup.specs.{Commands.in_order, Commands.timeds_from, Ground.land_in, Rules.rules_in, Shape.misplaced, Sources.sources_in}
+use Rattle.sim_setup.specs.{Entities.entities_in, Entities.firsts_from, Refusals.after, Refusals.need, Refusals.Refusal, Refusals.refusal, Refusals.unless_at}
+use Rattle.sim_setup.specs.{Templates.few_sources, Templates.roots_of, Templates.templates_from, declared.passes.Lists.Lists, declared.rules.Rules.Rules}
+use Rattle.sim_setup.specs.Common.{Data, Land, list_at, md5, names_in, Origin, Setup, Timed, value_of}
 
 -- all owners but Gaia
 abbrev pub players_of : Land → ℕ

@@ -1,9 +1,6 @@
 -- Code 2: the file is an object with exactly the ten keys, and each value is of its kind.
 use Rattle.std.specs.Prelude.{ℕ, Bool, not, List, [], ◌∷◌, ◌++◌, codes, position, Option}
-use Rattle.serde_json.specs.Data.{Data}
-use Rattle.serde_json.specs.Find.{get}
-use Rattle.sim_json.specs.Kinds.{fits, is_whole, is_list, is_row_of, is_table, is_table_of}
-use Rattle.sim_json.specs.Keys.{other_key}
+use Rattle.sim_setup.specs.Common.{Data, fits, get, is_list, is_row_of, is_table, is_table_of, is_whole, other_key}
 
 -- the ten keys, by their places
 abbrev pub keys : List (List ℕ)

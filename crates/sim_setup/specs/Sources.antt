@@ -1,14 +1,7 @@
 -- The sources of the templates of a match file.
-use Rattle.std.specs.Prelude.{◌≡◌, ◌≤◌, true, List, [], codes, Option, None, Result}
-use Rattle.std.specs.Result.{result_ok}
-use Rattle.serde_json.specs.Data.{Data}
-use Rattle.sim_json.specs.Values.{list_at}
-use Rattle.sim_json.specs.Records.{numbered}
-use Rattle.sim_tree.specs.declared.source.Source.{Source}
-use Rattle.sim_tree.specs.Trees.{Node, node_of, mark_of, is_sound, levels}
-use Rattle.sim_tree.specs.Sources.{Origin}
-use Rattle.sim_tree.specs.Reading.{source_in}
-use Rattle.sim_setup.specs.Refusals.{Refusal, need, placed}
+use Rattle.std.specs.Prelude.{◌≡◌, ◌≤◌, true, List, [], None, codes, Option, Result}
+use Rattle.sim_setup.specs.Common.{Data, is_sound, levels, list_at, mark_of, Node, node_of, numbered, Origin, result_ok, Source, source_in}
+use Rattle.sim_setup.specs.Refusals.{need, placed, Refusal}
 
 -- the source that an item is
 unfoldable pub source_of : Data → Option Origin

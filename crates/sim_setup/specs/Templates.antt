@@ -1,14 +1,8 @@
 -- The templates of a match file: each source with all that it inherits, read as a template.
-use Rattle.std.specs.Prelude.{ℕ, ◌&&◌, nat_le, List, [], length, slice_get, position, filter_map, Option, Some, None, option_and_then, Result, Ok, if◌then◌else◌}
-use Rattle.std.specs.Result.{result_ok}
-use Rattle.sim_base.specs.declared.template.Template.{Template}
-use Rattle.sim_json.specs.Records.{numbered}
-use Rattle.sim_tree.specs.Trees.{Node}
-use Rattle.sim_tree.specs.Sources.{Origin}
-use Rattle.sim_merge.specs.Laying.{Laying}
-use Rattle.sim_merge.specs.Resolution.{names_in, are_distinct, parents_in, roots_in, is_orphan, members, numbers, is_endless, layings, is_missing, root_there}
-use Rattle.sim_traits.specs.Parts.{template_in}
-use Rattle.sim_setup.specs.Refusals.{Refusal, coded, unless_at}
+use Rattle.{sim_setup.specs.Refusals.coded, sim_setup.specs.Refusals.Refusal, sim_setup.specs.Refusals.unless_at, std.specs.Prelude.option_and_then}
+use Rattle.std.specs.Prelude.{ℕ, ◌&&◌, List, [], length, if◌then◌else◌, nat_le, slice_get, Some, None, Ok, position, filter_map, Option, Result}
+use Rattle.sim_setup.specs.Common.{are_distinct, is_endless, is_missing, is_orphan, Laying, layings, members, names_in, Node, numbered, numbers, Origin}
+use Rattle.sim_setup.specs.Common.{parents_in, result_ok, root_there, roots_in, Template, template_in}
 
 -- at most 256 sources, of which no two have the same name
 abbrev pub few_sources : List Origin → Option (List Origin)

@@ -1,19 +1,15 @@
 //! Codes 9 and 10 at the key `commands`: commands of turns and players, which `sim_json` reads from their kinds on.
 
-ghost use Rattle.std.specs.Prelude.{◌≡◌, ◌≢◌, ◌<◌, ◌≤◌, ◌^◌, true, List, map, length, option_map, option_and_then, IfErr};
-ghost use Rattle.serde_json.specs.View.{view};
-ghost use Rattle.sim_base.specs.declared.setup.Timed.{Timed};
-ghost use Rattle.sim_json.specs.Values.{list_of as list_of_data, front_two as front_two_of};
-ghost use Rattle.sim_setup.specs.Commands.{timed_of as timed_of_data, timed_takes, timeds_from as timeds_from_data, falls_at as falls_at_in, in_order as in_order_of};
-ghost use Rattle.sim_setup.specs.Crowds.{Tallies, Covers, FindsTimed};
-ghost use Rattle.sim_setup.specs.Meets.{Meets};
+ghost use Rattle.std.specs.Prelude.{◌≡◌, ◌^◌, ◌<◌, ◌≤◌, true, ◌≢◌, List, map, length, IfErr, option_map, option_and_then};
+ghost use Rattle.sim_setup.specs.{Commands.timeds_from as timeds_from_data, Crowds.Covers, Crowds.FindsTimed, Crowds.Tallies};
+ghost use Rattle.sim_setup.specs.{Common.front_two as front_two_of, Common.list_of as list_of_data, Common.Timed, Common.view, Meets.Meets};
+ghost use Rattle.sim_setup.specs.Commands.{falls_at as falls_at_in, in_order as in_order_of, timed_of as timed_of_data, timed_takes};
 
 use crate::crowd::Crowd;
 use crate::fault::{SetupFault, refused};
 use serde_json::Value;
 use sim_base::{OutOfMemory, PlayerCommand, Timed, Timeds};
-use sim_json::command_of;
-use sim_json::{front_two, list_of, natural_in};
+use sim_json::{command_of, front_two, list_of, natural_in};
 use std::alloc::Global;
 
 /// The commands, or the refusal of the first item that is none.

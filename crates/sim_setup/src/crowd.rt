@@ -2,8 +2,7 @@
 //! counted in as many steps as there are commands.
 
 ghost use Rattle.std.specs.Prelude.{◌≡◌, ◌≤◌, List, [], length, IfOk};
-ghost use Rattle.sim_base.specs.declared.setup.Timed.{Timed};
-ghost use Rattle.sim_setup.specs.Crowds.{Tallies, Counts, Covers};
+ghost use Rattle.sim_setup.specs.{Common.Timed, Crowds.Counts, Crowds.Covers, Crowds.Tallies};
 
 use sim_base::OutOfMemory;
 use std::alloc::Global;
@@ -22,7 +21,7 @@ pub struct Crowd {
 }
 
 impl Model for Crowd {
-    ghost use Rattle.std.specs.Prelude.{List, ℕ};
+    ghost use Rattle.std.specs.Prelude.{ℕ, List};
 
     ghost Value = { List ℕ };
 

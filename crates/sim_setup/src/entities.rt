@@ -1,13 +1,9 @@
 //! Codes 3 and 8 at the key `entities`.
 
 ghost use Rattle.std.specs.Prelude.{◌≡◌, map, option_map, option_and_then};
-ghost use Rattle.serde_json.specs.View.{view};
-ghost use Rattle.serde_json.specs.Find.{as_str};
-ghost use Rattle.sim_base.specs.Places.{is_inside as is_inside_size, is_within as is_within_cells};
-ghost use Rattle.sim_base.specs.Rows.{size_of};
-ghost use Rattle.sim_json.specs.Values.{list_of as list_of_data, four as four_of};
-ghost use Rattle.sim_setup.specs.Entities.{entities_in as entities_in_data, point_of as point_of_data, if_inside, number_of as number_of_name, first_of as first_of_data, firsts_from as firsts_from_data};
-ghost use Rattle.sim_setup.specs.Meets.{Meets};
+ghost use Rattle.sim_setup.specs.{Entities.number_of as number_of_name, Entities.point_of as point_of_data, Meets.Meets};
+ghost use Rattle.sim_setup.specs.Common.{as_str, is_inside as is_inside_size, is_within as is_within_cells, size_of, view};
+ghost use Rattle.sim_setup.specs.Entities.{entities_in as entities_in_data, first_of as first_of_data, firsts_from as firsts_from_data, if_inside};
 
 use crate::fault::{SetupFault, refused};
 use serde_json::Value;

@@ -1,6 +1,6 @@
 //! How a match file is refused. It stands apart since each pass refuses in its own code.
 
-ghost use Rattle.std.specs.Prelude.{◌≢◌, ◌<◌, ◌^◌};
+ghost use Rattle.std.specs.Prelude.{◌^◌, ◌<◌, ◌≢◌};
 ghost use Rattle.sim_setup.specs.Meets.{Tells};
 
 use sim_base::OutOfMemory;

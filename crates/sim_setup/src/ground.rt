@@ -1,9 +1,8 @@
 //! Code 3 at the keys `size` and `closed`; and with the players' masks the land of a match.
 
-ghost use Rattle.std.specs.Prelude.{◌≡◌, ◌<◌, ◌≤◌, None, codes, map, length, option_and_then, IfOk, IfSome};
-ghost use Rattle.serde_json.specs.View.{view};
-ghost use Rattle.sim_json.specs.Values.{list_of as list_of_data, list_at as list_at_key, two as two_of, four as four_of};
-ghost use Rattle.sim_setup.specs.Ground.{size_from as size_from_data, size_in as size_in_data, rect_on as rect_on_size, rect_from as rect_from_data, rect_of as rect_of_data, rects_from as rects_from_data, closed_in as closed_in_data, land_in as land_in_data};
+ghost use Rattle.std.specs.Prelude.{◌≡◌, ◌<◌, ◌≤◌, map, length, IfOk, None, codes};
+ghost use Rattle.sim_setup.specs.{Common.list_at as list_at_key, Common.view, Ground.rects_from as rects_from_data, Ground.size_in as size_in_data};
+ghost use Rattle.sim_setup.specs.Ground.{closed_in as closed_in_data, land_in as land_in_data, rect_of as rect_of_data, rect_on as rect_on_size};
 ghost use Rattle.sim_setup.specs.Meets.{Meets};
 
 use crate::fault::SetupFault;

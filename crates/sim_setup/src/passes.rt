@@ -1,17 +1,12 @@
 //! The passes over a match file, one after another in the order of their codes, so that the first code that applies is
 //! the answer.
 
-ghost use Rattle.std.specs.Prelude.{◌≡◌, ◌≢◌, ◌≤◌, true, false, None, All, [], map, length, IfOk, IfSome};
-ghost use Rattle.std.specs.Str.{is_utf8};
-ghost use Rattle.serde_json.specs.View.{view};
-ghost use Rattle.sim_base.specs.Limits.{IsSetup, IsTemplate};
-ghost use Rattle.sim_merge.specs.Resolution.{names_in, origins_of, are_distinct};
-ghost use Rattle.sim_setup.specs.Meets.{Meets};
-ghost use Rattle.sim_setup.specs.Entities.{entities_in as entities_in_data};
-ghost use Rattle.sim_setup.specs.Shape.{misplaced as misplaced_in};
-ghost use Rattle.sim_setup.specs.Sources.{IsReadySource};
-ghost use Rattle.sim_setup.specs.Templates.{few_sources};
-ghost use Rattle.sim_setup.specs.Setups.{players_of as players_of_land, commands_in as commands_in_data, items_in as items_in_data, lists_in as lists_in_data, setup_with as setup_with_parts, limits_in as limits_in_data, setup_in as setup_in_data, setup_of as setup_of_bytes, without_commands, session_setup_of as session_setup_of_bytes};
+ghost use Rattle.std.specs.Prelude.{◌≡◌, ◌≤◌, true, false, ◌≢◌, [], map, length, IfSome, IfOk, None, All};
+ghost use Rattle.sim_setup.specs.{Entities.entities_in as entities_in_data, Meets.Meets, Shape.misplaced as misplaced_in, Templates.few_sources};
+ghost use Rattle.sim_setup.specs.{Setups.setup_of as setup_of_bytes, Setups.setup_with as setup_with_parts, Setups.without_commands, Sources.IsReadySource};
+ghost use Rattle.sim_setup.specs.Common.{are_distinct, is_utf8, IsSetup, IsTemplate, names_in, origins_of, view};
+ghost use Rattle.sim_setup.specs.Setups.{commands_in as commands_in_data, items_in as items_in_data, limits_in as limits_in_data, lists_in as lists_in_data};
+ghost use Rattle.sim_setup.specs.Setups.{players_of as players_of_land, session_setup_of as session_setup_of_bytes, setup_in as setup_in_data};
 
 use crate::commands::{in_order, timeds_from};
 use crate::entities::{entities_in, firsts_from};

@@ -1,9 +1,7 @@
 //! Codes 4 to 6: the sources with all that they inherit.
 
-ghost use Rattle.std.specs.Prelude.{◌≡◌, ◌≤◌, true, All, length};
-ghost use Rattle.sim_merge.specs.Resolution.{names_in, origins_of, are_distinct};
-ghost use Rattle.sim_setup.specs.Meets.{LibraryMeets, Refuses};
-ghost use Rattle.sim_setup.specs.Sources.{IsReadySource};
+ghost use Rattle.std.specs.Prelude.{◌≡◌, ◌≤◌, true, length, All};
+ghost use Rattle.sim_setup.specs.{Common.are_distinct, Common.names_in, Common.origins_of, Meets.LibraryMeets, Meets.Refuses, Sources.IsReadySource};
 ghost use Rattle.sim_setup.specs.Templates.{roots_of};
 
 use crate::fault::SetupFault;

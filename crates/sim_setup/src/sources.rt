@@ -1,11 +1,8 @@
 //! Code 2 at the items of `templates`, and code 3 at that key: the sources of the templates, which may be at most 256 and
 //! have different names. All items are read before any limit is looked at.
 
-ghost use Rattle.std.specs.Prelude.{◌≡◌, ◌≢◌, ◌+◌, ◌^◌, ◌<◌, ◌&&◌, nat_le, All, length, map, option_map, option_and_then, IfOk, IfErr, IsErr, IfSome};
-ghost use Rattle.serde_json.specs.View.{view};
-ghost use Rattle.sim_tree.specs.Sources.{origin_of};
-ghost use Rattle.sim_merge.specs.Resolution.{names_in, origins_of, are_distinct};
-ghost use Rattle.sim_setup.specs.Meets.{SourcesMeet, Tells};
+ghost use Rattle.std.specs.Prelude.{◌≡◌, ◌+◌, ◌^◌, ◌<◌, ◌&&◌, ◌≢◌, map, length, IfSome, IfOk, IfErr, IsErr, nat_le, All, option_map};
+ghost use Rattle.sim_setup.specs.{Common.are_distinct, Common.names_in, Common.origin_of, Common.origins_of, Common.view, Meets.SourcesMeet, Meets.Tells};
 ghost use Rattle.sim_setup.specs.Sources.{IsReadySource, source_of as source_of_data, sources_from as sources_from_data, sources_in as sources_in_data};
 
 use crate::fault::{SetupFault, refused};

@@ -1,11 +1,8 @@
 //! Code 7: the templates of resolved sources.
 
-ghost use Rattle.std.specs.Prelude.{◌≡◌, ◌≢◌, ◌<◌, ◌≤◌, All, length, Some, None, IfOk, IfErr, IsErr, IfSome};
-ghost use Rattle.sim_base.specs.Limits.{IsTemplate};
-ghost use Rattle.sim_tree.specs.Sources.{origin_of};
-ghost use Rattle.sim_merge.specs.Resolution.{names_in, origins_of};
-ghost use Rattle.sim_setup.specs.Meets.{Meets};
-ghost use Rattle.sim_setup.specs.Templates.{template_at as template_at_number, templates_from as templates_from_sources};
+ghost use Rattle.std.specs.Prelude.{◌≡◌, ◌<◌, ◌≤◌, ◌≢◌, length, IfSome, IfOk, IfErr, IsErr, Some, None, All};
+ghost use Rattle.sim_setup.specs.{Meets.Meets, Templates.template_at as template_at_number, Templates.templates_from as templates_from_sources};
+ghost use Rattle.sim_setup.specs.Common.{IsTemplate, names_in, origin_of, origins_of};
 
 use crate::fault::{SetupFault, refused};
 use sim_base::{OutOfMemory, Template, Templates};

@@ -1,18 +1,7 @@
 -- What deeds, prices and incomes make of all that there is.
-use Rattle.std.proofs.Common.{◌≡◌, ℕ, zero, suc, ◌+◌, ◌-◌, ◌*◌, ◌/◌, ◌^◌, ◌<◌, ◌≤◌, Bool, true, false, List, [], ◌∷◌, length, get_or, All, refl, arith}
-use Rattle.std.specs.Prelude.{◌==◌, ◌&&◌, nat_le, sum, IsTrue, if◌then◌else◌}
-use Rattle.std.proofs.Math.ListN.{set}
-use Rattle.std.proofs.lemmas.Bool.{and_parts, leb-true}
-use Rattle.std.proofs.lemmas.List.Sums.{sum_by-cons, get_or-le-sum_by}
-use Rattle.sim_base.specs.Limits.{IsFrom}
-use Rattle.sim_stock.specs.declared.stocks.Stocks.{Stocks}
-use Rattle.sim_stock.specs.declared.deed.Deed.{Deed}
-use Rattle.sim_stock.specs.declared.deed.Deed.TheVariants.{Tribute, Barter}
-use Rattle.sim_stock.specs.declared.deed.DatedDeed.{DatedDeed}
-use Rattle.sim_stock.specs.declared.rate.Rate.{Rate}
-use Rattle.sim_stock.specs.Stocks.{amounts, amount_of, with_amount, gained, spent, total, AreBelow}
-use Rattle.sim_stock.specs.Deeds.{kind_of, given, deed, IsDeedOf, IsDatedDeed, IsAsked}
-use Rattle.sim_stock.specs.PaidTurns.{affords, earned, paid}
+use Rattle.sim_stock.proofs.Common.{get_or-le-sum_by, given, IsAsked, IsDatedDeed, kind_of, leb-true, paid, Rate, spent, Stocks, sum_by-cons, total, Tribute}
+use Rattle.sim_stock.proofs.Common.{◌==◌, sum, refl, affords, amount_of, and_parts, AreBelow, arith, Barter, DatedDeed, Deed, deed, earned, gained}
+use Rattle.sim_stock.proofs.Common.{◌≡◌, ℕ, zero, suc, ◌+◌, ◌-◌, ◌*◌, ◌/◌, ◌^◌, ◌<◌, ◌≤◌, Bool, true, false, List, [], ◌∷◌, get_or, set, if◌then◌else◌, nat_le}
 
 -- one amount is at most the sum
 at_most_sum : (xs : List ℕ) (i : ℕ) → get_or xs i 0 ≤ sum xs
@@ -33,12 +22,14 @@ sum_less (x ∷ xs) zero a le = omega (arith, le, sum_by-cons (λ (y : ℕ). y) 
 sum_less (x ∷ xs) (suc i) a le = omega (arith, sum_by-cons (λ (y : ℕ). y) x xs, sum_by-cons (λ (y : ℕ). y) x (set xs i (get_or xs i 0 - a)), sum_less xs i a le)
 
 more_by : (b : Bool) (i a : ℕ) (q : Stocks) →
-    total (if b then record q { food = set q.food i (get_or (if b then q.food else q.metal) i 0 + a) } else record q { metal = set q.metal i (get_or (if b then q.food else q.metal) i 0 + a) }) ≤ total q + a
+    total (if b then record q { food = set q.food i (get_or (if b then q.food else q.metal) i 0 + a) }
+    else record q { metal = set q.metal i (get_or (if b then q.food else q.metal) i 0 + a) }) ≤ total q + a
 more_by true i a q = omega (arith, sum_more q.food i a)
 more_by false i a q = omega (arith, sum_more q.metal i a)
 
 less_by : (b : Bool) (i a : ℕ) (q : Stocks) → a ≤ get_or (if b then q.food else q.metal) i 0 →
-    total (if b then record q { food = set q.food i (get_or (if b then q.food else q.metal) i 0 - a) } else record q { metal = set q.metal i (get_or (if b then q.food else q.metal) i 0 - a) }) + a ≤ total q
+    total (if b then record q { food = set q.food i (get_or (if b then q.food else q.metal) i 0 - a) }
+    else record q { metal = set q.metal i (get_or (if b then q.food else q.metal) i 0 - a) }) + a ≤ total q
 less_by true i a q le = omega (arith, sum_less q.food i a le)
 less_by false i a q le = omega (arith, sum_less q.metal i a le)
 

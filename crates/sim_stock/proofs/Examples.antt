@@ -1,8 +1,5 @@
 -- Worked examples of deeds, computed.
-use Rattle.std.proofs.Common.{◌≡◌, ℕ, [], ◌∷◌, refl}
-use Rattle.sim_stock.specs.declared.stocks.Stocks.{Stocks}
-use Rattle.sim_stock.specs.declared.deed.Deed.TheVariants.{Tribute, Barter}
-use Rattle.sim_stock.specs.Deeds.{deed}
+use Rattle.sim_stock.proofs.Common.{◌≡◌, ℕ, [], ◌∷◌, refl, Barter, deed, Stocks, Tribute}
 
 -- the stocks of two players
 two_have : ℕ → ℕ → ℕ → ℕ → Stocks

@@ -1,3 +1,4 @@
+pub mod Common
 pub mod Balances
 mod Examples
 pub mod Paying

@@ -1,29 +1,10 @@
 -- A paid turn is a turn with the commands that were not left out.
-use Rattle.std.proofs.Common.{◌≡◌, ℕ, zero, suc, ◌+◌, ◌*◌, ◌^◌, ◌≤◌, ◌<◌, Bool, true, false, List, [], ◌∷◌, ◌++◌, length, get_or, map, All, fold, Result, Ok, Err, refl, sym, ap, ◌∙◌, subst, arith}
-use Rattle.std.specs.Prelude.{◌&&◌, ◌==◌, nat_le, nat_lt, filter, OnOk, MatchOption, Option, Some, None, if◌then◌else◌}
-use Rattle.std.proofs.lemmas.List.Elements.{All-cons, All-head, All-tail, All-filter}
-use Rattle.sim_base.specs.declared.command.PlayerCommand.{PlayerCommand}
-use Rattle.sim_base.specs.declared.setup.Setup.{Setup}
-use Rattle.sim_base.specs.declared.state.Row.{Row}
-use Rattle.sim_base.specs.declared.state.State.{State}
-use Rattle.sim_base.specs.declared.template.Template.{Template}
-use Rattle.sim_base.specs.Limits.{IsFrom, IsSetup}
-use Rattle.sim_base.specs.Validity.{IsState, IsKnownRow, IsValid, IsValidRow}
-use Rattle.sim_base.specs.Rows.{template_of}
-use Rattle.sim_base.specs.Commands.{commanded}
-use Rattle.sim_base.specs.Turn.{first_state, turn, Turn, Past, from, after, orders_at}
-use Rattle.sim_laws.specs.CommandLaws.{IsOrderOf}
-use Rattle.sim_laws.proofs.Turning.{turn_is_counted, turn_keeps_valid}
-use Rattle.sim_stock.specs.declared.stocks.Stocks.{Stocks}
-use Rattle.sim_stock.specs.declared.deed.Deed.{Deed}
-use Rattle.sim_stock.specs.declared.deed.Deed.TheVariants.{Tribute, Barter}
-use Rattle.sim_stock.specs.declared.deed.DatedDeed.{DatedDeed}
-use Rattle.sim_stock.specs.declared.rate.Rate.{Rate}
-use Rattle.sim_stock.specs.declared.economy.Economy.{Economy}
-use Rattle.sim_stock.specs.Deeds.{IsDeedOf, IsDatedDeed}
-use Rattle.sim_stock.specs.DeedItems.{IsDeedBy, IsDated}
-use Rattle.sim_stock.specs.Economies.{IsEconomy}
-use Rattle.sim_stock.specs.PaidTurns.{Books, books_of, price_of, affords, paid, deeds_at, dealt, made_row, is_kept, charged, obeyed, collected, kept, kept_in, with_deeds, settled, paid_turn, books_after, kept_past}
+use Rattle.sim_stock.proofs.Common.{Some, None, Ok, Err, fold, All, filter, Option, Result, refl, affords, after, All-cons, All-filter, All-head, All-tail, ap}
+use Rattle.sim_stock.proofs.Common.{Stocks, subst, sym, Template, template_of, Tribute, turn, turn_is_counted, turn_keeps_valid, with_deeds, ◌∙◌}
+use Rattle.sim_stock.proofs.Common.{arith, Barter, Books, books_after, books_of, charged, collected, commanded, DatedDeed, dealt, Deed, deeds_at, Economy}
+use Rattle.sim_stock.proofs.Common.{is_kept, IsDated, IsDatedDeed, IsDeedBy, IsDeedOf, IsEconomy, IsOrderOf, IsSetup, IsState, IsValid, IsValidRow, kept}
+use Rattle.sim_stock.proofs.Common.{kept_in, kept_past, made_row, obeyed, orders_at, paid, paid_turn, PlayerCommand, price_of, Rate, Row, settled, Setup, State}
+use Rattle.sim_stock.proofs.Common.{◌≡◌, ℕ, zero, suc, ◌+◌, ◌<◌, ◌≤◌, Bool, true, false, List, [], ◌∷◌, ◌++◌, get_or, if◌then◌else◌, OnOk, ◌==◌, MatchOption}
 
 -- one of two, by a test that is known
 chosen : {X : Type 0} (k : Bool) (a b : X) → k ≡ true → a ≡ (if k then a else b)
@@ -35,32 +16,40 @@ other_one true a b e = absurd cc
 other_one false a b e = refl
 
 -- a command that its player can't pay is left out
-pub left_out : (setup : Setup) (prices : List Rate) (state : State) (stocks : Stocks) (order : PlayerCommand) (price : Rate) (b : Bool) → price ≡ price_of prices order.command →
+pub left_out : (setup : Setup) (prices : List Rate) (state : State) (stocks : Stocks) (order : PlayerCommand) (price : Rate) (b : Bool)
+    → price ≡ price_of prices order.command →
     b ≡ affords order.player price stocks → b ≡ false → books_of state stocks ≡ obeyed setup prices (books_of state stocks) order
 unfolding obeyed
 left_out setup prices state stocks order price b priced is lacks =
-    other_one (is_kept prices stocks order) (books_of (commanded setup state order) (charged prices state (commanded setup state order) order stocks)) (books_of state stocks)
+    other_one (is_kept prices stocks order) (books_of (commanded setup state order) (charged prices state (commanded setup state order) order stocks))
+    (books_of state stocks)
     (ap (λ (r : Rate). affords order.player r stocks) (sym priced) ∙ sym is ∙ lacks)
 
 -- one that he can pay is obeyed, and paid for where a row was made
-pub served : {X E : Type 0} (r : Result X E) (setup : Setup) (prices : List Rate) (state state' : State) (stocks stocks' : Stocks) (order : PlayerCommand) (price : Rate) (b : Bool) →
+pub served : {X E : Type 0} (r : Result X E) (setup : Setup) (prices : List Rate) (state state' : State) (stocks stocks' : Stocks) (order : PlayerCommand)
+    (price : Rate) (b : Bool) →
     price ≡ price_of prices order.command → b ≡ affords order.player price stocks → b ≡ true → OnOk r (state' ≡ commanded setup state order) →
-    OnOk r (stocks' ≡ (if made_row state state' then paid order.player price stocks else stocks)) → OnOk r (books_of state' stocks' ≡ obeyed setup prices (books_of state stocks) order)
+    OnOk r (stocks' ≡ (if made_row state state' then paid order.player price stocks else stocks))
+    → OnOk r (books_of state' stocks' ≡ obeyed setup prices (books_of state stocks) order)
 unfolding obeyed
 served (Err e) setup prices state state' stocks stocks' order price b priced is can obeys pays = tt
 served (Ok x) setup prices state state' stocks stocks' order price b priced is can obeys pays =
     ap (books_of state') pays
     ∙ ap (λ (s : State). books_of s (if made_row state s then paid order.player price stocks else stocks)) obeys
-    ∙ ap (λ (r : Rate). books_of (commanded setup state order) (if made_row state (commanded setup state order) then paid order.player r stocks else stocks)) priced
-    ∙ chosen (is_kept prices stocks order) (books_of (commanded setup state order) (charged prices state (commanded setup state order) order stocks)) (books_of state stocks)
+    ∙ ap (λ (r : Rate). books_of (commanded setup state order) (if made_row state (commanded setup state order) then paid order.player r stocks else stocks))
+    priced
+    ∙ chosen (is_kept prices stocks order) (books_of (commanded setup state order) (charged prices state (commanded setup state order) order stocks))
+    (books_of state stocks)
     (ap (λ (r : Rate). affords order.player r stocks) (sym priced) ∙ sym is ∙ can)
 
 -- the income of the rows after the rest of the turn
-pub settled_is : (setup : Setup) (economy : Economy) (state state' : State) (stocks stocks' : Stocks) (income : List Rate) (rows : List Row) → state' ≡ turn setup state [] → income ≡ economy.income →
+pub settled_is : (setup : Setup) (economy : Economy) (state state' : State) (stocks stocks' : Stocks) (income : List Rate) (rows : List Row)
+    → state' ≡ turn setup state [] → income ≡ economy.income →
     rows ≡ state'.rows → stocks' ≡ collected income stocks rows → books_of state' stocks' ≡ settled setup economy (books_of state stocks)
 unfolding settled
 settled_is setup economy state state' stocks stocks' income rows turned incomes rowed collects =
-    ap (books_of state') (collects ∙ ap (λ (rs : List Row). collected income stocks rs) rowed ∙ ap (λ (rates : List Rate). collected rates stocks state'.rows) incomes)
+    ap (books_of state') (collects ∙ ap (λ (rs : List Row). collected income stocks rs) rowed ∙ ap (λ (rates : List Rate). collected rates stocks state'.rows)
+    incomes)
     ∙ ap (λ (s : State). books_of s (collected economy.income stocks s.rows)) turned
 
 module _ (setup : Setup) where
@@ -72,32 +61,39 @@ module _ (setup : Setup) where
   one_more false books order q orders = refl
 
   one_by_one : (prices : List Rate) (books : Books) (order : PlayerCommand) (orders : List PlayerCommand) →
-      fold (commanded setup) (obeyed setup prices books order).state orders ≡ fold (commanded setup) books.state ((if is_kept prices books.stocks order then order ∷ [] else []) ++ orders)
+      fold (commanded setup) (obeyed setup prices books order).state orders ≡ fold (commanded setup) books.state
+      ((if is_kept prices books.stocks order then order ∷ [] else []) ++ orders)
   unfolding obeyed
-  one_by_one prices books order orders = one_more (is_kept prices books.stocks order) books order (charged prices books.state (commanded setup books.state order) order books.stocks) orders
+  one_by_one prices books order orders = one_more (is_kept prices books.stocks order) books order
+      (charged prices books.state (commanded setup books.state order) order books.stocks) orders
 
   -- the commands that are not left out give the state
-  pub kept_state : (prices : List Rate) (books : Books) (orders : List PlayerCommand) → (fold (obeyed setup prices) books orders).state ≡ fold (commanded setup) books.state (kept setup prices books orders)
+  pub kept_state : (prices : List Rate) (books : Books) (orders : List PlayerCommand) → (fold (obeyed setup prices) books orders).state ≡ fold (commanded setup)
+      books.state (kept setup prices books orders)
   kept_state prices books [] = refl
   kept_state prices books (order ∷ orders) =
       kept_state prices (obeyed setup prices books order) orders ∙ one_by_one prices books order (kept setup prices (obeyed setup prices books order) orders)
 
   -- what holds of all commands, holds of those that are not left out
-  kept_one : (P : PlayerCommand → Type 0) (b : Bool) (order : PlayerCommand) (orders : List PlayerCommand) → P order → All P orders → All P ((if b then order ∷ [] else []) ++ orders)
+  kept_one : (P : PlayerCommand → Type 0) (b : Bool) (order : PlayerCommand) (orders : List PlayerCommand) → P order → All P orders
+      → All P ((if b then order ∷ [] else []) ++ orders)
   kept_one P true order orders here all = All-cons P order orders here all
   kept_one P false order orders here all = all
 
-  pub kept_all : (P : PlayerCommand → Type 0) (prices : List Rate) (books : Books) (orders : List PlayerCommand) → All P orders → All P (kept setup prices books orders)
+  pub kept_all : (P : PlayerCommand → Type 0) (prices : List Rate) (books : Books) (orders : List PlayerCommand) → All P orders
+      → All P (kept setup prices books orders)
   kept_all P prices books [] all = all
   kept_all P prices books (order ∷ orders) all =
       kept_one P (is_kept prices books.stocks order) order (kept setup prices (obeyed setup prices books order) orders) (All-head P order orders all)
       (kept_all P prices (obeyed setup prices books order) orders (All-tail P order orders all))
 
   -- commands are no turn
-  pub obeyed_keep_turn : (prices : List Rate) (books : Books) (orders : List PlayerCommand) → (fold (obeyed setup prices) books orders).state.turn ≡ books.state.turn
+  pub obeyed_keep_turn : (prices : List Rate) (books : Books) (orders : List PlayerCommand) → (fold (obeyed setup prices) books orders).state.turn ≡
+      books.state.turn
   obeyed_keep_turn prices books orders =
       let ks = kept setup prices books orders in
-      let e : (fold (commanded setup) books.state ks).turn + 1 ≡ books.state.turn + 1 = sym (turn_is_counted setup (fold (commanded setup) books.state ks) []) ∙ turn_is_counted setup books.state ks in
+      let e : (fold (commanded setup) books.state ks).turn + 1 ≡ books.state.turn + 1 = sym (turn_is_counted setup (fold (commanded setup) books.state ks) []) ∙
+      turn_is_counted setup books.state ks in
       ap (λ (s : State). s.turn) (kept_state prices books orders) ∙ omega (arith, e)
 
   settled_state : (economy : Economy) (books : Books) → (settled setup economy books).state ≡ turn setup books.state []
@@ -105,7 +101,8 @@ module _ (setup : Setup) where
   settled_state economy books = refl
 
   -- the state after a paid turn
-  pub paid_state : (economy : Economy) (books : Books) (orders : List PlayerCommand) → (paid_turn setup economy books orders).state ≡ turn setup books.state (kept_in setup economy books orders)
+  pub paid_state : (economy : Economy) (books : Books) (orders : List PlayerCommand) → (paid_turn setup economy books orders).state ≡ turn setup books.state
+      (kept_in setup economy books orders)
   paid_state economy books orders =
       settled_state economy (fold (obeyed setup economy.prices) (with_deeds economy books) orders)
       ∙ ap (λ (s : State). turn setup s []) (kept_state economy.prices (with_deeds economy books) orders)
@@ -145,9 +142,11 @@ module _ (setup : Setup) where
       })
 
 -- all parts make a paid turn
-pub joined : {X E : Type 0} (r : Result X E) (setup setup' : Setup) (economy : Economy) (state middle last : State) (stocks dealt_stocks paid_stocks last_stocks : Stocks) (due : List DatedDeed) (prices : List Rate)
+pub joined : {X E : Type 0} (r : Result X E) (setup setup' : Setup) (economy : Economy) (state middle last : State)
+    (stocks dealt_stocks paid_stocks last_stocks : Stocks) (due : List DatedDeed) (prices : List Rate)
     (orders : List PlayerCommand) → setup' ≡ setup → due ≡ deeds_at (state.turn + 1) economy.deeds → dealt_stocks ≡ dealt stocks due → prices ≡ economy.prices →
-    books_of middle paid_stocks ≡ fold (obeyed setup prices) (books_of state dealt_stocks) orders → OnOk r (books_of last last_stocks ≡ settled setup' economy (books_of middle paid_stocks)) →
+    books_of middle paid_stocks ≡ fold (obeyed setup prices) (books_of state dealt_stocks) orders
+    → OnOk r (books_of last last_stocks ≡ settled setup' economy (books_of middle paid_stocks)) →
     OnOk r (books_of last last_stocks ≡ paid_turn setup economy (books_of state stocks) orders)
 joined (Err e) setup setup' economy state middle last stocks dealt_stocks paid_stocks last_stocks due prices orders same dues deals priced obeys settles = tt
 joined (Ok x) setup setup' economy state middle last stocks dealt_stocks paid_stocks last_stocks due prices orders same dues deals priced obeys settles =
@@ -156,14 +155,19 @@ joined (Ok x) setup setup' economy state middle last stocks dealt_stocks paid_st
     ∙ ap (λ (q : Stocks). fold (obeyed setup economy.prices) (books_of state q) orders) (deals ∙ ap (dealt stocks) dues))
 
 -- so the state is that of a turn
-pub joined_state : {X E : Type 0} (r : Result X E) (setup : Setup) (economy : Economy) (state last : State) (stocks last_stocks : Stocks) (orders : List PlayerCommand) →
-    OnOk r (books_of last last_stocks ≡ paid_turn setup economy (books_of state stocks) orders) → OnOk r (last ≡ turn setup state (kept_in setup economy (books_of state stocks) orders))
+pub joined_state : {X E : Type 0} (r : Result X E) (setup : Setup) (economy : Economy) (state last : State) (stocks last_stocks : Stocks)
+    (orders : List PlayerCommand) →
+    OnOk r (books_of last last_stocks ≡ paid_turn setup economy (books_of state stocks) orders)
+    → OnOk r (last ≡ turn setup state (kept_in setup economy (books_of state stocks) orders))
 joined_state (Err e) setup economy state last stocks last_stocks orders is = tt
-joined_state (Ok x) setup economy state last stocks last_stocks orders is = ap (λ (books : Books). books.state) is ∙ paid_state setup economy (books_of state stocks) orders
+joined_state (Ok x) setup economy state last stocks last_stocks orders is = ap (λ (books : Books). books.state) is ∙
+    paid_state setup economy (books_of state stocks) orders
 
 -- and valid
-pub joined_valid : {X E : Type 0} (r : Result X E) (setup : Setup) (economy : Economy) (state last : State) (stocks last_stocks : Stocks) (orders : List PlayerCommand) → IsSetup setup →
-    All (IsOrderOf setup) orders → IsValid setup state → state.turn < setup.turns → OnOk r (books_of last last_stocks ≡ paid_turn setup economy (books_of state stocks) orders) → OnOk r (IsValid setup last)
+pub joined_valid : {X E : Type 0} (r : Result X E) (setup : Setup) (economy : Economy) (state last : State) (stocks last_stocks : Stocks)
+    (orders : List PlayerCommand) → IsSetup setup →
+    All (IsOrderOf setup) orders → IsValid setup state → state.turn < setup.turns
+    → OnOk r (books_of last last_stocks ≡ paid_turn setup economy (books_of state stocks) orders) → OnOk r (IsValid setup last)
 joined_valid (Err e) setup economy state last stocks last_stocks orders limits players valid below is = tt
 joined_valid {X} {E} (Ok x) setup economy state last stocks last_stocks orders limits players valid below is =
     subst (IsValid setup) (sym (joined_state {X = X} {E = E} (Ok x) setup economy state last stocks last_stocks orders is))

@@ -1,16 +1,7 @@
 -- Rates within a limit.
-use Rattle.std.proofs.Common.{◌≡◌, ℕ, zero, suc, ◌+◌, ◌*◌, ◌<◌, ◌≤◌, Bool, true, false, cond, List, [], ◌∷◌, length, get_or, map, All, Option, Some, None, refl, sym, subst, inl, inr, arith}
-use Rattle.std.specs.Prelude.{◌==◌, sum, find, option_map, unwrap_or, slice_get}
-use Rattle.std.specs.List.{range_with_len}
-use Rattle.std.proofs.lemmas.Bool.{cases_lt}
-use Rattle.std.proofs.lemmas.Option.{unwrap_or-slice_get}
-use Rattle.std.proofs.lemmas.List.Elements.{All-map, All-head, All-tail}
-use Rattle.std.proofs.lemmas.List.Sums.{sum_by-le}
-use Rattle.sim_stock.specs.declared.rate.Rate.{Rate}
-use Rattle.sim_stock.specs.declared.amounts.NamedRate.{NamedRate}
-use Rattle.sim_stock.specs.Rates.{no_rate, rate_at, IsRate}
-use Rattle.sim_stock.specs.Stocks.{total, AreBelow, IsStart}
-use Rattle.sim_stock.specs.Amounts.{opening, rate_named, rates_of}
+use Rattle.sim_stock.proofs.Common.{find, unwrap_or, option_map, All-head, All-map, All-tail, AreBelow, arith, IsRate, IsStart, NamedRate, no_rate, opening}
+use Rattle.sim_stock.proofs.Common.{range_with_len, Rate, rate_at, rate_named, rates_of, subst, sum_by-le, sym, unwrap_or-slice_get}
+use Rattle.sim_stock.proofs.Common.{ℕ, zero, suc, ◌+◌, ◌*◌, ◌<◌, ◌≤◌, Bool, true, false, cond, List, [], ◌∷◌, map, get_or, ◌==◌, slice_get, Some, All, sum}
 
 -- nothing is within every limit
 none_limits : (limit : ℕ) → IsRate limit no_rate
@@ -30,13 +21,15 @@ named_limits : (limit : ℕ) (named : List NamedRate) (number : ℕ) → All (λ
 named_limits limit [] number all = none_limits limit
 named_limits limit (n ∷ ns) number all = by (n.number == number) (named_limits limit ns number (All-tail (λ (m : NamedRate). IsRate limit m.rate) n ns all))
   where
-    by : (b : Bool) → IsRate limit (rate_named ns number) → IsRate limit (unwrap_or (option_map (λ (m : NamedRate). m.rate) (cond b (Some n) (find (λ (m : NamedRate). m.number == number) ns))) no_rate)
+    by : (b : Bool) → IsRate limit (rate_named ns number)
+        → IsRate limit (unwrap_or (option_map (λ (m : NamedRate). m.rate) (cond b (Some n) (find (λ (m : NamedRate). m.number == number) ns))) no_rate)
     by true later = All-head (λ (m : NamedRate). IsRate limit m.rate) n ns all
     by false later = later
 
 -- those of all templates
 pub rates_limits : (limit count : ℕ) (named : List NamedRate) → All (λ (n : NamedRate). IsRate limit n.rate) named → All (IsRate limit) (rates_of count named)
-rates_limits limit count named all = All-map (IsRate limit) (rate_named named) (range_with_len 0 count) (λ k d lt. named_limits limit named (get_or (range_with_len 0 count) k d) all)
+rates_limits limit count named all = All-map (IsRate limit) (rate_named named) (range_with_len 0 count)
+    (λ k d lt. named_limits limit named (get_or (range_with_len 0 count) k d) all)
 
 -- what players begin with, one by one
 opening_limits : (pairs : List Rate) → All (IsRate 1000000000) pairs → AreBelow 1000000001 (opening pairs)

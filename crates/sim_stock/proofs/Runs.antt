@@ -1,11 +1,6 @@
 -- Deeds that ascend by their turns.
-use Rattle.std.proofs.Common.{◌≡◌, ℕ, ◌-◌, ◌<◌, ◌≤◌, List, [], ◌∷◌, ◌++◌, length, get_or, All, refl, sym, arith}
-use Rattle.std.specs.List.Sorted.{IsNonDecreasingBy}
-use Rattle.std.proofs.lemmas.List.Sums.{fold_push}
-use Rattle.std.proofs.lemmas.List.Elements.{All-push}
-use Rattle.std.proofs.lemmas.List.Sorted.{IsNonDecreasingBy-push}
-use Rattle.sim_stock.specs.declared.deed.DatedDeed.{DatedDeed}
-use Rattle.sim_stock.specs.Economies.{earliest}
+use Rattle.sim_stock.proofs.Common.{IsNonDecreasingBy, IsNonDecreasingBy-push, sym}
+use Rattle.sim_stock.proofs.Common.{◌≡◌, ℕ, ◌-◌, ◌≤◌, List, [], ◌∷◌, ◌++◌, length, All, refl, All-push, arith, DatedDeed, earliest, fold_push}
 
 abbrev turn_of : DatedDeed → ℕ
 turn_of dated = dated.turn
@@ -23,7 +18,8 @@ no_run = record { rising = λ i j d le lt. absurd (omega (arith, lt)); before = 
 -- a deed that is no earlier goes on
 pub run_on : (turn : ℕ) (deeds : List DatedDeed) (dated : DatedDeed) → IsRun turn deeds → turn ≤ dated.turn → IsRun dated.turn (deeds ++ dated ∷ [])
 run_on turn deeds dated run le = record {
-  rising = IsNonDecreasingBy-push turn_of deeds dated run.rising (λ d some. let last = run.before (length deeds - 1) d (omega (arith, some)) in omega (arith, last, le));
+  rising = IsNonDecreasingBy-push turn_of deeds dated run.rising (λ d some. let last = run.before (length deeds - 1) d (omega (arith, some)) in
+      omega (arith, last, le));
   before = All-push (λ (it : DatedDeed). it.turn ≤ dated.turn) deeds dated (λ k d lt. let least = run.before k d lt in omega (arith, least, le)) (omega arith);
   last = sym (fold_push (λ (turn : ℕ) (it : DatedDeed). it.turn) 1 deeds dated);
 }

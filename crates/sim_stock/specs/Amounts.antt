@@ -1,16 +1,9 @@
 -- What players begin with, and the prices and incomes of templates, as JSON spells them.
-use Rattle.std.specs.Prelude.{ℕ, ◌==◌, Bool, List, [], ◌∷◌, length, map, codes, find, position, Option, Some, None, option_map, option_and_then, unwrap_or, if◌then◌else◌}
-use Rattle.std.specs.List.{list_any, range_with_len}
-use Rattle.std.specs.Str.{bytes_eq}
-use Rattle.serde_json.specs.Data.{Data}
-use Rattle.serde_json.specs.Find.{as_str}
-use Rattle.sim_base.specs.declared.template.Template.{Template}
-use Rattle.sim_json.specs.Values.{list_of, list_at, natural_in, two}
-use Rattle.sim_json.specs.Records.{next_or, records}
-use Rattle.sim_stock.specs.declared.stocks.Stocks.{Stocks}
-use Rattle.sim_stock.specs.declared.rate.Rate.{Rate}
-use Rattle.sim_stock.specs.declared.amounts.NamedRate.{NamedRate}
-use Rattle.sim_stock.specs.Rates.{no_rate, rate_at}
+use Rattle.{serde_json.specs.Data.Data, serde_json.specs.Find.as_str, sim_base.specs.declared.template.Template.Template}
+use Rattle.std.specs.{List.list_any, List.range_with_len, Prelude.option_and_then, Str.bytes_eq}
+use Rattle.std.specs.Prelude.{ℕ, Bool, List, [], ◌∷◌, map, length, if◌then◌else◌, ◌==◌, Some, None, codes, position, find, Option, unwrap_or, option_map}
+use Rattle.sim_json.specs.{Records.next_or, Records.records, Values.list_at, Values.list_of, Values.natural_in, Values.two}
+use Rattle.sim_stock.specs.{Rates.no_rate, Rates.rate_at, declared.amounts.NamedRate.NamedRate, declared.rate.Rate.Rate, declared.stocks.Stocks.Stocks}
 
 -- two amounts up to a limit
 abbrev pub rate_of : ℕ → List Data → Option Rate

@@ -1,14 +1,8 @@
 -- The deeds of an economy, as JSON spells them: a turn, a player, a word, and what follows it.
-use Rattle.std.specs.Prelude.{◌≢◌, ℕ, ◌≤◌, ◌==◌, List, [], ◌∷◌, codes, Option, Some, None, option_map, option_and_then, if◌then◌else◌}
-use Rattle.std.specs.Str.{bytes_eq}
-use Rattle.serde_json.specs.Data.{Data}
-use Rattle.serde_json.specs.Find.{as_str}
-use Rattle.sim_base.specs.Limits.{IsFrom}
-use Rattle.sim_json.specs.Values.{list_of, natural_in, two, front_two}
-use Rattle.sim_json.specs.Records.{next_or}
-use Rattle.sim_stock.specs.declared.deed.Deed.{Deed}
-use Rattle.sim_stock.specs.declared.deed.Deed.TheVariants.{Tribute, Barter}
-use Rattle.sim_stock.specs.declared.deed.DatedDeed.{DatedDeed}
+use Rattle.{serde_json.specs.Data.Data, serde_json.specs.Find.as_str, sim_base.specs.Limits.IsFrom, std.specs.Str.bytes_eq}
+use Rattle.std.specs.Prelude.{ℕ, ◌≤◌, ◌≢◌, List, [], ◌∷◌, if◌then◌else◌, ◌==◌, Some, None, codes, Option, option_map, option_and_then}
+use Rattle.sim_json.specs.{Records.next_or, Values.front_two, Values.list_of, Values.natural_in, Values.two}
+use Rattle.sim_stock.specs.declared.deed.{DatedDeed.DatedDeed, Deed.Deed, Deed.TheVariants.Barter, Deed.TheVariants.Tribute}
 
 -- a good, 0 for food or 1 for metal, and an amount of it
 abbrev pub good_of : List Data → Option (ℕ × ℕ)
@@ -26,7 +20,8 @@ barter_from rest = option_map (λ p. Barter p.0 p.1) (good_of rest)
 
 -- a deed by its word
 abbrev pub deed_by : ℕ → ℕ → List ℕ → List Data → Option Deed
-deed_by players player word rest = if bytes_eq word (codes "tribute") then tribute_from players player rest else if bytes_eq word (codes "barter") then barter_from rest else None
+deed_by players player word rest = if bytes_eq word (codes "tribute") then tribute_from players player rest else if bytes_eq word (codes "barter")
+    then barter_from rest else None
 
 -- the same where the word is the first item
 abbrev pub deed_in : ℕ → ℕ → List Data → Option Deed

@@ -1,11 +1,8 @@
 -- What a deed makes of the stocks, and what a handler of deeds may be asked.
-use Rattle.std.specs.Prelude.{◌≡◌, ◌≢◌, ℕ, ◌-◌, ◌*◌, ◌/◌, ◌^◌, ◌<◌, ◌≤◌, nat_le, if◌then◌else◌}
+use Rattle.std.specs.Prelude.{◌≡◌, ℕ, ◌-◌, ◌*◌, ◌/◌, ◌^◌, ◌<◌, ◌≤◌, ◌≢◌, if◌then◌else◌, nat_le}
 use Rattle.sim_base.specs.Limits.{IsFrom}
-use Rattle.sim_stock.specs.declared.stocks.Stocks.{Stocks}
-use Rattle.sim_stock.specs.declared.deed.Deed.{Deed}
-use Rattle.sim_stock.specs.declared.deed.DatedDeed.{DatedDeed}
-use Rattle.sim_stock.specs.declared.deed.Deed.TheVariants.{Tribute, Barter}
-use Rattle.sim_stock.specs.Stocks.{amount_of, gained, spent, AreBelow}
+use Rattle.sim_stock.specs.{Stocks.amount_of, Stocks.AreBelow, Stocks.gained, Stocks.spent, declared.stocks.Stocks.Stocks}
+use Rattle.sim_stock.specs.declared.deed.{DatedDeed.DatedDeed, Deed.Deed, Deed.TheVariants.Barter, Deed.TheVariants.Tribute}
 
 -- the number of a deed's kind
 abbrev pub kind_of : Deed → ℕ

@@ -1,19 +1,9 @@
 -- The economy of a match that bytes spell, or the number of what is refused.
-use Rattle.std.specs.Prelude.{◌≡◌, ℕ, ◌+◌, nat_le, All, List, [], ◌∷◌, length, fold, codes, Option, Some, None, option_and_then, Result, Ok, Err, if◌then◌else◌}
-use Rattle.std.specs.List.Sorted.{IsNonDecreasingBy}
-use Rattle.serde_json.specs.Data.{Data}
-use Rattle.sim_base.specs.declared.setup.Setup.{Setup}
-use Rattle.sim_json.specs.Values.{value_of, list_at}
-use Rattle.sim_json.specs.Keys.{other_key}
-use Rattle.sim_json.specs.Records.{next_or, numbered}
-use Rattle.sim_stock.specs.declared.stocks.Stocks.{Stocks}
-use Rattle.sim_stock.specs.declared.deed.DatedDeed.{DatedDeed}
-use Rattle.sim_stock.specs.declared.rate.Rate.{Rate}
-use Rattle.sim_stock.specs.declared.economy.Economy.{Economy}
-use Rattle.sim_stock.specs.Stocks.{IsStart}
-use Rattle.sim_stock.specs.Rates.{IsRate}
-use Rattle.sim_stock.specs.Amounts.{start_in, rates_in}
-use Rattle.sim_stock.specs.DeedItems.{dated_of, IsDated}
+use Rattle.{serde_json.specs.Data.Data, sim_base.specs.declared.setup.Setup.Setup, std.specs.List.Sorted.IsNonDecreasingBy}
+use Rattle.std.specs.Prelude.{ℕ, ◌+◌, List, [], ◌∷◌, length, if◌then◌else◌, nat_le, Some, None, Ok, Err, codes, fold, All, Option, Result, option_and_then}
+use Rattle.sim_json.specs.{Keys.other_key, Records.next_or, Records.numbered, Values.list_at, Values.value_of}
+use Rattle.sim_stock.specs.{Amounts.rates_in, Amounts.start_in, DeedItems.dated_of, DeedItems.IsDated, Rates.IsRate, Stocks.IsStart}
+use Rattle.sim_stock.specs.declared.{deed.DatedDeed.DatedDeed, economy.Economy.Economy, rate.Rate.Rate, stocks.Stocks.Stocks}
 
 -- the four keys
 abbrev pub keys : List (List ℕ)

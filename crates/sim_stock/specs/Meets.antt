@@ -1,7 +1,6 @@
 -- What a call that reads an economy answers. It may run out of memory, and is else what a definition says.
-use Rattle.std.specs.Prelude.{◌≡◌, ℕ, ◌+◌, Result, Ok, Err}
-use Rattle.sim_stock.specs.declared.fault.EconomyFault.{EconomyFault}
-use Rattle.sim_stock.specs.declared.fault.EconomyFault.TheVariants.{Refused, OutOfMemory}
+use Rattle.std.specs.Prelude.{◌≡◌, ℕ, ◌+◌, Ok, Err, Result}
+use Rattle.sim_stock.specs.declared.fault.EconomyFault.{EconomyFault, TheVariants.OutOfMemory, TheVariants.Refused}
 
 -- an answer is the wanted one, or memory ran out
 abbrev pub Meets : {X : Type 0} → Result X EconomyFault → Result X ℕ → Type 0

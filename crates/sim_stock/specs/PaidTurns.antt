@@ -1,20 +1,10 @@
 -- A turn in which what players make has a price: deeds, commands, the rest of the turn, and the income.
-use Rattle.std.specs.Prelude.{ℕ, zero, suc, ◌+◌, Bool, ◌&&◌, nat_le, nat_lt, ◌==◌, List, [], ◌∷◌, ◌++◌, length, filter, fold, if◌then◌else◌}
-use Rattle.sim_base.specs.declared.command.Command.{Command}
-use Rattle.sim_base.specs.declared.command.Command.TheVariants.{Walk, Stop, Attack, Delete, Place, Train, Resign}
-use Rattle.sim_base.specs.declared.command.PlayerCommand.{PlayerCommand}
-use Rattle.sim_base.specs.declared.setup.Setup.{Setup}
-use Rattle.sim_base.specs.declared.state.Row.{Row}
-use Rattle.sim_base.specs.declared.state.State.{State}
-use Rattle.sim_base.specs.Commands.{commanded}
-use Rattle.sim_base.specs.Turn.{first_state, turn, Turn, Past, orders_at}
-use Rattle.sim_stock.specs.declared.stocks.Stocks.{Stocks}
-use Rattle.sim_stock.specs.declared.deed.DatedDeed.{DatedDeed}
-use Rattle.sim_stock.specs.declared.rate.Rate.{Rate}
-use Rattle.sim_stock.specs.declared.economy.Economy.{Economy}
-use Rattle.sim_stock.specs.Stocks.{amount_of, gained, spent}
-use Rattle.sim_stock.specs.Rates.{no_rate, rate_at}
-use Rattle.sim_stock.specs.Deeds.{deed}
+use Rattle.std.specs.Prelude.{ℕ, zero, suc, ◌+◌, Bool, ◌&&◌, List, [], ◌∷◌, ◌++◌, length, if◌then◌else◌, nat_lt, nat_le, ◌==◌, fold, filter}
+use Rattle.sim_base.specs.{Commands.commanded, Turn.first_state, Turn.orders_at, Turn.Past, Turn.Turn, Turn.turn}
+use Rattle.sim_base.specs.declared.{command.Command.Command, command.PlayerCommand.PlayerCommand, setup.Setup.Setup, state.Row.Row, state.State.State}
+use Rattle.sim_base.specs.declared.command.Command.TheVariants.{Attack, Delete, Place, Resign, Stop, Train, Walk}
+use Rattle.sim_stock.specs.{Deeds.deed, Rates.no_rate, Rates.rate_at, Stocks.amount_of, Stocks.gained, Stocks.spent}
+use Rattle.sim_stock.specs.declared.{deed.DatedDeed.DatedDeed, economy.Economy.Economy, rate.Rate.Rate, stocks.Stocks.Stocks}
 
 -- a match and what its players have
 pub record Books : Type 0 where
@@ -77,7 +67,8 @@ obeyed setup prices books order =
 -- the commands that are not left out
 abbrev pub kept : Setup → List Rate → Books → List PlayerCommand → List PlayerCommand
 kept setup prices books [] = []
-kept setup prices books (order ∷ orders) = (if is_kept prices books.stocks order then order ∷ [] else []) ++ kept setup prices (obeyed setup prices books order) orders
+kept setup prices books (order ∷ orders) = (if is_kept prices books.stocks order then order ∷ [] else []) ++ kept setup prices (obeyed setup prices books order)
+    orders
 
 -- each row of a player brings him the income of its template
 abbrev pub brought : List Rate → Stocks → Row → Stocks

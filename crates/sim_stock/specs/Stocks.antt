@@ -1,5 +1,5 @@
 -- How much of each good the players have.
-use Rattle.std.specs.Prelude.{ℕ, ◌+◌, ◌-◌, ◌^◌, ◌<◌, ◌≤◌, ◌==◌, List, All, sum, slice_index, slice_set, if◌then◌else◌}
+use Rattle.std.specs.Prelude.{ℕ, ◌+◌, ◌-◌, ◌<◌, ◌≤◌, List, if◌then◌else◌, ◌==◌, slice_index, slice_set, All, sum}
 use Rattle.sim_stock.specs.declared.stocks.Stocks.{Stocks}
 
 -- the amounts of a good, the first player's first
@@ -13,7 +13,8 @@ amount_of player good stocks = slice_index (amounts good stocks) (player - 1)
 -- the stocks with another amount of a player's good
 abbrev pub with_amount : ℕ → ℕ → ℕ → Stocks → Stocks
 with_amount player good amount stocks =
-    if good == 0 then record stocks { food = slice_set stocks.food (player - 1) amount } else record stocks { metal = slice_set stocks.metal (player - 1) amount }
+    if good == 0 then record stocks { food = slice_set stocks.food (player - 1) amount }
+    else record stocks { metal = slice_set stocks.metal (player - 1) amount }
 
 -- a player has more of a good
 abbrev pub gained : ℕ → ℕ → ℕ → Stocks → Stocks

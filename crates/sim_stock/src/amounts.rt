@@ -1,13 +1,11 @@
 //! Lists of pairs of amounts: what each player begins with, and the prices and incomes of templates by their names.
 
-ghost use Rattle.std.specs.Prelude.{◌≡◌, map, length, option_map, option_and_then, All, IfOk, IfSome, position};
-ghost use Rattle.std.specs.List.{list_any};
-ghost use Rattle.std.specs.Str.{bytes_eq};
-ghost use Rattle.serde_json.specs.View.{view};
-ghost use Rattle.serde_json.specs.Find.{as_str};
-ghost use Rattle.sim_stock.specs.Rates.{IsRate};
-ghost use Rattle.sim_stock.specs.Stocks.{IsStart};
-ghost use Rattle.sim_stock.specs.Amounts.{rate_of as rate_of_data, pair_of as pair_of_data, pairs_from as pairs_from_data, opening as opening_of, start_in as start_in_data, number_of as number_of_name, named_of as named_of_data, named_in as named_in_data, is_named as is_named_in, named_from as named_from_data, rate_named as rate_named_in, rates_of as rates_of_named, rates_in as rates_in_data};
+ghost use Rattle.{sim_stock.specs.Amounts.start_in as start_in_data, sim_stock.specs.Rates.IsRate, sim_stock.specs.Stocks.IsStart, std.specs.Str.bytes_eq};
+ghost use Rattle.std.specs.Prelude.{◌≡◌, map, IfSome, IfOk, All, position, option_map, option_and_then};
+ghost use Rattle.serde_json.specs.{Find.as_str, View.view};
+ghost use Rattle.sim_stock.specs.Amounts.{is_named as is_named_in, named_from as named_from_data, named_in as named_in_data, named_of as named_of_data};
+ghost use Rattle.sim_stock.specs.Amounts.{number_of as number_of_name, opening as opening_of, pair_of as pair_of_data, pairs_from as pairs_from_data};
+ghost use Rattle.sim_stock.specs.Amounts.{rate_named as rate_named_in, rate_of as rate_of_data, rates_in as rates_in_data, rates_of as rates_of_named};
 
 use crate::rate::{Rate, Rates, rate_at};
 use crate::stocks::Stocks;

@@ -3,8 +3,7 @@
 ghost use Rattle.std.specs.Prelude.{◌≡◌};
 ghost use Rattle.sim_stock.specs.Deeds.{deed as deed_of, IsAsked};
 
-use crate::deed::Deed;
-use crate::stocks::Stocks;
+use crate::{Deed, Stocks};
 
 /// The stocks after a barter. Where the player lacks the amount, they stay as they are.
 pub fn barter(stocks: &Stocks, player: u8, deed: &Deed) -> Stocks

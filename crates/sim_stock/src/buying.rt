@@ -1,16 +1,12 @@
 //! The second part of a paid turn: each command is obeyed and, where it made an entity, paid for; or it is left out.
 
-ghost use Rattle.std.specs.Prelude.{◌≡◌, ◌≤◌, true, All, OnOk, fold, if◌then◌else◌};
-ghost use Rattle.sim_base.specs.Commands.{commanded};
-ghost use Rattle.sim_base.specs.Limits.{IsFrom};
-ghost use Rattle.sim_laws.specs.CommandLaws.{IsOrderOf};
-ghost use Rattle.sim_board.specs.BoardWords.{setup_in, state_in, systems, IsWhole, AreKept};
-ghost use Rattle.sim_stock.specs.PaidTurns.{books_of, affords, made_row, obeyed, paid};
-ghost use Rattle.sim_stock.specs.Stocks.{total};
+ghost use Rattle.{sim_base.specs.Commands.commanded, sim_base.specs.Limits.IsFrom, sim_laws.specs.CommandLaws.IsOrderOf};
+ghost use Rattle.std.specs.Prelude.{◌≡◌, ◌≤◌, true, if◌then◌else◌, OnOk, fold, All};
+ghost use Rattle.sim_board.specs.BoardWords.{AreKept, IsWhole, setup_in, state_in, systems};
+ghost use Rattle.sim_stock.specs.{PaidTurns.affords, PaidTurns.books_of, PaidTurns.made_row, PaidTurns.obeyed, PaidTurns.paid, Stocks.total};
 
 use crate::price::price_of;
-use crate::rate::Rate;
-use crate::stocks::Stocks;
+use crate::{Rate, Stocks};
 use sim_base::{OutOfMemory, PlayerCommand};
 use sim_board::Board;
 use sim_orders::OrderTable;
@@ -36,7 +32,8 @@ impl Shop<'_> {
     ) -> Result<(), OutOfMemory>
         requires whole { IsWhole board.old ⟦<dyn System as System>⟧ }
         requires players { All (IsOrderOf (setup_in board.old)) commands.now }
-        ensures books { OnOk result (books_of (state_in board.new) stocks.new ≡ fold (obeyed (setup_in board.old) self.now.prices.now) (books_of (state_in board.old) stocks.old) commands.now) }
+        ensures books { OnOk result (books_of (state_in board.new) stocks.new ≡ fold (obeyed (setup_in board.old) self.now.prices.now)
+            (books_of (state_in board.old) stocks.old) commands.now) }
         ensures total { total stocks.new ≤ total stocks.old }
         ensures whole { OnOk result (IsWhole board.new ⟦<dyn System as System>⟧) }
         ensures kept { AreKept (systems board.old ⟦<dyn System as System>⟧) (systems board.new ⟦<dyn System as System>⟧) }
@@ -57,7 +54,8 @@ impl Shop<'_> {
     ) -> Result<(), OutOfMemory>
         requires whole { IsWhole board.old ⟦<dyn System as System>⟧ }
         requires player { IsOrderOf (setup_in board.old) order.now }
-        ensures books { OnOk result (books_of (state_in board.new) stocks.new ≡ obeyed (setup_in board.old) self.now.prices.now (books_of (state_in board.old) stocks.old) order.now) }
+        ensures books { OnOk result (books_of (state_in board.new) stocks.new ≡ obeyed (setup_in board.old) self.now.prices.now
+            (books_of (state_in board.old) stocks.old) order.now) }
         ensures total { total stocks.new ≤ total stocks.old }
         ensures whole { OnOk result (IsWhole board.new ⟦<dyn System as System>⟧) }
         ensures kept { AreKept (systems board.old ⟦<dyn System as System>⟧) (systems board.new ⟦<dyn System as System>⟧) }
@@ -82,7 +80,8 @@ impl Shop<'_> {
         requires player { IsOrderOf (setup_in board.old) order.now }
         requires enough { affords order.now.player price.now stocks.old ≡ true }
         ensures state { OnOk result (state_in board.new ≡ commanded (setup_in board.old) (state_in board.old) order.now) }
-        ensures stocks { OnOk result (stocks.new ≡ (if made_row (state_in board.old) (state_in board.new) then paid order.now.player price.now stocks.old else stocks.old)) }
+        ensures stocks { OnOk result (stocks.new ≡ (if made_row (state_in board.old) (state_in board.new) then paid order.now.player price.now stocks.old
+            else stocks.old)) }
         ensures total { total stocks.new ≤ total stocks.old }
         ensures whole { OnOk result (IsWhole board.new ⟦<dyn System as System>⟧) }
         ensures kept { AreKept (systems board.old ⟦<dyn System as System>⟧) (systems board.new ⟦<dyn System as System>⟧) }

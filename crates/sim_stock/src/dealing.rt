@@ -1,16 +1,11 @@
 //! The first part and the last part of a paid turn: deeds, which players do before they command, and the income.
 
-ghost use Rattle.std.specs.Prelude.{◌≡◌, ◌+◌, ◌*◌, ◌^◌, ◌<◌, ◌≤◌, All, length};
-ghost use Rattle.sim_base.specs.declared.state.Row.{Row as AnyRow};
-ghost use Rattle.sim_stock.specs.Deeds.{deed as deed_of, IsDatedDeed};
-ghost use Rattle.sim_stock.specs.PaidTurns.{brought, collected, dealt};
-ghost use Rattle.sim_stock.specs.Rates.{IsRate};
-ghost use Rattle.sim_stock.specs.Stocks.{total};
+ghost use Rattle.{sim_base.specs.declared.state.Row.Row as AnyRow, sim_stock.specs.Stocks.total};
+ghost use Rattle.std.specs.Prelude.{◌≡◌, ◌+◌, ◌*◌, ◌^◌, ◌<◌, ◌≤◌, length, All};
+ghost use Rattle.sim_stock.specs.{Deeds.deed as deed_of, Deeds.IsDatedDeed, PaidTurns.brought, PaidTurns.collected, PaidTurns.dealt, Rates.IsRate};
 
-use crate::deed::DatedDeed;
-use crate::rate::{Rate, rate_at};
-use crate::stocks::Stocks;
-use crate::table::DeedTable;
+use crate::rate::rate_at;
+use crate::{DatedDeed, DeedTable, Rate, Stocks};
 use sim_base::Row;
 
 /// Players do these deeds, one after the other.

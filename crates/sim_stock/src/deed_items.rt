@@ -1,9 +1,9 @@
 //! One deed of the list: its turn, its player, its word and what follows it.
 
-ghost use Rattle.std.specs.Prelude.{◌≡◌, ◌≤◌, map, option_map, option_and_then, IfSome};
-ghost use Rattle.serde_json.specs.View.{view};
-ghost use Rattle.sim_json.specs.Values.{list_of as list_of_data, front_two as front_two_of};
-ghost use Rattle.sim_stock.specs.DeedItems.{tribute_from as tribute_from_data, barter_from as barter_from_data, deed_by as deed_by_word, deed_in as deed_in_data, dated_of as dated_of_data, good_of as good_of_data, IsAmountUpTo, IsDeedBy, IsDated};
+ghost use Rattle.{serde_json.specs.View.view, sim_json.specs.Values.front_two as front_two_of, sim_json.specs.Values.list_of as list_of_data};
+ghost use Rattle.std.specs.Prelude.{◌≡◌, ◌≤◌, map, IfSome, option_map, option_and_then};
+ghost use Rattle.sim_stock.specs.DeedItems.{barter_from as barter_from_data, dated_of as dated_of_data, deed_by as deed_by_word, deed_in as deed_in_data};
+ghost use Rattle.sim_stock.specs.DeedItems.{good_of as good_of_data, IsAmountUpTo, IsDated, IsDeedBy, tribute_from as tribute_from_data};
 
 use crate::deed::{DatedDeed, Deed};
 use serde_json::Value;

@@ -1,9 +1,8 @@
 //! The deeds of a turn. They stand together, since all ascend by their turns, and are found by a binary search.
 
-ghost use Rattle.std.specs.Prelude.{◌≡◌, ◌+◌, ◌^◌, ◌<◌, ◌≤◌, true, false, nat_lt, length};
 ghost use Rattle.std.specs.List.Sorted.{IsNonDecreasingBy, IsPartitionPoint};
-ghost use Rattle.sim_stock.specs.declared.deed.DatedDeed.{DatedDeed as AnyDated};
-ghost use Rattle.sim_stock.specs.PaidTurns.{deeds_at};
+ghost use Rattle.std.specs.Prelude.{◌≡◌, ◌+◌, ◌^◌, ◌<◌, ◌≤◌, true, false, length, nat_lt};
+ghost use Rattle.sim_stock.specs.{PaidTurns.deeds_at, declared.deed.DatedDeed.DatedDeed as AnyDated};
 
 use crate::deed::DatedDeed;
 
@@ -22,7 +21,8 @@ pub fn due_at(deeds: &[DatedDeed], turn: u32) -> &[DatedDeed]
 fn begin_of(deeds: &[DatedDeed], turn: u32) -> usize
     requires { IsNonDecreasingBy (λ (dated : AnyDated). dated.turn) deeds.now }
     ensures within { result ≤ length deeds.now }
-    ensures point { IsPartitionPoint (λ (dated : AnyDated). nat_lt dated.turn turn ≡ true) (λ (dated : AnyDated). nat_lt dated.turn turn ≡ false) deeds.now result }
+    ensures point { IsPartitionPoint (λ (dated : AnyDated). nat_lt dated.turn turn ≡ true) (λ (dated : AnyDated). nat_lt dated.turn turn ≡ false) deeds.now
+        result }
 {
     deeds.partition_point(|dated| dated.turn < turn)
 }

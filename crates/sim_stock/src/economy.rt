@@ -1,8 +1,6 @@
 //! The economy of a match: what players begin with, what entities cost and bring, and the deeds of each turn.
 
-use crate::deed::DatedDeeds;
-use crate::rate::Rates;
-use crate::stocks::Stocks;
+use crate::{DatedDeeds, Rates, Stocks};
 
 /// What the players have when the match begins, what an entity of each template costs and what it brings in a turn, and
 /// the deeds, which ascend by their turns.

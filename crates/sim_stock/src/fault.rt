@@ -1,6 +1,6 @@
 //! How an economy is refused: by one number, which says where.
 
-ghost use Rattle.std.specs.Prelude.{◌≢◌, ◌+◌, ◌^◌, ◌<◌};
+ghost use Rattle.std.specs.Prelude.{◌+◌, ◌^◌, ◌<◌, ◌≢◌};
 ghost use Rattle.sim_stock.specs.Meets.{Tells};
 
 use sim_base::OutOfMemory;

@@ -1,20 +1,14 @@
 //! A turn in which what players make has a price.
 
-ghost use Rattle.std.specs.Prelude.{◌≡◌, ◌+◌, ◌^◌, ◌<◌, ◌≤◌, All, OnOk};
-ghost use Rattle.sim_base.specs.Turn.{turn as turn_by};
-ghost use Rattle.sim_base.specs.Validity.{IsValid};
-ghost use Rattle.sim_laws.specs.CommandLaws.{IsOrderOf};
-ghost use Rattle.sim_board.specs.BoardWords.{setup_in, state_in, systems, IsWhole, AreKept};
-ghost use Rattle.sim_stock.specs.Economies.{IsEconomy};
-ghost use Rattle.sim_stock.specs.PaidTurns.{books_of, kept_in, paid_turn as paid_turn_by, settled};
-ghost use Rattle.sim_stock.specs.Stocks.{total};
+ghost use Rattle.{sim_base.specs.Turn.turn as turn_by, sim_base.specs.Validity.IsValid, sim_laws.specs.CommandLaws.IsOrderOf, sim_stock.specs.Stocks.total};
+ghost use Rattle.std.specs.Prelude.{◌≡◌, ◌+◌, ◌^◌, ◌<◌, ◌≤◌, OnOk, All};
+ghost use Rattle.sim_board.specs.BoardWords.{AreKept, IsWhole, setup_in, state_in, systems};
+ghost use Rattle.sim_stock.specs.{Economies.IsEconomy, PaidTurns.books_of, PaidTurns.kept_in, PaidTurns.paid_turn as paid_turn_by, PaidTurns.settled};
 
 use crate::buying::Shop;
 use crate::dealing::{collect, deal};
 use crate::due::due_at;
-use crate::economy::Economy;
-use crate::stocks::Stocks;
-use crate::table::DeedTable;
+use crate::{DeedTable, Economy, Stocks};
 use sim_base::{OutOfMemory, PlayerCommand};
 use sim_board::Board;
 use sim_orders::OrderTable;
@@ -39,8 +33,10 @@ pub fn paid_turn(
     requires players { All (IsOrderOf (setup_in board.old)) commands.now }
     requires economy { IsEconomy (setup_in board.old) economy.now }
     requires total { total stocks.old + 8192000 < 2 ^ 40 }
-    ensures books { OnOk result (books_of (state_in board.new) stocks.new ≡ paid_turn_by (setup_in board.old) economy.now (books_of (state_in board.old) stocks.old) commands.now) }
-    ensures state { OnOk result (state_in board.new ≡ turn_by (setup_in board.old) (state_in board.old) (kept_in (setup_in board.old) economy.now (books_of (state_in board.old) stocks.old) commands.now)) }
+    ensures books { OnOk result (books_of (state_in board.new) stocks.new ≡ paid_turn_by (setup_in board.old) economy.now
+        (books_of (state_in board.old) stocks.old) commands.now) }
+    ensures state { OnOk result (state_in board.new ≡ turn_by (setup_in board.old) (state_in board.old)
+        (kept_in (setup_in board.old) economy.now (books_of (state_in board.old) stocks.old) commands.now)) }
     ensures total { OnOk result (total stocks.new ≤ total stocks.old + 8192000) }
     ensures valid { OnOk result (IsValid (setup_in board.old) (state_in board.new)) }
     ensures whole { OnOk result (IsWhole board.new ⟦<dyn System as System>⟧) }
@@ -72,7 +68,8 @@ fn settle(
     requires below { (state_in board.old).turn < (setup_in board.old).turns }
     requires economy { IsEconomy (setup_in board.old) economy.now }
     requires total { total stocks.old + 8192000 < 2 ^ 40 }
-    ensures books { OnOk result (books_of (state_in board.new) stocks.new ≡ settled (setup_in board.old) economy.now (books_of (state_in board.old) stocks.old)) }
+    ensures books { OnOk result (books_of (state_in board.new) stocks.new ≡ settled (setup_in board.old) economy.now
+        (books_of (state_in board.old) stocks.old)) }
     ensures total { OnOk result (total stocks.new ≤ total stocks.old + 8192000) }
     ensures whole { OnOk result (IsWhole board.new ⟦<dyn System as System>⟧) }
     ensures kept { AreKept (systems board.old ⟦<dyn System as System>⟧) (systems board.new ⟦<dyn System as System>⟧) }

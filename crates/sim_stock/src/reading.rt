@@ -1,20 +1,14 @@
 //! The whole economy: the object, what players begin with and the two lists of rates first, then each deed.
 
-ghost use Rattle.std.specs.Prelude.{◌≡◌, false, map, option_map, option_and_then, length, All, IfOk};
-ghost use Rattle.std.specs.Str.{is_utf8};
-ghost use Rattle.std.specs.List.Sorted.{IsNonDecreasingBy};
-ghost use Rattle.serde_json.specs.View.{view};
-ghost use Rattle.sim_json.specs.Values.{list_at as list_at_key};
-ghost use Rattle.sim_stock.specs.declared.deed.DatedDeed.{DatedDeed as AnyDated};
-ghost use Rattle.sim_stock.specs.DeedItems.{IsDated};
-ghost use Rattle.sim_stock.specs.Meets.{Meets};
-ghost use Rattle.sim_stock.specs.Economies.{few as few_of, deeds_from as deeds_from_data, economy_within as economy_within_data, economy_in as economy_in_data, economy_of as economy_of_bytes, IsEconomy};
+ghost use Rattle.{serde_json.specs.View.view, sim_stock.specs.Meets.Meets, sim_stock.specs.declared.deed.DatedDeed.DatedDeed as AnyDated};
+ghost use Rattle.std.specs.{List.Sorted.IsNonDecreasingBy, Prelude.◌≡◌, Prelude.false, Prelude.map, Prelude.IfOk, Prelude.All, Prelude.option_map, Str.is_utf8};
+ghost use Rattle.sim_stock.specs.{DeedItems.IsDated, Economies.economy_within as economy_within_data, Economies.few as few_of, Economies.IsEconomy};
+ghost use Rattle.sim_stock.specs.Economies.{deeds_from as deeds_from_data, economy_in as economy_in_data, economy_of as economy_of_bytes};
 
 use crate::amounts::{rates_in, start_in};
-use crate::deed::DatedDeeds;
 use crate::deed_items::dated_of;
-use crate::economy::Economy;
-use crate::fault::{EconomyFault, refused};
+use crate::fault::refused;
+use crate::{DatedDeeds, Economy, EconomyFault};
 use serde_json::Value;
 use sim_base::Setup;
 use sim_json::{list_at, other_key, value_of};

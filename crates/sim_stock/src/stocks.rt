@@ -2,9 +2,8 @@
 
 ghost use Rattle.std.specs.Prelude.{◌≡◌, ◌+◌, ◌^◌, ◌<◌, ◌≤◌, true};
 ghost use Rattle.sim_base.specs.Limits.{IsFrom};
+ghost use Rattle.sim_stock.specs.{PaidTurns.affords as affords_by, PaidTurns.earned, PaidTurns.paid, Rates.IsRate};
 ghost use Rattle.sim_stock.specs.Stocks.{amount_of, gained, spent, total};
-ghost use Rattle.sim_stock.specs.Rates.{IsRate};
-ghost use Rattle.sim_stock.specs.PaidTurns.{affords as affords_by, paid, earned};
 
 use crate::rate::Rate;
 

@@ -1,10 +1,9 @@
 //! The table of the stored handlers of deeds, each beside the fact that it does what its kind of deed says.
 
-ghost use Rattle.std.specs.Prelude.{◌≡◌, ◌<◌, ◌≤◌, ℕ, ◌==◌, count_by};
-ghost use Rattle.sim_stock.specs.Deeds.{deed as deed_of, kind_of as kind_by, IsAsked};
+ghost use Rattle.std.specs.Prelude.{◌≡◌, ℕ, ◌<◌, ◌≤◌, ◌==◌, count_by};
+ghost use Rattle.sim_stock.specs.Deeds.{deed as deed_of, IsAsked, kind_of as kind_by};
 
-use crate::deed::Deed;
-use crate::stocks::Stocks;
+use crate::{Deed, Stocks};
 
 /// A handler as it is stored: of stocks, a player and his deed.
 pub type DeedFunction = Box<dyn Fn(&Stocks, u8, &Deed) -> Stocks>;

@@ -1,11 +1,8 @@
 -- Small cases of the definitions, each with the value that a reader expects, found by computing.
-use Rattle.std.proofs.Common.{◌≡◌, ◌-◌, ◌*◌, ◌^◌, List, [], ◌∷◌, Some, Ok, Err, refl, codes}
+use Rattle.std.proofs.Common.{◌≡◌, ◌-◌, ◌*◌, ◌^◌, List, [], ◌∷◌, Some, Ok, Err, codes, refl}
 use Rattle.sim_base.specs.Limits.{file_limit}
-use Rattle.sim_store.specs.Counts.{raised, no_counts, after_giving, after_miss}
-use Rattle.sim_store.specs.Files.{File, file_in}
-use Rattle.sim_store.specs.Reading.{reading_of}
-use Rattle.sim_store.specs.declared.fault.StoreFault.TheVariants.{NoFile}
-use Rattle.sim_store.specs.declared.read.TheConstants.{MAX_FILE}
+use Rattle.sim_store.specs.{Files.File, Files.file_in, Reading.reading_of, declared.fault.StoreFault.TheVariants.NoFile, declared.read.TheConstants.MAX_FILE}
+use Rattle.sim_store.specs.Counts.{after_giving, after_miss, no_counts, raised}
 
 files : List File
 files =

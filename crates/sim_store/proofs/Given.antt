@@ -1,7 +1,6 @@
 -- Bytes that were given out in two parts were given out.
 use Rattle.std.proofs.Common.{◌≡◌, ℕ, ◌+◌, ap, arith}
-use Rattle.sim_store.specs.Counts.{raised, after_giving}
-use Rattle.sim_store.specs.declared.counts.Counts.{Counts}
+use Rattle.sim_store.specs.{Counts.after_giving, Counts.raised, declared.counts.Counts.Counts}
 
 raised-raised : (a b n : ℕ) → raised b (raised a n) ≡ raised (a + b) n
 raised-raised a b n = omega arith

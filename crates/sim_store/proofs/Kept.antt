@@ -1,13 +1,9 @@
 -- What the calls of a shelf in memory do to its files, and to what is read.
-use Rattle.std.proofs.Common.{◌≡◌, ◌≢◌, ℕ, ◌+◌, ◌-◌, ◌≤◌, List, [], ◌∷◌, ◌++◌, take, drop, length, min, true, false, refl, sym, ◌∙◌, ap, arith, rules, Some, length-drop}
-use Rattle.std.proofs.Math.Seq.{take-length, take-append_seam}
-use Rattle.std.proofs.lemmas.List.{take-append-drop, length-take-le, drop-drop}
-use Rattle.std.proofs.lemmas.Slice.Eq.{bytes_eq-Decides}
-use Rattle.std.specs.Str.{bytes_eq}
-use Rattle.sim_store.specs.Files.{File, file_in, FileSet}
+use Rattle.std.{proofs.Common.sym, proofs.Common.◌∙◌, proofs.Math.Seq.take-append_seam, proofs.Math.Seq.take-length, specs.Str.bytes_eq}
+use Rattle.std.proofs.Common.{◌≡◌, ℕ, ◌+◌, ◌-◌, ◌≤◌, min, true, false, ◌≢◌, List, [], ◌∷◌, ◌++◌, length, take, drop, Some, refl, ap, arith, length-drop, rules}
+use Rattle.std.proofs.lemmas.{List.drop-drop, List.length-take-le, List.take-append-drop, Slice.Eq.bytes_eq-Decides}
+use Rattle.sim_store.specs.{Files.File, Files.file_in, Files.FileSet, Held.AddsFirst, Held.file_of, Held.files_of, Held.first_name, declared.held.Held.Held}
 use Rattle.sim_store.specs.Shelf.{HeldGrows}
-use Rattle.sim_store.specs.Held.{file_of, files_of, first_name, AddsFirst}
-use Rattle.sim_store.specs.declared.held.Held.{Held}
 
 -- a name equals itself
 bytes_eq-same : (name : List ℕ) → bytes_eq name name ≡ true
@@ -29,7 +25,8 @@ FileSet-first file bytes files = record {
 }
 
 -- a piece added to the first file is what its name holds more
-pub HeldGrows-AddsFirst : (held : List Held) (new : List File) (piece : List ℕ) → AddsFirst piece (files_of held) new → HeldGrows (first_name held) (take (length piece) piece) (Some (files_of held)) (Some new)
+pub HeldGrows-AddsFirst : (held : List Held) (new : List File) (piece : List ℕ) → AddsFirst piece (files_of held) new
+    → HeldGrows (first_name held) (take (length piece) piece) (Some (files_of held)) (Some new)
 HeldGrows-AddsFirst [] new piece added = absurd added
 HeldGrows-AddsFirst (file ∷ held) new piece added = (
   file.bytes.items,
@@ -42,11 +39,14 @@ pub drop-read : (bytes into front : List ℕ) (at count : ℕ) → count ≡ min
     → front ≡ take count (take (length bytes - at) (drop at bytes))
     → drop at bytes ≡ take count (front ++ drop count into) ++ drop (at + count) bytes
 drop-read bytes into front at count counted copied =
-    let all : take (length bytes - at) (drop at bytes) ≡ drop at bytes = ap (λ k. take k (drop at bytes)) (sym (length-drop at bytes)) ∙ take-length (drop at bytes) in
+    let all : take (length bytes - at) (drop at bytes) ≡ drop at bytes = ap (λ k. take k (drop at bytes)) (sym (length-drop at bytes)) ∙
+    take-length (drop at bytes) in
     let copied' : front ≡ take count (drop at bytes) = rw all at copied in
     let counted' : count ≡ min (length (drop at bytes)) (length into) = rw all at counted in
     let fits : count ≤ length (drop at bytes) = omega arith in
     let long : length front ≡ count = ap length copied' ∙ length-take-le count (drop at bytes) fits in
-    let seam : take count (front ++ drop count into) ≡ front = ap (λ k. take k (front ++ drop count into)) (sym long) ∙ take-append_seam front (drop count into) in
+    let seam : take count (front ++ drop count into) ≡ front = ap (λ k. take k (front ++ drop count into)) (sym long) ∙
+    take-append_seam front (drop count into) in
     let left : drop (at + count) bytes ≡ drop count (drop at bytes) = sym (drop-drop count at bytes) in
-    sym (take-append-drop count (drop at bytes)) ∙ ap (λ l. l ++ drop count (drop at bytes)) (sym copied' ∙ sym seam) ∙ ap (λ l. take count (front ++ drop count into) ++ l) (sym left)
+    sym (take-append-drop count (drop at bytes)) ∙ ap (λ l. l ++ drop count (drop at bytes)) (sym copied' ∙ sym seam) ∙
+    ap (λ l. take count (front ++ drop count into) ++ l) (sym left)

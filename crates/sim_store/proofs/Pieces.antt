@@ -1,13 +1,8 @@
 -- One more piece written: what was written of the bytes so far, and then the beginning of the others.
-use Rattle.std.proofs.Common.{◌≡◌, ℕ, ◌+◌, ◌-◌, List, ◌++◌, take, drop, length, length-drop, sym, ◌∙◌, ap, subst, Option, Some, None, IfSome, Result, Ok, Err, []}
-use Rattle.std.proofs.Math.Seq.{take-add, take-length}
-use Rattle.std.specs.Io.KnownBytes.{Appends}
-use Rattle.std.proofs.KnownBytes.{Appends-trans}
-use Rattle.sim_store.specs.Files.{File, file_in, FileSet}
-use Rattle.sim_store.specs.Shelf.{HeldSet, HeldGrows}
-use Rattle.sim_store.specs.Writing.{Fills}
-use Rattle.sim_store.specs.declared.fault.Failed.{Failed}
-use Rattle.std.specs.Prelude.{⊤}
+use Rattle.std.proofs.{Common.◌∙◌, KnownBytes.Appends-trans, Math.Seq.take-add, Math.Seq.take-length}
+use Rattle.std.proofs.Common.{◌≡◌, ℕ, ◌+◌, ◌-◌, List, [], ◌++◌, length, take, drop, IfSome, Some, None, Ok, Err, Option, Result, ap, length-drop, subst, sym}
+use Rattle.std.specs.{Io.KnownBytes.Appends, Prelude.⊤}
+use Rattle.sim_store.specs.{Files.File, Files.file_in, Files.FileSet, Shelf.HeldGrows, Shelf.HeldSet, Writing.Fills, declared.fault.Failed.Failed}
 
 -- the bytes from a place on, as a clause has them
 abbrev pub from_place : ℕ → List ℕ → List ℕ
@@ -22,7 +17,8 @@ take-from_place : (i n : ℕ) (bytes : List ℕ) → take i bytes ++ take n (fro
 take-from_place i n bytes = ap (λ l. take i bytes ++ take n l) (from_place-drop i bytes) ∙ sym (take-add i n bytes)
 
 -- what was told so far, and the next piece, is a longer beginning of the bytes
-pub Appends-more : (a b c : Option (List ℕ)) (bytes : List ℕ) (i n : ℕ) → Appends a b (take i bytes) → Appends b c (take n (from_place i bytes)) → Appends a c (take (i + n) bytes)
+pub Appends-more : (a b c : Option (List ℕ)) (bytes : List ℕ) (i n : ℕ) → Appends a b (take i bytes) → Appends b c (take n (from_place i bytes))
+    → Appends a c (take (i + n) bytes)
 Appends-more a b c bytes i n first next = subst (Appends a c) (take-from_place i n bytes) (Appends-trans a b c _ _ first next)
 
 -- a name that was set twice was set to the last
@@ -41,7 +37,8 @@ HeldSet-HeldSet name first last (Some xs) (Some ys) None one two = absurd two
 HeldSet-HeldSet name first last (Some xs) (Some ys) (Some zs) one two = FileSet-FileSet name first last xs ys zs one two
 
 -- what the file holds so far, and the next piece, is a longer beginning of the bytes
-pub HeldSet-HeldGrows : (a b c : Option (List File)) (name bytes : List ℕ) (i n : ℕ) → HeldSet name (take i bytes) a b → HeldGrows name (take n (from_place i bytes)) b c → HeldSet name (take (i + n) bytes) a c
+pub HeldSet-HeldGrows : (a b c : Option (List File)) (name bytes : List ℕ) (i n : ℕ) → HeldSet name (take i bytes) a b
+    → HeldGrows name (take n (from_place i bytes)) b c → HeldSet name (take (i + n) bytes) a c
 HeldSet-HeldGrows None None c name bytes i n first next = next
 HeldSet-HeldGrows None (Some ys) c name bytes i n first next = cc
 HeldSet-HeldGrows (Some xs) None c name bytes i n first next = absurd first
@@ -54,7 +51,8 @@ HeldSet-HeldGrows (Some xs) (Some ys) (Some zs) name bytes i n first next =
     FileSet-FileSet name (take i bytes) (take (i + n) bytes) xs ys zs first (subst (λ (l : List ℕ). FileSet name l ys zs) grown next.2)
 
 -- a file that was begun, and then filled whole or in part, holds a prefix; the name counts where the files are told
-pub prefix_held : (filled : Result ⊤ Failed) (name made bytes : List ℕ) (a b c : Option (List File)) → IfSome a (λ _. made ≡ name) → HeldSet name [] a b → Fills filled made bytes b c → (part : ℕ) × HeldSet name (take part bytes) a c
+pub prefix_held : (filled : Result ⊤ Failed) (name made bytes : List ℕ) (a b c : Option (List File)) → IfSome a (λ _. made ≡ name) → HeldSet name [] a b
+    → Fills filled made bytes b c → (part : ℕ) × HeldSet name (take part bytes) a c
 prefix_held filled name made bytes None (Some ys) c named begun fills = cc
 prefix_held filled name made bytes (Some xs) b c named begun fills = prefix_of filled (subst (λ n. Fills filled n bytes b c) named fills)
   where

@@ -1,8 +1,6 @@
 -- Calls that are counted, some of which are listed to fail.
-use Rattle.std.specs.Prelude.{ℕ, Bool, ◌==◌, List}
-use Rattle.std.specs.List.{list_any}
-use Rattle.sim_store.specs.Counts.{raised}
-use Rattle.sim_store.specs.declared.calls.Calls.{Calls}
+use Rattle.std.specs.{List.list_any, Prelude.ℕ, Prelude.Bool, Prelude.List, Prelude.◌==◌}
+use Rattle.sim_store.specs.{Counts.raised, declared.calls.Calls.Calls}
 
 -- how many calls there were
 abbrev pub calls_in : Calls → ℕ

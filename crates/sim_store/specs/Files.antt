@@ -1,5 +1,5 @@
 -- The files that a shelf holds: each by its name, and of files with one name the first.
-use Rattle.std.specs.Prelude.{◌≡◌, ◌≢◌, ℕ, List, [], ◌∷◌, Option, Some, None, if◌then◌else◌}
+use Rattle.std.specs.Prelude.{◌≡◌, ℕ, ◌≢◌, List, [], ◌∷◌, if◌then◌else◌, Some, None, Option}
 use Rattle.std.specs.Str.{bytes_eq}
 
 -- a name, and the bytes that are held under it

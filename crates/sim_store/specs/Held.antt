@@ -1,7 +1,6 @@
 -- Files in memory as a list of names and bytes.
-use Rattle.std.specs.Prelude.{◌≡◌, ℕ, List, [], ◌∷◌, ◌++◌, map, string_bytes, vec_capacity}
-use Rattle.sim_store.specs.Files.{File}
-use Rattle.sim_store.specs.declared.held.Held.{Held}
+use Rattle.std.specs.Prelude.{◌≡◌, ℕ, List, [], ◌∷◌, ◌++◌, map, vec_capacity, string_bytes}
+use Rattle.sim_store.specs.{Files.File, declared.held.Held.Held}
 
 -- the name and the bytes of one file
 abbrev pub file_of : Held → File

@@ -1,11 +1,7 @@
 -- What a shelf in memory means.
-use Rattle.std.specs.Prelude.{ℕ, List, Bool, Option, Some, None, is_some, option_map, if◌then◌else◌}
-use Rattle.sim_store.specs.Files.{File}
-use Rattle.sim_store.specs.Held.{files_of, first_name, first_bytes}
-use Rattle.sim_store.specs.OpenFile.{bytes_left}
-use Rattle.sim_store.specs.Calls.{calls_in, listed_in, is_next_listed}
-use Rattle.sim_store.specs.declared.counts.Counts.{Counts}
-use Rattle.sim_store.specs.declared.mem_shelf.MemShelf.{MemShelf}
+use Rattle.std.specs.Prelude.{ℕ, Bool, List, is_some, if◌then◌else◌, Some, None, Option, option_map}
+use Rattle.sim_store.specs.{Calls.calls_in, Calls.is_next_listed, Calls.listed_in, declared.counts.Counts.Counts, declared.mem_shelf.MemShelf.MemShelf}
+use Rattle.sim_store.specs.{Files.File, Held.files_of, Held.first_bytes, Held.first_name, OpenFile.bytes_left}
 
 -- the files that the shelf holds
 abbrev pub files_on : MemShelf → List File

@@ -1,7 +1,6 @@
 -- What a sink in memory was told, and how much it takes in all.
-use Rattle.std.specs.Prelude.{ℕ, List, Bool}
-use Rattle.sim_store.specs.Calls.{calls_in, listed_in, is_next_listed}
-use Rattle.sim_store.specs.declared.mem_sink.MemSink.{MemSink}
+use Rattle.std.specs.Prelude.{ℕ, Bool, List}
+use Rattle.sim_store.specs.{Calls.calls_in, Calls.is_next_listed, Calls.listed_in, declared.mem_sink.MemSink.MemSink}
 
 -- the bytes that the sink was told
 abbrev pub bytes_told : MemSink → List ℕ

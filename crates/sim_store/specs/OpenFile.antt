@@ -1,6 +1,5 @@
 -- What is left to read of a file in memory.
-use Rattle.std.specs.Prelude.{ℕ, List, drop}
-use Rattle.sim_store.specs.declared.open_file.OpenFile.{OpenFile}
+use Rattle.{sim_store.specs.declared.open_file.OpenFile.OpenFile, std.specs.Prelude.ℕ, std.specs.Prelude.List, std.specs.Prelude.drop}
 
 -- the bytes from the place on to which reading has come
 abbrev pub bytes_left : OpenFile → List ℕ

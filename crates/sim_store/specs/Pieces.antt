@@ -1,5 +1,5 @@
 -- What a write takes of a piece, be it to a shelf or to a sink.
-use Rattle.std.specs.Prelude.{ℕ, ◌<◌, ◌≤◌, List, length, Result, Ok, Err}
+use Rattle.std.specs.Prelude.{ℕ, ◌<◌, ◌≤◌, List, length, Ok, Err, Result}
 use Rattle.sim_store.specs.declared.fault.Failed.{Failed}
 
 -- a write takes no more than the piece, and something of a piece that is not empty

@@ -1,11 +1,8 @@
 -- What reading a whole file answers, and why.
-use Rattle.std.specs.Prelude.{◌≡◌, ◌≢◌, ℕ, ◌+◌, ◌<◌, ◌≤◌, Bool, IsTrue, IsFalse, List, length, nat_le, Option, Some, None, Result, Ok, Err, if◌then◌else◌, Vec}
-use Rattle.std.specs.declared.alloc.Global.{Global}
-use Rattle.sim_base.specs.Limits.{file_limit}
-use Rattle.sim_store.specs.Counts.{after_giving, after_miss, after_read_fault}
-use Rattle.sim_store.specs.declared.counts.Counts.{Counts}
-use Rattle.sim_store.specs.declared.fault.StoreFault.{StoreFault}
-use Rattle.sim_store.specs.declared.fault.StoreFault.TheVariants.{ReadFault, WriteFault, TooLong, NoFile, OutOfMemory}
+use Rattle.{sim_base.specs.Limits.file_limit, sim_store.specs.Counts.after_giving, sim_store.specs.Counts.after_miss, sim_store.specs.Counts.after_read_fault}
+use Rattle.{sim_store.specs.declared.counts.Counts.Counts, sim_store.specs.declared.fault.StoreFault.StoreFault, std.specs.declared.alloc.Global.Global}
+use Rattle.std.specs.Prelude.{◌≡◌, ℕ, ◌+◌, ◌<◌, ◌≤◌, Bool, ◌≢◌, List, length, if◌then◌else◌, IsTrue, IsFalse, nat_le, Some, None, Ok, Err, Option, Result, Vec}
+use Rattle.sim_store.specs.declared.fault.StoreFault.TheVariants.{NoFile, OutOfMemory, ReadFault, TooLong, WriteFault}
 
 -- the bytes, unless they are more than a file may have
 abbrev pub within_limit : List ℕ → Result (List ℕ) StoreFault

@@ -1,10 +1,7 @@
 -- What each call of a shelf does, by cases on its answer.
-use Rattle.std.specs.Prelude.{◌≡◌, ◌≢◌, ℕ, List, [], ◌++◌, take, Bool, true, false, Option, Some, None, Result, Ok, Err, ⊤}
-use Rattle.sim_store.specs.Counts.{after_giving, after_miss, after_read_fault, after_write_fault}
-use Rattle.sim_store.specs.Files.{File, file_in, FileSet}
-use Rattle.sim_store.specs.declared.counts.Counts.{Counts}
-use Rattle.sim_store.specs.declared.fault.Failed.{Failed}
-use Rattle.sim_store.specs.declared.fault.ShelfFault.{ShelfFault}
+use Rattle.std.specs.Prelude.{◌≡◌, ℕ, Bool, true, false, ◌≢◌, List, [], ◌++◌, take, ⊤, Some, None, Ok, Err, Option, Result}
+use Rattle.sim_store.specs.{Counts.after_giving, Counts.after_miss, Counts.after_read_fault, Counts.after_write_fault, Files.File, Files.file_in, Files.FileSet}
+use Rattle.sim_store.specs.declared.{counts.Counts.Counts, fault.Failed.Failed, fault.ShelfFault.ShelfFault}
 use Rattle.sim_store.specs.declared.fault.ShelfFault.TheVariants as fault
 
 -- whether an `open` leaves a file open: only where it answers true

@@ -1,7 +1,6 @@
 -- What a sink counts.
-use Rattle.std.specs.Prelude.{◌≡◌, ℕ, Result, Ok, Err}
-use Rattle.sim_store.specs.Counts.{raised}
-use Rattle.sim_store.specs.declared.fault.Failed.{Failed}
+use Rattle.std.specs.Prelude.{◌≡◌, ℕ, Ok, Err, Result}
+use Rattle.sim_store.specs.{Counts.raised, declared.fault.Failed.Failed}
 
 -- a write that fails is a fault
 abbrev pub SinkCounts : Result ℕ Failed → ℕ → ℕ → Type 0

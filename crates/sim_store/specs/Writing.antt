@@ -1,13 +1,8 @@
 -- What writing a whole text or a whole file answers, and why.
-use Rattle.std.specs.Prelude.{◌≡◌, ℕ, ◌<◌, List, length, take, Option, Result, Ok, Err, ⊤, ◌⊎◌}
 use Rattle.std.specs.Io.KnownBytes.{Appends}
-use Rattle.sim_store.specs.Counts.{raised, Rose}
-use Rattle.sim_store.specs.Files.{File}
-use Rattle.sim_store.specs.Shelf.{HeldSet}
-use Rattle.sim_store.specs.declared.counts.Counts.{Counts}
-use Rattle.sim_store.specs.declared.fault.Failed.{Failed}
-use Rattle.sim_store.specs.declared.fault.StoreFault.{StoreFault}
-use Rattle.sim_store.specs.declared.fault.StoreFault.TheVariants.{WriteFault, OutOfMemory}
+use Rattle.std.specs.Prelude.{◌≡◌, ℕ, ◌<◌, ◌⊎◌, List, length, take, ⊤, Ok, Err, Option, Result}
+use Rattle.sim_store.specs.{Counts.raised, Counts.Rose, Files.File, Shelf.HeldSet, declared.counts.Counts.Counts}
+use Rattle.sim_store.specs.declared.fault.{Failed.Failed, StoreFault.StoreFault, StoreFault.TheVariants.OutOfMemory, StoreFault.TheVariants.WriteFault}
 
 -- the whole text was told, or a fault came before its end and only a prefix was
 abbrev pub OutMeets : Result ⊤ StoreFault → List ℕ → Option (List ℕ) → Option (List ℕ) → Type 0

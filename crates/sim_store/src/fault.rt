@@ -2,8 +2,7 @@
 //! task are different types, since a whole task knows more: whether it was reading or writing.
 
 ghost use Rattle.std.specs.Prelude.{◌≡◌};
-ghost use Rattle.sim_store.specs.declared.fault.StoreFault.TheVariants.{OutOfMemory as no_memory};
-ghost use Rattle.sim_store.specs.declared.fault.ShelfFault.TheVariants.{OutOfMemory as no_shelf_memory};
+ghost use Rattle.sim_store.specs.declared.fault.{ShelfFault.TheVariants.OutOfMemory as no_shelf_memory, StoreFault.TheVariants.OutOfMemory as no_memory};
 
 use std::alloc::AllocError;
 

@@ -1,21 +1,15 @@
 //! A shelf in memory. Whoever wants to run the program without files, tests above all, hands it in; its room makes a
 //! full disk at any place, and its list of calls makes any call fail.
 
-ghost use Rattle.std.specs.Prelude.{◌≡◌, ◌≢◌, ◌+◌, ◌++◌, ◌<◌, ◌≤◌, ◌↔◌, ℕ, List, [], ◌∷◌, length, drop, OnOk, OnErr, IfOk, IsOk, IsErr, IsTrue, IsFalse, false, None, Some, is_ok, min, option_copied, vec_len};
-ghost use Rattle.std.specs.Io.{ReadsAtMost};
-ghost use Rattle.std.specs.Io.KnownBytes.{ReadConsumes, WriteAppends};
-ghost use Rattle.sim_store.specs.Counts.{no_counts, raised};
-ghost use Rattle.sim_store.specs.Files.{file_in, FileSet};
-ghost use Rattle.sim_store.specs.Held.{first_bytes, first_capacity};
-ghost use Rattle.sim_store.specs.Pieces.{TakesSome};
-ghost use Rattle.sim_store.specs.Shelf.{opens, OpenTells, OpenCounts, ReadCounts, MakeHolds, MakeCounts, WriteHolds, WriteCounts};
+ghost use Rattle.std.specs.Io.{ReadsAtMost, KnownBytes.ReadConsumes, KnownBytes.WriteAppends};
+ghost use Rattle.std.specs.Prelude.{IsTrue, IsFalse, Some, None, vec_len, option_copied};
+ghost use Rattle.std.specs.Prelude.{◌≡◌, ℕ, ◌+◌, ◌<◌, ◌≤◌, min, false, ◌≢◌, ◌↔◌, List, [], ◌∷◌, ◌++◌, length, drop, is_ok, IfOk, OnOk, OnErr, IsOk, IsErr};
+ghost use Rattle.sim_store.specs.{Counts.no_counts, Counts.raised, Files.file_in, Files.FileSet, Held.first_bytes, Held.first_capacity, Pieces.TakesSome};
+ghost use Rattle.sim_store.specs.Shelf.{MakeCounts, MakeHolds, OpenCounts, opens, OpenTells, ReadCounts, WriteCounts, WriteHolds};
 
-use crate::calls::Calls;
-use crate::counts::Counts;
-use crate::fault::{Failed, ShelfFault};
 use crate::held::{Held, add_to_first, find, put_first};
 use crate::open_file::OpenFile;
-use crate::shelf::Shelf;
+use crate::{Calls, Counts, Failed, Shelf, ShelfFault};
 use sim_base::OutOfMemory;
 use std::alloc::Global;
 
@@ -36,7 +30,7 @@ pub struct MemShelf {
 }
 
 impl MemShelf {
-    ghost use Rattle.sim_store.specs.MemShelf.{files_on, room_on, rest_on, is_open_on, is_making_on, made_name_on, made_on, counts_on, calls_on, failing_on};
+    ghost use Rattle.sim_store.specs.MemShelf.{calls_on, counts_on, failing_on, files_on, is_making_on, is_open_on, made_name_on, made_on, rest_on, room_on};
 
     /// A shelf that holds nothing. It keeps the allocator, and each file that is made on it has this room. It takes no
     /// memory yet.
@@ -118,7 +112,8 @@ impl MemShelf {
 }
 
 impl Shelf for MemShelf {
-    ghost use Rattle.sim_store.specs.MemShelf.{files_on, room_on, rest_on, is_open_on, is_making_on, made_name_on, made_on, counts_on, calls_on, failing_on, fails_next_on};
+    ghost use Rattle.sim_store.specs.MemShelf.{calls_on, counts_on, failing_on, fails_next_on, files_on, is_making_on, is_open_on, made_name_on, made_on};
+    ghost use Rattle.sim_store.specs.MemShelf.{rest_on, room_on};
 
     ghost held = { λ shelf. Some (files_on shelf) };
 

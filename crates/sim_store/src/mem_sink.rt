@@ -1,16 +1,10 @@
 //! A sink in memory, which keeps what it is told. Whoever wants the text of a program without a terminal, tests above
 //! all, hands it in; its room makes a full disk at any place, and its list of calls makes any write fail.
 
-ghost use Rattle.std.specs.Prelude.{◌≡◌, ◌+◌, ◌++◌, ◌≤◌, ◌↔◌, [], ◌∷◌, Some, IsOk, IfOk, IsFalse, OnOk, OnErr, length, vec_len, vec_capacity};
-ghost use Rattle.std.specs.Io.KnownBytes.{WriteAppends};
-ghost use Rattle.sim_store.specs.Counts.{raised};
-ghost use Rattle.sim_store.specs.Pieces.{TakesSome};
-ghost use Rattle.sim_store.specs.Sink.{SinkCounts};
+ghost use Rattle.{sim_store.specs.Counts.raised, sim_store.specs.Pieces.TakesSome, sim_store.specs.Sink.SinkCounts, std.specs.Io.KnownBytes.WriteAppends};
+ghost use Rattle.std.specs.Prelude.{◌≡◌, ◌+◌, ◌≤◌, ◌↔◌, [], ◌∷◌, ◌++◌, length, IfOk, OnOk, OnErr, IsOk, IsFalse, Some, vec_len, vec_capacity};
 
-use crate::calls::Calls;
-use crate::counts::one_more;
-use crate::fault::Failed;
-use crate::sink::Sink;
+use crate::{Calls, Failed, Sink, one_more};
 use sim_base::OutOfMemory;
 use std::alloc::Global;
 
@@ -26,7 +20,7 @@ pub struct MemSink {
 }
 
 impl MemSink {
-    ghost use Rattle.sim_store.specs.MemSink.{bytes_told, room_in, faults_of, calls_of, failing_of};
+    ghost use Rattle.sim_store.specs.MemSink.{bytes_told, calls_of, failing_of, faults_of, room_in};
 
     /// A sink that was told nothing, with the memory for this many bytes.
     pub fn new(alloc: Global, room: usize) -> Result<MemSink, OutOfMemory>
@@ -74,7 +68,7 @@ impl MemSink {
 }
 
 impl Sink for MemSink {
-    ghost use Rattle.sim_store.specs.MemSink.{bytes_told, room_in, faults_of, calls_of, failing_of, fails_next_of};
+    ghost use Rattle.sim_store.specs.MemSink.{bytes_told, calls_of, failing_of, fails_next_of, faults_of, room_in};
 
     ghost told = { λ sink. Some (bytes_told sink) };
 

@@ -1,6 +1,6 @@
 //! A file in memory that is being read: its bytes, and how far reading has come.
 
-ghost use Rattle.std.specs.Prelude.{◌≡◌, ◌≤◌, ◌++◌, [], IfOk, IsOk, length, min, vec_len, take, drop};
+ghost use Rattle.std.specs.Prelude.{◌≡◌, ◌≤◌, min, [], ◌++◌, length, take, drop, IfOk, IsOk, vec_len};
 
 use std::alloc::{AllocError, Global};
 

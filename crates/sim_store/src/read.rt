@@ -1,13 +1,10 @@
 //! Reading a whole file, over any shelf. It is the one way by which a file's bytes come into the program, so the limit
 //! on a file's length is kept here.
 
-ghost use Rattle.std.specs.Prelude.{◌≡◌, ◌≢◌, IfSome, IsTrue, OnOk};
-ghost use Rattle.std.specs.Io.KnownBytes.{IsAtEnd};
-ghost use Rattle.sim_store.specs.Files.{file_in};
-ghost use Rattle.sim_store.specs.Reading.{reading_of, within_limit, ReadMeets, ReadCauses, LeavesOpen};
+ghost use Rattle.std.specs.{Io.KnownBytes.IsAtEnd, Prelude.◌≡◌, Prelude.◌≢◌, Prelude.IfSome, Prelude.OnOk, Prelude.IsTrue};
+ghost use Rattle.sim_store.specs.{Files.file_in, Reading.LeavesOpen, Reading.ReadCauses, Reading.reading_of, Reading.ReadMeets, Reading.within_limit};
 
-use crate::fault::{ShelfFault, StoreFault};
-use crate::shelf::Shelf;
+use crate::{Shelf, ShelfFault, StoreFault};
 use std::alloc::Global;
 
 /// How many bytes a file may have.

@@ -1,13 +1,10 @@
 //! The trait of a shelf: files by name, one of which may be open for reading and one being made. It is a trait so that
 //! the program reads and writes through it alone, and is proved for every shelf that keeps these promises.
 
-ghost use Rattle.std.specs.Prelude.{◌≡◌, ℕ, List, Option, Bool, IfSome, IsTrue, OnOk, is_ok, false};
-ghost use Rattle.std.specs.Io.{ReadsAtMost};
-ghost use Rattle.std.specs.Io.KnownBytes.{IsAtEnd, ReadConsumes, WriteAppends};
-ghost use Rattle.sim_store.specs.declared.counts.Counts.{Counts};
-ghost use Rattle.sim_store.specs.Files.{File, file_in};
-ghost use Rattle.sim_store.specs.Pieces.{TakesSome};
-ghost use Rattle.sim_store.specs.Shelf.{opens, OpenTells, OpenCounts, ReadCounts, MakeHolds, MakeCounts, WriteHolds, WriteCounts};
+ghost use Rattle.std.specs.Io.{ReadsAtMost, KnownBytes.IsAtEnd, KnownBytes.ReadConsumes, KnownBytes.WriteAppends};
+ghost use Rattle.std.specs.Prelude.{◌≡◌, ℕ, Bool, false, List, IfSome, is_ok, OnOk, IsTrue, Option};
+ghost use Rattle.sim_store.specs.{Files.File, Files.file_in, Pieces.TakesSome, declared.counts.Counts.Counts};
+ghost use Rattle.sim_store.specs.Shelf.{MakeCounts, MakeHolds, OpenCounts, opens, OpenTells, ReadCounts, WriteCounts, WriteHolds};
 
 use crate::fault::{Failed, ShelfFault};
 

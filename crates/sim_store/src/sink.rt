@@ -1,10 +1,8 @@
 //! The trait of a sink: where the program's text goes. It is a trait so that the program is proved for every sink that
 //! keeps these promises, be it standard output or a list of bytes.
 
-ghost use Rattle.std.specs.Prelude.{ℕ, List, Option};
-ghost use Rattle.std.specs.Io.KnownBytes.{WriteAppends};
-ghost use Rattle.sim_store.specs.Pieces.{TakesSome};
-ghost use Rattle.sim_store.specs.Sink.{SinkCounts};
+ghost use Rattle.std.specs.{Io.KnownBytes.WriteAppends, Prelude.ℕ, Prelude.List, Prelude.Option};
+ghost use Rattle.sim_store.specs.{Pieces.TakesSome, Sink.SinkCounts};
 
 use crate::fault::Failed;
 

@@ -3,11 +3,9 @@
 
 ghost use Rattle.std.specs.Prelude.{◌≡◌, false, IsTrue};
 ghost use Rattle.sim_store.specs.Shelf.{HeldEmpty, WriteCounts};
-ghost use Rattle.sim_store.specs.Writing.{OutMeets, OutCauses, Fills, IsFilled, FileMeets, FileCauses};
+ghost use Rattle.sim_store.specs.Writing.{FileCauses, FileMeets, Fills, IsFilled, OutCauses, OutMeets};
 
-use crate::fault::{Failed, ShelfFault, StoreFault};
-use crate::shelf::Shelf;
-use crate::sink::Sink;
+use crate::{Failed, Shelf, ShelfFault, Sink, StoreFault};
 
 /// Writes all the bytes to the sink. It takes no memory.
 pub fn write_out<K: Sink>(sink: &mut K, bytes: &[u8]) -> Result<(), StoreFault>

@@ -1,31 +1,14 @@
 -- What is answered: over the facts of a system, and over the rows of a state.
-use Rattle.std.specs.Prelude.{ℕ, Bool, not, ◌&&◌, ◌||◌, ◌==◌, ℤ, List, [], ◌∷◌, map, filter, count_by, Option, Some, None, slice_index}
-use Rattle.std.specs.List.{list_any, list_all}
-use Rattle.sim_base.specs.declared.place.Point.{Point}
-use Rattle.sim_base.specs.declared.place.Cell.{Cell}
-use Rattle.sim_base.specs.declared.place.Rect.{Rect}
-use Rattle.sim_base.specs.declared.template.Arms.{Arms}
-use Rattle.sim_base.specs.declared.setup.Land.{Land}
-use Rattle.sim_base.specs.declared.setup.Setup.{Setup}
-use Rattle.sim_base.specs.declared.state.Row.{Row}
-use Rattle.sim_base.specs.declared.state.State.{State}
-use Rattle.sim_base.specs.Places.{covers, is_rect_inside, square, cells_of, centre_of}
-use Rattle.sim_base.specs.Least.{least_of}
-use Rattle.sim_base.specs.Steps.{Field}
-use Rattle.sim_base.specs.Ways.{Way}
-use Rattle.sim_base.specs.WayOf.{way_of}
-use Rattle.sim_base.specs.Rows.{size_of, in_mask, row_of, arms_of}
-use Rattle.sim_base.specs.Filters.{rect_covers, is_near, is_open, field_of, is_free_rect, spot, within, seen, watchers, population}
-use Rattle.sim_system.specs.declared.Way.{Way as WayAnswer}
-use Rattle.sim_system.specs.declared.fact.Fact.{Fact}
-use Rattle.sim_system.specs.declared.kind.Kind.{Kind}
-use Rattle.sim_system.specs.declared.kind.Kind.TheVariants.{Ground, Range, Watch, Census}
-use Rattle.sim_system.specs.declared.ask.Ask.{Ask}
+use Rattle.std.specs.List.{list_all, list_any}
+use Rattle.std.specs.Prelude.{ℕ, Bool, not, ◌&&◌, ◌||◌, List, [], ◌∷◌, map, ℤ, ◌==◌, slice_index, Some, None, count_by, filter, Option}
+use Rattle.sim_base.specs.{Least.least_of, Places.cells_of, Places.centre_of, Places.covers, Places.is_rect_inside, Places.square, declared.template.Arms.Arms}
+use Rattle.sim_base.specs.{Rows.arms_of, Rows.in_mask, Rows.row_of, Rows.size_of, Steps.Field, WayOf.way_of, Ways.Way}
+use Rattle.sim_base.specs.Filters.{field_of, is_free_rect, is_near, is_open, population, rect_covers, seen, spot, watchers, within}
+use Rattle.sim_base.specs.declared.{place.Cell.Cell, place.Point.Point, place.Rect.Rect, setup.Land.Land, setup.Setup.Setup, state.Row.Row, state.State.State}
+use Rattle.sim_system.specs.{Facts.id_of_fact, Notes.fact_with, declared.Way.Way as WayAnswer, declared.ask.Ask.Ask, declared.fact.Fact.Fact}
+use Rattle.sim_system.specs.declared.ask.Answer.{Answer, TheVariants.Found, TheVariants.Many, TheVariants.Number, TheVariants.Place, TheVariants.Truth}
+use Rattle.sim_system.specs.declared.kind.Kind.{Kind, TheVariants.Census, TheVariants.Ground, TheVariants.Range, TheVariants.Watch}
 use Rattle.sim_system.specs.declared.ask.Ask.TheVariants as ask
-use Rattle.sim_system.specs.declared.ask.Answer.{Answer}
-use Rattle.sim_system.specs.declared.ask.Answer.TheVariants.{Truth, Found, Place, Many, Number}
-use Rattle.sim_system.specs.Facts.{id_of_fact}
-use Rattle.sim_system.specs.Notes.{fact_with}
 
 -- the kind of system that is asked
 abbrev pub kind_for : Ask → Kind

@@ -1,14 +1,8 @@
 -- What each kind of system keeps of a state.
-use Rattle.std.specs.Prelude.{ℕ, Bool, true, false, not, ◌||◌, ◌==◌, ℤ, pos, List, map, filter_map, Option, Some, None, is_some, option_map, if◌then◌else◌}
-use Rattle.sim_base.specs.declared.place.Point.{Point}
-use Rattle.sim_base.specs.declared.template.Arms.{Arms}
-use Rattle.sim_base.specs.declared.setup.Setup.{Setup}
-use Rattle.sim_base.specs.declared.state.Row.{Row}
-use Rattle.sim_base.specs.declared.state.State.{State}
-use Rattle.sim_base.specs.Rows.{target_of, rect_of_row, arms_of}
-use Rattle.sim_system.specs.declared.fact.Fact.{Fact}
-use Rattle.sim_system.specs.declared.kind.Kind.{Kind}
-use Rattle.sim_system.specs.declared.kind.Kind.TheVariants.{Ground, Range, Watch, Census}
+use Rattle.{sim_base.specs.Rows.arms_of, sim_base.specs.Rows.rect_of_row, sim_base.specs.Rows.target_of, sim_system.specs.declared.fact.Fact.Fact}
+use Rattle.std.specs.Prelude.{ℕ, Bool, true, false, not, ◌||◌, List, map, ℤ, pos, is_some, if◌then◌else◌, ◌==◌, Some, None, filter_map, Option, option_map}
+use Rattle.sim_base.specs.declared.{place.Point.Point, setup.Setup.Setup, state.Row.Row, state.State.State, template.Arms.Arms}
+use Rattle.sim_system.specs.declared.kind.Kind.{Kind, TheVariants.Census, TheVariants.Ground, TheVariants.Range, TheVariants.Watch}
 
 -- how far a row sees, if it can attack
 abbrev pub vision_of : Setup → Row → Option ℤ

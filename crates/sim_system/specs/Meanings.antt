@@ -1,22 +1,11 @@
 -- What a system is to its callers, and the four systems of a match. All of it is plain data, and knows of no boxes.
-use Rattle.std.specs.Prelude.{◌≡◌, ℕ, ◌+◌, ◌-◌, ◌^◌, ◌≤◌, min, IsTrue, List, [], Option, Some, None, IsSome, MatchOption}
-use Rattle.sim_base.specs.declared.setup.Land.{Land}
-use Rattle.sim_base.specs.declared.setup.Setup.{Setup}
-use Rattle.sim_base.specs.declared.state.Row.{Row}
-use Rattle.sim_base.specs.declared.state.State.{State}
-use Rattle.sim_base.specs.Places.{is_inside}
-use Rattle.sim_base.specs.Steps.{IsOnGround}
-use Rattle.sim_base.specs.Rows.{size_of, row_of, arms_of}
-use Rattle.sim_system.specs.declared.fact.Fact.{Fact}
-use Rattle.sim_system.specs.declared.kind.Kind.{Kind}
-use Rattle.sim_system.specs.declared.kind.Kind.TheVariants.{Ground, Range, Watch, Census}
-use Rattle.sim_system.specs.declared.note.Note.{Note}
-use Rattle.sim_system.specs.declared.ask.Ask.{Ask}
+use Rattle.std.specs.Prelude.{◌≡◌, ℕ, ◌+◌, ◌-◌, ◌^◌, ◌≤◌, min, List, [], IsSome, IsTrue, MatchOption, Some, None, Option}
+use Rattle.sim_base.specs.{Places.is_inside, declared.setup.Land.Land, declared.setup.Setup.Setup, declared.state.Row.Row, declared.state.State.State}
+use Rattle.sim_base.specs.{Rows.arms_of, Rows.row_of, Rows.size_of, Steps.IsOnGround}
+use Rattle.sim_system.specs.{Answers.answer, Answers.kind_for, Notes.fact_with, Notes.noted, Notes.NoteFits}
+use Rattle.sim_system.specs.{Facts.facts_of, Facts.kept_of, declared.ask.Answer.Answer, declared.ask.Ask.Ask, declared.fact.Fact.Fact, declared.note.Note.Note}
+use Rattle.sim_system.specs.declared.kind.Kind.{Kind, TheVariants.Census, TheVariants.Ground, TheVariants.Range, TheVariants.Watch}
 use Rattle.sim_system.specs.declared.ask.Ask.TheVariants as ask
-use Rattle.sim_system.specs.declared.ask.Answer.{Answer}
-use Rattle.sim_system.specs.Facts.{kept_of, facts_of}
-use Rattle.sim_system.specs.Notes.{fact_with, noted, NoteFits}
-use Rattle.sim_system.specs.Answers.{answer, kind_for}
 
 -- which system it is, its land, what it keeps, and how often it was built
 pub record Meaning : Type 0 where

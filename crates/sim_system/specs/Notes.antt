@@ -1,16 +1,10 @@
 -- What a note makes of the facts that a system keeps, and when it fits them.
-use Rattle.std.specs.Prelude.{◌≡◌, ℕ, ◌<◌, ◌≤◌, false, not, nat_lt, ◌==◌, IsTrue, List, [], ◌∷◌, length, map, filter, find, Option, Some, None, option_map, unwrap_or, IfSome, if◌then◌else◌}
-use Rattle.sim_base.specs.declared.place.Point.{Point}
-use Rattle.sim_base.specs.declared.setup.Land.{Land}
-use Rattle.sim_base.specs.Places.{is_inside}
-use Rattle.sim_base.specs.Rows.{size_of}
-use Rattle.sim_system.specs.declared.fact.Fact.{Fact}
-use Rattle.sim_system.specs.declared.note.Note.{Note}
-use Rattle.sim_system.specs.declared.note.Note.TheVariants.{Born, Gone, Moved, Owned, Aimed}
-use Rattle.sim_system.specs.declared.kind.Kind.{Kind}
-use Rattle.sim_system.specs.declared.kind.Kind.TheVariants.{Ground, Range, Watch, Census}
-use Rattle.sim_system.specs.Facts.{origin, kept}
-use Rattle.sim_system.specs.Ranges.{IsInRange}
+use Rattle.std.specs.Prelude.{Option, unwrap_or, option_map}
+use Rattle.std.specs.Prelude.{◌≡◌, ℕ, ◌<◌, ◌≤◌, false, not, List, [], ◌∷◌, map, length, IfSome, if◌then◌else◌, IsTrue, nat_lt, ◌==◌, Some, None, filter, find}
+use Rattle.sim_base.specs.{Places.is_inside, Rows.size_of, declared.place.Point.Point, declared.setup.Land.Land}
+use Rattle.sim_system.specs.{Facts.kept, Facts.origin, Ranges.IsInRange, declared.fact.Fact.Fact}
+use Rattle.sim_system.specs.declared.kind.Kind.{Kind, TheVariants.Census, TheVariants.Ground, TheVariants.Range, TheVariants.Watch}
+use Rattle.sim_system.specs.declared.note.Note.{Note, TheVariants.Aimed, TheVariants.Born, TheVariants.Gone, TheVariants.Moved, TheVariants.Owned}
 
 -- the fact of this id, if it is kept
 abbrev pub fact_with : List Fact → ℕ → Option Fact

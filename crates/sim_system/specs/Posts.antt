@@ -1,20 +1,11 @@
 -- The notes that a change posts, and to which systems.
-use Rattle.std.specs.Prelude.{ℕ, Bool, true, false, List, [], ◌∷◌, ◌++◌, map, Option, Some, None, slice_get, option_map}
-use Rattle.sim_base.specs.declared.place.Point.{Point}
-use Rattle.sim_base.specs.declared.template.Template.{Template}
-use Rattle.sim_base.specs.declared.setup.Setup.{Setup}
-use Rattle.sim_base.specs.declared.state.Row.{Row}
-use Rattle.sim_base.specs.declared.state.State.{State}
-use Rattle.sim_base.specs.declared.change.Change.{Change}
-use Rattle.sim_base.specs.declared.change.Change.TheVariants as change
-use Rattle.sim_base.specs.Rows.{row_of, target_of}
-use Rattle.sim_base.specs.Filters.{watchers}
-use Rattle.sim_base.specs.Changes.{new_row}
-use Rattle.sim_system.specs.declared.note.Note.{Note}
-use Rattle.sim_system.specs.declared.note.Note.TheVariants.{Born, Gone, Moved, Owned, Aimed}
-use Rattle.sim_system.specs.declared.kind.Kind.{Kind}
-use Rattle.sim_system.specs.declared.kind.Kind.TheVariants.{Ground, Range, Watch, Census}
+use Rattle.std.specs.Prelude.{ℕ, Bool, true, false, List, [], ◌∷◌, ◌++◌, map, slice_get, Some, None, Option, option_map}
+use Rattle.sim_base.specs.{Changes.new_row, Filters.watchers, Rows.row_of, Rows.target_of}
+use Rattle.sim_base.specs.declared.{change.Change.Change, place.Point.Point, setup.Setup.Setup, state.Row.Row, state.State.State, template.Template.Template}
 use Rattle.sim_system.specs.Facts.{fact_of}
+use Rattle.sim_system.specs.declared.kind.Kind.{Kind, TheVariants.Census, TheVariants.Ground, TheVariants.Range, TheVariants.Watch}
+use Rattle.sim_system.specs.declared.note.Note.{Note, TheVariants.Aimed, TheVariants.Born, TheVariants.Gone, TheVariants.Moved, TheVariants.Owned}
+use Rattle.sim_base.specs.declared.change.Change.TheVariants as change
 
 -- a move goes to Range
 abbrev pub hears_moves : Kind → Bool
@@ -66,7 +57,8 @@ posts setup state (change.Motion id motion) = []
 posts setup state (change.Attack id aim) = posts_on (row_of state id) (λ (row : Row). Aimed id (target_of row) aim.target ∷ [])
 posts setup state (change.Health id health) = []
 posts setup state (change.Owner id owner) = posts_on (row_of state id) (λ (row : Row). Owned id row.owner owner ∷ [])
-posts setup state (change.Remove id) = map (λ watcher. Aimed watcher id 0) (watchers state id) ++ posts_on (row_of state id) (λ (row : Row). Gone (fact_of setup row) ∷ [])
+posts setup state (change.Remove id) = map (λ watcher. Aimed watcher id 0) (watchers state id) ++ posts_on (row_of state id)
+    (λ (row : Row). Gone (fact_of setup row) ∷ [])
 posts setup state (change.Create number p owner) = posts_born setup (row_made setup state number p owner)
 posts setup state (change.Word word) = []
 posts setup state change.Tick = []

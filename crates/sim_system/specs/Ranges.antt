@@ -1,14 +1,8 @@
 -- Which facts a system may be told.
-use Rattle.std.specs.Prelude.{◌≡◌, ℕ, ◌<◌, ◌≤◌, IsTrue, List, length, map, All, IfSome}
+use Rattle.{sim_base.specs.Limits.IsFrom, sim_base.specs.Limits.IsRawFrom, sim_system.specs.Facts.id_of_fact, sim_system.specs.declared.fact.Fact.Fact}
 use Rattle.std.specs.List.Sorted.{IsStrictlyIncreasing}
-use Rattle.sim_base.specs.declared.place.Point.{Point}
-use Rattle.sim_base.specs.declared.place.Rect.{Rect}
-use Rattle.sim_base.specs.declared.setup.Land.{Land}
-use Rattle.sim_base.specs.Places.{is_inside, rect_of}
-use Rattle.sim_base.specs.Rows.{size_of}
-use Rattle.sim_base.specs.Limits.{IsFrom, IsRawFrom}
-use Rattle.sim_system.specs.declared.fact.Fact.{Fact}
-use Rattle.sim_system.specs.Facts.{id_of_fact}
+use Rattle.std.specs.Prelude.{◌≡◌, ℕ, ◌<◌, ◌≤◌, List, map, length, IfSome, IsTrue, All}
+use Rattle.sim_base.specs.{Places.is_inside, Places.rect_of, Rows.size_of, declared.place.Point.Point, declared.place.Rect.Rect, declared.setup.Land.Land}
 
 -- the rectangle of an obstruction of 1 to 16 by 1 to 16 cells at a point
 pub record IsRectAt (p : Point) (r : Rect) : Type 0 where

@@ -1,7 +1,5 @@
 -- The meanings of the systems of a rig. A clause passes ⟦<dyn System as System>⟧ for `sys`.
-use Rattle.sim_system.specs.declared.system.System.{Ghosts}
-use Rattle.sim_system.specs.Meanings.{Meaning, Systems, four}
-use Rattle.sim_system.specs.declared.rig.Rig.{Rig}
+use Rattle.sim_system.specs.{Meanings.four, Meanings.Meaning, Meanings.Systems, declared.rig.Rig.Rig, declared.system.System.Ghosts}
 
 -- the meanings of its four systems
 abbrev pub systems_by : {X : Type 0} {F : X → Type 0} → Rig X F → ((i : X) → F i → Meaning) → Systems

@@ -3,8 +3,7 @@
 ghost use Rattle.std.specs.Prelude.{◌≡◌};
 ghost use Rattle.sim_system.specs.Answers.{kind_for};
 
-use crate::Way;
-use crate::kind::Kind;
+use crate::{Kind, Way};
 use sim_base::{Cell, Fixed, Ids, Point, Rect};
 
 /// Whether a cell or a rectangle is open; the way between two points; the open cell nearest to a point; who is within a

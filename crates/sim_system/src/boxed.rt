@@ -1,13 +1,11 @@
 //! The calls of a system in a box. A caller proves what it says of them by the contracts here, which are those of
 //! `System` with the box for the system.
 
-ghost use Rattle.std.specs.Prelude.{◌≡◌, OnOk, OnErr, IfOk, IsOk};
-ghost use Rattle.sim_base.specs.Limits.{IsLand};
-ghost use Rattle.sim_system.specs.Ranges.{AreInRange};
-ghost use Rattle.sim_system.specs.Meanings.{built, cleared, counted, told, MayHear, MayAnswer, IsAnswer, NeedsNoMemory};
+ghost use Rattle.{sim_base.specs.Limits.IsLand, sim_system.specs.Ranges.AreInRange};
+ghost use Rattle.std.specs.Prelude.{◌≡◌, IfOk, OnOk, OnErr, IsOk};
+ghost use Rattle.sim_system.specs.Meanings.{built, cleared, counted, IsAnswer, MayAnswer, MayHear, NeedsNoMemory, told};
 
-use crate::system::System;
-use crate::{Answer, Ask, Fact, Note};
+use crate::{Answer, Ask, Fact, Note, System};
 use sim_base::{Land, OutOfMemory};
 
 /// Builds the system from the facts of a state.

@@ -1,9 +1,8 @@
 //! The four systems of a match.
 
 ghost use Rattle.std.specs.Prelude.{◌≡◌};
-ghost use Rattle.sim_system.specs.declared.kind.Kind.TheVariants.{Ground, Range, Watch, Census};
-ghost use Rattle.sim_system.specs.Meanings.{HaveKinds, cleared, all_cleared};
-ghost use Rattle.sim_system.specs.RigWords.{systems_of};
+ghost use Rattle.sim_system.specs.{Meanings.all_cleared, Meanings.cleared, Meanings.HaveKinds, RigWords.systems_of};
+ghost use Rattle.sim_system.specs.declared.kind.Kind.TheVariants.{Census, Ground, Range, Watch};
 
 use crate::system::System;
 

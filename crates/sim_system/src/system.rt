@@ -1,9 +1,8 @@
 //! What each system can do.
 
-ghost use Rattle.std.specs.Prelude.{◌≡◌, OnOk, OnErr, IfOk, IsOk};
-ghost use Rattle.sim_base.specs.Limits.{IsLand};
-ghost use Rattle.sim_system.specs.Ranges.{AreInRange};
-ghost use Rattle.sim_system.specs.Meanings.{Meaning, built, cleared, counted, told, MayHear, MayAnswer, IsAnswer, NeedsNoMemory};
+ghost use Rattle.{sim_base.specs.Limits.IsLand, sim_system.specs.Ranges.AreInRange};
+ghost use Rattle.std.specs.Prelude.{◌≡◌, IfOk, OnOk, OnErr, IsOk};
+ghost use Rattle.sim_system.specs.Meanings.{built, cleared, counted, IsAnswer, MayAnswer, MayHear, Meaning, NeedsNoMemory, told};
 
 use crate::{Answer, Ask, Fact, Kind, Note};
 use sim_base::{Land, OutOfMemory};

@@ -1,21 +1,10 @@
 -- A watcher and one that it sees on a ground of 16 by 16 cells: they are in range, and a move of the second fits.
-use Rattle.std.proofs.Common.{◌≡◌, ℕ, zero, suc, ◌<◌, true, ℤ, pos, List, [], ◌∷◌, Some, None, refl, sym, subst, arith}
-use Rattle.std.specs.Prelude.{slice_index}
-use Rattle.std.proofs.lemmas.Int.{ints}
-use Rattle.std.proofs.lemmas.List.Elements.{All-nil, All-cons}
-use Rattle.sim_base.specs.declared.place.Point.{Point}
-use Rattle.sim_base.specs.declared.place.Rect.{Rect}
-use Rattle.sim_base.specs.declared.setup.Land.{Land}
-use Rattle.sim_base.specs.Limits.{IsLand, IsMask, IsClosed}
-use Rattle.sim_system.specs.declared.fact.Fact.{Fact}
-use Rattle.sim_system.specs.declared.kind.Kind.{Kind}
-use Rattle.sim_system.specs.declared.kind.Kind.TheVariants.{Range}
-use Rattle.sim_system.specs.declared.note.Note.TheVariants.{Moved}
-use Rattle.sim_system.specs.Facts.{kept_of}
-use Rattle.sim_system.specs.Ranges.{IsInRange, AreInRange}
-use Rattle.sim_system.specs.Notes.{NoteFits}
-use Rattle.sim_system.specs.Meanings.{Meaning, MayHear, built, counted}
-use Rattle.sim_range.proofs.Turning.{increasing}
+use Rattle.{sim_range.proofs.Turning.increasing, sim_system.specs.Facts.kept_of}
+use Rattle.std.{proofs.lemmas.Int.ints, proofs.lemmas.List.Elements.All-cons, proofs.lemmas.List.Elements.All-nil, specs.Prelude.slice_index}
+use Rattle.std.proofs.Common.{◌≡◌, ℕ, zero, suc, ◌<◌, true, List, [], ◌∷◌, ℤ, pos, Some, None, refl, arith, subst, sym}
+use Rattle.sim_base.specs.{Limits.IsClosed, Limits.IsLand, Limits.IsMask, declared.place.Point.Point, declared.place.Rect.Rect, declared.setup.Land.Land}
+use Rattle.sim_system.specs.{Meanings.built, Meanings.counted, Meanings.MayHear, Meanings.Meaning, Notes.NoteFits, Ranges.AreInRange, Ranges.IsInRange}
+use Rattle.sim_system.specs.declared.{fact.Fact.Fact, kind.Kind.Kind, kind.Kind.TheVariants.Range, note.Note.TheVariants.Moved}
 
 abbrev pub land : Land
 land = record { width = 16; depth = 16; closed = []; masks = 0 ∷ 4 ∷ 0 ∷ [] }
@@ -49,7 +38,8 @@ is_land = record {
   masks = λ owner lt. masks_are owner lt;
 }
 
-pub land_by : (closed : List Rect) (masks : List ℕ) → closed ≡ [] → masks ≡ 0 ∷ 4 ∷ 0 ∷ [] → record { width = 16; depth = 16; closed = closed; masks = masks } ≡ land
+pub land_by : (closed : List Rect) (masks : List ℕ) → closed ≡ [] → masks ≡ 0 ∷ 4 ∷ 0 ∷ [] → record { width = 16; depth = 16; closed = closed; masks = masks } ≡
+    land
 land_by closed masks one two = cc
 
 pub land_is : (l : Land) → l ≡ land → IsLand l
@@ -59,17 +49,21 @@ are_in_range : AreInRange land (watcher ∷ other ∷ [])
 are_in_range = record {
   few = omega arith;
   ascending = increasing (2 ∷ 3 ∷ []) ((omega arith, tt), (tt, tt));
-  each = All-cons (IsInRange land) watcher (other ∷ []) (record { at = refl; owner = omega arith; vision = (omega (arith, ints), omega (arith, ints)); rect = tt })
+  each = All-cons (IsInRange land) watcher (other ∷ [])
+      (record { at = refl; owner = omega arith; vision = (omega (arith, ints), omega (arith, ints)); rect = tt })
       (All-cons (IsInRange land) other [] (record { at = refl; owner = omega arith; vision = tt; rect = tt }) (All-nil (IsInRange land)));
 }
 
 pub in_range : (l : Land) (a b : Fact) → l ≡ land → a ≡ watcher → b ≡ other → AreInRange l (a ∷ b ∷ [])
-in_range l a b is one two = subst (λ (m : Land). AreInRange m (a ∷ b ∷ [])) (sym is) (subst (λ (f : Fact). AreInRange land (f ∷ b ∷ [])) (sym one) (subst (λ (f : Fact). AreInRange land (watcher ∷ f ∷ [])) (sym two) are_in_range))
+in_range l a b is one two = subst (λ (m : Land). AreInRange m (a ∷ b ∷ [])) (sym is)
+    (subst (λ (f : Fact). AreInRange land (f ∷ b ∷ [])) (sym one) (subst (λ (f : Fact). AreInRange land (watcher ∷ f ∷ [])) (sym two) are_in_range))
 
 pub move_fits : (from to : Point) → from ≡ near → to ≡ far → NoteFits Range land (watcher ∷ other ∷ []) (Moved 3 from to)
-move_fits from to one two = subst (λ (p : Point). NoteFits Range land (watcher ∷ other ∷ []) (Moved 3 p to)) (sym one) (subst (λ (p : Point). NoteFits Range land (watcher ∷ other ∷ []) (Moved 3 near p)) (sym two) (record { agrees = (refl, refl); few = omega arith }))
+move_fits from to one two = subst (λ (p : Point). NoteFits Range land (watcher ∷ other ∷ []) (Moved 3 p to)) (sym one)
+    (subst (λ (p : Point). NoteFits Range land (watcher ∷ other ∷ []) (Moved 3 near p)) (sym two) (record { agrees = (refl, refl); few = omega arith }))
 
-pub may_hear : (m before : Meaning) (l : Land) (a b : Fact) (from to : Point) → m ≡ counted (built l (a ∷ b ∷ []) before) → before.kind ≡ Range → l ≡ land → a ≡ watcher → b ≡ other → from ≡ near → to ≡ far → MayHear m (Moved 3 from to)
+pub may_hear : (m before : Meaning) (l : Land) (a b : Fact) (from to : Point) → m ≡ counted (built l (a ∷ b ∷ []) before) → before.kind ≡ Range → l ≡ land
+    → a ≡ watcher → b ≡ other → from ≡ near → to ≡ far → MayHear m (Moved 3 from to)
 may_hear m before l a b from to is kind ground one two at_first at_last =
     subst (λ (n : Meaning). MayHear n (Moved 3 from to)) (sym is)
     (subst (λ (k : Kind). NoteFits k l (kept_of k (a ∷ b ∷ [])) (Moved 3 from to)) (sym kind)
@@ -77,7 +71,8 @@ may_hear m before l a b from to is kind ground one two at_first at_last =
     (subst (λ (f : Fact). NoteFits Range land (kept_of Range (f ∷ b ∷ [])) (Moved 3 from to)) (sym one)
     (subst (λ (f : Fact). NoteFits Range land (kept_of Range (watcher ∷ f ∷ [])) (Moved 3 from to)) (sym two) (move_fits from to at_first at_last)))))
 
-pub watcher_is : (a : Fact) (p : Point) (v : ℤ) → a ≡ record { id = 2; at = p; owner = 1; health = true; vision = Some v; rect = None; target = 0 } → p ≡ record { x = pos 32768; z = pos 32768 } → v ≡ pos 327680 → a ≡ watcher
+pub watcher_is : (a : Fact) (p : Point) (v : ℤ) → a ≡ record { id = 2; at = p; owner = 1; health = true; vision = Some v; rect = None; target = 0 }
+    → p ≡ record { x = pos 32768; z = pos 32768 } → v ≡ pos 327680 → a ≡ watcher
 watcher_is a p v is at far_as = cc
 
 pub other_is : (b : Fact) (p : Point) → b ≡ record { id = 3; at = p; owner = 2; health = true; vision = None; rect = None; target = 0 } → p ≡ near → b ≡ other

@@ -1,14 +1,11 @@
 -- What is heard of a line, by how its bytes were poured.
-use Rattle.std.proofs.Common.{◌≡◌, ℕ, ◌+◌, ◌-◌, ◌<◌, ◌≤◌, List, [], ◌∷◌, ◌++◌, length, take, refl, sym, ap, subst, ◌∙◌, arith, length-append, Bool, true, false, Option, Some, None, Result, Ok, Err}
-use Rattle.std.specs.Str.{IsUtf8}
-use Rattle.std.specs.Io.KnownBytes.{Consumes, Keeps, IsAtEnd, prepend_known}
-use Rattle.std.proofs.lemmas.List.Elements.{All-nil}
-use Rattle.sim_store.specs.Counts.{raised}
-use Rattle.sim_talk.specs.declared.fault.HearFault.{HearFault}
+use Rattle.std.proofs.{Common.length-append, Common.subst, Common.sym, Common.◌∙◌, lemmas.List.Elements.All-nil}
+use Rattle.std.proofs.Common.{◌≡◌, ℕ, ◌+◌, ◌-◌, ◌<◌, ◌≤◌, Bool, true, false, List, [], ◌++◌, length, take, Ok, Err, Option, Result, refl, ap, arith}
+use Rattle.std.specs.{Io.KnownBytes.Consumes, Io.KnownBytes.IsAtEnd, Io.KnownBytes.Keeps, Io.KnownBytes.prepend_known, Str.IsUtf8}
+use Rattle.sim_talk.proofs.Pouring.{at_end, taken_all, taken_kept, taken_much, taken_piece, taken_whole, within_more}
+use Rattle.sim_talk.specs.{LineTalk.Ends, LineTalk.HearCounts, LineTalk.IsText, declared.fault.HearFault.HearFault}
+use Rattle.sim_talk.specs.Lines.{HearsOf, HearsPart, HearsTooMuch, IsPart, IsWithinLine, PoursOpen, PoursTooMuch, PoursWhole}
 use Rattle.sim_talk.specs.declared.fault.HearFault.TheVariants as fault
-use Rattle.sim_talk.specs.LineTalk.{IsText, Ends, HearCounts}
-use Rattle.sim_talk.specs.Lines.{feed, IsWithinLine, IsPart, PoursWhole, PoursOpen, PoursTooMuch, HearsOf, HearsPart, HearsTooMuch}
-use Rattle.sim_talk.proofs.Pouring.{taken_whole, taken_much, taken_all, taken_piece, taken_kept, at_end, within_more}
 
 -- no bytes are a part of a line
 pub no_part : (most : ℕ) (line : List ℕ) → line ≡ [] → IsPart most line
@@ -29,8 +26,10 @@ open_part most ahead line ahead' line' part poured = record {
 }
 
 -- a line that has come to its end is heard where it is text
-pub heard_whole : (most : ℕ) (result : Result Bool HearFault) (raw : List ℕ) (a b : Option (List ℕ)) (ahead line ahead' line' : List ℕ) → raw ≡ line' → IsText result raw
-    → IsPart most line → Consumes a (prepend_known ahead b) line → PoursWhole most ahead line ahead' line' → HearsOf most result line' a (prepend_known ahead' b)
+pub heard_whole : (most : ℕ) (result : Result Bool HearFault) (raw : List ℕ) (a b : Option (List ℕ)) (ahead line ahead' line' : List ℕ) → raw ≡ line'
+    → IsText result raw
+    → IsPart most line → Consumes a (prepend_known ahead b) line → PoursWhole most ahead line ahead' line'
+    → HearsOf most result line' a (prepend_known ahead' b)
 heard_whole most (Ok true) raw a b ahead line ahead' line' is text part taken poured = record {
   taken = taken_whole a b ahead line poured.more ahead' line' poured.taken poured.added taken;
   part = whole_part most ahead line ahead' line' part poured;
@@ -58,7 +57,8 @@ counted_text (Err fault.TooLong) raw old new text same = same
 counted_text (Err fault.OutOfMemory) raw old new text same = same
 
 -- one that is longer than it may be
-pub heard_much : (most : ℕ) (a b : Option (List ℕ)) (ahead line ahead' : List ℕ) → IsPart most line → Consumes a (prepend_known ahead b) line → PoursTooMuch most ahead line ahead'
+pub heard_much : (most : ℕ) (a b : Option (List ℕ)) (ahead line ahead' : List ℕ) → IsPart most line → Consumes a (prepend_known ahead b) line
+    → PoursTooMuch most ahead line ahead'
     → HearsTooMuch most a (prepend_known ahead' b)
 heard_much most a b ahead line ahead' part taken poured = record {
   part = line ++ poured.more;
@@ -68,7 +68,8 @@ heard_much most a b ahead line ahead' part taken poured = record {
 }
 
 -- where there was no memory nothing more was taken
-pub heard_part : (most : ℕ) (a b : Option (List ℕ)) (ahead line ahead' : List ℕ) → IsPart most line → Consumes a (prepend_known ahead b) line → ahead' ≡ ahead → HearsPart most a (prepend_known ahead' b)
+pub heard_part : (most : ℕ) (a b : Option (List ℕ)) (ahead line ahead' : List ℕ) → IsPart most line → Consumes a (prepend_known ahead b) line → ahead' ≡ ahead
+    → HearsPart most a (prepend_known ahead' b)
 heard_part most a b ahead line ahead' part taken same = record {
   part = line;
   taken = subst (λ (h : List ℕ). Consumes a (prepend_known h b) line) (sym same) taken;
@@ -76,7 +77,8 @@ heard_part most a b ahead line ahead' part taken same = record {
 }
 
 -- where a read failed all that was ahead was taken
-pub heard_failed : (most : ℕ) (a b c : Option (List ℕ)) (ahead line ahead' line' : List ℕ) → IsPart most line → Consumes a (prepend_known ahead b) line → PoursOpen most ahead line ahead' line' → Keeps b c
+pub heard_failed : (most : ℕ) (a b c : Option (List ℕ)) (ahead line ahead' line' : List ℕ) → IsPart most line → Consumes a (prepend_known ahead b) line
+    → PoursOpen most ahead line ahead' line' → Keeps b c
     → HearsPart most a (prepend_known ahead' c)
 heard_failed most a b c ahead line ahead' line' part taken poured kept = record {
   part = line';
@@ -85,17 +87,23 @@ heard_failed most a b c ahead line ahead' line' part taken poured kept = record 
 }
 
 -- where a piece was read it is ahead now
-pub taken_on : (most : ℕ) (a b c : Option (List ℕ)) (ahead line ahead' line' piece ahead'' : List ℕ) → Consumes a (prepend_known ahead b) line → PoursOpen most ahead line ahead' line' → Consumes b c piece → ahead'' ≡ piece
+pub taken_on : (most : ℕ) (a b c : Option (List ℕ)) (ahead line ahead' line' piece ahead'' : List ℕ) → Consumes a (prepend_known ahead b) line
+    → PoursOpen most ahead line ahead' line' → Consumes b c piece → ahead'' ≡ piece
     → Consumes a (prepend_known ahead'' c) line'
 taken_on most a b c ahead line ahead' line' piece ahead'' taken poured read held =
     taken_piece a b c ahead' line' piece ahead'' poured.taken held read (taken_all a b ahead line ahead' line' poured.taken poured.added taken)
 
 -- at the end of the input there is no line, or a part of one
-pub heard_end : (most : ℕ) (result : Result Bool HearFault) (raw : List ℕ) (a b c : Option (List ℕ)) (ahead line ahead' line' piece : List ℕ) → raw ≡ line' → Ends result raw
-    → IsPart most line → Consumes a (prepend_known ahead b) line → PoursOpen most ahead line ahead' line' → Consumes b c piece → piece ≡ [] → IsAtEnd c → HearsOf most result line' a (prepend_known ahead' c)
+pub heard_end : (most : ℕ) (result : Result Bool HearFault) (raw : List ℕ) (a b c : Option (List ℕ)) (ahead line ahead' line' piece : List ℕ) → raw ≡ line'
+    → Ends result raw
+    → IsPart most line → Consumes a (prepend_known ahead b) line → PoursOpen most ahead line ahead' line' → Consumes b c piece → piece ≡ [] → IsAtEnd c
+    → HearsOf most result line' a (prepend_known ahead' c)
 heard_end most (Ok true) raw a b c ahead line ahead' line' piece is ends part taken poured read none end = absurd ends
-heard_end most (Ok false) raw a b c ahead line ahead' line' piece is ends part taken poured read none end =
-    (subst (Consumes a (prepend_known ahead' c)) (sym is ∙ ends) (taken_on most a b c ahead line ahead' line' piece ahead' taken poured read (poured.taken ∙ sym none)), at_end c ahead' poured.taken end)
+heard_end most (Ok false) raw a b c ahead line ahead' line' piece is ends part taken poured read none end = (
+  subst (Consumes a (prepend_known ahead' c)) (sym is ∙ ends) (taken_on most a b c ahead line ahead' line' piece ahead' taken poured read
+      (poured.taken ∙ sym none)),
+  at_end c ahead' poured.taken end,
+)
 heard_end most (Err fault.CutOff) raw a b c ahead line ahead' line' piece is ends part taken poured read none end = record {
   part = line';
   taken = taken_on most a b c ahead line ahead' line' piece ahead' taken poured read (poured.taken ∙ sym none);
@@ -125,8 +133,10 @@ falls most count ahead line ahead' line' added few long some =
     omega arith
 
 -- the same, where the fault is known by an equation
-pub heard_without : (most : ℕ) (result : Result Bool HearFault) (line : List ℕ) (a b : Option (List ℕ)) → result ≡ Err fault.OutOfMemory → HearsPart most a b → HearsOf most result line a b
+pub heard_without : (most : ℕ) (result : Result Bool HearFault) (line : List ℕ) (a b : Option (List ℕ)) → result ≡ Err fault.OutOfMemory → HearsPart most a b
+    → HearsOf most result line a b
 heard_without most result line a b is part = subst (λ r. HearsOf most r line a b) (sym is) part
 
-pub heard_no_more : (most : ℕ) (result : Result Bool HearFault) (line : List ℕ) (a b : Option (List ℕ)) → result ≡ Err fault.Failed → HearsPart most a b → HearsOf most result line a b
+pub heard_no_more : (most : ℕ) (result : Result Bool HearFault) (line : List ℕ) (a b : Option (List ℕ)) → result ≡ Err fault.Failed → HearsPart most a b
+    → HearsOf most result line a b
 heard_no_more most result line a b is part = subst (λ r. HearsOf most r line a b) (sym is) part

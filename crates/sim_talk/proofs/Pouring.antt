@@ -1,10 +1,8 @@
 -- What was taken of an input while a line is read in pieces: what stands in the line so far, and behind it what is ahead and what the
 -- input has left.
-use Rattle.std.proofs.Common.{◌≡◌, ℕ, ◌<◌, ◌≤◌, List, [], ◌∷◌, ◌++◌, length, refl, sym, ap, ◌∙◌, append_assoc, Option, Some, None}
-use Rattle.std.specs.Prelude.{All}
-use Rattle.std.specs.Io.KnownBytes.{Consumes, Keeps, IsAtEnd, prepend_known}
-use Rattle.std.proofs.lemmas.List.Elements.{All-append}
-use Rattle.sim_talk.specs.Lines.{feed, IsWithinLine, IsPart}
+use Rattle.{sim_talk.specs.Lines.feed, sim_talk.specs.Lines.IsWithinLine, std.proofs.lemmas.List.Elements.All-append}
+use Rattle.std.proofs.Common.{◌≡◌, ℕ, List, [], ◌∷◌, ◌++◌, Some, None, Option, ap, append_assoc, sym, ◌∙◌}
+use Rattle.std.specs.{Io.KnownBytes.Consumes, Io.KnownBytes.IsAtEnd, Io.KnownBytes.Keeps, Io.KnownBytes.prepend_known, Prelude.All}
 
 -- the line came to its end
 pub taken_whole : (a b : Option (List ℕ)) (ahead line more ahead' line' : List ℕ) → ahead ≡ more ++ 10 ∷ ahead' → line' ≡ line ++ more

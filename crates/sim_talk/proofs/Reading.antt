@@ -1,16 +1,17 @@
 -- Which bytes of a piece are read, and which are poured into a line.
-use Rattle.std.proofs.Common.{◌≡◌, ℕ, suc, ◌+◌, ◌-◌, ◌<◌, ◌≤◌, List, [], ◌∷◌, ◌++◌, length, get_or, take, drop, refl, sym, ap, subst, ◌∙◌, arith, length-append, length-drop}
+use Rattle.std.proofs.{Common.subst, Common.sym, Common.◌∙◌, Math.Seq.drop-cons, Math.Seq.take-append_seam, Math.Seq.take-length}
+use Rattle.std.proofs.Common.{◌≡◌, ℕ, suc, ◌+◌, ◌-◌, ◌<◌, ◌≤◌, List, [], ◌∷◌, ◌++◌, length, get_or, take, drop, refl, ap, arith, length-append, length-drop}
+use Rattle.std.proofs.lemmas.List.{drop-drop, get_or-take, get_or_default, length-take-le, take-append-drop}
 use Rattle.std.specs.Prelude.{min}
-use Rattle.std.proofs.lemmas.List.{get_or-take, get_or_default, length-take-le, take-append-drop, drop-drop}
-use Rattle.std.proofs.Math.Seq.{drop-cons, take-length, take-append_seam}
-use Rattle.sim_talk.specs.Lines.{IsWithinLine, PoursWhole, PoursOpen, PoursTooMuch}
+use Rattle.sim_talk.specs.Lines.{IsWithinLine, PoursOpen, PoursTooMuch, PoursWhole}
 
 -- what a read copies to the front of the buffer, and what it leaves, is what was left before
 pub drop-read : (bytes into front : List ℕ) (at count : ℕ) → count ≤ length (drop at bytes) → front ≡ take count (drop at bytes)
     → drop at bytes ≡ take count (front ++ drop count into) ++ drop (at + count) bytes
 drop-read bytes into front at count fits copied =
     let long : length front ≡ count = ap length copied ∙ length-take-le count (drop at bytes) fits in
-    let seam : take count (front ++ drop count into) ≡ front = ap (λ k. take k (front ++ drop count into)) (sym long) ∙ take-append_seam front (drop count into) in
+    let seam : take count (front ++ drop count into) ≡ front = ap (λ k. take k (front ++ drop count into)) (sym long) ∙
+    take-append_seam front (drop count into) in
     let left : drop (at + count) bytes ≡ drop count (drop at bytes) = sym (drop-drop count at bytes) in
     sym (take-append-drop count (drop at bytes)) ∙ ap (λ (l : List ℕ). l ++ drop count (drop at bytes)) (sym copied ∙ sym seam)
     ∙ ap (λ (l : List ℕ). take count (front ++ drop count into) ++ l) (sym left)
@@ -21,7 +22,8 @@ empty_of [] is = refl
 empty_of (x ∷ xs) is = absurd (omega (arith, is))
 
 -- where a read gives nothing though it may, nothing was left
-pub nothing_left : (bytes into front : List ℕ) (at most count : ℕ) → count ≡ min (min (length (drop at bytes)) most) (length into) → 1 ≤ most → length front ≡ count
+pub nothing_left : (bytes into front : List ℕ) (at most count : ℕ) → count ≡ min (min (length (drop at bytes)) most) (length into) → 1 ≤ most
+    → length front ≡ count
     → count ≡ 0 → 0 < length (front ++ drop count into) → drop (at + count) bytes ≡ []
 nothing_left bytes into front at most count is some long none room =
     let space : length (front ++ drop count into) ≡ length front + length (drop count into) = length-append front (drop count into) in
@@ -39,7 +41,8 @@ within_front count left fits none k d lt is =
     none k short (get_or_default left k 0 d inside ∙ sym (get_or-take count left k d short) ∙ is)
 
 -- a line has come to its end
-pub poured_whole : (most at count at' : ℕ) (bytes line line' : List ℕ) → count < length (drop at bytes) → ((k : ℕ) → k < count → get_or (drop at bytes) k 0 ≡ 10 → ⊥)
+pub poured_whole : (most at count at' : ℕ) (bytes line line' : List ℕ) → count < length (drop at bytes)
+    → ((k : ℕ) → k < count → get_or (drop at bytes) k 0 ≡ 10 → ⊥)
     → get_or (drop at bytes) count 0 ≡ 10 → count ≤ most - length line → length line ≤ most → line' ≡ line ++ take count (drop at bytes) → at' ≡ at + count + 1
     → PoursWhole most (drop at bytes) line (drop at' bytes) line'
 poured_whole most at count at' bytes line line' lt none end fits was added moved =
@@ -47,17 +50,20 @@ poured_whole most at count at' bytes line line' lt none end fits was added moved
     let within : count ≤ length left = omega arith in
     let long : length (take count left) ≡ count = length-take-le count left within in
     let cut : drop count left ≡ get_or left count 0 ∷ drop (suc count) left = drop-cons left count 0 lt in
-    let behind : drop (suc count) left ≡ drop at' bytes = drop-drop (suc count) at bytes ∙ ap (λ k. drop k bytes) (let e : at + suc count ≡ at' = omega (arith, moved) in e) in
+    let behind : drop (suc count) left ≡ drop at' bytes = drop-drop (suc count) at bytes ∙
+    ap (λ k. drop k bytes) (let e : at + suc count ≡ at' = omega (arith, moved) in e) in
     record {
       more = take count left;
-      taken = sym (take-append-drop count left) ∙ ap (λ (l : List ℕ). take count left ++ l) (cut ∙ ap (λ (b : ℕ). b ∷ drop (suc count) left) end ∙ ap (λ (l : List ℕ). 10 ∷ l) behind);
+      taken = sym (take-append-drop count left) ∙ ap (λ (l : List ℕ). take count left ++ l) (cut ∙ ap (λ (b : ℕ). b ∷ drop (suc count) left) end ∙
+          ap (λ (l : List ℕ). 10 ∷ l) behind);
       added = added;
       within = within_front count left within none;
       few = omega (arith, ap length added, length-append line (take count left), long);
     }
 
 -- it goes on behind all bytes
-pub poured_open : (most at count at' : ℕ) (bytes line line' : List ℕ) → count ≡ length (drop at bytes) → ((k : ℕ) → k < count → get_or (drop at bytes) k 0 ≡ 10 → ⊥)
+pub poured_open : (most at count at' : ℕ) (bytes line line' : List ℕ) → count ≡ length (drop at bytes)
+    → ((k : ℕ) → k < count → get_or (drop at bytes) k 0 ≡ 10 → ⊥)
     → count ≤ most - length line → length line ≤ most → line' ≡ line ++ take count (drop at bytes) → at' ≡ at + count
     → PoursOpen most (drop at bytes) line (drop at' bytes) line'
 poured_open most at count at' bytes line line' all none fits was added moved =

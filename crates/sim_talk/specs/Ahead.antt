@@ -1,6 +1,5 @@
 -- The bytes that were read and not heard yet.
-use Rattle.std.specs.Prelude.{ℕ, List, drop}
-use Rattle.sim_talk.specs.declared.ahead.Ahead.{Ahead}
+use Rattle.{sim_talk.specs.declared.ahead.Ahead.Ahead, std.specs.Prelude.ℕ, std.specs.Prelude.List, std.specs.Prelude.drop}
 
 -- those from the place on to which hearing has come
 abbrev pub bytes_ahead : Ahead → List ℕ

@@ -1,9 +1,6 @@
 -- What a talk over an input and a sink answers.
-use Rattle.std.specs.Prelude.{◌≡◌, ℕ, List, [], ◌<◌, take, length, Bool, true, false, Option, Result, Ok, Err, ⊤}
-use Rattle.std.specs.Str.{IsUtf8}
-use Rattle.std.specs.Io.KnownBytes.{Appends}
-use Rattle.sim_store.specs.Counts.{raised}
-use Rattle.sim_store.specs.declared.fault.Failed.{Failed}
+use Rattle.{sim_store.specs.Counts.raised, sim_store.specs.declared.fault.Failed.Failed, std.specs.Io.KnownBytes.Appends, std.specs.Str.IsUtf8}
+use Rattle.std.specs.Prelude.{◌≡◌, ℕ, ◌<◌, Bool, true, false, List, [], length, take, ⊤, Ok, Err, Option, Result}
 use Rattle.sim_talk.specs.declared.fault.HearFault.{HearFault}
 use Rattle.sim_talk.specs.declared.fault.HearFault.TheVariants as fault
 

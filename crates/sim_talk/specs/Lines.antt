@@ -1,10 +1,8 @@
 -- Lines: which bytes of an input are a line, and what became of one that was to be heard.
-use Rattle.std.specs.Prelude.{◌≡◌, ◌≢◌, ℕ, ◌<◌, ◌≤◌, List, [], ◌∷◌, ◌++◌, length, All, Bool, true, false, Option, Result, Ok, Err}
-use Rattle.std.specs.Str.{IsUtf8}
-use Rattle.std.specs.Io.KnownBytes.{Consumes, IsAtEnd}
-use Rattle.sim_talk.specs.declared.ahead.Poured.{Poured}
+use Rattle.std.specs.{Io.KnownBytes.Consumes, Io.KnownBytes.IsAtEnd, Str.IsUtf8}
+use Rattle.std.specs.Prelude.{◌≡◌, ℕ, ◌<◌, ◌≤◌, Bool, true, false, ◌≢◌, List, [], ◌∷◌, ◌++◌, length, Ok, Err, All, Option, Result}
+use Rattle.sim_talk.specs.declared.{ahead.Poured.Poured, fault.HearFault.HearFault}
 use Rattle.sim_talk.specs.declared.ahead.Poured.TheVariants as poured
-use Rattle.sim_talk.specs.declared.fault.HearFault.{HearFault}
 use Rattle.sim_talk.specs.declared.fault.HearFault.TheVariants as fault
 
 -- what ends a line

@@ -1,7 +1,6 @@
 -- What is to come of an input in memory, and what it counts.
-use Rattle.std.specs.Prelude.{ℕ, List, Bool, drop}
-use Rattle.sim_store.specs.Calls.{calls_in, listed_in, is_next_listed}
-use Rattle.sim_talk.specs.declared.mem_source.MemSource.{MemSource}
+use Rattle.{sim_talk.specs.declared.mem_source.MemSource.MemSource, std.specs.Prelude.ℕ, std.specs.Prelude.Bool, std.specs.Prelude.List, std.specs.Prelude.drop}
+use Rattle.sim_store.specs.Calls.{calls_in, is_next_listed, listed_in}
 
 -- the bytes that were not read yet
 abbrev pub bytes_to_come : MemSource → List ℕ

@@ -1,7 +1,6 @@
 -- What passed in a talk in memory.
-use Rattle.std.specs.Prelude.{ℕ, List, map}
-use Rattle.sim_talk.specs.Talks.{Passed, heard, told}
-use Rattle.sim_talk.specs.declared.mem_talk.Piece.{Piece}
+use Rattle.std.specs.Prelude.{List, map}
+use Rattle.sim_talk.specs.{Talks.heard, Talks.Passed, Talks.told, declared.mem_talk.Piece.Piece}
 use Rattle.sim_talk.specs.declared.mem_talk.Piece.TheVariants as piece
 
 -- a piece as what passed

@@ -1,8 +1,7 @@
 -- What passes in a talk: lines that are heard and texts that are told, in one history, so that it says what had been told when a
 -- line was asked for.
-use Rattle.std.specs.Prelude.{◌≡◌, ℕ, List, [], ◌∷◌, ◌++◌, take, Bool, true, false, Option, Some, None, Result, Ok, Err, ⊤}
-use Rattle.sim_store.specs.declared.fault.Failed.{Failed}
-use Rattle.sim_talk.specs.declared.fault.HearFault.{HearFault}
+use Rattle.{sim_store.specs.declared.fault.Failed.Failed, sim_talk.specs.declared.fault.HearFault.HearFault}
+use Rattle.std.specs.Prelude.{◌≡◌, ℕ, Bool, true, false, List, [], ◌∷◌, ◌++◌, take, ⊤, Some, None, Ok, Err, Option, Result}
 
 -- a line that was heard, or a text that was told
 pub data Passed : Type 0 where

@@ -1,7 +1,7 @@
 //! Bytes that were read and not heard yet: an input gives whole pieces, and a line ends within one. They stand apart from the
 //! input, so that what a line takes of them is said and proved over lists alone.
 
-ghost use Rattle.std.specs.Prelude.{◌≡◌, ◌≢◌, ◌<◌, ◌≤◌, ℕ, [], IfOk, OnErr, length, slice_index, vec_len, vec_capacity};
+ghost use Rattle.std.specs.Prelude.{◌≡◌, ℕ, ◌<◌, ◌≤◌, ◌≢◌, [], length, IfOk, OnErr, slice_index, vec_len, vec_capacity};
 ghost use Rattle.sim_talk.specs.Lines.{Pours};
 
 use std::alloc::{AllocError, Global};

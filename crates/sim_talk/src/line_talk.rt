@@ -1,17 +1,12 @@
 //! A talk over an input and a sink: each line is read in pieces, and each text is written at once. It has no history to tell, since
 //! an input and a sink know nothing of each other; which bytes a line takes, and which a text leaves, is said of each call.
 
-ghost use Rattle.std.specs.Prelude.{◌≡◌, IfOk, None, length, ◌≤◌};
-ghost use Rattle.std.specs.Io.KnownBytes.{IsAtEnd};
-ghost use Rattle.sim_store.specs.Counts.{raised};
-ghost use Rattle.sim_talk.specs.Lines.{HearsOf, HearsLine, IsPart};
-ghost use Rattle.sim_talk.specs.LineTalk.{HearCounts, Ends, IsText, TellsOut, TellCounts};
-ghost use Rattle.sim_talk.specs.Talks.{Hears, Tells};
+ghost use Rattle.std.specs.Prelude.{◌≡◌, IfOk, None};
+ghost use Rattle.sim_talk.specs.{LineTalk.Ends, LineTalk.HearCounts, LineTalk.IsText, LineTalk.TellCounts, LineTalk.TellsOut, Talks.Hears, Talks.Tells};
+ghost use Rattle.sim_talk.specs.Lines.{HearsOf};
 
 use crate::ahead::{Ahead, PIECE, Poured};
-use crate::fault::HearFault;
-use crate::source::Source;
-use crate::talk::Talk;
+use crate::{HearFault, Source, Talk};
 use sim_base::OutOfMemory;
 use sim_store::{Failed, Sink, write_out};
 use std::alloc::Global;
@@ -26,8 +21,7 @@ pub struct LineTalk<S: Source + Drop, K: Sink + Drop> {
 }
 
 impl<S: Source + Drop, K: Sink + Drop> LineTalk<S, K> {
-    ghost use Rattle.std.specs.Io.KnownBytes.{prepend_known};
-    ghost use Rattle.sim_talk.specs.Ahead.{bytes_ahead};
+    ghost use Rattle.{sim_talk.specs.Ahead.bytes_ahead, std.specs.Io.KnownBytes.prepend_known};
 
     /// Nothing was heard or told yet. It takes the memory for a piece of the input.
     pub fn new(
@@ -58,7 +52,8 @@ impl<S: Source + Drop, K: Sink + Drop> LineTalk<S, K> {
 
     // The next line, without what ends it. No more of the input is read than the pieces in which it lies.
     fn read_line(&mut self, line: &mut Vec<u8>) -> Result<bool, HearFault>
-        ensures taken { HearsOf self.old.most result line.new.items (prepend_known (bytes_ahead self.old.ahead) (S.left self.old.source)) (prepend_known (bytes_ahead self.new.ahead) (S.left self.new.source)) }
+        ensures taken { HearsOf self.old.most result line.new.items (prepend_known (bytes_ahead self.old.ahead) (S.left self.old.source))
+            (prepend_known (bytes_ahead self.new.ahead) (S.left self.new.source)) }
         ensures faults { HearCounts result (S.faults self.old.source) (S.faults self.new.source) }
         ensures sink { self.new.sink ≡ self.old.sink }
         ensures most { self.new.most ≡ self.old.most }
@@ -102,15 +97,15 @@ fn end_of(line: &[u8]) -> Result<bool, HearFault>
 }
 
 impl<S: Source + Drop, K: Sink + Drop> Talk for LineTalk<S, K> {
-    ghost use Rattle.std.specs.Io.KnownBytes.{prepend_known};
-    ghost use Rattle.sim_talk.specs.Ahead.{bytes_ahead};
+    ghost use Rattle.{sim_talk.specs.Ahead.bytes_ahead, std.specs.Io.KnownBytes.prepend_known};
 
     ghost passed = { λ s. None };
 
     /// Reads the next line.
     fn hear(&mut self, line: &mut Vec<u8>) -> Result<bool, HearFault>
         ensures passed { Hears result line.new.items None None }
-        ensures taken { HearsOf self.old.most result line.new.items (prepend_known (bytes_ahead self.old.ahead) (S.left self.old.source)) (prepend_known (bytes_ahead self.new.ahead) (S.left self.new.source)) }
+        ensures taken { HearsOf self.old.most result line.new.items (prepend_known (bytes_ahead self.old.ahead) (S.left self.old.source))
+            (prepend_known (bytes_ahead self.new.ahead) (S.left self.new.source)) }
         ensures faults { HearCounts result (S.faults self.old.source) (S.faults self.new.source) }
         ensures sink { self.new.sink ≡ self.old.sink }
         ensures most { self.new.most ≡ self.old.most }

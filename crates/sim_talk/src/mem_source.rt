@@ -1,11 +1,8 @@
 //! An input in memory. Whoever wants to talk to the program without a terminal, tests above all, hands it in: its bytes come in
 //! pieces of any size, and its list of calls makes any read fail.
 
-ghost use Rattle.std.specs.Prelude.{◌≡◌, ◌++◌, ◌∷◌, [], ◌≤◌, ◌↔◌, Some, IfOk, IsOk, IsFalse, OnOk, OnErr, vec_len, length, min};
-ghost use Rattle.std.specs.Io.{ReadsAtMost};
-ghost use Rattle.std.specs.Io.KnownBytes.{ReadConsumes};
-ghost use Rattle.sim_store.specs.Counts.{raised};
-ghost use Rattle.sim_store.specs.Sink.{SinkCounts};
+ghost use Rattle.{sim_store.specs.Counts.raised, sim_store.specs.Sink.SinkCounts, std.specs.Io.ReadsAtMost, std.specs.Io.KnownBytes.ReadConsumes};
+ghost use Rattle.std.specs.Prelude.{◌≡◌, ◌≤◌, min, ◌↔◌, [], ◌∷◌, ◌++◌, length, IfOk, OnOk, OnErr, IsOk, IsFalse, Some, vec_len};
 
 use crate::source::Source;
 use sim_base::OutOfMemory;
@@ -25,7 +22,7 @@ pub struct MemSource {
 }
 
 impl MemSource {
-    ghost use Rattle.sim_talk.specs.MemSource.{bytes_to_come, most_in, faults_in, calls_of, failing_of};
+    ghost use Rattle.sim_talk.specs.MemSource.{bytes_to_come, calls_of, failing_of, faults_in, most_in};
 
     /// An input of these bytes, in pieces of at most so many, or of one byte where none is asked for.
     pub fn new(alloc: Global, bytes: &[u8], most: usize) -> Result<MemSource, OutOfMemory>
@@ -58,7 +55,7 @@ impl MemSource {
 }
 
 impl Source for MemSource {
-    ghost use Rattle.sim_talk.specs.MemSource.{bytes_to_come, most_in, faults_in, calls_of, failing_of, fails_next_of};
+    ghost use Rattle.sim_talk.specs.MemSource.{bytes_to_come, calls_of, failing_of, fails_next_of, faults_in, most_in};
 
     ghost left = { λ source. Some (bytes_to_come source) };
 

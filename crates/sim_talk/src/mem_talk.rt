@@ -1,11 +1,9 @@
 //! A talk in memory, whose lines are given, and which keeps what passed.
 
-ghost use Rattle.std.specs.Prelude.{◌≡◌, ◌++◌, ◌∷◌, [], IfOk, OnOk, OnErr, Some};
-ghost use Rattle.sim_talk.specs.MemTalk.{passed_in};
-ghost use Rattle.sim_talk.specs.Talks.{Hears, Tells};
+ghost use Rattle.std.specs.Prelude.{◌≡◌, [], ◌∷◌, ◌++◌, IfOk, OnOk, OnErr, Some};
+ghost use Rattle.sim_talk.specs.{MemTalk.passed_in, Talks.Hears, Talks.Tells};
 
-use crate::fault::HearFault;
-use crate::talk::Talk;
+use crate::{HearFault, Talk};
 use sim_base::OutOfMemory;
 use sim_store::Failed;
 use std::alloc::Global;

@@ -3,9 +3,7 @@
 
 ghost use Rattle.std.specs.Prelude.{None};
 
-use crate::fault::HearFault;
-use crate::talk::Talk;
-use crate::words::json_of;
+use crate::{HearFault, Talk, json_of};
 use sim_store::Failed;
 use std::alloc::Global;
 

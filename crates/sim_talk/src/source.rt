@@ -1,9 +1,7 @@
 //! The trait of an input: bytes come from it, in pieces as they are there. It is a trait so that a talk is proved for every input
 //! that keeps these promises, be it standard input or a list of bytes.
 
-ghost use Rattle.std.specs.Prelude.{ℕ, List, Option};
-ghost use Rattle.std.specs.Io.{ReadsAtMost};
-ghost use Rattle.std.specs.Io.KnownBytes.{ReadConsumes};
+ghost use Rattle.std.specs.{Io.ReadsAtMost, Io.KnownBytes.ReadConsumes, Prelude.ℕ, Prelude.List, Prelude.Option};
 ghost use Rattle.sim_store.specs.Sink.{SinkCounts};
 
 use sim_store::Failed;

@@ -1,8 +1,7 @@
 //! The trait of a talk: what comes and what goes, in one history, so that a clause can say what had been told when a line was asked
 //! for.
 
-ghost use Rattle.std.specs.Prelude.{List, Option};
-ghost use Rattle.sim_talk.specs.Talks.{Passed, Hears, Tells};
+ghost use Rattle.{sim_talk.specs.Talks.Hears, sim_talk.specs.Talks.Passed, sim_talk.specs.Talks.Tells, std.specs.Prelude.List, std.specs.Prelude.Option};
 
 use crate::fault::HearFault;
 use sim_store::Failed;

@@ -1,25 +1,14 @@
 -- What was told in a talk and how it ended, by what the words ask for and what the files hold.
-use Rattle.std.specs.Prelude.{◌≡◌, ℕ, ◌<◌, ◌≤◌, ◌⊎◌, List, [], ◌∷◌, Option, Result, Ok, Err, ⊤}
-use Rattle.sim_base.specs.declared.setup.Setup.{Setup}
-use Rattle.sim_base.specs.Limits.{IsFrom}
-use Rattle.sim_live.specs.Live.{Lives}
-use Rattle.sim_relay.specs.declared.relaying.RelayRules.{RelayRules}
-use Rattle.sim_relay.specs.Relays.{Relays, IsRelay}
-use Rattle.sim_report.specs.declared.refusal.Refusal.TheVariants.{List as OfList}
-use Rattle.sim_report.specs.Refusals.{refusal_text}
-use Rattle.sim_store.specs.Files.{File}
-use Rattle.sim_talk.specs.declared.fault.TalkFault.{TalkFault}
-use Rattle.sim_talk.specs.Talks.{Passed, told, Extends, IsBeginning}
-use Rattle.sim_top.specs.Outcome.{Outcome, session_match_in}
-use Rattle.sim_top.specs.Stops.{ended_by}
-use Rattle.sim_top.specs.declared.stop.Stop.{Stop}
-use Rattle.sim_top.specs.declared.stop.Stop.TheVariants as stop
-use Rattle.sim_top.specs.declared.status.Status.{Status}
-use Rattle.sim_top.specs.declared.status.Status.TheVariants as status
-use Rattle.sim_talk_top.specs.declared.ending.Ending.{Ending}
+use Rattle.{sim_live.specs.Live.Lives, sim_report.specs.Refusals.refusal_text, sim_report.specs.declared.refusal.Refusal.TheVariants.List as OfList}
+use Rattle.{sim_relay.specs.Relays.IsRelay, sim_relay.specs.Relays.Relays, sim_relay.specs.declared.relaying.RelayRules.RelayRules, sim_store.specs.Files.File}
+use Rattle.std.specs.Prelude.{◌≡◌, ℕ, ◌<◌, ◌≤◌, ◌⊎◌, List, [], ◌∷◌, ⊤, Ok, Err, Option, Result}
+use Rattle.sim_base.specs.{Limits.IsFrom, declared.setup.Setup.Setup}
+use Rattle.sim_talk.specs.{Talks.Extends, Talks.IsBeginning, Talks.Passed, Talks.told, declared.fault.TalkFault.TalkFault}
+use Rattle.sim_talk_top.specs.{Endings.ended_as, Words.Talk, Words.to_live, Words.to_relay, declared.ending.Ending.Ending}
+use Rattle.sim_top.specs.{Outcome.Outcome, Outcome.session_match_in, Stops.ended_by, declared.status.Status.Status, declared.stop.Stop.Stop}
 use Rattle.sim_talk_top.specs.declared.ending.Ending.TheVariants as ending
-use Rattle.sim_talk_top.specs.Endings.{ended_as}
-use Rattle.sim_talk_top.specs.Words.{Talk, to_live, to_relay}
+use Rattle.sim_top.specs.declared.status.Status.TheVariants as status
+use Rattle.sim_top.specs.declared.stop.Stop.TheVariants as stop
 
 -- the talk over a session of a match took place
 abbrev pub TalkedOver : Setup → ℕ → Ending → Option (List Passed) → Option (List Passed) → Type 0

@@ -1,17 +1,11 @@
 //! The top call of talks: from the words to how it ended. The match is read before anything is told.
 
-ghost use Rattle.std.specs.Prelude.{◌≡◌, ◌≤◌, All, IfSome, IfOk, length, vec_capacity};
-ghost use Rattle.sim_base.specs.Limits.{IsSetup};
-ghost use Rattle.sim_client.specs.StageWords.{AreCleared};
-ghost use Rattle.sim_system.specs.Meanings.{HaveKinds};
-ghost use Rattle.sim_system.specs.RigWords.{systems_of};
-ghost use Rattle.sim_top.specs.Stops.{status_of, stop_text as text_of_stop};
-ghost use Rattle.sim_talk_top.specs.Endings.{ended_as};
-ghost use Rattle.sim_talk_top.specs.Talked.{TalksOf, TalkedOver, Refused, IsTalk, ReadsFor};
-ghost use Rattle.sim_talk_top.specs.Words.{talk_of};
+ghost use Rattle.{sim_base.specs.Limits.IsSetup, sim_system.specs.Meanings.HaveKinds, sim_system.specs.RigWords.systems_of};
+ghost use Rattle.{sim_client.specs.StageWords.AreCleared, sim_top.specs.Stops.status_of, sim_top.specs.Stops.stop_text as text_of_stop};
+ghost use Rattle.std.specs.Prelude.{◌≡◌, ◌≤◌, length, IfSome, IfOk, vec_capacity, All};
+ghost use Rattle.sim_talk_top.specs.{Endings.ended_as, Talked.IsTalk, Talked.ReadsFor, Talked.Refused, Talked.TalkedOver, Talked.TalksOf, Words.talk_of};
 
-use crate::ending::Ending;
-use crate::words::Asked;
+use crate::{Asked, Ending};
 use sim_base::Setup;
 use sim_live::live;
 use sim_orders::OrderTable;

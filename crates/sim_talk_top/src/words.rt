@@ -1,9 +1,8 @@
 //! The words of a talk, and how long a line of it may be.
 
 ghost use Rattle.std.specs.Prelude.{◌≡◌, ◌≤◌, IfSome, option_map};
+ghost use Rattle.sim_talk_top.specs.{Talked.IsTalk, Words.most_in, Words.number_in, Words.talk_by, Words.talk_of};
 ghost use Rattle.sim_top.specs.Words.{words_of};
-ghost use Rattle.sim_talk_top.specs.Talked.{IsTalk};
-ghost use Rattle.sim_talk_top.specs.Words.{talk_of, talk_by, most_in, number_in};
 
 use sim_relay::RelayRules;
 use sim_top::turn_of;

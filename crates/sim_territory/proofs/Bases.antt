@@ -1,20 +1,8 @@
 -- What entities give, by the obstructions of their templates.
-use Rattle.std.proofs.Common.{◌≡◌, ◌≢◌, ℕ, ◌+◌, ◌*◌, ◌-◌, ◌<◌, ◌≤◌, Bool, true, false, cond, List, [], ◌∷◌, length, get_or, Option, Some, None, refl, sym, ap, ◌∙◌, subst, ◌⊎◌, inl, inr, arith}
-use Rattle.std.specs.Prelude.{◌==◌, sum_by, slice_get, IfSome, option_and_then, option_map, unwrap_or}
-use Rattle.std.proofs.lemmas.Bool.{ne_eqb, cond-false}
-use Rattle.std.proofs.lemmas.Option.{slice_get_cases}
-use Rattle.std.proofs.lemmas.List.Sums.{sum_by-cons}
-use Rattle.std.proofs.lemmas.List.Elements.{All-get_or}
-use Rattle.sim_base.specs.declared.place.Cell.{Cell}
-use Rattle.sim_base.specs.declared.template.Base.{Base}
-use Rattle.sim_base.specs.declared.template.Template.{Template}
-use Rattle.sim_base.specs.declared.setup.Setup.{Setup}
-use Rattle.sim_base.specs.Limits.{IsSetup, IsTemplate, IsFrom}
-use Rattle.sim_base.specs.Steps.{octile}
-use Rattle.sim_trail.specs.declared.mark.Mark.{Mark}
-use Rattle.sim_territory.specs.declared.building.Building.{Building}
-use Rattle.sim_territory.specs.Influence.{base_of, reach_of, strength, share, influence}
-use Rattle.sim_territory.specs.Buildings.{IsBuildingOf, GivesNothing}
+use Rattle.sim_territory.proofs.Common.{base_of, Building, Cell, cond-false, GivesNothing, influence, inl, inr, IsBuildingOf, IsFrom, IsSetup, IsTemplate, Mark}
+use Rattle.sim_territory.proofs.Common.{ne_eqb, octile, reach_of, Setup, share, slice_get_cases, strength, subst, sum_by-cons, sym, Template, ◌∙◌}
+use Rattle.sim_territory.proofs.Common.{slice_get, Some, None, sum_by, Option, unwrap_or, option_map, option_and_then, refl, All-get_or, ap, arith, Base}
+use Rattle.sim_territory.proofs.Common.{◌≡◌, ℕ, ◌+◌, ◌-◌, ◌*◌, ◌<◌, ◌≤◌, Bool, true, false, cond, ◌≢◌, ◌⊎◌, List, [], ◌∷◌, length, get_or, IfSome, ◌==◌}
 
 -- both sides of an obstruction are short
 abbrev IsShort : Base → Type 0
@@ -23,9 +11,12 @@ IsShort base = IsFrom 1 16 base.width × IsFrom 1 16 base.depth
 base-short : (setup : Setup) (mark : Mark) (base : Base) → IsSetup setup → base_of setup mark ≡ Some base → IsShort base
 base-short setup mark base limits e = by (slice_get_cases setup.templates mark.template).1
   where
-    by : ((t : Template) × (mark.template < length setup.templates) × (slice_get setup.templates mark.template ≡ Some t) × (get_or setup.templates mark.template t ≡ t)) ⊎ ((length setup.templates ≤ mark.template) × (slice_get setup.templates mark.template ≡ None)) → IsShort base
+    by : ((t : Template) × (mark.template < length setup.templates) × (slice_get setup.templates mark.template ≡ Some t)
+        × (get_or setup.templates mark.template t ≡ t)) ⊎ ((length setup.templates ≤ mark.template) × (slice_get setup.templates mark.template ≡ None))
+        → IsShort base
     by (inl (t, lt, found, is)) =
-        let known : IsTemplate (length setup.templates) t = subst (IsTemplate (length setup.templates)) is (All-get_or (IsTemplate (length setup.templates)) setup.templates mark.template t lt limits.templates) in
+        let known : IsTemplate (length setup.templates) t = subst (IsTemplate (length setup.templates)) is
+        (All-get_or (IsTemplate (length setup.templates)) setup.templates mark.template t lt limits.templates) in
         let built : t.obstruct ≡ Some base = sym (ap (option_and_then (λ (t : Template). t.obstruct)) found) ∙ e in
         let short : IfSome (Some base) IsShort = subst (λ (o : Option Base). IfSome o IsShort) built known.obstruct in
         short
@@ -39,12 +30,14 @@ cond_none true n e = e
 cond_none false n e = refl
 
 pub none_gives : (setup : Setup) (mark : Mark) → base_of setup mark ≡ None → GivesNothing setup mark
-none_gives setup mark e player c from = cond_none (mark.owner == player) (strength setup mark c) (ap (λ (o : Option Base). unwrap_or (option_map (λ base. reach_of base - octile mark.cell c) o) 0) e)
+none_gives setup mark e player c from = cond_none (mark.owner == player) (strength setup mark c)
+    (ap (λ (o : Option Base). unwrap_or (option_map (λ base. reach_of base - octile mark.cell c) o) 0) e)
 
 pub gaia_gives : (setup : Setup) (mark : Mark) → mark.owner ≡ 0 → GivesNothing setup mark
 gaia_gives setup mark e player c from = cond-false (mark.owner == player) (strength setup mark c) 0 (ne_eqb mark.owner player (λ same. omega arith))
 
-pub built_gives : (setup : Setup) (mark : Mark) (base : Base) (b : Building) → IsSetup setup → base_of setup mark ≡ Some base → mark.owner ≢ 0 → b.owner ≡ mark.owner → b.cell ≡ mark.cell → b.reach ≡ reach_of base → IsBuildingOf setup mark b
+pub built_gives : (setup : Setup) (mark : Mark) (base : Base) (b : Building) → IsSetup setup → base_of setup mark ≡ Some base → mark.owner ≢ 0
+    → b.owner ≡ mark.owner → b.cell ≡ mark.cell → b.reach ≡ reach_of base → IsBuildingOf setup mark b
 built_gives setup mark base b limits e player owner cell reach =
     record {
       owner = owner;
@@ -78,5 +71,7 @@ sums-small : {X : Type 0} (f : X → ℕ) (most : ℕ) → ((x : X) → f x ≤ 
 sums-small f most each [] = omega arith
 sums-small f most each (x ∷ xs) = omega (arith, sum_by-cons f x xs, each x, sums-small f most each xs)
 
-pub influence-small : (setup : Setup) (marks : List Mark) (player : ℕ) (c : Cell) → IsSetup setup → length marks ≤ 4096 → influence setup marks player c ≤ 5242880
-influence-small setup marks player c limits few = omega (arith, sums-small (share setup player c) 1280 (λ mark. share-small setup player c mark limits) marks, few)
+pub influence-small : (setup : Setup) (marks : List Mark) (player : ℕ) (c : Cell) → IsSetup setup → length marks ≤ 4096 → influence setup marks player c ≤
+    5242880
+influence-small setup marks player c limits few =
+    omega (arith, sums-small (share setup player c) 1280 (λ mark. share-small setup player c mark limits) marks, few)

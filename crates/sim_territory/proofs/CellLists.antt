@@ -1,15 +1,8 @@
 -- Lists by z, then x: where a cell stands among the cells of a ground, and a list that has a function's value at each cell.
-use Rattle.std.proofs.Common.{◌≡◌, ℕ, ◌+◌, ◌*◌, ◌/◌, ◌%◌, ◌<◌, List, [], ◌∷◌, length, get_or, take, map, sym, ap, ◌∙◌, arith, zero-add, length-append, length-take, mod-lt, div-add-mod'}
-use Rattle.std.specs.List.{range_with_len, flat_map}
-use Rattle.std.proofs.Math.Nat.{div-lt_iff_lt-mul}
-use Rattle.std.proofs.lemmas.List.{length-map, get_or-map, same_lists, get_or_default}
-use Rattle.std.proofs.lemmas.List.Concat.{flat_map-cons, get_or-flat_map}
-use Rattle.std.proofs.lemmas.List.FromFn.{length-range_with_len, get_or-range_with_len, length-map-range_with_len, get_or-map-range_with_len}
-use Rattle.sim_base.specs.declared.place.Cell.{Cell}
-use Rattle.sim_base.specs.Places.{Size, cells_of}
-use Rattle.sim_base.specs.Steps.{IsOnGround}
-use Rattle.sim_grid.specs.Grids.{place_of}
-use Rattle.sim_grid.proofs.Beside.{place-below}
+use Rattle.sim_territory.proofs.Common.{div-add-mod', div-lt_iff_lt-mul, flat_map-cons, get_or-flat_map, get_or-map, get_or-map-range_with_len}
+use Rattle.sim_territory.proofs.Common.{get_or-range_with_len, get_or_default, IsOnGround, length-append, length-map, length-map-range_with_len}
+use Rattle.sim_territory.proofs.Common.{length-range_with_len, length-take, mod-lt, place-below, place_of, range_with_len, same_lists, Size, sym, zero-add, ◌∙◌}
+use Rattle.sim_territory.proofs.Common.{◌≡◌, ℕ, ◌+◌, ◌*◌, ◌/◌, ◌%◌, ◌<◌, List, [], ◌∷◌, map, length, get_or, take, flat_map, ap, arith, Cell, cells_of}
 
 -- the cells of row z
 abbrev row_of : ℕ → ℕ → List Cell
@@ -21,11 +14,19 @@ length-row_of width z = length-map-range_with_len (λ (x : ℕ). let c : Cell = 
 length-rows : (width : ℕ) (zs : List ℕ) → length (flat_map (row_of width) zs) ≡ length zs * width
 length-rows width [] = omega arith
 length-rows width (z ∷ zs) =
-    omega (arith, ap length (flat_map-cons (row_of width) z zs), length-append (row_of width z) (flat_map (row_of width) zs), length-row_of width z, length-rows width zs)
+    omega (
+      arith,
+      ap length (flat_map-cons (row_of width) z zs),
+      length-append (row_of width z) (flat_map (row_of width) zs),
+      length-row_of width z,
+      length-rows
+          width zs,
+    )
 
 pub length-cells_of : (size : Size) → length (cells_of size) ≡ size.width * size.depth
 length-cells_of size =
-    let rows : length (range_with_len 0 size.depth) * size.width ≡ size.depth * size.width = ap (λ (n : ℕ). n * size.width) (length-range_with_len 0 size.depth) in
+    let rows : length (range_with_len 0 size.depth) * size.width ≡ size.depth * size.width =
+    ap (λ (n : ℕ). n * size.width) (length-range_with_len 0 size.depth) in
     omega (arith, length-rows size.width (range_with_len 0 size.depth), rows)
 
 pub get_or-cells_of : (size : Size) (c d : Cell) → IsOnGround size c → get_or (cells_of size) (place_of size c) d ≡ c
@@ -33,7 +34,8 @@ get_or-cells_of size c d on =
     let zs = range_with_len 0 size.depth in
     let rows : c.z < length zs = omega (arith, length-range_with_len 0 size.depth, on.north) in
     let front : length (take c.z zs) ≡ c.z = omega (arith, length-take c.z zs) in
-    let before : length (flat_map (row_of size.width) (take c.z zs)) ≡ c.z * size.width = length-rows size.width (take c.z zs) ∙ ap (λ (n : ℕ). n * size.width) front in
+    let before : length (flat_map (row_of size.width) (take c.z zs)) ≡ c.z * size.width = length-rows size.width (take c.z zs) ∙
+    ap (λ (n : ℕ). n * size.width) front in
     let here : get_or zs c.z 0 ≡ c.z = get_or-range_with_len 0 size.depth c.z 0 on.north ∙ zero-add c.z in
     let short : c.x < length (row_of size.width (get_or zs c.z 0)) = omega (arith, length-row_of size.width (get_or zs c.z 0), on.east) in
     ap (λ (n : ℕ). get_or (cells_of size) (n + c.x) d) (sym before) ∙ get_or-flat_map (row_of size.width) zs c.z c.x 0 d rows short
@@ -52,7 +54,8 @@ cell_in-on size k wide lt =
     let turned : k < size.depth * size.width = omega arith in
     record { east = mod-lt k wide; north = (div-lt_iff_lt-mul {k = size.width} {x = k} {y = size.depth} wide).1 turned }
 
-pub mapped : {X : Type 0} (f : Cell → X) (size : Size) (xs : List X) (e : X) → 0 < size.width → length xs ≡ size.width * size.depth → ((c : Cell) → IsOnGround size c → get_or xs (place_of size c) e ≡ f c) → xs ≡ map f (cells_of size)
+pub mapped : {X : Type 0} (f : Cell → X) (size : Size) (xs : List X) (e : X) → 0 < size.width → length xs ≡ size.width * size.depth
+    → ((c : Cell) → IsOnGround size c → get_or xs (place_of size c) e ≡ f c) → xs ≡ map f (cells_of size)
 mapped {X = X} f size xs e wide full each =
     same_lists xs (map f (cells_of size)) (omega (arith, full, length-cells_of size, length-map (cells_of size) f)) (λ k d lt. at k d (omega (arith, full, lt)))
   where
@@ -62,11 +65,13 @@ mapped {X = X} f size xs e wide full each =
         let on = cell_in-on size k wide lt in
         let is = cell_in-place size k wide in
         get_or_default xs k d e (omega (arith, full, lt)) ∙ ap (λ (n : ℕ). get_or xs n e) (sym is) ∙ each c on
-        ∙ sym (get_or-map f (cells_of size) k c d (omega (arith, length-cells_of size, lt)) ∙ ap f (ap (λ (n : ℕ). get_or (cells_of size) n c) (sym is) ∙ get_or-cells_of size c c on))
+        ∙ sym (get_or-map f (cells_of size) k c d (omega (arith, length-cells_of size, lt)) ∙
+        ap f (ap (λ (n : ℕ). get_or (cells_of size) n c) (sym is) ∙ get_or-cells_of size c c on))
 
 -- the value at a cell stands at its place
 pub mapped_at : {X : Type 0} (f : Cell → X) (size : Size) (c : Cell) (d : X) → IsOnGround size c → get_or (map f (cells_of size)) (place_of size c) d ≡ f c
-mapped_at f size c d on = get_or-map f (cells_of size) (place_of size c) c d (omega (arith, length-cells_of size, place-below size c on)) ∙ ap f (get_or-cells_of size c c on)
+mapped_at f size c d on = get_or-map f (cells_of size) (place_of size c) c d (omega (arith, length-cells_of size, place-below size c on)) ∙
+    ap f (get_or-cells_of size c c on)
 
 pub length-mapped : {X : Type 0} (f : Cell → X) (size : Size) → length (map f (cells_of size)) ≡ size.width * size.depth
 length-mapped f size = length-map (cells_of size) f ∙ length-cells_of size

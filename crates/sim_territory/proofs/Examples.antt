@@ -1,14 +1,6 @@
 -- Worked examples: who holds the cells of small grounds, and which cells are rooted. Each value was worked out by hand.
-use Rattle.std.proofs.Common.{◌≡◌, ◌+◌, ℕ, Some, List, [], ◌∷◌, ◌++◌, replicate, refl, lit<}
-use Rattle.std.specs.Prelude.{codes}
-use Rattle.sim_base.specs.declared.place.Cell.{Cell}
-use Rattle.sim_base.specs.declared.template.Template.{Template}
-use Rattle.sim_base.specs.declared.setup.Setup.{Setup}
-use Rattle.sim_base.proofs.ExampleMatches.{hut, no_id}
-use Rattle.sim_trail.specs.declared.mark.Mark.{Mark}
-use Rattle.sim_territory.specs.Influence.{strength, influence}
-use Rattle.sim_territory.specs.Rooted.{first, on, roots_of, IsRooted}
-use Rattle.sim_territory.specs.Realms.{RealmOf, influences_in, holders_in}
+use Rattle.sim_territory.proofs.Common.{IsRooted, lit<, Mark, no_id, on, RealmOf, roots_of, Setup, strength, Template}
+use Rattle.sim_territory.proofs.Common.{◌≡◌, ℕ, ◌+◌, List, [], ◌∷◌, ◌++◌, replicate, Some, codes, refl, Cell, first, holders_in, hut, influence, influences_in}
 
 -- templates 0 to 2: a hall of one cell that trains itself, a hut of one cell, and a keep of two by two
 abbrev hall : Template

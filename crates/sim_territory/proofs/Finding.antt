@@ -1,29 +1,13 @@
 -- Holders are found anew, cell by cell and row by row.
-use Rattle.std.proofs.Common.{◌≡◌, ℕ, ◌+◌, ◌*◌, ◌<◌, ◌≤◌, List, length, set, refl, sym, ap, ◌∙◌, subst, ◌⊎◌, inl, inr, arith}
-use Rattle.std.proofs.lemmas.Bool.{cases_lt}
-use Rattle.std.proofs.lemmas.List.{get_or-set_same, get_or-set_other, length-set}
-use Rattle.sim_base.specs.declared.place.Cell.{Cell}
-use Rattle.sim_base.specs.declared.setup.Setup.{Setup}
-use Rattle.sim_base.specs.Places.{Size}
-use Rattle.sim_base.specs.Steps.{IsOnGround}
-use Rattle.sim_grid.specs.Grids.{place_of}
-use Rattle.sim_grid.proofs.Beside.{place-below, places-apart, same_or_not}
-use Rattle.sim_trail.specs.declared.mark.Mark.{Mark}
-use Rattle.sim_trail.specs.declared.shift.Shift.{Shift}
-use Rattle.sim_trail.specs.declared.shift.Shift.TheVariants.{Gone, Born}
-use Rattle.sim_territory.specs.declared.building.Building.{Building}
-use Rattle.sim_territory.specs.declared.sums.Sums.{Sums}
-use Rattle.sim_territory.specs.Influence.{share}
-use Rattle.sim_territory.specs.Buildings.{strength_of, SpansNear, IsBuildingOf, GivesNothing}
-use Rattle.sim_territory.specs.Holders.{holder_by}
-use Rattle.sim_territory.specs.Keeping.{holder_at, AreHolders}
-use Rattle.sim_territory.specs.Tables.{size_in, sum_at, IsPlaceIn, mark_in, leaving, coming, IsShifted}
-use Rattle.sim_territory.specs.Found.{IsInBlock, IsHeldRight, IsFoundOr, AreFound, GivesNoneAt, AreFoundNear}
-use Rattle.sim_territory.proofs.Holding.{holder_by-same}
-use Rattle.sim_territory.proofs.Moving.{size-shape}
-use Rattle.sim_territory.proofs.Shares.{share-weak, far-east, far-north, left_out}
+use Rattle.sim_territory.proofs.{Holding.holder_by-same, Moving.size-shape, Shares.far-east, Shares.far-north, Shares.left_out, Shares.share-weak}
+use Rattle.sim_territory.proofs.Common.{cases_lt, Cell, coming, get_or-set_other, get_or-set_same, GivesNoneAt, GivesNothing, Gone, holder_at, holder_by, inl}
+use Rattle.sim_territory.proofs.Common.{inr, IsBuildingOf, IsFoundOr, IsHeldRight, IsInBlock, IsOnGround, IsPlaceIn, IsShifted, leaving, length-set, Mark}
+use Rattle.sim_territory.proofs.Common.{mark_in, place-below, place_of, places-apart, same_or_not, Setup, share, Shift, Size, size_in, SpansNear, strength_of}
+use Rattle.sim_territory.proofs.Common.{subst, sum_at, Sums, sym, ◌∙◌}
+use Rattle.sim_territory.proofs.Common.{◌≡◌, ℕ, ◌+◌, ◌*◌, ◌<◌, ◌≤◌, ◌⊎◌, List, length, set, refl, ap, AreFound, AreFoundNear, AreHolders, arith, Born, Building}
 
-pub found_none : (sums : Sums) (columns rows : ℕ × ℕ) (holders : List ℕ) → ((c : Cell) → IsInBlock columns rows c → ⊥) → AreFound sums columns rows holders holders
+pub found_none : (sums : Sums) (columns rows : ℕ × ℕ) (holders : List ℕ) → ((c : Cell) → IsInBlock columns rows c → ⊥)
+    → AreFound sums columns rows holders holders
 found_none sums columns rows holders never = record { full = refl; each = λ c on. inr (refl, never c) }
 
 -- no cell is in columns, or in rows, that end where they begin
@@ -41,7 +25,8 @@ cell_at x z = record { x = x; z = z }
 is_cell : (c : Cell) (x z : ℕ) → c.x ≡ x → c.z ≡ z → c ≡ cell_at x z
 is_cell c x z e f = ap (λ (n : ℕ). cell_at n c.z) e ∙ ap (λ (n : ℕ). cell_at x n) f
 
-module _ (sums : Sums) (west x z : ℕ) (old mid : List ℕ) (done : AreFound sums (west, x) (z, z + 1) old mid) (on : IsOnGround (size_in sums) (cell_at x z)) (full : length old ≡ sums.width * sums.depth) where
+module _ (sums : Sums) (west x z : ℕ) (old mid : List ℕ) (done : AreFound sums (west, x) (z, z + 1) old mid) (on : IsOnGround (size_in sums) (cell_at x z))
+    (full : length old ≡ sums.width * sums.depth) where
   narrower : (c : Cell) → (c ≡ cell_at x z → ⊥) → IsInBlock (west, x + 1) (z, z + 1) c → IsInBlock (west, x) (z, z + 1) c
   narrower c ne in_it = by (cases_lt c.x x)
     where
@@ -49,7 +34,8 @@ module _ (sums : Sums) (west x z : ℕ) (old mid : List ℕ) (done : AreFound su
       by (inl lt) = record { west = in_it.west; east = lt; south = in_it.south; north = in_it.north }
       by (inr le) = let east = in_it.east in let south = in_it.south in let north = in_it.north in absurd (ne (is_cell c x z (omega arith) (omega arith)))
 
-  pub found_cell : (place holder : ℕ) → place ≡ place_of (size_in sums) (cell_at x z) → holder ≡ holder_by sums.players (λ player. sum_at sums player (cell_at x z)) → AreFound sums (west, x + 1) (z, z + 1) old (set mid place holder)
+  pub found_cell : (place holder : ℕ) → place ≡ place_of (size_in sums) (cell_at x z)
+      → holder ≡ holder_by sums.players (λ player. sum_at sums player (cell_at x z)) → AreFound sums (west, x + 1) (z, z + 1) old (set mid place holder)
   found_cell place holder at is =
       subst (λ (n : ℕ). AreFound sums (west, x + 1) (z, z + 1) old (set mid n holder)) (sym at)
       (record { full = length-set mid here holder ∙ done.full; each = λ c there. by c there (same_or_not c (cell_at x z)) (done.each c there) })
@@ -60,20 +46,28 @@ module _ (sums : Sums) (west x z : ℕ) (old mid : List ℕ) (done : AreFound su
       inside : here < length mid
       inside = omega (arith, done.full, full, place-below (size_in sums) (cell_at x z) on)
 
-      by : (c : Cell) → IsOnGround (size_in sums) c → (c ≡ cell_at x z) ⊎ (c ≡ cell_at x z → ⊥) → IsFoundOr sums old mid c (IsInBlock (west, x) (z, z + 1) c → ⊥) →
+      by : (c : Cell) → IsOnGround (size_in sums) c → (c ≡ cell_at x z) ⊎ (c ≡ cell_at x z → ⊥)
+          → IsFoundOr sums old mid c (IsInBlock (west, x) (z, z + 1) c → ⊥) →
           IsFoundOr sums old (set mid here holder) c (IsInBlock (west, x + 1) (z, z + 1) c → ⊥)
       by c there (inl e) before = inl (subst (λ (v : Cell). IsHeldRight sums (set mid here holder) v) (sym e) (get_or-set_same mid here holder 0 inside ∙ is))
-      by c there (inr ne) (inl right) = inl (get_or-set_other mid here (place_of (size_in sums) c) holder 0 (places-apart (size_in sums) c (cell_at x z) there on ne) ∙ right)
+      by c there (inr ne) (inl right) =
+          inl (get_or-set_other mid here (place_of (size_in sums) c) holder 0 (places-apart (size_in sums) c (cell_at x z) there on ne) ∙ right)
       by c there (inr ne) (inr (same, apart)) =
-          inr (get_or-set_other mid here (place_of (size_in sums) c) holder 0 (places-apart (size_in sums) c (cell_at x z) there on ne) ∙ same, λ in_it. apart (narrower c ne in_it))
+          inr (
+            get_or-set_other mid here (place_of (size_in sums) c) holder 0 (places-apart (size_in sums) c (cell_at x z) there on ne) ∙
+                same,
+            λ in_it. apart (narrower c ne in_it),
+          )
 
 -- ---- one row more
 
-pub found_row : (sums : Sums) (columns : ℕ × ℕ) (south z : ℕ) (old mid new : List ℕ) → AreFound sums columns (south, z) old mid → AreFound sums columns (z, z + 1) mid new → AreFound sums columns (south, z + 1) old new
+pub found_row : (sums : Sums) (columns : ℕ × ℕ) (south z : ℕ) (old mid new : List ℕ) → AreFound sums columns (south, z) old mid
+    → AreFound sums columns (z, z + 1) mid new → AreFound sums columns (south, z + 1) old new
 found_row sums columns south z old mid new first second =
     record { full = second.full ∙ first.full; each = λ c on. by c (second.each c on) (first.each c on) }
   where
-    by : (c : Cell) → IsFoundOr sums mid new c (IsInBlock columns (z, z + 1) c → ⊥) → IsFoundOr sums old mid c (IsInBlock columns (south, z) c → ⊥) → IsFoundOr sums old new c (IsInBlock columns (south, z + 1) c → ⊥)
+    by : (c : Cell) → IsFoundOr sums mid new c (IsInBlock columns (z, z + 1) c → ⊥) → IsFoundOr sums old mid c (IsInBlock columns (south, z) c → ⊥)
+        → IsFoundOr sums old new c (IsInBlock columns (south, z + 1) c → ⊥)
     by c (inl right) before = inl right
     by c (inr (same, out)) (inl right) = inl (same ∙ right)
     by c (inr (same, out)) (inr (was, before)) = inr (same ∙ was, λ in_it. either in_it (cases_lt c.z z))
@@ -84,12 +78,14 @@ found_row sums columns south z old mid new first second =
 
 -- ---- within reach of an entity
 
-pub found_near : (setup : Setup) (mark : Mark) (b : Building) (sums : Sums) (columns rows : ℕ × ℕ) (old new : List ℕ) → IsBuildingOf setup mark b → SpansNear b.cell.x b.reach sums.width columns → SpansNear b.cell.z b.reach sums.depth rows →
+pub found_near : (setup : Setup) (mark : Mark) (b : Building) (sums : Sums) (columns rows : ℕ × ℕ) (old new : List ℕ) → IsBuildingOf setup mark b
+    → SpansNear b.cell.x b.reach sums.width columns → SpansNear b.cell.z b.reach sums.depth rows →
     AreFound sums columns rows old new → AreFoundNear setup mark sums old new
 found_near setup mark b sums columns rows old new is spans_x spans_z found =
     record { full = found.full; each = λ c on. by c on (found.each c on) }
   where
-    weak : (c : Cell) → IsOnGround (size_in sums) c → (IsInBlock columns rows c → ⊥) → (c.x < columns.0) ⊎ (columns.0 ≤ c.x) → (c.x < columns.1) ⊎ (columns.1 ≤ c.x) → (c.z < rows.0) ⊎ (rows.0 ≤ c.z) → (c.z < rows.1) ⊎ (rows.1 ≤ c.z) →
+    weak : (c : Cell) → IsOnGround (size_in sums) c → (IsInBlock columns rows c → ⊥) → (c.x < columns.0) ⊎ (columns.0 ≤ c.x) → (c.x < columns.1)
+        ⊎ (columns.1 ≤ c.x) → (c.z < rows.0) ⊎ (rows.0 ≤ c.z) → (c.z < rows.1) ⊎ (rows.1 ≤ c.z) →
         strength_of b c ≡ 0
     weak c on out (inl lt) x z w = far-east b c (left_out b.cell.x b.reach sums.width c.x columns spans_x on.east (inl lt))
     weak c on out (inr le) (inr past) z w = far-east b c (left_out b.cell.x b.reach sums.width c.x columns spans_x on.east (inr past))
@@ -97,7 +93,8 @@ found_near setup mark b sums columns rows old new is spans_x spans_z found =
     weak c on out (inr le) (inl lt) (inr from) (inr past) = far-north b c (left_out b.cell.z b.reach sums.depth c.z rows spans_z on.north (inr past))
     weak c on out (inr le) (inl lt) (inr from) (inl before) = absurd (out (record { west = le; east = lt; south = from; north = before }))
 
-    by : (c : Cell) → IsOnGround (size_in sums) c → IsFoundOr sums old new c (IsInBlock columns rows c → ⊥) → IsFoundOr sums old new c (GivesNoneAt setup mark c)
+    by : (c : Cell) → IsOnGround (size_in sums) c → IsFoundOr sums old new c (IsInBlock columns rows c → ⊥)
+        → IsFoundOr sums old new c (GivesNoneAt setup mark c)
     by c on (inl right) = inl right
     by c on (inr (same, out)) =
         let none = weak c on out (cases_lt c.x columns.0) (cases_lt c.x columns.1) (cases_lt c.z rows.0) (cases_lt c.z rows.1) in
@@ -108,14 +105,16 @@ near_nothing setup mark sums holders none = record { full = refl; each = λ c on
 
 -- ---- the holders of a table
 
-pub all_found : (sums : Sums) (old new : List ℕ) → length old ≡ sums.width * sums.depth → AreFound sums (0, sums.width) (0, sums.depth) old new → AreHolders sums new
+pub all_found : (sums : Sums) (old new : List ℕ) → length old ≡ sums.width * sums.depth → AreFound sums (0, sums.width) (0, sums.depth) old new
+    → AreHolders sums new
 all_found sums old new full found = record { full = found.full ∙ full; each = λ c on. by c on (found.each c on) }
   where
     by : (c : Cell) → IsOnGround (size_in sums) c → IsFoundOr sums old new c (IsInBlock (0, sums.width) (0, sums.depth) c → ⊥) → IsHeldRight sums new c
     by c on (inl right) = right
     by c on (inr (same, out)) = absurd (out (record { west = omega arith; east = on.east; south = omega arith; north = on.north }))
 
-none_shifts : (setup : Setup) (player : ℕ) (c : Cell) (shift : Shift) → share setup player c (mark_in shift) ≡ 0 → (leaving setup player c shift ≡ 0) × (coming setup player c shift ≡ 0)
+none_shifts : (setup : Setup) (player : ℕ) (c : Cell) (shift : Shift) → share setup player c (mark_in shift) ≡ 0 → (leaving setup player c shift ≡ 0)
+    × (coming setup player c shift ≡ 0)
 none_shifts setup player c (Gone mark) e = (e, refl)
 none_shifts setup player c (Born mark) e = (refl, e)
 
@@ -138,5 +137,6 @@ module _ (setup : Setup) (shift : Shift) (old new : Sums) (shifted : IsShifted s
       by c on (inl right) = right
       by c on (inr (same, none)) =
           same ∙ ap (λ (s : Size). holder_at s holders c) size_is ∙ are.each c on
-          ∙ holder_by-same old.players (λ player. sum_at old player c) (λ player. sum_at new player c) (λ player a b. kept player c (record { least = a; most = b; ground = on }) (none player a))
+          ∙ holder_by-same old.players (λ player. sum_at old player c) (λ player. sum_at new player c)
+          (λ player a b. kept player c (record { least = a; most = b; ground = on }) (none player a))
           ∙ ap (λ (n : ℕ). holder_by n (λ player. sum_at new player c)) (sym shifted.shape.players)

@@ -1,17 +1,9 @@
 -- Why the flood comes to just the cells that are reached.
-use Rattle.std.proofs.Common.{◌≡◌, ◌≢◌, ℕ, ◌+◌, ◌<◌, ◌≤◌, Bool, true, List, [], ◌∷◌, ◌++◌, Contains, Some, refl, sym, ap, ◌∙◌, subst, ◌⊎◌, ⊎_elim, inl, inr, arith, suc, length, length-append}
-use Rattle.std.specs.Prelude.{not, count_by}
-use Rattle.std.proofs.Math.Nat.{eq-or-lt_of_le}
-use Rattle.std.proofs.lemmas.List.Elements.{Contains-append_left, Contains-push, Contains-push_cases}
-use Rattle.sim_base.specs.declared.place.Cell.{Cell}
-use Rattle.sim_base.specs.Places.{Size}
-use Rattle.sim_base.specs.Steps.{IsOnGround, neighbour}
-use Rattle.sim_laws.proofs.Neighbours.{neighbour-on}
-use Rattle.sim_grid.proofs.Beside.{same_or_not}
-use Rattle.sim_territory.specs.declared.flood.Flood.{Flood}
-use Rattle.sim_territory.specs.Keeping.{holder_at}
-use Rattle.sim_territory.specs.Rooted.{HeldGround, IsHeldStep, IsReachedFrom, first, on, flag_at}
-use Rattle.sim_territory.specs.Floods.{ground_size, IsWet, Waits, ground_of, work_left, IsWetted, Wets, IsStayed, IsStepped, StepsOn, Spreads, AllWait, Fills, IsWetAt}
+use Rattle.sim_territory.proofs.Common.{AllWait, ap, arith, Cell, Contains-append_left, Contains-push, Contains-push_cases, eq-or-lt_of_le, Fills, first}
+use Rattle.sim_territory.proofs.Common.{IsStayed, IsStepped, IsWet, IsWetAt, IsWetted, length-append, neighbour, neighbour-on, on, same_or_not, Size, Spreads}
+use Rattle.sim_territory.proofs.Common.{StepsOn, subst, sym, Waits, Wets, work_left, ⊎_elim, ◌∙◌}
+use Rattle.sim_territory.proofs.Common.{flag_at, Flood, ground_of, ground_size, HeldGround, holder_at, inl, inr, IsHeldStep, IsOnGround, IsReachedFrom}
+use Rattle.sim_territory.proofs.Common.{◌≡◌, ℕ, suc, ◌+◌, ◌<◌, ◌≤◌, Bool, true, not, ◌≢◌, ◌⊎◌, List, [], ◌∷◌, ◌++◌, length, Some, Contains, count_by, refl}
 
 -- ---- one cell
 
@@ -78,7 +70,8 @@ spread_begins ground flood from =
       all = λ e step lt. absurd (omega arith);
     }
 
-module _ (ground : HeldGround) (old mid new : Flood) (from : Cell) (which : ℕ) (straight : which < 4) (size_is : ground_size old ≡ ground.size) (before : Spreads ground old mid from which) where
+module _ (ground : HeldGround) (old mid new : Flood) (from : Cell) (which : ℕ) (straight : which < 4) (size_is : ground_size old ≡ ground.size)
+    (before : Spreads ground old mid from which) where
   stayed : IsStayed ground mid new from which → Spreads ground old new from (which + 1)
   stayed s =
       subst (λ (f : Flood). Spreads ground old f from (which + 1)) (sym s.same)
@@ -153,7 +146,8 @@ module _ (ground : HeldGround) (old mid new : Flood) (from : Cell) (which : ℕ)
   spread_more (inl s) = stayed s
   spread_more (inr s) = stepped s
 
-pub spread_ends : (ground : HeldGround) (old new : Flood) (from : Cell) (which : ℕ) → 4 ≤ which → Spreads ground old new from which → Spreads ground old new from 4
+pub spread_ends : (ground : HeldGround) (old new : Flood) (from : Cell) (which : ℕ) → 4 ≤ which → Spreads ground old new from which
+    → Spreads ground old new from 4
 spread_ends ground old new from which all s =
     record {
       size = s.size;
@@ -250,7 +244,8 @@ module _ (old mid : Flood) (from : Cell) (taken : IsTaken old mid from) where
       wet c (inl h) = let before = taken-waits c h in s.keeps c (f.on_ground c before) (wet-taken c (f.wet c before))
       wet c (inr (there, h)) = h
 
-      closed : (c : Cell) → IsOnGround ground.size c → IsWet mid c ⊎ (Waits new c × IsHeldStep ground from c) → Waits new c ⊎ ((e : Cell) → IsHeldStep ground c e → IsWet new e)
+      closed : (c : Cell) → IsOnGround ground.size c → IsWet mid c ⊎ (Waits new c × IsHeldStep ground from c) → Waits new c
+          ⊎ ((e : Cell) → IsHeldStep ground c e → IsWet new e)
       closed c there (inr (h, step)) = inl h
       closed c there (inl h) = by (f.closed c there (taken-wet c h))
         where
@@ -263,20 +258,24 @@ module _ (old mid : Flood) (from : Cell) (taken : IsTaken old mid from) where
           by (inr g) = inr (λ e step. s.keeps e (neighbour-on ground.size c e step.which step.leads) (wet-taken e (g e step)))
 
 -- the next step of the flood
-pub filling_next : {mid : Flood} (begun old new : Flood) (from : Cell) (holders : List ℕ) → Spreads (ground_of mid holders) mid new from 4 → IsTaken old mid from → Filling (ground_of begun holders) begun old → Filling (ground_of begun holders) begun new
+pub filling_next : {mid : Flood} (begun old new : Flood) (from : Cell) (holders : List ℕ) → Spreads (ground_of mid holders) mid new from 4
+    → IsTaken old mid from → Filling (ground_of begun holders) begun old → Filling (ground_of begun holders) begun new
 filling_next {mid = mid} begun old new from holders s taken f =
     let same : ground_of mid holders ≡ ground_of begun holders = ground-same begun mid holders (taken-size old mid from taken ∙ f.size) in
     filling_more old mid from taken (ground_of begun holders) begun new f (subst (λ (g : HeldGround). Spreads g mid new from 4) same s)
 
-pub taken_less : {mid : Flood} {ground : HeldGround} (old new : Flood) (from : Cell) → Spreads ground mid new from 4 → IsTaken old mid from → work_left new < work_left old
-taken_less {mid = mid} old new from s taken = omega (arith, s.less, ap (count_by not) taken.flags, ap length taken.waiting, length-append mid.waiting.items (from ∷ []))
+pub taken_less : {mid : Flood} {ground : HeldGround} (old new : Flood) (from : Cell) → Spreads ground mid new from 4 → IsTaken old mid from
+    → work_left new < work_left old
+taken_less {mid = mid} old new from s taken =
+    omega (arith, s.less, ap (count_by not) taken.flags, ap length taken.waiting, length-append mid.waiting.items (from ∷ []))
 
 nothing_in : (c : Cell) → Contains [] c → ⊥
 nothing_in c (k, h, is) = omega arith
 
 -- where no cell waits, all that are reached are wet
 module _ (ground : HeldGround) (begun flood : Flood) (none : flood.waiting.items ≡ []) (f : Filling ground begun flood) where
-  follow : (b c : Cell) → IsOnGround ground.size b × IsWet flood b → IsHeldStep ground b c → Waits flood b ⊎ ((e : Cell) → IsHeldStep ground b e → IsWet flood e) → IsWet flood c
+  follow : (b c : Cell) → IsOnGround ground.size b × IsWet flood b → IsHeldStep ground b c → Waits flood b
+      ⊎ ((e : Cell) → IsHeldStep ground b e → IsWet flood e) → IsWet flood c
   follow b c h step (inl w) = absurd (nothing_in b (subst (λ (xs : List Cell). Contains xs b) none w))
   follow b c h step (inr g) = g c step
 
@@ -291,7 +290,8 @@ module _ (ground : HeldGround) (begun flood : Flood) (none : flood.waiting.items
 
 -- ---- two grounds with the same holders
 
-module _ (ground other : HeldGround) (F G : Cell → Type 0) (size_is : ground.size ≡ other.size) (holders : (c : Cell) → IsOnGround ground.size c → ground.holder c ≡ other.holder c) (on_ground : (c : Cell) → F c → IsOnGround ground.size c) (turn : (c : Cell) → F c → G c) where
+module _ (ground other : HeldGround) (F G : Cell → Type 0) (size_is : ground.size ≡ other.size) (holders : (c : Cell) → IsOnGround ground.size c
+    → ground.holder c ≡ other.holder c) (on_ground : (c : Cell) → F c → IsOnGround ground.size c) (turn : (c : Cell) → F c → G c) where
   reached-on : {c : Cell} → IsReachedFrom ground F c → IsOnGround ground.size c
   reached-on (first {c = c} h) = on_ground c h
   reached-on (on {b = b} {c = c} r step) = neighbour-on ground.size b c step.which step.leads
@@ -324,13 +324,15 @@ wet_none flood none dry =
     never : (c : Cell) → Waits flood c → ⊥
     never c h = nothing_in c (subst (λ (xs : List Cell). Contains xs c) none h)
 
-pub wet_more : (cells : List Cell) (old new : Flood) (cell : Cell) → IsOnGround (ground_size old) cell → IsWetAt cells old → Wets old new cell → IsWetAt (cells ++ cell ∷ []) new
+pub wet_more : (cells : List Cell) (old new : Flood) (cell : Cell) → IsOnGround (ground_size old) cell → IsWetAt cells old → Wets old new cell
+    → IsWetAt (cells ++ cell ∷ []) new
 wet_more cells old new cell cell_on at wets =
     record {
       wait = record {
         on = λ c h. subst (λ (s : Size). IsOnGround s c) (sym (wets-size old new cell wets)) (on_old c (wets-waits old new cell c wets h));
         wet = λ c h. wet c (wets-waits old new cell c wets h);
-        waits = λ c there h. let back = subst (λ (s : Size). IsOnGround s c) (wets-size old new cell wets) there in waits c back (wets-comes old new cell c wets back h);
+        waits = λ c there h. let back = subst (λ (s : Size). IsOnGround s c) (wets-size old new cell wets) there in
+            waits c back (wets-comes old new cell c wets back h);
       };
       sound = λ c h. sound c (wets-waits old new cell c wets h);
       all = λ c h. all c (Contains-push_cases cells cell c h);

@@ -1,20 +1,9 @@
 -- The shifts of a trail are followed one by one.
-use Rattle.std.proofs.Common.{◌≡◌, ℕ, ◌+◌, ◌<◌, ◌≤◌, Bool, true, false, List, length, get_or, take, refl, sym, subst, arith}
-use Rattle.std.proofs.lemmas.List.{take_all}
-use Rattle.std.proofs.lemmas.List.Sums.{sum_by_more, sum_by_more_le}
-use Rattle.std.proofs.lemmas.List.Elements.{All-get_or}
-use Rattle.sim_base.specs.declared.place.Cell.{Cell}
-use Rattle.sim_base.specs.declared.setup.Setup.{Setup}
-use Rattle.sim_base.specs.Places.{Size}
-use Rattle.sim_base.specs.Steps.{IsOnGround}
-use Rattle.sim_trail.specs.declared.mark.Mark.{Mark}
-use Rattle.sim_trail.specs.declared.shift.Shift.{Shift}
-use Rattle.sim_trail.specs.declared.shift.Shift.TheVariants.{Gone, Born}
-use Rattle.sim_territory.specs.declared.building.Building.{Building}
-use Rattle.sim_territory.specs.declared.sums.Sums.{Sums}
-use Rattle.sim_territory.specs.Buildings.{share_of, IsBuildingOf, GivesNothing}
-use Rattle.sim_territory.specs.Tables.{size_in, HasShapeOf, IsPlaceIn, SumsMove, MaySumsMove, IsMarkIn, mark_in, share_by, leaving, coming, FitsShift, IsShifted, FitShifts, AreShifted}
-use Rattle.sim_territory.proofs.Moving.{shape-same, shape-chain, size-shape, place-later, place-before, sums_none, sums_same, may_same}
+use Rattle.sim_territory.proofs.Common.{Building, Cell, coming, FitShifts, FitsShift, GivesNothing, Gone, HasShapeOf, IsBuildingOf, IsMarkIn, IsOnGround}
+use Rattle.sim_territory.proofs.Common.{IsPlaceIn, IsShifted, leaving, Mark, mark_in, MaySumsMove, Setup, share_by, share_of, Shift, Size, size_in, subst}
+use Rattle.sim_territory.proofs.Common.{sum_by_more, sum_by_more_le, Sums, SumsMove, sym, take_all}
+use Rattle.sim_territory.proofs.Common.{◌≡◌, ℕ, ◌+◌, ◌<◌, ◌≤◌, Bool, true, false, List, length, get_or, take, refl, All-get_or, AreShifted, arith, Born}
+use Rattle.sim_territory.proofs.Moving.{may_same, place-before, place-later, shape-chain, shape-same, size-shape, sums_none, sums_same}
 
 -- ---- one entity
 
@@ -38,20 +27,24 @@ nothing_moves setup mark comes sums none = sums_none comes (share_by setup mark)
 
 -- ---- one shift
 
-pub gone_shifts : (setup : Setup) (mark : Mark) (shift : Shift) (old new : Sums) → shift ≡ Gone mark → SumsMove false (share_by setup mark) old new → IsShifted setup shift old new
+pub gone_shifts : (setup : Setup) (mark : Mark) (shift : Shift) (old new : Sums) → shift ≡ Gone mark → SumsMove false (share_by setup mark) old new
+    → IsShifted setup shift old new
 gone_shifts setup mark shift old new e moved =
     subst (λ (s : Shift). IsShifted setup s old new) (sym e)
     (record { shape = moved.shape; each = λ player c at. let step = moved.each player c at in omega arith })
 
-pub born_shifts : (setup : Setup) (mark : Mark) (shift : Shift) (old new : Sums) → shift ≡ Born mark → SumsMove true (share_by setup mark) old new → IsShifted setup shift old new
+pub born_shifts : (setup : Setup) (mark : Mark) (shift : Shift) (old new : Sums) → shift ≡ Born mark → SumsMove true (share_by setup mark) old new
+    → IsShifted setup shift old new
 born_shifts setup mark shift old new e moved =
     subst (λ (s : Shift). IsShifted setup s old new) (sym e)
     (record { shape = moved.shape; each = λ player c at. let step = moved.each player c at in omega arith })
 
-pub gone_may : (setup : Setup) (mark : Mark) (shift : Shift) (sums : Sums) → shift ≡ Gone mark → FitsShift setup shift sums → MaySumsMove false (share_by setup mark) sums
+pub gone_may : (setup : Setup) (mark : Mark) (shift : Shift) (sums : Sums) → shift ≡ Gone mark → FitsShift setup shift sums
+    → MaySumsMove false (share_by setup mark) sums
 gone_may setup mark shift sums e fits = (subst (λ (s : Shift). FitsShift setup s sums) e fits).there
 
-pub born_may : (setup : Setup) (mark : Mark) (shift : Shift) (sums : Sums) → shift ≡ Born mark → FitsShift setup shift sums → MaySumsMove true (share_by setup mark) sums
+pub born_may : (setup : Setup) (mark : Mark) (shift : Shift) (sums : Sums) → shift ≡ Born mark → FitsShift setup shift sums
+    → MaySumsMove true (share_by setup mark) sums
 born_may setup mark shift sums e fits = (subst (λ (s : Shift). FitsShift setup s sums) e fits).room
 
 pub gone_mark : (setup : Setup) (mark : Mark) (shift : Shift) (sums : Sums) → shift ≡ Gone mark → FitsShift setup shift sums → IsMarkIn sums mark
@@ -72,7 +65,8 @@ mark_later old new mark shape is =
 pub shifts_begin : (setup : Setup) (shifts : List Shift) (sums : Sums) → AreShifted setup (take 0 shifts) sums sums
 shifts_begin setup shifts sums = record { shape = shape-same sums; each = λ player c at. refl }
 
-module _ (setup : Setup) (shifts : List Shift) (old mid : Sums) (i : ℕ) (d : Shift) (below : i < length shifts) (done : AreShifted setup (take i shifts) old mid) where
+module _ (setup : Setup) (shifts : List Shift) (old mid : Sums) (i : ℕ) (d : Shift) (below : i < length shifts)
+    (done : AreShifted setup (take i shifts) old mid) where
   pub shift_fits : FitShifts setup shifts old → FitsShift setup (get_or shifts i d) mid
   shift_fits fits =
       record {
@@ -103,5 +97,6 @@ module _ (setup : Setup) (shifts : List Shift) (old mid : Sums) (i : ℕ) (d : S
             omega arith;
       }
 
-pub shifts_followed : (setup : Setup) (shifts : List Shift) (old new : Sums) (i : ℕ) → length shifts ≤ i → AreShifted setup (take i shifts) old new → AreShifted setup shifts old new
+pub shifts_followed : (setup : Setup) (shifts : List Shift) (old new : Sums) (i : ℕ) → length shifts ≤ i → AreShifted setup (take i shifts) old new
+    → AreShifted setup shifts old new
 shifts_followed setup shifts old new i all done = subst (λ (xs : List Shift). AreShifted setup xs old new) (take_all i shifts all) done

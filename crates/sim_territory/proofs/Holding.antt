@@ -1,16 +1,15 @@
 -- The holder of a cell is found by looking at one player after another.
-use Rattle.std.proofs.Common.{◌≡◌, ℕ, zero, suc, ◌+◌, ◌<◌, ◌≤◌, Bool, true, false, cond, Option, Some, None, refl, sym, ap, ◌∙◌, subst, ◌⊎◌, ◌↔◌, inl, inr, arith}
-use Rattle.std.specs.Prelude.{◌&&◌, nat_lt, nat_le, find, unwrap_or}
-use Rattle.std.specs.List.{range_with_len, list_all}
-use Rattle.std.proofs.Math.Nat.{eq-or-lt_of_le}
-use Rattle.std.proofs.lemmas.Bool.{cases_lt, lt-ltb, le-ltb, le-leb, lt-leb, and_from, and_left, and_right, cond-true, cond-false}
-use Rattle.sim_territory.specs.Holders.{has_most, holder_by, IsHolder}
+use Rattle.sim_territory.proofs.Common.{holder_by, inl, inr, IsHolder, le-leb, le-ltb, list_all, lt-leb, lt-ltb, range_with_len, subst, sym, ◌∙◌}
+use Rattle.sim_territory.proofs.Common.{unwrap_or, refl, and_from, and_left, and_right, ap, arith, cases_lt, cond-false, cond-true, eq-or-lt_of_le, has_most}
+use Rattle.sim_territory.proofs.Common.{◌≡◌, ℕ, zero, suc, ◌+◌, ◌<◌, ◌≤◌, Bool, true, false, cond, ◌&&◌, ◌⊎◌, ◌↔◌, nat_lt, nat_le, Some, None, find, Option}
 
 -- ---- the first number of a range that passes a test
 
-find-range : (test : ℕ → Bool) (a n h : ℕ) → a ≤ h → h < a + n → test h ≡ true → ((k : ℕ) → a ≤ k → k < h → test k ≡ false) → find test (range_with_len a n) ≡ Some h
+find-range : (test : ℕ → Bool) (a n h : ℕ) → a ≤ h → h < a + n → test h ≡ true → ((k : ℕ) → a ≤ k → k < h → test k ≡ false) → find test (range_with_len a n) ≡
+    Some h
 find-range test a zero h le lt passes fails = absurd (omega arith)
-find-range test a (suc n) h le lt passes fails = by (eq-or-lt_of_le le) (λ l. find-range test (a + 1) n h (omega arith) (omega arith) passes (λ k from below. fails k (omega arith) below))
+find-range test a (suc n) h le lt passes fails =
+    by (eq-or-lt_of_le le) (λ l. find-range test (a + 1) n h (omega arith) (omega arith) passes (λ k from below. fails k (omega arith) below))
   where
     by : (a ≡ h) ⊎ (a < h) → (a < h → find test (range_with_len (a + 1) n) ≡ Some h) → cond (test a) (Some a) (find test (range_with_len (a + 1) n)) ≡ Some h
     by (inl e) rest = cond-true (test a) (Some a) (find test (range_with_len (a + 1) n)) (ap test e ∙ passes) ∙ ap Some e
@@ -19,12 +18,14 @@ find-range test a (suc n) h le lt passes fails = by (eq-or-lt_of_le le) (λ l. f
 find-range_none : (test : ℕ → Bool) (a n : ℕ) → ((k : ℕ) → a ≤ k → k < a + n → test k ≡ false) → find test (range_with_len a n) ≡ None
 find-range_none test a zero fails = refl
 find-range_none test a (suc n) fails =
-    cond-false (test a) (Some a) (find test (range_with_len (a + 1) n)) (fails a (omega arith) (omega arith)) ∙ find-range_none test (a + 1) n (λ k from below. fails k (omega arith) (omega arith))
+    cond-false (test a) (Some a) (find test (range_with_len (a + 1) n)) (fails a (omega arith) (omega arith)) ∙
+    find-range_none test (a + 1) n (λ k from below. fails k (omega arith) (omega arith))
 
 list_all-range : (test : ℕ → Bool) (a n : ℕ) → ((k : ℕ) → a ≤ k → k < a + n → test k ≡ true) → list_all test (range_with_len a n) ≡ true
 list_all-range test a zero passes = refl
 list_all-range test a (suc n) passes =
-    and_from (test a) (list_all test (range_with_len (a + 1) n)) (passes a (omega arith) (omega arith)) (list_all-range test (a + 1) n (λ k from below. passes k (omega arith) (omega arith)))
+    and_from (test a) (list_all test (range_with_len (a + 1) n)) (passes a (omega arith) (omega arith))
+    (list_all-range test (a + 1) n (λ k from below. passes k (omega arith) (omega arith)))
 
 list_all-range_none : (test : ℕ → Bool) (a n k : ℕ) → a ≤ k → k < a + n → test k ≡ false → list_all test (range_with_len a n) ≡ false
 list_all-range_none test a zero k le lt fails = absurd (omega arith)
@@ -80,7 +81,8 @@ IsBestBefore f player holder most = IsNobodyBefore f player holder most ⊎ IsFi
 pub best_begins : (f : ℕ → ℕ) → IsBestBefore f 1 0 0
 best_begins f = inl (record { none = refl; zero_is = refl; all = λ k from below. absurd (omega arith) })
 
-pub best_takes : (f : ℕ → ℕ) (player holder most influence : ℕ) → 1 ≤ player → influence ≡ f player → most < influence → IsBestBefore f player holder most → IsBestBefore f (player + 1) player influence
+pub best_takes : (f : ℕ → ℕ) (player holder most influence : ℕ) → 1 ≤ player → influence ≡ f player → most < influence → IsBestBefore f player holder most
+    → IsBestBefore f (player + 1) player influence
 best_takes f player holder most influence from is more before =
     inr (record {
       least = from;
@@ -99,7 +101,8 @@ best_takes f player holder most influence from is more before =
     greatest best k a (inl e) = let same : k ≡ player = omega arith in let at : f k ≡ f player = ap f same in omega arith
     greatest best k a (inr l) = let less = lower best k a (omega arith) in omega arith
 
-pub best_keeps : (f : ℕ → ℕ) (player holder most influence : ℕ) → influence ≡ f player → influence ≤ most → IsBestBefore f player holder most → IsBestBefore f (player + 1) holder most
+pub best_keeps : (f : ℕ → ℕ) (player holder most influence : ℕ) → influence ≡ f player → influence ≤ most → IsBestBefore f player holder most
+    → IsBestBefore f (player + 1) holder most
 best_keeps f player holder most influence is less (inl nobody) =
     inl (record { none = nobody.none; zero_is = nobody.zero_is; all = λ k a b. at k a (eq-or-lt_of_le b) })
   where
@@ -144,11 +147,17 @@ some_best f (suc n) = let (h, m, b) = some_best f n in by h m b (cases_lt m (f (
     next = omega arith
 
     by : (h m : ℕ) → IsBestBefore f (n + 1) h m → (m < f (n + 1)) ⊎ (f (n + 1) ≤ m) → (k : ℕ) × (l : ℕ) × IsBestBefore f (suc n + 1) k l
-    by h m b (inl lt) = (n + 1, f (n + 1), subst (λ (p : ℕ). IsBestBefore f p (n + 1) (f (n + 1))) next (best_takes f (n + 1) h m (f (n + 1)) (omega arith) refl lt b))
+    by h m b (inl lt) = (
+      n + 1,
+      f (n + 1),
+      subst (λ (p : ℕ). IsBestBefore f p (n + 1) (f (n + 1))) next (best_takes f (n + 1) h m (f (n + 1)) (omega arith) refl lt b),
+    )
     by h m b (inr le) = (h, m, subst (λ (p : ℕ). IsBestBefore f p h m) next (best_keeps f (n + 1) h m (f (n + 1)) refl le b))
 
-best_same : (f g : ℕ → ℕ) (player holder most : ℕ) → ((k : ℕ) → 1 ≤ k → k < player → f k ≡ g k) → IsBestBefore f player holder most → IsBestBefore g player holder most
-best_same f g player holder most same (inl nobody) = inl (record { none = nobody.none; zero_is = nobody.zero_is; all = λ k a b. sym (same k a b) ∙ nobody.all k a b })
+best_same : (f g : ℕ → ℕ) (player holder most : ℕ) → ((k : ℕ) → 1 ≤ k → k < player → f k ≡ g k) → IsBestBefore f player holder most
+    → IsBestBefore g player holder most
+best_same f g player holder most same (inl nobody) =
+    inl (record { none = nobody.none; zero_is = nobody.zero_is; all = λ k a b. sym (same k a b) ∙ nobody.all k a b })
 best_same f g player holder most same (inr one) =
     inr (record {
       least = one.least;

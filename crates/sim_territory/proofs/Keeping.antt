@@ -1,44 +1,15 @@
 -- What a realm keeps, from one state to the next.
-use Rattle.std.proofs.Common.{◌≡◌, ℕ, ◌+◌, ◌*◌, map, ◌<◌, ◌≤◌, Bool, true, false, List, [], ◌∷◌, length, get_or, replicate, Option, Some, None, ℤ, pos, ◌≤ℤ◌, ◌<ℤ◌, int_le, int_lt, refl, sym, ap, ◌∙◌, subst, ◌-◌, drop, mul-le-mul_right, length-take-le, arith, All}
-use Rattle.std.specs.Prelude.{slice_range, ◌&&◌, nat_le, nat_lt, sum_by, MatchOption}
-use Rattle.std.proofs.lemmas.Bool.{and_parts, and_from, leb-true, le-leb, ltb-true, lt-ltb}
-use Rattle.std.proofs.lemmas.Int.{ints}
-use Rattle.std.proofs.lemmas.List.{length-map, length-drop, get_or-replicate, get_or-take, get_or-drop}
-use Rattle.std.proofs.lemmas.List.Sums.{sum_by-cons}
-use Rattle.std.proofs.lemmas.List.Elements.{All-nil, All-cons, All-head, All-tail, All-map, All-weaker}
-use Rattle.sim_base.specs.declared.place.Point.{Point}
-use Rattle.sim_base.specs.declared.template.Template.{Template}
-use Rattle.sim_base.specs.declared.setup.Setup.{Setup}
-use Rattle.sim_base.specs.declared.state.Row.{Row}
-use Rattle.sim_base.specs.declared.state.State.{State}
-use Rattle.sim_base.specs.Limits.{IsSetup, row_limit}
-use Rattle.sim_base.specs.Places.{cells_of, Size, IsPlaced, is_within}
-use Rattle.sim_base.specs.Rows.{size_of, template_of}
-use Rattle.sim_base.specs.Steps.{IsOnGround}
-use Rattle.sim_base.specs.Validity.{IsInside, IsValidRow, IsKnownRow, IsValid}
-use Rattle.sim_laws.proofs.WayInside.{inside-on_ground}
-use Rattle.sim_trail.specs.declared.mark.Mark.{Mark}
-use Rattle.sim_trail.specs.declared.shift.Shift.{Shift}
-use Rattle.sim_trail.specs.declared.shift.Shift.TheVariants.{Gone, Born}
-use Rattle.sim_trail.specs.Marks.{mark_of, marks_of, IsPlacedRow, IsAscending}
-use Rattle.sim_trail.specs.Shifts.{shifts_between}
-use Rattle.sim_trail.specs.Sums.{weight_gone, weight_born, SumFollows}
-use Rattle.sim_trail.proofs.Rising.{marks_ascend}
-use Rattle.sim_trail.proofs.Summing.{sum_follows}
-use Rattle.sim_territory.specs.declared.sums.Sums.{Sums}
-use Rattle.sim_base.specs.declared.place.Cell.{Cell}
-use Rattle.sim_grid.specs.Grids.{place_of}
-use Rattle.sim_grid.proofs.Beside.{place-below}
-use Rattle.sim_territory.specs.Holders.{holder, holder_by}
-use Rattle.sim_territory.proofs.CellLists.{mapped}
-use Rattle.sim_territory.proofs.Holding.{holder_by-same}
-use Rattle.sim_territory.specs.Influence.{share, influence}
-use Rattle.sim_territory.specs.Keeping.{holder_at, AreHolders, AreInfluences}
-use Rattle.sim_territory.specs.Tables.{size_in, sum_place, sum_at, IsMarkIn, mark_in, FitShifts, AreShifted}
-use Rattle.sim_territory.proofs.Bases.{influence-small}
-use Rattle.sim_territory.proofs.Moving.{size-shape, place-before}
-use Rattle.sim_territory.proofs.Following.{mark_later}
-use Rattle.sim_territory.proofs.SumPlaces.{sum_place-below}
+use Rattle.sim_territory.proofs.{Bases.influence-small, Holding.holder_by-same, Moving.place-before, Moving.size-shape, SumPlaces.sum_place-below}
+use Rattle.sim_territory.proofs.{CellLists.mapped, Following.mark_later}
+use Rattle.sim_territory.proofs.Common.{All-head, All-map, All-nil, All-tail, All-weaker, and_from, and_parts, ap, AreHolders, AreInfluences, AreShifted, arith}
+use Rattle.sim_territory.proofs.Common.{Born, Cell, cells_of, FitShifts, get_or-drop, get_or-replicate, get_or-take, Gone, holder, holder_at, holder_by}
+use Rattle.sim_territory.proofs.Common.{IsPlacedRow, IsSetup, IsValid, IsValidRow, le-leb, leb-true, length-drop, length-map, length-take-le, lt-ltb, ltb-true}
+use Rattle.sim_territory.proofs.Common.{Mark, mark_in, mark_of, marks_ascend, marks_of, mul-le-mul_right, place-below, place_of, Point, Row, row_limit, Setup}
+use Rattle.sim_territory.proofs.Common.{SumFollows, Sums, sym, Template, template_of, weight_born, weight_gone, ◌∙◌}
+use Rattle.sim_territory.proofs.Common.{influence, inside-on_ground, ints, is_within, IsAscending, IsInside, IsKnownRow, IsMarkIn, IsOnGround, IsPlaced}
+use Rattle.sim_territory.proofs.Common.{share, Shift, shifts_between, Size, size_in, size_of, State, subst, sum_at, sum_by-cons, sum_follows, sum_place}
+use Rattle.sim_territory.proofs.Common.{◌≡◌, ℕ, ◌+◌, ◌-◌, ◌*◌, ◌<◌, ◌≤◌, Bool, true, false, ◌&&◌, List, [], ◌∷◌, map, length, get_or, drop, replicate, ℤ, pos}
+use Rattle.sim_territory.proofs.Common.{◌≤ℤ◌, ◌<ℤ◌, nat_lt, nat_le, slice_range, int_lt, int_le, MatchOption, Some, None, All, sum_by, Option, refl, All-cons}
 
 -- ---- the marks of a valid state
 
@@ -63,10 +34,12 @@ known_row None h = absurd h
 known_row (Some t) h = (t, h)
 
 row_placed : (setup : Setup) (rows : List Row) (row : Row) → IsSetup setup → IsKnownRow 1 setup rows row → IsPlacedRow row
-row_placed setup rows row limits known = let (t, valid) = known_row {P = IsValidRow 1 setup rows row} (template_of setup row) known in inside_placed setup row.at limits valid.at
+row_placed setup rows row limits known = let (t, valid) = known_row {P = IsValidRow 1 setup rows row} (template_of setup row) known in
+    inside_placed setup row.at limits valid.at
 
 pub rows_placed : (setup : Setup) (state : State) → IsSetup setup → IsValid setup state → All IsPlacedRow state.rows
-rows_placed setup state limits valid = All-weaker (IsKnownRow 1 setup state.rows) IsPlacedRow (λ row known. row_placed setup state.rows row limits known) state.rows valid.rows
+rows_placed setup state limits valid = All-weaker (IsKnownRow 1 setup state.rows) IsPlacedRow (λ row known. row_placed setup state.rows row limits known)
+    state.rows valid.rows
 
 module _ (setup : Setup) (sums : Sums) (size : size_in sums ≡ size_of setup.land) (players : sums.players ≡ setup.players) where
   row_in : (rows : List Row) (row : Row) → IsKnownRow 1 setup rows row → IsMarkIn sums (mark_of row)
@@ -78,7 +51,8 @@ module _ (setup : Setup) (sums : Sums) (size : size_in sums ≡ size_of setup.la
       }
 
   marks_in : (state : State) → IsValid setup state → All (IsMarkIn sums) (marks_of state)
-  marks_in state valid = All-map (IsMarkIn sums) mark_of state.rows (All-weaker (IsKnownRow 1 setup state.rows) (λ (row : Row). IsMarkIn sums (mark_of row)) (row_in state.rows) state.rows valid.rows)
+  marks_in state valid = All-map (IsMarkIn sums) mark_of state.rows (All-weaker (IsKnownRow 1 setup state.rows) (λ (row : Row). IsMarkIn sums (mark_of row))
+      (row_in state.rows) state.rows valid.rows)
 
 -- ---- the marks of shifts are those of the two lists
 
@@ -95,12 +69,14 @@ module _ (sums : Sums) where
   in_stray mark h =
       ap one_unless
       (and_from (nat_le mark.owner sums.players) (nat_lt mark.cell.x sums.width && nat_lt mark.cell.z sums.depth) (le-leb mark.owner sums.players h.owner)
-      (and_from (nat_lt mark.cell.x sums.width) (nat_lt mark.cell.z sums.depth) (lt-ltb mark.cell.x sums.width h.ground.east) (lt-ltb mark.cell.z sums.depth h.ground.north)))
+      (and_from (nat_lt mark.cell.x sums.width) (nat_lt mark.cell.z sums.depth) (lt-ltb mark.cell.x sums.width h.ground.east)
+      (lt-ltb mark.cell.z sums.depth h.ground.north)))
 
   stray_in : (mark : Mark) → stray mark ≡ 0 → IsMarkIn sums mark
   stray_in mark e = by (nat_le mark.owner sums.players && (nat_lt mark.cell.x sums.width && nat_lt mark.cell.z sums.depth)) refl e
     where
-      by : (t : Bool) → (nat_le mark.owner sums.players && (nat_lt mark.cell.x sums.width && nat_lt mark.cell.z sums.depth)) ≡ t → one_unless t ≡ 0 → IsMarkIn sums mark
+      by : (t : Bool) → (nat_le mark.owner sums.players && (nat_lt mark.cell.x sums.width && nat_lt mark.cell.z sums.depth)) ≡ t → one_unless t ≡ 0
+          → IsMarkIn sums mark
       by true h f =
           let (owner, ground) = and_parts (nat_le mark.owner sums.players) (nat_lt mark.cell.x sums.width && nat_lt mark.cell.z sums.depth) h in
           let (x, z) = and_parts (nat_lt mark.cell.x sums.width) (nat_lt mark.cell.z sums.depth) ground in
@@ -113,9 +89,16 @@ module _ (sums : Sums) where
   none_stray : (marks : List Mark) → All (IsMarkIn sums) marks → sum_by stray marks ≡ 0
   none_stray [] all = refl
   none_stray (mark ∷ marks) all =
-      omega (arith, sum_by-cons stray mark marks, in_stray mark (All-head (IsMarkIn sums) mark marks all), none_stray marks (All-tail (IsMarkIn sums) mark marks all))
+      omega (
+        arith,
+        sum_by-cons stray mark marks,
+        in_stray mark (All-head (IsMarkIn sums) mark marks all),
+        none_stray marks
+            (All-tail (IsMarkIn sums) mark marks all),
+      )
 
-  shifts_in : (shifts : List Shift) → sum_by (weight_gone stray) shifts ≡ 0 → sum_by (weight_born stray) shifts ≡ 0 → All (λ shift. IsMarkIn sums (mark_in shift)) shifts
+  shifts_in : (shifts : List Shift) → sum_by (weight_gone stray) shifts ≡ 0 → sum_by (weight_born stray) shifts ≡ 0
+      → All (λ shift. IsMarkIn sums (mark_in shift)) shifts
   shifts_in [] gone born = All-nil (λ shift. IsMarkIn sums (mark_in shift))
   shifts_in (shift ∷ shifts) gone born =
       let gone_is = sum_by-cons (weight_gone stray) shift shifts in
@@ -128,7 +111,8 @@ module _ (sums : Sums) where
 
 -- ---- no state yet
 
-pub nothing_kept : (setup : Setup) (sums : Sums) → IsSetup setup → size_in sums ≡ size_of setup.land → sums.players ≡ setup.players → sums.items.items ≡ replicate (sums.players * (sums.width * sums.depth)) 0 → AreInfluences setup [] sums
+pub nothing_kept : (setup : Setup) (sums : Sums) → IsSetup setup → size_in sums ≡ size_of setup.land → sums.players ≡ setup.players
+    → sums.items.items ≡ replicate (sums.players * (sums.width * sums.depth)) 0 → AreInfluences setup [] sums
 nothing_kept setup sums limits size players zeros =
     record {
       limits = limits;
@@ -143,7 +127,8 @@ nothing_kept setup sums limits size players zeros =
 
 -- ---- the next state
 
-module _ (setup : Setup) (old : List Mark) (state : State) (sums : Sums) (ascending : IsAscending old) (valid : IsValid setup state) (kept : AreInfluences setup old sums) where
+module _ (setup : Setup) (old : List Mark) (state : State) (sums : Sums) (ascending : IsAscending old) (valid : IsValid setup state)
+    (kept : AreInfluences setup old sums) where
   follows : (weight : Mark → ℕ) → SumFollows weight old (marks_of state) (shifts_between old (marks_of state))
   follows weight = sum_follows weight old (marks_of state) ascending (marks_ascend state valid.ascending)
 
@@ -165,7 +150,13 @@ module _ (setup : Setup) (old : List Mark) (state : State) (sums : Sums) (ascend
         room = λ player c at.
             let law = follows (share setup player c) in
             let sum = kept.each player c at in
-            omega (arith, law.born, influence-small setup old player c kept.limits kept.few, influence-small setup (marks_of state) player c kept.limits few_marks);
+            omega (
+              arith,
+              law.born,
+              influence-small setup old player c kept.limits kept.few,
+              influence-small setup (marks_of state) player c kept.limits
+                  few_marks,
+            );
       }
 
   pub realm_follows : (new : Sums) → AreShifted setup (shifts_between old (marks_of state)) sums new → AreInfluences setup (marks_of state) new
@@ -190,7 +181,8 @@ module _ (setup : Setup) (marks : List Mark) (sums : Sums) (kept : AreInfluences
   -- the holder that the table tells is the one of the definition
   pub holder-kept : (c : Cell) → IsOnGround (size_in sums) c → holder_by sums.players (λ player. sum_at sums player c) ≡ holder setup marks c
   holder-kept c on =
-      holder_by-same sums.players (λ player. sum_at sums player c) (λ player. influence setup marks player c) (λ player a b. kept.each player c (record { least = a; most = b; ground = on }))
+      holder_by-same sums.players (λ player. sum_at sums player c) (λ player. influence setup marks player c)
+      (λ player a b. kept.each player c (record { least = a; most = b; ground = on }))
       ∙ ap (λ (n : ℕ). holder_by n (λ player. influence setup marks player c)) kept.players
 
   wide : 0 < setup.land.width
@@ -220,19 +212,26 @@ next_row player n least = by (player - 1) player (omega arith)
         add_one : (m : ℕ) → m * n + n ≡ (m + 1) * n
         add_one m = omega arith
 
-module _ (setup : Setup) (marks : List Mark) (sums : Sums) (kept : AreInfluences setup marks sums) (player : ℕ) (least : 1 ≤ player) (most : player ≤ sums.players) (full : length sums.items.items ≡ sums.players * (sums.width * sums.depth)) where
+module _ (setup : Setup) (marks : List Mark) (sums : Sums) (kept : AreInfluences setup marks sums) (player : ℕ) (least : 1 ≤ player)
+    (most : player ≤ sums.players) (full : length sums.items.items ≡ sums.players * (sums.width * sums.depth)) where
   layer_end : player * (sums.width * sums.depth) ≤ length sums.items.items
-  layer_end = let le : player * (sums.width * sums.depth) ≤ sums.players * (sums.width * sums.depth) = mul-le-mul_right (sums.width * sums.depth) most in omega arith
+  layer_end = let le : player * (sums.width * sums.depth) ≤ sums.players * (sums.width * sums.depth) = mul-le-mul_right (sums.width * sums.depth) most in
+      omega arith
 
   -- the influences of a player are lent as a list over the cells
-  pub layer_listed : slice_range sums.items.items ((player - 1) * (sums.width * sums.depth)) (player * (sums.width * sums.depth)) ≡ map (influence setup marks player) (cells_of (size_of setup.land))
+  pub layer_listed : slice_range sums.items.items ((player - 1) * (sums.width * sums.depth)) (player * (sums.width * sums.depth)) ≡
+      map (influence setup marks player) (cells_of (size_of setup.land))
   layer_listed =
-      mapped (influence setup marks player) (size_of setup.land) (slice_range sums.items.items ((player - 1) * (sums.width * sums.depth)) (player * (sums.width * sums.depth))) 0 (wide setup marks sums kept)
-      (part_length sums.items.items ((player - 1) * (sums.width * sums.depth)) (sums.width * sums.depth) (player * (sums.width * sums.depth)) (next_row player (sums.width * sums.depth) least) layer_end
+      mapped (influence setup marks player) (size_of setup.land) (slice_range sums.items.items ((player - 1) * (sums.width * sums.depth))
+      (player * (sums.width * sums.depth))) 0 (wide setup marks sums kept)
+      (part_length sums.items.items ((player - 1) * (sums.width * sums.depth)) (sums.width * sums.depth) (player * (sums.width * sums.depth))
+      (next_row player (sums.width * sums.depth) least) layer_end
       ∙ ap (λ (s : Size). s.width * s.depth) kept.size)
       (λ c on.
       let here = on_table setup marks sums kept c on in
-      ap (λ (s : Size). get_or (slice_range sums.items.items ((player - 1) * (sums.width * sums.depth)) (player * (sums.width * sums.depth))) (place_of s c) 0) (sym kept.size)
-      ∙ part_at sums.items.items ((player - 1) * (sums.width * sums.depth)) (sums.width * sums.depth) (player * (sums.width * sums.depth)) (place_of (size_in sums) c) (next_row player (sums.width * sums.depth) least)
+      ap (λ (s : Size). get_or (slice_range sums.items.items ((player - 1) * (sums.width * sums.depth)) (player * (sums.width * sums.depth))) (place_of s c) 0)
+      (sym kept.size)
+      ∙ part_at sums.items.items ((player - 1) * (sums.width * sums.depth)) (sums.width * sums.depth) (player * (sums.width * sums.depth))
+      (place_of (size_in sums) c) (next_row player (sums.width * sums.depth) least)
       (place-below (size_in sums) c here)
       ∙ kept.each player c (record { least = least; most = most; ground = here }))

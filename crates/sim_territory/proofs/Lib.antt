@@ -1,3 +1,4 @@
+pub mod Common
 pub mod CellLists
 pub mod Holding
 pub mod SumPlaces

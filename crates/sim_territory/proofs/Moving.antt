@@ -1,19 +1,10 @@
 -- A building comes or goes at one cell after another.
-use Rattle.std.proofs.Common.{◌≡◌, ℕ, ◌+◌, ◌-◌, ◌*◌, ◌<◌, ◌≤◌, Bool, true, false, refl, sym, ap, ◌∙◌, subst, ◌⊎◌, inl, inr, arith}
-use Rattle.std.specs.Prelude.{◌==◌, ◌&&◌, ◌||◌, nat_le, nat_lt}
-use Rattle.std.specs.Int.{abs_diff}
-use Rattle.std.proofs.lemmas.Bool.{cases_Bool, cases_lt, cases_eq, eqb-true, and_parts, and_from, and_left, and_right, lt-ltb, le-leb}
-use Rattle.std.proofs.lemmas.Bool.Decides.{nat_tests}
-use Rattle.sim_base.specs.declared.place.Cell.{Cell}
-use Rattle.sim_base.specs.Places.{Size, same_cell}
-use Rattle.sim_base.specs.Steps.{IsOnGround}
-use Rattle.sim_laws.proofs.Ground.{same_cell-true, same_cell-self}
-use Rattle.sim_grid.proofs.Beside.{same_or_not}
-use Rattle.sim_territory.specs.declared.building.Building.{Building}
-use Rattle.sim_territory.specs.declared.sums.Sums.{Sums}
-use Rattle.sim_territory.specs.Buildings.{strength_of, share_of, SpansNear}
-use Rattle.sim_territory.specs.Tables.{size_in, sum_at, HasShapeOf, IsSummed, Moves, MayMove, IsPlaceIn, SumsMove, MaySumsMove, share_where, in_part}
-use Rattle.sim_territory.proofs.Shares.{share-own, share-other, share-weak, where-true, where-false, where-weak, where-split, where-within, far-along, far-north, left_out}
+use Rattle.sim_territory.proofs.{Common.sum_at, Common.Sums, Common.SumsMove, Common.sym, Common.◌∙◌, Shares.where-within}
+use Rattle.sim_territory.proofs.Common.{and_left, and_parts, and_right, ap, arith, Building, cases_Bool, cases_eq, cases_lt, Cell, eqb-true, HasShapeOf}
+use Rattle.sim_territory.proofs.Common.{in_part, inl, inr, IsOnGround, IsPlaceIn, IsSummed, le-leb, lt-ltb, MayMove, MaySumsMove, Moves, nat_tests, same_cell}
+use Rattle.sim_territory.proofs.Common.{same_cell-self, same_cell-true, same_or_not, share_of, share_where, Size, size_in, SpansNear, strength_of, subst}
+use Rattle.sim_territory.proofs.Common.{◌≡◌, ℕ, ◌+◌, ◌-◌, ◌*◌, ◌<◌, ◌≤◌, Bool, true, false, ◌&&◌, ◌||◌, ◌⊎◌, nat_lt, nat_le, ◌==◌, refl, abs_diff, and_from}
+use Rattle.sim_territory.proofs.Shares.{far-along, far-north, left_out, share-other, share-own, share-weak, where-false, where-split, where-true, where-weak}
 
 -- ---- one ground, and as many players
 
@@ -60,25 +51,30 @@ may_later false a b all old mid le f may = omega (arith, f, may, le)
 
 -- ---- tables
 
-pub sums_none : (more : Bool) (by : ℕ → Cell → ℕ) (sums : Sums) → ((player : ℕ) (c : Cell) → IsPlaceIn sums player c → by player c ≡ 0) → SumsMove more by sums sums
+pub sums_none : (more : Bool) (by : ℕ → Cell → ℕ) (sums : Sums) → ((player : ℕ) (c : Cell) → IsPlaceIn sums player c → by player c ≡ 0)
+    → SumsMove more by sums sums
 sums_none more by sums none =
     record {
       shape = shape-same sums;
-      each = λ player c at. subst (λ (n : ℕ). Moves more n (sum_at sums player c) (sum_at sums player c)) (sym (none player c at)) (moves_none more (sum_at sums player c));
+      each = λ player c at. subst (λ (n : ℕ). Moves more n (sum_at sums player c) (sum_at sums player c)) (sym (none player c at))
+          (moves_none more (sum_at sums player c));
     }
 
-pub sums_same : (more : Bool) (by other : ℕ → Cell → ℕ) (old new : Sums) → ((player : ℕ) (c : Cell) → IsPlaceIn old player c → by player c ≡ other player c) → SumsMove more by old new → SumsMove more other old new
+pub sums_same : (more : Bool) (by other : ℕ → Cell → ℕ) (old new : Sums) → ((player : ℕ) (c : Cell) → IsPlaceIn old player c → by player c ≡ other player c)
+    → SumsMove more by old new → SumsMove more other old new
 sums_same more by other old new same moved =
     record {
       shape = moved.shape;
       each = λ player c at. subst (λ (n : ℕ). Moves more n (sum_at old player c) (sum_at new player c)) (same player c at) (moved.each player c at);
     }
 
-pub may_same : (more : Bool) (by other : ℕ → Cell → ℕ) (sums : Sums) → ((player : ℕ) (c : Cell) → IsPlaceIn sums player c → by player c ≡ other player c) → MaySumsMove more by sums → MaySumsMove more other sums
+pub may_same : (more : Bool) (by other : ℕ → Cell → ℕ) (sums : Sums) → ((player : ℕ) (c : Cell) → IsPlaceIn sums player c → by player c ≡ other player c)
+    → MaySumsMove more by sums → MaySumsMove more other sums
 may_same more by other sums same may player c at = subst (λ (n : ℕ). MayMove more n (sum_at sums player c)) (same player c at) (may player c at)
 
 module _ (more : Bool) (b : Building) (p q r : Cell → Bool) (old mid : Sums) where
-  pub sums_more : (new : Sums) → ((c : Cell) → r c ≡ (p c || q c)) → ((c : Cell) → p c ≡ true → q c ≡ false) → SumsMove more (share_where p b) old mid → SumsMove more (share_where q b) mid new → SumsMove more (share_where r b) old new
+  pub sums_more : (new : Sums) → ((c : Cell) → r c ≡ (p c || q c)) → ((c : Cell) → p c ≡ true → q c ≡ false) → SumsMove more (share_where p b) old mid
+      → SumsMove more (share_where q b) mid new → SumsMove more (share_where r b) old new
   sums_more new split apart first second =
       record {
         shape = shape-chain old mid new first.shape second.shape;
@@ -89,7 +85,8 @@ module _ (more : Bool) (b : Building) (p q r : Cell → Bool) (old mid : Sums) w
             (second.each player c (place-later old mid player c first.shape at)));
       }
 
-  pub sums_may : ((c : Cell) → p c ≡ true → r c ≡ true) → ((c : Cell) → q c ≡ true → r c ≡ true) → ((c : Cell) → p c ≡ true → q c ≡ false) → SumsMove more (share_where p b) old mid → MaySumsMove more (share_where r b) old → MaySumsMove more (share_where q b) mid
+  pub sums_may : ((c : Cell) → p c ≡ true → r c ≡ true) → ((c : Cell) → q c ≡ true → r c ≡ true) → ((c : Cell) → p c ≡ true → q c ≡ false)
+      → SumsMove more (share_where p b) old mid → MaySumsMove more (share_where r b) old → MaySumsMove more (share_where q b) mid
   sums_may f g apart first may player c at =
       let before = place-before old mid player c first.shape at in
       may_later more (share_where p b player c) (share_where q b player c) (share_where r b player c) (sum_at old player c) (sum_at mid player c)
@@ -97,16 +94,20 @@ module _ (more : Bool) (b : Building) (p q r : Cell → Bool) (old mid : Sums) w
 
 -- ---- one cell
 
-pub cell_may : (more : Bool) (b : Building) (cell : Cell) (sums : Sums) → IsPlaceIn sums b.owner cell → MaySumsMove more (share_where (λ w. same_cell w cell) b) sums → MayMove more (strength_of b cell) (sum_at sums b.owner cell)
+pub cell_may : (more : Bool) (b : Building) (cell : Cell) (sums : Sums) → IsPlaceIn sums b.owner cell → MaySumsMove more (share_where (λ w. same_cell w cell) b)
+    sums → MayMove more (strength_of b cell) (sum_at sums b.owner cell)
 cell_may more b cell sums at may =
-    subst (λ (n : ℕ). MayMove more n (sum_at sums b.owner cell)) (where-true (λ w. same_cell w cell) b b.owner cell (same_cell-self cell) ∙ share-own b b.owner cell refl) (may b.owner cell at)
+    subst (λ (n : ℕ). MayMove more n (sum_at sums b.owner cell)) (where-true (λ w. same_cell w cell) b b.owner cell (same_cell-self cell) ∙
+    share-own b b.owner cell refl) (may b.owner cell at)
 
-pub cell_moves : (more : Bool) (b : Building) (cell : Cell) (old new : Sums) (influence : ℕ) → IsSummed old new b.owner cell influence → Moves more (strength_of b cell) (sum_at old b.owner cell) influence →
+pub cell_moves : (more : Bool) (b : Building) (cell : Cell) (old new : Sums) (influence : ℕ) → IsSummed old new b.owner cell influence
+    → Moves more (strength_of b cell) (sum_at old b.owner cell) influence →
     SumsMove more (share_where (λ w. same_cell w cell) b) old new
 cell_moves more b cell old new influence summed step =
     record { shape = summed.shape; each = λ player c at. each player c at (same_or_not c cell) (cases_eq player b.owner) }
   where
-    stays : (player : ℕ) (c : Cell) → share_where (λ w. same_cell w cell) b player c ≡ 0 → sum_at new player c ≡ sum_at old player c → Moves more (share_where (λ w. same_cell w cell) b player c) (sum_at old player c) (sum_at new player c)
+    stays : (player : ℕ) (c : Cell) → share_where (λ w. same_cell w cell) b player c ≡ 0 → sum_at new player c ≡ sum_at old player c
+        → Moves more (share_where (λ w. same_cell w cell) b player c) (sum_at old player c) (sum_at new player c)
     stays player c none same =
         subst (λ (n : ℕ). Moves more n (sum_at old player c) (sum_at new player c)) (sym none)
         (subst (λ (n : ℕ). Moves more 0 (sum_at old player c) n) (sym same) (moves_none more (sum_at old player c)))
@@ -120,19 +121,23 @@ cell_moves more b cell old new influence summed step =
 
     here : Moves more (share_where (λ w. same_cell w cell) b b.owner cell) (sum_at old b.owner cell) (sum_at new b.owner cell)
     here =
-        subst (λ (n : ℕ). Moves more n (sum_at old b.owner cell) (sum_at new b.owner cell)) (sym (where-true (λ w. same_cell w cell) b b.owner cell (same_cell-self cell) ∙ share-own b b.owner cell refl))
+        subst (λ (n : ℕ). Moves more n (sum_at old b.owner cell) (sum_at new b.owner cell))
+        (sym (where-true (λ w. same_cell w cell) b b.owner cell (same_cell-self cell) ∙ share-own b b.owner cell refl))
         (subst (λ (n : ℕ). Moves more (strength_of b cell) (sum_at old b.owner cell) n) (sym summed.here) step)
 
-    each : (player : ℕ) (c : Cell) → IsPlaceIn old player c → (c ≡ cell) ⊎ (c ≡ cell → ⊥) → (player ≡ b.owner) ⊎ (player ≡ b.owner → ⊥) → Moves more (share_where (λ w. same_cell w cell) b player c) (sum_at old player c) (sum_at new player c)
+    each : (player : ℕ) (c : Cell) → IsPlaceIn old player c → (c ≡ cell) ⊎ (c ≡ cell → ⊥) → (player ≡ b.owner) ⊎ (player ≡ b.owner → ⊥)
+        → Moves more (share_where (λ w. same_cell w cell) b player c) (sum_at old player c) (sum_at new player c)
     each player c at (inl e) (inl f) =
         subst (λ (v : Cell). Moves more (share_where (λ w. same_cell w cell) b player v) (sum_at old player v) (sum_at new player v)) (sym e)
         (subst (λ (n : ℕ). Moves more (share_where (λ w. same_cell w cell) b n cell) (sum_at old n cell) (sum_at new n cell)) (sym f) here)
     each player c at (inl e) (inr ne) =
         subst (λ (v : Cell). Moves more (share_where (λ w. same_cell w cell) b player v) (sum_at old player v) (sum_at new player v)) (sym e)
-        (stays player cell (where-true (λ w. same_cell w cell) b player cell (same_cell-self cell) ∙ share-other b player cell ne) (summed.beside player at.least ne))
+        (stays player cell (where-true (λ w. same_cell w cell) b player cell (same_cell-self cell) ∙ share-other b player cell ne)
+        (summed.beside player at.least ne))
     each player c at (inr ne) f = stays player c (where-false (λ w. same_cell w cell) b player c (other c ne)) (summed.elsewhere player c at.ground ne)
 
-pub cell_stays : (more : Bool) (b : Building) (cell : Cell) (sums : Sums) → strength_of b cell ≡ 0 → SumsMove more (share_where (λ w. same_cell w cell) b) sums sums
+pub cell_stays : (more : Bool) (b : Building) (cell : Cell) (sums : Sums) → strength_of b cell ≡ 0 → SumsMove more (share_where (λ w. same_cell w cell) b) sums
+    sums
 cell_stays more b cell sums weak = sums_none more (share_where (λ w. same_cell w cell) b) sums (λ player c at. none player c (same_or_not c cell))
   where
     none : (player : ℕ) (c : Cell) → (c ≡ cell) ⊎ (c ≡ cell → ⊥) → share_where (λ w. same_cell w cell) b player c ≡ 0
@@ -164,7 +169,8 @@ part_none z west c = and_right (c.z == z) (nat_le west c.x && nat_lt c.x west) (
 part_more : (z west x : ℕ) (c : Cell) → west ≤ x → in_part z west (x + 1) c ≡ (in_part z west x c || same_cell c (record { x = x; z = z }))
 part_more z west x c le = by (c.z == z) (c.x == x) (one_more west x c.x le)
   where
-    by : (b e : Bool) → (nat_le west c.x && nat_lt c.x (x + 1)) ≡ ((nat_le west c.x && nat_lt c.x x) || e) → (b && (nat_le west c.x && nat_lt c.x (x + 1))) ≡ ((b && (nat_le west c.x && nat_lt c.x x)) || (e && b))
+    by : (b e : Bool) → (nat_le west c.x && nat_lt c.x (x + 1)) ≡ ((nat_le west c.x && nat_lt c.x x) || e) → (b && (nat_le west c.x && nat_lt c.x (x + 1))) ≡
+        ((b && (nat_le west c.x && nat_lt c.x x)) || (e && b))
     by true true h = h
     by true false h = h
     by false true h = refl
@@ -196,13 +202,16 @@ beyond : (west middle east n : ℕ) → (nat_le west n && nat_lt n middle) ≡ t
 beyond west middle east n e = grind (arith, nat_tests)
 
 parts_apart : (z west middle east : ℕ) (c : Cell) → in_part z west middle c ≡ true → in_part z middle east c ≡ false
-parts_apart z west middle east c e = and_right (c.z == z) (nat_le middle c.x && nat_lt c.x east) (beyond west middle east c.x (and_parts (c.z == z) (nat_le west c.x && nat_lt c.x middle) e).1)
+parts_apart z west middle east c e = and_right (c.z == z) (nat_le middle c.x && nat_lt c.x east)
+    (beyond west middle east c.x (and_parts (c.z == z) (nat_le west c.x && nat_lt c.x middle) e).1)
 
-either : (west middle east n : ℕ) → west ≤ middle → middle ≤ east → (nat_le west n && nat_lt n east) ≡ ((nat_le west n && nat_lt n middle) || (nat_le middle n && nat_lt n east))
+either : (west middle east n : ℕ) → west ≤ middle → middle ≤ east → (nat_le west n && nat_lt n east) ≡
+    ((nat_le west n && nat_lt n middle) || (nat_le middle n && nat_lt n east))
 either west middle east n f g = grind (arith, nat_tests)
 
 parts_join : (z west middle east : ℕ) (c : Cell) → west ≤ middle → middle ≤ east → in_part z west east c ≡ (in_part z west middle c || in_part z middle east c)
-parts_join z west middle east c f g = by (c.z == z) (nat_le west c.x && nat_lt c.x middle) (nat_le middle c.x && nat_lt c.x east) (nat_le west c.x && nat_lt c.x east) (either west middle east c.x f g)
+parts_join z west middle east c f g = by (c.z == z) (nat_le west c.x && nat_lt c.x middle) (nat_le middle c.x && nat_lt c.x east)
+    (nat_le west c.x && nat_lt c.x east) (either west middle east c.x f g)
   where
     by : (t p q r : Bool) → r ≡ (p || q) → (t && r) ≡ ((t && p) || (t && q))
     by true p q r h = h
@@ -212,45 +221,62 @@ module _ (more : Bool) (b : Building) (old mid : Sums) (z west : ℕ) where
   pub part_begins : SumsMove more (share_where (in_part z west west) b) old old
   part_begins = sums_none more (share_where (in_part z west west) b) old (λ player c at. where-false (in_part z west west) b player c (part_none z west c))
 
-  pub part_may : (x end : ℕ) → west ≤ x → x < end → SumsMove more (share_where (in_part z west x) b) old mid → MaySumsMove more (share_where (in_part z west end) b) old → MaySumsMove more (share_where (λ c. same_cell c (record { x = x; z = z })) b) mid
+  pub part_may : (x end : ℕ) → west ≤ x → x < end → SumsMove more (share_where (in_part z west x) b) old mid
+      → MaySumsMove more (share_where (in_part z west end) b) old → MaySumsMove more (share_where (λ c. same_cell c (record { x = x; z = z })) b) mid
   part_may x end from below first may =
       let le : x ≤ end = omega arith in
-      sums_may more b (in_part z west x) (λ c. same_cell c (record { x = x; z = z })) (in_part z west end) old mid (λ c. part_shorter z west x end c le) (λ c. cell_part z west x end c from below) (part_apart z west x) first may
+      sums_may more b (in_part z west x) (λ c. same_cell c (record { x = x; z = z })) (in_part z west end) old mid (λ c. part_shorter z west x end c le)
+      (λ c. cell_part z west x end c from below) (part_apart z west x) first may
 
-  pub part_moves : (x : ℕ) (new : Sums) → west ≤ x → SumsMove more (share_where (in_part z west x) b) old mid → SumsMove more (share_where (λ c. same_cell c (record { x = x; z = z })) b) mid new → SumsMove more (share_where (in_part z west (x + 1)) b) old new
+  pub part_moves : (x : ℕ) (new : Sums) → west ≤ x → SumsMove more (share_where (in_part z west x) b) old mid
+      → SumsMove more (share_where (λ c. same_cell c (record { x = x; z = z })) b) mid new → SumsMove more (share_where (in_part z west (x + 1)) b) old new
   part_moves x new le first second =
-      sums_more more b (in_part z west x) (λ c. same_cell c (record { x = x; z = z })) (in_part z west (x + 1)) old mid new (λ c. part_more z west x c le) (part_apart z west x) first second
+      sums_more more b (in_part z west x) (λ c. same_cell c (record { x = x; z = z })) (in_part z west (x + 1)) old mid new (λ c. part_more z west x c le)
+      (part_apart z west x) first second
 
   pub west_may : (middle : ℕ) → MaySumsMove more (share_where (in_line z) b) old → MaySumsMove more (share_where (in_part z west middle) b) old
-  west_may middle may = sums_may more b (in_part z west west) (in_part z west middle) (in_line z) old old (part_line z west west) (part_line z west middle) (λ c e. absurd (let none = part_none z west c in cc)) part_begins may
+  west_may middle may = sums_may more b (in_part z west west) (in_part z west middle) (in_line z) old old (part_line z west west) (part_line z west middle)
+      (λ c e. absurd (let none = part_none z west c in cc)) part_begins may
 
-  pub east_may : (middle east : ℕ) → SumsMove more (share_where (in_part z west middle) b) old mid → MaySumsMove more (share_where (in_line z) b) old → MaySumsMove more (share_where (in_part z middle east) b) mid
-  east_may middle east first may = sums_may more b (in_part z west middle) (in_part z middle east) (in_line z) old mid (part_line z west middle) (part_line z middle east) (parts_apart z west middle east) first may
+  pub east_may : (middle east : ℕ) → SumsMove more (share_where (in_part z west middle) b) old mid → MaySumsMove more (share_where (in_line z) b) old
+      → MaySumsMove more (share_where (in_part z middle east) b) mid
+  east_may middle east first may = sums_may more b (in_part z west middle) (in_part z middle east) (in_line z) old mid (part_line z west middle)
+      (part_line z middle east) (parts_apart z west middle east) first may
 
-  pub both_move : (middle east : ℕ) (new : Sums) → west ≤ middle → middle ≤ east → SumsMove more (share_where (in_part z west middle) b) old mid → SumsMove more (share_where (in_part z middle east) b) mid new → SumsMove more (share_where (in_part z west east) b) old new
+  pub both_move : (middle east : ℕ) (new : Sums) → west ≤ middle → middle ≤ east → SumsMove more (share_where (in_part z west middle) b) old mid
+      → SumsMove more (share_where (in_part z middle east) b) mid new → SumsMove more (share_where (in_part z west east) b) old new
   both_move middle east new f g first second =
-      sums_more more b (in_part z west middle) (in_part z middle east) (in_part z west east) old mid new (λ c. parts_join z west middle east c f g) (parts_apart z west middle east) first second
+      sums_more more b (in_part z west middle) (in_part z middle east) (in_part z west east) old mid new (λ c. parts_join z west middle east c f g)
+      (parts_apart z west middle east) first second
 
-  pub part_ends : (east : ℕ) → SpansNear b.cell.x (b.reach - 4 * abs_diff b.cell.z z) old.width (west, east) → SumsMove more (share_where (in_part z west east) b) old mid → SumsMove more (share_where (in_line z) b) old mid
-  part_ends east spans = sums_same more (share_where (in_part z west east) b) (share_where (in_line z) b) old mid (λ player c at. same player c at.ground (cases_lt c.x west) (cases_lt c.x east))
+  pub part_ends : (east : ℕ) → SpansNear b.cell.x (b.reach - 4 * abs_diff b.cell.z z) old.width (west, east)
+      → SumsMove more (share_where (in_part z west east) b) old mid → SumsMove more (share_where (in_line z) b) old mid
+  part_ends east spans = sums_same more (share_where (in_part z west east) b) (share_where (in_line z) b) old mid
+      (λ player c at. same player c at.ground (cases_lt c.x west) (cases_lt c.x east))
     where
       elsewhere : (player : ℕ) (c : Cell) → in_line z c ≡ false → share_where (in_part z west east) b player c ≡ share_where (in_line z) b player c
-      elsewhere player c e = where-false (in_part z west east) b player c (and_left (c.z == z) (nat_le west c.x && nat_lt c.x east) e) ∙ sym (where-false (in_line z) b player c e)
+      elsewhere player c e = where-false (in_part z west east) b player c (and_left (c.z == z) (nat_le west c.x && nat_lt c.x east) e) ∙
+          sym (where-false (in_line z) b player c e)
 
-      weak : (player : ℕ) (c : Cell) → IsOnGround (size_in old) c → (c.x < west) ⊎ (east ≤ c.x) → (in_line z c ≡ true) ⊎ (in_line z c ≡ false) → share_where (in_part z west east) b player c ≡ share_where (in_line z) b player c
+      weak : (player : ℕ) (c : Cell) → IsOnGround (size_in old) c → (c.x < west) ⊎ (east ≤ c.x) → (in_line z c ≡ true) ⊎ (in_line z c ≡ false)
+          → share_where (in_part z west east) b player c ≡ share_where (in_line z) b player c
       weak player c on out (inl e) =
           let far = left_out b.cell.x (b.reach - 4 * abs_diff b.cell.z z) old.width c.x (west, east) spans on.east out in
           let none = far-along b c (subst (λ (n : ℕ). b.reach - 4 * abs_diff b.cell.z n ≤ 10 * abs_diff b.cell.x c.x) (sym (eqb-true c.z z e)) far) in
           where-weak (in_part z west east) b player c none ∙ sym (where-weak (in_line z) b player c none)
       weak player c on out (inr e) = elsewhere player c e
 
-      inner : (player : ℕ) (c : Cell) → west ≤ c.x → c.x < east → (in_line z c ≡ true) ⊎ (in_line z c ≡ false) → share_where (in_part z west east) b player c ≡ share_where (in_line z) b player c
+      inner : (player : ℕ) (c : Cell) → west ≤ c.x → c.x < east → (in_line z c ≡ true) ⊎ (in_line z c ≡ false) → share_where (in_part z west east) b player c ≡
+          share_where (in_line z) b player c
       inner player c le lt (inl e) =
-          where-true (in_part z west east) b player c (and_from (c.z == z) (nat_le west c.x && nat_lt c.x east) e (and_from (nat_le west c.x) (nat_lt c.x east) (le-leb west c.x le) (lt-ltb c.x east lt)))
+          where-true (in_part z west east) b player c
+          (and_from (c.z == z) (nat_le west c.x && nat_lt c.x east) e (and_from (nat_le west c.x) (nat_lt c.x east) (le-leb west c.x le)
+          (lt-ltb c.x east lt)))
           ∙ sym (where-true (in_line z) b player c e)
       inner player c le lt (inr e) = elsewhere player c e
 
-      same : (player : ℕ) (c : Cell) → IsOnGround (size_in old) c → (c.x < west) ⊎ (west ≤ c.x) → (c.x < east) ⊎ (east ≤ c.x) → share_where (in_part z west east) b player c ≡ share_where (in_line z) b player c
+      same : (player : ℕ) (c : Cell) → IsOnGround (size_in old) c → (c.x < west) ⊎ (west ≤ c.x) → (c.x < east) ⊎ (east ≤ c.x)
+          → share_where (in_part z west east) b player c ≡ share_where (in_line z) b player c
       same player c on (inl before) f = weak player c on (inl before) (cases_Bool (in_line z c))
       same player c on (inr from) (inr past) = weak player c on (inr past) (cases_Bool (in_line z c))
       same player c on (inr from) (inl below) = inner player c from below (cases_Bool (in_line z c))
@@ -278,21 +304,29 @@ module _ (more : Bool) (b : Building) (old mid : Sums) (south : ℕ) where
   pub rows_begin : SumsMove more (share_where (in_rows south south) b) old old
   rows_begin = sums_none more (share_where (in_rows south south) b) old (λ player c at. where-false (in_rows south south) b player c (rows_none south c))
 
-  pub rows_may : (z : ℕ) → SumsMove more (share_where (in_rows south z) b) old mid → MaySumsMove more (share_of b) old → MaySumsMove more (share_where (in_line z) b) mid
+  pub rows_may : (z : ℕ) → SumsMove more (share_where (in_rows south z) b) old mid → MaySumsMove more (share_of b) old
+      → MaySumsMove more (share_where (in_line z) b) mid
   rows_may z first may = sums_may more b (in_rows south z) (in_line z) anywhere old mid (λ c e. refl) (λ c e. refl) (rows_apart south z) first may
 
-  pub rows_move : (z : ℕ) (new : Sums) → south ≤ z → SumsMove more (share_where (in_rows south z) b) old mid → SumsMove more (share_where (in_line z) b) mid new → SumsMove more (share_where (in_rows south (z + 1)) b) old new
-  rows_move z new le first second = sums_more more b (in_rows south z) (in_line z) (in_rows south (z + 1)) old mid new (λ c. rows_more south z c le) (rows_apart south z) first second
+  pub rows_move : (z : ℕ) (new : Sums) → south ≤ z → SumsMove more (share_where (in_rows south z) b) old mid → SumsMove more (share_where (in_line z) b) mid new
+      → SumsMove more (share_where (in_rows south (z + 1)) b) old new
+  rows_move z new le first second = sums_more more b (in_rows south z) (in_line z) (in_rows south (z + 1)) old mid new (λ c. rows_more south z c le)
+      (rows_apart south z) first second
 
-  pub rows_end : (north : ℕ) → SpansNear b.cell.z b.reach old.depth (south, north) → SumsMove more (share_where (in_rows south north) b) old mid → SumsMove more (share_of b) old mid
-  rows_end north spans = sums_same more (share_where (in_rows south north) b) (share_of b) old mid (λ player c at. same player c at.ground (cases_lt c.z south) (cases_lt c.z north))
+  pub rows_end : (north : ℕ) → SpansNear b.cell.z b.reach old.depth (south, north) → SumsMove more (share_where (in_rows south north) b) old mid
+      → SumsMove more (share_of b) old mid
+  rows_end north spans = sums_same more (share_where (in_rows south north) b) (share_of b) old mid
+      (λ player c at. same player c at.ground (cases_lt c.z south) (cases_lt c.z north))
     where
-      weak : (player : ℕ) (c : Cell) → IsOnGround (size_in old) c → (c.z < south) ⊎ (north ≤ c.z) → share_where (in_rows south north) b player c ≡ share_of b player c
+      weak : (player : ℕ) (c : Cell) → IsOnGround (size_in old) c → (c.z < south) ⊎ (north ≤ c.z) → share_where (in_rows south north) b player c ≡
+          share_of b player c
       weak player c on out =
           let none = far-north b c (left_out b.cell.z b.reach old.depth c.z (south, north) spans on.north out) in
           where-weak (in_rows south north) b player c none ∙ sym (share-weak b player c none)
 
-      same : (player : ℕ) (c : Cell) → IsOnGround (size_in old) c → (c.z < south) ⊎ (south ≤ c.z) → (c.z < north) ⊎ (north ≤ c.z) → share_where (in_rows south north) b player c ≡ share_of b player c
+      same : (player : ℕ) (c : Cell) → IsOnGround (size_in old) c → (c.z < south) ⊎ (south ≤ c.z) → (c.z < north) ⊎ (north ≤ c.z)
+          → share_where (in_rows south north) b player c ≡ share_of b player c
       same player c on (inl before) f = weak player c on (inl before)
       same player c on (inr from) (inr past) = weak player c on (inr past)
-      same player c on (inr from) (inl below) = where-true (in_rows south north) b player c (and_from (nat_le south c.z) (nat_lt c.z north) (le-leb south c.z from) (lt-ltb c.z north below))
+      same player c on (inr from) (inl below) = where-true (in_rows south north) b player c
+          (and_from (nat_le south c.z) (nat_lt c.z north) (le-leb south c.z from) (lt-ltb c.z north below))

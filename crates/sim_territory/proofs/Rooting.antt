@@ -1,23 +1,9 @@
 -- The flood begins at the roots, and comes to the rooted cells.
-use Rattle.std.proofs.Common.{◌≡◌, ℕ, ◌+◌, ◌*◌, ◌<◌, Bool, true, false, cond, List, [], ◌∷◌, ◌++◌, length, get_or, take, map, Contains, sym, ap, ◌∙◌, subst}
-use Rattle.std.specs.Prelude.{filter}
-use Rattle.std.proofs.lemmas.List.{map-append, append-nil}
-use Rattle.std.proofs.lemmas.List.Elements.{filter_more}
-use Rattle.sim_base.specs.declared.place.Cell.{Cell}
-use Rattle.sim_base.specs.declared.setup.Setup.{Setup}
-use Rattle.sim_base.specs.Places.{Size}
-use Rattle.sim_base.specs.Rows.{size_of}
-use Rattle.sim_base.specs.Steps.{IsOnGround}
-use Rattle.sim_trail.specs.declared.mark.Mark.{Mark}
-use Rattle.sim_territory.specs.declared.flood.Flood.{Flood}
-use Rattle.sim_territory.specs.declared.sums.Sums.{Sums}
-use Rattle.sim_territory.specs.Holders.{holder, holder_by}
-use Rattle.sim_territory.specs.Rooted.{IsReachedFrom, is_root, is_root_under, roots_among, roots_of, held_ground, flag_at, IsRooted, AreRooted}
-use Rattle.sim_territory.specs.Keeping.{holder_at, AreHolders, AreInfluences}
-use Rattle.sim_territory.specs.Floods.{ground_size, ground_of, IsWet, Waits, Wets, Fills, IsWetAt}
-use Rattle.sim_territory.specs.Tables.{size_in, sum_at, IsMarkIn}
-use Rattle.sim_territory.proofs.Flooding.{wet_more, wets-size, reached-turned}
-use Rattle.sim_territory.proofs.Keeping.{holder-kept}
+use Rattle.sim_territory.proofs.{Common.◌∙◌, Flooding.reached-turned, Flooding.wet_more, Flooding.wets-size, Keeping.holder-kept}
+use Rattle.sim_territory.proofs.Common.{IsWetAt, map-append, Mark, roots_among, roots_of, Setup, Size, size_in, size_of, subst, sum_at, Sums, sym, Waits, Wets}
+use Rattle.sim_territory.proofs.Common.{append-nil, AreHolders, AreInfluences, AreRooted, Cell, Fills, filter_more, flag_at, Flood, ground_of, ground_size}
+use Rattle.sim_territory.proofs.Common.{held_ground, holder, holder_at, holder_by, is_root, is_root_under, IsMarkIn, IsOnGround, IsReachedFrom, IsRooted, IsWet}
+use Rattle.sim_territory.proofs.Common.{◌≡◌, ℕ, ◌+◌, ◌*◌, ◌<◌, Bool, true, false, cond, List, [], ◌∷◌, ◌++◌, map, length, get_or, take, Contains, filter, ap}
 
 -- the flood is at the roots among the marks before one
 pub record AtRoots (setup : Setup) (marks before : List Mark) (begun flood : Flood) : Type 0 where
@@ -30,34 +16,42 @@ module _ (setup : Setup) (marks : List Mark) (i : ℕ) (d : Mark) (below : i < l
   abbrev cell_in : Mark → Cell
   cell_in mark = mark.cell
 
-  roots_more : roots_among setup marks (take (i + 1) marks) ≡ roots_among setup marks (take i marks) ++ map cell_in (cond (is_root setup marks (get_or marks i d)) (get_or marks i d ∷ []) [])
+  roots_more : roots_among setup marks (take (i + 1) marks) ≡ roots_among setup marks (take i marks) ++
+      map cell_in (cond (is_root setup marks (get_or marks i d)) (get_or marks i d ∷ []) [])
   roots_more =
       ap (map cell_in) (filter_more (is_root setup marks) marks i d below)
       ∙ map-append cell_in (filter (is_root setup marks) (take i marks)) (cond (is_root setup marks (get_or marks i d)) (get_or marks i d ∷ []) [])
 
-  pub root_added : is_root setup marks (get_or marks i d) ≡ true → roots_among setup marks (take (i + 1) marks) ≡ roots_among setup marks (take i marks) ++ (get_or marks i d).cell ∷ []
+  pub root_added : is_root setup marks (get_or marks i d) ≡ true → roots_among setup marks (take (i + 1) marks) ≡ roots_among setup marks (take i marks) ++
+      (get_or marks i d).cell ∷ []
   root_added e = roots_more ∙ ap (λ (t : Bool). roots_among setup marks (take i marks) ++ map cell_in (cond t (get_or marks i d ∷ []) [])) e
 
   pub none_added : is_root setup marks (get_or marks i d) ≡ false → roots_among setup marks (take (i + 1) marks) ≡ roots_among setup marks (take i marks)
   none_added e =
-      roots_more ∙ ap (λ (t : Bool). roots_among setup marks (take i marks) ++ map cell_in (cond t (get_or marks i d ∷ []) [])) e ∙ append-nil (roots_among setup marks (take i marks))
+      roots_more ∙ ap (λ (t : Bool). roots_among setup marks (take i marks) ++ map cell_in (cond t (get_or marks i d ∷ []) [])) e ∙
+      append-nil (roots_among setup marks (take i marks))
 
-  pub roots_step : (begun old new : Flood) → IsOnGround (ground_size old) (get_or marks i d).cell → is_root setup marks (get_or marks i d) ≡ true → Wets old new (get_or marks i d).cell → AtRoots setup marks (take i marks) begun old → AtRoots setup marks (take (i + 1) marks) begun new
+  pub roots_step : (begun old new : Flood) → IsOnGround (ground_size old) (get_or marks i d).cell → is_root setup marks (get_or marks i d) ≡ true
+      → Wets old new (get_or marks i d).cell → AtRoots setup marks (take i marks) begun old → AtRoots setup marks (take (i + 1) marks) begun new
   roots_step begun old new on e wets at =
       record {
         size = wets-size old new (get_or marks i d).cell wets ∙ at.size;
-        wet = subst (λ (cells : List Cell). IsWetAt cells new) (sym (root_added e)) (wet_more (roots_among setup marks (take i marks)) old new (get_or marks i d).cell on at.wet wets);
+        wet = subst (λ (cells : List Cell). IsWetAt cells new) (sym (root_added e))
+            (wet_more (roots_among setup marks (take i marks)) old new (get_or marks i d).cell on at.wet wets);
       }
 
-  pub roots_pass : (begun old : Flood) → is_root setup marks (get_or marks i d) ≡ false → AtRoots setup marks (take i marks) begun old → AtRoots setup marks (take (i + 1) marks) begun old
+  pub roots_pass : (begun old : Flood) → is_root setup marks (get_or marks i d) ≡ false → AtRoots setup marks (take i marks) begun old
+      → AtRoots setup marks (take (i + 1) marks) begun old
   roots_pass begun old e at = record { size = at.size; wet = subst (λ (cells : List Cell). IsWetAt cells old) (sym (none_added e)) at.wet }
 
-pub root_is : (setup : Setup) (marks : List Mark) (sums : Sums) (mark : Mark) → AreInfluences setup marks sums → IsMarkIn sums mark → is_root_under setup (holder_by sums.players (λ player. sum_at sums player mark.cell)) mark ≡ is_root setup marks mark
+pub root_is : (setup : Setup) (marks : List Mark) (sums : Sums) (mark : Mark) → AreInfluences setup marks sums → IsMarkIn sums mark
+    → is_root_under setup (holder_by sums.players (λ player. sum_at sums player mark.cell)) mark ≡ is_root setup marks mark
 root_is setup marks sums mark kept within = ap (λ (n : ℕ). is_root_under setup n mark) (holder-kept setup marks sums kept mark.cell within.ground)
 
 -- ---- the rooted cells
 
-pub rooted_found : (setup : Setup) (marks : List Mark) (sums : Sums) (holders : List ℕ) (begun last : Flood) → AreInfluences setup marks sums → AreHolders sums holders → ground_size begun ≡ size_in sums → length last.flags.items ≡ last.width * last.depth →
+pub rooted_found : (setup : Setup) (marks : List Mark) (sums : Sums) (holders : List ℕ) (begun last : Flood) → AreInfluences setup marks sums
+    → AreHolders sums holders → ground_size begun ≡ size_in sums → length last.flags.items ≡ last.width * last.depth →
     IsWetAt (roots_of setup marks) begun → Fills (ground_of begun holders) begun last → AreRooted setup marks last.flags.items
 rooted_found setup marks sums holders begun last kept are begun_is full at fills =
     record {

@@ -1,13 +1,7 @@
 -- What a building gives, and where.
-use Rattle.std.proofs.Common.{◌≡◌, ℕ, ◌+◌, ◌-◌, ◌*◌, ◌<◌, ◌≤◌, Bool, true, false, cond, min, max, refl, sym, ◌⊎◌, inl, inr, arith}
-use Rattle.std.specs.Prelude.{◌==◌, ◌||◌}
-use Rattle.std.specs.Int.{abs_diff}
-use Rattle.std.proofs.lemmas.Bool.{cases_lt, eq-eqb, ne_eqb, cond-true, cond-false}
-use Rattle.sim_base.specs.declared.place.Cell.{Cell}
-use Rattle.sim_base.specs.Steps.{octile}
-use Rattle.sim_territory.specs.declared.building.Building.{Building}
-use Rattle.sim_territory.specs.Buildings.{strength_of, share_of, SpansNear}
-use Rattle.sim_territory.specs.Tables.{share_where}
+use Rattle.sim_territory.proofs.Common.{cases_lt, Cell, cond-false, cond-true, eq-eqb, inl, inr, ne_eqb, octile, share_of, share_where, SpansNear, strength_of}
+use Rattle.sim_territory.proofs.Common.{sym}
+use Rattle.sim_territory.proofs.Common.{◌≡◌, ℕ, ◌+◌, ◌-◌, ◌*◌, ◌<◌, ◌≤◌, min, max, Bool, true, false, cond, ◌||◌, ◌⊎◌, ◌==◌, refl, abs_diff, arith, Building}
 
 pub share-own : (b : Building) (player : ℕ) (c : Cell) → player ≡ b.owner → share_of b player c ≡ strength_of b c
 share-own b player c e = cond-true (b.owner == player) (strength_of b c) 0 (eq-eqb b.owner player (sym e))
@@ -41,7 +35,8 @@ module _ (p q r : Cell → Bool) (b : Building) (player : ℕ) (c : Cell) where
   pub where-split : r c ≡ (p c || q c) → (p c ≡ true → q c ≡ false) → share_where r b player c ≡ share_where p b player c + share_where q b player c
   where-split e apart = by (p c) (q c) (r c) e apart
     where
-      by : (x y z : Bool) → z ≡ (x || y) → (x ≡ true → y ≡ false) → cond z (share_of b player c) 0 ≡ cond x (share_of b player c) 0 + cond y (share_of b player c) 0
+      by : (x y z : Bool) → z ≡ (x || y) → (x ≡ true → y ≡ false) → cond z (share_of b player c) 0 ≡ cond x (share_of b player c) 0 +
+          cond y (share_of b player c) 0
       by true true z f never = absurd (let h = never refl in cc)
       by true false true f never = omega arith
       by true false false f never = absurd (cc)
@@ -50,10 +45,12 @@ module _ (p q r : Cell → Bool) (b : Building) (player : ℕ) (c : Cell) where
       by false false true f never = absurd (cc)
       by false false false f never = omega arith
 
-  pub where-within : (p c ≡ true → r c ≡ true) → (q c ≡ true → r c ≡ true) → (p c ≡ true → q c ≡ false) → share_where p b player c + share_where q b player c ≤ share_where r b player c
+  pub where-within : (p c ≡ true → r c ≡ true) → (q c ≡ true → r c ≡ true) → (p c ≡ true → q c ≡ false) → share_where p b player c + share_where q b player c ≤
+      share_where r b player c
   where-within f g apart = by (p c) (q c) (r c) f g apart
     where
-      by : (x y z : Bool) → (x ≡ true → z ≡ true) → (y ≡ true → z ≡ true) → (x ≡ true → y ≡ false) → cond x (share_of b player c) 0 + cond y (share_of b player c) 0 ≤ cond z (share_of b player c) 0
+      by : (x y z : Bool) → (x ≡ true → z ≡ true) → (y ≡ true → z ≡ true) → (x ≡ true → y ≡ false) → cond x (share_of b player c) 0 +
+          cond y (share_of b player c) 0 ≤ cond z (share_of b player c) 0
       by true true z f g never = absurd (let h = never refl in cc)
       by true false true f g never = omega arith
       by true false false f g never = absurd (let h = f refl in cc)
@@ -84,7 +81,8 @@ longer_across : (m n : ℕ) → 10 * m + 4 * n ≤ 14 * min m n + 10 * (max m n 
 longer_across m n = omega arith
 
 pub far-along : (b : Building) (c : Cell) → b.reach - 4 * abs_diff b.cell.z c.z ≤ 10 * abs_diff b.cell.x c.x → strength_of b c ≡ 0
-far-along b c far = let more = longer_across (abs_diff b.cell.x c.x) (abs_diff b.cell.z c.z) in less (10 * abs_diff b.cell.x c.x) (4 * abs_diff b.cell.z c.z) (octile b.cell c) far more
+far-along b c far = let more = longer_across (abs_diff b.cell.x c.x) (abs_diff b.cell.z c.z) in less (10 * abs_diff b.cell.x c.x) (4 * abs_diff b.cell.z c.z)
+    (octile b.cell c) far more
   where
     less : (m n o : ℕ) → b.reach - n ≤ m → m + n ≤ o → b.reach - o ≡ 0
     less m n o f g = omega arith
@@ -96,7 +94,8 @@ far-north b c far = let more = longer_other (abs_diff b.cell.x c.x) (abs_diff b.
     less m o f g = omega arith
 
 -- what a span of numbers leaves out is far
-pub left_out : (from reach cells n : ℕ) (span : ℕ × ℕ) → SpansNear from reach cells span → n < cells → (n < span.0) ⊎ (span.1 ≤ n) → reach ≤ 10 * abs_diff from n
+pub left_out : (from reach cells n : ℕ) (span : ℕ × ℕ) → SpansNear from reach cells span → n < cells → (n < span.0) ⊎ (span.1 ≤ n)
+    → reach ≤ 10 * abs_diff from n
 left_out from reach cells n span all lt out = by (cases_lt (10 * abs_diff from n) reach)
   where
     never : (n < span.0) ⊎ (span.1 ≤ n) → (span.0 ≤ n) × (n < span.1) → ⊥

@@ -1,12 +1,6 @@
 -- Buildings, as the table of influences takes them.
-use Rattle.std.specs.Prelude.{◌≡◌, ℕ, ◌*◌, ◌-◌, ◌<◌, ◌≤◌, ◌==◌, if◌then◌else◌}
-use Rattle.std.specs.Int.{abs_diff}
-use Rattle.sim_base.specs.declared.place.Cell.{Cell}
-use Rattle.sim_base.specs.declared.setup.Setup.{Setup}
-use Rattle.sim_base.specs.Steps.{octile}
-use Rattle.sim_trail.specs.declared.mark.Mark.{Mark}
-use Rattle.sim_territory.specs.declared.building.Building.{Building}
-use Rattle.sim_territory.specs.Influence.{share}
+use Rattle.std.specs.Prelude.{◌≡◌, ℕ, ◌-◌, ◌*◌, ◌<◌, ◌≤◌, if◌then◌else◌, ◌==◌}
+use Rattle.sim_territory.specs.{Common.abs_diff, Common.Cell, Common.Mark, Common.octile, Common.Setup, Influence.share, declared.building.Building.Building}
 
 -- the strength of a building at a cell
 abbrev pub strength_of : Building → Cell → ℕ

@@ -1,11 +1,7 @@
 -- A flood over the ground of each holder.
-use Rattle.std.specs.Prelude.{◌≡◌, ◌≢◌, ℕ, ◌+◌, ◌*◌, ◌<◌, ◌≤◌, ◌⊎◌, true, List, [], ◌∷◌, ◌++◌, length, not, Contains, count_by, Some}
-use Rattle.sim_base.specs.declared.place.Cell.{Cell}
-use Rattle.sim_base.specs.Places.{Size}
-use Rattle.sim_base.specs.Steps.{IsOnGround, neighbour}
-use Rattle.sim_territory.specs.declared.flood.Flood.{Flood}
-use Rattle.sim_territory.specs.Keeping.{holder_at}
-use Rattle.sim_territory.specs.Rooted.{HeldGround, IsHeldStep, IsReachedFrom, flag_at}
+use Rattle.std.specs.Prelude.{◌≡◌, ℕ, ◌+◌, ◌*◌, ◌<◌, ◌≤◌, true, not, ◌≢◌, ◌⊎◌, List, [], ◌∷◌, ◌++◌, length, Some, Contains, count_by}
+use Rattle.sim_territory.specs.{Keeping.holder_at, Rooted.flag_at, Rooted.HeldGround, Rooted.IsHeldStep, Rooted.IsReachedFrom, declared.flood.Flood.Flood}
+use Rattle.sim_territory.specs.Common.{Cell, IsOnGround, neighbour, Size}
 
 -- the ground of a flood
 abbrev pub ground_size : Flood → Size
@@ -36,7 +32,8 @@ pub record IsPassed (old new : Flood) (cell : Cell) : Type 0 where
 pub record IsWetted (old new : Flood) (cell : Cell) : Type 0 where
   pub size : ground_size new ≡ ground_size old
   pub here : IsWet new cell
-  pub elsewhere : (c : Cell) → IsOnGround (ground_size old) c → c ≢ cell → flag_at (ground_size old) new.flags.items c ≡ flag_at (ground_size old) old.flags.items c
+  pub elsewhere : (c : Cell) → IsOnGround (ground_size old) c → c ≢ cell → flag_at (ground_size old) new.flags.items c ≡ flag_at (ground_size old)
+      old.flags.items c
   pub waits : new.waiting.items ≡ old.waiting.items ++ cell ∷ []
   pub less : work_left new + 1 ≡ work_left old
 

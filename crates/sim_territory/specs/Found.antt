@@ -1,14 +1,7 @@
 -- Holders that are found anew in some of the cells.
 use Rattle.std.specs.Prelude.{◌≡◌, ℕ, ◌<◌, ◌≤◌, ◌⊎◌, List, length}
-use Rattle.sim_base.specs.declared.place.Cell.{Cell}
-use Rattle.sim_base.specs.declared.setup.Setup.{Setup}
-use Rattle.sim_base.specs.Steps.{IsOnGround}
-use Rattle.sim_trail.specs.declared.mark.Mark.{Mark}
-use Rattle.sim_territory.specs.declared.sums.Sums.{Sums}
-use Rattle.sim_territory.specs.Influence.{share}
-use Rattle.sim_territory.specs.Holders.{holder_by}
-use Rattle.sim_territory.specs.Keeping.{holder_at}
-use Rattle.sim_territory.specs.Tables.{size_in, sum_at}
+use Rattle.sim_territory.specs.{Common.Cell, Common.IsOnGround, Common.Mark, Common.Setup, Tables.size_in, Tables.sum_at, declared.sums.Sums.Sums}
+use Rattle.sim_territory.specs.{Holders.holder_by, Influence.share, Keeping.holder_at}
 
 -- a cell lies within columns and rows, each from the first to before the end
 pub record IsInBlock (columns rows : ℕ × ℕ) (c : Cell) : Type 0 where

@@ -1,14 +1,11 @@
 -- Who holds a cell.
-use Rattle.std.specs.Prelude.{◌≡◌, ℕ, ◌<◌, ◌≤◌, ◌⊎◌, Bool, ◌&&◌, nat_lt, nat_le, List, find, unwrap_or}
-use Rattle.std.specs.List.{range_with_len, list_all}
-use Rattle.sim_base.specs.declared.place.Cell.{Cell}
-use Rattle.sim_base.specs.declared.setup.Setup.{Setup}
-use Rattle.sim_trail.specs.declared.mark.Mark.{Mark}
-use Rattle.sim_territory.specs.Influence.{influence}
+use Rattle.std.specs.Prelude.{◌≡◌, ℕ, ◌<◌, ◌≤◌, Bool, ◌&&◌, ◌⊎◌, List, nat_lt, nat_le, find, unwrap_or}
+use Rattle.sim_territory.specs.{Common.Cell, Common.list_all, Common.Mark, Common.range_with_len, Common.Setup, Influence.influence}
 
 -- a player has influence, and nobody has more
 abbrev pub has_most : ℕ → (ℕ → ℕ) → ℕ → Bool
-has_most players influences player = nat_lt 0 (influences player) && list_all (λ other. nat_le (influences other) (influences player)) (range_with_len 1 players)
+has_most players influences player = nat_lt 0 (influences player) && list_all (λ other. nat_le (influences other) (influences player))
+    (range_with_len 1 players)
 
 -- the least player who has influence while nobody has more, or 0
 abbrev pub holder_by : ℕ → (ℕ → ℕ) → ℕ

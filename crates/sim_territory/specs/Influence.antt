@@ -1,11 +1,6 @@
 -- Influence: what the buildings of a player weigh at each cell.
-use Rattle.std.specs.Prelude.{ℕ, ◌+◌, ◌*◌, ◌-◌, ◌==◌, List, Option, option_map, option_and_then, unwrap_or, slice_get, sum_by, if◌then◌else◌}
-use Rattle.sim_base.specs.declared.place.Cell.{Cell}
-use Rattle.sim_base.specs.declared.template.Base.{Base}
-use Rattle.sim_base.specs.declared.template.Template.{Template}
-use Rattle.sim_base.specs.declared.setup.Setup.{Setup}
-use Rattle.sim_base.specs.Steps.{octile}
-use Rattle.sim_trail.specs.declared.mark.Mark.{Mark}
+use Rattle.std.specs.Prelude.{ℕ, ◌+◌, ◌-◌, ◌*◌, List, if◌then◌else◌, ◌==◌, slice_get, sum_by, Option, unwrap_or, option_map, option_and_then}
+use Rattle.sim_territory.specs.Common.{Base, Cell, Mark, octile, Setup, Template}
 
 -- the template of an entity, if its number is known
 abbrev pub template_of : Setup → Mark → Option Template

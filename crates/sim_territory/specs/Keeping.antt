@@ -1,17 +1,8 @@
 -- What a realm keeps of its marks.
 use Rattle.std.specs.Prelude.{◌≡◌, ℕ, ◌*◌, ◌≤◌, List, length, slice_index, All}
-use Rattle.sim_base.specs.declared.place.Cell.{Cell}
-use Rattle.sim_base.specs.declared.setup.Setup.{Setup}
-use Rattle.sim_base.specs.Limits.{IsSetup, row_limit}
-use Rattle.sim_base.specs.Places.{Size}
-use Rattle.sim_base.specs.Rows.{size_of}
-use Rattle.sim_base.specs.Steps.{IsOnGround}
-use Rattle.sim_grid.specs.Grids.{place_of}
-use Rattle.sim_trail.specs.declared.mark.Mark.{Mark}
-use Rattle.sim_territory.specs.declared.sums.Sums.{Sums}
-use Rattle.sim_territory.specs.Influence.{influence}
+use Rattle.sim_territory.specs.{Influence.influence, Tables.IsMarkIn, Tables.IsPlaceIn, Tables.size_in, Tables.sum_at, declared.sums.Sums.Sums}
+use Rattle.sim_territory.specs.Common.{Cell, IsOnGround, IsSetup, Mark, place_of, row_limit, Setup, Size, size_of}
 use Rattle.sim_territory.specs.Holders.{holder_by}
-use Rattle.sim_territory.specs.Tables.{size_in, sum_at, IsPlaceIn, IsMarkIn}
 
 -- who holds a cell, in a list by z, then x
 abbrev pub holder_at : Size → List ℕ → Cell → ℕ

@@ -1,3 +1,4 @@
+pub mod Common
 pub mod Influence
 pub mod Holders
 pub mod Rooted

@@ -1,13 +1,6 @@
 -- What contracts see of a realm.
 use Rattle.std.specs.Prelude.{ℕ, List, map}
-use Rattle.sim_base.specs.declared.setup.Setup.{Setup}
-use Rattle.sim_base.specs.declared.state.State.{State}
-use Rattle.sim_base.specs.Places.{cells_of}
-use Rattle.sim_base.specs.Rows.{size_of}
-use Rattle.sim_trail.specs.declared.mark.Mark.{Mark}
-use Rattle.sim_trail.specs.Marks.{marks_of}
-use Rattle.sim_territory.specs.Influence.{influence}
-use Rattle.sim_territory.specs.Holders.{holder}
+use Rattle.sim_territory.specs.{Common.cells_of, Common.Mark, Common.marks_of, Common.Setup, Common.size_of, Common.State, Holders.holder, Influence.influence}
 
 -- a match, and the marks of the state that was followed last
 pub record RealmOf : Type 0 where

@@ -1,15 +1,8 @@
 -- Which cells are joined to a root of the player who holds them.
-use Rattle.std.specs.Prelude.{◌≡◌, ℕ, ◌*◌, ◌<◌, ◌↔◌, Bool, false, ◌&&◌, nat_lt, ◌==◌, IsTrue, List, length, map, filter, Contains, Some, option_and_then, is_some, slice_index_or}
-use Rattle.sim_base.specs.declared.place.Cell.{Cell}
-use Rattle.sim_base.specs.declared.template.Template.{Template}
-use Rattle.sim_base.specs.declared.setup.Setup.{Setup}
-use Rattle.sim_base.specs.Places.{Size}
-use Rattle.sim_base.specs.Rows.{size_of}
-use Rattle.sim_base.specs.Steps.{IsOnGround, neighbour}
-use Rattle.sim_grid.specs.Grids.{place_of}
-use Rattle.sim_trail.specs.declared.mark.Mark.{Mark}
-use Rattle.sim_territory.specs.Influence.{template_of, base_of}
-use Rattle.sim_territory.specs.Holders.{holder}
+use Rattle.std.specs.Prelude.{filter, option_and_then}
+use Rattle.std.specs.Prelude.{◌≡◌, ℕ, ◌*◌, ◌<◌, Bool, false, ◌&&◌, ◌↔◌, List, map, length, is_some, IsTrue, nat_lt, ◌==◌, slice_index_or, Some, Contains}
+use Rattle.sim_territory.specs.{Holders.holder, Influence.base_of, Influence.template_of}
+use Rattle.sim_territory.specs.Common.{Cell, IsOnGround, Mark, neighbour, place_of, Setup, Size, size_of, Template}
 
 -- a ground, and who holds each of its cells
 pub record HeldGround : Type 0 where

@@ -1,18 +1,8 @@
 -- A table of influences, and how a building changes it.
-use Rattle.std.specs.Prelude.{◌≡◌, ℕ, ◌+◌, ◌*◌, ◌-◌, ◌^◌, ◌<◌, ◌≤◌, Bool, true, false, ◌==◌, ◌&&◌, nat_le, nat_lt, List, slice_index, sum_by, All, if◌then◌else◌}
-use Rattle.sim_base.specs.declared.place.Cell.{Cell}
-use Rattle.sim_base.specs.declared.setup.Setup.{Setup}
-use Rattle.sim_base.specs.Places.{Size}
-use Rattle.sim_base.specs.Steps.{IsOnGround}
-use Rattle.sim_grid.specs.Grids.{place_of}
-use Rattle.sim_trail.specs.declared.mark.Mark.{Mark}
-use Rattle.sim_trail.specs.declared.shift.Shift.{Shift}
-use Rattle.sim_trail.specs.declared.shift.Shift.TheVariants.{Gone, Born}
-use Rattle.sim_trail.specs.Sums.{weight_gone, weight_born}
-use Rattle.sim_territory.specs.declared.building.Building.{Building}
-use Rattle.sim_territory.specs.declared.sums.Sums.{Sums}
-use Rattle.sim_territory.specs.Influence.{share}
-use Rattle.sim_territory.specs.Buildings.{share_of}
+use Rattle.std.specs.Prelude.{sum_by}
+use Rattle.std.specs.Prelude.{◌≡◌, ℕ, ◌+◌, ◌-◌, ◌*◌, ◌^◌, ◌<◌, ◌≤◌, Bool, true, false, ◌&&◌, List, if◌then◌else◌, nat_lt, nat_le, ◌==◌, slice_index, All}
+use Rattle.sim_territory.specs.{Buildings.share_of, Influence.share, declared.building.Building.Building, declared.sums.Sums.Sums}
+use Rattle.sim_territory.specs.Common.{Born, Cell, Gone, IsOnGround, Mark, place_of, Setup, Shift, Size, weight_born, weight_gone}
 
 -- the ground of a table
 abbrev pub size_in : Sums → Size
@@ -102,7 +92,8 @@ pub record FitShifts (setup : Setup) (shifts : List Shift) (sums : Sums) : Type 
 -- what left and what came is the difference of the two
 pub record AreShifted (setup : Setup) (shifts : List Shift) (old new : Sums) : Type 0 where
   pub shape : HasShapeOf old new
-  pub each : (player : ℕ) (c : Cell) → IsPlaceIn old player c → sum_at new player c + sum_by (leaving setup player c) shifts ≡ sum_at old player c + sum_by (coming setup player c) shifts
+  pub each : (player : ℕ) (c : Cell) → IsPlaceIn old player c → sum_at new player c + sum_by (leaving setup player c) shifts ≡ sum_at old player c +
+      sum_by (coming setup player c) shifts
 
 -- what leaves by one shift is there, and what comes fits
 pub record FitsShift (setup : Setup) (shift : Shift) (sums : Sums) : Type 0 where
@@ -113,4 +104,5 @@ pub record FitsShift (setup : Setup) (shift : Shift) (sums : Sums) : Type 0 wher
 -- what left by one shift and what came is the difference of the two
 pub record IsShifted (setup : Setup) (shift : Shift) (old new : Sums) : Type 0 where
   pub shape : HasShapeOf old new
-  pub each : (player : ℕ) (c : Cell) → IsPlaceIn old player c → sum_at new player c + leaving setup player c shift ≡ sum_at old player c + coming setup player c shift
+  pub each : (player : ℕ) (c : Cell) → IsPlaceIn old player c → sum_at new player c + leaving setup player c shift ≡ sum_at old player c + coming setup player c
+      shift

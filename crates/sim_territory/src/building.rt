@@ -1,12 +1,9 @@
 //! A building as the table of influences takes it: whose it is, where it stands and how far its strength reaches. It stands
 //! apart, so that no template is looked at for a cell.
 
-ghost use Rattle.std.specs.Prelude.{◌≡◌, ◌<◌, ◌≤◌, ◌*◌, ◌+◌, ◌-◌, ◌^◌, min, max, MatchOption};
-ghost use Rattle.std.specs.Int.{abs_diff};
-ghost use Rattle.sim_base.specs.Limits.{IsSetup};
-ghost use Rattle.sim_base.specs.Steps.{IsOnGround};
-ghost use Rattle.sim_territory.specs.Buildings.{IsBuildingOf, GivesNothing, SpansNear};
-ghost use Rattle.sim_territory.specs.Influence.{base_of as base_of_mark};
+ghost use Rattle.std.specs.Prelude.{◌≡◌, ◌+◌, ◌-◌, ◌*◌, ◌^◌, ◌<◌, ◌≤◌, min, max, MatchOption};
+ghost use Rattle.sim_territory.specs.{Buildings.GivesNothing, Buildings.IsBuildingOf, Buildings.SpansNear, Influence.base_of as base_of_mark};
+ghost use Rattle.sim_territory.specs.Common.{abs_diff, IsSetup};
 
 use sim_base::{Base, Cell, Setup};
 use sim_trail::Mark;

@@ -2,7 +2,7 @@
 //! of them.
 
 ghost use Rattle.std.specs.Prelude.{◌≡◌};
-ghost use Rattle.sim_territory.specs.Tables.{Moves, MayMove, mark_in as mark_in_shift};
+ghost use Rattle.sim_territory.specs.Tables.{mark_in as mark_in_shift, MayMove, Moves};
 
 use sim_trail::{Mark, Shift};
 

@@ -1,7 +1,7 @@
 //! One flood over the ground, from all roots at once: it goes on by steps to the east, north, west and south between cells
 //! of one holder, and comes to each cell once.
 
-ghost use Rattle.std.specs.Prelude.{◌≡◌, ◌*◌, ◌<◌, ◌≤◌, vec_len, length};
+ghost use Rattle.std.specs.Prelude.{◌≡◌, ◌*◌, ◌<◌, ◌≤◌, length, vec_len};
 
 use sim_base::{Cell, OutOfMemory};
 use std::alloc::Global;
@@ -19,10 +19,9 @@ pub struct Flood {
 }
 
 impl Flood {
-    ghost use Rattle.std.specs.Prelude.{◌≡◌, ◌*◌, ◌<◌, ◌≤◌, OnOk, IfOk, length, replicate, false, []};
-    ghost use Rattle.sim_base.specs.Steps.{IsOnGround, neighbour, cell_at as cell_at_numbers};
-    ghost use Rattle.sim_grid.specs.Grids.{place_of};
-    ghost use Rattle.sim_territory.specs.Floods.{ground_size, ground_of, Wets, StepsOn, Spreads, AllWait, Fills};
+    ghost use Rattle.std.specs.Prelude.{◌≡◌, ◌*◌, ◌<◌, ◌≤◌, false, [], length, replicate, IfOk, OnOk};
+    ghost use Rattle.sim_territory.specs.Common.{cell_at as cell_at_numbers, IsOnGround, neighbour, place_of};
+    ghost use Rattle.sim_territory.specs.Floods.{AllWait, Fills, ground_of, ground_size, Spreads, StepsOn, Wets};
 
     /// It has come to no cell yet.
     pub fn new(alloc: Global, width: u16, depth: u16) -> Result<Flood, OutOfMemory>

@@ -2,7 +2,7 @@
 //! comes or goes changes the influences within its reach. After a few shifts the holders are found anew there, after many
 //! everywhere, once.
 
-ghost use Rattle.std.specs.Prelude.{◌≡◌, ◌*◌, IfOk, replicate};
+ghost use Rattle.std.specs.Prelude.{◌≡◌, ◌*◌, replicate, IfOk};
 ghost use Rattle.sim_territory.specs.Keeping.{AreHolders};
 
 use crate::changes::mark_in;
@@ -23,11 +23,9 @@ pub struct Influences {
 }
 
 impl Influences {
-    ghost use Rattle.std.specs.Prelude.{◌≡◌, ◌*◌, ◌≤◌, IfOk, replicate};
-    ghost use Rattle.sim_base.specs.Limits.{IsSetup};
-    ghost use Rattle.sim_base.specs.Steps.{IsOnGround};
-    ghost use Rattle.sim_territory.specs.Holders.{holder_by};
-    ghost use Rattle.sim_territory.specs.Tables.{size_in, sum_at, FitShifts, FitsShift, AreShifted, IsShifted};
+    ghost use Rattle.std.specs.Prelude.{◌≡◌, ◌*◌, ◌≤◌, replicate, IfOk};
+    ghost use Rattle.sim_territory.specs.{Common.IsOnGround, Common.IsSetup, Holders.holder_by};
+    ghost use Rattle.sim_territory.specs.Tables.{AreShifted, FitShifts, FitsShift, IsShifted, size_in, sum_at};
 
     /// Nobody has influence anywhere, and nobody holds a cell.
     pub fn new(

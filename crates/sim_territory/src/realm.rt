@@ -1,10 +1,7 @@
 //! A realm: who holds which ground after the states that it followed, and which of it is rooted.
 
 ghost use Rattle.std.specs.Prelude.{◌≡◌, ◌≤◌, [], IfOk, OnOk, OnErr};
-ghost use Rattle.sim_base.specs.Limits.{IsSetup};
-ghost use Rattle.sim_base.specs.Validity.{IsValid};
-ghost use Rattle.sim_territory.specs.Realms.{realm_of, influences_in, holders_in};
-ghost use Rattle.sim_territory.specs.Rooted.{AreRooted};
+ghost use Rattle.sim_territory.specs.{Common.IsSetup, Common.IsValid, Realms.holders_in, Realms.influences_in, Realms.realm_of, Rooted.AreRooted};
 
 use crate::flood::Flood;
 use crate::influences::Influences;
@@ -27,8 +24,7 @@ pub struct Realm<'a> {
 }
 
 impl<'a> Model for Realm<'a> {
-    ghost use Rattle.sim_territory.specs.Realms.{RealmOf};
-    ghost use Rattle.sim_territory.specs.Keeping.{AreInfluences};
+    ghost use Rattle.sim_territory.specs.{Keeping.AreInfluences, Realms.RealmOf};
 
     ghost Value = { RealmOf };
 

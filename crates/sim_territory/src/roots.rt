@@ -1,11 +1,8 @@
 //! The roots: obstructions of players that can train, on a cell that their owner holds. A flood begins there.
 
 ghost use Rattle.std.specs.Prelude.{◌≡◌, [], OnOk};
-ghost use Rattle.sim_territory.specs.Rooted.{is_root_under, roots_of};
-ghost use Rattle.sim_territory.specs.Holders.{holder_by};
-ghost use Rattle.sim_territory.specs.Floods.{ground_size, IsWetAt};
-ghost use Rattle.sim_territory.specs.Keeping.{AreInfluences};
-ghost use Rattle.sim_territory.specs.Tables.{size_in, sum_at, IsMarkIn};
+ghost use Rattle.sim_territory.specs.{Floods.ground_size, Floods.IsWetAt, Holders.holder_by};
+ghost use Rattle.sim_territory.specs.{Keeping.AreInfluences, Rooted.is_root_under, Rooted.roots_of, Tables.IsMarkIn, Tables.size_in, Tables.sum_at};
 
 use crate::flood::Flood;
 use crate::influences::Influences;

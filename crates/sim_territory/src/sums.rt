@@ -1,6 +1,6 @@
 //! The influence of each player at each cell, in one list: by player, then by z, then by x.
 
-ghost use Rattle.std.specs.Prelude.{◌≡◌, ◌≤◌, ◌*◌, vec_len};
+ghost use Rattle.std.specs.Prelude.{◌≡◌, ◌*◌, ◌≤◌, vec_len};
 
 use crate::building::Building;
 use crate::changes::moved;
@@ -22,15 +22,10 @@ pub struct Sums {
 }
 
 impl Sums {
-    ghost use Rattle.std.specs.Prelude.{◌≡◌, ◌==◌, ◌+◌, ◌-◌, ◌*◌, ◌<◌, ◌≤◌, IfOk, replicate, slice_range};
-    ghost use Rattle.sim_base.specs.Limits.{IsSetup};
-    ghost use Rattle.sim_base.specs.Steps.{IsOnGround};
-    ghost use Rattle.sim_grid.specs.Grids.{place_of};
-    ghost use Rattle.sim_territory.specs.Buildings.{share_of};
-    ghost use Rattle.sim_territory.specs.Found.{AreFound, AreFoundNear};
-    ghost use Rattle.sim_territory.specs.Holders.{holder_by};
-    ghost use Rattle.sim_territory.specs.Keeping.{AreHolders};
-    ghost use Rattle.sim_territory.specs.Tables.{size_in, sum_place, sum_at, IsPlaceIn, SumsMove, MaySumsMove, share_where, in_part, IsMarkIn, share_by, FitShifts, FitsShift, AreShifted, IsShifted};
+    ghost use Rattle.std.specs.Prelude.{◌≡◌, ◌+◌, ◌-◌, ◌*◌, ◌<◌, ◌≤◌, replicate, IfOk, ◌==◌, slice_range};
+    ghost use Rattle.sim_territory.specs.{Buildings.share_of, Found.AreFound, Found.AreFoundNear, Holders.holder_by, Keeping.AreHolders};
+    ghost use Rattle.sim_territory.specs.{Common.IsOnGround, Common.IsSetup, Common.place_of, Tables.size_in, Tables.sum_at, Tables.sum_place, Tables.SumsMove};
+    ghost use Rattle.sim_territory.specs.Tables.{AreShifted, FitShifts, FitsShift, in_part, IsMarkIn, IsPlaceIn, IsShifted, MaySumsMove, share_by, share_where};
 
     /// Nobody has influence anywhere.
     pub fn new(alloc: Global, width: u16, depth: u16, players: u8) -> Result<Sums, OutOfMemory>

@@ -1,28 +1,16 @@
 -- What a command answers: by the outcome that it makes, or by what ended it.
-use Rattle.std.proofs.Common.{◌≡◌, ℕ, ◌+◌, List, Option, Some, None, Result, Ok, Err, refl, sym, ap, ◌∙◌, subst, IsTrue, IfSome, IfOk, IfErr}
-use Rattle.std.specs.Prelude.{option_map}
-use Rattle.sim_base.specs.declared.setup.Setup.{Setup}
-use Rattle.sim_base.specs.declared.state.State.{State}
-use Rattle.sim_store.specs.Files.{File, file_in}
-use Rattle.sim_store.specs.declared.counts.Counts.{Counts}
-use Rattle.sim_lists.specs.declared.step_list.StepList.{StepList}
-use Rattle.sim_session_text.specs.SessionText.{session_text}
-use Rattle.sim_top.specs.Answers.{OnlyGave, CountsBefore, MayAnswer}
-use Rattle.sim_top.specs.Commands.{Shelved, IsReading, MayFinish, IsAnswerTo}
-use Rattle.sim_top.specs.Given.{Gave, GaveFor, GaveToState}
-use Rattle.sim_top.specs.Making.{IsMade, IsMadeAs, IsFileAs, IsSavedAs, IsFinished, file_of, outcome_made}
-use Rattle.sim_top.specs.Outcome.{Outcome, Then, ThenStored, IsOutcomeOf, bytes_in, match_in, session_match_in, steps_in, printed, trial_match, trial_outcome}
-use Rattle.sim_top.specs.Reads.{HasEnded, IsUnfound, LacksFirst, length_in, length_first, length_read}
-use Rattle.sim_top.specs.Stops.{Stopped, ReadsState, IsState, CausesOf, GaveAll, IsOfContent, IsOfMatch, IsOfState, IsOfList, IsRefusal, status_of}
-use Rattle.sim_top.specs.Words.{Asked, to_session, to_try, out_of, has_match, has_turn, loads_state, reads_file, reads_list}
-use Rattle.sim_top.specs.declared.commands.Answer.{Answer}
-use Rattle.sim_top.specs.declared.commands.Saved.{Saved}
-use Rattle.sim_top.specs.declared.status.Status.{Status}
+use Rattle.sim_top.proofs.Common.{CausesOf, Counts, CountsBefore, EconomyRefused, File, file_in, file_of, Gave, GaveAll, GaveFor, GaveToState, HasEnded}
+use Rattle.sim_top.proofs.Common.{IsAnswerTo, IsFinished, IsMade, IsMadeAs, IsOfContent, IsOfList, IsOfMatch, IsOfState, IsOutcomeOf, IsReading, IsRefusal}
+use Rattle.sim_top.proofs.Common.{IsSavedAs, IsState, IsUnfound, LacksFirst, length_in, length_read, ListRefused, LogRefused, match_in, MatchRefused, MayAnswer}
+use Rattle.sim_top.proofs.Common.{MayFinish, NoFile, OnlyGave, out_of, Outcome, outcome_made, OutOfMemory, printed, ReadFault, reads_file, ReadsState, Saved}
+use Rattle.sim_top.proofs.Common.{Stop, Stopped, subst, sym, Then, ThenStored, to_session, to_try, TooLong, trial_match, trial_outcome, ◌∙◌}
+use Rattle.sim_top.proofs.Common.{session_match_in, session_text, Setup, Shelved, SightRefused, State, StateRefused, Status, status_of, StepList, steps_in}
+use Rattle.sim_top.proofs.Common.{◌≡◌, ℕ, ◌+◌, List, IfSome, IsTrue, Some, None, Ok, Err, Option, Result, option_map, refl, Answer, ap, Asked, bytes_in}
+use Rattle.sim_top.proofs.Counting.{content_causes, counted_after, gave_both, gave_on, none_given, nothing_given}
+use Rattle.sim_top.proofs.Stopping.{state_ends, state_goes_on, Stopped-weaker, Then-ended, Then-read, Told, Told-both}
+use Rattle.sim_top.specs.{Reads.length_first, Words.has_match, Words.has_turn, Words.loads_state, Words.reads_list, declared.stop.Stop.TheVariants.NoSuchTurn}
+use Rattle.sim_top.specs.Making.{IsFileAs}
 use Rattle.sim_top.specs.declared.status.Status.TheVariants as status
-use Rattle.sim_top.specs.declared.stop.Stop.{Stop}
-use Rattle.sim_top.specs.declared.stop.Stop.TheVariants.{ReadFault, TooLong, NoFile, OutOfMemory, MatchRefused, StateRefused, ListRefused, NoSuchTurn, SightRefused, LogRefused, EconomyRefused}
-use Rattle.sim_top.proofs.Counting.{counted_after, content_causes, gave_both, gave_on, none_given, nothing_given}
-use Rattle.sim_top.proofs.Stopping.{Stopped-weaker, Then-read, Then-ended, Told, Told-both, state_ends, state_goes_on}
 
 -- ---- a command that has made its outcome
 
@@ -45,15 +33,18 @@ has_ended None other h = absurd h
 has_ended (Some saved) status.Done h = tt
 has_ended (Some saved) other h = absurd h
 
-gave_end : (files : List File) (asked : Asked) (status : Status) (old new : Counts) → HasEnded status → Gave (length_read files asked) old new → GaveFor files asked status old new
+gave_end : (files : List File) (asked : Asked) (status : Status) (old new : Counts) → HasEnded status → Gave (length_read files asked) old new
+    → GaveFor files asked status old new
 gave_end files asked status.Done old new ended h = h
 gave_end files asked status.Differs old new ended h = h
 gave_end files asked other old new ended h = absurd ended
 
 -- what an answer says, by its parts
-answered : (asked : Asked) (wanted : Outcome) (answer : Answer) (before now : Shelved) → outcome_made answer ≡ wanted → MayFinish asked wanted → IfSome before.held (λ files. IsOutcomeOf files (Some asked) wanted)
+answered : (asked : Asked) (wanted : Outcome) (answer : Answer) (before now : Shelved) → outcome_made answer ≡ wanted → MayFinish asked wanted
+    → IfSome before.held (λ files. IsOutcomeOf files (Some asked) wanted)
     → ((files : List File) → before.held ≡ Some files → LacksFirst files asked → ⊥) → OnlyGave before.counts now.counts
-    → ((files : List File) → before.held ≡ Some files → Gave (length_read files asked) before.counts now.counts) → now.held ≡ before.held → IsAnswerTo asked (Ok answer) before now
+    → ((files : List File) → before.held ≡ Some files → Gave (length_read files asked) before.counts now.counts) → now.held ≡ before.held
+    → IsAnswerTo asked (Ok answer) before now
 answered asked wanted answer before now made finish is there gave given same =
     let same_status : answer.status ≡ wanted.status = ap (λ (o : Outcome). o.status) made in
     record {
@@ -64,12 +55,14 @@ answered asked wanted answer before now made finish is there gave given same =
       causes = gave;
       statuses = subst (MayAnswer asked) (sym same_status) finish.status;
       missing = λ files e lacks. there files e lacks;
-      given = λ files e. gave_end files asked answer.status before.counts now.counts (subst HasEnded (sym same_status) (has_ended wanted.saved wanted.status finish.done)) (given files e);
+      given = λ files e. gave_end files asked answer.status before.counts now.counts
+          (subst HasEnded (sym same_status) (has_ended wanted.saved wanted.status finish.done)) (given files e);
       same = same;
     }
 
 -- and of a command that found no memory for it
-out_of_memory : (asked : Asked) (before now : Shelved) → ((files : List File) → before.held ≡ Some files → LacksFirst files asked → ⊥) → OnlyGave before.counts now.counts → now.held ≡ before.held
+out_of_memory : (asked : Asked) (before now : Shelved) → ((files : List File) → before.held ≡ Some files → LacksFirst files asked → ⊥)
+    → OnlyGave before.counts now.counts → now.held ≡ before.held
     → IsAnswerTo asked (Err OutOfMemory) before now
 out_of_memory asked before now there gave same = record {
   answers = Told-any before.held;
@@ -87,27 +80,38 @@ out_of_memory asked before now there gave same = record {
     Told-any (Some files) = tt
 
 pub comes_to : (asked : Asked) (wanted : Outcome) (made : Result Answer Stop) (before now : Shelved) → IsMade wanted made → MayFinish asked wanted
-    → IfSome before.held (λ files. IsOutcomeOf files (Some asked) wanted) → ((files : List File) → before.held ≡ Some files → LacksFirst files asked → ⊥) → OnlyGave before.counts now.counts
-    → ((files : List File) → before.held ≡ Some files → Gave (length_read files asked) before.counts now.counts) → now.held ≡ before.held → IsAnswerTo asked made before now
-comes_to asked wanted (Ok answer) before now m finish is there gave given same = answered asked wanted answer before now m.answers finish is there gave given same
+    → IfSome before.held (λ files. IsOutcomeOf files (Some asked) wanted) → ((files : List File) → before.held ≡ Some files → LacksFirst files asked → ⊥)
+    → OnlyGave before.counts now.counts
+    → ((files : List File) → before.held ≡ Some files → Gave (length_read files asked) before.counts now.counts) → now.held ≡ before.held
+    → IsAnswerTo asked made before now
+comes_to asked wanted (Ok answer) before now m finish is there gave given same = answered asked wanted answer before now m.answers finish is there gave given
+    same
 comes_to asked wanted (Err stop) before now m finish is there gave given same =
     subst (λ (s : Stop). IsAnswerTo asked (Err s) before now) (sym m.stops) (out_of_memory asked before now there gave same)
 
 -- the same where several outcomes may be wanted, and one of them is made
-pub comes_to_one : (asked : Asked) (Wanted : Outcome → Type 0) (made : Result Answer Stop) (before now : Shelved) → IsMadeAs Wanted made → ((o : Outcome) → Wanted o → MayFinish asked o)
-    → ((o : Outcome) → Wanted o → IfSome before.held (λ files. IsOutcomeOf files (Some asked) o)) → ((files : List File) → before.held ≡ Some files → LacksFirst files asked → ⊥) → OnlyGave before.counts now.counts
-    → ((files : List File) → before.held ≡ Some files → Gave (length_read files asked) before.counts now.counts) → now.held ≡ before.held → IsAnswerTo asked made before now
+pub comes_to_one : (asked : Asked) (Wanted : Outcome → Type 0) (made : Result Answer Stop) (before now : Shelved) → IsMadeAs Wanted made
+    → ((o : Outcome) → Wanted o → MayFinish asked o)
+    → ((o : Outcome) → Wanted o → IfSome before.held (λ files. IsOutcomeOf files (Some asked) o))
+    → ((files : List File) → before.held ≡ Some files → LacksFirst files asked → ⊥) → OnlyGave before.counts now.counts
+    → ((files : List File) → before.held ≡ Some files → Gave (length_read files asked) before.counts now.counts) → now.held ≡ before.held
+    → IsAnswerTo asked made before now
 comes_to_one asked Wanted (Ok answer) before now m finish is there gave given same =
-    answered asked (outcome_made answer) answer before now refl (finish (outcome_made answer) m.answers) (is (outcome_made answer) m.answers) there gave given same
+    answered asked (outcome_made answer) answer before now refl (finish (outcome_made answer) m.answers) (is (outcome_made answer) m.answers) there gave given
+    same
 comes_to_one asked Wanted (Err stop) before now m finish is there gave given same =
     subst (λ (s : Stop). IsAnswerTo asked (Err s) before now) (sym m.stops) (out_of_memory asked before now there gave same)
 
 -- ---- a command that ends before
 
-pub ends : (asked : Asked) (stop : Stop) (before now : Shelved) → IfSome before.held (λ files. Stopped stop (IsOutcomeOf files (Some asked))) → MayAnswer asked (status_of stop)
-    → CountsBefore (status_of stop) before.counts now.counts → ((files : List File) → before.held ≡ Some files → LacksFirst files asked → IsUnfound (status_of stop))
-    → ((files : List File) → before.held ≡ Some files → GaveFor files asked (status_of stop) before.counts now.counts) → now.held ≡ before.held → IsAnswerTo asked (Err stop) before now
-ends asked stop before now is may causes missing given same = record { answers = is; saved = tt; done = tt; causes = causes; statuses = may; missing = missing; given = given; same = same }
+pub ends : (asked : Asked) (stop : Stop) (before now : Shelved) → IfSome before.held (λ files. Stopped stop (IsOutcomeOf files (Some asked)))
+    → MayAnswer asked (status_of stop)
+    → CountsBefore (status_of stop) before.counts now.counts → ((files : List File) → before.held ≡ Some files → LacksFirst files asked
+    → IsUnfound (status_of stop))
+    → ((files : List File) → before.held ≡ Some files → GaveFor files asked (status_of stop) before.counts now.counts) → now.held ≡ before.held
+    → IsAnswerTo asked (Err stop) before now
+ends asked stop before now is may causes missing given same =
+    record { answers = is; saved = tt; done = tt; causes = causes; statuses = may; missing = missing; given = given; same = same }
 
 may_match : (asked : Asked) (stop : Stop) → IsTrue (reads_file asked) → IsTrue (has_match asked) → IsOfMatch stop → MayAnswer asked (status_of stop)
 may_match asked ReadFault reads has of = reads
@@ -148,7 +152,8 @@ may_list asked (SightRefused code) reads lists of = absurd of
 may_list asked (LogRefused line) reads lists of = absurd of
 may_list asked (EconomyRefused index) reads lists of = absurd of
 
-gave_match : (files : List File) (asked : Asked) (stop : Stop) (n : ℕ) (old new : Counts) → length_first files asked ≡ n → IsOfMatch stop → (IsRefusal stop → Gave n old new)
+gave_match : (files : List File) (asked : Asked) (stop : Stop) (n : ℕ) (old new : Counts) → length_first files asked ≡ n → IsOfMatch stop
+    → (IsRefusal stop → Gave n old new)
     → GaveFor files asked (status_of stop) old new
 gave_match files asked ReadFault n old new is of h = tt
 gave_match files asked TooLong n old new is of h = tt
@@ -162,7 +167,8 @@ gave_match files asked (SightRefused code) n old new is of h = absurd of
 gave_match files asked (LogRefused line) n old new is of h = absurd of
 gave_match files asked (EconomyRefused index) n old new is of h = absurd of
 
-pub gave_state : (files : List File) (asked : Asked) (stop : Stop) (old new : Counts) → IsOfState stop → (IsRefusal stop → GaveToState files asked old new) → GaveFor files asked (status_of stop) old new
+pub gave_state : (files : List File) (asked : Asked) (stop : Stop) (old new : Counts) → IsOfState stop → (IsRefusal stop → GaveToState files asked old new)
+    → GaveFor files asked (status_of stop) old new
 gave_state files asked ReadFault old new of h = tt
 gave_state files asked TooLong old new of h = tt
 gave_state files asked NoFile old new of h = tt
@@ -175,7 +181,8 @@ gave_state files asked (SightRefused code) old new of h = absurd of
 gave_state files asked (LogRefused line) old new of h = absurd of
 gave_state files asked (EconomyRefused index) old new of h = absurd of
 
-gave_list : (files : List File) (asked : Asked) (stop : Stop) (old new : Counts) → IsOfList stop → (IsRefusal stop → Gave (length_read files asked) old new) → GaveFor files asked (status_of stop) old new
+gave_list : (files : List File) (asked : Asked) (stop : Stop) (old new : Counts) → IsOfList stop → (IsRefusal stop → Gave (length_read files asked) old new)
+    → GaveFor files asked (status_of stop) old new
 gave_list files asked ReadFault old new of h = tt
 gave_list files asked TooLong old new of h = tt
 gave_list files asked NoFile old new of h = tt
@@ -203,8 +210,10 @@ pub record Opens (asked : Asked) (name : List ℕ) (found : List File → Result
   pub has : IsTrue (has_match asked)
 
 -- it could not be read
-pub match_ends : (asked : Asked) (name : List ℕ) (found : List File → Result Setup Outcome) (stop : Stop) (before now : Shelved) → Opens asked name found → IsOfMatch stop
-    → IfSome before.held (λ files. Stopped stop (λ ended. found files ≡ Err ended)) → IsReading {X = Setup} name (Err stop) before now → IsAnswerTo asked (Err stop) before now
+pub match_ends : (asked : Asked) (name : List ℕ) (found : List File → Result Setup Outcome) (stop : Stop) (before now : Shelved) → Opens asked name found
+    → IsOfMatch stop
+    → IfSome before.held (λ files. Stopped stop (λ ended. found files ≡ Err ended)) → IsReading {X = Setup} name (Err stop) before now
+    → IsAnswerTo asked (Err stop) before now
 match_ends asked name found stop before now opens of told reading =
     ends asked stop before now
     (Told (λ files. Stopped stop (λ ended. found files ≡ Err ended)) (λ files. Stopped stop (IsOutcomeOf files (Some asked))) before.held
@@ -216,13 +225,16 @@ match_ends asked name found stop before now opens of told reading =
     reading.same
 
 -- it was read, so it is there
-pub match_there : (asked : Asked) (name : List ℕ) (found : List File → Result Setup Outcome) (setup : Setup) (before now : Shelved) → Opens asked name found → IsReading name (Ok setup) before now
+pub match_there : (asked : Asked) (name : List ℕ) (found : List File → Result Setup Outcome) (setup : Setup) (before now : Shelved) → Opens asked name found
+    → IsReading name (Ok setup) before now
     → (files : List File) → before.held ≡ Some files → LacksFirst files asked → ⊥
 match_there asked name found setup before now opens reading files e lacks = reading.missing files e (opens.lacks files lacks)
 
 -- and the command goes on with it alone
-pub match_goes_on : (asked : Asked) (name : List ℕ) (found : List File → Result Setup Outcome) (setup : Setup) (wanted : Outcome) (made : Result Answer Stop) (before now : Shelved) → Opens asked name found
-    → IsReading name (Ok setup) before now → IfSome before.held (λ files. found files ≡ Ok setup) → ((files : List File) → found files ≡ Ok setup → IsOutcomeOf files (Some asked) wanted)
+pub match_goes_on : (asked : Asked) (name : List ℕ) (found : List File → Result Setup Outcome) (setup : Setup) (wanted : Outcome) (made : Result Answer Stop)
+    (before now : Shelved) → Opens asked name found
+    → IsReading name (Ok setup) before now → IfSome before.held (λ files. found files ≡ Ok setup)
+    → ((files : List File) → found files ≡ Ok setup → IsOutcomeOf files (Some asked) wanted)
     → ((files : List File) → length_read files asked ≡ length_in files name) → IsMade wanted made → MayFinish asked wanted → IsAnswerTo asked made before now
 match_goes_on asked name found setup wanted made before now opens reading told is all m finish =
     comes_to asked wanted made before now m finish
@@ -233,9 +245,12 @@ match_goes_on asked name found setup wanted made before now opens reading told i
     reading.same
 
 -- the same where several outcomes may be wanted
-pub match_goes_on_as : (asked : Asked) (name : List ℕ) (found : List File → Result Setup Outcome) (setup : Setup) (Wanted : Outcome → Type 0) (made : Result Answer Stop) (before now : Shelved) → Opens asked name found
-    → IsReading name (Ok setup) before now → IfSome before.held (λ files. found files ≡ Ok setup) → ((files : List File) (o : Outcome) → found files ≡ Ok setup → Wanted o → IsOutcomeOf files (Some asked) o)
-    → ((files : List File) → length_read files asked ≡ length_in files name) → IsMadeAs Wanted made → ((o : Outcome) → Wanted o → MayFinish asked o) → IsAnswerTo asked made before now
+pub match_goes_on_as : (asked : Asked) (name : List ℕ) (found : List File → Result Setup Outcome) (setup : Setup) (Wanted : Outcome → Type 0)
+    (made : Result Answer Stop) (before now : Shelved) → Opens asked name found
+    → IsReading name (Ok setup) before now → IfSome before.held (λ files. found files ≡ Ok setup)
+    → ((files : List File) (o : Outcome) → found files ≡ Ok setup → Wanted o → IsOutcomeOf files (Some asked) o)
+    → ((files : List File) → length_read files asked ≡ length_in files name) → IsMadeAs Wanted made → ((o : Outcome) → Wanted o → MayFinish asked o)
+    → IsAnswerTo asked made before now
 match_goes_on_as asked name found setup Wanted made before now opens reading told is all m finish =
     comes_to_one asked Wanted made before now m finish
     (λ o wanted. Told (λ files. found files ≡ Ok setup) (λ files. IsOutcomeOf files (Some asked) o) before.held (λ files e. is files o e wanted) told)
@@ -247,7 +262,8 @@ match_goes_on_as asked name found setup Wanted made before now opens reading tol
 -- ---- and one or two more behind it
 
 -- two readings, one after another
-module _ {X Y : Type 0} (first second : List ℕ) (x : X) (found : Result Y Stop) (before middle now : Shelved) (one : IsReading first (Ok x) before middle) (two : IsReading second found middle now) where
+module _ {X Y : Type 0} (first second : List ℕ) (x : X) (found : Result Y Stop) (before middle now : Shelved) (one : IsReading first (Ok x) before middle)
+    (two : IsReading second found middle now) where
   pub both_same : now.held ≡ before.held
   both_same = two.same ∙ one.same
 
@@ -264,23 +280,28 @@ module _ {X Y : Type 0} (first second : List ℕ) (x : X) (found : Result Y Stop
   pub both_given : (files : List File) → before.held ≡ Some files → GaveAll found (length_in files first + length_in files second) before.counts now.counts
   both_given files e = by found (two.given files (one.same ∙ e))
     where
-      by : (r : Result Y Stop) → GaveAll r (length_in files second) middle.counts now.counts → GaveAll r (length_in files first + length_in files second) before.counts now.counts
+      by : (r : Result Y Stop) → GaveAll r (length_in files second) middle.counts now.counts → GaveAll r (length_in files first + length_in files second)
+          before.counts now.counts
       by (Ok y) h = gave_both (length_in files first) (length_in files second) before.counts middle.counts now.counts (one.given files e) h
-      by (Err stop) h = λ refused. gave_both (length_in files first) (length_in files second) before.counts middle.counts now.counts (one.given files e) (h refused)
+      by (Err stop) h = λ refused. gave_both (length_in files first) (length_in files second) before.counts middle.counts now.counts (one.given files e)
+          (h refused)
 
 -- a list could not be read
 pub list_ends_at : (asked : Asked) (stop : Stop) (before now : Shelved) → IsTrue (reads_file asked) → IsTrue (reads_list asked) → IsOfList stop
     → IfSome before.held (λ files. Stopped stop (IsOutcomeOf files (Some asked))) → CountsBefore (status_of stop) before.counts now.counts
     → ((files : List File) → before.held ≡ Some files → LacksFirst files asked → IsUnfound (status_of stop))
-    → ((files : List File) → before.held ≡ Some files → IsRefusal stop → Gave (length_read files asked) before.counts now.counts) → now.held ≡ before.held → IsAnswerTo asked (Err stop) before now
+    → ((files : List File) → before.held ≡ Some files → IsRefusal stop → Gave (length_read files asked) before.counts now.counts) → now.held ≡ before.held
+    → IsAnswerTo asked (Err stop) before now
 list_ends_at asked stop before now reads lists of is causes missing given same =
     ends asked stop before now is (may_list asked stop reads lists of) causes missing
     (λ files e. gave_list files asked stop before.counts now.counts of (given files e)) same
 
 -- the match has not the turn
-pub turn_ends_at : (asked : Asked) (turn turns : ℕ) (before now : Shelved) → IsTrue (has_turn asked) → IfSome before.held (λ files. Stopped (NoSuchTurn turn turns) (IsOutcomeOf files (Some asked)))
+pub turn_ends_at : (asked : Asked) (turn turns : ℕ) (before now : Shelved) → IsTrue (has_turn asked)
+    → IfSome before.held (λ files. Stopped (NoSuchTurn turn turns) (IsOutcomeOf files (Some asked)))
     → OnlyGave before.counts now.counts → ((files : List File) → before.held ≡ Some files → LacksFirst files asked → ⊥)
-    → ((files : List File) → before.held ≡ Some files → Gave (length_read files asked) before.counts now.counts) → now.held ≡ before.held → IsAnswerTo asked (Err (NoSuchTurn turn turns)) before now
+    → ((files : List File) → before.held ≡ Some files → Gave (length_read files asked) before.counts now.counts) → now.held ≡ before.held
+    → IsAnswerTo asked (Err (NoSuchTurn turn turns)) before now
 turn_ends_at asked turn turns before now has is causes there given same =
     ends asked (NoSuchTurn turn turns) before now is has causes (λ files e lacks. absurd (there files e lacks)) given same
 
@@ -297,14 +318,19 @@ module _ (asked : Asked) (game name : List ℕ) (next : List File → Setup → 
     pub is : (files : List File) (wanted : Outcome) → of_state files wanted → IsOutcomeOf files (Some asked) wanted
     pub loads : IsTrue (loads_state asked)
 
-  module _ (loads : Loads) (setup : Setup) (before middle now : Shelved) (one : IsReading game (Ok setup) before middle) (told : IfSome before.held (λ files. match_in files game ≡ Ok setup)) where
+  module _ (loads : Loads) (setup : Setup) (before middle now : Shelved) (one : IsReading game (Ok setup) before middle)
+      (told : IfSome before.held (λ files. match_in files game ≡ Ok setup)) where
     -- the state could not be read
-    pub stored_ends : (stop : Stop) → IsOfState stop → IsReading {X = State} name (Err stop) middle now → IfSome middle.held (λ files. ReadsState (Err stop) setup name (bytes_in files name))
-        → ((files : List File) → before.held ≡ Some files → IsRefusal stop → GaveToState files asked before.counts now.counts) → IsAnswerTo asked (Err stop) before now
+    pub stored_ends : (stop : Stop) → IsOfState stop → IsReading {X = State} name (Err stop) middle now
+        → IfSome middle.held (λ files. ReadsState (Err stop) setup name (bytes_in files name))
+        → ((files : List File) → before.held ≡ Some files → IsRefusal stop → GaveToState files asked before.counts now.counts)
+        → IsAnswerTo asked (Err stop) before now
     stored_ends stop of two stored given =
         ends asked stop before now
-        (Told-both (λ files. match_in files game ≡ Ok setup) (λ files. ReadsState (Err stop) setup name (bytes_in files name)) (λ files. Stopped stop (IsOutcomeOf files (Some asked))) before.held
-        (λ files e h. Stopped-weaker stop (of_state files) (IsOutcomeOf files (Some asked)) (loads.is files) (state_ends stop setup name (match_in files game) (bytes_in files name) (next files) e h))
+        (Told-both (λ files. match_in files game ≡ Ok setup) (λ files. ReadsState (Err stop) setup name (bytes_in files name))
+        (λ files. Stopped stop (IsOutcomeOf files (Some asked))) before.held
+        (λ files e h. Stopped-weaker stop (of_state files) (IsOutcomeOf files (Some asked)) (loads.is files)
+        (state_ends stop setup name (match_in files game) (bytes_in files name) (next files) e h))
         told (both_told game name setup (Err stop) before middle now one two (λ files. ReadsState (Err stop) setup name (bytes_in files name)) stored))
         (may_state asked stop loads.opens.reads loads.loads of)
         (both_causes game name setup (Err stop) before middle now one two)
@@ -313,16 +339,20 @@ module _ (asked : Asked) (game name : List ℕ) (next : List File → Setup → 
         (both_same game name setup (Err stop) before middle now one two)
 
     -- it was read, and the command goes on
-    pub stored_goes_on : (state : State) (wanted : Outcome) (made : Result Answer Stop) → IsReading name (Ok state) middle now → IfSome middle.held (λ files. IsState setup (bytes_in files name) state)
-        → ((files : List File) → next files setup state wanted) → ((files : List File) → length_read files asked ≡ length_in files game + length_in files name) → IsMade wanted made → MayFinish asked wanted → IsAnswerTo asked made before now
+    pub stored_goes_on : (state : State) (wanted : Outcome) (made : Result Answer Stop) → IsReading name (Ok state) middle now
+        → IfSome middle.held (λ files. IsState setup (bytes_in files name) state)
+        → ((files : List File) → next files setup state wanted) → ((files : List File) → length_read files asked ≡ length_in files game + length_in files name)
+        → IsMade wanted made → MayFinish asked wanted → IsAnswerTo asked made before now
     stored_goes_on state wanted made two stored comes all m finish =
         comes_to asked wanted made before now m finish
-        (Told-both (λ files. match_in files game ≡ Ok setup) (λ files. IsState setup (bytes_in files name) state) (λ files. IsOutcomeOf files (Some asked) wanted) before.held
+        (Told-both (λ files. match_in files game ≡ Ok setup) (λ files. IsState setup (bytes_in files name) state)
+        (λ files. IsOutcomeOf files (Some asked) wanted) before.held
         (λ files e h. loads.is files wanted (state_goes_on setup name state (match_in files game) (bytes_in files name) (next files) wanted e h (comes files)))
         told (both_told game name setup (Ok state) before middle now one two (λ files. IsState setup (bytes_in files name) state) stored))
         (match_there asked game (λ files. match_in files game) setup before middle loads.opens one)
         (both_causes game name setup (Ok state) before middle now one two)
-        (λ files e. subst (λ (n : ℕ). Gave n before.counts now.counts) (sym (all files)) (both_given game name setup (Ok state) before middle now one two files e))
+        (λ files e. subst (λ (n : ℕ). Gave n before.counts now.counts) (sym (all files))
+        (both_given game name setup (Ok state) before middle now one two files e))
         (both_same game name setup (Ok state) before middle now one two)
 
 -- ---- a trial, which reads no file
@@ -339,11 +369,13 @@ module _ (seed units turns : ℕ) (shelf : Shelved) where
       by (Some files) = f files
 
   -- its match was refused, or there was no memory
-  pub trial_ends : (stop : Stop) → IsOfMatch stop → IsOfContent stop → Stopped stop (λ ended. trial_match seed units turns ≡ Err ended) → IsAnswerTo (to_try seed units turns) (Err stop) shelf shelf
+  pub trial_ends : (stop : Stop) → IsOfMatch stop → IsOfContent stop → Stopped stop (λ ended. trial_match seed units turns ≡ Err ended)
+      → IsAnswerTo (to_try seed units turns) (Err stop) shelf shelf
   trial_ends stop of content told =
       ends (to_try seed units turns) stop shelf shelf
       (told_all (λ files. Stopped stop (IsOutcomeOf files (Some (to_try seed units turns))))
-      (λ files. Stopped-weaker stop (λ ended. trial_match seed units turns ≡ Err ended) (IsOutcomeOf files (Some (to_try seed units turns))) (λ o e. Then-ended (trial_match seed units turns) of_trial o e) told))
+      (λ files. Stopped-weaker stop (λ ended. trial_match seed units turns ≡ Err ended) (IsOutcomeOf files (Some (to_try seed units turns)))
+      (λ o e. Then-ended (trial_match seed units turns) of_trial o e) told))
       (by stop of content)
       (content_causes {X = Setup} (Err stop) shelf.counts shelf.counts content (nothing_given shelf.counts))
       (λ files e lacks. absurd lacks)
@@ -364,7 +396,8 @@ module _ (seed units turns : ℕ) (shelf : Shelved) where
       by (EconomyRefused index) of content = absurd of
 
   -- it was played
-  pub trial_goes_on : (setup : Setup) (made : Result Answer Stop) → trial_match seed units turns ≡ Ok setup → IsMade (trial_outcome seed units turns setup) made → IsAnswerTo (to_try seed units turns) made shelf shelf
+  pub trial_goes_on : (setup : Setup) (made : Result Answer Stop) → trial_match seed units turns ≡ Ok setup → IsMade (trial_outcome seed units turns setup) made
+      → IsAnswerTo (to_try seed units turns) made shelf shelf
   trial_goes_on setup made told m =
       comes_to (to_try seed units turns) (trial_outcome seed units turns setup) made shelf shelf m (record { status = tt; done = tt; file = tt })
       (told_all (λ files. IsOutcomeOf files (Some (to_try seed units turns)) (trial_outcome seed units turns setup))
@@ -382,26 +415,38 @@ module _ (game steps : List ℕ) where
   stepped files setup wanted = Then (steps_in files steps setup.players) (of_steps setup) wanted
 
   pub session_opens : Opens (to_session game steps) game (λ files. session_match_in files game)
-  session_opens = record { fails = λ files o e. Then-ended (session_match_in files game) (stepped files) o e; first = λ files. refl; lacks = λ files h. h; reads = refl; has = refl }
+  session_opens = record {
+    fails = λ files o e. Then-ended (session_match_in files game) (stepped files) o e;
+    first = λ files. refl;
+    lacks = λ files h. h;
+    reads = refl;
+    has = refl;
+  }
 
-  module _ (setup : Setup) (before middle now : Shelved) (one : IsReading game (Ok setup) before middle) (told : IfSome before.held (λ files. session_match_in files game ≡ Ok setup)) where
+  module _ (setup : Setup) (before middle now : Shelved) (one : IsReading game (Ok setup) before middle)
+      (told : IfSome before.held (λ files. session_match_in files game ≡ Ok setup)) where
     -- the steps could not be read
-    pub steps_end : (stop : Stop) → IsOfList stop → IsReading {X = StepList} steps (Err stop) middle now → IfSome middle.held (λ files. Stopped stop (λ ended. steps_in files steps setup.players ≡ Err ended))
+    pub steps_end : (stop : Stop) → IsOfList stop → IsReading {X = StepList} steps (Err stop) middle now
+        → IfSome middle.held (λ files. Stopped stop (λ ended. steps_in files steps setup.players ≡ Err ended))
         → IsAnswerTo (to_session game steps) (Err stop) before now
     steps_end stop of two listed =
         list_ends_at (to_session game steps) stop before now refl refl of
         (Told-both (λ files. session_match_in files game ≡ Ok setup) (λ files. Stopped stop (λ ended. steps_in files steps setup.players ≡ Err ended))
         (λ files. Stopped stop (IsOutcomeOf files (Some (to_session game steps)))) before.held
         (λ files e h. Stopped-weaker stop (λ ended. steps_in files steps setup.players ≡ Err ended) (IsOutcomeOf files (Some (to_session game steps)))
-        (λ o ended. Then-read (session_match_in files game) setup (stepped files) o e (Then-ended (steps_in files steps setup.players) (of_steps setup) o ended)) h)
-        told (both_told game steps setup (Err stop) before middle now one two (λ files. Stopped stop (λ ended. steps_in files steps setup.players ≡ Err ended)) listed))
+        (λ o ended. Then-read (session_match_in files game) setup (stepped files) o e
+        (Then-ended (steps_in files steps setup.players) (of_steps setup) o ended)) h)
+        told (both_told game steps setup (Err stop) before middle now one two (λ files. Stopped stop (λ ended. steps_in files steps setup.players ≡ Err ended))
+        listed))
         (both_causes game steps setup (Err stop) before middle now one two)
-        (λ files e lacks. absurd (match_there (to_session game steps) game (λ files. session_match_in files game) setup before middle session_opens one files e lacks))
+        (λ files e lacks. absurd (match_there (to_session game steps) game (λ files. session_match_in files game) setup before middle session_opens one files e
+        lacks))
         (λ files e. both_given game steps setup (Err stop) before middle now one two files e)
         (both_same game steps setup (Err stop) before middle now one two)
 
     -- they were read, and the session is run
-    pub steps_go_on : (list : StepList) (made : Result Answer Stop) → IsReading steps (Ok list) middle now → IfSome middle.held (λ files. steps_in files steps setup.players ≡ Ok list)
+    pub steps_go_on : (list : StepList) (made : Result Answer Stop) → IsReading steps (Ok list) middle now
+        → IfSome middle.held (λ files. steps_in files steps setup.players ≡ Ok list)
         → IsMade (printed status.Done (session_text setup list)) made → IsAnswerTo (to_session game steps) made before now
     steps_go_on list made two listed m =
         comes_to (to_session game steps) (printed status.Done (session_text setup list)) made before now m (record { status = tt; done = tt; file = tt })

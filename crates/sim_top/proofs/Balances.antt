@@ -1,22 +1,11 @@
 -- What the sink was told of a match that is played by an economy.
-use Rattle.std.proofs.Common.{◌≡◌, ℕ, List, sym, subst}
-use Rattle.std.specs.Prelude.{Result, Ok, Err, Option, Some, IfOk}
-use Rattle.std.specs.Io.KnownBytes.{Appends}
-use Rattle.sim_base.specs.declared.setup.Setup.{Setup}
-use Rattle.sim_play.specs.Paid.{stock_text}
-use Rattle.sim_stock.specs.declared.economy.Economy.{Economy}
-use Rattle.sim_stock.proofs.Paying.{states_are_after}
-use Rattle.sim_store.specs.Files.{File}
-use Rattle.sim_top.specs.Answers.{Scene, Meets}
-use Rattle.sim_top.specs.Outcome.{Outcome, Then, IsOutcomeOf, printed, match_in, economy_in}
-use Rattle.sim_top.specs.Reads.{HasEnded}
-use Rattle.sim_top.specs.Stocks.{OfStock, Balances}
-use Rattle.sim_top.specs.Words.{Asked, asked_by, to_stock}
-use Rattle.sim_top.specs.declared.status.Status.{Status}
-use Rattle.sim_top.specs.declared.status.Status.TheVariants.{Done, Differs}
+use Rattle.{sim_stock.proofs.Paying.states_are_after, sim_top.proofs.Common.to_stock}
+use Rattle.sim_top.proofs.Common.{File, HasEnded, IsOutcomeOf, match_in, Meets, OfStock, Outcome, printed, Scene, Setup, Status, stock_text, subst, Then}
+use Rattle.sim_top.proofs.Common.{◌≡◌, ℕ, List, IfOk, Some, Ok, Err, Option, Result, Appends, Asked, asked_by, Balances, Differs, Done, Economy, economy_in}
 
 -- the text of an outcome
-of_outcome : (files : List File) (asked : Option Asked) (wanted : Outcome) (told told' : Option (List ℕ)) → IsOutcomeOf files asked wanted → Appends told told' wanted.text
+of_outcome : (files : List File) (asked : Option Asked) (wanted : Outcome) (told told' : Option (List ℕ)) → IsOutcomeOf files asked wanted
+    → Appends told told' wanted.text
     → OfStock files asked (λ setup economy. Balances setup economy told told')
 of_outcome files (Some (to_stock game name)) wanted told told' is text = by (match_in files game) is
   where
@@ -25,7 +14,8 @@ of_outcome files (Some (to_stock game name)) wanted told told' is text = by (mat
     paid setup (Ok economy) is = record { text = subst (λ (o : Outcome). Appends told told' o.text) is text; states = states_are_after setup economy }
     paid setup (Err ended) is = tt
 
-    by : (r : Result Setup Outcome) → Then r (λ setup. Then (economy_in files name setup) (λ economy wanted. wanted ≡ printed Done (stock_text setup economy))) wanted
+    by : (r : Result Setup Outcome) → Then r (λ setup. Then (economy_in files name setup) (λ economy wanted. wanted ≡ printed Done (stock_text setup economy)))
+        wanted
         → IfOk r (λ setup. IfOk (economy_in files name setup) (λ economy. Balances setup economy told told'))
     by (Ok setup) is = paid setup (economy_in files name setup) is
     by (Err ended) is = tt

@@ -1,25 +1,14 @@
 -- Two stored states of a match, which are compared: the second is read where the first is a state.
-use Rattle.std.proofs.Common.{◌≡◌, ℕ, ◌+◌, List, length, Option, Some, None, Result, Ok, Err, refl, sym, ◌∙◌, subst, IfSome, IfOk}
-use Rattle.sim_base.specs.declared.setup.Setup.{Setup}
-use Rattle.sim_base.specs.declared.state.State.{State}
-use Rattle.sim_store.specs.Files.{File}
-use Rattle.sim_diff.specs.Difference.{difference_of}
-use Rattle.sim_diff.specs.declared.place.Place.{Place}
-use Rattle.sim_top.specs.Commands.{Shelved, IsReading, MayFinish, IsAnswerTo}
-use Rattle.sim_top.specs.Given.{Gave, GaveToState}
-use Rattle.sim_top.specs.Making.{IsMade}
-use Rattle.sim_top.specs.Outcome.{Outcome, Then, IsOutcomeOf, IsCompared, bytes_in, match_in, compare_by}
-use Rattle.sim_top.specs.Readiness.{HoldsState}
-use Rattle.sim_top.specs.Reads.{LacksFirst, length_in, length_read}
-use Rattle.sim_top.specs.Stops.{Stopped, ReadsState, IsState, IsRefused, IsOfState, IsRefusal, CausesOf, GaveAll}
-use Rattle.sim_top.specs.Words.{to_compare}
-use Rattle.sim_top.specs.declared.commands.Answer.{Answer}
-use Rattle.sim_top.specs.declared.stop.Stop.{Stop}
-use Rattle.sim_top.specs.declared.stop.Stop.TheVariants.{ReadFault, TooLong, NoFile, OutOfMemory, MatchRefused, StateRefused, ListRefused, NoSuchTurn, SightRefused, LogRefused, EconomyRefused}
-use Rattle.sim_top.proofs.Answering.{Opens, Loads, ends, comes_to, may_state, gave_state, match_there, at_files, both_same, both_told, both_causes, both_given}
-use Rattle.sim_top.proofs.Completeness.{id_of_match, not_refused, after_reading}
+use Rattle.sim_top.proofs.Answering.{at_files, both_causes, both_given, both_told, comes_to, ends, gave_state, Loads, match_there, may_state}
+use Rattle.sim_top.proofs.Common.{IsRefusal, IsRefused, IsState, LacksFirst, length_in, length_read, ListRefused, LogRefused, match_in, MatchRefused, MayFinish}
+use Rattle.sim_top.proofs.Common.{NoFile, Outcome, OutOfMemory, Place, ReadFault, ReadsState, Setup, Shelved, SightRefused, State, StateRefused, Stop, Stopped}
+use Rattle.sim_top.proofs.Common.{difference_of, EconomyRefused, File, Gave, GaveToState, HoldsState, IsAnswerTo, IsMade, IsOfState, IsOutcomeOf, IsReading}
+use Rattle.sim_top.proofs.Common.{subst, sym, Then, to_compare, TooLong, ◌∙◌}
+use Rattle.sim_top.proofs.Common.{◌≡◌, ℕ, ◌+◌, List, length, IfSome, IfOk, Some, None, Ok, Err, Option, Result, refl, Answer, bytes_in, compare_by}
+use Rattle.sim_top.proofs.Completeness.{after_reading, id_of_match, not_refused}
 use Rattle.sim_top.proofs.Counting.{counted_after, gave_both, gave_on}
-use Rattle.sim_top.proofs.Stopping.{Stopped-weaker, Then-ended, Told-all, file_ends, file_goes_on, state_goes_on}
+use Rattle.sim_top.proofs.Stopping.{file_ends, file_goes_on, state_goes_on, Stopped-weaker, Then-ended, Told-all}
+use Rattle.sim_top.specs.{Outcome.IsCompared, declared.stop.Stop.TheVariants.NoSuchTurn}
 
 -- what comes of the first state
 abbrev pub with_second : List ℕ → List File → Setup → State → Outcome → Type 0
@@ -49,7 +38,8 @@ may_finish game left right None = record { status = tt; done = tt; file = tt }
 may_finish game left right (Some place) = record { status = refl; done = tt; file = tt }
 
 -- a state that is refused is not held
-unheld : (files : List File) (setup : Setup) (name : List ℕ) (stop : Stop) → length setup.id ≡ 16 → IsOfState stop → IsRefusal stop → ReadsState (Err stop) setup name (bytes_in files name) → HoldsState files setup name → ⊥
+unheld : (files : List File) (setup : Setup) (name : List ℕ) (stop : Stop) → length setup.id ≡ 16 → IsOfState stop → IsRefusal stop
+    → ReadsState (Err stop) setup name (bytes_in files name) → HoldsState files setup name → ⊥
 unheld files setup name ReadFault id of refused h holds = refused
 unheld files setup name TooLong id of refused h holds = refused
 unheld files setup name NoFile id of refused h holds = refused
@@ -65,19 +55,24 @@ unheld files setup name (StateRefused code text) id of refused h holds =
     not_refused setup holds.bytes holds.state is.fault id holds.stands is.stored
 
 -- the first state is refused
-pub gave_first : (game left right : List ℕ) (setup : Setup) (stop : Stop) (before middle now : Shelved) → IsReading game (Ok setup) before middle → IsReading {X = State} left (Err stop) middle now → IsOfState stop
+pub gave_first : (game left right : List ℕ) (setup : Setup) (stop : Stop) (before middle now : Shelved) → IsReading game (Ok setup) before middle
+    → IsReading {X = State} left (Err stop) middle now → IsOfState stop
     → IfSome before.held (λ files. match_in files game ≡ Ok setup) → IfSome middle.held (λ files. ReadsState (Err stop) setup left (bytes_in files left))
     → (files : List File) → before.held ≡ Some files → IsRefusal stop → GaveToState files (to_compare game left right) before.counts now.counts
 gave_first game left right setup stop before middle now one two of told stored files e refused =
     let read : match_in files game ≡ Ok setup = at_files before.held files (λ files. match_in files game ≡ Ok setup) e told in
     let none : HoldsState files setup left → ⊥ =
-    unheld files setup left stop (id_of_match files game setup read) of refused (at_files middle.held files (λ files. ReadsState (Err stop) setup left (bytes_in files left)) (one.same ∙ e) stored) in
-    subst (λ (r : Result Setup Outcome). IfOk r (λ setup. (HoldsState files setup left → Gave (length_read files (to_compare game left right)) before.counts now.counts)
+    unheld files setup left stop (id_of_match files game setup read) of refused
+    (at_files middle.held files (λ files. ReadsState (Err stop) setup left (bytes_in files left)) (one.same ∙ e) stored) in
+    subst (λ (r : Result Setup Outcome). IfOk r
+    (λ setup. (HoldsState files setup left → Gave (length_read files (to_compare game left right)) before.counts now.counts)
     × ((HoldsState files setup left → ⊥) → Gave (length_in files game + length_in files left) before.counts now.counts))) (sym read)
     (λ holds. absurd (none holds), λ lacks. both_given game left setup (Err stop) before middle now one two files e refused)
 
-module _ (game left right : List ℕ) (setup : Setup) (state : State) (before first middle now : Shelved) (one : IsReading game (Ok setup) before first) (two : IsReading left (Ok state) first middle)
-    (told : IfSome before.held (λ files. match_in files game ≡ Ok setup)) (stored : IfSome first.held (λ files. IsState setup (bytes_in files left) state)) where
+module _ (game left right : List ℕ) (setup : Setup) (state : State) (before first middle now : Shelved) (one : IsReading game (Ok setup) before first)
+    (two : IsReading left (Ok state) first middle)
+    (told : IfSome before.held (λ files. match_in files game ≡ Ok setup))
+    (stored : IfSome first.held (λ files. IsState setup (bytes_in files left) state)) where
   is_there : (files : List File) → before.held ≡ Some files → LacksFirst files (to_compare game left right) → ⊥
   is_there = match_there (to_compare game left right) game (λ files. match_in files game) setup before first (loads game left right).opens one
 
@@ -85,11 +80,13 @@ module _ (game left right : List ℕ) (setup : Setup) (state : State) (before fi
   third_told P h = subst (λ (held : Option (List File)). IfSome held P) (two.same ∙ one.same) h
 
   -- the second state is refused
-  pub second_ends : (stop : Stop) → IsOfState stop → IsReading {X = State} right (Err stop) middle now → IfSome middle.held (λ files. ReadsState (Err stop) setup right (bytes_in files right))
+  pub second_ends : (stop : Stop) → IsOfState stop → IsReading {X = State} right (Err stop) middle now
+      → IfSome middle.held (λ files. ReadsState (Err stop) setup right (bytes_in files right))
       → IsAnswerTo (to_compare game left right) (Err stop) before now
   second_ends stop of three read =
       ends (to_compare game left right) stop before now
-      (Told-all (λ files. match_in files game ≡ Ok setup) (λ files. IsState setup (bytes_in files left) state) (λ files. ReadsState (Err stop) setup right (bytes_in files right))
+      (Told-all (λ files. match_in files game ≡ Ok setup) (λ files. IsState setup (bytes_in files left) state)
+      (λ files. ReadsState (Err stop) setup right (bytes_in files right))
       (λ files. Stopped stop (IsOutcomeOf files (Some (to_compare game left right)))) before.held
       (λ files e s h. Stopped-weaker stop (with_second right files setup state) (IsOutcomeOf files (Some (to_compare game left right)))
       (λ o is. state_goes_on setup left state (match_in files game) (bytes_in files left) (with_second right files) o e s is)
@@ -105,22 +102,27 @@ module _ (game left right : List ℕ) (setup : Setup) (state : State) (before fi
       gave : (files : List File) → before.held ≡ Some files → IsRefusal stop → GaveToState files (to_compare game left right) before.counts now.counts
       gave files e refused =
           let found : match_in files game ≡ Ok setup = at_files before.held files (λ files. match_in files game ≡ Ok setup) e told in
-          let is : IsState setup (bytes_in files left) state = at_files first.held files (λ files. IsState setup (bytes_in files left) state) (one.same ∙ e) stored in
+          let is : IsState setup (bytes_in files left) state = at_files first.held files (λ files. IsState setup (bytes_in files left) state) (one.same ∙ e)
+          stored in
           let holds : HoldsState files setup left = record { bytes = is.bytes; state = state; read = is.read; stands = is.stored } in
           let all = gave_both (length_in files game + length_in files left) (length_in files right) before.counts middle.counts now.counts
           (both_given game left setup (Ok state) before first middle one two files e) (three.given files (two.same ∙ one.same ∙ e) refused) in
-          subst (λ (r : Result Setup Outcome). IfOk r (λ setup. (HoldsState files setup left → Gave (length_read files (to_compare game left right)) before.counts now.counts)
+          subst (λ (r : Result Setup Outcome). IfOk r
+          (λ setup. (HoldsState files setup left → Gave (length_read files (to_compare game left right)) before.counts now.counts)
           × ((HoldsState files setup left → ⊥) → Gave (length_in files game + length_in files left) before.counts now.counts))) (sym found)
           (λ h. all, λ lacks. absurd (lacks holds))
 
   -- both were read
-  pub second_goes_on : (other : State) (made : Result Answer Stop) → IsReading right (Ok other) middle now → IfSome middle.held (λ files. IsState setup (bytes_in files right) other)
+  pub second_goes_on : (other : State) (made : Result Answer Stop) → IsReading right (Ok other) middle now
+      → IfSome middle.held (λ files. IsState setup (bytes_in files right) other)
       → IsMade (compare_by (difference_of state other)) made → IsAnswerTo (to_compare game left right) made before now
   second_goes_on other made three read m =
       comes_to (to_compare game left right) (compare_by (difference_of state other)) made before now m (may_finish game left right (difference_of state other))
-      (Told-all (λ files. match_in files game ≡ Ok setup) (λ files. IsState setup (bytes_in files left) state) (λ files. IsState setup (bytes_in files right) other)
+      (Told-all (λ files. match_in files game ≡ Ok setup) (λ files. IsState setup (bytes_in files left) state)
+      (λ files. IsState setup (bytes_in files right) other)
       (λ files. IsOutcomeOf files (Some (to_compare game left right)) (compare_by (difference_of state other))) before.held
-      (λ files e s h. state_goes_on setup left state (match_in files game) (bytes_in files left) (with_second right files) (compare_by (difference_of state other)) e s
+      (λ files e s h. state_goes_on setup left state (match_in files game) (bytes_in files left) (with_second right files)
+      (compare_by (difference_of state other)) e s
       (file_goes_on setup right other (bytes_in files right) (compared state) (compare_by (difference_of state other)) h refl))
       told (both_told game left setup (Ok state) before first middle one two (λ files. IsState setup (bytes_in files left) state) stored)
       (third_told (λ files. IsState setup (bytes_in files right) other) read))

@@ -1,31 +1,17 @@
 -- Where each file that is read is good and no fault was counted, a run came to its end or there was no memory.
-use Rattle.std.proofs.Common.{◌≡◌, ℕ, ◌≤◌, List, length, Option, Some, None, Result, Ok, Err, refl, sym, ap, ◌∙◌, subst, ◌⊎◌, inl, inr, arith}
-use Rattle.std.proofs.lemmas.Bool.{le-ltb}
-use Rattle.sim_base.specs.declared.setup.Setup.{Setup}
-use Rattle.sim_base.specs.declared.state.State.{State}
-use Rattle.sim_base.specs.Turn.{after, own_turns}
-use Rattle.sim_store.specs.Counts.{raised}
-use Rattle.sim_store.specs.Files.{File}
-use Rattle.sim_store.specs.declared.counts.Counts.{Counts}
-use Rattle.sim_codec.specs.declared.fault.StateFault.{StateFault}
-use Rattle.sim_codec.specs.declared.fault.StateFault.TheVariants as stored
-use Rattle.sim_codec.specs.Loading.{StandsFor}
-use Rattle.sim_codec.proofs.Standing.{no_fault}
-use Rattle.sim_setup.specs.Setups.{setup_of}
+use Rattle.{sim_codec.proofs.Standing.no_fault, sim_codec.specs.Loading.StandsFor, sim_top.specs.Outcome.match_by, sim_top.specs.Readiness.HoldsLog}
 use Rattle.sim_setup.proofs.SetupLimits.{setup_of-id}
-use Rattle.sim_diff.specs.Difference.{difference_of}
-use Rattle.sim_diff.specs.declared.place.Place.{Place}
-use Rattle.sim_top.specs.Words.{Asked, asked_by, to_play, to_store, to_resume, to_rejoin, to_session, to_show, to_compare, to_serve, to_try, to_stock, to_realm, to_sight, to_resight, to_log, to_record, to_check, to_film, to_parts}
-use Rattle.sim_top.specs.Outcome.{Outcome, Then, ThenStored, IsStored, IsOutcomeOf, bytes_in, match_in, session_match_in, schedule_in, steps_in, trial_match, match_by, setup_by, compare_by, state_by, store_outcome, rejoin_outcome, printed, turn_by, economy_in, IsRealmOutcome, RealmAt, IsResighted, IsLogged, ThenLog, log_by, apart_by, sight_outcome, map_at}
-use Rattle.sim_top.specs.Answers.{Scene, Meets, Causes}
-use Rattle.sim_top.specs.Readiness.{HoldsState, HoldsLog, IsReady, IsFaultless, IsFinal}
-use Rattle.sim_top.specs.declared.status.Status.{Status}
-use Rattle.sim_top.specs.declared.status.Status.TheVariants.{Done, Differs, Usage, ReadFault, WriteFault, TooLong, MatchRefused, StateRefused, ListRefused, OutOfMemory, NoSuchTurn, NoFile, SightRefused, LogRefused, EconomyRefused}
-use Rattle.sim_replay.specs.declared.apart.Apart.{Apart}
-use Rattle.sim_replay.specs.declared.log.Log.{Log}
-use Rattle.sim_replay.specs.Apart.{first_apart}
-use Rattle.sim_play.specs.Logs.{digests_after}
-use Rattle.sim_top.proofs.Playing.{turn_there}
+use Rattle.sim_top.proofs.{Common.Usage, Common.WriteFault, Common.◌∙◌, Playing.turn_there}
+use Rattle.sim_top.proofs.Common.{bytes_in, Causes, compare_by, Counts, difference_of, Differs, digests_after, Done, economy_in, File, first_apart, HoldsState}
+use Rattle.sim_top.proofs.Common.{inl, inr, IsFaultless, IsFinal, IsLogged, IsOutcomeOf, IsReady, IsRealmOutcome, IsResighted, IsStored, le-ltb, Log, log_by}
+use Rattle.sim_top.proofs.Common.{map_at, match_in, Meets, NoSuchTurn, Outcome, own_turns, Place, printed, raised, RealmAt, rejoin_outcome, Scene, schedule_in}
+use Rattle.sim_top.proofs.Common.{session_match_in, Setup, setup_by, setup_of, sight_outcome, State, state_by, StateFault, Status, steps_in, store_outcome}
+use Rattle.sim_top.proofs.Common.{subst, sym, Then, ThenLog, ThenStored, to_check, to_compare, to_film, to_log, to_parts, to_play, to_realm, to_record}
+use Rattle.sim_top.proofs.Common.{to_rejoin, to_resight, to_resume, to_serve, to_session, to_show, to_sight, to_stock, to_store, to_try, trial_match, turn_by}
+use Rattle.sim_top.proofs.Common.{◌≡◌, ℕ, ◌≤◌, ◌⊎◌, List, length, Some, None, Ok, Err, Option, Result, refl, after, ap, Apart, apart_by, arith, Asked, asked_by}
+use Rattle.sim_top.specs.declared.status.Status.TheVariants.{EconomyRefused, ListRefused, LogRefused, MatchRefused, NoFile, OutOfMemory, ReadFault}
+use Rattle.sim_top.specs.declared.status.Status.TheVariants.{SightRefused, StateRefused, TooLong}
+use Rattle.sim_codec.specs.declared.fault.StateFault.TheVariants as stored
 
 -- an outcome with which a command comes to its end
 abbrev Ends : Outcome → Type 0
@@ -51,21 +37,25 @@ id_of_match files game setup is = by (bytes_in files game) is
     by (Ok bytes) e = of_bytes bytes (setup_of bytes) refl e
     by (Err ended) e = cc
 
-pub not_refused : (setup : Setup) (bytes : List ℕ) (state : State) (fault : StateFault) → length setup.id ≡ 16 → StandsFor setup bytes state → IsStored setup bytes (Err fault) → ⊥
+pub not_refused : (setup : Setup) (bytes : List ℕ) (state : State) (fault : StateFault) → length setup.id ≡ 16 → StandsFor setup bytes state
+    → IsStored setup bytes (Err fault) → ⊥
 not_refused setup bytes state stored.NotState id stands refused = no_fault setup bytes stored.NotState id refused state stands
 not_refused setup bytes state stored.OtherMatch id stands refused = no_fault setup bytes stored.OtherMatch id refused state stands
 not_refused setup bytes state stored.Grammar id stands refused = refused.1 state stands
 not_refused setup bytes state stored.OutOfMemory id stands refused = refused
 
-after_loading : (setup : Setup) (name bytes : List ℕ) (state : State) (next : State → Outcome → Type 0) (wanted : Outcome) → length setup.id ≡ 16 → StandsFor setup bytes state
+after_loading : (setup : Setup) (name bytes : List ℕ) (state : State) (next : State → Outcome → Type 0) (wanted : Outcome) → length setup.id ≡ 16
+    → StandsFor setup bytes state
     → ThenStored setup name bytes next wanted → (found : State) × StandsFor setup bytes found × next found wanted
 after_loading setup name bytes state next wanted id stands h = by h.found h.stored h.goes_on
   where
-    by : (found : Result State StateFault) → IsStored setup bytes found → Then (state_by name found) next wanted → (s : State) × StandsFor setup bytes s × next s wanted
+    by : (found : Result State StateFault) → IsStored setup bytes found → Then (state_by name found) next wanted → (s : State) × StandsFor setup bytes s
+        × next s wanted
     by (Ok s) is goes_on = (s, is, goes_on)
     by (Err fault) is goes_on = absurd (not_refused setup bytes state fault id stands is)
 
-after_state : (files : List File) (setup : Setup) (name : List ℕ) (next : State → Outcome → Type 0) (wanted : Outcome) → length setup.id ≡ 16 → (holds : HoldsState files setup name)
+after_state : (files : List File) (setup : Setup) (name : List ℕ) (next : State → Outcome → Type 0) (wanted : Outcome) → length setup.id ≡ 16
+    → (holds : HoldsState files setup name)
     → Then (bytes_in files name) (λ bytes. ThenStored setup name bytes next) wanted → (found : State) × StandsFor setup holds.bytes found × next found wanted
 after_state files setup name next wanted id holds h =
     after_loading setup name holds.bytes holds.state next wanted id holds.stands
@@ -107,13 +97,15 @@ ready_ends : (files : List File) (asked : Option Asked) (wanted : Outcome) → I
 ready_ends files None wanted ready h = absurd ready
 ready_ends files (Some (to_play game)) wanted ready h = done wanted _ refl (after_reading (match_in files game) ready.setup _ wanted ready.read h)
 ready_ends files (Some (to_store game turn out)) wanted ready h =
-    done wanted (store_outcome ready.setup turn out) (store_is_done ready.setup turn out ready.more) (after_reading (match_in files game) ready.setup _ wanted ready.read h)
+    done wanted (store_outcome ready.setup turn out) (store_is_done ready.setup turn out ready.more)
+    (after_reading (match_in files game) ready.setup _ wanted ready.read h)
 ready_ends files (Some (to_resume game name)) wanted ready h =
     let id = id_of_match files game ready.setup ready.read in
     let found = after_state files ready.setup name _ wanted id ready.more (after_reading (match_in files game) ready.setup _ wanted ready.read h) in
     done wanted _ refl found.2
 ready_ends files (Some (to_rejoin game turn)) wanted ready h =
-    done wanted (rejoin_outcome ready.setup turn) (rejoin_is_done ready.setup turn ready.more) (after_reading (match_in files game) ready.setup _ wanted ready.read h)
+    done wanted (rejoin_outcome ready.setup turn) (rejoin_is_done ready.setup turn ready.more)
+    (after_reading (match_in files game) ready.setup _ wanted ready.read h)
 ready_ends files (Some (to_session game steps)) wanted ready h =
     done wanted _ refl (after_reading (steps_in files steps ready.setup.players) ready.list _ wanted ready.listed
     (after_reading (session_match_in files game) ready.setup _ wanted ready.read h))
@@ -127,20 +119,25 @@ ready_ends files (Some (to_compare game left right)) wanted ready h =
     let second = after_state files ready.setup right _ wanted id ready.more.1 first.2 in
     ends_compared wanted (difference_of first.0 second.0) second.2
 ready_ends files (Some (to_serve name)) wanted ready h = done wanted _ refl (after_reading (schedule_in files name) ready.schedule _ wanted ready.read h)
-ready_ends files (Some (to_try seed units turns)) wanted ready h = done wanted _ refl (after_reading (trial_match seed units turns) ready.setup _ wanted ready.read h)
+ready_ends files (Some (to_try seed units turns)) wanted ready h =
+    done wanted _ refl (after_reading (trial_match seed units turns) ready.setup _ wanted ready.read h)
 ready_ends files (Some (to_stock game name)) wanted ready h =
     done wanted _ refl (after_reading (economy_in files name ready.setup) ready.more.economy _ wanted ready.more.read
     (after_reading (match_in files game) ready.setup _ wanted ready.read h))
 ready_ends files (Some (to_realm game turn)) wanted ready h =
     let at_turn = after_reading (match_in files game) ready.setup (RealmAt turn) wanted ready.read h in
-    let told = after_reading (turn_by ready.setup turn) turn (λ turn. IsRealmOutcome ready.setup (after ready.setup (own_turns ready.setup 0 turn))) wanted (turn_there ready.setup turn ready.more) at_turn in
+    let told = after_reading (turn_by ready.setup turn) turn (λ turn. IsRealmOutcome ready.setup (after ready.setup (own_turns ready.setup 0 turn))) wanted
+    (turn_there ready.setup turn ready.more) at_turn in
     done wanted (printed Done told.text) refl told.printed
 ready_ends files (Some (to_sight game turn out)) wanted ready h =
-    done wanted (sight_outcome ready.setup turn out) (sight_is_done ready.setup turn out ready.more) (after_reading (match_in files game) ready.setup _ wanted ready.read h)
+    done wanted (sight_outcome ready.setup turn out) (sight_is_done ready.setup turn out ready.more)
+    (after_reading (match_in files game) ready.setup _ wanted ready.read h)
 ready_ends files (Some (to_resight game name file)) wanted ready h =
     let id = id_of_match files game ready.setup ready.read in
-    let first = after_state files ready.setup name (λ state. IsResighted ready.setup state (bytes_in files file)) wanted id ready.more.state (after_reading (match_in files game) ready.setup _ wanted ready.read h) in
-    done wanted _ refl (after_reading (map_at ready.setup first.0 (bytes_in files file)) ready.more.explored _ wanted (ready.more.taken first.0 first.1) first.2)
+    let first = after_state files ready.setup name (λ state. IsResighted ready.setup state (bytes_in files file)) wanted id ready.more.state
+    (after_reading (match_in files game) ready.setup _ wanted ready.read h) in
+    done wanted _ refl (after_reading (map_at ready.setup first.0 (bytes_in files file)) ready.more.explored _ wanted (ready.more.taken first.0 first.1)
+    first.2)
 ready_ends files (Some (to_log game out)) wanted ready h = done wanted _ refl (after_reading (match_in files game) ready.setup _ wanted ready.read h)
 ready_ends files (Some (to_record game steps out)) wanted ready h =
     done wanted _ refl (after_reading (steps_in files steps ready.setup.players) ready.list _ wanted ready.listed
@@ -173,13 +170,23 @@ final Differs words files before now h caused ready faultless = tt
 final OutOfMemory words files before now h caused ready faultless = tt
 final ReadFault words files before now h caused ready faultless = absurd (no_read_fault before now faultless caused)
 final WriteFault words files before now h caused ready faultless = absurd (no_write_fault before now faultless caused)
-final Usage words files before now (wanted, is, status, done) caused ready faultless = absurd (no_end wanted Usage status (λ e. cc) (λ e. cc) (ready_ends files (asked_by words) wanted ready is))
-final TooLong words files before now (wanted, is, status, done) caused ready faultless = absurd (no_end wanted TooLong status (λ e. cc) (λ e. cc) (ready_ends files (asked_by words) wanted ready is))
-final MatchRefused words files before now (wanted, is, status, done) caused ready faultless = absurd (no_end wanted MatchRefused status (λ e. cc) (λ e. cc) (ready_ends files (asked_by words) wanted ready is))
-final StateRefused words files before now (wanted, is, status, done) caused ready faultless = absurd (no_end wanted StateRefused status (λ e. cc) (λ e. cc) (ready_ends files (asked_by words) wanted ready is))
-final ListRefused words files before now (wanted, is, status, done) caused ready faultless = absurd (no_end wanted ListRefused status (λ e. cc) (λ e. cc) (ready_ends files (asked_by words) wanted ready is))
-final NoSuchTurn words files before now (wanted, is, status, done) caused ready faultless = absurd (no_end wanted NoSuchTurn status (λ e. cc) (λ e. cc) (ready_ends files (asked_by words) wanted ready is))
-final NoFile words files before now (wanted, is, status, done) caused ready faultless = absurd (no_end wanted NoFile status (λ e. cc) (λ e. cc) (ready_ends files (asked_by words) wanted ready is))
-final SightRefused words files before now (wanted, is, status, done) caused ready faultless = absurd (no_end wanted SightRefused status (λ e. cc) (λ e. cc) (ready_ends files (asked_by words) wanted ready is))
-final LogRefused words files before now (wanted, is, status, done) caused ready faultless = absurd (no_end wanted LogRefused status (λ e. cc) (λ e. cc) (ready_ends files (asked_by words) wanted ready is))
-final EconomyRefused words files before now (wanted, is, status, done) caused ready faultless = absurd (no_end wanted EconomyRefused status (λ e. cc) (λ e. cc) (ready_ends files (asked_by words) wanted ready is))
+final Usage words files before now (wanted, is, status, done) caused ready faultless =
+    absurd (no_end wanted Usage status (λ e. cc) (λ e. cc) (ready_ends files (asked_by words) wanted ready is))
+final TooLong words files before now (wanted, is, status, done) caused ready faultless =
+    absurd (no_end wanted TooLong status (λ e. cc) (λ e. cc) (ready_ends files (asked_by words) wanted ready is))
+final MatchRefused words files before now (wanted, is, status, done) caused ready faultless =
+    absurd (no_end wanted MatchRefused status (λ e. cc) (λ e. cc) (ready_ends files (asked_by words) wanted ready is))
+final StateRefused words files before now (wanted, is, status, done) caused ready faultless =
+    absurd (no_end wanted StateRefused status (λ e. cc) (λ e. cc) (ready_ends files (asked_by words) wanted ready is))
+final ListRefused words files before now (wanted, is, status, done) caused ready faultless =
+    absurd (no_end wanted ListRefused status (λ e. cc) (λ e. cc) (ready_ends files (asked_by words) wanted ready is))
+final NoSuchTurn words files before now (wanted, is, status, done) caused ready faultless =
+    absurd (no_end wanted NoSuchTurn status (λ e. cc) (λ e. cc) (ready_ends files (asked_by words) wanted ready is))
+final NoFile words files before now (wanted, is, status, done) caused ready faultless =
+    absurd (no_end wanted NoFile status (λ e. cc) (λ e. cc) (ready_ends files (asked_by words) wanted ready is))
+final SightRefused words files before now (wanted, is, status, done) caused ready faultless =
+    absurd (no_end wanted SightRefused status (λ e. cc) (λ e. cc) (ready_ends files (asked_by words) wanted ready is))
+final LogRefused words files before now (wanted, is, status, done) caused ready faultless =
+    absurd (no_end wanted LogRefused status (λ e. cc) (λ e. cc) (ready_ends files (asked_by words) wanted ready is))
+final EconomyRefused words files before now (wanted, is, status, done) caused ready faultless =
+    absurd (no_end wanted EconomyRefused status (λ e. cc) (λ e. cc) (ready_ends files (asked_by words) wanted ready is))

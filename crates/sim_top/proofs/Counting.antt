@@ -1,20 +1,12 @@
 -- What the shelf counted, file by file and over a whole command; and how many bytes a file had that was read.
-use Rattle.std.proofs.Common.{◌≡◌, ℕ, ◌+◌, ◌<◌, ◌≤◌, List, length, Bool, true, false, cond, Option, Some, None, Result, Ok, Err, refl, sym, ap, ◌∙◌, subst, arith, IfSome, IfErr}
-use Rattle.sim_store.specs.Counts.{raised, after_giving, after_miss, after_read_fault}
-use Rattle.sim_store.specs.Files.{File, file_in}
-use Rattle.sim_base.specs.Limits.{file_limit}
-use Rattle.sim_store.specs.Reading.{reading_of}
-use Rattle.sim_store.specs.declared.counts.Counts.{Counts}
+use Rattle.{sim_base.specs.Limits.file_limit, std.specs.Prelude.nat_le}
+use Rattle.sim_store.{proofs.Given.after_giving-after_giving, specs.Counts.after_giving, specs.Counts.after_miss, specs.Counts.after_read_fault}
+use Rattle.sim_top.proofs.Common.{IsRefusal, IsUnfound, length_in, ListRefused, LogRefused, MatchRefused, NoFile, OnlyGave, OutOfMemory, raised, ReadFault}
+use Rattle.sim_top.proofs.Common.{arith, bytes_by, bytes_in, CausesOf, Counts, CountsBefore, EconomyRefused, File, file_in, GaveAll, IsOfContent, IsReading}
+use Rattle.sim_top.proofs.Common.{reading_of, Shelved, SightRefused, StateRefused, status_of, Stop, subst, sym, TooLong, ◌∙◌}
+use Rattle.sim_top.proofs.Common.{◌≡◌, ℕ, ◌+◌, ◌<◌, ◌≤◌, Bool, true, false, cond, List, length, IfSome, IfErr, Some, None, Ok, Err, Option, Result, refl, ap}
+use Rattle.sim_top.specs.{Answers.GaveThenFailed, Answers.GaveThenMissed, Reads.length_of, Stops.ReadsCounting, declared.stop.Stop.TheVariants.NoSuchTurn}
 use Rattle.sim_store.specs.declared.fault.StoreFault.TheVariants as store
-use Rattle.sim_store.proofs.Given.{after_giving-after_giving}
-use Rattle.std.specs.Prelude.{nat_le}
-use Rattle.sim_top.specs.Answers.{OnlyGave, GaveThenFailed, GaveThenMissed, CountsBefore}
-use Rattle.sim_top.specs.Commands.{Shelved, IsReading}
-use Rattle.sim_top.specs.Outcome.{bytes_by, bytes_in}
-use Rattle.sim_top.specs.Reads.{IsUnfound, length_of, length_in}
-use Rattle.sim_top.specs.Stops.{ReadsCounting, CausesOf, GaveAll, IsOfContent, IsRefusal, status_of}
-use Rattle.sim_top.specs.declared.stop.Stop.{Stop}
-use Rattle.sim_top.specs.declared.stop.Stop.TheVariants.{ReadFault, TooLong, NoFile, OutOfMemory, MatchRefused, StateRefused, ListRefused, NoSuchTurn, SightRefused, LogRefused, EconomyRefused}
 
 pub gave : (n : ℕ) (old new : Counts) → new ≡ after_giving n old → OnlyGave old new
 gave n old new is =
@@ -70,7 +62,8 @@ length_of_read files name bytes read = of_held (file_in files name) read
 -- ---- a command that goes on behind what it read
 
 -- what is counted behind bytes that were given
-pub counted_after : (stop : Stop) (old middle new : Counts) → OnlyGave old middle → CountsBefore (status_of stop) middle new → CountsBefore (status_of stop) old new
+pub counted_after : (stop : Stop) (old middle new : Counts) → OnlyGave old middle → CountsBefore (status_of stop) middle new
+    → CountsBefore (status_of stop) old new
 counted_after stop old middle new first second = by stop second
   where
     same : (n : ℕ) → record middle { given = n } ≡ record old { given = n }
@@ -126,7 +119,8 @@ content_causes (Err (EconomyRefused index)) old new content gave = gave
 -- ---- a file is read
 
 -- what holds where a file is not read to its end
-pub counted_is : (P : Stop → Type 0) → P ReadFault → P TooLong → P NoFile → P OutOfMemory → (stop : Stop) (old new : Counts) → ReadsCounting (Err stop) old new → P stop
+pub counted_is : (P : Stop → Type 0) → P ReadFault → P TooLong → P NoFile → P OutOfMemory → (stop : Stop) (old new : Counts) → ReadsCounting (Err stop) old new
+    → P stop
 counted_is P fault long none memory ReadFault old new h = fault
 counted_is P fault long none memory TooLong old new h = long
 counted_is P fault long none memory NoFile old new h = none
@@ -141,7 +135,8 @@ counted_is P fault long none memory (EconomyRefused index) old new h = absurd h
 
 -- it is not read to its end
 pub unread : {X : Type 0} (name : List ℕ) (stop : Stop) (before now : Shelved) → ReadsCounting (Err stop) before.counts now.counts
-    → ((files : List File) → before.held ≡ Some files → file_in files name ≡ None → IsUnfound (status_of stop)) → now.held ≡ before.held → IsReading {X = X} name (Err stop) before now
+    → ((files : List File) → before.held ≡ Some files → file_in files name ≡ None → IsUnfound (status_of stop)) → now.held ≡ before.held
+    → IsReading {X = X} name (Err stop) before now
 unread name stop before now counts missing same =
     record {
       missing = missing;
@@ -151,7 +146,8 @@ unread name stop before now counts missing same =
     }
 
 -- of a file that the shelf tells just its bytes were given
-gave_file : (held : Option (List File)) (files : List File) (name bytes : List ℕ) (old new : Counts) → held ≡ Some files → IfSome held (λ fs. bytes_in fs name ≡ Ok bytes)
+gave_file : (held : Option (List File)) (files : List File) (name bytes : List ℕ) (old new : Counts) → held ≡ Some files
+    → IfSome held (λ fs. bytes_in fs name ≡ Ok bytes)
     → new ≡ after_giving (length bytes) old → new ≡ after_giving (length_in files name) old
 gave_file held files name bytes old new is told given =
     let read : bytes_in files name ≡ Ok bytes = subst (λ (h : Option (List File)). IfSome h (λ fs. bytes_in fs name ≡ Ok bytes)) is told in
@@ -162,12 +158,15 @@ gave_all (Ok x) n old new h = h
 gave_all (Err stop) n old new h = λ refused. h
 
 -- its bytes were read, whatever they say
-pub was_read : {X : Type 0} (name bytes : List ℕ) (found : Result X Stop) (before now : Shelved) → IfErr found IsOfContent → now.counts ≡ after_giving (length bytes) before.counts
-    → IfSome before.held (λ files. bytes_in files name ≡ Ok bytes) → ((files : List File) → before.held ≡ Some files → file_in files name ≡ None → ⊥) → now.held ≡ before.held → IsReading name found before now
+pub was_read : {X : Type 0} (name bytes : List ℕ) (found : Result X Stop) (before now : Shelved) → IfErr found IsOfContent
+    → now.counts ≡ after_giving (length bytes) before.counts
+    → IfSome before.held (λ files. bytes_in files name ≡ Ok bytes) → ((files : List File) → before.held ≡ Some files → file_in files name ≡ None → ⊥)
+    → now.held ≡ before.held → IsReading name found before now
 was_read name bytes found before now content counts told there same =
     record {
       missing = λ files is none. absurd (there files is none);
       causes = content_causes found before.counts now.counts content (gave (length bytes) before.counts now.counts counts);
-      given = λ files is. gave_all found (length_in files name) before.counts now.counts (gave_file before.held files name bytes before.counts now.counts is told counts);
+      given = λ files is. gave_all found (length_in files name) before.counts now.counts
+          (gave_file before.held files name bytes before.counts now.counts is told counts);
       same = same;
     }

@@ -1,20 +1,11 @@
 -- With which status a run ends, by that of what was made; and what was told of words that are in no table.
-use Rattle.std.proofs.Common.{◌≡◌, ℕ, ◌<◌, List, [], length, take, Option, Some, None, refl, sym, subst, inl, inr}
-use Rattle.std.specs.Io.KnownBytes.{Appends}
-use Rattle.sim_store.specs.Files.{File}
-use Rattle.sim_store.specs.declared.counts.Counts.{Counts}
-use Rattle.sim_top.specs.Words.{Asked}
-use Rattle.sim_top.specs.Reads.{HasEnded, IsUnfound}
-use Rattle.sim_top.specs.Answers.{MayEnd, IsSilent, IsUsageTold}
-use Rattle.sim_top.specs.Given.{GaveFor, GaveForWords}
-use Rattle.sim_top.specs.Making.{IsUsageMade, IsSettled, Tells}
-use Rattle.sim_top.specs.Returning.{IsUnplayed}
-use Rattle.sim_top.specs.Stops.{status_of}
-use Rattle.sim_top.specs.declared.stop.Stop.{Stop}
+use Rattle.sim_top.proofs.{Common.subst, Common.sym, Common.Tells, Common.Usage, Common.WriteFault, Finishing.none_told}
+use Rattle.sim_top.proofs.Common.{GaveForWords, HasEnded, inl, inr, IsSettled, IsSilent, IsUnfound, IsUnplayed, MayEnd, NoSuchTurn, Status, status_of, Stop}
+use Rattle.sim_top.proofs.Common.{◌≡◌, ℕ, ◌<◌, List, [], length, take, Some, None, Option, refl, Appends, Asked, Counts, Differs, Done, File, GaveFor}
+use Rattle.sim_top.specs.{Answers.IsUsageTold, Making.IsUsageMade}
+use Rattle.sim_top.specs.declared.status.Status.TheVariants.{EconomyRefused, ListRefused, LogRefused, MatchRefused, NoFile, OutOfMemory, ReadFault}
+use Rattle.sim_top.specs.declared.status.Status.TheVariants.{SightRefused, StateRefused, TooLong}
 use Rattle.sim_top.specs.declared.stop.Stop.TheVariants as stops
-use Rattle.sim_top.specs.declared.status.Status.{Status}
-use Rattle.sim_top.specs.declared.status.Status.TheVariants.{Done, Differs, Usage, ReadFault, WriteFault, TooLong, MatchRefused, StateRefused, ListRefused, OutOfMemory, NoSuchTurn, NoFile, SightRefused, LogRefused, EconomyRefused}
-use Rattle.sim_top.proofs.Finishing.{none_told}
 
 -- ---- any words may end with a write fault or for want of memory
 
@@ -29,7 +20,8 @@ pub told_may_end : (asked : Option Asked) (result status : Status) (text : List 
 told_may_end asked result status text told told' faults faults' may (inl w) = subst (MayEnd asked) (sym w.same) may
 told_may_end asked result status text told told' faults faults' may (inr w) = subst (MayEnd asked) (sym w.status) (may_fault asked)
 
-pub told_settled : (result status : Status) (text : List ℕ) (told told' : Option (List ℕ)) (faults faults' : ℕ) → Tells result status text told told' faults faults' → IsSettled result → result ≡ status
+pub told_settled : (result status : Status) (text : List ℕ) (told told' : Option (List ℕ)) (faults faults' : ℕ)
+    → Tells result status text told told' faults faults' → IsSettled result → result ≡ status
 told_settled result status text told told' faults faults' (inl w) settled = w.same
 told_settled result status text told told' faults faults' (inr w) settled = absurd (subst IsSettled w.status settled)
 
@@ -47,7 +39,8 @@ unplayed_settled Differs h = absurd h
 unplayed_settled other h = tt
 
 -- what was given stays so where the run is settled
-pub given_settled : (files : List File) (asked : Option Asked) (result status : Status) (old middle new : Counts) → (asked ≡ None → new ≡ old) → (IsSettled result → (result ≡ status) × (new ≡ middle))
+pub given_settled : (files : List File) (asked : Option Asked) (result status : Status) (old middle new : Counts) → (asked ≡ None → new ≡ old)
+    → (IsSettled result → (result ≡ status) × (new ≡ middle))
     → GaveForWords files asked status old middle → GaveForWords files asked result old new
 given_settled files None result status old middle new unasked settled h = unasked refl
 given_settled files (Some asked) result status old middle new unasked settled h = by result settled
@@ -67,18 +60,22 @@ unfound_silent NoFile h = tt
 unfound_silent ReadFault h = tt
 unfound_silent other h = absurd h
 
-pub told_unfound : (result status : Status) (text : List ℕ) (told told' : Option (List ℕ)) (faults faults' : ℕ) → IsUnfound status → (IsSilent status → text ≡ [])
+pub told_unfound : (result status : Status) (text : List ℕ) (told told' : Option (List ℕ)) (faults faults' : ℕ) → IsUnfound status
+    → (IsSilent status → text ≡ [])
     → Tells result status text told told' faults faults' → IsUnfound result
 told_unfound result status text told told' faults faults' unfound silent (inl w) = subst IsUnfound (sym w.same) unfound
-told_unfound result status text told told' faults faults' unfound silent (inr w) = absurd (none_told w.part text w.less (silent (unfound_silent status unfound)))
+told_unfound result status text told told' faults faults' unfound silent (inr w) =
+    absurd (none_told w.part text w.less (silent (unfound_silent status unfound)))
 
 pub told_usage : (usage : List ℕ) (result status : Status) (text : List ℕ) (told told' : Option (List ℕ)) (faults faults' : ℕ) → IsUsageMade usage status text
     → Tells result status text told told' faults faults' → IsUsageTold usage result told told'
-told_usage usage result Usage text told told' faults faults' made (inl w) = subst (λ (s : Status). IsUsageTold usage s told told') (sym w.same) (subst (Appends told told') made w.text_told)
+told_usage usage result Usage text told told' faults faults' made (inl w) = subst (λ (s : Status). IsUsageTold usage s told told') (sym w.same)
+    (subst (Appends told told') made w.text_told)
 told_usage usage result Usage text told told' faults faults' made (inr w) =
     subst (λ (s : Status). IsUsageTold usage s told told') (sym w.status)
     (subst (λ (t : List ℕ). (part : ℕ) × (part < length t) × Appends told told' (take part t)) made (w.part, w.less, w.text_told))
-told_usage usage result OutOfMemory text told told' faults faults' made (inl w) = subst (λ (s : Status). IsUsageTold usage s told told') (sym w.same) (subst (Appends told told') made w.text_told)
+told_usage usage result OutOfMemory text told told' faults faults' made (inl w) = subst (λ (s : Status). IsUsageTold usage s told told') (sym w.same)
+    (subst (Appends told told') made w.text_told)
 told_usage usage result OutOfMemory text told told' faults faults' made (inr w) = absurd (none_told w.part text w.less made)
 told_usage usage result Done text told told' faults faults' made tells = absurd made
 told_usage usage result Differs text told told' faults faults' made tells = absurd made

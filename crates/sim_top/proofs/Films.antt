@@ -1,17 +1,6 @@
 -- What the sink was told of a film.
-use Rattle.std.proofs.Common.{◌≡◌, ℕ, List, subst}
-use Rattle.std.specs.Prelude.{Result, Ok, Err, Option, Some, IfOk}
-use Rattle.std.specs.Io.KnownBytes.{Appends}
-use Rattle.sim_base.specs.declared.setup.Setup.{Setup}
-use Rattle.sim_play.specs.Films.{film_text}
-use Rattle.sim_store.specs.Files.{File}
-use Rattle.sim_top.specs.Answers.{Scene, Meets}
-use Rattle.sim_top.specs.Films.{OfFilm, Film}
-use Rattle.sim_top.specs.Outcome.{Outcome, Then, IsOutcomeOf, printed, match_in}
-use Rattle.sim_top.specs.Reads.{HasEnded}
-use Rattle.sim_top.specs.Words.{Asked, asked_by, to_film}
-use Rattle.sim_top.specs.declared.status.Status.TheVariants.{Done, Differs}
-use Rattle.sim_top.specs.declared.status.Status.{Status}
+use Rattle.sim_top.proofs.Common.{IsOutcomeOf, match_in, Meets, OfFilm, Outcome, printed, Scene, Setup, Status, subst, Then, to_film}
+use Rattle.sim_top.proofs.Common.{◌≡◌, ℕ, List, IfOk, Some, Ok, Err, Option, Result, Appends, Asked, asked_by, Differs, Done, File, Film, film_text, HasEnded}
 
 -- the text of an outcome
 of_outcome : (files : List File) (asked : Option Asked) (wanted : Outcome) (told told' : Option (List ℕ)) → IsOutcomeOf files asked wanted

@@ -1,33 +1,15 @@
 -- What the sink was told of a session that came to its end, and what the laws of sessions say of it.
-use Rattle.std.proofs.Common.{◌≡◌, ℕ, List, subst}
-use Rattle.std.specs.Prelude.{Result, Ok, Err, Option, Some, IfOk}
-use Rattle.std.specs.Io.KnownBytes.{Appends}
-use Rattle.sim_base.specs.declared.setup.Setup.{Setup}
-use Rattle.sim_base.specs.Limits.{IsSetup}
-use Rattle.sim_store.specs.Files.{File}
-use Rattle.sim_lists.specs.declared.step_list.StepList.{StepList}
-use Rattle.sim_lists.specs.StepLists.{IsStepList}
-use Rattle.sim_plain_session.proofs.Arrived.{server_is_after_arrivals}
-use Rattle.sim_plain_session.proofs.Enabling.{events_are_of_steps}
-use Rattle.sim_plain_session.proofs.GoingOn.{events_are_in_order}
-use Rattle.sim_session_laws.proofs.PastFacts.{unbent_agree}
-use Rattle.sim_session_laws.proofs.Runs.{holds_session}
-use Rattle.sim_session_laws.proofs.StandingFacts.{no_state_is_ever_refused}
-use Rattle.sim_session_text.specs.SessionText.{session_at, session_of, session_text}
-use Rattle.sim_session_text.proofs.Differing.{apart_where_different}
-use Rattle.sim_session_text.proofs.Noticing.{notices_are_of_reports}
-use Rattle.sim_session_text.proofs.Showing.{starts_show_pasts, steps_show_pasts, ends_show_pasts, plays_are_told, steps_are_told}
-use Rattle.sim_top.specs.Answers.{Scene, Meets}
-use Rattle.sim_top.specs.Headline.{Headline}
-use Rattle.sim_top.specs.Hosting.{OfSession}
-use Rattle.sim_top.specs.Outcome.{Outcome, Then, IsOutcome, IsOutcomeOf, printed, session_match_in, steps_in}
-use Rattle.sim_top.specs.Reads.{HasEnded}
-use Rattle.sim_top.specs.Words.{Asked, to_session}
-use Rattle.sim_top.specs.declared.status.Status.{Status}
-use Rattle.sim_top.specs.declared.status.Status.TheVariants.{Done, Differs}
+use Rattle.sim_plain_session.proofs.{Arrived.server_is_after_arrivals, Enabling.events_are_of_steps, GoingOn.events_are_in_order}
+use Rattle.sim_session_laws.proofs.{PastFacts.unbent_agree, Runs.holds_session, StandingFacts.no_state_is_ever_refused}
+use Rattle.sim_session_text.{proofs.Differing.apart_where_different, proofs.Noticing.notices_are_of_reports, specs.SessionText.session_at}
+use Rattle.sim_session_text.proofs.Showing.{ends_show_pasts, plays_are_told, starts_show_pasts, steps_are_told, steps_show_pasts}
+use Rattle.sim_top.{proofs.Common.StepList, proofs.Common.steps_in, proofs.Common.subst, proofs.Common.Then, proofs.Common.to_session, specs.Outcome.IsOutcome}
+use Rattle.sim_top.proofs.Common.{IsSetup, IsStepList, Meets, OfSession, Outcome, printed, Scene, session_match_in, session_of, session_text, Setup, Status}
+use Rattle.sim_top.proofs.Common.{◌≡◌, ℕ, List, IfOk, Some, Ok, Err, Option, Result, Appends, Asked, Differs, Done, File, HasEnded, Headline, IsOutcomeOf}
 
 -- a match and steps within their limits
-pub lawful : (setup : Setup) (list : StepList) (told told' : Option (List ℕ)) → IsSetup setup → IsStepList setup.players list → Appends told told' (session_text setup list) → Headline setup list told told'
+pub lawful : (setup : Setup) (list : StepList) (told told' : Option (List ℕ)) → IsSetup setup → IsStepList setup.players list
+    → Appends told told' (session_text setup list) → Headline setup list told told'
 lawful setup list told told' limits steps text = record {
   text = text;
   order = events_are_in_order setup list.clients list.steps;
@@ -44,7 +26,8 @@ lawful setup list told told' limits steps text = record {
 }
 
 -- two facts of a session that is asked for
-pub of_both : (files : List File) (asked : Option Asked) (P Q R : Setup → StepList → Type 0) → ((setup : Setup) (list : StepList) → P setup list → Q setup list → R setup list)
+pub of_both : (files : List File) (asked : Option Asked) (P Q R : Setup → StepList → Type 0) → ((setup : Setup) (list : StepList) → P setup list → Q setup list
+    → R setup list)
     → OfSession files asked P → OfSession files asked Q → OfSession files asked R
 of_both files (Some (to_session game steps)) P Q R f p q = by (session_match_in files game) p q
   where
@@ -52,30 +35,36 @@ of_both files (Some (to_session game steps)) P Q R f p q = by (session_match_in 
     listed setup (Ok list) p q = f setup list p q
     listed setup (Err ended) p q = tt
 
-    by : (r : Result Setup Outcome) → IfOk r (λ setup. IfOk (steps_in files steps setup.players) (P setup)) → IfOk r (λ setup. IfOk (steps_in files steps setup.players) (Q setup))
+    by : (r : Result Setup Outcome) → IfOk r (λ setup. IfOk (steps_in files steps setup.players) (P setup))
+        → IfOk r (λ setup. IfOk (steps_in files steps setup.players) (Q setup))
         → IfOk r (λ setup. IfOk (steps_in files steps setup.players) (R setup))
     by (Ok setup) p q = listed setup (steps_in files steps setup.players) p q
     by (Err ended) p q = tt
 of_both files other P Q R f p q = tt
 
 -- the text of the outcome is that of the session
-of_outcome : (files : List File) (asked : Option Asked) (wanted : Outcome) (told told' : Option (List ℕ)) → IsOutcomeOf files asked wanted → Appends told told' wanted.text
+of_outcome : (files : List File) (asked : Option Asked) (wanted : Outcome) (told told' : Option (List ℕ)) → IsOutcomeOf files asked wanted
+    → Appends told told' wanted.text
     → OfSession files asked (λ setup list. Appends told told' (session_text setup list))
 of_outcome files (Some (to_session game steps)) wanted told told' is text = by (session_match_in files game) is
   where
-    listed : (setup : Setup) (r : Result StepList Outcome) → Then r (λ list wanted. wanted ≡ printed Done (session_text setup list)) wanted → IfOk r (λ list. Appends told told' (session_text setup list))
+    listed : (setup : Setup) (r : Result StepList Outcome) → Then r (λ list wanted. wanted ≡ printed Done (session_text setup list)) wanted
+        → IfOk r (λ list. Appends told told' (session_text setup list))
     listed setup (Ok list) is = subst (λ (o : Outcome). Appends told told' o.text) is text
     listed setup (Err ended) is = tt
 
-    by : (r : Result Setup Outcome) → Then r (λ setup. Then (steps_in files steps setup.players) (λ list wanted. wanted ≡ printed Done (session_text setup list))) wanted
+    by : (r : Result Setup Outcome)
+        → Then r (λ setup. Then (steps_in files steps setup.players) (λ list wanted. wanted ≡ printed Done (session_text setup list))) wanted
         → IfOk r (λ setup. IfOk (steps_in files steps setup.players) (λ list. Appends told told' (session_text setup list)))
     by (Ok setup) is = listed setup (steps_in files steps setup.players) is
     by (Err ended) is = tt
 of_outcome files other wanted told told' is text = tt
 
 -- a run that came to its end told the text of an outcome
-pub of_end : (status : Status) (words : List (List ℕ)) (files : List File) (asked : Option Asked) (before now : Scene) → ((wanted : Outcome) → IsOutcome words files wanted → IsOutcomeOf files asked wanted)
+pub of_end : (status : Status) (words : List (List ℕ)) (files : List File) (asked : Option Asked) (before now : Scene)
+    → ((wanted : Outcome) → IsOutcome words files wanted → IsOutcomeOf files asked wanted)
     → Meets status words files before now → HasEnded status → OfSession files asked (λ setup list. Appends before.told now.told (session_text setup list))
 of_end Done words files asked before now same (wanted, is, status, done) ended = of_outcome files asked wanted before.told now.told (same wanted is) done.text
-of_end Differs words files asked before now same (wanted, is, status, done) ended = of_outcome files asked wanted before.told now.told (same wanted is) done.text
+of_end Differs words files asked before now same (wanted, is, status, done) ended = of_outcome files asked wanted before.told now.told (same wanted is)
+    done.text
 of_end other words files asked before now same h ended = absurd ended

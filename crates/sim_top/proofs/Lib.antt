@@ -1,3 +1,4 @@
+pub mod Common
 pub mod Stopping
 pub mod Finishing
 pub mod Completeness

@@ -1,27 +1,13 @@
 -- What a command makes of a match that was played.
-use Rattle.std.proofs.Common.{◌≡◌, ℕ, zero, suc, ◌<◌, ◌≤◌, false, List, refl, sym, ap, ◌∙◌, ltb, string_bytes}
-use Rattle.std.specs.Prelude.{Result, Ok, Err, OnOk, OnErr, IfOk, IfErr, IsErr, String}
-use Rattle.std.specs.declared.alloc.Global.{Global}
-use Rattle.std.proofs.lemmas.Bool.{cond-true, cond-false, lt-ltb, le-ltb, false≢true}
-use Rattle.sim_base.specs.declared.memory.OutOfMemory.{OutOfMemory as NoMemory}
-use Rattle.sim_base.specs.declared.setup.Setup.{Setup}
-use Rattle.sim_base.specs.declared.state.State.{State}
-use Rattle.sim_base.specs.Turn.{after, own_turns, turns_in}
-use Rattle.sim_laws.proofs.Turning.{after_counts_turns}
-use Rattle.sim_play.specs.Lines.{rejoin_text}
-use Rattle.sim_play.specs.Realms.{TellsRealm}
-use Rattle.sim_territory.specs.Realms.{realm_of}
-use Rattle.sim_top.specs.Outcome.{Outcome, printed, stored_at, store_outcome, rejoin_outcome, IsRealmOutcome, RealmAt, turn_by}
-use Rattle.sim_top.specs.Making.{IsMade, IsMadeAs, outcome_made}
-use Rattle.sim_top.specs.declared.commands.Answer.{Answer}
-use Rattle.sim_report.specs.declared.refusal.Refusal.TheVariants.{Turn}
-use Rattle.sim_report.specs.Refusals.{refusal_text}
-use Rattle.sim_top.specs.declared.status.Status.TheVariants.{Done, NoSuchTurn}
-use Rattle.sim_top.specs.declared.stop.Stop.{Stop}
-use Rattle.sim_top.specs.declared.stop.Stop.TheVariants.{OutOfMemory}
-use Rattle.sim_top.proofs.Stopping.{Then-read, Then-ended}
+use Rattle.{sim_base.specs.Turn.turns_in, sim_base.specs.declared.memory.OutOfMemory.OutOfMemory as NoMemory, std.proofs.Common.zero, std.specs.Prelude.IsErr}
+use Rattle.{sim_laws.proofs.Turning.after_counts_turns, sim_play.specs.Lines.rejoin_text, sim_top.proofs.Stopping.Then-ended, sim_top.proofs.Stopping.Then-read}
+use Rattle.sim_top.proofs.Common.{ap, cond-false, cond-true, Done, false≢true, Global, IsMade, IsMadeAs, IsRealmOutcome, le-ltb, lt-ltb, NoSuchTurn, Outcome}
+use Rattle.sim_top.proofs.Common.{outcome_made, OutOfMemory, own_turns, printed, realm_of, RealmAt, refusal_text, rejoin_outcome, Setup, State, Stop}
+use Rattle.sim_top.proofs.Common.{store_outcome, stored_at, sym, TellsRealm, Turn, turn_by, ◌∙◌}
+use Rattle.sim_top.proofs.Common.{◌≡◌, ℕ, suc, ◌<◌, ◌≤◌, false, ltb, List, IfOk, IfErr, OnOk, OnErr, Ok, Err, string_bytes, Result, String, refl, after, Answer}
 
-module _ {X : Type 0} (made : Result Answer Stop) (read : Result X NoMemory) (stops : IfErr made (λ stop. stop ≡ OutOfMemory)) (refused : OnErr read (made ≡ Err OutOfMemory)) where
+module _ {X : Type 0} (made : Result Answer Stop) (read : Result X NoMemory) (stops : IfErr made (λ stop. stop ≡ OutOfMemory))
+    (refused : OnErr read (made ≡ Err OutOfMemory)) where
   -- what holds where it was read holds where it was made
   pub made_if : (P : Type 0) → OnOk read P → OnOk made P
   made_if P h = by made read refused h
@@ -32,30 +18,38 @@ module _ {X : Type 0} (made : Result Answer Stop) (read : Result X NoMemory) (st
       by (Err stop) o e h = tt
 
   -- the outcome of what was read is made
-  pub is_made : (of : X → Outcome) (wanted : Outcome) → IfOk read (λ x. of x ≡ wanted) → IfOk made (λ answer. IfOk read (λ x. outcome_made answer ≡ of x)) → IsMade wanted made
+  pub is_made : (of : X → Outcome) (wanted : Outcome) → IfOk read (λ x. of x ≡ wanted) → IfOk made (λ answer. IfOk read (λ x. outcome_made answer ≡ of x))
+      → IsMade wanted made
   is_made of wanted is told = record { answers = by made read refused is told; stops = stops }
     where
-      by : (r : Result Answer Stop) (o : Result X NoMemory) → OnErr o (r ≡ Err OutOfMemory) → IfOk o (λ x. of x ≡ wanted) → IfOk r (λ answer. IfOk o (λ x. outcome_made answer ≡ of x)) → IfOk r (λ answer. outcome_made answer ≡ wanted)
+      by : (r : Result Answer Stop) (o : Result X NoMemory) → OnErr o (r ≡ Err OutOfMemory) → IfOk o (λ x. of x ≡ wanted)
+          → IfOk r (λ answer. IfOk o (λ x. outcome_made answer ≡ of x)) → IfOk r (λ answer. outcome_made answer ≡ wanted)
       by (Ok answer) (Ok x) e is told = told ∙ is
       by (Ok answer) (Err none) e is told = absurd (cc)
       by (Err stop) o e is told = tt
 
 -- a text that is printed
-text_is : (text : Result (String Global) NoMemory) (wanted : List ℕ) → IfOk text (λ t. string_bytes t ≡ wanted) → IfOk text (λ t. printed Done (string_bytes t) ≡ printed Done wanted)
+text_is : (text : Result (String Global) NoMemory) (wanted : List ℕ) → IfOk text (λ t. string_bytes t ≡ wanted)
+    → IfOk text (λ t. printed Done (string_bytes t) ≡ printed Done wanted)
 text_is (Ok t) wanted is = ap (printed Done) is
 text_is (Err e) wanted is = tt
 
 -- a text alone is made
-pub text_made : (made : Result Answer Stop) (text : Result (String Global) NoMemory) (wanted : List ℕ) → IfErr made (λ stop. stop ≡ OutOfMemory) → OnErr text (made ≡ Err OutOfMemory)
-    → IfOk made (λ answer. IfOk text (λ t. outcome_made answer ≡ printed Done (string_bytes t))) → IfOk text (λ t. string_bytes t ≡ wanted) → IsMade (printed Done wanted) made
-text_made made text wanted stops refused told is = is_made made text stops refused (λ (t : String Global). printed Done (string_bytes t)) (printed Done wanted) (text_is text wanted is) told
+pub text_made : (made : Result Answer Stop) (text : Result (String Global) NoMemory) (wanted : List ℕ) → IfErr made (λ stop. stop ≡ OutOfMemory)
+    → OnErr text (made ≡ Err OutOfMemory)
+    → IfOk made (λ answer. IfOk text (λ t. outcome_made answer ≡ printed Done (string_bytes t))) → IfOk text (λ t. string_bytes t ≡ wanted)
+    → IsMade (printed Done wanted) made
+text_made made text wanted stops refused told is = is_made made text stops refused (λ (t : String Global). printed Done (string_bytes t)) (printed Done wanted)
+    (text_is text wanted is) told
 
 -- a text that was made of a state, if there was memory for both
 module _ (text : Result (String Global) NoMemory) (state : Result State NoMemory) (refused : OnErr state (IsErr text)) where
-  pub text_of_state : (line : State → List ℕ) (wanted : State) → IfOk text (λ t. IfOk state (λ s. string_bytes t ≡ line s)) → IfOk state (λ s. s ≡ wanted) → IfOk text (λ t. string_bytes t ≡ line wanted)
+  pub text_of_state : (line : State → List ℕ) (wanted : State) → IfOk text (λ t. IfOk state (λ s. string_bytes t ≡ line s)) → IfOk state (λ s. s ≡ wanted)
+      → IfOk text (λ t. string_bytes t ≡ line wanted)
   text_of_state line wanted told is = by text state refused told is
     where
-      by : (text : Result (String Global) NoMemory) (state : Result State NoMemory) → OnErr state (IsErr text) → IfOk text (λ t. IfOk state (λ s. string_bytes t ≡ line s)) → IfOk state (λ s. s ≡ wanted) → IfOk text (λ t. string_bytes t ≡ line wanted)
+      by : (text : Result (String Global) NoMemory) (state : Result State NoMemory) → OnErr state (IsErr text)
+          → IfOk text (λ t. IfOk state (λ s. string_bytes t ≡ line s)) → IfOk state (λ s. s ≡ wanted) → IfOk text (λ t. string_bytes t ≡ line wanted)
       by (Ok t) (Ok s) r told is = told ∙ ap line is
       by (Ok t) (Err e) r told is = absurd (false≢true r)
       by (Err e) state r told is = tt
@@ -73,25 +67,31 @@ own-turns : (setup : Setup) (start n : ℕ) → turns_in (own_turns setup start 
 own-turns setup start zero = refl
 own-turns setup start (suc n) = ap suc (own-turns setup start n)
 
-pub stored_is : (setup : Setup) (turn : ℕ) (out : List ℕ) (state : Result State NoMemory) → turn ≤ setup.turns → IfOk state (λ s. s ≡ after setup (own_turns setup 0 turn)) → IfOk state (λ s. stored_at setup s.turn out s ≡ store_outcome setup turn out)
+pub stored_is : (setup : Setup) (turn : ℕ) (out : List ℕ) (state : Result State NoMemory) → turn ≤ setup.turns
+    → IfOk state (λ s. s ≡ after setup (own_turns setup 0 turn)) → IfOk state (λ s. stored_at setup s.turn out s ≡ store_outcome setup turn out)
 stored_is setup turn out (Err e) le is = tt
 stored_is setup turn out (Ok state) le is =
     let at : (after setup (own_turns setup 0 turn)).turn ≡ turn = after_counts_turns setup (own_turns setup 0 turn) ∙ own-turns setup 0 turn in
     let there : ltb setup.turns turn ≡ false = le-ltb _ _ le in
-    ap (λ (s : State). stored_at setup s.turn out s) is ∙ ap (λ (k : ℕ). stored_at setup k out (after setup (own_turns setup 0 turn))) at ∙ sym (cond-false (ltb setup.turns turn) _ _ there)
+    ap (λ (s : State). stored_at setup s.turn out s) is ∙ ap (λ (k : ℕ). stored_at setup k out (after setup (own_turns setup 0 turn))) at ∙
+    sym (cond-false (ltb setup.turns turn) _ _ there)
 
 -- a text of both clients is that of a turn which the match has
-pub rejoined_is : (setup : Setup) (turn : ℕ) (text : Result (String Global) NoMemory) → turn ≤ setup.turns → IfOk text (λ t. string_bytes t ≡ rejoin_text setup turn)
+pub rejoined_is : (setup : Setup) (turn : ℕ) (text : Result (String Global) NoMemory) → turn ≤ setup.turns
+    → IfOk text (λ t. string_bytes t ≡ rejoin_text setup turn)
     → IfOk text (λ t. printed Done (string_bytes t) ≡ rejoin_outcome setup turn)
 rejoined_is setup turn (Ok text) le is = ap (printed Done) is ∙ sym (cond-false (ltb setup.turns turn) _ _ (le-ltb _ _ le))
 rejoined_is setup turn (Err none) le is = tt
 
 -- a text that tells the territories of a state is made
-pub realm_made : (setup : Setup) (state : State) (made : Result Answer Stop) (text : Result (String Global) NoMemory) → IfErr made (λ stop. stop ≡ OutOfMemory) → OnErr text (made ≡ Err OutOfMemory)
-    → IfOk made (λ answer. IfOk text (λ t. outcome_made answer ≡ printed Done (string_bytes t))) → IfOk text (λ t. TellsRealm (realm_of setup state) (string_bytes t)) → IsMadeAs (IsRealmOutcome setup state) made
+pub realm_made : (setup : Setup) (state : State) (made : Result Answer Stop) (text : Result (String Global) NoMemory) → IfErr made (λ stop. stop ≡ OutOfMemory)
+    → OnErr text (made ≡ Err OutOfMemory)
+    → IfOk made (λ answer. IfOk text (λ t. outcome_made answer ≡ printed Done (string_bytes t)))
+    → IfOk text (λ t. TellsRealm (realm_of setup state) (string_bytes t)) → IsMadeAs (IsRealmOutcome setup state) made
 realm_made setup state made text stops refused told is = record { answers = by made text refused told is; stops = stops }
   where
-    by : (r : Result Answer Stop) (o : Result (String Global) NoMemory) → OnErr o (r ≡ Err OutOfMemory) → IfOk r (λ answer. IfOk o (λ t. outcome_made answer ≡ printed Done (string_bytes t)))
+    by : (r : Result Answer Stop) (o : Result (String Global) NoMemory) → OnErr o (r ≡ Err OutOfMemory)
+        → IfOk r (λ answer. IfOk o (λ t. outcome_made answer ≡ printed Done (string_bytes t)))
         → IfOk o (λ t. TellsRealm (realm_of setup state) (string_bytes t)) → IfOk r (λ answer. IsRealmOutcome setup state (outcome_made answer))
     by (Ok answer) (Ok t) e told is = record { text = string_bytes t; tells = is; printed = told }
     by (Ok answer) (Err none) e told is = absurd (cc)
@@ -99,24 +99,29 @@ realm_made setup state made text stops refused told is = record { answers = by m
 
 -- ---- a turn that the match has not
 
-pub store_past : (setup : Setup) (turn : ℕ) (out : List ℕ) → setup.turns < turn → printed NoSuchTurn (refusal_text (Turn turn setup.turns)) ≡ store_outcome setup turn out
+pub store_past : (setup : Setup) (turn : ℕ) (out : List ℕ) → setup.turns < turn → printed NoSuchTurn (refusal_text (Turn turn setup.turns)) ≡ store_outcome
+    setup turn out
 store_past setup turn out past = sym (cond-true (ltb setup.turns turn) _ _ (lt-ltb _ _ past))
 
 pub rejoin_past : (setup : Setup) (turn : ℕ) → setup.turns < turn → printed NoSuchTurn (refusal_text (Turn turn setup.turns)) ≡ rejoin_outcome setup turn
 rejoin_past setup turn past = sym (cond-true (ltb setup.turns turn) _ _ (lt-ltb _ _ past))
 
 pub realm_past : (setup : Setup) (turn : ℕ) → setup.turns < turn → RealmAt turn setup (printed NoSuchTurn (refusal_text (Turn turn setup.turns)))
-realm_past setup turn past = Then-ended (turn_by setup turn) (λ turn. IsRealmOutcome setup (after setup (own_turns setup 0 turn))) _ (cond-true (ltb setup.turns turn) _ _ (lt-ltb _ _ past))
+realm_past setup turn past = Then-ended (turn_by setup turn) (λ turn. IsRealmOutcome setup (after setup (own_turns setup 0 turn))) _
+    (cond-true (ltb setup.turns turn) _ _ (lt-ltb _ _ past))
 
 -- and one that it has
 
 pub turn_there : (setup : Setup) (turn : ℕ) → turn ≤ setup.turns → turn_by setup turn ≡ Ok turn
 turn_there setup turn le = cond-false (ltb setup.turns turn) _ _ (le-ltb _ _ le)
 
-pub realm_done : (setup : Setup) (turn : ℕ) (wanted : Outcome) → turn ≤ setup.turns → IsRealmOutcome setup (after setup (own_turns setup 0 turn)) wanted → RealmAt turn setup wanted
-realm_done setup turn wanted le h = Then-read (turn_by setup turn) turn (λ turn. IsRealmOutcome setup (after setup (own_turns setup 0 turn))) wanted (turn_there setup turn le) h
+pub realm_done : (setup : Setup) (turn : ℕ) (wanted : Outcome) → turn ≤ setup.turns → IsRealmOutcome setup (after setup (own_turns setup 0 turn)) wanted
+    → RealmAt turn setup wanted
+realm_done setup turn wanted le h = Then-read (turn_by setup turn) turn (λ turn. IsRealmOutcome setup (after setup (own_turns setup 0 turn))) wanted
+    (turn_there setup turn le) h
 
-pub store_done : (setup : Setup) (turn : ℕ) (out : List ℕ) → turn ≤ setup.turns → stored_at setup turn out (after setup (own_turns setup 0 turn)) ≡ store_outcome setup turn out
+pub store_done : (setup : Setup) (turn : ℕ) (out : List ℕ) → turn ≤ setup.turns → stored_at setup turn out (after setup (own_turns setup 0 turn)) ≡
+    store_outcome setup turn out
 store_done setup turn out le = sym (cond-false (ltb setup.turns turn) _ _ (le-ltb _ _ le))
 
 pub rejoin_done : (setup : Setup) (turn : ℕ) → turn ≤ setup.turns → printed Done (rejoin_text setup turn) ≡ rejoin_outcome setup turn

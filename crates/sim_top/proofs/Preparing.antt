@@ -1,36 +1,18 @@
 -- What is made of the words before anything is written: by what their command answers, or by what ended it.
-use Rattle.std.proofs.Common.{◌≡◌, ℕ, List, [], Option, Some, None, Result, Ok, Err, refl, sym, ◌∙◌, subst, IfSome, IfOk, IsOk, String, string_bytes}
-use Rattle.std.specs.Prelude.{option_map}
-use Rattle.std.specs.declared.alloc.Global.{Global}
-use Rattle.std.proofs.lemmas.Bool.{false≢true}
-use Rattle.sim_base.specs.declared.memory.OutOfMemory.{OutOfMemory as NoMemory}
-use Rattle.sim_report.specs.Lines.{usage_text}
-use Rattle.sim_store.specs.Files.{File}
-use Rattle.sim_store.specs.declared.counts.Counts.{Counts}
-use Rattle.sim_top.specs.Answers.{OnlyGave, CountsBefore, MayEnd, IsSilent}
-use Rattle.sim_top.specs.Commands.{Shelved, IsAnswerTo, IsPrepared}
-use Rattle.sim_top.specs.Given.{GaveForWords}
-use Rattle.sim_top.specs.Making.{MeetsBefore, IsAnswered, IsSavedAs, IsFinished, IsSettled, SavesIfDone, file_of, outcome_made}
-use Rattle.sim_top.specs.Outcome.{Outcome, IsOutcomeOf, printed}
-use Rattle.sim_top.specs.Reads.{HasEnded, LacksFirst, LacksMatch}
-use Rattle.sim_top.specs.Stops.{Stopped, status_of, stop_text}
-use Rattle.sim_top.specs.Words.{Asked, asked_by, out_of}
-use Rattle.sim_top.specs.declared.commands.Answer.{Answer}
-use Rattle.sim_top.specs.declared.commands.Saved.{Saved}
-use Rattle.sim_top.specs.declared.status.Status.{Status}
-use Rattle.sim_top.specs.declared.status.Status.TheVariants.{Done, Differs, Usage, WriteFault, OutOfMemory}
-use Rattle.sim_top.specs.declared.stop.Stop.{Stop}
+use Rattle.{sim_base.specs.declared.memory.OutOfMemory.OutOfMemory as NoMemory, std.proofs.Common.IsOk}
+use Rattle.sim_top.proofs.{Answering.has_ended, Counting.nothing_given, Ending.unfound_silent, Finishing.all_told, Finishing.without_memory, Stopping.Told}
+use Rattle.sim_top.proofs.Common.{Counts, CountsBefore, Differs, Done, false≢true, File, file_of, GaveForWords, Global, HasEnded, IsAnswered, IsAnswerTo}
+use Rattle.sim_top.proofs.Common.{IsFinished, IsOutcomeOf, IsSavedAs, IsSettled, IsSilent, LacksFirst, MayEnd, MeetsBefore, OnlyGave, out_of, Outcome}
+use Rattle.sim_top.proofs.Common.{outcome_made, printed, Saved, Shelved, Status, status_of, Stop, Stopped, subst, sym, Usage, usage_text, WriteFault, ◌∙◌}
+use Rattle.sim_top.proofs.Common.{◌≡◌, ℕ, List, [], IfOk, Some, None, Ok, Err, string_bytes, Option, Result, String, option_map, refl, Answer, Asked, asked_by}
+use Rattle.sim_top.specs.{Commands.IsPrepared, Making.SavesIfDone, Reads.LacksMatch, Stops.stop_text, declared.status.Status.TheVariants.OutOfMemory}
 use Rattle.sim_top.specs.declared.stop.Stop.TheVariants as stops
-use Rattle.sim_top.proofs.Answering.{has_ended}
-use Rattle.sim_top.proofs.Counting.{nothing_given}
-use Rattle.sim_top.proofs.Ending.{unfound_silent}
-use Rattle.sim_top.proofs.Finishing.{all_told, without_memory}
-use Rattle.sim_top.proofs.Stopping.{Told}
 
 -- ---- a command that has its text
 
 meets : (words : List (List ℕ)) (files : List File) (saved : Option Saved) (status : Status) (text : List ℕ) → IsFinished saved status
-    → IsOutcomeOf files (asked_by words) (record { status = status; text = text; saved = option_map file_of saved }) → MeetsBefore status words files text (option_map file_of saved)
+    → IsOutcomeOf files (asked_by words) (record { status = status; text = text; saved = option_map file_of saved }) → MeetsBefore status words files text
+    (option_map file_of saved)
 meets words files None Done text done is = is
 meets words files None Differs text done is = is
 meets words files None other text done is = absurd done
@@ -54,7 +36,8 @@ gave_before other old new ended h = absurd ended
 
 -- ---- one that ended before
 
-stop_meets : (words : List (List ℕ)) (files : List File) (stop : Stop) → Stopped stop (IsOutcomeOf files (asked_by words)) → MeetsBefore (status_of stop) words files (stop_text stop) None
+stop_meets : (words : List (List ℕ)) (files : List File) (stop : Stop) → Stopped stop (IsOutcomeOf files (asked_by words))
+    → MeetsBefore (status_of stop) words files (stop_text stop) None
 stop_meets words files stops.ReadFault h = (refl, refl)
 stop_meets words files stops.OutOfMemory h = (refl, refl)
 stop_meets words files stops.TooLong h = h
@@ -98,11 +81,13 @@ none_saved None = tt
 none_saved (Some out) = tt
 
 -- the same in other words
-prepared_as : (words : List (List ℕ)) (before now : Shelved) (status status' : Status) (text text' : List ℕ) (saved saved' : Option Saved) → status ≡ status' → text ≡ text' → saved ≡ saved'
+prepared_as : (words : List (List ℕ)) (before now : Shelved) (status status' : Status) (text text' : List ℕ) (saved saved' : Option Saved) → status ≡ status'
+    → text ≡ text' → saved ≡ saved'
     → IsPrepared words status' text' saved' before now → IsPrepared words status text saved before now
 prepared_as words before now status status' text text' saved saved' s t v h =
     subst (λ (x : Status). IsPrepared words x text saved before now) (sym s)
-    (subst (λ (x : List ℕ). IsPrepared words status' x saved before now) (sym t) (subst (λ (x : Option Saved). IsPrepared words status' text' x before now) (sym v) h))
+    (subst (λ (x : List ℕ). IsPrepared words status' x saved before now) (sym t) (subst (λ (x : Option Saved). IsPrepared words status' text' x before now)
+    (sym v) h))
 
 module _ (words : List (List ℕ)) (asked : Asked) (is : Some asked ≡ asked_by words) (before now : Shelved) where
   said : (P : Option Asked → Type 0) → P (Some asked) → P (asked_by words)
@@ -115,12 +100,15 @@ module _ (words : List (List ℕ)) (asked : Asked) (is : Some asked ≡ asked_by
   not_unasked none = let e : Some asked ≡ None = is ∙ none in cc
 
   -- the command has its text
-  pub of_answer : (answer : Answer) → IsAnswerTo asked (Ok answer) before now → IsPrepared words answer.status (string_bytes answer.text) answer.saved before now
+  pub of_answer : (answer : Answer) → IsAnswerTo asked (Ok answer) before now → IsPrepared words answer.status (string_bytes answer.text) answer.saved before
+      now
   of_answer answer a =
       let ended : HasEnded answer.status = has_ended answer.saved answer.status a.done in
       record {
-        answers = Told (λ files. IsOutcomeOf files (Some asked) (outcome_made answer)) (λ files. MeetsBefore answer.status words files (string_bytes answer.text) (option_map file_of answer.saved)) before.held
-            (λ files h. meets words files answer.saved answer.status (string_bytes answer.text) a.done (said (λ o. IsOutcomeOf files o (outcome_made answer)) h)) a.answers;
+        answers = Told (λ files. IsOutcomeOf files (Some asked) (outcome_made answer))
+            (λ files. MeetsBefore answer.status words files (string_bytes answer.text) (option_map file_of answer.saved)) before.held
+            (λ files h. meets words files answer.saved answer.status (string_bytes answer.text) a.done
+            (said (λ o. IsOutcomeOf files o (outcome_made answer)) h)) a.answers;
         statuses = said (λ o. MayEnd o answer.status) a.statuses;
         unasked = λ none. absurd (not_unasked none);
         given = λ files e. said (λ o. GaveForWords files o answer.status before.counts now.counts) (a.given files e);
@@ -137,7 +125,8 @@ module _ (words : List (List ℕ)) (asked : Asked) (is : Some asked ≡ asked_by
   of_stop : (stop : Stop) → IsAnswerTo asked (Err stop) before now → IsPrepared words (status_of stop) (stop_text stop) None before now
   of_stop stop a =
       record {
-        answers = Told (λ files. Stopped stop (IsOutcomeOf files (Some asked))) (λ files. MeetsBefore (status_of stop) words files (stop_text stop) None) before.held
+        answers = Told (λ files. Stopped stop (IsOutcomeOf files (Some asked))) (λ files. MeetsBefore (status_of stop) words files (stop_text stop) None)
+            before.held
             (λ files h. stop_meets words files stop (said (λ o. Stopped stop (IsOutcomeOf files o)) h)) a.answers;
         statuses = said (λ o. MayEnd o (status_of stop)) a.statuses;
         unasked = λ none. absurd (not_unasked none);
@@ -168,8 +157,10 @@ module _ (words : List (List ℕ)) (asked : Asked) (is : Some asked ≡ asked_by
         same = a.same;
       }
 
-  pub of_ended : (stop : Stop) (status : Status) (text : List ℕ) (saved : Option Saved) (line : Result (String Global) NoMemory) → IsAnswered status text (status_of stop) line → saved ≡ None
-      → IfOk line (λ t. string_bytes t ≡ stop_text stop) → (IsSilent (status_of stop) → IsOk line) → IsAnswerTo asked (Err stop) before now → IsPrepared words status text saved before now
+  pub of_ended : (stop : Stop) (status : Status) (text : List ℕ) (saved : Option Saved) (line : Result (String Global) NoMemory)
+      → IsAnswered status text (status_of stop) line → saved ≡ None
+      → IfOk line (λ t. string_bytes t ≡ stop_text stop) → (IsSilent (status_of stop) → IsOk line) → IsAnswerTo asked (Err stop) before now
+      → IsPrepared words status text saved before now
   of_ended stop status text saved (Ok t) answered none is_text sure a =
       prepared_as words before now status (status_of stop) text (stop_text stop) saved None answered.0 (answered.1 ∙ is_text) none (of_stop stop a)
   of_ended stop status text saved (Err e) answered none is_text sure a =
@@ -184,7 +175,8 @@ module _ (words : List (List ℕ)) (unasked : asked_by words ≡ None) (shelf : 
   of_usage : IsPrepared words Usage usage_text None shelf shelf
   of_usage =
       record {
-        answers = all_told (λ files. MeetsBefore Usage words files usage_text None) shelf.held (λ files. says (λ o. IsOutcomeOf files o (printed Usage usage_text)) refl);
+        answers = all_told (λ files. MeetsBefore Usage words files usage_text None) shelf.held
+            (λ files. says (λ o. IsOutcomeOf files o (printed Usage usage_text)) refl);
         statuses = says (λ o. MayEnd o Usage) tt;
         unasked = λ none. (refl, refl, refl);
         given = λ files e. says (λ o. GaveForWords files o Usage shelf.counts shelf.counts) refl;
@@ -213,13 +205,17 @@ module _ (words : List (List ℕ)) (unasked : asked_by words ≡ None) (shelf : 
         same = refl;
       }
 
-  pub of_unasked : (status : Status) (text : List ℕ) (saved : Option Saved) (line : Result (String Global) NoMemory) → IsAnswered status text Usage line → saved ≡ None → IfOk line (λ t. string_bytes t ≡ usage_text)
+  pub of_unasked : (status : Status) (text : List ℕ) (saved : Option Saved) (line : Result (String Global) NoMemory) → IsAnswered status text Usage line
+      → saved ≡ None → IfOk line (λ t. string_bytes t ≡ usage_text)
       → IsPrepared words status text saved shelf shelf
-  of_unasked status text saved (Ok t) answered none is_text = prepared_as words shelf shelf status Usage text usage_text saved None answered.0 (answered.1 ∙ is_text) none of_usage
-  of_unasked status text saved (Err e) answered none is_text = prepared_as words shelf shelf status OutOfMemory text [] saved None answered.0 answered.1 none of_no_usage
+  of_unasked status text saved (Ok t) answered none is_text = prepared_as words shelf shelf status Usage text usage_text saved None answered.0
+      (answered.1 ∙ is_text) none of_usage
+  of_unasked status text saved (Err e) answered none is_text = prepared_as words shelf shelf status OutOfMemory text [] saved None answered.0 answered.1 none
+      of_no_usage
 
 -- ---- a status that is settled is that of the command
 
-pub answered_settled : (wanted status : Status) (text : List ℕ) (line : Result (String Global) NoMemory) → IsAnswered status text wanted line → IsSettled status → status ≡ wanted
+pub answered_settled : (wanted status : Status) (text : List ℕ) (line : Result (String Global) NoMemory) → IsAnswered status text wanted line → IsSettled status
+    → status ≡ wanted
 answered_settled wanted status text (Ok t) answered settled = answered.0
 answered_settled wanted status text (Err e) answered settled = absurd (subst IsSettled answered.0 settled)

@@ -1,37 +1,19 @@
 -- How the rigs of a command come back: as they were, with the first played, with the first two played, and of a session.
-use Rattle.std.proofs.Common.{◌≡◌, ℕ, zero, suc, ◌<◌, ◌≤◌, false, List, [], ◌∷◌, length, All, refl, sym, ap, ◌∙◌, subst, inl, inr, arith}
-use Rattle.std.specs.Prelude.{Result, Ok, Err, Option, Some, None, OnOk, IfOk, IfErr, IfSome, drop, map, Vec, vec_capacity}
-use Rattle.std.specs.declared.alloc.Global.{Global}
-use Rattle.std.proofs.Math.ListN.{drop_of_length-le}
-use Rattle.std.proofs.lemmas.Bool.{false≢true}
-use Rattle.std.proofs.lemmas.List.Elements.{All-nil, All-cons, All-head, All-tail}
-use Rattle.sim_base.specs.declared.setup.Setup.{Setup}
-use Rattle.sim_base.specs.declared.state.State.{State}
-use Rattle.sim_base.specs.Limits.{IsSetup}
-use Rattle.sim_store.specs.Files.{File}
-use Rattle.sim_lists.specs.declared.step_list.StepList.{StepList}
-use Rattle.sim_lists.specs.StepLists.{IsStepList}
-use Rattle.sim_system.specs.Meanings.{Meaning, Systems, HaveKinds, AreFed, IsBuiltOnceAtMost, AreBuiltOnceAtMost}
-use Rattle.sim_system.specs.RigWords.{systems_by}
-use Rattle.sim_system.specs.declared.rig.Rig.{Rig}
+use Rattle.{sim_top.specs.Hosting.IsRecordedBy, sim_top.specs.Hosting.OfRecord, std.proofs.Math.ListN.drop_of_length-le, std.specs.Prelude.vec_capacity}
+use Rattle.std.proofs.lemmas.List.Elements.{All-cons, All-head, All-nil, All-tail}
 use Rattle.sim_session.specs.SessionWords.{rigs_by}
-use Rattle.sim_session_text.specs.SessionText.{session_of}
-use Rattle.sim_play.specs.Lines.{end_from}
-use Rattle.sim_session_text.specs.Rigs.{AllStand, AllBuiltAtMost, builds_of}
-use Rattle.sim_top.specs.Hosting.{OfSession, IsHostedBy, OfRecord, IsRecordedBy}
-use Rattle.sim_top.specs.Making.{IsMade, IsMadeAs, IsSettled, outcome_made, status_made}
-use Rattle.sim_top.specs.Outcome.{Outcome, bytes_in, session_match_in, steps_in}
-use Rattle.sim_top.specs.Reads.{HasEnded}
-use Rattle.sim_top.specs.Returning.{IsUnplayed, HasBegunBy, AreOfSession, RigsCameBackBy}
-use Rattle.sim_top.specs.Rigs.{StandForStored, RigStands, SecondStands, OfFirsts, HasPlayedBy, AreEightBy, clients, used}
-use Rattle.sim_top.specs.Stops.{IsState, status_of}
-use Rattle.sim_top.specs.Words.{Asked, to_play, to_store, to_resume, to_rejoin, to_session, to_show, to_compare, to_serve, to_try, to_stock, to_realm, to_sight, to_resight, to_log, to_record, to_check, to_film, to_parts, is_session}
-use Rattle.sim_top.specs.declared.commands.Answer.{Answer}
-use Rattle.sim_top.specs.declared.status.Status.{Status}
+use Rattle.sim_session_text.specs.Rigs.{AllBuiltAtMost, AllStand, builds_of}
+use Rattle.sim_system.specs.{Meanings.AreBuiltOnceAtMost, Meanings.IsBuiltOnceAtMost, Meanings.Meaning, declared.rig.Rig.Rig}
+use Rattle.sim_top.proofs.Common.{IsHostedBy, IsMade, IsMadeAs, IsSettled, IsSetup, IsState, IsStepList, IsUnplayed, OfSession, Outcome, outcome_made}
+use Rattle.sim_top.proofs.Common.{RigsCameBackBy, session_match_in, session_of, Setup, StandForStored, State, Status, status_made, status_of, StepList}
+use Rattle.sim_top.proofs.Common.{Vec, refl, Answer, ap, AreFed, arith, Asked, bytes_in, end_from, false≢true, File, Global, HasEnded, HaveKinds, inl, inr}
+use Rattle.sim_top.proofs.Common.{steps_in, Stop, subst, sym, Systems, systems_by, to_check, to_compare, to_film, to_log, to_parts, to_play, to_realm}
+use Rattle.sim_top.proofs.Common.{to_record, to_rejoin, to_resight, to_resume, to_serve, to_session, to_show, to_sight, to_stock, to_store, to_try, used, ◌∙◌}
+use Rattle.sim_top.proofs.Common.{◌≡◌, ℕ, suc, ◌<◌, ◌≤◌, false, List, [], ◌∷◌, map, length, drop, IfSome, IfOk, OnOk, Some, None, Ok, Err, All, Option, Result}
+use Rattle.sim_top.proofs.Ending.{ended_settled, stopped_not_ended, unplayed_settled}
+use Rattle.sim_top.specs.{Returning.AreOfSession, Rigs.AreEightBy, Rigs.clients, Rigs.HasPlayedBy, Rigs.OfFirsts, Rigs.RigStands, Rigs.SecondStands}
 use Rattle.sim_top.specs.declared.status.Status.TheVariants as status
-use Rattle.sim_top.specs.declared.stop.Stop.{Stop}
 use Rattle.sim_top.specs.declared.stop.Stop.TheVariants as stops
-use Rattle.sim_top.proofs.Ending.{stopped_not_ended, ended_settled, unplayed_settled}
 
 -- ---- by the status
 
@@ -40,7 +22,8 @@ pub on_ended : (made : Result Answer Stop) (P : Type 0) → OnOk made P → HasE
 on_ended (Ok answer) P h ended = h
 on_ended (Err stop) P h ended = absurd (stopped_not_ended stop ended)
 
-pub told_ended : (held : Option (List File)) (made : Result Answer Stop) (P : List File → Type 0) → IfSome held (λ files. OnOk made (P files)) → IfSome held (λ files. HasEnded (status_made made) → P files)
+pub told_ended : (held : Option (List File)) (made : Result Answer Stop) (P : List File → Type 0) → IfSome held (λ files. OnOk made (P files))
+    → IfSome held (λ files. HasEnded (status_made made) → P files)
 told_ended None made P h = tt
 told_ended (Some files) made P h = on_ended made (P files) h
 
@@ -54,7 +37,8 @@ pub was_played : (wanted : Outcome) (made : Result Answer Stop) → IsMade wante
 was_played wanted (Ok answer) m ended h = played_to_end answer.status (subst HasEnded (sym (ap (λ (o : Outcome). o.status) m.answers)) ended) h
 was_played wanted (Err stop) m ended h = subst (λ (s : Stop). IsUnplayed (status_of s)) m.stops h
 
-pub was_played_as : (Wanted : Outcome → Type 0) (made : Result Answer Stop) → IsMadeAs Wanted made → ((o : Outcome) → Wanted o → HasEnded o.status) → IsUnplayed (status_made made) → ⊥
+pub was_played_as : (Wanted : Outcome → Type 0) (made : Result Answer Stop) → IsMadeAs Wanted made → ((o : Outcome) → Wanted o → HasEnded o.status)
+    → IsUnplayed (status_made made) → ⊥
 was_played_as Wanted (Ok answer) m ended h = played_to_end answer.status (ended (outcome_made answer) m.answers) h
 was_played_as Wanted (Err stop) m ended h = subst (λ (s : Stop). IsUnplayed (status_of s)) m.stops h
 
@@ -112,21 +96,24 @@ pub All-unmap : {X Y : Type 0} (P : Y → Type 0) (f : X → Y) (xs : List X) �
 All-unmap P f [] all = All-nil (λ x. P (f x))
 All-unmap P f (x ∷ xs) all = All-cons (λ x. P (f x)) x xs (All-head P (f x) (map f xs) all) (All-unmap P f xs (All-tail P (f x) (map f xs) all))
 
-on_told : (held : Option (List File)) (made : Result Answer Stop) (P Q : List File → Type 0) → ((files : List File) → P files → Q files) → IfSome held (λ files. OnOk made (P files))
+on_told : (held : Option (List File)) (made : Result Answer Stop) (P Q : List File → Type 0) → ((files : List File) → P files → Q files)
+    → IfSome held (λ files. OnOk made (P files))
     → IfSome held (λ files. OnOk made (Q files))
 on_told None made P Q f h = tt
 on_told (Some files) (Ok answer) P Q f h = f files h
 on_told (Some files) (Err stop) P Q f h = tt
 
 -- what holds of a match that was read holds of that of the files
-pub stands_read : {X : Type 0} (held : Option (List File)) (found : List File → Result X Outcome) (x : X) (made : Result Answer Stop) (P : List File → X → Type 0) → IfSome held (λ files. found files ≡ Ok x)
+pub stands_read : {X : Type 0} (held : Option (List File)) (found : List File → Result X Outcome) (x : X) (made : Result Answer Stop)
+    (P : List File → X → Type 0) → IfSome held (λ files. found files ≡ Ok x)
     → IfSome held (λ files. OnOk made (P files x)) → IfSome held (λ files. OnOk made (IfOk (found files) (P files)))
 stands_read None found x made P told h = tt
 stands_read {X} (Some files) found x (Ok answer) P told h = subst (λ (r : Result X Outcome). IfOk r (P files)) (sym told) h
 stands_read (Some files) found x (Err stop) P told h = tt
 
 -- what was played on from a stored state
-pub stored_stands : (held : Option (List File)) (made : Result Answer Stop) (setup : Setup) (state : State) (name : List ℕ) (t : Systems) → IfSome held (λ files. IsState setup (bytes_in files name) state)
+pub stored_stands : (held : Option (List File)) (made : Result Answer Stop) (setup : Setup) (state : State) (name : List ℕ) (t : Systems)
+    → IfSome held (λ files. IsState setup (bytes_in files name) state)
     → OnOk made (AreFed setup (end_from setup state) t) → IfSome held (λ files. OnOk made (StandForStored setup (bytes_in files name) t))
 stored_stands None made setup state name t is fed = tt
 stored_stands (Some files) (Ok answer) setup state name t is fed = record { state = state; stored = is; fed = fed }
@@ -173,7 +160,8 @@ module _ {X : Type 0} {F : X → Type 0} (meaning : (i : X) → F i → Meaning)
 
   -- ---- all as they were, where nothing was used or the command did not come to its end
 
-  pub rigs_same : (asked : Option Asked) (held : Option (List File)) (status : Status) (rigs : Vec (Rig X F) Global) → AreEightBy meaning rigs.items → (HasEnded status → used asked ≡ 0)
+  pub rigs_same : (asked : Option Asked) (held : Option (List File)) (status : Status) (rigs : Vec (Rig X F) Global) → AreEightBy meaning rigs.items
+      → (HasEnded status → used asked ≡ 0)
       → RigsCameBackBy meaning asked held status rigs rigs
   rigs_same asked held status rigs eight idle =
       let some : 1 < length rigs.items = omega (arith, eight.count) in
@@ -198,16 +186,19 @@ module _ {X : Type 0} {F : X → Type 0} (meaning : (i : X) → F i → Meaning)
       }
 
   -- a command that ends before it plays
-  pub rigs_left : (asked : Option Asked) (held : Option (List File)) (stop : Stop) (rigs : Vec (Rig X F) Global) → AreEightBy meaning rigs.items → RigsCameBackBy meaning asked held (status_of stop) rigs rigs
+  pub rigs_left : (asked : Option Asked) (held : Option (List File)) (stop : Stop) (rigs : Vec (Rig X F) Global) → AreEightBy meaning rigs.items
+      → RigsCameBackBy meaning asked held (status_of stop) rigs rigs
   rigs_left asked held stop rigs eight = rigs_same asked held (status_of stop) rigs eight (λ ended. absurd (stopped_not_ended stop ended))
 
   -- ---- the first was taken, and put back
 
-  pub room_for : (old taken : Vec (Rig X F) Global) (r : Rig X F) → old.items ≡ r ∷ taken.items → vec_capacity taken ≡ vec_capacity old → length taken.items < vec_capacity taken
+  pub room_for : (old taken : Vec (Rig X F) Global) (r : Rig X F) → old.items ≡ r ∷ taken.items → vec_capacity taken ≡ vec_capacity old
+      → length taken.items < vec_capacity taken
   room_for old taken r is room = let more : length old.items ≡ suc (length taken.items) = ap length is in omega (arith, more, room, old.ok.0, old.ok.1)
 
   -- where two were taken, and one was put back
-  pub room_again : (old back : Vec (Rig X F) Global) (q r s : Rig X F) (rest : List (Rig X F)) → old.items ≡ q ∷ r ∷ rest → back.items ≡ s ∷ rest → vec_capacity back ≡ vec_capacity old
+  pub room_again : (old back : Vec (Rig X F) Global) (q r s : Rig X F) (rest : List (Rig X F)) → old.items ≡ q ∷ r ∷ rest → back.items ≡ s ∷ rest
+      → vec_capacity back ≡ vec_capacity old
       → length back.items < vec_capacity back
   room_again old back q r s rest was is room =
       let more : length old.items ≡ suc (suc (length rest)) = ap length was in
@@ -217,31 +208,41 @@ module _ {X : Type 0} {F : X → Type 0} (meaning : (i : X) → F i → Meaning)
   pub one_less : (old : List (Rig X F)) (r : Rig X F) (rest : List (Rig X F)) (n : ℕ) → old ≡ r ∷ rest → length old ≡ suc n → length rest ≡ n
   one_less old r rest n is count = let more : length old ≡ suc (length rest) = ap length is in omega (arith, more, count)
 
-  firsts_of : (old new rest after : List (Rig X F)) (r s : Rig X F) (P : Rig X F → Rig X F → Type 0) → old ≡ r ∷ rest → new ≡ s ∷ after → P r s → OfFirsts old new P
-  firsts_of old new rest after r s P was is h = subst (λ (l : List (Rig X F)). OfFirsts l new P) (sym was) (subst (λ (l : List (Rig X F)). OfFirsts (r ∷ rest) l P) (sym is) h)
+  firsts_of : (old new rest after : List (Rig X F)) (r s : Rig X F) (P : Rig X F → Rig X F → Type 0) → old ≡ r ∷ rest → new ≡ s ∷ after → P r s
+      → OfFirsts old new P
+  firsts_of old new rest after r s P was is h = subst (λ (l : List (Rig X F)). OfFirsts l new P) (sym was)
+      (subst (λ (l : List (Rig X F)). OfFirsts (r ∷ rest) l P) (sym is) h)
 
   behind : (old rest : List (Rig X F)) (r : Rig X F) → old ≡ r ∷ rest → drop 1 old ≡ rest
   behind old rest r is = ap (drop 1) is
 
-  pub kind_of_first : (old rest : List (Rig X F)) (r : Rig X F) → old ≡ r ∷ rest → All (λ r. HaveKinds (systems_by r meaning)) old → HaveKinds (systems_by r meaning)
+  pub kind_of_first : (old rest : List (Rig X F)) (r : Rig X F) → old ≡ r ∷ rest → All (λ r. HaveKinds (systems_by r meaning)) old
+      → HaveKinds (systems_by r meaning)
   kind_of_first old rest r is all = All-head (λ r. HaveKinds (systems_by r meaning)) r rest (subst (All (λ r. HaveKinds (systems_by r meaning))) is all)
 
-  pub kinds_of_rest : (old rest : List (Rig X F)) (r : Rig X F) → old ≡ r ∷ rest → All (λ r. HaveKinds (systems_by r meaning)) old → All (λ r. HaveKinds (systems_by r meaning)) rest
+  pub kinds_of_rest : (old rest : List (Rig X F)) (r : Rig X F) → old ≡ r ∷ rest → All (λ r. HaveKinds (systems_by r meaning)) old
+      → All (λ r. HaveKinds (systems_by r meaning)) rest
   kinds_of_rest old rest r is all = All-tail (λ r. HaveKinds (systems_by r meaning)) r rest (subst (All (λ r. HaveKinds (systems_by r meaning))) is all)
 
-  kinds_with : (new rest : List (Rig X F)) (s : Rig X F) → new ≡ s ∷ rest → HaveKinds (systems_by s meaning) → All (λ r. HaveKinds (systems_by r meaning)) rest → All (λ r. HaveKinds (systems_by r meaning)) new
-  kinds_with new rest s is here others = subst (All (λ r. HaveKinds (systems_by r meaning))) (sym is) (All-cons (λ r. HaveKinds (systems_by r meaning)) s rest here others)
+  kinds_with : (new rest : List (Rig X F)) (s : Rig X F) → new ≡ s ∷ rest → HaveKinds (systems_by s meaning) → All (λ r. HaveKinds (systems_by r meaning)) rest
+      → All (λ r. HaveKinds (systems_by r meaning)) new
+  kinds_with new rest s is here others = subst (All (λ r. HaveKinds (systems_by r meaning))) (sym is)
+      (All-cons (λ r. HaveKinds (systems_by r meaning)) s rest here others)
 
-  seconds_kept : (old new : List (Rig X F)) (P : Rig X F → Rig X F → Type 0) → drop 1 new ≡ drop 1 old → 1 < length old → ((r : Rig X F) → P r r) → OfFirsts (drop 1 old) (drop 1 new) P
+  seconds_kept : (old new : List (Rig X F)) (P : Rig X F → Rig X F → Type 0) → drop 1 new ≡ drop 1 old → 1 < length old → ((r : Rig X F) → P r r)
+      → OfFirsts (drop 1 old) (drop 1 new) P
   seconds_kept old new P same le each = subst (λ (l : List (Rig X F)). OfFirsts (drop 1 old) l P) (sym same) (seconds_same old P le each)
 
-  seconds_of : (old new rest after more : List (Rig X F)) (q r p s : Rig X F) (P : Rig X F → Rig X F → Type 0) → old ≡ q ∷ r ∷ more → new ≡ p ∷ s ∷ after → P r s → OfFirsts (drop 1 old) (drop 1 new) P
+  seconds_of : (old new rest after more : List (Rig X F)) (q r p s : Rig X F) (P : Rig X F → Rig X F → Type 0) → old ≡ q ∷ r ∷ more → new ≡ p ∷ s ∷ after
+      → P r s → OfFirsts (drop 1 old) (drop 1 new) P
   seconds_of old new rest after more q r p s P was is h =
       firsts_of (drop 1 old) (drop 1 new) more after r s P (behind old (r ∷ more) q was) (behind new (s ∷ after) p is) h
 
   -- a match was played with the first rig
-  pub one_played : (asked : Asked) (held : Option (List File)) (setup : Setup) (state : State) (made : Result Answer Stop) (r s : Rig X F) (rest : List (Rig X F)) (old new : Vec (Rig X F) Global)
-      → AreEightBy meaning old.items → old.items ≡ r ∷ rest → new.items ≡ s ∷ rest → vec_capacity new ≡ vec_capacity old → clients asked ≡ 1 → (IsUnplayed (status_made made) → ⊥)
+  pub one_played : (asked : Asked) (held : Option (List File)) (setup : Setup) (state : State) (made : Result Answer Stop) (r s : Rig X F)
+      (rest : List (Rig X F)) (old new : Vec (Rig X F) Global)
+      → AreEightBy meaning old.items → old.items ≡ r ∷ rest → new.items ≡ s ∷ rest → vec_capacity new ≡ vec_capacity old → clients asked ≡ 1
+      → (IsUnplayed (status_made made) → ⊥)
       → HasPlayedBy meaning setup state made r s → IfSome held (λ files. OnOk made (RigStands files (Some asked) (systems_by r meaning) (systems_by s meaning)))
       → RigsCameBackBy meaning (Some asked) held (status_made made) old new
   one_played asked held setup state made r s rest old new eight was is room one ended played stands =
@@ -252,8 +253,10 @@ module _ {X : Type 0} {F : X → Type 0} (meaning : (i : X) → F i → Meaning)
             (on_told held made (λ files. Stands files (Some asked) r s) (λ files. OfFirsts old.items new.items (Stands files (Some asked)))
             (λ files h. firsts_of old.items new.items rest rest r s (Stands files (Some asked)) was is h) stands);
         joins = told_any held (λ files. HasEnded (status_made made) → OfFirsts (drop 1 old.items) (drop 1 new.items) (Joins files (Some asked)))
-            (λ files done. seconds_kept old.items new.items (Joins files (Some asked)) others some (λ q. idle_second files (Some asked) (systems_by q meaning) (omega (arith, one))));
-        hosted = told_any held (λ files. HasEnded (status_made made) → OfSession files (Some asked) (λ setup list. IsHostedBy meaning setup list old.items new.items))
+            (λ files done. seconds_kept old.items new.items (Joins files (Some asked)) others some
+            (λ q. idle_second files (Some asked) (systems_by q meaning) (omega (arith, one))));
+        hosted = told_any held (λ files. HasEnded (status_made made)
+            → OfSession files (Some asked) (λ setup list. IsHostedBy meaning setup list old.items new.items))
             (λ files done. idle_session files (Some asked) (λ setup list. IsHostedBy meaning setup list old.items new.items) (omega (arith, one)));
         recorded = told_any held (λ files. HasEnded (status_made made) → OfRecord files (Some asked) (λ setup list. IsRecordedBy meaning setup list new.items))
             (λ files done. idle_record files (Some asked) (λ setup list. IsRecordedBy meaning setup list new.items) (omega (arith, one)));
@@ -267,8 +270,10 @@ module _ {X : Type 0} {F : X → Type 0} (meaning : (i : X) → F i → Meaning)
         room = room;
       }
 
-  pub first_played : (asked : Asked) (held : Option (List File)) (setup : Setup) (state : State) (wanted : Outcome) (made : Result Answer Stop) (r s : Rig X F) (rest : List (Rig X F)) (old new : Vec (Rig X F) Global)
-      → AreEightBy meaning old.items → old.items ≡ r ∷ rest → new.items ≡ s ∷ rest → vec_capacity new ≡ vec_capacity old → clients asked ≡ 1 → IsMade wanted made → HasEnded wanted.status
+  pub first_played : (asked : Asked) (held : Option (List File)) (setup : Setup) (state : State) (wanted : Outcome) (made : Result Answer Stop) (r s : Rig X F)
+      (rest : List (Rig X F)) (old new : Vec (Rig X F) Global)
+      → AreEightBy meaning old.items → old.items ≡ r ∷ rest → new.items ≡ s ∷ rest → vec_capacity new ≡ vec_capacity old → clients asked ≡ 1
+      → IsMade wanted made → HasEnded wanted.status
       → HasPlayedBy meaning setup state made r s → IfSome held (λ files. OnOk made (RigStands files (Some asked) (systems_by r meaning) (systems_by s meaning)))
       → RigsCameBackBy meaning (Some asked) held (status_made made) old new
   first_played asked held setup state wanted made r s rest old new eight was is room one m ended played stands =
@@ -279,10 +284,13 @@ module _ {X : Type 0} {F : X → Type 0} (meaning : (i : X) → F i → Meaning)
   twice_behind : (old : List (Rig X F)) (q r : Rig X F) (rest : List (Rig X F)) → old ≡ q ∷ r ∷ rest → drop 2 old ≡ rest
   twice_behind old q r rest is = ap (drop 2) is
 
-  pub both_played : (asked : Asked) (held : Option (List File)) (setup : Setup) (state : State) (wanted : Outcome) (made : Result Answer Stop) (q r p s : Rig X F) (rest : List (Rig X F))
-      (old new : Vec (Rig X F) Global) → AreEightBy meaning old.items → old.items ≡ q ∷ r ∷ rest → new.items ≡ p ∷ s ∷ rest → vec_capacity new ≡ vec_capacity old → clients asked ≡ 2
+  pub both_played : (asked : Asked) (held : Option (List File)) (setup : Setup) (state : State) (wanted : Outcome) (made : Result Answer Stop)
+      (q r p s : Rig X F) (rest : List (Rig X F))
+      (old new : Vec (Rig X F) Global) → AreEightBy meaning old.items → old.items ≡ q ∷ r ∷ rest → new.items ≡ p ∷ s ∷ rest
+      → vec_capacity new ≡ vec_capacity old → clients asked ≡ 2
       → IsMade wanted made → HasEnded wanted.status → HasPlayedBy meaning setup state made q p → HasPlayedBy meaning setup state made r s
-      → IfSome held (λ files. OnOk made (RigStands files (Some asked) (systems_by q meaning) (systems_by p meaning))) → IfSome held (λ files. OnOk made (SecondStands files (Some asked) (systems_by s meaning)))
+      → IfSome held (λ files. OnOk made (RigStands files (Some asked) (systems_by q meaning) (systems_by p meaning)))
+      → IfSome held (λ files. OnOk made (SecondStands files (Some asked) (systems_by s meaning)))
       → RigsCameBackBy meaning (Some asked) held (status_made made) old new
   both_played asked held setup state wanted made q r p s rest old new eight was is room two m ended first second stands joins =
       record {
@@ -292,7 +300,8 @@ module _ {X : Type 0} {F : X → Type 0} (meaning : (i : X) → F i → Meaning)
         joins = told_ended held made (λ files. OfFirsts (drop 1 old.items) (drop 1 new.items) (Joins files (Some asked)))
             (on_told held made (λ files. Joins files (Some asked) r s) (λ files. OfFirsts (drop 1 old.items) (drop 1 new.items) (Joins files (Some asked)))
             (λ files h. seconds_of old.items new.items rest rest rest q r p s (Joins files (Some asked)) was is h) joins);
-        hosted = told_any held (λ files. HasEnded (status_made made) → OfSession files (Some asked) (λ setup list. IsHostedBy meaning setup list old.items new.items))
+        hosted = told_any held (λ files. HasEnded (status_made made)
+            → OfSession files (Some asked) (λ setup list. IsHostedBy meaning setup list old.items new.items))
             (λ files done. idle_session files (Some asked) (λ setup list. IsHostedBy meaning setup list old.items new.items) (omega (arith, two)));
         recorded = told_any held (λ files. HasEnded (status_made made) → OfRecord files (Some asked) (λ setup list. IsRecordedBy meaning setup list new.items))
             (λ files done. idle_record files (Some asked) (λ setup list. IsRecordedBy meaning setup list new.items) (omega (arith, two)));
@@ -300,7 +309,8 @@ module _ {X : Type 0} {F : X → Type 0} (meaning : (i : X) → F i → Meaning)
         joined = λ none. seconds_of old.items new.items rest rest rest q r p s Once was is second.most;
         session = idle_rigs held (Some asked) old.items new.items (omega (arith, two));
         unplayed = λ none. absurd (was_played wanted made m ended none);
-        rest = subst (λ (n : ℕ). drop n new.items ≡ drop n old.items) (sym two) (twice_behind new.items p s rest is ∙ sym (twice_behind old.items q r rest was));
+        rest = subst (λ (n : ℕ). drop n new.items ≡ drop n old.items) (sym two) (twice_behind new.items p s rest is ∙
+            sym (twice_behind old.items q r rest was));
         kinds = kinds_with new.items (s ∷ rest) p is first.kinds (All-cons (λ r. HaveKinds (systems_by r meaning)) s rest second.kinds
             (kinds_of_rest (r ∷ rest) rest r refl (kinds_of_rest old.items (r ∷ rest) q was eight.kinds)));
         count = ap length is ∙ sym (ap length was);
@@ -312,18 +322,25 @@ module _ {X : Type 0} {F : X → Type 0} (meaning : (i : X) → F i → Meaning)
   none_left : (rigs : List (Rig X F)) → length rigs ≡ 8 → drop 8 rigs ≡ []
   none_left rigs eight = drop_of_length-le rigs {i = 8} (omega (arith, eight))
 
-  pub session_played : (held : Option (List File)) (game steps : List ℕ) (setup : Setup) (list : StepList) (wanted : Outcome) (made : Result Answer Stop) (old new : Vec (Rig X F) Global)
-      → IsSetup setup → IsStepList setup.players list → IfSome held (λ files. session_match_in files game ≡ Ok setup) → IfSome held (λ files. steps_in files steps setup.players ≡ Ok list)
+  pub session_played : (held : Option (List File)) (game steps : List ℕ) (setup : Setup) (list : StepList) (wanted : Outcome) (made : Result Answer Stop)
+      (old new : Vec (Rig X F) Global)
+      → IsSetup setup → IsStepList setup.players list → IfSome held (λ files. session_match_in files game ≡ Ok setup)
+      → IfSome held (λ files. steps_in files steps setup.players ≡ Ok list)
       → IsMade wanted made → HasEnded wanted.status → OnOk made (AllStand setup (session_of setup list) (rigs_by new.items meaning))
-      → AllBuiltAtMost (builds_of setup list) setup.players (rigs_by old.items meaning) (rigs_by new.items meaning) → drop setup.players new.items ≡ drop setup.players old.items
-      → AreEightBy meaning old.items → AreEightBy meaning new.items → vec_capacity new ≡ vec_capacity old → RigsCameBackBy meaning (Some (to_session game steps)) held (status_made made) old new
+      → AllBuiltAtMost (builds_of setup list) setup.players (rigs_by old.items meaning) (rigs_by new.items meaning) → drop setup.players new.items ≡
+      drop setup.players old.items
+      → AreEightBy meaning old.items → AreEightBy meaning new.items → vec_capacity new ≡ vec_capacity old
+      → RigsCameBackBy meaning (Some (to_session game steps)) held (status_made made) old new
   session_played held game steps setup list wanted made old new limits within read listed m ended stand built spare was is room =
       record {
         stands = told_any held (λ files. HasEnded (status_made made) → OfFirsts old.items new.items (Stands files (Some (to_session game steps))))
             (λ files done. any_firsts old.items new.items (omega (arith, was.count)) (omega (arith, is.count)));
-        joins = told_any held (λ files. HasEnded (status_made made) → OfFirsts (drop 1 old.items) (drop 1 new.items) (Joins files (Some (to_session game steps))))
+        joins = told_any held (λ files. HasEnded (status_made made) → OfFirsts (drop 1 old.items) (drop 1 new.items)
+            (Joins files (Some (to_session game steps))))
             (λ files done. any_seconds old.items new.items (omega (arith, was.count)) (omega (arith, is.count)));
-        hosted = told_ended held made (λ files. OfSession files (Some (to_session game steps)) (λ setup list. IsHostedBy meaning setup list old.items new.items)) (hosts held read listed);
+        hosted = told_ended held made
+            (λ files. OfSession files (Some (to_session game steps)) (λ setup list. IsHostedBy meaning setup list old.items new.items))
+            (hosts held read listed);
         recorded = told_any held (λ files. HasEnded (status_made made) → Unit {0}) (λ files done. tt);
         most = λ none. absurd (false≢true (sym none));
         joined = λ none. absurd (false≢true (sym none));
@@ -348,11 +365,13 @@ module _ {X : Type 0} {F : X → Type 0} (meaning : (i : X) → F i → Meaning)
       hosted_by : OnOk made (IsHostedBy meaning setup list old.items new.items)
       hosted_by = by made stand
         where
-          by : (made : Result Answer Stop) → OnOk made (AllStand setup (session_of setup list) (rigs_by new.items meaning)) → OnOk made (IsHostedBy meaning setup list old.items new.items)
+          by : (made : Result Answer Stop) → OnOk made (AllStand setup (session_of setup list) (rigs_by new.items meaning))
+              → OnOk made (IsHostedBy meaning setup list old.items new.items)
           by (Ok answer) h = record { limits = limits; steps = within; stand = h; built = built; spare = spare }
           by (Err stop) h = tt
 
-      hosts : (held : Option (List File)) → IfSome held (λ files. session_match_in files game ≡ Ok setup) → IfSome held (λ files. steps_in files steps setup.players ≡ Ok list)
+      hosts : (held : Option (List File)) → IfSome held (λ files. session_match_in files game ≡ Ok setup)
+          → IfSome held (λ files. steps_in files steps setup.players ≡ Ok list)
           → IfSome held (λ files. OnOk made (OfSession files (Some (to_session game steps)) (λ setup list. IsHostedBy meaning setup list old.items new.items)))
       hosts None e l = tt
       hosts (Some files) e l = by made hosted_by
@@ -360,7 +379,8 @@ module _ {X : Type 0} {F : X → Type 0} (meaning : (i : X) → F i → Meaning)
           by : (made : Result Answer Stop) → OnOk made (IsHostedBy meaning setup list old.items new.items)
               → OnOk made (OfSession files (Some (to_session game steps)) (λ setup list. IsHostedBy meaning setup list old.items new.items))
           by (Ok answer) h =
-              subst (λ (r : Result Setup Outcome). IfOk r (λ setup. IfOk (steps_in files steps setup.players) (λ list. IsHostedBy meaning setup list old.items new.items))) (sym e)
+              subst (λ (r : Result Setup Outcome). IfOk r
+              (λ setup. IfOk (steps_in files steps setup.players) (λ list. IsHostedBy meaning setup list old.items new.items))) (sym e)
               (subst (λ (r : Result StepList Outcome). IfOk r (λ list. IsHostedBy meaning setup list old.items new.items)) (sym l) h)
           by (Err stop) h = tt
 
@@ -384,6 +404,7 @@ module _ {X : Type 0} {F : X → Type 0} (meaning : (i : X) → F i → Meaning)
         room = back.room;
       }
     where
-      later : (held : Option (List File)) (P : List File → Type 0) → IfSome held (λ files. HasEnded first → P files) → IfSome held (λ files. HasEnded last → P files)
+      later : (held : Option (List File)) (P : List File → Type 0) → IfSome held (λ files. HasEnded first → P files)
+          → IfSome held (λ files. HasEnded last → P files)
       later None P h = tt
       later (Some files) P h = λ ended. h (subst HasEnded (settled (ended_settled last ended)) ended)

@@ -1,37 +1,19 @@
 -- What the players see: at a turn that a match has, and from a stored state on with explored cells, which are read where there is a state.
-use Rattle.std.proofs.Common.{◌≡◌, ℕ, ◌+◌, ◌*◌, ◌<◌, ◌≤◌, Bool, true, false, cond, not, eqb, ltb, List, length, Option, Some, None, Result, Ok, Err, refl, sym, ap, ◌∙◌, subst, IfSome, IfOk, IfErr, IsTrue, ◌⊎◌, inl, inr, string_bytes}
-use Rattle.std.specs.Prelude.{OnErr, String, Vec}
-use Rattle.std.specs.declared.alloc.Global.{Global}
-use Rattle.std.proofs.lemmas.Bool.{cond-true, cond-false, lt-ltb, le-ltb, eqb-true}
-use Rattle.sim_base.specs.declared.memory.OutOfMemory.{OutOfMemory as NoMemory}
-use Rattle.sim_base.specs.declared.setup.Setup.{Setup}
-use Rattle.sim_base.specs.declared.state.State.{State}
-use Rattle.sim_base.specs.declared.state.Row.{Row}
-use Rattle.sim_store.specs.Files.{File}
-use Rattle.sim_store.specs.declared.counts.Counts.{Counts}
-use Rattle.sim_report.specs.declared.refusal.Refusal.TheVariants.{Turn}
-use Rattle.sim_report.specs.Refusals.{refusal_text}
-use Rattle.sim_play.specs.Seen.{sight_text, sight_file, resight_text}
-use Rattle.sim_vision.specs.declared.fault.SightFault.{SightFault}
-use Rattle.sim_vision.specs.declared.fault.SightFault.TheVariants as sights
-use Rattle.sim_vision.specs.After.{joined_at}
-use Rattle.sim_vision.specs.Joining.{refusal_of}
-use Rattle.sim_vision.specs.Vision.{Vision, cells_in}
-use Rattle.sim_top.specs.Answers.{MayAnswer}
-use Rattle.sim_top.specs.Commands.{Shelved, IsReading, MayFinish, IsAnswerTo}
-use Rattle.sim_top.specs.Given.{Gave, GaveFor}
-use Rattle.sim_top.specs.Making.{IsMadeAs, outcome_made}
-use Rattle.sim_top.specs.Outcome.{Outcome, Then, IsOutcomeOf, IsResighted, IsSeenFrom, bytes_in, match_in, map_at, map_by, printed, seen_at, seen_with, sight_outcome}
-use Rattle.sim_top.specs.Reads.{HasEnded, LacksFirst, length_in, length_read}
-use Rattle.sim_top.specs.Stops.{Stopped, IsState, IsJoined, IsOfMap, IsRefusal, map_stop, status_of}
-use Rattle.sim_top.specs.Words.{Asked, to_resight, reads_file, reads_map}
-use Rattle.sim_top.specs.declared.commands.Answer.{Answer}
-use Rattle.sim_top.specs.declared.status.Status.TheVariants.{Done, NoSuchTurn}
-use Rattle.sim_top.specs.declared.stop.Stop.{Stop}
-use Rattle.sim_top.specs.declared.stop.Stop.TheVariants.{ReadFault, TooLong, NoFile, OutOfMemory, MatchRefused, StateRefused, ListRefused, NoSuchTurn as NoTurn, SightRefused, LogRefused, EconomyRefused}
-use Rattle.sim_top.proofs.Answering.{Loads, ends, comes_to_one, match_there, both_same, both_told, both_causes, both_given}
+use Rattle.{sim_play.specs.Seen.sight_file, sim_play.specs.Seen.sight_text, sim_vision.specs.After.joined_at, sim_vision.specs.Vision.cells_in}
+use Rattle.std.proofs.{Common.◌*◌, Common.not, Common.eqb, lemmas.Bool.eqb-true}
+use Rattle.sim_base.specs.declared.{memory.OutOfMemory.OutOfMemory as NoMemory, state.Row.Row}
+use Rattle.sim_top.proofs.Answering.{both_causes, both_given, both_told, comes_to_one, ends, Loads, match_there}
+use Rattle.sim_top.proofs.Common.{EconomyRefused, File, Gave, GaveFor, Global, HasEnded, inl, inr, IsAnswerTo, IsMadeAs, IsOfMap, IsOutcomeOf, IsReading}
+use Rattle.sim_top.proofs.Common.{Err, string_bytes, Option, Result, Vec, String, refl, Answer, ap, Asked, bytes_in, cond-false, cond-true, Counts, Done}
+use Rattle.sim_top.proofs.Common.{IsRefusal, IsResighted, IsSeenFrom, IsState, LacksFirst, le-ltb, length_in, length_read, ListRefused, LogRefused, lt-ltb}
+use Rattle.sim_top.proofs.Common.{ReadFault, reads_file, refusal_of, refusal_text, resight_text, seen_with, Setup, Shelved, sight_outcome, SightFault}
+use Rattle.sim_top.proofs.Common.{SightRefused, State, StateRefused, status_of, Stop, Stopped, subst, sym, Then, to_resight, TooLong, Turn, Vision, ◌∙◌}
+use Rattle.sim_top.proofs.Common.{map_at, map_by, match_in, MatchRefused, MayAnswer, MayFinish, NoFile, NoSuchTurn, Outcome, outcome_made, OutOfMemory, printed}
+use Rattle.sim_top.proofs.Common.{◌≡◌, ℕ, ◌+◌, ◌<◌, ◌≤◌, Bool, true, false, cond, ltb, ◌⊎◌, List, length, IfSome, IfOk, IfErr, OnErr, IsTrue, Some, None, Ok}
 use Rattle.sim_top.proofs.Counting.{counted_after, gave_both, gave_on}
-use Rattle.sim_top.proofs.Stopping.{Stopped-weaker, Then-read, Then-ended, Told-all, state_goes_on}
+use Rattle.sim_top.proofs.Stopping.{state_goes_on, Stopped-weaker, Then-ended, Then-read, Told-all}
+use Rattle.sim_top.specs.{Outcome.seen_at, Stops.IsJoined, Stops.map_stop, Words.reads_map, declared.stop.Stop.TheVariants.NoSuchTurn as NoTurn}
+use Rattle.sim_vision.specs.declared.fault.SightFault.TheVariants as sights
 
 -- ---- a turn of a match
 

@@ -1,28 +1,12 @@
 -- What the sink was told of what the players see, and the file of explored cells, in the words of the rules.
-use Rattle.std.proofs.Common.{◌≡◌, ℕ, ◌<◌, ◌≤◌, List, refl, sym, ap, ◌∙◌, subst, ◌⊎◌, inl, inr, ltb}
-use Rattle.std.specs.Prelude.{Result, Ok, Err, Option, Some, None, IfOk}
-use Rattle.std.proofs.lemmas.Bool.{cases_lt, cond-true, lt-ltb}
-use Rattle.sim_base.specs.declared.setup.Setup.{Setup}
-use Rattle.sim_base.specs.declared.state.State.{State}
-use Rattle.sim_codec.specs.declared.fault.StateFault.{StateFault}
+use Rattle.{sim_store.specs.declared.fault.StoreFault.StoreFault, sim_top.specs.Sights.Resights, sim_top.specs.Sights.Sights}
+use Rattle.sim_top.proofs.{Common.to_sight, Common.Turn, Common.◌∙◌, Sighting.sight_done, Sighting.taken_is}
+use Rattle.sim_top.proofs.Common.{Setup, sight_outcome, SightFault, State, state_by, StateFault, Status, subst, sym, TellsSights, Then, ThenStored, to_resight}
+use Rattle.sim_top.proofs.Common.{cases_lt, cond-true, Differs, Done, File, file_in, HasEnded, inl, inr, IsDone, IsOutcomeOf, IsResighted, IsStored, lt-ltb}
+use Rattle.sim_top.proofs.Common.{map_at, map_by, match_in, Meets, NoSuchTurn, Outcome, printed, reading_of, refusal_of, refusal_text, resight_text, Scene}
+use Rattle.sim_top.proofs.Common.{◌≡◌, ℕ, ◌<◌, ◌≤◌, ltb, ◌⊎◌, List, IfOk, Some, None, Ok, Err, Option, Result, refl, ap, Asked, asked_by, bytes_by, bytes_in}
 use Rattle.sim_codec.specs.declared.fault.StateFault.TheVariants as stored
-use Rattle.sim_play.specs.Seen.{resight_text}
-use Rattle.sim_store.specs.Files.{File, file_in}
-use Rattle.sim_store.specs.Reading.{reading_of}
-use Rattle.sim_store.specs.declared.fault.StoreFault.{StoreFault}
 use Rattle.sim_store.specs.declared.fault.StoreFault.TheVariants as store
-use Rattle.sim_report.specs.declared.refusal.Refusal.TheVariants.{Turn}
-use Rattle.sim_report.specs.Refusals.{refusal_text}
-use Rattle.sim_vision.specs.declared.fault.SightFault.{SightFault}
-use Rattle.sim_vision.specs.Joining.{refusal_of}
-use Rattle.sim_top.specs.Answers.{Scene, Meets, IsDone}
-use Rattle.sim_top.specs.Outcome.{Outcome, Then, ThenStored, IsStored, IsOutcomeOf, IsResighted, bytes_by, bytes_in, match_in, map_at, map_by, printed, seen_at, sight_outcome, state_by}
-use Rattle.sim_top.specs.Reads.{HasEnded}
-use Rattle.sim_top.specs.Sights.{Sights, Resights, TellsSights}
-use Rattle.sim_top.specs.Words.{Asked, asked_by, to_sight, to_resight}
-use Rattle.sim_top.specs.declared.status.Status.{Status}
-use Rattle.sim_top.specs.declared.status.Status.TheVariants.{Done, Differs, NoSuchTurn}
-use Rattle.sim_top.proofs.Sighting.{sight_done, taken_is}
 
 -- an outcome that ends a command before is none with which it came to its end
 pub no_end : (wanted other : Outcome) → wanted ≡ other → HasEnded wanted.status → HasEnded other.status

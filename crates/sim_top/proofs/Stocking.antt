@@ -1,27 +1,12 @@
 -- A match and its economy: the economy could not be read, or the match was played by it.
-use Rattle.std.proofs.Common.{◌≡◌, ℕ, ◌+◌, List, Option, Some, Result, Ok, Err, refl, ◌∙◌, IsTrue, IfSome, OnOk}
-use Rattle.sim_base.specs.declared.setup.Setup.{Setup}
-use Rattle.sim_play.specs.Paid.{paid_state, stock_text}
-use Rattle.sim_stock.specs.declared.economy.Economy.{Economy}
-use Rattle.sim_store.specs.Files.{File}
-use Rattle.sim_store.specs.declared.counts.Counts.{Counts}
-use Rattle.sim_system.specs.Meanings.{Systems, AreFed}
-use Rattle.sim_top.specs.Answers.{MayAnswer}
-use Rattle.sim_top.specs.Commands.{Shelved, IsReading, IsAnswerTo}
-use Rattle.sim_top.specs.Given.{Gave, GaveFor}
-use Rattle.sim_top.specs.Making.{IsMade}
-use Rattle.sim_top.specs.Outcome.{Outcome, Then, IsOutcomeOf, match_in, economy_in, printed}
-use Rattle.sim_top.specs.Reads.{length_read}
-use Rattle.sim_top.specs.Rigs.{StandForPaid}
-use Rattle.sim_top.specs.Stops.{Stopped, IsOfEconomy, IsRefusal, status_of}
-use Rattle.sim_top.specs.Words.{Asked, to_stock, reads_file, reads_economy}
-use Rattle.sim_top.specs.declared.commands.Answer.{Answer}
+use Rattle.sim_top.{proofs.Common.to_stock, proofs.Common.TooLong, specs.Words.reads_economy, specs.declared.stop.Stop.TheVariants.NoSuchTurn}
+use Rattle.sim_top.proofs.{Returning.stands_read, Returning.whatever_held, Stopping.Stopped-weaker, Stopping.Then-ended, Stopping.Then-read, Stopping.Told-both}
+use Rattle.sim_top.proofs.Answering.{both_causes, both_given, both_same, both_told, comes_to, ends, match_there, Opens}
+use Rattle.sim_top.proofs.Common.{EconomyRefused, File, Gave, GaveFor, IsAnswerTo, IsMade, IsOfEconomy, IsOutcomeOf, IsReading, IsRefusal, length_read}
+use Rattle.sim_top.proofs.Common.{ListRefused, LogRefused, match_in, MatchRefused, MayAnswer, NoFile, Outcome, OutOfMemory, paid_state, printed, ReadFault}
+use Rattle.sim_top.proofs.Common.{reads_file, Setup, Shelved, SightRefused, StandForPaid, StateRefused, status_of, stock_text, Stop, Stopped, Systems, Then}
+use Rattle.sim_top.proofs.Common.{◌≡◌, ℕ, List, IfSome, OnOk, IsTrue, Some, Ok, Err, Result, refl, Answer, AreFed, Asked, Counts, Economy, economy_in}
 use Rattle.sim_top.specs.declared.status.Status.TheVariants as status
-use Rattle.sim_top.specs.declared.stop.Stop.{Stop}
-use Rattle.sim_top.specs.declared.stop.Stop.TheVariants.{ReadFault, TooLong, NoFile, OutOfMemory, MatchRefused, StateRefused, ListRefused, NoSuchTurn, SightRefused, LogRefused, EconomyRefused}
-use Rattle.sim_top.proofs.Answering.{Opens, ends, comes_to, match_there, both_same, both_told, both_causes, both_given}
-use Rattle.sim_top.proofs.Returning.{stands_read, whatever_held}
-use Rattle.sim_top.proofs.Stopping.{Stopped-weaker, Then-read, Then-ended, Told-both}
 
 may_economy : (asked : Asked) (stop : Stop) → IsTrue (reads_file asked) → IsTrue (reads_economy asked) → IsOfEconomy stop → MayAnswer asked (status_of stop)
 may_economy asked ReadFault reads pays of = reads
@@ -107,6 +92,7 @@ module _ (game name : List ℕ) where
         → IfSome middle.held (λ files. economy_in files name setup ≡ Ok economy) → OnOk made (AreFed setup (paid_state setup economy setup.turns) t)
         → IfSome before.held (λ files. OnOk made (StandForPaid files name setup t))
     paid_stands economy made t two read fed =
-        stands_read before.held (λ files. economy_in files name setup) economy made (λ (files : List File) (economy : Economy). AreFed setup (paid_state setup economy setup.turns) t)
+        stands_read before.held (λ files. economy_in files name setup) economy made
+        (λ (files : List File) (economy : Economy). AreFed setup (paid_state setup economy setup.turns) t)
         (both_told game name setup (Ok economy) before middle now one two (λ files. economy_in files name setup ≡ Ok economy) read)
         (whatever_held before.held _ fed)

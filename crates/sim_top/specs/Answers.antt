@@ -1,15 +1,11 @@
 -- What an answer of the program says: that it is an outcome of the words, or else which fault came between.
-use Rattle.std.specs.Prelude.{◌≡◌, ◌≢◌, ◌⊎◌, IsTrue, ℕ, ◌+◌, ◌<◌, ◌≤◌, List, [], length, take, Option, Some, None}
-use Rattle.std.specs.Io.KnownBytes.{Appends}
-use Rattle.sim_base.specs.Limits.{file_limit}
-use Rattle.sim_store.specs.Counts.{raised, Rose, RoseBy, after_miss, after_read_fault}
-use Rattle.sim_store.specs.Files.{File, file_in}
-use Rattle.sim_store.specs.Shelf.{HeldSet}
-use Rattle.sim_store.specs.declared.counts.Counts.{Counts}
-use Rattle.sim_top.specs.Outcome.{Outcome, IsOutcome}
-use Rattle.sim_top.specs.Words.{Asked, is_comparison, has_match, has_turn, loads_state, reads_list, reads_map, reads_log, reads_economy, reads_file}
-use Rattle.sim_top.specs.declared.status.Status.{Status}
-use Rattle.sim_top.specs.declared.status.Status.TheVariants.{Done, Differs, Usage, ReadFault, WriteFault, TooLong, MatchRefused, StateRefused, ListRefused, OutOfMemory, NoSuchTurn, NoFile, SightRefused, LogRefused, EconomyRefused}
+use Rattle.std.specs.Prelude.{◌≡◌, ℕ, ◌+◌, ◌<◌, ◌≤◌, ◌≢◌, ◌⊎◌, List, [], length, take, IsTrue, Some, None, Option}
+use Rattle.sim_store.specs.Counts.{after_read_fault, Rose, RoseBy}
+use Rattle.sim_top.specs.{Outcome.IsOutcome, Outcome.Outcome, declared.status.Status.Status}
+use Rattle.sim_top.specs.Common.{after_miss, Appends, Counts, File, file_in, file_limit, HeldSet, raised}
+use Rattle.sim_top.specs.Words.{Asked, has_match, has_turn, is_comparison, loads_state, reads_economy, reads_file, reads_list, reads_log, reads_map}
+use Rattle.sim_top.specs.declared.status.Status.TheVariants.{Differs, Done, EconomyRefused, ListRefused, LogRefused, MatchRefused, NoFile, NoSuchTurn}
+use Rattle.sim_top.specs.declared.status.Status.TheVariants.{OutOfMemory, ReadFault, SightRefused, StateRefused, TooLong, Usage, WriteFault}
 
 -- what the shelf holds and the sink was told, where they tell it, and what both have counted
 pub record Scene : Type 0 where
@@ -38,7 +34,8 @@ GaveThenMissed old new = (old.given ≤ new.given) × (new ≡ after_miss (recor
 
 -- bytes may have been given out, then writing the file failed, and nothing else was counted
 abbrev pub GaveThenUnsaved : Counts → Counts → Type 0
-GaveThenUnsaved old new = (old.given ≤ new.given) × Rose old.write_faults new.write_faults × (new ≡ record old { given = new.given; write_faults = new.write_faults })
+GaveThenUnsaved old new = (old.given ≤ new.given) × Rose old.write_faults new.write_faults
+    × (new ≡ record old { given = new.given; write_faults = new.write_faults })
 
 -- what the shelf counted before anything was written, by the status
 abbrev pub CountsBefore : Status → Counts → Counts → Type 0

@@ -1,21 +1,11 @@
 -- What is made of the words before anything is written, what a command answers to what is asked, and what reading a file says of the
 -- shelf: the facts of each call by name.
-use Rattle.std.specs.Prelude.{◌≡◌, ◌≢◌, ℕ, List, [], Option, Some, None, option_map, Result, IfSome, IfOk}
-use Rattle.sim_report.specs.Lines.{usage_text}
-use Rattle.sim_store.specs.Files.{File, file_in}
-use Rattle.sim_store.specs.declared.counts.Counts.{Counts}
-use Rattle.sim_top.specs.Answers.{CountsBefore, MayAnswer, MayEnd, IsSilent}
-use Rattle.sim_top.specs.Given.{GaveFor, GaveForWords}
-use Rattle.sim_top.specs.Making.{Makes, MeetsBefore, IsFileAs, IsSavedAs, IsFinished, IsUsageMade, SavesIfDone, file_of, status_made}
-use Rattle.sim_top.specs.Outcome.{Outcome, IsOutcomeOf}
-use Rattle.sim_top.specs.Reads.{IsUnfound, LacksFirst, LacksMatch, length_in}
-use Rattle.sim_top.specs.Stops.{CausesOf, GaveAll, IsMissed}
-use Rattle.sim_top.specs.Words.{Asked, asked_by, out_of}
-use Rattle.sim_top.specs.declared.commands.Answer.{Answer}
-use Rattle.sim_top.specs.declared.commands.Saved.{Saved}
-use Rattle.sim_top.specs.declared.status.Status.{Status}
-use Rattle.sim_top.specs.declared.status.Status.TheVariants.{WriteFault}
-use Rattle.sim_top.specs.declared.stop.Stop.{Stop}
+use Rattle.std.specs.Prelude.{◌≡◌, ℕ, ◌≢◌, List, [], IfSome, IfOk, Some, None, Option, Result, option_map}
+use Rattle.sim_top.specs.{Answers.CountsBefore, Answers.IsSilent, Answers.MayAnswer, Answers.MayEnd, Stops.CausesOf, Stops.GaveAll, Stops.IsMissed}
+use Rattle.sim_top.specs.{Common.Counts, Common.File, Common.file_in, Common.usage_text, Reads.IsUnfound, Reads.LacksFirst, Reads.LacksMatch, Reads.length_in}
+use Rattle.sim_top.specs.{Given.GaveFor, Given.GaveForWords, Outcome.IsOutcomeOf, Outcome.Outcome, Words.Asked, Words.asked_by, Words.out_of}
+use Rattle.sim_top.specs.Making.{file_of, IsFileAs, IsFinished, IsSavedAs, IsUsageMade, Makes, MeetsBefore, SavesIfDone, status_made}
+use Rattle.sim_top.specs.declared.{commands.Answer.Answer, commands.Saved.Saved, status.Status.Status, status.Status.TheVariants.WriteFault, stop.Stop.Stop}
 
 -- what a shelf holds, where it tells it, and what it has counted
 pub record Shelved : Type 0 where

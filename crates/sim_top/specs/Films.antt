@@ -1,11 +1,6 @@
 -- The film of a match, as one fact of a run: the states `after` the match's own turns, so many turns apart and in order.
-use Rattle.std.specs.Prelude.{◌≡◌, ℕ, List, Option, Some, IfOk, flat_map}
-use Rattle.std.specs.Io.KnownBytes.{Appends}
-use Rattle.sim_base.specs.declared.setup.Setup.{Setup}
-use Rattle.sim_store.specs.Files.{File}
-use Rattle.sim_play.specs.Films.{film_text}
-use Rattle.sim_top.specs.Outcome.{match_in}
-use Rattle.sim_top.specs.Words.{Asked, to_film}
+use Rattle.std.specs.Prelude.{ℕ, List, IfOk, Some, Option}
+use Rattle.sim_top.specs.{Common.Appends, Common.File, Common.film_text, Common.Setup, Outcome.match_in, Words.Asked, Words.to_film}
 
 -- this holds of the match and how many turns lie between two that are told, where a film is asked for
 abbrev pub OfFilm : List File → Option Asked → (Setup → ℕ → Type 0) → Type 0

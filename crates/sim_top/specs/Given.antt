@@ -1,14 +1,9 @@
 -- How many bytes were given to a run, by its status: those of the files that it read, up to and with the one that is refused.
-use Rattle.std.specs.Prelude.{◌≡◌, ℕ, ◌+◌, List, Option, Some, None, IfOk}
-use Rattle.sim_store.specs.Counts.{after_giving}
-use Rattle.sim_store.specs.Files.{File}
-use Rattle.sim_store.specs.declared.counts.Counts.{Counts}
+use Rattle.std.specs.Prelude.{◌≡◌, ℕ, ◌+◌, List, IfOk, Some, None, Option}
+use Rattle.sim_top.specs.{Common.after_giving, Common.Counts, Common.File, declared.status.Status.Status, declared.status.Status.TheVariants.StateRefused}
+use Rattle.sim_top.specs.{Readiness.HoldsState, Reads.length_first, Reads.length_in, Reads.length_read, Words.Asked, Words.to_compare, Words.to_resight}
 use Rattle.sim_top.specs.Outcome.{match_in}
-use Rattle.sim_top.specs.Readiness.{HoldsState}
-use Rattle.sim_top.specs.Reads.{length_in, length_first, length_read}
-use Rattle.sim_top.specs.Words.{Asked, to_compare, to_resight}
-use Rattle.sim_top.specs.declared.status.Status.{Status}
-use Rattle.sim_top.specs.declared.status.Status.TheVariants.{Done, Differs, MatchRefused, StateRefused, ListRefused, NoSuchTurn, SightRefused, LogRefused, EconomyRefused}
+use Rattle.sim_top.specs.declared.status.Status.TheVariants.{Differs, Done, EconomyRefused, ListRefused, LogRefused, MatchRefused, NoSuchTurn, SightRefused}
 
 -- just so many bytes were given, and nothing else was counted
 abbrev pub Gave : ℕ → Counts → Counts → Type 0

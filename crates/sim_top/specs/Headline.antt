@@ -2,32 +2,17 @@
 -- at turn 0 or loaded another's bytes at any turn, the digest printed after each of the client's turns is that of the plain turn
 -- function folded over the client's past; an unbent past is exactly the server's kept turns; a notice comes exactly where a report
 -- differs from its turn's first.
-use Rattle.std.specs.Prelude.{◌≡◌, ◌↔◌, ℕ, ◌<◌, ◌≤◌, List, [], ◌∷◌, ◌++◌, map, take, flat_map, Option}
-use Rattle.std.specs.Io.KnownBytes.{Appends}
-use Rattle.std.specs.List.{enumerate_from}
-use Rattle.sim_base.specs.declared.setup.Setup.{Setup}
-use Rattle.sim_base.specs.declared.step.Event.{Event}
+use Rattle.{sim_base.specs.Turn.turns_in, sim_base.specs.declared.step.Event.Event, sim_base.specs.declared.step.Step.Step, sim_report.specs.Events.event_line}
+use Rattle.{sim_plain.specs.Functions.up_to, sim_plain.specs.Notices.notices, sim_plain.specs.Server.server_after, std.specs.List.enumerate_from}
+use Rattle.std.specs.Prelude.{◌≡◌, ℕ, ◌<◌, ◌≤◌, ◌↔◌, List, [], ◌∷◌, ◌++◌, map, take, flat_map, Option}
+use Rattle.sim_plain_session.specs.{Clients.On, Clients.Seat, Enabled.IsOfStep, Laws.Carries, Laws.notices_in, Pasts.rules_of}
+use Rattle.sim_session_laws.specs.{Commands.UnbentAgree, Standing.NoStateIsRefused}
+use Rattle.sim_session_text.specs.{Endings.end_of, Laws.IsStepAt, Laws.PlayIsTold, Laws.ShowsPast, Laws.StandsAt}
+use Rattle.sim_session_text.specs.{Pairs.clients_apart, SessionText.ending_lines, SessionText.events_of, SessionText.session_at, SessionText.step_events}
+use Rattle.sim_top.specs.Common.{after, Appends, digest, session_of, Setup, StepList}
 use Rattle.sim_base.specs.declared.step.Event.TheVariants as event
-use Rattle.sim_base.specs.declared.step.Step.{Step}
 use Rattle.sim_base.specs.declared.step.Step.TheVariants as step
-use Rattle.sim_base.specs.Spelling.{digest}
-use Rattle.sim_base.specs.Turn.{after, turns_in}
-use Rattle.sim_plain.specs.Functions.{up_to}
-use Rattle.sim_plain.specs.Notices.{notices}
-use Rattle.sim_plain.specs.Server.{server_after}
-use Rattle.sim_report.specs.Events.{event_line}
-use Rattle.sim_lists.specs.declared.step_list.StepList.{StepList}
-use Rattle.sim_plain_session.specs.Clients.{Seat, On}
-use Rattle.sim_plain_session.specs.Enabled.{IsOfStep}
-use Rattle.sim_plain_session.specs.Laws.{Carries, notices_in}
-use Rattle.sim_plain_session.specs.Pasts.{rules_of}
-use Rattle.sim_session_laws.specs.Commands.{UnbentAgree}
-use Rattle.sim_session_laws.specs.Standing.{NoStateIsRefused}
 use Rattle.sim_session_text.specs.declared.ending.End.TheVariants as end
-use Rattle.sim_session_text.specs.Endings.{end_of}
-use Rattle.sim_session_text.specs.Pairs.{clients_apart}
-use Rattle.sim_session_text.specs.SessionText.{session_at, session_of, events_of, step_events, ending_lines}
-use Rattle.sim_session_text.specs.Laws.{IsStepAt, StandsAt, ShowsPast, PlayIsTold}
 
 -- what the sink has been told, and after the session what it is told then
 pub record Headline (setup : Setup) (list : StepList) (told told' : Option (List ℕ)) : Type 0 where

@@ -1,21 +1,8 @@
 -- A session that is asked for: its match and its steps are those of the files that are held, and what its rigs have come to.
-use Rattle.std.specs.Prelude.{◌≡◌, ℕ, ◌+◌, ◌==◌, if◌then◌else◌, List, All, drop, slice_index_or, Option, Some, IfOk}
-use Rattle.sim_base.specs.declared.setup.Setup.{Setup}
-use Rattle.sim_base.specs.Limits.{IsSetup}
-use Rattle.sim_store.specs.Files.{File}
-use Rattle.sim_system.specs.declared.system.System.{Ghosts}
-use Rattle.sim_system.specs.declared.rig.Rig.{Rig}
-use Rattle.sim_system.specs.Meanings.{Meaning, AreFed}
-use Rattle.sim_client.specs.StageWords.{AreCleared, nowhere}
-use Rattle.sim_session_text.specs.Recording.{released_turns}
-use Rattle.sim_play.specs.Logs.{state_after}
-use Rattle.sim_lists.specs.declared.step_list.StepList.{StepList}
-use Rattle.sim_lists.specs.StepLists.{IsStepList}
-use Rattle.sim_session.specs.SessionWords.{rigs_by}
-use Rattle.sim_session_text.specs.SessionText.{session_of}
-use Rattle.sim_session_text.specs.Rigs.{AllStand, AllBuiltAtMost, builds_of}
-use Rattle.sim_top.specs.Words.{Asked, to_session, to_record}
-use Rattle.sim_top.specs.Outcome.{session_match_in, steps_in}
+use Rattle.{sim_client.specs.StageWords.nowhere, sim_top.specs.Outcome.session_match_in, sim_top.specs.Outcome.steps_in}
+use Rattle.std.specs.Prelude.{◌≡◌, ℕ, ◌+◌, List, drop, IfOk, if◌then◌else◌, ◌==◌, slice_index_or, Some, All, Option}
+use Rattle.sim_top.specs.{Common.rigs_by, Common.session_of, Common.Setup, Common.state_after, Common.StepList, Words.Asked, Words.to_record, Words.to_session}
+use Rattle.sim_top.specs.Common.{AllBuiltAtMost, AllStand, AreCleared, AreFed, builds_of, File, Ghosts, IsSetup, IsStepList, Meaning, released_turns, Rig}
 
 -- this holds of the match and the list of steps that the files of a session have, where one is asked for
 abbrev pub OfSession : List File → Option Asked → (Setup → StepList → Type 0) → Type 0
@@ -24,7 +11,8 @@ OfSession files other P = Unit {0}
 
 -- The match and the steps are within their limits. The rig of each client stands for its state in the end, or is cleared where it has
 -- none; it was built at most once for a start and once for each load. The rigs of no client are as they were.
-pub record IsHostedBy {X : Type 0} {F : X → Type 0} (meaning : (i : X) → F i → Meaning) (setup : Setup) (list : StepList) (old new : List (Rig X F)) : Type 0 where
+pub record IsHostedBy {X : Type 0} {F : X → Type 0} (meaning : (i : X) → F i → Meaning) (setup : Setup) (list : StepList) (old new : List (Rig X F)) :
+    Type 0 where
   pub limits : IsSetup setup
   pub steps : IsStepList setup.players list
   pub stand : AllStand setup (session_of setup list) (rigs_by new meaning)
@@ -45,7 +33,8 @@ abbrev pub builds_with_log : Setup → StepList → ℕ → ℕ
 builds_with_log setup list c = builds_of setup list c + (if c == 1 then 1 else 0)
 
 -- a session was recorded: the first rig stands for the last state of the log, and the others are cleared
-pub record IsRecordedBy {X : Type 0} {F : X → Type 0} (meaning : (i : X) → F i → Meaning) (setup : Setup) (list : StepList) (new : List (Rig X F)) : Type 0 where
+pub record IsRecordedBy {X : Type 0} {F : X → Type 0} (meaning : (i : X) → F i → Meaning) (setup : Setup) (list : StepList) (new : List (Rig X F)) :
+    Type 0 where
   pub first : AreFed setup (state_after setup (released_turns (session_of setup list))) (slice_index_or (rigs_by new meaning) 0 nowhere)
   pub others : All AreCleared (drop 1 (rigs_by new meaning))
 

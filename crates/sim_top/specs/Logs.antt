@@ -1,23 +1,11 @@
 -- Logs, as one fact of a run. Of a match or a session it stores the log of its turns, each digest of which is that of the state `after` the
 -- first so many of them. One that is checked agrees exactly where each of its digests is that of the state after its own commands.
-use Rattle.std.specs.Prelude.{◌≡◌, ◌⊎◌, ℕ, ◌<◌, ◌≤◌, List, length, take, slice_get, codes, Option, Some, Ok, IfOk}
-use Rattle.std.specs.Io.KnownBytes.{Appends}
+use Rattle.std.specs.Prelude.{◌≡◌, ℕ, ◌<◌, ◌≤◌, ◌⊎◌, List, length, take, IfOk, slice_get, Some, Ok, codes, Option}
 use Rattle.sim_base.specs.declared.command.PlayerCommand.{PlayerCommand}
-use Rattle.sim_base.specs.declared.setup.Setup.{Setup}
-use Rattle.sim_base.specs.Spelling.{digest}
-use Rattle.sim_session_text.specs.Recording.{released_turns}
-use Rattle.sim_play.specs.Logs.{log_after, match_turns, state_after}
-use Rattle.sim_replay.specs.declared.log.Log.{Log}
-use Rattle.sim_replay.specs.Logs.{IsLog, text_of_log}
-use Rattle.sim_report.specs.LogLines.{logged_line, agree_line, apart_lines}
-use Rattle.sim_session_text.specs.SessionText.{session_of}
-use Rattle.sim_store.specs.Files.{File}
-use Rattle.sim_store.specs.Shelf.{HeldSet}
-use Rattle.sim_top.specs.Answers.{Scene}
+use Rattle.sim_top.specs.{Answers.Scene, declared.status.Status.Status, declared.status.Status.TheVariants.Differs, declared.status.Status.TheVariants.Done}
+use Rattle.sim_top.specs.{Common.session_of, Common.Setup, Common.state_after, Common.text_of_log, Words.Asked, Words.to_check, Words.to_log, Words.to_record}
+use Rattle.sim_top.specs.Common.{agree_line, apart_lines, Appends, digest, File, HeldSet, IsLog, Log, log_after, logged_line, match_turns, released_turns}
 use Rattle.sim_top.specs.Outcome.{bytes_in, match_in, session_match_in, steps_in}
-use Rattle.sim_top.specs.Words.{Asked, to_log, to_record, to_check}
-use Rattle.sim_top.specs.declared.status.Status.{Status}
-use Rattle.sim_top.specs.declared.status.Status.TheVariants.{Done, Differs}
 
 -- the log of these turns is stored, and its line was told: how many turns it has, and how many bytes
 pub record IsStored (word : List ℕ) (setup : Setup) (turns : List (List PlayerCommand)) (out : List ℕ) (before now : Scene) : Type 0 where
@@ -62,7 +50,8 @@ pub record IsChecked (files : List File) (setup : Setup) (name : List ℕ) (stat
 
 -- what was told and stored, where a log is asked for
 abbrev pub TellsLogs : List File → Option Asked → Status → Scene → Scene → Type 0
-TellsLogs files (Some (to_log game out)) status before now = IfOk (match_in files game) (λ setup. IsStored (codes "log") setup (match_turns setup) out before now)
+TellsLogs files (Some (to_log game out)) status before now =
+    IfOk (match_in files game) (λ setup. IsStored (codes "log") setup (match_turns setup) out before now)
 TellsLogs files (Some (to_record game steps out)) status before now =
     IfOk (session_match_in files game) (λ setup. IfOk (steps_in files steps setup.players)
     (λ list. IsStored (codes "record") setup (released_turns (session_of setup list)) out before now))

@@ -1,21 +1,11 @@
 -- What a command has made when it has read its files: an outcome that is still to be written, or why it ends before.
-use Rattle.std.specs.Prelude.{◌≡◌, ◌≢◌, ◌⊎◌, ℕ, ◌<◌, List, [], length, take, Option, Some, None, option_map, Result, Ok, Err, IfOk, IfErr, String, string_bytes, ⊤}
-use Rattle.std.specs.declared.alloc.Global.{Global}
-use Rattle.sim_base.specs.declared.memory.OutOfMemory.{OutOfMemory as Memory}
-use Rattle.std.specs.Io.KnownBytes.{Appends}
-use Rattle.sim_store.specs.Counts.{raised}
-use Rattle.sim_store.specs.Files.{File}
-use Rattle.sim_store.specs.declared.fault.StoreFault.{StoreFault}
+use Rattle.{sim_base.specs.declared.memory.OutOfMemory.OutOfMemory as Memory, std.specs.Prelude.option_map}
+use Rattle.std.specs.Prelude.{◌≡◌, ℕ, ◌<◌, ◌≢◌, ◌⊎◌, List, [], length, take, IfOk, IfErr, ⊤, Some, None, Ok, Err, string_bytes, Option, Result, String}
+use Rattle.sim_top.specs.{Answers.Saves, Answers.SavesPart, Stops.status_of, Stops.Stopped, declared.status.Status.Status}
+use Rattle.sim_top.specs.{Common.Appends, Common.File, Common.Global, Common.raised, Common.StoreFault, Outcome.IsOutcome, Outcome.Outcome}
+use Rattle.sim_top.specs.declared.{commands.Answer.Answer, commands.Saved.Saved, stop.Stop.Stop, stop.Stop.TheVariants.OutOfMemory as NoMemory}
+use Rattle.sim_top.specs.declared.status.Status.TheVariants.{Differs, Done, OutOfMemory, ReadFault, Usage, WriteFault}
 use Rattle.sim_store.specs.declared.fault.StoreFault.TheVariants as store
-use Rattle.sim_top.specs.Outcome.{Outcome, IsOutcome}
-use Rattle.sim_top.specs.Answers.{Saves, SavesPart}
-use Rattle.sim_top.specs.declared.status.Status.{Status}
-use Rattle.sim_top.specs.declared.status.Status.TheVariants.{Done, Differs, Usage, ReadFault, WriteFault, OutOfMemory}
-use Rattle.sim_top.specs.Stops.{Stopped, status_of}
-use Rattle.sim_top.specs.declared.stop.Stop.{Stop}
-use Rattle.sim_top.specs.declared.stop.Stop.TheVariants.{OutOfMemory as NoMemory}
-use Rattle.sim_top.specs.declared.commands.Saved.{Saved}
-use Rattle.sim_top.specs.declared.commands.Answer.{Answer}
 
 -- the file that is to be saved
 abbrev pub file_of : Saved → File

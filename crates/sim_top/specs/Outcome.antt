@@ -1,57 +1,24 @@
 -- What the words ask for: a status, a text and perhaps a file that is saved, by the files that are held. A stored state is
 -- the one that its bytes stand for, or the first cause for which they stand for none.
-use Rattle.std.specs.Prelude.{◌≡◌, ℕ, ◌*◌, nat_lt, List, [], length, codes, Option, Some, None, Result, Ok, Err, if◌then◌else◌}
-use Rattle.sim_base.specs.declared.setup.Setup.{Setup}
-use Rattle.sim_base.specs.declared.state.State.{State}
-use Rattle.sim_base.specs.Turn.{after, own_turns}
-use Rattle.sim_base.specs.Spelling.{spelling, digest}
-use Rattle.sim_store.specs.Files.{File, file_in}
-use Rattle.sim_store.specs.Reading.{reading_of}
-use Rattle.sim_store.specs.declared.fault.StoreFault.{StoreFault}
-use Rattle.sim_store.specs.declared.fault.StoreFault.TheVariants as store
-use Rattle.sim_setup.specs.Refusals.{Refusal}
-use Rattle.sim_setup.specs.Setups.{setup_of, session_setup_of}
-use Rattle.sim_codec.specs.declared.fault.StateFault.{StateFault}
+use Rattle.{sim_codec.specs.Loading.RefusedFor, sim_report.specs.Places.place_text, sim_serve.specs.Served.served_text, sim_store.specs.Reading.reading_of}
+use Rattle.{sim_diff.specs.declared.place.Place.Place, sim_territory.specs.Realms.realm_of, sim_trial.specs.Trial.text_of_trial}
+use Rattle.{sim_setup.specs.Refusals.Refusal, sim_vision.specs.Vision.cells_in}
+use Rattle.std.specs.Prelude.{◌≡◌, ℕ, ◌*◌, List, [], length, if◌then◌else◌, nat_lt, Some, None, Ok, Err, codes, Option, Result}
+use Rattle.sim_play.specs.{Lines.rejoin_text, Logs.digests_after, Realms.TellsRealm, Seen.resight_text, Seen.sight_file, Seen.sight_text}
+use Rattle.sim_replay.specs.{Apart.first_apart, Logs.IsRefusedAt, declared.apart.Apart.Apart}
+use Rattle.sim_report.specs.declared.refusal.Refusal.TheVariants.{List as OfList, Economy as OfEconomy, Log as OfLog}
+use Rattle.sim_top.specs.{Common.trial_line, Common.Turn, Common.usage_text, Common.Vision, declared.status.Status.Status}
+use Rattle.sim_top.specs.Common.{SightFault, spelling, StandsFor, State, StateFault, StepList, steps_of, stock_text, stored_text, StoreFault, text_of_log}
+use Rattle.sim_top.specs.Common.{after, agree_line, apart_lines, difference_of, digest, Economy, economy_of, File, file_in, film_text, IsLog, joined_at, Log}
+use Rattle.sim_top.specs.Common.{log_after, logged_line, Match, match_turns, own_turns, parts_text, play_text, refusal_of, refusal_text, released_turns}
+use Rattle.sim_top.specs.Common.{resume_text, saved_line, Schedule, schedule_of, session_of, session_setup_of, session_text, Setup, setup_of, show_text, Sight}
+use Rattle.sim_top.specs.Words.{Asked, asked_by, to_check, to_compare, to_film, to_log, to_parts, to_play, to_realm, to_record, to_rejoin, to_resight}
+use Rattle.sim_top.specs.Words.{to_resume, to_serve, to_session, to_show, to_sight, to_stock, to_store, to_try}
+use Rattle.sim_top.specs.declared.status.Status.TheVariants.{Differs, Done, EconomyRefused, ListRefused, LogRefused, MatchRefused, NoFile, NoSuchTurn}
+use Rattle.sim_top.specs.declared.status.Status.TheVariants.{ReadFault, SightRefused, StateRefused, TooLong, Usage}
 use Rattle.sim_codec.specs.declared.fault.StateFault.TheVariants as stored
-use Rattle.sim_codec.specs.Loading.{StandsFor, RefusedFor}
-use Rattle.sim_lists.specs.declared.schedule.Schedule.{Schedule}
-use Rattle.sim_lists.specs.Schedules.{schedule_of}
-use Rattle.sim_lists.specs.declared.step_list.StepList.{StepList}
-use Rattle.sim_lists.specs.StepLists.{steps_of}
-use Rattle.sim_session_text.specs.SessionText.{session_of, session_text}
-use Rattle.sim_serve.specs.Served.{served_text}
-use Rattle.sim_report.specs.declared.refusal.Refusal.TheVariants.{Match, List as OfList, Turn, Sight, Log as OfLog, Economy as OfEconomy}
-use Rattle.sim_report.specs.Lines.{usage_text, saved_line}
-use Rattle.sim_report.specs.Refusals.{refusal_text, stored_text}
-use Rattle.sim_report.specs.Show.{show_text}
-use Rattle.sim_report.specs.Parts.{parts_text}
-use Rattle.sim_report.specs.Places.{place_text}
-use Rattle.sim_diff.specs.Difference.{difference_of}
-use Rattle.sim_diff.specs.declared.place.Place.{Place}
-use Rattle.sim_top.specs.Words.{Asked, to_play, to_store, to_resume, to_rejoin, to_session, to_show, to_compare, to_serve, to_try, to_stock, to_realm, to_sight, to_resight, to_log, to_record, to_check, to_film, to_parts, asked_by}
-use Rattle.sim_play.specs.Lines.{play_text, resume_text, rejoin_text, trial_line}
-use Rattle.sim_play.specs.Realms.{TellsRealm}
-use Rattle.sim_play.specs.Films.{film_text}
-use Rattle.sim_stock.specs.declared.economy.Economy.{Economy}
-use Rattle.sim_stock.specs.Economies.{economy_of}
-use Rattle.sim_play.specs.Paid.{stock_text}
-use Rattle.sim_territory.specs.Realms.{realm_of}
-use Rattle.sim_play.specs.Seen.{sight_text, sight_file, resight_text}
-use Rattle.sim_vision.specs.declared.fault.SightFault.{SightFault}
+use Rattle.sim_store.specs.declared.fault.StoreFault.TheVariants as store
 use Rattle.sim_vision.specs.declared.fault.SightFault.TheVariants as sights
-use Rattle.sim_vision.specs.After.{joined_at}
-use Rattle.sim_vision.specs.Joining.{refusal_of}
-use Rattle.sim_vision.specs.Vision.{Vision, cells_in}
-use Rattle.sim_trial.specs.Trial.{text_of_trial}
-use Rattle.sim_session_text.specs.Recording.{released_turns}
-use Rattle.sim_play.specs.Logs.{log_after, digests_after, match_turns}
-use Rattle.sim_replay.specs.declared.log.Log.{Log}
-use Rattle.sim_replay.specs.declared.apart.Apart.{Apart}
-use Rattle.sim_replay.specs.Apart.{first_apart}
-use Rattle.sim_replay.specs.Logs.{IsLog, IsRefusedAt, text_of_log}
-use Rattle.sim_report.specs.LogLines.{logged_line, agree_line, apart_lines}
-use Rattle.sim_top.specs.declared.status.Status.{Status}
-use Rattle.sim_top.specs.declared.status.Status.TheVariants.{Done, Differs, Usage, ReadFault, TooLong, MatchRefused, StateRefused, ListRefused, NoSuchTurn, NoFile, SightRefused, LogRefused, EconomyRefused}
 
 -- what a run comes to: a status, the whole text, and the file that it saves, if any
 pub record Outcome : Type 0 where
@@ -298,14 +265,18 @@ IsOutcomeOf files None wanted = wanted ≡ printed Usage usage_text
 IsOutcomeOf files (Some (to_play game)) wanted = Then (match_in files game) (λ setup wanted. wanted ≡ printed Done (play_text setup)) wanted
 IsOutcomeOf files (Some (to_store game turn out)) wanted = Then (match_in files game) (λ setup wanted. wanted ≡ store_outcome setup turn out) wanted
 IsOutcomeOf files (Some (to_resume game name)) wanted =
-    Then (match_in files game) (λ setup. Then (bytes_in files name) (λ bytes. ThenStored setup name bytes (λ state wanted. wanted ≡ printed Done (resume_text setup state)))) wanted
+    Then (match_in files game)
+    (λ setup. Then (bytes_in files name) (λ bytes. ThenStored setup name bytes (λ state wanted. wanted ≡ printed Done (resume_text setup state)))) wanted
 IsOutcomeOf files (Some (to_rejoin game turn)) wanted = Then (match_in files game) (λ setup wanted. wanted ≡ rejoin_outcome setup turn) wanted
 IsOutcomeOf files (Some (to_session game steps)) wanted =
-    Then (session_match_in files game) (λ setup. Then (steps_in files steps setup.players) (λ list wanted. wanted ≡ printed Done (session_text setup list))) wanted
+    Then (session_match_in files game) (λ setup. Then (steps_in files steps setup.players) (λ list wanted. wanted ≡ printed Done (session_text setup list)))
+    wanted
 IsOutcomeOf files (Some (to_show game name)) wanted =
-    Then (match_in files game) (λ setup. Then (bytes_in files name) (λ bytes. ThenStored setup name bytes (λ state wanted. wanted ≡ printed Done (show_text setup state)))) wanted
+    Then (match_in files game)
+    (λ setup. Then (bytes_in files name) (λ bytes. ThenStored setup name bytes (λ state wanted. wanted ≡ printed Done (show_text setup state)))) wanted
 IsOutcomeOf files (Some (to_compare game left right)) wanted =
-    Then (match_in files game) (λ setup. Then (bytes_in files left) (λ bytes. ThenStored setup left bytes (λ state. IsCompared setup right state (bytes_in files right)))) wanted
+    Then (match_in files game)
+    (λ setup. Then (bytes_in files left) (λ bytes. ThenStored setup left bytes (λ state. IsCompared setup right state (bytes_in files right)))) wanted
 IsOutcomeOf files (Some (to_serve name)) wanted = Then (schedule_in files name) (λ schedule wanted. wanted ≡ printed Done (served_text schedule)) wanted
 IsOutcomeOf files (Some (to_try seed units turns)) wanted = IsTrialOutcome seed units turns wanted
 IsOutcomeOf files (Some (to_stock game name)) wanted =
@@ -313,7 +284,8 @@ IsOutcomeOf files (Some (to_stock game name)) wanted =
 IsOutcomeOf files (Some (to_realm game turn)) wanted = Then (match_in files game) (RealmAt turn) wanted
 IsOutcomeOf files (Some (to_sight game turn out)) wanted = Then (match_in files game) (λ setup wanted. wanted ≡ sight_outcome setup turn out) wanted
 IsOutcomeOf files (Some (to_resight game name map)) wanted =
-    Then (match_in files game) (λ setup. Then (bytes_in files name) (λ bytes. ThenStored setup name bytes (λ state. IsResighted setup state (bytes_in files map)))) wanted
+    Then (match_in files game)
+    (λ setup. Then (bytes_in files name) (λ bytes. ThenStored setup name bytes (λ state. IsResighted setup state (bytes_in files map)))) wanted
 IsOutcomeOf files (Some (to_log game out)) wanted =
     Then (match_in files game) (λ setup wanted. wanted ≡ logged_as (codes "log") setup out (log_after setup (match_turns setup))) wanted
 IsOutcomeOf files (Some (to_record game steps out)) wanted =

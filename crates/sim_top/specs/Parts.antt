@@ -1,11 +1,6 @@
 -- The templates of a match, as one fact of a run: each by its number and its name, with the parts that it has.
-use Rattle.std.specs.Prelude.{ℕ, List, Option, Some, IfOk}
-use Rattle.std.specs.Io.KnownBytes.{Appends}
-use Rattle.sim_base.specs.declared.setup.Setup.{Setup}
-use Rattle.sim_store.specs.Files.{File}
-use Rattle.sim_report.specs.Parts.{parts_text}
-use Rattle.sim_top.specs.Outcome.{match_in}
-use Rattle.sim_top.specs.Words.{Asked, to_parts}
+use Rattle.std.specs.Prelude.{ℕ, List, IfOk, Some, Option}
+use Rattle.sim_top.specs.{Common.Appends, Common.File, Common.parts_text, Common.Setup, Outcome.match_in, Words.Asked, Words.to_parts}
 
 -- this holds of the match, where its templates are asked for
 abbrev pub OfParts : List File → Option Asked → (Setup → Type 0) → Type 0

@@ -1,20 +1,10 @@
 -- When a run comes to its end: each file that is read is there and good, and no fault comes between.
-use Rattle.std.specs.Prelude.{◌≡◌, ℕ, ◌≤◌, ◌<◌, List, Option, Some, None, Ok}
-use Rattle.sim_base.specs.declared.setup.Setup.{Setup}
-use Rattle.sim_base.specs.declared.state.State.{State}
-use Rattle.sim_store.specs.Counts.{raised}
-use Rattle.sim_store.specs.Files.{File}
-use Rattle.sim_codec.specs.Loading.{StandsFor}
-use Rattle.sim_lists.specs.declared.schedule.Schedule.{Schedule}
-use Rattle.sim_lists.specs.declared.step_list.StepList.{StepList}
-use Rattle.sim_top.specs.Words.{Asked, to_play, to_store, to_resume, to_rejoin, to_session, to_show, to_compare, to_serve, to_try, to_stock, to_realm, to_sight, to_resight, to_log, to_record, to_check, to_film, to_parts}
-use Rattle.sim_top.specs.Outcome.{bytes_in, match_in, session_match_in, schedule_in, steps_in, trial_match, map_at, economy_in}
-use Rattle.sim_stock.specs.declared.economy.Economy.{Economy}
-use Rattle.sim_replay.specs.declared.log.Log.{Log}
-use Rattle.sim_replay.specs.Logs.{IsLog, text_of_log}
-use Rattle.sim_top.specs.Answers.{Scene}
-use Rattle.sim_top.specs.declared.status.Status.{Status}
-use Rattle.sim_top.specs.declared.status.Status.TheVariants.{Done, Differs, OutOfMemory}
+use Rattle.std.specs.Prelude.{◌≡◌, ℕ, ◌<◌, ◌≤◌, List, Some, None, Ok, Option}
+use Rattle.sim_top.specs.{Answers.Scene, Words.to_serve, Words.to_session, Words.to_show, Words.to_sight, Words.to_stock, Words.to_store, Words.to_try}
+use Rattle.sim_top.specs.Common.{Economy, File, IsLog, Log, raised, Schedule, Setup, StandsFor, State, StepList, text_of_log}
+use Rattle.sim_top.specs.Outcome.{bytes_in, economy_in, map_at, match_in, schedule_in, session_match_in, steps_in, trial_match}
+use Rattle.sim_top.specs.Words.{Asked, to_check, to_compare, to_film, to_log, to_parts, to_play, to_realm, to_record, to_rejoin, to_resight, to_resume}
+use Rattle.sim_top.specs.declared.status.Status.{Status, TheVariants.Differs, TheVariants.Done, TheVariants.OutOfMemory}
 
 -- a file is held and within its limit, and its bytes stand for a state of the match
 pub record HoldsState (files : List File) (setup : Setup) (name : List ℕ) : Type 0 where

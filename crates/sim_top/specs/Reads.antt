@@ -1,9 +1,9 @@
 -- How many bytes are read for what is asked, and which file is found missing before any memory is taken.
-use Rattle.std.specs.Prelude.{◌≡◌, ℕ, ◌+◌, List, length, Option, Some, None}
-use Rattle.sim_store.specs.Files.{File, file_in}
-use Rattle.sim_top.specs.Words.{Asked, to_play, to_store, to_resume, to_rejoin, to_session, to_show, to_compare, to_serve, to_try, to_stock, to_realm, to_sight, to_resight, to_log, to_record, to_check, to_film, to_parts}
-use Rattle.sim_top.specs.declared.status.Status.{Status}
-use Rattle.sim_top.specs.declared.status.Status.TheVariants.{Done, Differs, ReadFault, NoFile}
+use Rattle.std.specs.Prelude.{◌≡◌, ℕ, ◌+◌, List, length, Some, None, Option}
+use Rattle.sim_top.specs.Common.{File, file_in}
+use Rattle.sim_top.specs.Words.{Asked, to_check, to_compare, to_film, to_log, to_parts, to_play, to_realm, to_record, to_rejoin, to_resight, to_resume}
+use Rattle.sim_top.specs.Words.{to_serve, to_session, to_show, to_sight, to_stock, to_store, to_try}
+use Rattle.sim_top.specs.declared.status.Status.{Status, TheVariants.Differs, TheVariants.Done, TheVariants.NoFile, TheVariants.ReadFault}
 
 -- how many bytes are held, if any are
 abbrev pub length_of : Option (List ℕ) → ℕ

@@ -1,24 +1,10 @@
 -- How the eight rigs of a run come back, with every status.
-use Rattle.std.specs.Prelude.{◌≡◌, ◌⊎◌, ℕ, false, List, All, length, drop, Vec, vec_capacity, Option, Some, None, Ok, IfSome}
-use Rattle.std.specs.declared.alloc.Global.{Global}
-use Rattle.sim_base.specs.declared.setup.Setup.{Setup}
-use Rattle.sim_base.specs.Limits.{IsSetup}
-use Rattle.sim_store.specs.Files.{File}
-use Rattle.sim_system.specs.declared.system.System.{Ghosts}
-use Rattle.sim_system.specs.declared.rig.Rig.{Rig}
-use Rattle.sim_system.specs.Meanings.{Meaning, HaveKinds, AreBuiltOnceAtMost}
-use Rattle.sim_system.specs.RigWords.{systems_by}
-use Rattle.sim_lists.specs.declared.step_list.StepList.{StepList}
-use Rattle.sim_lists.specs.StepLists.{IsStepList}
-use Rattle.sim_session.specs.SessionWords.{rigs_by}
-use Rattle.sim_session_text.specs.Rigs.{AllBuiltAtMost, builds_of}
-use Rattle.sim_top.specs.Hosting.{OfSession, IsHostedBy, OfRecord, IsRecordedBy, builds_with_log}
-use Rattle.sim_top.specs.Outcome.{session_match_in, steps_in}
-use Rattle.sim_top.specs.Reads.{HasEnded}
-use Rattle.sim_top.specs.Rigs.{RigStands, SecondStands, OfFirsts, used}
-use Rattle.sim_top.specs.Words.{Asked, to_session, to_record, is_session}
-use Rattle.sim_top.specs.declared.status.Status.{Status}
-use Rattle.sim_top.specs.declared.status.Status.TheVariants.{Done, Differs, WriteFault, OutOfMemory}
+use Rattle.std.specs.Prelude.{◌≡◌, ℕ, false, ◌⊎◌, List, length, drop, IfSome, Some, Ok, vec_capacity, All, Option, Vec}
+use Rattle.sim_top.specs.{Common.Setup, Common.StepList, Common.systems_by, Outcome.session_match_in, Outcome.steps_in}
+use Rattle.sim_top.specs.{Hosting.builds_with_log, Hosting.IsHostedBy, Hosting.IsRecordedBy, Hosting.OfRecord, Hosting.OfSession, Reads.HasEnded}
+use Rattle.sim_top.specs.{Rigs.OfFirsts, Rigs.RigStands, Rigs.SecondStands, Rigs.used, Words.Asked, Words.is_session, Words.to_record, Words.to_session}
+use Rattle.sim_top.specs.Common.{AllBuiltAtMost, AreBuiltOnceAtMost, builds_of, File, Ghosts, Global, HaveKinds, IsSetup, IsStepList, Meaning, Rig, rigs_by}
+use Rattle.sim_top.specs.declared.status.Status.{Status, TheVariants.Differs, TheVariants.Done, TheVariants.OutOfMemory, TheVariants.WriteFault}
 
 -- a run that ended so has played nothing: the words, or what a file says or lacks, ended it before
 abbrev pub IsUnplayed : Status → Type 0
@@ -30,7 +16,8 @@ IsUnplayed other = Unit {0}
 
 -- A session began over a match and steps, those of the files where the shelf tells them. The rig of each client was built at most so
 -- often, and the rigs of no client are as they were.
-pub record HasBegunBy {X : Type 0} {F : X → Type 0} (meaning : (i : X) → F i → Meaning) (builds : Setup → StepList → ℕ → ℕ) (held : Option (List File)) (game steps : List ℕ) (old new : List (Rig X F)) : Type 0 where
+pub record HasBegunBy {X : Type 0} {F : X → Type 0} (meaning : (i : X) → F i → Meaning) (builds : Setup → StepList → ℕ → ℕ) (held : Option (List File))
+    (game steps : List ℕ) (old new : List (Rig X F)) : Type 0 where
   pub setup : Setup
   pub list : StepList
   pub read : IfSome held (λ files. session_match_in files game ≡ Ok setup)
@@ -41,23 +28,27 @@ pub record HasBegunBy {X : Type 0} {F : X → Type 0} (meaning : (i : X) → F i
   pub spare : drop setup.players new ≡ drop setup.players old
 
 -- those of a session are as they were, or it began
-abbrev pub AreOfSession : {X : Type 0} {F : X → Type 0} → ((i : X) → F i → Meaning) → Option (List File) → Option Asked → List (Rig X F) → List (Rig X F) → Type 0
+abbrev pub AreOfSession : {X : Type 0} {F : X → Type 0} → ((i : X) → F i → Meaning) → Option (List File) → Option Asked → List (Rig X F) → List (Rig X F)
+    → Type 0
 AreOfSession meaning held (Some (to_session game steps)) old new = (new ≡ old) ⊎ HasBegunBy meaning builds_of held game steps old new
 AreOfSession meaning held (Some (to_record game steps out)) old new = (new ≡ old) ⊎ HasBegunBy meaning builds_with_log held game steps old new
 AreOfSession meaning held asked old new = Unit {0}
 
 -- what is asked for, what the shelf holds, the status, and the rigs before and after
-pub record RigsCameBackBy {X : Type 0} {F : X → Type 0} (meaning : (i : X) → F i → Meaning) (asked : Option Asked) (held : Option (List File)) (status : Status) (old new : Vec (Rig X F) Global) : Type 0 where
+pub record RigsCameBackBy {X : Type 0} {F : X → Type 0} (meaning : (i : X) → F i → Meaning) (asked : Option Asked) (held : Option (List File)) (status : Status)
+    (old new : Vec (Rig X F) Global) : Type 0 where
   -- At its end the first rig stands for the state to which its match came, and so does the second where a client joined; those of a
   -- session stand for what its clients are in the end, and of one that is recorded the first stands for the last state of the log.
-  pub stands : IfSome held (λ files. HasEnded status → OfFirsts old.items new.items (λ r s. RigStands files asked (systems_by r meaning) (systems_by s meaning)))
+  pub stands : IfSome held
+      (λ files. HasEnded status → OfFirsts old.items new.items (λ r s. RigStands files asked (systems_by r meaning) (systems_by s meaning)))
   pub joins : IfSome held (λ files. HasEnded status → OfFirsts (drop 1 old.items) (drop 1 new.items) (λ r s. SecondStands files asked (systems_by s meaning)))
   pub hosted : IfSome held (λ files. HasEnded status → OfSession files asked (λ setup list. IsHostedBy meaning setup list old.items new.items))
   pub recorded : IfSome held (λ files. HasEnded status → OfRecord files asked (λ setup list. IsRecordedBy meaning setup list new.items))
   -- However it ends, each system of the first and the second rig was built once at most, where no session was asked for, and those of a
   -- session at most so often as its clients begin and load.
   pub most : is_session asked ≡ false → OfFirsts old.items new.items (λ r s. AreBuiltOnceAtMost (systems_by r meaning) (systems_by s meaning))
-  pub joined : is_session asked ≡ false → OfFirsts (drop 1 old.items) (drop 1 new.items) (λ r s. AreBuiltOnceAtMost (systems_by r meaning) (systems_by s meaning))
+  pub joined : is_session asked ≡ false → OfFirsts (drop 1 old.items) (drop 1 new.items)
+      (λ r s. AreBuiltOnceAtMost (systems_by r meaning) (systems_by s meaning))
   pub session : AreOfSession meaning held asked old.items new.items
   -- Where nothing was played all are as they were, and else those that were not used.
   pub unplayed : IsUnplayed status → new.items ≡ old.items
@@ -68,5 +59,6 @@ pub record RigsCameBackBy {X : Type 0} {F : X → Type 0} (meaning : (i : X) →
   pub room : vec_capacity new ≡ vec_capacity old
 
 -- the same, as a clause has it
-abbrev pub RigsCameBack : {X : Type 0} {F : X → Type 0} → ((i : X) → Ghosts (F i)) → Option Asked → Option (List File) → Status → Vec (Rig X F) Global → Vec (Rig X F) Global → Type 0
+abbrev pub RigsCameBack : {X : Type 0} {F : X → Type 0} → ((i : X) → Ghosts (F i)) → Option Asked → Option (List File) → Status → Vec (Rig X F) Global
+    → Vec (Rig X F) Global → Type 0
 RigsCameBack sys asked held status old new = RigsCameBackBy (λ i v. (sys i).meaning v) asked held status old new

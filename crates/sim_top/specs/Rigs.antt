@@ -1,22 +1,11 @@
 -- How many rigs a command uses, and what their systems stand for when it came to its end.
-use Rattle.std.specs.Prelude.{◌≡◌, ℕ, List, [], ◌∷◌, length, All, Option, Some, None, Result, IfOk, OnOk}
-use Rattle.sim_base.specs.declared.setup.Setup.{Setup}
-use Rattle.sim_base.specs.declared.state.State.{State}
-use Rattle.sim_base.specs.Turn.{first_state, after, own_turns}
-use Rattle.sim_store.specs.Files.{File}
-use Rattle.sim_system.specs.Meanings.{Meaning, Systems, HaveKinds, AreFed, AreBuiltOnceAtMost}
-use Rattle.sim_system.specs.RigWords.{systems_by}
-use Rattle.sim_system.specs.declared.system.System.{Ghosts}
-use Rattle.sim_system.specs.declared.rig.Rig.{Rig}
-use Rattle.sim_play.specs.Lines.{end_from}
-use Rattle.sim_top.specs.Words.{Asked, to_play, to_store, to_resume, to_rejoin, to_session, to_show, to_compare, to_serve, to_try, to_stock, to_realm, to_sight, to_resight, to_log, to_record, to_check, to_film, to_parts}
-use Rattle.sim_top.specs.Outcome.{Outcome, bytes_in, match_in, trial_match, economy_in}
-use Rattle.sim_play.specs.Logs.{state_after}
-use Rattle.sim_play.specs.Paid.{paid_state}
-use Rattle.sim_replay.specs.declared.log.Log.{Log}
-use Rattle.sim_top.specs.Stops.{IsState, IsLogOf}
-use Rattle.sim_top.specs.declared.commands.Answer.{Answer}
-use Rattle.sim_top.specs.declared.stop.Stop.{Stop}
+use Rattle.std.specs.Prelude.{◌≡◌, ℕ, List, [], ◌∷◌, length, IfOk, OnOk, Some, None, All, Option, Result}
+use Rattle.sim_system.specs.Meanings.{Systems}
+use Rattle.sim_top.specs.{Common.Setup, Common.State, Common.state_after, Common.systems_by, declared.commands.Answer.Answer, declared.stop.Stop.Stop}
+use Rattle.sim_top.specs.{Outcome.bytes_in, Outcome.economy_in, Outcome.match_in, Outcome.Outcome, Outcome.trial_match, Stops.IsLogOf, Stops.IsState}
+use Rattle.sim_top.specs.Common.{after, AreBuiltOnceAtMost, AreFed, end_from, File, first_state, Ghosts, HaveKinds, Log, Meaning, own_turns, paid_state, Rig}
+use Rattle.sim_top.specs.Words.{Asked, to_check, to_compare, to_film, to_log, to_parts, to_play, to_realm, to_record, to_rejoin, to_resight, to_resume}
+use Rattle.sim_top.specs.Words.{to_serve, to_session, to_show, to_sight, to_stock, to_store, to_try}
 
 -- how many rigs are handed to the clients that play for what is asked, each with one of its own; to a session, all
 abbrev pub clients : Asked → ℕ
@@ -103,7 +92,8 @@ OfFirsts (r ∷ old) [] P = ⊥
 OfFirsts (r ∷ old) (s ∷ new) P = P r s
 
 -- a match was played with this rig to a state, if there was memory: its systems stand for the state, and each was built once at most
-pub record HasPlayedBy {X : Type 0} {F : X → Type 0} (meaning : (i : X) → F i → Meaning) (setup : Setup) (state : State) (made : Result Answer Stop) (old new : Rig X F) : Type 0 where
+pub record HasPlayedBy {X : Type 0} {F : X → Type 0} (meaning : (i : X) → F i → Meaning) (setup : Setup) (state : State) (made : Result Answer Stop)
+    (old new : Rig X F) : Type 0 where
   pub fed : OnOk made (AreFed setup state (systems_by new meaning))
   pub kinds : HaveKinds (systems_by new meaning)
   pub most : AreBuiltOnceAtMost (systems_by old meaning) (systems_by new meaning)

@@ -1,26 +1,11 @@
 -- What the players of a match see, as one fact of a run. A row sees the cells that lie within the reach of its template of its own cell. After
 -- a list of states a cell is visible to a player where one of his rows sees it in the last of them, and he has explored it where it was
 -- visible in one of them, or was given to him before.
-use Rattle.std.specs.Prelude.{◌≡◌, ℕ, ◌-◌, ◌||◌, List, map, Option, Some, None, Ok, IfOk}
-use Rattle.std.specs.Io.KnownBytes.{Appends}
-use Rattle.sim_base.specs.declared.setup.Setup.{Setup}
-use Rattle.sim_base.specs.declared.state.State.{State}
-use Rattle.sim_base.specs.Turn.{after, own_turns}
-use Rattle.sim_store.specs.Files.{File}
-use Rattle.sim_store.specs.Shelf.{HeldSet}
-use Rattle.sim_vision.specs.After.{was_visible, all_seen}
-use Rattle.sim_vision.specs.Joining.{is_set, refusal_of}
-use Rattle.sim_vision.specs.Keeping.{extent_in}
-use Rattle.sim_vision.specs.Spans.{one_if}
-use Rattle.sim_vision.specs.Told.{sight_lines}
-use Rattle.sim_vision.specs.Vision.{is_visible}
-use Rattle.sim_vision.specs.Watching.{flag_in}
-use Rattle.sim_play.specs.Lines.{end_from}
-use Rattle.sim_play.specs.States.{states_to, later_of}
-use Rattle.sim_top.specs.Answers.{Scene}
-use Rattle.sim_top.specs.Outcome.{bytes_in, match_in}
-use Rattle.sim_top.specs.Stops.{IsState}
-use Rattle.sim_top.specs.Words.{Asked, to_sight, to_resight}
+use Rattle.{sim_play.specs.States.later_of, sim_play.specs.States.states_to, sim_vision.specs.Spans.one_if}
+use Rattle.std.specs.Prelude.{◌≡◌, ℕ, ◌-◌, ◌||◌, List, map, IfOk, Some, None, Ok, Option}
+use Rattle.sim_top.specs.{Answers.Scene, Outcome.bytes_in, Outcome.match_in, Stops.IsState, Words.Asked, Words.to_resight, Words.to_sight}
+use Rattle.sim_top.specs.Common.{after, Appends, end_from, File, HeldSet, own_turns, refusal_of, Setup, State}
+use Rattle.sim_vision.specs.{After.all_seen, After.was_visible, Joining.is_set, Keeping.extent_in, Told.sight_lines, Vision.is_visible, Watching.flag_in}
 
 -- what the sink was told and the shelf holds of a turn of a match
 pub record Sights (setup : Setup) (turn : ℕ) (out : List ℕ) (before now : Scene) : Type 0 where

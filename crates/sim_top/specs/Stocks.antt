@@ -1,15 +1,8 @@
 -- A match that is played by an economy, as one fact of a run: the commands that their players could not pay were left out, and what each
 -- player has in the end is what deeds, prices and incomes make of what he began with.
-use Rattle.std.specs.Prelude.{◌≡◌, ℕ, List, Option, Some, IfOk}
-use Rattle.std.specs.Io.KnownBytes.{Appends}
-use Rattle.sim_base.specs.declared.setup.Setup.{Setup}
-use Rattle.sim_base.specs.Turn.{after}
-use Rattle.sim_store.specs.Files.{File}
-use Rattle.sim_stock.specs.declared.economy.Economy.{Economy}
-use Rattle.sim_stock.specs.PaidTurns.{books_after, kept_past}
-use Rattle.sim_play.specs.Paid.{stock_text}
-use Rattle.sim_top.specs.Outcome.{match_in, economy_in}
-use Rattle.sim_top.specs.Words.{Asked, to_stock}
+use Rattle.{sim_stock.specs.PaidTurns.books_after, sim_stock.specs.PaidTurns.kept_past, sim_top.specs.Words.Asked, sim_top.specs.Words.to_stock}
+use Rattle.std.specs.Prelude.{◌≡◌, ℕ, List, IfOk, Some, Option}
+use Rattle.sim_top.specs.{Common.after, Common.Appends, Common.Economy, Common.File, Common.Setup, Common.stock_text, Outcome.economy_in, Outcome.match_in}
 
 -- this holds of the match and its economy, where one is to be played by the other
 abbrev pub OfStock : List File → Option Asked → (Setup → Economy → Type 0) → Type 0

@@ -1,37 +1,22 @@
 -- Why a command ends before it has its text, and what a call that may end so answers.
-use Rattle.std.specs.Prelude.{◌≡◌, ℕ, List, [], length, Result, Ok, Err, Vec}
-use Rattle.std.specs.declared.alloc.Global.{Global}
-use Rattle.sim_base.specs.declared.setup.Setup.{Setup}
-use Rattle.sim_base.specs.declared.state.State.{State}
-use Rattle.sim_base.specs.Limits.{file_limit}
-use Rattle.sim_store.specs.Counts.{after_giving, after_miss}
-use Rattle.sim_store.specs.Reading.{GaveAtMost, GaveTooMany, GaveThenFailed}
-use Rattle.sim_store.specs.declared.counts.Counts.{Counts}
-use Rattle.sim_codec.specs.declared.fault.StateFault.{StateFault}
-use Rattle.sim_codec.specs.declared.fault.StateFault.TheVariants as stored
-use Rattle.sim_setup.specs.declared.fault.SetupFault.{SetupFault}
-use Rattle.sim_setup.specs.declared.fault.SetupFault.TheVariants as setup
-use Rattle.sim_lists.specs.declared.fault.ListFault.{ListFault}
-use Rattle.sim_lists.specs.declared.fault.ListFault.TheVariants as listed
-use Rattle.sim_codec.specs.Loading.{StandsFor}
+use Rattle.{sim_lists.specs.declared.fault.ListFault.ListFault, sim_setup.specs.declared.fault.SetupFault.SetupFault}
+use Rattle.{sim_stock.specs.declared.fault.EconomyFault.EconomyFault, sim_top.specs.Reads.IsUnfound, sim_top.specs.declared.status.Status.Status}
+use Rattle.std.specs.Prelude.{◌≡◌, ℕ, List, [], length, Ok, Err, Result, Vec}
 use Rattle.sim_replay.specs.declared.fault.LogFault.{LogFault}
+use Rattle.sim_report.specs.declared.refusal.Refusal.TheVariants.{List as OfList, Economy as OfEconomy, Log as OfLog}
+use Rattle.sim_store.specs.Reading.{GaveAtMost, GaveThenFailed, GaveTooMany}
+use Rattle.sim_top.specs.{Answers.CountsBefore, Answers.OnlyGave, Common.State, Common.StateFault, Common.stored_text, Common.Turn, Common.Vision}
+use Rattle.sim_top.specs.Common.{after_giving, after_miss, Counts, file_limit, Global, joined_at, Log, Match, refusal_text, Setup, Sight, SightFault, StandsFor}
+use Rattle.sim_top.specs.Outcome.{code_of, IsLogged, IsStored, log_by, Outcome, printed, sight_code, state_by, Then}
+use Rattle.sim_top.specs.declared.stop.Stop.{Stop, TheVariants.SightRefused, TheVariants.StateRefused, TheVariants.TooLong}
+use Rattle.sim_top.specs.declared.stop.Stop.TheVariants.{EconomyRefused, ListRefused, LogRefused, MatchRefused, NoFile, NoSuchTurn, OutOfMemory, ReadFault}
+use Rattle.sim_codec.specs.declared.fault.StateFault.TheVariants as stored
+use Rattle.sim_lists.specs.declared.fault.ListFault.TheVariants as listed
 use Rattle.sim_replay.specs.declared.fault.LogFault.TheVariants as logged
-use Rattle.sim_replay.specs.declared.log.Log.{Log}
-use Rattle.sim_stock.specs.declared.fault.EconomyFault.{EconomyFault}
+use Rattle.sim_setup.specs.declared.fault.SetupFault.TheVariants as setup
 use Rattle.sim_stock.specs.declared.fault.EconomyFault.TheVariants as economy
-use Rattle.sim_report.specs.declared.refusal.Refusal.TheVariants.{Match, List as OfList, Turn, Sight, Log as OfLog, Economy as OfEconomy}
-use Rattle.sim_report.specs.Refusals.{refusal_text, stored_text}
-use Rattle.sim_vision.specs.declared.fault.SightFault.{SightFault}
-use Rattle.sim_vision.specs.declared.fault.SightFault.TheVariants as sights
-use Rattle.sim_vision.specs.After.{joined_at}
-use Rattle.sim_vision.specs.Vision.{Vision}
-use Rattle.sim_top.specs.Outcome.{Outcome, printed, Then, IsStored, code_of, state_by, IsLogged, log_by, sight_code}
-use Rattle.sim_top.specs.Answers.{OnlyGave, CountsBefore}
-use Rattle.sim_top.specs.Reads.{IsUnfound}
-use Rattle.sim_top.specs.declared.status.Status.{Status}
 use Rattle.sim_top.specs.declared.status.Status.TheVariants as status
-use Rattle.sim_top.specs.declared.stop.Stop.{Stop}
-use Rattle.sim_top.specs.declared.stop.Stop.TheVariants.{ReadFault, TooLong, NoFile, OutOfMemory, MatchRefused, StateRefused, ListRefused, NoSuchTurn, SightRefused, LogRefused, EconomyRefused}
+use Rattle.sim_vision.specs.declared.fault.SightFault.TheVariants as sights
 
 -- the status with which a command ends there
 abbrev pub status_of : Stop → Status

@@ -1,23 +1,11 @@
 -- The territories of a match, as one fact of a run. After its own turns up to the one that is asked for, each cell of the ground is held by
 -- the player with the greatest influence above 0, the least among equals; and a cell is rooted exactly where cells that one player holds
 -- lead to it from a root of his.
-use Rattle.std.specs.Prelude.{◌≡◌, ℕ, ◌*◌, Bool, List, length, Option, Some, IfOk}
-use Rattle.std.specs.Io.KnownBytes.{Appends}
-use Rattle.sim_base.specs.declared.place.Cell.{Cell}
-use Rattle.sim_base.specs.declared.setup.Setup.{Setup}
-use Rattle.sim_base.specs.Rows.{size_of}
-use Rattle.sim_base.specs.Steps.{IsOnGround}
-use Rattle.sim_base.specs.Turn.{after, own_turns}
-use Rattle.sim_store.specs.Files.{File}
-use Rattle.sim_trail.specs.declared.mark.Mark.{Mark}
-use Rattle.sim_trail.specs.Marks.{marks_of}
-use Rattle.sim_territory.specs.Influence.{influence}
-use Rattle.sim_territory.specs.Holders.{IsHolder}
-use Rattle.sim_territory.specs.Keeping.{holder_at}
-use Rattle.sim_territory.specs.Rooted.{AreRooted}
-use Rattle.sim_play.specs.Realms.{realm_lines}
-use Rattle.sim_top.specs.Outcome.{match_in}
-use Rattle.sim_top.specs.Words.{Asked, to_realm}
+use Rattle.{sim_base.specs.Rows.size_of, sim_base.specs.Steps.IsOnGround, sim_base.specs.declared.place.Cell.Cell, sim_play.specs.Realms.realm_lines}
+use Rattle.std.specs.Prelude.{◌≡◌, ℕ, ◌*◌, Bool, List, length, IfOk, Some, Option}
+use Rattle.sim_territory.specs.{Holders.IsHolder, Influence.influence, Keeping.holder_at, Rooted.AreRooted}
+use Rattle.sim_top.specs.{Common.after, Common.Appends, Common.File, Common.own_turns, Common.Setup, Outcome.match_in, Words.Asked, Words.to_realm}
+use Rattle.sim_trail.specs.{Marks.marks_of, declared.mark.Mark.Mark}
 
 -- this holds of the match and the turn, where territories are asked for
 abbrev pub OfRealm : List File → Option Asked → (Setup → ℕ → Type 0) → Type 0

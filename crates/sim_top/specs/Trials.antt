@@ -1,7 +1,6 @@
 -- What is asked for, where it is a trial, is within a trial's limits; and a film goes on by a turn at least.
 use Rattle.std.specs.Prelude.{◌≤◌}
-use Rattle.sim_trial.specs.Trial.{IsTrial}
-use Rattle.sim_top.specs.Words.{Asked, to_try, to_film}
+use Rattle.sim_top.specs.{Common.IsTrial, Words.Asked, Words.to_film, Words.to_try}
 
 -- the numbers of a trial are within their limits, and so is that of a film
 abbrev pub CanBeTried : Asked → Type 0

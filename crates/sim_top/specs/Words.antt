@@ -1,11 +1,9 @@
 -- The words after the program's name, and what they ask for.
-use Rattle.std.specs.Prelude.{ℕ, ◌+◌, ◌-◌, ◌*◌, Bool, true, false, ◌&&◌, nat_le, List, [], ◌∷◌, length, map, codes, Option, Some, None, option_map, option_and_then, if◌then◌else◌, String, string_bytes}
-use Rattle.std.specs.declared.alloc.Global.{Global}
-use Rattle.std.specs.Str.{bytes_eq}
-use Rattle.sim_base.specs.NumberText.{is_digit}
-use Rattle.sim_trial.specs.Trial.{is_trial}
-use Rattle.sim_top.specs.declared.words.Request.{Request}
-use Rattle.sim_top.specs.declared.words.Request.TheVariants.{Play, State, Resume, Rejoin, Session, Show, Compare, Serve, Trial, Stock, Realm, Sight, Resight, Log, Record, Check, Film, Parts}
+use Rattle.{sim_base.specs.NumberText.is_digit, sim_top.specs.Common.Global, sim_trial.specs.Trial.is_trial}
+use Rattle.std.specs.{Prelude.Option, Prelude.String, Prelude.option_map, Prelude.option_and_then, Str.bytes_eq}
+use Rattle.std.specs.Prelude.{ℕ, ◌+◌, ◌-◌, ◌*◌, Bool, true, false, ◌&&◌, List, [], ◌∷◌, map, length, if◌then◌else◌, nat_le, Some, None, string_bytes, codes}
+use Rattle.sim_top.specs.declared.words.Request.{Request, TheVariants.Show, TheVariants.Sight, TheVariants.State, TheVariants.Stock, TheVariants.Trial}
+use Rattle.sim_top.specs.declared.words.Request.TheVariants.{Check, Compare, Film, Log, Parts, Play, Realm, Record, Rejoin, Resight, Resume, Serve, Session}
 
 -- what is asked for: to play a match; to store the state of a turn of it in a file; to play on from a stored state; to play it with a
 -- second client that joins at a turn; to run a session of it over a list of steps; to show a stored state; to compare two; to run the

@@ -1,16 +1,9 @@
 //! What each command makes of its files: the whole text that it prints, and the bytes of the file that it saves. Nothing
 //! is written here. Each command is handed all rigs, takes those that it uses out of their list, and puts them back.
 
-ghost use Rattle.std.specs.Prelude.{◌≡◌, All, IfOk, IfErr, OnErr, Err, Some, None, string_bytes};
-ghost use Rattle.sim_client.specs.StageWords.{AreCleared};
-ghost use Rattle.sim_system.specs.RigWords.{systems_of};
-ghost use Rattle.sim_top.specs.Commands.{IsAnswerTo, shelved};
-ghost use Rattle.sim_top.specs.Making.{outcome_made, status_made};
-ghost use Rattle.sim_top.specs.Outcome.{printed as printed_as};
-ghost use Rattle.sim_top.specs.Returning.{RigsCameBack};
-ghost use Rattle.sim_top.specs.Rigs.{AreEight};
-ghost use Rattle.sim_top.specs.Trials.{CanBeTried};
-ghost use Rattle.sim_top.specs.Words.{asked};
+ghost use Rattle.std.specs.Prelude.{◌≡◌, IfOk, IfErr, OnErr, Some, None, Err, string_bytes, All};
+ghost use Rattle.sim_top.specs.{Commands.IsAnswerTo, Commands.shelved, Common.AreCleared, Common.systems_of, Making.outcome_made, Making.status_made};
+ghost use Rattle.sim_top.specs.{Outcome.printed as printed_as, Returning.RigsCameBack, Rigs.AreEight, Trials.CanBeTried, Words.asked};
 
 mod comparing;
 mod films;
@@ -28,9 +21,8 @@ mod stocks;
 mod storing;
 mod trials;
 
-use crate::status::Status;
-use crate::stop::Stop;
 use crate::words::Request;
+use crate::{Status, Stop};
 use comparing::compare;
 use films::film;
 use joining::rejoin;
@@ -80,7 +72,8 @@ pub fn answer_to<'w, S: Shelf>(
     requires eight { AreEight ⟦<dyn System as System>⟧ rigs.old.items }
     requires cleared { All (λ r. AreCleared (systems_of r ⟦<dyn System as System>⟧)) rigs.old.items }
     requires trial { CanBeTried (asked request) }
-    ensures answer { IsAnswerTo (asked request.entry) result (shelved (S.held shelf.old) (S.counts shelf.old)) (shelved (S.held shelf.new) (S.counts shelf.new)) }
+    ensures answer { IsAnswerTo (asked request.entry) result (shelved (S.held shelf.old) (S.counts shelf.old))
+        (shelved (S.held shelf.new) (S.counts shelf.new)) }
     ensures back { RigsCameBack ⟦<dyn System as System>⟧ (Some (asked request.entry)) (S.held shelf.old) (status_made result) rigs.old rigs.new }
 {
     match request {

@@ -1,22 +1,14 @@
 //! What a command reads: the match of a file, a stored state of that match, explored cells, an economy, a log, a schedule, and the match and the
 //! steps of a session; and the match of a trial. What is refused without a look at its contents takes no memory.
 
-ghost use Rattle.std.specs.Prelude.{◌≡◌, List, Ok, Err, IfSome, IfOk, IfErr, IsErrAnd, Some, None, false};
-ghost use Rattle.std.specs.Str.{is_utf8};
-ghost use Rattle.sim_base.specs.Limits.{IsSetup};
-ghost use Rattle.sim_base.specs.Validity.{IsValid};
-ghost use Rattle.sim_codec.specs.Loading.{head_fault};
-ghost use Rattle.sim_lists.specs.Schedules.{schedule_of as schedule_of_bytes, IsSchedule};
-ghost use Rattle.sim_lists.specs.StepLists.{steps_of as steps_of_bytes, IsStepList};
-ghost use Rattle.sim_replay.specs.Logs.{IsLog};
-ghost use Rattle.sim_setup.specs.Setups.{setup_of as setup_of_bytes, session_setup_of as session_setup_of_bytes};
-ghost use Rattle.sim_stock.specs.Economies.{economy_of as economy_of_bytes, IsEconomy};
-ghost use Rattle.sim_store.specs.Files.{File, file_in};
-ghost use Rattle.sim_top.specs.Commands.{IsReading, shelved};
-ghost use Rattle.sim_top.specs.Outcome.{bytes_in, match_in, setup_by, session_match_in, trial_match as match_of_trial, schedule_in, steps_in, list_by, map_by, map_at, economy_by, economy_in};
-ghost use Rattle.sim_top.specs.Stops.{Reads, ReadsBytes, ReadsState, ReadsLog, LoadsState, IsStateStop, IsOfContent, IsOfMatch, IsOfState, IsOfList, IsOfMap, IsOfLog, IsOfEconomy, IsMissed, Joins, ReadsCounting};
-ghost use Rattle.sim_trial.specs.Trial.{IsTrial};
-ghost use Rattle.sim_vision.specs.Joining.{refusal_of};
+ghost use Rattle.{sim_codec.specs.Loading.head_fault, sim_lists.specs.Schedules.IsSchedule};
+ghost use Rattle.{sim_top.specs.Commands.IsReading, sim_top.specs.Commands.shelved, sim_top.specs.Common.steps_of as steps_of_bytes, std.specs.Str.is_utf8};
+ghost use Rattle.std.specs.Prelude.{◌≡◌, false, List, IfSome, IsErrAnd, IfOk, IfErr, Some, None, Ok, Err};
+ghost use Rattle.sim_top.specs.{Outcome.trial_match as match_of_trial, Stops.Reads, Stops.ReadsBytes, Stops.ReadsCounting, Stops.ReadsLog, Stops.ReadsState};
+ghost use Rattle.sim_top.specs.Common.{economy_of as economy_of_bytes, File, file_in, IsEconomy, IsLog, IsSetup, IsStepList, IsTrial, IsValid, refusal_of};
+ghost use Rattle.sim_top.specs.Common.{schedule_of as schedule_of_bytes, session_setup_of as session_setup_of_bytes, setup_of as setup_of_bytes};
+ghost use Rattle.sim_top.specs.Outcome.{bytes_in, economy_by, economy_in, list_by, map_at, map_by, match_in, schedule_in, session_match_in, setup_by, steps_in};
+ghost use Rattle.sim_top.specs.Stops.{IsMissed, IsOfContent, IsOfEconomy, IsOfList, IsOfLog, IsOfMap, IsOfMatch, IsOfState, IsStateStop, Joins, LoadsState};
 
 use crate::stop::Stop;
 use sim_base::{Setup, State};

@@ -1,6 +1,6 @@
 //! The first of the rigs with which a run plays: it is taken out of its list while a match is played, and put back.
 
-ghost use Rattle.std.specs.Prelude.{◌≡◌, ◌∷◌, ◌<◌, length, vec_capacity};
+ghost use Rattle.std.specs.Prelude.{◌≡◌, ◌<◌, ◌∷◌, length, vec_capacity};
 
 use sim_system::Rig;
 

@@ -2,8 +2,8 @@
 //! they do is the order of the calls.
 
 ghost use Rattle.std.specs.Prelude.{◌≡◌};
+ghost use Rattle.sim_top.specs.Stops.{economy_stop, IsStateStop, list_stop, log_stop, map_stop, setup_stop, status_of};
 ghost use Rattle.sim_top.specs.declared.stop.Stop.TheVariants as stops;
-ghost use Rattle.sim_top.specs.Stops.{status_of, setup_stop, list_stop, map_stop, log_stop, economy_stop, IsStateStop};
 
 use crate::status::Status;
 use sim_base::OutOfMemory;

@@ -1,38 +1,19 @@
 //! The top call: from the words to a status. All files are read and the whole text is made before anything is written,
 //! so that a refusal or want of memory leaves the sink and the files as they were.
 
-ghost use Rattle.std.specs.Prelude.{◌≡◌, ◌≢◌, ℕ, List, All, length, Option, IfSome, IfOk, IsOk, Some, None, [], option_map, string_bytes};
-ghost use Rattle.std.specs.Io.KnownBytes.{Appends};
-ghost use Rattle.sim_client.specs.StageWords.{AreCleared};
-ghost use Rattle.sim_report.specs.Lines.{usage_text as text_of_usage};
-ghost use Rattle.sim_store.specs.Files.{File};
-ghost use Rattle.sim_store.specs.Writing.{FileCauses};
-ghost use Rattle.sim_store.specs.declared.counts.Counts.{Counts as AllCounts};
-ghost use Rattle.sim_system.specs.Meanings.{HaveKinds};
-ghost use Rattle.sim_system.specs.RigWords.{systems_of};
-ghost use Rattle.sim_top.specs.Answers.{scene, Meets, Causes, CountsBefore, MayEnd, IsUsageTold, KeepsAllBut, IsSilent};
-ghost use Rattle.sim_top.specs.Commands.{IsPrepared, shelved};
-ghost use Rattle.sim_top.specs.Films.{OfFilm, Film};
-ghost use Rattle.sim_top.specs.Given.{GaveForWords};
-ghost use Rattle.sim_top.specs.Headline.{Headline};
-ghost use Rattle.sim_top.specs.Hosting.{OfSession};
-ghost use Rattle.sim_top.specs.Logs.{TellsLogs};
-ghost use Rattle.sim_top.specs.Making.{MeetsBefore, SavesIfDone, IsSavedAs, IsAnswered, SaveMeets, IsSettled, Tells, file_of};
-ghost use Rattle.sim_top.specs.Parts.{OfParts, PartsTold};
-ghost use Rattle.sim_top.specs.Readiness.{IsReady, IsFaultless, IsFinal};
-ghost use Rattle.sim_top.specs.Reads.{LacksMatch, HasEnded, IsUnfound};
-ghost use Rattle.sim_top.specs.Returning.{RigsCameBack};
-ghost use Rattle.sim_top.specs.Rigs.{AreEight};
-ghost use Rattle.sim_top.specs.Sights.{TellsSights};
-ghost use Rattle.sim_top.specs.Stocks.{OfStock, Balances};
-ghost use Rattle.sim_top.specs.Stops.{stop_text as text_of_stop, status_of};
-ghost use Rattle.sim_top.specs.Territories.{OfRealm, Territories};
-ghost use Rattle.sim_top.specs.Words.{Asked, words_of, asked_by, out_of};
+ghost use Rattle.{sim_store.specs.Writing.FileCauses, sim_top.specs.Hosting.OfSession, sim_top.specs.Logs.TellsLogs, sim_top.specs.Rigs.AreEight};
+ghost use Rattle.std.specs.Prelude.{◌≡◌, ℕ, ◌≢◌, List, [], length, IfSome, IfOk, IsOk, Some, None, string_bytes, All, Option, option_map};
+ghost use Rattle.sim_top.specs.{Commands.IsPrepared, Commands.shelved, Stocks.Balances, Stocks.OfStock, Territories.OfRealm, Territories.Territories};
+ghost use Rattle.sim_top.specs.{Films.Film, Films.OfFilm, Reads.HasEnded, Reads.IsUnfound, Reads.LacksMatch, Stops.status_of, Stops.stop_text as text_of_stop};
+ghost use Rattle.sim_top.specs.{Given.GaveForWords, Headline.Headline, Parts.OfParts, Parts.PartsTold, Returning.RigsCameBack, Sights.TellsSights};
+ghost use Rattle.sim_top.specs.{Readiness.IsFaultless, Readiness.IsFinal, Readiness.IsReady, Words.Asked, Words.asked_by, Words.out_of, Words.words_of};
+ghost use Rattle.sim_top.specs.Answers.{Causes, CountsBefore, IsSilent, IsUsageTold, KeepsAllBut, MayEnd, Meets, scene};
+ghost use Rattle.sim_top.specs.Common.{Appends, AreCleared, Counts as AllCounts, File, HaveKinds, systems_of, usage_text as text_of_usage};
+ghost use Rattle.sim_top.specs.Making.{file_of, IsAnswered, IsSavedAs, IsSettled, MeetsBefore, SaveMeets, SavesIfDone, Tells};
 
 use crate::commands::{Answer, Saved, answer_to};
-use crate::status::Status;
-use crate::stop::Stop;
 use crate::words::request_of;
+use crate::{Status, Stop};
 use sim_base::OutOfMemory;
 use sim_orders::OrderTable;
 use sim_report::{Refusal, push_refusal, push_usage};
@@ -116,7 +97,8 @@ pub fn run<S: Shelf, K: Sink>(
 
     // Where the shelf tells nothing, this much of it is still known.
     ensures statuses { MayEnd (asked_by (words_of words.now)) result.status }
-    ensures unasked { asked_by (words_of words.now) ≡ None → IsUsageTold text_of_usage result.status (K.told out.old) (K.told out.new) × (S.counts shelf.new ≡ S.counts shelf.old) }
+    ensures unasked { asked_by (words_of words.now) ≡ None → IsUsageTold text_of_usage result.status (K.told out.old) (K.told out.new)
+        × (S.counts shelf.new ≡ S.counts shelf.old) }
     ensures silent { IsSilent result.status → Appends (K.told out.old) (K.told out.new) [] }
 
     // A fault is answered exactly where one was counted, and no file but the one to be written changes.
@@ -145,7 +127,8 @@ fn finish<S: Shelf, K: Sink>(shelf: &mut S, out: &mut K, answer: &Answer<'_>) ->
         → IfSome (S.held shelf.old) (λ files. MeetsBefore answer.now.status words files (string_bytes answer.now.text) (option_map file_of answer.now.saved)
         → Meets result words files (scene (S.held shelf.old) (K.told out.old) before (K.faults out.old))
         (scene (S.held shelf.new) (K.told out.new) (S.counts shelf.new) (K.faults out.new))) }
-    ensures told { answer.now.saved ≡ None → Tells result answer.now.status (string_bytes answer.now.text) (K.told out.old) (K.told out.new) (K.faults out.old) (K.faults out.new) }
+    ensures told { answer.now.saved ≡ None → Tells result answer.now.status (string_bytes answer.now.text) (K.told out.old) (K.told out.new) (K.faults out.old)
+        (K.faults out.new) }
     ensures statuses { (asked : Option Asked) → MayEnd asked answer.now.status → MayEnd asked result }
     ensures settled { IsSettled result → (result ≡ answer.now.status) × (S.counts shelf.new ≡ S.counts shelf.old) }
     ensures silent { IsSilent result → Appends (K.told out.old) (K.told out.new) [] }
@@ -194,7 +177,8 @@ fn made_answer<'w, S: Shelf>(
 ) -> Answer<'w>
     requires eight { AreEight ⟦<dyn System as System>⟧ rigs.old.items }
     requires cleared { All (λ r. AreCleared (systems_of r ⟦<dyn System as System>⟧)) rigs.old.items }
-    ensures answer { IsPrepared (words_of words.now) result.status (string_bytes result.text) result.saved (shelved (S.held shelf.old) (S.counts shelf.old)) (shelved (S.held shelf.new) (S.counts shelf.new)) }
+    ensures answer { IsPrepared (words_of words.now) result.status (string_bytes result.text) result.saved (shelved (S.held shelf.old) (S.counts shelf.old))
+        (shelved (S.held shelf.new) (S.counts shelf.new)) }
     ensures back { RigsCameBack ⟦<dyn System as System>⟧ (asked_by (words_of words.now)) (S.held shelf.old) result.status rigs.old rigs.new }
 {
     let Some(request) = request_of(words) else {

@@ -1,8 +1,8 @@
 //! The words after the program's name, and the request that they make. A word that is out of place makes none.
 
-ghost use Rattle.std.specs.Prelude.{◌≡◌, ◌≤◌, Some, IfSome, length, option_map};
-ghost use Rattle.sim_top.specs.Words.{asked, words_of, asked_by, asked_of_one, asked_of_two, asked_of_three, asked_of_log, asked_of_sight, trial_of as trial_asked, turn_in, every_in, digits_from};
-ghost use Rattle.sim_top.specs.Trials.{CanBeTried};
+ghost use Rattle.std.specs.Prelude.{◌≡◌, ◌≤◌, length, IfSome, Some, option_map};
+ghost use Rattle.sim_top.specs.{Trials.CanBeTried, Words.trial_of as trial_asked, Words.turn_in, Words.words_of};
+ghost use Rattle.sim_top.specs.Words.{asked, asked_by, asked_of_log, asked_of_one, asked_of_sight, asked_of_three, asked_of_two, digits_from, every_in};
 
 use sim_trial::is_trial;
 

@@ -1,8 +1,6 @@
 -- Worked examples of marks that change.
 use Rattle.std.proofs.Common.{◌≡◌, ℕ, [], ◌∷◌, refl}
-use Rattle.sim_trail.specs.declared.mark.Mark.{Mark}
-use Rattle.sim_trail.specs.declared.shift.Shift.TheVariants.{Gone, Born}
-use Rattle.sim_trail.specs.Shifts.{shifts_between}
+use Rattle.sim_trail.specs.{Shifts.shifts_between, declared.mark.Mark.Mark, declared.shift.Shift.TheVariants.Born, declared.shift.Shift.TheVariants.Gone}
 
 -- an entity of template 1 in a cell
 abbrev one : ℕ → ℕ → ℕ → ℕ → Mark

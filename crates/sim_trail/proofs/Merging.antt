@@ -1,14 +1,10 @@
 -- The pass over two lists of marks gives the changes of each id, ascending.
-use Rattle.std.proofs.Common.{◌≡◌, ℕ, zero, suc, ◌+◌, ◌<◌, ◌≤◌, Bool, true, false, cond, List, [], ◌∷◌, ◌++◌, Option, Some, None, min, max, refl, sym, ap, ◌∙◌, append_assoc, ⊎_elim, length, eqb, arith}
-use Rattle.std.specs.List.{range_with_len, flat_map}
-use Rattle.std.proofs.Math.Nat.{eq-or-lt_of_le}
-use Rattle.std.proofs.lemmas.Bool.{true≢false, eq-eqb, eqb-true}
-use Rattle.sim_trail.specs.declared.mark.Mark.{Mark}
-use Rattle.sim_trail.specs.declared.shift.Shift.{Shift}
-use Rattle.sim_trail.specs.Marks.{IsAscending}
-use Rattle.sim_trail.specs.Shifts.{same_mark, mark_at, change_of, end_of, shifts_between}
-use Rattle.sim_trail.specs.Merge.{next_id, first_of, behind}
-use Rattle.sim_trail.proofs.Rising.{RisingFrom, Below, rising, rising_less, below_end, absent, behind_rises, behind_below, behind_same, first_is}
+use Rattle.std.{proofs.lemmas.Bool.eq-eqb, proofs.lemmas.Bool.eqb-true, proofs.lemmas.Bool.true≢false, specs.List.flat_map, specs.List.range_with_len}
+use Rattle.std.proofs.{Common.ap, Common.append_assoc, Common.arith, Common.sym, Common.⊎_elim, Common.◌∙◌, Math.Nat.eq-or-lt_of_le}
+use Rattle.std.proofs.Common.{◌≡◌, ℕ, zero, suc, ◌+◌, ◌<◌, ◌≤◌, min, max, Bool, true, false, cond, eqb, List, [], ◌∷◌, ◌++◌, length, Some, None, Option, refl}
+use Rattle.sim_trail.proofs.Rising.{absent, behind_below, behind_rises, behind_same, Below, below_end, first_is, rising, rising_less, RisingFrom}
+use Rattle.sim_trail.specs.{Marks.IsAscending, Shifts.change_of, Shifts.end_of, Shifts.mark_at, Shifts.same_mark, Shifts.shifts_between}
+use Rattle.sim_trail.specs.{Merge.behind, Merge.first_of, Merge.next_id, declared.mark.Mark.Mark, declared.shift.Shift.Shift}
 
 -- the change of an id
 abbrev pub change_at : List Mark → List Mark → ℕ → List Shift
@@ -43,7 +39,8 @@ module _ {X : Type 0} (f g : ℕ → List X) where
           let empty = ap g e ∙ gone in
           rw empty cc
 
-      later : from < id → flat_map f (range_with_len (from + 1) count) ≡ f id ++ flat_map g (range_with_len (from + 1) count) → f from ++ flat_map f (range_with_len (from + 1) count) ≡ f id ++ (g from ++ flat_map g (range_with_len (from + 1) count))
+      later : from < id → flat_map f (range_with_len (from + 1) count) ≡ f id ++ flat_map g (range_with_len (from + 1) count)
+          → f from ++ flat_map f (range_with_len (from + 1) count) ≡ f id ++ (g from ++ flat_map g (range_with_len (from + 1) count))
       later lower more =
           let empty = none from lower in
           let empty' = sym (same from (λ h. omega arith)) ∙ empty in
@@ -92,9 +89,12 @@ goes_on end id old new olds news told next w =
     let later = behind_rises id olds up.0 in
     let later' = behind_rises id news up.1 in
     let none : (k : ℕ) → k < id → change_at olds news k ≡ [] = λ k lt. same_ids _ None _ None (absent id k olds lt up.0) (absent id k news lt up.1) in
-    let gone : change_at (behind id olds) (behind id news) id ≡ [] = same_ids _ None _ None (absent (id + 1) id (behind id olds) (omega arith) later) (absent (id + 1) id (behind id news) (omega arith) later') in
-    let same : (k : ℕ) → (k ≡ id → ⊥) → change_at olds news k ≡ change_at (behind id olds) (behind id news) k = λ k ne. same_ids _ _ _ _ (sym (behind_same id k olds ne)) (sym (behind_same id k news ne)) in
-    let first : changes olds news 0 end ≡ change_at olds news id ++ changes (behind id olds) (behind id news) 0 end = first_piece (change_at olds news) (change_at (behind id olds) (behind id news)) 0 end id (omega arith) (omega arith) none gone same in
+    let gone : change_at (behind id olds) (behind id news) id ≡ [] = same_ids _ None _ None (absent (id + 1) id (behind id olds) (omega arith) later)
+    (absent (id + 1) id (behind id news) (omega arith) later') in
+    let same : (k : ℕ) → (k ≡ id → ⊥) → change_at olds news k ≡ change_at (behind id olds) (behind id news) k =
+    λ k ne. same_ids _ _ _ _ (sym (behind_same id k olds ne)) (sym (behind_same id k news ne)) in
+    let first : changes olds news 0 end ≡ change_at olds news id ++ changes (behind id olds) (behind id news) 0 end =
+    first_piece (change_at olds news) (change_at (behind id olds) (behind id news)) 0 end id (omega arith) (omega arith) none gone same in
     let here : change_of (first_of id olds) (first_of id news) ≡ change_at olds news id = same_ids _ _ _ _ (first_is id olds up.0) (first_is id news up.1) in
     record {
       olds_rise = rising_less (id + 1) 0 (behind id olds) (omega arith) later;
@@ -118,19 +118,23 @@ at_end (old ∷ olds) [] e = absurd (cc)
 at_end [] (new ∷ news) e = absurd (cc)
 at_end (old ∷ olds) (new ∷ news) e = absurd (cc)
 
-pub ends : (old new olds news : List Mark) (told : List Shift) → next_id olds news ≡ None → Walks (max (end_of old) (end_of new)) old new olds news told → told ≡ shifts_between old new
+pub ends : (old new olds news : List Mark) (told : List Shift) → next_id olds news ≡ None → Walks (max (end_of old) (end_of new)) old new olds news told
+    → told ≡ shifts_between old new
 unfolding shifts_between
 ends old new olds news told none w =
     let done = at_end olds news none in
     let rest : changes olds news 0 (max (end_of old) (end_of new)) ≡ [] =
-    (λ i. changes (done.0 i) (done.1 i) 0 (max (end_of old) (end_of new))) ∙ no_pieces (change_at [] []) (change_at [] []) 0 (max (end_of old) (end_of new)) (λ id. refl) in
+    (λ i. changes (done.0 i) (done.1 i) 0 (max (end_of old) (end_of new))) ∙ no_pieces (change_at [] []) (change_at [] []) 0 (max (end_of old) (end_of new))
+    (λ id. refl) in
     sym (append_none told) ∙ ap (λ (s : List Shift). told ++ s) (sym rest) ∙ w.told
 
 -- a mark of the next id is left behind
-fewer : (id : ℕ) (mark : Mark) (marks : List Mark) → (length (behind id (mark ∷ marks)) ≤ length (mark ∷ marks)) × (mark.id ≡ id → length (behind id (mark ∷ marks)) < length (mark ∷ marks))
+fewer : (id : ℕ) (mark : Mark) (marks : List Mark) → (length (behind id (mark ∷ marks)) ≤ length (mark ∷ marks))
+    × (mark.id ≡ id → length (behind id (mark ∷ marks)) < length (mark ∷ marks))
 fewer id mark marks = by (eqb mark.id id) refl
   where
-    by : (b : Bool) → eqb mark.id id ≡ b → (length (cond b marks (mark ∷ marks)) ≤ length (mark ∷ marks)) × (mark.id ≡ id → length (cond b marks (mark ∷ marks)) < length (mark ∷ marks))
+    by : (b : Bool) → eqb mark.id id ≡ b → (length (cond b marks (mark ∷ marks)) ≤ length (mark ∷ marks))
+        × (mark.id ≡ id → length (cond b marks (mark ∷ marks)) < length (mark ∷ marks))
     by true e = (omega arith, λ h. omega arith)
     by false e = (omega arith, λ h. absurd (true≢false (sym (eq-eqb mark.id id h) ∙ e)))
 
@@ -154,7 +158,13 @@ fewer_left id (old ∷ olds) (new ∷ news) e =
 -- ---- nothing has changed
 
 same_as_itself : (m : Mark) → same_mark m m ≡ true
-same_as_itself m = rw (eq-eqb m.id m.id refl, eq-eqb m.cell.x m.cell.x refl, eq-eqb m.cell.z m.cell.z refl, eq-eqb m.owner m.owner refl, eq-eqb m.template m.template refl) refl
+same_as_itself m = rw (
+  eq-eqb m.id m.id refl,
+  eq-eqb m.cell.x m.cell.x refl,
+  eq-eqb m.cell.z m.cell.z refl,
+  eq-eqb m.owner m.owner refl,
+  eq-eqb m.template m.template refl,
+) refl
 
 none_of_one : (m : Option Mark) → change_of m m ≡ []
 none_of_one None = refl

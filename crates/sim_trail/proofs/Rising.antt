@@ -1,15 +1,9 @@
 -- Marks whose ids rise from a number on, by recursion on the marks, and the mark of an id among them.
-use Rattle.std.proofs.Common.{◌≡◌, ℕ, suc, ◌+◌, ◌<◌, ◌≤◌, Bool, true, false, cond, List, [], ◌∷◌, length, get_or, map, Some, None, max, refl, sym, subst, ap, ◌∙◌, eqb, add-one, arith}
-use Rattle.std.specs.List.{fold}
-use Rattle.std.proofs.lemmas.Bool.{eqb-true, eq-eqb, ne_eqb}
-use Rattle.sim_trail.specs.declared.mark.Mark.{Mark}
-use Rattle.std.specs.List.Sorted.{IsStrictlyIncreasing}
-use Rattle.sim_base.specs.declared.state.Row.{Row}
-use Rattle.sim_base.specs.declared.state.State.{State}
-use Rattle.sim_base.specs.Rows.{id_of}
-use Rattle.sim_trail.specs.Marks.{id_of_mark, mark_of, marks_of, IsAscending}
-use Rattle.sim_trail.specs.Shifts.{mark_at, end_of}
-use Rattle.sim_trail.specs.Merge.{first_of, behind}
+use Rattle.{sim_trail.specs.declared.mark.Mark.Mark, std.specs.List.fold, std.specs.List.Sorted.IsStrictlyIncreasing}
+use Rattle.std.proofs.{Common.arith, Common.subst, Common.sym, Common.◌∙◌, lemmas.Bool.eq-eqb, lemmas.Bool.eqb-true, lemmas.Bool.ne_eqb}
+use Rattle.std.proofs.Common.{◌≡◌, ℕ, suc, ◌+◌, ◌<◌, ◌≤◌, max, Bool, true, false, cond, eqb, List, [], ◌∷◌, map, length, get_or, Some, None, refl, add-one, ap}
+use Rattle.sim_base.specs.{Rows.id_of, declared.state.Row.Row, declared.state.State.State}
+use Rattle.sim_trail.specs.{Marks.id_of_mark, Marks.IsAscending, Marks.mark_of, Marks.marks_of, Merge.behind, Merge.first_of, Shifts.end_of, Shifts.mark_at}
 
 -- the ids rise, from n on
 abbrev pub RisingFrom : ℕ → List Mark → Type 0
@@ -23,7 +17,8 @@ Below n (mark ∷ marks) = (mark.id < n) × Below n marks
 
 -- ---- ascending marks rise
 
-rising_by : (n : ℕ) (marks : List Mark) → ((d : Mark) → 0 < length marks → n ≤ (get_or marks 0 d).id) → ((k : ℕ) → suc k < length (map id_of_mark marks) → get_or (map id_of_mark marks) k 0 < get_or (map id_of_mark marks) (suc k) 0) → RisingFrom n marks
+rising_by : (n : ℕ) (marks : List Mark) → ((d : Mark) → 0 < length marks → n ≤ (get_or marks 0 d).id)
+    → ((k : ℕ) → suc k < length (map id_of_mark marks) → get_or (map id_of_mark marks) k 0 < get_or (map id_of_mark marks) (suc k) 0) → RisingFrom n marks
 rising_by n [] first up = tt
 rising_by n (mark ∷ []) first up = (first mark (omega arith), tt)
 rising_by n (mark ∷ (next ∷ marks)) first up = (

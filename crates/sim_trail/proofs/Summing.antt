@@ -1,16 +1,11 @@
 -- A sum over marks follows the changes: what one id has before and after its change, and then all ids.
-use Rattle.std.proofs.Common.{◌≡◌, ℕ, zero, suc, ◌+◌, ◌≤◌, Bool, true, false, cond, List, [], ◌∷◌, ◌++◌, Option, Some, None, max, refl, sym, ap, ◌∙◌, subst, eqb, add-zero, arith}
-use Rattle.std.specs.List.{sum_by}
-use Rattle.std.proofs.lemmas.Bool.{eqb-true, eq-eqb, true≢false, and_parts}
-use Rattle.std.proofs.lemmas.List.Sums.{sum_by-cons, sum_by-append}
-use Rattle.sim_trail.specs.declared.mark.Mark.{Mark}
-use Rattle.sim_trail.specs.declared.shift.Shift.{Shift}
-use Rattle.sim_trail.specs.Marks.{IsAscending}
-use Rattle.sim_trail.specs.Shifts.{same_mark, mark_at, change_of, gone, born, end_of, shifts_between}
-use Rattle.sim_trail.specs.Merge.{behind}
-use Rattle.sim_trail.specs.Sums.{weight_gone, weight_born, SumFollows}
-use Rattle.sim_trail.proofs.Rising.{RisingFrom, Below, rising, below_end, absent, behind_rises, behind_below, behind_same}
+use Rattle.std.{proofs.Common.arith, proofs.Common.subst, proofs.Common.sym, proofs.Common.◌∙◌, specs.List.sum_by}
+use Rattle.std.proofs.Common.{◌≡◌, ℕ, zero, suc, ◌+◌, ◌≤◌, max, Bool, true, false, cond, eqb, List, [], ◌∷◌, ◌++◌, Some, None, Option, refl, add-zero, ap}
+use Rattle.std.proofs.lemmas.{Bool.and_parts, Bool.eq-eqb, Bool.eqb-true, Bool.true≢false, List.Sums.sum_by-append, List.Sums.sum_by-cons}
 use Rattle.sim_trail.proofs.Merging.{change_at, changes, same_pieces}
+use Rattle.sim_trail.proofs.Rising.{absent, behind_below, behind_rises, behind_same, Below, below_end, rising, RisingFrom}
+use Rattle.sim_trail.specs.{Marks.IsAscending, Sums.SumFollows, Sums.weight_born, Sums.weight_gone, declared.mark.Mark.Mark, declared.shift.Shift.Shift}
+use Rattle.sim_trail.specs.{Merge.behind, Shifts.born, Shifts.change_of, Shifts.end_of, Shifts.gone, Shifts.mark_at, Shifts.same_mark, Shifts.shifts_between}
 
 pub same_mark_is : (a b : Mark) → same_mark a b ≡ true → a ≡ b
 same_mark_is a b h =
@@ -57,9 +52,11 @@ module _ (weight : Mark → ℕ) where
   split_off id [] up = refl
   split_off id (mark ∷ marks) up = by (eqb mark.id id) refl
     where
-      by : (b : Bool) → eqb mark.id id ≡ b → sum_by weight (mark ∷ marks) ≡ weigh (cond b (Some mark) (mark_at marks id)) + sum_by weight (cond b marks (mark ∷ marks))
+      by : (b : Bool) → eqb mark.id id ≡ b → sum_by weight (mark ∷ marks) ≡ weigh (cond b (Some mark) (mark_at marks id)) + sum_by weight
+          (cond b marks (mark ∷ marks))
       by true e = sum_by-cons weight mark marks
-      by false e = let none = ap weigh (absent (mark.id + 1) id marks (let ne : mark.id ≡ id → ⊥ = λ h. true≢false (sym (eq-eqb mark.id id h) ∙ e) in omega (arith, up.0)) up.1) in omega arith
+      by false e = let none = ap weigh (absent (mark.id + 1) id marks (let ne : mark.id ≡ id → ⊥ = λ h. true≢false (sym (eq-eqb mark.id id h) ∙ e) in
+          omega (arith, up.0)) up.1) in omega arith
 
   one_more : (from count : ℕ) → from + suc count ≡ from + 1 + count
   one_more from count = omega arith
@@ -76,10 +73,12 @@ module _ (weight : Mark → ℕ) where
       rw (none, none') (record { balance = refl; gone = omega arith })
   all_changes from (suc count) olds news up up' below below' =
       let later = all_changes (from + 1) count (behind from olds) (behind from news) (behind_rises from olds up) (behind_rises from news up')
-      (behind_below from (from + 1 + count) olds (subst (λ (n : ℕ). Below n olds) (one_more from count) below)) (behind_below from (from + 1 + count) news (subst (λ (n : ℕ). Below n news) (one_more from count) below')) in
+      (behind_below from (from + 1 + count) olds (subst (λ (n : ℕ). Below n olds) (one_more from count) below))
+      (behind_below from (from + 1 + count) news (subst (λ (n : ℕ). Below n news) (one_more from count) below')) in
       let same = same_pieces (change_at olds news) (change_at (behind from olds) (behind from news)) (from + 1) count
       (λ id le. λ i. change_of (sym (behind_same from id olds (λ h. omega arith)) i) (sym (behind_same from id news (λ h. omega arith)) i)) in
-      let here = joined (weigh (mark_at olds from)) (sum_by weight (behind from olds)) (weigh (mark_at news from)) (sum_by weight (behind from news)) (change_at olds news from) (changes (behind from olds) (behind from news) (from + 1) count)
+      let here = joined (weigh (mark_at olds from)) (sum_by weight (behind from olds)) (weigh (mark_at news from)) (sum_by weight (behind from news))
+      (change_at olds news from) (changes (behind from olds) (behind from news) (from + 1) count)
       (one_change (mark_at olds from) (mark_at news from)) later in
       rw (split_off from olds up, split_off from news up', same) here
 
@@ -87,5 +86,6 @@ pub sum_follows : (weight : Mark → ℕ) (old new : List Mark) → IsAscending 
 unfolding shifts_between
 sum_follows weight old new up up' =
     let end = max (end_of old) (end_of new) in
-    let all = all_changes weight 0 end old new (rising old up) (rising new up') (below_end old (0 + end) (omega arith)) (below_end new (0 + end) (omega arith)) in
+    let all = all_changes weight 0 end old new (rising old up) (rising new up') (below_end old (0 + end) (omega arith))
+    (below_end new (0 + end) (omega arith)) in
     record { balance = all.balance; gone = all.gone; born = omega (arith, all.balance, all.gone) }

@@ -1,9 +1,6 @@
 -- The marks of a state: what of each row a trail keeps.
-use Rattle.std.specs.Prelude.{ℕ, List, map}
-use Rattle.std.specs.List.Sorted.{IsStrictlyIncreasing}
-use Rattle.sim_base.specs.declared.state.Row.{Row}
-use Rattle.sim_base.specs.declared.state.State.{State}
-use Rattle.sim_base.specs.Places.{IsPlaced, cell_of}
+use Rattle.std.specs.{List.Sorted.IsStrictlyIncreasing, Prelude.ℕ, Prelude.List, Prelude.map}
+use Rattle.sim_base.specs.{Places.cell_of, Places.IsPlaced, declared.state.Row.Row, declared.state.State.State}
 use Rattle.sim_trail.specs.declared.mark.Mark.{Mark}
 
 -- the id, the cell, the owner and the template of a row

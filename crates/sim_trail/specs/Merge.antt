@@ -1,5 +1,5 @@
 -- A step of the pass over two lists of marks: the id that comes next, its marks, and the marks behind it.
-use Rattle.std.specs.Prelude.{ℕ, min, ◌==◌, if◌then◌else◌, List, [], ◌∷◌, Option, Some, None}
+use Rattle.std.specs.Prelude.{ℕ, min, List, [], ◌∷◌, if◌then◌else◌, ◌==◌, Some, None, Option}
 use Rattle.sim_trail.specs.declared.mark.Mark.{Mark}
 
 -- the lesser of the first ids

@@ -1,11 +1,7 @@
 -- How two lists of marks differ: for each id the old mark that is gone, and then the new one that is born.
-use Rattle.std.specs.Prelude.{ℕ, ◌+◌, max, Bool, ◌&&◌, ◌==◌, if◌then◌else◌, List, [], ◌∷◌, ◌++◌, find, fold, Option, Some, None}
-use Rattle.std.specs.List.{range_with_len, flat_map}
-use Rattle.std.specs.Option.{option_eq}
-use Rattle.sim_base.specs.Places.{same_cell}
-use Rattle.sim_trail.specs.declared.mark.Mark.{Mark}
-use Rattle.sim_trail.specs.declared.shift.Shift.{Shift}
-use Rattle.sim_trail.specs.declared.shift.Shift.TheVariants.{Gone, Born}
+use Rattle.{sim_base.specs.Places.same_cell, std.specs.List.flat_map, std.specs.List.range_with_len, std.specs.Option.option_eq}
+use Rattle.std.specs.Prelude.{ℕ, ◌+◌, max, Bool, ◌&&◌, List, [], ◌∷◌, ◌++◌, if◌then◌else◌, ◌==◌, Some, None, fold, find, Option}
+use Rattle.sim_trail.specs.declared.{mark.Mark.Mark, shift.Shift.Shift, shift.Shift.TheVariants.Born, shift.Shift.TheVariants.Gone}
 
 -- the two marks are one
 abbrev pub same_mark : Mark → Mark → Bool

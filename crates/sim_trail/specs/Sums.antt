@@ -1,9 +1,6 @@
 -- Sums over marks, and what shifts make of them: the law by which whatever is a sum over marks can be kept.
-use Rattle.std.specs.Prelude.{◌≡◌, ℕ, ◌+◌, ◌≤◌, List}
-use Rattle.std.specs.List.{sum_by}
-use Rattle.sim_trail.specs.declared.mark.Mark.{Mark}
-use Rattle.sim_trail.specs.declared.shift.Shift.{Shift}
-use Rattle.sim_trail.specs.declared.shift.Shift.TheVariants.{Gone, Born}
+use Rattle.std.specs.{List.sum_by, Prelude.◌≡◌, Prelude.ℕ, Prelude.◌+◌, Prelude.◌≤◌, Prelude.List}
+use Rattle.sim_trail.specs.declared.{mark.Mark.Mark, shift.Shift.Shift, shift.Shift.TheVariants.Born, shift.Shift.TheVariants.Gone}
 
 -- the weight of a mark that is gone, and none of one that is born
 abbrev pub weight_gone : (Mark → ℕ) → Shift → ℕ

@@ -1,7 +1,7 @@
 //! A change of a mark. A mark that becomes another one is gone, and the other one is born.
 
 ghost use Rattle.std.specs.Prelude.{◌≡◌, ◌++◌, OnOk};
-ghost use Rattle.sim_trail.specs.Shifts.{change_of, gone, born};
+ghost use Rattle.sim_trail.specs.Shifts.{born, change_of, gone};
 
 use crate::mark::Mark;
 use sim_base::{Items, OutOfMemory};

@@ -1,10 +1,8 @@
 //! The marks of the last state that was followed.
 
-ghost use Rattle.std.specs.Prelude.{◌≡◌, [], All, map, IsTrue, IfOk, OnOk, OnErr};
-ghost use Rattle.std.specs.List.Sorted.{IsStrictlyIncreasing};
-ghost use Rattle.sim_base.specs.Rows.{id_of};
-ghost use Rattle.sim_trail.specs.Marks.{IsPlacedRow, IsAscending, mark_of as mark_of_row, marks_of as marks_of_state};
-ghost use Rattle.sim_trail.specs.Shifts.{shifts_between as shifts_from_to};
+ghost use Rattle.{sim_base.specs.Rows.id_of, sim_trail.specs.Shifts.shifts_between as shifts_from_to, std.specs.List.Sorted.IsStrictlyIncreasing};
+ghost use Rattle.std.specs.Prelude.{◌≡◌, [], map, IfOk, OnOk, OnErr, IsTrue, All};
+ghost use Rattle.sim_trail.specs.Marks.{IsAscending, IsPlacedRow, mark_of as mark_of_row, marks_of as marks_of_state};
 
 use crate::mark::{Mark, mark_of};
 use crate::merge::shifts_between;
@@ -21,9 +19,7 @@ pub struct Trail {
 }
 
 impl Model for Trail {
-    ghost use Rattle.std.specs.Prelude.{List};
-    ghost use Rattle.sim_trail.specs.declared.mark.Mark.{Mark};
-    ghost use Rattle.sim_trail.specs.Marks.{IsAscending};
+    ghost use Rattle.{sim_trail.specs.Marks.IsAscending, sim_trail.specs.declared.mark.Mark.Mark, std.specs.Prelude.List};
 
     ghost Value = { List Mark };
 

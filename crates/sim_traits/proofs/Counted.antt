@@ -1,16 +1,11 @@
 -- Numbers of words: what a list of them has, and what one part of a text adds.
-use Rattle.std.proofs.Common.{◌≡◌, ℕ, ◌+◌, ◌≤◌, ◌<◌, List, [], ◌∷◌, ◌++◌, length, take, drop, get_or, suc, Bool, true, false, ◌&&◌, Option, Some, None, is_some, filter, refl, ap, ◌∙◌, sym, ◌⊎◌, inl, inr, arith, lit≤, append-nil, length-append}
-use Rattle.std.specs.Prelude.{All, nat_lt, nat_le}
-use Rattle.std.specs.List.{list_all, filter_map, cons_option}
-use Rattle.std.proofs.Math.Seq.{drop-cons}
-use Rattle.std.proofs.lemmas.List.{take-append-drop}
-use Rattle.std.proofs.lemmas.List.Elements.{All-nil, All-cons, filter_map-append, filter-append}
-use Rattle.std.proofs.lemmas.List.Folds.{list_all-append}
-use Rattle.std.proofs.lemmas.List.Quantifiers.{position-Some}
-use Rattle.std.proofs.lemmas.Bool.Decides.{nat_tests}
-use Rattle.std.specs.Str.{bytes_eq}
+use Rattle.std.proofs.{Math.Seq.drop-cons, lemmas.Bool.Decides.nat_tests, lemmas.List.take-append-drop, lemmas.List.Folds.list_all-append}
+use Rattle.std.proofs.Common.{filter, Option, refl, ap, append-nil, arith, inl, inr, length-append, lit≤, sym, ◌∙◌}
+use Rattle.std.proofs.Common.{◌≡◌, ℕ, suc, ◌+◌, ◌<◌, ◌≤◌, Bool, true, false, ◌&&◌, ◌⊎◌, List, [], ◌∷◌, ◌++◌, length, get_or, take, drop, is_some, Some, None}
+use Rattle.std.proofs.lemmas.List.{Elements.All-cons, Elements.All-nil, Elements.filter-append, Elements.filter_map-append, Quantifiers.position-Some}
+use Rattle.std.specs.{List.filter_map, List.cons_option, List.list_all, Prelude.nat_lt, Prelude.nat_le, Prelude.All, Str.bytes_eq}
+use Rattle.sim_traits.specs.Units.{is_admitted, is_named, number_in, numbers_in}
 use Rattle.sim_tree.specs.Tokens.{is_word}
-use Rattle.sim_traits.specs.Units.{number_in, is_named, numbers_in, is_admitted}
 
 -- so many words, each a name, and their numbers
 pub record Counted (names words : List (List ℕ)) (numbers : List ℕ) : Type 0 where
@@ -44,7 +39,8 @@ numbers_of_counted names words numbers counted =
     rw (few, counted.known, counted.numbers_are) refl
 
 -- one word more
-counted_word : (names words : List (List ℕ)) (numbers word : List ℕ) → Counted names words numbers → nat_lt (length numbers) 64 ≡ true → is_named names word ≡ true
+counted_word : (names words : List (List ℕ)) (numbers word : List ℕ) → Counted names words numbers → nat_lt (length numbers) 64 ≡ true
+    → is_named names word ≡ true
     → Counted names (words ++ word ∷ []) (numbers ++ filter_map (number_in names) (word ∷ []))
 counted_word names words numbers word counted room named =
     let as_many : length numbers ≡ length words = ap length counted.numbers_are ∙ length-numbers names words counted.known in
@@ -73,7 +69,8 @@ either_false : (a b : Bool) → b ≡ false → (a && b) ≡ false
 either_false false b e = refl
 either_false true b e = e
 
-refused_word : (names words more : List (List ℕ)) (numbers word : List ℕ) → Counted names words numbers → (nat_lt (length numbers) 64 ≡ false) ⊎ (is_named names word ≡ false)
+refused_word : (names words more : List (List ℕ)) (numbers word : List ℕ) → Counted names words numbers → (nat_lt (length numbers) 64 ≡ false)
+    ⊎ (is_named names word ≡ false)
     → numbers_in names (words ++ word ∷ more) ≡ None
 refused_word names words more numbers word counted (inl full) =
     let as_many : length numbers ≡ length words = ap length counted.numbers_are ∙ length-numbers names words counted.known in
@@ -95,17 +92,22 @@ refused names words more numbers (byte ∷ bytes) counted e =
 
 -- ---- the same of the parts of a text
 
-pub counted_part : (names texts : List (List ℕ)) (numbers part : List ℕ) → Counted names (filter is_word texts) numbers → is_admitted names (length numbers) part ≡ true
+pub counted_part : (names texts : List (List ℕ)) (numbers part : List ℕ) → Counted names (filter is_word texts) numbers
+    → is_admitted names (length numbers) part ≡ true
     → Counted names (filter is_word (texts ++ part ∷ [])) (numbers ++ filter_map (number_in names) (filter is_word (part ∷ [])))
-counted_part names texts numbers part counted e = rw (filter-append is_word texts (part ∷ [])) (counted_more names (filter is_word texts) numbers part counted e)
+counted_part names texts numbers part counted e = rw (filter-append is_word texts (part ∷ []))
+    (counted_more names (filter is_word texts) numbers part counted e)
 
-pub refused_part : (names texts : List (List ℕ)) (numbers part : List ℕ) (n : ℕ) → Counted names (filter is_word (take n texts)) numbers → n < length texts → part ≡ get_or texts n part
+pub refused_part : (names texts : List (List ℕ)) (numbers part : List ℕ) (n : ℕ) → Counted names (filter is_word (take n texts)) numbers → n < length texts
+    → part ≡ get_or texts n part
     → is_admitted names (length numbers) part ≡ false → numbers_in names (filter is_word texts) ≡ None
 refused_part names texts numbers part n counted below there e =
     let split : texts ≡ take n texts ++ part ∷ drop (suc n) texts =
-    sym (take-append-drop n texts) ∙ ap (λ rest. take n texts ++ rest) (drop-cons texts n part below ∙ ap (λ (p : List ℕ). p ∷ drop (suc n) texts) (sym there)) in
+    sym (take-append-drop n texts) ∙ ap (λ rest. take n texts ++ rest) (drop-cons texts n part below ∙ ap (λ (p : List ℕ). p ∷ drop (suc n) texts)
+    (sym there)) in
     ap (λ (ts : List (List ℕ)). numbers_in names (filter is_word ts)) split
-    ∙ rw (filter-append is_word (take n texts) (part ∷ drop (suc n) texts)) (refused names (filter is_word (take n texts)) (drop (suc n) texts) numbers part counted e)
+    ∙ rw (filter-append is_word (take n texts) (part ∷ drop (suc n) texts)) (refused names (filter is_word (take n texts)) (drop (suc n) texts) numbers part
+    counted e)
 
 -- ---- what numbers are within
 
@@ -119,7 +121,8 @@ numbers_below names (word ∷ words) =
     cons_option_within (λ n. n < length names) (number_in names word) (filter_map (number_in names) words)
     (λ n e. (position-Some (bytes_eq word) names n [] e).0) (numbers_below names words)
 
-pub numbers_within : (names words : List (List ℕ)) (numbers : List ℕ) → Counted names words numbers → (length numbers ≤ 64) × All (λ n. n < length names) numbers
+pub numbers_within : (names words : List (List ℕ)) (numbers : List ℕ) → Counted names words numbers → (length numbers ≤ 64)
+    × All (λ n. n < length names) numbers
 numbers_within names words numbers counted =
     let as_many : length numbers ≡ length words = ap length counted.numbers_are ∙ length-numbers names words counted.known in
     (omega arith, rw counted.numbers_are (numbers_below names words))

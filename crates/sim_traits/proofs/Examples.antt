@@ -1,11 +1,9 @@
 -- Worked examples, computed from the definitions: each template was worked out by hand from the table of the parts.
-use Rattle.std.proofs.Common.{◌≡◌, ℕ, List, [], ◌∷◌, Some, None, Ok, Err, pos, refl}
+use Rattle.{sim_base.specs.declared.template.Template.Template, sim_traits.specs.Parts.template_in, sim_traits.specs.Parts.unarmoured}
+use Rattle.std.proofs.Common.{◌≡◌, ℕ, List, [], ◌∷◌, pos, Some, None, Ok, Err, refl}
 use Rattle.std.specs.Prelude.{codes, Result}
-use Rattle.sim_base.specs.declared.template.Template.{Template}
-use Rattle.sim_tree.specs.Trees.{Node, node, Children, no_children, child}
-use Rattle.sim_traits.specs.declared.fault.TraitFault.{TraitFault}
-use Rattle.sim_traits.specs.declared.fault.TraitFault.TheVariants.{Missing, OutOfRange, UnknownPart, Clash}
-use Rattle.sim_traits.specs.Parts.{template_in, unarmoured}
+use Rattle.sim_traits.specs.declared.fault.TraitFault.{TraitFault, TheVariants.Clash, TheVariants.Missing, TheVariants.OutOfRange, TheVariants.UnknownPart}
+use Rattle.sim_tree.specs.Trees.{child, Children, no_children, Node, node}
 
 -- a node with a text and no children
 abbrev leaf : List ℕ → Node
@@ -39,7 +37,13 @@ soldier :
       resist = record { hack = 2; pierce = 1; crush = 0 };
       speed = Some (pos 589824);
       obstruct = None;
-      arms = Some (record { harm = record { hack = pos 294912; pierce = pos 0; crush = pos 0 }; range = pos 196608; vision = pos 1310720; repeat = 4; accuracy = 90 });
+      arms = Some (record {
+        harm = record { hack = pos 294912; pierce = pos 0; crush = pos 0 };
+        range = pos 196608;
+        vision = pos 1310720;
+        repeat = 4;
+        accuracy = 90;
+      });
       train = None;
     })
 unfolding template_in

@@ -1,8 +1,6 @@
 -- Children that are there.
-use Rattle.std.proofs.Common.{◌≡◌, ◌≤◌, List, [], ◌∷◌, length, false, refl, arith}
-use Rattle.sim_tree.specs.declared.tree.Child.{Child}
-use Rattle.sim_tree.specs.Trees.{nodes_of}
-use Rattle.sim_traits.specs.Table.{are_none}
+use Rattle.{sim_traits.specs.Table.are_none, sim_tree.specs.Trees.nodes_of, sim_tree.specs.declared.tree.Child.Child}
+use Rattle.std.proofs.Common.{◌≡◌, ◌≤◌, false, List, [], ◌∷◌, length, refl, arith}
 
 pub are_none_some : (cs : List Child) → 1 ≤ length cs → are_none (nodes_of cs) ≡ false
 are_none_some [] h = absurd (omega arith)

@@ -1,9 +1,7 @@
 -- What the children of a part say: texts, numbers within their limits, and whole numbers.
-use Rattle.std.specs.Prelude.{ℕ, ◌/◌, ◌%◌, ◌==◌, ◌&&◌, ◌||◌, nat_le, Bool, List, Option, Some, None, is_none, option_and_then, ℤ, pos, negsuc, if◌then◌else◌, []}
-use Rattle.std.specs.List.{list_any}
-use Rattle.sim_base.specs.Numbers.{unit}
-use Rattle.sim_base.specs.NumberText.{number_of}
-use Rattle.sim_tree.specs.Trees.{Node, value_of, under, child_named}
+use Rattle.{sim_base.specs.NumberText.number_of, sim_base.specs.Numbers.unit, std.specs.List.list_any, std.specs.Prelude.option_and_then}
+use Rattle.std.specs.Prelude.{ℕ, ◌/◌, ◌%◌, Bool, ◌&&◌, ◌||◌, List, [], ℤ, pos, negsuc, is_none, if◌then◌else◌, nat_le, ◌==◌, Some, None, Option}
+use Rattle.sim_tree.specs.Trees.{child_named, Node, under, value_of}
 
 -- the value of a node that is there, and else what stands for it, if something does
 abbrev pub value_or : Option (List ℕ) → Option Node → Option (List ℕ)

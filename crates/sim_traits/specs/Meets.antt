@@ -1,7 +1,7 @@
 -- What a call that reads a template answers. It may run out of memory, and is else what a definition says.
-use Rattle.std.specs.Prelude.{◌≡◌, Result, Ok, Err}
+use Rattle.std.specs.Prelude.{◌≡◌, Ok, Err, Result}
 use Rattle.sim_traits.specs.declared.fault.TraitFault.{TraitFault}
-use Rattle.sim_traits.specs.declared.fault.TraitFault.TheVariants.{Missing, OutOfRange, UnknownPart, Clash, OutOfMemory}
+use Rattle.sim_traits.specs.declared.fault.TraitFault.TheVariants.{Clash, Missing, OutOfMemory, OutOfRange, UnknownPart}
 
 -- an answer is the wanted one, or memory ran out
 abbrev pub Meets : {X : Type 0} → Result X TraitFault → Result X TraitFault → Type 0

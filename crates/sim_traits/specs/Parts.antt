@@ -1,13 +1,10 @@
 -- What a tree says of a template: its parts one after another, in the order of the table. The first refusal is the answer.
-use Rattle.std.specs.Prelude.{ℕ, ◌&&◌, List, Option, Some, None, is_some, unwrap_or, Result, Ok, Err, if◌then◌else◌}
-use Rattle.sim_base.specs.declared.template.Template.{Template}
-use Rattle.sim_base.specs.declared.template.Resist.{Resist}
-use Rattle.sim_tree.specs.Trees.{Node, under, child_named}
-use Rattle.sim_traits.specs.declared.fault.TraitFault.{TraitFault}
-use Rattle.sim_traits.specs.declared.fault.TraitFault.TheVariants.{Missing, OutOfRange, UnknownPart, Clash}
-use Rattle.sim_traits.specs.Table.{Part, health_part, resist_part, motion_part, obstruct_part, attack_part, train_part, has_known_parts}
-use Rattle.sim_traits.specs.Fields.{lacks}
-use Rattle.sim_traits.specs.Values.{health_in, resist_in, speed_in, base_in, arms_in, train_in}
+use Rattle.std.specs.Prelude.{ℕ, ◌&&◌, List, is_some, if◌then◌else◌, Some, None, Ok, Err, Option, Result, unwrap_or}
+use Rattle.sim_base.specs.declared.template.{Resist.Resist, Template.Template}
+use Rattle.sim_traits.specs.{Fields.lacks, Values.arms_in, Values.base_in, Values.health_in, Values.resist_in, Values.speed_in, Values.train_in}
+use Rattle.sim_traits.specs.Table.{attack_part, has_known_parts, health_part, motion_part, obstruct_part, Part, resist_part, train_part}
+use Rattle.sim_traits.specs.declared.fault.TraitFault.{TraitFault, TheVariants.Clash, TheVariants.Missing, TheVariants.OutOfRange, TheVariants.UnknownPart}
+use Rattle.sim_tree.specs.Trees.{child_named, Node, under}
 
 -- what is read of a part, or that it is out of range
 abbrev pub in_range : {X : Type 0} → ℕ → Option X → Result (Option X) TraitFault

@@ -1,8 +1,7 @@
 -- The table of the parts of a template, and whether a tree has nothing beside it.
-use Rattle.std.specs.Prelude.{ℕ, ◌&&◌, Bool, true, false, List, [], ◌∷◌, ◌++◌, find, Option, Some, None, is_none, codes}
-use Rattle.std.specs.Str.{bytes_eq}
-use Rattle.sim_json.specs.Keys.{among}
-use Rattle.sim_tree.specs.Trees.{Node, Children, no_children, child, value_of, under}
+use Rattle.{sim_json.specs.Keys.among, std.specs.Str.bytes_eq}
+use Rattle.std.specs.Prelude.{ℕ, Bool, true, false, ◌&&◌, List, [], ◌∷◌, ◌++◌, is_none, Some, None, codes, find, Option}
+use Rattle.sim_tree.specs.Trees.{child, Children, no_children, Node, under, value_of}
 
 -- a part: its number, its name, the children that it must have, and those that it may have
 pub record Part : Type 0 where

@@ -1,8 +1,6 @@
 -- The list of templates that a template trains.
-use Rattle.std.specs.Prelude.{ℕ, ◌&&◌, ◌||◌, not, nat_lt, nat_le, Bool, List, length, position, Option, Some, None, is_some, if◌then◌else◌}
-use Rattle.std.specs.List.{list_all, filter_map}
-use Rattle.std.specs.Str.{bytes_eq}
-use Rattle.sim_tree.specs.Tokens.{is_word, tokens_of}
+use Rattle.{sim_tree.specs.Tokens.is_word, sim_tree.specs.Tokens.tokens_of, std.specs.List.filter_map, std.specs.List.list_all, std.specs.Str.bytes_eq}
+use Rattle.std.specs.Prelude.{ℕ, Bool, not, ◌&&◌, ◌||◌, List, length, is_some, if◌then◌else◌, nat_lt, nat_le, Some, None, position, Option}
 
 -- the number of a template, which is the place of its name
 abbrev pub number_in : List (List ℕ) → List ℕ → Option ℕ

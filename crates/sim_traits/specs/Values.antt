@@ -1,12 +1,8 @@
 -- What each part says, once its texts are there: None where one of them is not of its kind or within its limits.
-use Rattle.std.specs.Prelude.{ℕ, List, Option, Some, None, ℤ, codes}
-use Rattle.sim_base.specs.declared.template.Resist.{Resist}
-use Rattle.sim_base.specs.declared.template.Harm.{Harm}
-use Rattle.sim_base.specs.declared.template.Base.{Base}
-use Rattle.sim_base.specs.declared.template.Arms.{Arms}
+use Rattle.std.specs.Prelude.{ℕ, List, ℤ, Some, None, codes, Option}
+use Rattle.sim_base.specs.declared.template.{Arms.Arms, Base.Base, Harm.Harm, Resist.Resist}
+use Rattle.sim_traits.specs.{Fields.raw_in, Fields.text_at, Fields.text_or, Fields.whole_in, Units.units_in}
 use Rattle.sim_tree.specs.Trees.{Node}
-use Rattle.sim_traits.specs.Fields.{text_at, text_or, raw_in, whole_in}
-use Rattle.sim_traits.specs.Units.{units_in}
 
 -- what is read of a value, if there is one, goes into what follows
 abbrev pub given : {X Y : Type 0} → Option X → (X → Option Y) → Option Y

@@ -1,10 +1,8 @@
 //! A whole template, part after part in the order of the table.
 
+ghost use Rattle.{sim_base.specs.Limits.IsTemplate, sim_traits.specs.Meets.Meets, sim_traits.specs.Parts.early_in, sim_traits.specs.Parts.template_in};
 ghost use Rattle.std.specs.Prelude.{◌≡◌, length, IfOk, IfErr};
-ghost use Rattle.sim_base.specs.Limits.{IsTemplate};
 ghost use Rattle.sim_tree.specs.Trees.{node_of};
-ghost use Rattle.sim_traits.specs.Meets.{Meets};
-ghost use Rattle.sim_traits.specs.Parts.{template_in, early_in};
 
 use crate::fault::TraitFault;
 use crate::parts::{arms_of, base_of, health_of, resist_of, speed_of};

@@ -1,12 +1,7 @@
 -- Children that ascend by name, one more at a time.
-use Rattle.std.proofs.Common.{◌≡◌, ℕ, ◌&&◌, Bool, true, false, List, [], ◌∷◌, ◌++◌, map, append_assoc, String, Global, Less, string_bytes, string_cmp, refl, sym, true≢false}
-use Rattle.std.specs.List.{list_all, AllByRecursion}
-use Rattle.std.specs.List.Sorted.{IsStrictlySortedBy}
-use Rattle.std.proofs.lemmas.List.{map-append}
-use Rattle.std.specs.Map.{keys_of}
-use Rattle.serde_json.specs.declared.value.Value.{Value}
-use Rattle.serde_json.proofs.Views.{Entry}
-use Rattle.sim_tree.specs.Trees.{Node, children_of, is_before, is_least, is_sound, are_sound}
+use Rattle.sim_tree.proofs.Common.{append_assoc, are_sound, children_of, Entry, Global, is_before, is_least, is_sound, IsStrictlySortedBy, keys_of, Less}
+use Rattle.sim_tree.proofs.Common.{list_all, map-append, Node, sym, true≢false, Value}
+use Rattle.sim_tree.proofs.Common.{◌≡◌, ℕ, Bool, true, false, ◌&&◌, List, [], ◌∷◌, ◌++◌, map, string_bytes, string_cmp, String, refl, AllByRecursion}
 
 abbrev pub name_of : List ℕ × Node → List ℕ
 name_of p = p.0
@@ -58,16 +53,20 @@ all_sound-push (q ∷ qs) p e f = both_true _ _ (left_true (is_sound q.1) _ e) (
 both : (a b c d : Bool) → (a ≡ true → c ≡ true) → (b ≡ true → d ≡ true) → (a && b) ≡ true → (c && d) ≡ true
 both a b c d f g e = both_true c d (f (left_true a b e)) (g (right_true a b e))
 
-all_skip : (x : List ℕ) (xs : List (List ℕ)) (k : List ℕ) (ys : List (List ℕ)) → list_all (is_before x) (xs ++ k ∷ ys) ≡ true → list_all (is_before x) (xs ++ ys) ≡ true
+all_skip : (x : List ℕ) (xs : List (List ℕ)) (k : List ℕ) (ys : List (List ℕ)) → list_all (is_before x) (xs ++ k ∷ ys) ≡ true
+    → list_all (is_before x) (xs ++ ys) ≡ true
 all_skip x [] k ys e = both (is_before x k) (list_all (is_before x) ys) true (list_all (is_before x) ys) (λ _. refl) (λ h. h) e
-all_skip x (z ∷ xs) k ys e = both (is_before x z) (list_all (is_before x) (xs ++ k ∷ ys)) (is_before x z) (list_all (is_before x) (xs ++ ys)) (λ h. h) (all_skip x xs k ys) e
+all_skip x (z ∷ xs) k ys e = both (is_before x z) (list_all (is_before x) (xs ++ k ∷ ys)) (is_before x z) (list_all (is_before x) (xs ++ ys)) (λ h. h)
+    (all_skip x xs k ys) e
 
 -- a name can be left out
 pub ascends_skip : (xs : List (List ℕ)) (k : List ℕ) (ys : List (List ℕ)) → ascends (xs ++ k ∷ ys) ≡ true → ascends (xs ++ ys) ≡ true
 ascends_skip [] k ys e = right_true (list_all (is_before k) ys) (ascends ys) e
-ascends_skip (x ∷ xs) k ys e = both (list_all (is_before x) (xs ++ k ∷ ys)) (ascends (xs ++ k ∷ ys)) (list_all (is_before x) (xs ++ ys)) (ascends (xs ++ ys)) (all_skip x xs k ys) (ascends_skip xs k ys) e
+ascends_skip (x ∷ xs) k ys e = both (list_all (is_before x) (xs ++ k ∷ ys)) (ascends (xs ++ k ∷ ys)) (list_all (is_before x) (xs ++ ys)) (ascends (xs ++ ys))
+    (all_skip x xs k ys) (ascends_skip xs k ys) e
 
-all_below : (x : String Global) (es : List Entry) → AllByRecursion (λ y. string_cmp x y ≡ Less) (keys_of es) → list_all (is_before (string_bytes x)) (keys_in es) ≡ true
+all_below : (x : String Global) (es : List Entry) → AllByRecursion (λ y. string_cmp x y ≡ Less) (keys_of es) → list_all (is_before (string_bytes x))
+    (keys_in es) ≡ true
 all_below x [] h = refl
 all_below x (e ∷ es) h = rw (h.0) (all_below x es h.1)
 

@@ -1,16 +1,7 @@
 -- Worked examples, computed from the definitions.
-use Rattle.std.proofs.Common.{◌≡◌, ℕ, suc, zero, [], ◌∷◌, Some, None, Ok, Err, true, false, refl, pos}
-use Rattle.std.specs.Prelude.{codes}
-use Rattle.std.specs.Fmt.{digits}
-use Rattle.serde_json.specs.Data.{Data, unsigned, null, number, string, array, object, no_items, item, no_members, member}
-use Rattle.sim_tree.specs.declared.tree.TreeMark.TheVariants.{Mul}
-use Rattle.sim_tree.specs.declared.fault.TreeFault.TheVariants.{WrongKind, TooDeep}
-use Rattle.sim_tree.specs.Trees.{node, no_children, child, is_sound, is_plain, levels}
-use Rattle.sim_tree.specs.Tokens.{tokens_of}
-use Rattle.sim_tree.specs.Paths.{value_at, number_at}
-use Rattle.sim_tree.specs.Walks.{height}
-use Rattle.sim_tree.specs.Leaves.{leaf_text}
-use Rattle.sim_tree.specs.Reading.{tree_in, source_in}
+use Rattle.sim_tree.proofs.Common.{is_sound, item, leaf_text, levels, member, Mul, no_children, no_items, no_members, node, null, number, number_at, object}
+use Rattle.sim_tree.proofs.Common.{source_in, string, tokens_of, TooDeep, tree_in, unsigned, value_at, WrongKind}
+use Rattle.sim_tree.proofs.Common.{◌≡◌, ℕ, zero, suc, true, false, [], ◌∷◌, pos, Some, None, Ok, Err, codes, refl, array, child, Data, digits, height, is_plain}
 
 -- ---- words
 
@@ -50,7 +41,8 @@ big : source_in
     ≡ Ok (record {
       name = codes "big";
       parent = Some (codes "post");
-      root = node None None (child (codes "Health") (node None None (child (codes "Max") (node (Some (codes "1.5")) (Some Mul) no_children) no_children)) no_children);
+      root = node None None (child (codes "Health") (node None None (child (codes "Max") (node (Some (codes "1.5")) (Some Mul) no_children) no_children))
+          no_children);
     })
 unfolding source_in
 big = refl

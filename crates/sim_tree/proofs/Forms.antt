@@ -1,14 +1,7 @@
 -- What an answer of a reader says, in the words of the definitions.
-use Rattle.std.proofs.Common.{◌≡◌, ℕ, ◌≤◌, Bool, true, false, List, [], ◌∷◌, length, Option, Some, Ok, refl, arith, sym, subst, append_assoc, codes, ◌||◌, ◌++◌}
-use Rattle.std.specs.Str.{bytes_eq}
-use Rattle.std.proofs.lemmas.Slice.Eq.{bytes_eq-Decides}
-use Rattle.serde_json.specs.Data.{Data, Members, member}
-use Rattle.sim_tree.specs.Nodes.{is_child_key, node_in, named_in}
-use Rattle.sim_tree.specs.Sources.{is_root_key}
-use Rattle.sim_tree.specs.declared.tree.Child.{Child}
-use Rattle.sim_tree.specs.declared.tree.TreeMark.TheVariants.{Add, Mul, Tokens}
-use Rattle.sim_tree.specs.Reading.{of_kind}
-use Rattle.sim_tree.specs.Trees.{Node, nodes_of, bears}
+use Rattle.sim_tree.proofs.Common.{append_assoc, arith, bears, bytes_eq-Decides, Child, Data, is_child_key, is_root_key, member, Members, Mul, named_in, Node}
+use Rattle.sim_tree.proofs.Common.{node_in, nodes_of, of_kind, subst, sym, Tokens}
+use Rattle.sim_tree.proofs.Common.{◌≡◌, ℕ, ◌≤◌, Bool, true, false, ◌||◌, List, [], ◌∷◌, ◌++◌, length, Some, Ok, codes, bytes_eq, Option, refl, Add}
 
 -- a reader that answers has found what is of its kind
 pub kind_ok : {X : Type 0} (fits : Bool) (x y : X) → of_kind fits x ≡ Ok y → (fits ≡ true) × (x ≡ y)
@@ -42,4 +35,5 @@ begins key text e same = subst (λ k. is_child_key k ≡ false) (sym ((bytes_eq-
 
 -- a key that names a template is none of a child
 pub root_key_alone : (key : List ℕ) → is_root_key key ≡ true → is_child_key key ≡ false
-root_key_alone key e = one_of (is_child_key key ≡ false) (bytes_eq key (codes "@name")) (bytes_eq key (codes "@parent")) e (begins key (codes "@name") refl) (begins key (codes "@parent") refl)
+root_key_alone key e = one_of (is_child_key key ≡ false) (bytes_eq key (codes "@name")) (bytes_eq key (codes "@parent")) e (begins key (codes "@name") refl)
+    (begins key (codes "@parent") refl)

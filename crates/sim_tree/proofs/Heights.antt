@@ -1,8 +1,6 @@
 -- Levels of values, and the test on them.
-use Rattle.std.proofs.Common.{◌≡◌, ℕ, suc, ◌-◌, ◌<◌, max, nat_lt, true, false, arith, refl}
-use Rattle.std.proofs.lemmas.Bool.Decides.{nat_tests}
-use Rattle.serde_json.specs.Data.{Data, null, boolean, number, string, array, object}
-use Rattle.sim_tree.specs.Walks.{height}
+use Rattle.sim_tree.proofs.Common.{string}
+use Rattle.sim_tree.proofs.Common.{◌≡◌, ℕ, suc, ◌-◌, ◌<◌, max, true, false, nat_lt, refl, arith, array, boolean, Data, height, nat_tests, null, number, object}
 
 pub first_level : (d : Data) → nat_lt 0 (height d) ≡ true
 first_level null = refl

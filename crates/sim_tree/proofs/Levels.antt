@@ -1,18 +1,10 @@
 -- A tree has no more levels than the value that it is read from.
-use Rattle.std.proofs.Common.{◌≡◌, ℕ, ◌≤◌, max, nat_lt, Bool, true, false, List, ◌∷◌, if◌then◌else◌, Option, Some, None, option_and_then, codes, Result, Ok, Err, IfOk, refl, ap, subst, arith}
-use Rattle.std.proofs.lemmas.Bool.Decides.{nat_tests}
-use Rattle.serde_json.specs.Data.{Data, null, boolean, number, string, array, object, Members, no_members, member}
-use Rattle.sim_tree.specs.declared.tree.Tree.{Tree}
-use Rattle.sim_tree.specs.declared.source.Source.{Source}
-use Rattle.sim_tree.specs.declared.fault.TreeFault.{TreeFault}
-use Rattle.sim_tree.specs.Trees.{Node, node, children_of, node_of, levels, levels_under, mark_of, value_of}
-use Rattle.sim_tree.specs.Walks.{height, members_height}
-use Rattle.sim_tree.specs.Nodes.{is_node, is_child_key, node_in, named_in, children_in}
-use Rattle.serde_json.specs.Find.{get, as_object}
-use Rattle.sim_json.proofs.Readers.{next_some}
-use Rattle.sim_tree.specs.Sources.{Origin, origin_in, origin_of, root_in, name_in, parent_in, are_root_members}
+use Rattle.sim_tree.proofs.Common.{is_child_key, is_node, kind_of, levels, levels_under, mark_of, member, Members, members_height, name_in, named_in, nat_tests}
+use Rattle.sim_tree.proofs.Common.{next_some, no_members, Node, node, node_in, node_of, null, number, object, of_kind, Origin, origin_in, origin_of, parent_in}
+use Rattle.sim_tree.proofs.Common.{option_and_then, refl, ap, are_root_members, arith, array, as_object, boolean, children_in, children_of, Data, get, height}
+use Rattle.sim_tree.proofs.Common.{root_in, Source, SourceMeets, string, subst, Tree, TreeFault, TreeMeets, value_of}
+use Rattle.sim_tree.proofs.Common.{◌≡◌, ℕ, ◌≤◌, max, Bool, true, false, List, ◌∷◌, IfOk, if◌then◌else◌, nat_lt, Some, None, Ok, Err, codes, Option, Result}
 use Rattle.sim_tree.proofs.Forms.{kind_ok}
-use Rattle.sim_tree.specs.Reading.{of_kind, kind_of, TreeMeets, SourceMeets}
 
 -- a child, or none
 either_way : (child : Bool) (k : List ℕ) (n : Node) (ps : List (List ℕ × Node)) (h m : ℕ) → levels n ≤ h → levels_under (children_of ps) ≤ m
@@ -35,7 +27,8 @@ mutual
       either_way (is_child_key k) k (node_in d) (named_in ms) (height d) (members_height ms) (levels_in d) (levels_in_members ms)
 
 -- what is known of a tree that is read of a value of few levels
-pub tree_levels : (r : Result Tree TreeFault) (d : Data) → nat_lt 32 (height d) ≡ false → TreeMeets r (of_kind (is_node d) (node_in d)) → IfOk r (λ tree. levels (node_of tree) ≤ 32)
+pub tree_levels : (r : Result Tree TreeFault) (d : Data) → nat_lt 32 (height d) ≡ false → TreeMeets r (of_kind (is_node d) (node_in d))
+    → IfOk r (λ tree. levels (node_of tree) ≤ 32)
 tree_levels (Ok tree) d e h =
     let few : height d ≤ 32 = grind (arith, nat_tests) in
     subst (λ n. levels n ≤ 32) (kind_ok (is_node d) (node_in d) (node_of tree) h).1 (omega (arith, levels_in d))
@@ -78,7 +71,8 @@ origin_ok : (r : Option Origin) (o : Origin) → kind_of r ≡ Ok o → r ≡ So
 origin_ok None o e = absurd cc
 origin_ok (Some p) o e = cc
 
-pub source_root : (r : Result Source TreeFault) (d : Data) → nat_lt 32 (height d) ≡ false → SourceMeets r (kind_of (origin_in d)) → IfOk r (λ source. IsRoot (node_of source.tree))
+pub source_root : (r : Result Source TreeFault) (d : Data) → nat_lt 32 (height d) ≡ false → SourceMeets r (kind_of (origin_in d))
+    → IfOk r (λ source. IsRoot (node_of source.tree))
 source_root (Ok source) d e h =
     let few : height d ≤ 32 = grind (arith, nat_tests) in
     origin_root d (origin_of source) (origin_ok (origin_in d) (origin_of source) h) few
@@ -88,5 +82,6 @@ some_levels : (r : Result Source TreeFault) → IfOk r (λ source. IsRoot (node_
 some_levels (Ok source) h = h.levels
 some_levels (Err fault) h = tt
 
-pub source_levels : (r : Result Source TreeFault) (d : Data) → nat_lt 32 (height d) ≡ false → SourceMeets r (kind_of (origin_in d)) → IfOk r (λ source. levels (node_of source.tree) ≤ 32)
+pub source_levels : (r : Result Source TreeFault) (d : Data) → nat_lt 32 (height d) ≡ false → SourceMeets r (kind_of (origin_in d))
+    → IfOk r (λ source. levels (node_of source.tree) ≤ 32)
 source_levels r d e h = some_levels r (source_root r d e h)

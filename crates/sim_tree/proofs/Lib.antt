@@ -1,3 +1,4 @@
+pub mod Common
 pub mod Heights
 pub mod Ascends
 pub mod Forms

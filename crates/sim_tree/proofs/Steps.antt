@@ -1,8 +1,7 @@
 -- A path, one name after another.
-use Rattle.std.proofs.Common.{◌≡◌, ℕ, Bool, true, false, List, [], ◌∷◌, Option, Some, None, option_and_then, refl, sym, ap, ◌∙◌, if◌then◌else◌}
-use Rattle.std.specs.Str.{bytes_eq}
-use Rattle.sim_tree.specs.Trees.{Node, node, Children, no_children, child, Entry, under, value_of, child_named, at, at_child}
-use Rattle.sim_tree.specs.Paths.{value_at}
+use Rattle.sim_tree.proofs.Common.{at_child, child, child_named, Children, no_children, Node, node, sym, under, value_at, value_of, ◌∙◌}
+use Rattle.sim_tree.proofs.Common.{◌≡◌, ℕ, Bool, true, false, List, [], ◌∷◌, if◌then◌else◌, Some, None, bytes_eq, Option, option_and_then, refl, ap, at}
+use Rattle.sim_tree.specs.Trees.{Entry}
 
 pub at_end : (n : Node) → value_at n [] ≡ value_of n
 at_end (node value mark cs) = refl

@@ -1,12 +1,9 @@
 -- What stands at a node itself, read from JSON: its value and its mark.
-use Rattle.std.specs.Prelude.{ℕ, ◌==◌, not, Bool, List, codes, nat_eq, Option, Some, None, is_some, if◌then◌else◌}
-use Rattle.std.specs.List.{starts_with}
-use Rattle.std.specs.Str.{bytes_eq}
-use Rattle.std.specs.Fmt.{decimal, signed_decimal}
-use Rattle.serde_json.specs.Data.{Num, unsigned, negative, float, Data, null, boolean, number, string, array, object, Members}
-use Rattle.serde_json.specs.Find.{get_member}
+use Rattle.{serde_json.specs.Find.get_member, std.specs.Fmt.decimal, std.specs.Fmt.signed_decimal, std.specs.List.starts_with, std.specs.Str.bytes_eq}
+use Rattle.std.specs.Prelude.{ℕ, Bool, not, List, is_some, if◌then◌else◌, nat_eq, ◌==◌, Some, None, codes, Option}
+use Rattle.serde_json.specs.Data.{array, boolean, Data, float, Members, negative, null, Num, number, object, string, unsigned}
 use Rattle.sim_tree.specs.declared.tree.TreeMark.{TreeMark}
-use Rattle.sim_tree.specs.declared.tree.TreeMark.TheVariants.{Disable, Replace, Merge, Add, Mul, Tokens}
+use Rattle.sim_tree.specs.declared.tree.TreeMark.TheVariants.{Add, Disable, Merge, Mul, Replace, Tokens}
 
 -- a whole number in decimal
 abbrev pub number_text : Num → Option (List ℕ)

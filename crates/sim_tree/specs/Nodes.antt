@@ -1,11 +1,10 @@
 -- The tree that a value of JSON is. A text or a whole number is a node with that value; an object is a node, whose keys
 -- are `_` for its value, those that begin with `@` for its mark, and else the names of its children.
-use Rattle.std.specs.Prelude.{ℕ, ◌+◌, ◌&&◌, Bool, true, false, not, List, [], ◌∷◌, nat_le, Option, Some, None, is_some, if◌then◌else◌}
-use Rattle.serde_json.specs.Data.{Data, null, boolean, number, string, array, object, Members, no_members, member}
+use Rattle.std.specs.Prelude.{ℕ, ◌+◌, Bool, true, false, not, ◌&&◌, List, [], ◌∷◌, is_some, if◌then◌else◌, nat_le, Some, None, Option}
+use Rattle.serde_json.specs.Data.{array, boolean, Data, member, Members, no_members, null, number, object, string}
 use Rattle.sim_base.specs.Names.{is_name}
-use Rattle.sim_tree.specs.declared.tree.TreeMark.{TreeMark}
-use Rattle.sim_tree.specs.Trees.{Node, node, Children, no_children, children_of, bears}
-use Rattle.sim_tree.specs.Leaves.{number_text, is_own_key, is_mark_key, mark_from, own_of, is_plain_member}
+use Rattle.sim_tree.specs.{Trees.bears, Trees.Children, Trees.children_of, Trees.no_children, Trees.Node, Trees.node, declared.tree.TreeMark.TreeMark}
+use Rattle.sim_tree.specs.Leaves.{is_mark_key, is_own_key, is_plain_member, mark_from, number_text, own_of}
 
 -- how many marks an object has
 abbrev pub marks_in : Members → ℕ

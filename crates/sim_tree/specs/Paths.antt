@@ -1,7 +1,6 @@
 -- What is read at a path of a tree.
-use Rattle.std.specs.Prelude.{ℕ, ℤ, List, Option, option_and_then}
-use Rattle.sim_base.specs.NumberText.{number_of}
-use Rattle.sim_tree.specs.Trees.{Node, Entry, at}
+use Rattle.{sim_base.specs.NumberText.number_of, sim_tree.specs.Trees.at, sim_tree.specs.Trees.Entry, sim_tree.specs.Trees.Node}
+use Rattle.std.specs.Prelude.{ℕ, List, ℤ, Option, option_and_then}
 
 -- the value of what stands at a path
 abbrev pub value_at : Node → List (List ℕ) → Option (List ℕ)

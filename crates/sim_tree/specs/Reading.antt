@@ -1,17 +1,10 @@
 -- What reading a tree or a source answers: the first refusal that applies, or else the tree.
-use Rattle.std.specs.Prelude.{◌≡◌, Bool, nat_lt, codes, Option, Some, None, is_some, option_and_then, Result, Ok, Err, if◌then◌else◌, Vec}
+use Rattle.{serde_json.specs.Data.Data, serde_json.specs.Find.get, sim_tree.specs.Walks.has_float, sim_tree.specs.Walks.height}
+use Rattle.std.specs.Prelude.{◌≡◌, Bool, is_some, if◌then◌else◌, nat_lt, Some, None, Ok, Err, codes, Option, Result, Vec, option_and_then}
 use Rattle.std.specs.declared.alloc.Global.{Global}
-use Rattle.serde_json.specs.Data.{Data}
-use Rattle.serde_json.specs.Find.{get}
-use Rattle.sim_tree.specs.declared.tree.Tree.{Tree}
-use Rattle.sim_tree.specs.declared.tree.Child.{Child}
-use Rattle.sim_tree.specs.declared.source.Source.{Source}
-use Rattle.sim_tree.specs.declared.fault.TreeFault.{TreeFault}
-use Rattle.sim_tree.specs.declared.fault.TreeFault.TheVariants.{WrongKind, NotWhole, TooDeep, OutOfMemory}
-use Rattle.sim_tree.specs.Trees.{Node, Children, node_of, nodes_of}
-use Rattle.sim_tree.specs.Walks.{height, has_float}
-use Rattle.sim_tree.specs.Nodes.{has_kind, is_node, node_in}
-use Rattle.sim_tree.specs.Sources.{Origin, origin_of, name_in, origin_in}
+use Rattle.sim_tree.specs.{Nodes.has_kind, Nodes.is_node, Nodes.node_in, declared.source.Source.Source, declared.tree.Child.Child, declared.tree.Tree.Tree}
+use Rattle.sim_tree.specs.{Sources.name_in, Sources.Origin, Sources.origin_in, Sources.origin_of, Trees.Children, Trees.Node, Trees.node_of, Trees.nodes_of}
+use Rattle.sim_tree.specs.declared.fault.TreeFault.{TreeFault, TheVariants.NotWhole, TheVariants.OutOfMemory, TheVariants.TooDeep, TheVariants.WrongKind}
 
 -- what is read, where a test holds
 abbrev pub of_kind : {X : Type 0} → Bool → X → Result X TreeFault

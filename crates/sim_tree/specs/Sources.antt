@@ -1,13 +1,8 @@
 -- The sources of templates. The root of one has its name and perhaps its parent's name, and else children alone.
-use Rattle.std.specs.Prelude.{ℕ, ◌&&◌, ◌||◌, Bool, true, List, codes, Option, Some, None, option_map, option_and_then, if◌then◌else◌}
-use Rattle.std.specs.Str.{bytes_eq}
-use Rattle.serde_json.specs.Data.{Data, Members, no_members, member}
-use Rattle.serde_json.specs.Find.{get, as_str, as_object}
-use Rattle.sim_base.specs.Names.{is_name}
-use Rattle.sim_json.specs.Records.{next_or}
-use Rattle.sim_tree.specs.declared.source.Source.{Source}
-use Rattle.sim_tree.specs.Trees.{Node, node, node_of}
-use Rattle.sim_tree.specs.Nodes.{is_node, is_child_key, children_in}
+use Rattle.{sim_base.specs.Names.is_name, sim_json.specs.Records.next_or, std.specs.Str.bytes_eq}
+use Rattle.std.specs.Prelude.{ℕ, Bool, true, ◌&&◌, ◌||◌, List, if◌then◌else◌, Some, None, codes, Option, option_map, option_and_then}
+use Rattle.serde_json.specs.{Data.Data, Data.member, Data.Members, Data.no_members, Find.as_object, Find.as_str, Find.get}
+use Rattle.sim_tree.specs.{Nodes.children_in, Nodes.is_child_key, Nodes.is_node, Trees.Node, Trees.node, Trees.node_of, declared.source.Source.Source}
 
 -- what a source says: a name, perhaps a parent's name, and a tree
 pub record Origin : Type 0 where

@@ -1,6 +1,6 @@
 -- The words of a text, which stand between spaces.
-use Rattle.std.specs.Prelude.{ℕ, ◌==◌, Bool, true, false, List, [], ◌∷◌, filter, Option, Some, None}
 use Rattle.std.specs.List.{slice_split}
+use Rattle.std.specs.Prelude.{ℕ, Bool, true, false, List, [], ◌∷◌, ◌==◌, Some, None, filter, Option}
 
 -- the byte that stands between words
 abbrev pub is_space : ℕ → Bool

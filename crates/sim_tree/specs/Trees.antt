@@ -1,14 +1,9 @@
 -- Trees by themselves: a node has perhaps a value, at most one mark, and children by name.
-use Rattle.std.specs.Prelude.{ℕ, suc, max, Bool, true, false, ◌&&◌, List, [], ◌∷◌, map, Option, Some, None, is_some, is_none, if◌then◌else◌}
-use Rattle.std.specs.Str.{bytes_eq}
-use Rattle.std.specs.Ordering.{nat_cmp, is_lt}
-use Rattle.std.specs.Cmp.Lexicographic.{slice_cmp}
-use Rattle.sim_tree.specs.declared.tree.TreeMark.{TreeMark}
-use Rattle.sim_tree.specs.declared.tree.TreeMark.TheVariants.{Disable, Replace, Merge, Add, Mul, Tokens}
-use Rattle.sim_tree.specs.declared.tree.Tree.{Tree}
-use Rattle.sim_tree.specs.declared.tree.Child.{Child}
-use Rattle.sim_tree.specs.declared.tree.Child.TheOpen.{Tree-F, Child-F}
-use Rattle.sim_tree.specs.declared.tree.Child.TheFolds.{fold-Tree, fold-Child}
+use Rattle.std.specs.{Cmp.Lexicographic.slice_cmp, Ordering.is_lt, Ordering.nat_cmp, Str.bytes_eq}
+use Rattle.std.specs.Prelude.{ℕ, suc, max, Bool, true, false, ◌&&◌, List, [], ◌∷◌, map, is_some, is_none, if◌then◌else◌, Some, None, Option}
+use Rattle.sim_tree.specs.declared.tree.{Tree.Tree, TreeMark.TreeMark}
+use Rattle.sim_tree.specs.declared.tree.Child.{Child, TheFolds.fold-Child, TheFolds.fold-Tree, TheOpen.Child-F, TheOpen.Tree-F}
+use Rattle.sim_tree.specs.declared.tree.TreeMark.TheVariants.{Add, Disable, Merge, Mul, Replace, Tokens}
 
 mutual
   pub data Node : Type 0 where

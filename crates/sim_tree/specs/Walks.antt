@@ -1,7 +1,7 @@
 -- What is asked of all values within a value of JSON, wherever they stand: on which levels they lie, and whether a number
 -- is not whole.
-use Rattle.std.specs.Prelude.{ℕ, suc, max, ◌||◌, Bool, false}
-use Rattle.serde_json.specs.Data.{Data, null, boolean, number, string, array, object, Items, no_items, item, Members, no_members, member}
+use Rattle.std.specs.Prelude.{ℕ, suc, max, Bool, false, ◌||◌}
+use Rattle.serde_json.specs.Data.{array, boolean, Data, item, Items, member, Members, no_items, no_members, null, number, object, string}
 use Rattle.serde_json.specs.Find.{is_float}
 
 abbrev mutual

@@ -1,18 +1,16 @@
 //! A node of a tree, read from JSON, and those below it. That the value has few levels and whole numbers alone was seen
 //! before.
 
-ghost use Rattle.std.specs.Prelude.{◌≡◌, ◌≢◌, ◌&&◌, nat_le, is_some, true, false, IfOk, Some, None};
-ghost use Rattle.serde_json.specs.View.{view, members_view};
+ghost use Rattle.std.specs.Prelude.{◌≡◌, true, false, ◌&&◌, ◌≢◌, is_some, IfOk, nat_le, Some, None};
+ghost use Rattle.serde_json.specs.View.{members_view, view};
+ghost use Rattle.sim_tree.specs.{Leaves.leaf_text as leaf_text_data, Reading.ChildrenMeet, Reading.of_kind, Reading.TreeMeets};
+ghost use Rattle.sim_tree.specs.Nodes.{are_members, begin_well, children_in, has_kind, is_node, mark_in as mark_in_data, marks_in, node_in};
+ghost use Rattle.sim_tree.specs.Trees.{are_sound, bears as bears_parts, is_sound, no_children, node, node_of, nodes_of};
 ghost use Rattle.sim_tree.specs.declared.tree.TreeMark.TheVariants.{Add, Mul, Tokens};
-ghost use Rattle.sim_tree.specs.Leaves.{leaf_text as leaf_text_data};
-ghost use Rattle.sim_tree.specs.Nodes.{mark_in as mark_in_data, marks_in, has_kind, is_node, node_in, are_members, begin_well, children_in};
-ghost use Rattle.sim_tree.specs.Reading.{TreeMeets, ChildrenMeet, of_kind};
-ghost use Rattle.sim_tree.specs.Trees.{node, no_children, nodes_of, node_of, bears as bears_parts, is_sound, are_sound};
 
-use crate::fault::TreeFault;
 use crate::leaves::{is_child_key, is_mark_key, is_plain_member, leaf_text, mark_from, own};
-use crate::text::Text;
-use crate::tree::{Child, Tree, TreeMark, push_child};
+use crate::tree::push_child;
+use crate::{Child, Text, Tree, TreeFault, TreeMark};
 use serde_json::{Map, Value};
 use sim_base::Name;
 use std::alloc::Global;
@@ -83,7 +81,8 @@ fn finished(
     children: Vec<Child>,
 ) -> Result<Tree, TreeFault>
     ensures tree { TreeMeets result (of_kind
-        (nat_le (marks_in (members_view members.now.entries)) 1 && bears_parts (mark_in_data (members_view members.now.entries)) value (nodes_of children.items))
+        (nat_le (marks_in (members_view members.now.entries)) 1 && bears_parts (mark_in_data (members_view members.now.entries)) value
+        (nodes_of children.items))
         (node value (mark_in_data (members_view members.now.entries)) (nodes_of children.items))) }
     ensures memory { result ≢ Err TreeFault.OutOfMemory }
     ensures sound { are_sound (nodes_of children.items) ≡ true → IfOk result (λ tree. is_sound (node_of tree) ≡ true) }

@@ -1,12 +1,9 @@
 //! What stands at a path of a tree: a value as a text, as a number or as words.
 
 ghost use Rattle.std.specs.Prelude.{◌≡◌, [], IfOk, option_map};
-ghost use Rattle.sim_tree.specs.Paths.{value_at, number_at};
-ghost use Rattle.sim_tree.specs.Tokens.{tokens_in as tokens_in_value};
-ghost use Rattle.sim_tree.specs.Trees.{node_of, value_of};
+ghost use Rattle.sim_tree.specs.{Paths.number_at, Paths.value_at, Tokens.tokens_in as tokens_in_value, Trees.node_of, Trees.value_of};
 
-use crate::tokens::{Names, tokens_in};
-use crate::tree::Tree;
+use crate::{Names, Tree, tokens_in};
 use sim_base::{Fixed, Name, OutOfMemory};
 use std::alloc::Global;
 

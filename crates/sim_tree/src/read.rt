@@ -1,14 +1,12 @@
 //! A tree read from JSON: the three refusals in their order, one walk each.
 
-ghost use Rattle.std.specs.Prelude.{◌≡◌, ◌≤◌, true, IfOk, IfSome};
+ghost use Rattle.std.specs.Prelude.{◌≡◌, ◌≤◌, true, IfSome, IfOk};
 ghost use Rattle.serde_json.specs.View.{view};
-ghost use Rattle.sim_tree.specs.Reading.{TreeMeets, tree_in, early_tree_fault};
-ghost use Rattle.sim_tree.specs.Trees.{node_of, is_sound, levels};
+ghost use Rattle.sim_tree.specs.{Reading.early_tree_fault, Reading.tree_in, Reading.TreeMeets, Trees.is_sound, Trees.levels, Trees.node_of};
 
-use crate::fault::TreeFault;
 use crate::nodes::read_node;
-use crate::tree::Tree;
 use crate::walks::{has_float, lies_beyond};
+use crate::{Tree, TreeFault};
 use serde_json::Value;
 use std::alloc::Global;
 

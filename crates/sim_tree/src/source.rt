@@ -1,12 +1,11 @@
 //! The source of a template: what a match file says of it before its parent's tree is taken into account.
 
-ghost use Rattle.std.specs.Prelude.{◌≡◌, ◌≤◌, true, false, None, codes, IfOk, IfSome, option_map, option_and_then};
-ghost use Rattle.serde_json.specs.Find.{get};
-ghost use Rattle.serde_json.specs.View.{view, members_view};
-ghost use Rattle.sim_tree.specs.Nodes.{children_in};
-ghost use Rattle.sim_tree.specs.Reading.{SourceMeets, ChildrenMeet, of_kind, kind_of, source_in, early_source_fault};
-ghost use Rattle.sim_tree.specs.Sources.{is_root_key as is_root_key_bytes, are_root_members, begin_root, name_in as name_in_data, parent_in as parent_in_data, root_in as root_in_members, origin_in};
-ghost use Rattle.sim_tree.specs.Trees.{node_of, nodes_of, mark_of, value_of, is_sound, are_sound, levels};
+ghost use Rattle.std.specs.Prelude.{◌≡◌, ◌≤◌, true, false, IfSome, IfOk, None, codes, option_and_then};
+ghost use Rattle.serde_json.specs.{Find.get, View.members_view, View.view};
+ghost use Rattle.sim_tree.specs.{Nodes.children_in, Sources.parent_in as parent_in_data, Sources.root_in as root_in_members};
+ghost use Rattle.sim_tree.specs.Reading.{ChildrenMeet, early_source_fault, kind_of, of_kind, source_in, SourceMeets};
+ghost use Rattle.sim_tree.specs.Sources.{are_root_members, begin_root, is_root_key as is_root_key_bytes, name_in as name_in_data, origin_in};
+ghost use Rattle.sim_tree.specs.Trees.{are_sound, is_sound, levels, mark_of, node_of, nodes_of, value_of};
 
 use crate::fault::TreeFault;
 use crate::leaves::is_child_key;

@@ -1,7 +1,7 @@
 //! The words of a text: lists of names stand in a tree as one text with spaces between them.
 
-ghost use Rattle.std.specs.Prelude.{◌≡◌, IfOk, OnOk, ◌++◌, filter, [], ◌∷◌};
-ghost use Rattle.sim_tree.specs.Tokens.{tokens_of, is_word as is_word_of_bytes};
+ghost use Rattle.std.specs.Prelude.{◌≡◌, [], ◌∷◌, ◌++◌, IfOk, OnOk, filter};
+ghost use Rattle.sim_tree.specs.Tokens.{is_word as is_word_of_bytes, tokens_of};
 
 use crate::text::Text;
 use sim_base::{Items, OutOfMemory};

@@ -1,8 +1,8 @@
 //! The tree: each node has perhaps a value, at most one mark, and children by name. A tree without marks is plain; in
 //! a tree that is laid over another one a mark says what becomes of what lies below it.
 
-ghost use Rattle.std.specs.Prelude.{◌≡◌, ◌++◌, ◌∷◌, [], map, IfOk, OnOk, option_map, IsTrue};
-ghost use Rattle.sim_tree.specs.Trees.{node_of, nodes_of, named_of, under, child_named};
+ghost use Rattle.std.specs.Prelude.{◌≡◌, [], ◌∷◌, ◌++◌, map, IfOk, OnOk, option_map};
+ghost use Rattle.sim_tree.specs.Trees.{child_named, named_of, node_of, nodes_of, under};
 
 use crate::text::Text;
 use sim_base::{Name, OutOfMemory};

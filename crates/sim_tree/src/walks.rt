@@ -1,9 +1,9 @@
 //! What is asked of all values within a value before a tree is read of it. A value is not gone into below a level that
 //! is given, so that no recursion here or later goes deeper than the 32 levels of a tree.
 
+ghost use Rattle.{serde_json.specs.View.items_view, serde_json.specs.View.members_view, serde_json.specs.View.view, sim_tree.specs.Walks.members_height};
 ghost use Rattle.std.specs.Prelude.{◌≡◌, nat_lt};
-ghost use Rattle.serde_json.specs.View.{view, items_view, members_view};
-ghost use Rattle.sim_tree.specs.Walks.{height, items_height, members_height, has_float as has_float_data, items_float as items_float_data, members_float as members_float_data};
+ghost use Rattle.sim_tree.specs.Walks.{has_float as has_float_data, height, items_float as items_float_data, items_height, members_float as members_float_data};
 
 use serde_json::{Map, Value};
 

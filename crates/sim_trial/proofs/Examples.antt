@@ -1,8 +1,5 @@
 -- Worked trials, computed from the definitions.
-use Rattle.std.proofs.Common.{◌≡◌, refl, [], ◌∷◌, map, length}
-use Rattle.std.specs.Prelude.{codes}
-use Rattle.std.specs.Fmt.{digits}
-use Rattle.sim_trial.specs.Trial.{word_after, soldiers_text, commands_text, ids_of, groups_of}
+use Rattle.sim_trial.proofs.Common.{◌≡◌, [], ◌∷◌, map, length, codes, refl, commands_text, digits, groups_of, ids_of, soldiers_text, word_after}
 
 words : map (word_after 7) (1 ∷ 2 ∷ []) ≡ 176504327430 ∷ 33146457173913 ∷ []
 words = refl

@@ -1,16 +1,8 @@
 -- Every other soldier is a player's, so that his ids go up by two; and a group of them is a part of that list.
-use Rattle.std.proofs.Common.{◌≡◌, ◌≢◌, ℕ, zero, suc, ◌+◌, ◌-◌, ◌*◌, ◌/◌, ◌%◌, ◌≤◌, min, Bool, true, false, cond, List, [], ◌∷◌, ◌++◌, map, take, drop, refl, sym, ap, ◌∙◌, arith, add-one, append-nil, ◌==◌}
-use Rattle.std.specs.Prelude.{decimal, filter}
-use Rattle.std.specs.List.{range_with_len, join_with_byte}
-use Rattle.std.specs.Int.{div_ceil}
-use Rattle.std.specs.Fork.{slice_chunk}
-use Rattle.std.proofs.lemmas.Bool.{eqb-true, eqb-false, ne_eqb}
-use Rattle.std.proofs.lemmas.List.{take-map, drop-map}
-use Rattle.std.proofs.lemmas.List.Elements.{filter-append}
-use Rattle.std.proofs.lemmas.List.FromFn.{map-range_with_len_more, length-map-range_with_len}
-use Rattle.sim_trial.specs.Trial.{player_of, ids_of, group_size, groups_of, walk_text, walks_of, comma, commands_text}
-use Rattle.sim_trial.specs.Joined.{joined_after}
-use Rattle.sim_trial.specs.Owned.{id_at, ids_between}
+use Rattle.sim_trial.proofs.Common.{filter-append, group_size, groups_of, id_at, ids_between, ids_of, join_with_byte, joined_after, length-map-range_with_len}
+use Rattle.sim_trial.proofs.Common.{map-range_with_len_more, ne_eqb, player_of, range_with_len, slice_chunk, sym, take-map, walk_text, walks_of, ◌∙◌}
+use Rattle.sim_trial.proofs.Common.{◌==◌, decimal, filter, refl, add-one, ap, append-nil, arith, comma, commands_text, div_ceil, drop-map, eqb-false, eqb-true}
+use Rattle.sim_trial.proofs.Common.{◌≡◌, ℕ, zero, suc, ◌+◌, ◌-◌, ◌*◌, ◌/◌, ◌%◌, ◌≤◌, min, Bool, true, false, cond, ◌≢◌, List, [], ◌∷◌, ◌++◌, map, take, drop}
 use Rattle.sim_trial.proofs.Pieces.{join-append}
 
 -- how many of the soldiers are a player's
@@ -66,9 +58,11 @@ ids-is player zero first last = ap (λ (n : ℕ). map (id_at player) (range_with
   where
     none : 0 ≡ owned_by player 0
     none = omega arith
-ids-is player (suc units) first last = ap (ids_of player) (sym (add-one units)) ∙ ids_of-more player units ∙ by (ids-is player units first last) (player_of units == player) refl ∙ ap (λ (n : ℕ). map (id_at player) (range_with_len 0 (owned_by player n))) (add-one units)
+ids-is player (suc units) first last = ap (ids_of player) (sym (add-one units)) ∙ ids_of-more player units ∙ by (ids-is player units first last)
+    (player_of units == player) refl ∙ ap (λ (n : ℕ). map (id_at player) (range_with_len 0 (owned_by player n))) (add-one units)
   where
-    by : ids_of player units ≡ map (id_at player) (range_with_len 0 (owned_by player units)) → (b : Bool) → (player_of units == player) ≡ b → ids_of player units ++ cond b ((units + 2) ∷ []) [] ≡ map (id_at player) (range_with_len 0 (owned_by player (units + 1)))
+    by : ids_of player units ≡ map (id_at player) (range_with_len 0 (owned_by player units)) → (b : Bool) → (player_of units == player) ≡ b
+        → ids_of player units ++ cond b ((units + 2) ∷ []) [] ≡ map (id_at player) (range_with_len 0 (owned_by player (units + 1)))
     by so_far true e =
         let his = eqb-true (player_of units) player e in
         ap (λ (xs : List ℕ). xs ++ (units + 2) ∷ []) so_far
@@ -76,7 +70,8 @@ ids-is player (suc units) first last = ap (ids_of player) (sym (add-one units)) 
         ∙ sym (map-range_with_len_more (id_at player) 0 (owned_by player units) (owned_by player units) (omega arith))
         ∙ ap (λ (n : ℕ). map (id_at player) (range_with_len 0 n)) (sym (owned_by-his player units his))
     by so_far false e =
-        append-nil _ ∙ so_far ∙ ap (λ (n : ℕ). map (id_at player) (range_with_len 0 n)) (sym (owned_by-other player units first last (eqb-false (player_of units) player e)))
+        append-nil _ ∙ so_far ∙ ap (λ (n : ℕ). map (id_at player) (range_with_len 0 n))
+        (sym (owned_by-other player units first last (eqb-false (player_of units) player e)))
 
 -- ---- a group of numbers that follow one another
 
@@ -114,11 +109,13 @@ take-range (suc k) a (suc n) = ap (λ (xs : List ℕ). a ∷ xs) (take-range k (
     count : suc (min k n) ≡ min (suc k) (suc n)
     count = omega arith
 
-chunk-is : (player owned group : ℕ) → slice_chunk (map (id_at player) (range_with_len 0 owned)) group_size group ≡ ids_between player (group * 256) (min owned (group * 256 + 256))
+chunk-is : (player owned group : ℕ) → slice_chunk (map (id_at player) (range_with_len 0 owned)) group_size group ≡ ids_between player (group * 256)
+    (min owned (group * 256 + 256))
 chunk-is player owned group =
     ap (take 256) (drop-map (id_at player) (group * 256) (range_with_len 0 owned))
     ∙ take-map (id_at player) 256 (drop (group * 256) (range_with_len 0 owned))
-    ∙ ap (map (id_at player)) (ap (take 256) (drop-range (group * 256) 0 owned) ∙ take-range 256 (0 + group * 256) (owned - group * 256) ∙ ap (λ (from : ℕ). range_with_len from (min 256 (owned - group * 256))) start ∙ ap (range_with_len (group * 256)) count)
+    ∙ ap (map (id_at player)) (ap (take 256) (drop-range (group * 256) 0 owned) ∙ take-range 256 (0 + group * 256) (owned - group * 256) ∙
+    ap (λ (from : ℕ). range_with_len from (min 256 (owned - group * 256))) start ∙ ap (range_with_len (group * 256)) count)
   where
     start : 0 + group * 256 ≡ group * 256
     start = omega arith
@@ -135,7 +132,8 @@ map-same f g same [] = refl
 map-same f g same (x ∷ xs) = ap (λ (y : _). y ∷ map f xs) (same x) ∙ ap (λ (ys : List _). g x ∷ ys) (map-same f g same xs)
 
 -- ids as texts, by their places
-pub id_texts-is : (player from to : ℕ) → map decimal (ids_between player from to) ≡ map (λ place. decimal (id_at player place)) (range_with_len from (to - from))
+pub id_texts-is : (player from to : ℕ) → map decimal (ids_between player from to) ≡ map (λ place. decimal (id_at player place))
+    (range_with_len from (to - from))
 id_texts-is player from to = map-map decimal (id_at player) (range_with_len from (to - from))
 
 -- the command for one group
@@ -143,17 +141,20 @@ abbrev pub group_walk : ℕ → ℕ → ℕ → List ℕ
 group_walk player owned group = walk_text player (ids_between player (group * 256) (min owned (group * 256 + 256)))
 
 -- the commands of a player, group by group
-pub walks_of-is : (player units : ℕ) → 1 ≤ player → player ≤ 2 → walks_of player units ≡ map (group_walk player (owned_by player units)) (range_with_len 0 (div_ceil (owned_by player units) 256))
+pub walks_of-is : (player units : ℕ) → 1 ≤ player → player ≤ 2 → walks_of player units ≡ map (group_walk player (owned_by player units))
+    (range_with_len 0 (div_ceil (owned_by player units) 256))
 walks_of-is player units first last =
     let owned = owned_by player units in
     let ids : List ℕ = map (id_at player) (range_with_len 0 owned) in
     ap (λ (xs : List ℕ). map (walk_text player) (groups_of xs)) (ids-is player units first last)
-    ∙ ap (λ (n : ℕ). map (walk_text player) (map (slice_chunk ids group_size) (range_with_len 0 (div_ceil n 256)))) (length-map-range_with_len (id_at player) 0 owned)
+    ∙ ap (λ (n : ℕ). map (walk_text player) (map (slice_chunk ids group_size) (range_with_len 0 (div_ceil n 256))))
+    (length-map-range_with_len (id_at player) 0 owned)
     ∙ map-map (walk_text player) (slice_chunk ids group_size) (range_with_len 0 (div_ceil owned 256))
     ∙ map-same _ (group_walk player owned) (λ group. ap (walk_text player) (chunk-is player owned group)) (range_with_len 0 (div_ceil owned 256))
 
 -- player 1 has a command, and those of player 2 stand behind it
-pub both_walk : (units turns : ℕ) → 1 ≤ units → turns ≢ 0 → joined_after false (walks_of 1 units) ++ joined_after true (walks_of 2 units) ≡ commands_text units turns
+pub both_walk : (units turns : ℕ) → 1 ≤ units → turns ≢ 0 → joined_after false (walks_of 1 units) ++ joined_after true (walks_of 2 units) ≡ commands_text units
+    turns
 both_walk units turns some played =
     ap (λ (xs : List (List ℕ)). joined_after false xs ++ joined_after true (walks_of 2 units)) first_is
     ∙ join-append _ _ (walks_of 2 units)

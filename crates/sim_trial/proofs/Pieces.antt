@@ -1,12 +1,7 @@
 -- Pieces of a list, one of which is added to those before it.
-use Rattle.std.proofs.Common.{◌≡◌, ℕ, suc, ◌+◌, Bool, true, false, ◌||◌, List, [], ◌∷◌, ◌++◌, map, length, refl, sym, ap, ◌∙◌, arith, append-nil, append_assoc}
-use Rattle.std.specs.Prelude.{nat_lt}
-use Rattle.std.specs.List.{range_with_len, join_with_byte}
-use Rattle.std.proofs.lemmas.List.FromFn.{map-range_with_len_more, length-map-range_with_len}
-use Rattle.std.proofs.lemmas.List.Concat.{flat_map-append}
-use Rattle.std.proofs.lemmas.Bool.{lt-ltb}
-use Rattle.sim_trial.specs.Trial.{comma}
-use Rattle.sim_trial.specs.Joined.{comma_after, joined_after}
+use Rattle.sim_trial.proofs.Common.{arith, comma, comma_after, flat_map-append, join_with_byte, joined_after, length-map-range_with_len, lt-ltb}
+use Rattle.sim_trial.proofs.Common.{map-range_with_len_more, range_with_len, sym, ◌∙◌}
+use Rattle.sim_trial.proofs.Common.{◌≡◌, ℕ, suc, ◌+◌, Bool, true, false, ◌||◌, List, [], ◌∷◌, ◌++◌, map, length, nat_lt, refl, ap, append-nil, append_assoc}
 
 -- the first piece has no comma before it
 join-first : (x : List ℕ) (xs : List (List ℕ)) → join_with_byte comma (x ∷ xs) ≡ x ++ joined_after true xs
@@ -22,7 +17,8 @@ join-append x xs ys =
     ∙ sym (join-first x (xs ++ ys))
 
 -- one piece more, with a comma where a piece stands before
-joined_after-more : (begun : Bool) (xs : List (List ℕ)) (y : List ℕ) → joined_after begun (xs ++ y ∷ []) ≡ joined_after begun xs ++ (comma_after (begun || nat_lt 0 (length xs)) ++ y)
+joined_after-more : (begun : Bool) (xs : List (List ℕ)) (y : List ℕ) → joined_after begun (xs ++ y ∷ []) ≡ joined_after begun xs ++
+    (comma_after (begun || nat_lt 0 (length xs)) ++ y)
 joined_after-more true xs y =
     flat_map-append (λ (piece : List ℕ). comma ∷ piece) xs (y ∷ [])
     ∙ ap (λ (zs : List ℕ). joined_after true xs ++ (comma ∷ zs)) (append-nil y)
@@ -37,7 +33,9 @@ pub appended : (old x y mid new : List ℕ) → mid ≡ old ++ x → new ≡ mid
 appended old x y mid new first second = second ∙ ap (λ (xs : List ℕ). xs ++ y) first ∙ append_assoc old x y
 
 -- a loop that adds the pieces of a function one by one
-pub pieces_more : (begun : Bool) (f : ℕ → List ℕ) (a n j : ℕ) → a + n ≡ j → (old before with_comma after : List ℕ) (more : Bool) → before ≡ old ++ joined_after begun (map f (range_with_len a n)) → more ≡ (begun || nat_lt 0 n) → with_comma ≡ before ++ comma_after more → after ≡ with_comma ++ f j → after ≡ old ++ joined_after begun (map f (range_with_len a (n + 1)))
+pub pieces_more : (begun : Bool) (f : ℕ → List ℕ) (a n j : ℕ) → a + n ≡ j → (old before with_comma after : List ℕ) (more : Bool)
+    → before ≡ old ++ joined_after begun (map f (range_with_len a n)) → more ≡ (begun || nat_lt 0 n) → with_comma ≡ before ++ comma_after more
+    → after ≡ with_comma ++ f j → after ≡ old ++ joined_after begun (map f (range_with_len a (n + 1)))
 pieces_more begun f a n j place old before with_comma after more so_far counted then_comma then_piece =
     let pieces = map f (range_with_len a n) in
     let more_is : comma_after more ≡ comma_after (begun || nat_lt 0 (length pieces)) =
@@ -46,5 +44,6 @@ pieces_more begun f a n j place old before with_comma after more so_far counted 
     ap (λ (c : List ℕ). joined_after begun pieces ++ (c ++ f j)) more_is
     ∙ sym (joined_after-more begun pieces (f j))
     ∙ ap (joined_after begun) (sym (map-range_with_len_more f a n j place)) in
-    appended old (joined_after begun pieces) (comma_after more ++ f j) before after so_far (appended before (comma_after more) (f j) with_comma after then_comma then_piece)
+    appended old (joined_after begun pieces) (comma_after more ++ f j) before after so_far
+    (appended before (comma_after more) (f j) with_comma after then_comma then_piece)
     ∙ ap (λ (xs : List ℕ). old ++ xs) added

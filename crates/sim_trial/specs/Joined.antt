@@ -1,6 +1,5 @@
 -- Pieces of a list that go to a text one by one, with a comma between each two.
-use Rattle.std.specs.Prelude.{ℕ, Bool, true, false, List, [], ◌∷◌, flat_map}
-use Rattle.std.specs.List.{join_with_byte}
+use Rattle.std.specs.{List.join_with_byte, Prelude.ℕ, Prelude.Bool, Prelude.true, Prelude.false, Prelude.List, Prelude.[], Prelude.◌∷◌, Prelude.flat_map}
 use Rattle.sim_trial.specs.Trial.{comma}
 
 -- a comma, where a piece stands before

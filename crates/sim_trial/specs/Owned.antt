@@ -1,6 +1,5 @@
 -- The soldiers of one player, counted from 0 among his own.
-use Rattle.std.specs.Prelude.{ℕ, ◌+◌, ◌-◌, ◌*◌, List, map}
-use Rattle.std.specs.List.{range_with_len}
+use Rattle.std.specs.{List.range_with_len, Prelude.ℕ, Prelude.◌+◌, Prelude.◌-◌, Prelude.◌*◌, Prelude.List, Prelude.map}
 
 -- the id of one of them, since every other id is his, from 2 or 3 on
 abbrev pub id_at : ℕ → ℕ → ℕ

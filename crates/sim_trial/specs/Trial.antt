@@ -1,9 +1,7 @@
 -- The match of a trial as a text in JSON. Two players are each other's enemies on a ground of 128 by 128 cells, which a
 -- wall with three gaps halves. The soldiers stand where the random word puts them, and walk to the middle.
-use Rattle.std.specs.Prelude.{ℕ, Bool, ◌&&◌, nat_le, zero, suc, ◌+◌, ◌-◌, ◌*◌, ◌/◌, ◌%◌, ◌^◌, ◌<◌, ◌≤◌, ◌==◌, List, [], ◌++◌, length, map, filter, if◌then◌else◌, codes, decimal}
-use Rattle.std.specs.List.{range_with_len, join_with_byte}
-use Rattle.std.specs.Int.{div_ceil}
-use Rattle.std.specs.Fork.{slice_chunk}
+use Rattle.std.specs.{Fork.slice_chunk, Int.div_ceil, List.join_with_byte, List.range_with_len, Prelude.decimal, Prelude.filter}
+use Rattle.std.specs.Prelude.{ℕ, zero, suc, ◌+◌, ◌-◌, ◌*◌, ◌/◌, ◌%◌, ◌^◌, ◌<◌, ◌≤◌, Bool, ◌&&◌, List, [], ◌++◌, map, length, if◌then◌else◌, nat_le, ◌==◌, codes}
 use Rattle.sim_base.specs.Numbers.{next_word}
 
 -- the limits of a trial: nine digits for the seed, and so many soldiers and turns

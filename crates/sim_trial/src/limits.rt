@@ -1,7 +1,7 @@
 //! The limits of a trial, which keep its file far below the longest that is read.
 
 ghost use Rattle.std.specs.Prelude.{◌≡◌, ◌↔◌, IsTrue};
-ghost use Rattle.sim_trial.specs.Trial.{IsTrial, is_trial as is_trial_of};
+ghost use Rattle.sim_trial.specs.Trial.{is_trial as is_trial_of, IsTrial};
 
 /// The greatest seed of a trial, which has nine digits.
 pub const MAX_SEED: u64 = 999_999_999;

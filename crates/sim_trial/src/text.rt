@@ -1,7 +1,7 @@
 //! The whole file of a trial, in one line without spaces.
 
 ghost use Rattle.std.specs.Prelude.{◌≡◌, ◌++◌, IfOk, OnOk, string_bytes};
-ghost use Rattle.sim_trial.specs.Trial.{IsTrial, text_of_trial, rules_text, ground_text, template_text};
+ghost use Rattle.sim_trial.specs.Trial.{ground_text, IsTrial, rules_text, template_text, text_of_trial};
 
 use crate::soldiers::push_soldiers;
 use crate::walks::push_commands;

@@ -1,11 +1,8 @@
 //! The orders of a trial: in the first turn each player sends all of his soldiers to the middle of the ground, in groups
 //! that a command has room for.
 
-ghost use Rattle.std.specs.Prelude.{◌≡◌, ◌++◌, ◌≤◌, map, OnOk, string_bytes, decimal};
-ghost use Rattle.std.specs.List.{join_with_byte};
-ghost use Rattle.sim_trial.specs.Trial.{comma, walks_of, walk_text, commands_text};
-ghost use Rattle.sim_trial.specs.Joined.{joined_after};
-ghost use Rattle.sim_trial.specs.Owned.{id_at, ids_between};
+ghost use Rattle.std.specs.{List.join_with_byte, Prelude.◌≡◌, Prelude.◌≤◌, Prelude.◌++◌, Prelude.map, Prelude.OnOk, Prelude.string_bytes, Prelude.decimal};
+ghost use Rattle.sim_trial.specs.{Joined.joined_after, Owned.id_at, Owned.ids_between, Trial.comma, Trial.commands_text, Trial.walk_text, Trial.walks_of};
 
 use crate::comma::push_comma;
 use sim_base::OutOfMemory;

@@ -1,35 +1,32 @@
 -- Turns are counted, and players of the match give the commands.
-use Rattle.std.proofs.Common.{◌≡◌, ℕ, ◌+◌, ◌<◌, List, [], length, get_or, map, fold, Result, Ok, Err, sym, ap, ◌∙◌, subst, arith, All}
-use Rattle.std.specs.Prelude.{OnOk}
-use Rattle.std.proofs.lemmas.List.{get_or-map, length-map}
-use Rattle.sim_base.specs.declared.command.PlayerCommand.{PlayerCommand}
-use Rattle.sim_base.specs.declared.setup.Setup.{Setup}
-use Rattle.sim_base.specs.declared.state.State.{State}
-use Rattle.sim_base.specs.Commands.{commanded}
-use Rattle.sim_base.specs.Limits.{IsSetup}
-use Rattle.sim_base.specs.Validity.{IsValid}
-use Rattle.sim_base.specs.Turn.{turn, Turn, orders_at}
-use Rattle.sim_laws.specs.CommandLaws.{IsOrderOf}
-use Rattle.sim_laws.proofs.Turning.{turn_is_counted, turn_keeps_valid, own_turns_are_of_players}
+use Rattle.{sim_laws.proofs.Turning.own_turns_are_of_players, std.proofs.Common.Ok, std.proofs.Common.Err, std.proofs.Common.Result, std.specs.Prelude.OnOk}
+use Rattle.sim_base.specs.{Limits.IsSetup, Turn.Turn, declared.command.PlayerCommand.PlayerCommand}
+use Rattle.sim_turn.proofs.Common.{orders_at, Setup, State, subst, sym, turn, turn_is_counted, turn_keeps_valid, ◌∙◌}
+use Rattle.sim_turn.proofs.Common.{◌≡◌, ℕ, ◌+◌, ◌<◌, List, [], map, length, get_or, fold, All, ap, arith, commanded, get_or-map, IsOrderOf, IsValid, length-map}
 
 -- commands are no turn
 pub orders_keep_turn : (setup : Setup) (state : State) (orders : List PlayerCommand) → (fold (commanded setup) state orders).turn ≡ state.turn
 orders_keep_turn setup state orders =
-    let e : (fold (commanded setup) state orders).turn + 1 ≡ state.turn + 1 = sym (turn_is_counted setup (fold (commanded setup) state orders) []) ∙ turn_is_counted setup state orders in
+    let e : (fold (commanded setup) state orders).turn + 1 ≡ state.turn + 1 = sym (turn_is_counted setup (fold (commanded setup) state orders) []) ∙
+    turn_is_counted setup state orders in
     omega (arith, e)
 
 -- a state at the same turn is below the last one too
-pub still_below : (setup setup' : Setup) (state state' : State) → setup' ≡ setup → state'.turn ≡ state.turn → state.turn < setup.turns → state'.turn < setup'.turns
+pub still_below : (setup setup' : Setup) (state state' : State) → setup' ≡ setup → state'.turn ≡ state.turn → state.turn < setup.turns
+    → state'.turn < setup'.turns
 still_below setup setup' state state' e f lt = let g : setup'.turns ≡ setup.turns = ap (λ (s : Setup). s.turns) e in omega (arith, f, g, lt)
 
 -- the phases behind the commands give the turn
-pub joined : (setup setup' : Setup) (state middle new : State) (orders : List PlayerCommand) → setup' ≡ setup → middle ≡ fold (commanded setup) state orders → new ≡ turn setup' middle [] →
+pub joined : (setup setup' : Setup) (state middle new : State) (orders : List PlayerCommand) → setup' ≡ setup → middle ≡ fold (commanded setup) state orders
+    → new ≡ turn setup' middle [] →
     new ≡ turn setup state orders
 joined setup setup' state middle new orders e f g = g ∙ ap (λ (s : Setup). turn s middle []) e ∙ ap (λ (s : State). turn setup s []) f
 
 -- and it is valid
-pub joined_valid : {X E : Type 0} (r : Result X E) (setup setup' : Setup) (state middle new : State) (orders : List PlayerCommand) → setup' ≡ setup → middle ≡ fold (commanded setup) state orders →
-    IsSetup setup → All (IsOrderOf setup) orders → IsValid setup state → state.turn < setup.turns → OnOk r (new ≡ turn setup' middle []) → OnOk r (IsValid setup new)
+pub joined_valid : {X E : Type 0} (r : Result X E) (setup setup' : Setup) (state middle new : State) (orders : List PlayerCommand) → setup' ≡ setup
+    → middle ≡ fold (commanded setup) state orders →
+    IsSetup setup → All (IsOrderOf setup) orders → IsValid setup state → state.turn < setup.turns → OnOk r (new ≡ turn setup' middle [])
+    → OnOk r (IsValid setup new)
 joined_valid (Ok x) setup setup' state middle new orders e f limits players valid below g =
     subst (IsValid setup) (sym (joined setup setup' state middle new orders e f g)) (turn_keeps_valid setup state orders limits players valid below)
 joined_valid (Err x) setup setup' state middle new orders e f limits players valid below g = tt

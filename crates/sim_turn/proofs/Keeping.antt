@@ -1,7 +1,5 @@
 -- Systems that are kept twice are kept.
-use Rattle.std.proofs.Common.{◌∙◌}
-use Rattle.sim_system.specs.Meanings.{Systems}
-use Rattle.sim_board.specs.BoardWords.{AreKept}
+use Rattle.{sim_system.specs.Meanings.Systems, sim_turn.proofs.Common.AreKept, sim_turn.proofs.Common.◌∙◌}
 
 pub kept_on : (s t u : Systems) → AreKept s t → AreKept t u → AreKept s u
 kept_on s t u first second =

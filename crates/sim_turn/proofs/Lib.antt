@@ -1,3 +1,4 @@
+pub mod Common
 mod Counting
 mod Keeping
 mod Resting

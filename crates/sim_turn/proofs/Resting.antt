@@ -1,27 +1,14 @@
 -- A state whose rows all rest goes through the phases as it is.
-use Rattle.std.proofs.Common.{◌≡◌, ℕ, ℤ, Bool, true, false, cond, List, [], ◌∷◌, ◌++◌, fold, map, flat_map, filter, Option, Some, None, refl, sym, ap, ◌∙◌}
-use Rattle.std.specs.List.{list_all}
-use Rattle.std.proofs.lemmas.Bool.{true≢false, not-true, and_parts}
-use Rattle.std.proofs.lemmas.List.Concat.{flat_map-cons}
-use Rattle.sim_base.specs.declared.setup.Setup.{Setup}
-use Rattle.sim_base.specs.declared.state.Motion.{Motion}
-use Rattle.sim_base.specs.declared.state.Aim.{Aim}
-use Rattle.sim_base.specs.declared.state.Row.{Row}
-use Rattle.sim_base.specs.declared.state.State.{State}
-use Rattle.sim_base.specs.declared.change.Change.{Change}
-use Rattle.sim_base.specs.declared.change.Change.TheVariants.{Word}
-use Rattle.sim_base.specs.Rows.{id_of, row_of, target_of, speed_of, arms_of}
-use Rattle.sim_base.specs.Changes.{removed, applied_all}
-use Rattle.sim_base.specs.Aim.{lets_go, is_idle, aimed}
-use Rattle.sim_base.specs.Move.{moved}
-use Rattle.sim_base.specs.Hit.{Hit, Hitting, fights, hitting, taken_from, is_spent, hit, gone}
-use Rattle.sim_base.specs.Validity.{IsLooselyValid}
-use Rattle.sim_plans.specs.RowPlans.{target_changes, halt_changes}
-use Rattle.sim_plans.specs.Plans.{next_target, aim_changes_by, aim_changes_of, move_changes_by, move_changes_of, fight_changes_by, fight_changes_of, hurt_changes_by, hurt_changes_of, hit_plan}
-use Rattle.sim_plans.proofs.AimPlan.{aim_plan_is}
-use Rattle.sim_plans.proofs.MovePlan.{move_plan_is}
-use Rattle.sim_plans.proofs.HitPlan.{hit_plan_is}
-use Rattle.sim_turn.specs.Resting.{is_resting_by, is_resting}
+use Rattle.std.proofs.Common.{Bool, cond, ◌++◌, ℤ, Some, None, flat_map, Option}
+use Rattle.std.proofs.lemmas.{Bool.and_parts, Bool.not-true, Bool.true≢false, List.Concat.flat_map-cons}
+use Rattle.sim_base.specs.{Aim.is_idle, Aim.lets_go, Rows.arms_of, Rows.id_of, Rows.row_of, Rows.speed_of, Rows.target_of, Validity.IsLooselyValid}
+use Rattle.sim_base.specs.{Changes.applied_all, Changes.removed, Hit.fights, Hit.gone, Hit.Hit, Hit.Hitting, Hit.hitting, Hit.is_spent, Hit.taken_from}
+use Rattle.sim_base.specs.declared.{change.Change.Change, change.Change.TheVariants.Word, state.Aim.Aim, state.Motion.Motion, state.Row.Row}
+use Rattle.sim_plans.proofs.{AimPlan.aim_plan_is, HitPlan.hit_plan_is, MovePlan.move_plan_is}
+use Rattle.sim_plans.specs.{Plans.move_changes_by, Plans.move_changes_of, Plans.next_target, RowPlans.halt_changes, RowPlans.target_changes}
+use Rattle.sim_plans.specs.Plans.{aim_changes_by, aim_changes_of, fight_changes_by, fight_changes_of, hit_plan, hurt_changes_by, hurt_changes_of}
+use Rattle.sim_turn.{proofs.Common.◌∙◌, specs.Resting.is_resting_by}
+use Rattle.sim_turn.proofs.Common.{◌≡◌, ℕ, true, false, List, [], ◌∷◌, map, fold, filter, refl, aimed, ap, hit, is_resting, list_all, moved, Setup, State, sym}
 
 -- what is known of a row that rests
 record Rests (row : Row) : Type 0 where
@@ -72,7 +59,8 @@ module _ (setup : Setup) (state : State) where
 
       by : (b : Bool) → aim_changes_by b false target row ≡ []
       by true =
-          ap (λ (a : Option Aim). target_changes target row.id a ++ halt_changes row.id row.motion) r.attack ∙ ap (λ (m : Option Motion). halt_changes row.id m) r.motion
+          ap (λ (a : Option Aim). target_changes target row.id a ++ halt_changes row.id row.motion) r.attack ∙ ap (λ (m : Option Motion). halt_changes row.id m)
+          r.motion
       by false = refl
 
   goes_nowhere : (row : Row) → Rests row → move_changes_of setup state row ≡ []
@@ -105,14 +93,19 @@ module _ (setup : Setup) (state : State) where
     hits_nobody =
         let same = none_hit state.rows e (record { rows = []; word = state.word; hits = [] }) in
         let done = hitting setup state in
-        ap (λ (cs : List Change). cs ++ Word done.word ∷ flat_map (hurt_changes_of done.hits) state.rows) (nothing (fight_changes_of setup state) fights_nobody state.rows e) ∙
-        ap (λ (w : ℕ). Word w ∷ flat_map (hurt_changes_of done.hits) state.rows) same.word ∙ ap (λ (hs : List Hit). Word state.word ∷ flat_map (hurt_changes_of hs) state.rows) same.hits ∙
+        ap (λ (cs : List Change). cs ++ Word done.word ∷ flat_map (hurt_changes_of done.hits) state.rows)
+        (nothing (fight_changes_of setup state) fights_nobody state.rows e) ∙
+        ap (λ (w : ℕ). Word w ∷ flat_map (hurt_changes_of done.hits) state.rows) same.word ∙
+        ap (λ (hs : List Hit). Word state.word ∷ flat_map (hurt_changes_of hs) state.rows) same.hits ∙
         ap (λ (cs : List Change). Word state.word ∷ cs) (nothing (hurt_changes_of []) (λ row r. not_hurt row) state.rows e)
 
     pub nobody_acts : IsLooselyValid setup state → state ≡ gone (hit setup (moved setup (aimed setup state)))
     nobody_acts valid =
-        let aims : aimed setup state ≡ state = sym (aim_plan_is setup state valid).give ∙ ap (applied_all setup state) (nothing (aim_changes_of setup state) aims_nowhere state.rows e) in
-        let moves : moved setup state ≡ state = sym (move_plan_is setup state valid).give ∙ ap (applied_all setup state) (nothing (move_changes_of setup state) goes_nowhere state.rows e) in
+        let aims : aimed setup state ≡ state = sym (aim_plan_is setup state valid).give ∙
+        ap (applied_all setup state) (nothing (aim_changes_of setup state) aims_nowhere state.rows e) in
+        let moves : moved setup state ≡ state = sym (move_plan_is setup state valid).give ∙
+        ap (applied_all setup state) (nothing (move_changes_of setup state) goes_nowhere state.rows e) in
         let hits : hit setup state ≡ state = sym (hit_plan_is setup state valid).give ∙ ap (applied_all setup state) hits_nobody in
-        let goes : gone state ≡ state = ap (λ (rows : List Row). fold (λ (s : State) (id : ℕ). removed id s) state (map id_of rows)) (none_spent state.rows e) in
+        let goes : gone state ≡ state = ap (λ (rows : List Row). fold (λ (s : State) (id : ℕ). removed id s) state (map id_of rows))
+        (none_spent state.rows e) in
         sym (ap (λ (s : State). gone (hit setup (moved setup s))) aims ∙ ap (λ (s : State). gone (hit setup s)) moves ∙ ap gone hits ∙ goes)

@@ -1,18 +1,18 @@
 -- The commands of a turn stand together in a list that ascends by turns.
-use Rattle.std.proofs.Common.{◌≡◌, ℕ, zero, suc, ◌+◌, ◌-◌, ◌<◌, ◌≤◌, true, false, List, [], ◌∷◌, length, take, drop, get_or, map, refl, ap, inl, inr, arith}
-use Rattle.std.specs.Prelude.{◌==◌, filter, nat_lt}
-use Rattle.std.specs.List.Sorted.{IsNonDecreasing, IsNonDecreasingBy, IsPartitionPoint}
-use Rattle.std.proofs.lemmas.Bool.{eq-eqb, ne_eqb, cases_lt, ltb-true, ltb-false}
-use Rattle.std.proofs.lemmas.List.{get_or-map, length-map}
+use Rattle.std.proofs.Common.{zero, drop, inl, inr}
+use Rattle.std.proofs.lemmas.Bool.{cases_lt, eq-eqb, ltb-false, ltb-true, ne_eqb}
+use Rattle.std.specs.{List.Sorted.IsNonDecreasing, List.Sorted.IsNonDecreasingBy, List.Sorted.IsPartitionPoint, Prelude.◌==◌}
 use Rattle.sim_base.specs.declared.command.Command.TheVariants.{Resign}
-use Rattle.sim_base.specs.declared.setup.Timed.{Timed}
+use Rattle.sim_turn.proofs.Common.{get_or-map, length-map, Timed}
+use Rattle.sim_turn.proofs.Common.{◌≡◌, ℕ, suc, ◌+◌, ◌-◌, ◌<◌, ◌≤◌, true, false, List, [], ◌∷◌, map, length, get_or, take, nat_lt, filter, refl, ap, arith}
 
 abbrev turn_of : Timed → ℕ
 turn_of timed = timed.turn
 
 -- those of a turn are so many behind those before it
 stretch : (t : ℕ) (timeds : List Timed) (first count : ℕ) → first + count ≤ length timeds → ((k : ℕ) (d : Timed) → k < first → (get_or timeds k d).turn < t) →
-    ((k : ℕ) (d : Timed) → first ≤ k → k < first + count → (get_or timeds k d).turn ≡ t) → ((k : ℕ) (d : Timed) → first + count ≤ k → k < length timeds → t < (get_or timeds k d).turn) →
+    ((k : ℕ) (d : Timed) → first ≤ k → k < first + count → (get_or timeds k d).turn ≡ t)
+    → ((k : ℕ) (d : Timed) → first + count ≤ k → k < length timeds → t < (get_or timeds k d).turn) →
     filter (λ (timed : Timed). timed.turn == t) timeds ≡ take count (drop first timeds)
 stretch t [] zero zero within before here behind = refl
 stretch t [] zero (suc n) within before here behind = absurd (omega (arith, within))
@@ -20,7 +20,8 @@ stretch t [] (suc f) n within before here behind = absurd (omega (arith, within)
 stretch t (x ∷ xs) zero zero within before here behind =
     let later : t < x.turn = behind 0 x (omega arith) (omega arith) in
     let away : (x.turn == t) ≡ false = ne_eqb x.turn t (λ e. omega (arith, later, e)) in
-    rw away (stretch t xs zero zero (omega arith) (λ k d lt. absurd (omega (arith, lt))) (λ k d le lt. absurd (omega (arith, lt))) (λ k d le lt. behind (suc k) d (omega arith) (omega (arith, lt))))
+    rw away (stretch t xs zero zero (omega arith) (λ k d lt. absurd (omega (arith, lt))) (λ k d le lt. absurd (omega (arith, lt)))
+    (λ k d le lt. behind (suc k) d (omega arith) (omega (arith, lt))))
 stretch t (x ∷ xs) zero (suc n) within before here behind =
     let now : (x.turn == t) ≡ true = eq-eqb x.turn t (here 0 x (omega arith) (omega arith)) in
     rw now (ap (λ (ys : List Timed). x ∷ ys)
@@ -29,7 +30,8 @@ stretch t (x ∷ xs) zero (suc n) within before here behind =
 stretch t (x ∷ xs) (suc f) n within before here behind =
     let sooner : x.turn < t = before 0 x (omega arith) in
     let away : (x.turn == t) ≡ false = ne_eqb x.turn t (λ e. omega (arith, sooner, e)) in
-    rw away (stretch t xs f n (omega (arith, within)) (λ k d lt. before (suc k) d (omega (arith, lt))) (λ k d le lt. here (suc k) d (omega (arith, le)) (omega (arith, lt)))
+    rw away (stretch t xs f n (omega (arith, within)) (λ k d lt. before (suc k) d (omega (arith, lt)))
+    (λ k d le lt. here (suc k) d (omega (arith, le)) (omega (arith, lt)))
     (λ k d le lt. behind (suc k) d (omega (arith, le)) (omega (arith, lt))))
 
 -- commands that ascend by their turns
@@ -51,7 +53,8 @@ module _ (timeds : List Timed) (t first end : ℕ) (within : end ≤ length time
   pub in_order : first ≤ length timeds → first ≤ end
   in_order inside = elim (cases_lt end first) [
     | inl lt ↦ (let less = ltb-true (get_or timeds end no_timed).turn t (before.0 end no_timed (omega arith) lt) in
-        let more = ltb-false (get_or timeds end no_timed).turn (t + 1) (past.1 end no_timed (omega arith) (omega (arith, lt, inside))) in absurd (omega (arith, less, more)))
+        let more = ltb-false (get_or timeds end no_timed).turn (t + 1) (past.1 end no_timed (omega arith) (omega (arith, lt, inside))) in
+        absurd (omega (arith, less, more)))
     | inr ge ↦ ge
   ]
 

@@ -1,9 +1,6 @@
 -- Rows that go through a turn as they are.
-use Rattle.std.specs.Prelude.{Bool, false, not, ℤ, Option, Some, None}
-use Rattle.sim_base.specs.declared.state.Motion.{Motion}
-use Rattle.sim_base.specs.declared.state.Aim.{Aim}
-use Rattle.sim_base.specs.declared.state.Row.{Row}
-use Rattle.sim_base.specs.Hit.{is_spent}
+use Rattle.std.specs.Prelude.{Bool, false, not, ℤ, Some, None, Option}
+use Rattle.sim_base.specs.{Hit.is_spent, declared.state.Aim.Aim, declared.state.Motion.Motion, declared.state.Row.Row}
 
 abbrev pub is_resting_by : Option Motion → Option Aim → Option ℤ → Bool
 is_resting_by None None health = not (is_spent health)

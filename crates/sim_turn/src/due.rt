@@ -1,10 +1,9 @@
 //! The commands of a match file that are given in a turn. They stand together, since all ascend by their turns, and are
 //! found by halves.
 
-ghost use Rattle.std.specs.Prelude.{◌≡◌, ◌+◌, ◌^◌, ◌<◌, ◌≤◌, true, false, nat_lt, length, map};
 ghost use Rattle.std.specs.List.Sorted.{IsNonDecreasing, IsPartitionPoint};
-ghost use Rattle.sim_base.specs.declared.setup.Timed.{Timed as AnyTimed};
-ghost use Rattle.sim_base.specs.Turn.{orders_at};
+ghost use Rattle.std.specs.Prelude.{◌≡◌, ◌+◌, ◌^◌, ◌<◌, ◌≤◌, true, false, map, length, nat_lt};
+ghost use Rattle.sim_base.specs.{Turn.orders_at, declared.setup.Timed.Timed as AnyTimed};
 
 use sim_base::Timed;
 
@@ -23,7 +22,8 @@ pub fn due_at(timeds: &[Timed], turn: u32) -> &[Timed]
 fn begin_of(timeds: &[Timed], turn: u32) -> usize
     requires { IsNonDecreasing (map (λ (timed : AnyTimed). timed.turn) timeds.now) }
     ensures within { result ≤ length timeds.now }
-    ensures point { IsPartitionPoint (λ (timed : AnyTimed). nat_lt timed.turn turn ≡ true) (λ (timed : AnyTimed). nat_lt timed.turn turn ≡ false) timeds.now result }
+    ensures point { IsPartitionPoint (λ (timed : AnyTimed). nat_lt timed.turn turn ≡ true) (λ (timed : AnyTimed). nat_lt timed.turn turn ≡ false) timeds.now
+        result }
 {
     timeds.partition_point(|timed| timed.turn < turn)
 }

@@ -1,16 +1,11 @@
 //! Turns with the match's own commands.
 
-ghost use Rattle.std.specs.Prelude.{◌≡◌, ◌-◌, ◌<◌, ◌≤◌, All, OnOk, fold, map};
-ghost use Rattle.sim_base.specs.declared.setup.Timed.{Timed as AnyTimed};
-ghost use Rattle.sim_base.specs.Commands.{commanded};
-ghost use Rattle.sim_base.specs.Turn.{from, own_turns};
-ghost use Rattle.sim_base.specs.Validity.{IsValid};
+ghost use Rattle.std.specs.Prelude.{◌≡◌, ◌-◌, ◌<◌, ◌≤◌, map, OnOk, fold, All};
+ghost use Rattle.sim_base.specs.{Commands.commanded, Turn.from, Turn.own_turns, Validity.IsValid, declared.setup.Timed.Timed as AnyTimed};
+ghost use Rattle.sim_board.specs.BoardWords.{AreKept, IsWhole, setup_in, state_in, systems};
 ghost use Rattle.sim_laws.specs.CommandLaws.{IsOrderOf};
-ghost use Rattle.sim_board.specs.BoardWords.{setup_in, state_in, systems, IsWhole, AreKept};
 
-use crate::due::due_at;
-use crate::steps::obey;
-use crate::turns::run_phases;
+use crate::{due_at, obey, run_phases};
 use sim_base::{OutOfMemory, Timed};
 use sim_board::Board;
 use sim_orders::OrderTable;
@@ -29,7 +24,8 @@ pub fn play(
     requires valid { IsValid (setup_in board.old) (state_in board.old) }
     requires ahead { (state_in board.old).turn ≤ until }
     requires within { until ≤ (setup_in board.old).turns }
-    ensures state { OnOk result (state_in board.new ≡ from (setup_in board.old) (state_in board.old) (own_turns (setup_in board.old) (state_in board.old).turn (until - (state_in board.old).turn))) }
+    ensures state { OnOk result (state_in board.new ≡ from (setup_in board.old) (state_in board.old)
+        (own_turns (setup_in board.old) (state_in board.old).turn (until - (state_in board.old).turn))) }
     ensures valid { OnOk result (IsValid (setup_in board.old) (state_in board.new)) }
     ensures whole { OnOk result (IsWhole board.new ⟦<dyn System as System>⟧) }
     ensures kept { AreKept (systems board.old ⟦<dyn System as System>⟧) (systems board.new ⟦<dyn System as System>⟧) }
@@ -54,7 +50,8 @@ fn obey_due(
 ) -> Result<(), OutOfMemory>
     requires whole { IsWhole board.old ⟦<dyn System as System>⟧ }
     requires players { All (IsOrderOf (setup_in board.old)) (map (λ (timed : AnyTimed). timed.order) due.now) }
-    ensures state { OnOk result (state_in board.new ≡ fold (commanded (setup_in board.old)) (state_in board.old) (map (λ (timed : AnyTimed). timed.order) due.now)) }
+    ensures state { OnOk result (state_in board.new ≡ fold (commanded (setup_in board.old)) (state_in board.old)
+        (map (λ (timed : AnyTimed). timed.order) due.now)) }
     ensures whole { OnOk result (IsWhole board.new ⟦<dyn System as System>⟧) }
     ensures kept { AreKept (systems board.old ⟦<dyn System as System>⟧) (systems board.new ⟦<dyn System as System>⟧) }
     ensures setup { setup_in board.new ≡ setup_in board.old }

@@ -1,12 +1,9 @@
 //! One command, and one phase: its changes are planned from the state as it is, and then they are made.
 
 ghost use Rattle.std.specs.Prelude.{◌≡◌, OnOk};
-ghost use Rattle.sim_base.specs.Commands.{commanded};
-ghost use Rattle.sim_base.specs.Aim.{aimed};
-ghost use Rattle.sim_base.specs.Move.{moved};
-ghost use Rattle.sim_base.specs.Hit.{hit as hit_by, gone as gone_by};
+ghost use Rattle.sim_base.specs.{Aim.aimed, Commands.commanded, Hit.gone as gone_by, Hit.hit as hit_by, Move.moved};
+ghost use Rattle.sim_board.specs.BoardWords.{AreKept, IsWhole, setup_in, state_in, systems};
 ghost use Rattle.sim_laws.specs.CommandLaws.{IsOrderOf};
-ghost use Rattle.sim_board.specs.BoardWords.{setup_in, state_in, systems, IsWhole, AreKept};
 
 use sim_attack::{aim_changes, gone_changes, hit_changes};
 use sim_base::{OutOfMemory, PlayerCommand};

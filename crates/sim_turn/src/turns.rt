@@ -1,14 +1,9 @@
 //! A turn with its commands.
 
-ghost use Rattle.std.specs.Prelude.{◌≡◌, ◌<◌, [], All, OnOk, fold};
-ghost use Rattle.sim_base.specs.Aim.{aimed};
-ghost use Rattle.sim_base.specs.Commands.{commanded};
-ghost use Rattle.sim_base.specs.Hit.{hit as hit_by, gone};
-ghost use Rattle.sim_base.specs.Move.{moved};
-ghost use Rattle.sim_base.specs.Turn.{turn as turn_by};
-ghost use Rattle.sim_base.specs.Validity.{IsValid};
+ghost use Rattle.std.specs.Prelude.{◌≡◌, ◌<◌, [], OnOk, fold, All};
+ghost use Rattle.sim_base.specs.{Aim.aimed, Commands.commanded, Hit.gone, Hit.hit as hit_by, Move.moved, Turn.turn as turn_by, Validity.IsValid};
+ghost use Rattle.sim_board.specs.BoardWords.{AreKept, IsWhole, setup_in, state_in, systems};
 ghost use Rattle.sim_laws.specs.CommandLaws.{IsOrderOf};
-ghost use Rattle.sim_board.specs.BoardWords.{setup_in, state_in, systems, IsWhole, AreKept};
 
 use crate::rest::all_rest;
 use crate::steps::{aim, hit, leave, obey, walk};
@@ -75,7 +70,8 @@ pub fn run_phases(alloc: Global, board: &mut Board<'_>) -> Result<(), OutOfMemor
 // The phases. Where nobody can act they leave the state as it is, so they are passed over.
 fn act(alloc: Global, board: &mut Board<'_>) -> Result<(), OutOfMemory>
     requires whole { IsWhole board.old ⟦<dyn System as System>⟧ }
-    ensures state { OnOk result (state_in board.new ≡ gone (hit_by (setup_in board.old) (moved (setup_in board.old) (aimed (setup_in board.old) (state_in board.old))))) }
+    ensures state { OnOk result
+        (state_in board.new ≡ gone (hit_by (setup_in board.old) (moved (setup_in board.old) (aimed (setup_in board.old) (state_in board.old))))) }
     ensures whole { OnOk result (IsWhole board.new ⟦<dyn System as System>⟧) }
     ensures kept { AreKept (systems board.old ⟦<dyn System as System>⟧) (systems board.new ⟦<dyn System as System>⟧) }
     ensures setup { setup_in board.new ≡ setup_in board.old }

@@ -1,16 +1,8 @@
 -- What is explored after any list of states: what was explored before, or was visible in one of them.
-use Rattle.std.proofs.Common.{◌≡◌, ℕ, zero, suc, ◌+◌, ◌*◌, Bool, true, false, List, [], ◌∷◌, ◌++◌, length, map, refl, sym, ap, ◌∙◌, arith, length-append}
-use Rattle.std.specs.Prelude.{◌||◌, replicate}
-use Rattle.std.specs.List.{range_with_len, flat_map}
-use Rattle.std.proofs.lemmas.List.{length-map, length-replicate}
-use Rattle.sim_base.specs.declared.place.Cell.{Cell}
-use Rattle.sim_base.specs.declared.setup.Setup.{Setup}
-use Rattle.sim_base.specs.declared.state.State.{State}
-use Rattle.sim_base.specs.Places.{cells_of}
-use Rattle.sim_base.specs.Rows.{size_of}
-use Rattle.sim_vision.specs.Vision.{Vision, is_visible, players_of, cells_in, all_counts, all_visible, explored_with}
-use Rattle.sim_vision.specs.After.{blind, vision_next, vision_after, last_of, was_visible, all_seen}
-use Rattle.sim_vision.proofs.Flat.{cells_long, explored_long}
+use Rattle.sim_vision.proofs.{Common.vision_next, Common.was_visible, Common.◌∙◌, Flat.cells_long, Flat.explored_long}
+use Rattle.sim_vision.proofs.Common.{all_counts, all_seen, all_visible, ap, arith, blind, Cell, cells_in, cells_of, explored_with, is_visible, last_of}
+use Rattle.sim_vision.proofs.Common.{length-append, length-map, length-replicate, players_of, range_with_len, Setup, size_of, State, sym, Vision, vision_after}
+use Rattle.sim_vision.proofs.Common.{◌≡◌, ℕ, zero, suc, ◌+◌, ◌*◌, Bool, true, false, ◌||◌, List, [], ◌∷◌, ◌++◌, map, length, replicate, flat_map, refl}
 
 -- ---- the union of lists, cell by cell
 

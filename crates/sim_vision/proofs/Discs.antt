@@ -1,14 +1,6 @@
 -- Which cells of a row lie in a disc, by the root that its half is.
-use Rattle.std.proofs.Common.{◌≡◌, ℕ, ◌+◌, ◌-◌, ◌*◌, ◌<◌, ◌≤◌, false, min, leb, ltb, arith}
-use Rattle.std.specs.Prelude.{◌&&◌}
-use Rattle.std.proofs.lemmas.Bool.{leb-true, ltb-true, le-leb, lt-leb, lt-ltb, and_parts, and_from}
-use Rattle.std.proofs.lemmas.Bool.Decides.{same_from_decides}
-use Rattle.std.proofs.lemmas.Nat.{mul-le}
-use Rattle.std.proofs.lemmas.Bool.{cases_lt}
-use Rattle.std.proofs.Common.{⊎_elim}
-use Rattle.sim_base.specs.declared.place.Cell.{Cell}
-use Rattle.sim_base.specs.Numbers.{IsRoot}
-use Rattle.sim_vision.specs.Vision.{is_in_disc}
+use Rattle.sim_vision.proofs.Common.{IsRoot, le-leb, leb-true, lt-leb, lt-ltb, ltb-true, mul-le, same_from_decides, ⊎_elim}
+use Rattle.sim_vision.proofs.Common.{◌≡◌, ℕ, ◌+◌, ◌-◌, ◌*◌, ◌<◌, ◌≤◌, min, false, ◌&&◌, ltb, leb, and_from, and_parts, arith, cases_lt, Cell, is_in_disc}
 
 -- how far two numbers are apart
 abbrev pub gap : ℕ → ℕ → ℕ

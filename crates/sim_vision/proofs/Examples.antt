@@ -1,7 +1,5 @@
 -- Worked examples of discs and of what is explored.
-use Rattle.std.proofs.Common.{◌≡◌, ℕ, true, false, [], ◌∷◌, count_by, refl}
-use Rattle.sim_base.specs.Places.{cells_of}
-use Rattle.sim_vision.specs.Vision.{is_in_disc, explored_with}
+use Rattle.sim_vision.proofs.Common.{◌≡◌, ℕ, true, false, [], ◌∷◌, count_by, refl, cells_of, explored_with, is_in_disc}
 
 -- how many cells of a ground of 8 by 8 an entity with this reach sees from a cell
 abbrev seen : ℕ → ℕ → ℕ → ℕ

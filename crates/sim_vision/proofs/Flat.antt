@@ -1,19 +1,9 @@
 -- Lists by player, then z, then x: such a list is known by what stands in it for each cell of each player.
-use Rattle.std.proofs.Common.{◌≡◌, ℕ, zero, suc, ◌+◌, ◌-◌, ◌*◌, ◌/◌, ◌%◌, ◌<◌, ◌≤◌, Bool, false, List, [], ◌∷◌, ◌++◌, length, map, get_or, take, drop, refl, sym, ap, ◌∙◌, ⊎_elim, arith, length-drop, length-append}
-use Rattle.std.proofs.lemmas.Bool.{cases_lt}
-use Rattle.std.specs.Prelude.{◌||◌}
-use Rattle.std.specs.List.{range_with_len, flat_map}
-use Rattle.std.proofs.lemmas.List.{ext_get_or, get_or-take, get_or-drop}
-use Rattle.std.proofs.lemmas.List.{take-append-drop, length-take-le}
-use Rattle.std.proofs.Math.Nat.{div-add-mod, mod-lt}
-use Rattle.std.proofs.lemmas.List.FromFn.{length-map-range_with_len, get_or-map-range_with_len}
-use Rattle.std.proofs.lemmas.Nat.{mul-le}
-use Rattle.sim_base.specs.declared.place.Cell.{Cell}
-use Rattle.sim_base.specs.Places.{Size, cells_of}
-use Rattle.sim_base.specs.Steps.{IsOnGround}
-use Rattle.sim_vision.specs.Vision.{explored_with}
-use Rattle.sim_vision.specs.Watching.{Extent, IsAt, area_of, place_of}
-use Rattle.sim_vision.proofs.Places.{below_area}
+use Rattle.sim_vision.proofs.{Common.◌∙◌, Places.below_area}
+use Rattle.sim_vision.proofs.Common.{drop, flat_map, refl, ap, area_of, arith, cases_lt, Cell, cells_of, div-add-mod, explored_with, ext_get_or, Extent}
+use Rattle.sim_vision.proofs.Common.{get_or-drop, get_or-map-range_with_len, get_or-take, IsAt, IsOnGround, length-append, length-drop}
+use Rattle.sim_vision.proofs.Common.{length-map-range_with_len, length-take-le, mod-lt, mul-le, place_of, range_with_len, Size, sym, take-append-drop, ⊎_elim}
+use Rattle.sim_vision.proofs.Common.{◌≡◌, ℕ, zero, suc, ◌+◌, ◌-◌, ◌*◌, ◌/◌, ◌%◌, ◌<◌, ◌≤◌, Bool, false, ◌||◌, List, [], ◌∷◌, ◌++◌, map, length, get_or, take}
 
 nothing : {X : Type 0} (xs : List X) → length xs ≡ 0 → xs ≡ []
 nothing [] e = refl

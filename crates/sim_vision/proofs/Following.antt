@@ -1,19 +1,8 @@
 -- A fog that follows shifts: what one crossing takes of them, and how far it has come.
-use Rattle.std.proofs.Common.{◌≡◌, ℕ, ◌+◌, ◌<◌, Bool, true, false, ltb, List, [], ◌∷◌, ◌++◌, All, Option, Some, None, refl, sym, ap, ◌∙◌, subst, ⊎_elim, arith}
-use Rattle.std.specs.Prelude.{◌||◌, IfSome}
-use Rattle.std.specs.List.{sum_by}
-use Rattle.std.proofs.lemmas.Bool.{lt-ltb, or_left, or_right, cases_Bool}
-use Rattle.std.proofs.lemmas.List.Elements.{All-head, All-tail}
-use Rattle.std.proofs.lemmas.List.Sums.{sum_by-cons}
-use Rattle.sim_base.specs.declared.place.Cell.{Cell}
-use Rattle.sim_trail.specs.declared.mark.Mark.{Mark}
-use Rattle.sim_trail.specs.declared.shift.Shift.{Shift}
-use Rattle.sim_trail.specs.declared.shift.Shift.TheVariants.{Gone, Born}
-use Rattle.sim_trail.specs.Shifts.{gone, born}
-use Rattle.sim_trail.specs.Sums.{weight_gone, weight_born}
-use Rattle.sim_vision.specs.declared.crossing.Crossing.{Crossing}
-use Rattle.sim_vision.specs.Spans.{one_if}
-use Rattle.sim_vision.specs.Watching.{Extent, IsAt, count_in, flag_in, weight_at, is_watched, IsKnownMark, IsKnownShift, IsKnownCrossing, BeginsWith, IsTurned, CanTurn, AreLit, CanFollow, HasFollowed}
+use Rattle.sim_vision.proofs.Common.{All-head, All-tail, ap, AreLit, arith, BeginsWith, Born, born, CanFollow, CanTurn, cases_Bool, Cell, count_in, Crossing}
+use Rattle.sim_vision.proofs.Common.{Extent, flag_in, Gone, gone, HasFollowed, is_watched, IsAt, IsKnownCrossing, IsKnownMark, IsKnownShift, IsTurned, lt-ltb}
+use Rattle.sim_vision.proofs.Common.{Mark, one_if, or_left, or_right, Shift, subst, sum_by-cons, sym, weight_at, weight_born, weight_gone, ⊎_elim, ◌∙◌}
+use Rattle.sim_vision.proofs.Common.{◌≡◌, ℕ, ◌+◌, ◌<◌, Bool, true, false, ◌||◌, ltb, List, [], ◌∷◌, ◌++◌, IfSome, Some, None, All, sum_by, Option, refl}
 
 module _ (reaches : List ℕ) (player : ℕ) (c : Cell) where
   -- what is gone in these shifts of those that see the cell, and what is born

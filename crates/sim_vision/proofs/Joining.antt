@@ -1,28 +1,11 @@
 -- Explored cells of a file: why they are refused, and that a fog which takes them over is kept.
-use Rattle.std.proofs.Common.{◌≡◌, ℕ, zero, suc, ◌*◌, ◌<◌, ◌≤◌, Bool, true, false, not, cond, eqb, ltb, leb, List, [], ◌∷◌, length, map, get_or, Option, Some, None, refl, sym, ap, ◌∙◌, subst, ⊎_elim, arith}
-use Rattle.std.specs.Prelude.{◌&&◌, ◌||◌, Vec, Result, Ok, Err, IfOk}
-use Rattle.std.specs.declared.alloc.Global.{Global}
-use Rattle.std.specs.List.{list_any, list_all, zip, flat_map}
-use Rattle.std.proofs.lemmas.Bool.{lt-ltb, leb-true, eq-eqb, and_parts, or_parts, cases_lt, true≢false, ne_eqb}
-use Rattle.std.proofs.lemmas.List.{get_or-map, get_or_past, length-map}
-use Rattle.sim_base.specs.declared.memory.OutOfMemory.{OutOfMemory}
-use Rattle.sim_base.specs.declared.setup.Setup.{Setup}
-use Rattle.sim_base.specs.declared.state.Row.{Row}
-use Rattle.sim_trail.specs.declared.mark.Mark.{Mark}
-use Rattle.sim_vision.specs.declared.fog.Fog.{Fog}
-use Rattle.sim_vision.specs.declared.fault.SightFault.{SightFault}
-use Rattle.sim_vision.specs.declared.fault.SightFault.TheVariants.{Length, NotBit, Unseen}
-use Rattle.sim_base.specs.Places.{cells_of}
-use Rattle.sim_base.specs.Rows.{size_of}
-use Rattle.sim_vision.specs.Vision.{Vision, cells_in, sees, count_at, counts_of, visible_of, players_of, all_counts, all_visible}
-use Rattle.sim_vision.specs.Watching.{Extent, area_of, place_of, count_in}
-use Rattle.sim_vision.specs.Fogs.{extent_of}
-use Rattle.sim_vision.specs.Spans.{one_if}
-use Rattle.sim_vision.specs.Keeping.{extent_in, Keeps}
-use Rattle.sim_vision.specs.Joining.{is_bit, is_set, is_unseen, is_missed, refusal_of}
-use Rattle.sim_vision.proofs.Places.{place_below}
-use Rattle.sim_vision.proofs.Flat.{map_flat, map_twice, place_at}
-use Rattle.sim_vision.proofs.Seeing.{any_counted}
+use Rattle.sim_vision.proofs.{Flat.map_flat, Flat.map_twice, Flat.place_at, Places.place_below, Seeing.any_counted}
+use Rattle.sim_vision.proofs.Common.{SightFault, size_of, subst, sym, true≢false, Unseen, visible_of, Vision, ⊎_elim, ◌∙◌}
+use Rattle.sim_vision.proofs.Common.{area_of, arith, cases_lt, cells_in, cells_of, count_at, count_in, counts_of, eq-eqb, Extent, extent_in, extent_of, Fog}
+use Rattle.sim_vision.proofs.Common.{get_or, IfOk, Some, None, Ok, Err, zip, flat_map, Option, Result, Vec, refl, all_counts, all_visible, and_parts, ap}
+use Rattle.sim_vision.proofs.Common.{get_or-map, get_or_past, Global, is_bit, is_missed, is_set, is_unseen, Keeps, leb-true, Length, length-map, list_all}
+use Rattle.sim_vision.proofs.Common.{list_any, lt-ltb, Mark, ne_eqb, NotBit, one_if, or_parts, OutOfMemory, place_of, players_of, refusal_of, Row, sees, Setup}
+use Rattle.sim_vision.proofs.Common.{◌≡◌, ℕ, zero, suc, ◌*◌, ◌<◌, ◌≤◌, Bool, true, false, cond, not, ◌&&◌, ◌||◌, eqb, ltb, leb, List, [], ◌∷◌, map, length}
 
 -- the cause by the three tests
 abbrev pub verdict : Bool → Bool → Bool → Option SightFault

@@ -1,3 +1,4 @@
+pub mod Common
 pub mod Discs
 pub mod Rows
 pub mod Places

@@ -1,30 +1,11 @@
 -- The marks of a valid state are known, and so are those of the shifts between two such lists.
-use Rattle.std.proofs.Common.{◌≡◌, ℕ, ◌*◌, ◌/◌, ◌<◌, ◌≤◌, Bool, true, false, cond, eqb, max, ℤ, pos, negsuc, ◌≤ℤ◌, ◌<ℤ◌, int_le, int_lt, unsigned_abs, List, [], ◌∷◌, ◌++◌, length, All, Option, Some, None, refl, sym, arith}
-use Rattle.std.specs.Prelude.{IfSome, MatchOption}
-use Rattle.std.specs.List.{range_with_len, flat_map}
-use Rattle.std.proofs.lemmas.Bool.{and_parts, ltb-true, true≢false}
-use Rattle.std.proofs.lemmas.Int.{ints}
-use Rattle.std.proofs.lemmas.List.{length-map}
-use Rattle.std.proofs.lemmas.List.Elements.{All-nil, All-cons, All-head, All-tail, All-append, All-map, All-weaker}
-use Rattle.std.proofs.lemmas.Nat.{div_below}
-use Rattle.std.proofs.lemmas.Option.{slice_get_within}
-use Rattle.sim_base.specs.declared.place.Point.{Point}
-use Rattle.sim_base.specs.declared.template.Template.{Template}
-use Rattle.sim_base.specs.declared.setup.Setup.{Setup}
-use Rattle.sim_base.specs.declared.state.Row.{Row}
-use Rattle.sim_base.specs.declared.state.State.{State}
-use Rattle.sim_base.specs.Places.{Size, IsPlaced, is_within, is_inside, cell_of}
-use Rattle.sim_base.specs.Steps.{IsOnGround}
-use Rattle.sim_base.specs.Rows.{template_of, size_of}
-use Rattle.sim_base.specs.Limits.{IsSetup, IsTemplate}
-use Rattle.sim_base.specs.Validity.{IsValid, IsValidRow, IsKnownRow}
-use Rattle.sim_trail.specs.declared.mark.Mark.{Mark}
-use Rattle.sim_trail.specs.declared.shift.Shift.TheVariants.{Gone, Born}
-use Rattle.sim_trail.specs.Marks.{IsPlacedRow, mark_of, marks_of}
-use Rattle.sim_trail.specs.Shifts.{same_mark, mark_at, change_of, gone, born, end_of, shifts_between}
-use Rattle.sim_vision.specs.Vision.{HasReach, reach_of, reaches_of}
-use Rattle.sim_vision.specs.Watching.{Extent, IsKnownMark, IsKnownShift}
-use Rattle.sim_vision.specs.Keeping.{extent_in}
+use Rattle.{sim_base.specs.Places.is_within, sim_vision.proofs.Common.template_of, sim_vision.proofs.Common.true≢false}
+use Rattle.sim_vision.proofs.Common.{All-map, All-nil, All-tail, All-weaker, and_parts, arith, Born, born, cell_of, change_of, div_below, end_of, Extent}
+use Rattle.sim_vision.proofs.Common.{IfSome, unsigned_abs, int_lt, int_le, MatchOption, Some, None, All, flat_map, Option, refl, All-append, All-cons, All-head}
+use Rattle.sim_vision.proofs.Common.{IsSetup, IsTemplate, IsValid, IsValidRow, length-map, ltb-true, Mark, mark_at, mark_of, marks_of, Point, range_with_len}
+use Rattle.sim_vision.proofs.Common.{extent_in, Gone, gone, HasReach, ints, is_inside, IsKnownMark, IsKnownRow, IsKnownShift, IsOnGround, IsPlaced, IsPlacedRow}
+use Rattle.sim_vision.proofs.Common.{reach_of, reaches_of, Row, same_mark, Setup, shifts_between, Size, size_of, slice_get_within, State, sym, Template}
+use Rattle.sim_vision.proofs.Common.{◌≡◌, ℕ, ◌*◌, ◌/◌, ◌<◌, ◌≤◌, max, Bool, true, false, cond, eqb, List, [], ◌∷◌, ◌++◌, length, ℤ, pos, negsuc, ◌≤ℤ◌, ◌<ℤ◌}
 
 -- ---- points of a ground of at most 256 cells each way
 

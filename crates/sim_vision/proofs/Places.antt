@@ -1,17 +1,8 @@
 -- Where the cells of players stand in a list by player, then z, then x; and those of a span among them.
-use Rattle.std.proofs.Common.{◌≡◌, ℕ, ◌+◌, ◌-◌, ◌*◌, ◌<◌, ◌≤◌, ◌⊎◌, true, false, eqb, List, Option, Some, None, sym, ap, ◌∙◌, subst, ⊎_elim, arith}
-use Rattle.std.specs.Prelude.{◌&&◌, IfSome}
-use Rattle.std.proofs.lemmas.Bool.{eqb-true, eq-eqb, and_parts, and_from, and_right, cases_order, true≢false}
-use Rattle.std.proofs.lemmas.Bool.Decides.{same_from_decides}
-use Rattle.std.proofs.lemmas.Nat.{mul-le}
-use Rattle.sim_base.specs.declared.place.Cell.{Cell}
-use Rattle.sim_base.specs.Places.{Size}
-use Rattle.sim_base.specs.Steps.{IsOnGround}
-use Rattle.sim_trail.specs.declared.mark.Mark.{Mark}
-use Rattle.sim_vision.specs.declared.span.Span.{Span}
-use Rattle.sim_vision.specs.Spans.{is_in_span, is_in_row}
-use Rattle.sim_vision.specs.Watching.{Extent, IsAt, area_of, start_of, place_of, is_near, is_watched}
-use Rattle.sim_vision.proofs.Rows.{within, bounds}
+use Rattle.sim_vision.proofs.Common.{IsAt, IsOnGround, Mark, mul-le, place_of, same_from_decides, Size, Span, start_of, subst, sym, true≢false, ⊎_elim, ◌∙◌}
+use Rattle.sim_vision.proofs.Common.{and_right, ap, area_of, arith, cases_order, Cell, eq-eqb, eqb-true, Extent, is_in_row, is_in_span, is_near, is_watched}
+use Rattle.sim_vision.proofs.Common.{◌≡◌, ℕ, ◌+◌, ◌-◌, ◌*◌, ◌<◌, ◌≤◌, true, false, ◌&&◌, eqb, ◌⊎◌, List, IfSome, Some, None, Option, and_from, and_parts}
+use Rattle.sim_vision.proofs.Rows.{bounds, within}
 
 -- a number in pieces of one length, one way alone
 pub same_parts : (n a b x y : ℕ) → x < n → y < n → a * n + x ≡ b * n + y → (a ≡ b) × (x ≡ y)

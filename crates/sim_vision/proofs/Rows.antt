@@ -1,9 +1,7 @@
 -- Counts and flags of a row: one cell more in a loop, the two pieces of a span outside of another, and a span for another.
-use Rattle.std.proofs.Common.{◌≡◌, ℕ, ◌+◌, ◌-◌, ◌<◌, ◌≤◌, Bool, true, false, not, min, max, leb, ltb, List, length, get_or, set, get_or-set_same, get_or-set_other, refl, sym, ap, ◌∙◌, subst, ⊎_elim, arith}
-use Rattle.std.specs.Prelude.{◌&&◌, ◌||◌}
-use Rattle.std.proofs.lemmas.Bool.{leb-true, ltb-true, le-leb, lt-leb, lt-ltb, le-ltb, and_parts, and_from, and_left, and_right, or_right, cases_lt, cases_eq}
-use Rattle.sim_vision.specs.declared.span.Span.{Span}
-use Rattle.sim_vision.specs.Spans.{one_if, is_within, is_in_row}
+use Rattle.sim_vision.proofs.Common.{and_from, and_left, and_parts, and_right, ap, arith, cases_eq, cases_lt, get_or-set_other, get_or-set_same, is_in_row}
+use Rattle.sim_vision.proofs.Common.{is_within, le-leb, le-ltb, leb-true, lt-leb, lt-ltb, ltb-true, one_if, or_right, Span, subst, sym, ⊎_elim, ◌∙◌}
+use Rattle.sim_vision.proofs.Common.{◌≡◌, ℕ, ◌+◌, ◌-◌, ◌<◌, ◌≤◌, min, max, Bool, true, false, not, ◌&&◌, ◌||◌, ltb, leb, List, length, get_or, set, refl}
 
 -- ---- where a number lies
 

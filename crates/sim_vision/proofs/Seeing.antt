@@ -1,31 +1,11 @@
 -- Counts of marks are counts of rows, and what is counted is visible.
-use Rattle.std.proofs.Common.{◌≡◌, ℕ, ◌+◌, ◌*◌, ◌<◌, ◌≤◌, Bool, true, false, cond, ltb, List, [], ◌∷◌, length, map, get_or, All, refl, sym, ap, ◌∙◌, arith}
-use Rattle.std.specs.Prelude.{◌||◌, replicate, count_by}
-use Rattle.std.specs.List.{list_any}
-use Rattle.std.proofs.lemmas.Bool.{lt-ltb, true≢false}
-use Rattle.std.proofs.lemmas.List.{ext_get_or, get_or-map, length-map, get_or-replicate}
-use Rattle.std.proofs.lemmas.List.Elements.{All-nil}
-use Rattle.std.proofs.lemmas.List.Sums.{sum_by-cons, count_by-le-length}
-use Rattle.sim_base.specs.declared.place.Cell.{Cell}
-use Rattle.sim_base.specs.declared.setup.Setup.{Setup}
-use Rattle.sim_base.specs.declared.state.Row.{Row}
-use Rattle.sim_base.specs.declared.state.State.{State}
-use Rattle.sim_base.specs.Limits.{IsSetup}
-use Rattle.sim_base.specs.Validity.{IsValid}
-use Rattle.sim_trail.specs.declared.mark.Mark.{Mark}
-use Rattle.sim_trail.specs.Marks.{IsAscending, mark_of, marks_of}
-use Rattle.sim_trail.specs.Shifts.{shifts_between}
-use Rattle.sim_trail.specs.Sums.{SumFollows}
-use Rattle.sim_trail.proofs.Rising.{marks_ascend}
-use Rattle.sim_trail.proofs.Summing.{sum_follows}
-use Rattle.sim_vision.specs.declared.fog.Fog.{Fog}
-use Rattle.sim_vision.specs.Vision.{reaches_of, sees, count_at, is_visible, all_counts, all_visible, explored_with}
-use Rattle.sim_vision.specs.Watching.{IsAt, place_of, count_in, flag_in, mark_sees, weight_at, IsKnownMark, IsKnownShift, AreLit, CanFollow, HasFollowed}
-use Rattle.sim_vision.specs.Fogs.{extent_of}
-use Rattle.sim_vision.specs.Keeping.{extent_in, Keeps}
-use Rattle.sim_vision.proofs.Places.{place_below}
-use Rattle.sim_vision.proofs.Flat.{by_players, StandsAt, place_at, explored_long, explored_at}
-use Rattle.sim_vision.proofs.Marking.{marks_known, shifts_known}
+use Rattle.sim_vision.proofs.{Common.sum_follows, Common.SumFollows, Common.sym, Common.true≢false, Common.weight_at, Common.◌∙◌, Places.place_below}
+use Rattle.sim_vision.proofs.{Flat.by_players, Flat.explored_at, Flat.explored_long, Flat.place_at, Flat.StandsAt, Marking.marks_known, Marking.shifts_known}
+use Rattle.sim_vision.proofs.Common.{count_by, refl, All-nil, all_counts, all_visible, ap, AreLit, arith, CanFollow, Cell, count_at, count_by-le-length}
+use Rattle.sim_vision.proofs.Common.{count_in, explored_with, ext_get_or, extent_in, extent_of, flag_in, Fog, get_or-map, get_or-replicate, HasFollowed}
+use Rattle.sim_vision.proofs.Common.{is_visible, IsAscending, IsAt, IsKnownMark, IsKnownShift, IsSetup, IsValid, Keeps, length-map, list_any, lt-ltb, Mark}
+use Rattle.sim_vision.proofs.Common.{mark_of, mark_sees, marks_ascend, marks_of, place_of, reaches_of, Row, sees, Setup, shifts_between, State, sum_by-cons}
+use Rattle.sim_vision.proofs.Common.{◌≡◌, ℕ, ◌+◌, ◌*◌, ◌<◌, ◌≤◌, Bool, true, false, cond, ◌||◌, ltb, List, [], ◌∷◌, map, length, get_or, replicate, All}
 use Rattle.sim_vision.proofs.Following.{born_at}
 
 -- ---- counts over rows

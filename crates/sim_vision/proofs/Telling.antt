@@ -1,25 +1,11 @@
 -- What is told of a sight is told of the states that it followed.
-use Rattle.std.proofs.Common.{◌≡◌, ℕ, zero, suc, ◌+◌, ◌-◌, ◌*◌, ◌<◌, ◌≤◌, Bool, false, cond, ltb, List, [], ◌∷◌, ◌++◌, length, map, take, drop, refl, sym, ap, ◌∙◌, arith, append_assoc, append-nil}
-use Rattle.std.specs.Prelude.{◌||◌, count_by}
-use Rattle.std.specs.List.{range_with_len, flat_map}
-use Rattle.std.proofs.lemmas.List.{length-map}
-use Rattle.std.proofs.lemmas.List.Sums.{sum_by-cons}
-use Rattle.std.proofs.Math.Seq.{take-append_seam, drop-append-add}
-use Rattle.sim_base.specs.declared.place.Cell.{Cell}
-use Rattle.sim_base.specs.declared.setup.Setup.{Setup}
-use Rattle.sim_base.specs.declared.state.Row.{Row}
-use Rattle.sim_base.specs.declared.state.State.{State}
-use Rattle.sim_base.specs.Places.{cells_of}
-use Rattle.sim_base.specs.Rows.{size_of}
-use Rattle.sim_vision.specs.Vision.{Vision, sees, count_at, is_visible, players_of, cells_in, part_of, all_counts, explored_with}
-use Rattle.sim_vision.specs.After.{blind, joined_at, vision_after, last_of, was_visible, all_seen}
-use Rattle.sim_vision.specs.Joining.{is_set}
-use Rattle.sim_vision.specs.Keeping.{extent_in}
-use Rattle.sim_vision.specs.Told.{sight_line, sight_lines, sight_text, cells_where}
-use Rattle.sim_vision.specs.Watching.{flag_in}
-use Rattle.sim_vision.proofs.Flat.{by_players, cells_long}
-use Rattle.sim_vision.proofs.After.{with_all, setup_stays, counts_later, counts_last, explored_all, explored_start}
-use Rattle.sim_vision.proofs.Seeing.{any_counted}
+use Rattle.sim_vision.proofs.{Flat.by_players, Flat.cells_long, Seeing.any_counted}
+use Rattle.sim_vision.proofs.After.{counts_last, counts_later, explored_all, explored_start, setup_stays, with_all}
+use Rattle.sim_vision.proofs.Common.{cells_where, count_at, drop-append-add, explored_with, extent_in, flag_in, is_set, is_visible, joined_at, last_of}
+use Rattle.sim_vision.proofs.Common.{count_by, flat_map, refl, all_counts, all_seen, ap, append-nil, append_assoc, arith, blind, Cell, cells_in, cells_of}
+use Rattle.sim_vision.proofs.Common.{length-map, part_of, players_of, range_with_len, Row, sees, Setup, sight_line, sight_lines, sight_text, size_of, State}
+use Rattle.sim_vision.proofs.Common.{sum_by-cons, sym, take-append_seam, Vision, vision_after, was_visible, ◌∙◌}
+use Rattle.sim_vision.proofs.Common.{◌≡◌, ℕ, zero, suc, ◌+◌, ◌-◌, ◌*◌, ◌<◌, ◌≤◌, Bool, false, cond, ◌||◌, ltb, List, [], ◌∷◌, ◌++◌, map, length, take, drop}
 
 -- ---- the part of a player in a list of all cells of all players
 

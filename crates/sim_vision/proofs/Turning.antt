@@ -1,12 +1,7 @@
 -- Row after row the cells of a fog are turned.
-use Rattle.std.proofs.Common.{◌≡◌, ℕ, ◌+◌, ◌<◌, ◌≤◌, ◌⊎◌, Bool, true, false, eqb, ltb, List, refl, sym, ap, ◌∙◌, subst, ⊎_elim, arith}
-use Rattle.std.specs.Prelude.{◌&&◌, ◌||◌}
-use Rattle.std.proofs.lemmas.Bool.{eq-eqb, ne_eqb, lt-ltb, le-ltb, and_right, cases_order, cases_lt}
-use Rattle.sim_base.specs.declared.place.Cell.{Cell}
-use Rattle.sim_vision.specs.declared.span.Span.{Span}
-use Rattle.sim_vision.specs.declared.crossing.Crossing.{Crossing}
-use Rattle.sim_vision.specs.Spans.{one_if, is_in_row}
-use Rattle.sim_vision.specs.Watching.{Extent, IsAt, start_of, place_of, count_in, flag_in, is_watched, IsRowTurned, IsTurnedAt, IsTurnedBelow, IsTurned, CanTurn, CanTurnAt}
+use Rattle.sim_vision.proofs.Common.{IsTurned, IsTurnedAt, IsTurnedBelow, le-ltb, lt-ltb, ne_eqb, one_if, place_of, Span, start_of, subst, sym, ⊎_elim, ◌∙◌}
+use Rattle.sim_vision.proofs.Common.{cases_lt, cases_order, Cell, count_in, Crossing, eq-eqb, Extent, flag_in, is_in_row, is_watched, IsAt, IsRowTurned}
+use Rattle.sim_vision.proofs.Common.{◌≡◌, ℕ, ◌+◌, ◌<◌, ◌≤◌, Bool, true, false, ◌&&◌, ◌||◌, eqb, ltb, ◌⊎◌, List, refl, and_right, ap, arith, CanTurn, CanTurnAt}
 
 pub or_none : (x : Bool) → (x || false) ≡ x
 or_none true = refl

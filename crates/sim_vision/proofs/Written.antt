@@ -1,13 +1,7 @@
 -- A row of a fog, asked for and written: the cells of its spans, and the list that a slice is written back to.
-use Rattle.std.proofs.Common.{◌≡◌, ℕ, ◌<◌, ◌≤◌, Bool, true, false, List, ◌++◌, length, get_or, take, drop, sym, ap, ◌∙◌, subst, refl}
-use Rattle.std.proofs.Math.Seq.{take-append_seam}
-use Rattle.sim_base.specs.declared.place.Cell.{Cell}
-use Rattle.sim_vision.specs.declared.span.Span.{Span}
-use Rattle.sim_vision.specs.declared.crossing.Crossing.{Crossing}
-use Rattle.sim_vision.specs.Spans.{is_in_span, is_in_row}
-use Rattle.sim_vision.specs.Watching.{Extent, IsAt, start_of, count_in, flag_in, is_near, is_watched, IsOwnedBy, IsRowTurned, IsTurnedAt}
-use Rattle.sim_vision.proofs.Places.{at_there, row_test}
-use Rattle.sim_vision.proofs.Turning.{turned_row}
+use Rattle.sim_vision.proofs.{Common.take-append_seam, Common.◌∙◌, Places.at_there, Places.row_test, Turning.turned_row}
+use Rattle.sim_vision.proofs.Common.{flag_in, is_in_row, is_in_span, is_near, is_watched, IsAt, IsOwnedBy, IsRowTurned, IsTurnedAt, Span, start_of, subst, sym}
+use Rattle.sim_vision.proofs.Common.{◌≡◌, ℕ, ◌<◌, ◌≤◌, Bool, true, false, List, ◌++◌, length, get_or, take, drop, refl, ap, Cell, count_in, Crossing, Extent}
 
 pub written_back : {X : Type 0} (xs ys : List X) (n : ℕ) → length xs ≡ n → take n (xs ++ drop (length xs) ys) ≡ xs
 written_back xs ys n e = ap (λ (m : ℕ). take m (xs ++ drop (length xs) ys)) (sym e) ∙ take-append_seam xs (drop (length xs) ys)

@@ -1,13 +1,7 @@
 -- What a sight is after any list of states, and what the players have explored then.
-use Rattle.std.specs.Prelude.{ℕ, ◌*◌, Bool, false, List, map, fold, replicate}
-use Rattle.std.specs.List.{list_any, flat_map}
-use Rattle.sim_base.specs.declared.place.Cell.{Cell}
-use Rattle.sim_base.specs.declared.setup.Setup.{Setup}
-use Rattle.sim_base.specs.declared.state.State.{State}
-use Rattle.sim_base.specs.Places.{cells_of}
-use Rattle.sim_base.specs.Rows.{size_of}
-use Rattle.sim_vision.specs.Vision.{Vision, is_visible, players_of, cells_in, all_counts, all_visible, explored_with}
-use Rattle.sim_vision.specs.Joining.{is_set}
+use Rattle.std.specs.{List.flat_map, Prelude.ℕ, Prelude.◌*◌, Prelude.Bool, Prelude.false, Prelude.List, Prelude.map, Prelude.replicate, Prelude.fold}
+use Rattle.sim_vision.specs.{Common.Cell, Common.cells_of, Common.list_any, Common.Setup, Common.size_of, Common.State, Joining.is_set}
+use Rattle.sim_vision.specs.Vision.{all_counts, all_visible, cells_in, explored_with, is_visible, players_of, Vision}
 
 -- nothing is seen, and nothing explored
 abbrev pub blind : Setup → Vision

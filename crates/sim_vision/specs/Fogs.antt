@@ -1,7 +1,6 @@
 -- What a fog is for.
 use Rattle.std.specs.Prelude.{◌≡◌}
-use Rattle.sim_vision.specs.declared.fog.Fog.{Fog}
-use Rattle.sim_vision.specs.Watching.{Extent}
+use Rattle.sim_vision.specs.{Watching.Extent, declared.fog.Fog.Fog}
 
 -- the ground of a fog and its players
 abbrev pub extent_of : Fog → Extent

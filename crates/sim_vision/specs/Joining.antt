@@ -1,11 +1,8 @@
 -- Which explored cells of a file are taken over at a state.
-use Rattle.std.specs.Prelude.{ℕ, Bool, not, ◌&&◌, ◌==◌, nat_le, ◌*◌, nat_lt, if◌then◌else◌, List, length, Option, Some, None}
-use Rattle.std.specs.List.{list_any, list_all, zip}
-use Rattle.sim_base.specs.declared.setup.Setup.{Setup}
-use Rattle.sim_base.specs.declared.state.Row.{Row}
-use Rattle.sim_vision.specs.declared.fault.SightFault.{SightFault}
-use Rattle.sim_vision.specs.declared.fault.SightFault.TheVariants.{Length, NotBit, Unseen}
-use Rattle.sim_vision.specs.Vision.{cells_in, all_visible}
+use Rattle.std.specs.List.{zip}
+use Rattle.std.specs.Prelude.{ℕ, ◌*◌, Bool, not, ◌&&◌, List, length, if◌then◌else◌, nat_lt, nat_le, ◌==◌, Some, None, Option}
+use Rattle.sim_vision.specs.{Common.list_all, Common.list_any, Common.Row, Common.Setup, Vision.all_visible, Vision.cells_in}
+use Rattle.sim_vision.specs.declared.fault.SightFault.{SightFault, TheVariants.Length, TheVariants.NotBit, TheVariants.Unseen}
 
 -- the byte is 0 or 1
 abbrev pub is_bit : ℕ → Bool

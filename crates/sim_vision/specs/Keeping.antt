@@ -1,14 +1,7 @@
 -- What the counts and the explored cells of a sight stand for.
-use Rattle.std.specs.Prelude.{◌≡◌, ℕ, ◌≤◌, List, length, count_by, All}
-use Rattle.sim_base.specs.declared.place.Cell.{Cell}
-use Rattle.sim_base.specs.declared.setup.Setup.{Setup}
-use Rattle.sim_base.specs.Rows.{size_of}
-use Rattle.sim_base.specs.Limits.{IsSetup}
-use Rattle.sim_trail.specs.declared.mark.Mark.{Mark}
-use Rattle.sim_vision.specs.declared.fog.Fog.{Fog}
-use Rattle.sim_vision.specs.Vision.{reaches_of}
-use Rattle.sim_vision.specs.Watching.{Extent, IsAt, IsKnownMark, mark_sees, count_in, AreLit}
-use Rattle.sim_vision.specs.Fogs.{extent_of}
+use Rattle.std.specs.Prelude.{◌≡◌, ℕ, ◌≤◌, List, length, All, count_by}
+use Rattle.sim_vision.specs.{Common.Cell, Common.IsSetup, Common.Mark, Common.Setup, Common.size_of, Fogs.extent_of, Vision.reaches_of}
+use Rattle.sim_vision.specs.{Watching.AreLit, Watching.count_in, Watching.Extent, Watching.IsAt, Watching.IsKnownMark, Watching.mark_sees, declared.fog.Fog.Fog}
 
 -- the ground of a match and its players
 abbrev pub extent_in : Setup → Extent

@@ -1,3 +1,4 @@
+pub mod Common
 pub mod Vision
 pub mod Spans
 pub mod Watching

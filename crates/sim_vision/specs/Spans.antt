@@ -1,7 +1,6 @@
 -- The cells of a disc, row by row: those of a row are a span.
-use Rattle.std.specs.Prelude.{◌≡◌, ℕ, ◌+◌, ◌-◌, ◌*◌, ◌≤◌, Bool, ◌&&◌, nat_le, nat_lt, if◌then◌else◌, List, length, slice_index}
-use Rattle.sim_base.specs.Numbers.{IsRoot}
-use Rattle.sim_vision.specs.declared.span.Span.{Span}
+use Rattle.std.specs.Prelude.{◌≡◌, ℕ, ◌+◌, ◌-◌, ◌*◌, ◌≤◌, Bool, ◌&&◌, List, length, if◌then◌else◌, nat_lt, nat_le, slice_index}
+use Rattle.sim_vision.specs.{Common.IsRoot, declared.span.Span.Span}
 
 -- 1 where a test holds, and else 0
 abbrev pub one_if : Bool → ℕ

@@ -1,11 +1,6 @@
 -- What is told of a sight: a line for each player, and the file of explored cells.
-use Rattle.std.specs.Prelude.{ℕ, Bool, nat_lt, List, ◌++◌, map, flat_map, count_by, codes, decimal}
-use Rattle.sim_base.specs.declared.place.Cell.{Cell}
-use Rattle.sim_base.specs.declared.setup.Setup.{Setup}
-use Rattle.sim_base.specs.Places.{cells_of}
-use Rattle.sim_base.specs.Rows.{size_of}
-use Rattle.sim_vision.specs.Spans.{one_if}
-use Rattle.sim_vision.specs.Vision.{Vision, players_of, part_of}
+use Rattle.std.specs.Prelude.{ℕ, Bool, List, ◌++◌, map, nat_lt, codes, decimal, count_by, flat_map}
+use Rattle.sim_vision.specs.{Common.Cell, Common.cells_of, Common.Setup, Common.size_of, Spans.one_if, Vision.part_of, Vision.players_of, Vision.Vision}
 
 -- how many cells a player sees, and how many he has explored
 abbrev pub sight_line : ℕ → ℕ → ℕ → List ℕ

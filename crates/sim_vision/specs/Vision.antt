@@ -1,16 +1,7 @@
 -- What a player sees: the cells that lie near one of his rows.
-use Rattle.std.specs.Prelude.{ℕ, ◌+◌, ◌-◌, ◌*◌, ◌/◌, Bool, ◌&&◌, ◌||◌, ◌==◌, nat_le, unsigned_abs, List, [], ◌∷◌, map, slice_range, count_by, option_map, unwrap_or, IfSome, slice_index}
-use Rattle.std.specs.List.{list_any, range_with_len, flat_map}
-use Rattle.std.specs.Int.{abs_diff}
-use Rattle.sim_base.specs.declared.place.Cell.{Cell}
-use Rattle.sim_base.specs.declared.template.Template.{Template}
-use Rattle.sim_base.specs.declared.template.Arms.{Arms}
-use Rattle.sim_base.specs.declared.setup.Setup.{Setup}
-use Rattle.sim_base.specs.declared.state.Row.{Row}
-use Rattle.sim_base.specs.Numbers.{unit}
-use Rattle.sim_base.specs.Limits.{IsArms}
-use Rattle.sim_base.specs.Places.{cell_of, cells_of}
-use Rattle.sim_base.specs.Rows.{size_of}
+use Rattle.std.specs.{List.flat_map, Prelude.count_by, Prelude.unwrap_or, Prelude.option_map}
+use Rattle.std.specs.Prelude.{ℕ, ◌+◌, ◌-◌, ◌*◌, ◌/◌, Bool, ◌&&◌, ◌||◌, List, [], ◌∷◌, map, IfSome, nat_le, ◌==◌, slice_index, slice_range, unsigned_abs}
+use Rattle.sim_vision.specs.Common.{abs_diff, Arms, Cell, cell_of, cells_of, IsArms, list_any, range_with_len, Row, Setup, size_of, Template, unit}
 
 -- how far entities of a template see: the whole metres of their vision, rounded down, or 0 without an attack
 abbrev pub reach_of : Template → ℕ

@@ -1,17 +1,8 @@
 -- What the marks of a trail see, and what a fog is after a mark has changed.
-use Rattle.std.specs.Prelude.{◌≡◌, ℕ, ◌+◌, ◌-◌, ◌*◌, ◌<◌, ◌≤◌, Bool, true, false, ◌&&◌, ◌||◌, ◌==◌, nat_lt, List, ◌∷◌, ◌++◌, length, slice_index, slice_index_or, sum_by, Option, Some, None, IfSome}
-use Rattle.sim_base.specs.declared.place.Cell.{Cell}
-use Rattle.sim_base.specs.Places.{Size}
-use Rattle.sim_base.specs.Steps.{IsOnGround}
-use Rattle.sim_trail.specs.declared.mark.Mark.{Mark}
-use Rattle.sim_trail.specs.declared.shift.Shift.{Shift}
-use Rattle.sim_trail.specs.declared.shift.Shift.TheVariants.{Gone, Born}
-use Rattle.sim_trail.specs.Shifts.{gone, born}
-use Rattle.sim_trail.specs.Sums.{weight_gone, weight_born}
-use Rattle.sim_vision.specs.declared.span.Span.{Span}
-use Rattle.sim_vision.specs.declared.crossing.Crossing.{Crossing}
-use Rattle.sim_vision.specs.Vision.{is_in_disc}
-use Rattle.sim_vision.specs.Spans.{one_if, is_in_row}
+use Rattle.std.specs.Prelude.{slice_index_or, Some, None, sum_by, Option}
+use Rattle.std.specs.Prelude.{◌≡◌, ℕ, ◌+◌, ◌-◌, ◌*◌, ◌<◌, ◌≤◌, Bool, true, false, ◌&&◌, ◌||◌, List, ◌∷◌, ◌++◌, length, IfSome, nat_lt, ◌==◌, slice_index}
+use Rattle.sim_vision.specs.{Spans.is_in_row, Spans.one_if, Vision.is_in_disc, declared.crossing.Crossing.Crossing, declared.span.Span.Span}
+use Rattle.sim_vision.specs.Common.{Born, born, Cell, Gone, gone, IsOnGround, Mark, Shift, Size, weight_born, weight_gone}
 
 -- the cell lies in the disc of a mark, whoever owns it
 abbrev pub is_near : List ℕ → Option Mark → Cell → Bool

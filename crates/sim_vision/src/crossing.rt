@@ -1,9 +1,7 @@
 //! What changes of an entity at a time: the mark that it leaves, and the mark that it takes.
 
-ghost use Rattle.std.specs.Prelude.{◌≡◌, ℕ, ◌≤◌, ◌<◌, [], false, length, ◌⊎◌, IfSome, MatchOption};
-ghost use Rattle.sim_base.specs.declared.place.Cell.{Cell as ACell};
-ghost use Rattle.sim_vision.specs.Spans.{is_in_span};
-ghost use Rattle.sim_vision.specs.Watching.{BeginsWith, BeginsFrom, is_near};
+ghost use Rattle.std.specs.Prelude.{◌≡◌, ℕ, ◌<◌, ◌≤◌, false, ◌⊎◌, [], length, IfSome, MatchOption};
+ghost use Rattle.sim_vision.specs.{Common.Cell as ACell, Spans.is_in_span, Watching.BeginsFrom, Watching.BeginsWith, Watching.is_near};
 
 use crate::disc::Disc;
 use crate::span::Span;
@@ -17,7 +15,7 @@ pub struct Crossing {
 }
 
 impl Crossing {
-    ghost use Rattle.std.specs.Prelude.{◌≡◌, ◌≤◌, ℕ, IfSome};
+    ghost use Rattle.std.specs.Prelude.{◌≡◌, ℕ, ◌≤◌, IfSome};
     ghost use Rattle.sim_vision.specs.Watching.{IsOwnedBy};
 
     /// The owner of the marks; 0 where there is none.

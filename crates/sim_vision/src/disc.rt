@@ -1,11 +1,8 @@
 //! The cells that an entity sees: a disc about its cell. The width of each of its rows is reckoned once, for all entities of a
 //! template.
 
-ghost use Rattle.std.specs.Prelude.{◌≡◌, ℕ, ◌≤◌, ◌<◌, ◌+◌, ◌-◌, ◌*◌, false, IfOk};
-ghost use Rattle.sim_base.specs.declared.place.Cell.{Cell as ACell};
-ghost use Rattle.sim_base.specs.Numbers.{IsRoot};
-ghost use Rattle.sim_vision.specs.Vision.{is_in_disc};
-ghost use Rattle.sim_vision.specs.Spans.{is_in_span, AreHalves};
+ghost use Rattle.std.specs.Prelude.{◌≡◌, ℕ, ◌+◌, ◌-◌, ◌*◌, ◌<◌, ◌≤◌, false, IfOk};
+ghost use Rattle.sim_vision.specs.{Common.Cell as ACell, Common.IsRoot, Spans.AreHalves, Spans.is_in_span, Vision.is_in_disc};
 
 use crate::span::Span;
 use sim_base::{Cell, OutOfMemory, root};
@@ -20,8 +17,7 @@ pub struct Disc {
 }
 
 impl Model for Disc {
-    ghost use Rattle.std.specs.Prelude.{ℕ};
-    ghost use Rattle.sim_vision.specs.Spans.{AreHalves};
+    ghost use Rattle.{sim_vision.specs.Spans.AreHalves, std.specs.Prelude.ℕ};
 
     ghost Value = { ℕ };
 

@@ -1,8 +1,7 @@
 //! How many marks of each player see each cell, and which cells each player has explored: two lists by player, then z, then x.
 
-ghost use Rattle.std.specs.Prelude.{◌≡◌, ◌*◌, length, map, vec_len};
-ghost use Rattle.sim_vision.specs.Joining.{is_set};
-ghost use Rattle.sim_vision.specs.Watching.{IsExtent};
+ghost use Rattle.std.specs.Prelude.{◌≡◌, ◌*◌, map, length, vec_len};
+ghost use Rattle.sim_vision.specs.{Joining.is_set, Watching.IsExtent};
 
 use crate::crossing::{Crossing, next_crossing, rows_of, span_of};
 use crate::disc::Disc;
@@ -25,13 +24,10 @@ pub struct Fog {
 }
 
 impl Fog {
-    ghost use Rattle.std.specs.Prelude.{◌≡◌, ℕ, ◌+◌, ◌-◌, ◌≤◌, ◌<◌, ◌*◌, false, replicate, length, map, slice_range, All, IfOk};
-    ghost use Rattle.std.specs.List.{list_any, zip};
-    ghost use Rattle.sim_vision.specs.Joining.{is_missed, is_set};
-    ghost use Rattle.sim_vision.specs.Spans.{one_if};
-    ghost use Rattle.sim_vision.specs.Fogs.{extent_of, IsSameExtent};
-    ghost use Rattle.sim_vision.specs.Watching.{start_of, IsExtent, IsKnownShift, IsKnownCrossing, IsOwnedBy, AreLit};
-    ghost use Rattle.sim_vision.specs.Watching.{CanFollow, HasFollowed, CanTurn, CanTurnAt, IsTurned, IsTurnedAt};
+    ghost use Rattle.{sim_vision.specs.Joining.is_missed, sim_vision.specs.Joining.is_set, sim_vision.specs.Spans.one_if, std.specs.List.zip};
+    ghost use Rattle.std.specs.Prelude.{◌≡◌, ◌+◌, ◌-◌, ◌*◌, ◌<◌, ◌≤◌, false, map, length, replicate, IfOk, slice_range, All};
+    ghost use Rattle.sim_vision.specs.{Common.list_any, Fogs.extent_of, Fogs.IsSameExtent, Watching.IsTurned, Watching.IsTurnedAt, Watching.start_of};
+    ghost use Rattle.sim_vision.specs.Watching.{AreLit, CanFollow, CanTurn, CanTurnAt, HasFollowed, IsExtent, IsKnownCrossing, IsKnownShift, IsOwnedBy};
 
     /// Nothing is seen, and nothing explored.
     pub fn new(alloc: Global, width: u16, depth: u16, players: u8) -> Result<Fog, OutOfMemory>

@@ -1,15 +1,9 @@
 //! What a sight comes to over any list of states, as the contracts of functions that do nothing.
 
-ghost use Rattle.std.specs.Prelude.{◌≡◌, ℕ, ◌*◌, ◌∷◌, ◌||◌, List, length, map};
-ghost use Rattle.sim_base.specs.declared.place.Cell.{Cell};
-ghost use Rattle.sim_base.specs.declared.setup.Setup.{Setup};
-ghost use Rattle.sim_base.specs.declared.state.State.{State};
-ghost use Rattle.sim_vision.specs.After.{blind, joined_at, vision_after, last_of, was_visible, all_seen};
-ghost use Rattle.sim_vision.specs.Joining.{is_set};
-ghost use Rattle.sim_vision.specs.Keeping.{extent_in};
-ghost use Rattle.sim_vision.specs.Told.{sight_text, sight_lines};
-ghost use Rattle.sim_vision.specs.Vision.{Vision, is_visible, all_counts, explored_with, cells_in};
-ghost use Rattle.sim_vision.specs.Watching.{flag_in};
+ghost use Rattle.std.specs.Prelude.{◌≡◌, ℕ, ◌*◌, ◌||◌, List, ◌∷◌, map, length};
+ghost use Rattle.sim_vision.specs.{After.all_seen, After.blind, After.joined_at, After.last_of, After.vision_after, After.was_visible, Keeping.extent_in};
+ghost use Rattle.sim_vision.specs.{Common.Setup, Common.State, Vision.all_counts, Vision.cells_in, Vision.explored_with, Vision.is_visible, Vision.Vision};
+ghost use Rattle.sim_vision.specs.{Joining.is_set, Told.sight_lines, Told.sight_text, Watching.flag_in};
 
 /// After any list of states the counts are those of the last one's rows.
 pub fn counts_are_of_the_last_state()

@@ -1,6 +1,6 @@
 //! How far the entities of a template see.
 
-ghost use Rattle.std.specs.Prelude.{◌≡◌, ◌≤◌, All, map, IfOk};
+ghost use Rattle.std.specs.Prelude.{◌≡◌, ◌≤◌, map, IfOk, All};
 ghost use Rattle.sim_vision.specs.Vision.{HasReach, reach_of as reach_of_template};
 
 use crate::disc::Disc;

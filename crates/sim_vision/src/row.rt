@@ -1,9 +1,8 @@
 //! A row of the ground, as a part of a list of counts and a list of flags, and what becomes of it where the span that a mark
 //! sees there changes. Cells that are in both spans are not touched.
 
-ghost use Rattle.std.specs.Prelude.{◌≡◌, ℕ, ◌+◌, ◌≤◌, ◌<◌, ◌&&◌, ◌||◌, not, true, false, length, slice_index, slice_index_or};
-ghost use Rattle.sim_vision.specs.Spans.{one_if, is_within, is_in_row};
-ghost use Rattle.sim_vision.specs.Watching.{IsRowTurned};
+ghost use Rattle.std.specs.Prelude.{◌≡◌, ℕ, ◌+◌, ◌<◌, ◌≤◌, true, false, not, ◌&&◌, ◌||◌, length, slice_index, slice_index_or};
+ghost use Rattle.sim_vision.specs.{Spans.is_in_row, Spans.is_within, Spans.one_if, Watching.IsRowTurned};
 
 use crate::span::Span;
 

@@ -1,16 +1,12 @@
 //! What all players see and have seen, kept from state to state.
 
-ghost use Rattle.std.specs.Prelude.{◌≡◌, ◌≤◌, ◌*◌, ◌⊎◌, ◌∷◌, ℕ, List, All, true, false, length, map, take, None, Some, Err, IfOk, IfErr, OnOk, OnErr};
-ghost use Rattle.std.specs.List.{list_any, list_all, zip};
-ghost use Rattle.sim_base.specs.declared.state.Row.{Row as AnyRow};
-ghost use Rattle.sim_base.specs.declared.state.State.{State as AnyState};
-ghost use Rattle.sim_base.specs.Limits.{IsSetup};
-ghost use Rattle.sim_base.specs.Validity.{IsValid};
-ghost use Rattle.sim_vision.specs.Vision.{all_counts, explored_with, part_of, cells_in};
+ghost use Rattle.std.specs.List.{zip};
+ghost use Rattle.std.specs.Prelude.{◌≡◌, ℕ, ◌*◌, ◌≤◌, true, false, ◌⊎◌, List, ◌∷◌, map, length, take, IfOk, IfErr, OnOk, OnErr, Some, None, Err, All};
+ghost use Rattle.sim_vision.specs.{After.all_seen, After.blind, After.joined_at, After.last_of, After.vision_after, After.vision_next, Told.explored_file};
+ghost use Rattle.sim_vision.specs.Common.{IsSetup, IsValid, list_all, list_any, Row as AnyRow, State as AnyState};
+ghost use Rattle.sim_vision.specs.Joining.{is_bit, is_missed, is_set, refusal_of};
+ghost use Rattle.sim_vision.specs.Vision.{all_counts, cells_in, explored_with, part_of};
 ghost use Rattle.sim_vision.specs.declared.fault.SightFault.TheVariants as faults;
-ghost use Rattle.sim_vision.specs.After.{blind, joined_at, vision_next, vision_after, last_of, all_seen};
-ghost use Rattle.sim_vision.specs.Joining.{is_bit, is_set, is_missed, refusal_of};
-ghost use Rattle.sim_vision.specs.Told.{explored_file};
 
 use crate::disc::Disc;
 use crate::fault::SightFault;
@@ -32,8 +28,7 @@ pub struct Sight<'a> {
 }
 
 impl<'a> Model for Sight<'a> {
-    ghost use Rattle.sim_vision.specs.Vision.{Vision};
-    ghost use Rattle.sim_vision.specs.Keeping.{Keeps};
+    ghost use Rattle.sim_vision.specs.{Keeping.Keeps, Vision.Vision};
 
     ghost Value = { Vision };
 

@@ -1,8 +1,7 @@
 //! What is told of a sight: a line for each player.
 
-ghost use Rattle.std.specs.Prelude.{◌≡◌, ◌≤◌, ◌++◌, nat_lt, count_by, length, take, OnOk, OnErr, string_bytes};
-ghost use Rattle.sim_vision.specs.Vision.{part_of};
-ghost use Rattle.sim_vision.specs.Told.{sight_text, sight_line, visible_in, explored_in};
+ghost use Rattle.std.specs.Prelude.{◌≡◌, ◌≤◌, ◌++◌, length, take, OnOk, OnErr, nat_lt, string_bytes, count_by};
+ghost use Rattle.sim_vision.specs.Told.{explored_in, sight_line, sight_text, visible_in};
 
 use crate::sight::Sight;
 use sim_base::OutOfMemory;

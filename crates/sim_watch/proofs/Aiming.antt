@@ -1,35 +1,24 @@
 -- Who aims at whom: what is asked of the groups, and the groups after a change.
-use Rattle.std.proofs.Common.{◌≡◌, ℕ, Bool, true, false, not, List, [], ◌∷◌, map, Option, Some, None, MatchOption, refl, sym, ap, ◌∙◌, subst}
-use Rattle.std.specs.Prelude.{◌==◌, ◌&&◌, filter, Result, Ok, Err, OnOk}
-use Rattle.std.proofs.lemmas.Bool.{eq-eqb, ne_eqb}
-use Rattle.sim_base.specs.declared.setup.Land.{Land}
-use Rattle.sim_system.specs.declared.fact.Fact.{Fact}
-use Rattle.sim_system.specs.declared.kind.Kind.TheVariants.{Watch}
-use Rattle.sim_system.specs.declared.note.Note.{Note}
-use Rattle.sim_system.specs.declared.note.Note.TheVariants.{Born}
-use Rattle.sim_system.specs.Facts.{id_of_fact, kept}
-use Rattle.sim_system.specs.Notes.{fact_with, noted, aim_of, NoteFits}
-use Rattle.sim_system.specs.Meanings.{Meaning}
-use Rattle.sim_system.specs.Answers.{watchers_among}
-use Rattle.sim_fact_lists.specs.declared.group.Group.{Group}
-use Rattle.sim_fact_lists.specs.Places.{Ascend, with_only}
-use Rattle.sim_fact_lists.specs.Groups.{keyed, listed, left_by, joined_by, AreGroups}
-use Rattle.sim_fact_lists.proofs.Rising.{Rising, rising, only_itself}
-use Rattle.sim_fact_lists.proofs.OneFact.{kept_id, rising_kept, noted_is}
-use Rattle.sim_fact_lists.proofs.Grouping.{relisted}
-use Rattle.sim_watch.specs.declared.aimer.Aimer.{Aimer}
-use Rattle.sim_watch.specs.Aimers.{told_in, facts_in}
-use Rattle.sim_watch.specs.Lists.{aim_key}
+use Rattle.{sim_base.specs.declared.setup.Land.Land, sim_system.specs.Meanings.Meaning}
+use Rattle.std.{proofs.Common.MatchOption, proofs.lemmas.Bool.eq-eqb, proofs.lemmas.Bool.ne_eqb, specs.Prelude.◌&&◌, specs.Prelude.OnOk, specs.Prelude.filter}
+use Rattle.sim_fact_lists.proofs.{Grouping.relisted, OneFact.noted_is, Rising.only_itself}
+use Rattle.sim_fact_lists.specs.{Groups.keyed, Groups.left_by, Groups.listed, declared.group.Group.Group}
+use Rattle.sim_system.specs.{Answers.watchers_among, Notes.noted, Notes.NoteFits, declared.note.Note.Note, declared.note.Note.TheVariants.Born}
+use Rattle.sim_watch.proofs.Common.{ap, AreGroups, Ascend, Fact, fact_with, facts_in, id_of_fact, joined_by, kept, kept_id, Rising, rising, rising_kept, subst}
+use Rattle.sim_watch.proofs.Common.{sym, told_in, Watch, with_only, ◌∙◌}
+use Rattle.sim_watch.proofs.Common.{◌≡◌, ℕ, Bool, true, false, not, List, [], ◌∷◌, map, ◌==◌, Some, None, Ok, Err, Option, Result, refl, aim_key, aim_of, Aimer}
 
 nobody : (facts : List Fact) → map id_of_fact (filter (λ (f : Fact). false) facts) ≡ []
 nobody [] = refl
 nobody (f ∷ facts) = nobody facts
 
 pub list_is : (facts : List Fact) (id : ℕ) → (id ≡ 0 → ⊥) → keyed aim_key id facts ≡ watchers_among facts id
-list_is facts id some = let other : (id == 0) ≡ false = ne_eqb id 0 some in sym (ap (λ (b : Bool). map id_of_fact (filter (λ (fact : Fact). not b && fact.target == id) facts)) other)
+list_is facts id some = let other : (id == 0) ≡ false = ne_eqb id 0 some in
+    sym (ap (λ (b : Bool). map id_of_fact (filter (λ (fact : Fact). not b && fact.target == id) facts)) other)
 
 pub no_list : (facts : List Fact) (id : ℕ) → id ≡ 0 → [] ≡ watchers_among facts id
-no_list facts id none = let same : (id == 0) ≡ true = eq-eqb id 0 none in sym (ap (λ (b : Bool). map id_of_fact (filter (λ (fact : Fact). not b && fact.target == id) facts)) same ∙ nobody facts)
+no_list facts id none = let same : (id == 0) ≡ true = eq-eqb id 0 none in
+    sym (ap (λ (b : Bool). map id_of_fact (filter (λ (fact : Fact). not b && fact.target == id) facts)) same ∙ nobody facts)
 
 -- ---- what is kept of one entity
 
@@ -46,17 +35,23 @@ module _ (aimers : List Aimer) (up : Ascend (told_in aimers)) where
   facts_rise = rising_kept Watch (told_in aimers) (rising (told_in aimers) up)
 
   -- an entity has another target
-  pub aimed_groups : (id from to : ℕ) (after : List Aimer) (old room left new : List Group) → AreGroups aim_key (facts_in aimers) old → fact_with (facts_in aimers) id ≡ part id from →
-      facts_in after ≡ with_only id (part id to) (facts_in aimers) → ((k : ℕ) → listed k room ≡ listed k old) → ((k : ℕ) → listed k left ≡ left_by aim_key (part id from) k (listed k room)) →
+  pub aimed_groups : (id from to : ℕ) (after : List Aimer) (old room left new : List Group) → AreGroups aim_key (facts_in aimers) old
+      → fact_with (facts_in aimers) id ≡ part id from →
+      facts_in after ≡ with_only id (part id to) (facts_in aimers) → ((k : ℕ) → listed k room ≡ listed k old)
+      → ((k : ℕ) → listed k left ≡ left_by aim_key (part id from) k (listed k room)) →
       ((k : ℕ) → listed k new ≡ joined_by aim_key (part id to) k (listed k left)) → AreGroups aim_key (facts_in after) new
   aimed_groups id from to after old room left new are found is same leaves joins =
-      relisted aim_key id (part id from) (part id to) (facts_in aimers) (facts_in after) room left new facts_rise (λ k. same k ∙ are k) (sym found) (part_named id to) (sym is) leaves joins
+      relisted aim_key id (part id from) (part id to) (facts_in aimers) (facts_in after) room left new facts_rise (λ k. same k ∙ are k) (sym found)
+      (part_named id to) (sym is) leaves joins
 
   -- an entity is gone
-  pub gone_groups : (id from : ℕ) (after : List Aimer) (old new : List Group) → AreGroups aim_key (facts_in aimers) old → fact_with (facts_in aimers) id ≡ part id from →
-      facts_in after ≡ with_only id None (facts_in aimers) → ((k : ℕ) → listed k new ≡ left_by aim_key (part id from) k (listed k old)) → AreGroups aim_key (facts_in after) new
+  pub gone_groups : (id from : ℕ) (after : List Aimer) (old new : List Group) → AreGroups aim_key (facts_in aimers) old → fact_with (facts_in aimers) id ≡
+      part id from →
+      facts_in after ≡ with_only id None (facts_in aimers) → ((k : ℕ) → listed k new ≡ left_by aim_key (part id from) k (listed k old))
+      → AreGroups aim_key (facts_in after) new
   gone_groups id from after old new are found is leaves =
-      relisted aim_key id (part id from) None (facts_in aimers) (facts_in after) old new new facts_rise are (sym found) (λ f e. absurd (cc)) (sym is) leaves (λ k. refl)
+      relisted aim_key id (part id from) None (facts_in aimers) (facts_in after) old new new facts_rise are (sym found) (λ f e. absurd (cc)) (sym is) leaves
+      (λ k. refl)
 
   -- an entity keeps its target
   pub same_target : (id from to : ℕ) → fact_with (facts_in aimers) id ≡ part id from → from ≡ to → facts_in aimers ≡ with_only id (part id to) (facts_in aimers)
@@ -65,18 +60,21 @@ module _ (aimers : List Aimer) (up : Ascend (told_in aimers)) where
 
   -- ---- a note
 
-  pub born_noted : (land : Option Land) (given : Note) (fact : Fact) → given ≡ Born fact → MatchOption land ⊥ (λ (l : Land). NoteFits Watch l (facts_in aimers) given) →
+  pub born_noted : (land : Option Land) (given : Note) (fact : Fact) → given ≡ Born fact
+      → MatchOption land ⊥ (λ (l : Land). NoteFits Watch l (facts_in aimers) given) →
       with_only fact.id (part fact.id fact.target) (facts_in aimers) ≡ noted Watch (facts_in aimers) given
   born_noted None given fact is fits = absurd fits
   born_noted (Some l) given fact is fits =
-      noted_is Watch l (facts_in aimers) (Born fact) facts_rise (subst (NoteFits Watch l (facts_in aimers)) is fits) ∙ ap (noted Watch (facts_in aimers)) (sym is)
+      noted_is Watch l (facts_in aimers) (Born fact) facts_rise (subst (NoteFits Watch l (facts_in aimers)) is fits) ∙ ap (noted Watch (facts_in aimers))
+      (sym is)
 
 -- ---- as a meaning
 
 abbrev meant : Option Land → List Fact → ℕ → Meaning
 meant land facts rebuilds = record { kind = Watch; land = land; facts = facts; rebuilds = rebuilds }
 
-pub meant_by : (land later : Option Land) (facts after : List Fact) (before rebuilds : ℕ) → later ≡ land → after ≡ facts → rebuilds ≡ before → meant later after rebuilds ≡ meant land facts before
+pub meant_by : (land later : Option Land) (facts after : List Fact) (before rebuilds : ℕ) → later ≡ land → after ≡ facts → rebuilds ≡ before
+    → meant later after rebuilds ≡ meant land facts before
 meant_by land later facts after before rebuilds same is count = λ i. meant (same i) (is i) (count i)
 
 pub on_ok : {E : Type 0} (r : Result (Unit {0}) E) (P Q : Type 0) → (P → Q) → OnOk r P → OnOk r Q

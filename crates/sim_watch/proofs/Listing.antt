@@ -1,25 +1,13 @@
 -- A list of entities and their targets: where one stands, and what the list stands for after an edit there.
-use Rattle.std.proofs.Common.{◌≡◌, ℕ, zero, suc, ◌<◌, ◌≤◌, cond, List, [], ◌∷◌, length, map, get_or, set, take, Option, Some, None, refl, sym, ap, ◌∙◌, subst, arith, inl, inr}
-use Rattle.std.specs.Prelude.{Result, Ok, Err, MatchResult, IsOk, is_ok, option_and_then}
-use Rattle.std.specs.List.{insert, remove, cons_option}
-use Rattle.std.specs.List.Sorted.{IsStrictlyIncreasing, IsNonDecreasingBy, IsBinarySearchResult, IsSearchInRange}
-use Rattle.std.specs.Ordering.{nat_cmp, ordering_index}
-use Rattle.std.proofs.lemmas.Bool.{cases_lt}
-use Rattle.std.proofs.lemmas.Bool.Decides.{nat_tests}
-use Rattle.std.proofs.lemmas.Cmp.{ranked}
-use Rattle.std.proofs.lemmas.List.{get_or-map, length-map, map-set, take_all}
-use Rattle.sim_system.specs.declared.fact.Fact.{Fact}
-use Rattle.sim_system.specs.declared.kind.Kind.TheVariants.{Watch}
-use Rattle.sim_system.specs.Facts.{id_of_fact, kept, kept_of}
-use Rattle.sim_system.specs.Notes.{fact_with, aim_of}
-use Rattle.sim_fact_lists.specs.Places.{Ascend, Stands, Belongs, with_only}
-use Rattle.sim_fact_lists.proofs.Rising.{rising, ascends}
-use Rattle.sim_fact_lists.proofs.OneFact.{replaced}
-use Rattle.sim_fact_lists.proofs.Standing.{rises, found_there, missing_there, put_over, put_nothing, put_new, nothing_new}
-use Rattle.sim_fact_lists.proofs.Rising.{missing_found}
-use Rattle.sim_watch.specs.declared.aimer.Aimer.{Aimer}
-use Rattle.sim_watch.specs.Aimers.{aim_in, told_in, facts_in}
-use Rattle.sim_watch.proofs.Telling.{found_kept, kept_only}
+use Rattle.{sim_fact_lists.proofs.Rising.ascends, sim_fact_lists.specs.Places.Belongs, sim_fact_lists.specs.Places.Stands, sim_watch.specs.Aimers.aim_in}
+use Rattle.std.proofs.Common.{zero, suc, ◌<◌, ◌≤◌, length, get_or, set, inl, inr}
+use Rattle.std.proofs.lemmas.{Bool.cases_lt, Bool.Decides.nat_tests, Cmp.ranked, List.get_or-map, List.length-map, List.map-set, List.take_all}
+use Rattle.std.specs.{Ordering.nat_cmp, Ordering.ordering_index, Prelude.is_ok, Prelude.IsOk, Prelude.MatchResult}
+use Rattle.std.specs.List.{insert, remove, Sorted.IsBinarySearchResult, Sorted.IsNonDecreasingBy, Sorted.IsSearchInRange, Sorted.IsStrictlyIncreasing}
+use Rattle.sim_fact_lists.proofs.Standing.{found_there, missing_there, nothing_new, put_new, put_nothing, put_over, rises}
+use Rattle.sim_watch.proofs.{Common.sym, Common.told_in, Common.Watch, Common.with_only, Common.◌∙◌, Telling.found_kept, Telling.kept_only}
+use Rattle.sim_watch.proofs.Common.{arith, Ascend, cons_option, Fact, fact_with, facts_in, id_of_fact, kept, kept_of, missing_found, replaced, rising, subst}
+use Rattle.sim_watch.proofs.Common.{◌≡◌, ℕ, cond, List, [], ◌∷◌, map, take, Some, None, Ok, Err, Option, Result, option_and_then, refl, aim_of, Aimer, ap}
 
 -- stands for an entity past the end
 abbrev nobody : Aimer
@@ -53,7 +41,8 @@ comparisons_rise aimers id up i j d le lt =
       | inr same ↦ (let e : i ≡ j = omega arith in rw e (omega arith))
     ]
 
-pub place_by : (aimers : List Aimer) (id : ℕ) (r : Result ℕ ℕ) → Ascend (told_in aimers) → IsSearchInRange r (length aimers) → IsBinarySearchResult (λ (a : Aimer). nat_cmp a.id id) aimers r → MatchResult r (Stands (told_in aimers) id) (Belongs (told_in aimers) id)
+pub place_by : (aimers : List Aimer) (id : ℕ) (r : Result ℕ ℕ) → Ascend (told_in aimers) → IsSearchInRange r (length aimers)
+    → IsBinarySearchResult (λ (a : Aimer). nat_cmp a.id id) aimers r → MatchResult r (Stands (told_in aimers) id) (Belongs (told_in aimers) id)
 place_by aimers id (Ok at) up within there = record {
   within = omega (arith, within, as_many aimers);
   same = λ d. ap id_of_fact (told_at aimers at nobody d within) ∙ ranked _ id _ (sym (there nobody));
@@ -76,16 +65,19 @@ place_by aimers id (Err at) up within parted =
 
 -- ---- the target of an entity
 
-pub target_there : (aimers : List Aimer) (id at : ℕ) (a : Aimer) → Ascend (told_in aimers) → Stands (told_in aimers) id at → a ≡ get_or aimers at a → fact_with (facts_in aimers) id ≡ kept Watch (aim_of id a.target)
+pub target_there : (aimers : List Aimer) (id at : ℕ) (a : Aimer) → Ascend (told_in aimers) → Stands (told_in aimers) id at → a ≡ get_or aimers at a
+    → fact_with (facts_in aimers) id ≡ kept Watch (aim_of id a.target)
 target_there aimers id at a up s is =
     let r = rising (told_in aimers) up in
     let lt : at < length aimers = omega (arith, s.within, as_many aimers) in
     let there : get_or (told_in aimers) at (aim_in a) ≡ aim_in a = told_at aimers at a (aim_in a) lt ∙ ap aim_in (sym is) in
     let named : a.id ≡ id = sym (ap id_of_fact there) ∙ s.same (aim_in a) in
-    found_kept Watch id (told_in aimers) r ∙ ap (option_and_then (kept Watch)) (found_there (told_in aimers) id at (aim_in a) r s ∙ ap Some there) ∙ ap (λ (n : ℕ). kept Watch (aim_of n a.target)) named
+    found_kept Watch id (told_in aimers) r ∙ ap (option_and_then (kept Watch)) (found_there (told_in aimers) id at (aim_in a) r s ∙ ap Some there) ∙
+    ap (λ (n : ℕ). kept Watch (aim_of n a.target)) named
 
 pub no_target : (aimers : List Aimer) (id at : ℕ) → Ascend (told_in aimers) → Belongs (told_in aimers) id at → fact_with (facts_in aimers) id ≡ None
-no_target aimers id at up b = found_kept Watch id (told_in aimers) (rising (told_in aimers) up) ∙ ap (option_and_then (kept Watch)) (missing_found id (told_in aimers) (missing_there (told_in aimers) id at b))
+no_target aimers id at up b = found_kept Watch id (told_in aimers) (rising (told_in aimers) up) ∙ ap (option_and_then (kept Watch))
+    (missing_found id (told_in aimers) (missing_there (told_in aimers) id at b))
 
 -- ---- an edit
 
@@ -110,26 +102,34 @@ module _ (aimers : List Aimer) (id target at : ℕ) (up : Ascend (told_in aimers
   abbrev aiming : Aimer
   aiming = record { id = id; target = target }
 
-  edit : (after : List Aimer) (o : Option Fact) → ((f : Fact) → o ≡ Some f → f.id ≡ id) → told_in after ≡ with_only id o (told_in aimers) → IsEdit aimers after id o
-  edit after o named is = record { ascend = subst Ascend (sym is) (ascends (with_only id o (told_in aimers)) ((replaced id o (told_in aimers) named (rising (told_in aimers) up)).later)); told = is }
+  edit : (after : List Aimer) (o : Option Fact) → ((f : Fact) → o ≡ Some f → f.id ≡ id) → told_in after ≡ with_only id o (told_in aimers)
+      → IsEdit aimers after id o
+  edit after o named is = record {
+    ascend = subst Ascend (sym is) (ascends (with_only id o (told_in aimers)) ((replaced id o (told_in aimers) named (rising (told_in aimers) up)).later));
+    told = is;
+  }
 
   named : (f : Fact) → Some (aim_of id target) ≡ Some f → f.id ≡ id
   named f e = let same : aim_of id target ≡ f = cc in sym (ap id_of_fact same)
 
   pub aimed_there : Stands (told_in aimers) id at → IsEdit aimers (set aimers at aiming) id (Some (aim_of id target))
-  aimed_there s = edit (set aimers at aiming) (Some (aim_of id target)) named (map-set aim_in aimers at aiming ∙ put_over (told_in aimers) (told_in aimers) id at (Some (aim_of id target)) (aim_of id target) refl up s refl refl)
+  aimed_there s = edit (set aimers at aiming) (Some (aim_of id target)) named (map-set aim_in aimers at aiming ∙ put_over (told_in aimers) (told_in aimers)
+      id at (Some (aim_of id target)) (aim_of id target) refl up s refl refl)
 
   pub aimed_new : Belongs (told_in aimers) id at → IsEdit aimers (insert aimers at aiming) id (Some (aim_of id target))
-  aimed_new b = edit (insert aimers at aiming) (Some (aim_of id target)) named (map_insert aimers at aiming ∙ put_new (told_in aimers) (told_in aimers) id at (Some (aim_of id target)) (aim_of id target) refl b refl refl)
+  aimed_new b = edit (insert aimers at aiming) (Some (aim_of id target)) named (map_insert aimers at aiming ∙ put_new (told_in aimers) (told_in aimers)
+      id at (Some (aim_of id target)) (aim_of id target) refl b refl refl)
 
   pub left_there : Stands (told_in aimers) id at → IsEdit aimers (remove aimers at) id None
-  left_there s = edit (remove aimers at) None (λ f e. absurd (cc)) (map_remove aimers at ∙ put_nothing (told_in aimers) (told_in aimers) id at None refl up s refl)
+  left_there s = edit (remove aimers at) None (λ f e. absurd (cc)) (map_remove aimers at ∙ put_nothing (told_in aimers) (told_in aimers) id at None refl up s
+      refl)
 
   pub left_none : Belongs (told_in aimers) id at → IsEdit aimers aimers id None
   left_none b = edit aimers None (λ f e. absurd (cc)) (nothing_new (told_in aimers) (told_in aimers) id at None refl b refl)
 
   -- what is kept after it
-  pub facts_aimed : (after : List Aimer) → IsEdit aimers after id (Some (aim_of id target)) → facts_in after ≡ with_only id (kept Watch (aim_of id target)) (facts_in aimers)
+  pub facts_aimed : (after : List Aimer) → IsEdit aimers after id (Some (aim_of id target)) → facts_in after ≡ with_only id (kept Watch (aim_of id target))
+      (facts_in aimers)
   facts_aimed after e = ap (kept_of Watch) e.told ∙ kept_only Watch id (Some (aim_of id target)) (told_in aimers) named (rising (told_in aimers) up)
 
   pub facts_left : (after : List Aimer) → IsEdit aimers after id None → facts_in after ≡ with_only id None (facts_in aimers)
@@ -157,7 +157,8 @@ whole : (facts : List Fact) (all : List Aimer) (n : ℕ) → all ≡ map aimer_o
 whole facts all n is le = is ∙ ap (map aimer_of) (take_all n facts le)
 
 pub listed_ascend : (facts : List Fact) (all : List Aimer) (n : ℕ) → Ascend facts → all ≡ map aimer_of (take n facts) → length facts ≤ n → Ascend (told_in all)
-listed_ascend facts all n up is le = subst IsStrictlyIncreasing (sym (ap (λ (aimers : List Aimer). map id_of_fact (told_in aimers)) (whole facts all n is le) ∙ ids_of facts)) up
+listed_ascend facts all n up is le =
+    subst IsStrictlyIncreasing (sym (ap (λ (aimers : List Aimer). map id_of_fact (told_in aimers)) (whole facts all n is le) ∙ ids_of facts)) up
 
 pub listed_facts : (facts : List Fact) (all : List Aimer) (n : ℕ) → all ≡ map aimer_of (take n facts) → length facts ≤ n → facts_in all ≡ kept_of Watch facts
 listed_facts facts all n is le = ap facts_in (whole facts all n is le) ∙ kept_alike facts

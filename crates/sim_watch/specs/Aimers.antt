@@ -1,10 +1,6 @@
 -- What a list of entities and their targets stands for.
-use Rattle.std.specs.Prelude.{List, map}
-use Rattle.sim_system.specs.declared.fact.Fact.{Fact}
-use Rattle.sim_system.specs.declared.kind.Kind.TheVariants.{Watch}
-use Rattle.sim_system.specs.Facts.{kept_of}
-use Rattle.sim_system.specs.Notes.{aim_of}
-use Rattle.sim_watch.specs.declared.aimer.Aimer.{Aimer}
+use Rattle.{sim_watch.specs.declared.aimer.Aimer.Aimer, std.specs.Prelude.List, std.specs.Prelude.map}
+use Rattle.sim_system.specs.{Facts.kept_of, Notes.aim_of, declared.fact.Fact.Fact, declared.kind.Kind.TheVariants.Watch}
 
 -- an entity of which only its target is told
 abbrev pub aim_in : Aimer → Fact

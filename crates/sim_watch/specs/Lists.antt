@@ -1,8 +1,6 @@
 -- The list that is kept of each target.
+use Rattle.{sim_fact_lists.specs.Groups.HasRoom, sim_fact_lists.specs.declared.group.Group.Group, sim_system.specs.declared.fact.Fact.Fact}
 use Rattle.std.specs.Prelude.{◌≡◌, ℕ, List}
-use Rattle.sim_system.specs.declared.fact.Fact.{Fact}
-use Rattle.sim_fact_lists.specs.declared.group.Group.{Group}
-use Rattle.sim_fact_lists.specs.Groups.{HasRoom}
 
 -- an entity is listed under its target
 abbrev pub aim_key : Fact → ℕ

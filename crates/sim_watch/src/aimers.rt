@@ -1,12 +1,10 @@
 //! The target of each entity, in a list by id. One that has no target stays there until it is gone, so that nothing moves along
 //! the list when it takes the next. An entity is looked for first where the last one was found, and a little behind it.
 
-ghost use Rattle.std.specs.Prelude.{◌≡◌, ◌<◌, [], None, IfOk, IfSome, OnOk, MatchResult, vec_len, vec_capacity};
-ghost use Rattle.sim_system.specs.declared.kind.Kind.TheVariants.{Watch as WatchKind};
-ghost use Rattle.sim_system.specs.Facts.{kept, kept_of};
-ghost use Rattle.sim_system.specs.Notes.{aim_of, fact_with};
-ghost use Rattle.sim_fact_lists.specs.Places.{Ascend, Stands, Belongs, with_only};
-ghost use Rattle.sim_watch.specs.Aimers.{told_in, facts_in};
+ghost use Rattle.std.specs.Prelude.{◌≡◌, ◌<◌, [], IfSome, IfOk, OnOk, MatchResult, None, vec_len, vec_capacity};
+ghost use Rattle.sim_fact_lists.specs.Places.{Ascend, Belongs, Stands, with_only};
+ghost use Rattle.sim_system.specs.{Facts.kept, Facts.kept_of, Notes.aim_of, Notes.fact_with, declared.kind.Kind.TheVariants.Watch as WatchKind};
+ghost use Rattle.sim_watch.specs.Aimers.{facts_in, told_in};
 
 use crate::aimer::Aimer;
 use sim_base::OutOfMemory;

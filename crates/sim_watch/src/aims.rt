@@ -1,12 +1,9 @@
 //! Who aims at whom: groups of ids whose key is their target. Nobody is listed under no target. Most notes take a target or let
 //! one go, so half of the calls here are about none; they are asked to stand in their caller's place, where that is seen at once.
 
-ghost use Rattle.std.specs.Prelude.{◌≡◌, ℕ, OnOk, IfOk};
-ghost use Rattle.sim_system.specs.declared.kind.Kind.TheVariants.{Watch as WatchKind};
-ghost use Rattle.sim_system.specs.Facts.{kept, kept_of};
-ghost use Rattle.sim_system.specs.Notes.{aim_of};
-ghost use Rattle.sim_fact_lists.specs.Places.{Ascend};
-ghost use Rattle.sim_fact_lists.specs.Groups.{AreGroups, listed, left_by, joined_by};
+ghost use Rattle.std.specs.Prelude.{◌≡◌, ℕ, IfOk, OnOk};
+ghost use Rattle.sim_fact_lists.specs.{Groups.AreGroups, Groups.joined_by, Groups.left_by, Groups.listed, Places.Ascend};
+ghost use Rattle.sim_system.specs.{Facts.kept, Facts.kept_of, Notes.aim_of, declared.kind.Kind.TheVariants.Watch as WatchKind};
 ghost use Rattle.sim_watch.specs.Lists.{aim_key, HasRoomFor};
 
 use sim_base::OutOfMemory;

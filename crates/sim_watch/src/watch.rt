@@ -1,14 +1,9 @@
 //! The system: the target of each entity, and beside them a list of ids per target.
 
-ghost use Rattle.std.specs.Prelude.{◌≡◌, None, [], IfOk, OnOk, OnErr};
-ghost use Rattle.sim_system.specs.declared.kind.Kind.TheVariants.{Watch as WatchKind};
-ghost use Rattle.sim_system.specs.Facts.{kept};
-ghost use Rattle.sim_system.specs.Notes.{aim_of};
-ghost use Rattle.sim_system.specs.Answers.{watchers_among};
-ghost use Rattle.sim_fact_lists.specs.Places.{with_only};
-ghost use Rattle.sim_fact_lists.specs.Groups.{AreGroups, group_with, listed};
-ghost use Rattle.sim_watch.specs.Aimers.{told_in, facts_in};
-ghost use Rattle.sim_watch.specs.Lists.{aim_key};
+ghost use Rattle.std.specs.Prelude.{◌≡◌, [], IfOk, OnOk, OnErr, None};
+ghost use Rattle.sim_fact_lists.specs.{Groups.AreGroups, Groups.group_with, Groups.listed, Places.with_only};
+ghost use Rattle.sim_system.specs.{Answers.watchers_among, Facts.kept, Notes.aim_of, declared.kind.Kind.TheVariants.Watch as WatchKind};
+ghost use Rattle.sim_watch.specs.{Aimers.facts_in, Aimers.told_in, Lists.aim_key};
 
 use crate::aimers::Aimers;
 use crate::aims::{groups_of, join, leave, make_room};
@@ -62,7 +57,8 @@ impl Watch {
 
     // An entity has this target, or none. All room is made first, so that a refusal leaves all as it was.
     fn aim(&mut self, id: u32, to: u32) -> Result<(), OutOfMemory>
-        ensures ok { OnOk result (facts_in self.new.aimers.aimers.items ≡ with_only id (kept WatchKind (aim_of id to)) (facts_in self.old.aimers.aimers.items)) }
+        ensures ok { OnOk result (facts_in self.new.aimers.aimers.items ≡ with_only id (kept WatchKind (aim_of id to))
+            (facts_in self.old.aimers.aimers.items)) }
         ensures err { OnErr result (facts_in self.new.aimers.aimers.items ≡ facts_in self.old.aimers.aimers.items) }
         ensures land { self.new.land ≡ self.old.land }
         ensures rebuilds { self.new.rebuilds ≡ self.old.rebuilds }

@@ -1,18 +1,10 @@
 -- What reading gives for bytes that are the frame of a message: that message, or memory was refused. Bytes of another form are no frame.
-use Rattle.std.proofs.Common.{◌≡◌, ℕ, Bool, true, false, List, Result, Ok, Err, sym, ◌∙◌, subst, IfOk, IfErr}
-use Rattle.std.proofs.lemmas.Bool.{false≢true}
-use Rattle.sim_plain.specs.declared.message.UpOf.{UpOf}
-use Rattle.sim_plain.specs.declared.message.DownOf.{DownOf}
-use Rattle.sim_wire.specs.Fits.{IsUpFrame, IsDownFrame}
-use Rattle.sim_wire.specs.Form.{up_form, down_form}
-use Rattle.sim_wire.specs.Reading.{up_at, down_at, Gives}
-use Rattle.sim_wire.specs.Refusals.{RefusedFor, GivesMessage}
-use Rattle.sim_wire.specs.declared.fault.WireFault.{WireFault}
+use Rattle.std.proofs.Common.{IfOk, IfErr, Ok, Err, Result}
+use Rattle.sim_wire.proofs.{Common.UpOf, Common.◌∙◌, Formed.down_formed, Formed.up_formed, Fronts.AreBytes}
+use Rattle.sim_wire.proofs.{Forms.down_has_form, Forms.up_has_form, Standing.down_same, Standing.down_unread, Standing.up_same, Standing.up_unread}
+use Rattle.sim_wire.proofs.Common.{◌≡◌, ℕ, Bool, true, false, List, down_at, down_form, DownOf, false≢true, IsDownFrame, IsUpFrame, subst, sym, up_at, up_form}
+use Rattle.sim_wire.specs.{Reading.Gives, Refusals.GivesMessage, Refusals.RefusedFor, declared.fault.WireFault.WireFault}
 use Rattle.sim_wire.specs.declared.fault.WireFault.TheVariants as faults
-use Rattle.sim_wire.proofs.Standing.{up_same, up_unread, down_same, down_unread}
-use Rattle.sim_wire.proofs.Formed.{up_formed, down_formed}
-use Rattle.sim_wire.proofs.Forms.{up_has_form, down_has_form}
-use Rattle.sim_wire.proofs.Fronts.{AreBytes}
 
 -- ---- up
 
@@ -28,7 +20,8 @@ module _ (bytes after : List ℕ) (all : AreBytes bytes) (answer : Bool) (tells 
   up_read (Ok read) gives = subst (IsUpFrame bytes) (sym (up_same bytes after some_up.0 read gives some_up.1)) some_up.1
   up_read (Err fault) gives = tt
 
-  pub up_gives : (result : Result (UpOf (List ℕ)) WireFault) → Gives up_at bytes result after → (message : UpOf (List ℕ)) → IsUpFrame bytes message → GivesMessage message result
+  pub up_gives : (result : Result (UpOf (List ℕ)) WireFault) → Gives up_at bytes result after → (message : UpOf (List ℕ)) → IsUpFrame bytes message
+      → GivesMessage message result
   up_gives (Ok read) gives message is = up_same bytes after message read gives is
   up_gives (Err faults.TooLong) gives message is = gives
   up_gives (Err faults.NotFrame) gives message is = up_unread bytes message gives is
@@ -54,7 +47,8 @@ module _ (bytes after : List ℕ) (all : AreBytes bytes) (answer : Bool) (tells 
   down_read (Ok read) gives = subst (IsDownFrame bytes) (sym (down_same bytes after some_down.0 read gives some_down.1)) some_down.1
   down_read (Err fault) gives = tt
 
-  pub down_gives : (result : Result (DownOf (List ℕ)) WireFault) → Gives down_at bytes result after → (message : DownOf (List ℕ)) → IsDownFrame bytes message → GivesMessage message result
+  pub down_gives : (result : Result (DownOf (List ℕ)) WireFault) → Gives down_at bytes result after → (message : DownOf (List ℕ)) → IsDownFrame bytes message
+      → GivesMessage message result
   down_gives (Ok read) gives message is = down_same bytes after message read gives is
   down_gives (Err faults.TooLong) gives message is = gives
   down_gives (Err faults.NotFrame) gives message is = down_unread bytes message gives is

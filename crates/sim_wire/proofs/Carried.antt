@@ -1,22 +1,12 @@
 -- The bytes of a frame tell of the message what is asked of them before memory is taken: whether it has entities or bytes of a state.
-use Rattle.std.proofs.Common.{◌≡◌, ℕ, ◌^◌, ◌<◌, List, [], ◌∷◌, ◌++◌, length, refl, sym, ap, ◌∙◌, append_assoc, arith}
-use Rattle.std.specs.List.{flat_map}
-use Rattle.std.proofs.lemmas.List.{append-nil}
-use Rattle.sim_base.specs.declared.command.Command.{Command}
-use Rattle.sim_base.specs.declared.command.Command.TheVariants.{Walk, Stop, Attack, Delete, Place, Train, Resign}
-use Rattle.sim_base.specs.Bytes.{u16_bytes, u32_bytes}
-use Rattle.sim_base.specs.Spelling.{point_bytes}
-use Rattle.sim_bytes.specs.Numbers.{u16_back, u32_back}
-use Rattle.sim_bytes.specs.Reading.{byte_at}
-use Rattle.sim_plain.specs.declared.message.UpOf.{UpOf}
-use Rattle.sim_plain.specs.declared.message.UpOf.TheVariants as up
-use Rattle.sim_plain.specs.declared.message.DownOf.{DownOf}
+use Rattle.sim_wire.proofs.Common.{command_bytes, CommandFits, Delete, down_body, DownFits, DownOf, ids_bytes, IdsFit, IsDownFrame, IsUpFrame, Place}
+use Rattle.sim_wire.proofs.Common.{point_bytes, read_and, Resign, Stop, sym, Train, u16_back, u16_bytes, u32_back, u32_bytes, up_body, UpFits, UpOf, Walk, ◌∙◌}
+use Rattle.sim_wire.proofs.Common.{◌≡◌, ℕ, ◌^◌, ◌<◌, List, [], ◌∷◌, ◌++◌, length, flat_map, refl, ap, append-nil, append_assoc, arith, Attack, byte_at, Command}
+use Rattle.sim_wire.proofs.Standing.{short_down, short_up, size_back}
+use Rattle.sim_wire.specs.Memory.{command_takes, down_carries, down_command_takes, down_state_takes, down_tag_takes, down_takes, has_some, ids_take, kind_takes}
+use Rattle.sim_wire.specs.Memory.{names_some, state_takes, up_carries, up_command_takes, up_state_takes, up_tag_takes, up_takes}
 use Rattle.sim_plain.specs.declared.message.DownOf.TheVariants as down
-use Rattle.sim_wire.specs.Frames.{ids_bytes, command_bytes, up_body, down_body}
-use Rattle.sim_wire.specs.Fits.{IdsFit, CommandFits, UpFits, DownFits, IsUpFrame, IsDownFrame}
-use Rattle.sim_wire.specs.Form.{read_and}
-use Rattle.sim_wire.specs.Memory.{has_some, names_some, up_carries, down_carries, ids_take, kind_takes, command_takes, state_takes, up_command_takes, up_state_takes, up_tag_takes, up_takes, down_state_takes, down_command_takes, down_tag_takes, down_takes}
-use Rattle.sim_wire.proofs.Standing.{size_back, short_up, short_down}
+use Rattle.sim_plain.specs.declared.message.UpOf.TheVariants as up
 
 -- ---- commands
 

@@ -1,20 +1,13 @@
 -- Bytes of the form of a frame are the frame of a message.
-use Rattle.std.proofs.Common.{◌≡◌, ℕ, ◌+◌, ◌*◌, ◌≤◌, Bool, true, false, eqb, ltb, List, [], ◌∷◌, ◌++◌, length, refl, sym, ap, ◌∙◌, subst, append_assoc, arith}
-use Rattle.std.specs.Prelude.{if◌then◌else◌}
-use Rattle.std.specs.List.{flat_map}
-use Rattle.std.proofs.lemmas.Bool.{ltb-false, eqb-true, false≢true}
-use Rattle.sim_base.specs.declared.command.Command.{Command}
-use Rattle.sim_base.specs.declared.command.Command.TheVariants.{Walk, Stop, Attack, Delete, Place, Train, Resign}
-use Rattle.sim_base.specs.Bytes.{u16_bytes, u32_bytes}
-use Rattle.sim_bytes.specs.Reading.{byte_at}
-use Rattle.sim_plain.specs.declared.message.UpOf.{UpOf}
-use Rattle.sim_plain.specs.declared.message.UpOf.TheVariants as up
-use Rattle.sim_plain.specs.declared.message.DownOf.{DownOf}
+use Rattle.std.{proofs.lemmas.Bool.eqb-true, specs.Prelude.if◌then◌else◌}
+use Rattle.sim_wire.proofs.Common.{Attack, byte_at, Command, command_bytes, command_form, CommandFits, Delete, down_body, down_command_form, down_form}
+use Rattle.sim_wire.proofs.Common.{down_tag_form, DownFits, DownOf, false≢true, framed, ids_bytes, ids_form, IdsFit, IsDownFrame, IsUpFrame, kind_form}
+use Rattle.sim_wire.proofs.Common.{ltb-false, Place, read_and, Resign, state_form, state_limit, Stop, subst, sym, Train, u16_bytes, u32_bytes, up_body}
+use Rattle.sim_wire.proofs.Common.{up_command_form, up_form, up_tag_form, UpFits, UpOf, Walk, ◌∙◌}
+use Rattle.sim_wire.proofs.Common.{◌≡◌, ℕ, ◌+◌, ◌*◌, ◌≤◌, Bool, true, false, eqb, ltb, List, [], ◌∷◌, ◌++◌, length, flat_map, refl, ap, append_assoc, arith}
+use Rattle.sim_wire.proofs.Fronts.{AreBytes, ends, half, half_held, last_half, last_point, last_word, none_left, word, word_held, words}
 use Rattle.sim_plain.specs.declared.message.DownOf.TheVariants as down
-use Rattle.sim_wire.specs.Frames.{ids_bytes, command_bytes, up_body, down_body, framed}
-use Rattle.sim_wire.specs.Fits.{state_limit, IdsFit, CommandFits, UpFits, DownFits, IsUpFrame, IsDownFrame}
-use Rattle.sim_wire.specs.Form.{read_and, ids_form, kind_form, command_form, state_form, up_command_form, up_tag_form, down_command_form, down_tag_form, up_form, down_form}
-use Rattle.sim_wire.proofs.Fronts.{AreBytes, half, word, half_held, word_held, words, none_left, ends, last_word, last_half, last_point}
+use Rattle.sim_plain.specs.declared.message.UpOf.TheVariants as up
 
 -- ---- tests that held
 
@@ -57,7 +50,8 @@ ids_formed behind bytes all e =
       ids = more.ids;
       rest = more.rest;
       fits = record { few = omega (arith, more.count); each = more.each };
-      is = h.0.is ∙ ap (λ (x : List ℕ). u16_bytes h.0.number ++ x) more.is ∙ ap (λ (n : ℕ). u16_bytes n ++ (flat_map u32_bytes more.ids ++ more.rest)) (sym more.count) ∙ sym (append_assoc (u16_bytes (length more.ids)) (flat_map u32_bytes more.ids) more.rest);
+      is = h.0.is ∙ ap (λ (x : List ℕ). u16_bytes h.0.number ++ x) more.is ∙ ap (λ (n : ℕ). u16_bytes n ++ (flat_map u32_bytes more.ids ++ more.rest))
+          (sym more.count) ∙ sym (append_assoc (u16_bytes (length more.ids)) (flat_map u32_bytes more.ids) more.rest);
       left = omega (arith, more.left);
       others = more.others;
     }
@@ -82,7 +76,12 @@ attack_formed : (bytes : List ℕ) → AreBytes bytes → ids_form 4 bytes ≡ t
 attack_formed bytes all e =
     let i = ids_formed 4 bytes all e in
     let target = last_word i.rest i.others i.left in
-    record { command = Attack i.ids target.number; fits = (i.fits, target.fits); is = ap (λ (x : List ℕ). 3 ∷ x) (i.is ∙ ap (λ (x : List ℕ). ids_bytes i.ids ++ x) target.is) }
+    record {
+      command = Attack i.ids target.number;
+      fits = (i.fits, target.fits);
+      is =
+          ap (λ (x : List ℕ). 3 ∷ x) (i.is ∙ ap (λ (x : List ℕ). ids_bytes i.ids ++ x) target.is);
+    }
 
 delete_formed : (bytes : List ℕ) → AreBytes bytes → ids_form 0 bytes ≡ true → OfCommand (4 ∷ bytes)
 delete_formed bytes all e =
@@ -94,14 +93,24 @@ place_formed bytes all e =
     let sized = eqb-true (length bytes) 10 e in
     let template = half bytes all (omega arith) in
     let p = last_point template.rest template.others (omega (arith, template.left)) in
-    record { command = Place template.number p.point; fits = (template.fits, p.fits); is = ap (λ (x : List ℕ). 5 ∷ x) (template.is ∙ ap (λ (x : List ℕ). u16_bytes template.number ++ x) p.is) }
+    record {
+      command = Place template.number p.point;
+      fits = (template.fits, p.fits);
+      is =
+          ap (λ (x : List ℕ). 5 ∷ x) (template.is ∙ ap (λ (x : List ℕ). u16_bytes template.number ++ x) p.is);
+    }
 
 train_formed : (bytes : List ℕ) → AreBytes bytes → eqb (length bytes) 6 ≡ true → OfCommand (6 ∷ bytes)
 train_formed bytes all e =
     let sized = eqb-true (length bytes) 6 e in
     let building = word bytes all (omega arith) in
     let template = last_half building.rest building.others (omega (arith, building.left)) in
-    record { command = Train building.number template.number; fits = (building.fits, template.fits); is = ap (λ (x : List ℕ). 6 ∷ x) (building.is ∙ ap (λ (x : List ℕ). u32_bytes building.number ++ x) template.is) }
+    record {
+      command = Train building.number template.number;
+      fits = (building.fits, template.fits);
+      is =
+          ap (λ (x : List ℕ). 6 ∷ x) (building.is ∙ ap (λ (x : List ℕ). u32_bytes building.number ++ x) template.is);
+    }
 
 resign_formed : (bytes : List ℕ) → eqb (length bytes) 0 ≡ true → OfCommand (7 ∷ bytes)
 resign_formed bytes e = record { command = Resign; fits = tt; is = ap (λ (x : List ℕ). 7 ∷ x) (none_left bytes (eqb-true (length bytes) 0 e)) }
@@ -154,7 +163,12 @@ unfolding up_command_form
 up_command_formed bytes all e =
     let turn = word_held bytes (λ turn. command_form) all e in
     let c = command_formed turn.0.rest turn.0.others turn.1 in
-    record { message = up.Command turn.0.number c.command; fits = (turn.0.fits, c.fits); is = ap (λ (x : List ℕ). 2 ∷ x) (turn.0.is ∙ ap (λ (x : List ℕ). u32_bytes turn.0.number ++ x) c.is) }
+    record {
+      message = up.Command turn.0.number c.command;
+      fits = (turn.0.fits, c.fits);
+      is =
+          ap (λ (x : List ℕ). 2 ∷ x) (turn.0.is ∙ ap (λ (x : List ℕ). u32_bytes turn.0.number ++ x) c.is);
+    }
 
 done_formed : (bytes : List ℕ) → AreBytes bytes → eqb (length bytes) 4 ≡ true → OfUp (3 ∷ bytes)
 done_formed bytes all e =
@@ -196,8 +210,14 @@ unfolding up_form
 up_formed bytes all e =
     let size = word_held bytes (λ size body. if eqb size (length body) then read_and (byte_at body) up_tag_form else false) all e in
     let p = and_so (eqb size.0.number (length size.0.rest)) (read_and (byte_at size.0.rest) up_tag_form) size.1 in
-    let body = up_body_formed size.0.rest size.0.others p.1 in
-    (body.message, record { fits = body.fits; framed = size.0.is ∙ ap (λ (n : ℕ). u32_bytes n ++ size.0.rest) (eqb-true size.0.number (length size.0.rest) p.0) ∙ ap framed body.is })
+    let body = up_body_formed size.0.rest size.0.others p.1 in (
+      body.message,
+      record {
+        fits = body.fits;
+        framed = size.0.is ∙ ap (λ (n : ℕ). u32_bytes n ++ size.0.rest) (eqb-true size.0.number (length size.0.rest) p.0) ∙
+            ap framed body.is;
+      },
+    )
 
 -- ---- what the server says
 
@@ -261,7 +281,12 @@ notice_formed bytes all e =
     let sized = eqb-true (length bytes) 5 e in
     let turn = word bytes all (omega arith) in
     let client = one turn.rest (omega (arith, turn.left)) in
-    record { message = down.Notice turn.number client.byte; fits = turn.fits; is = ap (λ (x : List ℕ). 5 ∷ x) (turn.is ∙ ap (λ (x : List ℕ). u32_bytes turn.number ++ x) client.is) }
+    record {
+      message = down.Notice turn.number client.byte;
+      fits = turn.fits;
+      is =
+          ap (λ (x : List ℕ). 5 ∷ x) (turn.is ∙ ap (λ (x : List ℕ). u32_bytes turn.number ++ x) client.is);
+    }
 
 refused_formed : (bytes : List ℕ) → eqb (length bytes) 1 ≡ true → OfDown (6 ∷ bytes)
 refused_formed bytes e =
@@ -290,5 +315,11 @@ unfolding down_form
 down_formed bytes all e =
     let size = word_held bytes (λ size body. if eqb size (length body) then read_and (byte_at body) down_tag_form else false) all e in
     let p = and_so (eqb size.0.number (length size.0.rest)) (read_and (byte_at size.0.rest) down_tag_form) size.1 in
-    let body = down_body_formed size.0.rest size.0.others p.1 in
-    (body.message, record { fits = body.fits; framed = size.0.is ∙ ap (λ (n : ℕ). u32_bytes n ++ size.0.rest) (eqb-true size.0.number (length size.0.rest) p.0) ∙ ap framed body.is })
+    let body = down_body_formed size.0.rest size.0.others p.1 in (
+      body.message,
+      record {
+        fits = body.fits;
+        framed = size.0.is ∙ ap (λ (n : ℕ). u32_bytes n ++ size.0.rest) (eqb-true size.0.number (length size.0.rest) p.0) ∙
+            ap framed body.is;
+      },
+    )

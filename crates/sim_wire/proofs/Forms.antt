@@ -1,23 +1,14 @@
 -- The frame of a message has the form of a frame.
-use Rattle.std.proofs.Common.{◌≡◌, ℕ, ◌+◌, ◌*◌, ◌^◌, ◌<◌, ◌≤◌, true, false, eqb, ltb, List, [], ◌∷◌, ◌++◌, length, refl, sym, ap, ◌∙◌, append_assoc, arith}
-use Rattle.std.specs.List.{flat_map}
-use Rattle.std.proofs.lemmas.Bool.{le-ltb, eq-eqb}
-use Rattle.std.proofs.lemmas.List.{append-nil, length-append}
-use Rattle.sim_base.specs.declared.command.Command.{Command}
-use Rattle.sim_base.specs.declared.command.Command.TheVariants.{Walk, Stop, Attack, Delete, Place, Train, Resign}
-use Rattle.sim_base.specs.Bytes.{u16_bytes, u32_bytes}
-use Rattle.sim_base.specs.Spelling.{point_bytes}
-use Rattle.sim_bytes.specs.Numbers.{u16_back, u32_back, length-u16_bytes, length-u32_bytes}
-use Rattle.sim_bytes.specs.Reading.{byte_at}
-use Rattle.sim_plain.specs.declared.message.UpOf.{UpOf}
-use Rattle.sim_plain.specs.declared.message.UpOf.TheVariants as up
-use Rattle.sim_plain.specs.declared.message.DownOf.{DownOf}
+use Rattle.std.proofs.lemmas.Bool.{eq-eqb}
+use Rattle.sim_wire.proofs.{Common.UpFits, Common.UpOf, Common.Walk, Common.◌∙◌, Standing.short_down, Standing.short_up, Standing.size_back}
+use Rattle.sim_wire.proofs.Common.{append_assoc, arith, Attack, byte_at, Command, command_bytes, command_form, CommandFits, Delete, down_body}
+use Rattle.sim_wire.proofs.Common.{down_command_form, down_form, down_tag_form, DownFits, DownOf, ids_bytes, ids_form, IdsFit, IsDownFrame, IsUpFrame}
+use Rattle.sim_wire.proofs.Common.{kind_form, le-ltb, length-append, length-u16_bytes, length-u32_bytes, Place, point_bytes, read_and, Resign, state_form}
+use Rattle.sim_wire.proofs.Common.{state_limit, Stop, sym, Train, u16_back, u16_bytes, u32_back, u32_bytes, up_body, up_command_form, up_form, up_tag_form}
+use Rattle.sim_wire.proofs.Common.{◌≡◌, ℕ, ◌+◌, ◌*◌, ◌^◌, ◌<◌, ◌≤◌, true, false, eqb, ltb, List, [], ◌∷◌, ◌++◌, length, flat_map, refl, ap, append-nil}
+use Rattle.sim_wire.proofs.Lengths.{length_behind, length_of_numbers, length_of_point, length_of_turn}
 use Rattle.sim_plain.specs.declared.message.DownOf.TheVariants as down
-use Rattle.sim_wire.specs.Frames.{ids_bytes, command_bytes, up_body, down_body}
-use Rattle.sim_wire.specs.Fits.{state_limit, IdsFit, CommandFits, UpFits, DownFits, IsUpFrame, IsDownFrame}
-use Rattle.sim_wire.specs.Form.{read_and, ids_form, kind_form, command_form, state_form, up_command_form, up_tag_form, down_command_form, down_tag_form, up_form, down_form}
-use Rattle.sim_wire.proofs.Lengths.{length_of_numbers, length_of_point, length_behind, length_of_turn}
-use Rattle.sim_wire.proofs.Standing.{size_back, short_up, short_down}
+use Rattle.sim_plain.specs.declared.message.UpOf.TheVariants as up
 
 -- ---- commands
 
@@ -26,8 +17,10 @@ unfolding ids_form ids_bytes
 ids_formed behind ids rest fits left =
     let few : length ids < 2 ^ 16 = (let a = fits.few in omega arith) in
     let short : ltb 256 (length ids) ≡ false = le-ltb _ _ fits.few in
-    let sized : eqb (length (flat_map u32_bytes ids ++ rest)) (4 * length ids + behind) ≡ true = eq-eqb _ _ (omega (arith, length-append (flat_map u32_bytes ids) rest, length_of_numbers ids)) in
-    ap (ids_form behind) (append_assoc (u16_bytes (length ids)) (flat_map u32_bytes ids) rest) ∙ rw (u16_back (length ids) (flat_map u32_bytes ids ++ rest) few, short) sized
+    let sized : eqb (length (flat_map u32_bytes ids ++ rest)) (4 * length ids + behind) ≡ true =
+    eq-eqb _ _ (omega (arith, length-append (flat_map u32_bytes ids) rest, length_of_numbers ids)) in
+    ap (ids_form behind) (append_assoc (u16_bytes (length ids)) (flat_map u32_bytes ids) rest) ∙
+    rw (u16_back (length ids) (flat_map u32_bytes ids ++ rest) few, short) sized
 
 last_ids : (ids : List ℕ) → IdsFit ids → ids_form 0 (ids_bytes ids) ≡ true
 last_ids ids fits = ap (ids_form 0) (sym (append-nil (ids_bytes ids))) ∙ ids_formed 0 ids [] fits refl
@@ -38,8 +31,10 @@ command_formed (Walk ids to) fits = ids_formed 8 ids (point_bytes to) fits.0 (le
 command_formed (Stop ids) fits = last_ids ids fits
 command_formed (Attack ids target) fits = ids_formed 4 ids (u32_bytes target) fits.0 (length-u32_bytes target)
 command_formed (Delete ids) fits = last_ids ids fits
-command_formed (Place template at) fits = eq-eqb _ _ (omega (arith, length-append (u16_bytes template) (point_bytes at), length-u16_bytes template, length_of_point at))
-command_formed (Train building template) fits = eq-eqb _ _ (omega (arith, length-append (u32_bytes building) (u16_bytes template), length-u32_bytes building, length-u16_bytes template))
+command_formed (Place template at) fits =
+    eq-eqb _ _ (omega (arith, length-append (u16_bytes template) (point_bytes at), length-u16_bytes template, length_of_point at))
+command_formed (Train building template) fits =
+    eq-eqb _ _ (omega (arith, length-append (u32_bytes building) (u16_bytes template), length-u32_bytes building, length-u16_bytes template))
 command_formed Resign fits = refl
 
 -- ---- messages
@@ -57,12 +52,14 @@ up_body_formed up.Join fits = refl
 up_body_formed (up.Command turn command) fits = rw (u32_back turn (command_bytes command) fits.0) (command_formed command fits.1)
 up_body_formed (up.Done turn) fits = eq-eqb _ _ (length_of_turn turn)
 up_body_formed (up.Report turn digest) fits = eq-eqb _ _ (omega (arith, length_behind turn digest, fits.1))
-up_body_formed (up.State client turn bytes) fits = state_formed 5 (client ∷ (u32_bytes turn ++ bytes)) (omega (arith, length_behind turn bytes)) (omega (arith, length_behind turn bytes, fits.1))
+up_body_formed (up.State client turn bytes) fits = state_formed 5 (client ∷ (u32_bytes turn ++ bytes)) (omega (arith, length_behind turn bytes))
+    (omega (arith, length_behind turn bytes, fits.1))
 
 down_body_formed : (message : DownOf (List ℕ)) → DownFits message → read_and (byte_at (down_body message)) down_tag_form ≡ true
 unfolding down_tag_form down_command_form
 down_body_formed (down.Ask client) fits = refl
-down_body_formed (down.State done bytes) fits = state_formed 4 (u32_bytes done ++ bytes) (omega (arith, length_behind done bytes)) (omega (arith, length_behind done bytes, fits.1))
+down_body_formed (down.State done bytes) fits = state_formed 4 (u32_bytes done ++ bytes) (omega (arith, length_behind done bytes))
+    (omega (arith, length_behind done bytes, fits.1))
 down_body_formed (down.Command turn order) fits = rw (u32_back turn (order.player ∷ command_bytes order.command) fits.0) (command_formed order.command fits.1)
 down_body_formed (down.Release turn) fits = eq-eqb _ _ (length_of_turn turn)
 down_body_formed (down.Notice turn client) fits = eq-eqb _ _ (length_behind turn (client ∷ []))

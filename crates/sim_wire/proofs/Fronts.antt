@@ -1,20 +1,9 @@
 -- Bytes begin with the bytes of a number, where enough of them are left. All of these bytes are below 256.
-use Rattle.std.proofs.Common.{◌≡◌, ℕ, zero, suc, ◌+◌, ◌*◌, ◌^◌, ◌<◌, ◌≤◌, Bool, true, false, ltb, List, [], ◌∷◌, ◌++◌, length, refl, sym, ap, ◌∙◌, append_assoc, arith, Fits}
-use Rattle.std.specs.Int.{w8, w16, w32, to_le_bytes, from_le_bytes, cast_signed}
-use Rattle.std.specs.List.{flat_map, AllByRecursion}
-use Rattle.std.proofs.Math.ListN.{get_or}
-use Rattle.std.proofs.Math.Facts.{sfits_to_z}
-use Rattle.std.proofs.lemmas.Bool.{ltb-false, false≢true}
-use Rattle.std.proofs.lemmas.Int.{of_z-to_z}
-use Rattle.std.proofs.lemmas.Nat.{le_bytes_2, le_bytes_4}
-use Rattle.std.proofs.lemmas.List.{append-nil}
-use Rattle.sim_base.specs.declared.place.Point.{Point}
-use Rattle.sim_base.specs.Bytes.{u16_bytes, u32_bytes, i32_bytes}
-use Rattle.sim_base.specs.Spelling.{point_bytes}
-use Rattle.sim_bytes.specs.Numbers.{u16_back, u32_back}
-use Rattle.sim_bytes.specs.Reading.{number_at}
-use Rattle.sim_sections.specs.Rows.{IsPoint}
-use Rattle.sim_wire.specs.Form.{read_and}
+use Rattle.std.proofs.{Common.zero, Common.Fits, Math.Facts.sfits_to_z, Math.ListN.get_or, lemmas.Int.of_z-to_z, lemmas.Nat.le_bytes_2, lemmas.Nat.le_bytes_4}
+use Rattle.std.specs.Int.{cast_signed, from_le_bytes, to_le_bytes, w16, w8}
+use Rattle.sim_wire.proofs.Common.{ap, append-nil, append_assoc, arith, false≢true, i32_bytes, IsPoint, ltb-false, number_at, Point, point_bytes, read_and, sym}
+use Rattle.sim_wire.proofs.Common.{u16_back, u16_bytes, u32_back, u32_bytes, w32, ◌∙◌}
+use Rattle.sim_wire.proofs.Common.{◌≡◌, ℕ, suc, ◌+◌, ◌*◌, ◌^◌, ◌<◌, ◌≤◌, Bool, true, false, ltb, List, [], ◌∷◌, ◌++◌, length, flat_map, refl, AllByRecursion}
 
 -- each is a byte
 abbrev pub AreBytes : List ℕ → Type 0
@@ -75,31 +64,36 @@ word (a ∷ b ∷ c ∷ d ∷ rest) all le = record {
   number = from_le_bytes w32 (a ∷ b ∷ c ∷ d ∷ []);
   rest = rest;
   fits = let p = all.0 in let q = all.1.0 in let r = all.1.1.0 in let s = all.1.1.1.0 in omega arith;
-  is = ap (λ (x : List ℕ). x ++ rest) (sym (le_bytes_4 (a ∷ b ∷ c ∷ d ∷ []) (from_le_bytes w32 (a ∷ b ∷ c ∷ d ∷ [])) refl (four a b c d all.0 all.1.0 all.1.1.0 all.1.1.1.0) refl));
+  is = ap (λ (x : List ℕ). x ++ rest)
+      (sym (le_bytes_4 (a ∷ b ∷ c ∷ d ∷ []) (from_le_bytes w32 (a ∷ b ∷ c ∷ d ∷ [])) refl (four a b c d all.0 all.1.0 all.1.1.0 all.1.1.1.0) refl));
   left = omega arith;
   others = all.1.1.1.1;
 }
 
 -- what was read and had its form is a number in front
 
-pub half_held : (bytes : List ℕ) (holds : ℕ → List ℕ → Bool) → AreBytes bytes → read_and (number_at w16 bytes) holds ≡ true → (h : Half bytes) × (holds h.number h.rest ≡ true)
+pub half_held : (bytes : List ℕ) (holds : ℕ → List ℕ → Bool) → AreBytes bytes → read_and (number_at w16 bytes) holds ≡ true → (h : Half bytes)
+    × (holds h.number h.rest ≡ true)
 half_held bytes holds all e = go (ltb (length bytes) 2) refl
   where
     go : (b : Bool) → ltb (length bytes) 2 ≡ b → (h : Half bytes) × (holds h.number h.rest ≡ true)
     go true short = let none : read_and (number_at w16 bytes) holds ≡ false = rw short refl in absurd (false≢true (sym none ∙ e))
     go false long =
         let h = half bytes all (ltb-false (length bytes) 2 long) in
-        let read : read_and (number_at w16 bytes) holds ≡ holds h.number h.rest = ap (λ (x : List ℕ). read_and (number_at w16 x) holds) h.is ∙ rw (u16_back h.number h.rest h.fits) refl in
+        let read : read_and (number_at w16 bytes) holds ≡ holds h.number h.rest = ap (λ (x : List ℕ). read_and (number_at w16 x) holds) h.is ∙
+        rw (u16_back h.number h.rest h.fits) refl in
         (h, sym read ∙ e)
 
-pub word_held : (bytes : List ℕ) (holds : ℕ → List ℕ → Bool) → AreBytes bytes → read_and (number_at w32 bytes) holds ≡ true → (h : Word bytes) × (holds h.number h.rest ≡ true)
+pub word_held : (bytes : List ℕ) (holds : ℕ → List ℕ → Bool) → AreBytes bytes → read_and (number_at w32 bytes) holds ≡ true → (h : Word bytes)
+    × (holds h.number h.rest ≡ true)
 word_held bytes holds all e = go (ltb (length bytes) 4) refl
   where
     go : (b : Bool) → ltb (length bytes) 4 ≡ b → (h : Word bytes) × (holds h.number h.rest ≡ true)
     go true short = let none : read_and (number_at w32 bytes) holds ≡ false = rw short refl in absurd (false≢true (sym none ∙ e))
     go false long =
         let h = word bytes all (ltb-false (length bytes) 4 long) in
-        let read : read_and (number_at w32 bytes) holds ≡ holds h.number h.rest = ap (λ (x : List ℕ). read_and (number_at w32 x) holds) h.is ∙ rw (u32_back h.number h.rest h.fits) refl in
+        let read : read_and (number_at w32 bytes) holds ≡ holds h.number h.rest = ap (λ (x : List ℕ). read_and (number_at w32 x) holds) h.is ∙
+        rw (u32_back h.number h.rest h.fits) refl in
         (h, sym read ∙ e)
 
 -- so many ids, and the others
@@ -123,7 +117,8 @@ words (suc n) bytes all le =
       rest = more.rest;
       count = omega (arith, more.count);
       each = (first.fits, more.each);
-      is = first.is ∙ ap (λ (x : List ℕ). u32_bytes first.number ++ x) more.is ∙ sym (append_assoc (u32_bytes first.number) (flat_map u32_bytes more.ids) more.rest);
+      is = first.is ∙ ap (λ (x : List ℕ). u32_bytes first.number ++ x) more.is ∙
+          sym (append_assoc (u32_bytes first.number) (flat_map u32_bytes more.ids) more.rest);
       left = omega (arith, first.left, more.left);
       others = more.others;
     }
@@ -176,5 +171,6 @@ last_point bytes all e =
     record {
       point = record { x = cast_signed w32 x.number; z = cast_signed w32 z.number };
       fits = record { x = sfits_to_z (omega (arith, x.fits)); z = sfits_to_z (omega (arith, z.fits)) };
-      is = x.is ∙ ap (λ (y : List ℕ). y ++ x.rest) (same_bytes x.number x.fits) ∙ ap (λ (y : List ℕ). i32_bytes (cast_signed w32 x.number) ++ y) (z.is ∙ same_bytes z.number z.fits);
+      is = x.is ∙ ap (λ (y : List ℕ). y ++ x.rest) (same_bytes x.number x.fits) ∙ ap (λ (y : List ℕ). i32_bytes (cast_signed w32 x.number) ++ y)
+          (z.is ∙ same_bytes z.number z.fits);
     }

@@ -1,13 +1,7 @@
 -- Bytes are heard as the message of which they are the frame.
-use Rattle.std.proofs.Common.{◌≡◌, ℕ, Bool, true, false, List, Option, Some, None, refl, sym, ◌∙◌, subst}
-use Rattle.sim_plain.specs.declared.message.UpOf.{UpOf}
-use Rattle.sim_wire.specs.Fits.{IsUpFrame}
-use Rattle.sim_wire.specs.Form.{up_form}
-use Rattle.sim_wire.specs.Heard.{message_in, AreHeardAsFramed}
-use Rattle.sim_wire.proofs.Standing.{up_read}
-use Rattle.sim_wire.proofs.Formed.{up_formed}
-use Rattle.sim_wire.proofs.Forms.{up_has_form}
-use Rattle.sim_wire.proofs.Fronts.{AreBytes}
+use Rattle.sim_wire.proofs.{Formed.up_formed, Forms.up_has_form, Fronts.AreBytes, Standing.up_read}
+use Rattle.sim_wire.proofs.Common.{◌≡◌, ℕ, Bool, true, false, List, Some, None, Option, refl, IsUpFrame, subst, sym, up_form, UpOf, ◌∙◌}
+use Rattle.sim_wire.specs.Heard.{AreHeardAsFramed, message_in}
 
 pub is_heard : (bytes : List ℕ) (message : UpOf (List ℕ)) → IsUpFrame bytes message → message_in bytes ≡ Some message
 unfolding message_in

@@ -1,16 +1,10 @@
 -- Which messages have a frame: those with few ids and a short state, whose numbers fit their bytes. The numbers of a message in
 -- memory always do.
 use Rattle.std.specs.Prelude.{◌≡◌, ℕ, ◌^◌, ◌<◌, ◌≤◌, List, length}
-use Rattle.std.specs.List.{AllByRecursion}
-use Rattle.sim_base.specs.declared.command.Command.{Command}
-use Rattle.sim_base.specs.declared.command.Command.TheVariants.{Walk, Stop, Attack, Delete, Place, Train, Resign}
-use Rattle.sim_base.specs.Limits.{HasFewIds}
-use Rattle.sim_plain.specs.declared.message.UpOf.{UpOf}
-use Rattle.sim_plain.specs.declared.message.UpOf.TheVariants as up
-use Rattle.sim_plain.specs.declared.message.DownOf.{DownOf}
+use Rattle.sim_wire.specs.Common.{AllByRecursion, Attack, Command, Delete, DownOf, HasFewIds, IsPoint, Place, Resign, Stop, Train, UpOf, Walk}
+use Rattle.sim_wire.specs.Frames.{down_frame, up_frame}
 use Rattle.sim_plain.specs.declared.message.DownOf.TheVariants as down
-use Rattle.sim_sections.specs.Rows.{IsPoint}
-use Rattle.sim_wire.specs.Frames.{up_frame, down_frame}
+use Rattle.sim_plain.specs.declared.message.UpOf.TheVariants as up
 
 -- how many bytes a state has at most: 75, and 573 for each of 4,096 rows
 abbrev pub state_limit : ℕ

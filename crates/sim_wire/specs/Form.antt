@@ -1,9 +1,7 @@
 -- The form of a frame, by lengths and codes alone. Bytes of this form are the frame of a message, so that it is known before any
 -- memory is taken.
-use Rattle.std.specs.Prelude.{ℕ, ◌+◌, ◌*◌, ◌==◌, nat_lt, Bool, true, false, if◌then◌else◌, List, length, Option, Some, None}
-use Rattle.std.specs.Int.{w16, w32}
-use Rattle.sim_bytes.specs.Reading.{number_at, byte_at}
-use Rattle.sim_wire.specs.Fits.{state_limit}
+use Rattle.std.specs.Prelude.{ℕ, ◌+◌, ◌*◌, Bool, true, false, List, length, if◌then◌else◌, nat_lt, ◌==◌, Some, None, Option}
+use Rattle.sim_wire.specs.{Common.byte_at, Common.number_at, Common.w16, Common.w32, Fits.state_limit}
 
 -- something was read, and this holds of it and of the bytes behind it
 abbrev pub read_and : {X : Type 0} → Option (X × List ℕ) → (X → List ℕ → Bool) → Bool

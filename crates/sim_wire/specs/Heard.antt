@@ -1,11 +1,6 @@
 -- Bytes as they came from a client: the message of which they are the frame, or the end of a connection on which no frame came.
-use Rattle.std.specs.Prelude.{◌≡◌, ◌↔◌, ℕ, ◌<◌, List, Option, Some, None, option_map, if◌then◌else◌}
-use Rattle.std.specs.List.{AllByRecursion}
-use Rattle.sim_plain.specs.declared.message.UpOf.{UpOf}
-use Rattle.sim_plain.specs.Messages.{Arrival, Heard, Cut}
-use Rattle.sim_wire.specs.Fits.{IsUpFrame}
-use Rattle.sim_wire.specs.Form.{up_form}
-use Rattle.sim_wire.specs.Reading.{up_at}
+use Rattle.std.specs.Prelude.{◌≡◌, ℕ, ◌<◌, ◌↔◌, List, if◌then◌else◌, Some, None, Option, option_map}
+use Rattle.sim_wire.specs.{Common.AllByRecursion, Common.Arrival, Common.Cut, Common.Heard, Common.UpOf, Fits.IsUpFrame, Form.up_form, Reading.up_at}
 
 -- what a client says of which these bytes are the frame
 unfoldable pub message_in : List ℕ → Option (UpOf (List ℕ))
@@ -22,4 +17,5 @@ raw from bytes = heard_or_cut from (message_in bytes)
 
 -- bytes are heard as a message just where they are its frame
 abbrev pub AreHeardAsFramed : Type 0
-AreHeardAsFramed = (bytes : List ℕ) → AllByRecursion (λ b. b < 256) bytes → (message : UpOf (List ℕ)) → (message_in bytes ≡ Some message) ↔ IsUpFrame bytes message
+AreHeardAsFramed = (bytes : List ℕ) → AllByRecursion (λ b. b < 256) bytes → (message : UpOf (List ℕ)) → (message_in bytes ≡ Some message)
+    ↔ IsUpFrame bytes message

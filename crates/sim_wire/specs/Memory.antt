@@ -1,15 +1,10 @@
 -- Which messages ask for memory while they are read: those that name entities, and those with bytes of a state. All others are read
 -- without any, and whatever else is wrong with bytes is found without any.
-use Rattle.std.specs.Prelude.{ℕ, ◌==◌, nat_lt, Bool, false, if◌then◌else◌, List, length}
-use Rattle.std.specs.Int.{w16, w32}
-use Rattle.sim_base.specs.declared.command.Command.{Command}
-use Rattle.sim_base.specs.declared.command.Command.TheVariants.{Walk, Stop, Attack, Delete, Place, Train, Resign}
-use Rattle.sim_bytes.specs.Reading.{number_at, byte_at}
-use Rattle.sim_plain.specs.declared.message.UpOf.{UpOf}
-use Rattle.sim_plain.specs.declared.message.UpOf.TheVariants as up
-use Rattle.sim_plain.specs.declared.message.DownOf.{DownOf}
-use Rattle.sim_plain.specs.declared.message.DownOf.TheVariants as down
+use Rattle.std.specs.Prelude.{ℕ, Bool, false, List, length, if◌then◌else◌, nat_lt, ◌==◌}
+use Rattle.sim_wire.specs.Common.{Attack, byte_at, Command, Delete, DownOf, number_at, Place, Resign, Stop, Train, UpOf, w16, w32, Walk}
 use Rattle.sim_wire.specs.Form.{read_and}
+use Rattle.sim_plain.specs.declared.message.DownOf.TheVariants as down
+use Rattle.sim_plain.specs.declared.message.UpOf.TheVariants as up
 
 -- ---- messages
 

@@ -1,17 +1,11 @@
 -- A message as it is read from bytes. The length in front is passed over, and so is what follows a message of fixed length: whether
 -- the bytes are just the frame of what was read is seen when it is framed again.
-use Rattle.std.specs.Prelude.{◌≡◌, ℕ, zero, suc, nat_lt, ◌==◌, if◌then◌else◌, List, [], ◌∷◌, length, take, drop, Option, Some, None, Result, Ok, Err}
-use Rattle.std.specs.Int.{w16, w32}
-use Rattle.sim_base.specs.declared.command.Command.{Command}
-use Rattle.sim_base.specs.declared.command.Command.TheVariants.{Walk, Stop, Attack, Delete, Place, Train, Resign}
-use Rattle.sim_bytes.specs.Reading.{Reader, ◌>>=◌, number_at, byte_at}
-use Rattle.sim_sections.specs.Rows.{point_at}
-use Rattle.sim_plain.specs.declared.message.UpOf.{UpOf}
-use Rattle.sim_plain.specs.declared.message.UpOf.TheVariants as up
-use Rattle.sim_plain.specs.declared.message.DownOf.{DownOf}
+use Rattle.std.specs.Prelude.{◌≡◌, ℕ, zero, suc, List, [], ◌∷◌, length, take, drop, if◌then◌else◌, nat_lt, ◌==◌, Some, None, Ok, Err, Option, Result}
+use Rattle.sim_bytes.specs.Reading.{◌>>=◌}
+use Rattle.sim_wire.specs.{Fits.state_limit, declared.fault.WireFault.WireFault}
+use Rattle.sim_wire.specs.Common.{Attack, byte_at, Command, Delete, DownOf, number_at, Place, point_at, Reader, Resign, Stop, Train, UpOf, w16, w32, Walk}
 use Rattle.sim_plain.specs.declared.message.DownOf.TheVariants as down
-use Rattle.sim_wire.specs.Fits.{state_limit}
-use Rattle.sim_wire.specs.declared.fault.WireFault.{WireFault}
+use Rattle.sim_plain.specs.declared.message.UpOf.TheVariants as up
 use Rattle.sim_wire.specs.declared.fault.WireFault.TheVariants as faults
 
 -- so many ids

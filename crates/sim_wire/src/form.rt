@@ -1,8 +1,9 @@
 //! Whether bytes are the frame of a message, by lengths and codes alone. It takes no memory, so a reader that asks here
 //! first takes memory for frames alone.
 
-ghost use Rattle.std.specs.Prelude.{◌≡◌, ◌==◌, ◌+◌, nat_lt, length};
-ghost use Rattle.sim_wire.specs.Form.{ids_form, kind_form, command_form, state_form, up_command_form, up_tag_form, down_command_form, down_tag_form, up_form, down_form};
+ghost use Rattle.std.specs.Prelude.{◌≡◌, ◌+◌, ◌==◌};
+ghost use Rattle.sim_wire.specs.Form.{command_form, down_command_form, down_form, down_tag_form, ids_form, kind_form, state_form, up_command_form, up_form};
+ghost use Rattle.sim_wire.specs.Form.{up_tag_form};
 
 use sim_base::MAX_STATE;
 use sim_bytes::Take;

@@ -1,18 +1,14 @@
 //! Frames made and read. Bytes are read only where they have the form of a frame, so that memory is taken for frames alone,
 //! and of these for messages with entities or a state. The reader itself is lax: it is enough that it reads back what is framed.
 
-ghost use Rattle.std.specs.Prelude.{◌≡◌, ℕ, List, true, IfOk, IfErr};
-ghost use Rattle.sim_plain.specs.declared.message.UpOf.{UpOf};
-ghost use Rattle.sim_plain.specs.declared.message.DownOf.{DownOf};
-ghost use Rattle.sim_wire.specs.Fits.{IsSmallUp, IsSmallDown, IsUpFrame, IsDownFrame};
-ghost use Rattle.sim_wire.specs.Memory.{up_carries, down_carries};
-ghost use Rattle.sim_wire.specs.Refusals.{RefusedFor, GivesMessage};
+ghost use Rattle.std.specs.Prelude.{◌≡◌, ℕ, true, List, IfOk, IfErr};
+ghost use Rattle.sim_wire.specs.{Common.DownOf, Common.UpOf, Memory.down_carries, Memory.up_carries};
+ghost use Rattle.sim_wire.specs.{Fits.IsDownFrame, Fits.IsSmallDown, Fits.IsSmallUp, Fits.IsUpFrame, Refusals.GivesMessage, Refusals.RefusedFor};
 
-use crate::fault::WireFault;
 use crate::form::{is_down_form, is_up_form};
-use crate::message::{Down, Up};
 use crate::take::{take_down, take_up};
 use crate::tell::{tell_down, tell_up};
+use crate::{Down, Up, WireFault};
 use sim_base::OutOfMemory;
 use sim_bytes::Take;
 use std::alloc::Global;

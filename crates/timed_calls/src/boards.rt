@@ -1,9 +1,7 @@
 //! What changes of a board cost: 4,096 rows with obstructions are created and removed in one turn, over four real systems.
 
-ghost use Rattle.std.specs.Prelude.{OnOk};
-ghost use Rattle.sim_base.specs.Limits.{IsSetup};
-ghost use Rattle.sim_board.specs.BoardWords.{setup_in, systems, IsWhole};
-ghost use Rattle.sim_system.specs.Meanings.{HaveKinds};
+ghost use Rattle.{sim_base.specs.Limits.IsSetup, sim_board.specs.BoardWords.IsWhole, sim_board.specs.BoardWords.setup_in, sim_board.specs.BoardWords.systems};
+ghost use Rattle.{sim_system.specs.Meanings.HaveKinds, std.specs.Prelude.OnOk};
 
 use sim_base::{Change, Fixed, OutOfMemory, Point};
 use sim_board::Board;

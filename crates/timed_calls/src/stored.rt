@@ -2,8 +2,7 @@
 //! 1.7 MB. No match comes to such a state yet, so it is made by hand.
 
 ghost use Rattle.std.specs.Prelude.{◌≡◌, length, IfOk};
-ghost use Rattle.sim_base.specs.Limits.{IsLand, IsSetup, IsTemplate};
-ghost use Rattle.sim_base.specs.Validity.{IsValid};
+ghost use Rattle.sim_base.specs.{Limits.IsLand, Limits.IsSetup, Limits.IsTemplate, Validity.IsValid};
 
 use sim_base::{
     Aim, Arms, Fixed, Harm, Items, Land, Motion, Name, OutOfMemory, Point, Resist, Row, Setup,

@@ -1,12 +1,10 @@
 //! What a client hears.
 
-ghost use Rattle.std.specs.Prelude.{◌≡◌, false, true, None, Option, Ok, IsOk, IsSome, OnOk};
-ghost use Rattle.sim_base.specs.declared.state.State.{State as AnyState};
-ghost use Rattle.sim_base.specs.Validity.{IsValid};
-ghost use Rattle.sim_system.specs.Meanings.{HaveKinds, AreBuiltOnceAtMost};
-ghost use Rattle.sim_board.specs.BoardWords.{AreKept};
-ghost use Rattle.sim_client.specs.Lives.{Joining, begins, refused, loads, hears};
-ghost use Rattle.sim_client.specs.ClientWords.{setup_in, number_in, life, systems, IsSound, Answers, LoadsFrom, LoadsAt, HasNoState, may_load, is_idle, NeedsNoMemory, state_of};
+ghost use Rattle.{sim_base.specs.Validity.IsValid, sim_base.specs.declared.state.State.State as AnyState, sim_board.specs.BoardWords.AreKept};
+ghost use Rattle.std.specs.Prelude.{◌≡◌, true, false, OnOk, IsSome, IsOk, None, Ok, Option};
+ghost use Rattle.sim_client.specs.{ClientWords.state_of, ClientWords.systems, Lives.begins, Lives.hears, Lives.Joining, Lives.loads, Lives.refused};
+ghost use Rattle.sim_client.specs.ClientWords.{Answers, HasNoState, is_idle, IsSound, life, LoadsAt, LoadsFrom, may_load, NeedsNoMemory, number_in, setup_in};
+ghost use Rattle.sim_system.specs.Meanings.{AreBuiltOnceAtMost, HaveKinds};
 
 use super::Client;
 use crate::did::{Did, silent};
@@ -21,7 +19,8 @@ impl Client<'_> {
     /// Hears what the server says. Bytes that stand for no state are found out without memory.
     pub fn hear(&mut self, down: Down) -> Result<Did, OutOfMemory>
         requires sound { IsSound self.old ⟦<dyn System as System>⟧ }
-        ensures answers { (loaded : Option AnyState) → LoadsFrom (setup_in self.old) down loaded → Answers (hears (setup_in self.old) loaded down (life self.old)) (life self.old) result (life self.new) }
+        ensures answers { (loaded : Option AnyState) → LoadsFrom (setup_in self.old) down loaded
+            → Answers (hears (setup_in self.old) loaded down (life self.old)) (life self.old) result (life self.new) }
         ensures idle { may_load (life self.old) down ≡ false → hears (setup_in self.old) None down (life self.old) ≡ None → IsOk result }
         ensures sure { NeedsNoMemory (life self.old) down → IsOk result }
         ensures stateless { HasNoState (setup_in self.old) down → IsOk result }
@@ -65,7 +64,8 @@ impl Client<'_> {
     fn hear_joining(&mut self, down: Down) -> Result<Did, OutOfMemory>
         requires sound { IsSound self.old ⟦<dyn System as System>⟧ }
         requires joining { life self.old ≡ Joining }
-        ensures answers { (loaded : Option AnyState) → LoadsFrom (setup_in self.old) down loaded → Answers (hears (setup_in self.old) loaded down Joining) Joining result (life self.new) }
+        ensures answers { (loaded : Option AnyState) → LoadsFrom (setup_in self.old) down loaded → Answers (hears (setup_in self.old) loaded down Joining)
+            Joining result (life self.new) }
         ensures sure { NeedsNoMemory Joining down → IsOk result }
         ensures stateless { HasNoState (setup_in self.old) down → IsOk result }
         ensures sound { OnOk result (IsSound self.new ⟦<dyn System as System>⟧) }
@@ -90,7 +90,8 @@ impl Client<'_> {
     fn hear_state(&mut self, done: u32, bytes: &[u8]) -> Result<Did, OutOfMemory>
         requires sound { IsSound self.old ⟦<dyn System as System>⟧ }
         requires joining { life self.old ≡ Joining }
-        ensures answers { (loaded : Option AnyState) → LoadsAt (setup_in self.old) bytes.now loaded → Answers (loads done loaded) Joining result (life self.new) }
+        ensures answers { (loaded : Option AnyState) → LoadsAt (setup_in self.old) bytes.now loaded → Answers (loads done loaded) Joining result
+            (life self.new) }
         ensures stateless { LoadsAt (setup_in self.old) bytes.now None → IsOk result }
         ensures sound { OnOk result (IsSound self.new ⟦<dyn System as System>⟧) }
         ensures unloaded { is_idle result ≡ true → AreKept (systems self.old ⟦<dyn System as System>⟧) (systems self.new ⟦<dyn System as System>⟧) }

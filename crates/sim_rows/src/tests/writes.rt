@@ -1,7 +1,6 @@
 //! Each write of the sink fails in turn, and one that takes little at a time.
 
-ghost use Rattle.std.specs.Prelude.{None};
-ghost use Rattle.sim_store.specs.MemSink.{faults_of};
+ghost use Rattle.{sim_store.specs.MemSink.faults_of, std.specs.Prelude.None};
 
 use crate::tests::commands::{COMMANDS, are_inputs_kept, files, is_saved, run_over, stored};
 use sim_base::OutOfMemory;

@@ -1,9 +1,7 @@
 //! A battle in which each sort of note is told and each sort of question is asked.
 
-ghost use Rattle.std.specs.Prelude.{◌≡◌, All, length};
-ghost use Rattle.sim_client.specs.StageWords.{AreCleared};
-ghost use Rattle.sim_system.specs.Meanings.{HaveKinds};
-ghost use Rattle.sim_system.specs.RigWords.{systems_of};
+ghost use Rattle.{sim_client.specs.StageWords.AreCleared, sim_system.specs.Meanings.HaveKinds, sim_system.specs.RigWords.systems_of};
+ghost use Rattle.std.specs.Prelude.{◌≡◌, length, All};
 
 use sim_base::OutOfMemory;
 use sim_range::Range;

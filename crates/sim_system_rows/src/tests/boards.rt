@@ -1,10 +1,7 @@
 //! Worked rows, each over a board that is started from a match file.
 
-ghost use Rattle.std.specs.Prelude.{OnOk};
-ghost use Rattle.sim_base.specs.Limits.{IsSetup};
-ghost use Rattle.sim_base.specs.Validity.{IsValid};
-ghost use Rattle.sim_system.specs.Meanings.{HaveKinds};
-ghost use Rattle.sim_board.specs.BoardWords.{setup_in, systems, IsWhole};
+ghost use Rattle.{sim_base.specs.Limits.IsSetup, sim_base.specs.Validity.IsValid, sim_system.specs.Meanings.HaveKinds};
+ghost use Rattle.sim_board.specs.BoardWords.{IsWhole, setup_in, systems};
 
 use crate::tests::checks::{answer, can_leave, change};
 use sim_base::{Cell, Change, Fixed, Items, OutOfMemory, Point, State};

@@ -1,15 +1,11 @@
 //! A handler that plans by a function of the test's own, with the same fact: the match comes to the same states, and where the
 //! function gives up, the run ends with that. A table that calls the usual planners would go on.
 
-ghost use Rattle.std.specs.Prelude.{◌≡◌, ◌==◌, [], ◌∷◌, IfOk, if◌then◌else◌, All, length};
-ghost use Rattle.std.specs.List.{flat_map};
-ghost use Rattle.sim_base.specs.declared.state.Row.{Row as AnyRow};
-ghost use Rattle.sim_base.specs.declared.change.Change.TheVariants.{Owner};
-ghost use Rattle.sim_client.specs.StageWords.{AreCleared};
-ghost use Rattle.sim_orders.specs.Orders.{kind_of, IsGiven, Obeys};
+ghost use Rattle.{sim_base.specs.declared.change.Change.TheVariants.Owner, sim_base.specs.declared.state.Row.Row as AnyRow, std.specs.List.flat_map};
+ghost use Rattle.{sim_client.specs.StageWords.AreCleared, sim_orders.specs.Orders.IsGiven, sim_orders.specs.Orders.kind_of, sim_orders.specs.Orders.Obeys};
+ghost use Rattle.std.specs.Prelude.{◌≡◌, [], ◌∷◌, length, IfOk, if◌then◌else◌, ◌==◌, All};
 ghost use Rattle.sim_stock.specs.Deeds.{deed as deed_of, IsAsked};
-ghost use Rattle.sim_system.specs.Meanings.{HaveKinds};
-ghost use Rattle.sim_system.specs.RigWords.{systems_of};
+ghost use Rattle.sim_system.specs.{Meanings.HaveKinds, RigWords.systems_of};
 
 use sim_base::{Change, Changes, Command, Items, OutOfMemory, Row, Setup, State};
 use sim_census::Census;

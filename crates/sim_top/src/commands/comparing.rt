@@ -1,17 +1,12 @@
 //! Two stored states of a match, which are compared.
 
 ghost use Rattle.std.specs.Prelude.{◌≡◌, IfOk};
-ghost use Rattle.sim_base.specs.Validity.{IsValid};
-ghost use Rattle.sim_diff.specs.Difference.{difference_of};
-ghost use Rattle.sim_top.specs.Commands.{IsAnswerTo, shelved};
-ghost use Rattle.sim_top.specs.Making.{outcome_made};
-ghost use Rattle.sim_top.specs.Outcome.{compare_by};
+ghost use Rattle.sim_top.specs.{Commands.IsAnswerTo, Commands.shelved, Common.difference_of, Common.IsValid, Making.outcome_made, Outcome.compare_by};
 ghost use Rattle.sim_top.specs.Words.{to_compare};
 
 use super::Answer;
 use crate::inputs::{read_match, read_state};
-use crate::status::Status;
-use crate::stop::Stop;
+use crate::{Status, Stop};
 use sim_base::{OutOfMemory, Setup, State};
 use sim_diff::difference;
 use sim_report::push_place;
@@ -26,7 +21,8 @@ pub fn compare<'w, S: Shelf>(
     left: &'w str,
     right: &'w str,
 ) -> Result<Answer<'w>, Stop<'w>>
-    ensures { IsAnswerTo (to_compare game.now left.now right.now) result (shelved (S.held shelf.old) (S.counts shelf.old)) (shelved (S.held shelf.new) (S.counts shelf.new)) }
+    ensures { IsAnswerTo (to_compare game.now left.now right.now) result (shelved (S.held shelf.old) (S.counts shelf.old))
+        (shelved (S.held shelf.new) (S.counts shelf.new)) }
 {
     let setup = read_match(alloc, shelf, game)?;
     let first = read_state(alloc, shelf, &setup, left)?;

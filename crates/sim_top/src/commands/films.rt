@@ -1,22 +1,14 @@
 //! The film of a match.
 
 ghost use Rattle.std.specs.Prelude.{◌≤◌, Some};
-ghost use Rattle.sim_base.specs.Limits.{IsSetup};
-ghost use Rattle.sim_play.specs.Films.{film_text as text_of_film, last_state};
-ghost use Rattle.sim_system.specs.Meanings.{HaveKinds};
-ghost use Rattle.sim_system.specs.RigWords.{systems_of};
-ghost use Rattle.sim_top.specs.Commands.{IsAnswerTo, shelved};
-ghost use Rattle.sim_top.specs.Making.{IsMade, status_made};
-ghost use Rattle.sim_top.specs.Outcome.{printed as printed_as};
-ghost use Rattle.sim_top.specs.Returning.{RigsCameBack};
-ghost use Rattle.sim_top.specs.Rigs.{AreEight, HasPlayed};
-ghost use Rattle.sim_top.specs.Words.{to_film};
+ghost use Rattle.sim_top.specs.{Commands.IsAnswerTo, Commands.shelved, Making.IsMade, Making.status_made, Outcome.printed as printed_as};
+ghost use Rattle.sim_top.specs.{Common.film_text as text_of_film, Common.HaveKinds, Common.IsSetup, Common.last_state, Common.systems_of, Words.to_film};
+ghost use Rattle.sim_top.specs.{Returning.RigsCameBack, Rigs.AreEight, Rigs.HasPlayed};
 
 use super::{Answer, shown};
 use crate::inputs::read_match;
 use crate::rigs::{put_first, take_first};
-use crate::status::Status;
-use crate::stop::Stop;
+use crate::{Status, Stop};
 use sim_base::Setup;
 use sim_orders::OrderTable;
 use sim_play::film_text;
@@ -35,7 +27,8 @@ pub fn film<'w, S: Shelf>(
 ) -> Result<Answer<'w>, Stop<'w>>
     requires eight { AreEight ⟦<dyn System as System>⟧ rigs.old.items }
     requires every { 1 ≤ every }
-    ensures answer { IsAnswerTo (to_film game.now every) result (shelved (S.held shelf.old) (S.counts shelf.old)) (shelved (S.held shelf.new) (S.counts shelf.new)) }
+    ensures answer { IsAnswerTo (to_film game.now every) result (shelved (S.held shelf.old) (S.counts shelf.old))
+        (shelved (S.held shelf.new) (S.counts shelf.new)) }
     ensures back { RigsCameBack ⟦<dyn System as System>⟧ (Some (to_film game.now every)) (S.held shelf.old) (status_made result) rigs.old rigs.new }
 {
     let setup = read_match(alloc, shelf, game)?;

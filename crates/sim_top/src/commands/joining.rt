@@ -1,15 +1,8 @@
 //! A match that is played with a second client, who joins at a turn.
 
 ghost use Rattle.std.specs.Prelude.{◌≤◌, Some};
-ghost use Rattle.sim_base.specs.Limits.{IsSetup};
-ghost use Rattle.sim_base.specs.Turn.{after, own_turns};
-ghost use Rattle.sim_system.specs.Meanings.{HaveKinds};
-ghost use Rattle.sim_system.specs.RigWords.{systems_of};
-ghost use Rattle.sim_top.specs.Commands.{IsAnswerTo, shelved};
-ghost use Rattle.sim_top.specs.Making.{IsMade, status_made};
-ghost use Rattle.sim_top.specs.Outcome.{rejoin_outcome};
-ghost use Rattle.sim_top.specs.Returning.{RigsCameBack};
-ghost use Rattle.sim_top.specs.Rigs.{AreEight, HasPlayed};
+ghost use Rattle.sim_top.specs.{Commands.IsAnswerTo, Commands.shelved, Common.after, Common.HaveKinds, Common.IsSetup, Common.own_turns, Common.systems_of};
+ghost use Rattle.sim_top.specs.{Making.IsMade, Making.status_made, Outcome.rejoin_outcome, Returning.RigsCameBack, Rigs.AreEight, Rigs.HasPlayed};
 ghost use Rattle.sim_top.specs.Words.{to_rejoin};
 
 use super::storing::reached;
@@ -34,7 +27,8 @@ pub fn rejoin<'w, S: Shelf>(
     orders: &OrderTable,
 ) -> Result<Answer<'w>, Stop<'w>>
     requires { AreEight ⟦<dyn System as System>⟧ rigs.old.items }
-    ensures answer { IsAnswerTo (to_rejoin game.now turn) result (shelved (S.held shelf.old) (S.counts shelf.old)) (shelved (S.held shelf.new) (S.counts shelf.new)) }
+    ensures answer { IsAnswerTo (to_rejoin game.now turn) result (shelved (S.held shelf.old) (S.counts shelf.old))
+        (shelved (S.held shelf.new) (S.counts shelf.new)) }
     ensures back { RigsCameBack ⟦<dyn System as System>⟧ (Some (to_rejoin game.now turn)) (S.held shelf.old) (status_made result) rigs.old rigs.new }
 {
     let setup = read_match(alloc, shelf, game)?;

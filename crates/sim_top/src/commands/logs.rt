@@ -1,25 +1,15 @@
 //! The log of a match, which is stored in a file; and one that is checked, by playing the match as it says.
 
-ghost use Rattle.std.specs.Prelude.{◌≡◌, ◌+◌, ◌^◌, ◌<◌, codes, length, Err, IfOk, IfErr, OnErr, Some, string_bytes};
-ghost use Rattle.sim_base.specs.Limits.{IsSetup};
-ghost use Rattle.sim_play.specs.Films.{last_state};
-ghost use Rattle.sim_play.specs.Logs.{log_after as log_of_turns, match_turns, state_after, digests_after as digests_of_turns};
-ghost use Rattle.sim_replay.specs.Logs.{IsLog, IsOfTurns, text_of_log};
-ghost use Rattle.sim_report.specs.LogLines.{logged_line};
-ghost use Rattle.sim_system.specs.Meanings.{HaveKinds};
-ghost use Rattle.sim_system.specs.RigWords.{systems_of};
-ghost use Rattle.sim_top.specs.Commands.{IsAnswerTo, shelved};
-ghost use Rattle.sim_top.specs.Making.{IsMade, outcome_made, status_made};
-ghost use Rattle.sim_top.specs.Outcome.{logged_as, check_by, check_outcome};
-ghost use Rattle.sim_top.specs.Returning.{RigsCameBack};
-ghost use Rattle.sim_top.specs.Rigs.{AreEight, HasPlayed};
-ghost use Rattle.sim_top.specs.Words.{to_log, to_check};
+ghost use Rattle.{sim_replay.specs.Logs.IsOfTurns, sim_top.specs.Common.text_of_log};
+ghost use Rattle.std.specs.Prelude.{◌≡◌, ◌^◌, ◌<◌, length, IfOk, IfErr, OnErr, Some, Err, string_bytes, codes};
+ghost use Rattle.sim_top.specs.{Commands.IsAnswerTo, Commands.shelved, Returning.RigsCameBack, Rigs.AreEight, Rigs.HasPlayed, Words.to_check, Words.to_log};
+ghost use Rattle.sim_top.specs.{Making.IsMade, Making.outcome_made, Making.status_made, Outcome.check_by, Outcome.check_outcome, Outcome.logged_as};
+ghost use Rattle.sim_top.specs.Common.{HaveKinds, IsLog, IsSetup, last_state, log_after as log_of_turns, logged_line, match_turns, state_after, systems_of};
 
 use super::{Answer, Saved};
 use crate::inputs::{read_log, read_match};
 use crate::rigs::{put_first, take_first};
-use crate::status::Status;
-use crate::stop::Stop;
+use crate::{Status, Stop};
 use sim_base::{OutOfMemory, Setup};
 use sim_orders::OrderTable;
 use sim_play::{digests_after, match_log};
@@ -39,7 +29,8 @@ pub fn log<'w, S: Shelf>(
     orders: &OrderTable,
 ) -> Result<Answer<'w>, Stop<'w>>
     requires { AreEight ⟦<dyn System as System>⟧ rigs.old.items }
-    ensures answer { IsAnswerTo (to_log game.now out.now) result (shelved (S.held shelf.old) (S.counts shelf.old)) (shelved (S.held shelf.new) (S.counts shelf.new)) }
+    ensures answer { IsAnswerTo (to_log game.now out.now) result (shelved (S.held shelf.old) (S.counts shelf.old))
+        (shelved (S.held shelf.new) (S.counts shelf.new)) }
     ensures back { RigsCameBack ⟦<dyn System as System>⟧ (Some (to_log game.now out.now)) (S.held shelf.old) (status_made result) rigs.old rigs.new }
 {
     let setup = read_match(alloc, shelf, game)?;
@@ -116,7 +107,8 @@ pub fn check<'w, S: Shelf>(
     orders: &OrderTable,
 ) -> Result<Answer<'w>, Stop<'w>>
     requires { AreEight ⟦<dyn System as System>⟧ rigs.old.items }
-    ensures answer { IsAnswerTo (to_check game.now name.now) result (shelved (S.held shelf.old) (S.counts shelf.old)) (shelved (S.held shelf.new) (S.counts shelf.new)) }
+    ensures answer { IsAnswerTo (to_check game.now name.now) result (shelved (S.held shelf.old) (S.counts shelf.old))
+        (shelved (S.held shelf.new) (S.counts shelf.new)) }
     ensures back { RigsCameBack ⟦<dyn System as System>⟧ (Some (to_check game.now name.now)) (S.held shelf.old) (status_made result) rigs.old rigs.new }
 {
     let setup = read_match(alloc, shelf, game)?;

@@ -1,9 +1,7 @@
 //! The templates of a match, with their parts.
 
 ghost use Rattle.std.specs.Prelude.{◌≡◌, IfOk, string_bytes};
-ghost use Rattle.sim_report.specs.Parts.{parts_text as text_of_parts};
-ghost use Rattle.sim_top.specs.Commands.{IsAnswerTo, shelved};
-ghost use Rattle.sim_top.specs.Words.{to_parts};
+ghost use Rattle.sim_top.specs.{Commands.IsAnswerTo, Commands.shelved, Common.parts_text as text_of_parts, Words.to_parts};
 
 use super::{Answer, shown};
 use crate::inputs::read_match;

@@ -1,24 +1,14 @@
 //! A match that is played from its start, or from a stored state on.
 
 ghost use Rattle.std.specs.Prelude.{Some};
-ghost use Rattle.sim_base.specs.Limits.{IsSetup};
-ghost use Rattle.sim_base.specs.Turn.{first_state};
-ghost use Rattle.sim_base.specs.Validity.{IsValid};
-ghost use Rattle.sim_play.specs.Lines.{play_text as text_of_play, resume_text as text_of_resume, end_from};
-ghost use Rattle.sim_system.specs.Meanings.{HaveKinds};
-ghost use Rattle.sim_system.specs.RigWords.{systems_of};
-ghost use Rattle.sim_top.specs.Commands.{IsAnswerTo, shelved};
-ghost use Rattle.sim_top.specs.Making.{IsMade, status_made};
-ghost use Rattle.sim_top.specs.Outcome.{printed as printed_as};
-ghost use Rattle.sim_top.specs.Returning.{RigsCameBack};
-ghost use Rattle.sim_top.specs.Rigs.{AreEight, HasPlayed};
-ghost use Rattle.sim_top.specs.Words.{to_play, to_resume};
+ghost use Rattle.sim_top.specs.{Commands.IsAnswerTo, Commands.shelved, Common.systems_of, Making.IsMade, Making.status_made, Words.to_play, Words.to_resume};
+ghost use Rattle.sim_top.specs.{Outcome.printed as printed_as, Returning.RigsCameBack, Rigs.AreEight, Rigs.HasPlayed};
+ghost use Rattle.sim_top.specs.Common.{end_from, first_state, HaveKinds, IsSetup, IsValid, play_text as text_of_play, resume_text as text_of_resume};
 
 use super::{Answer, shown};
 use crate::inputs::{read_match, read_state};
 use crate::rigs::{put_first, take_first};
-use crate::status::Status;
-use crate::stop::Stop;
+use crate::{Status, Stop};
 use sim_base::{Setup, State};
 use sim_orders::OrderTable;
 use sim_play::{play_text, resume_text};
@@ -71,7 +61,8 @@ pub fn resume<'w, S: Shelf>(
     orders: &OrderTable,
 ) -> Result<Answer<'w>, Stop<'w>>
     requires { AreEight ⟦<dyn System as System>⟧ rigs.old.items }
-    ensures answer { IsAnswerTo (to_resume game.now name.now) result (shelved (S.held shelf.old) (S.counts shelf.old)) (shelved (S.held shelf.new) (S.counts shelf.new)) }
+    ensures answer { IsAnswerTo (to_resume game.now name.now) result (shelved (S.held shelf.old) (S.counts shelf.old))
+        (shelved (S.held shelf.new) (S.counts shelf.new)) }
     ensures back { RigsCameBack ⟦<dyn System as System>⟧ (Some (to_resume game.now name.now)) (S.held shelf.old) (status_made result) rigs.old rigs.new }
 {
     let setup = read_match(alloc, shelf, game)?;

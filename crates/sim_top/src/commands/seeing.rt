@@ -1,26 +1,17 @@
 //! What the players of a match see at a turn, and have explored: from its first state on, or from a stored state on with the
 //! explored cells of a file.
 
-ghost use Rattle.std.specs.Prelude.{◌≡◌, ◌≤◌, IfOk, IfErr, OnErr, Err, Some, string_bytes};
-ghost use Rattle.sim_base.specs.Limits.{IsSetup};
-ghost use Rattle.sim_base.specs.Turn.{after, own_turns};
-ghost use Rattle.sim_base.specs.Validity.{IsValid};
-ghost use Rattle.sim_play.specs.Lines.{end_from};
-ghost use Rattle.sim_system.specs.Meanings.{HaveKinds};
-ghost use Rattle.sim_system.specs.RigWords.{systems_of};
-ghost use Rattle.sim_top.specs.Commands.{IsAnswerTo, shelved};
-ghost use Rattle.sim_top.specs.Making.{IsMade, IsMadeAs, outcome_made, status_made};
-ghost use Rattle.sim_top.specs.Outcome.{seen_with, sight_outcome, IsSeenFrom};
+ghost use Rattle.std.specs.Prelude.{◌≡◌, ◌≤◌, IfOk, IfErr, OnErr, Some, Err, string_bytes};
+ghost use Rattle.sim_top.specs.{Commands.IsAnswerTo, Commands.shelved, Making.IsMade, Making.IsMadeAs, Making.outcome_made, Making.status_made};
+ghost use Rattle.sim_top.specs.{Outcome.IsSeenFrom, Outcome.seen_with, Outcome.sight_outcome, Rigs.AreEight, Rigs.HasPlayed, Words.to_resight, Words.to_sight};
+ghost use Rattle.sim_top.specs.Common.{after, end_from, HaveKinds, IsSetup, IsValid, own_turns, systems_of};
 ghost use Rattle.sim_top.specs.Returning.{RigsCameBack};
-ghost use Rattle.sim_top.specs.Rigs.{AreEight, HasPlayed};
-ghost use Rattle.sim_top.specs.Words.{to_sight, to_resight};
 
 use super::storing::reached;
 use super::{Answer, Saved, shown};
 use crate::inputs::{read_match, read_sight, read_state};
 use crate::rigs::{put_first, take_first};
-use crate::status::Status;
-use crate::stop::Stop;
+use crate::{Status, Stop};
 use sim_base::{OutOfMemory, Setup, State};
 use sim_orders::OrderTable;
 use sim_play::{resight_text, sight_at};

@@ -1,7 +1,6 @@
 //! The server alone, over a schedule of arrivals.
 
-ghost use Rattle.sim_top.specs.Commands.{IsAnswerTo, shelved};
-ghost use Rattle.sim_top.specs.Words.{to_serve};
+ghost use Rattle.sim_top.specs.{Commands.IsAnswerTo, Commands.shelved, Words.to_serve};
 
 use super::{Answer, shown};
 use crate::inputs::read_schedule;

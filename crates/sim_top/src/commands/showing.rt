@@ -1,10 +1,7 @@
 //! A stored state of a match, which is shown.
 
 ghost use Rattle.std.specs.Prelude.{◌≡◌, IfOk, string_bytes};
-ghost use Rattle.sim_base.specs.Validity.{IsValid};
-ghost use Rattle.sim_report.specs.Show.{show_text as text_of_show};
-ghost use Rattle.sim_top.specs.Commands.{IsAnswerTo, shelved};
-ghost use Rattle.sim_top.specs.Words.{to_show};
+ghost use Rattle.sim_top.specs.{Commands.IsAnswerTo, Commands.shelved, Common.IsValid, Common.show_text as text_of_show, Words.to_show};
 
 use super::{Answer, shown};
 use crate::inputs::{read_match, read_state};
@@ -21,7 +18,8 @@ pub fn show<'w, S: Shelf>(
     game: &'w str,
     name: &'w str,
 ) -> Result<Answer<'w>, Stop<'w>>
-    ensures { IsAnswerTo (to_show game.now name.now) result (shelved (S.held shelf.old) (S.counts shelf.old)) (shelved (S.held shelf.new) (S.counts shelf.new)) }
+    ensures { IsAnswerTo (to_show game.now name.now) result (shelved (S.held shelf.old) (S.counts shelf.old))
+        (shelved (S.held shelf.new) (S.counts shelf.new)) }
 {
     let setup = read_match(alloc, shelf, game)?;
     let state = read_state(alloc, shelf, &setup, name)?;

@@ -1,23 +1,13 @@
 //! A match that is played by an economy, and what its players have in the end.
 
-ghost use Rattle.std.specs.Prelude.{Some};
-ghost use Rattle.sim_base.specs.Limits.{IsSetup};
-ghost use Rattle.sim_play.specs.Paid.{paid_state, stock_text};
-ghost use Rattle.sim_stock.specs.Economies.{IsEconomy};
-ghost use Rattle.sim_system.specs.Meanings.{HaveKinds};
-ghost use Rattle.sim_system.specs.RigWords.{systems_of};
-ghost use Rattle.sim_top.specs.Commands.{IsAnswerTo, shelved};
-ghost use Rattle.sim_top.specs.Making.{IsMade, status_made};
-ghost use Rattle.sim_top.specs.Outcome.{printed};
-ghost use Rattle.sim_top.specs.Returning.{RigsCameBack};
-ghost use Rattle.sim_top.specs.Rigs.{AreEight, HasPlayed};
-ghost use Rattle.sim_top.specs.Words.{to_stock};
+ghost use Rattle.{sim_top.specs.Returning.RigsCameBack, std.specs.Prelude.Some};
+ghost use Rattle.sim_top.specs.{Commands.IsAnswerTo, Commands.shelved, Making.IsMade, Making.status_made, Rigs.AreEight, Rigs.HasPlayed, Words.to_stock};
+ghost use Rattle.sim_top.specs.{Common.HaveKinds, Common.IsEconomy, Common.IsSetup, Common.paid_state, Common.stock_text, Common.systems_of, Outcome.printed};
 
 use super::{Answer, shown};
 use crate::inputs::{read_economy, read_match};
 use crate::rigs::{put_first, take_first};
-use crate::status::Status;
-use crate::stop::Stop;
+use crate::{Status, Stop};
 use sim_base::Setup;
 use sim_orders::OrderTable;
 use sim_play::Market;
@@ -37,7 +27,8 @@ pub fn stock<'w, S: Shelf>(
     deeds: &DeedTable,
 ) -> Result<Answer<'w>, Stop<'w>>
     requires { AreEight ⟦<dyn System as System>⟧ rigs.old.items }
-    ensures answer { IsAnswerTo (to_stock game.now name.now) result (shelved (S.held shelf.old) (S.counts shelf.old)) (shelved (S.held shelf.new) (S.counts shelf.new)) }
+    ensures answer { IsAnswerTo (to_stock game.now name.now) result (shelved (S.held shelf.old) (S.counts shelf.old))
+        (shelved (S.held shelf.new) (S.counts shelf.new)) }
     ensures back { RigsCameBack ⟦<dyn System as System>⟧ (Some (to_stock game.now name.now)) (S.held shelf.old) (status_made result) rigs.old rigs.new }
 {
     let setup = read_match(alloc, shelf, game)?;

@@ -1,25 +1,14 @@
 //! The state of a turn of a match, which is stored in a file.
 
-ghost use Rattle.std.specs.Prelude.{◌≡◌, ◌<◌, ◌≤◌, length, IfOk, IfErr, OnErr, Err, Some, string_bytes};
-ghost use Rattle.sim_base.specs.Limits.{IsSetup};
-ghost use Rattle.sim_base.specs.Spelling.{spelling, digest as digest_of};
-ghost use Rattle.sim_base.specs.Turn.{after, own_turns};
-ghost use Rattle.sim_base.specs.Validity.{IsValid};
-ghost use Rattle.sim_report.specs.Lines.{saved_line};
-ghost use Rattle.sim_system.specs.Meanings.{HaveKinds};
-ghost use Rattle.sim_system.specs.RigWords.{systems_of};
-ghost use Rattle.sim_top.specs.Commands.{IsAnswerTo, shelved};
-ghost use Rattle.sim_top.specs.Making.{IsMade, outcome_made, status_made};
-ghost use Rattle.sim_top.specs.Outcome.{stored_at as stored_outcome, store_outcome};
-ghost use Rattle.sim_top.specs.Returning.{RigsCameBack};
-ghost use Rattle.sim_top.specs.Rigs.{AreEight, HasPlayed};
-ghost use Rattle.sim_top.specs.Words.{to_store};
+ghost use Rattle.std.specs.Prelude.{◌≡◌, ◌<◌, ◌≤◌, length, IfOk, IfErr, OnErr, Some, Err, string_bytes};
+ghost use Rattle.sim_top.specs.{Commands.IsAnswerTo, Commands.shelved, Returning.RigsCameBack, Rigs.AreEight, Rigs.HasPlayed, Words.to_store};
+ghost use Rattle.sim_top.specs.{Making.IsMade, Making.outcome_made, Making.status_made, Outcome.store_outcome, Outcome.stored_at as stored_outcome};
+ghost use Rattle.sim_top.specs.Common.{after, digest as digest_of, HaveKinds, IsSetup, IsValid, own_turns, saved_line, spelling, systems_of};
 
 use super::{Answer, Saved};
 use crate::inputs::read_match;
 use crate::rigs::{put_first, take_first};
-use crate::status::Status;
-use crate::stop::Stop;
+use crate::{Status, Stop};
 use sim_base::{OutOfMemory, Setup, State};
 use sim_codec::{digest, spell};
 use sim_orders::OrderTable;
@@ -40,7 +29,8 @@ pub fn store<'w, S: Shelf>(
     orders: &OrderTable,
 ) -> Result<Answer<'w>, Stop<'w>>
     requires { AreEight ⟦<dyn System as System>⟧ rigs.old.items }
-    ensures answer { IsAnswerTo (to_store game.now turn out.now) result (shelved (S.held shelf.old) (S.counts shelf.old)) (shelved (S.held shelf.new) (S.counts shelf.new)) }
+    ensures answer { IsAnswerTo (to_store game.now turn out.now) result (shelved (S.held shelf.old) (S.counts shelf.old))
+        (shelved (S.held shelf.new) (S.counts shelf.new)) }
     ensures back { RigsCameBack ⟦<dyn System as System>⟧ (Some (to_store game.now turn out.now)) (S.held shelf.old) (status_made result) rigs.old rigs.new }
 {
     let setup = read_match(alloc, shelf, game)?;
@@ -109,7 +99,8 @@ fn kept_state<'w>(
 fn stored(alloc: Global, setup: &Setup, state: &State) -> Result<(Vec<u8>, String), OutOfMemory>
     requires { IsValid setup.now state.now }
     ensures bytes { IfOk result (λ made. made.0.items ≡ spelling setup.now state.now) }
-    ensures text { IfOk result (λ made. string_bytes made.1 ≡ saved_line state.now.turn (length (spelling setup.now state.now)) (digest_of setup.now state.now)) }
+    ensures text { IfOk result (λ made. string_bytes made.1 ≡ saved_line state.now.turn (length (spelling setup.now state.now))
+        (digest_of setup.now state.now)) }
 {
     let bytes = spell(alloc, setup, state)?;
     let mut text = String::new(alloc);

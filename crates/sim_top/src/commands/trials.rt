@@ -1,20 +1,9 @@
 //! The match of a trial, which is made of three numbers and read from no file.
 
-ghost use Rattle.std.specs.Prelude.{◌≡◌, List, Option, IfOk, IsErr, OnErr, Some, string_bytes};
-ghost use Rattle.sim_base.specs.Limits.{IsSetup};
-ghost use Rattle.sim_base.specs.Turn.{after, own_turns};
-ghost use Rattle.sim_base.specs.Validity.{IsValid};
-ghost use Rattle.sim_play.specs.Lines.{trial_line};
-ghost use Rattle.sim_store.specs.Files.{File};
-ghost use Rattle.sim_system.specs.Meanings.{HaveKinds};
-ghost use Rattle.sim_system.specs.RigWords.{systems_of};
-ghost use Rattle.sim_top.specs.Commands.{IsAnswerTo, Shelved};
-ghost use Rattle.sim_top.specs.Making.{IsMade, status_made};
-ghost use Rattle.sim_top.specs.Outcome.{trial_outcome};
-ghost use Rattle.sim_top.specs.Returning.{RigsCameBack};
-ghost use Rattle.sim_top.specs.Rigs.{AreEight, HasPlayed};
-ghost use Rattle.sim_top.specs.Words.{to_try};
-ghost use Rattle.sim_trial.specs.Trial.{IsTrial};
+ghost use Rattle.std.specs.Prelude.{◌≡◌, List, IfOk, OnErr, IsErr, Some, string_bytes, Option};
+ghost use Rattle.sim_top.specs.{Commands.IsAnswerTo, Commands.Shelved, Making.IsMade, Making.status_made, Outcome.trial_outcome, Rigs.AreEight, Rigs.HasPlayed};
+ghost use Rattle.sim_top.specs.{Returning.RigsCameBack, Words.to_try};
+ghost use Rattle.sim_top.specs.Common.{after, File, HaveKinds, IsSetup, IsTrial, IsValid, own_turns, systems_of, trial_line};
 
 use super::{Answer, shown};
 use crate::inputs::trial_match;
@@ -36,7 +25,8 @@ pub fn trial<'w>(
     requires limits { IsTrial numbers.0 numbers.1 numbers.2 }
     requires eight { AreEight ⟦<dyn System as System>⟧ rigs.old.items }
     ensures answer { (shelf : Shelved) → IsAnswerTo (to_try numbers.0 numbers.1 numbers.2) result shelf shelf }
-    ensures back { (held : Option (List File)) → RigsCameBack ⟦<dyn System as System>⟧ (Some (to_try numbers.0 numbers.1 numbers.2)) held (status_made result) rigs.old rigs.new }
+    ensures back { (held : Option (List File)) → RigsCameBack ⟦<dyn System as System>⟧ (Some (to_try numbers.0 numbers.1 numbers.2)) held (status_made result)
+        rigs.old rigs.new }
 {
     let (seed, units, turns) = numbers;
     let setup = trial_match(alloc, seed, units, turns)?;

@@ -2,8 +2,7 @@
 //! as the real ones do. Their calls, and the faults among them, are those of the shelf and the sink in memory below.
 
 ghost use Rattle.std.specs.Prelude.{[], None};
-ghost use Rattle.sim_store.specs.MemShelf.{is_open_on, is_making_on, counts_on};
-ghost use Rattle.sim_store.specs.MemSink.{faults_of};
+ghost use Rattle.sim_store.specs.{MemShelf.counts_on, MemShelf.is_making_on, MemShelf.is_open_on, MemSink.faults_of};
 
 use sim_store::{Failed, MemShelf, MemSink, Shelf, ShelfFault, Sink};
 

@@ -1,10 +1,7 @@
 //! Stored states of both versions: loaded, tested, spelled, digested and taken apart.
 
-ghost use Rattle.std.specs.Prelude.{◌≡◌, length, map, All, IfOk};
-ghost use Rattle.std.specs.List.Sorted.{IsStrictlyIncreasing};
-ghost use Rattle.sim_base.specs.Limits.{IsSetup};
-ghost use Rattle.sim_base.specs.Rows.{id_of};
-ghost use Rattle.sim_sections.specs.Rows.{HasShortWay};
+ghost use Rattle.{sim_base.specs.Limits.IsSetup, sim_base.specs.Rows.id_of, sim_sections.specs.Rows.HasShortWay};
+ghost use Rattle.std.specs.{List.Sorted.IsStrictlyIncreasing, Prelude.map, Prelude.IfOk, Prelude.All};
 
 use sim_base::{Aim, Fixed, Items, MAX_STATE, Motion, OutOfMemory, Point, Row, Setup, State};
 use sim_codec::{

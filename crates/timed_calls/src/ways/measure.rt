@@ -1,7 +1,7 @@
 //! What a way costs between near, middle and far cells and to a cell that lies in a building where the ground has buildings,
 //! on each kind of ground: by the whole search, by labels in rooms of its own, and by a searcher that keeps its rooms.
 
-ghost use Rattle.std.specs.Prelude.{◌≡◌, ◌≤◌, ◌<◌, IsTrue};
+ghost use Rattle.std.specs.Prelude.{◌<◌, ◌≤◌, IsTrue};
 ghost use Rattle.sim_base.specs.Places.{is_inside};
 
 use crate::ways::pairs::{centre, is_on};

@@ -1,6 +1,6 @@
 //! Random cells, by the generator that is known as rand48. It begins with one word, so all runs go through the same cells.
 
-ghost use Rattle.std.specs.Prelude.{◌≡◌, ◌<◌, ◌^◌, IsTrue};
+ghost use Rattle.std.specs.Prelude.{◌≡◌, ◌^◌, ◌<◌};
 ghost use Rattle.sim_base.specs.Places.{is_inside, is_within as is_within_cells};
 
 use sim_base::{Fixed, Point, next_word};

@@ -41,9 +41,7 @@ pub struct Site {
 }
 
 impl Model for Site {
-    ghost use Rattle.sim_grid.specs.Grids.{OpenCells, field_of_grid};
-    ghost use Rattle.sim_search.specs.Regions.{AreLabels};
-    ghost use Rattle.sim_search.specs.Floods.{label_in};
+    ghost use Rattle.{sim_grid.specs.Grids.field_of_grid, sim_grid.specs.Grids.OpenCells, sim_search.specs.Floods.label_in, sim_search.specs.Regions.AreLabels};
 
     ghost Value = { OpenCells };
 

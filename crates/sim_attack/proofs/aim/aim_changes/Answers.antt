@@ -1,7 +1,4 @@
-use Rattle.sim_base.specs.Aim.{aimed}
-use Rattle.sim_plans.specs.Plans.{aim_plan}
-use Rattle.sim_plans.proofs.Answered.{answered}
-use Rattle.sim_plans.proofs.AimPlan.{aim_plan_is}
+use Rattle.{sim_base.specs.Aim.aimed, sim_plans.proofs.AimPlan.aim_plan_is, sim_plans.proofs.Answered.answered, sim_plans.specs.Plans.aim_plan}
 use Rattle.sim_attack.proofs.aim.aim_changes.Goals as goal
 
 pub returns : goal.returns

@@ -1,9 +1,6 @@
 -- Each row is found by its id.
-use Rattle.std.proofs.Common.{◌≡◌, ◌<◌, List, length, get_or, sym, ap, ◌∙◌, arith}
-use Rattle.std.proofs.lemmas.List.{get_or_default}
-use Rattle.sim_base.specs.declared.state.Row.{Row}
-use Rattle.sim_base.specs.Rows.{id_of}
-use Rattle.sim_plans.proofs.Places.{row_there}
+use Rattle.{sim_base.specs.Rows.id_of, sim_base.specs.declared.state.Row.Row, sim_plans.proofs.Places.row_there, std.proofs.lemmas.List.get_or_default}
+use Rattle.std.proofs.Common.{◌≡◌, ◌<◌, List, length, get_or, ap, arith, sym, ◌∙◌}
 use Rattle.sim_attack.proofs.aim.listed_aims.Goals as goal
 
 pub push_aim-requires-clause-found : goal.push_aim-requires-clause-found

@@ -1,6 +1,4 @@
-use Rattle.std.proofs.Common.{◌≡◌, flat_map, take}
-use Rattle.sim_plans.specs.Plans.{aim_changes_of}
-use Rattle.sim_attack.specs.Finds.{AreFound}
+use Rattle.{sim_attack.specs.Finds.AreFound, sim_plans.specs.Plans.aim_changes_of, std.proofs.Common.◌≡◌, std.proofs.Common.take, std.proofs.Common.flat_map}
 use Rattle.sim_attack.proofs.aim.listed_aims.Given as goal
 
 abbrev pub invariant-loop-row : goal.invariant-loop-row

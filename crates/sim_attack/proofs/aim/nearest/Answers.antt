@@ -1,7 +1,5 @@
-use Rattle.std.proofs.Common.{◌+◌, ◌<◌, Some, length, get_or, refl, sym, subst, arith}
-use Rattle.sim_attack.specs.declared.aim.Candidate.{Candidate}
-use Rattle.sim_attack.specs.Nearest.{StandsFor}
-use Rattle.sim_attack.proofs.Nearer.{least_first, nearer_more}
+use Rattle.std.proofs.Common.{◌+◌, ◌<◌, length, get_or, Some, refl, arith, subst, sym}
+use Rattle.sim_attack.{proofs.Nearer.least_first, proofs.Nearer.nearer_more, specs.Nearest.StandsFor, specs.declared.aim.Candidate.Candidate}
 use Rattle.sim_attack.proofs.aim.nearest.Goals as goal
 
 pub loop-id-preserved : goal.loop-id-preserved

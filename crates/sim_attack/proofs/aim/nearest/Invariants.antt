@@ -1,5 +1,4 @@
-use Rattle.sim_attack.specs.Nearest.{StandsFor}
-use Rattle.sim_attack.proofs.Nearer.{least_first}
+use Rattle.sim_attack.{proofs.Nearer.least_first, specs.Nearest.StandsFor}
 use Rattle.sim_attack.proofs.aim.nearest.Given as goal
 
 abbrev pub invariant-loop-id : goal.invariant-loop-id

@@ -1,14 +1,9 @@
 -- What is taken from a find is what the row finds, and what the row finds is kept as what its owner finds from there.
-use Rattle.std.proofs.Common.{rules, ◌≡◌, Some, None, get_or, sym, ap, ◌∙◌}
-use Rattle.std.proofs.lemmas.List.Elements.{All-same, All-set}
-use Rattle.std.specs.Prelude.{Option, IfSome}
-use Rattle.sim_base.specs.Filters.{seen}
-use Rattle.sim_base.specs.Rows.{row_of}
-use Rattle.sim_system.specs.Answers.{seen_from, seen_with}
-use Rattle.sim_attack.specs.declared.finds.Find.{Find}
-use Rattle.sim_attack.specs.Finds.{place_for, nearest_from, filled}
-use Rattle.sim_attack.specs.Nearest.{nearest_of}
-use Rattle.sim_attack.proofs.Sharing.{seen_is_nearest, shared_is_nearest, found_at, filled_found}
+use Rattle.{sim_base.specs.Filters.seen, sim_base.specs.Rows.row_of, sim_system.specs.Answers.seen_from, sim_system.specs.Answers.seen_with}
+use Rattle.std.{proofs.lemmas.List.Elements.All-same, proofs.lemmas.List.Elements.All-set, specs.Prelude.IfSome, specs.Prelude.Option}
+use Rattle.std.proofs.Common.{◌≡◌, get_or, Some, None, ap, rules, sym, ◌∙◌}
+use Rattle.sim_attack.proofs.Sharing.{filled_found, found_at, seen_is_nearest, shared_is_nearest}
+use Rattle.sim_attack.specs.{Finds.filled, Finds.nearest_from, Finds.place_for, Nearest.nearest_of, declared.finds.Find.Find}
 use Rattle.sim_attack.proofs.aim.nearest_seen.Goals as goal
 
 pub returns-in-Some-clause-target : goal.returns-in-Some-clause-target
@@ -18,7 +13,8 @@ returns-in-Some-clause-target g c =
     let row = c.args.row.now in
     let finds = c.args.finds.now.kept.items in
     let place = place_for row.owner row.at in
-    shared_is_nearest setup state row c.args.arms.now.vision (get_or finds place None) c.in-Some.target (found_at setup state finds place c.requires.finds) (sym c.in-Some.ensures)
+    shared_is_nearest setup state row c.args.arms.now.vision (get_or finds place None) c.in-Some.target (found_at setup state finds place c.requires.finds)
+    (sym c.in-Some.ensures)
 
 nearest_is : goal.returns-clause-target
 nearest_is g c =
@@ -26,7 +22,8 @@ nearest_is g c =
     let state = c.args.scene.now.state.now in
     let row = c.args.row.now in
     let arms = c.args.arms.now in
-    let seen_is : seen_from setup state (row_of state row.id) ≡ seen setup state row arms = ap (seen_from setup state) c.requires.found ∙ ap (seen_with setup state row) c.requires.arms in
+    let seen_is : seen_from setup state (row_of state row.id) ≡ seen setup state row arms = ap (seen_from setup state) c.requires.found ∙
+    ap (seen_with setup state row) c.requires.arms in
     let ids_are : c.as_slice.result.now ≡ seen_from setup state (row_of state row.id) = search rules in
     c.nearest-target.ensures ∙ ap (nearest_of state row) (ids_are ∙ seen_is) ∙
     seen_is_nearest setup state row c.requires.stands.limits c.requires.stands.valid c.requires.row c.requires.found arms
@@ -41,4 +38,6 @@ returns-clause-finds g c =
     let row = c.args.row.now in
     let P : Option Find → Type 0 = λ o. IfSome o (λ (find : Find). find.target ≡ nearest_from setup state find.owner find.at find.vision) in
     All-same P c.keep.new.self.kept.items _ c.in_ok-keep.ensures.ok
-    (All-set P (filled c.args.finds.now.kept.items) (place_for row.owner row.at) (Some (record { owner = row.owner; at = row.at; vision = c.args.arms.now.vision; target = c.nearest-target.result })) (nearest_is g c) (filled_found setup state c.args.finds.now.kept.items c.requires.finds))
+    (All-set P (filled c.args.finds.now.kept.items) (place_for row.owner row.at)
+    (Some (record { owner = row.owner; at = row.at; vision = c.args.arms.now.vision; target = c.nearest-target.result })) (nearest_is g c)
+    (filled_found setup state c.args.finds.now.kept.items c.requires.finds))

@@ -1,11 +1,7 @@
 -- The nearest that the row sees is its target where it may take it; else it has none.
-use Rattle.std.proofs.Common.{rules, ◌≡◌, true, false, sym, ap, ◌∙◌}
-use Rattle.sim_base.specs.Filters.{seen}
-use Rattle.sim_base.specs.Aim.{may_take}
-use Rattle.sim_plans.specs.Plans.{next_target}
-use Rattle.sim_attack.specs.Nearest.{nearest_of}
-use Rattle.sim_attack.proofs.Sharing.{seen_is_nearest}
-use Rattle.sim_attack.proofs.Taking.{target_from}
+use Rattle.{sim_base.specs.Aim.may_take, sim_base.specs.Filters.seen, sim_plans.specs.Plans.next_target}
+use Rattle.std.proofs.Common.{◌≡◌, true, false, ap, rules, sym, ◌∙◌}
+use Rattle.sim_attack.{proofs.Sharing.seen_is_nearest, proofs.Taking.target_from, specs.Nearest.nearest_of}
 use Rattle.sim_attack.proofs.aim.next_target_of.Goals as goal
 
 pub returns-then-may_take-clause-target : goal.returns-then-may_take-clause-target

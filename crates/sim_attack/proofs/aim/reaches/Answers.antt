@@ -1,6 +1,5 @@
 -- The range is within the limits.
-use Rattle.std.proofs.Common.{sym}
-use Rattle.sim_plans.proofs.Bounds.{arms_limited}
+use Rattle.{sim_plans.proofs.Bounds.arms_limited, std.proofs.Common.sym}
 use Rattle.sim_attack.proofs.aim.reaches.Goals as goal
 
 pub is_near-requires-clause-radius : goal.is_near-requires-clause-radius

@@ -1,5 +1,4 @@
-use Rattle.std.proofs.Common.{◌≡◌, ◌≤◌, pos}
-use Rattle.sim_base.specs.Hit.{left_at as left_of}
+use Rattle.{sim_base.specs.Hit.left_at as left_of, std.proofs.Common.◌≡◌, std.proofs.Common.◌≤◌, std.proofs.Common.pos}
 use Rattle.sim_attack.proofs.damage.left_at.Given as goal
 
 abbrev pub invariant-loop : goal.invariant-loop

@@ -1,7 +1,4 @@
-use Rattle.sim_base.specs.Hit.{gone}
-use Rattle.sim_plans.specs.Plans.{gone_plan}
-use Rattle.sim_plans.proofs.Answered.{answered}
-use Rattle.sim_plans.proofs.RemovePlan.{gone_plan_is}
+use Rattle.{sim_base.specs.Hit.gone, sim_plans.proofs.Answered.answered, sim_plans.proofs.RemovePlan.gone_plan_is, sim_plans.specs.Plans.gone_plan}
 use Rattle.sim_attack.proofs.gone.gone_changes.Goals as goal
 
 pub returns : goal.returns

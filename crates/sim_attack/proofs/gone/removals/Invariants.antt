@@ -1,9 +1,5 @@
-use Rattle.std.proofs.Common.{◌≡◌, map, take}
-use Rattle.std.specs.Prelude.{filter}
-use Rattle.sim_base.specs.declared.change.Change.TheVariants.{Remove}
-use Rattle.sim_base.specs.declared.state.Row.{Row}
-use Rattle.sim_base.specs.Rows.{id_of}
-use Rattle.sim_base.specs.Hit.{is_spent}
+use Rattle.std.{proofs.Common.◌≡◌, proofs.Common.map, proofs.Common.take, specs.Prelude.filter}
+use Rattle.sim_base.specs.{Hit.is_spent, Rows.id_of, declared.change.Change.TheVariants.Remove, declared.state.Row.Row}
 use Rattle.sim_attack.proofs.gone.removals.Given as goal
 
 abbrev pub invariant-loop-row : goal.invariant-loop-row

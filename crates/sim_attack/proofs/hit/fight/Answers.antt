@@ -1,14 +1,8 @@
 -- The hit that lands is added to the sum of its target.
-use Rattle.std.proofs.Common.{◌≡◌, ◌<◌, List, [], ◌∷◌, ◌++◌, ℕ, true, Some, length, get_or, set, sym, ap, ◌∙◌, ◌+◌, subst, arith, rules}
-use Rattle.std.proofs.lemmas.List.{get_or_default}
-use Rattle.sim_base.specs.declared.state.Row.{Row}
-use Rattle.sim_base.specs.Numbers.{next_word}
-use Rattle.sim_base.specs.Rows.{row_of, arms_of}
-use Rattle.sim_base.specs.Filters.{is_near}
-use Rattle.sim_base.specs.Hit.{Hit, lands, taken, resist_of}
+use Rattle.{sim_attack.proofs.Sums.fought_lands, sim_attack.proofs.Sums.hit_at, sim_attack.specs.Fights.AreTaken, std.proofs.lemmas.List.get_or_default}
+use Rattle.std.proofs.Common.{◌≡◌, ℕ, ◌+◌, ◌<◌, true, List, [], ◌∷◌, ◌++◌, length, get_or, set, Some, ap, arith, rules, subst, sym, ◌∙◌}
+use Rattle.sim_base.specs.{Filters.is_near, Hit.Hit, Hit.lands, Hit.resist_of, Hit.taken, Numbers.next_word, Rows.arms_of, Rows.row_of, declared.state.Row.Row}
 use Rattle.sim_plans.specs.Found.{found}
-use Rattle.sim_attack.specs.Fights.{AreTaken}
-use Rattle.sim_attack.proofs.Sums.{hit_at, fought_lands}
 use Rattle.sim_attack.proofs.hit.fight.Goals as goal
 
 pub returns-then-lands-clause-damage : goal.returns-then-lands-clause-damage
@@ -25,7 +19,8 @@ returns-then-lands-clause-damage c =
     let rows_are = c.as_slice-rows.ensures in
     let here : target ≡ get_or state.rows at target = c.index-rows-at.is ∙ ap (λ (rs : List Row). get_or rs at target) rows_are in
     let lt : at < length state.rows = subst (λ (rs : List Row). at < length rs) rows_are c.in-Some-place_of.ensures.0 in
-    let found_is : row_of state aim.target ≡ Some target = subst (λ (rs : List Row). found rs aim.target ≡ Some (get_or rs at target)) rows_are (c.in-Some-place_of.ensures.1 target) ∙ ap Some (sym here) in
+    let found_is : row_of state aim.target ≡ Some target = subst (λ (rs : List Row). found rs aim.target ≡ Some (get_or rs at target)) rows_are
+    (c.in-Some-place_of.ensures.1 target) ∙ ap Some (sym here) in
     let attacks : row.attack ≡ Some aim = search rules in
     let armed : arms_of setup row ≡ Some arms = search rules in
     let ready : aim.cooldown ≡ 0 = omega arith in

@@ -1,7 +1,4 @@
-use Rattle.sim_base.specs.Hit.{hit}
-use Rattle.sim_plans.specs.Plans.{hit_plan}
-use Rattle.sim_plans.proofs.Answered.{answered}
-use Rattle.sim_plans.proofs.HitPlan.{hit_plan_is}
+use Rattle.{sim_base.specs.Hit.hit, sim_plans.proofs.Answered.answered, sim_plans.proofs.HitPlan.hit_plan_is, sim_plans.specs.Plans.hit_plan}
 use Rattle.sim_attack.proofs.hit.hit_changes.Goals as goal
 
 pub returns : goal.returns

@@ -1,13 +1,8 @@
-use Rattle.std.proofs.Common.{◌≡◌, ℕ, ◌+◌, ◌*◌, ◌<◌, ◌≤◌, ◌^◌, List, [], ◌∷◌, ◌++◌, length, get_or, take, flat_map, refl, ap, ◌∙◌, arith}
-use Rattle.std.proofs.lemmas.List.{take_all}
-use Rattle.std.proofs.lemmas.List.Elements.{All-weaker}
-use Rattle.sim_base.specs.declared.state.Row.{Row}
-use Rattle.sim_base.specs.declared.change.Change.{Change}
-use Rattle.sim_base.specs.declared.change.Change.TheVariants.{Word}
-use Rattle.sim_base.specs.Hit.{hitting}
+use Rattle.std.proofs.Common.{◌≡◌, ℕ, ◌+◌, ◌*◌, ◌^◌, ◌<◌, ◌≤◌, List, [], ◌∷◌, ◌++◌, length, get_or, take, flat_map, refl, ap, arith, ◌∙◌}
+use Rattle.std.proofs.lemmas.List.{take_all, Elements.All-weaker}
+use Rattle.sim_attack.proofs.{Fighting.behind_word, Fighting.far_all, Fighting.far_more, Fighting.hurt_at, Loops.listed_more}
+use Rattle.sim_base.specs.{Hit.hitting, declared.change.Change.Change, declared.change.Change.TheVariants.Word, declared.state.Row.Row}
 use Rattle.sim_plans.specs.Plans.{fight_changes_of, hurt_changes_by, hurt_changes_of}
-use Rattle.sim_attack.proofs.Loops.{listed_more}
-use Rattle.sim_attack.proofs.Fighting.{far_more, far_all, hurt_at, behind_word}
 use Rattle.sim_attack.proofs.hit.listed_hits.Goals as goal
 
 pub loop-row-preserved : goal.loop-row-preserved
@@ -19,13 +14,16 @@ loop-row-preserved c =
     let before = c.loop-row.invariant in
     let lt : n < length state.rows = omega (arith, ap (λ (rs : List Row). length rs) c.as_slice-rows.ensures) in
     let is : row ≡ get_or state.rows n row = c.row-item.is ∙ ap (λ (rs : List Row). get_or rs n row) c.as_slice-rows.ensures in
-    let far = far_more setup state n row c.loop-row.word c.in_ok-word.word c.loop-row.damage.items c.fight.new.damage.items lt is before.far c.in_ok-word.ensures.word c.in_ok-word.ensures.damage in
+    let far = far_more setup state n row c.loop-row.word c.in_ok-word.word c.loop-row.damage.items c.fight.new.damage.items lt is before.far
+    c.in_ok-word.ensures.word c.in_ok-word.ensures.damage in
     record {
-      changes = listed_more (fight_changes_of setup state) state.rows n row c.loop-row.changes c.fight.new.changes lt is before.changes c.in_ok-word.ensures.changes;
+      changes = listed_more (fight_changes_of setup state) state.rows n row c.loop-row.changes c.fight.new.changes lt is before.changes
+          c.in_ok-word.ensures.changes;
       far = far;
       word = c.in_ok-word.ensures.is_word;
       long = far.taken.long;
-      small = All-weaker (λ (k : ℕ). k ≤ n * 196608000 + 196608000) (λ (k : ℕ). k ≤ (n + 1) * 196608000) (λ k h. omega (arith, h)) c.fight.new.damage.items (c.in_ok-word.ensures.small (n * 196608000) before.small);
+      small = All-weaker (λ (k : ℕ). k ≤ n * 196608000 + 196608000) (λ (k : ℕ). k ≤ (n + 1) * 196608000) (λ k h. omega (arith, h)) c.fight.new.damage.items
+          (c.in_ok-word.ensures.small (n * 196608000) before.small);
     }
 
 pub loop-at-init : goal.loop-at-init
@@ -38,11 +36,14 @@ loop-at-init c =
     let ge : length state.rows ≤ n = omega (arith, rows_are) in
     let le : n ≤ length state.rows = omega (arith, rows_are) in
     let all = far_all setup state n c.loop-row.word c.loop-row.damage.items ge before.far in
-    let fights : c.loop-row.changes ≡ flat_map (fight_changes_of setup state) state.rows = before.changes ∙ ap (flat_map (fight_changes_of setup state)) (take_all n state.rows ge) in
+    let fights : c.loop-row.changes ≡ flat_map (fight_changes_of setup state) state.rows = before.changes ∙ ap (flat_map (fight_changes_of setup state))
+    (take_all n state.rows ge) in
     record {
-      changes = c.in_ok-push.ensures.ok ∙ ap (λ (cs : List Change). cs ++ Word c.loop-row.word ∷ []) fights ∙ ap (λ (w : ℕ). flat_map (fight_changes_of setup state) state.rows ++ Word w ∷ []) all.0;
+      changes = c.in_ok-push.ensures.ok ∙ ap (λ (cs : List Change). cs ++ Word c.loop-row.word ∷ []) fights ∙
+          ap (λ (w : ℕ). flat_map (fight_changes_of setup state) state.rows ++ Word w ∷ []) all.0;
       taken = all.1;
-      small = All-weaker (λ (k : ℕ). k ≤ n * 196608000) (λ (k : ℕ). k < 2 ^ 62) (λ k h. omega (arith, h, le, c.requires.valid.few)) c.loop-row.damage.items before.small;
+      small = All-weaker (λ (k : ℕ). k ≤ n * 196608000) (λ (k : ℕ). k < 2 ^ 62) (λ k h. omega (arith, h, le, c.requires.valid.few)) c.loop-row.damage.items
+          before.small;
     }
 
 pub loop-at-preserved : goal.loop-at-preserved
@@ -62,7 +63,8 @@ loop-at-preserved c =
     let back = flat_map (hurt_changes_of hits) (take at state.rows) in
     let more = listed_more (hurt_changes_of hits) state.rows at row back (back ++ hurt_changes_of hits row) lt is refl refl in
     record {
-      changes = c.in_ok-push_hurt.ensures ∙ ap (λ (cs : List Change). cs ++ hurt_changes_by row.id taken row.health) before.changes ∙ behind_word front word back (hurt_changes_by row.id taken row.health) ∙
+      changes = c.in_ok-push_hurt.ensures ∙ ap (λ (cs : List Change). cs ++ hurt_changes_by row.id taken row.health) before.changes ∙
+          behind_word front word back (hurt_changes_by row.id taken row.health) ∙
           ap (λ (cs : List Change). front ++ Word word ∷ (back ++ cs)) here ∙ ap (λ (cs : List Change). front ++ Word word ∷ cs) more;
       taken = before.taken;
       small = before.small;

@@ -1,9 +1,6 @@
-use Rattle.std.proofs.Common.{◌≡◌, ◌*◌, ◌<◌, ◌≤◌, ◌^◌, ◌++◌, ◌∷◌, All, flat_map, take, length}
-use Rattle.sim_base.specs.declared.change.Change.TheVariants.{Word}
-use Rattle.sim_base.specs.Hit.{hitting}
-use Rattle.sim_plans.specs.Plans.{fight_changes_of, hurt_changes_of}
-use Rattle.sim_attack.specs.Fights.{AreTaken}
-use Rattle.sim_attack.proofs.Fighting.{IsFar}
+use Rattle.{sim_attack.proofs.Fighting.IsFar, sim_attack.specs.Fights.AreTaken, sim_plans.specs.Plans.fight_changes_of, sim_plans.specs.Plans.hurt_changes_of}
+use Rattle.std.proofs.Common.{◌≡◌, ◌*◌, ◌^◌, ◌<◌, ◌≤◌, ◌∷◌, ◌++◌, length, take, All, flat_map}
+use Rattle.sim_base.specs.{Hit.hitting, declared.change.Change.TheVariants.Word}
 use Rattle.sim_attack.proofs.hit.listed_hits.Given as goal
 
 abbrev pub invariant-loop-row : goal.invariant-loop-row
@@ -19,7 +16,8 @@ invariant-loop-row l =
 abbrev pub invariant-loop-at : goal.invariant-loop-at
 invariant-loop-at l =
     record {
-      changes : l.changes ≡ flat_map (fight_changes_of l.setup l.state) l.state.rows ++ Word (hitting l.setup l.state).word ∷ flat_map (hurt_changes_of (hitting l.setup l.state).hits) (take l.at l.state.rows);
+      changes : l.changes ≡ flat_map (fight_changes_of l.setup l.state) l.state.rows ++ Word (hitting l.setup l.state).word ∷
+          flat_map (hurt_changes_of (hitting l.setup l.state).hits) (take l.at l.state.rows);
       taken : AreTaken l.state.rows (hitting l.setup l.state).hits l.damage.items;
       small : All (λ n. n < 2 ^ 62) l.damage.items;
     }

@@ -1,5 +1,4 @@
-use Rattle.std.proofs.Common.{sym}
-use Rattle.sim_base.proofs.RootLemmas.{root_is}
+use Rattle.{sim_base.proofs.RootLemmas.root_is, std.proofs.Common.sym}
 use Rattle.sim_base.proofs.number.root.Goals as goal
 
 pub returns-clause-value : goal.returns-clause-value

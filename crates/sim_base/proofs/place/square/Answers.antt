@@ -1,6 +1,4 @@
-use Rattle.std.proofs.Common.{◌≤◌, arith}
-use Rattle.std.proofs.lemmas.Int.{ints}
-use Rattle.std.proofs.lemmas.Nat.{mul-le}
+use Rattle.std.proofs.{Common.◌≤◌, Common.arith, lemmas.Int.ints, lemmas.Nat.mul-le}
 use Rattle.sim_base.proofs.place.square.Goals as goal
 
 -- on the largest ground two raws differ by less than 256 metres

@@ -1,8 +1,6 @@
 -- As many zeros as digits are missing, by how many digits there are.
-use Rattle.std.proofs.Common.{◌≡◌, ℕ, ◌+◌, ◌/◌, ◌^◌, ◌≤◌, ◌<◌, length, drop, sym, ap, ◌∙◌, arith}
-use Rattle.std.specs.Prelude.{codes, decimal}
-use Rattle.std.proofs.lemmas.List.{length-append}
-use Rattle.std.proofs.lemmas.Fmt.{decimal_digit, decimal_step}
+use Rattle.std.{proofs.lemmas.Fmt.decimal_digit, proofs.lemmas.Fmt.decimal_step, proofs.lemmas.List.length-append, specs.Prelude.codes, specs.Prelude.decimal}
+use Rattle.std.proofs.Common.{◌≡◌, ℕ, ◌+◌, ◌/◌, ◌^◌, ◌<◌, ◌≤◌, length, drop, ap, arith, sym, ◌∙◌}
 use Rattle.sim_base.proofs.print.zeros_before.Goals as goal
 
 -- a number has one digit more than its tenth

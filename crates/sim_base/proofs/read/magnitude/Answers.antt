@@ -1,6 +1,5 @@
-use Rattle.std.proofs.Common.{arith}
-use Rattle.std.proofs.lemmas.Grind.{common_steps}
-use Rattle.sim_base.proofs.NumberTextLemmas.{magnitude_of-whole, magnitude_of-refused}
+use Rattle.std.proofs.{Common.arith, lemmas.Grind.common_steps}
+use Rattle.sim_base.proofs.NumberTextLemmas.{magnitude_of-refused, magnitude_of-whole}
 use Rattle.sim_base.proofs.read.magnitude.Goals as goal
 
 pub returns-in_err-digits-in-Some-2-clause-value : goal.returns-in_err-digits-in-Some-2-clause-value

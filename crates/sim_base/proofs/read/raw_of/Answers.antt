@@ -1,16 +1,18 @@
-use Rattle.std.proofs.Common.{◌≡◌, ◌*◌, ◌/◌, ◌<◌, ◌^◌, ◌++◌, length, arith, ◌∙◌}
+use Rattle.std.proofs.Common.{◌≡◌, ◌*◌, ◌/◌, ◌^◌, ◌<◌, ◌++◌, length, arith, ◌∙◌}
 use Rattle.std.specs.Str.Parse.{digits_value, digits_value_after}
-use Rattle.sim_base.proofs.NumberTextLemmas.{few_digits, sixteen_digits, raw_small, digits_value_after-append}
+use Rattle.sim_base.proofs.NumberTextLemmas.{digits_value_after-append, few_digits, raw_small, sixteen_digits}
 use Rattle.sim_base.proofs.read.raw_of.Goals as goal
 
 pub value_after-value-requires-clause-room : goal.value_after-value-requires-clause-room
 value_after-value-requires-clause-room c =
-    sixteen_digits c.value_after.result (length c.args.before.now) (length c.args.behind.now) c.value_after.ensures.small (few_digits 10 c.args.before.now c.requires.before) c.requires.behind_few
+    sixteen_digits c.value_after.result (length c.args.before.now) (length c.args.behind.now) c.value_after.ensures.small
+    (few_digits 10 c.args.before.now c.requires.before) c.requires.behind_few
 
 small : (c : goal.After-from-2) → c.from.result * 65536 / c.from-2.result < 2 ^ 62
 small c =
     let power : c.from-2.result ≡ 10 ^ length c.args.behind.now = c.from-2.ensures ∙ c.pow-power.ensures in
-    rw power (raw_small c.value_after.result c.from.result (length c.args.before.now) (length c.args.behind.now) c.value_after.ensures.small (few_digits 10 c.args.before.now c.requires.before) (omega arith))
+    rw power (raw_small c.value_after.result c.from.result (length c.args.before.now) (length c.args.behind.now) c.value_after.ensures.small
+    (few_digits 10 c.args.before.now c.requires.before) (omega arith))
 
 pub overflow_cast-result : goal.overflow_cast-result
 overflow_cast-result c = omega (arith, small c)

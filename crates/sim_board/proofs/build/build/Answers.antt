@@ -1,22 +1,23 @@
 -- What is told of a state is in range.
-use Rattle.std.proofs.Common.{sym, ap, ◌∙◌, subst}
-use Rattle.sim_system.specs.Ranges.{AreInRange}
-use Rattle.sim_scene.proofs.InRange.{state_in_range}
-use Rattle.sim_system.specs.Meanings.{Meaning}
-use Rattle.sim_board.proofs.Counting.{not_built, built_once}
+use Rattle.sim_board.proofs.Common.{ap, AreInRange, Meaning, state_in_range, subst, sym, ◌∙◌}
+use Rattle.sim_board.proofs.Counting.{built_once, not_built}
 use Rattle.sim_board.proofs.build.build.Goals as goal
 
 pub rebuild-requires-clause-facts : goal.rebuild-requires-clause-facts
-rebuild-requires-clause-facts g c = subst (AreInRange c.args.setup.now.land) (sym (c.as_slice-facts.ensures ∙ c.in_ok-facts.ensures)) (state_in_range c.args.setup.now c.args.state.now c.requires.limits c.requires.valid)
+rebuild-requires-clause-facts g c = subst (AreInRange c.args.setup.now.land) (sym (c.as_slice-facts.ensures ∙ c.in_ok-facts.ensures))
+    (state_in_range c.args.setup.now c.args.state.now c.requires.limits c.requires.valid)
 
 pub rebuild-requires-2-clause-facts : goal.rebuild-requires-2-clause-facts
-rebuild-requires-2-clause-facts g c = subst (AreInRange c.args.setup.now.land) (sym (c.as_slice-facts.ensures ∙ c.in_ok-facts.ensures)) (state_in_range c.args.setup.now c.args.state.now c.requires.limits c.requires.valid)
+rebuild-requires-2-clause-facts g c = subst (AreInRange c.args.setup.now.land) (sym (c.as_slice-facts.ensures ∙ c.in_ok-facts.ensures))
+    (state_in_range c.args.setup.now c.args.state.now c.requires.limits c.requires.valid)
 
 pub rebuild-requires-3-clause-facts : goal.rebuild-requires-3-clause-facts
-rebuild-requires-3-clause-facts g c = subst (AreInRange c.args.setup.now.land) (sym (c.as_slice-facts.ensures ∙ c.in_ok-facts.ensures)) (state_in_range c.args.setup.now c.args.state.now c.requires.limits c.requires.valid)
+rebuild-requires-3-clause-facts g c = subst (AreInRange c.args.setup.now.land) (sym (c.as_slice-facts.ensures ∙ c.in_ok-facts.ensures))
+    (state_in_range c.args.setup.now c.args.state.now c.requires.limits c.requires.valid)
 
 pub rebuild-requires-4-clause-facts : goal.rebuild-requires-4-clause-facts
-rebuild-requires-4-clause-facts g c = subst (AreInRange c.args.setup.now.land) (sym (c.as_slice-facts.ensures ∙ c.in_ok-facts.ensures)) (state_in_range c.args.setup.now c.args.state.now c.requires.limits c.requires.valid)
+rebuild-requires-4-clause-facts g c = subst (AreInRange c.args.setup.now.land) (sym (c.as_slice-facts.ensures ∙ c.in_ok-facts.ensures))
+    (state_in_range c.args.setup.now c.args.state.now c.requires.limits c.requires.valid)
 
 pub returns-in_err-rebuild-clause-most : goal.returns-in_err-rebuild-clause-most
 returns-in_err-rebuild-clause-most g c = record {

@@ -1,7 +1,4 @@
-use Rattle.std.proofs.Common.{List, refl, ap, ap₂, ◌∙◌}
-use Rattle.sim_base.specs.declared.state.Row.{Row}
-use Rattle.sim_base.specs.declared.state.State.{State}
-use Rattle.sim_base.specs.Changes.{applied}
+use Rattle.sim_board.proofs.Common.{List, refl, ap, applied, ap₂, Row, State, ◌∙◌}
 use Rattle.sim_board.proofs.change.make.Goals as goal
 
 pub returns : goal.returns
@@ -9,6 +6,7 @@ returns c =
     let setup = c.args.setup.now in
     let over : State → List Row → State = λ s rows. record s { rows = rows } in
     record {
-      applied = ap (over c.set.new.state) c.from_items.ensures ∙ c.set.ensures setup ∙ ap₂ (λ (s : State) (rows : List Row). applied setup (over s rows) c.args.change.now) c.take_rows-rows.ensures.state c.take_rows-rows.ensures.rows;
+      applied = ap (over c.set.new.state) c.from_items.ensures ∙ c.set.ensures setup ∙
+          ap₂ (λ (s : State) (rows : List Row). applied setup (over s rows) c.args.change.now) c.take_rows-rows.ensures.state c.take_rows-rows.ensures.rows;
       sure = λ n. refl;
     }

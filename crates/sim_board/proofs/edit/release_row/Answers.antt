@@ -1,6 +1,4 @@
-use Rattle.std.proofs.Common.{ap, ◌∙◌, set}
-use Rattle.sim_base.specs.Changes.{released}
-use Rattle.sim_board.proofs.Setting.{set_found, none_found}
+use Rattle.sim_board.proofs.{Common.set, Common.ap, Common.released, Common.◌∙◌, Setting.none_found, Setting.set_found}
 use Rattle.sim_board.proofs.edit.release_row.Goals as goal
 
 pub returns : goal.returns

@@ -1,13 +1,12 @@
 -- One more is released.
-use Rattle.std.proofs.Common.{ℕ, get_or, map, arith, ap, sym, ◌∙◌}
-use Rattle.sim_base.specs.Rows.{id_of}
-use Rattle.sim_board.specs.Letting.{row_released}
-use Rattle.sim_board.proofs.Letting.{released_next, ids_stay}
+use Rattle.sim_board.proofs.Common.{ℕ, map, get_or, ap, arith, id_of, row_released, sym, ◌∙◌}
+use Rattle.sim_board.proofs.Letting.{ids_stay, released_next}
 use Rattle.sim_board.proofs.edit.release_rows.Goals as goal
 
 pub loop-id-preserved : goal.loop-id-preserved
 loop-id-preserved c =
     let id : ℕ = get_or c.args.ids.now c.loop-id.id-index 0 in (
-      c.release_row-near.ensures ∙ ap (λ rows. row_released rows id) c.loop-id.invariant.0 ∙ sym (released_next c.args.ids.now c.args.rows.now.items c.loop-id.id-index (omega arith)),
+      c.release_row-near.ensures ∙ ap (λ rows. row_released rows id) c.loop-id.invariant.0 ∙
+          sym (released_next c.args.ids.now c.args.rows.now.items c.loop-id.id-index (omega arith)),
       ap (map id_of) c.release_row-near.ensures ∙ ids_stay c.loop-id.rows.items id ∙ c.loop-id.invariant.1,
     )

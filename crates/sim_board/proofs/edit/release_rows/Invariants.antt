@@ -1,6 +1,4 @@
-use Rattle.std.proofs.Common.{◌≡◌, map, take}
-use Rattle.sim_base.specs.Rows.{id_of}
-use Rattle.sim_board.specs.Letting.{rows_released}
+use Rattle.sim_board.proofs.Common.{◌≡◌, map, take, id_of, rows_released}
 use Rattle.sim_board.proofs.edit.release_rows.Given as goal
 
 -- the first of the rows are released, and the ids are as they were

@@ -1,5 +1,5 @@
 -- A row a little behind the place with the id is the one that is found.
-use Rattle.sim_plans.proofs.Places.{row_at}
+use Rattle.sim_board.proofs.Common.{row_at}
 use Rattle.sim_board.proofs.near.place_near.Goals as goal
 
 pub returns-in-Some : goal.returns-in-Some

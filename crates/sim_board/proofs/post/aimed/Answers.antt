@@ -1,32 +1,32 @@
 -- Watch is told of a new target, and the others need not be; of the old one nobody.
-use Rattle.std.proofs.Common.{refl, ◌∙◌, ◌≡◌, Option, MatchOption, subst}
-use Rattle.sim_base.specs.declared.state.Row.{Row}
-use Rattle.sim_base.specs.Rows.{target_of}
-use Rattle.sim_system.specs.declared.kind.Kind.{Kind}
-use Rattle.sim_system.specs.declared.kind.Kind.TheVariants.{Ground, Range, Watch, Census}
-use Rattle.sim_system.specs.declared.note.Note.TheVariants.{Aimed}
-use Rattle.sim_board.proofs.Feeding.{may_hear, fed_told, fed_unheard, aim_is_told, same_aim, all_fed_same}
+use Rattle.sim_board.proofs.Common.{◌≡◌, MatchOption, Option, refl, Aimed, Census, Ground, Kind, Range, Row, subst, target_of, Watch, ◌∙◌}
+use Rattle.sim_board.proofs.Feeding.{aim_is_told, all_fed_same, fed_told, fed_unheard, may_hear, same_aim}
 use Rattle.sim_board.proofs.post.aimed.Goals as goal
 
 pub tell-requires : goal.tell-requires
-tell-requires g c = may_hear Watch _ _ _ _ c.requires.stands.fed.watch (aim_is_told Watch _ _ c.requires.stands.limits c.requires.stands.valid c.args.id c.args.aim c.living-row.result.now c.living-row.ensures c.requires.fits c.target_of-from.result c.target_of-from.ensures).fits
+tell-requires g c = may_hear Watch _ _ _ _ c.requires.stands.fed.watch (aim_is_told Watch _ _ c.requires.stands.limits c.requires.stands.valid c.args.id
+    c.args.aim c.living-row.result.now c.living-row.ensures c.requires.fits c.target_of-from.result c.target_of-from.ensures).fits
 
 pub returns-clause-fed : goal.returns-clause-fed
 returns-clause-fed g c =
-    let each = λ (kind : Kind). aim_is_told kind c.args.setup.now c.args.state.now c.requires.stands.limits c.requires.stands.valid c.args.id c.args.aim c.living-row.result.now c.living-row.ensures c.requires.fits c.target_of-from.result c.target_of-from.ensures in
+    let each = λ (kind : Kind). aim_is_told kind c.args.setup.now c.args.state.now c.requires.stands.limits c.requires.stands.valid c.args.id c.args.aim
+    c.living-row.result.now c.living-row.ensures c.requires.fits c.target_of-from.result c.target_of-from.ensures in
     record {
       ground = fed_unheard Ground _ _ _ _ (Aimed c.args.id c.target_of-from.result c.args.aim.target) c.requires.stands.fed.ground (each Ground) refl;
       range = fed_unheard Range _ _ _ _ (Aimed c.args.id c.target_of-from.result c.args.aim.target) c.requires.stands.fed.range (each Range) refl;
-      watch = fed_told Watch _ _ _ _ _ (Aimed c.args.id c.target_of-from.result c.args.aim.target) c.requires.stands.fed.watch c.in_ok-tell.ensures.ok (each Watch).gives;
+      watch = fed_told Watch _ _ _ _ _ (Aimed c.args.id c.target_of-from.result c.args.aim.target) c.requires.stands.fed.watch c.in_ok-tell.ensures.ok
+          (each Watch).gives;
       census = fed_unheard Census _ _ _ _ (Aimed c.args.id c.target_of-from.result c.args.aim.target) c.requires.stands.fed.census (each Census) refl;
     }
 
 pub returns-then-from-aim-clause-fed : goal.returns-then-from-aim-clause-fed
 returns-then-from-aim-clause-fed g c =
     all_fed_same _ _ _ _ c.requires.stands.fed
-    (λ kind. same_aim kind c.args.setup.now c.args.state.now c.requires.stands.limits c.requires.stands.valid c.args.id c.args.aim c.living-row.result.now c.living-row.ensures c.target_of-from.result c.target_of-from.ensures c.if-from-aim.true)
+    (λ kind. same_aim kind c.args.setup.now c.args.state.now c.requires.stands.limits c.requires.stands.valid c.args.id c.args.aim c.living-row.result.now
+    c.living-row.ensures c.target_of-from.result c.target_of-from.ensures c.if-from-aim.true)
 
 pub returns-in_err-tell-clause-untold : goal.returns-in_err-tell-clause-untold
 returns-in_err-tell-clause-untold g c keeps =
-    let same : target_of c.living-row.result.now ≡ c.args.aim.target = subst (λ (o : Option Row). MatchOption o ⊥ (λ (row : Row). target_of row ≡ c.args.aim.target)) c.living-row.ensures keeps in
+    let same : target_of c.living-row.result.now ≡ c.args.aim.target =
+    subst (λ (o : Option Row). MatchOption o ⊥ (λ (row : Row). target_of row ≡ c.args.aim.target)) c.living-row.ensures keeps in
     absurd (c.if-from-aim.false (c.target_of-from.ensures ∙ same))

@@ -1,20 +1,20 @@
 -- Range is told, and the others need not be.
-use Rattle.std.proofs.Common.{refl}
-use Rattle.sim_system.specs.declared.kind.Kind.{Kind}
-use Rattle.sim_system.specs.declared.kind.Kind.TheVariants.{Ground, Range, Watch, Census}
-use Rattle.sim_system.specs.declared.note.Note.TheVariants.{Moved}
-use Rattle.sim_board.proofs.Feeding.{may_hear, fed_told, fed_unheard, move_is_told}
+use Rattle.sim_board.proofs.Common.{refl, Census, Ground, Kind, Moved, Range, Watch}
+use Rattle.sim_board.proofs.Feeding.{fed_told, fed_unheard, may_hear, move_is_told}
 use Rattle.sim_board.proofs.post.moved.Goals as goal
 
 pub tell-requires : goal.tell-requires
-tell-requires g c = may_hear Range _ _ _ _ c.requires.stands.fed.range (move_is_told Range _ _ c.requires.stands.limits c.requires.stands.valid c.args.id c.args.at.now c.living-row.result.now c.living-row.ensures c.requires.fits).fits
+tell-requires g c = may_hear Range _ _ _ _ c.requires.stands.fed.range (move_is_told Range _ _ c.requires.stands.limits c.requires.stands.valid c.args.id
+    c.args.at.now c.living-row.result.now c.living-row.ensures c.requires.fits).fits
 
 pub returns-clause-fed : goal.returns-clause-fed
 returns-clause-fed g c =
-    let each = λ (kind : Kind). move_is_told kind c.args.setup.now c.args.state.now c.requires.stands.limits c.requires.stands.valid c.args.id c.args.at.now c.living-row.result.now c.living-row.ensures c.requires.fits in
+    let each = λ (kind : Kind). move_is_told kind c.args.setup.now c.args.state.now c.requires.stands.limits c.requires.stands.valid c.args.id c.args.at.now
+    c.living-row.result.now c.living-row.ensures c.requires.fits in
     record {
       ground = fed_unheard Ground _ _ _ _ (Moved c.args.id c.living-row.result.now.at c.args.at.now) c.requires.stands.fed.ground (each Ground) refl;
-      range = fed_told Range _ _ _ _ _ (Moved c.args.id c.living-row.result.now.at c.args.at.now) c.requires.stands.fed.range c.in_ok-tell.ensures.ok (each Range).gives;
+      range = fed_told Range _ _ _ _ _ (Moved c.args.id c.living-row.result.now.at c.args.at.now) c.requires.stands.fed.range c.in_ok-tell.ensures.ok
+          (each Range).gives;
       watch = fed_unheard Watch _ _ _ _ (Moved c.args.id c.living-row.result.now.at c.args.at.now) c.requires.stands.fed.watch (each Watch) refl;
       census = fed_unheard Census _ _ _ _ (Moved c.args.id c.living-row.result.now.at c.args.at.now) c.requires.stands.fed.census (each Census) refl;
     }

@@ -1,7 +1,5 @@
 -- No system is told of what none keeps.
-use Rattle.std.proofs.Common.{ap}
-use Rattle.sim_system.specs.Posts.{posts}
-use Rattle.sim_board.proofs.Feeding.{silent_fed}
+use Rattle.sim_board.proofs.{Common.ap, Common.posts, Feeding.silent_fed}
 use Rattle.sim_board.proofs.post.post.Goals as goal
 
 pub returns-in-Motion-clause-fed : goal.returns-in-Motion-clause-fed

@@ -1,6 +1,4 @@
-use Rattle.sim_system.specs.RigWords.{systems_by}
-use Rattle.sim_board.specs.BoardWords.{AreKept}
-use Rattle.sim_board.proofs.Feeding.{AreLetGo}
+use Rattle.sim_board.proofs.{Common.AreKept, Common.systems_by, Feeding.AreLetGo}
 use Rattle.sim_board.proofs.post.release.Given as goal
 
 -- the first of them are let go

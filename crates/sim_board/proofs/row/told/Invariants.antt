@@ -1,5 +1,4 @@
-use Rattle.std.proofs.Common.{◌≡◌, map, take}
-use Rattle.sim_system.specs.Facts.{fact_of}
+use Rattle.sim_board.proofs.Common.{◌≡◌, map, take, fact_of}
 use Rattle.sim_board.proofs.row.told.Given as goal
 
 abbrev pub invariant-loop-row : goal.invariant-loop-row

@@ -1,7 +1,5 @@
 -- The empty text has no bytes.
-use Rattle.std.proofs.Common.{◌≡◌, length, Ok, sym, ap, ◌∙◌}
-use Rattle.std.proofs.lemmas.Bool.{eqb-true}
-use Rattle.std.proofs.lemmas.List.{nil_from_length}
+use Rattle.std.proofs.{Common.length, Common.Ok, Common.ap, Common.sym, Common.◌∙◌, lemmas.Bool.eqb-true, lemmas.List.nil_from_length}
 use Rattle.hex.specs.Hex.{decode_of, decode_pairs}
 use Rattle.sim_bytes.proofs.hexadecimal.read_hex.Goals as goal
 

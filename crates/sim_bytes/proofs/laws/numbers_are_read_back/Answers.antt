@@ -1,5 +1,5 @@
 -- The four laws are the lemmas of these names.
-use Rattle.sim_bytes.specs.Numbers.{u16_back, u32_back, u64_back, i32_back}
+use Rattle.sim_bytes.specs.Numbers.{i32_back, u16_back, u32_back, u64_back}
 use Rattle.sim_bytes.proofs.laws.numbers_are_read_back.Goals as goal
 
 pub returns : goal.returns

@@ -1,4 +1,4 @@
-use Rattle.sim_client.proofs.Following.{starting_follows, joining_follows, ordering_follows, playing_follows, bending_follows, hearing_follows}
+use Rattle.sim_client.proofs.Following.{bending_follows, hearing_follows, joining_follows, ordering_follows, playing_follows, starting_follows}
 use Rattle.sim_client.proofs.laws.lives_follow_phases.Goals as goal
 
 pub returns : goal.returns

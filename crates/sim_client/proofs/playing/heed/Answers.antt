@@ -1,6 +1,5 @@
 -- A release leaves what is known.
-use Rattle.std.proofs.Common.{sym, subst}
-use Rattle.sim_client.specs.KnownWords.{AreByPlayers}
+use Rattle.sim_client.proofs.Common.{AreByPlayers, subst, sym}
 use Rattle.sim_client.proofs.playing.heed.Goals as goal
 
 pub returns-in-Release-clause-players : goal.returns-in-Release-clause-players

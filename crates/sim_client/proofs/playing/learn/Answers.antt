@@ -1,10 +1,7 @@
 -- A player of the match gave the command.
-use Rattle.std.proofs.Common.{[], ◌∷◌, ◌++◌, ◌∙◌, sym}
-use Rattle.std.specs.Prelude.{nat_lt}
-use Rattle.std.proofs.lemmas.List.Elements.{All-append, All-cons, All-nil}
-use Rattle.sim_laws.specs.CommandLaws.{IsOrderOf}
-use Rattle.sim_client.specs.KnownWords.{known_in}
-use Rattle.sim_client.proofs.Knowing.{players_put, player_of_test}
+use Rattle.std.proofs.lemmas.List.Elements.{All-append, All-cons}
+use Rattle.sim_client.proofs.Common.{[], ◌∷◌, ◌++◌, nat_lt, All-nil, IsOrderOf, known_in, sym, ◌∙◌}
+use Rattle.sim_client.proofs.Knowing.{player_of_test, players_put}
 use Rattle.sim_client.proofs.playing.learn.Goals as goal
 
 pub returns-clause-players : goal.returns-clause-players

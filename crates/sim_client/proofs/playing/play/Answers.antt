@@ -1,9 +1,14 @@
 -- What is told of a turn leaves what is known.
-use Rattle.std.proofs.Common.{sym, subst}
-use Rattle.sim_client.specs.KnownWords.{AreByPlayers}
+use Rattle.sim_client.proofs.Common.{AreByPlayers, subst, sym}
 use Rattle.sim_client.proofs.playing.play.Goals as goal
 
 pub returns-clause-playing : goal.returns-clause-playing
 returns-clause-playing g c =
     let turned = c.in_ok-play_next.ensures.playing in
-    record { same = turned.same; whole = turned.whole; valid = turned.valid; known = subst (AreByPlayers c.args.setup.now) (sym c.in_ok-up.ensures.known) turned.known }
+    record {
+      same = turned.same;
+      whole = turned.whole;
+      valid = turned.valid;
+      known = subst (AreByPlayers c.args.setup.now) (sym c.in_ok-up.ensures.known)
+          turned.known;
+    }

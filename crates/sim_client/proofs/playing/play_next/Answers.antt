@@ -1,9 +1,5 @@
 -- The commands of the turn are known no more.
-use Rattle.std.proofs.Common.{[], ◌+◌, subst, ◌∙◌}
-use Rattle.std.proofs.lemmas.List.Elements.{All-nil}
-use Rattle.sim_base.specs.declared.setup.Setup.{Setup}
-use Rattle.sim_base.specs.Validity.{IsValid}
-use Rattle.sim_laws.specs.CommandLaws.{IsOrderOf}
+use Rattle.sim_client.proofs.Common.{◌+◌, [], All-nil, IsOrderOf, IsValid, Setup, subst, ◌∙◌}
 use Rattle.sim_client.proofs.Knowing.{players_put}
 use Rattle.sim_client.proofs.playing.play_next.Goals as goal
 
@@ -16,5 +12,6 @@ returns-clause-playing g c =
       same = turned.setup ∙ before.same;
       whole = turned.whole;
       valid = subst (λ (s : Setup). IsValid s c.turn.new.board.state) before.same turned.valid;
-      known = players_put setup c.args.seat.now.known c.take-commands.new.self (c.scene.result.state.now.turn + 1) [] c.take-commands.ensures.others before.known (All-nil (IsOrderOf setup));
+      known = players_put setup c.args.seat.now.known c.take-commands.new.self (c.scene.result.state.now.turn + 1) [] c.take-commands.ensures.others
+          before.known (All-nil (IsOrderOf setup));
     }

@@ -1,6 +1,5 @@
 -- The clock has room in the buffer.
-use Rattle.std.proofs.Common.{[], Some, ap, arith}
-use Rattle.sim_codec.proofs.Clock.{length-clock_bytes}
+use Rattle.sim_codec.proofs.{Clock.length-clock_bytes, Common.[], Common.Some, Common.ap, Common.arith}
 use Rattle.sim_codec.proofs.bits.bits_of_clock.Goals as goal
 
 pub returns : goal.returns

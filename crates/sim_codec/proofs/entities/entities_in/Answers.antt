@@ -1,6 +1,5 @@
 -- Those are the first of all that the section has.
-use Rattle.std.proofs.Common.{ap, take, ◌∙◌, arith}
-use Rattle.sim_codec.proofs.FirstSection.{chunks_among}
+use Rattle.sim_codec.proofs.{Common.take, Common.ap, Common.arith, Common.◌∙◌, FirstSection.chunks_among}
 use Rattle.sim_codec.proofs.entities.entities_in.Goals as goal
 
 pub returns : goal.returns

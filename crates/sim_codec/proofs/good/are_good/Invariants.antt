@@ -1,7 +1,5 @@
 -- All rows are good just where those that are left are.
-use Rattle.std.proofs.Common.{length}
-use Rattle.std.specs.Prelude.{◌↔◌}
-use Rattle.sim_codec.specs.Stored.{AreGood}
+use Rattle.sim_codec.proofs.Common.{◌↔◌, length, AreGood}
 use Rattle.sim_codec.proofs.good.are_good.Given as goal
 
 abbrev pub invariant-rows : goal.invariant-rows

@@ -1,9 +1,5 @@
 -- The rows that were tested are those of a valid state.
-use Rattle.std.specs.Prelude.{IsTrue}
-use Rattle.sim_base.specs.declared.state.State.{State}
-use Rattle.sim_base.specs.Validity.{IsValid}
-use Rattle.std.proofs.Common.{subst}
-use Rattle.sim_codec.proofs.GoodRows.{valid_of}
+use Rattle.sim_codec.proofs.{Common.IsTrue, Common.IsValid, Common.State, Common.subst, GoodRows.valid_of}
 use Rattle.sim_codec.proofs.good.is_valid_stored.Goals as goal
 
 pub returns-then-is_valid_clock : goal.returns-then-is_valid_clock

@@ -1,7 +1,6 @@
 -- Each spelling stands for its state.
-use Rattle.std.proofs.Common.{refl, inl, inr}
-use Rattle.sim_base.specs.Spelling.{spelling, old_spelling}
-use Rattle.sim_codec.proofs.Standing.{stands_head, spelling_read, old_spelling_read}
+use Rattle.sim_codec.proofs.Common.{refl, inl, inr, old_spelling, spelling}
+use Rattle.sim_codec.proofs.Standing.{old_spelling_read, spelling_read, stands_head}
 use Rattle.sim_codec.proofs.laws.spellings_are_read_back.Goals as goal
 
 pub returns : goal.returns

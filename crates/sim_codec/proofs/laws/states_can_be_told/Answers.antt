@@ -1,5 +1,5 @@
 -- The two clauses are the lemmas of short ways and few rows.
-use Rattle.sim_codec.proofs.ShortWays.{short_ways, few_rows}
+use Rattle.sim_codec.proofs.ShortWays.{few_rows, short_ways}
 use Rattle.sim_codec.proofs.laws.states_can_be_told.Goals as goal
 
 pub returns : goal.returns

@@ -1,6 +1,6 @@
 -- Where bytes stand for a state, it is the one that was read.
-use Rattle.std.proofs.lemmas.Result.{err_from_is_err_and}
-use Rattle.sim_codec.proofs.Standing.{IsRead, refused_for, not_memory, unread, no_other, stands_by}
+use Rattle.sim_codec.proofs.Common.{err_from_is_err_and}
+use Rattle.sim_codec.proofs.Standing.{IsRead, no_other, not_memory, refused_for, stands_by, unread}
 use Rattle.sim_codec.proofs.loading.standing.Goals as goal
 
 pub returns-in_err-version-clause-err : goal.returns-in_err-version-clause-err
@@ -25,9 +25,13 @@ pub returns-then-not-is_good-clause-err : goal.returns-then-not-is_good-clause-e
 returns-then-not-is_good-clause-err c =
     let head = c.in_ok-version.ensures in
     let version = c.in_ok-version.version in
-    let read : IsRead version c.args.bytes.now c.in_ok-version.rest.now = record { by = head.1; behind = head.2 } in
-    (head.0, no_other version c.args.setup.now c.args.bytes.now c.in_ok-version.rest.now c.in_ok-stored.stored c.is_good.result c.requires read c.in_ok-stored.ensures c.is_good.ensures c.if-not-is_good.true)
+    let read : IsRead version c.args.bytes.now c.in_ok-version.rest.now = record { by = head.1; behind = head.2 } in (
+      head.0,
+      no_other version c.args.setup.now c.args.bytes.now c.in_ok-version.rest.now c.in_ok-stored.stored c.is_good.result c.requires read
+          c.in_ok-stored.ensures c.is_good.ensures c.if-not-is_good.true,
+    )
 
 pub returns-clause-ok : goal.returns-clause-ok
 returns-clause-ok c =
-    stands_by c.in_ok-version.version c.args.setup.now c.args.bytes.now c.in_ok-version.rest.now c.in_ok-stored.stored c.in_ok-stored.ensures (c.is_good.ensures.0 c.if-not-is_good.false)
+    stands_by c.in_ok-version.version c.args.setup.now c.args.bytes.now c.in_ok-version.rest.now c.in_ok-stored.stored c.in_ok-stored.ensures
+    (c.is_good.ensures.0 c.if-not-is_good.false)

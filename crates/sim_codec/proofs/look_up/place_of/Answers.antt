@@ -1,10 +1,5 @@
 -- The closure gives the id of a row, and the ids ascend.
-use Rattle.std.proofs.Common.{rules, sym}
-use Rattle.std.proofs.lemmas.Cmp.{ranked}
-use Rattle.std.proofs.lemmas.List.Sorted.{answers_always}
-use Rattle.sim_base.specs.declared.state.Row.{Row}
-use Rattle.sim_base.specs.Rows.{id_of}
-use Rattle.sim_codec.proofs.Halves.{no_key}
+use Rattle.sim_codec.proofs.{Common.answers_always, Common.id_of, Common.ranked, Common.Row, Common.rules, Common.sym, Halves.no_key}
 use Rattle.sim_codec.proofs.look_up.place_of.Goals as goal
 
 pub returns-in-Ok : goal.returns-in-Ok

@@ -1,5 +1,5 @@
 -- The rows so far and those that are left are all.
-use Rattle.std.proofs.Common.{◌≡◌, ◌++◌, length}
+use Rattle.sim_codec.proofs.Common.{◌≡◌, ◌++◌, length}
 use Rattle.sim_codec.proofs.reading.rows_of.Given as goal
 
 abbrev pub invariant-rows : goal.invariant-rows

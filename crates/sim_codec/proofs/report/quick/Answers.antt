@@ -1,6 +1,5 @@
 -- The hasher holds what it was told.
-use Rattle.std.proofs.Common.{[]}
-use Rattle.sim_base.specs.Spelling.{quick}
+use Rattle.sim_codec.proofs.Common.{[], quick}
 use Rattle.sim_codec.proofs.report.quick.Goals as goal
 
 pub returns : goal.returns

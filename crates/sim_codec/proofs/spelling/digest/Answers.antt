@@ -1,6 +1,5 @@
 -- The hasher holds what it was told.
-use Rattle.std.proofs.Common.{[]}
-use Rattle.sim_base.specs.Spelling.{digest}
+use Rattle.sim_codec.proofs.Common.{[], digest}
 use Rattle.sim_codec.proofs.spelling.digest.Goals as goal
 
 pub returns : goal.returns

@@ -1,5 +1,5 @@
 -- The list holds what it was told.
-use Rattle.std.proofs.Common.{[]}
+use Rattle.sim_codec.proofs.Common.{[]}
 use Rattle.sim_codec.proofs.spelling.spell.Goals as goal
 
 pub returns : goal.returns

@@ -1,7 +1,5 @@
 -- What is still to be taken can be taken just where all can.
-use Rattle.std.proofs.Common.{◌≡◌, ◌-◌}
-use Rattle.std.specs.Prelude.{is_some}
-use Rattle.sim_codec.specs.Reading.{rows_at}
+use Rattle.sim_codec.proofs.Common.{◌≡◌, ◌-◌, is_some, rows_at}
 use Rattle.sim_codec.proofs.stored.can_take.Given as goal
 
 abbrev pub invariant-loop : goal.invariant-loop

@@ -1,13 +1,14 @@
 -- One id more is above the one before it, or the answer is no.
-use Rattle.std.proofs.lemmas.Bool.{false≢true}
-use Rattle.sim_codec.proofs.Checked.{above_more, not_above}
+use Rattle.sim_codec.proofs.{Checked.above_more, Checked.not_above, Common.false≢true}
 use Rattle.sim_codec.proofs.validity.are_ascending.Goals as goal
 
 pub returns-then-rows-i : goal.returns-then-rows-i
 returns-then-rows-i c = (
   λ e. absurd (false≢true e),
-  λ h. absurd (not_above c.args.rows.now c.loop-i.i c.index-rows-i.result c.index-rows-i-in-loop-i.result c.loop-i.auto.i c.loop-i-test.true c.if-rows-i.true h),
+  λ h. absurd (not_above c.args.rows.now c.loop-i.i c.index-rows-i.result c.index-rows-i-in-loop-i.result c.loop-i.auto.i c.loop-i-test.true c.if-rows-i.true
+      h),
 )
 
 pub loop-i-preserved : goal.loop-i-preserved
-loop-i-preserved c = above_more c.args.rows.now c.loop-i.i c.index-rows-i.result c.index-rows-i-in-loop-i.result c.loop-i.auto.i c.loop-i-test.true c.if-rows-i.false c.loop-i.invariant
+loop-i-preserved c = above_more c.args.rows.now c.loop-i.i c.index-rows-i.result c.index-rows-i-in-loop-i.result c.loop-i.auto.i c.loop-i-test.true
+    c.if-rows-i.false c.loop-i.invariant

@@ -1,6 +1,5 @@
 -- Below the place each id is below the next.
-use Rattle.std.proofs.Common.{ℕ, ◌+◌, ◌<◌, map, get_or}
-use Rattle.sim_base.specs.Rows.{id_of}
+use Rattle.sim_codec.proofs.Common.{ℕ, ◌+◌, ◌<◌, map, get_or, id_of}
 use Rattle.sim_codec.proofs.validity.are_ascending.Given as goal
 
 abbrev pub invariant-loop-i : goal.invariant-loop-i

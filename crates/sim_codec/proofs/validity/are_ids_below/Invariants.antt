@@ -1,5 +1,5 @@
 -- The rows so far passed.
-use Rattle.std.proofs.Common.{◌≤◌, ◌<◌, All, take}
+use Rattle.sim_codec.proofs.Common.{◌<◌, ◌≤◌, take, All}
 use Rattle.sim_codec.proofs.validity.are_ids_below.Given as goal
 
 abbrev pub invariant-loop-row : goal.invariant-loop-row

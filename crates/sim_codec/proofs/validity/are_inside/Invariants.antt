@@ -1,6 +1,5 @@
 -- The points so far passed.
-use Rattle.std.proofs.Common.{All, take}
-use Rattle.sim_base.specs.Validity.{IsInside}
+use Rattle.sim_codec.proofs.Common.{take, All, IsInside}
 use Rattle.sim_codec.proofs.validity.are_inside.Given as goal
 
 abbrev pub invariant-loop-point : goal.invariant-loop-point

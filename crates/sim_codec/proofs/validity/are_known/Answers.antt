@@ -1,11 +1,13 @@
 -- One row more passes, or the answer is no.
-use Rattle.std.proofs.Common.{refl}
-use Rattle.sim_base.specs.Validity.{IsKnownRow}
-use Rattle.sim_codec.proofs.Checked.{one_more, all_seen}
+use Rattle.sim_codec.proofs.{Checked.all_seen, Checked.one_more, Common.refl, Common.IsKnownRow}
 use Rattle.sim_codec.proofs.validity.are_known.Goals as goal
 
 pub loop-row-preserved : goal.loop-row-preserved
-loop-row-preserved c = one_more (IsKnownRow 1 c.args.setup.now c.args.rows.now) c.args.rows.now c.loop-row.row-index c.row-item.result c.is_known_row.result c.loop-row-test.true c.row-item.is c.is_known_row.ensures c.if-not-is_known_row.false c.loop-row.invariant
+loop-row-preserved c = one_more (IsKnownRow 1 c.args.setup.now c.args.rows.now) c.args.rows.now c.loop-row.row-index c.row-item.result c.is_known_row.result
+    c.loop-row-test.true c.row-item.is c.is_known_row.ensures c.if-not-is_known_row.false c.loop-row.invariant
 
 pub returns : goal.returns
-returns c = (λ _. all_seen (IsKnownRow 1 c.args.setup.now c.args.rows.now) c.args.rows.now c.loop-row.row-index c.loop-row-test.false c.loop-row.invariant, λ _. refl)
+returns c = (
+  λ _. all_seen (IsKnownRow 1 c.args.setup.now c.args.rows.now) c.args.rows.now c.loop-row.row-index c.loop-row-test.false c.loop-row.invariant,
+  λ _. refl,
+)

@@ -1,6 +1,5 @@
 -- The rows so far passed.
-use Rattle.std.proofs.Common.{All, take}
-use Rattle.sim_base.specs.Validity.{IsKnownRow}
+use Rattle.sim_codec.proofs.Common.{take, All, IsKnownRow}
 use Rattle.sim_codec.proofs.validity.are_known.Given as goal
 
 abbrev pub invariant-loop-row : goal.invariant-loop-row

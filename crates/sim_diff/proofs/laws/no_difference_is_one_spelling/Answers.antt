@@ -1,6 +1,5 @@
 -- From no difference to one spelling, from there to one state, and back.
-use Rattle.sim_diff.proofs.LeastPlace.{difference_of-none}
-use Rattle.sim_diff.proofs.OneSpelling.{same_bits-spelling, spelling-same, same-no_difference}
+use Rattle.sim_diff.proofs.{LeastPlace.difference_of-none, OneSpelling.same-no_difference, OneSpelling.same_bits-spelling, OneSpelling.spelling-same}
 use Rattle.sim_diff.proofs.laws.no_difference_is_one_spelling.Goals as goal
 
 pub returns : goal.returns

@@ -1,6 +1,6 @@
 -- Both ways of both clauses are lemmas.
-use Rattle.std.proofs.Common.{sym}
-use Rattle.sim_diff.proofs.LeastPlace.{difference_of-some, difference_of-none, least-difference_of, same-difference_of}
+use Rattle.sim_diff.proofs.Common.{sym}
+use Rattle.sim_diff.proofs.LeastPlace.{difference_of-none, difference_of-some, least-difference_of, same-difference_of}
 use Rattle.sim_diff.proofs.laws.the_difference_is_least.Goals as goal
 
 pub returns : goal.returns

@@ -1,9 +1,7 @@
 -- The first part that differs of an entity before which all is the same is the least place.
-use Rattle.std.proofs.Common.{◌∙◌, sym, arith}
-use Rattle.sim_diff.proofs.Parts.{first-is_first, no_first-same}
-use Rattle.sim_diff.proofs.LeastPlace.{least-difference_of, same-difference_of}
-use Rattle.sim_diff.proofs.Rising.{rising}
-use Rattle.sim_diff.proofs.Walk.{rising_behind, same_more, same_below, same_behind, same_at_first, same_at_last, first_is_least, rows_of_all, rows_of_behind}
+use Rattle.sim_diff.proofs.{LeastPlace.least-difference_of, LeastPlace.same-difference_of, Parts.first-is_first, Parts.no_first-same, Rising.rising}
+use Rattle.sim_diff.proofs.Common.{arith, sym, ◌∙◌}
+use Rattle.sim_diff.proofs.Walk.{first_is_least, rising_behind, rows_of_all, rows_of_behind, same_at_first, same_at_last, same_behind, same_below, same_more}
 use Rattle.sim_diff.proofs.merge.difference.Goals as goal
 
 pub returns-in-Some-clause-least : goal.returns-in-Some-clause-least
@@ -44,7 +42,8 @@ returns-in-Some-next_difference-clause-least c =
     (same_below left right c.rows.lefts.now c.rows.rights.now entity next c.rows.invariant.left_rising c.rows.invariant.right_rising c.rows.invariant.elsewhere)
 
 pub returns-in-Some-next_difference-clause-place : goal.returns-in-Some-next_difference-clause-place
-returns-in-Some-next_difference-clause-place c = least-difference_of c.args.left.now c.args.right.now c.in-Some-next_difference.place (returns-in-Some-next_difference-clause-least c)
+returns-in-Some-next_difference-clause-place c = least-difference_of c.args.left.now c.args.right.now c.in-Some-next_difference.place
+    (returns-in-Some-next_difference-clause-least c)
 
 pub rows-preserved : goal.rows-preserved
 rows-preserved c =
@@ -57,11 +56,13 @@ rows-preserved c =
       right_rising = rising_behind entity c.rows.rights.now before.right_rising;
       left_rows = rows_of_behind left entity c.rows.lefts.now before.left_rising before.left_rows;
       right_rows = rows_of_behind right entity c.rows.rights.now before.right_rising before.right_rows;
-      elsewhere = same_behind left right c.rows.lefts.now c.rows.rights.now entity before.elsewhere (no_first-same left right entity (c.in_default-next_difference.ensures));
+      elsewhere = same_behind left right c.rows.lefts.now c.rows.rights.now entity before.elsewhere
+          (no_first-same left right entity (c.in_default-next_difference.ensures));
     })
 
 pub returns-clause-place : goal.returns-clause-place
 returns-clause-place c =
     let left = c.args.left.now in
     let right = c.args.right.now in
-    same-difference_of left right (same_at_last left right c.rows.lefts.now c.rows.rights.now (sym c.next_entity.ensures ∙ c.in_default-next_entity.is) c.rows.invariant.elsewhere)
+    same-difference_of left right (same_at_last left right c.rows.lefts.now c.rows.rights.now (sym c.next_entity.ensures ∙ c.in_default-next_entity.is)
+    c.rows.invariant.elsewhere)

@@ -1,10 +1,6 @@
 -- All that was passed is the same: the entities below the counter, and then those of which neither list has a row left.
-use Rattle.std.proofs.Common.{◌≡◌, ℕ, ◌+◌, ◌<◌, length}
-use Rattle.sim_codec.specs.declared.bits.Part.{Part}
-use Rattle.sim_codec.specs.Bits.{bits}
-use Rattle.sim_diff.specs.Merge.{AreRowsOf}
+use Rattle.sim_diff.proofs.{Common.◌≡◌, Common.ℕ, Common.◌+◌, Common.◌<◌, Common.length, Common.AreRowsOf, Common.bits, Common.Part, Walk.IsSameElsewhere}
 use Rattle.sim_diff.proofs.Rising.{Rising}
-use Rattle.sim_diff.proofs.Walk.{IsSameElsewhere}
 use Rattle.sim_diff.proofs.merge.difference.Given as goal
 
 abbrev pub invariant-first : goal.invariant-first

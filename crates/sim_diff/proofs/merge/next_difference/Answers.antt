@@ -1,7 +1,5 @@
 -- Of an entity of which both lists begin with the same row all parts are the same.
-use Rattle.std.proofs.Common.{arith}
-use Rattle.sim_diff.proofs.Parts.{same-no_first}
-use Rattle.sim_diff.proofs.Walk.{same_first-bits}
+use Rattle.sim_diff.proofs.{Common.arith, Parts.same-no_first, Walk.same_first-bits}
 use Rattle.sim_diff.proofs.merge.next_difference.Goals as goal
 
 pub returns-then-have_same_first : goal.returns-then-have_same_first
@@ -9,4 +7,5 @@ returns-then-have_same_first c =
     let left = c.args.left.now in
     let right = c.args.right.now in
     let same = c.have_same_first.ensures.0 c.if-have_same_first.true in
-    same-no_first left right c.args.entity (same_first-bits left right c.args.lefts.now c.args.rights.now c.args.entity (omega (arith, c.if-entity-gt1.true)) c.requires.lefts c.requires.rights c.requires.next same)
+    same-no_first left right c.args.entity (same_first-bits left right c.args.lefts.now c.args.rights.now c.args.entity (omega (arith, c.if-entity-gt1.true))
+    c.requires.lefts c.requires.rights c.requires.next same)

@@ -1,8 +1,7 @@
 -- A read that was not interrupted ends the tries, and one that was leaves one fewer.
-use Rattle.std.proofs.Common.{◌≡◌, ◌-◌, arith, rules, refl, false, true}
-use Rattle.sim_edge.proofs.Tries.{AnswersIn-last, AnswersIn-none, AnswersIn-again}
-use Rattle.sim_edge.specs.declared.again.TheConstants.{TRIES}
-use Rattle.sim_edge.specs.Again.{IsInterrupted}
+use Rattle.std.proofs.Common.{◌≡◌, ◌-◌, true, false, refl, arith, rules}
+use Rattle.sim_edge.proofs.Tries.{AnswersIn-again, AnswersIn-last, AnswersIn-none}
+use Rattle.sim_edge.specs.{Again.IsInterrupted, declared.again.TheConstants.TRIES}
 use Rattle.sim_edge.proofs.again.read_again.Goals as goal
 
 pub returns-then-not-is_interrupted-clause-answer :
@@ -17,7 +16,8 @@ loop-preserved g c =
     record {
       room = search rules;
       kept = search rules;
-      tried = λ answer file into rest. c.loop.invariant.tried answer file into (AnswersIn-again _ TRIES c.loop.counter _ _ _ _ _ c.loop-test.true c.read_once-answer.ensures.gives cut rest);
+      tried = λ answer file into rest. c.loop.invariant.tried answer file into
+          (AnswersIn-again _ TRIES c.loop.counter _ _ _ _ _ c.loop-test.true c.read_once-answer.ensures.gives cut rest);
     }
 
 pub returns-clause-answer : goal.returns-clause-answer

@@ -1,10 +1,7 @@
 -- A read that is interrupted takes nothing from what is left, and one try fewer is left.
 use Rattle.std.proofs.Common.{◌≡◌, ℕ, ◌-◌, List, length}
-use Rattle.std.specs.Prelude.{Result}
-use Rattle.std.specs.Io.KnownBytes.{Keeps}
-use Rattle.std.specs.declared.io.Error.{Error}
-use Rattle.sim_edge.specs.Again.{AnswersIn, read_call}
-use Rattle.sim_edge.specs.declared.again.TheConstants.{TRIES}
+use Rattle.std.specs.{Io.KnownBytes.Keeps, Prelude.Result, declared.io.Error.Error}
+use Rattle.sim_edge.specs.{Again.AnswersIn, Again.read_call, declared.again.TheConstants.TRIES}
 use Rattle.sim_edge.proofs.again.read_again.Given as goal
 
 abbrev pub invariant-loop : goal.invariant-loop

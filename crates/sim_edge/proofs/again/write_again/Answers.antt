@@ -1,8 +1,7 @@
 -- A write that was not interrupted ends the tries, and one that was leaves one fewer.
-use Rattle.std.proofs.Common.{◌≡◌, ◌-◌, arith, rules, refl, false, true}
-use Rattle.sim_edge.proofs.Tries.{AnswersIn-last, AnswersIn-none, AnswersIn-again}
-use Rattle.sim_edge.specs.declared.again.TheConstants.{TRIES}
-use Rattle.sim_edge.specs.Again.{IsInterrupted}
+use Rattle.std.proofs.Common.{◌≡◌, ◌-◌, true, false, refl, arith, rules}
+use Rattle.sim_edge.proofs.Tries.{AnswersIn-again, AnswersIn-last, AnswersIn-none}
+use Rattle.sim_edge.specs.{Again.IsInterrupted, declared.again.TheConstants.TRIES}
 use Rattle.sim_edge.proofs.again.write_again.Goals as goal
 
 pub returns-then-not-is_interrupted-clause-answer :
@@ -16,7 +15,8 @@ loop-preserved g c =
     let cut : IsInterrupted c.write_once-answer.result = c.if-not-is_interrupted.ensures.0 refl in
     record {
       kept = search rules;
-      tried = λ answer file rest. c.loop.invariant.tried answer file (AnswersIn-again _ TRIES c.loop.counter _ _ _ _ _ c.loop-test.true c.write_once-answer.ensures.gives cut rest);
+      tried = λ answer file rest. c.loop.invariant.tried answer file
+          (AnswersIn-again _ TRIES c.loop.counter _ _ _ _ _ c.loop-test.true c.write_once-answer.ensures.gives cut rest);
     }
 
 pub returns-clause-answer : goal.returns-clause-answer

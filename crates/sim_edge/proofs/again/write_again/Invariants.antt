@@ -1,10 +1,6 @@
 -- A write that is interrupted adds nothing to what is held, and one try fewer is left.
-use Rattle.std.proofs.Common.{ℕ, ◌-◌}
-use Rattle.std.specs.Prelude.{Result}
-use Rattle.std.specs.Io.KnownBytes.{Keeps}
-use Rattle.std.specs.declared.io.Error.{Error}
-use Rattle.sim_edge.specs.Again.{AnswersIn, write_call}
-use Rattle.sim_edge.specs.declared.again.TheConstants.{TRIES}
+use Rattle.std.{proofs.Common.ℕ, proofs.Common.◌-◌, specs.Io.KnownBytes.Keeps, specs.Prelude.Result, specs.declared.io.Error.Error}
+use Rattle.sim_edge.specs.{Again.AnswersIn, Again.write_call, declared.again.TheConstants.TRIES}
 use Rattle.sim_edge.proofs.again.write_again.Given as goal
 
 abbrev pub invariant-loop : goal.invariant-loop

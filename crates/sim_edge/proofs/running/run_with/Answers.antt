@@ -1,14 +1,10 @@
 -- A call through the box of a planner is a call of `planned`, which may be given a command of each kind; and each kind has a
 -- handler.
-use Rattle.std.proofs.Common.{ℕ, refl, sym, subst, ◌+◌, arith}
 use denote.Param.Callables.{held_fn, Sure}
-use Rattle.sim_base.specs.declared.command.Command.{Command}
-use Rattle.sim_base.specs.declared.setup.Setup.{Setup}
-use Rattle.sim_base.specs.declared.state.State.{State}
-use Rattle.sim_orders.specs.declared.help.Help.{Help}
-use Rattle.sim_orders.specs.Orders.{kind_of, IsGiven, Obeys}
-use Rattle.sim_edge.proofs.Keyed.{AreKeyedBelow, AreKeyedBelow-append}
-use Rattle.sim_edge.proofs.running.run_with.OwnLists.{own-2}
+use Rattle.std.proofs.Common.{ℕ, ◌+◌, refl, arith, subst, sym}
+use Rattle.sim_base.specs.declared.{command.Command.Command, setup.Setup.Setup, state.State.State}
+use Rattle.sim_edge.proofs.{Keyed.AreKeyedBelow, Keyed.AreKeyedBelow-append, running.run_with.OwnLists.own-2}
+use Rattle.sim_orders.specs.{Orders.IsGiven, Orders.kind_of, Orders.Obeys, declared.help.Help.Help}
 use Rattle.sim_edge.proofs.running.run_with.Goals as goal
 
 of_kind : (kind : ℕ) (setup : Setup) (state : State) (help : Help) (player : ℕ) (command : Command)

@@ -1,6 +1,5 @@
 -- The words so far, and then those that are still to come, are all behind the name.
-use Rattle.std.proofs.Common.{◌≡◌, ◌++◌, drop}
-use Rattle.std.specs.Vec.Iter.{into_iter_items, into_iter_len}
+use Rattle.std.{proofs.Common.◌≡◌, proofs.Common.◌++◌, proofs.Common.drop, specs.Vec.Iter.into_iter_items, specs.Vec.Iter.into_iter_len}
 use Rattle.sim_edge.proofs.words.behind_name.Given as goal
 
 abbrev pub invariant-words : goal.invariant-words

@@ -1,8 +1,5 @@
 -- The closure gives the id of a fact, and the ids ascend.
-use Rattle.std.proofs.Common.{rules}
-use Rattle.std.proofs.lemmas.List.Sorted.{answers_always}
-use Rattle.sim_system.specs.declared.fact.Fact.{Fact}
-use Rattle.sim_fact_lists.proofs.Standing.{place_by}
+use Rattle.sim_fact_lists.proofs.{Common.answers_always, Common.Fact, Common.rules, Standing.place_by}
 use Rattle.sim_fact_lists.proofs.edit.place_of.Goals as goal
 
 pub returns : goal.returns

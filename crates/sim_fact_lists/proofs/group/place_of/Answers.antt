@@ -1,6 +1,5 @@
 -- One that is above the last belongs behind it, and else the search answers.
-use Rattle.std.proofs.Common.{refl}
-use Rattle.sim_fact_lists.proofs.Ids.{searched_for, belongs_last}
+use Rattle.sim_fact_lists.proofs.{Common.refl, Ids.belongs_last, Ids.searched_for}
 use Rattle.sim_fact_lists.proofs.group.place_of.Goals as goal
 
 pub returns-in-len1-up-2 : goal.returns-in-len1-up-2

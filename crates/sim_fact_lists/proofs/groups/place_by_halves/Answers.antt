@@ -1,8 +1,5 @@
 -- The closure gives the key of a group, and the keys ascend.
-use Rattle.std.proofs.Common.{rules}
-use Rattle.std.proofs.lemmas.List.Sorted.{answers_always}
-use Rattle.sim_fact_lists.specs.declared.group.Group.{Group}
-use Rattle.sim_fact_lists.proofs.Keyed.{place_by}
+use Rattle.sim_fact_lists.proofs.{Common.answers_always, Common.Group, Common.rules, Keyed.place_by}
 use Rattle.sim_fact_lists.proofs.groups.place_by_halves.Goals as goal
 
 pub returns : goal.returns

@@ -1,5 +1,4 @@
-use Rattle.std.proofs.Common.{◌≡◌, take}
-use Rattle.sim_system.specs.Facts.{kept_of}
+use Rattle.sim_fact_lists.proofs.Common.{◌≡◌, take, kept_of}
 use Rattle.sim_fact_lists.proofs.part.all_kept.Given as goal
 
 abbrev pub invariant-loop-fact : goal.invariant-loop-fact

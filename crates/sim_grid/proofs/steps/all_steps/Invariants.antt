@@ -1,5 +1,4 @@
-use Rattle.std.proofs.Common.{◌*◌}
-use Rattle.sim_grid.specs.StepBits.{AreFirstSteps}
+use Rattle.{sim_grid.specs.StepBits.AreFirstSteps, std.proofs.Common.◌*◌}
 use Rattle.sim_grid.proofs.steps.all_steps.Given as goal
 
 abbrev pub invariant-loop-z : goal.invariant-loop-z

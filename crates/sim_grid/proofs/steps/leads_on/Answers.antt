@@ -1,5 +1,4 @@
-use Rattle.std.proofs.Common.{sym, ◌∙◌}
-use Rattle.sim_laws.proofs.Neighbours.{neighbour-on}
+use Rattle.{sim_laws.proofs.Neighbours.neighbour-on, std.proofs.Common.sym, std.proofs.Common.◌∙◌}
 use Rattle.sim_grid.proofs.steps.leads_on.Goals as goal
 
 pub open-requires : goal.open-requires

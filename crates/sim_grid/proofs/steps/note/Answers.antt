@@ -1,8 +1,7 @@
-use Rattle.std.proofs.Common.{◌≡◌, ℕ, ◌*◌, get_or, set, length, sym, ap, ◌∙◌, subst, ◌<◌, arith}
-use Rattle.std.proofs.lemmas.List.{get_or-set_same, get_or-set_other, length-set}
-use Rattle.sim_grid.specs.Grids.{place_of, field_of_grid}
-use Rattle.sim_grid.specs.StepBits.{AreStepsFrom, IsNoted}
+use Rattle.std.proofs.Common.{ℕ, ◌<◌, length, get_or, set, ap, arith, subst, sym}
+use Rattle.std.proofs.lemmas.List.{get_or-set_other, get_or-set_same, length-set}
 use Rattle.sim_grid.proofs.Beside.{place-below, places-apart}
+use Rattle.sim_grid.specs.{Grids.field_of_grid, Grids.place_of, StepBits.AreStepsFrom, StepBits.IsNoted}
 use Rattle.sim_grid.proofs.steps.note.Goals as goal
 
 pub returns : goal.returns

@@ -1,8 +1,7 @@
-use Rattle.std.proofs.Common.{◌+◌, Global, ℕ, Vec, sym, ◌∙◌, subst}
-use Rattle.sim_grid.specs.StepBits.{AreStepsBefore}
-use Rattle.sim_grid.proofs.Beside.{noted-first, noted-more, noted-past, noted-all}
-use Rattle.sim_grid.proofs.steps.note_about.Goals as goal
+use Rattle.std.proofs.Common.{ℕ, ◌+◌, Vec, Global, subst, sym, ◌∙◌}
+use Rattle.sim_grid.{proofs.Beside.noted-all, proofs.Beside.noted-first, proofs.Beside.noted-more, proofs.Beside.noted-past, specs.StepBits.AreStepsBefore}
 use Rattle.sim_grid.proofs.steps.note_about.Goals.{in-Some, in_default}
+use Rattle.sim_grid.proofs.steps.note_about.Goals as goal
 
 pub loop-which-init : goal.loop-which-init
 loop-which-init c = noted-first c.args.cells.now c.args.about c.args.steps.now.items c.note.new.steps.items c.requires.apart c.note.ensures
@@ -14,7 +13,8 @@ loop-which-preserved c =
     let old = c.loop-which.steps.items in
     let P : Vec ℕ Global → Type 0 = λ v. AreStepsBefore g c.args.about (n + 1) v.items in
     elim c.match-neighbour.branch [
-      | in-Some w ↦ subst P (sym w.steps-is) (noted-more g c.args.about w.in-Some.beside n old w.note-in-Some.new.steps.items (sym c.neighbour.ensures ∙ w.in-Some.is) c.loop-which.invariant w.note-in-Some.ensures)
+      | in-Some w ↦ subst P (sym w.steps-is) (noted-more g c.args.about w.in-Some.beside n old w.note-in-Some.new.steps.items
+          (sym c.neighbour.ensures ∙ w.in-Some.is) c.loop-which.invariant w.note-in-Some.ensures)
       | in_default w ↦ subst P (sym w.steps-is) (noted-past g c.args.about n old (sym c.neighbour.ensures ∙ w.in_default.is) c.loop-which.invariant)
     ]
 

@@ -1,6 +1,5 @@
-use Rattle.std.proofs.Common.{◌+◌, ◌*◌, List, ℕ, sym, subst, arith}
-use Rattle.sim_grid.specs.StepBits.{AreFirstSteps}
-use Rattle.sim_grid.proofs.Beside.{first-more}
+use Rattle.std.proofs.Common.{ℕ, ◌+◌, ◌*◌, List, arith, subst, sym}
+use Rattle.sim_grid.{proofs.Beside.first-more, specs.StepBits.AreFirstSteps}
 use Rattle.sim_grid.proofs.steps.push_row.Goals as goal
 
 pub loop-x-preserved : goal.loop-x-preserved
@@ -9,4 +8,5 @@ loop-x-preserved c =
     let x = c.loop-x.x in
     let e = c.in_ok-push.ensures in
     subst (λ (xs : List ℕ). AreFirstSteps g (c.args.z * g.size.width + (x + 1)) xs) (sym e.items)
-    (first-more g x c.args.z c.steps_from.result c.loop-x.steps.items (omega (arith, c.loop-x-test.true, c.width-x-end.ensures.width)) c.loop-x.invariant c.steps_from.ensures)
+    (first-more g x c.args.z c.steps_from.result c.loop-x.steps.items (omega (arith, c.loop-x-test.true, c.width-x-end.ensures.width)) c.loop-x.invariant
+    c.steps_from.ensures)

@@ -1,5 +1,4 @@
-use Rattle.std.proofs.Common.{◌+◌, ◌*◌}
-use Rattle.sim_grid.specs.StepBits.{AreFirstSteps}
+use Rattle.{sim_grid.specs.StepBits.AreFirstSteps, std.proofs.Common.◌+◌, std.proofs.Common.◌*◌}
 use Rattle.sim_grid.proofs.steps.push_row.Given as goal
 
 abbrev pub invariant-loop-x : goal.invariant-loop-x

@@ -1,9 +1,7 @@
-use Rattle.std.proofs.Common.{ℕ, ◌+◌, Bool, sym, ◌∙◌, subst}
-use Rattle.sim_grid.specs.Grids.{field_of_grid}
-use Rattle.sim_grid.specs.StepBits.{is_open_step}
-use Rattle.sim_grid.proofs.Bits.{AreBits, bits_more, bits_past}
+use Rattle.std.proofs.Common.{ℕ, ◌+◌, Bool, subst, sym, ◌∙◌}
+use Rattle.sim_grid.proofs.{Bits.AreBits, Bits.bits_more, Bits.bits_past, steps.steps_from.Goals.else-leads_on, steps.steps_from.Goals.then-leads_on}
+use Rattle.sim_grid.specs.{Grids.field_of_grid, StepBits.is_open_step}
 use Rattle.sim_grid.proofs.steps.steps_from.Goals as goal
-use Rattle.sim_grid.proofs.steps.steps_from.Goals.{then-leads_on, else-leads_on}
 
 pub loop-which-preserved : goal.loop-which-preserved
 loop-which-preserved c =
@@ -12,7 +10,9 @@ loop-which-preserved c =
     let before : AreBits test n c.loop-which.steps = record { seen = c.loop-which.invariant.seen; blank = c.loop-which.invariant.blank } in
     let after : AreBits test (n + 1) c.if-leads_on.steps =
     elim c.if-leads_on.branch [
-      | then-leads_on w ↦ subst (AreBits test (n + 1)) (sym w.steps-is) (bits_more test n c.loop-which.steps c.loop-which-test.true (sym c.leads_on.ensures ∙ w.if-leads_on.true) before)
-      | else-leads_on w ↦ subst (AreBits test (n + 1)) (sym w.steps-is) (bits_past test n c.loop-which.steps (sym c.leads_on.ensures ∙ w.if-leads_on.false) before)
+      | then-leads_on w ↦ subst (AreBits test (n + 1)) (sym w.steps-is)
+          (bits_more test n c.loop-which.steps c.loop-which-test.true (sym c.leads_on.ensures ∙ w.if-leads_on.true) before)
+      | else-leads_on w ↦ subst (AreBits test (n + 1)) (sym w.steps-is) (bits_past test n c.loop-which.steps (sym c.leads_on.ensures ∙ w.if-leads_on.false)
+          before)
     ] in
     record { seen = after.seen; blank = after.blank }

@@ -1,7 +1,5 @@
-use Rattle.std.proofs.Common.{◌≡◌, ℕ, ◌<◌, ◌≤◌, cond}
-use Rattle.std.specs.Int.{bit_at}
-use Rattle.sim_grid.specs.Grids.{field_of_grid}
-use Rattle.sim_grid.specs.StepBits.{is_open_step}
+use Rattle.std.{proofs.Common.◌≡◌, proofs.Common.ℕ, proofs.Common.◌<◌, proofs.Common.◌≤◌, proofs.Common.cond, specs.Int.bit_at}
+use Rattle.sim_grid.specs.{Grids.field_of_grid, StepBits.is_open_step}
 use Rattle.sim_grid.proofs.steps.steps_from.Given as goal
 
 abbrev pub invariant-loop-which : goal.invariant-loop-which

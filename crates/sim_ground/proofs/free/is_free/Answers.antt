@@ -1,13 +1,11 @@
 -- Rectangles on the land without a cell in common are those whose cells are open.
-use Rattle.std.proofs.Common.{Bool, sym, ap, ◌∙◌}
-use Rattle.std.specs.Prelude.{◌&&◌, not}
-use Rattle.std.specs.List.{list_any}
-use Rattle.sim_system.specs.declared.fact.Fact.{Fact}
-use Rattle.sim_ground.specs.Overlaps.{overlap, overlaps_any}
+use Rattle.sim_ground.proofs.Common.{Bool, not, ◌&&◌, ap, Fact, list_any, overlap, overlaps_any, sym, ◌∙◌}
 use Rattle.sim_ground.proofs.Freeing.{free_is}
 use Rattle.sim_ground.proofs.free.is_free.Goals as goal
 
 pub returns-then-is_inside : goal.returns-then-is_inside
 returns-then-is_inside c =
-    let apart : Bool = not (list_any (overlap c.args.rect.now) c.args.land.now.closed) && not (list_any (λ (fact : Fact). overlaps_any c.args.rect.now fact.rect) c.args.facts.now) in
-    c.is_apart.ensures ∙ ap (λ (b : Bool). b && apart) (sym c.if-is_inside.true ∙ c.is_inside.ensures) ∙ free_is c.args.land.now c.args.facts.now c.args.rect.now
+    let apart : Bool = not (list_any (overlap c.args.rect.now) c.args.land.now.closed)
+    && not (list_any (λ (fact : Fact). overlaps_any c.args.rect.now fact.rect) c.args.facts.now) in
+    c.is_apart.ensures ∙ ap (λ (b : Bool). b && apart) (sym c.if-is_inside.true ∙ c.is_inside.ensures) ∙ free_is c.args.land.now c.args.facts.now
+    c.args.rect.now

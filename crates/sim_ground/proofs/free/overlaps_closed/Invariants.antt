@@ -1,6 +1,4 @@
-use Rattle.std.proofs.Common.{◌≡◌, drop}
-use Rattle.std.specs.List.{list_any}
-use Rattle.sim_ground.specs.Overlaps.{overlap}
+use Rattle.sim_ground.proofs.Common.{◌≡◌, drop, list_any, overlap}
 use Rattle.sim_ground.proofs.free.overlaps_closed.Given as goal
 
 abbrev pub invariant-loop-other : goal.invariant-loop-other

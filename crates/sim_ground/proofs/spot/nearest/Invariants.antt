@@ -1,6 +1,4 @@
-use Rattle.std.proofs.Common.{◌≡◌, filter, fold, None}
-use Rattle.sim_grid.specs.Grids.{is_open_at}
-use Rattle.sim_ground.specs.Cells.{rows_of, nearer, IsSmallIfAny}
+use Rattle.sim_ground.proofs.Common.{◌≡◌, None, fold, filter, is_open_at, IsSmallIfAny, nearer, rows_of}
 use Rattle.sim_ground.proofs.spot.nearest.Given as goal
 
 abbrev pub invariant-loop-z : goal.invariant-loop-z

@@ -1,10 +1,7 @@
 -- One cell more.
-use Rattle.std.proofs.Common.{sym, subst, ◌∙◌}
-use Rattle.sim_grid.specs.Grids.{is_open_at}
-use Rattle.sim_ground.specs.Cells.{nearer, IsSmallIfAny}
-use Rattle.sim_ground.proofs.Rows.{fold-more_cell, fold-past_cell}
+use Rattle.sim_ground.proofs.{Rows.fold-more_cell, Rows.fold-past_cell, spot.nearest_in_row.Goals.else-open, spot.nearest_in_row.Goals.then-open}
+use Rattle.sim_ground.proofs.Common.{is_open_at, IsSmallIfAny, nearer, subst, sym, ◌∙◌}
 use Rattle.sim_ground.proofs.spot.nearest_in_row.Goals as goal
-use Rattle.sim_ground.proofs.spot.nearest_in_row.Goals.{then-open, else-open}
 
 pub loop-x-preserved : goal.loop-x-preserved
 loop-x-preserved c =
@@ -12,7 +9,8 @@ loop-x-preserved c =
     let step = nearer c.args.at.now in
     elim c.if-open.branch [
       | then-open w ↦ (
-        fold-more_cell step test c.args.z c.loop-x.x c.args.first c.loop-x.best c.if-open.best c.loop-x.invariant.0 (sym c.open.ensures ∙ w.if-open.true) (w.best-is ∙ w.nearer_of-best.ensures.nearer),
+        fold-more_cell step test c.args.z c.loop-x.x c.args.first c.loop-x.best c.if-open.best c.loop-x.invariant.0 (sym c.open.ensures ∙ w.if-open.true)
+            (w.best-is ∙ w.nearer_of-best.ensures.nearer),
         subst IsSmallIfAny (sym w.best-is) w.nearer_of-best.ensures.small,
       )
       | else-open w ↦ (

@@ -1,6 +1,4 @@
-use Rattle.std.proofs.Common.{◌≡◌, filter, fold}
-use Rattle.sim_grid.specs.Grids.{is_open_at}
-use Rattle.sim_ground.specs.Cells.{row_of, nearer, IsSmallIfAny}
+use Rattle.sim_ground.proofs.Common.{◌≡◌, fold, filter, is_open_at, IsSmallIfAny, nearer, row_of}
 use Rattle.sim_ground.proofs.spot.nearest_in_row.Given as goal
 
 abbrev pub invariant-loop-x : goal.invariant-loop-x

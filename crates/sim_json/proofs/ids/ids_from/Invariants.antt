@@ -1,9 +1,6 @@
 -- The ids so far, and as many as there were items. Where an item is an id, the first one is.
-use Rattle.std.proofs.Common.{◌≡◌, ◌+◌, ◌≤◌, true, map, length, []}
-use Rattle.serde_json.specs.View.{view}
-use Rattle.sim_json.specs.Records.{records}
-use Rattle.sim_json.specs.Commands.{id_in}
-use Rattle.sim_json.specs.Memory.{begins_with_id}
+use Rattle.{serde_json.specs.View.view, sim_json.specs.Commands.id_in, sim_json.specs.Memory.begins_with_id, sim_json.specs.Records.records}
+use Rattle.std.proofs.Common.{◌≡◌, ◌+◌, ◌≤◌, true, [], map, length}
 use Rattle.sim_json.proofs.ids.ids_from.Given as goal
 
 abbrev pub invariant-loop-rest : goal.invariant-loop-rest

@@ -1,5 +1,4 @@
-use Rattle.std.proofs.Common.{◌≡◌, length}
-use Rattle.sim_json.specs.Keys.{among, texts_of}
+use Rattle.{sim_json.specs.Keys.among, sim_json.specs.Keys.texts_of, std.proofs.Common.◌≡◌, std.proofs.Common.length}
 use Rattle.sim_json.proofs.keys.is_among.Given as goal
 
 abbrev pub invariant-loop-rest : goal.invariant-loop-rest

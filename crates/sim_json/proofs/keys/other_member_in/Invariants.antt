@@ -1,6 +1,4 @@
-use Rattle.std.proofs.Common.{◌≡◌}
-use Rattle.serde_json.specs.View.{members_view}
-use Rattle.sim_json.specs.Keys.{other_member, texts_of}
+use Rattle.{serde_json.specs.View.members_view, sim_json.specs.Keys.other_member, sim_json.specs.Keys.texts_of, std.proofs.Common.◌≡◌}
 use Rattle.sim_json.proofs.keys.other_member_in.Given as goal
 
 abbrev pub invariant-loop-key : goal.invariant-loop-key

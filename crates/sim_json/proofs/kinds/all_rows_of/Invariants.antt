@@ -1,7 +1,5 @@
-use Rattle.std.proofs.Common.{◌≡◌, map, length}
-use Rattle.std.specs.List.{list_all}
+use Rattle.{sim_json.specs.Kinds.is_row_of, std.proofs.Common.◌≡◌, std.proofs.Common.map, std.proofs.Common.length, std.specs.List.list_all}
 use Rattle.serde_json.specs.View.{view}
-use Rattle.sim_json.specs.Kinds.{is_row_of}
 use Rattle.sim_json.proofs.kinds.all_rows_of.Given as goal
 
 abbrev pub invariant-loop-rest : goal.invariant-loop-rest

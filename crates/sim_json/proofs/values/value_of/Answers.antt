@@ -1,17 +1,14 @@
 -- Bytes are a text, or they have no value.
-use Rattle.std.proofs.Common.{◌≡◌, ◌∙◌, sym, ap, subst, Option, IfOk}
-use Rattle.std.specs.Prelude.{option_map}
-use Rattle.std.proofs.lemmas.Bool.{false≢true}
-use Rattle.serde_json.specs.Data.{Data}
-use Rattle.serde_json.specs.Read.{read}
-use Rattle.serde_json.specs.View.{view}
-use Rattle.sim_json.proofs.Texts.{utf8_value, utf8_holds, no_value}
+use Rattle.{sim_json.proofs.Texts.no_value, sim_json.proofs.Texts.utf8_holds, sim_json.proofs.Texts.utf8_value, std.specs.Prelude.option_map}
+use Rattle.std.proofs.{Common.◌≡◌, Common.IfOk, Common.Option, Common.ap, Common.subst, Common.sym, Common.◌∙◌, lemmas.Bool.false≢true}
+use Rattle.serde_json.specs.{Data.Data, Read.read, View.view}
 use Rattle.sim_json.proofs.values.value_of.Goals as goal
 
 pub returns-in-Ok-clause-value : goal.returns-in-Ok-clause-value
 returns-in-Ok-clause-value c =
     let text = c.in-Ok.ensures.cases in
-    subst (λ (o : Option Data). IfOk c.value_in.result (λ found. option_map view found ≡ o)) (ap read text.0 ∙ sym (utf8_value c.args.bytes.now text.1)) c.value_in.ensures.value
+    subst (λ (o : Option Data). IfOk c.value_in.result (λ found. option_map view found ≡ o)) (ap read text.0 ∙ sym (utf8_value c.args.bytes.now text.1))
+    c.value_in.ensures.value
 
 pub returns-in-Ok-clause-no_text : goal.returns-in-Ok-clause-no_text
 returns-in-Ok-clause-no_text c = λ no. absurd (false≢true (sym no ∙ utf8_holds c.args.bytes.now c.in-Ok.ensures.cases.1))

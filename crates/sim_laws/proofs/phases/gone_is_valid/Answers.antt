@@ -1,5 +1,4 @@
-use Rattle.sim_laws.proofs.Removing.{gone_is_valid}
-use Rattle.sim_laws.proofs.Turning.{gone_keeps_turn}
+use Rattle.sim_laws.proofs.{Removing.gone_is_valid, Turning.gone_keeps_turn}
 use Rattle.sim_laws.proofs.phases.gone_is_valid.Goals as goal
 
 pub returns : goal.returns

@@ -1,5 +1,4 @@
-use Rattle.std.proofs.Common.{refl}
-use Rattle.sim_laws.proofs.Hitting.{hit_is_state}
+use Rattle.sim_laws.proofs.{Common.refl, Hitting.hit_is_state}
 use Rattle.sim_laws.proofs.phases.hitting_keeps.Goals as goal
 
 pub returns : goal.returns

@@ -1,4 +1,4 @@
-use Rattle.sim_laws.proofs.Turning.{from_keeps_valid, from_counts_turns}
+use Rattle.sim_laws.proofs.Turning.{from_counts_turns, from_keeps_valid}
 use Rattle.sim_laws.proofs.turns.since_a_state.Goals as goal
 
 pub returns : goal.returns

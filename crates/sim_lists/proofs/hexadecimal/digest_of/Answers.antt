@@ -1,5 +1,5 @@
 -- 32 digits are 16 bytes.
-use Rattle.std.proofs.Common.{◌∙◌, sym, ap, arith, length}
+use Rattle.std.proofs.Common.{length, ap, arith, sym, ◌∙◌}
 use Rattle.sim_lists.proofs.HexLengths.{hex_length}
 use Rattle.sim_lists.proofs.hexadecimal.digest_of.Goals as goal
 

@@ -1,7 +1,5 @@
 -- The index of each list that is read so is the least.
-use Rattle.std.proofs.Common.{[]}
-use Rattle.sim_json.proofs.Reading.{is_least}
-use Rattle.sim_lists.specs.Steps.{step_of}
+use Rattle.{sim_json.proofs.Reading.is_least, sim_lists.specs.Steps.step_of, std.proofs.Common.[]}
 use Rattle.sim_lists.proofs.laws.step_index_is_least.Goals as goal
 
 pub returns : goal.returns

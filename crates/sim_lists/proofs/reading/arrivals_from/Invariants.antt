@@ -1,16 +1,13 @@
 -- The arrivals so far, each from a client.
-use Rattle.std.proofs.Common.{◌≡◌, ℕ, Some, map, length, [], All}
-use Rattle.serde_json.specs.View.{view}
-use Rattle.sim_json.specs.Records.{numbered}
-use Rattle.sim_lists.specs.Arrivals.{arrival_of}
-use Rattle.sim_lists.specs.Early.{early_items}
-use Rattle.sim_lists.specs.Taking.{arrival_takes}
-use Rattle.sim_lists.specs.Schedules.{IsFromClient}
+use Rattle.{serde_json.specs.View.view, sim_json.specs.Records.numbered}
+use Rattle.std.proofs.Common.{◌≡◌, ℕ, [], map, length, Some, All}
+use Rattle.sim_lists.specs.{Arrivals.arrival_of, Early.early_items, Schedules.IsFromClient, Taking.arrival_takes}
 use Rattle.sim_lists.proofs.reading.arrivals_from.Given as goal
 
 abbrev pub invariant-loop-rest : goal.invariant-loop-rest
 invariant-loop-rest l = record {
-  start : (i : ℕ) → early_items (arrival_of l.clients) (arrival_takes l.clients) (map view l.items) ≡ Some i → (map view l.rest ≡ map view l.items) × (length l.found.items ≡ 0);
+  start : (i : ℕ) → early_items (arrival_of l.clients) (arrival_takes l.clients) (map view l.items) ≡ Some i → (map view l.rest ≡ map view l.items)
+      × (length l.found.items ≡ 0);
   same : numbered (λ done. arrival_of l.clients) l.found.items (map view l.rest) ≡ numbered (λ done. arrival_of l.clients) [] (map view l.items);
   clients : All (IsFromClient l.clients) l.found.items;
 }

@@ -1,6 +1,5 @@
 -- One step more. Where the first item is refused early, there is none.
-use Rattle.std.proofs.Common.{rules, arith}
-use Rattle.std.proofs.lemmas.Grind.{common_steps}
+use Rattle.std.proofs.{Common.arith, Common.rules, lemmas.Grind.common_steps}
 use Rattle.sim_lists.proofs.step_reading.steps_from.Goals as goal
 
 pub loop-rest-preserved : goal.loop-rest-preserved

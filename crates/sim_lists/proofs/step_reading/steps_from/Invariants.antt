@@ -1,16 +1,13 @@
 -- The steps so far, each of a player.
-use Rattle.std.proofs.Common.{◌≡◌, ℕ, Some, map, length, [], All}
-use Rattle.serde_json.specs.View.{view}
-use Rattle.sim_json.specs.Records.{numbered}
-use Rattle.sim_lists.specs.Steps.{step_of}
-use Rattle.sim_lists.specs.Early.{early_items}
-use Rattle.sim_lists.specs.Taking.{step_takes}
-use Rattle.sim_lists.specs.StepLists.{IsStep}
+use Rattle.{serde_json.specs.View.view, sim_json.specs.Records.numbered}
+use Rattle.std.proofs.Common.{◌≡◌, ℕ, [], map, length, Some, All}
+use Rattle.sim_lists.specs.{Early.early_items, StepLists.IsStep, Steps.step_of, Taking.step_takes}
 use Rattle.sim_lists.proofs.step_reading.steps_from.Given as goal
 
 abbrev pub invariant-loop-rest : goal.invariant-loop-rest
 invariant-loop-rest l = record {
-  start : (i : ℕ) → early_items (step_of l.players) (step_takes l.players) (map view l.items) ≡ Some i → (map view l.rest ≡ map view l.items) × (length l.found.items ≡ 0);
+  start : (i : ℕ) → early_items (step_of l.players) (step_takes l.players) (map view l.items) ≡ Some i → (map view l.rest ≡ map view l.items)
+      × (length l.found.items ≡ 0);
   same : numbered (λ done. step_of l.players) l.found.items (map view l.rest) ≡ numbered (λ done. step_of l.players) [] (map view l.items);
   limits : All (IsStep l.players) l.found.items;
 }

@@ -1,6 +1,4 @@
-use Rattle.std.proofs.Common.{◌≡◌, false, Some, sym, ap, ◌∙◌, rules, below_more, arith}
-use Rattle.sim_merge.specs.Faults.{IfRefusal}
-use Rattle.sim_merge.specs.Resolution.{members, is_endless, chain_fault, chain_refusal}
+use Rattle.sim_merge.proofs.Common.{◌≡◌, false, Some, ap, arith, below_more, chain_fault, chain_refusal, IfRefusal, is_endless, members, rules, sym, ◌∙◌}
 use Rattle.sim_merge.proofs.ResolutionLemmas.{chain_refusal-at, chain_refusal-none, IfRefusal-from}
 use Rattle.sim_merge.proofs.chains.check_chains.Goals as goal
 

@@ -1,5 +1,4 @@
-use Rattle.std.proofs.Common.{◌≡◌, ◌<◌, ℕ, false}
-use Rattle.sim_merge.specs.Resolution.{members, is_endless}
+use Rattle.sim_merge.proofs.Common.{◌≡◌, ℕ, ◌<◌, false, is_endless, members}
 use Rattle.sim_merge.proofs.chains.check_chains.Given as goal
 
 abbrev pub invariant-loop-number : goal.invariant-loop-number

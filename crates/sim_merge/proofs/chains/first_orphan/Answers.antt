@@ -1,7 +1,5 @@
-use Rattle.std.proofs.Common.{◌≡◌, ◌<◌, false, length, map, get_or, None, [], sym, ap, ◌∙◌, string_bytes, arith, below_more}
-use Rattle.std.proofs.lemmas.List.{length-map, get_or-map}
-use Rattle.sim_tree.specs.Sources.{Origin, origin_of}
-use Rattle.sim_merge.specs.Resolution.{origins_of, is_orphan, bare}
+use Rattle.sim_merge.proofs.Common.{length-map, Origin, origin_of, origins_of, sym, ◌∙◌}
+use Rattle.sim_merge.proofs.Common.{◌≡◌, ◌<◌, false, [], map, length, get_or, None, string_bytes, ap, arith, bare, below_more, get_or-map, is_orphan}
 use Rattle.sim_merge.proofs.ResolutionLemmas.{position-at, position-none}
 use Rattle.sim_merge.proofs.chains.first_orphan.Goals as goal
 
@@ -23,7 +21,8 @@ loop-number-preserved c =
     let number = c.loop-number.number in
     let source = c.index-sources-number.result in
     λ k d. below_more (λ j. is_orphan names (get_or (origins_of sources) j d) ≡ false) number (λ j h. c.loop-number.invariant j d h)
-    (ap (is_orphan names) (get_or-map origin_of sources number source d c.loop-number-test.true ∙ ap origin_of (sym c.index-sources-number.is)) ∙ sym c.is_orphan.ensures ∙ c.if-is_orphan.false) k
+    (ap (is_orphan names) (get_or-map origin_of sources number source d c.loop-number-test.true ∙ ap origin_of (sym c.index-sources-number.is)) ∙
+    sym c.is_orphan.ensures ∙ c.if-is_orphan.false) k
 
 pub returns : goal.returns
 returns c =

@@ -1,6 +1,4 @@
-use Rattle.std.proofs.Common.{◌≡◌, ◌<◌, ℕ, false, map, get_or, string_bytes}
-use Rattle.sim_tree.specs.Sources.{Origin}
-use Rattle.sim_merge.specs.Resolution.{origins_of, is_orphan}
+use Rattle.sim_merge.proofs.Common.{◌≡◌, ℕ, ◌<◌, false, map, get_or, string_bytes, is_orphan, Origin, origins_of}
 use Rattle.sim_merge.proofs.chains.first_orphan.Given as goal
 
 abbrev pub invariant-loop-number : goal.invariant-loop-number

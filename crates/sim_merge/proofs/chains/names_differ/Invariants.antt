@@ -1,5 +1,4 @@
-use Rattle.std.proofs.Common.{◌≡◌, length}
-use Rattle.sim_merge.specs.Resolution.{origins_of, names_in, are_distinct}
+use Rattle.sim_merge.proofs.Common.{◌≡◌, length, are_distinct, names_in, origins_of}
 use Rattle.sim_merge.proofs.chains.names_differ.Given as goal
 
 abbrev pub invariant-loop-rest : goal.invariant-loop-rest

@@ -1,5 +1,4 @@
-use Rattle.std.proofs.Common.{◌≡◌, ◌++◌, map, drop, string_bytes}
-use Rattle.sim_merge.specs.Resolution.{origins_of, names_in}
+use Rattle.sim_merge.proofs.Common.{◌≡◌, ◌++◌, map, drop, string_bytes, names_in, origins_of}
 use Rattle.sim_merge.proofs.chains.names_of.Given as goal
 
 abbrev pub invariant-loop-source : goal.invariant-loop-source

@@ -1,5 +1,4 @@
-use Rattle.std.proofs.Common.{◌≡◌, ◌++◌, map, drop, string_bytes}
-use Rattle.sim_merge.specs.Resolution.{origins_of, parent_among}
+use Rattle.sim_merge.proofs.Common.{◌≡◌, ◌++◌, map, drop, string_bytes, origins_of, parent_among}
 use Rattle.sim_merge.proofs.chains.numbers_of.Given as goal
 
 abbrev pub invariant-loop-source : goal.invariant-loop-source

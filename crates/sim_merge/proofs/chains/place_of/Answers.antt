@@ -1,5 +1,4 @@
-use Rattle.std.proofs.Common.{◌∙◌}
-use Rattle.sim_merge.proofs.TextLemmas.{position-texts_of}
+use Rattle.sim_merge.proofs.{Common.◌∙◌, TextLemmas.position-texts_of}
 use Rattle.sim_merge.proofs.chains.place_of.Goals as goal
 
 pub returns : goal.returns

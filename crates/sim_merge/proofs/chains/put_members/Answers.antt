@@ -1,5 +1,4 @@
-use Rattle.std.proofs.Common.{◌≡◌, ◌+◌, ◌-◌, [], ◌∷◌, ◌++◌, get_or, append_assoc, None, Some, sym, ap, ◌∙◌, arith}
-use Rattle.sim_merge.specs.Resolution.{members, chain_from}
+use Rattle.sim_merge.proofs.Common.{◌≡◌, ◌+◌, ◌-◌, [], ◌∷◌, ◌++◌, get_or, Some, None, ap, append_assoc, arith, chain_from, members, sym, ◌∙◌}
 use Rattle.sim_merge.proofs.ResolutionLemmas.{chain_from-next}
 use Rattle.sim_merge.proofs.chains.put_members.Goals as goal
 

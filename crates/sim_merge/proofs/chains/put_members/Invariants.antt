@@ -1,5 +1,4 @@
-use Rattle.std.proofs.Common.{◌≡◌, ◌++◌, ◌-◌, ◌<◌, length, ℕ, Some}
-use Rattle.sim_merge.specs.Resolution.{chain_from, members}
+use Rattle.sim_merge.proofs.Common.{◌≡◌, ℕ, ◌-◌, ◌<◌, ◌++◌, length, Some, chain_from, members}
 use Rattle.sim_merge.proofs.chains.put_members.Given as goal
 
 abbrev pub invariant-loop-seen : goal.invariant-loop-seen

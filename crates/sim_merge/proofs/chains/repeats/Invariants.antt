@@ -1,5 +1,4 @@
-use Rattle.std.proofs.Common.{◌≡◌, length}
-use Rattle.sim_merge.specs.Resolution.{repeats}
+use Rattle.sim_merge.proofs.Common.{◌≡◌, length, repeats}
 use Rattle.sim_merge.proofs.chains.repeats.Given as goal
 
 abbrev pub invariant-loop-rest : goal.invariant-loop-rest

@@ -1,11 +1,7 @@
-use Rattle.std.proofs.Common.{◌≡◌, ℕ, List, refl, sym, ap, ◌∙◌, subst, rules}
-use Rattle.sim_tree.specs.Trees.{Node, node_of, nodes_of, child_named}
-use Rattle.sim_tree.specs.declared.tree.Child.TheViews.{out-Child}
-use Rattle.sim_merge.specs.Faults.{IfBadOp}
-use Rattle.sim_merge.specs.Laying.{refused, laid, laid_under, behind, lower_children}
-use Rattle.sim_merge.specs.Merging.{node_if, laying_of, laid_unmarked, IsMerged, IsPast}
+use Rattle.sim_merge.proofs.Common.{lower_children, Node, node_if, node_of, nodes_of, out-Child, refused, rules, subst, sym, ◌∙◌}
+use Rattle.sim_merge.proofs.Common.{◌≡◌, ℕ, List, refl, ap, behind, child_named, IfBadOp, IsMerged, IsPast, laid, laid_under, laid_unmarked, laying_of}
+use Rattle.sim_merge.proofs.LayingLemmas.{IfBadOp-weaker, merged-step, unmarked-refused, unmarked-there}
 use Rattle.sim_merge.proofs.NodeLemmas.{named_of-out}
-use Rattle.sim_merge.proofs.LayingLemmas.{IfBadOp-weaker, merged-step, unmarked-there, unmarked-refused}
 use Rattle.sim_merge.proofs.laying.+laying.Goals as goal
 
 pub push_merged-returns : goal.push_merged-returns

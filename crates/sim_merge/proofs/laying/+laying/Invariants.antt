@@ -1,10 +1,9 @@
-use Rattle.std.proofs.Common.{◌≡◌, true, drop}
-use Rattle.sim_tree.specs.Trees.{nodes_of, are_sound}
-use Rattle.sim_merge.specs.Laying.{laid_under, with_lower}
+use Rattle.sim_merge.proofs.Common.{◌≡◌, true, drop, are_sound, laid_under, nodes_of, with_lower}
 use Rattle.sim_merge.proofs.laying.+laying.Given as goal
 
 abbrev pub invariant-merged-loop-child : goal.invariant-merged-loop-child
 invariant-merged-loop-child l = record {
-  merged : with_lower (nodes_of l.children.items) (laid_under (nodes_of l.rest) (nodes_of (drop l.child-index l.upper))) ≡ laid_under (nodes_of l.fn.lower) (nodes_of l.upper);
+  merged : with_lower (nodes_of l.children.items) (laid_under (nodes_of l.rest) (nodes_of (drop l.child-index l.upper))) ≡ laid_under (nodes_of l.fn.lower)
+      (nodes_of l.upper);
   sound : are_sound (nodes_of l.rest) ≡ true;
 }

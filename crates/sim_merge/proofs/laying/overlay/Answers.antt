@@ -1,11 +1,6 @@
-use Rattle.std.proofs.Common.{◌∙◌, Some, rules}
-use Rattle.sim_tree.specs.Trees.{node_of}
-use Rattle.sim_merge.specs.Laying.{laid}
-use Rattle.sim_merge.specs.Faults.{IfBadOp}
-use Rattle.sim_merge.specs.Overlay.{IsRefused}
-use Rattle.sim_merge.proofs.LayingLemmas.{IfBadOp-weaker}
+use Rattle.sim_merge.proofs.{Common.Some, Common.IfBadOp, Common.IsRefused, Common.laid, Common.node_of, Common.rules, Common.◌∙◌, LayingLemmas.IfBadOp-weaker}
 use Rattle.sim_merge.proofs.RefusalLemmas.{has-laid, is-refused}
-use Rattle.sim_merge.proofs.ResolvedLemmas.{laid-resolved, laid-unmarked, there-resolved, mark_of-layable}
+use Rattle.sim_merge.proofs.ResolvedLemmas.{laid-resolved, laid-unmarked, mark_of-layable, there-resolved}
 use Rattle.sim_merge.proofs.laying.overlay.Goals as goal
 
 pub returns-clause-resolved : goal.returns-clause-resolved
@@ -29,5 +24,6 @@ returns-in_err-tree-clause-bad c =
     let upper = node_of c.args.upper.now in
     let fault = c.in_err-tree.field-0.0 in
     let told : IfBadOp fault (IsRefused lower upper) =
-    IfBadOp-weaker fault _ _ (λ e. is-refused lower upper c.requires.upper (laid-unmarked (Some lower) upper (mark_of-layable upper c.requires.upper) ∙ e)) c.in_err-tree.ensures in
+    IfBadOp-weaker fault _ _ (λ e. is-refused lower upper c.requires.upper (laid-unmarked (Some lower) upper (mark_of-layable upper c.requires.upper) ∙ e))
+    c.in_err-tree.ensures in
     search rules

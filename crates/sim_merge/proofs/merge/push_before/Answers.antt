@@ -1,11 +1,7 @@
-use Rattle.std.proofs.Common.{◌≡◌, List, [], ◌+◌, ◌-◌, length, length-drop, take, drop, subst, sym, ap, ◌∙◌, arith, refl}
-use Rattle.std.proofs.lemmas.List.{drop_all, take_all}
-use Rattle.sim_tree.specs.Trees.{nodes_of, named_of, child, no_children, child_named}
-use Rattle.sim_merge.specs.Laying.{before, behind, followed_by}
-use Rattle.sim_tree.specs.declared.tree.Child.{Child}
-use Rattle.sim_merge.specs.Merging.{IsPast}
 use Rattle.sim_merge.proofs.ChildrenLemmas.{followed_by-assoc}
-use Rattle.sim_merge.proofs.NodeLemmas.{past, before-at, child_named-at, behind-at, before-at-stop, are_sound-drop}
+use Rattle.sim_merge.proofs.Common.{followed_by, IsPast, length-drop, named_of, no_children, nodes_of, subst, sym, take_all, ◌∙◌}
+use Rattle.sim_merge.proofs.Common.{◌≡◌, ◌+◌, ◌-◌, List, [], length, take, drop, refl, ap, arith, before, behind, Child, child, child_named, drop_all}
+use Rattle.sim_merge.proofs.NodeLemmas.{are_sound-drop, before-at, before-at-stop, behind-at, child_named-at, past}
 use Rattle.sim_merge.proofs.merge.push_before.Goals as goal
 
 pub loop-i-preserved : goal.loop-i-preserved
@@ -48,4 +44,5 @@ returns-then-not-precedes c =
     let all : take (length xs - i) (drop i xs) ≡ drop i xs = take_all (length xs - i) (drop i xs) (omega (arith, length-drop i xs)) in
     let stop = before-at-stop xs i x name c.loop-i-test.true c.index-children-i.is c.loop-i.invariant.sound (sym c.precedes.ensures ∙ c.if-not-precedes.true) in
     let P : List Child → Type 0 = λ ys. IsPast name old out (nodes_of xs) (nodes_of ys) in
-    subst P (sym all) (past name old out (nodes_of xs) (nodes_of (drop i xs)) c.loop-i.invariant.passed stop c.loop-i.invariant.named c.loop-i.invariant.behind c.loop-i.invariant.sound)
+    subst P (sym all) (past name old out (nodes_of xs) (nodes_of (drop i xs)) c.loop-i.invariant.passed stop c.loop-i.invariant.named c.loop-i.invariant.behind
+    c.loop-i.invariant.sound)

@@ -1,6 +1,4 @@
-use Rattle.std.proofs.Common.{ap, ◌∙◌}
-use Rattle.sim_tree.specs.Trees.{nodes_of, child, no_children, node_of}
-use Rattle.sim_merge.specs.Laying.{followed_by}
+use Rattle.sim_merge.proofs.Common.{ap, child, followed_by, no_children, node_of, nodes_of, ◌∙◌}
 use Rattle.sim_merge.proofs.NodeLemmas.{nodes_of-push}
 use Rattle.sim_merge.proofs.merge.push_child.Goals as goal
 

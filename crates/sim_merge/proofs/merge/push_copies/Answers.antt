@@ -1,9 +1,5 @@
-use Rattle.std.proofs.Common.{◌≡◌, ◌+◌, [], drop, sym, ap, ◌∙◌}
-use Rattle.std.proofs.lemmas.List.{drop_all}
-use Rattle.sim_tree.specs.Trees.{nodes_of, named_of, child, no_children}
-use Rattle.sim_merge.specs.Laying.{followed_by}
-use Rattle.sim_merge.proofs.ChildrenLemmas.{followed_by-assoc, followed_by-end}
-use Rattle.sim_merge.proofs.NodeLemmas.{nodes_of-at}
+use Rattle.sim_merge.proofs.{ChildrenLemmas.followed_by-assoc, ChildrenLemmas.followed_by-end, NodeLemmas.nodes_of-at}
+use Rattle.sim_merge.proofs.Common.{◌≡◌, ◌+◌, [], drop, ap, child, drop_all, followed_by, named_of, no_children, nodes_of, sym, ◌∙◌}
 use Rattle.sim_merge.proofs.merge.push_copies.Goals as goal
 
 pub loop-child-preserved : goal.loop-child-preserved

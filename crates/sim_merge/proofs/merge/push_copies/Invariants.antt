@@ -1,7 +1,6 @@
-use Rattle.std.proofs.Common.{◌≡◌, drop}
-use Rattle.sim_tree.specs.Trees.{nodes_of}
-use Rattle.sim_merge.specs.Laying.{followed_by}
+use Rattle.sim_merge.proofs.Common.{◌≡◌, drop, followed_by, nodes_of}
 use Rattle.sim_merge.proofs.merge.push_copies.Given as goal
 
 abbrev pub invariant-loop-child : goal.invariant-loop-child
-invariant-loop-child l = followed_by (nodes_of l.out.items) (nodes_of (drop l.child-index l.children)) ≡ followed_by (nodes_of l.initial.out.items) (nodes_of l.children)
+invariant-loop-child l = followed_by (nodes_of l.out.items) (nodes_of (drop l.child-index l.children)) ≡ followed_by (nodes_of l.initial.out.items)
+    (nodes_of l.children)

@@ -1,8 +1,5 @@
-use Rattle.std.proofs.Common.{ap, sym, ◌∙◌}
-use Rattle.sim_tree.specs.Trees.{nodes_of, node_of, child, no_children}
-use Rattle.sim_merge.specs.Laying.{with_lower, with_laid}
-use Rattle.sim_merge.specs.Merging.{laying_of}
-use Rattle.sim_merge.proofs.ChildrenLemmas.{with_lower-followed_by, with_lower-child}
+use Rattle.sim_merge.proofs.ChildrenLemmas.{with_lower-child, with_lower-followed_by}
+use Rattle.sim_merge.proofs.Common.{ap, child, laying_of, no_children, node_of, nodes_of, sym, with_laid, with_lower, ◌∙◌}
 use Rattle.sim_merge.proofs.merge.push_laid.Goals as goal
 
 pub returns-in_ok-push_child-in-Some : goal.returns-in_ok-push_child-in-Some

@@ -1,6 +1,4 @@
-use Rattle.std.proofs.Common.{sym, ap, ◌∙◌, ◌+ℤ◌}
-use Rattle.sim_base.specs.Numbers.{product}
-use Rattle.sim_merge.specs.Operations.{function_of, number_by}
+use Rattle.sim_merge.proofs.Common.{◌+ℤ◌, ap, function_of, number_by, product, sym, ◌∙◌}
 use Rattle.sim_merge.proofs.OperationLemmas.{in_range-SomeIff, number_by-some}
 use Rattle.sim_merge.proofs.operation.number_of.Goals as goal
 

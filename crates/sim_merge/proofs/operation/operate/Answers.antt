@@ -1,13 +1,10 @@
-use Rattle.std.proofs.Common.{◌≡◌, ℕ, List, Option, Some, None, sym, ap, ◌∙◌}
-use Rattle.std.specs.Prelude.{ℤ, option_map}
-use Rattle.sim_base.specs.NumberText.{text_of}
-use Rattle.sim_merge.specs.Values.{text_by}
-use Rattle.sim_merge.specs.Operations.{function_of, number_by}
+use Rattle.sim_merge.proofs.Common.{◌≡◌, ℕ, List, ℤ, Some, None, option_map, ap, function_of, number_by, sym, text_by, text_of, ◌∙◌}
 use Rattle.sim_merge.proofs.OperationLemmas.{text_by-number_by}
 use Rattle.sim_merge.proofs.operation.operate.Goals as goal
 
 -- where there is a number there is a text
-has_text : (operation : ℤ → ℤ → ℤ) (lower upper : List ℕ) (number : ℤ) → number_by operation lower upper ≡ Some number → text_by operation lower upper ≡ None → ⊥
+has_text : (operation : ℤ → ℤ → ℤ) (lower upper : List ℕ) (number : ℤ) → number_by operation lower upper ≡ Some number → text_by operation lower upper ≡ None
+    → ⊥
 has_text operation lower upper number is none =
     let text : text_by operation lower upper ≡ Some (text_of number) = text_by-number_by operation lower upper ∙ ap (option_map text_of) is in
     cc

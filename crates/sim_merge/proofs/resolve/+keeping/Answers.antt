@@ -1,10 +1,5 @@
-use Rattle.std.proofs.Common.{◌≡◌, suc, length, ap, arith, rules}
-use Rattle.sim_merge.specs.Faults.{IfBadOp}
-use Rattle.sim_merge.specs.Laying.{refused}
-use Rattle.sim_merge.specs.Resolution.{origins_of, roots_in, members, chain_root}
-use Rattle.sim_merge.proofs.LayingLemmas.{IfBadOp-weaker}
-use Rattle.sim_merge.proofs.ResolutionLemmas.{members-parent}
-use Rattle.sim_merge.proofs.KeepingLemmas.{chain_root-refused}
+use Rattle.sim_merge.proofs.{KeepingLemmas.chain_root-refused, LayingLemmas.IfBadOp-weaker, ResolutionLemmas.members-parent}
+use Rattle.sim_merge.proofs.Common.{◌≡◌, suc, length, ap, arith, chain_root, IfBadOp, members, origins_of, refused, roots_in, rules}
 use Rattle.sim_merge.proofs.resolve.+keeping.Goals as goal
 
 pub resolved-keep-requires : goal.resolved-keep-requires
@@ -29,5 +24,6 @@ resolved-returns-in_err-keep-in-Some-clause-tree t c =
     let roots = roots_in (origins_of c.args.sources.now) in
     let fault = c.in_err-keep-in-Some.field-0.0 in
     let told : IfBadOp fault (chain_root roots (members parents number) ≡ refused) =
-    IfBadOp-weaker fault _ _ (chain_root-refused parents roots number parent (c.requires.forest.ended number c.requires.number) c.in-Some.is) c.in_err-keep-in-Some.ensures.refused in
+    IfBadOp-weaker fault _ _ (chain_root-refused parents roots number parent (c.requires.forest.ended number c.requires.number) c.in-Some.is)
+    c.in_err-keep-in-Some.ensures.refused in
     search rules

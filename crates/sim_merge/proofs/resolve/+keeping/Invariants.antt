@@ -1,5 +1,4 @@
-use Rattle.std.proofs.Common.{◌+◌, ◌*◌, length}
-use Rattle.sim_merge.specs.Resolution.{members}
+use Rattle.sim_merge.proofs.Common.{◌+◌, ◌*◌, length, members}
 use Rattle.sim_merge.proofs.resolve.+keeping.Given as goal
 
 abbrev pub decreases-keep : goal.decreases-keep

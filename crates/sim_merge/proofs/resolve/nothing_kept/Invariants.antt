@@ -1,4 +1,4 @@
-use Rattle.std.proofs.Common.{◌≡◌, replicate, None}
+use Rattle.sim_merge.proofs.Common.{◌≡◌, replicate, None}
 use Rattle.sim_merge.proofs.resolve.nothing_kept.Given as goal
 
 abbrev pub invariant-loop-made : goal.invariant-loop-made

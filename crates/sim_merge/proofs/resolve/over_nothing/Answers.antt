@@ -1,8 +1,4 @@
-use Rattle.std.proofs.Common.{Some, sym, ap, ◌∙◌}
-use Rattle.sim_tree.specs.Trees.{node_of}
-use Rattle.sim_merge.specs.Libraries.{is_resolved}
-use Rattle.sim_merge.specs.Laying.{laid}
-use Rattle.sim_merge.specs.Resolution.{origins_of, roots_in}
+use Rattle.sim_merge.proofs.Common.{Some, ap, is_resolved, laid, node_of, origins_of, roots_in, sym, ◌∙◌}
 use Rattle.sim_merge.proofs.KeepingLemmas.{chain_root-first, IsTreeOf-same}
 use Rattle.sim_merge.proofs.resolve.over_nothing.Goals as goal
 

@@ -1,8 +1,5 @@
-use Rattle.std.proofs.Common.{get_or}
-use Rattle.std.proofs.lemmas.List.{get_or_default}
-use Rattle.sim_tree.specs.Trees.{node_of}
-use Rattle.sim_merge.specs.Resolution.{roots_in, origins_of}
-use Rattle.sim_merge.proofs.KeepingLemmas.{roots_in-at, is_layable-at}
+use Rattle.sim_merge.proofs.Common.{get_or, get_or_default, node_of, origins_of, roots_in}
+use Rattle.sim_merge.proofs.KeepingLemmas.{is_layable-at, roots_in-at}
 use Rattle.sim_merge.proofs.resolve.own_at.Goals as goal
 
 pub returns-clause-own : goal.returns-clause-own

@@ -1,5 +1,4 @@
-use Rattle.std.proofs.Common.{◌≡◌}
-use Rattle.std.specs.Prelude.{filter_map}
+use Rattle.sim_merge.proofs.Common.{◌≡◌, filter_map}
 use Rattle.sim_merge.proofs.resolve.taken.Given as goal
 
 abbrev pub invariant-loop-slot : goal.invariant-loop-slot

@@ -1,6 +1,4 @@
-use Rattle.std.proofs.Common.{◌<◌, ℕ}
-use Rattle.sim_merge.specs.Resolution.{origins_of, roots_in}
-use Rattle.sim_merge.specs.Keeping.{IsKept, Has}
+use Rattle.sim_merge.proofs.Common.{ℕ, ◌<◌, Has, IsKept, origins_of, roots_in}
 use Rattle.sim_merge.proofs.resolve.trees_of.Given as goal
 
 abbrev pub invariant-loop-number : goal.invariant-loop-number

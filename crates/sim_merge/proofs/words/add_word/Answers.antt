@@ -1,7 +1,4 @@
-use Rattle.std.proofs.Common.{◌||◌, ◌∙◌, ap, string_bytes}
-use Rattle.std.specs.Str.{bytes_eq}
-use Rattle.std.specs.BTreeSet.{contains_text}
-use Rattle.sim_merge.proofs.SetLemmas.{contains_after}
+use Rattle.sim_merge.proofs.{Common.◌||◌, Common.string_bytes, Common.bytes_eq, Common.ap, Common.contains_text, Common.◌∙◌, SetLemmas.contains_after}
 use Rattle.sim_merge.proofs.words.add_word.Goals as goal
 
 pub returns : goal.returns

@@ -1,6 +1,4 @@
-use Rattle.std.proofs.Common.{◌≡◌, ◌++◌, ℕ, List, length}
-use Rattle.std.specs.BTreeSet.{contains_text}
-use Rattle.sim_merge.specs.Survivors.{AreChanges}
+use Rattle.sim_merge.proofs.Common.{◌≡◌, ℕ, List, ◌++◌, length, AreChanges, contains_text}
 use Rattle.sim_merge.proofs.words.changes_of.Given as goal
 
 abbrev pub invariant-loop-word : goal.invariant-loop-word

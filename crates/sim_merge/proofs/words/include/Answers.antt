@@ -1,8 +1,5 @@
-use Rattle.std.proofs.Common.{◌≡◌, ◌&&◌, not, false, sym, ap, ◌∙◌}
-use Rattle.std.specs.List.{list_any}
-use Rattle.std.specs.Str.{bytes_eq}
-use Rattle.std.specs.BTreeSet.{contains_text}
-use Rattle.sim_merge.proofs.LackingLemmas.{lacking_rest, lacking_put}
+use Rattle.sim_merge.proofs.Common.{◌≡◌, false, not, ◌&&◌, bytes_eq, ap, contains_text, list_any, sym, ◌∙◌}
+use Rattle.sim_merge.proofs.LackingLemmas.{lacking_put, lacking_rest}
 use Rattle.sim_merge.proofs.words.include.Goals as goal
 
 pub returns-else-take_word-clause-found : goal.returns-else-take_word-clause-found

@@ -1,4 +1,4 @@
-use Rattle.std.proofs.Common.{◌++◌, ◌∷◌, sym, ap, ◌∙◌, string_bytes, if◌then◌else◌, ◌==◌}
+use Rattle.sim_merge.proofs.Common.{◌∷◌, ◌++◌, if◌then◌else◌, ◌==◌, string_bytes, ap, sym, ◌∙◌}
 use Rattle.sim_merge.proofs.WordLemmas.{joined-next}
 use Rattle.sim_merge.proofs.words.joined.Goals as goal
 

@@ -1,5 +1,4 @@
-use Rattle.std.proofs.Common.{◌≡◌, take, string_bytes}
-use Rattle.std.specs.List.{join_with_byte}
+use Rattle.sim_merge.proofs.Common.{◌≡◌, take, string_bytes, join_with_byte}
 use Rattle.sim_merge.proofs.words.joined.Given as goal
 
 abbrev pub invariant-loop-place : goal.invariant-loop-place

@@ -1,6 +1,4 @@
-use Rattle.std.proofs.Common.{not, filter, ap, ◌∙◌, rules}
-use Rattle.std.proofs.lemmas.Fn.{filter_same}
-use Rattle.std.specs.BTreeSet.{contains_text}
+use Rattle.sim_merge.proofs.Common.{not, filter, ap, contains_text, filter_same, rules, ◌∙◌}
 use Rattle.sim_merge.proofs.words.leaving_out.Goals as goal
 
 pub returns : goal.returns

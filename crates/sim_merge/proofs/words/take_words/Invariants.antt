@@ -1,7 +1,4 @@
-use Rattle.std.proofs.Common.{◌≡◌, ◌&&◌, not, ℕ, List, length}
-use Rattle.std.specs.List.{list_any}
-use Rattle.std.specs.Str.{bytes_eq}
-use Rattle.std.specs.BTreeSet.{contains_text}
+use Rattle.sim_merge.proofs.Common.{◌≡◌, ℕ, not, ◌&&◌, List, length, bytes_eq, contains_text, list_any}
 use Rattle.sim_merge.proofs.words.take_words.Given as goal
 
 abbrev pub invariant-loop-rest : goal.invariant-loop-rest

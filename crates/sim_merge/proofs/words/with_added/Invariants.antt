@@ -1,6 +1,4 @@
-use Rattle.std.proofs.Common.{◌≡◌, fold, reverse, length}
-use Rattle.std.specs.BTreeSet.{contains_text}
-use Rattle.sim_merge.specs.Survivors.{TellsLacking, with_added}
+use Rattle.sim_merge.proofs.Common.{◌≡◌, reverse, length, fold, contains_text, TellsLacking, with_added}
 use Rattle.sim_merge.proofs.words.with_added.Given as goal
 
 abbrev pub invariant-loop-word : goal.invariant-loop-word

@@ -1,10 +1,4 @@
-use Rattle.std.proofs.Common.{fold, reverse, ap, ◌∙◌}
-use Rattle.std.specs.List.{join_with_byte}
-use Rattle.std.specs.Option.{option_copied}
-use Rattle.std.specs.BTreeSet.{contains_text}
-use Rattle.sim_tree.specs.Tokens.{tokens_in}
-use Rattle.sim_merge.specs.Values.{words_over, with_word}
-use Rattle.sim_merge.specs.Survivors.{with_added}
+use Rattle.sim_merge.proofs.Common.{reverse, fold, option_copied, ap, contains_text, join_with_byte, tokens_in, with_added, with_word, words_over, ◌∙◌}
 use Rattle.sim_merge.proofs.SurvivorLemmas.{words_by_changes}
 use Rattle.sim_merge.proofs.words.words_over.Goals as goal
 

@@ -1,11 +1,11 @@
 -- The target stands inside, and its square is tested against a range within the limits.
-use Rattle.std.proofs.Common.{◌≡◌, Some, sym, rules}
-use Rattle.sim_base.specs.Rows.{arms_of}
-use Rattle.sim_plans.proofs.Bounds.{found_placed, found_inside, arms_limited}
+use Rattle.{sim_base.specs.Rows.arms_of, sim_plans.proofs.Bounds.arms_limited, sim_plans.proofs.Bounds.found_inside, sim_plans.proofs.Bounds.found_placed}
+use Rattle.std.proofs.Common.{◌≡◌, Some, rules, sym}
 use Rattle.sim_motion.proofs.chase.chase_of.Goals as goal
 
 pub is_near-requires-clause-from : goal.is_near-requires-clause-from
-is_near-requires-clause-from c = found_placed c.args.setup.now c.args.state.now c.target_of.result c.in-Some-find_row.target.now c.requires.limits c.requires.valid (sym c.in-Some-find_row.ensures)
+is_near-requires-clause-from c = found_placed c.args.setup.now c.args.state.now c.target_of.result c.in-Some-find_row.target.now c.requires.limits
+    c.requires.valid (sym c.in-Some-find_row.ensures)
 
 pub is_near-requires-clause-radius : goal.is_near-requires-clause-radius
 is_near-requires-clause-radius c =
@@ -13,4 +13,5 @@ is_near-requires-clause-radius c =
     (arms_limited c.args.setup.now c.args.row.now c.in-Some.arms c.requires.limits e).range
 
 pub returns-in_default-motion-clause-inside : goal.returns-in_default-motion-clause-inside
-returns-in_default-motion-clause-inside c = found_inside c.args.setup.now c.args.state.now c.target_of.result c.in-Some-find_row.target.now c.requires.valid (sym c.in-Some-find_row.ensures)
+returns-in_default-motion-clause-inside c = found_inside c.args.setup.now c.args.state.now c.target_of.result c.in-Some-find_row.target.now c.requires.valid
+    (sym c.in-Some-find_row.ensures)

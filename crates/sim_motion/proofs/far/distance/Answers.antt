@@ -1,6 +1,4 @@
-use Rattle.std.proofs.Common.{sym, ap, ◌∙◌}
-use Rattle.sim_base.specs.Numbers.{root}
-use Rattle.sim_base.proofs.RootLemmas.{root_is}
+use Rattle.{sim_base.proofs.RootLemmas.root_is, sim_base.specs.Numbers.root, std.proofs.Common.ap, std.proofs.Common.sym, std.proofs.Common.◌∙◌}
 use Rattle.sim_motion.proofs.far.distance.Goals as goal
 
 pub returns-then-is_root : goal.returns-then-is_root

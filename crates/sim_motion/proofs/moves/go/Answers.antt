@@ -1,9 +1,6 @@
 -- The points of the way lie inside.
-use Rattle.std.proofs.Common.{List, sym, ap, ◌∙◌, subst, All}
-use Rattle.sim_base.specs.declared.place.Point.{Point}
-use Rattle.sim_base.specs.Places.{IsPlaced}
-use Rattle.sim_base.specs.Filters.{field_of}
-use Rattle.sim_base.specs.Ways.{Way}
+use Rattle.std.proofs.Common.{List, All, ap, subst, sym, ◌∙◌}
+use Rattle.sim_base.specs.{Filters.field_of, Places.IsPlaced, Ways.Way, declared.place.Point.Point}
 use Rattle.sim_plans.proofs.Bounds.{ground, way_placed}
 use Rattle.sim_motion.proofs.moves.go.Goals as goal
 
@@ -11,4 +8,5 @@ pub along-requires-clause-way : goal.along-requires-clause-way
 along-requires-clause-way g c =
     let scene = c.args.scene.now in
     subst (λ (ps : List Point). All IsPlaced ps) (sym (c.as_slice-points.ensures ∙ ap (λ (w : Way). w.points) c.in_ok-way.ensures))
-    (way_placed (field_of scene.setup.now scene.state.now) c.args.row.now.at c.args.goal.now (ground scene.setup.now c.requires.stands.limits) c.requires.at c.requires.goal)
+    (way_placed (field_of scene.setup.now scene.state.now) c.args.row.now.at c.args.goal.now (ground scene.setup.now c.requires.stands.limits) c.requires.at
+    c.requires.goal)

@@ -1,5 +1,4 @@
-use Rattle.std.proofs.Common.{◌≡◌, flat_map, take}
-use Rattle.sim_plans.specs.Plans.{move_changes_of}
+use Rattle.{sim_plans.specs.Plans.move_changes_of, std.proofs.Common.◌≡◌, std.proofs.Common.take, std.proofs.Common.flat_map}
 use Rattle.sim_motion.proofs.phase.listed_moves.Given as goal
 
 abbrev pub invariant-loop-row : goal.invariant-loop-row

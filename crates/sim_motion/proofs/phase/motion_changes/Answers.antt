@@ -1,7 +1,4 @@
-use Rattle.sim_base.specs.Move.{moved}
-use Rattle.sim_plans.specs.Plans.{move_plan}
-use Rattle.sim_plans.proofs.Answered.{answered}
-use Rattle.sim_plans.proofs.MovePlan.{move_plan_is}
+use Rattle.{sim_base.specs.Move.moved, sim_plans.proofs.Answered.answered, sim_plans.proofs.MovePlan.move_plan_is, sim_plans.specs.Plans.move_plan}
 use Rattle.sim_motion.proofs.phase.motion_changes.Goals as goal
 
 pub returns : goal.returns

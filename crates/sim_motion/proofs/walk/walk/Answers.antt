@@ -1,7 +1,6 @@
-use Rattle.std.proofs.Common.{◌≤◌, length, sym, ◌∙◌, subst}
-use Rattle.std.proofs.lemmas.List.Elements.{All-take, All-drop, All-get_or}
-use Rattle.sim_base.specs.Places.{IsPlaced}
-use Rattle.sim_motion.proofs.Walking.{walk_more}
+use Rattle.{sim_base.specs.Places.IsPlaced, sim_motion.proofs.Walking.walk_more}
+use Rattle.std.proofs.Common.{◌≤◌, length, subst, sym, ◌∙◌}
+use Rattle.std.proofs.lemmas.List.Elements.{All-drop, All-get_or, All-take}
 use Rattle.sim_motion.proofs.walk.walk.Goals as goal
 
 pub loop-rest-preserved : goal.loop-rest-preserved
@@ -10,7 +9,8 @@ loop-rest-preserved c =
     let next = c.next-item.result in
     let some : 1 ≤ length rest = c.in-len1-up.len_at_least in
     record {
-      walk = walk_more c.loop-rest.at c.loop-rest.budget rest next c.distance-far.result some c.next-item.is c.distance-far.ensures c.if-far-budget.false ∙ c.loop-rest.invariant.walk;
+      walk = walk_more c.loop-rest.at c.loop-rest.budget rest next c.distance-far.result some c.next-item.is c.distance-far.ensures c.if-far-budget.false ∙
+          c.loop-rest.invariant.walk;
       at = subst IsPlaced (sym c.next-item.is) (All-get_or IsPlaced rest 0 next some c.loop-rest.invariant.rest);
       rest = All-take IsPlaced _ _ (All-drop IsPlaced 1 rest c.loop-rest.invariant.rest);
     }

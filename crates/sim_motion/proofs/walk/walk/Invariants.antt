@@ -1,7 +1,5 @@
 -- The rest of the walk gives the walk.
-use Rattle.std.proofs.Common.{◌≡◌, All, length}
-use Rattle.sim_base.specs.Places.{IsPlaced}
-use Rattle.sim_base.specs.Move.{walked}
+use Rattle.{sim_base.specs.Move.walked, sim_base.specs.Places.IsPlaced, std.proofs.Common.◌≡◌, std.proofs.Common.length, std.proofs.Common.All}
 use Rattle.sim_motion.proofs.walk.walk.Given as goal
 
 abbrev pub invariant-loop-rest : goal.invariant-loop-rest

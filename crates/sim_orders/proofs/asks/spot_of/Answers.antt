@@ -1,6 +1,5 @@
 -- A building that is alive stands inside.
-use Rattle.std.proofs.Common.{sym}
-use Rattle.sim_plans.proofs.Bounds.{found_inside}
+use Rattle.sim_orders.proofs.Common.{found_inside, sym}
 use Rattle.sim_orders.proofs.asks.spot_of.Goals as goal
 
 pub spot-requires-clause-inside : goal.spot-requires-clause-inside

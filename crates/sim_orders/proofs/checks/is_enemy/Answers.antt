@@ -1,6 +1,5 @@
 -- The owner of a row that is found has a bit in a mask.
-use Rattle.std.proofs.Common.{sym}
-use Rattle.sim_plans.proofs.Bounds.{found_owned}
+use Rattle.sim_orders.proofs.Common.{found_owned, sym}
 use Rattle.sim_orders.proofs.checks.is_enemy.Goals as goal
 
 pub is_enemy_of-requires-clause-other : goal.is_enemy_of-requires-clause-other

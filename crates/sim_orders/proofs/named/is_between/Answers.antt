@@ -1,10 +1,10 @@
-use Rattle.std.proofs.Common.{◌≡◌, sym}
-use Rattle.std.proofs.lemmas.Bool.{leb-false}
-use Rattle.sim_orders.proofs.Halves.{none_below, none_above}
+use Rattle.sim_orders.proofs.{Common.leb-false, Common.sym, Halves.none_above, Halves.none_below}
 use Rattle.sim_orders.proofs.named.is_between.Goals as goal
 
 pub returns-then-first-id : goal.returns-then-first-id
-returns-then-first-id c = λ d. none_above c.args.ids.now c.args.id c.in-Some-Some.last.now c.requires (sym c.in-Some-Some.ensures'.value) (leb-false c.args.id c.in-Some-Some.last.now d)
+returns-then-first-id c = λ d. none_above c.args.ids.now c.args.id c.in-Some-Some.last.now c.requires (sym c.in-Some-Some.ensures'.value)
+    (leb-false c.args.id c.in-Some-Some.last.now d)
 
 pub returns-else-first-id : goal.returns-else-first-id
-returns-else-first-id c = λ d. none_below c.args.ids.now c.args.id c.in-Some-Some.first.now c.requires (sym c.in-Some-Some.ensures.value) (leb-false c.in-Some-Some.first.now c.args.id d)
+returns-else-first-id c = λ d. none_below c.args.ids.now c.args.id c.in-Some-Some.first.now c.requires (sym c.in-Some-Some.ensures.value)
+    (leb-false c.in-Some-Some.first.now c.args.id d)

@@ -1,5 +1,4 @@
-use Rattle.std.proofs.Common.{◌≡◌, ◌∙◌}
-use Rattle.sim_orders.proofs.Halves.{named_by_halves}
+use Rattle.sim_orders.proofs.{Common.◌∙◌, Halves.named_by_halves}
 use Rattle.sim_orders.proofs.named.is_named.Goals as goal
 
 pub returns-then-is_between : goal.returns-then-is_between

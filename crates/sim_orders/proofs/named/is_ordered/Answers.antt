@@ -1,7 +1,4 @@
-use Rattle.std.proofs.Common.{◌≡◌, Bool, true, sym, ap, ◌∙◌}
-use Rattle.std.specs.Prelude.{◌==◌, ◌&&◌}
-use Rattle.std.specs.List.{list_any}
-use Rattle.std.proofs.lemmas.Bool.{eq-eqb}
+use Rattle.sim_orders.proofs.Common.{◌≡◌, Bool, true, ◌&&◌, ◌==◌, ap, eq-eqb, list_any, sym, ◌∙◌}
 use Rattle.sim_orders.proofs.named.is_ordered.Goals as goal
 
 pub returns-then-row-player : goal.returns-then-row-player

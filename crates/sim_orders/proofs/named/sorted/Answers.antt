@@ -1,7 +1,5 @@
 -- What a sort of numbers ensures is that they ascend.
-use Rattle.std.proofs.Common.{List, ℕ, sym, subst}
-use Rattle.std.specs.List.Sorted.{IsNonDecreasing}
-use Rattle.std.proofs.lemmas.List.Sorted.{IsNonDecreasingBy-from_sort}
+use Rattle.sim_orders.proofs.Common.{ℕ, List, IsNonDecreasing, IsNonDecreasingBy-from_sort, subst, sym}
 use Rattle.sim_orders.proofs.named.sorted.Goals as goal
 
 pub returns-clause-ascending : goal.returns-clause-ascending

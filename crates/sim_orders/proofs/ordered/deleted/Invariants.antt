@@ -1,8 +1,4 @@
-use Rattle.std.proofs.Common.{◌≡◌, map, take}
-use Rattle.std.specs.Prelude.{filter}
-use Rattle.sim_base.specs.declared.change.Change.TheVariants.{Remove}
-use Rattle.sim_base.specs.Rows.{id_of}
-use Rattle.sim_base.specs.Commands.{is_ordered}
+use Rattle.sim_orders.proofs.Common.{◌≡◌, map, take, filter, id_of, is_ordered, Remove}
 use Rattle.sim_orders.proofs.ordered.deleted.Given as goal
 
 abbrev pub invariant-loop-row : goal.invariant-loop-row

@@ -1,7 +1,4 @@
-use Rattle.std.proofs.Common.{◌≡◌, [], ◌∷◌, cond, flat_map, take}
-use Rattle.std.specs.Prelude.{◌==◌}
-use Rattle.sim_base.specs.declared.state.Row.{Row}
-use Rattle.sim_base.specs.declared.change.Change.TheVariants.{Owner}
+use Rattle.sim_orders.proofs.Common.{◌≡◌, cond, [], ◌∷◌, take, ◌==◌, flat_map, Owner, Row}
 use Rattle.sim_orders.proofs.ordered.resigned.Given as goal
 
 abbrev pub invariant-loop-row : goal.invariant-loop-row

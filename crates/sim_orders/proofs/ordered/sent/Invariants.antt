@@ -1,6 +1,4 @@
-use Rattle.std.proofs.Common.{◌≡◌, [], cond, flat_map, take}
-use Rattle.sim_base.specs.Commands.{is_ordered}
-use Rattle.sim_plans.specs.CommandPlans.{sent_changes}
+use Rattle.sim_orders.proofs.Common.{◌≡◌, cond, [], take, flat_map, is_ordered, sent_changes}
 use Rattle.sim_orders.proofs.ordered.sent.Given as goal
 
 abbrev pub invariant-loop-row : goal.invariant-loop-row

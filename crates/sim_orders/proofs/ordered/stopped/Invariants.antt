@@ -1,6 +1,4 @@
-use Rattle.std.proofs.Common.{◌≡◌, [], cond, flat_map, take}
-use Rattle.sim_base.specs.Commands.{is_ordered}
-use Rattle.sim_plans.specs.CommandPlans.{stop_changes}
+use Rattle.sim_orders.proofs.Common.{◌≡◌, cond, [], take, flat_map, is_ordered, stop_changes}
 use Rattle.sim_orders.proofs.ordered.stopped.Given as goal
 
 abbrev pub invariant-loop-row : goal.invariant-loop-row

@@ -1,7 +1,4 @@
-use Rattle.std.proofs.Common.{sym, ap, ◌∙◌, subst}
-use Rattle.std.specs.List.Sorted.{IsPermutation}
-use Rattle.sim_plans.specs.CommandPlans.{command_plan_by}
-use Rattle.sim_plans.proofs.Answered.{of_answer}
+use Rattle.sim_orders.proofs.Common.{IsPermutation, ap, command_plan_by, of_answer, subst, sym, ◌∙◌}
 use Rattle.sim_orders.proofs.Planning.{plan_obeys, sorted_removals}
 use Rattle.sim_orders.proofs.planners.delete_changes.Goals as goal
 

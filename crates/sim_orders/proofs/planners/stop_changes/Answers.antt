@@ -1,7 +1,4 @@
-use Rattle.std.proofs.Common.{sym, ap, ◌∙◌, subst}
-use Rattle.std.specs.List.Sorted.{IsPermutation}
-use Rattle.sim_plans.specs.CommandPlans.{stop_changes, command_plan_by}
-use Rattle.sim_plans.proofs.Answered.{of_answer}
+use Rattle.sim_orders.proofs.Common.{IsPermutation, ap, command_plan_by, of_answer, stop_changes, subst, sym, ◌∙◌}
 use Rattle.sim_orders.proofs.Planning.{plan_obeys, sorted_changes}
 use Rattle.sim_orders.proofs.planners.stop_changes.Goals as goal
 
@@ -14,5 +11,6 @@ returns-clause-obeys c =
     let sorted = c.as_slice-2.result.now in
     let same : IsPermutation ids sorted = subst (IsPermutation ids) (sym c.as_slice-2.ensures) c.in_ok-ids.ensures.same in
     plan_obeys 2 setup state c.args.help.now player c.args.command.now c.stopped.result c.requires (λ changes e.
-    sorted_changes player ids sorted stop_changes c.as_slice.result.now state changes same c.as_slice.ensures (of_answer _ c.stopped.result changes e c.stopped.ensures) ∙
+    sorted_changes player ids sorted stop_changes c.as_slice.result.now state changes same c.as_slice.ensures
+    (of_answer _ c.stopped.result changes e c.stopped.ensures) ∙
     ap (command_plan_by setup state player) (sym c.in-Stop.is))

@@ -1,16 +1,6 @@
-use Rattle.std.proofs.Common.{◌≡◌, Bool, true, [], ◌∷◌, Some, sym, ap, ◌∙◌}
-use Rattle.std.specs.Prelude.{◌==◌, ◌&&◌, nat_lt, length, slice_get}
-use Rattle.std.proofs.lemmas.Bool.{eq-eqb}
-use Rattle.sim_base.specs.declared.command.Command.TheVariants.{Train}
-use Rattle.sim_base.specs.declared.place.Point.{Point}
-use Rattle.sim_base.specs.declared.change.Change.TheVariants.{Create}
-use Rattle.sim_base.specs.Rows.{row_of, template_of}
-use Rattle.sim_base.specs.Commands.{trains, has_room}
-use Rattle.sim_plans.specs.CommandPlans.{command_plan_by}
-use Rattle.sim_orders.specs.Helps.{spot_for}
-use Rattle.sim_orders.proofs.Spots.{spot_small}
-use Rattle.sim_plans.proofs.Answered.{of_answer}
-use Rattle.sim_orders.proofs.Planning.{train_there, plan_obeys}
+use Rattle.sim_orders.proofs.{Planning.plan_obeys, Planning.train_there, Spots.spot_small}
+use Rattle.sim_orders.proofs.Common.{of_answer, Point, row_of, spot_for, sym, template_of, Train, trains, ◌∙◌}
+use Rattle.sim_orders.proofs.Common.{◌≡◌, Bool, true, ◌&&◌, [], ◌∷◌, length, nat_lt, ◌==◌, slice_get, Some, ap, command_plan_by, Create, eq-eqb, has_room}
 use Rattle.sim_orders.proofs.planners.train_changes.Goals as goal
 
 pub centre_of-requires-clause-x : goal.centre_of-requires-clause-x
@@ -33,12 +23,15 @@ returns-in-Some-spot-clause-obeys c =
     let row = c.in-Some.row.now in
     let cell = c.in-Some-spot.cell in
     let found_is : row_of state building ≡ Some row = sym c.in-Some.ensures in
-    let spot_is : spot_for setup state (Train building number) ≡ Some cell = ap (spot_for setup state) (sym c.in-Train.is) ∙ sym c.requires.help_is.spot ∙ c.in-Some-spot.is in
+    let spot_is : spot_for setup state (Train building number) ≡ Some cell = ap (spot_for setup state) (sym c.in-Train.is) ∙ sym c.requires.help_is.spot ∙
+    c.in-Some-spot.is in
     let own : (row.owner == player) ≡ true = eq-eqb row.owner player c.if-row-player.false in
     let room : has_room setup state player ≡ true =
-    ap (λ n. nat_lt (length state.rows) 4096 && nat_lt state.next 0x20000000 && nat_lt n setup.cap) (sym c.requires.help_is.count) ∙ sym c.has_room.ensures ∙ c.if-not-has_room.false in
+    ap (λ n. nat_lt (length state.rows) 4096 && nat_lt state.next 0x20000000 && nat_lt n setup.cap) (sym c.requires.help_is.count) ∙ sym c.has_room.ensures ∙
+    c.if-not-has_room.false in
     let may : (row.owner == player && trains (template_of setup row) number (slice_get setup.templates number) && has_room setup state player) ≡ true =
     ap (λ (b : Bool). b && trains (template_of setup row) number (slice_get setup.templates number) && has_room setup state player) own ∙
     ap (λ (b : Bool). b && has_room setup state player) (sym c.trains.ensures ∙ c.if-not-trains.false) ∙ room in
     plan_obeys 6 setup state c.args.help.now player c.args.command.now c.created.result c.requires (λ changes e.
-    of_answer _ c.created.result changes e c.created.ensures ∙ ap (λ (p : Point). Create number p player ∷ []) c.centre_of.ensures ∙ sym (train_there setup state player number building row cell found_is may spot_is) ∙ ap (command_plan_by setup state player) (sym c.in-Train.is))
+    of_answer _ c.created.result changes e c.created.ensures ∙ ap (λ (p : Point). Create number p player ∷ []) c.centre_of.ensures ∙
+    sym (train_there setup state player number building row cell found_is may spot_is) ∙ ap (command_plan_by setup state player) (sym c.in-Train.is))

@@ -1,11 +1,5 @@
-use Rattle.std.proofs.Common.{◌≡◌, true, [], sym, ap, ◌∙◌, subst, rules}
-use Rattle.std.specs.List.Sorted.{IsPermutation}
-use Rattle.std.proofs.lemmas.Bool.{cond-true}
-use Rattle.sim_base.specs.Places.{is_inside}
-use Rattle.sim_base.specs.Rows.{size_of}
-use Rattle.sim_plans.specs.CommandPlans.{sent_changes, ordered_changes, command_plan_by}
-use Rattle.sim_plans.proofs.Answered.{of_answer}
-use Rattle.sim_orders.proofs.Planning.{plan_obeys, sorted_changes}
+use Rattle.sim_orders.proofs.{Common.size_of, Common.subst, Common.sym, Common.◌∙◌, Planning.plan_obeys, Planning.sorted_changes}
+use Rattle.sim_orders.proofs.Common.{◌≡◌, true, [], IsPermutation, ap, command_plan_by, cond-true, is_inside, of_answer, ordered_changes, rules, sent_changes}
 use Rattle.sim_orders.proofs.planners.walk_changes.Goals as goal
 
 pub returns-clause-obeys : goal.returns-clause-obeys
@@ -19,5 +13,7 @@ returns-clause-obeys c =
     let same : IsPermutation ids sorted = subst (IsPermutation ids) (sym c.as_slice-2.ensures) c.in_ok-ids.ensures.same in
     let inside : is_inside (size_of setup.land) to ≡ true = search rules in
     plan_obeys 1 setup state c.args.help.now player c.args.command.now c.sent.result c.requires (λ changes e.
-    sorted_changes player ids sorted (sent_changes to) c.as_slice.result.now state changes same c.as_slice.ensures (of_answer _ c.sent.result changes e c.sent.ensures) ∙
-    sym (cond-true (is_inside (size_of setup.land) to) (ordered_changes player ids (sent_changes to) state) [] inside) ∙ ap (command_plan_by setup state player) (sym c.in-Walk.is))
+    sorted_changes player ids sorted (sent_changes to) c.as_slice.result.now state changes same c.as_slice.ensures
+    (of_answer _ c.sent.result changes e c.sent.ensures) ∙
+    sym (cond-true (is_inside (size_of setup.land) to) (ordered_changes player ids (sent_changes to) state) [] inside) ∙ ap (command_plan_by setup state player)
+    (sym c.in-Walk.is))

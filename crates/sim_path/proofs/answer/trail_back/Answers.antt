@@ -1,9 +1,4 @@
-use Rattle.std.proofs.Common.{Result, Ok, Err, OnOk, subst}
-use Rattle.sim_base.specs.declared.place.Cell.{Cell}
-use Rattle.sim_base.specs.Places.{cell_of}
-use Rattle.sim_base.specs.Ways.{IsTrail}
-use Rattle.sim_grid.specs.Grids.{field_of_grid}
-use Rattle.sim_path.specs.WayEnds.{IsTrailToEnd}
+use Rattle.sim_path.proofs.Common.{OnOk, Ok, Err, Result, Cell, cell_of, field_of_grid, IsTrail, IsTrailToEnd, subst}
 use Rattle.sim_path.proofs.answer.trail_back.Goals as goal
 
 on_ok : {E : Type 0} (r : Result (Unit {0}) E) (P Q : Type 0) → (P → Q) → OnOk r P → OnOk r Q
@@ -16,5 +11,9 @@ returns c =
     let from = cell_of c.args.start.now in
     let trail = c.trail_from.new.trail.items in
     on_ok c.trail_from.result (IsTrail field c.cell_of-from.result c.args.end.cell trail) (IsTrailToEnd field from (cell_of c.args.goal.now) trail)
-    (λ h. record { end = c.args.end; is_end = c.requires.end; is_trail = subst (λ (v : Cell). IsTrail field v c.args.end.cell trail) c.cell_of-from.ensures.cell h })
+    (λ h. record {
+      end = c.args.end;
+      is_end = c.requires.end;
+      is_trail = subst (λ (v : Cell). IsTrail field v c.args.end.cell trail) c.cell_of-from.ensures.cell h;
+    })
     c.trail_from.ensures

@@ -1,12 +1,5 @@
-use Rattle.std.proofs.Common.{subst, refl, Option}
-use Rattle.sim_grid.specs.Grids.{field_of_grid}
-use Rattle.sim_path.specs.declared.reached.Reached.{Reached}
-use Rattle.sim_search.specs.Estimates.{estimate_to}
-use Rattle.sim_path.specs.WayEnds.{IsBestOf}
-use Rattle.sim_search.specs.Tables.{cost_in}
-use Rattle.sim_path.proofs.BestOf.{end-by_search, all-by_none}
-use Rattle.sim_path.proofs.Ends.{back-of_all}
-use Rattle.sim_path.proofs.Found.{start-costs, all-end}
+use Rattle.sim_path.proofs.{BestOf.all-by_none, BestOf.end-by_search, Ends.back-of_all, Found.all-end, Found.start-costs}
+use Rattle.sim_path.proofs.Common.{Option, refl, cost_in, estimate_to, field_of_grid, IsBestOf, Reached, subst}
 use Rattle.sim_path.proofs.answer.way_end.Goals as goal
 
 pub end_of-requires : goal.end_of-requires
@@ -22,7 +15,8 @@ returns-in-Some c =
     let aim = c.args.aim in
     let cost = cost_in c.args.costs.now in
     let best = subst (λ (o : Option Reached). IsBestOf cost aim.goal c.args.ends.now o) c.in-Some.is c.best_of.ensures in
-    end-by_search (field_of_grid c.args.grid.now) c.args.start aim.goal aim.near c.args.ends.now cost c.in-Some.end aim refl refl c.requires.ends best c.requires.costs
+    end-by_search (field_of_grid c.args.grid.now) c.args.start aim.goal aim.near c.args.ends.now cost c.in-Some.end aim refl refl c.requires.ends best
+    c.requires.costs
 
 pub returns-in-None : goal.returns-in-None
 returns-in-None c =

@@ -1,6 +1,4 @@
-use Rattle.std.proofs.Common.{ℕ}
-use Rattle.sim_grid.proofs.Bits.{AreBits}
-use Rattle.sim_path.specs.Away.{leads_away}
+use Rattle.sim_path.proofs.Common.{ℕ, AreBits, leads_away}
 use Rattle.sim_path.proofs.away.away_from.Given as goal
 
 abbrev pub invariant-loop-which : goal.invariant-loop-which

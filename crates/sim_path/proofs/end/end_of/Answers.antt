@@ -1,4 +1,4 @@
-use Rattle.std.proofs.Common.{arith}
+use Rattle.sim_path.proofs.Common.{arith}
 use Rattle.sim_path.proofs.end.end_of.Goals as goal
 
 pub loop-z-init : goal.loop-z-init

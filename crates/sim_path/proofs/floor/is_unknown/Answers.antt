@@ -1,8 +1,6 @@
-use Rattle.std.proofs.Common.{◌≡◌, ℕ, ◌≤◌, Bool, not, true, false, leb, Option, Some, None, refl, sym, ◌∙◌, arith}
-use Rattle.std.specs.Option.{is_some}
-use Rattle.std.proofs.lemmas.Bool.{true≢false, false≢true, leb-true, le-leb}
+use Rattle.sim_path.proofs.{Common.true≢false, Common.◌∙◌, floor.is_unknown.Goals.else-is_none, floor.is_unknown.Goals.then-is_none}
+use Rattle.sim_path.proofs.Common.{◌≡◌, ℕ, ◌≤◌, Bool, true, false, not, leb, is_some, Some, None, Option, refl, arith, false≢true, le-leb, leb-true, sym}
 use Rattle.sim_path.proofs.floor.is_unknown.Goals as goal
-use Rattle.sim_path.proofs.floor.is_unknown.Goals.{then-is_none, else-is_none}
 
 none_by : (o : Option ℕ) (b : Bool) → is_some o ≡ not b → b ≡ true → o ≡ None
 none_by None b e t = refl

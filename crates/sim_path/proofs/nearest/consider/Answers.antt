@@ -1,4 +1,4 @@
-use Rattle.std.proofs.lemmas.Result.{IfOk-from_err}
+use Rattle.sim_path.proofs.Common.{IfOk-from_err}
 use Rattle.sim_path.proofs.nearest.consider.Goals as goal
 
 pub returns-in_err-push : goal.returns-in_err-push

@@ -1,11 +1,9 @@
-use Rattle.std.proofs.Common.{arith}
-use Rattle.std.proofs.lemmas.Result.{IfOk-from_err}
-use Rattle.sim_grid.specs.Grids.{field_of_grid}
-use Rattle.sim_path.proofs.NearestEnds.{rows-begin, rows-done}
+use Rattle.sim_path.proofs.{Common.arith, Common.field_of_grid, Common.IfOk-from_err, NearestEnds.rows-begin, NearestEnds.rows-done}
 use Rattle.sim_path.proofs.nearest.scan.Goals as goal
 
 pub loop-z-init : goal.loop-z-init
-loop-z-init c = rows-begin (field_of_grid c.args.grid.now) c.args.start c.args.goal c.args.window c.args.window.z0 _ (omega arith) c.new.ensures.items (omega arith)
+loop-z-init c = rows-begin (field_of_grid c.args.grid.now) c.args.start c.args.goal c.args.window c.args.window.z0 _ (omega arith) c.new.ensures.items
+    (omega arith)
 
 pub loop-z-preserved : goal.loop-z-preserved
 loop-z-preserved c = c.in_ok-scan_row.ensures

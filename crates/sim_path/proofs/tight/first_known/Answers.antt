@@ -1,10 +1,5 @@
-use Rattle.std.proofs.Common.{◌≡◌, ℕ, true, arith}
-use Rattle.sim_base.specs.declared.place.Cell.{Cell}
-use Rattle.sim_grid.specs.Grids.{field_of_grid}
-use Rattle.sim_path.specs.MarkTables.{marked_in}
-use Rattle.sim_path.specs.Floors.{floor_of}
-use Rattle.sim_path.specs.Straight.{IsTightStep}
 use Rattle.sim_path.proofs.AwaySteps.{one-more}
+use Rattle.sim_path.proofs.Common.{◌≡◌, ℕ, true, arith, Cell, field_of_grid, floor_of, IsTightStep, marked_in}
 use Rattle.sim_path.proofs.tight.first_known.Goals as goal
 
 pub loop-which-init : goal.loop-which-init
@@ -15,7 +10,8 @@ returns-in-Some c = (c.loop-which.which, c.loop-which-test.true, c.tight_step.en
 
 pub loop-which-preserved : goal.loop-which-preserved
 loop-which-preserved c =
-    let Dead : ℕ → Type 0 = λ j. (p : Cell) → IsTightStep (field_of_grid c.args.grid.now) c.args.start (floor_of c.args.front.now c.args.start) c.args.at.cell p j → marked_in c.args.dead.now p ≡ true in
+    let Dead : ℕ → Type 0 = λ j. (p : Cell) → IsTightStep (field_of_grid c.args.grid.now) c.args.start (floor_of c.args.front.now c.args.start) c.args.at.cell p
+    j → marked_in c.args.dead.now p ≡ true in
     let all = one-more Dead c.loop-which.which (λ j lt p t. c.loop-which.invariant j p lt t) (c.tight_step.ensures.none c.in_default.is) in
     λ j p lt t. all j lt p t
 

@@ -1,14 +1,7 @@
-use Rattle.std.proofs.Common.{◌≡◌, ℕ, true, sym, ◌∙◌, arith}
-use Rattle.std.specs.Int.{bit_at}
-use Rattle.std.proofs.lemmas.Nat.Bits.{shr_and_one}
-use Rattle.sim_base.specs.declared.place.Cell.{Cell}
-use Rattle.sim_grid.specs.Grids.{field_of_grid}
-use Rattle.sim_path.specs.MarkTables.{marked_in}
-use Rattle.sim_path.specs.Floors.{floor_of}
-use Rattle.sim_path.specs.Straight.{IsTightStep}
-use Rattle.sim_path.proofs.AwaySteps.{unknown-near, near-unknown, away-by_bit, bit-by_away, one-more}
+use Rattle.sim_path.proofs.AwaySteps.{away-by_bit, bit-by_away, near-unknown, one-more, unknown-near}
+use Rattle.sim_path.proofs.Common.{◌≡◌, ℕ, true, arith, bit_at, Cell, field_of_grid, floor_of, IsTightStep, marked_in, shr_and_one, sym, ◌∙◌}
+use Rattle.sim_path.proofs.tight.first_unknown.Goals.{else-away-which-eq1, then-away-which-eq1+in_default}
 use Rattle.sim_path.proofs.tight.first_unknown.Goals as goal
-use Rattle.sim_path.proofs.tight.first_unknown.Goals.{then-away-which-eq1+in_default, else-away-which-eq1}
 
 pub returns-in-Some : goal.returns-in-Some
 returns-in-Some c =
@@ -20,8 +13,13 @@ returns-in-Some c =
     let from = c.in-Some.from in
     let near = c.near_step.ensures.some from c.in-Some.is in
     let set : bit_at c.away_from-away.result which ≡ 1 = sym (shr_and_one c.away_from-away.result which) ∙ c.if-away-which-eq1.true in
-    let away = away-by_bit at.cell front.aim.goal c.away_from-away.result which c.loop-which-test.true c.away_from-away.ensures set in
-    (which, c.loop-which-test.true, near-unknown field start front c.requires.front at.cell c.requires.at_on c.requires.free c.requires.unknown from which near.leads away (omega (arith, near.far, c.requires.cost)), c.loop-which.invariant)
+    let away = away-by_bit at.cell front.aim.goal c.away_from-away.result which c.loop-which-test.true c.away_from-away.ensures set in (
+      which,
+      c.loop-which-test.true,
+      near-unknown field start front c.requires.front at.cell c.requires.at_on c.requires.free c.requires.unknown from which
+          near.leads away (omega (arith, near.far, c.requires.cost)),
+      c.loop-which.invariant,
+    )
 
 pub loop-which-preserved : goal.loop-which-preserved
 loop-which-preserved c =
@@ -41,7 +39,8 @@ loop-which-preserved c =
       | else-away-which-eq1 w ↦
           λ p t.
           let (away, near) = unknown-near field start front c.requires.front at.cell c.requires.at_on c.requires.free c.requires.unknown p which t in
-          absurd (w.if-away-which-eq1.false (shr_and_one mask which ∙ bit-by_away at.cell front.aim.goal mask which c.loop-which-test.true c.away_from-away.ensures away))
+          absurd (w.if-away-which-eq1.false (shr_and_one mask which ∙ bit-by_away at.cell front.aim.goal mask which c.loop-which-test.true
+          c.away_from-away.ensures away))
     ]) in
     λ j p lt t. all j lt p t
 

@@ -1,11 +1,5 @@
-use Rattle.std.proofs.Common.{◌≡◌, ◌+◌, List, [], ◌∷◌, ◌++◌, take, get_or, Some, sym, ap, subst}
-use Rattle.std.proofs.lemmas.List.{take_all, take_more}
-use Rattle.sim_base.specs.declared.place.Cell.{Cell}
-use Rattle.sim_path.specs.declared.reached.Reached.{Reached}
-use Rattle.sim_path.specs.WayEnds.{IsBestOf}
-use Rattle.sim_path.specs.Floors.{floor_of}
-use Rattle.sim_path.specs.Straight.{floor_cost}
-use Rattle.sim_path.proofs.BestOf.{best_of-none, best_of-more}
+use Rattle.sim_path.proofs.{BestOf.best_of-more, BestOf.best_of-none, Common.take_more}
+use Rattle.sim_path.proofs.Common.{◌≡◌, ◌+◌, List, [], ◌∷◌, ◌++◌, get_or, take, Some, ap, Cell, floor_cost, floor_of, IsBestOf, Reached, subst, sym, take_all}
 use Rattle.sim_path.proofs.tight.tight_end.Goals as goal
 
 pub loop-cell-init : goal.loop-cell-init
@@ -21,7 +15,9 @@ loop-cell-preserved c =
     let is : cost x ≡ Some c.floor_at-cost.result = ap Some (sym c.floor_at-cost.ensures) in
     let this : Reached = record { cell = x; cost = c.floor_at-cost.result } in
     subst (λ (l : List Cell). IsBestOf cost c.args.goal l (Some c.better_than.result)) (sym more)
-    (subst (λ (r : Reached). IsBestOf cost c.args.goal (take i xs ++ x ∷ []) (Some r)) (sym c.better_than.ensures) (best_of-more cost c.args.goal (take i xs) x c.floor_at-cost.result c.loop-cell.best is c.loop-cell.invariant))
+    (subst (λ (r : Reached). IsBestOf cost c.args.goal (take i xs ++ x ∷ []) (Some r)) (sym c.better_than.ensures)
+    (best_of-more cost c.args.goal (take i xs) x c.floor_at-cost.result c.loop-cell.best is c.loop-cell.invariant))
 
 pub returns : goal.returns
-returns c = subst (λ (l : List Cell). IsBestOf (floor_cost (floor_of c.args.front.now c.args.start)) c.args.goal l c.loop-cell.best) (take_all c.loop-cell.cell-index c.args.ends.now c.loop-cell-test.false) c.loop-cell.invariant
+returns c = subst (λ (l : List Cell). IsBestOf (floor_cost (floor_of c.args.front.now c.args.start)) c.args.goal l c.loop-cell.best)
+    (take_all c.loop-cell.cell-index c.args.ends.now c.loop-cell-test.false) c.loop-cell.invariant

@@ -1,7 +1,4 @@
-use Rattle.std.proofs.Common.{take}
-use Rattle.sim_path.specs.WayEnds.{IsBestOf}
-use Rattle.sim_path.specs.Floors.{floor_of}
-use Rattle.sim_path.specs.Straight.{floor_cost}
+use Rattle.sim_path.proofs.Common.{take, floor_cost, floor_of, IsBestOf}
 use Rattle.sim_path.proofs.tight.tight_end.Given as goal
 
 abbrev pub invariant-loop-cell : goal.invariant-loop-cell

@@ -1,14 +1,7 @@
-use Rattle.std.proofs.Common.{◌≡◌, ℕ, ◌+◌, ◌-◌, ◌≤◌, Option, Some, None, sym, ap, ◌∙◌, subst, arith}
-use Rattle.std.specs.Option.{SomeIff}
-use Rattle.std.proofs.lemmas.Bool.{true≢false}
-use Rattle.std.proofs.lemmas.Option.{none-some, same_Some}
-use Rattle.sim_base.specs.declared.place.Cell.{Cell}
-use Rattle.sim_grid.specs.Grids.{field_of_grid}
-use Rattle.sim_path.specs.MarkTables.{marked_in}
-use Rattle.sim_path.specs.Floors.{floor_of}
-use Rattle.sim_path.specs.Straight.{IsTightStep}
+use Rattle.sim_path.proofs.Common.{none-some, same_Some, subst, sym, true≢false, ◌∙◌}
+use Rattle.sim_path.proofs.Common.{◌≡◌, ℕ, ◌+◌, ◌-◌, ◌≤◌, SomeIff, Some, None, Option, ap, arith, Cell, field_of_grid, floor_of, IsTightStep, marked_in}
+use Rattle.sim_path.proofs.tight.tight_step.Goals.{else-is_floor-via-else-is_floor, else-is_floor-via-then-is_floor+else-not-at}
 use Rattle.sim_path.proofs.tight.tight_step.Goals as goal
-use Rattle.sim_path.proofs.tight.tight_step.Goals.{else-is_floor-via-then-is_floor+else-not-at, else-is_floor-via-else-is_floor}
 
 too_little : (step to floor n all : ℕ) → SomeIff None (step ≤ to) (to - step) → step ≡ n → to ≡ all → floor + n ≡ all → ⊥
 too_little step to floor n all low e f g = low (omega arith)
@@ -36,7 +29,8 @@ returns-in_err-from-clause-some c = λ p e. absurd (none-some p (sym c.from_resi
 
 pub returns-in_err-cost-clause-none : goal.returns-in_err-cost-clause-none
 returns-in_err-cost-clause-none c =
-    let low = subst (λ (o : Option ℕ). SomeIff o (c.step_cost.result ≤ c.args.at.cost) (c.args.at.cost - c.step_cost.result)) c.in_err-cost.was c.checked_sub.ensures in
+    let low = subst (λ (o : Option ℕ). SomeIff o (c.step_cost.result ≤ c.args.at.cost) (c.args.at.cost - c.step_cost.result)) c.in_err-cost.was
+    c.checked_sub.ensures in
     λ e p t. absurd (too_little c.step_cost.result c.args.at.cost _ _ _ low c.step_cost.ensures c.requires.cost t.sum)
 
 pub returns-in_err-cost-clause-some : goal.returns-in_err-cost-clause-some
@@ -47,21 +41,25 @@ returns-then-not-at-clause-none c = λ e p t. absurd (none-some _ (sym e))
 
 pub returns-then-not-at-clause-some : goal.returns-then-not-at-clause-some
 returns-then-not-at-clause-some c =
-    let left = subst (λ (o : Option ℕ). SomeIff o (c.step_cost.result ≤ c.args.at.cost) (c.args.at.cost - c.step_cost.result)) c.in_ok-cost.was c.checked_sub.ensures in
-    λ p e. subst (λ (v : Cell). IsTightStep (field_of_grid c.args.grid.now) c.args.start (floor_of c.args.front.now c.args.start) c.args.at.cell v c.args.which) (same_Some _ p e) (record {
+    let left = subst (λ (o : Option ℕ). SomeIff o (c.step_cost.result ≤ c.args.at.cost) (c.args.at.cost - c.step_cost.result)) c.in_ok-cost.was
+    c.checked_sub.ensures in
+    λ p e. subst (λ (v : Cell). IsTightStep (field_of_grid c.args.grid.now) c.args.start (floor_of c.args.front.now c.args.start) c.args.at.cell v c.args.which)
+    (same_Some _ p e) (record {
       leads = sym c.step.ensures.step ∙ c.in_ok-from.was;
       sum = rest c.in_ok-cost.cost c.step_cost.result c.args.at.cost _ _ _ left c.step_cost.ensures c.requires.cost (c.is_floor.ensures.0 c.if-is_floor.true);
     })
 
 pub returns-else-is_floor-clause-none : goal.returns-else-is_floor-clause-none
 returns-else-is_floor-clause-none c =
-    let left = subst (λ (o : Option ℕ). SomeIff o (c.step_cost.result ≤ c.args.at.cost) (c.args.at.cost - c.step_cost.result)) c.in_ok-cost.was c.checked_sub.ensures in
+    let left = subst (λ (o : Option ℕ). SomeIff o (c.step_cost.result ≤ c.args.at.cost) (c.args.at.cost - c.step_cost.result)) c.in_ok-cost.was
+    c.checked_sub.ensures in
     λ e p t.
     let same = same_Some c.in_ok-from.from p (sym c.in_ok-from.was ∙ c.step.ensures.step ∙ t.leads) in
     let floor = floor_by c.in_ok-cost.cost c.step_cost.result c.args.at.cost _ _ _ left c.step_cost.ensures c.requires.cost t.sum in
     elim c.else-is_floor.branch [
       | else-is_floor-via-then-is_floor+else-not-at w ↦ ap (marked_in c.args.dead.now) (sym same) ∙ sym w.at.ensures ∙ w.if-not-at.false
-      | else-is_floor-via-else-is_floor w ↦ absurd (true≢false (sym (c.is_floor.ensures.1 (ap (floor_of c.args.front.now c.args.start) same ∙ floor)) ∙ w.if-is_floor.false))
+      | else-is_floor-via-else-is_floor w ↦ absurd (true≢false (sym (c.is_floor.ensures.1 (ap (floor_of c.args.front.now c.args.start) same ∙ floor)) ∙
+          w.if-is_floor.false))
     ]
 
 pub returns-else-is_floor-clause-some : goal.returns-else-is_floor-clause-some

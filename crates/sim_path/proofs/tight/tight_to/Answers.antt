@@ -1,11 +1,5 @@
-use Rattle.std.proofs.Common.{◌≡◌, Bool, true, Option, refl, subst}
-use Rattle.sim_grid.specs.Grids.{field_of_grid}
-use Rattle.sim_path.specs.declared.reached.Reached.{Reached}
-use Rattle.sim_path.specs.WayEnds.{IsBestOf, IsTrailToEnd}
-use Rattle.sim_path.specs.Floors.{floor_of}
-use Rattle.sim_path.specs.Straight.{IsTightTrail, floor_cost}
-use Rattle.sim_path.proofs.Found.{if_ok}
-use Rattle.sim_path.proofs.TightTrails.{tight-end}
+use Rattle.sim_path.proofs.{Found.if_ok, TightTrails.tight-end}
+use Rattle.sim_path.proofs.Common.{◌≡◌, Bool, true, Option, refl, field_of_grid, floor_cost, floor_of, IsBestOf, IsTightTrail, IsTrailToEnd, Reached, subst}
 use Rattle.sim_path.proofs.tight.tight_to.Goals as goal
 
 pub returns-in-Some : goal.returns-in-Some
@@ -17,7 +11,8 @@ returns-in-Some c =
     let end = c.in-Some.end in
     let trail = c.tight_trail.new.trail.items in
     let best = subst (λ (o : Option Reached). IsBestOf (floor_cost floor) goal c.args.ends.now o) c.in-Some.is c.tight_end.ensures in
-    if_ok c.tight_trail.result (λ (b : Bool). b ≡ true → IsTightTrail field start floor end.cell trail) (λ (b : Bool). b ≡ true → IsTrailToEnd field start goal trail)
+    if_ok c.tight_trail.result (λ (b : Bool). b ≡ true → IsTightTrail field start floor end.cell trail)
+    (λ (b : Bool). b ≡ true → IsTrailToEnd field start goal trail)
     (λ b found e.
     let h = found e in
     record {

@@ -1,6 +1,6 @@
 -- One pipe more is empty.
-use Rattle.std.proofs.Common.{[], ◌∷◌, arith, length-append}
-use Rattle.sim_pipes.proofs.Conveying.{one_more_empty}
+use Rattle.std.proofs.Common.{length-append}
+use Rattle.sim_pipes.proofs.{Common.[], Common.◌∷◌, Common.arith, Conveying.one_more_empty}
 use Rattle.sim_pipes.proofs.exchange.pipes.Goals as goal
 
 pub loop-preserved : goal.loop-preserved

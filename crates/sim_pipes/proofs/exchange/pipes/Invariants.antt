@@ -1,6 +1,5 @@
 -- The pipes so far are empty.
-use Rattle.std.proofs.Common.{◌≡◌, ℕ, [], length}
-use Rattle.sim_pipes.specs.Pipes.{pipe_in}
+use Rattle.sim_pipes.proofs.Common.{◌≡◌, ℕ, [], length, pipe_in}
 use Rattle.sim_pipes.proofs.exchange.pipes.Given as goal
 
 abbrev pub invariant-loop : goal.invariant-loop

@@ -1,23 +1,17 @@
 -- The posts are what the server says to each client, and the sender is told of the notice. Bytes that are no frame cut the
 -- client off, and what is said of that goes to clients and has frames as well.
-use Rattle.std.proofs.Common.{◌++◌, ◌<◌, ◌∙◌, Ok, sym, ap, subst, All, List, ℕ}
-use Rattle.std.specs.Prelude.{filter_map}
-use Rattle.sim_plain.specs.declared.message.PostOf.{PostOf}
-use Rattle.sim_plain.specs.Messages.{Heard}
-use Rattle.sim_plain.specs.Notices.{notice_in}
-use Rattle.sim_wire.specs.Heard.{raw}
-use Rattle.sim_wire.proofs.Fronts.{are_bytes}
-use Rattle.sim_server.specs.Standing.{server_of}
-use Rattle.sim_pipes.specs.Posts.{told_to, notice_events}
-use Rattle.sim_pipes.proofs.Answering.{to_clients, have_frames, hears_small, makes_rules, raw_is_small, sends}
-use Rattle.sim_pipes.proofs.Noticing.{sender_is_noticed}
+use Rattle.{sim_pipes.proofs.Common.◌∙◌, sim_pipes.proofs.Noticing.sender_is_noticed, sim_wire.proofs.Fronts.are_bytes}
+use Rattle.sim_pipes.proofs.Answering.{have_frames, hears_small, makes_rules, raw_is_small, sends, to_clients}
+use Rattle.sim_pipes.proofs.Common.{ℕ, ◌<◌, List, ◌++◌, Ok, All, filter_map, ap, Heard, notice_events, notice_in, PostOf, raw, server_of, subst, sym, told_to}
 use Rattle.sim_pipes.proofs.hearing.hear.Goals as goal
 
 pub returns-in_err-posts-clause-rules : goal.returns-in_err-posts-clause-rules
-returns-in_err-posts-clause-rules c = makes_rules c.args.server.now (raw c.args.client c.args.frame.now) c.hear_frame.result c.hear_frame.new.self c.hear_frame.ensures.made
+returns-in_err-posts-clause-rules c = makes_rules c.args.server.now (raw c.args.client c.args.frame.now) c.hear_frame.result c.hear_frame.new.self
+    c.hear_frame.ensures.made
 
 pub returns-in_err-posts-clause-small : goal.returns-in_err-posts-clause-small
-returns-in_err-posts-clause-small c = hears_small c.args.server.now c.args.client c.args.frame.now c.hear_frame.result c.hear_frame.new.self c.requires.small (are_bytes _ c.type_inv.frame) c.hear_frame.ensures.made
+returns-in_err-posts-clause-small c = hears_small c.args.server.now c.args.client c.args.frame.now c.hear_frame.result c.hear_frame.new.self c.requires.small
+    (are_bytes _ c.type_inv.frame) c.hear_frame.ensures.made
 
 pub deliver-requires-clause-clients : goal.deliver-requires-clause-clients
 deliver-requires-clause-clients c =
@@ -26,24 +20,30 @@ deliver-requires-clause-clients c =
 
 pub deliver-requires-clause-small : goal.deliver-requires-clause-small
 deliver-requires-clause-small c =
-    have_frames c.args.server.now (raw c.args.client c.args.frame.now) (Ok c.in_ok-posts.posts) c.hear_frame.new.self c.requires.small (raw_is_small c.args.client c.args.frame.now (are_bytes _ c.type_inv.frame)) c.in_ok-posts.ensures.made
+    have_frames c.args.server.now (raw c.args.client c.args.frame.now) (Ok c.in_ok-posts.posts) c.hear_frame.new.self c.requires.small
+    (raw_is_small c.args.client c.args.frame.now (are_bytes _ c.type_inv.frame)) c.in_ok-posts.ensures.made
 
 pub returns-clause-heard : goal.returns-clause-heard
 returns-clause-heard c = λ message is.
-    sends c.args.server.now c.args.downs.now.items (Heard c.args.client message) c.in_ok-posts.posts c.hear_frame.new.self c.deliver.new.pipes.items (c.in_ok-posts.ensures.frame message is) c.in_ok-deliver.ensures.frames
+    sends c.args.server.now c.args.downs.now.items (Heard c.args.client message) c.in_ok-posts.posts c.hear_frame.new.self c.deliver.new.pipes.items
+    (c.in_ok-posts.ensures.frame message is) c.in_ok-deliver.ensures.frames
 
 pub returns-clause-events : goal.returns-clause-events
 returns-clause-events c = λ message is.
     let said = (c.in_ok-posts.ensures.frame message is).said in
     c.in_ok-push_notices.ensures.lines ∙ ap (λ l. l ++ notice_events (filter_map notice_in (told_to c.args.client c.in_ok-posts.posts))) c.new-events.ensures
     ∙ ap (λ l. notice_events (filter_map notice_in (told_to c.args.client l))) said
-    ∙ ap notice_events (sender_is_noticed c.args.server.now.rules (server_of c.args.server.now) (Heard c.args.client message) c.requires.client.0 c.requires.client.1)
+    ∙ ap notice_events (sender_is_noticed c.args.server.now.rules (server_of c.args.server.now) (Heard c.args.client message) c.requires.client.0
+    c.requires.client.1)
 
 pub returns-in_err-deliver-clause-small : goal.returns-in_err-deliver-clause-small
-returns-in_err-deliver-clause-small c = hears_small c.args.server.now c.args.client c.args.frame.now (Ok c.in_ok-posts.posts) c.hear_frame.new.self c.requires.small (are_bytes _ c.type_inv.frame) c.in_ok-posts.ensures.made
+returns-in_err-deliver-clause-small c = hears_small c.args.server.now c.args.client c.args.frame.now (Ok c.in_ok-posts.posts) c.hear_frame.new.self
+    c.requires.small (are_bytes _ c.type_inv.frame) c.in_ok-posts.ensures.made
 
 pub returns-in_err-push_notices-clause-small : goal.returns-in_err-push_notices-clause-small
-returns-in_err-push_notices-clause-small c = hears_small c.args.server.now c.args.client c.args.frame.now (Ok c.in_ok-posts.posts) c.hear_frame.new.self c.requires.small (are_bytes _ c.type_inv.frame) c.in_ok-posts.ensures.made
+returns-in_err-push_notices-clause-small c = hears_small c.args.server.now c.args.client c.args.frame.now (Ok c.in_ok-posts.posts) c.hear_frame.new.self
+    c.requires.small (are_bytes _ c.type_inv.frame) c.in_ok-posts.ensures.made
 
 pub returns-clause-small : goal.returns-clause-small
-returns-clause-small c = hears_small c.args.server.now c.args.client c.args.frame.now (Ok c.in_ok-posts.posts) c.hear_frame.new.self c.requires.small (are_bytes _ c.type_inv.frame) c.in_ok-posts.ensures.made
+returns-clause-small c = hears_small c.args.server.now c.args.client c.args.frame.now (Ok c.in_ok-posts.posts) c.hear_frame.new.self c.requires.small
+    (are_bytes _ c.type_inv.frame) c.in_ok-posts.ensures.made

@@ -1,9 +1,6 @@
 -- The posts are what the server says to each client.
-use Rattle.std.proofs.Common.{◌<◌, Ok, sym, subst, All, List, ℕ}
-use Rattle.sim_plain.specs.declared.message.PostOf.{PostOf}
-use Rattle.sim_plain.specs.Messages.{Cut}
-use Rattle.sim_pipes.proofs.Answering.{to_clients, have_frames, makes_small, sends}
-use Rattle.sim_pipes.proofs.Frames.{on_ok}
+use Rattle.sim_pipes.proofs.{Common.ℕ, Common.◌<◌, Common.List, Common.Ok, Common.All, Common.Cut, Common.PostOf, Common.subst, Common.sym, Frames.on_ok}
+use Rattle.sim_pipes.proofs.Answering.{have_frames, makes_small, sends, to_clients}
 use Rattle.sim_pipes.proofs.hearing.see_cut.Goals as goal
 
 pub returns-in_err-posts-clause-small : goal.returns-in_err-posts-clause-small
@@ -15,10 +12,13 @@ deliver-requires-clause-clients c =
     (to_clients c.args.server.now (Cut c.args.client) (Ok c.in_ok-posts.posts) c.cut.new.self c.in_ok-posts.ensures.made)
 
 pub deliver-requires-clause-small : goal.deliver-requires-clause-small
-deliver-requires-clause-small c = have_frames c.args.server.now (Cut c.args.client) (Ok c.in_ok-posts.posts) c.cut.new.self c.requires.small tt c.in_ok-posts.ensures.made
+deliver-requires-clause-small c = have_frames c.args.server.now (Cut c.args.client) (Ok c.in_ok-posts.posts) c.cut.new.self c.requires.small tt
+    c.in_ok-posts.ensures.made
 
 pub returns-clause-heard : goal.returns-clause-heard
-returns-clause-heard c = on_ok c.deliver.result c.deliver.ensures.frames (λ delivered. sends c.args.server.now c.args.downs.now.items (Cut c.args.client) c.in_ok-posts.posts c.cut.new.self c.deliver.new.pipes.items c.in_ok-posts.ensures.made delivered)
+returns-clause-heard c = on_ok c.deliver.result c.deliver.ensures.frames (λ delivered. sends c.args.server.now c.args.downs.now.items (Cut c.args.client)
+    c.in_ok-posts.posts c.cut.new.self c.deliver.new.pipes.items c.in_ok-posts.ensures.made delivered)
 
 pub returns-clause-small : goal.returns-clause-small
-returns-clause-small c = makes_small c.args.server.now (Cut c.args.client) (Ok c.in_ok-posts.posts) c.cut.new.self c.requires.small tt c.in_ok-posts.ensures.made
+returns-clause-small c = makes_small c.args.server.now (Cut c.args.client) (Ok c.in_ok-posts.posts) c.cut.new.self c.requires.small tt
+    c.in_ok-posts.ensures.made

@@ -1,7 +1,5 @@
 -- The clauses are the lemmas of these names.
-use Rattle.sim_plain.specs.Posts.{posts}
-use Rattle.sim_pipes.proofs.Telling.{told_each, clients_are_told}
-use Rattle.sim_pipes.proofs.Noticing.{sender_is_noticed}
+use Rattle.sim_pipes.proofs.{Common.posts, Noticing.sender_is_noticed, Telling.clients_are_told, Telling.told_each}
 use Rattle.sim_pipes.proofs.laws.posts_reach_their_clients.Goals as goal
 
 pub returns : goal.returns

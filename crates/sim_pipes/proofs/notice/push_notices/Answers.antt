@@ -1,8 +1,5 @@
 -- One post more is looked at.
-use Rattle.std.proofs.Common.{◌++◌, ◌∷◌, [], ◌∙◌, take, length, sym, ap, arith, append_assoc}
-use Rattle.std.specs.Prelude.{filter_map}
-use Rattle.sim_plain.specs.Notices.{notice_in}
-use Rattle.sim_pipes.specs.Posts.{told_to, notice_events}
+use Rattle.sim_pipes.proofs.Common.{[], ◌∷◌, ◌++◌, length, take, filter_map, ap, append_assoc, arith, notice_events, notice_in, sym, told_to, ◌∙◌}
 use Rattle.sim_pipes.proofs.Noticing.{notices_more}
 use Rattle.sim_pipes.proofs.notice.push_notices.Goals as goal
 

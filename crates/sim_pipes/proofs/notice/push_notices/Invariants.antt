@@ -1,8 +1,5 @@
 -- The notices so far are printed.
-use Rattle.std.proofs.Common.{◌≡◌, ◌++◌, take}
-use Rattle.std.specs.Prelude.{filter_map}
-use Rattle.sim_plain.specs.Notices.{notice_in}
-use Rattle.sim_pipes.specs.Posts.{told_to, notice_events}
+use Rattle.sim_pipes.proofs.Common.{◌≡◌, ◌++◌, take, filter_map, notice_events, notice_in, told_to}
 use Rattle.sim_pipes.proofs.notice.push_notices.Given as goal
 
 abbrev pub invariant-loop-post : goal.invariant-loop-post

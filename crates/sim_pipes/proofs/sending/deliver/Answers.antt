@@ -1,10 +1,6 @@
 -- One post more is sent.
-use Rattle.std.proofs.Common.{◌++◌, ◌∷◌, [], ◌∙◌, take, length, sym, ap, subst, arith, append_assoc}
-use Rattle.sim_wire.specs.Fits.{IsDownFrame}
-use Rattle.sim_pipes.specs.Pipes.{AreFrames, pipe_in}
-use Rattle.sim_pipes.specs.Posts.{told_to}
-use Rattle.sim_pipes.proofs.Frames.{sent_more}
-use Rattle.sim_pipes.proofs.Telling.{told_more}
+use Rattle.sim_pipes.proofs.{Frames.sent_more, Telling.told_more}
+use Rattle.sim_pipes.proofs.Common.{[], ◌∷◌, ◌++◌, length, take, ap, append_assoc, AreFrames, arith, IsDownFrame, pipe_in, subst, sym, told_to, ◌∙◌}
 use Rattle.sim_pipes.proofs.sending.deliver.Goals as goal
 
 pub returns-in_err-send_down_to-clause-none : goal.returns-in_err-send_down_to-clause-none
@@ -17,7 +13,9 @@ loop-post-preserved c =
     record {
       frames = λ k before are.
           subst (AreFrames IsDownFrame (pipe_in c.send_down_to.new.pipes.items k))
-          (append_assoc before (told_to k (take i all)) (told_to k (c.post-item.result ∷ [])) ∙ ap (λ l. before ++ l) (sym (told_more k all i c.post-item.result (omega (arith, c.loop-post-test.true)) c.post-item.is)))
-          (sent_more c.loop-post.pipes.items c.send_down_to.new.pipes.items c.post-item.result k (before ++ told_to k (take i all)) c.in_ok-send_down_to.ensures.one c.in_ok-send_down_to.ensures.others (c.loop-post.invariant.frames k before are));
+          (append_assoc before (told_to k (take i all)) (told_to k (c.post-item.result ∷ [])) ∙
+          ap (λ l. before ++ l) (sym (told_more k all i c.post-item.result (omega (arith, c.loop-post-test.true)) c.post-item.is)))
+          (sent_more c.loop-post.pipes.items c.send_down_to.new.pipes.items c.post-item.result k (before ++ told_to k (take i all))
+          c.in_ok-send_down_to.ensures.one c.in_ok-send_down_to.ensures.others (c.loop-post.invariant.frames k before are));
       count = c.in_ok-send_down_to.ensures.count ∙ c.loop-post.invariant.count;
     }

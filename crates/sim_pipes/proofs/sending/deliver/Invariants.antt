@@ -1,9 +1,5 @@
 -- The posts so far are sent, and there are as many pipes as before.
-use Rattle.std.proofs.Common.{◌≡◌, ℕ, List, ◌++◌, take, length}
-use Rattle.sim_plain.specs.declared.message.DownOf.{DownOf}
-use Rattle.sim_wire.specs.Fits.{IsDownFrame}
-use Rattle.sim_pipes.specs.Pipes.{AreFrames, pipe_in}
-use Rattle.sim_pipes.specs.Posts.{told_to}
+use Rattle.sim_pipes.proofs.Common.{◌≡◌, ℕ, List, ◌++◌, length, take, AreFrames, DownOf, IsDownFrame, pipe_in, told_to}
 use Rattle.sim_pipes.proofs.sending.deliver.Given as goal
 
 abbrev pub invariant-loop-post : goal.invariant-loop-post

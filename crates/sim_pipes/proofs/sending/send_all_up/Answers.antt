@@ -1,9 +1,6 @@
 -- One message more is sent.
-use Rattle.std.proofs.Common.{◌++◌, take, length, sym, ap, subst, arith, append-nil}
-use Rattle.std.proofs.lemmas.List.{take_all}
-use Rattle.sim_wire.specs.Fits.{IsUpFrame}
-use Rattle.sim_pipes.specs.Pipes.{AreFrames}
-use Rattle.sim_pipes.proofs.Frames.{framed_more}
+use Rattle.{sim_pipes.proofs.Frames.framed_more, std.proofs.lemmas.List.take_all}
+use Rattle.sim_pipes.proofs.Common.{◌++◌, length, take, ap, append-nil, AreFrames, arith, IsUpFrame, subst, sym}
 use Rattle.sim_pipes.proofs.sending.send_all_up.Goals as goal
 
 pub loop-up-init : goal.loop-up-init
@@ -18,4 +15,5 @@ pub returns-in_err-send_up-clause-none : goal.returns-in_err-send_up-clause-none
 returns-in_err-send_up-clause-none c = λ none. absurd (omega (arith, c.loop-up-test.true, ap length none))
 
 pub returns-clause-frames : goal.returns-clause-frames
-returns-clause-frames c = λ before are. subst (AreFrames IsUpFrame c.loop-up.pipe) (ap (λ l. before ++ l) (take_all c.loop-up.up-index c.args.ups.now (omega (arith, c.loop-up-test.false)))) (c.loop-up.invariant before are)
+returns-clause-frames c = λ before are. subst (AreFrames IsUpFrame c.loop-up.pipe)
+    (ap (λ l. before ++ l) (take_all c.loop-up.up-index c.args.ups.now (omega (arith, c.loop-up-test.false)))) (c.loop-up.invariant before are)

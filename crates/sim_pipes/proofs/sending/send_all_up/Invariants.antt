@@ -1,8 +1,5 @@
 -- The messages so far are sent.
-use Rattle.std.proofs.Common.{ℕ, List, ◌++◌, take}
-use Rattle.sim_plain.specs.declared.message.UpOf.{UpOf}
-use Rattle.sim_wire.specs.Fits.{IsUpFrame}
-use Rattle.sim_pipes.specs.Pipes.{AreFrames}
+use Rattle.sim_pipes.proofs.Common.{ℕ, List, ◌++◌, take, AreFrames, IsUpFrame, UpOf}
 use Rattle.sim_pipes.proofs.sending.send_all_up.Given as goal
 
 abbrev pub invariant-loop-up : goal.invariant-loop-up

@@ -1,4 +1,4 @@
-use Rattle.sim_plain_session.proofs.InBytes.{server_hears_bytes, server_is_after_bytes, bytes_go_down, bytes_go_up}
+use Rattle.sim_plain_session.proofs.InBytes.{bytes_go_down, bytes_go_up, server_hears_bytes, server_is_after_bytes}
 use Rattle.sim_plain_session.proofs.bytes.a_session_in_bytes_is_the_same.Goals as goal
 
 pub returns : goal.returns

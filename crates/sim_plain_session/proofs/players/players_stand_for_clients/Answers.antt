@@ -1,4 +1,4 @@
-use Rattle.sim_plain_session.proofs.PlayerLemmas.{same_turn, same_mark, beginning_stands, playing_stands, bending_stands, learning_stands}
+use Rattle.sim_plain_session.proofs.PlayerLemmas.{beginning_stands, bending_stands, learning_stands, playing_stands, same_mark, same_turn}
 use Rattle.sim_plain_session.proofs.players.players_stand_for_clients.Goals as goal
 
 pub returns : goal.returns

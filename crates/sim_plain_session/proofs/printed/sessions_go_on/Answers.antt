@@ -1,4 +1,4 @@
-use Rattle.sim_plain_session.proofs.GoingOn.{session_goes_on, events_go_on, events_are_in_order}
+use Rattle.sim_plain_session.proofs.GoingOn.{events_are_in_order, events_go_on, session_goes_on}
 use Rattle.sim_plain_session.proofs.printed.sessions_go_on.Goals as goal
 
 pub returns : goal.returns

@@ -1,6 +1,5 @@
 -- The first row has the least id.
-use Rattle.std.proofs.Common.{rules}
-use Rattle.sim_plans.proofs.Places.{none_below}
+use Rattle.sim_plans.proofs.{Common.rules, Places.none_below}
 use Rattle.sim_plans.proofs.lookup_rows.is_below.Goals as goal
 
 pub returns-in-len1-up : goal.returns-in-len1-up

@@ -1,9 +1,6 @@
 -- The closure gives the id of a row, and the ids ascend.
-use Rattle.std.proofs.Common.{rules, sym}
-use Rattle.std.proofs.lemmas.Cmp.{ranked}
 use Rattle.std.proofs.lemmas.List.Sorted.{answers_always}
-use Rattle.sim_base.specs.declared.state.Row.{Row}
-use Rattle.sim_plans.proofs.Places.{no_row, row_at, row_missing}
+use Rattle.sim_plans.proofs.{Common.ranked, Common.Row, Common.rules, Common.sym, Places.no_row, Places.row_at, Places.row_missing}
 use Rattle.sim_plans.proofs.lookup_rows.place_by_search.Goals as goal
 
 pub returns-in-Ok : goal.returns-in-Ok

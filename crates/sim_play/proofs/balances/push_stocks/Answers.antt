@@ -1,11 +1,6 @@
 -- The line of one player more.
-use Rattle.std.proofs.Common.{◌≡◌, ℕ, ◌+◌, ◌-◌, ◌++◌, ap, ◌∙◌, arith}
-use Rattle.std.specs.Prelude.{string_bytes}
-use Rattle.std.specs.List.{range_with_len, flat_map}
-use Rattle.sim_report.specs.Lines.{stock_line}
-use Rattle.sim_stock.specs.Stocks.{amount_of}
+use Rattle.sim_play.proofs.Common.{◌≡◌, ℕ, ◌+◌, ◌-◌, ◌++◌, string_bytes, flat_map, amount_of, ap, arith, player_line, range_with_len, stock_line, ◌∙◌}
 use Rattle.sim_play.proofs.PlayerLines.{lines_more}
-use Rattle.sim_play.specs.Paid.{player_line}
 use Rattle.sim_play.proofs.balances.push_stocks.Goals as goal
 
 pub loop-player-preserved : goal.loop-player-preserved

@@ -1,6 +1,5 @@
 -- The commands so far.
-use Rattle.std.proofs.Common.{◌≡◌, map, take}
-use Rattle.sim_base.specs.declared.setup.Timed.{Timed}
+use Rattle.sim_play.proofs.Common.{◌≡◌, map, take, Timed}
 use Rattle.sim_play.proofs.due.commands_of.Given as goal
 
 abbrev pub invariant-loop-timed : goal.invariant-loop-timed

@@ -1,5 +1,5 @@
 -- A valid state has rows of known templates alone.
-use Rattle.sim_report.proofs.KnownTemplates.{templates_known}
+use Rattle.sim_play.proofs.Common.{templates_known}
 use Rattle.sim_play.proofs.films.push_frame.Goals as goal
 
 pub push_show-requires : goal.push_show-requires

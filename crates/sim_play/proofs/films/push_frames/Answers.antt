@@ -1,13 +1,6 @@
 -- The first state is told or not; then one turn more is played, and told or not.
-use Rattle.std.proofs.Common.{◌≡◌, ℕ, ◌+◌, ◌-◌, ◌++◌, refl, ap, ◌∙◌, sym, subst, append-nil, string_bytes}
-use Rattle.sim_base.specs.declared.setup.Setup.{Setup}
-use Rattle.sim_base.specs.declared.state.State.{State}
-use Rattle.sim_base.specs.Turn.{from, own_turns, after}
-use Rattle.sim_base.specs.Validity.{IsValid}
-use Rattle.sim_play.specs.Films.{told_frame}
-use Rattle.sim_play.proofs.Past.{own_at, own_more}
-use Rattle.sim_play.proofs.Playing.{next_number, kept_on}
-use Rattle.sim_play.proofs.ToldTurns.{film_more}
+use Rattle.sim_play.proofs.{Common.told_frame, Common.◌∙◌, Past.own_at, Past.own_more, Playing.kept_on, Playing.next_number, ToldTurns.film_more}
+use Rattle.sim_play.proofs.Common.{◌≡◌, ◌+◌, ◌-◌, ◌++◌, string_bytes, refl, after, ap, append-nil, from, IsValid, own_turns, Setup, State, subst, sym}
 use Rattle.sim_play.proofs.films.push_frames.Goals as goal
 
 pub loop-turn-init : goal.loop-turn-init

@@ -1,10 +1,5 @@
 -- The state is that of the match's own turns so far, and each of them that is told has its frame.
-use Rattle.std.proofs.Common.{◌≡◌, ◌+◌, ◌++◌, ◌≤◌, string_bytes}
-use Rattle.sim_base.specs.Turn.{after, own_turns}
-use Rattle.sim_base.specs.Validity.{IsValid}
-use Rattle.sim_system.specs.RigWords.{systems_by}
-use Rattle.sim_board.specs.BoardWords.{IsWholeBy, AreKept}
-use Rattle.sim_play.specs.Films.{frames}
+use Rattle.sim_play.proofs.Common.{◌≡◌, ◌+◌, ◌++◌, string_bytes, after, AreKept, frames, IsValid, IsWholeBy, own_turns, systems_by}
 use Rattle.sim_play.proofs.films.push_frames.Given as goal
 
 abbrev pub invariant-loop-turn : goal.invariant-loop-turn
@@ -16,5 +11,6 @@ invariant-loop-turn g l =
       valid : IsValid l.fn.board.setup.now l.board.state;
       same : l.board.setup.now ≡ l.fn.board.setup.now;
       whole : IsWholeBy l.board (λ i v. (goal.System-dyn g (i, v)).meaning v);
-      kept : AreKept (systems_by l.fn.board.rig (λ i v. (goal.System-dyn g (i, v)).meaning v)) (systems_by l.board.rig (λ i v. (goal.System-dyn g (i, v)).meaning v));
+      kept : AreKept (systems_by l.fn.board.rig (λ i v. (goal.System-dyn g (i, v)).meaning v))
+          (systems_by l.board.rig (λ i v. (goal.System-dyn g (i, v)).meaning v));
     }

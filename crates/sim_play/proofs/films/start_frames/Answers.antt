@@ -1,9 +1,4 @@
 -- The board was started, and stands at the first state.
-use Rattle.std.proofs.Common.{◌≡◌, List, ◌++◌, string_bytes, subst}
-use Rattle.std.specs.Prelude.{OnOk}
-use Rattle.sim_base.specs.declared.setup.Setup.{Setup}
-use Rattle.sim_base.specs.Turn.{first_state}
-use Rattle.sim_board.specs.BoardWords.{state_in}
 use Rattle.sim_play.proofs.Starting.{started_valid}
 use Rattle.sim_play.proofs.films.start_frames.Goals as goal
 

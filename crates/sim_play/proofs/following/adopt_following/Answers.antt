@@ -1,12 +1,5 @@
 -- The board took the state.
-use Rattle.std.proofs.Common.{◌≡◌, ℕ, ◌-◌, ◌∙◌, sym, ap, subst, arith}
-use Rattle.std.specs.Prelude.{fold, OnOk}
-use Rattle.sim_base.specs.declared.setup.Setup.{Setup}
-use Rattle.sim_base.specs.declared.state.State.{State}
-use Rattle.sim_base.specs.Turn.{from, own_turns}
-use Rattle.sim_base.specs.Validity.{IsValid}
-use Rattle.sim_board.specs.BoardWords.{setup_in, state_in}
-use Rattle.sim_play.specs.States.{later_of}
+use Rattle.sim_play.proofs.Common.{◌≡◌, ℕ, ◌-◌, OnOk, fold, ap, arith, from, IsValid, later_of, own_turns, Setup, setup_in, State, state_in, subst, sym, ◌∙◌}
 use Rattle.sim_play.proofs.following.adopt_following.Goals as goal
 
 pub follow_until-requires-clause-valid : goal.follow_until-requires-clause-valid

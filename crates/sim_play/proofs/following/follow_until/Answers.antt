@@ -1,13 +1,6 @@
 -- One turn more is played, and followed.
-use Rattle.std.proofs.Common.{◌≡◌, ℕ, suc, ◌+◌, ◌-◌, refl, ap, ◌∙◌, sym, subst, arith, rules}
-use Rattle.sim_base.specs.declared.setup.Setup.{Setup}
-use Rattle.sim_base.specs.declared.state.State.{State}
-use Rattle.sim_base.specs.Turn.{from, own_turns}
-use Rattle.sim_base.specs.Validity.{IsValid}
-use Rattle.sim_play.proofs.Playing.{one_turn_more, next_number, kept_on}
-use Rattle.std.specs.Prelude.{fold}
-use Rattle.sim_play.specs.States.{later_of}
-use Rattle.sim_play.proofs.Later.{followed_more}
+use Rattle.sim_play.proofs.{Later.followed_more, Playing.kept_on, Playing.next_number, Playing.one_turn_more}
+use Rattle.sim_play.proofs.Common.{◌≡◌, ℕ, suc, ◌+◌, ◌-◌, fold, refl, ap, arith, from, IsValid, later_of, own_turns, rules, Setup, State, subst, sym, ◌∙◌}
 use Rattle.sim_play.proofs.following.follow_until.Goals as goal
 
 pub loop-number-init : goal.loop-number-init

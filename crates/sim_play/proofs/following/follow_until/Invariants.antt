@@ -1,11 +1,5 @@
 -- The state is that of the turns so far, and each was followed.
-use Rattle.std.proofs.Common.{◌≡◌, ◌-◌, ◌≤◌}
-use Rattle.std.specs.Prelude.{fold}
-use Rattle.sim_base.specs.Turn.{from, own_turns}
-use Rattle.sim_base.specs.Validity.{IsValid}
-use Rattle.sim_system.specs.RigWords.{systems_by}
-use Rattle.sim_board.specs.BoardWords.{IsWholeBy, AreKept}
-use Rattle.sim_play.specs.States.{later_of}
+use Rattle.sim_play.proofs.Common.{◌≡◌, ◌-◌, ◌≤◌, fold, AreKept, from, IsValid, IsWholeBy, later_of, own_turns, systems_by}
 use Rattle.sim_play.proofs.following.follow_until.Given as goal
 
 abbrev pub invariant-loop-number : goal.invariant-loop-number

@@ -1,13 +1,6 @@
 -- The board was started, and its first state followed.
-use Rattle.std.proofs.Common.{◌≡◌, ◌-◌, ◌∙◌, sym, ap, subst, arith}
-use Rattle.std.specs.Prelude.{fold, OnOk}
-use Rattle.sim_base.specs.declared.setup.Setup.{Setup}
-use Rattle.sim_base.specs.declared.state.State.{State}
-use Rattle.sim_base.specs.Validity.{IsValid}
-use Rattle.sim_board.specs.BoardWords.{setup_in, state_in}
-use Rattle.sim_play.proofs.Starting.{started_valid, started_turn, started_until}
-use Rattle.sim_play.specs.States.{later_of}
-use Rattle.sim_play.proofs.Later.{from_the_start}
+use Rattle.sim_play.proofs.{Later.from_the_start, Starting.started_turn, Starting.started_until, Starting.started_valid}
+use Rattle.sim_play.proofs.Common.{◌≡◌, ◌-◌, OnOk, fold, ap, arith, IsValid, later_of, Setup, setup_in, State, state_in, subst, sym, ◌∙◌}
 use Rattle.sim_play.proofs.following.start_following.Goals as goal
 
 pub follow-requires : goal.follow-requires

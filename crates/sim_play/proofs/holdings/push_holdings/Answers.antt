@@ -1,10 +1,6 @@
 -- The line of one player more.
-use Rattle.std.proofs.Common.{◌≡◌, ℕ, ◌+◌, ◌-◌, ◌++◌, ap, ◌∙◌, arith}
-use Rattle.std.specs.Prelude.{string_bytes}
-use Rattle.std.specs.List.{range_with_len, flat_map}
-use Rattle.sim_report.specs.Lines.{holding_line}
-use Rattle.sim_play.specs.Realms.{held, held_rooted, player_line}
-use Rattle.sim_play.proofs.PlayerLines.{lines_more}
+use Rattle.sim_play.{proofs.PlayerLines.lines_more, specs.Realms.player_line}
+use Rattle.sim_play.proofs.Common.{◌≡◌, ℕ, ◌+◌, ◌-◌, ◌++◌, string_bytes, flat_map, ap, arith, held, held_rooted, holding_line, range_with_len, ◌∙◌}
 use Rattle.sim_play.proofs.holdings.push_holdings.Goals as goal
 
 pub loop-player-preserved : goal.loop-player-preserved

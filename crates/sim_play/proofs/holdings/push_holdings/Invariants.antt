@@ -1,7 +1,5 @@
 -- There is a line for each player so far.
-use Rattle.std.proofs.Common.{◌≡◌, ◌-◌, ◌++◌, ◌≤◌}
-use Rattle.std.specs.Prelude.{string_bytes}
-use Rattle.std.specs.List.{range_with_len, flat_map}
+use Rattle.sim_play.proofs.Common.{◌≡◌, ◌-◌, ◌≤◌, ◌++◌, string_bytes, flat_map, range_with_len}
 use Rattle.sim_play.specs.Realms.{player_line}
 use Rattle.sim_play.proofs.holdings.push_holdings.Given as goal
 

@@ -1,5 +1,5 @@
 -- A valid state has few rows, and short ways.
-use Rattle.sim_codec.proofs.ShortWays.{short_ways, few_rows}
+use Rattle.sim_play.proofs.Common.{few_rows, short_ways}
 use Rattle.sim_play.proofs.lines.push_line.Goals as goal
 
 pub digest-requires-clause-short : goal.digest-requires-clause-short

@@ -1,14 +1,6 @@
 -- One turn more is played, and has its line.
-use Rattle.std.proofs.Common.{◌≡◌, ℕ, suc, ◌+◌, ◌-◌, ◌++◌, ap, ◌∙◌, sym, subst, arith, string_bytes}
-use Rattle.sim_report.specs.Lines.{turn_line}
-use Rattle.sim_base.specs.declared.setup.Setup.{Setup}
-use Rattle.sim_base.specs.declared.state.State.{State}
-use Rattle.sim_base.specs.Turn.{from, own_turns}
-use Rattle.sim_base.specs.Spelling.{digest}
-use Rattle.sim_base.specs.Validity.{IsValid}
-use Rattle.sim_play.specs.Lines.{past_lines}
-use Rattle.sim_play.proofs.Past.{own_more, past_lines-more}
-use Rattle.sim_play.proofs.Playing.{next_number, kept_on}
+use Rattle.sim_play.proofs.{Common.turn_line, Common.◌∙◌, Past.own_more, Past.past_lines-more, Playing.kept_on, Playing.next_number}
+use Rattle.sim_play.proofs.Common.{◌≡◌, ℕ, suc, ◌+◌, ◌-◌, ◌++◌, string_bytes, ap, arith, digest, from, IsValid, own_turns, past_lines, Setup, State, subst, sym}
 use Rattle.sim_play.proofs.lines.push_past.Goals as goal
 
 pub loop-number-preserved : goal.loop-number-preserved
@@ -21,7 +13,8 @@ loop-number-preserved g c =
     let new = c.play.new.board.state in
     let t = c.loop-number.number in
     let n = t - start.turn in
-    let is : new ≡ from setup old (own_turns setup old.turn (t + 1 - old.turn)) = c.in_ok-play.ensures.state ∙ ap (λ (s : Setup). from s old (own_turns s old.turn (t + 1 - old.turn))) i.same in
+    let is : new ≡ from setup old (own_turns setup old.turn (t + 1 - old.turn)) = c.in_ok-play.ensures.state ∙
+    ap (λ (s : Setup). from s old (own_turns s old.turn (t + 1 - old.turn))) i.same in
     let place : t + 1 ≡ suc start.turn + n = omega (arith, i.begun) in
     let next : t + 1 - start.turn ≡ suc n = omega (arith, i.begun) in
     let more = own_more setup old new t i.turn is i.state in
@@ -31,7 +24,8 @@ loop-number-preserved g c =
     c.in_ok-push_line.ensures ∙ ap (λ (s : Setup). string_bytes c.loop-number.out ++ turn_line word shown.turn (digest s shown)) c.setup-setup.ensures
     ∙ ap (λ (s : State). string_bytes c.loop-number.out ++ turn_line word s.turn (digest setup s)) c.scene-in-loop-number.ensures.state
     ∙ ap (λ (k : ℕ). string_bytes c.loop-number.out ++ turn_line word k (digest setup new)) number in
-    let line = past_lines-more word setup (suc start.turn) n (t + 1) (string_bytes c.args.out.now) (string_bytes c.loop-number.out) (string_bytes c.push_line.new.out) (digest setup new) i.text written place (ap (digest setup) more) in
+    let line = past_lines-more word setup (suc start.turn) n (t + 1) (string_bytes c.args.out.now) (string_bytes c.loop-number.out)
+    (string_bytes c.push_line.new.out) (digest setup new) i.text written place (ap (digest setup) more) in
     record {
       begun = omega (arith, i.begun);
       state = more;

@@ -1,15 +1,6 @@
 -- One turn more is played, and has its line.
-use Rattle.std.proofs.Common.{◌≡◌, ℕ, suc, ◌+◌, ◌-◌, ◌++◌, ap, ◌∙◌, sym, subst, arith, string_bytes}
-use Rattle.std.specs.Prelude.{codes}
-use Rattle.sim_report.specs.Lines.{turn_line}
-use Rattle.sim_base.specs.declared.setup.Setup.{Setup}
-use Rattle.sim_base.specs.declared.state.State.{State}
-use Rattle.sim_base.specs.Turn.{from, own_turns}
-use Rattle.sim_base.specs.Spelling.{digest}
-use Rattle.sim_base.specs.Validity.{IsValid}
-use Rattle.sim_play.specs.Lines.{turn_lines}
-use Rattle.sim_play.proofs.PlayLines.{lines_more}
-use Rattle.sim_play.proofs.Playing.{one_turn_more, next_number, kept_on}
+use Rattle.sim_play.proofs.{Common.turn_line, Common.turn_lines, Common.◌∙◌, PlayLines.lines_more, Playing.kept_on, Playing.next_number, Playing.one_turn_more}
+use Rattle.sim_play.proofs.Common.{◌≡◌, ℕ, suc, ◌+◌, ◌-◌, ◌++◌, string_bytes, codes, ap, arith, digest, from, IsValid, own_turns, Setup, State, subst, sym}
 use Rattle.sim_play.proofs.lines.push_turns.Goals as goal
 
 pub loop-turn-preserved : goal.loop-turn-preserved
@@ -21,7 +12,8 @@ loop-turn-preserved g c =
     let new = c.play.new.board.state in
     let t = c.loop-turn.turn in
     let n = t - start.turn in
-    let is : new ≡ from setup old (own_turns setup old.turn (t + 1 - old.turn)) = c.in_ok-play.ensures.state ∙ ap (λ (s : Setup). from s old (own_turns s old.turn (t + 1 - old.turn))) i.same in
+    let is : new ≡ from setup old (own_turns setup old.turn (t + 1 - old.turn)) = c.in_ok-play.ensures.state ∙
+    ap (λ (s : Setup). from s old (own_turns s old.turn (t + 1 - old.turn))) i.same in
     let place : t ≡ start.turn + n = omega (arith, i.begun) in
     let after : t + 1 ≡ start.turn + suc n = omega (arith, i.begun) in
     let next : t + 1 - start.turn ≡ suc n = omega (arith, i.begun) in
@@ -31,7 +23,8 @@ loop-turn-preserved g c =
     let written : string_bytes c.push_line-in-loop-turn.new.out ≡ string_bytes c.loop-turn.out ++ turn_line (codes "turn") new.turn (digest setup new) =
     c.in_ok-push_line-2.ensures ∙ ap (λ (s : Setup). string_bytes c.loop-turn.out ++ turn_line (codes "turn") shown.turn (digest s shown)) c.setup-setup.ensures
     ∙ ap (λ (s : State). string_bytes c.loop-turn.out ++ turn_line (codes "turn") s.turn (digest setup s)) c.scene-in-loop-turn.ensures.state in
-    let line = lines_more setup start start.turn n new.turn (string_bytes c.args.out.now) (string_bytes c.loop-turn.out) (string_bytes c.push_line-in-loop-turn.new.out) (digest setup new) i.text written (number ∙ after) (ap (digest setup) more) in
+    let line = lines_more setup start start.turn n new.turn (string_bytes c.args.out.now) (string_bytes c.loop-turn.out)
+    (string_bytes c.push_line-in-loop-turn.new.out) (digest setup new) i.text written (number ∙ after) (ap (digest setup) more) in
     record {
       begun = omega (arith, i.begun);
       state = more ∙ ap (λ (k : ℕ). from setup start (own_turns setup start.turn k)) (sym next);

@@ -1,20 +1,6 @@
 -- The first state has its digest; then one turn more is played, and its state has one too.
-use Rattle.std.proofs.Common.{rules, ◌≡◌, ℕ, ◌+◌, ◌<◌, List, [], ◌∷◌, ◌++◌, length, take, get_or, refl, ap, ◌∙◌, sym, subst, All, arith}
-use Rattle.sim_base.specs.declared.command.PlayerCommand.{PlayerCommand}
-use Rattle.sim_base.specs.declared.setup.Setup.{Setup}
-use Rattle.sim_base.specs.declared.state.State.{State}
-use Rattle.sim_base.specs.Spelling.{digest}
-use Rattle.sim_base.specs.Turn.{turn}
-use Rattle.sim_base.specs.Validity.{IsValid}
-use Rattle.sim_system.specs.RigWords.{systems_by}
-use Rattle.sim_board.specs.BoardWords.{setup_in, state_in, rig_in}
-use Rattle.sim_laws.specs.CommandLaws.{IsOrderOf}
-use Rattle.sim_play.specs.Logs.{state_after}
-use Rattle.sim_play.proofs.LogTurns.{digests_to, digests_more, logged_turn, state_more}
-use Rattle.sim_play.proofs.PaidOnes.{kept_so_far}
-use Rattle.sim_play.proofs.Playing.{kept_on}
-use Rattle.std.proofs.lemmas.List.Elements.{All-get_or}
-use Rattle.std.proofs.lemmas.List.{length-take}
+use Rattle.sim_play.proofs.{Common.◌∙◌, LogTurns.digests_more, PaidOnes.kept_so_far}
+use Rattle.sim_play.proofs.Common.{◌≡◌, ℕ, ◌+◌, List, [], ◌∷◌, ◌++◌, take, refl, ap, digest, rig_in, Setup, setup_in, state_after, state_in, systems_by, turn}
 use Rattle.sim_play.proofs.logs.play_turns.Goals as goal
 
 pub loop-commands-init : goal.loop-commands-init

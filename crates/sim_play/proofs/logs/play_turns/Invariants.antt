@@ -1,9 +1,5 @@
 -- The state is that after the turns so far, and the digests are those of it and of all states before.
-use Rattle.std.proofs.Common.{◌≡◌, ◌+◌, take}
-use Rattle.sim_base.specs.Validity.{IsValid}
-use Rattle.sim_system.specs.RigWords.{systems_by}
-use Rattle.sim_board.specs.BoardWords.{setup_in, state_in, rig_in, IsWholeBy, AreKept}
-use Rattle.sim_play.specs.Logs.{state_after}
+use Rattle.sim_play.proofs.Common.{◌≡◌, ◌+◌, take, AreKept, IsValid, IsWholeBy, rig_in, setup_in, state_after, state_in, systems_by}
 use Rattle.sim_play.proofs.LogTurns.{digests_to}
 use Rattle.sim_play.proofs.logs.play_turns.Given as goal
 
@@ -15,5 +11,6 @@ invariant-loop-commands g l =
       valid : IsValid (setup_in l.fn.board) (state_in l.board);
       same : setup_in l.board ≡ setup_in l.fn.board;
       whole : IsWholeBy l.board (λ i v. (goal.System-dyn g (i, v)).meaning v);
-      kept : AreKept (systems_by (rig_in l.fn.board) (λ i v. (goal.System-dyn g (i, v)).meaning v)) (systems_by (rig_in l.board) (λ i v. (goal.System-dyn g (i, v)).meaning v));
+      kept : AreKept (systems_by (rig_in l.fn.board) (λ i v. (goal.System-dyn g (i, v)).meaning v))
+          (systems_by (rig_in l.board) (λ i v. (goal.System-dyn g (i, v)).meaning v));
     }

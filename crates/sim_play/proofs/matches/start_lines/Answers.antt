@@ -1,7 +1,6 @@
 -- The board was started.
-use Rattle.std.proofs.Common.{◌≡◌, ℕ, List, ◌++◌, string_bytes, subst}
-use Rattle.std.specs.Prelude.{OnOk}
-use Rattle.sim_play.proofs.Starting.{started_valid, started_lines}
+use Rattle.sim_play.proofs.Common.{◌≡◌, ℕ, List, ◌++◌, OnOk, string_bytes, subst}
+use Rattle.sim_play.proofs.Starting.{started_lines, started_valid}
 use Rattle.sim_play.proofs.matches.start_lines.Goals as goal
 
 pub push_turns-requires-clause-valid : goal.push_turns-requires-clause-valid
@@ -9,4 +8,5 @@ push_turns-requires-clause-valid g c = started_valid _ _ _ c.in_ok-start.ensures
 
 pub returns-clause-text : goal.returns-clause-text
 returns-clause-text g c =
-    subst (λ (lines : List ℕ). OnOk c.push_turns.result (string_bytes c.push_turns.new.out ≡ string_bytes c.args.out.now ++ lines)) (started_lines _ _ _ c.in_ok-start.ensures.setup c.in_ok-start.ensures.state) c.push_turns.ensures.text
+    subst (λ (lines : List ℕ). OnOk c.push_turns.result (string_bytes c.push_turns.new.out ≡ string_bytes c.args.out.now ++ lines))
+    (started_lines _ _ _ c.in_ok-start.ensures.setup c.in_ok-start.ensures.state) c.push_turns.ensures.text

@@ -1,9 +1,6 @@
 -- The board was started.
-use Rattle.std.proofs.Common.{◌≡◌, subst, arith}
-use Rattle.std.specs.Prelude.{OnOk}
-use Rattle.sim_base.specs.declared.state.State.{State}
-use Rattle.sim_board.specs.BoardWords.{state_in}
-use Rattle.sim_play.proofs.Starting.{started_valid, started_turn, started_until}
+use Rattle.sim_play.proofs.Common.{◌≡◌, OnOk, arith, State, state_in, subst}
+use Rattle.sim_play.proofs.Starting.{started_turn, started_until, started_valid}
 use Rattle.sim_play.proofs.matches.start_until.Goals as goal
 
 pub play-requires-clause-valid : goal.play-requires-clause-valid
@@ -14,4 +11,5 @@ play-requires-clause-ahead g c = omega (arith, started_turn _ _ _ c.in_ok-start.
 
 pub returns-clause-state : goal.returns-clause-state
 returns-clause-state g c =
-    subst (λ (state : State). OnOk c.play.result (state_in c.play.new.board ≡ state)) (started_until _ _ _ c.in_ok-start.ensures.setup c.in_ok-start.ensures.state c.args.turn) c.play.ensures.state
+    subst (λ (state : State). OnOk c.play.result (state_in c.play.new.board ≡ state))
+    (started_until _ _ _ c.in_ok-start.ensures.setup c.in_ok-start.ensures.state c.args.turn) c.play.ensures.state

@@ -1,10 +1,6 @@
 -- One turn more.
-use Rattle.std.proofs.Common.{◌≡◌, ℕ, ◌+◌, List, [], ◌∷◌, ◌++◌, refl, sym, ap, ◌∙◌, map, arith}
-use Rattle.std.specs.List.{range_with_len}
-use Rattle.std.proofs.lemmas.List.FromFn.{map-range_with_len_more}
-use Rattle.sim_base.specs.declared.command.PlayerCommand.{PlayerCommand}
-use Rattle.sim_base.specs.declared.setup.Timed.{Timed}
-use Rattle.sim_base.specs.Turn.{orders_at}
+use Rattle.sim_play.proofs.Common.{◌∙◌}
+use Rattle.sim_play.proofs.Common.{◌≡◌, ℕ, ◌+◌, List, [], ◌∷◌, ◌++◌, map, ap, arith, map-range_with_len_more, orders_at, PlayerCommand, range_with_len, sym}
 use Rattle.sim_play.proofs.own.match_turns.Goals as goal
 
 pub loop-before-preserved : goal.loop-before-preserved

@@ -1,7 +1,5 @@
 -- The turns so far.
-use Rattle.std.proofs.Common.{◌≡◌, map}
-use Rattle.std.specs.List.{range_with_len}
-use Rattle.sim_base.specs.Turn.{orders_at}
+use Rattle.sim_play.proofs.Common.{◌≡◌, map, orders_at, range_with_len}
 use Rattle.sim_play.proofs.own.match_turns.Given as goal
 
 abbrev pub invariant-loop-before : goal.invariant-loop-before

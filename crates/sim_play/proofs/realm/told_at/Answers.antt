@@ -1,10 +1,5 @@
 -- The board was started, and the realm has followed the states of turns 0 to the one asked for.
-use Rattle.std.proofs.Common.{◌∙◌, sym, ap, subst, arith}
-use Rattle.std.specs.Prelude.{IfOk, string_bytes}
-use Rattle.sim_base.specs.declared.setup.Setup.{Setup}
-use Rattle.sim_board.specs.BoardWords.{setup_in}
-use Rattle.sim_territory.specs.Realms.{RealmOf}
-use Rattle.sim_play.specs.Realms.{TellsRealm}
+use Rattle.sim_play.proofs.Common.{IfOk, string_bytes, ap, arith, RealmOf, Setup, setup_in, subst, sym, TellsRealm, ◌∙◌}
 use Rattle.sim_play.proofs.Later.{realm_followed}
 use Rattle.sim_play.proofs.realm.told_at.Goals as goal
 

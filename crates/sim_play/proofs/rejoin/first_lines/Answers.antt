@@ -1,16 +1,12 @@
 -- The lines up to the turn of the state that is stored, and those behind it.
-use Rattle.std.proofs.Common.{◌≡◌, suc, ◌++◌, ◌-◌, sym, subst, ◌∙◌, string_bytes}
-use Rattle.std.specs.Prelude.{codes}
-use Rattle.sim_base.specs.declared.setup.Setup.{Setup}
-use Rattle.sim_base.specs.Turn.{after, own_turns}
-use Rattle.sim_board.specs.BoardWords.{setup_in, state_in}
-use Rattle.sim_play.specs.Lines.{past_lines}
-use Rattle.sim_play.proofs.Past.{own_at, own_by_turn, ended_lines}
+use Rattle.sim_play.proofs.Common.{◌≡◌, suc, ◌-◌, ◌++◌, string_bytes, codes, after, own_turns, past_lines, Setup, setup_in, state_in, subst, sym, ◌∙◌}
+use Rattle.sim_play.proofs.Past.{ended_lines, own_at, own_by_turn}
 use Rattle.sim_play.proofs.rejoin.first_lines.Goals as goal
 
 pub push_past-requires-clause-own : goal.push_past-requires-clause-own
 push_past-requires-clause-own g c =
-    subst (λ (s : Setup). state_in c.first_until.new.board ≡ after s (own_turns s 0 (state_in c.first_until.new.board).turn)) (sym c.in_ok-first_until.ensures.setup)
+    subst (λ (s : Setup). state_in c.first_until.new.board ≡ after s (own_turns s 0 (state_in c.first_until.new.board).turn))
+    (sym c.in_ok-first_until.ensures.setup)
     (own_by_turn (setup_in c.args.board.now) (state_in c.first_until.new.board) c.args.turn c.in_ok-first_until.ensures.state)
 
 pub returns-clause-text : goal.returns-clause-text
@@ -21,6 +17,8 @@ returns-clause-text g c =
     let word = codes "first" in
     let last : c.setup-setup.result.now ≡ setup = c.setup-setup.ensures ∙ c.in_ok-first_until.ensures.setup in
     let rest : string_bytes c.push_past.new.out ≡ string_bytes c.first_until.new.out ++ past_lines word same (suc state.turn) (setup.turns - state.turn) =
-    subst (λ (s : Setup). string_bytes c.push_past.new.out ≡ string_bytes c.first_until.new.out ++ past_lines word same (suc state.turn) (s.turns - state.turn)) last c.in_ok-push_past.ensures.text in
-    ended_lines word setup same state.turn c.args.turn setup.turns (string_bytes c.args.out.now) (string_bytes c.first_until.new.out) (string_bytes c.push_past.new.out) c.in_ok-first_until.ensures.setup
+    subst (λ (s : Setup). string_bytes c.push_past.new.out ≡ string_bytes c.first_until.new.out ++ past_lines word same (suc state.turn) (s.turns - state.turn))
+    last c.in_ok-push_past.ensures.text in
+    ended_lines word setup same state.turn c.args.turn setup.turns (string_bytes c.args.out.now) (string_bytes c.first_until.new.out)
+    (string_bytes c.push_past.new.out) c.in_ok-first_until.ensures.setup
     (own_at setup state c.args.turn c.in_ok-first_until.ensures.state) c.requires.turn c.in_ok-first_until.ensures.text rest

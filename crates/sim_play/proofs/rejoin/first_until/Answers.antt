@@ -1,16 +1,7 @@
 -- The board was started, has its first line, and is played on.
-use Rattle.std.proofs.Common.{◌≡◌, ℕ, suc, ◌-◌, ◌++◌, ap, ◌∙◌, sym, subst, arith, string_bytes}
-use Rattle.std.specs.Prelude.{codes}
-use Rattle.sim_base.specs.declared.setup.Setup.{Setup}
-use Rattle.sim_base.specs.declared.state.State.{State}
-use Rattle.sim_base.specs.Turn.{after, own_turns}
-use Rattle.sim_base.specs.Spelling.{digest}
-use Rattle.sim_base.specs.Validity.{IsValid}
-use Rattle.sim_report.specs.Lines.{turn_line}
-use Rattle.sim_board.specs.BoardWords.{setup_in, state_in}
-use Rattle.sim_play.specs.Lines.{past_lines}
-use Rattle.sim_play.proofs.Past.{own_start, begun_lines, of_done}
-use Rattle.sim_play.proofs.Starting.{started_valid, started_turn}
+use Rattle.sim_play.proofs.{Past.begun_lines, Past.of_done, Past.own_start, Starting.started_turn, Starting.started_valid}
+use Rattle.sim_play.proofs.Common.{State, state_in, subst, sym, turn_line, ◌∙◌}
+use Rattle.sim_play.proofs.Common.{◌≡◌, ℕ, suc, ◌-◌, ◌++◌, string_bytes, codes, after, ap, arith, digest, IsValid, own_turns, past_lines, Setup, setup_in}
 use Rattle.sim_play.proofs.rejoin.first_until.Goals as goal
 
 pub push_past-requires-clause-valid : goal.push_past-requires-clause-valid
@@ -19,7 +10,8 @@ push_past-requires-clause-valid g c = started_valid _ _ _ c.in_ok-start.ensures.
 pub push_line-requires : goal.push_line-requires
 push_line-requires g c =
     let valid = started_valid _ _ _ c.in_ok-start.ensures.setup c.in_ok-start.ensures.state c.requires.limits in
-    subst (λ (s : State). IsValid c.setup.result.now s) (sym c.scene.ensures.state) (subst (λ (s : Setup). IsValid s (state_in c.start.new.self)) (sym c.setup.ensures) valid)
+    subst (λ (s : State). IsValid c.setup.result.now s) (sym c.scene.ensures.state)
+    (subst (λ (s : Setup). IsValid s (state_in c.start.new.self)) (sym c.setup.ensures) valid)
 
 pub push_past-requires-clause-own : goal.push_past-requires-clause-own
 push_past-requires-clause-own g c =
@@ -44,5 +36,7 @@ returns-clause-text g c =
     ∙ ap (λ (s : State). old ++ turn_line word s.turn (digest same s)) c.scene.ensures.state in
     let whole : c.args.turn - 0 ≡ c.args.turn = omega arith in
     of_done c.push_past.result _ _
-    (λ rest. begun_lines word setup same state (c.args.turn - state.turn) old middle (string_bytes c.push_past.new.out) c.in_ok-start.ensures.setup (own_start setup state c.in_ok-start.ensures.state) line rest
-    ∙ ap (λ (k : ℕ). old ++ past_lines word setup k (suc (c.args.turn - k))) zero_turn ∙ ap (λ (k : ℕ). old ++ past_lines word setup 0 (suc k)) whole) c.push_past.ensures.text
+    (λ rest. begun_lines word setup same state (c.args.turn - state.turn) old middle (string_bytes c.push_past.new.out) c.in_ok-start.ensures.setup
+    (own_start setup state c.in_ok-start.ensures.state) line rest
+    ∙ ap (λ (k : ℕ). old ++ past_lines word setup k (suc (c.args.turn - k))) zero_turn ∙ ap (λ (k : ℕ). old ++ past_lines word setup 0 (suc k)) whole)
+    c.push_past.ensures.text

@@ -1,19 +1,12 @@
 -- The board took the state, has its line, and is played on.
-use Rattle.std.proofs.Common.{◌≡◌, suc, ◌-◌, ◌++◌, ap, ◌∙◌, sym, subst, string_bytes}
-use Rattle.std.specs.Prelude.{codes}
-use Rattle.sim_base.specs.declared.setup.Setup.{Setup}
-use Rattle.sim_base.specs.declared.state.State.{State}
-use Rattle.sim_base.specs.Turn.{after, own_turns}
-use Rattle.sim_base.specs.Spelling.{digest}
-use Rattle.sim_report.specs.Lines.{turn_line}
-use Rattle.sim_board.specs.BoardWords.{setup_in, state_in}
-use Rattle.sim_play.specs.Lines.{past_lines}
-use Rattle.sim_play.proofs.Past.{begun_lines, of_done}
+use Rattle.sim_play.proofs.{Common.sym, Common.turn_line, Common.◌∙◌, Past.begun_lines, Past.of_done}
+use Rattle.sim_play.proofs.Common.{◌≡◌, suc, ◌-◌, ◌++◌, string_bytes, codes, after, ap, digest, own_turns, past_lines, Setup, setup_in, State, state_in, subst}
 use Rattle.sim_play.proofs.rejoin.second_lines.Goals as goal
 
 pub push_past-requires-clause-own : goal.push_past-requires-clause-own
 push_past-requires-clause-own g c =
-    let own = subst (λ (s : State). s ≡ after (setup_in c.args.board.now) (own_turns (setup_in c.args.board.now) 0 s.turn)) (sym c.in_ok-adopt.ensures.state) c.requires.own in
+    let own = subst (λ (s : State). s ≡ after (setup_in c.args.board.now) (own_turns (setup_in c.args.board.now) 0 s.turn)) (sym c.in_ok-adopt.ensures.state)
+    c.requires.own in
     subst (λ (s : Setup). state_in c.adopt.new.self ≡ after s (own_turns s 0 (state_in c.adopt.new.self).turn)) (sym c.in_ok-adopt.ensures.setup) own
 
 pub returns-clause-text : goal.returns-clause-text

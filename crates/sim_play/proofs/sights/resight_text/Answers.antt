@@ -1,6 +1,5 @@
 -- What is told of a sight that was joined is told of the file.
-use Rattle.sim_board.specs.BoardWords.{setup_in}
-use Rattle.sim_play.proofs.Later.{resumed_told}
+use Rattle.sim_play.proofs.{Common.setup_in, Later.resumed_told}
 use Rattle.sim_play.proofs.sights.resight_text.Goals as goal
 
 pub returns-clause-text : goal.returns-clause-text

@@ -1,8 +1,6 @@
 -- The board is of the match.
-use Rattle.std.proofs.Common.{◌≡◌, subst}
-use Rattle.std.specs.Prelude.{IfOk, string_bytes}
-use Rattle.sim_base.specs.declared.setup.Setup.{Setup}
-use Rattle.sim_play.specs.Seen.{sight_text, sight_file}
+use Rattle.sim_play.proofs.Common.{◌≡◌, IfOk, string_bytes, Setup, sight_file, subst}
+use Rattle.sim_play.specs.Seen.{sight_text}
 use Rattle.sim_play.proofs.sights.sight_at.Goals as goal
 
 pub returns-clause-text : goal.returns-clause-text

@@ -1,7 +1,5 @@
 -- The sight has looked at the later states.
-use Rattle.std.proofs.Common.{◌≡◌, ◌∙◌, ap, rules}
-use Rattle.std.specs.Prelude.{string_bytes}
-use Rattle.sim_vision.specs.Told.{sight_text}
+use Rattle.sim_play.proofs.Common.{◌≡◌, string_bytes, ap, rules, sight_text, ◌∙◌}
 use Rattle.sim_play.proofs.sights.tell_from_a_state.Goals as goal
 
 pub returns-clause-text : goal.returns-clause-text

@@ -1,12 +1,6 @@
 -- The sight has looked at the states of turns 0 to the one asked for.
-use Rattle.std.proofs.Common.{◌≡◌, ◌∙◌, ap, rules}
-use Rattle.std.specs.Prelude.{string_bytes}
-use Rattle.sim_board.specs.BoardWords.{setup_in}
-use Rattle.sim_vision.specs.Vision.{Vision}
-use Rattle.sim_vision.specs.After.{blind, vision_after}
-use Rattle.sim_vision.specs.Told.{explored_file, sight_text}
-use Rattle.sim_play.specs.States.{states_to}
-use Rattle.sim_play.proofs.Later.{started_text, started_file}
+use Rattle.sim_play.proofs.Common.{◌≡◌, string_bytes, ap, blind, explored_file, rules, setup_in, sight_text, states_to, Vision, vision_after, ◌∙◌}
+use Rattle.sim_play.proofs.Later.{started_file, started_text}
 use Rattle.sim_play.proofs.sights.tell_from_the_start.Goals as goal
 
 pub start_following-requires-clause-same : goal.start_following-requires-clause-same

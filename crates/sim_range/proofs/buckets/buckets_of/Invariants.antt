@@ -1,5 +1,4 @@
-use Rattle.std.proofs.Common.{◌≡◌, length, take}
-use Rattle.sim_range.specs.Bucketed.{AreBuckets}
+use Rattle.sim_range.proofs.Common.{◌≡◌, length, take, AreBuckets}
 use Rattle.sim_range.proofs.buckets.buckets_of.Given as goal
 
 abbrev pub invariant-loop-fact : goal.invariant-loop-fact

@@ -1,5 +1,4 @@
-use Rattle.std.proofs.Common.{◌≡◌, [], length}
-use Rattle.sim_range.specs.Bucketed.{AreBuckets}
+use Rattle.sim_range.proofs.Common.{◌≡◌, [], length, AreBuckets}
 use Rattle.sim_range.proofs.buckets.empty.Given as goal
 
 abbrev pub invariant-loop : goal.invariant-loop

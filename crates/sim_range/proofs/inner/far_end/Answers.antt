@@ -1,6 +1,5 @@
 -- The end that is further away is as far as any number between the two.
-use Rattle.std.proofs.Common.{arith}
-use Rattle.std.proofs.lemmas.Int.{ints}
+use Rattle.sim_range.proofs.Common.{arith, ints}
 use Rattle.sim_range.proofs.inner.far_end.Goals as goal
 
 pub returns-then-raw-first-clause-far : goal.returns-then-raw-first-clause-far

@@ -1,6 +1,5 @@
 -- No point of a bucket is further away than its furthest corner.
-use Rattle.std.proofs.Common.{arith}
-use Rattle.sim_range.proofs.Between.{close_by}
+use Rattle.sim_range.proofs.{Between.close_by, Common.arith}
 use Rattle.sim_range.proofs.inner.is_close.Goals as goal
 
 pub returns : goal.returns

@@ -1,18 +1,14 @@
 -- One id more has come or gone.
-use Rattle.std.proofs.Common.{Some, take, get_or, sym, ap, ◌∙◌, subst, arith}
-use Rattle.std.proofs.lemmas.List.{take_all}
-use Rattle.std.specs.List.Sorted.{IsStrictlyIncreasing}
-use Rattle.sim_system.specs.Notes.{fact_with}
-use Rattle.sim_range.specs.Sights.{sees, turned, ids_of}
-use Rattle.sim_range.proofs.Seeing.{seen_is}
-use Rattle.sim_range.proofs.Own.{mixed_up, mixed_all, next_mixed, same_mixed}
-use Rattle.sim_range.proofs.plan.turn_own.Goals.{in-Ok+in_ok-make_room, in_default}
+use Rattle.sim_range.proofs.{Seeing.seen_is, plan.turn_own.Goals.in-Ok+in_ok-make_room, plan.turn_own.Goals.in_default}
+use Rattle.sim_range.proofs.Common.{get_or, take, Some, ap, arith, fact_with, ids_of, IsStrictlyIncreasing, sees, subst, sym, take_all, turned, ◌∙◌}
+use Rattle.sim_range.proofs.Own.{mixed_all, mixed_up, next_mixed, same_mixed}
 use Rattle.sim_range.proofs.plan.turn_own.Goals as goal
 
 pub turn-requires-clause-ascending : goal.turn-requires-clause-ascending
 turn-requires-clause-ascending c =
     subst IsStrictlyIncreasing (sym c.in_ok-make_room.ensures.same)
-    (mixed_up (sees c.args.land.now (fact_with c.args.facts.now c.args.watcher.now.id)) (sees c.args.land.now (Some c.args.watcher.now)) c.args.facts.now c.requires.holds.held.ascending c.args.seen.now (take c.loop-id.id-index c.args.seen.now) c.loop-id.own.ids.items c.loop-id.invariant)
+    (mixed_up (sees c.args.land.now (fact_with c.args.facts.now c.args.watcher.now.id)) (sees c.args.land.now (Some c.args.watcher.now)) c.args.facts.now
+    c.requires.holds.held.ascending c.args.seen.now (take c.loop-id.id-index c.args.seen.now) c.loop-id.own.ids.items c.loop-id.invariant)
 
 pub loop-id-preserved : goal.loop-id-preserved
 loop-id-preserved c =
@@ -25,13 +21,16 @@ loop-id-preserved c =
     elim c.match-place_of.branch [
       | in-Ok+in_ok-make_room w ↦
           ap ids_of w.own-is
-          ∙ next_mixed g h facts c.requires.holds.held.ascending ids j (grind arith) own c.loop-id.invariant w.in-Ok.at w.index-facts-at.result w.is_seen_by.result _ w.in-Ok.ensures w.index-facts-at.is w.is_seen_by.ensures
+          ∙ next_mixed g h facts c.requires.holds.held.ascending ids j (grind arith) own c.loop-id.invariant w.in-Ok.at w.index-facts-at.result
+          w.is_seen_by.result _ w.in-Ok.ensures w.index-facts-at.is w.is_seen_by.ensures
           (w.turn.ensures ∙ ap (turned w.is_seen_by.result (get_or ids j 0)) w.in_ok-make_room.ensures.same)
-      | in_default w ↦ ap ids_of w.own-is ∙ same_mixed g h facts c.requires.holds.held.ascending ids j (grind arith) own c.loop-id.invariant w.in_default.field-0 w.in_default.ensures
+      | in_default w ↦ ap ids_of w.own-is ∙ same_mixed g h facts c.requires.holds.held.ascending ids j (grind arith) own c.loop-id.invariant
+          w.in_default.field-0 w.in_default.ensures
     ]
 
 pub returns : goal.returns
 returns c =
     c.loop-id.invariant
-    ∙ mixed_all (sees c.args.land.now (fact_with c.args.facts.now c.args.watcher.now.id)) (sees c.args.land.now (Some c.args.watcher.now)) c.args.facts.now c.requires.holds.held.ascending c.args.seen.now _ (take_all c.loop-id.id-index c.args.seen.now (grind arith)) c.requires.seen
+    ∙ mixed_all (sees c.args.land.now (fact_with c.args.facts.now c.args.watcher.now.id)) (sees c.args.land.now (Some c.args.watcher.now)) c.args.facts.now
+    c.requires.holds.held.ascending c.args.seen.now _ (take_all c.loop-id.id-index c.args.seen.now (grind arith)) c.requires.seen
     ∙ sym (seen_is c.args.land.now c.args.watcher.now c.args.watcher.now.vision c.args.facts.now)

@@ -1,6 +1,5 @@
 -- The fact that is found is held on the land.
-use Rattle.std.proofs.Common.{sym}
-use Rattle.sim_range.proofs.Held.{found_held}
+use Rattle.sim_range.proofs.{Common.sym, Held.found_held}
 use Rattle.sim_range.proofs.seen.seen.Goals as goal
 
 pub sight_of-requires-clause-watcher : goal.sight_of-requires-clause-watcher

@@ -1,10 +1,6 @@
 -- There is room in one sight more, or nobody has that id.
-use Rattle.std.proofs.Common.{ℕ, ◌+◌, List, length, take, sym, ap, ◌∙◌, subst, arith, vec_items}
-use Rattle.std.proofs.lemmas.List.{take_all}
-use Rattle.sim_range.specs.declared.sight.Sight.{Sight}
-use Rattle.sim_range.specs.Sights.{ids_at, HaveRooms}
-use Rattle.sim_range.proofs.Watching.{more_rooms, same_rooms}
-use Rattle.sim_range.proofs.sights.make_rooms.Goals.{in-Ok+in_ok-make_room_at, in_default}
+use Rattle.sim_range.proofs.{Watching.more_rooms, Watching.same_rooms, sights.make_rooms.Goals.in-Ok+in_ok-make_room_at, sights.make_rooms.Goals.in_default}
+use Rattle.sim_range.proofs.Common.{ℕ, ◌+◌, List, length, take, vec_items, ap, arith, HaveRooms, ids_at, Sight, subst, sym, take_all, ◌∙◌}
 use Rattle.sim_range.proofs.sights.make_rooms.Goals as goal
 
 pub loop-watcher-preserved : goal.loop-watcher-preserved
@@ -20,16 +16,19 @@ loop-watcher-preserved c =
             along = ap (λ (ss : List Sight). length ss) is ∙ w.in_ok-make_room_at.ensures.along ∙ kept.along;
             same = λ k d. ap (λ (ss : List Sight). ids_at ss k d) is ∙ w.in_ok-make_room_at.ensures.same k d ∙ kept.same k d;
             room = subst (HaveRooms facts (take (j + 1) watchers)) (sym is)
-                (more_rooms facts watchers j (grind arith) c.loop-watcher.sights.items kept.room w.in-Ok.at w.make_room_at.new.sights.items c.requires.ascending w.in-Ok.ensures w.in_ok-make_room_at.ensures.there w.in_ok-make_room_at.ensures.others);
+                (more_rooms facts watchers j (grind arith) c.loop-watcher.sights.items kept.room w.in-Ok.at w.make_room_at.new.sights.items c.requires.ascending
+                w.in-Ok.ensures w.in_ok-make_room_at.ensures.there w.in_ok-make_room_at.ensures.others);
           })
       | in_default w ↦
           (let is = ap vec_items w.sights-is in
           record {
             along = ap (λ (ss : List Sight). length ss) is ∙ kept.along;
             same = λ k d. ap (λ (ss : List Sight). ids_at ss k d) is ∙ kept.same k d;
-            room = subst (HaveRooms facts (take (j + 1) watchers)) (sym is) (same_rooms facts watchers j (grind arith) c.loop-watcher.sights.items kept.room w.in_default.field-0 w.in_default.ensures);
+            room = subst (HaveRooms facts (take (j + 1) watchers)) (sym is) (same_rooms facts watchers j (grind arith) c.loop-watcher.sights.items kept.room
+                w.in_default.field-0 w.in_default.ensures);
           })
     ]
 
 pub returns-clause-room : goal.returns-clause-room
-returns-clause-room c = subst (λ (ws : List ℕ). HaveRooms c.args.facts.now ws c.loop-watcher.sights.items) (take_all c.loop-watcher.watcher-index c.args.watchers.now (grind arith)) c.loop-watcher.invariant.room
+returns-clause-room c = subst (λ (ws : List ℕ). HaveRooms c.args.facts.now ws c.loop-watcher.sights.items)
+    (take_all c.loop-watcher.watcher-index c.args.watchers.now (grind arith)) c.loop-watcher.invariant.room

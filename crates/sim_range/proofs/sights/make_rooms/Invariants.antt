@@ -1,6 +1,4 @@
-use Rattle.std.proofs.Common.{◌≡◌, ℕ, length, take}
-use Rattle.sim_range.specs.declared.sight.Sight.{Sight}
-use Rattle.sim_range.specs.Sights.{ids_at, HaveRooms}
+use Rattle.sim_range.proofs.Common.{◌≡◌, ℕ, length, take, HaveRooms, ids_at, Sight}
 use Rattle.sim_range.proofs.sights.make_rooms.Given as goal
 
 abbrev pub invariant-loop-watcher : goal.invariant-loop-watcher

@@ -1,5 +1,4 @@
-use Rattle.std.proofs.Common.{◌≡◌, map, take}
-use Rattle.sim_range.specs.Sights.{ids_of, sight}
+use Rattle.sim_range.proofs.Common.{◌≡◌, map, take, ids_of, sight}
 use Rattle.sim_range.proofs.sights.sights_of.Given as goal
 
 abbrev pub invariant-loop-fact : goal.invariant-loop-fact

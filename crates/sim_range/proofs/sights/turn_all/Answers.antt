@@ -1,12 +1,7 @@
 -- One sight more is changed, or nobody has that id.
-use Rattle.std.proofs.Common.{◌<◌, List, length, get_or, refl, sym, ap, ◌∙◌, subst, arith, vec_items}
-use Rattle.std.specs.Prelude.{vec_len, vec_capacity}
-use Rattle.std.proofs.lemmas.List.{take_all}
-use Rattle.sim_system.specs.Notes.{fact_with}
-use Rattle.sim_range.specs.declared.sight.Sight.{Sight}
-use Rattle.sim_range.specs.Sights.{ids_of, ids_at, sight}
-use Rattle.sim_range.proofs.Watching.{read_map, long_as, all_turned, ready_up, ready_room, next_seen, next_room, same_seen, same_room}
-use Rattle.sim_range.proofs.sights.turn_all.Goals.{in-Ok, in_default}
+use Rattle.sim_range.proofs.{Common.subst, Common.sym, Common.take_all, Common.◌∙◌, sights.turn_all.Goals.in-Ok, sights.turn_all.Goals.in_default}
+use Rattle.sim_range.proofs.Common.{◌<◌, List, length, get_or, vec_items, vec_len, vec_capacity, refl, ap, arith, fact_with, ids_at, ids_of, Sight, sight}
+use Rattle.sim_range.proofs.Watching.{all_turned, long_as, next_room, next_seen, read_map, ready_room, ready_up, same_room, same_seen}
 use Rattle.sim_range.proofs.sights.turn_all.Goals as goal
 
 pub loop-watcher-init : goal.loop-watcher-init
@@ -19,12 +14,14 @@ loop-watcher-init c = record {
 
 pub turn_at-requires-clause-ascending : goal.turn_at-requires-clause-ascending
 turn_at-requires-clause-ascending c =
-    ready_up c.args.land.now c.args.id c.args.after.now c.args.facts.now c.requires.holds.held.ascending c.requires.named c.args.watchers.now c.loop-watcher.watcher-index (grind arith) c.loop-watcher.sights.items c.loop-watcher.invariant.seen c.loop-watcher.invariant.room
+    ready_up c.args.land.now c.args.id c.args.after.now c.args.facts.now c.requires.holds.held.ascending c.requires.named c.args.watchers.now
+    c.loop-watcher.watcher-index (grind arith) c.loop-watcher.sights.items c.loop-watcher.invariant.seen c.loop-watcher.invariant.room
     c.in-Ok.at c.in-Ok.ensures c.index-facts-at.result c.index-facts-at.is
 
 pub turn_at-requires-clause-room : goal.turn_at-requires-clause-room
 turn_at-requires-clause-room c =
-    ready_room c.args.land.now c.args.id c.args.after.now c.args.facts.now c.requires.holds.held.ascending c.requires.named c.args.watchers.now c.loop-watcher.watcher-index (grind arith) c.loop-watcher.sights.items c.loop-watcher.invariant.seen c.loop-watcher.invariant.room
+    ready_room c.args.land.now c.args.id c.args.after.now c.args.facts.now c.requires.holds.held.ascending c.requires.named c.args.watchers.now
+    c.loop-watcher.watcher-index (grind arith) c.loop-watcher.sights.items c.loop-watcher.invariant.seen c.loop-watcher.invariant.room
     c.in-Ok.at c.in-Ok.ensures c.index-facts-at.result c.index-facts-at.is c.is_seen.result c.is_seen.ensures
 
 pub loop-watcher-preserved : goal.loop-watcher-preserved
@@ -42,10 +39,12 @@ loop-watcher-preserved c =
           record {
             along = ap (λ (ss : List Sight). length ss) is ∙ w.turn_at.ensures.along ∙ kept.along;
             seen = λ i f d lt. ap (λ (ss : List Sight). ids_at ss i d) is
-                ∙ next_seen land c.args.id c.args.after.now facts c.requires.holds.held.ascending c.requires.named watchers j (grind arith) old kept.seen kept.room w.in-Ok.at w.in-Ok.ensures w.index-facts-at.result w.index-facts-at.is new w.turn_at.ensures.others w.is_seen.result
+                ∙ next_seen land c.args.id c.args.after.now facts c.requires.holds.held.ascending c.requires.named watchers j (grind arith) old kept.seen
+                kept.room w.in-Ok.at w.in-Ok.ensures w.index-facts-at.result w.index-facts-at.is new w.turn_at.ensures.others w.is_seen.result
                 w.is_seen.ensures w.turn_at.ensures.there i f d lt;
             room = λ i f d lt among none. subst (λ (ss : List Sight). vec_len (get_or ss i d).ids < vec_capacity (get_or ss i d).ids) (sym is)
-                (next_room land c.args.id c.args.after.now facts c.requires.holds.held.ascending c.requires.named watchers j (grind arith) old kept.seen kept.room w.in-Ok.at w.in-Ok.ensures w.index-facts-at.result w.index-facts-at.is new w.turn_at.ensures.others i f d lt among
+                (next_room land c.args.id c.args.after.now facts c.requires.holds.held.ascending c.requires.named watchers j (grind arith) old kept.seen
+                kept.room w.in-Ok.at w.in-Ok.ensures w.index-facts-at.result w.index-facts-at.is new w.turn_at.ensures.others i f d lt among
                 none);
             more = λ room. subst (λ (v : _). vec_len v < vec_capacity v) (sym w.sights-is) (w.turn_at.ensures.room (kept.more room));
           })
@@ -54,14 +53,18 @@ loop-watcher-preserved c =
           record {
             along = ap (λ (ss : List Sight). length ss) is ∙ kept.along;
             seen = λ i f d lt. ap (λ (ss : List Sight). ids_at ss i d) is
-                ∙ same_seen land c.args.id c.args.after.now facts c.requires.holds.held.ascending c.requires.named watchers j (grind arith) old kept.seen kept.room w.in_default.field-0 w.in_default.ensures i f d lt;
+                ∙ same_seen land c.args.id c.args.after.now facts c.requires.holds.held.ascending c.requires.named watchers j (grind arith) old kept.seen
+                kept.room w.in_default.field-0 w.in_default.ensures i f d lt;
             room = λ i f d lt among none. subst (λ (ss : List Sight). vec_len (get_or ss i d).ids < vec_capacity (get_or ss i d).ids) (sym is)
-                (same_room land c.args.id c.args.after.now facts c.requires.holds.held.ascending c.requires.named watchers j (grind arith) old kept.seen kept.room w.in_default.field-0 w.in_default.ensures i f d lt among none);
+                (same_room land c.args.id c.args.after.now facts c.requires.holds.held.ascending c.requires.named watchers j (grind arith) old kept.seen
+                kept.room w.in_default.field-0 w.in_default.ensures i f d lt among none);
             more = λ room. subst (λ (v : _). vec_len v < vec_capacity v) (sym w.sights-is) (kept.more room);
           })
     ]
 
 pub returns-clause-changed : goal.returns-clause-changed
 returns-clause-changed c =
-    all_turned c.args.land.now c.args.id c.args.after.now c.args.facts.now c.requires.holds.held.ascending c.requires.named (fact_with c.args.facts.now c.args.id) c.args.watchers.now _ c.loop-watcher.sights.items refl
-    (take_all c.loop-watcher.watcher-index c.args.watchers.now (grind arith)) (c.loop-watcher.invariant.along ∙ long_as ids_of (sight c.args.land.now c.args.facts.now) c.args.sights.now.items c.args.facts.now c.requires.sights) c.loop-watcher.invariant.seen
+    all_turned c.args.land.now c.args.id c.args.after.now c.args.facts.now c.requires.holds.held.ascending c.requires.named
+    (fact_with c.args.facts.now c.args.id) c.args.watchers.now _ c.loop-watcher.sights.items refl
+    (take_all c.loop-watcher.watcher-index c.args.watchers.now (grind arith)) (c.loop-watcher.invariant.along ∙
+    long_as ids_of (sight c.args.land.now c.args.facts.now) c.args.sights.now.items c.args.facts.now c.requires.sights) c.loop-watcher.invariant.seen

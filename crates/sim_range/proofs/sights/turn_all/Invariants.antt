@@ -1,16 +1,14 @@
-use Rattle.std.proofs.Common.{◌≡◌, ℕ, ◌<◌, true, false, length, get_or, take}
-use Rattle.std.specs.Prelude.{vec_len, vec_capacity, if◌then◌else◌}
-use Rattle.sim_system.specs.declared.fact.Fact.{Fact}
-use Rattle.sim_fact_lists.specs.Places.{with_only}
-use Rattle.sim_range.specs.declared.sight.Sight.{Sight}
-use Rattle.sim_range.specs.Sights.{ids_at, is_among, sight}
+use Rattle.sim_range.proofs.Common.{with_only}
+use Rattle.sim_range.proofs.Common.{◌≡◌, ℕ, ◌<◌, true, false, length, get_or, take, if◌then◌else◌, vec_len, vec_capacity, Fact, ids_at, is_among, Sight, sight}
 use Rattle.sim_range.proofs.sights.turn_all.Given as goal
 
 abbrev pub invariant-loop-watcher : goal.invariant-loop-watcher
 invariant-loop-watcher l = record {
   along : length l.sights.items ≡ length l.initial.sights.items;
   seen : (i : ℕ) (f : Fact) (d : Sight) → i < length l.facts →
-      ids_at l.sights.items i d ≡ (if is_among (take l.watcher-index l.watchers) (get_or l.facts i f).id then sight l.land (with_only l.id l.after l.facts) (get_or l.facts i f) else sight l.land l.facts (get_or l.facts i f));
-  room : (i : ℕ) (f : Fact) (d : Sight) → i < length l.facts → is_among l.watchers (get_or l.facts i f).id ≡ true → is_among (take l.watcher-index l.watchers) (get_or l.facts i f).id ≡ false → vec_len (get_or l.sights.items i d).ids < vec_capacity (get_or l.sights.items i d).ids;
+      ids_at l.sights.items i d ≡ (if is_among (take l.watcher-index l.watchers) (get_or l.facts i f).id then sight l.land (with_only l.id l.after l.facts)
+      (get_or l.facts i f) else sight l.land l.facts (get_or l.facts i f));
+  room : (i : ℕ) (f : Fact) (d : Sight) → i < length l.facts → is_among l.watchers (get_or l.facts i f).id ≡ true → is_among (take l.watcher-index l.watchers)
+      (get_or l.facts i f).id ≡ false → vec_len (get_or l.sights.items i d).ids < vec_capacity (get_or l.sights.items i d).ids;
   more : vec_len l.initial.sights < vec_capacity l.initial.sights → vec_len l.sights < vec_capacity l.sights;
 }

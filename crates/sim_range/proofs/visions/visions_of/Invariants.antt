@@ -1,5 +1,4 @@
-use Rattle.std.proofs.Common.{All, take}
-use Rattle.sim_range.specs.Sights.{SeesFrom, SeesWithin}
+use Rattle.sim_range.proofs.Common.{take, All, SeesFrom, SeesWithin}
 use Rattle.sim_range.proofs.visions.visions_of.Given as goal
 
 abbrev pub invariant-loop-fact : goal.invariant-loop-fact

@@ -1,5 +1,4 @@
-use Rattle.std.proofs.Common.{◌≡◌, ℕ, ◌<◌, false, slice_index}
-use Rattle.sim_base.specs.Rows.{in_mask}
+use Rattle.sim_range.proofs.Common.{◌≡◌, ℕ, ◌<◌, false, slice_index, in_mask}
 use Rattle.sim_range.proofs.watchers.is_in_any.Given as goal
 
 abbrev pub invariant-loop-mask : goal.invariant-loop-mask

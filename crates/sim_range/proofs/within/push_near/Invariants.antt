@@ -1,5 +1,4 @@
-use Rattle.std.proofs.Common.{◌≡◌, ◌++◌, take}
-use Rattle.sim_system.specs.Answers.{within_among}
+use Rattle.sim_range.proofs.Common.{◌≡◌, ◌++◌, take, within_among}
 use Rattle.sim_range.proofs.within.push_near.Given as goal
 
 abbrev pub invariant-loop-fact : goal.invariant-loop-fact

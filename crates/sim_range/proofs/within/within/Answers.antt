@@ -1,12 +1,7 @@
 -- Those of one bucket more, or nobody where the bucket is out of reach.
-use Rattle.std.proofs.Common.{ℕ, ◌++◌, List, ap, ◌∙◌, subst, arith, IsPermutation, vec_items}
-use Rattle.std.proofs.lemmas.List.Sorted.{IsNonDecreasingBy-from_sort}
-use Rattle.sim_system.specs.declared.fact.Fact.{Fact}
-use Rattle.sim_system.specs.Answers.{within_among}
-use Rattle.sim_range.specs.Buckets.{held_in}
-use Rattle.sim_range.specs.Nearness.{below_bucket}
-use Rattle.sim_range.proofs.Nearing.{near_by, more_chosen, start_chosen, all_chosen, beyond_by, none_beyond, lent_held, nothing_more, bucket_held}
-use Rattle.sim_range.proofs.within.within.Goals.{then-touches+in_ok-push_near-2, else-touches}
+use Rattle.sim_range.proofs.{Common.within_among, Common.◌∙◌, within.within.Goals.else-touches, within.within.Goals.then-touches+in_ok-push_near-2}
+use Rattle.sim_range.proofs.Common.{ℕ, List, ◌++◌, vec_items, IsPermutation, ap, arith, below_bucket, Fact, held_in, IsNonDecreasingBy-from_sort, subst}
+use Rattle.sim_range.proofs.Nearing.{all_chosen, beyond_by, bucket_held, lent_held, more_chosen, near_by, none_beyond, nothing_more, start_chosen}
 use Rattle.sim_range.proofs.within.within.Goals as goal
 
 pub loop-number-init : goal.loop-number-init
@@ -14,7 +9,8 @@ loop-number-init c = start_chosen (near_by c.args.at.now c.args.radius c.args.ma
 
 pub push_near-requires-then-touches-clause-held : goal.push_near-requires-then-touches-clause-held
 push_near-requires-then-touches-clause-held c =
-    bucket_held c.args.land.now c.args.facts.now c.loop-number.number c.args.buckets.now c.index-buckets-number.result _ c.requires.holds c.requires.bucketed (grind arith) c.index-buckets-number.is c.as_slice.ensures.value
+    bucket_held c.args.land.now c.args.facts.now c.loop-number.number c.args.buckets.now c.index-buckets-number.result _ c.requires.holds c.requires.bucketed
+    (grind arith) c.index-buckets-number.is c.as_slice.ensures.value
 
 pub loop-number-preserved : goal.loop-number-preserved
 loop-number-preserved c =
@@ -26,7 +22,9 @@ loop-number-preserved c =
       | then-touches+in_ok-push_near-2 w ↦
           more_chosen near k facts ids _ c.loop-number.invariant
           (ap vec_items w.ids-is ∙ w.in_ok-push_near-2.ensures
-          ∙ ap (λ (fs : List Fact). ids ++ within_among fs c.args.at.now c.args.radius c.args.mask) (lent_held facts k c.args.buckets.now c.index-buckets-number.result _ c.requires.bucketed (grind arith) c.index-buckets-number.is w.as_slice.ensures.value))
+          ∙ ap (λ (fs : List Fact). ids ++ within_among fs c.args.at.now c.args.radius c.args.mask)
+          (lent_held facts k c.args.buckets.now c.index-buckets-number.result _ c.requires.bucketed (grind arith) c.index-buckets-number.is
+          w.as_slice.ensures.value))
       | else-touches w ↦
           more_chosen near k facts ids _ c.loop-number.invariant
           (ap vec_items w.ids-is
@@ -39,5 +37,6 @@ pub returns : goal.returns
 returns c =
     c.from_items-2.ensures
     ∙ all_chosen (near_by c.args.at.now c.args.radius c.args.mask) c.args.facts.now c.loop-number.ids.items _ c.requires.holds.held.ascending c.requires.placed
-    (subst (λ (n : ℕ). IsPermutation (within_among (below_bucket n c.args.facts.now) c.args.at.now c.args.radius c.args.mask) c.loop-number.ids.items) (grind arith) c.loop-number.invariant) c.sort_unstable.ensures.permutation
+    (subst (λ (n : ℕ). IsPermutation (within_among (below_bucket n c.args.facts.now) c.args.at.now c.args.radius c.args.mask) c.loop-number.ids.items)
+    (grind arith) c.loop-number.invariant) c.sort_unstable.ensures.permutation
     (IsNonDecreasingBy-from_sort (λ (n : ℕ). n) _ c.sort_unstable.ensures.sorted)

@@ -1,6 +1,4 @@
-use Rattle.std.proofs.Common.{IsPermutation}
-use Rattle.sim_system.specs.Answers.{within_among}
-use Rattle.sim_range.specs.Nearness.{below_bucket}
+use Rattle.sim_range.proofs.Common.{IsPermutation, below_bucket, within_among}
 use Rattle.sim_range.proofs.within.within.Given as goal
 
 abbrev pub invariant-loop-number : goal.invariant-loop-number

@@ -1,8 +1,5 @@
 -- Some lines were answered, and the server stands for all that has arrived.
-use Rattle.std.proofs.Common.{◌≤◌}
-use Rattle.sim_server.specs.Small.{IsSmallServer}
-use Rattle.sim_server.specs.Standing.{server_of}
-use Rattle.sim_relay.proofs.Relaying.{HasAnswered}
+use Rattle.{sim_relay.proofs.Relaying.HasAnswered, sim_server.specs.Small.IsSmallServer, sim_server.specs.Standing.server_of, std.proofs.Common.◌≤◌}
 use Rattle.sim_relay.proofs.relaying.answer_all.Given as goal
 
 abbrev pub invariant-loop-_before : goal.invariant-loop-_before

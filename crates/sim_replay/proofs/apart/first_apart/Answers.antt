@@ -1,9 +1,6 @@
 -- What the definition finds is the first place at which the lists differ.
-use Rattle.std.proofs.Common.{◌≡◌, List, ℕ, Option, Some, None, sym, ◌∙◌}
-use Rattle.std.specs.Prelude.{IfSome}
-use Rattle.sim_replay.specs.declared.apart.Apart.{Apart}
-use Rattle.sim_replay.specs.Apart.{first_apart, IsFirstApart}
 use Rattle.sim_replay.proofs.Aparts.{first_is, none_apart}
+use Rattle.sim_replay.proofs.Common.{◌≡◌, ℕ, List, IfSome, Some, None, Option, Apart, first_apart, IsFirstApart, sym, ◌∙◌}
 use Rattle.sim_replay.proofs.apart.first_apart.Goals as goal
 
 some_is : (told played : List (List ℕ)) (r : Option Apart) → r ≡ first_apart told played → IfSome r (IsFirstApart told played)

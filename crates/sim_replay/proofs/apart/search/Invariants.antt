@@ -1,6 +1,5 @@
 -- What is left differs first where the whole lists do.
-use Rattle.std.proofs.Common.{◌≡◌, ◌+◌, length}
-use Rattle.sim_replay.specs.Apart.{apart_from, first_apart}
+use Rattle.sim_replay.proofs.Common.{◌≡◌, ◌+◌, length, apart_from, first_apart}
 use Rattle.sim_replay.proofs.apart.search.Given as goal
 
 abbrev pub invariant-loop-rest : goal.invariant-loop-rest

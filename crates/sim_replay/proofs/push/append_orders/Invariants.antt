@@ -1,8 +1,5 @@
 -- The lines so far stand behind the old bytes.
-use Rattle.std.proofs.Common.{◌≡◌, ◌++◌, take, map}
-use Rattle.std.specs.Prelude.{flat_map}
-use Rattle.sim_replay.specs.Lines.{order_line}
-use Rattle.sim_replay.specs.Logs.{ended}
+use Rattle.sim_replay.proofs.Common.{◌≡◌, ◌++◌, map, take, flat_map, ended, order_line}
 use Rattle.sim_replay.proofs.push.append_orders.Given as goal
 
 abbrev pub invariant-loop-order : goal.invariant-loop-order

@@ -1,7 +1,5 @@
 -- The lines of the turns that are left stand behind what was appended.
-use Rattle.std.proofs.Common.{◌≡◌, ◌+◌, ◌≤◌, ◌++◌, length, take}
-use Rattle.std.specs.Prelude.{flat_map}
-use Rattle.sim_replay.specs.Logs.{ended, lines_from}
+use Rattle.sim_replay.proofs.Common.{◌≡◌, ◌+◌, ◌≤◌, ◌++◌, length, take, flat_map, ended, lines_from}
 use Rattle.sim_replay.proofs.push.append_turns.Given as goal
 
 abbrev pub invariant-loop-rest : goal.invariant-loop-rest

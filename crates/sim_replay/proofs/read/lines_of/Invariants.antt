@@ -1,7 +1,5 @@
 -- The rest is read as the whole is.
-use Rattle.std.proofs.Common.{◌≡◌, ◌+◌, ◌≤◌, length}
-use Rattle.sim_replay.specs.Logs.{parts_of}
-use Rattle.sim_replay.specs.Reading.{nothing, read_parts}
+use Rattle.sim_replay.proofs.Common.{◌≡◌, ◌+◌, ◌≤◌, length, nothing, parts_of, read_parts}
 use Rattle.sim_replay.proofs.read.lines_of.Given as goal
 
 abbrev pub invariant-loop-rest : goal.invariant-loop-rest

@@ -1,6 +1,5 @@
 -- The words that are left are read as all of them are.
-use Rattle.std.proofs.Common.{◌≡◌, map, length, []}
-use Rattle.sim_replay.specs.Words.{naturals_behind, word_text}
+use Rattle.sim_replay.proofs.Common.{◌≡◌, [], map, length, naturals_behind, word_text}
 use Rattle.sim_replay.proofs.words.naturals.Given as goal
 
 abbrev pub invariant-loop-rest : goal.invariant-loop-rest

@@ -1,7 +1,5 @@
 -- The ids so far stand behind the old text.
-use Rattle.std.proofs.Common.{◌≡◌, ◌++◌, take}
-use Rattle.std.specs.Prelude.{string_bytes, flat_map}
-use Rattle.sim_report.specs.Downs.{next_id}
+use Rattle.sim_report.proofs.Common.{◌≡◌, ◌++◌, take, string_bytes, flat_map, next_id}
 use Rattle.sim_report.proofs.down.append_more.Given as goal
 
 abbrev pub invariant-loop-id : goal.invariant-loop-id

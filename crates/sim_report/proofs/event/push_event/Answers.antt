@@ -1,5 +1,5 @@
 -- The text is cut where the old one ended.
-use Rattle.sim_base.proofs.AppendedTexts.{IsSplitPoint-appended}
+use Rattle.sim_report.proofs.Common.{IsSplitPoint-appended}
 use Rattle.sim_report.proofs.event.push_event.Goals as goal
 
 pub truncate-requires : goal.truncate-requires

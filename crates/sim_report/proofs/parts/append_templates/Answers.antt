@@ -1,7 +1,5 @@
 -- The line of one template more stands behind those so far.
-use Rattle.std.proofs.Common.{rules, ◌<◌, length}
-use Rattle.std.specs.Prelude.{string_bytes}
-use Rattle.sim_report.proofs.TemplateLines.{parts_more}
+use Rattle.sim_report.proofs.{Common.◌<◌, Common.length, Common.string_bytes, Common.rules, TemplateLines.parts_more}
 use Rattle.sim_report.proofs.parts.append_templates.Goals as goal
 
 pub loop-number-preserved : goal.loop-number-preserved

@@ -1,7 +1,5 @@
 -- The text so far has the lines of the templates so far.
-use Rattle.std.proofs.Common.{◌≡◌, ◌++◌, take}
-use Rattle.std.specs.Prelude.{string_bytes}
-use Rattle.sim_report.specs.Parts.{parts_text}
+use Rattle.sim_report.proofs.Common.{◌≡◌, ◌++◌, take, string_bytes, parts_text}
 use Rattle.sim_report.proofs.parts.append_templates.Given as goal
 
 abbrev pub invariant-loop-number : goal.invariant-loop-number

@@ -1,7 +1,5 @@
 -- The text so far has the lines of the rows so far.
-use Rattle.std.proofs.Common.{◌≡◌, ◌++◌, take}
-use Rattle.std.specs.Prelude.{string_bytes, flat_map}
-use Rattle.sim_report.specs.Show.{row_line}
+use Rattle.sim_report.proofs.Common.{◌≡◌, ◌++◌, take, string_bytes, flat_map, row_line}
 use Rattle.sim_report.proofs.show.push_lines.Given as goal
 
 abbrev pub invariant-loop-row : goal.invariant-loop-row

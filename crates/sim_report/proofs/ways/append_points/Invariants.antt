@@ -1,7 +1,5 @@
 -- The waypoints so far stand behind the old text.
-use Rattle.std.proofs.Common.{◌≡◌, ◌++◌, take}
-use Rattle.std.specs.Prelude.{string_bytes, flat_map}
-use Rattle.sim_report.specs.Ways.{next_point}
+use Rattle.sim_report.proofs.Common.{◌≡◌, ◌++◌, take, string_bytes, flat_map, next_point}
 use Rattle.sim_report.proofs.ways.append_points.Given as goal
 
 abbrev pub invariant-loop-point : goal.invariant-loop-point

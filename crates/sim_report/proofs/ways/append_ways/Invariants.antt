@@ -1,7 +1,5 @@
 -- The text so far has the ways of the rows so far.
-use Rattle.std.proofs.Common.{◌≡◌, ◌++◌, take}
-use Rattle.std.specs.Prelude.{string_bytes, flat_map}
-use Rattle.sim_report.specs.Ways.{row_way}
+use Rattle.sim_report.proofs.Common.{◌≡◌, ◌++◌, take, string_bytes, flat_map, row_way}
 use Rattle.sim_report.proofs.ways.append_ways.Given as goal
 
 abbrev pub invariant-loop-row : goal.invariant-loop-row

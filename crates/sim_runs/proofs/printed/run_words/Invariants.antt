@@ -1,8 +1,5 @@
-use Rattle.std.proofs.Common.{◌≡◌, All, length}
-use Rattle.sim_client.specs.StageWords.{AreCleared}
-use Rattle.sim_system.specs.Meanings.{HaveKinds}
-use Rattle.sim_system.specs.RigWords.{systems_by}
-use Rattle.sim_runs.proofs.printed.run_words.OwnLists.{own-1}
+use Rattle.{sim_client.specs.StageWords.AreCleared, sim_runs.proofs.printed.run_words.OwnLists.own-1}
+use Rattle.{sim_system.specs.Meanings.HaveKinds, sim_system.specs.RigWords.systems_by, std.proofs.Common.◌≡◌, std.proofs.Common.length, std.proofs.Common.All}
 use Rattle.sim_runs.proofs.printed.run_words.Given as goal
 
 abbrev pub invariant-loop : goal.invariant-loop

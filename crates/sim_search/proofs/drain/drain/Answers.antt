@@ -1,15 +1,8 @@
-use Rattle.std.proofs.Common.{◌≡◌, ◌+◌, List, ◌∷◌, drop, get_or, sym, subst, Bool}
-use Rattle.std.proofs.lemmas.List.{at_drop_more, drop_all}
-use Rattle.sim_base.specs.declared.place.Cell.{Cell}
-use Rattle.sim_grid.specs.Grids.{field_of_grid}
-use Rattle.sim_search.specs.Estimates.{estimate_to}
-use Rattle.sim_search.specs.declared.search.Search.{Search}
-use Rattle.sim_search.specs.Tables.{size_of, known}
-use Rattle.sim_search.specs.Queues.{Drains}
+use Rattle.sim_search.proofs.{Common.size_of, Common.subst, Common.sym, drain.drain.Goals.in-Some+in_ok-expand, drain.drain.Goals.in_default}
 use Rattle.sim_search.proofs.Cells.{entry_at-there}
+use Rattle.sim_search.proofs.Common.{◌≡◌, ◌+◌, Bool, List, ◌∷◌, get_or, drop, at_drop_more, Cell, Drains, drop_all, estimate_to, field_of_grid, known, Search}
 use Rattle.sim_search.proofs.Draining.{Draining, draining_begins, draining_past, draining_taken, estimate_to-fits}
 use Rattle.sim_search.proofs.drain.drain.Goals as goal
-use Rattle.sim_search.proofs.drain.drain.Goals.{in-Some+in_ok-expand, in_default}
 
 pub loop-cell-init : goal.loop-cell-init
 loop-cell-init c = draining_begins (estimate_to c.args.aim) (field_of_grid c.args.grid.now) c.args.search.now c.args.now c.args.bucket.now c.requires.drains
@@ -24,12 +17,14 @@ loop-cell-preserved c =
     let x : Cell = get_or xs i (record { x = 0; z = 0 }) in
     let rest = drop (i + 1) xs in
     let cons : drop i xs ≡ x ∷ rest = at_drop_more (λ (l : List Cell). l) xs i (record { x = 0; z = 0 }) c.loop-cell-test.true in
-    let before : Draining (estimate_to c.args.aim) field first s c.args.now (x ∷ rest) c.loop-cell.any = subst (λ (l : List Cell). Draining (estimate_to c.args.aim) field first s c.args.now l c.loop-cell.any) cons c.loop-cell.invariant in
+    let before : Draining (estimate_to c.args.aim) field first s c.args.now (x ∷ rest) c.loop-cell.any =
+    subst (λ (l : List Cell). Draining (estimate_to c.args.aim) field first s c.args.now l c.loop-cell.any) cons c.loop-cell.invariant in
     elim c.match-waiting.branch [
       | in-Some+in_ok-expand w ↦
           subst (λ (n : Search). Draining (estimate_to c.args.aim) field first n c.args.now rest c.match-waiting.any) (sym w.search-is)
           (subst (λ (b : Bool). Draining (estimate_to c.args.aim) field first w.take.new.search c.args.now rest b) (sym w.any-is)
-          (draining_taken (estimate_to c.args.aim) field first s w.expand.new.search w.take.new.search c.args.now x w.in-Some.cost rest c.loop-cell.any (estimate_to-fits c.args.aim field)
+          (draining_taken (estimate_to c.args.aim) field first s w.expand.new.search w.take.new.search c.args.now x w.in-Some.cost rest c.loop-cell.any
+          (estimate_to-fits c.args.aim field)
           (c.waiting.ensures.some w.in-Some.cost w.in-Some.is) w.in_ok-expand.ensures w.take.ensures before))
       | in_default w ↦
           subst (λ (n : Search). Draining (estimate_to c.args.aim) field first n c.args.now rest c.match-waiting.any) (sym w.search-is)
@@ -40,12 +35,14 @@ loop-cell-preserved c =
 pub take-requires : goal.take-requires
 take-requires c =
     let costs = c.expand.new.search.costs in
-    entry_at-there (size_of costs) (known costs) (get_or c.args.bucket.now c.loop-cell.cell-index (record { x = 0; z = 0 })) c.in-Some.cost c.in_ok-expand.ensures.from_is
+    entry_at-there (size_of costs) (known costs) (get_or c.args.bucket.now c.loop-cell.cell-index (record { x = 0; z = 0 })) c.in-Some.cost
+    c.in_ok-expand.ensures.from_is
 
 pub returns : goal.returns
 returns c =
     let none = drop_all c.loop-cell.cell-index c.args.bucket.now c.loop-cell-test.false in
     record {
-      done = subst (λ (l : List Cell). Drains (estimate_to c.args.aim) (field_of_grid c.args.grid.now) c.loop-cell.search c.args.now l) none c.loop-cell.invariant.drains;
+      done = subst (λ (l : List Cell). Drains (estimate_to c.args.aim) (field_of_grid c.args.grid.now) c.loop-cell.search c.args.now l) none
+          c.loop-cell.invariant.drains;
       progress = c.loop-cell.invariant.progress;
     }

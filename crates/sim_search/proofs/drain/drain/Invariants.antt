@@ -1,7 +1,4 @@
-use Rattle.std.proofs.Common.{drop}
-use Rattle.sim_grid.specs.Grids.{field_of_grid}
-use Rattle.sim_search.specs.Estimates.{estimate_to}
-use Rattle.sim_search.proofs.Draining.{Draining}
+use Rattle.sim_search.proofs.{Common.drop, Common.estimate_to, Common.field_of_grid, Draining.Draining}
 use Rattle.sim_search.proofs.drain.drain.Given as goal
 
 abbrev pub invariant-loop-cell : goal.invariant-loop-cell

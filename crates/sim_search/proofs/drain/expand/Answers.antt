@@ -1,11 +1,7 @@
-use Rattle.std.proofs.Common.{◌+◌, sym, ◌∙◌, subst}
-use Rattle.std.proofs.lemmas.Result.{IfOk-from_err}
-use Rattle.sim_grid.specs.Grids.{field_of_grid}
-use Rattle.sim_search.specs.Estimates.{estimate_to}
-use Rattle.sim_search.specs.declared.search.Search.{Search}
-use Rattle.sim_search.proofs.Draining.{Expanding, expanding_begins, expanding_more, expanding_none, expanded, estimate_to-fits}
-use Rattle.sim_search.proofs.drain.expand.Goals as goal
+use Rattle.sim_search.proofs.Common.{◌+◌, estimate_to, field_of_grid, IfOk-from_err, Search, subst, sym, ◌∙◌}
+use Rattle.sim_search.proofs.Draining.{estimate_to-fits, expanded, Expanding, expanding_begins, expanding_more, expanding_none}
 use Rattle.sim_search.proofs.drain.expand.Goals.{in-Some+in_ok-lower, in_default}
+use Rattle.sim_search.proofs.drain.expand.Goals as goal
 
 pub loop-which-init : goal.loop-which-init
 loop-which-init c = expanding_begins (estimate_to c.args.aim) (field_of_grid c.args.grid.now) c.args.search.now c.args.from c.args.cost c.requires.label
@@ -17,14 +13,17 @@ loop-which-preserved c =
     elim c.match-step.branch [
       | in-Some+in_ok-lower w ↦
           subst P (sym w.search-is)
-          (expanding_more (estimate_to c.args.aim) field c.args.search.now c.loop-which.search w.lower.new.search c.args.from w.in-Some.to c.args.cost c.loop-which.which (estimate_to-fits c.args.aim field) c.loop-which.invariant
+          (expanding_more (estimate_to c.args.aim) field c.args.search.now c.loop-which.search w.lower.new.search c.args.from w.in-Some.to c.args.cost
+          c.loop-which.which (estimate_to-fits c.args.aim field) c.loop-which.invariant
           (sym c.step.ensures.step ∙ w.in-Some.is)
           (rw w.step_cost.ensures at w.in_ok-lower.ensures))
-      | in_default w ↦ subst P (sym w.search-is) (expanding_none (estimate_to c.args.aim) field c.args.search.now c.loop-which.search c.args.from c.args.cost c.loop-which.which c.loop-which.invariant (sym c.step.ensures.step ∙ w.in_default.is))
+      | in_default w ↦ subst P (sym w.search-is) (expanding_none (estimate_to c.args.aim) field c.args.search.now c.loop-which.search c.args.from c.args.cost
+          c.loop-which.which c.loop-which.invariant (sym c.step.ensures.step ∙ w.in_default.is))
     ]
 
 pub returns : goal.returns
-returns c = expanded (estimate_to c.args.aim) (field_of_grid c.args.grid.now) c.args.search.now c.loop-which.search c.args.from c.args.cost c.loop-which.which c.loop-which-test.false c.loop-which.invariant
+returns c = expanded (estimate_to c.args.aim) (field_of_grid c.args.grid.now) c.args.search.now c.loop-which.search c.args.from c.args.cost c.loop-which.which
+    c.loop-which-test.false c.loop-which.invariant
 
 pub returns-in_err-lower : goal.returns-in_err-lower
 returns-in_err-lower c = IfOk-from_err _ _ c.from_residual.ensures.0

@@ -1,6 +1,4 @@
-use Rattle.sim_grid.specs.Grids.{field_of_grid}
-use Rattle.sim_search.specs.Estimates.{estimate_to}
-use Rattle.sim_search.proofs.Draining.{Expanding}
+use Rattle.sim_search.proofs.{Common.estimate_to, Common.field_of_grid, Draining.Expanding}
 use Rattle.sim_search.proofs.drain.expand.Given as goal
 
 abbrev pub invariant-loop-which : goal.invariant-loop-which

@@ -1,16 +1,8 @@
-use Rattle.std.proofs.Common.{refl, ℕ, ◌*◌, ◌≤◌, List, arith, ◌∙◌, sym, subst, not, inl, inr, eqb}
-use Rattle.std.proofs.lemmas.List.{length-map}
-use Rattle.std.proofs.lemmas.List.Sums.{count_by-le-length}
-use Rattle.std.proofs.lemmas.Bool.{true≢false}
-use Rattle.sim_base.specs.declared.place.Cell.{Cell}
-use Rattle.sim_grid.specs.Grids.{field_of_grid}
-use Rattle.sim_search.specs.Estimates.{estimate_to}
-use Rattle.sim_search.specs.Tables.{AreCosts, cost_in}
-use Rattle.sim_search.specs.Comes.{HasStopped}
-use Rattle.sim_search.specs.Queues.{Drains, takens}
-use Rattle.sim_search.proofs.Draining.{drains_first, ready_anew, Round, round-of, costs-found, stopped, estimate_to-fits}
+use Rattle.sim_search.proofs.Common.{HasStopped, inl, inr, length-map, subst, sym, takens, true≢false, ◌∙◌}
+use Rattle.sim_search.proofs.Common.{ℕ, ◌*◌, ◌≤◌, not, eqb, List, refl, AreCosts, arith, Cell, cost_in, count_by-le-length, Drains, estimate_to, field_of_grid}
+use Rattle.sim_search.proofs.Draining.{costs-found, drains_first, estimate_to-fits, ready_anew, Round, round-of, stopped}
+use Rattle.sim_search.proofs.drain.go_on.Goals.{After-emptied-spare, else-branch, then-branch}
 use Rattle.sim_search.proofs.drain.go_on.Goals as goal
-use Rattle.sim_search.proofs.drain.go_on.Goals.{then-branch, else-branch, After-emptied-spare}
 
 cells_most : (w d : ℕ) → w ≤ 256 → d ≤ 256 → w * d ≤ 65536
 cells_most w d f g = grind arith
@@ -23,7 +15,15 @@ loop-idle-init c =
       start = refl;
       ready = c.requires.ready;
       idle = omega arith;
-      few = omega (arith, count_by-le-length not (takens s), length-map s.taken.items (λ (t : ℕ). eqb t costs.stamp), s.all_cells, s.taken.ok.0, cells_most costs.width costs.depth costs.narrow costs.shallow);
+      few = omega (
+        arith,
+        count_by-le-length not (takens s),
+        length-map s.taken.items (λ (t : ℕ). eqb t costs.stamp),
+        s.all_cells,
+        s.taken.ok.0,
+        cells_most costs.width
+            costs.depth costs.narrow costs.shallow,
+      );
       spare = c.new-spare.ensures;
     }
 
@@ -34,8 +34,10 @@ pub drain-requires-clause-drains : goal.drain-requires-clause-drains
 drain-requires-clause-drains c =
     let field = field_of_grid c.args.grid.now in
     let between = c.swap_bucket-bucket.new.search in
-    subst (λ (l : List Cell). Drains (estimate_to c.args.aim) field between c.passed-next.result.0 l) (sym (c.as_slice.ensures ∙ c.swap_bucket-bucket.ensures.bucket))
-    (drains_first (estimate_to c.args.aim) field c.loop-idle.search between c.passed-next.result.0 c.passed-next.result.1 (c.passed-next.ensures.ready c.args.aim (field_of_grid c.args.grid.now) c.loop-idle.invariant.ready) c.swap_bucket-bucket.ensures.rest)
+    subst (λ (l : List Cell). Drains (estimate_to c.args.aim) field between c.passed-next.result.0 l)
+    (sym (c.as_slice.ensures ∙ c.swap_bucket-bucket.ensures.bucket))
+    (drains_first (estimate_to c.args.aim) field c.loop-idle.search between c.passed-next.result.0 c.passed-next.result.1
+    (c.passed-next.ensures.ready c.args.aim (field_of_grid c.args.grid.now) c.loop-idle.invariant.ready) c.swap_bucket-bucket.ensures.rest)
 
 pub passed-next-requires-clause-small : goal.passed-next-requires-clause-small
 passed-next-requires-clause-small c = omega (arith, c.loop-idle.invariant.few, c.requires.small)
@@ -46,11 +48,14 @@ drain-requires-clause-small c = omega (arith, c.passed-next.ensures.gap, c.passe
 pub overflow_add-now : goal.overflow_add-now
 overflow_add-now c = omega (arith, c.passed-next.ensures.gap, c.passed-next.ensures.most, c.loop-idle.invariant.few, c.requires.small)
 
-round : (c : After-emptied-spare) → Round (estimate_to c.args.aim) (field_of_grid c.args.grid.now) c.loop-idle.search c.drain.new.search c.passed-next.result.0 c.if-branch.now c.passed-next.result.1 c.if-branch.idle
+round : (c : After-emptied-spare) → Round (estimate_to c.args.aim) (field_of_grid c.args.grid.now) c.loop-idle.search c.drain.new.search c.passed-next.result.0
+    c.if-branch.now c.passed-next.result.1 c.if-branch.idle
 round c =
     let field = field_of_grid c.args.grid.now in
-    let made = round-of (estimate_to c.args.aim) field c.loop-idle.search c.swap_bucket-bucket.new.search c.drain.new.search c.passed-next.result.0 c.if-branch.now c.passed-next.result.1 c.if-branch.idle c.in_ok-drain.field-0 (estimate_to-fits c.args.aim field)
-    c.passed-next.ensures.most (c.passed-next.ensures.ready c.args.aim (field_of_grid c.args.grid.now) c.loop-idle.invariant.ready) c.swap_bucket-bucket.ensures.rest c.in_ok-drain.ensures.done c.in_ok-drain.ensures.progress in
+    let made = round-of (estimate_to c.args.aim) field c.loop-idle.search c.swap_bucket-bucket.new.search c.drain.new.search c.passed-next.result.0
+    c.if-branch.now c.passed-next.result.1 c.if-branch.idle c.in_ok-drain.field-0 (estimate_to-fits c.args.aim field)
+    c.passed-next.ensures.most (c.passed-next.ensures.ready c.args.aim (field_of_grid c.args.grid.now) c.loop-idle.invariant.ready)
+    c.swap_bucket-bucket.ensures.rest c.in_ok-drain.ensures.done c.in_ok-drain.ensures.progress in
     elim c.if-branch.branch [
       | then-branch w ↦ made (λ e. (w.now-is, w.idle-is)) (λ e. absurd (true≢false (sym w.if-branch.true ∙ e)))
       | else-branch w ↦ made (λ e. absurd (true≢false (sym e ∙ w.if-branch.false))) (λ e. (w.now-is, w.idle-is))
@@ -59,7 +64,14 @@ round c =
 pub loop-idle-preserved : goal.loop-idle-preserved
 loop-idle-preserved c =
     let r = round c in
-    record { start = r.start_is ∙ c.loop-idle.invariant.start; ready = r.ready; idle = r.idle_in; few = omega (arith, r.falls, c.passed-next.ensures.gap, c.passed-next.ensures.most, c.loop-idle.invariant.few); spare = c.emptied-spare.ensures }
+    record {
+      start = r.start_is ∙ c.loop-idle.invariant.start;
+      ready = r.ready;
+      idle = r.idle_in;
+      few =
+          omega (arith, r.falls, c.passed-next.ensures.gap, c.passed-next.ensures.most, c.loop-idle.invariant.few);
+      spare = c.emptied-spare.ensures;
+    }
 
 pub loop-idle-smaller : goal.loop-idle-smaller
 loop-idle-smaller c = let r = round c in omega (arith, r.smaller, c.passed-next.ensures.least)
@@ -68,7 +80,8 @@ pub returns-clause-start : goal.returns-clause-start
 returns-clause-start c = c.loop-idle.invariant.start
 
 pub returns-clause-ready : goal.returns-clause-ready
-returns-clause-ready c = ready_anew (estimate_to c.args.aim) (field_of_grid c.args.grid.now) c.loop-idle.search c.loop-idle.now c.loop-idle.idle c.loop-idle.invariant.ready
+returns-clause-ready c = ready_anew (estimate_to c.args.aim) (field_of_grid c.args.grid.now) c.loop-idle.search c.loop-idle.now c.loop-idle.idle
+    c.loop-idle.invariant.ready
 
 pub returns-clause-small : goal.returns-clause-small
 returns-clause-small c = omega (arith, c.loop-idle.invariant.few)
@@ -77,7 +90,9 @@ pub returns-clause-costs : goal.returns-clause-costs
 returns-clause-costs c =
     let field = field_of_grid c.args.grid.now in
     let h = estimate_to c.args.aim in
-    let found = subst (λ (v : Cell). AreCosts field v (cost_in c.loop-idle.search.costs)) c.loop-idle.invariant.start (costs-found h field c.loop-idle.search c.loop-idle.now c.loop-idle.idle (estimate_to-fits c.args.aim field) c.loop-idle-test.false c.loop-idle.invariant.ready) in
+    let found = subst (λ (v : Cell). AreCosts field v (cost_in c.loop-idle.search.costs)) c.loop-idle.invariant.start
+    (costs-found h field c.loop-idle.search c.loop-idle.now c.loop-idle.idle (estimate_to-fits c.args.aim field) c.loop-idle-test.false
+    c.loop-idle.invariant.ready) in
     inl found
 
 pub returns-then-is_come_to-clause-start : goal.returns-then-is_come_to-clause-start
@@ -86,7 +101,8 @@ returns-then-is_come_to-clause-start c = c.loop-idle.invariant.start
 pub returns-then-is_come_to-clause-ready : goal.returns-then-is_come_to-clause-ready
 returns-then-is_come_to-clause-ready c =
     let field = field_of_grid c.args.grid.now in
-    ready_anew (estimate_to c.args.aim) field c.loop-idle.search c.passed-next.result.0 c.passed-next.result.1 (c.passed-next.ensures.ready c.args.aim field c.loop-idle.invariant.ready)
+    ready_anew (estimate_to c.args.aim) field c.loop-idle.search c.passed-next.result.0 c.passed-next.result.1
+    (c.passed-next.ensures.ready c.args.aim field c.loop-idle.invariant.ready)
 
 pub returns-then-is_come_to-clause-small : goal.returns-then-is_come_to-clause-small
 returns-then-is_come_to-clause-small c = omega (arith, c.passed-next.ensures.gap, c.passed-next.ensures.most, c.loop-idle.invariant.few)
@@ -98,6 +114,7 @@ returns-then-is_come_to-clause-costs c =
     let ends = c.args.ends.now in
     let s = c.loop-idle.search in
     let come = c.is_come_to.ensures.0 c.if-is_come_to.true in
-    let early = stopped h field s c.passed-next.result.0 c.passed-next.result.1 ends (estimate_to-fits c.args.aim field) (c.passed-next.ensures.ready c.args.aim field c.loop-idle.invariant.ready) come in
+    let early = stopped h field s c.passed-next.result.0 c.passed-next.result.1 ends (estimate_to-fits c.args.aim field)
+    (c.passed-next.ensures.ready c.args.aim field c.loop-idle.invariant.ready) come in
     let found = subst (λ (v : Cell). HasStopped field v h ends (cost_in s.costs)) c.loop-idle.invariant.start early in
     inr found

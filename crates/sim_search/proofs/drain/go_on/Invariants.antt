@@ -1,7 +1,4 @@
-use Rattle.std.proofs.Common.{◌≡◌, [], ◌+◌, ◌-◌, ◌*◌, ◌≤◌}
-use Rattle.sim_grid.specs.Grids.{field_of_grid}
-use Rattle.sim_search.specs.Estimates.{estimate_to}
-use Rattle.sim_search.specs.Queues.{Ready, untaken}
+use Rattle.sim_search.proofs.Common.{◌≡◌, ◌+◌, ◌-◌, ◌*◌, ◌≤◌, [], estimate_to, field_of_grid, Ready, untaken}
 use Rattle.sim_search.proofs.drain.go_on.Given as goal
 
 abbrev pub invariant-loop-idle : goal.invariant-loop-idle

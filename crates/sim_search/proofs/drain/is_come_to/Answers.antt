@@ -1,12 +1,7 @@
-use Rattle.std.proofs.Common.{◌≡◌, ℕ, ◌+◌, ◌≤◌, List, [], ◌∷◌, ◌++◌, take, get_or, Some, None, refl, sym, ◌∙◌, subst, arith, true≢false}
-use Rattle.std.proofs.lemmas.List.{take_all, take_more}
-use Rattle.std.proofs.lemmas.List.Elements.{Contains-get_or}
-use Rattle.sim_base.specs.declared.place.Cell.{Cell}
-use Rattle.sim_search.specs.Tables.{cost_in}
-use Rattle.sim_search.specs.Comes.{IsComeTo}
-use Rattle.sim_search.proofs.Coming.{come-past}
-use Rattle.sim_search.proofs.drain.is_come_to.Goals as goal
+use Rattle.sim_search.proofs.{Coming.come-past, Common.subst, Common.sym, Common.take_all, Common.take_more, Common.true≢false, Common.◌∙◌}
+use Rattle.sim_search.proofs.Common.{◌≡◌, ℕ, ◌+◌, ◌≤◌, List, [], ◌∷◌, ◌++◌, get_or, take, Some, None, refl, arith, Cell, Contains-get_or, cost_in, IsComeTo}
 use Rattle.sim_search.proofs.drain.is_come_to.Goals.{in-Some+else-cost-now, in_default}
+use Rattle.sim_search.proofs.drain.is_come_to.Goals as goal
 
 pub loop-end-init : goal.loop-end-init
 loop-end-init c come = let (k, h, is) = come.among in omega (arith, h)
@@ -21,7 +16,8 @@ loop-end-preserved c =
     let past : ((v : ℕ) → cost x ≡ Some v → c.args.now ≤ v) → IsComeTo cost (take (i + 1) xs) c.args.now → ⊥ =
     λ late come. come-past cost (take i xs) x c.args.now late c.loop-end.invariant (subst (λ (l : List Cell). IsComeTo cost l c.args.now) more come) in
     elim c.match-at.branch [
-      | in-Some+else-cost-now w ↦ past (λ v e. let both : Some w.in-Some.cost ≡ Some v = sym w.in-Some.is ∙ c.at.ensures ∙ e in let same : w.in-Some.cost ≡ v = cc in omega (arith, w.if-cost-now.false, same))
+      | in-Some+else-cost-now w ↦ past (λ v e. let both : Some w.in-Some.cost ≡ Some v = sym w.in-Some.is ∙ c.at.ensures ∙ e in let same : w.in-Some.cost ≡ v =
+          cc in omega (arith, w.if-cost-now.false, same))
       | in_default w ↦ past (λ v e. let both : None ≡ Some v = sym w.in_default.is ∙ c.at.ensures ∙ e in let never : ⊥ = cc in absurd never)
     ]
 
@@ -42,5 +38,6 @@ pub returns : goal.returns
 returns c = (
   λ t. absurd (true≢false (sym t)),
   λ (come : IsComeTo (cost_in c.args.costs.now) c.args.ends.now c.args.now).
-      absurd (c.loop-end.invariant (subst (λ (l : List Cell). IsComeTo (cost_in c.args.costs.now) l c.args.now) (sym (take_all c.loop-end.end-index c.args.ends.now c.loop-end-test.false)) come)),
+      absurd (c.loop-end.invariant (subst (λ (l : List Cell). IsComeTo (cost_in c.args.costs.now) l c.args.now)
+      (sym (take_all c.loop-end.end-index c.args.ends.now c.loop-end-test.false)) come)),
 )

@@ -1,8 +1,4 @@
-use Rattle.std.proofs.Common.{◌≡◌, ◌+◌, ◌-◌, ◌<◌, ◌≤◌}
-use Rattle.sim_base.specs.Steps.{Field}
-use Rattle.sim_search.specs.Estimates.{estimate_to}
-use Rattle.sim_search.specs.Queues.{Ready}
-use Rattle.sim_search.specs.declared.aim.Aim.{Aim}
+use Rattle.sim_search.proofs.Common.{◌≡◌, ◌+◌, ◌-◌, ◌<◌, ◌≤◌, Aim, estimate_to, Field, Ready}
 use Rattle.sim_search.proofs.drain.passed.Given as goal
 
 abbrev pub invariant-loop-idle : goal.invariant-loop-idle

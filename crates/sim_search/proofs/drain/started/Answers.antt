@@ -1,11 +1,5 @@
-use Rattle.std.proofs.Common.{◌≡◌, ℕ, ap₂, sym, subst}
-use Rattle.sim_base.specs.Places.{Size}
-use Rattle.sim_base.specs.Steps.{Field}
-use Rattle.sim_grid.specs.Grids.{field_of_grid, is_open_at}
-use Rattle.sim_search.specs.Estimates.{estimate_to}
-use Rattle.sim_search.specs.Queues.{Begins, Ready}
-use Rattle.sim_search.proofs.Draining.{ready_begins}
-use Rattle.sim_search.proofs.Octile.{estimate-even}
+use Rattle.sim_search.proofs.{Draining.ready_begins, Octile.estimate-even}
+use Rattle.sim_search.proofs.Common.{◌≡◌, ℕ, ap₂, Begins, estimate_to, Field, field_of_grid, is_open_at, Ready, Size, subst, sym}
 use Rattle.sim_search.proofs.drain.started.Goals as goal
 
 pub returns-clause-start : goal.returns-clause-start
@@ -28,5 +22,6 @@ returns-clause-ready c =
     let size : ℕ → ℕ → Size = λ w d. record { width = w; depth = d } in
     let made : Size → Field = λ v. record { size = v; is_open = is_open_at g } in
     let same : size c.width.result c.depth.result ≡ g.size = ap₂ size c.width.ensures.width c.depth.ensures.depth in
-    let ready = subst (λ (v : Size). Ready h (made v) s (h c.args.start) 0) same (ready_begins h (size c.width.result c.depth.result) (is_open_at g) c.args.start s (estimate-even c.args.aim c.args.start) c.in_ok-search.ensures) in
+    let ready = subst (λ (v : Size). Ready h (made v) s (h c.args.start) 0) same
+    (ready_begins h (size c.width.result c.depth.result) (is_open_at g) c.args.start s (estimate-even c.args.aim c.args.start) c.in_ok-search.ensures) in
     subst (λ (n : ℕ). Ready h (field_of_grid g) s n 0) (sym c.estimate.ensures.is) ready

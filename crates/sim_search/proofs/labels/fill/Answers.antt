@@ -1,11 +1,5 @@
-use Rattle.std.proofs.Common.{◌≡◌, ◌+◌, ◌++◌, ◌∷◌, [], List, length, ◌⊎◌, inl, inr, Contains, refl, sym, ap, ◌∙◌, subst, arith, count_by, length-append}
-use Rattle.std.proofs.lemmas.List.{nil_from_length}
-use Rattle.std.specs.Option.{is_none}
-use Rattle.sim_base.specs.declared.place.Cell.{Cell}
-use Rattle.sim_grid.specs.Grids.{field_of_grid}
-use Rattle.sim_search.specs.Floods.{work_left, unlabelled}
-use Rattle.sim_search.specs.declared.table.Table.{Table}
-use Rattle.sim_search.specs.declared.labels.Flood.{Flood}
+use Rattle.sim_search.proofs.Common.{inr, length-append, nil_from_length, subst, sym, Table, unlabelled, work_left, ◌∙◌}
+use Rattle.sim_search.proofs.Common.{◌≡◌, ◌+◌, ◌⊎◌, List, [], ◌∷◌, ◌++◌, length, is_none, Contains, count_by, refl, ap, arith, Cell, field_of_grid, Flood, inl}
 use Rattle.sim_search.proofs.Floods.{popped, popped-label}
 use Rattle.sim_search.proofs.labels.fill.Goals as goal
 

@@ -1,5 +1,4 @@
-use Rattle.sim_grid.specs.Grids.{field_of_grid}
-use Rattle.sim_search.specs.Floods.{Floods, Spreads, is_none_late, work_left}
+use Rattle.sim_search.proofs.Common.{field_of_grid, Floods, is_none_late, Spreads, work_left}
 use Rattle.sim_search.proofs.labels.fill.Given as goal
 
 abbrev pub invariant-loop-from : goal.invariant-loop-from

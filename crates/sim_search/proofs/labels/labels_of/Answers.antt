@@ -1,18 +1,13 @@
-use Rattle.std.proofs.Common.{◌≡◌, ℕ, ◌*◌, ◌≤◌, Some, None, sym, ap, ap₂, ◌∙◌, arith}
-use Rattle.std.proofs.lemmas.Result.{IfOk-from_err}
-use Rattle.sim_base.specs.declared.place.Cell.{Cell}
-use Rattle.sim_base.specs.Places.{Size}
-use Rattle.sim_grid.specs.Grids.{field_of_grid}
-use Rattle.sim_search.specs.NumberTables.{size_in, entry_in}
-use Rattle.sim_search.proofs.Beginning.{entry_at-replicate}
-use Rattle.sim_search.proofs.Floods.{labels-found}
+use Rattle.sim_search.proofs.{Beginning.entry_at-replicate, Floods.labels-found}
+use Rattle.sim_search.proofs.Common.{◌≡◌, ℕ, ◌*◌, ◌≤◌, Some, None, ap, ap₂, arith, Cell, entry_in, field_of_grid, IfOk-from_err, Size, size_in, sym, ◌∙◌}
 use Rattle.sim_search.proofs.labels.labels_of.Goals as goal
 
 pub loop-z-init : goal.loop-z-init
 loop-z-init c =
     let table = c.in_ok-no_numbers.field-0 in
     let (width, depth, items) = c.in_ok-no_numbers.ensures in
-    let none : (v : Cell) (l : ℕ) → entry_in table v ≡ Some l → ⊥ = λ v l e. let both : None ≡ Some l = sym (entry_at-replicate None (size_in table) table.items.items _ v items) ∙ e in cc in
+    let none : (v : Cell) (l : ℕ) → entry_in table v ≡ Some l → ⊥ = λ v l e. let both : None ≡ Some l =
+    sym (entry_at-replicate None (size_in table) table.items.items _ v items) ∙ e in cc in
     record {
       size_is = ap₂ (λ (w d : ℕ). let size : Size = record { width = w; depth = d } in size) (width ∙ c.width.ensures.width) (depth ∙ c.depth.ensures.depth);
       none_wait = c.new.ensures.items;

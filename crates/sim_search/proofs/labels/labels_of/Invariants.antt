@@ -1,6 +1,4 @@
-use Rattle.std.proofs.Common.{◌*◌}
-use Rattle.sim_grid.specs.Grids.{field_of_grid}
-use Rattle.sim_search.specs.Floods.{Flooded}
+use Rattle.sim_search.proofs.Common.{◌*◌, field_of_grid, Flooded}
 use Rattle.sim_search.proofs.labels.labels_of.Given as goal
 
 abbrev pub invariant-loop-z : goal.invariant-loop-z

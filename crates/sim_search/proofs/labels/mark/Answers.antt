@@ -1,12 +1,6 @@
-use Rattle.std.proofs.Common.{rules, ◌≡◌, ◌*◌, ◌<◌, ℕ, cond, length, get_or, Option, Some, None, sym, ap, ◌∙◌, subst, arith, inr, sum_by, length-append, [], ◌∷◌}
-use Rattle.std.specs.Option.{is_none}
-use Rattle.std.proofs.lemmas.List.Sums.{sum_by-set}
-use Rattle.std.proofs.lemmas.Result.{IfOk-from_err}
-use Rattle.sim_base.specs.Places.{Size}
-use Rattle.sim_base.specs.Steps.{IsOnGround}
-use Rattle.sim_search.specs.NumberTables.{size_in, entry_in, place_at}
-use Rattle.sim_search.proofs.Cells.{entry_at-on, place-below}
-use Rattle.sim_search.proofs.Floods.{none-is}
+use Rattle.sim_search.proofs.{Cells.entry_at-on, Cells.place-below, Floods.none-is}
+use Rattle.sim_search.proofs.Common.{inr, IsOnGround, length-append, place_at, rules, Size, size_in, subst, sum_by-set, sym, ◌∙◌}
+use Rattle.sim_search.proofs.Common.{◌≡◌, ℕ, ◌*◌, ◌<◌, cond, [], ◌∷◌, length, get_or, is_none, Some, None, sum_by, Option, ap, arith, entry_in, IfOk-from_err}
 use Rattle.sim_search.proofs.labels.mark.Goals as goal
 
 pub returns-in_ok-push : goal.returns-in_ok-push
@@ -28,7 +22,15 @@ returns-in_ok-push c =
       here = c.set.ensures.here;
       elsewhere = c.set.ensures.elsewhere;
       waits = c.in_ok-push.ensures.items;
-      less = omega (arith, sum_by-set count t.items.items place (Some c.args.label) None at, one, ap (sum_by count) c.set.ensures.items_are, ap length c.in_ok-push.ensures.items, length-append old.waiting.items (c.args.cell ∷ []));
+      less = omega (
+        arith,
+        sum_by-set count t.items.items place (Some c.args.label) None at,
+        one,
+        ap (sum_by count) c.set.ensures.items_are,
+        ap length
+            c.in_ok-push.ensures.items,
+        length-append old.waiting.items (c.args.cell ∷ []),
+      );
     })
 
 pub returns-in_err-push : goal.returns-in_err-push

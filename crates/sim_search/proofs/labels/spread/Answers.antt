@@ -1,10 +1,7 @@
-use Rattle.std.proofs.Common.{◌+◌, sym, ◌∙◌, subst}
-use Rattle.sim_laws.proofs.Neighbours.{neighbour-on}
-use Rattle.sim_grid.specs.Grids.{field_of_grid}
-use Rattle.sim_search.specs.declared.labels.Flood.{Flood}
-use Rattle.sim_search.proofs.Floods.{Spreading, spreading_begins, spreading_more, spreading_none, spread-done}
-use Rattle.sim_search.proofs.labels.spread.Goals as goal
+use Rattle.sim_search.proofs.Common.{◌+◌, field_of_grid, Flood, neighbour-on, subst, sym, ◌∙◌}
+use Rattle.sim_search.proofs.Floods.{spread-done, Spreading, spreading_begins, spreading_more, spreading_none}
 use Rattle.sim_search.proofs.labels.spread.Goals.{in-Some+in_ok-mark, in_default}
+use Rattle.sim_search.proofs.labels.spread.Goals as goal
 
 pub loop-which-init : goal.loop-which-init
 loop-which-init c = spreading_begins (field_of_grid c.args.grid.now) c.args.flood.now c.args.from c.args.label c.requires.floods c.requires.label
@@ -23,12 +20,15 @@ loop-which-preserved c =
     elim c.match-neighbour.branch [
       | in-Some+in_ok-mark w ↦
           subst P (sym w.flood-is)
-          (spreading_more field first c.loop-which.flood w.mark.new.flood c.args.from w.in-Some.to c.args.label c.loop-which.which c.loop-which-test.true c.loop-which.invariant (sym c.neighbour.ensures ∙ w.in-Some.is) w.in_ok-mark.ensures)
-      | in_default w ↦ subst P (sym w.flood-is) (spreading_none field first c.loop-which.flood c.args.from c.args.label c.loop-which.which c.loop-which.invariant (sym c.neighbour.ensures ∙ w.in_default.is))
+          (spreading_more field first c.loop-which.flood w.mark.new.flood c.args.from w.in-Some.to c.args.label c.loop-which.which c.loop-which-test.true
+          c.loop-which.invariant (sym c.neighbour.ensures ∙ w.in-Some.is) w.in_ok-mark.ensures)
+      | in_default w ↦ subst P (sym w.flood-is) (spreading_none field first c.loop-which.flood c.args.from c.args.label c.loop-which.which
+          c.loop-which.invariant (sym c.neighbour.ensures ∙ w.in_default.is))
     ]
 
 pub returns-clause-floods : goal.returns-clause-floods
-returns-clause-floods c = spread-done (field_of_grid c.args.grid.now) c.args.flood.now c.loop-which.flood c.args.from c.args.label c.loop-which.which c.loop-which-test.false c.loop-which.invariant
+returns-clause-floods c = spread-done (field_of_grid c.args.grid.now) c.args.flood.now c.loop-which.flood c.args.from c.args.label c.loop-which.which
+    c.loop-which-test.false c.loop-which.invariant
 
 pub returns-clause-spreads : goal.returns-clause-spreads
 returns-clause-spreads c = c.loop-which.invariant.spreads

@@ -1,5 +1,4 @@
-use Rattle.sim_grid.specs.Grids.{field_of_grid}
-use Rattle.sim_search.proofs.Floods.{Spreading}
+use Rattle.sim_search.proofs.{Common.field_of_grid, Floods.Spreading}
 use Rattle.sim_search.proofs.labels.spread.Given as goal
 
 abbrev pub invariant-loop-which : goal.invariant-loop-which

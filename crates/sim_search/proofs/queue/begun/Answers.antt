@@ -1,9 +1,5 @@
-use Rattle.std.proofs.Common.{◌%◌, ℕ, false, map, nat_eq, ap, ap₂, ◌∙◌, arith}
-use Rattle.std.proofs.lemmas.Result.{IfOk-from_err}
-use Rattle.sim_search.specs.Tables.{entry_at}
-use Rattle.sim_base.specs.Places.{Size}
-use Rattle.sim_search.specs.Estimates.{estimate_to}
 use Rattle.sim_search.proofs.Beginning.{queued_first}
+use Rattle.sim_search.proofs.Common.{ℕ, ◌%◌, false, map, nat_eq, ap, ap₂, arith, entry_at, estimate_to, IfOk-from_err, Size, ◌∙◌}
 use Rattle.sim_search.proofs.queue.begun.Goals as goal
 
 pub returns : goal.returns
@@ -15,8 +11,11 @@ returns c =
       size_is = c.set.ensures.size ∙ b.size_is;
       here = c.set.ensures.here;
       elsewhere = λ e ne. c.set.ensures.elsewhere e ne ∙ b.none_reached e;
-      none_taken = λ e. ap₂ (λ (size : Size) (n : ℕ). entry_at false size (map (λ (t : ℕ). nat_eq t n) s.taken.items) e) c.set.ensures.size c.set.ensures.stamp ∙ b.none_taken e;
-      queued = queued_first s.buckets.items c.bucket.result (estimate_to c.args.aim c.args.start % 32) _ c.push.new.self c.args.start (c.bucket.ensures.is ∙ ap (λ (n : ℕ). n % 32) c.estimate.ensures.is) (omega (arith, s.ring, s.buckets.ok.0, c.bucket.ensures.below)) c.in_ok-push.ensures.ok;
+      none_taken = λ e. ap₂ (λ (size : Size) (n : ℕ). entry_at false size (map (λ (t : ℕ). nat_eq t n) s.taken.items) e) c.set.ensures.size
+          c.set.ensures.stamp ∙ b.none_taken e;
+      queued = queued_first s.buckets.items c.bucket.result (estimate_to c.args.aim c.args.start % 32) _ c.push.new.self c.args.start
+          (c.bucket.ensures.is ∙ ap (λ (n : ℕ). n % 32) c.estimate.ensures.is) (omega (arith, s.ring, s.buckets.ok.0, c.bucket.ensures.below))
+          c.in_ok-push.ensures.ok;
     }
 
 pub returns-in_err-search : goal.returns-in_err-search

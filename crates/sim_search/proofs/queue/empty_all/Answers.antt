@@ -1,11 +1,10 @@
-use Rattle.std.proofs.Common.{◌≡◌, ℕ, ◌+◌, ◌<◌, ◌≤◌, List, [], length, get_or, set, subst, ◌∙◌, ◌⊎◌, inl, inr, arith}
-use Rattle.std.proofs.lemmas.Bool.{cases_lt}
-use Rattle.std.proofs.lemmas.List.{get_or-set_same, get_or-set_other}
-use Rattle.sim_base.specs.declared.place.Cell.{Cell}
+use Rattle.sim_search.proofs.Common.{inr, subst, ◌∙◌}
+use Rattle.sim_search.proofs.Common.{◌≡◌, ℕ, ◌+◌, ◌<◌, ◌≤◌, ◌⊎◌, List, [], length, get_or, set, arith, cases_lt, Cell, get_or-set_other, get_or-set_same, inl}
 use Rattle.sim_search.proofs.queue.empty_all.Goals as goal
 
 -- where all buckets before one are empty, and it is emptied, all before the next are empty
-emptied_more : (xs : List (List Cell)) (b : ℕ) (new : List Cell) → new ≡ [] → b < length xs → ((k : ℕ) → k < b → get_or xs k [] ≡ []) → (k : ℕ) → k < b + 1 → get_or (set xs b new) k [] ≡ []
+emptied_more : (xs : List (List Cell)) (b : ℕ) (new : List Cell) → new ≡ [] → b < length xs → ((k : ℕ) → k < b → get_or xs k [] ≡ []) → (k : ℕ) → k < b + 1
+    → get_or (set xs b new) k [] ≡ []
 emptied_more xs b new e within before k less = by (cases_lt k b)
   where
     by : (k < b) ⊎ (b ≤ k) → get_or (set xs b new) k [] ≡ []

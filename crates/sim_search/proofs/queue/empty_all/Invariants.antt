@@ -1,4 +1,4 @@
-use Rattle.std.proofs.Common.{◌≡◌, ℕ, ◌<◌, [], get_or}
+use Rattle.sim_search.proofs.Common.{◌≡◌, ℕ, ◌<◌, [], get_or}
 use Rattle.sim_search.proofs.queue.empty_all.Given as goal
 
 abbrev pub invariant-loop-b : goal.invariant-loop-b

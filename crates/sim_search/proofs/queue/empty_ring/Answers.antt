@@ -1,7 +1,4 @@
-use Rattle.std.proofs.Common.{◌≡◌, ℕ, List, [], ◌∷◌, ◌++◌, replicate, ap, ap₂, ◌∙◌, arith}
-use Rattle.std.proofs.lemmas.List.{replicate_more}
-use Rattle.std.proofs.lemmas.Result.{IfOk-from_err}
-use Rattle.sim_base.specs.declared.place.Cell.{Cell}
+use Rattle.sim_search.proofs.Common.{◌≡◌, ℕ, List, [], ◌∷◌, ◌++◌, replicate, ap, ap₂, arith, Cell, IfOk-from_err, replicate_more, ◌∙◌}
 use Rattle.sim_search.proofs.queue.empty_ring.Goals as goal
 
 pub loop-init : goal.loop-init
@@ -11,7 +8,8 @@ pub returns-in_err-push : goal.returns-in_err-push
 returns-in_err-push c = IfOk-from_err _ _ c.from_residual.ensures.0
 
 pub loop-preserved : goal.loop-preserved
-loop-preserved c = c.in_ok-push.ensures.items ∙ ap₂ (λ (v : List (List Cell)) (b : List Cell). v ++ b ∷ []) c.loop.invariant c.new.ensures ∙ replicate_more c.loop.counter []
+loop-preserved c = c.in_ok-push.ensures.items ∙ ap₂ (λ (v : List (List Cell)) (b : List Cell). v ++ b ∷ []) c.loop.invariant c.new.ensures ∙
+    replicate_more c.loop.counter []
 
 pub returns : goal.returns
 returns c =

@@ -1,9 +1,5 @@
-use Rattle.std.proofs.Common.{arith, ◌≡◌, ◌+◌, ◌%◌, ℕ, true, Some, nat_eq, map, refl, sym, ap, ◌∙◌, subst, inr, ltb-true, set, get_or, List, [], ◌∷◌, ◌++◌}
-use Rattle.std.proofs.lemmas.List.{get_or_default}
-use Rattle.std.proofs.lemmas.Result.{IfOk-from_err}
-use Rattle.sim_base.specs.declared.place.Cell.{Cell}
-use Rattle.sim_search.specs.Estimates.{estimate_to}
-use Rattle.sim_search.specs.Tables.{is_lower_than}
+use Rattle.sim_search.proofs.Common.{get_or_default, IfOk-from_err, inr, is_lower_than, ltb-true, subst, sym, ◌∙◌}
+use Rattle.sim_search.proofs.Common.{◌≡◌, ℕ, ◌+◌, ◌%◌, true, List, [], ◌∷◌, ◌++◌, map, get_or, set, nat_eq, Some, refl, ap, arith, Cell, estimate_to}
 use Rattle.sim_search.proofs.queue.lower.Goals as goal
 
 pub returns-in_ok-push : goal.returns-in_ok-push
@@ -13,16 +9,19 @@ returns-in_ok-push c =
     let to = c.args.to in
     let key : b ≡ (c.args.total + estimate_to c.args.aim to) % 32 = c.bucket.ensures.is ∙ ap (λ (n : ℕ). (c.args.total + n) % 32) c.estimate.ensures.is in
     let now = c.index_mut-waiting.result.now in
-    let had : c.index_mut-waiting.result.now ≡ get_or old.buckets.items b [] = c.index_mut-waiting.ensures.value ∙ get_or_default old.buckets.items b now [] (omega (arith, old.ring, old.buckets.ok.0, c.bucket.ensures.below)) in
+    let had : c.index_mut-waiting.result.now ≡ get_or old.buckets.items b [] = c.index_mut-waiting.ensures.value ∙ get_or_default old.buckets.items b now []
+    (omega (arith, old.ring, old.buckets.ok.0, c.bucket.ensures.below)) in
     let pushed : c.push.new.self ≡ get_or old.buckets.items b [] ++ to ∷ [] = c.in_ok-push.ensures.ok ∙ ap (λ (l : List Cell). l ++ to ∷ []) had in
     inr (record {
-      higher = λ d e. let h : is_lower_than c.args.total (Some d) ≡ true = ap (is_lower_than c.args.total) (sym e) ∙ sym c.is_lower.ensures ∙ c.if-is_lower.true in ltb-true c.args.total d h;
+      higher = λ d e. let h : is_lower_than c.args.total (Some d) ≡ true = ap (is_lower_than c.args.total) (sym e) ∙ sym c.is_lower.ensures ∙
+          c.if-is_lower.true in ltb-true c.args.total d h;
       size_is = c.set.ensures.size;
       here = c.set.ensures.here;
       elsewhere = c.set.ensures.elsewhere;
       start_is = refl;
       taken_is = ap (λ (n : ℕ). map (λ (t : ℕ). nat_eq t n) old.taken.items) c.set.ensures.stamp;
-      queued = subst (λ (n : ℕ). set old.buckets.items b c.push.new.self ≡ set old.buckets.items n (get_or old.buckets.items n [] ++ to ∷ [])) key (ap (set old.buckets.items b) pushed);
+      queued = subst (λ (n : ℕ). set old.buckets.items b c.push.new.self ≡ set old.buckets.items n (get_or old.buckets.items n [] ++ to ∷ [])) key
+          (ap (set old.buckets.items b) pushed);
     })
 
 pub returns-in_err-push : goal.returns-in_err-push

@@ -1,12 +1,6 @@
-use Rattle.std.proofs.Common.{◌≡◌, ℕ, ◌≤◌, ◌*◌, false, None, List, [], get_or, refl, sym, ap, ap₂, ◌∙◌, subst, nat_eq, All, length, arith}
-use Rattle.std.proofs.lemmas.List.{length-replicate, get_or-replicate}
-use Rattle.std.proofs.lemmas.List.Elements.{All-replicate}
-use Rattle.std.proofs.lemmas.Result.{IfOk-from_err}
-use Rattle.sim_base.specs.declared.place.Cell.{Cell}
-use Rattle.sim_base.specs.Places.{Size}
-use Rattle.sim_search.specs.declared.entry.Entry.{Entry}
-use Rattle.sim_search.specs.Tables.{read_entry}
 use Rattle.sim_search.proofs.Beginning.{entry_at-all}
+use Rattle.sim_search.proofs.Common.{get_or-replicate, IfOk-from_err, length-replicate, read_entry, Size, subst, sym, ◌∙◌}
+use Rattle.sim_search.proofs.Common.{◌≡◌, ℕ, ◌*◌, ◌≤◌, false, List, [], length, get_or, nat_eq, None, All, refl, All-replicate, ap, ap₂, arith, Cell, Entry}
 use Rattle.sim_search.proofs.queue.new_rooms.Goals as goal
 
 pub returns : goal.returns
@@ -17,8 +11,10 @@ returns c =
     record {
       start_is = refl;
       size_is = refl;
-      none_reached = λ v. entry_at-all (read_entry 1) None size c.in_ok-items.items.items v (subst (All unread) (sym c.in_ok-items.ensures) (All-replicate unread _ (record { stamp = 0; cost = 0 }) refl));
-      none_taken = λ v. entry_at-all (λ (t : ℕ). nat_eq t 1) false size c.in_ok-taken.taken.items v (subst (All unmarked) (sym c.in_ok-taken.ensures) (All-replicate unmarked _ 0 refl));
+      none_reached = λ v. entry_at-all (read_entry 1) None size c.in_ok-items.items.items v
+          (subst (All unread) (sym c.in_ok-items.ensures) (All-replicate unread _ (record { stamp = 0; cost = 0 }) refl));
+      none_taken = λ v. entry_at-all (λ (t : ℕ). nat_eq t 1) false size c.in_ok-taken.taken.items v
+          (subst (All unmarked) (sym c.in_ok-taken.ensures) (All-replicate unmarked _ 0 refl));
       none_wait = λ b lt. ap (λ (rings : List (List Cell)). get_or rings b []) c.in_ok-buckets.ensures ∙ get_or-replicate 32 b [] [] lt;
     }
 

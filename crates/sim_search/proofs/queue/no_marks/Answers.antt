@@ -1,4 +1,4 @@
-use Rattle.std.proofs.lemmas.Result.{IfOk-from_err}
+use Rattle.sim_search.proofs.Common.{IfOk-from_err}
 use Rattle.sim_search.proofs.queue.no_marks.Goals as goal
 
 pub returns-in_err-vec : goal.returns-in_err-vec

@@ -1,10 +1,6 @@
-use Rattle.std.proofs.Common.{◌≡◌, ◌*◌, ◌<◌, ℕ, Bool, true, false, cond, not, length, get_or, refl, sym, ap, ◌∙◌, arith, eqb, eq-eqb, set, map, List, sum_by}
-use Rattle.std.proofs.lemmas.List.{map-set, length-map}
-use Rattle.std.proofs.lemmas.List.Sums.{sum_by-set}
-use Rattle.sim_base.specs.declared.place.Cell.{Cell}
-use Rattle.sim_search.specs.Tables.{size_of, entry_at}
-use Rattle.sim_search.specs.Queues.{takens}
-use Rattle.sim_search.proofs.Cells.{entry_at-on, entry_at-set_same, entry_at-set_other}
+use Rattle.sim_search.proofs.Cells.{entry_at-on, entry_at-set_other, entry_at-set_same}
+use Rattle.sim_search.proofs.Common.{entry_at, eq-eqb, length-map, map-set, size_of, sum_by-set, sym, takens, ◌∙◌}
+use Rattle.sim_search.proofs.Common.{◌≡◌, ℕ, ◌*◌, ◌<◌, Bool, true, false, cond, not, eqb, List, map, length, get_or, set, sum_by, refl, ap, arith, Cell}
 use Rattle.sim_search.proofs.queue.take.Goals as goal
 
 pub returns : goal.returns
@@ -18,7 +14,8 @@ returns c =
     let count : Bool → ℕ = λ b. cond (not b) 1 0 in
     let made : map is_now (set old.taken.items place old.costs.stamp) ≡ set (takens old) place true =
     map-set is_now old.taken.items place old.costs.stamp ∙ ap (λ (b : Bool). set (takens old) place b) (eq-eqb old.costs.stamp old.costs.stamp refl) in
-    let same : (v : Cell) → entry_at false (size_of old.costs) (map is_now (set old.taken.items place old.costs.stamp)) v ≡ entry_at false (size_of old.costs) (set (takens old) place true) v =
+    let same : (v : Cell) → entry_at false (size_of old.costs) (map is_now (set old.taken.items place old.costs.stamp)) v ≡ entry_at false (size_of old.costs)
+    (set (takens old) place true) v =
     λ v. ap (λ (xs : List Bool). entry_at false (size_of old.costs) xs v) made in
     record {
       start_is = refl;

@@ -1,14 +1,13 @@
-use Rattle.std.proofs.Common.{◌≡◌, ◌≤◌, ℕ, false, refl, arith, ne_eqb, nat_eq, All}
-use Rattle.std.proofs.lemmas.List.Elements.{All-weaker}
-use Rattle.sim_search.specs.Tables.{size_of}
 use Rattle.sim_search.proofs.Beginning.{entry_at-all}
+use Rattle.sim_search.proofs.Common.{◌≡◌, ℕ, ◌≤◌, false, nat_eq, All, refl, All-weaker, arith, ne_eqb, size_of}
 use Rattle.sim_search.proofs.queue.used_again.Goals as goal
 
 pub returns : goal.returns
 returns c =
     let old = c.args.rooms in
     let now = c.forget.new.self.stamp in
-    let apart : All (λ (t : ℕ). nat_eq t now ≡ false) old.taken.items = All-weaker (λ (t : ℕ). t ≤ old.costs.stamp) (λ (t : ℕ). nat_eq t now ≡ false) (λ t le. ne_eqb t now (λ e. omega (arith, e, le, c.forget.ensures.stamp))) old.taken.items old.marked in
+    let apart : All (λ (t : ℕ). nat_eq t now ≡ false) old.taken.items = All-weaker (λ (t : ℕ). t ≤ old.costs.stamp) (λ (t : ℕ). nat_eq t now ≡ false)
+    (λ t le. ne_eqb t now (λ e. omega (arith, e, le, c.forget.ensures.stamp))) old.taken.items old.marked in
     record {
       start_is = refl;
       size_is = c.forget.ensures.size;

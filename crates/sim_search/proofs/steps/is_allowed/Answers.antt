@@ -1,5 +1,4 @@
-use Rattle.std.proofs.Common.{sym, ◌∙◌}
-use Rattle.sim_laws.proofs.Neighbours.{neighbour-on}
+use Rattle.sim_search.proofs.Common.{neighbour-on, sym, ◌∙◌}
 use Rattle.sim_search.proofs.steps.is_allowed.Goals as goal
 
 pub is_free-requires : goal.is_free-requires

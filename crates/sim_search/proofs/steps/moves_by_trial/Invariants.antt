@@ -1,8 +1,4 @@
-use Rattle.std.specs.Option.{is_some}
-use Rattle.std.proofs.Common.{ℕ}
-use Rattle.sim_grid.specs.Grids.{field_of_grid}
-use Rattle.sim_grid.proofs.Bits.{AreBits}
-use Rattle.sim_search.specs.Moves.{step_to}
+use Rattle.sim_search.proofs.Common.{ℕ, is_some, AreBits, field_of_grid, step_to}
 use Rattle.sim_search.proofs.steps.moves_by_trial.Given as goal
 
 abbrev pub invariant-loop-which : goal.invariant-loop-which

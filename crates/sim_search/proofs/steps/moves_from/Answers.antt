@@ -1,6 +1,4 @@
-use Rattle.std.proofs.Common.{sym, ◌∙◌}
-use Rattle.sim_grid.specs.Grids.{field_of_grid}
-use Rattle.sim_search.proofs.Moves.{open-moves}
+use Rattle.sim_search.proofs.{Common.field_of_grid, Common.sym, Common.◌∙◌, Moves.open-moves}
 use Rattle.sim_search.proofs.steps.moves_from.Goals as goal
 
 pub returns-then-open : goal.returns-then-open

@@ -1,9 +1,5 @@
-use Rattle.std.proofs.Common.{◌≡◌, sym, ◌∙◌}
-use Rattle.std.specs.Int.{bit_at}
-use Rattle.std.proofs.lemmas.Nat.Bits.{shr_and_one}
-use Rattle.sim_laws.proofs.Neighbours.{neighbour-on}
-use Rattle.sim_grid.specs.Grids.{field_of_grid}
-use Rattle.sim_search.proofs.Moves.{move-of, move-by_bit}
+use Rattle.sim_search.proofs.Common.{◌≡◌, bit_at, field_of_grid, neighbour-on, shr_and_one, sym, ◌∙◌}
+use Rattle.sim_search.proofs.Moves.{move-by_bit, move-of}
 use Rattle.sim_search.proofs.steps.step.Goals as goal
 
 pub returns-then-moves-which-eq1-clause-step : goal.returns-then-moves-which-eq1-clause-step

@@ -1,7 +1,6 @@
 -- The points in front of the place, and what is still read, are what is read in all.
-use Rattle.std.proofs.Common.{◌≡◌, ◌-◌, take, length}
-use Rattle.sim_sections.specs.Rows.{points_at}
-use Rattle.sim_sections.proofs.Ways.{with_front}
+use Rattle.std.proofs.Common.{◌≡◌, ◌-◌, length, take}
+use Rattle.sim_sections.{proofs.Ways.with_front, specs.Rows.points_at}
 use Rattle.sim_sections.proofs.motion.take_way.Given as goal
 
 abbrev pub invariant-loop-i : goal.invariant-loop-i

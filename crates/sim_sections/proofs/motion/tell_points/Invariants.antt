@@ -1,8 +1,5 @@
 -- The points so far were told.
-use Rattle.std.proofs.Common.{take}
-use Rattle.std.specs.List.{flat_map}
-use Rattle.sim_base.specs.Spelling.{point_bytes}
-use Rattle.sim_bytes.specs.Telling.{Tells}
+use Rattle.{sim_base.specs.Spelling.point_bytes, sim_bytes.specs.Telling.Tells, std.proofs.Common.take, std.specs.List.flat_map}
 use Rattle.sim_sections.proofs.motion.tell_points.Given as goal
 
 abbrev pub invariant-loop-point : goal.invariant-loop-point

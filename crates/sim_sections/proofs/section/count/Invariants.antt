@@ -1,6 +1,5 @@
 -- As many were found as the rows so far have.
-use Rattle.std.proofs.Common.{◌≡◌, ◌≤◌, length, take}
-use Rattle.std.specs.List.{filter_map}
+use Rattle.std.{proofs.Common.◌≡◌, proofs.Common.◌≤◌, proofs.Common.length, proofs.Common.take, specs.List.filter_map}
 use Rattle.sim_sections.proofs.section.count.Given as goal
 
 abbrev pub invariant-loop-row : goal.invariant-loop-row

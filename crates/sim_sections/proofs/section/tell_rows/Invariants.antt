@@ -1,7 +1,5 @@
 -- The rows so far were told.
-use Rattle.std.proofs.Common.{take}
-use Rattle.std.specs.List.{flat_map, filter_map}
-use Rattle.sim_bytes.specs.Telling.{Tells}
+use Rattle.{sim_bytes.specs.Telling.Tells, std.proofs.Common.take, std.specs.List.flat_map, std.specs.List.filter_map}
 use Rattle.sim_sections.proofs.section.tell_rows.Given as goal
 
 abbrev pub invariant-loop-row : goal.invariant-loop-row

@@ -1,6 +1,5 @@
 -- One turn more.
-use Rattle.sim_server.specs.Standing.{server_of}
-use Rattle.sim_serve.proofs.Histories.{kept_more}
+use Rattle.{sim_serve.proofs.Histories.kept_more, sim_server.specs.Standing.server_of}
 use Rattle.sim_serve.proofs.serve.push_all_kept.Goals as goal
 
 pub loop-i-preserved : goal.loop-i-preserved

@@ -1,7 +1,5 @@
 -- The text so far has the lines of the turns so far.
-use Rattle.std.proofs.Common.{◌≡◌, ◌++◌}
-use Rattle.std.specs.Prelude.{string_bytes}
-use Rattle.sim_server.specs.Standing.{server_of}
+use Rattle.{sim_server.specs.Standing.server_of, std.proofs.Common.◌≡◌, std.proofs.Common.◌++◌, std.specs.Prelude.string_bytes}
 use Rattle.sim_serve.specs.Served.{kept_lines}
 use Rattle.sim_serve.proofs.serve.push_all_kept.Given as goal
 

@@ -1,6 +1,5 @@
 -- The text so far has the lines of the messages so far.
-use Rattle.std.proofs.Common.{◌≡◌, ◌++◌, take}
-use Rattle.std.specs.Prelude.{string_bytes, flat_map}
+use Rattle.std.{proofs.Common.◌≡◌, proofs.Common.◌++◌, proofs.Common.take, specs.Prelude.string_bytes, specs.Prelude.flat_map}
 use Rattle.sim_report.specs.Downs.{post_line}
 use Rattle.sim_serve.proofs.serve.push_posts.Given as goal
 

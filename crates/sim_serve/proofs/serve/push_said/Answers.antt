@@ -1,13 +1,8 @@
 -- One arrival more is heard, and what is said at it is appended.
-use Rattle.std.proofs.Common.{◌≡◌, ◌∷◌, [], length, map, ap, ◌∙◌, sym, arith, append_assoc}
-use Rattle.std.specs.Prelude.{string_bytes}
-use Rattle.std.specs.Vec.Iter.{into_iter_items}
-use Rattle.sim_plain.specs.declared.rules.Rules.{Rules}
-use Rattle.sim_plain.specs.Server.{server_after}
-use Rattle.sim_plain.specs.Posts.{posts_of}
-use Rattle.sim_lists.specs.Arrivals.{plain_arrival}
-use Rattle.sim_serve.specs.Served.{history}
-use Rattle.sim_serve.proofs.Histories.{history_more, said_more}
+use Rattle.{sim_lists.specs.Arrivals.plain_arrival, std.specs.Prelude.string_bytes, std.specs.Vec.Iter.into_iter_items}
+use Rattle.std.proofs.Common.{◌≡◌, [], ◌∷◌, map, length, ap, append_assoc, arith, sym, ◌∙◌}
+use Rattle.sim_plain.specs.{Posts.posts_of, Server.server_after, declared.rules.Rules.Rules}
+use Rattle.sim_serve.{proofs.Histories.history_more, proofs.Histories.said_more, specs.Served.history}
 use Rattle.sim_serve.proofs.serve.push_said.Goals as goal
 
 pub loop-arrival-preserved : goal.loop-arrival-preserved
@@ -23,7 +18,8 @@ loop-arrival-preserved c =
           (c.in_ok-posts.ensures.answers active (history h (map plain_arrival at.yielded)) (at.invariant.stands active h begins)).0
           ∙ ap (server_after c.answer.new.server.rules active) (sym (history_more h at.yielded x));
       text = λ active h begins.
-          said_more c.args.server.now.rules active h at.yielded x (string_bytes c.args.text.now) (string_bytes at.text) _ c.in_ok-posts.posts (at.invariant.text active h begins) c.in_ok-push_posts.ensures
+          said_more c.args.server.now.rules active h at.yielded x (string_bytes c.args.text.now) (string_bytes at.text) _ c.in_ok-posts.posts
+          (at.invariant.text active h begins) c.in_ok-push_posts.ensures
           ((c.in_ok-posts.ensures.answers active (history h (map plain_arrival at.yielded)) (at.invariant.stands active h begins)).1
           ∙ ap (λ (rules : Rules). posts_of rules (server_after rules active (history h (map plain_arrival at.yielded))) (plain_arrival x)) at.invariant.rules);
     }

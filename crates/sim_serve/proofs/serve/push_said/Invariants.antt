@@ -1,11 +1,7 @@
 -- The server stands for the arrivals so far, and the text has the lines of what was said at them.
-use Rattle.std.proofs.Common.{◌≡◌, ℕ, List, ◌++◌, length, map}
-use Rattle.std.specs.Prelude.{string_bytes}
-use Rattle.std.specs.Vec.Iter.{into_iter_items, into_iter_len}
-use Rattle.sim_plain.specs.Messages.{Arrival}
-use Rattle.sim_server.specs.Standing.{StandsFor}
-use Rattle.sim_lists.specs.Arrivals.{plain_arrival}
-use Rattle.sim_serve.specs.Served.{history, said_lines}
+use Rattle.{sim_lists.specs.Arrivals.plain_arrival, std.specs.Prelude.string_bytes, std.specs.Vec.Iter.into_iter_items, std.specs.Vec.Iter.into_iter_len}
+use Rattle.{sim_plain.specs.Messages.Arrival, sim_serve.specs.Served.history, sim_serve.specs.Served.said_lines, sim_server.specs.Standing.StandsFor}
+use Rattle.std.proofs.Common.{◌≡◌, ℕ, List, ◌++◌, map, length}
 use Rattle.sim_serve.proofs.serve.push_said.Given as goal
 
 abbrev pub invariant-loop-arrival : goal.invariant-loop-arrival

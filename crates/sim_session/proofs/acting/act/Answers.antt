@@ -1,15 +1,7 @@
 -- The server hears what a client said; systems are built by loads alone; and a step that is not enabled comes to an end.
-use Rattle.std.proofs.Common.{refl, sym, subst}
-use Rattle.std.specs.Prelude.{IfOk, IsOk}
-use Rattle.sim_base.specs.declared.step.Step.{Step}
-use Rattle.sim_plain_session.specs.Printed.{events_by}
-use Rattle.sim_plain_session.specs.Sessions.{Session, client_of}
-use Rattle.sim_client.specs.StageWords.{life_at, systems_on}
-use Rattle.sim_server.specs.Standing.{IsClient}
-use Rattle.sim_session.specs.Building.{AreBuiltIf, has_load}
-use Rattle.sim_session.specs.Standing.{Makes, StandBeside}
-use Rattle.sim_session.proofs.Beside.{up_makes, kept_built, unbuilt}
-use Rattle.sim_session.proofs.Idling.{WhereIdle, order_idle, up_idle, down_idle, play_idle, join_idle, cut_idle, bend_idle}
+use Rattle.sim_session.proofs.{Beside.kept_built, Beside.unbuilt, Beside.up_makes, Common.sym, Common.systems_on}
+use Rattle.sim_session.proofs.Common.{IfOk, IsOk, refl, AreBuiltIf, client_of, events_by, has_load, IsClient, life_at, Makes, Session, StandBeside, Step, subst}
+use Rattle.sim_session.proofs.Idling.{bend_idle, cut_idle, down_idle, join_idle, order_idle, play_idle, up_idle, WhereIdle}
 use Rattle.sim_session.proofs.acting.act.Goals as goal
 
 pub returns-in-Up-clause-made : goal.returns-in-Up-clause-made
@@ -35,7 +27,8 @@ returns-in-Down-clause-loads g c =
     let setup = client.setup.now in
     let life = life_at client.stage client.board in
     subst (λ (x : Step). (s : Session) → StandBeside setup (client_of x) life c.args.exchange.now s
-    → AreBuiltIf (has_load (events_by setup s x)) (systems_on client.board (λ i v. (goal.System-dyn g (i, v)).meaning v)) (systems_on new.board (λ i v. (goal.System-dyn g (i, v)).meaning v)))
+    → AreBuiltIf (has_load (events_by setup s x)) (systems_on client.board (λ i v. (goal.System-dyn g (i, v)).meaning v))
+    (systems_on new.board (λ i v. (goal.System-dyn g (i, v)).meaning v)))
     (sym c.in-Down.is) c.down.ensures.loads
 
 pub returns-in-Play-clause-loads : goal.returns-in-Play-clause-loads

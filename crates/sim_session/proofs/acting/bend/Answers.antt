@@ -1,11 +1,7 @@
 -- The client may be bent, and is then; or nothing happens.
-use Rattle.std.proofs.Common.{false, true, subst, ◌∙◌, ap}
-use Rattle.sim_client.specs.ClientWords.{Tells}
-use Rattle.sim_client.specs.LifeLaws.{shows}
-use Rattle.sim_client.specs.Lives.{bends}
-use Rattle.sim_client.specs.StageWords.{life_at}
-use Rattle.sim_base.specs.declared.step.Event.TheVariants as event
 use Rattle.sim_session.proofs.Beside.{bend_makes, then_ok}
+use Rattle.sim_session.proofs.Common.{true, false, ap, bends, life_at, shows, subst, Tells, ◌∙◌}
+use Rattle.sim_base.specs.declared.step.Event.TheVariants as event
 use Rattle.sim_session.proofs.acting.bend.Goals as goal
 
 pub returns-then-not-bend-clause-made : goal.returns-then-not-bend-clause-made
@@ -23,6 +19,7 @@ returns-clause-made g c =
     let new = c.bend.new.self in
     let old_life = life_at client.stage client.board in
     let new_life = life_at new.stage new.board in
-    then_ok c.bent.result (λ events told. bend_makes client.setup.now c.args.number c.args.entity c.args.health old_life new_life c.args.exchange.now true events
+    then_ok c.bent.result (λ events told. bend_makes client.setup.now c.args.number c.args.entity c.args.health old_life new_life c.args.exchange.now true
+    events
     (subst (λ b. Tells (bends client.setup.now c.args.entity c.args.health old_life) old_life b new_life) c.if-not-bend.false c.bend.ensures.tells)
     (told ∙ ap (λ s. shows s (event.Bend c.args.number) new_life) c.bend.ensures.setup)) c.bent.ensures

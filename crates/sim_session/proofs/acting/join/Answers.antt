@@ -1,12 +1,6 @@
 -- The wish of a client goes up.
-use Rattle.std.proofs.Common.{All, sym, subst, ◌∙◌}
-use Rattle.std.specs.Prelude.{◌≡◌, IfOk}
-use Rattle.sim_session.specs.Printing.{said_events}
-use Rattle.sim_wire.specs.Fits.{IsSmallUp}
-use Rattle.sim_client.specs.Lives.{joins}
-use Rattle.sim_client.specs.StageWords.{life_at}
-use Rattle.sim_session.proofs.Beside.{join_small, join_makes}
-use Rattle.sim_session.proofs.Idling.{nothing_said}
+use Rattle.sim_session.proofs.{Beside.join_makes, Beside.join_small, Idling.nothing_said}
+use Rattle.sim_session.proofs.Common.{◌≡◌, IfOk, All, IsSmallUp, joins, life_at, said_events, subst, sym, ◌∙◌}
 use Rattle.sim_session.proofs.acting.join.Goals as goal
 
 pub tell-requires-clause-small : goal.tell-requires-clause-small
@@ -21,7 +15,8 @@ returns-clause-made g c =
     let client = c.args.client.now in
     let new = c.join.new.self in
     let said = c.as_slice.ensures ∙ c.ups_of-ups.ensures in
-    join_makes client.setup.now c.args.number (life_at client.stage client.board) (life_at new.stage new.board) c.args.exchange.now c.tell.new.exchange c.in_ok-did.did c.tell.result
+    join_makes client.setup.now c.args.number (life_at client.stage client.board) (life_at new.stage new.board) c.args.exchange.now c.tell.new.exchange
+    c.in_ok-did.did c.tell.result
     c.in_ok-did.ensures.answers (λ s acted conveys is. c.tell.ensures.sent client.setup.now s acted conveys (said ∙ is))
     (subst (λ ups. IfOk c.tell.result (λ events. events ≡ said_events c.args.number ups)) said c.tell.ensures.printed)
 
@@ -31,4 +26,5 @@ returns-clause-idle g c = λ none.
     let new = c.join.new.self in
     let old_life = life_at client.stage client.board in
     c.tell.ensures.none
-    (c.as_slice.ensures ∙ c.ups_of-ups.ensures ∙ nothing_said (joins old_life) old_life c.in_ok-did.did (life_at new.stage new.board) c.in_ok-did.ensures.answers none)
+    (c.as_slice.ensures ∙ c.ups_of-ups.ensures ∙ nothing_said (joins old_life) old_life c.in_ok-did.did (life_at new.stage new.board)
+    c.in_ok-did.ensures.answers none)

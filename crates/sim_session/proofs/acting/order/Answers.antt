@@ -1,12 +1,6 @@
 -- What a client says that gives a command goes up.
-use Rattle.std.proofs.Common.{All, sym, subst, ◌∙◌}
-use Rattle.std.specs.Prelude.{◌≡◌, IfOk}
-use Rattle.sim_session.specs.Printing.{said_events}
-use Rattle.sim_wire.specs.Fits.{IsSmallUp}
-use Rattle.sim_client.specs.Lives.{orders}
-use Rattle.sim_client.specs.StageWords.{life_at}
-use Rattle.sim_session.proofs.Beside.{order_small, order_makes}
-use Rattle.sim_session.proofs.Idling.{nothing_said}
+use Rattle.sim_session.proofs.{Beside.order_makes, Beside.order_small, Idling.nothing_said}
+use Rattle.sim_session.proofs.Common.{◌≡◌, IfOk, All, IsSmallUp, life_at, orders, said_events, subst, sym, ◌∙◌}
 use Rattle.sim_session.proofs.acting.order.Goals as goal
 
 pub tell-requires-clause-small : goal.tell-requires-clause-small
@@ -14,14 +8,16 @@ tell-requires-clause-small g c =
     let client = c.args.client.now in
     let new = c.order.new.self in
     subst (All IsSmallUp) (sym (c.as_slice.ensures ∙ c.ups_of-ups.ensures))
-    (order_small client.setup.now c.args.command.now (life_at client.stage client.board) c.in_ok-did.did (life_at new.stage new.board) c.requires.few c.in_ok-did.ensures.answers)
+    (order_small client.setup.now c.args.command.now (life_at client.stage client.board) c.in_ok-did.did (life_at new.stage new.board) c.requires.few
+    c.in_ok-did.ensures.answers)
 
 pub returns-clause-made : goal.returns-clause-made
 returns-clause-made g c =
     let client = c.args.client.now in
     let new = c.order.new.self in
     let said = c.as_slice.ensures ∙ c.ups_of-ups.ensures in
-    order_makes client.setup.now c.args.number c.args.command.now (life_at client.stage client.board) (life_at new.stage new.board) c.args.exchange.now c.tell.new.exchange c.in_ok-did.did c.tell.result
+    order_makes client.setup.now c.args.number c.args.command.now (life_at client.stage client.board) (life_at new.stage new.board) c.args.exchange.now
+    c.tell.new.exchange c.in_ok-did.did c.tell.result
     c.in_ok-did.ensures.answers
     (λ s acted conveys is. c.tell.ensures.sent client.setup.now s acted conveys (said ∙ is))
     (subst (λ ups. IfOk c.tell.result (λ events. events ≡ said_events c.args.number ups)) said c.tell.ensures.printed)
@@ -32,4 +28,5 @@ returns-clause-idle g c = λ none.
     let new = c.order.new.self in
     let old_life = life_at client.stage client.board in
     c.tell.ensures.none
-    (c.as_slice.ensures ∙ c.ups_of-ups.ensures ∙ nothing_said (orders client.setup.now c.args.command.now old_life) old_life c.in_ok-did.did (life_at new.stage new.board) c.in_ok-did.ensures.answers none)
+    (c.as_slice.ensures ∙ c.ups_of-ups.ensures ∙ nothing_said (orders client.setup.now c.args.command.now old_life) old_life c.in_ok-did.did
+    (life_at new.stage new.board) c.in_ok-did.ensures.answers none)

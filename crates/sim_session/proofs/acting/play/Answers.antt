@@ -1,11 +1,6 @@
 -- What a client says that plays a turn goes up, and what it has come to is printed.
-use Rattle.std.proofs.Common.{All, sym, subst, ◌∙◌}
-use Rattle.sim_wire.specs.Fits.{IsSmallUp}
-use Rattle.sim_client.specs.StageWords.{life_at}
-use Rattle.sim_base.specs.declared.setup.Setup.{Setup}
-use Rattle.sim_session.specs.Printing.{played_events, has_happened, IsDigestOf}
-use Rattle.sim_session.specs.Standing.{said_by}
-use Rattle.sim_session.proofs.Beside.{play_small, play_makes, play_digest}
+use Rattle.sim_session.proofs.Beside.{play_digest, play_makes, play_small}
+use Rattle.sim_session.proofs.Common.{All, has_happened, IsDigestOf, IsSmallUp, life_at, played_events, said_by, Setup, subst, sym, ◌∙◌}
 use Rattle.sim_session.proofs.acting.play.Goals as goal
 
 pub played-requires-clause-told : goal.played-requires-clause-told
@@ -28,6 +23,8 @@ returns-clause-made g c =
     let client = c.args.client.now in
     let new = c.play.new.self in
     let new_life = life_at new.stage new.board in
-    play_makes client.setup.now c.args.number (life_at client.stage client.board) new_life c.args.exchange.now c.send.new.self c.in_ok-did.did c.in_ok-events.events
-    c.in_ok-did.ensures.answers (λ s acted conveys is. c.in_ok-send.ensures.stands client.setup.now s acted conveys (c.as_slice.ensures ∙ c.ups_of-ups.ensures ∙ is))
+    play_makes client.setup.now c.args.number (life_at client.stage client.board) new_life c.args.exchange.now c.send.new.self c.in_ok-did.did
+    c.in_ok-events.events
+    c.in_ok-did.ensures.answers (λ s acted conveys is. c.in_ok-send.ensures.stands client.setup.now s acted conveys (c.as_slice.ensures ∙ c.ups_of-ups.ensures ∙
+    is))
     (c.in_ok-events.ensures.events ∙ (λ i. played_events (c.in_ok-did.ensures.setup i) c.args.number new_life (has_happened c.in_ok-did.did)))

@@ -1,5 +1,5 @@
 -- What was sent stays sent, whatever is printed of it.
-use Rattle.sim_client.proofs.Standing.{anyway}
+use Rattle.sim_session.proofs.Common.{anyway}
 use Rattle.sim_session.proofs.acting.tell.Goals as goal
 
 pub returns-clause-sent : goal.returns-clause-sent

@@ -1,15 +1,7 @@
 -- A message is taken out of the pipe and heard, and what the client says goes up.
-use Rattle.std.proofs.Common.{All, sym, subst, ◌∙◌}
+use Rattle.sim_session.proofs.{Beside.unbuilt, Heard.heard_built, Heard.heard_loads, Heard.heard_makes, Heard.heard_small, Heard.none_makes}
+use Rattle.sim_session.proofs.Common.{All, events_by, Falls, has_happened, has_load, heard_events, IsSmallUp, life_at, Makes, subst, sym, ◌∙◌}
 use Rattle.sim_base.specs.declared.step.Step.TheVariants as step
-use Rattle.sim_client.specs.StageWords.{life_at}
-use Rattle.sim_pipes.specs.Exchanges.{Falls}
-use Rattle.sim_wire.specs.Fits.{IsSmallUp}
-use Rattle.sim_session.specs.Printing.{has_happened, heard_events}
-use Rattle.sim_session.specs.Standing.{Makes}
-use Rattle.sim_plain_session.specs.Printed.{events_by}
-use Rattle.sim_session.specs.Building.{has_load}
-use Rattle.sim_session.proofs.Beside.{unbuilt}
-use Rattle.sim_session.proofs.Heard.{heard_small, heard_makes, heard_built, heard_loads, none_makes}
 use Rattle.sim_session.proofs.hearing.down.Goals as goal
 
 pub returns-in_default-clause-made : goal.returns-in_default-clause-made
@@ -19,7 +11,8 @@ returns-in_default-clause-made g c =
     let life = life_at client.stage client.board in
     subst (λ events. Makes setup (step.Down c.args.number) life c.args.exchange.now life c.fall.new.self events) (sym c.new.ensures)
     (none_makes setup c.args.number life c.args.exchange.now c.fall.new.self
-    (λ s conveys. subst (λ read. Falls setup c.fall.new.self c.args.number s (s.downs c.args.number) read) c.in_default.is (c.in_ok-down.ensures.stands setup s conveys)))
+    (λ s conveys. subst (λ read. Falls setup c.fall.new.self c.args.number s (s.downs c.args.number) read) c.in_default.is
+    (c.in_ok-down.ensures.stands setup s conveys)))
 
 pub send-requires-clause-small : goal.send-requires-clause-small
 send-requires-clause-small g c =
@@ -28,9 +21,11 @@ send-requires-clause-small g c =
     let new = c.hear.new.self in
     let some = c.requires.some in
     subst (All IsSmallUp) (sym (c.as_slice.ensures ∙ c.ups_of-ups.ensures))
-    (heard_small setup c.args.number some.0 (life_at client.stage client.board) c.in-Some.down c.in_ok-did.did (life_at new.stage new.board) c.args.exchange.now c.fall.new.self
+    (heard_small setup c.args.number some.0 (life_at client.stage client.board) c.in-Some.down c.in_ok-did.did (life_at new.stage new.board) c.args.exchange.now
+    c.fall.new.self
     c.requires.sound.limits some.1 some.2
-    (λ s conveys. subst (λ read. Falls setup c.fall.new.self c.args.number s (s.downs c.args.number) read) c.in-Some.is (c.in_ok-down.ensures.stands setup s conveys))
+    (λ s conveys. subst (λ read. Falls setup c.fall.new.self c.args.number s (s.downs c.args.number) read) c.in-Some.is
+    (c.in_ok-down.ensures.stands setup s conveys))
     c.in_ok-did.ensures.answers)
 
 pub returns-clause-made : goal.returns-clause-made
@@ -42,8 +37,10 @@ returns-clause-made g c =
     let same = c.in_ok-did.ensures.setup in
     let refusal = c.refusal_of-refusal.ensures in
     let state = c.is_state-is_state.ensures in
-    heard_makes setup c.args.number (life_at client.stage client.board) c.in-Some.down c.in_ok-did.did new_life c.args.exchange.now c.fall.new.self c.send.new.self c.in_ok-events.events
-    (λ s conveys. subst (λ read. Falls setup c.fall.new.self c.args.number s (s.downs c.args.number) read) c.in-Some.is (c.in_ok-down.ensures.stands setup s conveys))
+    heard_makes setup c.args.number (life_at client.stage client.board) c.in-Some.down c.in_ok-did.did new_life c.args.exchange.now c.fall.new.self
+    c.send.new.self c.in_ok-events.events
+    (λ s conveys. subst (λ read. Falls setup c.fall.new.self c.args.number s (s.downs c.args.number) read) c.in-Some.is
+    (c.in_ok-down.ensures.stands setup s conveys))
     c.in_ok-did.ensures.answers
     (c.in_ok-events.ensures ∙ (λ i. heard_events (same i) c.args.number new_life (refusal i) (state i) (has_happened c.in_ok-did.did)))
     (λ s acted conveys is. c.in_ok-send.ensures.stands setup s acted conveys (c.as_slice.ensures ∙ c.ups_of-ups.ensures ∙ is))
@@ -58,8 +55,10 @@ returns-clause-built g c =
     let refusal = c.refusal_of-refusal.ensures in
     let state = c.is_state-is_state.ensures in
     let some = c.requires.some in
-    heard_built setup c.args.number (life_at client.stage client.board) c.in-Some.down c.in_ok-did.did new_life c.args.exchange.now c.fall.new.self c.send.new.self c.in_ok-events.events
-    (λ s conveys. subst (λ read. Falls setup c.fall.new.self c.args.number s (s.downs c.args.number) read) c.in-Some.is (c.in_ok-down.ensures.stands setup s conveys))
+    heard_built setup c.args.number (life_at client.stage client.board) c.in-Some.down c.in_ok-did.did new_life c.args.exchange.now c.fall.new.self
+    c.send.new.self c.in_ok-events.events
+    (λ s conveys. subst (λ read. Falls setup c.fall.new.self c.args.number s (s.downs c.args.number) read) c.in-Some.is
+    (c.in_ok-down.ensures.stands setup s conveys))
     c.in_ok-did.ensures.answers
     (c.in_ok-events.ensures ∙ (λ i. heard_events (same i) c.args.number new_life (refusal i) (state i) (has_happened c.in_ok-did.did)))
     some.0 _ _ some.1 some.2 c.in_ok-did.ensures.kept c.in_ok-did.ensures.most
@@ -77,7 +76,8 @@ returns-in_err-did-clause-loads g c = λ s at.
     let client = c.args.client.now in
     let setup = client.setup.now in
     heard_loads setup c.args.number s (life_at client.stage client.board) c.in-Some.down c.args.exchange.now c.fall.new.self _ _ at
-    (λ s conveys. subst (λ read. Falls setup c.fall.new.self c.args.number s (s.downs c.args.number) read) c.in-Some.is (c.in_ok-down.ensures.stands setup s conveys))
+    (λ s conveys. subst (λ read. Falls setup c.fall.new.self c.args.number s (s.downs c.args.number) read) c.in-Some.is
+    (c.in_ok-down.ensures.stands setup s conveys))
     c.hear.ensures.kept c.hear.ensures.most
 
 pub returns-in_err-events-clause-loads : goal.returns-in_err-events-clause-loads
@@ -85,7 +85,8 @@ returns-in_err-events-clause-loads g c = λ s at.
     let client = c.args.client.now in
     let setup = client.setup.now in
     heard_loads setup c.args.number s (life_at client.stage client.board) c.in-Some.down c.args.exchange.now c.fall.new.self _ _ at
-    (λ s conveys. subst (λ read. Falls setup c.fall.new.self c.args.number s (s.downs c.args.number) read) c.in-Some.is (c.in_ok-down.ensures.stands setup s conveys))
+    (λ s conveys. subst (λ read. Falls setup c.fall.new.self c.args.number s (s.downs c.args.number) read) c.in-Some.is
+    (c.in_ok-down.ensures.stands setup s conveys))
     c.hear.ensures.kept c.hear.ensures.most
 
 pub returns-in_err-send-clause-loads : goal.returns-in_err-send-clause-loads
@@ -93,7 +94,8 @@ returns-in_err-send-clause-loads g c = λ s at.
     let client = c.args.client.now in
     let setup = client.setup.now in
     heard_loads setup c.args.number s (life_at client.stage client.board) c.in-Some.down c.args.exchange.now c.fall.new.self _ _ at
-    (λ s conveys. subst (λ read. Falls setup c.fall.new.self c.args.number s (s.downs c.args.number) read) c.in-Some.is (c.in_ok-down.ensures.stands setup s conveys))
+    (λ s conveys. subst (λ read. Falls setup c.fall.new.self c.args.number s (s.downs c.args.number) read) c.in-Some.is
+    (c.in_ok-down.ensures.stands setup s conveys))
     c.hear.ensures.kept c.hear.ensures.most
 
 pub returns-clause-loads : goal.returns-clause-loads
@@ -101,5 +103,6 @@ returns-clause-loads g c = λ s at.
     let client = c.args.client.now in
     let setup = client.setup.now in
     heard_loads setup c.args.number s (life_at client.stage client.board) c.in-Some.down c.args.exchange.now c.fall.new.self _ _ at
-    (λ s conveys. subst (λ read. Falls setup c.fall.new.self c.args.number s (s.downs c.args.number) read) c.in-Some.is (c.in_ok-down.ensures.stands setup s conveys))
+    (λ s conveys. subst (λ read. Falls setup c.fall.new.self c.args.number s (s.downs c.args.number) read) c.in-Some.is
+    (c.in_ok-down.ensures.stands setup s conveys))
     c.hear.ensures.kept c.hear.ensures.most

@@ -1,12 +1,6 @@
 -- One more rig has a client.
-use Rattle.std.proofs.Common.{◌∙◌, ap, arith, drop, ◌++◌, ◌∷◌, []}
-use Rattle.std.proofs.lemmas.List.{replicate-append-replicate}
-use Rattle.sim_system.specs.Meanings.{HaveKinds}
-use Rattle.sim_system.specs.RigWords.{systems_by as rig_by}
-use Rattle.sim_client.specs.Lives.{Off}
-use Rattle.sim_client.specs.StageWords.{AreCleared}
-use Rattle.sim_session.proofs.Moving.{drop_next}
-use Rattle.sim_session.proofs.Seating.{holds_behind}
+use Rattle.{sim_session.proofs.Moving.drop_next, sim_session.proofs.Seating.holds_behind, sim_system.specs.RigWords.systems_by as rig_by}
+use Rattle.sim_session.proofs.Common.{[], ◌∷◌, ◌++◌, drop, ap, AreCleared, arith, HaveKinds, Off, replicate-append-replicate, ◌∙◌}
 use Rattle.sim_session.proofs.rigs.seat.Goals as goal
 
 pub loop-i-preserved : goal.loop-i-preserved

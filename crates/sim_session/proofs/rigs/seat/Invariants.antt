@@ -1,9 +1,6 @@
 -- The first rigs have clients, which are off, and the others are left.
-use Rattle.std.proofs.Common.{◌≡◌, ◌≤◌, ◌++◌, drop, All, replicate, vec_capacity}
-use Rattle.sim_system.specs.Meanings.{HaveKinds}
-use Rattle.sim_client.specs.Lives.{Off}
-use Rattle.sim_client.specs.StageWords.{AreCleared}
-use Rattle.sim_session.specs.SessionWords.{AreMembersBy, lives_of, rigs_by, systems_by}
+use Rattle.sim_session.proofs.Common.{systems_by}
+use Rattle.sim_session.proofs.Common.{◌≡◌, ◌≤◌, ◌++◌, drop, replicate, vec_capacity, All, AreCleared, AreMembersBy, HaveKinds, lives_of, Off, rigs_by}
 use Rattle.sim_session.proofs.rigs.seat.Given as goal
 
 abbrev pub invariant-loop-i : goal.invariant-loop-i

@@ -1,16 +1,12 @@
 -- The last client hands its rig back, in front of those that are back.
-use Rattle.std.proofs.Common.{◌≡◌, ◌+◌, ◌∷◌, [], ◌++◌, length, sym, ap, ◌∙◌, arith, length-append}
-use Rattle.std.proofs.lemmas.List.{map-append}
-use Rattle.sim_client.specs.StageWords.{systems_on}
-use Rattle.sim_system.specs.Meanings.{HaveKinds}
+use Rattle.sim_session.proofs.{Common.◌∙◌, Moving.drop_back, Moving.moved, Seating.holds_in_front, Seating.holds_last}
+use Rattle.sim_session.proofs.Common.{◌≡◌, ◌+◌, [], ◌∷◌, ◌++◌, length, ap, arith, HaveKinds, length-append, map-append, rigs_by, sym, systems_by, systems_on}
 use Rattle.sim_system.specs.RigWords.{systems_by as rig_by}
-use Rattle.sim_session.specs.SessionWords.{rigs_by, systems_by}
-use Rattle.sim_session.proofs.Moving.{drop_back, moved}
-use Rattle.sim_session.proofs.Seating.{holds_in_front, holds_last}
 use Rattle.sim_session.proofs.rigs.unseat.Goals as goal
 
 pub finish-requires : goal.finish-requires
-finish-requires g c = holds_last HaveKinds (λ x. systems_on x.board (λ i v. (goal.System-dyn g (i, v)).meaning v)) c.loop-client.clients.items c.pop.new.self.items c.in-Some.client c.in-Some.ensures.items c.loop-client.invariant.kinds
+finish-requires g c = holds_last HaveKinds (λ x. systems_on x.board (λ i v. (goal.System-dyn g (i, v)).meaning v)) c.loop-client.clients.items
+    c.pop.new.self.items c.in-Some.client c.in-Some.ensures.items c.loop-client.invariant.kinds
 
 pub loop-client-preserved : goal.loop-client-preserved
 loop-client-preserved g c =
@@ -24,10 +20,17 @@ loop-client-preserved g c =
     let back = c.put_back.ensures.rigs in
     let long : length before ≡ length left + 1 = ap length popped ∙ length-append left (client ∷ []) in
     record {
-      systems = ap (λ l. systems_by left (λ i v. (goal.System-dyn g (i, v)).meaning v) ++ rigs_by l (λ i v. (goal.System-dyn g (i, v)).meaning v)) back ∙ sym (moved (λ x. systems_on x.board (λ i v. (goal.System-dyn g (i, v)).meaning v)) (λ r. rig_by r (λ i v. (goal.System-dyn g (i, v)).meaning v)) left client rigs rig (sym c.finish.ensures.systems)) ∙ ap (λ l. systems_by l (λ i v. (goal.System-dyn g (i, v)).meaning v) ++ rigs_by rigs (λ i v. (goal.System-dyn g (i, v)).meaning v)) (sym popped) ∙ was.systems;
+      systems = ap (λ l. systems_by left (λ i v. (goal.System-dyn g (i, v)).meaning v) ++ rigs_by l (λ i v. (goal.System-dyn g (i, v)).meaning v)) back ∙
+          sym (moved (λ x. systems_on x.board (λ i v. (goal.System-dyn g (i, v)).meaning v)) (λ r. rig_by r (λ i v. (goal.System-dyn g (i, v)).meaning v)) left
+          client rigs rig (sym c.finish.ensures.systems)) ∙
+          ap (λ l. systems_by l (λ i v. (goal.System-dyn g (i, v)).meaning v) ++ rigs_by rigs (λ i v. (goal.System-dyn g (i, v)).meaning v))
+          (sym popped) ∙ was.systems;
       rest = drop_back (length c.args.clients.items) (length before) (length left) rig rigs c.put_back.new.rigs.items long was.few back ∙ was.rest;
       few = omega (arith, long, was.few);
       room = omega (arith, long, was.room, c.put_back.ensures.kept, ap length back);
       kept = c.put_back.ensures.kept ∙ was.kept;
-      kinds = holds_in_front HaveKinds (systems_by left (λ i v. (goal.System-dyn g (i, v)).meaning v)) (systems_on client.board (λ i v. (goal.System-dyn g (i, v)).meaning v) ∷ []) (systems_by before (λ i v. (goal.System-dyn g (i, v)).meaning v)) (sym (ap (λ l. systems_by l (λ i v. (goal.System-dyn g (i, v)).meaning v)) popped ∙ map-append (λ x. systems_on x.board (λ i v. (goal.System-dyn g (i, v)).meaning v)) left (client ∷ []))) was.kinds;
+      kinds = holds_in_front HaveKinds (systems_by left (λ i v. (goal.System-dyn g (i, v)).meaning v))
+          (systems_on client.board (λ i v. (goal.System-dyn g (i, v)).meaning v) ∷ []) (systems_by before (λ i v. (goal.System-dyn g (i, v)).meaning v))
+          (sym (ap (λ l. systems_by l (λ i v. (goal.System-dyn g (i, v)).meaning v)) popped ∙
+          map-append (λ x. systems_on x.board (λ i v. (goal.System-dyn g (i, v)).meaning v)) left (client ∷ []))) was.kinds;
     }

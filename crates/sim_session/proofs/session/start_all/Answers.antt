@@ -1,12 +1,6 @@
 -- One more client has begun.
-use Rattle.std.proofs.Common.{◌+◌, ◌<◌, length, set, sym, subst, ap, ◌∙◌, arith}
-use Rattle.std.proofs.lemmas.List.{length-set}
-use Rattle.std.proofs.lemmas.List.Elements.{All-set}
-use Rattle.sim_client.specs.Lives.{starts}
-use Rattle.sim_client.specs.StageWords.{life_at, systems_on}
-use Rattle.sim_session.specs.Building.{AreBuilt}
-use Rattle.sim_session.specs.SessionWords.{IsMemberBy, systems_by}
-use Rattle.sim_session.proofs.Seating.{changed, kinds_put}
+use Rattle.sim_session.proofs.{Common.systems_on, Common.◌∙◌, Seating.changed, Seating.kinds_put}
+use Rattle.sim_session.proofs.Common.{◌+◌, ◌<◌, length, set, All-set, ap, AreBuilt, arith, IsMemberBy, length-set, life_at, starts, subst, sym, systems_by}
 use Rattle.sim_session.proofs.Starting.{begun_more, next_was, others_more, starts_more, starts_on}
 use Rattle.sim_session.proofs.session.start_all.Goals as goal
 
@@ -29,15 +23,18 @@ start-requires-clause-off g c =
     let client = c.index_mut-client.result.now in
     let is = c.index_mut-client.ensures.value in
     let within : i < length clients = omega (arith, c.loop-i-test.true, was.count, c.requires.count) in
-    sym (next_was (λ x. life_at x.stage x.board) c.args.clients.now.items clients i client within is was.others) ∙ c.requires.off (i + 1) (omega arith) (omega (arith, c.loop-i-test.true))
+    sym (next_was (λ x. life_at x.stage x.board) c.args.clients.now.items clients i client within is was.others) ∙ c.requires.off (i + 1) (omega arith)
+    (omega (arith, c.loop-i-test.true))
 
 pub returns-in_err-start-clause-others : goal.returns-in_err-start-clause-others
 returns-in_err-start-clause-others g c =
-    others_more (λ x. life_at x.stage x.board) c.args.clients.now.items c.loop-i.clients.items c.loop-i.i c.args.count c.start.new.self c.loop-i-test.true c.loop-i.invariant.others
+    others_more (λ x. life_at x.stage x.board) c.args.clients.now.items c.loop-i.clients.items c.loop-i.i c.args.count c.start.new.self c.loop-i-test.true
+    c.loop-i.invariant.others
 
 pub returns-in_err-start-clause-kinds : goal.returns-in_err-start-clause-kinds
 returns-in_err-start-clause-kinds g c =
-    kinds_put (λ x. systems_on x.board (λ i v. (goal.System-dyn g (i, v)).meaning v)) c.loop-i.clients.items c.loop-i.i c.start.new.self c.start.ensures.kinds c.loop-i.invariant.kinds
+    kinds_put (λ x. systems_on x.board (λ i v. (goal.System-dyn g (i, v)).meaning v)) c.loop-i.clients.items c.loop-i.i c.start.new.self c.start.ensures.kinds
+    c.loop-i.invariant.kinds
 
 pub returns-in_err-start-clause-built : goal.returns-in_err-start-clause-built
 returns-in_err-start-clause-built g c =
@@ -48,10 +45,14 @@ returns-in_err-start-clause-built g c =
     let is = c.index_mut-client.ensures.value in
     let within : i < length clients = omega (arith, c.loop-i-test.true, was.count, c.requires.count) in
     let new = c.start.new.self in
-    starts_more (i + 1) c.args.count (systems_by c.args.clients.now.items (λ i v. (goal.System-dyn g (i, v)).meaning v)) (systems_by (set clients i new) (λ i v. (goal.System-dyn g (i, v)).meaning v))
+    starts_more (i + 1) c.args.count (systems_by c.args.clients.now.items (λ i v. (goal.System-dyn g (i, v)).meaning v))
+    (systems_by (set clients i new) (λ i v. (goal.System-dyn g (i, v)).meaning v))
     (omega (arith, c.loop-i-test.true))
-    (starts_on i (systems_by c.args.clients.now.items (λ i v. (goal.System-dyn g (i, v)).meaning v)) (systems_by clients (λ i v. (goal.System-dyn g (i, v)).meaning v))
-    (systems_by (set clients i new) (λ i v. (goal.System-dyn g (i, v)).meaning v)) was.built (changed AreBuilt (λ x. systems_on x.board (λ i v. (goal.System-dyn g (i, v)).meaning v)) clients i client new within is (record { kinds = c.start.ensures.kinds; most = c.start.ensures.most })))
+    (starts_on i (systems_by c.args.clients.now.items (λ i v. (goal.System-dyn g (i, v)).meaning v))
+    (systems_by clients (λ i v. (goal.System-dyn g (i, v)).meaning v))
+    (systems_by (set clients i new) (λ i v. (goal.System-dyn g (i, v)).meaning v)) was.built
+    (changed AreBuilt (λ x. systems_on x.board (λ i v. (goal.System-dyn g (i, v)).meaning v)) clients i client new within is
+    (record { kinds = c.start.ensures.kinds; most = c.start.ensures.most })))
 
 pub loop-i-preserved : goal.loop-i-preserved
 loop-i-preserved g c =
@@ -65,10 +66,15 @@ loop-i-preserved g c =
     let new = c.start.new.self in
     record {
       count = length-set clients i new ∙ was.count;
-      members = All-set (λ x. IsMemberBy c.args.setup.now x (λ i v. (goal.System-dyn g (i, v)).meaning v)) clients i new (record { sound = c.in_ok-start.ensures.sound; same = c.in_ok-start.ensures.setup ∙ member.same }) was.members;
+      members = All-set (λ x. IsMemberBy c.args.setup.now x (λ i v. (goal.System-dyn g (i, v)).meaning v)) clients i new
+          (record { sound = c.in_ok-start.ensures.sound; same = c.in_ok-start.ensures.setup ∙ member.same }) was.members;
       kinds = kinds_put (λ x. systems_on x.board (λ i v. (goal.System-dyn g (i, v)).meaning v)) clients i new c.start.ensures.kinds was.kinds;
-      begun = begun_more (λ x. life_at x.stage x.board) clients i new (starts c.args.setup.now) within (c.in_ok-start.ensures.starts ∙ ap starts member.same) was.begun;
+      begun = begun_more (λ x. life_at x.stage x.board) clients i new (starts c.args.setup.now) within (c.in_ok-start.ensures.starts ∙ ap starts member.same)
+          was.begun;
       others = others_more (λ x. life_at x.stage x.board) c.args.clients.now.items clients i (i + 1) new (omega arith) was.others;
-      built = (starts_on i (systems_by c.args.clients.now.items (λ i v. (goal.System-dyn g (i, v)).meaning v)) (systems_by clients (λ i v. (goal.System-dyn g (i, v)).meaning v))
-          (systems_by (set clients i new) (λ i v. (goal.System-dyn g (i, v)).meaning v)) was.built (changed AreBuilt (λ x. systems_on x.board (λ i v. (goal.System-dyn g (i, v)).meaning v)) clients i client new within is (record { kinds = c.start.ensures.kinds; most = c.start.ensures.most })));
+      built = (starts_on i (systems_by c.args.clients.now.items (λ i v. (goal.System-dyn g (i, v)).meaning v))
+          (systems_by clients (λ i v. (goal.System-dyn g (i, v)).meaning v))
+          (systems_by (set clients i new) (λ i v. (goal.System-dyn g (i, v)).meaning v)) was.built
+          (changed AreBuilt (λ x. systems_on x.board (λ i v. (goal.System-dyn g (i, v)).meaning v)) clients i client new within is
+          (record { kinds = c.start.ensures.kinds; most = c.start.ensures.most })));
     }

@@ -1,10 +1,5 @@
 -- The first clients have begun, and all others are as they were.
-use Rattle.std.proofs.Common.{◌≡◌, ℕ, ◌<◌, ◌≤◌, length, All}
-use Rattle.sim_system.specs.Meanings.{HaveKinds}
-use Rattle.sim_client.specs.Lives.{starts}
-use Rattle.sim_session.specs.Building.{StartsOnly}
-use Rattle.sim_session.specs.SessionWords.{AreMembersBy, lives_of, systems_by}
-use Rattle.sim_session.specs.Standing.{life_of}
+use Rattle.sim_session.proofs.Common.{◌≡◌, ℕ, ◌<◌, ◌≤◌, length, All, AreMembersBy, HaveKinds, life_of, lives_of, starts, StartsOnly, systems_by}
 use Rattle.sim_session.proofs.session.start_all.Given as goal
 
 abbrev pub invariant-loop-i : goal.invariant-loop-i
@@ -15,5 +10,6 @@ invariant-loop-i g l =
       kinds : All HaveKinds (systems_by l.clients.items (λ i v. (goal.System-dyn g (i, v)).meaning v));
       begun : (c : ℕ) → 0 < c → c ≤ l.i → life_of (lives_of l.clients.items) c ≡ starts l.setup;
       others : (c : ℕ) → l.i < c → life_of (lives_of l.clients.items) c ≡ life_of (lives_of l.fn.clients.items) c;
-      built : StartsOnly l.i (systems_by l.fn.clients.items (λ i v. (goal.System-dyn g (i, v)).meaning v)) (systems_by l.clients.items (λ i v. (goal.System-dyn g (i, v)).meaning v));
+      built : StartsOnly l.i (systems_by l.fn.clients.items (λ i v. (goal.System-dyn g (i, v)).meaning v))
+          (systems_by l.clients.items (λ i v. (goal.System-dyn g (i, v)).meaning v));
     }

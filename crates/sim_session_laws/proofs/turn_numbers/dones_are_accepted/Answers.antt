@@ -1,6 +1,5 @@
-use Rattle.sim_session_laws.specs.TurnNumbers.{DonesAreTurns, DonesAreCounted, DonesGoOn, DonesAreNear, StateHasDone}
+use Rattle.sim_session_laws.proofs.{Common.DonesAreCounted, Common.DonesAreNear, Common.DonesAreTurns, Common.DonesGoOn, Common.StateHasDone, Fitting.always}
 use Rattle.sim_session_laws.proofs.TurnNumberFacts.{dones_are_counted, dones_are_near, dones_are_turns, dones_go_on, state_has_done}
-use Rattle.sim_session_laws.proofs.Fitting.{always}
 use Rattle.sim_session_laws.proofs.turn_numbers.dones_are_accepted.Goals as goal
 
 pub returns : goal.returns

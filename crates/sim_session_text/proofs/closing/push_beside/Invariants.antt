@@ -1,7 +1,5 @@
 -- The text so far has the lines of the client beside those so far.
-use Rattle.std.proofs.Common.{◌≡◌, ◌++◌}
-use Rattle.std.specs.Prelude.{string_bytes}
-use Rattle.sim_session_text.specs.Seen.{life_at, beside_seen}
+use Rattle.sim_session_text.proofs.Common.{◌≡◌, ◌++◌, string_bytes, beside_seen, life_at}
 use Rattle.sim_session_text.proofs.closing.push_beside.Given as goal
 
 abbrev pub invariant-loop-index : goal.invariant-loop-index

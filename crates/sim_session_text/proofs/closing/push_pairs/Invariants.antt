@@ -1,8 +1,5 @@
 -- The text so far has the lines of the clients so far beside each other one.
-use Rattle.std.proofs.Common.{◌≡◌, ◌++◌, length}
-use Rattle.std.specs.Prelude.{string_bytes}
-use Rattle.sim_session_text.specs.Endings.{told_of}
-use Rattle.sim_session_text.specs.Seen.{life_at, beside_seen}
+use Rattle.sim_session_text.proofs.Common.{◌≡◌, ◌++◌, length, string_bytes, beside_seen, life_at, told_of}
 use Rattle.sim_session_text.proofs.closing.push_pairs.Given as goal
 
 abbrev pub invariant-loop-index : goal.invariant-loop-index

@@ -1,8 +1,5 @@
 -- The lines of one client more stand behind those so far.
-use Rattle.std.proofs.Common.{◌≡◌, ◌++◌, ◌+◌, ℕ, List, append_assoc}
-use Rattle.std.specs.Prelude.{codes, string_bytes}
-use Rattle.sim_pipes.specs.Pipes.{pipe_in}
-use Rattle.sim_session_text.specs.Pipes.{pipe_line}
+use Rattle.sim_session_text.proofs.Common.{◌≡◌, ℕ, ◌+◌, List, ◌++◌, string_bytes, codes, append_assoc, pipe_in, pipe_line}
 use Rattle.sim_session_text.proofs.Telling.{told_more}
 use Rattle.sim_session_text.proofs.closing.push_pipes.Goals as goal
 

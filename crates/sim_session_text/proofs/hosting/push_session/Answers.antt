@@ -1,18 +1,8 @@
 -- What is printed of the whole session.
-use Rattle.std.proofs.Common.{◌++◌, All, length, sym, ap, ◌∙◌, subst}
-use Rattle.std.specs.Prelude.{string_bytes}
-use Rattle.sim_base.specs.declared.setup.Setup.{Setup}
-use Rattle.sim_session.specs.SessionWords.{seen_in, systems_by}
 use Rattle.sim_session.proofs.Beside.{then_on}
-use Rattle.sim_session_text.specs.Seen.{IsMember, life_at, ending_seen}
-use Rattle.sim_session_text.specs.SessionText.{session_text}
-use Rattle.std.proofs.lemmas.List.{length-map}
-use Rattle.sim_client.specs.StageWords.{systems_on}
-use Rattle.sim_plain_session.specs.Printed.{events_after}
-use Rattle.sim_plain_session.specs.Sessions.{opened}
-use Rattle.sim_session_text.specs.Rigs.{AllBuiltAtMost, loads_in}
-use Rattle.sim_session_text.proofs.Stopping.{built_at_start, built_with_steps}
-use Rattle.sim_session_text.proofs.HostTelling.{told_whole}
+use Rattle.sim_session_text.proofs.{HostTelling.told_whole, Stopping.built_at_start, Stopping.built_with_steps}
+use Rattle.sim_session_text.proofs.Common.{loads_in, opened, seen_in, session_text, Setup, subst, sym, systems_by, systems_on, ◌∙◌}
+use Rattle.sim_session_text.proofs.Common.{◌++◌, length, string_bytes, All, AllBuiltAtMost, ap, ending_seen, events_after, IsMember, length-map, life_at}
 use Rattle.sim_session_text.proofs.hosting.push_session.Goals as goal
 
 pub push_ending-requires-clause-members : goal.push_ending-requires-clause-members
@@ -36,7 +26,8 @@ returns-clause-text g c =
     let count = c.in_ok-push_steps.ensures.session.count ∙ ap (λ (s : Setup). s.players) c.in_ok-push_steps.ensures.setup in
     then_on c.push_ending.result
     (λ told.
-    told_whole begun list (seen_in made) (length made.clients.items) old after_starts after_steps new count c.in_ok-push_steps.ensures.stands c.in_ok-push_starts.ensures c.in_ok-push_steps.ensures.text
+    told_whole begun list (seen_in made) (length made.clients.items) old after_starts after_steps new count c.in_ok-push_steps.ensures.stands
+    c.in_ok-push_starts.ensures c.in_ok-push_steps.ensures.text
     (told ∙ (λ i. after_steps ++ ending_seen (setup_is i) (life_at (clients_are i)) (held_is i) (length (clients_are i))))
     ∙ ap (λ (s : Setup). old ++ session_text s list) c.in_ok-start.ensures.setup)
     c.push_ending.ensures
@@ -62,7 +53,8 @@ returns-in_err-push_steps-clause-built g c =
     let next = systems_by c.start.new.self.clients.items (λ i v. (goal.System-dyn g (i, v)).meaning v) in
     let many = length-map c.args.session.now.clients.items (λ x. systems_on x.board (λ i v. (goal.System-dyn g (i, v)).meaning v)) ∙ c.requires.session.count in
     let last = systems_by c.push_steps.new.session.clients.items (λ i v. (goal.System-dyn g (i, v)).meaning v) in
-    let steps = subst (λ (s : Setup). AllBuiltAtMost (loads_in (events_after s (opened s list.clients) list.steps)) s.players next last) c.start.ensures.setup c.push_steps.ensures.built in
+    let steps = subst (λ (s : Setup). AllBuiltAtMost (loads_in (events_after s (opened s list.clients) list.steps)) s.players next last) c.start.ensures.setup
+    c.push_steps.ensures.built in
     built_with_steps c.args.session.now.setup.now list first next last many c.start.ensures.built steps
 
 pub returns-clause-built : goal.returns-clause-built
@@ -72,5 +64,6 @@ returns-clause-built g c =
     let next = systems_by c.start.new.self.clients.items (λ i v. (goal.System-dyn g (i, v)).meaning v) in
     let many = length-map c.args.session.now.clients.items (λ x. systems_on x.board (λ i v. (goal.System-dyn g (i, v)).meaning v)) ∙ c.requires.session.count in
     let last = systems_by c.push_steps.new.session.clients.items (λ i v. (goal.System-dyn g (i, v)).meaning v) in
-    let steps = subst (λ (s : Setup). AllBuiltAtMost (loads_in (events_after s (opened s list.clients) list.steps)) s.players next last) c.start.ensures.setup c.push_steps.ensures.built in
+    let steps = subst (λ (s : Setup). AllBuiltAtMost (loads_in (events_after s (opened s list.clients) list.steps)) s.players next last) c.start.ensures.setup
+    c.push_steps.ensures.built in
     built_with_steps c.args.session.now.setup.now list first next last many c.start.ensures.built steps

@@ -1,14 +1,6 @@
 -- The line of one client more stands behind those so far.
-use Rattle.std.proofs.Common.{rules, ◌+◌, ◌<◌, [], Some, append_assoc, arith}
-use Rattle.std.specs.Prelude.{string_bytes}
-use Rattle.sim_base.specs.Spelling.{digest}
-use Rattle.sim_base.specs.Turn.{after}
-use Rattle.sim_plain_session.specs.Printed.{start_events}
-use Rattle.sim_session.specs.SessionWords.{seen_in}
-use Rattle.sim_session.specs.Standing.{life_of}
-use Rattle.sim_session_text.specs.SessionText.{lines_of}
-use Rattle.sim_session_text.specs.Starts.{start_lines}
-use Rattle.sim_session_text.proofs.Beginning.{start_shown, starts_more}
+use Rattle.sim_session_text.proofs.{Beginning.start_shown, Beginning.starts_more, Common.start_events, Common.start_lines}
+use Rattle.sim_session_text.proofs.Common.{◌+◌, ◌<◌, [], Some, string_bytes, after, append_assoc, arith, digest, life_of, lines_of, rules, seen_in}
 use Rattle.sim_session_text.proofs.hosting.push_starts.Goals as goal
 
 pub loop-before-preserved : goal.loop-before-preserved

@@ -1,5 +1,5 @@
 -- All are lemmas.
-use Rattle.sim_session_text.proofs.Showing.{starts_show_pasts, steps_show_pasts, events_show_pasts, ends_show_pasts}
+use Rattle.sim_session_text.proofs.Showing.{ends_show_pasts, events_show_pasts, starts_show_pasts, steps_show_pasts}
 use Rattle.sim_session_text.proofs.laws.printed_digests_are_of_pasts.Goals as goal
 
 pub returns : goal.returns

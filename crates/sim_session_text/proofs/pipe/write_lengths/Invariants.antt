@@ -1,7 +1,5 @@
 -- The lengths of the frames so far stand behind the old text.
-use Rattle.std.proofs.Common.{◌≡◌, ◌++◌, take}
-use Rattle.std.specs.Prelude.{string_bytes}
-use Rattle.sim_session_text.specs.Pipes.{lengths_text}
+use Rattle.sim_session_text.{proofs.Common.◌≡◌, proofs.Common.◌++◌, proofs.Common.take, proofs.Common.string_bytes, specs.Pipes.lengths_text}
 use Rattle.sim_session_text.proofs.pipe.write_lengths.Given as goal
 
 abbrev pub invariant-loop-frame : goal.invariant-loop-frame

@@ -1,7 +1,5 @@
 -- The lines of the events so far stand behind the old text.
-use Rattle.std.proofs.Common.{◌≡◌, ◌++◌, take}
-use Rattle.std.specs.Prelude.{string_bytes}
-use Rattle.sim_session_text.specs.SessionText.{lines_of}
+use Rattle.sim_session_text.proofs.Common.{◌≡◌, ◌++◌, take, string_bytes, lines_of}
 use Rattle.sim_session_text.proofs.told.push_events.Given as goal
 
 abbrev pub invariant-loop-event : goal.invariant-loop-event

@@ -1,5 +1,4 @@
-use Rattle.std.proofs.Common.{◌≡◌, ◌+◌, length}
-use Rattle.sim_setup.specs.Commands.{falls_at}
+use Rattle.sim_setup.proofs.Common.{◌≡◌, ◌+◌, length, falls_at}
 use Rattle.sim_setup.proofs.commands.falls_at.Given as goal
 
 abbrev pub invariant-loop-rest : goal.invariant-loop-rest

@@ -1,12 +1,11 @@
 -- The place of the command is below their number.
-use Rattle.std.proofs.Common.{◌≡◌, List, Some, sym, ap, ◌∙◌, arith}
-use Rattle.sim_base.specs.declared.setup.Timed.{Timed}
-use Rattle.sim_setup.specs.Commands.{falls_at}
+use Rattle.sim_setup.proofs.Common.{◌≡◌, List, Some, ap, arith, falls_at, sym, Timed, ◌∙◌}
 use Rattle.sim_setup.proofs.Falls.{falls_within}
 use Rattle.sim_setup.proofs.commands.in_order.Goals as goal
 
 pub returns-in-Some-clause-memory : goal.returns-in-Some-clause-memory
 returns-in-Some-clause-memory c = λ few gone.
-    let fallen : falls_at 0 0 c.args.commands ≡ Some c.in-Some.index = ap (λ (ts : List Timed). falls_at 0 0 ts) (sym c.as_slice.ensures) ∙ sym c.in-Some.ensures in
+    let fallen : falls_at 0 0 c.args.commands ≡ Some c.in-Some.index = ap (λ (ts : List Timed). falls_at 0 0 ts) (sym c.as_slice.ensures) ∙
+    sym c.in-Some.ensures in
     let below = falls_within 0 0 c.args.commands c.in-Some.index fallen in
     c.refused.ensures.told (omega (arith, few, below)) (cc)

@@ -1,8 +1,5 @@
-use Rattle.std.proofs.Common.{◌≡◌, map, length, []}
-use Rattle.serde_json.specs.View.{view}
-use Rattle.sim_json.specs.Records.{numbered}
-use Rattle.sim_setup.specs.Commands.{timed_of}
-use Rattle.sim_setup.specs.Crowds.{Tallies, Covers}
+use Rattle.sim_setup.proofs.Common.{◌≡◌, [], map, length, numbered, Tallies, timed_of, view}
+use Rattle.sim_setup.specs.Crowds.{Covers}
 use Rattle.sim_setup.proofs.commands.timeds_from.Given as goal
 
 abbrev pub invariant-loop-rest : goal.invariant-loop-rest

@@ -1,7 +1,4 @@
-use Rattle.std.proofs.Common.{◌≡◌, map, length, []}
-use Rattle.serde_json.specs.View.{view}
-use Rattle.sim_json.specs.Records.{records}
-use Rattle.sim_setup.specs.Ground.{rect_of}
+use Rattle.sim_setup.proofs.Common.{◌≡◌, [], map, length, records, rect_of, view}
 use Rattle.sim_setup.proofs.ground.rects_from.Given as goal
 
 abbrev pub invariant-loop-rest : goal.invariant-loop-rest

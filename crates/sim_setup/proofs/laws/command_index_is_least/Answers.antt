@@ -1,6 +1,4 @@
-use Rattle.std.proofs.Common.{[]}
-use Rattle.sim_json.proofs.Reading.{is_least}
-use Rattle.sim_setup.specs.Commands.{timed_of}
+use Rattle.sim_setup.proofs.Common.{[], is_least, timed_of}
 use Rattle.sim_setup.proofs.laws.command_index_is_least.Goals as goal
 
 pub returns : goal.returns

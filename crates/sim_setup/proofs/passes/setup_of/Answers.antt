@@ -1,7 +1,4 @@
-use Rattle.std.proofs.Common.{rules}
-use Rattle.sim_setup.specs.Meets.{Meets}
-use Rattle.sim_setup.specs.Setups.{setup_of as setup_of_bytes}
-use Rattle.sim_setup.proofs.SetupLimits.{meets-limits}
+use Rattle.sim_setup.proofs.{Common.Meets, Common.rules, Common.setup_of as setup_of_bytes, SetupLimits.meets-limits}
 use Rattle.sim_setup.proofs.passes.setup_of.Goals as goal
 
 pub returns-clause-limits : goal.returns-clause-limits

@@ -1,6 +1,4 @@
-use Rattle.std.proofs.Common.{◌≡◌, map, length}
-use Rattle.serde_json.specs.View.{view}
-use Rattle.sim_setup.specs.Players.{mask_from}
+use Rattle.sim_setup.proofs.Common.{◌≡◌, map, length, mask_from, view}
 use Rattle.sim_setup.proofs.players.mask_from.Given as goal
 
 abbrev pub invariant-loop-rest : goal.invariant-loop-rest

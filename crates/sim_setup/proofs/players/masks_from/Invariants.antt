@@ -1,7 +1,5 @@
-use Rattle.std.proofs.Common.{◌≡◌, ◌+◌, map, length, [], ◌∷◌, vec_len}
-use Rattle.serde_json.specs.View.{view}
-use Rattle.sim_json.specs.Records.{records}
-use Rattle.sim_setup.specs.Players.{mask_of}
+use Rattle.std.proofs.Common.{vec_len}
+use Rattle.sim_setup.proofs.Common.{◌≡◌, ◌+◌, [], ◌∷◌, map, length, mask_of, records, view}
 use Rattle.sim_setup.proofs.players.masks_from.Given as goal
 
 abbrev pub invariant-loop-rest : goal.invariant-loop-rest

@@ -1,8 +1,4 @@
-use Rattle.std.proofs.Common.{◌≡◌, map, length, [], All}
-use Rattle.serde_json.specs.View.{view}
-use Rattle.sim_json.specs.Records.{numbered}
-use Rattle.sim_tree.specs.Sources.{origin_of}
-use Rattle.sim_setup.specs.Sources.{source_of, IsReadySource}
+use Rattle.sim_setup.proofs.Common.{◌≡◌, [], map, length, All, IsReadySource, numbered, origin_of, source_of, view}
 use Rattle.sim_setup.proofs.sources.sources_from.Given as goal
 
 abbrev pub invariant-loop-rest : goal.invariant-loop-rest

@@ -1,8 +1,4 @@
-use Rattle.std.proofs.Common.{◌≡◌, map, drop, [], length, All}
-use Rattle.sim_base.specs.Limits.{IsTemplate}
-use Rattle.sim_json.specs.Records.{numbered}
-use Rattle.sim_tree.specs.Sources.{origin_of}
-use Rattle.sim_setup.specs.Templates.{next_template}
+use Rattle.sim_setup.proofs.Common.{◌≡◌, [], map, length, drop, All, IsTemplate, next_template, numbered, origin_of}
 use Rattle.sim_setup.proofs.templates.templates_from.Given as goal
 
 abbrev pub invariant-loop-number : goal.invariant-loop-number

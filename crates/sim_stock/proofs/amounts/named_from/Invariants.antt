@@ -1,10 +1,5 @@
 -- The rates so far, each within the limit.
-use Rattle.std.proofs.Common.{◌≡◌, map, length, [], All}
-use Rattle.serde_json.specs.View.{view}
-use Rattle.sim_json.specs.Records.{records}
-use Rattle.sim_stock.specs.declared.amounts.NamedRate.{NamedRate}
-use Rattle.sim_stock.specs.Rates.{IsRate}
-use Rattle.sim_stock.specs.Amounts.{named_of}
+use Rattle.sim_stock.proofs.Common.{◌≡◌, [], map, length, All, IsRate, named_of, NamedRate, records, view}
 use Rattle.sim_stock.proofs.amounts.named_from.Given as goal
 
 abbrev pub invariant-loop-rest : goal.invariant-loop-rest

@@ -1,8 +1,5 @@
 -- Each amount is the one of its place.
-use Rattle.std.proofs.Common.{◌≡◌, ℕ, map, arith}
-use Rattle.std.specs.List.{range_with_len}
-use Rattle.std.proofs.lemmas.List.FromFn.{fill_by_all}
-use Rattle.sim_stock.specs.Rates.{rate_at}
+use Rattle.sim_stock.proofs.Common.{◌≡◌, ℕ, map, arith, fill_by_all, range_with_len, rate_at}
 use Rattle.sim_stock.proofs.amounts.opening.Goals as goal
 
 pub returns : goal.returns

@@ -1,6 +1,5 @@
 -- The amounts of the players so far.
-use Rattle.std.proofs.Common.{◌≡◌, ℕ, ◌<◌, length, get_or}
-use Rattle.sim_stock.specs.Rates.{rate_at}
+use Rattle.sim_stock.proofs.Common.{◌≡◌, ℕ, ◌<◌, length, get_or, rate_at}
 use Rattle.sim_stock.proofs.amounts.opening.Given as goal
 
 abbrev pub invariant-loop-place : goal.invariant-loop-place

@@ -1,9 +1,5 @@
 -- The pairs so far, each within the limits.
-use Rattle.std.proofs.Common.{◌≡◌, map, length, [], All}
-use Rattle.serde_json.specs.View.{view}
-use Rattle.sim_json.specs.Records.{records}
-use Rattle.sim_stock.specs.Rates.{IsRate}
-use Rattle.sim_stock.specs.Amounts.{pair_of}
+use Rattle.sim_stock.proofs.Common.{◌≡◌, [], map, length, All, IsRate, pair_of, records, view}
 use Rattle.sim_stock.proofs.amounts.pairs_from.Given as goal
 
 abbrev pub invariant-loop-rest : goal.invariant-loop-rest

@@ -1,8 +1,5 @@
 -- Named rates within the limit make rates within it.
-use Rattle.std.proofs.Common.{List, All, length, ap, sym, subst, ◌∙◌}
-use Rattle.sim_stock.specs.declared.amounts.NamedRate.{NamedRate}
-use Rattle.sim_stock.specs.Rates.{IsRate}
-use Rattle.sim_stock.specs.Amounts.{rates_of}
+use Rattle.sim_stock.proofs.Common.{List, length, All, ap, IsRate, NamedRate, rates_of, subst, sym, ◌∙◌}
 use Rattle.sim_stock.proofs.RateLimits.{rates_limits}
 use Rattle.sim_stock.proofs.amounts.rates_in.Goals as goal
 
@@ -10,4 +7,5 @@ pub returns-clause-limits : goal.returns-clause-limits
 returns-clause-limits c =
     let count = length c.args.templates.now in
     let all : All (λ (n : NamedRate). IsRate c.args.limit n.rate) c.in-Some-2.named.items = rw c.in-Some-2.is at c.in_ok-named.ensures.limits in
-    subst (All (IsRate c.args.limit)) (sym (c.in_ok-rates.ensures.value ∙ ap (λ (ns : List NamedRate). rates_of count ns) c.as_slice.ensures.value)) (rates_limits c.args.limit count c.in-Some-2.named.items all)
+    subst (All (IsRate c.args.limit)) (sym (c.in_ok-rates.ensures.value ∙ ap (λ (ns : List NamedRate). rates_of count ns) c.as_slice.ensures.value))
+    (rates_limits c.args.limit count c.in-Some-2.named.items all)

@@ -1,7 +1,5 @@
 -- One rate more.
-use Rattle.std.proofs.Common.{arith}
-use Rattle.std.proofs.lemmas.List.FromFn.{map-range_with_len_more}
-use Rattle.sim_stock.specs.Amounts.{rate_named}
+use Rattle.sim_stock.proofs.Common.{arith, map-range_with_len_more, rate_named}
 use Rattle.sim_stock.proofs.amounts.rates_of.Goals as goal
 
 pub loop-number-preserved : goal.loop-number-preserved

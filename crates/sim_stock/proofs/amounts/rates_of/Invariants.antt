@@ -1,7 +1,5 @@
 -- The rates of the templates so far.
-use Rattle.std.proofs.Common.{◌≡◌, map}
-use Rattle.std.specs.List.{range_with_len}
-use Rattle.sim_stock.specs.Amounts.{rate_named}
+use Rattle.sim_stock.proofs.Common.{◌≡◌, map, range_with_len, rate_named}
 use Rattle.sim_stock.proofs.amounts.rates_of.Given as goal
 
 abbrev pub invariant-loop-number : goal.invariant-loop-number

@@ -1,8 +1,5 @@
 -- Pairs within the limits make stocks within the limits.
-use Rattle.std.proofs.Common.{All, ap, sym, subst, ◌∙◌}
-use Rattle.sim_stock.specs.Rates.{IsRate}
-use Rattle.sim_stock.specs.Stocks.{IsStart}
-use Rattle.sim_stock.specs.Amounts.{opening}
+use Rattle.sim_stock.proofs.Common.{All, ap, IsRate, IsStart, opening, subst, sym, ◌∙◌}
 use Rattle.sim_stock.proofs.RateLimits.{opening_start}
 use Rattle.sim_stock.proofs.amounts.start_in.Goals as goal
 

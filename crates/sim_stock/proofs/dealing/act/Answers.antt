@@ -1,8 +1,5 @@
 -- A deed is asked of its handler on stocks that are small enough, and makes them no more.
-use Rattle.std.proofs.Common.{◌≤◌, sym, subst}
-use Rattle.sim_stock.specs.declared.stocks.Stocks.{Stocks}
-use Rattle.sim_stock.specs.Stocks.{total}
-use Rattle.sim_stock.proofs.Balances.{asked_for, deed_total}
+use Rattle.sim_stock.proofs.{Balances.asked_for, Balances.deed_total, Common.◌≤◌, Common.Stocks, Common.subst, Common.sym, Common.total}
 use Rattle.sim_stock.proofs.dealing.act.Goals as goal
 
 pub after-requires : goal.after-requires

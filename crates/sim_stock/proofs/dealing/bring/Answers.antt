@@ -1,14 +1,11 @@
 -- An income is small.
-use Rattle.std.proofs.Common.{ap, sym, subst, arith}
-use Rattle.sim_stock.specs.Rates.{IsRate}
-use Rattle.sim_stock.specs.Stocks.{total}
-use Rattle.sim_stock.proofs.Balances.{earned_total}
-use Rattle.sim_stock.proofs.RateLimits.{rate_at_limits}
+use Rattle.sim_stock.proofs.{Balances.earned_total, Common.ap, Common.arith, Common.IsRate, Common.subst, Common.sym, Common.total, RateLimits.rate_at_limits}
 use Rattle.sim_stock.proofs.dealing.bring.Goals as goal
 
 pub returns-clause-total : goal.returns-clause-total
 returns-clause-total c =
-    let small : IsRate 1000 c.rate_at-rate.result = subst (IsRate 1000) (sym c.rate_at-rate.ensures) (rate_at_limits 1000 c.args.income.now c.from.result c.requires.income) in
+    let small : IsRate 1000 c.rate_at-rate.result = subst (IsRate 1000) (sym c.rate_at-rate.ensures)
+    (rate_at_limits 1000 c.args.income.now c.from.result c.requires.income) in
     let all = ap total c.earn.ensures in
     omega (arith, all, earned_total c.args.row.now.owner c.rate_at-rate.result c.args.stocks.now, small.food, small.metal)
 

@@ -1,7 +1,5 @@
 -- The stocks with the income of the rows so far.
-use Rattle.std.proofs.Common.{◌≡◌, ◌+◌, ◌*◌, ◌≤◌, take}
-use Rattle.sim_stock.specs.Stocks.{total}
-use Rattle.sim_stock.specs.PaidTurns.{collected}
+use Rattle.sim_stock.proofs.Common.{◌≡◌, ◌+◌, ◌*◌, ◌≤◌, take, collected, total}
 use Rattle.sim_stock.proofs.dealing.collect.Given as goal
 
 abbrev pub invariant-loop-row : goal.invariant-loop-row

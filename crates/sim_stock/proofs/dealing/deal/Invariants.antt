@@ -1,7 +1,5 @@
 -- The stocks after the deeds so far, which are no more.
-use Rattle.std.proofs.Common.{◌≡◌, ◌≤◌, take}
-use Rattle.sim_stock.specs.Stocks.{total}
-use Rattle.sim_stock.specs.PaidTurns.{dealt}
+use Rattle.sim_stock.proofs.Common.{◌≡◌, ◌≤◌, take, dealt, total}
 use Rattle.sim_stock.proofs.dealing.deal.Given as goal
 
 abbrev pub invariant-loop-dated : goal.invariant-loop-dated

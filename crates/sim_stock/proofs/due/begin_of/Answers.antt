@@ -1,8 +1,5 @@
 -- The test of the closure parts a list that ascends by turns.
-use Rattle.std.proofs.Common.{rules}
-use Rattle.std.specs.Prelude.{nat_lt}
-use Rattle.std.proofs.lemmas.List.Sorted.{IsPartitionedBy-ltb, IsPartitionPoint-from_clause}
-use Rattle.sim_stock.specs.declared.deed.DatedDeed.{DatedDeed}
+use Rattle.sim_stock.proofs.Common.{nat_lt, DatedDeed, IsPartitionedBy-ltb, IsPartitionPoint-from_clause, rules}
 use Rattle.sim_stock.proofs.due.begin_of.Goals as goal
 
 pub returns-clause-point : goal.returns-clause-point

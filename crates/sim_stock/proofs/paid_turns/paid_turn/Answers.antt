@@ -1,14 +1,7 @@
 -- The deeds of the turn are done by players of the match, the commands are no turn, and all parts together make a paid turn.
-use Rattle.std.proofs.Common.{◌≡◌, ◌+◌, ap, ◌∙◌, subst, sym, arith, All}
-use Rattle.std.specs.List.Sorted.{IsNonDecreasingBy}
-use Rattle.sim_base.specs.declared.setup.Setup.{Setup}
-use Rattle.sim_base.specs.declared.state.State.{State}
-use Rattle.sim_board.specs.BoardWords.{setup_in, state_in}
-use Rattle.sim_stock.specs.declared.deed.DatedDeed.{DatedDeed}
-use Rattle.sim_stock.specs.Deeds.{IsDatedDeed}
-use Rattle.sim_stock.specs.Economies.{IsEconomy}
-use Rattle.sim_stock.specs.PaidTurns.{Books, books_of, deeds_at}
-use Rattle.sim_stock.proofs.Paying.{few_dealers, obeyed_keep_turn, joined, joined_state, joined_valid}
+use Rattle.sim_stock.proofs.Common.{State, state_in, subst, sym, ◌∙◌}
+use Rattle.sim_stock.proofs.Common.{◌+◌, All, ap, arith, Books, books_of, DatedDeed, deeds_at, IsDatedDeed, IsEconomy, IsNonDecreasingBy, Setup, setup_in}
+use Rattle.sim_stock.proofs.Paying.{few_dealers, joined, joined_state, joined_valid, obeyed_keep_turn}
 use Rattle.sim_stock.proofs.paid_turns.paid_turn.Goals as goal
 
 pub overflow_add-turn : goal.overflow_add-turn
@@ -25,7 +18,8 @@ due_at-due-requires-clause-turn g c =
 pub deal-requires-clause-deeds : goal.deal-requires-clause-deeds
 deal-requires-clause-deeds g c =
     let due = c.due_at-due.ensures ∙ ap (deeds_at (c.scene.result.state.now.turn + 1)) c.as_slice-dated.ensures in
-    subst (All IsDatedDeed) (sym due) (few_dealers (setup_in c.args.board.now) c.args.economy.now (c.scene.result.state.now.turn + 1) c.requires.whole.standing.limits c.requires.economy)
+    subst (All IsDatedDeed) (sym due) (few_dealers (setup_in c.args.board.now) c.args.economy.now (c.scene.result.state.now.turn + 1)
+    c.requires.whole.standing.limits c.requires.economy)
 
 pub settle-requires-clause-below : goal.settle-requires-clause-below
 settle-requires-clause-below g c =
@@ -40,17 +34,22 @@ settle-requires-clause-economy g c = subst (λ (s : Setup). IsEconomy s c.args.e
 
 pub returns-clause-books : goal.returns-clause-books
 returns-clause-books g c =
-    joined c.settle.result (setup_in c.args.board.now) (setup_in c.serve_all.new.board) c.args.economy.now (state_in c.args.board.now) (state_in c.serve_all.new.board) (state_in c.settle.new.board)
-    c.args.stocks.now c.deal.new.stocks c.serve_all.new.stocks c.settle.new.stocks c.due_at-due.result.now c.as_slice-prices.result.now c.args.commands.now c.in_ok-serve_all.ensures.setup
-    (c.due_at-due.ensures ∙ ap (deeds_at (c.scene.result.state.now.turn + 1)) c.as_slice-dated.ensures ∙ ap (λ (s : State). deeds_at (s.turn + 1) c.args.economy.now.deeds) c.scene.ensures.state)
+    joined c.settle.result (setup_in c.args.board.now) (setup_in c.serve_all.new.board) c.args.economy.now (state_in c.args.board.now)
+    (state_in c.serve_all.new.board) (state_in c.settle.new.board)
+    c.args.stocks.now c.deal.new.stocks c.serve_all.new.stocks c.settle.new.stocks c.due_at-due.result.now c.as_slice-prices.result.now c.args.commands.now
+    c.in_ok-serve_all.ensures.setup
+    (c.due_at-due.ensures ∙ ap (deeds_at (c.scene.result.state.now.turn + 1)) c.as_slice-dated.ensures ∙
+    ap (λ (s : State). deeds_at (s.turn + 1) c.args.economy.now.deeds) c.scene.ensures.state)
     c.deal.ensures.stocks c.as_slice-prices.ensures c.in_ok-serve_all.ensures.books c.settle.ensures.books
 
 pub returns-clause-state : goal.returns-clause-state
 returns-clause-state g c =
-    joined_state c.settle.result (setup_in c.args.board.now) c.args.economy.now (state_in c.args.board.now) (state_in c.settle.new.board) c.args.stocks.now c.settle.new.stocks c.args.commands.now
+    joined_state c.settle.result (setup_in c.args.board.now) c.args.economy.now (state_in c.args.board.now) (state_in c.settle.new.board) c.args.stocks.now
+    c.settle.new.stocks c.args.commands.now
     (returns-clause-books g c)
 
 pub returns-clause-valid : goal.returns-clause-valid
 returns-clause-valid g c =
-    joined_valid c.settle.result (setup_in c.args.board.now) c.args.economy.now (state_in c.args.board.now) (state_in c.settle.new.board) c.args.stocks.now c.settle.new.stocks c.args.commands.now
+    joined_valid c.settle.result (setup_in c.args.board.now) c.args.economy.now (state_in c.args.board.now) (state_in c.settle.new.board) c.args.stocks.now
+    c.settle.new.stocks c.args.commands.now
     c.requires.whole.standing.limits c.requires.players c.requires.valid c.requires.below (returns-clause-books g c)

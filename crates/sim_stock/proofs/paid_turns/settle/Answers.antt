@@ -1,30 +1,33 @@
 -- The income is that of the rows which the rest of the turn leaves.
-use Rattle.std.proofs.Common.{◌≡◌, ◌≤◌, length, All, ap, ◌∙◌, subst, sym, arith}
-use Rattle.sim_base.specs.declared.state.Row.{Row}
-use Rattle.sim_base.specs.declared.state.State.{State}
-use Rattle.sim_board.specs.BoardWords.{setup_in, state_in}
-use Rattle.sim_stock.proofs.Paying.{settled_is, few_owners}
+use Rattle.sim_stock.proofs.Common.{◌≡◌, ◌≤◌, length, All, ap, arith, Row, setup_in, State, state_in, subst, sym, ◌∙◌}
+use Rattle.sim_stock.proofs.Paying.{few_owners, settled_is}
 use Rattle.sim_stock.proofs.paid_turns.settle.Goals as goal
 
 pub collect-requires-clause-owners : goal.collect-requires-clause-owners
 collect-requires-clause-owners g c =
     let standing = c.in_ok-run_phases.ensures.whole.standing in
-    let rows : c.as_slice-rows.result.now ≡ (state_in c.run_phases.new.board).rows = c.as_slice-rows.ensures ∙ ap (λ (s : State). s.rows) c.scene.ensures.state in
-    subst (All (λ (row : Row). row.owner ≤ 8)) (sym rows) (few_owners (setup_in c.run_phases.new.board) 0 (state_in c.run_phases.new.board) standing.limits standing.valid)
+    let rows : c.as_slice-rows.result.now ≡ (state_in c.run_phases.new.board).rows = c.as_slice-rows.ensures ∙
+    ap (λ (s : State). s.rows) c.scene.ensures.state in
+    subst (All (λ (row : Row). row.owner ≤ 8)) (sym rows) (few_owners (setup_in c.run_phases.new.board) 0 (state_in c.run_phases.new.board) standing.limits
+    standing.valid)
 
 pub collect-requires-clause-total : goal.collect-requires-clause-total
 collect-requires-clause-total g c =
     let standing = c.in_ok-run_phases.ensures.whole.standing in
-    let rows : c.as_slice-rows.result.now ≡ (state_in c.run_phases.new.board).rows = c.as_slice-rows.ensures ∙ ap (λ (s : State). s.rows) c.scene.ensures.state in
+    let rows : c.as_slice-rows.result.now ≡ (state_in c.run_phases.new.board).rows = c.as_slice-rows.ensures ∙
+    ap (λ (s : State). s.rows) c.scene.ensures.state in
     omega (arith, ap length rows, standing.valid.few, c.requires.total)
 
 pub returns-clause-books : goal.returns-clause-books
 returns-clause-books g c =
-    settled_is (setup_in c.args.board.now) c.args.economy.now (state_in c.args.board.now) (state_in c.run_phases.new.board) c.args.stocks.now c.collect.new.stocks c.as_slice-income.result.now
-    c.as_slice-rows.result.now c.in_ok-run_phases.ensures.state c.as_slice-income.ensures (c.as_slice-rows.ensures ∙ ap (λ (s : State). s.rows) c.scene.ensures.state) c.collect.ensures.stocks
+    settled_is (setup_in c.args.board.now) c.args.economy.now (state_in c.args.board.now) (state_in c.run_phases.new.board) c.args.stocks.now
+    c.collect.new.stocks c.as_slice-income.result.now
+    c.as_slice-rows.result.now c.in_ok-run_phases.ensures.state c.as_slice-income.ensures
+    (c.as_slice-rows.ensures ∙ ap (λ (s : State). s.rows) c.scene.ensures.state) c.collect.ensures.stocks
 
 pub returns-clause-total : goal.returns-clause-total
 returns-clause-total g c =
     let standing = c.in_ok-run_phases.ensures.whole.standing in
-    let rows : c.as_slice-rows.result.now ≡ (state_in c.run_phases.new.board).rows = c.as_slice-rows.ensures ∙ ap (λ (s : State). s.rows) c.scene.ensures.state in
+    let rows : c.as_slice-rows.result.now ≡ (state_in c.run_phases.new.board).rows = c.as_slice-rows.ensures ∙
+    ap (λ (s : State). s.rows) c.scene.ensures.state in
     omega (arith, ap length rows, standing.valid.few, c.collect.ensures.total)

@@ -1,15 +1,12 @@
 -- The deeds so far, which ascend.
-use Rattle.std.proofs.Common.{◌≡◌, map, length, [], All}
-use Rattle.serde_json.specs.View.{view}
-use Rattle.sim_json.specs.Records.{numbered}
-use Rattle.sim_stock.specs.DeedItems.{dated_of, IsDated}
-use Rattle.sim_stock.specs.Economies.{earliest}
+use Rattle.sim_stock.proofs.Common.{◌≡◌, [], map, length, All, dated_of, earliest, IsDated, numbered, view}
 use Rattle.sim_stock.proofs.Runs.{IsRun}
 use Rattle.sim_stock.proofs.reading.deeds_from.Given as goal
 
 abbrev pub invariant-loop-rest : goal.invariant-loop-rest
 invariant-loop-rest l = record {
-  same : numbered (λ done. dated_of l.players l.turns (earliest done)) l.found.items (map view l.rest) ≡ numbered (λ done. dated_of l.players l.turns (earliest done)) [] (map view l.items);
+  same : numbered (λ done. dated_of l.players l.turns (earliest done)) l.found.items (map view l.rest) ≡ numbered
+      (λ done. dated_of l.players l.turns (earliest done)) [] (map view l.items);
   limits : All (IsDated l.players l.turns) l.found.items;
   run : IsRun l.earliest l.found.items;
 }

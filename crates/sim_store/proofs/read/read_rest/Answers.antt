@@ -1,9 +1,7 @@
 -- How much was given out where reading ended before the file did.
-use Rattle.std.proofs.Common.{arith, rules, length, ◌+◌, ◌≡◌, ◌∙◌, ap, sym, subst, Err}
-use Rattle.sim_store.specs.Counts.{after_giving}
-use Rattle.sim_store.specs.Reading.{ReadCauses}
-use Rattle.sim_store.specs.declared.fault.StoreFault.TheVariants.{OutOfMemory}
+use Rattle.std.proofs.Common.{◌≡◌, ◌+◌, length, Err, ap, arith, rules, subst, sym, ◌∙◌}
 use Rattle.sim_store.proofs.Given.{after_giving-after_giving}
+use Rattle.sim_store.specs.{Counts.after_giving, Reading.ReadCauses, declared.fault.StoreFault.TheVariants.OutOfMemory}
 use Rattle.sim_store.proofs.read.read_rest.Goals as goal
 
 pub returns-then-count-len-clause-causes : goal.returns-then-count-len-clause-causes

@@ -1,8 +1,6 @@
 -- What was read so far: it is the beginning of what was left, it is counted, and it is within the limit.
-use Rattle.std.proofs.Common.{◌≡◌, ◌≤◌, ◌-◌, length, IsTrue}
-use Rattle.std.specs.Io.KnownBytes.{Consumes}
-use Rattle.sim_store.specs.Counts.{after_giving}
-use Rattle.sim_store.specs.declared.read.TheConstants.{MAX_FILE}
+use Rattle.std.{proofs.Common.◌≡◌, proofs.Common.◌-◌, proofs.Common.◌≤◌, proofs.Common.length, proofs.Common.IsTrue, specs.Io.KnownBytes.Consumes}
+use Rattle.sim_store.specs.{Counts.after_giving, declared.read.TheConstants.MAX_FILE}
 use Rattle.sim_store.proofs.read.read_rest.Given as goal
 
 abbrev pub invariant-pieces : goal.invariant-pieces

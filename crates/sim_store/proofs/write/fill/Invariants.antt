@@ -1,7 +1,6 @@
 -- What the file holds so far is the beginning of the bytes, and nothing has failed.
-use Rattle.std.proofs.Common.{◌≡◌, ◌≤◌, ◌-◌, length, take, IsTrue}
-use Rattle.std.specs.Io.KnownBytes.{Appends}
-use Rattle.sim_store.specs.Shelf.{HeldSet}
+use Rattle.{sim_store.specs.Shelf.HeldSet, std.specs.Io.KnownBytes.Appends}
+use Rattle.std.proofs.Common.{◌≡◌, ◌-◌, ◌≤◌, length, take, IsTrue}
 use Rattle.sim_store.proofs.write.fill.Given as goal
 
 abbrev pub invariant-loop-done : goal.invariant-loop-done

@@ -1,6 +1,5 @@
 -- One more piece told keeps the invariant: the beginning of the bytes grows by what the sink took.
-use Rattle.std.proofs.Common.{arith, length-drop, ◌∙◌}
-use Rattle.sim_store.proofs.Pieces.{Appends-more}
+use Rattle.{sim_store.proofs.Pieces.Appends-more, std.proofs.Common.arith, std.proofs.Common.length-drop, std.proofs.Common.◌∙◌}
 use Rattle.sim_store.proofs.write.write_out.Goals as goal
 
 pub loop-done-preserved : goal.loop-done-preserved

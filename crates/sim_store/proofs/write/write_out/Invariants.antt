@@ -1,6 +1,5 @@
 -- What was told so far is the beginning of the bytes, and nothing has failed.
-use Rattle.std.proofs.Common.{◌≡◌, ◌≤◌, ◌-◌, length, take}
-use Rattle.std.specs.Io.KnownBytes.{Appends}
+use Rattle.std.{proofs.Common.◌≡◌, proofs.Common.◌-◌, proofs.Common.◌≤◌, proofs.Common.length, proofs.Common.take, specs.Io.KnownBytes.Appends}
 use Rattle.sim_store.proofs.write.write_out.Given as goal
 
 abbrev pub invariant-loop-done : goal.invariant-loop-done

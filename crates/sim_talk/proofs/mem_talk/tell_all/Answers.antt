@@ -1,7 +1,6 @@
 -- The text is kept as told, or nothing is.
-use Rattle.std.proofs.Common.{[], sym, ap, ◌∙◌, append-nil}
-use Rattle.sim_talk.specs.MemTalk.{passed_in}
-use Rattle.sim_talk.specs.Talks.{none_of}
+use Rattle.std.proofs.Common.{[], ap, append-nil, sym, ◌∙◌}
+use Rattle.sim_talk.specs.{MemTalk.passed_in, Talks.none_of}
 use Rattle.sim_talk.proofs.mem_talk.tell_all.Goals as goal
 
 pub returns-in_default : goal.returns-in_default

@@ -1,18 +1,9 @@
 -- One mark more is looked at.
-use Rattle.std.proofs.Common.{◌≡◌, ◌+◌, List, take, get_or, refl, sym, ◌∙◌, subst}
-use Rattle.std.proofs.lemmas.List.{take_all}
-use Rattle.std.proofs.lemmas.List.Elements.{All-get_or}
-use Rattle.sim_base.specs.Places.{Size}
-use Rattle.sim_base.specs.Steps.{IsOnGround}
-use Rattle.sim_trail.specs.declared.mark.Mark.{Mark}
-use Rattle.sim_territory.specs.declared.flood.Flood.{Flood}
-use Rattle.sim_territory.specs.Holders.{holder_by}
-use Rattle.sim_territory.specs.Tables.{sum_at, IsMarkIn}
-use Rattle.sim_territory.specs.Rooted.{is_root, is_root_under, roots_among}
-use Rattle.sim_territory.specs.Floods.{ground_size, IsWetAt}
-use Rattle.sim_territory.proofs.Rooting.{AtRoots, roots_step, roots_pass, root_is}
+use Rattle.sim_territory.proofs.Common.{IsOnGround, IsWetAt, Mark, roots_among, Size, subst, sum_at, sym, take_all, ◌∙◌}
+use Rattle.sim_territory.proofs.Common.{◌≡◌, ◌+◌, List, get_or, take, refl, All-get_or, Flood, ground_size, holder_by, is_root, is_root_under, IsMarkIn}
+use Rattle.sim_territory.proofs.Rooting.{AtRoots, root_is, roots_pass, roots_step}
+use Rattle.sim_territory.proofs.roots.wet_roots.Goals.{else-is_root, then-is_root+in_ok-wet}
 use Rattle.sim_territory.proofs.roots.wet_roots.Goals as goal
-use Rattle.sim_territory.proofs.roots.wet_roots.Goals.{then-is_root+in_ok-wet, else-is_root}
 
 -- what is read past the end
 abbrev no_mark : Mark
@@ -22,12 +13,15 @@ pub loop-mark-init : goal.loop-mark-init
 loop-mark-init c = record { size = refl; wet = c.requires.dry }
 
 pub is_root-requires : goal.is_root-requires
-is_root-requires c = All-get_or (IsMarkIn c.args.influences.now.sums) c.args.marks.now c.loop-mark.mark-index no_mark c.loop-mark-test.true c.requires.kept.within
+is_root-requires c = All-get_or (IsMarkIn c.args.influences.now.sums) c.args.marks.now c.loop-mark.mark-index no_mark c.loop-mark-test.true
+    c.requires.kept.within
 
 pub wet-requires : goal.wet-requires
 wet-requires c =
-    let within = All-get_or (IsMarkIn c.args.influences.now.sums) c.args.marks.now c.loop-mark.mark-index no_mark c.loop-mark-test.true c.requires.kept.within in
-    subst (λ (s : Size). IsOnGround s (get_or c.args.marks.now c.loop-mark.mark-index no_mark).cell) (sym (c.loop-mark.invariant.size ∙ c.requires.size)) within.ground
+    let within = All-get_or (IsMarkIn c.args.influences.now.sums) c.args.marks.now c.loop-mark.mark-index no_mark c.loop-mark-test.true
+    c.requires.kept.within in
+    subst (λ (s : Size). IsOnGround s (get_or c.args.marks.now c.loop-mark.mark-index no_mark).cell) (sym (c.loop-mark.invariant.size ∙ c.requires.size))
+    within.ground
 
 pub loop-mark-preserved : goal.loop-mark-preserved
 loop-mark-preserved c =
@@ -42,7 +36,8 @@ loop-mark-preserved c =
     let within = All-get_or (IsMarkIn sums) marks i no_mark below c.requires.kept.within in
     let told : c.is_root.result ≡ is_root_under setup (holder_by sums.players (λ player. sum_at sums player mark.cell)) mark = c.is_root.ensures in
     let is : c.is_root.result ≡ is_root setup marks mark = told ∙ root_is setup marks sums mark c.requires.kept within in
-    let there : IsOnGround (ground_size old) mark.cell = subst (λ (s : Size). IsOnGround s mark.cell) (sym (c.loop-mark.invariant.size ∙ c.requires.size)) within.ground in
+    let there : IsOnGround (ground_size old) mark.cell = subst (λ (s : Size). IsOnGround s mark.cell) (sym (c.loop-mark.invariant.size ∙ c.requires.size))
+    within.ground in
     elim c.if-is_root.branch [
       | then-is_root+in_ok-wet w ↦
           subst (λ (f : Flood). AtRoots setup marks (take (i + 1) marks) begun f) (sym w.flood-is)
@@ -55,5 +50,6 @@ loop-mark-preserved c =
 pub returns : goal.returns
 returns c = record {
   size = c.loop-mark.invariant.size;
-  wet = subst (λ (some : List Mark). IsWetAt (roots_among c.args.setup.now c.args.marks.now some) c.loop-mark.flood) (take_all c.loop-mark.mark-index c.args.marks.now c.loop-mark-test.false) c.loop-mark.invariant.wet;
+  wet = subst (λ (some : List Mark). IsWetAt (roots_among c.args.setup.now c.args.marks.now some) c.loop-mark.flood)
+      (take_all c.loop-mark.mark-index c.args.marks.now c.loop-mark-test.false) c.loop-mark.invariant.wet;
 }

@@ -1,5 +1,4 @@
-use Rattle.std.proofs.Common.{take}
-use Rattle.sim_territory.proofs.Rooting.{AtRoots}
+use Rattle.sim_territory.proofs.{Common.take, Rooting.AtRoots}
 use Rattle.sim_territory.proofs.roots.wet_roots.Given as goal
 
 abbrev pub invariant-loop-mark : goal.invariant-loop-mark

@@ -1,16 +1,13 @@
 -- The bytes of the file were read, or they were not read to their end.
-use Rattle.std.proofs.Common.{◌≡◌, Result, Err, sym, subst, rules, IfErr}
-use Rattle.sim_stock.specs.declared.economy.Economy.{Economy}
-use Rattle.sim_top.specs.Commands.{IsReading, shelved}
-use Rattle.sim_top.specs.Stops.{IsOfEconomy}
-use Rattle.sim_top.specs.declared.stop.Stop.{Stop}
+use Rattle.sim_top.proofs.Common.{◌≡◌, IfErr, Err, Result, Economy, IsOfEconomy, IsReading, rules, shelved, Stop, subst, sym}
 use Rattle.sim_top.proofs.Counting.{counted_is, unread, was_read}
 use Rattle.sim_top.proofs.inputs.read_economy.Goals as goal
 
 pub returns-in_err-bytes-clause-stops : goal.returns-in_err-bytes-clause-stops
 returns-in_err-bytes-clause-stops g c =
     let is : c.from_residual.result ≡ Err c.in_err-bytes.field-0.0 = search rules in
-    subst (λ (r : Result Economy Stop). IfErr r IsOfEconomy) (sym is) (counted_is IsOfEconomy tt tt tt tt c.in_err-bytes.field-0.0 _ _ c.in_err-bytes.ensures.causes)
+    subst (λ (r : Result Economy Stop). IfErr r IsOfEconomy) (sym is)
+    (counted_is IsOfEconomy tt tt tt tt c.in_err-bytes.field-0.0 _ _ c.in_err-bytes.ensures.causes)
 
 pub returns-in_err-bytes-clause-reading : goal.returns-in_err-bytes-clause-reading
 returns-in_err-bytes-clause-reading g c =
@@ -22,5 +19,6 @@ returns-in_err-bytes-clause-reading g c =
 
 pub returns-clause-reading : goal.returns-clause-reading
 returns-clause-reading g c =
-    was_read c.args.name.now c.in_ok-bytes.bytes.items c.economy_from.result _ _ c.economy_from.ensures.content c.in_ok-bytes.ensures.causes c.in_ok-bytes.ensures.tells c.in_ok-bytes.ensures.missing
+    was_read c.args.name.now c.in_ok-bytes.bytes.items c.economy_from.result _ _ c.economy_from.ensures.content c.in_ok-bytes.ensures.causes
+    c.in_ok-bytes.ensures.tells c.in_ok-bytes.ensures.missing
     c.read_bytes.ensures.held

@@ -1,9 +1,5 @@
 -- The bytes of the file were read, or they were not read to their end.
-use Rattle.std.proofs.Common.{◌≡◌, Result, Err, sym, subst, rules, IfErr}
-use Rattle.sim_vision.specs.Vision.{Vision}
-use Rattle.sim_top.specs.Commands.{IsReading, shelved}
-use Rattle.sim_top.specs.Stops.{IsOfMap}
-use Rattle.sim_top.specs.declared.stop.Stop.{Stop}
+use Rattle.sim_top.proofs.Common.{◌≡◌, IfErr, Err, Result, IsOfMap, IsReading, rules, shelved, Stop, subst, sym, Vision}
 use Rattle.sim_top.proofs.Counting.{counted_is, unread, was_read}
 use Rattle.sim_top.proofs.inputs.read_sight.Goals as goal
 

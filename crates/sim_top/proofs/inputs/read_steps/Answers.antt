@@ -1,9 +1,5 @@
 -- The bytes of the file were read, or they were not read to their end.
-use Rattle.std.proofs.Common.{◌≡◌, Result, Err, sym, subst, rules, IfErr}
-use Rattle.sim_lists.specs.declared.step_list.StepList.{StepList}
-use Rattle.sim_top.specs.Commands.{IsReading, shelved}
-use Rattle.sim_top.specs.Stops.{IsOfList}
-use Rattle.sim_top.specs.declared.stop.Stop.{Stop}
+use Rattle.sim_top.proofs.Common.{◌≡◌, IfErr, Err, Result, IsOfList, IsReading, rules, shelved, StepList, Stop, subst, sym}
 use Rattle.sim_top.proofs.Counting.{counted_is, unread, was_read}
 use Rattle.sim_top.proofs.inputs.read_steps.Goals as goal
 
@@ -22,5 +18,6 @@ returns-in_err-bytes-clause-reading g c =
 
 pub returns-clause-reading : goal.returns-clause-reading
 returns-clause-reading g c =
-    was_read c.args.name.now c.in_ok-bytes.bytes.items c.steps_from.result _ _ c.steps_from.ensures.content c.in_ok-bytes.ensures.causes c.in_ok-bytes.ensures.tells c.in_ok-bytes.ensures.missing
+    was_read c.args.name.now c.in_ok-bytes.bytes.items c.steps_from.result _ _ c.steps_from.ensures.content c.in_ok-bytes.ensures.causes
+    c.in_ok-bytes.ensures.tells c.in_ok-bytes.ensures.missing
     c.read_bytes.ensures.held

@@ -1,9 +1,6 @@
 -- The text of the trial is read as a match file is.
-use Rattle.std.proofs.Common.{◌≡◌, ◌∙◌, ℕ, List, ap, subst}
-use Rattle.sim_setup.specs.Setups.{setup_of}
-use Rattle.sim_trial.specs.Trial.{text_of_trial}
-use Rattle.sim_top.specs.Outcome.{trial_match, setup_by}
-use Rattle.sim_top.specs.Stops.{Reads}
+use Rattle.{sim_top.specs.Stops.Reads, sim_trial.specs.Trial.text_of_trial}
+use Rattle.sim_top.proofs.Common.{◌≡◌, ℕ, List, ap, setup_by, setup_of, subst, trial_match, ◌∙◌}
 use Rattle.sim_top.proofs.inputs.trial_match.Goals as goal
 
 pub returns-clause-tells : goal.returns-clause-tells

@@ -1,11 +1,6 @@
 -- The file was saved, and then the text told or cut short; or the file could not be saved, which the shelf counted.
-use Rattle.std.proofs.Common.{List, ℕ, sym, subst, string_bytes}
-use Rattle.std.specs.Prelude.{option_map}
-use Rattle.sim_store.specs.declared.counts.Counts.{Counts}
-use Rattle.sim_top.specs.Answers.{scene, Meets, CountsBefore}
-use Rattle.sim_top.specs.Making.{MeetsBefore, Tells, file_of}
-use Rattle.sim_top.proofs.Finishing.{told_meets, told_causes, all_told}
-use Rattle.sim_top.proofs.Ending.{told_may_end, told_settled}
+use Rattle.sim_top.proofs.{Ending.told_may_end, Ending.told_settled, Finishing.all_told, Finishing.told_causes, Finishing.told_meets}
+use Rattle.sim_top.proofs.Common.{ℕ, List, string_bytes, option_map, Counts, CountsBefore, file_of, Meets, MeetsBefore, scene, subst, sym, Tells}
 use Rattle.sim_top.proofs.top.finish.Goals as goal
 
 pub returns-in-Ok-clause-answers : goal.returns-in-Ok-clause-answers
@@ -16,7 +11,8 @@ returns-in-Ok-clause-answers g c =
     let saved = option_map file_of answer.saved in
     let before = scene (g.S.Shelf.held c.args.shelf.now) (g.K.Sink.told c.args.out.now) old (g.K.Sink.faults c.args.out.now) in
     let now = scene (g.S.Shelf.held c.save.new.shelf) (g.K.Sink.told c.tell.new.out) (g.S.Shelf.counts c.save.new.shelf) (g.K.Sink.faults c.tell.new.out) in
-    let told = subst (λ (t : List ℕ). Tells c.tell.result answer.status t before.told now.told before.faults now.faults) c.as_str.ensures.value c.tell.ensures in
+    let told = subst (λ (t : List ℕ). Tells c.tell.result answer.status t before.told now.told before.faults now.faults) c.as_str.ensures.value
+    c.tell.ensures in
     let counts = subst (λ (new : Counts). CountsBefore answer.status old new) (sym c.in-Ok.ensures.causes) reads in
     all_told (λ files. MeetsBefore answer.status words files text saved → Meets c.tell.result words files before now) _
     (λ files h. told_meets c.tell.result answer.status words files text saved before now c.requires.silent h counts told c.in-Ok.ensures.held)
@@ -27,7 +23,8 @@ returns-in-Ok-clause-causes g c =
     let answer = c.args.answer.now in
     let before = scene (g.S.Shelf.held c.args.shelf.now) (g.K.Sink.told c.args.out.now) old (g.K.Sink.faults c.args.out.now) in
     let now = scene (g.S.Shelf.held c.save.new.shelf) (g.K.Sink.told c.tell.new.out) (g.S.Shelf.counts c.save.new.shelf) (g.K.Sink.faults c.tell.new.out) in
-    let told = subst (λ (t : List ℕ). Tells c.tell.result answer.status t before.told now.told before.faults now.faults) c.as_str.ensures.value c.tell.ensures in
+    let told = subst (λ (t : List ℕ). Tells c.tell.result answer.status t before.told now.told before.faults now.faults) c.as_str.ensures.value
+    c.tell.ensures in
     told_causes c.tell.result answer.status (string_bytes answer.text) before now c.requires.unwritten c.requires.silent told
     (subst (λ (new : Counts). CountsBefore answer.status old new) (sym c.in-Ok.ensures.causes) reads)
 
@@ -35,7 +32,8 @@ pub returns-in-Ok-clause-told : goal.returns-in-Ok-clause-told
 returns-in-Ok-clause-told g c =
     λ none.
     let answer = c.args.answer.now in
-    subst (λ (t : List ℕ). Tells c.tell.result answer.status t (g.K.Sink.told c.args.out.now) (g.K.Sink.told c.tell.new.out) (g.K.Sink.faults c.args.out.now) (g.K.Sink.faults c.tell.new.out))
+    subst (λ (t : List ℕ). Tells c.tell.result answer.status t (g.K.Sink.told c.args.out.now) (g.K.Sink.told c.tell.new.out) (g.K.Sink.faults c.args.out.now)
+    (g.K.Sink.faults c.tell.new.out))
     c.as_str.ensures.value c.tell.ensures
 
 pub returns-in-Ok-clause-statuses : goal.returns-in-Ok-clause-statuses

@@ -1,30 +1,26 @@
 -- What the request comes to is answered, or why it ended.
-use Rattle.std.proofs.Common.{◌≡◌, Option, Some, None, refl, sym, ap, subst, string_bytes}
-use Rattle.std.specs.Prelude.{option_map}
-use Rattle.sim_top.specs.Making.{IsAnswered}
-use Rattle.sim_top.specs.Returning.{RigsCameBackBy}
-use Rattle.sim_top.specs.Rigs.{used}
-use Rattle.sim_top.specs.Stops.{status_of}
-use Rattle.sim_top.specs.Words.{Asked, asked, asked_by, words_of}
-use Rattle.sim_top.specs.declared.status.Status.{Status}
+use Rattle.sim_top.proofs.{Preparing.answered_settled, Preparing.of_answer, Preparing.of_ended, Preparing.of_unasked, Returning.rigs_later, Returning.rigs_same}
+use Rattle.sim_top.proofs.Common.{status_of, subst, sym, used, words_of}
+use Rattle.sim_top.proofs.Common.{◌≡◌, Some, None, string_bytes, Option, option_map, refl, ap, Asked, asked, asked_by, IsAnswered, RigsCameBackBy, Status}
 use Rattle.sim_top.specs.declared.words.Request.{Request}
-use Rattle.sim_top.proofs.Preparing.{of_answer, of_ended, of_unasked, answered_settled}
-use Rattle.sim_top.proofs.Returning.{rigs_same, rigs_later}
 use Rattle.sim_top.proofs.top.made_answer.Goals as goal
 
 pub returns-in-Ok-clause-answer : goal.returns-in-Ok-clause-answer
-returns-in-Ok-clause-answer g c = of_answer (words_of c.args.words.now) (asked c.in-Some.request) c.in-Some.ensures.asked _ _ c.in-Ok.answer c.in-Ok.ensures.answer
+returns-in-Ok-clause-answer g c = of_answer (words_of c.args.words.now) (asked c.in-Some.request) c.in-Some.ensures.asked _ _ c.in-Ok.answer
+    c.in-Ok.ensures.answer
 
 pub returns-in-Ok-clause-back : goal.returns-in-Ok-clause-back
 returns-in-Ok-clause-back g c =
-    subst (λ (o : Option Asked). RigsCameBackBy (λ i v. (goal.System-dyn g (i, v)).meaning v) o (g.S.Shelf.held c.args.shelf.now) c.in-Ok.answer.status c.args.rigs.now c.answer_to.new.rigs) c.in-Some.ensures.asked c.in-Ok.ensures.back
+    subst (λ (o : Option Asked). RigsCameBackBy (λ i v. (goal.System-dyn g (i, v)).meaning v) o (g.S.Shelf.held c.args.shelf.now) c.in-Ok.answer.status
+    c.args.rigs.now c.answer_to.new.rigs) c.in-Some.ensures.asked c.in-Ok.ensures.back
 
 pub returns-in-Err-clause-answer : goal.returns-in-Err-clause-answer
 returns-in-Err-clause-answer g c =
     let made = c.answered-in-Err.result in
     let text = string_bytes made.text in
     of_ended (words_of c.args.words.now) (asked c.in-Some.request) c.in-Some.ensures.asked _ _ c.in-Err.stop made.status text made.saved c.stop_text.result
-    (subst (λ (s : Status). IsAnswered made.status text s c.stop_text.result) c.status.ensures c.answered-in-Err.ensures.answer) c.answered-in-Err.ensures.saved c.stop_text.ensures.text c.stop_text.ensures.silent
+    (subst (λ (s : Status). IsAnswered made.status text s c.stop_text.result) c.status.ensures c.answered-in-Err.ensures.answer) c.answered-in-Err.ensures.saved
+    c.stop_text.ensures.text c.stop_text.ensures.silent
     c.in-Err.ensures.answer
 
 pub returns-in-Err-clause-back : goal.returns-in-Err-clause-back
@@ -32,9 +28,12 @@ returns-in-Err-clause-back g c =
     let made = c.answered-in-Err.result in
     let text = string_bytes made.text in
     let held = g.S.Shelf.held c.args.shelf.now in
-    rigs_later (λ i v. (goal.System-dyn g (i, v)).meaning v) (asked_by (words_of c.args.words.now)) held (status_of c.in-Err.stop) made.status c.args.rigs.now c.answer_to.new.rigs
-    (answered_settled (status_of c.in-Err.stop) made.status text c.stop_text.result (subst (λ (s : Status). IsAnswered made.status text s c.stop_text.result) c.status.ensures c.answered-in-Err.ensures.answer))
-    (subst (λ (o : Option Asked). RigsCameBackBy (λ i v. (goal.System-dyn g (i, v)).meaning v) o held (status_of c.in-Err.stop) c.args.rigs.now c.answer_to.new.rigs) c.in-Some.ensures.asked c.in-Err.ensures.back)
+    rigs_later (λ i v. (goal.System-dyn g (i, v)).meaning v) (asked_by (words_of c.args.words.now)) held (status_of c.in-Err.stop) made.status c.args.rigs.now
+    c.answer_to.new.rigs
+    (answered_settled (status_of c.in-Err.stop) made.status text c.stop_text.result (subst (λ (s : Status). IsAnswered made.status text s c.stop_text.result)
+    c.status.ensures c.answered-in-Err.ensures.answer))
+    (subst (λ (o : Option Asked). RigsCameBackBy (λ i v. (goal.System-dyn g (i, v)).meaning v) o held (status_of c.in-Err.stop) c.args.rigs.now
+    c.answer_to.new.rigs) c.in-Some.ensures.asked c.in-Err.ensures.back)
 
 -- words that are in no table make no request, and use no rig
 none_asked : (request : Option Request) (wanted : Option Asked) → ((r : Request) → request ≡ Some r → ⊥) → option_map asked request ≡ wanted → wanted ≡ None
@@ -44,10 +43,12 @@ none_asked (Some r) wanted other is = absurd (other r refl)
 pub returns-in_default-clause-answer : goal.returns-in_default-clause-answer
 returns-in_default-clause-answer g c =
     let made = c.answered.result in
-    of_unasked (words_of c.args.words.now) (none_asked c.request_of.result (asked_by (words_of c.args.words.now)) c.in_default.not-Some c.request_of.ensures.asked) _ made.status (string_bytes made.text)
+    of_unasked (words_of c.args.words.now) (none_asked c.request_of.result (asked_by (words_of c.args.words.now)) c.in_default.not-Some
+    c.request_of.ensures.asked) _ made.status (string_bytes made.text)
     made.saved c.usage_text.result c.answered.ensures.answer c.answered.ensures.saved c.usage_text.ensures
 
 pub returns-in_default-clause-back : goal.returns-in_default-clause-back
 returns-in_default-clause-back g c =
-    rigs_same (λ i v. (goal.System-dyn g (i, v)).meaning v) (asked_by (words_of c.args.words.now)) (g.S.Shelf.held c.args.shelf.now) c.answered.result.status c.args.rigs.now c.requires.eight
+    rigs_same (λ i v. (goal.System-dyn g (i, v)).meaning v) (asked_by (words_of c.args.words.now)) (g.S.Shelf.held c.args.shelf.now) c.answered.result.status
+    c.args.rigs.now c.requires.eight
     (λ ended. ap used (none_asked c.request_of.result (asked_by (words_of c.args.words.now)) c.in_default.not-Some c.request_of.ensures.asked))

@@ -1,34 +1,10 @@
 -- The shelf holds the same before anything is written, and the rigs are those of the command.
-use Rattle.std.proofs.Common.{List, Option, subst, string_bytes, IfSome, ◌∙◌}
-use Rattle.std.specs.Prelude.{option_map}
-use Rattle.sim_base.specs.declared.setup.Setup.{Setup}
-use Rattle.sim_lists.specs.declared.step_list.StepList.{StepList}
-use Rattle.sim_report.specs.Lines.{usage_text}
-use Rattle.sim_store.specs.Files.{File}
-use Rattle.sim_top.specs.Answers.{scene, Meets, Causes}
-use Rattle.sim_top.specs.Headline.{Headline}
-use Rattle.sim_top.specs.Films.{OfFilm, Film}
-use Rattle.sim_top.specs.Hosting.{OfSession, IsHostedBy}
-use Rattle.sim_top.specs.Logs.{TellsLogs}
-use Rattle.sim_top.specs.Making.{MeetsBefore, file_of}
-use Rattle.sim_top.specs.Parts.{OfParts, PartsTold}
-use Rattle.sim_top.specs.Readiness.{IsReady, IsFaultless, IsFinal}
-use Rattle.sim_top.specs.Reads.{HasEnded}
-use Rattle.sim_top.specs.Sights.{TellsSights}
-use Rattle.sim_top.specs.Stocks.{OfStock, Balances}
-use Rattle.sim_top.specs.Territories.{OfRealm, Territories}
-use Rattle.sim_top.specs.Words.{words_of, asked_by}
-use Rattle.sim_top.proofs.Balances.{balances_told}
-use Rattle.sim_top.proofs.Completeness.{final}
-use Rattle.sim_top.proofs.Ending.{told_unfound, told_usage, given_settled}
-use Rattle.sim_top.proofs.Films.{film_told}
-use Rattle.sim_top.proofs.Headlines.{lawful, of_both, of_end}
-use Rattle.sim_top.proofs.Logging.{logs_told}
-use Rattle.sim_top.proofs.Parts.{parts_told}
-use Rattle.sim_top.proofs.Returning.{rigs_later}
-use Rattle.sim_top.proofs.Sights.{sights_told}
-use Rattle.sim_top.proofs.Stopping.{Told, Told-both}
-use Rattle.sim_top.proofs.Territories.{territories_told}
+use Rattle.sim_top.proofs.{Balances.balances_told, Completeness.final, Returning.rigs_later, Stopping.Told, Stopping.Told-both, Territories.territories_told}
+use Rattle.sim_top.proofs.{Ending.given_settled, Ending.told_unfound, Ending.told_usage, Films.film_told, Headlines.lawful, Headlines.of_both, Headlines.of_end}
+use Rattle.sim_top.proofs.{Logging.logs_told, Parts.parts_told, Sights.sights_told}
+use Rattle.sim_top.proofs.Common.{IsFaultless, IsFinal, IsHostedBy, IsReady, Meets, MeetsBefore, OfFilm, OfParts, OfRealm, OfSession, OfStock, PartsTold, scene}
+use Rattle.sim_top.proofs.Common.{List, IfSome, string_bytes, Option, option_map, asked_by, Balances, Causes, File, file_of, Film, HasEnded, Headline}
+use Rattle.sim_top.proofs.Common.{Setup, StepList, subst, TellsLogs, TellsSights, Territories, usage_text, words_of, ◌∙◌}
 use Rattle.sim_top.proofs.top.run.Goals as goal
 
 pub made_answer-answer-requires-clause-eight : goal.made_answer-answer-requires-clause-eight
@@ -44,10 +20,13 @@ returns-clause-answers g c =
     let counts = g.S.Shelf.counts c.args.shelf.now in
     let faults = g.K.Sink.faults c.args.out.now in
     let before = scene (g.S.Shelf.held c.args.shelf.now) told counts faults in
-    let now = scene (g.S.Shelf.held c.finish-status.new.shelf) (g.K.Sink.told c.finish-status.new.out) (g.S.Shelf.counts c.finish-status.new.shelf) (g.K.Sink.faults c.finish-status.new.out) in
-    let written = subst (λ (held : Option (List File)). IfSome held (λ files. MeetsBefore answer.status words files text saved → Meets c.finish-status.result words files (scene held told counts faults) now))
+    let now = scene (g.S.Shelf.held c.finish-status.new.shelf) (g.K.Sink.told c.finish-status.new.out) (g.S.Shelf.counts c.finish-status.new.shelf)
+    (g.K.Sink.faults c.finish-status.new.out) in
+    let written = subst (λ (held : Option (List File)). IfSome held (λ files. MeetsBefore answer.status words files text saved
+    → Meets c.finish-status.result words files (scene held told counts faults) now))
     c.made_answer-answer.ensures.answer.same (c.finish-status.ensures.answers words counts c.made_answer-answer.ensures.answer.causes) in
-    Told-both (λ files. MeetsBefore answer.status words files text saved) (λ files. MeetsBefore answer.status words files text saved → Meets c.finish-status.result words files before now)
+    Told-both (λ files. MeetsBefore answer.status words files text saved) (λ files. MeetsBefore answer.status words files text saved
+    → Meets c.finish-status.result words files before now)
     (λ files. Meets c.finish-status.result words files before now) _
     (λ files h f. f h) c.made_answer-answer.ensures.answer.answers written
 
@@ -56,7 +35,8 @@ returns-clause-causes g c =
     let told = g.K.Sink.told c.args.out.now in
     let counts = g.S.Shelf.counts c.args.shelf.now in
     let faults = g.K.Sink.faults c.args.out.now in
-    let now = scene (g.S.Shelf.held c.finish-status.new.shelf) (g.K.Sink.told c.finish-status.new.out) (g.S.Shelf.counts c.finish-status.new.shelf) (g.K.Sink.faults c.finish-status.new.out) in
+    let now = scene (g.S.Shelf.held c.finish-status.new.shelf) (g.K.Sink.told c.finish-status.new.out) (g.S.Shelf.counts c.finish-status.new.shelf)
+    (g.K.Sink.faults c.finish-status.new.out) in
     subst (λ (held : Option (List File)). Causes c.finish-status.result (scene held told counts faults) now)
     c.made_answer-answer.ensures.answer.same (c.finish-status.ensures.causes counts c.made_answer-answer.ensures.answer.causes)
 
@@ -64,14 +44,17 @@ pub returns-clause-complete : goal.returns-clause-complete
 returns-clause-complete g c =
     let words = words_of c.args.words.now in
     let before = scene (g.S.Shelf.held c.args.shelf.now) (g.K.Sink.told c.args.out.now) (g.S.Shelf.counts c.args.shelf.now) (g.K.Sink.faults c.args.out.now) in
-    let now = scene (g.S.Shelf.held c.finish-status.new.shelf) (g.K.Sink.told c.finish-status.new.out) (g.S.Shelf.counts c.finish-status.new.shelf) (g.K.Sink.faults c.finish-status.new.out) in
-    Told (λ files. Meets c.finish-status.result words files before now) (λ files. IsReady files (asked_by words) → IsFaultless before now → IsFinal c.finish-status.result) _
+    let now = scene (g.S.Shelf.held c.finish-status.new.shelf) (g.K.Sink.told c.finish-status.new.out) (g.S.Shelf.counts c.finish-status.new.shelf)
+    (g.K.Sink.faults c.finish-status.new.out) in
+    Told (λ files. Meets c.finish-status.result words files before now) (λ files. IsReady files (asked_by words) → IsFaultless before now
+    → IsFinal c.finish-status.result) _
     (λ files h ready faultless. final c.finish-status.result words files before now h (returns-clause-causes g c) ready faultless) (returns-clause-answers g c)
 
 -- what is written leaves the rigs
 pub returns-clause-back : goal.returns-clause-back
 returns-clause-back g c =
-    rigs_later (λ i v. (goal.System-dyn g (i, v)).meaning v) (asked_by (words_of c.args.words.now)) (g.S.Shelf.held c.args.shelf.now) c.made_answer-answer.result.status c.finish-status.result
+    rigs_later (λ i v. (goal.System-dyn g (i, v)).meaning v) (asked_by (words_of c.args.words.now)) (g.S.Shelf.held c.args.shelf.now)
+    c.made_answer-answer.result.status c.finish-status.result
     c.args.rigs c.made_answer-answer.new.rigs (λ settled. (c.finish-status.ensures.settled settled).0) c.made_answer-answer.ensures.back
 
 -- what was told of a session is its text, which the laws of sessions are about
@@ -79,10 +62,13 @@ pub returns-clause-headline : goal.returns-clause-headline
 returns-clause-headline g c =
     let words = words_of c.args.words.now in
     let before = scene (g.S.Shelf.held c.args.shelf.now) (g.K.Sink.told c.args.out.now) (g.S.Shelf.counts c.args.shelf.now) (g.K.Sink.faults c.args.out.now) in
-    let now = scene (g.S.Shelf.held c.finish-status.new.shelf) (g.K.Sink.told c.finish-status.new.out) (g.S.Shelf.counts c.finish-status.new.shelf) (g.K.Sink.faults c.finish-status.new.out) in
-    let hosted = λ (setup : Setup) (list : StepList). IsHostedBy (λ i v. (goal.System-dyn g (i, v)).meaning v) setup list c.args.rigs.items c.made_answer-answer.new.rigs.items in
+    let now = scene (g.S.Shelf.held c.finish-status.new.shelf) (g.K.Sink.told c.finish-status.new.out) (g.S.Shelf.counts c.finish-status.new.shelf)
+    (g.K.Sink.faults c.finish-status.new.out) in
+    let hosted = λ (setup : Setup) (list : StepList). IsHostedBy (λ i v. (goal.System-dyn g (i, v)).meaning v) setup list c.args.rigs.items
+    c.made_answer-answer.new.rigs.items in
     let rigs = returns-clause-back g c in
-    Told-both (λ files. Meets c.finish-status.result words files before now) (λ files. HasEnded c.finish-status.result → OfSession files (asked_by words) hosted)
+    Told-both (λ files. Meets c.finish-status.result words files before now) (λ files. HasEnded c.finish-status.result
+    → OfSession files (asked_by words) hosted)
     (λ files. HasEnded c.finish-status.result → OfSession files (asked_by words) (λ setup list. Headline setup list before.told now.told)) _
     (λ files h told ended. of_both files (asked_by words) _ hosted _ (λ setup list text is. lawful setup list before.told now.told is.limits is.steps text)
     (of_end c.finish-status.result words files (asked_by words) before now (λ wanted is. is) h ended) (told ended)) (returns-clause-answers g c) rigs.hosted
@@ -92,8 +78,10 @@ pub returns-clause-territories : goal.returns-clause-territories
 returns-clause-territories g c =
     let words = words_of c.args.words.now in
     let before = scene (g.S.Shelf.held c.args.shelf.now) (g.K.Sink.told c.args.out.now) (g.S.Shelf.counts c.args.shelf.now) (g.K.Sink.faults c.args.out.now) in
-    let now = scene (g.S.Shelf.held c.finish-status.new.shelf) (g.K.Sink.told c.finish-status.new.out) (g.S.Shelf.counts c.finish-status.new.shelf) (g.K.Sink.faults c.finish-status.new.out) in
-    Told (λ files. Meets c.finish-status.result words files before now) (λ files. HasEnded c.finish-status.result → OfRealm files (asked_by words) (λ setup turn. Territories setup turn before.told now.told)) _
+    let now = scene (g.S.Shelf.held c.finish-status.new.shelf) (g.K.Sink.told c.finish-status.new.out) (g.S.Shelf.counts c.finish-status.new.shelf)
+    (g.K.Sink.faults c.finish-status.new.out) in
+    Told (λ files. Meets c.finish-status.result words files before now) (λ files. HasEnded c.finish-status.result
+    → OfRealm files (asked_by words) (λ setup turn. Territories setup turn before.told now.told)) _
     (λ files h ended. territories_told c.finish-status.result words files before now h ended) (returns-clause-answers g c)
 
 -- the film is that of the match
@@ -101,8 +89,10 @@ pub returns-clause-films : goal.returns-clause-films
 returns-clause-films g c =
     let words = words_of c.args.words.now in
     let before = scene (g.S.Shelf.held c.args.shelf.now) (g.K.Sink.told c.args.out.now) (g.S.Shelf.counts c.args.shelf.now) (g.K.Sink.faults c.args.out.now) in
-    let now = scene (g.S.Shelf.held c.finish-status.new.shelf) (g.K.Sink.told c.finish-status.new.out) (g.S.Shelf.counts c.finish-status.new.shelf) (g.K.Sink.faults c.finish-status.new.out) in
-    Told (λ files. Meets c.finish-status.result words files before now) (λ files. HasEnded c.finish-status.result → OfFilm files (asked_by words) (λ setup every. Film setup every before.told now.told)) _
+    let now = scene (g.S.Shelf.held c.finish-status.new.shelf) (g.K.Sink.told c.finish-status.new.out) (g.S.Shelf.counts c.finish-status.new.shelf)
+    (g.K.Sink.faults c.finish-status.new.out) in
+    Told (λ files. Meets c.finish-status.result words files before now) (λ files. HasEnded c.finish-status.result
+    → OfFilm files (asked_by words) (λ setup every. Film setup every before.told now.told)) _
     (λ files h ended. film_told c.finish-status.result words files before now h ended) (returns-clause-answers g c)
 
 -- and the parts are those of its templates
@@ -110,8 +100,10 @@ pub returns-clause-parts : goal.returns-clause-parts
 returns-clause-parts g c =
     let words = words_of c.args.words.now in
     let before = scene (g.S.Shelf.held c.args.shelf.now) (g.K.Sink.told c.args.out.now) (g.S.Shelf.counts c.args.shelf.now) (g.K.Sink.faults c.args.out.now) in
-    let now = scene (g.S.Shelf.held c.finish-status.new.shelf) (g.K.Sink.told c.finish-status.new.out) (g.S.Shelf.counts c.finish-status.new.shelf) (g.K.Sink.faults c.finish-status.new.out) in
-    Told (λ files. Meets c.finish-status.result words files before now) (λ files. HasEnded c.finish-status.result → OfParts files (asked_by words) (λ setup. PartsTold setup before.told now.told)) _
+    let now = scene (g.S.Shelf.held c.finish-status.new.shelf) (g.K.Sink.told c.finish-status.new.out) (g.S.Shelf.counts c.finish-status.new.shelf)
+    (g.K.Sink.faults c.finish-status.new.out) in
+    Told (λ files. Meets c.finish-status.result words files before now) (λ files. HasEnded c.finish-status.result
+    → OfParts files (asked_by words) (λ setup. PartsTold setup before.told now.told)) _
     (λ files h ended. parts_told c.finish-status.result words files before now h ended) (returns-clause-answers g c)
 
 -- and so is what was told of what the players see
@@ -119,8 +111,10 @@ pub returns-clause-sights : goal.returns-clause-sights
 returns-clause-sights g c =
     let words = words_of c.args.words.now in
     let before = scene (g.S.Shelf.held c.args.shelf.now) (g.K.Sink.told c.args.out.now) (g.S.Shelf.counts c.args.shelf.now) (g.K.Sink.faults c.args.out.now) in
-    let now = scene (g.S.Shelf.held c.finish-status.new.shelf) (g.K.Sink.told c.finish-status.new.out) (g.S.Shelf.counts c.finish-status.new.shelf) (g.K.Sink.faults c.finish-status.new.out) in
-    Told (λ files. Meets c.finish-status.result words files before now) (λ files. HasEnded c.finish-status.result → TellsSights files (asked_by words) before now) _
+    let now = scene (g.S.Shelf.held c.finish-status.new.shelf) (g.K.Sink.told c.finish-status.new.out) (g.S.Shelf.counts c.finish-status.new.shelf)
+    (g.K.Sink.faults c.finish-status.new.out) in
+    Told (λ files. Meets c.finish-status.result words files before now) (λ files. HasEnded c.finish-status.result
+    → TellsSights files (asked_by words) before now) _
     (λ files h ended. sights_told c.finish-status.result words files before now h ended) (returns-clause-answers g c)
 
 -- and of a log that was asked for, what the rules say of it
@@ -128,8 +122,10 @@ pub returns-clause-logs : goal.returns-clause-logs
 returns-clause-logs g c =
     let words = words_of c.args.words.now in
     let before = scene (g.S.Shelf.held c.args.shelf.now) (g.K.Sink.told c.args.out.now) (g.S.Shelf.counts c.args.shelf.now) (g.K.Sink.faults c.args.out.now) in
-    let now = scene (g.S.Shelf.held c.finish-status.new.shelf) (g.K.Sink.told c.finish-status.new.out) (g.S.Shelf.counts c.finish-status.new.shelf) (g.K.Sink.faults c.finish-status.new.out) in
-    Told (λ files. Meets c.finish-status.result words files before now) (λ files. HasEnded c.finish-status.result → TellsLogs files (asked_by words) c.finish-status.result before now) _
+    let now = scene (g.S.Shelf.held c.finish-status.new.shelf) (g.K.Sink.told c.finish-status.new.out) (g.S.Shelf.counts c.finish-status.new.shelf)
+    (g.K.Sink.faults c.finish-status.new.out) in
+    Told (λ files. Meets c.finish-status.result words files before now) (λ files. HasEnded c.finish-status.result
+    → TellsLogs files (asked_by words) c.finish-status.result before now) _
     (λ files h ended. logs_told c.finish-status.result words files before now h ended) (returns-clause-answers g c)
 
 -- and what was told of a match with an economy is its states and balances
@@ -137,7 +133,8 @@ pub returns-clause-stocks : goal.returns-clause-stocks
 returns-clause-stocks g c =
     let words = words_of c.args.words.now in
     let before = scene (g.S.Shelf.held c.args.shelf.now) (g.K.Sink.told c.args.out.now) (g.S.Shelf.counts c.args.shelf.now) (g.K.Sink.faults c.args.out.now) in
-    let now = scene (g.S.Shelf.held c.finish-status.new.shelf) (g.K.Sink.told c.finish-status.new.out) (g.S.Shelf.counts c.finish-status.new.shelf) (g.K.Sink.faults c.finish-status.new.out) in
+    let now = scene (g.S.Shelf.held c.finish-status.new.shelf) (g.K.Sink.told c.finish-status.new.out) (g.S.Shelf.counts c.finish-status.new.shelf)
+    (g.K.Sink.faults c.finish-status.new.out) in
     Told (λ files. Meets c.finish-status.result words files before now)
     (λ files. HasEnded c.finish-status.result → OfStock files (asked_by words) (λ setup economy. Balances setup economy before.told now.told)) _
     (λ files h ended. balances_told c.finish-status.result words files before now h ended) (returns-clause-answers g c)

@@ -1,6 +1,5 @@
 -- The digits that are left go on from the number so far, which is below the power of ten of those that were read.
-use Rattle.std.proofs.Common.{◌≡◌, ◌<◌, ◌^◌, drop}
-use Rattle.sim_top.specs.Words.{digits_from}
+use Rattle.sim_top.{proofs.Common.◌≡◌, proofs.Common.◌^◌, proofs.Common.◌<◌, proofs.Common.drop, specs.Words.digits_from}
 use Rattle.sim_top.proofs.words.number_of.Given as goal
 
 abbrev pub invariant-loop-digit : goal.invariant-loop-digit

@@ -1,7 +1,5 @@
 -- What was told and what is left are the changes of all ids.
-use Rattle.std.proofs.Common.{◌+◌, length, max}
-use Rattle.sim_trail.specs.Shifts.{end_of}
-use Rattle.sim_trail.proofs.Merging.{Walks}
+use Rattle.{sim_trail.proofs.Merging.Walks, sim_trail.specs.Shifts.end_of, std.proofs.Common.◌+◌, std.proofs.Common.max, std.proofs.Common.length}
 use Rattle.sim_trail.proofs.merge.shifts_between.Given as goal
 
 abbrev pub invariant-ids : goal.invariant-ids

@@ -1,5 +1,4 @@
-use Rattle.std.proofs.Common.{◌≡◌, map, take}
-use Rattle.sim_trail.specs.Marks.{mark_of}
+use Rattle.{sim_trail.specs.Marks.mark_of, std.proofs.Common.◌≡◌, std.proofs.Common.map, std.proofs.Common.take}
 use Rattle.sim_trail.proofs.trail.are_marks_of.Given as goal
 
 abbrev pub invariant-loop-at : goal.invariant-loop-at

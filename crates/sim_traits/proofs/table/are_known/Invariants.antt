@@ -1,6 +1,4 @@
-use Rattle.std.proofs.Common.{◌≡◌, length}
-use Rattle.sim_tree.specs.Trees.{nodes_of}
-use Rattle.sim_traits.specs.Table.{are_known}
+use Rattle.{sim_traits.specs.Table.are_known, sim_tree.specs.Trees.nodes_of, std.proofs.Common.◌≡◌, std.proofs.Common.length}
 use Rattle.sim_traits.proofs.table.are_known.Given as goal
 
 abbrev pub invariant-loop-rest : goal.invariant-loop-rest

@@ -1,7 +1,4 @@
-use Rattle.std.proofs.Common.{◌≡◌, length}
-use Rattle.sim_json.specs.Keys.{texts_of}
-use Rattle.sim_tree.specs.Trees.{nodes_of}
-use Rattle.sim_traits.specs.Table.{are_leaves}
+use Rattle.{sim_json.specs.Keys.texts_of, sim_traits.specs.Table.are_leaves, sim_tree.specs.Trees.nodes_of, std.proofs.Common.◌≡◌, std.proofs.Common.length}
 use Rattle.sim_traits.proofs.table.are_leaves.Given as goal
 
 abbrev pub invariant-loop-rest : goal.invariant-loop-rest

@@ -1,6 +1,4 @@
-use Rattle.std.proofs.Common.{map, filter, List, ℕ}
-use Rattle.std.specs.Borrow.{Bor}
-use Rattle.sim_tree.specs.Tokens.{is_word}
+use Rattle.{sim_tree.specs.Tokens.is_word, std.proofs.Common.ℕ, std.proofs.Common.List, std.proofs.Common.map, std.proofs.Common.filter, std.specs.Borrow.Bor}
 use Rattle.sim_traits.proofs.Counted.{Counted}
 use Rattle.sim_traits.proofs.units.units_in.Given as goal
 

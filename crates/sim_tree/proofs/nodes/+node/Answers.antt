@@ -1,9 +1,6 @@
-use Rattle.std.proofs.Common.{◌≡◌, ◌++◌, [], true, string_bytes, rules, append-nil, List, ℕ, ap, ◌∙◌, subst, map}
-use Rattle.serde_json.specs.View.{view, members_view}
-use Rattle.sim_tree.specs.Trees.{named_of, node_of}
-use Rattle.sim_tree.specs.Nodes.{node_in, named_in, is_child_key, is_node}
-use Rattle.sim_tree.proofs.Ascends.{keys_in, name_of, ascends, sorted_ascends, ascends_skip, ascends-more, all_sound-push, sound_children}
-use Rattle.sim_tree.proofs.Forms.{kind_ok, named-more}
+use Rattle.sim_tree.proofs.{Common.node_in, Common.node_of, Common.rules, Common.subst, Common.view, Common.◌∙◌, Forms.kind_ok, Forms.named-more}
+use Rattle.sim_tree.proofs.Ascends.{all_sound-push, ascends, ascends-more, ascends_skip, keys_in, name_of, sorted_ascends, sound_children}
+use Rattle.sim_tree.proofs.Common.{◌≡◌, ℕ, true, List, [], ◌++◌, map, string_bytes, ap, append-nil, is_child_key, is_node, members_view, named_in, named_of}
 use Rattle.sim_tree.proofs.nodes.+node.Goals as goal
 
 pub read_children-loop-key-init : goal.read_children-loop-key-init

@@ -1,8 +1,5 @@
-use Rattle.std.proofs.Common.{◌≡◌, ◌++◌, true, false, map}
-use Rattle.serde_json.specs.View.{members_view}
-use Rattle.sim_tree.specs.Trees.{named_of}
-use Rattle.sim_tree.specs.Nodes.{are_members, begin_well, named_in}
-use Rattle.sim_tree.proofs.Ascends.{keys_in, name_of, ascends, all_sound}
+use Rattle.sim_tree.proofs.Ascends.{all_sound, ascends, keys_in, name_of}
+use Rattle.sim_tree.proofs.Common.{◌≡◌, true, false, ◌++◌, map, are_members, begin_well, members_view, named_in, named_of}
 use Rattle.sim_tree.proofs.nodes.+node.Given as goal
 
 abbrev pub invariant-read_children-loop-key : goal.invariant-read_children-loop-key

@@ -1,6 +1,4 @@
-use Rattle.std.proofs.Common.{◌≡◌, ◌+◌, if◌then◌else◌}
-use Rattle.serde_json.specs.View.{members_view}
-use Rattle.sim_tree.specs.Nodes.{marks_in}
+use Rattle.sim_tree.proofs.Common.{◌≡◌, ◌+◌, if◌then◌else◌, marks_in, members_view}
 use Rattle.sim_tree.proofs.nodes.has_few_marks.Given as goal
 
 abbrev pub invariant-loop-key : goal.invariant-loop-key

@@ -1,6 +1,4 @@
-use Rattle.std.proofs.Common.{◌≡◌}
-use Rattle.serde_json.specs.View.{members_view}
-use Rattle.sim_tree.specs.Nodes.{mark_in}
+use Rattle.sim_tree.proofs.Common.{◌≡◌, mark_in, members_view}
 use Rattle.sim_tree.proofs.nodes.mark_in.Given as goal
 
 abbrev pub invariant-loop-key : goal.invariant-loop-key

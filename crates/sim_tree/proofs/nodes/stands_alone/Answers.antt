@@ -1,5 +1,4 @@
-use Rattle.std.proofs.Common.{sym}
-use Rattle.sim_tree.proofs.Forms.{bears_add, bears_mul, bears_tokens}
+use Rattle.sim_tree.proofs.{Common.sym, Forms.bears_add, Forms.bears_mul, Forms.bears_tokens}
 use Rattle.sim_tree.proofs.nodes.stands_alone.Goals as goal
 
 pub returns-in-len1-up-clause-add : goal.returns-in-len1-up-clause-add

@@ -1,9 +1,6 @@
-use Rattle.std.proofs.Common.{◌≡◌, ◌++◌, [], true, string_bytes, rules, append-nil, List, ℕ, ap, ◌∙◌, subst, map}
-use Rattle.serde_json.specs.View.{view, members_view}
-use Rattle.sim_tree.specs.Trees.{named_of, node_of}
-use Rattle.sim_tree.specs.Nodes.{node_in, named_in, is_child_key, is_node}
-use Rattle.sim_tree.specs.Sources.{is_root_key}
-use Rattle.sim_tree.proofs.Ascends.{keys_in, name_of, ascends, sorted_ascends, ascends_skip, ascends-more, all_sound-push, sound_children}
+use Rattle.sim_tree.proofs.Ascends.{all_sound-push, ascends, ascends-more, ascends_skip, keys_in, name_of, sorted_ascends, sound_children}
+use Rattle.sim_tree.proofs.Common.{named_of, node_in, node_of, rules, subst, view, ◌∙◌}
+use Rattle.sim_tree.proofs.Common.{◌≡◌, ℕ, true, List, [], ◌++◌, map, string_bytes, ap, append-nil, is_child_key, is_node, is_root_key, members_view, named_in}
 use Rattle.sim_tree.proofs.Forms.{kind_ok, named-more, root_key_alone}
 use Rattle.sim_tree.proofs.source.root_children.Goals as goal
 

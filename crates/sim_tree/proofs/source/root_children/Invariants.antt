@@ -1,9 +1,5 @@
-use Rattle.std.proofs.Common.{◌≡◌, ◌++◌, true, false, map}
-use Rattle.serde_json.specs.View.{members_view}
-use Rattle.sim_tree.specs.Trees.{named_of}
-use Rattle.sim_tree.specs.Nodes.{named_in}
-use Rattle.sim_tree.specs.Sources.{are_root_members, begin_root}
-use Rattle.sim_tree.proofs.Ascends.{keys_in, name_of, ascends, all_sound}
+use Rattle.sim_tree.proofs.Ascends.{all_sound, ascends, keys_in, name_of}
+use Rattle.sim_tree.proofs.Common.{◌≡◌, true, false, ◌++◌, map, are_root_members, begin_root, members_view, named_in, named_of}
 use Rattle.sim_tree.proofs.source.root_children.Given as goal
 
 abbrev pub invariant-loop-key : goal.invariant-loop-key

@@ -1,6 +1,4 @@
-use Rattle.std.proofs.Common.{◌≡◌, map, filter, List, ℕ}
-use Rattle.std.specs.Borrow.{Bor}
-use Rattle.sim_tree.specs.Tokens.{is_word}
+use Rattle.sim_tree.proofs.Common.{◌≡◌, ℕ, List, map, filter, Bor, is_word}
 use Rattle.sim_tree.proofs.tokens.tokens_in.Given as goal
 
 abbrev pub invariant-loop-part : goal.invariant-loop-part

@@ -1,5 +1,4 @@
-use Rattle.std.proofs.Common.{◌≡◌, ◌++◌, map, drop}
-use Rattle.sim_tree.specs.Trees.{named_of}
+use Rattle.sim_tree.proofs.Common.{◌≡◌, ◌++◌, map, drop, named_of}
 use Rattle.sim_tree.proofs.tree.+copy.Given as goal
 
 abbrev pub invariant-copy_children-loop-child : goal.invariant-copy_children-loop-child

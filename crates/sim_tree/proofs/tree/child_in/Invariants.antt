@@ -1,5 +1,4 @@
-use Rattle.std.proofs.Common.{◌≡◌, drop}
-use Rattle.sim_tree.specs.Trees.{nodes_of, child_named}
+use Rattle.sim_tree.proofs.Common.{◌≡◌, drop, child_named, nodes_of}
 use Rattle.sim_tree.proofs.tree.child_in.Given as goal
 
 abbrev pub invariant-loop-child : goal.invariant-loop-child

@@ -1,6 +1,4 @@
-use Rattle.std.proofs.Common.{◌≡◌, drop}
-use Rattle.serde_json.specs.View.{items_view, members_view}
-use Rattle.sim_tree.specs.Walks.{items_float, members_float}
+use Rattle.sim_tree.proofs.Common.{◌≡◌, drop, items_float, items_view, members_float, members_view}
 use Rattle.sim_tree.proofs.walks.+float.Given as goal
 
 abbrev pub invariant-items_float-loop-item : goal.invariant-items_float-loop-item

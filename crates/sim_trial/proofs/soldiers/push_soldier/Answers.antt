@@ -1,4 +1,10 @@
 use Rattle.sim_trial.proofs.soldiers.push_soldier.Goals as goal
 
 pub returns-clause-text : goal.returns-clause-text
-returns-clause-text c = simp (c.player_of-player.ensures, c.next_word-first.ensures, c.next_word-second.ensures, c.x_from-x.ensures, c.z_from-z.ensures) at c.in_ok-write.ensures.bytes
+returns-clause-text c = simp (
+  c.player_of-player.ensures,
+  c.next_word-first.ensures,
+  c.next_word-second.ensures,
+  c.x_from-x.ensures,
+  c.z_from-z.ensures,
+) at c.in_ok-write.ensures.bytes

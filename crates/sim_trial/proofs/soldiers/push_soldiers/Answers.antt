@@ -1,8 +1,5 @@
 -- One soldier more takes two steps more.
-use Rattle.std.proofs.Common.{◌≡◌, ℕ, suc, ◌+◌, ◌*◌, ◌++◌, false, refl, ap, ◌∙◌, arith}
-use Rattle.std.specs.Prelude.{string_bytes, nat_lt}
-use Rattle.sim_base.specs.Numbers.{next_word}
-use Rattle.sim_trial.specs.Trial.{word_after, soldier_text}
+use Rattle.sim_trial.proofs.Common.{◌≡◌, ℕ, suc, ◌+◌, ◌*◌, false, ◌++◌, nat_lt, string_bytes, refl, ap, arith, next_word, soldier_text, word_after, ◌∙◌}
 use Rattle.sim_trial.proofs.Pieces.{pieces_more}
 use Rattle.sim_trial.proofs.soldiers.push_soldiers.Goals as goal
 

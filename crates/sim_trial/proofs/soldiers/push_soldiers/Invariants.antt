@@ -1,7 +1,5 @@
 -- The text has the soldiers so far, and the word is the one after their steps.
-use Rattle.std.proofs.Common.{◌≡◌, ◌++◌, ◌*◌, ◌^◌, ◌<◌}
-use Rattle.std.specs.Prelude.{string_bytes}
-use Rattle.sim_trial.specs.Trial.{word_after, soldiers_text}
+use Rattle.sim_trial.proofs.Common.{◌≡◌, ◌*◌, ◌^◌, ◌<◌, ◌++◌, string_bytes, soldiers_text, word_after}
 use Rattle.sim_trial.proofs.soldiers.push_soldiers.Given as goal
 
 abbrev pub invariant-loop-place : goal.invariant-loop-place

@@ -1,14 +1,12 @@
 -- The commands of player 2 stand behind those of player 1, who has at least one.
-use Rattle.std.proofs.Common.{◌≢◌, ℕ, ◌++◌, List, ap, ◌∙◌, arith}
-use Rattle.std.specs.Prelude.{string_bytes}
-use Rattle.std.proofs.lemmas.Result.{on_ok_weaker}
-use Rattle.sim_trial.proofs.Pieces.{appended}
-use Rattle.sim_trial.proofs.OwnedSoldiers.{both_walk}
+use Rattle.sim_trial.proofs.{OwnedSoldiers.both_walk, Pieces.appended}
+use Rattle.sim_trial.proofs.Common.{ℕ, ◌≢◌, List, ◌++◌, string_bytes, ap, arith, on_ok_weaker, ◌∙◌}
 use Rattle.sim_trial.proofs.walks.push_commands.Goals as goal
 
 pub returns : goal.returns
 returns c =
     let played : c.args.turns ≢ 0 = omega arith in
     on_ok_weaker c.push_walks-2.result
-    (λ second. appended _ _ _ _ _ c.in_ok-push_walks.ensures second ∙ ap (λ (xs : List ℕ). string_bytes c.args.text.now ++ xs) (both_walk c.args.units c.args.turns c.requires.some played))
+    (λ second. appended _ _ _ _ _ c.in_ok-push_walks.ensures second ∙ ap (λ (xs : List ℕ). string_bytes c.args.text.now ++ xs)
+    (both_walk c.args.units c.args.turns c.requires.some played))
     c.push_walks-2.ensures

@@ -1,12 +1,6 @@
 -- One id more, and in the end all of them.
-use Rattle.std.proofs.Common.{◌≡◌, ℕ, ◌+◌, ◌-◌, ◌++◌, false, List, map, sym, ap, ◌∙◌, arith}
-use Rattle.std.specs.Prelude.{string_bytes, nat_lt, decimal}
-use Rattle.std.specs.List.{range_with_len}
-use Rattle.std.proofs.lemmas.Bool.Decides.{nat_tests}
-use Rattle.sim_trial.specs.Joined.{joined_after}
-use Rattle.sim_trial.specs.Owned.{id_at}
-use Rattle.sim_trial.proofs.Pieces.{pieces_more}
-use Rattle.sim_trial.proofs.OwnedSoldiers.{id_texts-is}
+use Rattle.sim_trial.proofs.{Common.range_with_len, Common.sym, Common.◌∙◌, OwnedSoldiers.id_texts-is, Pieces.pieces_more}
+use Rattle.sim_trial.proofs.Common.{◌≡◌, ℕ, ◌+◌, ◌-◌, false, List, ◌++◌, map, nat_lt, string_bytes, decimal, ap, arith, id_at, joined_after, nat_tests}
 use Rattle.sim_trial.proofs.walks.push_ids.Goals as goal
 
 -- one number is below another where there is a gap between them
@@ -21,7 +15,8 @@ loop-place-preserved c =
     let count : place - from + 1 ≡ place + 1 - from = omega arith in
     let added : string_bytes c.write.new.self ≡ string_bytes c.push_comma.new.text ++ piece place =
     c.in_ok-write.ensures.bytes ∙ ap (λ (id : ℕ). string_bytes c.push_comma.new.text ++ decimal id) c.id_of.ensures in
-    pieces_more false piece from (place - from) place (omega arith) _ _ _ _ (nat_lt from place) c.loop-place.invariant (gap from place) c.in_ok-push_comma.ensures added
+    pieces_more false piece from (place - from) place (omega arith) _ _ _ _ (nat_lt from place) c.loop-place.invariant (gap from place)
+    c.in_ok-push_comma.ensures added
     ∙ ap (λ (n : ℕ). string_bytes c.args.text.now ++ joined_after false (map piece (range_with_len from n))) count
 
 pub returns : goal.returns

@@ -1,15 +1,8 @@
 -- One command more, and in the end all of them.
-use Rattle.std.proofs.Common.{◌≡◌, ℕ, ◌*◌, ◌++◌, ◌||◌, List, map, sym, ap, ◌∙◌, arith}
-use Rattle.std.specs.Prelude.{string_bytes, nat_lt}
-use Rattle.std.specs.List.{range_with_len}
-use Rattle.std.specs.Int.{div_ceil}
-use Rattle.sim_trial.specs.Joined.{joined_after}
-use Rattle.sim_trial.specs.Trial.{walk_text}
-use Rattle.sim_trial.specs.Owned.{ids_between}
-use Rattle.sim_trial.proofs.Pieces.{pieces_more}
-use Rattle.sim_trial.proofs.OwnedSoldiers.{owned_by, group_walk, walks_of-is}
+use Rattle.sim_trial.proofs.{Common.sym, Common.walk_text, Common.◌∙◌, OwnedSoldiers.group_walk, OwnedSoldiers.owned_by, OwnedSoldiers.walks_of-is}
+use Rattle.sim_trial.proofs.{Pieces.pieces_more, walks.push_walks.Goals.else-begun, walks.push_walks.Goals.then-begun}
+use Rattle.sim_trial.proofs.Common.{◌≡◌, ℕ, ◌*◌, ◌||◌, List, ◌++◌, map, nat_lt, string_bytes, ap, arith, div_ceil, ids_between, joined_after, range_with_len}
 use Rattle.sim_trial.proofs.walks.push_walks.Goals as goal
-use Rattle.sim_trial.proofs.walks.push_walks.Goals.{then-begun, else-begun}
 
 pub loop-group-preserved : goal.loop-group-preserved
 loop-group-preserved c =
@@ -18,7 +11,8 @@ loop-group-preserved c =
     let counted : c.if-begun.push_comma ≡ (c.args.begun || nat_lt 0 group) =
     elim c.if-begun.branch [ then-begun w ↦ rw (w.push_comma-is, w.if-begun.true) | else-begun w ↦ rw (w.push_comma-is, w.if-begun.false) ] in
     let added : string_bytes c.push_walk.new.text ≡ string_bytes c.push_comma.new.text ++ piece group =
-    c.in_ok-push_walk.ensures ∙ ap (λ (to : ℕ). string_bytes c.push_comma.new.text ++ walk_text c.args.player (ids_between c.args.player (group * 256) to)) c.min.ensures in
+    c.in_ok-push_walk.ensures ∙ ap (λ (to : ℕ). string_bytes c.push_comma.new.text ++ walk_text c.args.player (ids_between c.args.player (group * 256) to))
+    c.min.ensures in
     pieces_more c.args.begun piece 0 group group (omega arith) _ _ _ _ _ c.loop-group.invariant counted c.in_ok-push_comma.ensures added
 
 pub returns : goal.returns
@@ -28,4 +22,5 @@ returns c =
     let count : c.loop-group.group ≡ div_ceil owned 256 = omega (arith, c.div_ceil-group-end.ensures) in
     c.loop-group.invariant
     ∙ ap (λ (n : ℕ). string_bytes c.args.text.now ++ joined_after c.args.begun (map piece (range_with_len 0 n))) count
-    ∙ ap (λ (walks : List (List ℕ)). string_bytes c.args.text.now ++ joined_after c.args.begun walks) (sym (walks_of-is c.args.player c.args.units c.requires.first c.requires.last))
+    ∙ ap (λ (walks : List (List ℕ)). string_bytes c.args.text.now ++ joined_after c.args.begun walks)
+    (sym (walks_of-is c.args.player c.args.units c.requires.first c.requires.last))

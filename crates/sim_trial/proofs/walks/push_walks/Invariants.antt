@@ -1,9 +1,5 @@
 -- The text has the commands so far.
-use Rattle.std.proofs.Common.{◌≡◌, ◌++◌, map}
-use Rattle.std.specs.Prelude.{string_bytes}
-use Rattle.std.specs.List.{range_with_len}
-use Rattle.sim_trial.specs.Joined.{joined_after}
-use Rattle.sim_trial.proofs.OwnedSoldiers.{group_walk}
+use Rattle.sim_trial.proofs.{Common.◌≡◌, Common.◌++◌, Common.map, Common.string_bytes, Common.joined_after, Common.range_with_len, OwnedSoldiers.group_walk}
 use Rattle.sim_trial.proofs.walks.push_walks.Given as goal
 
 abbrev pub invariant-loop-group : goal.invariant-loop-group

@@ -1,9 +1,6 @@
 -- The test of the closure parts a list that ascends by turns.
-use Rattle.std.proofs.Common.{rules}
-use Rattle.std.specs.Prelude.{nat_lt}
-use Rattle.std.proofs.lemmas.List.Sorted.{IsPartitionedBy-ltb, IsPartitionPoint-from_clause}
-use Rattle.sim_base.specs.declared.setup.Timed.{Timed}
-use Rattle.sim_turn.proofs.Stretches.{rising}
+use Rattle.std.proofs.{Common.rules, lemmas.List.Sorted.IsPartitionedBy-ltb, lemmas.List.Sorted.IsPartitionPoint-from_clause}
+use Rattle.sim_turn.proofs.{Common.nat_lt, Common.Timed, Stretches.rising}
 use Rattle.sim_turn.proofs.due.begin_of.Goals as goal
 
 pub returns-clause-point : goal.returns-clause-point

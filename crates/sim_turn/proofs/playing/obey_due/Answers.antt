@@ -1,10 +1,5 @@
-use Rattle.std.proofs.Common.{◌<◌, length, sym, subst, arith}
-use Rattle.sim_base.specs.declared.setup.Setup.{Setup}
-use Rattle.sim_base.specs.declared.setup.Timed.{Timed}
-use Rattle.sim_base.specs.Limits.{IsFrom}
-use Rattle.sim_laws.specs.CommandLaws.{IsOrderOf}
-use Rattle.sim_board.specs.BoardWords.{setup_in}
-use Rattle.sim_turn.proofs.Counting.{all_mapped}
+use Rattle.{sim_base.specs.Limits.IsFrom, sim_turn.proofs.Counting.all_mapped}
+use Rattle.sim_turn.proofs.Common.{◌<◌, length, arith, IsOrderOf, Setup, setup_in, subst, sym, Timed}
 use Rattle.sim_turn.proofs.playing.obey_due.Goals as goal
 
 pub obey-requires-clause-player : goal.obey-requires-clause-player

@@ -1,16 +1,7 @@
 -- One turn more of the match's own.
-use Rattle.std.proofs.Common.{◌≡◌, ℕ, suc, ◌+◌, ◌-◌, ◌<◌, ◌≤◌, map, fold, sym, ap, ◌∙◌, subst, arith, All}
-use Rattle.sim_base.specs.declared.setup.Setup.{Setup}
-use Rattle.sim_base.specs.declared.setup.Timed.{Timed}
-use Rattle.sim_base.specs.declared.state.State.{State}
-use Rattle.sim_base.specs.Commands.{commanded}
-use Rattle.sim_base.specs.Validity.{IsValid}
-use Rattle.sim_base.specs.Turn.{turn, from, own_turns, orders_at}
-use Rattle.sim_laws.specs.CommandLaws.{IsOrderOf}
-use Rattle.sim_laws.proofs.Turning.{turn_is_counted, turn_keeps_valid}
-use Rattle.sim_board.specs.BoardWords.{setup_in, state_in}
-use Rattle.sim_turn.proofs.Counting.{orders_keep_turn, joined, players_at}
-use Rattle.sim_turn.proofs.Keeping.{kept_on}
+use Rattle.sim_turn.proofs.{Counting.joined, Counting.orders_keep_turn, Counting.players_at, Keeping.kept_on}
+use Rattle.sim_turn.proofs.Common.{setup_in, State, state_in, subst, sym, Timed, turn, turn_is_counted, turn_keeps_valid, ◌∙◌}
+use Rattle.sim_turn.proofs.Common.{◌≡◌, ℕ, suc, ◌+◌, ◌-◌, ◌<◌, ◌≤◌, map, fold, All, ap, arith, commanded, from, IsOrderOf, IsValid, orders_at, own_turns, Setup}
 use Rattle.sim_turn.proofs.playing.play.Goals as goal
 
 pub obey_due-requires-clause-players : goal.obey_due-requires-clause-players
@@ -26,8 +17,10 @@ pub run_phases-requires-clause-below : goal.run_phases-requires-clause-below
 run_phases-requires-clause-below g c =
     let i = c.loop-number.invariant in
     let at : (state_in c.obey_due.new.board).turn ≡ c.loop-number.number =
-    ap (λ (s : State). s.turn) c.in_ok-obey_due.ensures.state ∙ orders_keep_turn (setup_in c.loop-number.board) (state_in c.loop-number.board) (map (λ (timed : Timed). timed.order) c.due_at.result.now) ∙ i.turn in
-    let last : (setup_in c.obey_due.new.board).turns ≡ (setup_in c.args.board.now).turns = ap (λ (s : Setup). s.turns) (c.in_ok-obey_due.ensures.setup ∙ i.same) in
+    ap (λ (s : State). s.turn) c.in_ok-obey_due.ensures.state ∙ orders_keep_turn (setup_in c.loop-number.board) (state_in c.loop-number.board)
+    (map (λ (timed : Timed). timed.order) c.due_at.result.now) ∙ i.turn in
+    let last : (setup_in c.obey_due.new.board).turns ≡ (setup_in c.args.board.now).turns =
+    ap (λ (s : Setup). s.turns) (c.in_ok-obey_due.ensures.setup ∙ i.same) in
     omega (arith, at, last, c.requires.within, c.loop-number-test.true)
 
 pub loop-number-preserved : goal.loop-number-preserved
@@ -45,20 +38,24 @@ loop-number-preserved g c =
     let due_is : map (λ (timed : Timed). timed.order) c.due_at.result.now ≡ orders_at (n + 1) setup.commands =
     c.due_at.ensures ∙ ap (orders_at (n + 1)) (c.as_slice-commands.ensures ∙ ap (λ (s : Setup). s.commands) c.setup-setup.ensures) in
     let obeyed_is : state_in c.obey_due.new.board ≡ fold (commanded setup) here (orders_at (n + 1) setup.commands) =
-    obeyed.state ∙ ap (λ (s : Setup). fold (commanded s) here (map (λ (timed : Timed). timed.order) c.due_at.result.now)) i.same ∙ ap (fold (commanded setup) here) due_is in
+    obeyed.state ∙ ap (λ (s : Setup). fold (commanded s) here (map (λ (timed : Timed). timed.order) c.due_at.result.now)) i.same ∙
+    ap (fold (commanded setup) here) due_is in
     let played : state_in c.run_phases.new.board ≡ turn setup here (orders_at (n + 1) setup.commands) =
-    joined setup (setup_in c.obey_due.new.board) here (state_in c.obey_due.new.board) (state_in c.run_phases.new.board) (orders_at (n + 1) setup.commands) (obeyed.setup ∙ i.same) obeyed_is ran.state in
+    joined setup (setup_in c.obey_due.new.board) here (state_in c.obey_due.new.board) (state_in c.run_phases.new.board) (orders_at (n + 1) setup.commands)
+    (obeyed.setup ∙ i.same) obeyed_is ran.state in
     let le : first ≤ n = omega (arith, c.loop-number.auto) in
     let place : n + 1 ≡ first + suc m = omega (arith, le) in
     let next : n + 1 - first ≡ suc m = omega (arith, le) in
     let below : here.turn < setup.turns = omega (arith, i.turn, c.requires.within, c.loop-number-test.true) in
     record {
       state =
-          played ∙ ap (λ (k : ℕ). turn setup here (orders_at k setup.commands)) place ∙ ap (λ (s : State). turn setup s (orders_at (first + suc m) setup.commands)) i.state ∙
+          played ∙ ap (λ (k : ℕ). turn setup here (orders_at k setup.commands)) place ∙
+          ap (λ (s : State). turn setup s (orders_at (first + suc m) setup.commands)) i.state ∙
           ap (λ (k : ℕ). from setup start (own_turns setup first k)) (sym next);
       turn = ap (λ (s : State). s.turn) played ∙ turn_is_counted setup here (orders_at (n + 1) setup.commands) ∙ ap (λ (k : ℕ). k + 1) i.turn;
       first = i.first;
-      valid = subst (IsValid setup) (sym played) (turn_keeps_valid setup here (orders_at (n + 1) setup.commands) limits (players_at setup n limits) i.valid below);
+      valid = subst (IsValid setup) (sym played) (turn_keeps_valid setup here (orders_at (n + 1) setup.commands) limits (players_at setup n limits) i.valid
+          below);
       same = ran.setup ∙ obeyed.setup ∙ i.same;
       whole = ran.whole;
       kept = kept_on _ _ _ (kept_on _ _ _ i.kept obeyed.kept) ran.kept;

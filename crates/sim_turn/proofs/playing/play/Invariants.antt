@@ -1,9 +1,5 @@
 -- The state is that of the turns so far.
-use Rattle.std.proofs.Common.{◌≡◌, ◌-◌}
-use Rattle.sim_base.specs.Turn.{from, own_turns}
-use Rattle.sim_base.specs.Validity.{IsValid}
-use Rattle.sim_system.specs.RigWords.{systems_by}
-use Rattle.sim_board.specs.BoardWords.{setup_in, state_in, rig_in, IsWholeBy, AreKept}
+use Rattle.sim_turn.proofs.Common.{◌≡◌, ◌-◌, AreKept, from, IsValid, IsWholeBy, own_turns, rig_in, setup_in, state_in, systems_by}
 use Rattle.sim_turn.proofs.playing.play.Given as goal
 
 abbrev pub invariant-loop-number : goal.invariant-loop-number
@@ -15,5 +11,6 @@ invariant-loop-number g l =
       valid : IsValid (setup_in l.fn.board) (state_in l.board);
       same : setup_in l.board ≡ setup_in l.fn.board;
       whole : IsWholeBy l.board (λ i v. (goal.System-dyn g (i, v)).meaning v);
-      kept : AreKept (systems_by (rig_in l.fn.board) (λ i v. (goal.System-dyn g (i, v)).meaning v)) (systems_by (rig_in l.board) (λ i v. (goal.System-dyn g (i, v)).meaning v));
+      kept : AreKept (systems_by (rig_in l.fn.board) (λ i v. (goal.System-dyn g (i, v)).meaning v))
+          (systems_by (rig_in l.board) (λ i v. (goal.System-dyn g (i, v)).meaning v));
     }

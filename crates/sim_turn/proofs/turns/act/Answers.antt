@@ -1,9 +1,5 @@
 -- Where nobody can act, the phases leave the state as it is.
-use Rattle.std.proofs.Common.{◌≡◌, true, sym, ap, ◌∙◌}
-use Rattle.std.specs.List.{list_all}
-use Rattle.sim_base.specs.declared.state.State.{State}
-use Rattle.sim_board.specs.BoardWords.{setup_in, state_in}
-use Rattle.sim_turn.specs.Resting.{is_resting}
+use Rattle.sim_turn.proofs.Common.{◌≡◌, true, ap, is_resting, list_all, setup_in, State, state_in, sym, ◌∙◌}
 use Rattle.sim_turn.proofs.Resting.{nobody_acts}
 use Rattle.sim_turn.proofs.turns.act.Goals as goal
 

@@ -1,8 +1,6 @@
 -- The commands are no turn, and the phases behind them give one.
-use Rattle.std.proofs.Common.{ap, ◌∙◌}
-use Rattle.sim_base.specs.declared.state.State.{State}
-use Rattle.sim_board.specs.BoardWords.{setup_in, state_in}
-use Rattle.sim_turn.proofs.Counting.{orders_keep_turn, still_below, joined_valid}
+use Rattle.sim_turn.proofs.Common.{ap, setup_in, State, state_in, ◌∙◌}
+use Rattle.sim_turn.proofs.Counting.{joined_valid, orders_keep_turn, still_below}
 use Rattle.sim_turn.proofs.turns.turn.Goals as goal
 
 pub run_phases-requires-clause-below : goal.run_phases-requires-clause-below
@@ -14,5 +12,7 @@ run_phases-requires-clause-below g c =
 
 pub returns-clause-valid : goal.returns-clause-valid
 returns-clause-valid g c =
-    joined_valid c.run_phases.result (setup_in c.args.board.now) (setup_in c.obey_all.new.board) (state_in c.args.board.now) (state_in c.obey_all.new.board) (state_in c.run_phases.new.board)
-    c.args.commands.now c.in_ok-obey_all.ensures.setup c.in_ok-obey_all.ensures.state c.requires.whole.standing.limits c.requires.players c.requires.valid c.requires.below c.run_phases.ensures.state
+    joined_valid c.run_phases.result (setup_in c.args.board.now) (setup_in c.obey_all.new.board) (state_in c.args.board.now) (state_in c.obey_all.new.board)
+    (state_in c.run_phases.new.board)
+    c.args.commands.now c.in_ok-obey_all.ensures.setup c.in_ok-obey_all.ensures.state c.requires.whole.standing.limits c.requires.players c.requires.valid
+    c.requires.below c.run_phases.ensures.state

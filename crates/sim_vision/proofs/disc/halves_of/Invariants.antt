@@ -1,6 +1,5 @@
 -- The halves of the rows so far.
-use Rattle.std.proofs.Common.{◌≡◌, ℕ, ◌-◌, ◌*◌, ◌<◌, get_or, length}
-use Rattle.sim_base.specs.Numbers.{IsRoot}
+use Rattle.sim_vision.proofs.Common.{◌≡◌, ℕ, ◌-◌, ◌*◌, ◌<◌, length, get_or, IsRoot}
 use Rattle.sim_vision.proofs.disc.halves_of.Given as goal
 
 abbrev pub invariant-loop-away : goal.invariant-loop-away

@@ -1,7 +1,5 @@
 -- Each flag is that of its byte.
-use Rattle.std.proofs.Common.{◌≡◌, false, length, map, sym, ◌∙◌, arith}
-use Rattle.std.proofs.lemmas.List.{ext_get_or, get_or-map, length-map}
-use Rattle.sim_vision.specs.Joining.{is_set}
+use Rattle.sim_vision.proofs.Common.{◌≡◌, false, map, length, arith, ext_get_or, get_or-map, is_set, length-map, sym, ◌∙◌}
 use Rattle.sim_vision.proofs.fog.set_flags.Goals as goal
 
 pub returns : goal.returns

@@ -1,5 +1,5 @@
 -- The flags so far are those of the bytes.
-use Rattle.std.proofs.Common.{◌≡◌, ℕ, ◌<◌, eqb, false, get_or}
+use Rattle.sim_vision.proofs.Common.{◌≡◌, ℕ, ◌<◌, false, eqb, get_or}
 use Rattle.sim_vision.proofs.fog.set_flags.Given as goal
 
 abbrev pub invariant-loop-at : goal.invariant-loop-at

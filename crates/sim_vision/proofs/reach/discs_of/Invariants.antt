@@ -1,5 +1,4 @@
-use Rattle.std.proofs.Common.{◌≡◌, map, take}
-use Rattle.sim_vision.specs.Vision.{reach_of}
+use Rattle.sim_vision.proofs.Common.{◌≡◌, map, take, reach_of}
 use Rattle.sim_vision.proofs.reach.discs_of.Given as goal
 
 abbrev pub invariant-loop-template : goal.invariant-loop-template

@@ -1,7 +1,5 @@
 -- The loop comes to the end of the cells, or has none.
-use Rattle.std.proofs.Common.{Bool, ◌+◌, get_or, sym, ap, ◌∙◌, arith}
-use Rattle.sim_vision.specs.Spans.{one_if}
-use Rattle.sim_vision.proofs.Rows.{done_same}
+use Rattle.sim_vision.proofs.{Common.◌+◌, Common.Bool, Common.get_or, Common.ap, Common.arith, Common.one_if, Common.sym, Common.◌∙◌, Rows.done_same}
 use Rattle.sim_vision.proofs.row.lower.Goals as goal
 
 pub returns : goal.returns

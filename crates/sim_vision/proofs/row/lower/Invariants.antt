@@ -1,6 +1,5 @@
 -- Each cell so far is counted one less.
-use Rattle.std.proofs.Common.{◌≡◌, ℕ, ◌+◌, ◌≤◌, max, get_or}
-use Rattle.sim_vision.specs.Spans.{one_if, is_within}
+use Rattle.sim_vision.proofs.Common.{◌≡◌, ℕ, ◌+◌, ◌≤◌, max, get_or, is_within, one_if}
 use Rattle.sim_vision.proofs.row.lower.Given as goal
 
 abbrev pub invariant-loop-at : goal.invariant-loop-at

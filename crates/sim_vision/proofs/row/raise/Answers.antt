@@ -1,7 +1,5 @@
 -- The loop comes to the end of the cells, or has none.
-use Rattle.std.proofs.Common.{Bool, false, ◌+◌, get_or, ap, ◌∙◌, arith}
-use Rattle.std.specs.Prelude.{◌||◌}
-use Rattle.sim_vision.specs.Spans.{one_if}
+use Rattle.sim_vision.proofs.Common.{◌+◌, Bool, false, ◌||◌, get_or, ap, arith, one_if, ◌∙◌}
 use Rattle.sim_vision.proofs.Rows.{done_same}
 use Rattle.sim_vision.proofs.row.raise.Goals as goal
 

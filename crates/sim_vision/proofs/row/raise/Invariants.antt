@@ -1,7 +1,5 @@
 -- Each cell so far is counted one more, and has its flag.
-use Rattle.std.proofs.Common.{◌≡◌, ℕ, ◌+◌, ◌≤◌, max, false, get_or}
-use Rattle.std.specs.Prelude.{◌||◌}
-use Rattle.sim_vision.specs.Spans.{one_if, is_within}
+use Rattle.sim_vision.proofs.Common.{◌≡◌, ℕ, ◌+◌, ◌≤◌, max, false, ◌||◌, get_or, is_within, one_if}
 use Rattle.sim_vision.proofs.row.raise.Given as goal
 
 abbrev pub invariant-loop-at : goal.invariant-loop-at

@@ -1,7 +1,5 @@
 -- One line more.
-use Rattle.std.proofs.Common.{arith}
-use Rattle.sim_vision.specs.Told.{sight_line, visible_in, explored_in}
-use Rattle.sim_vision.proofs.Telling.{lines_more}
+use Rattle.sim_vision.proofs.{Common.arith, Common.explored_in, Common.sight_line, Common.visible_in, Telling.lines_more}
 use Rattle.sim_vision.proofs.tell.push_lines.Goals as goal
 
 pub loop-player-preserved : goal.loop-player-preserved

@@ -1,8 +1,6 @@
 -- The lines of the players so far.
-use Rattle.std.proofs.Common.{◌≡◌, ◌++◌, ◌-◌, ◌≤◌}
-use Rattle.std.specs.Prelude.{string_bytes, flat_map}
-use Rattle.std.specs.List.{range_with_len}
-use Rattle.sim_vision.specs.Told.{sight_line, visible_in, explored_in}
+use Rattle.std.specs.Prelude.{flat_map}
+use Rattle.sim_vision.proofs.Common.{◌≡◌, ◌-◌, ◌≤◌, ◌++◌, string_bytes, explored_in, range_with_len, sight_line, visible_in}
 use Rattle.sim_vision.proofs.tell.push_lines.Given as goal
 
 abbrev pub invariant-loop-player : goal.invariant-loop-player

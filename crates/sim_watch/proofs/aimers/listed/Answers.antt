@@ -1,6 +1,5 @@
 -- Each fact gives its id and its target.
-use Rattle.std.proofs.Common.{arith}
-use Rattle.sim_watch.proofs.Listing.{listed_ascend, listed_facts}
+use Rattle.sim_watch.proofs.{Common.arith, Listing.listed_ascend, Listing.listed_facts}
 use Rattle.sim_watch.proofs.aimers.listed.Goals as goal
 
 pub returns-clause-ascend : goal.returns-clause-ascend

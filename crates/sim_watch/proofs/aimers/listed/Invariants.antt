@@ -1,5 +1,4 @@
-use Rattle.std.proofs.Common.{◌≡◌, map, take}
-use Rattle.sim_watch.proofs.Listing.{aimer_of}
+use Rattle.sim_watch.proofs.{Common.◌≡◌, Common.map, Common.take, Listing.aimer_of}
 use Rattle.sim_watch.proofs.aimers.listed.Given as goal
 
 abbrev pub invariant-loop-fact : goal.invariant-loop-fact

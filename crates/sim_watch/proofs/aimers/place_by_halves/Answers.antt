@@ -1,8 +1,5 @@
 -- The closure gives the id of an entity, and the ids ascend.
-use Rattle.std.proofs.Common.{rules}
-use Rattle.std.proofs.lemmas.List.Sorted.{answers_always}
-use Rattle.sim_watch.specs.declared.aimer.Aimer.{Aimer}
-use Rattle.sim_watch.proofs.Listing.{place_by}
+use Rattle.{sim_watch.proofs.Common.Aimer, sim_watch.proofs.Listing.place_by, std.proofs.Common.rules, std.proofs.lemmas.List.Sorted.answers_always}
 use Rattle.sim_watch.proofs.aimers.place_by_halves.Goals as goal
 
 pub returns : goal.returns

@@ -1,13 +1,10 @@
 -- One entity more aims, if it has a target.
-use Rattle.std.proofs.Common.{arith, ap, ◌∙◌}
-use Rattle.sim_system.specs.declared.kind.Kind.TheVariants.{Watch}
-use Rattle.sim_system.specs.Facts.{kept}
-use Rattle.sim_fact_lists.specs.Groups.{joined_by}
 use Rattle.sim_fact_lists.proofs.Grouping.{one_more_grouped}
-use Rattle.sim_watch.specs.Lists.{aim_key}
+use Rattle.sim_watch.proofs.Common.{aim_key, ap, arith, joined_by, kept, Watch, ◌∙◌}
 use Rattle.sim_watch.proofs.aims.groups_of.Goals as goal
 
 pub loop-fact-preserved : goal.loop-fact-preserved
 loop-fact-preserved c =
-    one_more_grouped aim_key Watch c.args.facts.now c.loop-fact.fact-index c.fact-item.result c.loop-fact.groups.groups.items c.join.new.groups.groups.items c.requires c.loop-fact.invariant (grind arith) c.fact-item.is
+    one_more_grouped aim_key Watch c.args.facts.now c.loop-fact.fact-index c.fact-item.result c.loop-fact.groups.groups.items c.join.new.groups.groups.items
+    c.requires c.loop-fact.invariant (grind arith) c.fact-item.is
     (λ t. c.join.ensures t ∙ ap (joined_by aim_key (kept Watch c.fact-item.result) t) (c.in_ok-make_room.ensures.same t))

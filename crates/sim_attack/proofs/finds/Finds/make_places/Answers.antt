@@ -1,6 +1,5 @@
 -- A copy of none is none, and where no place was made yet all are filled with it.
-use Rattle.std.proofs.Common.{rules, sym, ◌∙◌, arith}
-use Rattle.sim_attack.proofs.Sharing.{filled_first}
+use Rattle.{sim_attack.proofs.Sharing.filled_first, std.proofs.Common.arith, std.proofs.Common.rules, std.proofs.Common.sym, std.proofs.Common.◌∙◌}
 use Rattle.sim_attack.proofs.finds.Finds.make_places.Goals as goal
 
 pub returns-clause-ok : goal.returns-clause-ok

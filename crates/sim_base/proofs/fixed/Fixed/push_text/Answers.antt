@@ -1,6 +1,4 @@
-use Rattle.std.proofs.Common.{rules}
-use Rattle.sim_base.proofs.AppendedTexts.{IsSplitPoint-appended}
-use Rattle.sim_base.proofs.PrintedNumbers.{number_of-text_of}
+use Rattle.{sim_base.proofs.AppendedTexts.IsSplitPoint-appended, sim_base.proofs.PrintedNumbers.number_of-text_of, std.proofs.Common.rules}
 use Rattle.sim_base.proofs.fixed.Fixed.push_text.Goals as goal
 
 pub truncate-requires : goal.truncate-requires

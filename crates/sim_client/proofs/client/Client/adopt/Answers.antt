@@ -1,7 +1,5 @@
 -- It is on at a valid state.
-use Rattle.std.proofs.Common.{◌∙◌, sym, subst}
-use Rattle.sim_base.specs.Validity.{IsValid}
-use Rattle.sim_client.proofs.Standing.{of_match, none_by_players}
+use Rattle.sim_client.proofs.{Common.IsValid, Common.subst, Common.sym, Common.◌∙◌, Standing.none_by_players, Standing.of_match}
 use Rattle.sim_client.proofs.client.Client.adopt.Goals as goal
 
 pub returns-clause-sound : goal.returns-clause-sound

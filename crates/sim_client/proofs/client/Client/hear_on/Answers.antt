@@ -1,11 +1,11 @@
 -- What is heard beside a board is heard by the client.
-use Rattle.sim_client.specs.Lives.{Life, hears}
-use Rattle.sim_client.proofs.Standing.{answered}
+use Rattle.sim_client.proofs.{Common.hears, Common.Life, Standing.answered}
 use Rattle.sim_client.proofs.client.Client.hear_on.Goals as goal
 
 pub returns-clause-answers : goal.returns-clause-answers
 returns-clause-answers g c =
     let self = c.args.self.now in
     λ loaded.
-    answered self.setup.now (λ i v. (goal.System-dyn g (i, v)).meaning v) (λ (life : Life). hears self.setup.now loaded c.args.down life) c.heed.result self.stage self.board c.in-On.seat c.heed.new.seat c.in-Some.board
+    answered self.setup.now (λ i v. (goal.System-dyn g (i, v)).meaning v) (λ (life : Life). hears self.setup.now loaded c.args.down life) c.heed.result
+    self.stage self.board c.in-On.seat c.heed.new.seat c.in-Some.board
     c.scene.result.state.now c.in-On.is c.in-Some.is c.scene.ensures.state (c.heed.ensures.answers loaded)

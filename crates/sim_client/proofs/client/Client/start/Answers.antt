@@ -1,9 +1,6 @@
 -- It begins at the first state, which is valid.
-use Rattle.std.proofs.Common.{◌∙◌, sym, subst, ap}
-use Rattle.sim_base.specs.Turn.{first_state}
-use Rattle.sim_base.specs.Validity.{IsValid}
-use Rattle.sim_laws.proofs.Validity.{first_state_is_valid}
-use Rattle.sim_client.proofs.Standing.{of_match, none_by_players}
+use Rattle.{sim_base.specs.Turn.first_state, sim_laws.proofs.Validity.first_state_is_valid}
+use Rattle.sim_client.proofs.{Common.ap, Common.IsValid, Common.subst, Common.sym, Common.◌∙◌, Standing.none_by_players, Standing.of_match}
 use Rattle.sim_client.proofs.client.Client.start.Goals as goal
 
 pub returns-clause-sound : goal.returns-clause-sound

@@ -1,8 +1,5 @@
 -- They were taken out, and are set again with one more.
-use Rattle.std.proofs.Common.{◌≡◌, ℕ, List, [], ◌∷◌, ◌++◌, OnOk, ◌∙◌, subst}
-use Rattle.sim_base.specs.declared.command.PlayerCommand.{PlayerCommand}
-use Rattle.sim_plain.specs.Functions.{put}
-use Rattle.sim_client.specs.KnownWords.{known_in}
+use Rattle.sim_client.proofs.Common.{◌≡◌, ℕ, List, [], ◌∷◌, ◌++◌, OnOk, known_in, PlayerCommand, put, subst, ◌∙◌}
 use Rattle.sim_client.proofs.Knowing.{put_again}
 use Rattle.sim_client.proofs.known.Known.learn.Goals as goal
 
@@ -11,5 +8,6 @@ returns c =
     let t = c.args.turn in
     let old = known_in c.args.self.now in
     subst (λ (f : ℕ → List PlayerCommand). OnOk c.set.result (known_in c.set.new.self ≡ f))
-    ((λ i. put t (c.in_ok-push.ensures.ok i) (c.take-orders.ensures.others i)) ∙ put_again t (c.take-orders.result ++ c.args.order ∷ []) [] old ∙ (λ i. put t (c.take-orders.ensures.orders i ++ c.args.order ∷ []) old))
+    ((λ i. put t (c.in_ok-push.ensures.ok i) (c.take-orders.ensures.others i)) ∙ put_again t (c.take-orders.result ++ c.args.order ∷ []) [] old ∙
+    (λ i. put t (c.take-orders.ensures.orders i ++ c.args.order ∷ []) old))
     c.set.ensures

@@ -1,8 +1,6 @@
 -- What the first section says is what the rows say.
-use Rattle.std.proofs.Common.{subst}
-use Rattle.std.specs.Prelude.{◌↔◌, IsTrue}
-use Rattle.std.specs.List.Sorted.{IsStrictlyIncreasing}
-use Rattle.sim_codec.proofs.FirstSection.{entries_of, entries_fit, same_ids}
+use Rattle.sim_codec.proofs.Common.{◌↔◌, IsTrue, IsStrictlyIncreasing, subst}
+use Rattle.sim_codec.proofs.FirstSection.{entries_fit, entries_of, same_ids}
 use Rattle.sim_codec.proofs.stored.StoredRows.are_ascending.Goals as goal
 
 pub entities_in-entities-requires : goal.entities_in-entities-requires
@@ -10,5 +8,6 @@ entities_in-entities-requires c = entries_fit c.self.inside.templates.now c.self
 
 pub returns : goal.returns
 returns c =
-    let are = entries_of c.self.inside.templates.now c.self.inside.count c.self.inside.walk _ _ _ c.self.invariant c.bytes.ensures c.entities_in-entities.ensures c.self.view_is in
+    let are = entries_of c.self.inside.templates.now c.self.inside.count c.self.inside.walk _ _ _ c.self.invariant c.bytes.ensures
+    c.entities_in-entities.ensures c.self.view_is in
     subst (λ ids. IsTrue c.are_ascending.result ↔ IsStrictlyIncreasing ids) (same_ids _ _ _ are) c.are_ascending.ensures

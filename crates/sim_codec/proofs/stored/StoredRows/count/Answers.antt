@@ -1,9 +1,6 @@
 -- What the first section says is what the rows say.
-use Rattle.std.proofs.Common.{ap, length, ◌∙◌, arith}
-use Rattle.std.proofs.lemmas.List.Sums.{count_by-le-length}
-use Rattle.sim_codec.specs.Entities.{passes, template_in}
-use Rattle.sim_codec.proofs.TakenRows.{length_read}
-use Rattle.sim_codec.proofs.FirstSection.{entries_of, entries_fit, same_length, same_count}
+use Rattle.sim_codec.proofs.{FirstSection.entries_fit, FirstSection.entries_of, FirstSection.same_count, FirstSection.same_length, TakenRows.length_read}
+use Rattle.sim_codec.proofs.Common.{length, ap, arith, count_by-le-length, passes, template_in, ◌∙◌}
 use Rattle.sim_codec.proofs.stored.StoredRows.count.Goals as goal
 
 pub entities_in-entities-requires : goal.entities_in-entities-requires
@@ -11,7 +8,8 @@ entities_in-entities-requires g c = entries_fit c.self.inside.templates.now c.se
 
 pub overflow_cast-result : goal.overflow_cast-result
 overflow_cast-result g c =
-    let are = entries_of c.self.inside.templates.now c.self.inside.count c.self.inside.walk _ _ _ c.self.invariant c.bytes.ensures c.entities_in-entities.ensures c.self.view_is in
+    let are = entries_of c.self.inside.templates.now c.self.inside.count c.self.inside.walk _ _ _ c.self.invariant c.bytes.ensures
+    c.entities_in-entities.ensures c.self.view_is in
     omega (
       arith,
       c.count.ensures,
@@ -23,5 +21,6 @@ overflow_cast-result g c =
 
 pub returns : goal.returns
 returns g c =
-    let are = entries_of c.self.inside.templates.now c.self.inside.count c.self.inside.walk _ _ _ c.self.invariant c.bytes.ensures c.entities_in-entities.ensures c.self.view_is in
+    let are = entries_of c.self.inside.templates.now c.self.inside.count c.self.inside.walk _ _ _ c.self.invariant c.bytes.ensures
+    c.entities_in-entities.ensures c.self.view_is in
     c.count.ensures ∙ same_count g.R.RowForm.in_row g.R.PartForm.of_template g.met.R.PartForm.like_template _ _ _ are

@@ -1,7 +1,6 @@
 -- What the first section says is what the rows say.
-use Rattle.std.proofs.Common.{sym, subst, ◌∙◌}
-use Rattle.std.specs.List.Sorted.{IsStrictlyIncreasing}
-use Rattle.sim_codec.proofs.FirstSection.{entries_of, entries_fit, same_ids, same_lives}
+use Rattle.sim_codec.proofs.Common.{IsStrictlyIncreasing, subst, sym, ◌∙◌}
+use Rattle.sim_codec.proofs.FirstSection.{entries_fit, entries_of, same_ids, same_lives}
 use Rattle.sim_codec.proofs.stored.StoredRows.is_alive.Goals as goal
 
 pub entities_in-entities-requires : goal.entities_in-entities-requires
@@ -9,10 +8,12 @@ entities_in-entities-requires c = entries_fit c.self.inside.templates.now c.self
 
 pub is_living-requires : goal.is_living-requires
 is_living-requires c =
-    let are = entries_of c.self.inside.templates.now c.self.inside.count c.self.inside.walk _ _ _ c.self.invariant c.bytes.ensures c.entities_in-entities.ensures c.self.view_is in
+    let are = entries_of c.self.inside.templates.now c.self.inside.count c.self.inside.walk _ _ _ c.self.invariant c.bytes.ensures
+    c.entities_in-entities.ensures c.self.view_is in
     subst IsStrictlyIncreasing (sym (same_ids _ _ _ are)) c.requires
 
 pub returns : goal.returns
 returns c =
-    let are = entries_of c.self.inside.templates.now c.self.inside.count c.self.inside.walk _ _ _ c.self.invariant c.bytes.ensures c.entities_in-entities.ensures c.self.view_is in
+    let are = entries_of c.self.inside.templates.now c.self.inside.count c.self.inside.walk _ _ _ c.self.invariant c.bytes.ensures
+    c.entities_in-entities.ensures c.self.view_is in
     c.is_living.ensures ∙ same_lives _ c.args.id _ _ are

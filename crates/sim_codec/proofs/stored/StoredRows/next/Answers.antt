@@ -1,6 +1,6 @@
 -- The row that is taken stands in front of those that can still be taken.
-use Rattle.std.proofs.Common.{◌≡◌, ◌-◌, suc, sym, ◌∙◌, arith}
-use Rattle.sim_codec.proofs.TakenRows.{no_row_left, next_row, can_next, must_go_on}
+use Rattle.sim_codec.proofs.Common.{◌≡◌, suc, ◌-◌, arith, sym, ◌∙◌}
+use Rattle.sim_codec.proofs.TakenRows.{can_next, must_go_on, next_row, no_row_left}
 use Rattle.sim_codec.proofs.stored.StoredRows.next.Goals as goal
 
 pub returns-then-self-eq0 : goal.returns-then-self-eq0
@@ -14,7 +14,8 @@ invariant_of-self c =
 pub invariant_of-self-in-Ok : goal.invariant_of-self-in-Ok
 invariant_of-self-in-Ok c =
     let n : c.self.inside.count ≡ suc (c.self.inside.count - 1) = omega (arith, c.if-self-eq0.false) in
-    can_next c.self.inside.templates.now c.self.inside.count (c.self.inside.count - 1) c.self.inside.walk c.in-Ok.parts c.take_parts.new.walk n c.in-Ok.ensures c.self.invariant
+    can_next c.self.inside.templates.now c.self.inside.count (c.self.inside.count - 1) c.self.inside.walk c.in-Ok.parts c.take_parts.new.walk n c.in-Ok.ensures
+    c.self.invariant
 
 pub returns-in-Err : goal.returns-in-Err
 returns-in-Err c =
@@ -24,4 +25,5 @@ returns-in-Err c =
 pub returns-in-Ok : goal.returns-in-Ok
 returns-in-Ok c =
     let n : c.self.inside.count ≡ suc (c.self.inside.count - 1) = omega (arith, c.if-self-eq0.false) in
-    sym c.self.view_is ∙ next_row c.self.inside.templates.now c.self.inside.count (c.self.inside.count - 1) c.self.inside.walk c.in-Ok.parts c.take_parts.new.walk n c.in-Ok.ensures c.self.invariant
+    sym c.self.view_is ∙ next_row c.self.inside.templates.now c.self.inside.count (c.self.inside.count - 1) c.self.inside.walk c.in-Ok.parts
+    c.take_parts.new.walk n c.in-Ok.ensures c.self.invariant

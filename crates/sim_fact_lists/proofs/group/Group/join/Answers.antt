@@ -1,15 +1,16 @@
 -- There is room, so the id is put in its place, if it does not stand there.
-use Rattle.std.proofs.Common.{List, subst, ℕ, ◌∙◌}
-use Rattle.sim_fact_lists.specs.Ids.{IdStands, IdBelongs}
-use Rattle.sim_fact_lists.specs.Queues.{queued}
-use Rattle.sim_fact_lists.proofs.Ids.{rising, there_again, inserted_there, still_ascend}
+use Rattle.sim_fact_lists.proofs.Common.{ℕ, List, IdBelongs, IdStands, queued, subst, ◌∙◌}
+use Rattle.sim_fact_lists.proofs.Ids.{inserted_there, rising, still_ascend, there_again}
 use Rattle.sim_fact_lists.proofs.group.Group.join.Goals as goal
 
 pub invariant_of-self : goal.invariant_of-self
 invariant_of-self c =
     let xs = queued c.args.self.now.ids in
     let h = subst (λ (ids : List ℕ). IdBelongs ids c.args.id c.in-Err.at) c.as_slice.ensures c.in-Err.ensures in
-    record { ascend = still_ascend xs (queued c.insert.new.self) c.args.id c.args.self.now.ascend (c.insert.ensures ∙ inserted_there xs c.args.id c.in-Err.at h.within h.before h.behind) }
+    record {
+      ascend = still_ascend xs (queued c.insert.new.self) c.args.id c.args.self.now.ascend
+          (c.insert.ensures ∙ inserted_there xs c.args.id c.in-Err.at h.within h.before h.behind);
+    }
 
 pub returns-in-Err-clause-ids : goal.returns-in-Err-clause-ids
 returns-in-Err-clause-ids c =

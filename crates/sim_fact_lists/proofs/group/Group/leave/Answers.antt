@@ -1,15 +1,16 @@
 -- The id is taken out where it stands.
-use Rattle.std.proofs.Common.{List, subst, ℕ, ◌∙◌}
-use Rattle.sim_fact_lists.specs.Ids.{IdStands, IdBelongs}
-use Rattle.sim_fact_lists.specs.Queues.{queued}
-use Rattle.sim_fact_lists.proofs.Ids.{rising, removed_there, absent_there, fewer_ascend}
+use Rattle.sim_fact_lists.proofs.Common.{ℕ, List, IdBelongs, IdStands, queued, subst, ◌∙◌}
+use Rattle.sim_fact_lists.proofs.Ids.{absent_there, fewer_ascend, removed_there, rising}
 use Rattle.sim_fact_lists.proofs.group.Group.leave.Goals as goal
 
 pub invariant_of-self : goal.invariant_of-self
 invariant_of-self c =
     let xs = queued c.args.self.now.ids in
     let h = subst (λ (ids : List ℕ). IdStands ids c.args.id c.in-Ok.at) c.as_slice.ensures c.in-Ok.ensures in
-    record { ascend = fewer_ascend xs (queued c.remove.new.self) c.args.id c.args.self.now.ascend (c.remove.ensures.ids ∙ removed_there xs c.args.id c.in-Ok.at (rising xs c.args.self.now.ascend) h.within h.same) }
+    record {
+      ascend = fewer_ascend xs (queued c.remove.new.self) c.args.id c.args.self.now.ascend
+          (c.remove.ensures.ids ∙ removed_there xs c.args.id c.in-Ok.at (rising xs c.args.self.now.ascend) h.within h.same);
+    }
 
 pub returns-in-Ok-clause-ids : goal.returns-in-Ok-clause-ids
 returns-in-Ok-clause-ids c =

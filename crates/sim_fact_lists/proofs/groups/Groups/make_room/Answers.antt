@@ -1,8 +1,6 @@
 -- The group that stands there has the same ids as before, and a new one has none.
-use Rattle.std.proofs.Common.{ℕ, Bool, true, false, cond, List, ◌≡◌, refl, sym, subst, ap, ◌∙◌}
-use Rattle.std.specs.Prelude.{Result, Ok, Err, OnOk, ◌==◌}
-use Rattle.sim_fact_lists.specs.Groups.{listed, HasRoom}
-use Rattle.sim_fact_lists.proofs.Keyed.{changed_ascend, changed_listed, room_there, added_ascend, added_listed, added_room}
+use Rattle.sim_fact_lists.proofs.Common.{◌≡◌, ℕ, Bool, true, false, cond, List, OnOk, ◌==◌, Ok, Err, Result, refl, ap, HasRoom, listed, subst, sym, ◌∙◌}
+use Rattle.sim_fact_lists.proofs.Keyed.{added_ascend, added_listed, added_room, changed_ascend, changed_listed, room_there}
 use Rattle.sim_fact_lists.proofs.groups.Groups.make_room.Goals as goal
 
 on_ok : {V E : Type 0} (r : Result V E) (P Q : Type 0) → (P → Q) → OnOk r P → OnOk r Q
@@ -16,33 +14,41 @@ either false ids = refl
 pub invariant_of-self : goal.invariant_of-self
 invariant_of-self c =
     let s = c.args.self.now in
-    record { ascend = changed_ascend s.groups.items c.args.key c.in-Ok.at c.index_mut.result.now c.make_room.new.self (λ (ids : List ℕ). ids) s.ascend c.in-Ok.ensures c.index_mut.ensures.value c.make_room.ensures.key }
+    record {
+      ascend = changed_ascend s.groups.items c.args.key c.in-Ok.at c.index_mut.result.now c.make_room.new.self (λ (ids : List ℕ). ids) s.ascend
+          c.in-Ok.ensures c.index_mut.ensures.value c.make_room.ensures.key;
+    }
 
 pub invariant_of-self-in-Err : goal.invariant_of-self-in-Err
 invariant_of-self-in-Err c =
     let s = c.args.self.now in
     record {
-      ascend = added_ascend s.groups.items c.args.key c.in-Err.at c.make_room-in-Err.new.self c.in-Err.ensures (c.make_room-in-Err.ensures.key ∙ c.new-group.ensures.key) c.insert.result c.insert.new.self.items s.ascend c.insert.ensures.items;
+      ascend = added_ascend s.groups.items c.args.key c.in-Err.at c.make_room-in-Err.new.self c.in-Err.ensures (c.make_room-in-Err.ensures.key ∙
+          c.new-group.ensures.key) c.insert.result c.insert.new.self.items s.ascend c.insert.ensures.items;
     }
 
 pub returns-in-Ok-clause-same : goal.returns-in-Ok-clause-same
 returns-in-Ok-clause-same c k =
     let s = c.args.self.now in
-    changed_listed s.groups.items c.args.key c.in-Ok.at c.index_mut.result.now c.make_room.new.self (λ (ids : List ℕ). ids) s.ascend c.in-Ok.ensures c.index_mut.ensures.value c.make_room.ensures.key c.make_room.ensures.ids k
+    changed_listed s.groups.items c.args.key c.in-Ok.at c.index_mut.result.now c.make_room.new.self (λ (ids : List ℕ). ids) s.ascend c.in-Ok.ensures
+    c.index_mut.ensures.value c.make_room.ensures.key c.make_room.ensures.ids k
     ∙ either (c.args.key == k) (listed k s.groups.items)
 
 pub returns-in-Ok-clause-room : goal.returns-in-Ok-clause-room
 returns-in-Ok-clause-room c =
     let s = c.args.self.now in
-    on_ok c.make_room.result _ _ (room_there s.groups.items c.args.key c.in-Ok.at c.index_mut.result.now c.make_room.new.self (λ (ids : List ℕ). ids) s.ascend c.in-Ok.ensures c.index_mut.ensures.value c.make_room.ensures.key)
+    on_ok c.make_room.result _ _ (room_there s.groups.items c.args.key c.in-Ok.at c.index_mut.result.now c.make_room.new.self (λ (ids : List ℕ). ids) s.ascend
+    c.in-Ok.ensures c.index_mut.ensures.value c.make_room.ensures.key)
     c.make_room.ensures.room
 
 pub returns-in_ok-insert-in-Err-clause-same : goal.returns-in_ok-insert-in-Err-clause-same
 returns-in_ok-insert-in-Err-clause-same c k =
     ap (listed k) c.in_ok-insert-in-Err.ensures.items
-    ∙ added_listed c.args.self.now.groups.items c.args.key c.in-Err.at c.make_room-in-Err.new.self c.in-Err.ensures (c.make_room-in-Err.ensures.key ∙ c.new-group.ensures.key) (c.make_room-in-Err.ensures.ids ∙ c.new-group.ensures.ids) k
+    ∙ added_listed c.args.self.now.groups.items c.args.key c.in-Err.at c.make_room-in-Err.new.self c.in-Err.ensures (c.make_room-in-Err.ensures.key ∙
+    c.new-group.ensures.key) (c.make_room-in-Err.ensures.ids ∙ c.new-group.ensures.ids) k
 
 pub returns-in_ok-insert-in-Err-clause-room : goal.returns-in_ok-insert-in-Err-clause-room
 returns-in_ok-insert-in-Err-clause-room c =
     subst (HasRoom c.args.key) (sym c.in_ok-insert-in-Err.ensures.items)
-    (added_room c.args.self.now.groups.items c.args.key c.in-Err.at c.make_room-in-Err.new.self c.in-Err.ensures (c.make_room-in-Err.ensures.key ∙ c.new-group.ensures.key) c.in_ok-make_room-in-Err.ensures.room)
+    (added_room c.args.self.now.groups.items c.args.key c.in-Err.at c.make_room-in-Err.new.self c.in-Err.ensures (c.make_room-in-Err.ensures.key ∙
+    c.new-group.ensures.key) c.in_ok-make_room-in-Err.ensures.room)

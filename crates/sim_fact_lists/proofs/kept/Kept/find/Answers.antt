@@ -1,10 +1,6 @@
 -- What is held ascends, so that a fact is found where it stands.
-use Rattle.std.proofs.Common.{List, sym, subst, ap, ◌∙◌}
-use Rattle.sim_system.specs.declared.fact.Fact.{Fact}
-use Rattle.sim_system.specs.Notes.{fact_with}
-use Rattle.sim_fact_lists.specs.Places.{Ascend}
-use Rattle.sim_fact_lists.proofs.Holding.{held_ascend}
-use Rattle.sim_fact_lists.proofs.Standing.{found_read, not_there}
+use Rattle.sim_fact_lists.proofs.{Holding.held_ascend, Standing.found_read, Standing.not_there}
+use Rattle.sim_fact_lists.proofs.Common.{List, ap, Ascend, Fact, fact_with, subst, sym, ◌∙◌}
 use Rattle.sim_fact_lists.proofs.kept.Kept.find.Goals as goal
 
 pub place_near-requires : goal.place_near-requires
@@ -12,8 +8,10 @@ place_near-requires c = subst Ascend (sym c.as_slice-facts.ensures.value) (held_
 
 pub returns-in-Ok : goal.returns-in-Ok
 returns-in-Ok c =
-    found_read c.as_slice-facts.result.now c.args.id c.in-Ok.at _ (subst Ascend (sym c.as_slice-facts.ensures.value) (held_ascend _ _ c.args.self.now.held c.requires)) c.in-Ok.ensures c.index-facts-at.is
+    found_read c.as_slice-facts.result.now c.args.id c.in-Ok.at _
+    (subst Ascend (sym c.as_slice-facts.ensures.value) (held_ascend _ _ c.args.self.now.held c.requires)) c.in-Ok.ensures c.index-facts-at.is
     ∙ ap (λ (facts : List Fact). fact_with facts c.args.id) c.as_slice-facts.ensures.value
 
 pub returns-in-Err : goal.returns-in-Err
-returns-in-Err c = not_there c.as_slice-facts.result.now c.args.id c.in-Err.field-0 c.in-Err.ensures ∙ ap (λ (facts : List Fact). fact_with facts c.args.id) c.as_slice-facts.ensures.value
+returns-in-Err c = not_there c.as_slice-facts.result.now c.args.id c.in-Err.field-0 c.in-Err.ensures ∙ ap (λ (facts : List Fact). fact_with facts c.args.id)
+    c.as_slice-facts.ensures.value

@@ -1,6 +1,5 @@
 -- The facts are the same.
-use Rattle.std.proofs.Common.{sym, subst}
-use Rattle.sim_fact_lists.specs.Places.{HoldsIfAny}
+use Rattle.sim_fact_lists.proofs.Common.{HoldsIfAny, subst, sym}
 use Rattle.sim_fact_lists.proofs.kept.Kept.make_room.Goals as goal
 
 pub invariant_of-self : goal.invariant_of-self

@@ -1,7 +1,5 @@
 -- The first id leaves; another is taken out behind those that left.
-use Rattle.std.proofs.Common.{◌+◌, ap, ◌∙◌, sym, refl, arith, drop, length-drop}
-use Rattle.std.specs.List.{remove}
-use Rattle.sim_fact_lists.specs.Queues.{queued}
+use Rattle.sim_fact_lists.proofs.Common.{◌+◌, drop, remove, refl, ap, arith, length-drop, queued, sym, ◌∙◌}
 use Rattle.sim_fact_lists.proofs.Queuing.{first_leaves, removed_behind}
 use Rattle.sim_fact_lists.proofs.queue.Queue.remove.Goals as goal
 
@@ -13,4 +11,5 @@ returns-then-at-eq0-clause-ids c =
 pub returns-clause-ids : goal.returns-clause-ids
 returns-clause-ids c =
     let s = c.args.self.now in
-    ap (drop s.left) c.remove.ensures.items ∙ removed_behind s.left s.ids.items (s.left + c.args.at) c.args.at refl (omega (arith, length-drop s.left s.ids.items))
+    ap (drop s.left) c.remove.ensures.items ∙ removed_behind s.left s.ids.items (s.left + c.args.at) c.args.at refl
+    (omega (arith, length-drop s.left s.ids.items))

@@ -1,13 +1,10 @@
-use Rattle.std.proofs.Common.{◌≡◌, take}
-use Rattle.std.specs.Prelude.{count_by}
-use Rattle.sim_base.specs.Filters.{rect_covers}
-use Rattle.sim_system.specs.declared.fact.Fact.{Fact}
-use Rattle.sim_ground.specs.Layers.{LayersRise}
+use Rattle.sim_ground.proofs.Common.{◌≡◌, take, count_by, Fact, LayersRise, rect_covers}
 use Rattle.sim_ground.proofs.cover.Cover.build_all.Given as goal
 
 abbrev pub invariant-loop-fact : goal.invariant-loop-fact
 invariant-loop-fact l =
     record {
       size : l.self.grid.size ≡ l.initial.self.grid.size;
-      layers : LayersRise (λ c. count_by (λ (f : Fact). rect_covers f.rect c) (take l.fact-index l.facts)) l.initial.self.grid.size l.initial.self.layers.items l.self.layers.items;
+      layers : LayersRise (λ c. count_by (λ (f : Fact). rect_covers f.rect c) (take l.fact-index l.facts)) l.initial.self.grid.size l.initial.self.layers.items
+          l.self.layers.items;
     }

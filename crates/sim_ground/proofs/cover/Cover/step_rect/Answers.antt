@@ -1,12 +1,6 @@
 -- The cells between are those of the rectangle.
-use Rattle.std.proofs.Common.{arith, rules}
-use Rattle.std.proofs.lemmas.Int.{to_z-of_z}
-use mir.Syntax.{w32}
-use mir.Val.{SFits}
-use Rattle.sim_base.specs.Places.{covers}
-use Rattle.sim_ground.specs.Closing.{in_rows}
-use Rattle.sim_ground.proofs.Stretches.{rect_is}
-use Rattle.sim_ground.proofs.Layers.{may_where, changes_same}
+use Rattle.sim_ground.proofs.{Common.arith, Common.covers, Common.in_rows, Common.rules, Common.SFits, Common.to_z-of_z, Common.w32, Stretches.rect_is}
+use Rattle.sim_ground.proofs.Layers.{changes_same, may_where}
 use Rattle.sim_ground.proofs.cover.Cover.step_rect.Goals as goal
 
 pub step_rows-requires-clause-may : goal.step_rows-requires-clause-may
@@ -17,8 +11,10 @@ step_rows-requires-clause-may c =
     let east : SFits w32 c.args.rect.now.x1 = search rules in
     let rows = simp to_z-of_z at c.span-south.ensures.span in
     let cells = simp to_z-of_z at c.span-west.ensures.span in
-    may_where c.args.more c.args.self.now.grid.size (in_rows c.span-south.result.0 c.span-south.result.1 c.span-west.result.0 c.span-west.result.1) (covers c.args.rect.now) c.args.self.now.layers.items
-    (rect_is c.args.self.now.grid.size c.args.rect.now c.span-south.result.0 c.span-south.result.1 c.span-west.result.0 c.span-west.result.1 (λ n lt. rows n (omega (arith, lt, c.depth.ensures.depth))) (λ n lt. cells n (omega (arith, lt, c.width.ensures.width))))
+    may_where c.args.more c.args.self.now.grid.size (in_rows c.span-south.result.0 c.span-south.result.1 c.span-west.result.0 c.span-west.result.1)
+    (covers c.args.rect.now) c.args.self.now.layers.items
+    (rect_is c.args.self.now.grid.size c.args.rect.now c.span-south.result.0 c.span-south.result.1 c.span-west.result.0 c.span-west.result.1
+    (λ n lt. rows n (omega (arith, lt, c.depth.ensures.depth))) (λ n lt. cells n (omega (arith, lt, c.width.ensures.width))))
     c.requires
 
 pub returns-clause-layers : goal.returns-clause-layers
@@ -29,6 +25,8 @@ returns-clause-layers c =
     let east : SFits w32 c.args.rect.now.x1 = search rules in
     let rows = simp to_z-of_z at c.span-south.ensures.span in
     let cells = simp to_z-of_z at c.span-west.ensures.span in
-    changes_same c.args.more c.args.self.now.grid.size (in_rows c.span-south.result.0 c.span-south.result.1 c.span-west.result.0 c.span-west.result.1) (covers c.args.rect.now) c.args.self.now.layers.items c.step_rows.new.self.layers.items
-    (rect_is c.args.self.now.grid.size c.args.rect.now c.span-south.result.0 c.span-south.result.1 c.span-west.result.0 c.span-west.result.1 (λ n lt. rows n (omega (arith, lt, c.depth.ensures.depth))) (λ n lt. cells n (omega (arith, lt, c.width.ensures.width))))
+    changes_same c.args.more c.args.self.now.grid.size (in_rows c.span-south.result.0 c.span-south.result.1 c.span-west.result.0 c.span-west.result.1)
+    (covers c.args.rect.now) c.args.self.now.layers.items c.step_rows.new.self.layers.items
+    (rect_is c.args.self.now.grid.size c.args.rect.now c.span-south.result.0 c.span-south.result.1 c.span-west.result.0 c.span-west.result.1
+    (λ n lt. rows n (omega (arith, lt, c.depth.ensures.depth))) (λ n lt. cells n (omega (arith, lt, c.width.ensures.width))))
     c.step_rows.ensures.layers

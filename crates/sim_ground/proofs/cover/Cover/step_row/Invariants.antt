@@ -1,6 +1,4 @@
-use Rattle.std.proofs.Common.{◌≡◌, ◌≤◌, false}
-use Rattle.sim_ground.specs.Closing.{in_row}
-use Rattle.sim_ground.specs.Layers.{LayersChange}
+use Rattle.sim_ground.proofs.Common.{◌≡◌, ◌≤◌, false, in_row, LayersChange}
 use Rattle.sim_ground.proofs.cover.Cover.step_row.Given as goal
 
 abbrev pub invariant-loop-x : goal.invariant-loop-x

@@ -1,6 +1,4 @@
-use Rattle.std.proofs.Common.{◌≡◌, ◌≤◌, false}
-use Rattle.sim_ground.specs.Closing.{in_rows}
-use Rattle.sim_ground.specs.Layers.{LayersChange}
+use Rattle.sim_ground.proofs.Common.{◌≡◌, ◌≤◌, false, in_rows, LayersChange}
 use Rattle.sim_ground.proofs.cover.Cover.step_rows.Given as goal
 
 abbrev pub invariant-loop-z : goal.invariant-loop-z

@@ -1,10 +1,10 @@
 -- Where no obstruction comes or goes, the facts are the same.
-use Rattle.std.proofs.Common.{sym, ◌∙◌}
-use Rattle.sim_ground.proofs.Built.{still_kept_on}
+use Rattle.sim_ground.proofs.{Built.still_kept_on, Common.sym, Common.◌∙◌}
 use Rattle.sim_ground.proofs.system.GroundSystem.on.Goals as goal
 
 pub invariant_of-self : goal.invariant_of-self
 invariant_of-self c = record {
-  over = still_kept_on c.on.result c.args.self.now.kept.land c.on.new.self.land c.args.self.now.kept.facts.items c.on.new.self.facts.items c.args.self.now.opened c.args.note.now c.requires (sym c.builds_of.ensures ∙ c.if-builds_of.false)
+  over = still_kept_on c.on.result c.args.self.now.kept.land c.on.new.self.land c.args.self.now.kept.facts.items c.on.new.self.facts.items
+      c.args.self.now.opened c.args.note.now c.requires (sym c.builds_of.ensures ∙ c.if-builds_of.false)
       c.on.ensures.facts c.on.ensures.same c.on.ensures.land c.args.self.now.over;
 }

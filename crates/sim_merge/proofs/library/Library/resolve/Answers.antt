@@ -1,6 +1,4 @@
-use Rattle.std.proofs.Common.{◌≡◌, List, ℕ, Option, sym, ◌∙◌, subst}
-use Rattle.sim_merge.specs.Resolution.{origins_of, parents_in}
-use Rattle.sim_merge.specs.Keeping.{AreWithin}
+use Rattle.sim_merge.proofs.Common.{◌≡◌, ℕ, List, Option, AreWithin, origins_of, parents_in, subst, sym, ◌∙◌}
 use Rattle.sim_merge.proofs.KeepingLemmas.{AreWithin-parents_in}
 use Rattle.sim_merge.proofs.library.Library.resolve.Goals as goal
 

@@ -1,7 +1,4 @@
-use Rattle.std.proofs.Common.{◌<◌, length, map, arith, ap, sym, ◌∙◌}
-use Rattle.std.proofs.lemmas.List.{length-map, get_or-map}
-use Rattle.sim_tree.specs.Trees.{node_of}
-use Rattle.sim_merge.specs.Libraries.{Holding, is_resolved}
+use Rattle.sim_merge.proofs.Common.{◌<◌, map, length, ap, arith, get_or-map, Holding, is_resolved, length-map, node_of, sym, ◌∙◌}
 use Rattle.sim_merge.proofs.ListLemmas.{list_all-get_or}
 use Rattle.sim_merge.proofs.library.Library.tree.Goals as goal
 

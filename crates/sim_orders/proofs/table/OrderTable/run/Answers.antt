@@ -1,6 +1,5 @@
 -- Each kind stands once in the table.
-use Rattle.std.proofs.Common.{◌≡◌, sym, ◌∙◌}
-use Rattle.sim_orders.specs.Orders.{kind_of}
+use Rattle.sim_orders.proofs.Common.{◌≡◌, kind_of, sym, ◌∙◌}
 use Rattle.sim_orders.proofs.table.OrderTable.run.Goals as goal
 
 pub loop-rest-init : goal.loop-rest-init

@@ -1,5 +1,4 @@
-use Rattle.std.proofs.Common.{◌≡◌, ◌==◌, count_by, length}
-use Rattle.sim_orders.specs.Orders.{kind_of}
+use Rattle.sim_orders.proofs.Common.{◌≡◌, length, ◌==◌, count_by, kind_of}
 use Rattle.sim_orders.proofs.table.OrderTable.run.Given as goal
 
 abbrev pub invariant-loop-rest : goal.invariant-loop-rest

@@ -1,5 +1,4 @@
-use Rattle.std.proofs.lemmas.Result.{IfOk-from_err}
-use Rattle.sim_laws.proofs.WayInside.{inside-on_ground}
+use Rattle.sim_path.proofs.Common.{IfOk-from_err, inside-on_ground}
 use Rattle.sim_path.proofs.answer.Searcher.find.Goals as goal
 
 pub straight_to-requires-clause-ends : goal.straight_to-requires-clause-ends

@@ -1,11 +1,4 @@
-use Rattle.std.proofs.Common.{sym, ◌∙◌, subst}
-use Rattle.std.proofs.lemmas.Result.{IfOk-from_err}
-use Rattle.sim_base.specs.declared.place.Cell.{Cell}
-use Rattle.sim_grid.specs.Grids.{field_of_grid}
-use Rattle.sim_search.specs.declared.aim.Aim.{Aim}
-use Rattle.sim_search.specs.Estimates.{estimate_to}
-use Rattle.sim_search.specs.Comes.{IsSearched}
-use Rattle.sim_search.specs.Tables.{cost_in}
+use Rattle.sim_path.proofs.Common.{Aim, Cell, cost_in, estimate_to, field_of_grid, IfOk-from_err, IsSearched, subst, sym, ◌∙◌}
 use Rattle.sim_path.proofs.answer.Searcher.finish.Goals as goal
 
 pub way_end-end-requires-clause-costs : goal.way_end-end-requires-clause-costs

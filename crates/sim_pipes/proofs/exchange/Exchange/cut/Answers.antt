@@ -1,10 +1,5 @@
 -- Both pipes are emptied, and the server sees the cut.
-use Rattle.std.proofs.Common.{sym, subst}
-use Rattle.sim_plain.specs.Messages.{Cut}
-use Rattle.sim_server.specs.Silence.{IsSilent}
-use Rattle.sim_server.specs.Standing.{server_of}
-use Rattle.sim_pipes.specs.Exchanges.{Held, Conveys}
-use Rattle.sim_pipes.proofs.Conveying.{cut_off}
+use Rattle.sim_pipes.proofs.{Common.Conveys, Common.Cut, Common.Held, Common.IsSilent, Common.server_of, Common.subst, Common.sym, Conveying.cut_off}
 use Rattle.sim_pipes.proofs.Frames.{on_ok}
 use Rattle.sim_pipes.proofs.exchange.Exchange.cut.Goals as goal
 
@@ -13,7 +8,8 @@ returns-clause-stands c = λ setup s conv.
     let client = rw (← c.self.view_is) at c.requires in
     let held : Held = record { ups = c.self.inside.ups.items; downs = c.self.inside.downs.items; server = c.self.inside.server } in
     on_ok c.see_cut.result c.see_cut.ensures.heard
-    (cut_off setup held s c.args.client c.clear.new.self c.clear-2.new.self c.see_cut.new.server c.see_cut.new.downs.items (subst (λ v. Conveys setup v s) (sym c.self.view_is) conv)
+    (cut_off setup held s c.args.client c.clear.new.self c.clear-2.new.self c.see_cut.new.server c.see_cut.new.downs.items
+    (subst (λ v. Conveys setup v s) (sym c.self.view_is) conv)
     c.self.invariant.ups c.self.invariant.downs client.1 c.clear.ensures c.clear-2.ensures c.see_cut.ensures.rules)
 
 pub returns-clause-silent : goal.returns-clause-silent

@@ -1,7 +1,5 @@
 -- There are two pipes for each number, and nothing is kept.
-use Rattle.std.proofs.Common.{suc, ◌∙◌, sym, ap, subst}
-use Rattle.sim_plain.specs.declared.rules.Rules.{Rules}
-use Rattle.sim_server.specs.Small.{IsSmallServer}
+use Rattle.sim_pipes.proofs.Common.{suc, ap, IsSmallServer, Rules, subst, sym, ◌∙◌}
 use Rattle.sim_pipes.proofs.exchange.Exchange.new.Goals as goal
 
 pub invariant_of-result : goal.invariant_of-result

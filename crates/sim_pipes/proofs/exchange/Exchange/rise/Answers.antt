@@ -1,13 +1,6 @@
 -- The first message is heard.
-use Rattle.std.proofs.Common.{◌≡◌, ◌<◌, ◌∷◌, [], ◌∙◌, length, sym, ap, subst, arith}
-use Rattle.std.proofs.lemmas.List.{get_or_default}
-use Rattle.sim_plain.specs.Messages.{Heard}
-use Rattle.sim_server.specs.Silence.{IsSilent}
-use Rattle.sim_server.specs.Standing.{server_of}
-use Rattle.sim_wire.specs.Fits.{IsUpFrame}
-use Rattle.sim_pipes.specs.Exchanges.{Held, Conveys}
-use Rattle.sim_pipes.specs.Pipes.{pipe_in}
-use Rattle.sim_pipes.proofs.Conveying.{risen}
+use Rattle.{sim_pipes.proofs.Conveying.risen, std.proofs.lemmas.List.get_or_default}
+use Rattle.sim_pipes.proofs.Common.{◌≡◌, ◌<◌, [], ◌∷◌, length, ap, arith, Conveys, Heard, Held, IsSilent, IsUpFrame, pipe_in, server_of, subst, sym, ◌∙◌}
 use Rattle.sim_pipes.proofs.exchange.Exchange.rise.Goals as goal
 
 pub returns-clause-stands : goal.returns-clause-stands
@@ -17,7 +10,8 @@ returns-clause-stands c = λ setup s conv.
     let within : c.args.client < length c.self.inside.ups.items = omega (arith, c.self.invariant.ups, client.1) in
     risen setup held s c.args.client c.as_slice.result.now c.take.new.self c.hear.new.server c.hear.new.downs.items c.hear.result
     (subst (λ v. Conveys setup v s) (sym c.self.view_is) conv) c.self.invariant.ups client.0 client.1
-    (get_or_default c.self.inside.ups.items c.args.client [] c.index_mut.result.now within ∙ sym c.index_mut.ensures.value ∙ c.in-Some.ensures ∙ ap (λ f. f ∷ c.take.new.self) (sym c.as_slice.ensures))
+    (get_or_default c.self.inside.ups.items c.args.client [] c.index_mut.result.now within ∙ sym c.index_mut.ensures.value ∙ c.in-Some.ensures ∙
+    ap (λ f. f ∷ c.take.new.self) (sym c.as_slice.ensures))
     c.hear.ensures.rules c.hear.ensures.heard
 
 pub returns-clause-light : goal.returns-clause-light
@@ -26,7 +20,8 @@ returns-clause-light c = λ frame rest message first is light silent.
     let held : Held = record { ups = c.self.inside.ups.items; downs = c.self.inside.downs.items; server = c.self.inside.server } in
     let within : c.args.client < length c.self.inside.ups.items = omega (arith, c.self.invariant.ups, client.1) in
     let here : pipe_in held.ups c.args.client ≡ c.as_slice.result.now ∷ c.take.new.self =
-    get_or_default c.self.inside.ups.items c.args.client [] c.index_mut.result.now within ∙ sym c.index_mut.ensures.value ∙ c.in-Some.ensures ∙ ap (λ f. f ∷ c.take.new.self) (sym c.as_slice.ensures) in
+    get_or_default c.self.inside.ups.items c.args.client [] c.index_mut.result.now within ∙ sym c.index_mut.ensures.value ∙ c.in-Some.ensures ∙
+    ap (λ f. f ∷ c.take.new.self) (sym c.as_slice.ensures) in
     let there : pipe_in held.ups c.args.client ≡ frame ∷ rest = ap (λ (v : Held). pipe_in v.ups c.args.client) c.self.view_is ∙ first in
     let same : c.as_slice.result.now ≡ frame = cc in
     c.hear.ensures.light message (subst (λ f. IsUpFrame f message) (sym same) is) light

@@ -1,19 +1,8 @@
 -- The first state has its line, and one paid turn more is played and has its line.
-use Rattle.std.proofs.Common.{◌≡◌, ℕ, suc, ◌+◌, ◌++◌, refl, ap, ◌∙◌, sym, subst, arith, string_bytes}
-use Rattle.std.specs.Prelude.{codes}
-use Rattle.sim_base.specs.declared.setup.Setup.{Setup}
-use Rattle.sim_base.specs.declared.state.State.{State}
-use Rattle.sim_base.specs.Spelling.{digest}
-use Rattle.sim_base.specs.Turn.{orders_at}
-use Rattle.sim_base.specs.Validity.{IsValid}
-use Rattle.sim_report.specs.Lines.{turn_line}
-use Rattle.sim_system.specs.RigWords.{systems_by}
-use Rattle.sim_board.specs.BoardWords.{setup_in, state_in, rig_in}
+use Rattle.sim_play.proofs.Common.{paid_lines, paid_turn, rig_in, Setup, setup_in, State, state_in, subst, sym, systems_by, turn_line, ◌∙◌}
+use Rattle.sim_play.proofs.Common.{◌≡◌, ℕ, suc, ◌+◌, ◌++◌, string_bytes, codes, refl, ap, arith, books_after, books_of, digest, IsEconomy, IsValid, orders_at}
+use Rattle.sim_play.proofs.PaidOnes.{books_more, books_state, books_turn, first_line, kept_so_far, paid_lines_more}
 use Rattle.sim_play.proofs.Playing.{kept_on}
-use Rattle.sim_stock.specs.Economies.{IsEconomy}
-use Rattle.sim_stock.specs.PaidTurns.{books_of, books_after, paid_turn}
-use Rattle.sim_play.specs.Paid.{paid_lines}
-use Rattle.sim_play.proofs.PaidOnes.{kept_so_far, books_state, books_turn, books_more, paid_lines_more, first_line}
 use Rattle.sim_play.proofs.market.Market.push_turns.Goals as goal
 
 pub loop-turn-init : goal.loop-turn-init
@@ -31,7 +20,8 @@ loop-turn-init g c =
     record {
       books = books;
       total_is = omega (arith, c.requires.economy.start.sum);
-      text = first_line setup economy old (string_bytes c.push_line.new.out) (digest setup start) written (ap (digest setup) (books_state setup economy start economy.start 0 books));
+      text = first_line setup economy old (string_bytes c.push_line.new.out) (digest setup start) written
+          (ap (digest setup) (books_state setup economy start economy.start 0 books));
       valid = c.requires.valid;
       same = refl;
       whole = c.requires.whole;
@@ -51,7 +41,8 @@ play_turn-requires-clause-below g c =
 
 pub play_turn-requires-clause-number : goal.play_turn-requires-clause-number
 play_turn-requires-clause-number g c =
-    let at = books_turn (setup_in c.args.board.now) c.args.self.now.economy.now (state_in c.loop-turn.board) c.loop-turn.stocks c.loop-turn.turn c.loop-turn.invariant.books in
+    let at = books_turn (setup_in c.args.board.now) c.args.self.now.economy.now (state_in c.loop-turn.board) c.loop-turn.stocks c.loop-turn.turn
+    c.loop-turn.invariant.books in
     omega (arith, at)
 
 pub play_turn-requires-clause-economy : goal.play_turn-requires-clause-economy
@@ -84,7 +75,8 @@ loop-turn-preserved g c =
     c.in_ok-push_line-2.ensures ∙ ap (λ (s : Setup). text ++ turn_line (codes "turn") shown.turn (digest s shown)) c.setup-setup.ensures
     ∙ ap (λ (s : State). text ++ turn_line (codes "turn") s.turn (digest setup s)) c.scene-in-loop-turn.ensures.state
     ∙ ap (λ (k : ℕ). text ++ turn_line (codes "turn") k (digest setup new)) (books_turn setup economy new have (suc t) books) in
-    let line = paid_lines_more setup economy (suc t) (string_bytes c.args.out.now) text (string_bytes c.push_line-in-loop-turn.new.out) (digest setup new) i.text written
+    let line = paid_lines_more setup economy (suc t) (string_bytes c.args.out.now) text (string_bytes c.push_line-in-loop-turn.new.out) (digest setup new)
+    i.text written
     (ap (digest setup) (books_state setup economy new have (suc t) books)) in
     record {
       books = books ∙ ap (books_after setup economy) (sym number);

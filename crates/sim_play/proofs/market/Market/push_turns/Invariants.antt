@@ -1,11 +1,6 @@
 -- The books are those of the paid turns so far, and there is a line for each.
-use Rattle.std.proofs.Common.{◌≡◌, suc, ◌+◌, ◌*◌, ◌++◌, ◌≤◌, string_bytes}
-use Rattle.sim_base.specs.Validity.{IsValid}
-use Rattle.sim_system.specs.RigWords.{systems_by}
-use Rattle.sim_board.specs.BoardWords.{setup_in, state_in, rig_in, IsWholeBy, AreKept}
-use Rattle.sim_stock.specs.PaidTurns.{books_of, books_after}
-use Rattle.sim_stock.specs.Stocks.{total}
-use Rattle.sim_play.specs.Paid.{paid_lines}
+use Rattle.sim_play.proofs.Common.{setup_in, state_in, systems_by, total}
+use Rattle.sim_play.proofs.Common.{◌≡◌, suc, ◌+◌, ◌*◌, ◌≤◌, ◌++◌, string_bytes, AreKept, books_after, books_of, IsValid, IsWholeBy, paid_lines, rig_in}
 use Rattle.sim_play.proofs.market.Market.push_turns.Given as goal
 
 abbrev pub invariant-loop-turn : goal.invariant-loop-turn
@@ -17,5 +12,6 @@ invariant-loop-turn g l =
       valid : IsValid (setup_in l.fn.board) (state_in l.board);
       same : setup_in l.board ≡ setup_in l.fn.board;
       whole : IsWholeBy l.board (λ i v. (goal.System-dyn g (i, v)).meaning v);
-      kept : AreKept (systems_by (rig_in l.fn.board) (λ i v. (goal.System-dyn g (i, v)).meaning v)) (systems_by (rig_in l.board) (λ i v. (goal.System-dyn g (i, v)).meaning v));
+      kept : AreKept (systems_by (rig_in l.fn.board) (λ i v. (goal.System-dyn g (i, v)).meaning v))
+          (systems_by (rig_in l.board) (λ i v. (goal.System-dyn g (i, v)).meaning v));
     }

@@ -1,13 +1,6 @@
 -- The board was started, and its turns are those of the match.
-use Rattle.std.proofs.Common.{◌≡◌, suc, ◌++◌, string_bytes, sym, ap, ◌∙◌, subst}
-use Rattle.std.specs.Prelude.{OnOk}
-use Rattle.sim_base.specs.declared.setup.Setup.{Setup}
-use Rattle.sim_base.specs.Turn.{first_state}
-use Rattle.sim_board.specs.BoardWords.{setup_in, state_in}
-use Rattle.sim_play.proofs.Starting.{started_valid}
-use Rattle.sim_stock.specs.Economies.{IsEconomy}
-use Rattle.sim_play.specs.Paid.{paid_lines}
-use Rattle.sim_play.proofs.PaidOnes.{ended_stocks, ended_state}
+use Rattle.sim_play.proofs.{PaidOnes.ended_state, PaidOnes.ended_stocks, Starting.started_valid}
+use Rattle.sim_play.proofs.Common.{◌≡◌, suc, ◌++◌, OnOk, string_bytes, ap, first_state, IsEconomy, paid_lines, Setup, setup_in, state_in, subst, sym, ◌∙◌}
 use Rattle.sim_play.proofs.market.Market.start_lines.Goals as goal
 
 pub push_turns-requires-clause-valid : goal.push_turns-requires-clause-valid
@@ -21,15 +14,18 @@ push_turns-requires-clause-economy g c = subst (λ (s : Setup). IsEconomy s c.ar
 
 pub returns-clause-stocks : goal.returns-clause-stocks
 returns-clause-stocks g c =
-    ended_stocks c.push_turns.result (setup_in c.args.board.now) (setup_in c.start.new.self) c.args.self.now.economy.now (state_in c.push_turns.new.board) c.in_ok-start.ensures.setup
+    ended_stocks c.push_turns.result (setup_in c.args.board.now) (setup_in c.start.new.self) c.args.self.now.economy.now (state_in c.push_turns.new.board)
+    c.in_ok-start.ensures.setup
     c.push_turns.ensures.books
 
 pub returns-clause-state : goal.returns-clause-state
 returns-clause-state g c =
-    ended_state c.push_turns.result (setup_in c.args.board.now) (setup_in c.start.new.self) c.args.self.now.economy.now (state_in c.push_turns.new.board) c.in_ok-start.ensures.setup
+    ended_state c.push_turns.result (setup_in c.args.board.now) (setup_in c.start.new.self) c.args.self.now.economy.now (state_in c.push_turns.new.board)
+    c.in_ok-start.ensures.setup
     c.push_turns.ensures.books
 
 pub returns-clause-text : goal.returns-clause-text
 returns-clause-text g c =
-    subst (λ (s : Setup). OnOk c.push_turns.result (string_bytes c.push_turns.new.out ≡ string_bytes c.args.out.now ++ paid_lines s c.args.self.now.economy.now (suc s.turns)))
+    subst (λ (s : Setup). OnOk c.push_turns.result (string_bytes c.push_turns.new.out ≡ string_bytes c.args.out.now ++ paid_lines s c.args.self.now.economy.now
+    (suc s.turns)))
     c.in_ok-start.ensures.setup c.push_turns.ensures.text

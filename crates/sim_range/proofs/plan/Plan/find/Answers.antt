@@ -1,18 +1,10 @@
 -- Those of one bucket more, or nobody where the bucket is out of reach or a move is seen from all of it.
-use Rattle.std.proofs.Common.{◌≡◌, ℕ, ◌*◌, ◌<◌, ◌≤◌, ◌++◌, List, sym, ap, ◌∙◌, subst, arith, IsPermutation, inl, inr}
-use Rattle.std.specs.Prelude.{◌==◌}
-use Rattle.std.proofs.lemmas.List.Sorted.{list_any-IsPermutation}
-use Rattle.sim_system.specs.declared.fact.Fact.{Fact}
-use Rattle.sim_range.specs.declared.bucket.Bucket.{Bucket}
-use Rattle.sim_range.specs.declared.plan.Plan.{Plan}
-use Rattle.sim_range.specs.Buckets.{held_in}
-use Rattle.sim_range.specs.Nearness.{below_bucket}
-use Rattle.sim_range.specs.Sights.{is_seen, sees, differ, turned_watchers, turned_seen}
-use Rattle.sim_range.proofs.Nearing.{more_chosen, start_chosen, all_below, lent_held, nothing_more, bucket_held}
-use Rattle.sim_range.proofs.Seeing.{agree_elsewhere}
-use Rattle.sim_range.proofs.Planning.{no_watchers, none_in_view, pass_watchers, pass_view}
-use Rattle.sim_range.proofs.Between.{none_turned, none_in_sight}
-use Rattle.sim_range.proofs.plan.Plan.find.Goals.{then-is_concerned+in_ok-push, else-is_concerned}
+use Rattle.sim_range.proofs.{Seeing.agree_elsewhere, plan.Plan.find.Goals.else-is_concerned, plan.Plan.find.Goals.then-is_concerned+in_ok-push}
+use Rattle.sim_range.proofs.Between.{none_in_sight, none_turned}
+use Rattle.sim_range.proofs.Common.{is_seen, list_any-IsPermutation, Plan, sees, subst, sym, turned_seen, turned_watchers, ◌∙◌}
+use Rattle.sim_range.proofs.Common.{◌≡◌, ℕ, ◌*◌, ◌<◌, ◌≤◌, List, ◌++◌, ◌==◌, IsPermutation, ap, arith, below_bucket, Bucket, differ, Fact, held_in, inl, inr}
+use Rattle.sim_range.proofs.Nearing.{all_below, bucket_held, lent_held, more_chosen, nothing_more, start_chosen}
+use Rattle.sim_range.proofs.Planning.{no_watchers, none_in_view, pass_view, pass_watchers}
 use Rattle.sim_range.proofs.plan.Plan.find.Goals as goal
 
 pub loop-number-init : goal.loop-number-init
@@ -26,15 +18,19 @@ loop-number-init c =
     let old_out = λ (k : ℕ) (low : 0 ≤ k) (lt : k < first). area.before k (λ rows columns. absurd (omega (arith, rows.0, lt))) in
     let new_out = λ (k : ℕ) (low : 0 ≤ k) (lt : k < first). area.after k (λ rows columns. absurd (omega (arith, rows.0, lt))) in
     record {
-      watchers = subst (λ (xs : List ℕ). IsPermutation xs c.clear.new.self.items) (sym (pass_watchers land c.args.visions.now.far before after facts c.requires.placed c.requires.far 0 first (omega arith) old_out new_out))
+      watchers = subst (λ (xs : List ℕ). IsPermutation xs c.clear.new.self.items)
+          (sym (pass_watchers land c.args.visions.now.far before after facts c.requires.placed c.requires.far 0 first (omega arith) old_out new_out))
           (start_chosen (λ (f : Fact). differ (is_seen land f before) (is_seen land f after)) facts c.clear.new.self.items c.clear.ensures.items);
-      seen = subst (λ (xs : List ℕ). IsPermutation xs c.clear-2.new.self.items) (sym (pass_view land c.args.visions.now.far before after facts c.requires.placed c.requires.far 0 first (omega arith) old_out new_out c.requires.before_far c.requires.after_far))
+      seen = subst (λ (xs : List ℕ). IsPermutation xs c.clear-2.new.self.items)
+          (sym (pass_view land c.args.visions.now.far before after facts c.requires.placed c.requires.far 0 first (omega arith) old_out new_out
+          c.requires.before_far c.requires.after_far))
           (start_chosen (λ (f : Fact). differ (sees land before f) (sees land after f)) facts c.clear-2.new.self.items c.clear-2.ensures.items);
     }
 
 pub push-requires-clause-held : goal.push-requires-clause-held
 push-requires-clause-held c =
-    bucket_held c.args.land.now c.args.facts.now c.loop-number.number c.args.buckets.now c.index-buckets-number.result _ c.requires.holds c.requires.bucketed (grind arith) c.index-buckets-number.is (c.as_slice.ensures.value ∙ ap (λ (b : Bucket). b.facts.items) (sym c.index-buckets-number.is))
+    bucket_held c.args.land.now c.args.facts.now c.loop-number.number c.args.buckets.now c.index-buckets-number.result _ c.requires.holds c.requires.bucketed
+    (grind arith) c.index-buckets-number.is (c.as_slice.ensures.value ∙ ap (λ (b : Bucket). b.facts.items) (sym c.index-buckets-number.is))
 
 pub loop-number-preserved : goal.loop-number-preserved
 loop-number-preserved c =
@@ -48,11 +44,14 @@ loop-number-preserved c =
     let views = λ (f : Fact). differ (sees land before f) (sees land after f) in
     elim c.if-is_concerned.branch [
       | then-is_concerned+in_ok-push w ↦
-          (let here = lent_held facts k c.args.buckets.now w.index-buckets-number.result _ c.requires.bucketed (grind arith) w.index-buckets-number.is (w.as_slice.ensures.value ∙ ap (λ (b : Bucket). b.facts.items) (sym w.index-buckets-number.is)) in
+          (let here = lent_held facts k c.args.buckets.now w.index-buckets-number.result _ c.requires.bucketed (grind arith) w.index-buckets-number.is
+          (w.as_slice.ensures.value ∙ ap (λ (b : Bucket). b.facts.items) (sym w.index-buckets-number.is)) in
           record {
             watchers = more_chosen changes k facts c.loop-number.self.watchers.items _ kept.watchers
-                (ap (λ (p : Plan). p.watchers.items) w.self-is ∙ w.in_ok-push.ensures.watchers ∙ ap (λ (fs : List Fact). c.loop-number.self.watchers.items ++ turned_watchers land before after fs) here);
-            seen = more_chosen views k facts c.loop-number.self.seen.items _ kept.seen (ap (λ (p : Plan). p.seen.items) w.self-is ∙ w.in_ok-push.ensures.seen ∙ ap (λ (fs : List Fact). c.loop-number.self.seen.items ++ turned_seen land before after fs) here);
+                (ap (λ (p : Plan). p.watchers.items) w.self-is ∙ w.in_ok-push.ensures.watchers ∙
+                ap (λ (fs : List Fact). c.loop-number.self.watchers.items ++ turned_watchers land before after fs) here);
+            seen = more_chosen views k facts c.loop-number.self.seen.items _ kept.seen (ap (λ (p : Plan). p.seen.items) w.self-is ∙ w.in_ok-push.ensures.seen ∙
+                ap (λ (fs : List Fact). c.loop-number.self.seen.items ++ turned_seen land before after fs) here);
           })
       | else-is_concerned w ↦ elim (c.is_concerned.ensures w.if-is_concerned.false) [
         | inl out ↦
@@ -60,17 +59,24 @@ loop-number-preserved c =
             let new_out = c.area_of-area.ensures.after k (λ rows columns. out columns) in
             record {
               watchers = more_chosen changes k facts c.loop-number.self.watchers.items _ kept.watchers
-                  (ap (λ (p : Plan). p.watchers.items) w.self-is ∙ nothing_more c.loop-number.self.watchers.items (turned_watchers land before after (held_in k facts)) (no_watchers land c.args.visions.now.far k before after facts c.requires.placed c.requires.far old_out new_out));
+                  (ap (λ (p : Plan). p.watchers.items) w.self-is ∙ nothing_more c.loop-number.self.watchers.items
+                  (turned_watchers land before after (held_in k facts)) (no_watchers land c.args.visions.now.far k before after facts c.requires.placed
+                  c.requires.far old_out new_out));
               seen = more_chosen views k facts c.loop-number.self.seen.items _ kept.seen
                   (ap (λ (p : Plan). p.seen.items) w.self-is
-                  ∙ nothing_more c.loop-number.self.seen.items (turned_seen land before after (held_in k facts)) (none_in_view land c.args.visions.now.far k before after facts c.requires.placed c.requires.far old_out new_out c.requires.before_far c.requires.after_far));
+                  ∙ nothing_more c.loop-number.self.seen.items (turned_seen land before after (held_in k facts))
+                  (none_in_view land c.args.visions.now.far k before after facts c.requires.placed c.requires.far old_out new_out c.requires.before_far
+                  c.requires.after_far));
             })
         | inr inner ↦
             record {
               watchers = more_chosen changes k facts c.loop-number.self.watchers.items _ kept.watchers
-                  (ap (λ (p : Plan). p.watchers.items) w.self-is ∙ nothing_more c.loop-number.self.watchers.items (turned_watchers land before after (held_in k facts)) (none_turned land c.args.visions.now.near k facts c.requires.placed c.requires.near before after inner));
+                  (ap (λ (p : Plan). p.watchers.items) w.self-is ∙ nothing_more c.loop-number.self.watchers.items
+                  (turned_watchers land before after (held_in k facts)) (none_turned land c.args.visions.now.near k facts c.requires.placed c.requires.near
+                  before after inner));
               seen = more_chosen views k facts c.loop-number.self.seen.items _ kept.seen
-                  (ap (λ (p : Plan). p.seen.items) w.self-is ∙ nothing_more c.loop-number.self.seen.items (turned_seen land before after (held_in k facts)) (none_in_sight land c.args.visions.now.near k facts c.requires.placed c.requires.near before after c.requires.before_near inner));
+                  (ap (λ (p : Plan). p.seen.items) w.self-is ∙ nothing_more c.loop-number.self.seen.items (turned_seen land before after (held_in k facts))
+                  (none_in_sight land c.args.visions.now.near k facts c.requires.placed c.requires.near before after c.requires.before_near inner));
             }
       ]
     ]
@@ -88,9 +94,13 @@ returns-clause-watchers c =
     let new_out = λ (k : ℕ) (low : end ≤ k) (lt : k < 256). area.after k (λ rows columns. absurd (omega (arith, rows.1, low))) in
     let at_end : c.loop-number.number ≡ end = grind arith in
     let here = subst (λ (n : ℕ). IsPermutation (turned_watchers land before after (below_bucket n facts)) ids) at_end c.loop-number.invariant.watchers in
-    let further = subst (λ (xs : List ℕ). IsPermutation xs ids) (sym (pass_watchers land c.args.visions.now.far before after facts c.requires.placed c.requires.far end 256 (omega (arith, area.end)) old_out new_out)) here in
-    let whole = subst (λ (fs : List Fact). IsPermutation (turned_watchers land before after fs) ids) (all_below (λ (f : Fact). differ (is_seen land f before) (is_seen land f after)) facts c.requires.placed) further in
-    agree_elsewhere (λ (f : Fact). is_seen land f before) (λ (f : Fact). is_seen land f after) facts ids (λ n. sym (list_any-IsPermutation (λ (m : ℕ). m == n) (turned_watchers land before after facts) ids whole))
+    let further = subst (λ (xs : List ℕ). IsPermutation xs ids)
+    (sym (pass_watchers land c.args.visions.now.far before after facts c.requires.placed c.requires.far end 256 (omega (arith, area.end)) old_out new_out))
+    here in
+    let whole = subst (λ (fs : List Fact). IsPermutation (turned_watchers land before after fs) ids)
+    (all_below (λ (f : Fact). differ (is_seen land f before) (is_seen land f after)) facts c.requires.placed) further in
+    agree_elsewhere (λ (f : Fact). is_seen land f before) (λ (f : Fact). is_seen land f after) facts ids
+    (λ n. sym (list_any-IsPermutation (λ (m : ℕ). m == n) (turned_watchers land before after facts) ids whole))
 
 pub returns-clause-seen : goal.returns-clause-seen
 returns-clause-seen c =
@@ -105,6 +115,10 @@ returns-clause-seen c =
     let new_out = λ (k : ℕ) (low : end ≤ k) (lt : k < 256). area.after k (λ rows columns. absurd (omega (arith, rows.1, low))) in
     let at_end : c.loop-number.number ≡ end = grind arith in
     let here = subst (λ (n : ℕ). IsPermutation (turned_seen land before after (below_bucket n facts)) ids) at_end c.loop-number.invariant.seen in
-    let further = subst (λ (xs : List ℕ). IsPermutation xs ids) (sym (pass_view land c.args.visions.now.far before after facts c.requires.placed c.requires.far end 256 (omega (arith, area.end)) old_out new_out c.requires.before_far c.requires.after_far)) here in
-    let whole = subst (λ (fs : List Fact). IsPermutation (turned_seen land before after fs) ids) (all_below (λ (f : Fact). differ (sees land before f) (sees land after f)) facts c.requires.placed) further in
-    agree_elsewhere (sees land before) (sees land after) facts ids (λ n. sym (list_any-IsPermutation (λ (m : ℕ). m == n) (turned_seen land before after facts) ids whole))
+    let further = subst (λ (xs : List ℕ). IsPermutation xs ids)
+    (sym (pass_view land c.args.visions.now.far before after facts c.requires.placed c.requires.far end 256 (omega (arith, area.end)) old_out new_out
+    c.requires.before_far c.requires.after_far)) here in
+    let whole = subst (λ (fs : List Fact). IsPermutation (turned_seen land before after fs) ids)
+    (all_below (λ (f : Fact). differ (sees land before f) (sees land after f)) facts c.requires.placed) further in
+    agree_elsewhere (sees land before) (sees land after) facts ids
+    (λ n. sym (list_any-IsPermutation (λ (m : ℕ). m == n) (turned_seen land before after facts) ids whole))

@@ -1,6 +1,4 @@
-use Rattle.std.proofs.Common.{IsPermutation}
-use Rattle.sim_range.specs.Nearness.{below_bucket}
-use Rattle.sim_range.specs.Sights.{turned_watchers, turned_seen}
+use Rattle.sim_range.proofs.Common.{IsPermutation, below_bucket, turned_seen, turned_watchers}
 use Rattle.sim_range.proofs.plan.Plan.find.Given as goal
 
 abbrev pub invariant-loop-number : goal.invariant-loop-number

@@ -1,8 +1,6 @@
 -- It begins with what the entity saw, which is nothing where it was not kept.
-use Rattle.std.proofs.Common.{ap, ◌∙◌}
-use Rattle.sim_range.specs.declared.plan.Plan.{Plan}
+use Rattle.sim_range.proofs.{Common.ap, Common.Plan, Common.◌∙◌, plan.Plan.find_own.Goals.in-Ok+in_ok-copy_from, plan.Plan.find_own.Goals.in_default-place_of}
 use Rattle.sim_range.proofs.Own.{saw, saw_none}
-use Rattle.sim_range.proofs.plan.Plan.find_own.Goals.{in-Ok+in_ok-copy_from, in_default-place_of}
 use Rattle.sim_range.proofs.plan.Plan.find_own.Goals as goal
 
 pub turn_own-requires-clause-own : goal.turn_own-requires-clause-own
@@ -12,7 +10,9 @@ turn_own-requires-clause-own c =
     let up = c.requires.holds.held.ascending in
     elim c.match-place_of.branch [
       | in-Ok+in_ok-copy_from w ↦
-          saw land facts c.args.sights.now up c.requires.sights c.in-Some.watcher.id w.in-Ok.at _ w.index-sights-at.result c.in-Some.watcher w.in-Ok.ensures w.index-sights-at.is (ap (λ (p : Plan). p.own.ids.items) w.self-is ∙ w.in_ok-copy_from.ensures)
+          saw land facts c.args.sights.now up c.requires.sights c.in-Some.watcher.id w.in-Ok.at _ w.index-sights-at.result c.in-Some.watcher w.in-Ok.ensures
+          w.index-sights-at.is (ap (λ (p : Plan). p.own.ids.items) w.self-is ∙ w.in_ok-copy_from.ensures)
       | in_default-place_of w ↦
-          saw_none land facts c.args.sights.now up c.requires.sights c.in-Some.watcher.id w.in_default-place_of.field-0 _ w.in_default-place_of.ensures (ap (λ (p : Plan). p.own.ids.items) w.self-is ∙ c.clear.ensures.items)
+          saw_none land facts c.args.sights.now up c.requires.sights c.in-Some.watcher.id w.in_default-place_of.field-0 _ w.in_default-place_of.ensures
+          (ap (λ (p : Plan). p.own.ids.items) w.self-is ∙ c.clear.ensures.items)
     ]

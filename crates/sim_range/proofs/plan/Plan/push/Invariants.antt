@@ -1,5 +1,4 @@
-use Rattle.std.proofs.Common.{◌≡◌, ◌++◌, take}
-use Rattle.sim_range.specs.Sights.{turned_watchers, turned_seen}
+use Rattle.sim_range.proofs.Common.{◌≡◌, ◌++◌, take, turned_seen, turned_watchers}
 use Rattle.sim_range.proofs.plan.Plan.push.Given as goal
 
 abbrev pub invariant-loop-fact : goal.invariant-loop-fact

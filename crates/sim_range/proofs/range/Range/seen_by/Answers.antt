@@ -1,6 +1,5 @@
 -- The facts are held on the land.
-use Rattle.std.proofs.Common.{sym, subst}
-use Rattle.sim_fact_lists.specs.Places.{Holds}
+use Rattle.sim_range.proofs.Common.{Holds, subst, sym}
 use Rattle.sim_range.proofs.range.Range.seen_by.Goals as goal
 
 pub seen-requires-clause-holds : goal.seen-requires-clause-holds

@@ -1,45 +1,43 @@
 -- The buckets and the sights after the note are those of the facts after it.
-use Rattle.std.proofs.Common.{List, sym, ap, ◌∙◌, subst, arith}
-use Rattle.sim_system.specs.declared.fact.Fact.{Fact}
-use Rattle.sim_system.specs.declared.kind.Kind.TheVariants.{Range as RangeKind}
-use Rattle.sim_system.specs.Notes.{noted}
-use Rattle.sim_fact_lists.specs.Places.{with_only}
-use Rattle.sim_fact_lists.proofs.Holding.{has_land, put_named, put_is}
-use Rattle.sim_range.specs.Buckets.{ArePlaced, held_in}
-use Rattle.sim_range.specs.Sights.{SeesFrom, SeesWithin}
-use Rattle.sim_range.proofs.Bucketing.{found_placed, part_placed, placed_after}
+use Rattle.sim_range.proofs.{Bucketing.found_placed, Bucketing.part_placed, Bucketing.placed_after, Common.subst, Common.sym, Common.with_only, Common.◌∙◌}
+use Rattle.sim_range.proofs.{Changing.noted_buckets, Changing.still_built, Keeping.kept_along, Keeping.ready_along, Lending.found_for, Lending.found_is}
+use Rattle.sim_range.proofs.Common.{List, ap, ArePlaced, arith, Fact, has_land, held_in, noted, put_is, put_named, Range as RangeKind, SeesFrom, SeesWithin}
 use Rattle.sim_range.proofs.Found.{found_held, part_held}
-use Rattle.sim_range.proofs.Changing.{noted_buckets, still_built}
-use Rattle.sim_range.proofs.Keeping.{kept_along, ready_along}
-use Rattle.sim_range.proofs.Lending.{found_for, found_is}
 use Rattle.sim_range.proofs.range.RangeSystem.on.Goals as goal
 
 pub make_ready-requires-clause-before : goal.make_ready-requires-clause-before
-make_ready-requires-clause-before c = let s = c.args.self.now in found_held s.kept.land s.kept.facts.items c.id_of-id.result c.find-before.result s.kept.held c.find-before.ensures
+make_ready-requires-clause-before c = let s = c.args.self.now in found_held s.kept.land s.kept.facts.items c.id_of-id.result c.find-before.result s.kept.held
+    c.find-before.ensures
 
 pub make_ready-requires-clause-after : goal.make_ready-requires-clause-after
 make_ready-requires-clause-after c =
     let s = c.args.self.now in
-    part_held RangeKind s.kept.land s.kept.facts.items c.args.note.now c.id_of-id.result c.find-before.result c.part_after-after.result c.requires s.kept.held c.id_of-id.ensures c.find-before.ensures c.part_after-after.ensures
+    part_held RangeKind s.kept.land s.kept.facts.items c.args.note.now c.id_of-id.result c.find-before.result c.part_after-after.result c.requires s.kept.held
+    c.id_of-id.ensures c.find-before.ensures c.part_after-after.ensures
 
 pub make_ready-requires-clause-from_ground : goal.make_ready-requires-clause-from_ground
-make_ready-requires-clause-from_ground c = found_placed c.args.self.now.kept.facts.items c.id_of-id.result c.find-before.result c.find-before.ensures c.args.self.now.placed
+make_ready-requires-clause-from_ground c = found_placed c.args.self.now.kept.facts.items c.id_of-id.result c.find-before.result c.find-before.ensures
+    c.args.self.now.placed
 
 pub make_ready-requires-clause-on_ground : goal.make_ready-requires-clause-on_ground
 make_ready-requires-clause-on_ground c =
     let s = c.args.self.now in
-    part_placed RangeKind s.kept.land s.kept.facts.items c.args.note.now c.id_of-id.result c.find-before.result c.part_after-after.result c.requires s.kept.held c.id_of-id.ensures c.find-before.ensures c.part_after-after.ensures
+    part_placed RangeKind s.kept.land s.kept.facts.items c.args.note.now c.id_of-id.result c.find-before.result c.part_after-after.result c.requires s.kept.held
+    c.id_of-id.ensures c.find-before.ensures c.part_after-after.ensures
 
 pub make_ready-requires-clause-found : goal.make_ready-requires-clause-found
 make_ready-requires-clause-found c =
     found_for c.args.self.now.kept.facts.items c.id_of-id.result c.find-before.result c.part_after-after.result c.find-before.ensures
-    (put_named RangeKind c.args.self.now.kept.facts.items c.args.note.now c.id_of-id.result c.find-before.result c.part_after-after.result c.id_of-id.ensures c.find-before.ensures c.part_after-after.ensures)
+    (put_named RangeKind c.args.self.now.kept.facts.items c.args.note.now c.id_of-id.result c.find-before.result c.part_after-after.result c.id_of-id.ensures
+    c.find-before.ensures c.part_after-after.ensures)
 
 pub make_ready-requires-clause-before_near : goal.make_ready-requires-clause-before_near
-make_ready-requires-clause-before_near c keeps = let s = c.args.self.now in found_is (SeesFrom s.sights.visions.near) s.kept.facts.items c.id_of-id.result c.find-before.result (s.seen keeps).near c.find-before.ensures
+make_ready-requires-clause-before_near c keeps = let s = c.args.self.now in found_is (SeesFrom s.sights.visions.near) s.kept.facts.items c.id_of-id.result
+    c.find-before.result (s.seen keeps).near c.find-before.ensures
 
 pub make_ready-requires-clause-before_far : goal.make_ready-requires-clause-before_far
-make_ready-requires-clause-before_far c keeps = let s = c.args.self.now in found_is (SeesWithin s.sights.visions.far) s.kept.facts.items c.id_of-id.result c.find-before.result (s.seen keeps).far c.find-before.ensures
+make_ready-requires-clause-before_far c keeps = let s = c.args.self.now in found_is (SeesWithin s.sights.visions.far) s.kept.facts.items c.id_of-id.result
+    c.find-before.result (s.seen keeps).far c.find-before.ensures
 
 pub invariant_of-self : goal.invariant_of-self
 invariant_of-self c =
@@ -52,29 +50,34 @@ invariant_of-self c =
       bucketed = λ k d lt. e.buckets k d (omega (arith, lt, e.whole)) ∙ s.bucketed k d (omega (arith, lt, e.whole, many)) ∙ ap (held_in k) (sym e.facts);
       whole = λ some. e.whole;
       bare = λ none. still_built s.kept.land c.make_ready.new.kept.land built e.land none;
-      seen = λ keeps. kept_along s.kept.land c.make_ready.new.kept.land s.kept.facts.items c.make_ready.new.kept.facts.items c.make_ready.new.sights e.land e.facts (e.kept (sym e.keeps ∙ keeps));
+      seen = λ keeps. kept_along s.kept.land c.make_ready.new.kept.land s.kept.facts.items c.make_ready.new.kept.facts.items c.make_ready.new.sights e.land
+          e.facts (e.kept (sym e.keeps ∙ keeps));
     }
 
 pub take_up-requires-clause-named : goal.take_up-requires-clause-named
-take_up-requires-clause-named c = put_named RangeKind c.args.self.now.kept.facts.items c.args.note.now c.id_of-id.result c.find-before.result c.part_after-after.result c.id_of-id.ensures c.find-before.ensures c.part_after-after.ensures
+take_up-requires-clause-named c = put_named RangeKind c.args.self.now.kept.facts.items c.args.note.now c.id_of-id.result c.find-before.result
+    c.part_after-after.result c.id_of-id.ensures c.find-before.ensures c.part_after-after.ensures
 
 pub take_up-requires-clause-kept : goal.take_up-requires-clause-kept
 take_up-requires-clause-kept c keeps =
     let s = c.args.self.now in
     let e = c.make_ready.ensures in
-    kept_along s.kept.land c.make_ready.new.kept.land s.kept.facts.items c.make_ready.new.kept.facts.items c.make_ready.new.sights e.land e.facts (e.kept (sym e.keeps ∙ keeps))
+    kept_along s.kept.land c.make_ready.new.kept.land s.kept.facts.items c.make_ready.new.kept.facts.items c.make_ready.new.sights e.land e.facts
+    (e.kept (sym e.keeps ∙ keeps))
 
 pub take_up-requires-clause-after : goal.take_up-requires-clause-after
 take_up-requires-clause-after c = λ l is.
     let s = c.args.self.now in
-    part_held RangeKind s.kept.land s.kept.facts.items c.args.note.now c.id_of-id.result c.find-before.result c.part_after-after.result c.requires s.kept.held c.id_of-id.ensures c.find-before.ensures c.part_after-after.ensures l
+    part_held RangeKind s.kept.land s.kept.facts.items c.args.note.now c.id_of-id.result c.find-before.result c.part_after-after.result c.requires s.kept.held
+    c.id_of-id.ensures c.find-before.ensures c.part_after-after.ensures l
     (sym c.make_ready.ensures.land ∙ is)
 
 pub take_up-requires-clause-ready : goal.take_up-requires-clause-ready
 take_up-requires-clause-ready c keeps =
     let s = c.args.self.now in
     let e = c.make_ready.ensures in
-    ready_along s.kept.land c.make_ready.new.kept.land s.kept.facts.items c.make_ready.new.kept.facts.items c.id_of-id.result c.find-before.result c.part_after-after.result c.make_ready.new.sights e.land e.facts c.find-before.ensures
+    ready_along s.kept.land c.make_ready.new.kept.land s.kept.facts.items c.make_ready.new.kept.facts.items c.id_of-id.result c.find-before.result
+    c.part_after-after.result c.make_ready.new.sights e.land e.facts c.find-before.ensures
     (c.in_ok-make_ready.ensures.ready (sym e.keeps ∙ keeps))
 
 pub change-requires-clause-old : goal.change-requires-clause-old
@@ -83,10 +86,12 @@ change-requires-clause-old c = found_placed c.args.self.now.kept.facts.items c.i
 pub change-requires-clause-new : goal.change-requires-clause-new
 change-requires-clause-new c =
     let s = c.args.self.now in
-    part_placed RangeKind s.kept.land s.kept.facts.items c.args.note.now c.id_of-id.result c.find-before.result c.part_after-after.result c.requires s.kept.held c.id_of-id.ensures c.find-before.ensures c.part_after-after.ensures
+    part_placed RangeKind s.kept.land s.kept.facts.items c.args.note.now c.id_of-id.result c.find-before.result c.part_after-after.result c.requires s.kept.held
+    c.id_of-id.ensures c.find-before.ensures c.part_after-after.ensures
 
 pub change-requires-clause-named : goal.change-requires-clause-named
-change-requires-clause-named c = put_named RangeKind c.args.self.now.kept.facts.items c.args.note.now c.id_of-id.result c.find-before.result c.part_after-after.result c.id_of-id.ensures c.find-before.ensures c.part_after-after.ensures
+change-requires-clause-named c = put_named RangeKind c.args.self.now.kept.facts.items c.args.note.now c.id_of-id.result c.find-before.result
+    c.part_after-after.result c.id_of-id.ensures c.find-before.ensures c.part_after-after.ensures
 
 pub invariant_of-self-2 : goal.invariant_of-self-2
 invariant_of-self-2 c =
@@ -98,12 +103,15 @@ invariant_of-self-2 c =
     let built = has_land s.kept.land _ c.requires in
     let land = c.in_ok-on.ensures.land ∙ e.land in
     let told = c.in_ok-on.ensures.facts ∙ ap (λ (fs : List Fact). noted RangeKind fs c.args.note.now) e.facts in
-    let put = ap (with_only id part) e.facts ∙ put_is RangeKind s.kept.land s.kept.facts.items c.args.note.now id before part c.requires s.kept.held c.id_of-id.ensures c.find-before.ensures c.part_after-after.ensures ∙ sym told in
+    let put = ap (with_only id part) e.facts ∙ put_is RangeKind s.kept.land s.kept.facts.items c.args.note.now id before part c.requires s.kept.held
+    c.id_of-id.ensures c.find-before.ensures c.part_after-after.ensures ∙ sym told in
     record {
       placed = placed_after s.kept.land c.on.new.self.land _ c.on.new.self.facts.items c.requires land c.on.new.self.held;
-      bucketed = noted_buckets RangeKind s.kept.land c.args.note.now id before part s.kept.facts.items c.on.new.self.facts.items s.buckets.items c.make_ready.new.buckets.items c.change.new.buckets.items c.requires s.kept.held (s.whole built) c.change.ensures.whole s.bucketed c.id_of-id.ensures
+      bucketed = noted_buckets RangeKind s.kept.land c.args.note.now id before part s.kept.facts.items c.on.new.self.facts.items s.buckets.items
+          c.make_ready.new.buckets.items c.change.new.buckets.items c.requires s.kept.held (s.whole built) c.change.ensures.whole s.bucketed c.id_of-id.ensures
           c.find-before.ensures c.part_after-after.ensures told e.buckets c.change.ensures.changed;
       whole = λ some. c.change.ensures.whole;
       bare = λ none. still_built s.kept.land c.on.new.self.land built land none;
-      seen = λ keeps. kept_along c.make_ready.new.kept.land c.on.new.self.land (with_only id part c.make_ready.new.kept.facts.items) c.on.new.self.facts.items c.take_up.new.self c.in_ok-on.ensures.land (sym put) (c.take_up.ensures.kept (sym c.take_up.ensures.keeps ∙ keeps));
+      seen = λ keeps. kept_along c.make_ready.new.kept.land c.on.new.self.land (with_only id part c.make_ready.new.kept.facts.items) c.on.new.self.facts.items
+          c.take_up.new.self c.in_ok-on.ensures.land (sym put) (c.take_up.ensures.kept (sym c.take_up.ensures.keeps ∙ keeps));
     }

@@ -1,13 +1,6 @@
 -- The facts are held on the land, and the ids of the sights stay as they were.
-use Rattle.std.proofs.Common.{List, length, refl, sym, ap, ◌∙◌, subst}
-use Rattle.sim_system.specs.declared.fact.Fact.{Fact}
-use Rattle.sim_fact_lists.specs.Places.{Ascend, Holds}
-use Rattle.sim_range.specs.declared.sight.Sight.{Sight}
-use Rattle.sim_range.specs.Sights.{ids_at, ids_of, sight}
-use Rattle.sim_range.proofs.Keeping.{further, nearer}
-use Rattle.sim_range.proofs.Lending.{same_sights}
-use Rattle.sim_range.proofs.Own.{in_view}
-use Rattle.sim_range.proofs.Watching.{long_as}
+use Rattle.sim_range.proofs.{Keeping.further, Keeping.nearer, Lending.same_sights, Own.in_view, Watching.long_as}
+use Rattle.sim_range.proofs.Common.{List, length, refl, ap, Ascend, Fact, Holds, ids_at, ids_of, Sight, sight, subst, sym, ◌∙◌}
 use Rattle.sim_range.proofs.ready.Sights.make_ready.Goals as goal
 
 pub find-requires-clause-holds : goal.find-requires-clause-holds
@@ -18,14 +11,16 @@ find_own-requires-clause-holds c = subst (Holds c.in-Some.land) (sym c.as_slice-
 
 pub find_own-requires-clause-seen : goal.find_own-requires-clause-seen
 find_own-requires-clause-seen c =
-    in_view c.in-Some.land c.args.kept.now.facts.items c.as_slice-facts.result.now c.args.before.now c.args.after.now c.find.new.self.seen.items c.as_slice-facts.ensures.value c.requires.found c.in_ok-find.ensures.seen
+    in_view c.in-Some.land c.args.kept.now.facts.items c.as_slice-facts.result.now c.args.before.now c.args.after.now c.find.new.self.seen.items
+    c.as_slice-facts.ensures.value c.requires.found c.in_ok-find.ensures.seen
 
 pub make_rooms-requires-clause-ascending : goal.make_rooms-requires-clause-ascending
 make_rooms-requires-clause-ascending c = subst Ascend (sym c.as_slice-facts.ensures.value) (c.args.kept.now.held c.in-Some.land c.in-Some.is).held.ascending
 
 pub make_rooms-requires-clause-along : goal.make_rooms-requires-clause-along
 make_rooms-requires-clause-along c =
-    long_as ids_of (sight c.in-Some.land c.args.kept.now.facts.items) c.args.self.now.all.items c.args.kept.now.facts.items ((c.requires.kept c.if-not-self.false).all c.in-Some.land c.in-Some.is)
+    long_as ids_of (sight c.in-Some.land c.args.kept.now.facts.items) c.args.self.now.all.items c.args.kept.now.facts.items
+    ((c.requires.kept c.if-not-self.false).all c.in-Some.land c.in-Some.is)
     ∙ ap (λ (fs : List Fact). length fs) (sym c.as_slice-facts.ensures.value)
 
 pub returns-in_err-make_rooms-clause-kept : goal.returns-in_err-make_rooms-clause-kept
@@ -34,7 +29,8 @@ returns-in_err-make_rooms-clause-kept c keeps =
     let old = c.requires.kept keeps in
     let made = c.in_err-make_rooms.ensures in
     record {
-      all = same_sights kept.land kept.land kept.facts.items kept.facts.items c.args.self.now.all.items c.make_rooms.new.sights.items refl refl made.along made.same old.all;
+      all = same_sights kept.land kept.land kept.facts.items kept.facts.items c.args.self.now.all.items c.make_rooms.new.sights.items refl refl made.along
+          made.same old.all;
       near = nearer c.args.self.now.visions.near c.widened-self.result.near kept.facts.items c.widened-self.ensures.less old.near;
       far = further c.args.self.now.visions.far c.widened-self.result.far kept.facts.items c.widened-self.ensures.more old.far;
     }
@@ -46,7 +42,8 @@ returns-in_err-reserve-clause-kept c keeps =
     let made = c.in_ok-make_rooms.ensures in
     let is = c.in_err-reserve.ensures.items in
     record {
-      all = same_sights kept.land kept.land kept.facts.items kept.facts.items c.args.self.now.all.items c.reserve.new.self.items refl refl (ap (λ (ss : List Sight). length ss) is ∙ made.along) (λ k d. ap (λ (ss : List Sight). ids_at ss k d) is ∙ made.same k d) old.all;
+      all = same_sights kept.land kept.land kept.facts.items kept.facts.items c.args.self.now.all.items c.reserve.new.self.items refl refl
+          (ap (λ (ss : List Sight). length ss) is ∙ made.along) (λ k d. ap (λ (ss : List Sight). ids_at ss k d) is ∙ made.same k d) old.all;
       near = nearer c.args.self.now.visions.near c.widened-self.result.near kept.facts.items c.widened-self.ensures.less old.near;
       far = further c.args.self.now.visions.far c.widened-self.result.far kept.facts.items c.widened-self.ensures.more old.far;
     }
@@ -58,7 +55,8 @@ returns-clause-kept c keeps =
     let made = c.in_ok-make_rooms.ensures in
     let is = c.in_ok-reserve.ensures.items in
     record {
-      all = same_sights kept.land kept.land kept.facts.items kept.facts.items c.args.self.now.all.items c.reserve.new.self.items refl refl (ap (λ (ss : List Sight). length ss) is ∙ made.along) (λ k d. ap (λ (ss : List Sight). ids_at ss k d) is ∙ made.same k d) old.all;
+      all = same_sights kept.land kept.land kept.facts.items kept.facts.items c.args.self.now.all.items c.reserve.new.self.items refl refl
+          (ap (λ (ss : List Sight). length ss) is ∙ made.along) (λ k d. ap (λ (ss : List Sight). ids_at ss k d) is ∙ made.same k d) old.all;
       near = nearer c.args.self.now.visions.near c.widened-self.result.near kept.facts.items c.widened-self.ensures.less old.near;
       far = further c.args.self.now.visions.far c.widened-self.result.far kept.facts.items c.widened-self.ensures.more old.far;
     }

@@ -1,5 +1,4 @@
-use Rattle.std.proofs.Common.{ℕ, ◌+◌, ◌*◌, ◌-◌, ◌<◌, ◌≤◌, min, max, arith}
-use Rattle.std.specs.Int.{abs_diff}
+use Rattle.sim_search.proofs.Common.{ℕ, ◌+◌, ◌-◌, ◌*◌, ◌<◌, ◌≤◌, min, max, abs_diff, arith}
 use Rattle.sim_search.proofs.aim.Aim.nowhere.Goals as goal
 
 most : (x z : ℕ) → x < 256 → z < 256 → 14 * min x z + 10 * (max x z - min x z) ≤ 65536

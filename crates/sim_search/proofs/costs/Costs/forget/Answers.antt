@@ -1,9 +1,5 @@
-use Rattle.std.proofs.Common.{◌≡◌, ◌+◌, ◌≤◌, Some, None, refl, arith, ne_eqb, nat_eq, All}
-use Rattle.std.proofs.lemmas.Bool.{cond-false}
-use Rattle.std.proofs.lemmas.List.Elements.{All-weaker}
-use Rattle.sim_search.specs.declared.entry.Entry.{Entry}
-use Rattle.sim_search.specs.Tables.{size_of, read_entry}
 use Rattle.sim_search.proofs.Beginning.{entry_at-all}
+use Rattle.sim_search.proofs.Common.{◌≡◌, ◌+◌, ◌≤◌, nat_eq, Some, None, All, refl, All-weaker, arith, cond-false, Entry, ne_eqb, read_entry, size_of}
 use Rattle.sim_search.proofs.costs.Costs.forget.Goals as goal
 
 pub returns : goal.returns
@@ -11,5 +7,6 @@ returns c =
     let old = c.args.self.now in
     let now = old.stamp + 1 in
     let apart : All (λ (e : Entry). read_entry now e ≡ None) old.items.items =
-    All-weaker (λ (e : Entry). e.stamp ≤ old.stamp) (λ (e : Entry). read_entry now e ≡ None) (λ e le. cond-false (nat_eq e.stamp now) (Some e.cost) None (ne_eqb e.stamp now (λ f. omega (arith, f, le)))) old.items.items old.stamped in
+    All-weaker (λ (e : Entry). e.stamp ≤ old.stamp) (λ (e : Entry). read_entry now e ≡ None)
+    (λ e le. cond-false (nat_eq e.stamp now) (Some e.cost) None (ne_eqb e.stamp now (λ f. omega (arith, f, le)))) old.items.items old.stamped in
     record { size = refl; stamp = refl; none = λ v. entry_at-all (read_entry now) None (size_of old) old.items.items v apart }

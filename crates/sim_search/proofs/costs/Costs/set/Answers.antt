@@ -1,10 +1,6 @@
-use Rattle.std.proofs.Common.{◌≡◌, ◌*◌, length, Option, Some, None, refl, ap, ◌∙◌, arith, set, map, ℕ, eqb, eq-eqb, List}
-use Rattle.std.proofs.lemmas.List.{map-set, length-map}
-use Rattle.std.proofs.lemmas.Bool.{cond-true}
-use Rattle.sim_base.specs.declared.place.Cell.{Cell}
-use Rattle.sim_search.specs.declared.entry.Entry.{Entry}
-use Rattle.sim_search.specs.Tables.{size_of, read_entry, known, entry_at}
-use Rattle.sim_search.proofs.Cells.{entry_at-set_same, entry_at-set_other}
+use Rattle.sim_search.proofs.Cells.{entry_at-set_other, entry_at-set_same}
+use Rattle.sim_search.proofs.Common.{known, length-map, map-set, read_entry, size_of, ◌∙◌}
+use Rattle.sim_search.proofs.Common.{◌≡◌, ℕ, ◌*◌, eqb, List, map, length, set, Some, None, Option, refl, ap, arith, Cell, cond-true, Entry, entry_at, eq-eqb}
 use Rattle.sim_search.proofs.costs.Costs.set.Goals as goal
 
 pub returns : goal.returns
@@ -17,7 +13,8 @@ returns c =
     let reads : read_entry old.stamp made ≡ Some c.args.cost = cond-true (eqb old.stamp old.stamp) (Some c.args.cost) None (eq-eqb old.stamp old.stamp refl) in
     let new_known : map (read_entry old.stamp) (set old.items.items place made) ≡ set (known old) place (Some c.args.cost) =
     map-set (read_entry old.stamp) old.items.items place made ∙ ap (λ (o : Option ℕ). set (known old) place o) reads in
-    let at : (v : Cell) → entry_at None (size_of old) (map (read_entry old.stamp) (set old.items.items place made)) v ≡ entry_at None (size_of old) (set (known old) place (Some c.args.cost)) v =
+    let at : (v : Cell) → entry_at None (size_of old) (map (read_entry old.stamp) (set old.items.items place made)) v ≡ entry_at None (size_of old)
+    (set (known old) place (Some c.args.cost)) v =
     λ v. ap (λ (xs : List (Option ℕ)). entry_at None (size_of old) xs v) new_known in
     record {
       size = refl;

@@ -1,6 +1,5 @@
-use Rattle.std.proofs.Common.{◌≡◌, ◌*◌, length, Some, None, refl, arith, ap, set, ℕ}
-use Rattle.sim_search.specs.NumberTables.{size_in}
-use Rattle.sim_search.proofs.Cells.{entry_at-set_same, entry_at-set_other}
+use Rattle.sim_search.proofs.Cells.{entry_at-set_other, entry_at-set_same}
+use Rattle.sim_search.proofs.Common.{◌≡◌, ℕ, ◌*◌, length, set, Some, None, refl, ap, arith, size_in}
 use Rattle.sim_search.proofs.table.Table.set.Goals as goal
 
 pub returns : goal.returns

@@ -1,6 +1,5 @@
 -- The client of a number is a member of the match.
-use Rattle.std.proofs.Common.{sym, subst, arith, ◌-◌}
-use Rattle.sim_session.specs.SessionWords.{IsMemberBy}
+use Rattle.sim_session.proofs.Common.{◌-◌, arith, IsMemberBy, subst, sym}
 use Rattle.sim_session.proofs.session.Session.client.Goals as goal
 
 pub returns-clause-sound : goal.returns-clause-sound

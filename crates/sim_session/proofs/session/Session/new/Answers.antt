@@ -1,13 +1,7 @@
 -- Every client is off, and nothing has been said.
-use Rattle.std.proofs.Common.{◌≡◌, ◌≤◌, ◌-◌, ap, sym, ◌∙◌, arith, length, refl, length-drop}
-use Rattle.std.proofs.lemmas.List.{get_or-replicate, length-map, length-replicate}
-use Rattle.sim_client.specs.Lives.{Off}
-use Rattle.sim_client.specs.StageWords.{life_at}
-use Rattle.sim_system.specs.Meanings.{HaveKinds}
-use Rattle.sim_session.specs.SessionWords.{lives_of, rigs_by, systems_by}
-use Rattle.sim_session.specs.Standing.{life_of}
+use Rattle.sim_session.proofs.{Common.life_of, Common.lives_of, Common.Off, Common.rigs_by, Common.sym, Common.systems_by, Common.◌∙◌, Seating.holds_in_front}
+use Rattle.sim_session.proofs.Common.{◌≡◌, ◌-◌, ◌≤◌, length, refl, ap, arith, get_or-replicate, HaveKinds, length-drop, length-map, length-replicate, life_at}
 use Rattle.sim_session.proofs.Opening.{opens}
-use Rattle.sim_session.proofs.Seating.{holds_in_front}
 use Rattle.sim_session.proofs.session.Session.new.Goals as goal
 
 pub returns-clause-session : goal.returns-clause-session
@@ -15,7 +9,8 @@ returns-clause-session g c =
     let setup = c.args.setup.now in
     let clients = c.seat.new.clients.items in
     let rigs = c.seat.new.rigs.items in
-    let count : length clients ≡ setup.players = sym (length-map clients (λ x. life_at x.stage x.board)) ∙ ap length c.seat.ensures.off ∙ length-replicate setup.players Off in
+    let count : length clients ≡ setup.players = sym (length-map clients (λ x. life_at x.stage x.board)) ∙ ap length c.seat.ensures.off ∙
+    length-replicate setup.players Off in
     let players : setup.players ≤ 8 = omega (arith, c.requires.limits.players, c.requires.limits.land.players.1) in
     record {
       limits = c.requires.limits;
@@ -23,9 +18,20 @@ returns-clause-session g c =
       count = count;
       served = ap (λ r. r.clients) (c.in-Ok.ensures setup refl).rules;
       finish = record {
-        kinds = holds_in_front HaveKinds (systems_by clients (λ i v. (goal.System-dyn g (i, v)).meaning v)) (rigs_by rigs (λ i v. (goal.System-dyn g (i, v)).meaning v))
+        kinds = holds_in_front HaveKinds (systems_by clients (λ i v. (goal.System-dyn g (i, v)).meaning v))
+            (rigs_by rigs (λ i v. (goal.System-dyn g (i, v)).meaning v))
             (rigs_by c.args.rigs.items (λ i v. (goal.System-dyn g (i, v)).meaning v)) c.seat.ensures.systems c.requires.kinds;
-        room = omega (arith, count, ap length c.seat.ensures.rigs, length-drop setup.players c.args.rigs.items, c.seat.ensures.kept, c.requires.eight, players, c.args.rigs.ok.0, c.args.rigs.ok.1);
+        room = omega (
+          arith,
+          count,
+          ap length c.seat.ensures.rigs,
+          length-drop setup.players c.args.rigs.items,
+          c.seat.ensures.kept,
+          c.requires.eight,
+          players,
+          c.args.rigs.ok.0,
+          c.args.rigs.ok.1,
+        );
       };
     }
 
@@ -33,4 +39,5 @@ pub returns-clause-opened : goal.returns-clause-opened
 returns-clause-opened g c =
     let setup = c.args.setup.now in
     opens setup 0 (lives_of c.seat.new.clients.items) c.in-Ok.exchange (λ d low high. absurd (omega (arith, low, high)))
-    (λ d above high. ap (λ l. life_of l d) c.seat.ensures.off ∙ get_or-replicate setup.players (d - 1) Off Off (omega (arith, above, high))) (c.in-Ok.ensures setup refl)
+    (λ d above high. ap (λ l. life_of l d) c.seat.ensures.off ∙ get_or-replicate setup.players (d - 1) Off Off (omega (arith, above, high)))
+    (c.in-Ok.ensures setup refl)

@@ -1,6 +1,5 @@
 -- Each kind stands once in the table.
-use Rattle.std.proofs.Common.{◌≡◌, sym, ◌∙◌}
-use Rattle.sim_stock.specs.Deeds.{kind_of}
+use Rattle.sim_stock.proofs.Common.{◌≡◌, kind_of, sym, ◌∙◌}
 use Rattle.sim_stock.proofs.table.DeedTable.after.Goals as goal
 
 pub loop-rest-init : goal.loop-rest-init

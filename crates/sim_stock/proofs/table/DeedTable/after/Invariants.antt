@@ -1,5 +1,4 @@
-use Rattle.std.proofs.Common.{◌≡◌, ◌==◌, count_by, length}
-use Rattle.sim_stock.specs.Deeds.{kind_of}
+use Rattle.sim_stock.proofs.Common.{◌≡◌, length, ◌==◌, count_by, kind_of}
 use Rattle.sim_stock.proofs.table.DeedTable.after.Given as goal
 
 abbrev pub invariant-loop-rest : goal.invariant-loop-rest

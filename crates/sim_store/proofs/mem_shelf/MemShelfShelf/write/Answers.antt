@@ -1,7 +1,5 @@
 -- A piece added to the first file is what the name of the file that is being made holds more.
-use Rattle.std.proofs.Common.{rules}
-use Rattle.sim_store.specs.Held.{files_of, AddsFirst}
-use Rattle.sim_store.proofs.Kept.{HeldGrows-AddsFirst}
+use Rattle.{sim_store.proofs.Kept.HeldGrows-AddsFirst, sim_store.specs.Held.AddsFirst, sim_store.specs.Held.files_of, std.proofs.Common.rules}
 use Rattle.sim_store.proofs.mem_shelf.MemShelfShelf.write.Goals as goal
 
 pub returns-clause-held : goal.returns-clause-held

@@ -1,7 +1,5 @@
-use Rattle.std.proofs.Common.{◌≡◌, [], ◌∷◌, cond, flat_map, take}
-use Rattle.std.specs.Prelude.{◌==◌}
-use Rattle.sim_base.specs.declared.state.Row.{Row}
-use Rattle.sim_base.specs.declared.change.Change.TheVariants.{Owner}
+use Rattle.std.{proofs.Common.◌≡◌, proofs.Common.cond, proofs.Common.[], proofs.Common.◌∷◌, proofs.Common.take, proofs.Common.flat_map, specs.Prelude.◌==◌}
+use Rattle.sim_base.specs.declared.{change.Change.TheVariants.Owner, state.Row.Row}
 use Rattle.sim_system_rows.proofs.tests.handlers.left.Given as goal
 
 abbrev pub invariant-loop-row : goal.invariant-loop-row

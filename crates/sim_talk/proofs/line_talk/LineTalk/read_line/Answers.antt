@@ -1,21 +1,19 @@
 -- A line is heard, piece by piece.
-use Rattle.std.proofs.Common.{rules, ◌≡◌, ℕ, ◌+◌, ◌-◌, ◌<◌, ◌≤◌, List, [], ◌++◌, length, take, subst, refl, sym, ap, ◌∙◌, arith, Err, Option, Result, Bool}
-use Rattle.std.specs.Io.KnownBytes.{Consumes, IsAtEnd, prepend_known}
-use Rattle.std.proofs.KnownBytes.{Consumes-nil}
-use Rattle.std.proofs.lemmas.List.{length-take-le}
-use Rattle.sim_store.specs.Counts.{raised}
+use Rattle.{sim_store.specs.Counts.raised, std.specs.Io.KnownBytes.Consumes, std.specs.Io.KnownBytes.IsAtEnd, std.specs.Io.KnownBytes.prepend_known}
+use Rattle.std.proofs.{KnownBytes.Consumes-nil, lemmas.List.length-take-le}
+use Rattle.std.proofs.Common.{◌≡◌, ℕ, ◌-◌, ◌<◌, List, [], length, take, Err, refl, ap, arith, rules, subst, sym, ◌∙◌}
+use Rattle.sim_talk.proofs.Hearing.{counted_end, counted_text, falls, heard_end, heard_failed, heard_much, heard_no_more, heard_part, heard_whole}
+use Rattle.sim_talk.proofs.Hearing.{heard_without, no_part, open_part, taken_on}
+use Rattle.sim_talk.specs.{Ahead.bytes_ahead, LineTalk.HearCounts, Lines.IsPart, Lines.Pours, Lines.PoursOpen, Lines.PoursTooMuch, Lines.PoursWhole}
 use Rattle.sim_talk.specs.declared.ahead.Poured.TheVariants as poured
 use Rattle.sim_talk.specs.declared.fault.HearFault.TheVariants as fault
-use Rattle.sim_talk.specs.Ahead.{bytes_ahead}
-use Rattle.sim_talk.specs.LineTalk.{HearCounts}
-use Rattle.sim_talk.specs.Lines.{Pours, PoursWhole, PoursOpen, PoursTooMuch, HearsOf, IsPart}
-use Rattle.sim_talk.proofs.Hearing.{no_part, open_part, heard_whole, counted_text, heard_much, heard_part, heard_failed, taken_on, heard_end, counted_end, falls, heard_without, heard_no_more}
 use Rattle.sim_talk.proofs.line_talk.LineTalk.read_line.Goals as goal
 
 pub pieces-init : goal.pieces-init
 pieces-init g c = record {
   part = no_part c.args.self.now.most _ c.clear.ensures.items;
-  taken = subst (λ (l : List ℕ). Consumes (prepend_known (bytes_ahead c.args.self.now.ahead) (g.S.Source.left c.args.self.now.source)) (prepend_known (bytes_ahead c.args.self.now.ahead) (g.S.Source.left c.args.self.now.source)) l) (sym c.clear.ensures.items) (Consumes-nil _);
+  taken = subst (λ (l : List ℕ). Consumes (prepend_known (bytes_ahead c.args.self.now.ahead) (g.S.Source.left c.args.self.now.source))
+      (prepend_known (bytes_ahead c.args.self.now.ahead) (g.S.Source.left c.args.self.now.source)) l) (sym c.clear.ensures.items) (Consumes-nil _);
   faults = refl;
   sink = refl;
   most = refl;
@@ -46,7 +44,8 @@ pub returns-in-Whole-clause-taken : goal.returns-in-Whole-clause-taken
 returns-in-Whole-clause-taken g c =
     let was = c.pieces.invariant in
     let whole : PoursWhole c.pieces.self.most (bytes_ahead c.pieces.self.ahead) c.pieces.line.items (bytes_ahead c.pour.new.self) c.pour.new.line.items =
-    subst (λ p. Pours p c.pieces.self.most (bytes_ahead c.pieces.self.ahead) c.pieces.line.items (bytes_ahead c.pour.new.self) c.pour.new.line.items) c.in-Whole.is c.in_ok-pour.ensures.ok in
+    subst (λ p. Pours p c.pieces.self.most (bytes_ahead c.pieces.self.ahead) c.pieces.line.items (bytes_ahead c.pour.new.self) c.pour.new.line.items)
+    c.in-Whole.is c.in_ok-pour.ensures.ok in
     let part : IsPart c.args.self.now.most c.pieces.line.items = subst (λ m. IsPart m c.pieces.line.items) was.most was.part in
     let whole' : PoursWhole c.args.self.now.most (bytes_ahead c.pieces.self.ahead) c.pieces.line.items (bytes_ahead c.pour.new.self) c.pour.new.line.items =
     subst (λ m. PoursWhole m (bytes_ahead c.pieces.self.ahead) c.pieces.line.items (bytes_ahead c.pour.new.self) c.pour.new.line.items) was.most whole in
@@ -65,7 +64,8 @@ pub returns-in-TooLong-clause-taken : goal.returns-in-TooLong-clause-taken
 returns-in-TooLong-clause-taken g c =
     let was = c.pieces.invariant in
     let much : PoursTooMuch c.pieces.self.most (bytes_ahead c.pieces.self.ahead) c.pieces.line.items (bytes_ahead c.pour.new.self) =
-    subst (λ p. Pours p c.pieces.self.most (bytes_ahead c.pieces.self.ahead) c.pieces.line.items (bytes_ahead c.pour.new.self) c.pour.new.line.items) c.in-TooLong.is c.in_ok-pour.ensures.ok in
+    subst (λ p. Pours p c.pieces.self.most (bytes_ahead c.pieces.self.ahead) c.pieces.line.items (bytes_ahead c.pour.new.self) c.pour.new.line.items)
+    c.in-TooLong.is c.in_ok-pour.ensures.ok in
     let part : IsPart c.args.self.now.most c.pieces.line.items = subst (λ m. IsPart m c.pieces.line.items) was.most was.part in
     let much' : PoursTooMuch c.args.self.now.most (bytes_ahead c.pieces.self.ahead) c.pieces.line.items (bytes_ahead c.pour.new.self) =
     subst (λ m. PoursTooMuch m (bytes_ahead c.pieces.self.ahead) c.pieces.line.items (bytes_ahead c.pour.new.self)) was.most much in
@@ -87,7 +87,8 @@ pub returns-in_err-count-clause-taken : goal.returns-in_err-count-clause-taken
 returns-in_err-count-clause-taken g c =
     let was = c.pieces.invariant in
     let goes_on : PoursOpen c.pieces.self.most (bytes_ahead c.pieces.self.ahead) c.pieces.line.items (bytes_ahead c.pour.new.self) c.pour.new.line.items =
-    subst (λ p. Pours p c.pieces.self.most (bytes_ahead c.pieces.self.ahead) c.pieces.line.items (bytes_ahead c.pour.new.self) c.pour.new.line.items) c.in-Open.is c.in_ok-pour.ensures.ok in
+    subst (λ p. Pours p c.pieces.self.most (bytes_ahead c.pieces.self.ahead) c.pieces.line.items (bytes_ahead c.pour.new.self) c.pour.new.line.items)
+    c.in-Open.is c.in_ok-pour.ensures.ok in
     let part : IsPart c.args.self.now.most c.pieces.line.items = subst (λ m. IsPart m c.pieces.line.items) was.most was.part in
     let goes_on' : PoursOpen c.args.self.now.most (bytes_ahead c.pieces.self.ahead) c.pieces.line.items (bytes_ahead c.pour.new.self) c.pour.new.line.items =
     subst (λ m. PoursOpen m (bytes_ahead c.pieces.self.ahead) c.pieces.line.items (bytes_ahead c.pour.new.self) c.pour.new.line.items) was.most goes_on in
@@ -111,13 +112,15 @@ pub returns-then-count-eq0-clause-taken : goal.returns-then-count-eq0-clause-tak
 returns-then-count-eq0-clause-taken g c =
     let was = c.pieces.invariant in
     let goes_on : PoursOpen c.pieces.self.most (bytes_ahead c.pieces.self.ahead) c.pieces.line.items (bytes_ahead c.pour.new.self) c.pour.new.line.items =
-    subst (λ p. Pours p c.pieces.self.most (bytes_ahead c.pieces.self.ahead) c.pieces.line.items (bytes_ahead c.pour.new.self) c.pour.new.line.items) c.in-Open.is c.in_ok-pour.ensures.ok in
+    subst (λ p. Pours p c.pieces.self.most (bytes_ahead c.pieces.self.ahead) c.pieces.line.items (bytes_ahead c.pour.new.self) c.pour.new.line.items)
+    c.in-Open.is c.in_ok-pour.ensures.ok in
     let none : take c.in_ok-count.count c.read.new.into ≡ [] = ap (λ k. take k c.read.new.into) c.if-count-eq0.true in
     let end : IsAtEnd (g.S.Source.left c.read.new.self) = search rules in
     let part : IsPart c.args.self.now.most c.pieces.line.items = subst (λ m. IsPart m c.pieces.line.items) was.most was.part in
     let goes_on' : PoursOpen c.args.self.now.most (bytes_ahead c.pieces.self.ahead) c.pieces.line.items (bytes_ahead c.pour.new.self) c.pour.new.line.items =
     subst (λ m. PoursOpen m (bytes_ahead c.pieces.self.ahead) c.pieces.line.items (bytes_ahead c.pour.new.self) c.pour.new.line.items) was.most goes_on in
-    heard_end c.args.self.now.most c.end_of.result c.deref-then-count-eq0.result.now _ _ _ _ _ _ _ _ c.deref-then-count-eq0.ensures.value c.end_of.ensures part was.taken goes_on' c.in_ok-count.ensures.bytes.0 none end
+    heard_end c.args.self.now.most c.end_of.result c.deref-then-count-eq0.result.now _ _ _ _ _ _ _ _ c.deref-then-count-eq0.ensures.value c.end_of.ensures part
+    was.taken goes_on' c.in_ok-count.ensures.bytes.0 none end
 
 pub returns-then-count-eq0-clause-faults : goal.returns-then-count-eq0-clause-faults
 returns-then-count-eq0-clause-faults g c = counted_end c.end_of.result _ _ _ c.end_of.ensures (c.in_ok-count.ensures.counts ∙ c.pieces.invariant.faults)
@@ -140,7 +143,8 @@ hold-requires g c = search rules
 pub pieces-smaller : goal.pieces-smaller
 pieces-smaller g c =
     let goes_on : PoursOpen c.pieces.self.most (bytes_ahead c.pieces.self.ahead) c.pieces.line.items (bytes_ahead c.pour.new.self) c.pour.new.line.items =
-    subst (λ p. Pours p c.pieces.self.most (bytes_ahead c.pieces.self.ahead) c.pieces.line.items (bytes_ahead c.pour.new.self) c.pour.new.line.items) c.in-Open.is c.in_ok-pour.ensures.ok in
+    subst (λ p. Pours p c.pieces.self.most (bytes_ahead c.pieces.self.ahead) c.pieces.line.items (bytes_ahead c.pour.new.self) c.pour.new.line.items)
+    c.in-Open.is c.in_ok-pour.ensures.ok in
     let long : length (bytes_ahead c.hold.new.self) ≡ c.in_ok-count.count =
     ap length (c.hold.ensures) ∙ length-take-le c.in_ok-count.count c.read.new.into c.in_ok-count.ensures.bound.0 in
     let some : 0 < c.in_ok-count.count = omega (arith, c.if-count-eq0.false) in
@@ -150,10 +154,12 @@ pub pieces-preserved : goal.pieces-preserved
 pieces-preserved g c =
     let was = c.pieces.invariant in
     let goes_on : PoursOpen c.pieces.self.most (bytes_ahead c.pieces.self.ahead) c.pieces.line.items (bytes_ahead c.pour.new.self) c.pour.new.line.items =
-    subst (λ p. Pours p c.pieces.self.most (bytes_ahead c.pieces.self.ahead) c.pieces.line.items (bytes_ahead c.pour.new.self) c.pour.new.line.items) c.in-Open.is c.in_ok-pour.ensures.ok in
+    subst (λ p. Pours p c.pieces.self.most (bytes_ahead c.pieces.self.ahead) c.pieces.line.items (bytes_ahead c.pour.new.self) c.pour.new.line.items)
+    c.in-Open.is c.in_ok-pour.ensures.ok in
     record {
       part = open_part c.pieces.self.most _ _ _ _ was.part goes_on;
-      taken = taken_on c.pieces.self.most _ _ _ _ _ _ _ (take c.in_ok-count.count c.read.new.into) _ was.taken goes_on c.in_ok-count.ensures.bytes.0 (c.hold.ensures);
+      taken = taken_on c.pieces.self.most _ _ _ _ _ _ _ (take c.in_ok-count.count c.read.new.into) _ was.taken goes_on c.in_ok-count.ensures.bytes.0
+          (c.hold.ensures);
       faults = c.in_ok-count.ensures.counts ∙ was.faults;
       sink = was.sink;
       most = was.most;

@@ -1,8 +1,7 @@
 -- What was to come is what was copied to the buffer and what is to come now; and where nothing was copied though there was room,
 -- nothing was to come.
-use Rattle.std.proofs.Common.{◌≡◌, ℕ, ◌-◌, ◌≤◌, List, length, take, drop, subst, ap, ◌∙◌, rules, arith}
-use Rattle.std.specs.Prelude.{min}
-use Rattle.std.proofs.lemmas.List.{length-take-le}
+use Rattle.std.{proofs.lemmas.List.length-take-le, specs.Prelude.min}
+use Rattle.std.proofs.Common.{◌≡◌, ℕ, ◌-◌, ◌≤◌, List, length, take, drop, ap, arith, rules, subst, ◌∙◌}
 use Rattle.sim_talk.proofs.Reading.{drop-read, nothing_left, slice_from}
 use Rattle.sim_talk.proofs.mem_source.MemSourceSource.read.Goals as goal
 
@@ -14,7 +13,8 @@ returns-clause-bytes c =
     let most = c.args.self.now.most in
     let count = c.min-count.result in
     let front = c.copy_from_slice.new.self in
-    let left : take (length c.deref.result.now - at) (drop at c.deref.result.now) ≡ drop at bytes = slice_from c.deref.result.now bytes at c.deref.ensures.value in
+    let left : take (length c.deref.result.now - at) (drop at c.deref.result.now) ≡ drop at bytes =
+    slice_from c.deref.result.now bytes at c.deref.ensures.value in
     let fits : count ≤ length (take (length c.deref.result.now - at) (drop at c.deref.result.now)) = search rules in
     let fits' : count ≤ length (drop at bytes) = subst (λ (l : List ℕ). count ≤ length l) left fits in
     let copied : front ≡ take count (drop at bytes) = c.copy_from_slice.ensures.after ∙ ap (λ (l : List ℕ). take count l) left in

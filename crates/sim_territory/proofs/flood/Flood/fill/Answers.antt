@@ -1,12 +1,6 @@
 -- One cell more is looked at.
-use Rattle.std.proofs.Common.{◌≡◌, [], List, Contains, refl, sym, subst, arith}
-use Rattle.std.proofs.lemmas.List.{nil_from_length}
-use Rattle.std.proofs.lemmas.List.Elements.{Contains-push}
-use Rattle.sim_base.specs.declared.place.Cell.{Cell}
-use Rattle.sim_base.specs.Places.{Size}
-use Rattle.sim_base.specs.Steps.{IsOnGround}
-use Rattle.sim_territory.specs.Floods.{ground_of}
-use Rattle.sim_territory.proofs.Flooding.{filling_begins, filling_next, filling_ends, taken_less}
+use Rattle.sim_territory.proofs.Common.{◌≡◌, List, [], Contains, refl, arith, Cell, Contains-push, ground_of, IsOnGround, nil_from_length, Size, subst, sym}
+use Rattle.sim_territory.proofs.Flooding.{filling_begins, filling_ends, filling_next, taken_less}
 use Rattle.sim_territory.proofs.flood.Flood.fill.Goals as goal
 
 pub loop-from-init : goal.loop-from-init
@@ -14,7 +8,8 @@ loop-from-init c = filling_begins (ground_of c.args.self.now c.args.holders.now)
 
 pub spread-requires-clause-from : goal.spread-requires-clause-from
 spread-requires-clause-from c =
-    let waited : Contains c.loop-from.self.waiting.items c.in-Some.from = subst (λ (xs : List Cell). Contains xs c.in-Some.from) (sym c.in-Some.ensures.items) (Contains-push c.pop.new.self.items c.in-Some.from) in
+    let waited : Contains c.loop-from.self.waiting.items c.in-Some.from = subst (λ (xs : List Cell). Contains xs c.in-Some.from) (sym c.in-Some.ensures.items)
+    (Contains-push c.pop.new.self.items c.in-Some.from) in
     subst (λ (s : Size). IsOnGround s c.in-Some.from) (sym c.loop-from.invariant.size) (c.loop-from.invariant.on_ground c.in-Some.from waited)
 
 pub loop-from-preserved : goal.loop-from-preserved
@@ -24,7 +19,8 @@ loop-from-preserved c =
 
 pub loop-from-smaller : goal.loop-from-smaller
 loop-from-smaller c =
-    taken_less c.loop-from.self c.spread.new.self c.in-Some.from c.in_ok-spread.ensures (record { width = refl; depth = refl; flags = refl; waiting = c.in-Some.ensures.items })
+    taken_less c.loop-from.self c.spread.new.self c.in-Some.from c.in_ok-spread.ensures
+    (record { width = refl; depth = refl; flags = refl; waiting = c.in-Some.ensures.items })
 
 pub returns : goal.returns
 returns c =

@@ -1,5 +1,4 @@
-use Rattle.sim_territory.specs.Floods.{ground_of, work_left}
-use Rattle.sim_territory.proofs.Flooding.{Filling}
+use Rattle.sim_territory.proofs.{Common.ground_of, Common.work_left, Flooding.Filling}
 use Rattle.sim_territory.proofs.flood.Flood.fill.Given as goal
 
 abbrev pub invariant-loop-from : goal.invariant-loop-from

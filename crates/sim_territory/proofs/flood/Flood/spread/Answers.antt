@@ -1,8 +1,6 @@
 -- One direction more is looked at.
-use Rattle.std.proofs.Common.{refl, subst}
-use Rattle.sim_territory.specs.Rooted.{HeldGround}
-use Rattle.sim_territory.specs.Floods.{ground_of, StepsOn}
-use Rattle.sim_territory.proofs.Flooding.{ground-same, spread_more, spread_ends}
+use Rattle.sim_territory.proofs.Common.{refl, ground_of, HeldGround, StepsOn, subst}
+use Rattle.sim_territory.proofs.Flooding.{ground-same, spread_ends, spread_more}
 use Rattle.sim_territory.proofs.flood.Flood.spread.Goals as goal
 
 pub loop-which-preserved : goal.loop-which-preserved
@@ -16,4 +14,5 @@ loop-which-preserved c =
     (subst (λ (g : HeldGround). StepsOn g mid new c.args.from c.loop-which.which) same c.in_ok-step.ensures)
 
 pub returns : goal.returns
-returns c = spread_ends (ground_of c.args.self.now c.args.holders.now) c.args.self.now c.loop-which.self c.args.from c.loop-which.which c.loop-which-test.false c.loop-which.invariant
+returns c = spread_ends (ground_of c.args.self.now c.args.holders.now) c.args.self.now c.loop-which.self c.args.from c.loop-which.which c.loop-which-test.false
+    c.loop-which.invariant

@@ -1,4 +1,4 @@
-use Rattle.sim_territory.specs.Floods.{ground_of, Spreads}
+use Rattle.sim_territory.proofs.Common.{ground_of, Spreads}
 use Rattle.sim_territory.proofs.flood.Flood.spread.Given as goal
 
 abbrev pub invariant-loop-which : goal.invariant-loop-which

@@ -1,11 +1,6 @@
 -- The cell is wet, and waits.
-use Rattle.std.proofs.Common.{◌≡◌, ℕ, ◌*◌, ◌<◌, Bool, true, false, cond, [], ◌∷◌, length, get_or, set, refl, sym, ap, ◌∙◌, subst, inr, arith, length-append}
-use Rattle.std.specs.Prelude.{not}
-use Rattle.std.proofs.lemmas.List.{get_or_default, get_or-set_same, get_or-set_other}
-use Rattle.std.proofs.lemmas.List.Sums.{sum_by-set}
-use Rattle.sim_grid.specs.Grids.{place_of}
-use Rattle.sim_grid.proofs.Beside.{places-apart}
-use Rattle.sim_territory.specs.Floods.{ground_size}
+use Rattle.sim_territory.proofs.Common.{get_or-set_same, get_or_default, ground_size, inr, length-append, place_of, places-apart, subst, sum_by-set, sym, ◌∙◌}
+use Rattle.sim_territory.proofs.Common.{◌≡◌, ℕ, ◌*◌, ◌<◌, Bool, true, false, cond, not, [], ◌∷◌, length, get_or, set, refl, ap, arith, get_or-set_other}
 use Rattle.sim_territory.proofs.flood.Flood.wet.Goals as goal
 
 pub returns-in_ok-push : goal.returns-in_ok-push
@@ -24,7 +19,8 @@ returns-in_ok-push c =
     let one : count (get_or flags at false) ≡ 1 = ap count dry in
     inr (record {
       size = refl;
-      here = subst (λ (n : ℕ). get_or (set flags n true) (place_of size cell) false ≡ true) (sym p) (get_or-set_same flags (place_of size cell) true false inside);
+      here = subst (λ (n : ℕ). get_or (set flags n true) (place_of size cell) false ≡ true) (sym p)
+          (get_or-set_same flags (place_of size cell) true false inside);
       elsewhere = λ e on ne.
           subst (λ (n : ℕ). get_or (set flags n true) (place_of size e) false ≡ get_or flags (place_of size e) false) (sym p)
           (get_or-set_other flags (place_of size cell) (place_of size e) true false (places-apart size e cell on c.requires ne));

@@ -1,5 +1,4 @@
-use Rattle.std.proofs.Common.{take}
-use Rattle.sim_territory.specs.Tables.{AreShifted}
+use Rattle.sim_territory.proofs.Common.{take, AreShifted}
 use Rattle.sim_territory.proofs.influences.Influences.follow_few.Given as goal
 
 abbrev pub invariant-loop-shift : goal.invariant-loop-shift

@@ -1,8 +1,5 @@
 -- The holders are found where the shift changed something.
-use Rattle.std.proofs.Common.{subst}
-use Rattle.sim_trail.specs.declared.mark.Mark.{Mark}
-use Rattle.sim_territory.specs.Found.{AreFoundNear}
-use Rattle.sim_territory.proofs.Finding.{shift_found}
+use Rattle.sim_territory.proofs.{Common.AreFoundNear, Common.Mark, Common.subst, Finding.shift_found}
 use Rattle.sim_territory.proofs.influences.Influences.shift.Goals as goal
 
 pub invariant_of-self : goal.invariant_of-self

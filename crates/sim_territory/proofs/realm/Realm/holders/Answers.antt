@@ -1,9 +1,8 @@
-use Rattle.std.proofs.Common.{ap, ◌∙◌}
-use Rattle.sim_territory.specs.Realms.{holders_in}
-use Rattle.sim_territory.proofs.Keeping.{holders_listed}
+use Rattle.sim_territory.proofs.{Common.ap, Common.holders_in, Common.◌∙◌, Keeping.holders_listed}
 use Rattle.sim_territory.proofs.realm.Realm.holders.Goals as goal
 
 pub returns : goal.returns
 returns c =
     let in_it = c.self.inside in
-    c.as_slice.ensures.value ∙ holders_listed in_it.setup.now in_it.trail in_it.influences.sums c.self.invariant in_it.influences.holders.items in_it.influences.agree ∙ ap holders_in c.self.view_is
+    c.as_slice.ensures.value ∙ holders_listed in_it.setup.now in_it.trail in_it.influences.sums c.self.invariant in_it.influences.holders.items
+    in_it.influences.agree ∙ ap holders_in c.self.view_is

@@ -1,5 +1,4 @@
-use Rattle.std.proofs.Common.{◌≡◌, ◌≤◌, ◌*◌, length, ap, ◌∙◌, sym, subst, arith}
-use Rattle.sim_territory.specs.Realms.{RealmOf, influences_in}
+use Rattle.sim_territory.proofs.Common.{◌≡◌, ◌*◌, ◌≤◌, length, ap, arith, influences_in, RealmOf, subst, sym, ◌∙◌}
 use Rattle.sim_territory.proofs.Keeping.{layer_listed}
 use Rattle.sim_territory.proofs.realm.Realm.influence.Goals as goal
 
@@ -10,4 +9,5 @@ returns c =
     let player = c.args.player in
     let most : player ≤ in_it.setup.now.players = subst (λ (r : RealmOf). player ≤ r.setup.players) (sym c.self.view_is) c.requires.most in
     let full : length sums.items.items ≡ sums.players * (sums.width * sums.depth) = omega (arith, sums.full, sums.items.ok.0) in
-    c.layer.ensures ∙ layer_listed in_it.setup.now in_it.trail sums c.self.invariant player c.requires.least (omega (arith, most, c.self.invariant.players)) full ∙ ap (λ (r : RealmOf). influences_in r player) c.self.view_is
+    c.layer.ensures ∙ layer_listed in_it.setup.now in_it.trail sums c.self.invariant player c.requires.least (omega (arith, most, c.self.invariant.players))
+    full ∙ ap (λ (r : RealmOf). influences_in r player) c.self.view_is

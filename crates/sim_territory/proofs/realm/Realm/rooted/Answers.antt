@@ -1,11 +1,6 @@
 -- The flood has come to the rooted cells.
-use Rattle.std.proofs.Common.{◌≡◌, ℕ, ◌*◌, Bool, List, length, sym, ◌∙◌, subst, arith}
-use Rattle.sim_trail.specs.declared.mark.Mark.{Mark}
-use Rattle.sim_territory.specs.Realms.{RealmOf}
-use Rattle.sim_territory.specs.Rooted.{roots_of, AreRooted}
-use Rattle.sim_territory.specs.Floods.{ground_size, ground_of, Fills, IsWetAt}
-use Rattle.sim_territory.specs.Tables.{size_in}
-use Rattle.sim_territory.proofs.Rooting.{rooted_found}
+use Rattle.sim_territory.proofs.{Common.size_in, Common.subst, Common.sym, Common.◌∙◌, Rooting.rooted_found}
+use Rattle.sim_territory.proofs.Common.{◌≡◌, ℕ, ◌*◌, Bool, List, length, AreRooted, arith, Fills, ground_of, ground_size, IsWetAt, Mark, RealmOf, roots_of}
 use Rattle.sim_territory.proofs.realm.Realm.rooted.Goals as goal
 
 pub returns : goal.returns
@@ -17,8 +12,10 @@ returns c =
     let last = c.fill.new.self in
     let full : length last.flags.items ≡ last.width * last.depth = omega (arith, last.full, last.flags.ok.0) in
     let size : ground_size begun ≡ size_in sums = c.in_ok-wet_roots.ensures.size ∙ c.in_ok-flood.ensures.size ∙ sym c.self.invariant.size in
-    let wet : IsWetAt (roots_of setup in_it.trail) begun = subst (λ (marks : List Mark). IsWetAt (roots_of setup marks) begun) c.marks.ensures.marks c.in_ok-wet_roots.ensures.wet in
-    let filled : Fills (ground_of begun in_it.influences.holders.items) begun last = subst (λ (holders : List ℕ). Fills (ground_of begun holders) begun last) c.as_slice.ensures.value c.in_ok-fill.ensures in
+    let wet : IsWetAt (roots_of setup in_it.trail) begun = subst (λ (marks : List Mark). IsWetAt (roots_of setup marks) begun) c.marks.ensures.marks
+    c.in_ok-wet_roots.ensures.wet in
+    let filled : Fills (ground_of begun in_it.influences.holders.items) begun last = subst (λ (holders : List ℕ). Fills (ground_of begun holders) begun last)
+    c.as_slice.ensures.value c.in_ok-fill.ensures in
     subst (λ (flags : List Bool). AreRooted c.args.self.now.setup c.args.self.now.marks flags) (sym c.from_items.ensures)
     (subst (λ (realm : RealmOf). AreRooted realm.setup realm.marks last.flags.items) c.self.view_is
     (rooted_found setup in_it.trail sums in_it.influences.holders.items begun last c.self.invariant in_it.influences.agree size full wet filled))

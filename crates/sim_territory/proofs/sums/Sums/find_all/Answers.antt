@@ -1,5 +1,4 @@
-use Rattle.std.proofs.Common.{◌≡◌, ◌*◌, length, arith}
-use Rattle.sim_territory.proofs.Finding.{all_found}
+use Rattle.sim_territory.proofs.{Common.◌≡◌, Common.◌*◌, Common.length, Common.arith, Finding.all_found}
 use Rattle.sim_territory.proofs.sums.Sums.find_all.Goals as goal
 
 pub returns : goal.returns

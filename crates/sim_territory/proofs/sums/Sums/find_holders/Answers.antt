@@ -1,7 +1,5 @@
 -- One row more has its holders.
-use Rattle.std.proofs.Common.{◌≡◌, ℕ, subst, arith}
-use Rattle.sim_territory.specs.Found.{AreFound}
-use Rattle.sim_territory.proofs.Finding.{found_none, no_row, found_row}
+use Rattle.sim_territory.proofs.{Common.◌≡◌, Common.ℕ, Common.AreFound, Common.arith, Common.subst, Finding.found_none, Finding.found_row, Finding.no_row}
 use Rattle.sim_territory.proofs.sums.Sums.find_holders.Goals as goal
 
 pub loop-z-init : goal.loop-z-init
@@ -13,7 +11,8 @@ loop-z-init c = record {
 pub loop-z-preserved : goal.loop-z-preserved
 loop-z-preserved c = record {
   full = omega (arith, c.loop-z.invariant.full, c.find_row.ensures.full, c.loop-z.holders.ok.0, c.find_row.new.holders.ok.0);
-  found = found_row c.args.self.now c.args.columns c.args.rows.0 c.loop-z.z c.args.holders.now.items c.loop-z.holders.items c.find_row.new.holders.items c.loop-z.invariant.found c.find_row.ensures;
+  found = found_row c.args.self.now c.args.columns c.args.rows.0 c.loop-z.z c.args.holders.now.items c.loop-z.holders.items c.find_row.new.holders.items
+      c.loop-z.invariant.found c.find_row.ensures;
 }
 
 pub returns : goal.returns

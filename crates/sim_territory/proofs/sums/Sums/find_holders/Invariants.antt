@@ -1,6 +1,4 @@
-use Rattle.std.proofs.Common.{◌≡◌, ◌*◌}
-use Rattle.std.specs.Prelude.{vec_len}
-use Rattle.sim_territory.specs.Found.{AreFound}
+use Rattle.sim_territory.proofs.Common.{◌≡◌, ◌*◌, vec_len, AreFound}
 use Rattle.sim_territory.proofs.sums.Sums.find_holders.Given as goal
 
 abbrev pub invariant-loop-z : goal.invariant-loop-z

@@ -1,9 +1,8 @@
 -- One player more is looked at.
-use Rattle.std.proofs.Common.{ℕ, ◌+◌, sym, subst, arith}
-use Rattle.sim_territory.specs.Tables.{sum_at}
-use Rattle.sim_territory.proofs.Holding.{IsBestBefore, best_begins, best_takes, best_keeps, best_is}
+use Rattle.sim_territory.proofs.Common.{ℕ, ◌+◌, arith, subst, sum_at, sym}
+use Rattle.sim_territory.proofs.Holding.{best_begins, best_is, best_keeps, best_takes, IsBestBefore}
+use Rattle.sim_territory.proofs.sums.Sums.holder.Goals.{else-influence-most, then-influence-most}
 use Rattle.sim_territory.proofs.sums.Sums.holder.Goals as goal
-use Rattle.sim_territory.proofs.sums.Sums.holder.Goals.{then-influence-most, else-influence-most}
 
 pub loop-player-init : goal.loop-player-init
 loop-player-init c = best_begins (λ player. sum_at c.args.self.now player c.args.cell)
@@ -27,4 +26,5 @@ loop-player-preserved c =
     ]
 
 pub returns : goal.returns
-returns c = sym (best_is (λ player. sum_at c.args.self.now player c.args.cell) c.args.self.now.players c.loop-player.player c.loop-player.holder c.loop-player.most (omega arith) c.loop-player.invariant)
+returns c = sym (best_is (λ player. sum_at c.args.self.now player c.args.cell) c.args.self.now.players c.loop-player.player c.loop-player.holder
+    c.loop-player.most (omega arith) c.loop-player.invariant)

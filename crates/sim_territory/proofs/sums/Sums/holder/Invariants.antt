@@ -1,5 +1,4 @@
-use Rattle.sim_territory.specs.Tables.{sum_at}
-use Rattle.sim_territory.proofs.Holding.{IsBestBefore}
+use Rattle.sim_territory.proofs.{Common.sum_at, Holding.IsBestBefore}
 use Rattle.sim_territory.proofs.sums.Sums.holder.Given as goal
 
 abbrev pub invariant-loop-player : goal.invariant-loop-player

@@ -1,7 +1,6 @@
 -- One row more is changed.
-use Rattle.std.proofs.Common.{◌≡◌, ℕ, subst, arith}
-use Rattle.sim_territory.specs.Tables.{SumsMove, share_where}
-use Rattle.sim_territory.proofs.Moving.{in_rows, rows_begin, rows_may, rows_move, rows_end}
+use Rattle.sim_territory.proofs.Common.{◌≡◌, ℕ, arith, share_where, subst, SumsMove}
+use Rattle.sim_territory.proofs.Moving.{in_rows, rows_begin, rows_end, rows_may, rows_move}
 use Rattle.sim_territory.proofs.sums.Sums.shift_building.Goals as goal
 
 pub loop-z-init : goal.loop-z-init
@@ -11,12 +10,14 @@ loop-z-init c = record {
 }
 
 pub shift_row-requires-clause-may : goal.shift_row-requires-clause-may
-shift_row-requires-clause-may c = rows_may c.args.comes c.args.building.now c.args.self.now c.loop-z.self c.rows-south.result.0 c.loop-z.z c.loop-z.invariant.moved c.requires.may
+shift_row-requires-clause-may c = rows_may c.args.comes c.args.building.now c.args.self.now c.loop-z.self c.rows-south.result.0 c.loop-z.z
+    c.loop-z.invariant.moved c.requires.may
 
 pub loop-z-preserved : goal.loop-z-preserved
 loop-z-preserved c = record {
   from = omega arith;
-  moved = rows_move c.args.comes c.args.building.now c.args.self.now c.loop-z.self c.rows-south.result.0 c.loop-z.z c.shift_row.new.self c.loop-z.invariant.from c.loop-z.invariant.moved c.shift_row.ensures;
+  moved = rows_move c.args.comes c.args.building.now c.args.self.now c.loop-z.self c.rows-south.result.0 c.loop-z.z c.shift_row.new.self c.loop-z.invariant.from
+      c.loop-z.invariant.moved c.shift_row.ensures;
 }
 
 pub returns : goal.returns

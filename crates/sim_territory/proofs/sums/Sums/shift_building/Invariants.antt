@@ -1,6 +1,4 @@
-use Rattle.std.proofs.Common.{◌≤◌}
-use Rattle.sim_territory.specs.Tables.{SumsMove, share_where}
-use Rattle.sim_territory.proofs.Moving.{in_rows}
+use Rattle.sim_territory.proofs.{Common.◌≤◌, Common.share_where, Common.SumsMove, Moving.in_rows}
 use Rattle.sim_territory.proofs.sums.Sums.shift_building.Given as goal
 
 abbrev pub invariant-loop-z : goal.invariant-loop-z

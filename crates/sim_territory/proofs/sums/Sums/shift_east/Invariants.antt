@@ -1,5 +1,4 @@
-use Rattle.std.proofs.Common.{◌≤◌}
-use Rattle.sim_territory.specs.Tables.{SumsMove, share_where, in_part}
+use Rattle.sim_territory.proofs.Common.{◌≤◌, in_part, share_where, SumsMove}
 use Rattle.sim_territory.proofs.sums.Sums.shift_east.Given as goal
 
 abbrev pub invariant-loop-x : goal.invariant-loop-x

@@ -1,17 +1,14 @@
 -- The lines of both clients are printed, or there was no memory for them.
-use Rattle.std.proofs.Common.{string_bytes}
-use Rattle.std.specs.Prelude.{String}
-use Rattle.std.specs.declared.alloc.Global.{Global}
-use Rattle.sim_top.specs.Outcome.{printed, rejoin_outcome}
-use Rattle.sim_top.specs.declared.status.Status.TheVariants.{Done}
-use Rattle.sim_top.proofs.Playing.{made_if, is_made, rejoined_is}
+use Rattle.sim_top.proofs.Common.{string_bytes, String, Done, Global, printed, rejoin_outcome}
+use Rattle.sim_top.proofs.Playing.{is_made, made_if, rejoined_is}
 use Rattle.sim_top.proofs.commands.joining.rejoin_match.Goals as goal
 
 pub returns-clause-made : goal.returns-clause-made
 returns-clause-made g c =
     let setup = c.args.setup.now in
     let text = c.rejoin_text-text.result.0 in
-    is_made c.shown.result text c.shown.ensures.stops c.shown.ensures.refused (λ (t : String Global). printed Done (string_bytes t)) (rejoin_outcome setup c.args.turn)
+    is_made c.shown.result text c.shown.ensures.stops c.shown.ensures.refused (λ (t : String Global). printed Done (string_bytes t))
+    (rejoin_outcome setup c.args.turn)
     (rejoined_is setup c.args.turn text c.requires.within c.rejoin_text-text.ensures.text) c.shown.ensures.made
 
 pub returns-clause-played : goal.returns-clause-played

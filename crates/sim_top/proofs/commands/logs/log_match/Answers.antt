@@ -1,14 +1,7 @@
 -- The log of the match's own turns is written, or there was no memory.
-use Rattle.std.proofs.Common.{◌≡◌, ap, Result, Ok, Err, IfOk}
-use Rattle.std.specs.Prelude.{codes}
-use Rattle.sim_base.specs.declared.memory.OutOfMemory.{OutOfMemory}
-use Rattle.sim_base.specs.declared.setup.Setup.{Setup}
-use Rattle.sim_play.specs.Logs.{log_after, match_turns}
-use Rattle.sim_replay.specs.declared.log.Log.{Log}
-use Rattle.sim_replay.specs.Logs.{IsOfTurns}
-use Rattle.sim_play.proofs.LogTurns.{log_of_match}
-use Rattle.sim_top.specs.Outcome.{Outcome, logged_as}
-use Rattle.sim_top.proofs.Playing.{made_if, is_made}
+use Rattle.{sim_base.specs.declared.memory.OutOfMemory.OutOfMemory, sim_top.proofs.Playing.is_made, sim_top.proofs.Playing.made_if}
+use Rattle.{sim_play.proofs.LogTurns.log_of_match, sim_replay.specs.Logs.IsOfTurns}
+use Rattle.sim_top.proofs.Common.{◌≡◌, IfOk, Ok, Err, codes, Result, ap, Log, log_after, logged_as, match_turns, Outcome, Setup}
 use Rattle.sim_top.proofs.commands.logs.log_match.Goals as goal
 
 same_outcome : (r : Result Log OutOfMemory) (of : Log → Outcome) (log : Log) → IfOk r (λ found. found ≡ log) → IfOk r (λ found. of found ≡ of log)
@@ -27,7 +20,8 @@ returns-clause-made g c =
     let setup = c.args.setup.now in
     let out = c.args.out.now in
     let log = log_after setup (match_turns setup) in
-    is_made c.stored_log.result c.match_log-log.result.0 c.stored_log.ensures.stops c.stored_log.ensures.refused (logged_as (codes "log") setup out) (logged_as (codes "log") setup out log)
+    is_made c.stored_log.result c.match_log-log.result.0 c.stored_log.ensures.stops c.stored_log.ensures.refused (logged_as (codes "log") setup out)
+    (logged_as (codes "log") setup out log)
     (same_outcome c.match_log-log.result.0 (logged_as (codes "log") setup out) log c.match_log-log.ensures.log) c.stored_log.ensures.made
 
 pub returns-clause-played : goal.returns-clause-played

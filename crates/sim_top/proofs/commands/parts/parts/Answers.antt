@@ -1,16 +1,7 @@
 -- The match was read and its templates were told, or it could not be read.
-use Rattle.std.proofs.Common.{◌≡◌, ℕ, List, Err, Result, refl, sym, subst, rules}
-use Rattle.sim_base.specs.declared.setup.Setup.{Setup}
-use Rattle.sim_report.specs.Parts.{parts_text}
-use Rattle.sim_top.specs.Commands.{IsAnswerTo, shelved}
-use Rattle.sim_top.specs.Outcome.{Outcome, printed, match_in}
-use Rattle.sim_top.specs.Words.{to_parts}
-use Rattle.sim_top.specs.declared.commands.Answer.{Answer}
-use Rattle.sim_top.specs.declared.status.Status.TheVariants.{Done}
-use Rattle.sim_top.specs.declared.stop.Stop.{Stop}
-use Rattle.sim_top.proofs.Answering.{Opens, match_ends, match_goes_on}
-use Rattle.sim_top.proofs.Playing.{text_made}
-use Rattle.sim_top.proofs.Stopping.{Then-read, Then-ended}
+use Rattle.sim_top.proofs.{Answering.match_ends, Answering.match_goes_on, Answering.Opens, Common.Stop, Common.subst, Common.sym, Common.to_parts}
+use Rattle.sim_top.proofs.{Playing.text_made, Stopping.Then-ended, Stopping.Then-read}
+use Rattle.sim_top.proofs.Common.{◌≡◌, ℕ, List, Err, Result, refl, Answer, Done, IsAnswerTo, match_in, Outcome, parts_text, printed, rules, Setup, shelved}
 use Rattle.sim_top.proofs.commands.parts.parts.Goals as goal
 
 -- what comes of the match
@@ -27,14 +18,16 @@ returns-in_err-setup g c =
     let before = shelved (g.S.Shelf.held c.args.shelf.now) (g.S.Shelf.counts c.args.shelf.now) in
     let now = shelved (g.S.Shelf.held c.read_match.new.shelf) (g.S.Shelf.counts c.read_match.new.shelf) in
     subst (λ (r : Result Answer Stop). IsAnswerTo (to_parts game) r before now) (sym is)
-    (match_ends (to_parts game) game (λ files. match_in files game) c.in_err-setup.field-0.0 before now (opens game) c.in_err-setup.ensures.stops c.in_err-setup.ensures.tells c.in_err-setup.ensures.reading)
+    (match_ends (to_parts game) game (λ files. match_in files game) c.in_err-setup.field-0.0 before now (opens game) c.in_err-setup.ensures.stops
+    c.in_err-setup.ensures.tells c.in_err-setup.ensures.reading)
 
 pub returns : goal.returns
 returns g c =
     let game = c.args.game.now in
     let setup = c.in_ok-setup.setup in
     let text = parts_text setup.templates in
-    match_goes_on (to_parts game) game (λ files. match_in files game) setup (printed Done text) c.shown.result _ _ (opens game) c.in_ok-setup.ensures.reading c.in_ok-setup.ensures.tells
+    match_goes_on (to_parts game) game (λ files. match_in files game) setup (printed Done text) c.shown.result _ _ (opens game) c.in_ok-setup.ensures.reading
+    c.in_ok-setup.ensures.tells
     (λ files e. Then-read (match_in files game) setup told (printed Done text) e refl) (λ files. refl)
     (text_made c.shown.result c.parts_text.result text c.shown.ensures.stops c.shown.ensures.refused c.shown.ensures.made c.parts_text.ensures)
     (record { status = tt; done = tt; file = tt })

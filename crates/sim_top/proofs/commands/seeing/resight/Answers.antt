@@ -1,24 +1,9 @@
 -- The match, the state and the explored cells were read and the match played on, or one of them could not be read.
-use Rattle.std.proofs.Common.{◌≡◌, ℕ, List, Ok, Err, Result, refl, sym, ◌∙◌, subst, rules}
-use Rattle.std.specs.Prelude.{Some, IfSome, OnOk}
-use Rattle.sim_base.specs.declared.setup.Setup.{Setup}
-use Rattle.sim_base.specs.declared.state.State.{State}
-use Rattle.sim_play.specs.Lines.{end_from}
-use Rattle.sim_store.specs.Files.{File}
-use Rattle.sim_system.specs.Meanings.{AreFed}
-use Rattle.sim_system.specs.RigWords.{systems_by}
-use Rattle.sim_top.specs.Commands.{IsAnswerTo, shelved}
-use Rattle.sim_top.specs.Making.{status_made}
-use Rattle.sim_top.specs.Outcome.{IsSeenFrom, match_in, bytes_in}
-use Rattle.sim_top.specs.Returning.{RigsCameBackBy}
-use Rattle.sim_top.specs.Rigs.{StandForStored}
-use Rattle.sim_top.specs.Stops.{IsState}
-use Rattle.sim_top.specs.Words.{to_resight}
-use Rattle.sim_top.specs.declared.commands.Answer.{Answer}
-use Rattle.sim_top.specs.declared.stop.Stop.{Stop}
-use Rattle.sim_top.proofs.Answering.{match_ends, stored_ends, both_given, both_told}
-use Rattle.sim_top.proofs.Returning.{rigs_left, one_played, was_played_as, stands_read, stored_stands, kind_of_first, room_for}
-use Rattle.sim_top.proofs.Sighting.{with_map, loads, seen_ended, map_ends, map_goes_on}
+use Rattle.sim_top.proofs.Answering.{both_given, both_told, match_ends, stored_ends}
+use Rattle.sim_top.proofs.Common.{RigsCameBackBy, rules, Setup, shelved, StandForStored, State, status_made, Stop, subst, sym, systems_by, to_resight, ◌∙◌}
+use Rattle.sim_top.proofs.Common.{◌≡◌, List, Some, Ok, Err, Result, refl, Answer, bytes_in, end_from, File, IsAnswerTo, IsSeenFrom, IsState, match_in}
+use Rattle.sim_top.proofs.Returning.{kind_of_first, one_played, rigs_left, room_for, stands_read, stored_stands, was_played_as}
+use Rattle.sim_top.proofs.Sighting.{loads, map_ends, map_goes_on, seen_ended, with_map}
 use Rattle.sim_top.proofs.commands.seeing.resight.Goals as goal
 
 pub returns-in_err-setup-clause-answer : goal.returns-in_err-setup-clause-answer

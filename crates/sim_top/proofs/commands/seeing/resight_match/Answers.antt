@@ -1,6 +1,5 @@
 -- What is seen in the end is printed, or there was no memory.
-use Rattle.sim_top.proofs.Playing.{made_if}
-use Rattle.sim_top.proofs.Sighting.{sight_made}
+use Rattle.sim_top.proofs.{Playing.made_if, Sighting.sight_made}
 use Rattle.sim_top.proofs.commands.seeing.resight_match.Goals as goal
 
 pub returns-clause-made : goal.returns-clause-made

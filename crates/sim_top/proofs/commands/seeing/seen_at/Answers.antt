@@ -1,10 +1,6 @@
 -- The lines and the file of the turn are kept, or there was no memory.
-use Rattle.std.proofs.Common.{string_bytes}
-use Rattle.std.specs.Prelude.{ℕ, String, Vec}
-use Rattle.std.specs.declared.alloc.Global.{Global}
-use Rattle.sim_top.specs.Outcome.{seen_with, sight_outcome}
-use Rattle.sim_top.proofs.Playing.{made_if, is_made}
-use Rattle.sim_top.proofs.Sighting.{sighted_is}
+use Rattle.sim_top.proofs.{Common.ℕ, Common.string_bytes, Common.Vec, Common.String, Common.Global, Common.seen_with, Common.sight_outcome, Sighting.sighted_is}
+use Rattle.sim_top.proofs.Playing.{is_made, made_if}
 use Rattle.sim_top.proofs.commands.seeing.seen_at.Goals as goal
 
 pub returns-clause-made : goal.returns-clause-made

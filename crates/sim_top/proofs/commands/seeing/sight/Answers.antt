@@ -1,26 +1,10 @@
 -- The match was read and a sight followed it to the turn, or it could not be read, or has not the turn.
-use Rattle.std.proofs.Common.{◌≡◌, ℕ, List, Ok, Err, Result, refl, sym, ap, ◌∙◌, subst, rules}
-use Rattle.std.specs.Prelude.{Some}
-use Rattle.sim_base.specs.declared.setup.Setup.{Setup}
-use Rattle.sim_base.specs.Turn.{after, own_turns}
-use Rattle.sim_report.specs.Refusals.{refusal_text}
-use Rattle.sim_report.specs.declared.refusal.Refusal.TheVariants.{Turn}
-use Rattle.sim_store.specs.Files.{File}
-use Rattle.sim_system.specs.Meanings.{AreFed}
-use Rattle.sim_system.specs.RigWords.{systems_by}
-use Rattle.sim_top.specs.Commands.{MayFinish, IsAnswerTo, shelved}
-use Rattle.sim_top.specs.Making.{status_made}
-use Rattle.sim_top.specs.Outcome.{Outcome, IsOutcomeOf, printed, match_in, sight_outcome}
-use Rattle.sim_top.specs.Reads.{HasEnded}
-use Rattle.sim_top.specs.Returning.{RigsCameBackBy}
-use Rattle.sim_top.specs.Words.{to_sight}
-use Rattle.sim_top.specs.declared.commands.Answer.{Answer}
-use Rattle.sim_top.specs.declared.status.Status.TheVariants.{NoSuchTurn}
-use Rattle.sim_top.specs.declared.stop.Stop.{Stop}
-use Rattle.sim_top.proofs.Answering.{Opens, match_ends, match_goes_on, match_there, turn_ends_at}
-use Rattle.sim_top.proofs.Sighting.{sight_past, sight_done}
-use Rattle.sim_top.proofs.Returning.{rigs_left, first_played, stands_read, whatever_held, kind_of_first, room_for}
-use Rattle.sim_top.proofs.Stopping.{Told, Then-read, Then-ended}
+use Rattle.sim_top.proofs.{Sighting.sight_done, Sighting.sight_past, Stopping.Then-ended, Stopping.Then-read, Stopping.Told}
+use Rattle.sim_top.proofs.Answering.{match_ends, match_goes_on, match_there, Opens, turn_ends_at}
+use Rattle.sim_top.proofs.Common.{MayFinish, NoSuchTurn, Outcome, own_turns, printed, refusal_text, RigsCameBackBy, rules, Setup, shelved, sight_outcome}
+use Rattle.sim_top.proofs.Common.{status_made, Stop, subst, sym, systems_by, to_sight, Turn, ◌∙◌}
+use Rattle.sim_top.proofs.Common.{◌≡◌, ℕ, List, Some, Ok, Err, Result, refl, after, Answer, ap, AreFed, File, HasEnded, IsAnswerTo, IsOutcomeOf, match_in}
+use Rattle.sim_top.proofs.Returning.{first_played, kind_of_first, rigs_left, room_for, stands_read, whatever_held}
 use Rattle.sim_top.proofs.commands.seeing.sight.Goals as goal
 
 -- what comes of the match

@@ -1,18 +1,8 @@
 -- The schedule was read and served, or it could not be read.
-use Rattle.std.proofs.Common.{◌≡◌, Ok, Err, Result, refl, sym, subst, rules}
 use Rattle.sim_serve.specs.Served.{served_text}
-use Rattle.sim_lists.specs.declared.schedule.Schedule.{Schedule}
-use Rattle.sim_top.specs.Commands.{IsAnswerTo, shelved}
-use Rattle.sim_top.specs.Outcome.{Outcome, IsOutcomeOf, printed, schedule_in}
-use Rattle.std.specs.Prelude.{Some}
-use Rattle.sim_top.specs.Stops.{Stopped}
-use Rattle.sim_top.specs.Words.{to_serve}
-use Rattle.sim_top.specs.declared.commands.Answer.{Answer}
-use Rattle.sim_top.specs.declared.status.Status.TheVariants.{Done}
-use Rattle.sim_top.specs.declared.stop.Stop.{Stop}
-use Rattle.sim_top.proofs.Answering.{comes_to, list_ends_at}
-use Rattle.sim_top.proofs.Playing.{text_made}
-use Rattle.sim_top.proofs.Stopping.{Told, Stopped-weaker, Then-read, Then-ended}
+use Rattle.sim_top.proofs.{Answering.comes_to, Answering.list_ends_at, Common.shelved, Common.Stop, Common.Stopped, Common.subst, Common.sym, Common.to_serve}
+use Rattle.sim_top.proofs.{Playing.text_made, Stopping.Stopped-weaker, Stopping.Then-ended, Stopping.Then-read, Stopping.Told}
+use Rattle.sim_top.proofs.Common.{◌≡◌, Some, Ok, Err, Result, refl, Answer, Done, IsAnswerTo, IsOutcomeOf, Outcome, printed, rules, Schedule, schedule_in}
 use Rattle.sim_top.proofs.commands.serving.serve.Goals as goal
 
 -- what comes of the schedule
@@ -29,8 +19,10 @@ returns-in_err-schedule g c =
     subst (λ (r : Result Answer Stop). IsAnswerTo (to_serve name) r before now) (sym is)
     (list_ends_at (to_serve name) stop before now refl refl c.in_err-schedule.ensures.stops
     (Told (λ files. Stopped stop (λ ended. schedule_in files name ≡ Err ended)) (λ files. Stopped stop (IsOutcomeOf files (Some (to_serve name)))) before.held
-    (λ files h. Stopped-weaker stop (λ ended. schedule_in files name ≡ Err ended) (IsOutcomeOf files (Some (to_serve name))) (λ o e. Then-ended (schedule_in files name) served o e) h) c.in_err-schedule.ensures.tells)
-    c.in_err-schedule.ensures.reading.causes c.in_err-schedule.ensures.reading.missing c.in_err-schedule.ensures.reading.given c.in_err-schedule.ensures.reading.same)
+    (λ files h. Stopped-weaker stop (λ ended. schedule_in files name ≡ Err ended) (IsOutcomeOf files (Some (to_serve name)))
+    (λ o e. Then-ended (schedule_in files name) served o e) h) c.in_err-schedule.ensures.tells)
+    c.in_err-schedule.ensures.reading.causes c.in_err-schedule.ensures.reading.missing c.in_err-schedule.ensures.reading.given
+    c.in_err-schedule.ensures.reading.same)
 
 pub returns : goal.returns
 returns g c =
@@ -38,7 +30,8 @@ returns g c =
     let schedule = c.in_ok-schedule.schedule in
     let reading = c.in_ok-schedule.ensures.reading in
     comes_to (to_serve name) (printed Done (served_text schedule)) c.shown.result _ _
-    (text_made c.shown.result c.served_text.result (served_text schedule) c.shown.ensures.stops c.shown.ensures.refused c.shown.ensures.made c.served_text.ensures)
+    (text_made c.shown.result c.served_text.result (served_text schedule) c.shown.ensures.stops c.shown.ensures.refused c.shown.ensures.made
+    c.served_text.ensures)
     (record { status = tt; done = tt; file = tt })
     (Told (λ files. schedule_in files name ≡ Ok schedule) (λ files. IsOutcomeOf files (Some (to_serve name)) (printed Done (served_text schedule))) _
     (λ files e. Then-read (schedule_in files name) schedule served (printed Done (served_text schedule)) e refl) c.in_ok-schedule.ensures.tells)

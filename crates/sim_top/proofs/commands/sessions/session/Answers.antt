@@ -1,17 +1,7 @@
 -- The match and the steps were read and the session run, or one could not be read.
-use Rattle.std.proofs.Common.{◌≡◌, Ok, Err, Result, sym, subst, rules}
-use Rattle.std.specs.Prelude.{Some, IfSome, Option, List}
-use Rattle.sim_store.specs.Files.{File}
-use Rattle.sim_session_text.specs.SessionText.{session_text}
-use Rattle.sim_top.specs.Commands.{IsAnswerTo, shelved}
-use Rattle.sim_top.specs.Making.{status_made}
-use Rattle.sim_top.specs.Outcome.{printed, session_match_in, steps_in}
-use Rattle.sim_top.specs.Returning.{RigsCameBackBy}
-use Rattle.sim_top.specs.Words.{to_session}
-use Rattle.sim_top.specs.declared.commands.Answer.{Answer}
-use Rattle.sim_top.specs.declared.status.Status.TheVariants.{Done}
-use Rattle.sim_top.specs.declared.stop.Stop.{Stop}
 use Rattle.sim_top.proofs.Answering.{match_ends, session_opens, steps_end, steps_go_on}
+use Rattle.sim_top.proofs.Common.{session_match_in, session_text, shelved, status_made, steps_in, Stop, subst, sym, to_session}
+use Rattle.sim_top.proofs.Common.{◌≡◌, List, IfSome, Some, Ok, Err, Option, Result, Answer, Done, File, IsAnswerTo, printed, RigsCameBackBy, rules}
 use Rattle.sim_top.proofs.Returning.{rigs_left, session_played}
 use Rattle.sim_top.proofs.commands.sessions.session.Goals as goal
 
@@ -23,15 +13,18 @@ returns-in_err-setup-clause-answer g c =
     let before = shelved (g.S.Shelf.held c.args.shelf.now) (g.S.Shelf.counts c.args.shelf.now) in
     let now = shelved (g.S.Shelf.held c.read_session_match.new.shelf) (g.S.Shelf.counts c.read_session_match.new.shelf) in
     subst (λ (r : Result Answer Stop). IsAnswerTo (to_session game steps) r before now) (sym is)
-    (match_ends (to_session game steps) game (λ files. session_match_in files game) c.in_err-setup.field-0.0 before now (session_opens game steps) c.in_err-setup.ensures.stops c.in_err-setup.ensures.tells
+    (match_ends (to_session game steps) game (λ files. session_match_in files game) c.in_err-setup.field-0.0 before now (session_opens game steps)
+    c.in_err-setup.ensures.stops c.in_err-setup.ensures.tells
     c.in_err-setup.ensures.reading)
 
 pub returns-in_err-setup-clause-back : goal.returns-in_err-setup-clause-back
 returns-in_err-setup-clause-back g c =
     let is : c.from_residual.result ≡ Err c.in_err-setup.field-0.0 = search rules in
     let held = g.S.Shelf.held c.args.shelf.now in
-    subst (λ (r : Result Answer Stop). RigsCameBackBy (λ i v. (goal.System-dyn g (i, v)).meaning v) (Some (to_session c.args.game.now c.args.steps.now)) held (status_made r) c.args.rigs.now c.args.rigs.now) (sym is)
-    (rigs_left (λ i v. (goal.System-dyn g (i, v)).meaning v) (Some (to_session c.args.game.now c.args.steps.now)) held c.in_err-setup.field-0.0 c.args.rigs.now c.requires.eight)
+    subst (λ (r : Result Answer Stop). RigsCameBackBy (λ i v. (goal.System-dyn g (i, v)).meaning v) (Some (to_session c.args.game.now c.args.steps.now)) held
+    (status_made r) c.args.rigs.now c.args.rigs.now) (sym is)
+    (rigs_left (λ i v. (goal.System-dyn g (i, v)).meaning v) (Some (to_session c.args.game.now c.args.steps.now)) held c.in_err-setup.field-0.0 c.args.rigs.now
+    c.requires.eight)
 
 pub returns-in_err-list-clause-answer : goal.returns-in_err-list-clause-answer
 returns-in_err-list-clause-answer g c =
@@ -39,26 +32,33 @@ returns-in_err-list-clause-answer g c =
     let before = shelved (g.S.Shelf.held c.args.shelf.now) (g.S.Shelf.counts c.args.shelf.now) in
     let now = shelved (g.S.Shelf.held c.read_steps.new.shelf) (g.S.Shelf.counts c.read_steps.new.shelf) in
     subst (λ (r : Result Answer Stop). IsAnswerTo (to_session c.args.game.now c.args.steps.now) r before now) (sym is)
-    (steps_end c.args.game.now c.args.steps.now c.in_ok-setup.setup before _ now c.in_ok-setup.ensures.reading c.in_ok-setup.ensures.tells c.in_err-list.field-0.0 c.in_err-list.ensures.stops
+    (steps_end c.args.game.now c.args.steps.now c.in_ok-setup.setup before _ now c.in_ok-setup.ensures.reading c.in_ok-setup.ensures.tells
+    c.in_err-list.field-0.0 c.in_err-list.ensures.stops
     c.in_err-list.ensures.reading c.in_err-list.ensures.tells)
 
 pub returns-in_err-list-clause-back : goal.returns-in_err-list-clause-back
 returns-in_err-list-clause-back g c =
     let is : c.from_residual-in_err-list.result ≡ Err c.in_err-list.field-0.0 = search rules in
     let held = g.S.Shelf.held c.args.shelf.now in
-    subst (λ (r : Result Answer Stop). RigsCameBackBy (λ i v. (goal.System-dyn g (i, v)).meaning v) (Some (to_session c.args.game.now c.args.steps.now)) held (status_made r) c.args.rigs.now c.args.rigs.now) (sym is)
-    (rigs_left (λ i v. (goal.System-dyn g (i, v)).meaning v) (Some (to_session c.args.game.now c.args.steps.now)) held c.in_err-list.field-0.0 c.args.rigs.now c.requires.eight)
+    subst (λ (r : Result Answer Stop). RigsCameBackBy (λ i v. (goal.System-dyn g (i, v)).meaning v) (Some (to_session c.args.game.now c.args.steps.now)) held
+    (status_made r) c.args.rigs.now c.args.rigs.now) (sym is)
+    (rigs_left (λ i v. (goal.System-dyn g (i, v)).meaning v) (Some (to_session c.args.game.now c.args.steps.now)) held c.in_err-list.field-0.0 c.args.rigs.now
+    c.requires.eight)
 
 pub returns-clause-answer : goal.returns-clause-answer
 returns-clause-answer g c =
-    steps_go_on c.args.game.now c.args.steps.now c.in_ok-setup.setup _ _ _ c.in_ok-setup.ensures.reading c.in_ok-setup.ensures.tells c.in_ok-list.list c.session_match.result c.in_ok-list.ensures.reading
+    steps_go_on c.args.game.now c.args.steps.now c.in_ok-setup.setup _ _ _ c.in_ok-setup.ensures.reading c.in_ok-setup.ensures.tells c.in_ok-list.list
+    c.session_match.result c.in_ok-list.ensures.reading
     c.in_ok-list.ensures.tells c.session_match.ensures.made
 
 pub returns-clause-back : goal.returns-clause-back
 returns-clause-back g c =
     let setup = c.in_ok-setup.setup in
     let list = c.in_ok-list.list in
-    session_played (λ i v. (goal.System-dyn g (i, v)).meaning v) (g.S.Shelf.held c.args.shelf.now) c.args.game.now c.args.steps.now setup list (printed Done (session_text setup list)) c.session_match.result c.args.rigs.now c.session_match.new.rigs
+    session_played (λ i v. (goal.System-dyn g (i, v)).meaning v) (g.S.Shelf.held c.args.shelf.now) c.args.game.now c.args.steps.now setup list
+    (printed Done (session_text setup list)) c.session_match.result c.args.rigs.now c.session_match.new.rigs
     c.in_ok-setup.ensures.limits c.in_ok-list.ensures.limits c.in_ok-setup.ensures.tells
-    (subst (λ (held : Option (List File)). IfSome held (λ files. steps_in files c.args.steps.now setup.players ≡ Ok list)) c.in_ok-setup.ensures.reading.same c.in_ok-list.ensures.tells)
-    c.session_match.ensures.made tt c.session_match.ensures.stand c.session_match.ensures.built c.session_match.ensures.spare c.requires.eight c.session_match.ensures.eight c.session_match.ensures.room
+    (subst (λ (held : Option (List File)). IfSome held (λ files. steps_in files c.args.steps.now setup.players ≡ Ok list)) c.in_ok-setup.ensures.reading.same
+    c.in_ok-list.ensures.tells)
+    c.session_match.ensures.made tt c.session_match.ensures.stand c.session_match.ensures.built c.session_match.ensures.spare c.requires.eight
+    c.session_match.ensures.eight c.session_match.ensures.room

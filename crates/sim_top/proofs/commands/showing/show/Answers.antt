@@ -1,18 +1,8 @@
 -- The match and the state were read and shown, or one could not be read.
-use Rattle.std.proofs.Common.{◌≡◌, ℕ, List, Err, Result, refl, sym, subst, rules}
-use Rattle.sim_base.specs.declared.setup.Setup.{Setup}
-use Rattle.sim_base.specs.declared.state.State.{State}
 use Rattle.sim_report.specs.Show.{show_text}
-use Rattle.sim_store.specs.Files.{File}
-use Rattle.sim_top.specs.Commands.{IsAnswerTo, shelved}
-use Rattle.sim_top.specs.Outcome.{Outcome, printed, match_in}
-use Rattle.sim_top.specs.Words.{to_show}
-use Rattle.sim_top.specs.declared.commands.Answer.{Answer}
-use Rattle.sim_top.specs.declared.status.Status.TheVariants.{Done}
-use Rattle.sim_top.specs.declared.stop.Stop.{Stop}
-use Rattle.sim_top.proofs.Answering.{Opens, Loads, match_ends, stored_ends, stored_goes_on, both_given}
-use Rattle.sim_top.proofs.Playing.{text_made}
-use Rattle.sim_top.proofs.Stopping.{Then-ended}
+use Rattle.sim_top.proofs.{Answering.both_given, Answering.Loads, Answering.match_ends, Answering.stored_ends, Answering.stored_goes_on, Stopping.Then-ended}
+use Rattle.sim_top.proofs.{Common.Stop, Common.subst, Common.sym, Common.to_show, Playing.text_made}
+use Rattle.sim_top.proofs.Common.{◌≡◌, ℕ, List, Err, Result, refl, Answer, Done, File, IsAnswerTo, match_in, Outcome, printed, rules, Setup, shelved, State}
 use Rattle.sim_top.proofs.commands.showing.show.Goals as goal
 
 -- what comes of the state
@@ -34,7 +24,8 @@ returns-in_err-setup g c =
     let before = shelved (g.S.Shelf.held c.args.shelf.now) (g.S.Shelf.counts c.args.shelf.now) in
     let now = shelved (g.S.Shelf.held c.read_match.new.shelf) (g.S.Shelf.counts c.read_match.new.shelf) in
     subst (λ (r : Result Answer Stop). IsAnswerTo (to_show game c.args.name.now) r before now) (sym is)
-    (match_ends (to_show game c.args.name.now) game (λ files. match_in files game) c.in_err-setup.field-0.0 before now ((loads game c.args.name.now).opens) c.in_err-setup.ensures.stops c.in_err-setup.ensures.tells c.in_err-setup.ensures.reading)
+    (match_ends (to_show game c.args.name.now) game (λ files. match_in files game) c.in_err-setup.field-0.0 before now ((loads game c.args.name.now).opens)
+    c.in_err-setup.ensures.stops c.in_err-setup.ensures.tells c.in_err-setup.ensures.reading)
 
 pub returns-in_err-state : goal.returns-in_err-state
 returns-in_err-state g c =
@@ -43,9 +34,11 @@ returns-in_err-state g c =
     let middle = shelved (g.S.Shelf.held c.read_match.new.shelf) (g.S.Shelf.counts c.read_match.new.shelf) in
     let now = shelved (g.S.Shelf.held c.read_state.new.shelf) (g.S.Shelf.counts c.read_state.new.shelf) in
     subst (λ (r : Result Answer Stop). IsAnswerTo (to_show c.args.game.now c.args.name.now) r before now) (sym is)
-    (stored_ends (to_show c.args.game.now c.args.name.now) c.args.game.now c.args.name.now seen (loads c.args.game.now c.args.name.now) c.in_ok-setup.setup before middle now c.in_ok-setup.ensures.reading
+    (stored_ends (to_show c.args.game.now c.args.name.now) c.args.game.now c.args.name.now seen (loads c.args.game.now c.args.name.now) c.in_ok-setup.setup
+    before middle now c.in_ok-setup.ensures.reading
     c.in_ok-setup.ensures.tells c.in_err-state.field-0.0 c.in_err-state.ensures.stops c.in_err-state.ensures.reading c.in_err-state.ensures.tells
-    (λ files e refused. both_given c.args.game.now c.args.name.now c.in_ok-setup.setup (Err c.in_err-state.field-0.0) before middle now c.in_ok-setup.ensures.reading c.in_err-state.ensures.reading files e refused))
+    (λ files e refused. both_given c.args.game.now c.args.name.now c.in_ok-setup.setup (Err c.in_err-state.field-0.0) before middle now
+    c.in_ok-setup.ensures.reading c.in_err-state.ensures.reading files e refused))
 
 pub returns : goal.returns
 returns g c =
@@ -53,6 +46,8 @@ returns g c =
     let name = c.args.name.now in
     let setup = c.in_ok-setup.setup in
     let state = c.in_ok-state.state in
-    stored_goes_on (to_show game name) game name seen (loads game name) setup _ _ _ c.in_ok-setup.ensures.reading c.in_ok-setup.ensures.tells state (printed Done (show_text setup state)) c.shown.result
+    stored_goes_on (to_show game name) game name seen (loads game name) setup _ _ _ c.in_ok-setup.ensures.reading c.in_ok-setup.ensures.tells state
+    (printed Done (show_text setup state)) c.shown.result
     c.in_ok-state.ensures.reading c.in_ok-state.ensures.tells (λ files. refl) (λ files. refl)
-    (text_made c.shown.result c.show_text.result (show_text setup state) c.shown.ensures.stops c.shown.ensures.refused c.shown.ensures.made c.show_text.ensures) (record { status = tt; done = tt; file = tt })
+    (text_made c.shown.result c.show_text.result (show_text setup state) c.shown.ensures.stops c.shown.ensures.refused c.shown.ensures.made c.show_text.ensures)
+    (record { status = tt; done = tt; file = tt })

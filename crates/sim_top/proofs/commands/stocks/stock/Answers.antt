@@ -1,22 +1,8 @@
 -- The match and its economy were read and the one was played by the other, or one could not be read.
-use Rattle.std.proofs.Common.{◌≡◌, Err, Result, refl, sym, ◌∙◌, subst, rules, List}
-use Rattle.std.specs.Prelude.{Some}
-use Rattle.sim_base.specs.declared.setup.Setup.{Setup}
-use Rattle.sim_play.specs.Paid.{paid_state, stock_text}
-use Rattle.sim_store.specs.Files.{File}
-use Rattle.sim_system.specs.RigWords.{systems_by}
-use Rattle.sim_top.specs.Commands.{IsAnswerTo, shelved}
-use Rattle.sim_top.specs.Making.{status_made}
-use Rattle.sim_top.specs.Outcome.{printed, match_in}
-use Rattle.sim_top.specs.Returning.{RigsCameBackBy}
-use Rattle.sim_top.specs.Rigs.{StandForPaid}
-use Rattle.sim_top.specs.Words.{to_stock}
-use Rattle.sim_top.specs.declared.commands.Answer.{Answer}
-use Rattle.sim_top.specs.declared.status.Status.TheVariants.{Done}
-use Rattle.sim_top.specs.declared.stop.Stop.{Stop}
-use Rattle.sim_top.proofs.Answering.{match_ends}
-use Rattle.sim_top.proofs.Returning.{rigs_left, first_played, stands_read, kind_of_first, room_for}
-use Rattle.sim_top.proofs.Stocking.{stock_opens, economy_ends, economy_goes_on, paid_stands}
+use Rattle.sim_top.proofs.{Answering.match_ends, Stocking.economy_ends, Stocking.economy_goes_on, Stocking.paid_stands, Stocking.stock_opens}
+use Rattle.sim_top.proofs.Common.{Setup, shelved, StandForPaid, status_made, stock_text, Stop, subst, sym, systems_by, to_stock, ◌∙◌}
+use Rattle.sim_top.proofs.Common.{◌≡◌, List, Some, Err, Result, refl, Answer, Done, File, IsAnswerTo, match_in, paid_state, printed, RigsCameBackBy, rules}
+use Rattle.sim_top.proofs.Returning.{first_played, kind_of_first, rigs_left, room_for, stands_read}
 use Rattle.sim_top.proofs.commands.stocks.stock.Goals as goal
 
 pub returns-in_err-setup-clause-answer : goal.returns-in_err-setup-clause-answer
@@ -27,15 +13,18 @@ returns-in_err-setup-clause-answer g c =
     let before = shelved (g.S.Shelf.held c.args.shelf.now) (g.S.Shelf.counts c.args.shelf.now) in
     let now = shelved (g.S.Shelf.held c.read_match.new.shelf) (g.S.Shelf.counts c.read_match.new.shelf) in
     subst (λ (r : Result Answer Stop). IsAnswerTo (to_stock game name) r before now) (sym is)
-    (match_ends (to_stock game name) game (λ files. match_in files game) c.in_err-setup.field-0.0 before now (stock_opens game name) c.in_err-setup.ensures.stops c.in_err-setup.ensures.tells
+    (match_ends (to_stock game name) game (λ files. match_in files game) c.in_err-setup.field-0.0 before now (stock_opens game name)
+    c.in_err-setup.ensures.stops c.in_err-setup.ensures.tells
     c.in_err-setup.ensures.reading)
 
 pub returns-in_err-setup-clause-back : goal.returns-in_err-setup-clause-back
 returns-in_err-setup-clause-back g c =
     let is : c.from_residual.result ≡ Err c.in_err-setup.field-0.0 = search rules in
     let held = g.S.Shelf.held c.args.shelf.now in
-    subst (λ (r : Result Answer Stop). RigsCameBackBy (λ i v. (goal.System-dyn g (i, v)).meaning v) (Some (to_stock c.args.game.now c.args.name.now)) held (status_made r) c.args.rigs.now c.args.rigs.now) (sym is)
-    (rigs_left (λ i v. (goal.System-dyn g (i, v)).meaning v) (Some (to_stock c.args.game.now c.args.name.now)) held c.in_err-setup.field-0.0 c.args.rigs.now c.requires)
+    subst (λ (r : Result Answer Stop). RigsCameBackBy (λ i v. (goal.System-dyn g (i, v)).meaning v) (Some (to_stock c.args.game.now c.args.name.now)) held
+    (status_made r) c.args.rigs.now c.args.rigs.now) (sym is)
+    (rigs_left (λ i v. (goal.System-dyn g (i, v)).meaning v) (Some (to_stock c.args.game.now c.args.name.now)) held c.in_err-setup.field-0.0 c.args.rigs.now
+    c.requires)
 
 pub returns-in_err-economy-clause-answer : goal.returns-in_err-economy-clause-answer
 returns-in_err-economy-clause-answer g c =
@@ -43,27 +32,33 @@ returns-in_err-economy-clause-answer g c =
     let before = shelved (g.S.Shelf.held c.args.shelf.now) (g.S.Shelf.counts c.args.shelf.now) in
     let now = shelved (g.S.Shelf.held c.read_economy.new.shelf) (g.S.Shelf.counts c.read_economy.new.shelf) in
     subst (λ (r : Result Answer Stop). IsAnswerTo (to_stock c.args.game.now c.args.name.now) r before now) (sym is)
-    (economy_ends c.args.game.now c.args.name.now c.in_ok-setup.setup before _ now c.in_ok-setup.ensures.reading c.in_ok-setup.ensures.tells c.in_err-economy.field-0.0 c.in_err-economy.ensures.stops
+    (economy_ends c.args.game.now c.args.name.now c.in_ok-setup.setup before _ now c.in_ok-setup.ensures.reading c.in_ok-setup.ensures.tells
+    c.in_err-economy.field-0.0 c.in_err-economy.ensures.stops
     c.in_err-economy.ensures.reading c.in_err-economy.ensures.tells)
 
 pub returns-in_err-economy-clause-back : goal.returns-in_err-economy-clause-back
 returns-in_err-economy-clause-back g c =
     let is : c.from_residual-in_err-economy.result ≡ Err c.in_err-economy.field-0.0 = search rules in
     let held = g.S.Shelf.held c.args.shelf.now in
-    subst (λ (r : Result Answer Stop). RigsCameBackBy (λ i v. (goal.System-dyn g (i, v)).meaning v) (Some (to_stock c.args.game.now c.args.name.now)) held (status_made r) c.args.rigs.now c.args.rigs.now) (sym is)
-    (rigs_left (λ i v. (goal.System-dyn g (i, v)).meaning v) (Some (to_stock c.args.game.now c.args.name.now)) held c.in_err-economy.field-0.0 c.args.rigs.now c.requires)
+    subst (λ (r : Result Answer Stop). RigsCameBackBy (λ i v. (goal.System-dyn g (i, v)).meaning v) (Some (to_stock c.args.game.now c.args.name.now)) held
+    (status_made r) c.args.rigs.now c.args.rigs.now) (sym is)
+    (rigs_left (λ i v. (goal.System-dyn g (i, v)).meaning v) (Some (to_stock c.args.game.now c.args.name.now)) held c.in_err-economy.field-0.0 c.args.rigs.now
+    c.requires)
 
 pub stock_match-answer-requires-clause-kinds : goal.stock_match-answer-requires-clause-kinds
 stock_match-answer-requires-clause-kinds g c =
-    kind_of_first (λ i v. (goal.System-dyn g (i, v)).meaning v) c.args.rigs.now.items c.take_first-rig.new.rigs.items c.take_first-rig.result c.take_first-rig.ensures.items c.requires.kinds
+    kind_of_first (λ i v. (goal.System-dyn g (i, v)).meaning v) c.args.rigs.now.items c.take_first-rig.new.rigs.items c.take_first-rig.result
+    c.take_first-rig.ensures.items c.requires.kinds
 
 pub put_first-requires : goal.put_first-requires
 put_first-requires g c =
-    room_for (λ i v. (goal.System-dyn g (i, v)).meaning v) c.args.rigs.now c.take_first-rig.new.rigs c.take_first-rig.result c.take_first-rig.ensures.items c.take_first-rig.ensures.room
+    room_for (λ i v. (goal.System-dyn g (i, v)).meaning v) c.args.rigs.now c.take_first-rig.new.rigs c.take_first-rig.result c.take_first-rig.ensures.items
+    c.take_first-rig.ensures.room
 
 pub returns-clause-answer : goal.returns-clause-answer
 returns-clause-answer g c =
-    economy_goes_on c.args.game.now c.args.name.now c.in_ok-setup.setup _ _ _ c.in_ok-setup.ensures.reading c.in_ok-setup.ensures.tells c.in_ok-economy.economy c.stock_match-answer.result.0
+    economy_goes_on c.args.game.now c.args.name.now c.in_ok-setup.setup _ _ _ c.in_ok-setup.ensures.reading c.in_ok-setup.ensures.tells c.in_ok-economy.economy
+    c.stock_match-answer.result.0
     c.in_ok-economy.ensures.reading c.in_ok-economy.ensures.tells c.stock_match-answer.ensures.made
 
 pub returns-clause-back : goal.returns-clause-back
@@ -75,10 +70,14 @@ returns-clause-back g c =
     let held = g.S.Shelf.held c.args.shelf.now in
     let made = c.stock_match-answer.result.0 in
     let last = c.stock_match-answer.result.1 in
-    first_played (λ i v. (goal.System-dyn g (i, v)).meaning v) (to_stock game name) held setup (paid_state setup economy setup.turns) (printed Done (stock_text setup economy)) made c.take_first-rig.result last
-    c.take_first-rig.new.rigs.items c.args.rigs.now c.put_first.new.rigs c.requires c.take_first-rig.ensures.items c.put_first.ensures.items (c.put_first.ensures.room ∙ c.take_first-rig.ensures.room) refl
+    first_played (λ i v. (goal.System-dyn g (i, v)).meaning v) (to_stock game name) held setup (paid_state setup economy setup.turns)
+    (printed Done (stock_text setup economy)) made c.take_first-rig.result last
+    c.take_first-rig.new.rigs.items c.args.rigs.now c.put_first.new.rigs c.requires c.take_first-rig.ensures.items c.put_first.ensures.items
+    (c.put_first.ensures.room ∙ c.take_first-rig.ensures.room) refl
     c.stock_match-answer.ensures.made tt c.stock_match-answer.ensures.played
-    (stands_read held (λ files. match_in files game) setup made (λ (files : List File) (setup : Setup). StandForPaid files name setup (systems_by last (λ i v. (goal.System-dyn g (i, v)).meaning v)))
+    (stands_read held (λ files. match_in files game) setup made (λ (files : List File) (setup : Setup). StandForPaid files name setup
+    (systems_by last (λ i v. (goal.System-dyn g (i, v)).meaning v)))
     c.in_ok-setup.ensures.tells
-    (paid_stands game name setup _ _ _ c.in_ok-setup.ensures.reading c.in_ok-setup.ensures.tells economy made (systems_by last (λ i v. (goal.System-dyn g (i, v)).meaning v))
+    (paid_stands game name setup _ _ _ c.in_ok-setup.ensures.reading c.in_ok-setup.ensures.tells economy made
+    (systems_by last (λ i v. (goal.System-dyn g (i, v)).meaning v))
     c.in_ok-economy.ensures.reading c.in_ok-economy.ensures.tells c.stock_match-answer.ensures.played.fed))

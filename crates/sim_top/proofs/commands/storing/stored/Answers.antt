@@ -1,5 +1,5 @@
 -- A valid state has few rows, and short ways.
-use Rattle.sim_codec.proofs.ShortWays.{short_ways, few_rows}
+use Rattle.sim_codec.proofs.ShortWays.{few_rows, short_ways}
 use Rattle.sim_top.proofs.commands.storing.stored.Goals as goal
 
 pub spell-requires-clause-short : goal.spell-requires-clause-short

@@ -1,20 +1,8 @@
 -- The match of the trial was made and played, or refused.
-use Rattle.std.proofs.Common.{◌≡◌, List, Err, Result, refl, sym, ◌∙◌, subst, rules}
-use Rattle.std.specs.Prelude.{Some}
-use Rattle.sim_base.specs.declared.setup.Setup.{Setup}
-use Rattle.sim_base.specs.Turn.{after, own_turns}
-use Rattle.sim_store.specs.Files.{File}
-use Rattle.sim_system.specs.Meanings.{AreFed}
-use Rattle.sim_system.specs.RigWords.{systems_by}
-use Rattle.sim_top.specs.Commands.{IsAnswerTo}
-use Rattle.sim_top.specs.Making.{status_made}
-use Rattle.sim_top.specs.Outcome.{trial_match, trial_outcome}
-use Rattle.sim_top.specs.Returning.{RigsCameBackBy}
-use Rattle.sim_top.specs.Words.{to_try}
-use Rattle.sim_top.specs.declared.commands.Answer.{Answer}
-use Rattle.sim_top.specs.declared.stop.Stop.{Stop}
 use Rattle.sim_top.proofs.Answering.{trial_ends, trial_goes_on}
-use Rattle.sim_top.proofs.Returning.{rigs_left, first_played, stands_read, whatever_held, kind_of_first, room_for}
+use Rattle.sim_top.proofs.Common.{status_made, Stop, subst, sym, systems_by, to_try, trial_match, trial_outcome, ◌∙◌}
+use Rattle.sim_top.proofs.Common.{◌≡◌, List, Some, Err, Result, refl, after, Answer, AreFed, File, IsAnswerTo, own_turns, RigsCameBackBy, rules, Setup}
+use Rattle.sim_top.proofs.Returning.{first_played, kind_of_first, rigs_left, room_for, stands_read, whatever_held}
 use Rattle.sim_top.proofs.commands.trials.trial.Goals as goal
 
 pub returns-in_err-setup-clause-answer : goal.returns-in_err-setup-clause-answer
@@ -30,16 +18,19 @@ returns-in_err-setup-clause-back g c =
     λ held.
     let is : c.from_residual.result ≡ Err c.in_err-setup.field-0.0 = search rules in
     let n = c.args.numbers in
-    subst (λ (r : Result Answer Stop). RigsCameBackBy (λ i v. (goal.System-dyn g (i, v)).meaning v) (Some (to_try n.0 n.1 n.2)) held (status_made r) c.args.rigs.now c.args.rigs.now) (sym is)
+    subst (λ (r : Result Answer Stop). RigsCameBackBy (λ i v. (goal.System-dyn g (i, v)).meaning v) (Some (to_try n.0 n.1 n.2)) held (status_made r)
+    c.args.rigs.now c.args.rigs.now) (sym is)
     (rigs_left (λ i v. (goal.System-dyn g (i, v)).meaning v) (Some (to_try n.0 n.1 n.2)) held c.in_err-setup.field-0.0 c.args.rigs.now c.requires.eight)
 
 pub tried-answer-requires-clause-kinds : goal.tried-answer-requires-clause-kinds
 tried-answer-requires-clause-kinds g c =
-    kind_of_first (λ i v. (goal.System-dyn g (i, v)).meaning v) c.args.rigs.now.items c.take_first-rig.new.rigs.items c.take_first-rig.result c.take_first-rig.ensures.items c.requires.eight.kinds
+    kind_of_first (λ i v. (goal.System-dyn g (i, v)).meaning v) c.args.rigs.now.items c.take_first-rig.new.rigs.items c.take_first-rig.result
+    c.take_first-rig.ensures.items c.requires.eight.kinds
 
 pub put_first-requires : goal.put_first-requires
 put_first-requires g c =
-    room_for (λ i v. (goal.System-dyn g (i, v)).meaning v) c.args.rigs.now c.take_first-rig.new.rigs c.take_first-rig.result c.take_first-rig.ensures.items c.take_first-rig.ensures.room
+    room_for (λ i v. (goal.System-dyn g (i, v)).meaning v) c.args.rigs.now c.take_first-rig.new.rigs c.take_first-rig.result c.take_first-rig.ensures.items
+    c.take_first-rig.ensures.room
 
 pub returns-clause-answer : goal.returns-clause-answer
 returns-clause-answer g c =
@@ -53,8 +44,12 @@ returns-clause-back g c =
     let n = c.args.numbers in
     let setup = c.in_ok-setup.setup in
     let last = c.tried-answer.result.1 in
-    first_played (λ i v. (goal.System-dyn g (i, v)).meaning v) (to_try n.0 n.1 n.2) held setup (after setup (own_turns setup 0 setup.turns)) (trial_outcome n.0 n.1 n.2 setup) c.tried-answer.result.0 c.take_first-rig.result last
-    c.take_first-rig.new.rigs.items c.args.rigs.now c.put_first.new.rigs c.requires.eight c.take_first-rig.ensures.items c.put_first.ensures.items (c.put_first.ensures.room ∙ c.take_first-rig.ensures.room) refl
+    first_played (λ i v. (goal.System-dyn g (i, v)).meaning v) (to_try n.0 n.1 n.2) held setup (after setup (own_turns setup 0 setup.turns))
+    (trial_outcome n.0 n.1 n.2 setup) c.tried-answer.result.0 c.take_first-rig.result last
+    c.take_first-rig.new.rigs.items c.args.rigs.now c.put_first.new.rigs c.requires.eight c.take_first-rig.ensures.items c.put_first.ensures.items
+    (c.put_first.ensures.room ∙ c.take_first-rig.ensures.room) refl
     c.tried-answer.ensures.made tt c.tried-answer.ensures.played
-    (stands_read held (λ files. trial_match n.0 n.1 n.2) setup c.tried-answer.result.0 (λ (files : List File) (setup : Setup). AreFed setup (after setup (own_turns setup 0 setup.turns)) (systems_by last (λ i v. (goal.System-dyn g (i, v)).meaning v)))
+    (stands_read held (λ files. trial_match n.0 n.1 n.2) setup c.tried-answer.result.0
+    (λ (files : List File) (setup : Setup). AreFed setup (after setup (own_turns setup 0 setup.turns))
+    (systems_by last (λ i v. (goal.System-dyn g (i, v)).meaning v)))
     (whatever_held held _ c.in_ok-setup.ensures.tells) (whatever_held held _ c.tried-answer.ensures.played.fed))

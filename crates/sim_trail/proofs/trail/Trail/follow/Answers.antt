@@ -1,21 +1,21 @@
 -- Where the marks are those of the state there are no shifts. The marks of a state ascend, as the ids of its rows do.
-use Rattle.std.proofs.Common.{◌≡◌, List, map, subst, sym, ap, ◌∙◌}
-use Rattle.sim_trail.specs.declared.mark.Mark.{Mark}
-use Rattle.sim_trail.specs.Marks.{IsAscending, mark_of, marks_of}
-use Rattle.sim_trail.specs.Shifts.{shifts_between}
-use Rattle.sim_trail.proofs.Merging.{no_shifts}
-use Rattle.sim_trail.proofs.Rising.{marks_ascend}
+use Rattle.std.proofs.Common.{◌≡◌, List, map, ap, subst, sym, ◌∙◌}
+use Rattle.sim_trail.proofs.{Merging.no_shifts, Rising.marks_ascend}
+use Rattle.sim_trail.specs.{Marks.IsAscending, Marks.mark_of, Marks.marks_of, Shifts.shifts_between, declared.mark.Mark.Mark}
 use Rattle.sim_trail.proofs.trail.Trail.follow.Goals as goal
 
 pub returns-then-are_marks_of-clause-shifts : goal.returns-then-are_marks_of-clause-shifts
 returns-then-are_marks_of-clause-shifts c =
     let marks = marks_of c.args.state.now in
-    let same : c.args.self.now ≡ marks = sym c.self.view_is ∙ sym c.as_slice.ensures.value ∙ c.are_marks_of.ensures c.if-are_marks_of.true ∙ ap (map mark_of) c.as_slice-rows.ensures in
+    let same : c.args.self.now ≡ marks = sym c.self.view_is ∙ sym c.as_slice.ensures.value ∙ c.are_marks_of.ensures c.if-are_marks_of.true ∙
+    ap (map mark_of) c.as_slice-rows.ensures in
     c.new.ensures ∙ sym (ap (λ (old : List Mark). shifts_between old marks) same ∙ no_shifts marks)
 
 pub shifts_between-requires-clause-news : goal.shifts_between-requires-clause-news
 shifts_between-requires-clause-news c =
-    subst IsAscending (sym (c.as_slice-3.ensures.value ∙ c.in_ok-marks.ensures ∙ ap (map mark_of) c.as_slice-rows.ensures)) (marks_ascend c.args.state.now c.requires.ascending)
+    subst IsAscending (sym (c.as_slice-3.ensures.value ∙ c.in_ok-marks.ensures ∙ ap (map mark_of) c.as_slice-rows.ensures))
+    (marks_ascend c.args.state.now c.requires.ascending)
 
 pub invariant_of-self : goal.invariant_of-self
-invariant_of-self c = subst IsAscending (sym (c.in_ok-marks.ensures ∙ ap (map mark_of) c.as_slice-rows.ensures)) (marks_ascend c.args.state.now c.requires.ascending)
+invariant_of-self c = subst IsAscending (sym (c.in_ok-marks.ensures ∙ ap (map mark_of) c.as_slice-rows.ensures))
+    (marks_ascend c.args.state.now c.requires.ascending)

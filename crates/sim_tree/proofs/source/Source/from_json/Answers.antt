@@ -1,7 +1,4 @@
-use Rattle.std.proofs.Common.{◌≡◌, false, nat_lt, rules}
-use Rattle.serde_json.specs.View.{view}
-use Rattle.sim_tree.specs.Walks.{height}
-use Rattle.sim_tree.proofs.Levels.{source_levels}
+use Rattle.sim_tree.proofs.{Common.◌≡◌, Common.false, Common.nat_lt, Common.height, Common.rules, Common.view, Levels.source_levels}
 use Rattle.sim_tree.proofs.source.Source.from_json.Goals as goal
 
 pub returns-clause-levels : goal.returns-clause-levels

@@ -1,6 +1,4 @@
-use Rattle.std.proofs.Common.{◌≡◌, drop}
-use Rattle.sim_tree.specs.Trees.{node_of}
-use Rattle.sim_tree.specs.Paths.{value_at}
+use Rattle.sim_tree.proofs.Common.{◌≡◌, drop, node_of, value_at}
 use Rattle.sim_tree.proofs.tree.Tree.at.Given as goal
 
 abbrev pub invariant-loop-name : goal.invariant-loop-name

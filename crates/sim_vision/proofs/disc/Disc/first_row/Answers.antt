@@ -1,5 +1,4 @@
-use Rattle.std.proofs.Common.{arith}
-use Rattle.sim_vision.proofs.Discs.{far_cell}
+use Rattle.sim_vision.proofs.{Common.arith, Discs.far_cell}
 use Rattle.sim_vision.proofs.disc.Disc.first_row.Goals as goal
 
 pub returns-clause-before : goal.returns-clause-before

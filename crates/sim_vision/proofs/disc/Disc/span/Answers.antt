@@ -1,8 +1,6 @@
 -- A row further away than the reach has no cell. In another one the half goes to both sides, and no further than the ground.
-use Rattle.std.proofs.Common.{◌≡◌, ℕ, ◌+◌, ◌-◌, ◌*◌, ◌<◌, ◌≤◌, min, leb, ltb, sym, ap, ◌∙◌, arith}
-use Rattle.std.proofs.lemmas.Bool.{and_right, le-ltb}
-use Rattle.sim_vision.specs.Spans.{is_in_span}
-use Rattle.sim_vision.proofs.Discs.{gap, far_cell, near_row}
+use Rattle.sim_vision.proofs.Common.{◌≡◌, ℕ, ◌+◌, ◌-◌, ◌*◌, ◌<◌, ◌≤◌, min, ltb, leb, and_right, ap, arith, is_in_span, le-ltb, sym, ◌∙◌}
+use Rattle.sim_vision.proofs.Discs.{far_cell, gap, near_row}
 use Rattle.sim_vision.proofs.disc.Disc.span.Goals as goal
 
 pub returns-then-away-self-clause-cells : goal.returns-then-away-self-clause-cells

@@ -1,6 +1,5 @@
 -- The bytes so far are those of the flags.
-use Rattle.std.proofs.Common.{◌≡◌, map, take}
-use Rattle.sim_vision.specs.Spans.{one_if}
+use Rattle.sim_vision.proofs.Common.{◌≡◌, map, take, one_if}
 use Rattle.sim_vision.proofs.fog.Fog.bytes.Given as goal
 
 abbrev pub invariant-loop-flag : goal.invariant-loop-flag

@@ -1,8 +1,6 @@
 -- A crossing is told, and what is left can be followed.
-use Rattle.std.proofs.Common.{sym, ◌∙◌, subst}
-use Rattle.sim_vision.specs.Fogs.{extent_of}
-use Rattle.sim_vision.specs.Watching.{Extent, IsKnownCrossing, IsTurned}
-use Rattle.sim_vision.proofs.Following.{known_crossing, goes_on}
+use Rattle.sim_vision.proofs.Common.{Extent, extent_of, IsKnownCrossing, IsTurned, subst, sym, ◌∙◌}
+use Rattle.sim_vision.proofs.Following.{goes_on, known_crossing}
 use Rattle.sim_vision.proofs.fog.Fog.follow.Goals as goal
 
 pub turn-requires-clause-known : goal.turn-requires-clause-known

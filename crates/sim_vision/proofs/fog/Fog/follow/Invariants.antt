@@ -1,7 +1,5 @@
 -- The shifts so far are told, and what is left can be followed.
-use Rattle.std.proofs.Common.{length}
-use Rattle.sim_vision.specs.Fogs.{extent_of, IsSameExtent}
-use Rattle.sim_vision.proofs.Following.{Follows}
+use Rattle.sim_vision.proofs.{Common.length, Common.extent_of, Common.IsSameExtent, Following.Follows}
 use Rattle.sim_vision.proofs.fog.Fog.follow.Given as goal
 
 abbrev pub invariant-shifts : goal.invariant-shifts

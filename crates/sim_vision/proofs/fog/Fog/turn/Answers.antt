@@ -1,13 +1,7 @@
 -- Outside of the rows nothing is seen. The owner is one of the players, since the marks are known.
-use Rattle.std.proofs.Common.{ℕ, ◌≤◌, Option, Some, None, refl, ap, inl, inr, arith}
-use Rattle.std.specs.Prelude.{IfSome}
-use Rattle.sim_trail.specs.declared.mark.Mark.{Mark}
-use Rattle.sim_vision.specs.Fogs.{extent_of}
-use Rattle.sim_vision.specs.Watching.{Extent, IsKnownMark}
-use Rattle.sim_vision.proofs.Places.{not_watched}
-use Rattle.sim_vision.proofs.Turning.{begins, ends}
+use Rattle.sim_vision.proofs.{Places.not_watched, Turning.begins, Turning.ends}
+use Rattle.sim_vision.proofs.Common.{ℕ, ◌≤◌, List, IfSome, Some, None, Option, refl, ap, arith, Extent, extent_of, inl, inr, IsKnownMark, Mark}
 use Rattle.sim_vision.proofs.fog.Fog.turn.Goals as goal
-use Rattle.std.proofs.Common.{List}
 
 pub loop-z-init : goal.loop-z-init
 loop-z-init c = record {

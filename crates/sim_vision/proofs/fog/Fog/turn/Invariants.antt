@@ -1,6 +1,5 @@
 -- The rows so far are turned.
-use Rattle.sim_vision.specs.Fogs.{extent_of, IsSameExtent}
-use Rattle.sim_vision.specs.Watching.{IsTurnedBelow}
+use Rattle.sim_vision.proofs.Common.{extent_of, IsSameExtent, IsTurnedBelow}
 use Rattle.sim_vision.proofs.fog.Fog.turn.Given as goal
 
 abbrev pub invariant-loop-z : goal.invariant-loop-z

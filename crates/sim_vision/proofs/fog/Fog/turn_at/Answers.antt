@@ -1,7 +1,6 @@
 -- The cells of the row are those that the marks see there.
-use Rattle.std.proofs.Common.{◌≡◌, length, ap, arith}
-use Rattle.sim_vision.specs.Fogs.{extent_of}
-use Rattle.sim_vision.proofs.Written.{written_back, counted, room, seen, turned, same_turned}
+use Rattle.sim_vision.proofs.Common.{◌≡◌, length, ap, arith, extent_of}
+use Rattle.sim_vision.proofs.Written.{counted, room, same_turned, seen, turned, written_back}
 use Rattle.sim_vision.proofs.fog.Fog.turn_at.Goals as goal
 
 pub turn_row-requires-clause-counted : goal.turn_row-requires-clause-counted

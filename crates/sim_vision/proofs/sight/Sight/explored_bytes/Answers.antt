@@ -1,9 +1,5 @@
 -- The bytes give the explored cells back, and are taken over at a state with these counts.
-use Rattle.std.proofs.Common.{ap, subst}
-use Rattle.sim_base.specs.declared.setup.Setup.{Setup}
-use Rattle.sim_vision.specs.Vision.{Vision}
-use Rattle.sim_vision.specs.Keeping.{Keeps}
-use Rattle.sim_vision.proofs.Joining.{bytes_back, bytes_taken}
+use Rattle.sim_vision.proofs.{Common.ap, Common.Keeps, Common.Setup, Common.subst, Common.Vision, Joining.bytes_back, Joining.bytes_taken}
 use Rattle.sim_vision.proofs.sight.Sight.explored_bytes.Goals as goal
 
 pub returns-clause-back : goal.returns-clause-back

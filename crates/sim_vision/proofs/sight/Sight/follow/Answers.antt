@@ -1,15 +1,7 @@
 -- The fog follows what the trail tells.
-use Rattle.std.proofs.Common.{◌≡◌, List, ℕ, ◌*◌, All, length, sym, ap, ◌∙◌, subst, arith}
-use Rattle.sim_base.specs.declared.setup.Setup.{Setup}
-use Rattle.sim_base.specs.Validity.{IsValid}
-use Rattle.sim_trail.specs.declared.mark.Mark.{Mark}
-use Rattle.sim_trail.specs.declared.shift.Shift.{Shift}
-use Rattle.sim_vision.specs.declared.fog.Fog.{Fog}
-use Rattle.sim_vision.specs.Vision.{Vision, all_counts, all_visible, explored_with, reaches_of}
-use Rattle.sim_vision.specs.Watching.{Extent, IsKnownShift, CanFollow, HasFollowed, AreLit}
-use Rattle.sim_vision.specs.Fogs.{extent_of}
-use Rattle.sim_vision.specs.Keeping.{extent_in, Keeps}
-use Rattle.sim_vision.proofs.Seeing.{known, can, keeps_on, counts_are, explored_are}
+use Rattle.sim_vision.proofs.Common.{extent_of, Fog, HasFollowed, IsKnownShift, IsValid, Keeps, Mark, reaches_of, Setup, Shift, subst, sym, Vision, ◌∙◌}
+use Rattle.sim_vision.proofs.Common.{◌≡◌, ℕ, ◌*◌, List, length, All, all_counts, all_visible, ap, AreLit, arith, CanFollow, explored_with, Extent, extent_in}
+use Rattle.sim_vision.proofs.Seeing.{can, counts_are, explored_are, keeps_on, known}
 use Rattle.sim_vision.proofs.sight.Sight.follow.Goals as goal
 
 pub follow-requires-2-clause-known : goal.follow-requires-2-clause-known

@@ -1,13 +1,6 @@
 -- Each state is one of the match, and the sight after all of them is that of the last, and of all that was seen.
-use Rattle.std.proofs.Common.{◌≡◌, ◌*◌, length, get_or, take, sym, ap, ◌∙◌, subst, arith}
-use Rattle.std.proofs.lemmas.List.{take_all}
-use Rattle.std.proofs.lemmas.List.Elements.{All-get_or}
-use Rattle.sim_base.specs.declared.setup.Setup.{Setup}
-use Rattle.sim_base.specs.Validity.{IsValid}
-use Rattle.sim_vision.specs.Vision.{Vision, cells_in}
-use Rattle.sim_vision.specs.After.{vision_after}
-use Rattle.sim_vision.proofs.After.{setup_stays, counts_last, explored_all}
-use Rattle.sim_vision.proofs.Joining.{kept_long}
+use Rattle.sim_vision.proofs.{After.counts_last, After.explored_all, After.setup_stays, Common.vision_after, Common.◌∙◌, Joining.kept_long}
+use Rattle.sim_vision.proofs.Common.{◌≡◌, ◌*◌, length, get_or, take, All-get_or, ap, arith, cells_in, IsValid, Setup, subst, sym, take_all, Vision}
 use Rattle.sim_vision.proofs.sight.Sight.follow_each.Goals as goal
 
 pub follow-requires : goal.follow-requires

@@ -1,6 +1,5 @@
 -- The states so far were looked at.
-use Rattle.std.proofs.Common.{◌≡◌, take}
-use Rattle.sim_vision.specs.After.{vision_after}
+use Rattle.sim_vision.proofs.Common.{◌≡◌, take, vision_after}
 use Rattle.sim_vision.proofs.sight.Sight.follow_each.Given as goal
 
 abbrev pub invariant-loop-state : goal.invariant-loop-state

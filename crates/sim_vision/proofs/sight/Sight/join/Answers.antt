@@ -1,8 +1,5 @@
 -- The state was looked at, so what is counted is visible in it.
-use Rattle.std.proofs.Common.{◌≡◌, ◌∙◌, List, ℕ, true, false, Some, sym, ap, rules}
-use Rattle.std.specs.List.{list_any, zip}
-use Rattle.sim_vision.specs.Vision.{Vision, all_counts}
-use Rattle.sim_vision.specs.Joining.{is_missed, refusal_of}
+use Rattle.sim_vision.proofs.Common.{◌≡◌, ℕ, true, false, List, Some, zip, all_counts, ap, is_missed, list_any, refusal_of, rules, sym, Vision, ◌∙◌}
 use Rattle.sim_vision.proofs.Joining.{by_cells}
 use Rattle.sim_vision.proofs.sight.Sight.join.Goals as goal
 

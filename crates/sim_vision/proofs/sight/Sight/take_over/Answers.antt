@@ -1,7 +1,5 @@
 -- A fog that takes over cells among which are all that it counts is kept.
-use Rattle.std.proofs.Common.{sym, ap, ◌∙◌, length}
-use Rattle.sim_vision.specs.Vision.{Vision}
-use Rattle.sim_vision.proofs.Joining.{keeps_joined}
+use Rattle.sim_vision.proofs.{Common.length, Common.ap, Common.sym, Common.Vision, Common.◌∙◌, Joining.keeps_joined}
 use Rattle.sim_vision.proofs.sight.Sight.take_over.Goals as goal
 
 pub invariant_of-self : goal.invariant_of-self

@@ -1,5 +1,5 @@
 -- One that does not stand in the list has no target.
-use Rattle.sim_watch.proofs.Listing.{target_there, no_target}
+use Rattle.sim_watch.proofs.Listing.{no_target, target_there}
 use Rattle.sim_watch.proofs.aimers.Aimers.target.Goals as goal
 
 pub returns-in-Ok : goal.returns-in-Ok

@@ -1,12 +1,6 @@
 -- The groups after the change are those of the facts after it.
-use Rattle.std.proofs.Common.{List, ap, ◌∙◌}
-use Rattle.sim_system.specs.declared.kind.Kind.TheVariants.{Watch}
-use Rattle.sim_system.specs.Facts.{kept}
-use Rattle.sim_system.specs.Notes.{aim_of}
-use Rattle.sim_fact_lists.specs.Places.{with_only}
-use Rattle.sim_watch.specs.declared.aimer.Aimer.{Aimer}
-use Rattle.sim_watch.specs.Aimers.{facts_in}
 use Rattle.sim_watch.proofs.Aiming.{aimed_groups, same_target}
+use Rattle.sim_watch.proofs.Common.{List, aim_of, Aimer, ap, facts_in, kept, Watch, with_only, ◌∙◌}
 use Rattle.sim_watch.proofs.watch.Watch.aim.Goals as goal
 
 pub returns-then-from-to-clause-ok : goal.returns-then-from-to-clause-ok
@@ -18,6 +12,8 @@ pub invariant_of-self-2 : goal.invariant_of-self-2
 invariant_of-self-2 c =
     let s = c.args.self.now in
     record {
-      listed = aimed_groups s.aimers.aimers.items s.aimers.ascend c.args.id c.target-from.result c.args.to c.aim.new.self.aimers.items s.groups.groups.items c.make_room-2.new.groups.groups.items c.leave.new.groups.groups.items c.join.new.groups.groups.items s.listed c.target-from.ensures
-          (c.aim.ensures ∙ ap (λ (aimers : List Aimer). with_only c.args.id (kept Watch (aim_of c.args.id c.args.to)) (facts_in aimers)) c.in_ok-make_room.ensures.same) c.in_ok-make_room-2.ensures.same c.leave.ensures.left c.join.ensures;
+      listed = aimed_groups s.aimers.aimers.items s.aimers.ascend c.args.id c.target-from.result c.args.to c.aim.new.self.aimers.items s.groups.groups.items
+          c.make_room-2.new.groups.groups.items c.leave.new.groups.groups.items c.join.new.groups.groups.items s.listed c.target-from.ensures
+          (c.aim.ensures ∙ ap (λ (aimers : List Aimer). with_only c.args.id (kept Watch (aim_of c.args.id c.args.to)) (facts_in aimers))
+          c.in_ok-make_room.ensures.same) c.in_ok-make_room-2.ensures.same c.leave.ensures.left c.join.ensures;
     }

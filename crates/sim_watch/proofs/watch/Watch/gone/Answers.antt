@@ -1,15 +1,18 @@
 -- The groups after the change are those of the facts after it.
-use Rattle.std.proofs.Common.{sym, ap, ◌∙◌}
-use Rattle.sim_fact_lists.specs.Groups.{group_with}
-use Rattle.sim_fact_lists.proofs.Keyed.{gone_with_last}
-use Rattle.sim_watch.proofs.Aiming.{gone_groups}
+use Rattle.sim_fact_lists.{proofs.Keyed.gone_with_last, specs.Groups.group_with}
+use Rattle.sim_watch.proofs.{Aiming.gone_groups, Common.ap, Common.sym, Common.◌∙◌}
 use Rattle.sim_watch.proofs.watch.Watch.gone.Goals as goal
 
 pub invariant_of-self : goal.invariant_of-self
 invariant_of-self c =
     let s = c.args.self.now in
-    record { listed = λ k. c.forget.ensures.lists k ∙ gone_groups s.aimers.aimers.items s.aimers.ascend c.args.id c.target-from.result c.leave.new.self.aimers.items s.groups.groups.items c.leave-2.new.groups.groups.items s.listed c.target-from.ensures c.leave.ensures.facts c.leave-2.ensures.left k }
+    record {
+      listed = λ k. c.forget.ensures.lists k ∙ gone_groups s.aimers.aimers.items s.aimers.ascend c.args.id c.target-from.result
+          c.leave.new.self.aimers.items s.groups.groups.items c.leave-2.new.groups.groups.items s.listed c.target-from.ensures c.leave.ensures.facts
+          c.leave-2.ensures.left k;
+    }
 
 pub returns-clause-group : goal.returns-clause-group
 returns-clause-group c none =
-    ap (group_with c.args.id) c.forget.ensures.groups ∙ gone_with_last c.leave-2.new.groups.groups.items c.args.id (sym (c.forget.ensures.lists c.args.id) ∙ none)
+    ap (group_with c.args.id) c.forget.ensures.groups ∙ gone_with_last c.leave-2.new.groups.groups.items c.args.id (sym (c.forget.ensures.lists c.args.id) ∙
+    none)

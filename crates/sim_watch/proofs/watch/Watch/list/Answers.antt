@@ -1,7 +1,5 @@
 -- Nobody aims at no target.
-use Rattle.std.proofs.Common.{◌∙◌}
-use Rattle.sim_watch.specs.Aimers.{facts_in}
-use Rattle.sim_watch.proofs.Aiming.{list_is, no_list}
+use Rattle.sim_watch.proofs.{Aiming.list_is, Aiming.no_list, Common.facts_in, Common.◌∙◌}
 use Rattle.sim_watch.proofs.watch.Watch.list.Goals as goal
 
 pub returns-then-id-eq0 : goal.returns-then-id-eq0

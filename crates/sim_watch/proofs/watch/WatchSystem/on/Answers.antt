@@ -1,9 +1,9 @@
 -- Nothing was kept of an entity that is born.
-use Rattle.std.proofs.Common.{◌∙◌}
-use Rattle.sim_watch.proofs.Aiming.{born_noted, meant_by, on_ok}
+use Rattle.sim_watch.proofs.{Aiming.born_noted, Aiming.meant_by, Aiming.on_ok, Common.◌∙◌}
 use Rattle.sim_watch.proofs.watch.WatchSystem.on.Goals as goal
 
 pub returns-in-Born-clause-ok : goal.returns-in-Born-clause-ok
 returns-in-Born-clause-ok c =
     let s = c.args.self.now in
-    on_ok c.aim.result _ _ (λ is. meant_by _ _ _ _ _ _ c.aim.ensures.land (is ∙ born_noted s.aimers.aimers.items s.aimers.ascend s.land c.args.note.now c.in-Born.fact c.in-Born.is c.requires) c.aim.ensures.rebuilds) c.aim.ensures.ok
+    on_ok c.aim.result _ _ (λ is. meant_by _ _ _ _ _ _ c.aim.ensures.land (is ∙ born_noted s.aimers.aimers.items s.aimers.ascend s.land c.args.note.now
+    c.in-Born.fact c.in-Born.is c.requires) c.aim.ensures.rebuilds) c.aim.ensures.ok
