@@ -1,10 +1,10 @@
 //! The commands that are run, with the files that they read.
 
 use sim_base::OutOfMemory;
-use sim_runs::{print, run_words, shelf_of};
 use sim_store::{MemShelf, MemSink};
 use sim_top::Status;
 use std::alloc::Global;
+use test_runs::{print, run_words, shelf_of};
 
 // Four posts of one player.
 const FOUR: &str =

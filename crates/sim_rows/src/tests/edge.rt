@@ -2,13 +2,13 @@
 
 use crate::tests::one_file::{Calls, Handle, OneFile, PLAIN};
 use sim_edge::{FileShelf, OutSink, SystemFiles};
-use sim_runs::run_words;
 use sim_store::{StoreFault, read_file, write_file, write_out};
 use sim_top::Status;
 use std::alloc::Global;
 use std::io::ErrorKind;
 use std::test::Fail;
 use std::{fs, io};
+use test_runs::run_words;
 
 // How the calls of a file go, and whether all of it is moved. A call is made again a thousand times.
 const CALLS: [(Calls, bool); 7] = [

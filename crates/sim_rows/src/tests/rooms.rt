@@ -2,12 +2,12 @@
 
 use crate::tests::commands::has_file;
 use sim_base::OutOfMemory;
-use sim_runs::games::POSTS;
-use sim_runs::run_words;
 use sim_store::{MemShelf, MemSink};
 use sim_top::Status;
 use std::alloc::Global;
 use std::test::Fail;
+use test_runs::games::POSTS;
+use test_runs::run_words;
 
 #[test]
 fn a_file_without_room_is_left_empty(rt: HostRuntime) -> Result<(), Fail> {

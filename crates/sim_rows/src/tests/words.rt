@@ -1,9 +1,9 @@
 //! What each command prints, and how it ends.
 
-use sim_runs::games::{POSTS, STEP};
-use sim_runs::{Case, first_unmet, print, shelf_of};
 use sim_top::Status;
 use std::test::Fail;
+use test_runs::games::{POSTS, STEP};
+use test_runs::{Case, first_unmet, print, shelf_of};
 
 const POSTS_LINES: &str = "turn 0 17328fba69143d17c79259ab7d40e803
 turn 1 8fe2300087879a3c47e3af011e612274

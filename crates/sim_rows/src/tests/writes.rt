@@ -4,11 +4,11 @@ ghost use Rattle.{sim_store.specs.MemSink.faults_of, std.specs.Prelude.None};
 
 use crate::tests::commands::{COMMANDS, are_inputs_kept, files, is_saved, run_over, stored};
 use sim_base::OutOfMemory;
-use sim_runs::{run_words, shelf_of};
 use sim_store::{Failed, MemSink, Sink};
 use sim_top::Status;
 use std::alloc::Global;
 use std::test::Fail;
+use test_runs::{run_words, shelf_of};
 
 // Runs the words where this write fails: the status, whether a beginning of the text was told, and whether the files are as
 // they have to be.
