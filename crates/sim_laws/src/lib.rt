@@ -1,12 +1,8 @@
 //! Theorems about the definitions of `sim_base`, each the contract of a function that does nothing.
 //!
-//! They stand in a crate of their own, so that `sim_base` is checked quickly. `specs/` says each law in one line, and
-//! `proofs/` has beside the proofs `Examples`: ways that were worked out by hand, computed.
-//!
-//! Theorems about what commands, phases and turns make of a state, each the contract of a function that does nothing.
-//!
-//! A state that is valid stays so, whatever players order and whatever is bent, up to the last turn of the match. It stands
-//! on the definitions of `sim_base` and on `sim_laws`.
+//! They stand in a crate of their own, so that `sim_base` is checked quickly. A state that is valid stays so, whatever players
+//! order and whatever is bent, up to the last turn of the match. `specs/` says each law in one line, and `proofs/` has beside the
+//! proofs `Examples`: ways that were worked out by hand, computed.
 //!
 //! - `numbers`: the root is the greatest.
 //! - `ways`: what a way is determines it, and the plain function answers it.

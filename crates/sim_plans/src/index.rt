@@ -4,7 +4,7 @@ ghost use Rattle.std.specs.List.{HoldsAt};
 ghost use Rattle.std.specs.Prelude.{◌≡◌, ◌<◌, map, length, IfSome, MatchOption, Some, None, option_copied};
 ghost use Rattle.sim_plans.specs.{Common.id_of, Common.IsStrictlyIncreasing, Common.row_of, Found.found};
 
-use crate::lookup_rows;
+use crate::lookups;
 use sim_base::{OutOfMemory, Row, State};
 use std::alloc::Global;
 
@@ -48,7 +48,7 @@ impl RowIndex {
     {
         match self.place_noted(rows, id) {
             Some(at) => Some(at),
-            None => rows::place_of(rows, id),
+            None => lookups::place_of(rows, id),
         }
     }
 

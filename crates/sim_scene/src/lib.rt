@@ -1,11 +1,8 @@
 //! A moment of a match that can be asked: its setup, its state, and the four systems that were told of it.
 //!
-//! It promises that a scene which stands answers what the rows of its state answer. It stands on the laws of facts, and is
-//! all that the planners of commands and phases know of the systems.
-//!
-//! Theorems about the words of `sim_system`, each the contract of a function that does nothing.
-//!
-//! They stand in a crate of their own, so that the systems are built without them. `specs/` says each law in one line.
+//! It promises that a scene which stands answers what the rows of its state answer: that systems which are told the notes of a
+//! change keep what the changed state says is proved here too, as theorems about the words of `sim_system`. It is all that the
+//! planners of commands and phases know of the systems. `specs/` says each law in one line.
 //!
 //! - `scene`: the scene, and its one call.
 //! - `changes`: systems that are told what a change posts keep what the changed state says.

@@ -1,15 +1,12 @@
-//! What is printed of a session: its events, and what its server, its clients and its pipes have come to.
+//! A session over a list of steps, as the text that is printed of it: its events, and what its server, its clients and its pipes
+//! have come to.
 //!
-//! The whole text is defined in `specs/` over the session in which messages carry pasts. It promises lines that are appended
-//! exactly, and what the text shows whatever the steps are. It stands on `sim_plain_session` and its laws for the session, on
-//! `sim_client` and `sim_pipes` for what is seen of one in memory, on `sim_wire` for frames, on `sim_diff` for the place at which
-//! two states differ, and on `sim_report` and `sim_serve` for lines.
-//!
-//! A session over a list of steps, as the text that is printed of it.
-//!
-//! It promises just the text of the defined session: its events in their order, and what it has come to. All rigs come back in
-//! the order and in the room in which they came, also where memory was refused; where there was memory, those of clients stand
-//! for what these are in the end. It stands on `sim_session`, which makes the steps, and on the lines of `sim_session_text`.
+//! The whole text is defined in `specs/` over the session in which messages carry pasts. It promises just that text, lines that are
+//! appended exactly, and what the text shows whatever the steps are. All rigs come back in the order and in the room in which they
+//! came, also where memory was refused; where there was memory, those of clients stand for what these are in the end. It stands on
+//! `sim_session`, which makes the steps, on `sim_plain_session` and its laws for the session, on `sim_client` and `sim_pipes` for
+//! what is seen of one in memory, on `sim_wire` for frames, on `sim_diff` for the place at which two states differ, and on
+//! `sim_report` and `sim_serve` for lines.
 //!
 //! - `told`: the lines of events, and of what a server has come to.
 //! - `apart`: the lines of clients whose states differ.

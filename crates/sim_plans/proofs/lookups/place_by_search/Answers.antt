@@ -1,7 +1,7 @@
 -- The closure gives the id of a row, and the ids ascend.
 use Rattle.std.proofs.lemmas.List.Sorted.{answers_always}
 use Rattle.sim_plans.proofs.{Common.ranked, Common.Row, Common.rules, Common.sym, Places.no_row, Places.row_at, Places.row_missing}
-use Rattle.sim_plans.proofs.lookup_rows.place_by_search.Goals as goal
+use Rattle.sim_plans.proofs.lookups.place_by_search.Goals as goal
 
 pub returns-in-Ok : goal.returns-in-Ok
 returns-in-Ok c =
