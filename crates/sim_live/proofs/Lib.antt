@@ -1,2 +1,2 @@
-pub mod Living
-pub mod Looking
+pub mod Answered
+pub mod Seen

@@ -1,5 +1,5 @@
 -- Some lines were answered, and the session stands for that over their steps.
-use Rattle.{sim_live.proofs.Living.HasAnswered, std.proofs.Common.◌≡◌, std.proofs.Common.◌≤◌, std.proofs.Common.length, std.specs.Prelude.vec_capacity}
+use Rattle.{sim_live.proofs.Answered.HasAnswered, std.proofs.Common.◌≡◌, std.proofs.Common.◌≤◌, std.proofs.Common.length, std.specs.Prelude.vec_capacity}
 use Rattle.sim_session.specs.SessionWords.{IsSessionBy, seen_in}
 use Rattle.sim_live.proofs.living.answer_all.Given as goal
 

@@ -1,5 +1,5 @@
 -- Some lines were answered, and the server stands for all that has arrived.
-use Rattle.{sim_relay.proofs.Relaying.HasAnswered, sim_server.specs.Small.IsSmallServer, sim_server.specs.Standing.server_of, std.proofs.Common.◌≤◌}
+use Rattle.{sim_relay.proofs.Relayed.HasAnswered, sim_server.specs.Small.IsSmallServer, sim_server.specs.Standing.server_of, std.proofs.Common.◌≤◌}
 use Rattle.sim_relay.proofs.relaying.answer_all.Given as goal
 
 abbrev pub invariant-loop-_before : goal.invariant-loop-_before
