@@ -352,12 +352,12 @@ def logs(folder):
     case("the log that lies", run(["check", camp, TOP / "examples/camp-lies.log"], folder), 1,
          b"differ turn 3\nlog a458831fc60120d3d18b505f1161fe63\nplay 08e55b0d148887ca83ed93911c4fd866\n")
     resigned = b",".join(b'[%d,%d,"resign"]' % (1 + i // 512, 1 + i // 64 % 8) for i in range(1000 * 512))
-    (folder / "long.json").write_bytes(EMPTY.replace(b'"players":[[]]', b'"players":[[],[],[],[],[],[],[],[]]')
+    (folder / "resigning.json").write_bytes(EMPTY.replace(b'"players":[[]]', b'"players":[[],[],[],[],[],[],[],[]]')
                                        .replace(b'"turns":2', b'"turns":1000').replace(b'"commands":[]', b'"commands":[%s]' % resigned))
-    status, text, error = run(["log", "long.json", "long.log"], folder)
-    size = (folder / "long.log").stat().st_size
+    status, text, error = run(["log", "resigning.json", "resigning.log"], folder)
+    size = (folder / "resigning.log").stat().st_size
     case("a log of more than 16,777,216 bytes", (status, text, error), 0, b"log 1000 %d\n" % size)
-    case("is too long to be checked", (run(["check", "long.json", "long.log"], folder)[0], size > 16777216, b""), 5, True)
+    case("is too long to be checked", (run(["check", "resigning.json", "resigning.log"], folder)[0], size > 16777216, b""), 5, True)
 
 
 def step_list(clients, *steps):
