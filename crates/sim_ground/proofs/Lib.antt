@@ -13,3 +13,5 @@ pub mod Built
 pub mod Noted
 pub mod Lending
 pub mod Asking
+pub mod Adding
+pub mod Mendable

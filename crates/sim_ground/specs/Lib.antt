@@ -4,3 +4,4 @@ pub mod Opening
 pub mod Overlaps
 pub mod Lent
 pub mod Layers
+pub mod Mended

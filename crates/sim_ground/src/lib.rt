@@ -8,6 +8,7 @@
 //! - `system`: the system.
 //! - `span`, `cover`: the cells of a rectangle; how many rectangles cover each cell, and which cells are open.
 //! - `opened`: the layers and the labels that are kept.
+//! - `mended`: the labels where the cells of a rectangle were closed or opened.
 //! - `free`: whether a rectangle is free.
 //! - `spot`: the open cell nearest to a point.
 //! - `way`: ways over the open cells.
@@ -15,6 +16,7 @@
 
 mod cover;
 mod free;
+mod mended;
 mod opened;
 mod span;
 mod spot;

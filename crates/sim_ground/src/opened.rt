@@ -1,5 +1,6 @@
-//! The layers over each cell, the open cells as a grid, and the labels of their regions. A note changes the layers, and the
-//! labels are made anew only where it closed or opened a cell. They serve every ask until the next note does.
+//! The layers over each cell, the open cells as a grid, and the labels of their regions. A note changes the layers. Where it
+//! closed or opened a cell, the labels of these cells alone are changed if no other changes by that, and else all are made anew.
+//! They serve every ask until the next note does.
 
 ghost use Rattle.{sim_base.specs.Limits.IsLand, sim_base.specs.Rows.size_of, sim_search.specs.Floods.label_in, sim_search.specs.Regions.AreLabels};
 ghost use Rattle.std.specs.Prelude.{◌≡◌, ◌≤◌, false, length, IfOk, OnOk, OnErr};
@@ -7,6 +8,7 @@ ghost use Rattle.sim_grid.specs.Grids.{field_of_grid};
 ghost use Rattle.sim_ground.specs.Layers.{AreAtMost, AreLayersOf, LayersTurn, MayChange, most_layers, no_part, part_covers};
 
 use crate::cover::Cover;
+use crate::mended::are_mended;
 use sim_base::{Land, OutOfMemory};
 use sim_path::{Labels, labels_of};
 use sim_system::Fact;
@@ -47,13 +49,17 @@ impl Opened {
             self.new.cover.layers.items) }
         ensures err { OnErr result (LayersTurn no_part no_part self.old.cover.grid.size self.old.cover.layers.items self.new.cover.layers.items) }
     {
-        if self.cover.turn(before, after) {
-            match labels_of(alloc, &self.cover.grid) {
-                Ok(labels) => self.labels = labels,
-                Err(error) => {
-                    self.cover.turn(after, before);
-                    return Err(error);
-                }
+        if !self.cover.turn(before, after) {
+            return Ok(());
+        }
+        if are_mended(alloc, &mut self.labels, &self.cover.grid, before, after) {
+            return Ok(());
+        }
+        match labels_of(alloc, &self.cover.grid) {
+            Ok(labels) => self.labels = labels,
+            Err(error) => {
+                self.cover.turn(after, before);
+                return Err(error);
             }
         }
         Ok(())

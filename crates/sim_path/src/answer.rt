@@ -11,7 +11,7 @@ use crate::end::{best_of, end_of};
 use crate::floor::Front;
 use crate::marks::Marks;
 use crate::milestone::milestone;
-use crate::nearest::{is_reached, nearest};
+use crate::nearest::{is_reached, nearest, shore_of};
 use crate::reached::Reached;
 use crate::straight::straight_to;
 use crate::tight::tight_to;
@@ -192,10 +192,11 @@ impl Searcher {
         if from == to {
             return way_within(alloc, goal);
         }
-        if is_reached(grid, labels, from, to) {
+        let shore = shore_of(grid, labels, from);
+        if is_reached(&shore, to) {
             return self.way_to(alloc, grid, 0, &[to], start, goal);
         }
-        let ends = nearest(alloc, grid, labels, from, to)?;
+        let ends = nearest(alloc, &shore, to)?;
         self.way_to(alloc, grid, ends.near, ends.cells.as_slice(), start, goal)
     }
 

@@ -8,3 +8,5 @@ pub mod Octile
 pub mod Beginning
 pub mod Regions
 pub mod Floods
+pub mod Mending
+pub mod Added

@@ -10,3 +10,4 @@ pub mod Regions
 pub mod RegionLaws
 pub mod Floods
 pub mod TakingLaws
+pub mod Mending

@@ -1,9 +1,10 @@
 //! Labels of regions. Two open cells have one label just where steps to the east, north, west and south over open cells
 //! join them.
 
-ghost use Rattle.std.specs.Prelude.{◌≡◌, ◌+◌, ◌*◌, ◌<◌, IfOk, OnOk, Some};
+ghost use Rattle.std.specs.Prelude.{◌≡◌, ◌+◌, ◌*◌, ◌<◌, ◌↔◌, IfOk, OnOk, IsTrue, Some, All};
 ghost use Rattle.sim_search.specs.{Common.field_of_grid, Common.IsOnGround, Common.place_of, NumberTables.entry_in, NumberTables.size_in, Regions.AreLabels};
 ghost use Rattle.sim_search.specs.Floods.{Fills, Flooded, Floods, is_late, is_none_late, label_in, Marks, Spreads};
+ghost use Rattle.sim_search.specs.Mending.{AreForgotten, AreGiven, HasRoom};
 
 use crate::table::{Table, no_numbers};
 use sim_base::{Cell, OutOfMemory};
@@ -22,6 +23,32 @@ impl Labels {
         ensures { result ≡ label_in self.now cell }
     {
         self.table.at(cell)
+    }
+
+    /// Whether the ground of these labels has the cell.
+    pub fn has(&self, cell: Cell) -> bool
+        ensures { IsTrue result ↔ HasRoom self.now cell }
+    {
+        self.table.has(cell)
+    }
+
+    /// Takes the labels of these cells.
+    pub fn forget(&mut self, cells: &[Cell])
+        ensures { AreForgotten self.old self.new cells.now }
+    {
+        for cell in cells {
+            self.table.clear(*cell);
+        }
+    }
+
+    /// Gives these cells this label.
+    pub fn give(&mut self, cells: &[Cell], label: u32)
+        requires { All (HasRoom self.old) cells.now }
+        ensures { AreGiven self.old self.new cells.now label }
+    {
+        for cell in cells {
+            self.table.set(*cell, label);
+        }
     }
 }
 

@@ -9,6 +9,7 @@
 //! - `search`, `queue`, `drain`: the search, by buckets of cells that wait at one cost and estimate, and how far it has
 //!   come.
 //! - `labels`, `table`: labels of regions, which tell what is reached.
+//! - `region`, `mend`: cells that are joined nearby; labels of a ground on which some cells were closed or opened.
 //! - `laws`: theorems about the search for every estimate, and about labels, each the contract of a function that does
 //!   nothing.
 #![tactic(auto)]
@@ -19,7 +20,9 @@ mod drain;
 mod entry;
 mod labels;
 mod laws;
+mod mend;
 mod queue;
+mod region;
 mod search;
 mod steps;
 mod table;
@@ -29,5 +32,6 @@ pub use costs::Costs;
 pub use drain::{Stage, go_on, least_costs, search_of, started};
 pub use labels::{Labels, labels_of};
 pub use laws::{labels_tell, no_label_is_closed, search_goes_on, taken_in_order, taken_is_least};
+pub use mend::{mend_closed, mend_opened};
 pub use search::Search;
 pub use steps::{is_free, moves_from, step, step_cost};

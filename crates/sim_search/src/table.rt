@@ -20,6 +20,7 @@ impl Table {
     ghost use Rattle.std.specs.Prelude.{◌≡◌, ◌+◌, ◌*◌, ◌<◌, ◌↔◌, replicate, IfOk, IsTrue, Some, None};
     ghost use Rattle.sim_search.specs.Common.{Cell, IsOnGround};
     ghost use Rattle.sim_search.specs.NumberTables.{entry_in, IsEntered, place_at, size_in};
+    ghost use Rattle.sim_search.specs.Mending.{IsEmptied};
 
     /// Whether the ground has this cell.
     pub fn has(&self, cell: Cell) -> bool
@@ -55,6 +56,16 @@ impl Table {
     {
         let place = self.place(cell);
         self.items[place] = Some(number);
+    }
+
+    /// Takes the number of a cell, if it has one.
+    pub fn clear(&mut self, cell: Cell)
+        ensures { IsEmptied self.old self.new cell }
+    {
+        if self.has(cell) {
+            let place = self.place(cell);
+            self.items[place] = None;
+        }
     }
 }
 

@@ -1,0 +1,9 @@
+use Rattle.sim_ground.proofs.Common.{◌≤◌, in_row, label_in}
+use Rattle.sim_ground.proofs.mended.push_row.Given as goal
+use Rattle.sim_ground.specs.Mended.{AddsTurned}
+
+abbrev pub invariant-loop-x : goal.invariant-loop-x
+invariant-loop-x l = record {
+  from : l.west ≤ l.x;
+  adds : AddsTurned l.grid (label_in l.labels) (in_row l.z l.west l.x) l.initial.cells.items l.cells.items;
+}

@@ -1,0 +1,9 @@
+use Rattle.sim_ground.proofs.Common.{◌≤◌, in_rows, label_in}
+use Rattle.sim_ground.proofs.mended.push_rows.Given as goal
+use Rattle.sim_ground.specs.Mended.{AddsTurned}
+
+abbrev pub invariant-loop-z : goal.invariant-loop-z
+invariant-loop-z l = record {
+  from : l.south ≤ l.z;
+  adds : AddsTurned l.grid (label_in l.labels) (in_rows l.south l.z l.west l.east) l.initial.cells.items l.cells.items;
+}

@@ -1,0 +1,9 @@
+use Rattle.sim_search.proofs.Common.{arith}
+use Rattle.sim_search.proofs.mend.suits.Goals as goal
+
+pub returns : goal.returns
+returns c = λ e. record {
+  room = c.has.ensures.0 c.if-not-has.false;
+  least = omega (arith, c.place_in.ensures, c.if-place_in-label.false);
+  alike = c.are_alike.ensures e;
+}
