@@ -41,7 +41,7 @@ pub fn talk_with<S: Shelf, T: Talk>(
     requires cleared { All (λ r. AreCleared (systems_of r ⟦<dyn System as System>⟧)) rigs.items }
     requires limits { IsTalk (talk_of asked) }
     ensures talked { IfOk result
-        (λ ending. IfSome (S.held shelf.old) (λ files. TalksOf files (talk_of asked.entry) ending (T.passed other.old) (T.passed other.new))) }
+        (λ ending. IfSome (S.held shelf.old) (λ files. TalksOf files (talk_of asked.entry) ending (T.history other.old) (T.history other.new))) }
     ensures unbegun { OnErr result ((shelf.new ≡ shelf.old) × (other.new ≡ other.old)) }
 {
     let mut handlers = Vec::with_capacity(alloc, 7)?;

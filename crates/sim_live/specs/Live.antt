@@ -1,11 +1,11 @@
 -- A session as a talk: what is answered to a line after the steps that were made, and what a whole talk is.
-use Rattle.std.specs.Prelude.{ℕ, ◌+◌, List, [], ◌∷◌, ◌++◌, length, ⊤, Option, Result}
+use Rattle.std.specs.Prelude.{ℕ, ◌+◌, List, [], ◌∷◌, ◌++◌, length, ⊤, Result}
 use Rattle.sim_base.specs.declared.{setup.Setup.Setup, step.Step.Step as AnyStep}
 use Rattle.sim_live.specs.{LineWords.line_of, Shown.look_text}
 use Rattle.sim_live.specs.declared.line.Line.{Line, TheVariants.Look, TheVariants.Other, TheVariants.Step}
 use Rattle.sim_plain_session.specs.{Printed.events, Printed.start_events, Sessions.session}
 use Rattle.sim_session_text.specs.SessionText.{ending_lines, lines_of}
-use Rattle.sim_talk.specs.{Dialogues.Converses, Marks.ok_line, Marks.refused_line, Talks.Passed, declared.fault.TalkFault.TalkFault}
+use Rattle.sim_talk.specs.{Dialogues.Converses, Marks.ok_line, Marks.refused_line, Talks.History, declared.fault.TalkFault.TalkFault}
 
 -- to a step the lines of its events, to a look what it shows, and to anything else that it is refused, with the number of the step that
 -- was made, or that would have been
@@ -36,5 +36,5 @@ abbrev pub last_text : Setup → ℕ → List AnyStep → List ℕ
 last_text setup clients steps = ending_lines setup (session setup clients steps)
 
 -- a talk over a session of a match that begins with so many clients
-abbrev pub Lives : Result ⊤ TalkFault → Setup → ℕ → Option (List Passed) → Option (List Passed) → Type 0
+abbrev pub Lives : Result ⊤ TalkFault → Setup → ℕ → History → History → Type 0
 Lives result setup clients old new = Converses result (answer setup clients) (next setup) (last_text setup clients) [] (first_text setup clients) old new

@@ -32,7 +32,7 @@ pub fn live<T: Talk>(
     requires eight { length rigs.items ≡ 8 }
     requires kinds { All HaveKinds (rigs_of rigs.items ⟦<dyn System as System>⟧) }
     requires cleared { All AreCleared (rigs_of rigs.items ⟦<dyn System as System>⟧) }
-    ensures lives { Lives result.0 setup.now clients (T.passed talk.old) (T.passed talk.new) }
+    ensures lives { Lives result.0 setup.now clients (T.history talk.old) (T.history talk.new) }
     ensures kinds { All HaveKinds (rigs_of result.1.items ⟦<dyn System as System>⟧) }
     ensures spare { drop setup.now.players result.1.items ≡ drop setup.now.players rigs.items }
     ensures eight { length result.1.items ≡ 8 }
@@ -57,7 +57,7 @@ fn talk_over<T: Talk>(
     requires session { IsSession session.old ⟦<dyn System as System>⟧ }
     requires clients { clients ≤ (setup_in session.old).players }
     requires opened { StandsFor (setup_in session.old) (seen_in session.old) (opened (setup_in session.old) 0) }
-    ensures lives { Lives result (setup_in session.old) clients (T.passed talk.old) (T.passed talk.new) }
+    ensures lives { Lives result (setup_in session.old) clients (T.history talk.old) (T.history talk.new) }
     ensures finish { MayFinish session.new ⟦<dyn System as System>⟧ }
     ensures setup { setup_in session.new ≡ setup_in session.old }
     ensures spare { spare_in session.new ≡ spare_in session.old }
@@ -80,7 +80,7 @@ fn tell_starts<T: Talk>(
     requires session { IsSession session.now ⟦<dyn System as System>⟧ }
     requires clients { clients ≤ (setup_in session.now).players }
     requires opened { StandsFor (setup_in session.now) (seen_in session.now) (opened (setup_in session.now) clients) }
-    ensures { TellsText result (first_text (setup_in session.now) clients) (T.passed talk.old) (T.passed talk.new) }
+    ensures { TellsText result (first_text (setup_in session.now) clients) (T.history talk.old) (T.history talk.new) }
 {
     let mut text = String::new(alloc);
     push_starts(session, clients, &mut text)?;
@@ -98,7 +98,7 @@ fn answer_all<T: Talk>(
     requires session { IsSession session.old ⟦<dyn System as System>⟧ }
     requires clients { clients ≤ (setup_in session.old).players }
     requires opened { StandsFor (setup_in session.old) (seen_in session.old) (opened (setup_in session.old) clients) }
-    ensures answers { AnswersAll result (setup_in session.old) clients (seen_in session.new) (T.passed talk.old) (T.passed talk.new) }
+    ensures answers { AnswersAll result (setup_in session.old) clients (seen_in session.new) (T.history talk.old) (T.history talk.new) }
     ensures session { OnOk result (IsSession session.new ⟦<dyn System as System>⟧) }
     ensures finish { MayFinish session.new ⟦<dyn System as System>⟧ }
     ensures setup { setup_in session.new ≡ setup_in session.old }
@@ -128,7 +128,7 @@ fn tell_ending<T: Talk>(
 ) -> Result<(), TalkFault>
     requires session { IsSession session.now ⟦<dyn System as System>⟧ }
     ensures { (steps : List AnyStep) → StandsFor (setup_in session.now) (seen_in session.now) (session_over (setup_in session.now) clients steps)
-        → TellsText result (last_text (setup_in session.now) clients steps) (T.passed talk.old) (T.passed talk.new) }
+        → TellsText result (last_text (setup_in session.now) clients steps) (T.history talk.old) (T.history talk.new) }
 {
     let mut text = String::new(alloc);
     push_ending(

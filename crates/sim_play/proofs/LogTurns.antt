@@ -1,5 +1,6 @@
 -- One turn of a log more, and the match's own turns as those of a log.
-use Rattle.sim_play.proofs.{Common.take_more, Common.Turn, Common.turn, Common.turns_in, Common.◌∙◌, PaidOnes.own_orders}
+use Rattle.{sim_play.proofs.PaidOnes.own_orders, std.proofs.lemmas.List.length-take-le}
+use Rattle.sim_play.proofs.Common.{take_more, Turn, turn, turns_in, ◌∙◌}
 use Rattle.sim_play.proofs.Common.{after, after_counts_turns, All-cons, All-nil, ap, arith, Bend, digest, digests_after, IsOfTurns, IsOrderOf, IsSetup}
 use Rattle.sim_play.proofs.Common.{last_state, length-map-range_with_len, Log, log_after, map-append, map-range_with_len_more, match_turns, orders_at}
 use Rattle.sim_play.proofs.Common.{own_turns, Past, past_of, PlayerCommand, range_with_len, reverse-append, Setup, State, state_after, subst, sym, take_all}
@@ -24,6 +25,11 @@ turns_in-past (orders ∷ turns) =
 -- after so many turns the state stands at that turn
 pub logged_turn : (setup : Setup) (turns : List (List PlayerCommand)) → (state_after setup turns).turn ≡ length turns
 logged_turn setup turns = after_counts_turns setup (past_of turns) ∙ turns_in-past turns
+
+pub turn_at : (setup : Setup) (turns : List (List PlayerCommand)) (n : ℕ) (state : State) → n ≤ length turns → state ≡ state_after setup (take n turns)
+    → state.turn ≡ n
+turn_at setup turns n state within is =
+    ap (λ (s : State). s.turn) is ∙ logged_turn setup (take n turns) ∙ length-take-le n turns within
 
 -- ---- one turn more
 
@@ -82,7 +88,7 @@ match_players setup limits = by 1 setup.turns (omega arith)
     by (suc before) (suc n) low =
         let here : before + 1 ≡ suc before = omega arith in
         All-cons (All (IsOrderOf setup)) _ _ (subst (λ (t : ℕ). All (IsOrderOf setup) (orders_at t setup.commands)) here (own_orders setup before limits))
-        (by (suc (suc before)) n (omega arith))
+        (by (suc before + 1) n (omega arith))
 
 -- what is known of the digests of a board of the same match
 pub same_digests : {E : Type 0} (r : Result (List (List ℕ)) E) (setup same : Setup) (turns : List (List PlayerCommand)) → same ≡ setup
@@ -90,11 +96,15 @@ pub same_digests : {E : Type 0} (r : Result (List (List ℕ)) E) (setup same : S
 same_digests (Err none) setup same turns e is = tt
 same_digests (Ok digests) setup same turns e is = is ∙ ap (λ (s : Setup). digests_after s turns) e
 
--- the log of the match's own turns has as many digests as it must
+-- the log of turns has as many digests as it must
+pub log_of_turns : (setup : Setup) (turns : List (List PlayerCommand)) (log : Log) → length turns ≤ setup.turns → log ≡ log_after setup turns
+    → IsOfTurns setup log
+log_of_turns setup turns log few is =
+    let same : length log.turns ≡ length turns = ap (λ (l : Log). length l.turns) is in
+    let digests : length log.digests ≡ suc (length turns) =
+    ap (λ (l : Log). length l.digests) is ∙ length-map-range_with_len (λ n. digest setup (state_after setup (take n turns))) 0 (suc (length turns)) in
+    record { few = omega (arith, same, few); one_more = omega (arith, same, digests) }
+
+-- so has that of the match's own turns
 pub log_of_match : (setup : Setup) (log : Log) → log ≡ log_after setup (match_turns setup) → IsOfTurns setup log
-log_of_match setup log is =
-    let turns : length log.turns ≡ setup.turns = ap (λ (l : Log). length l.turns) is ∙ match_length setup in
-    let digests : length log.digests ≡ suc (length (match_turns setup)) =
-    ap (λ (l : Log). length l.digests) is ∙ length-map-range_with_len (λ n. digest setup (state_after setup (take n (match_turns setup)))) 0
-    (suc (length (match_turns setup))) in
-    record { few = omega (arith, turns); one_more = omega (arith, turns, digests, match_length setup) }
+log_of_match setup log is = log_of_turns setup (match_turns setup) log (omega (arith, match_length setup)) is

@@ -19,7 +19,7 @@ differs x y other same = let yes = (bytes_eq-Decides x y).1 same in absurd cc
 found : (turn : ℕ) (told played : List (List ℕ)) (apart : Apart) → apart_from turn told played ≡ Some apart → Found turn told played apart
 found turn [] played apart e = absurd cc
 found turn (x ∷ xs) [] apart e = absurd cc
-found turn (x ∷ xs) (y ∷ ys) apart e = by (bytes_eq x y) refl e
+found turn (x ∷ xs) (y ∷ ys) apart e = by (λ h. found (turn + 1) xs ys apart h) (bytes_eq x y) refl e
   where
     here : Apart
     here = record { turn = turn; told = x; played = y }
@@ -53,9 +53,10 @@ found turn (x ∷ xs) (y ∷ ys) apart e = by (bytes_eq x y) refl e
         earlier_same before zero less = ap Some same
         earlier_same before (suc earlier) less = before earlier (omega (arith, less))
 
-    by : (same : Bool) → bytes_eq x y ≡ same → cond same (apart_from (turn + 1) xs ys) (Some here) ≡ Some apart → Found turn (x ∷ xs) (y ∷ ys) apart
-    by true same h = later ((bytes_eq-Decides x y).0 same) (found (turn + 1) xs ys apart h)
-    by false other h = let is : here ≡ apart = cc in subst (Found turn (x ∷ xs) (y ∷ ys)) is (at_once other)
+    by : (apart_from (turn + 1) xs ys ≡ Some apart → Found (turn + 1) xs ys apart) → (same : Bool) → bytes_eq x y ≡ same
+        → cond same (apart_from (turn + 1) xs ys) (Some here) ≡ Some apart → Found turn (x ∷ xs) (y ∷ ys) apart
+    by more true same h = later ((bytes_eq-Decides x y).0 same) (more h)
+    by more false other h = let is : here ≡ apart = cc in subst (Found turn (x ∷ xs) (y ∷ ys)) is (at_once other)
 
 pub first_is : (told played : List (List ℕ)) (apart : Apart) → first_apart told played ≡ Some apart → IsFirstApart told played apart
 first_is told played apart e =
@@ -74,11 +75,11 @@ pub none_apart : (turn : ℕ) (told played : List (List ℕ)) → length told �
 none_apart turn [] [] long e = refl
 none_apart turn [] (y ∷ ys) long e = absurd (omega (arith, long))
 none_apart turn (x ∷ xs) [] long e = absurd (omega (arith, long))
-none_apart turn (x ∷ xs) (y ∷ ys) long e = by (bytes_eq x y) refl e
+none_apart turn (x ∷ xs) (y ∷ ys) long e = by (λ h. none_apart (turn + 1) xs ys (omega (arith, long)) h) (bytes_eq x y) refl e
   where
-    by : (same : Bool) → bytes_eq x y ≡ same → cond same (apart_from (turn + 1) xs ys) (Some (record { turn = turn; told = x; played = y })) ≡ None
-        → (x ∷ xs) ≡ (y ∷ ys)
-    by true same h =
+    by : (apart_from (turn + 1) xs ys ≡ None → xs ≡ ys) → (same : Bool) → bytes_eq x y ≡ same
+        → cond same (apart_from (turn + 1) xs ys) (Some (record { turn = turn; told = x; played = y })) ≡ None → (x ∷ xs) ≡ (y ∷ ys)
+    by more true same h =
         let first = (bytes_eq-Decides x y).0 same in
-        let rest = none_apart (turn + 1) xs ys (omega (arith, long)) h in cc
-    by false other h = absurd cc
+        let rest = more h in cc
+    by more false other h = absurd cc

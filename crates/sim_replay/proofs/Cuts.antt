@@ -3,7 +3,7 @@ use Rattle.sim_replay.proofs.Common.{drop-append_seam, first_word, is_digit, is_
 use Rattle.sim_replay.proofs.Common.{list_all-append, ne_eqb, not_from_false, onto_first, other_words, position_or_len, slice_split, slice_split-cons_no}
 use Rattle.sim_replay.proofs.Common.{slice_split-cons_yes, take-append_seam, ◌∙◌}
 use Rattle.sim_replay.proofs.Common.{◌==◌, Some, IsAscii, bytes_eq, refl, and_from, and_parts, ap, arith, behind, bytes_eq-Decides, cond-true, drop-append-add}
-use Rattle.sim_replay.proofs.Common.{◌≡◌, ℕ, zero, suc, ◌+◌, ◌≤◌, Bool, true, false, cond, not, ◌&&◌, eqb, leb, List, [], ◌∷◌, ◌++◌, length, take, drop, nat_le}
+use Rattle.sim_replay.proofs.Common.{◌≡◌, ℕ, zero, suc, ◌+◌, ◌≤◌, Bool, true, false, not, ◌&&◌, leb, List, [], ◌∷◌, ◌++◌, length, take, drop, nat_le}
 
 -- a printed byte or a space
 abbrev pub is_plain : ℕ → Bool

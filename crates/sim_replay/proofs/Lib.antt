@@ -9,3 +9,5 @@ pub mod Taking
 pub mod Ending
 pub mod Whole
 pub mod Aparts
+pub mod Pushed
+pub mod Parts

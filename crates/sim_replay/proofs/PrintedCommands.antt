@@ -1,9 +1,9 @@
 -- Printed commands are plain, and are read as themselves.
 use Rattle.sim_replay.proofs.{Cuts.all-append, Cuts.all-weaker, Cuts.first_word-is, Cuts.is_plain, Cuts.name_is_plain, Cuts.other_words-is, Options.bind_some}
-use Rattle.sim_replay.proofs.Common.{Command, command_by, command_of, command_text, CommandFits, Delete, first_word, ids_of, ids_text, IdsFit, is_name_byte}
+use Rattle.sim_replay.proofs.Common.{Command, command_by, command_of, command_text, CommandFits, Delete, ids_of, ids_text, IdsFit, is_name_byte}
 use Rattle.sim_replay.proofs.Common.{IsPoint, list_all, natural_below, natural_of, number_of, number_of-text_of, order_of, other_words, Place, place_of}
 use Rattle.sim_replay.proofs.Common.{PlayerCommand, Point, point_of, point_text, Resign, Stop, text_of, Train, train_of, Walk, walk_of, ◌∙◌}
-use Rattle.sim_replay.proofs.Common.{◌≡◌, ℕ, ◌^◌, ◌<◌, true, List, ◌∷◌, ◌++◌, Some, codes, decimal, option_map, refl, ap, arith, Attack, attack_of, below}
+use Rattle.sim_replay.proofs.Common.{◌≡◌, ℕ, ◌^◌, ◌<◌, true, List, ◌∷◌, ◌++◌, Some, codes, decimal, option_map, refl, ap, arith, Attack, attack_of}
 use Rattle.sim_replay.proofs.PrintedWords.{below-is, ids_of-ids_text, name-decimal, name-ids_text, name-text_of, natural_of-decimal}
 
 -- ---- read as themselves

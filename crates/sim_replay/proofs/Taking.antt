@@ -1,11 +1,11 @@
 -- What is read of lines: it spells them, it can be ended to a log, and the lines of a log are read as it.
 use Rattle.sim_replay.proofs.{Options.bound, Options.passed, PrintedLines.digest_in-taken, PrintedLines.order_in-taken}
 use Rattle.sim_replay.proofs.Common.{append-nil, append_assoc, AreOrders, arith, Attack, Command, CommandFits, Delete, digest_in, digest_line, eqb-true, ids_in}
-use Rattle.sim_replay.proofs.Common.{drop, ◌==◌, Some, None, All, sum_by, count_by, Option, refl, add-zero, All-nil, All-push, and_from, and_parts, ap}
+use Rattle.sim_replay.proofs.Common.{drop, ◌==◌, Some, None, All, count_by, Option, refl, add-zero, All-nil, All-push, and_from, and_parts, ap}
 use Rattle.sim_replay.proofs.Common.{is_by, IsDigest, IsOrder, le-leb, leb-true, length-append, lines_from, lt-ltb, ltb-false, ltb-true, map-append, may_have}
 use Rattle.sim_replay.proofs.Common.{nothing, order_in, order_line, Place, PlayerCommand, Reading, Resign, Setup, Stop, subst, sum_by-append, sym, taken}
 use Rattle.sim_replay.proofs.Common.{taken_by, taken_order, taken_other, Train, turn_lines, Walk, with_digest, with_order, zero-add, ◌∙◌}
-use Rattle.sim_replay.proofs.Common.{◌≡◌, ℕ, zero, ◌+◌, ◌-◌, ◌<◌, ◌≤◌, Bool, true, false, cond, ◌&&◌, eqb, ltb, leb, List, [], ◌∷◌, ◌++◌, map, length, take}
+use Rattle.sim_replay.proofs.Common.{◌≡◌, ℕ, ◌+◌, ◌<◌, ◌≤◌, Bool, true, false, cond, ◌&&◌, ltb, leb, List, [], ◌∷◌, ◌++◌, map, length}
 
 -- ---- the lines of turns
 

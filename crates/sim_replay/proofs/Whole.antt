@@ -2,13 +2,13 @@
 use Rattle.sim_replay.proofs.{Cuts.bytes_eq-same, Cuts.inner_is_no_end, Cuts.is_inner, Cuts.split_first, Taking.spells-nothing}
 use Rattle.sim_replay.proofs.{Options.bind_none, Options.bind_some, PrintedLines.inner-digest_line, PrintedLines.inner-header, PrintedLines.inner-order_line}
 use Rattle.sim_replay.proofs.Common.{All-nil, All-tail, All-weaker, ap, append-nil, append_assoc, AreOrders, arith, BeginsLog, bytes_eq-Decides, cases_lt}
-use Rattle.sim_replay.proofs.Common.{Reading, Setup, slice_split, subst, sym, take-append-drop, take-append_seam, take-take, take_all, taken, text_of_log}
+use Rattle.sim_replay.proofs.Common.{Reading, Setup, subst, sym, take-append-drop, take-append_seam, take-take, take_all, taken, text_of_log}
 use Rattle.sim_replay.proofs.Common.{cond-false, cond-true, digest_line, ended, eqb-true, false≢true, header_line, inl, inr, IsLog, IsOrder, IsRefusedAt}
 use Rattle.sim_replay.proofs.Common.{drop, ◌==◌, Some, None, Ok, Err, bytes_eq, All, flat_map, Option, Result, refl, All-append, All-cons, All-head, All-map}
 use Rattle.sim_replay.proofs.Common.{join_with_byte, join_with_byte-slice_split, length-append, length-slice_split, lines_from, list_all, Log, log_in}
 use Rattle.sim_replay.proofs.Common.{log_lines, log_of, log_of_parts, next_or_refused, nothing, or_refused, order_line, parts_of, PlayerCommand, read_parts}
 use Rattle.sim_replay.proofs.Common.{turn_lines, whole_lines, ◌>>=◌, ◌∙◌}
-use Rattle.sim_replay.proofs.Common.{◌≡◌, ℕ, zero, suc, ◌+◌, ◌-◌, ◌^◌, ◌<◌, ◌≤◌, Bool, true, false, cond, eqb, ◌≢◌, List, [], ◌∷◌, ◌++◌, map, length, take}
+use Rattle.sim_replay.proofs.Common.{◌≡◌, ℕ, zero, suc, ◌+◌, ◌-◌, ◌^◌, ◌<◌, ◌≤◌, Bool, true, false, cond, List, [], ◌∷◌, ◌++◌, map, length, take}
 use Rattle.sim_replay.proofs.Ending.{begins-read, between, ends-log, Front, front, log-taken, log_in-log, Small, spells-all, taken_all}
 
 -- ---- the parts of a text of lines
@@ -75,10 +75,11 @@ inner-log setup log small is =
 -- ---- lines read to their end, or to the one that is refused
 
 -- what comes of the last reading
-abbrev last_of : Reading → ℕ → List ℕ → Result Log ℕ
+abbrev pub last_of : Reading → ℕ → List ℕ → Result Log ℕ
 last_of read number rest = cond (length rest == 0) (or_refused number (log_in read)) (Err number)
 
-step : (setup : Setup) (read : Reading) (number : ℕ) (line : List ℕ) (parts : List (List ℕ)) → 0 < length parts → read_parts setup read number (line ∷ parts) ≡
+pub step : (setup : Setup) (read : Reading) (number : ℕ) (line : List ℕ) (parts : List (List ℕ)) → 0 < length parts
+    → read_parts setup read number (line ∷ parts) ≡
     next_or_refused number (taken setup read line) (λ next. read_parts setup next (number + 1) parts)
 unfolding read_parts
 step setup read number line [] some = absurd (omega arith)
@@ -150,18 +151,20 @@ stopped setup read number (line ∷ lines) rest e = by (λ next h. stopped setup
 -- ---- a log is read as itself
 
 -- the log of parts whose first one is the header
-behind_header : (setup : Setup) (parts : List (List ℕ)) → 0 < length parts → log_of_parts setup (header_line setup ∷ parts) ≡ read_parts setup nothing 2 parts
+pub behind_header : (setup : Setup) (parts : List (List ℕ)) → 0 < length parts → log_of_parts setup (header_line setup ∷ parts) ≡ read_parts setup nothing 2
+    parts
 unfolding log_of_parts
 behind_header setup [] some = absurd (omega arith)
 behind_header setup (part ∷ parts) some = cond-true _ _ _ (bytes_eq-same (header_line setup))
 
-other_header : (setup : Setup) (line : List ℕ) (parts : List (List ℕ)) → bytes_eq line (header_line setup) ≡ false → log_of_parts setup (line ∷ parts) ≡ Err 1
+pub other_header : (setup : Setup) (line : List ℕ) (parts : List (List ℕ)) → bytes_eq line (header_line setup) ≡ false → log_of_parts setup (line ∷ parts) ≡
+    Err 1
 unfolding log_of_parts
 other_header setup line [] other = refl
 other_header setup line (part ∷ parts) other = cond-false _ _ _ other
 
 -- nothing is no log
-alone : (setup : Setup) (rest : List ℕ) → log_of_parts setup (rest ∷ []) ≡ Err 1
+pub alone : (setup : Setup) (rest : List ℕ) → log_of_parts setup (rest ∷ []) ≡ Err 1
 unfolding log_of_parts
 alone setup rest = refl
 

@@ -1,6 +1,6 @@
 //! A whole log, read: the line that names the match first, and then line by line.
 
-ghost use Rattle.std.specs.Prelude.{◌≡◌, ℕ, ◌^◌, ◌<◌, [], ◌∷◌, IfOk, MatchOption};
+ghost use Rattle.std.specs.{List.position, Prelude.◌≡◌, Prelude.ℕ, Prelude.◌^◌, Prelude.◌<◌, Prelude.[], Prelude.◌∷◌, Prelude.◌==◌, Prelude.IfOk, Prelude.MatchOption};
 ghost use Rattle.sim_replay.specs.{Meets.Meets, Reading.IsFirstLine, Reading.log_of as log_of_bytes, Reading.nothing, Reading.read_parts, declared.log.Log.Log};
 ghost use Rattle.sim_replay.specs.Logs.{IsLog, IsRefusedAt, parts_of, text_of_log};
 
@@ -68,6 +68,15 @@ fn lines_of(alloc: Global, setup: &Setup, bytes: &[u8]) -> Result<Log, LogFault>
 fn first_line(bytes: &[u8]) -> Option<(&[u8], &[u8])>
     ensures { MatchOption result (parts_of bytes.now ≡ bytes.now ∷ []) (λ p. IsFirstLine bytes.now p.0.now p.1.now) }
 {
-    let at = bytes.iter().position(|c| *c == b'\n')?;
-    Some((&bytes[..at], &bytes[at + 1..]))
+    match line_end(bytes) {
+        Some(at) => Some((&bytes[..at], &bytes[at + 1..])),
+        None => None,
+    }
+}
+
+// The place of the first line feed.
+fn line_end(bytes: &[u8]) -> Option<usize>
+    ensures { result ≡ position (λ c. c == 10) bytes.now }
+{
+    bytes.iter().position(|c| *c == b'\n')
 }

@@ -1,8 +1,8 @@
 //! A line that is taken only as it is printed: it is read in any spelling, printed, and compared.
 
-ghost use Rattle.std.specs.{Prelude.◌≡◌, Prelude.IfOk, Str.bytes_eq};
+ghost use Rattle.std.specs.{Prelude.◌≡◌, Prelude.IfOk, Prelude.option_map, Str.bytes_eq};
 ghost use Rattle.sim_replay.specs.Lines.{digest_line, header_line, order_line};
-ghost use Rattle.sim_replay.specs.Reading.{digest_in as digest_in_line, digest_of as digest_of_text, order_in as order_in_line, spelled};
+ghost use Rattle.sim_replay.specs.Reading.{digest_in as digest_in_line, digest_of as digest_of_text, order_in as order_in_line, spelled, text_in as text_in_bytes};
 
 use crate::commands::order_of;
 use crate::lines::{push_digest_front, push_digest_line, push_header, push_order_front};
@@ -74,12 +74,22 @@ pub fn order_in(alloc: Global, turn: u32, line: &[u8]) -> Result<Option<PlayerCo
     let Some(bytes) = behind(front.as_str(), line) else {
         return Ok(None);
     };
-    let Ok(text) = std::str::from_utf8(bytes) else {
+    let Some(text) = text_in(bytes) else {
         return Ok(None);
     };
     match order_of(alloc, text)? {
         Some(order) => spelled_order(alloc, turn, order, line),
         None => Ok(None),
+    }
+}
+
+// The text that bytes are, if they are one.
+fn text_in(bytes: &[u8]) -> Option<&str>
+    ensures { option_map (λ text. text.now) result ≡ text_in_bytes bytes.now }
+{
+    match std::str::from_utf8(bytes) {
+        Ok(text) => Some(text),
+        Err(_) => None,
     }
 }
 

@@ -5,7 +5,7 @@ ghost use Rattle.sim_base.specs.NumberText.{is_digit};
 ghost use Rattle.sim_replay.specs.Words.{behind as behind_front, first_word, ids_of as ids_of_text, natural_of, naturals_behind, other_words, word_text};
 
 use sim_base::{Ids, Items, OutOfMemory};
-use std::alloc::Global;
+use std::alloc::{AllocError, Global};
 
 /// What a line has behind this front, if it begins with it.
 pub fn behind<'a>(front: &str, line: &'a [u8]) -> Option<&'a [u8]>
@@ -56,10 +56,10 @@ pub fn ids_of(alloc: Global, text: &str) -> Result<Option<Ids>, OutOfMemory>
 }
 
 // What stands between the commas of a text.
-fn words_of(alloc: Global, text: &str) -> Result<Vec<&str>, OutOfMemory>
+fn words_of(alloc: Global, text: &str) -> Result<Vec<&str>, AllocError>
     ensures { IfOk result (λ words. map word_text words.items ≡ slice_split (λ b. b == 44) text.now) }
 {
-    Ok(text.split(',').collect(alloc)?)
+    text.split(',').collect(alloc)
 }
 
 // The number that each word spells.

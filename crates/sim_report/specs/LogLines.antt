@@ -10,6 +10,14 @@ logged_line word turns length = word ++ (spaced_number turns ++ (spaced_number l
 abbrev pub agree_line : ℕ → List ℕ
 agree_line turn = codes "agree" ++ (spaced_number turn ++ codes "\n")
 
+-- the first turn at which a log does not agree
+abbrev pub apart_line : ℕ → List ℕ
+apart_line turn = codes "differ turn" ++ (spaced_number turn ++ codes "\n")
+
+-- a digest behind a word
+abbrev pub named_line : List ℕ → List ℕ → List ℕ
+named_line word digest = word ++ line_end digest
+
 -- the first turn at which a log does not agree, its digest there, and the one that was played
 abbrev pub apart_lines : ℕ → List ℕ → List ℕ → List ℕ
-apart_lines turn told played = codes "differ turn" ++ (spaced_number turn ++ (codes "\nlog" ++ (line_end told ++ (codes "play" ++ line_end played))))
+apart_lines turn told played = apart_line turn ++ (named_line (codes "log") told ++ named_line (codes "play") played)

@@ -1,7 +1,7 @@
 //! The lines about logs of a match.
 
 ghost use Rattle.std.specs.Prelude.{◌≡◌, ◌++◌, length, take, OnOk, OnErr, string_bytes};
-ghost use Rattle.sim_report.specs.LogLines.{agree_line, apart_lines, logged_line};
+ghost use Rattle.sim_report.specs.LogLines.{agree_line, apart_line, apart_lines, logged_line, named_line};
 
 use crate::line::{append_digest, append_number};
 use sim_base::OutOfMemory;
@@ -94,10 +94,26 @@ fn append_apart(
     ensures ok { OnOk result (string_bytes out.new ≡ string_bytes out.old ++ apart_lines turn told.now played.now) }
     ensures err { OnErr result (take (length (string_bytes out.old)) (string_bytes out.new) ≡ string_bytes out.old) }
 {
+    append_turn_line(turn, out)?;
+    append_named("log", told, out)?;
+    append_named("play", played, out)
+}
+
+fn append_turn_line(turn: u32, out: &mut String) -> Result<(), OutOfMemory>
+    ensures ok { OnOk result (string_bytes out.new ≡ string_bytes out.old ++ apart_line turn) }
+    ensures err { OnErr result (take (length (string_bytes out.old)) (string_bytes out.new) ≡ string_bytes out.old) }
+{
     out.push_str("differ turn")?;
     append_number(u64::from(turn), out)?;
-    out.push_str("\nlog")?;
-    append_digest(told, out)?;
-    out.push_str("play")?;
-    append_digest(played, out)
+    out.push_str("\n")?;
+    Ok(())
+}
+
+// A digest behind a word.
+fn append_named(word: &str, digest: &[u8; 16], out: &mut String) -> Result<(), OutOfMemory>
+    ensures ok { OnOk result (string_bytes out.new ≡ string_bytes out.old ++ named_line word.now digest.now) }
+    ensures err { OnErr result (take (length (string_bytes out.old)) (string_bytes out.new) ≡ string_bytes out.old) }
+{
+    out.push_str(word)?;
+    append_digest(digest, out)
 }

@@ -43,7 +43,7 @@ never_built most s t is =
 one_once : (most : ℕ) (m n : Meaning) → 1 ≤ most → IsBuiltOnceAtMost m n → IsBuiltAtMost most m n
 one_once most m n few once = record { low = once.low; high = omega (arith, few, once.high) }
 
-once_built : (most : ℕ) (s t : Systems) → 1 ≤ most → AreBuiltOnceAtMost s t → AreBuiltAtMost most s t
+pub once_built : (most : ℕ) (s t : Systems) → 1 ≤ most → AreBuiltOnceAtMost s t → AreBuiltAtMost most s t
 once_built most s t few once = record {
   ground = one_once most s.ground t.ground few once.ground;
   range = one_once most s.range t.range few once.range;

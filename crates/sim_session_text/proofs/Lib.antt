@@ -12,3 +12,4 @@ pub mod HostTelling
 pub mod Loads
 pub mod Builds
 pub mod Stopping
+pub mod Clearing

@@ -1,6 +1,6 @@
 -- What is heard of a line, by how its bytes were poured.
 use Rattle.std.proofs.{Common.length-append, Common.subst, Common.sym, Common.◌∙◌, lemmas.List.Elements.All-nil}
-use Rattle.std.proofs.Common.{◌≡◌, ℕ, ◌+◌, ◌-◌, ◌<◌, ◌≤◌, Bool, true, false, List, [], ◌++◌, length, take, Ok, Err, Option, Result, refl, ap, arith}
+use Rattle.std.proofs.Common.{◌≡◌, ℕ, ◌+◌, ◌-◌, ◌<◌, ◌≤◌, Bool, true, false, List, [], ◌++◌, length, Ok, Err, Option, Result, refl, ap, arith}
 use Rattle.std.specs.{Io.KnownBytes.Consumes, Io.KnownBytes.IsAtEnd, Io.KnownBytes.Keeps, Io.KnownBytes.prepend_known, Str.IsUtf8}
 use Rattle.sim_talk.proofs.Pouring.{at_end, taken_all, taken_kept, taken_much, taken_piece, taken_whole, within_more}
 use Rattle.sim_talk.specs.{LineTalk.Ends, LineTalk.HearCounts, LineTalk.IsText, declared.fault.HearFault.HearFault}

@@ -1,4 +1,5 @@
 pub mod Hearing
+pub mod Piping
 pub mod Pouring
 pub mod Reading
 pub mod Talking

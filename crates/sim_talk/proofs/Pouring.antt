@@ -2,7 +2,7 @@
 -- input has left.
 use Rattle.{sim_talk.specs.Lines.feed, sim_talk.specs.Lines.IsWithinLine, std.proofs.lemmas.List.Elements.All-append}
 use Rattle.std.proofs.Common.{◌≡◌, ℕ, List, [], ◌∷◌, ◌++◌, Some, None, Option, ap, append_assoc, sym, ◌∙◌}
-use Rattle.std.specs.{Io.KnownBytes.Consumes, Io.KnownBytes.IsAtEnd, Io.KnownBytes.Keeps, Io.KnownBytes.prepend_known, Prelude.All}
+use Rattle.std.specs.{Io.KnownBytes.Consumes, Io.KnownBytes.IsAtEnd, Io.KnownBytes.Keeps, Io.KnownBytes.prepend_known}
 
 -- the line came to its end
 pub taken_whole : (a b : Option (List ℕ)) (ahead line more ahead' line' : List ℕ) → ahead ≡ more ++ 10 ∷ ahead' → line' ≡ line ++ more

@@ -1,20 +1,85 @@
 -- What passed, and then what passed behind it; and one line more is answered behind those that were.
-use Rattle.{sim_store.specs.declared.fault.Failed.Failed, sim_talk.specs.Dialogues.whole_talk, sim_talk.specs.declared.fault.TalkFault.TalkFault}
+use Rattle.{sim_store.specs.declared.fault.Failed.Failed, sim_talk.specs.declared.fault.TalkFault.TalkFault, sim_talk.specs.Lines.feed}
 use Rattle.std.{proofs.Common.◌∙◌, specs.Prelude.⊤}
-use Rattle.std.proofs.Common.{◌≡◌, ℕ, zero, suc, List, [], ◌∷◌, ◌++◌, take, Some, None, Ok, Err, Option, Result, refl, ap, append-nil, append_assoc, subst, sym}
-use Rattle.sim_talk.specs.Dialogues.{after_lines, amid, beginning, broken_off, Converses, dialogue, ending, IsRest, nothing, TellsText, unanswered, unbegun}
-use Rattle.sim_talk.specs.Talks.{Extends, heard, IsBeginning, none_of, part_of, Passed, Tells, told}
+use Rattle.std.specs.Io.KnownBytes.{Appends, Consumes, IsAtEnd}
+use Rattle.std.proofs.Common.{◌≡◌, ℕ, zero, suc, ◌-◌, ◌^◌, ◌<◌, List, [], ◌∷◌, ◌++◌, length, take, Some, None, Ok, Err, Option}
+use Rattle.std.proofs.Common.{Result, refl, ap, append-nil, append_assoc, subst, sym}
+use Rattle.sim_talk.specs.Dialogues.{after_lines, answer_part, AnswersLines, Converses, dialogue, first_part, IsAll, last_part, no_answer, no_first, no_last}
+use Rattle.sim_talk.specs.Dialogues.{talk_so_far, TellsText}
+use Rattle.sim_talk.specs.Talks.{Extends, Grows, heard, heard_bytes, History, IsBeginning, none_of, part_of, Passed, Tells, told, told_bytes}
+use Rattle.sim_talk.specs.declared.fault.TalkFault.TheVariants as ends
 
-pub Extends-trans : (a b c : Option (List Passed)) (xs ys : List Passed) → Extends a b xs → Extends b c ys → Extends a c (xs ++ ys)
-Extends-trans None b c xs ys one two = tt
-Extends-trans (Some a) None c xs ys one two = absurd one
-Extends-trans (Some a) (Some b) None xs ys one two = absurd two
-Extends-trans (Some a) (Some b) (Some c) xs ys one two = two ∙ ap (λ (l : List Passed). l ++ ys) one ∙ append_assoc a xs ys
+-- ---- the parts of a history
+
+pub Grows-trans : (a b c : Option (List Passed)) (xs ys : List Passed) → Grows a b xs → Grows b c ys → Grows a c (xs ++ ys)
+Grows-trans None b c xs ys one two = tt
+Grows-trans (Some a) None c xs ys one two = absurd one
+Grows-trans (Some a) (Some b) None xs ys one two = absurd two
+Grows-trans (Some a) (Some b) (Some c) xs ys one two = two ∙ ap (λ (l : List Passed). l ++ ys) one ∙ append_assoc a xs ys
+
+pub Grows-nothing : (a : Option (List Passed)) → Grows a a []
+Grows-nothing None = tt
+Grows-nothing (Some a) = sym (append-nil a)
+
+pub Consumes-trans : (a b c : Option (List ℕ)) (xs ys : List ℕ) → Consumes a b xs → Consumes b c ys → Consumes a c (xs ++ ys)
+Consumes-trans None b c xs ys one two = tt
+Consumes-trans (Some a) None c xs ys one two = absurd one
+Consumes-trans (Some a) (Some b) None xs ys one two = absurd two
+Consumes-trans (Some a) (Some b) (Some c) xs ys one two = one ∙ ap (λ (l : List ℕ). xs ++ l) two ∙ sym (append_assoc xs ys c)
+
+pub Consumes-nothing : (a : Option (List ℕ)) → Consumes a a []
+Consumes-nothing None = tt
+Consumes-nothing (Some a) = refl
+
+pub Appends-trans : (a b c : Option (List ℕ)) (xs ys : List ℕ) → Appends a b xs → Appends b c ys → Appends a c (xs ++ ys)
+Appends-trans None b c xs ys one two = tt
+Appends-trans (Some a) None c xs ys one two = absurd one
+Appends-trans (Some a) (Some b) None xs ys one two = absurd two
+Appends-trans (Some a) (Some b) (Some c) xs ys one two = two ∙ ap (λ (l : List ℕ). l ++ ys) one ∙ append_assoc a xs ys
+
+pub Appends-nothing : (a b : Option (List ℕ)) → b ≡ a → Appends a b []
+Appends-nothing a b same = subst (λ (o : Option (List ℕ)). Appends a o []) (sym same) (kept a)
+  where
+    kept : (o : Option (List ℕ)) → Appends o o []
+    kept None = tt
+    kept (Some bytes) = sym (append-nil bytes)
+
+-- ---- their bytes
+
+heard_bytes-append : (xs ys : List Passed) → heard_bytes (xs ++ ys) ≡ heard_bytes xs ++ heard_bytes ys
+heard_bytes-append [] ys = refl
+heard_bytes-append (heard line ∷ xs) ys =
+    ap (λ (l : List ℕ). (line ++ feed) ++ l) (heard_bytes-append xs ys) ∙ sym (append_assoc (line ++ feed) (heard_bytes xs) (heard_bytes ys))
+heard_bytes-append (told text ∷ xs) ys = heard_bytes-append xs ys
+
+told_bytes-append : (xs ys : List Passed) → told_bytes (xs ++ ys) ≡ told_bytes xs ++ told_bytes ys
+told_bytes-append [] ys = refl
+told_bytes-append (heard line ∷ xs) ys = told_bytes-append xs ys
+told_bytes-append (told text ∷ xs) ys =
+    ap (λ (l : List ℕ). text ++ l) (told_bytes-append xs ys) ∙ sym (append_assoc text (told_bytes xs) (told_bytes ys))
+
+-- ---- what passed, and then what passed behind it
+
+pub Extends-trans : (a b c : History) (xs ys : List Passed) → Extends a b xs → Extends b c ys → Extends a c (xs ++ ys)
+Extends-trans a b c xs ys one two = record {
+  passed = Grows-trans a.passed b.passed c.passed xs ys one.passed two.passed;
+  taken = subst (Consumes a.coming c.coming) (sym (heard_bytes-append xs ys))
+      (Consumes-trans a.coming b.coming c.coming (heard_bytes xs) (heard_bytes ys) one.taken two.taken);
+  written = subst (Appends a.written c.written) (sym (told_bytes-append xs ys))
+      (Appends-trans a.written b.written c.written (told_bytes xs) (told_bytes ys) one.written two.written);
+  longest = two.longest ∙ one.longest;
+}
 
 -- nothing passed
-pub Extends-nothing : (a : Option (List Passed)) → Extends a a []
-Extends-nothing None = tt
-Extends-nothing (Some a) = sym (append-nil a)
+pub Extends-nothing : (a : History) → Extends a a []
+Extends-nothing a = record {
+  passed = Grows-nothing a.passed;
+  taken = Consumes-nothing a.coming;
+  written = Appends-nothing a.written a.written refl;
+  longest = refl;
+}
+
+-- ---- one line more
 
 -- what he has come to after one line more
 pub after_lines-more : {S : Type 0} (next : S → List ℕ → S) (s : S) (lines : List (List ℕ)) (line : List ℕ) → after_lines next s (lines ++ line ∷ []) ≡ next
@@ -30,73 +95,104 @@ dialogue-more answer next s (l ∷ ls) line = ap (λ (xs : List Passed). heard l
 
 -- one line more was heard and answered
 pub answered_more : {S : Type 0} (answer : S → List ℕ → List ℕ) (next : S → List ℕ → S) (s : S) (lines : List (List ℕ)) (line text : List ℕ)
-    (a b c d : Option (List Passed))
+    (a b c d : History)
     → text ≡ answer (after_lines next s lines) line → Extends a b (dialogue answer next s lines) → Extends b c (heard line ∷ []) → Extends c d (told text ∷ [])
     → Extends a d (dialogue answer next s (lines ++ line ∷ []))
 answered_more answer next s lines line text a b c d is were one two =
     subst (Extends a d) (ap (λ (t : List ℕ). dialogue answer next s lines ++ heard line ∷ told t ∷ []) is ∙ sym (dialogue-more answer next s lines line))
     (Extends-trans a b d (dialogue answer next s lines) (heard line ∷ told text ∷ []) were (Extends-trans b c d (heard line ∷ []) (told text ∷ []) one two))
 
--- a line was heard, and of its answer a beginning was told
-pub broke_off : {S : Type 0} (answer : S → List ℕ → List ℕ) (s : S) (line text : List ℕ) (more : List Passed) (b c d : Option (List Passed))
-    → text ≡ answer s line → Extends b c (heard line ∷ []) → IsBeginning text more → Extends c d more → (rest : List Passed) × IsRest answer s rest
-    × Extends b d rest
-broke_off answer s line text [] b c d is one none_of two = (heard line ∷ [], unanswered line, Extends-trans b c d (heard line ∷ []) [] one two)
-broke_off answer s line text _ b c d is one (part_of part) two = (
-  _,
-  subst (λ (t : List ℕ). IsRest answer s (heard line ∷ told (take part t) ∷ [])) (sym is) (broken_off line part),
-  Extends-trans b c d (heard line ∷ [])
-      _ one two,
+-- ---- where it stops behind some lines
+
+-- memory was refused for an answer
+pub unmade_answer : {S : Type 0} (answer : S → List ℕ → List ℕ) (next : S → List ℕ → S) (s : S) (lines : List (List ℕ)) (line : List ℕ) (a b c : History)
+    → Extends a b (dialogue answer next s lines) → Extends b c (heard line ∷ []) → AnswersLines (Err ends.OutOfMemory) answer next s lines a c
+unmade_answer answer next s lines line a b c were one = (line, Extends-trans a b c (dialogue answer next s lines) (heard line ∷ []) were one)
+
+-- an answer was not told whole
+pub untold_answer : {S : Type 0} (answer : S → List ℕ → List ℕ) (next : S → List ℕ → S) (s : S) (lines : List (List ℕ)) (line text : List ℕ)
+    (failed : Failed) (a b c d : History)
+    → text ≡ answer (after_lines next s lines) line → Extends a b (dialogue answer next s lines) → Extends b c (heard line ∷ [])
+    → Tells (Err failed) text c d → AnswersLines (Err ends.Untold) answer next s lines a d
+untold_answer answer next s lines line text failed a b c d same were one part = (
+  line,
+  part.0,
+  subst (λ (t : List ℕ). IsBeginning t part.0) same part.1,
+  Extends-trans a b d (dialogue answer next s lines) (heard line ∷ part.0) were (Extends-trans b c d (heard line ∷ []) part.0 one part.2),
 )
+
+-- the input has come to its end
+pub answered_all : {S : Type 0} (answer : S → List ℕ → List ℕ) (next : S → List ℕ → S) (s : S) (lines : List (List ℕ)) (done : ⊤) (a b c : History)
+    → Extends a b (dialogue answer next s lines) → Extends b c [] → IsAtEnd c.coming → AnswersLines (Ok done) answer next s lines a c
+answered_all answer next s lines done a b c were none end =
+    (subst (Extends a c) (append-nil (dialogue answer next s lines)) (Extends-trans a b c (dialogue answer next s lines) [] were none), λ few. end)
 
 -- ---- a whole talk of its parts
 
+-- memory was refused before anything was told
+pub unbegun : {S : Type 0} (answer : S → List ℕ → List ℕ) (next : S → List ℕ → S) (last : S → List ℕ) (s : S) (first : List ℕ) (result : Result ⊤ TalkFault)
+    (a : History) → result ≡ Err ends.OutOfMemory → Converses result answer next last s first a a
+unbegun answer next last s first result a is =
+    subst (λ (r : Result ⊤ TalkFault). Converses r answer next last s first a a) (sym is) ([], no_first, Extends-nothing a)
+
 -- it stopped at its first text
 pub stopped_first : {S : Type 0} (answer : S → List ℕ → List ℕ) (next : S → List ℕ → S) (last : S → List ℕ) (s : S) (first : List ℕ) (fault : TalkFault)
-    (more : List Passed) (a b : Option (List Passed))
-    → IsBeginning first more → Extends a b more → Converses (Err fault) answer next last s first a b
-stopped_first answer next last s first fault [] a b none_of told_part = ([], unbegun, told_part)
-stopped_first answer next last s first fault _ a b (part_of part) told_part = (_, beginning part, told_part)
+    (a b : History) → TellsText (Err fault) first a b → Converses (Err fault) answer next last s first a b
+stopped_first answer next last s first (ends.Unheard cause) a b one = absurd one
+stopped_first answer next last s first ends.Untold a b one = (one.0, first_part one.0 one.1, one.2)
+stopped_first answer next last s first ends.OutOfMemory a b one = ([], no_first, one)
 
 -- it stopped at a line
 pub stopped_amid : {S : Type 0} (answer : S → List ℕ → List ℕ) (next : S → List ℕ → S) (last : S → List ℕ) (s : S) (first : List ℕ) (fault : TalkFault)
-    (lines : List (List ℕ)) (rest : List Passed) (a b c : Option (List Passed))
-    → IsRest answer (after_lines next s lines) rest → Extends a b (told first ∷ []) → Extends b c (dialogue answer next s lines ++ rest)
-    → Converses (Err fault) answer next last s first a c
-stopped_amid answer next last s first fault lines rest a b c is one two = (
-  told first ∷ (dialogue answer next s lines ++ rest),
-  amid lines rest is,
-  Extends-trans a b c (told first ∷ []) (dialogue answer next s lines ++ rest)
-      one two,
+    (lines : List (List ℕ)) (a b c : History)
+    → Extends a b (told first ∷ []) → AnswersLines (Err fault) answer next s lines b c → Converses (Err fault) answer next last s first a c
+stopped_amid answer next last s first (ends.Unheard cause) lines a b c one two =
+    (lines, two.0, Extends-trans a b two.0 (told first ∷ []) (dialogue answer next s lines) one two.1, two.2)
+stopped_amid answer next last s first ends.Untold lines a b c one two = (
+  talk_so_far answer next s first lines ++ heard two.0 ∷ two.1,
+  answer_part lines two.0 two.1 two.2,
+  Extends-trans a b c (told first ∷ []) (dialogue answer next s lines ++ heard two.0 ∷ two.1) one two.3,
+)
+stopped_amid answer next last s first ends.OutOfMemory lines a b c one two = (
+  talk_so_far answer next s first lines ++ heard two.0 ∷ [],
+  no_answer lines two.0,
+  Extends-trans a b c (told first ∷ []) (dialogue answer next s lines ++ heard two.0 ∷ []) one two.1,
 )
 
--- it came to its end
-pub ended_whole : {S : Type 0} (answer : S → List ℕ → List ℕ) (next : S → List ℕ → S) (last : S → List ℕ) (s : S) (first : List ℕ) (lines : List (List ℕ))
-    (a b c d : Option (List Passed))
-    → Extends a b (told first ∷ []) → Extends b c (dialogue answer next s lines) → Extends c d (told (last (after_lines next s lines)) ∷ [])
-    → Extends a d (whole_talk answer next last s first lines)
-ended_whole answer next last s first lines a b c d one two three =
-    Extends-trans a b d (told first ∷ []) (dialogue answer next s lines ++ told (last (after_lines next s lines)) ∷ []) one
-    (Extends-trans b c d (dialogue answer next s lines) (told (last (after_lines next s lines)) ∷ []) two three)
+-- the input has come to its end, so no more was to come than was heard
+all_heard : (a b c : Option (List ℕ)) (lines : List (List ℕ)) (xs ys : List Passed) → heard_bytes ys ≡ [] → Consumes a b (heard_bytes xs)
+    → (length lines < 2 ^ 64 - 1 → IsAtEnd b) → IsAll a lines (xs ++ ys)
+all_heard None b c lines xs ys none taken end = tt
+all_heard (Some a) None c lines xs ys none taken end = absurd taken
+all_heard (Some a) (Some b) c lines xs ys none taken end = λ few.
+    taken ∙ ap (λ (l : List ℕ). heard_bytes xs ++ l) (end few ∙ sym none) ∙ sym (heard_bytes-append xs ys)
 
--- it stopped at its last text
-pub stopped_last : {S : Type 0} (answer : S → List ℕ → List ℕ) (next : S → List ℕ → S) (last : S → List ℕ) (s : S) (first : List ℕ) (fault : TalkFault)
-    (lines : List (List ℕ)) (more : List Passed) (a b c d : Option (List Passed))
-    → Extends a b (told first ∷ []) → Extends b c (dialogue answer next s lines) → IsBeginning (last (after_lines next s lines)) more → Extends c d more
-    → Converses (Err fault) answer next last s first a d
-stopped_last answer next last s first fault lines [] a b c d one two none_of three =
-    stopped_amid answer next last s first fault lines [] a b d nothing one (Extends-trans b c d (dialogue answer next s lines) [] two three)
-stopped_last answer next last s first fault lines _ a b c d one two (part_of part) three =
-    (_, ending lines part, Extends-trans a b d (told first ∷ []) _ one (Extends-trans b c d (dialogue answer next s lines) _ two three))
-
--- the same, whatever the answer to the last text
+-- its last text was told, or it stopped there
 pub ended_so : {S : Type 0} (answer : S → List ℕ → List ℕ) (next : S → List ℕ → S) (last : S → List ℕ) (s : S) (first : List ℕ) (lines : List (List ℕ))
-    (result : Result ⊤ TalkFault) (a b c d : Option (List Passed))
-    → Extends a b (told first ∷ []) → Extends b c (dialogue answer next s lines) → TellsText result (last (after_lines next s lines)) c d
+    (result : Result ⊤ TalkFault) (done : ⊤) (a b c d : History)
+    → Extends a b (told first ∷ []) → AnswersLines (Ok done) answer next s lines b c → TellsText result (last (after_lines next s lines)) c d
     → Converses result answer next last s first a d
-ended_so answer next last s first lines (Ok done) a b c d one two three = (lines, ended_whole answer next last s first lines a b c d one two three)
-ended_so answer next last s first lines (Err fault) a b c d one two three = stopped_last answer next last s first fault lines three.0 a b c d one two three.1
-    three.2
+ended_so answer next last s first lines (Ok told_last) done a b c d one two three =
+    let so_far : Extends a c (talk_so_far answer next s first lines) = Extends-trans a b c (told first ∷ []) (dialogue answer next s lines) one two.0 in (
+      lines,
+      Extends-trans a c d (talk_so_far answer next s first lines) (told (last (after_lines next s lines)) ∷ []) so_far three,
+      all_heard a.coming c.coming d.coming lines (talk_so_far answer next s first lines) (told (last (after_lines next s lines)) ∷ []) refl so_far.taken two.1,
+    )
+ended_so answer next last s first lines (Err (ends.Unheard cause)) done a b c d one two three = absurd three
+ended_so answer next last s first lines (Err ends.Untold) done a b c d one two three =
+    let so_far : Extends a c (talk_so_far answer next s first lines) = Extends-trans a b c (told first ∷ []) (dialogue answer next s lines) one two.0 in (
+      talk_so_far answer next s first lines ++ three.0,
+      last_part lines three.0 three.1,
+      Extends-trans a c d (talk_so_far answer next s first lines) three.0 so_far three.2,
+    )
+ended_so answer next last s first lines (Err ends.OutOfMemory) done a b c d one two three =
+    let so_far : Extends a c (talk_so_far answer next s first lines) = Extends-trans a b c (told first ∷ []) (dialogue answer next s lines) one two.0 in (
+      talk_so_far answer next s first lines,
+      no_last lines,
+      subst (Extends a d) (append-nil (talk_so_far answer next s first lines)) (Extends-trans a c d (talk_so_far answer next s first lines) [] so_far three),
+    )
+
+-- ---- a text that is told in part
 
 -- a beginning of a beginning is one
 part_again : (part count : ℕ) (text : List ℕ) → (k : ℕ) × (take part (take count text) ≡ take k text)
@@ -106,7 +202,7 @@ part_again (suc part) (suc count) [] = (0, refl)
 part_again (suc part) (suc count) (b ∷ bs) = let rest = part_again part count bs in (suc rest.0, ap (λ (l : List ℕ). b ∷ l) rest.1)
 
 -- of a text of which a beginning was to be told, a beginning was told
-pub told_in_part : (result : Result ⊤ Failed) (failed : Failed) (text : List ℕ) (count : ℕ) (a b : Option (List Passed)) → Tells result (take count text) a b
+pub told_in_part : (result : Result ⊤ Failed) (failed : Failed) (text : List ℕ) (count : ℕ) (a b : History) → Tells result (take count text) a b
     → Tells (Err failed) text a b
 told_in_part (Ok done) failed text count a b was = (told (take count text) ∷ [], part_of count, was)
 told_in_part (Err other) failed text count a b was = (was.0, shorter was.0 was.1, was.2)

@@ -1,7 +1,10 @@
 -- Talks in which each line is answered before the next one is heard. Who answers is told by two functions: what is answered to a
 -- line, by what he has come to, and what he comes to by it.
-use Rattle.std.specs.Prelude.{ℕ, List, [], ◌∷◌, ◌++◌, take, ⊤, Ok, Err, Option, Result}
-use Rattle.sim_talk.specs.{Talks.Extends, Talks.heard, Talks.IsBeginning, Talks.Passed, Talks.told, declared.fault.TalkFault.TalkFault}
+use Rattle.std.specs.Prelude.{◌≡◌, ℕ, ◌-◌, ◌^◌, ◌<◌, List, [], ◌∷◌, ◌++◌, length, ⊤, Some, None, Ok, Err, Option, Result}
+use Rattle.sim_talk.specs.Talks.{Extends, heard, heard_bytes, History, IsBeginning, Misses, Passed, told}
+use Rattle.sim_talk.specs.declared.fault.TalkFault.{TalkFault}
+use Rattle.std.specs.Io.KnownBytes.{IsAtEnd}
+use Rattle.sim_talk.specs.declared.fault.TalkFault.TheVariants as ends
 
 -- what he has come to after these lines
 abbrev pub after_lines : {S : Type 0} → (S → List ℕ → S) → S → List (List ℕ) → S
@@ -13,43 +16,61 @@ abbrev pub dialogue : {S : Type 0} → (S → List ℕ → List ℕ) → (S → 
 dialogue answer next s [] = []
 dialogue answer next s (line ∷ lines) = heard line ∷ told (answer s line) ∷ dialogue answer next (next s line) lines
 
--- what may stand behind the answered lines where a talk stopped: nothing, or one line more with a beginning of its answer
-pub data IsRest {S : Type 0} (answer : S → List ℕ → List ℕ) (s : S) : List Passed → Type 0 where
-  nothing : IsRest answer s []
-  unanswered : (line : List ℕ) → IsRest answer s (heard line ∷ [])
-  broken_off : (line : List ℕ) (part : ℕ) → IsRest answer s (heard line ∷ told (take part (answer s line)) ∷ [])
-
 -- ---- a whole talk: a text at its beginning, the answers, and a text at its end
+
+-- to the last of these lines
+abbrev pub talk_so_far : {S : Type 0} → (S → List ℕ → List ℕ) → (S → List ℕ → S) → S → List ℕ → List (List ℕ) → List Passed
+talk_so_far answer next s first lines = told first ∷ dialogue answer next s lines
 
 -- to the end of the input
 abbrev pub whole_talk : {S : Type 0} → (S → List ℕ → List ℕ) → (S → List ℕ → S) → (S → List ℕ) → S → List ℕ → List (List ℕ) → List Passed
-whole_talk answer next last s first lines = told first ∷ (dialogue answer next s lines ++ told (last (after_lines next s lines)) ∷ [])
+whole_talk answer next last s first lines = talk_so_far answer next s first lines ++ told (last (after_lines next s lines)) ∷ []
 
--- how far it may have come where it stopped
-pub data IsStopped {S : Type 0} (answer : S → List ℕ → List ℕ) (next : S → List ℕ → S) (last : S → List ℕ) (s : S) (first : List ℕ) : List Passed → Type 0 where
-  unbegun : IsStopped answer next last s first []
-  beginning : (part : ℕ) → IsStopped answer next last s first (told (take part first) ∷ [])
-  amid : (lines : List (List ℕ)) (rest : List Passed) → IsRest answer (after_lines next s lines) rest → IsStopped answer next last s first
-      (told first ∷ (dialogue answer next s lines ++ rest))
-  ending : (lines : List (List ℕ)) (part : ℕ) → IsStopped answer next last s first
-      (told first ∷ (dialogue answer next s lines ++ told (take part (last (after_lines next s lines))) ∷ []))
+-- how far it came where a text was not told, or not whole
+pub data IsUntold {S : Type 0} (answer : S → List ℕ → List ℕ) (next : S → List ℕ → S) (last : S → List ℕ) (s : S) (first : List ℕ) : List Passed → Type 0 where
+  first_part : (more : List Passed) → IsBeginning first more → IsUntold answer next last s first more
+  answer_part : (lines : List (List ℕ)) (line : List ℕ) (more : List Passed) → IsBeginning (answer (after_lines next s lines) line) more
+      → IsUntold answer next last s first (talk_so_far answer next s first lines ++ heard line ∷ more)
+  last_part : (lines : List (List ℕ)) (more : List Passed) → IsBeginning (last (after_lines next s lines)) more
+      → IsUntold answer next last s first (talk_so_far answer next s first lines ++ more)
 
--- what passed in a talk, by how it ended
-abbrev pub Converses : {S : Type 0} → Result ⊤ TalkFault → (S → List ℕ → List ℕ) → (S → List ℕ → S) → (S → List ℕ) → S → List ℕ → Option (List Passed)
-    → Option (List Passed) → Type 0
-Converses (Ok done) answer next last s first old new = (lines : List (List ℕ)) × Extends old new (whole_talk answer next last s first lines)
-Converses (Err fault) answer next last s first old new = (rest : List Passed) × IsStopped answer next last s first rest × Extends old new rest
+-- how far it came where memory was refused for a text, of which nothing was told
+pub data IsUnmade {S : Type 0} (answer : S → List ℕ → List ℕ) (next : S → List ℕ → S) (s : S) (first : List ℕ) : List Passed → Type 0 where
+  no_first : IsUnmade answer next s first []
+  no_answer : (lines : List (List ℕ)) (line : List ℕ) → IsUnmade answer next s first (talk_so_far answer next s first lines ++ heard line ∷ [])
+  no_last : (lines : List (List ℕ)) → IsUnmade answer next s first (talk_so_far answer next s first lines)
+
+-- no more was to come than the lines that were heard, unless they are as many as can be counted
+abbrev pub IsAll : Option (List ℕ) → List (List ℕ) → List Passed → Type 0
+IsAll None lines passed = Unit {0}
+IsAll (Some coming) lines passed = length lines < 2 ^ 64 - 1 → coming ≡ heard_bytes passed
+
+-- what passed in a talk, by how it ended: all lines were answered, to the end of the input; or a line was not heard behind those that
+-- were answered, each whole; or a text was not told whole; or memory was refused for one
+abbrev pub Converses : {S : Type 0} → Result ⊤ TalkFault → (S → List ℕ → List ℕ) → (S → List ℕ → S) → (S → List ℕ) → S → List ℕ → History → History → Type 0
+Converses (Ok done) answer next last s first old new =
+    (lines : List (List ℕ)) × Extends old new (whole_talk answer next last s first lines) × IsAll old.coming lines (whole_talk answer next last s first lines)
+Converses (Err (ends.Unheard cause)) answer next last s first old new =
+    (lines : List (List ℕ)) × (before : History) × Extends old before (talk_so_far answer next s first lines) × Misses cause before new
+Converses (Err ends.Untold) answer next last s first old new = (passed : List Passed) × IsUntold answer next last s first passed × Extends old new passed
+Converses (Err ends.OutOfMemory) answer next last s first old new = (passed : List Passed) × IsUnmade answer next s first passed × Extends old new passed
 
 -- ---- its parts
 
--- a text was told, or a beginning of it, or nothing
-abbrev pub TellsText : Result ⊤ TalkFault → List ℕ → Option (List Passed) → Option (List Passed) → Type 0
+-- a text was told; or a beginning of it, or nothing; or memory was refused for it
+abbrev pub TellsText : Result ⊤ TalkFault → List ℕ → History → History → Type 0
 TellsText (Ok done) text old new = Extends old new (told text ∷ [])
-TellsText (Err fault) text old new = (more : List Passed) × IsBeginning text more × Extends old new more
+TellsText (Err (ends.Unheard cause)) text old new = ⊥
+TellsText (Err ends.Untold) text old new = (more : List Passed) × IsBeginning text more × Extends old new more
+TellsText (Err ends.OutOfMemory) text old new = Extends old new []
 
--- all lines were answered, or it stopped with at most one line more
-abbrev pub AnswersLines : {S : Type 0} → Result ⊤ TalkFault → (S → List ℕ → List ℕ) → (S → List ℕ → S) → S → List (List ℕ) → Option (List Passed)
-    → Option (List Passed) → Type 0
-AnswersLines (Ok done) answer next s lines old new = Extends old new (dialogue answer next s lines)
-AnswersLines (Err fault) answer next s lines old new = (rest : List Passed) × IsRest answer (after_lines next s lines) rest
-    × Extends old new (dialogue answer next s lines ++ rest)
+-- all lines were answered, to the end of the input; or it stopped behind them, with at most one line more
+abbrev pub AnswersLines : {S : Type 0} → Result ⊤ TalkFault → (S → List ℕ → List ℕ) → (S → List ℕ → S) → S → List (List ℕ) → History → History → Type 0
+AnswersLines (Ok done) answer next s lines old new = Extends old new (dialogue answer next s lines) × (length lines < 2 ^ 64 - 1 → IsAtEnd new.coming)
+AnswersLines (Err (ends.Unheard cause)) answer next s lines old new =
+    (before : History) × Extends old before (dialogue answer next s lines) × Misses cause before new
+AnswersLines (Err ends.Untold) answer next s lines old new =
+    (line : List ℕ) × (more : List Passed) × IsBeginning (answer (after_lines next s lines) line) more
+    × Extends old new (dialogue answer next s lines ++ heard line ∷ more)
+AnswersLines (Err ends.OutOfMemory) answer next s lines old new =
+    (line : List ℕ) × Extends old new (dialogue answer next s lines ++ heard line ∷ [])

@@ -1,8 +1,13 @@
 -- What a talk over an input and a sink answers.
 use Rattle.{sim_store.specs.Counts.raised, sim_store.specs.declared.fault.Failed.Failed, std.specs.Io.KnownBytes.Appends, std.specs.Str.IsUtf8}
-use Rattle.std.specs.Prelude.{◌≡◌, ℕ, ◌<◌, Bool, true, false, List, [], length, take, ⊤, Ok, Err, Option, Result}
+use Rattle.{sim_talk.specs.Talks.History, std.specs.Io.KnownBytes.prepend_known}
+use Rattle.std.specs.Prelude.{◌≡◌, ℕ, ◌<◌, Bool, true, false, List, [], length, take, ⊤, None, Ok, Err, Option, Result}
 use Rattle.sim_talk.specs.declared.fault.HearFault.{HearFault}
 use Rattle.sim_talk.specs.declared.fault.HearFault.TheVariants as fault
+
+-- what a talk over an input and a sink tells: the bytes of both, with those that were read and not heard yet
+abbrev pub piped : List ℕ → Option (List ℕ) → Option (List ℕ) → ℕ → History
+piped ahead left told most = record { passed = None; coming = prepend_known ahead left; written = told; longest = most }
 
 -- a line that has come to its end is heard where it is text
 abbrev pub IsText : Result Bool HearFault → List ℕ → Type 0

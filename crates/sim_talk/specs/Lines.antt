@@ -1,6 +1,6 @@
 -- Lines: which bytes of an input are a line, and what became of one that was to be heard.
 use Rattle.std.specs.{Io.KnownBytes.Consumes, Io.KnownBytes.IsAtEnd, Str.IsUtf8}
-use Rattle.std.specs.Prelude.{◌≡◌, ℕ, ◌<◌, ◌≤◌, Bool, true, false, ◌≢◌, List, [], ◌∷◌, ◌++◌, length, Ok, Err, All, Option, Result}
+use Rattle.std.specs.Prelude.{◌≡◌, ℕ, ◌<◌, ◌≤◌, Bool, true, false, ◌≢◌, List, [], ◌∷◌, ◌++◌, length, Some, None, Ok, Err, All, Option, Result}
 use Rattle.sim_talk.specs.declared.{ahead.Poured.Poured, fault.HearFault.HearFault}
 use Rattle.sim_talk.specs.declared.ahead.Poured.TheVariants as poured
 use Rattle.sim_talk.specs.declared.fault.HearFault.TheVariants as fault
@@ -83,12 +83,21 @@ pub record HearsPart (most : ℕ) (old new : Option (List ℕ)) : Type 0 where
   pub taken : Consumes old new part
   pub within : IsPart most part
 
+-- what was taken of the input where no line was heard, by the fault
+abbrev pub MissesOf : ℕ → HearFault → Option (List ℕ) → Option (List ℕ) → Type 0
+MissesOf most fault.CutOff old new = HearsCut most old new
+MissesOf most fault.TooLong old new = HearsTooMuch most old new
+MissesOf most fault.NoText old new = HearsNoText most old new
+MissesOf most fault.Failed old new = HearsPart most old new
+MissesOf most fault.OutOfMemory old new = HearsPart most old new
+
+-- the same where it is told what is to come of the input
+abbrev pub IsCause : ℕ → HearFault → Option (List ℕ) → Option (List ℕ) → Type 0
+IsCause most cause None new = Unit {0}
+IsCause most cause (Some bytes) new = MissesOf most cause (Some bytes) new
+
 -- what was taken of the input, by the answer
 abbrev pub HearsOf : ℕ → Result Bool HearFault → List ℕ → Option (List ℕ) → Option (List ℕ) → Type 0
 HearsOf most (Ok true) line old new = HearsLine most line old new
 HearsOf most (Ok false) line old new = HearsEnd old new
-HearsOf most (Err fault.CutOff) line old new = HearsCut most old new
-HearsOf most (Err fault.TooLong) line old new = HearsTooMuch most old new
-HearsOf most (Err fault.NoText) line old new = HearsNoText most old new
-HearsOf most (Err fault.Failed) line old new = HearsPart most old new
-HearsOf most (Err fault.OutOfMemory) line old new = HearsPart most old new
+HearsOf most (Err cause) line old new = MissesOf most cause old new

@@ -1,24 +1,66 @@
--- What passes in a talk: lines that are heard and texts that are told, in one history, so that it says what had been told when a
--- line was asked for.
-use Rattle.{sim_store.specs.declared.fault.Failed.Failed, sim_talk.specs.declared.fault.HearFault.HearFault}
+-- What passes in a talk: lines that are heard and texts that are told. A talk tells of it what it knows: one in memory the whole
+-- history, so that it says what had been told when a line was asked for, and one over an input and a sink their bytes.
+use Rattle.std.specs.{Io.KnownBytes.Appends, Io.KnownBytes.Consumes, Io.KnownBytes.IsAtEnd}
 use Rattle.std.specs.Prelude.{◌≡◌, ℕ, Bool, true, false, List, [], ◌∷◌, ◌++◌, take, ⊤, Some, None, Ok, Err, Option, Result}
+use Rattle.sim_talk.specs.{Lines.feed, Lines.IsCause, declared.fault.HearFault.HearFault}
+use Rattle.sim_store.specs.declared.fault.Failed.{Failed}
 
 -- a line that was heard, or a text that was told
 pub data Passed : Type 0 where
   heard : List ℕ → Passed
   told : List ℕ → Passed
 
--- where the history is told, these came behind it
-abbrev pub Extends : Option (List Passed) → Option (List Passed) → List Passed → Type 0
-Extends None new more = Unit {0}
-Extends (Some old) None more = ⊥
-Extends (Some old) (Some new) more = new ≡ old ++ more
+-- what a talk tells of itself
+pub record History : Type 0 where
+  -- all that passed, the oldest first
+  pub passed : Option (List Passed)
+  -- the bytes that are to come
+  pub coming : Option (List ℕ)
+  -- the bytes that were written
+  pub written : Option (List ℕ)
+  -- how many bytes a line may have
+  pub longest : ℕ
 
--- one line was heard, or nothing
-abbrev pub Hears : Result Bool HearFault → List ℕ → Option (List Passed) → Option (List Passed) → Type 0
+-- one that tells nothing
+abbrev pub untold : History
+untold = record { passed = None; coming = None; written = None; longest = 0 }
+
+-- the bytes of the lines that were heard, each with the feed that ends it
+abbrev pub heard_bytes : List Passed → List ℕ
+heard_bytes [] = []
+heard_bytes (heard line ∷ more) = (line ++ feed) ++ heard_bytes more
+heard_bytes (told text ∷ more) = heard_bytes more
+
+-- the bytes of the texts that were told
+abbrev pub told_bytes : List Passed → List ℕ
+told_bytes [] = []
+told_bytes (heard line ∷ more) = told_bytes more
+told_bytes (told text ∷ more) = text ++ told_bytes more
+
+-- where all that passed is told, these came behind it
+abbrev pub Grows : Option (List Passed) → Option (List Passed) → List Passed → Type 0
+Grows None new more = Unit {0}
+Grows (Some old) None more = ⊥
+Grows (Some old) (Some new) more = new ≡ old ++ more
+
+-- these passed, and nothing else
+pub record Extends (old new : History) (more : List Passed) : Type 0 where
+  pub passed : Grows old.passed new.passed more
+  pub taken : Consumes old.coming new.coming (heard_bytes more)
+  pub written : Appends old.written new.written (told_bytes more)
+  pub longest : new.longest ≡ old.longest
+
+-- a line was not heard for this cause, which the bytes show that were taken; and nothing passed
+pub record Misses (fault : HearFault) (old new : History) : Type 0 where
+  pub passed : Grows old.passed new.passed []
+  pub cause : IsCause old.longest fault old.coming new.coming
+  pub written : Appends old.written new.written []
+
+-- one line was heard, or the input has come to its end, or there is a fault
+abbrev pub Hears : Result Bool HearFault → List ℕ → History → History → Type 0
 Hears (Ok true) line old new = Extends old new (heard line ∷ [])
-Hears (Ok false) line old new = Extends old new []
-Hears (Err fault) line old new = Extends old new []
+Hears (Ok false) line old new = Extends old new [] × IsAtEnd new.coming
+Hears (Err fault) line old new = Misses fault old new
 
 -- nothing of a text, or a beginning of it
 pub data IsBeginning (text : List ℕ) : List Passed → Type 0 where
@@ -26,6 +68,6 @@ pub data IsBeginning (text : List ℕ) : List Passed → Type 0 where
   part_of : (part : ℕ) → IsBeginning text (told (take part text) ∷ [])
 
 -- the whole text was told, or a beginning of it, or nothing
-abbrev pub Tells : Result ⊤ Failed → List ℕ → Option (List Passed) → Option (List Passed) → Type 0
+abbrev pub Tells : Result ⊤ Failed → List ℕ → History → History → Type 0
 Tells (Ok done) text old new = Extends old new (told text ∷ [])
 Tells (Err failed) text old new = (more : List Passed) × IsBeginning text more × Extends old new more

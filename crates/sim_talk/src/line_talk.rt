@@ -1,8 +1,9 @@
-//! A talk over an input and a sink: each line is read in pieces, and each text is written at once. It has no history to tell, since
-//! an input and a sink know nothing of each other; which bytes a line takes, and which a text leaves, is said of each call.
+//! A talk over an input and a sink: each line is read in pieces, and each text is written at once. An input and a sink know nothing of
+//! each other, so it tells no order of what passed, but the bytes of both, where they tell them.
 
-ghost use Rattle.std.specs.Prelude.{◌≡◌, IfOk, None};
-ghost use Rattle.sim_talk.specs.{LineTalk.Ends, LineTalk.HearCounts, LineTalk.IsText, LineTalk.TellCounts, LineTalk.TellsOut, Talks.Hears, Talks.Tells};
+ghost use Rattle.std.specs.Prelude.{◌≡◌, IfOk};
+ghost use Rattle.sim_talk.specs.{LineTalk.Ends, LineTalk.HearCounts, LineTalk.IsText, LineTalk.piped, LineTalk.TellCounts, LineTalk.TellsOut};
+ghost use Rattle.sim_talk.specs.{Talks.Hears, Talks.Tells};
 ghost use Rattle.sim_talk.specs.Lines.{HearsOf};
 
 use crate::ahead::{Ahead, PIECE, Poured};
@@ -99,11 +100,12 @@ fn end_of(line: &[u8]) -> Result<bool, HearFault>
 impl<S: Source + Drop, K: Sink + Drop> Talk for LineTalk<S, K> {
     ghost use Rattle.{sim_talk.specs.Ahead.bytes_ahead, std.specs.Io.KnownBytes.prepend_known};
 
-    ghost passed = { λ s. None };
+    ghost history = { λ s. piped (bytes_ahead s.ahead) (S.left s.source) (K.told s.sink) s.most };
 
     /// Reads the next line.
     fn hear(&mut self, line: &mut Vec<u8>) -> Result<bool, HearFault>
-        ensures passed { Hears result line.new.items None None }
+        ensures passed { Hears result line.new.items (piped (bytes_ahead self.old.ahead) (S.left self.old.source) (K.told self.old.sink) self.old.most)
+            (piped (bytes_ahead self.new.ahead) (S.left self.new.source) (K.told self.new.sink) self.new.most) }
         ensures taken { HearsOf self.old.most result line.new.items (prepend_known (bytes_ahead self.old.ahead) (S.left self.old.source))
             (prepend_known (bytes_ahead self.new.ahead) (S.left self.new.source)) }
         ensures faults { HearCounts result (S.faults self.old.source) (S.faults self.new.source) }
@@ -115,7 +117,8 @@ impl<S: Source + Drop, K: Sink + Drop> Talk for LineTalk<S, K> {
 
     /// Writes the text to the sink.
     fn tell(&mut self, text: &[u8]) -> Result<(), Failed>
-        ensures passed { Tells result text.now None None }
+        ensures passed { Tells result text.now (piped (bytes_ahead self.old.ahead) (S.left self.old.source) (K.told self.old.sink) self.old.most)
+            (piped (bytes_ahead self.new.ahead) (S.left self.new.source) (K.told self.new.sink) self.new.most) }
         ensures told { TellsOut result text.now (K.told self.old.sink) (K.told self.new.sink) }
         ensures faults { TellCounts result (K.faults self.old.sink) (K.faults self.new.sink) }
         ensures source { self.new.source ≡ self.old.source }

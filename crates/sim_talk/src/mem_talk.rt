@@ -1,7 +1,7 @@
 //! A talk in memory, whose lines are given, and which keeps what passed.
 
-ghost use Rattle.std.specs.Prelude.{◌≡◌, [], ◌∷◌, ◌++◌, IfOk, OnOk, OnErr, Some};
-ghost use Rattle.sim_talk.specs.{MemTalk.passed_in, Talks.Hears, Talks.Tells};
+ghost use Rattle.std.specs.Prelude.{◌≡◌, ℕ, List, [], ◌∷◌, ◌++◌, IfOk, OnOk, OnErr};
+ghost use Rattle.sim_talk.specs.{MemTalk.history_of, MemTalk.passed_in, Talks.Hears, Talks.Passed, Talks.Tells};
 
 use crate::{HearFault, Talk};
 use sim_base::OutOfMemory;
@@ -50,7 +50,7 @@ impl MemTalk {
 }
 
 impl Talk for MemTalk {
-    ghost passed = { λ s. Some (passed_in s.passed.items) };
+    ghost history = { λ s. history_of (passed_in s.passed.items) };
 
     fn hear(&mut self, line: &mut Vec<u8>) -> Result<bool, HearFault> {
         let Some(next) = self.coming.pop() else {
@@ -77,7 +77,7 @@ impl Talk for MemTalk {
 
 // How hearing ends behind all lines.
 fn ending(end: Option<HearFault>) -> Result<bool, HearFault>
-    ensures { Hears result [] (Some []) (Some []) }
+    ensures { (line : List ℕ) (passed : List Passed) → Hears result line (history_of passed) (history_of passed) }
 {
     match end {
         None => Ok(false),
@@ -87,7 +87,7 @@ fn ending(end: Option<HearFault>) -> Result<bool, HearFault>
 
 // Keeps a text as told.
 fn tell_all(alloc: Global, passed: &mut Vec<Piece>, text: &[u8]) -> Result<(), Failed>
-    ensures { Tells result text.now (Some (passed_in passed.old.items)) (Some (passed_in passed.new.items)) }
+    ensures { Tells result text.now (history_of (passed_in passed.old.items)) (history_of (passed_in passed.new.items)) }
 {
     let Ok(copy) = copied(alloc, text) else {
         return Err(Failed);

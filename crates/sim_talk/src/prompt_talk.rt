@@ -1,7 +1,7 @@
 //! A talk with somebody at a terminal: he is asked for each line by a prompt, may type words in place of JSON, and is helped. It tells no
 //! history, since what he types is not what is heard.
 
-ghost use Rattle.std.specs.Prelude.{None};
+ghost use Rattle.sim_talk.specs.Talks.{untold};
 
 use crate::{HearFault, Talk, json_of};
 use sim_store::Failed;
@@ -37,7 +37,7 @@ impl<T: Talk + Drop> PromptTalk<T> {
 }
 
 impl<T: Talk + Drop> Talk for PromptTalk<T> {
-    ghost passed = { λ s. None };
+    ghost history = { λ s. untold };
 
     fn hear(&mut self, line: &mut Vec<u8>) -> Result<bool, HearFault> {
         for _ in 0..u64::MAX {

@@ -1,9 +1,9 @@
 -- What was told in a talk and how it ended, by what the words ask for and what the files hold.
 use Rattle.{sim_live.specs.Live.Lives, sim_report.specs.Refusals.refusal_text, sim_report.specs.declared.refusal.Refusal.TheVariants.List as OfList}
-use Rattle.{sim_relay.specs.Relays.IsRelay, sim_relay.specs.Relays.Relays, sim_relay.specs.declared.relaying.RelayRules.RelayRules, sim_store.specs.Files.File}
-use Rattle.std.specs.Prelude.{◌≡◌, ℕ, ◌<◌, ◌≤◌, ◌⊎◌, List, [], ◌∷◌, ⊤, Ok, Err, Option, Result}
+use Rattle.{sim_live.specs.Relays.IsRelay, sim_live.specs.Relays.Relays, sim_live.specs.declared.relaying.RelayRules.RelayRules, sim_store.specs.Files.File}
+use Rattle.std.specs.Prelude.{◌≡◌, ℕ, ◌<◌, ◌≤◌, ◌⊎◌, List, [], ◌∷◌, length, ⊤, Ok, Err, Result}
 use Rattle.sim_base.specs.{Limits.IsFrom, declared.setup.Setup.Setup}
-use Rattle.sim_talk.specs.{Talks.Extends, Talks.IsBeginning, Talks.Passed, Talks.told, declared.fault.TalkFault.TalkFault}
+use Rattle.sim_talk.specs.{Talks.Extends, Talks.History, Talks.IsBeginning, Talks.Passed, Talks.told, declared.fault.TalkFault.TalkFault}
 use Rattle.sim_talk_top.specs.{Endings.ended_as, Words.Talk, Words.to_live, Words.to_relay, declared.ending.Ending.Ending}
 use Rattle.sim_top.specs.{Outcome.Outcome, Outcome.session_match_in, Stops.ended_by, declared.status.Status.Status, declared.stop.Stop.Stop}
 use Rattle.sim_talk_top.specs.declared.ending.Ending.TheVariants as ending
@@ -11,33 +11,33 @@ use Rattle.sim_top.specs.declared.status.Status.TheVariants as status
 use Rattle.sim_top.specs.declared.stop.Stop.TheVariants as stop
 
 -- the talk over a session of a match took place
-abbrev pub TalkedOver : Setup → ℕ → Ending → Option (List Passed) → Option (List Passed) → Type 0
+abbrev pub TalkedOver : Setup → ℕ → Ending → History → History → Type 0
 TalkedOver setup clients ended old new = (outcome : Result ⊤ TalkFault) × (ended ≡ ended_as outcome) × Lives outcome setup clients old new
 
 -- that with the server did
-abbrev pub TalkedAs : RelayRules → Ending → Option (List Passed) → Option (List Passed) → Type 0
+abbrev pub TalkedAs : RelayRules → Ending → History → History → Type 0
 TalkedAs rules ended old new = (outcome : Result ⊤ TalkFault) × (ended ≡ ended_as outcome) × Relays outcome rules old new
 
 -- nothing was told, since the file could not be read, or memory was refused
-pub record CameBetween (ended : Ending) (old new : Option (List Passed)) : Type 0 where
+pub record CameBetween (ended : Ending) (old new : History) : Type 0 where
   pub cause : (ended ≡ ending.Run status.ReadFault) ⊎ (ended ≡ ending.Run status.OutOfMemory)
   pub nothing : Extends old new []
 
 -- a refusal was told with its status, or it was not told whole, or something came between
-pub data Refused (s : Status) (text : List ℕ) (old new : Option (List Passed)) : Ending → Type 0 where
-  whole : Extends old new (told text ∷ []) → Refused s text old new (ending.Run s)
+pub data Refused (s : Status) (text : List ℕ) (old new : History) : Ending → Type 0 where
+  whole : 0 < length text → Extends old new (told text ∷ []) → Refused s text old new (ending.Run s)
   silent : text ≡ [] → Extends old new [] → Refused s text old new (ending.Run s)
-  in_part : (more : List Passed) → IsBeginning text more → Extends old new more → Refused s text old new ending.Untold
+  in_part : 0 < length text → (more : List Passed) → IsBeginning text more → Extends old new more → Refused s text old new ending.Untold
   between : (ended : Ending) → CameBetween ended old new → Refused s text old new ended
 
 -- a session can't begin with more clients than the match has players: it is refused as a list that says so
-abbrev pub BeginsWith : Setup → ℕ → Ending → Option (List Passed) → Option (List Passed) → Type 0
+abbrev pub BeginsWith : Setup → ℕ → Ending → History → History → Type 0
 BeginsWith setup clients ended old new =
     (clients ≤ setup.players → TalkedOver setup clients ended old new ⊎ CameBetween ended old new)
     × (setup.players < clients → Refused status.ListRefused (refusal_text (OfList 0)) old new ended)
 
 -- by the match that was read, or why none was
-abbrev pub LiveBy : Result Setup Outcome → ℕ → Ending → Option (List Passed) → Option (List Passed) → Type 0
+abbrev pub LiveBy : Result Setup Outcome → ℕ → Ending → History → History → Type 0
 LiveBy (Ok setup) clients ended old new = BeginsWith setup clients ended old new
 LiveBy (Err wanted) clients ended old new = Refused wanted.status wanted.text old new ended
 
@@ -57,7 +57,7 @@ abbrev pub ReadsFor : List File → List ℕ → ℕ → Result Setup Stop → T
 ReadsFor files game clients found = ReadsBy (session_match_in files game) clients found
 
 -- what was told, and how it ended, over these files
-abbrev pub TalksOf : List File → Talk → Ending → Option (List Passed) → Option (List Passed) → Type 0
+abbrev pub TalksOf : List File → Talk → Ending → History → History → Type 0
 TalksOf files (to_live game clients) ended old new = LiveBy (session_match_in files game) clients ended old new
 TalksOf files (to_relay rules) ended old new = TalkedAs rules ended old new
 

@@ -1,5 +1,5 @@
 -- The words of a talk, and what they ask for.
-use Rattle.{sim_json.specs.Records.next_or, sim_relay.specs.declared.relaying.RelayRules.RelayRules as Rules, sim_top.specs.Words.turn_in}
+use Rattle.{sim_json.specs.Records.next_or, sim_live.specs.declared.relaying.RelayRules.RelayRules as Rules, sim_top.specs.Words.turn_in}
 use Rattle.std.specs.Prelude.{ℕ, ◌&&◌, List, [], ◌∷◌, if◌then◌else◌, nat_le, Some, None, codes, Option, option_map, option_and_then}
 use Rattle.std.specs.Str.{bytes_eq}
 use Rattle.sim_talk_top.specs.declared.words.Asked.{Asked, TheVariants.Live, TheVariants.Relay}
@@ -29,10 +29,17 @@ relay_by clients active delay turns =
     next_or (number_in 1 8 delay) None (λ d. next_or (number_in 0 65535 turns) None (λ t.
     Some (to_relay (record { clients = c; active = a; delay = d; turns = t }))))))
 
+-- two words of one command, and four of the other
+abbrev pub asked_of_two : List ℕ → List ℕ → List ℕ → Option Talk
+asked_of_two command game clients = if bytes_eq command (codes "live") then option_map (to_live game) (number_in 1 8 clients) else None
+
+abbrev pub asked_of_four : List ℕ → List ℕ → List ℕ → List ℕ → List ℕ → Option Talk
+asked_of_four command clients active delay turns = if bytes_eq command (codes "relay") then relay_by clients active delay turns else None
+
 -- what the words ask for, if they are those of a talk
 abbrev pub talk_by : List (List ℕ) → Option Talk
-talk_by (command ∷ game ∷ clients ∷ []) = if bytes_eq command (codes "live") then option_map (to_live game) (number_in 1 8 clients) else None
-talk_by (command ∷ clients ∷ active ∷ delay ∷ turns ∷ []) = if bytes_eq command (codes "relay") then relay_by clients active delay turns else None
+talk_by (command ∷ game ∷ clients ∷ []) = asked_of_two command game clients
+talk_by (command ∷ clients ∷ active ∷ delay ∷ turns ∷ []) = asked_of_four command clients active delay turns
 talk_by other = None
 
 -- how many bytes a line of it may have

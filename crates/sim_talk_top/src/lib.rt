@@ -1,7 +1,7 @@
 //! The talks of the program without their edge: the words, a shelf and a talk come in, and how it ended goes out.
 //!
 //! It promises that a talk over a session is that over the match of its file, and one of the server that by the numbers of its words; and
-//! that each way to end has its number. It stands on `sim_live` and `sim_relay` for the two talks, and on `sim_top` for the reading of a
+//! that each way to end has its number. It stands on `sim_live` for the two talks, and on `sim_top` for the reading of a
 //! match and the ways in which a run can end.
 //!
 //! - `words`: what the words ask for.

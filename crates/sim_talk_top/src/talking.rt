@@ -7,9 +7,8 @@ ghost use Rattle.sim_talk_top.specs.{Endings.ended_as, Talked.IsTalk, Talked.Rea
 
 use crate::{Asked, Ending};
 use sim_base::Setup;
-use sim_live::live;
+use sim_live::{live, relay};
 use sim_orders::OrderTable;
-use sim_relay::relay;
 use sim_store::Shelf;
 use sim_system::{Rig, System};
 use sim_talk::{Talk, TalkFault};
@@ -37,7 +36,7 @@ pub fn converse<S: Shelf, T: Talk>(
     requires eight { length rigs.items ≡ 8 }
     requires kinds { All (λ r. HaveKinds (systems_of r ⟦<dyn System as System>⟧)) rigs.items }
     requires cleared { All (λ r. AreCleared (systems_of r ⟦<dyn System as System>⟧)) rigs.items }
-    ensures talks { IfSome (S.held shelf.old) (λ files. TalksOf files (talk_of asked.entry) result.ending (T.passed talk.old) (T.passed talk.new)) }
+    ensures talks { IfSome (S.held shelf.old) (λ files. TalksOf files (talk_of asked.entry) result.ending (T.history talk.old) (T.history talk.new)) }
     ensures held { S.held shelf.new ≡ S.held shelf.old }
     ensures kinds { All (λ r. HaveKinds (systems_of r ⟦<dyn System as System>⟧)) result.rigs.items }
     ensures eight { length result.rigs.items ≡ 8 }
@@ -92,7 +91,7 @@ fn talk_live<T: Talk>(
     requires eight { length rigs.items ≡ 8 }
     requires kinds { All (λ r. HaveKinds (systems_of r ⟦<dyn System as System>⟧)) rigs.items }
     requires cleared { All (λ r. AreCleared (systems_of r ⟦<dyn System as System>⟧)) rigs.items }
-    ensures talked { TalkedOver setup.now clients result.ending (T.passed talk.old) (T.passed talk.new) }
+    ensures talked { TalkedOver setup.now clients result.ending (T.history talk.old) (T.history talk.new) }
     ensures kinds { All (λ r. HaveKinds (systems_of r ⟦<dyn System as System>⟧)) result.rigs.items }
     ensures eight { length result.rigs.items ≡ 8 }
     ensures room { vec_capacity result.rigs ≡ vec_capacity rigs }
@@ -118,19 +117,20 @@ fn ended(outcome: Result<(), TalkFault>) -> Ending
 
 // Tells why the talk does not begin.
 fn refused<T: Talk>(alloc: Global, stop: &Stop<'_>, talk: &mut T) -> Ending
-    ensures { Refused (status_of stop.now) (text_of_stop stop.now) (T.passed talk.old) (T.passed talk.new) result }
+    ensures { Refused (status_of stop.now) (text_of_stop stop.now) (T.history talk.old) (T.history talk.new) result }
 {
     let Ok(text) = stop_text(alloc, stop) else {
         return Ending::Run {
             status: Status::OutOfMemory,
         };
     };
-    if text.is_empty() {
+    let bytes = text.as_bytes();
+    if bytes.is_empty() {
         return Ending::Run {
             status: stop.status(),
         };
     }
-    match talk.tell(text.as_bytes()) {
+    match talk.tell(bytes) {
         Ok(()) => Ending::Run {
             status: stop.status(),
         },

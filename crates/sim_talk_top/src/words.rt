@@ -1,10 +1,10 @@
 //! The words of a talk, and how long a line of it may be.
 
 ghost use Rattle.std.specs.Prelude.{◌≡◌, ◌≤◌, IfSome, option_map};
-ghost use Rattle.sim_talk_top.specs.{Talked.IsTalk, Words.most_in, Words.number_in, Words.talk_by, Words.talk_of};
+ghost use Rattle.sim_talk_top.specs.{Talked.IsTalk, Words.asked_of_four, Words.asked_of_two, Words.most_in, Words.number_in, Words.talk_by, Words.talk_of};
 ghost use Rattle.sim_top.specs.Words.{words_of};
 
-use sim_relay::RelayRules;
+use sim_live::RelayRules;
 use sim_top::turn_of;
 
 /// How many bytes a line of a session may have: 1 MiB.
@@ -27,30 +27,57 @@ pub fn asked_of(words: &[String]) -> Option<Asked<'_>>
     ensures asked { option_map talk_of result ≡ talk_by (words_of words.now) }
     ensures limits { IfSome result (λ asked. IsTalk (talk_of asked)) }
 {
-    match words {
-        [command, game, clients] if command.as_str() == "live" => {
-            let clients = number_of(clients.as_str(), 1, 8)? as u8;
-            Some(Asked::Live {
-                game: game.as_str(),
-                clients,
-            })
-        }
-        [command, clients, active, delay, turns] if command.as_str() == "relay" => {
-            let clients = number_of(clients.as_str(), 1, 8)?;
-            let active = number_of(active.as_str(), 0, clients)?;
-            let delay = number_of(delay.as_str(), 1, 8)?;
-            let turns = number_of(turns.as_str(), 0, 65_535)?;
-            Some(Asked::Relay {
-                rules: RelayRules {
-                    clients: clients as u8,
-                    active: active as u8,
-                    delay: delay as u8,
-                    turns,
-                },
-            })
-        }
-        _ => None,
+    if let [command, game, clients] = words {
+        return live_of(command.as_str(), game.as_str(), clients.as_str());
     }
+    if let [command, clients, active, delay, turns] = words {
+        return relay_of(
+            command.as_str(),
+            clients.as_str(),
+            active.as_str(),
+            delay.as_str(),
+            turns.as_str(),
+        );
+    }
+    None
+}
+
+fn live_of<'w>(command: &str, game: &'w str, clients: &str) -> Option<Asked<'w>>
+    ensures asked { option_map talk_of result ≡ asked_of_two command.now game.now clients.now }
+    ensures limits { IfSome result (λ asked. IsTalk (talk_of asked)) }
+{
+    if command != "live" {
+        return None;
+    }
+    let clients = number_of(clients, 1, 8)? as u8;
+    Some(Asked::Live { game, clients })
+}
+
+fn relay_of<'w>(
+    command: &str,
+    clients: &str,
+    active: &str,
+    delay: &str,
+    turns: &str,
+) -> Option<Asked<'w>>
+    ensures asked { option_map talk_of result ≡ asked_of_four command.now clients.now active.now delay.now turns.now }
+    ensures limits { IfSome result (λ asked. IsTalk (talk_of asked)) }
+{
+    if command != "relay" {
+        return None;
+    }
+    let clients = number_of(clients, 1, 8)?;
+    let active = number_of(active, 0, clients)?;
+    let delay = number_of(delay, 1, 8)?;
+    let turns = number_of(turns, 0, 65_535)?;
+    Some(Asked::Relay {
+        rules: RelayRules {
+            clients: clients as u8,
+            active: active as u8,
+            delay: delay as u8,
+            turns,
+        },
+    })
 }
 
 /// How many bytes a line of that talk may have.

@@ -19,3 +19,4 @@ pub mod Stocking
 pub mod Balances
 pub mod Checking
 pub mod Logging
+pub mod Recorded

@@ -1,13 +1,13 @@
 -- What the sink was told of a log and what is stored of it, in the words of the rules.
 use Rattle.{sim_base.specs.Spelling.digest, sim_base.specs.declared.command.PlayerCommand.PlayerCommand, sim_session_text.specs.Recording.released_turns}
-use Rattle.{sim_report.specs.LogLines.apart_lines, std.specs.List.range_with_len, std.specs.Prelude.slice_get}
+use Rattle.{sim_report.specs.LogLines.apart_lines, std.specs.Prelude.slice_get}
 use Rattle.std.proofs.lemmas.{List.FromFn.get_or-map-range_with_len, List.FromFn.length-map-range_with_len, Option.slice_get-get_or}
 use Rattle.sim_replay.{proofs.Aparts.first_is, proofs.Aparts.none_apart, specs.Apart.IsFirstApart, specs.Logs.IsLog}
 use Rattle.sim_top.proofs.{Common.to_log, Common.to_record, Common.◌∙◌, Sights.file_end, Sights.no_end}
 use Rattle.sim_top.proofs.Common.{apart_by, Appends, arith, Asked, asked_by, bytes_in, check_outcome, Differs, digests_after, Done, File, first_apart, HasEnded}
 use Rattle.sim_top.proofs.Common.{inl, inr, IsDone, IsLogged, IsOutcomeOf, Log, log_after, log_by, logged_as, match_in, match_turns, Meets, Outcome, Scene}
 use Rattle.sim_top.proofs.Common.{session_match_in, session_of, Setup, state_after, Status, StepList, steps_in, subst, sym, TellsLogs, Then, ThenLog, to_check}
-use Rattle.sim_top.proofs.Common.{◌≡◌, ℕ, suc, ◌≤◌, ◌⊎◌, List, [], map, length, take, IfOk, Some, None, Ok, Err, codes, Option, Result, refl, ap, Apart}
+use Rattle.sim_top.proofs.Common.{◌≡◌, ℕ, suc, ◌≤◌, ◌⊎◌, List, [], length, take, IfOk, Some, None, Ok, Err, codes, Option, Result, refl, ap, Apart}
 use Rattle.sim_top.specs.Logs.{Agrees, Disagrees, IsChecked, IsFirstWrong, IsRight, IsStored}
 
 stored_so : (word : List ℕ) (setup : Setup) (turns : List (List PlayerCommand)) (out : List ℕ) (wanted : Outcome) (before now : Scene)
@@ -29,7 +29,7 @@ module _ (setup : Setup) (log : Log) (is_log : IsLog setup log) where
   played_at turn within =
       slice_get-get_or (digests_after setup log.turns) turn [] (omega (arith, within, played_length))
       ∙ ap Some (get_or-map-range_with_len (λ n. digest setup (state_after setup (take n log.turns))) 0 (suc (length log.turns)) turn turn []
-      (omega (arith, within)) refl)
+      (omega (arith, within)) (omega arith))
 
   right : log.digests ≡ digests_after setup log.turns → IsRight setup log
   right same turn within = ap (λ (ds : List (List ℕ)). slice_get ds turn) same ∙ played_at turn within

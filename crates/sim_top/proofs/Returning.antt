@@ -1,5 +1,6 @@
 -- How the rigs of a command come back: as they were, with the first played, with the first two played, and of a session.
-use Rattle.{sim_top.specs.Hosting.IsRecordedBy, sim_top.specs.Hosting.OfRecord, std.proofs.Math.ListN.drop_of_length-le, std.specs.Prelude.vec_capacity}
+use Rattle.{sim_top.specs.Hosting.builds_with_log, sim_top.specs.Hosting.IsRecordedBy, sim_top.specs.Hosting.OfRecord}
+use Rattle.{std.proofs.Math.ListN.drop_of_length-le, std.specs.Prelude.vec_capacity}
 use Rattle.std.proofs.lemmas.List.Elements.{All-cons, All-head, All-nil, All-tail}
 use Rattle.sim_session.specs.SessionWords.{rigs_by}
 use Rattle.sim_session_text.specs.Rigs.{AllBuiltAtMost, AllStand, builds_of}
@@ -208,12 +209,12 @@ module _ {X : Type 0} {F : X → Type 0} (meaning : (i : X) → F i → Meaning)
   pub one_less : (old : List (Rig X F)) (r : Rig X F) (rest : List (Rig X F)) (n : ℕ) → old ≡ r ∷ rest → length old ≡ suc n → length rest ≡ n
   one_less old r rest n is count = let more : length old ≡ suc (length rest) = ap length is in omega (arith, more, count)
 
-  firsts_of : (old new rest after : List (Rig X F)) (r s : Rig X F) (P : Rig X F → Rig X F → Type 0) → old ≡ r ∷ rest → new ≡ s ∷ after → P r s
+  pub firsts_of : (old new rest after : List (Rig X F)) (r s : Rig X F) (P : Rig X F → Rig X F → Type 0) → old ≡ r ∷ rest → new ≡ s ∷ after → P r s
       → OfFirsts old new P
   firsts_of old new rest after r s P was is h = subst (λ (l : List (Rig X F)). OfFirsts l new P) (sym was)
       (subst (λ (l : List (Rig X F)). OfFirsts (r ∷ rest) l P) (sym is) h)
 
-  behind : (old rest : List (Rig X F)) (r : Rig X F) → old ≡ r ∷ rest → drop 1 old ≡ rest
+  pub behind : (old rest : List (Rig X F)) (r : Rig X F) → old ≡ r ∷ rest → drop 1 old ≡ rest
   behind old rest r is = ap (drop 1) is
 
   pub kind_of_first : (old rest : List (Rig X F)) (r : Rig X F) → old ≡ r ∷ rest → All (λ r. HaveKinds (systems_by r meaning)) old
@@ -224,7 +225,8 @@ module _ {X : Type 0} {F : X → Type 0} (meaning : (i : X) → F i → Meaning)
       → All (λ r. HaveKinds (systems_by r meaning)) rest
   kinds_of_rest old rest r is all = All-tail (λ r. HaveKinds (systems_by r meaning)) r rest (subst (All (λ r. HaveKinds (systems_by r meaning))) is all)
 
-  kinds_with : (new rest : List (Rig X F)) (s : Rig X F) → new ≡ s ∷ rest → HaveKinds (systems_by s meaning) → All (λ r. HaveKinds (systems_by r meaning)) rest
+  pub kinds_with : (new rest : List (Rig X F)) (s : Rig X F) → new ≡ s ∷ rest → HaveKinds (systems_by s meaning)
+      → All (λ r. HaveKinds (systems_by r meaning)) rest
       → All (λ r. HaveKinds (systems_by r meaning)) new
   kinds_with new rest s is here others = subst (All (λ r. HaveKinds (systems_by r meaning))) (sym is)
       (All-cons (λ r. HaveKinds (systems_by r meaning)) s rest here others)
@@ -319,6 +321,16 @@ module _ {X : Type 0} {F : X → Type 0} (meaning : (i : X) → F i → Meaning)
 
   -- ---- a session was run with all of them
 
+  any_firsts : (old new : List (Rig X F)) → 0 < length old → 0 < length new → OfFirsts old new (λ r s. Unit {0})
+  any_firsts [] new le more = absurd (omega (arith, le))
+  any_firsts (r ∷ old) [] le more = absurd (omega (arith, more))
+  any_firsts (r ∷ old) (s ∷ new) le more = tt
+
+  any_seconds : (old new : List (Rig X F)) → 1 < length old → 1 < length new → OfFirsts (drop 1 old) (drop 1 new) (λ r s. Unit {0})
+  any_seconds [] new le more = absurd (omega (arith, le))
+  any_seconds (r ∷ old) [] le more = absurd (omega (arith, more))
+  any_seconds (r ∷ old) (s ∷ new) le more = any_firsts old new (omega (arith, le)) (omega (arith, more))
+
   none_left : (rigs : List (Rig X F)) → length rigs ≡ 8 → drop 8 rigs ≡ []
   none_left rigs eight = drop_of_length-le rigs {i = 8} (omega (arith, eight))
 
@@ -352,16 +364,6 @@ module _ {X : Type 0} {F : X → Type 0} (meaning : (i : X) → F i → Meaning)
         room = room;
       }
     where
-      any_firsts : (old new : List (Rig X F)) → 0 < length old → 0 < length new → OfFirsts old new (λ r s. Unit {0})
-      any_firsts [] new le more = absurd (omega (arith, le))
-      any_firsts (r ∷ old) [] le more = absurd (omega (arith, more))
-      any_firsts (r ∷ old) (s ∷ new) le more = tt
-
-      any_seconds : (old new : List (Rig X F)) → 1 < length old → 1 < length new → OfFirsts (drop 1 old) (drop 1 new) (λ r s. Unit {0})
-      any_seconds [] new le more = absurd (omega (arith, le))
-      any_seconds (r ∷ old) [] le more = absurd (omega (arith, more))
-      any_seconds (r ∷ old) (s ∷ new) le more = any_firsts old new (omega (arith, le)) (omega (arith, more))
-
       hosted_by : OnOk made (IsHostedBy meaning setup list old.items new.items)
       hosted_by = by made stand
         where
@@ -382,6 +384,51 @@ module _ {X : Type 0} {F : X → Type 0} (meaning : (i : X) → F i → Meaning)
               subst (λ (r : Result Setup Outcome). IfOk r
               (λ setup. IfOk (steps_in files steps setup.players) (λ list. IsHostedBy meaning setup list old.items new.items))) (sym e)
               (subst (λ (r : Result StepList Outcome). IfOk r (λ list. IsHostedBy meaning setup list old.items new.items)) (sym l) h)
+          by (Err stop) h = tt
+
+  -- ---- and one that is recorded
+
+  pub record_played : (held : Option (List File)) (game steps out : List ℕ) (setup : Setup) (list : StepList) (wanted : Outcome) (made : Result Answer Stop)
+      (old new : Vec (Rig X F) Global)
+      → IsSetup setup → IsStepList setup.players list → IfSome held (λ files. session_match_in files game ≡ Ok setup)
+      → IfSome held (λ files. steps_in files steps setup.players ≡ Ok list)
+      → IsMade wanted made → HasEnded wanted.status → OnOk made (IsRecordedBy meaning setup list new.items)
+      → AllBuiltAtMost (builds_with_log setup list) setup.players (rigs_by old.items meaning) (rigs_by new.items meaning) → drop setup.players new.items ≡
+      drop setup.players old.items
+      → AreEightBy meaning old.items → AreEightBy meaning new.items → vec_capacity new ≡ vec_capacity old
+      → RigsCameBackBy meaning (Some (to_record game steps out)) held (status_made made) old new
+  record_played held game steps out setup list wanted made old new limits within read listed m ended recorded built spare was is room =
+      record {
+        stands = told_any held (λ files. HasEnded (status_made made) → OfFirsts old.items new.items (Stands files (Some (to_record game steps out))))
+            (λ files done. any_firsts old.items new.items (omega (arith, was.count)) (omega (arith, is.count)));
+        joins = told_any held (λ files. HasEnded (status_made made) → OfFirsts (drop 1 old.items) (drop 1 new.items)
+            (Joins files (Some (to_record game steps out))))
+            (λ files done. any_seconds old.items new.items (omega (arith, was.count)) (omega (arith, is.count)));
+        hosted = told_any held (λ files. HasEnded (status_made made) → Unit {0}) (λ files done. tt);
+        recorded = told_ended held made (λ files. OfRecord files (Some (to_record game steps out)) (λ setup list. IsRecordedBy meaning setup list new.items))
+            (records held read listed);
+        most = λ none. absurd (false≢true (sym none));
+        joined = λ none. absurd (false≢true (sym none));
+        session = inr (record { setup = setup; list = list; read = read; listed = listed; limits = limits; within = within; built = built; spare = spare });
+        unplayed = λ none. absurd (was_played wanted made m ended none);
+        rest = none_left new.items is.count ∙ sym (none_left old.items was.count);
+        kinds = is.kinds;
+        count = is.count ∙ sym was.count;
+        room = room;
+      }
+    where
+      records : (held : Option (List File)) → IfSome held (λ files. session_match_in files game ≡ Ok setup)
+          → IfSome held (λ files. steps_in files steps setup.players ≡ Ok list)
+          → IfSome held (λ files. OnOk made (OfRecord files (Some (to_record game steps out)) (λ setup list. IsRecordedBy meaning setup list new.items)))
+      records None e l = tt
+      records (Some files) e l = by made recorded
+        where
+          by : (made : Result Answer Stop) → OnOk made (IsRecordedBy meaning setup list new.items)
+              → OnOk made (OfRecord files (Some (to_record game steps out)) (λ setup list. IsRecordedBy meaning setup list new.items))
+          by (Ok answer) h =
+              subst (λ (r : Result Setup Outcome). IfOk r
+              (λ setup. IfOk (steps_in files steps setup.players) (λ list. IsRecordedBy meaning setup list new.items))) (sym e)
+              (subst (λ (r : Result StepList Outcome). IfOk r (λ list. IsRecordedBy meaning setup list new.items)) (sym l) h)
           by (Err stop) h = tt
 
   -- ---- a later status

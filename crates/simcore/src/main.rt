@@ -2,6 +2,8 @@
 //! run or to the talk. Whatever the edge does is done in `sim_edge`, and whatever can be decided is decided below that.
 #![tactic(auto)]
 
+ghost use Rattle.sim_talk_top.specs.{Talked.IsTalk, Words.talk_of};
+
 use sim_base::OutOfMemory;
 use sim_census::Census;
 use sim_edge::{
@@ -47,7 +49,9 @@ fn run_words(rt: &HostRuntime, words: &[String]) -> Result<Status, OutOfMemory> 
 }
 
 // Talks by standard input and output, with a prompt where somebody sits at a terminal.
-fn talk_words(rt: &HostRuntime, asked: Asked<'_>) -> Result<Ending, OutOfMemory> {
+fn talk_words(rt: &HostRuntime, asked: Asked<'_>) -> Result<Ending, OutOfMemory>
+    requires { IsTalk (talk_of asked) }
+{
     let alloc = rt.alloc();
     let mut rigs = Vec::with_capacity(alloc, 8)?;
     for _ in 0..8u8 {

@@ -1,5 +1,5 @@
 //! What a stored state costs where it costs most: one of 4,096 entities that have every part and a way of 45 waypoints,
-//! 1.7 MB. No match comes to such a state yet, so it is made by hand.
+//! 1.7 MB. It is made by hand, so that no match has to be played to it.
 
 ghost use Rattle.std.specs.Prelude.{◌≡◌, length, IfOk};
 ghost use Rattle.sim_base.specs.{Limits.IsLand, Limits.IsSetup, Limits.IsTemplate, Validity.IsValid};

@@ -6,30 +6,31 @@ use sim_top::Status;
 use std::alloc::Global;
 use test_runs::{print, run_words, shelf_of};
 
-// Four posts of one player.
-const FOUR: &str =
-    r#"{"size":[4,4],"closed":[],"players":[[]],"cap":0,"delay":1,"turns":2,"seed":0,"templates":[{"@name":"post","Health":{"Max":50}}],"entities":[["post",1,0,0],["post",1,1,1],["post",1,2,2],["post",1,3,3]],"commands":[]}"#;
+// A walker that is told to walk.
+const WALK: &str =
+    r#"{"size":[8,8],"closed":[],"players":[[]],"cap":0,"delay":1,"turns":2,"seed":0,"templates":[{"@name":"walker","Motion":{"Speed":10}}],"entities":[["walker",1,"2.5","2.5"]],"commands":[[1,1,"walk",[2],"6.5","2.5"]]}"#;
 
-// What OUT holds before a command saves a state there.
+// What the file `s` holds before a command saves a state there. A file `new` is not held before.
 const BEFORE: &[u8] = b"before";
 
-/// Words, how many calls of the shelf read their files, and whether they save a state in OUT.
-pub type Command = (&'static [&'static str], u64, bool);
+/// Words, how many calls of the shelf read their files, and where they save a state, or nothing.
+pub type Command = (&'static [&'static str], u64, &'static str);
 
 /// Each file that is read takes three calls: it is opened, it is read whole, and it has come to its end.
-pub const COMMANDS: [Command; 6] = [
-    (&["play", "m"], 3, false),
-    (&["state", "m", "0", "s"], 3, true),
-    (&["resume", "m", "a"], 6, false),
-    (&["rejoin", "m", "1"], 3, false),
-    (&["show", "m", "a"], 6, false),
-    (&["compare", "m", "a", "b"], 9, false),
+pub const COMMANDS: [Command; 7] = [
+    (&["play", "m"], 3, ""),
+    (&["state", "m", "1", "s"], 3, "s"),
+    (&["state", "m", "1", "new"], 3, "new"),
+    (&["resume", "m", "a"], 6, ""),
+    (&["rejoin", "m", "1"], 3, ""),
+    (&["show", "m", "a"], 6, ""),
+    (&["compare", "m", "a", "b"], 9, ""),
 ];
 
-/// The state of the match at turn 0, as it is stored.
+/// The state of the match at turn 1, as it is stored.
 pub fn stored(alloc: Global) -> Result<Vec<u8>, OutOfMemory> {
-    let mut shelf = shelf_of(alloc, &[("m", FOUR.as_bytes())])?;
-    print(alloc, &["state", "m", "0", "s"], &mut shelf)?;
+    let mut shelf = shelf_of(alloc, &[("m", WALK.as_bytes())])?;
+    print(alloc, &["state", "m", "1", "s"], &mut shelf)?;
     match shelf.held("s") {
         Some(bytes) => Ok(bytes.to_vec(alloc)?),
         None => Ok(Vec::new(alloc)),
@@ -41,7 +42,7 @@ pub fn files(alloc: Global, state: &[u8], call: u64) -> Result<MemShelf, OutOfMe
     let mut shelf = shelf_of(
         alloc,
         &[
-            ("m", FOUR.as_bytes()),
+            ("m", WALK.as_bytes()),
             ("a", state),
             ("b", state),
             ("s", BEFORE),
@@ -74,20 +75,29 @@ pub fn has_file(shelf: &MemShelf, name: &str, bytes: &[u8]) -> bool {
 
 /// Whether each file that is read is as it was.
 pub fn are_inputs_kept(shelf: &MemShelf, state: &[u8]) -> bool {
-    has_file(shelf, "m", FOUR.as_bytes())
+    has_file(shelf, "m", WALK.as_bytes())
         && has_file(shelf, "a", state)
         && has_file(shelf, "b", state)
 }
 
-/// Whether OUT is as it was, or holds the beginning of the state that is saved there, if one is.
-pub fn is_saved_in_part(shelf: &MemShelf, state: &[u8], saves: bool) -> bool {
-    match shelf.held("s") {
-        Some(held) => held == BEFORE || (saves && state.starts_with(held)),
-        None => false,
+// Whether a file is as it was, or holds the beginning of the state, if one is saved there.
+fn is_part(shelf: &MemShelf, name: &str, before: Option<&[u8]>, state: &[u8], saves: &str) -> bool {
+    match shelf.held(name) {
+        Some(held) => Some(held) == before || (name == saves && state.starts_with(held)),
+        None => before.is_none(),
     }
 }
 
-/// Whether OUT holds the whole state, or is as it was where none is saved there.
-pub fn is_saved(shelf: &MemShelf, state: &[u8], saves: bool) -> bool {
-    has_file(shelf, "s", if saves { state } else { BEFORE })
+/// Whether each file that a state may be saved in is as it was, or holds the beginning of the state that is saved there.
+pub fn is_saved_in_part(shelf: &MemShelf, state: &[u8], saves: &str) -> bool {
+    is_part(shelf, "s", Some(BEFORE), state, saves) && is_part(shelf, "new", None, state, saves)
+}
+
+/// Whether the whole state is held where it is saved, and the other such file is as it was.
+pub fn is_saved(shelf: &MemShelf, state: &[u8], saves: &str) -> bool {
+    let is_new = match shelf.held("new") {
+        Some(held) => saves == "new" && held == state,
+        None => saves != "new",
+    };
+    is_new && has_file(shelf, "s", if saves == "s" { state } else { BEFORE })
 }

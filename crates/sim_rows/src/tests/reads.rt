@@ -16,7 +16,7 @@ type Outcome = (Status, bool, bool, bool);
 fn with_failing(
     alloc: Global,
     words: &[&str],
-    saves: bool,
+    saves: &str,
     state: &[u8],
     call: u64,
     text: &[u8],

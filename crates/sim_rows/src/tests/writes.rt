@@ -15,7 +15,7 @@ use test_runs::{run_words, shelf_of};
 fn with_failing(
     alloc: Global,
     words: &[&str],
-    saves: bool,
+    saves: &str,
     state: &[u8],
     write: u64,
     text: &[u8],

@@ -1,6 +1,6 @@
 //! Lines that come in pieces of any size, each fault of a line, texts that are told in part, and the server as a talk in memory.
 
-use sim_relay::{RelayRules, relay};
+use sim_live::{RelayRules, relay};
 use sim_store::{Failed, MemSink};
 use sim_talk::{HearFault, LineTalk, MemSource, MemTalk, Piece, Talk, TalkFault, json_of};
 use std::alloc::Global;

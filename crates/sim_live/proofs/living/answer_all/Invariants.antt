@@ -3,10 +3,10 @@ use Rattle.{sim_live.proofs.Answered.HasAnswered, std.proofs.Common.◌≡◌, s
 use Rattle.sim_session.specs.SessionWords.{IsSessionBy, seen_in}
 use Rattle.sim_live.proofs.living.answer_all.Given as goal
 
-abbrev pub invariant-loop-_before : goal.invariant-loop-_before
-invariant-loop-_before g l =
+abbrev pub invariant-loop-before : goal.invariant-loop-before
+invariant-loop-before g l =
     record {
-      answered : HasAnswered l.fn.session.setup.now l.clients (seen_in l.session) l.made (g.T.Talk.passed l.fn.talk) (g.T.Talk.passed l.talk);
+      answered : HasAnswered l.fn.session.setup.now l.clients (seen_in l.session) l.made l._before (g.T.Talk.history l.fn.talk) (g.T.Talk.history l.talk);
       few : l.made ≤ l._before;
       session : IsSessionBy l.session (λ i v. (goal.System-dyn g (i, v)).meaning v);
       setup : l.session.setup.now ≡ l.fn.session.setup.now;

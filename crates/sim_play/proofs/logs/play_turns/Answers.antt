@@ -1,6 +1,7 @@
 -- The first state has its digest; then one turn more is played, and its state has one too.
-use Rattle.sim_play.proofs.{Common.◌∙◌, LogTurns.digests_more, PaidOnes.kept_so_far}
-use Rattle.sim_play.proofs.Common.{◌≡◌, ℕ, ◌+◌, List, [], ◌∷◌, ◌++◌, take, refl, ap, digest, rig_in, Setup, setup_in, state_after, state_in, systems_by, turn}
+use Rattle.sim_play.proofs.{LogTurns.digests_more, LogTurns.state_more, LogTurns.turn_at, PaidOnes.kept_so_far, Playing.kept_on}
+use Rattle.sim_play.proofs.Common.{digest, IsValid, PlayerCommand, rig_in, Setup, setup_in, State, state_after, state_in, subst, systems_by, turn, ◌∙◌}
+use Rattle.sim_play.proofs.Common.{◌≡◌, ℕ, ◌+◌, ◌<◌, List, [], ◌∷◌, ◌++◌, length, get_or, take, refl, ap, arith, rules, sym}
 use Rattle.sim_play.proofs.logs.play_turns.Goals as goal
 
 pub loop-commands-init : goal.loop-commands-init
@@ -20,4 +21,45 @@ loop-commands-init g c =
       same = refl;
       whole = c.requires.whole;
       kept = kept_so_far setup start (systems_by (rig_in c.args.board.now) (λ i v. (goal.System-dyn g (i, v)).meaning v)) c.requires.whole.standing.fed;
+    }
+
+pub turn-requires-clause-below : goal.turn-requires-clause-below
+turn-requires-clause-below g c =
+    let turns = c.args.turns.now in
+    let i = c.loop-commands.invariant in
+    let n = c.loop-commands.commands-index in
+    let lt : n < length turns = search rules in
+    let at = turn_at (setup_in c.args.board.now) turns n (state_in c.loop-commands.board) (omega (arith, lt)) i.state in
+    let last = ap (λ (s : Setup). s.turns) i.same in
+    omega (arith, at, last, lt, c.requires.few)
+
+pub loop-commands-preserved : goal.loop-commands-preserved
+loop-commands-preserved g c =
+    let setup = setup_in c.args.board.now in
+    let turns = c.args.turns.now in
+    let i = c.loop-commands.invariant in
+    let n = c.loop-commands.commands-index in
+    let lt : n < length turns = search rules in
+    let orders : List PlayerCommand = c.commands-item.result in
+    let old = state_in c.loop-commands.board in
+    let new = state_in c.turn.new.board in
+    let played = c.in_ok-turn.ensures in
+    let made : new ≡ turn setup old orders =
+    played.state ∙ ap (λ (s : Setup). turn s old c.as_slice.result.now) i.same ∙ ap (turn setup old) c.as_slice.ensures in
+    let state : new ≡ state_after setup (take (n + 1) turns) =
+    made ∙ ap (λ (s : State). turn setup s orders) i.state ∙ sym (state_more setup turns n orders lt c.commands-item.is) in
+    let shown = c.scene-in-loop-commands.result.state.now in
+    let told : c.digest-in-loop-commands.result ≡ digest setup new =
+    c.digest-in-loop-commands.ensures ∙ ap (λ (s : Setup). digest s shown) c.setup-setup.ensures
+    ∙ ap (digest setup) c.scene-in-loop-commands.ensures.state in
+    let digests : List (List ℕ) = c.loop-commands.digests in
+    let pushed : c.push-in-loop-commands.new.self ≡ digests ++ digest setup new ∷ [] =
+    c.in_ok-push-2.ensures.ok ∙ ap (λ (d : List ℕ). digests ++ d ∷ []) told in
+    record {
+      digests = digests_more setup turns (n + 1) new digests c.push-in-loop-commands.new.self state i.digests pushed;
+      state = state;
+      valid = subst (λ (s : Setup). IsValid s new) i.same played.valid;
+      same = played.setup ∙ i.same;
+      whole = played.whole;
+      kept = kept_on _ _ _ i.kept played.kept;
     }

@@ -2,11 +2,11 @@
 use Rattle.sim_replay.proofs.Common.{◌≡◌, ◌+◌, ◌≤◌, length, nothing, parts_of, read_parts}
 use Rattle.sim_replay.proofs.read.lines_of.Given as goal
 
-abbrev pub invariant-loop-rest : goal.invariant-loop-rest
-invariant-loop-rest l = record {
+abbrev pub invariant-loop-line : goal.invariant-loop-line
+invariant-loop-line l = record {
   same : read_parts l.setup l.read l.number (parts_of l.rest) ≡ read_parts l.setup nothing 2 (parts_of l.bytes);
   counted : l.number + length l.rest ≤ length l.bytes + 2;
 }
 
-abbrev pub decreases-loop-rest : goal.decreases-loop-rest
-decreases-loop-rest l = length l.rest
+abbrev pub decreases-loop-line : goal.decreases-loop-line
+decreases-loop-line l = length l.rest

@@ -138,6 +138,36 @@ returns-in-Resight-clause-back g c =
     subst (λ (a : Asked). RigsCameBackBy (λ i v. (goal.System-dyn g (i, v)).meaning v) (Some a) (g.S.Shelf.held c.args.shelf.now) (status_made c.resight.result)
     c.args.rigs.now c.resight.new.rigs) (sym (ap asked c.in-Resight.is)) c.resight.ensures.back
 
+pub returns-in-Log-clause-answer : goal.returns-in-Log-clause-answer
+returns-in-Log-clause-answer g c =
+    subst (λ (a : Asked). IsAnswerTo a c.log.result (shelved (g.S.Shelf.held c.args.shelf.now) (g.S.Shelf.counts c.args.shelf.now))
+    (shelved (g.S.Shelf.held c.log.new.shelf) (g.S.Shelf.counts c.log.new.shelf))) (sym (ap asked c.in-Log.is)) c.log.ensures.answer
+
+pub returns-in-Log-clause-back : goal.returns-in-Log-clause-back
+returns-in-Log-clause-back g c =
+    subst (λ (a : Asked). RigsCameBackBy (λ i v. (goal.System-dyn g (i, v)).meaning v) (Some a) (g.S.Shelf.held c.args.shelf.now) (status_made c.log.result)
+    c.args.rigs.now c.log.new.rigs) (sym (ap asked c.in-Log.is)) c.log.ensures.back
+
+pub returns-in-Record-clause-answer : goal.returns-in-Record-clause-answer
+returns-in-Record-clause-answer g c =
+    subst (λ (a : Asked). IsAnswerTo a c.record.result (shelved (g.S.Shelf.held c.args.shelf.now) (g.S.Shelf.counts c.args.shelf.now))
+    (shelved (g.S.Shelf.held c.record.new.shelf) (g.S.Shelf.counts c.record.new.shelf))) (sym (ap asked c.in-Record.is)) c.record.ensures.answer
+
+pub returns-in-Record-clause-back : goal.returns-in-Record-clause-back
+returns-in-Record-clause-back g c =
+    subst (λ (a : Asked). RigsCameBackBy (λ i v. (goal.System-dyn g (i, v)).meaning v) (Some a) (g.S.Shelf.held c.args.shelf.now) (status_made c.record.result)
+    c.args.rigs.now c.record.new.rigs) (sym (ap asked c.in-Record.is)) c.record.ensures.back
+
+pub returns-in-Check-clause-answer : goal.returns-in-Check-clause-answer
+returns-in-Check-clause-answer g c =
+    subst (λ (a : Asked). IsAnswerTo a c.check.result (shelved (g.S.Shelf.held c.args.shelf.now) (g.S.Shelf.counts c.args.shelf.now))
+    (shelved (g.S.Shelf.held c.check.new.shelf) (g.S.Shelf.counts c.check.new.shelf))) (sym (ap asked c.in-Check.is)) c.check.ensures.answer
+
+pub returns-in-Check-clause-back : goal.returns-in-Check-clause-back
+returns-in-Check-clause-back g c =
+    subst (λ (a : Asked). RigsCameBackBy (λ i v. (goal.System-dyn g (i, v)).meaning v) (Some a) (g.S.Shelf.held c.args.shelf.now) (status_made c.check.result)
+    c.args.rigs.now c.check.new.rigs) (sym (ap asked c.in-Check.is)) c.check.ensures.back
+
 pub returns-in-Film-clause-answer : goal.returns-in-Film-clause-answer
 returns-in-Film-clause-answer g c =
     subst (λ (a : Asked). IsAnswerTo a c.film.result (shelved (g.S.Shelf.held c.args.shelf.now) (g.S.Shelf.counts c.args.shelf.now))

@@ -1,11 +1,10 @@
 -- A line is heard, piece by piece.
 use Rattle.{sim_store.specs.Counts.raised, std.specs.Io.KnownBytes.Consumes, std.specs.Io.KnownBytes.IsAtEnd, std.specs.Io.KnownBytes.prepend_known}
 use Rattle.std.proofs.{KnownBytes.Consumes-nil, lemmas.List.length-take-le}
-use Rattle.std.proofs.Common.{◌≡◌, ℕ, ◌-◌, ◌<◌, List, [], length, take, Err, refl, ap, arith, rules, subst, sym, ◌∙◌}
+use Rattle.std.proofs.Common.{◌≡◌, ℕ, ◌<◌, List, [], length, take, Err, refl, ap, arith, rules, subst, sym, ◌∙◌}
 use Rattle.sim_talk.proofs.Hearing.{counted_end, counted_text, falls, heard_end, heard_failed, heard_much, heard_no_more, heard_part, heard_whole}
 use Rattle.sim_talk.proofs.Hearing.{heard_without, no_part, open_part, taken_on}
 use Rattle.sim_talk.specs.{Ahead.bytes_ahead, LineTalk.HearCounts, Lines.IsPart, Lines.Pours, Lines.PoursOpen, Lines.PoursTooMuch, Lines.PoursWhole}
-use Rattle.sim_talk.specs.declared.ahead.Poured.TheVariants as poured
 use Rattle.sim_talk.specs.declared.fault.HearFault.TheVariants as fault
 use Rattle.sim_talk.proofs.line_talk.LineTalk.read_line.Goals as goal
 

@@ -1,0 +1,33 @@
+-- What a line asks for is read first, and then answered.
+use Rattle.{sim_live.specs.Live.answer_to, sim_live.specs.Live.steps_with, sim_live.specs.LineWords.IsLine, sim_live.specs.LineWords.line_of}
+use Rattle.{sim_plain_session.specs.Sessions.session, sim_session.specs.SessionWords.seen_in, sim_session.specs.Standing.StandsFor}
+use Rattle.{std.specs.Prelude.string_bytes}
+use Rattle.std.proofs.Common.{◌≡◌, ℕ, List, ◌++◌, length, ap, subst, ◌∙◌}
+use Rattle.sim_base.specs.declared.setup.Setup.{Setup}
+use Rattle.sim_live.specs.declared.line.Line.{Line}
+use Rattle.sim_live.proofs.answering.answer.Goals as goal
+
+pub push_answer-requires-clause-line : goal.push_answer-requires-clause-line
+push_answer-requires-clause-line g c =
+    subst (λ (s : Setup). IsLine s.players c.in_ok-asked.asked) c.setup.ensures c.in_ok-asked.ensures.limits
+
+pub returns-clause-text : goal.returns-clause-text
+returns-clause-text g c = λ clients steps few counted stands.
+    let asked : c.in_ok-asked.asked ≡ line_of c.args.session.now.setup.now.players c.args.line.now =
+    c.in_ok-asked.ensures.value ∙ ap (λ (s : Setup). line_of s.players c.args.line.now) c.setup.ensures in
+    c.in_ok-count.ensures.text clients steps few counted stands
+    ∙ ap (λ (t : List ℕ). t ++ answer_to c.args.session.now.setup.now clients steps c.in_ok-asked.asked) c.new-text.ensures.bytes
+    ∙ ap (answer_to c.args.session.now.setup.now clients steps) asked
+
+pub returns-clause-count : goal.returns-clause-count
+returns-clause-count g c = λ steps counted.
+    let asked : c.in_ok-asked.asked ≡ line_of c.args.session.now.setup.now.players c.args.line.now =
+    c.in_ok-asked.ensures.value ∙ ap (λ (s : Setup). line_of s.players c.args.line.now) c.setup.ensures in
+    c.in_ok-count.ensures.count steps counted ∙ ap (λ (l : Line). length (steps_with steps l)) asked
+
+pub returns-clause-stands : goal.returns-clause-stands
+returns-clause-stands g c = λ clients steps few stands.
+    let asked : c.in_ok-asked.asked ≡ line_of c.args.session.now.setup.now.players c.args.line.now =
+    c.in_ok-asked.ensures.value ∙ ap (λ (s : Setup). line_of s.players c.args.line.now) c.setup.ensures in
+    subst (λ (l : Line). StandsFor c.args.session.now.setup.now (seen_in c.push_answer.new.session)
+    (session c.args.session.now.setup.now clients (steps_with steps l))) asked (c.in_ok-count.ensures.stands clients steps few stands)

@@ -1,0 +1,12 @@
+-- The lines of just the events of the step.
+use Rattle.{sim_session.proofs.Beside.then_on, sim_session_text.specs.SessionText.lines_of, std.specs.Prelude.string_bytes}
+use Rattle.std.proofs.Common.{List, ◌++◌, ap, ◌∙◌}
+use Rattle.sim_base.specs.declared.step.Event.{Event}
+use Rattle.sim_live.proofs.answering.push_step.Goals as goal
+
+pub returns-clause-text : goal.returns-clause-text
+returns-clause-text g c =
+    then_on c.push_events.result
+    (λ told clients steps few stands.
+    told ∙ ap (λ (events : List Event). string_bytes c.args.out.now ++ lines_of events) (c.in_ok-events.ensures.steps.printed clients steps few stands))
+    c.push_events.ensures

@@ -1,0 +1,97 @@
+//! What is answered to a line: a line of each message that the server says at the arrival, as the frame in which it goes.
+
+ghost use Rattle.{sim_plain.specs.Messages.Arrival as PlainArrival, sim_wire.specs.Fits.IsSmallDown, sim_wire.specs.Heard.raw};
+ghost use Rattle.std.specs.Prelude.{◌≡◌, ℕ, ◌+◌, ◌^◌, ◌<◌, ◌≤◌, List, ◌++◌, length, IfOk, OnOk, string_bytes, All, flat_map};
+ghost use Rattle.sim_live.specs.{Arrived.IsFromOne, Arrived.plain_of, Relays.answer as answer_of, Relays.frame_line, Relays.next};
+ghost use Rattle.sim_server.specs.{Small.IsSmallServer, Standing.Answers, Standing.IsClient, Standing.server_of, Standing.StandsFor};
+
+use crate::arriving::{Arriving, arriving_of};
+use sim_base::OutOfMemory;
+use sim_bytes::push_hex;
+use sim_plain::PostOf;
+use sim_server::{Posts, Server};
+use sim_talk::{push_ok, push_refused};
+use sim_wire::{Bytes, frame_down};
+use std::alloc::Global;
+
+/// What is answered to a line after so many arrivals, and how many there are behind it.
+pub fn reply(
+    alloc: Global,
+    server: &mut Server,
+    clients: u8,
+    heard: u64,
+    line: &[u8],
+) -> Result<(String, u64), OutOfMemory>
+    requires clients { clients ≡ server.old.rules.clients }
+    requires small { IsSmallServer (server_of server.old) }
+    requires count { heard + 1 < 2 ^ 64 }
+    ensures text { IfOk result (λ told. (active : ℕ) (h : List (PlainArrival (List ℕ))) → heard ≡ length h → StandsFor server.old active h
+        → string_bytes told.0 ≡ answer_of server.old.rules active h line.now) }
+    ensures count { IfOk result (λ told. (h : List (PlainArrival (List ℕ))) → heard ≡ length h → told.1 ≡ length (next server.old.rules h line.now)) }
+    ensures few { IfOk result (λ told. told.1 ≤ heard + 1) }
+    ensures stands { OnOk result ((active : ℕ) (h : List (PlainArrival (List ℕ))) → StandsFor server.old active h
+        → StandsFor server.new active (next server.old.rules h line.now)) }
+    ensures small { IsSmallServer (server_of server.new) }
+    ensures rules { server.new.rules ≡ server.old.rules }
+{
+    let mut text = String::new(alloc);
+    let Some(arriving) = arriving_of(alloc, clients, line)? else {
+        push_refused(heard + 1, &mut text)?;
+        return Ok((text, heard));
+    };
+    let posts = arrive(server, arriving)?;
+    push_frames(alloc, &posts, &mut text)?;
+    push_ok(heard + 1, &mut text)?;
+    Ok((text, heard + 1))
+}
+
+// What the server says at an arrival.
+fn arrive(server: &mut Server, arriving: Arriving) -> Result<Posts, OutOfMemory>
+    requires from { IsFromOne server.old.rules.clients arriving }
+    requires small { IsSmallServer (server_of server.old) }
+    ensures answers { (active : ℕ) (h : List (PlainArrival (List ℕ))) → StandsFor server.old active h
+        → Answers server.old active h (plain_of arriving) result server.new }
+    ensures posts { IfOk result (All (λ post. IsSmallDown post.down)) }
+    ensures small { IsSmallServer (server_of server.new) }
+    ensures rules { server.new.rules ≡ server.old.rules }
+{
+    match arriving {
+        Arriving::Frame { from, bytes } => hear(server, from, bytes.as_slice()),
+        Arriving::Cut { from } => server.cut(from),
+    }
+}
+
+// The same at bytes of a client.
+fn hear(server: &mut Server, from: u8, bytes: &[u8]) -> Result<Posts, OutOfMemory>
+    requires from { IsClient server.old from }
+    requires small { IsSmallServer (server_of server.old) }
+    ensures answers { (active : ℕ) (h : List (PlainArrival (List ℕ))) → StandsFor server.old active h
+        → Answers server.old active h (raw from bytes.now) result server.new }
+    ensures posts { IfOk result (All (λ post. IsSmallDown post.down)) }
+    ensures small { IsSmallServer (server_of server.new) }
+    ensures rules { server.new.rules ≡ server.old.rules }
+{
+    server.hear_frame(from, bytes)
+}
+
+fn push_frames(alloc: Global, posts: &Posts, out: &mut String) -> Result<(), OutOfMemory>
+    requires { All (λ post. IsSmallDown post.down) posts.now }
+    ensures { OnOk result (string_bytes out.new ≡ string_bytes out.old ++ flat_map frame_line posts.now) }
+{
+    for post in posts.as_slice() {
+        push_frame(alloc, post, out)?;
+    }
+    Ok(())
+}
+
+fn push_frame(alloc: Global, post: &PostOf<Bytes>, out: &mut String) -> Result<(), OutOfMemory>
+    requires { IsSmallDown post.now.down }
+    ensures { OnOk result (string_bytes out.new ≡ string_bytes out.old ++ frame_line post.now) }
+{
+    let frame = frame_down(alloc, &post.down)?;
+    let to = post.to;
+    write!(out, "post {to} ")?;
+    push_hex(out, &frame)?;
+    out.push_str("\n")?;
+    Ok(())
+}

@@ -1,0 +1,17 @@
+-- The turns are those of the match, each by its players.
+use Rattle.sim_play.proofs.LogTurns.{match_length, match_players, match_state}
+use Rattle.sim_play.proofs.Common.{All, AreFed, ap, arith, IsOrderOf, length, OnOk, State, state_after, subst, sym, systems_by, ◌∙◌}
+use Rattle.sim_play.proofs.logs.match_log.Goals as goal
+
+pub log_after-requires-clause-few : goal.log_after-requires-clause-few
+log_after-requires-clause-few g c = omega (arith, ap length c.in-Ok.ensures, match_length c.args.setup.now)
+
+pub log_after-requires-clause-players : goal.log_after-requires-clause-players
+log_after-requires-clause-players g c =
+    subst (All (All (IsOrderOf c.args.setup.now))) (sym c.in-Ok.ensures) (match_players c.args.setup.now c.requires.limits)
+
+pub returns-in-Ok-clause-fed : goal.returns-in-Ok-clause-fed
+returns-in-Ok-clause-fed g c =
+    let setup = c.args.setup.now in
+    subst (λ (state : State). OnOk c.log_after.result.0 (AreFed setup state (systems_by c.log_after.result.1 (λ i v. (goal.System-dyn g (i, v)).meaning v))))
+    (ap (state_after setup) c.in-Ok.ensures ∙ match_state setup) c.log_after.ensures.fed

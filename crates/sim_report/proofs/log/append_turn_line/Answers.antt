@@ -1,0 +1,12 @@
+-- The parts of the line stand behind the old text.
+use Rattle.std.proofs.{Common.◌++◌, Common.append_assoc}
+use Rattle.std.specs.Prelude.{codes, string_bytes}
+use Rattle.sim_report.specs.Lines.{spaced_number}
+use Rattle.sim_report.proofs.log.append_turn_line.Goals as goal
+
+pub returns-clause-ok : goal.returns-clause-ok
+returns-clause-ok c =
+    let old = string_bytes c.args.out.now in
+    let front = append_assoc old (codes "differ turn") (spaced_number c.args.turn) in
+    let whole = append_assoc old (codes "differ turn" ++ spaced_number c.args.turn) (codes "\n") in
+    cc (front, whole, c.from.ensures, c.in_ok-push_str.ensures.bytes, c.in_ok-append_number.ensures.ok, c.in_ok-push_str-2.ensures.bytes)

@@ -1,0 +1,34 @@
+-- A refusal is told, or a beginning of it, or it has no text.
+use Rattle.sim_talk_top.proofs.Refusing.{refused_memory, refused_part, refused_silent, refused_told}
+use Rattle.sim_talk_top.specs.Talked.{Refused}
+use Rattle.sim_top.specs.{Stops.status_of, Stops.stop_text, declared.status.Status.Status}
+use Rattle.std.proofs.{Common.◌≡◌, Common.◌<◌, Common.length, Common.[], Common.arith, Common.subst, Common.sym, Common.◌∙◌}
+use Rattle.std.proofs.lemmas.{Bool.eqb-true, Bool.Decides.nat_tests, List.nil_from_length}
+use Rattle.sim_talk_top.specs.declared.ending.Ending.TheVariants as ending
+use Rattle.sim_talk_top.proofs.talking.refused.Goals as goal
+
+pub returns-in_default : goal.returns-in_default
+returns-in_default g c = refused_memory (status_of c.args.stop.now) (stop_text c.args.stop.now) (g.T.Talk.history c.args.talk.now)
+
+pub returns-then-is_empty : goal.returns-then-is_empty
+returns-then-is_empty g c =
+    let none : c.as_bytes-bytes.result.now ≡ [] = nil_from_length c.as_bytes-bytes.result.now
+    (eqb-true (length c.as_bytes-bytes.result.now) 0 (sym c.is_empty.ensures ∙ c.if-is_empty.true)) in
+    subst (λ (s : Status). Refused (status_of c.args.stop.now) (stop_text c.args.stop.now) (g.T.Talk.history c.args.talk.now) (g.T.Talk.history c.args.talk.now)
+    (ending.Run s)) (sym c.status.ensures)
+    (refused_silent (status_of c.args.stop.now) (stop_text c.args.stop.now) (g.T.Talk.history c.args.talk.now)
+    (sym c.in-Ok.ensures.text ∙ sym c.as_bytes-bytes.ensures.value ∙ none))
+
+pub returns-in-Ok-tell : goal.returns-in-Ok-tell
+returns-in-Ok-tell g c =
+    let some : 0 < length c.as_bytes-bytes.result.now = grind (arith, nat_tests, c.is_empty.ensures, c.if-is_empty.false) in
+    subst (λ (s : Status). Refused (status_of c.args.stop.now) (stop_text c.args.stop.now) (g.T.Talk.history c.args.talk.now) (g.T.Talk.history c.tell.new.self)
+    (ending.Run s)) (sym c.status-in-Ok-tell.ensures)
+    (refused_told (status_of c.args.stop.now) (stop_text c.args.stop.now) c.as_bytes-bytes.result.now (g.T.Talk.history c.args.talk.now)
+    (g.T.Talk.history c.tell.new.self) (c.as_bytes-bytes.ensures.value ∙ c.in-Ok.ensures.text) some c.in-Ok-tell.ensures)
+
+pub returns : goal.returns
+returns g c =
+    let some : 0 < length c.as_bytes-bytes.result.now = grind (arith, nat_tests, c.is_empty.ensures, c.if-is_empty.false) in
+    refused_part (status_of c.args.stop.now) (stop_text c.args.stop.now) c.as_bytes-bytes.result.now c.in-Err.field-0 (g.T.Talk.history c.args.talk.now)
+    (g.T.Talk.history c.tell.new.self) (c.as_bytes-bytes.ensures.value ∙ c.in-Ok.ensures.text) some c.in-Err.ensures

@@ -1,0 +1,19 @@
+-- The talk took place, and ended as it ended; all rigs are handed to it and come back.
+use Rattle.{sim_client.specs.StageWords.AreCleared, sim_top.proofs.Returning.All-unmap, std.proofs.lemmas.List.Elements.All-map}
+use Rattle.sim_system.specs.{Meanings.HaveKinds, RigWords.systems_by}
+use Rattle.sim_talk_top.proofs.talking.talk_live.Goals as goal
+
+pub live-outcome-requires-clause-kinds : goal.live-outcome-requires-clause-kinds
+live-outcome-requires-clause-kinds g c =
+    All-map HaveKinds (λ rig. systems_by rig (λ i v. (goal.System-dyn g (i, v)).meaning v)) c.args.rigs.items c.requires.kinds
+
+pub live-outcome-requires-clause-cleared : goal.live-outcome-requires-clause-cleared
+live-outcome-requires-clause-cleared g c =
+    All-map AreCleared (λ rig. systems_by rig (λ i v. (goal.System-dyn g (i, v)).meaning v)) c.args.rigs.items c.requires.cleared
+
+pub returns-clause-talked : goal.returns-clause-talked
+returns-clause-talked g c = (c.live-outcome.result.0, c.ended.ensures, c.live-outcome.ensures.lives)
+
+pub returns-clause-kinds : goal.returns-clause-kinds
+returns-clause-kinds g c =
+    All-unmap HaveKinds (λ rig. systems_by rig (λ i v. (goal.System-dyn g (i, v)).meaning v)) c.live-outcome.result.1.items c.live-outcome.ensures.kinds
