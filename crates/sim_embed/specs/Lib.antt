@@ -1,0 +1,3 @@
+pub mod Asked
+pub mod Orders
+pub mod Facts
