@@ -15,6 +15,7 @@ pub struct Cells {
     width: u16,
     depth: u16,
     cells: Vec<bool>,
+    words: Vec<u64>,
 }
 
 impl Model for Cells {
@@ -41,6 +42,7 @@ impl Cells {
             width,
             depth,
             cells: vec![in alloc; true; count]?,
+            words: vec![in alloc; 0u64; count / 64 + 1]?,
         })
     }
 
@@ -81,7 +83,15 @@ impl Cells {
         ensures { self.new ≡ record self.old { cells = slice_set self.old.cells (place_of self.old.size cell) free } }
     {
         let place = self.place(cell);
+        if self.cells[place] != free {
+            self.words[place / 64] ^= 1 << (place % 64);
+        }
         self.cells[place] = free;
+    }
+
+    /// The closed cells, packed: bit n % 64 of word n / 64 is that of the cell at place n.
+    pub fn words(&self) -> &[u64] {
+        self.words.as_slice()
     }
 
     /// The cell beside this one in one of the eight directions: E, N, W, S, NE, NW, SW, SE.

@@ -7,6 +7,7 @@ ghost use Rattle.sim_base.specs.{Steps.IsOnGround, Ways.first_points, Ways.IsEnd
 ghost use Rattle.sim_path.specs.{Answers.way_in, WayEnds.AreEnds, WayEnds.IsTrailToEnd, WayEnds.IsWayEnd, WayEnds.LeadBack};
 ghost use Rattle.sim_search.specs.{Comes.IsSearched, Estimates.estimate_to, Estimates.IsNarrow, Regions.AreLabels, Tables.cost_in, Tables.size_of};
 
+use crate::atlas::Atlas;
 use crate::end::{best_of, end_of};
 use crate::floor::Front;
 use crate::marks::Marks;
@@ -19,7 +20,7 @@ use crate::trail::trail_from;
 use crate::unmarked::blank_marks;
 use sim_base::{Cell, Items, MAX_WAYPOINTS, OutOfMemory, Point, Points, cell_of, centre_of};
 use sim_grid::Grid;
-use sim_search::{Aim, Costs, Labels, Search, Stage, go_on, least_costs, search_of, started};
+use sim_search::{Aim, Costs, Guide, Labels, Search, Stage, go_on, least_costs, search_of, started};
 use sim_system::Way;
 use std::alloc::Global;
 
@@ -112,7 +113,7 @@ fn trail_back(
 
 // The end of the way, by what a search has found: the best of its ends, or where none of them has a cost, the best of all
 // cells that have one.
-fn way_end(grid: &Grid, costs: &Costs, aim: Aim, ends: &[Cell], start: Cell) -> Reached
+fn way_end(grid: &Grid, costs: &Costs, aim: Aim<'_>, ends: &[Cell], start: Cell) -> Reached
     requires start_on { IsOnGround grid.now.size start }
     requires size { size_of costs.now ≡ grid.now.size }
     requires ends { AreEnds (field_of_grid grid.now) start aim.goal aim.near ends.now }
@@ -153,6 +154,7 @@ pub struct Searcher {
     rooms: Option<Search>,
     marks: Option<Marks>,
     trail: Option<Vec<Cell>>,
+    atlas: Option<Atlas>,
 }
 
 impl Searcher {
@@ -167,6 +169,7 @@ impl Searcher {
             rooms: None,
             marks: None,
             trail: None,
+            atlas: None,
         }
     }
 
@@ -276,8 +279,20 @@ impl Searcher {
         found
     }
 
-    // Makes the trail back from the best of these ends by a search. Where the goal is far and a milestone before it is
-    // come to, a way back is tried before all cells are gone through that cost as little.
+    // What is kept of this ground, or nothing yet. It is only kept, so want of memory is no refusal.
+    fn atlas_of(&mut self, alloc: Global, grid: &Grid) -> Option<Atlas> {
+        if let Some(atlas) = self.atlas.take() {
+            if atlas.is_of(grid) {
+                return Some(atlas);
+            }
+        }
+        match Atlas::new(alloc, grid) {
+            Ok(atlas) => Some(atlas),
+            Err(_) => None,
+        }
+    }
+
+    // Makes the trail back from the best of these ends by a search.
     fn search(
         &mut self,
         alloc: Global,
@@ -295,19 +310,73 @@ impl Searcher {
     {
         let from = grid.cell_of(*start);
         let to = grid.cell_of(*goal);
-        let aim = Aim { goal: to, near };
+        if near != 0 || !grid.open(from) {
+            let aim = Aim {
+                goal: to,
+                near,
+                guide: Guide::Octile,
+            };
+            self.search_by(alloc, grid, aim, trail, ends, start, goal)?;
+            return Ok(());
+        }
+        let Some(mut atlas) = self.atlas_of(alloc, grid) else {
+            let aim = Aim {
+                goal: to,
+                near,
+                guide: Guide::Octile,
+            };
+            self.search_by(alloc, grid, aim, trail, ends, start, goal)?;
+            return Ok(());
+        };
+        let guide = atlas.guide(to);
+        let known = matches!(guide, Guide::Distances(_));
+        let aim = Aim {
+            goal: to,
+            near,
+            guide,
+        };
+        let detour = self.search_by(alloc, grid, aim, trail, ends, start, goal)?;
+        if known {
+            self.atlas = Some(atlas);
+            return Ok(());
+        }
+        // What can't be kept for want of memory is not.
+        let _ = atlas.note(alloc, grid, to, detour);
+        self.atlas = Some(atlas);
+        Ok(())
+    }
+
+    // The same by this aim. Where the goal is far and a milestone before it is come to, a way back is tried before all cells are
+    // gone through that cost as little. Answers how much more the search had to go than was estimated.
+    fn search_by(
+        &mut self,
+        alloc: Global,
+        grid: &Grid,
+        aim: Aim<'_>,
+        trail: &mut Vec<Cell>,
+        ends: &[Cell],
+        start: &Point,
+        goal: &Point,
+    ) -> Result<u32, OutOfMemory>
+    {
+        let from = grid.cell_of(*start);
+        let to = grid.cell_of(*goal);
         let stage = started(alloc, grid, self.rooms.take(), aim, from)?;
-        let Some(milestone) = milestone(grid, from, to, near) else {
-            return self.finish(alloc, grid, stage, trail, near, ends, start, goal);
+        let begun = stage.key;
+        let Guide::Octile = aim.guide else {
+            return self.finish(alloc, grid, stage, aim, begun, trail, ends, start, goal);
+        };
+        let Some(milestone) = milestone(grid, from, to, aim.near) else {
+            return self.finish(alloc, grid, stage, aim, begun, trail, ends, start, goal);
         };
         let stage = go_on(alloc, stage, grid, aim, &[milestone, to])?;
         let (costs, key) = (&stage.search.costs, stage.key);
         let front = Front { costs, aim, key };
-        if self.go_back(alloc, grid, &front, trail, near, ends, start, goal)? {
+        if self.go_back(alloc, grid, &front, trail, aim.near, ends, start, goal)? {
             self.rooms = Some(search_of(stage));
-            return Ok(());
+            return Ok(key - begun);
         }
-        self.finish(alloc, grid, stage, trail, near, ends, start, goal)
+        self.finish(alloc, grid, stage, aim, begun, trail, ends, start, goal)
     }
 
     // Makes the trail back by all that a search can tell.
@@ -316,31 +385,23 @@ impl Searcher {
         alloc: Global,
         grid: &Grid,
         stage: Stage,
+        aim: Aim<'_>,
+        begun: u32,
         trail: &mut Vec<Cell>,
-        near: u32,
         ends: &[Cell],
         start: &Point,
         goal: &Point,
-    ) -> Result<(), OutOfMemory>
-        requires start { IsTrue (is_inside grid.now.size start.now) }
-        requires goal { IsTrue (is_inside grid.now.size goal.now) }
-        requires ends { AreEnds (field_of_grid grid.now) (cell_at start.now) (cell_at goal.now) near ends.now }
-        requires from { stage.search.start ≡ cell_at start.now }
-        requires ready { Ready (estimate_to (record { goal = cell_at goal.now; near = near })) (field_of_grid grid.now) stage.search stage.key 0 }
-        requires small { stage.key < 2 ^ 26 }
-        ensures { OnOk result (IsTrailToEnd (field_of_grid grid.now) (cell_at start.now) (cell_at goal.now) trail.new.items) }
+    ) -> Result<u32, OutOfMemory>
     {
         let from = grid.cell_of(*start);
-        let aim = Aim {
-            goal: grid.cell_of(*goal),
-            near,
-        };
         let stage = go_on(alloc, stage, grid, aim, ends)?;
         let costs = &stage.search.costs;
         let end = way_end(grid, costs, aim, ends, from);
         let found = trail_back(grid, costs, trail, end, start, goal);
+        let detour = stage.key - begun;
         self.rooms = Some(search_of(stage));
-        found
+        found?;
+        Ok(detour)
     }
 }
 

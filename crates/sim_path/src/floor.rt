@@ -12,7 +12,7 @@ use sim_search::{Aim, Costs, estimate};
 #[derive(Clone, Copy)]
 pub struct Front<'a> {
     pub costs: &'a Costs,
-    pub aim: Aim,
+    pub aim: Aim<'a>,
     pub key: u32,
 }
 

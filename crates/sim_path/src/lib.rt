@@ -14,6 +14,7 @@
 #![tactic(auto)]
 
 mod answer;
+mod atlas;
 mod away;
 mod end;
 mod floor;

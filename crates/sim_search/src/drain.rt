@@ -15,7 +15,7 @@ use std::alloc::Global;
 fn expand(
     search: &mut Search,
     grid: &Grid,
-    aim: Aim,
+    aim: Aim<'_>,
     from: Cell,
     cost: u32,
 ) -> Result<(), OutOfMemory>
@@ -39,7 +39,7 @@ fn expand(
 fn drain(
     search: &mut Search,
     grid: &Grid,
-    aim: Aim,
+    aim: Aim<'_>,
     bucket: &[Cell],
     now: u32,
 ) -> Result<bool, OutOfMemory>
@@ -101,7 +101,7 @@ pub fn started(
     alloc: Global,
     grid: &Grid,
     rooms: Option<Search>,
-    aim: Aim,
+    aim: Aim<'_>,
     start: Cell,
 ) -> Result<Stage, OutOfMemory>
     requires start { IsOnGround grid.now.size start }
@@ -131,7 +131,7 @@ pub fn go_on(
     alloc: Global,
     stage: Stage,
     grid: &Grid,
-    aim: Aim,
+    aim: Aim<'_>,
     ends: &[Cell],
 ) -> Result<Stage, OutOfMemory>
     requires start_on { IsOnGround grid.now.size stage.search.start }

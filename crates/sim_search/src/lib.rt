@@ -16,9 +16,11 @@
 
 mod aim;
 mod costs;
+mod distances;
 mod drain;
 mod entry;
 mod labels;
+mod landmarks;
 mod laws;
 mod mend;
 mod queue;
@@ -27,10 +29,12 @@ mod search;
 mod steps;
 mod table;
 
-pub use aim::{Aim, estimate};
+pub use aim::{Aim, Guide, estimate};
 pub use costs::Costs;
+pub use distances::Distances;
 pub use drain::{Stage, go_on, least_costs, search_of, started};
 pub use labels::{Labels, labels_of};
+pub use landmarks::Landmarks;
 pub use laws::{labels_tell, no_label_is_closed, search_goes_on, taken_in_order, taken_is_least};
 pub use mend::{mend_closed, mend_opened};
 pub use search::Search;

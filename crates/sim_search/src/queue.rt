@@ -139,7 +139,7 @@ pub fn begun(
     rooms: Option<Search>,
     width: u16,
     depth: u16,
-    aim: Aim,
+    aim: Aim<'_>,
     start: Cell,
 ) -> Result<Search, OutOfMemory>
     requires narrow { width ≤ 256 }
@@ -165,7 +165,7 @@ fn is_lower(search: &Search, cell: Cell, total: u32) -> bool
 }
 
 /// Gives a cell a cost of at most the total, and if its cost falls so, lets it wait there.
-pub fn lower(search: &mut Search, aim: Aim, to: Cell, total: u32) -> Result<(), OutOfMemory>
+pub fn lower(search: &mut Search, aim: Aim<'_>, to: Cell, total: u32) -> Result<(), OutOfMemory>
     requires to_on { IsOnGround (size_of search.old.costs) to }
     requires small { total + estimate_to aim to < 2 ^ 32 }
     ensures { OnOk result (Lowers (estimate_to aim) search.old search.new to total) }
@@ -180,7 +180,7 @@ pub fn lower(search: &mut Search, aim: Aim, to: Cell, total: u32) -> Result<(), 
 }
 
 /// The cost of a cell that waits by this key: None where it doesn't.
-pub fn waiting(search: &Search, aim: Aim, cell: Cell, now: u32) -> Option<u32>
+pub fn waiting(search: &Search, aim: Aim<'_>, cell: Cell, now: u32) -> Option<u32>
     ensures none { result ≡ None → (d : ℕ) → Waits (estimate_to aim) search.now now cell d → ⊥ }
     ensures some { (d : ℕ) → result ≡ Some d → Waits (estimate_to aim) search.now now cell d }
 {
