@@ -13,7 +13,7 @@ pub use Rattle.sim_laws.proofs.Turning.{after_counts_turns, from_counts_turns, o
 pub use Rattle.sim_play.specs.{Lines.past_lines, Lines.play_text, Lines.rejoin_text, Lines.turn_lines, Realms.held, Realms.held_rooted, Realms.TellsRealm}
 pub use Rattle.sim_play.specs.{Logs.digests_after, Logs.log_after, Logs.match_turns, Logs.past_of, Logs.state_after, Seen.resight_text, Seen.sight_file}
 pub use Rattle.sim_play.specs.{Paid.paid_lines, Paid.paid_state, Paid.paid_stocks, Paid.player_line, States.later_of, States.states_to}
-pub use Rattle.sim_play.specs.Common.{StandsFor, State, state_in, stock_line, Stocks, Timed, total, Turn, turn_line, vision_after, was_visible}
+pub use Rattle.sim_play.specs.Common.{StandsFor, State, state_in, stock_line, Stocks, Timed, total, Turn, turn_line, vision_after, vision_next, was_visible}
 pub use Rattle.sim_play.specs.Common.{after, amount_of, AreFed, AreKept, books_after, books_of, cells_in, Economy, extent_in, first_state, flag_in, from}
 pub use Rattle.sim_play.specs.Common.{holding_line, is_set, is_visible, IsEconomy, IsOrderOf, IsSetup, IsValid, joined_at, kept_past, Log, one_if, orders_at}
 pub use Rattle.sim_play.specs.Common.{own_turns, paid_turn, Past, PlayerCommand, range_with_len, realm_of, RealmOf, Setup, setup_in, sight_lines, sight_text}

@@ -2,9 +2,9 @@
 use Rattle.sim_play.{proofs.Past.own_turn, specs.Seen.sight_text}
 use Rattle.sim_play.proofs.Common.{after, ap, arith, blind, cells_in, explored_file, explored_start, extent_in, first_state, flag_in, fold-append, from, Global}
 use Rattle.sim_play.proofs.Common.{is_set, is_visible, joined_at, last_of, later_of, map-range_with_len_more, one_if, OutOfMemory, own_turns, range_with_len}
-use Rattle.sim_play.proofs.Common.{realm_of, RealmOf, resight_text, Setup, sight_file, sight_lines, sight_text as text_of_vision, State, states_to, sym}
+use Rattle.sim_play.proofs.Common.{resight_text, Setup, sight_file, sight_lines, sight_text as text_of_vision, State, states_to, sym}
 use Rattle.sim_play.proofs.Common.{told_from_a_file, told_from_the_start, Vision, vision_after, was_visible, ◌∙◌}
-use Rattle.sim_play.proofs.Common.{◌≡◌, ℕ, zero, suc, ◌+◌, ◌-◌, ◌*◌, ◌||◌, List, [], ◌∷◌, map, length, IfOk, Ok, Err, string_bytes, fold, Result, String, refl}
+use Rattle.sim_play.proofs.Common.{◌≡◌, ℕ, zero, suc, ◌+◌, ◌-◌, ◌*◌, ◌||◌, List, [], ◌∷◌, map, length, IfOk, Ok, Err, string_bytes, fold, Result, String}
 
 -- whatever has followed so many states of turns, after one turn more
 pub followed_more : {X : Type 0} (next : X → State → X) (setup : Setup) (start state : State) (n : ℕ) (first : X) →
@@ -44,20 +44,6 @@ last_is at from (suc n) = last_is at (from + 1) n ∙ ap at (let same : from + 1
 
 last_from_0 : (at : ℕ → State) (n : ℕ) → last_of (at 0) (map at (range_with_len 1 n)) ≡ at n
 last_from_0 at n = last_is at 0 n ∙ ap at (let same : 0 + n ≡ n = omega arith in same)
-
--- what a realm is that has followed states depends on the last of them alone
-last_followed : (realm : RealmOf) (first : State) (later : List State) →
-    fold (λ (r : RealmOf) (s : State). realm_of r.setup s) realm (first ∷ later) ≡ realm_of realm.setup (last_of first later)
-last_followed realm first [] = refl
-last_followed realm first (second ∷ later) = last_followed (realm_of realm.setup first) second later
-
-pub realm_followed : (realm : RealmOf) (setup : Setup) (turn : ℕ) → realm.setup ≡ setup →
-    fold (λ (r : RealmOf) (s : State). realm_of r.setup s) realm (states_to setup turn) ≡ realm_of setup (after setup (own_turns setup 0 turn))
-realm_followed realm setup turn of_setup =
-    let at = λ (t : ℕ). after setup (own_turns setup 0 t) in
-    last_followed realm (at 0) (map at (range_with_len 1 turn))
-    ∙ ap (λ (s : Setup). realm_of s (last_of (at 0) (map at (range_with_len 1 turn)))) of_setup
-    ∙ ap (realm_of setup) (last_from_0 at turn)
 
 pub started_text : (setup : Setup) (turn : ℕ) → text_of_vision (vision_after (blind setup) (states_to setup turn)) ≡ sight_text setup turn
 started_text setup turn =

@@ -1,32 +1,32 @@
-//! A board that is played, and a follower that follows each of its states.
+//! A board that is played, and a sight that follows each of its states.
 
-ghost use Rattle.std.specs.Prelude.{◌≡◌, ◌-◌, ◌≤◌, OnOk, fold};
-ghost use Rattle.sim_play.specs.{Lines.end_from, States.later_of, States.states_to};
+ghost use Rattle.std.specs.Prelude.{◌≡◌, ◌-◌, ◌≤◌, OnOk};
+ghost use Rattle.sim_play.specs.{Common.vision_after, Lines.end_from, States.later_of, States.states_to};
 ghost use Rattle.sim_play.specs.Common.{after, AreBuiltOnceAtMost, AreKept, from, HaveKinds, IsSetup, IsValid, IsWhole, own_turns, setup_in, state_in, systems};
 
-use crate::follower::Follower;
 use sim_base::{OutOfMemory, State};
 use sim_board::Board;
 use sim_orders::OrderTable;
 use sim_system::System;
 use sim_turn::play;
+use sim_vision::Sight;
 use std::alloc::Global;
 
-// Plays a board to a turn, and has a follower follow each state behind that of the board.
-fn follow_until<F: Follower>(
+// Plays a board to a turn, and has a sight follow each state behind that of the board.
+fn follow_until(
     alloc: Global,
     board: &mut Board<'_>,
     orders: &OrderTable,
-    follower: &mut F,
+    sight: &mut Sight<'_>,
     until: u32,
 ) -> Result<(), OutOfMemory>
     requires whole { IsWhole board.old ⟦<dyn System as System>⟧ }
     requires valid { IsValid (setup_in board.old) (state_in board.old) }
     requires ahead { (state_in board.old).turn ≤ until }
     requires within { until ≤ (setup_in board.old).turns }
-    requires same { F.match_of follower.old ≡ setup_in board.old }
-    ensures followed { OnOk result (follower.new
-        ≡ fold F.next follower.old (later_of (setup_in board.old) (state_in board.old) (until - (state_in board.old).turn))) }
+    requires same { sight.old.setup ≡ setup_in board.old }
+    ensures followed { OnOk result (sight.new
+        ≡ vision_after sight.old (later_of (setup_in board.old) (state_in board.old) (until - (state_in board.old).turn))) }
     ensures state { OnOk result (state_in board.new
         ≡ from (setup_in board.old) (state_in board.old) (own_turns (setup_in board.old) (state_in board.old).turn (until - (state_in board.old).turn))) }
     ensures whole { OnOk result (IsWhole board.new ⟦<dyn System as System>⟧) }
@@ -36,24 +36,24 @@ fn follow_until<F: Follower>(
     let begun = board.scene().state.turn;
     for number in begun..until {
         play(alloc, board, orders, number + 1)?;
-        follower.follow(board.scene().state)?;
+        sight.follow(board.scene().state)?;
     }
     Ok(())
 }
 
-/// Starts a board, and has a follower follow its states up to a turn.
-pub fn start_following<F: Follower>(
+/// Starts a board, and has a sight follow its states up to a turn.
+pub fn start_following(
     alloc: Global,
     board: &mut Board<'_>,
     orders: &OrderTable,
-    follower: &mut F,
+    sight: &mut Sight<'_>,
     turn: u32,
 ) -> Result<(), OutOfMemory>
     requires limits { IsSetup (setup_in board.old) }
     requires turn { turn ≤ (setup_in board.old).turns }
     requires kinds { HaveKinds (systems board.old ⟦<dyn System as System>⟧) }
-    requires same { F.match_of follower.old ≡ setup_in board.old }
-    ensures followed { OnOk result (follower.new ≡ fold F.next follower.old (states_to (setup_in board.old) turn)) }
+    requires same { sight.old.setup ≡ setup_in board.old }
+    ensures followed { OnOk result (sight.new ≡ vision_after sight.old (states_to (setup_in board.old) turn)) }
     ensures state { OnOk result (state_in board.new ≡ after (setup_in board.old) (own_turns (setup_in board.old) 0 turn)) }
     ensures whole { OnOk result (IsWhole board.new ⟦<dyn System as System>⟧) }
     ensures kinds { HaveKinds (systems board.new ⟦<dyn System as System>⟧) }
@@ -61,24 +61,24 @@ pub fn start_following<F: Follower>(
     ensures setup { setup_in board.new ≡ setup_in board.old }
 {
     board.start()?;
-    follower.follow(board.scene().state)?;
-    follow_until(alloc, board, orders, follower, turn)
+    sight.follow(board.scene().state)?;
+    follow_until(alloc, board, orders, sight, turn)
 }
 
-/// Has a board take a state, and a follower that came to it follow each later one.
-pub fn adopt_following<F: Follower>(
+/// Has a board take a state, and a sight that came to it follow each later one.
+pub fn adopt_following(
     alloc: Global,
     board: &mut Board<'_>,
     state: State,
     orders: &OrderTable,
-    follower: &mut F,
+    sight: &mut Sight<'_>,
 ) -> Result<(), OutOfMemory>
     requires limits { IsSetup (setup_in board.old) }
     requires valid { IsValid (setup_in board.old) state }
     requires kinds { HaveKinds (systems board.old ⟦<dyn System as System>⟧) }
-    requires same { F.match_of follower.old ≡ setup_in board.old }
-    ensures followed { OnOk result (follower.new
-        ≡ fold F.next follower.old (later_of (setup_in board.old) state ((setup_in board.old).turns - state.turn))) }
+    requires same { sight.old.setup ≡ setup_in board.old }
+    ensures followed { OnOk result (sight.new
+        ≡ vision_after sight.old (later_of (setup_in board.old) state ((setup_in board.old).turns - state.turn))) }
     ensures state { OnOk result (state_in board.new ≡ end_from (setup_in board.old) state) }
     ensures whole { OnOk result (IsWhole board.new ⟦<dyn System as System>⟧) }
     ensures kinds { HaveKinds (systems board.new ⟦<dyn System as System>⟧) }
@@ -87,5 +87,5 @@ pub fn adopt_following<F: Follower>(
 {
     board.adopt(state)?;
     let last = board.setup().turns;
-    follow_until(alloc, board, orders, follower, last)
+    follow_until(alloc, board, orders, sight, last)
 }

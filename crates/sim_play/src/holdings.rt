@@ -1,6 +1,7 @@
 //! What a realm tells: how many cells each player holds, how many of these are rooted, and a digest of all holders.
 
-ghost use Rattle.std.specs.{List.flat_map, Prelude.◌≡◌, Prelude.◌≤◌, Prelude.◌++◌, Prelude.IfOk, Prelude.OnOk, Prelude.string_bytes};
+ghost use Rattle.std.specs.{List.flat_map, Prelude.IfOk, Prelude.OnOk, Prelude.string_bytes};
+ghost use Rattle.std.specs.Prelude.{◌≡◌, ℕ, ◌+◌, ◌<◌, ◌≤◌, ◌++◌, ◌==◌, if◌then◌else◌, slice_index};
 ghost use Rattle.sim_play.specs.{Common.range_with_len, Realms.held as held_in, Realms.held_rooted as held_rooted_in, Realms.player_line, Realms.TellsRealm};
 
 use md5::{Digest, Md5};
@@ -8,6 +9,12 @@ use sim_base::OutOfMemory;
 use sim_report::{push_holding, push_map};
 use sim_territory::Realm;
 use std::alloc::Global;
+
+// Nobody, or one of at most eight players.
+const HOLDERS: usize = 9;
+
+// A number of cells for each holder, by his number.
+type Tally = [usize; HOLDERS];
 
 /// The lines of a realm of so many players.
 pub fn told(alloc: Global, realm: &Realm<'_>, players: u8) -> Result<String, OutOfMemory>
@@ -32,29 +39,46 @@ fn push_holdings(
     requires { players ≤ 8 }
     ensures { OnOk result (string_bytes out.new ≡ string_bytes out.old ++ flat_map (player_line holders.now rooted.now) (range_with_len 1 players)) }
 {
+    let all = held(holders);
+    let joined = held_rooted(holders, rooted);
     for player in 1..players + 1 {
-        push_holding(
-            player,
-            held(holders, player),
-            held_rooted(holders, rooted, player),
-            out,
-        )?;
+        let place = usize::from(player);
+        push_holding(player, all[place], joined[place], out)?;
     }
     Ok(())
 }
 
-fn held(holders: &[u8], player: u8) -> usize
-    ensures { result ≡ held_in holders.now player }
+// How many cells each holder holds.
+fn held(holders: &[u8]) -> Tally
+    ensures { (player : ℕ) → player < 9 → slice_index result player ≡ held_in holders.now player }
 {
-    holders.iter().filter(|holder| **holder == player).count()
+    let mut tally = [0; HOLDERS];
+    for holder in holders {
+        count(&mut tally, *holder);
+    }
+    tally
 }
 
-fn held_rooted(holders: &[u8], rooted: &[bool], player: u8) -> usize
-    ensures { result ≡ held_rooted_in holders.now rooted.now player }
+// How many of these are rooted.
+fn held_rooted(holders: &[u8], rooted: &[bool]) -> Tally
+    ensures { (player : ℕ) → player < 9 → slice_index result player ≡ held_rooted_in holders.now rooted.now player }
 {
-    holders
-        .iter()
-        .zip(rooted.iter())
-        .filter(|cell| *cell.0 == player && *cell.1)
-        .count()
+    let mut tally = [0; HOLDERS];
+    for cell in 0..holders.len().min(rooted.len()) {
+        if rooted[cell] {
+            count(&mut tally, holders[cell]);
+        }
+    }
+    tally
+}
+
+// Counts a cell of a holder.
+fn count(tally: &mut Tally, holder: u8)
+    requires { (player : ℕ) → player < 9 → slice_index tally.old player < usize.MAX }
+    ensures { (player : ℕ) → player < 9 → slice_index tally.new player ≡ slice_index tally.old player + (if holder == player then 1 else 0) }
+{
+    let place = usize::from(holder);
+    if place < HOLDERS {
+        tally[place] += 1;
+    }
 }

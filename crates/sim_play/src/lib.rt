@@ -10,8 +10,7 @@
 //! - `trial`: the line of a trial.
 //! - `market`: the paid turns of a match with an economy; `due`: their commands; `balances`: what each player has in the end;
 //!   `paid_matches`: such a match with a rig that is handed back.
-//! - `follower`: whatever follows the states of a match.
-//! - `following`: a board that is played while something follows its states.
+//! - `following`: a board that is played while a sight follows its states.
 //! - `realm`: the territories of a turn of a match.
 //! - `holdings`: what is told of them.
 //! - `sights`: what the players of a match see at a turn, and have explored up to it.
@@ -22,7 +21,6 @@
 mod balances;
 mod due;
 mod films;
-mod follower;
 mod following;
 mod holdings;
 mod lines;

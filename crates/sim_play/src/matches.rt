@@ -104,8 +104,8 @@ pub fn resume_text(
     }
 }
 
-// Starts a board, and plays it to a turn.
-fn start_until(
+/// Starts a board, and plays it to a turn.
+pub fn start_until(
     alloc: Global,
     board: &mut Board<'_>,
     orders: &OrderTable,

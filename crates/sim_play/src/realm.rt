@@ -1,11 +1,11 @@
-//! The territories of a match at a turn: a realm follows the states of all turns up to it.
+//! The territories of a match at a turn: a realm follows just the state of it.
 
 ghost use Rattle.std.specs.Prelude.{◌≡◌, ◌≤◌, IfOk, OnOk, string_bytes};
 ghost use Rattle.sim_play.specs.{Common.systems_of, Realms.TellsRealm};
 ghost use Rattle.sim_play.specs.Common.{after, AreBuiltOnceAtMost, AreFed, HaveKinds, IsSetup, IsWhole, own_turns, realm_of, setup_in, state_in, systems};
 
-use crate::following::start_following;
 use crate::holdings::told;
+use crate::matches::start_until;
 use sim_base::{OutOfMemory, Setup};
 use sim_board::Board;
 use sim_orders::OrderTable;
@@ -36,7 +36,7 @@ pub fn realm_text(
     (text, rig)
 }
 
-// Starts a board, plays it to a turn, and tells the territories to which it came.
+// Starts a board, plays it to a turn, and tells the territories of the state to which it came.
 fn told_at(
     alloc: Global,
     board: &mut Board<'_>,
@@ -55,7 +55,8 @@ fn told_at(
     ensures setup { setup_in board.new ≡ setup_in board.old }
 {
     let setup = board.setup();
+    start_until(alloc, board, orders, turn)?;
     let mut realm = Realm::new(alloc, setup)?;
-    start_following(alloc, board, orders, &mut realm, turn)?;
+    realm.follow(board.scene().state)?;
     told(alloc, &realm, setup.players)
 }

@@ -1,5 +1,5 @@
 -- The board took the state.
-use Rattle.sim_play.proofs.Common.{◌≡◌, ℕ, ◌-◌, OnOk, fold, ap, arith, from, IsValid, later_of, own_turns, Setup, setup_in, State, state_in, subst, sym, ◌∙◌}
+use Rattle.sim_play.proofs.Common.{◌≡◌, ℕ, ◌-◌, OnOk, ap, arith, from, IsValid, later_of, own_turns, Setup, setup_in, State, state_in, subst, sym, vision_after, ◌∙◌}
 use Rattle.sim_play.proofs.following.adopt_following.Goals as goal
 
 pub follow_until-requires-clause-valid : goal.follow_until-requires-clause-valid
@@ -27,8 +27,8 @@ returns-clause-followed g c =
     let setup = setup_in c.args.board.now in
     let state = state_in c.adopt.new.self in
     let last = c.setup.result.now.turns in
-    let all = λ (s : Setup) (from : State) (n : ℕ). fold g.F.Follower.next c.args.follower.now (later_of s from n) in
-    subst (λ f. OnOk c.follow_until.result (c.follow_until.new.follower ≡ f))
+    let all = λ (s : Setup) (from : State) (n : ℕ). vision_after c.args.sight.now (later_of s from n) in
+    subst (λ f. OnOk c.follow_until.result (c.follow_until.new.sight ≡ f))
     (ap (λ (s : Setup). all s state (last - state.turn)) c.in_ok-adopt.ensures.setup
     ∙ ap (λ (s : State). all setup s (last - s.turn)) c.in_ok-adopt.ensures.state
     ∙ ap (λ (s : Setup). all setup c.args.state (s.turns - c.args.state.turn)) (c.setup.ensures ∙ c.in_ok-adopt.ensures.setup))

@@ -1,6 +1,6 @@
 -- One turn more is played, and followed.
 use Rattle.sim_play.proofs.{Later.followed_more, Playing.kept_on, Playing.next_number, Playing.one_turn_more}
-use Rattle.sim_play.proofs.Common.{◌≡◌, ℕ, suc, ◌+◌, ◌-◌, fold, refl, ap, arith, from, IsValid, later_of, own_turns, rules, Setup, State, subst, sym, ◌∙◌}
+use Rattle.sim_play.proofs.Common.{◌≡◌, ℕ, suc, ◌+◌, ◌-◌, refl, ap, arith, from, IsValid, later_of, own_turns, rules, Setup, State, subst, sym, vision_after, vision_next, ◌∙◌}
 use Rattle.sim_play.proofs.following.follow_until.Goals as goal
 
 pub loop-number-init : goal.loop-number-init
@@ -13,7 +13,7 @@ loop-number-init g c =
       begun = omega (arith, same);
       state = ap (λ (k : ℕ). from setup start (own_turns setup start.turn k)) (sym none);
       turn = sym same;
-      followed = ap (λ (k : ℕ). fold g.F.Follower.next c.args.follower.now (later_of setup start k)) (sym none);
+      followed = ap (λ (k : ℕ). vision_after c.args.sight.now (later_of setup start k)) (sym none);
       follows = c.requires.same;
       valid = c.requires.valid;
       same = refl;
@@ -26,7 +26,7 @@ follow-requires g c =
     let i = c.loop-number.invariant in
     let new = c.play.new.board.state in
     let valid = subst (λ (s : Setup). IsValid s new) (i.same ∙ sym i.follows) c.in_ok-play.ensures.valid in
-    subst (IsValid (g.F.Follower.match_of c.loop-number.follower)) (sym c.scene-in-loop-number.ensures.state) valid
+    subst (IsValid c.loop-number.sight.setup) (sym c.scene-in-loop-number.ensures.state) valid
 
 pub loop-number-preserved : goal.loop-number-preserved
 loop-number-preserved g c =
@@ -47,11 +47,11 @@ loop-number-preserved g c =
       state = more ∙ ap (λ (k : ℕ). from setup start (own_turns setup start.turn k)) next;
       turn = next_number setup old new t i.turn is;
       followed = c.in_ok-follow.ensures.next
-          ∙ ap (g.F.Follower.next c.loop-number.follower) c.scene-in-loop-number.ensures.state
-          ∙ ap (λ f. g.F.Follower.next f new) i.followed
-          ∙ followed_more g.F.Follower.next setup start new n c.args.follower.now more
-          ∙ ap (λ (k : ℕ). fold g.F.Follower.next c.args.follower.now (later_of setup start k)) next;
-      follows = c.follow.ensures.same ∙ i.follows;
+          ∙ ap (vision_next c.loop-number.sight) c.scene-in-loop-number.ensures.state
+          ∙ ap (λ f. vision_next f new) i.followed
+          ∙ followed_more vision_next setup start new n c.args.sight.now more
+          ∙ ap (λ (k : ℕ). vision_after c.args.sight.now (later_of setup start k)) next;
+      follows = c.follow.ensures.setup ∙ i.follows;
       valid = subst (λ (s : Setup). IsValid s new) i.same c.in_ok-play.ensures.valid;
       same = c.in_ok-play.ensures.setup ∙ i.same;
       whole = c.in_ok-play.ensures.whole;

@@ -1,12 +1,12 @@
 -- The board was started, and its first state followed.
 use Rattle.sim_play.proofs.{Later.from_the_start, Starting.started_turn, Starting.started_until, Starting.started_valid}
-use Rattle.sim_play.proofs.Common.{◌≡◌, ◌-◌, OnOk, fold, ap, arith, IsValid, later_of, Setup, setup_in, State, state_in, subst, sym, ◌∙◌}
+use Rattle.sim_play.proofs.Common.{◌≡◌, ◌-◌, OnOk, ap, arith, IsValid, later_of, Setup, setup_in, State, state_in, subst, sym, vision_after, vision_next, ◌∙◌}
 use Rattle.sim_play.proofs.following.start_following.Goals as goal
 
 pub follow-requires : goal.follow-requires
 follow-requires g c =
     let valid = started_valid _ _ _ c.in_ok-start.ensures.setup c.in_ok-start.ensures.state c.requires.limits in
-    subst (IsValid (g.F.Follower.match_of c.args.follower.now)) (sym c.scene.ensures.state)
+    subst (IsValid c.args.sight.now.setup) (sym c.scene.ensures.state)
     (subst (λ (s : Setup). IsValid s (state_in c.start.new.self)) (c.in_ok-start.ensures.setup ∙ sym c.requires.same) valid)
 
 pub follow_until-requires-clause-valid : goal.follow_until-requires-clause-valid
@@ -16,7 +16,7 @@ pub follow_until-requires-clause-ahead : goal.follow_until-requires-clause-ahead
 follow_until-requires-clause-ahead g c = omega (arith, started_turn _ _ _ c.in_ok-start.ensures.setup c.in_ok-start.ensures.state)
 
 pub follow_until-requires-clause-same : goal.follow_until-requires-clause-same
-follow_until-requires-clause-same g c = c.follow.ensures.same ∙ c.requires.same ∙ sym c.in_ok-start.ensures.setup
+follow_until-requires-clause-same g c = c.follow.ensures.setup ∙ c.requires.same ∙ sym c.in_ok-start.ensures.setup
 
 pub returns-clause-state : goal.returns-clause-state
 returns-clause-state g c =
@@ -27,9 +27,8 @@ pub returns-clause-followed : goal.returns-clause-followed
 returns-clause-followed g c =
     let same = setup_in c.start.new.self in
     let state = state_in c.start.new.self in
-    let next = g.F.Follower.next in
-    let begun = c.in_ok-follow.ensures.next ∙ ap (next c.args.follower.now) c.scene.ensures.state in
-    subst (λ f. OnOk c.follow_until.result (c.follow_until.new.follower ≡ f))
-    (ap (λ f. fold next f (later_of same state (c.args.turn - state.turn))) begun
-    ∙ from_the_start next (setup_in c.args.board.now) same state c.in_ok-start.ensures.setup c.in_ok-start.ensures.state c.args.turn c.args.follower.now)
+    let begun = c.in_ok-follow.ensures.next ∙ ap (vision_next c.args.sight.now) c.scene.ensures.state in
+    subst (λ f. OnOk c.follow_until.result (c.follow_until.new.sight ≡ f))
+    (ap (λ f. vision_after f (later_of same state (c.args.turn - state.turn))) begun
+    ∙ from_the_start vision_next (setup_in c.args.board.now) same state c.in_ok-start.ensures.setup c.in_ok-start.ensures.state c.args.turn c.args.sight.now)
     c.follow_until.ensures.followed

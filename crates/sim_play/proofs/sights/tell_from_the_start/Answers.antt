@@ -11,7 +11,7 @@ returns-clause-text g c =
     let setup = setup_in c.args.board.now in
     let seen = c.in_ok-start_following.ensures.followed
     ∙ ap (λ (v : Vision). vision_after v (states_to setup c.args.turn)) (c.in_ok-sight.ensures ∙ ap blind c.setup.ensures) in
-    let words : string_bytes c.push_sight.new.out ≡ sight_text c.start_following.new.follower = search rules in
+    let words : string_bytes c.push_sight.new.out ≡ sight_text c.start_following.new.sight = search rules in
     words ∙ ap sight_text seen ∙ started_text setup c.args.turn
 
 pub returns-clause-file : goal.returns-clause-file

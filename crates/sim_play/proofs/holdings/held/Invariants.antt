@@ -1,0 +1,8 @@
+-- The cells so far are counted.
+use Rattle.std.proofs.Common.{◌≡◌, ℕ, ◌<◌, ◌==◌, get_or, take}
+use Rattle.std.specs.Prelude.{count_by}
+use Rattle.sim_play.proofs.holdings.held.Given as goal
+
+abbrev pub invariant-loop-holder : goal.invariant-loop-holder
+invariant-loop-holder l =
+    (player : ℕ) → player < 9 → get_or l.tally player 0 ≡ count_by (λ holder. holder == player) (take l.holder-index l.holders)
