@@ -11,6 +11,9 @@ import asyncio
 import json
 import sys
 
+# How many bytes a frame may have, with the four that say how many follow.
+MOST_FRAME = 2_400_000
+
 
 class Carrier:
     """The relay, and who listens as which client."""
@@ -40,7 +43,8 @@ class Carrier:
         try:
             while True:
                 head = await reader.readexactly(4)
-                body = await reader.readexactly(min(int.from_bytes(head, "little"), 2_400_000))
+                # A frame that says it is longer is handed on as far as a frame may go: it is none, and the relay cuts the client.
+                body = await reader.readexactly(min(int.from_bytes(head, "little"), MOST_FRAME - len(head)))
                 await self.say(client, "bytes", (head + body).hex())
         except (asyncio.IncompleteReadError, ConnectionError):
             await self.say(client, "cut")
