@@ -1,0 +1,5 @@
+pub mod Bytes
+pub mod Answers
+pub mod Orders
+pub mod Causes
+pub mod Facts
