@@ -1,0 +1,15 @@
+-- What is answered is the answer of the call below, in the words of its definition.
+use Rattle.sim_c.{proofs.Mapped.mapped_cause, proofs.Mapped.mapped_is, specs.Gives.mapped}
+use Rattle.std.proofs.{Common.rules, Common.w32, lemmas.Int.to_z-of_z}
+use mir.Val.{SFits}
+use Rattle.sim_c.proofs.level_one.simcore_entities.Goals as goal
+
+pub returns : goal.returns
+returns c =
+    let fits : SFits w32 c.give_entities.result = search rules in
+    record {
+      answer = mapped (λ found. found.items) c.entities-answer.result;
+      is = mapped_is (λ found. found.items) _ c.entities-answer.result c.entities-answer.ensures.is;
+      cause = mapped_cause (λ found. found.items) _ c.entities-answer.result c.entities-answer.ensures.refused;
+      puts = simp to_z-of_z c.give_entities.ensures;
+    }
