@@ -13,10 +13,11 @@ import collections
 import hashlib
 import json
 import sys
+import time
 
 from simcore import Core
 
-PLAYERS, DELAY, TURNS, BACK, LIE = 4, 3, 60, 25, 30
+PLAYERS, DELAY, TURNS, BACK, LIE, SECONDS = 4, 3, 60, 25, 30, 60
 MATCH = json.dumps({
     "size": [32, 16], "closed": [[14, 0, 17, 5], [14, 10, 17, 15]], "players": [[2, 3, 4], [1, 3, 4], [1, 2, 4], [1, 2, 3]], "cap": 0,
     "delay": DELAY, "turns": TURNS, "seed": 3,
@@ -50,25 +51,46 @@ class Server:
         self.given, self.told = collections.defaultdict(dict), collections.defaultdict(dict)
 
     async def serve(self, reader, writer):
-        """Hears one connection to its end."""
+        """Hears one connection to its end, or to a message that is none."""
         client = None
-        async for message in messages(reader):
-            if "hello" in message:
-                client = message["hello"]
-                self.welcome(client, writer)
-            elif "orders" in message:
-                self.given[message["turn"]].setdefault(client, message["orders"])
-            elif "digest" in message:
-                self.told[message["turn"]][client] = message["digest"]
-                self.compare(message["turn"])
-            elif message["to"] in self.joining:
-                self.hand_on(client, message)
-            else:
-                self.evidence[client] = message["state"]
-            self.release()
-        if self.writers.get(client) is writer:
-            del self.writers[client]
+        try:
+            async for message in messages(reader):
+                if client is None:
+                    client = self.hello(message["hello"], writer)
+                else:
+                    self.hear(client, message)
+                self.release()
+        except (KeyError, TypeError, ValueError):
+            print("no message of client", client, file=sys.stderr)
+        self.leave(client, writer)
+
+    def hello(self, client, writer):
+        """Who says hello is this client from now on, in the place of a connection that it had before."""
+        if client not in range(1, PLAYERS + 1):
+            raise ValueError(client)
+        if client in self.writers:
+            self.leave(client, self.writers[client])
+        self.welcome(client, writer)
+        return client
+
+    def hear(self, client, message):
+        """What a client says is orders, a digest, or a state that it was asked for."""
+        if "orders" in message:
+            self.given[message["turn"]].setdefault(client, message["orders"])
+        elif "digest" in message:
+            self.told[message["turn"]][client] = message["digest"]
+            self.compare(message["turn"])
+        elif message["to"] in self.joining:
+            self.hand_on(client, message)
+        else:
+            self.evidence[client] = message["state"]
+
+    def leave(self, client, writer):
+        """A connection ends, and the others go on. Who waited for a state from there gets one from somebody else."""
         writer.close()
+        for those in (self.writers, self.joining):
+            if those.get(client) is writer:
+                del those[client]
         for waiting, its_writer in list(self.joining.items()):
             self.welcome(waiting, its_writer)
         self.release()
@@ -125,11 +147,13 @@ class Server:
 
 
 async def serve(server):
-    """The server process: it ends when the match is over and all clients have gone."""
-    async with await asyncio.start_server(server.serve, "127.0.0.1", 0, limit=1 << 23) as listening:
-        print(listening.sockets[0].getsockname()[1], flush=True)
-        while len(server.kept) < TURNS or server.writers:
-            await asyncio.sleep(0.02)
+    """The server process: it ends when the match is over and all clients have gone, or its time is over."""
+    listening = await asyncio.start_server(server.serve, "127.0.0.1", 0, limit=1 << 23)
+    print(listening.sockets[0].getsockname()[1], flush=True)
+    end = time.monotonic() + SECONDS
+    while (len(server.kept) < TURNS or server.writers) and time.monotonic() < end:
+        await asyncio.sleep(0.02)
+    listening.close()
     print(json.dumps([server.kept, server.evidence]))
 
 
@@ -147,7 +171,7 @@ async def play(match, port, player, habit=""):
             assert match.digest(state)[1] == turn, "bytes that stand for no state are refused; this is one, but of another turn"
         else:
             turn = message["turn"]
-            secret = [[player, "delete", own(match, state, player)[:1]]] if habit == "lies" and turn == LIE else []
+            secret = [[player, "resign"]] if habit == "lies" and turn == LIE else []
             state, digest = match.turn(state, message["orders"] + secret)
             await asyncio.sleep(0.05 if habit == "lags" and turn % 10 == 0 else 0)
             send(writer, digest=digest, turn=turn)
@@ -159,11 +183,6 @@ async def play(match, port, player, habit=""):
         send(writer, orders=orders_of(match, state, player), turn=turn + DELAY + 1)
     await writer.drain()
     writer.close()
-
-
-def own(match, state, player):
-    """The ids of the entities of a player."""
-    return [row.id for row in match.entities(state) if row.owner == player]
 
 
 def orders_of(match, state, player):

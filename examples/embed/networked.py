@@ -12,10 +12,10 @@ import json
 import pathlib
 import sys
 
-from lockstep import LIE, MATCH, TURNS
+from lockstep import LIE, MATCH, SECONDS, TURNS
 from simcore import Core
 
-KILLED, SECONDS = 12, 60
+KILLED = 12
 
 
 def start(*words):
@@ -45,7 +45,9 @@ async def run(library, running):
             break
     back = await begin(port, "2")
     first, third, fourth, second = await asyncio.gather(*map(digests, [*others, back]))
-    return (await server.stdout.read()).decode().splitlines(), {1: first, 2: second, 3: third, 4: fourth}
+    told = (await server.stdout.read()).decode().splitlines()
+    await asyncio.gather(*(it.wait() for it in running))
+    return told, {1: first, 2: second, 3: third, 4: fourth}
 
 
 def replay(match, kept):
