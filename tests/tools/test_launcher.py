@@ -56,6 +56,39 @@ def wait_until(truth):
         time.sleep(0.1)
 
 
+def names(*words):
+    """The names that nm tells of a file."""
+    told = subprocess.run(["nm", *map(str, words)], capture_output=True, text=True, check=True).stdout
+    return sorted(line.split()[-1] for line in told.splitlines() if len(line.split()) == 3)
+
+
+def library(cases, it):
+    """The library is proved, and installed with the calls of the header alone; one that has others is not."""
+    before, place = it.asked("proved"), it.folder / "library"
+    status, text, said = it.run("./simcore", "--library", place)
+    cases.case("library: it is proved and installed", (status, text, it.asked("proved") - before, said[-1]),
+               (0, "", 1, f"simcore: the library stands below {place}"))
+    cases.case("library: it is said how far the proving is", [line.partition(",")[0] for line in said[1:3]],
+               ["simcore: 1 of 2 crates are proved", "simcore: 2 of 2 crates are proved"])
+    lines = (it.top / "include/simcore.h").read_text().splitlines()
+    calls = sorted(line.split("(")[0].split()[1] for line in lines if line.startswith(("int32_t", "uint32_t")))
+    heap = ["rattle_alloc", "rattle_dealloc", "rattle_realloc"]
+    cases.case("library: the names that the shared object shows", names("-D", "--defined-only", place / "lib/libsimcore.so"), calls)
+    cases.case("library: and the archive", names("-g", "--defined-only", place / "lib/libsimcore.a"), sorted(heap + calls))
+    page = (place / "lib/pkgconfig/simcore.pc").read_text()
+    cases.case("library: it is called proved", ("proved=yes\n" in page, "NOTHING" in page), (True, False))
+    again = it.run("./simcore", "--library", place)
+    cases.case("library: it is installed over itself", (again[0], sorted(path.name for path in (place / "lib").iterdir())),
+               (0, ["libsimcore.a", "libsimcore.so", "libsimcore.so.1", "pkgconfig"]))
+    source = it.top / "crates/sim_c/src/lib.rt"
+    kept = source.read_text()
+    source.write_text(kept + "int simcore_more(void) { return 0; }\n")
+    status, text, said = it.run("./simcore", "--library", it.folder / "other")
+    cases.case("library: a call that the header has not", (status, text, said[-1], (it.folder / "other").exists()),
+               (2, "", "make_library: the header and the crate sim_c do not have the same calls: simcore_more", False))
+    source.write_text(kept)
+
+
 def meanwhile(cases, it):
     """The proving goes on beside the unproved build, once, and is told."""
     it.edit()
@@ -128,8 +161,9 @@ def test(cases):
         return
     with tempfile.TemporaryDirectory() as folder:
         it = StandIn(pathlib.Path(folder).resolve())
-        for part in (unproved, proved, meanwhile, interrupted, failing):
+        for part in (unproved, proved, library, meanwhile, interrupted, failing):
             part(cases, it)
+        bad_input(cases, "make_library", ("no folder", [], "required"), ("a word too many", ["x", "y"], "unrecognized"))
         bad_input(cases, "build_unproved", ("a word too many", ["x"], "unrecognized"),
                   ("a file in the place of a folder", ["-o", __file__ + "/x"], "File exists"))
 

@@ -1,0 +1,28 @@
+//! A walker walks, and each call is refused once: `SIMCORE=PREFIX cargo run --offline --example walk`.
+
+use simcore::{fits, Error, Match};
+
+const GAME: &str = r#"{"size":[8,8],"closed":[],"players":[[]],"cap":0,"delay":1,"turns":9,"seed":0,
+"templates":[{"@name":"walker","Motion":{"Speed":10}}],"entities":[["walker",1,"2.5","2.5"]],"commands":[]}"#;
+
+fn main() -> Result<(), Error> {
+    assert!(fits());
+    let game = Match::new(GAME.into())?;
+    let mut state = game.first()?;
+    for turn in 0..game.facts.turns {
+        let orders = if turn == 0 { r#"[[1,"walk",[2],"6.5","2.5"]]"# } else { "[]" };
+        state = game.turn(&state.bytes, orders)?;
+        print!("{}", game.show(&state.bytes)?);
+    }
+    let (first, walker) = (game.first()?, game.entities(&state.bytes)?[0]);
+    assert_eq!((walker.id, walker.x, walker.going), (2, 6 * 65536 + 32768, 0));
+    assert_eq!(game.digest(&state.bytes)?, (state.digest, game.facts.turns));
+    assert_eq!(game.compare(&state.bytes, &state.bytes)?, None);
+    assert_eq!(game.compare(&first.bytes, &state.bytes)?, Some((1, 0)));
+    assert_eq!(game.turn(&state.bytes, "[]"), Err(Error::Over));
+    assert_eq!(game.turn(&first.bytes, r#"[[1,"stop",[2]],[2,"resign"]]"#), Err(Error::Commands { item: 2 }));
+    assert_eq!(game.digest(b"no state"), Err(Error::State { code: 1, second: false }));
+    assert_eq!(game.compare(&state.bytes, b"no state"), Err(Error::State { code: 1, second: true }));
+    assert!(matches!(Match::new(Vec::new()), Err(Error::Match { code: 1, index: 0 })));
+    Ok(())
+}

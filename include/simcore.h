@@ -1,0 +1,159 @@
+/* simcore.h: the simulation core in a program of yours. C99 and C++, for Linux on x86-64.
+ *
+ * A match is the bytes of a match file, a state is the bytes of a stored state: the program `simcore` reads and writes the same bytes.
+ * Each call takes bytes, gives bytes and keeps nothing. This is level one, and all that there is: a level two, whose handles would keep
+ * a match in memory from turn to turn, is not there yet. docs/EMBEDDING.md makes a networked match of these calls, step by step.
+ *
+ * What you owe at every call, since nothing can check it:
+ *   1. No pointer is null, also where its length is 0.
+ *   2. A pointer is to memory of its type, and a length is that of the memory behind its pointer, in items of that type.
+ *   3. What a call writes overlaps nothing else that it is handed.
+ *   4. While a call runs, nobody writes what it reads, or touches what it writes.
+ *   5. The thread has 256 KB of stack left.
+ *   6. No call is made in a signal handler, or in the forked child of a process with threads.
+ * And nothing else. Whatever stands in the bytes, a call ends and answers a status of the table below. Calls share nothing, so any number
+ * of threads may call at once. The same bytes have the same answer on every machine, or there is no memory.
+ */
+#ifndef SIMCORE_H
+#define SIMCORE_H
+
+#include <stddef.h>
+#include <stdint.h>
+
+#ifdef __cplusplus
+extern "C" {
+#endif
+
+/* The interface of this header: above the lower 16 bits what must be the same in the library, and in them what may be more there. */
+#define SIMCORE_VERSION 0x00010000u
+
+/* How a call ends, and what stands then. 0 to 10 mean what they mean as the status of the program.
+ *
+ * What is not named is as it was: after a refusal nothing is written but *fault, and a call that succeeds leaves *fault alone. */
+enum simcore_status {
+    SIMCORE_OK = 0,            /* done: what the call gives is written; simcore_compare: the states are the same, and nothing is written */
+    SIMCORE_DIFFERS = 1,       /* simcore_compare: the states differ; *entity and *part are written */
+    SIMCORE_MATCH_REFUSED = 6, /* the bytes are no match; *fault is CODE and INDEX of `match refused CODE INDEX` */
+    SIMCORE_STATE_REFUSED = 7, /* bytes stand for no state of the match; fault->code is CODE of `state refused CODE NAME`, and
+                                  fault->index is 1 where they are the second state of the call, and else 0 */
+    SIMCORE_LIST_REFUSED = 8,  /* the bytes are no list of commands; fault->code is 0, and fault->index is the first item that is no
+                                  command, counted from 1, or 0 where the whole is no list */
+    SIMCORE_NO_MEMORY = 9,     /* memory was refused; *fault is 0 and 0, and all that the call had taken is given back */
+    SIMCORE_NO_TURN = 10,      /* simcore_turn: all turns of the match were played; *fault is 0 and 0 */
+    SIMCORE_NO_ROOM = 100      /* the room is too small: *written is how many items it takes, and *fault is as it was. Call again with
+                                  so many */
+};
+/* The first of these is told: the match is refused, a state is (the left one before the right one), all turns were played, the commands
+ * are refused, there is no room. Memory may be refused anywhere between. */
+
+/* Why a call was refused. docs/FORMATS.md says what each code means. */
+struct simcore_fault {
+    uint32_t code, index;
+};
+
+/* The numbers of a match. */
+struct simcore_facts {
+    uint32_t width, depth; /* the ground in cells, at most 256 each */
+    uint32_t players;      /* 1 to 8; owner 0 is nobody */
+    uint32_t turns;        /* how many turns the match has, at most 65535 */
+    uint32_t delay;        /* how many turns lie between an order and its turn, 1 to 8 */
+    uint32_t cap;          /* the most entities of a player who makes one */
+    uint32_t templates;    /* how many templates the match has */
+    uint32_t entities;     /* how many entities there are at turn 0 */
+    uint32_t commands;     /* how many commands the match file has of its own; simcore_turn plays none but those that it is handed */
+};
+
+/* An entity. A cell is SIMCORE_CELL wide, and health counts in the same unit: 65536 is 1. */
+struct simcore_entity {
+    uint32_t id;            /* from 2 */
+    uint32_t kind;          /* its template, by the place in the match file's list, from 0 */
+    uint32_t owner;         /* a player, or 0 */
+    int32_t x, z;           /* where it stands, always on the ground */
+    int32_t health;         /* 0 where its template has none */
+    uint32_t going;         /* 1 while it is on its way, else 0 */
+    int32_t goal_x, goal_z; /* where to; where it stands, if it is not going */
+    uint32_t target;        /* the id of the entity that it attacks, or 0 */
+    uint32_t holds;         /* 1 where it holds its place, else 0 */
+};
+
+/* A part of an entity, in the order in which they are compared. */
+enum simcore_part {
+    SIMCORE_CLOCK = 0, /* of entity 1 alone: the turn, the next id, the random word */
+    SIMCORE_ENTITY = 1,
+    SIMCORE_POSITION = 2,
+    SIMCORE_OWNER = 3,
+    SIMCORE_HEALTH = 4,
+    SIMCORE_MOTION = 5,
+    SIMCORE_ATTACK = 6,
+    SIMCORE_STANCE = 7
+};
+
+#define SIMCORE_CELL 65536
+/* No state is longer, and none has more entities: so much room is always enough. */
+#define SIMCORE_MOST_STATE 2347083u
+#define SIMCORE_MOST_ENTITIES 4096u
+
+/* The version of the library. It takes no argument and cannot fail. */
+uint32_t simcore_version(void);
+
+/* The numbers of a match: *facts.
+ * OK, MATCH_REFUSED, NO_MEMORY */
+int32_t simcore_match(const uint8_t *match, size_t match_n, struct simcore_facts *facts, struct simcore_fault *fault);
+
+/* The state in which a match begins: its bytes at the front of the room, their number in *written, and MD5 of them in digest.
+ * OK, MATCH_REFUSED, NO_MEMORY, NO_ROOM */
+int32_t simcore_first(const uint8_t *match, size_t match_n, uint8_t *state, size_t state_room, uint64_t *written, uint8_t digest[16],
+                      struct simcore_fault *fault);
+
+/* One turn: from the old state and the commands of the turn, given in their order, the next state, as simcore_first gives one.
+ * Commands are JSON, a list of items [PLAYER, KIND, ..] as a match file has them behind the turn, as many as you like, and "[]" for none:
+ * [[1,"walk",[2,3],"10.5","4"],[2,"stop",[7]]]. One that makes no sense in the state, as for an entity that has fallen, does nothing.
+ * OK, MATCH_REFUSED, STATE_REFUSED, LIST_REFUSED, NO_TURN, NO_MEMORY, NO_ROOM */
+int32_t simcore_turn(const uint8_t *match, size_t match_n, const uint8_t *old, size_t old_n, const uint8_t *commands, size_t commands_n,
+                     uint8_t *state, size_t state_room, uint64_t *written, uint8_t digest[16], struct simcore_fault *fault);
+
+/* Whether bytes stand for a state of the match, as those of a stranger may not: the digest of it and its turn.
+ * OK, MATCH_REFUSED, STATE_REFUSED, NO_MEMORY */
+int32_t simcore_digest(const uint8_t *match, size_t match_n, const uint8_t *state, size_t state_n, uint8_t digest[16], uint32_t *turn,
+                       struct simcore_fault *fault);
+
+/* Where two states differ first: the least entity, and the first of its parts.
+ * OK, DIFFERS, MATCH_REFUSED, STATE_REFUSED, NO_MEMORY */
+int32_t simcore_compare(const uint8_t *match, size_t match_n, const uint8_t *left, size_t left_n, const uint8_t *right, size_t right_n,
+                        uint32_t *entity, uint32_t *part, struct simcore_fault *fault);
+
+/* The entities of a state, ascending by id, for whoever draws them: at the front of the room, and their number in *written.
+ * OK, MATCH_REFUSED, STATE_REFUSED, NO_MEMORY, NO_ROOM */
+int32_t simcore_entities(const uint8_t *match, size_t match_n, const uint8_t *state, size_t state_n, struct simcore_entity *rows,
+                         size_t rows_room, uint64_t *written, struct simcore_fault *fault);
+
+/* What the program's `show` prints of a state, ASCII, a line for each entity: the text without a 0 behind it, and its length in *written.
+ * OK, MATCH_REFUSED, STATE_REFUSED, NO_MEMORY, NO_ROOM */
+int32_t simcore_show(const uint8_t *match, size_t match_n, const uint8_t *state, size_t state_n, uint8_t *text, size_t text_room,
+                     uint64_t *written, struct simcore_fault *fault);
+
+/* Whether the library that runs is one of this header. Ask it once, before all other calls. */
+static inline int simcore_fits(void) {
+    uint32_t version = simcore_version();
+    return version >> 16 == SIMCORE_VERSION >> 16 && version >= SIMCORE_VERSION;
+}
+
+/* A status in words, for a message or a log. */
+static inline const char *simcore_status_text(int32_t status) {
+    switch (status) {
+    case SIMCORE_OK: return "done";
+    case SIMCORE_DIFFERS: return "the states differ";
+    case SIMCORE_MATCH_REFUSED: return "match refused";
+    case SIMCORE_STATE_REFUSED: return "state refused";
+    case SIMCORE_LIST_REFUSED: return "list refused";
+    case SIMCORE_NO_MEMORY: return "no memory";
+    case SIMCORE_NO_TURN: return "no such turn";
+    case SIMCORE_NO_ROOM: return "no room";
+    default: return "no status of this header";
+    }
+}
+
+#ifdef __cplusplus
+}
+#endif
+#endif

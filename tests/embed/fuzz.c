@@ -1,0 +1,252 @@
+/* A fuzzer of the border: fuzz SECONDS SEED MATCH..
+ *
+ * Random calls in random order, with bytes, lengths and rooms that are good, damaged or made up. What is handed in stands against a page
+ * that nobody may read, and cannot be written; the room that is handed out stands so too. A heap of its own refuses now and then. After
+ * each call its status is one of those that the header names for it, what stands is as the header says, and no block is held. */
+#define _DEFAULT_SOURCE
+#include <simcore.h>
+#include <stdio.h>
+#include <string.h>
+#include <sys/mman.h>
+#include <time.h>
+
+#include "heap.h"
+
+enum { PAGE = 4096, MOST_IN = 1 << 20, MOST_OUT = 1 << 22, GAMES = 64, STATES = 256, FILL = 0x5A };
+enum { MATCH, FIRST, TURN, DIGEST, COMPARE, ENTITIES, SHOW, CALLS };
+
+/* The statuses that the header names for each call. */
+static const int32_t NAMED[CALLS][8] = {{0, 6, 9, -1}, {0, 6, 9, 100, -1}, {0, 6, 7, 8, 9, 10, 100, -1}, {0, 6, 7, 9, -1},
+                                        {0, 1, 6, 7, 9, -1}, {0, 6, 7, 9, 100, -1}, {0, 6, 7, 9, 100, -1}};
+
+struct bytes {
+    uint8_t *at;
+    size_t length;
+};
+
+/* What a call can write beside its room. */
+struct outs {
+    uint64_t written;
+    struct simcore_facts facts;
+    uint32_t turn, entity, part;
+    uint8_t digest[16];
+    struct simcore_fault fault;
+};
+
+static struct bytes games[GAMES], states[STATES], in[3];
+static int games_n, states_n, game_of[STATES];
+static uint8_t *areas[4];
+static long tried[CALLS], seen[128];
+static uint64_t word;
+
+static uint32_t chance(uint32_t below) {
+    word = word * 6364136223846793005u + 1442695040888963407u;
+    return (uint32_t)((word >> 33) % below);
+}
+
+static void fail(const char *what, int call, int32_t status) {
+    printf("failed: %s; call %d, status %d\n", what, call, (int)status);
+    exit(1);
+}
+
+/* Memory whose end lies before a page that nobody may touch. */
+static uint8_t *new_area(size_t length) {
+    uint8_t *at = (uint8_t *)mmap(NULL, length + PAGE, PROT_READ | PROT_WRITE, MAP_PRIVATE | MAP_ANONYMOUS, -1, 0);
+    if (at == MAP_FAILED || mprotect(at + length, PAGE, PROT_NONE)) fail("no memory for an area", -1, 0);
+    return at;
+}
+
+static struct bytes copy_of(const uint8_t *from, size_t length) {
+    struct bytes copy = {(uint8_t *)malloc(length ? length : 1), length};
+    if (!copy.at) fail("no memory", -1, 0);
+    memcpy(copy.at, from, length);
+    return copy;
+}
+
+static struct bytes read_file(const char *path) {
+    static uint8_t room[MOST_IN];
+    FILE *file = fopen(path, "rb");
+    size_t length = file ? fread(room, 1, sizeof room, file) : 0;
+    if (file) fclose(file);
+    return copy_of(room, length);
+}
+
+/* Commands, some of which make sense. */
+static size_t write_orders(char *text) {
+    static const char *const KINDS[] = {"walk", "stop", "attack", "delete", "place", "train", "resign", "dance"};
+    char *at = text + sprintf(text, "[");
+    for (uint32_t i = 0, n = chance(5); i < n; i++) {
+        uint32_t kind = chance(50) ? chance(7) : 7;
+        at += sprintf(at, "%s[%u,\"%s\"", i ? "," : "", chance(9), KINDS[kind]);
+        if (kind < 4) at += sprintf(at, ",[%u,%u,%u]", 2 + chance(12), chance(30), chance(3) ? 2 + chance(9) : 1u << chance(32));
+        if (kind == 2) at += sprintf(at, ",%u", chance(20));
+        if (kind == 4) at += sprintf(at, ",%u", chance(5));
+        if (kind == 5) at += sprintf(at, ",%u,%u", chance(20), chance(5));
+        if (kind == 0 || kind == 4) at += sprintf(at, ",\"%u.%u\",%u", chance(40), chance(100), chance(30));
+        at += sprintf(at, "]");
+    }
+    return (size_t)(at - text) + (size_t)sprintf(at, "]");
+}
+
+/* Damages bytes in their place; what comes of it is no longer than MOST_IN. */
+static size_t damage(uint8_t *at, size_t length) {
+    static const char *const PIECES[] = {"[", "]", "{", "}", ",", "\"", "-1", "0", "65536", "1e9", "null", "\xff", "\"@parent\"", ".5"};
+    for (uint32_t i = 0, n = 1 + chance(3); i < n; i++) {
+        size_t place = length ? chance((uint32_t)length) : 0, most = length - place, few = most ? chance((uint32_t)(most < 40 ? most : 40)) : 0;
+        const char *piece = PIECES[chance(14)];
+        switch (length ? chance(7) : 4) {
+        case 0: at[place] = (uint8_t)chance(256); break;
+        case 1: at[place] ^= (uint8_t)(1u << chance(8)); break;
+        case 2: length = place; break;
+        case 3: memmove(at + place, at + place + few, length - place - few), length -= few; break;
+        case 4:
+            if (length + 16 > MOST_IN) break;
+            memmove(at + place + strlen(piece), at + place, length - place);
+            memcpy(at + place, piece, strlen(piece));
+            length += strlen(piece);
+            break;
+        case 5:
+            if (length + few > MOST_IN) break;
+            memmove(at + place + few, at + place, length - place);
+            length += few;
+            break;
+        default: at[place] = (uint8_t)(at[place] + 1 - 2 * chance(2)); break;
+        }
+    }
+    return length;
+}
+
+/* Puts bytes, one time in so many damaged, to the end of an area that is not written from then on. */
+static void hand_in(int place, const uint8_t *from, size_t length, uint32_t spare) {
+    static uint8_t room[MOST_IN + 64];
+    if (length > MOST_IN) length = MOST_IN;
+    memcpy(room, from, length);
+    if (!chance(spare)) length = damage(room, length);
+    mprotect(areas[place], MOST_IN, PROT_READ | PROT_WRITE);
+    in[place].at = areas[place] + MOST_IN - length;
+    in[place].length = length;
+    memcpy(in[place].at, room, length);
+    mprotect(areas[place], MOST_IN, PROT_READ);
+}
+
+static int32_t call(int which, uint8_t *room, size_t items, struct outs *it) {
+    struct bytes match = in[0], left = in[1], right = in[2];
+    struct simcore_entity *rows = (struct simcore_entity *)(void *)room;
+    switch (which) {
+    case MATCH: return simcore_match(match.at, match.length, &it->facts, &it->fault);
+    case FIRST: return simcore_first(match.at, match.length, room, items, &it->written, it->digest, &it->fault);
+    case TURN: return simcore_turn(match.at, match.length, left.at, left.length, right.at, right.length, room, items, &it->written, it->digest, &it->fault);
+    case DIGEST: return simcore_digest(match.at, match.length, left.at, left.length, it->digest, &it->turn, &it->fault);
+    case COMPARE: return simcore_compare(match.at, match.length, left.at, left.length, right.at, right.length, &it->entity, &it->part, &it->fault);
+    case ENTITIES: return simcore_entities(match.at, match.length, left.at, left.length, rows, items, &it->written, &it->fault);
+    default: return simcore_show(match.at, match.length, left.at, left.length, room, items, &it->written, &it->fault);
+    }
+}
+
+static bool fills_room(int which) { return which == FIRST || which == TURN || which == ENTITIES || which == SHOW; }
+
+static bool tells_digest(int which) { return which == FIRST || which == TURN || which == DIGEST; }
+
+static void check_named(int which, int32_t status) {
+    const int32_t *named = NAMED[which];
+    while (*named != -1 && *named != status) named++;
+    if (*named == -1) fail("a status that the header does not name", which, status);
+}
+
+/* Takes back what the header says is written, and looks that all else is as it was. */
+static void check_outs(int which, int32_t status, struct outs it) {
+    struct outs before;
+    memset(&before, FILL, sizeof before);
+    if (status >= 6 && status <= 10) it.fault = before.fault;
+    if (status == SIMCORE_NO_ROOM || (status == SIMCORE_OK && fills_room(which))) it.written = before.written;
+    if (status == SIMCORE_OK && tells_digest(which)) memcpy(it.digest, before.digest, 16);
+    if (status == SIMCORE_OK && which == DIGEST) it.turn = before.turn;
+    if (status == SIMCORE_OK && which == MATCH) it.facts = before.facts;
+    if (status == SIMCORE_DIFFERS) it.entity = before.entity, it.part = before.part;
+    if (memcmp(&it, &before, sizeof it) != 0) fail("something is written that the header does not name", which, status);
+}
+
+static void check_fault(int which, int32_t status, struct simcore_fault fault) {
+    bool right = true;
+    if (status == SIMCORE_MATCH_REFUSED) right = fault.code >= 1 && fault.code <= 10;
+    if (status == SIMCORE_STATE_REFUSED) right = fault.code >= 1 && fault.code <= 3 && fault.index <= (which == COMPARE);
+    if (status == SIMCORE_LIST_REFUSED) right = fault.code == 0;
+    if (status == SIMCORE_NO_MEMORY || status == SIMCORE_NO_TURN) right = !fault.code && !fault.index;
+    if (status == SIMCORE_NO_MEMORY && !heap_refused) right = false;
+    if (!right) fail("a fault that the header does not name", which, status);
+}
+
+static void check_room(int which, int32_t status, const uint8_t *room, size_t length, size_t written, size_t size) {
+    size_t used = status == SIMCORE_OK && fills_room(which) ? written * size : 0;
+    if (status == SIMCORE_NO_ROOM && written * size <= length) fail("no room where there is enough", which, status);
+    if (used > length) fail("more is written than there is room", which, status);
+    for (size_t i = used; i < length; i++)
+        if (room[i] != FILL) fail("the room is written behind what is said", which, status);
+}
+
+/* Keeps a state that stands for one, so that later calls begin there. */
+static void keep(int game, const uint8_t *state, size_t length) {
+    int place = states_n < STATES ? states_n++ : (int)chance(STATES);
+    free(states[place].at);
+    states[place] = copy_of(state, length);
+    game_of[place] = game;
+}
+
+static void try_one(void) {
+    static char orders[4096];
+    int which = chance(3) ? TURN : (int)chance(CALLS), state = (int)chance((uint32_t)states_n), other = (int)chance((uint32_t)states_n);
+    int game = chance(20) ? game_of[state] : (int)chance((uint32_t)games_n);
+    size_t size = which == ENTITIES ? sizeof(struct simcore_entity) : 1;
+    size_t items = chance(3) ? SIMCORE_MOST_ENTITIES : chance(600), length = items * size;
+    struct outs it, again;
+    bool damaged = true;
+
+    hand_in(0, games[game].at, games[game].length, 8);
+    hand_in(1, states[state].at, states[state].length, 6);
+    if (which == TURN) hand_in(2, (const uint8_t *)orders, write_orders(orders), 6);
+    else hand_in(2, states[other].at, states[other].length, 6);
+    damaged = in[0].length != games[game].length || memcmp(in[0].at, games[game].at, in[0].length) != 0;
+    uint8_t *room = areas[3] + MOST_OUT - length;
+    memset(room, FILL, length);
+    memset(&it, FILL, sizeof it);
+    heap_grant(chance(6) ? -1 : (long)chance(250), chance(2));
+    int32_t status = call(which, room, items, &it);
+    if (heap_held != 0) fail("a block is still held", which, status);
+    check_named(which, status);
+    check_outs(which, status, it);
+    check_fault(which, status, it.fault);
+    check_room(which, status, room, length, (size_t)it.written, size);
+    tried[which]++, seen[status]++;
+    if (status == SIMCORE_OK && (which == FIRST || which == TURN) && !damaged) keep(game, room, (size_t)it.written);
+    if (status == SIMCORE_NO_MEMORY || chance(16)) return;
+    memset(&again, FILL, sizeof again);
+    memset(room, FILL, length);
+    heap_grant(-1, false);
+    if (call(which, room, items, &again) != status || memcmp(&it, &again, sizeof it) != 0) fail("the same call has another answer", which, status);
+}
+
+int main(int argc, char **argv) {
+    double seconds = argc > 1 ? strtod(argv[1], NULL) : 10;
+    time_t end = time(NULL) + (time_t)seconds;
+    word = argc > 2 ? strtoull(argv[2], NULL, 10) : 1;
+    for (int i = 0; i < 4; i++) areas[i] = new_area(i < 3 ? MOST_IN : MOST_OUT);
+    for (int i = 3; i < argc && games_n < GAMES; i++) {
+        struct outs it;
+        struct bytes game = read_file(argv[i]);
+        hand_in(0, game.at, game.length, 1u << 31);
+        if (call(FIRST, areas[3], MOST_OUT, &it) == SIMCORE_OK) {
+            games[games_n] = game;
+            keep(games_n++, areas[3], (size_t)it.written);
+        } else free(game.at);
+    }
+    if (!games_n) fail("no file is a match", -1, 0);
+    while (time(NULL) < end)
+        for (int i = 0; i < 64; i++) try_one();
+    printf("calls:");
+    for (int i = 0; i < CALLS; i++) printf(" %ld", tried[i]);
+    printf("\nstatuses:");
+    for (int i = 0; i < 128; i++)
+        if (seen[i]) printf(" %d:%ld", i, seen[i]);
+    printf("\nno crash, and no status that the header does not name\n");
+    return 0;
+}
