@@ -1,5 +1,5 @@
 //! Ids in groups by a key. The ids of one key stand in a list of their own, ascending, so that they can be lent, and one that
-//! comes or goes moves no id of another key. A key is found where the last one was or by halves; one that has lost its last id
+//! comes or goes moves no id of another key. A key is found where the last one like it was or by halves; one that has lost its last id
 //! keeps its list for the next. A system keeps such groups beside its facts.
 
 ghost use Rattle.std.specs.Prelude.{◌≡◌, ℕ, [], if◌then◌else◌, OnOk, IsTrue, ◌==◌, MatchResult};
@@ -11,11 +11,13 @@ use sim_base::OutOfMemory;
 use std::alloc::Global;
 use std::cell::Cell;
 
-/// Groups of ids, ascending by key. The place of the last key that was looked for is a hint for the next.
+/// Groups of ids, ascending by key. The places of the last even key and of the last odd one that were looked for are hints for the
+/// next: where the rows of two players take turns, so do mostly those at whom they aim.
 #[derive(Drop)]
 pub struct Groups {
     pub groups: Vec<Group>,
-    near: Cell<usize>,
+    even: Cell<usize>,
+    odd: Cell<usize>,
     ghost ascend: { KeysAscend groups.items },
 }
 
@@ -26,7 +28,26 @@ impl Groups {
     {
         Groups {
             groups: Vec::new(alloc),
-            near: Cell::new(0),
+            even: Cell::new(0),
+            odd: Cell::new(0),
+        }
+    }
+
+    // Near which place a key is looked for first.
+    fn near(&self, key: u32) -> usize {
+        if key % 2 == 0 {
+            self.even.get()
+        } else {
+            self.odd.get()
+        }
+    }
+
+    // Keeps where a key was found.
+    fn set_near(&self, key: u32, at: usize) {
+        if key % 2 == 0 {
+            self.even.set(at);
+        } else {
+            self.odd.set(at);
         }
     }
 
@@ -34,13 +55,13 @@ impl Groups {
     fn place_of(&self, key: u32) -> Result<usize, usize>
         ensures { MatchResult result (GroupStands self.now.groups.items key) (GroupBelongs self.now.groups.items key) }
     {
-        let near = self.near.get();
+        let near = self.near(key);
         if self.stands_at(key, near) {
             return Ok(near);
         }
         let place = place_by_halves(self.groups.as_slice(), key);
         if let Ok(at) = place {
-            self.near.set(at);
+            self.set_near(key, at);
         }
         place
     }

@@ -80,6 +80,11 @@ impl Queue {
         requires room { HasPlace self.old }
         ensures { queued self.new ≡ inserted (queued self.old) at id }
     {
-        let _ = self.ids.insert(self.left + at, id);
+        let place = self.left + at;
+        if place == self.ids.len() {
+            let _ = self.ids.push(id);
+            return;
+        }
+        let _ = self.ids.insert(place, id);
     }
 }

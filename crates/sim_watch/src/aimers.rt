@@ -107,6 +107,21 @@ impl Aimers {
         }
     }
 
+    /// An entity has no target any more, and keeps its place in the list. Answers the target that it had, or 0.
+    pub fn let_go(&mut self, id: u32) -> u32
+        ensures target { fact_with (facts_in self.old.aimers.items) id ≡ kept WatchKind (aim_of id result) }
+        ensures facts { facts_in self.new.aimers.items ≡ with_only id None (facts_in self.old.aimers.items) }
+    {
+        match self.place_of(id) {
+            Ok(at) => {
+                let target = self.aimers[at].target;
+                self.aimers[at] = Aimer { id, target: 0 };
+                target
+            }
+            Err(_) => 0,
+        }
+    }
+
     /// An entity is gone, and has no place in the list any more.
     pub fn leave(&mut self, id: u32)
         ensures facts { facts_in self.new.aimers.items ≡ with_only id None (facts_in self.old.aimers.items) }

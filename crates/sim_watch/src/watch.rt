@@ -63,6 +63,10 @@ impl Watch {
         ensures land { self.new.land ≡ self.old.land }
         ensures rebuilds { self.new.rebuilds ≡ self.old.rebuilds }
     {
+        if to == 0 {
+            self.let_go(id);
+            return Ok(());
+        }
         let from = self.aimers.target(id);
         if from == to {
             return Ok(());
@@ -73,6 +77,16 @@ impl Watch {
         leave(&mut self.groups, id, from);
         join(&mut self.groups, id, to);
         Ok(())
+    }
+
+    // An entity has no target any more. That wants no room.
+    fn let_go(&mut self, id: u32)
+        ensures facts { facts_in self.new.aimers.aimers.items ≡ with_only id None (facts_in self.old.aimers.aimers.items) }
+        ensures land { self.new.land ≡ self.old.land }
+        ensures rebuilds { self.new.rebuilds ≡ self.old.rebuilds }
+    {
+        let from = self.aimers.let_go(id);
+        leave(&mut self.groups, id, from);
     }
 
     // An entity is gone, with its place among those who aim, and so is the list of those who aimed at it, which is empty by then.

@@ -1,7 +1,12 @@
 -- The groups after the change are those of the facts after it.
 use Rattle.sim_watch.proofs.Aiming.{aimed_groups, same_target}
-use Rattle.sim_watch.proofs.Common.{List, aim_of, Aimer, ap, facts_in, kept, Watch, with_only, ◌∙◌}
+use Rattle.sim_watch.proofs.Common.{ℕ, List, aim_of, Aimer, ap, facts_in, kept, sym, Watch, with_only, ◌∙◌}
 use Rattle.sim_watch.proofs.watch.Watch.aim.Goals as goal
+
+pub returns-then-to-eq0-clause-ok : goal.returns-then-to-eq0-clause-ok
+returns-then-to-eq0-clause-ok c =
+    let facts = facts_in c.args.self.now.aimers.aimers.items in
+    c.let_go.ensures.facts ∙ ap (λ (target : ℕ). with_only c.args.id (kept Watch (aim_of c.args.id target)) facts) (sym c.if-to-eq0.true)
 
 pub returns-then-from-to-clause-ok : goal.returns-then-from-to-clause-ok
 returns-then-from-to-clause-ok c =
