@@ -14,6 +14,9 @@ use sim_scene::Scene;
 use sim_system::System;
 use std::alloc::Global;
 
+// For how many changes there is room beside one for each row: the word, and the healths that fall, which mostly are few.
+const SPARE: usize = 64;
+
 /// The changes by which fighters hit, all by the state of the scene. They fit in order, and give the phase.
 pub fn hit_changes(alloc: Global, scene: &Scene<'_>) -> Result<Changes, OutOfMemory>
     requires { Stands scene.now ⟦<dyn System as System>⟧ }
@@ -29,7 +32,8 @@ fn listed_hits(alloc: Global, setup: &Setup, state: &State) -> Result<Changes, O
     ensures { IfOk result (λ changes. changes ≡ hit_plan setup.now state.now) }
 {
     let rows = state.rows.as_slice();
-    let mut changes = Items::from_items(Vec::with_capacity(alloc, rows.len())?);
+    let room = rows.len().saturating_add(SPARE);
+    let mut changes = Items::from_items(Vec::with_capacity(alloc, room)?);
     let mut damage = vec![in alloc; 0; rows.len()]?;
     let index = RowIndex::of(alloc, rows)?;
     let mut word = state.word;
