@@ -5,3 +5,4 @@ pub mod Setting
 pub mod Letting
 pub mod Standing
 pub mod Counting
+pub mod Quieting

@@ -2,3 +2,4 @@ pub mod BoardWords
 pub mod ChangeKinds
 pub mod Hearing
 pub mod Letting
+pub mod Leading

@@ -1,7 +1,8 @@
 //! The calls of a board.
 
 ghost use Rattle.{sim_board.specs.ChangeKinds.KeepsTarget, sim_board.specs.ChangeKinds.NeedsNoMemory, sim_scene.specs.SceneWords.Stands};
-ghost use Rattle.std.specs.Prelude.{◌≡◌, true, false, [], OnOk, OnErr, IsOk};
+ghost use Rattle.{sim_board.specs.Leading.LeadsOn, sim_plans.specs.Fits.AllFit};
+ghost use Rattle.std.specs.Prelude.{◌≡◌, ◌≤◌, true, false, [], length, drop, OnOk, OnErr, IsOk};
 ghost use Rattle.sim_base.specs.{Changes.applied, Limits.IsSetup, Turn.first_state as first_state_of, Validity.IsValid};
 ghost use Rattle.sim_board.specs.BoardWords.{AreKept, is_whole, IsWhole, rig_in, setup_in, state_in, systems};
 ghost use Rattle.sim_plans.specs.Fits.{Fits};
@@ -9,6 +10,7 @@ ghost use Rattle.sim_system.specs.Meanings.{AreBuiltOnce, AreBuiltOnceAtMost, Ha
 
 use crate::build::build;
 use crate::first::first_state;
+use crate::quiet::keep_aims;
 use crate::step::step;
 use sim_base::{Change, Items, OutOfMemory, Setup, State};
 use sim_scene::Scene;
@@ -144,6 +146,25 @@ impl<'a> Board<'a> {
         )?;
         self.whole = true;
         Ok(())
+    }
+
+    /// Makes the first of these changes, as many as are aims by which a row keeps its target. Answers how many these are.
+    pub(crate) fn keep_aims(&mut self, changes: &[Change]) -> usize
+        requires whole { IsWhole self.old ⟦<dyn System as System>⟧ }
+        requires fit { AllFit (setup_in self.old) (state_in self.old) changes.now }
+        ensures within { result ≤ length changes.now }
+        ensures leads { LeadsOn (setup_in self.old) (state_in self.old) (state_in self.new) changes.now (drop result changes.now) }
+        ensures whole { IsWhole self.new ⟦<dyn System as System>⟧ }
+        ensures rig { rig_in self.new ≡ rig_in self.old }
+        ensures setup { setup_in self.new ≡ setup_in self.old }
+    {
+        keep_aims(
+            self.alloc,
+            self.setup,
+            &mut self.state,
+            &mut self.near,
+            changes,
+        )
     }
 
     /// The moment, which can be asked.

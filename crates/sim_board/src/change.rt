@@ -74,8 +74,8 @@ pub fn remove(alloc: Global, state: &mut State, id: u32, watchers: &[u32], near:
     state.rows = Items::from_items(rows);
 }
 
-// Takes the rows out of a state.
-fn take_rows(alloc: Global, state: &mut State) -> Vec<Row>
+/// Takes the rows out of a state.
+pub fn take_rows(alloc: Global, state: &mut State) -> Vec<Row>
     ensures rows { result.items ≡ state.old.rows }
     ensures state { state.new ≡ record state.old { rows = [] } }
 {

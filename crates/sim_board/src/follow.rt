@@ -10,7 +10,8 @@ use crate::board::Board;
 use sim_base::{Changes, OutOfMemory, State};
 use sim_system::System;
 
-/// Makes changes that fit in order. No system is built.
+/// Makes changes that fit in order: first the aims that keep their targets, as long as there are only such, and then the others
+/// one by one. No system is built.
 pub fn apply_all(board: &mut Board<'_>, changes: Changes) -> Result<(), OutOfMemory>
     requires whole { IsWhole board.old ⟦<dyn System as System>⟧ }
     requires fit { AllFit (setup_in board.old) (state_in board.old) changes }
@@ -21,7 +22,8 @@ pub fn apply_all(board: &mut Board<'_>, changes: Changes) -> Result<(), OutOfMem
     ensures setup { setup_in board.new ≡ setup_in board.old }
 {
     let mut changes = changes.into_items();
-    for at in 0..changes.len() {
+    let kept = board.keep_aims(changes.as_slice());
+    for at in kept..changes.len() {
         board.make(&mut changes[at])?;
     }
     Ok(())

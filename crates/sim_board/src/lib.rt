@@ -10,6 +10,7 @@
 //! - `tell`: one note to all four systems.
 //! - `change`: the state after a change.
 //! - `edit`: one part of one row.
+//! - `quiet`: aims by which rows keep their targets, of which no system is told.
 //! - `near`: the place of a row, near that of the last one.
 //! - `row`: a living row, and what systems are told of it.
 //! - `build`: the systems are built from a state.
@@ -24,6 +25,7 @@ mod first;
 mod follow;
 mod near;
 mod post;
+mod quiet;
 mod row;
 mod step;
 mod tell;

@@ -1,0 +1,13 @@
+-- Its systems know the later state.
+use Rattle.sim_board.proofs.board.Board.keep_aims.Goals as goal
+
+pub returns-clause-whole : goal.returns-clause-whole
+returns-clause-whole g c =
+    record {
+      whole = c.requires.whole.whole;
+      standing = record {
+        limits = c.requires.whole.standing.limits;
+        valid = c.keep_aims.ensures.leads.valid;
+        fed = c.keep_aims.ensures.leads.fed _ c.requires.whole.standing.fed;
+      };
+    }

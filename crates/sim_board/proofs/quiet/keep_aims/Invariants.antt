@@ -1,0 +1,11 @@
+-- Those that are made lead on to the rows as they are.
+use Rattle.sim_board.proofs.Common.{◌≡◌, drop}
+use Rattle.sim_board.specs.Leading.{LeadsOn}
+use Rattle.sim_board.proofs.quiet.keep_aims.Given as goal
+
+abbrev pub invariant-loop-change : goal.invariant-loop-change
+invariant-loop-change l =
+    record {
+      count : l.kept ≡ l.change-index;
+      leads : LeadsOn l.setup l.fn.state (record l.fn.state { rows = l.rows.items }) l.changes (drop l.change-index l.changes);
+    }
