@@ -16,10 +16,10 @@ pub use Rattle.sim_base.specs.{Least.is_before, Least.lesser_of, declared.memory
 pub use Rattle.sim_base.specs.{Places.cell_of, Places.centre_of, Places.same_cell, Places.Size, Walks.go, Walks.stay, Walks.Walk}
 pub use Rattle.sim_base.specs.Steps.{back, Field, forward, is_free, IsOnGround, IsStep, level, neighbour, octile, step_cost}
 pub use Rattle.sim_base.specs.Ways.{end_key, first_points, IsCost, IsEnd, IsFound, IsPredecessor, IsTrail, IsWay, LeadsTo, Way, waypoints}
-pub use Rattle.sim_grid.{proofs.Bits.AreBits, proofs.Bits.bits_more, proofs.Bits.bits_past, specs.Grids.field_of_grid, specs.Grids.IsGroundSize}
+pub use Rattle.sim_grid.{proofs.Bits.AreBits, proofs.Bits.bits_more, proofs.Bits.bits_past, specs.Grids.field_of_grid, specs.Grids.is_open_at, specs.Grids.IsGroundSize}
 pub use Rattle.sim_laws.proofs.{Ground.same_by_parts, Ground.same_cell-self, Ground.same_cell-true, WayInside.inside-on_ground, WayIs.way-is_way_of}
 pub use Rattle.sim_laws.proofs.{Neighbours.cell_at-some, Neighbours.neighbour-back, Neighbours.neighbour-below_eight, Neighbours.neighbour-on, Trips.walk-on}
-pub use Rattle.sim_path.specs.{Answers.way_in, WayEnds.AreEnds, WayEnds.IsBestOf, WayEnds.IsNoneOf, WayEnds.IsTrailToEnd, WayEnds.IsWayEnd, WayEnds.LeadBack}
+pub use Rattle.sim_path.specs.{Answers.way_in, WayEnds.AreEnds, WayEnds.HasGoneTo, WayEnds.IsBestOf, WayEnds.IsNoneOf, WayEnds.IsTrailToEnd, WayEnds.IsWayEnd, WayEnds.LeadBack}
 pub use Rattle.sim_path.specs.{Away.AreAway, Away.leads_away, Ends.IsBeforeCell, Ends.IsBeforeRow, Ends.IsBest, Ends.IsFirstLead, Ends.key_to, Ends.LeadsBy}
 pub use Rattle.sim_path.specs.Floors.{floor_of, IsFloor, IsFront, IsUnknown, known_or, left_of}
 pub use Rattle.sim_path.specs.MarkTables.{marked_in, marks_of, size_of_marks}
@@ -29,9 +29,9 @@ pub use Rattle.sim_path.specs.Straight.{LeadsAcross, LeadsAlong, octile_from}
 pub use Rattle.sim_path.specs.declared.{floor.Front.Front, nearest.Ends.Ends, nearest.Window.Window, reached.Reached.Reached}
 pub use Rattle.sim_search.proofs.{Moves.back_step, Moves.even_step, Moves.free-of_walk, Moves.least_step, Moves.move-of, Moves.step_back, Regions.labels-tell}
 pub use Rattle.sim_search.proofs.Cells.{entry_at-off, entry_at-set_other, entry_at-set_same, has_cell-true, same_or_not}
-pub use Rattle.sim_search.proofs.Octile.{beside_of, estimate-falls, octile-near, octile-none, octile-self, turned}
+pub use Rattle.sim_search.proofs.Octile.{beside_of, estimate-falls, estimate-guides, octile-near, octile-none, octile-self, turned}
 pub use Rattle.sim_search.specs.{Comes.HasStopped, Comes.IsSearched, Regions.AreLabels, Regions.beside, Regions.IsReached, Regions.IsShore, Regions.itself}
-pub use Rattle.sim_search.specs.{Estimates.estimate_to, Estimates.IsEstimate, Estimates.IsNarrow, Floods.label_in, Moves.step_to}
+pub use Rattle.sim_search.specs.{Estimates.estimate_to, Estimates.IsEstimate, Estimates.IsGuide, Estimates.IsNarrow, Floods.label_in, Moves.step_to}
 pub use Rattle.sim_search.specs.{Queues.Ready, Queues.taken_in, Tables.AreCosts, Tables.cost_in, Tables.entry_at, Tables.has_cell, Tables.known, Tables.size_of}
 pub use Rattle.sim_search.specs.{Taking.HasCost, Taking.IsSearch, declared.aim.Aim.Aim, declared.costs.Costs.Costs, declared.search.Search.Search}
 unfoldable pub use Rattle.sim_base.specs.WayOf.{way_of}

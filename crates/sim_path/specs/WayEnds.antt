@@ -2,7 +2,7 @@
 use Rattle.std.specs.Prelude.{◌≡◌, ℕ, ◌+◌, ◌≤◌, List, Some, None, Contains, Option}
 use Rattle.sim_base.specs.{Steps.Field, Steps.IsStep, Steps.octile, Walks.Walk, Ways.IsEnd, Ways.IsTrail, declared.place.Cell.Cell}
 use Rattle.sim_path.specs.{Ends.IsBest, declared.reached.Reached.Reached}
-use Rattle.sim_search.specs.{Comes.AreCostsUpTo, Estimates.IsEstimate, Regions.IsReached}
+use Rattle.sim_search.specs.{Comes.AreCostsUpTo, Comes.IsSearched, Estimates.IsEstimate, Regions.IsReached}
 
 -- The costs tell the way back from a cell: with some estimate, the least costs are known up to its cost and estimate.
 pub record LeadBack (field : Field) (start : Cell) (cost : Cell → Option ℕ) (end : Reached) : Type 0 where
@@ -25,6 +25,13 @@ pub record AreEnds (field : Field) (start goal : Cell) (near : ℕ) (ends : List
   pub as_near : (c : Cell) → Contains ends c → octile c goal ≡ near
   pub reached : (c : Cell) → Contains ends c → IsReached field start c
   pub some : (c : Cell) × Contains ends c
+
+-- A search went to the cells that are so near to the goal, by an estimate that is 0 there.
+pub record HasGoneTo (field : Field) (start goal : Cell) (near : ℕ) (ends : List Cell) (cost : Cell → Option ℕ) : Type 0 where
+  pub estimate : Cell → ℕ
+  pub falls : IsEstimate (IsStep field start) estimate
+  pub none_left : (c : Cell) → octile c goal ≡ near → estimate c ≡ 0
+  pub searched : IsSearched field start estimate ends cost
 
 -- none of the cells has a cost
 abbrev pub IsNoneOf : (Cell → Option ℕ) → List Cell → Type 0

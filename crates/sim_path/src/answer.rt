@@ -4,9 +4,10 @@ ghost use Rattle.{sim_grid.specs.Grids.field_of_grid, sim_search.specs.Floods.la
 ghost use Rattle.std.specs.Prelude.{◌≡◌, ◌<◌, true, [], ◌∷◌, reverse, IfOk, if◌then◌else◌, OnOk, IsTrue, All};
 ghost use Rattle.sim_base.specs.{Places.cell_of as cell_at, Places.centre_of as centre_at, Places.is_inside, Places.IsPlaced, Places.same_cell, WayOf.way_of};
 ghost use Rattle.sim_base.specs.{Steps.IsOnGround, Ways.first_points, Ways.IsEnd, Ways.IsFound, Ways.IsWay, Ways.waypoints};
-ghost use Rattle.sim_path.specs.{Answers.way_in, WayEnds.AreEnds, WayEnds.IsTrailToEnd, WayEnds.IsWayEnd, WayEnds.LeadBack};
-ghost use Rattle.sim_search.specs.{Comes.IsSearched, Estimates.estimate_to, Estimates.IsNarrow, Regions.AreLabels, Tables.cost_in, Tables.size_of};
+ghost use Rattle.sim_path.specs.{Answers.way_in, WayEnds.AreEnds, WayEnds.HasGoneTo, WayEnds.IsTrailToEnd, WayEnds.IsWayEnd, WayEnds.LeadBack};
+ghost use Rattle.sim_search.specs.{Estimates.IsNarrow, Regions.AreLabels, Tables.cost_in, Tables.size_of};
 
+use crate::atlas::Atlas;
 use crate::end::{best_of, end_of};
 use crate::floor::Front;
 use crate::marks::Marks;
@@ -19,7 +20,10 @@ use crate::trail::trail_from;
 use crate::unmarked::blank_marks;
 use sim_base::{Cell, Items, MAX_WAYPOINTS, OutOfMemory, Point, Points, cell_of, centre_of};
 use sim_grid::Grid;
-use sim_search::{Aim, Costs, Labels, Search, Stage, go_on, least_costs, search_of, started};
+use sim_search::{
+    Ahead, Aim, Costs, Guide, Labels, Landmarks, Search, Stage, go_on, least_costs, search_of,
+    started,
+};
 use sim_system::Way;
 use std::alloc::Global;
 
@@ -116,7 +120,7 @@ fn way_end(grid: &Grid, costs: &Costs, aim: Aim, ends: &[Cell], start: Cell) -> 
     requires start_on { IsOnGround grid.now.size start }
     requires size { size_of costs.now ≡ grid.now.size }
     requires ends { AreEnds (field_of_grid grid.now) start aim.goal aim.near ends.now }
-    requires costs { IsSearched (field_of_grid grid.now) start (estimate_to aim) ends.now (cost_in costs.now) }
+    requires costs { HasGoneTo (field_of_grid grid.now) start aim.goal aim.near ends.now (cost_in costs.now) }
     ensures { IsWayEnd (field_of_grid grid.now) start aim.goal (cost_in costs.now) result }
 {
     match best_of(costs, ends, aim.goal) {
@@ -147,19 +151,31 @@ pub fn way(alloc: Global, grid: &Grid, start: Point, goal: Point) -> Result<Way,
     way_forwards(alloc, grid, &mut trail, start, goal)
 }
 
-/// The rooms of searches, which are kept from one to the next. What they hold changes no answer.
+// From which detour on a search counts, which is how much more its way costs than the straight one: landmarks spare little where ways
+// are nearly straight.
+const FAR_ABOUT: u32 = 1_000;
+
+// After which detours of all searches landmarks are set, which takes about as long as these searches did.
+const MANY: u32 = 60_000;
+
+/// The rooms of searches, which are kept from one to the next, and landmarks of the ground where ways are winding. What they hold
+/// changes no answer.
 #[derive(Drop)]
 pub struct Searcher {
     rooms: Option<Search>,
     marks: Option<Marks>,
     trail: Option<Vec<Cell>>,
+    atlas: Option<Atlas>,
+    detours: u32,
 }
 
 impl Searcher {
     ghost use Rattle.{sim_grid.specs.Grids.field_of_grid, sim_search.specs.Floods.label_in, sim_search.specs.Queues.Ready, sim_search.specs.Regions.AreLabels};
-    ghost use Rattle.std.specs.Prelude.{◌≡◌, ◌^◌, ◌<◌, true, IfOk, OnOk, IsTrue};
-    ghost use Rattle.sim_base.specs.{Places.cell_of as cell_at, Places.is_inside, WayOf.way_of, Ways.IsFound, Ways.IsWay};
-    ghost use Rattle.sim_path.specs.{Answers.way_in, Floors.IsFront, WayEnds.AreEnds, WayEnds.IsTrailToEnd};
+    ghost use Rattle.std.specs.Prelude.{◌≡◌, ◌^◌, ◌<◌, true, IfOk, IfSome, OnOk, IsTrue};
+    ghost use Rattle.sim_base.specs.{Places.cell_of as cell_at, Places.is_inside, WayOf.way_of, Ways.IsFound, Ways.IsWay, declared.place.Cell.Cell};
+    ghost use Rattle.sim_base.specs.Steps.{IsOnGround, octile};
+    ghost use Rattle.{sim_grid.specs.Grids.is_open_at, sim_search.specs.Rows.AreLandmarks, sim_search.specs.Rows.row_in};
+    ghost use Rattle.sim_path.specs.{Answers.way_in, Atlases.ground_in, Floors.IsFront, WayEnds.AreEnds, WayEnds.IsTrailToEnd};
 
     /// A searcher that has no rooms yet.
     pub fn new() -> Searcher {
@@ -167,6 +183,8 @@ impl Searcher {
             rooms: None,
             marks: None,
             trail: None,
+            atlas: None,
+            detours: 0,
         }
     }
 
@@ -276,8 +294,32 @@ impl Searcher {
         found
     }
 
-    // Makes the trail back from the best of these ends by a search. Where the goal is far and a milestone before it is
-    // come to, a way back is tried before all cells are gone through that cost as little.
+    // What is kept of this ground, if anything is.
+    fn atlas_of(&mut self, grid: &Grid) -> Option<Atlas>
+        ensures { IfSome result (λ atlas. ground_in atlas.cells ≡ grid.now) }
+    {
+        let atlas = self.atlas.take()?;
+        if atlas.is_of(grid) { Some(atlas) } else { None }
+    }
+
+    // Notes the detour of a search from a cell, and sets landmarks after many. They are only kept, so want of memory is no refusal.
+    fn note(&mut self, alloc: Global, grid: &Grid, from: Cell, detour: u32)
+        requires on { IsOnGround grid.now.size from }
+        requires is_open { is_open_at grid.now from ≡ true }
+    {
+        if detour < FAR_ABOUT {
+            return;
+        }
+        self.detours = self.detours.saturating_add(detour);
+        if MANY < self.detours {
+            self.detours = 0;
+            if let Ok(atlas) = Atlas::of(alloc, grid, from) {
+                self.atlas = Some(atlas);
+            }
+        }
+    }
+
+    // Makes the trail back from the best of these ends by a search, with landmarks where some are kept of this ground.
     fn search(
         &mut self,
         alloc: Global,
@@ -294,39 +336,105 @@ impl Searcher {
         ensures { OnOk result (IsTrailToEnd (field_of_grid grid.now) (cell_at start.now) (cell_at goal.now) trail.new.items) }
     {
         let from = grid.cell_of(*start);
-        let to = grid.cell_of(*goal);
-        let aim = Aim { goal: to, near };
-        let stage = started(alloc, grid, self.rooms.take(), aim, from)?;
-        let Some(milestone) = milestone(grid, from, to, near) else {
-            return self.finish(alloc, grid, stage, trail, near, ends, start, goal);
-        };
-        let stage = go_on(alloc, stage, grid, aim, &[milestone, to])?;
-        let (costs, key) = (&stage.search.costs, stage.key);
-        let front = Front { costs, aim, key };
-        if self.go_back(alloc, grid, &front, trail, near, ends, start, goal)? {
-            self.rooms = Some(search_of(stage));
+        if near != 0 || !grid.open(from) {
+            self.search_straight(alloc, grid, trail, near, ends, start, goal)?;
             return Ok(());
         }
-        self.finish(alloc, grid, stage, trail, near, ends, start, goal)
+        if let Some(atlas) = self.atlas_of(grid) {
+            let found = self.search_ahead(alloc, grid, &atlas.landmarks, trail, ends, start, goal);
+            self.atlas = Some(atlas);
+            return found;
+        }
+        let detour = self.search_straight(alloc, grid, trail, near, ends, start, goal)?;
+        self.note(alloc, grid, from, detour);
+        Ok(())
     }
 
-    // Makes the trail back by all that a search can tell.
-    fn finish(
+    // The same with these landmarks, to the goal itself.
+    fn search_ahead(
         &mut self,
         alloc: Global,
         grid: &Grid,
-        stage: Stage,
+        landmarks: &Landmarks,
         trail: &mut Vec<Cell>,
-        near: u32,
         ends: &[Cell],
         start: &Point,
         goal: &Point,
     ) -> Result<(), OutOfMemory>
         requires start { IsTrue (is_inside grid.now.size start.now) }
         requires goal { IsTrue (is_inside grid.now.size goal.now) }
+        requires is_open { is_open_at grid.now (cell_at start.now) ≡ true }
+        requires landmarks { AreLandmarks (field_of_grid grid.now) (row_in landmarks.now) }
+        requires ends { AreEnds (field_of_grid grid.now) (cell_at start.now) (cell_at goal.now) 0 ends.now }
+        ensures { OnOk result (IsTrailToEnd (field_of_grid grid.now) (cell_at start.now) (cell_at goal.now) trail.new.items) }
+    {
+        let from = grid.cell_of(*start);
+        let aim = Aim {
+            goal: grid.cell_of(*goal),
+            near: 0,
+        };
+        let guide = Ahead::of(aim, landmarks);
+        let stage = started(alloc, grid, self.rooms.take(), guide, from)?;
+        self.finish(alloc, grid, stage, guide, trail, 0, ends, start, goal)?;
+        Ok(())
+    }
+
+    // The same by the octile estimate, and how much more the search had to reckon with than that. Where the goal is far and a
+    // milestone before it is come to, a way back is tried before all cells are gone through that cost as little.
+    fn search_straight(
+        &mut self,
+        alloc: Global,
+        grid: &Grid,
+        trail: &mut Vec<Cell>,
+        near: u32,
+        ends: &[Cell],
+        start: &Point,
+        goal: &Point,
+    ) -> Result<u32, OutOfMemory>
+        requires start { IsTrue (is_inside grid.now.size start.now) }
+        requires goal { IsTrue (is_inside grid.now.size goal.now) }
+        requires ends { AreEnds (field_of_grid grid.now) (cell_at start.now) (cell_at goal.now) near ends.now }
+        ensures { OnOk result (IsTrailToEnd (field_of_grid grid.now) (cell_at start.now) (cell_at goal.now) trail.new.items) }
+    {
+        let from = grid.cell_of(*start);
+        let to = grid.cell_of(*goal);
+        let aim = Aim { goal: to, near };
+        let stage = started(alloc, grid, self.rooms.take(), aim, from)?;
+        let begun = stage.key;
+        let Some(milestone) = milestone(grid, from, to, near) else {
+            let key = self.finish(alloc, grid, stage, aim, trail, near, ends, start, goal)?;
+            return Ok(key.saturating_sub(begun));
+        };
+        let stage = go_on(alloc, stage, grid, aim, &[milestone, to])?;
+        let (costs, key) = (&stage.search.costs, stage.key);
+        let front = Front { costs, aim, key };
+        if self.go_back(alloc, grid, &front, trail, near, ends, start, goal)? {
+            self.rooms = Some(search_of(stage));
+            return Ok(key.saturating_sub(begun));
+        }
+        let key = self.finish(alloc, grid, stage, aim, trail, near, ends, start, goal)?;
+        Ok(key.saturating_sub(begun))
+    }
+
+    // Makes the trail back by all that a search can tell, and answers the key to which it has come.
+    fn finish<A: Guide>(
+        &mut self,
+        alloc: Global,
+        grid: &Grid,
+        stage: Stage,
+        guide: A,
+        trail: &mut Vec<Cell>,
+        near: u32,
+        ends: &[Cell],
+        start: &Point,
+        goal: &Point,
+    ) -> Result<u32, OutOfMemory>
+        requires start { IsTrue (is_inside grid.now.size start.now) }
+        requires goal { IsTrue (is_inside grid.now.size goal.now) }
         requires ends { AreEnds (field_of_grid grid.now) (cell_at start.now) (cell_at goal.now) near ends.now }
         requires from { stage.search.start ≡ cell_at start.now }
-        requires ready { Ready (estimate_to (record { goal = cell_at goal.now; near = near })) (field_of_grid grid.now) stage.search stage.key 0 }
+        requires none_left { (c : Cell) → octile c (cell_at goal.now) ≡ near → A.estimate_of guide c ≡ 0 }
+        requires ready { Ready (A.estimate_of guide) (field_of_grid grid.now) stage.search stage.key 0 }
         requires small { stage.key < 2 ^ 26 }
         ensures { OnOk result (IsTrailToEnd (field_of_grid grid.now) (cell_at start.now) (cell_at goal.now) trail.new.items) }
     {
@@ -335,12 +443,13 @@ impl Searcher {
             goal: grid.cell_of(*goal),
             near,
         };
-        let stage = go_on(alloc, stage, grid, aim, ends)?;
-        let costs = &stage.search.costs;
+        let stage = go_on(alloc, stage, grid, guide, ends)?;
+        let (costs, key) = (&stage.search.costs, stage.key);
         let end = way_end(grid, costs, aim, ends, from);
         let found = trail_back(grid, costs, trail, end, start, goal);
         self.rooms = Some(search_of(stage));
-        found
+        found?;
+        Ok(key)
     }
 }
 

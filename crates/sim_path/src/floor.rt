@@ -6,7 +6,7 @@ ghost use Rattle.sim_path.specs.Floors.{floor_of, IsUnknown, left_of};
 
 use sim_base::Cell;
 use sim_grid::octile;
-use sim_search::{Aim, Costs, estimate};
+use sim_search::{Aim, Costs, Guide};
 
 /// The costs that a search knows, where it has taken the cells of lower keys than this one.
 #[derive(Clone, Copy)]
@@ -20,7 +20,7 @@ pub struct Front<'a> {
 pub fn left_at(front: &Front, cell: Cell) -> u32
     ensures { result ≡ left_of front.now cell }
 {
-    front.key.saturating_sub(estimate(front.aim, cell))
+    front.key.saturating_sub(front.aim.estimate(cell))
 }
 
 /// What a walk from the start to a cell costs at least. The octile distance is reckoned only where it matters.

@@ -16,7 +16,7 @@ pub use Rattle.sim_grid.specs.{Grids.is_open_at, StepBits.AreStepsFrom, StepBits
 pub use Rattle.sim_laws.proofs.{Ground.same_by_parts, Ground.same_cell-self, Ground.same_cell-true, Trips.walk-on}
 pub use Rattle.sim_laws.proofs.Neighbours.{cell_at-is, cell_at-some, neighbour-back, neighbour-below_eight, neighbour-on, straight-in_line}
 pub use Rattle.sim_search.specs.{Comes.AreCostsUpTo, Comes.HasStopped, Comes.IsComeTo, NumberTables.entry_in, NumberTables.place_at, NumberTables.size_in}
-pub use Rattle.sim_search.specs.{Common.place_of, Common.Size, Common.step_cost, Common.Walk, Estimates.estimate_to, Estimates.IsEstimate, Estimates.IsNear}
+pub use Rattle.sim_search.specs.{Common.place_of, Common.Size, Common.step_cost, Common.Walk, Estimates.estimate_to, Estimates.IsEstimate, Estimates.IsGuide}
 pub use Rattle.sim_search.specs.{Moves.AreMoves, Moves.may_go, Moves.step_to, Queues.untaken, Queues.Waits, RegionLaws.LabelsTell, RegionLaws.NoLabelIsClosed}
 pub use Rattle.sim_search.specs.Common.{beside_open, bit_at, Cell, Field, field_of_grid, is_free, is_straight, IsCost, IsOnGround, IsStep, neighbour, octile}
 pub use Rattle.sim_search.specs.Floods.{Fills, Flooded, Floods, HasLabel, is_late, is_none_late, Marks, Spreads, unlabelled, work_left}
@@ -25,4 +25,4 @@ pub use Rattle.sim_search.specs.Regions.{alone, AreLabels, beside, HasShoreLabel
 pub use Rattle.sim_search.specs.Tables.{AreCosts, cost_in, entry_at, has_cell, is_lower_than, known, read_entry, size_of}
 pub use Rattle.sim_search.specs.Taking.{HasCost, IsSearch}
 pub use Rattle.sim_search.specs.TakingLaws.{LoweringKeeps, TakenInOrder, TakenIsLeast, TakingKeeps}
-pub use Rattle.sim_search.specs.declared.{aim.Aim.Aim, entry.Entry.Entry, labels.Flood.Flood, search.Search.Search, table.Table.Table}
+pub use Rattle.sim_search.specs.declared.{aim.Aim.Aim, costs.Costs.Costs, entry.Entry.Entry, labels.Flood.Flood, search.Search.Search, table.Table.Table}

@@ -1,21 +1,12 @@
--- What a lowered cost, a taken cell and an emptied bucket leave of a search by buckets, for every estimate that fits the ring.
+-- What a lowered cost, a taken cell and an emptied bucket leave of a search by buckets, for every estimate that guides it.
 use Rattle.sim_search.proofs.{Cells.same_or_not, Taking.all-found, Taking.cost-least, Taking.goes-on, Taking.lowers, Taking.takes, Taking.walk-found}
-use Rattle.sim_search.proofs.{Moves.direction-of, Moves.step-of, Octile.estimate-even, Octile.estimate-falls, Octile.estimate-rises, Octile.walk-even}
-use Rattle.sim_search.proofs.Common.{IsEstimate, IsKept, IsLowered, IsNear, IsSearch, IsStep, Lowers, Progress, Ready, Search, set-get_or, Size, size_of, stay}
+use Rattle.sim_search.proofs.{Moves.direction-of, Moves.step-of, Octile.walk-even}
+use Rattle.sim_search.proofs.Common.{IsGuide, IsKept, IsLowered, IsSearch, IsStep, Lowers, Progress, Ready, Search, set-get_or, Size, size_of, stay}
 use Rattle.sim_search.proofs.Common.{cases_Bool, cases_eq, Cell, Contains-append_left, Contains-push, cost_in, Drains, Empties, entry_at, eq-or-lt_of_le}
-use Rattle.sim_search.proofs.Common.{estimate_to, Expands, Field, get_or-set_other, get_or-set_same, HasCost, HasStopped, inl, inr, IsComeTo, IsCost}
-use Rattle.sim_search.proofs.Common.{get_or, set, Some, None, Contains, count_by, Option, refl, Aim, ap, ap₂, AreCosts, AreCostsUpTo, arith, Begins, bucket_in}
+use Rattle.sim_search.proofs.Common.{Expands, Field, get_or-set_other, get_or-set_same, HasCost, HasStopped, inl, inr, IsComeTo, IsCost}
+use Rattle.sim_search.proofs.Common.{get_or, set, Some, None, Contains, count_by, Option, refl, ap, ap₂, AreCosts, AreCostsUpTo, arith, Begins, bucket_in}
 use Rattle.sim_search.proofs.Common.{step_cost, step_to, subst, sym, taken_in, takens, Takes, true≢false, untaken, Waits, Walk, ⊎_elim, ◌∙◌}
 use Rattle.sim_search.proofs.Common.{◌≡◌, ℕ, zero, suc, ◌+◌, ◌-◌, ◌*◌, ◌%◌, ◌<◌, ◌≤◌, Bool, true, false, cond, not, ◌≢◌, ◌⊎◌, List, [], ◌∷◌, ◌++◌, length}
-
--- an estimate that falls by at most a step's cost, and with which the keys of waiting cells fit the ring
-pub record IsFit (h : Cell → ℕ) (field : Field) (start : Cell) : Type 0 where
-  pub falls : IsEstimate (IsStep field start) h
-  pub rises : IsNear (IsStep field start) h 32
-  pub even : (c : Cell) → h c % 2 ≡ 0
-
-pub estimate_to-fits : (aim : Aim) (field : Field) (start : Cell) → IsFit (estimate_to aim) field start
-estimate_to-fits aim field start = record { falls = estimate-falls aim field start; rises = estimate-rises aim field start; even = estimate-even aim }
 
 ring-length : (s : Search) → length s.buckets.items ≡ 32
 ring-length s = omega (arith, s.ring, s.buckets.ok.0)
@@ -48,7 +39,7 @@ bucket_grows q j b y x h is_in = by (cases_eq b j)
 
 -- ---- a cost is lowered
 
-module _ (h : Cell → ℕ) (field : Field) (old new : Search) (u to : Cell) (d k : ℕ) (fit : IsFit h field old.start) (at_u : cost_in old.costs u ≡ Some d)
+module _ (h : Cell → ℕ) (field : Field) (old new : Search) (u to : Cell) (d k : ℕ) (at_u : cost_in old.costs u ≡ Some d)
     (step : IsStep field old.start u to k) (l : Lowers h old new to (d + k)) where
   -- a cost only falls
   pub falls : (c : Cell) (n : ℕ) → HasCost (cost_in old.costs) c n → HasCost (cost_in new.costs) c n
@@ -91,10 +82,11 @@ module _ (h : Cell → ℕ) (field : Field) (old new : Search) (u to : Cell) (d 
       lowered : IsLowered h old new to (d + k) → Drains h field new now rest
       lowered p =
           record {
+            guide = subst (λ (v : Cell). IsGuide field v h) (sym p.start_is) dr.guide;
             size_is = p.size_is ∙ dr.size_is;
             search = same_search h field now (cost_in new.costs) old.start new.start (size_of old.costs) (size_of new.costs) (takens old) (takens new)
                 p.start_is p.size_is p.taken_is
-                (lowers same_or_not fit.falls dr.search (cost_in new.costs) u to k d at_u refl step p.higher p.here p.elsewhere);
+                (lowers same_or_not dr.guide.falls dr.search (cost_in new.costs) u to k d at_u refl step p.higher p.here p.elsewhere);
             near = λ c n e t. near c n e t (same_or_not c to);
             queued = λ c n e t. subst (λ (q : List (List Cell)). ((n + h c ≡ now) × Contains rest c) ⊎ Contains (get_or q ((n + h c) % 32) []) c) (sym p.queued)
                 (queued c n e t (same_or_not c to));
@@ -117,7 +109,7 @@ module _ (h : Cell → ℕ) (field : Field) (old new : Search) (u to : Cell) (d 
               ap₂ (λ (a b : ℕ). a + b) equal (ap h f)
 
           near : (c : Cell) (n : ℕ) → cost_in new.costs c ≡ Some n → taken_in new c ≡ false → (c ≡ to) ⊎ (c ≢ to) → n + h c < now + 32
-          near c n e t (inl f) = omega (arith, total_is c n e f, fit.rises.rises u to k step)
+          near c n e t (inl f) = omega (arith, total_is c n e f, dr.guide.rises u to k d (dr.search.walks u d at_u) step)
           near c n e t (inr f) = dr.near c n (sym (p.elsewhere c f) ∙ e) (sym (same_taken c) ∙ t)
 
           queued : (c : Cell) (n : ℕ) → cost_in new.costs c ≡ Some n → taken_in new c ≡ false → (c ≡ to) ⊎ (c ≢ to) → ((n + h c ≡ now) × Contains rest c)
@@ -160,16 +152,16 @@ pub expanding_begins : (h : Cell → ℕ) (field : Field) (first : Search) (from
 expanding_begins h field first from cost e =
     record { kept = λ rest dr. dr; from_is = e; start_is = refl; size_is = refl; taken_is = refl; steps = λ b j lt f. absurd (omega arith) }
 
-pub expanding_more : (h : Cell → ℕ) (field : Field) (first old new : Search) (from to : Cell) (cost which : ℕ) → ((start : Cell) → IsFit h field start)
+pub expanding_more : (h : Cell → ℕ) (field : Field) (first old new : Search) (from to : Cell) (cost which : ℕ)
     → Expanding h field first old from cost which → step_to field old.start from which ≡ Some to →
     Lowers h old new to (cost + step_cost which) → Expanding h field first new from cost (which + 1)
-expanding_more h field first old new from to cost which fit x e l =
+expanding_more h field first old new from to cost which x e l =
     record {
-      kept = λ rest dr. drains_on h field old new from to cost (step_cost which) (fit old.start) x.from_is step l rest (x.kept rest dr);
-      from_is = keeps_cost h field old new from to cost (step_cost which) (fit old.start) x.from_is step l;
-      start_is = start_stays h field old new from to cost (step_cost which) (fit old.start) x.from_is step l ∙ x.start_is;
-      size_is = size_stays h field old new from to cost (step_cost which) (fit old.start) x.from_is step l ∙ x.size_is;
-      taken_is = taken_stays h field old new from to cost (step_cost which) (fit old.start) x.from_is step l ∙ x.taken_is;
+      kept = λ rest dr. drains_on h field old new from to cost (step_cost which) x.from_is step l rest (x.kept rest dr);
+      from_is = keeps_cost h field old new from to cost (step_cost which) x.from_is step l;
+      start_is = start_stays h field old new from to cost (step_cost which) x.from_is step l ∙ x.start_is;
+      size_is = size_stays h field old new from to cost (step_cost which) x.from_is step l ∙ x.size_is;
+      taken_is = taken_stays h field old new from to cost (step_cost which) x.from_is step l ∙ x.taken_is;
       steps = λ b j lt f. steps b j f (eq-or-lt_of_le lt);
     }
   where
@@ -182,9 +174,9 @@ expanding_more h field first old new from to cost which fit x e l =
         let j_is : j ≡ which = omega arith in
         let both : Some to ≡ Some b = sym e ∙ ap₂ (λ (s : Cell) (w : ℕ). step_to field s from w) x.start_is (sym j_is) ∙ f in
         let to_is : to ≡ b = cc in
-        let r = reached h field old new from to cost (step_cost which) (fit old.start) x.from_is step l in
+        let r = reached h field old new from to cost (step_cost which) x.from_is step l in
         record { value = r.value; is = ap (cost_in new.costs) (sym to_is) ∙ r.is; low = omega (arith, r.low, ap step_cost j_is) }
-    steps b j f (inr before) = falls h field old new from to cost (step_cost which) (fit old.start) x.from_is step l b (cost + step_cost j)
+    steps b j f (inr before) = falls h field old new from to cost (step_cost which) x.from_is step l b (cost + step_cost j)
         (x.steps b j (omega arith) f)
 
 pub expanding_none : (h : Cell → ℕ) (field : Field) (first s : Search) (from : Cell) (cost which : ℕ) → Expanding h field first s from cost which
@@ -234,6 +226,7 @@ pub drains_past : (h : Cell → ℕ) (field : Field) (s : Search) (now : ℕ) (x
     → Drains h field s now (x ∷ rest) → Drains h field s now rest
 drains_past h field s now x rest stale dr =
     record {
+      guide = dr.guide;
       size_is = dr.size_is;
       search = dr.search;
       near = dr.near;
@@ -248,17 +241,18 @@ drains_past h field s now x rest stale dr =
     }
 
 -- the first of the rest is taken
-pub drains_taken : (h : Cell → ℕ) (field : Field) (old new : Search) (now : ℕ) (x : Cell) (d : ℕ) (rest : List Cell) → ((start : Cell) → IsFit h field start)
+pub drains_taken : (h : Cell → ℕ) (field : Field) (old new : Search) (now : ℕ) (x : Cell) (d : ℕ) (rest : List Cell)
     → Takes old new x → cost_in old.costs x ≡ Some d → d + h x ≡ now →
     ((b : Cell) (k : ℕ) → IsStep field old.start x b k → HasCost (cost_in old.costs) b (d + k)) → Drains h field old now (x ∷ rest)
     → Drains h field new now rest
-drains_taken h field old new now x d rest fit t at_x key steps dr =
+drains_taken h field old new now x d rest t at_x key steps dr =
     record {
+      guide = subst (λ (v : Cell). IsGuide field v h) (sym t.start_is) dr.guide;
       size_is = ap size_of t.costs_are ∙ dr.size_is;
       search =
           subst (λ (s : Cell). IsSearch (IsStep field s) s h (cost_in new.costs) (taken_in new) now) (sym t.start_is)
           (subst (λ (v : Cell → Option ℕ). IsSearch (IsStep field old.start) old.start h v (taken_in new) now) (ap cost_in (sym t.costs_are))
-          (takes same_or_not (fit old.start).falls dr.search (taken_in new) x d at_x key steps t.here t.elsewhere));
+          (takes same_or_not dr.guide.falls dr.search (taken_in new) x d at_x key steps t.here t.elsewhere));
       near = λ c n e f. dr.near c n (same_cost c ∙ e) (sym (t.elsewhere c (not_x c f)) ∙ f);
       queued = λ c n e f.
           subst (λ (q : List (List Cell)). ((n + h c ≡ now) × Contains rest c) ⊎ Contains (get_or q ((n + h c) % 32) []) c) (sym t.buckets_are)
@@ -286,11 +280,11 @@ pub draining_past : (h : Cell → ℕ) (field : Field) (first s : Search) (now :
 draining_past h field first s now x rest any stale t = record { drains = drains_past h field s now x rest stale t.drains; progress = t.progress }
 
 pub draining_taken : (h : Cell → ℕ) (field : Field) (first s expanded new : Search) (now : ℕ) (x : Cell) (d : ℕ) (rest : List Cell) (any : Bool)
-    → ((start : Cell) → IsFit h field start) → Waits h s now x d → Expands h field s expanded x d → Takes expanded new x →
+    → Waits h s now x d → Expands h field s expanded x d → Takes expanded new x →
     Draining h field first s now (x ∷ rest) any → Draining h field first new now rest true
-draining_taken h field first s expanded new now x d rest any fit w ex t dr =
+draining_taken h field first s expanded new now x d rest any w ex t dr =
     record {
-      drains = drains_taken h field expanded new now x d rest fit t ex.from_is w.key
+      drains = drains_taken h field expanded new now x d rest t ex.from_is w.key
           (λ b k step. ex.steps b k (subst (λ (v : Cell). IsStep field v x b k) ex.start_is step))
           (subst (λ (n : ℕ). Drains h field expanded n (x ∷ rest)) w.key
           (ex.kept (x ∷ rest) (subst (λ (n : ℕ). Drains h field s n (x ∷ rest)) (sym w.key) dr.drains)));
@@ -323,6 +317,7 @@ pub drains_first : (h : Cell → ℕ) (field : Field) (old new : Search) (now id
     → Drains h field new now (bucket_in old (now % 32))
 drains_first h field old new now idle r t =
     record {
+      guide = subst (λ (v : Cell). IsGuide field v h) (sym t.start_is) r.guide;
       size_is = ap size_of t.costs_are ∙ r.size_is;
       search = same_search h field now (cost_in new.costs) old.start new.start (size_of old.costs) (size_of new.costs) (takens old) (takens new) t.start_is
           (ap size_of t.costs_are) t.taken_is
@@ -357,6 +352,7 @@ pub ready_again : (h : Cell → ℕ) (field : Field) (s : Search) (now : ℕ) �
 ready_again h field s now even d =
     record {
       even = even;
+      guide = d.guide;
       size_is = d.size_is;
       search = d.search;
       near = λ c n e f. omega (arith, d.near c n e f);
@@ -370,23 +366,24 @@ ready_again h field s now even d =
 -- how many keys have had no cell to take may be forgotten
 pub ready_anew : (h : Cell → ℕ) (field : Field) (s : Search) (now idle : ℕ) → Ready h field s now idle → Ready h field s now 0
 ready_anew h field s now idle r =
-    record { even = r.even; size_is = r.size_is; search = r.search; near = λ c n e f. omega (arith, r.near c n e f); queued = r.queued }
+    record { even = r.even; guide = r.guide; size_is = r.size_is; search = r.search; near = λ c n e f. omega (arith, r.near c n e f); queued = r.queued }
 
 -- a bucket had no cell to take, and the search goes on to the next even key
-pub ready_next : (h : Cell → ℕ) (field : Field) (old new : Search) (now idle : ℕ) → ((start : Cell) → IsFit h field start) → Ready h field old now idle
+pub ready_next : (h : Cell → ℕ) (field : Field) (old new : Search) (now idle : ℕ) → Ready h field old now idle
     → Empties old new (now % 32) → Drains h field new now [] → Ready h field new (now + 2) (idle + 2)
-ready_next h field old new now idle fit r t d =
+ready_next h field old new now idle r t d =
     let again = ready_again h field new now r.even d in
     record {
       even = omega (arith, r.even);
+      guide = d.guide;
       size_is = d.size_is;
       search =
           subst (λ (n : ℕ). IsSearch (IsStep field new.start) new.start h (cost_in new.costs) (taken_in new) n) two
-          (goes-on same_or_not (fit new.start).falls
-          (goes-on same_or_not (fit new.start).falls d.search
+          (goes-on same_or_not d.guide.falls
+          (goes-on same_or_not d.guide.falls d.search
           (λ c n e f key.
           nothing_in c (subst (λ (xs : List Cell). Contains xs c) emptied (subst (λ (v : ℕ). Contains (bucket_in new (v % 32)) c) key (again.queued c n e f)))))
-          (λ c n e f key. omega (arith, key, r.even, (fit new.start).even c, walk-even field new.start (d.search.walks c n e))));
+          (λ c n e f key. omega (arith, key, r.even, d.guide.even c, walk-even field new.start (d.search.walks c n e))));
       near = λ c n e f. omega (arith, r.near c n (same_cost c ∙ e) (same_taken c ∙ f));
       queued = again.queued;
     }
@@ -405,9 +402,9 @@ ready_next h field old new now idle fit r t d =
     same_taken c = ap₂ (λ (size : Size) (xs : List Bool). entry_at false size xs c) (ap size_of (sym t.costs_are)) (sym t.taken_is)
 
 -- a bucket is empty, and the search goes on to the next even key
-pub ready_passed : (h : Cell → ℕ) (field : Field) (s : Search) (now idle : ℕ) → ((start : Cell) → IsFit h field start) → Ready h field s now idle
+pub ready_passed : (h : Cell → ℕ) (field : Field) (s : Search) (now idle : ℕ) → Ready h field s now idle
     → bucket_in s (now % 32) ≡ [] → Ready h field s (now + 2) (idle + 2)
-ready_passed h field s now idle fit r none = ready_next h field s s now idle fit r
+ready_passed h field s now idle r none = ready_next h field s s now idle r
     (record {
       start_is = refl;
       costs_are = refl;
@@ -417,7 +414,7 @@ ready_passed h field s now idle fit r none = ready_next h field s s now idle fit
     }) drains
   where
     drains : Drains h field s now []
-    drains = record { size_is = r.size_is; search = r.search; near = λ c n e f. omega (arith, r.near c n e f); queued = λ c n e f. inr (r.queued c n e f) }
+    drains = record { guide = r.guide; size_is = r.size_is; search = r.search; near = λ c n e f. omega (arith, r.near c n e f); queued = λ c n e f. inr (r.queued c n e f) }
 
 -- after as many buckets with no cell to take as there are, none waits
 ready_last : (h : Cell → ℕ) (field : Field) (s : Search) (now idle : ℕ) → 32 ≤ idle → Ready h field s now idle → (c : Cell) (d : ℕ) → cost_in s.costs c ≡ Some d
@@ -428,13 +425,13 @@ ready_last h field s now idle all r c d e = by (cases_Bool (taken_in s c))
     by (inl f) = f
     by (inr f) = absurd (omega (arith, r.near c d e f, r.search.waiting c d e f))
 
-pub costs-found : (h : Cell → ℕ) (field : Field) (s : Search) (now idle : ℕ) → ((start : Cell) → IsFit h field start) → 32 ≤ idle → Ready h field s now idle
+pub costs-found : (h : Cell → ℕ) (field : Field) (s : Search) (now idle : ℕ) → 32 ≤ idle → Ready h field s now idle
     → AreCosts field s.start (cost_in s.costs)
-costs-found h field s now idle fit last r =
+costs-found h field s now idle last r =
     record {
       least = least;
       all = λ c d w.
-          let v = all-found same_or_not (fit s.start).falls r.search (ready_last h field s now idle last r) w.walk in
+          let v = all-found same_or_not r.guide.falls r.search (ready_last h field s now idle last r) w.walk in
           let own = least c v.value v.is in
           let equal : v.value ≡ d = omega (arith, v.low, w.least v.value own.walk) in
           v.is ∙ ap Some equal;
@@ -445,19 +442,19 @@ costs-found h field s now idle fit last r =
         let (v, is, le) = r.search.passed c (ready_last h field s now idle last r c d e) in
         let both : Some d ≡ Some v = sym e ∙ is in
         let equal : d ≡ v = cc in
-        cost-least same_or_not (fit s.start).falls r.search c d e (omega arith)
+        cost-least same_or_not r.guide.falls r.search c d e (omega arith)
 
 -- what has its least cost before all cells have been taken
-pub costs-up_to : (h : Cell → ℕ) (field : Field) (s : Search) (now idle bound : ℕ) → ((start : Cell) → IsFit h field start) → Ready h field s now idle
+pub costs-up_to : (h : Cell → ℕ) (field : Field) (s : Search) (now idle bound : ℕ) → Ready h field s now idle
     → bound < now → AreCostsUpTo field s.start h bound (cost_in s.costs)
-costs-up_to h field s now idle bound fit r lt =
+costs-up_to h field s now idle bound r lt =
     record {
       least = least;
-      all = λ c d w low. all c d w low (walk-found same_or_not (fit s.start).falls r.search w.walk);
+      all = λ c d w low. all c d w low (walk-found same_or_not r.guide.falls r.search w.walk);
     }
   where
     least : (c : Cell) (d : ℕ) → cost_in s.costs c ≡ Some d → d + h c ≤ bound → IsCost field s.start c d
-    least c d e low = cost-least same_or_not (fit s.start).falls r.search c d e (omega arith)
+    least c d e low = cost-least same_or_not r.guide.falls r.search c d e (omega arith)
 
     all : (c : Cell) (d : ℕ) → IsCost field s.start c d → d + h c ≤ bound → (now ≤ d + h c) ⊎ HasCost (cost_in s.costs) c d → cost_in s.costs c ≡ Some d
     all c d w low (inl le) = absurd (omega arith)
@@ -467,21 +464,22 @@ costs-up_to h field s now idle bound fit r lt =
         v.is ∙ ap Some equal
 
 -- a search that has come to an end may stop
-pub stopped : (h : Cell → ℕ) (field : Field) (s : Search) (now idle : ℕ) (ends : List Cell) → ((start : Cell) → IsFit h field start) → Ready h field s now idle
+pub stopped : (h : Cell → ℕ) (field : Field) (s : Search) (now idle : ℕ) (ends : List Cell) → Ready h field s now idle
     → IsComeTo (cost_in s.costs) ends now → HasStopped field s.start h ends (cost_in s.costs)
-stopped h field s zero idle ends fit r come = absurd (omega (arith, come.below))
-stopped h field s (suc n) idle ends fit r come =
+stopped h field s zero idle ends r come = absurd (omega (arith, come.below))
+stopped h field s (suc n) idle ends r come =
     record {
       bound = n;
       come = record { end = come.end; value = come.value; among = come.among; reached = come.reached; below = omega (arith, come.below) };
-      up_to = costs-up_to h field s (suc n) idle n fit r (omega arith);
+      up_to = costs-up_to h field s (suc n) idle n r (omega arith);
     }
 
-pub ready_begins : (h : Cell → ℕ) (size : Size) (is_open : Cell → Bool) (start : Cell) (s : Search) → h start % 2 ≡ 0 → Begins h size start s
-    → Ready h (record { size = size; is_open = is_open }) s (h start) 0
-ready_begins h size is_open start s even b =
+pub ready_begins : (h : Cell → ℕ) (size : Size) (is_open : Cell → Bool) (start : Cell) (s : Search) → IsGuide (record { size = size; is_open = is_open }) start h
+    → Begins h size start s → Ready h (record { size = size; is_open = is_open }) s (h start) 0
+ready_begins h size is_open start s guide b =
     record {
-      even = even;
+      even = guide.even start;
+      guide = subst (λ (v : Cell). IsGuide field v h) (sym b.start_is) guide;
       size_is = b.size_is;
       search = record {
         begins = ap (cost_in s.costs) b.start_is ∙ b.here;
@@ -516,10 +514,10 @@ pub record Round (h : Cell → ℕ) (field : Field) (old new : Search) (now now'
   pub falls : now' + (33 * untaken new + (33 - idle')) ≤ now + (33 * untaken old + (33 - idle))
   pub smaller : 33 * untaken new + (33 - idle') < 33 * untaken old + (33 - idle)
 
-pub round-of : (h : Cell → ℕ) (field : Field) (old between new : Search) (now now' idle idle' : ℕ) (any : Bool) → ((start : Cell) → IsFit h field start)
+pub round-of : (h : Cell → ℕ) (field : Field) (old between new : Search) (now now' idle idle' : ℕ) (any : Bool)
     → idle < 32 → Ready h field old now idle → Empties old between (now % 32) → Drains h field new now [] → Progress between new any →
     (any ≡ true → (now' ≡ now) × (idle' ≡ 0)) → (any ≡ false → (now' ≡ now + 2) × (idle' ≡ idle + 2)) → Round h field old new now now' idle idle'
-round-of h field old between new now now' idle idle' true fit lt r t d p e f =
+round-of h field old between new now now' idle idle' true lt r t d p e f =
     let (stays, none) = e refl in
     record {
       start_is = p.start_is ∙ t.start_is;
@@ -528,7 +526,7 @@ round-of h field old between new now now' idle idle' true fit lt r t d p e f =
       falls = omega (arith, p.fewer, ap (count_by not) t.taken_is);
       smaller = omega (arith, p.fewer, ap (count_by not) t.taken_is);
     }
-round-of h field old between new now now' idle idle' false fit lt r t d p e f =
+round-of h field old between new now now' idle idle' false lt r t d p e f =
     let (goes, more) = f refl in
     let same : new ≡ between = p.same refl in
     let back : Drains h field between now [] = subst (λ (s : Search). Drains h field s now []) same d in
@@ -536,7 +534,7 @@ round-of h field old between new now now' idle idle' false fit lt r t d p e f =
       start_is = p.start_is ∙ t.start_is;
       ready = subst (λ (n : ℕ). Ready h field new n idle') (sym goes)
           (subst (Ready h field new (now + 2)) (sym more) (subst (λ (s : Search). Ready h field s (now + 2) (idle + 2)) (sym same)
-          (ready_next h field old between now idle fit r t back)));
+          (ready_next h field old between now idle r t back)));
       idle_in = omega arith;
       falls = omega (arith, p.fewer, ap (count_by not) t.taken_is);
       smaller = omega (arith, p.fewer, ap (count_by not) t.taken_is);

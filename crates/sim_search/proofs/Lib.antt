@@ -5,6 +5,8 @@ pub mod Coming
 pub mod Draining
 pub mod Moves
 pub mod Octile
+pub mod Rows
+pub mod Guiding
 pub mod Beginning
 pub mod Regions
 pub mod Floods

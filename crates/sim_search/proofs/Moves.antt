@@ -135,7 +135,7 @@ module _ (field : Field) (start : Cell) where
 
   -- where the start is open, no more cells may be entered than are open
   module _ (start_open : field.is_open start ≡ true) where
-    free-open : (c : Cell) → is_free field start c ≡ field.is_open c
+    pub free-open : (c : Cell) → is_free field start c ≡ field.is_open c
     free-open c = by (cases_Bool (same_cell c start))
       where
         by : (same_cell c start ≡ true) ⊎ (same_cell c start ≡ false) → is_free field start c ≡ field.is_open c

@@ -1,5 +1,5 @@
 -- The octile distance to a cell falls and rises along a step by at most what the step costs.
-use Rattle.sim_search.proofs.Common.{cell_at, cell_at-some, estimate_to, Field, forward, go, ints, IsEstimate, IsNear, IsStep, level, neighbour, octile}
+use Rattle.sim_search.proofs.Common.{cell_at, cell_at-some, estimate_to, Field, forward, go, ints, IsEstimate, IsGuide, IsStep, level, neighbour, octile}
 use Rattle.sim_search.proofs.Common.{same_by_parts, Size, stay, step_cost, subst, sym, Walk}
 use Rattle.sim_search.proofs.Common.{◌≡◌, ℕ, zero, suc, ◌+◌, ◌-◌, ◌*◌, ◌/◌, ◌%◌, ◌≤◌, min, max, ℤ, pos, ◌+ℤ◌, Some, abs_diff, Aim, ap₂, arith, back, Cell}
 
@@ -101,17 +101,21 @@ estimate-falls aim field start = record {
     less : (m n k near : ℕ) → k % 2 ≡ 0 → m ≤ k + n → (m - near) / 2 * 2 ≤ k + (n - near) / 2 * 2
     less m n k near e h = omega arith
 
-pub estimate-rises : (aim : Aim) (field : Field) (start : Cell) → IsNear (IsStep field start) (estimate_to aim) 32
-estimate-rises aim field start = record {
-  rises = λ a b k s. let w = beside_of field start a b k s in more (octile a aim.goal) (octile b aim.goal) k aim.near
-      (even_beside w) (octile-near aim.goal (turned w)) (most_beside w);
-}
+estimate-rises : (aim : Aim) (field : Field) (start a b : Cell) (k : ℕ) → IsStep field start a b k → k + estimate_to aim b + 1 ≤ estimate_to aim a + 32
+estimate-rises aim field start a b k s =
+    let w = beside_of field start a b k s in
+    more (octile a aim.goal) (octile b aim.goal) k aim.near (even_beside w) (octile-near aim.goal (turned w)) (most_beside w)
   where
     more : (m n k near : ℕ) → k % 2 ≡ 0 → n ≤ k + m → k ≤ 14 → k + (n - near) / 2 * 2 + 1 ≤ (m - near) / 2 * 2 + 32
     more m n k near e h l = omega arith
 
-pub estimate-even : (aim : Aim) (c : Cell) → estimate_to aim c % 2 ≡ 0
-estimate-even aim c = twice ((octile c aim.goal - aim.near) / 2)
+-- the octile estimate guides each search
+pub estimate-guides : (aim : Aim) (field : Field) (start : Cell) → IsGuide field start (estimate_to aim)
+estimate-guides aim field start = record {
+  falls = estimate-falls aim field start;
+  rises = λ a b k n w s. estimate-rises aim field start a b k s;
+  even = λ c. twice ((octile c aim.goal - aim.near) / 2);
+}
   where
     twice : (n : ℕ) → n * 2 % 2 ≡ 0
     twice n = omega arith

@@ -10,4 +10,5 @@ pub mod Regions
 pub mod RegionLaws
 pub mod Floods
 pub mod TakingLaws
+pub mod Rows
 pub mod Mending

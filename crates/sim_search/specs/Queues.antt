@@ -2,7 +2,7 @@
 use Rattle.std.specs.Prelude.{slice_set, Some, None, Contains, count_by}
 use Rattle.std.specs.Prelude.{◌≡◌, ℕ, ◌+◌, ◌%◌, ◌<◌, ◌≤◌, Bool, true, false, not, ◌≢◌, ◌⊎◌, List, [], ◌∷◌, ◌++◌, map, if◌then◌else◌, nat_eq, slice_index_or}
 use Rattle.sim_search.specs.{Common.Cell, Common.Field, Common.IsStep, Common.Size, Tables.cost_in, Tables.entry_at, Tables.size_of}
-use Rattle.sim_search.specs.{Taking.HasCost, Taking.IsSearch, declared.search.Search.Search}
+use Rattle.sim_search.specs.{Estimates.IsGuide, Taking.HasCost, Taking.IsSearch, declared.search.Search.Search}
 
 -- which cells were taken: those that have the stamp of this search
 abbrev pub takens : Search → List Bool
@@ -83,6 +83,7 @@ Queued s now rest key c = ((key ≡ now) × Contains rest c) ⊎ Contains (bucke
 
 -- A search that goes through the bucket of the key now, of which the rest is left.
 pub record Drains (estimate : Cell → ℕ) (field : Field) (s : Search) (now : ℕ) (rest : List Cell) : Type 0 where
+  pub guide : IsGuide field s.start estimate
   pub size_is : size_of s.costs ≡ field.size
   pub search : IsSearch (IsStep field s.start) s.start estimate (cost_in s.costs) (taken_in s) now
   pub near : (c : Cell) (d : ℕ) → cost_in s.costs c ≡ Some d → taken_in s c ≡ false → d + estimate c < now + 32
@@ -91,6 +92,7 @@ pub record Drains (estimate : Cell → ℕ) (field : Field) (s : Search) (now : 
 -- A search before the bucket of the key now, where the buckets of that many keys before it had no cell to take. All keys are even.
 pub record Ready (estimate : Cell → ℕ) (field : Field) (s : Search) (now idle : ℕ) : Type 0 where
   pub even : now % 2 ≡ 0
+  pub guide : IsGuide field s.start estimate
   pub size_is : size_of s.costs ≡ field.size
   pub search : IsSearch (IsStep field s.start) s.start estimate (cost_in s.costs) (taken_in s) now
   pub near : (c : Cell) (d : ℕ) → cost_in s.costs c ≡ Some d → taken_in s c ≡ false → d + estimate c + idle < now + 32

@@ -22,9 +22,9 @@ pub struct Costs {
 }
 
 impl Costs {
-    ghost use Rattle.std.specs.Prelude.{◌≡◌, ◌+◌, ◌-◌, ◌*◌, ◌^◌, ◌<◌, ◌↔◌, IsTrue, Some, None};
+    ghost use Rattle.std.specs.Prelude.{◌≡◌, ◌+◌, ◌-◌, ◌*◌, ◌^◌, ◌<◌, ◌↔◌, IsTrue, slice_index_or, Some, None, vec_len};
     ghost use Rattle.sim_search.specs.Common.{Cell, IsOnGround};
-    ghost use Rattle.sim_search.specs.Tables.{cost_in, IsForgotten, IsSet, place_in, read_entry, size_of};
+    ghost use Rattle.sim_search.specs.Tables.{cost_in, IsForgotten, IsSet, known, place_in, read_entry, size_of};
 
     /// Whether the ground has this cell.
     pub(crate) fn has(&self, cell: Cell) -> bool
@@ -51,6 +51,14 @@ impl Costs {
         } else {
             None
         }
+    }
+
+    /// The cost of the cell at this place of the list.
+    pub(crate) fn at_place(&self, place: usize) -> Option<u32>
+        requires { place < vec_len self.now.items }
+        ensures { result ≡ slice_index_or (known self.now) place None }
+    {
+        self.read(self.items[place])
     }
 
     // The cost of an entry, if it is of this search.

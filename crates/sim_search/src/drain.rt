@@ -1,21 +1,21 @@
 //! The search, bucket by bucket: cells are taken by ascending keys, and each one with its least cost.
 
-ghost use Rattle.std.specs.Prelude.{◌≡◌, ◌+◌, ◌^◌, ◌<◌, ◌≤◌, true, false, ◌↔◌, [], IfOk, OnOk, IsTrue, Some};
+ghost use Rattle.std.specs.Prelude.{◌≡◌, ℕ, ◌+◌, ◌^◌, ◌<◌, ◌≤◌, true, false, ◌↔◌, [], IfOk, OnOk, IsTrue, Some};
 ghost use Rattle.sim_search.specs.{Comes.IsComeTo, Comes.IsSearched, Queues.Begins, Queues.Drains, Queues.Expands, Queues.Progress, Queues.Ready};
 ghost use Rattle.sim_search.specs.{Common.Cell, Common.Field, Common.field_of_grid, Common.IsOnGround, Tables.AreCosts, Tables.cost_in, Tables.size_of};
-ghost use Rattle.sim_search.specs.{Estimates.estimate_to, declared.aim.Aim.Aim};
+ghost use Rattle.sim_search.specs.Estimates.{IsGuide};
 
 use crate::queue::{begun, emptied, is_empty, lower, swap_bucket, take, waiting};
-use crate::{Aim, Costs, Search, estimate, moves_from, step, step_cost};
+use crate::{Aim, Costs, Guide, Search, moves_from, step, step_cost};
 use sim_base::{Cell, Items, OutOfMemory};
 use sim_grid::Grid;
 use std::alloc::Global;
 
 // Reckons with the steps from a cell of this cost.
-fn expand(
+fn expand<A: Guide>(
     search: &mut Search,
     grid: &Grid,
-    aim: Aim,
+    aim: A,
     from: Cell,
     cost: u32,
 ) -> Result<(), OutOfMemory>
@@ -23,8 +23,8 @@ fn expand(
     requires start_on { IsOnGround grid.now.size search.old.start }
     requires from_on { IsOnGround grid.now.size from }
     requires label { cost_in search.old.costs from ≡ Some cost }
-    requires small { cost + estimate_to aim from < 2 ^ 31 }
-    ensures { OnOk result (Expands (estimate_to aim) (field_of_grid grid.now) search.old search.new from cost) }
+    requires small { cost < 2 ^ 31 }
+    ensures { OnOk result (Expands (A.estimate_of aim) (field_of_grid grid.now) search.old search.new from cost) }
 {
     let moves = moves_from(grid, search.start, from);
     for which in 0..8u8 {
@@ -36,17 +36,17 @@ fn expand(
 }
 
 // Takes the cells of a bucket that wait by this key, and says whether there was one.
-fn drain(
+fn drain<A: Guide>(
     search: &mut Search,
     grid: &Grid,
-    aim: Aim,
+    aim: A,
     bucket: &[Cell],
     now: u32,
 ) -> Result<bool, OutOfMemory>
     requires start_on { IsOnGround grid.now.size search.old.start }
-    requires drains { Drains (estimate_to aim) (field_of_grid grid.now) search.old now bucket.now }
+    requires drains { Drains (A.estimate_of aim) (field_of_grid grid.now) search.old now bucket.now }
     requires small { now < 2 ^ 31 }
-    ensures done { OnOk result (Drains (estimate_to aim) (field_of_grid grid.now) search.new now []) }
+    ensures done { OnOk result (Drains (A.estimate_of aim) (field_of_grid grid.now) search.new now []) }
     ensures progress { IfOk result (λ any. Progress search.old search.new any) }
 {
     let mut any = false;
@@ -79,8 +79,7 @@ fn is_come_to(costs: &Costs, ends: &[Cell], now: u32) -> bool
 fn passed(search: &Search, mut now: u32, mut idle: u32) -> (u32, u32)
     requires idle { idle < 32 }
     requires small { now < 2 ^ 31 }
-    ensures ready { (aim : Aim) (field : Field) → Ready (estimate_to aim) field search.now now idle → Ready (estimate_to aim) field search.now result.0
-        result.1 }
+    ensures ready { (estimate : Cell → ℕ) (field : Field) → Ready estimate field search.now now idle → Ready estimate field search.now result.0 result.1 }
     ensures gap { result.0 + idle ≡ now + result.1 }
     ensures least { idle ≤ result.1 }
     ensures most { result.1 < 32 }
@@ -97,24 +96,25 @@ fn passed(search: &Search, mut now: u32, mut idle: u32) -> (u32, u32)
 
 /// A search from the start in the rooms of an earlier one, where they fit, before its first key, which is the estimate for
 /// the start. The start counts as open.
-pub fn started(
+pub fn started<A: Guide>(
     alloc: Global,
     grid: &Grid,
     rooms: Option<Search>,
-    aim: Aim,
+    aim: A,
     start: Cell,
 ) -> Result<Stage, OutOfMemory>
     requires start { IsOnGround grid.now.size start }
+    requires guide { IsGuide (field_of_grid grid.now) start (A.estimate_of aim) }
     ensures start { IfOk result (λ stage. stage.search.start ≡ start) }
-    ensures key { IfOk result (λ stage. stage.key ≡ estimate_to aim start) }
-    ensures begins { IfOk result (λ stage. Begins (estimate_to aim) grid.now.size start stage.search) }
-    ensures ready { IfOk result (λ stage. Ready (estimate_to aim) (field_of_grid grid.now) stage.search stage.key 0) }
+    ensures key { IfOk result (λ stage. stage.key ≡ A.estimate_of aim start) }
+    ensures begins { IfOk result (λ stage. Begins (A.estimate_of aim) grid.now.size start stage.search) }
+    ensures ready { IfOk result (λ stage. Ready (A.estimate_of aim) (field_of_grid grid.now) stage.search stage.key 0) }
     ensures small { IfOk result (λ stage. stage.key < 2 ^ 24) }
 {
     let search = begun(alloc, rooms, grid.width(), grid.depth(), aim, start)?;
     Ok(Stage {
         search,
-        key: estimate(aim, start),
+        key: aim.estimate(start),
     })
 }
 
@@ -127,20 +127,20 @@ pub struct Stage {
 
 /// Goes on with a search until one of the ends has a cost below the key, or no cell waits. Of ends whose estimate is 0 it is
 /// then told which costs the least, and how it is reached.
-pub fn go_on(
+pub fn go_on<A: Guide>(
     alloc: Global,
     stage: Stage,
     grid: &Grid,
-    aim: Aim,
+    aim: A,
     ends: &[Cell],
 ) -> Result<Stage, OutOfMemory>
     requires start_on { IsOnGround grid.now.size stage.search.start }
-    requires ready { Ready (estimate_to aim) (field_of_grid grid.now) stage.search stage.key 0 }
+    requires ready { Ready (A.estimate_of aim) (field_of_grid grid.now) stage.search stage.key 0 }
     requires small { stage.key < 2 ^ 26 }
     ensures start { IfOk result (λ next. next.search.start ≡ stage.search.start) }
-    ensures ready { IfOk result (λ next. Ready (estimate_to aim) (field_of_grid grid.now) next.search next.key 0) }
+    ensures ready { IfOk result (λ next. Ready (A.estimate_of aim) (field_of_grid grid.now) next.search next.key 0) }
     ensures small { IfOk result (λ next. next.key ≤ stage.key + 2 ^ 22) }
-    ensures costs { IfOk result (λ next. IsSearched (field_of_grid grid.now) stage.search.start (estimate_to aim) ends.now (cost_in next.search.costs)) }
+    ensures costs { IfOk result (λ next. IsSearched (field_of_grid grid.now) stage.search.start (A.estimate_of aim) ends.now (cost_in next.search.costs)) }
 {
     let Stage {
         mut search,

@@ -5,7 +5,8 @@
 //!
 //! - `steps`: the steps that are allowed.
 //! - `costs`, `entry`: a cost for each cell that the search has come to.
-//! - `aim`: where a search goes, and what is known of the cost from a cell on.
+//! - `aim`: what is known of the cost from a cell on, and where a search goes.
+//! - `landmarks`, `row`, `survey`, `ahead`: least costs from a few cells of a ground, and what they tell of the cost from a cell on.
 //! - `search`, `queue`, `drain`: the search, by buckets of cells that wait at one cost and estimate, and how far it has
 //!   come.
 //! - `labels`, `table`: labels of regions, which tell what is reached.
@@ -14,24 +15,31 @@
 //!   nothing.
 #![tactic(auto)]
 
+mod ahead;
 mod aim;
 mod costs;
 mod drain;
 mod entry;
 mod labels;
+mod landmarks;
 mod laws;
 mod mend;
 mod queue;
 mod region;
+mod row;
 mod search;
 mod steps;
+mod survey;
 mod table;
 
-pub use aim::{Aim, estimate};
+pub use ahead::Ahead;
+pub use aim::{Aim, Guide};
 pub use costs::Costs;
 pub use drain::{Stage, go_on, least_costs, search_of, started};
 pub use labels::{Labels, labels_of};
+pub use landmarks::Landmarks;
 pub use laws::{labels_tell, no_label_is_closed, search_goes_on, taken_in_order, taken_is_least};
 pub use mend::{mend_closed, mend_opened};
 pub use search::Search;
 pub use steps::{is_free, moves_from, step, step_cost};
+pub use survey::landmarks_on;

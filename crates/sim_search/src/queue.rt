@@ -1,11 +1,11 @@
 //! The cells that wait, in a ring of buckets, each of which holds those of one key: the sum of cost and estimate.
 
 ghost use Rattle.std.specs.Prelude.{◌≡◌, ℕ, ◌+◌, ◌-◌, ◌*◌, ◌%◌, ◌^◌, ◌<◌, ◌≤◌, ◌↔◌, [], replicate, IfOk, OnOk, IsTrue, slice_index_or, Some, None, vec_len};
-ghost use Rattle.sim_search.specs.{Common.IsOnGround, Estimates.estimate_to, Tables.cost_in, Tables.is_lower_than, Tables.size_of};
+ghost use Rattle.sim_search.specs.{Common.IsOnGround, Tables.cost_in, Tables.is_lower_than, Tables.size_of};
 ghost use Rattle.sim_search.specs.Queues.{Begins, bucket_in, Empties, IsBlank, Lowers, taken_in, Takes, Waits};
 
 use crate::entry::Entry;
-use crate::{Aim, Costs, Search, estimate};
+use crate::{Costs, Guide, Search};
 use sim_base::{Cell, Items, OutOfMemory};
 use std::alloc::Global;
 use std::mem;
@@ -134,23 +134,23 @@ fn blank(
 }
 
 /// A search on a ground of so many cells that has come to none but the start, in the rooms of an earlier one.
-pub fn begun(
+pub fn begun<A: Guide>(
     alloc: Global,
     rooms: Option<Search>,
     width: u16,
     depth: u16,
-    aim: Aim,
+    aim: A,
     start: Cell,
 ) -> Result<Search, OutOfMemory>
     requires narrow { width ≤ 256 }
     requires shallow { depth ≤ 256 }
     requires east { start.x < width }
     requires north { start.z < depth }
-    ensures { IfOk result (λ s. Begins (estimate_to aim) (record { width = width; depth = depth }) start s) }
+    ensures { IfOk result (λ s. Begins (A.estimate_of aim) (record { width = width; depth = depth }) start s) }
 {
     let mut search = blank(alloc, rooms, width, depth, start)?;
     search.costs.set(start, 0);
-    search.buckets[bucket(estimate(aim, start))].push(start)?;
+    search.buckets[bucket(aim.estimate(start))].push(start)?;
     Ok(search)
 }
 
@@ -165,13 +165,13 @@ fn is_lower(search: &Search, cell: Cell, total: u32) -> bool
 }
 
 /// Gives a cell a cost of at most the total, and if its cost falls so, lets it wait there.
-pub fn lower(search: &mut Search, aim: Aim, to: Cell, total: u32) -> Result<(), OutOfMemory>
+pub fn lower<A: Guide>(search: &mut Search, aim: A, to: Cell, total: u32) -> Result<(), OutOfMemory>
     requires to_on { IsOnGround (size_of search.old.costs) to }
-    requires small { total + estimate_to aim to < 2 ^ 32 }
-    ensures { OnOk result (Lowers (estimate_to aim) search.old search.new to total) }
+    requires small { total < 2 ^ 31 + 2 ^ 8 }
+    ensures { OnOk result (Lowers (A.estimate_of aim) search.old search.new to total) }
 {
     if is_lower(search, to, total) {
-        let key = total + estimate(aim, to);
+        let key = total + aim.estimate(to);
         let waiting = &mut search.buckets[bucket(key)];
         waiting.push(to)?;
         search.costs.set(to, total);
@@ -180,12 +180,12 @@ pub fn lower(search: &mut Search, aim: Aim, to: Cell, total: u32) -> Result<(), 
 }
 
 /// The cost of a cell that waits by this key: None where it doesn't.
-pub fn waiting(search: &Search, aim: Aim, cell: Cell, now: u32) -> Option<u32>
-    ensures none { result ≡ None → (d : ℕ) → Waits (estimate_to aim) search.now now cell d → ⊥ }
-    ensures some { (d : ℕ) → result ≡ Some d → Waits (estimate_to aim) search.now now cell d }
+pub fn waiting<A: Guide>(search: &Search, aim: A, cell: Cell, now: u32) -> Option<u32>
+    ensures none { result ≡ None → (d : ℕ) → Waits (A.estimate_of aim) search.now now cell d → ⊥ }
+    ensures some { (d : ℕ) → result ≡ Some d → Waits (A.estimate_of aim) search.now now cell d }
 {
     let cost = search.costs.at(cell)?;
-    if is_taken(search, cell) || now.checked_sub(estimate(aim, cell)) != Some(cost) {
+    if is_taken(search, cell) || now.checked_sub(aim.estimate(cell)) != Some(cost) {
         None
     } else {
         Some(cost)

@@ -1,4 +1,5 @@
-//! Ways that another program found on grounds drawn by hand, and all ways on a few small grounds against a plain program.
+//! Ways that another program found on grounds drawn by hand, all ways on a few small grounds against a plain program, and winding ways on grounds that
+//! change.
 
 ghost use Rattle.std.specs.Prelude.{◌≡◌, ◌≤◌, IsTrue};
 ghost use Rattle.sim_base.specs.Places.{is_inside};
@@ -444,5 +445,59 @@ fn is_labelled(alloc: Global, rows: &[&str], wanted: &[Option<u32>]) -> Result<b
 #[test]
 fn labels_two_regions(rt: HostRuntime) -> Result<(), Fail> {
     assert!(rt; is_labelled(rt.alloc(), &["..#.."], &LABELS)?);
+    Ok(())
+}
+
+// From where to where ways are asked over and over on winding grounds.
+static ASKED: [((i32, i32), (i32, i32)); 4] = [
+    ((0, 0), (63, 62)),
+    ((63, 62), (0, 0)),
+    ((5, 30), (60, 2)),
+    ((0, 62), (40, 10)),
+];
+
+// A ground of walls with a gap at one end each, so that ways wind from side to side.
+fn winding(alloc: Global, east: bool) -> Result<Grid, OutOfMemory> {
+    let mut grid = Grid::new(alloc, 64, 64)?;
+    for z in 0..64u16 {
+        for x in 0..63u16 {
+            let shift = if (z % 4 == 1) == east { 0 } else { 1 };
+            let cell = Cell { x: x + shift, z };
+            if z % 2 == 1 && grid.has(cell) {
+                grid.set(cell, false);
+            }
+        }
+    }
+    Ok(grid)
+}
+
+// Whether all searches find the same ways. The first ones take so many detours that landmarks are set for those that follow.
+fn agree_on(alloc: Global, searcher: &mut Searcher, grid: &Grid) -> Result<bool, OutOfMemory> {
+    let mut same = true;
+    for asked in &ASKED {
+        let (from, to) = (point(middle(asked.0)), point(middle(asked.1)));
+        let found = way_on(alloc, searcher, grid, from, to)?;
+        same = same && found.is_some();
+    }
+    Ok(same)
+}
+
+// Whether that is so with landmarks, on the same ground with one cell more that is open, and on another of its size.
+fn agree_on_changes(alloc: Global) -> Result<bool, OutOfMemory> {
+    let mut searcher = Searcher::new();
+    let mut grid = winding(alloc, true)?;
+    let before = agree_on(alloc, &mut searcher, &grid)? && agree_on(alloc, &mut searcher, &grid)?;
+    let gap = Cell { x: 32, z: 1 };
+    if grid.has(gap) {
+        grid.set(gap, true);
+    }
+    let changed = agree_on(alloc, &mut searcher, &grid)? && agree_on(alloc, &mut searcher, &grid)?;
+    let other = winding(alloc, false)?;
+    Ok(before && changed && agree_on(alloc, &mut searcher, &other)?)
+}
+
+#[test]
+fn keeps_to_the_ground_as_it_is(rt: HostRuntime) -> Result<(), Fail> {
+    assert_eq!(rt; agree_on_changes(rt.alloc())?, true);
     Ok(())
 }

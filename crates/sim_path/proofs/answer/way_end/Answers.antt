@@ -1,5 +1,5 @@
 use Rattle.sim_path.proofs.{BestOf.all-by_none, BestOf.end-by_search, Ends.back-of_all, Found.all-end, Found.start-costs}
-use Rattle.sim_path.proofs.Common.{Option, refl, cost_in, estimate_to, field_of_grid, IsBestOf, Reached, subst}
+use Rattle.sim_path.proofs.Common.{Option, cost_in, field_of_grid, IsBestOf, Reached, subst}
 use Rattle.sim_path.proofs.answer.way_end.Goals as goal
 
 pub end_of-requires : goal.end_of-requires
@@ -8,15 +8,15 @@ end_of-requires c =
     let aim = c.args.aim in
     let cost = cost_in c.args.costs.now in
     let none = subst (λ (o : Option Reached). IsBestOf cost aim.goal c.args.ends.now o) c.in-None.is c.best_of.ensures in
-    record { start = start-costs field c.args.start cost (all-by_none field c.args.start (estimate_to aim) c.args.ends.now cost none c.requires.costs) }
+    let gone = c.requires.costs in
+    record { start = start-costs field c.args.start cost (all-by_none field c.args.start gone.estimate c.args.ends.now cost none gone.searched) }
 
 pub returns-in-Some : goal.returns-in-Some
 returns-in-Some c =
     let aim = c.args.aim in
     let cost = cost_in c.args.costs.now in
     let best = subst (λ (o : Option Reached). IsBestOf cost aim.goal c.args.ends.now o) c.in-Some.is c.best_of.ensures in
-    end-by_search (field_of_grid c.args.grid.now) c.args.start aim.goal aim.near c.args.ends.now cost c.in-Some.end aim refl refl c.requires.ends best
-    c.requires.costs
+    end-by_search (field_of_grid c.args.grid.now) c.args.start aim.goal aim.near c.args.ends.now cost c.in-Some.end c.requires.ends best c.requires.costs
 
 pub returns-in-None : goal.returns-in-None
 returns-in-None c =
@@ -25,7 +25,8 @@ returns-in-None c =
     let aim = c.args.aim in
     let costs = c.args.costs.now in
     let none = subst (λ (o : Option Reached). IsBestOf (cost_in costs) aim.goal c.args.ends.now o) c.in-None.is c.best_of.ensures in
-    let all = all-by_none field start (estimate_to aim) c.args.ends.now (cost_in costs) none c.requires.costs in
+    let gone = c.requires.costs in
+    let all = all-by_none field start gone.estimate c.args.ends.now (cost_in costs) none gone.searched in
     let least = c.end_of.ensures in
     record {
       is_end = all-end field start aim.goal costs c.end_of.result c.requires.start_on c.requires.size all least;

@@ -1,14 +1,14 @@
 use Rattle.sim_search.proofs.{Common.size_of, Common.subst, Common.sym, drain.drain.Goals.in-Some+in_ok-expand, drain.drain.Goals.in_default}
 use Rattle.sim_search.proofs.Cells.{entry_at-there}
-use Rattle.sim_search.proofs.Common.{◌≡◌, ◌+◌, Bool, List, ◌∷◌, get_or, drop, at_drop_more, Cell, Drains, drop_all, estimate_to, field_of_grid, known, Search}
-use Rattle.sim_search.proofs.Draining.{Draining, draining_begins, draining_past, draining_taken, estimate_to-fits}
+use Rattle.sim_search.proofs.Common.{◌≡◌, ◌+◌, Bool, List, ◌∷◌, get_or, drop, at_drop_more, Cell, Drains, drop_all, field_of_grid, known, Search}
+use Rattle.sim_search.proofs.Draining.{Draining, draining_begins, draining_past, draining_taken}
 use Rattle.sim_search.proofs.drain.drain.Goals as goal
 
 pub loop-cell-init : goal.loop-cell-init
-loop-cell-init c = draining_begins (estimate_to c.args.aim) (field_of_grid c.args.grid.now) c.args.search.now c.args.now c.args.bucket.now c.requires.drains
+loop-cell-init g c = draining_begins (g.A.Guide.estimate_of c.args.aim) (field_of_grid c.args.grid.now) c.args.search.now c.args.now c.args.bucket.now c.requires.drains
 
 pub loop-cell-preserved : goal.loop-cell-preserved
-loop-cell-preserved c =
+loop-cell-preserved g c =
     let field = field_of_grid c.args.grid.now in
     let first = c.args.search.now in
     let s = c.loop-cell.search in
@@ -17,32 +17,31 @@ loop-cell-preserved c =
     let x : Cell = get_or xs i (record { x = 0; z = 0 }) in
     let rest = drop (i + 1) xs in
     let cons : drop i xs ≡ x ∷ rest = at_drop_more (λ (l : List Cell). l) xs i (record { x = 0; z = 0 }) c.loop-cell-test.true in
-    let before : Draining (estimate_to c.args.aim) field first s c.args.now (x ∷ rest) c.loop-cell.any =
-    subst (λ (l : List Cell). Draining (estimate_to c.args.aim) field first s c.args.now l c.loop-cell.any) cons c.loop-cell.invariant in
+    let before : Draining (g.A.Guide.estimate_of c.args.aim) field first s c.args.now (x ∷ rest) c.loop-cell.any =
+    subst (λ (l : List Cell). Draining (g.A.Guide.estimate_of c.args.aim) field first s c.args.now l c.loop-cell.any) cons c.loop-cell.invariant in
     elim c.match-waiting.branch [
       | in-Some+in_ok-expand w ↦
-          subst (λ (n : Search). Draining (estimate_to c.args.aim) field first n c.args.now rest c.match-waiting.any) (sym w.search-is)
-          (subst (λ (b : Bool). Draining (estimate_to c.args.aim) field first w.take.new.search c.args.now rest b) (sym w.any-is)
-          (draining_taken (estimate_to c.args.aim) field first s w.expand.new.search w.take.new.search c.args.now x w.in-Some.cost rest c.loop-cell.any
-          (estimate_to-fits c.args.aim field)
+          subst (λ (n : Search). Draining (g.A.Guide.estimate_of c.args.aim) field first n c.args.now rest c.match-waiting.any) (sym w.search-is)
+          (subst (λ (b : Bool). Draining (g.A.Guide.estimate_of c.args.aim) field first w.take.new.search c.args.now rest b) (sym w.any-is)
+          (draining_taken (g.A.Guide.estimate_of c.args.aim) field first s w.expand.new.search w.take.new.search c.args.now x w.in-Some.cost rest c.loop-cell.any
           (c.waiting.ensures.some w.in-Some.cost w.in-Some.is) w.in_ok-expand.ensures w.take.ensures before))
       | in_default w ↦
-          subst (λ (n : Search). Draining (estimate_to c.args.aim) field first n c.args.now rest c.match-waiting.any) (sym w.search-is)
-          (subst (λ (b : Bool). Draining (estimate_to c.args.aim) field first s c.args.now rest b) (sym w.any-is)
-          (draining_past (estimate_to c.args.aim) field first s c.args.now x rest c.loop-cell.any (c.waiting.ensures.none w.in_default.is) before))
+          subst (λ (n : Search). Draining (g.A.Guide.estimate_of c.args.aim) field first n c.args.now rest c.match-waiting.any) (sym w.search-is)
+          (subst (λ (b : Bool). Draining (g.A.Guide.estimate_of c.args.aim) field first s c.args.now rest b) (sym w.any-is)
+          (draining_past (g.A.Guide.estimate_of c.args.aim) field first s c.args.now x rest c.loop-cell.any (c.waiting.ensures.none w.in_default.is) before))
     ]
 
 pub take-requires : goal.take-requires
-take-requires c =
+take-requires g c =
     let costs = c.expand.new.search.costs in
     entry_at-there (size_of costs) (known costs) (get_or c.args.bucket.now c.loop-cell.cell-index (record { x = 0; z = 0 })) c.in-Some.cost
     c.in_ok-expand.ensures.from_is
 
 pub returns : goal.returns
-returns c =
+returns g c =
     let none = drop_all c.loop-cell.cell-index c.args.bucket.now c.loop-cell-test.false in
     record {
-      done = subst (λ (l : List Cell). Drains (estimate_to c.args.aim) (field_of_grid c.args.grid.now) c.loop-cell.search c.args.now l) none
+      done = subst (λ (l : List Cell). Drains (g.A.Guide.estimate_of c.args.aim) (field_of_grid c.args.grid.now) c.loop-cell.search c.args.now l) none
           c.loop-cell.invariant.drains;
       progress = c.loop-cell.invariant.progress;
     }

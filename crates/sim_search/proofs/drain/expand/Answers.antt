@@ -1,29 +1,29 @@
-use Rattle.sim_search.proofs.Common.{◌+◌, estimate_to, field_of_grid, IfOk-from_err, Search, subst, sym, ◌∙◌}
-use Rattle.sim_search.proofs.Draining.{estimate_to-fits, expanded, Expanding, expanding_begins, expanding_more, expanding_none}
+use Rattle.sim_search.proofs.Common.{◌+◌, field_of_grid, IfOk-from_err, Search, subst, sym, ◌∙◌}
+use Rattle.sim_search.proofs.Draining.{expanded, Expanding, expanding_begins, expanding_more, expanding_none}
 use Rattle.sim_search.proofs.drain.expand.Goals.{in-Some+in_ok-lower, in_default}
 use Rattle.sim_search.proofs.drain.expand.Goals as goal
 
 pub loop-which-init : goal.loop-which-init
-loop-which-init c = expanding_begins (estimate_to c.args.aim) (field_of_grid c.args.grid.now) c.args.search.now c.args.from c.args.cost c.requires.label
+loop-which-init g c = expanding_begins (g.A.Guide.estimate_of c.args.aim) (field_of_grid c.args.grid.now) c.args.search.now c.args.from c.args.cost c.requires.label
 
 pub loop-which-preserved : goal.loop-which-preserved
-loop-which-preserved c =
+loop-which-preserved g c =
     let field = field_of_grid c.args.grid.now in
-    let P : Search → Type 0 = λ s. Expanding (estimate_to c.args.aim) field c.args.search.now s c.args.from c.args.cost (c.loop-which.which + 1) in
+    let P : Search → Type 0 = λ s. Expanding (g.A.Guide.estimate_of c.args.aim) field c.args.search.now s c.args.from c.args.cost (c.loop-which.which + 1) in
     elim c.match-step.branch [
       | in-Some+in_ok-lower w ↦
           subst P (sym w.search-is)
-          (expanding_more (estimate_to c.args.aim) field c.args.search.now c.loop-which.search w.lower.new.search c.args.from w.in-Some.to c.args.cost
-          c.loop-which.which (estimate_to-fits c.args.aim field) c.loop-which.invariant
+          (expanding_more (g.A.Guide.estimate_of c.args.aim) field c.args.search.now c.loop-which.search w.lower.new.search c.args.from w.in-Some.to c.args.cost
+          c.loop-which.which c.loop-which.invariant
           (sym c.step.ensures.step ∙ w.in-Some.is)
           (rw w.step_cost.ensures at w.in_ok-lower.ensures))
-      | in_default w ↦ subst P (sym w.search-is) (expanding_none (estimate_to c.args.aim) field c.args.search.now c.loop-which.search c.args.from c.args.cost
+      | in_default w ↦ subst P (sym w.search-is) (expanding_none (g.A.Guide.estimate_of c.args.aim) field c.args.search.now c.loop-which.search c.args.from c.args.cost
           c.loop-which.which c.loop-which.invariant (sym c.step.ensures.step ∙ w.in_default.is))
     ]
 
 pub returns : goal.returns
-returns c = expanded (estimate_to c.args.aim) (field_of_grid c.args.grid.now) c.args.search.now c.loop-which.search c.args.from c.args.cost c.loop-which.which
+returns g c = expanded (g.A.Guide.estimate_of c.args.aim) (field_of_grid c.args.grid.now) c.args.search.now c.loop-which.search c.args.from c.args.cost c.loop-which.which
     c.loop-which-test.false c.loop-which.invariant
 
 pub returns-in_err-lower : goal.returns-in_err-lower
-returns-in_err-lower c = IfOk-from_err _ _ c.from_residual.ensures.0
+returns-in_err-lower g c = IfOk-from_err _ _ c.from_residual.ensures.0

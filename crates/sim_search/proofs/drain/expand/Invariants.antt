@@ -1,5 +1,5 @@
-use Rattle.sim_search.proofs.{Common.estimate_to, Common.field_of_grid, Draining.Expanding}
+use Rattle.sim_search.proofs.{Common.field_of_grid, Draining.Expanding}
 use Rattle.sim_search.proofs.drain.expand.Given as goal
 
 abbrev pub invariant-loop-which : goal.invariant-loop-which
-invariant-loop-which l = Expanding (estimate_to l.aim) (field_of_grid l.grid) l.initial.search l.search l.from l.cost l.which
+invariant-loop-which g l = Expanding (g.A.Guide.estimate_of l.aim) (field_of_grid l.grid) l.initial.search l.search l.from l.cost l.which

@@ -1,6 +1,6 @@
 use Rattle.sim_search.proofs.Common.{HasStopped, inl, inr, length-map, subst, sym, takens, true≢false, ◌∙◌}
-use Rattle.sim_search.proofs.Common.{ℕ, ◌*◌, ◌≤◌, not, eqb, List, refl, AreCosts, arith, Cell, cost_in, count_by-le-length, Drains, estimate_to, field_of_grid}
-use Rattle.sim_search.proofs.Draining.{costs-found, drains_first, estimate_to-fits, ready_anew, Round, round-of, stopped}
+use Rattle.sim_search.proofs.Common.{ℕ, ◌*◌, ◌≤◌, not, eqb, List, refl, AreCosts, arith, Cell, cost_in, count_by-le-length, Drains, field_of_grid}
+use Rattle.sim_search.proofs.Draining.{costs-found, drains_first, ready_anew, Round, round-of, stopped}
 use Rattle.sim_search.proofs.drain.go_on.Goals.{After-emptied-spare, else-branch, then-branch}
 use Rattle.sim_search.proofs.drain.go_on.Goals as goal
 
@@ -8,7 +8,7 @@ cells_most : (w d : ℕ) → w ≤ 256 → d ≤ 256 → w * d ≤ 65536
 cells_most w d f g = grind arith
 
 pub loop-idle-init : goal.loop-idle-init
-loop-idle-init c =
+loop-idle-init g c =
     let s = c.args.stage.search in
     let costs = s.costs in
     record {
@@ -28,33 +28,33 @@ loop-idle-init c =
     }
 
 pub swap_bucket-bucket-requires : goal.swap_bucket-bucket-requires
-swap_bucket-bucket-requires c = c.loop-idle.invariant.spare
+swap_bucket-bucket-requires g c = c.loop-idle.invariant.spare
 
 pub drain-requires-clause-drains : goal.drain-requires-clause-drains
-drain-requires-clause-drains c =
+drain-requires-clause-drains g c =
     let field = field_of_grid c.args.grid.now in
     let between = c.swap_bucket-bucket.new.search in
-    subst (λ (l : List Cell). Drains (estimate_to c.args.aim) field between c.passed-next.result.0 l)
+    subst (λ (l : List Cell). Drains (g.A.Guide.estimate_of c.args.aim) field between c.passed-next.result.0 l)
     (sym (c.as_slice.ensures ∙ c.swap_bucket-bucket.ensures.bucket))
-    (drains_first (estimate_to c.args.aim) field c.loop-idle.search between c.passed-next.result.0 c.passed-next.result.1
-    (c.passed-next.ensures.ready c.args.aim (field_of_grid c.args.grid.now) c.loop-idle.invariant.ready) c.swap_bucket-bucket.ensures.rest)
+    (drains_first (g.A.Guide.estimate_of c.args.aim) field c.loop-idle.search between c.passed-next.result.0 c.passed-next.result.1
+    (c.passed-next.ensures.ready (g.A.Guide.estimate_of c.args.aim) (field_of_grid c.args.grid.now) c.loop-idle.invariant.ready) c.swap_bucket-bucket.ensures.rest)
 
 pub passed-next-requires-clause-small : goal.passed-next-requires-clause-small
-passed-next-requires-clause-small c = omega (arith, c.loop-idle.invariant.few, c.requires.small)
+passed-next-requires-clause-small g c = omega (arith, c.loop-idle.invariant.few, c.requires.small)
 
 pub drain-requires-clause-small : goal.drain-requires-clause-small
-drain-requires-clause-small c = omega (arith, c.passed-next.ensures.gap, c.passed-next.ensures.most, c.loop-idle.invariant.few, c.requires.small)
+drain-requires-clause-small g c = omega (arith, c.passed-next.ensures.gap, c.passed-next.ensures.most, c.loop-idle.invariant.few, c.requires.small)
 
 pub overflow_add-now : goal.overflow_add-now
-overflow_add-now c = omega (arith, c.passed-next.ensures.gap, c.passed-next.ensures.most, c.loop-idle.invariant.few, c.requires.small)
+overflow_add-now g c = omega (arith, c.passed-next.ensures.gap, c.passed-next.ensures.most, c.loop-idle.invariant.few, c.requires.small)
 
-round : (c : After-emptied-spare) → Round (estimate_to c.args.aim) (field_of_grid c.args.grid.now) c.loop-idle.search c.drain.new.search c.passed-next.result.0
+round : (g : _) (c : After-emptied-spare g) → Round (g.A.Guide.estimate_of c.args.aim) (field_of_grid c.args.grid.now) c.loop-idle.search c.drain.new.search c.passed-next.result.0
     c.if-branch.now c.passed-next.result.1 c.if-branch.idle
-round c =
+round g c =
     let field = field_of_grid c.args.grid.now in
-    let made = round-of (estimate_to c.args.aim) field c.loop-idle.search c.swap_bucket-bucket.new.search c.drain.new.search c.passed-next.result.0
-    c.if-branch.now c.passed-next.result.1 c.if-branch.idle c.in_ok-drain.field-0 (estimate_to-fits c.args.aim field)
-    c.passed-next.ensures.most (c.passed-next.ensures.ready c.args.aim (field_of_grid c.args.grid.now) c.loop-idle.invariant.ready)
+    let made = round-of (g.A.Guide.estimate_of c.args.aim) field c.loop-idle.search c.swap_bucket-bucket.new.search c.drain.new.search c.passed-next.result.0
+    c.if-branch.now c.passed-next.result.1 c.if-branch.idle c.in_ok-drain.field-0
+    c.passed-next.ensures.most (c.passed-next.ensures.ready (g.A.Guide.estimate_of c.args.aim) (field_of_grid c.args.grid.now) c.loop-idle.invariant.ready)
     c.swap_bucket-bucket.ensures.rest c.in_ok-drain.ensures.done c.in_ok-drain.ensures.progress in
     elim c.if-branch.branch [
       | then-branch w ↦ made (λ e. (w.now-is, w.idle-is)) (λ e. absurd (true≢false (sym w.if-branch.true ∙ e)))
@@ -62,8 +62,8 @@ round c =
     ]
 
 pub loop-idle-preserved : goal.loop-idle-preserved
-loop-idle-preserved c =
-    let r = round c in
+loop-idle-preserved g c =
+    let r = round g c in
     record {
       start = r.start_is ∙ c.loop-idle.invariant.start;
       ready = r.ready;
@@ -74,47 +74,47 @@ loop-idle-preserved c =
     }
 
 pub loop-idle-smaller : goal.loop-idle-smaller
-loop-idle-smaller c = let r = round c in omega (arith, r.smaller, c.passed-next.ensures.least)
+loop-idle-smaller g c = let r = round g c in omega (arith, r.smaller, c.passed-next.ensures.least)
 
 pub returns-clause-start : goal.returns-clause-start
-returns-clause-start c = c.loop-idle.invariant.start
+returns-clause-start g c = c.loop-idle.invariant.start
 
 pub returns-clause-ready : goal.returns-clause-ready
-returns-clause-ready c = ready_anew (estimate_to c.args.aim) (field_of_grid c.args.grid.now) c.loop-idle.search c.loop-idle.now c.loop-idle.idle
+returns-clause-ready g c = ready_anew (g.A.Guide.estimate_of c.args.aim) (field_of_grid c.args.grid.now) c.loop-idle.search c.loop-idle.now c.loop-idle.idle
     c.loop-idle.invariant.ready
 
 pub returns-clause-small : goal.returns-clause-small
-returns-clause-small c = omega (arith, c.loop-idle.invariant.few)
+returns-clause-small g c = omega (arith, c.loop-idle.invariant.few)
 
 pub returns-clause-costs : goal.returns-clause-costs
-returns-clause-costs c =
+returns-clause-costs g c =
     let field = field_of_grid c.args.grid.now in
-    let h = estimate_to c.args.aim in
+    let h = g.A.Guide.estimate_of c.args.aim in
     let found = subst (λ (v : Cell). AreCosts field v (cost_in c.loop-idle.search.costs)) c.loop-idle.invariant.start
-    (costs-found h field c.loop-idle.search c.loop-idle.now c.loop-idle.idle (estimate_to-fits c.args.aim field) c.loop-idle-test.false
+    (costs-found h field c.loop-idle.search c.loop-idle.now c.loop-idle.idle c.loop-idle-test.false
     c.loop-idle.invariant.ready) in
     inl found
 
 pub returns-then-is_come_to-clause-start : goal.returns-then-is_come_to-clause-start
-returns-then-is_come_to-clause-start c = c.loop-idle.invariant.start
+returns-then-is_come_to-clause-start g c = c.loop-idle.invariant.start
 
 pub returns-then-is_come_to-clause-ready : goal.returns-then-is_come_to-clause-ready
-returns-then-is_come_to-clause-ready c =
+returns-then-is_come_to-clause-ready g c =
     let field = field_of_grid c.args.grid.now in
-    ready_anew (estimate_to c.args.aim) field c.loop-idle.search c.passed-next.result.0 c.passed-next.result.1
-    (c.passed-next.ensures.ready c.args.aim field c.loop-idle.invariant.ready)
+    ready_anew (g.A.Guide.estimate_of c.args.aim) field c.loop-idle.search c.passed-next.result.0 c.passed-next.result.1
+    (c.passed-next.ensures.ready (g.A.Guide.estimate_of c.args.aim) field c.loop-idle.invariant.ready)
 
 pub returns-then-is_come_to-clause-small : goal.returns-then-is_come_to-clause-small
-returns-then-is_come_to-clause-small c = omega (arith, c.passed-next.ensures.gap, c.passed-next.ensures.most, c.loop-idle.invariant.few)
+returns-then-is_come_to-clause-small g c = omega (arith, c.passed-next.ensures.gap, c.passed-next.ensures.most, c.loop-idle.invariant.few)
 
 pub returns-then-is_come_to-clause-costs : goal.returns-then-is_come_to-clause-costs
-returns-then-is_come_to-clause-costs c =
+returns-then-is_come_to-clause-costs g c =
     let field = field_of_grid c.args.grid.now in
-    let h = estimate_to c.args.aim in
+    let h = g.A.Guide.estimate_of c.args.aim in
     let ends = c.args.ends.now in
     let s = c.loop-idle.search in
     let come = c.is_come_to.ensures.0 c.if-is_come_to.true in
-    let early = stopped h field s c.passed-next.result.0 c.passed-next.result.1 ends (estimate_to-fits c.args.aim field)
-    (c.passed-next.ensures.ready c.args.aim field c.loop-idle.invariant.ready) come in
+    let early = stopped h field s c.passed-next.result.0 c.passed-next.result.1 ends
+    (c.passed-next.ensures.ready (g.A.Guide.estimate_of c.args.aim) field c.loop-idle.invariant.ready) come in
     let found = subst (λ (v : Cell). HasStopped field v h ends (cost_in s.costs)) c.loop-idle.invariant.start early in
     inr found

@@ -1,14 +1,14 @@
-use Rattle.sim_search.proofs.Common.{◌≡◌, ◌+◌, ◌-◌, ◌*◌, ◌≤◌, [], estimate_to, field_of_grid, Ready, untaken}
+use Rattle.sim_search.proofs.Common.{◌≡◌, ◌+◌, ◌-◌, ◌*◌, ◌≤◌, [], field_of_grid, Ready, untaken}
 use Rattle.sim_search.proofs.drain.go_on.Given as goal
 
 abbrev pub invariant-loop-idle : goal.invariant-loop-idle
-invariant-loop-idle l = record {
+invariant-loop-idle g l = record {
   start : l.search.start ≡ l.fn.stage.search.start;
-  ready : Ready (estimate_to l.aim) (field_of_grid l.grid) l.search l.now l.idle;
+  ready : Ready (g.A.Guide.estimate_of l.aim) (field_of_grid l.grid) l.search l.now l.idle;
   idle : l.idle ≤ 33;
   few : l.now + (33 * untaken l.search + (33 - l.idle)) ≤ 33 * 65536 + 33 + l.fn.stage.key;
   spare : l.spare ≡ [];
 }
 
 abbrev pub decreases-loop-idle : goal.decreases-loop-idle
-decreases-loop-idle l = 33 * untaken l.search + (33 - l.idle)
+decreases-loop-idle g l = 33 * untaken l.search + (33 - l.idle)

@@ -1,9 +1,9 @@
-use Rattle.sim_search.proofs.Common.{◌≡◌, ◌+◌, ◌-◌, ◌<◌, ◌≤◌, Aim, estimate_to, Field, Ready}
+use Rattle.sim_search.proofs.Common.{◌≡◌, ◌+◌, ◌-◌, ◌<◌, ◌≤◌, ℕ, Cell, Field, Ready}
 use Rattle.sim_search.proofs.drain.passed.Given as goal
 
 abbrev pub invariant-loop-idle : goal.invariant-loop-idle
 invariant-loop-idle l = record {
-  ready : (aim : Aim) (field : Field) → Ready (estimate_to aim) field l.search l.fn.now l.fn.idle → Ready (estimate_to aim) field l.search l.now l.idle;
+  ready : (estimate : Cell → ℕ) (field : Field) → Ready estimate field l.search l.fn.now l.fn.idle → Ready estimate field l.search l.now l.idle;
   gap : l.now + l.fn.idle ≡ l.fn.now + l.idle;
   least : l.fn.idle ≤ l.idle;
   most : l.idle < 32;

@@ -1,13 +1,13 @@
 use Rattle.sim_search.proofs.Common.{get_or_default, IfOk-from_err, inr, is_lower_than, ltb-true, subst, sym, ◌∙◌}
-use Rattle.sim_search.proofs.Common.{◌≡◌, ℕ, ◌+◌, ◌%◌, true, List, [], ◌∷◌, ◌++◌, map, get_or, set, nat_eq, Some, refl, ap, arith, Cell, estimate_to}
+use Rattle.sim_search.proofs.Common.{◌≡◌, ℕ, ◌+◌, ◌%◌, true, List, [], ◌∷◌, ◌++◌, map, get_or, set, nat_eq, Some, refl, ap, arith, Cell}
 use Rattle.sim_search.proofs.queue.lower.Goals as goal
 
 pub returns-in_ok-push : goal.returns-in_ok-push
-returns-in_ok-push c =
+returns-in_ok-push g c =
     let old = c.args.search.now in
     let b = c.bucket.result in
     let to = c.args.to in
-    let key : b ≡ (c.args.total + estimate_to c.args.aim to) % 32 = c.bucket.ensures.is ∙ ap (λ (n : ℕ). (c.args.total + n) % 32) c.estimate.ensures.is in
+    let key : b ≡ (c.args.total + g.A.Guide.estimate_of c.args.aim to) % 32 = c.bucket.ensures.is ∙ ap (λ (n : ℕ). (c.args.total + n) % 32) c.estimate.ensures.is in
     let now = c.index_mut-waiting.result.now in
     let had : c.index_mut-waiting.result.now ≡ get_or old.buckets.items b [] = c.index_mut-waiting.ensures.value ∙ get_or_default old.buckets.items b now []
     (omega (arith, old.ring, old.buckets.ok.0, c.bucket.ensures.below)) in
@@ -25,4 +25,4 @@ returns-in_ok-push c =
     })
 
 pub returns-in_err-push : goal.returns-in_err-push
-returns-in_err-push c = IfOk-from_err _ _ c.from_residual.ensures.0
+returns-in_err-push g c = IfOk-from_err _ _ c.from_residual.ensures.0

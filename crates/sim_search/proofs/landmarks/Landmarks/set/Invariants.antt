@@ -1,0 +1,10 @@
+use Rattle.sim_search.proofs.Common.{◌≡◌, known}
+use Rattle.sim_search.proofs.Rows.{AreSet}
+use Rattle.sim_search.proofs.landmarks.Landmarks.set.Given as goal
+use Rattle.sim_search.specs.Rows.{size_by}
+
+abbrev pub invariant-loop-place : goal.invariant-loop-place
+invariant-loop-place l = record {
+  size : size_by l.self ≡ size_by l.fn.self;
+  rows : AreSet l.which l.fn.self.items.items l.self.items.items (known l.costs) l.place;
+}

@@ -1,0 +1,7 @@
+-- One number more of both rows.
+use Rattle.sim_search.proofs.Common.{max, ap₂, sym, ◌∙◌}
+use Rattle.sim_search.proofs.Rows.{apart-more}
+use Rattle.sim_search.proofs.row.furthest.Goals as goal
+
+pub loop-i-preserved : goal.loop-i-preserved
+loop-i-preserved c = c.max-most.ensures ∙ ap₂ max c.loop-i.invariant c.abs_diff.ensures ∙ sym (apart-more c.loop-i.i c.args.a.now c.args.b.now)

@@ -1,0 +1,13 @@
+-- The costs from an open cell make a landmark.
+use Rattle.sim_search.proofs.Common.{Cell, cost_in, field_of_grid}
+use Rattle.sim_search.proofs.Guiding.{same-landmarks, set-landmarks}
+use Rattle.sim_search.proofs.survey.set_to.Goals as goal
+use Rattle.sim_search.specs.Rows.{row_in, row_with}
+
+pub returns-clause-landmarks : goal.returns-clause-landmarks
+returns-clause-landmarks c =
+    let field = field_of_grid c.args.grid.now in
+    let cost = cost_in c.in_ok-costs.costs in
+    let row = row_in c.args.landmarks.now in
+    same-landmarks field (λ (v : Cell). row_with c.args.which (row v) (cost v)) (row_in c.set.new.self) c.set.ensures.rows
+    (set-landmarks field c.args.cell cost c.in_ok-costs.ensures.costs c.requires.on c.requires.is_open row c.args.which c.requires.which c.requires.landmarks)
