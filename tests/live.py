@@ -12,7 +12,9 @@ import json
 import os
 import pathlib
 import pty
+import resource
 import select
+import signal
 import socket
 import subprocess
 import sys
@@ -25,6 +27,7 @@ PROGRAM = str(pathlib.Path(sys.argv[1] if len(sys.argv) > 1 else TOP / "crates/s
 EXAMPLES = TOP / "examples"
 LISTS = ("handover", "early-fall", "hidden-wound")
 MAX_LINE = 1_048_576
+ROOM = 65_536
 FOUND = {"passed": 0, "failed": 0}
 
 
@@ -134,6 +137,104 @@ def try_steps():
             told += text
         status, rest = talk.end()
         check(f"{name} step by step, in pieces of {pieces or 'a line'}", good and (status, told + rest) == session(name, clients, steps), told + rest)
+
+
+class Packets:
+    """A talk over two sockets of packets: the program reads what one packet has, and each of its writes is one."""
+
+    def __init__(self, *words):
+        self.into, theirs = socket.socketpair(socket.AF_UNIX, socket.SOCK_SEQPACKET)
+        self.out, other = socket.socketpair(socket.AF_UNIX, socket.SOCK_SEQPACKET)
+        self.process = subprocess.Popen([PROGRAM, *words], stdin=theirs, stdout=other, cwd=EXAMPLES)
+        theirs.close()
+        other.close()
+        self.out.settimeout(20.0)
+
+    def end(self):
+        """Ends the input: the status, and the packets that come yet."""
+        self.into.close()
+        rest = list(iter(lambda: self.out.recv(2 * ROOM), b""))
+        self.out.close()
+        return self.process.wait(timeout=60), rest
+
+
+def try_pieces():
+    """Answers are written in one piece while lines stand in what was read, and before more is waited for; never more than fits at once."""
+    begun = b"".join(it for it in session("handover", 2, [])[1].splitlines(True) if b" start " in it)
+    talk = Packets("live", "handover.json", "2")
+    check("the beginning is written before a line is read", talk.out.recv(ROOM) == begun)
+    for data, wanted in ((b'["up",1]\n', b"ok 1\n"), (b'["up",1]\n["up",2]\n["kept"]\nx\n', b"ok 2\nok 3\nreleased 1\nok 3\nrefused 4\n"),
+                         (b'["up",1]\n["up"', b"ok 4\n"), (b",1]\n", b"ok 5\n"), (b"\n" * 1000, b"refused 6\n" * 1000)):
+        talk.into.sendall(data)
+        got = talk.out.recv(ROOM)
+        check(f"answers to {data[:40]} come in one piece", got == wanted, got)
+    status, rest = talk.end()
+    check("the endings come in one piece", status == 0 and len(rest) == 1, rest)
+    talk = Packets("live", "handover.json", "2")
+    talk.out.recv(ROOM)
+    talk.into.sendall(b'["join",3]\n["kept"]\n["up",3')
+    status, rest = talk.end()
+    check("what was answered before a fault is written", (status, rest) == (16, [b"client 3 join\nok 1\nreleased 1\nok 1\n"]), rest)
+    talk = Packets("live", "handover.json", "2")
+    talk.out.recv(ROOM)
+    looks = b'["show",1]\n' * 300
+    talk.into.sendall(looks)
+    text = b""
+    sizes = []
+    while text.count(b"ok 0\n") < 300:
+        piece = talk.out.recv(2 * ROOM)
+        sizes.append(len(piece))
+        text += piece
+    check("no piece is longer than the room", len(sizes) > 1 and all(ROOM * 3 // 4 < it <= ROOM for it in sizes[:-1]) and talk.end()[0] == 0, sizes)
+    check("the pieces are the answers", text == text[:len(text) // 300] * 300 == ran(["live", "handover.json", "2"], looks)[1][len(begun):len(begun) + len(text)])
+
+
+def try_long_text():
+    """A text that is longer than the room is told whole, between those before it and behind it."""
+    entities = [["walker", 1, f"{column}.5", f"{row}.5"] for row in range(40) for column in range(40)]
+    match = {"size": [64, 64], "closed": [], "players": [[], []], "cap": 0, "delay": 2, "turns": 9, "seed": 0,
+             "templates": [{"@name": "walker", "Motion": {"Speed": 10}}], "entities": entities, "commands": []}
+    lines = [b'["up",1]\n', b'["show",1]\n', b'["up",2]\n', b'["state",1]\n', b"x\n"]
+    with tempfile.NamedTemporaryFile("w", suffix=".json") as file:
+        json.dump(match, file)
+        file.flush()
+        talk = Talk("live", file.name, "2")
+        told = talk.line() + talk.line()
+        longest = 0
+        for line in lines:
+            talk.say(line)
+            text, mark = talk.answer()
+            longest = max(longest, len(text))
+            told += text + mark
+        status, rest = talk.end()
+        check("a text longer than the room, line by line", status == 0 and longest > ROOM, longest)
+        check("the same in one piece", ran(["live", file.name, "2"], b"".join(lines)) == (0, told + rest))
+
+
+def cut_output(limit, data):
+    """The status and the output of a talk whose output takes so many bytes and no more."""
+    def bounded():
+        signal.signal(signal.SIGXFSZ, signal.SIG_IGN)
+        resource.setrlimit(resource.RLIMIT_FSIZE, (limit, limit))
+
+    with tempfile.TemporaryFile() as file:
+        done = subprocess.run([PROGRAM, "live", "handover.json", "2"], input=data, stdout=file, cwd=EXAMPLES, check=False, restore_signals=False,
+                              preexec_fn=bounded, timeout=60)
+        file.seek(0)
+        return done.returncode, file.read()
+
+
+def try_cut_outputs():
+    """Of what was told a beginning is written where the output is full, and that is the status, whatever else comes to pass."""
+    lines = lines_of([["order", 1, "walk", [2], "6.5", "1.5"], ["up", 1], ["play", 1], ["play", 2], ["kept"], ["show", 1]] * 3)
+    whole = ran(["live", "handover.json", "2"], lines)[1]
+    answers = ran(["live", "handover.json", "2"], lines + b"x")
+    check("cut off behind answers", answers[0] == 16 and whole.startswith(answers[1]) and answers[1].endswith(b"ok 12\n"), answers[1][-200:])
+    for limit in (0, 1, 50, len(answers[1]) // 2, len(answers[1]) - 1):
+        for name, end in (("the end", b""), ("a line cut off", b"x"), ("no text", b"\xff\n"), ("a long line", b"x" * (MAX_LINE + 1))):
+            got = cut_output(limit, lines + end)
+            check(f"{limit} bytes are written, then {name}", got == (19, whole[:limit]), got)
+    check("all bytes are written", cut_output(len(whole), lines) == (0, whole))
 
 
 def try_slow_reader():
@@ -336,7 +437,7 @@ def try_terminal():
     check("terminal: the desync is told", b"differ 1 2 entity 2 part Health" in text, text)
 
 
-for trial in (try_prefixes, try_steps, try_slow_reader, try_refusals, try_looks, try_faults, try_words, try_relay, try_sockets, try_terminal):
+for trial in (try_prefixes, try_steps, try_pieces, try_long_text, try_cut_outputs, try_slow_reader, try_refusals, try_looks, try_faults, try_words, try_relay, try_sockets, try_terminal):
     trial()
 print(f"{FOUND['passed']} passed, {FOUND['failed']} failed")
 sys.exit(1 if FOUND["failed"] else 0)

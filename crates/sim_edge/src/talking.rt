@@ -2,7 +2,7 @@
 
 ghost use Rattle.{sim_client.specs.StageWords.AreCleared, sim_system.specs.Meanings.HaveKinds, sim_system.specs.RigWords.systems_of};
 ghost use Rattle.{sim_edge.specs.Process.talk_number_of, sim_talk_top.specs.Talked.IsTalk, sim_talk_top.specs.Talked.TalksOf, sim_talk_top.specs.Words.talk_of};
-ghost use Rattle.std.specs.Prelude.{◌≡◌, length, IfSome, IfOk, OnErr, All};
+ghost use Rattle.std.specs.Prelude.{◌≡◌, [], length, IfSome, IfOk, OnErr, All};
 
 use crate::running::planned;
 use sim_base::OutOfMemory;
@@ -42,6 +42,7 @@ pub fn talk_with<S: Shelf, T: Talk>(
     requires limits { IsTalk (talk_of asked) }
     ensures talked { IfOk result
         (λ ending. IfSome (S.held shelf.old) (λ files. TalksOf files (talk_of asked.entry) ending (T.history other.old) (T.history other.new))) }
+    ensures settled { (T.history other.old).kept ≡ [] → (T.history other.new).kept ≡ [] }
     ensures unbegun { OnErr result ((shelf.new ≡ shelf.old) × (other.new ≡ other.old)) }
 {
     let mut handlers = Vec::with_capacity(alloc, 7)?;

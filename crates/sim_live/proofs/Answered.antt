@@ -7,10 +7,10 @@ use Rattle.sim_base.specs.declared.{setup.Setup.Setup, step.Step.Step}
 use Rattle.sim_plain_session.specs.Sessions.{opened, session}
 use Rattle.sim_session.specs.Standing.{Seen, StandsFor, StandsForSome}
 use Rattle.sim_talk.proofs.Talking.{after_lines-more, answered_all, answered_more, ended_so, Extends-nothing, stopped_amid, stopped_first}
-use Rattle.sim_talk.proofs.Talking.{unbegun, unmade_answer, untold_answer}
-use Rattle.sim_talk.specs.Dialogues.{after_lines, AnswersLines, dialogue, TellsText}
-use Rattle.sim_talk.specs.Talks.{Extends, heard, History, Misses, Tells, told}
-use Rattle.sim_talk.specs.declared.{fault.HearFault.HearFault, fault.TalkFault.TalkFault}
+use Rattle.sim_talk.proofs.Talking.{conversed, unbegun, unheard_behind, unmade_answer, untold_answer}
+use Rattle.sim_talk.specs.Dialogues.{after_lines, dialogue, EndsAs, TellsText}
+use Rattle.sim_talk.specs.Talks.{Extends, heard, Hears, History, Tells, told}
+use Rattle.sim_talk.specs.declared.{fault.TalkFault.TalkFault}
 use Rattle.sim_talk.specs.declared.fault.TalkFault.TheVariants as ends
 
 -- some lines were answered, and the session stands for that over their steps
@@ -80,11 +80,13 @@ pub many_answered : (setup : Setup) (clients : ℕ) (seen : Seen) (made before :
 many_answered setup clients seen made before done a b was many =
     (was.lines, was.stands, (was.passed, λ few. absurd (omega (arith, was.many, many, few))))
 
--- a line was not heard
-pub unheard_line : (setup : Setup) (clients : ℕ) (seen seen' : Seen) (made before : ℕ) (result : Result ⊤ TalkFault) (cause : HearFault) (a b c : History)
-    → HasAnswered setup clients seen made before a b → result ≡ Err (ends.Unheard cause) → Misses cause b c → AnswersAll result setup clients seen' a c
-unheard_line setup clients seen seen' made before result cause a b c was is missed =
-    subst (λ (r : Result ⊤ TalkFault). AnswersAll r setup clients seen' a c) (sym is) (was.lines, tt, (b, was.passed, missed))
+-- no line was heard
+pub unheard_line : (setup : Setup) (clients : ℕ) (seen seen' : Seen) (made before : ℕ) (result : Result ⊤ TalkFault) (fault : TalkFault) (line : List ℕ)
+    (a b c : History)
+    → HasAnswered setup clients seen made before a b → result ≡ Err fault → Hears (Err fault) line b c → AnswersAll result setup clients seen' a c
+unheard_line setup clients seen seen' made before result fault line a b c was is missed =
+    subst (λ (r : Result ⊤ TalkFault). AnswersAll r setup clients seen' a c) (sym is)
+    (was.lines, tt, unheard_behind (answer setup clients) (next setup) [] was.lines fault line a b c was.passed missed)
 
 -- memory was refused for an answer
 pub unmade_line : (setup : Setup) (clients : ℕ) (seen seen' : Seen) (made before : ℕ) (result : Result ⊤ TalkFault) (line : List ℕ) (a b c : History)
@@ -143,3 +145,10 @@ pub live_ended : (setup : Setup) (clients : ℕ) (seen : Seen) (result : Result 
 live_ended setup clients seen result done a b c d one two three =
     ended_so (answer setup clients) (next setup) (last_text setup clients) [] (first_text setup clients) two.0 result done a b c d one two.2
     (three (after_lines (next setup) [] two.0) two.1)
+
+-- however it ended, all that was told is written then
+pub live_settled : (setup own : Setup) (clients : ℕ) (outcome result : Result ⊤ TalkFault) (a b c : History) → own ≡ setup → Lives outcome own clients a b
+    → EndsAs outcome result b c → Lives result setup clients a c
+live_settled setup own clients outcome result a b c same was ended =
+    subst (λ (s : Setup). Lives result s clients a c) same
+    (conversed (answer own clients) (next own) (last_text own clients) [] (first_text own clients) outcome result a b c was ended)

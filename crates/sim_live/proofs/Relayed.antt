@@ -7,10 +7,10 @@ use Rattle.std.proofs.Common.{◌≡◌, ℕ, ◌+◌, ◌-◌, ◌^◌, ◌≤�
 use Rattle.{sim_live.specs.declared.relaying.RelayRules.RelayRules, sim_report.specs.Downs.released_line, sim_server.specs.Standing.server_of}
 use Rattle.sim_live.specs.Relays.{answer, AnswersAll, end_lines, first_text, last_text, next, Relays, rules_of}
 use Rattle.sim_talk.proofs.Talking.{after_lines-more, answered_all, answered_more, ended_so, Extends-nothing, stopped_amid}
-use Rattle.sim_talk.proofs.Talking.{stopped_first, unmade_answer, untold_answer}
-use Rattle.sim_talk.specs.Dialogues.{after_lines, AnswersLines, dialogue, TellsText}
-use Rattle.sim_talk.specs.Talks.{Extends, heard, History, Misses, Tells, told}
-use Rattle.sim_talk.specs.declared.{fault.HearFault.HearFault, fault.TalkFault.TalkFault}
+use Rattle.sim_talk.proofs.Talking.{conversed, stopped_first, unheard_behind, unmade_answer, untold_answer}
+use Rattle.sim_talk.specs.Dialogues.{after_lines, dialogue, EndsAs, TellsText}
+use Rattle.sim_talk.specs.Talks.{Extends, heard, Hears, History, Tells, told}
+use Rattle.sim_talk.specs.declared.{fault.TalkFault.TalkFault}
 use Rattle.sim_talk.specs.declared.fault.TalkFault.TheVariants as ends
 
 -- some lines were answered, and the server stands for all that has arrived
@@ -62,11 +62,13 @@ pub many_relayed : (relay : RelayRules) (server : View) (count before : ℕ) (do
 many_relayed relay server count before done a b was many =
     (was.lines, (was.rules, was.stands), (was.passed, λ few. absurd (omega (arith, was.many, many, few))))
 
--- a line was not heard
-pub unheard_relayed : (relay : RelayRules) (server server' : View) (count before : ℕ) (result : Result ⊤ TalkFault) (cause : HearFault) (a b c : History)
-    → HasAnswered relay server count before a b → result ≡ Err (ends.Unheard cause) → Misses cause b c → AnswersAll result relay server' a c
-unheard_relayed relay server server' count before result cause a b c was is missed =
-    subst (λ (r : Result ⊤ TalkFault). AnswersAll r relay server' a c) (sym is) (was.lines, tt, (b, was.passed, missed))
+-- no line was heard
+pub unheard_relayed : (relay : RelayRules) (server server' : View) (count before : ℕ) (result : Result ⊤ TalkFault) (fault : TalkFault) (line : List ℕ)
+    (a b c : History)
+    → HasAnswered relay server count before a b → result ≡ Err fault → Hears (Err fault) line b c → AnswersAll result relay server' a c
+unheard_relayed relay server server' count before result fault line a b c was is missed =
+    subst (λ (r : Result ⊤ TalkFault). AnswersAll r relay server' a c) (sym is)
+    (was.lines, tt, unheard_behind (answer (rules_of relay) relay.active) (next (rules_of relay)) [] was.lines fault line a b c was.passed missed)
 
 -- memory was refused for an answer
 pub unmade_relayed : (relay : RelayRules) (server server' : View) (count before : ℕ) (result : Result ⊤ TalkFault) (line : List ℕ) (a b c : History)
@@ -139,3 +141,10 @@ relay_ended relay server server' result done a b c d rules stands one two three 
     ended_so (answer (rules_of relay) relay.active) (next (rules_of relay)) (last_text (rules_of relay) relay.active) []
     (first_text (rules_of relay) relay.active) two.0 result done a b c d (begun relay server a b rules stands one) two.2
     (subst (λ (t : List ℕ). TellsText result t c d) last_is three)
+
+-- however it ended, all that was told is written then
+pub relay_settled : (relay : RelayRules) (outcome result : Result ⊤ TalkFault) (a b c : History) → Relays outcome relay a b → EndsAs outcome result b c
+    → Relays result relay a c
+relay_settled relay outcome result a b c was ended =
+    conversed (answer (rules_of relay) relay.active) (next (rules_of relay)) (last_text (rules_of relay) relay.active) []
+    (first_text (rules_of relay) relay.active) outcome result a b c was ended

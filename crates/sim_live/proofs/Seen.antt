@@ -1,10 +1,10 @@
 -- What is seen of a client in memory is what is told of the one that has a past; so what is answered to a look is what the session shows.
 use Rattle.{sim_plain_session.proofs.PlayerLemmas.same_turn, sim_session.specs.Standing.life_of, sim_session.specs.Standing.Seen}
 use Rattle.{sim_session.specs.Standing.StandsFor}
-use Rattle.std.proofs.Common.{◌≡◌, ℕ, List, [], ◌∷◌, ◌++◌, map, Some, Option, refl, ap, arith, codes, subst, sym, ◌∙◌}
+use Rattle.std.proofs.Common.{◌≡◌, ℕ, List, [], ◌∷◌, ◌++◌, map, Some, Option, refl, ap, arith, subst, sym, ◌∙◌}
 use Rattle.sim_base.specs.Limits.{IsFrom}
 use Rattle.sim_live.specs.{Looks.IsLook, Shown.look_text, Shown.shown_as, Shown.told_as, declared.look.Look.Look}
-use Rattle.sim_pipes.specs.{Exchanges.Conveys, Exchanges.Held, Pipes.AreFrames, Pipes.pipe_in}
+use Rattle.sim_pipes.specs.{Exchanges.Held, Pipes.AreFrames, Pipes.pipe_in}
 use Rattle.sim_plain.specs.Server.{Server}
 use Rattle.sim_plain_session.specs.Sessions.{Session}
 use Rattle.sim_report.specs.Downs.{released_line}

@@ -1,10 +1,10 @@
 //! The whole talk: the session begins, each line is answered before the next one is heard, and at the end of the input it is told what
-//! the session has come to.
+//! the session has come to. However it ends, all that was told is written then.
 
 ghost use Rattle.{sim_base.specs.Limits.IsSetup, sim_base.specs.declared.step.Step.Step as AnyStep, sim_session.specs.Standing.StandsFor};
 ghost use Rattle.{sim_client.specs.StageWords.AreCleared, sim_plain_session.specs.Sessions.opened, sim_plain_session.specs.Sessions.session as session_over};
 ghost use Rattle.{sim_system.specs.Meanings.HaveKinds, sim_talk.specs.Dialogues.TellsText};
-ghost use Rattle.std.specs.Prelude.{◌≡◌, ◌≤◌, List, length, drop, OnOk, vec_capacity, All};
+ghost use Rattle.std.specs.Prelude.{◌≡◌, ◌≤◌, List, [], length, drop, OnOk, vec_capacity, All};
 ghost use Rattle.sim_live.specs.{Live.first_text, Live.last_text, Live.Lives, Spoken.AnswersAll};
 ghost use Rattle.sim_session.specs.SessionWords.{clients_in, IsSession, MayFinish, rigs_of, room_in, seen_in, setup_in, spare_in};
 
@@ -14,7 +14,7 @@ use sim_orders::OrderTable;
 use sim_session::Session;
 use sim_session_text::{push_ending, push_starts};
 use sim_system::{Rig, System};
-use sim_talk::{Talk, TalkFault};
+use sim_talk::{Talk, TalkFault, settled};
 use std::alloc::Global;
 
 /// Talks over a session of the match, of whose clients so many are on in the beginning. Client c has the c-th of eight cleared rigs. All
@@ -33,6 +33,7 @@ pub fn live<T: Talk>(
     requires kinds { All HaveKinds (rigs_of rigs.items ⟦<dyn System as System>⟧) }
     requires cleared { All AreCleared (rigs_of rigs.items ⟦<dyn System as System>⟧) }
     ensures lives { Lives result.0 setup.now clients (T.history talk.old) (T.history talk.new) }
+    ensures settled { (T.history talk.new).kept ≡ [] }
     ensures kinds { All HaveKinds (rigs_of result.1.items ⟦<dyn System as System>⟧) }
     ensures spare { drop setup.now.players result.1.items ≡ drop setup.now.players rigs.items }
     ensures eight { length result.1.items ≡ 8 }
@@ -40,10 +41,11 @@ pub fn live<T: Talk>(
 {
     match Session::new(alloc, setup, orders, rigs) {
         Ok(mut session) => {
-            let ended = talk_over(alloc, &mut session, clients, talk);
+            let outcome = talk_over(alloc, &mut session, clients, talk);
+            let ended = settled(outcome, talk);
             (ended, session.finish())
         }
-        Err(rigs) => (Err(TalkFault::OutOfMemory), rigs),
+        Err(rigs) => (settled(Err(TalkFault::OutOfMemory), talk), rigs),
     }
 }
 

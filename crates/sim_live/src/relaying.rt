@@ -1,5 +1,5 @@
 //! The whole talk with the server: it begins, each line is answered before the next one is heard, and at the end of the input it is told what
-//! the server has come to.
+//! the server has come to. However it ends, all that was told is written then.
 
 ghost use Rattle.{sim_report.specs.Downs.released_line, sim_talk.specs.Dialogues.TellsText};
 ghost use Rattle.std.specs.Prelude.{◌≡◌, []};
@@ -11,7 +11,7 @@ use sim_base::OutOfMemory;
 use sim_report::push_released;
 use sim_serve::push_all_kept;
 use sim_server::Server;
-use sim_talk::{Talk, TalkFault};
+use sim_talk::{Talk, TalkFault, settled};
 use std::alloc::Global;
 
 /// What a server must know of the match of its clients: of so many clients, so many of whom are in it from the beginning, with its delay
@@ -26,6 +26,16 @@ pub struct RelayRules {
 
 /// Talks as the server.
 pub fn relay<T: Talk>(alloc: Global, rules: RelayRules, talk: &mut T) -> Result<(), TalkFault>
+    requires { IsRelay rules }
+    ensures relays { Relays result rules (T.history talk.old) (T.history talk.new) }
+    ensures settled { (T.history talk.new).kept ≡ [] }
+{
+    let outcome = talk_over(alloc, rules, talk);
+    settled(outcome, talk)
+}
+
+// Begins the server, and talks as it to the end of the input.
+fn talk_over<T: Talk>(alloc: Global, rules: RelayRules, talk: &mut T) -> Result<(), TalkFault>
     requires { IsRelay rules }
     ensures relays { Relays result rules (T.history talk.old) (T.history talk.new) }
 {

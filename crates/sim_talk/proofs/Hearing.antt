@@ -1,15 +1,11 @@
 -- What is heard of a line, by how its bytes were poured.
-use Rattle.std.proofs.{Common.length-append, Common.subst, Common.sym, Common.◌∙◌, lemmas.List.Elements.All-nil}
-use Rattle.std.proofs.Common.{◌≡◌, ℕ, ◌+◌, ◌-◌, ◌<◌, ◌≤◌, Bool, true, false, List, [], ◌++◌, length, Ok, Err, Option, Result, refl, ap, arith}
+use Rattle.std.proofs.{Common.subst, Common.sym, Common.◌∙◌}
+use Rattle.std.proofs.Common.{◌≡◌, ℕ, ◌<◌, Bool, true, false, List, [], ◌++◌, length, Ok, Err, Option, Result, refl}
 use Rattle.std.specs.{Io.KnownBytes.Consumes, Io.KnownBytes.IsAtEnd, Io.KnownBytes.Keeps, Io.KnownBytes.prepend_known, Str.IsUtf8}
 use Rattle.sim_talk.proofs.Pouring.{at_end, taken_all, taken_kept, taken_much, taken_piece, taken_whole, within_more}
-use Rattle.sim_talk.specs.{LineTalk.Ends, LineTalk.HearCounts, LineTalk.IsText, declared.fault.HearFault.HearFault}
+use Rattle.sim_talk.specs.{LineTalk.Ends, LineTalk.IsText, declared.fault.HearFault.HearFault}
 use Rattle.sim_talk.specs.Lines.{HearsOf, HearsPart, HearsTooMuch, IsPart, IsWithinLine, PoursOpen, PoursTooMuch, PoursWhole}
 use Rattle.sim_talk.specs.declared.fault.HearFault.TheVariants as fault
-
--- no bytes are a part of a line
-pub no_part : (most : ℕ) (line : List ℕ) → line ≡ [] → IsPart most line
-no_part most line is = subst (IsPart most) (sym is) (record { within = All-nil (λ b. b ≡ 10 → ⊥); few = omega arith })
 
 -- a whole line is one
 pub whole_part : (most : ℕ) (ahead line ahead' line' : List ℕ) → IsPart most line → PoursWhole most ahead line ahead' line' → IsPart most line'
@@ -47,15 +43,6 @@ heard_whole most (Err fault.CutOff) raw a b ahead line ahead' line' is text part
 heard_whole most (Err fault.TooLong) raw a b ahead line ahead' line' is text part taken poured = absurd text
 heard_whole most (Err fault.OutOfMemory) raw a b ahead line ahead' line' is text part taken poured = absurd text
 
--- nothing is counted then
-pub counted_text : (result : Result Bool HearFault) (raw : List ℕ) (old new : ℕ) → IsText result raw → new ≡ old → HearCounts result old new
-counted_text (Ok heard) raw old new text same = same
-counted_text (Err fault.NoText) raw old new text same = same
-counted_text (Err fault.Failed) raw old new text same = absurd text
-counted_text (Err fault.CutOff) raw old new text same = same
-counted_text (Err fault.TooLong) raw old new text same = same
-counted_text (Err fault.OutOfMemory) raw old new text same = same
-
 -- one that is longer than it may be
 pub heard_much : (most : ℕ) (a b : Option (List ℕ)) (ahead line ahead' : List ℕ) → IsPart most line → Consumes a (prepend_known ahead b) line
     → PoursTooMuch most ahead line ahead'
@@ -67,22 +54,14 @@ heard_much most a b ahead line ahead' part taken poured = record {
   many = poured.many;
 }
 
--- where there was no memory nothing more was taken
-pub heard_part : (most : ℕ) (a b : Option (List ℕ)) (ahead line ahead' : List ℕ) → IsPart most line → Consumes a (prepend_known ahead b) line → ahead' ≡ ahead
-    → HearsPart most a (prepend_known ahead' b)
-heard_part most a b ahead line ahead' part taken same = record {
-  part = line;
-  taken = subst (λ (h : List ℕ). Consumes a (prepend_known h b) line) (sym same) taken;
-  within = part;
-}
-
 -- where a read failed all that was ahead was taken
-pub heard_failed : (most : ℕ) (a b c : Option (List ℕ)) (ahead line ahead' line' : List ℕ) → IsPart most line → Consumes a (prepend_known ahead b) line
-    → PoursOpen most ahead line ahead' line' → Keeps b c
-    → HearsPart most a (prepend_known ahead' c)
-heard_failed most a b c ahead line ahead' line' part taken poured kept = record {
+pub heard_failed : (most : ℕ) (a b c : Option (List ℕ)) (ahead line ahead' line' ahead'' : List ℕ) → IsPart most line → Consumes a (prepend_known ahead b) line
+    → PoursOpen most ahead line ahead' line' → Keeps b c → ahead'' ≡ ahead'
+    → HearsPart most a (prepend_known ahead'' c)
+heard_failed most a b c ahead line ahead' line' ahead'' part taken poured kept same = record {
   part = line';
-  taken = taken_kept a b c ahead' line' kept (taken_all a b ahead line ahead' line' poured.taken poured.added taken);
+  taken = subst (λ (h : List ℕ). Consumes a (prepend_known h c) line') (sym same)
+      (taken_kept a b c ahead' line' kept (taken_all a b ahead line ahead' line' poured.taken poured.added taken));
   within = open_part most ahead line ahead' line' part poured;
 }
 
@@ -97,46 +76,25 @@ taken_on most a b c ahead line ahead' line' piece ahead'' taken poured read held
 pub heard_end : (most : ℕ) (result : Result Bool HearFault) (raw : List ℕ) (a b c : Option (List ℕ)) (ahead line ahead' line' piece : List ℕ) → raw ≡ line'
     → Ends result raw
     → IsPart most line → Consumes a (prepend_known ahead b) line → PoursOpen most ahead line ahead' line' → Consumes b c piece → piece ≡ [] → IsAtEnd c
-    → HearsOf most result line' a (prepend_known ahead' c)
+    → HearsOf most result line' a (prepend_known piece c)
 heard_end most (Ok true) raw a b c ahead line ahead' line' piece is ends part taken poured read none end = absurd ends
 heard_end most (Ok false) raw a b c ahead line ahead' line' piece is ends part taken poured read none end = (
-  subst (Consumes a (prepend_known ahead' c)) (sym is ∙ ends) (taken_on most a b c ahead line ahead' line' piece ahead' taken poured read
-      (poured.taken ∙ sym none)),
-  at_end c ahead' poured.taken end,
+  subst (Consumes a (prepend_known piece c)) (sym is ∙ ends) (taken_on most a b c ahead line ahead' line' piece piece taken poured read refl),
+  at_end c piece none end,
 )
 heard_end most (Err fault.CutOff) raw a b c ahead line ahead' line' piece is ends part taken poured read none end = record {
   part = line';
-  taken = taken_on most a b c ahead line ahead' line' piece ahead' taken poured read (poured.taken ∙ sym none);
+  taken = taken_on most a b c ahead line ahead' line' piece piece taken poured read refl;
   some = subst (λ (l : List ℕ). 0 < length l) is ends;
   within = open_part most ahead line ahead' line' part poured;
-  end = at_end c ahead' poured.taken end;
+  end = at_end c piece none end;
 }
 heard_end most (Err fault.Failed) raw a b c ahead line ahead' line' piece is ends part taken poured read none end = absurd ends
 heard_end most (Err fault.TooLong) raw a b c ahead line ahead' line' piece is ends part taken poured read none end = absurd ends
 heard_end most (Err fault.NoText) raw a b c ahead line ahead' line' piece is ends part taken poured read none end = absurd ends
 heard_end most (Err fault.OutOfMemory) raw a b c ahead line ahead' line' piece is ends part taken poured read none end = absurd ends
 
--- nothing is counted then
-pub counted_end : (result : Result Bool HearFault) (raw : List ℕ) (old new : ℕ) → Ends result raw → new ≡ old → HearCounts result old new
-counted_end (Ok heard) raw old new ends same = same
-counted_end (Err fault.CutOff) raw old new ends same = same
-counted_end (Err fault.Failed) raw old new ends same = absurd ends
-counted_end (Err fault.TooLong) raw old new ends same = same
-counted_end (Err fault.NoText) raw old new ends same = same
-counted_end (Err fault.OutOfMemory) raw old new ends same = same
-
--- what is left of the limit falls where something was read
-pub falls : (most count : ℕ) (ahead line ahead' line' : List ℕ) → line' ≡ line ++ ahead → length line' ≤ most → length ahead' ≡ count → 0 < count
-    → most + 1 - (length line' + length ahead') < most + 1 - (length line + length ahead)
-falls most count ahead line ahead' line' added few long some =
-    let sum : length line' ≡ length line + length ahead = ap length added ∙ length-append line ahead in
-    omega arith
-
 -- the same, where the fault is known by an equation
-pub heard_without : (most : ℕ) (result : Result Bool HearFault) (line : List ℕ) (a b : Option (List ℕ)) → result ≡ Err fault.OutOfMemory → HearsPart most a b
-    → HearsOf most result line a b
-heard_without most result line a b is part = subst (λ r. HearsOf most r line a b) (sym is) part
-
 pub heard_no_more : (most : ℕ) (result : Result Bool HearFault) (line : List ℕ) (a b : Option (List ℕ)) → result ≡ Err fault.Failed → HearsPart most a b
     → HearsOf most result line a b
 heard_no_more most result line a b is part = subst (λ r. HearsOf most r line a b) (sym is) part

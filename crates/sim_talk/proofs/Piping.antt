@@ -1,11 +1,11 @@
 -- What a talk over an input and a sink tells of what it heard and told.
-use Rattle.{sim_store.specs.Writing.OutMeets, sim_store.specs.declared.fault.StoreFault.StoreFault, sim_talk.specs.declared.fault.HearFault.HearFault}
-use Rattle.std.proofs.Common.{◌≡◌, ℕ, Bool, true, false, List, [], ◌∷◌, ◌++◌, take, Some, None, Ok, Err, Option, Result, refl, append-nil, subst, sym}
+use Rattle.{sim_store.specs.declared.fault.Failed.Failed, sim_talk.specs.declared.fault.HearFault.HearFault}
+use Rattle.std.proofs.Common.{◌≡◌, ℕ, List, [], ◌∷◌, ◌++◌, length, Some, None, Ok, Err, Option, Result}
+use Rattle.std.proofs.{Common.append-nil, Common.refl, Common.subst, Common.sym, Math.Seq.take-length}
 use Rattle.sim_talk.proofs.Talking.{Appends-nothing, Consumes-nothing}
-use Rattle.sim_talk.specs.{Lines.feed, Lines.HearsOf, Lines.IsCause, Lines.MissesOf, LineTalk.piped}
-use Rattle.sim_talk.specs.Talks.{Extends, Hears, IsBeginning, part_of, Passed}
-use Rattle.std.specs.Io.KnownBytes.{Appends, Consumes, prepend_known}
-use Rattle.sim_store.specs.declared.fault.StoreFault.TheVariants as store
+use Rattle.sim_talk.specs.{Lines.IsCause, Lines.MissesOf, LineTalk.piped, LineTalk.TellsOut}
+use Rattle.sim_talk.specs.Talks.{History, IsBeginning, Misses, part_of, Says, Tells}
+use Rattle.std.specs.{Io.KnownBytes.Appends, Io.KnownBytes.prepend_known, Prelude.⊤}
 use Rattle.sim_talk.specs.Talks as talks
 
 -- a cause that the bytes show is one where they are told
@@ -13,46 +13,47 @@ cause_told : (most : ℕ) (fault : HearFault) (a b : Option (List ℕ)) → Miss
 cause_told most fault None b missed = tt
 cause_told most fault (Some bytes) b missed = missed
 
--- what was heard
-pub hears_piped : (most : ℕ) (result : Result Bool HearFault) (line : List ℕ) (coming coming' written written' : Option (List ℕ)) (most' : ℕ)
-    → HearsOf most result line coming coming' → written' ≡ written → most' ≡ most
-    → Hears result line (record { passed = None; coming = coming; written = written; longest = most })
-    (record { passed = None; coming = coming'; written = written'; longest = most' })
-hears_piped most (Ok true) line coming coming' written written' most' was same long = record {
-  passed = tt;
-  taken = subst (Consumes coming coming') (sym (append-nil (line ++ feed))) was.taken;
-  written = Appends-nothing written written' same;
-  longest = long;
-}
-hears_piped most (Ok false) line coming coming' written written' most' was same long = (
-  record { passed = tt; taken = was.0; written = Appends-nothing written written' same; longest = long },
-  was.1,
-)
-hears_piped most (Err fault) line coming coming' written written' most' was same long = record {
-  passed = tt;
-  cause = cause_told most fault coming coming' was;
-  written = Appends-nothing written written' same;
+-- what a talk with these bytes tells
+abbrev pub here : Option (List ℕ) → Option (List ℕ) → List ℕ → ℕ → History
+here coming written kept most = record { passed = None; coming = coming; written = written; kept = kept; longest = most }
+
+-- what the sink holds and what is kept stays so
+pub says_on : (bytes : List ℕ) (old mid new : History) → Says bytes old mid → new.written ≡ mid.written → new.kept ≡ mid.kept → Says bytes old new
+says_on bytes old mid new was same kept = record {
+  now = was.now;
+  written = subst (λ (o : Option (List ℕ)). Appends old.written o was.now) (sym same) was.written;
+  rest = subst (λ (l : List ℕ). old.kept ++ bytes ≡ was.now ++ l) (sym kept) was.rest;
 }
 
--- of a text that failed a beginning was written
-pub written_part : (fault : StoreFault) (text : List ℕ) (told told' : Option (List ℕ)) → OutMeets (Err fault) text told told'
-    → (part : ℕ) × Appends told told' (take part text)
-written_part store.WriteFault text told told' was = (was.0, was.2)
-written_part store.ReadFault text told told' was = absurd was
-written_part store.TooLong text told told' was = absurd was
-written_part store.NoFile text told told' was = absurd was
-written_part store.OutOfMemory text told told' was = absurd was
+-- no line was heard
+pub misses_piped : (most : ℕ) (fault : HearFault) (coming coming' written written' : Option (List ℕ)) (kept kept' : List ℕ) (most' : ℕ)
+    → MissesOf most fault coming coming' → Says [] (here coming written kept most) (here coming' written' kept' most')
+    → Misses fault (here coming written kept most) (here coming' written' kept' most')
+misses_piped most fault coming coming' written written' kept kept' most' was says =
+    record { passed = tt; cause = cause_told most fault coming coming' was; written = says }
 
--- a beginning of a text was told
-pub tells_part : (text ahead : List ℕ) (left told told' : Option (List ℕ)) (most : ℕ) → (part : ℕ) × Appends told told' (take part text)
-    → (more : List Passed) × IsBeginning text more × Extends (piped ahead left told most) (piped ahead left told' most) more
-tells_part text ahead left told told' most was = (
-  talks.told (take was.0 text) ∷ [],
-  part_of was.0,
-  record {
-    passed = tt;
-    taken = Consumes-nothing (prepend_known ahead left);
-    written = subst (Appends told told') (sym (append-nil (take was.0 text))) was.1;
-    longest = refl;
-  },
+-- what was told
+pub tells_piped : (result : Result ⊤ Failed) (text ahead : List ℕ) (left told told' : Option (List ℕ)) (kept kept' : List ℕ) (most : ℕ)
+    → TellsOut result text kept kept' told told' → Tells result text (piped ahead left told kept most) (piped ahead left told' kept' most)
+tells_piped (Ok done) text ahead left told told' kept kept' most was = record {
+  passed = tt;
+  taken = Consumes-nothing (prepend_known ahead left);
+  written = subst (λ (l : List ℕ). Says l (piped ahead left told kept most) (piped ahead left told' kept' most)) (sym (append-nil text))
+      (record { now = was.0; written = was.1; rest = was.2 });
+  longest = refl;
+}
+tells_piped (Err failed) text ahead left told told' kept kept' most was = (
+  talks.told text ∷ [],
+  subst (λ (t : List ℕ). IsBeginning text (talks.told t ∷ [])) (take-length text) (part_of (length text)),
+  (
+    piped ahead left told (kept ++ text) most,
+    record {
+      passed = tt;
+      taken = Consumes-nothing (prepend_known ahead left);
+      written = subst (λ (l : List ℕ). Says l (piped ahead left told kept most) (piped ahead left told (kept ++ text) most)) (sym (append-nil text))
+          (record { now = []; written = Appends-nothing told told refl; rest = refl });
+      longest = refl;
+    },
+    (was.0, record { passed = refl; coming = refl; written = was.1; kept = was.2; longest = refl }),
+  ),
 )

@@ -1,12 +1,14 @@
 -- What passed, and then what passed behind it; and one line more is answered behind those that were.
 use Rattle.{sim_store.specs.declared.fault.Failed.Failed, sim_talk.specs.declared.fault.TalkFault.TalkFault, sim_talk.specs.Lines.feed}
-use Rattle.std.{proofs.Common.◌∙◌, specs.Prelude.⊤}
+use Rattle.std.{proofs.Common.◌∙◌, proofs.Math.Seq.take-length, proofs.Math.Seq.take-nil, specs.Prelude.⊤}
 use Rattle.std.specs.Io.KnownBytes.{Appends, Consumes, IsAtEnd}
 use Rattle.std.proofs.Common.{◌≡◌, ℕ, zero, suc, ◌-◌, ◌^◌, ◌<◌, List, [], ◌∷◌, ◌++◌, length, take, Some, None, Ok, Err, Option}
-use Rattle.std.proofs.Common.{Result, refl, ap, append-nil, append_assoc, subst, sym}
-use Rattle.sim_talk.specs.Dialogues.{after_lines, answer_part, AnswersLines, Converses, dialogue, first_part, IsAll, last_part, no_answer, no_first, no_last}
-use Rattle.sim_talk.specs.Dialogues.{talk_so_far, TellsText}
-use Rattle.sim_talk.specs.Talks.{Extends, Grows, heard, heard_bytes, History, IsBeginning, none_of, part_of, Passed, Tells, told, told_bytes}
+use Rattle.std.proofs.Common.{Result, inl, inr, refl, ap, append-nil, append_assoc, subst, sym}
+use Rattle.sim_talk.specs.Dialogues.{after_lines, AnswersLines, Converses, dialogue, EndsAs, IsAll, IsCutOff, talk_so_far, TellsText}
+use Rattle.sim_talk.specs.Dialogues.{amid_answer, answer_part, before_line, first_part, IsUntold, last_part, no_answer, no_first, no_last, no_line}
+use Rattle.sim_talk.specs.Talks.{Extends, Grows, heard, heard_bytes, Hears, History, IsBeginning, Loses, Misses, none_of, part_of, Passed, Says}
+use Rattle.sim_talk.specs.Talks.{Tells, told, told_bytes, Writes}
+use Rattle.sim_talk.specs.{Lines.IsCause, declared.fault.HearFault.HearFault}
 use Rattle.sim_talk.specs.declared.fault.TalkFault.TheVariants as ends
 
 -- ---- the parts of a history
@@ -44,6 +46,22 @@ Appends-nothing a b same = subst (λ (o : Option (List ℕ)). Appends a o []) (s
     kept None = tt
     kept (Some bytes) = sym (append-nil bytes)
 
+-- these bytes were told, and then those
+Says-trans : (a b c : History) (xs ys : List ℕ) → Says xs a b → Says ys b c → Says (xs ++ ys) a c
+Says-trans a b c xs ys one two = record {
+  now = one.now ++ two.now;
+  written = Appends-trans a.written b.written c.written one.now two.now one.written two.written;
+  rest = sym (append_assoc a.kept xs ys) ∙ ap (λ (l : List ℕ). l ++ ys) one.rest ∙ append_assoc one.now b.kept ys
+      ∙ ap (λ (l : List ℕ). one.now ++ l) two.rest ∙ sym (append_assoc one.now two.now c.kept);
+}
+
+pub Says-nothing : (a b : History) → b.written ≡ a.written → b.kept ≡ a.kept → Says [] a b
+Says-nothing a b same kept = record {
+  now = [];
+  written = Appends-nothing a.written b.written same;
+  rest = append-nil a.kept ∙ sym kept;
+}
+
 -- ---- their bytes
 
 heard_bytes-append : (xs ys : List Passed) → heard_bytes (xs ++ ys) ≡ heard_bytes xs ++ heard_bytes ys
@@ -65,8 +83,7 @@ Extends-trans a b c xs ys one two = record {
   passed = Grows-trans a.passed b.passed c.passed xs ys one.passed two.passed;
   taken = subst (Consumes a.coming c.coming) (sym (heard_bytes-append xs ys))
       (Consumes-trans a.coming b.coming c.coming (heard_bytes xs) (heard_bytes ys) one.taken two.taken);
-  written = subst (Appends a.written c.written) (sym (told_bytes-append xs ys))
-      (Appends-trans a.written b.written c.written (told_bytes xs) (told_bytes ys) one.written two.written);
+  written = subst (λ (l : List ℕ). Says l a c) (sym (told_bytes-append xs ys)) (Says-trans a b c (told_bytes xs) (told_bytes ys) one.written two.written);
   longest = two.longest ∙ one.longest;
 }
 
@@ -75,9 +92,66 @@ pub Extends-nothing : (a : History) → Extends a a []
 Extends-nothing a = record {
   passed = Grows-nothing a.passed;
   taken = Consumes-nothing a.coming;
-  written = Appends-nothing a.written a.written refl;
+  written = Says-nothing a a refl refl;
   longest = refl;
 }
+
+-- ---- what was kept is written
+
+-- nothing passed then
+pub Writes-nothing : (a b : History) → Writes a.kept a b → Extends a b []
+Writes-nothing a b wrote = record {
+  passed = subst (λ (o : Option (List Passed)). Grows a.passed o []) (sym wrote.passed) (Grows-nothing a.passed);
+  taken = subst (λ (o : Option (List ℕ)). Consumes a.coming o []) (sym wrote.coming) (Consumes-nothing a.coming);
+  written = record { now = a.kept; written = wrote.written; rest = ap (λ (l : List ℕ). a.kept ++ l) (sym wrote.kept) };
+  longest = wrote.longest;
+}
+
+-- what passed before it did
+pub Extends-written : (a b c : History) (xs : List Passed) → Extends a b xs → Writes b.kept b c → Extends a c xs
+Extends-written a b c xs one wrote = subst (Extends a c) (append-nil xs) (Extends-trans a b c xs [] one (Writes-nothing b c wrote))
+
+-- and what passes behind it does
+pub written-Extends : (a b c : History) (xs : List Passed) → Writes a.kept a b → Extends b c xs → Extends a c xs
+written-Extends a b c xs wrote two = Extends-trans a b c [] xs (Writes-nothing a b wrote) two
+
+-- a line was not heard before it
+Misses-written : (fault : HearFault) (a b c : History) → Misses fault a b → Writes b.kept b c → Misses fault a c
+Misses-written fault a b c missed wrote = record {
+  passed = subst (λ (o : Option (List Passed)). Grows a.passed o []) (sym wrote.passed) missed.passed;
+  cause = subst (λ (o : Option (List ℕ)). IsCause a.longest fault a.coming o) (sym wrote.coming) missed.cause;
+  written = Says-trans a b c [] [] missed.written (Writes-nothing b c wrote).written;
+}
+
+-- or behind it
+pub written-Misses : (fault : HearFault) (a b c : History) → Writes a.kept a b → Misses fault b c → Misses fault a c
+written-Misses fault a b c wrote missed = record {
+  passed = subst (λ (o : Option (List Passed)). Grows o c.passed []) wrote.passed missed.passed;
+  cause = subst (λ (n : ℕ). IsCause n fault a.coming c.coming) wrote.longest
+      (subst (λ (o : Option (List ℕ)). IsCause b.longest fault o c.coming) wrote.coming missed.cause);
+  written = Says-trans a b c [] [] (Writes-nothing a b wrote).written missed.written;
+}
+
+-- where nothing is kept any more, no bytes follow
+Writes-trans : (a b c : History) (xs ys : List ℕ) → Writes xs a b → Writes ys b c → ys ≡ [] → Writes xs a c
+Writes-trans a b c xs ys one two none = record {
+  passed = two.passed ∙ one.passed;
+  coming = two.coming ∙ one.coming;
+  written = subst (Appends a.written c.written) (ap (λ (l : List ℕ). xs ++ l) none ∙ append-nil xs)
+      (Appends-trans a.written b.written c.written xs ys one.written two.written);
+  kept = two.kept;
+  longest = two.longest ∙ one.longest;
+}
+
+-- what is lost stays so
+Loses-written : (a b c : History) → Loses a b → Writes b.kept b c → Loses a c
+Loses-written a b c lost wrote = (lost.0, Writes-trans a b c (take lost.0 a.kept) b.kept lost.1 wrote lost.1.kept)
+
+Loses-lost : (a b c : History) → Loses a b → Loses b c → Loses a c
+Loses-lost a b c lost more = (
+  lost.0,
+  Writes-trans a b c (take lost.0 a.kept) (take more.0 b.kept) lost.1 more.1 (ap (λ (l : List ℕ). take more.0 l) lost.1.kept ∙ take-nil more.0),
+)
 
 -- ---- one line more
 
@@ -109,17 +183,29 @@ pub unmade_answer : {S : Type 0} (answer : S → List ℕ → List ℕ) (next : 
     → Extends a b (dialogue answer next s lines) → Extends b c (heard line ∷ []) → AnswersLines (Err ends.OutOfMemory) answer next s lines a c
 unmade_answer answer next s lines line a b c were one = (line, Extends-trans a b c (dialogue answer next s lines) (heard line ∷ []) were one)
 
--- an answer was not told whole
+-- an answer was not told whole, or not written
 pub untold_answer : {S : Type 0} (answer : S → List ℕ → List ℕ) (next : S → List ℕ → S) (s : S) (lines : List (List ℕ)) (line text : List ℕ)
     (failed : Failed) (a b c d : History)
     → text ≡ answer (after_lines next s lines) line → Extends a b (dialogue answer next s lines) → Extends b c (heard line ∷ [])
     → Tells (Err failed) text c d → AnswersLines (Err ends.Untold) answer next s lines a d
 untold_answer answer next s lines line text failed a b c d same were one part = (
-  line,
-  part.0,
-  subst (λ (t : List ℕ). IsBeginning t part.0) same part.1,
-  Extends-trans a b d (dialogue answer next s lines) (heard line ∷ part.0) were (Extends-trans b c d (heard line ∷ []) part.0 one part.2),
+  heard line ∷ part.0,
+  amid_answer line part.0 (subst (λ (t : List ℕ). IsBeginning t part.0) same part.1),
+  (
+    part.2.0,
+    Extends-trans a b part.2.0 (dialogue answer next s lines) (heard line ∷ part.0) were (Extends-trans b c part.2.0 (heard line ∷ []) part.0 one part.2.1),
+    part.2.2,
+  ),
 )
+
+-- no line was heard behind them: not for a fault of hearing, or since what was told before could not be written
+pub unheard_behind : {S : Type 0} (answer : S → List ℕ → List ℕ) (next : S → List ℕ → S) (s : S) (lines : List (List ℕ)) (fault : TalkFault)
+    (line : List ℕ) (a b c : History)
+    → Extends a b (dialogue answer next s lines) → Hears (Err fault) line b c → AnswersLines (Err fault) answer next s lines a c
+unheard_behind answer next s lines (ends.Unheard cause) line a b c were missed = (b, were, missed)
+unheard_behind answer next s lines ends.Untold line a b c were lost =
+    ([], before_line, (b, subst (Extends a b) (sym (append-nil (dialogue answer next s lines))) were, lost))
+unheard_behind answer next s lines ends.OutOfMemory line a b c were never = absurd never
 
 -- the input has come to its end
 pub answered_all : {S : Type 0} (answer : S → List ℕ → List ℕ) (next : S → List ℕ → S) (s : S) (lines : List (List ℕ)) (done : ⊤) (a b c : History)
@@ -139,8 +225,15 @@ unbegun answer next last s first result a is =
 pub stopped_first : {S : Type 0} (answer : S → List ℕ → List ℕ) (next : S → List ℕ → S) (last : S → List ℕ) (s : S) (first : List ℕ) (fault : TalkFault)
     (a b : History) → TellsText (Err fault) first a b → Converses (Err fault) answer next last s first a b
 stopped_first answer next last s first (ends.Unheard cause) a b one = absurd one
-stopped_first answer next last s first ends.Untold a b one = (one.0, first_part one.0 one.1, one.2)
+stopped_first answer next last s first ends.Untold a b one = (Err ends.Untold, one.2.0, (one.0, first_part one.0 one.1, one.2.1), one.2.2)
 stopped_first answer next last s first ends.OutOfMemory a b one = ([], no_first, one)
+
+-- writing failed behind some lines
+cut_off : {S : Type 0} (answer : S → List ℕ → List ℕ) (next : S → List ℕ → S) (last : S → List ℕ) (s : S) (first : List ℕ) (lines : List (List ℕ))
+    (more : List Passed) → IsCutOff (answer (after_lines next s lines)) more → IsUntold answer next last s first (talk_so_far answer next s first lines ++ more)
+cut_off answer next last s first lines [] before_line =
+    subst (IsUntold answer next last s first) (sym (append-nil (talk_so_far answer next s first lines))) (no_line lines)
+cut_off answer next last s first lines _ (amid_answer line more part) = answer_part lines line more part
 
 -- it stopped at a line
 pub stopped_amid : {S : Type 0} (answer : S → List ℕ → List ℕ) (next : S → List ℕ → S) (last : S → List ℕ) (s : S) (first : List ℕ) (fault : TalkFault)
@@ -149,9 +242,14 @@ pub stopped_amid : {S : Type 0} (answer : S → List ℕ → List ℕ) (next : S
 stopped_amid answer next last s first (ends.Unheard cause) lines a b c one two =
     (lines, two.0, Extends-trans a b two.0 (told first ∷ []) (dialogue answer next s lines) one two.1, two.2)
 stopped_amid answer next last s first ends.Untold lines a b c one two = (
-  talk_so_far answer next s first lines ++ heard two.0 ∷ two.1,
-  answer_part lines two.0 two.1 two.2,
-  Extends-trans a b c (told first ∷ []) (dialogue answer next s lines ++ heard two.0 ∷ two.1) one two.3,
+  Err ends.Untold,
+  two.2.0,
+  (
+    talk_so_far answer next s first lines ++ two.0,
+    cut_off answer next last s first lines two.0 two.1,
+    Extends-trans a b two.2.0 (told first ∷ []) (dialogue answer next s lines ++ two.0) one two.2.1,
+  ),
+  two.2.2,
 )
 stopped_amid answer next last s first ends.OutOfMemory lines a b c one two = (
   talk_so_far answer next s first lines ++ heard two.0 ∷ [],
@@ -181,9 +279,14 @@ ended_so answer next last s first lines (Ok told_last) done a b c d one two thre
 ended_so answer next last s first lines (Err (ends.Unheard cause)) done a b c d one two three = absurd three
 ended_so answer next last s first lines (Err ends.Untold) done a b c d one two three =
     let so_far : Extends a c (talk_so_far answer next s first lines) = Extends-trans a b c (told first ∷ []) (dialogue answer next s lines) one two.0 in (
-      talk_so_far answer next s first lines ++ three.0,
-      last_part lines three.0 three.1,
-      Extends-trans a c d (talk_so_far answer next s first lines) three.0 so_far three.2,
+      Err ends.Untold,
+      three.2.0,
+      (
+        talk_so_far answer next s first lines ++ three.0,
+        last_part lines three.0 three.1,
+        Extends-trans a c three.2.0 (talk_so_far answer next s first lines) three.0 so_far three.2.1,
+      ),
+      three.2.2,
     )
 ended_so answer next last s first lines (Err ends.OutOfMemory) done a b c d one two three =
     let so_far : Extends a c (talk_so_far answer next s first lines) = Extends-trans a b c (told first ∷ []) (dialogue answer next s lines) one two.0 in (
@@ -191,6 +294,46 @@ ended_so answer next last s first lines (Err ends.OutOfMemory) done a b c d one 
       no_last lines,
       subst (Extends a d) (append-nil (talk_so_far answer next s first lines)) (Extends-trans a c d (talk_so_far answer next s first lines) [] so_far three),
     )
+
+-- ---- its end
+
+-- all that was told is written
+written_so : {S : Type 0} (answer : S → List ℕ → List ℕ) (next : S → List ℕ → S) (last : S → List ℕ) (s : S) (first : List ℕ) (outcome : Result ⊤ TalkFault)
+    (a b c : History) → Converses outcome answer next last s first a b → Writes b.kept b c → Converses outcome answer next last s first a c
+written_so answer next last s first (Ok done) a b c was wrote =
+    (was.0, Extends-written a b c _ was.1 wrote, was.2)
+written_so answer next last s first (Err (ends.Unheard cause)) a b c was wrote = (was.0, was.1, was.2, Misses-written cause was.1 b c was.3 wrote)
+written_so answer next last s first (Err ends.Untold) a b c was wrote = (was.0, was.1, was.2, Loses-written was.1 b c was.3 wrote)
+written_so answer next last s first (Err ends.OutOfMemory) a b c was wrote = (was.0, was.1, Extends-written a b c was.0 was.2 wrote)
+
+-- or that fails
+lost_so : {S : Type 0} (answer : S → List ℕ → List ℕ) (next : S → List ℕ → S) (last : S → List ℕ) (s : S) (first : List ℕ) (outcome : Result ⊤ TalkFault)
+    (a b c : History) → Converses outcome answer next last s first a b → Loses b c → Converses (Err ends.Untold) answer next last s first a c
+lost_so answer next last s first (Ok done) a b c was lost = (Ok done, b, was, lost)
+lost_so answer next last s first (Err (ends.Unheard cause)) a b c was lost = (Err (ends.Unheard cause), b, was, lost)
+lost_so answer next last s first (Err ends.Untold) a b c was lost = (was.0, was.1, was.2, Loses-lost was.1 b c was.3 lost)
+lost_so answer next last s first (Err ends.OutOfMemory) a b c was lost = (Err ends.OutOfMemory, b, was, lost)
+
+pub conversed : {S : Type 0} (answer : S → List ℕ → List ℕ) (next : S → List ℕ → S) (last : S → List ℕ) (s : S) (first : List ℕ)
+    (outcome result : Result ⊤ TalkFault) (a b c : History)
+    → Converses outcome answer next last s first a b → EndsAs outcome result b c → Converses result answer next last s first a c
+conversed answer next last s first outcome result a b c was (inl ended) =
+    subst (λ (r : Result ⊤ TalkFault). Converses r answer next last s first a c) (sym ended.0) (written_so answer next last s first outcome a b c was ended.1)
+conversed answer next last s first outcome result a b c was (inr ended) =
+    subst (λ (r : Result ⊤ TalkFault). Converses r answer next last s first a c) (sym ended.0) (lost_so answer next last s first outcome a b c was ended.1)
+
+-- nothing is kept then
+pub nothing_kept : (outcome result : Result ⊤ TalkFault) (a b : History) → EndsAs outcome result a b → b.kept ≡ []
+nothing_kept outcome result a b (inl ended) = ended.1.kept
+nothing_kept outcome result a b (inr ended) = ended.1.1.kept
+
+-- a text was told and could not be written
+pub told_and_lost : (failed : Failed) (text : List ℕ) (a b c : History) → Extends a b (told text ∷ []) → Loses b c → Tells (Err failed) text a c
+told_and_lost failed text a b c one lost = (
+  told text ∷ [],
+  subst (λ (t : List ℕ). IsBeginning text (told t ∷ [])) (take-length text) (part_of (length text)),
+  (b, one, lost),
+)
 
 -- ---- a text that is told in part
 
@@ -201,11 +344,15 @@ part_again (suc part) zero text = (0, refl)
 part_again (suc part) (suc count) [] = (0, refl)
 part_again (suc part) (suc count) (b ∷ bs) = let rest = part_again part count bs in (suc rest.0, ap (λ (l : List ℕ). b ∷ l) rest.1)
 
+-- where nothing is kept nothing is lost
+pub Loses-nothing : (a : History) → a.kept ≡ [] → Loses a a
+Loses-nothing a none = (0, record { passed = refl; coming = refl; written = Appends-nothing a.written a.written refl; kept = none; longest = refl })
+
 -- of a text of which a beginning was to be told, a beginning was told
-pub told_in_part : (result : Result ⊤ Failed) (failed : Failed) (text : List ℕ) (count : ℕ) (a b : History) → Tells result (take count text) a b
-    → Tells (Err failed) text a b
-told_in_part (Ok done) failed text count a b was = (told (take count text) ∷ [], part_of count, was)
-told_in_part (Err other) failed text count a b was = (was.0, shorter was.0 was.1, was.2)
+pub told_in_part : (result : Result ⊤ Failed) (failed : Failed) (text : List ℕ) (count : ℕ) (a b : History) → b.kept ≡ []
+    → Tells result (take count text) a b → Tells (Err failed) text a b
+told_in_part (Ok done) failed text count a b none was = (told (take count text) ∷ [], part_of count, (b, was, Loses-nothing b none))
+told_in_part (Err other) failed text count a b none was = (was.0, shorter was.0 was.1, was.2)
   where
     shorter : (more : List Passed) → IsBeginning (take count text) more → IsBeginning text more
     shorter [] none_of = none_of

@@ -1,4 +1,5 @@
 pub mod Ahead
+pub mod Kept
 pub mod Lines
 pub mod Marks
 pub mod Talks

@@ -1,13 +1,22 @@
 -- What a talk over an input and a sink answers.
 use Rattle.{sim_store.specs.Counts.raised, sim_store.specs.declared.fault.Failed.Failed, std.specs.Io.KnownBytes.Appends, std.specs.Str.IsUtf8}
-use Rattle.{sim_talk.specs.Talks.History, std.specs.Io.KnownBytes.prepend_known}
-use Rattle.std.specs.Prelude.{◌≡◌, ℕ, ◌<◌, Bool, true, false, List, [], length, take, ⊤, None, Ok, Err, Option, Result}
-use Rattle.sim_talk.specs.declared.fault.HearFault.{HearFault}
+use Rattle.sim_talk.specs.{Lines.HearsOf, Lines.MissesOf, Talks.Extends, Talks.History, Talks.Loses}
+use Rattle.std.specs.Io.KnownBytes.{Consumes, IsAtEnd, Keeps, prepend_known}
+use Rattle.std.specs.Prelude.{◌≡◌, ℕ, ◌<◌, Bool, true, false, List, [], ◌++◌, length, take, ⊤, None, Ok, Err, Option, Result}
+use Rattle.sim_talk.specs.declared.{fault.HearFault.HearFault, fault.TalkFault.TalkFault}
 use Rattle.sim_talk.specs.declared.fault.HearFault.TheVariants as fault
+use Rattle.sim_talk.specs.declared.fault.TalkFault.TheVariants as ends
 
--- what a talk over an input and a sink tells: the bytes of both, with those that were read and not heard yet
-abbrev pub piped : List ℕ → Option (List ℕ) → Option (List ℕ) → ℕ → History
-piped ahead left told most = record { passed = None; coming = prepend_known ahead left; written = told; longest = most }
+-- what a talk over an input and a sink tells: the bytes of both, with those that were read and not heard yet, and what is kept
+abbrev pub piped : List ℕ → Option (List ℕ) → Option (List ℕ) → List ℕ → ℕ → History
+piped ahead left told kept most = record { passed = None; coming = prepend_known ahead left; written = told; kept = kept; longest = most }
+
+-- ---- what is heard
+
+-- nothing passed, or what was kept could not be written
+abbrev pub Readies : Result ⊤ Failed → History → History → Type 0
+Readies (Ok done) old new = Extends old new []
+Readies (Err failed) old new = Loses old new
 
 -- a line that has come to its end is heard where it is text
 abbrev pub IsText : Result Bool HearFault → List ℕ → Type 0
@@ -23,16 +32,48 @@ Ends (Ok false) line = line ≡ []
 Ends (Err fault.CutOff) line = 0 < length line
 Ends (Err other) line = ⊥
 
--- a failed read is counted, and nothing else is
-abbrev pub HearCounts : Result Bool HearFault → ℕ → ℕ → Type 0
-HearCounts (Ok heard) old new = new ≡ old
-HearCounts (Err fault.Failed) old new = new ≡ raised 1 old
-HearCounts (Err other) old new = new ≡ old
+-- a piece of the input came, and is ahead; or reading failed
+abbrev pub Comes : Result ℕ Failed → Option (List ℕ) → Option (List ℕ) → List ℕ → List ℕ → Type 0
+Comes (Ok count) old new ahead ahead' = Consumes old new ahead' × (length ahead' ≡ count) × (count ≡ 0 → IsAtEnd new)
+Comes (Err failed) old new ahead ahead' = Keeps old new × (ahead' ≡ ahead)
 
--- the whole text was written, or a beginning of it
-abbrev pub TellsOut : Result ⊤ Failed → List ℕ → Option (List ℕ) → Option (List ℕ) → Type 0
-TellsOut (Ok done) text old new = Appends old new text
-TellsOut (Err failed) text old new = (part : ℕ) × Appends old new (take part text)
+-- a failed read is counted, and nothing else is
+abbrev pub ReadCounts : Result Bool HearFault → ℕ → ℕ → Type 0
+ReadCounts (Ok heard) old new = new ≡ old
+ReadCounts (Err fault.Failed) old new = new ≡ raised 1 old
+ReadCounts (Err other) old new = new ≡ old
+
+-- what was taken of the input, by the answer; nothing where what was kept could not be written
+abbrev pub TakesOf : ℕ → Result Bool TalkFault → List ℕ → Option (List ℕ) → Option (List ℕ) → Type 0
+TakesOf most (Ok heard) line old new = HearsOf most (Ok heard) line old new
+TakesOf most (Err (ends.Unheard cause)) line old new = MissesOf most cause old new
+TakesOf most (Err ends.Untold) line old new = new ≡ old
+TakesOf most (Err ends.OutOfMemory) line old new = ⊥
+
+-- and what is counted of reading, and of writing
+abbrev pub HearCounts : Result Bool TalkFault → ℕ → ℕ → Type 0
+HearCounts (Ok heard) old new = new ≡ old
+HearCounts (Err (ends.Unheard cause)) old new = ReadCounts (Err cause) old new
+HearCounts (Err ends.Untold) old new = new ≡ old
+HearCounts (Err ends.OutOfMemory) old new = ⊥
+
+abbrev pub WriteCounts : Result Bool TalkFault → ℕ → ℕ → Type 0
+WriteCounts (Ok heard) old new = new ≡ old
+WriteCounts (Err (ends.Unheard cause)) old new = new ≡ old
+WriteCounts (Err ends.Untold) old new = new ≡ raised 1 old
+WriteCounts (Err ends.OutOfMemory) old new = ⊥
+
+-- ---- what is told, by what was kept and written before and after
+
+-- of what was kept and of the text behind it a beginning was written and the rest is kept; or writing failed, and the rest is lost
+abbrev pub TellsOut : Result ⊤ Failed → List ℕ → List ℕ → List ℕ → Option (List ℕ) → Option (List ℕ) → Type 0
+TellsOut (Ok done) text kept kept' old new = (now : List ℕ) × Appends old new now × (kept ++ text ≡ now ++ kept')
+TellsOut (Err failed) text kept kept' old new = (part : ℕ) × Appends old new (take part (kept ++ text)) × (kept' ≡ [])
+
+-- all that was kept was written, or a beginning of it
+abbrev pub SettlesOut : Result ⊤ Failed → List ℕ → Option (List ℕ) → Option (List ℕ) → Type 0
+SettlesOut (Ok done) kept old new = Appends old new kept
+SettlesOut (Err failed) kept old new = (part : ℕ) × Appends old new (take part kept)
 
 -- a failed write is counted
 abbrev pub TellCounts : Result ⊤ Failed → ℕ → ℕ → Type 0

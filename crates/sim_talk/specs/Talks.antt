@@ -1,9 +1,11 @@
 -- What passes in a talk: lines that are heard and texts that are told. A talk tells of it what it knows: one in memory the whole
--- history, so that it says what had been told when a line was asked for, and one over an input and a sink their bytes.
+-- history, so that it says what had been told when a line was asked for, and one over an input and a sink their bytes. What was told may
+-- be kept for a while before it is written.
 use Rattle.std.specs.{Io.KnownBytes.Appends, Io.KnownBytes.Consumes, Io.KnownBytes.IsAtEnd}
 use Rattle.std.specs.Prelude.{◌≡◌, ℕ, Bool, true, false, List, [], ◌∷◌, ◌++◌, take, ⊤, Some, None, Ok, Err, Option, Result}
-use Rattle.sim_talk.specs.{Lines.feed, Lines.IsCause, declared.fault.HearFault.HearFault}
+use Rattle.sim_talk.specs.{Lines.feed, Lines.IsCause, declared.fault.HearFault.HearFault, declared.fault.TalkFault.TalkFault}
 use Rattle.sim_store.specs.declared.fault.Failed.{Failed}
+use Rattle.sim_talk.specs.declared.fault.TalkFault.TheVariants as ends
 
 -- a line that was heard, or a text that was told
 pub data Passed : Type 0 where
@@ -18,12 +20,14 @@ pub record History : Type 0 where
   pub coming : Option (List ℕ)
   -- the bytes that were written
   pub written : Option (List ℕ)
+  -- the bytes that were told and not written yet
+  pub kept : List ℕ
   -- how many bytes a line may have
   pub longest : ℕ
 
 -- one that tells nothing
 abbrev pub untold : History
-untold = record { passed = None; coming = None; written = None; longest = 0 }
+untold = record { passed = None; coming = None; written = None; kept = []; longest = 0 }
 
 -- the bytes of the lines that were heard, each with the feed that ends it
 abbrev pub heard_bytes : List Passed → List ℕ
@@ -43,31 +47,64 @@ Grows None new more = Unit {0}
 Grows (Some old) None more = ⊥
 Grows (Some old) (Some new) more = new ≡ old ++ more
 
+-- these bytes were told: of what was kept and of them behind it a beginning was written, and the rest is kept
+pub record Says (told : List ℕ) (old new : History) : Type 0 where
+  pub now : List ℕ
+  pub written : Appends old.written new.written now
+  pub rest : old.kept ++ told ≡ now ++ new.kept
+
 -- these passed, and nothing else
 pub record Extends (old new : History) (more : List Passed) : Type 0 where
   pub passed : Grows old.passed new.passed more
   pub taken : Consumes old.coming new.coming (heard_bytes more)
-  pub written : Appends old.written new.written (told_bytes more)
+  pub written : Says (told_bytes more) old new
   pub longest : new.longest ≡ old.longest
 
 -- a line was not heard for this cause, which the bytes show that were taken; and nothing passed
 pub record Misses (fault : HearFault) (old new : History) : Type 0 where
   pub passed : Grows old.passed new.passed []
   pub cause : IsCause old.longest fault old.coming new.coming
-  pub written : Appends old.written new.written []
+  pub written : Says [] old new
 
--- one line was heard, or the input has come to its end, or there is a fault
-abbrev pub Hears : Result Bool HearFault → List ℕ → History → History → Type 0
+-- ---- what was kept is written
+
+-- these bytes were written and nothing else came to pass, and nothing is kept
+pub record Writes (now : List ℕ) (old new : History) : Type 0 where
+  pub passed : new.passed ≡ old.passed
+  pub coming : new.coming ≡ old.coming
+  pub written : Appends old.written new.written now
+  pub kept : new.kept ≡ []
+  pub longest : new.longest ≡ old.longest
+
+-- writing failed: of what was kept a beginning was written, and the rest is lost
+abbrev pub Loses : History → History → Type 0
+Loses old new = (part : ℕ) × Writes (take part old.kept) old new
+
+-- all that was kept was written, or that failed
+abbrev pub Settles : Result ⊤ Failed → History → History → Type 0
+Settles (Ok done) old new = Writes old.kept old new
+Settles (Err failed) old new = Loses old new
+
+-- ---- what a call answers
+
+-- one line was heard, or the input has come to its end, or there is a fault: of hearing, or of writing what was kept before
+abbrev pub Hears : Result Bool TalkFault → List ℕ → History → History → Type 0
 Hears (Ok true) line old new = Extends old new (heard line ∷ [])
 Hears (Ok false) line old new = Extends old new [] × IsAtEnd new.coming
-Hears (Err fault) line old new = Misses fault old new
+Hears (Err (ends.Unheard fault)) line old new = Misses fault old new
+Hears (Err ends.Untold) line old new = Loses old new
+Hears (Err ends.OutOfMemory) line old new = ⊥
 
 -- nothing of a text, or a beginning of it
 pub data IsBeginning (text : List ℕ) : List Passed → Type 0 where
   none_of : IsBeginning text []
   part_of : (part : ℕ) → IsBeginning text (told (take part text) ∷ [])
 
--- the whole text was told, or a beginning of it, or nothing
+-- these passed, and of what was told with them a beginning was written
+abbrev pub Breaks : History → History → List Passed → Type 0
+Breaks old new more = (before : History) × Extends old before more × Loses before new
+
+-- the whole text was told, or a beginning of it, or nothing, of which not all was written
 abbrev pub Tells : Result ⊤ Failed → List ℕ → History → History → Type 0
 Tells (Ok done) text old new = Extends old new (told text ∷ [])
-Tells (Err failed) text old new = (more : List Passed) × IsBeginning text more × Extends old new more
+Tells (Err failed) text old new = (more : List Passed) × IsBeginning text more × Breaks old new more

@@ -1,8 +1,8 @@
 //! Bytes that were read and not heard yet: an input gives whole pieces, and a line ends within one. They stand apart from the
 //! input, so that what a line takes of them is said and proved over lists alone.
 
-ghost use Rattle.std.specs.Prelude.{◌≡◌, ℕ, ◌<◌, ◌≤◌, ◌≢◌, [], length, IfOk, OnErr, slice_index, vec_len, vec_capacity};
-ghost use Rattle.sim_talk.specs.Lines.{Pours};
+ghost use Rattle.std.specs.Prelude.{◌≡◌, ℕ, ◌<◌, ◌≤◌, ◌↔◌, ◌≢◌, [], length, IsFalse, IfOk, OnErr, slice_index, vec_len, vec_capacity};
+ghost use Rattle.sim_talk.specs.Lines.{IsWithinLine, Pours};
 
 use std::alloc::{AllocError, Global};
 
@@ -48,6 +48,14 @@ impl Ahead {
         self.at = 0;
         self.bytes.clear();
         self.bytes.extend_from_slice(piece).unwrap();
+    }
+
+    /// Whether the end of a line stands in them.
+    pub fn has_end(&self) -> bool
+        ensures { IsFalse result ↔ IsWithinLine (bytes_ahead self.now) }
+    {
+        let left = &self.bytes[self.at..];
+        feed_in(left) < left.len()
     }
 
     /// Adds the bytes up to the first line feed to the line, and takes the line feed with them, unless the line would be longer

@@ -1,15 +1,17 @@
-//! A talk over an input and a sink: each line is read in pieces, and each text is written at once. An input and a sink know nothing of
-//! each other, so it tells no order of what passed, but the bytes of both, where they tell them.
+//! A talk over an input and a sink: each line is read in pieces, and texts are kept while whole lines still stand in what was read. All of
+//! them are written before the input is read again, so whoever waits for an answer before he sends the next line has it. An input and a
+//! sink know nothing of each other, so it tells no order of what passed, but the bytes of both, where they tell them.
 
-ghost use Rattle.std.specs.Prelude.{◌≡◌, IfOk};
-ghost use Rattle.sim_talk.specs.{LineTalk.Ends, LineTalk.HearCounts, LineTalk.IsText, LineTalk.piped, LineTalk.TellCounts, LineTalk.TellsOut};
-ghost use Rattle.sim_talk.specs.{Talks.Hears, Talks.Tells};
-ghost use Rattle.sim_talk.specs.Lines.{HearsOf};
+ghost use Rattle.std.specs.Prelude.{◌≡◌, ◌⊎◌, [], IfOk, OnOk};
+ghost use Rattle.sim_talk.specs.LineTalk.{Comes, Ends, HearCounts, IsText, piped, ReadCounts, Readies, SettlesOut, TakesOf, TellCounts, TellsOut, WriteCounts};
+ghost use Rattle.sim_talk.specs.{Talks.Hears, Talks.Settles, Talks.Tells};
+ghost use Rattle.{sim_store.specs.Sink.SinkCounts, sim_talk.specs.Lines.HearsOf, sim_talk.specs.Lines.IsWithinLine};
 
 use crate::ahead::{Ahead, PIECE, Poured};
-use crate::{HearFault, Source, Talk};
+use crate::kept::Kept;
+use crate::{HearFault, Source, Talk, TalkFault};
 use sim_base::OutOfMemory;
-use sim_store::{Failed, Sink, write_out};
+use sim_store::{Failed, Sink};
 use std::alloc::Global;
 
 /// Lines of an input, each of at most so many bytes, and texts to a sink.
@@ -18,13 +20,15 @@ pub struct LineTalk<S: Source + Drop, K: Sink + Drop> {
     source: S,
     sink: K,
     ahead: Ahead,
+    kept: Kept,
     most: usize,
 }
 
 impl<S: Source + Drop, K: Sink + Drop> LineTalk<S, K> {
-    ghost use Rattle.{sim_talk.specs.Ahead.bytes_ahead, std.specs.Io.KnownBytes.prepend_known};
+    ghost use Rattle.std.specs.Io.KnownBytes.{prepend_known};
+    ghost use Rattle.{sim_talk.specs.Ahead.bytes_ahead, sim_talk.specs.Kept.bytes_kept};
 
-    /// Nothing was heard or told yet. It takes the memory for a piece of the input.
+    /// Nothing was heard or told yet. It takes the memory for a piece of the input, and for what is kept.
     pub fn new(
         alloc: Global,
         source: S,
@@ -33,46 +37,82 @@ impl<S: Source + Drop, K: Sink + Drop> LineTalk<S, K> {
     ) -> Result<LineTalk<S, K>, OutOfMemory>
         ensures coming { IfOk result (λ talk. prepend_known (bytes_ahead talk.ahead) (S.left talk.source) ≡ S.left source) }
         ensures told { IfOk result (λ talk. K.told talk.sink ≡ K.told sink) }
+        ensures kept { IfOk result (λ talk. bytes_kept talk.kept ≡ []) }
         ensures most { IfOk result (λ talk. talk.most ≡ most) }
     {
         let ahead = Ahead::new(alloc)?;
+        let kept = Kept::new(alloc)?;
         Ok(LineTalk {
             source,
             sink,
             ahead,
+            kept,
             most,
         })
     }
 
-    /// The sink, with what it was told.
+    /// The sink, with what was written.
     pub fn sink(&self) -> &K
         ensures { result.now ≡ self.now.sink }
     {
         &self.sink
     }
 
-    // The next line, without what ends it. No more of the input is read than the pieces in which it lies.
+    // Makes ready to hear: where no line ends in what was read, what is kept is written.
+    fn make_ready(&mut self) -> Result<(), Failed>
+        ensures ready { OnOk result (IsWithinLine (bytes_ahead self.new.ahead) → bytes_kept self.new.kept ≡ []) }
+        ensures passed { Readies result
+            (piped (bytes_ahead self.old.ahead) (S.left self.old.source) (K.told self.old.sink) (bytes_kept self.old.kept) self.old.most)
+            (piped (bytes_ahead self.new.ahead) (S.left self.new.source) (K.told self.new.sink) (bytes_kept self.new.kept) self.new.most) }
+        ensures faults { TellCounts result (K.faults self.old.sink) (K.faults self.new.sink) }
+        ensures source { self.new.source ≡ self.old.source }
+        ensures ahead { self.new.ahead ≡ self.old.ahead }
+        ensures most { self.new.most ≡ self.old.most }
+    {
+        if self.ahead.has_end() {
+            return Ok(());
+        }
+        self.settle()
+    }
+
+    // The next line, without what ends it. No more of the input is read than the pieces in which it lies, and none where it stands in
+    // what was read.
     fn read_line(&mut self, line: &mut Vec<u8>) -> Result<bool, HearFault>
+        requires { IsWithinLine (bytes_ahead self.old.ahead) → bytes_kept self.old.kept ≡ [] }
         ensures taken { HearsOf self.old.most result line.new.items (prepend_known (bytes_ahead self.old.ahead) (S.left self.old.source))
             (prepend_known (bytes_ahead self.new.ahead) (S.left self.new.source)) }
-        ensures faults { HearCounts result (S.faults self.old.source) (S.faults self.new.source) }
+        ensures order { (self.new.source ≡ self.old.source) ⊎ (bytes_kept self.old.kept ≡ []) }
+        ensures faults { ReadCounts result (S.faults self.old.source) (S.faults self.new.source) }
         ensures sink { self.new.sink ≡ self.old.sink }
+        ensures kept { self.new.kept ≡ self.old.kept }
         ensures most { self.new.most ≡ self.old.most }
     {
         line.clear();
-        let mut piece = [0; PIECE];
         'pieces: loop {
             match self.ahead.pour(self.most, line)? {
                 Poured::Whole => return text_of(line),
                 Poured::TooLong => return Err(HearFault::TooLong),
                 Poured::Open => {}
             }
-            let count = self.source.read(&mut piece)?;
-            if count == 0 {
+            if self.read_piece()? == 0 {
                 return end_of(line);
             }
-            self.ahead.hold(&piece[..count]);
         }
+    }
+
+    // How many bytes come as the next piece. It alone reads the input, and nothing is kept then.
+    fn read_piece(&mut self) -> Result<usize, Failed>
+        requires { bytes_kept self.old.kept ≡ [] }
+        ensures comes { Comes result (S.left self.old.source) (S.left self.new.source) (bytes_ahead self.old.ahead) (bytes_ahead self.new.ahead) }
+        ensures counts { SinkCounts result (S.faults self.old.source) (S.faults self.new.source) }
+        ensures sink { self.new.sink ≡ self.old.sink }
+        ensures kept { self.new.kept ≡ self.old.kept }
+        ensures most { self.new.most ≡ self.old.most }
+    {
+        let mut piece = [0; PIECE];
+        let count = self.source.read(&mut piece)?;
+        self.ahead.hold(&piece[..count]);
+        Ok(count)
     }
 }
 
@@ -98,36 +138,53 @@ fn end_of(line: &[u8]) -> Result<bool, HearFault>
 }
 
 impl<S: Source + Drop, K: Sink + Drop> Talk for LineTalk<S, K> {
-    ghost use Rattle.{sim_talk.specs.Ahead.bytes_ahead, std.specs.Io.KnownBytes.prepend_known};
+    ghost use Rattle.std.specs.Io.KnownBytes.{prepend_known};
+    ghost use Rattle.{sim_talk.specs.Ahead.bytes_ahead, sim_talk.specs.Kept.bytes_kept};
 
-    ghost history = { λ s. piped (bytes_ahead s.ahead) (S.left s.source) (K.told s.sink) s.most };
+    ghost history = { λ s. piped (bytes_ahead s.ahead) (S.left s.source) (K.told s.sink) (bytes_kept s.kept) s.most };
 
-    /// Reads the next line.
-    fn hear(&mut self, line: &mut Vec<u8>) -> Result<bool, HearFault>
-        ensures passed { Hears result line.new.items (piped (bytes_ahead self.old.ahead) (S.left self.old.source) (K.told self.old.sink) self.old.most)
-            (piped (bytes_ahead self.new.ahead) (S.left self.new.source) (K.told self.new.sink) self.new.most) }
-        ensures taken { HearsOf self.old.most result line.new.items (prepend_known (bytes_ahead self.old.ahead) (S.left self.old.source))
+    /// Takes the next line of what was read. Where none ends there, what is kept is written, and then the input is read.
+    fn hear(&mut self, line: &mut Vec<u8>) -> Result<bool, TalkFault>
+        ensures passed { Hears result line.new.items
+            (piped (bytes_ahead self.old.ahead) (S.left self.old.source) (K.told self.old.sink) (bytes_kept self.old.kept) self.old.most)
+            (piped (bytes_ahead self.new.ahead) (S.left self.new.source) (K.told self.new.sink) (bytes_kept self.new.kept) self.new.most) }
+        ensures taken { TakesOf self.old.most result line.new.items (prepend_known (bytes_ahead self.old.ahead) (S.left self.old.source))
             (prepend_known (bytes_ahead self.new.ahead) (S.left self.new.source)) }
+        ensures order { (self.new.source ≡ self.old.source) ⊎ (bytes_kept self.new.kept ≡ []) }
         ensures faults { HearCounts result (S.faults self.old.source) (S.faults self.new.source) }
-        ensures sink { self.new.sink ≡ self.old.sink }
+        ensures written { WriteCounts result (K.faults self.old.sink) (K.faults self.new.sink) }
         ensures most { self.new.most ≡ self.old.most }
     {
-        self.read_line(line)
+        self.make_ready()?;
+        Ok(self.read_line(line)?)
     }
 
-    /// Writes the text to the sink.
+    /// Keeps the text, and writes to the sink what has no room.
     fn tell(&mut self, text: &[u8]) -> Result<(), Failed>
-        ensures passed { Tells result text.now (piped (bytes_ahead self.old.ahead) (S.left self.old.source) (K.told self.old.sink) self.old.most)
-            (piped (bytes_ahead self.new.ahead) (S.left self.new.source) (K.told self.new.sink) self.new.most) }
-        ensures told { TellsOut result text.now (K.told self.old.sink) (K.told self.new.sink) }
+        ensures passed { Tells result text.now
+            (piped (bytes_ahead self.old.ahead) (S.left self.old.source) (K.told self.old.sink) (bytes_kept self.old.kept) self.old.most)
+            (piped (bytes_ahead self.new.ahead) (S.left self.new.source) (K.told self.new.sink) (bytes_kept self.new.kept) self.new.most) }
+        ensures told { TellsOut result text.now (bytes_kept self.old.kept) (bytes_kept self.new.kept) (K.told self.old.sink) (K.told self.new.sink) }
         ensures faults { TellCounts result (K.faults self.old.sink) (K.faults self.new.sink) }
         ensures source { self.new.source ≡ self.old.source }
         ensures ahead { self.new.ahead ≡ self.old.ahead }
         ensures most { self.new.most ≡ self.old.most }
     {
-        match write_out(&mut self.sink, text) {
-            Ok(()) => Ok(()),
-            Err(_) => Err(Failed),
-        }
+        self.kept.tell(&mut self.sink, text)
+    }
+
+    /// Writes to the sink all that is kept.
+    fn settle(&mut self) -> Result<(), Failed>
+        ensures passed { Settles result
+            (piped (bytes_ahead self.old.ahead) (S.left self.old.source) (K.told self.old.sink) (bytes_kept self.old.kept) self.old.most)
+            (piped (bytes_ahead self.new.ahead) (S.left self.new.source) (K.told self.new.sink) (bytes_kept self.new.kept) self.new.most) }
+        ensures told { SettlesOut result (bytes_kept self.old.kept) (K.told self.old.sink) (K.told self.new.sink) }
+        ensures kept { bytes_kept self.new.kept ≡ [] }
+        ensures faults { TellCounts result (K.faults self.old.sink) (K.faults self.new.sink) }
+        ensures source { self.new.source ≡ self.old.source }
+        ensures ahead { self.new.ahead ≡ self.old.ahead }
+        ensures most { self.new.most ≡ self.old.most }
+    {
+        self.kept.settle(&mut self.sink)
     }
 }

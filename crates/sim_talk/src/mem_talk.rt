@@ -3,7 +3,7 @@
 ghost use Rattle.std.specs.Prelude.{◌≡◌, ℕ, List, [], ◌∷◌, ◌++◌, IfOk, OnOk, OnErr};
 ghost use Rattle.sim_talk.specs.{MemTalk.history_of, MemTalk.passed_in, Talks.Hears, Talks.Passed, Talks.Tells};
 
-use crate::{HearFault, Talk};
+use crate::{HearFault, Talk, TalkFault};
 use sim_base::OutOfMemory;
 use sim_store::Failed;
 use std::alloc::Global;
@@ -52,17 +52,17 @@ impl MemTalk {
 impl Talk for MemTalk {
     ghost history = { λ s. history_of (passed_in s.passed.items) };
 
-    fn hear(&mut self, line: &mut Vec<u8>) -> Result<bool, HearFault> {
+    fn hear(&mut self, line: &mut Vec<u8>) -> Result<bool, TalkFault> {
         let Some(next) = self.coming.pop() else {
             return ending(self.end);
         };
         let Ok(copy) = copied(self.alloc, &next) else {
-            return Err(HearFault::OutOfMemory);
+            return Err(TalkFault::from(HearFault::OutOfMemory));
         };
         *line = next;
         match keep(&mut self.passed, Piece::Heard { line: copy }) {
             Ok(()) => Ok(true),
-            Err(OutOfMemory) => Err(HearFault::OutOfMemory),
+            Err(OutOfMemory) => Err(TalkFault::from(HearFault::OutOfMemory)),
         }
     }
 
@@ -73,15 +73,20 @@ impl Talk for MemTalk {
         let told = tell_all(self.alloc, &mut self.passed, &text[..count]);
         if fits { told } else { Err(Failed) }
     }
+
+    // What is told has passed, and none of it is kept.
+    fn settle(&mut self) -> Result<(), Failed> {
+        Ok(())
+    }
 }
 
 // How hearing ends behind all lines.
-fn ending(end: Option<HearFault>) -> Result<bool, HearFault>
+fn ending(end: Option<HearFault>) -> Result<bool, TalkFault>
     ensures { (line : List ℕ) (passed : List Passed) → Hears result line (history_of passed) (history_of passed) }
 {
     match end {
         None => Ok(false),
-        Some(fault) => Err(fault),
+        Some(fault) => Err(TalkFault::from(fault)),
     }
 }
 

@@ -1,9 +1,9 @@
 //! A talk with somebody at a terminal: he is asked for each line by a prompt, may type words in place of JSON, and is helped. It tells no
 //! history, since what he types is not what is heard.
 
-ghost use Rattle.sim_talk.specs.Talks.{untold};
+ghost use Rattle.sim_talk.specs.Talks.{Hears, untold};
 
-use crate::{HearFault, Talk, json_of};
+use crate::{HearFault, Talk, TalkFault, json_of};
 use sim_store::Failed;
 use std::alloc::Global;
 
@@ -22,7 +22,9 @@ impl<T: Talk + Drop> PromptTalk<T> {
     }
 
     // Asks for a line.
-    fn ask(&mut self, line: &mut Vec<u8>) -> Result<bool, HearFault> {
+    fn ask(&mut self, line: &mut Vec<u8>) -> Result<bool, TalkFault>
+        ensures { Hears result line.new.items untold untold }
+    {
         self.talk.tell(b"> ")?;
         self.talk.hear(line)
     }
@@ -39,7 +41,7 @@ impl<T: Talk + Drop> PromptTalk<T> {
 impl<T: Talk + Drop> Talk for PromptTalk<T> {
     ghost history = { λ s. untold };
 
-    fn hear(&mut self, line: &mut Vec<u8>) -> Result<bool, HearFault> {
+    fn hear(&mut self, line: &mut Vec<u8>) -> Result<bool, TalkFault> {
         for _ in 0..u64::MAX {
             if !self.ask(line)? {
                 let _ = self.talk.tell(b"\n");
@@ -60,5 +62,9 @@ impl<T: Talk + Drop> Talk for PromptTalk<T> {
 
     fn tell(&mut self, text: &[u8]) -> Result<(), Failed> {
         self.talk.tell(text)
+    }
+
+    fn settle(&mut self) -> Result<(), Failed> {
+        self.talk.settle()
     }
 }

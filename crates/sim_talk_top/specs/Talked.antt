@@ -3,7 +3,7 @@ use Rattle.{sim_live.specs.Live.Lives, sim_report.specs.Refusals.refusal_text, s
 use Rattle.{sim_live.specs.Relays.IsRelay, sim_live.specs.Relays.Relays, sim_live.specs.declared.relaying.RelayRules.RelayRules, sim_store.specs.Files.File}
 use Rattle.std.specs.Prelude.{◌≡◌, ℕ, ◌<◌, ◌≤◌, ◌⊎◌, List, [], ◌∷◌, length, ⊤, Ok, Err, Result}
 use Rattle.sim_base.specs.{Limits.IsFrom, declared.setup.Setup.Setup}
-use Rattle.sim_talk.specs.{Talks.Extends, Talks.History, Talks.IsBeginning, Talks.Passed, Talks.told, declared.fault.TalkFault.TalkFault}
+use Rattle.sim_talk.specs.{Talks.Breaks, Talks.Extends, Talks.History, Talks.IsBeginning, Talks.Passed, Talks.told, declared.fault.TalkFault.TalkFault}
 use Rattle.sim_talk_top.specs.{Endings.ended_as, Words.Talk, Words.to_live, Words.to_relay, declared.ending.Ending.Ending}
 use Rattle.sim_top.specs.{Outcome.Outcome, Outcome.session_match_in, Stops.ended_by, declared.status.Status.Status, declared.stop.Stop.Stop}
 use Rattle.sim_talk_top.specs.declared.ending.Ending.TheVariants as ending
@@ -23,11 +23,11 @@ pub record CameBetween (ended : Ending) (old new : History) : Type 0 where
   pub cause : (ended ≡ ending.Run status.ReadFault) ⊎ (ended ≡ ending.Run status.OutOfMemory)
   pub nothing : Extends old new []
 
--- a refusal was told with its status, or it was not told whole, or something came between
+-- a refusal was told with its status, or it was not written whole, or something came between
 pub data Refused (s : Status) (text : List ℕ) (old new : History) : Ending → Type 0 where
   whole : 0 < length text → Extends old new (told text ∷ []) → Refused s text old new (ending.Run s)
   silent : text ≡ [] → Extends old new [] → Refused s text old new (ending.Run s)
-  in_part : 0 < length text → (more : List Passed) → IsBeginning text more → Extends old new more → Refused s text old new ending.Untold
+  in_part : 0 < length text → (more : List Passed) → IsBeginning text more → Breaks old new more → Refused s text old new ending.Untold
   between : (ended : Ending) → CameBetween ended old new → Refused s text old new ended
 
 -- a session can't begin with more clients than the match has players: it is refused as a list that says so

@@ -2,14 +2,15 @@
 
 ghost use Rattle.{sim_base.specs.Limits.IsSetup, sim_system.specs.Meanings.HaveKinds, sim_system.specs.RigWords.systems_of};
 ghost use Rattle.{sim_client.specs.StageWords.AreCleared, sim_top.specs.Stops.status_of, sim_top.specs.Stops.stop_text as text_of_stop};
-ghost use Rattle.std.specs.Prelude.{◌≡◌, ◌≤◌, length, IfSome, IfOk, vec_capacity, All};
+ghost use Rattle.std.specs.Prelude.{◌≡◌, ◌≤◌, [], length, IfSome, IfOk, vec_capacity, All};
+ghost use Rattle.sim_talk.specs.Talks.{Tells};
 ghost use Rattle.sim_talk_top.specs.{Endings.ended_as, Talked.IsTalk, Talked.ReadsFor, Talked.Refused, Talked.TalkedOver, Talked.TalksOf, Words.talk_of};
 
 use crate::{Asked, Ending};
 use sim_base::Setup;
 use sim_live::{live, relay};
 use sim_orders::OrderTable;
-use sim_store::Shelf;
+use sim_store::{Failed, Shelf};
 use sim_system::{Rig, System};
 use sim_talk::{Talk, TalkFault};
 use sim_top::{Status, Stop, read_session_match, stop_text};
@@ -37,6 +38,7 @@ pub fn converse<S: Shelf, T: Talk>(
     requires kinds { All (λ r. HaveKinds (systems_of r ⟦<dyn System as System>⟧)) rigs.items }
     requires cleared { All (λ r. AreCleared (systems_of r ⟦<dyn System as System>⟧)) rigs.items }
     ensures talks { IfSome (S.held shelf.old) (λ files. TalksOf files (talk_of asked.entry) result.ending (T.history talk.old) (T.history talk.new)) }
+    ensures settled { (T.history talk.old).kept ≡ [] → (T.history talk.new).kept ≡ [] }
     ensures held { S.held shelf.new ≡ S.held shelf.old }
     ensures kinds { All (λ r. HaveKinds (systems_of r ⟦<dyn System as System>⟧)) result.rigs.items }
     ensures eight { length result.rigs.items ≡ 8 }
@@ -92,6 +94,7 @@ fn talk_live<T: Talk>(
     requires kinds { All (λ r. HaveKinds (systems_of r ⟦<dyn System as System>⟧)) rigs.items }
     requires cleared { All (λ r. AreCleared (systems_of r ⟦<dyn System as System>⟧)) rigs.items }
     ensures talked { TalkedOver setup.now clients result.ending (T.history talk.old) (T.history talk.new) }
+    ensures settled { (T.history talk.new).kept ≡ [] }
     ensures kinds { All (λ r. HaveKinds (systems_of r ⟦<dyn System as System>⟧)) result.rigs.items }
     ensures eight { length result.rigs.items ≡ 8 }
     ensures room { vec_capacity result.rigs ≡ vec_capacity rigs }
@@ -117,7 +120,8 @@ fn ended(outcome: Result<(), TalkFault>) -> Ending
 
 // Tells why the talk does not begin.
 fn refused<T: Talk>(alloc: Global, stop: &Stop<'_>, talk: &mut T) -> Ending
-    ensures { Refused (status_of stop.now) (text_of_stop stop.now) (T.history talk.old) (T.history talk.new) result }
+    ensures refused { Refused (status_of stop.now) (text_of_stop stop.now) (T.history talk.old) (T.history talk.new) result }
+    ensures settled { (T.history talk.old).kept ≡ [] → (T.history talk.new).kept ≡ [] }
 {
     let Ok(text) = stop_text(alloc, stop) else {
         return Ending::Run {
@@ -130,10 +134,19 @@ fn refused<T: Talk>(alloc: Global, stop: &Stop<'_>, talk: &mut T) -> Ending
             status: stop.status(),
         };
     }
-    match talk.tell(bytes) {
+    match tell_out(bytes, talk) {
         Ok(()) => Ending::Run {
             status: stop.status(),
         },
         Err(_) => Ending::Untold,
     }
+}
+
+// Tells a text, and has it written.
+fn tell_out<T: Talk>(text: &[u8], talk: &mut T) -> Result<(), Failed>
+    ensures told { Tells result text.now (T.history talk.old) (T.history talk.new) }
+    ensures settled { (T.history talk.new).kept ≡ [] }
+{
+    talk.tell(text)?;
+    talk.settle()
 }

@@ -1,7 +1,7 @@
 //! Lines that come in pieces of any size, each fault of a line, texts that are told in part, and the server as a talk in memory.
 
 use sim_live::{RelayRules, relay};
-use sim_store::{Failed, MemSink};
+use sim_store::MemSink;
 use sim_talk::{HearFault, LineTalk, MemSource, MemTalk, Piece, Talk, TalkFault, json_of};
 use std::alloc::Global;
 use std::test::Fail;
@@ -46,7 +46,8 @@ fn each_fault_of_a_line_has_its_name(rt: HostRuntime) -> Result<(), Fail> {
         for piece in 1..=6usize {
             let mut talk = talk_of(alloc, bytes, piece, 3)?;
             let mut line = Vec::new(alloc);
-            assert_eq!(rt; talk.hear(&mut line), Err(fault), "in {piece}");
+            let wanted = Err(TalkFault::Unheard { fault });
+            assert_eq!(rt; talk.hear(&mut line), wanted, "in {piece}");
         }
     }
     Ok(())
@@ -60,16 +61,42 @@ fn a_read_that_fails_is_a_fault(rt: HostRuntime) -> Result<(), Fail> {
     let mut talk = LineTalk::new(alloc, source, MemSink::new(alloc, 3)?, 3)?;
     let mut line = Vec::new(alloc);
     assert_eq!(rt; talk.hear(&mut line), Ok(true));
-    assert_eq!(rt; talk.hear(&mut line), Err(HearFault::Failed));
+    let wanted = Err(TalkFault::Unheard {
+        fault: HearFault::Failed,
+    });
+    assert_eq!(rt; talk.hear(&mut line), wanted);
     Ok(())
 }
 
 #[test]
-fn a_text_is_told_whole_or_is_a_fault(rt: HostRuntime) -> Result<(), Fail> {
+fn answers_are_kept_until_the_input_is_read(rt: HostRuntime) -> Result<(), Fail> {
     let alloc = rt.alloc();
-    let mut talk = talk_of(alloc, b"", 1, 3)?;
+    let mut talk = talk_of(alloc, b"a\nb\nc", 4, 3)?;
+    let mut line = Vec::new(alloc);
+    for told in [b"x".as_slice(), b"y".as_slice()] {
+        assert_eq!(rt; talk.hear(&mut line), Ok(true));
+        assert_eq!(rt; talk.tell(told), Ok(()));
+        assert_eq!(rt; talk.sink().told(), b"".as_slice());
+    }
+    let wanted = Err(TalkFault::Unheard {
+        fault: HearFault::CutOff,
+    });
+    assert_eq!(rt; talk.hear(&mut line), wanted);
+    assert_eq!(rt; talk.sink().told(), b"xy".as_slice());
+    Ok(())
+}
+
+#[test]
+fn a_text_is_written_whole_or_is_a_fault(rt: HostRuntime) -> Result<(), Fail> {
+    let alloc = rt.alloc();
+    let mut talk = talk_of(alloc, b"a\n", 1, 3)?;
+    let mut line = Vec::new(alloc);
     assert_eq!(rt; talk.tell(b"ab"), Ok(()));
-    assert_eq!(rt; talk.tell(b"cd"), Err(Failed));
+    assert_eq!(rt; talk.settle(), Ok(()));
+    assert_eq!(rt; talk.sink().told(), b"ab".as_slice());
+    assert_eq!(rt; talk.tell(b"cd"), Ok(()));
+    assert_eq!(rt; talk.hear(&mut line), Err(TalkFault::Untold));
+    assert_eq!(rt; talk.settle(), Ok(()));
     assert_eq!(rt; talk.sink().told(), b"ab".as_slice());
     Ok(())
 }

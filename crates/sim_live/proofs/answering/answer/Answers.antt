@@ -1,7 +1,6 @@
 -- What a line asks for is read first, and then answered.
 use Rattle.{sim_live.specs.Live.answer_to, sim_live.specs.Live.steps_with, sim_live.specs.LineWords.IsLine, sim_live.specs.LineWords.line_of}
 use Rattle.{sim_plain_session.specs.Sessions.session, sim_session.specs.SessionWords.seen_in, sim_session.specs.Standing.StandsFor}
-use Rattle.{std.specs.Prelude.string_bytes}
 use Rattle.std.proofs.Common.{◌≡◌, ℕ, List, ◌++◌, length, ap, subst, ◌∙◌}
 use Rattle.sim_base.specs.declared.setup.Setup.{Setup}
 use Rattle.sim_live.specs.declared.line.Line.{Line}

@@ -1,6 +1,6 @@
 -- Each line is heard, and then its answer is told.
-use Rattle.std.proofs.Common.{◌≡◌, ℕ, List, [], ◌∷◌, true, Ok, Err, ap, arith, refl, rules, subst, sym, ◌∙◌}
-use Rattle.sim_live.proofs.Answered.{answered_line, answered_nothing, stands_some, unmade_line, untold_line}
+use Rattle.std.proofs.Common.{◌≡◌, ℕ, List, [], ◌∷◌, true, false, Ok, Err, ap, arith, refl, rules, subst, sym, ◌∙◌}
+use Rattle.sim_live.proofs.Answered.{all_answered, answered_line, answered_nothing, stands_some, unheard_line, unmade_line, untold_line}
 use Rattle.sim_live.specs.Live.{answer}
 use Rattle.sim_session.specs.SessionWords.{seen_in}
 use Rattle.sim_talk.specs.Talks.{Extends, heard, Hears}
@@ -23,6 +23,20 @@ answer-requires-clause-some g c =
     stands_some c.args.session.now.setup.now c.loop-before.session.setup.now c.args.clients (seen_in c.loop-before.session) _ _ _ _
     c.loop-before.invariant.answered
     c.loop-before.invariant.setup c.requires.clients
+
+pub returns-in_err-hear-clause-answers : goal.returns-in_err-hear-clause-answers
+returns-in_err-hear-clause-answers g c =
+    let is : c.from_residual.result ≡ Err c.in_err-hear.field-0.0 = search rules in
+    unheard_line c.args.session.now.setup.now c.args.clients (seen_in c.loop-before.session) (seen_in c.loop-before.session) c.loop-before.made
+    c.loop-before._before _ c.in_err-hear.field-0.0 c.hear.new.line.items _ _ _ c.loop-before.invariant.answered is c.in_err-hear.ensures
+
+pub returns-then-not-branch-clause-answers : goal.returns-then-not-branch-clause-answers
+returns-then-not-branch-clause-answers g c =
+    let off : c.in_ok-hear.field-0 ≡ false = search rules in
+    let end = subst (λ b. Hears (Ok b) c.hear.new.line.items (g.T.Talk.history c.loop-before.talk) (g.T.Talk.history c.hear.new.self)) off
+    c.in_ok-hear.ensures in
+    all_answered c.args.session.now.setup.now c.args.clients (seen_in c.loop-before.session) c.loop-before.made c.loop-before._before _ _ _ _
+    c.loop-before.invariant.answered end.0 end.1
 
 pub returns-in_err-text-clause-answers : goal.returns-in_err-text-clause-answers
 returns-in_err-text-clause-answers g c =

@@ -1,10 +1,10 @@
 -- The whole talk of its parts.
 use Rattle.sim_base.specs.declared.setup.Setup.{Setup}
 use Rattle.sim_live.proofs.Answered.{live_amid, live_ended, live_unbegun, live_unmade}
-use Rattle.sim_live.specs.{Live.first_text, Live.last_text, Live.Lives, Spoken.AnswersAll}
+use Rattle.sim_live.specs.{Live.first_text, Live.last_text, Spoken.AnswersAll}
 use Rattle.sim_plain_session.specs.Sessions.{session}
 use Rattle.sim_session.specs.{SessionWords.seen_in, Standing.StandsFor}
-use Rattle.std.proofs.Common.{◌≡◌, List, [], ◌∷◌, Ok, Err, rules, subst, sym, ◌∙◌}
+use Rattle.std.proofs.Common.{◌≡◌, [], ◌∷◌, Ok, Err, rules, subst, ◌∙◌}
 use Rattle.sim_talk.specs.{Dialogues.TellsText, Talks.Extends, Talks.told}
 use Rattle.sim_talk.specs.declared.fault.TalkFault.TheVariants as ends
 use Rattle.sim_live.proofs.living.talk_over.Goals as goal

@@ -1,6 +1,6 @@
 -- Each line is heard, and then its answer is told.
-use Rattle.std.proofs.Common.{◌≡◌, ℕ, List, [], ◌∷◌, true, Ok, Err, ap, arith, rules, subst, sym, ◌∙◌}
-use Rattle.sim_live.proofs.Relayed.{answered_line, answered_nothing, unmade_relayed, untold_relayed}
+use Rattle.std.proofs.Common.{◌≡◌, ℕ, List, [], ◌∷◌, true, false, Ok, Err, ap, arith, rules, subst, sym, ◌∙◌}
+use Rattle.sim_live.proofs.Relayed.{all_relayed, answered_line, answered_nothing, unheard_relayed, unmade_relayed, untold_relayed}
 use Rattle.sim_live.specs.Relays.{answer}
 use Rattle.sim_talk.specs.Talks.{Extends, heard, Hears}
 use Rattle.sim_talk.specs.declared.fault.TalkFault.TheVariants as ends
@@ -12,6 +12,23 @@ loop-before-init g c = record {
   few = omega arith;
   small = c.requires.small;
 }
+
+pub returns-in_err-hear : goal.returns-in_err-hear
+returns-in_err-hear g c =
+    let is : c.from_residual.result ≡ Err c.in_err-hear.field-0.0 = search rules in
+    record {
+      answers = unheard_relayed c.args.rules c.loop-before.server c.loop-before.server c.loop-before.heard c.loop-before._before _ c.in_err-hear.field-0.0
+          c.hear.new.line.items _ _ _ c.loop-before.invariant.answered is c.in_err-hear.ensures;
+    }
+
+pub returns-then-not-branch : goal.returns-then-not-branch
+returns-then-not-branch g c =
+    let off : c.in_ok-hear.field-0 ≡ false = search rules in
+    let end = subst (λ b. Hears (Ok b) c.hear.new.line.items (g.T.Talk.history c.loop-before.talk) (g.T.Talk.history c.hear.new.self)) off
+    c.in_ok-hear.ensures in
+    record {
+      answers = all_relayed c.args.rules c.loop-before.server c.loop-before.heard c.loop-before._before _ _ _ _ c.loop-before.invariant.answered end.0 end.1;
+    }
 
 pub returns-in_err-text : goal.returns-in_err-text
 returns-in_err-text g c =

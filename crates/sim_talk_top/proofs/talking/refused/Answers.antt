@@ -7,11 +7,11 @@ use Rattle.std.proofs.lemmas.{Bool.eqb-true, Bool.Decides.nat_tests, List.nil_fr
 use Rattle.sim_talk_top.specs.declared.ending.Ending.TheVariants as ending
 use Rattle.sim_talk_top.proofs.talking.refused.Goals as goal
 
-pub returns-in_default : goal.returns-in_default
-returns-in_default g c = refused_memory (status_of c.args.stop.now) (stop_text c.args.stop.now) (g.T.Talk.history c.args.talk.now)
+pub returns-in_default-clause-refused : goal.returns-in_default-clause-refused
+returns-in_default-clause-refused g c = refused_memory (status_of c.args.stop.now) (stop_text c.args.stop.now) (g.T.Talk.history c.args.talk.now)
 
-pub returns-then-is_empty : goal.returns-then-is_empty
-returns-then-is_empty g c =
+pub returns-then-is_empty-clause-refused : goal.returns-then-is_empty-clause-refused
+returns-then-is_empty-clause-refused g c =
     let none : c.as_bytes-bytes.result.now ≡ [] = nil_from_length c.as_bytes-bytes.result.now
     (eqb-true (length c.as_bytes-bytes.result.now) 0 (sym c.is_empty.ensures ∙ c.if-is_empty.true)) in
     subst (λ (s : Status). Refused (status_of c.args.stop.now) (stop_text c.args.stop.now) (g.T.Talk.history c.args.talk.now) (g.T.Talk.history c.args.talk.now)
@@ -19,16 +19,16 @@ returns-then-is_empty g c =
     (refused_silent (status_of c.args.stop.now) (stop_text c.args.stop.now) (g.T.Talk.history c.args.talk.now)
     (sym c.in-Ok.ensures.text ∙ sym c.as_bytes-bytes.ensures.value ∙ none))
 
-pub returns-in-Ok-tell : goal.returns-in-Ok-tell
-returns-in-Ok-tell g c =
+pub returns-in-Ok-tell_out-clause-refused : goal.returns-in-Ok-tell_out-clause-refused
+returns-in-Ok-tell_out-clause-refused g c =
     let some : 0 < length c.as_bytes-bytes.result.now = grind (arith, nat_tests, c.is_empty.ensures, c.if-is_empty.false) in
-    subst (λ (s : Status). Refused (status_of c.args.stop.now) (stop_text c.args.stop.now) (g.T.Talk.history c.args.talk.now) (g.T.Talk.history c.tell.new.self)
-    (ending.Run s)) (sym c.status-in-Ok-tell.ensures)
+    subst (λ (s : Status). Refused (status_of c.args.stop.now) (stop_text c.args.stop.now) (g.T.Talk.history c.args.talk.now) (g.T.Talk.history c.tell_out.new.talk)
+    (ending.Run s)) (sym c.status-in-Ok-tell_out.ensures)
     (refused_told (status_of c.args.stop.now) (stop_text c.args.stop.now) c.as_bytes-bytes.result.now (g.T.Talk.history c.args.talk.now)
-    (g.T.Talk.history c.tell.new.self) (c.as_bytes-bytes.ensures.value ∙ c.in-Ok.ensures.text) some c.in-Ok-tell.ensures)
+    (g.T.Talk.history c.tell_out.new.talk) (c.as_bytes-bytes.ensures.value ∙ c.in-Ok.ensures.text) some c.in-Ok-tell_out.ensures.told)
 
-pub returns : goal.returns
-returns g c =
+pub returns-clause-refused : goal.returns-clause-refused
+returns-clause-refused g c =
     let some : 0 < length c.as_bytes-bytes.result.now = grind (arith, nat_tests, c.is_empty.ensures, c.if-is_empty.false) in
     refused_part (status_of c.args.stop.now) (stop_text c.args.stop.now) c.as_bytes-bytes.result.now c.in-Err.field-0 (g.T.Talk.history c.args.talk.now)
-    (g.T.Talk.history c.tell.new.self) (c.as_bytes-bytes.ensures.value ∙ c.in-Ok.ensures.text) some c.in-Err.ensures
+    (g.T.Talk.history c.tell_out.new.talk) (c.as_bytes-bytes.ensures.value ∙ c.in-Ok.ensures.text) some c.in-Err.ensures.told

@@ -1,43 +1,10 @@
 -- A line is heard, piece by piece.
-use Rattle.{sim_store.specs.Counts.raised, std.specs.Io.KnownBytes.Consumes, std.specs.Io.KnownBytes.IsAtEnd, std.specs.Io.KnownBytes.prepend_known}
-use Rattle.std.proofs.{KnownBytes.Consumes-nil, lemmas.List.length-take-le}
-use Rattle.std.proofs.Common.{◌≡◌, ℕ, ◌<◌, List, [], length, take, Err, refl, ap, arith, rules, subst, sym, ◌∙◌}
-use Rattle.sim_talk.proofs.Hearing.{counted_end, counted_text, falls, heard_end, heard_failed, heard_much, heard_no_more, heard_part, heard_whole}
-use Rattle.sim_talk.proofs.Hearing.{heard_without, no_part, open_part, taken_on}
-use Rattle.sim_talk.specs.{Ahead.bytes_ahead, LineTalk.HearCounts, Lines.IsPart, Lines.Pours, Lines.PoursOpen, Lines.PoursTooMuch, Lines.PoursWhole}
+use Rattle.std.proofs.lemmas.List.{nil_from_length}
+use Rattle.std.proofs.Common.{◌≡◌, [], Err, inr, refl, rules, subst, sym, ◌∙◌}
+use Rattle.sim_talk.proofs.Hearing.{heard_end, heard_failed, heard_much, heard_no_more, heard_whole, open_part, taken_on}
+use Rattle.sim_talk.specs.{Ahead.bytes_ahead, Lines.IsPart, Lines.Pours, Lines.PoursOpen, Lines.PoursTooMuch, Lines.PoursWhole}
 use Rattle.sim_talk.specs.declared.fault.HearFault.TheVariants as fault
 use Rattle.sim_talk.proofs.line_talk.LineTalk.read_line.Goals as goal
-
-pub pieces-init : goal.pieces-init
-pieces-init g c = record {
-  part = no_part c.args.self.now.most _ c.clear.ensures.items;
-  taken = subst (λ (l : List ℕ). Consumes (prepend_known (bytes_ahead c.args.self.now.ahead) (g.S.Source.left c.args.self.now.source))
-      (prepend_known (bytes_ahead c.args.self.now.ahead) (g.S.Source.left c.args.self.now.source)) l) (sym c.clear.ensures.items) (Consumes-nil _);
-  faults = refl;
-  sink = refl;
-  most = refl;
-}
-
-pub pour-requires : goal.pour-requires
-pour-requires g c = c.pieces.invariant.part.few
-
-pub returns-in_err-pour-clause-taken : goal.returns-in_err-pour-clause-taken
-returns-in_err-pour-clause-taken g c =
-    let was = c.pieces.invariant in
-    let is : c.from_residual.result ≡ Err fault.OutOfMemory = search rules in
-    heard_without c.args.self.now.most c.from_residual.result _ _ _ is
-    (heard_part c.args.self.now.most _ _ _ _ _ (subst (λ m. IsPart m c.pieces.line.items) was.most was.part) was.taken c.in_err-pour.ensures.err)
-
-pub returns-in_err-pour-clause-faults : goal.returns-in_err-pour-clause-faults
-returns-in_err-pour-clause-faults g c =
-    let is : c.from_residual.result ≡ Err fault.OutOfMemory = search rules in
-    subst (λ r. HearCounts r (g.S.Source.faults c.args.self.now.source) (g.S.Source.faults c.pieces.self.source)) (sym is) c.pieces.invariant.faults
-
-pub returns-in_err-pour-clause-sink : goal.returns-in_err-pour-clause-sink
-returns-in_err-pour-clause-sink g c = c.pieces.invariant.sink
-
-pub returns-in_err-pour-clause-most : goal.returns-in_err-pour-clause-most
-returns-in_err-pour-clause-most g c = c.pieces.invariant.most
 
 pub returns-in-Whole-clause-taken : goal.returns-in-Whole-clause-taken
 returns-in-Whole-clause-taken g c =
@@ -50,15 +17,6 @@ returns-in-Whole-clause-taken g c =
     subst (λ m. PoursWhole m (bytes_ahead c.pieces.self.ahead) c.pieces.line.items (bytes_ahead c.pour.new.self) c.pour.new.line.items) was.most whole in
     heard_whole c.args.self.now.most c.text_of.result c.deref.result.now _ _ _ _ _ _ c.deref.ensures.value c.text_of.ensures part was.taken whole'
 
-pub returns-in-Whole-clause-faults : goal.returns-in-Whole-clause-faults
-returns-in-Whole-clause-faults g c = counted_text c.text_of.result _ _ _ c.text_of.ensures c.pieces.invariant.faults
-
-pub returns-in-Whole-clause-sink : goal.returns-in-Whole-clause-sink
-returns-in-Whole-clause-sink g c = c.pieces.invariant.sink
-
-pub returns-in-Whole-clause-most : goal.returns-in-Whole-clause-most
-returns-in-Whole-clause-most g c = c.pieces.invariant.most
-
 pub returns-in-TooLong-clause-taken : goal.returns-in-TooLong-clause-taken
 returns-in-TooLong-clause-taken g c =
     let was = c.pieces.invariant in
@@ -70,20 +28,8 @@ returns-in-TooLong-clause-taken g c =
     subst (λ m. PoursTooMuch m (bytes_ahead c.pieces.self.ahead) c.pieces.line.items (bytes_ahead c.pour.new.self)) was.most much in
     heard_much c.args.self.now.most _ _ _ _ _ part was.taken much'
 
-pub returns-in-TooLong-clause-faults : goal.returns-in-TooLong-clause-faults
-returns-in-TooLong-clause-faults g c = c.pieces.invariant.faults
-
-pub returns-in-TooLong-clause-sink : goal.returns-in-TooLong-clause-sink
-returns-in-TooLong-clause-sink g c = c.pieces.invariant.sink
-
-pub returns-in-TooLong-clause-most : goal.returns-in-TooLong-clause-most
-returns-in-TooLong-clause-most g c = c.pieces.invariant.most
-
-pub slice_bounds-read-end : goal.slice_bounds-read-end
-slice_bounds-read-end g c = search rules
-
-pub returns-in_err-count-clause-taken : goal.returns-in_err-count-clause-taken
-returns-in_err-count-clause-taken g c =
+pub returns-in_err-read_piece-clause-taken : goal.returns-in_err-read_piece-clause-taken
+returns-in_err-read_piece-clause-taken g c =
     let was = c.pieces.invariant in
     let goes_on : PoursOpen c.pieces.self.most (bytes_ahead c.pieces.self.ahead) c.pieces.line.items (bytes_ahead c.pour.new.self) c.pour.new.line.items =
     subst (λ p. Pours p c.pieces.self.most (bytes_ahead c.pieces.self.ahead) c.pieces.line.items (bytes_ahead c.pour.new.self) c.pour.new.line.items)
@@ -91,63 +37,23 @@ returns-in_err-count-clause-taken g c =
     let part : IsPart c.args.self.now.most c.pieces.line.items = subst (λ m. IsPart m c.pieces.line.items) was.most was.part in
     let goes_on' : PoursOpen c.args.self.now.most (bytes_ahead c.pieces.self.ahead) c.pieces.line.items (bytes_ahead c.pour.new.self) c.pour.new.line.items =
     subst (λ m. PoursOpen m (bytes_ahead c.pieces.self.ahead) c.pieces.line.items (bytes_ahead c.pour.new.self) c.pour.new.line.items) was.most goes_on in
-    let is : c.from_residual-in_err-count.result ≡ Err fault.Failed = search rules in
-    heard_no_more c.args.self.now.most c.from_residual-in_err-count.result _ _ _ is
-    (heard_failed c.args.self.now.most _ _ _ _ _ _ _ part was.taken goes_on' c.in_err-count.ensures.bytes)
+    let is : c.from_residual-in_err-read_piece.result ≡ Err fault.Failed = search rules in
+    heard_no_more c.args.self.now.most c.from_residual-in_err-read_piece.result _ _ _ is
+    (heard_failed c.args.self.now.most _ _ _ _ _ _ _ _ part was.taken goes_on' c.in_err-read_piece.ensures.comes.0 c.in_err-read_piece.ensures.comes.1)
 
-pub returns-in_err-count-clause-faults : goal.returns-in_err-count-clause-faults
-returns-in_err-count-clause-faults g c =
-    let is : c.from_residual-in_err-count.result ≡ Err fault.Failed = search rules in
-    subst (λ r. HearCounts r (g.S.Source.faults c.args.self.now.source) (g.S.Source.faults c.read.new.self)) (sym is)
-    (c.in_err-count.ensures.counts ∙ ap (raised 1) c.pieces.invariant.faults)
-
-pub returns-in_err-count-clause-sink : goal.returns-in_err-count-clause-sink
-returns-in_err-count-clause-sink g c = c.pieces.invariant.sink
-
-pub returns-in_err-count-clause-most : goal.returns-in_err-count-clause-most
-returns-in_err-count-clause-most g c = c.pieces.invariant.most
-
-pub returns-then-count-eq0-clause-taken : goal.returns-then-count-eq0-clause-taken
-returns-then-count-eq0-clause-taken g c =
+pub returns-then-branch-eq0-clause-taken : goal.returns-then-branch-eq0-clause-taken
+returns-then-branch-eq0-clause-taken g c =
     let was = c.pieces.invariant in
     let goes_on : PoursOpen c.pieces.self.most (bytes_ahead c.pieces.self.ahead) c.pieces.line.items (bytes_ahead c.pour.new.self) c.pour.new.line.items =
     subst (λ p. Pours p c.pieces.self.most (bytes_ahead c.pieces.self.ahead) c.pieces.line.items (bytes_ahead c.pour.new.self) c.pour.new.line.items)
     c.in-Open.is c.in_ok-pour.ensures.ok in
-    let none : take c.in_ok-count.count c.read.new.into ≡ [] = ap (λ k. take k c.read.new.into) c.if-count-eq0.true in
-    let end : IsAtEnd (g.S.Source.left c.read.new.self) = search rules in
     let part : IsPart c.args.self.now.most c.pieces.line.items = subst (λ m. IsPart m c.pieces.line.items) was.most was.part in
     let goes_on' : PoursOpen c.args.self.now.most (bytes_ahead c.pieces.self.ahead) c.pieces.line.items (bytes_ahead c.pour.new.self) c.pour.new.line.items =
     subst (λ m. PoursOpen m (bytes_ahead c.pieces.self.ahead) c.pieces.line.items (bytes_ahead c.pour.new.self) c.pour.new.line.items) was.most goes_on in
-    heard_end c.args.self.now.most c.end_of.result c.deref-then-count-eq0.result.now _ _ _ _ _ _ _ _ c.deref-then-count-eq0.ensures.value c.end_of.ensures part
-    was.taken goes_on' c.in_ok-count.ensures.bytes.0 none end
-
-pub returns-then-count-eq0-clause-faults : goal.returns-then-count-eq0-clause-faults
-returns-then-count-eq0-clause-faults g c = counted_end c.end_of.result _ _ _ c.end_of.ensures (c.in_ok-count.ensures.counts ∙ c.pieces.invariant.faults)
-
-pub returns-then-count-eq0-clause-sink : goal.returns-then-count-eq0-clause-sink
-returns-then-count-eq0-clause-sink g c = c.pieces.invariant.sink
-
-pub returns-then-count-eq0-clause-most : goal.returns-then-count-eq0-clause-most
-returns-then-count-eq0-clause-most g c = c.pieces.invariant.most
-
-pub slice_bounds-piece-end : goal.slice_bounds-piece-end
-slice_bounds-piece-end g c = search rules
-
-pub slice_bounds-hold-end : goal.slice_bounds-hold-end
-slice_bounds-hold-end g c = search rules
-
-pub hold-requires : goal.hold-requires
-hold-requires g c = search rules
-
-pub pieces-smaller : goal.pieces-smaller
-pieces-smaller g c =
-    let goes_on : PoursOpen c.pieces.self.most (bytes_ahead c.pieces.self.ahead) c.pieces.line.items (bytes_ahead c.pour.new.self) c.pour.new.line.items =
-    subst (λ p. Pours p c.pieces.self.most (bytes_ahead c.pieces.self.ahead) c.pieces.line.items (bytes_ahead c.pour.new.self) c.pour.new.line.items)
-    c.in-Open.is c.in_ok-pour.ensures.ok in
-    let long : length (bytes_ahead c.hold.new.self) ≡ c.in_ok-count.count =
-    ap length (c.hold.ensures) ∙ length-take-le c.in_ok-count.count c.read.new.into c.in_ok-count.ensures.bound.0 in
-    let some : 0 < c.in_ok-count.count = omega (arith, c.if-count-eq0.false) in
-    falls c.pieces.self.most c.in_ok-count.count _ _ _ _ goes_on.added goes_on.few long some
+    let came = c.in_ok-read_piece.ensures.comes in
+    let none : bytes_ahead c.read_piece.new.self.ahead ≡ [] = nil_from_length (bytes_ahead c.read_piece.new.self.ahead) (came.1 ∙ c.if-branch-eq0.true) in
+    heard_end c.args.self.now.most c.end_of.result c.deref-then-branch-eq0.result.now _ _ _ _ _ _ _ _ c.deref-then-branch-eq0.ensures.value c.end_of.ensures part
+    was.taken goes_on' came.0 none (came.2 c.if-branch-eq0.true)
 
 pub pieces-preserved : goal.pieces-preserved
 pieces-preserved g c =
@@ -156,10 +62,12 @@ pieces-preserved g c =
     subst (λ p. Pours p c.pieces.self.most (bytes_ahead c.pieces.self.ahead) c.pieces.line.items (bytes_ahead c.pour.new.self) c.pour.new.line.items)
     c.in-Open.is c.in_ok-pour.ensures.ok in
     record {
-      part = open_part c.pieces.self.most _ _ _ _ was.part goes_on;
-      taken = taken_on c.pieces.self.most _ _ _ _ _ _ _ (take c.in_ok-count.count c.read.new.into) _ was.taken goes_on c.in_ok-count.ensures.bytes.0
-          (c.hold.ensures);
-      faults = c.in_ok-count.ensures.counts ∙ was.faults;
-      sink = was.sink;
-      most = was.most;
+      part = subst (λ m. IsPart m c.pour.new.line.items) (sym c.in_ok-read_piece.ensures.most) (open_part c.pieces.self.most _ _ _ _ was.part goes_on);
+      taken = taken_on c.pieces.self.most _ _ _ _ _ _ _ (bytes_ahead c.read_piece.new.self.ahead) _ was.taken goes_on c.in_ok-read_piece.ensures.comes.0 refl;
+      faults = c.in_ok-read_piece.ensures.counts ∙ was.faults;
+      order = inr (was.ready goes_on.within);
+      ready = λ within. was.ready goes_on.within;
+      sink = c.in_ok-read_piece.ensures.sink ∙ was.sink;
+      kept = c.in_ok-read_piece.ensures.kept ∙ was.kept;
+      most = c.in_ok-read_piece.ensures.most ∙ was.most;
     }

@@ -1,6 +1,7 @@
--- The line so far is what was taken of the input, and nothing has failed.
-use Rattle.std.{proofs.Common.◌≡◌, proofs.Common.◌+◌, proofs.Common.◌-◌, proofs.Common.length, specs.Io.KnownBytes.Consumes, specs.Io.KnownBytes.prepend_known}
-use Rattle.sim_talk.specs.{Ahead.bytes_ahead, Lines.IsPart}
+-- The line so far is what was taken of the input, and nothing has failed. Nothing is kept where the input was read, or is to be read.
+use Rattle.std.proofs.Common.{◌≡◌, ◌+◌, ◌-◌, ◌⊎◌, [], length}
+use Rattle.std.specs.Io.KnownBytes.{Consumes, prepend_known}
+use Rattle.sim_talk.specs.{Ahead.bytes_ahead, Kept.bytes_kept, Lines.IsPart, Lines.IsWithinLine}
 use Rattle.sim_talk.proofs.line_talk.LineTalk.read_line.Given as goal
 
 abbrev pub invariant-pieces : goal.invariant-pieces
@@ -9,7 +10,10 @@ invariant-pieces g l = record {
   taken : Consumes (prepend_known (bytes_ahead l.fn.self.ahead) (g.S.Source.left l.fn.self.source))
       (prepend_known (bytes_ahead l.self.ahead) (g.S.Source.left l.self.source)) l.line.items;
   faults : g.S.Source.faults l.self.source ≡ g.S.Source.faults l.fn.self.source;
+  order : (l.self.source ≡ l.fn.self.source) ⊎ (bytes_kept l.fn.self.kept ≡ []);
+  ready : IsWithinLine (bytes_ahead l.self.ahead) → bytes_kept l.fn.self.kept ≡ [];
   sink : l.self.sink ≡ l.fn.self.sink;
+  kept : l.self.kept ≡ l.fn.self.kept;
   most : l.self.most ≡ l.fn.self.most;
 }
 
