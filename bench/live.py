@@ -1,10 +1,11 @@
 #!/usr/bin/env python3
-"""What a talk costs beside a list: 100,000 steps through a pipe and by `session`, and how long one answer takes.
+"""What a talk costs beside a list: 100,000 steps through a pipe and by `session`, and how long one answer takes. One list plays turns, one
+orders walks besides, and one plays none, so that nothing but reading and telling is left.
 
 Usage: python3 bench/live.py [PROGRAM]
 
 PROGRAM is by default the one that the gate leaves in crates/simcore/out. It prints the processor time of each, the least of five runs,
-their ratio, and the median time from a line written to its answer read, for a step that plays no turn.
+their ratio for each list, and the median time from a line written to its answer read, for a step that plays no turn.
 """
 
 import json
@@ -21,7 +22,10 @@ PROGRAM = str(pathlib.Path(sys.argv[1] if len(sys.argv) > 1 else TOP / "crates/s
 MATCH = {"size": [16, 16], "closed": [], "players": [[], []], "cap": 0, "delay": 2, "turns": 20000, "seed": 0,
          "templates": [{"@name": "walker", "Motion": {"Speed": 10}}],
          "entities": [["walker", 1, "2.5", "2.5"], ["walker", 2, "2.5", "5.5"]], "commands": []}
-ROUND = [["play", 1], ["play", 2], ["up", 1], ["up", 1], ["up", 2], ["up", 2], ["down", 1], ["down", 2]]
+MESSAGES = [["up", 1], ["up", 1], ["up", 2], ["up", 2], ["down", 1], ["down", 2]]
+TURNS = [["play", 1], ["play", 2], *MESSAGES]
+ORDERS = [["order", 1, "walk", [2], "6.5", "2.5"], ["order", 2, "walk", [3], "10.5", "12.5"], *TURNS]
+STEPS = 100_000
 
 
 def timed(words, data=b""):
@@ -47,20 +51,26 @@ def answer_time(match, tries=3000):
     return statistics.median(times)
 
 
+def compared(match, listed, rounds):
+    """The least time of a list by `session`, and of the same through a pipe to `live`, which must tell the same."""
+    steps = (rounds * (STEPS // len(rounds) + 1))[:STEPS]
+    listed.write_text(json.dumps({"clients": 2, "steps": steps}))
+    lines = b"".join(json.dumps(step).encode() + b"\n" for step in steps)
+    whole = [timed(["session", match, listed]) for _ in range(5)]
+    talked = [timed(["live", match, "2"], lines) for _ in range(5)]
+    told = b"".join(it for it in talked[0][1].splitlines(True) if not it.startswith(b"ok "))
+    assert told == whole[0][1], "a talk tells another session"
+    return min(it[0] for it in whole), min(it[0] for it in talked)
+
+
 def main():
-    """Times both."""
-    steps = (ROUND * 12500)[:100000]
+    """Times all lists."""
     with tempfile.TemporaryDirectory() as folder:
         match, listed = pathlib.Path(folder, "match"), pathlib.Path(folder, "steps")
         match.write_text(json.dumps(MATCH))
-        listed.write_text(json.dumps({"clients": 2, "steps": steps}))
-        lines = b"".join(json.dumps(step).encode() + b"\n" for step in steps)
-        whole = [timed(["session", match, listed]) for _ in range(5)]
-        talked = [timed(["live", match, "2"], lines) for _ in range(5)]
-        told = b"".join(it for it in talked[0][1].splitlines(True) if not it.startswith(b"ok "))
-        assert told == whole[0][1], "a talk tells another session"
-        first, second = min(it[0] for it in whole), min(it[0] for it in talked)
-        print(f"session {first:.2f} s, live {second:.2f} s: {second / first:.2f} of it")
+        for name, rounds in (("turns", TURNS), ("orders and turns", ORDERS), ("no turns", MESSAGES)):
+            first, second = compared(match, listed, rounds)
+            print(f"{name}: session {first:.2f} s, live {second:.2f} s: {second / first:.2f} of it")
         print(f"an answer takes {answer_time(match) * 1e6:.0f} us")
 
 

@@ -62,8 +62,8 @@ answered_line setup own clients seen seen' made made' before line text a b c d w
     }
 
 -- the session stands for that over the steps of these lines
-pub stands_some : (setup own : Setup) (clients : ℕ) (seen : Seen) (made before : ℕ) (a b : History) → HasAnswered setup clients seen made before a b → own ≡ setup
-    → clients ≤ setup.players → StandsForSome own seen
+pub stands_some : (setup own : Setup) (clients : ℕ) (seen : Seen) (made before : ℕ) (a b : History) → HasAnswered setup clients seen made before a b
+    → own ≡ setup → clients ≤ setup.players → StandsForSome own seen
 stands_some setup own clients seen made before a b was same few =
     subst (λ (s : Setup). StandsForSome s seen) (sym same)
     (record { active = clients; steps = after_lines (next setup) [] was.lines; few = few; stands = was.stands })

@@ -54,7 +54,8 @@ answered_line relay server server' count count' before line text a b c d was one
 pub all_relayed : (relay : RelayRules) (server : View) (count before : ℕ) (done : ⊤) (a b c : History) → HasAnswered relay server count before a b
     → Extends b c [] → IsAtEnd c.coming → AnswersAll (Ok done) relay server a c
 all_relayed relay server count before done a b c was none end =
-    (was.lines, (was.rules, was.stands), answered_all (answer (rules_of relay) relay.active) (next (rules_of relay)) [] was.lines done a b c was.passed none end)
+    let all = answered_all (answer (rules_of relay) relay.active) (next (rules_of relay)) [] was.lines done a b c was.passed none end in
+    (was.lines, (was.rules, was.stands), all)
 
 -- no more lines can be counted
 pub many_relayed : (relay : RelayRules) (server : View) (count before : ℕ) (done : ⊤) (a b : History) → HasAnswered relay server count before a b

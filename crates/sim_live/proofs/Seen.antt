@@ -63,7 +63,8 @@ pub digest_looked : (setup own : Setup) (seen : Seen) (life : Life) (end : End) 
     → (s : Session) → StandsFor setup seen s → new ≡ old ++ look_text setup s l
 digest_looked setup own seen life end c l old new is within life_is own_is end_is told s stands =
     told ∙ ap (λ (e : End). old ++ end_line c e)
-    (end_is ∙ ap (λ (x : Setup). end_seen x life) own_is ∙ ap (end_seen setup) life_is ∙ client_end setup seen s c stands (client_of setup c l (look.Digest c) is within))
+    (end_is ∙ ap (λ (x : Setup). end_seen x life) own_is ∙ ap (end_seen setup) life_is
+    ∙ client_end setup seen s c stands (client_of setup c l (look.Digest c) is within))
     ∙ ap (λ (x : Look). old ++ look_text setup s x) (sym is)
 
 -- its state, row by row

@@ -22,8 +22,8 @@ returns-then-is_empty-clause-refused g c =
 pub returns-in-Ok-tell_out-clause-refused : goal.returns-in-Ok-tell_out-clause-refused
 returns-in-Ok-tell_out-clause-refused g c =
     let some : 0 < length c.as_bytes-bytes.result.now = grind (arith, nat_tests, c.is_empty.ensures, c.if-is_empty.false) in
-    subst (λ (s : Status). Refused (status_of c.args.stop.now) (stop_text c.args.stop.now) (g.T.Talk.history c.args.talk.now) (g.T.Talk.history c.tell_out.new.talk)
-    (ending.Run s)) (sym c.status-in-Ok-tell_out.ensures)
+    subst (λ (s : Status). Refused (status_of c.args.stop.now) (stop_text c.args.stop.now) (g.T.Talk.history c.args.talk.now)
+    (g.T.Talk.history c.tell_out.new.talk) (ending.Run s)) (sym c.status-in-Ok-tell_out.ensures)
     (refused_told (status_of c.args.stop.now) (stop_text c.args.stop.now) c.as_bytes-bytes.result.now (g.T.Talk.history c.args.talk.now)
     (g.T.Talk.history c.tell_out.new.talk) (c.as_bytes-bytes.ensures.value ∙ c.in-Ok.ensures.text) some c.in-Ok-tell_out.ensures.told)
 

@@ -52,8 +52,8 @@ returns-then-branch-eq0-clause-taken g c =
     subst (λ m. PoursOpen m (bytes_ahead c.pieces.self.ahead) c.pieces.line.items (bytes_ahead c.pour.new.self) c.pour.new.line.items) was.most goes_on in
     let came = c.in_ok-read_piece.ensures.comes in
     let none : bytes_ahead c.read_piece.new.self.ahead ≡ [] = nil_from_length (bytes_ahead c.read_piece.new.self.ahead) (came.1 ∙ c.if-branch-eq0.true) in
-    heard_end c.args.self.now.most c.end_of.result c.deref-then-branch-eq0.result.now _ _ _ _ _ _ _ _ c.deref-then-branch-eq0.ensures.value c.end_of.ensures part
-    was.taken goes_on' came.0 none (came.2 c.if-branch-eq0.true)
+    heard_end c.args.self.now.most c.end_of.result c.deref-then-branch-eq0.result.now _ _ _ _ _ _ _ _ c.deref-then-branch-eq0.ensures.value c.end_of.ensures
+    part was.taken goes_on' came.0 none (came.2 c.if-branch-eq0.true)
 
 pub pieces-preserved : goal.pieces-preserved
 pieces-preserved g c =
