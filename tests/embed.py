@@ -170,9 +170,9 @@ def make_matches(room):
             "archer:2", "--turns", 60, "--seed", number, "-o", path)
         match = json.loads(path.read_text(encoding="utf-8"))
         for turn in sorted(chance.randrange(2, 60) for _ in range(12)):
-            ids = [chance.randrange(2, 40) for _ in range(3)]
-            match["commands"].append([turn, chance.randrange(1, 3), *chance.choice(
-                [["walk", ids, f"{chance.randrange(24)}.5", chance.randrange(20)], ["stop", ids], ["attack", ids, chance.randrange(2, 30)], ["delete", ids[:1]]])])
+            ids, place = [chance.randrange(2, 40) for _ in range(3)], [f"{chance.randrange(24)}.5", chance.randrange(20)]
+            order = chance.choice([["walk", ids, *place], ["stop", ids], ["attack", ids, chance.randrange(2, 30)], ["delete", ids[:1]]])
+            match["commands"].append([turn, chance.randrange(1, 3), *order])
         path.write_text(json.dumps(match), encoding="utf-8")
         yield path
 

@@ -74,9 +74,9 @@ class Server:
         return client
 
     def hear(self, client, message):
-        """What a client says is orders, a digest, or a state that it was asked for."""
+        """What a client says is orders, of which its own player's are kept, a digest, or a state that it was asked for."""
         if "orders" in message:
-            self.given[message["turn"]].setdefault(client, message["orders"])
+            self.given[message["turn"]].setdefault(client, [order for order in message["orders"] if order[0] == client])
         elif "digest" in message:
             self.told[message["turn"]][client] = message["digest"]
             self.compare(message["turn"])
@@ -107,8 +107,9 @@ class Server:
     def hand_on(self, donor, message):
         """A state goes to who waits for it, if it has the digest that was agreed; else another donor is asked."""
         client, turn, state = message["to"], message["turn"], message["state"]
+        digest = hashlib.md5(bytes.fromhex(state)).hexdigest()
         writer = self.joining.pop(client)
-        if hashlib.md5(bytes.fromhex(state)).hexdigest() == self.agreed.get(turn):
+        if digest == self.agreed.get(turn):
             self.begin(client, writer, turn, state)
         else:
             self.liars.add(donor)
@@ -136,14 +137,15 @@ class Server:
     def compare(self, turn):
         """Once all who are there have told their digest of a turn, most are right: of who differs and of one of them a state is asked for."""
         told = {client: digest for client, digest in self.told[turn].items() if client not in self.liars}
-        if any(it not in self.told[turn] for it in self.writers if self.since[it] < turn):
+        if not told or any(it not in self.told[turn] for it in self.writers if self.since[it] < turn):
             return
         self.agreed[turn] = collections.Counter(told.values()).most_common(1)[0][0]
         for client in [it for it in told if told[it] != self.agreed[turn]]:
             self.liars.add(client)
             print("notice", turn, client, flush=True)
             for it in (client, min(it for it in told if told[it] == self.agreed[turn])):
-                send(self.writers[it], ask=turn, to=0)
+                if it in self.writers:
+                    send(self.writers[it], ask=turn, to=0)
 
 
 async def serve(server):
@@ -153,7 +155,8 @@ async def serve(server):
     end = time.monotonic() + SECONDS
     while (len(server.kept) < TURNS or server.writers) and time.monotonic() < end:
         await asyncio.sleep(0.02)
-    listening.close()
+    for writer in server.writers.values():
+        writer.close()
     print(json.dumps([server.kept, server.evidence]))
 
 
@@ -172,7 +175,7 @@ async def play(match, port, player, habit=""):
         else:
             turn = message["turn"]
             secret = [[player, "resign"]] if habit == "lies" and turn == LIE else []
-            state, digest = match.turn(state, message["orders"] + secret)
+            state, digest = match.play(state, message["orders"] + secret)
             await asyncio.sleep(0.05 if habit == "lags" and turn % 10 == 0 else 0)
             send(writer, digest=digest, turn=turn)
             print(turn, digest, flush=True)
@@ -192,7 +195,5 @@ def orders_of(match, state, player):
 
 
 if __name__ == "__main__":
-    if sys.argv[2:] == ["serve"]:
-        asyncio.run(serve(Server()))
-    else:
-        asyncio.run(play(Core(sys.argv[1]).match(MATCH), *map(int, sys.argv[2:4]), *sys.argv[4:]))
+    serves = sys.argv[2:] == ["serve"]
+    asyncio.run(serve(Server()) if serves else play(Core(sys.argv[1]).match(MATCH), *map(int, sys.argv[2:4]), *sys.argv[4:]))

@@ -54,7 +54,7 @@ def replay(match, kept):
     """The digest behind each turn of what the server kept, played once more."""
     stored, found = match.first(), {}
     for turn, orders in enumerate(kept, 1):
-        stored = match.turn(stored.bytes, orders)
+        stored = match.play(stored.bytes, orders)
         found[turn] = stored.digest
     return found
 

@@ -10,7 +10,7 @@ import ctypes
 import json
 import typing
 
-OK, DIFFERS, NO_ROOM = 0, 1, 100
+OK, DIFFERS, LIST_REFUSED, NO_ROOM = 0, 1, 8, 100
 CAUSES = {6: "match refused", 7: "state refused", 8: "list refused", 9: "no memory", 10: "no turn"}
 PARTS = ["Clock", "Entity", "Position", "Owner", "Health", "Motion", "Attack", "Stance"]
 VERSION = 0x00010000
@@ -108,6 +108,16 @@ class Match:
     def turn(self, state, commands=()):
         """The state behind a turn with these commands, each a list of the player, the kind and what follows it."""
         return self._state("turn", *pair(state), *pair(json.dumps(list(commands)).encode()))
+
+    def play(self, state, commands):
+        """The same without the items that are no commands, as those of a stranger may be: everybody leaves out the same ones."""
+        while True:
+            try:
+                return self.turn(state, commands)
+            except Refused as refused:
+                if refused.status != LIST_REFUSED:
+                    raise
+                commands = commands[:refused.index - 1] + commands[refused.index:] if refused.index else []
 
     def digest(self, state):
         """The digest of a state, and its turn."""
