@@ -1,5 +1,6 @@
 -- The board took the state.
-use Rattle.sim_play.proofs.Common.{◌≡◌, ℕ, ◌-◌, OnOk, ap, arith, from, IsValid, later_of, own_turns, Setup, setup_in, State, state_in, subst, sym, vision_after, ◌∙◌}
+use Rattle.sim_play.proofs.Common.{◌≡◌, ℕ, ◌-◌, OnOk, ap, arith, from, IsValid, later_of}
+use Rattle.sim_play.proofs.Common.{own_turns, Setup, setup_in, State, state_in, subst, sym, vision_after, ◌∙◌}
 use Rattle.sim_play.proofs.following.adopt_following.Goals as goal
 
 pub follow_until-requires-clause-valid : goal.follow_until-requires-clause-valid

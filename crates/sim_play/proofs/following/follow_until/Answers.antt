@@ -1,6 +1,7 @@
 -- One turn more is played, and followed.
 use Rattle.sim_play.proofs.{Later.followed_more, Playing.kept_on, Playing.next_number, Playing.one_turn_more}
-use Rattle.sim_play.proofs.Common.{◌≡◌, ℕ, suc, ◌+◌, ◌-◌, refl, ap, arith, from, IsValid, later_of, own_turns, rules, Setup, State, subst, sym, vision_after, vision_next, ◌∙◌}
+use Rattle.sim_play.proofs.Common.{◌≡◌, ℕ, suc, ◌+◌, ◌-◌, refl, ap, arith, from, IsValid}
+use Rattle.sim_play.proofs.Common.{later_of, own_turns, rules, Setup, State, subst, sym, vision_after, vision_next, ◌∙◌}
 use Rattle.sim_play.proofs.following.follow_until.Goals as goal
 
 pub loop-number-init : goal.loop-number-init

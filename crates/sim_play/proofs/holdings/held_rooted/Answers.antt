@@ -53,6 +53,7 @@ loop-cell-preserved c = λ player few.
 pub returns : goal.returns
 returns c = λ player few.
     let cells = zip c.args.holders.now c.args.rooted.now in
-    let all : length cells ≤ c.loop-cell.cell = omega (arith, length-zip c.args.holders.now c.args.rooted.now, c.min-cell-end.ensures, c.loop-cell-test.false) in
+    let long = length-zip c.args.holders.now c.args.rooted.now in
+    let all : length cells ≤ c.loop-cell.cell = omega (arith, long, c.min-cell-end.ensures, c.loop-cell-test.false) in
     c.loop-cell.invariant player few
     ∙ ap (count_by (λ (cell : ℕ × Bool). cell.0 == player && cell.1)) (take_all c.loop-cell.cell cells all)
