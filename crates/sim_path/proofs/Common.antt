@@ -16,10 +16,12 @@ pub use Rattle.sim_base.specs.{Least.is_before, Least.lesser_of, declared.memory
 pub use Rattle.sim_base.specs.{Places.cell_of, Places.centre_of, Places.same_cell, Places.Size, Walks.go, Walks.stay, Walks.Walk}
 pub use Rattle.sim_base.specs.Steps.{back, Field, forward, is_free, IsOnGround, IsStep, level, neighbour, octile, step_cost}
 pub use Rattle.sim_base.specs.Ways.{end_key, first_points, IsCost, IsEnd, IsFound, IsPredecessor, IsTrail, IsWay, LeadsTo, Way, waypoints}
-pub use Rattle.sim_grid.{proofs.Bits.AreBits, proofs.Bits.bits_more, proofs.Bits.bits_past, specs.Grids.field_of_grid, specs.Grids.is_open_at, specs.Grids.IsGroundSize}
+pub use Rattle.sim_grid.proofs.Bits.{AreBits, bits_more, bits_past}
+pub use Rattle.sim_grid.specs.Grids.{field_of_grid, is_open_at, IsGroundSize}
 pub use Rattle.sim_laws.proofs.{Ground.same_by_parts, Ground.same_cell-self, Ground.same_cell-true, WayInside.inside-on_ground, WayIs.way-is_way_of}
 pub use Rattle.sim_laws.proofs.{Neighbours.cell_at-some, Neighbours.neighbour-back, Neighbours.neighbour-below_eight, Neighbours.neighbour-on, Trips.walk-on}
-pub use Rattle.sim_path.specs.{Answers.way_in, WayEnds.AreEnds, WayEnds.HasGoneTo, WayEnds.IsBestOf, WayEnds.IsNoneOf, WayEnds.IsTrailToEnd, WayEnds.IsWayEnd, WayEnds.LeadBack}
+pub use Rattle.sim_path.specs.Answers.{way_in}
+pub use Rattle.sim_path.specs.WayEnds.{AreEnds, HasGoneTo, IsBestOf, IsNoneOf, IsTrailToEnd, IsWayEnd, LeadBack}
 pub use Rattle.sim_path.specs.{Away.AreAway, Away.leads_away, Ends.IsBeforeCell, Ends.IsBeforeRow, Ends.IsBest, Ends.IsFirstLead, Ends.key_to, Ends.LeadsBy}
 pub use Rattle.sim_path.specs.Floors.{floor_of, IsFloor, IsFront, IsUnknown, known_or, left_of}
 pub use Rattle.sim_path.specs.MarkTables.{marked_in, marks_of, size_of_marks}

@@ -155,7 +155,7 @@ pub fn way(alloc: Global, grid: &Grid, start: Point, goal: Point) -> Result<Way,
 // are nearly straight.
 const FAR_ABOUT: u32 = 1_000;
 
-// After which detours of all searches landmarks are set, which takes about as long as these searches did.
+// After which detours of all searches landmarks are set, which floods the ground nine times.
 const MANY: u32 = 60_000;
 
 /// The rooms of searches, which are kept from one to the next, and landmarks of the ground where ways are winding. What they hold

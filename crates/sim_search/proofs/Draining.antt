@@ -414,7 +414,13 @@ ready_passed h field s now idle r none = ready_next h field s s now idle r
     }) drains
   where
     drains : Drains h field s now []
-    drains = record { guide = r.guide; size_is = r.size_is; search = r.search; near = λ c n e f. omega (arith, r.near c n e f); queued = λ c n e f. inr (r.queued c n e f) }
+    drains = record {
+      guide = r.guide;
+      size_is = r.size_is;
+      search = r.search;
+      near = λ c n e f. omega (arith, r.near c n e f);
+      queued = λ c n e f. inr (r.queued c n e f);
+    }
 
 -- after as many buckets with no cell to take as there are, none waits
 ready_last : (h : Cell → ℕ) (field : Field) (s : Search) (now idle : ℕ) → 32 ≤ idle → Ready h field s now idle → (c : Cell) (d : ℕ) → cost_in s.costs c ≡ Some d
@@ -474,8 +480,8 @@ stopped h field s (suc n) idle ends r come =
       up_to = costs-up_to h field s (suc n) idle n r (omega arith);
     }
 
-pub ready_begins : (h : Cell → ℕ) (size : Size) (is_open : Cell → Bool) (start : Cell) (s : Search) → IsGuide (record { size = size; is_open = is_open }) start h
-    → Begins h size start s → Ready h (record { size = size; is_open = is_open }) s (h start) 0
+pub ready_begins : (h : Cell → ℕ) (size : Size) (is_open : Cell → Bool) (start : Cell) (s : Search)
+    → IsGuide (record { size = size; is_open = is_open }) start h → Begins h size start s → Ready h (record { size = size; is_open = is_open }) s (h start) 0
 ready_begins h size is_open start s guide b =
     record {
       even = guide.even start;

@@ -1,5 +1,6 @@
 -- Why landmarks guide a search: the least costs from an open cell differ along a step by no more than it costs, and so do the rows.
-use Rattle.sim_search.proofs.{Moves.direction-of, Moves.even_step, Moves.free-of_walk, Moves.free-open, Moves.most_step, Moves.step_back, Octile.estimate-guides}
+use Rattle.sim_search.proofs.Moves.{direction-of, even_step, free-of_walk, free-open, most_step, step_back}
+use Rattle.sim_search.proofs.Octile.{estimate-guides}
 use Rattle.sim_search.proofs.Common.{◌≡◌, ℕ, zero, suc, ◌+◌, ◌*◌, ◌%◌, ◌<◌, ◌≤◌, max, true, ◌&&◌, ◌||◌, ◌⊎◌, List, length, get_or, set, replicate}
 use Rattle.sim_search.proofs.Common.{Bool, Some, None, Option, refl, abs_diff, is_some, true≢false, Aim, ap, ap₂, AreCosts, arith, cases_eq, cases_lt, Cell}
 use Rattle.sim_search.proofs.Common.{estimate_to, Field, get_or-set_other, get_or-set_same, go, HasCost, inl, inr, IsGuide}

@@ -48,4 +48,5 @@ returns c = λ _.
     let last : c.loop-z.z ≡ d = omega (arith, c.loop-z-test.false, c.loop-z.auto.z-end, c.depth-z-end.ensures.depth) in
     let rows : c.loop-z.z * w ≡ w * d = turned c.loop-z.z w ∙ ap (λ (n : ℕ). w * n) last in
     same_lists xs ys (as_many ∙ sym full) (λ k x lt.
-    get_or_default xs k x false lt ∙ c.loop-z.invariant k (omega (arith, lt, as_many, rows)) ∙ sym (get_or_default ys k x false (omega (arith, lt, as_many, full))))
+    get_or_default xs k x false lt ∙ c.loop-z.invariant k (omega (arith, lt, as_many, rows)) ∙
+    sym (get_or_default ys k x false (omega (arith, lt, as_many, full))))

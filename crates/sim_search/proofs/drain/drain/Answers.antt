@@ -5,7 +5,8 @@ use Rattle.sim_search.proofs.Draining.{Draining, draining_begins, draining_past,
 use Rattle.sim_search.proofs.drain.drain.Goals as goal
 
 pub loop-cell-init : goal.loop-cell-init
-loop-cell-init g c = draining_begins (g.A.Guide.estimate_of c.args.aim) (field_of_grid c.args.grid.now) c.args.search.now c.args.now c.args.bucket.now c.requires.drains
+loop-cell-init g c =
+    draining_begins (g.A.Guide.estimate_of c.args.aim) (field_of_grid c.args.grid.now) c.args.search.now c.args.now c.args.bucket.now c.requires.drains
 
 pub loop-cell-preserved : goal.loop-cell-preserved
 loop-cell-preserved g c =
@@ -23,7 +24,8 @@ loop-cell-preserved g c =
       | in-Some+in_ok-expand w ↦
           subst (λ (n : Search). Draining (g.A.Guide.estimate_of c.args.aim) field first n c.args.now rest c.match-waiting.any) (sym w.search-is)
           (subst (λ (b : Bool). Draining (g.A.Guide.estimate_of c.args.aim) field first w.take.new.search c.args.now rest b) (sym w.any-is)
-          (draining_taken (g.A.Guide.estimate_of c.args.aim) field first s w.expand.new.search w.take.new.search c.args.now x w.in-Some.cost rest c.loop-cell.any
+          (draining_taken (g.A.Guide.estimate_of c.args.aim) field first s w.expand.new.search w.take.new.search c.args.now x w.in-Some.cost
+          rest c.loop-cell.any
           (c.waiting.ensures.some w.in-Some.cost w.in-Some.is) w.in_ok-expand.ensures w.take.ensures before))
       | in_default w ↦
           subst (λ (n : Search). Draining (g.A.Guide.estimate_of c.args.aim) field first n c.args.now rest c.match-waiting.any) (sym w.search-is)

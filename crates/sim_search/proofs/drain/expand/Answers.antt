@@ -4,7 +4,8 @@ use Rattle.sim_search.proofs.drain.expand.Goals.{in-Some+in_ok-lower, in_default
 use Rattle.sim_search.proofs.drain.expand.Goals as goal
 
 pub loop-which-init : goal.loop-which-init
-loop-which-init g c = expanding_begins (g.A.Guide.estimate_of c.args.aim) (field_of_grid c.args.grid.now) c.args.search.now c.args.from c.args.cost c.requires.label
+loop-which-init g c =
+    expanding_begins (g.A.Guide.estimate_of c.args.aim) (field_of_grid c.args.grid.now) c.args.search.now c.args.from c.args.cost c.requires.label
 
 pub loop-which-preserved : goal.loop-which-preserved
 loop-which-preserved g c =
@@ -17,12 +18,14 @@ loop-which-preserved g c =
           c.loop-which.which c.loop-which.invariant
           (sym c.step.ensures.step ∙ w.in-Some.is)
           (rw w.step_cost.ensures at w.in_ok-lower.ensures))
-      | in_default w ↦ subst P (sym w.search-is) (expanding_none (g.A.Guide.estimate_of c.args.aim) field c.args.search.now c.loop-which.search c.args.from c.args.cost
+      | in_default w ↦ subst P (sym w.search-is)
+          (expanding_none (g.A.Guide.estimate_of c.args.aim) field c.args.search.now c.loop-which.search c.args.from c.args.cost
           c.loop-which.which c.loop-which.invariant (sym c.step.ensures.step ∙ w.in_default.is))
     ]
 
 pub returns : goal.returns
-returns g c = expanded (g.A.Guide.estimate_of c.args.aim) (field_of_grid c.args.grid.now) c.args.search.now c.loop-which.search c.args.from c.args.cost c.loop-which.which
+returns g c =
+    expanded (g.A.Guide.estimate_of c.args.aim) (field_of_grid c.args.grid.now) c.args.search.now c.loop-which.search c.args.from c.args.cost c.loop-which.which
     c.loop-which-test.false c.loop-which.invariant
 
 pub returns-in_err-lower : goal.returns-in_err-lower

@@ -37,7 +37,8 @@ drain-requires-clause-drains g c =
     subst (λ (l : List Cell). Drains (g.A.Guide.estimate_of c.args.aim) field between c.passed-next.result.0 l)
     (sym (c.as_slice.ensures ∙ c.swap_bucket-bucket.ensures.bucket))
     (drains_first (g.A.Guide.estimate_of c.args.aim) field c.loop-idle.search between c.passed-next.result.0 c.passed-next.result.1
-    (c.passed-next.ensures.ready (g.A.Guide.estimate_of c.args.aim) (field_of_grid c.args.grid.now) c.loop-idle.invariant.ready) c.swap_bucket-bucket.ensures.rest)
+    (c.passed-next.ensures.ready (g.A.Guide.estimate_of c.args.aim) (field_of_grid c.args.grid.now) c.loop-idle.invariant.ready)
+    c.swap_bucket-bucket.ensures.rest)
 
 pub passed-next-requires-clause-small : goal.passed-next-requires-clause-small
 passed-next-requires-clause-small g c = omega (arith, c.loop-idle.invariant.few, c.requires.small)
@@ -48,7 +49,8 @@ drain-requires-clause-small g c = omega (arith, c.passed-next.ensures.gap, c.pas
 pub overflow_add-now : goal.overflow_add-now
 overflow_add-now g c = omega (arith, c.passed-next.ensures.gap, c.passed-next.ensures.most, c.loop-idle.invariant.few, c.requires.small)
 
-round : (g : _) (c : After-emptied-spare g) → Round (g.A.Guide.estimate_of c.args.aim) (field_of_grid c.args.grid.now) c.loop-idle.search c.drain.new.search c.passed-next.result.0
+round : (g : _) (c : After-emptied-spare g)
+    → Round (g.A.Guide.estimate_of c.args.aim) (field_of_grid c.args.grid.now) c.loop-idle.search c.drain.new.search c.passed-next.result.0
     c.if-branch.now c.passed-next.result.1 c.if-branch.idle
 round g c =
     let field = field_of_grid c.args.grid.now in

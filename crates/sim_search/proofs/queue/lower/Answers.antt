@@ -7,7 +7,8 @@ returns-in_ok-push g c =
     let old = c.args.search.now in
     let b = c.bucket.result in
     let to = c.args.to in
-    let key : b ≡ (c.args.total + g.A.Guide.estimate_of c.args.aim to) % 32 = c.bucket.ensures.is ∙ ap (λ (n : ℕ). (c.args.total + n) % 32) c.estimate.ensures.is in
+    let key : b ≡ (c.args.total + g.A.Guide.estimate_of c.args.aim to) % 32 =
+    c.bucket.ensures.is ∙ ap (λ (n : ℕ). (c.args.total + n) % 32) c.estimate.ensures.is in
     let now = c.index_mut-waiting.result.now in
     let had : c.index_mut-waiting.result.now ≡ get_or old.buckets.items b [] = c.index_mut-waiting.ensures.value ∙ get_or_default old.buckets.items b now []
     (omega (arith, old.ring, old.buckets.ok.0, c.bucket.ensures.below)) in

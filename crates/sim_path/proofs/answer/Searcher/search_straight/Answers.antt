@@ -1,4 +1,5 @@
-use Rattle.sim_path.proofs.Common.{◌≡◌, ℕ, ◌+◌, ◌-◌, ◌*◌, ◌/◌, ◌^◌, ◌<◌, ◌≤◌, refl, ap, arith, Cell, cell_of, estimate-guides, field_of_grid, IfOk-from_err, inside-on_ground, octile, ◌∙◌}
+use Rattle.sim_path.proofs.Common.{◌≡◌, ℕ, ◌+◌, ◌-◌, ◌*◌, ◌/◌, ◌^◌, ◌<◌, ◌≤◌, refl, ap, arith, Cell, cell_of}
+use Rattle.sim_path.proofs.Common.{estimate-guides, field_of_grid, IfOk-from_err, inside-on_ground, octile, ◌∙◌}
 use Rattle.sim_path.proofs.FloorLaws.{known-front}
 use Rattle.sim_path.proofs.answer.Searcher.search_straight.Goals as goal
 

@@ -22,7 +22,8 @@ whole costs items place e le =
 pub invariant_of-result : goal.invariant_of-result
 invariant_of-result c =
     let costs = c.args.costs.now in
-    let rows = whole costs c.loop-place.items.items c.loop-place.place c.loop-place.invariant (omega (arith, c.loop-place-test.false, c.len-place-end.ensures)) in
+    let rows = whole costs c.loop-place.items.items c.loop-place.place c.loop-place.invariant
+    (omega (arith, c.loop-place-test.false, c.len-place-end.ensures)) in
     record {
       narrow = costs.narrow;
       shallow = costs.shallow;
@@ -40,5 +41,6 @@ invariant_of-result c =
 pub returns-clause-rows : goal.returns-clause-rows
 returns-clause-rows c = λ v.
     let costs = c.args.costs.now in
-    let rows = whole costs c.loop-place.items.items c.loop-place.place c.loop-place.invariant (omega (arith, c.loop-place-test.false, c.len-place-end.ensures)) in
+    let rows = whole costs c.loop-place.items.items c.loop-place.place c.loop-place.invariant
+    (omega (arith, c.loop-place-test.false, c.len-place-end.ensures)) in
     ap (λ (xs : List (Option (List ℕ))). entry_at None (size_of costs) xs v) rows ∙ entry_at-map alike None None refl (size_of costs) (known costs) v
