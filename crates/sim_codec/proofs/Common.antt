@@ -15,7 +15,7 @@ pub use Rattle.std.specs.Prelude.{◌&&◌, ◌≢◌, ◌↔◌, is_some, IfSom
 pub use Rattle.sim_base.specs.Limits.{IsArms, IsRawFrom, IsTemplate}
 pub use Rattle.sim_base.specs.declared.{state.Aim.Aim, state.Motion.Motion, state.Motion.TheVariants.Going, state.Motion.TheVariants.Still, template.Arms.Arms}
 pub use Rattle.sim_bytes.specs.{Numbers.length-u32_bytes, Numbers.length-u64_bytes, Numbers.u32_back, Numbers.u64_back, Reading.Reader, Reading.◌>>=◌}
-pub use Rattle.sim_codec.specs.{Bits.bits, Bits.row_bits, Common.Walk, Common.with_id, Parts.HasParts, Parts.IsLike}
+pub use Rattle.sim_codec.specs.{Bits.bits, Bits.row_bits, Common.point_in, Common.Walk, Common.with_id, Parts.HasParts, Parts.IsLike}
 pub use Rattle.sim_codec.specs.{Entities.id_in, Entities.lives_as, Entities.passes, Entities.template_in, Stored.AreGood, Stored.rows_in}
 pub use Rattle.sim_codec.specs.{Loading.RefusedFor, Loading.StandsFor, Loading.version_of, declared.bits.Part.Part, declared.fault.StateFault.StateFault}
 pub use Rattle.sim_codec.specs.{PartLaws.attack_like, PartLaws.health_like, PartLaws.is_some-map, PartLaws.motion_like, Quick.HaveSamePlaces, Quick.place_of}

@@ -25,7 +25,7 @@ pub record IsEntityOf (bytes : List ℕ) (e : ℕ × ℕ) (after : List ℕ) : T
   pub behind : drop 6 bytes ≡ after
   pub long : 6 ≤ length bytes
 
-entity_is : (bytes : List ℕ) (e : ℕ × ℕ) (after : List ℕ) → entity_at bytes ≡ Some (e, after) → IsEntityOf bytes e after
+pub entity_is : (bytes : List ℕ) (e : ℕ × ℕ) (after : List ℕ) → entity_at bytes ≡ Some (e, after) → IsEntityOf bytes e after
 unfolding entity_at
 entity_is bytes e after h =
     let id = bind_some (number_at w32 bytes) _ (e, after) h in

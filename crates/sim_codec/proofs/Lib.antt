@@ -15,3 +15,5 @@ pub mod OldRows
 pub mod QuickPlaces
 pub mod GoodRows
 pub mod ToldRows
+pub mod SectionRows
+pub mod StoredWays

@@ -1,8 +1,9 @@
 -- Rows that are taken one after the other from where they stand.
-use Rattle.sim_codec.proofs.Common.{Option, unwrap_or, option_map, option_and_then, refl, ap, arith, attack_at, entity_at, has_stances, HasParts, health_at}
-use Rattle.sim_codec.proofs.Common.{is_some-map, moving_at, owner_at, Parts, parts_at, Point, position_at, Reader, Row, row_at, row_if, row_of, rows_at}
+use Rattle.sim_codec.proofs.Common.{Option, unwrap_or, option_map, refl, ap, arith, attack_at, entity_at, has_stances, HasParts, health_at}
+use Rattle.sim_codec.proofs.Common.{is_some-map, moving_at, owner_at, Parts, parts_at, Point, position_at, Row, row_at, row_if, row_of, rows_at}
 use Rattle.sim_codec.proofs.Common.{rows_in, stance_at, sym, Template, Walk, ◌>>=◌, ◌∙◌}
 use Rattle.sim_codec.proofs.Common.{◌≡◌, ℕ, zero, suc, ◌+◌, ◌-◌, ◌<◌, ◌≤◌, Bool, true, false, ◌&&◌, List, [], ◌∷◌, length, ℤ, is_some, slice_get, Some, None}
+pub use Rattle.sim_codec.specs.TakenLaws.{bind_some, inject, is_some-if}
 
 -- a row in front of others that are read
 abbrev before : Row → Option (List Row × Walk) → Option (List Row × Walk)
@@ -112,26 +113,12 @@ few_read ts n w rows e = by (rows_at ts n w) refl e (length_read ts n w)
 
 -- ---- what a row is read from
 
-pub bind_some : {A B : Type 0} (o : Option A) (f : A → Option B) (b : B) → o >>= f ≡ Some b → (a : A) × (o ≡ Some a) × (f a ≡ Some b)
-bind_some (Some a) f b h = (a, refl, h)
-bind_some None f b h = absurd cc
-
-is_some-if : {X : Type 0} (at : Reader X) (wanted : Bool) (bytes : List ℕ) (x : Option X × List ℕ) → row_if at wanted bytes ≡ Some x → is_some x.0 ≡ wanted
-unfolding row_if
-is_some-if {X = X} at false bytes x h = sym (ap (λ (o : Option (Option X × List ℕ)). is_some (option_and_then (λ (z : Option X × List ℕ). z.0) o)) h)
-is_some-if {X = X} at true bytes x h =
-    let f = bind_some (at bytes) (λ (y : X × List ℕ). Some (Some y.0, y.1)) x h in
-    sym (ap (λ (o : Option (Option X × List ℕ)). is_some (option_and_then (λ (z : Option X × List ℕ). z.0) o)) f.2)
-
 -- what is read first: the row of the first section, and the parts of its template
 pub record IsFirst (ts : List Template) (w : Walk) (p : Parts) (after : Walk) : Type 0 where
   pub entity : entity_at w.entity ≡ Some (p.entity, after.entity)
   pub has : HasParts ts (row_of p)
   pub by : w.version ≡ after.version
   pub stance : has_stances w.version ≡ false → is_some p.stance ≡ false
-
-pub inject : {A : Type 0} (x y : A) → Some x ≡ Some y → x ≡ y
-inject x y e = cc
 
 -- what the last three sections leave of what was read before them, and of the version
 pub record Ended (w : Walk) (t : Template) (e : (ℕ × ℕ) × List ℕ) (h : Option (ℕ × ℤ)) (p : Parts) (after : Walk) : Type 0 where

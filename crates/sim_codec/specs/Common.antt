@@ -5,9 +5,12 @@ pub use Rattle.sim_base.specs.Spelling.{attack_bytes, attack_part, clock_bytes, 
 pub use Rattle.sim_base.specs.Spelling.{mark, motion_part, moving_bytes, old_spelling, owner_bytes, owner_part, position_bytes, position_part, quick_bytes}
 pub use Rattle.sim_base.specs.Spelling.{rows_with, section, sections, six_sections, spelling, stance_bytes, stance_part}
 pub use Rattle.sim_base.specs.Validity.{Both, has_health, IsInside, IsKnownRow, IsState, IsValid, IsValidAim, IsValidMotion, IsValidRow}
-pub use Rattle.sim_base.specs.declared.{place.Point.Point, setup.Setup.Setup, state.Row.Row, state.State.State, template.Template.Template}
+pub use Rattle.sim_base.specs.declared.{place.Point.Point, state.Motion.Motion, setup.Setup.Setup, state.Row.Row, state.State.State, template.Template.Template}
 pub use Rattle.sim_bytes.specs.{Reading.number_at, Telling.Tells}
-pub use Rattle.sim_sections.specs.{Rows.HasShortWay, Rows.with_id, Versions.number_of, Walking.row_of}
-pub use Rattle.sim_sections.specs.declared.{version.Version.Version, version.Version.TheVariants.One, version.Version.TheVariants.Two, walk.Walk.Walk}
+pub use Rattle.sim_sections.specs.{Rows.HasShortWay, Rows.point_in, Rows.with_id, Versions.has_stances, Versions.number_of, Walking.holds, Walking.row_of}
+pub use Rattle.sim_sections.specs.declared.{version.Version.Version, version.Version.TheVariants.One, version.Version.TheVariants.Two}
+pub use Rattle.sim_sections.specs.declared.walk.{Parts.Parts, Walk.Walk}
 unfoldable pub use Rattle.sim_base.specs.{Bytes.u32_bytes, Bytes.u64_bytes, Spelling.digest, Spelling.quick}
 unfoldable pub use Rattle.sim_sections.specs.Walking.{parts_at, sections_at}
+unfoldable pub use Rattle.sim_sections.specs.{Sections.row_if}
+unfoldable pub use Rattle.sim_sections.specs.Rows.{attack_at, entity_at, health_at, moving_at, owner_at, position_at, stance_at}

@@ -3,6 +3,8 @@ pub mod Reading
 pub mod Entities
 pub mod Parts
 pub mod PartLaws
+pub mod Taken
+pub mod TakenLaws
 pub mod Stored
 pub mod Versions
 pub mod Loading

@@ -84,7 +84,7 @@ fn bits_of_first(state: &State, part: Part) -> Bits
     }
 }
 
-fn bits_in<R: RowForm>(row: &Row) -> Bits
+fn bits_in<'a, R: RowForm<'a>>(row: &'a Row) -> Bits
     requires { HasShortWay row.now }
     ensures { result ≡ option_map R.spelled (R.in_row row.now) }
 {

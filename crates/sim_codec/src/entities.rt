@@ -9,13 +9,15 @@ use crate::part::PartForm;
 use sim_base::Template;
 use sim_sections::HealthRow;
 
-fn id_of(entity: &[u8; 6]) -> u32
+/// The id of an entity.
+pub fn id_of(entity: &[u8; 6]) -> u32
     ensures { result ≡ id_in entity.now }
 {
     u32::from_le_bytes([entity[0], entity[1], entity[2], entity[3]])
 }
 
-fn template_of(entity: &[u8; 6]) -> u16
+/// The number of its template.
+pub fn template_of(entity: &[u8; 6]) -> u16
     ensures { result ≡ template_in entity.now }
 {
     u16::from_le_bytes([entity[4], entity[5]])
@@ -31,7 +33,7 @@ pub fn entities_in(section: &[u8], count: usize) -> &[[u8; 6]]
 }
 
 // Whether entities of the template of this number have this part.
-fn has<R: PartForm>(templates: &[Template], number: u16) -> bool
+fn has<'a, R: PartForm<'a>>(templates: &[Template], number: u16) -> bool
     ensures { result ≡ passes R.of_template templates.now number }
 {
     match templates.get(number as usize) {
@@ -59,11 +61,14 @@ pub fn is_living(templates: &[Template], entities: &[[u8; 6]], id: u32) -> bool
 }
 
 /// How many have this part.
-pub fn count<R: PartForm>(templates: &[Template], entities: &[[u8; 6]]) -> usize
+pub fn count<'a, R: PartForm<'a>>(templates: &[Template], entities: &[[u8; 6]]) -> usize
     ensures { result ≡ count_by (λ bytes. passes R.of_template templates.now (template_in bytes)) entities.now }
 {
-    entities
-        .iter()
-        .filter(|entity| has::<R>(templates, template_of(entity)))
-        .count()
+    let mut found = 0usize;
+    let mut rest = entities;
+    'entities: while let [entity, more @ ..] = rest {
+        found += usize::from(has::<R>(templates, template_of(entity)));
+        rest = more;
+    }
+    found
 }

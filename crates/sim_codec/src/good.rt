@@ -1,25 +1,39 @@
 //! The test of a state that still stands in its bytes: what `validity` asks of one in memory. The ids are seen to ascend
 //! first, so that each target is then found by halves.
 
-ghost use Rattle.std.specs.Prelude.{◌≡◌, ◌<◌, ◌≤◌, ◌↔◌, map, IsTrue, option_map};
-ghost use Rattle.sim_codec.specs.Common.{Both, id_of, IsKnownRow, IsStrictlyIncreasing, IsValid, IsValidAim, IsValidMotion, IsValidRow, row_of};
+ghost use Rattle.std.specs.Prelude.{◌≡◌, ◌+◌, ◌<◌, ◌≤◌, ◌↔◌, ◌++◌, map, length, IsTrue, All, option_map};
+ghost use Rattle.sim_codec.specs.Common.{Both, id_of, IsInside, IsKnownRow, IsStrictlyIncreasing, IsValid, IsValidAim, IsValidMotion, IsValidRow};
+ghost use Rattle.sim_codec.specs.Common.{point_in, row_of};
 ghost use Rattle.sim_codec.specs.Stored.{AreGood};
 
 use crate::stored::{Stored, StoredRows};
-use crate::validity::{are_inside, has_valid_health, is_id_below, is_inside_setup, is_valid_clock};
-use sim_base::{Aim, Arms, Fixed, Setup, Template};
+use crate::validity::{
+    are_inside, are_stored_inside, has_valid_health, is_id_below, is_inside_setup, is_valid_clock,
+};
+use sim_base::{Aim, Arms, Fixed, Point, Setup, Template};
 use sim_sections::{MotionRow, Parts};
 
-fn is_valid_motion(setup: &Setup, row: &MotionRow) -> bool
+// Whether all points of a way lie on the ground of the match. It has no more than it may have.
+fn has_inside_way(setup: &Setup, points: &[Point], stored: &[[u8; 8]]) -> bool
+    requires { length points.now + length stored.now ≤ 64 }
+    ensures { IsTrue result ↔ (All (IsInside setup.now) (points.now ++ map point_in stored.now) × (length (points.now ++ map point_in stored.now) ≤ 64)) }
+{
+    if !are_inside(setup, points) {
+        return false;
+    }
+    are_stored_inside(setup, stored)
+}
+
+fn is_valid_motion(setup: &Setup, row: &MotionRow<'_>) -> bool
     ensures { IsTrue result ↔ IsValidMotion setup.now row.now.1 }
 {
     if !row.going {
         return true;
     }
-    is_inside_setup(setup, row.goal) && are_inside(setup, &row.way[..row.count])
+    is_inside_setup(setup, row.goal) && has_inside_way(setup, row.points, row.stored)
 }
 
-fn has_valid_motion(setup: &Setup, motion: &Option<MotionRow>, speed: Option<Fixed>) -> bool
+fn has_valid_motion(setup: &Setup, motion: &Option<MotionRow<'_>>, speed: Option<Fixed>) -> bool
     ensures { IsTrue result ↔ Both (option_map (λ row. row.1) motion.now) speed (λ motion speed. IsValidMotion setup.now motion) }
 {
     match motion {
@@ -54,7 +68,7 @@ fn has_valid_attack(all: &StoredRows<'_>, id: u32, attack: Option<Aim>, arms: Op
     }
 }
 
-fn health_of(parts: &Parts) -> Option<Fixed>
+fn health_of(parts: &Parts<'_>) -> Option<Fixed>
     ensures { result ≡ option_map (λ row. row.1) parts.now.health }
 {
     match &parts.health {
@@ -63,7 +77,7 @@ fn health_of(parts: &Parts) -> Option<Fixed>
     }
 }
 
-fn is_valid_row(setup: &Setup, all: &StoredRows<'_>, parts: &Parts, template: &Template) -> bool
+fn is_valid_row(setup: &Setup, all: &StoredRows<'_>, parts: &Parts<'_>, template: &Template) -> bool
     requires { IsStrictlyIncreasing (map id_of all.now) }
     ensures { IsTrue result ↔ IsValidRow 1 setup.now all.now (row_of parts.now) template.now }
 {
@@ -74,7 +88,7 @@ fn is_valid_row(setup: &Setup, all: &StoredRows<'_>, parts: &Parts, template: &T
         && has_valid_attack(all, parts.entity.id, parts.aim(), template.arms)
 }
 
-fn is_known_row(setup: &Setup, all: &StoredRows<'_>, parts: &Parts) -> bool
+fn is_known_row(setup: &Setup, all: &StoredRows<'_>, parts: &Parts<'_>) -> bool
     requires { IsStrictlyIncreasing (map id_of all.now) }
     ensures { IsTrue result ↔ IsKnownRow 1 setup.now all.now (row_of parts.now) }
 {
@@ -89,7 +103,7 @@ fn is_known_row(setup: &Setup, all: &StoredRows<'_>, parts: &Parts) -> bool
 }
 
 // Whether the row is one of the match, with an id from 2 on that is below the next free one.
-fn is_good(setup: &Setup, all: &StoredRows<'_>, parts: &Parts, next: u32) -> bool
+fn is_good(setup: &Setup, all: &StoredRows<'_>, parts: &Parts<'_>, next: u32) -> bool
     requires { IsStrictlyIncreasing (map id_of all.now) }
     ensures { IsTrue result ↔ (((2 ≤ (row_of parts.now).id) × ((row_of parts.now).id < next)) × IsKnownRow 1 setup.now all.now (row_of parts.now)) }
 {

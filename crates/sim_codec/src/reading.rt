@@ -1,21 +1,34 @@
 //! A state in memory of its own, made of one that still stands in its bytes.
 
-ghost use Rattle.std.specs.Prelude.{◌≡◌, IfOk, None};
-ghost use Rattle.sim_codec.specs.Common.{row_of};
+ghost use Rattle.std.specs.Prelude.{◌≡◌, ◌+◌, ◌≤◌, ◌++◌, map, length, IfOk, None};
+ghost use Rattle.sim_codec.specs.Common.{point_in, row_of};
 
 use crate::stored::{Stored, StoredRows};
-use sim_base::{Items, Motion, OutOfMemory, Row, Rows, State};
-use sim_sections::{MotionRow, Parts};
+use sim_base::{Items, Motion, OutOfMemory, Point, Row, Rows, State};
+use sim_sections::{MotionRow, Parts, point_of};
 use std::alloc::{AllocError, Global};
 
+// The points of a way, in memory of their own.
+fn points_of(alloc: Global, points: &[Point], stored: &[[u8; 8]]) -> Result<Vec<Point>, AllocError>
+    requires { length points.now + length stored.now ≤ 64 }
+    ensures { IfOk result (λ way. way.items ≡ points.now ++ map point_in stored.now) }
+{
+    let mut way = Vec::with_capacity(alloc, points.len() + stored.len())?;
+    way.extend_from_slice(points)?;
+    for bytes in stored {
+        way.push(point_of(bytes))?;
+    }
+    Ok(way)
+}
+
 // A motion, its way in memory of its own.
-fn motion_of(alloc: Global, row: MotionRow) -> Result<Motion, AllocError>
-    ensures { IfOk result (λ motion. motion ≡ row.1) }
+fn motion_of(alloc: Global, row: MotionRow<'_>) -> Result<Motion, AllocError>
+    ensures { IfOk result (λ motion. motion ≡ row.entry.1) }
 {
     if !row.going {
         return Ok(Motion::Still);
     }
-    let points = Vec::from_slice(alloc, &row.way[..row.count])?;
+    let points = points_of(alloc, row.points, row.stored)?;
     Ok(Motion::Going {
         goal: row.goal,
         way: Items::from_items(points),
@@ -23,8 +36,8 @@ fn motion_of(alloc: Global, row: MotionRow) -> Result<Motion, AllocError>
     })
 }
 
-fn row_from(alloc: Global, parts: Parts) -> Result<Row, AllocError>
-    ensures { IfOk result (λ row. row ≡ row_of parts) }
+fn row_from(alloc: Global, parts: Parts<'_>) -> Result<Row, AllocError>
+    ensures { IfOk result (λ row. row ≡ row_of parts.entry) }
 {
     let attack = parts.aim();
     let Parts {
@@ -53,11 +66,11 @@ fn row_from(alloc: Global, parts: Parts) -> Result<Row, AllocError>
 fn rows_of(alloc: Global, mut stored: StoredRows<'_>) -> Result<Rows, OutOfMemory>
     ensures { IfOk result (λ rows. rows ≡ stored.entry) }
 {
-    let mut rows = Items::new(alloc);
+    let mut rows = Vec::with_capacity(alloc, stored.left())?;
     'rows: while let Some(parts) = stored.next() {
         rows.push(row_from(alloc, parts)?)?;
     }
-    Ok(rows)
+    Ok(Rows::from_items(rows))
 }
 
 /// The state that stands in bytes.

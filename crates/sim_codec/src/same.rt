@@ -1,5 +1,5 @@
-//! Whether bytes are the spelling of the state that was read from them. The spelling is told into a comparison, row by
-//! row as the rows are taken, so that no memory is needed for it.
+//! Whether bytes are the spelling of the state that was read from them. The spelling is told into a comparison, section
+//! by section as the rows of each are taken, so that no memory is needed for it.
 
 ghost use Rattle.std.specs.{List.flat_map, List.filter_map, Prelude.◌≡◌, Prelude.◌↔◌, Prelude.OnOk, Prelude.IsTrue};
 ghost use Rattle.sim_codec.specs.{Common.section, Common.Tells, Versions.sections_by, Versions.spelled_by, Versions.stances};
@@ -13,30 +13,15 @@ use sim_sections::{
     AttackRow, EntityRow, HealthRow, MotionRow, OwnerRow, PositionRow, StanceRow, Version,
 };
 
-// Tells the rows that have this part.
-fn tell_rows<K: ByteSink, R: PartForm>(
+fn tell_section<'a, K: ByteSink, R: PartForm<'a>>(
     out: &mut K,
-    mut rows: StoredRows<'_>,
-) -> Result<(), K::Fault>
-    ensures { OnOk result (Tells K.holds out.old out.new (flat_map R.spelled (filter_map R.in_row rows.entry))) }
-{
-    'rows: while let Some(parts) = rows.next() {
-        if let Some(row) = R::from_parts(parts) {
-            row.tell(out)?;
-        }
-    }
-    Ok(())
-}
-
-fn tell_section<K: ByteSink, R: PartForm>(
-    out: &mut K,
-    rows: &StoredRows<'_>,
+    rows: &StoredRows<'a>,
 ) -> Result<(), K::Fault>
     ensures { OnOk result (Tells K.holds out.old out.new (section R.TAG R.spelled (filter_map R.in_row rows.now))) }
 {
-    tell_u8(out, R::TAG)?;
+    tell_u8(out, R::tag())?;
     tell_u32(out, rows.count::<R>())?;
-    tell_rows::<K, R>(out, rows.fork())
+    rows.tell_part::<K, R>(out)
 }
 
 // Tells the section of stances, if the version has it.

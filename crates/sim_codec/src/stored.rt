@@ -1,14 +1,15 @@
 //! A state that still stands in its bytes. Its rows are taken one after the other as often as they are wanted, and no
 //! memory with them.
 
-ghost use Rattle.{sim_codec.specs.Stored.rows_in, std.specs.List.filter_map};
-ghost use Rattle.std.specs.Prelude.{◌≡◌, ◌≤◌, ◌↔◌, [], ◌∷◌, map, length, is_some, IsTrue, MatchOption, MatchResult, Some, None, option_map};
-ghost use Rattle.sim_codec.specs.{Common.has_health, Common.id_of, Common.IsStrictlyIncreasing, Common.row_of, Reading.rows_at, Reading.state_at};
+ghost use Rattle.{sim_bytes.specs.Reading.Reads, sim_codec.specs.Stored.rows_in, std.specs.List.filter_map, std.specs.List.flat_map};
+ghost use Rattle.std.specs.Prelude.{◌≡◌, ◌≤◌, ◌↔◌, [], ◌∷◌, map, length, is_some, IsTrue, MatchOption, MatchResult, OnOk, Some, None, option_map};
+ghost use Rattle.sim_codec.specs.{Common.has_health, Common.id_of as id_of_row, Common.IsStrictlyIncreasing, Common.row_of, Common.Tells};
+ghost use Rattle.sim_codec.specs.{Reading.rows_at, Reading.state_at, Taken.next_in, Taken.parts_in};
 
-use crate::entities::{are_ascending, count, entities_in, is_living};
+use crate::entities::{are_ascending, count, entities_in, id_of, is_living, template_of};
 use crate::part::PartForm;
 use sim_base::{MAX_ROWS, Setup, Template};
-use sim_bytes::{Short, Take};
+use sim_bytes::{ByteSink, Short, Take};
 use sim_sections::{Parts, Version, Walk, locate, take_parts};
 use std::marker::Model;
 
@@ -85,8 +86,15 @@ impl<'a> StoredRows<'a> {
         }
     }
 
+    /// How many rows were not taken yet.
+    pub fn left(&self) -> usize
+        ensures { result ≡ length self.now }
+    {
+        self.count as usize
+    }
+
     /// Takes the next row, as what stands of it in each section.
-    pub fn next(&mut self) -> Option<Parts>
+    pub fn next(&mut self) -> Option<Parts<'a>>
         ensures { MatchOption result (self.old ≡ []) (λ parts. self.old ≡ row_of parts ∷ self.new) }
     {
         if self.count == 0 {
@@ -104,7 +112,7 @@ impl<'a> StoredRows<'a> {
 
     /// Whether the id of each row is above the one before.
     pub fn are_ascending(&self) -> bool
-        ensures { IsTrue result ↔ IsStrictlyIncreasing (map id_of self.now) }
+        ensures { IsTrue result ↔ IsStrictlyIncreasing (map id_of_row self.now) }
     {
         let entities = entities_in(self.walk.entity.bytes(), self.count as usize);
         are_ascending(entities)
@@ -112,20 +120,67 @@ impl<'a> StoredRows<'a> {
 
     /// Whether one of the rows has this id and health.
     pub fn is_alive(&self, id: u32) -> bool
-        requires { IsStrictlyIncreasing (map id_of self.now) }
+        requires { IsStrictlyIncreasing (map id_of_row self.now) }
         ensures { result ≡ has_health self.now id }
     {
         let entities = entities_in(self.walk.entity.bytes(), self.count as usize);
         is_living(self.templates, entities, id)
     }
 
+    /// Tells what the rows have in one section, of which no other is read but the first.
+    pub fn tell_part<K: ByteSink, R: PartForm<'a>>(&self, out: &mut K) -> Result<(), K::Fault>
+        ensures { OnOk result (Tells K.holds out.old out.new (flat_map R.spelled (filter_map R.in_row self.now))) }
+    {
+        let entities = entities_in(self.walk.entity.bytes(), self.count as usize);
+        let from = R::reader(&self.walk);
+        tell_parts::<K, R>(out, self.walk.version, self.templates, entities, from)
+    }
+
     /// How many of the rows have this part.
-    pub fn count<R: PartForm>(&self) -> u32
+    pub fn count<R: PartForm<'a>>(&self) -> u32
         ensures { result ≡ length (filter_map R.in_row self.now) }
     {
         let entities = entities_in(self.walk.entity.bytes(), self.count as usize);
         count::<R>(self.templates, entities) as u32
     }
+}
+
+// What the next entity has in a section, taken there.
+#[tactic(auto, unfolding(crate::specs::Taken::next_in))]
+fn take_next<'a, R: PartForm<'a>>(
+    version: Version,
+    templates: &[Template],
+    entity: &[u8; 6],
+    from: &mut Take<'a>,
+) -> Result<Option<R>, Short>
+    ensures { Reads (next_in R.part_at version templates.now entity.now) from.old result from.new }
+{
+    match templates.get(template_of(entity) as usize) {
+        None => Err(Short),
+        Some(template) => R::take_part(version, template, id_of(entity), from),
+    }
+}
+
+// Tells what these entities have in a section, up to the first of which nothing can be taken.
+fn tell_parts<'a, K: ByteSink, R: PartForm<'a>>(
+    out: &mut K,
+    version: Version,
+    templates: &[Template],
+    entities: &[[u8; 6]],
+    mut from: Take<'a>,
+) -> Result<(), K::Fault>
+    ensures { OnOk result (Tells K.holds out.old out.new (flat_map R.spelled (parts_in R.part_at version templates.now entities.now from.entry))) }
+{
+    let mut rest = entities;
+    'entities: while let [entity, more @ ..] = rest {
+        match take_next::<R>(version, templates, entity, &mut from) {
+            Err(Short) => return Ok(()),
+            Ok(None) => {}
+            Ok(Some(row)) => row.tell(out)?,
+        }
+        rest = more;
+    }
+    Ok(())
 }
 
 /// The numbers of a state and its rows, of which no more are there than a state may have.

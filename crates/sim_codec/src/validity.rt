@@ -3,12 +3,13 @@
 
 ghost use Rattle.std.specs.Prelude.{◌≡◌, ◌^◌, ◌<◌, ◌≤◌, ◌↔◌, map, pos, ◌≤ℤ◌, IsTrue, All};
 ghost use Rattle.sim_codec.specs.Common.{Both, has_health, id_of, is_within, IsInside, IsKnownRow, IsStrictlyIncreasing, IsValid, IsValidAim, IsValidMotion};
-ghost use Rattle.sim_codec.specs.Common.{IsValidRow};
+ghost use Rattle.sim_codec.specs.Common.{IsValidRow, point_in};
 
 use crate::look_up::place_of;
 use sim_base::{
     Aim, Arms, Fixed, MAX_ROWS, MAX_WAYPOINTS, Motion, Point, Row, Setup, State, Template,
 };
+use sim_sections::point_of;
 
 fn is_within_cells(raw: i32, cells: u16) -> bool
     ensures { result ≡ is_within raw cells }
@@ -30,6 +31,18 @@ pub fn are_inside(setup: &Setup, points: &[Point]) -> bool
 {
     for point in points {
         if !is_inside_setup(setup, *point) {
+            return false;
+        }
+    }
+    true
+}
+
+/// Whether all points that stand in eight bytes each lie on the ground of the match.
+pub fn are_stored_inside(setup: &Setup, stored: &[[u8; 8]]) -> bool
+    ensures { IsTrue result ↔ All (λ bytes. IsInside setup.now (point_in bytes)) stored.now }
+{
+    for bytes in stored {
+        if !is_inside_setup(setup, point_of(bytes)) {
             return false;
         }
     }

@@ -1,6 +1,7 @@
 -- The rows of the sections as they are read: for each an id and a part, with the bytes that follow.
-use Rattle.std.specs.{Int.w16, Int.w32, List.AllByRecursion, Prelude.Option, Prelude.option_map}
-use Rattle.std.specs.Prelude.{ℕ, zero, suc, ◌^◌, ◌<◌, ◌≤◌, Bool, not, List, [], ◌∷◌, length, ℤ, IfSome, if◌then◌else◌, nat_lt, ◌==◌, FitsSigned, Some, None}
+use Rattle.std.specs.{Int.cast_signed, Int.from_le_bytes, Int.w16, Int.w32, List.AllByRecursion, Prelude.Option, Prelude.option_map}
+use Rattle.std.specs.Prelude.{ℕ, zero, suc, ◌^◌, ◌<◌, ◌≤◌, Bool, not, List, [], ◌∷◌, length, take, drop, ℤ, IfSome, if◌then◌else◌, nat_lt, ◌==◌}
+use Rattle.std.specs.Prelude.{FitsSigned, Some, None}
 use Rattle.sim_base.specs.Limits.{waypoint_limit}
 use Rattle.sim_base.specs.declared.{place.Point.Point, state.Motion.Motion, state.Motion.TheVariants.Going, state.Motion.TheVariants.Still, state.Row.Row}
 use Rattle.sim_bytes.specs.Reading.{byte_at, number_at, Reader, signed_at, ◌>>=◌}
@@ -39,6 +40,10 @@ pub record IsPoint (p : Point) : Type 0 where
 -- reads x and z
 unfoldable pub point_at : Reader Point
 point_at bytes = signed_at bytes >>= λ x. signed_at x.1 >>= λ z. Some (record { x = x.0; z = z.0 }, z.1)
+
+-- the point in the eight bytes of x and z
+abbrev pub point_in : List ℕ → Point
+point_in bytes = record { x = cast_signed w32 (from_le_bytes w32 (take 4 bytes)); z = cast_signed w32 (from_le_bytes w32 (take 4 (drop 4 bytes))) }
 
 -- the id and the point fit
 pub record IsPosition (r : ℕ × Point) : Type 0 where
@@ -82,6 +87,10 @@ IsMotion (Going goal way whole) = IsPoint goal × AllByRecursion IsPoint way × 
 pub record IsMoving (r : ℕ × Motion) : Type 0 where
   pub id : r.0 < 2 ^ 32
   pub motion : IsMotion r.1
+
+-- reads so many bytes
+abbrev pub front_at : ℕ → Reader (List ℕ)
+front_at n bytes = if nat_lt (length bytes) n then None else Some (take n bytes, drop n bytes)
 
 -- reads so many points
 unfoldable pub points_at : ℕ → Reader (List Point)

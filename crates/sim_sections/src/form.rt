@@ -8,11 +8,8 @@ ghost use Rattle.sim_sections.specs.Rows.{HasShortWay};
 use sim_base::Row;
 use sim_bytes::{ByteSink, Short, Take};
 
-/// What stands in a section as one row.
-pub trait RowForm: Sized + Drop {
-    /// The number of its section.
-    const TAG: u8;
-
+/// What stands in a section as one row, which may lend part of what it was made of.
+pub trait RowForm<'a>: Sized + Drop {
     ghost TAG: { ℕ };
 
     /// A row of which each number fits its bytes.
@@ -27,17 +24,21 @@ pub trait RowForm: Sized + Drop {
     /// What a row of a state has in this section.
     ghost in_row: { Row → Option Self };
 
+    /// The number of its section.
+    fn tag() -> u8
+        ensures { result ≡ TAG };
+
     /// What a row of a state has in this section.
-    fn of(row: &Row) -> Option<Self>
+    fn of(row: &'a Row) -> Option<Self>
         requires { HasShortWay row.now }
         ensures { result ≡ in_row row.now };
 
     /// Whether a row of a state has anything in this section.
-    fn is_in(row: &Row) -> bool
+    fn is_in(row: &'a Row) -> bool
         ensures { result ≡ is_some (in_row row.now) };
 
     /// Takes a row, and may take part of one that is cut short.
-    fn take(from: &mut Take<'_>) -> Result<Self, Short>
+    fn take(from: &mut Take<'a>) -> Result<Self, Short>
         ensures { Reads row_at from.old result from.new };
 
     /// Tells a row's bytes.

@@ -20,7 +20,7 @@ mod version;
 mod walk;
 
 pub use form::RowForm;
-pub use motion::MotionRow;
+pub use motion::{MotionRow, point_of};
 pub use rows::{AttackRow, EntityRow, HealthRow, OwnerRow, PositionRow, StanceRow};
 pub use section::{open_section, take_if, tell_section};
 pub use version::Version;

@@ -1,38 +1,42 @@
-//! The row of a motion: its length depends on the way. The way stands in place, so that a row is read and told without
-//! memory.
+//! The row of a motion: its length depends on the way. The way is lent by what the row is made of, a state or its bytes,
+//! so that a row is read and told without memory and is small.
 
-ghost use Rattle.std.specs.{List.flat_map, Prelude.ℕ, Prelude.◌≤◌, Prelude.length, Prelude.take, Prelude.OnOk};
+ghost use Rattle.std.specs.List.{flat_map};
+ghost use Rattle.std.specs.Prelude.{◌≡◌, ℕ, ◌+◌, ◌≤◌, ◌++◌, map, length, IfOk, OnOk};
 ghost use Rattle.sim_base.specs.{Bytes.flag_bytes, Limits.waypoint_limit, declared.state.Motion.TheVariants.Going, declared.state.Motion.TheVariants.Still};
 ghost use Rattle.sim_base.specs.Spelling.{motion_bytes, moving_bytes, point_bytes};
 ghost use Rattle.sim_bytes.specs.{Reading.Reads, Reading.ReadsBy, Telling.Tells};
-ghost use Rattle.sim_sections.specs.Rows.{IsShort, point_at, points_at};
+ghost use Rattle.sim_sections.specs.Rows.{front_at, IsShort, point_at, point_in, points_at};
 
 use crate::form::RowForm;
 use sim_base::{Fixed, MAX_WAYPOINTS, Motion, Point, Row};
 use sim_bytes::{Buffer, ByteSink, Short, Take, tell_i32, tell_u8, tell_u32};
 use std::marker::Model;
 
-/// Whether an entity moves: one that does not has no goal, no way and is not whole. The way is the first `count` points.
+/// Whether an entity moves: one that does not has no goal, no way and is not whole. The way is lent: waypoints of a state,
+/// and behind them waypoints that still stand in bytes. A row of a state has none of the second kind, and a row that was
+/// taken none of the first.
 #[derive(Drop)]
-pub struct MotionRow {
+pub struct MotionRow<'a> {
     pub id: u32,
     pub going: bool,
     pub goal: Point,
     pub whole: bool,
-    pub count: usize,
-    pub way: [Point; MAX_WAYPOINTS],
+    pub points: &'a [Point],
+    pub stored: &'a [[u8; 8]],
 }
 
-impl Model for MotionRow {
-    ghost use Rattle.std.specs.Prelude.{ℕ, ◌≤◌, take, if◌then◌else◌};
+impl<'a> Model for MotionRow<'a> {
+    ghost use Rattle.std.specs.Prelude.{ℕ, ◌+◌, ◌≤◌, ◌++◌, map, length, if◌then◌else◌};
     ghost use Rattle.sim_base.specs.Limits.{waypoint_limit};
     ghost use Rattle.sim_base.specs.declared.state.Motion.{Motion, TheVariants.Going, TheVariants.Still};
+    ghost use Rattle.sim_sections.specs.Rows.{point_in};
 
     ghost Value = { ℕ × Motion };
 
-    ghost view = { λ row. (row.id, if row.going then Going row.goal (take row.count row.way) row.whole else Still) };
+    ghost view = { λ row. (row.id, if row.going then Going row.goal (row.points.now ++ map point_in row.stored.now) row.whole else Still) };
 
-    ghost invariant = { λ row. row.count ≤ waypoint_limit };
+    ghost invariant = { λ row. length row.points.now + length row.stored.now ≤ waypoint_limit };
 }
 
 /// Takes a point.
@@ -55,14 +59,38 @@ fn no_point() -> Point {
     }
 }
 
-fn take_way(from: &mut Take<'_>, count: usize) -> Result<[Point; MAX_WAYPOINTS], Short>
-    requires { count ≤ waypoint_limit }
-    ensures { ReadsBy (λ way. take count way) (points_at count) from.old result from.new }
+/// The point that stands in eight bytes.
+pub fn point_of(bytes: &[u8; 8]) -> Point
+    ensures { result ≡ point_in bytes.now }
 {
-    let mut way = [no_point(); MAX_WAYPOINTS];
-    for i in 0..count {
-        way[i] = take_point(from)?;
+    let [a, b, c, d, e, f, g, h] = *bytes;
+    Point {
+        x: Fixed::from_raw(i32::from_le_bytes([a, b, c, d])),
+        z: Fixed::from_raw(i32::from_le_bytes([e, f, g, h])),
     }
+}
+
+// Takes so many bytes.
+fn take_bytes<'a>(from: &mut Take<'a>, count: usize) -> Result<&'a [u8], Short>
+    ensures { ReadsBy (λ bytes. bytes.now) (front_at count) from.old result from.new }
+{
+    let bytes = from.bytes();
+    if bytes.len() < count {
+        return Err(Short);
+    }
+    let (front, rest) = bytes.split_at(count);
+    *from = Take::new(rest);
+    Ok(front)
+}
+
+// Takes so many points, as the bytes in which they stand.
+fn take_way<'a>(from: &mut Take<'a>, count: usize) -> Result<&'a [[u8; 8]], Short>
+    requires { count ≤ waypoint_limit }
+    ensures points { ReadsBy (λ way. map point_in way.now) (points_at count) from.old result from.new }
+    ensures few { IfOk result (λ way. length way.now ≡ count) }
+{
+    let bytes = take_bytes(from, count * 8)?;
+    let (way, _) = bytes.as_chunks::<8>();
     Ok(way)
 }
 
@@ -85,6 +113,15 @@ fn tell_points<K: ByteSink>(out: &mut K, points: &[Point]) -> Result<(), K::Faul
     Ok(())
 }
 
+fn tell_stored<K: ByteSink>(out: &mut K, stored: &[[u8; 8]]) -> Result<(), K::Fault>
+    ensures { OnOk result (Tells K.holds out.old out.new (flat_map point_bytes (map point_in stored.now))) }
+{
+    for bytes in stored {
+        tell_point(out, point_of(bytes))?;
+    }
+    Ok(())
+}
+
 fn tell_flag<K: ByteSink>(out: &mut K, flag: bool) -> Result<(), K::Fault>
     ensures { OnOk result (Tells K.holds out.old out.new (flag_bytes flag)) }
 {
@@ -99,16 +136,18 @@ fn tell_going<K: ByteSink>(
     out: &mut K,
     goal: Point,
     whole: bool,
-    way: &[Point],
+    points: &[Point],
+    stored: &[[u8; 8]],
 ) -> Result<(), K::Fault>
-    requires { length way.now ≤ waypoint_limit }
-    ensures { OnOk result (Tells K.holds out.old out.new (motion_bytes (Going goal way.now whole))) }
+    requires { length points.now + length stored.now ≤ waypoint_limit }
+    ensures { OnOk result (Tells K.holds out.old out.new (motion_bytes (Going goal (points.now ++ map point_in stored.now) whole))) }
 {
     tell_u8(out, 1)?;
     tell_point(out, goal)?;
     tell_flag(out, whole)?;
-    tell_u8(out, way.len() as u8)?;
-    tell_points(out, way)
+    tell_u8(out, (points.len() + stored.len()) as u8)?;
+    tell_points(out, points)?;
+    tell_stored(out, stored)
 }
 
 fn tell_still<K: ByteSink>(out: &mut K) -> Result<(), K::Fault>
@@ -122,23 +161,21 @@ fn tell_still<K: ByteSink>(out: &mut K) -> Result<(), K::Fault>
 }
 
 // Tells a row piece by piece, up to 66 of them. They are gathered before they go further.
-fn tell_pieces<K: ByteSink>(out: &mut K, row: &MotionRow) -> Result<(), K::Fault>
+fn tell_pieces<K: ByteSink>(out: &mut K, row: &MotionRow<'_>) -> Result<(), K::Fault>
     ensures told { OnOk result (Tells K.holds out.old out.new (moving_bytes row.now)) }
     ensures short { IsShort row.now.1 }
 {
     tell_u32(out, row.id)?;
     if row.going {
-        tell_going(out, row.goal, row.whole, &row.way[..row.count])
+        tell_going(out, row.goal, row.whole, row.points, row.stored)
     } else {
         tell_still(out)
     }
 }
 
-impl RowForm for MotionRow {
+impl<'a> RowForm<'a> for MotionRow<'a> {
     ghost use Rattle.sim_base.specs.Spelling.{motion_part, moving_bytes};
     ghost use Rattle.sim_sections.specs.{Laws.moving_back, Laws.prefix_nil, Lengths.moving_few, Rows.IsMoving, Rows.moving_at, Rows.with_id};
-
-    const TAG: u8 = 5;
 
     ghost TAG = { 5 };
 
@@ -150,7 +187,13 @@ impl RowForm for MotionRow {
 
     ghost in_row = { with_id motion_part };
 
-    fn of(row: &Row) -> Option<MotionRow> {
+    fn tag() -> u8
+        ensures { result ≡ 5 }
+    {
+        5
+    }
+
+    fn of(row: &'a Row) -> Option<MotionRow<'a>> {
         match &row.motion {
             None => None,
             Some(Motion::Still) => Some(MotionRow {
@@ -158,32 +201,26 @@ impl RowForm for MotionRow {
                 going: false,
                 goal: no_point(),
                 whole: false,
-                count: 0,
-                way: [no_point(); MAX_WAYPOINTS],
+                points: &[],
+                stored: &[],
             }),
-            Some(Motion::Going { goal, way, whole }) => {
-                let points = way.as_slice();
-                let count = points.len();
-                let mut copy = [no_point(); MAX_WAYPOINTS];
-                copy[..count].copy_from_slice(points);
-                Some(MotionRow {
-                    id: row.id,
-                    going: true,
-                    goal: *goal,
-                    whole: *whole,
-                    count,
-                    way: copy,
-                })
-            }
+            Some(Motion::Going { goal, way, whole }) => Some(MotionRow {
+                id: row.id,
+                going: true,
+                goal: *goal,
+                whole: *whole,
+                points: way.as_slice(),
+                stored: &[],
+            }),
         }
     }
 
-    fn is_in(row: &Row) -> bool {
+    fn is_in(row: &'a Row) -> bool {
         row.motion.is_some()
     }
 
     #[tactic(auto, unfolding(crate::specs::Rows::moving_at, crate::specs::Rows::motion_at))]
-    fn take(from: &mut Take<'_>) -> Result<MotionRow, Short> {
+    fn take(from: &mut Take<'a>) -> Result<MotionRow<'a>, Short> {
         let id = from.u32()?;
         let mode = from.u8()?;
         let goal = take_point(from)?;
@@ -192,14 +229,14 @@ impl RowForm for MotionRow {
         if count > MAX_WAYPOINTS {
             return Err(Short);
         }
-        let way = take_way(from, count)?;
+        let stored = take_way(from, count)?;
         Ok(MotionRow {
             id,
             going: mode != 0,
             goal,
             whole: whole != 0,
-            count,
-            way,
+            points: &[],
+            stored,
         })
     }
 

@@ -24,11 +24,9 @@ impl Model for EntityRow {
     ghost view = { λ row. (row.id, row.template) };
 }
 
-impl RowForm for EntityRow {
+impl<'a> RowForm<'a> for EntityRow {
     ghost use Rattle.sim_base.specs.Spelling.{entity_bytes, entity_part};
     ghost use Rattle.sim_sections.specs.{Laws.entity_back, Laws.prefix_nil, Lengths.entity_few, Rows.entity_at, Rows.IsEntity, Rows.with_id};
-
-    const TAG: u8 = 1;
 
     ghost TAG = { 1 };
 
@@ -40,19 +38,25 @@ impl RowForm for EntityRow {
 
     ghost in_row = { with_id entity_part };
 
-    fn of(row: &Row) -> Option<EntityRow> {
+    fn tag() -> u8
+        ensures { result ≡ 1 }
+    {
+        1
+    }
+
+    fn of(row: &'a Row) -> Option<EntityRow> {
         Some(EntityRow {
             id: row.id,
             template: row.template,
         })
     }
 
-    fn is_in(_: &Row) -> bool {
+    fn is_in(_: &'a Row) -> bool {
         true
     }
 
     #[tactic(auto, unfolding(crate::specs::Rows::entity_at))]
-    fn take(from: &mut Take<'_>) -> Result<EntityRow, Short> {
+    fn take(from: &mut Take<'a>) -> Result<EntityRow, Short> {
         let id = from.u32()?;
         let template = from.u16()?;
         Ok(EntityRow { id, template })
@@ -87,11 +91,9 @@ impl Model for PositionRow {
     ghost view = { λ row. (row.id, row.at) };
 }
 
-impl RowForm for PositionRow {
+impl<'a> RowForm<'a> for PositionRow {
     ghost use Rattle.sim_base.specs.Spelling.{position_bytes, position_part};
     ghost use Rattle.sim_sections.specs.{Laws.position_back, Laws.prefix_nil, Lengths.position_few, Rows.IsPosition, Rows.position_at, Rows.with_id};
-
-    const TAG: u8 = 2;
 
     ghost TAG = { 2 };
 
@@ -103,19 +105,25 @@ impl RowForm for PositionRow {
 
     ghost in_row = { with_id position_part };
 
-    fn of(row: &Row) -> Option<PositionRow> {
+    fn tag() -> u8
+        ensures { result ≡ 2 }
+    {
+        2
+    }
+
+    fn of(row: &'a Row) -> Option<PositionRow> {
         Some(PositionRow {
             id: row.id,
             at: row.at,
         })
     }
 
-    fn is_in(_: &Row) -> bool {
+    fn is_in(_: &'a Row) -> bool {
         true
     }
 
     #[tactic(auto, unfolding(crate::specs::Rows::position_at))]
-    fn take(from: &mut Take<'_>) -> Result<PositionRow, Short> {
+    fn take(from: &mut Take<'a>) -> Result<PositionRow, Short> {
         let id = from.u32()?;
         let at = take_point(from)?;
         Ok(PositionRow { id, at })
@@ -157,11 +165,9 @@ impl Model for OwnerRow {
     ghost view = { λ row. (row.id, row.owner) };
 }
 
-impl RowForm for OwnerRow {
+impl<'a> RowForm<'a> for OwnerRow {
     ghost use Rattle.sim_base.specs.Spelling.{owner_bytes, owner_part};
     ghost use Rattle.sim_sections.specs.{Laws.owner_back, Laws.prefix_nil, Lengths.owner_few, Rows.IsOwner, Rows.owner_at, Rows.with_id};
-
-    const TAG: u8 = 3;
 
     ghost TAG = { 3 };
 
@@ -173,19 +179,25 @@ impl RowForm for OwnerRow {
 
     ghost in_row = { with_id owner_part };
 
-    fn of(row: &Row) -> Option<OwnerRow> {
+    fn tag() -> u8
+        ensures { result ≡ 3 }
+    {
+        3
+    }
+
+    fn of(row: &'a Row) -> Option<OwnerRow> {
         Some(OwnerRow {
             id: row.id,
             owner: row.owner,
         })
     }
 
-    fn is_in(_: &Row) -> bool {
+    fn is_in(_: &'a Row) -> bool {
         true
     }
 
     #[tactic(auto, unfolding(crate::specs::Rows::owner_at))]
-    fn take(from: &mut Take<'_>) -> Result<OwnerRow, Short> {
+    fn take(from: &mut Take<'a>) -> Result<OwnerRow, Short> {
         let id = from.u32()?;
         let owner = from.u8()?;
         Ok(OwnerRow { id, owner })
@@ -219,11 +231,9 @@ impl Model for HealthRow {
     ghost view = { λ row. (row.id, row.health) };
 }
 
-impl RowForm for HealthRow {
+impl<'a> RowForm<'a> for HealthRow {
     ghost use Rattle.sim_base.specs.Spelling.{health_bytes, health_part};
     ghost use Rattle.sim_sections.specs.{Laws.health_back, Laws.prefix_nil, Lengths.health_few, Rows.health_at, Rows.IsHealth, Rows.with_id};
-
-    const TAG: u8 = 4;
 
     ghost TAG = { 4 };
 
@@ -235,19 +245,25 @@ impl RowForm for HealthRow {
 
     ghost in_row = { with_id health_part };
 
-    fn of(row: &Row) -> Option<HealthRow> {
+    fn tag() -> u8
+        ensures { result ≡ 4 }
+    {
+        4
+    }
+
+    fn of(row: &'a Row) -> Option<HealthRow> {
         match row.health {
             None => None,
             Some(health) => Some(HealthRow { id: row.id, health }),
         }
     }
 
-    fn is_in(row: &Row) -> bool {
+    fn is_in(row: &'a Row) -> bool {
         row.health.is_some()
     }
 
     #[tactic(auto, unfolding(crate::specs::Rows::health_at))]
-    fn take(from: &mut Take<'_>) -> Result<HealthRow, Short> {
+    fn take(from: &mut Take<'a>) -> Result<HealthRow, Short> {
         let id = from.u32()?;
         let raw = from.i32()?;
         Ok(HealthRow {
@@ -286,11 +302,9 @@ impl Model for AttackRow {
     ghost view = { λ row. (row.id, (row.target, row.cooldown)) };
 }
 
-impl RowForm for AttackRow {
+impl<'a> RowForm<'a> for AttackRow {
     ghost use Rattle.sim_base.specs.Spelling.{attack_bytes, attack_part};
     ghost use Rattle.sim_sections.specs.{Laws.attack_back, Laws.prefix_nil, Lengths.attack_few, Rows.attack_at, Rows.IsAttack, Rows.with_id};
-
-    const TAG: u8 = 6;
 
     ghost TAG = { 6 };
 
@@ -302,7 +316,13 @@ impl RowForm for AttackRow {
 
     ghost in_row = { with_id attack_part };
 
-    fn of(row: &Row) -> Option<AttackRow> {
+    fn tag() -> u8
+        ensures { result ≡ 6 }
+    {
+        6
+    }
+
+    fn of(row: &'a Row) -> Option<AttackRow> {
         match row.attack {
             None => None,
             Some(aim) => Some(AttackRow {
@@ -313,12 +333,12 @@ impl RowForm for AttackRow {
         }
     }
 
-    fn is_in(row: &Row) -> bool {
+    fn is_in(row: &'a Row) -> bool {
         row.attack.is_some()
     }
 
     #[tactic(auto, unfolding(crate::specs::Rows::attack_at))]
-    fn take(from: &mut Take<'_>) -> Result<AttackRow, Short> {
+    fn take(from: &mut Take<'a>) -> Result<AttackRow, Short> {
         let id = from.u32()?;
         let target = from.u32()?;
         let cooldown = from.u16()?;
@@ -359,11 +379,9 @@ impl Model for StanceRow {
     ghost view = { λ row. (row.id, row.hold) };
 }
 
-impl RowForm for StanceRow {
+impl<'a> RowForm<'a> for StanceRow {
     ghost use Rattle.sim_base.specs.Spelling.{stance_bytes, stance_part};
     ghost use Rattle.sim_sections.specs.{Laws.prefix_nil, Laws.stance_back, Lengths.stance_few, Rows.IsStance, Rows.stance_at, Rows.with_id};
-
-    const TAG: u8 = 7;
 
     ghost TAG = { 7 };
 
@@ -375,7 +393,13 @@ impl RowForm for StanceRow {
 
     ghost in_row = { with_id stance_part };
 
-    fn of(row: &Row) -> Option<StanceRow> {
+    fn tag() -> u8
+        ensures { result ≡ 7 }
+    {
+        7
+    }
+
+    fn of(row: &'a Row) -> Option<StanceRow> {
         match row.attack {
             None => None,
             Some(aim) => Some(StanceRow {
@@ -385,12 +409,12 @@ impl RowForm for StanceRow {
         }
     }
 
-    fn is_in(row: &Row) -> bool {
+    fn is_in(row: &'a Row) -> bool {
         row.attack.is_some()
     }
 
     #[tactic(auto, unfolding(crate::specs::Rows::stance_at))]
-    fn take(from: &mut Take<'_>) -> Result<StanceRow, Short> {
+    fn take(from: &mut Take<'a>) -> Result<StanceRow, Short> {
         let id = from.u32()?;
         let hold = from.u8()?;
         Ok(StanceRow {

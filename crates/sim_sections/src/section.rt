@@ -9,7 +9,7 @@ use sim_base::Row;
 use sim_bytes::{ByteSink, Short, Take, tell_u8, tell_u32};
 
 // How many rows have this part.
-fn count<R: RowForm>(rows: &[Row]) -> usize
+fn count<'a, R: RowForm<'a>>(rows: &'a [Row]) -> usize
     ensures value { result ≡ length (filter_map R.in_row rows.now) }
     ensures few { result ≤ length rows.now }
 {
@@ -23,7 +23,7 @@ fn count<R: RowForm>(rows: &[Row]) -> usize
 }
 
 // Tells the rows that have this part.
-fn tell_rows<K: ByteSink, R: RowForm>(out: &mut K, rows: &[Row]) -> Result<(), K::Fault>
+fn tell_rows<'a, K: ByteSink, R: RowForm<'a>>(out: &mut K, rows: &'a [Row]) -> Result<(), K::Fault>
     requires { All HasShortWay rows.now }
     ensures { OnOk result (Tells K.holds out.old out.new (flat_map R.spelled (filter_map R.in_row rows.now))) }
 {
@@ -36,13 +36,16 @@ fn tell_rows<K: ByteSink, R: RowForm>(out: &mut K, rows: &[Row]) -> Result<(), K
 }
 
 /// Tells the section of the rows that have this part.
-pub fn tell_section<K: ByteSink, R: RowForm>(out: &mut K, rows: &[Row]) -> Result<(), K::Fault>
+pub fn tell_section<'a, K: ByteSink, R: RowForm<'a>>(
+    out: &mut K,
+    rows: &'a [Row],
+) -> Result<(), K::Fault>
     requires short { All HasShortWay rows.now }
     requires few { length rows.now < 2 ^ 32 }
     ensures { OnOk result (Tells K.holds out.old out.new (section R.TAG R.spelled (filter_map R.in_row rows.now))) }
 {
     let found = count::<R>(rows) as u32;
-    tell_u8(out, R::TAG)?;
+    tell_u8(out, R::tag())?;
     tell_u32(out, found)?;
     if found == 0 {
         return Ok(());
@@ -51,7 +54,7 @@ pub fn tell_section<K: ByteSink, R: RowForm>(out: &mut K, rows: &[Row]) -> Resul
 }
 
 // Passes over so many rows.
-fn skip<R: RowForm>(from: &mut Take<'_>, count: u32) -> Result<(), Short>
+fn skip<'a, R: RowForm<'a>>(from: &mut Take<'a>, count: u32) -> Result<(), Short>
     ensures { Skips R.row_at count from.old result from.new }
 {
     for _ in 0..count {
@@ -62,11 +65,11 @@ fn skip<R: RowForm>(from: &mut Take<'_>, count: u32) -> Result<(), Short>
 
 /// Passes over a section: how many rows it has, and a reader at the first of them.
 #[tactic(auto, unfolding(crate::specs::Sections::section_at))]
-pub fn open_section<'a, R: RowForm>(from: &mut Take<'a>) -> Result<(u32, Take<'a>), Short>
+pub fn open_section<'a, R: RowForm<'a>>(from: &mut Take<'a>) -> Result<(u32, Take<'a>), Short>
     ensures { Reads (section_at R.TAG R.row_at) from.old result from.new }
 {
     let tag = from.u8()?;
-    if tag != R::TAG {
+    if tag != R::tag() {
         return Err(Short);
     }
     let count = from.u32()?;
@@ -77,7 +80,7 @@ pub fn open_section<'a, R: RowForm>(from: &mut Take<'a>) -> Result<(u32, Take<'a
 
 /// Takes the next row, if one is wanted.
 #[tactic(auto, unfolding(crate::specs::Sections::row_if))]
-pub fn take_if<R: RowForm>(from: &mut Take<'_>, wanted: bool) -> Result<Option<R>, Short>
+pub fn take_if<'a, R: RowForm<'a>>(from: &mut Take<'a>, wanted: bool) -> Result<Option<R>, Short>
     ensures { Reads (row_if R.row_at wanted) from.old result from.new }
 {
     if wanted {

@@ -27,17 +27,17 @@ pub struct Walk<'a> {
 
 /// What stands of one entity in each section.
 #[derive(Drop)]
-pub struct Parts {
+pub struct Parts<'a> {
     pub entity: EntityRow,
     pub position: PositionRow,
     pub owner: OwnerRow,
     pub health: Option<HealthRow>,
-    pub motion: Option<MotionRow>,
+    pub motion: Option<MotionRow<'a>>,
     pub attack: Option<AttackRow>,
     pub stance: Option<StanceRow>,
 }
 
-impl Parts {
+impl Parts<'_> {
     fn holds(&self) -> bool
         ensures { result ≡ is_held self.now.stance }
     {
@@ -105,7 +105,7 @@ pub fn locate<'a>(version: Version, from: &mut Take<'a>) -> Result<(u32, Walk<'a
 
 /// Takes what stands of the next entity, by the parts that its template has.
 #[tactic(auto, unfolding(crate::specs::Walking::parts_at))]
-pub fn take_parts(templates: &[Template], walk: &mut Walk<'_>) -> Result<Parts, Short>
+pub fn take_parts<'a>(templates: &[Template], walk: &mut Walk<'a>) -> Result<Parts<'a>, Short>
     ensures { Walks (parts_at templates.now) walk.old result walk.new }
 {
     let entity = EntityRow::take(&mut walk.entity)?;

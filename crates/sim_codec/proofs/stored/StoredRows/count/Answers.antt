@@ -1,6 +1,6 @@
 -- What the first section says is what the rows say.
 use Rattle.sim_codec.proofs.{FirstSection.entries_fit, FirstSection.entries_of, FirstSection.same_count, FirstSection.same_length, TakenRows.length_read}
-use Rattle.sim_codec.proofs.Common.{length, ap, arith, count_by-le-length, passes, template_in, ◌∙◌}
+use Rattle.sim_codec.proofs.Common.{length, ap, arith, count_by-le-length, passes, rules, template_in, ◌∙◌}
 use Rattle.sim_codec.proofs.stored.StoredRows.count.Goals as goal
 
 pub entities_in-entities-requires : goal.entities_in-entities-requires
@@ -23,4 +23,4 @@ pub returns : goal.returns
 returns g c =
     let are = entries_of c.self.inside.templates.now c.self.inside.count c.self.inside.walk _ _ _ c.self.invariant c.bytes.ensures
     c.entities_in-entities.ensures c.self.view_is in
-    c.count.ensures ∙ same_count g.R.RowForm.in_row g.R.PartForm.of_template g.met.R.PartForm.like_template _ _ _ are
+    c.count.ensures ∙ same_count g.R.RowForm.in_row g.R.PartForm.of_template (g.met.R.PartForm c.lifetimes (search rules)).like_template _ _ _ are
