@@ -23,7 +23,6 @@ pub use Rattle.sim_base.specs.declared.command.Command.TheVariants.{Attack, Dele
 pub use Rattle.sim_replay.specs.{Apart.apart_of, Apart.first_apart, Apart.is_other, Apart.IsFirstApart, Reading.text_in}
 pub use Rattle.sim_replay.specs.{Commands.behind_two, Commands.command_of, Logs.turn_lines, Logs.whole_lines, Reading.with_digest, Reading.with_order}
 pub use Rattle.sim_replay.specs.{Lines.digest_front, Lines.digest_line, Lines.header_line, Lines.order_front, Lines.order_line, Meets.Meets}
-pub use Rattle.sim_replay.specs.Logs.{AreGiven, FitsIfFew, IsGiven, IsOfTurns}
 pub use Rattle.sim_replay.specs.Logs.{AreOrders, BeginsLog, ended, is_by, IsDigest, IsLog, IsOrder, IsRefusedAt, lines_from, log_lines, parts_of, text_of_log}
 pub use Rattle.sim_replay.specs.Reading.{digest_of, ids_in, log_in, log_of, next_or_refused, nothing, or_refused, spelled, taken_by, taken_order, taken_other}
 pub use Rattle.sim_replay.specs.Words.{behind, below, first_word, natural_below, naturals_of, other_words, word_text}

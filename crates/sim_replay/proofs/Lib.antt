@@ -13,4 +13,3 @@ pub mod Aparts
 pub mod Examples
 pub mod Pushed
 pub mod Parts
-pub mod Given
