@@ -21,5 +21,5 @@ returns-in-Err-clause-talks g c =
     subst (λ (t : Talk). TalksOf files t c.refused.result (g.T.Talk.history c.args.talk.now) (g.T.Talk.history c.refused.new.talk))
     (sym (ap talk_of c.in-Live.is))
     (live_refused (session_match_in files c.in-Live.game.now) c.in-Live.clients c.in-Err.stop c.refused.result (g.T.Talk.history c.args.talk.now)
-    (g.T.Talk.history c.refused.new.talk) read c.refused.ensures))
+    (g.T.Talk.history c.refused.new.talk) read c.refused.ensures.refused))
     c.in-Err.ensures.tells
