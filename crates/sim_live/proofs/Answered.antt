@@ -7,8 +7,8 @@ use Rattle.sim_base.specs.declared.{setup.Setup.Setup, step.Step.Step}
 use Rattle.sim_plain_session.specs.Sessions.{opened, session}
 use Rattle.sim_session.specs.Standing.{Seen, StandsFor, StandsForSome}
 use Rattle.sim_talk.proofs.Talking.{after_lines-more, answered_all, answered_more, ended_so, Extends-nothing, stopped_amid, stopped_first}
-use Rattle.sim_talk.proofs.Talking.{conversed, unbegun, unheard_behind, unmade_answer, untold_answer}
-use Rattle.sim_talk.specs.Dialogues.{after_lines, dialogue, EndsAs, TellsText}
+use Rattle.sim_talk.proofs.Talking.{caused, conversed, unbegun, unheard_behind, unmade_answer, untold_answer}
+use Rattle.sim_talk.specs.Dialogues.{after_lines, Causes, dialogue, EndsAs, TellsText}
 use Rattle.sim_talk.specs.Talks.{Extends, heard, Hears, History, Tells, told}
 use Rattle.sim_talk.specs.declared.{fault.TalkFault.TalkFault}
 use Rattle.sim_talk.specs.declared.fault.TalkFault.TheVariants as ends
@@ -152,3 +152,8 @@ pub live_settled : (setup own : Setup) (clients : ℕ) (outcome result : Result 
 live_settled setup own clients outcome result a b c same was ended =
     subst (λ (s : Setup). Lives result s clients a c) same
     (conversed (answer own clients) (next own) (last_text own clients) [] (first_text own clients) outcome result a b c was ended)
+
+-- each fault has its cause
+pub live_caused : (setup : Setup) (clients : ℕ) (result : Result ⊤ TalkFault) (a b : History) → Lives result setup clients a b → Causes result a b
+live_caused setup clients result a b was =
+    caused (answer setup clients) (next setup) (last_text setup clients) [] (first_text setup clients) result a b was

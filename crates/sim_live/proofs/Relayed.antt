@@ -7,8 +7,8 @@ use Rattle.std.proofs.Common.{◌≡◌, ℕ, ◌+◌, ◌-◌, ◌^◌, ◌≤�
 use Rattle.{sim_live.specs.declared.relaying.RelayRules.RelayRules, sim_report.specs.Downs.released_line, sim_server.specs.Standing.server_of}
 use Rattle.sim_live.specs.Relays.{answer, AnswersAll, end_lines, first_text, last_text, next, Relays, rules_of}
 use Rattle.sim_talk.proofs.Talking.{after_lines-more, answered_all, answered_more, ended_so, Extends-nothing, stopped_amid}
-use Rattle.sim_talk.proofs.Talking.{conversed, stopped_first, unheard_behind, unmade_answer, untold_answer}
-use Rattle.sim_talk.specs.Dialogues.{after_lines, dialogue, EndsAs, TellsText}
+use Rattle.sim_talk.proofs.Talking.{caused, conversed, stopped_first, unheard_behind, unmade_answer, untold_answer}
+use Rattle.sim_talk.specs.Dialogues.{after_lines, Causes, dialogue, EndsAs, TellsText}
 use Rattle.sim_talk.specs.Talks.{Extends, heard, Hears, History, Tells, told}
 use Rattle.sim_talk.specs.declared.{fault.TalkFault.TalkFault}
 use Rattle.sim_talk.specs.declared.fault.TalkFault.TheVariants as ends
@@ -149,3 +149,9 @@ pub relay_settled : (relay : RelayRules) (outcome result : Result ⊤ TalkFault)
 relay_settled relay outcome result a b c was ended =
     conversed (answer (rules_of relay) relay.active) (next (rules_of relay)) (last_text (rules_of relay) relay.active) []
     (first_text (rules_of relay) relay.active) outcome result a b c was ended
+
+-- each fault has its cause
+pub relay_caused : (relay : RelayRules) (result : Result ⊤ TalkFault) (a b : History) → Relays result relay a b → Causes result a b
+relay_caused relay result a b was =
+    caused (answer (rules_of relay) relay.active) (next (rules_of relay)) (last_text (rules_of relay) relay.active) []
+    (first_text (rules_of relay) relay.active) result a b was

@@ -3,7 +3,7 @@
 
 ghost use Rattle.{sim_base.specs.Limits.IsSetup, sim_base.specs.declared.step.Step.Step as AnyStep, sim_session.specs.Standing.StandsFor};
 ghost use Rattle.{sim_client.specs.StageWords.AreCleared, sim_plain_session.specs.Sessions.opened, sim_plain_session.specs.Sessions.session as session_over};
-ghost use Rattle.{sim_system.specs.Meanings.HaveKinds, sim_talk.specs.Dialogues.TellsText};
+ghost use Rattle.{sim_system.specs.Meanings.HaveKinds, sim_talk.specs.Dialogues.Causes, sim_talk.specs.Dialogues.TellsText};
 ghost use Rattle.std.specs.Prelude.{◌≡◌, ◌≤◌, List, [], length, drop, OnOk, vec_capacity, All};
 ghost use Rattle.sim_live.specs.{Live.first_text, Live.last_text, Live.Lives, Spoken.AnswersAll};
 ghost use Rattle.sim_session.specs.SessionWords.{clients_in, IsSession, MayFinish, rigs_of, room_in, seen_in, setup_in, spare_in};
@@ -34,6 +34,7 @@ pub fn live<T: Talk>(
     requires cleared { All AreCleared (rigs_of rigs.items ⟦<dyn System as System>⟧) }
     ensures lives { Lives result.0 setup.now clients (T.history talk.old) (T.history talk.new) }
     ensures settled { (T.history talk.new).kept ≡ [] }
+    ensures causes { Causes result.0 (T.history talk.old) (T.history talk.new) }
     ensures kinds { All HaveKinds (rigs_of result.1.items ⟦<dyn System as System>⟧) }
     ensures spare { drop setup.now.players result.1.items ≡ drop setup.now.players rigs.items }
     ensures eight { length result.1.items ≡ 8 }

@@ -1,7 +1,7 @@
 //! The whole talk with the server: it begins, each line is answered before the next one is heard, and at the end of the input it is told what
 //! the server has come to. However it ends, all that was told is written then.
 
-ghost use Rattle.{sim_report.specs.Downs.released_line, sim_talk.specs.Dialogues.TellsText};
+ghost use Rattle.{sim_report.specs.Downs.released_line, sim_talk.specs.Dialogues.Causes, sim_talk.specs.Dialogues.TellsText};
 ghost use Rattle.std.specs.Prelude.{◌≡◌, []};
 ghost use Rattle.sim_live.specs.Relays.{AnswersAll, end_lines, IsRelay, Relays, rules_of};
 ghost use Rattle.sim_server.specs.{Small.IsSmallServer, Standing.server_of, Standing.StandsFor};
@@ -29,6 +29,7 @@ pub fn relay<T: Talk>(alloc: Global, rules: RelayRules, talk: &mut T) -> Result<
     requires { IsRelay rules }
     ensures relays { Relays result rules (T.history talk.old) (T.history talk.new) }
     ensures settled { (T.history talk.new).kept ≡ [] }
+    ensures causes { Causes result (T.history talk.old) (T.history talk.new) }
 {
     let outcome = talk_over(alloc, rules, talk);
     settled(outcome, talk)

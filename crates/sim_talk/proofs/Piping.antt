@@ -3,7 +3,7 @@ use Rattle.{sim_store.specs.declared.fault.Failed.Failed, sim_talk.specs.declare
 use Rattle.std.proofs.Common.{◌≡◌, ℕ, List, [], ◌∷◌, ◌++◌, length, Some, None, Ok, Err, Option, Result}
 use Rattle.std.proofs.{Common.append-nil, Common.refl, Common.subst, Common.sym, Math.Seq.take-length}
 use Rattle.sim_talk.proofs.Talking.{Appends-nothing, Consumes-nothing}
-use Rattle.sim_talk.specs.{Lines.IsCause, Lines.MissesOf, LineTalk.piped, LineTalk.TellsOut}
+use Rattle.sim_talk.specs.{Lines.IsCause, Lines.MissesOf, Lines.ReadCounts, LineTalk.piped, LineTalk.TellCounts, LineTalk.TellsOut}
 use Rattle.sim_talk.specs.Talks.{History, IsBeginning, Misses, part_of, Says, Tells}
 use Rattle.std.specs.{Io.KnownBytes.Appends, Io.KnownBytes.prepend_known, Prelude.⊤}
 use Rattle.sim_talk.specs.Talks as talks
@@ -14,8 +14,9 @@ cause_told most fault None b missed = tt
 cause_told most fault (Some bytes) b missed = missed
 
 -- what a talk with these bytes tells
-abbrev pub here : Option (List ℕ) → Option (List ℕ) → List ℕ → ℕ → History
-here coming written kept most = record { passed = None; coming = coming; written = written; kept = kept; longest = most }
+abbrev pub here : Option (List ℕ) → Option (List ℕ) → List ℕ → ℕ → ℕ → ℕ → History
+here coming written kept most unread unwritten =
+    record { passed = None; coming = coming; written = written; kept = kept; longest = most; unread = unread; unwritten = unwritten }
 
 -- what the sink holds and what is kept stays so
 pub says_on : (bytes : List ℕ) (old mid new : History) → Says bytes old mid → new.written ≡ mid.written → new.kept ≡ mid.kept → Says bytes old new
@@ -26,34 +27,41 @@ says_on bytes old mid new was same kept = record {
 }
 
 -- no line was heard
-pub misses_piped : (most : ℕ) (fault : HearFault) (coming coming' written written' : Option (List ℕ)) (kept kept' : List ℕ) (most' : ℕ)
-    → MissesOf most fault coming coming' → Says [] (here coming written kept most) (here coming' written' kept' most')
-    → Misses fault (here coming written kept most) (here coming' written' kept' most')
-misses_piped most fault coming coming' written written' kept kept' most' was says =
-    record { passed = tt; cause = cause_told most fault coming coming' was; written = says }
+pub misses_piped : (most : ℕ) (fault : HearFault) (coming coming' written written' : Option (List ℕ)) (kept kept' : List ℕ)
+    (most' read read' wrote wrote' : ℕ)
+    → MissesOf most fault coming coming'
+    → Says [] (here coming written kept most read wrote) (here coming' written' kept' most' read' wrote') → ReadCounts (Err fault) read read' → wrote' ≡ wrote
+    → Misses fault (here coming written kept most read wrote) (here coming' written' kept' most' read' wrote')
+misses_piped most fault coming coming' written written' kept kept' most' read read' wrote wrote' was says counted unfailed =
+    record { passed = tt; cause = cause_told most fault coming coming' was; written = says; read = counted; wrote = unfailed }
 
 -- what was told
-pub tells_piped : (result : Result ⊤ Failed) (text ahead : List ℕ) (left told told' : Option (List ℕ)) (kept kept' : List ℕ) (most : ℕ)
-    → TellsOut result text kept kept' told told' → Tells result text (piped ahead left told kept most) (piped ahead left told' kept' most)
-tells_piped (Ok done) text ahead left told told' kept kept' most was = record {
+pub tells_piped : (result : Result ⊤ Failed) (text ahead : List ℕ) (left told told' : Option (List ℕ)) (kept kept' : List ℕ) (most read wrote wrote' : ℕ)
+    → TellsOut result text kept kept' told told' → TellCounts result wrote wrote'
+    → Tells result text (piped ahead left told kept most read wrote) (piped ahead left told' kept' most read wrote')
+tells_piped (Ok done) text ahead left told told' kept kept' most read wrote wrote' was counted = record {
   passed = tt;
   taken = Consumes-nothing (prepend_known ahead left);
-  written = subst (λ (l : List ℕ). Says l (piped ahead left told kept most) (piped ahead left told' kept' most)) (sym (append-nil text))
+  written = subst (λ (l : List ℕ). Says l (piped ahead left told kept most read wrote) (piped ahead left told' kept' most read wrote')) (sym (append-nil text))
       (record { now = was.0; written = was.1; rest = was.2 });
   longest = refl;
+  read = refl;
+  wrote = counted;
 }
-tells_piped (Err failed) text ahead left told told' kept kept' most was = (
+tells_piped (Err failed) text ahead left told told' kept kept' most read wrote wrote' was counted = (
   talks.told text ∷ [],
   subst (λ (t : List ℕ). IsBeginning text (talks.told t ∷ [])) (take-length text) (part_of (length text)),
   (
-    piped ahead left told (kept ++ text) most,
+    piped ahead left told (kept ++ text) most read wrote,
     record {
       passed = tt;
       taken = Consumes-nothing (prepend_known ahead left);
-      written = subst (λ (l : List ℕ). Says l (piped ahead left told kept most) (piped ahead left told (kept ++ text) most)) (sym (append-nil text))
-          (record { now = []; written = Appends-nothing told told refl; rest = refl });
+      written = subst (λ (l : List ℕ). Says l (piped ahead left told kept most read wrote) (piped ahead left told (kept ++ text) most read wrote))
+          (sym (append-nil text)) (record { now = []; written = Appends-nothing told told refl; rest = refl });
       longest = refl;
+      read = refl;
+      wrote = refl;
     },
-    (was.0, record { passed = refl; coming = refl; written = was.1; kept = was.2; longest = refl }),
+    (was.0, record { passed = refl; coming = refl; written = was.1; kept = was.2; longest = refl; read = refl; wrote = counted }),
   ),
 )

@@ -1,27 +1,85 @@
--- A talk that tells no history promises no more than which fault may be answered.
-use Rattle.{sim_store.specs.declared.fault.Failed.Failed, sim_talk.specs.declared.fault.TalkFault.TalkFault}
-use Rattle.sim_talk.proofs.Talking.{Extends-nothing, Loses-nothing}
-use Rattle.sim_talk.specs.Talks.{Hears, History, none_of, Tells, untold}
-use Rattle.std.{proofs.Common.append-nil, proofs.Common.refl, proofs.Common.sym, specs.Prelude.⊤}
-use Rattle.std.proofs.Common.{ℕ, Bool, true, false, List, [], ◌++◌, Ok, Err, Result}
+-- A talk that tells no history promises no more than which fault may be answered, and what was counted then.
+use Rattle.{sim_store.specs.Counts.raised, sim_store.specs.declared.fault.Failed.Failed, sim_talk.specs.declared.fault.TalkFault.TalkFault}
+use Rattle.sim_talk.specs.LineTalk.{HearCounts, TellCounts, WriteCounts}
+use Rattle.sim_talk.specs.Talks.{Extends, Hears, History, none_of, Passed, Settles, Tells, told, told_bytes, untold}
+use Rattle.std.{proofs.Common.append-nil, proofs.Common.refl, proofs.Common.sym, proofs.Common.◌∙◌, specs.Prelude.⊤}
+use Rattle.std.proofs.Common.{◌≡◌, ℕ, Bool, true, false, List, [], ◌∷◌, Ok, Err, Result, ap}
 use Rattle.sim_talk.specs.declared.fault.TalkFault.TheVariants as ends
 
--- what another talk heard
-pub hears_untold : (result : Result Bool TalkFault) (line line' : List ℕ) (a b : History) → Hears result line a b → Hears result line' untold untold
-hears_untold (Ok true) line line' a b was =
-    record { passed = tt; taken = tt; written = record { now = []; written = tt; rest = refl }; longest = refl }
-hears_untold (Ok false) line line' a b was = (Extends-nothing untold, tt)
-hears_untold (Err (ends.Unheard fault)) line line' a b was =
-    record { passed = tt; cause = tt; written = record { now = []; written = tt; rest = refl } }
-hears_untold (Err ends.Untold) line line' a b was = Loses-nothing untold refl
-hears_untold (Err ends.OutOfMemory) line line' a b was = absurd was
-
--- and told
-pub tells_untold : (result : Result ⊤ Failed) (text : List ℕ) → Tells result text untold untold
-tells_untold (Ok done) text = record {
+-- nothing is told of what passed
+passes_untold : (read read' wrote wrote' : ℕ) (more : List Passed) → read' ≡ read → wrote' ≡ wrote → Extends (untold read wrote) (untold read' wrote') more
+passes_untold read read' wrote wrote' more one two = record {
   passed = tt;
   taken = tt;
-  written = record { now = text ++ []; written = tt; rest = sym (append-nil (text ++ [])) };
+  written = record { now = told_bytes more; written = tt; rest = sym (append-nil (told_bytes more)) };
   longest = refl;
+  read = one;
+  wrote = two;
 }
-tells_untold (Err failed) text = ([], none_of, (untold, Extends-nothing untold, Loses-nothing untold refl))
+
+-- what was counted where a line was asked for
+pub hears_counted : (result : Result Bool TalkFault) (line : List ℕ) (read read' wrote wrote' : ℕ) → HearCounts result read read'
+    → WriteCounts result wrote wrote' → Hears result line (untold read wrote) (untold read' wrote')
+hears_counted (Ok true) line read read' wrote wrote' one two = passes_untold read read' wrote wrote' _ one two
+hears_counted (Ok false) line read read' wrote wrote' one two = (passes_untold read read' wrote wrote' _ one two, tt)
+hears_counted (Err (ends.Unheard fault)) line read read' wrote wrote' one two =
+    record { passed = tt; cause = tt; written = record { now = []; written = tt; rest = refl }; read = one; wrote = two }
+hears_counted (Err ends.Untold) line read read' wrote wrote' one two =
+    (0, record { passed = refl; coming = refl; written = tt; kept = refl; longest = refl; read = one; wrote = two })
+hears_counted (Err ends.OutOfMemory) line read read' wrote wrote' one two = absurd one
+
+-- and another talk says so
+pub heard_read : (result : Result Bool TalkFault) (line : List ℕ) (a b : History) → Hears result line a b → HearCounts result a.unread b.unread
+heard_read (Ok true) line a b was = was.read
+heard_read (Ok false) line a b was = was.0.read
+heard_read (Err (ends.Unheard fault)) line a b was = was.read
+heard_read (Err ends.Untold) line a b was = was.1.read
+heard_read (Err ends.OutOfMemory) line a b was = absurd was
+
+pub heard_wrote : (result : Result Bool TalkFault) (line : List ℕ) (a b : History) → Hears result line a b → WriteCounts result a.unwritten b.unwritten
+heard_wrote (Ok true) line a b was = was.wrote
+heard_wrote (Ok false) line a b was = was.0.wrote
+heard_wrote (Err (ends.Unheard fault)) line a b was = was.wrote
+heard_wrote (Err ends.Untold) line a b was = was.1.wrote
+heard_wrote (Err ends.OutOfMemory) line a b was = absurd was
+
+-- and where a text was told
+pub told_read : (result : Result ⊤ Failed) (text : List ℕ) (a b : History) → Tells result text a b → b.unread ≡ a.unread
+told_read (Ok done) text a b was = was.read
+told_read (Err failed) text a b was = was.2.2.1.read ∙ was.2.1.read
+
+pub told_wrote : (result : Result ⊤ Failed) (text : List ℕ) (a b : History) → Tells result text a b → TellCounts result a.unwritten b.unwritten
+told_wrote (Ok done) text a b was = was.wrote
+told_wrote (Err failed) text a b was = was.2.2.1.wrote ∙ ap (raised 1) was.2.1.wrote
+
+pub tells_counted : (result : Result ⊤ Failed) (text : List ℕ) (a b : History) → Tells result text a b
+    → Tells result text (untold a.unread a.unwritten) (untold b.unread b.unwritten)
+tells_counted (Ok done) text a b was = passes_untold a.unread b.unread a.unwritten b.unwritten (told text ∷ []) was.read was.wrote
+tells_counted (Err failed) text a b was = (
+  [],
+  none_of,
+  (
+    untold a.unread a.unwritten,
+    passes_untold a.unread a.unread a.unwritten a.unwritten [] refl refl,
+    (
+      0,
+      record {
+        passed = refl;
+        coming = refl;
+        written = tt;
+        kept = refl;
+        longest = refl;
+        read = told_read (Err failed) text a b was;
+        wrote = told_wrote (Err failed) text a b was;
+      },
+    ),
+  ),
+)
+
+-- and where what was told was written
+pub settles_counted : (result : Result ⊤ Failed) (a b : History) → Settles result a b
+    → Settles result (untold a.unread a.unwritten) (untold b.unread b.unwritten)
+settles_counted (Ok done) a b was =
+    record { passed = refl; coming = refl; written = tt; kept = refl; longest = refl; read = was.read; wrote = was.wrote }
+settles_counted (Err failed) a b was =
+    (0, record { passed = refl; coming = refl; written = tt; kept = refl; longest = refl; read = was.1.read; wrote = was.1.wrote })

@@ -1,13 +1,14 @@
 -- What passed, and then what passed behind it; and one line more is answered behind those that were.
-use Rattle.{sim_store.specs.declared.fault.Failed.Failed, sim_talk.specs.declared.fault.TalkFault.TalkFault, sim_talk.specs.Lines.feed}
+use Rattle.{sim_store.specs.Counts.raised, sim_store.specs.Counts.Rose, sim_store.specs.declared.fault.Failed.Failed}
+use Rattle.sim_talk.specs.{declared.fault.TalkFault.TalkFault, Lines.feed, Lines.ReadCounts}
 use Rattle.std.{proofs.Common.◌∙◌, proofs.Math.Seq.take-length, proofs.Math.Seq.take-nil, specs.Prelude.⊤}
 use Rattle.std.specs.Io.KnownBytes.{Appends, Consumes, IsAtEnd}
-use Rattle.std.proofs.Common.{◌≡◌, ℕ, zero, suc, ◌-◌, ◌^◌, ◌<◌, List, [], ◌∷◌, ◌++◌, length, take, Some, None, Ok, Err, Option}
-use Rattle.std.proofs.Common.{Result, inl, inr, refl, ap, append-nil, append_assoc, subst, sym}
-use Rattle.sim_talk.specs.Dialogues.{after_lines, AnswersLines, Converses, dialogue, EndsAs, IsAll, IsCutOff, talk_so_far, TellsText}
+use Rattle.std.proofs.Common.{◌≡◌, ℕ, ◌-◌, ◌^◌, ◌<◌, List, [], ◌∷◌, ◌++◌, length, take, Some, None, Ok, Err, Option}
+use Rattle.std.proofs.Common.{Result, inl, inr, refl, ap, append-nil, append_assoc, arith, subst, sym}
+use Rattle.sim_talk.specs.Dialogues.{after_lines, AnswersLines, Causes, Converses, dialogue, EndsAs, IsAll, IsCutOff, Speaks, talk_so_far, TellsText}
 use Rattle.sim_talk.specs.Dialogues.{amid_answer, answer_part, before_line, first_part, IsUntold, last_part, no_answer, no_first, no_last, no_line}
-use Rattle.sim_talk.specs.Talks.{Extends, Grows, heard, heard_bytes, Hears, History, IsBeginning, Loses, Misses, none_of, part_of, Passed, Says}
-use Rattle.sim_talk.specs.Talks.{Tells, told, told_bytes, Writes}
+use Rattle.sim_talk.specs.Talks.{Extends, Grows, HasLost, heard, heard_bytes, Hears, History, IsBeginning, Loses, Misses, part_of, Passed, Says}
+use Rattle.sim_talk.specs.Talks.{Tells, told, told_bytes, Writes, WritesAll}
 use Rattle.sim_talk.specs.{Lines.IsCause, declared.fault.HearFault.HearFault}
 use Rattle.sim_talk.specs.declared.fault.TalkFault.TheVariants as ends
 
@@ -85,6 +86,8 @@ Extends-trans a b c xs ys one two = record {
       (Consumes-trans a.coming b.coming c.coming (heard_bytes xs) (heard_bytes ys) one.taken two.taken);
   written = subst (λ (l : List ℕ). Says l a c) (sym (told_bytes-append xs ys)) (Says-trans a b c (told_bytes xs) (told_bytes ys) one.written two.written);
   longest = two.longest ∙ one.longest;
+  read = two.read ∙ one.read;
+  wrote = two.wrote ∙ one.wrote;
 }
 
 -- nothing passed
@@ -94,64 +97,97 @@ Extends-nothing a = record {
   taken = Consumes-nothing a.coming;
   written = Says-nothing a a refl refl;
   longest = refl;
+  read = refl;
+  wrote = refl;
 }
 
 -- ---- what was kept is written
 
 -- nothing passed then
-pub Writes-nothing : (a b : History) → Writes a.kept a b → Extends a b []
+pub Writes-nothing : (a b : History) → WritesAll a b → Extends a b []
 Writes-nothing a b wrote = record {
   passed = subst (λ (o : Option (List Passed)). Grows a.passed o []) (sym wrote.passed) (Grows-nothing a.passed);
   taken = subst (λ (o : Option (List ℕ)). Consumes a.coming o []) (sym wrote.coming) (Consumes-nothing a.coming);
   written = record { now = a.kept; written = wrote.written; rest = ap (λ (l : List ℕ). a.kept ++ l) (sym wrote.kept) };
   longest = wrote.longest;
+  read = wrote.read;
+  wrote = wrote.wrote;
 }
 
 -- what passed before it did
-pub Extends-written : (a b c : History) (xs : List Passed) → Extends a b xs → Writes b.kept b c → Extends a c xs
+pub Extends-written : (a b c : History) (xs : List Passed) → Extends a b xs → WritesAll b c → Extends a c xs
 Extends-written a b c xs one wrote = subst (Extends a c) (append-nil xs) (Extends-trans a b c xs [] one (Writes-nothing b c wrote))
 
 -- and what passes behind it does
-pub written-Extends : (a b c : History) (xs : List Passed) → Writes a.kept a b → Extends b c xs → Extends a c xs
+pub written-Extends : (a b c : History) (xs : List Passed) → WritesAll a b → Extends b c xs → Extends a c xs
 written-Extends a b c xs wrote two = Extends-trans a b c [] xs (Writes-nothing a b wrote) two
 
 -- a line was not heard before it
-Misses-written : (fault : HearFault) (a b c : History) → Misses fault a b → Writes b.kept b c → Misses fault a c
+Misses-written : (fault : HearFault) (a b c : History) → Misses fault a b → WritesAll b c → Misses fault a c
 Misses-written fault a b c missed wrote = record {
   passed = subst (λ (o : Option (List Passed)). Grows a.passed o []) (sym wrote.passed) missed.passed;
   cause = subst (λ (o : Option (List ℕ)). IsCause a.longest fault a.coming o) (sym wrote.coming) missed.cause;
   written = Says-trans a b c [] [] missed.written (Writes-nothing b c wrote).written;
+  read = subst (ReadCounts (Err fault) a.unread) (sym wrote.read) missed.read;
+  wrote = wrote.wrote ∙ missed.wrote;
 }
 
 -- or behind it
-pub written-Misses : (fault : HearFault) (a b c : History) → Writes a.kept a b → Misses fault b c → Misses fault a c
+pub written-Misses : (fault : HearFault) (a b c : History) → WritesAll a b → Misses fault b c → Misses fault a c
 written-Misses fault a b c wrote missed = record {
   passed = subst (λ (o : Option (List Passed)). Grows o c.passed []) wrote.passed missed.passed;
   cause = subst (λ (n : ℕ). IsCause n fault a.coming c.coming) wrote.longest
       (subst (λ (o : Option (List ℕ)). IsCause b.longest fault o c.coming) wrote.coming missed.cause);
   written = Says-trans a b c [] [] (Writes-nothing a b wrote).written missed.written;
+  read = subst (λ (n : ℕ). ReadCounts (Err fault) n c.unread) wrote.read missed.read;
+  wrote = missed.wrote ∙ wrote.wrote;
 }
 
 -- where nothing is kept any more, no bytes follow
-Writes-trans : (a b c : History) (xs ys : List ℕ) → Writes xs a b → Writes ys b c → ys ≡ [] → Writes xs a c
-Writes-trans a b c xs ys one two none = record {
+Writes-trans : (a b c : History) (xs ys : List ℕ) (failed failed' : ℕ) → Writes xs failed a b → Writes ys failed' b c → ys ≡ [] → Writes xs failed' a c
+Writes-trans a b c xs ys failed failed' one two none = record {
   passed = two.passed ∙ one.passed;
   coming = two.coming ∙ one.coming;
   written = subst (Appends a.written c.written) (ap (λ (l : List ℕ). xs ++ l) none ∙ append-nil xs)
       (Appends-trans a.written b.written c.written xs ys one.written two.written);
   kept = two.kept;
   longest = two.longest ∙ one.longest;
+  read = two.read ∙ one.read;
+  wrote = two.wrote;
 }
 
--- what is lost stays so
-Loses-written : (a b c : History) → Loses a b → Writes b.kept b c → Loses a c
-Loses-written a b c lost wrote = (lost.0, Writes-trans a b c (take lost.0 a.kept) b.kept lost.1 wrote lost.1.kept)
+-- a count that was raised rose, and has risen where it is raised again
+rose_once : (count count' : ℕ) → count' ≡ raised 1 count → Rose count count'
+rose_once count count' is = omega (arith, is)
 
-Loses-lost : (a b c : History) → Loses a b → Loses b c → Loses a c
-Loses-lost a b c lost more = (
+rose_on : (count count' count'' : ℕ) → Rose count count' → count'' ≡ raised 1 count' → Rose count count''
+rose_on count count' count'' rose is = omega (arith, rose, is)
+
+-- a write that failed once has failed
+pub has_lost : (a b : History) → Loses a b → HasLost a b
+has_lost a b lost = (
   lost.0,
-  Writes-trans a b c (take lost.0 a.kept) (take more.0 b.kept) lost.1 more.1 (ap (λ (l : List ℕ). take more.0 l) lost.1.kept ∙ take-nil more.0),
+  rose_once a.unwritten b.unwritten lost.1.wrote,
+  subst (λ (n : ℕ). Writes (take lost.0 a.kept) n a b) (sym lost.1.wrote) lost.1,
 )
+
+-- what is lost stays so
+lost_written : (a b c : History) → HasLost a b → WritesAll b c → HasLost a c
+lost_written a b c lost wrote = (
+  lost.0,
+  subst (Rose a.unwritten) (sym wrote.wrote) lost.1,
+  subst (λ (n : ℕ). Writes (take lost.0 a.kept) n a c) (sym wrote.wrote)
+      (Writes-trans a b c (take lost.0 a.kept) b.kept b.unwritten b.unwritten lost.2 wrote lost.2.kept),
+)
+
+lost_again : (a b c : History) → HasLost a b → Loses b c → HasLost a c
+lost_again a b c lost more =
+    let none : take more.0 b.kept ≡ [] = ap (λ (l : List ℕ). take more.0 l) lost.2.kept ∙ take-nil more.0 in (
+      lost.0,
+      rose_on a.unwritten b.unwritten c.unwritten lost.1 more.1.wrote,
+      subst (λ (n : ℕ). Writes (take lost.0 a.kept) n a c) (sym more.1.wrote)
+          (Writes-trans a b c (take lost.0 a.kept) (take more.0 b.kept) b.unwritten (raised 1 b.unwritten) lost.2 more.1 none),
+    )
 
 -- ---- one line more
 
@@ -225,7 +261,8 @@ unbegun answer next last s first result a is =
 pub stopped_first : {S : Type 0} (answer : S → List ℕ → List ℕ) (next : S → List ℕ → S) (last : S → List ℕ) (s : S) (first : List ℕ) (fault : TalkFault)
     (a b : History) → TellsText (Err fault) first a b → Converses (Err fault) answer next last s first a b
 stopped_first answer next last s first (ends.Unheard cause) a b one = absurd one
-stopped_first answer next last s first ends.Untold a b one = (Err ends.Untold, one.2.0, (one.0, first_part one.0 one.1, one.2.1), one.2.2)
+stopped_first answer next last s first ends.Untold a b one =
+    (Err ends.Untold, one.2.0, (one.0, first_part one.0 one.1, one.2.1), has_lost one.2.0 b one.2.2)
 stopped_first answer next last s first ends.OutOfMemory a b one = ([], no_first, one)
 
 -- writing failed behind some lines
@@ -249,7 +286,7 @@ stopped_amid answer next last s first ends.Untold lines a b c one two = (
     cut_off answer next last s first lines two.0 two.1,
     Extends-trans a b two.2.0 (told first ∷ []) (dialogue answer next s lines ++ two.0) one two.2.1,
   ),
-  two.2.2,
+  has_lost two.2.0 c two.2.2,
 )
 stopped_amid answer next last s first ends.OutOfMemory lines a b c one two = (
   talk_so_far answer next s first lines ++ heard two.0 ∷ [],
@@ -286,7 +323,7 @@ ended_so answer next last s first lines (Err ends.Untold) done a b c d one two t
         last_part lines three.0 three.1,
         Extends-trans a c three.2.0 (talk_so_far answer next s first lines) three.0 so_far three.2.1,
       ),
-      three.2.2,
+      has_lost three.2.0 d three.2.2,
     )
 ended_so answer next last s first lines (Err ends.OutOfMemory) done a b c d one two three =
     let so_far : Extends a c (talk_so_far answer next s first lines) = Extends-trans a b c (told first ∷ []) (dialogue answer next s lines) one two.0 in (
@@ -299,20 +336,20 @@ ended_so answer next last s first lines (Err ends.OutOfMemory) done a b c d one 
 
 -- all that was told is written
 written_so : {S : Type 0} (answer : S → List ℕ → List ℕ) (next : S → List ℕ → S) (last : S → List ℕ) (s : S) (first : List ℕ) (outcome : Result ⊤ TalkFault)
-    (a b c : History) → Converses outcome answer next last s first a b → Writes b.kept b c → Converses outcome answer next last s first a c
+    (a b c : History) → Converses outcome answer next last s first a b → WritesAll b c → Converses outcome answer next last s first a c
 written_so answer next last s first (Ok done) a b c was wrote =
     (was.0, Extends-written a b c _ was.1 wrote, was.2)
 written_so answer next last s first (Err (ends.Unheard cause)) a b c was wrote = (was.0, was.1, was.2, Misses-written cause was.1 b c was.3 wrote)
-written_so answer next last s first (Err ends.Untold) a b c was wrote = (was.0, was.1, was.2, Loses-written was.1 b c was.3 wrote)
+written_so answer next last s first (Err ends.Untold) a b c was wrote = (was.0, was.1, was.2, lost_written was.1 b c was.3 wrote)
 written_so answer next last s first (Err ends.OutOfMemory) a b c was wrote = (was.0, was.1, Extends-written a b c was.0 was.2 wrote)
 
 -- or that fails
 lost_so : {S : Type 0} (answer : S → List ℕ → List ℕ) (next : S → List ℕ → S) (last : S → List ℕ) (s : S) (first : List ℕ) (outcome : Result ⊤ TalkFault)
     (a b c : History) → Converses outcome answer next last s first a b → Loses b c → Converses (Err ends.Untold) answer next last s first a c
-lost_so answer next last s first (Ok done) a b c was lost = (Ok done, b, was, lost)
-lost_so answer next last s first (Err (ends.Unheard cause)) a b c was lost = (Err (ends.Unheard cause), b, was, lost)
-lost_so answer next last s first (Err ends.Untold) a b c was lost = (was.0, was.1, was.2, Loses-lost was.1 b c was.3 lost)
-lost_so answer next last s first (Err ends.OutOfMemory) a b c was lost = (Err ends.OutOfMemory, b, was, lost)
+lost_so answer next last s first (Ok done) a b c was lost = (Ok done, b, was, has_lost b c lost)
+lost_so answer next last s first (Err (ends.Unheard cause)) a b c was lost = (Err (ends.Unheard cause), b, was, has_lost b c lost)
+lost_so answer next last s first (Err ends.Untold) a b c was lost = (was.0, was.1, was.2, lost_again was.1 b c was.3 lost)
+lost_so answer next last s first (Err ends.OutOfMemory) a b c was lost = (Err ends.OutOfMemory, b, was, has_lost b c lost)
 
 pub conversed : {S : Type 0} (answer : S → List ℕ → List ℕ) (next : S → List ℕ → S) (last : S → List ℕ) (s : S) (first : List ℕ)
     (outcome result : Result ⊤ TalkFault) (a b c : History)
@@ -327,6 +364,32 @@ pub nothing_kept : (outcome result : Result ⊤ TalkFault) (a b : History) → E
 nothing_kept outcome result a b (inl ended) = ended.1.kept
 nothing_kept outcome result a b (inr ended) = ended.1.1.kept
 
+-- what was counted behind what passed
+counted_behind : (outcome : Result ⊤ TalkFault) (a b c : History) (xs : List Passed) → Extends a b xs → Causes outcome b c → Causes outcome a c
+counted_behind (Ok done) a b c xs one caused = (caused.0 ∙ one.read, caused.1 ∙ one.wrote)
+counted_behind (Err (ends.Unheard cause)) a b c xs one caused =
+    (subst (λ (n : ℕ). ReadCounts (Err cause) n c.unread) one.read caused.0, caused.1 ∙ one.wrote)
+counted_behind (Err ends.Untold) a b c xs one rose = subst (λ (n : ℕ). Rose n c.unwritten) one.wrote rose
+counted_behind (Err ends.OutOfMemory) a b c xs one caused = (caused.0 ∙ one.read, caused.1 ∙ one.wrote)
+
+-- how far it came counts no write that failed
+spoken_unfailed : {S : Type 0} (answer : S → List ℕ → List ℕ) (next : S → List ℕ → S) (last : S → List ℕ) (s : S) (first : List ℕ)
+    (outcome : Result ⊤ TalkFault) (a b : History) → Speaks outcome answer next last s first a b → b.unwritten ≡ a.unwritten
+spoken_unfailed answer next last s first (Ok done) a b was = was.1.wrote
+spoken_unfailed answer next last s first (Err (ends.Unheard cause)) a b was = was.3.wrote ∙ was.2.wrote
+spoken_unfailed answer next last s first (Err ends.Untold) a b was = was.2.wrote
+spoken_unfailed answer next last s first (Err ends.OutOfMemory) a b was = was.2.wrote
+
+-- each fault of a talk has its cause
+pub caused : {S : Type 0} (answer : S → List ℕ → List ℕ) (next : S → List ℕ → S) (last : S → List ℕ) (s : S) (first : List ℕ)
+    (result : Result ⊤ TalkFault) (a b : History) → Converses result answer next last s first a b → Causes result a b
+caused answer next last s first (Ok done) a b was = (was.1.read, was.1.wrote)
+caused answer next last s first (Err (ends.Unheard cause)) a b was =
+    counted_behind (Err (ends.Unheard cause)) a was.1 b (talk_so_far answer next s first was.0) was.2 (was.3.read, was.3.wrote)
+caused answer next last s first (Err ends.Untold) a b was =
+    subst (λ (n : ℕ). Rose n b.unwritten) (spoken_unfailed answer next last s first was.0 a was.1 was.2) was.3.1
+caused answer next last s first (Err ends.OutOfMemory) a b was = (was.2.read, was.2.wrote)
+
 -- a text was told and could not be written
 pub told_and_lost : (failed : Failed) (text : List ℕ) (a b c : History) → Extends a b (told text ∷ []) → Loses b c → Tells (Err failed) text a c
 told_and_lost failed text a b c one lost = (
@@ -334,28 +397,3 @@ told_and_lost failed text a b c one lost = (
   subst (λ (t : List ℕ). IsBeginning text (told t ∷ [])) (take-length text) (part_of (length text)),
   (b, one, lost),
 )
-
--- ---- a text that is told in part
-
--- a beginning of a beginning is one
-part_again : (part count : ℕ) (text : List ℕ) → (k : ℕ) × (take part (take count text) ≡ take k text)
-part_again zero count text = (0, refl)
-part_again (suc part) zero text = (0, refl)
-part_again (suc part) (suc count) [] = (0, refl)
-part_again (suc part) (suc count) (b ∷ bs) = let rest = part_again part count bs in (suc rest.0, ap (λ (l : List ℕ). b ∷ l) rest.1)
-
--- where nothing is kept nothing is lost
-pub Loses-nothing : (a : History) → a.kept ≡ [] → Loses a a
-Loses-nothing a none = (0, record { passed = refl; coming = refl; written = Appends-nothing a.written a.written refl; kept = none; longest = refl })
-
--- of a text of which a beginning was to be told, a beginning was told
-pub told_in_part : (result : Result ⊤ Failed) (failed : Failed) (text : List ℕ) (count : ℕ) (a b : History) → b.kept ≡ []
-    → Tells result (take count text) a b → Tells (Err failed) text a b
-told_in_part (Ok done) failed text count a b none was = (told (take count text) ∷ [], part_of count, (b, was, Loses-nothing b none))
-told_in_part (Err other) failed text count a b none was = (was.0, shorter was.0 was.1, was.2)
-  where
-    shorter : (more : List Passed) → IsBeginning (take count text) more → IsBeginning text more
-    shorter [] none_of = none_of
-    shorter _ (part_of part) =
-        let again = part_again part count text in
-        subst (λ (t : List ℕ). IsBeginning text (told t ∷ [])) (sym again.1) (part_of again.0)

@@ -1,7 +1,9 @@
 -- Talks in which each line is answered before the next one is heard. Who answers is told by two functions: what is answered to a
 -- line, by what he has come to, and what he comes to by it.
 use Rattle.std.specs.Prelude.{◌≡◌, ℕ, ◌-◌, ◌^◌, ◌<◌, ◌⊎◌, List, [], ◌∷◌, ◌++◌, length, ⊤, Some, None, Ok, Err, Option, Result}
-use Rattle.sim_talk.specs.Talks.{Breaks, Extends, heard, heard_bytes, History, IsBeginning, Loses, Misses, Passed, told, Writes}
+use Rattle.sim_store.specs.Counts.{Rose}
+use Rattle.sim_talk.specs.{Lines.ReadCounts}
+use Rattle.sim_talk.specs.Talks.{Breaks, Extends, HasLost, heard, heard_bytes, History, IsBeginning, Loses, Misses, Passed, told, WritesAll}
 use Rattle.sim_talk.specs.declared.fault.TalkFault.{TalkFault}
 use Rattle.std.specs.Io.KnownBytes.{IsAtEnd}
 use Rattle.sim_talk.specs.declared.fault.TalkFault.TheVariants as ends
@@ -61,12 +63,20 @@ abbrev pub Converses : {S : Type 0} → Result ⊤ TalkFault → (S → List ℕ
 Converses (Ok done) answer next last s first old new = Speaks (Ok done) answer next last s first old new
 Converses (Err (ends.Unheard cause)) answer next last s first old new = Speaks (Err (ends.Unheard cause)) answer next last s first old new
 Converses (Err ends.Untold) answer next last s first old new =
-    (outcome : Result ⊤ TalkFault) × (before : History) × Speaks outcome answer next last s first old before × Loses before new
+    (outcome : Result ⊤ TalkFault) × (before : History) × Speaks outcome answer next last s first old before × HasLost before new
 Converses (Err ends.OutOfMemory) answer next last s first old new = Speaks (Err ends.OutOfMemory) answer next last s first old new
 
 -- its end: all that was kept is written and it ends as it did, or that fails, and so it ends
 abbrev pub EndsAs : Result ⊤ TalkFault → Result ⊤ TalkFault → History → History → Type 0
-EndsAs outcome result old new = ((result ≡ outcome) × Writes old.kept old new) ⊎ ((result ≡ Err ends.Untold) × Loses old new)
+EndsAs outcome result old new = ((result ≡ outcome) × WritesAll old new) ⊎ ((result ≡ Err ends.Untold) × Loses old new)
+
+-- what was counted in it: where a text was not told a write failed, where reading failed that was counted, and nothing failed where it
+-- ended otherwise. A count that stands at its last value does not rise.
+abbrev pub Causes : Result ⊤ TalkFault → History → History → Type 0
+Causes (Ok done) old new = (new.unread ≡ old.unread) × (new.unwritten ≡ old.unwritten)
+Causes (Err (ends.Unheard cause)) old new = ReadCounts (Err cause) old.unread new.unread × (new.unwritten ≡ old.unwritten)
+Causes (Err ends.Untold) old new = Rose old.unwritten new.unwritten
+Causes (Err ends.OutOfMemory) old new = (new.unread ≡ old.unread) × (new.unwritten ≡ old.unwritten)
 
 -- ---- its parts
 

@@ -1,15 +1,24 @@
 -- What a talk over an input and a sink answers.
 use Rattle.{sim_store.specs.Counts.raised, sim_store.specs.declared.fault.Failed.Failed, std.specs.Io.KnownBytes.Appends, std.specs.Str.IsUtf8}
-use Rattle.sim_talk.specs.{Lines.HearsOf, Lines.MissesOf, Talks.Extends, Talks.History, Talks.Loses}
+use Rattle.sim_talk.specs.{Lines.HearsOf, Lines.MissesOf, Lines.ReadCounts, Talks.Extends, Talks.History, Talks.Loses}
 use Rattle.std.specs.Io.KnownBytes.{Consumes, IsAtEnd, Keeps, prepend_known}
 use Rattle.std.specs.Prelude.{◌≡◌, ℕ, ◌<◌, Bool, true, false, List, [], ◌++◌, length, take, ⊤, None, Ok, Err, Option, Result}
 use Rattle.sim_talk.specs.declared.{fault.HearFault.HearFault, fault.TalkFault.TalkFault}
 use Rattle.sim_talk.specs.declared.fault.HearFault.TheVariants as fault
 use Rattle.sim_talk.specs.declared.fault.TalkFault.TheVariants as ends
 
--- what a talk over an input and a sink tells: the bytes of both, with those that were read and not heard yet, and what is kept
-abbrev pub piped : List ℕ → Option (List ℕ) → Option (List ℕ) → List ℕ → ℕ → History
-piped ahead left told kept most = record { passed = None; coming = prepend_known ahead left; written = told; kept = kept; longest = most }
+-- what a talk over an input and a sink tells: the bytes of both, with those that were read and not heard yet, what is kept, and what both
+-- have counted
+abbrev pub piped : List ℕ → Option (List ℕ) → Option (List ℕ) → List ℕ → ℕ → ℕ → ℕ → History
+piped ahead left told kept most unread unwritten = record {
+  passed = None;
+  coming = prepend_known ahead left;
+  written = told;
+  kept = kept;
+  longest = most;
+  unread = unread;
+  unwritten = unwritten;
+}
 
 -- ---- what is heard
 
@@ -37,12 +46,6 @@ abbrev pub Comes : Result ℕ Failed → Option (List ℕ) → Option (List ℕ)
 Comes (Ok count) old new ahead ahead' = Consumes old new ahead' × (length ahead' ≡ count) × (count ≡ 0 → IsAtEnd new)
 Comes (Err failed) old new ahead ahead' = Keeps old new × (ahead' ≡ ahead)
 
--- a failed read is counted, and nothing else is
-abbrev pub ReadCounts : Result Bool HearFault → ℕ → ℕ → Type 0
-ReadCounts (Ok heard) old new = new ≡ old
-ReadCounts (Err fault.Failed) old new = new ≡ raised 1 old
-ReadCounts (Err other) old new = new ≡ old
-
 -- what was taken of the input, by the answer; nothing where what was kept could not be written
 abbrev pub TakesOf : ℕ → Result Bool TalkFault → List ℕ → Option (List ℕ) → Option (List ℕ) → Type 0
 TakesOf most (Ok heard) line old new = HearsOf most (Ok heard) line old new
@@ -51,14 +54,14 @@ TakesOf most (Err ends.Untold) line old new = new ≡ old
 TakesOf most (Err ends.OutOfMemory) line old new = ⊥
 
 -- and what is counted of reading, and of writing
-abbrev pub HearCounts : Result Bool TalkFault → ℕ → ℕ → Type 0
-HearCounts (Ok heard) old new = new ≡ old
+abbrev pub HearCounts : {A : Type 0} → Result A TalkFault → ℕ → ℕ → Type 0
+HearCounts (Ok done) old new = new ≡ old
 HearCounts (Err (ends.Unheard cause)) old new = ReadCounts (Err cause) old new
 HearCounts (Err ends.Untold) old new = new ≡ old
 HearCounts (Err ends.OutOfMemory) old new = ⊥
 
-abbrev pub WriteCounts : Result Bool TalkFault → ℕ → ℕ → Type 0
-WriteCounts (Ok heard) old new = new ≡ old
+abbrev pub WriteCounts : {A : Type 0} → Result A TalkFault → ℕ → ℕ → Type 0
+WriteCounts (Ok done) old new = new ≡ old
 WriteCounts (Err (ends.Unheard cause)) old new = new ≡ old
 WriteCounts (Err ends.Untold) old new = new ≡ raised 1 old
 WriteCounts (Err ends.OutOfMemory) old new = ⊥
@@ -79,3 +82,10 @@ SettlesOut (Err failed) kept old new = (part : ℕ) × Appends old new (take par
 abbrev pub TellCounts : Result ⊤ Failed → ℕ → ℕ → Type 0
 TellCounts (Ok done) old new = new ≡ old
 TellCounts (Err failed) old new = new ≡ raised 1 old
+
+-- ---- what a line in words may be refused for
+
+abbrev pub LacksMemory : Result ⊤ HearFault → Type 0
+LacksMemory (Ok done) = Unit {0}
+LacksMemory (Err fault.OutOfMemory) = Unit {0}
+LacksMemory (Err other) = ⊥

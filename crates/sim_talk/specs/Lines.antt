@@ -1,5 +1,5 @@
 -- Lines: which bytes of an input are a line, and what became of one that was to be heard.
-use Rattle.std.specs.{Io.KnownBytes.Consumes, Io.KnownBytes.IsAtEnd, Str.IsUtf8}
+use Rattle.{sim_store.specs.Counts.raised, std.specs.Io.KnownBytes.Consumes, std.specs.Io.KnownBytes.IsAtEnd, std.specs.Str.IsUtf8}
 use Rattle.std.specs.Prelude.{◌≡◌, ℕ, ◌<◌, ◌≤◌, Bool, true, false, ◌≢◌, List, [], ◌∷◌, ◌++◌, length, Some, None, Ok, Err, All, Option, Result}
 use Rattle.sim_talk.specs.declared.{ahead.Poured.Poured, fault.HearFault.HearFault}
 use Rattle.sim_talk.specs.declared.ahead.Poured.TheVariants as poured
@@ -101,3 +101,9 @@ abbrev pub HearsOf : ℕ → Result Bool HearFault → List ℕ → Option (List
 HearsOf most (Ok true) line old new = HearsLine most line old new
 HearsOf most (Ok false) line old new = HearsEnd old new
 HearsOf most (Err cause) line old new = MissesOf most cause old new
+
+-- a failed read is counted, and nothing else is
+abbrev pub ReadCounts : Result Bool HearFault → ℕ → ℕ → Type 0
+ReadCounts (Ok heard) old new = new ≡ old
+ReadCounts (Err fault.Failed) old new = new ≡ raised 1 old
+ReadCounts (Err other) old new = new ≡ old

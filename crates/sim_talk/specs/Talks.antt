@@ -1,10 +1,10 @@
 -- What passes in a talk: lines that are heard and texts that are told. A talk tells of it what it knows: one in memory the whole
 -- history, so that it says what had been told when a line was asked for, and one over an input and a sink their bytes. What was told may
--- be kept for a while before it is written.
+-- be kept for a while before it is written. Each talk counts what failed, so that a fault has its cause.
 use Rattle.std.specs.{Io.KnownBytes.Appends, Io.KnownBytes.Consumes, Io.KnownBytes.IsAtEnd}
 use Rattle.std.specs.Prelude.{◌≡◌, ℕ, Bool, true, false, List, [], ◌∷◌, ◌++◌, take, ⊤, Some, None, Ok, Err, Option, Result}
-use Rattle.sim_talk.specs.{Lines.feed, Lines.IsCause, declared.fault.HearFault.HearFault, declared.fault.TalkFault.TalkFault}
-use Rattle.sim_store.specs.declared.fault.Failed.{Failed}
+use Rattle.sim_talk.specs.{Lines.feed, Lines.IsCause, Lines.ReadCounts, declared.fault.HearFault.HearFault, declared.fault.TalkFault.TalkFault}
+use Rattle.sim_store.specs.{Counts.raised, Counts.Rose, declared.fault.Failed.Failed}
 use Rattle.sim_talk.specs.declared.fault.TalkFault.TheVariants as ends
 
 -- a line that was heard, or a text that was told
@@ -24,10 +24,14 @@ pub record History : Type 0 where
   pub kept : List ℕ
   -- how many bytes a line may have
   pub longest : ℕ
+  -- how often reading failed, and how often writing did: neither count falls, and both stand still at 2^64 - 1
+  pub unread : ℕ
+  pub unwritten : ℕ
 
--- one that tells nothing
-abbrev pub untold : History
-untold = record { passed = None; coming = None; written = None; kept = []; longest = 0 }
+-- one that tells nothing but what failed
+abbrev pub untold : ℕ → ℕ → History
+untold unread unwritten =
+    record { passed = None; coming = None; written = None; kept = []; longest = 0; unread = unread; unwritten = unwritten }
 
 -- the bytes of the lines that were heard, each with the feed that ends it
 abbrev pub heard_bytes : List Passed → List ℕ
@@ -53,36 +57,50 @@ pub record Says (told : List ℕ) (old new : History) : Type 0 where
   pub written : Appends old.written new.written now
   pub rest : old.kept ++ told ≡ now ++ new.kept
 
--- these passed, and nothing else
+-- these passed, and nothing else; and nothing failed
 pub record Extends (old new : History) (more : List Passed) : Type 0 where
   pub passed : Grows old.passed new.passed more
   pub taken : Consumes old.coming new.coming (heard_bytes more)
   pub written : Says (told_bytes more) old new
   pub longest : new.longest ≡ old.longest
+  pub read : new.unread ≡ old.unread
+  pub wrote : new.unwritten ≡ old.unwritten
 
--- a line was not heard for this cause, which the bytes show that were taken; and nothing passed
+-- a line was not heard for this cause, which the bytes show that were taken, and a failed read its count; and nothing passed
 pub record Misses (fault : HearFault) (old new : History) : Type 0 where
   pub passed : Grows old.passed new.passed []
   pub cause : IsCause old.longest fault old.coming new.coming
   pub written : Says [] old new
+  pub read : ReadCounts (Err fault) old.unread new.unread
+  pub wrote : new.unwritten ≡ old.unwritten
 
 -- ---- what was kept is written
 
--- these bytes were written and nothing else came to pass, and nothing is kept
-pub record Writes (now : List ℕ) (old new : History) : Type 0 where
+-- these bytes were written and nothing else came to pass, and nothing is kept; so often writing has failed by then
+pub record Writes (now : List ℕ) (failed : ℕ) (old new : History) : Type 0 where
   pub passed : new.passed ≡ old.passed
   pub coming : new.coming ≡ old.coming
   pub written : Appends old.written new.written now
   pub kept : new.kept ≡ []
   pub longest : new.longest ≡ old.longest
+  pub read : new.unread ≡ old.unread
+  pub wrote : new.unwritten ≡ failed
 
--- writing failed: of what was kept a beginning was written, and the rest is lost
+-- all that was kept was written, and that did not fail
+abbrev pub WritesAll : History → History → Type 0
+WritesAll old new = Writes old.kept old.unwritten old new
+
+-- writing failed, once: of what was kept a beginning was written, and the rest is lost
 abbrev pub Loses : History → History → Type 0
-Loses old new = (part : ℕ) × Writes (take part old.kept) old new
+Loses old new = (part : ℕ) × Writes (take part old.kept) (raised 1 old.unwritten) old new
+
+-- the same where it may have failed again behind that
+abbrev pub HasLost : History → History → Type 0
+HasLost old new = (part : ℕ) × Rose old.unwritten new.unwritten × Writes (take part old.kept) new.unwritten old new
 
 -- all that was kept was written, or that failed
 abbrev pub Settles : Result ⊤ Failed → History → History → Type 0
-Settles (Ok done) old new = Writes old.kept old new
+Settles (Ok done) old new = WritesAll old new
 Settles (Err failed) old new = Loses old new
 
 -- ---- what a call answers

@@ -3,9 +3,9 @@
 //! sink know nothing of each other, so it tells no order of what passed, but the bytes of both, where they tell them.
 
 ghost use Rattle.std.specs.Prelude.{◌≡◌, ◌⊎◌, [], IfOk, OnOk};
-ghost use Rattle.sim_talk.specs.LineTalk.{Comes, Ends, HearCounts, IsText, piped, ReadCounts, Readies, SettlesOut, TakesOf, TellCounts, TellsOut, WriteCounts};
+ghost use Rattle.sim_talk.specs.LineTalk.{Comes, Ends, HearCounts, IsText, piped, Readies, SettlesOut, TakesOf, TellCounts, TellsOut, WriteCounts};
 ghost use Rattle.sim_talk.specs.{Talks.Hears, Talks.Settles, Talks.Tells};
-ghost use Rattle.{sim_store.specs.Sink.SinkCounts, sim_talk.specs.Lines.HearsOf, sim_talk.specs.Lines.IsWithinLine};
+ghost use Rattle.{sim_store.specs.Sink.SinkCounts, sim_talk.specs.Lines.HearsOf, sim_talk.specs.Lines.IsWithinLine, sim_talk.specs.Lines.ReadCounts};
 
 use crate::ahead::{Ahead, PIECE, Poured};
 use crate::kept::Kept;
@@ -39,6 +39,8 @@ impl<S: Source + Drop, K: Sink + Drop> LineTalk<S, K> {
         ensures told { IfOk result (λ talk. K.told talk.sink ≡ K.told sink) }
         ensures kept { IfOk result (λ talk. bytes_kept talk.kept ≡ []) }
         ensures most { IfOk result (λ talk. talk.most ≡ most) }
+        ensures read { IfOk result (λ talk. S.faults talk.source ≡ S.faults source) }
+        ensures written { IfOk result (λ talk. K.faults talk.sink ≡ K.faults sink) }
     {
         let ahead = Ahead::new(alloc)?;
         let kept = Kept::new(alloc)?;
@@ -62,8 +64,10 @@ impl<S: Source + Drop, K: Sink + Drop> LineTalk<S, K> {
     fn make_ready(&mut self) -> Result<(), Failed>
         ensures ready { OnOk result (IsWithinLine (bytes_ahead self.new.ahead) → bytes_kept self.new.kept ≡ []) }
         ensures passed { Readies result
-            (piped (bytes_ahead self.old.ahead) (S.left self.old.source) (K.told self.old.sink) (bytes_kept self.old.kept) self.old.most)
-            (piped (bytes_ahead self.new.ahead) (S.left self.new.source) (K.told self.new.sink) (bytes_kept self.new.kept) self.new.most) }
+            (piped (bytes_ahead self.old.ahead) (S.left self.old.source) (K.told self.old.sink) (bytes_kept self.old.kept) self.old.most
+            (S.faults self.old.source) (K.faults self.old.sink))
+            (piped (bytes_ahead self.new.ahead) (S.left self.new.source) (K.told self.new.sink) (bytes_kept self.new.kept) self.new.most
+            (S.faults self.new.source) (K.faults self.new.sink)) }
         ensures faults { TellCounts result (K.faults self.old.sink) (K.faults self.new.sink) }
         ensures source { self.new.source ≡ self.old.source }
         ensures ahead { self.new.ahead ≡ self.old.ahead }
@@ -141,13 +145,15 @@ impl<S: Source + Drop, K: Sink + Drop> Talk for LineTalk<S, K> {
     ghost use Rattle.std.specs.Io.KnownBytes.{prepend_known};
     ghost use Rattle.{sim_talk.specs.Ahead.bytes_ahead, sim_talk.specs.Kept.bytes_kept};
 
-    ghost history = { λ s. piped (bytes_ahead s.ahead) (S.left s.source) (K.told s.sink) (bytes_kept s.kept) s.most };
+    ghost history = { λ s. piped (bytes_ahead s.ahead) (S.left s.source) (K.told s.sink) (bytes_kept s.kept) s.most (S.faults s.source) (K.faults s.sink) };
 
     /// Takes the next line of what was read. Where none ends there, what is kept is written, and then the input is read.
     fn hear(&mut self, line: &mut Vec<u8>) -> Result<bool, TalkFault>
         ensures passed { Hears result line.new.items
-            (piped (bytes_ahead self.old.ahead) (S.left self.old.source) (K.told self.old.sink) (bytes_kept self.old.kept) self.old.most)
-            (piped (bytes_ahead self.new.ahead) (S.left self.new.source) (K.told self.new.sink) (bytes_kept self.new.kept) self.new.most) }
+            (piped (bytes_ahead self.old.ahead) (S.left self.old.source) (K.told self.old.sink) (bytes_kept self.old.kept) self.old.most
+            (S.faults self.old.source) (K.faults self.old.sink))
+            (piped (bytes_ahead self.new.ahead) (S.left self.new.source) (K.told self.new.sink) (bytes_kept self.new.kept) self.new.most
+            (S.faults self.new.source) (K.faults self.new.sink)) }
         ensures taken { TakesOf self.old.most result line.new.items (prepend_known (bytes_ahead self.old.ahead) (S.left self.old.source))
             (prepend_known (bytes_ahead self.new.ahead) (S.left self.new.source)) }
         ensures order { (self.new.source ≡ self.old.source) ⊎ (bytes_kept self.new.kept ≡ []) }
@@ -162,8 +168,10 @@ impl<S: Source + Drop, K: Sink + Drop> Talk for LineTalk<S, K> {
     /// Keeps the text, and writes to the sink what has no room.
     fn tell(&mut self, text: &[u8]) -> Result<(), Failed>
         ensures passed { Tells result text.now
-            (piped (bytes_ahead self.old.ahead) (S.left self.old.source) (K.told self.old.sink) (bytes_kept self.old.kept) self.old.most)
-            (piped (bytes_ahead self.new.ahead) (S.left self.new.source) (K.told self.new.sink) (bytes_kept self.new.kept) self.new.most) }
+            (piped (bytes_ahead self.old.ahead) (S.left self.old.source) (K.told self.old.sink) (bytes_kept self.old.kept) self.old.most
+            (S.faults self.old.source) (K.faults self.old.sink))
+            (piped (bytes_ahead self.new.ahead) (S.left self.new.source) (K.told self.new.sink) (bytes_kept self.new.kept) self.new.most
+            (S.faults self.new.source) (K.faults self.new.sink)) }
         ensures told { TellsOut result text.now (bytes_kept self.old.kept) (bytes_kept self.new.kept) (K.told self.old.sink) (K.told self.new.sink) }
         ensures faults { TellCounts result (K.faults self.old.sink) (K.faults self.new.sink) }
         ensures source { self.new.source ≡ self.old.source }
@@ -176,8 +184,10 @@ impl<S: Source + Drop, K: Sink + Drop> Talk for LineTalk<S, K> {
     /// Writes to the sink all that is kept.
     fn settle(&mut self) -> Result<(), Failed>
         ensures passed { Settles result
-            (piped (bytes_ahead self.old.ahead) (S.left self.old.source) (K.told self.old.sink) (bytes_kept self.old.kept) self.old.most)
-            (piped (bytes_ahead self.new.ahead) (S.left self.new.source) (K.told self.new.sink) (bytes_kept self.new.kept) self.new.most) }
+            (piped (bytes_ahead self.old.ahead) (S.left self.old.source) (K.told self.old.sink) (bytes_kept self.old.kept) self.old.most
+            (S.faults self.old.source) (K.faults self.old.sink))
+            (piped (bytes_ahead self.new.ahead) (S.left self.new.source) (K.told self.new.sink) (bytes_kept self.new.kept) self.new.most
+            (S.faults self.new.source) (K.faults self.new.sink)) }
         ensures told { SettlesOut result (bytes_kept self.old.kept) (K.told self.old.sink) (K.told self.new.sink) }
         ensures kept { bytes_kept self.new.kept ≡ [] }
         ensures faults { TellCounts result (K.faults self.old.sink) (K.faults self.new.sink) }

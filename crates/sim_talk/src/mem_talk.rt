@@ -1,11 +1,12 @@
 //! A talk in memory, whose lines are given, and which keeps what passed.
 
-ghost use Rattle.std.specs.Prelude.{◌≡◌, ℕ, List, [], ◌∷◌, ◌++◌, IfOk, OnOk, OnErr};
-ghost use Rattle.sim_talk.specs.{MemTalk.history_of, MemTalk.passed_in, Talks.Hears, Talks.Passed, Talks.Tells};
+ghost use Rattle.std.specs.Prelude.{◌≡◌, ℕ, ◌-◌, ◌≤◌, List, [], ◌∷◌, ◌++◌, length, IfOk, OnOk, OnErr, IsErr};
+ghost use Rattle.sim_talk.specs.MemTalk.{HearsGiven, history_of, KeepsTold, lines_in, passed_in};
+ghost use Rattle.sim_talk.specs.{Talks.Hears, Talks.Passed, Talks.Tells};
 
 use crate::{HearFault, Talk, TalkFault};
 use sim_base::OutOfMemory;
-use sim_store::Failed;
+use sim_store::{Failed, one_more};
 use std::alloc::Global;
 
 /// One thing that passed.
@@ -15,7 +16,7 @@ pub enum Piece {
     Told { text: Vec<u8> },
 }
 
-/// Lines that are to be heard, how hearing ends behind them, and what passed.
+/// Lines that are to be heard, how hearing ends behind them, what passed, and how often reading and writing failed.
 #[derive(Drop)]
 pub struct MemTalk {
     alloc: Global,
@@ -24,13 +25,20 @@ pub struct MemTalk {
     end: Option<HearFault>,
     room: usize,
     passed: Vec<Piece>,
+    unread: u64,
+    unwritten: u64,
 }
 
 impl MemTalk {
     /// A talk of these lines, the last of which is heard first. Behind them the input ends, or has this fault. Of the texts it takes so
     /// many bytes in all.
     pub fn new(alloc: Global, coming: Vec<Vec<u8>>, end: Option<HearFault>, room: usize) -> MemTalk
-        ensures { passed_in result.passed.items ≡ [] }
+        ensures passed { passed_in result.passed.items ≡ [] }
+        ensures coming { lines_in result.coming.items ≡ lines_in coming.items }
+        ensures end { result.end ≡ end }
+        ensures room { result.room ≡ room }
+        ensures read { result.unread ≡ 0 }
+        ensures written { result.unwritten ≡ 0 }
     {
         MemTalk {
             alloc,
@@ -38,6 +46,8 @@ impl MemTalk {
             end,
             room,
             passed: Vec::new(alloc),
+            unread: 0,
+            unwritten: 0,
         }
     }
 
@@ -50,11 +60,18 @@ impl MemTalk {
 }
 
 impl Talk for MemTalk {
-    ghost history = { λ s. history_of (passed_in s.passed.items) };
+    ghost history = { λ s. history_of (passed_in s.passed.items) s.unread s.unwritten };
 
-    fn hear(&mut self, line: &mut Vec<u8>) -> Result<bool, TalkFault> {
+    /// Hears the last of the lines that are left.
+    fn hear(&mut self, line: &mut Vec<u8>) -> Result<bool, TalkFault>
+        ensures passed { Hears result line.new.items (history_of (passed_in self.old.passed.items) self.old.unread self.old.unwritten)
+            (history_of (passed_in self.new.passed.items) self.new.unread self.new.unwritten) }
+        ensures given { HearsGiven result self.old.end line.new.items (lines_in self.old.coming.items) (lines_in self.new.coming.items) }
+        ensures end { self.new.end ≡ self.old.end }
+        ensures room { self.new.room ≡ self.old.room }
+    {
         let Some(next) = self.coming.pop() else {
-            return ending(self.end);
+            return ending(self.end, &mut self.unread);
         };
         let Ok(copy) = copied(self.alloc, &next) else {
             return Err(TalkFault::from(HearFault::OutOfMemory));
@@ -66,33 +83,49 @@ impl Talk for MemTalk {
         }
     }
 
-    fn tell(&mut self, text: &[u8]) -> Result<(), Failed> {
-        let fits = text.len() <= self.room;
+    /// Takes of the text what there is room for. A text that does not fit was not told whole.
+    fn tell(&mut self, text: &[u8]) -> Result<(), Failed>
+        ensures passed { Tells result text.now (history_of (passed_in self.old.passed.items) self.old.unread self.old.unwritten)
+            (history_of (passed_in self.new.passed.items) self.new.unread self.new.unwritten) }
+        ensures fits { OnOk result (length text.now ≤ self.old.room) }
+        ensures room { self.new.room ≡ self.old.room - length text.now }
+        ensures coming { self.new.coming ≡ self.old.coming }
+        ensures end { self.new.end ≡ self.old.end }
+    {
         let count = text.len().min(self.room);
         self.room -= count;
         let told = tell_all(self.alloc, &mut self.passed, &text[..count]);
-        if fits { told } else { Err(Failed) }
+        if told.is_ok() && count == text.len() {
+            return Ok(());
+        }
+        self.unwritten = one_more(self.unwritten);
+        Err(Failed)
     }
 
-    // What is told has passed, and none of it is kept.
+    /// What is told has passed, and none of it is kept.
     fn settle(&mut self) -> Result<(), Failed> {
         Ok(())
     }
 }
 
 // How hearing ends behind all lines.
-fn ending(end: Option<HearFault>) -> Result<bool, TalkFault>
-    ensures { (line : List ℕ) (passed : List Passed) → Hears result line (history_of passed) (history_of passed) }
+fn ending(end: Option<HearFault>, unread: &mut u64) -> Result<bool, TalkFault>
+    ensures heard { (line : List ℕ) (passed : List Passed) (unwritten : ℕ)
+        → Hears result line (history_of passed unread.old unwritten) (history_of passed unread.new unwritten) }
+    ensures given { (line : List ℕ) → HearsGiven result end line [] [] }
 {
-    match end {
-        None => Ok(false),
-        Some(fault) => Err(TalkFault::from(fault)),
+    let Some(fault) = end else {
+        return Ok(false);
+    };
+    if fault == HearFault::Failed {
+        *unread = one_more(*unread);
     }
+    Err(TalkFault::from(fault))
 }
 
-// Keeps a text as told.
+// Keeps a text as told, or nothing of it.
 fn tell_all(alloc: Global, passed: &mut Vec<Piece>, text: &[u8]) -> Result<(), Failed>
-    ensures { Tells result text.now (history_of (passed_in passed.old.items)) (history_of (passed_in passed.new.items)) }
+    ensures { KeepsTold result text.now (passed_in passed.old.items) (passed_in passed.new.items) }
 {
     let Ok(copy) = copied(alloc, text) else {
         return Err(Failed);

@@ -1,7 +1,7 @@
 //! A talk with somebody at a terminal: he is asked for each line by a prompt, may type words in place of JSON, and is helped. It tells no
-//! history, since what he types is not what is heard.
+//! history but what failed, since what he types is not what is heard.
 
-ghost use Rattle.sim_talk.specs.Talks.{Hears, untold};
+ghost use Rattle.sim_talk.specs.{LineTalk.HearCounts, LineTalk.LacksMemory, LineTalk.WriteCounts, Talks.untold};
 
 use crate::{HearFault, Talk, TalkFault, json_of};
 use sim_store::Failed;
@@ -21,16 +21,51 @@ impl<T: Talk + Drop> PromptTalk<T> {
         PromptTalk { alloc, talk, help }
     }
 
+    // Tells him a text.
+    fn say(&mut self, text: &[u8]) -> Result<(), TalkFault>
+        ensures read { HearCounts result (T.history self.old.talk).unread (T.history self.new.talk).unread }
+        ensures written { WriteCounts result (T.history self.old.talk).unwritten (T.history self.new.talk).unwritten }
+    {
+        self.talk.tell(text)?;
+        Ok(())
+    }
+
     // Asks for a line.
     fn ask(&mut self, line: &mut Vec<u8>) -> Result<bool, TalkFault>
-        ensures { Hears result line.new.items untold untold }
+        ensures read { HearCounts result (T.history self.old.talk).unread (T.history self.new.talk).unread }
+        ensures written { WriteCounts result (T.history self.old.talk).unwritten (T.history self.new.talk).unwritten }
     {
-        self.talk.tell(b"> ")?;
+        self.say(b"> ")?;
         self.talk.hear(line)
     }
 
+    // Asks once: whether there is a line or it is the end, or none where he typed nothing or is helped.
+    fn ask_once(&mut self, line: &mut Vec<u8>) -> Result<Option<bool>, TalkFault>
+        ensures read { HearCounts result (T.history self.old.talk).unread (T.history self.new.talk).unread }
+        ensures written { WriteCounts result (T.history self.old.talk).unwritten (T.history self.new.talk).unwritten }
+    {
+        if !self.ask(line)? {
+            self.say(b"\n")?;
+            return Ok(Some(false));
+        }
+        match line.as_slice() {
+            b"" => Ok(None),
+            b"help" => {
+                self.say(self.help.as_bytes())?;
+                Ok(None)
+            }
+            b"quit" => Ok(Some(false)),
+            _ => {
+                self.read(line)?;
+                Ok(Some(true))
+            }
+        }
+    }
+
     // Makes of a line in words one in JSON.
-    fn read(&self, line: &mut Vec<u8>) -> Result<(), HearFault> {
+    fn read(&self, line: &mut Vec<u8>) -> Result<(), HearFault>
+        ensures { LacksMemory result }
+    {
         if line.first() != Some(&b'[') {
             *line = json_of(self.alloc, line.as_slice())?;
         }
@@ -39,22 +74,12 @@ impl<T: Talk + Drop> PromptTalk<T> {
 }
 
 impl<T: Talk + Drop> Talk for PromptTalk<T> {
-    ghost history = { λ s. untold };
+    ghost history = { λ s. untold (T.history s.talk).unread (T.history s.talk).unwritten };
 
     fn hear(&mut self, line: &mut Vec<u8>) -> Result<bool, TalkFault> {
         for _ in 0..u64::MAX {
-            if !self.ask(line)? {
-                let _ = self.talk.tell(b"\n");
-                return Ok(false);
-            }
-            match line.as_slice() {
-                b"" => {}
-                b"help" => self.talk.tell(self.help.as_bytes())?,
-                b"quit" => return Ok(false),
-                _ => {
-                    self.read(line)?;
-                    return Ok(true);
-                }
+            if let Some(heard) = self.ask_once(line)? {
+                return Ok(heard);
             }
         }
         Ok(false)

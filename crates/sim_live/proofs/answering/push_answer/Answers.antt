@@ -9,37 +9,40 @@ use Rattle.sim_live.proofs.answering.push_answer.Goals as goal
 pub returns-in_ok-push_ok-in-Step-clause-text : goal.returns-in_ok-push_ok-in-Step-clause-text
 returns-in_ok-push_ok-in-Step-clause-text g c = λ clients steps few counted stands.
     step_told c.args.session.now.setup.now clients steps _ c.args.made c.args.asked.now _ _ _ c.in-Step.is counted
-    (c.in_ok-push_step-in-Step.ensures.text clients steps few stands) c.in_ok-push_ok-in-Step.ensures
+    (c.in_ok-push_step-in-Step.ensures.text clients steps few stands) c.in_ok-push_ok-in-Step.ensures.ok
 
 pub returns-in_ok-push_ok-in-Step-clause-count : goal.returns-in_ok-push_ok-in-Step-clause-count
 returns-in_ok-push_ok-in-Step-clause-count g c = λ steps counted. step_counted steps _ c.args.made c.args.asked.now c.in-Step.is counted
 
 pub returns-in_ok-push_ok-in-Step-clause-stands : goal.returns-in_ok-push_ok-in-Step-clause-stands
 returns-in_ok-push_ok-in-Step-clause-stands g c = λ clients steps few stands.
-    subst (λ (l : Line). StandsFor c.args.session.now.setup.now (seen_in c.push_step.new.session) (session c.args.session.now.setup.now clients (steps_with steps l)))
+    subst (λ (l : Line). StandsFor c.args.session.now.setup.now (seen_in c.push_step.new.session)
+    (session c.args.session.now.setup.now clients (steps_with steps l)))
     (sym c.in-Step.is) (c.in_ok-push_step-in-Step.ensures.stands clients steps few stands)
 
 pub returns-in_ok-push_ok-in-Look-clause-text : goal.returns-in_ok-push_ok-in-Look-clause-text
 returns-in_ok-push_ok-in-Look-clause-text g c = λ clients steps few counted stands.
     look_told c.args.session.now.setup.now clients steps _ c.args.made c.args.asked.now _ _ _ c.in-Look.is counted
-    (c.in_ok-push_look-in-Look.ensures (session c.args.session.now.setup.now clients steps) stands) c.in_ok-push_ok-in-Look.ensures
+    (c.in_ok-push_look-in-Look.ensures (session c.args.session.now.setup.now clients steps) stands) c.in_ok-push_ok-in-Look.ensures.ok
 
 pub returns-in_ok-push_ok-in-Look-clause-count : goal.returns-in_ok-push_ok-in-Look-clause-count
 returns-in_ok-push_ok-in-Look-clause-count g c = λ steps counted. look_counted steps _ c.args.made c.args.asked.now c.in-Look.is counted
 
 pub returns-in_ok-push_ok-in-Look-clause-stands : goal.returns-in_ok-push_ok-in-Look-clause-stands
 returns-in_ok-push_ok-in-Look-clause-stands g c = λ clients steps few stands.
-    subst (λ (l : Line). StandsFor c.args.session.now.setup.now (seen_in c.args.session.now) (session c.args.session.now.setup.now clients (steps_with steps l)))
+    subst (λ (l : Line). StandsFor c.args.session.now.setup.now (seen_in c.args.session.now)
+    (session c.args.session.now.setup.now clients (steps_with steps l)))
     (sym c.in-Look.is) stands
 
 pub returns-in_ok-push_refused-in-Other-clause-text : goal.returns-in_ok-push_refused-in-Other-clause-text
 returns-in_ok-push_refused-in-Other-clause-text g c = λ clients steps few counted stands.
-    other_told c.args.session.now.setup.now clients steps c.args.made c.args.asked.now _ _ c.in-Other.is counted c.in_ok-push_refused-in-Other.ensures
+    other_told c.args.session.now.setup.now clients steps c.args.made c.args.asked.now _ _ c.in-Other.is counted c.in_ok-push_refused-in-Other.ensures.ok
 
 pub returns-in_ok-push_refused-in-Other-clause-count : goal.returns-in_ok-push_refused-in-Other-clause-count
 returns-in_ok-push_refused-in-Other-clause-count g c = λ steps counted. other_counted steps c.args.made c.args.asked.now c.in-Other.is counted
 
 pub returns-in_ok-push_refused-in-Other-clause-stands : goal.returns-in_ok-push_refused-in-Other-clause-stands
 returns-in_ok-push_refused-in-Other-clause-stands g c = λ clients steps few stands.
-    subst (λ (l : Line). StandsFor c.args.session.now.setup.now (seen_in c.args.session.now) (session c.args.session.now.setup.now clients (steps_with steps l)))
+    subst (λ (l : Line). StandsFor c.args.session.now.setup.now (seen_in c.args.session.now)
+    (session c.args.session.now.setup.now clients (steps_with steps l)))
     (sym c.in-Other.is) stands

@@ -1,6 +1,6 @@
 -- The talk is that over the match, and all rigs come back in their order, each system in its place.
 use Rattle.sim_client.specs.StageWords.{systems_on}
-use Rattle.sim_live.proofs.Answered.{live_settled, live_unmade}
+use Rattle.sim_live.proofs.Answered.{live_caused, live_settled, live_unmade}
 use Rattle.sim_talk.proofs.Talking.{nothing_kept}
 use Rattle.sim_session_text.proofs.Coming.{all_back, same_count}
 use Rattle.std.proofs.Common.{Err, refl, ◌∙◌}
@@ -23,6 +23,12 @@ returns-in-Ok-clause-settled g c = nothing_kept c.talk_over-outcome.result c.set
 
 pub returns-in-Err-clause-settled : goal.returns-in-Err-clause-settled
 returns-in-Err-clause-settled g c = nothing_kept (Err ends.OutOfMemory) c.settled.result _ _ c.settled.ensures
+
+pub returns-in-Ok-clause-causes : goal.returns-in-Ok-clause-causes
+returns-in-Ok-clause-causes g c = live_caused c.args.setup.now c.args.clients c.settled-ended.result _ _ (returns-in-Ok-clause-lives g c)
+
+pub returns-in-Err-clause-causes : goal.returns-in-Err-clause-causes
+returns-in-Err-clause-causes g c = live_caused c.args.setup.now c.args.clients c.settled.result _ _ (returns-in-Err-clause-lives g c)
 
 pub returns-in-Ok-clause-kinds : goal.returns-in-Ok-clause-kinds
 returns-in-Ok-clause-kinds g c =

@@ -1,0 +1,10 @@
+-- Nothing has failed so far.
+use Rattle.std.proofs.Common.{◌≡◌}
+use Rattle.sim_talk.proofs.prompt_talk.PromptTalkTalk.hear.Given as goal
+
+abbrev pub invariant-loop : goal.invariant-loop
+invariant-loop g l =
+    record {
+      read : (g.T.Talk.history l.self.talk).unread ≡ (g.T.Talk.history l.fn.self.talk).unread;
+      wrote : (g.T.Talk.history l.self.talk).unwritten ≡ (g.T.Talk.history l.fn.self.talk).unwritten;
+    }
