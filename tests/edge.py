@@ -9,6 +9,7 @@ MD5 of the bytes that docs/FORMATS.md lays out.
 """
 
 import concurrent.futures
+import contextlib
 import hashlib
 import json
 import os
@@ -509,15 +510,28 @@ def commands_of(page):
             yield command, lines
 
 
+@contextlib.contextmanager
+def at_terminal(typed):
+    """A terminal at which this is typed. It shows what is typed itself, so a program that reads there tells only what it answers."""
+    master, slave = os.openpty()
+    os.write(master, typed.encode())
+    yield slave
+    os.close(slave)
+    os.close(master)
+
+
 def pages(folder):
     """What the pages show is what the program prints, in a folder that looks like the top of the repository."""
     (folder / "simcore").symlink_to(PROGRAM)
     (folder / "examples").symlink_to(TOP / "examples")
-    for page in ("README.md", "examples/README.md", "docs/DESYNC.md", "docs/REPLAYS.md", "docs/STOCKS.md", "docs/TERRITORY.md", "docs/VISION.md"):
+    for page in ("README.md", "examples/README.md", "docs/DESYNC.md", "docs/LIVE.md", "docs/REPLAYS.md", "docs/STOCKS.md", "docs/TERRITORY.md", "docs/VISION.md"):
         for command, lines in commands_of(page):
-            done = subprocess.run(["bash", "-c", command.replace("/tmp/", "")], cwd=folder, stdin=subprocess.DEVNULL,
-                                  stdout=subprocess.PIPE, stderr=subprocess.PIPE, timeout=SECONDS)
-            case(f"{page}: {command[:60]}", (0, done.stdout, done.stderr), 0, lines.encode())
+            typed = "".join(re.findall(r"^> (.*\n)", lines, re.M)) if command.startswith("./simcore live") else ""
+            with at_terminal(typed) if typed else open(os.devnull) as stdin:
+                done = subprocess.run(["bash", "-c", command.replace("/tmp/", "")], cwd=folder, stdin=stdin,
+                                      stdout=subprocess.PIPE, stderr=subprocess.PIPE, timeout=SECONDS)
+            told = re.sub(r"^> .*\n", "> ", lines, flags=re.M) if typed else lines
+            case(f"{page}: {command[:60]}", (0, done.stdout, done.stderr), 0, told.encode())
 
 
 def stored_states(folder):
