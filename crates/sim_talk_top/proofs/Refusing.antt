@@ -18,6 +18,11 @@ pub where_known : {X : Type 0} {P Q : X → Type 0} (o : Option X) → ((x : X) 
 where_known None follows p = tt
 where_known (Some x) follows p = follows x p
 
+-- what holds of anything holds of what is known
+pub where_any : {X : Type 0} (P : X → Type 0) (o : Option X) → ((x : X) → P x) → IfSome o P
+where_any P None holds = tt
+where_any P (Some x) holds = holds x
+
 -- ---- what is read
 
 -- the match was read

@@ -5,7 +5,9 @@ use Rattle.std.specs.Prelude.{◌≡◌, ℕ, ◌<◌, ◌≤◌, ◌⊎◌, Lis
 use Rattle.sim_base.specs.{Limits.IsFrom, declared.setup.Setup.Setup}
 use Rattle.sim_talk.specs.{Talks.Breaks, Talks.Extends, Talks.History, Talks.IsBeginning, Talks.Passed, Talks.told, declared.fault.TalkFault.TalkFault}
 use Rattle.sim_talk_top.specs.{Endings.ended_as, Words.Talk, Words.to_live, Words.to_relay, declared.ending.Ending.Ending}
-use Rattle.sim_top.specs.{Outcome.Outcome, Outcome.session_match_in, Stops.ended_by, declared.status.Status.Status, declared.stop.Stop.Stop}
+use Rattle.sim_top.specs.{Answers.GaveThenFailed, Answers.IsSilent, Outcome.Outcome, Outcome.session_match_in, Stops.ended_by, Stops.status_of}
+use Rattle.sim_top.specs.{Stops.stop_text, declared.status.Status.Status, declared.stop.Stop.Stop}
+use Rattle.sim_store.specs.{Counts.raised, Counts.Rose, declared.counts.Counts.Counts}
 use Rattle.sim_talk_top.specs.declared.ending.Ending.TheVariants as ending
 use Rattle.sim_top.specs.declared.status.Status.TheVariants as status
 use Rattle.sim_top.specs.declared.stop.Stop.TheVariants as stop
@@ -65,3 +67,31 @@ TalksOf files (to_relay rules) ended old new = TalkedAs rules ended old new
 abbrev pub IsTalk : Talk → Type 0
 IsTalk (to_live game clients) = IsFrom 1 8 clients
 IsTalk (to_relay rules) = IsRelay rules
+
+-- the talk with the server took place, where one is asked for, whatever the shelf holds
+abbrev pub OfRelay : Talk → Ending → History → History → Type 0
+OfRelay (to_live game clients) ended old new = Unit {0}
+OfRelay (to_relay rules) ended old new = TalkedAs rules ended old new
+
+-- ---- what was counted
+
+-- what the talk counted, by how it ended: a text is untold only where a write failed, and a line unread only where a read did
+abbrev pub TalkCauses : Ending → History → History → Type 0
+TalkCauses ending.Unread old new = (new.unread ≡ raised 1 old.unread) × (new.unwritten ≡ old.unwritten)
+TalkCauses ending.Untold old new = Rose old.unwritten new.unwritten
+TalkCauses other old new = (new.unread ≡ old.unread) × (new.unwritten ≡ old.unwritten)
+
+-- a fault of reading the match is answered exactly where the shelf counted one
+abbrev pub LiveCauses : Ending → Counts → Counts → Type 0
+LiveCauses (ending.Run status.ReadFault) old new = GaveThenFailed old new
+LiveCauses other old new = new.read_faults ≡ old.read_faults
+
+-- and the server reads no file
+abbrev pub ShelfCauses : Talk → Ending → Counts → Counts → Type 0
+ShelfCauses (to_live game clients) ended old new = LiveCauses ended old new
+ShelfCauses (to_relay rules) ended old new = new ≡ old
+
+-- why a talk does not begin: as it says, or without memory for a text, or since the text was not told
+abbrev pub IsRefusal : Stop → Ending → Type 0
+IsRefusal found ended = (ended ≡ ending.Run (status_of found)) ⊎ ((ended ≡ ending.Run status.OutOfMemory) × (IsSilent (status_of found) → ⊥))
+    ⊎ ((ended ≡ ending.Untold) × (0 < length (stop_text found)))

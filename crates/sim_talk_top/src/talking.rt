@@ -1,10 +1,11 @@
 //! The top call of talks: from the words to how it ended. The match is read before anything is told.
 
 ghost use Rattle.{sim_base.specs.Limits.IsSetup, sim_system.specs.Meanings.HaveKinds, sim_system.specs.RigWords.systems_of};
-ghost use Rattle.{sim_client.specs.StageWords.AreCleared, sim_top.specs.Stops.status_of, sim_top.specs.Stops.stop_text as text_of_stop};
+ghost use Rattle.{sim_client.specs.StageWords.AreCleared, sim_top.specs.Stops.CausesOf, sim_top.specs.Stops.status_of, sim_top.specs.Stops.stop_text as text_of_stop};
 ghost use Rattle.std.specs.Prelude.{◌≡◌, ◌≤◌, [], length, IfSome, IfOk, vec_capacity, All};
 ghost use Rattle.sim_talk.specs.Talks.{Tells};
-ghost use Rattle.sim_talk_top.specs.{Endings.ended_as, Talked.IsTalk, Talked.ReadsFor, Talked.Refused, Talked.TalkedOver, Talked.TalksOf, Words.talk_of};
+ghost use Rattle.sim_talk_top.specs.{Endings.ended_as, Words.talk_of};
+ghost use Rattle.sim_talk_top.specs.Talked.{IsRefusal, IsTalk, OfRelay, ReadsFor, Refused, ShelfCauses, TalkCauses, TalkedOver, TalksOf};
 
 use crate::{Asked, Ending};
 use sim_base::Setup;
@@ -39,6 +40,9 @@ pub fn converse<S: Shelf, T: Talk>(
     requires cleared { All (λ r. AreCleared (systems_of r ⟦<dyn System as System>⟧)) rigs.items }
     ensures talks { IfSome (S.held shelf.old) (λ files. TalksOf files (talk_of asked.entry) result.ending (T.history talk.old) (T.history talk.new)) }
     ensures settled { (T.history talk.old).kept ≡ [] → (T.history talk.new).kept ≡ [] }
+    ensures relays { OfRelay (talk_of asked.entry) result.ending (T.history talk.old) (T.history talk.new) }
+    ensures causes { TalkCauses result.ending (T.history talk.old) (T.history talk.new) }
+    ensures shelf { ShelfCauses (talk_of asked.entry) result.ending (S.counts shelf.old) (S.counts shelf.new) }
     ensures held { S.held shelf.new ≡ S.held shelf.old }
     ensures kinds { All (λ r. HaveKinds (systems_of r ⟦<dyn System as System>⟧)) result.rigs.items }
     ensures eight { length result.rigs.items ≡ 8 }
@@ -71,6 +75,7 @@ fn session_match<'w, S: Shelf>(
     ensures tells { IfSome (S.held shelf.old) (λ files. ReadsFor files game.now clients result) }
     ensures limits { IfOk result IsSetup }
     ensures players { IfOk result (λ setup. clients ≤ setup.players) }
+    ensures causes { CausesOf result (S.counts shelf.old) (S.counts shelf.new) }
     ensures held { S.held shelf.new ≡ S.held shelf.old }
 {
     let setup = read_session_match(alloc, shelf, game)?;
@@ -121,6 +126,7 @@ fn ended(outcome: Result<(), TalkFault>) -> Ending
 // Tells why the talk does not begin.
 fn refused<T: Talk>(alloc: Global, stop: &Stop<'_>, talk: &mut T) -> Ending
     ensures refused { Refused (status_of stop.now) (text_of_stop stop.now) (T.history talk.old) (T.history talk.new) result }
+    ensures ending { IsRefusal stop.now result }
     ensures settled { (T.history talk.old).kept ≡ [] → (T.history talk.new).kept ≡ [] }
 {
     let Ok(text) = stop_text(alloc, stop) else {

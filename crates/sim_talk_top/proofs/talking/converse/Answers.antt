@@ -1,6 +1,10 @@
 -- The match was read and the talk took place, or it says why not.
-use Rattle.{sim_talk_top.specs.Talked.TalksOf, sim_talk_top.specs.Words.Talk, sim_talk_top.specs.Words.talk_of, sim_top.specs.Outcome.session_match_in}
-use Rattle.sim_talk_top.proofs.Refusing.{live_refused, live_talked, where_known}
+use Rattle.{sim_talk_top.specs.Talked.OfRelay, sim_talk_top.specs.Talked.TalkedAs, std.specs.Prelude.IfSome}
+use Rattle.{sim_talk_top.specs.Talked.ShelfCauses, sim_talk_top.specs.Talked.TalksOf}
+use Rattle.{sim_top.specs.Stops.status_of, sim_top.specs.Stops.stop_text}
+use Rattle.{sim_talk_top.specs.Words.Talk, sim_talk_top.specs.Words.talk_of, sim_top.specs.Outcome.session_match_in}
+use Rattle.sim_talk_top.proofs.{Counting.refused_causes, Counting.refused_shelf, Counting.talked_causes, Counting.talked_shelf}
+use Rattle.sim_talk_top.proofs.Refusing.{live_refused, live_talked, where_any, where_known}
 use Rattle.std.proofs.Common.{ap, subst, sym}
 use Rattle.sim_talk_top.proofs.talking.converse.Goals as goal
 
@@ -23,3 +27,45 @@ returns-in-Err-clause-talks g c =
     (live_refused (session_match_in files c.in-Live.game.now) c.in-Live.clients c.in-Err.stop c.refused.result (g.T.Talk.history c.args.talk.now)
     (g.T.Talk.history c.refused.new.talk) read c.refused.ensures.refused))
     c.in-Err.ensures.tells
+
+pub returns-in-Ok-clause-relays : goal.returns-in-Ok-clause-relays
+returns-in-Ok-clause-relays g c =
+    subst (λ (t : Talk). OfRelay t c.talk_live.result.ending (g.T.Talk.history c.args.talk.now) (g.T.Talk.history c.talk_live.new.talk))
+    (sym (ap talk_of c.in-Live.is)) tt
+
+pub returns-in-Ok-clause-causes : goal.returns-in-Ok-clause-causes
+returns-in-Ok-clause-causes g c =
+    talked_causes c.in-Ok.setup c.in-Live.clients c.talk_live.result.ending (g.T.Talk.history c.args.talk.now) (g.T.Talk.history c.talk_live.new.talk)
+    c.talk_live.ensures.talked
+
+pub returns-in-Ok-clause-shelf : goal.returns-in-Ok-clause-shelf
+returns-in-Ok-clause-shelf g c =
+    subst (λ (t : Talk). ShelfCauses t c.talk_live.result.ending (g.S.Shelf.counts c.args.shelf.now) (g.S.Shelf.counts c.session_match.new.shelf))
+    (sym (ap talk_of c.in-Live.is))
+    (talked_shelf c.in-Ok.setup c.in-Live.clients c.talk_live.result.ending (g.T.Talk.history c.args.talk.now) (g.T.Talk.history c.talk_live.new.talk)
+    (g.S.Shelf.counts c.args.shelf.now) (g.S.Shelf.counts c.session_match.new.shelf) c.talk_live.ensures.talked c.in-Ok.ensures.causes)
+
+pub returns-in-Err-clause-relays : goal.returns-in-Err-clause-relays
+returns-in-Err-clause-relays g c =
+    subst (λ (t : Talk). OfRelay t c.refused.result (g.T.Talk.history c.args.talk.now) (g.T.Talk.history c.refused.new.talk))
+    (sym (ap talk_of c.in-Live.is)) tt
+
+pub returns-in-Err-clause-causes : goal.returns-in-Err-clause-causes
+returns-in-Err-clause-causes g c =
+    refused_causes (status_of c.in-Err.stop) (stop_text c.in-Err.stop) c.refused.result (g.T.Talk.history c.args.talk.now)
+    (g.T.Talk.history c.refused.new.talk) c.refused.ensures.refused
+
+pub returns-in-Err-clause-shelf : goal.returns-in-Err-clause-shelf
+returns-in-Err-clause-shelf g c =
+    subst (λ (t : Talk). ShelfCauses t c.refused.result (g.S.Shelf.counts c.args.shelf.now) (g.S.Shelf.counts c.session_match.new.shelf))
+    (sym (ap talk_of c.in-Live.is))
+    (refused_shelf c.in-Err.stop c.refused.result (g.S.Shelf.counts c.args.shelf.now) (g.S.Shelf.counts c.session_match.new.shelf)
+    c.in-Err.ensures.causes c.refused.ensures.ending)
+
+pub returns-in-Relay-clause-talks : goal.returns-in-Relay-clause-talks
+returns-in-Relay-clause-talks g c =
+    subst (λ (t : Talk). IfSome (g.S.Shelf.held c.args.shelf.now)
+    (λ files. TalksOf files t c.ended.result (g.T.Talk.history c.args.talk.now) (g.T.Talk.history c.relay.new.talk)))
+    (sym (ap talk_of c.in-Relay.is))
+    (where_any (λ files. TalkedAs c.in-Relay.rules c.ended.result (g.T.Talk.history c.args.talk.now) (g.T.Talk.history c.relay.new.talk))
+    (g.S.Shelf.held c.args.shelf.now) (λ files. (c.relay.result, c.ended.ensures, c.relay.ensures.relays)))
