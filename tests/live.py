@@ -394,12 +394,12 @@ def try_sockets():
     carrier.stdout.close()
 
 
-def typed(lines):
+def typed(lines, words=("live", "handover.json", "2")):
     """What the program tells at a terminal where somebody types these lines, and its status."""
     child, master = pty.fork()
     if child == 0:
         os.chdir(EXAMPLES)
-        os.execv(PROGRAM, [PROGRAM, "live", "handover.json", "2"])
+        os.execv(PROGRAM, [PROGRAM, *words])
     text = b""
 
     def until(mark):
@@ -437,7 +437,29 @@ def try_terminal():
     check("terminal: the desync is told", b"differ 1 2 entity 2 part Health" in text, text)
 
 
-for trial in (try_prefixes, try_steps, try_pieces, try_long_text, try_cut_outputs, try_slow_reader, try_refusals, try_looks, try_faults, try_words, try_relay, try_sockets, try_terminal):
+def try_relay_terminal():
+    """The server by hand: its help is its own, and what it names is taken."""
+    status, text = typed([b"help", b"2 cut", b'[1,"bytes","00"]', b"play 1", b"quit"], ("relay", "2", "2", "2", "9"))
+    check("terminal of relay: status", status == 0, status)
+    for name, part in (("help", b"a line is an arrival, help or quit"), ("an arrival in words", b"ok 1\n"), ("one in JSON", b"ok 2\n"),
+                       ("what is no arrival", b"refused 3\n"), ("the end", b"released ")):
+        check(f"terminal of relay: {name}", part in text, text)
+    check("terminal of relay: nothing of a session", b"a line is a step" not in text, text)
+
+
+def try_closed_terminal():
+    """Where the prompt can't be written the talk ends, as with any text that can't."""
+    master, slave = pty.openpty()
+    with open("/dev/full", "wb") as full:
+        for words in (("live", "handover.json", "2"), ("relay", "2", "2", "2", "9")):
+            done = subprocess.run([PROGRAM, *words], stdin=slave, stdout=full, cwd=EXAMPLES, check=False, timeout=60)
+            check(f"terminal without an output: {words[0]}", done.returncode == 19, done)
+    os.close(slave)
+    os.close(master)
+
+
+for trial in (try_prefixes, try_steps, try_pieces, try_long_text, try_cut_outputs, try_slow_reader, try_refusals, try_looks, try_faults, try_words, try_relay, try_sockets,
+              try_terminal, try_relay_terminal, try_closed_terminal):
     trial()
 print(f"{FOUND['passed']} passed, {FOUND['failed']} failed")
 sys.exit(1 if FOUND["failed"] else 0)

@@ -14,6 +14,7 @@
 //! - `rigs`: a rig more for a run.
 //! - `deeds`: the handlers of deeds.
 //! - `talking`: a talk with a planner for each kind of command.
+//! - `help`: what is told at a terminal where somebody asks for help.
 //! - `running`: the run with a handler for each kind of command and of deed.
 #![tactic(auto)]
 
@@ -21,6 +22,7 @@ mod again;
 mod deeds;
 mod device;
 mod faults;
+mod help;
 mod rigs;
 mod running;
 mod shelf;
@@ -31,11 +33,12 @@ mod talking;
 mod words;
 
 pub use device::{Readable, Writable};
+pub use help::help_of;
 pub use rigs::add_rig;
 pub use running::{planned, run_with};
 pub use shelf::FileShelf;
 pub use sink::OutSink;
 pub use source::InSource;
 pub use system::{FileSystem, SystemFiles};
-pub use talking::{HELP, talk_number, talk_with};
+pub use talking::{talk_number, talk_with};
 pub use words::{exit_number, words_of};

@@ -1,7 +1,8 @@
 //! A talk with a planner for each kind of command, over any shelf and any talk, and the number that the process then ends with.
 
 ghost use Rattle.{sim_client.specs.StageWords.AreCleared, sim_system.specs.Meanings.HaveKinds, sim_system.specs.RigWords.systems_of};
-ghost use Rattle.{sim_edge.specs.Process.talk_number_of, sim_talk_top.specs.Talked.IsTalk, sim_talk_top.specs.Talked.TalksOf, sim_talk_top.specs.Words.talk_of};
+ghost use Rattle.{sim_edge.specs.Process.talk_number_of, sim_talk_top.specs.Words.talk_of};
+ghost use Rattle.sim_talk_top.specs.Talked.{IsTalk, OfRelay, ShelfCauses, TalkCauses, TalksOf};
 ghost use Rattle.std.specs.Prelude.{◌≡◌, [], length, IfSome, IfOk, OnErr, All};
 
 use crate::running::planned;
@@ -12,21 +13,6 @@ use sim_system::{Rig, System};
 use sim_talk::Talk;
 use sim_talk_top::{Asked, Ending, converse};
 use std::alloc::Global;
-
-/// What somebody at a terminal is told where he asks for help.
-pub const HELP: &str = "\
-a line is a step, a look, help or quit. Steps, C being a client:
-  up C                        the server hears the first message of C
-  down C                      C hears the first message for it
-  play C                      C plays its next turn
-  join C · cut C              C joins · its connection ends
-  bend C ENTITY HEALTH        a health of C's own state is bent: a desync
-  order C walk IDS to X Z     C commands; IDS as 2,3, or - for none
-  order C stop IDS · attack IDS on ID · delete IDS · place N at X Z · train ID N · resign
-looks:
-  digest C · show C · state C · pipes · kept
-the same as JSON: [\"order\",1,\"walk\",[2,3],\"6.5\",\"2.5\"]
-";
 
 /// Talks with these cleared rigs. Where there is no memory for the handlers, the talk does not begin.
 pub fn talk_with<S: Shelf, T: Talk>(
@@ -42,6 +28,9 @@ pub fn talk_with<S: Shelf, T: Talk>(
     requires limits { IsTalk (talk_of asked) }
     ensures talked { IfOk result
         (λ ending. IfSome (S.held shelf.old) (λ files. TalksOf files (talk_of asked.entry) ending (T.history other.old) (T.history other.new))) }
+    ensures relays { IfOk result (λ ending. OfRelay (talk_of asked.entry) ending (T.history other.old) (T.history other.new)) }
+    ensures causes { IfOk result (λ ending. TalkCauses ending (T.history other.old) (T.history other.new)) }
+    ensures shelf { IfOk result (λ ending. ShelfCauses (talk_of asked.entry) ending (S.counts shelf.old) (S.counts shelf.new)) }
     ensures settled { (T.history other.old).kept ≡ [] → (T.history other.new).kept ≡ [] }
     ensures unbegun { OnErr result ((shelf.new ≡ shelf.old) × (other.new ≡ other.old)) }
 {

@@ -1,7 +1,8 @@
 //! The top call of talks: from the words to how it ended. The match is read before anything is told.
 
 ghost use Rattle.{sim_base.specs.Limits.IsSetup, sim_system.specs.Meanings.HaveKinds, sim_system.specs.RigWords.systems_of};
-ghost use Rattle.{sim_client.specs.StageWords.AreCleared, sim_top.specs.Stops.CausesOf, sim_top.specs.Stops.status_of, sim_top.specs.Stops.stop_text as text_of_stop};
+ghost use Rattle.sim_client.specs.StageWords.{AreCleared};
+ghost use Rattle.sim_top.specs.Stops.{CausesOf, status_of, stop_text as text_of_stop};
 ghost use Rattle.std.specs.Prelude.{◌≡◌, ◌≤◌, [], length, IfSome, IfOk, vec_capacity, All};
 ghost use Rattle.sim_talk.specs.Talks.{Tells};
 ghost use Rattle.sim_talk_top.specs.{Endings.ended_as, Words.talk_of};

@@ -7,8 +7,8 @@ ghost use Rattle.sim_talk_top.specs.{Talked.IsTalk, Words.talk_of};
 use sim_base::OutOfMemory;
 use sim_census::Census;
 use sim_edge::{
-    FileShelf, HELP, InSource, OutSink, SystemFiles, add_rig, exit_number, run_with, talk_number,
-    talk_with, words_of,
+    FileShelf, InSource, OutSink, SystemFiles, add_rig, exit_number, help_of, run_with,
+    talk_number, talk_with, words_of,
 };
 use sim_ground::Ground;
 use sim_range::Range;
@@ -68,6 +68,6 @@ fn talk_words(rt: &HostRuntime, asked: Asked<'_>) -> Result<Ending, OutOfMemory>
     if !rt.stdin().is_terminal() {
         return talk_with(alloc, asked, &mut shelf, &mut other, rigs);
     }
-    let mut prompted = PromptTalk::new(alloc, other, HELP);
+    let mut prompted = PromptTalk::new(alloc, other, help_of(&asked));
     talk_with(alloc, asked, &mut shelf, &mut prompted, rigs)
 }
