@@ -144,6 +144,16 @@ def told_cases(folder):
         text.write_text(text.read_text().partition("\n")[0][:number % 2 * 5])
     again = check(program, 2, work, logs, "--resume")
     yield "a run that was cut off goes on", runs() == before + 100 and counts(again.stdout) == TOLD, again.stdout + again.stderr
+    refused = next(text for text in sorted(work.glob("*.text")) if text.read_text().endswith("status 13\n"))
+    refused.write_text(refused.read_text().removesuffix("3\n"))
+    again = check(program, 2, work, logs, "--resume")
+    yield "a status that was cut off is none", runs() == before + 101 and counts(again.stdout) == TOLD, again.stdout + again.stderr
+    (logs / "last.json ").write_text("{}")
+    (logs / "last.log ").write_text("differ 5\n")
+    spaced = folder / "spaced"
+    spaced.write_text(f"{logs.name}/last.json \t{logs.name}/last.log \n")
+    listed = check(program, 2, folder / "spaced.work", "--list", spaced)
+    yield "a blank at the end of a name is kept", "differ turn 5: " in listed.stdout, listed.stdout + listed.stderr
     pairs, lines = folder / "pairs", folder / "lines"
     pairs.write_text("".join(f"{logs.name}/agree-{n}.json\t{logs.name}/agree-{n}.log\n" for n in range(150)))
     check(program, 2, work, "--list", pairs, "--job-file", lines)
