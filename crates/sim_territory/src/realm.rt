@@ -1,6 +1,6 @@
 //! A realm: who holds which ground after the states that it followed, and which of it is rooted.
 
-ghost use Rattle.std.specs.Prelude.{◌≡◌, ◌≤◌, [], IfOk, OnOk, OnErr};
+ghost use Rattle.std.specs.Prelude.{◌≡◌, ◌≤◌, [], IfOk, IsOk, OnOk, OnErr};
 ghost use Rattle.sim_territory.specs.{Common.IsSetup, Common.IsValid, Realms.holders_in, Realms.influences_in, Realms.realm_of, Rooted.AreRooted};
 
 use crate::flood::Flood;
@@ -48,11 +48,12 @@ impl<'a> Realm<'a> {
         })
     }
 
-    /// Follows the match to a state. Where there is no memory nothing changes.
+    /// Follows the match to a state. Where there is no memory nothing changes; none is wanted where the marks are those before.
     pub fn follow(&mut self, state: &State) -> Result<(), OutOfMemory>
         requires { IsValid self.old.setup state.now }
         ensures ok { OnOk result (self.new ≡ realm_of self.old.setup state.now) }
         ensures err { OnErr result (self.new ≡ self.old) }
+        ensures light { self.old ≡ realm_of self.old.setup state.now → IsOk result }
     {
         let shifts = self.trail.follow(state)?;
         self.influences.follow(self.setup, shifts.as_slice());

@@ -1,7 +1,7 @@
 //! The marks of the last state that was followed.
 
 ghost use Rattle.{sim_base.specs.Rows.id_of, sim_trail.specs.Shifts.shifts_between as shifts_from_to, std.specs.List.Sorted.IsStrictlyIncreasing};
-ghost use Rattle.std.specs.Prelude.{◌≡◌, [], map, IfOk, OnOk, OnErr, IsTrue, All};
+ghost use Rattle.std.specs.Prelude.{◌≡◌, [], map, IfOk, IsOk, OnOk, OnErr, IsTrue, All};
 ghost use Rattle.sim_trail.specs.Marks.{IsAscending, IsPlacedRow, mark_of as mark_of_row, marks_of as marks_of_state};
 
 use crate::mark::{Mark, mark_of};
@@ -40,7 +40,7 @@ impl Trail {
     }
 
     /// Takes the marks of a state, and answers how they differ from those before, ascending by id. The points of the rows
-    /// lie on the largest ground.
+    /// lie on the largest ground. Where the marks are those before, no memory is wanted.
     pub fn follow(&mut self, state: &State) -> Result<Shifts, OutOfMemory>
         requires ascending { IsStrictlyIncreasing (map id_of state.now.rows) }
         requires placed { All IsPlacedRow state.now.rows }
@@ -48,6 +48,7 @@ impl Trail {
         ensures marks { OnOk result (self.new ≡ marks_of_state state.now) }
         ensures ascending { IsAscending self.old }
         ensures unchanged { OnErr result (self.new ≡ self.old) }
+        ensures light { self.old ≡ marks_of_state state.now → IsOk result }
     {
         let rows = state.rows.as_slice();
         if are_marks_of(self.marks.as_slice(), rows) {
@@ -71,7 +72,8 @@ impl Trail {
 // Whether these are the marks of these rows. In most turns they are, and then no memory is taken.
 fn are_marks_of(marks: &[Mark], rows: &[Row]) -> bool
     requires { All IsPlacedRow rows.now }
-    ensures { IsTrue result → marks.now ≡ map mark_of_row rows.now }
+    ensures same { IsTrue result → marks.now ≡ map mark_of_row rows.now }
+    ensures others { marks.now ≡ map mark_of_row rows.now → IsTrue result }
 {
     if marks.len() != rows.len() {
         return false;

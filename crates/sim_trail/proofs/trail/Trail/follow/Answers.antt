@@ -7,7 +7,7 @@ use Rattle.sim_trail.proofs.trail.Trail.follow.Goals as goal
 pub returns-then-are_marks_of-clause-shifts : goal.returns-then-are_marks_of-clause-shifts
 returns-then-are_marks_of-clause-shifts c =
     let marks = marks_of c.args.state.now in
-    let same : c.args.self.now ≡ marks = sym c.self.view_is ∙ sym c.as_slice.ensures.value ∙ c.are_marks_of.ensures c.if-are_marks_of.true ∙
+    let same : c.args.self.now ≡ marks = sym c.self.view_is ∙ sym c.as_slice.ensures.value ∙ c.are_marks_of.ensures.same c.if-are_marks_of.true ∙
     ap (map mark_of) c.as_slice-rows.ensures in
     c.new.ensures ∙ sym (ap (λ (old : List Mark). shifts_between old marks) same ∙ no_shifts marks)
 
