@@ -1,6 +1,35 @@
 -- The first place at which two lists of digests differ.
-use Rattle.sim_replay.proofs.Common.{Apart, apart_from, arith, bytes_eq-Decides, first_apart, IsFirstApart, subst, ◌∙◌}
-use Rattle.sim_replay.proofs.Common.{◌≡◌, ℕ, zero, suc, ◌+◌, ◌<◌, Bool, true, false, cond, List, [], ◌∷◌, length, slice_get, Some, None, bytes_eq, refl, ap}
+use Rattle.std.specs.List.{find, range_with_len, zip}
+use Rattle.sim_replay.proofs.Common.{Apart, apart_of, arith, bytes_eq-Decides, first_apart, is_other, IsFirstApart, map, not, Option, subst, sym, take_all}
+use Rattle.sim_replay.proofs.Common.{◌∙◌}
+use Rattle.sim_replay.proofs.Common.{◌≡◌, ℕ, zero, suc, ◌+◌, ◌<◌, Bool, true, false, cond, List, [], ◌∷◌, length, take, slice_get, Some, None, bytes_eq, refl, ap}
+
+-- the first turn from this one on whose digests differ, found one by one
+abbrev pub apart_from : ℕ → List (List ℕ) → List (List ℕ) → Option Apart
+apart_from turn [] played = None
+apart_from turn (told ∷ others) [] = None
+apart_from turn (told ∷ others) (played ∷ more) =
+    cond (bytes_eq told played) (apart_from (turn + 1) others more) (Some (record { turn = turn; told = told; played = played }))
+
+from_turn : (turn : ℕ) (told played : List (List ℕ)) → apart_from turn told played
+    ≡ find is_other (map apart_of (zip (range_with_len turn (length told)) (zip told played)))
+from_turn turn [] played = refl
+from_turn turn (x ∷ xs) [] = refl
+from_turn turn (x ∷ xs) (y ∷ ys) = by (from_turn (turn + 1) xs ys) (bytes_eq x y)
+  where
+    here : Apart
+    here = record { turn = turn; told = x; played = y }
+
+    rest : Option Apart
+    rest = find is_other (map apart_of (zip (range_with_len (turn + 1) (length xs)) (zip xs ys)))
+
+    by : apart_from (turn + 1) xs ys ≡ rest → (same : Bool) → cond same (apart_from (turn + 1) xs ys) (Some here) ≡ cond (not same) (Some here) rest
+    by more true = more
+    by more false = refl
+
+-- found from the start on, it is the first of all
+pub from_start : (told played : List (List ℕ)) → apart_from 0 told played ≡ first_apart told played
+from_start told played = from_turn 0 told played
 
 -- so many places behind this turn two lists differ for the first time
 record Found (turn : ℕ) (told played : List (List ℕ)) (apart : Apart) : Type 0 where
@@ -60,7 +89,7 @@ found turn (x ∷ xs) (y ∷ ys) apart e = by (λ h. found (turn + 1) xs ys apar
 
 pub first_is : (told played : List (List ℕ)) (apart : Apart) → first_apart told played ≡ Some apart → IsFirstApart told played apart
 first_is told played apart e =
-    let f = found 0 told played apart e in
+    let f = found 0 told played apart (from_start told played ∙ e) in
     let at : apart.turn ≡ f.place = omega (arith, f.at) in
     record {
       within_told = omega (arith, at, f.in_told);
@@ -71,15 +100,25 @@ first_is told played apart e =
       before = λ earlier less. f.before earlier (omega (arith, at, less));
     }
 
-pub none_apart : (turn : ℕ) (told played : List (List ℕ)) → length told ≡ length played → apart_from turn told played ≡ None → told ≡ played
-none_apart turn [] [] long e = refl
-none_apart turn [] (y ∷ ys) long e = absurd (omega (arith, long))
-none_apart turn (x ∷ xs) [] long e = absurd (omega (arith, long))
-none_apart turn (x ∷ xs) (y ∷ ys) long e = by (λ h. none_apart (turn + 1) xs ys (omega (arith, long)) h) (bytes_eq x y) refl e
+none_from : (turn : ℕ) (told played : List (List ℕ)) → apart_from turn told played ≡ None → take (length played) told ≡ take (length told) played
+none_from turn [] [] e = refl
+none_from turn [] (y ∷ ys) e = refl
+none_from turn (x ∷ xs) [] e = refl
+none_from turn (x ∷ xs) (y ∷ ys) e = by (λ h. none_from (turn + 1) xs ys h) (bytes_eq x y) refl e
   where
-    by : (apart_from (turn + 1) xs ys ≡ None → xs ≡ ys) → (same : Bool) → bytes_eq x y ≡ same
-        → cond same (apart_from (turn + 1) xs ys) (Some (record { turn = turn; told = x; played = y })) ≡ None → (x ∷ xs) ≡ (y ∷ ys)
+    by : (apart_from (turn + 1) xs ys ≡ None → take (length ys) xs ≡ take (length xs) ys) → (same : Bool) → bytes_eq x y ≡ same
+        → cond same (apart_from (turn + 1) xs ys) (Some (record { turn = turn; told = x; played = y })) ≡ None
+        → (x ∷ take (length ys) xs) ≡ (y ∷ take (length xs) ys)
     by more true same h =
         let first = (bytes_eq-Decides x y).0 same in
         let rest = more h in cc
     by more false other h = absurd cc
+
+-- nowhere apart, they are the same as far as both go
+pub none_within : (told played : List (List ℕ)) → first_apart told played ≡ None → take (length played) told ≡ take (length told) played
+none_within told played e = none_from 0 told played (from_start told played ∙ e)
+
+-- and where they are as long, they are the same
+pub none_apart : (told played : List (List ℕ)) → length told ≡ length played → first_apart told played ≡ None → told ≡ played
+none_apart told played long e =
+    sym (take_all (length played) told (omega (arith, long))) ∙ none_within told played e ∙ take_all (length told) played (omega (arith, long))

@@ -1,7 +1,7 @@
 -- The words that the proofs here name again and again, passed on from one place. Declares nothing.
 pub use Rattle.{sim_bytes.specs.Reading.◌>>=◌, std.proofs.Math.Seq.drop-append-add, std.proofs.Math.Seq.drop-append_seam, std.proofs.Math.Seq.take-append_seam}
 pub use Rattle.{sim_sections.specs.Rows.IsPoint, sim_wire.specs.Fits.CommandFits, sim_wire.specs.Fits.IdsFit}
-pub use Rattle.std.proofs.Common.{refl, add-zero, ap, arith, eq-eqb, inl, inr, subst, sym, zero-add, ◌∙◌}
+pub use Rattle.std.proofs.Common.{refl, add-zero, ap, arith, eq-eqb, inl, inr, rules, subst, sym, zero-add, ◌∙◌}
 pub use Rattle.std.proofs.Common.{◌∷◌, ◌++◌, map, length, take, drop, replicate, ℤ, pos, negsuc, neg_ℤ, ◌==◌, slice_index, Some, None, Ok, Err, Option, Result}
 pub use Rattle.std.proofs.Common.{◌≡◌, ℕ, zero, suc, ◌+◌, ◌-◌, ◌*◌, ◌/◌, ◌%◌, ◌^◌, ◌<◌, ◌≤◌, Bool, true, false, cond, not, ◌&&◌, eqb, ltb, leb, ◌≢◌, List, []}
 pub use Rattle.std.proofs.lemmas.{Fmt.decimal_nonempty, Fmt.digits_decimal, Fmt.digits_value-decimal, Int.ints, List.Sums.sum_by-append}
@@ -20,12 +20,13 @@ pub use Rattle.sim_base.{proofs.NumberTextLemmas.are_numerals, proofs.PrintedNum
 pub use Rattle.sim_base.specs.NumberText.{five_digits, fraction_text, in_range, is_digit, magnitude_of, magnitude_text, number_of, text_of}
 pub use Rattle.sim_base.specs.declared.{command.Command.Command, command.PlayerCommand.PlayerCommand, place.Point.Point, setup.Setup.Setup}
 pub use Rattle.sim_base.specs.declared.command.Command.TheVariants.{Attack, Delete, Place, Resign, Stop, Train, Walk}
-pub use Rattle.sim_replay.specs.{Apart.apart_from, Apart.first_apart, Apart.IsFirstApart, Reading.text_in, Reading.with_digest, Reading.with_order}
-pub use Rattle.sim_replay.specs.{Commands.behind_two, Commands.command_of, Logs.turn_lines, Logs.whole_lines}
+pub use Rattle.sim_replay.specs.{Apart.apart_of, Apart.first_apart, Apart.is_other, Apart.IsFirstApart, Reading.text_in}
+pub use Rattle.sim_replay.specs.{Commands.behind_two, Commands.command_of, Logs.turn_lines, Logs.whole_lines, Reading.with_digest, Reading.with_order}
 pub use Rattle.sim_replay.specs.{Lines.digest_front, Lines.digest_line, Lines.header_line, Lines.order_front, Lines.order_line, Meets.Meets}
+pub use Rattle.sim_replay.specs.Logs.{AreGiven, FitsIfFew, IsGiven, IsOfTurns}
 pub use Rattle.sim_replay.specs.Logs.{AreOrders, BeginsLog, ended, is_by, IsDigest, IsLog, IsOrder, IsRefusedAt, lines_from, log_lines, parts_of, text_of_log}
 pub use Rattle.sim_replay.specs.Reading.{digest_of, ids_in, log_in, log_of, next_or_refused, nothing, or_refused, spelled, taken_by, taken_order, taken_other}
-pub use Rattle.sim_replay.specs.Words.{behind, below, first_word, natural_below, naturals_behind, other_words, word_text}
+pub use Rattle.sim_replay.specs.Words.{behind, below, first_word, natural_below, naturals_of, other_words, word_text}
 pub use Rattle.sim_replay.specs.declared.{apart.Apart.Apart, fault.LogFault.LogFault, fault.LogFault.TheVariants.Refused, log.Log.Log, reading.Reading.Reading}
 pub use Rattle.sim_report.specs.{Downs.command_text, Downs.ids_text, Downs.next_id, Show.point_text}
 unfoldable pub use Rattle.{hex.specs.Hex.encode_with, sim_replay.specs.Words.ids_of, sim_replay.specs.Words.natural_of}

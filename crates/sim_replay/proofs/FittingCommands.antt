@@ -1,7 +1,7 @@
 -- Numbers that are read fit, and so do commands with few ids.
 use Rattle.sim_replay.proofs.Common.{FitsSigned, Some, None, codes, bytes_eq, Option, option_map, option_and_then, AllByRecursion, and_parts, ap, arith, Attack}
 use Rattle.sim_replay.proofs.Common.{attack_of, behind_two, below, Command, command_by, command_of, CommandFits, Delete, digits_value, first_word, ids_in}
-use Rattle.sim_replay.proofs.Common.{ids_of, in_range, ints, is_raw, IsPoint, leb-true, ltb-true, magnitude_of, natural_below, natural_of, naturals_behind}
+use Rattle.sim_replay.proofs.Common.{ids_of, in_range, ints, is_raw, IsPoint, leb-true, ltb-true, magnitude_of, natural_below, natural_of, naturals_of}
 use Rattle.sim_replay.proofs.Common.{number_of, order_of, other_words, Place, place_of, PlayerCommand, Point, point_of, Resign, slice_split, starts_with, Stop}
 use Rattle.sim_replay.proofs.Common.{subst, Train, train_of, w32, Walk, walk_of}
 use Rattle.sim_replay.proofs.Common.{◌≡◌, ℕ, ◌^◌, ◌<◌, ◌≤◌, Bool, true, false, cond, ltb, leb, List, [], ◌∷◌, ◌++◌, drop, ℤ, pos, negsuc, neg_ℤ, nat_eq, ◌==◌}
@@ -22,26 +22,20 @@ natural_of-fits text n e = below-fits (2 ^ 32) (digits_value 10 text) n ((passed
 short-fits : (limit : ℕ) (text : List ℕ) (n : ℕ) → natural_below limit text ≡ Some n → n < limit
 short-fits limit text n e = let b = bound (natural_of text) (below limit) n e in below-fits limit b.x n b.second
 
-fit-push : (found : List ℕ) (id : ℕ) → AllByRecursion (λ id. id < 2 ^ 32) found → id < 2 ^ 32 → AllByRecursion (λ id. id < 2 ^ 32) (found ++ id ∷ [])
-fit-push [] id fit small = (small, tt)
-fit-push (n ∷ ns) id fit small = (fit.0, fit-push ns id fit.1 small)
-
-naturals-fit : (found : List ℕ) (words : List (List ℕ)) (ids : List ℕ) → AllByRecursion (λ id. id < 2 ^ 32) found → naturals_behind found words ≡ Some ids
-    → AllByRecursion (λ id. id < 2 ^ 32) ids
-naturals-fit found [] ids fit e =
-    let same : found ≡ ids = cc in
-    subst (λ (ns : List ℕ). AllByRecursion (λ id. id < 2 ^ 32) ns) same fit
-naturals-fit found (word ∷ words) ids fit e =
-    let b = bound (natural_of word) (λ n. naturals_behind (found ++ n ∷ []) words) ids e in
-    naturals-fit (found ++ b.x ∷ []) words ids (fit-push found b.x fit (natural_of-fits word b.x b.first)) b.second
+naturals-fit : (words : List (List ℕ)) (ids : List ℕ) → naturals_of words ≡ Some ids → AllByRecursion (λ id. id < 2 ^ 32) ids
+naturals-fit [] ids e = let same : [] ≡ ids = cc in subst (λ (ns : List ℕ). AllByRecursion (λ id. id < 2 ^ 32) ns) same tt
+naturals-fit (word ∷ words) ids e =
+    let b = bound (natural_of word) (λ n. option_map (λ ns. n ∷ ns) (naturals_of words)) ids e in
+    let m = mapped (naturals_of words) (λ ns. b.x ∷ ns) ids b.second in
+    subst (λ (ns : List ℕ). AllByRecursion (λ id. id < 2 ^ 32) ns) m.second (natural_of-fits word b.x b.first, naturals-fit words m.x m.first)
 
 ids_of-fit : (text ids : List ℕ) → ids_of text ≡ Some ids → AllByRecursion (λ id. id < 2 ^ 32) ids
 unfolding ids_of
 ids_of-fit text ids e = by (bytes_eq text (codes "-")) e
   where
-    by : (b : Bool) → cond b (Some []) (naturals_behind [] (slice_split (λ b. b == 44) text)) ≡ Some ids → AllByRecursion (λ id. id < 2 ^ 32) ids
+    by : (b : Bool) → cond b (Some []) (naturals_of (slice_split (λ b. b == 44) text)) ≡ Some ids → AllByRecursion (λ id. id < 2 ^ 32) ids
     by true h = let same : [] ≡ ids = cc in subst (λ (ns : List ℕ). AllByRecursion (λ id. id < 2 ^ 32) ns) same tt
-    by false h = naturals-fit [] (slice_split (λ b. b == 44) text) ids tt h
+    by false h = naturals-fit (slice_split (λ b. b == 44) text) ids h
 
 in_range-fits : (z y : ℤ) → in_range z ≡ Some y → FitsSigned w32 y
 in_range-fits z y e =

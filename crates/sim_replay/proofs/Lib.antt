@@ -1,6 +1,7 @@
 pub mod Common
 pub mod Options
 pub mod Cuts
+pub mod Naturals
 pub mod PrintedWords
 pub mod PrintedCommands
 pub mod FittingCommands
@@ -9,5 +10,7 @@ pub mod Taking
 pub mod Ending
 pub mod Whole
 pub mod Aparts
+pub mod Examples
 pub mod Pushed
 pub mod Parts
+pub mod Given

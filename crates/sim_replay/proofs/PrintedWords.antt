@@ -3,7 +3,8 @@ use Rattle.sim_replay.proofs.{Common.text_of, Common.w32, Common.◌∙◌, Opti
 use Rattle.sim_replay.proofs.Common.{and_left, and_parts, ap, append-nil, append_assoc, are_numerals, arith, below, cond-false, cond-true, decimal_nonempty}
 use Rattle.sim_replay.proofs.Common.{digits_decimal, digits_value, digits_value-decimal, div_ceil, five_digits, fraction_text, ids_of, ids_text, ints, is_digit}
 use Rattle.sim_replay.proofs.Common.{drop, ℤ, pos, negsuc, ◌==◌, int_lt, FitsSigned, Some, codes, bytes_eq, decimal, flat_map, refl, AllByRecursion, and_from}
-use Rattle.sim_replay.proofs.Common.{is_name_byte, leb-true, list_all, lt-ltb, magnitude_text, natural_of, naturals_behind, ne_eqb, next_id, slice_split, sym}
+use Rattle.sim_replay.proofs.Common.{is_name_byte, leb-true, list_all, lt-ltb, magnitude_text, natural_of, naturals_of, ne_eqb, next_id, option_map}
+use Rattle.sim_replay.proofs.Common.{slice_split, sym}
 use Rattle.sim_replay.proofs.Common.{◌≡◌, ℕ, suc, ◌*◌, ◌/◌, ◌%◌, ◌^◌, ◌<◌, ◌≤◌, Bool, true, false, cond, eqb, ltb, leb, List, [], ◌∷◌, ◌++◌, map, length}
 use Rattle.sim_replay.proofs.Cuts.{all-append, all-drop, all-weaker, digit_is_name, digit_is_no_comma, split_first, split_whole}
 
@@ -72,11 +73,10 @@ split-ids id (next ∷ ids) fit =
     split_first (λ b. b == 44) is_digit digit_is_no_comma (decimal id) 44 (decimal next ++ flat_map next_id ids) (digits-decimal id (omega (arith, fit.0))) refl
     ∙ ap (λ (words : List (List ℕ)). decimal id ∷ words) (split-ids next ids fit.1)
 
-naturals-decimals : (found ids : List ℕ) → AllByRecursion (λ id. id < 2 ^ 32) ids → naturals_behind found (map decimal ids) ≡ Some (found ++ ids)
-naturals-decimals found [] fit = ap Some (sym (append-nil found))
-naturals-decimals found (id ∷ ids) fit =
-    bind_some (natural_of (decimal id)) id _ _ (natural_of-decimal id fit.0) (naturals-decimals (found ++ id ∷ []) ids fit.1 ∙
-    ap Some (append_assoc found (id ∷ []) ids))
+naturals-decimals : (ids : List ℕ) → AllByRecursion (λ id. id < 2 ^ 32) ids → naturals_of (map decimal ids) ≡ Some ids
+naturals-decimals [] fit = refl
+naturals-decimals (id ∷ ids) fit =
+    bind_some (natural_of (decimal id)) id _ _ (natural_of-decimal id fit.0) (ap (option_map (λ (ns : List ℕ). id ∷ ns)) (naturals-decimals ids fit.1))
 
 -- digits are no dash
 not_dash : (ds rest : List ℕ) → 1 ≤ length ds → list_all is_digit ds ≡ true → bytes_eq (ds ++ rest) (codes "-") ≡ false
@@ -92,4 +92,4 @@ ids_of-ids_text (id ∷ ids) fit =
     let small : id < 2 ^ 64 = omega (arith, fit.0) in
     let digits : bytes_eq (decimal id ++ flat_map next_id ids) (codes "-") ≡ false = not_dash (decimal id) (flat_map next_id ids) (decimal_nonempty id small)
     (digits-decimal id small) in
-    cond-false _ _ _ digits ∙ ap (naturals_behind []) (split-ids id ids fit) ∙ naturals-decimals [] (id ∷ ids) fit
+    cond-false _ _ _ digits ∙ ap naturals_of (split-ids id ids fit) ∙ naturals-decimals (id ∷ ids) fit

@@ -1,17 +1,22 @@
 -- The first place at which two lists of digests differ.
-use Rattle.{sim_replay.specs.declared.apart.Apart.Apart, std.specs.Str.bytes_eq}
-use Rattle.std.specs.Prelude.{◌≡◌, ℕ, ◌+◌, ◌<◌, ◌≢◌, List, [], ◌∷◌, length, if◌then◌else◌, slice_get, Some, None, Option}
+use Rattle.{sim_replay.specs.declared.apart.Apart.Apart, std.specs.List.range_with_len, std.specs.List.zip, std.specs.Str.bytes_eq}
+use Rattle.std.specs.Prelude.{◌≡◌, ℕ, ◌<◌, Bool, ◌≢◌, not, List, map, length, slice_get, Some, find, Option}
 
--- the first turn from this one on whose digests differ
-abbrev pub apart_from : ℕ → List (List ℕ) → List (List ℕ) → Option Apart
-apart_from turn [] played = None
-apart_from turn (told ∷ others) [] = None
-apart_from turn (told ∷ others) (played ∷ more) =
-    if bytes_eq told played then apart_from (turn + 1) others more else Some (record { turn = turn; told = told; played = played })
+-- a turn beside what two lists have at it
+abbrev pub apart_of : ℕ × (List ℕ × List ℕ) → Apart
+apart_of entry = record { turn = entry.0; told = entry.1.0; played = entry.1.1 }
 
--- the first of all turns whose digests differ
+-- the turns from 0 on that two lists both have, each with what they have at it
+abbrev pub at_each_turn : List (List ℕ) → List (List ℕ) → List Apart
+at_each_turn told played = map apart_of (zip (range_with_len 0 (length told)) (zip told played))
+
+-- the two digests of a turn differ
+abbrev pub is_other : Apart → Bool
+is_other apart = not (bytes_eq apart.told apart.played)
+
+-- the first of the turns at which they do
 abbrev pub first_apart : List (List ℕ) → List (List ℕ) → Option Apart
-first_apart told played = apart_from 0 told played
+first_apart told played = find is_other (at_each_turn told played)
 
 -- two lists have these digests at a turn, which differ, and the same ones at all turns before
 pub record IsFirstApart (told played : List (List ℕ)) (apart : Apart) : Type 0 where

@@ -1,7 +1,7 @@
 -- Logs of a match: which logs it has, their lines and their text, and at which line bytes that are none are refused.
 use Rattle.{hex.specs.Hex.IsBytes, sim_wire.specs.Fits.CommandFits, std.specs.List.slice_split}
 use Rattle.std.specs.Prelude.{◌≡◌, ℕ, ◌+◌, ◌-◌, ◌<◌, ◌≤◌, Bool, ◌≢◌, List, [], ◌∷◌, ◌++◌, map, length, take, ◌==◌, All, count_by, flat_map}
-use Rattle.sim_base.specs.{Limits.IsFrom, declared.command.PlayerCommand.PlayerCommand, declared.setup.Setup.Setup}
+use Rattle.sim_base.specs.{Limits.HasFewIds, Limits.IsFrom, declared.command.PlayerCommand.PlayerCommand, declared.setup.Setup.Setup}
 use Rattle.sim_replay.specs.{Lines.digest_line, Lines.header_line, Lines.order_line, declared.log.Log.Log}
 
 -- a command is this player's
@@ -29,6 +29,20 @@ pub record IsLog (setup : Setup) (log : Log) : Type 0 where
   pub one_more : length log.digests ≡ length log.turns + 1
   pub turns : All (AreOrders setup) log.turns
   pub digests : All IsDigest log.digests
+
+-- a command is of a player of the match, and has few ids
+pub record IsGiven (setup : Setup) (order : PlayerCommand) : Type 0 where
+  pub player : IsFrom 1 setup.players order.player
+  pub ids : HasFewIds order.command
+
+-- the commands that a turn may be given: at most 64 of each player
+pub record AreGiven (setup : Setup) (orders : List PlayerCommand) : Type 0 where
+  pub each : All (IsGiven setup) orders
+  pub few : (player : ℕ) → count_by (is_by player) orders ≤ 64
+
+-- with few ids a command fits: its numbers do
+pub record FitsIfFew (order : PlayerCommand) : Type 0 where
+  pub fits : HasFewIds order.command → CommandFits order.command
 
 -- a log has at most the match's turns, and a digest more than turns
 pub record IsOfTurns (setup : Setup) (log : Log) : Type 0 where

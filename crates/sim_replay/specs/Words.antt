@@ -1,6 +1,6 @@
 -- Texts cut into words, and the numbers that words spell. A number may be spelled in more than one way here.
 use Rattle.std.specs.{Borrow.Bor, List.after_first, List.before_first, List.list_all, List.slice_split, Str.bytes_eq, Str.Parse.digits_value}
-use Rattle.std.specs.Prelude.{ℕ, ◌^◌, ◌&&◌, List, [], ◌∷◌, ◌++◌, length, take, drop, if◌then◌else◌, nat_lt, ◌==◌, Some, None, codes, Option}
+use Rattle.std.specs.Prelude.{ℕ, ◌^◌, ◌&&◌, List, [], ◌∷◌, length, take, drop, if◌then◌else◌, nat_lt, ◌==◌, Some, None, codes, Option, option_map}
 use Rattle.sim_base.specs.NumberText.{is_digit}
 use Rattle.sim_bytes.specs.Reading.{◌>>=◌}
 
@@ -32,11 +32,11 @@ natural_below limit text = natural_of text >>= below limit
 abbrev pub word_text : Bor (List ℕ) → List ℕ
 word_text word = word.now
 
--- the numbers that words spell, behind those found so far
-abbrev pub naturals_behind : List ℕ → List (List ℕ) → Option (List ℕ)
-naturals_behind found [] = Some found
-naturals_behind found (word ∷ words) = natural_of word >>= λ n. naturals_behind (found ++ n ∷ []) words
+-- the numbers that words spell, where each of them spells one
+abbrev pub naturals_of : List (List ℕ) → Option (List ℕ)
+naturals_of [] = Some []
+naturals_of (word ∷ words) = natural_of word >>= λ n. option_map (λ ns. n ∷ ns) (naturals_of words)
 
 -- the ids of a text, which a comma separates; a dash is none
 unfoldable pub ids_of : List ℕ → Option (List ℕ)
-ids_of text = if bytes_eq text (codes "-") then Some [] else naturals_behind [] (slice_split (λ b. b == 44) text)
+ids_of text = if bytes_eq text (codes "-") then Some [] else naturals_of (slice_split (λ b. b == 44) text)

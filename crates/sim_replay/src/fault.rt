@@ -24,7 +24,8 @@ impl From<OutOfMemory> for LogFault {
     }
 }
 
-/// The refusal of a line. One past 32 bits, which no log reaches, is want of memory.
+/// The refusal of a line. One past 32 bits is want of memory: bytes that are fewer than that, as those of every file that is
+/// read, have none.
 pub fn refused(line: usize) -> LogFault
     ensures tells { Tells result line }
     ensures told { line < 2 ^ 32 → result ≢ LogFault.OutOfMemory }

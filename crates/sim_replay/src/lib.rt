@@ -7,6 +7,7 @@
 //!
 //! - `log`: what a log is.
 //! - `fault`: how bytes are refused.
+//! - `fits`: that a log in memory is one of the match, where the commands of its turns are within the limits.
 //! - `apart`: the first turn at which two lists of digests differ.
 //! - `lines`: the lines of a log, printed.
 //! - `push`: a whole log, printed.
@@ -20,6 +21,7 @@
 mod apart;
 mod commands;
 mod fault;
+mod fits;
 mod lines;
 mod log;
 mod push;
@@ -32,6 +34,7 @@ mod words;
 
 pub use apart::{Apart, first_apart};
 pub use fault::LogFault;
+pub use fits::log_fits;
 pub use log::{Digests, Log, Orders, Turns};
 pub use push::push_log;
 pub use read::log_of;

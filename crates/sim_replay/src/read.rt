@@ -17,6 +17,7 @@ pub fn log_of(alloc: Global, setup: &Setup, bytes: &[u8]) -> Result<Log, LogFaul
     ensures ok { IfOk result (λ log. IsLog setup.now log × (bytes.now ≡ text_of_log setup.now log)) }
     ensures itself { (log : Log) → IsLog setup.now log → bytes.now ≡ text_of_log setup.now log → IfOk result (λ read. read ≡ log) }
     ensures refused { (line : ℕ) → result ≡ Err (LogFault.Refused line) → IsRefusedAt setup.now bytes.now line }
+    ensures early { parts_of bytes.now ≡ bytes.now ∷ [] → result ≡ Err (LogFault.Refused 1) }
 {
     numbers_fit(setup);
     read_log(alloc, setup, bytes)
@@ -31,7 +32,8 @@ fn numbers_fit(setup: &Setup)
 }
 
 fn read_log(alloc: Global, setup: &Setup, bytes: &[u8]) -> Result<Log, LogFault>
-    ensures { Meets result (log_of_bytes setup.now bytes.now) }
+    ensures meets { Meets result (log_of_bytes setup.now bytes.now) }
+    ensures early { parts_of bytes.now ≡ bytes.now ∷ [] → result ≡ Err (LogFault.Refused 1) }
 {
     let Some((line, rest)) = first_line(bytes) else {
         return Err(LogFault::Refused { line: 1 });

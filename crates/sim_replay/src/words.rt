@@ -2,7 +2,7 @@
 
 ghost use Rattle.std.specs.{List.list_all, List.slice_split, Prelude.◌≡◌, Prelude.[], Prelude.map, Prelude.IfOk, Prelude.◌==◌, Prelude.option_map};
 ghost use Rattle.sim_base.specs.NumberText.{is_digit};
-ghost use Rattle.sim_replay.specs.Words.{behind as behind_front, first_word, ids_of as ids_of_text, natural_of, naturals_behind, other_words, word_text};
+ghost use Rattle.sim_replay.specs.Words.{behind as behind_front, first_word, ids_of as ids_of_text, natural_of, naturals_of, other_words, word_text};
 
 use sim_base::{Ids, Items, OutOfMemory};
 use std::alloc::{AllocError, Global};
@@ -64,7 +64,7 @@ fn words_of(alloc: Global, text: &str) -> Result<Vec<&str>, AllocError>
 
 // The number that each word spells.
 fn naturals(alloc: Global, words: &[&str]) -> Result<Option<Ids>, OutOfMemory>
-    ensures { IfOk result (λ found. found ≡ naturals_behind [] (map word_text words.now)) }
+    ensures { IfOk result (λ found. found ≡ naturals_of (map word_text words.now)) }
 {
     let mut found = Vec::new(alloc);
     let mut rest = words;

@@ -49,7 +49,7 @@ module _ (setup : Setup) (log : Log) (is_log : IsLog setup log) where
       → wanted.status ≡ status → IsDone wanted before now → Agrees setup log status before now ⊎ Disagrees setup log status before now
   checked_so wanted status before now None none is same done =
       let all = subst (λ (o : Outcome). IsDone o before now) is done in
-      inl (record { status_is = sym same ∙ ap (λ (o : Outcome). o.status) is; right = right (none_apart 0 _ _ same_length none); text = all.text })
+      inl (record { status_is = sym same ∙ ap (λ (o : Outcome). o.status) is; right = right (none_apart _ _ same_length none); text = all.text })
   checked_so wanted status before now (Some apart) some is same done =
       let all = subst (λ (o : Outcome). IsDone o before now) is done in
       let first = first_is log.digests (digests_after setup log.turns) apart some in

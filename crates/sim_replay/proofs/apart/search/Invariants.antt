@@ -1,5 +1,6 @@
 -- What is left differs first where the whole lists do.
-use Rattle.sim_replay.proofs.Common.{◌≡◌, ◌+◌, length, apart_from, first_apart}
+use Rattle.sim_replay.proofs.Common.{◌≡◌, ◌+◌, length, first_apart}
+use Rattle.sim_replay.proofs.Aparts.{apart_from}
 use Rattle.sim_replay.proofs.apart.search.Given as goal
 
 abbrev pub invariant-loop-rest : goal.invariant-loop-rest

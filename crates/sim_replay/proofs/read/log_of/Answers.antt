@@ -25,12 +25,12 @@ refused_said setup bytes r is meets line e =
 
 pub returns-clause-ok : goal.returns-clause-ok
 returns-clause-ok c = ok_said c.args.setup.now c.args.bytes.now c.read_log.result
-    (record { players = c.numbers_fit.ensures.players; turns = c.numbers_fit.ensures.turns }) c.read_log.ensures
+    (record { players = c.numbers_fit.ensures.players; turns = c.numbers_fit.ensures.turns }) c.read_log.ensures.meets
 
 pub returns-clause-itself : goal.returns-clause-itself
 returns-clause-itself c = itself_said c.args.setup.now c.args.bytes.now c.read_log.result
-    (record { players = c.numbers_fit.ensures.players; turns = c.numbers_fit.ensures.turns }) c.read_log.ensures
+    (record { players = c.numbers_fit.ensures.players; turns = c.numbers_fit.ensures.turns }) c.read_log.ensures.meets
 
 pub returns-clause-refused : goal.returns-clause-refused
 returns-clause-refused c = refused_said c.args.setup.now c.args.bytes.now c.read_log.result
-    (record { players = c.numbers_fit.ensures.players; turns = c.numbers_fit.ensures.turns }) c.read_log.ensures
+    (record { players = c.numbers_fit.ensures.players; turns = c.numbers_fit.ensures.turns }) c.read_log.ensures.meets

@@ -1,9 +1,10 @@
 -- The words that are left are read as all of them are.
-use Rattle.sim_replay.proofs.Common.{◌≡◌, [], map, length, naturals_behind, word_text}
+use Rattle.sim_replay.proofs.Common.{◌≡◌, map, length, naturals_of, word_text}
+use Rattle.sim_replay.proofs.Naturals.{naturals_behind}
 use Rattle.sim_replay.proofs.words.naturals.Given as goal
 
 abbrev pub invariant-loop-rest : goal.invariant-loop-rest
-invariant-loop-rest l = naturals_behind l.found.items (map word_text l.rest) ≡ naturals_behind [] (map word_text l.words)
+invariant-loop-rest l = naturals_behind l.found.items (map word_text l.rest) ≡ naturals_of (map word_text l.words)
 
 abbrev pub decreases-loop-rest : goal.decreases-loop-rest
 decreases-loop-rest l = length l.rest
