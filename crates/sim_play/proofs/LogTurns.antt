@@ -1,4 +1,10 @@
 -- One turn of a log more, and the match's own turns as those of a log.
+use Rattle.sim_base.specs.Limits.{is_given, IsTimed}
+use Rattle.sim_replay.specs.Logs.{AreGiven, is_by, IsGiven}
+use Rattle.std.proofs.Common.{Bool, true, false, cond, ◌==◌}
+use Rattle.std.proofs.lemmas.List.Elements.{All-head, All-tail}
+use Rattle.std.specs.Prelude.{◌&&◌, count_by, filter}
+use Rattle.sim_play.proofs.Common.{Timed}
 use Rattle.{sim_play.proofs.PaidOnes.own_orders, std.proofs.lemmas.List.length-take-le}
 use Rattle.sim_play.proofs.Common.{take_more, Turn, turn, turns_in, ◌∙◌}
 use Rattle.sim_play.proofs.Common.{after, after_counts_turns, All-cons, All-nil, ap, arith, Bend, digest, digests_after, IsOfTurns, IsOrderOf, IsSetup}
@@ -108,3 +114,44 @@ log_of_turns setup turns log few is =
 -- so has that of the match's own turns
 pub log_of_match : (setup : Setup) (log : Log) → log ≡ log_after setup (match_turns setup) → IsOfTurns setup log
 log_of_match setup log is = log_of_turns setup (match_turns setup) log (omega (arith, match_length setup)) is
+
+-- ---- what the match's own turns are given
+
+module _ (setup : Setup) (limits : IsSetup setup) where
+  given_each : (t : ℕ) (timeds : List Timed) → All (IsTimed setup) timeds → All (IsGiven setup) (orders_at t timeds)
+  given_each t [] are = All-nil (IsGiven setup)
+  given_each t (timed ∷ timeds) are = by (given_each t timeds (All-tail (IsTimed setup) timed timeds are)) (timed.turn == t)
+    where
+      one : IsTimed setup timed
+      one = All-head (IsTimed setup) timed timeds are
+
+      by : All (IsGiven setup) (orders_at t timeds) → (b : Bool) → All (IsGiven setup) (map (λ (x : Timed). x.order)
+          (cond b (timed ∷ filter (λ (x : Timed). x.turn == t) timeds) (filter (λ (x : Timed). x.turn == t) timeds)))
+      by rest true = All-cons (IsGiven setup) timed.order (orders_at t timeds) (record { player = one.player; ids = one.ids }) rest
+      by rest false = rest
+
+  counted : (t player : ℕ) (timeds : List Timed) → count_by (is_by player) (orders_at t timeds) ≡ count_by (is_given t player) timeds
+  counted t player [] = refl
+  counted t player (timed ∷ timeds) = by (counted t player timeds) (timed.turn == t)
+    where
+      by : count_by (is_by player) (orders_at t timeds) ≡ count_by (is_given t player) timeds → (b : Bool)
+          → count_by (is_by player) (map (λ (x : Timed). x.order)
+              (cond b (timed ∷ filter (λ (x : Timed). x.turn == t) timeds) (filter (λ (x : Timed). x.turn == t) timeds)))
+          ≡ cond (b && (timed.order.player == player)) 1 0 + count_by (is_given t player) timeds
+      by rest true = ap (λ (n : ℕ). cond (timed.order.player == player) 1 0 + n) rest
+      by rest false = omega (arith, rest)
+
+  turn_given : (t : ℕ) → AreGiven setup (orders_at t setup.commands)
+  turn_given t = record {
+    each = given_each t setup.commands limits.commands;
+    few = λ player. omega (arith, counted t player setup.commands, limits.not_crowded t player);
+  }
+
+  -- each of them is within the limits of a log
+  pub match_given : All (AreGiven setup) (match_turns setup)
+  match_given = by 1 setup.turns
+    where
+      by : (first n : ℕ) → All (AreGiven setup) (map (λ t. orders_at t setup.commands) (range_with_len first n))
+      by first zero = All-nil (AreGiven setup)
+      by first (suc n) = All-cons (AreGiven setup) (orders_at first setup.commands) (map (λ t. orders_at t setup.commands) (range_with_len (first + 1) n))
+          (turn_given first) (by (first + 1) n)

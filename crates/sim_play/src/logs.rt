@@ -1,5 +1,6 @@
 //! A match that is played by the commands of a log, with the digest of the state after each turn.
 
+ghost use Rattle.{sim_replay.specs.Logs.AreGiven, sim_replay.specs.Logs.IsLog};
 ghost use Rattle.std.specs.Prelude.{◌≡◌, ◌≤◌, length, IfOk, OnOk, All};
 ghost use Rattle.sim_play.specs.{Common.systems, Common.systems_of, Films.last_state};
 ghost use Rattle.sim_play.specs.Common.{AreBuiltOnceAtMost, AreFed, AreKept, first_state, HaveKinds, IsOrderOf, IsSetup, IsValid, IsWhole, setup_in, state_in};
@@ -10,7 +11,7 @@ use sim_base::{OutOfMemory, Setup};
 use sim_board::Board;
 use sim_codec::digest;
 use sim_orders::OrderTable;
-use sim_replay::{Digests, Log, Orders, Turns};
+use sim_replay::{Digests, Log, Orders, Turns, log_fits};
 use sim_system::{Rig, System};
 use sim_turn::turn;
 use std::alloc::Global;
@@ -89,8 +90,8 @@ pub fn digests_after(
     (played, rig)
 }
 
-/// The log of these turns of a match, which are not more than it has. The rig comes back; where there was memory, it stands for
-/// the last state.
+/// The log of these turns of a match, which are not more than it has: one that is read back, where their commands are such as a
+/// turn may be given. The rig comes back; where there was memory, it stands for the last state.
 pub fn log_after(
     alloc: Global,
     setup: &Setup,
@@ -103,18 +104,23 @@ pub fn log_after(
     requires players { All (All (IsOrderOf setup.now)) turns }
     requires kinds { HaveKinds (systems_of rig ⟦<dyn System as System>⟧) }
     ensures log { IfOk result.0 (λ log. log ≡ log_of_turns setup.now turns) }
+    ensures is_log { All (AreGiven setup.now) turns → IfOk result.0 (IsLog setup.now) }
     ensures fed { OnOk result.0 (AreFed setup.now (state_after setup.now turns) (systems_of result.1 ⟦<dyn System as System>⟧)) }
     ensures kinds { HaveKinds (systems_of result.1 ⟦<dyn System as System>⟧) }
     ensures most { AreBuiltOnceAtMost (systems_of rig ⟦<dyn System as System>⟧) (systems_of result.1 ⟦<dyn System as System>⟧) }
 {
     let (digests, rig) = digests_after(alloc, setup, turns.as_slice(), rig, orders);
     match digests {
-        Ok(digests) => (Ok(Log { turns, digests }), rig),
+        Ok(digests) => {
+            let log = Log { turns, digests };
+            log_fits(setup, &log);
+            (Ok(log), rig)
+        }
         Err(error) => (Err(error), rig),
     }
 }
 
-/// The log of all the match's own turns. The rig comes back; where there was memory, it stands for the last state.
+/// The log of all the match's own turns, which is read back as it is. The rig comes back; where there was memory, it stands for the last state.
 pub fn match_log(
     alloc: Global,
     setup: &Setup,
@@ -124,6 +130,7 @@ pub fn match_log(
     requires limits { IsSetup setup.now }
     requires kinds { HaveKinds (systems_of rig ⟦<dyn System as System>⟧) }
     ensures log { IfOk result.0 (λ log. log ≡ log_of_turns setup.now (turns_of_match setup.now)) }
+    ensures is_log { IfOk result.0 (IsLog setup.now) }
     ensures fed { OnOk result.0 (AreFed setup.now (last_state setup.now) (systems_of result.1 ⟦<dyn System as System>⟧)) }
     ensures kinds { HaveKinds (systems_of result.1 ⟦<dyn System as System>⟧) }
     ensures most { AreBuiltOnceAtMost (systems_of rig ⟦<dyn System as System>⟧) (systems_of result.1 ⟦<dyn System as System>⟧) }

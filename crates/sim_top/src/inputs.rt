@@ -3,7 +3,8 @@
 
 ghost use Rattle.{sim_codec.specs.Loading.head_fault, sim_lists.specs.Schedules.IsSchedule};
 ghost use Rattle.{sim_top.specs.Commands.IsReading, sim_top.specs.Commands.shelved, sim_top.specs.Common.steps_of as steps_of_bytes, std.specs.Str.is_utf8};
-ghost use Rattle.std.specs.Prelude.{◌≡◌, false, List, IfSome, IsErrAnd, IfOk, IfErr, Some, None, Ok, Err};
+ghost use Rattle.{sim_replay.specs.Logs.parts_of, sim_vision.specs.declared.fault.SightFault.TheVariants as faults};
+ghost use Rattle.std.specs.Prelude.{◌≡◌, false, List, [], ◌∷◌, IfSome, IsErrAnd, IfOk, IfErr, Some, None, Ok, Err};
 ghost use Rattle.sim_top.specs.{Outcome.trial_match as match_of_trial, Stops.Reads, Stops.ReadsBytes, Stops.ReadsCounting, Stops.ReadsLog, Stops.ReadsState};
 ghost use Rattle.sim_top.specs.Common.{economy_of as economy_of_bytes, File, file_in, IsEconomy, IsLog, IsSetup, IsStepList, IsTrial, IsValid, refusal_of};
 ghost use Rattle.sim_top.specs.Common.{schedule_of as schedule_of_bytes, session_setup_of as session_setup_of_bytes, setup_of as setup_of_bytes};
@@ -150,6 +151,8 @@ fn sight_of<'a, 'w>(
     requires valid { IsValid setup.now state.now }
     ensures joins { Joins result setup.now state.now (map_by (refusal_of setup.now state.now.rows bytes.now) bytes.now) }
     ensures same { IfOk result (λ sight. sight.setup ≡ setup.now) }
+    ensures length { refusal_of setup.now state.now.rows bytes.now ≡ Some faults.Length → result ≡ Err (Stop.SightRefused 1) }
+    ensures not_bit { refusal_of setup.now state.now.rows bytes.now ≡ Some faults.NotBit → result ≡ Err (Stop.SightRefused 2) }
     ensures stops { IfErr result IsOfMap }
     ensures content { IfErr result IsOfContent }
 {
@@ -207,6 +210,7 @@ pub fn read_economy<'w, S: Shelf>(
 fn log_from<'w>(alloc: Global, setup: &Setup, bytes: &[u8]) -> Result<Log, Stop<'w>>
     ensures tells { ReadsLog result setup.now (Ok bytes.now) }
     ensures limits { IfOk result (IsLog setup.now) }
+    ensures early { parts_of bytes.now ≡ bytes.now ∷ [] → result ≡ Err (Stop.LogRefused 1) }
     ensures stops { IfErr result IsOfLog }
     ensures content { IfErr result IsOfContent }
 {

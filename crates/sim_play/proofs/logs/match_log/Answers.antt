@@ -1,6 +1,7 @@
 -- The turns are those of the match, each by its players.
-use Rattle.sim_play.proofs.LogTurns.{match_length, match_players, match_state}
+use Rattle.sim_play.proofs.LogTurns.{match_given, match_length, match_players, match_state}
 use Rattle.sim_play.proofs.Common.{All, AreFed, ap, arith, IsOrderOf, length, OnOk, State, state_after, subst, sym, systems_by, ◌∙◌}
+use Rattle.sim_replay.specs.Logs.{AreGiven}
 use Rattle.sim_play.proofs.logs.match_log.Goals as goal
 
 pub log_after-requires-clause-few : goal.log_after-requires-clause-few
@@ -15,3 +16,8 @@ returns-in-Ok-clause-fed g c =
     let setup = c.args.setup.now in
     subst (λ (state : State). OnOk c.log_after.result.0 (AreFed setup state (systems_by c.log_after.result.1 (λ i v. (goal.System-dyn g (i, v)).meaning v))))
     (ap (state_after setup) c.in-Ok.ensures ∙ match_state setup) c.log_after.ensures.fed
+
+pub returns-in-Ok-clause-is_log : goal.returns-in-Ok-clause-is_log
+returns-in-Ok-clause-is_log g c =
+    let setup = c.args.setup.now in
+    c.log_after.ensures.is_log (subst (All (AreGiven setup)) (sym c.in-Ok.ensures) (match_given setup c.requires.limits))
