@@ -1,2 +1,3 @@
+mod Words
 pub mod Beside
 pub mod Bits

@@ -136,6 +136,7 @@ impl Cells {
         requires { IsOnGround self.now.size cell }
         ensures place { result ≡ place_of self.now.size cell }
         ensures below { result < self.now.size.width * self.now.size.depth }
+        ensures grid { IsGrid self.now }
     {
         usize::from(cell.z) * usize::from(self.width) + usize::from(cell.x)
     }
