@@ -1,6 +1,20 @@
 -- What is kept of a ground, and the ground that it is kept of.
-use Rattle.{sim_grid.specs.Grids.OpenCells, sim_path.specs.declared.kept.KeptCells.KeptCells}
+use Rattle.{sim_grid.specs.Grids.OpenCells, sim_grid.specs.Packed.is_set_at, sim_path.specs.declared.kept.KeptCells.KeptCells}
+use Rattle.std.{specs.List.range_with_len, specs.Prelude.ℕ, specs.Prelude.◌*◌, specs.Prelude.Bool, specs.Prelude.List, specs.Prelude.map}
+use Rattle.sim_base.specs.Steps.{Field}
+use Rattle.sim_search.specs.{Distances.AreDistances, Distances.number_in, declared.distances.Distances.Distances}
+
+-- the first n cells that words tell of
+abbrev pub cells_of : ℕ → List ℕ → List Bool
+cells_of n words = map (is_set_at words) (range_with_len 0 n)
 
 -- the ground whose open cells were kept
 abbrev pub ground_in : KeptCells → OpenCells
-ground_in kept = record { size = record { width = kept.width; depth = kept.depth }; cells = kept.cells.items }
+ground_in kept = record {
+  size = record { width = kept.width; depth = kept.depth };
+  cells = cells_of (kept.width * kept.depth) kept.words.items;
+}
+
+-- distances on a ground are those to their goal
+abbrev pub AreOn : Field → Distances → Type 0
+AreOn field d = AreDistances field d.goal (number_in d)

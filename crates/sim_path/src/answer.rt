@@ -8,6 +8,7 @@ ghost use Rattle.sim_path.specs.{Answers.way_in, WayEnds.AreEnds, WayEnds.HasGon
 ghost use Rattle.sim_search.specs.{Estimates.IsNarrow, Regions.AreLabels, Tables.cost_in, Tables.size_of};
 
 use crate::atlas::Atlas;
+use crate::dear::Dear;
 use crate::end::{best_of, end_of};
 use crate::floor::Front;
 use crate::marks::Marks;
@@ -21,8 +22,8 @@ use crate::unmarked::blank_marks;
 use sim_base::{Cell, Items, MAX_WAYPOINTS, OutOfMemory, Point, Points, cell_of, centre_of};
 use sim_grid::Grid;
 use sim_search::{
-    Ahead, Aim, Costs, Guide, Labels, Landmarks, Search, Stage, go_on, least_costs, search_of,
-    started,
+    Ahead, Aim, Costs, Distances, Guide, Labels, Landmarks, Search, Stage, Toward, go_on,
+    least_costs, search_of, started,
 };
 use sim_system::Way;
 use std::alloc::Global;
@@ -158,8 +159,21 @@ const FAR_ABOUT: u32 = 1_000;
 // After which detours of all searches landmarks are set, which floods the ground nine times.
 const MANY: u32 = 60_000;
 
-/// The rooms of searches, which are kept from one to the next, and landmarks of the ground where ways are winding. What they hold
-/// changes no answer.
+// How dear a search was: how much more its way costs than its estimate told at first, and how many cells it opened.
+#[derive(Clone, Copy)]
+struct Pains {
+    detour: u32,
+    opened: usize,
+}
+
+// Those of a search that knew its goal's distances: nothing is to be spared.
+const NO_PAINS: Pains = Pains {
+    detour: 0,
+    opened: 0,
+};
+
+/// The rooms of searches, which are kept from one to the next, and what is known of the ground where ways are winding or a goal is
+/// asked for often. What they hold changes no answer.
 #[derive(Drop)]
 pub struct Searcher {
     rooms: Option<Search>,
@@ -167,6 +181,7 @@ pub struct Searcher {
     trail: Option<Vec<Cell>>,
     atlas: Option<Atlas>,
     detours: u32,
+    dear: Option<Dear>,
 }
 
 impl Searcher {
@@ -175,6 +190,7 @@ impl Searcher {
     ghost use Rattle.sim_base.specs.{Places.cell_of as cell_at, Places.is_inside, WayOf.way_of, Ways.IsFound, Ways.IsWay, declared.place.Cell.Cell};
     ghost use Rattle.sim_base.specs.Steps.{IsOnGround, octile};
     ghost use Rattle.{sim_grid.specs.Grids.is_open_at, sim_search.specs.Rows.AreLandmarks, sim_search.specs.Rows.row_in};
+    ghost use Rattle.sim_search.specs.Distances.{AreDistances, number_in};
     ghost use Rattle.sim_path.specs.{Answers.way_in, Atlases.ground_in, Floors.IsFront, WayEnds.AreEnds, WayEnds.IsTrailToEnd};
 
     /// A searcher that has no rooms yet.
@@ -185,6 +201,7 @@ impl Searcher {
             trail: None,
             atlas: None,
             detours: 0,
+            dear: None,
         }
     }
 
@@ -302,8 +319,18 @@ impl Searcher {
         if atlas.is_of(grid) { Some(atlas) } else { None }
     }
 
+    // What is kept of this ground, where nothing is, what has its cells alone.
+    fn atlas_on(&mut self, alloc: Global, grid: &Grid) -> Result<Atlas, OutOfMemory>
+        ensures { IfOk result (λ atlas. ground_in atlas.cells ≡ grid.now) }
+    {
+        match self.atlas_of(grid) {
+            Some(atlas) => Ok(atlas),
+            None => Atlas::of(alloc, grid),
+        }
+    }
+
     // Notes the detour of a search from a cell, and sets landmarks after many. They are only kept, so want of memory is no refusal.
-    fn note(&mut self, alloc: Global, grid: &Grid, from: Cell, detour: u32)
+    fn note_detour(&mut self, alloc: Global, grid: &Grid, from: Cell, detour: u32)
         requires on { IsOnGround grid.now.size from }
         requires is_open { is_open_at grid.now from ≡ true }
     {
@@ -313,13 +340,32 @@ impl Searcher {
         self.detours = self.detours.saturating_add(detour);
         if MANY < self.detours {
             self.detours = 0;
-            if let Ok(atlas) = Atlas::of(alloc, grid, from) {
+            if let Ok(mut atlas) = self.atlas_on(alloc, grid) {
+                atlas.set_landmarks(alloc, grid, from);
                 self.atlas = Some(atlas);
             }
         }
     }
 
-    // Makes the trail back from the best of these ends by a search, with landmarks where some are kept of this ground.
+    // Notes how many cells a search to a goal opened, and reckons the distances to it after many.
+    fn note_goal(&mut self, alloc: Global, grid: &Grid, goal: Cell, opened: usize)
+        requires on { IsOnGround grid.now.size goal }
+    {
+        let mut dear = match self.dear.take() {
+            Some(dear) => dear,
+            None => Dear::new(alloc),
+        };
+        let is_dear = dear.add(goal, opened);
+        self.dear = Some(dear);
+        if is_dear && grid.open(goal) {
+            if let Ok(mut atlas) = self.atlas_on(alloc, grid) {
+                atlas.add_goal(alloc, grid, &mut self.rooms, goal);
+                self.atlas = Some(atlas);
+            }
+        }
+    }
+
+    // Makes the trail back from the best of these ends by a search, with what is kept of this ground.
     fn search(
         &mut self,
         alloc: Global,
@@ -340,14 +386,79 @@ impl Searcher {
             self.search_straight(alloc, grid, trail, near, ends, start, goal)?;
             return Ok(());
         }
-        if let Some(atlas) = self.atlas_of(grid) {
-            let found = self.search_ahead(alloc, grid, &atlas.landmarks, trail, ends, start, goal);
-            self.atlas = Some(atlas);
-            return found;
-        }
-        let detour = self.search_straight(alloc, grid, trail, near, ends, start, goal)?;
-        self.note(alloc, grid, from, detour);
+        let Some(atlas) = self.atlas_of(grid) else {
+            let pains = self.search_straight(alloc, grid, trail, near, ends, start, goal)?;
+            self.note(alloc, grid, start, goal, pains);
+            return Ok(());
+        };
+        let found = self.search_by(alloc, grid, &atlas, trail, ends, start, goal);
+        self.atlas = Some(atlas);
+        self.note(alloc, grid, start, goal, found?);
         Ok(())
+    }
+
+    // Notes how dear a search was.
+    fn note(&mut self, alloc: Global, grid: &Grid, start: &Point, goal: &Point, pains: Pains)
+        requires start { IsTrue (is_inside grid.now.size start.now) }
+        requires goal { IsTrue (is_inside grid.now.size goal.now) }
+        requires is_open { is_open_at grid.now (cell_at start.now) ≡ true }
+    {
+        self.note_detour(alloc, grid, grid.cell_of(*start), pains.detour);
+        if pains.opened != 0 {
+            self.note_goal(alloc, grid, grid.cell_of(*goal), pains.opened);
+        }
+    }
+
+    // The same by the best estimate that is kept of this ground, to the goal itself.
+    fn search_by(
+        &mut self,
+        alloc: Global,
+        grid: &Grid,
+        atlas: &Atlas,
+        trail: &mut Vec<Cell>,
+        ends: &[Cell],
+        start: &Point,
+        goal: &Point,
+    ) -> Result<Pains, OutOfMemory>
+        requires start { IsTrue (is_inside grid.now.size start.now) }
+        requires goal { IsTrue (is_inside grid.now.size goal.now) }
+        requires is_open { is_open_at grid.now (cell_at start.now) ≡ true }
+        requires atlas { ground_in atlas.now.cells ≡ grid.now }
+        requires ends { AreEnds (field_of_grid grid.now) (cell_at start.now) (cell_at goal.now) 0 ends.now }
+        ensures { OnOk result (IsTrailToEnd (field_of_grid grid.now) (cell_at start.now) (cell_at goal.now) trail.new.items) }
+    {
+        if let Some(distances) = atlas.distances_to(grid.cell_of(*goal)) {
+            return self.search_toward(alloc, grid, distances, trail, ends, start, goal);
+        }
+        if let Some(landmarks) = &atlas.landmarks {
+            return self.search_ahead(alloc, grid, landmarks, trail, ends, start, goal);
+        }
+        self.search_straight(alloc, grid, trail, 0, ends, start, goal)
+    }
+
+    // The same with these distances to the goal.
+    fn search_toward(
+        &mut self,
+        alloc: Global,
+        grid: &Grid,
+        distances: &Distances,
+        trail: &mut Vec<Cell>,
+        ends: &[Cell],
+        start: &Point,
+        goal: &Point,
+    ) -> Result<Pains, OutOfMemory>
+        requires start { IsTrue (is_inside grid.now.size start.now) }
+        requires goal { IsTrue (is_inside grid.now.size goal.now) }
+        requires is_open { is_open_at grid.now (cell_at start.now) ≡ true }
+        requires distances { AreDistances (field_of_grid grid.now) (cell_at goal.now) (number_in distances.now) }
+        requires ends { AreEnds (field_of_grid grid.now) (cell_at start.now) (cell_at goal.now) 0 ends.now }
+        ensures { OnOk result (IsTrailToEnd (field_of_grid grid.now) (cell_at start.now) (cell_at goal.now) trail.new.items) }
+    {
+        let from = grid.cell_of(*start);
+        let guide = Toward { distances };
+        let stage = started(alloc, grid, self.rooms.take(), guide, from)?;
+        self.finish(alloc, grid, stage, guide, trail, 0, ends, start, goal)?;
+        Ok(NO_PAINS)
     }
 
     // The same with these landmarks, to the goal itself.
@@ -360,7 +471,7 @@ impl Searcher {
         ends: &[Cell],
         start: &Point,
         goal: &Point,
-    ) -> Result<(), OutOfMemory>
+    ) -> Result<Pains, OutOfMemory>
         requires start { IsTrue (is_inside grid.now.size start.now) }
         requires goal { IsTrue (is_inside grid.now.size goal.now) }
         requires is_open { is_open_at grid.now (cell_at start.now) ≡ true }
@@ -375,11 +486,11 @@ impl Searcher {
         };
         let guide = Ahead::of(aim, landmarks);
         let stage = started(alloc, grid, self.rooms.take(), guide, from)?;
-        self.finish(alloc, grid, stage, guide, trail, 0, ends, start, goal)?;
-        Ok(())
+        let pains = self.finish(alloc, grid, stage, guide, trail, 0, ends, start, goal)?;
+        Ok(Pains { detour: 0, ..pains })
     }
 
-    // The same by the octile estimate, and how much more the search had to reckon with than that. Where the goal is far and a
+    // The same by the octile estimate, and how dear the search was. Where the goal is far and a
     // milestone before it is come to, a way back is tried before all cells are gone through that cost as little.
     fn search_straight(
         &mut self,
@@ -390,7 +501,7 @@ impl Searcher {
         ends: &[Cell],
         start: &Point,
         goal: &Point,
-    ) -> Result<u32, OutOfMemory>
+    ) -> Result<Pains, OutOfMemory>
         requires start { IsTrue (is_inside grid.now.size start.now) }
         requires goal { IsTrue (is_inside grid.now.size goal.now) }
         requires ends { AreEnds (field_of_grid grid.now) (cell_at start.now) (cell_at goal.now) near ends.now }
@@ -400,23 +511,21 @@ impl Searcher {
         let to = grid.cell_of(*goal);
         let aim = Aim { goal: to, near };
         let stage = started(alloc, grid, self.rooms.take(), aim, from)?;
-        let begun = stage.key;
         let Some(milestone) = milestone(grid, from, to, near) else {
-            let key = self.finish(alloc, grid, stage, aim, trail, near, ends, start, goal)?;
-            return Ok(key.saturating_sub(begun));
+            return self.finish(alloc, grid, stage, aim, trail, near, ends, start, goal);
         };
         let stage = go_on(alloc, stage, grid, aim, &[milestone, to])?;
         let (costs, key) = (&stage.search.costs, stage.key);
         let front = Front { costs, aim, key };
         if self.go_back(alloc, grid, &front, trail, near, ends, start, goal)? {
+            let pains = pains_of(&stage, aim, from);
             self.rooms = Some(search_of(stage));
-            return Ok(key.saturating_sub(begun));
+            return Ok(pains);
         }
-        let key = self.finish(alloc, grid, stage, aim, trail, near, ends, start, goal)?;
-        Ok(key.saturating_sub(begun))
+        self.finish(alloc, grid, stage, aim, trail, near, ends, start, goal)
     }
 
-    // Makes the trail back by all that a search can tell, and answers the key to which it has come.
+    // Makes the trail back by all that a search can tell, and answers how dear it was.
     fn finish<A: Guide>(
         &mut self,
         alloc: Global,
@@ -428,7 +537,7 @@ impl Searcher {
         ends: &[Cell],
         start: &Point,
         goal: &Point,
-    ) -> Result<u32, OutOfMemory>
+    ) -> Result<Pains, OutOfMemory>
         requires start { IsTrue (is_inside grid.now.size start.now) }
         requires goal { IsTrue (is_inside grid.now.size goal.now) }
         requires ends { AreEnds (field_of_grid grid.now) (cell_at start.now) (cell_at goal.now) near ends.now }
@@ -444,12 +553,21 @@ impl Searcher {
             near,
         };
         let stage = go_on(alloc, stage, grid, guide, ends)?;
-        let (costs, key) = (&stage.search.costs, stage.key);
+        let pains = pains_of(&stage, guide, from);
+        let costs = &stage.search.costs;
         let end = way_end(grid, costs, aim, ends, from);
         let found = trail_back(grid, costs, trail, end, start, goal);
         self.rooms = Some(search_of(stage));
         found?;
-        Ok(key)
+        Ok(pains)
+    }
+}
+
+// How dear a search from a cell was that has come so far.
+fn pains_of<A: Guide>(stage: &Stage, guide: A, from: Cell) -> Pains {
+    Pains {
+        detour: stage.key.saturating_sub(guide.estimate(from)),
+        opened: stage.opened,
     }
 }
 

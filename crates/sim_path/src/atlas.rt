@@ -1,35 +1,46 @@
-//! What is kept of a ground from one search to the next: landmarks. They stand beside the open cells of the ground on which they
-//! were set, and tell nothing of another.
+//! What is kept of a ground from one search to the next: landmarks, and how far the cells are from goals that are asked for often.
+//! They stand beside the open cells of the ground on which they were found, and tell nothing of another.
 
+ghost use Rattle.std.specs.Prelude.{All, IfSome};
 ghost use Rattle.{sim_grid.specs.Grids.field_of_grid, sim_search.specs.Rows.AreLandmarks, sim_search.specs.Rows.row_in};
-ghost use Rattle.sim_path.specs.Atlases.{ground_in};
+ghost use Rattle.sim_path.specs.Atlases.{AreOn, ground_in};
 
 use crate::kept::KeptCells;
 use sim_base::{Cell, OutOfMemory};
 use sim_grid::Grid;
-use sim_search::{Landmarks, landmarks_on};
+use sim_search::{Distances, Landmarks, Search, distances_to, landmarks_on};
 use std::alloc::Global;
 
-/// The open cells of a ground, and landmarks on it.
+// To how many goals distances are kept at most.
+const GOALS: usize = 32;
+
+/// The open cells of a ground, landmarks on it, and the distances to some goals. The oldest give way.
 #[derive(Drop)]
 pub struct Atlas {
     pub cells: KeptCells,
-    pub landmarks: Landmarks,
-    ghost right: { AreLandmarks (field_of_grid (ground_in cells)) (row_in landmarks) },
+    pub landmarks: Option<Landmarks>,
+    goals: Vec<Distances>,
+    next: usize,
+    ghost right: { IfSome landmarks (λ l. AreLandmarks (field_of_grid (ground_in cells)) (row_in l)) },
+    ghost near: { All (AreOn (field_of_grid (ground_in cells))) goals.items },
 }
 
 impl Atlas {
-    ghost use Rattle.std.specs.Prelude.{◌≡◌, true, IfOk};
-    ghost use Rattle.{sim_base.specs.Steps.IsOnGround, sim_grid.specs.Grids.is_open_at};
+    ghost use Rattle.std.specs.Prelude.{◌≡◌, true, IfOk, IfSome};
+    ghost use Rattle.{sim_base.specs.Steps.IsOnGround, sim_grid.specs.Grids.field_of_grid, sim_grid.specs.Grids.is_open_at};
+    ghost use Rattle.sim_path.specs.Atlases.{AreOn, ground_in};
+    ghost use Rattle.sim_search.specs.Distances.{AreDistances, number_in};
 
-    /// That of a grid, with landmarks that a walk from a cell reaches.
-    pub fn of(alloc: Global, grid: &Grid, from: Cell) -> Result<Atlas, OutOfMemory>
-        requires on { IsOnGround grid.now.size from }
-        requires is_open { is_open_at grid.now from ≡ true }
+    /// That of a grid, with nothing but its cells yet.
+    pub fn of(alloc: Global, grid: &Grid) -> Result<Atlas, OutOfMemory>
+        ensures { IfOk result (λ atlas. ground_in atlas.cells ≡ grid.now) }
     {
-        let cells = KeptCells::of(alloc, grid)?;
-        let landmarks = landmarks_on(alloc, grid, from)?;
-        Ok(Atlas { cells, landmarks })
+        Ok(Atlas {
+            cells: KeptCells::of(alloc, grid)?,
+            landmarks: None,
+            goals: Vec::new(alloc),
+            next: 0,
+        })
     }
 
     /// Whether it is of this grid.
@@ -37,5 +48,55 @@ impl Atlas {
         ensures { result ≡ true → ground_in self.now.cells ≡ grid.now }
     {
         self.cells.are_of(grid)
+    }
+
+    /// The distances to a goal, if they are kept.
+    pub fn distances_to(&self, goal: Cell) -> Option<&Distances>
+        ensures { IfSome result (λ d. AreDistances (field_of_grid (ground_in self.now.cells)) goal (number_in d.now)) }
+    {
+        for distances in self.goals.as_slice() {
+            if distances.goal == goal {
+                return Some(distances);
+            }
+        }
+        None
+    }
+
+    /// Sets landmarks that a walk from a cell reaches, where there is memory for them.
+    pub fn set_landmarks(&mut self, alloc: Global, grid: &Grid, from: Cell)
+        requires on { IsOnGround grid.now.size from }
+        requires is_open { is_open_at grid.now from ≡ true }
+        requires ground { ground_in self.old.cells ≡ grid.now }
+        ensures { self.new.cells ≡ self.old.cells }
+    {
+        if let Ok(landmarks) = landmarks_on(alloc, grid, from) {
+            self.landmarks = Some(landmarks);
+        }
+    }
+
+    /// Reckons the distances to a goal, where there is memory for them.
+    pub fn add_goal(&mut self, alloc: Global, grid: &Grid, rooms: &mut Option<Search>, goal: Cell)
+        requires on { IsOnGround grid.now.size goal }
+        requires is_open { is_open_at grid.now goal ≡ true }
+        requires ground { ground_in self.old.cells ≡ grid.now }
+        ensures { self.new.cells ≡ self.old.cells }
+    {
+        if let Ok(distances) = distances_to(alloc, grid, rooms, goal) {
+            self.keep(distances);
+        }
+    }
+
+    // Keeps the distances to one more goal, in place of the oldest where there are as many as may be.
+    fn keep(&mut self, distances: Distances)
+        requires { AreOn (field_of_grid (ground_in self.old.cells)) distances }
+        ensures { self.new.cells ≡ self.old.cells }
+    {
+        let place = self.next % GOALS;
+        self.next = place + 1;
+        if place < self.goals.len() {
+            self.goals[place] = distances;
+        } else if self.goals.push(distances).is_err() {
+            self.next = 0;
+        }
     }
 }

@@ -8,7 +8,9 @@
 //! - `straight`, `marks`, `unmarked`: ways that cost no more than the octile distance, found with no search.
 //! - `floor`, `away`, `tight`, `milestone`: ways to a far goal that cost no more than a search knows that they must, found
 //!   before all cells are searched that cost as much.
-//! - `atlas`, `kept`: landmarks of a ground, and its open cells, which are kept from one search to the next.
+//! - `atlas`, `kept`: landmarks of a ground, distances to some goals on it, and its open cells, which are kept from one search to the
+//!   next.
+//! - `dear`: the goals to which searches were dear.
 //! - `answer`: the way, by its points, and the rooms that are kept from one search to the next.
 //!
 //! The labels and the laws of `sim_search` can be had here too, since whoever asks a way needs them.
@@ -17,6 +19,7 @@
 mod answer;
 mod atlas;
 mod away;
+mod dear;
 mod end;
 mod floor;
 mod kept;

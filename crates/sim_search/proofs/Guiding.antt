@@ -1,12 +1,13 @@
--- Why landmarks guide a search: the least costs from an open cell differ along a step by no more than it costs, and so do the rows.
+-- Why landmarks and distances guide a search: the least costs from an open cell differ along a step by no more than it costs, and so do the
+-- rows and numbers.
 use Rattle.sim_search.proofs.Moves.{direction-of, even_step, free-of_walk, free-open, most_step, step_back}
 use Rattle.sim_search.proofs.Octile.{estimate-guides}
 use Rattle.sim_search.proofs.Common.{◌≡◌, ℕ, zero, suc, ◌+◌, ◌*◌, ◌%◌, ◌<◌, ◌≤◌, max, true, ◌&&◌, ◌||◌, ◌⊎◌, List, length, get_or, set, replicate}
 use Rattle.sim_search.proofs.Common.{Bool, Some, None, Option, refl, abs_diff, is_some, true≢false, Aim, ap, ap₂, AreCosts, arith, cases_eq, cases_lt, Cell}
 use Rattle.sim_search.proofs.Common.{estimate_to, Field, get_or-set_other, get_or-set_same, go, HasCost, inl, inr, IsGuide}
-use Rattle.sim_search.proofs.Common.{is_free, is_straight, IsOnGround, IsStep, length-replicate, subst, sym, Walk, walk-on, ◌∙◌}
+use Rattle.sim_search.proofs.Common.{is_free, is_straight, IsOnGround, IsStep, length-replicate, stay, subst, sym, Walk, walk-on, ◌∙◌}
 use Rattle.std.proofs.lemmas.List.{length-set}
-use Rattle.sim_search.specs.Rows.{alike, apart, AreLandmarks, between, half_of, row_with}
+use Rattle.sim_search.specs.{Distances.AreDistances, Rows.alike, Rows.apart, Rows.AreLandmarks, Rows.between, Rows.half_of, Rows.number_of, Rows.row_with}
 
 some_is : {A : Type 0} {a b : A} → Some a ≡ Some b → a ≡ b
 some_is e = cc
@@ -155,6 +156,37 @@ module _ (field : Field) (mark : Cell) (cost : Cell → Option ℕ) (known : Are
               is = ap alike n.is;
               near = λ i. subst (λ (xs : List ℕ). 2 * abs_diff (get_or (replicate 8 0) i 0) (get_or xs i 0) ≤ k) (some_is e) (nothing i k);
             }
+
+    -- ---- numbers along a step
+
+    number-near : (d e k : ℕ) → k % 2 ≡ 0 → d ≤ e + k → 2 * half_of d ≤ k + 2 * half_of e
+    number-near d e k even f = omega (arith, even, f)
+
+    number-onwards : (a b : Cell) (k : ℕ) → IsStep field mark a b k → (o : Option ℕ) → cost a ≡ o → 2 * number_of o ≤ k + 2 * number_of (cost b)
+    number-onwards a b k s None e = omega arith
+    number-onwards a b k s (Some d) e =
+        let n = cost-onwards a b k d s e in
+        subst (λ (o : Option ℕ). 2 * half_of d ≤ k + 2 * number_of o) (sym n.is) (number-near d n.own k (step-even a b k s) n.least)
+
+    number-back : (a b : Cell) (k : ℕ) → IsOnGround field.size a → field.is_open a ≡ true → IsStep field mark a b k → (o : Option ℕ) → cost b ≡ o
+        → 2 * number_of o ≤ k + 2 * number_of (cost a)
+    number-back a b k on free s None e = omega arith
+    number-back a b k on free s (Some d) e =
+        let n = cost-back a b k d on free s e in
+        subst (λ (o : Option ℕ). 2 * half_of d ≤ k + 2 * number_of o) (sym n.is) (number-near d n.own k (step-even a b k s) n.least)
+
+    -- the goal itself costs nothing
+    pub nothing-here : cost mark ≡ Some 0
+    nothing-here = known.all mark 0 (record { walk = stay; least = λ m v. omega arith })
+
+    -- the costs of walks from a goal are the distances to it
+    pub numbers-distances : AreDistances field mark (λ (c : Cell). number_of (cost c))
+    numbers-distances =
+        record {
+          here = ap number_of nothing-here;
+          onwards = λ start a b k opened s. number-onwards a b k (same-step start a b k opened s) (cost a) refl;
+          back = λ start a b k opened on free s. number-back a b k on free (same-step start a b k opened s) (cost b) refl;
+        }
 
     -- one number of each row is set
     module _ (row : Cell → Option (List ℕ)) (which : ℕ) (below : which < 8) (known_rows : AreLandmarks field row) where
@@ -308,3 +340,30 @@ module _ (field : Field) (row : Cell → Option (List ℕ)) (aim : Aim) (own : O
             (octile.rises a b k n w s) (between-rises a b k n w s);
         even = λ c. greater-even (estimate_to aim c) (between (row c) own) (octile.even c) (between-even (row c) own);
       }
+
+-- ---- distances
+
+-- numbers that are the same are distances too
+pub same-distances : (field : Field) (goal : Cell) (number same : Cell → ℕ) → ((c : Cell) → same c ≡ number c) → AreDistances field goal number
+    → AreDistances field goal same
+same-distances field goal number same e known =
+    record {
+      here = e goal ∙ known.here;
+      onwards = λ start a b k opened s. omega (arith, e a, e b, known.onwards start a b k opened s);
+      back = λ start a b k opened on free s. omega (arith, e a, e b, known.back start a b k opened on free s);
+    }
+
+-- twice the distances guide a search from an open cell
+pub distances-guide : (field : Field) (goal : Cell) (number : Cell → ℕ) (start : Cell) → IsOnGround field.size start → field.is_open start ≡ true
+    → AreDistances field goal number → IsGuide field start (λ (c : Cell). 2 * number c)
+distances-guide field goal number start on opened known =
+    record {
+      falls = record { falls = λ a b k s. known.onwards start a b k opened s };
+      rises = λ a b k n w s.
+          let free = sym (free-open field start opened a) ∙ free-of_walk field start w in
+          omega (arith, known.back start a b k opened (walk-on field start on w) free s, s.cost_is, most_step s.which);
+      even = λ c. twice (number c);
+    }
+  where
+    twice : (n : ℕ) → 2 * n % 2 ≡ 0
+    twice n = omega arith

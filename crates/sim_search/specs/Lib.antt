@@ -12,3 +12,4 @@ pub mod Floods
 pub mod TakingLaws
 pub mod Rows
 pub mod Mending
+pub mod Distances

@@ -15,6 +15,11 @@ row_in l c = entry_at None (size_by l) l.items.items c
 abbrev pub half_of : ℕ → ℕ
 half_of cost = min (cost / 2) 65535
 
+-- half of a cost, cut, or nothing where there is none
+abbrev pub number_of : Option ℕ → ℕ
+number_of None = 0
+number_of (Some cost) = half_of cost
+
 -- a row of nothing, where there is a cost
 abbrev pub alike : Option ℕ → Option (List ℕ)
 alike None = None

@@ -115,14 +115,17 @@ pub fn started<A: Guide>(
     Ok(Stage {
         search,
         key: aim.estimate(start),
+        opened: 0,
     })
 }
 
-/// How far a search has come: all cells of lower keys than this one are taken.
+/// How far a search has come: all cells of lower keys than this one are taken. It counts the cells that waited in the buckets it has
+/// gone through, by which it is told how dear the search was.
 #[derive(Drop)]
 pub struct Stage {
     pub search: Search,
     pub key: u32,
+    pub opened: usize,
 }
 
 /// Goes on with a search until one of the ends has a cost below the key, or no cell waits. Of ends whose estimate is 0 it is
@@ -145,6 +148,7 @@ pub fn go_on<A: Guide>(
     let Stage {
         mut search,
         key: mut now,
+        mut opened,
     } = stage;
     let mut spare = Items::new(alloc);
     let mut idle = 0u32;
@@ -153,9 +157,14 @@ pub fn go_on<A: Guide>(
         now = next;
         idle = none;
         if is_come_to(&search.costs, ends, now) {
-            return Ok(Stage { search, key: now });
+            return Ok(Stage {
+                search,
+                key: now,
+                opened,
+            });
         }
         let bucket = swap_bucket(&mut search, spare, now);
+        opened = opened.saturating_add(bucket.as_slice().len());
         if drain(&mut search, grid, aim, bucket.as_slice(), now)? {
             idle = 0;
         } else {
@@ -164,7 +173,11 @@ pub fn go_on<A: Guide>(
         }
         spare = emptied(bucket);
     }
-    Ok(Stage { search, key: now })
+    Ok(Stage {
+        search,
+        key: now,
+        opened,
+    })
 }
 
 /// The search that has come so far, whose rooms another one can be begun in.
@@ -175,12 +188,21 @@ pub fn search_of(stage: Stage) -> Search
     search
 }
 
-// The costs of a search that has ended.
-fn costs_of(stage: Stage) -> Costs
-    ensures { result ≡ stage.search.costs }
+/// A search from the start that has come to all cells to which a walk leads, in the rooms of an earlier one, where they fit. The
+/// start counts as open.
+pub fn search_all(
+    alloc: Global,
+    grid: &Grid,
+    rooms: Option<Search>,
+    start: Cell,
+) -> Result<Search, OutOfMemory>
+    requires { IsOnGround grid.now.size start }
+    ensures size { IfOk result (λ s. size_of s.costs ≡ grid.now.size) }
+    ensures costs { IfOk result (λ s. AreCosts (field_of_grid grid.now) start (cost_in s.costs)) }
 {
-    let Search { costs, .. } = search_of(stage);
-    costs
+    let aim = Aim::nowhere(start);
+    let stage = started(alloc, grid, rooms, aim, start)?;
+    Ok(search_of(go_on(alloc, stage, grid, aim, &[])?))
 }
 
 /// The least costs of walks from the start to all cells of the grid. The start counts as open.
@@ -189,7 +211,6 @@ pub fn least_costs(alloc: Global, grid: &Grid, start: Cell) -> Result<Costs, Out
     ensures size { IfOk result (λ costs. size_of costs ≡ grid.now.size) }
     ensures costs { IfOk result (λ costs. AreCosts (field_of_grid grid.now) start (cost_in costs)) }
 {
-    let aim = Aim::nowhere(start);
-    let stage = started(alloc, grid, None, aim, start)?;
-    Ok(costs_of(go_on(alloc, stage, grid, aim, &[])?))
+    let Search { costs, .. } = search_all(alloc, grid, None, start)?;
+    Ok(costs)
 }

@@ -7,6 +7,7 @@
 //! - `costs`, `entry`: a cost for each cell that the search has come to.
 //! - `aim`: what is known of the cost from a cell on, and where a search goes.
 //! - `landmarks`, `row`, `survey`, `ahead`: least costs from a few cells of a ground, and what they tell of the cost from a cell on.
+//! - `distances`, `goal`, `toward`: least costs from one goal, and the estimate that they are.
 //! - `search`, `queue`, `drain`: the search, by buckets of cells that wait at one cost and estimate, and how far it has
 //!   come.
 //! - `labels`, `table`: labels of regions, which tell what is reached.
@@ -18,8 +19,10 @@
 mod ahead;
 mod aim;
 mod costs;
+mod distances;
 mod drain;
 mod entry;
+mod goal;
 mod labels;
 mod landmarks;
 mod laws;
@@ -31,11 +34,14 @@ mod search;
 mod steps;
 mod survey;
 mod table;
+mod toward;
 
 pub use ahead::Ahead;
 pub use aim::{Aim, Guide};
 pub use costs::Costs;
+pub use distances::Distances;
 pub use drain::{Stage, go_on, least_costs, search_of, started};
+pub use goal::distances_to;
 pub use labels::{Labels, labels_of};
 pub use landmarks::Landmarks;
 pub use laws::{labels_tell, no_label_is_closed, search_goes_on, taken_in_order, taken_is_least};
@@ -43,3 +49,4 @@ pub use mend::{mend_closed, mend_opened};
 pub use search::Search;
 pub use steps::{is_free, moves_from, step, step_cost};
 pub use survey::landmarks_on;
+pub use toward::Toward;

@@ -1,7 +1,7 @@
-//! A row of numbers for one cell: half the least cost of a walk to it from each landmark.
+//! A number for one cell: half the least cost of a walk to it. A row of such numbers, one from each landmark.
 
 ghost use Rattle.std.specs.Prelude.{◌≡◌, ◌^◌, ◌<◌};
-ghost use Rattle.sim_search.specs.Rows.{alike as alike_by, apart, between as between_rows, half_of, row_with as row_by};
+ghost use Rattle.sim_search.specs.Rows.{alike as alike_by, apart, between as between_rows, half_of, number_of, row_with as row_by};
 
 /// How many landmarks there are.
 pub const LANDMARKS: usize = 8;
@@ -17,6 +17,16 @@ fn half(cost: u32) -> u16
     ensures { result ≡ half_of cost }
 {
     (cost / 2).min(MOST) as u16
+}
+
+/// Half a cost, cut, or nothing where there is none.
+pub fn number(cost: Option<u32>) -> u16
+    ensures { result ≡ number_of cost }
+{
+    match cost {
+        Some(cost) => half(cost),
+        None => 0,
+    }
 }
 
 /// The row of a cell before a landmark is set.

@@ -35,7 +35,7 @@ drain-requires-clause-drains g c =
     let field = field_of_grid c.args.grid.now in
     let between = c.swap_bucket-bucket.new.search in
     subst (λ (l : List Cell). Drains (g.A.Guide.estimate_of c.args.aim) field between c.passed-next.result.0 l)
-    (sym (c.as_slice.ensures ∙ c.swap_bucket-bucket.ensures.bucket))
+    (sym (c.as_slice-in-loop-idle.ensures ∙ c.swap_bucket-bucket.ensures.bucket))
     (drains_first (g.A.Guide.estimate_of c.args.aim) field c.loop-idle.search between c.passed-next.result.0 c.passed-next.result.1
     (c.passed-next.ensures.ready (g.A.Guide.estimate_of c.args.aim) (field_of_grid c.args.grid.now) c.loop-idle.invariant.ready)
     c.swap_bucket-bucket.ensures.rest)

@@ -1,0 +1,30 @@
+//! How far all cells of a ground are from one goal.
+
+ghost use Rattle.std.specs.Prelude.{◌≡◌, true, IfOk};
+ghost use Rattle.sim_grid.specs.Grids.{is_open_at};
+ghost use Rattle.sim_search.specs.{Common.field_of_grid, Common.IsOnGround, Distances.AreDistances, Distances.number_in};
+
+use crate::distances::Distances;
+use crate::drain::search_all;
+use crate::search::Search;
+use sim_base::{Cell, OutOfMemory};
+use sim_grid::Grid;
+use std::alloc::Global;
+
+/// How far the cells of a grid are from a goal, in the rooms of an earlier search, where they fit. They can be used again.
+pub fn distances_to(
+    alloc: Global,
+    grid: &Grid,
+    rooms: &mut Option<Search>,
+    goal: Cell,
+) -> Result<Distances, OutOfMemory>
+    requires on { IsOnGround grid.now.size goal }
+    requires is_open { is_open_at grid.now goal ≡ true }
+    ensures goal { IfOk result (λ d. d.goal ≡ goal) }
+    ensures distances { IfOk result (λ d. AreDistances (field_of_grid grid.now) goal (number_in d)) }
+{
+    let search = search_all(alloc, grid, rooms.take(), goal)?;
+    let distances = Distances::of(alloc, &search.costs, goal)?;
+    *rooms = Some(search);
+    Ok(distances)
+}
