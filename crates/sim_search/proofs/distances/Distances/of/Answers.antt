@@ -43,4 +43,4 @@ returns-clause-numbers c = λ v.
     let costs = c.args.costs.now in
     let numbers = whole costs c.loop-place.items.items c.loop-place.place c.loop-place.invariant
     (omega (arith, c.loop-place-test.false, c.len-place-end.ensures)) in
-    ap (λ (xs : List ℕ). entry_at None (size_of costs) xs v) numbers ∙ entry_at-map number_of None None refl (size_of costs) (known costs) v
+    ap (λ (xs : List ℕ). entry_at 0 (size_of costs) xs v) numbers ∙ entry_at-map number_of None 0 refl (size_of costs) (known costs) v
