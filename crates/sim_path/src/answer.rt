@@ -8,7 +8,6 @@ ghost use Rattle.sim_path.specs.{Answers.way_in, WayEnds.AreEnds, WayEnds.HasGon
 ghost use Rattle.sim_search.specs.{Estimates.IsNarrow, Regions.AreLabels, Tables.cost_in, Tables.size_of};
 
 use crate::atlas::Atlas;
-use crate::dear::Dear;
 use crate::end::{best_of, end_of};
 use crate::floor::Front;
 use crate::marks::Marks;
@@ -166,14 +165,8 @@ struct Pains {
     opened: usize,
 }
 
-// Those of a search that knew its goal's distances: nothing is to be spared.
-const NO_PAINS: Pains = Pains {
-    detour: 0,
-    opened: 0,
-};
-
-/// The rooms of searches, which are kept from one to the next, and what is known of the ground where ways are winding or a goal is
-/// asked for often. What they hold changes no answer.
+/// The rooms of searches, which are kept from one to the next, and what is known of the ground where ways are winding. What they hold
+/// changes no answer.
 #[derive(Drop)]
 pub struct Searcher {
     rooms: Option<Search>,
@@ -181,7 +174,6 @@ pub struct Searcher {
     trail: Option<Vec<Cell>>,
     atlas: Option<Atlas>,
     detours: u32,
-    dear: Option<Dear>,
 }
 
 impl Searcher {
@@ -201,7 +193,6 @@ impl Searcher {
             trail: None,
             atlas: None,
             detours: 0,
-            dear: None,
         }
     }
 
@@ -319,18 +310,8 @@ impl Searcher {
         if atlas.is_of(grid) { Some(atlas) } else { None }
     }
 
-    // What is kept of this ground, where nothing is, what has its cells alone.
-    fn atlas_on(&mut self, alloc: Global, grid: &Grid) -> Result<Atlas, OutOfMemory>
-        ensures { IfOk result (λ atlas. ground_in atlas.cells ≡ grid.now) }
-    {
-        match self.atlas_of(grid) {
-            Some(atlas) => Ok(atlas),
-            None => Atlas::of(alloc, grid),
-        }
-    }
-
     // Notes the detour of a search from a cell, and sets landmarks after many. They are only kept, so want of memory is no refusal.
-    fn note_detour(&mut self, alloc: Global, grid: &Grid, from: Cell, detour: u32)
+    fn note(&mut self, alloc: Global, grid: &Grid, from: Cell, detour: u32)
         requires on { IsOnGround grid.now.size from }
         requires is_open { is_open_at grid.now from ≡ true }
     {
@@ -340,32 +321,13 @@ impl Searcher {
         self.detours = self.detours.saturating_add(detour);
         if MANY < self.detours {
             self.detours = 0;
-            if let Ok(mut atlas) = self.atlas_on(alloc, grid) {
-                atlas.set_landmarks(alloc, grid, from);
+            if let Ok(atlas) = Atlas::of(alloc, grid, from) {
                 self.atlas = Some(atlas);
             }
         }
     }
 
-    // Notes how many cells a search to a goal opened, and reckons the distances to it after many.
-    fn note_goal(&mut self, alloc: Global, grid: &Grid, goal: Cell, opened: usize)
-        requires on { IsOnGround grid.now.size goal }
-    {
-        let mut dear = match self.dear.take() {
-            Some(dear) => dear,
-            None => Dear::new(alloc),
-        };
-        let is_dear = dear.add(goal, opened);
-        self.dear = Some(dear);
-        if is_dear && grid.open(goal) {
-            if let Ok(mut atlas) = self.atlas_on(alloc, grid) {
-                atlas.add_goal(alloc, grid, &mut self.rooms, goal);
-                self.atlas = Some(atlas);
-            }
-        }
-    }
-
-    // Makes the trail back from the best of these ends by a search, with what is kept of this ground.
+    // Makes the trail back from the best of these ends by a search, with what is kept of this ground, where something is.
     fn search(
         &mut self,
         alloc: Global,
@@ -386,27 +348,45 @@ impl Searcher {
             self.search_straight(alloc, grid, trail, near, ends, start, goal)?;
             return Ok(());
         }
-        let Some(atlas) = self.atlas_of(grid) else {
-            let pains = self.search_straight(alloc, grid, trail, near, ends, start, goal)?;
-            self.note(alloc, grid, start, goal, pains);
-            return Ok(());
-        };
-        let found = self.search_by(alloc, grid, &atlas, trail, ends, start, goal);
-        self.atlas = Some(atlas);
-        self.note(alloc, grid, start, goal, found?);
+        if let Some(atlas) = self.atlas_of(grid) {
+            return self.search_kept(alloc, grid, atlas, trail, ends, start, goal);
+        }
+        let pains = self.search_straight(alloc, grid, trail, near, ends, start, goal)?;
+        self.note(alloc, grid, from, pains.detour);
         Ok(())
     }
 
-    // Notes how dear a search was.
-    fn note(&mut self, alloc: Global, grid: &Grid, start: &Point, goal: &Point, pains: Pains)
+    // The same with what is kept of this ground, to the goal itself. A search that was dear may have more kept for the next.
+    fn search_kept(
+        &mut self,
+        alloc: Global,
+        grid: &Grid,
+        mut atlas: Atlas,
+        trail: &mut Vec<Cell>,
+        ends: &[Cell],
+        start: &Point,
+        goal: &Point,
+    ) -> Result<(), OutOfMemory>
         requires start { IsTrue (is_inside grid.now.size start.now) }
         requires goal { IsTrue (is_inside grid.now.size goal.now) }
         requires is_open { is_open_at grid.now (cell_at start.now) ≡ true }
+        requires atlas { ground_in atlas.cells ≡ grid.now }
+        requires ends { AreEnds (field_of_grid grid.now) (cell_at start.now) (cell_at goal.now) 0 ends.now }
+        ensures { OnOk result (IsTrailToEnd (field_of_grid grid.now) (cell_at start.now) (cell_at goal.now) trail.new.items) }
     {
-        self.note_detour(alloc, grid, grid.cell_of(*start), pains.detour);
-        if pains.opened != 0 {
-            self.note_goal(alloc, grid, grid.cell_of(*goal), pains.opened);
+        let found = self.search_by(alloc, grid, &atlas, trail, ends, start, goal);
+        if let Ok(pains) = &found {
+            atlas.note(
+                alloc,
+                grid,
+                &mut self.rooms,
+                grid.cell_of(*goal),
+                pains.opened,
+            );
         }
+        self.atlas = Some(atlas);
+        found?;
+        Ok(())
     }
 
     // The same by the best estimate that is kept of this ground, to the goal itself.
@@ -430,10 +410,7 @@ impl Searcher {
         if let Some(distances) = atlas.distances_to(grid.cell_of(*goal)) {
             return self.search_toward(alloc, grid, distances, trail, ends, start, goal);
         }
-        if let Some(landmarks) = &atlas.landmarks {
-            return self.search_ahead(alloc, grid, landmarks, trail, ends, start, goal);
-        }
-        self.search_straight(alloc, grid, trail, 0, ends, start, goal)
+        self.search_ahead(alloc, grid, &atlas.landmarks, trail, ends, start, goal)
     }
 
     // The same with these distances to the goal.
@@ -457,8 +434,7 @@ impl Searcher {
         let from = grid.cell_of(*start);
         let guide = Toward { distances };
         let stage = started(alloc, grid, self.rooms.take(), guide, from)?;
-        self.finish(alloc, grid, stage, guide, trail, 0, ends, start, goal)?;
-        Ok(NO_PAINS)
+        self.finish(alloc, grid, stage, guide, trail, 0, ends, start, goal)
     }
 
     // The same with these landmarks, to the goal itself.
@@ -486,12 +462,11 @@ impl Searcher {
         };
         let guide = Ahead::of(aim, landmarks);
         let stage = started(alloc, grid, self.rooms.take(), guide, from)?;
-        let pains = self.finish(alloc, grid, stage, guide, trail, 0, ends, start, goal)?;
-        Ok(Pains { detour: 0, ..pains })
+        self.finish(alloc, grid, stage, guide, trail, 0, ends, start, goal)
     }
 
-    // The same by the octile estimate, and how dear the search was. Where the goal is far and a
-    // milestone before it is come to, a way back is tried before all cells are gone through that cost as little.
+    // The same by the octile estimate, and how dear the search was. Where the goal is far and a milestone before it is come to, a
+    // way back is tried before all cells are gone through that cost as little.
     fn search_straight(
         &mut self,
         alloc: Global,

@@ -1,10 +1,11 @@
 //! What is kept of a ground from one search to the next: landmarks, and how far the cells are from goals that are asked for often.
 //! They stand beside the open cells of the ground on which they were found, and tell nothing of another.
 
-ghost use Rattle.std.specs.Prelude.{All, IfSome};
+ghost use Rattle.std.specs.Prelude.{All};
 ghost use Rattle.{sim_grid.specs.Grids.field_of_grid, sim_search.specs.Rows.AreLandmarks, sim_search.specs.Rows.row_in};
 ghost use Rattle.sim_path.specs.Atlases.{AreOn, ground_in};
 
+use crate::dear::Dear;
 use crate::kept::KeptCells;
 use sim_base::{Cell, OutOfMemory};
 use sim_grid::Grid;
@@ -14,32 +15,37 @@ use std::alloc::Global;
 // To how many goals distances are kept at most.
 const GOALS: usize = 32;
 
-/// The open cells of a ground, landmarks on it, and the distances to some goals. The oldest give way.
+/// The open cells of a ground, landmarks on it, and the distances to the goals to which searches were dear. The oldest give way.
 #[derive(Drop)]
 pub struct Atlas {
     pub cells: KeptCells,
-    pub landmarks: Option<Landmarks>,
+    pub landmarks: Landmarks,
     goals: Vec<Distances>,
     next: usize,
-    ghost right: { IfSome landmarks (λ l. AreLandmarks (field_of_grid (ground_in cells)) (row_in l)) },
+    dear: Dear,
+    ghost right: { AreLandmarks (field_of_grid (ground_in cells)) (row_in landmarks) },
     ghost near: { All (AreOn (field_of_grid (ground_in cells))) goals.items },
 }
 
 impl Atlas {
-    ghost use Rattle.std.specs.Prelude.{◌≡◌, true, IfOk, IfSome};
+    ghost use Rattle.std.specs.Prelude.{◌≡◌, true, IfSome};
     ghost use Rattle.{sim_base.specs.Steps.IsOnGround, sim_grid.specs.Grids.field_of_grid, sim_grid.specs.Grids.is_open_at};
     ghost use Rattle.sim_path.specs.Atlases.{AreOn, ground_in};
     ghost use Rattle.sim_search.specs.Distances.{AreDistances, number_in};
 
-    /// That of a grid, with nothing but its cells yet.
-    pub fn of(alloc: Global, grid: &Grid) -> Result<Atlas, OutOfMemory>
-        ensures { IfOk result (λ atlas. ground_in atlas.cells ≡ grid.now) }
+    /// That of a grid, with landmarks that a walk from a cell reaches, and no distances yet.
+    pub fn of(alloc: Global, grid: &Grid, from: Cell) -> Result<Atlas, OutOfMemory>
+        requires on { IsOnGround grid.now.size from }
+        requires is_open { is_open_at grid.now from ≡ true }
     {
+        let cells = KeptCells::of(alloc, grid)?;
+        let landmarks = landmarks_on(alloc, grid, from)?;
         Ok(Atlas {
-            cells: KeptCells::of(alloc, grid)?,
-            landmarks: None,
+            cells,
+            landmarks,
             goals: Vec::new(alloc),
             next: 0,
+            dear: Dear::new(alloc)?,
         })
     }
 
@@ -62,34 +68,29 @@ impl Atlas {
         None
     }
 
-    /// Sets landmarks that a walk from a cell reaches, where there is memory for them.
-    pub fn set_landmarks(&mut self, alloc: Global, grid: &Grid, from: Cell)
-        requires on { IsOnGround grid.now.size from }
-        requires is_open { is_open_at grid.now from ≡ true }
-        requires ground { ground_in self.old.cells ≡ grid.now }
-        ensures { self.new.cells ≡ self.old.cells }
-    {
-        if let Ok(landmarks) = landmarks_on(alloc, grid, from) {
-            self.landmarks = Some(landmarks);
-        }
-    }
-
-    /// Reckons the distances to a goal, where there is memory for them.
-    pub fn add_goal(&mut self, alloc: Global, grid: &Grid, rooms: &mut Option<Search>, goal: Cell)
+    /// Notes how many cells a search to a goal opened, and reckons the distances to it after many. They are only kept, so want of
+    /// memory is no refusal.
+    pub fn note(
+        &mut self,
+        alloc: Global,
+        grid: &Grid,
+        rooms: &mut Option<Search>,
+        goal: Cell,
+        opened: usize,
+    )
         requires on { IsOnGround grid.now.size goal }
-        requires is_open { is_open_at grid.now goal ≡ true }
         requires ground { ground_in self.old.cells ≡ grid.now }
-        ensures { self.new.cells ≡ self.old.cells }
     {
-        if let Ok(distances) = distances_to(alloc, grid, rooms, goal) {
-            self.keep(distances);
+        if self.distances_to(goal).is_none() && self.dear.add(goal, opened) && grid.open(goal) {
+            if let Ok(distances) = distances_to(alloc, grid, rooms, goal) {
+                self.keep(distances);
+            }
         }
     }
 
     // Keeps the distances to one more goal, in place of the oldest where there are as many as may be.
     fn keep(&mut self, distances: Distances)
         requires { AreOn (field_of_grid (ground_in self.old.cells)) distances }
-        ensures { self.new.cells ≡ self.old.cells }
     {
         let place = self.next % GOALS;
         self.next = place + 1;

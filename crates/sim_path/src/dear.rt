@@ -1,6 +1,6 @@
 //! Goals to which searches were dear. It tells when the distances of all cells to a goal are worth while, and nothing else.
 
-use sim_base::Cell;
+use sim_base::{Cell, OutOfMemory};
 use std::alloc::Global;
 
 // How many goals are counted at once.
@@ -28,18 +28,15 @@ fn place_of(goal: Cell) -> usize {
 }
 
 impl Dear {
-    /// None yet. Where memory is wanted, none is ever counted.
-    pub fn new(alloc: Global) -> Dear {
+    /// None yet.
+    pub fn new(alloc: Global) -> Result<Dear, OutOfMemory> {
         let none = Asked {
             goal: Cell { x: 0, z: 0 },
             opened: 0,
         };
-        match vec![in alloc; none; GOALS] {
-            Ok(items) => Dear { items },
-            Err(_) => Dear {
-                items: Vec::new(alloc),
-            },
-        }
+        Ok(Dear {
+            items: vec![in alloc; none; GOALS]?,
+        })
     }
 
     /// Counts what a search to a goal has opened, and answers whether the searches to it were dear by now. If so, its count

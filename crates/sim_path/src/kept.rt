@@ -35,8 +35,9 @@ impl KeptCells {
     pub fn are_of(&self, grid: &Grid) -> bool
         ensures { result ≡ true → ground_in self.now ≡ grid.now }
     {
-        self.width == grid.width()
-            && self.depth == grid.depth()
-            && self.words.as_slice() == grid.words()
+        if self.width != grid.width() || self.depth != grid.depth() {
+            return false;
+        }
+        self.words.as_slice() == grid.words()
     }
 }

@@ -501,3 +501,41 @@ fn keeps_to_the_ground_as_it_is(rt: HostRuntime) -> Result<(), Fail> {
     assert_eq!(rt; agree_on_changes(rt.alloc())?, true);
     Ok(())
 }
+
+// Whether that is so again and again, until searches to these goals were so dear that distances to them are kept.
+fn agree_often(alloc: Global, searcher: &mut Searcher, grid: &Grid) -> Result<bool, OutOfMemory> {
+    let mut same = true;
+    for _ in 0..16 {
+        same = agree_on(alloc, searcher, grid)? && same;
+    }
+    Ok(same)
+}
+
+// Opens or closes a gap in two of the walls, and the corridor between them.
+fn turn(grid: &mut Grid, free: bool) {
+    for z in 5..8u16 {
+        let cell = Cell { x: 32, z };
+        if grid.has(cell) {
+            grid.set(cell, free);
+        }
+    }
+}
+
+// Whether that is so while cells are closed and opened on which distances are kept.
+fn agree_as_cells_turn(alloc: Global) -> Result<bool, OutOfMemory> {
+    let mut searcher = Searcher::new();
+    let mut grid = winding(alloc, true)?;
+    let first = agree_often(alloc, &mut searcher, &grid)?;
+    turn(&mut grid, true);
+    let opened = agree_often(alloc, &mut searcher, &grid)?;
+    turn(&mut grid, false);
+    let closed = agree_often(alloc, &mut searcher, &grid)?;
+    turn(&mut grid, true);
+    Ok(first && opened && closed && agree_on(alloc, &mut searcher, &grid)?)
+}
+
+#[test]
+fn keeps_distances_to_the_ground_as_it_is(rt: HostRuntime) -> Result<(), Fail> {
+    assert_eq!(rt; agree_as_cells_turn(rt.alloc())?, true);
+    Ok(())
+}

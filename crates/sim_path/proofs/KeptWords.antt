@@ -1,6 +1,6 @@
 -- The words of a ground tell its cells.
 use Rattle.sim_grid.specs.{Grids.IsGrid, Grids.OpenCells, Packed.ArePacked, Packed.is_set_at}
-use Rattle.sim_path.proofs.Common.{◌≡◌, ℕ, ◌*◌, Bool, false, List, length, refl, ap₂, arith, Size, sym, ◌∙◌}
+use Rattle.sim_path.proofs.Common.{◌≡◌, ℕ, ◌*◌, Bool, false, List, length, ap₂, arith, Size, sym, ◌∙◌}
 use Rattle.sim_path.specs.Atlases.{cells_of}
 use Rattle.std.proofs.lemmas.List.{get_or_default, same_lists, FromFn.get_or-map-range_with_len, FromFn.length-map-range_with_len}
 
@@ -9,7 +9,7 @@ kept-cells cells words n p e =
     let all : length (cells_of n words) ≡ n = length-map-range_with_len (is_set_at words) 0 n in
     same_lists (cells_of n words) cells (all ∙ sym e)
     (λ k d lt.
-    get_or-map-range_with_len (is_set_at words) 0 n k k d (omega (arith, lt, all)) refl ∙ p.right k (omega (arith, lt, all, e)) ∙
+    get_or-map-range_with_len (is_set_at words) 0 n k k d (omega (arith, lt, all)) (omega arith) ∙ p.right k (omega (arith, lt, all, e)) ∙
     get_or_default cells k false d (omega (arith, lt, all, e)))
 
 pub kept-ground : (g : OpenCells) (words : List ℕ) (w d : ℕ) → IsGrid g → ArePacked g.cells words → w ≡ g.size.width → d ≡ g.size.depth

@@ -1,0 +1,30 @@
+-- Those that are kept are on the ground, the new ones too.
+use Rattle.std.proofs.lemmas.List.Elements.{All-push, All-set}
+use Rattle.std.specs.{Bool.if◌then◌else◌, Result.is_ok}
+use Rattle.sim_search.specs.declared.distances.Distances.{Distances}
+use Rattle.sim_path.proofs.Common.{All, Bool, field_of_grid, false, List, subst, sym, true, [], ◌%◌, ◌++◌, ◌∷◌, ◌≡◌}
+use Rattle.sim_path.proofs.atlas.Atlas.keep.Goals as goal
+use Rattle.sim_path.specs.Atlases.{AreOn, ground_in}
+
+pub invariant_of-self : goal.invariant_of-self
+invariant_of-self c =
+    let old = c.args.self.now in
+    record {
+      right = old.right;
+      near = All-set (AreOn (field_of_grid (ground_in old.cells))) old.goals.items (old.next % 32) c.args.distances c.requires old.near;
+    }
+
+-- one more is pushed, or all stays
+push-all : (P : Distances → Type 0) (pushed : Bool) (old new : List Distances) (x : Distances) → new ≡ (if pushed then old ++ x ∷ [] else old) → All P old → P x
+    → All P new
+push-all P true old new x e all one = subst (All P) (sym e) (All-push P old x all one)
+push-all P false old new x e all one = subst (All P) (sym e) all
+
+pub invariant_of-self-else-is_err : goal.invariant_of-self-else-is_err
+invariant_of-self-else-is_err c =
+    let old = c.args.self.now in
+    record {
+      right = old.right;
+      near = push-all (AreOn (field_of_grid (ground_in old.cells))) (is_ok c.push.result) old.goals.items c.push.new.self.items c.args.distances
+          c.push.ensures.items old.near c.requires;
+    }
