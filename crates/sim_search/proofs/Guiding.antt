@@ -367,3 +367,12 @@ distances-guide field goal number start on opened known =
   where
     twice : (n : ℕ) → 2 * n % 2 ≡ 0
     twice n = omega arith
+
+-- an estimate that tells nothing guides each search
+pub nothing-guides : (field : Field) (start : Cell) → IsGuide field start (λ (c : Cell). 0)
+nothing-guides field start =
+    record {
+      falls = record { falls = λ a b k s. omega arith };
+      rises = λ a b k n w s. omega (arith, s.cost_is, most_step s.which);
+      even = λ c. omega arith;
+    }

@@ -1,6 +1,6 @@
 -- What is known of the cost from a cell on.
 use Rattle.std.specs.Prelude.{◌≡◌, ℕ, ◌+◌, ◌-◌, ◌*◌, ◌/◌, ◌%◌, ◌<◌, ◌≤◌}
-use Rattle.sim_search.specs.{Common.Cell, Common.Field, Common.IsStep, Common.octile, Common.Walk, declared.aim.Aim.Aim}
+use Rattle.sim_search.specs.{Common.Cell, Common.Field, Common.IsStep, Common.octile, Common.Walk, declared.aim.Aim.Aim, declared.aim.Nowhere.Nowhere}
 
 -- An estimate falls along a step by at most what the step costs. So it is never more than what a walk to a cell with estimate 0 costs.
 pub record IsEstimate {X : Type 0} (Step : X → X → ℕ → Type 0) (estimate : X → ℕ) : Type 0 where
@@ -16,6 +16,10 @@ pub record IsGuide (field : Field) (start : Cell) (estimate : Cell → ℕ) : Ty
 -- how much further a cell is from the goal than the ends of the search are, as an even number, as all costs are
 abbrev pub estimate_to : Aim → Cell → ℕ
 estimate_to aim c = (octile c aim.goal - aim.near) / 2 * 2
+
+-- of all cells nothing is known
+abbrev pub nothing_left : Nowhere → Cell → ℕ
+nothing_left it c = 0
 
 -- a cell of the largest ground
 pub record IsNarrow (c : Cell) : Type 0 where

@@ -26,19 +26,6 @@ pub struct Aim {
     pub near: u32,
 }
 
-impl Aim {
-    ghost use Rattle.std.specs.Prelude.{◌≡◌};
-    ghost use Rattle.sim_search.specs.{Common.Cell, Estimates.estimate_to, Estimates.IsNarrow};
-
-    /// No cell of a ground is as far from a goal as this. A search with this aim goes everywhere alike.
-    pub fn nowhere(goal: Cell) -> Aim
-        ensures goal { result.goal ≡ goal }
-        ensures alike { IsNarrow goal → (c : Cell) → IsNarrow c → estimate_to result c ≡ 0 }
-    {
-        Aim { goal, near: 65_536 }
-    }
-}
-
 impl Guide for Aim {
     ghost use Rattle.sim_search.specs.Estimates.{estimate_to};
 
@@ -46,5 +33,19 @@ impl Guide for Aim {
 
     fn estimate(self, cell: Cell) -> u32 {
         octile(cell, self.goal).saturating_sub(self.near) / 2 * 2
+    }
+}
+
+/// No cell is further than another: a search by this goes everywhere alike.
+#[derive(Clone, Copy)]
+pub struct Nowhere {}
+
+impl Guide for Nowhere {
+    ghost use Rattle.sim_search.specs.Estimates.{nothing_left};
+
+    ghost estimate_of = { nothing_left };
+
+    fn estimate(self, _cell: Cell) -> u32 {
+        0
     }
 }

@@ -5,8 +5,9 @@ ghost use Rattle.sim_search.specs.{Comes.IsComeTo, Comes.IsSearched, Queues.Begi
 ghost use Rattle.sim_search.specs.{Common.Cell, Common.Field, Common.field_of_grid, Common.IsOnGround, Tables.AreCosts, Tables.cost_in, Tables.size_of};
 ghost use Rattle.sim_search.specs.Estimates.{IsGuide};
 
+use crate::aim::Nowhere;
 use crate::queue::{begun, emptied, is_empty, lower, swap_bucket, take, waiting};
-use crate::{Aim, Costs, Guide, Search, moves_from, step, step_cost};
+use crate::{Costs, Guide, Search, moves_from, step, step_cost};
 use sim_base::{Cell, Items, OutOfMemory};
 use sim_grid::Grid;
 use std::alloc::Global;
@@ -200,9 +201,8 @@ pub fn search_all(
     ensures size { IfOk result (λ s. size_of s.costs ≡ grid.now.size) }
     ensures costs { IfOk result (λ s. AreCosts (field_of_grid grid.now) start (cost_in s.costs)) }
 {
-    let aim = Aim::nowhere(start);
-    let stage = started(alloc, grid, rooms, aim, start)?;
-    Ok(search_of(go_on(alloc, stage, grid, aim, &[])?))
+    let stage = started(alloc, grid, rooms, Nowhere {}, start)?;
+    Ok(search_of(go_on(alloc, stage, grid, Nowhere {}, &[])?))
 }
 
 /// The least costs of walks from the start to all cells of the grid. The start counts as open.

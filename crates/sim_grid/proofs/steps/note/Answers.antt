@@ -1,4 +1,4 @@
-use Rattle.std.proofs.Common.{ℕ, ◌<◌, length, get_or, set, ap, arith, subst, sym}
+use Rattle.std.proofs.Common.{ℕ, ◌<◌, length, set, arith, subst, sym}
 use Rattle.std.proofs.lemmas.List.{get_or-set_other, get_or-set_same, length-set}
 use Rattle.sim_grid.proofs.Beside.{place-below, places-apart}
 use Rattle.sim_grid.specs.{Grids.field_of_grid, Grids.place_of, StepBits.AreStepsFrom, StepBits.IsNoted}

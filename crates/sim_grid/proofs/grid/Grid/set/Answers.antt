@@ -29,8 +29,7 @@ invariant_of-self c =
     let old = c.self.inside.cells in
     let at = place_of old.size c.args.cell in
     let lt = within old c.set.new.self at c.place.result c.args.free c.set.ensures c.place.ensures.grid c.place.ensures.below in
-    let there : c.place.result ≡ at = c.place.ensures.place ∙ ap (λ (g : OpenCells). place_of g.size c.args.cell) c.set.ensures in
-    (
+    let there : c.place.result ≡ at = c.place.ensures.place ∙ ap (λ (g : OpenCells). place_of g.size c.args.cell) c.set.ensures in (
       c.note_about.ensures,
       subst (λ (l : List Bool). ArePacked l c.note_word.new.words.items)
           (ap (λ (n : ℕ). set old.cells n c.args.free) there ∙ sym (ap (λ (g : OpenCells). g.cells) c.set.ensures))
