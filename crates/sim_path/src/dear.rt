@@ -7,7 +7,7 @@ use std::alloc::Global;
 const GOALS: usize = 1024;
 
 // After how many opened cells of searches to a goal its distances are reckoned, which opens all that a walk reaches.
-const DEAR: usize = 20_000;
+const DEAR: usize = 8_000;
 
 // How many cells the searches to a goal have opened.
 #[derive(Clone, Copy)]

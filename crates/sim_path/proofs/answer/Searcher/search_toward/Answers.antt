@@ -1,5 +1,5 @@
 -- Distances guide the search, and the goal itself is at none.
-use Rattle.sim_path.proofs.Common.{◌≡◌, ℕ, ◌*◌, ap, Cell, cell_of, field_of_grid, inside-on_ground, octile, octile-none, subst, sym, ◌∙◌}
+use Rattle.sim_path.proofs.Common.{ℕ, ◌*◌, ap, Cell, cell_of, field_of_grid, inside-on_ground, octile-none, ◌∙◌}
 use Rattle.sim_path.proofs.answer.Searcher.search_toward.Goals as goal
 use Rattle.sim_search.proofs.Guiding.{distances-guide}
 use Rattle.sim_search.specs.Distances.{number_in}
