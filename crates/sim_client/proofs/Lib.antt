@@ -1,4 +1,5 @@
 pub mod Common
+pub mod Digesting
 pub mod Following
 pub mod Knowing
 pub mod Standing

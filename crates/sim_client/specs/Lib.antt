@@ -1,3 +1,4 @@
+pub mod Kept
 pub mod KnownWords
 pub mod Lives
 pub mod LifeLaws

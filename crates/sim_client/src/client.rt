@@ -14,6 +14,7 @@ mod hearing;
 
 use crate::bending::bend;
 use crate::did::{Did, one};
+use crate::digests::Digests;
 use crate::playing::{begin, order, play};
 use crate::stage::Stage;
 use sim_base::{Command, Fixed, OutOfMemory, Setup, State};
@@ -131,13 +132,26 @@ impl<'a> Client<'a> {
         ensures setup { setup_in self.new ≡ setup_in self.old }
         ensures number { number_in self.new ≡ number_in self.old }
     {
+        self.play_beside(None)
+    }
+
+    /// Plays the next turn. The digest of its report is taken from those that are kept, where the state is one of theirs.
+    pub fn play_beside(&mut self, digests: Option<&mut Digests>) -> Result<Did, OutOfMemory>
+        requires sound { IsSound self.old ⟦<dyn System as System>⟧ }
+        ensures answers { Answers (plays (setup_in self.old) (life self.old)) (life self.old) result (life self.new) }
+        ensures idle { plays (setup_in self.old) (life self.old) ≡ None → IsOk result }
+        ensures sound { OnOk result (IsSound self.new ⟦<dyn System as System>⟧) }
+        ensures kept { AreKept (systems self.old ⟦<dyn System as System>⟧) (systems self.new ⟦<dyn System as System>⟧) }
+        ensures setup { setup_in self.new ≡ setup_in self.old }
+        ensures number { number_in self.new ≡ number_in self.old }
+    {
         let Stage::On { seat } = &mut self.stage else {
             return Ok(Did::Idle);
         };
         let Some(board) = &mut self.board else {
             return Ok(Did::Idle);
         };
-        play(self.alloc, self.setup, self.orders, board, seat)
+        play(self.alloc, self.setup, self.orders, board, seat, digests)
     }
 
     /// Sets the health of an entity in this client alone, and answers whether it did. Health is in units of 1/65536.
@@ -214,6 +228,17 @@ impl<'a> Client<'a> {
     {
         match self.state() {
             Some(state) => Some(digest(self.setup, state)),
+            None => None,
+        }
+    }
+
+    /// The same, taken from those that are kept, where the state is one of theirs.
+    pub fn digest_beside(&self, digests: &mut Digests) -> Option<[u8; 16]>
+        requires { IsSound self.now ⟦<dyn System as System>⟧ }
+        ensures { result ≡ digest_of (setup_in self.now) (life self.now) }
+    {
+        match self.state() {
+            Some(state) => Some(digests.digest(self.setup, state)),
             None => None,
         }
     }

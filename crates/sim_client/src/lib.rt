@@ -7,6 +7,7 @@
 //! `sim_plain_session`.
 //!
 //! - `did`: what a step comes to.
+//! - `digests`: the digests of the states that were digested last.
 //! - `known`: the commands of the turns to come.
 //! - `stage`: what a client keeps beside its board.
 //! - `bending`, `playing`: what one that is on does with its board, and what it hears.
@@ -17,6 +18,7 @@
 mod bending;
 mod client;
 mod did;
+mod digests;
 mod known;
 mod laws;
 mod playing;
@@ -24,4 +26,5 @@ mod stage;
 
 pub use client::Client;
 pub use did::{Did, Ups};
+pub use digests::Digests;
 pub use laws::lives_follow_phases;

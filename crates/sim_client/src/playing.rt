@@ -2,13 +2,14 @@
 
 ghost use Rattle.{sim_client.specs.StageWords.IsPlaying, sim_client.specs.StageWords.player_at, sim_plain_session.specs.Pasts.is_client as is_client_by};
 ghost use Rattle.std.specs.Prelude.{◌≡◌, ◌+◌, ◌^◌, ◌<◌, min, false, ◌&&◌, [], ◌∷◌, IfOk, OnOk, IsOk, nat_lt, None, Ok, Option};
-ghost use Rattle.sim_base.specs.{Limits.IsSetup, Spelling.spelling, Validity.IsValid, declared.state.State.State as AnyState};
+ghost use Rattle.sim_base.specs.{Limits.IsSetup, Spelling.mark as mark_in, Spelling.spelling, Validity.IsValid, declared.state.State.State as AnyState};
 ghost use Rattle.sim_board.specs.BoardWords.{AreKept, state_in, systems};
 ghost use Rattle.sim_client.specs.{ClientWords.Answers, ClientWords.NeedsNoMemory, KnownWords.AreByPlayers, KnownWords.known_in};
 ghost use Rattle.sim_client.specs.Lives.{hears, learns, may_play as may_play_by, On, orders as orders_by, played, plays, releases, told};
 ghost use Rattle.sim_plain.specs.declared.message.UpOf.TheVariants as up;
 
 use crate::did::{Did, Ups, one, silent};
+use crate::digests::Digests;
 use crate::known::Known;
 use crate::stage::Seat;
 use sim_base::{Command, Items, OutOfMemory, PlayerCommand, Setup, State};
@@ -100,8 +101,26 @@ fn may_tell_done(setup: &Setup, turn: u32, done: u32) -> bool
     done < setup.turns && done < turn + u32::from(setup.delay)
 }
 
+// What a report of a state carries, by the digests that are kept where there are any.
+fn mark_of(setup: &Setup, state: &State, digests: Option<&mut Digests>) -> [u8; 16]
+    requires limits { IsSetup setup.now }
+    requires valid { IsValid setup.now state.now }
+    ensures { result ≡ mark_in setup.now state.now }
+{
+    match digests {
+        Some(digests) => digests.mark(setup, state),
+        None => mark(setup, state),
+    }
+}
+
 // Tells the turn of a state, and that it is done with one turn more, where it may.
-fn tell(alloc: Global, setup: &Setup, state: &State, seat: &mut Seat) -> Result<Ups, OutOfMemory>
+fn tell(
+    alloc: Global,
+    setup: &Setup,
+    state: &State,
+    seat: &mut Seat,
+    digests: Option<&mut Digests>,
+) -> Result<Ups, OutOfMemory>
     requires limits { IsSetup setup.now }
     requires valid { IsValid setup.now state.now }
     ensures says { IfOk result (λ ups. ups ≡ (told setup.now (player_at state.now seat.old)).says) }
@@ -112,7 +131,7 @@ fn tell(alloc: Global, setup: &Setup, state: &State, seat: &mut Seat) -> Result<
         alloc,
         Up::Report {
             turn: state.turn,
-            digest: mark(setup, state),
+            digest: mark_of(setup, state, digests),
         },
     )?;
     if may_tell_done(setup, state.turn, seat.done) {
@@ -123,13 +142,14 @@ fn tell(alloc: Global, setup: &Setup, state: &State, seat: &mut Seat) -> Result<
     Ok(ups)
 }
 
-/// Plays the next turn and tells it, where it may.
+/// Plays the next turn and tells it, where it may. Its report is made by the digests that are kept, if there are any.
 pub fn play(
     alloc: Global,
     setup: &Setup,
     orders: &OrderTable,
     board: &mut Board<'_>,
     seat: &mut Seat,
+    digests: Option<&mut Digests>,
 ) -> Result<Did, OutOfMemory>
     requires playing { IsPlaying setup.now board.old seat.old ⟦<dyn System as System>⟧ }
     ensures answers { let old = On (player_at (state_in board.old) seat.old) in Answers (plays setup.now old) old result
@@ -142,7 +162,7 @@ pub fn play(
         return Ok(Did::Idle);
     }
     play_next(alloc, setup, orders, board, seat)?;
-    let up = tell(alloc, setup, board.scene().state, seat)?;
+    let up = tell(alloc, setup, board.scene().state, seat, digests)?;
     Ok(Did::Done { up })
 }
 

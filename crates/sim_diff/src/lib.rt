@@ -5,7 +5,7 @@
 //! memory. It stands on `sim_codec` for the bytes of a part, and on `sim_laws` for what a least member is.
 //!
 //! - `place`: a part of an entity with its bytes in both states, and the first such place of one entity that differs.
-//! - `same`: whether two rows are the same.
+//! - `same`: whether two rows are the same, and whether two states are.
 //! - `merge`: the walk over the entities of both states.
 //! - `laws`: theorems about the definition, each the contract of a function that does nothing.
 #![tactic(auto)]
@@ -18,3 +18,4 @@ mod same;
 pub use laws::{no_difference_is_one_spelling, the_difference_is_least};
 pub use merge::difference;
 pub use place::Place;
+pub use same::is_same;

@@ -1,10 +1,10 @@
-//! Whether two rows are the same, field by field. Where they are, no bytes need be told, which is so of nearly all rows
-//! of two states that are compared.
+//! Whether two rows are the same, field by field, and whether two states are. Where they are, no bytes need be told, which
+//! is so of nearly all rows of two states that are compared.
 
 ghost use Rattle.std.specs.Prelude.{◌≡◌, ◌↔◌, IsTrue};
 ghost use Rattle.sim_diff.specs.Merge.{HaveSameFirst};
 
-use sim_base::{Aim, Fixed, Motion, Point, Row};
+use sim_base::{Aim, Fixed, Motion, Point, Row, State};
 
 fn are_same_points(left: &[Point], right: &[Point]) -> bool
     ensures { IsTrue result ↔ (left.now ≡ right.now) }
@@ -85,4 +85,32 @@ pub fn have_same_first(lefts: &[Row], rights: &[Row]) -> bool
         ([left, ..], [right, ..]) => is_same_row(left, right),
         _ => false,
     }
+}
+
+fn are_same_rows(left_rows: &[Row], right_rows: &[Row]) -> bool
+    ensures { IsTrue result ↔ (left_rows.now ≡ right_rows.now) }
+{
+    let mut lefts = left_rows;
+    let mut rights = right_rows;
+    'rows: while let ([left, lefts_behind @ ..], [right, rights_behind @ ..]) = (lefts, rights) {
+        if !is_same_row(left, right) {
+            return false;
+        }
+        lefts = lefts_behind;
+        rights = rights_behind;
+    }
+    lefts.is_empty() && rights.is_empty()
+}
+
+fn has_same_clock(left: &State, right: &State) -> bool
+    ensures { IsTrue result ↔ ((left.now.turn ≡ right.now.turn) × (left.now.next ≡ right.now.next) × (left.now.word ≡ right.now.word)) }
+{
+    left.turn == right.turn && left.next == right.next && left.word == right.word
+}
+
+/// Whether two states are the same. Those of different turns are told apart at once. It takes no memory.
+pub fn is_same(left: &State, right: &State) -> bool
+    ensures { IsTrue result ↔ (left.now ≡ right.now) }
+{
+    has_same_clock(left, right) && are_same_rows(left.rows.as_slice(), right.rows.as_slice())
 }

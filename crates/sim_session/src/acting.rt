@@ -16,7 +16,7 @@ ghost use Rattle.sim_base.specs.declared.step.Step.TheVariants as step;
 use crate::hearing::down;
 use crate::printing::{digest_of_play, one, said_events, shown};
 use sim_base::{Command, Event, Events, Fixed, Items, OutOfMemory, Step};
-use sim_client::{Client, Did, Ups};
+use sim_client::{Client, Did, Digests, Ups};
 use sim_pipes::Exchange;
 use sim_system::System;
 use sim_wire::Up;
@@ -76,7 +76,13 @@ fn order(
 }
 
 // What is printed of a client that was to play a turn: the turn with the whole digest, whatever its report carries.
-fn played(alloc: Global, client: &Client<'_>, number: u8, did: &Did) -> Result<Events, OutOfMemory>
+fn played(
+    alloc: Global,
+    client: &Client<'_>,
+    digests: &mut Digests,
+    number: u8,
+    did: &Did,
+) -> Result<Events, OutOfMemory>
     requires sound { IsSound client.now ⟦<dyn System as System>⟧ }
     requires told { IsDigestOf (setup_in client.now) (life client.now) (said_by did.now) }
     ensures events { IfOk result (λ events. events ≡ played_events (setup_in client.now) number (life client.now) (has_happened did.now)) }
@@ -85,7 +91,7 @@ fn played(alloc: Global, client: &Client<'_>, number: u8, did: &Did) -> Result<E
     let Did::Done { up } = did else {
         return Ok(Items::new(alloc));
     };
-    let digest = digest_of_play(client, up.as_slice());
+    let digest = digest_of_play(client, digests, up.as_slice());
     let Some(seen) = shown(client, digest) else {
         return Ok(Items::new(alloc));
     };
@@ -106,6 +112,7 @@ fn play(
     alloc: Global,
     client: &mut Client<'_>,
     exchange: &mut Exchange,
+    digests: &mut Digests,
     number: u8,
 ) -> Result<Events, OutOfMemory>
     requires sound { IsSound client.old ⟦<dyn System as System>⟧ }
@@ -117,8 +124,8 @@ fn play(
     ensures setup { setup_in client.new ≡ setup_in client.old }
     ensures rules { exchange.new.server.rules ≡ exchange.old.server.rules }
 {
-    let did = client.play()?;
-    let events = played(alloc, client, number, &did)?;
+    let did = client.play_beside(Some(&mut *digests))?;
+    let events = played(alloc, client, digests, number, &did)?;
     let ups = ups_of(alloc, did);
     exchange.send(number, ups.as_slice())?;
     Ok(events)
@@ -235,11 +242,12 @@ pub fn client_of(step: &Step) -> u8
     }
 }
 
-/// Makes a step of a client, and answers what is printed of it.
+/// Makes a step of a client, and answers what is printed of it. The states that are played are digested beside those that are kept.
 pub fn act(
     alloc: Global,
     client: &mut Client<'_>,
     exchange: &mut Exchange,
+    digests: &mut Digests,
     step: &Step,
 ) -> Result<Events, OutOfMemory>
     requires sound { IsSound client.old ⟦<dyn System as System>⟧ }
@@ -267,7 +275,7 @@ pub fn act(
         } => order(alloc, client, exchange, *number, command),
         Step::Up { client: number } => exchange.rise(*number),
         Step::Down { client: number } => down(alloc, client, exchange, *number),
-        Step::Play { client: number } => play(alloc, client, exchange, *number),
+        Step::Play { client: number } => play(alloc, client, exchange, digests, *number),
         Step::Join { client: number } => join(alloc, client, exchange, *number),
         Step::Cut { client: number } => cut(alloc, client, exchange, *number),
         Step::Bend {

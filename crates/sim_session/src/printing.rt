@@ -5,7 +5,7 @@ ghost use Rattle.sim_client.specs.ClientWords.{digest_of, IsSound, life, setup_i
 ghost use Rattle.sim_session.specs.Printing.{IsDigestOf, said_events as events_said, shown_of};
 
 use sim_base::{Event, Events, Items, OutOfMemory};
-use sim_client::Client;
+use sim_client::{Client, Digests};
 use sim_codec::is_full_turn;
 use sim_system::System;
 use sim_wire::Up;
@@ -41,16 +41,16 @@ pub fn said_events(alloc: Global, client: u8, ups: &[Up]) -> Result<Events, OutO
     }
 }
 
-/// The digest of a client that has just played a turn and says this. At a full turn its report carries it, and it is not made
-/// again.
-pub fn digest_of_play(client: &Client<'_>, ups: &[Up]) -> Option<[u8; 16]>
+/// The digest of a client that has just played a turn and says this. At a full turn its report carries it, and else it is taken
+/// from those that are kept, where its state is one of theirs.
+pub fn digest_of_play(client: &Client<'_>, digests: &mut Digests, ups: &[Up]) -> Option<[u8; 16]>
     requires sound { IsSound client.now ⟦<dyn System as System>⟧ }
     requires told { IsDigestOf (setup_in client.now) (life client.now) ups.now }
     ensures { result ≡ digest_of (setup_in client.now) (life client.now) }
 {
     match ups.first() {
         Some(Up::Report { turn, digest }) if is_full_turn(*turn) => Some(*digest),
-        _ => client.digest(),
+        _ => client.digest_beside(digests),
     }
 }
 

@@ -13,7 +13,7 @@ ghost use Rattle.sim_session.specs.Standing.{IsIdle, IsNumber, IsSmallStep, life
 use crate::acting::{act, client_of};
 use crate::rigs::{seat, unseat};
 use sim_base::{Events, OutOfMemory, Setup, Step};
-use sim_client::Client;
+use sim_client::{Client, Digests};
 use sim_orders::OrderTable;
 use sim_pipes::Exchange;
 use sim_server::Server;
@@ -21,13 +21,15 @@ use sim_system::{Rig, System};
 use sim_wire::Bytes;
 use std::alloc::Global;
 
-/// A session of a match: a client for each player, the server, and the pipes between them.
+/// A session of a match: a client for each player, the server, the pipes between them, and the digests of the states that clients
+/// came to last.
 #[derive(Drop)]
 pub struct Session<'a> {
     alloc: Global,
     setup: &'a Setup,
     clients: Vec<Client<'a>>,
     exchange: Exchange,
+    digests: Digests,
     rigs: Vec<Rig>,
 }
 
@@ -87,6 +89,7 @@ impl<'a> Session<'a> {
             setup,
             clients,
             exchange,
+            digests: Digests::new(alloc),
             rigs,
         })
     }
@@ -142,7 +145,13 @@ impl<'a> Session<'a> {
     {
         let number = client_of(step);
         let client = &mut self.clients[number as usize - 1];
-        act(self.alloc, client, &mut self.exchange, step)
+        act(
+            self.alloc,
+            client,
+            &mut self.exchange,
+            &mut self.digests,
+            step,
+        )
     }
 
     /// The match.

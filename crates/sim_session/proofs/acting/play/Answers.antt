@@ -6,7 +6,7 @@ use Rattle.sim_session.proofs.acting.play.Goals as goal
 pub played-requires-clause-told : goal.played-requires-clause-told
 played-requires-clause-told g c =
     let client = c.args.client.now in
-    let new = c.play.new.self in
+    let new = c.play_beside.new.self in
     let new_life = life_at new.stage new.board in
     subst (λ (s : Setup). IsDigestOf s new_life (said_by c.in_ok-did.did)) (sym c.in_ok-did.ensures.setup)
     (play_digest client.setup.now (life_at client.stage client.board) c.in_ok-did.did new_life c.in_ok-did.ensures.answers)
@@ -14,14 +14,14 @@ played-requires-clause-told g c =
 pub send-requires-clause-small : goal.send-requires-clause-small
 send-requires-clause-small g c =
     let client = c.args.client.now in
-    let new = c.play.new.self in
+    let new = c.play_beside.new.self in
     subst (All IsSmallUp) (sym (c.as_slice.ensures ∙ c.ups_of-ups.ensures))
     (play_small client.setup.now (life_at client.stage client.board) c.in_ok-did.did (life_at new.stage new.board) c.in_ok-did.ensures.answers)
 
 pub returns-clause-made : goal.returns-clause-made
 returns-clause-made g c =
     let client = c.args.client.now in
-    let new = c.play.new.self in
+    let new = c.play_beside.new.self in
     let new_life = life_at new.stage new.board in
     play_makes client.setup.now c.args.number (life_at client.stage client.board) new_life c.args.exchange.now c.send.new.self c.in_ok-did.did
     c.in_ok-events.events
