@@ -9,6 +9,7 @@
 //! - `floor`, `away`, `tight`, `milestone`: ways to a far goal that cost no more than a search knows that they must, found
 //!   before all cells are searched that cost as much.
 //! - `atlas`, `kept`: landmarks of a ground, and its open cells, which are kept from one search to the next.
+//! - `trip`, `remembered`: ways that are remembered.
 //! - `answer`: the way, by its points, and the rooms that are kept from one search to the next.
 //!
 //! The labels and the laws of `sim_search` can be had here too, since whoever asks a way needs them.
@@ -24,9 +25,11 @@ mod marks;
 mod milestone;
 mod nearest;
 mod reached;
+mod remembered;
 mod straight;
 mod tight;
 mod trail;
+mod trip;
 mod unmarked;
 
 pub use answer::{Searcher, way, way_with};
