@@ -11,16 +11,18 @@
 //! - `mended`: the labels where the cells of a rectangle were closed or opened.
 //! - `free`: whether a rectangle is free.
 //! - `spot`: the open cell nearest to a point.
-//! - `way`: ways over the open cells.
+//! - `rooms`, `way`: the rooms of searches, which several grounds may share; ways over the open cells.
 #![tactic(auto)]
 
 mod cover;
 mod free;
 mod mended;
 mod opened;
+mod rooms;
 mod span;
 mod spot;
 mod system;
 mod way;
 
+pub use rooms::Rooms;
 pub use system::Ground;

@@ -6,21 +6,22 @@ ghost use Rattle.sim_system.specs.{Notes.noted, Notes.NoteFits, declared.kind.Ki
 
 use crate::free::is_free;
 use crate::opened::Opened;
+use crate::rooms::{Lent, Rooms};
 use crate::spot::nearest;
 use crate::way::way_over;
 use sim_base::{Land, OutOfMemory};
 use sim_fact_lists::{Kept, id_of, part_after};
-use sim_path::{Labels, Searcher};
+use sim_path::Labels;
 use sim_system::{Answer, Ask, Fact, Kind, Note, System};
 use std::alloc::Global;
-use std::cell::Cell;
+use std::rc::Rc;
 
 /// Keeps the rectangle of each entity that is an obstruction, which cells are open, and the rooms of searches.
 #[derive(Drop)]
 pub struct Ground {
     kept: Kept,
     opened: Option<Opened>,
-    rooms: Cell<Option<Searcher>>,
+    rooms: Lent,
     ghost over: { IsKept kept.land kept.facts.items opened },
 }
 
@@ -32,7 +33,18 @@ impl Ground {
         Ground {
             kept: Kept::new(alloc),
             opened: None,
-            rooms: Cell::new(None),
+            rooms: Lent::Own(Rooms::new()),
+        }
+    }
+
+    /// The same in rooms that several share.
+    pub fn sharing(alloc: Global, rooms: Rc<Rooms>) -> Ground
+        ensures { ⟦<Ground as System>⟧.meaning result ≡ record { kind = GroundKind; land = None; facts = []; rebuilds = 0 } }
+    {
+        Ground {
+            kept: Kept::new(alloc),
+            opened: None,
+            rooms: Lent::Shared(rooms),
         }
     }
 
@@ -128,7 +140,7 @@ impl System for Ground {
                 cell: nearest(&opened.cover.grid, at),
             }),
             Ask::Way { start, goal } => Ok(Answer::Found {
-                way: way_over(self.kept.alloc, &self.rooms, opened, start, goal)?,
+                way: way_over(self.kept.alloc, self.rooms.rooms(), opened, start, goal)?,
             }),
             _ => unreachable!(),
         }

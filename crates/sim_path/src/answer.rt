@@ -1,10 +1,11 @@
 //! The way from a point to another, by its points.
 
 ghost use Rattle.{sim_grid.specs.Grids.field_of_grid, sim_search.specs.Floods.label_in};
-ghost use Rattle.std.specs.Prelude.{◌≡◌, ◌<◌, true, [], ◌∷◌, reverse, IfOk, if◌then◌else◌, OnOk, IsTrue, All};
+ghost use Rattle.std.specs.Prelude.{◌≡◌, ◌<◌, true, false, [], ◌∷◌, reverse, IfOk, if◌then◌else◌, OnOk, IsTrue, All};
 ghost use Rattle.sim_base.specs.{Places.cell_of as cell_at, Places.centre_of as centre_at, Places.is_inside, Places.IsPlaced, Places.same_cell, WayOf.way_of};
-ghost use Rattle.sim_base.specs.{Steps.IsOnGround, Ways.first_points, Ways.IsEnd, Ways.IsFound, Ways.IsWay, Ways.waypoints};
-ghost use Rattle.sim_path.specs.{Answers.way_in, WayEnds.AreEnds, WayEnds.HasGoneTo, WayEnds.IsTrailToEnd, WayEnds.IsWayEnd, WayEnds.LeadBack};
+ghost use Rattle.sim_base.specs.{Steps.IsOnGround, Ways.IsEnd, Ways.IsWay, Ways.waypoints};
+ghost use Rattle.sim_path.specs.{Answers.way_in, Remembering.AreFirst, WayEnds.AreEnds, WayEnds.HasGoneTo, WayEnds.IsTrailToEnd, WayEnds.IsWayEnd};
+ghost use Rattle.sim_path.specs.WayEnds.{LeadBack};
 ghost use Rattle.sim_search.specs.{Estimates.IsNarrow, Regions.AreLabels, Tables.cost_in, Tables.size_of};
 
 use crate::atlas::Atlas;
@@ -14,11 +15,13 @@ use crate::marks::Marks;
 use crate::milestone::milestone;
 use crate::nearest::{is_reached, nearest, shore_of};
 use crate::reached::Reached;
+use crate::remembered::Remembered;
 use crate::straight::straight_to;
 use crate::tight::tight_to;
 use crate::trail::trail_from;
+use crate::trip::{Trip, trip_of};
 use crate::unmarked::blank_marks;
-use sim_base::{Cell, Items, MAX_WAYPOINTS, OutOfMemory, Point, Points, cell_of, centre_of};
+use sim_base::{Cell, Items, OutOfMemory, Point, Points, cell_of, centre_of};
 use sim_grid::Grid;
 use sim_search::{
     Ahead, Aim, Costs, Distances, Guide, Labels, Landmarks, Search, Stage, Toward, go_on,
@@ -61,39 +64,38 @@ fn turn(trail: &mut Vec<Cell>)
 }
 
 // The way through these cells.
-fn way_along(alloc: Global, cells: &[Cell], goal: &Point) -> Result<Way, OutOfMemory>
-    requires cells { All IsNarrow cells.now }
+fn way_through(alloc: Global, trip: Trip<'_>, goal: &Point) -> Result<Way, OutOfMemory>
+    requires cells { All IsNarrow trip.cells.now }
     requires goal { IsPlaced goal.now }
-    ensures { IfOk result (λ way. way_in way ≡ first_points (waypoints goal.now cells.now)) }
+    ensures { IfOk result (λ way. way_in way ≡ record { points = waypoints goal.now trip.entry.cells.now; whole = trip.entry.whole }) }
 {
-    let kept = &cells[..cells.len().min(MAX_WAYPOINTS)];
-    let mut points = Vec::with_capacity(alloc, kept.len())?;
-    for cell in kept {
+    let mut points = Vec::with_capacity(alloc, trip.cells.len())?;
+    for cell in trip.cells {
         points.push(waypoint(*cell, goal))?;
     }
     Ok(Way {
         points: Points::from_items(points),
-        whole: cells.len() <= MAX_WAYPOINTS,
+        whole: trip.whole,
     })
 }
 
-// The way along a trail, from the start on.
-fn way_forwards(
+// The way by its first cells.
+fn way_by(
     alloc: Global,
     grid: &Grid,
-    trail: &mut Vec<Cell>,
+    trip: Trip<'_>,
     start: &Point,
     goal: &Point,
 ) -> Result<Way, OutOfMemory>
     requires start { IsTrue (is_inside grid.now.size start.now) }
     requires goal { IsTrue (is_inside grid.now.size goal.now) }
-    requires trail { IsTrailToEnd (field_of_grid grid.now) (cell_at start.now) (cell_at goal.now) trail.old.items }
-    ensures { IfOk result (λ way. IsFound (field_of_grid grid.now) start.now goal.now (way_in way)) }
+    requires apart { same_cell (cell_at start.now) (cell_at goal.now) ≡ false }
+    requires first { ∥ AreFirst (field_of_grid grid.now) (cell_at start.now) (cell_at goal.now) trip.cells.now trip.whole ∥₁ }
+    ensures { IfOk result (λ way. way_in way ≡ way_of (field_of_grid grid.now) start.now goal.now) }
 {
     // For what is known of the start then: its cell is one of the ground's.
     let _ = grid.cell_of(*start);
-    turn(trail);
-    way_along(alloc, trail.as_slice(), goal)
+    way_through(alloc, trip, goal)
 }
 
 // Makes the trail back from the end.
@@ -148,7 +150,8 @@ pub fn way(alloc: Global, grid: &Grid, start: Point, goal: Point) -> Result<Way,
     let end = end_of(&costs, from, to);
     let mut trail = Vec::new(alloc);
     trail_back(grid, &costs, &mut trail, end, start, goal)?;
-    way_forwards(alloc, grid, &mut trail, start, goal)
+    turn(&mut trail);
+    way_by(alloc, grid, trip_of(trail.as_slice()), start, goal)
 }
 
 // From which detour on a search counts, which is how much more its way costs than the straight one: landmarks spare little where ways
@@ -165,8 +168,8 @@ struct Pains {
     opened: usize,
 }
 
-/// The rooms of searches, which are kept from one to the next, and what is known of the ground where ways are winding. What they hold
-/// changes no answer.
+/// The rooms of searches, which are kept from one to the next, what is known of the ground where ways are winding, and the ways that
+/// took a search. What they hold changes no answer.
 #[derive(Drop)]
 pub struct Searcher {
     rooms: Option<Search>,
@@ -174,16 +177,17 @@ pub struct Searcher {
     trail: Option<Vec<Cell>>,
     atlas: Option<Atlas>,
     detours: u32,
+    ways: Option<Remembered>,
 }
 
 impl Searcher {
     ghost use Rattle.{sim_grid.specs.Grids.field_of_grid, sim_search.specs.Floods.label_in, sim_search.specs.Queues.Ready, sim_search.specs.Regions.AreLabels};
-    ghost use Rattle.std.specs.Prelude.{◌≡◌, ◌^◌, ◌<◌, true, IfOk, IfSome, OnOk, IsTrue};
-    ghost use Rattle.sim_base.specs.{Places.cell_of as cell_at, Places.is_inside, WayOf.way_of, Ways.IsFound, Ways.IsWay, declared.place.Cell.Cell};
+    ghost use Rattle.std.specs.Prelude.{◌≡◌, ◌^◌, ◌<◌, true, false, IfOk, IfSome, OnOk, IsTrue};
+    ghost use Rattle.sim_base.specs.{Places.cell_of as cell_at, Places.is_inside, Places.same_cell, WayOf.way_of, Ways.IsWay, declared.place.Cell.Cell};
     ghost use Rattle.sim_base.specs.Steps.{IsOnGround, octile};
     ghost use Rattle.{sim_grid.specs.Grids.is_open_at, sim_search.specs.Rows.AreLandmarks, sim_search.specs.Rows.row_in};
     ghost use Rattle.sim_search.specs.Distances.{AreDistances, number_in};
-    ghost use Rattle.sim_path.specs.{Answers.way_in, Atlases.ground_in, Floors.IsFront, WayEnds.AreEnds, WayEnds.IsTrailToEnd};
+    ghost use Rattle.sim_path.specs.{Answers.way_in, Atlases.ground_in, Floors.IsFront, Remembering.AreFirst, WayEnds.AreEnds, WayEnds.IsTrailToEnd};
 
     /// A searcher that has no rooms yet.
     pub fn new() -> Searcher {
@@ -193,11 +197,12 @@ impl Searcher {
             trail: None,
             atlas: None,
             detours: 0,
+            ways: None,
         }
     }
 
     /// The same way as that of `way`, found by a search that goes to the reached cells nearest to the goal, which the
-    /// labels tell.
+    /// labels tell, or remembered.
     pub fn way(
         &mut self,
         alloc: Global,
@@ -218,6 +223,9 @@ impl Searcher {
         if from == to {
             return way_within(alloc, goal);
         }
+        if let Some(trip) = self.trip(grid, from, to) {
+            return way_by(alloc, grid, trip, start, goal);
+        }
         let shore = shore_of(grid, labels, from);
         if is_reached(&shore, to) {
             return self.way_to(alloc, grid, 0, &[to], start, goal);
@@ -226,7 +234,37 @@ impl Searcher {
         self.way_to(alloc, grid, ends.near, ends.cells.as_slice(), start, goal)
     }
 
-    // The way to the best of these ends.
+    // The way between these cells, if it is remembered.
+    fn trip(&self, grid: &Grid, from: Cell, to: Cell) -> Option<Trip<'_>>
+        ensures { IfSome result (λ trip. ∥ AreFirst (field_of_grid grid.now) from to trip.cells.now trip.whole ∥₁) }
+    {
+        match &self.ways {
+            Some(ways) => ways.trip(grid, from, to),
+            None => None,
+        }
+    }
+
+    // What is remembered of this ground: nothing yet, where there is none or it is full.
+    fn ways_of(&mut self, alloc: Global, grid: &Grid) -> Result<Remembered, OutOfMemory>
+        ensures { IfOk result (λ ways. ground_in ways.over ≡ grid.now) }
+    {
+        match self.ways.take() {
+            Some(ways) if ways.goes_on(grid) => Ok(ways),
+            _ => Remembered::of(alloc, grid),
+        }
+    }
+
+    // Remembers a way between these cells. It is only kept, so want of memory is no refusal.
+    fn remember(&mut self, alloc: Global, grid: &Grid, from: Cell, to: Cell, trip: Trip<'_>)
+        requires { ∥ AreFirst (field_of_grid grid.now) from to trip.cells.now trip.whole ∥₁ }
+    {
+        if let Ok(mut ways) = self.ways_of(alloc, grid) {
+            let _ = ways.keep(from, to, trip);
+            self.ways = Some(ways);
+        }
+    }
+
+    // The way to the best of these ends. It is remembered where it took a search, or the ends did.
     fn way_to(
         &mut self,
         alloc: Global,
@@ -238,17 +276,24 @@ impl Searcher {
     ) -> Result<Way, OutOfMemory>
         requires start { IsTrue (is_inside grid.now.size start.now) }
         requires goal { IsTrue (is_inside grid.now.size goal.now) }
+        requires apart { same_cell (cell_at start.now) (cell_at goal.now) ≡ false }
         requires ends { AreEnds (field_of_grid grid.now) (cell_at start.now) (cell_at goal.now) near ends.now }
-        ensures { IfOk result (λ way. IsFound (field_of_grid grid.now) start.now goal.now (way_in way)) }
+        ensures { IfOk result (λ way. way_in way ≡ way_of (field_of_grid grid.now) start.now goal.now) }
     {
+        let (from, to) = (grid.cell_of(*start), grid.cell_of(*goal));
         let mut trail = room_of(alloc, self.trail.take());
-        self.find(alloc, grid, &mut trail, near, ends, start, goal)?;
-        let way = way_forwards(alloc, grid, &mut trail, start, goal);
+        let searched = self.find(alloc, grid, &mut trail, near, ends, start, goal)?;
+        turn(&mut trail);
+        let trip = trip_of(trail.as_slice());
+        if searched || near != 0 {
+            self.remember(alloc, grid, from, to, trip);
+        }
+        let way = way_by(alloc, grid, trip, start, goal);
         self.trail = Some(trail);
         way
     }
 
-    // Makes the trail back from the best of these ends, with no search where the way is straight.
+    // Makes the trail back from the best of these ends, with no search where the way is straight, and says whether there was one.
     fn find(
         &mut self,
         alloc: Global,
@@ -258,7 +303,7 @@ impl Searcher {
         ends: &[Cell],
         start: &Point,
         goal: &Point,
-    ) -> Result<(), OutOfMemory>
+    ) -> Result<bool, OutOfMemory>
         requires start { IsTrue (is_inside grid.now.size start.now) }
         requires goal { IsTrue (is_inside grid.now.size goal.now) }
         requires ends { AreEnds (field_of_grid grid.now) (cell_at start.now) (cell_at goal.now) near ends.now }
@@ -270,9 +315,10 @@ impl Searcher {
         let straight = straight_to(grid, &mut dead, trail, near, ends, from, to)?;
         self.marks = Some(dead);
         if straight {
-            return Ok(());
+            return Ok(false);
         }
-        self.search(alloc, grid, trail, near, ends, start, goal)
+        self.search(alloc, grid, trail, near, ends, start, goal)?;
+        Ok(true)
     }
 
     // Whether a way to one of these ends costs as little as the search knows that it must. If so, the trail is made of its

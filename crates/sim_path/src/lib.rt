@@ -11,6 +11,7 @@
 //! - `atlas`, `kept`: landmarks of a ground, distances to some goals on it, and its open cells, which are kept from one search to the
 //!   next.
 //! - `dear`: the goals to which searches were dear.
+//! - `trip`, `remembered`: ways that are remembered.
 //! - `answer`: the way, by its points, and the rooms that are kept from one search to the next.
 //!
 //! The labels and the laws of `sim_search` can be had here too, since whoever asks a way needs them.
@@ -27,9 +28,11 @@ mod marks;
 mod milestone;
 mod nearest;
 mod reached;
+mod remembered;
 mod straight;
 mod tight;
 mod trail;
+mod trip;
 mod unmarked;
 
 pub use answer::{Searcher, way, way_with};

@@ -8,7 +8,10 @@ pub returns-then-straight : goal.returns-then-straight
 returns-then-straight c = rw (c.cell_of-from.ensures.cell, c.cell_of-to.ensures.cell) at (c.in_ok-straight.ensures c.if-straight.true)
 
 pub returns : goal.returns
-returns c = c.search.ensures
+returns c = c.in_ok-search.ensures
+
+pub returns-in_err-search : goal.returns-in_err-search
+returns-in_err-search c = IfOk-from_err _ _ c.from_residual-in_err-search.ensures.0
 
 pub returns-in_err-dead : goal.returns-in_err-dead
 returns-in_err-dead c = IfOk-from_err _ _ c.from_residual.ensures.0

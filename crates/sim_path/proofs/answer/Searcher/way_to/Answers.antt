@@ -1,5 +1,9 @@
-use Rattle.sim_path.proofs.Common.{IfOk-from_err}
+use Rattle.sim_path.proofs.Common.{cell_of, field_of_grid, ◌∙◌}
+use Rattle.sim_path.proofs.Found.{first-of}
 use Rattle.sim_path.proofs.answer.Searcher.way_to.Goals as goal
 
-pub returns-in_err-find : goal.returns-in_err-find
-returns-in_err-find c = IfOk-from_err _ _ c.from_residual.ensures.0
+pub way_by-way-requires-clause-first : goal.way_by-way-requires-clause-first
+way_by-way-requires-clause-first c =
+    ∣ first-of (field_of_grid c.args.grid.now) (cell_of c.args.start.now) (cell_of c.args.goal.now) c.find.new.trail.items c.as_slice.result.now
+    c.trip_of-trip.result.cells.now c.trip_of-trip.result.whole c.in_ok-searched.ensures (c.as_slice.ensures.value ∙ c.turn.ensures)
+    c.trip_of-trip.ensures.cells c.trip_of-trip.ensures.whole ∣₁
