@@ -39,17 +39,18 @@ impl Dear {
         })
     }
 
-    /// Counts what a search to a goal has opened, and answers whether the searches to it were dear by now. If so, its count
-    /// begins anew.
+    /// Counts what a search to a goal has opened, and answers whether the searches to it, more than one, were dear by now. If so, its
+    /// count begins anew.
     pub fn add(&mut self, goal: Cell, opened: usize) -> bool {
         let place = place_of(goal);
         if place >= self.items.len() {
             return false;
         }
         let asked = self.items[place];
-        let before = if asked.goal == goal { asked.opened } else { 0 };
+        let again = asked.goal == goal;
+        let before = if again { asked.opened } else { 0 };
         let all = before.saturating_add(opened);
-        let dear = DEAR <= all;
+        let dear = again && DEAR <= all;
         self.items[place] = Asked {
             goal,
             opened: if dear { 0 } else { all },
