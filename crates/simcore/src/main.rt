@@ -10,7 +10,7 @@ use sim_edge::{
     FileShelf, InSource, OutSink, SystemFiles, add_rig, exit_number, help_of, run_with,
     talk_number, talk_with, words_of,
 };
-use sim_ground::Ground;
+use sim_ground::{Ground, Rooms};
 use sim_range::Range;
 use sim_system::{Rig, System};
 use sim_talk::{LineTalk, PromptTalk};
@@ -19,6 +19,7 @@ use sim_top::Status;
 use sim_watch::Watch;
 use std::io::IsTerminal;
 use std::process::ExitCode;
+use std::rc::Rc;
 use std::{env, io};
 
 fn main(rt: HostRuntime) -> ExitCode {
@@ -35,9 +36,10 @@ fn main(rt: HostRuntime) -> ExitCode {
 // out none.
 fn run_words(rt: &HostRuntime, words: &[String]) -> Result<Status, OutOfMemory> {
     let alloc = rt.alloc();
+    let rooms = Rc::new(alloc, Rooms::new())?;
     let mut rigs = Vec::with_capacity(alloc, 8)?;
     for _ in 0..8u8 {
-        let ground: Box<dyn System> = Box::new(alloc, Ground::new(alloc))?;
+        let ground: Box<dyn System> = Box::new(alloc, Ground::sharing(alloc, rooms.clone()?))?;
         let range: Box<dyn System> = Box::new(alloc, Range::looking(alloc))?;
         let watch: Box<dyn System> = Box::new(alloc, Watch::new(alloc))?;
         let census: Box<dyn System> = Box::new(alloc, Census::new(alloc))?;
@@ -53,9 +55,10 @@ fn talk_words(rt: &HostRuntime, asked: Asked<'_>) -> Result<Ending, OutOfMemory>
     requires { IsTalk (talk_of asked) }
 {
     let alloc = rt.alloc();
+    let rooms = Rc::new(alloc, Rooms::new())?;
     let mut rigs = Vec::with_capacity(alloc, 8)?;
     for _ in 0..8u8 {
-        let ground: Box<dyn System> = Box::new(alloc, Ground::new(alloc))?;
+        let ground: Box<dyn System> = Box::new(alloc, Ground::sharing(alloc, rooms.clone()?))?;
         let range: Box<dyn System> = Box::new(alloc, Range::looking(alloc))?;
         let watch: Box<dyn System> = Box::new(alloc, Watch::new(alloc))?;
         let census: Box<dyn System> = Box::new(alloc, Census::new(alloc))?;
