@@ -2,7 +2,7 @@
 use Rattle.{sim_codec.specs.Loading.StandsFor, sim_system.specs.Meanings.Systems, sim_system.specs.declared.system.System.Ghosts}
 use Rattle.std.specs.Prelude.{◌≡◌, ℕ, Bool, true, false, List, Some, None, Ok, Err, Option, Result}
 use Rattle.sim_base.specs.{Spelling.digest, Spelling.mark, declared.memory.OutOfMemory.OutOfMemory, declared.setup.Setup.Setup, declared.state.State.State}
-use Rattle.sim_client.specs.{Lives.Act, Lives.Joining, Lives.Life, Lives.Off, Lives.On, Lives.Told, declared.client.Client.Client, declared.did.Did.Did}
+use Rattle.sim_client.specs.{Lives.Act, Lives.Joining, Lives.Life, Lives.Off, Lives.On, Lives.Told, declared.client.Client.Client, declared.did.Did.Did, declared.did.Played.Played}
 use Rattle.sim_client.specs.StageWords.{IsSoundAt, life_at, systems_on}
 use Rattle.sim_client.specs.declared.did.Did.TheVariants as did
 use Rattle.sim_plain.specs.declared.message.DownOf.TheVariants as down
@@ -65,6 +65,16 @@ Answers None old (Err e) new = Unit {0}
 Answers (Some act) old (Ok did.Idle) new = ⊥
 Answers (Some act) old (Ok (did.Done ups)) new = (new ≡ act.life) × (ups ≡ act.says)
 Answers (Some act) old (Err e) new = Unit {0}
+
+-- what a client did that was to play a turn
+abbrev pub did_in : Result Played OutOfMemory → Result Did OutOfMemory
+did_in (Ok played) = Ok played.did
+did_in (Err e) = Err e
+
+-- the digest beside what it did is that of its state, if it did anything
+abbrev pub HasDigest : Setup → Life → Did → Option (List ℕ) → Type 0
+HasDigest setup now did.Idle shown = Unit {0}
+HasDigest setup now (did.Done ups) shown = shown ≡ digest_of setup now
 
 -- the same of a call that takes no memory
 abbrev pub Tells : Option Act → Life → Bool → Life → Type 0

@@ -4,8 +4,8 @@
 //! board is taken out only to be made anew, as the client is cut off.
 
 ghost use Rattle.{sim_base.specs.Limits.HasFewIds, sim_base.specs.Limits.IsFrom, sim_base.specs.Limits.IsSetup, sim_board.specs.BoardWords.AreKept};
-ghost use Rattle.std.specs.Prelude.{◌≡◌, min, OnOk, IsOk, None, option_copied};
-ghost use Rattle.sim_client.specs.ClientWords.{Answers, digest_of, is_joining, IsSound, life, mark_of, number_in, setup_in, state_of, systems, Tells, turn_of};
+ghost use Rattle.std.specs.Prelude.{◌≡◌, min, IfOk, OnOk, IsOk, None, option_copied};
+ghost use Rattle.sim_client.specs.ClientWords.{Answers, did_in, digest_of, HasDigest, is_joining, IsSound, life, mark_of, number_in, setup_in, state_of, systems, Tells, turn_of};
 ghost use Rattle.sim_client.specs.Lives.{bends, joins, Off, orders as orders_by, plays, starts};
 ghost use Rattle.sim_client.specs.StageWords.{AreCleared, AreOf};
 ghost use Rattle.sim_system.specs.{Meanings.all_cleared, Meanings.AreBuiltOnceAtMost, Meanings.HaveKinds, RigWords.systems_of};
@@ -13,9 +13,9 @@ ghost use Rattle.sim_system.specs.{Meanings.all_cleared, Meanings.AreBuiltOnceAt
 mod hearing;
 
 use crate::bending::bend;
-use crate::did::{Did, one};
+use crate::did::{Did, Played, one};
 use crate::digests::Digests;
-use crate::playing::{begin, order, play};
+use crate::playing::{begin, order, play, play_beside};
 use crate::stage::Stage;
 use sim_base::{Command, Fixed, OutOfMemory, Setup, State};
 use sim_board::Board;
@@ -132,13 +132,21 @@ impl<'a> Client<'a> {
         ensures setup { setup_in self.new ≡ setup_in self.old }
         ensures number { number_in self.new ≡ number_in self.old }
     {
-        self.play_beside(None)
+        let Stage::On { seat } = &mut self.stage else {
+            return Ok(Did::Idle);
+        };
+        let Some(board) = &mut self.board else {
+            return Ok(Did::Idle);
+        };
+        play(self.alloc, self.setup, self.orders, board, seat)
     }
 
-    /// Plays the next turn. The digest of its report is taken from those that are kept, where the state is one of theirs.
-    pub fn play_beside(&mut self, digests: Option<&mut Digests>) -> Result<Did, OutOfMemory>
+    /// The same, with the digest of the state that it comes to. Both digests are taken from those that are kept, where the state is
+    /// one of theirs.
+    pub fn play_beside(&mut self, digests: &mut Digests) -> Result<Played, OutOfMemory>
         requires sound { IsSound self.old ⟦<dyn System as System>⟧ }
-        ensures answers { Answers (plays (setup_in self.old) (life self.old)) (life self.old) result (life self.new) }
+        ensures answers { Answers (plays (setup_in self.old) (life self.old)) (life self.old) (did_in result) (life self.new) }
+        ensures digest { IfOk result (λ played. HasDigest (setup_in self.old) (life self.new) played.did played.digest) }
         ensures idle { plays (setup_in self.old) (life self.old) ≡ None → IsOk result }
         ensures sound { OnOk result (IsSound self.new ⟦<dyn System as System>⟧) }
         ensures kept { AreKept (systems self.old ⟦<dyn System as System>⟧) (systems self.new ⟦<dyn System as System>⟧) }
@@ -146,12 +154,18 @@ impl<'a> Client<'a> {
         ensures number { number_in self.new ≡ number_in self.old }
     {
         let Stage::On { seat } = &mut self.stage else {
-            return Ok(Did::Idle);
+            return Ok(Played {
+                did: Did::Idle,
+                digest: None,
+            });
         };
         let Some(board) = &mut self.board else {
-            return Ok(Did::Idle);
+            return Ok(Played {
+                did: Did::Idle,
+                digest: None,
+            });
         };
-        play(self.alloc, self.setup, self.orders, board, seat, digests)
+        play_beside(self.alloc, self.setup, self.orders, board, seat, digests)
     }
 
     /// Sets the health of an entity in this client alone, and answers whether it did. Health is in units of 1/65536.
@@ -228,17 +242,6 @@ impl<'a> Client<'a> {
     {
         match self.state() {
             Some(state) => Some(digest(self.setup, state)),
-            None => None,
-        }
-    }
-
-    /// The same, taken from those that are kept, where the state is one of theirs.
-    pub fn digest_beside(&self, digests: &mut Digests) -> Option<[u8; 16]>
-        requires { IsSound self.now ⟦<dyn System as System>⟧ }
-        ensures { result ≡ digest_of (setup_in self.now) (life self.now) }
-    {
-        match self.state() {
-            Some(state) => Some(digests.digest(self.setup, state)),
             None => None,
         }
     }

@@ -19,6 +19,13 @@ pub enum Did {
     Done { up: Ups },
 }
 
+/// What a client that was to play a turn did, and, if it did, the digest of the state that it came to.
+#[derive(Debug, Drop)]
+pub struct Played {
+    pub did: Did,
+    pub digest: Option<[u8; 16]>,
+}
+
 /// One message.
 pub fn one(alloc: Global, up: Up) -> Result<Ups, OutOfMemory>
     ensures { IfOk result (λ ups. ups ≡ up ∷ []) }

@@ -1,8 +1,8 @@
 //! The digests of the states that were digested last. The clients of a session reach equal states one after another: one that
 //! is equal to a state that is kept has its digests, and they are made once for all of them.
 
-ghost use Rattle.std.specs.Prelude.{◌≡◌, ◌^◌, ◌<◌, ◌↔◌, length, true, IfOk, IfSome, IsTrue, All};
-ghost use Rattle.sim_base.specs.{Spelling.digest as digest_of, Spelling.mark as mark_of, declared.setup.Setup.Setup as AnySetup};
+ghost use Rattle.std.specs.Prelude.{◌≡◌, ◌^◌, ◌<◌, ◌↔◌, length, if◌then◌else◌, true, IfOk, IfSome, IsTrue, All};
+ghost use Rattle.sim_base.specs.{Spelling.is_full_turn as is_full, declared.setup.Setup.Setup as AnySetup};
 ghost use Rattle.{sim_client.specs.Kept.AreDigests, sim_sections.specs.Rows.HasShortWay};
 
 use sim_base::{Items, Motion, OutOfMemory, Point, Points, Row, Rows, Setup, State};
@@ -18,6 +18,19 @@ pub const MOST_KEPT: usize = 4;
 pub struct Both {
     pub whole: [u8; 16],
     pub quick: [u8; 16],
+}
+
+impl Both {
+    /// What a report of a state of this turn carries.
+    pub fn mark(&self, turn: u32) -> [u8; 16]
+        ensures { result ≡ (if is_full turn then self.now.whole else self.now.quick) }
+    {
+        if is_full_turn(turn) {
+            self.whole
+        } else {
+            self.quick
+        }
+    }
 }
 
 // A state that was digested, with the id of its match.
@@ -203,8 +216,9 @@ impl Digests {
         Ok(())
     }
 
-    // The digests of a state, which is kept from then on. Where memory for that is wanted it is not kept.
-    fn of(&mut self, setup: &Setup, state: &State) -> Both
+    /// The digests of a state, which is kept from then on. Where memory for that is wanted it is not kept. A valid state meets
+    /// both conditions.
+    pub fn of(&mut self, setup: &Setup, state: &State) -> Both
         requires short { All HasShortWay state.now.rows }
         requires few { length state.now.rows < 2 ^ 32 }
         ensures { AreDigests setup.now state.now result }
@@ -215,28 +229,5 @@ impl Digests {
         let both = make(setup, state);
         let _ = self.keep(setup, state, both);
         both
-    }
-
-    /// MD5 of the bytes of a state. A valid state meets both conditions.
-    pub fn digest(&mut self, setup: &Setup, state: &State) -> [u8; 16]
-        requires short { All HasShortWay state.now.rows }
-        requires few { length state.now.rows < 2 ^ 32 }
-        ensures { result ≡ digest_of setup.now state.now }
-    {
-        self.of(setup, state).whole
-    }
-
-    /// What a report of a state carries. A valid state meets both conditions.
-    pub fn mark(&mut self, setup: &Setup, state: &State) -> [u8; 16]
-        requires short { All HasShortWay state.now.rows }
-        requires few { length state.now.rows < 2 ^ 32 }
-        ensures { result ≡ mark_of setup.now state.now }
-    {
-        let both = self.of(setup, state);
-        if is_full_turn(state.turn) {
-            both.whole
-        } else {
-            both.quick
-        }
     }
 }

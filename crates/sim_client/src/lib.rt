@@ -25,6 +25,6 @@ mod playing;
 mod stage;
 
 pub use client::Client;
-pub use did::{Did, Ups};
+pub use did::{Did, Played, Ups};
 pub use digests::Digests;
 pub use laws::lives_follow_phases;

@@ -4,11 +4,11 @@ ghost use Rattle.{sim_client.specs.StageWords.IsPlaying, sim_client.specs.StageW
 ghost use Rattle.std.specs.Prelude.{◌≡◌, ◌+◌, ◌^◌, ◌<◌, min, false, ◌&&◌, [], ◌∷◌, IfOk, OnOk, IsOk, nat_lt, None, Ok, Option};
 ghost use Rattle.sim_base.specs.{Limits.IsSetup, Spelling.mark as mark_in, Spelling.spelling, Validity.IsValid, declared.state.State.State as AnyState};
 ghost use Rattle.sim_board.specs.BoardWords.{AreKept, state_in, systems};
-ghost use Rattle.sim_client.specs.{ClientWords.Answers, ClientWords.NeedsNoMemory, KnownWords.AreByPlayers, KnownWords.known_in};
+ghost use Rattle.sim_client.specs.{ClientWords.Answers, ClientWords.did_in, ClientWords.HasDigest, ClientWords.NeedsNoMemory, KnownWords.AreByPlayers, KnownWords.known_in};
 ghost use Rattle.sim_client.specs.Lives.{hears, learns, may_play as may_play_by, On, orders as orders_by, played, plays, releases, told};
 ghost use Rattle.sim_plain.specs.declared.message.UpOf.TheVariants as up;
 
-use crate::did::{Did, Ups, one, silent};
+use crate::did::{Did, Played, Ups, one, silent};
 use crate::digests::Digests;
 use crate::known::Known;
 use crate::stage::Seat;
@@ -101,26 +101,15 @@ fn may_tell_done(setup: &Setup, turn: u32, done: u32) -> bool
     done < setup.turns && done < turn + u32::from(setup.delay)
 }
 
-// What a report of a state carries, by the digests that are kept where there are any.
-fn mark_of(setup: &Setup, state: &State, digests: Option<&mut Digests>) -> [u8; 16]
-    requires limits { IsSetup setup.now }
-    requires valid { IsValid setup.now state.now }
-    ensures { result ≡ mark_in setup.now state.now }
-{
-    match digests {
-        Some(digests) => digests.mark(setup, state),
-        None => mark(setup, state),
-    }
-}
-
 // Tells the turn of a state, and that it is done with one turn more, where it may.
 fn tell(
     alloc: Global,
     setup: &Setup,
     state: &State,
     seat: &mut Seat,
-    digests: Option<&mut Digests>,
+    mark: [u8; 16],
 ) -> Result<Ups, OutOfMemory>
+    requires mark { mark ≡ mark_in setup.now state.now }
     requires limits { IsSetup setup.now }
     requires valid { IsValid setup.now state.now }
     ensures says { IfOk result (λ ups. ups ≡ (told setup.now (player_at state.now seat.old)).says) }
@@ -131,7 +120,7 @@ fn tell(
         alloc,
         Up::Report {
             turn: state.turn,
-            digest: mark_of(setup, state, digests),
+            digest: mark,
         },
     )?;
     if may_tell_done(setup, state.turn, seat.done) {
@@ -142,14 +131,13 @@ fn tell(
     Ok(ups)
 }
 
-/// Plays the next turn and tells it, where it may. Its report is made by the digests that are kept, if there are any.
+/// Plays the next turn and tells it, where it may.
 pub fn play(
     alloc: Global,
     setup: &Setup,
     orders: &OrderTable,
     board: &mut Board<'_>,
     seat: &mut Seat,
-    digests: Option<&mut Digests>,
 ) -> Result<Did, OutOfMemory>
     requires playing { IsPlaying setup.now board.old seat.old ⟦<dyn System as System>⟧ }
     ensures answers { let old = On (player_at (state_in board.old) seat.old) in Answers (plays setup.now old) old result
@@ -162,8 +150,43 @@ pub fn play(
         return Ok(Did::Idle);
     }
     play_next(alloc, setup, orders, board, seat)?;
-    let up = tell(alloc, setup, board.scene().state, seat, digests)?;
+    let state = board.scene().state;
+    let up = tell(alloc, setup, state, seat, mark(setup, state))?;
     Ok(Did::Done { up })
+}
+
+/// The same, with the digest of the state that it comes to. Both digests are taken from those that are kept, where the state is
+/// one of theirs.
+pub fn play_beside(
+    alloc: Global,
+    setup: &Setup,
+    orders: &OrderTable,
+    board: &mut Board<'_>,
+    seat: &mut Seat,
+    digests: &mut Digests,
+) -> Result<Played, OutOfMemory>
+    requires playing { IsPlaying setup.now board.old seat.old ⟦<dyn System as System>⟧ }
+    ensures answers { let old = On (player_at (state_in board.old) seat.old) in Answers (plays setup.now old) old (did_in result)
+        (On (player_at (state_in board.new) seat.new)) }
+    ensures digest { IfOk result (λ played. HasDigest setup.now (On (player_at (state_in board.new) seat.new)) played.did played.digest) }
+    ensures playing { OnOk result (IsPlaying setup.now board.new seat.new ⟦<dyn System as System>⟧) }
+    ensures idle { may_play_by setup.now (player_at (state_in board.old) seat.old) ≡ false → IsOk result }
+    ensures kept { AreKept (systems board.old ⟦<dyn System as System>⟧) (systems board.new ⟦<dyn System as System>⟧) }
+{
+    if !may_play(setup, board.scene().state, seat) {
+        return Ok(Played {
+            did: Did::Idle,
+            digest: None,
+        });
+    }
+    play_next(alloc, setup, orders, board, seat)?;
+    let state = board.scene().state;
+    let both = digests.of(setup, state);
+    let up = tell(alloc, setup, state, seat, both.mark(state.turn))?;
+    Ok(Played {
+        did: Did::Done { up },
+        digest: Some(both.whole),
+    })
 }
 
 // Hands its state on for another.

@@ -5,9 +5,9 @@ use Rattle.sim_session.proofs.Common.{Did, digest, Done, eq-eqb, Event, events_b
 use Rattle.sim_session.proofs.Common.{On, order_shown, ordered, ordering_follows, orders, OutOfMemory, Phase, pipe_in, played, played_events, Player}
 use Rattle.sim_session.proofs.Common.{Option, Result, refl, Act, Acted, acts, All-cons, All-nil, Answers, ap, append-nil, AreBuilt, AreBuiltIf, AreFrames}
 use Rattle.sim_session.proofs.Common.{Session, Setup, shows, shows_after, spelled, StandBeside, Step, stepped_by, subst, sym, Systems, Tells, told, told_alone}
-use Rattle.sim_session.proofs.Common.{is_full_turn, is_off, IsBuiltOnceAtMost, IsDigestOf, IsSmallUp, IsUpFrame, join_shown, Joining, joining_follows, joins}
+use Rattle.sim_session.proofs.Common.{is_off, IsBuiltOnceAtMost, IsSmallUp, IsUpFrame, join_shown, Joining, joining_follows, joins}
 use Rattle.sim_session.proofs.Common.{leave_events, leaves, Life, life_after, Lives, Makes, may_bend, may_order, may_play, may_tell_done, Meaning, ne_eqb, Off}
-use Rattle.sim_session.proofs.Common.{playing_follows, plays, put, put_same, quick, report_of, rise_events, rises, row_of, Said, said_by, said_events, says_of}
+use Rattle.sim_session.proofs.Common.{playing_follows, plays, put, put_same, report_of, rise_events, rises, row_of, Said, said_by, said_events, says_of}
 use Rattle.sim_session.proofs.Common.{◌≡◌, ℕ, suc, Bool, true, false, ◌⊎◌, List, [], ◌∷◌, ◌++◌, map, ℤ, IfOk, if◌then◌else◌, OnOk, Some, None, Ok, Err, All}
 use Rattle.sim_base.specs.declared.step.Event.TheVariants as event
 use Rattle.sim_base.specs.declared.step.Step.TheVariants as step
@@ -91,30 +91,6 @@ happened_shown setup make None old Idle new h = refl
 happened_shown setup make None old (Done ups) new h = absurd h
 happened_shown setup make (Some act) old Idle new h = absurd h
 happened_shown setup make (Some act) old (Done ups) new h = ap (shows setup make) h.0
-
--- ---- the report of a full turn carries the whole digest
-
-digest_told : (setup : Setup) (p : Player) (b : Bool) → (let act = if b then told_with_done setup p else told_alone setup p in
-    IsDigestOf setup act.life act.says)
-digest_told setup p true = λ full. ap Some (sym (cond-true (is_full_turn p.state.turn) (digest setup p.state) (quick p.state) full))
-digest_told setup p false = λ full. ap Some (sym (cond-true (is_full_turn p.state.turn) (digest setup p.state) (quick p.state) full))
-
-pub play_digest : (setup : Setup) (old : Life) (did : Did) (new : Life) → Answers (plays setup old) old (Ok did) new → IsDigestOf setup new (said_by did)
-play_digest setup Off Idle new h = tt
-play_digest setup Off (Done ups) new h = absurd h
-play_digest setup Joining Idle new h = tt
-play_digest setup Joining (Done ups) new h = absurd h
-play_digest setup (On player) did new h = by (may_play setup player) did h
-  where
-    next : Player
-    next = played setup player
-
-    by : (b : Bool) (did : Did) → Answers (if b then Some (told setup next) else None) (On player) (Ok did) new → IsDigestOf setup new (said_by did)
-    by true Idle h = absurd h
-    by true (Done ups) h = subst (λ (l : Life). IsDigestOf setup l ups) (sym h.0)
-        (subst (IsDigestOf setup (told setup next).life) (sym h.1) (digest_told setup next (may_tell_done setup next)))
-    by false Idle h = tt
-    by false (Done ups) h = absurd h
 
 -- ---- what a client says has frames
 

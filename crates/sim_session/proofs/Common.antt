@@ -12,11 +12,12 @@ pub use Rattle.std.specs.{List.flat_map, List.cons_option, Prelude.IfSome, Prelu
 pub use Rattle.sim_base.specs.{Bytes.flag_bytes, Spelling.spelling, Spelling.stance_bytes, Spelling.stance_part, Spelling.version, Validity.IsValid}
 pub use Rattle.sim_base.specs.{Limits.HasFewIds, Limits.IsSetup, declared.command.Command.Command, declared.place.Point.Point, declared.setup.Setup.Setup}
 pub use Rattle.sim_base.specs.{Rows.row_of, Turn.after, Turn.bent, Turn.may_bend, Turn.Past}
-pub use Rattle.sim_base.specs.Spelling.{attack_bytes, attack_part, clock_bytes, entity_bytes, entity_part, health_bytes, health_part, is_full_turn, motion_part}
+pub use Rattle.sim_base.specs.Spelling.{attack_bytes, attack_part, clock_bytes, entity_bytes, entity_part, health_bytes, health_part, motion_part}
 pub use Rattle.sim_base.specs.Spelling.{moving_bytes, owner_bytes, owner_part, point_bytes, position_bytes, position_part, rows_with, section, sections}
 pub use Rattle.sim_base.specs.declared.{memory.OutOfMemory.OutOfMemory, state.Motion.Motion, state.Row.Row, state.State.State, step.Event.Event, step.Step.Step}
 pub use Rattle.sim_bytes.specs.Numbers.{length-i32_bytes, length-u16_bytes, length-u32_bytes, length-u64_bytes}
-pub use Rattle.sim_client.{proofs.Standing.anyway, specs.ClientWords.Answers, specs.ClientWords.LoadsFrom, specs.ClientWords.may_load, specs.ClientWords.Tells}
+pub use Rattle.sim_client.{proofs.Standing.anyway, specs.ClientWords.Answers, specs.ClientWords.HasDigest, specs.ClientWords.LoadsFrom}
+pub use Rattle.sim_client.specs.ClientWords.{may_load, Tells}
 pub use Rattle.sim_client.proofs.Following.{bending_follows, hearing_follows, joining_follows, ordering_follows, playing_follows, starting_follows}
 pub use Rattle.sim_client.specs.LifeLaws.{Follows, hearing_shown, join_shown, life_after, Lives, LoadsAs, order_shown, says_of, shows, shows_after}
 pub use Rattle.sim_client.specs.Lives.{Act, bends, hears, Joining, joins, Life, may_order, may_play, may_tell_done, Off, On, ordered, orders, played, plays}
@@ -31,7 +32,7 @@ pub use Rattle.sim_plain_session.specs.{Pasts.is_client, Printed.events, Printed
 pub use Rattle.sim_plain_session.specs.Sessions.{acts, client_of, cut, falls, is_active, leaves, opened, rises, Session, session, stepped, stepped_by}
 pub use Rattle.sim_sections.specs.{Lengths.length-moving_bytes, Rows.HasShortWay, Rows.IsShort}
 pub use Rattle.sim_session.specs.Building.{AreBuilt, AreBuiltIf, ChangeAt, has_load, StartsOnly}
-pub use Rattle.sim_session.specs.Printing.{has_happened, heard_events, is_off, is_state, IsDigestOf, played_events, refusal_in, said_events}
+pub use Rattle.sim_session.specs.Printing.{has_happened, heard_events, is_off, is_state, played_events, refusal_in, said_events}
 pub use Rattle.sim_session.specs.SessionWords.{AreMembersBy, AreOfClients, IsMemberBy, lives_of, rigs_by, systems_by}
 pub use Rattle.sim_session.specs.Standing.{HasValidStates, IsNumber, life_of, Makes, said_by, Seen, StandBeside, StandsFor, StandsForSome, Steps}
 pub use Rattle.sim_session_laws.proofs.{Basics.client_of_player, StandingFacts.no_state_is_ever_refused, StandingFacts.pasts_are_always_valid}

@@ -1,7 +1,7 @@
 -- What is printed of what a client says, and of what it hears.
 use Rattle.std.specs.Prelude.{◌≡◌, ℕ, Bool, true, false, ◌&&◌, List, [], ◌∷◌, if◌then◌else◌, Some, None, Option}
-use Rattle.sim_base.specs.{Spelling.digest, Spelling.is_full_turn, declared.setup.Setup.Setup, declared.step.Event.Event}
-use Rattle.sim_client.specs.{ClientWords.digest_of, LifeLaws.shows, declared.did.Did.Did, declared.did.Did.TheVariants.Done, declared.did.Did.TheVariants.Idle}
+use Rattle.sim_base.specs.{Spelling.digest, declared.setup.Setup.Setup, declared.step.Event.Event}
+use Rattle.sim_client.specs.{LifeLaws.shows, declared.did.Did.Did, declared.did.Did.TheVariants.Done, declared.did.Did.TheVariants.Idle}
 use Rattle.sim_client.specs.Lives.{Joining, Life, Off, On, Said, Told}
 use Rattle.sim_base.specs.declared.step.Event.TheVariants as event
 use Rattle.sim_plain.specs.declared.message.DownOf.TheVariants as down
@@ -21,15 +21,6 @@ abbrev pub shown_of : Setup → Life → Option (ℕ × List ℕ)
 shown_of setup Off = None
 shown_of setup Joining = None
 shown_of setup (On player) = Some (player.state.turn, digest setup player.state)
-
--- a report of a full turn, which is said first, carries the whole digest of a client
-abbrev pub IsDigestOf : Setup → Life → List Said → Type 0
-IsDigestOf setup now [] = Unit {0}
-IsDigestOf setup now (up.Join ∷ rest) = Unit {0}
-IsDigestOf setup now (up.Command t command ∷ rest) = Unit {0}
-IsDigestOf setup now (up.Done t ∷ rest) = Unit {0}
-IsDigestOf setup now (up.Report t hash ∷ rest) = is_full_turn t ≡ true → digest_of setup now ≡ Some hash
-IsDigestOf setup now (up.State j t bytes ∷ rest) = Unit {0}
 
 -- the turn that a client has played, where it has
 abbrev pub played_events : Setup → ℕ → Life → Bool → List Event

@@ -4,19 +4,19 @@ ghost use Rattle.{sim_base.specs.Limits.HasFewIds, sim_base.specs.declared.setup
 ghost use Rattle.{sim_pipes.specs.Exchanges.Conveys, sim_plain.specs.Messages.carry_up, sim_wire.specs.Fits.IsSmallUp};
 ghost use Rattle.{sim_plain_session.specs.Bytes.spelled, sim_plain_session.specs.Clients.Acted, sim_server.specs.Standing.IsClient};
 ghost use Rattle.std.specs.Prelude.{◌≡◌, true, false, [], map, IfOk, OnOk, IsOk, None, All};
-ghost use Rattle.sim_client.specs.{ClientWords.IsSound, ClientWords.life, ClientWords.setup_in, ClientWords.systems, LifeLaws.shows};
+ghost use Rattle.sim_client.specs.{ClientWords.HasDigest, ClientWords.IsSound, ClientWords.life, ClientWords.setup_in, ClientWords.systems, LifeLaws.shows};
 ghost use Rattle.sim_client.specs.Lives.{bends, joins, orders, plays};
 ghost use Rattle.sim_plain_session.specs.{Printed.events_by, Sessions.acts, Sessions.client_of as client_in, Sessions.Session, Sessions.stepped_by};
 ghost use Rattle.sim_session.specs.Building.{AreBuilt, AreBuiltIf, has_load};
-ghost use Rattle.sim_session.specs.Printing.{has_happened, is_off as is_off_of, IsDigestOf, played_events, said_events as events_said};
+ghost use Rattle.sim_session.specs.Printing.{has_happened, is_off as is_off_of, played_events, said_events as events_said};
 ghost use Rattle.sim_session.specs.Standing.{HasValidStates, IsSmallStep, Makes, said_by, StandBeside};
 ghost use Rattle.sim_base.specs.declared.step.Event.TheVariants as event;
 ghost use Rattle.sim_base.specs.declared.step.Step.TheVariants as step;
 
 use crate::hearing::down;
-use crate::printing::{digest_of_play, one, said_events, shown};
+use crate::printing::{one, said_events, shown};
 use sim_base::{Command, Event, Events, Fixed, Items, OutOfMemory, Step};
-use sim_client::{Client, Did, Digests, Ups};
+use sim_client::{Client, Did, Digests, Played, Ups};
 use sim_pipes::Exchange;
 use sim_system::System;
 use sim_wire::Up;
@@ -79,19 +79,18 @@ fn order(
 fn played(
     alloc: Global,
     client: &Client<'_>,
-    digests: &mut Digests,
     number: u8,
     did: &Did,
+    digest: Option<[u8; 16]>,
 ) -> Result<Events, OutOfMemory>
     requires sound { IsSound client.now ⟦<dyn System as System>⟧ }
-    requires told { IsDigestOf (setup_in client.now) (life client.now) (said_by did.now) }
+    requires told { HasDigest (setup_in client.now) (life client.now) did.now digest }
     ensures events { IfOk result (λ events. events ≡ played_events (setup_in client.now) number (life client.now) (has_happened did.now)) }
     ensures none { has_happened did.now ≡ false → IsOk result }
 {
-    let Did::Done { up } = did else {
+    let Did::Done { .. } = did else {
         return Ok(Items::new(alloc));
     };
-    let digest = digest_of_play(client, digests, up.as_slice());
     let Some(seen) = shown(client, digest) else {
         return Ok(Items::new(alloc));
     };
@@ -124,8 +123,9 @@ fn play(
     ensures setup { setup_in client.new ≡ setup_in client.old }
     ensures rules { exchange.new.server.rules ≡ exchange.old.server.rules }
 {
-    let did = client.play_beside(Some(&mut *digests))?;
-    let events = played(alloc, client, digests, number, &did)?;
+    let made = client.play_beside(digests)?;
+    let Played { did, digest } = made;
+    let events = played(alloc, client, number, &did, digest)?;
     let ups = ups_of(alloc, did);
     exchange.send(number, ups.as_slice())?;
     Ok(events)

@@ -2,11 +2,10 @@
 
 ghost use Rattle.std.specs.Prelude.{◌≡◌, [], ◌∷◌, IfOk, IsOk};
 ghost use Rattle.sim_client.specs.ClientWords.{digest_of, IsSound, life, setup_in};
-ghost use Rattle.sim_session.specs.Printing.{IsDigestOf, said_events as events_said, shown_of};
+ghost use Rattle.sim_session.specs.Printing.{said_events as events_said, shown_of};
 
 use sim_base::{Event, Events, Items, OutOfMemory};
-use sim_client::{Client, Digests};
-use sim_codec::is_full_turn;
+use sim_client::Client;
 use sim_system::System;
 use sim_wire::Up;
 use std::alloc::Global;
@@ -38,19 +37,6 @@ pub fn said_events(alloc: Global, client: u8, ups: &[Up]) -> Result<Events, OutO
         Some(Up::Done { .. }) => Ok(Items::new(alloc)),
         Some(Up::State { .. }) => Ok(Items::new(alloc)),
         None => Ok(Items::new(alloc)),
-    }
-}
-
-/// The digest of a client that has just played a turn and says this. At a full turn its report carries it, and else it is taken
-/// from those that are kept, where its state is one of theirs.
-pub fn digest_of_play(client: &Client<'_>, digests: &mut Digests, ups: &[Up]) -> Option<[u8; 16]>
-    requires sound { IsSound client.now ⟦<dyn System as System>⟧ }
-    requires told { IsDigestOf (setup_in client.now) (life client.now) ups.now }
-    ensures { result ≡ digest_of (setup_in client.now) (life client.now) }
-{
-    match ups.first() {
-        Some(Up::Report { turn, digest }) if is_full_turn(*turn) => Some(*digest),
-        _ => client.digest_beside(digests),
     }
 }
 
