@@ -113,7 +113,8 @@ static void try_run(const uint8_t *first, size_t first_n) {
     want(memcmp(&ran, &less, sizeof ran) == 0, "an empty word more");
     files_n--;
     ran = run("play\0m", 7);
-    want(ran.status == SIMCORE_FILES_REFUSED && is_blank(&ran) && ran.text_n == 0x0505050505050505u && ran.out_n == 0x0505050505050505u, "bytes that are no files");
+    want(ran.status == SIMCORE_FILES_REFUSED && is_blank(&ran), "bytes that are no files");
+    want(ran.text_n == 0x0505050505050505u && ran.out_n == ran.text_n, "they write no lengths either");
     files_n = 0;
     add_file("\xff", "x");
     want(run("play\0m", 7).status == SIMCORE_FILES_REFUSED, "a name that is not UTF-8");
