@@ -25,14 +25,18 @@ extern "C" {
 #endif
 
 /* The interface of this header: above the lower 16 bits what must be the same in the library, and in them what may be more there. */
-#define SIMCORE_VERSION 0x00010000u
+#define SIMCORE_VERSION 0x00010001u
 
-/* How a call ends, and what stands then. 0 to 10 mean what they mean as the status of the program.
+/* How a call ends, and what stands then. 0 to 14 mean what they mean as the status of the program.
  *
- * What is not named is as it was: after a refusal nothing is written but *fault, and a call that succeeds leaves *fault alone. */
+ * What is not named is as it was: after a refusal nothing is written but *fault, and a call that succeeds leaves *fault alone. That is said
+ * of all calls but simcore_run, which has no fault: it answers all that the program can end with, and says itself what stands then. */
 enum simcore_status {
     SIMCORE_OK = 0,            /* done: what the call gives is written; simcore_compare: the states are the same, and nothing is written */
     SIMCORE_DIFFERS = 1,       /* simcore_compare: the states differ; *entity and *part are written */
+    SIMCORE_USAGE = 2,         /* simcore_run: the words are none of a command; the text says which there are */
+    SIMCORE_WRITE_FAULT = 4,   /* simcore_run: what OUT is to hold is longer than 16777216 bytes */
+    SIMCORE_TOO_LONG = 5,      /* simcore_run: a file that is read is longer than 16777216 bytes */
     SIMCORE_MATCH_REFUSED = 6, /* the bytes are no match; *fault is CODE and INDEX of `match refused CODE INDEX` */
     SIMCORE_STATE_REFUSED = 7, /* bytes stand for no state of the match; fault->code is CODE of `state refused CODE NAME`, and
                                   fault->index is 1 where they are the second state of the call, and else 0 */
@@ -40,8 +44,13 @@ enum simcore_status {
                                   command, counted from 1, or 0 where the whole is no list */
     SIMCORE_NO_MEMORY = 9,     /* memory was refused; *fault is 0 and 0, and all that the call had taken is given back */
     SIMCORE_NO_TURN = 10,      /* simcore_turn: all turns of the match were played; *fault is 0 and 0 */
-    SIMCORE_NO_ROOM = 100      /* the room is too small: *written is how many items it takes, and *fault is as it was. Call again with
+    SIMCORE_NO_FILE = 11,      /* simcore_run: a file that the words name is none of those that were handed in */
+    SIMCORE_SIGHT_REFUSED = 12,   /* simcore_run: a file holds no explored cells of the match */
+    SIMCORE_LOG_REFUSED = 13,     /* simcore_run: a file is no log */
+    SIMCORE_ECONOMY_REFUSED = 14, /* simcore_run: a file is no economy */
+    SIMCORE_NO_ROOM = 100,     /* the room is too small: *written is how many items it takes, and *fault is as it was. Call again with
                                   so many */
+    SIMCORE_FILES_REFUSED = 101 /* simcore_run: the bytes are no files; nothing is written */
 };
 /* The first of these is told: the match is refused, a state is (the left one before the right one), all turns were played, the commands
  * are refused, there is no room. Memory may be refused anywhere between. */
@@ -132,6 +141,22 @@ int32_t simcore_entities(const uint8_t *match, size_t match_n, const uint8_t *st
 int32_t simcore_show(const uint8_t *match, size_t match_n, const uint8_t *state, size_t state_n, uint8_t *text, size_t text_room,
                      uint64_t *written, struct simcore_fault *fault);
 
+/* Any command of the program, but a talk: `words` are those behind its name, each with a byte 0 behind it, as "play\0match.json\0" of 16 bytes.
+ * The files are handed in, and no other file is read or written. Each is the length of its name in four bytes, the lowest first, its name,
+ * its own length so, and its bytes; one stands behind the other, and of two with one name the last counts.
+ *
+ * What the program prints is put into `text`, without a 0 behind it. What it stores in the file OUT of `state`, `sight`, `log` and `record`
+ * is put into `out`: it is what is held under that name when the command has ended, and so the old bytes where it was handed in and the
+ * command did not store it, and none after all other commands. Both are put or none: with NO_ROOM nothing is written but both lengths.
+ *
+ * The status is that of the program, and says what the text holds: words that are none of a command, as bytes that are not UTF-8 or have
+ * no 0 at their end, are USAGE with the text of that, and a refusal is what the program prints of it. 3, a file that could not be read,
+ * comes of no run in memory. With NO_MEMORY and FILES_REFUSED nothing is written. What is kept of files and text takes memory as often
+ * again; a command that stores asks for 16 MB at once, and the files for a time that grows with the square of their number.
+ * OK, DIFFERS, USAGE, WRITE_FAULT, TOO_LONG, MATCH_REFUSED to ECONOMY_REFUSED, NO_ROOM, FILES_REFUSED */
+int32_t simcore_run(const uint8_t *words, size_t words_n, const uint8_t *files, size_t files_n, uint8_t *text, size_t text_room,
+                    uint64_t *text_written, uint8_t *out, size_t out_room, uint64_t *out_written);
+
 /* Whether the library that runs is one of this header. Ask it once, before all other calls. */
 static inline int simcore_fits(void) {
     uint32_t version = simcore_version();
@@ -142,13 +167,21 @@ static inline int simcore_fits(void) {
 static inline const char *simcore_status_text(int32_t status) {
     switch (status) {
     case SIMCORE_OK: return "done";
-    case SIMCORE_DIFFERS: return "the states differ";
+    case SIMCORE_DIFFERS: return "they differ";
+    case SIMCORE_USAGE: return "no such command";
+    case SIMCORE_WRITE_FAULT: return "the file is too long to be stored";
+    case SIMCORE_TOO_LONG: return "a file is too long";
     case SIMCORE_MATCH_REFUSED: return "match refused";
     case SIMCORE_STATE_REFUSED: return "state refused";
     case SIMCORE_LIST_REFUSED: return "list refused";
     case SIMCORE_NO_MEMORY: return "no memory";
     case SIMCORE_NO_TURN: return "no such turn";
+    case SIMCORE_NO_FILE: return "no such file";
+    case SIMCORE_SIGHT_REFUSED: return "sight refused";
+    case SIMCORE_LOG_REFUSED: return "log refused";
+    case SIMCORE_ECONOMY_REFUSED: return "economy refused";
     case SIMCORE_NO_ROOM: return "no room";
+    case SIMCORE_FILES_REFUSED: return "files refused";
     default: return "no status of this header";
     }
 }

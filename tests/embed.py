@@ -35,6 +35,8 @@ ASKED = {"memcpy", "memmove", "memset", "malloc", "realloc", "free", "__udivti3"
 HEAP = {"rattle_alloc", "rattle_realloc", "rattle_dealloc"}
 FOUND = {"passed": 0, "failed": 0}
 TIME = {"end": 0}
+# The commands that store a file, under the name of their last word.
+STORES = ("state", "sight", "log", "record")
 
 
 class OutOfTime(Exception):
@@ -183,6 +185,66 @@ def try_matches(core, program, room):
         try_match(core, program, path, room)
 
 
+def try_command(core, program, room, words, files):
+    """A command ends, prints and stores alike in the library and as the program; what came of it in the library."""
+    with tempfile.TemporaryDirectory(dir=room) as name:
+        folder = pathlib.Path(name)
+        for file, data in files.items():
+            (folder / file).write_bytes(data)
+        by_program = run(program, *words, cwd=folder)
+        stores = by_program.returncode != 2 and words[0] in STORES and (folder / words[-1]).is_file()
+        stored = (folder / words[-1]).read_bytes() if stores else b""
+    ran = core.run(*words, files=files)
+    wanted = simcore.Ran(by_program.returncode, by_program.stdout.encode(), stored)
+    check(f"{' '.join(words)} ends alike", ran.status == wanted.status, (ran.status, wanted.status))
+    check(f"{' '.join(words)} prints alike", ran.text == wanted.text, (ran.text[-200:], wanted.text[-200:]))
+    check(f"{' '.join(words)} stores alike", ran.out == wanted.out, (ran.out[:40], wanted.out[:40]))
+    return ran
+
+
+def try_commands_of(core, program, room, files):
+    """Each command over a match, with what it stored for the ones behind."""
+    def tried(*words):
+        return try_command(core, program, room, words, files)
+
+    turns = json.loads(files["match"]).get("turns", 0)
+    for stores, turn in (("state", turns // 2), ("state", turns), ("sight", turns // 2), ("log", None)):
+        name = f"{stores}-{turn}"
+        out = tried(stores, "match", *[str(it) for it in (turn,) if it is not None], name).out
+        files[name] = out
+    half, last, seen, log = list(files)[-4:]
+    for words in (["play"], ["resume", half], ["rejoin", turns // 2], ["show", half], ["compare", half, last], ["compare", half, half], ["parts"],
+                  ["resight", half, seen], ["check", log], ["realm", turns], ["film", 3]):
+        tried(words[0], "match", *map(str, words[1:]))
+    if "steps" in files:
+        files["released"] = tried("record", "match", "steps", "released").out
+        tried("session", "match", "steps")
+        tried("check", "match", "released")
+    if "economy" in files:
+        tried("stock", "match", "economy")
+
+
+def files_of(path):
+    """The files of an example by the names that the commands have here."""
+    beside = {name: path.with_name(f"{path.stem}-{name}.json") for name in ("steps", "economy")}
+    return {"match": path.read_bytes()} | {name: it.read_bytes() for name, it in beside.items() if it.is_file()}
+
+
+def try_commands(core, program, room):
+    """Each command over the examples, and some that are refused."""
+    for path in filter(is_match, sorted(TOP.glob("examples/*.json"))):
+        try_commands_of(core, program, room, files_of(path))
+    files = files_of(TOP / "examples/squads.json") | {"list": (TOP / "examples/late-and-liar.json").read_bytes(), "none": b"{", "empty": b"",
+                                                      "lies": (TOP / "examples/camp-lies.log").read_bytes(), "long": b" " * 16777217}
+    for words in ("", "play", "dance match", "play nowhere", "play none", "play long", "serve list", "serve none", "serve empty", "trial 1 8 30",
+                  "trial 1 8 300000000", "resume match none", "show match empty", "compare match none none", "session match none",
+                  "record match none match", "stock match none", "check match none", "check match lies", "state match 99999 match",
+                  "state none 1 lies", "state match 1 none", "state match -1 none", "sight match 99999 new", "resight match none none",
+                  "log nowhere lies", "log match match", "film match 0", "realm match 1234567890", "play m\u00e4tch"):
+        try_command(core, program, room, words.split(), files)
+    check("a talk is no command of the library", core.run("live", "match", "2", files=files).status == 2)
+
+
 def try_threads(core):
     """Eight threads play one match at once, and all have the digest of one alone."""
     match = core.match((TOP / "examples/squads.json").read_bytes())
@@ -218,6 +280,7 @@ def parts_of(prefix, program, room, seconds):
     compilers = [] if any(map(is_there, COMPILERS)) else list(COMPILERS)
     return {"symbols": (["nm"], lambda: try_symbols(prefix)), "networked match": ([], lambda: try_networked(prefix)),
             "threads": ([], lambda: try_threads(core)), "matches": ([program], lambda: try_matches(core, program, room)),
+            "commands": ([program], lambda: try_commands(core, program, room)),
             "hosts in C and C++": (compilers, lambda: try_hosts(prefix, room)), "pkg-config": (["gcc", "pkg-config"], lambda: try_pkg_config(prefix, room)),
             "Rust": (["cargo"], lambda: try_rust(prefix, room)), "fuzzer": (["gcc"], lambda: try_fuzz(prefix, room, seconds))}
 

@@ -4,16 +4,17 @@
     match = core.match(open("match.json", "rb").read())
     state, digest = match.first()
     state, digest = match.turn(state, [[1, "walk", [2], "10.5", "4"]])
+    status, text, out = core.run("play", "match.json", files={"match.json": match.data})
 """
 
 import ctypes
 import json
 import typing
 
-OK, DIFFERS, LIST_REFUSED, NO_ROOM = 0, 1, 8, 100
-CAUSES = {6: "match refused", 7: "state refused", 8: "list refused", 9: "no memory", 10: "no turn"}
+OK, DIFFERS, LIST_REFUSED, NO_MEMORY, NO_ROOM, FILES_REFUSED = 0, 1, 8, 9, 100, 101
+CAUSES = {6: "match refused", 7: "state refused", 8: "list refused", 9: "no memory", 10: "no turn", 101: "files refused"}
 PARTS = ["Clock", "Entity", "Position", "Owner", "Health", "Motion", "Attack", "Stance"]
-VERSION = 0x00010000
+VERSION = 0x00010001
 
 
 class Fault(ctypes.Structure):
@@ -50,9 +51,23 @@ class State(typing.NamedTuple):
     digest: str
 
 
+class Ran(typing.NamedTuple):
+    """How a command ended, what it printed, and what is then held under the name of OUT."""
+
+    status: int
+    text: bytes
+    out: bytes
+
+
 def pair(data):
     """A pointer and a length, as the header has them."""
     return [ctypes.c_char_p(data), ctypes.c_size_t(len(data))]
+
+
+def packed(files):
+    """Files as simcore_run takes them, from their bytes by their names."""
+    pieces = [piece for name, data in files.items() for piece in (name.encode(), data)]
+    return b"".join(len(piece).to_bytes(4, "little") + piece for piece in pieces)
 
 
 class Core:
@@ -68,6 +83,20 @@ class Core:
     def match(self, data):
         """The match that bytes are."""
         return Match(self, data)
+
+    def run(self, *words, files=None):
+        """Any command of the program, but a talk, over files in memory, which are handed in by their names."""
+        given = [*pair(b"".join(word.encode() + b"\0" for word in words)), *pair(packed(files or {}))]
+        lengths, needed = (4096, 4096), (ctypes.c_uint64(), ctypes.c_uint64())
+        while True:
+            rooms = [(ctypes.c_uint8 * length)() for length in lengths]
+            places = [it for room, length, count in zip(rooms, lengths, needed) for it in (room, ctypes.c_size_t(length), ctypes.byref(count))]
+            status = self.library.simcore_run(*given, *places)
+            if status in (NO_MEMORY, FILES_REFUSED):
+                raise Refused(status, Fault())
+            if status != NO_ROOM:
+                return Ran(status, *(bytes(memoryview(room)[:count.value]) for room, count in zip(rooms, needed)))
+            lengths = tuple(max(length, count.value) for length, count in zip(lengths, needed))
 
     def call(self, name, *arguments, also=()):
         """Calls, and answers the status; one that is neither OK nor among the others is an exception."""

@@ -13,11 +13,12 @@
 #include "heap.h"
 
 enum { PAGE = 4096, MOST_IN = 1 << 20, MOST_OUT = 1 << 22, GAMES = 64, STATES = 256, FILL = 0x5A };
-enum { MATCH, FIRST, TURN, DIGEST, COMPARE, ENTITIES, SHOW, CALLS };
+enum { MATCH, FIRST, TURN, DIGEST, COMPARE, ENTITIES, SHOW, RUN, CALLS };
 
 /* The statuses that the header names for each call. */
-static const int32_t NAMED[CALLS][8] = {{0, 6, 9, -1}, {0, 6, 9, 100, -1}, {0, 6, 7, 8, 9, 10, 100, -1}, {0, 6, 7, 9, -1},
-                                        {0, 1, 6, 7, 9, -1}, {0, 6, 7, 9, 100, -1}, {0, 6, 7, 9, 100, -1}};
+static const int32_t NAMED[CALLS][16] = {{0, 6, 9, -1}, {0, 6, 9, 100, -1}, {0, 6, 7, 8, 9, 10, 100, -1}, {0, 6, 7, 9, -1},
+                                         {0, 1, 6, 7, 9, -1}, {0, 6, 7, 9, 100, -1}, {0, 6, 7, 9, 100, -1},
+                                         {0, 1, 2, 6, 7, 8, 9, 10, 11, 12, 13, 14, 100, 101, -1}};
 
 struct bytes {
     uint8_t *at;
@@ -26,7 +27,8 @@ struct bytes {
 
 /* What a call can write beside its room. */
 struct outs {
-    uint64_t written;
+    uint64_t written, file_written;
+    uint8_t file[1024];
     struct simcore_facts facts;
     uint32_t turn, entity, part;
     uint8_t digest[16];
@@ -88,6 +90,31 @@ static size_t write_orders(char *text) {
     return (size_t)(at - text) + (size_t)sprintf(at, "]");
 }
 
+/* A command over the files m, s and l, some of which make sense. */
+static size_t write_words(char *text) {
+    static const char *const WORDS[] = {"play m", "state m # o", "state m # s", "resume m s", "rejoin m #", "show m s", "compare m s s", "sight m # l",
+                                        "resight m s l", "log m l", "check m l", "realm m #", "film m #", "parts m", "session m l", "record m l o",
+                                        "serve l", "stock m l", "trial # 4 #", "play", "live m 2", "play n", "log m"};
+    size_t length = (size_t)sprintf(text, "%s", WORDS[chance(23)]) + 1;
+    for (size_t i = 0; i < length; i++) {
+        if (text[i] == ' ') text[i] = 0;
+        if (text[i] == '#') text[i] = (char)('0' + chance(10));
+    }
+    return length;
+}
+
+/* A file more behind those that are packed. */
+static size_t pack(uint8_t *packed, size_t length, const char *name, const uint8_t *content, size_t content_n) {
+    size_t lengths[2] = {strlen(name), content_n};
+    const void *pieces[2] = {name, content};
+    for (int which = 0; which < 2; which++) {
+        for (int i = 0; i < 4; i++) packed[length++] = (uint8_t)(lengths[which] >> 8 * i);
+        memcpy(packed + length, pieces[which], lengths[which]);
+        length += lengths[which];
+    }
+    return length;
+}
+
 /* Damages bytes in their place; what comes of it is no longer than MOST_IN. */
 static size_t damage(uint8_t *at, size_t length) {
     static const char *const PIECES[] = {"[", "]", "{", "}", ",", "\"", "-1", "0", "65536", "1e9", "null", "\xff", "\"@parent\"", ".5"};
@@ -139,11 +166,16 @@ static int32_t call(int which, uint8_t *room, size_t items, struct outs *it) {
     case DIGEST: return simcore_digest(match.at, match.length, left.at, left.length, it->digest, &it->turn, &it->fault);
     case COMPARE: return simcore_compare(match.at, match.length, left.at, left.length, right.at, right.length, &it->entity, &it->part, &it->fault);
     case ENTITIES: return simcore_entities(match.at, match.length, left.at, left.length, rows, items, &it->written, &it->fault);
-    default: return simcore_show(match.at, match.length, left.at, left.length, room, items, &it->written, &it->fault);
+    case SHOW: return simcore_show(match.at, match.length, left.at, left.length, room, items, &it->written, &it->fault);
+    default: return simcore_run(match.at, match.length, left.at, left.length, room, items, &it->written, it->file, sizeof it->file, &it->file_written);
     }
 }
 
-static bool fills_room(int which) { return which == FIRST || which == TURN || which == ENTITIES || which == SHOW; }
+/* Whether a call has put items into the room. */
+static bool has_put(int which, int32_t status) {
+    if (which == RUN) return status < SIMCORE_NO_ROOM && status != SIMCORE_NO_MEMORY;
+    return status == SIMCORE_OK && (which == FIRST || which == TURN || which == ENTITIES || which == SHOW);
+}
 
 static bool tells_digest(int which) { return which == FIRST || which == TURN || which == DIGEST; }
 
@@ -157,28 +189,31 @@ static void check_named(int which, int32_t status) {
 static void check_outs(int which, int32_t status, struct outs it) {
     struct outs before;
     memset(&before, FILL, sizeof before);
-    if (status >= 6 && status <= 10) it.fault = before.fault;
-    if (status == SIMCORE_NO_ROOM || (status == SIMCORE_OK && fills_room(which))) it.written = before.written;
+    if (which != RUN && status >= 6 && status <= 10) it.fault = before.fault;
+    if (status == SIMCORE_NO_ROOM || has_put(which, status)) it.written = before.written;
+    if (which == RUN && has_put(which, status)) memset(it.file, FILL, it.file_written < 1024 ? it.file_written : 1024);
+    if (which == RUN && (status == SIMCORE_NO_ROOM || has_put(which, status))) it.file_written = before.file_written;
     if (status == SIMCORE_OK && tells_digest(which)) memcpy(it.digest, before.digest, 16);
     if (status == SIMCORE_OK && which == DIGEST) it.turn = before.turn;
     if (status == SIMCORE_OK && which == MATCH) it.facts = before.facts;
-    if (status == SIMCORE_DIFFERS) it.entity = before.entity, it.part = before.part;
+    if (which == COMPARE && status == SIMCORE_DIFFERS) it.entity = before.entity, it.part = before.part;
     if (memcmp(&it, &before, sizeof it) != 0) fail("something is written that the header does not name", which, status);
 }
 
 static void check_fault(int which, int32_t status, struct simcore_fault fault) {
     bool right = true;
+    if (status == SIMCORE_NO_MEMORY && !heap_refused) fail("no memory where none was refused", which, status);
+    if (which == RUN) return;
     if (status == SIMCORE_MATCH_REFUSED) right = fault.code >= 1 && fault.code <= 10;
     if (status == SIMCORE_STATE_REFUSED) right = fault.code >= 1 && fault.code <= 3 && fault.index <= (which == COMPARE);
     if (status == SIMCORE_LIST_REFUSED) right = fault.code == 0;
     if (status == SIMCORE_NO_MEMORY || status == SIMCORE_NO_TURN) right = !fault.code && !fault.index;
-    if (status == SIMCORE_NO_MEMORY && !heap_refused) right = false;
     if (!right) fail("a fault that the header does not name", which, status);
 }
 
 static void check_room(int which, int32_t status, const uint8_t *room, size_t length, size_t written, size_t size) {
-    size_t used = status == SIMCORE_OK && fills_room(which) ? written * size : 0;
-    if (status == SIMCORE_NO_ROOM && written * size <= length) fail("no room where there is enough", which, status);
+    size_t used = has_put(which, status) ? written * size : 0;
+    if (status == SIMCORE_NO_ROOM && which != RUN && written * size <= length) fail("no room where there is enough", which, status);
     if (used > length) fail("more is written than there is room", which, status);
     for (size_t i = used; i < length; i++)
         if (room[i] != FILL) fail("the room is written behind what is said", which, status);
@@ -193,7 +228,8 @@ static void keep(int game, const uint8_t *state, size_t length) {
 }
 
 static void try_one(void) {
-    static char orders[4096];
+    static char orders[4096], words[64];
+    static uint8_t packed[3 * MOST_IN];
     int which = chance(3) ? TURN : (int)chance(CALLS), state = (int)chance((uint32_t)states_n), other = (int)chance((uint32_t)states_n);
     int game = chance(20) ? game_of[state] : (int)chance((uint32_t)games_n);
     size_t size = which == ENTITIES ? sizeof(struct simcore_entity) : 1;
@@ -205,6 +241,13 @@ static void try_one(void) {
     hand_in(1, states[state].at, states[state].length, 6);
     if (which == TURN) hand_in(2, (const uint8_t *)orders, write_orders(orders), 6);
     else hand_in(2, states[other].at, states[other].length, 6);
+    if (which == RUN) {
+        size_t length = pack(packed, 0, "m", in[0].at, in[0].length);
+        length = pack(packed, length, "s", in[1].at, in[1].length);
+        length = pack(packed, length, "l", in[2].at, in[2].length);
+        hand_in(1, packed, length, 30);
+        hand_in(0, (const uint8_t *)words, write_words(words), 20);
+    }
     damaged = in[0].length != games[game].length || memcmp(in[0].at, games[game].at, in[0].length) != 0;
     uint8_t *room = areas[3] + MOST_OUT - length;
     memset(room, FILL, length);

@@ -1,3 +1,4 @@
 pub mod Status
 pub mod Gives
 pub mod GivesStored
+pub mod GivesRun

@@ -1,6 +1,6 @@
 //! A walker walks, and each call is refused once: `SIMCORE=PREFIX cargo run --offline --example walk`.
 
-use simcore::{fits, Error, Match};
+use simcore::{fits, run, Error, Match};
 
 const GAME: &str = r#"{"size":[8,8],"closed":[],"players":[[]],"cap":0,"delay":1,"turns":9,"seed":0,
 "templates":[{"@name":"walker","Motion":{"Speed":10}}],"entities":[["walker",1,"2.5","2.5"]],"commands":[]}"#;
@@ -24,5 +24,10 @@ fn main() -> Result<(), Error> {
     assert_eq!(game.digest(b"no state"), Err(Error::State { code: 1, second: false }));
     assert_eq!(game.compare(&state.bytes, b"no state"), Err(Error::State { code: 1, second: true }));
     assert!(matches!(Match::new(Vec::new()), Err(Error::Match { code: 1, index: 0 })));
+    let files = [("m", GAME.as_bytes()), ("s", &state.bytes)];
+    let (shown, stored) = (run(&["show", "m", "s"], &files)?, run(&["state", "m", "0", "s"], &files)?);
+    assert_eq!((shown.status, shown.text, shown.out), (0, game.show(&state.bytes)?, Vec::new()));
+    assert_eq!((stored.status, stored.out), (0, first.bytes));
+    assert_eq!(run(&["play", "n"], &files)?.status, 11);
     Ok(())
 }

@@ -27,6 +27,8 @@ pub enum Error {
     OutOfMemory,
     /// All turns of the match were played.
     Over,
+    /// A file is longer than four bytes count.
+    Files,
     /// The library has a status that the header has not.
     Unknown(i32),
 }
@@ -39,6 +41,7 @@ impl fmt::Display for Error {
             Error::Commands { item } => write!(f, "list refused {item}"),
             Error::OutOfMemory => write!(f, "no memory"),
             Error::Over => write!(f, "all turns were played"),
+            Error::Files => write!(f, "files refused"),
             Error::Unknown(status) => write!(f, "status {status}"),
         }
     }
@@ -53,8 +56,17 @@ pub struct State {
     pub digest: [u8; 16],
 }
 
+/// How a command of the program ended, what it printed, and what is then held under the name of OUT.
+#[derive(Clone, Debug, PartialEq, Eq)]
+pub struct Ran {
+    pub status: i32,
+    pub text: String,
+    pub out: Vec<u8>,
+}
+
 const DIFFERS: i32 = 1;
 const NO_ROOM: i32 = 100;
+const FILES_REFUSED: i32 = 101;
 
 fn refused(status: i32, fault: &Fault) -> Error {
     match status {
@@ -63,6 +75,7 @@ fn refused(status: i32, fault: &Fault) -> Error {
         8 => Error::Commands { item: fault.index },
         9 => Error::OutOfMemory,
         10 => Error::Over,
+        FILES_REFUSED => Error::Files,
         other => Error::Unknown(other),
     }
 }
@@ -82,9 +95,57 @@ fn with_room<T: Clone + Default>(mut call: impl FnMut(&mut [T], &mut u64, &mut F
     }
 }
 
-/// Whether the library that runs has the calls that are declared here: version 1, of any second number.
+/// Whether the library that runs has the calls that are declared here: version 1, from the second number 1 on.
 pub fn fits() -> bool {
-    unsafe { simcore_version() >> 16 == 1 }
+    let version = unsafe { simcore_version() };
+    version >> 16 == 1 && version & 0xffff >= 1
+}
+
+/// Bytes behind their length.
+fn pack(bytes: &[u8], packed: &mut Vec<u8>) -> Result<(), Error> {
+    let length = u32::try_from(bytes.len()).map_err(|_| Error::Files)?;
+    packed.extend(length.to_le_bytes());
+    packed.extend(bytes);
+    Ok(())
+}
+
+/// Any command of the program, but a talk, over files in memory, which are handed in by their names. A byte 0 in a word begins another.
+pub fn run(words: &[&str], files: &[(&str, &[u8])]) -> Result<Ran, Error> {
+    let spelled: Vec<u8> = words.iter().flat_map(|word| word.bytes().chain([0])).collect();
+    let mut packed = Vec::new();
+    for (name, content) in files {
+        pack(name.as_bytes(), &mut packed)?;
+        pack(content, &mut packed)?;
+    }
+    let (mut text, mut out, mut text_n, mut out_n) = (vec![0; 4096], vec![0; 4096], 0, 0);
+    loop {
+        let status = unsafe {
+            simcore_run(
+                spelled.as_ptr(),
+                spelled.len(),
+                packed.as_ptr(),
+                packed.len(),
+                text.as_mut_ptr(),
+                text.len(),
+                &mut text_n,
+                out.as_mut_ptr(),
+                out.len(),
+                &mut out_n,
+            )
+        };
+        match status {
+            9 | FILES_REFUSED => return Err(refused(status, &Fault::default())),
+            NO_ROOM => {
+                text.resize(text.len().max(text_n as usize), 0);
+                out.resize(out.len().max(out_n as usize), 0);
+            }
+            status => {
+                text.truncate(text_n as usize);
+                out.truncate(out_n as usize);
+                return Ok(Ran { status, text: String::from_utf8_lossy(&text).into_owned(), out });
+            }
+        }
+    }
 }
 
 /// A match: the bytes of its file, and its numbers.

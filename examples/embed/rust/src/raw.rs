@@ -74,4 +74,16 @@ extern "C" {
     pub fn simcore_entities(game: Bytes, n: usize, state: Bytes, state_n: usize, rows: *mut Entity, rows_n: usize, written: &mut u64, fault: &mut Fault)
         -> i32;
     pub fn simcore_show(game: Bytes, n: usize, state: Bytes, state_n: usize, room: *mut u8, room_n: usize, written: &mut u64, fault: &mut Fault) -> i32;
+    pub fn simcore_run(
+        words: Bytes,
+        words_n: usize,
+        files: Bytes,
+        files_n: usize,
+        text: *mut u8,
+        text_room: usize,
+        text_written: &mut u64,
+        out: *mut u8,
+        out_room: usize,
+        out_written: &mut u64,
+    ) -> i32;
 }

@@ -1,0 +1,3 @@
+pub mod Unpacking
+pub mod Packed
+pub mod Outs

@@ -1,0 +1,10 @@
+-- The shelf holds the files so far.
+use Rattle.std.proofs.Common.{length}
+use Rattle.sim_packed.proofs.Unpacking.{IsUnpackedTo}
+use Rattle.sim_packed.proofs.files.shelf_from.Given as goal
+
+abbrev pub invariant-loop-rest : goal.invariant-loop-rest
+invariant-loop-rest l = IsUnpackedTo l.fn.bytes l.rest l.shelf
+
+abbrev pub decreases-loop-rest : goal.decreases-loop-rest
+decreases-loop-rest l = length l.rest
