@@ -1,7 +1,7 @@
 -- A client that acts beside the exchange makes just what the definition of a session says, over plain values.
 use Rattle.sim_session.proofs.{Common.told_with_done, Common.Up, Common.◌∙◌, Stepping.rises_stay}
 use Rattle.sim_session.proofs.Common.{AreKept, arith, bending_follows, bends, bent, carry_up, cases_eq, client_of, Command, cond-false, cond-true, Conveys, cut}
-use Rattle.sim_session.proofs.Common.{Did, digest, Done, eq-eqb, Event, events_by, false≢true, Follows, has_happened, HasFewIds, Held, Idle, inl, inr}
+use Rattle.sim_session.proofs.Common.{Did, Done, eq-eqb, Event, events_by, false≢true, Follows, has_happened, HasFewIds, Held, Idle, inl, inr}
 use Rattle.sim_session.proofs.Common.{On, order_shown, ordered, ordering_follows, orders, OutOfMemory, Phase, pipe_in, played, played_events, Player}
 use Rattle.sim_session.proofs.Common.{Option, Result, refl, Act, Acted, acts, All-cons, All-nil, Answers, ap, append-nil, AreBuilt, AreBuiltIf, AreFrames}
 use Rattle.sim_session.proofs.Common.{Session, Setup, shows, shows_after, spelled, StandBeside, Step, stepped_by, subst, sym, Systems, Tells, told, told_alone}

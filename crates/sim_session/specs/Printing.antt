@@ -1,5 +1,5 @@
 -- What is printed of what a client says, and of what it hears.
-use Rattle.std.specs.Prelude.{◌≡◌, ℕ, Bool, true, false, ◌&&◌, List, [], ◌∷◌, if◌then◌else◌, Some, None, Option}
+use Rattle.std.specs.Prelude.{ℕ, Bool, true, false, ◌&&◌, List, [], ◌∷◌, if◌then◌else◌, Some, None, Option}
 use Rattle.sim_base.specs.{Spelling.digest, declared.setup.Setup.Setup, declared.step.Event.Event}
 use Rattle.sim_client.specs.{LifeLaws.shows, declared.did.Did.Did, declared.did.Did.TheVariants.Done, declared.did.Did.TheVariants.Idle}
 use Rattle.sim_client.specs.Lives.{Joining, Life, Off, On, Said, Told}
