@@ -448,12 +448,23 @@ fn labels_two_regions(rt: HostRuntime) -> Result<(), Fail> {
     Ok(())
 }
 
-// From where to where ways are asked over and over on winding grounds.
-static ASKED: [((i32, i32), (i32, i32)); 4] = [
+/// From where to where ways are asked.
+type Asked = [((i32, i32), (i32, i32)); 4];
+
+// What is asked over and over on winding grounds.
+static ASKED: Asked = [
     ((0, 0), (63, 62)),
     ((63, 62), (0, 0)),
     ((5, 30), (60, 2)),
     ((0, 62), (40, 10)),
+];
+
+// What is asked there after it, so that it is not remembered. The last two goals are closed.
+static OTHERS: Asked = [
+    ((1, 0), (62, 62)),
+    ((62, 62), (1, 0)),
+    ((6, 30), (60, 3)),
+    ((1, 62), (40, 11)),
 ];
 
 // A ground of walls with a gap at one end each, so that ways wind from side to side.
@@ -471,29 +482,46 @@ fn winding(alloc: Global, east: bool) -> Result<Grid, OutOfMemory> {
     Ok(grid)
 }
 
-// Whether all searches find the same ways. The first ones take so many detours that landmarks are set for those that follow.
-fn agree_on(alloc: Global, searcher: &mut Searcher, grid: &Grid) -> Result<bool, OutOfMemory> {
+// Whether all searches find the same ways.
+fn agree_on(
+    alloc: Global,
+    searcher: &mut Searcher,
+    grid: &Grid,
+    asked: &Asked,
+) -> Result<bool, OutOfMemory> {
     let mut same = true;
-    for asked in &ASKED {
-        let (from, to) = (point(middle(asked.0)), point(middle(asked.1)));
+    for (from, to) in asked {
+        let (from, to) = (point(middle(*from)), point(middle(*to)));
         let found = way_on(alloc, searcher, grid, from, to)?;
         same = same && found.is_some();
     }
     Ok(same)
 }
 
-// Whether that is so with landmarks, on the same ground with one cell more that is open, and on another of its size.
+// Whether that is so when they are asked, after others, and again. The first ways take so many detours that landmarks are set for those
+// that follow, and when they are asked again they are remembered.
+fn agree_again(alloc: Global, searcher: &mut Searcher, grid: &Grid) -> Result<bool, OutOfMemory> {
+    Ok(
+        agree_on(alloc, searcher, grid, &ASKED)?
+            && agree_on(alloc, searcher, grid, &OTHERS)?
+            && agree_on(alloc, searcher, grid, &ASKED)?,
+    )
+}
+
+// Whether that is so on a winding ground, on the same with one cell more that is open, as it was before, and on another of its size.
 fn agree_on_changes(alloc: Global) -> Result<bool, OutOfMemory> {
     let mut searcher = Searcher::new();
     let mut grid = winding(alloc, true)?;
-    let before = agree_on(alloc, &mut searcher, &grid)? && agree_on(alloc, &mut searcher, &grid)?;
-    let gap = Cell { x: 32, z: 1 };
-    if grid.has(gap) {
-        grid.set(gap, true);
+    let mut same = true;
+    for open in [false, true, false] {
+        let gap = Cell { x: 32, z: 1 };
+        if grid.has(gap) {
+            grid.set(gap, open);
+        }
+        same = same && agree_again(alloc, &mut searcher, &grid)?;
     }
-    let changed = agree_on(alloc, &mut searcher, &grid)? && agree_on(alloc, &mut searcher, &grid)?;
     let other = winding(alloc, false)?;
-    Ok(before && changed && agree_on(alloc, &mut searcher, &other)?)
+    Ok(same && agree_again(alloc, &mut searcher, &other)?)
 }
 
 #[test]
