@@ -1,8 +1,9 @@
 /* simcore.h: the simulation core in a program of yours. C99 and C++, for Linux on x86-64.
  *
  * A match is the bytes of a match file, a state is the bytes of a stored state: the program `simcore` reads and writes the same bytes.
- * Each call takes bytes, gives bytes and keeps nothing. This is level one, and all that there is: a level two, whose handles would keep
- * a match in memory from turn to turn, is not there yet. docs/EMBEDDING.md makes a networked match of these calls, step by step.
+ * There are two levels. The calls of level one take bytes, give bytes and keep nothing. Those of level two keep a client of a networked
+ * match, its server, or a match that is played on without a network, behind a handle of yours. docs/EMBEDDING.md makes a networked match
+ * of them, step by step.
  *
  * What you owe at every call, since nothing can check it:
  *   1. No pointer is null, also where its length is 0.
@@ -11,8 +12,10 @@
  *   4. While a call runs, nobody writes what it reads, or touches what it writes.
  *   5. The thread has 256 KB of stack left.
  *   6. No call is made in a signal handler, or in the forked child of a process with threads.
- * And nothing else. Whatever stands in the bytes, a call ends and answers a status of the table below. Calls share nothing, so any number
- * of threads may call at once. The same bytes have the same answer on every machine, or there is no memory.
+ *   7. A handle is all zeroes, or as the last call left it: nobody else writes into it, and nobody uses a copy of an open one.
+ * And nothing else. Whatever stands in the bytes, a call ends and answers a status of the table below. Calls share nothing but the handle
+ * that they are given, so any number of threads may call at once, each with a handle of its own or with none. The same bytes have the
+ * same answer on every machine, and a handle to which the same was done stands the same, or there is no memory.
  */
 #ifndef SIMCORE_H
 #define SIMCORE_H
@@ -25,7 +28,7 @@ extern "C" {
 #endif
 
 /* The interface of this header: above the lower 16 bits what must be the same in the library, and in them what may be more there. */
-#define SIMCORE_VERSION 0x00010001u
+#define SIMCORE_VERSION 0x00010002u
 
 /* How a call ends, and what stands then. 0 to 14 mean what they mean as the status of the program.
  *
@@ -41,19 +44,27 @@ enum simcore_status {
     SIMCORE_STATE_REFUSED = 7, /* bytes stand for no state of the match; fault->code is CODE of `state refused CODE NAME`, and
                                   fault->index is 1 where they are the second state of the call, and else 0 */
     SIMCORE_LIST_REFUSED = 8,  /* the bytes are no list of commands; fault->code is 0, and fault->index is the first item that is no
-                                  command, counted from 1, or 0 where the whole is no list */
-    SIMCORE_NO_MEMORY = 9,     /* memory was refused; *fault is 0 and 0, and all that the call had taken is given back */
-    SIMCORE_NO_TURN = 10,      /* simcore_turn: all turns of the match were played; *fault is 0 and 0 */
+                                  command, counted from 1, or 0 where the whole is no list; simcore_client_order: they are no command */
+    SIMCORE_NO_MEMORY = 9,     /* memory was refused; *fault is 0 and 0, and all that the call had taken is given back. A step of level two
+                                  says below what then stands */
+    SIMCORE_NO_TURN = 10,      /* simcore_turn, simcore_game_play: all turns of the match were played; *fault is 0 and 0 */
     SIMCORE_NO_FILE = 11,      /* simcore_run: a file that the words name is none of those that were handed in */
     SIMCORE_SIGHT_REFUSED = 12,   /* simcore_run: a file holds no explored cells of the match */
     SIMCORE_LOG_REFUSED = 13,     /* simcore_run: a file is no log */
     SIMCORE_ECONOMY_REFUSED = 14, /* simcore_run: a file is no economy */
     SIMCORE_NO_ROOM = 100,     /* the room is too small: *written is how many items it takes, and *fault is as it was. Call again with
                                   so many */
-    SIMCORE_FILES_REFUSED = 101 /* simcore_run: the bytes are no files; nothing is written */
+    SIMCORE_BAD_HANDLE = 101,    /* the handle is closed, or holds something else than the call is for; of an open: it is not closed.
+                                    Nothing is changed or written */
+    SIMCORE_IDLE = 102,          /* nothing happens, as where a client is to join that is on. Nothing is changed or written */
+    SIMCORE_FRAME_REFUSED = 103, /* the bytes are no frame. simcore_server_hear: the client was cut off, so close its connection;
+                                    simcore_client_hear: nothing is changed */
+    SIMCORE_NO_PLAYER = 104,     /* an open: the match has no such player, or fewer than are to begin. Nothing is changed or written */
+    SIMCORE_NOT_ON = 105,        /* a look at a client that has no state: it is off, or waits for one. Nothing is written */
+    SIMCORE_FILES_REFUSED = 106  /* simcore_run: the bytes are no files; nothing is written */
 };
-/* The first of these is told: the match is refused, a state is (the left one before the right one), all turns were played, the commands
- * are refused, there is no room. Memory may be refused anywhere between. */
+/* The first of these is told: the handle is none for the call, the match is refused, a state is (the left one before the right one), there
+ * is no such player, all turns were played, the commands are refused, there is no room. Memory may be refused anywhere between. */
 
 /* Why a call was refused. docs/FORMATS.md says what each code means. */
 struct simcore_fault {
@@ -97,10 +108,28 @@ enum simcore_part {
     SIMCORE_STANCE = 7
 };
 
+/* What is kept from call to call. Begin with zeroes: struct simcore_handle handle = {0}; that is a closed one, which holds nothing. It is
+ * your memory, and may be moved while it is open, but what it points to is the library's until simcore_close. */
+struct simcore_handle {
+    void *held;
+};
+
+/* Where a client stands. */
+struct simcore_standing {
+    uint32_t stage;    /* SIMCORE_OFF, SIMCORE_JOINING or SIMCORE_ON; the other numbers are 0 where it is not on */
+    uint32_t turn;     /* how many turns its state has behind it */
+    uint32_t released; /* the last turn of which it knows that it may be played */
+    uint32_t done;     /* the last turn for which it gives no more orders: the next one is for the turn behind it */
+};
+
+enum simcore_stage { SIMCORE_OFF = 0, SIMCORE_JOINING = 1, SIMCORE_ON = 2 };
+
 #define SIMCORE_CELL 65536
 /* No state is longer, and none has more entities: so much room is always enough. */
 #define SIMCORE_MOST_STATE 2347083u
 #define SIMCORE_MOST_ENTITIES 4096u
+/* No frame is longer. */
+#define SIMCORE_MOST_FRAME 2400000u
 
 /* The version of the library. It takes no argument and cannot fail. */
 uint32_t simcore_version(void);
@@ -157,6 +186,111 @@ int32_t simcore_show(const uint8_t *match, size_t match_n, const uint8_t *state,
 int32_t simcore_run(const uint8_t *words, size_t words_n, const uint8_t *files, size_t files_n, uint8_t *text, size_t text_room,
                     uint64_t *text_written, uint8_t *out, size_t out_room, uint64_t *out_written);
 
+/* Level two. What is opened is closed by simcore_close, once, whatever became of it. A handle that holds something else than a call is for
+ * answers BAD_HANDLE there, so a mistake of yours changes nothing.
+ *
+ * What a client and a server say to each other are frames (docs/FORMATS.md, section 6), and all that a host does is to carry them: each
+ * whole, in their order, those of a client to the server with its number, and those for a client to it. What travels besides, as who is
+ * who and which match is played, is the host's. docs/PROTOCOL.md tells what the frames do. */
+
+/* Opens a client of a match for one of its players, from 1. One that begins in the match, with `begins` not 0, is on at the first state;
+ * any other one is off, and may join.
+ * OK, BAD_HANDLE, MATCH_REFUSED, NO_PLAYER, NO_MEMORY: the handle stays closed where it was closed */
+int32_t simcore_client_open(struct simcore_handle *handle, const uint8_t *match, size_t match_n, uint32_t player, uint32_t begins,
+                            struct simcore_fault *fault);
+
+/* The steps of a client. What it says in one waits until it is taken. NO_MEMORY of any of them is as simcore_client_cut: the client is off,
+ * and what waited is gone. So end its connection, and let it join again.
+ *
+ * Wishes to join, if it is off; it is joining then, and is on when it has heard the state of another client.
+ * OK, IDLE, BAD_HANDLE, NO_MEMORY */
+int32_t simcore_client_join(struct simcore_handle *handle);
+
+/* Gives a command of its player, as JSON without the player: ["walk",[2,3],"10.5","4"]. It is for the turn behind standing.done, and comes
+ * back from the server before it is played. IDLE where it is not on, that turn is none of the match, or 64 were given for it.
+ * OK, IDLE, LIST_REFUSED, BAD_HANDLE, NO_MEMORY */
+int32_t simcore_client_order(struct simcore_handle *handle, const uint8_t *command, size_t command_n);
+
+/* Hears a frame of the server, one and whole. IDLE where it has no effect, as that of a notice, or of a state that stands for none.
+ * OK, IDLE, FRAME_REFUSED, BAD_HANDLE, NO_MEMORY */
+int32_t simcore_client_hear(struct simcore_handle *handle, const uint8_t *frame, size_t frame_n);
+
+/* Plays the turns that are released, at most so many, and puts into *played how many these were. For each of them it says the digest, and
+ * that it is done with a turn more. Many turns in one call cost less than as many calls.
+ * OK, IDLE where there is none to be played, BAD_HANDLE, NO_MEMORY */
+int32_t simcore_client_play(struct simcore_handle *handle, uint32_t most, uint32_t *played);
+
+/* Its connection has ended: it is off, and forgets all but the match and its player.
+ * OK, BAD_HANDLE */
+int32_t simcore_client_cut(struct simcore_handle *handle);
+
+/* Takes the frames that wait to be sent, one behind another: they are at the front of the room, and wait no longer. With NO_ROOM all still
+ * wait. Where none waits, *written is 0.
+ * OK, NO_ROOM, BAD_HANDLE */
+int32_t simcore_client_take(struct simcore_handle *handle, uint8_t *room, size_t room_n, uint64_t *written);
+
+/* Where it stands.
+ * OK, BAD_HANDLE */
+int32_t simcore_client_standing(struct simcore_handle *handle, struct simcore_standing *standing);
+
+/* Opens the server of a match, with a client for each player, of which the first `active` ones begin in the match. It plays nothing.
+ * OK, BAD_HANDLE, MATCH_REFUSED, NO_PLAYER, NO_MEMORY: the handle stays closed where it was closed */
+int32_t simcore_server_open(struct simcore_handle *handle, const uint8_t *match, size_t match_n, uint32_t active, struct simcore_fault *fault);
+
+/* The steps of a server. NO_MEMORY of any of them has changed nothing: the frame was not heard, and the call may be made again.
+ *
+ * Hears a frame of a client, one and whole. Bytes that are none cut the client off, as simcore_server_cut. IDLE where there is no such client.
+ * OK, IDLE, FRAME_REFUSED, BAD_HANDLE, NO_MEMORY */
+int32_t simcore_server_hear(struct simcore_handle *handle, uint32_t from, const uint8_t *frame, size_t frame_n);
+
+/* The connection of a client has ended. What waited for it is gone, and the others may go on without it.
+ * OK, IDLE where there is no such client, BAD_HANDLE, NO_MEMORY */
+int32_t simcore_server_cut(struct simcore_handle *handle, uint32_t client);
+
+/* Takes the frames that wait for a client, as simcore_client_take does. For a number that is no client's none wait.
+ * OK, NO_ROOM, BAD_HANDLE, NO_MEMORY */
+int32_t simcore_server_take(struct simcore_handle *handle, uint32_t client, uint8_t *room, size_t room_n, uint64_t *written);
+
+/* The last turn that is released: its commands are final.
+ * OK, BAD_HANDLE */
+int32_t simcore_server_released(struct simcore_handle *handle, uint32_t *turn);
+
+/* Opens a match that is played on in memory, with no client and no server: at its first state, or at the one that bytes stand for.
+ * OK, BAD_HANDLE, MATCH_REFUSED, STATE_REFUSED of a load, NO_MEMORY: the handle stays closed where it was closed */
+int32_t simcore_game_open(struct simcore_handle *handle, const uint8_t *match, size_t match_n, struct simcore_fault *fault);
+int32_t simcore_game_load(struct simcore_handle *handle, const uint8_t *match, size_t match_n, const uint8_t *state, size_t state_n,
+                          struct simcore_fault *fault);
+
+/* Plays a turn with commands as simcore_turn has them. After a refusal, be it of memory, the state is the one before.
+ * OK, NO_TURN, LIST_REFUSED, BAD_HANDLE, NO_MEMORY */
+int32_t simcore_game_play(struct simcore_handle *handle, const uint8_t *commands, size_t commands_n, struct simcore_fault *fault);
+
+/* Plays turns with the commands that the match file has of its own, as the program's `play` does, at most so many, and puts into *played
+ * how many these were. After NO_MEMORY the state is the one before.
+ * OK, IDLE where all turns were played, BAD_HANDLE, NO_MEMORY */
+int32_t simcore_game_play_own(struct simcore_handle *handle, uint32_t most, uint32_t *played);
+
+/* Looks at the state of a client or a match, in the answers of simcore_first, simcore_digest, simcore_show and simcore_entities.
+ * OK, BAD_HANDLE, NOT_ON; NO_ROOM and NO_MEMORY where there is a room */
+int32_t simcore_held_state(struct simcore_handle *handle, uint8_t *state, size_t state_room, uint64_t *written, uint8_t digest[16]);
+int32_t simcore_held_digest(struct simcore_handle *handle, uint8_t digest[16], uint32_t *turn);
+int32_t simcore_held_show(struct simcore_handle *handle, uint8_t *text, size_t text_room, uint64_t *written);
+int32_t simcore_held_entities(struct simcore_handle *handle, struct simcore_entity *rows, size_t rows_room, uint64_t *written);
+
+/* Gives back all that is behind a handle, and leaves zeroes: it is closed, and may be opened again.
+ * OK, BAD_HANDLE of a closed one */
+int32_t simcore_close(struct simcore_handle *handle);
+
+/* Whether a handle is open. */
+static inline int simcore_is_open(const struct simcore_handle *handle) { return handle->held != NULL; }
+
+/* How long the first frame is of bytes that came: hand so many to a call that hears, once they are there. 0 where fewer than four bytes are
+ * there, of which nothing can be said. More than SIMCORE_MOST_FRAME is no frame, and its sender may be cut off at once. */
+static inline uint64_t simcore_frame_length(const uint8_t *bytes, size_t bytes_n) {
+    if (bytes_n < 4) return 0;
+    return 4 + ((uint64_t)bytes[0] | (uint64_t)bytes[1] << 8 | (uint64_t)bytes[2] << 16 | (uint64_t)bytes[3] << 24);
+}
+
 /* Whether the library that runs is one of this header. Ask it once, before all other calls. */
 static inline int simcore_fits(void) {
     uint32_t version = simcore_version();
@@ -182,6 +316,11 @@ static inline const char *simcore_status_text(int32_t status) {
     case SIMCORE_ECONOMY_REFUSED: return "economy refused";
     case SIMCORE_NO_ROOM: return "no room";
     case SIMCORE_FILES_REFUSED: return "files refused";
+    case SIMCORE_BAD_HANDLE: return "no handle for this call";
+    case SIMCORE_IDLE: return "nothing happens";
+    case SIMCORE_FRAME_REFUSED: return "frame refused";
+    case SIMCORE_NO_PLAYER: return "no such player";
+    case SIMCORE_NOT_ON: return "the client is not on";
     default: return "no status of this header";
     }
 }

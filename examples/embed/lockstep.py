@@ -1,23 +1,23 @@
 #!/usr/bin/env python3
-"""A networked match: a server and its clients, over TCP on the loopback. docs/EMBEDDING.md tells it step by step.
+"""A networked match by the core's own protocol: a server and its clients, over TCP on the loopback. docs/EMBEDDING.md tells it step by step.
 
-    python3 examples/embed/lockstep.py LIBRARY serve                    the server, whose first line is its port
-    python3 examples/embed/lockstep.py LIBRARY PORT PLAYER [lags|lies]  a client; LIBRARY is PREFIX/lib/libsimcore.so
+    python3 examples/embed/lockstep.py LIBRARY serve                                the server, whose first line is its port
+    python3 examples/embed/lockstep.py LIBRARY PORT PLAYER [waits|joins|lags|lies]  a client; LIBRARY is PREFIX/lib/libsimcore.so
 
-The server knows no rule of the game. It collects the orders of a turn and hands all of them to every client, and each client computes
-every turn by itself. A message is a line of JSON. examples/embed/networked.py starts them all, and kills one.
+What travels are the frames of docs/PROTOCOL.md, as the core made them, behind one byte that says whose connection it is. The server knows
+no rule of the game, and each client computes every turn by itself. examples/embed/networked.py starts them all, and kills one.
 """
 
 import asyncio
-import collections
-import hashlib
 import json
 import sys
 import time
 
-from simcore import Core
+from handles import MOST_FRAME, STAGES, Client, Server, frame_length
+from simcore import Core, Refused
 
-PLAYERS, DELAY, TURNS, BACK, LIE, SECONDS = 4, 3, 60, 25, 30, 60
+PLAYERS, DELAY, TURNS, BACK, LIE, SECONDS = 4, 3, 60, 25, 34, 60
+ASK, COMMAND, NOTICE = 1, 3, 5
 MATCH = json.dumps({
     "size": [32, 16], "closed": [[14, 0, 17, 5], [14, 10, 17, 15]], "players": [[2, 3, 4], [1, 3, 4], [1, 2, 4], [1, 2, 3]], "cap": 0,
     "delay": DELAY, "turns": TURNS, "seed": 3,
@@ -27,173 +27,145 @@ MATCH = json.dumps({
     "commands": []}).encode()
 
 
-def send(writer, **message):
-    """Sends a message, unless the connection is gone: that is found out where it is read from."""
-    if not writer.is_closing():
-        writer.write(json.dumps(message).encode() + b"\n")
-
-
-async def messages(reader):
-    """The messages of a connection to its end, or to its loss."""
+async def frames_of(reader):
+    """The frames of a connection, to its end or its loss, or to what cannot be one."""
     try:
-        while line := await reader.readline():
-            yield json.loads(line)
-    except ConnectionError:
+        while frame_length(head := await reader.readexactly(4)) <= MOST_FRAME:
+            yield head + await reader.readexactly(frame_length(head) - 4)
+    except (asyncio.IncompleteReadError, ConnectionError):
         pass
 
 
-class Server:
-    """Hands the orders of each turn to all, compares the digests, and has a state handed to who comes back."""
+class Host:
+    """What the server's process does beside the server: it carries frames, and cuts off whose connection has ended."""
 
-    def __init__(self):
-        self.writers, self.since, self.joining, self.liars = {}, {}, {}, set()
-        self.kept, self.agreed, self.evidence = [], {}, {}
-        self.given, self.told = collections.defaultdict(dict), collections.defaultdict(dict)
+    def __init__(self, core):
+        self.server, self.writers, self.told = Server(core, MATCH, PLAYERS), {}, []
 
     async def serve(self, reader, writer):
-        """Hears one connection to its end, or to a message that is none."""
-        client = None
-        try:
-            async for message in messages(reader):
-                if client is None:
-                    client = self.hello(message["hello"], writer)
-                else:
-                    self.hear(client, message)
-                self.release()
-        except (KeyError, TypeError, ValueError):
-            print("no message of client", client, file=sys.stderr)
+        """A connection, from the byte that says whose it is to its end."""
+        client = int.from_bytes(await reader.read(1), "little")
+        self.leave(client, self.writers.get(client))
+        self.writers[client] = writer
+        self.send()
+        async for frame in frames_of(reader):
+            if self.writers.get(client) is not writer or not self.hear(client, frame):
+                break
+            self.send()
         self.leave(client, writer)
 
-    def hello(self, client, writer):
-        """Who says hello is this client from now on, in the place of a connection that it had before."""
-        if client not in range(1, PLAYERS + 1):
-            raise ValueError(client)
-        if client in self.writers:
-            self.leave(client, self.writers[client])
-        self.welcome(client, writer)
-        return client
+    def hear(self, client, frame):
+        """Whether the server could hear what a client sent. It has cut the client off where that is no frame."""
+        try:
+            return self.server.hear(client, frame)
+        except Refused as refused:
+            print("client", client, refused, file=sys.stderr)
+            return False
 
-    def hear(self, client, message):
-        """What a client says is orders, of which its own player's are kept, a digest, or a state that it was asked for."""
-        if "orders" in message:
-            self.given[message["turn"]].setdefault(client, [order for order in message["orders"] if order[0] == client])
-        elif "digest" in message:
-            self.told[message["turn"]][client] = message["digest"]
-            self.compare(message["turn"])
-        elif message["to"] in self.joining:
-            self.hand_on(client, message)
-        else:
-            self.evidence[client] = message["state"]
+    def send(self):
+        """What the server said goes to whom it is for. What client 1 is told is kept: it is a replay."""
+        for client, writer in self.writers.items():
+            said = self.server.take(client)
+            self.told += [said] if client == 1 else []
+            if said and not writer.is_closing():
+                writer.write(said)
 
     def leave(self, client, writer):
-        """A connection ends, and the others go on. Who waited for a state from there gets one from somebody else."""
-        writer.close()
-        for those in (self.writers, self.joining):
-            if those.get(client) is writer:
-                del those[client]
-        for waiting, its_writer in list(self.joining.items()):
-            self.welcome(waiting, its_writer)
-        self.release()
-
-    def welcome(self, client, writer):
-        """One of whom nothing bad is known is asked for its state of the last turn of which all were agreed."""
-        donors = set(self.writers) - self.liars
-        if self.agreed and donors:
-            self.joining[client] = writer
-            send(self.writers[min(donors)], ask=max(self.agreed), to=client)
-        else:
-            self.begin(client, writer, 0)
-
-    def hand_on(self, donor, message):
-        """A state goes to who waits for it, if it has the digest that was agreed; else another donor is asked."""
-        client, turn, state = message["to"], message["turn"], message["state"]
-        digest = hashlib.md5(bytes.fromhex(state)).hexdigest()
-        writer = self.joining.pop(client)
-        if digest == self.agreed.get(turn):
-            self.begin(client, writer, turn, state)
-        else:
-            self.liars.add(donor)
-            self.welcome(client, writer)
-
-    def begin(self, client, writer, turn, *state):
-        """A client begins at a turn, and hears what was played since. The next DELAY turns do not wait for orders of it."""
-        send(writer, begin=turn, state=state)
-        for number, orders in enumerate(self.kept[turn:], turn + 1):
-            send(writer, turn=number, orders=orders)
-        self.writers[client], self.since[client] = writer, len(self.kept)
-
-    def release(self):
-        """Once all who are there have given their orders of the next turn, they go to all. At two turns nobody may be away."""
-        while len(self.kept) < TURNS:
-            turn = len(self.kept) + 1
-            if len(self.writers) < (PLAYERS if turn - 1 in (0, BACK) else 1):
-                return
-            if any(it not in self.given[turn] for it in self.writers if self.since[it] + DELAY < turn):
-                return
-            self.kept.append([order for client in sorted(self.given[turn]) for order in self.given[turn][client]])
-            for writer in self.writers.values():
-                send(writer, turn=turn, orders=self.kept[-1])
-
-    def compare(self, turn):
-        """Once all who are there have told their digest of a turn, most are right: of who differs and of one of them a state is asked for."""
-        told = {client: digest for client, digest in self.told[turn].items() if client not in self.liars}
-        if not told or any(it not in self.told[turn] for it in self.writers if self.since[it] < turn):
-            return
-        self.agreed[turn] = collections.Counter(told.values()).most_common(1)[0][0]
-        for client in [it for it in told if told[it] != self.agreed[turn]]:
-            self.liars.add(client)
-            print("notice", turn, client, flush=True)
-            for it in (client, min(it for it in told if told[it] == self.agreed[turn])):
-                if it in self.writers:
-                    send(self.writers[it], ask=turn, to=0)
+        """A connection is over, unless another one of the client has come in its place: the others go on without it."""
+        if writer is not None and self.writers.get(client) is writer:
+            del self.writers[client]
+            self.server.cut(client)
+            self.send()
+        if writer is not None:
+            writer.close()
 
 
-async def serve(server):
+async def serve(host):
     """The server process: it ends when the match is over and all clients have gone, or its time is over."""
-    listening = await asyncio.start_server(server.serve, "127.0.0.1", 0, limit=1 << 23)
+    listening = await asyncio.start_server(host.serve, "127.0.0.1", 0)
     print(listening.sockets[0].getsockname()[1], flush=True)
     end = time.monotonic() + SECONDS
-    while (len(server.kept) < TURNS or server.writers) and time.monotonic() < end:
+    while (host.server.released() < TURNS or host.writers) and time.monotonic() < end:
         await asyncio.sleep(0.02)
-    for writer in server.writers.values():
+    for client, writer in list(host.writers.items()):
+        host.leave(client, writer)
+    print(b"".join(host.told).hex())
+
+
+class Player:
+    """A client's process: it carries frames, plays what is released, and orders what its player wants."""
+
+    def __init__(self, core, number, habit):
+        self.client, self.number, self.habit = Client(core, MATCH, number, begins=habit != "joins"), number, habit
+        self.asked, self.ordered, self.noticed, self.states = False, 0, False, {}
+
+    async def play(self, port):
+        """Plays the match to its end."""
+        reader, writer = await asyncio.open_connection("127.0.0.1", port)
+        writer.write(bytes([self.number]))
+        if self.habit == "joins":
+            self.client.join()
+        await self.go_on(writer)
+        async for frame in frames_of(reader):
+            self.hear(frame)
+            if await self.go_on(writer) == TURNS:
+                break
+        await writer.drain()
         writer.close()
-    print(json.dumps([server.kept, server.evidence]))
 
+    def hear(self, frame):
+        """The client hears a frame. One that lies keeps from its core what player 1 orders from a turn on."""
+        kind, turn = frame[4], int.from_bytes(frame[5:9], "little")
+        if self.habit == "lies" and kind == COMMAND and turn >= LIE and frame[9] == 1:
+            return
+        self.client.hear(frame)
+        self.asked |= kind == ASK
+        if kind == NOTICE:
+            self.tell_notice(turn, frame[9])
 
-async def play(match, port, player, habit=""):
-    """A client process: it plays each turn as it is released, and tells its digest and what it orders for a turn to come."""
-    reader, writer = await asyncio.open_connection("127.0.0.1", port, limit=1 << 23)
-    send(writer, hello=player)
-    state, turn, states = b"", 0, {}
-    async for message in messages(reader):
-        if "ask" in message:
-            send(writer, state=states[message["ask"]].hex(), turn=message["ask"], to=message["to"])
-            continue
-        if "begin" in message:
-            turn, state = message["begin"], bytes.fromhex(message["state"][0]) if message["state"] else match.first().bytes
-            assert match.digest(state)[1] == turn, "bytes that stand for no state are refused; this is one, but of another turn"
-        else:
-            turn = message["turn"]
-            secret = [[player, "resign"]] if habit == "lies" and turn == LIE else []
-            state, digest = match.play(state, message["orders"] + secret)
-            await asyncio.sleep(0.05 if habit == "lags" and turn % 10 == 0 else 0)
-            send(writer, digest=digest, turn=turn)
-            print(turn, digest, flush=True)
-        states[turn] = state
-        states.pop(turn - 2 * DELAY, None)
-        if turn == TURNS:
-            break
-        send(writer, orders=orders_of(match, state, player), turn=turn + DELAY + 1)
-    await writer.drain()
-    writer.close()
+    def tell_notice(self, turn, client):
+        """A notice is told; at the first one with the state of that turn, which is one of the last DELAY + 1."""
+        print("notice", turn, client, flush=True)
+        if not self.noticed and turn in self.states:
+            print("state", turn, self.states[turn].hex(), flush=True)
+        self.noticed = True
 
+    async def go_on(self, writer):
+        """Plays the turns that may be played, orders behind each, and sends what the client said; the turn that it came to."""
+        standing = self.client.standing()
+        while STAGES[standing.stage] == "on":
+            self.order(standing)
+            if self.waits_at(standing.turn) or not self.client.play(1):
+                break
+            standing = self.client.standing()
+            self.keep(standing.turn)
+            await asyncio.sleep(0.05 if self.habit == "lags" and standing.turn % 10 == 0 else 0)
+        writer.write(self.client.take())
+        return standing.turn
 
-def orders_of(match, state, player):
-    """Whoever stands idle goes to the middle."""
-    idle = [row.id for row in match.entities(state) if row.owner == player and not row.going and not row.target]
-    return [[player, "walk", idle, "15.5", "7.5"]] if idle else []
+    def waits_at(self, turn):
+        """Whether it waits for one who was killed to come back: it is silent, and so holds up all."""
+        return self.habit == "waits" and turn == BACK and not self.asked
+
+    def keep(self, turn):
+        """Tells the digest of a turn, and keeps the states of the last ones: a notice is never about an older one, but of who joined."""
+        state = self.client.state()
+        print("turn", turn, state.digest, flush=True)
+        self.states[turn] = state.bytes
+        self.states.pop(turn - DELAY - 1, None)
+
+    def order(self, standing):
+        """Every tenth turn all go elsewhere, and who stands idle comes after. It is ordered once for each turn that is not done yet."""
+        if standing.done == self.ordered:
+            return
+        self.ordered = standing.done
+        own = [row for row in self.client.entities() if row.owner == self.number]
+        chosen = [row.id for row in own if standing.turn % 10 == 0 or not (row.going or row.target)]
+        if chosen:
+            self.client.order("walk", chosen, "15.5", f"{6 + standing.turn // 10 % 4}.5")
 
 
 if __name__ == "__main__":
+    library = Core(sys.argv[1])
     serves = sys.argv[2:] == ["serve"]
-    asyncio.run(serve(Server()) if serves else play(Core(sys.argv[1]).match(MATCH), *map(int, sys.argv[2:4]), *sys.argv[4:]))
+    asyncio.run(serve(Host(library)) if serves else Player(library, int(sys.argv[3]), "".join(sys.argv[4:])).play(int(sys.argv[2])))

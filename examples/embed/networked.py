@@ -3,16 +3,17 @@
 
     python3 examples/embed/networked.py PREFIX/lib/libsimcore.so
 
-Client 2 is killed in the midst of it and comes back by another's state, client 3 lags, and client 4 lies: in one turn it plays an order
-that it has told nobody. What comes of it is printed, and the status is 0 where it is as it should be.
+Client 2 is killed in the midst of it and joins again, client 3 lags, and client 4 lies: from one turn on its core does not hear what player
+1 orders. What comes of it is printed, and the status is 0 where it is as it should be.
 """
 
 import asyncio
-import json
 import pathlib
 import sys
+import time
 
-from lockstep import LIE, MATCH, SECONDS, TURNS
+from handles import Client, frames
+from lockstep import LIE, MATCH, PLAYERS, SECONDS, TURNS
 from simcore import Core
 
 KILLED = 12
@@ -24,60 +25,78 @@ def start(*words):
     return asyncio.create_subprocess_exec(sys.executable, script, *words, stdout=asyncio.subprocess.PIPE, limit=1 << 23)
 
 
-async def digests(client):
-    """The digest of each turn that a client prints, to its end."""
-    return {int(turn): digest for turn, digest in [line.decode().split() async for line in client.stdout]}
+async def lines_of(client):
+    """The lines that a client prints, as words, to its end."""
+    return [line.decode().split() async for line in client.stdout]
 
 
 async def run(library, running):
-    """Runs the match; what the server printed behind its port, and the digests of each client by turn."""
+    """Runs the match; what the server told client 1, and the lines of each client."""
     async def begin(*words):
         running.append(await start(library, *words))
         return running[-1]
 
     server = await begin("serve")
     port = (await server.stdout.readline()).decode().strip()
-    others = [await begin(port, *words) for words in (["1"], ["3", "lags"], ["4", "lies"])]
+    others = [await begin(port, *words) for words in (["1", "waits"], ["3", "lags"], ["4", "lies"])]
     second = await begin(port, "2")
     async for line in second.stdout:
-        if line.startswith(b"%d " % KILLED):
+        if line.startswith(b"turn %d " % KILLED):
             second.kill()
             break
-    back = await begin(port, "2")
-    first, third, fourth, second = await asyncio.gather(*map(digests, [*others, back]))
-    told = (await server.stdout.read()).decode().splitlines()
+    back = await begin(port, "2", "joins")
+    first, third, fourth, second = await asyncio.gather(*map(lines_of, [*others, back]))
+    told = (await server.stdout.read()).decode()
     await asyncio.gather(*(it.wait() for it in running))
-    return told, {1: first, 2: second, 3: third, 4: fourth}
+    return bytes.fromhex(told), {1: first, 2: second, 3: third, 4: fourth}
 
 
-def replay(match, kept):
-    """The digest behind each turn of what the server kept, played once more."""
-    stored, found = match.first(), {}
-    for turn, orders in enumerate(kept, 1):
-        stored = match.play(stored.bytes, orders)
-        found[turn] = stored.digest
+def replay(core, told):
+    """The digest behind each turn, by a client without a connection that hears once more what client 1 was told."""
+    found = {}
+    with Client(core, MATCH, 1, begins=True) as client:
+        for frame in frames(told):
+            client.hear(frame)
+            while client.play():
+                digest, turn = client.stamp()
+                found[turn] = digest
     return found
+
+
+def liars(lines):
+    """The first turn that was noticed, and who was apart there: whoever differs from the first report, or else that one and its like."""
+    notices = {(int(words[1]), int(words[2])) for words in lines if words[0] == "notice"}
+    turn = min((it[0] for it in notices), default=0)
+    differ = {client for at, client in notices if at == turn}
+    return turn, differ if 2 * len(differ) < PLAYERS else set(range(1, PLAYERS + 1)) - differ
+
+
+def place_of(match, seen, turn):
+    """Where the states of clients 1 and 4 behind a turn differ."""
+    found = {client: bytes.fromhex(words[2]) for client in (1, 4) for words in seen[client] if words[:2] == ["state", str(turn)]}
+    return match.compare(found[1], found[4]) if len(found) == 2 else None
 
 
 async def main(library):
     """Runs all, with a limit of time; what is still there then is killed."""
-    running, match = [], Core(library).match(MATCH)
+    running, core, begun = [], Core(library), time.monotonic()
     try:
-        (*notices, told), seen = await asyncio.wait_for(run(library, running), SECONDS)
+        told, seen = await asyncio.wait_for(run(library, running), SECONDS)
     finally:
         for it in running:
             if it.returncode is None:
                 it.kill()
-    kept, evidence = json.loads(told)
-    right = replay(match, kept)
-    apart = {client: sum(right[turn] != digest for turn, digest in told.items()) for client, told in seen.items()}
-    place = match.compare(*(bytes.fromhex(evidence[it]) for it in ("1", "4")))
-    print(f"client 2 was killed behind turn {KILLED}, and played {len(seen[2])} turns after it had come back")
-    print(f"turns in which a client differs from what the server kept: {apart}")
-    print(f"notices: {notices}; the two states differ at {place}")
-    good = (len(right), [apart[it] for it in (1, 2, 3)], notices, max(seen[2])) == (TURNS, [0, 0, 0], [f"notice {LIE} 4"], TURNS)
-    print("all is as it should be" if good and apart[4] and place else "something is wrong")
-    return 0 if good and apart[4] and place else 1
+    right, turns = replay(core, told), {client: [words for words in lines if words[0] == "turn"] for client, lines in seen.items()}
+    apart = {client: [int(turn) for _, turn, digest in lines if right.get(int(turn)) != digest] for client, lines in turns.items()}
+    noticed, place = liars(seen[1]), place_of(core.match(MATCH), seen, LIE)
+    print(f"{TURNS} turns of {PLAYERS} clients took {time.monotonic() - begun:.1f} s")
+    print(f"client 2 was killed behind turn {KILLED}, and played {len(turns[2])} turns after it had come back")
+    print(f"turns in which a client differs from the replay: { {client: len(differ) for client, differ in apart.items()} }")
+    print(f"the first notice is of turn {noticed[0]}, where {noticed[1]} stands apart; the two states differ at {place}")
+    good = len(right) == TURNS and all(lines and lines[-1][1] == str(TURNS) for lines in turns.values()) and not any(apart[it] for it in (1, 2, 3))
+    good = good and apart[4][:1] == [LIE] and noticed == (LIE, {4}) and place
+    print("all is as it should be" if good else "something is wrong")
+    return 0 if good else 1
 
 
 if __name__ == "__main__":

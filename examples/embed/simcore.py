@@ -1,4 +1,5 @@
-"""The core in Python, by ctypes: each call of include/simcore.h as a method, with bytes in and bytes out. Threads may share it.
+"""The core in Python, by ctypes: each call of level one of include/simcore.h as a method, with bytes in and bytes out. Threads may share
+it. What is held from call to call, level two, is in handles.py beside this file.
 
     core = Core("PREFIX/lib/libsimcore.so")
     match = core.match(open("match.json", "rb").read())
@@ -11,10 +12,12 @@ import ctypes
 import json
 import typing
 
-OK, DIFFERS, LIST_REFUSED, NO_MEMORY, NO_ROOM, FILES_REFUSED = 0, 1, 8, 9, 100, 101
-CAUSES = {6: "match refused", 7: "state refused", 8: "list refused", 9: "no memory", 10: "no turn", 101: "files refused"}
+OK, DIFFERS, LIST_REFUSED, NO_MEMORY, NO_ROOM, FILES_REFUSED = 0, 1, 8, 9, 100, 106
+BAD_HANDLE, IDLE, FRAME_REFUSED, NO_PLAYER, NOT_ON = range(101, 106)
+CAUSES = {6: "match refused", 7: "state refused", 8: "list refused", 9: "no memory", 10: "no turn", 106: "files refused",
+          101: "no handle for this call", 103: "frame refused", 104: "no such player", 105: "the client is not on"}
 PARTS = ["Clock", "Entity", "Position", "Owner", "Health", "Motion", "Attack", "Stance"]
-VERSION = 0x00010001
+VERSION = 0x00010002
 
 
 class Fault(ctypes.Structure):

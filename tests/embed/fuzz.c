@@ -18,7 +18,7 @@ enum { MATCH, FIRST, TURN, DIGEST, COMPARE, ENTITIES, SHOW, RUN, CALLS };
 /* The statuses that the header names for each call. */
 static const int32_t NAMED[CALLS][16] = {{0, 6, 9, -1}, {0, 6, 9, 100, -1}, {0, 6, 7, 8, 9, 10, 100, -1}, {0, 6, 7, 9, -1},
                                          {0, 1, 6, 7, 9, -1}, {0, 6, 7, 9, 100, -1}, {0, 6, 7, 9, 100, -1},
-                                         {0, 1, 2, 6, 7, 8, 9, 10, 11, 12, 13, 14, 100, 101, -1}};
+                                         {0, 1, 2, 6, 7, 8, 9, 10, 11, 12, 13, 14, 100, 106, -1}};
 
 struct bytes {
     uint8_t *at;

@@ -24,6 +24,9 @@ LOG = TOP / "out/unproved/library.log"
 # What the library asks memory of. A host may define the three in place of those of the archive.
 HEAP = ["rattle_alloc", "rattle_realloc", "rattle_dealloc"]
 EXPORT = re.compile(r'no_mangle\)\]\s*pub (?:unsafe )?extern "C" fn (\w+)\(([^)]*)\)')
+# A handle for the calls of the stand-in program, and what becomes of it.
+HANDLE = (["        let mut handle = handle::Handle::closed();"],
+          ["        if let Some(kept) = handle.into_kept(rt.alloc()) {", "            drop(kept.into_box());", "        }"])
 PAGE = """prefix=${{pcfiledir}}/../..
 includedir=${{prefix}}/include
 libdir=${{prefix}}/lib
@@ -67,6 +70,8 @@ def stand_in_value(kind):
         return "rt.alloc()"
     if kind == "&[u8]":
         return 'b""'
+    if kind == "&mut Handle":
+        return "&mut handle"
     if kind.startswith("&mut [") and "u8" in kind:
         return f"&mut [0u8; {16 if '16' in kind else 1}]"
     if kind.startswith("&mut ["):
@@ -87,8 +92,8 @@ def stand_in_program(crate, room):
     root = source / "main.rt"
     (source / "lib.rt").rename(root)
     text = root.read_text(encoding="utf-8")
-    root.write_text("\n".join([text, "fn main(rt: HostRuntime) {", "    if std::env::args(&rt).is_err() {", *calls, "    }", "}", ""]),
-                    encoding="utf-8")
+    root.write_text("\n".join([text, "fn main(rt: HostRuntime) {", "    if std::env::args(&rt).is_err() {", *HANDLE[0], *calls, *HANDLE[1],
+                               "    }", "}", ""]), encoding="utf-8")
     return root
 
 

@@ -1,1 +1,3 @@
+mod Address
+mod Parts
 pub mod Mapped

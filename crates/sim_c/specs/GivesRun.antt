@@ -41,5 +41,5 @@ papers_with printed old =
 -- the text and the file are put into their rooms, both or none, and their lengths are told; where there is no run nothing is written
 abbrev pub GivesRun : ℤ → Papers → Papers → Result Printed Unrun → Type 0
 GivesRun status old new (Ok printed) = (status ≡ run_status printed old.text old.out) × (new ≡ papers_with printed old)
-GivesRun status old new (Err causes.Files) = (status ≡ pos 101) × (new ≡ old)
+GivesRun status old new (Err causes.Files) = (status ≡ pos 106) × (new ≡ old)
 GivesRun status old new (Err causes.OutOfMemory) = (status ≡ pos 9) × (new ≡ old)

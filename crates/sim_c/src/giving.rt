@@ -10,8 +10,8 @@ use crate::status::{DIFFERS, DONE, NO_ROOM, refuse};
 use sim_diff::Place;
 use sim_embed::{Entity, Facts, Refused, Stamp, Stored, part_number, put};
 
-// Puts items into the room, and says how many there are in any case.
-fn fill<T: Copy>(items: &[T], room: &mut [T], written: &mut u64) -> i32
+/// Puts items into the room, and says how many there are in any case.
+pub fn fill<T: Copy>(items: &[T], room: &mut [T], written: &mut u64) -> i32
     ensures status { result ≡ room_status items.now room.old }
     ensures room { room.new ≡ put_in items.now room.old }
     ensures written { written.new ≡ length items.now }

@@ -7,7 +7,7 @@ use sim_embed::put;
 use sim_packed::{Printed, Unrun};
 
 /// The bytes are no files.
-const FILES_REFUSED: i32 = 101;
+const FILES_REFUSED: i32 = 106;
 
 /// Gives the text of a run, and what is held under the name of OUT.
 pub fn give_run(

@@ -15,9 +15,9 @@ use std::alloc::Global;
 /// The version of the interface: the number before the point times 65536, and the number behind it.
 #[unsafe(no_mangle)]
 pub extern "C" fn simcore_version() -> u32
-    ensures { result ≡ 65537 }
+    ensures { result ≡ 65538 }
 {
-    0x0001_0001
+    0x0001_0002
 }
 
 /// The numbers of a match.

@@ -11,10 +11,21 @@
 //! - `running`: a command of the program.
 #![tactic(auto)]
 
+mod clients;
+mod games;
 mod giving;
+mod giving_held;
 mod giving_run;
+mod handle;
+mod holding;
+mod kept;
 mod level_one;
+mod looks;
 mod running;
+mod servers;
+mod standing;
 mod status;
 
+pub use handle::Handle;
+pub use standing::Standing;
 pub use status::Fault;

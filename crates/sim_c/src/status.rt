@@ -22,6 +22,16 @@ pub const NO_MEMORY: i32 = 9;
 pub const NO_TURN: i32 = 10;
 /// The room of the caller is too small.
 pub const NO_ROOM: i32 = 100;
+/// The handle is closed, or holds something else than the call is for; of one that opens: it is not closed.
+pub const BAD_HANDLE: i32 = 101;
+/// Nothing happens.
+pub const IDLE: i32 = 102;
+/// The bytes are no frame.
+pub const FRAME_REFUSED: i32 = 103;
+/// The match has no such player, or fewer than are to begin.
+pub const NO_PLAYER: i32 = 104;
+/// The client has no state.
+pub const NOT_ON: i32 = 105;
 
 /// Why a call has no answer: the code, and the index of what it speaks of. A call with an answer leaves it as it is.
 #[repr(C)]

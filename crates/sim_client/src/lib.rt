@@ -10,7 +10,8 @@
 //! - `digests`: the digests of the states that were digested last.
 //! - `known`: the commands of the turns to come.
 //! - `stage`: what a client keeps beside its board.
-//! - `bending`, `playing`: what one that is on does with its board, and what it hears.
+//! - `bending`, `playing`: what one that is on does with its board, and what it hears. The calls of `playing` are public, for one who keeps
+//!   a seat and a state, and makes a board to play on.
 //! - `client`: the client.
 //! - `laws`: theorems about the definitions, each the contract of a function that does nothing.
 #![tactic(auto)]
@@ -27,4 +28,7 @@ mod stage;
 pub use client::Client;
 pub use did::{Did, Played, Ups};
 pub use digests::Digests;
+pub use known::Known;
 pub use laws::lives_follow_phases;
+pub use playing::{begin, heed, order, play};
+pub use stage::Seat;

@@ -24,10 +24,11 @@ mod refused;
 mod room;
 mod stored;
 
-pub use looking::{compare, digest, part_number, show};
-pub use plain::{Entity, Facts, about, entities};
+pub use looking::{compare, digest, part_number, show, text_of};
+pub use plain::{Entity, Facts, about, entities, entities_of};
 pub use planning::planned;
 pub use playing::{first, turn};
+pub use reading::{commands_of, match_of, state_of};
 pub use refused::Refused;
 pub use room::put;
 pub use stored::{Stamp, Stored};

@@ -65,7 +65,8 @@ pub fn show(alloc: Global, game: &[u8], bytes: &[u8]) -> Result<String, Refused>
     Ok(text_of(alloc, &setup, &state)?)
 }
 
-fn text_of(alloc: Global, setup: &Setup, state: &State) -> Result<String, OutOfMemory>
+/// The text of a state of a match: a line of its clock, and one of each row.
+pub fn text_of(alloc: Global, setup: &Setup, state: &State) -> Result<String, OutOfMemory>
     requires { IsValid setup.now state.now }
     ensures { IfOk result (λ text. string_bytes text ≡ text_of_show setup.now state.now) }
 {

@@ -87,7 +87,8 @@ pub fn entities(alloc: Global, game: &[u8], bytes: &[u8]) -> Result<Vec<Entity>,
     Ok(entities_of(alloc, state.rows.as_slice())?)
 }
 
-fn entities_of(alloc: Global, rows: &[Row]) -> Result<Vec<Entity>, OutOfMemory>
+/// The entities of these rows, in their order.
+pub fn entities_of(alloc: Global, rows: &[Row]) -> Result<Vec<Entity>, OutOfMemory>
     ensures { IfOk result (λ found. found.items ≡ map entity_by rows.now) }
 {
     let mut found = Vec::with_capacity(alloc, rows.len())?;

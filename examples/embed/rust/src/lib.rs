@@ -1,10 +1,18 @@
 //! The core in Rust: a safe wrapper over `simcore.h`. What the header asks of C is kept by the types: each pointer and its length are
-//! those of a slice, and what a call writes is borrowed alone.
+//! those of a slice, what a call writes is borrowed alone, and a handle is owned by one value, which closes it.
+//!
+//! `Match` is level one, which keeps nothing; `Client`, `Server` and `Game` are level two; `run` is any command of the program.
 
+mod held;
+mod net;
 mod raw;
+mod run;
 
+pub use held::{Game, Held};
+pub use net::{frames, Client, Server};
 use raw::*;
-pub use raw::{Entity, Facts};
+pub use raw::{Entity, Facts, Standing, JOINING, OFF, ON};
+pub use run::{run, Ran};
 use std::fmt;
 
 /// Why there is no answer. The numbers are those of the header's `simcore_fault`.
@@ -20,7 +28,7 @@ pub enum Error {
         code: u32,
         second: bool,
     },
-    /// The bytes are no list of commands, from this item on, or at 0 in the whole.
+    /// The bytes are no list of commands, from this item on, or at 0 in the whole; or they are no command.
     Commands {
         item: u32,
     },
@@ -29,6 +37,12 @@ pub enum Error {
     Over,
     /// A file is longer than four bytes count.
     Files,
+    /// The bytes are no frame.
+    Frame,
+    /// The match has no such player, or fewer than are to begin.
+    Player,
+    /// The client has no state.
+    NotOn,
     /// The library has a status that the header has not.
     Unknown(i32),
 }
@@ -42,6 +56,9 @@ impl fmt::Display for Error {
             Error::OutOfMemory => write!(f, "no memory"),
             Error::Over => write!(f, "all turns were played"),
             Error::Files => write!(f, "files refused"),
+            Error::Frame => write!(f, "frame refused"),
+            Error::Player => write!(f, "no such player"),
+            Error::NotOn => write!(f, "the client is not on"),
             Error::Unknown(status) => write!(f, "status {status}"),
         }
     }
@@ -56,17 +73,9 @@ pub struct State {
     pub digest: [u8; 16],
 }
 
-/// How a command of the program ended, what it printed, and what is then held under the name of OUT.
-#[derive(Clone, Debug, PartialEq, Eq)]
-pub struct Ran {
-    pub status: i32,
-    pub text: String,
-    pub out: Vec<u8>,
-}
-
 const DIFFERS: i32 = 1;
 const NO_ROOM: i32 = 100;
-const FILES_REFUSED: i32 = 101;
+const FILES_REFUSED: i32 = 106;
 
 fn refused(status: i32, fault: &Fault) -> Error {
     match status {
@@ -76,6 +85,9 @@ fn refused(status: i32, fault: &Fault) -> Error {
         9 => Error::OutOfMemory,
         10 => Error::Over,
         FILES_REFUSED => Error::Files,
+        103 => Error::Frame,
+        104 => Error::Player,
+        105 => Error::NotOn,
         other => Error::Unknown(other),
     }
 }
@@ -95,57 +107,10 @@ fn with_room<T: Clone + Default>(mut call: impl FnMut(&mut [T], &mut u64, &mut F
     }
 }
 
-/// Whether the library that runs has the calls that are declared here: version 1, from the second number 1 on.
+/// Whether the library that runs has the calls that are declared here: version 1, from the second number 2 on.
 pub fn fits() -> bool {
     let version = unsafe { simcore_version() };
-    version >> 16 == 1 && version & 0xffff >= 1
-}
-
-/// Bytes behind their length.
-fn pack(bytes: &[u8], packed: &mut Vec<u8>) -> Result<(), Error> {
-    let length = u32::try_from(bytes.len()).map_err(|_| Error::Files)?;
-    packed.extend(length.to_le_bytes());
-    packed.extend(bytes);
-    Ok(())
-}
-
-/// Any command of the program, but a talk, over files in memory, which are handed in by their names. A byte 0 in a word begins another.
-pub fn run(words: &[&str], files: &[(&str, &[u8])]) -> Result<Ran, Error> {
-    let spelled: Vec<u8> = words.iter().flat_map(|word| word.bytes().chain([0])).collect();
-    let mut packed = Vec::new();
-    for (name, content) in files {
-        pack(name.as_bytes(), &mut packed)?;
-        pack(content, &mut packed)?;
-    }
-    let (mut text, mut out, mut text_n, mut out_n) = (vec![0; 4096], vec![0; 4096], 0, 0);
-    loop {
-        let status = unsafe {
-            simcore_run(
-                spelled.as_ptr(),
-                spelled.len(),
-                packed.as_ptr(),
-                packed.len(),
-                text.as_mut_ptr(),
-                text.len(),
-                &mut text_n,
-                out.as_mut_ptr(),
-                out.len(),
-                &mut out_n,
-            )
-        };
-        match status {
-            9 | FILES_REFUSED => return Err(refused(status, &Fault::default())),
-            NO_ROOM => {
-                text.resize(text.len().max(text_n as usize), 0);
-                out.resize(out.len().max(out_n as usize), 0);
-            }
-            status => {
-                text.truncate(text_n as usize);
-                out.truncate(out_n as usize);
-                return Ok(Ran { status, text: String::from_utf8_lossy(&text).into_owned(), out });
-            }
-        }
-    }
+    version >> 16 == 1 && version & 0xffff >= 2
 }
 
 /// A match: the bytes of its file, and its numbers.

@@ -1,0 +1,31 @@
+-- `closed` makes the handle at null, which owns nothing.
+use Rattle.std.proofs.Common.{[], ◌∷◌, refl, lit<}
+use base.Fml.{ftrue}
+use types.Kit.{‵, raw, ◌$◌, ◌∵◌, !, qed, done, drop, feq_i, suffices, group}
+use types.Run.{enter, lit, and_then, no_more, returns}
+use types.Part.{agg}
+use types.ByLocal.{alloc_all, pass_all, free_all, look_at, sets}
+use denote.RawPtr.{Ptr, null_ptr}
+use denote.Steps.{nothing}
+use denote.Triple.Entry.{on_entry}
+use denote.Triple.Walked.{walk_of, ends_at, says}
+use Rattle.std.proofs.raw_atomic.Walks.{proved}
+use Rattle.std.specs.declared.option.Option.TheVariants.{None}
+use Rattle.sim_c.specs.contracts.handle.Handle.closed as f
+use Rattle.sim_c.proofs.handle.Handle.closed.Statement.{statement}
+use Rattle.sim_c.proofs.handle.Handle.closed.Code as code
+use Rattle.sim_c.proofs.Address.{handle_in, word}
+
+pub closed_spec : {M : Type 1} → statement M
+closed_spec 𝓤 𝓛 𝓜 𝓡 wired =
+    let c = f.clauses 𝓛 𝓜.mem 𝓡.returns in let W = walk_of 𝓛 f.ended tt c in
+    proved 𝓛 f.ended tt c 𝓜 𝓡 tt
+    f.Key.name code.function (code.unfolded 𝓤 𝓛.H 𝓜 𝓡 wired)
+    (λ κs. tt) (λ κs. tt) (λ κs qs bounds a _ are.
+    let y : W.Ghost = ((κs, qs, bounds, a, tt), tt) in
+    qed 𝓛 (raw (on_entry 𝓛 f.signature κs qs a y.0.4) ∷ ‵ ftrue ∷ []) ∵
+    enter ! _ _ _ _ _ $ alloc_all ! (λ l. pass_all ! refl tt $
+    sets ! (agg ! (and_then ! (lit ! tt) (no_more !))) refl (tt, (record { fits = lit< tt }, tt)) $
+    returns ! (look_at ! 0 refl) $ free_all ! refl $ drop ! $ drop ! $ feq_i ! Ptr null_ptr null_ptr refl $ handle_in ! null_ptr None $
+    suffices ! _ (ends_at 𝓛 f.ended tt c y (word null_ptr) (record { at = null_ptr; held = None }) tt tt) $ says ! refl $
+    nothing ! $ nothing ! $ group ! 3 $ done !))

@@ -1,0 +1,74 @@
+-- `into_kept` compares the address with null: the box that is owned at any other address tells that this may be done.
+use Rattle.std.proofs.Common.{◌≡◌, List, [], ◌∷◌, ◌++◌, refl, sym, ap, ◌∙◌, subst, lit<}
+use mir.Val.{Val, vcons, vnil}
+use base.Logic.{SProp, ent, id⊢}
+use base.Fml.{ftrue}
+use prog.Wp.{WpFn}
+use contract.Running.{tables}
+use types.Kit.{‵, raw, ◌⊛◌, at_ret, ◌$◌, ◌∵◌, !, qed, move, keep, drop, split, join, fsplit, suffices, group, done, use0, use1}
+use types.Run.{stop, fld, lit, of_opd, bin, no_more, and_then, first, branches, exec, returns, enter}
+use types.ByLocal.{alloc_all, pass_all, free_all, look_at, get, get_in, sets, sets_last, env}
+use types.Part.{agg, sub, whole}
+use types.Match.{live}
+use denote.Exit.{yes}
+use denote.RattleType.{RattleType, owns}
+use denote.RawPtr.{Ptr, block_ptr, null_ptr, tests_null}
+use denote.Param.{layout}
+use denote.Signature.{types_at, type_at, plain}
+use denote.Steps.{nothing}
+use denote.Triple.Walked.{Stays, stay_dropped, walk_of, says, ends_at, Goes-dropped}
+use Rattle.std.specs.contracts.impls.GlobalAllocator.TheImpl.{ghosts}
+use Rattle.std.specs.declared.option.Option.TheVariants.{None, Some}
+use Rattle.std.proofs.alloc.Calls.{handle_tells}
+use Rattle.std.proofs.alloc.Shapes.{after}
+use Rattle.std.proofs.cell.Inside.{Good}
+use Rattle.std.proofs.option.Made.{Some-of, none_of}
+use Rattle.std_alloc.proofs.ResultValues.{and_tt}
+use Rattle.std.proofs.raw_atomic.Walks.{proved_at}
+use Rattle.sim_c.proofs.Address.{K, Z, LZ, R, handle_out, either, word}
+use Rattle.sim_c.proofs.Parts.{pair, frees, pair_fits, parts_in}
+use Rattle.sim_c.specs.contracts.handle.Handle.{the_row as H}
+use Rattle.sim_c.specs.contracts.handle.Handle.into_kept as f
+use Rattle.sim_c.proofs.handle.Handle.into_kept.Statement.{statement}
+use Rattle.sim_c.proofs.handle.Handle.into_kept.Code as code
+
+abbrev stayed : Stays f.ended.signature.params f.ended.kept
+stayed = (stay_dropped (plain (λ _. H)) yes, (stay_dropped (plain (λ _. Z)) yes, tt))
+
+pub into_kept_spec : {M : Type 1} → statement M
+into_kept_spec 𝓤 𝓛 𝓜 𝓡 wired =
+    let 𝓣 = tables 𝓤 𝓛.H 𝓜 𝓡 𝓡.env in let c = f.clauses 𝓛 𝓜.mem 𝓡.returns in let fn = code.function in
+    proved_at 𝓛 f.ended stayed c 𝓜 𝓡 (Goes-dropped 𝓛 0 (plain (λ _. H)) yes (λ κs x w. refl), (Goes-dropped 𝓛 0 (plain (λ _. Z)) yes (λ κs x w. refl), tt))
+    f.Key.name fn (code.unfolded 𝓤 𝓛.H 𝓜 𝓡 wired) (λ z are.
+    let d = z.0.3.0 in let a = z.0.3.1.0 in let post : Val → SProp 𝓤 = (walk_of 𝓛 f.ended stayed c).post z in
+    let runs : List Val → SProp 𝓤 = λ vs. WpFn 𝓤 𝓛.H 𝓣.C 𝓣.Λ fn vs post in let Out : RattleType = type_at f.ended.signature.result z.0.0 in
+    qed 𝓛 ((‵ ftrue ⊛ ‵ (owns (types_at f.ended.signature.params z.0.0) z.0.3 z.0.4)) ∷ raw ((c z.0.0 z.0.3).requires z.1) ∷ []) ∵
+    split ! $ drop ! $ fsplit ! $ handle_out ! d z.0.4.0 (λ at_d. move ! (1 ∷ []) $ fsplit ! $ handle_tells (frees R Z LZ ghosts) ! a z.0.4.1.0 (λ h at_a good.
+    let lies : (p : Ptr) → d.at ≡ p → ent 𝓤 (runs (word p ∷ h ∷ [])) (runs (z.0.4.0 ++ (z.0.4.1.0 ++ []))) =
+    λ p e. subst (λ (us : List Val). ent 𝓤 (runs (word p ∷ h ∷ [])) (runs us))
+    (sym (λ i. (at_d ∙ ap (λ (q : Ptr). word q ∷ []) e) i ++ (at_a i ++ []))) (id⊢ 𝓤 _) in
+    -- [what is owned at the address; what frees it]
+    keep ! (2 ∷ 0 ∷ []) $ either ! d.at d.held
+    (λ e none. suffices ! _ (lies null_ptr e) $
+    enter ! _ _ _ _ _ $ alloc_all ! (λ l. pass_all ! refl ((tt, (record { fits = lit< tt }, tt)), (good, tt)) $ let locals = env fn.locals l in
+    sets ! (of_opd ! (get_in ! (fld ! refl (stop !)) (sub ! 0 refl (whole !)))) refl (tt, record { fits = lit< tt }) $
+    sets ! (bin ! (get ! refl) (lit ! tt) tt) refl (tt, tt) $ first ! $ branches ! (get ! refl)
+    (λ _. sets_last ! (agg ! (and_then ! (lit ! tt) (no_more !))) refl (tt, (record { fits = lit< tt }, tt)) $
+    exec ! 𝓣.C 𝓣.Λ locals (after 3 fn.body) (at_ret locals post) $ sets ! (of_opd ! (get ! refl)) refl (tt, (record { fits = lit< tt }, tt)) $
+    returns ! (look_at ! 0 refl) $ free_all ! refl $ drop ! $ use0 𝓛 (‵ (Out.own_val None (live 0 vnil ∷ []))) (none_of 𝓛 K) $
+    suffices ! _ (ends_at 𝓛 f.ended stayed c z (live 0 vnil) None (tt, (tt, tt)) (tt, (tt, tt))) $ says ! none $
+    nothing ! $ nothing ! $ join ! $ nothing ! $ join ! $ nothing ! $ group ! 3 $ done !)
+    (λ wrong. absurd wrong)))
+    (λ b o _ x e some may. suffices ! _ (lies (block_ptr b o) e) $
+    let p = block_ptr b o in let k : K.Denot = record { at = p; alloc = a; value = x } in let made : Val = pair p h in let v : Val = live 1 (vcons made vnil) in
+    let fits = pair_fits R Z LZ ghosts b o h good in let out : Good (layout Out) v = (and_tt _ fits.0, (record { fits = lit< tt }, (fits.1, tt))) in
+    enter ! _ _ _ _ _ $ alloc_all ! (λ l. pass_all ! refl ((tt, (tt, tt)), (good, tt)) $ let locals = env fn.locals l in
+    sets ! (of_opd ! (get_in ! (fld ! refl (stop !)) (sub ! 0 refl (whole !)))) refl (tt, tt) $
+    sets ! (bin ! (get ! refl) (lit ! tt) (tests_null p may)) refl (tt, tt) $ first ! $ branches ! (get ! refl)
+    (λ wrong. absurd wrong)
+    (λ _. sets ! (of_opd ! (get ! refl)) refl (tt, tt) $ sets ! (agg ! (and_then ! (get ! refl) (and_then ! (get ! refl) (no_more !)))) refl fits $
+    sets_last ! (agg ! (and_then ! (lit ! tt) (and_then ! (get ! refl) (no_more !)))) refl out $
+    exec ! 𝓣.C 𝓣.Λ locals (after 3 fn.body) (at_ret locals post) $ sets ! (of_opd ! (get ! refl)) refl out $
+    returns ! (look_at ! 0 refl) $ free_all ! refl $ parts_in R Z LZ ghosts ! p h a x $ use1 𝓛 (‵ (Out.own_val (Some k) (v ∷ []))) (Some-of 𝓛 K k made) $
+    suffices ! _ (ends_at 𝓛 f.ended stayed c z v (Some k) (tt, (tt, tt)) (tt, (tt, tt))) $ says ! some $
+    nothing ! $ nothing ! $ join ! $ nothing ! $ join ! $ nothing ! $ group ! 3 $ done !))))))

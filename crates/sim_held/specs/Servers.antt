@@ -1,0 +1,77 @@
+-- What a server that is held is to its callers, and what a call makes of it.
+use Rattle.std.specs.{List.flat_map, Prelude.◌≡◌, Prelude.ℕ, Prelude.◌<◌, Prelude.◌≤◌, Prelude.Bool, Prelude.true, Prelude.false, Prelude.◌&&◌, Prelude.List, Prelude.[]}
+use Rattle.std.specs.Prelude.{◌++◌, if◌then◌else◌, nat_lt, nat_le, ◌==◌, All, Some, None, Ok, Err, Option, Result}
+use Rattle.sim_base.specs.declared.{memory.OutOfMemory.OutOfMemory, setup.Setup.Setup}
+use Rattle.sim_pipes.specs.Posts.{told_to}
+use Rattle.sim_held.specs.declared.stage.Went.{TheVariants.Idle, Went}
+use Rattle.sim_plain.specs.{Messages.Arrival, Messages.Cut, Posts.posts, Server.heard, declared.message.DownOf.DownOf, declared.message.PostOf.PostOf}
+use Rattle.sim_server.specs.{Small.IsSmallServer, Standing.server_of, Standing.StandsFor, Standing.View}
+use Rattle.sim_wire.specs.{Fits.IsSmallDown, Frames.down_frame}
+
+-- the server, and what it has said to clients that have not taken it yet: one list for each arrival, the oldest first
+pub record ServerView : Type 0 where
+  pub server : View
+  pub said : List (List (PostOf (List ℕ)))
+
+-- all that waits has frames
+abbrev pub AreSmall : List (List (PostOf (List ℕ))) → Type 0
+AreSmall said = All (All (λ post. IsSmallDown post.down)) said
+
+-- there are so many clients; and all that waits, and all that is kept, has frames
+pub record IsReady (clients : ℕ) (server : View) (said : List (List (PostOf (List ℕ)))) : Type 0 where
+  pub clients : clients ≡ server.rules.clients
+  pub server : IsSmallServer (server_of server)
+  pub said : AreSmall said
+
+-- what waits for a client, in order
+abbrev pub waiting : List (List (PostOf (List ℕ))) → ℕ → List (DownOf (List ℕ))
+waiting said c = flat_map (told_to c) said
+
+-- the frames of what waits for a client, one behind another
+abbrev pub frames_for : List (List (PostOf (List ℕ))) → ℕ → List ℕ
+frames_for said c = flat_map down_frame (waiting said c)
+
+-- a client of the match
+abbrev pub is_client : View → ℕ → Bool
+is_client v c = nat_lt 0 c && nat_le c v.rules.clients
+
+-- an arrival makes of the server what it makes by the definition, and what is said of it to each client waits behind the rest
+pub record Hears (a : Arrival (List ℕ)) (old new : ServerView) : Type 0 where
+  pub rules : new.server.rules ≡ old.server.rules
+  pub server : server_of new.server ≡ heard old.server.rules (server_of old.server) a
+  pub said : (d : ℕ) → 0 < d → d ≤ old.server.rules.clients
+      → waiting new.said d ≡ waiting old.said d ++ posts old.server.rules (server_of old.server) a d
+
+-- a client is cut off: what waits for it is dropped, and the server sees it gone
+pub record CutsOff (c : ℕ) (old new : ServerView) : Type 0 where
+  pub rules : new.server.rules ≡ old.server.rules
+  pub server : server_of new.server ≡ heard old.server.rules (server_of old.server) (Cut c)
+  pub said : (d : ℕ) → 0 < d → d ≤ old.server.rules.clients
+      → waiting new.said d ≡ (if d == c then [] else waiting old.said d) ++ posts old.server.rules (server_of old.server) (Cut c) d
+
+-- nothing has changed
+pub record Stays (old new : ServerView) : Type 0 where
+  pub rules : new.server.rules ≡ old.server.rules
+  pub server : server_of new.server ≡ server_of old.server
+  pub said : new.said ≡ old.said
+
+-- a call of a client of the match answers so, and this becomes of the server; one of nobody is idle; where memory was refused nothing has changed
+abbrev pub Answers : Bool → Went → (ServerView → ServerView → Type 0) → ServerView → Result Went OutOfMemory → ServerView → Type 0
+Answers true went Changes old (Ok answer) new = (answer ≡ went) × Changes old new
+Answers false went Changes old (Ok answer) new = (answer ≡ Idle) × Stays old new
+Answers there went Changes old (Err e) new = Stays old new
+
+-- what waits for one client is taken, and what waits for others is as it was
+pub record Leaves (c : ℕ) (old new : ServerView) : Type 0 where
+  pub server : new.server ≡ old.server
+  pub said : (d : ℕ) → waiting new.said d ≡ (if d == c then [] else waiting old.said d)
+
+-- a new server has heard nothing yet, and nothing waits; or there are more than 8 clients, or more begin than there are
+abbrev pub IsServer : ℕ → ℕ → ℕ → ℕ → Option ServerView → Type 0
+IsServer clients active delay turns None = (clients ≤ 8) → (active ≤ clients) → ⊥
+IsServer clients active delay turns (Some s) =
+    (s.server.rules ≡ record { clients = clients; delay = delay; turns = turns }) × StandsFor s.server active [] × (s.said ≡ [])
+
+-- the same with the numbers of a match
+abbrev pub IsServerOf : Setup → ℕ → Option ServerView → Type 0
+IsServerOf setup active server = IsServer setup.players active setup.delay setup.turns server

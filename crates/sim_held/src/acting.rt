@@ -1,0 +1,118 @@
+//! The steps of a client that is held: over its stage, its outbox and its match. What they leave after want of memory is cut off by
+//! their caller.
+
+ghost use Rattle.{sim_base.specs.Limits.HasFewIds, sim_base.specs.Limits.IsSetup, sim_base.specs.declared.setup.Setup.Setup as AnySetup};
+ghost use Rattle.sim_client.specs.ClientWords.{Answers};
+ghost use Rattle.std.specs.Prelude.{◌≡◌, [], ◌≤◌, false, true, All, IfOk, IfErr, IsOk, OnErr, OnOk, Ok, None, Option};
+ghost use Rattle.sim_client.specs.Lives.{Act, joins, Life, may_play as may_play_by, Off, On, orders};
+ghost use Rattle.sim_held.specs.Clients.{Goes, IsStage, life_at};
+ghost use Rattle.sim_held.specs.{Acting.may_run, Acting.said_by, Runs.runs, Turns.RanOn};
+ghost use Rattle.sim_wire.specs.Fits.{IsSmallUp};
+
+use crate::boards::play_seat;
+use crate::outbox::Outbox;
+use crate::stage::{Stage, Went};
+use sim_base::{Command, OutOfMemory, Setup};
+use sim_client::Did;
+use sim_wire::Up;
+use std::alloc::Global;
+
+/// What a client says goes behind all that waits.
+pub fn say(outbox: &mut Outbox, did: Did) -> Result<Went, OutOfMemory>
+    requires { All IsSmallUp (said_by did) }
+    ensures { (act : Option Act) (old new : Life) → Answers act old (Ok did) new → Goes act old outbox.old result new outbox.new }
+{
+    match did {
+        Did::Idle => Ok(Went::Idle),
+        Did::Done { up } => {
+            outbox.push_all(up.as_slice())?;
+            Ok(Went::Done)
+        }
+    }
+}
+
+/// Wishes to join.
+pub fn join(stage: &mut Stage, outbox: &mut Outbox) -> Result<Went, OutOfMemory>
+    ensures goes { Goes (joins (life_at stage.old)) (life_at stage.old) outbox.old result (life_at stage.new) outbox.new }
+    ensures sound { (setup : AnySetup) → OnOk result (IsStage setup stage.old → IsStage setup stage.new) }
+{
+    let Stage::Off = stage else {
+        return Ok(Went::Idle);
+    };
+    outbox.push(&Up::Join)?;
+    *stage = Stage::Joining;
+    Ok(Went::Done)
+}
+
+/// Gives a command, where it may.
+pub fn give(
+    alloc: Global,
+    setup: &Setup,
+    stage: &mut Stage,
+    outbox: &mut Outbox,
+    command: &Command,
+) -> Result<Went, OutOfMemory>
+    requires limits { IsSetup setup.now }
+    requires few { HasFewIds command.now }
+    requires sound { IsStage setup.now stage.old }
+    ensures goes { Goes (orders setup.now command.now (life_at stage.old)) (life_at stage.old) outbox.old result (life_at stage.new) outbox.new }
+    ensures sound { OnOk result (IsStage setup.now stage.new) }
+{
+    let Stage::On { seat, .. } = stage else {
+        return Ok(Went::Idle);
+    };
+    let did = sim_client::order(alloc, setup, seat, command)?;
+    say(outbox, did)
+}
+
+// Whether a client is on, and its next turn is one of the match and known to be released.
+fn may_play(setup: &Setup, stage: &Stage) -> bool
+    ensures { result ≡ may_run setup.now (life_at stage.now) }
+{
+    match stage {
+        Stage::Off => false,
+        Stage::Joining => false,
+        Stage::On { state, seat } => state.turn < setup.turns && state.turn < seat.released,
+    }
+}
+
+/// Plays the turns that are released, at most so many, on one board, and answers how many these were. Where there is none, none is made.
+pub fn play(
+    alloc: Global,
+    setup: &Setup,
+    stage: &mut Stage,
+    outbox: &mut Outbox,
+    most: u32,
+) -> Result<u32, OutOfMemory>
+    requires limits { IsSetup setup.now }
+    requires sound { IsStage setup.now stage.old }
+    ensures ran { IfOk result (λ turns. RanOn (runs setup.now most (life_at stage.old)) outbox.old turns (life_at stage.new) outbox.new) }
+    ensures sound { OnOk result (IsStage setup.now stage.new) }
+    ensures light { may_run setup.now (life_at stage.old) ≡ false → IsOk result }
+{
+    if most == 0 || !may_play(setup, stage) {
+        return Ok(0);
+    }
+    let Stage::On { state, seat } = stage else {
+        return Ok(0);
+    };
+    play_seat(alloc, setup, state, seat, outbox, most)
+}
+
+/// Cuts a client off whose call was refused memory, and passes on what the call came to.
+pub fn settle<T: Drop>(
+    stage: &mut Stage,
+    outbox: &mut Outbox,
+    came: Result<T, OutOfMemory>,
+) -> Result<T, OutOfMemory>
+    ensures same { result ≡ came }
+    ensures ok { OnOk came ((stage.new ≡ stage.old) × (outbox.new ≡ outbox.old)) }
+    ensures err { OnErr came ((life_at stage.new ≡ Off) × (outbox.new ≡ [])) }
+    ensures sound { (setup : AnySetup) → OnOk came (IsStage setup stage.old) → IsStage setup stage.new }
+{
+    if came.is_err() {
+        *stage = Stage::Off;
+        outbox.clear();
+    }
+    came
+}

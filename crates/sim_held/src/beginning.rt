@@ -1,0 +1,37 @@
+//! The stage at which a client begins.
+
+ghost use Rattle.{sim_base.specs.Limits.IsSetup, std.specs.Prelude.◌≡◌, std.specs.Prelude.min, std.specs.Prelude.IfOk, std.specs.Prelude.if◌then◌else◌};
+ghost use Rattle.{sim_client.specs.Lives.Off, sim_client.specs.Lives.starts, sim_held.specs.Clients.IsStage, sim_held.specs.Clients.life_at};
+
+use crate::boards::first_state;
+use crate::stage::Stage;
+use sim_base::{OutOfMemory, Setup};
+use sim_client::begin;
+use std::alloc::Global;
+
+// How many turns are released at the start.
+fn first_done(setup: &Setup) -> u32
+    ensures { result ≡ min setup.now.turns setup.now.delay }
+{
+    let delay = u32::from(setup.delay);
+    if delay < setup.turns {
+        delay
+    } else {
+        setup.turns
+    }
+}
+
+/// On at the first state of the match, or off.
+pub fn first_stage(alloc: Global, setup: &Setup, begins: bool) -> Result<Stage, OutOfMemory>
+    requires { IsSetup setup.now }
+    ensures life { IfOk result (λ stage. life_at stage ≡ (if begins then starts setup.now else Off)) }
+    ensures sound { IfOk result (IsStage setup.now) }
+{
+    if !begins {
+        return Ok(Stage::Off);
+    }
+    let state = first_state(alloc, setup)?;
+    let ahead = first_done(setup);
+    let seat = begin(alloc, ahead, ahead);
+    Ok(Stage::On { state, seat })
+}

@@ -1,0 +1,265 @@
+//! A client that is held.
+
+ghost use Rattle.{sim_base.specs.declared.state.State.State as AnyState, sim_board.specs.BoardWords.state_in};
+ghost use Rattle.std.specs.Prelude.{◌≡◌, [], map, false, IfOk, IfErr, Ok, None, Some, Option, option_copied, option_map, string_bytes};
+ghost use Rattle.sim_client.specs.ClientWords.{is_joining, LoadsFrom, state_of, turn_of};
+ghost use Rattle.sim_client.specs.Lives.{hears, joins, Off, orders, plays, Told};
+ghost use Rattle.sim_embed.specs.{Answers.IsStamp, Answers.IsStored, Bytes.OfMatch, Causes.IsNoMatch, Facts.entity_of};
+ghost use Rattle.sim_held.specs.{Acting.may_run, Runs.Ran, Runs.runs};
+ghost use Rattle.sim_held.specs.Clients.{command_in, done_of, IsNew, IsSame, life, LooksAt, released_of, Stays, Steps, Takes};
+ghost use Rattle.sim_report.specs.Show.{show_text};
+ghost use Rattle.sim_wire.specs.Fits.{IsDownFrame};
+
+use crate::acting::{join, play, settle};
+use crate::beginning::first_stage;
+use crate::outbox::Outbox;
+use crate::reading::{hear_frame, order};
+use crate::stage::{Stage, Went};
+use sim_base::{OutOfMemory, Setup, State};
+use sim_embed::{Entity, Refused, Stamp, Stored, entities_of, match_of, text_of};
+use std::alloc::Global;
+use std::marker::Model;
+
+/// A client of a match for one of its players: off, waiting for a state, or on, with the bytes that wait to be sent to the server.
+///
+/// After want of memory in a step it is off with nothing to be sent, as after `cut`; it may join again.
+#[derive(Drop)]
+pub struct HeldClient {
+    alloc: Global,
+    setup: Setup,
+    number: u8,
+    stage: Stage,
+    outbox: Outbox,
+}
+
+impl Model for HeldClient {
+    ghost use Rattle.sim_held.specs.Clients.{ClientView, IsSound};
+
+    ghost Value = { ClientView };
+
+    ghost view = { λ c. record { setup = c.setup; number = c.number; stage = c.stage; outbox = c.outbox } };
+
+    ghost invariant = { λ c. IsSound c.setup c.number c.stage };
+}
+
+impl HeldClient {
+    /// The client of the match that bytes are, for the player of this number, or None where there is no such player. One that begins in
+    /// the match is on at its first state, with nothing said; any other is off.
+    pub fn new(
+        alloc: Global,
+        game: &[u8],
+        number: u32,
+        begins: bool,
+    ) -> Result<Option<HeldClient>, Refused>
+        ensures is { IfOk result (λ client. OfMatch game.now (λ setup. IsNew setup number begins client)) }
+        ensures refused { IfErr result (IsNoMatch game.now) }
+    {
+        let setup = match_of(alloc, game)?;
+        if number < 1 || u32::from(setup.players) < number {
+            return Ok(None);
+        }
+        let stage = first_stage(alloc, &setup, begins)?;
+        Ok(Some(HeldClient {
+            alloc,
+            setup,
+            number: number as u8,
+            stage,
+            outbox: Outbox::new(alloc),
+        }))
+    }
+
+    /// Wishes to join.
+    pub fn join(&mut self) -> Result<Went, OutOfMemory>
+        ensures steps { Steps (joins (life self.old)) (life self.old) self.old.outbox result (life self.new) self.new.outbox }
+        ensures same { IsSame self.old self.new }
+    {
+        let result = join(&mut self.stage, &mut self.outbox);
+        settle(&mut self.stage, &mut self.outbox, result)
+    }
+
+    /// Gives the command that bytes spell, a list in JSON of the kind and what follows it, as in a match file behind the player. It is of
+    /// the turn behind those that the client is done with.
+    pub fn order(&mut self, command: &[u8]) -> Result<Went, OutOfMemory>
+        ensures takes { Takes (option_map (λ given. orders self.old.setup given (life self.old)) (command_in command.now)) (life self.old) self.old.outbox result
+            (life self.new) self.new.outbox }
+        ensures same { IsSame self.old self.new }
+    {
+        let result = order(
+            self.alloc,
+            &self.setup,
+            &mut self.stage,
+            &mut self.outbox,
+            command,
+        );
+        settle(&mut self.stage, &mut self.outbox, result)
+    }
+
+    /// Hears a frame of the server. Bytes that are none are refused, and nothing changes.
+    pub fn hear(&mut self, frame: &[u8]) -> Result<Went, OutOfMemory>
+        ensures frame { (down : Told) → IsDownFrame frame.now down → (loaded : Option AnyState) → LoadsFrom self.old.setup down loaded
+            → Steps (hears self.old.setup loaded down (life self.old)) (life self.old) self.old.outbox result (life self.new) self.new.outbox }
+        ensures other { ((down : Told) → IsDownFrame frame.now down → ⊥) → (result ≡ Ok Went.Refused)
+            × Stays (life self.old) self.old.outbox (life self.new) self.new.outbox }
+        ensures same { IsSame self.old self.new }
+    {
+        let result = hear_frame(
+            self.alloc,
+            &self.setup,
+            &mut self.stage,
+            &mut self.outbox,
+            frame,
+        );
+        settle(&mut self.stage, &mut self.outbox, result)
+    }
+
+    /// Is cut off: it is off, and nothing waits to be sent.
+    pub fn cut(&mut self)
+        ensures off { life self.new ≡ Off }
+        ensures empty { self.new.outbox ≡ [] }
+        ensures same { IsSame self.old self.new }
+    {
+        self.stage = Stage::Off;
+        self.outbox.clear();
+    }
+
+    /// Plays the turns that are released, at most so many, and answers how many these were. The systems are made once for all of them.
+    pub fn play(&mut self, most: u32) -> Result<u32, OutOfMemory>
+        ensures ran { Ran (runs self.old.setup most (life self.old)) self.old.outbox result (life self.new) self.new.outbox }
+        ensures none { may_run self.old.setup (life self.old) ≡ false → result ≡ Ok 0 }
+        ensures same { IsSame self.old self.new }
+    {
+        let result = play(
+            self.alloc,
+            &self.setup,
+            &mut self.stage,
+            &mut self.outbox,
+            most,
+        );
+        settle(&mut self.stage, &mut self.outbox, result)
+    }
+
+    /// The frames that wait to be sent, one behind another.
+    pub fn said(&self) -> &[u8]
+        ensures { result.now ≡ self.now.outbox }
+    {
+        self.outbox.bytes()
+    }
+
+    /// Takes the frames that wait to be sent.
+    pub fn take(&mut self) -> Vec<u8>
+        ensures bytes { result.items ≡ self.old.outbox }
+        ensures empty { self.new.outbox ≡ [] }
+        ensures stays { life self.new ≡ life self.old }
+        ensures same { IsSame self.old self.new }
+    {
+        self.outbox.take()
+    }
+
+    /// The match.
+    pub fn setup(&self) -> &Setup
+        ensures { result.now ≡ self.now.setup }
+    {
+        &self.setup
+    }
+
+    /// The number of the player for whom it acts, from 1.
+    pub fn number(&self) -> u8
+        ensures { result ≡ self.now.number }
+    {
+        self.number
+    }
+
+    /// Whether it waits for a state.
+    pub fn joining(&self) -> bool
+        ensures { result ≡ is_joining (life self.now) }
+    {
+        matches!(self.stage, Stage::Joining)
+    }
+
+    /// The state of one that is on.
+    pub fn state(&self) -> Option<&State>
+        ensures { option_copied result ≡ state_of (life self.now) }
+    {
+        match &self.stage {
+            Stage::Off => None,
+            Stage::Joining => None,
+            Stage::On { state, .. } => Some(state),
+        }
+    }
+
+    /// Its turn.
+    pub fn turn(&self) -> Option<u32>
+        ensures { result ≡ turn_of (life self.now) }
+    {
+        match self.state() {
+            Some(state) => Some(state.turn),
+            None => None,
+        }
+    }
+
+    /// The turn up to which it knows that turns are released.
+    pub fn released(&self) -> Option<u32>
+        ensures { result ≡ released_of (life self.now) }
+    {
+        match &self.stage {
+            Stage::Off => None,
+            Stage::Joining => None,
+            Stage::On { seat, .. } => Some(seat.released),
+        }
+    }
+
+    /// The turn up to which it is done with its commands.
+    pub fn done(&self) -> Option<u32>
+        ensures { result ≡ done_of (life self.now) }
+    {
+        match &self.stage {
+            Stage::Off => None,
+            Stage::Joining => None,
+            Stage::On { seat, .. } => Some(seat.done),
+        }
+    }
+
+    /// The digest and the turn of its state.
+    pub fn stamp(&self) -> Option<Stamp>
+        ensures { LooksAt (state_of (life self.now)) (IsStamp self.now.setup) result }
+    {
+        match &self.stage {
+            Stage::Off => None,
+            Stage::Joining => None,
+            Stage::On { state, .. } => Some(Stamp::of(&self.setup, state)),
+        }
+    }
+
+    /// The bytes of its state, and their digest.
+    pub fn stored(&self) -> Result<Option<Stored>, OutOfMemory>
+        ensures { IfOk result (LooksAt (state_of (life self.now)) (IsStored self.now.setup)) }
+    {
+        match &self.stage {
+            Stage::Off => Ok(None),
+            Stage::Joining => Ok(None),
+            Stage::On { state, .. } => Ok(Some(Stored::of(self.alloc, &self.setup, state)?)),
+        }
+    }
+
+    /// The entities of its state, in their order.
+    pub fn entities(&self) -> Result<Option<Vec<Entity>>, OutOfMemory>
+        ensures { IfOk result (LooksAt (state_of (life self.now)) (λ state found. found.items ≡ map entity_of state.rows)) }
+    {
+        match &self.stage {
+            Stage::Off => Ok(None),
+            Stage::Joining => Ok(None),
+            Stage::On { state, .. } => Ok(Some(entities_of(self.alloc, state.rows.as_slice())?)),
+        }
+    }
+
+    /// Its state as text: a line of its clock, and one of each row.
+    pub fn show(&self) -> Result<Option<String>, OutOfMemory>
+        ensures { IfOk result (LooksAt (state_of (life self.now)) (λ state text. string_bytes text ≡ show_text self.now.setup state)) }
+    {
+        match &self.stage {
+            Stage::Off => Ok(None),
+            Stage::Joining => Ok(None),
+            Stage::On { state, .. } => Ok(Some(text_of(self.alloc, &self.setup, state)?)),
+        }
+    }
+}

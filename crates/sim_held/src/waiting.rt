@@ -1,0 +1,88 @@
+//! What waits for the clients of a server: the posts of each arrival, as they were made, until each client has taken its own. Frames are
+//! made as they are taken.
+
+ghost use Rattle.std.specs.{List.flat_map, Prelude.◌≡◌, Prelude.ℕ, Prelude.◌<◌, Prelude.not, Prelude.[], Prelude.◌∷◌, Prelude.◌++◌, Prelude.map};
+ghost use Rattle.std.specs.Prelude.{OnOk, IfOk, All, if◌then◌else◌, ◌==◌, filter, vec_len, vec_capacity};
+ghost use Rattle.{sim_held.specs.Servers.AreSmall, sim_held.specs.Servers.frames_for, sim_held.specs.Servers.waiting, sim_pipes.specs.Posts.told_to};
+ghost use Rattle.sim_wire.specs.{Fits.IsSmallDown, Frames.down_frame};
+
+use sim_base::{Items, OutOfMemory};
+use sim_server::{Post, Posts};
+use sim_wire::{Down, frame_down};
+use std::alloc::Global;
+
+fn push_frame(alloc: Global, out: &mut Vec<u8>, down: &Down) -> Result<(), OutOfMemory>
+    requires { IsSmallDown down.now }
+    ensures { OnOk result (out.new.items ≡ out.old.items ++ down_frame down.now) }
+{
+    let frame = frame_down(alloc, down)?;
+    out.extend_from_slice(&frame)?;
+    Ok(())
+}
+
+// Appends the frames of the posts to a client.
+fn push_posts(alloc: Global, out: &mut Vec<u8>, to: u8, posts: &[Post]) -> Result<(), OutOfMemory>
+    requires { All (λ post. IsSmallDown post.down) posts.now }
+    ensures { OnOk result (out.new.items ≡ out.old.items ++ flat_map down_frame (told_to to posts.now)) }
+{
+    for post in posts {
+        if post.to == to {
+            push_frame(alloc, out, &post.down)?;
+        }
+    }
+    Ok(())
+}
+
+/// The frames of all that waits for a client, one behind another.
+pub fn frames_to(alloc: Global, said: &[Posts], to: u8) -> Result<Vec<u8>, OutOfMemory>
+    requires { AreSmall said.now }
+    ensures { IfOk result (λ bytes. bytes.items ≡ frames_for said.now to) }
+{
+    let mut out = Vec::new(alloc);
+    for posts in said {
+        push_posts(alloc, &mut out, to, posts.as_slice())?;
+    }
+    Ok(out)
+}
+
+// The posts to all other clients.
+fn others_of(posts: Posts, to: u8) -> Posts
+    ensures { result ≡ filter (λ post. not (post.to == to)) posts }
+{
+    let mut items = posts.into_items();
+    items.retain(|post| post.to != to);
+    Items::from_items(items)
+}
+
+// Leaves the posts to all other clients in each list.
+fn keep_others(alloc: Global, said: &mut Vec<Posts>, to: u8)
+    ensures { said.new.items ≡ map (filter (λ post. not (post.to == to))) said.old.items }
+{
+    for i in 0..said.len() {
+        let posts = std::mem::replace(&mut said[i], Items::new(alloc));
+        said[i] = others_of(posts, to);
+    }
+}
+
+/// Drops all that waits for a client.
+pub fn leave(alloc: Global, said: &mut Vec<Posts>, to: u8)
+    ensures said { (d : ℕ) → waiting said.new.items d ≡ (if d == to then [] else waiting said.old.items d) }
+    ensures small { AreSmall said.old.items → AreSmall said.new.items }
+{
+    keep_others(alloc, said, to);
+    said.retain(|posts| !posts.as_slice().is_empty());
+}
+
+/// Puts the posts of an arrival behind all that waits. There has to be room for them.
+pub fn keep(said: &mut Vec<Posts>, posts: Posts)
+    requires { vec_len said.old < vec_capacity said.old }
+    ensures said { (d : ℕ) → waiting said.new.items d ≡ waiting said.old.items d ++ told_to d posts }
+    ensures small { AreSmall said.old.items → All (λ post. IsSmallDown post.down) posts → AreSmall said.new.items }
+{
+    if posts.as_slice().is_empty() {
+        return;
+    }
+    let Ok(()) = said.push(posts) else {
+        unreachable!();
+    };
+}
