@@ -2,7 +2,8 @@
 use Rattle.{sim_codec.specs.Loading.StandsFor, sim_system.specs.Meanings.Systems, sim_system.specs.declared.system.System.Ghosts}
 use Rattle.std.specs.Prelude.{◌≡◌, ℕ, Bool, true, false, List, Some, None, Ok, Err, Option, Result}
 use Rattle.sim_base.specs.{Spelling.digest, Spelling.mark, declared.memory.OutOfMemory.OutOfMemory, declared.setup.Setup.Setup, declared.state.State.State}
-use Rattle.sim_client.specs.{Lives.Act, Lives.Joining, Lives.Life, Lives.Off, Lives.On, Lives.Told, declared.client.Client.Client, declared.did.Did.Did, declared.did.Played.Played}
+use Rattle.sim_client.specs.{Lives.Act, Lives.Joining, Lives.Life, Lives.Off, Lives.On, Lives.Told, declared.client.Client.Client}
+use Rattle.sim_client.specs.declared.did.{Did.Did, Played.Played}
 use Rattle.sim_client.specs.StageWords.{IsSoundAt, life_at, systems_on}
 use Rattle.sim_client.specs.declared.did.Did.TheVariants as did
 use Rattle.sim_plain.specs.declared.message.DownOf.TheVariants as down

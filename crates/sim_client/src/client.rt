@@ -5,7 +5,8 @@
 
 ghost use Rattle.{sim_base.specs.Limits.HasFewIds, sim_base.specs.Limits.IsFrom, sim_base.specs.Limits.IsSetup, sim_board.specs.BoardWords.AreKept};
 ghost use Rattle.std.specs.Prelude.{◌≡◌, min, IfOk, OnOk, IsOk, None, option_copied};
-ghost use Rattle.sim_client.specs.ClientWords.{Answers, did_in, digest_of, HasDigest, is_joining, IsSound, life, mark_of, number_in, setup_in, state_of, systems, Tells, turn_of};
+ghost use Rattle.sim_client.specs.ClientWords.{Answers, did_in, digest_of, HasDigest, is_joining, IsSound, life, mark_of};
+ghost use Rattle.sim_client.specs.ClientWords.{number_in, setup_in, state_of, systems, Tells, turn_of};
 ghost use Rattle.sim_client.specs.Lives.{bends, joins, Off, orders as orders_by, plays, starts};
 ghost use Rattle.sim_client.specs.StageWords.{AreCleared, AreOf};
 ghost use Rattle.sim_system.specs.{Meanings.all_cleared, Meanings.AreBuiltOnceAtMost, Meanings.HaveKinds, RigWords.systems_of};

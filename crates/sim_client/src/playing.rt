@@ -4,7 +4,8 @@ ghost use Rattle.{sim_client.specs.StageWords.IsPlaying, sim_client.specs.StageW
 ghost use Rattle.std.specs.Prelude.{◌≡◌, ◌+◌, ◌^◌, ◌<◌, min, false, ◌&&◌, [], ◌∷◌, IfOk, OnOk, IsOk, nat_lt, None, Ok, Option};
 ghost use Rattle.sim_base.specs.{Limits.IsSetup, Spelling.mark as mark_in, Spelling.spelling, Validity.IsValid, declared.state.State.State as AnyState};
 ghost use Rattle.sim_board.specs.BoardWords.{AreKept, state_in, systems};
-ghost use Rattle.sim_client.specs.{ClientWords.Answers, ClientWords.did_in, ClientWords.HasDigest, ClientWords.NeedsNoMemory, KnownWords.AreByPlayers, KnownWords.known_in};
+ghost use Rattle.sim_client.specs.ClientWords.{Answers, did_in, HasDigest, NeedsNoMemory};
+ghost use Rattle.sim_client.specs.KnownWords.{AreByPlayers, known_in};
 ghost use Rattle.sim_client.specs.Lives.{hears, learns, may_play as may_play_by, On, orders as orders_by, played, plays, releases, told};
 ghost use Rattle.sim_plain.specs.declared.message.UpOf.TheVariants as up;
 

@@ -23,6 +23,6 @@ returns-clause-made g c =
     let new_life = life_at new.stage new.board in
     play_makes client.setup.now c.args.number (life_at client.stage client.board) new_life c.args.exchange.now c.send.new.self c.in_ok-made.made.did
     c.in_ok-events.events
-    c.in_ok-made.ensures.answers (λ s acted conveys is. c.in_ok-send.ensures.stands client.setup.now s acted conveys (c.as_slice.ensures ∙ c.ups_of-ups.ensures ∙
-    is))
+    c.in_ok-made.ensures.answers
+    (λ s acted conveys is. c.in_ok-send.ensures.stands client.setup.now s acted conveys (c.as_slice.ensures ∙ c.ups_of-ups.ensures ∙ is))
     (c.in_ok-events.ensures.events ∙ (λ i. played_events (c.in_ok-made.ensures.setup i) c.args.number new_life (has_happened c.in_ok-made.made.did)))
