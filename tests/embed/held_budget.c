@@ -1,5 +1,6 @@
 /* Each allocation of each call of level two fails in its turn, alone or with all behind it: the call answers that there is no memory, what
- * stands is what the header says, and nothing is held when all is closed. It is C99 and C++ alike. */
+ * stands is what the header says, and nothing is held when all is closed. With a number, each such allocation alone. It is C99 and C++
+ * alike. */
 #include "held.h"
 #include "heap.h"
 
@@ -14,6 +15,7 @@ static const char ORDER_TEXT[] = "[\"walk\",[2],\"6.5\",\"2.5\"]", TURN_TEXT[] =
 enum { ORDER_UP, ORDER_DOWN, JOIN_UP, ASK_DOWN, STATE_UP, STATE_DOWN, FRAMES };
 static uint8_t frames[FRAMES][4096], state[4096], room[4096];
 static size_t frame_lengths[FRAMES], state_n;
+static long stride = 1;
 
 /* A call, what is handed in, and the steps before it: a letter each. */
 struct trial {
@@ -99,7 +101,7 @@ static long refuse_each(const struct trial *it, bool stays_empty) {
     struct seen stood, stands;
     long granted;
     memset(&before, 5, sizeof before);
-    for (granted = 0;; granted++) {
+    for (granted = 0;; granted += stride) {
         struct simcore_handle handle = prepare(it->before);
         bool refused;
         stood = held_seen(&handle);
@@ -118,7 +120,8 @@ static long refuse_each(const struct trial *it, bool stays_empty) {
     }
 }
 
-int main(void) {
+int main(int argc, char **argv) {
+    if (argc > 1) stride = strtol(argv[1], NULL, 10);
     gather();
     if (heap_held != 0) stop("a block is still held");
     const struct trial tried[] = {
