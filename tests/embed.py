@@ -26,10 +26,12 @@ import time
 TOP = pathlib.Path(__file__).resolve().parent.parent
 sys.path.insert(0, str(TOP / "examples/embed"))
 import simcore  # noqa: E402
+from handles import Client, Game, Server  # noqa: E402
 
 STRICT = ["-O1", "-Wall", "-Wextra", "-Werror", "-pedantic", "-pthread"]
 COMPILERS = {"gcc": "c99", "clang": "c99", "g++": "c++11", "clang++": "c++11"}
-HOSTS = ["tests/embed/calls.c", "tests/embed/budget.c", "examples/embed/skirmish.c"]
+HOSTS = ["tests/embed/calls.c", "tests/embed/budget.c", "tests/embed/held.c", "tests/embed/held_budget.c", "examples/embed/skirmish.c"]
+FUZZERS = ["tests/embed/fuzz.c", "tests/embed/held_fuzz.c"]
 # What the library may ask of whoever links it: the C library's copying and its heap, and arithmetic of the compiler's.
 ASKED = {"memcpy", "memmove", "memset", "malloc", "realloc", "free", "__udivti3", "__umodti3", "rattle_alloc", "rattle_realloc", "rattle_dealloc"}
 HEAP = {"rattle_alloc", "rattle_realloc", "rattle_dealloc"}
@@ -98,7 +100,8 @@ def try_host(prefix, room, compiler, host):
     ran = run(built)
     check(f"{host} runs, by {compiler}", ran.returncode == 0, (ran.returncode, ran.stdout[-300:], ran.stderr[-300:]))
     if compiler == "gcc" and is_there("valgrind"):
-        seen = run("valgrind", "-q", "--error-exitcode=99", "--leak-check=full", "--show-leak-kinds=all", built, *["12"] * ("skir" in host))
+        brief = [number for name, number in (("skirmish", 12), ("budget", 9)) if name in host]
+        seen = run("valgrind", "-q", "--error-exitcode=99", "--leak-check=full", "--show-leak-kinds=all", built, *brief)
         check(f"{host} under valgrind", seen.returncode == 0, (seen.returncode, seen.stderr[-600:]))
     return ran.stdout
 
@@ -116,16 +119,17 @@ def try_hosts(prefix, room):
 def try_pkg_config(prefix, room):
     """A host is built by what simcore.pc says, and runs with the shared object."""
     words = run("pkg-config", "--cflags", "--libs", "simcore", env={"PATH": "/usr/bin:/bin", "PKG_CONFIG_PATH": f"{prefix}/lib/pkgconfig"}).stdout.split()
-    made = run("gcc", "-std=c99", TOP / HOSTS[2], *words, "-o", room / "shared")
+    made = run("gcc", "-std=c99", TOP / HOSTS[-1], *words, "-o", room / "shared")
     ran = run(room / "shared", "3", env={"LD_LIBRARY_PATH": f"{prefix}/lib", "LD_BIND_NOW": "1"}) if made.returncode == 0 else made
     check("a host by pkg-config, with the shared object", ran.returncode == 0, ran.stderr)
 
 
 def try_rust(prefix, room):
-    """The crate in Rust is built without a registry, and its example runs."""
+    """The crate in Rust is built without a registry, and its examples run."""
     shutil.copytree(TOP / "examples/embed/rust", room / "rust", ignore=shutil.ignore_patterns("target", "Cargo.lock"))
-    ran = run("cargo", "run", "-q", "--offline", "--example", "walk", cwd=room / "rust", env={**os.environ, "SIMCORE": str(prefix)})
-    check("the crate in Rust", ran.returncode == 0 and ran.stdout.count("entity 2") == 9 and not ran.stderr, (ran.returncode, ran.stderr[-600:]))
+    for name, text, times in (("walk", "entity 2", 9), ("threads", "60 turns", 1)):
+        ran = run("cargo", "run", "-q", "--offline", "--example", name, cwd=room / "rust", env={**os.environ, "SIMCORE": str(prefix)})
+        check(f"{name} in Rust", ran.returncode == 0 and ran.stdout.count(text) == times and not ran.stderr, (ran.returncode, ran.stderr[-600:]))
 
 
 def played(match):
@@ -136,6 +140,25 @@ def played(match):
             state, digest = match.turn(state, [it[1:] for it in commands if it[0] == turn])
         lines.append(f"turn {turn} {digest}\n")
     return "".join(lines), bytes(state)
+
+
+def try_game(core, path, lines, last):
+    """The same match is played on by a handle, turn by turn, in all at once, and from the midst of it."""
+    match, commands = core.match(path.read_bytes()), json.loads(path.read_bytes())["commands"]
+    half, found = match.facts.turns // 2, []
+    with Game(core, match.data) as game, Game(core, match.data) as own:
+        for turn in range(match.facts.turns + 1):
+            if turn:
+                game.play([it[1:] for it in commands if it[0] == turn])
+            if turn == half:
+                midst = game.state().bytes
+            found.append(f"turn {turn} {game.stamp().digest}\n")
+        counts = [own.play_own(half), own.play_own(100000), own.play_own(1)]
+        check(f"{path.name} is played alike by a game", "".join(found) == lines and game.state().bytes == last, found[-1:])
+        check(f"{path.name} is played alike by its own turns", counts == [half, match.facts.turns - half, 0] and own.state() == game.state(), counts)
+        check(f"{path.name} looks alike in a game", (game.show(), len(game.entities())) == (match.show(last), len(match.entities(last))))
+    with Game(core, match.data, midst) as game:
+        check(f"{path.name} is played alike from its midst", game.play_own(100000) == match.facts.turns - half and game.state().bytes == last)
 
 
 def try_match(core, program, path, room):
@@ -155,6 +178,7 @@ def try_match(core, program, path, room):
     check(f"{path.name} is shown alike", run(program, "show", path, stored).stdout == shown)
     check(f"{path.name} has its entities", [it.id for it in match.entities(state)] == [int(it) for it in re.findall(r"^entity (\d+)", shown, re.M)])
     check(f"{path.name} has the turn of its end", match.digest(state)[1] == match.facts.turns)
+    try_game(core, path, lines, state)
 
 
 def is_match(path):
@@ -183,6 +207,44 @@ def try_matches(core, program, room):
     """The matches of the examples, and some that are made here."""
     for path in [*filter(is_match, sorted(TOP.glob("examples/*.json"))), *make_matches(room)]:
         try_match(core, program, path, room)
+
+
+def make_steps(chance, players, count):
+    """Random steps of clients, most of which carry frames and play."""
+    def step():
+        client, what = chance.randint(1, players), chance.choice(["up"] * 6 + ["down"] * 8 + ["play"] * 4 + ["order"] * 2 + ["join", "join", "cut", "bend"])
+        ids = [chance.randrange(2, 20) for _ in range(3)]
+        return [what, client] + {"bend": [chance.randrange(2, 20), chance.randrange(60)],
+                                 "order": chance.choice([["walk", ids, f"{chance.randrange(24)}.5", chance.randrange(20)], ["stop", ids], ["delete", ids[:1]],
+                                                         ["attack", ids, chance.randrange(2, 20)]])}.get(what, [])
+
+    calm = [[what, client] for _ in range(count // 40) for what in ("up", "down", "down", "play") for client in range(1, players + 1)]
+    return [step() for _ in range(count // 2)] + calm + [step() for _ in range(count // 2)]
+
+
+def make_sessions(room):
+    """Sessions of the examples, and some that are made here, in a folder of their own."""
+    chance, folder = random.Random(8), room / "sessions"
+    folder.mkdir()
+    for steps in TOP.glob("examples/*-steps.json"):
+        for path in (steps, steps.with_name(steps.name.replace("-steps", ""))):
+            shutil.copy(path, folder)
+    for number, path in enumerate(make_matches(room)):
+        match = json.loads(path.read_text(encoding="utf-8"))
+        match |= {"commands": [], "delay": 1 + number % 3}
+        players = len(match["players"])
+        (folder / path.name).write_text(json.dumps(match), encoding="utf-8")
+        steps = {"clients": chance.randint(1, players), "steps": make_steps(chance, players, 400)}
+        (folder / f"{path.stem}-steps.json").write_text(json.dumps(steps), encoding="utf-8")
+    return folder
+
+
+def try_sessions(prefix, program, room):
+    """Sessions by clients and servers that are held have the text of the program's."""
+    folder = make_sessions(room)
+    ran = run(sys.executable, TOP / "tests/embed/sessions.py", prefix / "lib/libsimcore.so", program, folder)
+    wanted = f"{len(list(folder.glob('*-steps.json')))} passed, 0 failed\n"
+    check("sessions by the library", ran.stdout == wanted, (ran.stdout[-600:], ran.stderr[-600:], wanted))
 
 
 def try_command(core, program, room, words, files):
@@ -253,14 +315,24 @@ def try_threads(core):
         told = list(pool.map(lambda _: played(core.match(match.data)), range(16)))
     check("threads share nothing", told == [alone] * 16)
 
+    def alone_held(_):
+        with Game(core, match.data) as game, Client(core, match.data, 1, begins=True) as client, Server(core, match.data, 1) as server:
+            client.join(), server.cut(1)
+            return game.play_own(10), client.play(9), game.state().bytes
+
+    with concurrent.futures.ThreadPoolExecutor(8) as pool:
+        told = list(pool.map(alone_held, range(64)))
+    check("handles share nothing", told == told[:1] * 64 and told[0][2] == alone[1])
+
 
 def try_fuzz(prefix, room, seconds):
-    """Random calls: no crash, and no status beside the header's table."""
-    built = build(prefix, room, "gcc", "tests/embed/fuzz.c")
-    if built:
-        ran = run(built, seconds, 1, *sorted(TOP.glob("examples/*.json")))
-        check(f"{seconds} s of the fuzzer", ran.returncode == 0 and "no crash" in ran.stdout, (ran.returncode, ran.stdout[-300:]))
-        print(ran.stdout.replace("\n", "; ").strip("; "), flush=True)
+    """Random calls of both levels: no crash, no status beside the header's table, and what stands is what the header says."""
+    matches = [*sorted(TOP.glob("examples/*.json")), *sorted(room.glob("new-*.json"))]
+    with concurrent.futures.ThreadPoolExecutor(2) as pool:
+        built = [it for it in pool.map(lambda it: build(prefix, room, "gcc", it), FUZZERS) if it]
+        for it, ran in zip(built, pool.map(lambda it: run(it, seconds, 1, *matches), built)):
+            check(f"{seconds} s of {it.name}", ran.returncode == 0 and "no crash" in ran.stdout, (ran.returncode, ran.stdout[-300:]))
+            print(ran.stdout.replace("\n", "; ").strip("; "), flush=True)
 
 
 def try_networked(prefix):
@@ -280,7 +352,7 @@ def parts_of(prefix, program, room, seconds):
     compilers = [] if any(map(is_there, COMPILERS)) else list(COMPILERS)
     return {"symbols": (["nm"], lambda: try_symbols(prefix)), "networked match": ([], lambda: try_networked(prefix)),
             "threads": ([], lambda: try_threads(core)), "matches": ([program], lambda: try_matches(core, program, room)),
-            "commands": ([program], lambda: try_commands(core, program, room)),
+            "sessions": ([program], lambda: try_sessions(prefix, program, room)), "commands": ([program], lambda: try_commands(core, program, room)),
             "hosts in C and C++": (compilers, lambda: try_hosts(prefix, room)), "pkg-config": (["gcc", "pkg-config"], lambda: try_pkg_config(prefix, room)),
             "Rust": (["cargo"], lambda: try_rust(prefix, room)), "fuzzer": (["gcc"], lambda: try_fuzz(prefix, room, seconds))}
 

@@ -16,14 +16,14 @@ import time
 from handles import MOST_FRAME, STAGES, Client, Server, frame_length
 from simcore import Core, Refused
 
-PLAYERS, DELAY, TURNS, BACK, LIE, SECONDS = 4, 3, 60, 25, 34, 60
+PLAYERS, DELAY, TURNS, BACK, LIE, SECONDS = 4, 3, 60, 10, 14, 60
 ASK, COMMAND, NOTICE = 1, 3, 5
 MATCH = json.dumps({
-    "size": [32, 16], "closed": [[14, 0, 17, 5], [14, 10, 17, 15]], "players": [[2, 3, 4], [1, 3, 4], [1, 2, 4], [1, 2, 3]], "cap": 0,
+    "size": [64, 16], "closed": [[30, 0, 33, 5], [30, 10, 33, 15]], "players": [[2, 3, 4], [1, 3, 4], [1, 2, 4], [1, 2, 3]], "cap": 0,
     "delay": DELAY, "turns": TURNS, "seed": 3,
     "templates": [{"@name": "guard", "Health": {"Max": 60}, "Motion": {"Speed": 3}, "Resist": {"Hack": 2},
                    "Attack": {"Hack": 8, "Range": 1, "Vision": 6, "Repeat": 2}}],
-    "entities": [["guard", player, x, z] for player, x in ((1, 2), (2, 29), (3, 9), (4, 22)) for z in (6, 7, 8, 9)],
+    "entities": [["guard", player, x, z] for player, x in ((1, 2), (2, 61), (3, 18), (4, 45)) for z in (6, 7, 8, 9)],
     "commands": []}).encode()
 
 
@@ -162,7 +162,7 @@ class Player:
         own = [row for row in self.client.entities() if row.owner == self.number]
         chosen = [row.id for row in own if standing.turn % 10 == 0 or not (row.going or row.target)]
         if chosen:
-            self.client.order("walk", chosen, "15.5", f"{6 + standing.turn // 10 % 4}.5")
+            self.client.order("walk", chosen, "31.5", f"{6 + standing.turn // 10 % 4}.5")
 
 
 if __name__ == "__main__":

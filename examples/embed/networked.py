@@ -16,7 +16,7 @@ from handles import Client, frames
 from lockstep import LIE, MATCH, PLAYERS, SECONDS, TURNS
 from simcore import Core
 
-KILLED = 12
+KILLED = 6
 
 
 def start(*words):

@@ -1,5 +1,5 @@
 /* Each allocation of each call fails in its turn, alone or with all behind it: the call answers that there is no memory, has written
- * nothing but the fault, and has given all back. It is C99 and C++ alike. */
+ * nothing but the fault, and has given all back. With a number, each such allocation alone. It is C99 and C++ alike. */
 #include <simcore.h>
 #include <stdio.h>
 #include <string.h>
@@ -36,6 +36,7 @@ static const char *const CALLS[CALLS_N] = {"match", "first", "turn", "digest", "
 static uint8_t first[4096], second[4096], files[4096];
 static uint64_t first_n, second_n;
 static size_t files_n;
+static long stride = 1;
 
 /* Adds bytes behind their length to the files of simcore_run. */
 static void add_piece(const char *text) {
@@ -69,7 +70,7 @@ static long refuse_each(int which, bool stays_empty) {
     long granted;
 
     memset(&before, 5, sizeof before);
-    for (granted = 0;; granted++) {
+    for (granted = 0;; granted += stride) {
         it = before;
         heap_grant(granted, stays_empty);
         int32_t status = call(which, &it);
@@ -81,12 +82,13 @@ static long refuse_each(int which, bool stays_empty) {
     }
 }
 
-int main(void) {
+int main(int argc, char **argv) {
     struct simcore_fault fault = {0, 0};
     uint8_t digest[16];
     const uint8_t *match = (const uint8_t *)MATCH;
     int which, failed = 0;
 
+    if (argc > 1) stride = strtol(argv[1], NULL, 10);
     if (simcore_first(match, strlen(MATCH), first, sizeof first, &first_n, digest, &fault) != SIMCORE_OK) return 1;
     if (simcore_turn(match, strlen(MATCH), first, (size_t)first_n, (const uint8_t *)ORDERS, strlen(ORDERS), second, sizeof second, &second_n, digest,
                      &fault) != SIMCORE_OK) return 1;

@@ -3,27 +3,16 @@
  * Random calls in random order, with bytes, lengths and rooms that are good, damaged or made up. What is handed in stands against a page
  * that nobody may read, and cannot be written; the room that is handed out stands so too. A heap of its own refuses now and then. After
  * each call its status is one of those that the header names for it, what stands is as the header says, and no block is held. */
-#define _DEFAULT_SOURCE
-#include <simcore.h>
-#include <stdio.h>
-#include <string.h>
-#include <sys/mman.h>
-#include <time.h>
-
+#include "areas.h"
 #include "heap.h"
 
-enum { PAGE = 4096, MOST_IN = 1 << 20, MOST_OUT = 1 << 22, GAMES = 64, STATES = 256, FILL = 0x5A };
+enum { GAMES = 64, STATES = 256 };
 enum { MATCH, FIRST, TURN, DIGEST, COMPARE, ENTITIES, SHOW, RUN, CALLS };
 
 /* The statuses that the header names for each call. */
 static const int32_t NAMED[CALLS][16] = {{0, 6, 9, -1}, {0, 6, 9, 100, -1}, {0, 6, 7, 8, 9, 10, 100, -1}, {0, 6, 7, 9, -1},
                                          {0, 1, 6, 7, 9, -1}, {0, 6, 7, 9, 100, -1}, {0, 6, 7, 9, 100, -1},
                                          {0, 1, 2, 6, 7, 8, 9, 10, 11, 12, 13, 14, 100, 106, -1}};
-
-struct bytes {
-    uint8_t *at;
-    size_t length;
-};
 
 /* What a call can write beside its room. */
 struct outs {
@@ -35,60 +24,9 @@ struct outs {
     struct simcore_fault fault;
 };
 
-static struct bytes games[GAMES], states[STATES], in[3];
+static struct bytes games[GAMES], states[STATES];
 static int games_n, states_n, game_of[STATES];
-static uint8_t *areas[4];
 static long tried[CALLS], seen[128];
-static uint64_t word;
-
-static uint32_t chance(uint32_t below) {
-    word = word * 6364136223846793005u + 1442695040888963407u;
-    return (uint32_t)((word >> 33) % below);
-}
-
-static void fail(const char *what, int call, int32_t status) {
-    printf("failed: %s; call %d, status %d\n", what, call, (int)status);
-    exit(1);
-}
-
-/* Memory whose end lies before a page that nobody may touch. */
-static uint8_t *new_area(size_t length) {
-    uint8_t *at = (uint8_t *)mmap(NULL, length + PAGE, PROT_READ | PROT_WRITE, MAP_PRIVATE | MAP_ANONYMOUS, -1, 0);
-    if (at == MAP_FAILED || mprotect(at + length, PAGE, PROT_NONE)) fail("no memory for an area", -1, 0);
-    return at;
-}
-
-static struct bytes copy_of(const uint8_t *from, size_t length) {
-    struct bytes copy = {(uint8_t *)malloc(length ? length : 1), length};
-    if (!copy.at) fail("no memory", -1, 0);
-    memcpy(copy.at, from, length);
-    return copy;
-}
-
-static struct bytes read_file(const char *path) {
-    static uint8_t room[MOST_IN];
-    FILE *file = fopen(path, "rb");
-    size_t length = file ? fread(room, 1, sizeof room, file) : 0;
-    if (file) fclose(file);
-    return copy_of(room, length);
-}
-
-/* Commands, some of which make sense. */
-static size_t write_orders(char *text) {
-    static const char *const KINDS[] = {"walk", "stop", "attack", "delete", "place", "train", "resign", "dance"};
-    char *at = text + sprintf(text, "[");
-    for (uint32_t i = 0, n = chance(5); i < n; i++) {
-        uint32_t kind = chance(50) ? chance(7) : 7;
-        at += sprintf(at, "%s[%u,\"%s\"", i ? "," : "", chance(9), KINDS[kind]);
-        if (kind < 4) at += sprintf(at, ",[%u,%u,%u]", 2 + chance(12), chance(30), chance(3) ? 2 + chance(9) : 1u << chance(32));
-        if (kind == 2) at += sprintf(at, ",%u", chance(20));
-        if (kind == 4) at += sprintf(at, ",%u", chance(5));
-        if (kind == 5) at += sprintf(at, ",%u,%u", chance(20), chance(5));
-        if (kind == 0 || kind == 4) at += sprintf(at, ",\"%u.%u\",%u", chance(40), chance(100), chance(30));
-        at += sprintf(at, "]");
-    }
-    return (size_t)(at - text) + (size_t)sprintf(at, "]");
-}
 
 /* A command over the files m, s and l, some of which make sense. */
 static size_t write_words(char *text) {
@@ -113,47 +51,6 @@ static size_t pack(uint8_t *packed, size_t length, const char *name, const uint8
         length += lengths[which];
     }
     return length;
-}
-
-/* Damages bytes in their place; what comes of it is no longer than MOST_IN. */
-static size_t damage(uint8_t *at, size_t length) {
-    static const char *const PIECES[] = {"[", "]", "{", "}", ",", "\"", "-1", "0", "65536", "1e9", "null", "\xff", "\"@parent\"", ".5"};
-    for (uint32_t i = 0, n = 1 + chance(3); i < n; i++) {
-        size_t place = length ? chance((uint32_t)length) : 0, most = length - place, few = most ? chance((uint32_t)(most < 40 ? most : 40)) : 0;
-        const char *piece = PIECES[chance(14)];
-        switch (length ? chance(7) : 4) {
-        case 0: at[place] = (uint8_t)chance(256); break;
-        case 1: at[place] ^= (uint8_t)(1u << chance(8)); break;
-        case 2: length = place; break;
-        case 3: memmove(at + place, at + place + few, length - place - few), length -= few; break;
-        case 4:
-            if (length + 16 > MOST_IN) break;
-            memmove(at + place + strlen(piece), at + place, length - place);
-            memcpy(at + place, piece, strlen(piece));
-            length += strlen(piece);
-            break;
-        case 5:
-            if (length + few > MOST_IN) break;
-            memmove(at + place + few, at + place, length - place);
-            length += few;
-            break;
-        default: at[place] = (uint8_t)(at[place] + 1 - 2 * chance(2)); break;
-        }
-    }
-    return length;
-}
-
-/* Puts bytes, one time in so many damaged, to the end of an area that is not written from then on. */
-static void hand_in(int place, const uint8_t *from, size_t length, uint32_t spare) {
-    static uint8_t room[MOST_IN + 64];
-    if (length > MOST_IN) length = MOST_IN;
-    memcpy(room, from, length);
-    if (!chance(spare)) length = damage(room, length);
-    mprotect(areas[place], MOST_IN, PROT_READ | PROT_WRITE);
-    in[place].at = areas[place] + MOST_IN - length;
-    in[place].length = length;
-    memcpy(in[place].at, room, length);
-    mprotect(areas[place], MOST_IN, PROT_READ);
 }
 
 static int32_t call(int which, uint8_t *room, size_t items, struct outs *it) {
@@ -272,7 +169,7 @@ int main(int argc, char **argv) {
     double seconds = argc > 1 ? strtod(argv[1], NULL) : 10;
     time_t end = time(NULL) + (time_t)seconds;
     word = argc > 2 ? strtoull(argv[2], NULL, 10) : 1;
-    for (int i = 0; i < 4; i++) areas[i] = new_area(i < 3 ? MOST_IN : MOST_OUT);
+    make_areas();
     for (int i = 3; i < argc && games_n < GAMES; i++) {
         struct outs it;
         struct bytes game = read_file(argv[i]);
