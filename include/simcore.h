@@ -194,7 +194,7 @@ int32_t simcore_run(const uint8_t *words, size_t words_n, const uint8_t *files, 
  * who and which match is played, is the host's. docs/PROTOCOL.md tells what the frames do. */
 
 /* Opens a client of a match for one of its players, from 1. One that begins in the match, with `begins` not 0, is on at the first state;
- * any other one is off, and may join.
+ * any other one is off, and may join. None plays the commands that the match file has of its own.
  * OK, BAD_HANDLE, MATCH_REFUSED, NO_PLAYER, NO_MEMORY: the handle stays closed where it was closed */
 int32_t simcore_client_open(struct simcore_handle *handle, const uint8_t *match, size_t match_n, uint32_t player, uint32_t begins,
                             struct simcore_fault *fault);
@@ -202,7 +202,7 @@ int32_t simcore_client_open(struct simcore_handle *handle, const uint8_t *match,
 /* The steps of a client. What it says in one waits until it is taken. NO_MEMORY of any of them is as simcore_client_cut: the client is off,
  * and what waited is gone. So end its connection, and let it join again.
  *
- * Wishes to join, if it is off; it is joining then, and is on when it has heard the state of another client.
+ * Wishes to join, if it is off; it is joining then, until it hears the state of another client, and is on, or that there is none, and is off.
  * OK, IDLE, BAD_HANDLE, NO_MEMORY */
 int32_t simcore_client_join(struct simcore_handle *handle);
 
@@ -215,8 +215,8 @@ int32_t simcore_client_order(struct simcore_handle *handle, const uint8_t *comma
  * OK, IDLE, FRAME_REFUSED, BAD_HANDLE, NO_MEMORY */
 int32_t simcore_client_hear(struct simcore_handle *handle, const uint8_t *frame, size_t frame_n);
 
-/* Plays the turns that are released, at most so many, and puts into *played how many these were. For each of them it says the digest, and
- * that it is done with a turn more. Many turns in one call cost less than as many calls.
+/* Plays the turns that are released, at most so many, and puts into *played how many these were. For each it says the mark of its state, by
+ * which the server compares clients, and that it is done with a turn more, if it is. Many turns in one call cost less than as many calls.
  * OK, IDLE where there is none to be played, BAD_HANDLE, NO_MEMORY */
 int32_t simcore_client_play(struct simcore_handle *handle, uint32_t most, uint32_t *played);
 
@@ -267,7 +267,7 @@ int32_t simcore_game_play(struct simcore_handle *handle, const uint8_t *commands
 
 /* Plays turns with the commands that the match file has of its own, as the program's `play` does, at most so many, and puts into *played
  * how many these were. After NO_MEMORY the state is the one before.
- * OK, IDLE where all turns were played, BAD_HANDLE, NO_MEMORY */
+ * OK, IDLE where there is none to be played, BAD_HANDLE, NO_MEMORY */
 int32_t simcore_game_play_own(struct simcore_handle *handle, uint32_t most, uint32_t *played);
 
 /* Looks at the state of a client or a match, in the answers of simcore_first, simcore_digest, simcore_show and simcore_entities.

@@ -1,5 +1,9 @@
 /* Each call of level two: on handles that are closed, and of each kind; opened and closed in every order; what it answers where it may do
- * nothing; and a session by hand, in which a client comes late. It is C99 and C++ alike. */
+ * nothing; and a session by hand, in which a client comes late. All of it is on a thread with 256 KB of stack, or so many as a word says.
+ * It is C99 and C++ alike. */
+#include <pthread.h>
+#include <stdlib.h>
+
 #include "held.h"
 
 static const char MATCH[] = "{\"size\":[8,8],\"closed\":[],\"players\":[[],[],[]],\"cap\":0,\"delay\":1,\"turns\":4,\"seed\":0,\"templates\":["
@@ -208,7 +212,20 @@ static void try_session(void) {
     step(CLOSE, &server, 0);
 }
 
-int main(void) {
+/* JSON as deep as can be, where a command is awaited, commands, and a match. */
+static void try_deep(void) {
+    static char deep[4096];
+    struct simcore_handle client = opened(CLIENT_OPEN), game = opened(GAME_OPEN), none = {0};
+    struct simcore_fault fault = {0, 0};
+    memset(deep, '[', 127), memset(deep + 127, ']', 127);
+    want(call(ORDER, &client, deep, 254, 0, 0) == SIMCORE_LIST_REFUSED && call(GAME_PLAY, &game, deep, 254, 0, 0) == SIMCORE_LIST_REFUSED, "deep JSON");
+    memset(deep, '[', sizeof deep);
+    want(call(ORDER, &client, deep, sizeof deep, 0, 0) == SIMCORE_LIST_REFUSED, "JSON that is too deep");
+    want(simcore_server_open(&none, (const uint8_t *)deep, sizeof deep, 1, &fault) == SIMCORE_MATCH_REFUSED, "a match that is too deep");
+    step(CLOSE, &client, 0), step(CLOSE, &game, 0);
+}
+
+static void *try_all(void *unused) {
     want(sizeof(struct simcore_handle) == sizeof(void *) && sizeof(struct simcore_standing) == 16, "records have no gaps");
     want(simcore_fits() && strcmp(simcore_status_text(SIMCORE_NOT_ON), "the client is not on") == 0, "version, and a status in words");
     want(simcore_frame_length(room, 3) == 0 && simcore_frame_length((const uint8_t *)"\2\1\0\0", 4) == 262, "the length of a frame");
@@ -219,6 +236,16 @@ int main(void) {
     try_client();
     try_server();
     try_session();
+    try_deep();
+    return unused;
+}
+
+int main(int argc, char **argv) {
+    pthread_attr_t how;
+    pthread_t thread;
+    size_t stack = (size_t)(argc > 1 ? strtol(argv[1], NULL, 10) : 256) << 10;
+    want(pthread_attr_init(&how) == 0 && pthread_attr_setstacksize(&how, stack) == 0, "a stack");
+    want(pthread_create(&thread, &how, try_all, NULL) == 0 && pthread_join(thread, NULL) == 0, "a thread");
     printf("%s\n", failed ? "failed" : "all calls of level two answer as they should");
     return failed;
 }

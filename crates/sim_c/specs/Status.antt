@@ -1,8 +1,10 @@
 -- The status of a call that has no answer, and the two numbers that say why.
-use Rattle.std.specs.Prelude.{ℕ, ℤ, pos}
+use Rattle.std.specs.Prelude.{ℕ, ℤ, pos, Ok, Err, Result}
 use Rattle.{sim_c.specs.declared.status.Fault.Fault, sim_codec.specs.declared.fault.StateFault.StateFault, sim_embed.specs.declared.refused.Refused.Refused}
 use Rattle.sim_codec.specs.declared.fault.StateFault.TheVariants as faults
 use Rattle.sim_embed.specs.declared.refused.Refused.TheVariants as causes
+use Rattle.{sim_base.specs.declared.memory.OutOfMemory.OutOfMemory, sim_held.specs.declared.stage.Went.Went}
+use Rattle.sim_held.specs.declared.stage.Went.TheVariants as went
 
 -- the status of a cause
 abbrev pub status_of : Refused → ℤ
@@ -26,3 +28,10 @@ fault_of (causes.State fault place) = record { code = state_code fault; index = 
 fault_of (causes.Commands index) = record { code = 0; index = index }
 fault_of causes.Over = record { code = 0; index = 0 }
 fault_of causes.OutOfMemory = record { code = 0; index = 0 }
+
+-- the status of a step that came to this, where that is the status of bytes that stand for nothing
+abbrev pub went_status : ℤ → Result Went OutOfMemory → ℤ
+went_status refused (Ok went.Refused) = refused
+went_status refused (Ok went.Idle) = pos 102
+went_status refused (Ok went.Done) = pos 0
+went_status refused (Err e) = pos 9

@@ -1,10 +1,16 @@
 //! A match that a handle holds. Each clause is that of the call of `sim_held` of the same name.
 
+ghost use Rattle.std.specs.Prelude.{◌≡◌, pos, IfOk, IfErr, option_map};
+ghost use Rattle.{sim_base.specs.Turn.first_state, sim_held.specs.Games.PlaysOwn};
+ghost use Rattle.sim_embed.specs.{Bytes.OfMatch, Bytes.OfState, Causes.IsNoMatch, Causes.IsNoStateOf};
+ghost use Rattle.sim_c.specs.{Gives.Answers, Gives.GivesValue, GivesHeld.GivesPlayed, Games.PlaysGame, Holding.Comes, Holding.IsGame, Holding.OfGame, Holding.Opens};
+
 use crate::Fault;
 use crate::giving_held::give_played;
 use crate::handle::Handle;
 use crate::holding::{open, with_held};
 use crate::status::{BAD_HANDLE, DONE, refuse};
+use sim_embed::Refused;
 use sim_held::{Held, HeldMatch};
 use std::alloc::Global;
 
@@ -15,12 +21,20 @@ pub extern "C" fn simcore_game_open(
     handle: &mut Handle,
     game: &[u8],
     fault: &mut Fault,
-) -> i32 {
-    let made = match HeldMatch::new(alloc, game) {
-        Ok(held) => Ok(Some(Held::Match(held))),
-        Err(refused) => Err(refused),
-    };
+) -> i32
+    ensures { Answers (λ made. OfMatch game.now (λ setup. IsGame (λ held. held ≡ record { setup = setup; state = first_state setup }) made)) (IsNoMatch game.now)
+        (Opens handle.old.held handle.new.held result fault.old fault.new) }
+{
+    let made = first_game(alloc, game);
     open(alloc, handle, made, fault)
+}
+
+fn first_game(alloc: Global, game: &[u8]) -> Result<Option<Box<Held>>, Refused>
+    ensures is { IfOk result (λ made. OfMatch game.now (λ setup. IsGame (λ held. held ≡ record { setup = setup; state = first_state setup }) (option_map (λ held. held.value) made))) }
+    ensures refused { IfErr result (IsNoMatch game.now) }
+{
+    let game = HeldMatch::new(alloc, game)?;
+    Ok(Some(Box::new(alloc, Held::Match(game))?))
 }
 
 /// Opens a match at a stored state.
@@ -31,12 +45,20 @@ pub extern "C" fn simcore_game_load(
     game: &[u8],
     state: &[u8],
     fault: &mut Fault,
-) -> i32 {
-    let made = match HeldMatch::load(alloc, game, state) {
-        Ok(held) => Ok(Some(Held::Match(held))),
-        Err(refused) => Err(refused),
-    };
+) -> i32
+    ensures { Answers (λ made. OfState game.now state.now (λ setup at. IsGame (λ held. held ≡ record { setup = setup; state = at }) made))
+        (IsNoStateOf game.now state.now) (Opens handle.old.held handle.new.held result fault.old fault.new) }
+{
+    let made = loaded_game(alloc, game, state);
     open(alloc, handle, made, fault)
+}
+
+fn loaded_game(alloc: Global, game: &[u8], state: &[u8]) -> Result<Option<Box<Held>>, Refused>
+    ensures is { IfOk result (λ made. OfState game.now state.now (λ setup at. IsGame (λ held. held ≡ record { setup = setup; state = at }) (option_map (λ held. held.value) made))) }
+    ensures refused { IfErr result (IsNoStateOf game.now state.now) }
+{
+    let game = HeldMatch::load(alloc, game, state)?;
+    Ok(Some(Box::new(alloc, Held::Match(game))?))
 }
 
 /// Plays a turn with these commands.
@@ -46,11 +68,16 @@ pub extern "C" fn simcore_game_play(
     handle: &mut Handle,
     commands: &[u8],
     fault: &mut Fault,
-) -> i32 {
+) -> i32
+    ensures { OfGame (λ old new. Comes (λ answer. PlaysGame commands.now old answer new) (GivesValue result tt tt fault.old fault.new))
+        ((result ≡ pos 101) × (fault.new ≡ fault.old)) handle.old.held handle.new.held }
+{
     with_held!(alloc, handle; Held::Match(game) => play(game, commands, fault))
 }
 
-fn play(game: &mut HeldMatch, commands: &[u8], fault: &mut Fault) -> i32 {
+fn play(game: &mut HeldMatch, commands: &[u8], fault: &mut Fault) -> i32
+    ensures { Comes (λ answer. PlaysGame commands.now game.old answer game.new) (GivesValue result tt tt fault.old fault.new) }
+{
     match game.play(commands) {
         Ok(()) => DONE,
         Err(refused) => refuse(&refused, fault),
@@ -64,6 +91,9 @@ pub extern "C" fn simcore_game_play_own(
     handle: &mut Handle,
     most: u32,
     played: &mut u32,
-) -> i32 {
+) -> i32
+    ensures { OfGame (λ old new. Comes (λ answer. PlaysOwn old most answer new) (GivesPlayed result played.old played.new))
+        ((result ≡ pos 101) × (played.new ≡ played.old)) handle.old.held handle.new.held }
+{
     with_held!(alloc, handle; Held::Match(game) => give_played(game.play_own(most), played))
 }

@@ -1,5 +1,8 @@
 //! What is alike in all calls that hold something: how a handle is opened and closed, and how a call reaches what a handle holds.
 
+ghost use Rattle.std.specs.Prelude.{◌≡◌, None, option_map};
+ghost use Rattle.sim_c.specs.{Gives.mapped, Holding.close_status, Holding.is_none, Holding.Opens};
+
 use crate::Fault;
 use crate::handle::Handle;
 use crate::status::{BAD_HANDLE, DONE, NO_PLAYER, refuse};
@@ -25,16 +28,11 @@ macro_rules! with_held {
 }
 pub(crate) use with_held;
 
-// What was made, in memory of its own.
-fn boxed(alloc: Global, made: Result<Option<Held>, Refused>) -> Result<Option<Box<Held>>, Refused> {
-    match made? {
-        None => Ok(None),
-        Some(held) => Ok(Some(Box::new(alloc, held)?)),
-    }
-}
-
 // Whether a handle holds nothing.
-fn is_closed(alloc: Global, handle: &mut Handle) -> bool {
+fn is_closed(alloc: Global, handle: &mut Handle) -> bool
+    ensures closed { result ≡ is_none handle.old.held }
+    ensures same { handle.new.held ≡ handle.old.held }
+{
     match handle.take(alloc) {
         None => true,
         Some(held) => {
@@ -48,13 +46,15 @@ fn is_closed(alloc: Global, handle: &mut Handle) -> bool {
 pub fn open(
     alloc: Global,
     handle: &mut Handle,
-    made: Result<Option<Held>, Refused>,
+    made: Result<Option<Box<Held>>, Refused>,
     fault: &mut Fault,
-) -> i32 {
+) -> i32
+    ensures { Opens handle.old.held handle.new.held result fault.old fault.new (mapped (option_map (λ made. made.value)) made) }
+{
     if !is_closed(alloc, handle) {
         return BAD_HANDLE;
     }
-    match boxed(alloc, made) {
+    match made {
         Ok(None) => NO_PLAYER,
         Ok(Some(held)) => {
             handle.put(alloc, held);
@@ -66,7 +66,10 @@ pub fn open(
 
 /// Closes a handle, and gives the memory of what it held back.
 #[unsafe(no_mangle)]
-pub extern "C" fn simcore_close(alloc: Global, handle: &mut Handle) -> i32 {
+pub extern "C" fn simcore_close(alloc: Global, handle: &mut Handle) -> i32
+    ensures closed { handle.new.held ≡ None }
+    ensures status { result ≡ close_status handle.old.held }
+{
     match handle.take(alloc) {
         None => BAD_HANDLE,
         Some(held) => {

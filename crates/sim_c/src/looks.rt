@@ -1,5 +1,9 @@
 //! Looks at the state to which a game, or a client that is on, has come. Nothing that is held changes.
 
+ghost use Rattle.{sim_embed.specs.Facts.entity_of, sim_report.specs.Show.show_text, std.specs.Prelude.◌≡◌, std.specs.Prelude.map, std.specs.Prelude.pos};
+ghost use Rattle.sim_c.specs.{Gives.stamp, GivesHeld.GivesLook, GivesHeld.GivesSheet, GivesHeld.GivesStamp, GivesHeld.sheet, Holding.Looks, Holding.there_is};
+ghost use Rattle.sim_embed.specs.Answers.{IsStamp, IsStored};
+
 use crate::giving_held::{give_held_stamp, give_items, give_shown, give_state};
 use crate::handle::Handle;
 use crate::holding::with_held;
@@ -10,7 +14,9 @@ use sim_held::Held;
 use std::alloc::Global;
 
 // What there is for sure.
-fn there<T>(answer: Result<T, OutOfMemory>) -> Result<Option<T>, OutOfMemory> {
+fn there<T>(answer: Result<T, OutOfMemory>) -> Result<Option<T>, OutOfMemory>
+    ensures { result ≡ there_is answer }
+{
     Ok(Some(answer?))
 }
 
@@ -22,7 +28,11 @@ pub extern "C" fn simcore_held_state(
     state: &mut [u8],
     written: &mut u64,
     digest: &mut [u8; 16],
-) -> i32 {
+) -> i32
+    ensures looks { Looks IsStored (GivesSheet result (sheet state.old written.old digest.old) (sheet state.new written.new digest.new))
+        ((result ≡ pos 101) × (sheet state.new written.new digest.new ≡ sheet state.old written.old digest.old)) handle.old.held }
+    ensures same { handle.new.held ≡ handle.old.held }
+{
     with_held!(
         alloc, handle;
         Held::Client(client) => give_state(client.stored(), state, written, digest),
@@ -37,7 +47,11 @@ pub extern "C" fn simcore_held_digest(
     handle: &mut Handle,
     digest: &mut [u8; 16],
     turn: &mut u32,
-) -> i32 {
+) -> i32
+    ensures looks { Looks IsStamp (GivesStamp result (stamp digest.old turn.old) (stamp digest.new turn.new))
+        ((result ≡ pos 101) × (stamp digest.new turn.new ≡ stamp digest.old turn.old)) handle.old.held }
+    ensures same { handle.new.held ≡ handle.old.held }
+{
     with_held!(
         alloc, handle;
         Held::Client(client) => give_held_stamp(client.stamp(), digest, turn),
@@ -52,7 +66,11 @@ pub extern "C" fn simcore_held_show(
     handle: &mut Handle,
     text: &mut [u8],
     written: &mut u64,
-) -> i32 {
+) -> i32
+    ensures looks { Looks (λ setup state shown. shown ≡ show_text setup state) (GivesLook result text.old text.new written.old written.new)
+        ((result ≡ pos 101) × (text.new ≡ text.old) × (written.new ≡ written.old)) handle.old.held }
+    ensures same { handle.new.held ≡ handle.old.held }
+{
     with_held!(
         alloc, handle;
         Held::Client(client) => give_shown(client.show(), text, written),
@@ -67,7 +85,11 @@ pub extern "C" fn simcore_held_entities(
     handle: &mut Handle,
     rows: &mut [Entity],
     written: &mut u64,
-) -> i32 {
+) -> i32
+    ensures looks { Looks (λ setup state found. found ≡ map entity_of state.rows) (GivesLook result rows.old rows.new written.old written.new)
+        ((result ≡ pos 101) × (rows.new ≡ rows.old) × (written.new ≡ written.old)) handle.old.held }
+    ensures same { handle.new.held ≡ handle.old.held }
+{
     with_held!(
         alloc, handle;
         Held::Client(client) => give_items(client.entities(), rows, written),

@@ -1,20 +1,33 @@
 //! A turn server that a handle holds. Each clause is that of the call of `sim_held` of the same name.
 
+ghost use Rattle.std.specs.Prelude.{◌≡◌, pos, IfOk, IfErr, option_map};
+ghost use Rattle.{sim_embed.specs.Bytes.OfMatch, sim_embed.specs.Causes.IsNoMatch, sim_server.specs.Standing.server_of};
+ghost use Rattle.sim_c.specs.{Gives.Answers as IsAnswered, Holding.Comes, Holding.IsServer, Holding.OfServer, Holding.Opens, Status.went_status};
+ghost use Rattle.sim_c.specs.Servers.{count_of as count_by, HearsFrame, number_of as number_by, Sends};
+ghost use Rattle.sim_held.specs.Servers.{Answers, CutsOff, is_client, IsServerOf};
+ghost use Rattle.sim_held.specs.declared.stage.Went.TheVariants as went;
+
 use crate::Fault;
-use crate::giving_held::{give_bytes, give_went};
+use crate::giving::fill;
+use crate::giving_held::give_went;
 use crate::handle::Handle;
 use crate::holding::{open, with_held};
-use crate::status::{BAD_HANDLE, DONE, FRAME_REFUSED};
+use crate::status::{BAD_HANDLE, DONE, FRAME_REFUSED, NO_MEMORY};
+use sim_embed::Refused;
 use sim_held::{Held, HeldServer};
 use std::alloc::Global;
 
 // A client's number as the server has it: 0, which is nobody's, for those above 255.
-fn number_of(client: u32) -> u8 {
+fn number_of(client: u32) -> u8
+    ensures { result ≡ number_by client }
+{
     if client < 256 { client as u8 } else { 0 }
 }
 
 // A number of players as the server has it: none has more than 255.
-fn count_of(players: u32) -> u8 {
+fn count_of(players: u32) -> u8
+    ensures { result ≡ count_by players }
+{
     if players < 256 { players as u8 } else { 255 }
 }
 
@@ -26,13 +39,22 @@ pub extern "C" fn simcore_server_open(
     game: &[u8],
     active: u32,
     fault: &mut Fault,
-) -> i32 {
-    let made = match HeldServer::new(alloc, game, count_of(active)) {
-        Ok(None) => Ok(None),
-        Ok(Some(server)) => Ok(Some(Held::Server(server))),
-        Err(refused) => Err(refused),
-    };
+) -> i32
+    ensures { IsAnswered (λ made. OfMatch game.now (λ setup. IsServer (IsServerOf setup (count_by active)) made)) (IsNoMatch game.now)
+        (Opens handle.old.held handle.new.held result fault.old fault.new) }
+{
+    let made = new_server(alloc, game, count_of(active));
     open(alloc, handle, made, fault)
+}
+
+fn new_server(alloc: Global, game: &[u8], active: u8) -> Result<Option<Box<Held>>, Refused>
+    ensures is { IfOk result (λ made. OfMatch game.now (λ setup. IsServer (IsServerOf setup active) (option_map (λ held. held.value) made))) }
+    ensures refused { IfErr result (IsNoMatch game.now) }
+{
+    match HeldServer::new(alloc, game, active)? {
+        None => Ok(None),
+        Some(server) => Ok(Some(Box::new(alloc, Held::Server(server))?)),
+    }
 }
 
 /// Hears a frame of a client.
@@ -42,13 +64,19 @@ pub extern "C" fn simcore_server_hear(
     handle: &mut Handle,
     from: u32,
     frame: &[u8],
-) -> i32 {
+) -> i32
+    ensures { OfServer (λ old new. Comes (λ answer. HearsFrame (number_by from) frame.now old answer new) (λ answer. result ≡ went_status (pos 103) answer))
+        (result ≡ pos 101) handle.old.held handle.new.held }
+{
     with_held!(alloc, handle; Held::Server(server) => give_went(server.hear(number_of(from), frame), FRAME_REFUSED))
 }
 
 /// Sees that the connection of a client has ended.
 #[unsafe(no_mangle)]
-pub extern "C" fn simcore_server_cut(alloc: Global, handle: &mut Handle, client: u32) -> i32 {
+pub extern "C" fn simcore_server_cut(alloc: Global, handle: &mut Handle, client: u32) -> i32
+    ensures { let number = number_by client in OfServer (λ old new. Comes (λ answer. Answers (is_client old.server number) went.Done (CutsOff number) old answer new)
+        (λ answer. result ≡ went_status (pos 103) answer)) (result ≡ pos 101) handle.old.held handle.new.held }
+{
     with_held!(alloc, handle; Held::Server(server) => give_went(server.cut(number_of(client)), FRAME_REFUSED))
 }
 
@@ -60,13 +88,21 @@ pub extern "C" fn simcore_server_take(
     client: u32,
     room: &mut [u8],
     written: &mut u64,
-) -> i32 {
+) -> i32
+    ensures { OfServer (λ old new. (answer : _) × Sends (number_by client) result room.old room.new written.old written.new old new answer)
+        ((result ≡ pos 101) × (room.new ≡ room.old) × (written.new ≡ written.old)) handle.old.held handle.new.held }
+{
     with_held!(alloc, handle; Held::Server(server) => take(server, number_of(client), room, written))
 }
 
 // Takes them where they have room.
-fn take(server: &mut HeldServer, client: u8, room: &mut [u8], written: &mut u64) -> i32 {
-    let status = give_bytes(server.said(client), room, written);
+fn take(server: &mut HeldServer, client: u8, room: &mut [u8], written: &mut u64) -> i32
+    ensures { (answer : _) × Sends client result room.old room.new written.old written.new server.old server.new answer }
+{
+    let Ok(bytes) = server.said(client) else {
+        return NO_MEMORY;
+    };
+    let status = fill(&bytes, room, written);
     if status == DONE {
         server.sent(client);
     }
@@ -79,11 +115,17 @@ pub extern "C" fn simcore_server_released(
     alloc: Global,
     handle: &mut Handle,
     turn: &mut u32,
-) -> i32 {
+) -> i32
+    ensures { OfServer (λ old new. (new ≡ old) × (turn.new ≡ (server_of old.server).released) × (result ≡ pos 0))
+        ((result ≡ pos 101) × (turn.new ≡ turn.old)) handle.old.held handle.new.held }
+{
     with_held!(alloc, handle; Held::Server(server) => released(server, turn))
 }
 
-fn released(server: &HeldServer, turn: &mut u32) -> i32 {
+fn released(server: &HeldServer, turn: &mut u32) -> i32
+    ensures turn { turn.new ≡ (server_of server.now.server).released }
+    ensures status { result ≡ pos 0 }
+{
     *turn = server.released();
     DONE
 }

@@ -1,5 +1,7 @@
 //! Where a client stands, as numbers.
 
+ghost use Rattle.{sim_c.specs.Clients.standing_of, sim_held.specs.Clients.life, std.specs.Prelude.◌≡◌};
+
 use sim_held::HeldClient;
 
 /// The stage, 0 off, 1 joining and 2 on; and the turns of one that is on: its own, those that are released, and those that it is done with.
@@ -14,7 +16,9 @@ pub struct Standing {
 
 impl Standing {
     /// Where this client stands.
-    pub fn of(client: &HeldClient) -> Standing {
+    pub fn of(client: &HeldClient) -> Standing
+        ensures { result ≡ standing_of (life client.now) }
+    {
         Standing {
             stage: stage_of(client),
             turn: client.turn().unwrap_or(0),
@@ -24,7 +28,9 @@ impl Standing {
     }
 }
 
-fn stage_of(client: &HeldClient) -> u32 {
+fn stage_of(client: &HeldClient) -> u32
+    ensures { result ≡ (standing_of (life client.now)).stage }
+{
     if client.turn().is_some() {
         2
     } else {

@@ -1,0 +1,33 @@
+-- What a call makes of the server that a handle holds: that of the library's call of its name.
+use Rattle.std.specs.Prelude.{◌≡◌, ℕ, Bool, true, false, List, length, ℤ, pos, if◌then◌else◌, nat_lt, nat_le, Ok, Err, Result}
+use Rattle.sim_base.specs.declared.memory.OutOfMemory.{OutOfMemory}
+use Rattle.sim_c.specs.Gives.{put_in, room_status}
+use Rattle.sim_held.specs.Servers.{Answers, CutsOff, frames_for, Hears, is_client, Leaves, ServerView}
+use Rattle.sim_held.specs.declared.stage.Went.{Went}
+use Rattle.sim_held.specs.declared.stage.Went.TheVariants as went
+use Rattle.sim_plain.specs.{Messages.Heard, declared.message.UpOf.UpOf}
+use Rattle.sim_wire.specs.Fits.{IsUpFrame}
+
+-- the client of a number: 0, which is nobody's, stands for those that no byte holds
+abbrev pub number_of : ℕ → ℕ
+number_of client = if nat_lt client 256 then client else 0
+
+-- how many are to begin: 255, which is too many, stands for those that no byte holds
+abbrev pub count_of : ℕ → ℕ
+count_of players = if nat_lt players 256 then players else 255
+
+-- it hears the frame of a message, or bytes that are none, for which it cuts the client off
+pub record HearsFrame (from : ℕ) (bytes : List ℕ) (old : ServerView) (answer : Result Went OutOfMemory) (new : ServerView) : Type 0 where
+  pub frame : (message : UpOf (List ℕ)) → IsUpFrame bytes message → Answers (is_client old.server from) went.Done (Hears (Heard from message)) old answer new
+  pub other : ((message : UpOf (List ℕ)) → IsUpFrame bytes message → ⊥) → Answers (is_client old.server from) went.Refused (CutsOff from) old answer new
+
+-- what waits for a client is let go, if it was sent
+abbrev pub LetsGo : Bool → ℕ → ServerView → ServerView → Type 0
+LetsGo true client old new = Leaves client old new
+LetsGo false client old new = new ≡ old
+
+-- there is memory for what waits for a client, which is put into a room and let go where the room is large enough; or nothing changes
+abbrev pub Sends : ℕ → ℤ → List ℕ → List ℕ → ℕ → ℕ → ServerView → ServerView → Result (List ℕ) OutOfMemory → Type 0
+Sends client status room filled before written old new (Ok bytes) = (bytes ≡ frames_for old.said client) × (status ≡ room_status bytes room)
+    × (filled ≡ put_in bytes room) × (written ≡ length bytes) × LetsGo (nat_le (length bytes) (length room)) client old new
+Sends client status room filled before written old new (Err e) = (status ≡ pos 9) × (filled ≡ room) × (written ≡ before) × (new ≡ old)
