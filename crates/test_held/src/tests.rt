@@ -113,3 +113,11 @@ fn a_client_that_was_cut_off_joins_again(rt: HostRuntime) -> Result<(), Fail> {
     assert_eq!(rt; server.hear(3, &[9])?, Went::Idle);
     Ok(())
 }
+
+// What may go to another thread.
+fn is_sent<T: Send>() {}
+
+#[test]
+fn what_is_held_may_go_to_another_thread(_: HostRuntime) {
+    is_sent::<sim_held::Held>();
+}
