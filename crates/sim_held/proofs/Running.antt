@@ -10,7 +10,9 @@ use Rattle.sim_client.specs.declared.did.Did.TheVariants as did
 
 -- where there is no next turn, a longer run is the same
 pub runs_rest : (setup : Setup) (n : ℕ) (life : Life) → plays setup (runs setup n life).life ≡ None → (m : ℕ) → n ≤ m → runs setup m life ≡ runs setup n life
-runs_rest setup n life none zero le = ap (λ (k : ℕ). runs setup k life) (omega (arith, le))
+runs_rest setup n life none zero le =
+    let e : 0 ≡ n = omega (arith, le) in
+    ap (λ (k : ℕ). runs setup k life) e
 runs_rest setup n life none (suc m) le = by (cases_eq n (suc m)) (λ (h : n ≤ m). runs_rest setup n life none m h)
   where
     by : (n ≡ suc m) ⊎ (n ≡ suc m → ⊥) → (n ≤ m → runs setup m life ≡ runs setup n life) → runs setup (suc m) life ≡ runs setup n life

@@ -11,7 +11,14 @@ loop-played-preserved g c =
     record {
       ran =
           ran_more c.args.setup.now c.loop-played.played (On (player_at (state_in c.args.board.now) c.args.seat.now)) c.args.outbox.now
-          (On (player_at (state_in c.loop-played.board) c.loop-played.seat)) (On (player_at (state_in c.play_once-there.new.board) c.play_once-there.new.seat))
-          c.loop-played.outbox c.play_once-there.new.outbox c.loop-played.invariant.ran _ ? c.in_ok-there.ensures.plays;
+          (On (player_at (state_in c.loop-played.board) c.loop-played.seat)) (On (player_at (state_in c.play_once.new.board) c.play_once.new.seat))
+          c.loop-played.outbox c.play_once.new.outbox c.loop-played.invariant.ran _ c.if-not-there.false c.in_ok-there.ensures.plays;
       playing = c.in_ok-there.ensures.playing;
     }
+
+pub returns-then-not-there-clause-ran : goal.returns-then-not-there-clause-ran
+returns-then-not-there-clause-ran g c =
+    ran_out c.args.setup.now c.loop-played.played (On (player_at (state_in c.args.board.now) c.args.seat.now)) c.args.outbox.now
+    (On (player_at (state_in c.loop-played.board) c.loop-played.seat)) (On (player_at (state_in c.play_once.new.board) c.play_once.new.seat))
+    c.loop-played.outbox c.play_once.new.outbox c.loop-played.invariant.ran c.args.most (omega (arith, c.loop-played-test.true)) _ c.if-not-there.true
+    c.in_ok-there.ensures.plays
