@@ -6,3 +6,4 @@ mod Stepping
 mod SpellingWords
 mod Spelled
 mod Small
+mod Serving

@@ -15,31 +15,25 @@ others c = filter (λ post. not (post.to == c))
 
 told_none : (c : ℕ) (posts : List Post) → told_to c (others c posts) ≡ []
 told_none c [] = refl
-told_none c (x ∷ xs) = by (cases_eq x.to c)
+told_none c (x ∷ xs) = by (cases_eq x.to c) (told_none c xs)
   where
-    rest : List Post
-    rest = others c xs
-
-    by : (x.to ≡ c) ⊎ (x.to ≡ c → ⊥) → told_to c (others c (x ∷ xs)) ≡ []
-    by (inl e) = ap (λ (b : Bool). told_to c (if not b then x ∷ rest else rest)) (eq-eqb x.to c e) ∙ told_none c xs
-    by (inr ne) =
-        ap (λ (b : Bool). told_to c (if not b then x ∷ rest else rest)) (ne_eqb x.to c ne)
-        ∙ ap (λ (b : Bool). if b then x.down ∷ told_to c rest else told_to c rest) (ne_eqb x.to c ne) ∙ told_none c xs
+    by : (x.to ≡ c) ⊎ (x.to ≡ c → ⊥) → told_to c (others c xs) ≡ [] → told_to c (others c (x ∷ xs)) ≡ []
+    by (inl e) rec = ap (λ (b : Bool). told_to c (if not b then x ∷ others c xs else others c xs)) (eq-eqb x.to c e) ∙ rec
+    by (inr ne) rec =
+        ap (λ (b : Bool). told_to c (if not b then x ∷ others c xs else others c xs)) (ne_eqb x.to c ne)
+        ∙ ap (λ (b : Bool). if b then x.down ∷ told_to c (others c xs) else told_to c (others c xs)) (ne_eqb x.to c ne) ∙ rec
 
 told_same : (c d : ℕ) (posts : List Post) → (d ≡ c → ⊥) → told_to d (others c posts) ≡ told_to d posts
 told_same c d [] apart = refl
-told_same c d (x ∷ xs) apart = by (cases_eq x.to c)
+told_same c d (x ∷ xs) apart = by (cases_eq x.to c) (told_same c d xs apart)
   where
-    rest : List Post
-    rest = others c xs
-
-    by : (x.to ≡ c) ⊎ (x.to ≡ c → ⊥) → told_to d (others c (x ∷ xs)) ≡ told_to d (x ∷ xs)
-    by (inl e) =
-        ap (λ (b : Bool). told_to d (if not b then x ∷ rest else rest)) (eq-eqb x.to c e) ∙ told_same c d xs apart
+    by : (x.to ≡ c) ⊎ (x.to ≡ c → ⊥) → told_to d (others c xs) ≡ told_to d xs → told_to d (others c (x ∷ xs)) ≡ told_to d (x ∷ xs)
+    by (inl e) rec =
+        ap (λ (b : Bool). told_to d (if not b then x ∷ others c xs else others c xs)) (eq-eqb x.to c e) ∙ rec
         ∙ sym (ap (λ (b : Bool). if b then x.down ∷ told_to d xs else told_to d xs) (ne_eqb x.to d (λ h. apart (sym h ∙ e))))
-    by (inr ne) =
-        ap (λ (b : Bool). told_to d (if not b then x ∷ rest else rest)) (ne_eqb x.to c ne)
-        ∙ ap (λ (l : List (DownOf (List ℕ))). if x.to == d then x.down ∷ l else l) (told_same c d xs apart)
+    by (inr ne) rec =
+        ap (λ (b : Bool). told_to d (if not b then x ∷ others c xs else others c xs)) (ne_eqb x.to c ne)
+        ∙ ap (λ (l : List (DownOf (List ℕ))). if x.to == d then x.down ∷ l else l) rec
 
 none_waits : (c : ℕ) (said : List (List Post)) → waiting (map (others c) said) c ≡ []
 none_waits c [] = refl
@@ -84,4 +78,5 @@ full_small said small = All-filter has_some (All (λ (post : Post). IsSmallDown 
 
 pub more_small : (said : List (List Post)) (posts : List Post) → AreSmall said → All (λ (post : Post). IsSmallDown post.down) posts
     → AreSmall (said ++ posts ∷ [])
-more_small said posts small fits = All-append _ said (posts ∷ []) small (All-cons _ posts [] fits (All-nil _))
+more_small said posts small fits = All-append (All (λ (post : Post). IsSmallDown post.down)) said (posts ∷ []) small
+    (All-cons (All (λ (post : Post). IsSmallDown post.down)) posts [] fits (All-nil (All (λ (post : Post). IsSmallDown post.down))))

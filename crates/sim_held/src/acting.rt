@@ -88,9 +88,9 @@ pub fn play(
     requires sound { IsStage setup.now stage.old }
     ensures ran { IfOk result (λ turns. RanOn (runs setup.now most (life_at stage.old)) outbox.old turns (life_at stage.new) outbox.new) }
     ensures sound { OnOk result (IsStage setup.now stage.new) }
-    ensures light { may_run setup.now (life_at stage.old) ≡ false → IsOk result }
+    ensures none { may_run setup.now (life_at stage.old) ≡ false → result ≡ Ok 0 }
 {
-    if most == 0 || !may_play(setup, stage) {
+    if !may_play(setup, stage) {
         return Ok(0);
     }
     let Stage::On { state, seat } = stage else {

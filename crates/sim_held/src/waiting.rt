@@ -1,7 +1,7 @@
 //! What waits for the clients of a server: the posts of each arrival, as they were made, until each client has taken its own. Frames are
 //! made as they are taken.
 
-ghost use Rattle.std.specs.{List.flat_map, Prelude.◌≡◌, Prelude.ℕ, Prelude.◌<◌, Prelude.not, Prelude.[], Prelude.◌∷◌, Prelude.◌++◌, Prelude.map};
+ghost use Rattle.std.specs.{List.flat_map, Prelude.◌≡◌, Prelude.ℕ, Prelude.◌<◌, Prelude.◌≤◌, Prelude.not, Prelude.[], Prelude.◌∷◌, Prelude.◌++◌, Prelude.map};
 ghost use Rattle.std.specs.Prelude.{OnOk, IfOk, All, if◌then◌else◌, ◌==◌, filter, vec_len, vec_capacity};
 ghost use Rattle.{sim_held.specs.Servers.AreSmall, sim_held.specs.Servers.frames_for, sim_held.specs.Servers.has_some as has_some_of, sim_held.specs.Servers.waiting, sim_pipes.specs.Posts.told_to};
 ghost use Rattle.sim_wire.specs.{Fits.IsSmallDown, Frames.down_frame};
@@ -66,7 +66,8 @@ fn others_of(posts: Posts, to: u8) -> Posts
 
 // Leaves the posts to all other clients in each list.
 fn keep_others(alloc: Global, said: &mut Vec<Posts>, to: u8)
-    ensures { said.new.items ≡ map (filter (λ post. not (post.to == to))) said.old.items }
+    ensures said { said.new.items ≡ map (filter (λ post. not (post.to == to))) said.old.items }
+    ensures room { (vec_len said.new ≡ vec_len said.old) × (vec_capacity said.new ≡ vec_capacity said.old) }
 {
     for posts in said.iter_mut() {
         let old = std::mem::replace(posts, Items::new(alloc));
@@ -86,7 +87,8 @@ fn has_some(posts: &Posts) -> bool
 
 // Drops the lists that have no post.
 fn drop_empty(said: &mut Vec<Posts>)
-    ensures { said.new.items ≡ filter has_some_of said.old.items }
+    ensures said { said.new.items ≡ filter has_some_of said.old.items }
+    ensures room { (vec_len said.new ≤ vec_len said.old) × (vec_capacity said.new ≡ vec_capacity said.old) }
 {
     said.retain(|posts| has_some(posts));
 }
@@ -95,6 +97,7 @@ fn drop_empty(said: &mut Vec<Posts>)
 pub fn leave(alloc: Global, said: &mut Vec<Posts>, to: u8)
     ensures said { (d : ℕ) → waiting said.new.items d ≡ (if d == to then [] else waiting said.old.items d) }
     ensures small { AreSmall said.old.items → AreSmall said.new.items }
+    ensures room { (vec_len said.new ≤ vec_len said.old) × (vec_capacity said.new ≡ vec_capacity said.old) }
 {
     keep_others(alloc, said, to);
     drop_empty(said);

@@ -4,5 +4,5 @@ use Rattle.sim_held.proofs.Common.{rules}
 use Rattle.sim_held.specs.Servers.{has_some}
 use Rattle.sim_held.proofs.waiting.drop_empty.Goals as goal
 
-pub returns : goal.returns
-returns c = filter_same _ has_some _ (λ x b f' k. search rules) _ _ c.retain.ensures.filtered
+pub returns-clause-said : goal.returns-clause-said
+returns-clause-said c = filter_same _ has_some _ (λ x b f' k. search rules) _ _ c.retain.ensures.filtered
