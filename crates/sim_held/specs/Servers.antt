@@ -1,6 +1,6 @@
 -- What a server that is held is to its callers, and what a call makes of it.
 use Rattle.std.specs.{List.flat_map, Prelude.◌≡◌, Prelude.ℕ, Prelude.◌<◌, Prelude.◌≤◌, Prelude.Bool, Prelude.true, Prelude.false, Prelude.◌&&◌, Prelude.List, Prelude.[]}
-use Rattle.std.specs.Prelude.{◌++◌, if◌then◌else◌, nat_lt, nat_le, ◌==◌, All, Some, None, Ok, Err, Option, Result}
+use Rattle.std.specs.Prelude.{◌∷◌, ◌++◌, if◌then◌else◌, nat_lt, nat_le, ◌==◌, All, Some, None, Ok, Err, Option, Result}
 use Rattle.sim_base.specs.declared.{memory.OutOfMemory.OutOfMemory, setup.Setup.Setup}
 use Rattle.sim_pipes.specs.Posts.{told_to}
 use Rattle.sim_held.specs.declared.stage.Went.{TheVariants.Idle, Went}
@@ -19,13 +19,18 @@ AreSmall said = All (All (λ post. IsSmallDown post.down)) said
 
 -- there are so many clients; and all that waits, and all that is kept, has frames
 pub record IsReady (clients : ℕ) (server : View) (said : List (List (PostOf (List ℕ)))) : Type 0 where
-  pub clients : clients ≡ server.rules.clients
-  pub server : IsSmallServer (server_of server)
-  pub said : AreSmall said
+  pub count : clients ≡ server.rules.clients
+  pub keeps : IsSmallServer (server_of server)
+  pub waits : AreSmall said
 
 -- what waits for a client, in order
 abbrev pub waiting : List (List (PostOf (List ℕ))) → ℕ → List (DownOf (List ℕ))
 waiting said c = flat_map (told_to c) said
+
+-- there is a post in a list
+abbrev pub has_some : List (PostOf (List ℕ)) → Bool
+has_some [] = false
+has_some (post ∷ rest) = true
 
 -- the frames of what waits for a client, one behind another
 abbrev pub frames_for : List (List (PostOf (List ℕ))) → ℕ → List ℕ
@@ -42,12 +47,16 @@ pub record Hears (a : Arrival (List ℕ)) (old new : ServerView) : Type 0 where
   pub said : (d : ℕ) → 0 < d → d ≤ old.server.rules.clients
       → waiting new.said d ≡ waiting old.said d ++ posts old.server.rules (server_of old.server) a d
 
+-- the end of a client's connection
+abbrev pub gone : ℕ → Arrival (List ℕ)
+gone c = Cut c
+
 -- a client is cut off: what waits for it is dropped, and the server sees it gone
 pub record CutsOff (c : ℕ) (old new : ServerView) : Type 0 where
   pub rules : new.server.rules ≡ old.server.rules
-  pub server : server_of new.server ≡ heard old.server.rules (server_of old.server) (Cut c)
+  pub server : server_of new.server ≡ heard old.server.rules (server_of old.server) (gone c)
   pub said : (d : ℕ) → 0 < d → d ≤ old.server.rules.clients
-      → waiting new.said d ≡ (if d == c then [] else waiting old.said d) ++ posts old.server.rules (server_of old.server) (Cut c) d
+      → waiting new.said d ≡ (if d == c then [] else waiting old.said d) ++ posts old.server.rules (server_of old.server) (gone c) d
 
 -- nothing has changed
 pub record Stays (old new : ServerView) : Type 0 where

@@ -10,6 +10,6 @@ PlaysOnce (Some act) life out there life' out' = (there ≡ true) × Acts act ou
 
 -- a run has come to this
 pub record RanOn (run : Run) (out : List ℕ) (turns : ℕ) (life' : Life) (out' : List ℕ) : Type 0 where
-  pub turns : turns ≡ run.turns
-  pub life : life' ≡ run.life
-  pub says : out' ≡ out ++ frames_of run.says
+  pub many : turns ≡ run.turns
+  pub becomes : life' ≡ run.life
+  pub adds : out' ≡ out ++ frames_of run.says

@@ -34,7 +34,7 @@ pub fn say(outbox: &mut Outbox, did: Did) -> Result<Went, OutOfMemory>
 /// Wishes to join.
 pub fn join(stage: &mut Stage, outbox: &mut Outbox) -> Result<Went, OutOfMemory>
     ensures goes { Goes (joins (life_at stage.old)) (life_at stage.old) outbox.old result (life_at stage.new) outbox.new }
-    ensures sound { (setup : AnySetup) → OnOk result (IsStage setup stage.old → IsStage setup stage.new) }
+    ensures sound { (setup : AnySetup) → IsStage setup stage.old → IsStage setup stage.new }
 {
     let Stage::Off = stage else {
         return Ok(Went::Idle);
@@ -88,9 +88,9 @@ pub fn play(
     requires sound { IsStage setup.now stage.old }
     ensures ran { IfOk result (λ turns. RanOn (runs setup.now most (life_at stage.old)) outbox.old turns (life_at stage.new) outbox.new) }
     ensures sound { OnOk result (IsStage setup.now stage.new) }
-    ensures light { may_run setup.now (life_at stage.old) ≡ false → IsOk result }
+    ensures none { may_run setup.now (life_at stage.old) ≡ false → result ≡ Ok 0 }
 {
-    if most == 0 || !may_play(setup, stage) {
+    if !may_play(setup, stage) {
         return Ok(0);
     }
     let Stage::On { state, seat } = stage else {
@@ -106,7 +106,7 @@ pub fn settle<T: Drop>(
     came: Result<T, OutOfMemory>,
 ) -> Result<T, OutOfMemory>
     ensures same { result ≡ came }
-    ensures ok { OnOk came ((stage.new ≡ stage.old) × (outbox.new ≡ outbox.old)) }
+    ensures ok { OnOk came ((life_at stage.new ≡ life_at stage.old) × (outbox.new ≡ outbox.old)) }
     ensures err { OnErr came ((life_at stage.new ≡ Off) × (outbox.new ≡ [])) }
     ensures sound { (setup : AnySetup) → OnOk came (IsStage setup stage.old) → IsStage setup stage.new }
 {

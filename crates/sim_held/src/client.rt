@@ -37,6 +37,11 @@ impl Model for HeldClient {
 
     ghost Value = { ClientView };
 
+    ghost use Rattle.sim_held.specs.contracts.stage.Stage as stage_row;
+    ghost use Rattle.std.specs.Coded.{codes};
+
+    ghost coded = { Prim.hlevel (codes, stage_row.the_row.coded) };
+
     ghost view = { λ c. record { setup = c.setup; number = c.number; stage = c.stage; outbox = c.outbox } };
 
     ghost invariant = { λ c. IsSound c.setup c.number c.stage };
@@ -73,8 +78,8 @@ impl HeldClient {
         ensures steps { Steps (joins (life self.old)) (life self.old) self.old.outbox result (life self.new) self.new.outbox }
         ensures same { IsSame self.old self.new }
     {
-        let result = join(&mut self.stage, &mut self.outbox);
-        settle(&mut self.stage, &mut self.outbox, result)
+        let came = join(&mut self.stage, &mut self.outbox);
+        settle(&mut self.stage, &mut self.outbox, came)
     }
 
     /// Gives the command that bytes spell, a list in JSON of the kind and what follows it, as in a match file behind the player. It is of
@@ -84,14 +89,14 @@ impl HeldClient {
             (life self.new) self.new.outbox }
         ensures same { IsSame self.old self.new }
     {
-        let result = order(
+        let came = order(
             self.alloc,
             &self.setup,
             &mut self.stage,
             &mut self.outbox,
             command,
         );
-        settle(&mut self.stage, &mut self.outbox, result)
+        settle(&mut self.stage, &mut self.outbox, came)
     }
 
     /// Hears a frame of the server. Bytes that are none are refused, and nothing changes.
@@ -102,14 +107,14 @@ impl HeldClient {
             × Stays (life self.old) self.old.outbox (life self.new) self.new.outbox }
         ensures same { IsSame self.old self.new }
     {
-        let result = hear_frame(
+        let came = hear_frame(
             self.alloc,
             &self.setup,
             &mut self.stage,
             &mut self.outbox,
             frame,
         );
-        settle(&mut self.stage, &mut self.outbox, result)
+        settle(&mut self.stage, &mut self.outbox, came)
     }
 
     /// Is cut off: it is off, and nothing waits to be sent.
@@ -128,14 +133,14 @@ impl HeldClient {
         ensures none { may_run self.old.setup (life self.old) ≡ false → result ≡ Ok 0 }
         ensures same { IsSame self.old self.new }
     {
-        let result = play(
+        let came = play(
             self.alloc,
             &self.setup,
             &mut self.stage,
             &mut self.outbox,
             most,
         );
-        settle(&mut self.stage, &mut self.outbox, result)
+        settle(&mut self.stage, &mut self.outbox, came)
     }
 
     /// The frames that wait to be sent, one behind another.

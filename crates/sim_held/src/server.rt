@@ -5,7 +5,7 @@ ghost use Rattle.std.specs.Prelude.{◌≡◌, ℕ, ◌≤◌, List, [], ◌&&�
 ghost use Rattle.sim_embed.specs.{Bytes.OfMatch, Causes.IsNoMatch};
 ghost use Rattle.sim_held.specs.Servers.{Answers, CutsOff, Hears, IsServer, IsServerOf, Leaves};
 ghost use Rattle.sim_plain.specs.{Messages.Heard, declared.message.UpOf.UpOf};
-ghost use Rattle.sim_wire.specs.Fits.{IsUpFrame};
+ghost use Rattle.sim_wire.specs.Fits.{IsSmallUp, IsUpFrame};
 
 use crate::stage::Went;
 use crate::waiting::{frames_to, keep, leave};
@@ -95,6 +95,7 @@ impl HeldServer {
 
     // Hears what a client says.
     fn hear_up(&mut self, from: u8, up: Up) -> Result<Went, OutOfMemory>
+        requires { IsSmallUp up }
         ensures { Answers (is_client_of self.old.server from) Went.Done (Hears (Heard from up)) self.old result self.new }
     {
         if !is_client(self.clients, from) {

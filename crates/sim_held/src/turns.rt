@@ -52,7 +52,8 @@ pub fn play_turns(
     ensures playing { OnOk result (IsPlaying setup.now board.new seat.new ⟦<dyn System as System>⟧) }
 {
     for played in 0..most {
-        if !play_once(alloc, setup, orders, board, seat, outbox)? {
+        let there = play_once(alloc, setup, orders, board, seat, outbox)?;
+        if !there {
             return Ok(played);
         }
     }

@@ -1,9 +1,9 @@
 //! What waits for the clients of a server: the posts of each arrival, as they were made, until each client has taken its own. Frames are
 //! made as they are taken.
 
-ghost use Rattle.std.specs.{List.flat_map, Prelude.◌≡◌, Prelude.ℕ, Prelude.◌<◌, Prelude.not, Prelude.[], Prelude.◌∷◌, Prelude.◌++◌, Prelude.map};
+ghost use Rattle.std.specs.{List.flat_map, Prelude.◌≡◌, Prelude.ℕ, Prelude.◌<◌, Prelude.◌≤◌, Prelude.not, Prelude.[], Prelude.◌∷◌, Prelude.◌++◌, Prelude.map};
 ghost use Rattle.std.specs.Prelude.{OnOk, IfOk, All, if◌then◌else◌, ◌==◌, filter, vec_len, vec_capacity};
-ghost use Rattle.{sim_held.specs.Servers.AreSmall, sim_held.specs.Servers.frames_for, sim_held.specs.Servers.waiting, sim_pipes.specs.Posts.told_to};
+ghost use Rattle.{sim_held.specs.Servers.AreSmall, sim_held.specs.Servers.frames_for, sim_held.specs.Servers.has_some as has_some_of, sim_held.specs.Servers.waiting, sim_pipes.specs.Posts.told_to};
 ghost use Rattle.sim_wire.specs.{Fits.IsSmallDown, Frames.down_frame};
 
 use sim_base::{Items, OutOfMemory};
@@ -20,15 +20,25 @@ fn push_frame(alloc: Global, out: &mut Vec<u8>, down: &Down) -> Result<(), OutOf
     Ok(())
 }
 
+// Appends the frame of a post, if it is to this client.
+#[tactic(auto, using(crate::proofs::Frames::flat_map_one))]
+fn push_post(alloc: Global, out: &mut Vec<u8>, to: u8, post: &Post) -> Result<(), OutOfMemory>
+    requires { IsSmallDown post.now.down }
+    ensures { OnOk result (out.new.items ≡ out.old.items ++ flat_map down_frame (told_to to (post.now ∷ []))) }
+{
+    if post.to == to {
+        push_frame(alloc, out, &post.down)?;
+    }
+    Ok(())
+}
+
 // Appends the frames of the posts to a client.
 fn push_posts(alloc: Global, out: &mut Vec<u8>, to: u8, posts: &[Post]) -> Result<(), OutOfMemory>
     requires { All (λ post. IsSmallDown post.down) posts.now }
     ensures { OnOk result (out.new.items ≡ out.old.items ++ flat_map down_frame (told_to to posts.now)) }
 {
     for post in posts {
-        if post.to == to {
-            push_frame(alloc, out, &post.down)?;
-        }
+        push_post(alloc, out, to, post)?;
     }
     Ok(())
 }
@@ -56,21 +66,41 @@ fn others_of(posts: Posts, to: u8) -> Posts
 
 // Leaves the posts to all other clients in each list.
 fn keep_others(alloc: Global, said: &mut Vec<Posts>, to: u8)
-    ensures { said.new.items ≡ map (filter (λ post. not (post.to == to))) said.old.items }
+    ensures said { said.new.items ≡ map (filter (λ post. not (post.to == to))) said.old.items }
+    ensures room { (vec_len said.new ≡ vec_len said.old) × (vec_capacity said.new ≡ vec_capacity said.old) }
 {
-    for i in 0..said.len() {
-        let posts = std::mem::replace(&mut said[i], Items::new(alloc));
-        said[i] = others_of(posts, to);
+    for posts in said.iter_mut() {
+        let old = std::mem::replace(posts, Items::new(alloc));
+        *posts = others_of(old, to);
     }
+}
+
+// Whether there is a post in a list.
+fn has_some(posts: &Posts) -> bool
+    ensures { result ≡ has_some_of posts.now }
+{
+    match posts.as_slice() {
+        [] => false,
+        [_, ..] => true,
+    }
+}
+
+// Drops the lists that have no post.
+fn drop_empty(said: &mut Vec<Posts>)
+    ensures said { said.new.items ≡ filter has_some_of said.old.items }
+    ensures room { (vec_len said.new ≤ vec_len said.old) × (vec_capacity said.new ≡ vec_capacity said.old) }
+{
+    said.retain(|posts| has_some(posts));
 }
 
 /// Drops all that waits for a client.
 pub fn leave(alloc: Global, said: &mut Vec<Posts>, to: u8)
     ensures said { (d : ℕ) → waiting said.new.items d ≡ (if d == to then [] else waiting said.old.items d) }
     ensures small { AreSmall said.old.items → AreSmall said.new.items }
+    ensures room { (vec_len said.new ≤ vec_len said.old) × (vec_capacity said.new ≡ vec_capacity said.old) }
 {
     keep_others(alloc, said, to);
-    said.retain(|posts| !posts.as_slice().is_empty());
+    drop_empty(said);
 }
 
 /// Puts the posts of an arrival behind all that waits. There has to be room for them.
@@ -79,7 +109,7 @@ pub fn keep(said: &mut Vec<Posts>, posts: Posts)
     ensures said { (d : ℕ) → waiting said.new.items d ≡ waiting said.old.items d ++ told_to d posts }
     ensures small { AreSmall said.old.items → All (λ post. IsSmallDown post.down) posts → AreSmall said.new.items }
 {
-    if posts.as_slice().is_empty() {
+    if !has_some(&posts) {
         return;
     }
     let Ok(()) = said.push(posts) else {

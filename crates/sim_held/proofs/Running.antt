@@ -1,0 +1,87 @@
+-- Turns that a client plays one behind another.
+use Rattle.sim_base.specs.declared.setup.Setup.{Setup}
+use Rattle.{sim_base.specs.declared.memory.OutOfMemory.OutOfMemory, sim_client.specs.ClientWords.Answers, sim_client.specs.declared.did.Did.Did}
+use Rattle.sim_held.proofs.Common.{◌≡◌, ℕ, zero, suc, ◌+◌, ◌≤◌, ◌⊎◌, Bool, true, false, List, ◌++◌, if◌then◌else◌, Some, None, Ok, Option, refl, ap, append_assoc, arith}
+use Rattle.sim_held.proofs.Common.{Acts, Act, append-nil, cases_eq, flat_map-append, frames_of, inl, inr, Life, plays, subst, sym, up_frame, ◌∙◌}
+use Rattle.{sim_client.specs.Lives.may_play, sim_client.specs.Lives.On, sim_client.specs.Lives.Off, sim_client.specs.Lives.Joining, sim_client.specs.Lives.played, sim_client.specs.Lives.told}
+use Rattle.sim_held.specs.{Acting.may_run, Runs.goes_on, Runs.Run, Runs.runs, Turns.PlaysOnce, Turns.RanOn}
+use Rattle.std.proofs.lemmas.Bool.{false≢true}
+use Rattle.sim_client.specs.declared.did.Did.TheVariants as did
+
+-- where there is no next turn, a longer run is the same
+pub runs_rest : (setup : Setup) (n : ℕ) (life : Life) → plays setup (runs setup n life).life ≡ None → (m : ℕ) → n ≤ m → runs setup m life ≡ runs setup n life
+runs_rest setup n life none zero le =
+    let e : 0 ≡ n = omega (arith, le) in
+    ap (λ (k : ℕ). runs setup k life) e
+runs_rest setup n life none (suc m) le = by (cases_eq n (suc m)) (λ (h : n ≤ m). runs_rest setup n life none m h)
+  where
+    by : (n ≡ suc m) ⊎ (n ≡ suc m → ⊥) → (n ≤ m → runs setup m life ≡ runs setup n life) → runs setup (suc m) life ≡ runs setup n life
+    by (inl e) rec = ap (λ (k : ℕ). runs setup k life) (sym e)
+    by (inr apart) rec =
+        ap (λ (r : Run). goes_on (plays setup r.life) r) (rec (omega (arith, le, apart)))
+        ∙ ap (λ (a : Option Act). goes_on a (runs setup n life)) none
+
+plays_none : (setup : Setup) (life : Life) → may_run setup life ≡ false → plays setup life ≡ None
+plays_none setup Off none = refl
+plays_none setup Joining none = refl
+plays_none setup (On player) none = ap (λ (b : Bool). if b then Some (told setup (played setup player)) else None) none
+
+-- nothing is played where no turn is released
+pub no_run : (setup : Setup) (life : Life) (out : List ℕ) (most : ℕ) → may_run setup life ≡ false → RanOn (runs setup most life) out 0 life out
+no_run setup life out most none =
+    let same = runs_rest setup 0 life (plays_none setup life none) most (omega arith) in
+    record {
+      many = ap (λ (r : Run). r.turns) (sym same);
+      becomes = ap (λ (r : Run). r.life) (sym same);
+      adds = sym (append-nil out) ∙ ap (λ (r : Run). out ++ frames_of r.says) (sym same);
+    }
+
+-- a turn that is told, or none
+pub idle_once : (act : Option Act) (old new : Life) (out : List ℕ) → Answers act old (Ok did.Idle) new → PlaysOnce act old out false new out
+idle_once None old new out h = (refl, (h, refl))
+idle_once (Some act) old new out h = absurd h
+
+pub done_once : (act : Option Act) (old new : Life) (out out' : List ℕ) (ups : _) → Answers act old (Ok (did.Done ups)) new → out' ≡ out ++ frames_of ups
+    → PlaysOnce act old out true new out'
+done_once None old new out out' ups h is = absurd h
+done_once (Some act) old new out out' ups h is = (refl, (h.0, is ∙ ap (λ s. out ++ frames_of s) h.1))
+
+module _ (setup : Setup) (n : ℕ) (life : Life) (out : List ℕ) (old new : Life) (o o' : List ℕ) (ran : RanOn (runs setup n life) out n old o) where
+  abbrev run : Run
+  run = runs setup n life
+
+  -- what the next turn makes of the run
+  next : (there : Bool) → PlaysOnce (plays setup old) old o there new o' → PlaysOnce (plays setup run.life) old o there new o'
+  next there h = subst (λ (l : Life). PlaysOnce (plays setup l) old o there new o') ran.becomes h
+
+  more : (act : Option Act) → PlaysOnce act old o true new o' → RanOn (goes_on act run) out (suc n) new o'
+  more None h = absurd (false≢true (sym h.0))
+  more (Some act) h = record {
+    many = ap suc ran.many;
+    becomes = h.1.0;
+    adds =
+        h.1.1 ∙ ap (λ l. l ++ frames_of act.says) ran.adds ∙ append_assoc out (frames_of run.says) (frames_of act.says)
+        ∙ ap (λ l. out ++ l) (sym (flat_map-append up_frame run.says act.says));
+  }
+
+  -- one turn more
+  pub ran_more : (there : Bool) → there ≡ true → PlaysOnce (plays setup old) old o there new o' → RanOn (runs setup (n + 1) life) out (n + 1) new o'
+  ran_more there is h =
+      let one : suc n ≡ n + 1 = omega arith in
+      subst (λ (k : ℕ). RanOn (runs setup k life) out k new o') one
+      (more (plays setup run.life) (next true (subst (λ (b : Bool). PlaysOnce (plays setup old) old o b new o') is h)))
+
+  last : (m : ℕ) → n ≤ m → (act : Option Act) → plays setup run.life ≡ act → PlaysOnce act old o false new o' → RanOn (runs setup m life) out n new o'
+  last m le (Some act) e h = absurd (false≢true h.0)
+  last m le None e h =
+      let same = runs_rest setup n life e m le in
+      record {
+        many = ran.many ∙ ap (λ (r : Run). r.turns) (sym same);
+        becomes = h.1.0 ∙ ran.becomes ∙ ap (λ (r : Run). r.life) (sym same);
+        adds = h.1.1 ∙ ran.adds ∙ ap (λ (r : Run). out ++ frames_of r.says) (sym same);
+      }
+
+  -- none more, however many might be
+  pub ran_out : (m : ℕ) → n ≤ m → (there : Bool) → there ≡ false → PlaysOnce (plays setup old) old o there new o' → RanOn (runs setup m life) out n new o'
+  ran_out m le there is h =
+      last m le (plays setup run.life) refl (next false (subst (λ (b : Bool). PlaysOnce (plays setup old) old o b new o') is h))

@@ -1,0 +1,78 @@
+-- What a client says has frames.
+use Rattle.{sim_base.specs.Limits.HasFewIds, sim_base.specs.Limits.IsSetup, sim_base.specs.Validity.IsValid}
+use Rattle.sim_base.specs.declared.{command.Command.Command, memory.OutOfMemory.OutOfMemory, setup.Setup.Setup, state.State.State}
+use Rattle.std.specs.Prelude.{◌&&◌, nat_lt, ◌==◌}
+use Rattle.sim_client.specs.{ClientWords.Answers, declared.did.Did.Did, declared.did.Did.TheVariants.Done, declared.did.Did.TheVariants.Idle}
+use Rattle.sim_client.specs.LifeLaws.{says_of}
+use Rattle.sim_client.specs.Lives.{begins, hands_on, may_order, may_play, may_tell_done, ordered, played, report_of, Told, told, told_alone, told_with_done}
+use Rattle.{sim_plain.specs.Functions.put, sim_plain_session.specs.Pasts.is_client, sim_plain_session.specs.Players.Player, sim_held.specs.Acting.said_by}
+use Rattle.sim_held.proofs.Common.{◌≡◌, ℕ, suc, Bool, true, false, List, [], ◌∷◌, ◌++◌, Some, None, Ok, Option, All, All-cons, All-nil, if◌then◌else◌, refl, subst, sym}
+use Rattle.sim_held.proofs.Common.{Act, hears, IsSmallUp, Joining, Life, Off, On, orders, plays}
+use Rattle.sim_held.proofs.Spelled.{states_are_short}
+use Rattle.sim_base.specs.Spelling.{spelling}
+use Rattle.sim_plain.specs.declared.message.DownOf.TheVariants as down
+use Rattle.sim_plain.specs.declared.message.UpOf.TheVariants as up
+
+none : All IsSmallUp []
+none = All-nil IsSmallUp
+
+orders_small : (setup : Setup) (command : Command) (l : Life) → HasFewIds command → All IsSmallUp (says_of (orders setup command l))
+orders_small setup command Off few = none
+orders_small setup command Joining few = none
+orders_small setup command (On player) few = by (may_order setup player)
+  where
+    by : (b : Bool) → All IsSmallUp (says_of (if b then Some (ordered command player) else None))
+    by true = All-cons IsSmallUp (up.Command (suc player.done) command) [] few none
+    by false = none
+
+plays_small : (setup : Setup) (l : Life) → All IsSmallUp (says_of (plays setup l))
+plays_small setup Off = none
+plays_small setup Joining = none
+plays_small setup (On player) = by (may_play setup player)
+  where
+    done : (b : Bool) (p : Player) → All IsSmallUp (if b then told_with_done setup p else told_alone setup p).says
+    done true p = All-cons IsSmallUp (report_of setup p) (up.Done (suc p.done) ∷ []) tt (All-cons IsSmallUp (up.Done (suc p.done)) [] tt none)
+    done false p = All-cons IsSmallUp (report_of setup p) [] tt none
+
+    by : (b : Bool) → All IsSmallUp (says_of (if b then Some (told setup (played setup player)) else None))
+    by true = done (may_tell_done setup (played setup player)) (played setup player)
+    by false = none
+
+hears_small : (setup : Setup) (said : Told) (player : Player) → IsSetup setup → IsValid setup player.state → All IsSmallUp
+    (says_of (hears setup None said (On player)))
+hears_small setup (down.Ask j) player limits valid = All-cons IsSmallUp (up.State j player.state.turn (spelling setup player.state)) []
+    (states_are_short setup player.state limits valid) none
+hears_small setup (down.State done bytes) player limits valid = none
+hears_small setup (down.Command t order) player limits valid = by (nat_lt player.state.turn t && is_client setup order.player)
+  where
+    by : (b : Bool) → All IsSmallUp
+        (says_of (if b then Some (record { life = On (record player { known = put t (player.known t ++ order ∷ []) player.known }); says = [] }) else None))
+    by true = none
+    by false = none
+hears_small setup (down.Release t) player limits valid = by (nat_lt player.released t)
+  where
+    by : (b : Bool) → All IsSmallUp (says_of (if b then Some (record { life = On (record player { released = t }); says = [] }) else None))
+    by true = none
+    by false = none
+hears_small setup (down.Notice t j) player limits valid = none
+hears_small setup (down.Refused code) player limits valid = none
+
+-- what was said has frames, where what is to be said has them
+said_small : (act : Option Act) (old : Life) (did : Did) (new : Life) → Answers act old (Ok did) new → All IsSmallUp (says_of act)
+    → All IsSmallUp (said_by did)
+said_small None old Idle new h small = none
+said_small None old (Done ups) new h small = absurd h
+said_small (Some act) old Idle new h small = absurd h
+said_small (Some act) old (Done ups) new h small = subst (All IsSmallUp) (sym h.1) small
+
+pub order_small : (setup : Setup) (command : Command) (old : Life) (did : Did) (new : Life) → HasFewIds command → Answers (orders setup command old) old
+    (Ok did) new → All IsSmallUp (said_by did)
+order_small setup command old did new few answers = said_small (orders setup command old) old did new answers (orders_small setup command old few)
+
+pub play_small : (setup : Setup) (old : Life) (did : Did) (new : Life) → Answers (plays setup old) old (Ok did) new → All IsSmallUp (said_by did)
+play_small setup old did new answers = said_small (plays setup old) old did new answers (plays_small setup old)
+
+pub hear_small : (setup : Setup) (said : Told) (player : Player) (did : Did) (new : Life) → IsSetup setup → IsValid setup player.state
+    → Answers (hears setup None said (On player)) (On player) (Ok did) new → All IsSmallUp (said_by did)
+hear_small setup said player did new limits valid answers =
+    said_small (hears setup None said (On player)) (On player) did new answers (hears_small setup said player limits valid)

@@ -1,0 +1,82 @@
+-- What waits for each client of a server, as lists of posts come and go.
+use Rattle.std.proofs.{Common.◌==◌, lemmas.List.Elements.All-filter}
+use Rattle.sim_held.proofs.Common.{not, ◌≡◌, ℕ, Bool, true, false, ◌⊎◌, List, [], ◌∷◌, ◌++◌, map, if◌then◌else◌, All, ap, append-nil, All-append, All-cons, All-nil}
+use Rattle.sim_held.proofs.Common.{All-head, All-tail, cases_eq, cond-false, cond-true, DownOf, eq-eqb, filter, flat_map-append, flat_map-cons, inl, inr, IsSmallDown}
+use Rattle.sim_held.proofs.Common.{ne_eqb, PostOf, refl, sym, told_to, ◌∙◌}
+use Rattle.sim_held.proofs.Frames.{flat_map_one}
+use Rattle.sim_held.specs.Servers.{AreSmall, has_some, waiting}
+
+abbrev Post : Type 0
+Post = PostOf (List ℕ)
+
+-- the posts to others
+abbrev pub others : ℕ → List Post → List Post
+others c = filter (λ post. not (post.to == c))
+
+told_none : (c : ℕ) (posts : List Post) → told_to c (others c posts) ≡ []
+told_none c [] = refl
+told_none c (x ∷ xs) = by (cases_eq x.to c) (told_none c xs)
+  where
+    by : (x.to ≡ c) ⊎ (x.to ≡ c → ⊥) → told_to c (others c xs) ≡ [] → told_to c (others c (x ∷ xs)) ≡ []
+    by (inl e) rec = ap (λ (b : Bool). told_to c (if not b then x ∷ others c xs else others c xs)) (eq-eqb x.to c e) ∙ rec
+    by (inr ne) rec =
+        ap (λ (b : Bool). told_to c (if not b then x ∷ others c xs else others c xs)) (ne_eqb x.to c ne)
+        ∙ ap (λ (b : Bool). if b then x.down ∷ told_to c (others c xs) else told_to c (others c xs)) (ne_eqb x.to c ne) ∙ rec
+
+told_same : (c d : ℕ) (posts : List Post) → (d ≡ c → ⊥) → told_to d (others c posts) ≡ told_to d posts
+told_same c d [] apart = refl
+told_same c d (x ∷ xs) apart = by (cases_eq x.to c) (told_same c d xs apart)
+  where
+    by : (x.to ≡ c) ⊎ (x.to ≡ c → ⊥) → told_to d (others c xs) ≡ told_to d xs → told_to d (others c (x ∷ xs)) ≡ told_to d (x ∷ xs)
+    by (inl e) rec =
+        ap (λ (b : Bool). told_to d (if not b then x ∷ others c xs else others c xs)) (eq-eqb x.to c e) ∙ rec
+        ∙ sym (ap (λ (b : Bool). if b then x.down ∷ told_to d xs else told_to d xs) (ne_eqb x.to d (λ h. apart (sym h ∙ e))))
+    by (inr ne) rec =
+        ap (λ (b : Bool). told_to d (if not b then x ∷ others c xs else others c xs)) (ne_eqb x.to c ne)
+        ∙ ap (λ (l : List (DownOf (List ℕ))). if x.to == d then x.down ∷ l else l) rec
+
+none_waits : (c : ℕ) (said : List (List Post)) → waiting (map (others c) said) c ≡ []
+none_waits c [] = refl
+none_waits c (x ∷ xs) = flat_map-cons (told_to c) (others c x) (map (others c) xs) ∙ (λ i. told_none c x i ++ none_waits c xs i)
+
+same_waits : (c d : ℕ) (said : List (List Post)) → (d ≡ c → ⊥) → waiting (map (others c) said) d ≡ waiting said d
+same_waits c d [] apart = refl
+same_waits c d (x ∷ xs) apart =
+    flat_map-cons (told_to d) (others c x) (map (others c) xs) ∙ (λ i. told_same c d x apart i ++ same_waits c d xs apart i)
+    ∙ sym (flat_map-cons (told_to d) x xs)
+
+-- what waits for one is gone, and what waits for another is as it was
+pub others_wait : (c d : ℕ) (said : List (List Post)) → waiting (map (others c) said) d ≡ (if d == c then [] else waiting said d)
+others_wait c d said = by (cases_eq d c)
+  where
+    by : (d ≡ c) ⊎ (d ≡ c → ⊥) → waiting (map (others c) said) d ≡ (if d == c then [] else waiting said d)
+    by (inl e) = ap (λ (k : ℕ). waiting (map (others c) said) k) e ∙ none_waits c said ∙ sym (cond-true _ [] (waiting said d) (eq-eqb d c e))
+    by (inr apart) = same_waits c d said apart ∙ sym (cond-false _ [] (waiting said d) (ne_eqb d c apart))
+
+-- lists with nothing in them hold nothing back
+pub full_waits : (d : ℕ) (said : List (List Post)) → waiting (filter has_some said) d ≡ waiting said d
+full_waits d [] = refl
+full_waits d ([] ∷ xs) = full_waits d xs ∙ sym (flat_map-cons (told_to d) [] xs)
+full_waits d ((x ∷ more) ∷ xs) =
+    flat_map-cons (told_to d) (x ∷ more) (filter has_some xs) ∙ ap (λ l. told_to d (x ∷ more) ++ l) (full_waits d xs)
+    ∙ sym (flat_map-cons (told_to d) (x ∷ more) xs)
+
+-- one list more
+pub more_waits : (d : ℕ) (said : List (List Post)) (posts : List Post) → waiting (said ++ posts ∷ []) d ≡ waiting said d ++ told_to d posts
+more_waits d said posts = flat_map-append (told_to d) said (posts ∷ []) ∙ ap (λ l. waiting said d ++ l) (flat_map_one (told_to d) posts)
+
+-- what stays has frames
+pub others_small : (c : ℕ) (said : List (List Post)) → AreSmall said → AreSmall (map (others c) said)
+others_small c [] small = All-nil _
+others_small c (x ∷ xs) small =
+    All-cons (All (λ (post : Post). IsSmallDown post.down)) (others c x) (map (others c) xs)
+    (All-filter (λ post. not (post.to == c)) (λ (post : Post). IsSmallDown post.down) x (All-head (All (λ (post : Post). IsSmallDown post.down)) x xs small))
+    (others_small c xs (All-tail (All (λ (post : Post). IsSmallDown post.down)) x xs small))
+
+pub full_small : (said : List (List Post)) → AreSmall said → AreSmall (filter has_some said)
+full_small said small = All-filter has_some (All (λ (post : Post). IsSmallDown post.down)) said small
+
+pub more_small : (said : List (List Post)) (posts : List Post) → AreSmall said → All (λ (post : Post). IsSmallDown post.down) posts
+    → AreSmall (said ++ posts ∷ [])
+more_small said posts small fits = All-append (All (λ (post : Post). IsSmallDown post.down)) said (posts ∷ []) small
+    (All-cons (All (λ (post : Post). IsSmallDown post.down)) posts [] fits (All-nil (All (λ (post : Post). IsSmallDown post.down))))

@@ -1,0 +1,40 @@
+-- A call through the box of a planner is a call of `planned`, which may be given a command of each kind; and each kind has a
+-- handler.
+use denote.Param.Callables.{held_fn, Sure}
+use Rattle.std.proofs.Common.{ℕ, ◌+◌, refl, arith, subst, sym}
+use Rattle.sim_base.specs.declared.{command.Command.Command, setup.Setup.Setup, state.State.State}
+use Rattle.{sim_embed.proofs.Keyed.AreKeyedBelow, sim_embed.proofs.Keyed.AreKeyedBelow-append, sim_held.proofs.boards.play_over.OwnLists.own-2}
+use Rattle.sim_orders.specs.{Orders.IsGiven, Orders.kind_of, Orders.Obeys, declared.help.Help.Help}
+use Rattle.sim_held.proofs.boards.play_over.Goals as goal
+
+of_kind : (kind : ℕ) (setup : Setup) (state : State) (help : Help) (player : ℕ) (command : Command)
+    → IsGiven kind setup state help player command → IsGiven (kind_of command) setup state help player command
+of_kind kind setup state help player command given = record {
+  limits = given.limits;
+  valid = given.valid;
+  player_is = given.player_is;
+  help_is = given.help_is;
+  kind_is = refl;
+}
+
+pub invariant_of-push : goal.invariant_of-push
+invariant_of-push g c =
+    record {
+      may_run = λ alloc setup state help player command given.
+          let r : (w : _) → Sure ((held_fn own-2).pre (c.into_dyn_box.result.vtable, w) (alloc, (setup, (state, (help, (player, (command, tt {0}))))))) =
+          rw c.into_dyn_box.ensures.0 (λ w. ∣ of_kind _ setup.now state.now help.now player command.now given ∣₁) in
+          r c.into_dyn_box.result.value;
+      obeys = λ alloc setup state help player command result given done.
+          let r : (w : _) → (held_fn own-2).post (c.into_dyn_box.result.vtable, w) (alloc, (setup, (state, (help, (player, (command, tt {0})))))) result
+          → Obeys setup.now state.now player command.now result =
+          rw c.into_dyn_box.ensures.0 (λ w so. so.1) in
+          r c.into_dyn_box.result.value done;
+    }
+
+pub loop-kind-preserved : goal.loop-kind-preserved
+loop-kind-preserved g c =
+    subst (λ hs. AreKeyedBelow (λ (h : _). h.kind) hs (c.loop-kind.kind + 1)) (sym c.in_ok-push.ensures.items)
+    (AreKeyedBelow-append (λ (h : _). h.kind) c.loop-kind.handlers.items _ c.loop-kind.kind refl c.loop-kind.invariant)
+
+pub new-orders-requires : goal.new-orders-requires
+new-orders-requires g c kind low high = c.loop-kind.invariant.once kind low (omega (arith, high, c.loop-kind-test.false))

@@ -1,0 +1,21 @@
+-- What is said has frames, and is what the definition says.
+use Rattle.sim_client.specs.{Lives.hears, Lives.On, StageWords.player_at}
+use Rattle.sim_held.proofs.{Common.Goes, Common.IsStage, Common.life_at, Common.None, Common.subst, Common.sym, Small.hear_small}
+use Rattle.sim_held.proofs.hearing.hear_on.Goals as goal
+
+pub say-requires : goal.say-requires
+say-requires c =
+    let setup = c.args.setup.now in
+    let state = c.in-On.state in
+    let was = subst (IsStage setup) c.in-On.is c.requires.sound in
+    hear_small setup c.args.down (player_at state c.in-On.seat) c.in_ok-did.did (On (player_at state c.heed.new.seat)) c.requires.limits was.valid
+    (c.in_ok-did.ensures.answers None)
+
+pub returns-clause-goes : goal.returns-clause-goes
+returns-clause-goes c = λ loaded.
+    let setup = c.args.setup.now in
+    let state = c.in-On.state in
+    let old = On (player_at state c.in-On.seat) in
+    let new = On (player_at state c.heed.new.seat) in
+    subst (λ at. Goes (hears setup loaded c.args.down (life_at at)) (life_at at) c.args.outbox.now c.say.result new c.say.new.outbox) (sym c.in-On.is)
+    (c.say.ensures (hears setup loaded c.args.down old) old new (c.in_ok-did.ensures.answers loaded))

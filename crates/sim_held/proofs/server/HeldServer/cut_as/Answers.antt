@@ -1,0 +1,33 @@
+-- What is said has frames, and waits behind the rest.
+use Rattle.sim_held.proofs.{Common.ap, Common.Ok, Common.[], Common.◌++◌, Common.if◌then◌else◌, Common.told_to, Common.subst, Common.sym, Common.◌∙◌, Serving.answered, Serving.cut_by, Serving.ready_after}
+use Rattle.{sim_plain.specs.Messages.Cut, sim_pipes.proofs.Answering.have_frames}
+use Rattle.std.proofs.{Common.◌==◌}
+use Rattle.std.specs.Prelude.{◌&&◌, nat_le, nat_lt}
+use Rattle.sim_held.specs.Servers.{AreSmall, CutsOff, waiting}
+use Rattle.sim_held.proofs.server.HeldServer.cut_as.Goals as goal
+
+pub invariant_of-self-in_err-posts : goal.invariant_of-self-in_err-posts
+invariant_of-self-in_err-posts c =
+    let before = c.self.inside in
+    ready_after before.clients before.server (Cut c.args.client) c.cut.result c.cut.new.self before.said.items _ c.self.invariant tt
+    c.cut.ensures.made (subst AreSmall (sym c.in_ok-reserve.ensures.items) c.self.invariant.waits)
+
+pub invariant_of-self-2 : goal.invariant_of-self-2
+invariant_of-self-2 c =
+    let before = c.self.inside in
+    let a = Cut c.args.client in
+    let made = c.in_ok-posts.ensures.made in
+    ready_after before.clients before.server a (Ok c.in_ok-posts.posts) c.cut.new.self before.said.items c.keep.new.said.items c.self.invariant tt made
+    (c.keep.ensures.small (c.leave.ensures.small (subst AreSmall (sym c.in_ok-reserve.ensures.items) c.self.invariant.waits))
+    (have_frames before.server a (Ok c.in_ok-posts.posts) c.cut.new.self c.self.invariant.keeps tt made))
+
+pub returns : goal.returns
+returns c =
+    let before = c.self.inside in
+    let client = c.args.client in
+    let there = ap (λ n. nat_lt 0 client && nat_le client n) (sym c.self.invariant.count) ∙ sym c.is_client.ensures ∙ c.if-not-is_client.false in
+    rw (← c.self.view_is)
+    (answered _ _ (CutsOff client) _ _ there
+    (cut_by before.server c.cut.new.self client c.in_ok-posts.posts before.said.items c.keep.new.said.items c.in_ok-posts.ensures.made
+    (λ d. c.keep.ensures.said d ∙ ap (λ l. l ++ told_to d c.in_ok-posts.posts)
+    (c.leave.ensures.said d ∙ ap (λ l. if d == client then [] else waiting l d) c.in_ok-reserve.ensures.items))))

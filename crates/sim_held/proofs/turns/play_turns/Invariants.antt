@@ -1,0 +1,12 @@
+-- The run so far, and the board and the seat on which it goes on.
+use Rattle.{sim_board.specs.BoardWords.state_in, sim_client.specs.Lives.On, sim_client.specs.StageWords.IsPlayingBy, sim_client.specs.StageWords.player_at}
+use Rattle.sim_held.specs.{Runs.runs, Turns.RanOn}
+use Rattle.sim_held.proofs.turns.play_turns.Given as goal
+
+abbrev pub invariant-loop-played : goal.invariant-loop-played
+invariant-loop-played g l =
+    record {
+      ran : RanOn (runs l.setup l.played (On (player_at (state_in l.fn.board) l.fn.seat))) l.fn.outbox l.played (On (player_at (state_in l.board) l.seat))
+          l.outbox;
+      playing : IsPlayingBy l.setup l.board l.seat (λ i v. (goal.System-dyn g (i, v)).meaning v);
+    }
