@@ -1,6 +1,7 @@
 //! How what a run came to is put where C wants it: its text and the file that it wrote, both or none.
 
-ghost use Rattle.{std.specs.Prelude.◌≡◌, sim_c.specs.GivesRun.fit, sim_c.specs.GivesRun.GivesRun, sim_c.specs.GivesRun.papers, sim_c.specs.GivesRun.put_if, sim_c.specs.GivesRun.run_status};
+ghost use Rattle.sim_c.specs.GivesRun.{fit, GivesRun, papers, put_if, run_status};
+ghost use Rattle.std.specs.Prelude.{◌≡◌};
 
 use crate::status::{NO_MEMORY, NO_ROOM};
 use sim_embed::put;

@@ -1,6 +1,8 @@
 -- What is packed is read back.
-use Rattle.std.proofs.Common.{◌≡◌, ℕ, zero, suc, ◌^◌, ◌<◌, ◌≤◌, false, ltb, ◌≢◌, List, [], ◌∷◌, ◌++◌, length, Some, refl, ap, arith, ◌∙◌, append_assoc, append-nil, All}
-use Rattle.std.proofs.lemmas.{Bool.le-ltb, Bool.ne_eqb, List.Elements.All-head, List.Elements.All-tail, List.drop_at, List.length-append, List.take_at, Nat.from_le_bytes-to_le_bytes_4}
+use Rattle.std.proofs.Common.{◌≡◌, ℕ, zero, suc, ◌^◌, ◌<◌, ◌≤◌, false, ltb, ◌≢◌, List}
+use Rattle.std.proofs.Common.{[], ◌∷◌, ◌++◌, length, Some, refl, ap, arith, ◌∙◌, append_assoc, append-nil, All}
+use Rattle.std.proofs.lemmas.{Bool.le-ltb, Bool.ne_eqb, List.Elements.All-head, List.Elements.All-tail}
+use Rattle.std.proofs.lemmas.{List.drop_at, List.length-append, List.take_at, Nat.from_le_bytes-to_le_bytes_4}
 use Rattle.std.specs.{Prelude.◌==◌, Prelude.reverse}
 use mathlib.Core.List.{reverse_aux}
 use Rattle.{sim_base.specs.Bytes.u32_bytes, sim_store.specs.Files.File}

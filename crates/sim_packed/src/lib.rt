@@ -8,15 +8,15 @@
 //! - `words`: the words that bytes spell.
 //! - `files`: the files that bytes spell, on a shelf in memory.
 //! - `text`: a sink in memory without a room.
-//! - `out`: the name of the file that words ask to write.
+//! - `storing`: the name of the file that words ask to write.
 //! - `running`: the run.
 //! - `laws`: theorems about the definitions, each the contract of a function that does nothing.
 #![tactic(auto)]
 
 mod files;
 mod laws;
-mod out;
 mod running;
+mod storing;
 mod text;
 mod words;
 

@@ -7,7 +7,7 @@ ghost use Rattle.sim_top.specs.{Answers.scene, Words.words_of};
 ghost use Rattle.std.specs.Prelude.{◌≡◌, IfOk, IfErr, option_map};
 
 use crate::files::shelf_from;
-use crate::out::out_of;
+use crate::storing::out_of;
 use crate::text::Text;
 use crate::words::words_from;
 use sim_base::OutOfMemory;
