@@ -5,7 +5,7 @@ ghost use Rattle.sim_c.specs.{Gives.stamp, GivesHeld.GivesLook, GivesHeld.GivesP
 ghost use Rattle.sim_c.specs.Status.{went_status};
 
 use crate::giving::fill;
-use crate::status::{DONE, IDLE, NOT_ON, NO_MEMORY};
+use crate::status::{DONE, IDLE, NO_MEMORY, NOT_ON};
 use sim_base::OutOfMemory;
 use sim_embed::{Stamp, Stored};
 use sim_held::Went;

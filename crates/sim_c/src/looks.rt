@@ -1,6 +1,7 @@
 //! Looks at the state to which a game, or a client that is on, has come. Nothing that is held changes.
 
-ghost use Rattle.{sim_embed.specs.Facts.entity_of, sim_report.specs.Show.show_text, std.specs.Prelude.◌≡◌, std.specs.Prelude.map, std.specs.Prelude.pos};
+ghost use Rattle.{sim_embed.specs.Facts.entity_of, sim_report.specs.Show.show_text};
+ghost use Rattle.std.specs.Prelude.{◌≡◌, map, pos};
 ghost use Rattle.sim_c.specs.{Gives.stamp, GivesHeld.GivesLook, GivesHeld.GivesSheet, GivesHeld.GivesStamp, GivesHeld.sheet, Holding.Looks, Holding.there_is};
 ghost use Rattle.sim_embed.specs.Answers.{IsStamp, IsStored};
 

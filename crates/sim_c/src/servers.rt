@@ -111,11 +111,7 @@ fn take(server: &mut HeldServer, client: u8, room: &mut [u8], written: &mut u64)
 
 /// The turns that are released.
 #[unsafe(no_mangle)]
-pub extern "C" fn simcore_server_released(
-    alloc: Global,
-    handle: &mut Handle,
-    turn: &mut u32,
-) -> i32
+pub extern "C" fn simcore_server_released(alloc: Global, handle: &mut Handle, turn: &mut u32) -> i32
     ensures { OfServer (λ old new. (new ≡ old) × (turn.new ≡ (server_of old.server).released) × (result ≡ pos 0))
         ((result ≡ pos 101) × (turn.new ≡ turn.old)) handle.old.held handle.new.held }
 {

@@ -1,6 +1,7 @@
 //! Where a client stands, as numbers.
 
-ghost use Rattle.{sim_c.specs.Clients.standing_of, sim_held.specs.Clients.life, std.specs.Prelude.◌≡◌};
+ghost use Rattle.{sim_c.specs.Clients.standing_of, sim_held.specs.Clients.life};
+ghost use Rattle.std.specs.Prelude.{◌≡◌};
 
 use sim_held::HeldClient;
 

@@ -1,6 +1,7 @@
 //! The stage at which a client begins.
 
-ghost use Rattle.{sim_base.specs.Limits.IsSetup, std.specs.Prelude.◌≡◌, std.specs.Prelude.min, std.specs.Prelude.IfOk, std.specs.Prelude.if◌then◌else◌};
+ghost use Rattle.sim_base.specs.Limits.{IsSetup};
+ghost use Rattle.std.specs.Prelude.{◌≡◌, min, IfOk, if◌then◌else◌};
 ghost use Rattle.{sim_client.specs.Lives.Off, sim_client.specs.Lives.starts, sim_held.specs.Clients.IsStage, sim_held.specs.Clients.life_at};
 
 use crate::boards::first_state;
