@@ -60,11 +60,7 @@ pub extern "C" fn simcore_client_join(alloc: Global, handle: &mut Handle) -> i32
 
 /// Gives a command.
 #[unsafe(no_mangle)]
-pub extern "C" fn simcore_client_order(
-    alloc: Global,
-    handle: &mut Handle,
-    command: &[u8],
-) -> i32
+pub extern "C" fn simcore_client_order(alloc: Global, handle: &mut Handle, command: &[u8]) -> i32
     ensures { OfClient (λ old new. Comes (λ answer. Orders command.now old answer new) (λ answer. result ≡ went_status (pos 8) answer)) (result ≡ pos 101)
         handle.old.held handle.new.held }
 {

@@ -26,6 +26,7 @@ macro_rules! with_held {
         }
     };
 }
+
 pub(crate) use with_held;
 
 // Whether a handle holds nothing.
