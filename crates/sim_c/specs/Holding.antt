@@ -59,12 +59,12 @@ IsServer Is (Some (held.Client c)) = ⊥
 IsServer Is (Some (held.Server s)) = Is (Some s)
 IsServer Is (Some (held.Match g)) = ⊥
 
--- what was made is a match of which this holds
-abbrev pub IsGame : (GameView → Type 0) → Option Held → Type 0
-IsGame Is None = ⊥
-IsGame Is (Some (held.Client c)) = ⊥
-IsGame Is (Some (held.Server s)) = ⊥
-IsGame Is (Some (held.Match g)) = Is g
+-- what was made is a match at this state
+abbrev pub IsGame : Setup → State → Option Held → Type 0
+IsGame setup state None = ⊥
+IsGame setup state (Some (held.Client c)) = ⊥
+IsGame setup state (Some (held.Server s)) = ⊥
+IsGame setup state (Some (held.Match g)) = g ≡ record { setup = setup; state = state }
 
 -- a closed handle holds what was made, or why there is nothing is told; one that holds something is bad
 abbrev pub Opens : Option Held → Option Held → ℤ → Fault → Fault → Result (Option Held) Refused → Type 0

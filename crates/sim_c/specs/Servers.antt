@@ -1,5 +1,5 @@
 -- What a call makes of the server that a handle holds: that of the library's call of its name.
-use Rattle.std.specs.Prelude.{◌≡◌, ℕ, Bool, true, false, List, length, ℤ, pos, if◌then◌else◌, nat_lt, nat_le, Ok, Err, Result}
+use Rattle.std.specs.Prelude.{◌≡◌, ℕ, List, length, ℤ, pos, if◌then◌else◌, nat_lt, Result}
 use Rattle.sim_base.specs.declared.memory.OutOfMemory.{OutOfMemory}
 use Rattle.sim_c.specs.Gives.{put_in, room_status}
 use Rattle.sim_held.specs.Servers.{Answers, CutsOff, frames_for, Hears, is_client, Leaves, ServerView}
@@ -21,13 +21,10 @@ pub record HearsFrame (from : ℕ) (bytes : List ℕ) (old : ServerView) (answer
   pub frame : (message : UpOf (List ℕ)) → IsUpFrame bytes message → Answers (is_client old.server from) went.Done (Hears (Heard from message)) old answer new
   pub other : ((message : UpOf (List ℕ)) → IsUpFrame bytes message → ⊥) → Answers (is_client old.server from) went.Refused (CutsOff from) old answer new
 
--- what waits for a client is let go, if it was sent
-abbrev pub LetsGo : Bool → ℕ → ServerView → ServerView → Type 0
-LetsGo true client old new = Leaves client old new
-LetsGo false client old new = new ≡ old
-
--- there is memory for what waits for a client, which is put into a room and let go where the room is large enough; or nothing changes
-abbrev pub Sends : ℕ → ℤ → List ℕ → List ℕ → ℕ → ℕ → ServerView → ServerView → Result (List ℕ) OutOfMemory → Type 0
-Sends client status room filled before written old new (Ok bytes) = (bytes ≡ frames_for old.said client) × (status ≡ room_status bytes room)
-    × (filled ≡ put_in bytes room) × (written ≡ length bytes) × LetsGo (nat_le (length bytes) (length room)) client old new
-Sends client status room filled before written old new (Err e) = (status ≡ pos 9) × (filled ≡ room) × (written ≡ before) × (new ≡ old)
+-- what waits for a client is put into a room, and let go where the room is large enough
+pub record Sends (client : ℕ) (status : ℤ) (room filled : List ℕ) (written : ℕ) (old new : ServerView) : Type 0 where
+  pub tells : status ≡ room_status (frames_for old.said client) room
+  pub puts : filled ≡ put_in (frames_for old.said client) room
+  pub counts : written ≡ length (frames_for old.said client)
+  pub goes : status ≡ pos 0 → Leaves client old new
+  pub stays : status ≡ pos 100 → new ≡ old

@@ -3,7 +3,8 @@
 ghost use Rattle.std.specs.Prelude.{◌≡◌, pos, IfOk, IfErr, option_map};
 ghost use Rattle.{sim_base.specs.Turn.first_state, sim_held.specs.Games.PlaysOwn};
 ghost use Rattle.sim_embed.specs.{Bytes.OfMatch, Bytes.OfState, Causes.IsNoMatch, Causes.IsNoStateOf};
-ghost use Rattle.sim_c.specs.{Gives.Answers, Gives.GivesValue, GivesHeld.GivesPlayed, Games.PlaysGame, Holding.Comes, Holding.IsGame, Holding.OfGame, Holding.Opens};
+ghost use Rattle.sim_c.specs.{Gives.Answers, Gives.GivesValue, GivesHeld.GivesPlayed, Games.PlaysGame};
+ghost use Rattle.sim_c.specs.Holding.{Comes, IsGame, OfGame, Opens};
 
 use crate::Fault;
 use crate::giving_held::give_played;
@@ -22,7 +23,7 @@ pub extern "C" fn simcore_game_open(
     game: &[u8],
     fault: &mut Fault,
 ) -> i32
-    ensures { Answers (λ made. OfMatch game.now (λ setup. IsGame (λ held. held ≡ record { setup = setup; state = first_state setup }) made)) (IsNoMatch game.now)
+    ensures { Answers (λ made. OfMatch game.now (λ setup. IsGame setup (first_state setup) made)) (IsNoMatch game.now)
         (Opens handle.old.held handle.new.held result fault.old fault.new) }
 {
     let made = first_game(alloc, game);
@@ -30,7 +31,7 @@ pub extern "C" fn simcore_game_open(
 }
 
 fn first_game(alloc: Global, game: &[u8]) -> Result<Option<Box<Held>>, Refused>
-    ensures is { IfOk result (λ made. OfMatch game.now (λ setup. IsGame (λ held. held ≡ record { setup = setup; state = first_state setup }) (option_map (λ held. held.value) made))) }
+    ensures is { IfOk result (λ made. OfMatch game.now (λ setup. IsGame setup (first_state setup) (option_map (λ held. held.value) made))) }
     ensures refused { IfErr result (IsNoMatch game.now) }
 {
     let game = HeldMatch::new(alloc, game)?;
@@ -46,7 +47,7 @@ pub extern "C" fn simcore_game_load(
     state: &[u8],
     fault: &mut Fault,
 ) -> i32
-    ensures { Answers (λ made. OfState game.now state.now (λ setup at. IsGame (λ held. held ≡ record { setup = setup; state = at }) made))
+    ensures { Answers (λ made. OfState game.now state.now (λ setup at. IsGame setup at made))
         (IsNoStateOf game.now state.now) (Opens handle.old.held handle.new.held result fault.old fault.new) }
 {
     let made = loaded_game(alloc, game, state);
@@ -54,7 +55,7 @@ pub extern "C" fn simcore_game_load(
 }
 
 fn loaded_game(alloc: Global, game: &[u8], state: &[u8]) -> Result<Option<Box<Held>>, Refused>
-    ensures is { IfOk result (λ made. OfState game.now state.now (λ setup at. IsGame (λ held. held ≡ record { setup = setup; state = at }) (option_map (λ held. held.value) made))) }
+    ensures is { IfOk result (λ made. OfState game.now state.now (λ setup at. IsGame setup at (option_map (λ held. held.value) made))) }
     ensures refused { IfErr result (IsNoStateOf game.now state.now) }
 {
     let game = HeldMatch::load(alloc, game, state)?;

@@ -1,8 +1,8 @@
 //! How what a call of something held came to is put where C wants it.
 
 ghost use Rattle.std.specs.Prelude.{◌≡◌, Ok, string_bytes};
-ghost use Rattle.sim_c.specs.{Gives.stamp, GivesHeld.GivesLook, GivesHeld.GivesPlayed, GivesHeld.GivesSheet, GivesHeld.GivesStamp, GivesHeld.looked, GivesHeld.sheet};
-ghost use Rattle.sim_c.specs.Status.{went_status};
+ghost use Rattle.sim_c.specs.{Gives.stamp, Status.went_status};
+ghost use Rattle.sim_c.specs.GivesHeld.{GivesLook, GivesPlayed, GivesSheet, GivesStamp, looked, sheet};
 
 use crate::giving::fill;
 use crate::status::{DONE, IDLE, NO_MEMORY, NOT_ON};

@@ -1,8 +1,8 @@
 //! What C holds from one call to the next: the address of a value. The three calls that reach the address have a proof by hand; all
 //! others swap what is held for something else, and are plain code over a box.
 //!
-//! C owes this of a handle, and nothing tells when it fails: that it is all zeros or was left so by a call of this library, that it is
-//! not copied, that no two calls have it at once, and that it stays on the thread where it was opened.
+//! C owes this of a handle, and nothing tells when it fails: that it is all zeroes or was left so by a call of this library, that no copy of
+//! it is used, and that no two calls have it at once.
 
 ghost use Rattle.std.specs.Prelude.{◌≡◌, MatchOption};
 ghost use Rattle.std.specs.Coded.{coded_option};

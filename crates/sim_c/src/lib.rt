@@ -1,14 +1,17 @@
-//! The exports that `include/simcore.h` declares. Each tests nothing and decides nothing: it calls the function of `sim_embed`
-//! or `sim_packed` of its name, and puts what that answers where C wants it.
+//! The exports that `include/simcore.h` declares. Each decides nothing: it calls the function of `sim_embed`, `sim_held` or `sim_packed`
+//! of its name, and puts what that answers where C wants it.
 //!
-//! No export has a `requires`, so that C can break none. What the types of the arguments need of C, that a pointer is not null and what
-//! is written overlaps nothing, the header says at its head.
+//! No export has a `requires`, so that C can break none. What the types of the arguments need of C, that a pointer is not null, what
+//! is written overlaps nothing, and a handle is no copy, the header says at its head.
 //!
 //! - `status`: the status of an answer, and the numbers of a refusal.
 //! - `giving`: how an answer is put where C wants it.
 //! - `level_one`: calls that keep nothing.
-//! - `giving_run`: how what a run came to is put where C wants it.
-//! - `running`: a command of the program.
+//! - `giving_run`, `running`: a command of the program, and how what it came to is put.
+//! - `kept`, `handle`: a box as its address, and what C holds of it.
+//! - `holding`: how a handle is opened and closed, and how a call reaches what it holds.
+//! - `giving_held`, `standing`: how what a call of something held came to is put.
+//! - `clients`, `servers`, `games`, `looks`: calls of what is held.
 #![tactic(auto)]
 
 mod clients;

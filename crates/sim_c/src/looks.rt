@@ -1,8 +1,10 @@
 //! Looks at the state to which a game, or a client that is on, has come. Nothing that is held changes.
 
 ghost use Rattle.{sim_embed.specs.Facts.entity_of, sim_report.specs.Show.show_text};
-ghost use Rattle.std.specs.Prelude.{◌≡◌, map, pos};
-ghost use Rattle.sim_c.specs.{Gives.stamp, GivesHeld.GivesLook, GivesHeld.GivesSheet, GivesHeld.GivesStamp, GivesHeld.sheet, Holding.Looks, Holding.there_is};
+ghost use Rattle.{sim_client.specs.ClientWords.state_of, sim_held.specs.Clients.life, sim_held.specs.Clients.LooksAt};
+ghost use Rattle.std.specs.Prelude.{◌≡◌, map, pos, IfOk, Some};
+ghost use Rattle.sim_c.specs.{Gives.stamp, GivesHeld.GivesLook, GivesHeld.GivesSheet, GivesHeld.GivesStamp, GivesHeld.sheet};
+ghost use Rattle.sim_c.specs.Holding.{Comes, Looks, there_is};
 ghost use Rattle.sim_embed.specs.Answers.{IsStamp, IsStored};
 
 use crate::giving_held::{give_held_stamp, give_items, give_shown, give_state};
@@ -11,7 +13,7 @@ use crate::holding::with_held;
 use crate::status::BAD_HANDLE;
 use sim_base::OutOfMemory;
 use sim_embed::Entity;
-use sim_held::Held;
+use sim_held::{Held, HeldClient, HeldMatch};
 use std::alloc::Global;
 
 // What there is for sure.
@@ -55,9 +57,23 @@ pub extern "C" fn simcore_held_digest(
 {
     with_held!(
         alloc, handle;
-        Held::Client(client) => give_held_stamp(client.stamp(), digest, turn),
-        Held::Match(game) => give_held_stamp(Some(game.stamp()), digest, turn)
+        Held::Client(client) => client_stamp(client, digest, turn),
+        Held::Match(game) => game_stamp(game, digest, turn)
     )
+}
+
+fn client_stamp(client: &HeldClient, digest: &mut [u8; 16], turn: &mut u32) -> i32
+    ensures { Comes (λ answer. IfOk answer (LooksAt (state_of (life client.now)) (IsStamp client.now.setup)))
+        (GivesStamp result (stamp digest.old turn.old) (stamp digest.new turn.new)) }
+{
+    give_held_stamp(client.stamp(), digest, turn)
+}
+
+fn game_stamp(game: &HeldMatch, digest: &mut [u8; 16], turn: &mut u32) -> i32
+    ensures { Comes (λ answer. IfOk answer (LooksAt (Some game.now.state) (IsStamp game.now.setup)))
+        (GivesStamp result (stamp digest.old turn.old) (stamp digest.new turn.new)) }
+{
+    give_held_stamp(Some(game.stamp()), digest, turn)
 }
 
 /// The state as text.

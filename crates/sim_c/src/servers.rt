@@ -1,6 +1,6 @@
 //! A turn server that a handle holds. Each clause is that of the call of `sim_held` of the same name.
 
-ghost use Rattle.std.specs.Prelude.{◌≡◌, pos, IfOk, IfErr, option_map};
+ghost use Rattle.std.specs.Prelude.{◌≡◌, ◌⊎◌, pos, IfOk, IfErr, option_map};
 ghost use Rattle.{sim_embed.specs.Bytes.OfMatch, sim_embed.specs.Causes.IsNoMatch, sim_server.specs.Standing.server_of};
 ghost use Rattle.sim_c.specs.{Gives.Answers as IsAnswered, Holding.Comes, Holding.IsServer, Holding.OfServer, Holding.Opens, Status.went_status};
 ghost use Rattle.sim_c.specs.Servers.{count_of as count_by, HearsFrame, number_of as number_by, Sends};
@@ -68,14 +68,21 @@ pub extern "C" fn simcore_server_hear(
     ensures { OfServer (λ old new. Comes (λ answer. HearsFrame (number_by from) frame.now old answer new) (λ answer. result ≡ went_status (pos 103) answer))
         (result ≡ pos 101) handle.old.held handle.new.held }
 {
-    with_held!(alloc, handle; Held::Server(server) => give_went(server.hear(number_of(from), frame), FRAME_REFUSED))
+    with_held!(alloc, handle; Held::Server(server) => hear(server, number_of(from), frame))
+}
+
+fn hear(server: &mut HeldServer, from: u8, frame: &[u8]) -> i32
+    ensures { Comes (λ answer. HearsFrame from frame.now server.old answer server.new) (λ answer. result ≡ went_status (pos 103) answer) }
+{
+    give_went(server.hear(from, frame), FRAME_REFUSED)
 }
 
 /// Sees that the connection of a client has ended.
 #[unsafe(no_mangle)]
 pub extern "C" fn simcore_server_cut(alloc: Global, handle: &mut Handle, client: u32) -> i32
-    ensures { let number = number_by client in OfServer (λ old new. Comes (λ answer. Answers (is_client old.server number) went.Done (CutsOff number) old answer new)
-        (λ answer. result ≡ went_status (pos 103) answer)) (result ≡ pos 101) handle.old.held handle.new.held }
+    ensures { let number = number_by client in OfServer (λ old new.
+        Comes (λ answer. Answers (is_client old.server number) went.Done (CutsOff number) old answer new) (λ answer. result ≡ went_status (pos 103) answer))
+        (result ≡ pos 101) handle.old.held handle.new.held }
 {
     with_held!(alloc, handle; Held::Server(server) => give_went(server.cut(number_of(client)), FRAME_REFUSED))
 }
@@ -89,15 +96,16 @@ pub extern "C" fn simcore_server_take(
     room: &mut [u8],
     written: &mut u64,
 ) -> i32
-    ensures { OfServer (λ old new. (answer : _) × Sends (number_by client) result room.old room.new written.old written.new old new answer)
+    ensures { OfServer (λ old new. Sends (number_by client) result room.old room.new written.new old new
+        ⊎ ((result ≡ pos 9) × (room.new ≡ room.old) × (written.new ≡ written.old) × (new ≡ old)))
         ((result ≡ pos 101) × (room.new ≡ room.old) × (written.new ≡ written.old)) handle.old.held handle.new.held }
 {
     with_held!(alloc, handle; Held::Server(server) => take(server, number_of(client), room, written))
 }
 
-// Takes them where they have room.
 fn take(server: &mut HeldServer, client: u8, room: &mut [u8], written: &mut u64) -> i32
-    ensures { (answer : _) × Sends client result room.old room.new written.old written.new server.old server.new answer }
+    ensures { Sends client result room.old room.new written.new server.old server.new
+        ⊎ ((result ≡ pos 9) × (room.new ≡ room.old) × (written.new ≡ written.old) × (server.new ≡ server.old)) }
 {
     let Ok(bytes) = server.said(client) else {
         return NO_MEMORY;
