@@ -1,9 +1,9 @@
 -- Turns that a client plays one behind another.
 use Rattle.sim_base.specs.declared.setup.Setup.{Setup}
-use Rattle.{sim_base.specs.declared.memory.OutOfMemory.OutOfMemory, sim_client.specs.ClientWords.Answers, sim_client.specs.declared.did.Did.Did}
+use Rattle.{sim_client.specs.ClientWords.Answers}
 use Rattle.sim_held.proofs.Common.{◌≡◌, ℕ, zero, suc, ◌+◌, ◌≤◌, ◌⊎◌, Bool, true, false, List, ◌++◌, if◌then◌else◌, Some, None, Ok, Option, refl, ap, append_assoc, arith}
-use Rattle.sim_held.proofs.Common.{Acts, Act, append-nil, cases_eq, flat_map-append, frames_of, inl, inr, Life, plays, subst, sym, up_frame, ◌∙◌}
-use Rattle.{sim_client.specs.Lives.may_play, sim_client.specs.Lives.On, sim_client.specs.Lives.Off, sim_client.specs.Lives.Joining, sim_client.specs.Lives.played, sim_client.specs.Lives.told}
+use Rattle.sim_held.proofs.Common.{Act, append-nil, cases_eq, flat_map-append, frames_of, inl, inr, Life, plays, subst, sym, up_frame, ◌∙◌}
+use Rattle.{sim_client.specs.Lives.On, sim_client.specs.Lives.Off, sim_client.specs.Lives.Joining, sim_client.specs.Lives.played, sim_client.specs.Lives.told}
 use Rattle.sim_held.specs.{Acting.may_run, Runs.goes_on, Runs.Run, Runs.runs, Turns.PlaysOnce, Turns.RanOn}
 use Rattle.std.proofs.lemmas.Bool.{false≢true}
 use Rattle.sim_client.specs.declared.did.Did.TheVariants as did

@@ -1,12 +1,12 @@
 -- What a client says has frames.
 use Rattle.{sim_base.specs.Limits.HasFewIds, sim_base.specs.Limits.IsSetup, sim_base.specs.Validity.IsValid}
-use Rattle.sim_base.specs.declared.{command.Command.Command, memory.OutOfMemory.OutOfMemory, setup.Setup.Setup, state.State.State}
-use Rattle.std.specs.Prelude.{◌&&◌, nat_lt, ◌==◌}
+use Rattle.sim_base.specs.declared.{command.Command.Command, setup.Setup.Setup}
+use Rattle.std.specs.Prelude.{◌&&◌, nat_lt}
 use Rattle.sim_client.specs.{ClientWords.Answers, declared.did.Did.Did, declared.did.Did.TheVariants.Done, declared.did.Did.TheVariants.Idle}
 use Rattle.sim_client.specs.LifeLaws.{says_of}
-use Rattle.sim_client.specs.Lives.{begins, hands_on, may_order, may_play, may_tell_done, ordered, played, report_of, Told, told, told_alone, told_with_done}
+use Rattle.sim_client.specs.Lives.{may_order, may_play, may_tell_done, ordered, played, report_of, Told, told, told_alone, told_with_done}
 use Rattle.{sim_plain.specs.Functions.put, sim_plain_session.specs.Pasts.is_client, sim_plain_session.specs.Players.Player, sim_held.specs.Acting.said_by}
-use Rattle.sim_held.proofs.Common.{◌≡◌, ℕ, suc, Bool, true, false, List, [], ◌∷◌, ◌++◌, Some, None, Ok, Option, All, All-cons, All-nil, if◌then◌else◌, refl, subst, sym}
+use Rattle.sim_held.proofs.Common.{suc, Bool, true, false, [], ◌∷◌, ◌++◌, Some, None, Ok, Option, All, All-cons, All-nil, if◌then◌else◌, subst, sym}
 use Rattle.sim_held.proofs.Common.{Act, hears, IsSmallUp, Joining, Life, Off, On, orders, plays}
 use Rattle.sim_held.proofs.Spelled.{states_are_short}
 use Rattle.sim_base.specs.Spelling.{spelling}

@@ -1,7 +1,7 @@
 -- What a step of a client comes to, in the words of its callers.
-use Rattle.{sim_base.specs.declared.memory.OutOfMemory.OutOfMemory, sim_client.specs.ClientWords.Answers, sim_client.specs.declared.did.Did.Did}
-use Rattle.sim_held.proofs.Common.{◌≡◌, ℕ, List, [], ◌++◌, Some, None, Ok, Err, Option, Result, OnOk, refl, ap, append-nil, sym, ◌∙◌, Act, frames_of, Goes, IsCut}
-use Rattle.sim_held.proofs.Common.{IsStage, Life, life_at, Off, Stays, Steps, subst, Takes}
+use Rattle.{sim_base.specs.declared.memory.OutOfMemory.OutOfMemory, sim_client.specs.ClientWords.Answers}
+use Rattle.sim_held.proofs.Common.{◌≡◌, ℕ, List, [], ◌++◌, Some, None, Ok, Err, Option, Result, OnOk, refl, ap, append-nil, sym, ◌∙◌, Act, frames_of, Goes}
+use Rattle.sim_held.proofs.Common.{Life, Off, Steps, subst, Takes}
 use Rattle.std.specs.Prelude.{OnErr}
 use Rattle.sim_held.specs.{Acting.GoesSilently, Acting.Heeds, declared.stage.Went.Went}
 use Rattle.sim_client.specs.declared.did.Did.TheVariants as did

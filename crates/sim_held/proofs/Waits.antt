@@ -1,6 +1,6 @@
 -- What waits for each client of a server, as lists of posts come and go.
 use Rattle.std.proofs.{Common.◌==◌, lemmas.List.Elements.All-filter}
-use Rattle.sim_held.proofs.Common.{not, ◌≡◌, ℕ, Bool, true, false, ◌⊎◌, List, [], ◌∷◌, ◌++◌, map, if◌then◌else◌, All, ap, append-nil, All-append, All-cons, All-nil}
+use Rattle.sim_held.proofs.Common.{not, ◌≡◌, ℕ, Bool, ◌⊎◌, List, [], ◌∷◌, ◌++◌, map, if◌then◌else◌, All, ap, All-append, All-cons, All-nil}
 use Rattle.sim_held.proofs.Common.{All-head, All-tail, cases_eq, cond-false, cond-true, DownOf, eq-eqb, filter, flat_map-append, flat_map-cons, inl, inr, IsSmallDown}
 use Rattle.sim_held.proofs.Common.{ne_eqb, PostOf, refl, sym, told_to, ◌∙◌}
 use Rattle.sim_held.proofs.Frames.{flat_map_one}

@@ -1,5 +1,5 @@
 -- A match that is held in memory, and what a call makes of it.
-use Rattle.std.specs.Prelude.{◌≡◌, ℕ, ◌+◌, ◌-◌, ◌<◌, ◌≤◌, min, List, Ok, Err, Result}
+use Rattle.std.specs.Prelude.{◌≡◌, ℕ, ◌-◌, ◌<◌, ◌≤◌, min, List, Ok, Err, Result}
 use Rattle.sim_base.specs.{Limits.IsSetup, Turn.from, Turn.own_turns, Turn.turn, Validity.IsValid, declared.command.PlayerCommand.PlayerCommand}
 use Rattle.sim_base.specs.declared.{memory.OutOfMemory.OutOfMemory, setup.Setup.Setup, state.State.State}
 use Rattle.sim_embed.specs.{Orders.orders_of, declared.refused.Refused.Refused}

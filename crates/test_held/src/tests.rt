@@ -1,5 +1,7 @@
 //! Clients and a server in one process, whose frames are carried by hand, and the same match in memory.
 
+ghost use Rattle.std.specs.Prelude.{◌≤◌, length};
+
 use sim_held::{HeldClient, HeldMatch, HeldServer, Went};
 use std::test::Fail;
 
@@ -8,7 +10,9 @@ static GAME: &str =
     r#"{"size":[16,16],"closed":[],"players":[[],[]],"cap":0,"delay":2,"turns":5,"seed":0,"templates":[{"@name":"walker","Motion":{"Speed":10}}],"entities":[["walker",1,"2.5","2.5"],["walker",2,"2.5","8.5"]],"commands":[]}"#;
 
 // How many bytes the first frame has, with its length in front.
-fn first_of(bytes: &[u8]) -> usize {
+fn first_of(bytes: &[u8]) -> usize
+    ensures { result ≤ length bytes.now }
+{
     match bytes {
         [a, b, c, _, ..] => {
             let body = usize::from(*a) + usize::from(*b) * 256 + usize::from(*c) * 65536;
@@ -66,9 +70,9 @@ fn go_round(
 fn clients_come_to_the_state_of_the_match_in_memory(rt: HostRuntime) -> Result<(), Fail> {
     let alloc = rt.alloc();
     let game = GAME.as_bytes();
-    let mut server = HeldServer::new(alloc, game, 2)?.unwrap();
-    let mut one = HeldClient::new(alloc, game, 1, true)?.unwrap();
-    let mut two = HeldClient::new(alloc, game, 2, true)?.unwrap();
+    let mut server = HeldServer::new(alloc, game, 2)?.expect(&rt, "a player of the match");
+    let mut one = HeldClient::new(alloc, game, 1, true)?.expect(&rt, "a player of the match");
+    let mut two = HeldClient::new(alloc, game, 2, true)?.expect(&rt, "a player of the match");
     assert_eq!(rt; one.order(br#"["walk",[2],"6.5","2.5"]"#)?, Went::Done);
     assert_eq!(rt; one.order(b"walk")?, Went::Refused);
     assert_eq!(rt; one.play(1)?, 1);
@@ -95,9 +99,9 @@ fn clients_come_to_the_state_of_the_match_in_memory(rt: HostRuntime) -> Result<(
 fn a_client_that_was_cut_off_joins_again(rt: HostRuntime) -> Result<(), Fail> {
     let alloc = rt.alloc();
     let game = GAME.as_bytes();
-    let mut server = HeldServer::new(alloc, game, 2)?.unwrap();
-    let mut one = HeldClient::new(alloc, game, 1, true)?.unwrap();
-    let mut two = HeldClient::new(alloc, game, 2, true)?.unwrap();
+    let mut server = HeldServer::new(alloc, game, 2)?.expect(&rt, "a player of the match");
+    let mut one = HeldClient::new(alloc, game, 1, true)?.expect(&rt, "a player of the match");
+    let mut two = HeldClient::new(alloc, game, 2, true)?.expect(&rt, "a player of the match");
     go_round(&mut server, &mut one, &mut two)?;
     assert_eq!(rt; server.hear(2, &[9])?, Went::Refused);
     two.cut();

@@ -1,7 +1,7 @@
 -- What is said has frames, and waits behind the rest.
 use Rattle.sim_held.proofs.{Common.ap, Common.Ok, Common.◌++◌, Common.told_to, Common.subst, Common.sym, Common.◌∙◌, Serving.answered, Serving.heard_by, Serving.ready_after}
 use Rattle.{sim_plain.specs.Messages.Heard, sim_pipes.proofs.Answering.have_frames}
-use Rattle.std.specs.Prelude.{ℕ, ◌&&◌, nat_le, nat_lt}
+use Rattle.std.specs.Prelude.{◌&&◌, nat_le, nat_lt}
 use Rattle.sim_held.specs.Servers.{AreSmall, Hears, waiting}
 use Rattle.sim_held.proofs.server.HeldServer.hear_up.Goals as goal
 
