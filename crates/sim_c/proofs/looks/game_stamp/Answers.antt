@@ -1,0 +1,14 @@
+-- What is answered is the stamp of the match, for which no memory is wanted.
+use Rattle.std.proofs.{Common.rules, Common.w32, lemmas.Int.to_z-of_z}
+use Rattle.std.specs.Prelude.{Ok, Some}
+use mir.Val.{SFits}
+use Rattle.sim_c.proofs.looks.game_stamp.Goals as goal
+
+pub returns : goal.returns
+returns c =
+    let fits : SFits w32 c.give_held_stamp.result = search rules in
+    record {
+      answer = Ok (Some c.stamp.result);
+      is = record { digest = c.stamp.ensures.digest; turn = c.stamp.ensures.turn };
+      puts = simp to_z-of_z c.give_held_stamp.ensures;
+    }
