@@ -1,5 +1,6 @@
 /* Each allocation of each call fails in its turn, alone or with all behind it: the call answers that there is no memory, has written
- * nothing but the fault, and has given all back. With a number, each such allocation alone. It is C99 and C++ alike. */
+ * nothing but the fault, and has given all back. A command of the program may do without what it would only keep: it ends as with ample
+ * memory then. With a number, each such allocation alone. It is C99 and C++ alike. */
 #include <simcore.h>
 #include <stdio.h>
 #include <string.h>
@@ -66,16 +67,20 @@ static int32_t call(int which, struct outs *it) {
 /* How many allocations a call makes, each of which was refused; or -1. */
 static long refuse_each(int which, bool stays_empty) {
     int32_t wanted = which == 4 ? SIMCORE_DIFFERS : SIMCORE_OK;
-    struct outs before, it;
+    struct outs before, it, ample;
     long granted;
 
     memset(&before, 5, sizeof before);
+    ample = before;
+    heap_grant(-1, false);
+    if (call(which, &ample) != wanted) return -1;
     for (granted = 0;; granted += stride) {
         it = before;
         heap_grant(granted, stays_empty);
         int32_t status = call(which, &it);
         if (heap_held != 0) return -1;
         if (!heap_refused) return status == wanted ? granted : -1;
+        if (which >= RUN && status == wanted && memcmp(&it, &ample, sizeof it) == 0) continue;
         if (status != SIMCORE_NO_MEMORY || (which < RUN && (it.fault.code || it.fault.index))) return -1;
         it.fault = before.fault;
         if (memcmp(&it, &before, sizeof it) != 0) return -1;
