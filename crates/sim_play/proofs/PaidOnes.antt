@@ -2,7 +2,7 @@
 use Rattle.sim_play.proofs.Common.{append_assoc, AreFed, AreKept, arith, Books, books_after, books_of, digest, Economy, IsOrderOf, IsSetup, kept_past}
 use Rattle.sim_play.proofs.Common.{orders_at, own_turns_are_of_players, paid_lines, paid_state, paid_stocks, paid_turn, Setup, State, states_are_after, Stocks}
 use Rattle.sim_play.proofs.Common.{sym, Systems, Turn, turn_line, turns_in, ◌∙◌}
-use Rattle.sim_play.proofs.Common.{◌≡◌, ℕ, zero, suc, ◌+◌, List, [], ◌++◌, IfOk, OnOk, Ok, Err, codes, All, Result, refl, after_counts_turns, ap, append-nil}
+use Rattle.sim_play.proofs.Common.{◌≡◌, ℕ, zero, suc, ◌+◌, List, [], ◌++◌, IfOk, Ok, Err, codes, All, Result, refl, after_counts_turns, ap, append-nil}
 
 -- systems that nothing was told yet
 pub kept_so_far : (setup : Setup) (state : State) (s : Systems) → AreFed setup state s → AreKept s s
@@ -57,9 +57,3 @@ pub ended_stocks : {E : Type 0} (r : Result Stocks E) (setup same : Setup) (econ
     → IfOk r (λ stocks. books_of state stocks ≡ books_after same economy same.turns) → IfOk r (λ stocks. stocks ≡ paid_stocks setup economy setup.turns)
 ended_stocks (Err none) setup same economy state e is = tt
 ended_stocks (Ok stocks) setup same economy state e is = ap (λ (books : Books). books.stocks) is ∙ ap (λ (s : Setup). paid_stocks s economy s.turns) e
-
-pub ended_state : {E : Type 0} (r : Result Stocks E) (setup same : Setup) (economy : Economy) (state : State) → same ≡ setup
-    → IfOk r (λ stocks. books_of state stocks ≡ books_after same economy same.turns) → OnOk r (state ≡ paid_state setup economy setup.turns)
-ended_state (Err none) setup same economy state e is = tt
-ended_state (Ok stocks) setup same economy state e is =
-    ap (λ (books : Books). books.state) is ∙ states_are_after same economy same.turns ∙ ap (λ (s : Setup). paid_state s economy s.turns) e

@@ -1,4 +1,7 @@
--- One turn more is played.
+-- One turn more is played, and what becomes of the systems.
+use Rattle.sim_system.specs.Meanings.{AreBuiltOnceAtMost, IsBuiltOnceAtMost, Meaning}
+use Rattle.sim_play.proofs.Common.{OnOk, Result, setup_in, state_in, subst, systems_by}
+use Rattle.{sim_board.specs.declared.board.Board.Board, sim_play.specs.Playing.ComesToBy, sim_play.specs.Playing.GoesOnToBy}
 use Rattle.sim_play.proofs.Common.{◌≡◌, ℕ, suc, ◌+◌, ◌-◌, ap, AreKept, arith, from, from_counts_turns, orders_at, own_turns, Setup, State, Systems, turn, ◌∙◌}
 
 module _ (setup : Setup) (old new : State) (t : ℕ) (at : old.turn ≡ t) (is : new ≡ from setup old (own_turns setup old.turn (t + 1 - old.turn))) where
@@ -32,4 +35,30 @@ kept_on s t u first second = record {
         first.rebuilds.watch;
     census = second.rebuilds.census ∙ first.rebuilds.census;
   };
+}
+
+-- systems of which each was built once at most, and that were kept since
+pub most_kept : (s t u : Systems) → AreBuiltOnceAtMost s t → AreKept t u → AreBuiltOnceAtMost s u
+most_kept s t u most kept = record {
+  ground = one s.ground t.ground u.ground most.ground kept.rebuilds.ground;
+  range = one s.range t.range u.range most.range kept.rebuilds.range;
+  watch = one s.watch t.watch u.watch most.watch kept.rebuilds.watch;
+  census = one s.census t.census u.census most.census kept.rebuilds.census;
+}
+  where
+    one : (m n o : Meaning) → IsBuiltOnceAtMost m n → o.rebuilds ≡ n.rebuilds → IsBuiltOnceAtMost m o
+    one m n o most same = record { low = omega (arith, most.low, same); high = omega (arith, most.high, same) }
+
+-- a board that began, or took a state, and then went on
+pub came : {X : Type 0} {F : X → Type 0} {A E : Type 0} (meaning : (i : X) → F i → Meaning) (last wanted : State) (outcome : Result A E)
+    (old middle new : Board X F)
+    → AreBuiltOnceAtMost (systems_by old.rig meaning) (systems_by middle.rig meaning) → setup_in middle ≡ setup_in old
+    → GoesOnToBy meaning last outcome middle new → last ≡ wanted
+    → ComesToBy meaning wanted outcome old new
+came meaning last wanted outcome old middle new most of_same goes is = record {
+  state = subst (λ (s : State). OnOk outcome (state_in new ≡ s)) is goes.state;
+  whole = goes.whole;
+  kinds = goes.kept.kinds;
+  most = most_kept _ _ _ most goes.kept;
+  setup = goes.setup ∙ of_same;
 }

@@ -3,7 +3,7 @@ pub use Rattle.{sim_codec.specs.Loading.StandsFor, sim_laws.specs.CommandLaws.Is
 pub use Rattle.std.specs.List.{range_with_len}
 pub use Rattle.sim_base.specs.{Limits.IsSetup, Turn.after, Turn.first_state, Turn.from, Turn.orders_at, Turn.own_turns, Turn.Past, Turn.Turn, Validity.IsValid}
 pub use Rattle.sim_base.specs.declared.{command.PlayerCommand.PlayerCommand, setup.Setup.Setup, setup.Timed.Timed, state.State.State}
-pub use Rattle.sim_board.specs.BoardWords.{AreKept, IsWhole, setup_in, state_in, systems}
+pub use Rattle.sim_board.specs.BoardWords.{AreKept, IsWhole, IsWholeBy, setup_in, state_in, systems}
 pub use Rattle.sim_report.specs.{Lines.holding_line, Lines.line_end, Lines.map_line, Lines.spaced_number, Lines.stock_line, Lines.turn_line, Show.show_text}
 pub use Rattle.sim_stock.specs.{Economies.IsEconomy, declared.economy.Economy.Economy, declared.stocks.Stocks.Stocks}
 pub use Rattle.sim_stock.specs.{PaidTurns.books_after, PaidTurns.books_of, PaidTurns.kept_past, PaidTurns.paid_turn, Stocks.amount_of, Stocks.total}

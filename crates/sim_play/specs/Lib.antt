@@ -1,5 +1,6 @@
 pub mod Common
 pub mod Lines
+pub mod Playing
 pub mod Realms
 pub mod Seen
 pub mod States

@@ -1,9 +1,9 @@
 //! A film of a match: its states, so many turns apart, each with the digest, the rows and their ways. The match is played once.
 
 ghost use Rattle.std.specs.Prelude.{◌≡◌, ◌≤◌, ◌++◌, IfOk, OnOk, string_bytes};
-ghost use Rattle.sim_play.specs.Common.{AreBuiltOnceAtMost, AreFed, AreKept, first_state, HaveKinds, IsSetup, IsValid, IsWhole, setup_in, state_in, systems};
-ghost use Rattle.sim_play.specs.Common.{systems_of};
+ghost use Rattle.sim_play.specs.Common.{AreBuiltOnceAtMost, AreFed, HaveKinds, IsSetup, IsValid, setup_in, systems, systems_of};
 ghost use Rattle.sim_play.specs.Films.{film_text as text_of_film, frame_text, is_told as is_turn_told, last_state, told_frame};
+ghost use Rattle.sim_play.specs.Playing.{ComesTo, GoesOnTo, HasBegun, MayBegin};
 
 use crate::lines::push_line;
 use sim_base::{OutOfMemory, Setup, State};
@@ -49,15 +49,10 @@ fn start_frames(
     orders: &OrderTable,
     out: &mut String,
 ) -> Result<(), OutOfMemory>
-    requires limits { IsSetup (setup_in board.old) }
+    requires begins { MayBegin (setup_in board.old) (systems board.old ⟦<dyn System as System>⟧) }
     requires every { 1 ≤ every }
-    requires kinds { HaveKinds (systems board.old ⟦<dyn System as System>⟧) }
     ensures text { OnOk result (string_bytes out.new ≡ string_bytes out.old ++ text_of_film (setup_in board.old) every) }
-    ensures state { OnOk result (state_in board.new ≡ last_state (setup_in board.old)) }
-    ensures whole { OnOk result (IsWhole board.new ⟦<dyn System as System>⟧) }
-    ensures kinds { HaveKinds (systems board.new ⟦<dyn System as System>⟧) }
-    ensures most { AreBuiltOnceAtMost (systems board.old ⟦<dyn System as System>⟧) (systems board.new ⟦<dyn System as System>⟧) }
-    ensures setup { setup_in board.new ≡ setup_in board.old }
+    ensures ends { ComesTo ⟦<dyn System as System>⟧ (last_state (setup_in board.old)) result board.old board.new }
 {
     board.start()?;
     push_frames(alloc, board, every, orders, out)
@@ -71,15 +66,10 @@ fn push_frames(
     orders: &OrderTable,
     out: &mut String,
 ) -> Result<(), OutOfMemory>
-    requires whole { IsWhole board.old ⟦<dyn System as System>⟧ }
-    requires valid { IsValid (setup_in board.old) (state_in board.old) }
-    requires first { state_in board.old ≡ first_state (setup_in board.old) }
+    requires begun { HasBegun ⟦<dyn System as System>⟧ board.old }
     requires every { 1 ≤ every }
     ensures text { OnOk result (string_bytes out.new ≡ string_bytes out.old ++ text_of_film (setup_in board.old) every) }
-    ensures state { OnOk result (state_in board.new ≡ last_state (setup_in board.old)) }
-    ensures whole { OnOk result (IsWhole board.new ⟦<dyn System as System>⟧) }
-    ensures kept { AreKept (systems board.old ⟦<dyn System as System>⟧) (systems board.new ⟦<dyn System as System>⟧) }
-    ensures setup { setup_in board.new ≡ setup_in board.old }
+    ensures ends { GoesOnTo ⟦<dyn System as System>⟧ (last_state (setup_in board.old)) result board.old board.new }
 {
     let setup = board.setup();
     push_told(every, setup, board.scene().state, out)?;

@@ -2,7 +2,8 @@
 
 ghost use Rattle.std.specs.Prelude.{◌≡◌, ◌-◌, ◌≤◌, OnOk};
 ghost use Rattle.sim_play.specs.{Common.vision_after, Lines.end_from, States.later_of, States.states_to};
-ghost use Rattle.sim_play.specs.Common.{after, AreBuiltOnceAtMost, AreKept, from, HaveKinds, IsSetup, IsValid, IsWhole, own_turns, setup_in, state_in, systems};
+ghost use Rattle.sim_play.specs.Common.{after, from, own_turns, setup_in, state_in, systems};
+ghost use Rattle.sim_play.specs.Playing.{ComesTo, GoesOnTo, MayGoOn, MayReach, MayResume};
 
 use sim_base::{OutOfMemory, State};
 use sim_board::Board;
@@ -20,18 +21,14 @@ fn follow_until(
     sight: &mut Sight<'_>,
     until: u32,
 ) -> Result<(), OutOfMemory>
-    requires whole { IsWhole board.old ⟦<dyn System as System>⟧ }
-    requires valid { IsValid (setup_in board.old) (state_in board.old) }
+    requires goes_on { MayGoOn ⟦<dyn System as System>⟧ board.old }
     requires ahead { (state_in board.old).turn ≤ until }
     requires within { until ≤ (setup_in board.old).turns }
     requires same { sight.old.setup ≡ setup_in board.old }
     ensures followed { OnOk result (sight.new
         ≡ vision_after sight.old (later_of (setup_in board.old) (state_in board.old) (until - (state_in board.old).turn))) }
-    ensures state { OnOk result (state_in board.new
-        ≡ from (setup_in board.old) (state_in board.old) (own_turns (setup_in board.old) (state_in board.old).turn (until - (state_in board.old).turn))) }
-    ensures whole { OnOk result (IsWhole board.new ⟦<dyn System as System>⟧) }
-    ensures kept { AreKept (systems board.old ⟦<dyn System as System>⟧) (systems board.new ⟦<dyn System as System>⟧) }
-    ensures setup { setup_in board.new ≡ setup_in board.old }
+    ensures ends { GoesOnTo ⟦<dyn System as System>⟧ (from (setup_in board.old) (state_in board.old)
+        (own_turns (setup_in board.old) (state_in board.old).turn (until - (state_in board.old).turn))) result board.old board.new }
 {
     let begun = board.scene().state.turn;
     for number in begun..until {
@@ -49,16 +46,10 @@ pub fn start_following(
     sight: &mut Sight<'_>,
     turn: u32,
 ) -> Result<(), OutOfMemory>
-    requires limits { IsSetup (setup_in board.old) }
-    requires turn { turn ≤ (setup_in board.old).turns }
-    requires kinds { HaveKinds (systems board.old ⟦<dyn System as System>⟧) }
+    requires reaches { MayReach (setup_in board.old) turn (systems board.old ⟦<dyn System as System>⟧) }
     requires same { sight.old.setup ≡ setup_in board.old }
     ensures followed { OnOk result (sight.new ≡ vision_after sight.old (states_to (setup_in board.old) turn)) }
-    ensures state { OnOk result (state_in board.new ≡ after (setup_in board.old) (own_turns (setup_in board.old) 0 turn)) }
-    ensures whole { OnOk result (IsWhole board.new ⟦<dyn System as System>⟧) }
-    ensures kinds { HaveKinds (systems board.new ⟦<dyn System as System>⟧) }
-    ensures most { AreBuiltOnceAtMost (systems board.old ⟦<dyn System as System>⟧) (systems board.new ⟦<dyn System as System>⟧) }
-    ensures setup { setup_in board.new ≡ setup_in board.old }
+    ensures ends { ComesTo ⟦<dyn System as System>⟧ (after (setup_in board.old) (own_turns (setup_in board.old) 0 turn)) result board.old board.new }
 {
     board.start()?;
     sight.follow(board.scene().state)?;
@@ -73,17 +64,11 @@ pub fn adopt_following(
     orders: &OrderTable,
     sight: &mut Sight<'_>,
 ) -> Result<(), OutOfMemory>
-    requires limits { IsSetup (setup_in board.old) }
-    requires valid { IsValid (setup_in board.old) state }
-    requires kinds { HaveKinds (systems board.old ⟦<dyn System as System>⟧) }
+    requires resumes { MayResume (setup_in board.old) state (systems board.old ⟦<dyn System as System>⟧) }
     requires same { sight.old.setup ≡ setup_in board.old }
     ensures followed { OnOk result (sight.new
         ≡ vision_after sight.old (later_of (setup_in board.old) state ((setup_in board.old).turns - state.turn))) }
-    ensures state { OnOk result (state_in board.new ≡ end_from (setup_in board.old) state) }
-    ensures whole { OnOk result (IsWhole board.new ⟦<dyn System as System>⟧) }
-    ensures kinds { HaveKinds (systems board.new ⟦<dyn System as System>⟧) }
-    ensures most { AreBuiltOnceAtMost (systems board.old ⟦<dyn System as System>⟧) (systems board.new ⟦<dyn System as System>⟧) }
-    ensures setup { setup_in board.new ≡ setup_in board.old }
+    ensures ends { ComesTo ⟦<dyn System as System>⟧ (end_from (setup_in board.old) state) result board.old board.new }
 {
     board.adopt(state)?;
     let last = board.setup().turns;

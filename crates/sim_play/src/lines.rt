@@ -1,8 +1,9 @@
 //! A line for each turn of a board.
 
 ghost use Rattle.std.specs.Prelude.{◌≡◌, suc, ◌-◌, ◌≤◌, ◌++◌, OnOk, string_bytes};
-ghost use Rattle.sim_play.specs.{Common.turn_line as line_of_turn, Lines.end_from, Lines.past_lines, Lines.turn_lines};
-ghost use Rattle.sim_play.specs.Common.{after, AreKept, digest as digest_of, IsValid, IsWhole, own_turns, setup_in, state_in, systems};
+ghost use Rattle.sim_play.specs.{Common.turn_line as line_of_turn, Lines.end_from, Lines.turn_lines};
+ghost use Rattle.sim_play.specs.Common.{digest as digest_of, IsValid, setup_in, state_in};
+ghost use Rattle.sim_play.specs.Playing.{GoesOnTo, MayGoOn};
 
 use sim_base::{OutOfMemory, Setup, State};
 use sim_board::Board;
@@ -34,14 +35,10 @@ pub fn push_turns(
     orders: &OrderTable,
     out: &mut String,
 ) -> Result<(), OutOfMemory>
-    requires whole { IsWhole board.old ⟦<dyn System as System>⟧ }
-    requires valid { IsValid (setup_in board.old) (state_in board.old) }
+    requires { MayGoOn ⟦<dyn System as System>⟧ board.old }
     ensures text { OnOk result (string_bytes out.new ≡ string_bytes out.old
         ++ turn_lines (setup_in board.old) (state_in board.old) (state_in board.old).turn (suc ((setup_in board.old).turns - (state_in board.old).turn))) }
-    ensures state { OnOk result (state_in board.new ≡ end_from (setup_in board.old) (state_in board.old)) }
-    ensures whole { OnOk result (IsWhole board.new ⟦<dyn System as System>⟧) }
-    ensures kept { AreKept (systems board.old ⟦<dyn System as System>⟧) (systems board.new ⟦<dyn System as System>⟧) }
-    ensures setup { setup_in board.new ≡ setup_in board.old }
+    ensures ends { GoesOnTo ⟦<dyn System as System>⟧ (end_from (setup_in board.old) (state_in board.old)) result board.old board.new }
 {
     let setup = board.setup();
     let first = board.scene().state.turn;
@@ -49,38 +46,6 @@ pub fn push_turns(
     for turn in first..setup.turns {
         play(alloc, board, orders, turn + 1)?;
         push_line("turn", setup, board.scene().state, out)?;
-    }
-    Ok(())
-}
-
-/// Plays a board whose past is the match's own to a turn, and appends a line with this word for each turn behind that of its
-/// state.
-pub fn push_past(
-    alloc: Global,
-    board: &mut Board<'_>,
-    orders: &OrderTable,
-    word: &str,
-    until: u32,
-    out: &mut String,
-) -> Result<(), OutOfMemory>
-    requires whole { IsWhole board.old ⟦<dyn System as System>⟧ }
-    requires valid { IsValid (setup_in board.old) (state_in board.old) }
-    requires own { state_in board.old ≡ after (setup_in board.old) (own_turns (setup_in board.old) 0 (state_in board.old).turn) }
-    requires ahead { (state_in board.old).turn ≤ until }
-    requires within { until ≤ (setup_in board.old).turns }
-    ensures text { OnOk result (string_bytes out.new ≡ string_bytes out.old
-        ++ past_lines word.now (setup_in board.old) (suc (state_in board.old).turn) (until - (state_in board.old).turn)) }
-    ensures state { OnOk result (state_in board.new ≡ after (setup_in board.old) (own_turns (setup_in board.old) 0 until)) }
-    ensures valid { OnOk result (IsValid (setup_in board.old) (state_in board.new)) }
-    ensures whole { OnOk result (IsWhole board.new ⟦<dyn System as System>⟧) }
-    ensures kept { AreKept (systems board.old ⟦<dyn System as System>⟧) (systems board.new ⟦<dyn System as System>⟧) }
-    ensures setup { setup_in board.new ≡ setup_in board.old }
-{
-    let setup = board.setup();
-    let begun = board.scene().state.turn;
-    for number in begun..until {
-        play(alloc, board, orders, number + 1)?;
-        push_line(word, setup, board.scene().state, out)?;
     }
     Ok(())
 }

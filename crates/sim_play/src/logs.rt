@@ -2,8 +2,9 @@
 
 ghost use Rattle.std.specs.Prelude.{◌≡◌, ◌≤◌, length, IfOk, OnOk, All};
 ghost use Rattle.sim_play.specs.{Common.systems, Common.systems_of, Films.last_state};
-ghost use Rattle.sim_play.specs.Common.{AreBuiltOnceAtMost, AreFed, AreKept, first_state, HaveKinds, IsOrderOf, IsSetup, IsValid, IsWhole, setup_in, state_in};
+ghost use Rattle.sim_play.specs.Common.{AreBuiltOnceAtMost, AreFed, HaveKinds, IsOrderOf, IsSetup, setup_in};
 ghost use Rattle.sim_play.specs.Logs.{digests_after as digests_of_turns, log_after as log_of_turns, match_turns as turns_of_match, state_after};
+ghost use Rattle.sim_play.specs.Playing.{ComesTo, GoesOnTo, HasBegun, MayBegin};
 
 use crate::own::match_turns;
 use sim_base::{OutOfMemory, Setup};
@@ -22,16 +23,11 @@ fn play_turns(
     orders: &OrderTable,
     turns: &[Orders],
 ) -> Result<Digests, OutOfMemory>
-    requires whole { IsWhole board.old ⟦<dyn System as System>⟧ }
-    requires valid { IsValid (setup_in board.old) (state_in board.old) }
-    requires first { state_in board.old ≡ first_state (setup_in board.old) }
+    requires begun { HasBegun ⟦<dyn System as System>⟧ board.old }
     requires few { length turns.now ≤ (setup_in board.old).turns }
     requires players { All (All (IsOrderOf (setup_in board.old))) turns.now }
     ensures digests { IfOk result (λ digests. digests ≡ digests_of_turns (setup_in board.old) turns.now) }
-    ensures state { OnOk result (state_in board.new ≡ state_after (setup_in board.old) turns.now) }
-    ensures whole { OnOk result (IsWhole board.new ⟦<dyn System as System>⟧) }
-    ensures kept { AreKept (systems board.old ⟦<dyn System as System>⟧) (systems board.new ⟦<dyn System as System>⟧) }
-    ensures setup { setup_in board.new ≡ setup_in board.old }
+    ensures ends { GoesOnTo ⟦<dyn System as System>⟧ (state_after (setup_in board.old) turns.now) result board.old board.new }
 {
     let setup = board.setup();
     let mut digests = Digests::new(alloc);
@@ -50,16 +46,11 @@ fn start_turns(
     orders: &OrderTable,
     turns: &[Orders],
 ) -> Result<Digests, OutOfMemory>
-    requires limits { IsSetup (setup_in board.old) }
+    requires begins { MayBegin (setup_in board.old) (systems board.old ⟦<dyn System as System>⟧) }
     requires few { length turns.now ≤ (setup_in board.old).turns }
     requires players { All (All (IsOrderOf (setup_in board.old))) turns.now }
-    requires kinds { HaveKinds (systems board.old ⟦<dyn System as System>⟧) }
     ensures digests { IfOk result (λ digests. digests ≡ digests_of_turns (setup_in board.old) turns.now) }
-    ensures state { OnOk result (state_in board.new ≡ state_after (setup_in board.old) turns.now) }
-    ensures whole { OnOk result (IsWhole board.new ⟦<dyn System as System>⟧) }
-    ensures kinds { HaveKinds (systems board.new ⟦<dyn System as System>⟧) }
-    ensures most { AreBuiltOnceAtMost (systems board.old ⟦<dyn System as System>⟧) (systems board.new ⟦<dyn System as System>⟧) }
-    ensures setup { setup_in board.new ≡ setup_in board.old }
+    ensures ends { ComesTo ⟦<dyn System as System>⟧ (state_after (setup_in board.old) turns.now) result board.old board.new }
 {
     board.start()?;
     play_turns(alloc, board, orders, turns)

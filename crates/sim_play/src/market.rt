@@ -1,9 +1,10 @@
 //! The paid turns of a match, with a line for each.
 
 ghost use Rattle.std.specs.Prelude.{◌≡◌, suc, ◌+◌, ◌^◌, ◌<◌, ◌≤◌, ◌++◌, IfOk, OnOk, string_bytes};
-ghost use Rattle.sim_play.specs.Common.{AreBuiltOnceAtMost, AreKept, books_after, books_of, first_state, HaveKinds, IsEconomy, IsSetup, IsValid, IsWhole};
+ghost use Rattle.sim_play.specs.Common.{AreKept, books_after, books_of, IsEconomy, IsValid, IsWhole};
 ghost use Rattle.sim_play.specs.Common.{orders_at, paid_turn as paid_turn_by, setup_in, state_in, systems, total};
 ghost use Rattle.sim_play.specs.Paid.{paid_lines, paid_state, paid_stocks};
+ghost use Rattle.sim_play.specs.Playing.{ComesTo, GoesOnTo, HasBegun, MayBegin, MayGoOn};
 
 use crate::due::commands_of;
 use crate::lines::push_line;
@@ -31,17 +32,13 @@ impl Market<'_> {
         board: &mut Board<'_>,
         out: &mut String,
     ) -> Result<Stocks, OutOfMemory>
-        requires limits { IsSetup (setup_in board.old) }
+        requires begins { MayBegin (setup_in board.old) (systems board.old ⟦<dyn System as System>⟧) }
         requires economy { IsEconomy (setup_in board.old) self.now.economy.now }
-        requires kinds { HaveKinds (systems board.old ⟦<dyn System as System>⟧) }
         ensures stocks { IfOk result (λ stocks. stocks ≡ paid_stocks (setup_in board.old) self.now.economy.now (setup_in board.old).turns) }
         ensures text { OnOk result (string_bytes out.new ≡ string_bytes out.old
             ++ paid_lines (setup_in board.old) self.now.economy.now (suc (setup_in board.old).turns)) }
-        ensures state { OnOk result (state_in board.new ≡ paid_state (setup_in board.old) self.now.economy.now (setup_in board.old).turns) }
-        ensures whole { OnOk result (IsWhole board.new ⟦<dyn System as System>⟧) }
-        ensures kinds { HaveKinds (systems board.new ⟦<dyn System as System>⟧) }
-        ensures most { AreBuiltOnceAtMost (systems board.old ⟦<dyn System as System>⟧) (systems board.new ⟦<dyn System as System>⟧) }
-        ensures setup { setup_in board.new ≡ setup_in board.old }
+        ensures ends { ComesTo ⟦<dyn System as System>⟧ (paid_state (setup_in board.old) self.now.economy.now (setup_in board.old).turns) result board.old
+            board.new }
     {
         board.start()?;
         self.push_turns(board, out)
@@ -49,17 +46,14 @@ impl Market<'_> {
 
     // Plays a board that has just started to the last turn of its match, and appends a line for each turn.
     fn push_turns(&self, board: &mut Board<'_>, out: &mut String) -> Result<Stocks, OutOfMemory>
-        requires whole { IsWhole board.old ⟦<dyn System as System>⟧ }
-        requires valid { IsValid (setup_in board.old) (state_in board.old) }
-        requires started { state_in board.old ≡ first_state (setup_in board.old) }
+        requires begun { HasBegun ⟦<dyn System as System>⟧ board.old }
         requires economy { IsEconomy (setup_in board.old) self.now.economy.now }
         ensures books { IfOk result (λ stocks. books_of (state_in board.new) stocks
             ≡ books_after (setup_in board.old) self.now.economy.now (setup_in board.old).turns) }
         ensures text { OnOk result (string_bytes out.new ≡ string_bytes out.old
             ++ paid_lines (setup_in board.old) self.now.economy.now (suc (setup_in board.old).turns)) }
-        ensures whole { OnOk result (IsWhole board.new ⟦<dyn System as System>⟧) }
-        ensures kept { AreKept (systems board.old ⟦<dyn System as System>⟧) (systems board.new ⟦<dyn System as System>⟧) }
-        ensures setup { setup_in board.new ≡ setup_in board.old }
+        ensures ends { GoesOnTo ⟦<dyn System as System>⟧ (paid_state (setup_in board.old) self.now.economy.now (setup_in board.old).turns) result board.old
+            board.new }
     {
         let setup = board.setup();
         let mut stocks = self.economy.start;
@@ -78,8 +72,7 @@ impl Market<'_> {
         stocks: &mut Stocks,
         number: u32,
     ) -> Result<(), OutOfMemory>
-        requires whole { IsWhole board.old ⟦<dyn System as System>⟧ }
-        requires valid { IsValid (setup_in board.old) (state_in board.old) }
+        requires goes_on { MayGoOn ⟦<dyn System as System>⟧ board.old }
         requires below { (state_in board.old).turn < (setup_in board.old).turns }
         requires number { number ≡ (state_in board.old).turn + 1 }
         requires economy { IsEconomy (setup_in board.old) self.now.economy.now }

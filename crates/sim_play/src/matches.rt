@@ -2,7 +2,8 @@
 
 ghost use Rattle.std.specs.Prelude.{◌≡◌, ◌≤◌, ◌++◌, IfOk, OnOk, string_bytes};
 ghost use Rattle.sim_play.specs.{Common.systems, Common.systems_of, Lines.end_from, Lines.play_text as text_of_play, Lines.resume_text as text_of_resume};
-ghost use Rattle.sim_play.specs.Common.{after, AreBuiltOnceAtMost, AreFed, first_state, HaveKinds, IsSetup, IsValid, IsWhole, own_turns, setup_in, state_in};
+ghost use Rattle.sim_play.specs.Common.{after, AreBuiltOnceAtMost, AreFed, first_state, HaveKinds, IsSetup, IsValid, own_turns, setup_in, state_in};
+ghost use Rattle.sim_play.specs.Playing.{ComesTo, MayBegin, MayReach, MayResume};
 
 use crate::lines::push_turns;
 use sim_base::{OutOfMemory, Setup, State};
@@ -19,14 +20,9 @@ fn start_lines(
     orders: &OrderTable,
     out: &mut String,
 ) -> Result<(), OutOfMemory>
-    requires limits { IsSetup (setup_in board.old) }
-    requires kinds { HaveKinds (systems board.old ⟦<dyn System as System>⟧) }
+    requires { MayBegin (setup_in board.old) (systems board.old ⟦<dyn System as System>⟧) }
     ensures text { OnOk result (string_bytes out.new ≡ string_bytes out.old ++ text_of_play (setup_in board.old)) }
-    ensures state { OnOk result (state_in board.new ≡ end_from (setup_in board.old) (first_state (setup_in board.old))) }
-    ensures whole { OnOk result (IsWhole board.new ⟦<dyn System as System>⟧) }
-    ensures kinds { HaveKinds (systems board.new ⟦<dyn System as System>⟧) }
-    ensures most { AreBuiltOnceAtMost (systems board.old ⟦<dyn System as System>⟧) (systems board.new ⟦<dyn System as System>⟧) }
-    ensures setup { setup_in board.new ≡ setup_in board.old }
+    ensures ends { ComesTo ⟦<dyn System as System>⟧ (end_from (setup_in board.old) (first_state (setup_in board.old))) result board.old board.new }
 {
     board.start()?;
     push_turns(alloc, board, orders, out)
@@ -64,15 +60,9 @@ fn adopt_lines(
     orders: &OrderTable,
     out: &mut String,
 ) -> Result<(), OutOfMemory>
-    requires limits { IsSetup (setup_in board.old) }
-    requires valid { IsValid (setup_in board.old) state }
-    requires kinds { HaveKinds (systems board.old ⟦<dyn System as System>⟧) }
+    requires { MayResume (setup_in board.old) state (systems board.old ⟦<dyn System as System>⟧) }
     ensures text { OnOk result (string_bytes out.new ≡ string_bytes out.old ++ text_of_resume (setup_in board.old) state) }
-    ensures state { OnOk result (state_in board.new ≡ end_from (setup_in board.old) state) }
-    ensures whole { OnOk result (IsWhole board.new ⟦<dyn System as System>⟧) }
-    ensures kinds { HaveKinds (systems board.new ⟦<dyn System as System>⟧) }
-    ensures most { AreBuiltOnceAtMost (systems board.old ⟦<dyn System as System>⟧) (systems board.new ⟦<dyn System as System>⟧) }
-    ensures setup { setup_in board.new ≡ setup_in board.old }
+    ensures ends { ComesTo ⟦<dyn System as System>⟧ (end_from (setup_in board.old) state) result board.old board.new }
 {
     board.adopt(state)?;
     push_turns(alloc, board, orders, out)
@@ -111,15 +101,9 @@ pub fn start_until(
     orders: &OrderTable,
     turn: u32,
 ) -> Result<(), OutOfMemory>
-    requires limits { IsSetup (setup_in board.old) }
-    requires turn { turn ≤ (setup_in board.old).turns }
-    requires kinds { HaveKinds (systems board.old ⟦<dyn System as System>⟧) }
-    ensures state { OnOk result (state_in board.new ≡ after (setup_in board.old) (own_turns (setup_in board.old) 0 turn)) }
+    requires { MayReach (setup_in board.old) turn (systems board.old ⟦<dyn System as System>⟧) }
     ensures valid { OnOk result (IsValid (setup_in board.old) (state_in board.new)) }
-    ensures whole { OnOk result (IsWhole board.new ⟦<dyn System as System>⟧) }
-    ensures kinds { HaveKinds (systems board.new ⟦<dyn System as System>⟧) }
-    ensures most { AreBuiltOnceAtMost (systems board.old ⟦<dyn System as System>⟧) (systems board.new ⟦<dyn System as System>⟧) }
-    ensures setup { setup_in board.new ≡ setup_in board.old }
+    ensures ends { ComesTo ⟦<dyn System as System>⟧ (after (setup_in board.old) (own_turns (setup_in board.old) 0 turn)) result board.old board.new }
 {
     board.start()?;
     play(alloc, board, orders, turn)

@@ -1,8 +1,9 @@
 //! A whole match with an economy. The systems of a rig play it, which is handed back.
 
 ghost use Rattle.std.specs.Prelude.{◌≡◌, IfOk, OnOk, string_bytes};
-ghost use Rattle.sim_play.specs.Common.{AreBuiltOnceAtMost, AreFed, HaveKinds, IsEconomy, IsSetup, IsWhole, setup_in, state_in, systems, systems_of};
+ghost use Rattle.sim_play.specs.Common.{AreBuiltOnceAtMost, AreFed, HaveKinds, IsEconomy, IsSetup, setup_in, systems, systems_of};
 ghost use Rattle.sim_play.specs.Paid.{paid_state, stock_text as text_of_stocks};
+ghost use Rattle.sim_play.specs.Playing.{ComesTo, MayBegin};
 
 use crate::balances::push_stocks;
 use crate::market::Market;
@@ -31,15 +32,10 @@ impl Market<'_> {
 
     // Starts a board, plays it to the end, and tells each turn and what each player has then.
     fn tell(&self, board: &mut Board<'_>) -> Result<String, OutOfMemory>
-        requires limits { IsSetup (setup_in board.old) }
+        requires begins { MayBegin (setup_in board.old) (systems board.old ⟦<dyn System as System>⟧) }
         requires economy { IsEconomy (setup_in board.old) self.now.economy.now }
-        requires kinds { HaveKinds (systems board.old ⟦<dyn System as System>⟧) }
         ensures text { IfOk result (λ text. string_bytes text ≡ text_of_stocks (setup_in board.old) self.now.economy.now) }
-        ensures state { OnOk result (state_in board.new ≡ paid_state (setup_in board.old) self.now.economy.now (setup_in board.old).turns) }
-        ensures whole { OnOk result (IsWhole board.new ⟦<dyn System as System>⟧) }
-        ensures kinds { HaveKinds (systems board.new ⟦<dyn System as System>⟧) }
-        ensures most { AreBuiltOnceAtMost (systems board.old ⟦<dyn System as System>⟧) (systems board.new ⟦<dyn System as System>⟧) }
-        ensures setup { setup_in board.new ≡ setup_in board.old }
+        ensures ends { ComesTo ⟦<dyn System as System>⟧ (paid_state (setup_in board.old) self.now.economy.now (setup_in board.old).turns) result board.old board.new }
     {
         let setup = board.setup();
         let mut text = String::new(self.alloc);

@@ -2,7 +2,8 @@
 
 ghost use Rattle.std.specs.Prelude.{◌≡◌, ◌≤◌, IfOk, OnOk, string_bytes};
 ghost use Rattle.sim_play.specs.{Common.systems_of, Realms.TellsRealm};
-ghost use Rattle.sim_play.specs.Common.{after, AreBuiltOnceAtMost, AreFed, HaveKinds, IsSetup, IsWhole, own_turns, realm_of, setup_in, state_in, systems};
+ghost use Rattle.sim_play.specs.Common.{after, AreBuiltOnceAtMost, AreFed, HaveKinds, IsSetup, own_turns, realm_of, setup_in, systems};
+ghost use Rattle.sim_play.specs.Playing.{ComesTo, MayReach};
 
 use crate::holdings::told;
 use crate::matches::start_until;
@@ -43,16 +44,10 @@ fn told_at(
     turn: u32,
     orders: &OrderTable,
 ) -> Result<String, OutOfMemory>
-    requires limits { IsSetup (setup_in board.old) }
-    requires turn { turn ≤ (setup_in board.old).turns }
-    requires kinds { HaveKinds (systems board.old ⟦<dyn System as System>⟧) }
+    requires { MayReach (setup_in board.old) turn (systems board.old ⟦<dyn System as System>⟧) }
     ensures text { IfOk result (λ text. TellsRealm (realm_of (setup_in board.old) (after (setup_in board.old) (own_turns (setup_in board.old) 0 turn)))
         (string_bytes text)) }
-    ensures state { OnOk result (state_in board.new ≡ after (setup_in board.old) (own_turns (setup_in board.old) 0 turn)) }
-    ensures whole { OnOk result (IsWhole board.new ⟦<dyn System as System>⟧) }
-    ensures kinds { HaveKinds (systems board.new ⟦<dyn System as System>⟧) }
-    ensures most { AreBuiltOnceAtMost (systems board.old ⟦<dyn System as System>⟧) (systems board.new ⟦<dyn System as System>⟧) }
-    ensures setup { setup_in board.new ≡ setup_in board.old }
+    ensures ends { ComesTo ⟦<dyn System as System>⟧ (after (setup_in board.old) (own_turns (setup_in board.old) 0 turn)) result board.old board.new }
 {
     let setup = board.setup();
     start_until(alloc, board, orders, turn)?;

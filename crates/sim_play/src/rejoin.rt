@@ -1,17 +1,19 @@
 //! A match that a second client joins late: the first plays all of it, and gives the bytes of its state at a turn; the second
 //! loads them, and plays on with systems of its own.
 
-ghost use Rattle.std.specs.Prelude.{◌≡◌, suc, ◌-◌, ◌≤◌, ◌++◌, IfOk, OnOk, string_bytes, codes};
-ghost use Rattle.sim_play.specs.Common.{State as AnyState, state_in, systems, systems_of};
-ghost use Rattle.sim_play.specs.Common.{after, AreBuiltOnceAtMost, AreFed, HaveKinds, IsSetup, IsValid, IsWhole, own_turns, setup_in, StandsFor};
+ghost use Rattle.std.specs.Prelude.{◌≡◌, suc, ◌-◌, ◌≤◌, ◌++◌, IfOk, OnOk, string_bytes};
+ghost use Rattle.sim_play.specs.Common.{after, AreBuiltOnceAtMost, AreFed, HaveKinds, IsSetup, IsValid};
+ghost use Rattle.sim_play.specs.Common.{own_turns, setup_in, StandsFor, State as AnyState, state_in, systems, systems_of};
 ghost use Rattle.sim_play.specs.Lines.{past_lines, rejoin_text as text_of_rejoin};
+ghost use Rattle.sim_play.specs.Playing.{ComesTo, GoesOnTo, HasPlayed, MayGoOn, MayReach, MayResume};
 
-use crate::lines::{push_line, push_past};
+use crate::lines::push_line;
 use sim_base::{OutOfMemory, Setup, State};
 use sim_board::Board;
 use sim_codec::{StateFault, load, spell};
 use sim_orders::OrderTable;
 use sim_system::{Rig, System};
+use sim_turn::play;
 use std::alloc::Global;
 
 /// The lines of a whole match, and those of a second client that loads the bytes of the first one's state at a turn and plays
@@ -39,69 +41,28 @@ pub fn rejoin_text(
 {
     let mut board = Board::new(alloc, setup, first);
     let mut text = String::new(alloc);
-    let stored = first_lines(alloc, &mut board, turn, orders, &mut text);
+    let client = Client {
+        alloc,
+        orders,
+        word: "first",
+    };
+    let stored = client.start_lines(&mut board, turn, &mut text);
     let (_, first) = board.finish();
     match stored {
         Ok(bytes) => match loaded(alloc, setup, &bytes) {
             Ok(state) => {
-                let (text, second) = second_text(alloc, setup, state, second, orders, text);
+                let client = Client {
+                    alloc,
+                    orders,
+                    word: "second",
+                };
+                let (text, second) = client.rest_text(setup, state, second, text);
                 (text, first, second)
             }
             Err(error) => (Err(error), first, second),
         },
         Err(error) => (Err(error), first, second),
     }
-}
-
-// Starts a board, and plays it to a turn with a line of the first client for each.
-fn first_until(
-    alloc: Global,
-    board: &mut Board<'_>,
-    turn: u32,
-    orders: &OrderTable,
-    out: &mut String,
-) -> Result<(), OutOfMemory>
-    requires limits { IsSetup (setup_in board.old) }
-    requires turn { turn ≤ (setup_in board.old).turns }
-    requires kinds { HaveKinds (systems board.old ⟦<dyn System as System>⟧) }
-    ensures text { OnOk result (string_bytes out.new ≡ string_bytes out.old ++ past_lines (codes "first") (setup_in board.old) 0 (suc turn)) }
-    ensures state { OnOk result (state_in board.new ≡ after (setup_in board.old) (own_turns (setup_in board.old) 0 turn)) }
-    ensures valid { OnOk result (IsValid (setup_in board.old) (state_in board.new)) }
-    ensures whole { OnOk result (IsWhole board.new ⟦<dyn System as System>⟧) }
-    ensures kinds { HaveKinds (systems board.new ⟦<dyn System as System>⟧) }
-    ensures most { AreBuiltOnceAtMost (systems board.old ⟦<dyn System as System>⟧) (systems board.new ⟦<dyn System as System>⟧) }
-    ensures setup { setup_in board.new ≡ setup_in board.old }
-{
-    board.start()?;
-    push_line("first", board.setup(), board.scene().state, out)?;
-    push_past(alloc, board, orders, "first", turn, out)
-}
-
-// Plays a board from its first state to the end with a line for each turn, and gives the bytes of the state at a turn.
-fn first_lines(
-    alloc: Global,
-    board: &mut Board<'_>,
-    turn: u32,
-    orders: &OrderTable,
-    out: &mut String,
-) -> Result<Vec<u8>, OutOfMemory>
-    requires limits { IsSetup (setup_in board.old) }
-    requires turn { turn ≤ (setup_in board.old).turns }
-    requires kinds { HaveKinds (systems board.old ⟦<dyn System as System>⟧) }
-    ensures bytes { IfOk result (λ bytes. StandsFor (setup_in board.old) bytes.items (after (setup_in board.old) (own_turns (setup_in board.old) 0 turn))) }
-    ensures text { OnOk result (string_bytes out.new ≡ string_bytes out.old ++ past_lines (codes "first") (setup_in board.old) 0
-        (suc (setup_in board.old).turns)) }
-    ensures state { OnOk result (state_in board.new ≡ after (setup_in board.old) (own_turns (setup_in board.old) 0 (setup_in board.old).turns)) }
-    ensures whole { OnOk result (IsWhole board.new ⟦<dyn System as System>⟧) }
-    ensures kinds { HaveKinds (systems board.new ⟦<dyn System as System>⟧) }
-    ensures most { AreBuiltOnceAtMost (systems board.old ⟦<dyn System as System>⟧) (systems board.new ⟦<dyn System as System>⟧) }
-    ensures setup { setup_in board.new ≡ setup_in board.old }
-{
-    first_until(alloc, board, turn, orders, out)?;
-    let setup = board.setup();
-    let bytes = spell(alloc, setup, board.scene().state)?;
-    push_past(alloc, board, orders, "first", setup.turns, out)?;
-    Ok(bytes)
 }
 
 // Loads a state from the bytes that were spelled of it.
@@ -118,59 +79,120 @@ fn loaded(alloc: Global, setup: &Setup, bytes: &[u8]) -> Result<State, OutOfMemo
     }
 }
 
-// Has a board take a state of the match, and plays it to the end with a line of the second client for each turn.
-fn second_lines(
+// With what a client plays, and the word with which each of its lines begins.
+#[derive(Drop)]
+struct Client<'a> {
     alloc: Global,
-    board: &mut Board<'_>,
-    state: State,
-    orders: &OrderTable,
-    out: &mut String,
-) -> Result<(), OutOfMemory>
-    requires limits { IsSetup (setup_in board.old) }
-    requires valid { IsValid (setup_in board.old) state }
-    requires own { state ≡ after (setup_in board.old) (own_turns (setup_in board.old) 0 state.turn) }
-    requires within { state.turn ≤ (setup_in board.old).turns }
-    requires kinds { HaveKinds (systems board.old ⟦<dyn System as System>⟧) }
-    ensures text { OnOk result (string_bytes out.new ≡ string_bytes out.old
-        ++ past_lines (codes "second") (setup_in board.old) state.turn (suc ((setup_in board.old).turns - state.turn))) }
-    ensures state { OnOk result (state_in board.new ≡ after (setup_in board.old) (own_turns (setup_in board.old) 0 (setup_in board.old).turns)) }
-    ensures whole { OnOk result (IsWhole board.new ⟦<dyn System as System>⟧) }
-    ensures kinds { HaveKinds (systems board.new ⟦<dyn System as System>⟧) }
-    ensures most { AreBuiltOnceAtMost (systems board.old ⟦<dyn System as System>⟧) (systems board.new ⟦<dyn System as System>⟧) }
-    ensures setup { setup_in board.new ≡ setup_in board.old }
-{
-    board.adopt(state)?;
-    let setup = board.setup();
-    push_line("second", setup, board.scene().state, out)?;
-    push_past(alloc, board, orders, "second", setup.turns, out)
+    orders: &'a OrderTable,
+    word: &'a str,
 }
 
-// Plays on from a state of the match with the systems of a rig. The lines stand behind those of the first client.
-fn second_text(
-    alloc: Global,
-    setup: &Setup,
-    state: State,
-    rig: Rig,
-    orders: &OrderTable,
-    text: String,
-) -> (Result<String, OutOfMemory>, Rig)
-    requires limits { IsSetup setup.now }
-    requires valid { IsValid setup.now state }
-    requires own { state ≡ after setup.now (own_turns setup.now 0 state.turn) }
-    requires within { state.turn ≤ setup.now.turns }
-    requires kinds { HaveKinds (systems_of rig ⟦<dyn System as System>⟧) }
-    ensures text { IfOk result.0 (λ made. string_bytes made ≡ string_bytes text ++ past_lines (codes "second") setup.now state.turn
-        (suc (setup.now.turns - state.turn))) }
-    ensures fed { OnOk result.0 (AreFed setup.now (after setup.now (own_turns setup.now 0 setup.now.turns)) (systems_of result.1 ⟦<dyn System as System>⟧)) }
-    ensures kinds { HaveKinds (systems_of result.1 ⟦<dyn System as System>⟧) }
-    ensures most { AreBuiltOnceAtMost (systems_of rig ⟦<dyn System as System>⟧) (systems_of result.1 ⟦<dyn System as System>⟧) }
-{
-    let mut board = Board::new(alloc, setup, rig);
-    let mut lines = text;
-    let played = second_lines(alloc, &mut board, state, orders, &mut lines);
-    let (_, rig) = board.finish();
-    match played {
-        Ok(()) => (Ok(lines), rig),
-        Err(error) => (Err(error), rig),
+impl Client<'_> {
+    // Plays a board whose past is the match's own to a turn, and appends a line for each turn behind that of its state.
+    fn push_past(
+        &self,
+        board: &mut Board<'_>,
+        until: u32,
+        out: &mut String,
+    ) -> Result<(), OutOfMemory>
+        requires goes_on { MayGoOn ⟦<dyn System as System>⟧ board.old }
+        requires own { state_in board.old ≡ after (setup_in board.old) (own_turns (setup_in board.old) 0 (state_in board.old).turn) }
+        requires ahead { (state_in board.old).turn ≤ until }
+        requires within { until ≤ (setup_in board.old).turns }
+        ensures text { OnOk result (string_bytes out.new ≡ string_bytes out.old
+            ++ past_lines self.now.word.now (setup_in board.old) (suc (state_in board.old).turn) (until - (state_in board.old).turn)) }
+        ensures valid { OnOk result (IsValid (setup_in board.old) (state_in board.new)) }
+        ensures ends { GoesOnTo ⟦<dyn System as System>⟧ (after (setup_in board.old) (own_turns (setup_in board.old) 0 until)) result board.old board.new }
+    {
+        let setup = board.setup();
+        let begun = board.scene().state.turn;
+        for number in begun..until {
+            play(self.alloc, board, self.orders, number + 1)?;
+            push_line(self.word, setup, board.scene().state, out)?;
+        }
+        Ok(())
+    }
+
+    // Starts a board, and plays it to a turn with a line for each.
+    fn start_until(
+        &self,
+        board: &mut Board<'_>,
+        turn: u32,
+        out: &mut String,
+    ) -> Result<(), OutOfMemory>
+        requires { MayReach (setup_in board.old) turn (systems board.old ⟦<dyn System as System>⟧) }
+        ensures text { OnOk result (string_bytes out.new ≡ string_bytes out.old
+            ++ past_lines self.now.word.now (setup_in board.old) 0 (suc turn)) }
+        ensures valid { OnOk result (IsValid (setup_in board.old) (state_in board.new)) }
+        ensures ends { ComesTo ⟦<dyn System as System>⟧ (after (setup_in board.old) (own_turns (setup_in board.old) 0 turn)) result board.old board.new }
+    {
+        board.start()?;
+        push_line(self.word, board.setup(), board.scene().state, out)?;
+        self.push_past(board, turn, out)
+    }
+
+    // Plays a board from its first state to the end with a line for each turn, and gives the bytes of the state at a turn.
+    fn start_lines(
+        &self,
+        board: &mut Board<'_>,
+        turn: u32,
+        out: &mut String,
+    ) -> Result<Vec<u8>, OutOfMemory>
+        requires { MayReach (setup_in board.old) turn (systems board.old ⟦<dyn System as System>⟧) }
+        ensures bytes { IfOk result (λ bytes. StandsFor (setup_in board.old) bytes.items (after (setup_in board.old) (own_turns (setup_in board.old) 0 turn))) }
+        ensures text { OnOk result (string_bytes out.new ≡ string_bytes out.old
+            ++ past_lines self.now.word.now (setup_in board.old) 0 (suc (setup_in board.old).turns)) }
+        ensures ends { ComesTo ⟦<dyn System as System>⟧ (after (setup_in board.old) (own_turns (setup_in board.old) 0 (setup_in board.old).turns)) result
+            board.old board.new }
+    {
+        self.start_until(board, turn, out)?;
+        let setup = board.setup();
+        let bytes = spell(self.alloc, setup, board.scene().state)?;
+        self.push_past(board, setup.turns, out)?;
+        Ok(bytes)
+    }
+
+    // Has a board take a state of the match, and plays it to the end with a line for each turn.
+    fn adopt_lines(
+        &self,
+        board: &mut Board<'_>,
+        state: State,
+        out: &mut String,
+    ) -> Result<(), OutOfMemory>
+        requires resumes { MayResume (setup_in board.old) state (systems board.old ⟦<dyn System as System>⟧) }
+        requires own { state ≡ after (setup_in board.old) (own_turns (setup_in board.old) 0 state.turn) }
+        ensures text { OnOk result (string_bytes out.new ≡ string_bytes out.old
+            ++ past_lines self.now.word.now (setup_in board.old) state.turn (suc ((setup_in board.old).turns - state.turn))) }
+        ensures ends { ComesTo ⟦<dyn System as System>⟧ (after (setup_in board.old) (own_turns (setup_in board.old) 0 (setup_in board.old).turns)) result
+            board.old board.new }
+    {
+        board.adopt(state)?;
+        let setup = board.setup();
+        push_line(self.word, setup, board.scene().state, out)?;
+        self.push_past(board, setup.turns, out)
+    }
+
+    // Plays on from a state of the match with the systems of a rig. The lines stand behind a text.
+    fn rest_text(
+        &self,
+        setup: &Setup,
+        state: State,
+        rig: Rig,
+        text: String,
+    ) -> (Result<String, OutOfMemory>, Rig)
+        requires resumes { MayResume setup.now state (systems_of rig ⟦<dyn System as System>⟧) }
+        requires own { state ≡ after setup.now (own_turns setup.now 0 state.turn) }
+        ensures text { IfOk result.0 (λ made. string_bytes made ≡ string_bytes text
+            ++ past_lines self.now.word.now setup.now state.turn (suc (setup.now.turns - state.turn))) }
+        ensures played { HasPlayed ⟦<dyn System as System>⟧ setup.now (after setup.now (own_turns setup.now 0 setup.now.turns)) result.0 rig result.1 }
+    {
+        let mut board = Board::new(self.alloc, setup, rig);
+        let mut lines = text;
+        let played = self.adopt_lines(&mut board, state, &mut lines);
+        let (_, rig) = board.finish();
+        match played {
+            Ok(()) => (Ok(lines), rig),
+            Err(error) => (Err(error), rig),
+        }
     }
 }

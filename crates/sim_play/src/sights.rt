@@ -1,9 +1,10 @@
 //! What the players of a match see, and have explored, at a turn of it. The systems of a rig play it, which is handed back.
 
 ghost use Rattle.std.specs.Prelude.{◌≡◌, ℕ, ◌-◌, ◌*◌, ◌≤◌, List, length, IfOk, OnOk, string_bytes};
-ghost use Rattle.sim_play.specs.{Common.sight_text as text_of_vision, Common.state_in, Common.systems, Common.systems_of, Common.vision_after, States.later_of};
-ghost use Rattle.sim_play.specs.{Lines.end_from, Seen.resight_text as text_of_resight, Seen.sight_file, Seen.sight_text as text_of_sight};
-ghost use Rattle.sim_play.specs.Common.{after, AreBuiltOnceAtMost, AreFed, cells_in, HaveKinds, IsSetup, IsValid, IsWhole, joined_at, own_turns, setup_in};
+ghost use Rattle.sim_play.specs.{Common.sight_text as text_of_vision, Common.systems, Common.systems_of, Common.vision_after};
+ghost use Rattle.sim_play.specs.{States.later_of, Lines.end_from, Seen.resight_text as text_of_resight, Seen.sight_file, Seen.sight_text as text_of_sight};
+ghost use Rattle.sim_play.specs.Common.{after, AreBuiltOnceAtMost, AreFed, cells_in, HaveKinds, IsSetup, IsValid, joined_at, own_turns, setup_in};
+ghost use Rattle.sim_play.specs.Playing.{ComesTo, MayReach, MayResume};
 
 use crate::following::{adopt_following, start_following};
 use sim_base::{OutOfMemory, Setup, State};
@@ -20,16 +21,10 @@ fn tell_from_the_start(
     orders: &OrderTable,
     turn: u32,
 ) -> Result<(String, Vec<u8>), OutOfMemory>
-    requires limits { IsSetup (setup_in board.old) }
-    requires turn { turn ≤ (setup_in board.old).turns }
-    requires kinds { HaveKinds (systems board.old ⟦<dyn System as System>⟧) }
+    requires { MayReach (setup_in board.old) turn (systems board.old ⟦<dyn System as System>⟧) }
     ensures text { IfOk result (λ told. string_bytes told.0 ≡ text_of_sight (setup_in board.old) turn) }
     ensures file { IfOk result (λ told. told.1.items ≡ sight_file (setup_in board.old) turn) }
-    ensures state { OnOk result (state_in board.new ≡ after (setup_in board.old) (own_turns (setup_in board.old) 0 turn)) }
-    ensures whole { OnOk result (IsWhole board.new ⟦<dyn System as System>⟧) }
-    ensures kinds { HaveKinds (systems board.new ⟦<dyn System as System>⟧) }
-    ensures most { AreBuiltOnceAtMost (systems board.old ⟦<dyn System as System>⟧) (systems board.new ⟦<dyn System as System>⟧) }
-    ensures setup { setup_in board.new ≡ setup_in board.old }
+    ensures ends { ComesTo ⟦<dyn System as System>⟧ (after (setup_in board.old) (own_turns (setup_in board.old) 0 turn)) result board.old board.new }
 {
     let mut sight = Sight::new(alloc, board.setup())?;
     start_following(alloc, board, orders, &mut sight, turn)?;
@@ -70,17 +65,11 @@ fn tell_from_a_state(
     orders: &OrderTable,
     sight: Sight<'_>,
 ) -> Result<String, OutOfMemory>
-    requires limits { IsSetup (setup_in board.old) }
-    requires valid { IsValid (setup_in board.old) state }
-    requires kinds { HaveKinds (systems board.old ⟦<dyn System as System>⟧) }
+    requires resumes { MayResume (setup_in board.old) state (systems board.old ⟦<dyn System as System>⟧) }
     requires same { sight.setup ≡ setup_in board.old }
     ensures text { IfOk result (λ text. string_bytes text
         ≡ text_of_vision (vision_after sight.entry (later_of (setup_in board.old) state ((setup_in board.old).turns - state.turn)))) }
-    ensures state { OnOk result (state_in board.new ≡ end_from (setup_in board.old) state) }
-    ensures whole { OnOk result (IsWhole board.new ⟦<dyn System as System>⟧) }
-    ensures kinds { HaveKinds (systems board.new ⟦<dyn System as System>⟧) }
-    ensures most { AreBuiltOnceAtMost (systems board.old ⟦<dyn System as System>⟧) (systems board.new ⟦<dyn System as System>⟧) }
-    ensures setup { setup_in board.new ≡ setup_in board.old }
+    ensures ends { ComesTo ⟦<dyn System as System>⟧ (end_from (setup_in board.old) state) result board.old board.new }
 {
     let mut sight = sight;
     adopt_following(alloc, board, state, orders, &mut sight)?;

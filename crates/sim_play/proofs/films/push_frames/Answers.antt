@@ -10,8 +10,8 @@ loop-turn-init g c =
     let state = c.args.board.now.state in
     let old = string_bytes c.args.out.now in
     let shown = c.scene.result.state.now in
-    let fed = c.requires.whole.standing.fed in
-    let first : state ≡ after setup (own_turns setup 0 0) = c.requires.first in
+    let fed = c.requires.begun.whole.standing.fed in
+    let first : state ≡ after setup (own_turns setup 0 0) = c.requires.begun.first in
     let written : string_bytes c.push_told.new.out ≡ old ++ told_frame every setup state =
     c.in_ok-push_told.ensures ∙ ap (λ (s : Setup). old ++ told_frame every s shown) c.setup-setup.ensures
     ∙ ap (λ (s : State). old ++ told_frame every setup s) c.scene.ensures.state in
@@ -19,9 +19,9 @@ loop-turn-init g c =
       state = first;
       turn = own_at setup state 0 first;
       text = film_more setup every 0 state old old (string_bytes c.push_told.new.out) first (sym (append-nil old)) written;
-      valid = c.requires.valid;
+      valid = c.requires.begun.valid;
       same = refl;
-      whole = c.requires.whole;
+      whole = c.requires.begun.whole;
       kept = record {
         kinds = record { ground = fed.ground.kinds; range = fed.range.kinds; watch = fed.watch.kinds; census = fed.census.kinds };
         rebuilds = record { ground = refl; range = refl; watch = refl; census = refl };

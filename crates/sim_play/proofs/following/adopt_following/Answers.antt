@@ -1,12 +1,15 @@
 -- The board took the state.
+use Rattle.sim_play.proofs.Playing.{came}
 use Rattle.sim_play.proofs.Common.{◌≡◌, ℕ, ◌-◌, OnOk, ap, arith, from, IsValid, later_of}
 use Rattle.sim_play.proofs.Common.{own_turns, Setup, setup_in, State, state_in, subst, sym, vision_after, ◌∙◌}
 use Rattle.sim_play.proofs.following.adopt_following.Goals as goal
 
-pub follow_until-requires-clause-valid : goal.follow_until-requires-clause-valid
-follow_until-requires-clause-valid g c =
-    subst (IsValid (setup_in c.adopt.new.self)) (sym c.in_ok-adopt.ensures.state)
-    (subst (λ (s : Setup). IsValid s c.args.state) (sym c.in_ok-adopt.ensures.setup) c.requires.valid)
+pub follow_until-requires-clause-goes_on : goal.follow_until-requires-clause-goes_on
+follow_until-requires-clause-goes_on g c = record {
+  whole = c.in_ok-adopt.ensures.whole;
+  valid = subst (IsValid (setup_in c.adopt.new.self)) (sym c.in_ok-adopt.ensures.state)
+      (subst (λ (s : Setup). IsValid s c.args.state) (sym c.in_ok-adopt.ensures.setup) c.requires.resumes.valid);
+}
 
 pub follow_until-requires-clause-ahead : goal.follow_until-requires-clause-ahead
 follow_until-requires-clause-ahead g c =
@@ -14,7 +17,7 @@ follow_until-requires-clause-ahead g c =
       arith,
       ap (λ (s : State). s.turn) c.in_ok-adopt.ensures.state,
       ap (λ (s : Setup). s.turns) (c.setup.ensures ∙ c.in_ok-adopt.ensures.setup),
-      c.requires.valid.turn,
+      c.requires.resumes.valid.turn,
     )
 
 pub follow_until-requires-clause-within : goal.follow_until-requires-clause-within
@@ -35,14 +38,13 @@ returns-clause-followed g c =
     ∙ ap (λ (s : Setup). all setup c.args.state (s.turns - c.args.state.turn)) (c.setup.ensures ∙ c.in_ok-adopt.ensures.setup))
     c.follow_until.ensures.followed
 
-pub returns-clause-state : goal.returns-clause-state
-returns-clause-state g c =
+pub returns-clause-ends : goal.returns-clause-ends
+returns-clause-ends g c =
     let setup = setup_in c.args.board.now in
     let state = state_in c.adopt.new.self in
     let last = c.setup.result.now.turns in
-    subst (λ (s : State). OnOk c.follow_until.result (state_in c.follow_until.new.board ≡ s))
+    came _ _ _ c.follow_until.result _ c.adopt.new.self _ c.in_ok-adopt.ensures.most c.in_ok-adopt.ensures.setup c.follow_until.ensures.ends
     (ap (λ (s : Setup). from s state (own_turns s state.turn (last - state.turn))) c.in_ok-adopt.ensures.setup
     ∙ ap (λ (s : State). from setup s (own_turns setup s.turn (last - s.turn))) c.in_ok-adopt.ensures.state
     ∙ ap (λ (s : Setup). from setup c.args.state (own_turns setup c.args.state.turn (s.turns - c.args.state.turn)))
     (c.setup.ensures ∙ c.in_ok-adopt.ensures.setup))
-    c.follow_until.ensures.state

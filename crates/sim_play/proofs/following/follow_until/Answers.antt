@@ -16,9 +16,9 @@ loop-number-init g c =
       turn = sym same;
       followed = ap (λ (k : ℕ). vision_after c.args.sight.now (later_of setup start k)) (sym none);
       follows = c.requires.same;
-      valid = c.requires.valid;
+      valid = c.requires.goes_on.valid;
       same = refl;
-      whole = c.requires.whole;
+      whole = c.requires.goes_on.whole;
       kept = search rules;
     }
 

@@ -8,7 +8,7 @@ pub loop-commands-init : goal.loop-commands-init
 loop-commands-init g c =
     let setup = setup_in c.args.board.now in
     let start = state_in c.args.board.now in
-    let first : start ≡ state_after setup (take 0 c.args.turns.now) = c.requires.first in
+    let first : start ≡ state_after setup (take 0 c.args.turns.now) = c.requires.begun.first in
     let shown = c.scene.result.state.now in
     let told : c.digest.result ≡ digest setup start =
     c.digest.ensures ∙ ap (λ (s : Setup). digest s shown) c.setup-setup.ensures ∙ ap (digest setup) c.scene.ensures.state in
@@ -17,10 +17,10 @@ loop-commands-init g c =
     record {
       digests = digests_more setup c.args.turns.now 0 start [] c.push.new.self first refl made;
       state = first;
-      valid = c.requires.valid;
+      valid = c.requires.begun.valid;
       same = refl;
-      whole = c.requires.whole;
-      kept = kept_so_far setup start (systems_by (rig_in c.args.board.now) (λ i v. (goal.System-dyn g (i, v)).meaning v)) c.requires.whole.standing.fed;
+      whole = c.requires.begun.whole;
+      kept = kept_so_far setup start (systems_by (rig_in c.args.board.now) (λ i v. (goal.System-dyn g (i, v)).meaning v)) c.requires.begun.whole.standing.fed;
     }
 
 pub turn-requires-clause-below : goal.turn-requires-clause-below

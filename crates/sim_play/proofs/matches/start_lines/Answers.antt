@@ -3,8 +3,11 @@ use Rattle.sim_play.proofs.Common.{◌≡◌, ℕ, List, ◌++◌, OnOk, string_
 use Rattle.sim_play.proofs.Starting.{started_lines, started_valid}
 use Rattle.sim_play.proofs.matches.start_lines.Goals as goal
 
-pub push_turns-requires-clause-valid : goal.push_turns-requires-clause-valid
-push_turns-requires-clause-valid g c = started_valid _ _ _ c.in_ok-start.ensures.setup c.in_ok-start.ensures.state c.requires.limits
+pub push_turns-requires : goal.push_turns-requires
+push_turns-requires g c = record {
+  whole = c.in_ok-start.ensures.whole;
+  valid = started_valid _ _ _ c.in_ok-start.ensures.setup c.in_ok-start.ensures.state c.requires.limits;
+}
 
 pub returns-clause-text : goal.returns-clause-text
 returns-clause-text g c =

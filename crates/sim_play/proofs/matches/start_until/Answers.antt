@@ -1,5 +1,6 @@
 -- The board was started.
-use Rattle.sim_play.proofs.Common.{◌≡◌, OnOk, arith, State, state_in, subst}
+use Rattle.sim_play.proofs.Playing.{came}
+use Rattle.sim_play.proofs.Common.{arith}
 use Rattle.sim_play.proofs.Starting.{started_turn, started_until, started_valid}
 use Rattle.sim_play.proofs.matches.start_until.Goals as goal
 
@@ -9,7 +10,8 @@ play-requires-clause-valid g c = started_valid _ _ _ c.in_ok-start.ensures.setup
 pub play-requires-clause-ahead : goal.play-requires-clause-ahead
 play-requires-clause-ahead g c = omega (arith, started_turn _ _ _ c.in_ok-start.ensures.setup c.in_ok-start.ensures.state)
 
-pub returns-clause-state : goal.returns-clause-state
-returns-clause-state g c =
-    subst (λ (state : State). OnOk c.play.result (state_in c.play.new.board ≡ state))
-    (started_until _ _ _ c.in_ok-start.ensures.setup c.in_ok-start.ensures.state c.args.turn) c.play.ensures.state
+pub returns-clause-ends : goal.returns-clause-ends
+returns-clause-ends g c =
+    came _ _ _ c.play.result _ c.start.new.self _ c.in_ok-start.ensures.most c.in_ok-start.ensures.setup
+    (record { state = c.play.ensures.state; whole = c.play.ensures.whole; kept = c.play.ensures.kept; setup = c.play.ensures.setup })
+    (started_until _ _ _ c.in_ok-start.ensures.setup c.in_ok-start.ensures.state c.args.turn)

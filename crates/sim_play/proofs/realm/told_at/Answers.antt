@@ -21,5 +21,5 @@ returns-clause-text g c =
     let of_match = ap (λ (r : RealmOf). r.setup) c.in_ok-realm.ensures ∙ c.setup-setup.ensures in
     let followed = c.in_ok-follow.ensures.ok
     ∙ ap (λ (s : Setup). realm_of s c.scene.result.state.now) of_match
-    ∙ ap (realm_of setup) (c.scene.ensures.state ∙ c.in_ok-start_until.ensures.state) in
+    ∙ ap (realm_of setup) (c.scene.ensures.state ∙ c.in_ok-start_until.ensures.ends.state) in
     subst (λ (r : RealmOf). IfOk c.told.result (λ text. TellsRealm r (string_bytes text))) followed c.told.ensures

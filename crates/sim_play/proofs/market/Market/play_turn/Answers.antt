@@ -11,7 +11,7 @@ paid_turn-requires-clause-players g c =
     ap (orders_at c.args.number) (c.as_slice.ensures ∙ ap (λ (s : Setup). s.commands) c.setup-setup.ensures) in
     subst (All (IsOrderOf setup)) (sym orders)
     (subst (λ (k : ℕ). All (IsOrderOf setup) (orders_at k setup.commands)) (sym c.requires.number)
-    (own_orders setup (state_in c.args.board.now).turn c.requires.whole.standing.limits))
+    (own_orders setup (state_in c.args.board.now).turn c.requires.goes_on.whole.standing.limits))
 
 pub returns-clause-books : goal.returns-clause-books
 returns-clause-books g c =

@@ -1,4 +1,5 @@
 -- The first state has its line, and one paid turn more is played and has its line.
+use Rattle.sim_play.proofs.Common.{paid_state, rules}
 use Rattle.sim_play.proofs.Common.{paid_lines, paid_turn, rig_in, Setup, setup_in, State, state_in, subst, sym, systems_by, turn_line, ◌∙◌}
 use Rattle.sim_play.proofs.Common.{◌≡◌, ℕ, suc, ◌+◌, ◌++◌, string_bytes, codes, refl, ap, arith, books_after, books_of, digest, IsEconomy, IsValid, orders_at}
 use Rattle.sim_play.proofs.PaidOnes.{books_more, books_state, books_turn, first_line, kept_so_far, paid_lines_more}
@@ -11,7 +12,7 @@ loop-turn-init g c =
     let economy = c.args.self.now.economy.now in
     let start = state_in c.args.board.now in
     let old = string_bytes c.args.out.now in
-    let books : books_of start economy.start ≡ books_after setup economy 0 = ap (λ (s : State). books_of s economy.start) c.requires.started in
+    let books : books_of start economy.start ≡ books_after setup economy 0 = ap (λ (s : State). books_of s economy.start) c.requires.begun.first in
     let shown = c.scene.result.state.now in
     let written : string_bytes c.push_line.new.out ≡ old ++ turn_line (codes "turn") 0 (digest setup start) =
     c.in_ok-push_line.ensures ∙ ap (λ (s : Setup). old ++ turn_line (codes "turn") shown.turn (digest s shown)) c.setup-setup.ensures
@@ -22,14 +23,16 @@ loop-turn-init g c =
       total_is = omega (arith, c.requires.economy.start.sum);
       text = first_line setup economy old (string_bytes c.push_line.new.out) (digest setup start) written
           (ap (digest setup) (books_state setup economy start economy.start 0 books));
-      valid = c.requires.valid;
+      valid = c.requires.begun.valid;
       same = refl;
-      whole = c.requires.whole;
-      kept = kept_so_far setup start (systems_by (rig_in c.args.board.now) (λ i v. (goal.System-dyn g (i, v)).meaning v)) c.requires.whole.standing.fed;
+      whole = c.requires.begun.whole;
+      kept = kept_so_far setup start (systems_by (rig_in c.args.board.now) (λ i v. (goal.System-dyn g (i, v)).meaning v)) c.requires.begun.whole.standing.fed;
     }
 
-pub play_turn-requires-clause-valid : goal.play_turn-requires-clause-valid
-play_turn-requires-clause-valid g c = subst (λ (s : Setup). IsValid s (state_in c.loop-turn.board)) (sym c.loop-turn.invariant.same) c.loop-turn.invariant.valid
+pub play_turn-requires-clause-goes_on : goal.play_turn-requires-clause-goes_on
+play_turn-requires-clause-goes_on g c =
+    let i = c.loop-turn.invariant in
+    record { whole = i.whole; valid = subst (λ (s : Setup). IsValid s (state_in c.loop-turn.board)) (sym i.same) i.valid }
 
 pub play_turn-requires-clause-below : goal.play_turn-requires-clause-below
 play_turn-requires-clause-below g c =
@@ -51,7 +54,7 @@ play_turn-requires-clause-economy g c = subst (λ (s : Setup). IsEconomy s c.arg
 pub play_turn-requires-clause-total : goal.play_turn-requires-clause-total
 play_turn-requires-clause-total g c =
     let asked = ap (λ (s : Setup). s.turns) c.setup-setup.ensures in
-    omega (arith, c.loop-turn.invariant.total_is, asked, c.requires.whole.standing.limits.turns, c.loop-turn-test.true)
+    omega (arith, c.loop-turn.invariant.total_is, asked, c.requires.begun.whole.standing.limits.turns, c.loop-turn-test.true)
 
 pub loop-turn-preserved : goal.loop-turn-preserved
 loop-turn-preserved g c =
@@ -86,4 +89,18 @@ loop-turn-preserved g c =
       same = played.setup ∙ i.same;
       whole = played.whole;
       kept = kept_on _ _ _ i.kept played.kept;
+    }
+
+pub returns-clause-ends : goal.returns-clause-ends
+returns-clause-ends g c =
+    let setup = setup_in c.args.board.now in
+    let economy = c.args.self.now.economy.now in
+    let i = c.loop-turn.invariant in
+    let asked = ap (λ (s : Setup). s.turns) c.setup-setup.ensures in
+    let last : c.loop-turn.turn ≡ setup.turns = search rules in
+    record {
+      state = books_state setup economy (state_in c.loop-turn.board) c.loop-turn.stocks c.loop-turn.turn i.books ∙ ap (paid_state setup economy) last;
+      whole = i.whole;
+      kept = i.kept;
+      setup = i.same;
     }

@@ -1,12 +1,12 @@
 -- One turn more is played, and has its line.
 use Rattle.sim_play.proofs.{Common.turn_line, Common.◌∙◌, Past.own_more, Past.past_lines-more, Playing.kept_on, Playing.next_number}
 use Rattle.sim_play.proofs.Common.{◌≡◌, ℕ, suc, ◌+◌, ◌-◌, ◌++◌, string_bytes, ap, arith, digest, from, IsValid, own_turns, past_lines, Setup, State, subst, sym}
-use Rattle.sim_play.proofs.lines.push_past.Goals as goal
+use Rattle.sim_play.proofs.rejoin.Client.push_past.Goals as goal
 
 pub loop-number-preserved : goal.loop-number-preserved
 loop-number-preserved g c =
     let setup = c.args.board.now.setup.now in
-    let word = c.args.word.now in
+    let word = c.args.self.now.word.now in
     let start = c.args.board.now.state in
     let i = c.loop-number.invariant in
     let old = c.loop-number.board.state in

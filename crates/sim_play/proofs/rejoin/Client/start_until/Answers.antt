@@ -1,11 +1,14 @@
 -- The board was started, has its first line, and is played on.
 use Rattle.sim_play.proofs.{Past.begun_lines, Past.of_done, Past.own_start, Starting.started_turn, Starting.started_valid}
 use Rattle.sim_play.proofs.Common.{State, state_in, subst, sym, turn_line, ◌∙◌}
-use Rattle.sim_play.proofs.Common.{◌≡◌, ℕ, suc, ◌-◌, ◌++◌, string_bytes, codes, after, ap, arith, digest, IsValid, own_turns, past_lines, Setup, setup_in}
-use Rattle.sim_play.proofs.rejoin.first_until.Goals as goal
+use Rattle.sim_play.proofs.Common.{◌≡◌, ℕ, suc, ◌-◌, ◌++◌, string_bytes, after, ap, arith, digest, IsValid, own_turns, past_lines, Setup, setup_in}
+use Rattle.sim_play.proofs.rejoin.Client.start_until.Goals as goal
 
-pub push_past-requires-clause-valid : goal.push_past-requires-clause-valid
-push_past-requires-clause-valid g c = started_valid _ _ _ c.in_ok-start.ensures.setup c.in_ok-start.ensures.state c.requires.limits
+pub push_past-requires-clause-goes_on : goal.push_past-requires-clause-goes_on
+push_past-requires-clause-goes_on g c = record {
+  whole = c.in_ok-start.ensures.whole;
+  valid = started_valid _ _ _ c.in_ok-start.ensures.setup c.in_ok-start.ensures.state c.requires.limits;
+}
 
 pub push_line-requires : goal.push_line-requires
 push_line-requires g c =
@@ -26,7 +29,7 @@ returns-clause-text g c =
     let setup = setup_in c.args.board.now in
     let same = setup_in c.start.new.self in
     let state = state_in c.start.new.self in
-    let word = codes "first" in
+    let word = c.args.self.now.word.now in
     let old = string_bytes c.args.out.now in
     let middle = string_bytes c.push_line.new.out in
     let zero_turn : state.turn ≡ 0 = started_turn _ _ _ c.in_ok-start.ensures.setup c.in_ok-start.ensures.state in

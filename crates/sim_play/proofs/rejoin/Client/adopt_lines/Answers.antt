@@ -1,7 +1,7 @@
 -- The board took the state, has its line, and is played on.
 use Rattle.sim_play.proofs.{Common.sym, Common.turn_line, Common.◌∙◌, Past.begun_lines, Past.of_done}
-use Rattle.sim_play.proofs.Common.{◌≡◌, suc, ◌-◌, ◌++◌, string_bytes, codes, after, ap, digest, own_turns, past_lines, Setup, setup_in, State, state_in, subst}
-use Rattle.sim_play.proofs.rejoin.second_lines.Goals as goal
+use Rattle.sim_play.proofs.Common.{◌≡◌, suc, ◌-◌, ◌++◌, string_bytes, after, ap, digest, own_turns, past_lines, Setup, setup_in, State, state_in, subst}
+use Rattle.sim_play.proofs.rejoin.Client.adopt_lines.Goals as goal
 
 pub push_past-requires-clause-own : goal.push_past-requires-clause-own
 push_past-requires-clause-own g c =
@@ -15,7 +15,7 @@ returns-clause-text g c =
     let same = setup_in c.adopt.new.self in
     let state = c.args.state in
     let taken = c.in_ok-adopt.ensures.state in
-    let word = codes "second" in
+    let word = c.args.self.now.word.now in
     let old = string_bytes c.args.out.now in
     let middle = string_bytes c.push_line.new.out in
     let new = string_bytes c.push_past.new.out in
