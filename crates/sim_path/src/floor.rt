@@ -31,6 +31,9 @@ pub trait Floor: Copy {
 
 /// A floor over which a walk goes back.
 pub trait Descent: Floor {
+    /// How many steps back from an end are tried, those into dead ends too.
+    fn tries(self, start: Cell, end: Cell) -> u32;
+
     /// The first cell in the order of the directions from which a step makes up the floor of this one, but for the dead ones.
     fn first_tight(self, grid: &Grid, start: Cell, at: Cell, dead: &Marks) -> Option<Cell>
         requires start_on { IsOnGround grid.now.size start }

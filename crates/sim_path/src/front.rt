@@ -92,6 +92,7 @@ impl<'a> Floor for Front<'a> {
     ghost use Rattle.sim_path.specs.Floors.{floor_of, IsFront};
 
     ghost floor_of = { floor_of };
+
     ghost holds = { IsFront };
 
     // The octile distance is reckoned only where it matters.
@@ -121,6 +122,10 @@ impl<'a> Floor for Front<'a> {
 }
 
 impl<'a> Descent for Front<'a> {
+    fn tries(self, start: Cell, end: Cell) -> u32 {
+        self.floor(start, end) / 10 + 48
+    }
+
     fn first_tight(self, grid: &Grid, start: Cell, at: Cell, dead: &Marks) -> Option<Cell> {
         let cost = left_at(&self, at);
         if is_unknown(&self, start, at, cost) {

@@ -38,7 +38,8 @@ impl<'a> Slope<'a> {
         ensures { result ≡ self.now.whole - 2 * number_in self.now.distances.now cell }
     {
         let distances = self.distances;
-        self.whole.saturating_sub(Toward { distances }.estimate(cell))
+        self.whole
+            .saturating_sub(Toward { distances }.estimate(cell))
     }
 }
 
@@ -46,6 +47,7 @@ impl<'a> Floor for Slope<'a> {
     ghost use Rattle.sim_path.specs.{Floors.IsSlope, Floors.slope_of, SlopeLaws.slope-floor};
 
     ghost floor_of = { slope_of };
+
     ghost holds = { IsSlope };
 
     fn floor(self, start: Cell, cell: Cell) -> u32 {
@@ -61,6 +63,16 @@ impl<'a> Floor for Slope<'a> {
 }
 
 impl<'a> Descent for Slope<'a> {
+    // Where a way is winding the octile distance tells dead ends too late, and a search by the distances is quicker.
+    fn tries(self, start: Cell, end: Cell) -> u32 {
+        let straight = octile(end, start);
+        if self.whole.saturating_sub(straight) < straight / 2 {
+            self.whole.saturating_mul(3)
+        } else {
+            0
+        }
+    }
+
     fn first_tight(self, grid: &Grid, start: Cell, at: Cell, dead: &Marks) -> Option<Cell> {
         let cost = self.floor(start, at);
         first_known(grid, self, start, Reached { cell: at, cost }, dead)

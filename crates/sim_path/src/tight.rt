@@ -87,7 +87,7 @@ fn tight_trail<F: Descent>(
         return Ok(false);
     }
     let mut at = end;
-    for _ in 0..floor.floor(start, end) / 10 + 48 {
+    for _ in 0..floor.tries(start, end) {
         if at == start {
             return Ok(true);
         }
