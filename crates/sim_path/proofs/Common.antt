@@ -23,12 +23,13 @@ pub use Rattle.sim_laws.proofs.{Neighbours.cell_at-some, Neighbours.neighbour-ba
 pub use Rattle.sim_path.specs.Answers.{way_in}
 pub use Rattle.sim_path.specs.WayEnds.{AreEnds, HasGoneTo, IsBestOf, IsNoneOf, IsTrailToEnd, IsWayEnd, LeadBack}
 pub use Rattle.sim_path.specs.{Away.AreAway, Away.leads_away, Ends.IsBeforeCell, Ends.IsBeforeRow, Ends.IsBest, Ends.IsFirstLead, Ends.key_to, Ends.LeadsBy}
-pub use Rattle.sim_path.specs.Floors.{floor_of, IsFloor, IsFront, IsUnknown, known_or, left_of}
+pub use Rattle.sim_path.specs.WalkFloors.{IsFloor}
+pub use Rattle.sim_path.specs.Floors.{floor_of, IsFront, IsUnknown, known_or, left_of}
 pub use Rattle.sim_path.specs.MarkTables.{marked_in, marks_of, size_of_marks}
 pub use Rattle.sim_path.specs.Nearest.{Considers, IsAbout, IsInPart, IsInRows, IsInWindow, IsScanned, shore_label}
 pub use Rattle.sim_path.specs.Straight.{AreDead, floor_cost, HasTightStep, IsAcross, IsAlong, IsFirstTight, IsTight, IsTightStep, IsTightTrail, IsTightWay}
 pub use Rattle.sim_path.specs.Straight.{LeadsAcross, LeadsAlong, octile_from}
-pub use Rattle.sim_path.specs.declared.{floor.Front.Front, nearest.Ends.Ends, nearest.Window.Window, reached.Reached.Reached}
+pub use Rattle.sim_path.specs.declared.{front.Front.Front, nearest.Ends.Ends, nearest.Window.Window, reached.Reached.Reached}
 pub use Rattle.sim_search.proofs.{Moves.back_step, Moves.even_step, Moves.free-of_walk, Moves.least_step, Moves.move-of, Moves.step_back, Regions.labels-tell}
 pub use Rattle.sim_search.proofs.Cells.{entry_at-off, entry_at-set_other, entry_at-set_same, has_cell-true, same_or_not}
 pub use Rattle.sim_search.proofs.Octile.{beside_of, estimate-falls, estimate-guides, octile-near, octile-none, octile-self, turned}

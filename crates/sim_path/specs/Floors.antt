@@ -1,12 +1,8 @@
 -- What walks from a start cost at least, by what a search knows.
-use Rattle.{sim_path.specs.declared.floor.Front.Front, sim_search.specs.Estimates.estimate_to, sim_search.specs.Tables.cost_in, sim_search.specs.Taking.HasCost}
-use Rattle.std.specs.Prelude.{◌≡◌, ℕ, ◌+◌, ◌-◌, ◌<◌, ◌≤◌, min, max, Some, None, Option}
+use Rattle.{sim_path.specs.WalkFloors.IsFloor, sim_path.specs.declared.front.Front.Front, sim_path.specs.declared.slope.Slope.Slope, sim_search.specs.Estimates.estimate_to, sim_search.specs.Tables.cost_in, sim_search.specs.Taking.HasCost}
+use Rattle.std.specs.Prelude.{◌≡◌, ℕ, ◌+◌, ◌-◌, ◌*◌, ◌<◌, ◌≤◌, true, min, max, Some, None, Option}
+use Rattle.sim_search.specs.Distances.{AreDistances, number_in}
 use Rattle.sim_base.specs.{Steps.Field, Steps.IsStep, Steps.octile, declared.place.Cell.Cell}
-
--- a floor is nothing at the start, and rises along a step by at most what the step costs, so no walk costs less
-pub record IsFloor (field : Field) (start : Cell) (floor : Cell → ℕ) : Type 0 where
-  pub begins : floor start ≡ 0
-  pub rises : (a b : Cell) (k : ℕ) → IsStep field start a b k → floor b ≤ floor a + k
 
 -- the cost that is known, or the bound where that is less
 abbrev pub known_or : Option ℕ → ℕ → ℕ
@@ -33,3 +29,14 @@ pub record IsUnknown (front : Front) (start c : Cell) : Type 0 where
   pub none : cost_in front.costs.now c ≡ None
   pub far : octile c start ≤ left_of front c
   pub beyond : front.aim.near ≤ octile c front.aim.goal
+
+-- what a walk from the start to a cell costs at least: the octile distance, and what a way to the goal leaves for it
+abbrev pub slope_of : Slope → Cell → Cell → ℕ
+slope_of s start c = max (octile c start) (s.whole - 2 * number_in s.distances.now c)
+
+-- the distances are those to some goal, and from an open start it takes as much as is told
+pub record IsSlope (field : Field) (start : Cell) (s : Slope) : Type 0 where
+  pub goal : Cell
+  pub is_open : field.is_open start ≡ true
+  pub distances : AreDistances field goal (number_in s.distances.now)
+  pub whole : s.whole ≡ 2 * number_in s.distances.now start

@@ -10,12 +10,14 @@ ghost use Rattle.sim_search.specs.{Estimates.IsNarrow, Regions.AreLabels, Tables
 
 use crate::atlas::Atlas;
 use crate::end::{best_of, end_of};
-use crate::floor::Front;
+use crate::floor::Descent;
+use crate::front::Front;
 use crate::marks::Marks;
 use crate::milestone::milestone;
 use crate::nearest::{is_reached, nearest, shore_of};
 use crate::reached::Reached;
 use crate::remembered::Remembered;
+use crate::slope::Slope;
 use crate::straight::straight_to;
 use crate::tight::tight_to;
 use crate::trail::trail_from;
@@ -323,11 +325,11 @@ impl Searcher {
 
     // Whether a way to one of these ends costs as little as the search knows that it must. If so, the trail is made of its
     // cells, back from that end. False says nothing.
-    fn go_back(
+    fn go_back<F: Descent>(
         &mut self,
         alloc: Global,
         grid: &Grid,
-        front: &Front,
+        floor: F,
         trail: &mut Vec<Cell>,
         near: u32,
         ends: &[Cell],
@@ -336,41 +338,39 @@ impl Searcher {
     ) -> Result<bool, OutOfMemory>
         requires start { IsTrue (is_inside grid.now.size start.now) }
         requires goal { IsTrue (is_inside grid.now.size goal.now) }
-        requires front { IsFront (field_of_grid grid.now) (cell_at start.now) front.now }
+        requires floor { F.holds (field_of_grid grid.now) (cell_at start.now) floor }
         requires ends { AreEnds (field_of_grid grid.now) (cell_at start.now) (cell_at goal.now) near ends.now }
         ensures { IfOk result (λ found. found ≡ true → IsTrailToEnd (field_of_grid grid.now) (cell_at start.now) (cell_at goal.now) trail.new.items) }
     {
         let from = grid.cell_of(*start);
         let to = grid.cell_of(*goal);
         let mut dead = blank_marks(alloc, self.marks.take(), grid.width(), grid.depth())?;
-        let found = tight_to(grid, front, &mut dead, trail, near, ends, from, to);
+        let found = tight_to(grid, floor, &mut dead, trail, near, ends, from, to);
         self.marks = Some(dead);
         found
     }
 
-    // What is kept of this ground, if anything is.
-    fn atlas_of(&mut self, grid: &Grid) -> Option<Atlas>
-        ensures { IfSome result (λ atlas. ground_in atlas.cells ≡ grid.now) }
+    // What is kept of this ground: nothing yet, where there is none.
+    fn atlas_of(&mut self, alloc: Global, grid: &Grid) -> Result<Atlas, OutOfMemory>
+        ensures { IfOk result (λ atlas. ground_in atlas.cells ≡ grid.now) }
     {
-        let atlas = self.atlas.take()?;
-        if atlas.is_of(grid) { Some(atlas) } else { None }
+        match self.atlas.take() {
+            Some(atlas) if atlas.is_of(grid) => Ok(atlas),
+            _ => Atlas::of(alloc, grid),
+        }
     }
 
-    // Notes the detour of a search from a cell, and sets landmarks after many. They are only kept, so want of memory is no refusal.
-    fn note(&mut self, alloc: Global, grid: &Grid, from: Cell, detour: u32)
-        requires on { IsOnGround grid.now.size from }
-        requires is_open { is_open_at grid.now from ≡ true }
-    {
+    // Counts the detour of a search, and answers whether there were many. If so, the count begins anew.
+    fn are_winding(&mut self, detour: u32) -> bool {
         if detour < FAR_ABOUT {
-            return;
+            return false;
         }
         self.detours = self.detours.saturating_add(detour);
-        if MANY < self.detours {
+        let many = MANY < self.detours;
+        if many {
             self.detours = 0;
-            if let Ok(atlas) = Atlas::of(alloc, grid, from) {
-                self.atlas = Some(atlas);
-            }
         }
+        many
     }
 
     // Makes the trail back from the best of these ends by a search, with what is kept of this ground, where something is.
@@ -394,11 +394,11 @@ impl Searcher {
             self.search_straight(alloc, grid, trail, near, ends, start, goal)?;
             return Ok(());
         }
-        if let Some(atlas) = self.atlas_of(grid) {
+        // It is only kept, so want of memory is no refusal.
+        if let Ok(atlas) = self.atlas_of(alloc, grid) {
             return self.search_kept(alloc, grid, atlas, trail, ends, start, goal);
         }
-        let pains = self.search_straight(alloc, grid, trail, near, ends, start, goal)?;
-        self.note(alloc, grid, from, pains.detour);
+        self.search_straight(alloc, grid, trail, 0, ends, start, goal)?;
         Ok(())
     }
 
@@ -422,20 +422,18 @@ impl Searcher {
     {
         let found = self.search_by(alloc, grid, &atlas, trail, ends, start, goal);
         if let Ok(pains) = &found {
-            atlas.note(
-                alloc,
-                grid,
-                &mut self.rooms,
-                grid.cell_of(*goal),
-                pains.opened,
-            );
+            let (from, to) = (grid.cell_of(*start), grid.cell_of(*goal));
+            atlas.note(alloc, grid, &mut self.rooms, to, pains.opened);
+            if atlas.landmarks.is_none() && self.are_winding(pains.detour) {
+                atlas.set_landmarks(alloc, grid, from);
+            }
         }
         self.atlas = Some(atlas);
         found?;
         Ok(())
     }
 
-    // The same by the best estimate that is kept of this ground, to the goal itself.
+    // The same by the best that is kept of this ground, to the goal itself.
     fn search_by(
         &mut self,
         alloc: Global,
@@ -456,7 +454,12 @@ impl Searcher {
         if let Some(distances) = atlas.distances_to(grid.cell_of(*goal)) {
             return self.search_toward(alloc, grid, distances, trail, ends, start, goal);
         }
-        self.search_ahead(alloc, grid, &atlas.landmarks, trail, ends, start, goal)
+        match &atlas.landmarks {
+            Some(landmarks) => {
+                self.search_ahead(alloc, grid, landmarks, trail, ends, start, goal)
+            }
+            None => self.search_straight(alloc, grid, trail, 0, ends, start, goal),
+        }
     }
 
     // The same with these distances to the goal.
@@ -478,6 +481,10 @@ impl Searcher {
         ensures { OnOk result (IsTrailToEnd (field_of_grid grid.now) (cell_at start.now) (cell_at goal.now) trail.new.items) }
     {
         let from = grid.cell_of(*start);
+        let slope = Slope::of(distances, from);
+        if self.go_back(alloc, grid, slope, trail, 0, ends, start, goal)? {
+            return Ok(no_pains());
+        }
         let guide = Toward { distances };
         let stage = started(alloc, grid, self.rooms.take(), guide, from)?;
         self.finish(alloc, grid, stage, guide, trail, 0, ends, start, goal)
@@ -538,7 +545,7 @@ impl Searcher {
         let stage = go_on(alloc, stage, grid, aim, &[milestone, to])?;
         let (costs, key) = (&stage.search.costs, stage.key);
         let front = Front { costs, aim, key };
-        if self.go_back(alloc, grid, &front, trail, near, ends, start, goal)? {
+        if self.go_back(alloc, grid, front, trail, near, ends, start, goal)? {
             let pains = pains_of(&stage, aim, from);
             self.rooms = Some(search_of(stage));
             return Ok(pains);
@@ -581,6 +588,14 @@ impl Searcher {
         self.rooms = Some(search_of(stage));
         found?;
         Ok(pains)
+    }
+}
+
+// How dear it was to do with no search.
+fn no_pains() -> Pains {
+    Pains {
+        detour: 0,
+        opened: 0,
     }
 }
 

@@ -1,7 +1,7 @@
-//! What is kept of a ground from one search to the next: landmarks, and how far the cells are from goals that are asked for often.
-//! They stand beside the open cells of the ground on which they were found, and tell nothing of another.
+//! What is kept of a ground from one search to the next: landmarks, where ways are winding, and how far the cells are from goals that
+//! are asked for often. They stand beside the open cells of the ground on which they were found, and tell nothing of another.
 
-ghost use Rattle.std.specs.Prelude.{All};
+ghost use Rattle.std.specs.{Option.ForSome, Prelude.All};
 ghost use Rattle.{sim_grid.specs.Grids.field_of_grid, sim_search.specs.Rows.AreLandmarks, sim_search.specs.Rows.row_in};
 ghost use Rattle.sim_path.specs.Atlases.{AreOn, ground_in};
 
@@ -15,38 +15,47 @@ use std::alloc::Global;
 // To how many goals distances are kept at most.
 const GOALS: usize = 32;
 
-/// The open cells of a ground, landmarks on it, and the distances to the goals to which searches were dear. The oldest give way.
+/// The open cells of a ground, landmarks on it, if they are set, and the distances to the goals to which searches were dear. The oldest give way.
 #[derive(Drop)]
 pub struct Atlas {
     pub cells: KeptCells,
-    pub landmarks: Landmarks,
+    pub landmarks: Option<Landmarks>,
     goals: Vec<Distances>,
     next: usize,
     dear: Dear,
-    ghost right: { AreLandmarks (field_of_grid (ground_in cells)) (row_in landmarks) },
+    ghost right: { ForSome landmarks (λ l. AreLandmarks (field_of_grid (ground_in cells)) (row_in l)) },
     ghost near: { All (AreOn (field_of_grid (ground_in cells))) goals.items },
 }
 
 impl Atlas {
-    ghost use Rattle.std.specs.Prelude.{◌≡◌, true, IfSome};
+    ghost use Rattle.std.specs.Prelude.{◌≡◌, true, IfOk, IfSome};
     ghost use Rattle.{sim_base.specs.Steps.IsOnGround, sim_grid.specs.Grids.field_of_grid, sim_grid.specs.Grids.is_open_at};
     ghost use Rattle.sim_path.specs.Atlases.{AreOn, ground_in};
     ghost use Rattle.sim_search.specs.Distances.{AreDistances, number_in};
 
-    /// That of a grid, with landmarks that a walk from a cell reaches, and no distances yet.
-    pub fn of(alloc: Global, grid: &Grid, from: Cell) -> Result<Atlas, OutOfMemory>
-        requires on { IsOnGround grid.now.size from }
-        requires is_open { is_open_at grid.now from ≡ true }
+    /// That of a grid, with no landmarks and no distances yet.
+    pub fn of(alloc: Global, grid: &Grid) -> Result<Atlas, OutOfMemory>
+        ensures { IfOk result (λ atlas. ground_in atlas.cells ≡ grid.now) }
     {
         let cells = KeptCells::of(alloc, grid)?;
-        let landmarks = landmarks_on(alloc, grid, from)?;
         Ok(Atlas {
             cells,
-            landmarks,
+            landmarks: None,
             goals: Vec::new(alloc),
             next: 0,
             dear: Dear::new(alloc)?,
         })
+    }
+
+    /// Sets landmarks that a walk from a cell reaches. They are only kept, so want of memory is no refusal.
+    pub fn set_landmarks(&mut self, alloc: Global, grid: &Grid, from: Cell)
+        requires on { IsOnGround grid.now.size from }
+        requires is_open { is_open_at grid.now from ≡ true }
+        requires ground { ground_in self.old.cells ≡ grid.now }
+    {
+        if let Ok(landmarks) = landmarks_on(alloc, grid, from) {
+            self.landmarks = Some(landmarks);
+        }
     }
 
     /// Whether it is of this grid.
@@ -80,6 +89,7 @@ impl Atlas {
     )
         requires on { IsOnGround grid.now.size goal }
         requires ground { ground_in self.old.cells ≡ grid.now }
+        ensures { ground_in self.new.cells ≡ grid.now }
     {
         if self.distances_to(goal).is_none() && self.dear.add(goal, opened) && grid.open(goal) {
             if let Ok(distances) = distances_to(alloc, grid, rooms, goal) {
@@ -91,6 +101,7 @@ impl Atlas {
     // Keeps the distances to one more goal, in place of the oldest where there are as many as may be.
     fn keep(&mut self, distances: Distances)
         requires { AreOn (field_of_grid (ground_in self.old.cells)) distances }
+        ensures { self.new.cells ≡ self.old.cells }
     {
         let place = self.next % GOALS;
         self.next = place + 1;

@@ -6,8 +6,10 @@
 //! - `end`, `reached`, `trail`: where a way ends, and the cells back from there to the start.
 //! - `nearest`: the reached cells that are nearest to a goal.
 //! - `straight`, `marks`, `unmarked`: ways that cost no more than the octile distance, found with no search.
-//! - `floor`, `away`, `tight`, `milestone`: ways to a far goal that cost no more than a search knows that they must, found
-//!   before all cells are searched that cost as much.
+//! - `floor`, `tight`: ways that cost no more than it is known that they must, found back from their end.
+//! - `front`, `away`, `milestone`: what a search knows of that to a far goal, so that the way is found before all cells are searched that
+//!   cost as much.
+//! - `slope`: what distances to a goal tell of it, so that the way is found with no search.
 //! - `atlas`, `kept`: landmarks of a ground, distances to some goals on it, and its open cells, which are kept from one search to the
 //!   next.
 //! - `dear`: the goals to which searches were dear.
@@ -23,12 +25,14 @@ mod away;
 mod dear;
 mod end;
 mod floor;
+mod front;
 mod kept;
 mod marks;
 mod milestone;
 mod nearest;
 mod reached;
 mod remembered;
+mod slope;
 mod straight;
 mod tight;
 mod trail;

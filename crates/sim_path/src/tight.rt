@@ -1,4 +1,4 @@
-//! Ways back from an end that cost as little as a search knows that they must. The cells from which such a way may come are
+//! Ways back from an end that cost as little as it is known that they must. The cells from which such a way may come are
 //! tried in the order of the directions, and those to which none leads are noted. So the way to an end is found before
 //! all cells are taken that cost as much.
 
@@ -9,19 +9,18 @@ ghost use Rattle.sim_path.specs.{Floors.floor_of, Floors.IsFront, Floors.IsUnkno
 ghost use Rattle.sim_path.specs.Straight.{floor_cost, IsFirstTight, IsNearStep, IsTightStep, IsTightTrail};
 ghost use Rattle.sim_search.specs.Moves.{AreMoves};
 
-use crate::away::away_from;
 use crate::end::better_than;
-use crate::floor::{Front, floor_at, is_floor, is_unknown, left_at};
+use crate::floor::{Descent, Floor};
 use crate::marks::Marks;
 use crate::reached::Reached;
 use sim_base::{Cell, OutOfMemory};
-use sim_grid::{Grid, octile};
+use sim_grid::Grid;
 use sim_search::{is_free, moves_from, step, step_cost};
 
 // The cell in a direction from which a step makes up the floor of this one, if it isn't dead.
-fn tight_step(
+fn tight_step<F: Floor>(
     grid: &Grid,
-    front: &Front,
+    floor: F,
     start: Cell,
     at: Reached,
     moves: u8,
@@ -31,108 +30,47 @@ fn tight_step(
     requires which_in { which < 8 }
     requires at_on { IsOnGround grid.now.size at.cell }
     requires moves { AreMoves (field_of_grid grid.now) start at.cell moves }
-    requires cost { at.cost ≡ floor_of front.now start at.cell }
-    ensures none { result ≡ None → (p : Cell) → IsTightStep (field_of_grid grid.now) start (floor_of front.now start) at.cell p which
+    requires cost { at.cost ≡ F.floor_of floor start at.cell }
+    ensures none { result ≡ None → (p : Cell) → IsTightStep (field_of_grid grid.now) start (F.floor_of floor start) at.cell p which
         → marked_in dead.now p ≡ true }
-    ensures some { (p : Cell) → result ≡ Some p → IsTightStep (field_of_grid grid.now) start (floor_of front.now start) at.cell p which }
+    ensures some { (p : Cell) → result ≡ Some p → IsTightStep (field_of_grid grid.now) start (F.floor_of floor start) at.cell p which }
 {
     let from = step(grid, start, at.cell, moves, which)?;
     let cost = at.cost.checked_sub(step_cost(which))?;
-    if is_floor(front, start, from, cost) && !dead.at(from) {
+    if floor.is_floor(start, from, cost) && !dead.at(from) {
         Some(from)
     } else {
         None
     }
 }
 
-// The first cell in the order of the directions from which a step makes up the floor of this one, but for the dead ones.
-fn first_known(grid: &Grid, front: &Front, start: Cell, at: Reached, dead: &Marks) -> Option<Cell>
+/// The first cell in the order of the directions from which a step makes up the floor of this one, but for the dead ones.
+pub fn first_known<F: Floor>(
+    grid: &Grid,
+    floor: F,
+    start: Cell,
+    at: Reached,
+    dead: &Marks,
+) -> Option<Cell>
     requires start_on { IsOnGround grid.now.size start }
     requires at_on { IsOnGround grid.now.size at.cell }
-    requires cost { at.cost ≡ floor_of front.now start at.cell }
-    ensures { IsFirstTight (field_of_grid grid.now) start (floor_of front.now start) (marked_in dead.now) at.cell 8 result }
+    requires cost { at.cost ≡ F.floor_of floor start at.cell }
+    ensures { IsFirstTight (field_of_grid grid.now) start (F.floor_of floor start) (marked_in dead.now) at.cell 8 result }
 {
     let moves = moves_from(grid, start, at.cell);
     for which in 0..8u8 {
-        if let Some(from) = tight_step(grid, front, start, at, moves, which, dead) {
+        if let Some(from) = tight_step(grid, floor, start, at, moves, which, dead) {
             return Some(from);
         }
     }
     None
 }
 
-// The cell in a direction, if the octile distance leaves as much of a cost for it as a step from there takes, and it isn't
-// dead.
-fn near_step(
-    grid: &Grid,
-    start: Cell,
-    at: Reached,
-    moves: u8,
-    which: u8,
-    dead: &Marks,
-) -> Option<Cell>
-    requires which_in { which < 8 }
-    requires at_on { IsOnGround grid.now.size at.cell }
-    requires moves { AreMoves (field_of_grid grid.now) start at.cell moves }
-    ensures none { result ≡ None → (p : Cell) → IsNearStep (field_of_grid grid.now) start at p which → marked_in dead.now p ≡ true }
-    ensures some { (p : Cell) → result ≡ Some p → IsNearStep (field_of_grid grid.now) start at p which }
-{
-    let from = step(grid, start, at.cell, moves, which)?;
-    if octile(from, start) + step_cost(which) <= at.cost && !dead.at(from) {
-        Some(from)
-    } else {
-        None
-    }
-}
-
-// The same as `first_known` for a cell that has no cost yet: a step that makes up its floor comes from straight beyond it,
-// as seen from the goal.
-fn first_unknown(grid: &Grid, front: &Front, start: Cell, at: Reached, dead: &Marks) -> Option<Cell>
-    requires start_on { IsOnGround grid.now.size start }
-    requires at_on { IsOnGround grid.now.size at.cell }
-    requires free { is_free_in (field_of_grid grid.now) start at.cell ≡ true }
-    requires front { IsFront (field_of_grid grid.now) start front.now }
-    requires unknown { IsUnknown front.now start at.cell }
-    requires cost { at.cost ≡ left_of front.now at.cell }
-    ensures { IsFirstTight (field_of_grid grid.now) start (floor_of front.now start) (marked_in dead.now) at.cell 8 result }
-{
-    let moves = moves_from(grid, start, at.cell);
-    let away = away_from(at.cell, front.aim.goal);
-    for which in 0..8u8 {
-        if away >> which & 1 == 1 {
-            if let Some(from) = near_step(grid, start, at, moves, which, dead) {
-                return Some(from);
-            }
-        }
-    }
-    None
-}
-
-// The first cell in the order of the directions from which a step makes up the floor of this one, but for the dead ones.
-fn first_tight(grid: &Grid, front: &Front, start: Cell, at: Cell, dead: &Marks) -> Option<Cell>
-    requires start_on { IsOnGround grid.now.size start }
-    requires at_on { IsOnGround grid.now.size at }
-    requires free { is_free_in (field_of_grid grid.now) start at ≡ true }
-    requires front { IsFront (field_of_grid grid.now) start front.now }
-    ensures { IsFirstTight (field_of_grid grid.now) start (floor_of front.now start) (marked_in dead.now) at 8 result }
-{
-    let left = left_at(front, at);
-    if is_unknown(front, start, at, left) {
-        let at = Reached {
-            cell: at,
-            cost: left,
-        };
-        return first_unknown(grid, front, start, at, dead);
-    }
-    let cost = floor_at(front, start, at);
-    first_known(grid, front, start, Reached { cell: at, cost }, dead)
-}
-
 // Whether a walk to the end costs as little as its floor. If so, the trail is made of the cells from the end back to the
 // start, without the start. False says nothing.
-fn tight_trail(
+fn tight_trail<F: Descent>(
     grid: &Grid,
-    front: &Front,
+    floor: F,
     dead: &mut Marks,
     trail: &mut Vec<Cell>,
     start: Cell,
@@ -141,19 +79,19 @@ fn tight_trail(
     requires start { IsOnGround grid.now.size start }
     requires end { IsOnGround grid.now.size end }
     requires dead { IsNoneMarked grid.now.size dead.old }
-    requires front { IsFront (field_of_grid grid.now) start front.now }
-    ensures { IfOk result (λ found. found ≡ true → IsTightTrail (field_of_grid grid.now) start (floor_of front.now start) end trail.new.items) }
+    requires floor { F.holds (field_of_grid grid.now) start floor }
+    ensures { IfOk result (λ found. found ≡ true → IsTightTrail (field_of_grid grid.now) start (F.floor_of floor start) end trail.new.items) }
 {
     trail.clear();
     if !is_free(grid, start, end) {
         return Ok(false);
     }
     let mut at = end;
-    for _ in 0..floor_at(front, start, end) / 10 + 48 {
+    for _ in 0..floor.tries(start, end) {
         if at == start {
             return Ok(true);
         }
-        match first_tight(grid, front, start, at, dead) {
+        match floor.first_tight(grid, start, at, dead) {
             Some(from) => {
                 trail.push(at)?;
                 at = from;
@@ -171,13 +109,13 @@ fn tight_trail(
 }
 
 // The end to which such a way would lead: of those that are as near to the goal, the one with the least floor.
-fn tight_end(front: &Front, ends: &[Cell], start: Cell, goal: Cell) -> Option<Reached>
-    ensures { IsBestOf (floor_cost (floor_of front.now start)) goal ends.now result }
+fn tight_end<F: Floor>(floor: F, ends: &[Cell], start: Cell, goal: Cell) -> Option<Reached>
+    ensures { IsBestOf (floor_cost (F.floor_of floor start)) goal ends.now result }
 {
     let mut best: Option<Reached> = None;
     for cell in ends {
         let cell = *cell;
-        let cost = floor_at(front, start, cell);
+        let cost = floor.floor(start, cell);
         best = Some(better_than(goal, best, Reached { cell, cost }));
     }
     best
@@ -186,9 +124,9 @@ fn tight_end(front: &Front, ends: &[Cell], start: Cell, goal: Cell) -> Option<Re
 /// Whether a way is found to one of these ends that costs as little as its floor. If so, the trail is made of its cells,
 /// back from that end. False says nothing.
 #[inline(never)]
-pub fn tight_to(
+pub fn tight_to<F: Descent>(
     grid: &Grid,
-    front: &Front,
+    floor: F,
     dead: &mut Marks,
     trail: &mut Vec<Cell>,
     near: u32,
@@ -198,13 +136,13 @@ pub fn tight_to(
 ) -> Result<bool, OutOfMemory>
     requires start { IsOnGround grid.now.size start }
     requires dead { IsNoneMarked grid.now.size dead.old }
-    requires front { IsFront (field_of_grid grid.now) start front.now }
+    requires floor { F.holds (field_of_grid grid.now) start floor }
     requires ends { AreEnds (field_of_grid grid.now) start goal near ends.now }
     ensures { IfOk result (λ found. found ≡ true → IsTrailToEnd (field_of_grid grid.now) start goal trail.new.items) }
 {
-    match tight_end(front, ends, start, goal) {
+    match tight_end(floor, ends, start, goal) {
         Some(end) if grid.has(end.cell) => {
-            tight_trail(grid, front, dead, trail, start, end.cell)
+            tight_trail(grid, floor, dead, trail, start, end.cell)
         }
         _ => Ok(false),
     }

@@ -498,12 +498,25 @@ fn agree_on(
     Ok(same)
 }
 
+// Whether that is so of ways to one goal from many cells. The first of them open so many cells that distances to it are kept, off which
+// the others are read.
+fn agree_toward(alloc: Global, searcher: &mut Searcher, grid: &Grid) -> Result<bool, OutOfMemory> {
+    let mut same = true;
+    for x in 2..18i32 {
+        let (from, to) = (point(middle((x, 0))), point(middle((63, 62))));
+        let found = way_on(alloc, searcher, grid, from, to)?;
+        same = same && found.is_some();
+    }
+    Ok(same)
+}
+
 // Whether that is so when they are asked, after others, and again. The first ways take so many detours that landmarks are set for those
 // that follow, and when they are asked again they are remembered.
 fn agree_again(alloc: Global, searcher: &mut Searcher, grid: &Grid) -> Result<bool, OutOfMemory> {
     Ok(
         agree_on(alloc, searcher, grid, &ASKED)?
             && agree_on(alloc, searcher, grid, &OTHERS)?
+            && agree_toward(alloc, searcher, grid)?
             && agree_on(alloc, searcher, grid, &ASKED)?,
     )
 }

@@ -1,19 +1,19 @@
 use Rattle.sim_path.proofs.AwaySteps.{one-more}
-use Rattle.sim_path.proofs.Common.{◌≡◌, ℕ, true, arith, Cell, field_of_grid, floor_of, IsTightStep, marked_in}
+use Rattle.sim_path.proofs.Common.{◌≡◌, ℕ, true, arith, Cell, field_of_grid, IsTightStep, marked_in}
 use Rattle.sim_path.proofs.tight.first_known.Goals as goal
 
 pub loop-which-init : goal.loop-which-init
-loop-which-init c = λ j p lt t. absurd (omega (arith, lt))
+loop-which-init g c = λ j p lt t. absurd (omega (arith, lt))
 
 pub returns-in-Some : goal.returns-in-Some
-returns-in-Some c = (c.loop-which.which, c.loop-which-test.true, c.tight_step.ensures.some c.in-Some.from c.in-Some.is, c.loop-which.invariant)
+returns-in-Some g c = (c.loop-which.which, c.loop-which-test.true, c.tight_step.ensures.some c.in-Some.from c.in-Some.is, c.loop-which.invariant)
 
 pub loop-which-preserved : goal.loop-which-preserved
-loop-which-preserved c =
-    let Dead : ℕ → Type 0 = λ j. (p : Cell) → IsTightStep (field_of_grid c.args.grid.now) c.args.start (floor_of c.args.front.now c.args.start) c.args.at.cell p
+loop-which-preserved g c =
+    let Dead : ℕ → Type 0 = λ j. (p : Cell) → IsTightStep (field_of_grid c.args.grid.now) c.args.start (g.F.Floor.floor_of c.args.floor c.args.start) c.args.at.cell p
     j → marked_in c.args.dead.now p ≡ true in
     let all = one-more Dead c.loop-which.which (λ j lt p t. c.loop-which.invariant j p lt t) (c.tight_step.ensures.none c.in_default.is) in
     λ j p lt t. all j lt p t
 
 pub returns : goal.returns
-returns c = λ j p lt t. c.loop-which.invariant j p (omega (arith, lt, c.loop-which-test.false)) t
+returns g c = λ j p lt t. c.loop-which.invariant j p (omega (arith, lt, c.loop-which-test.false)) t

@@ -1,5 +1,5 @@
 use Rattle.sim_path.proofs.Common.{none-some, same_Some, subst, sym, true≢false, ◌∙◌}
-use Rattle.sim_path.proofs.Common.{◌≡◌, ℕ, ◌+◌, ◌-◌, ◌≤◌, SomeIff, Some, None, Option, ap, arith, Cell, field_of_grid, floor_of, IsTightStep, marked_in}
+use Rattle.sim_path.proofs.Common.{◌≡◌, ℕ, ◌+◌, ◌-◌, ◌≤◌, SomeIff, Some, None, Option, ap, arith, Cell, field_of_grid, IsTightStep, marked_in}
 use Rattle.sim_path.proofs.tight.tight_step.Goals.{else-is_floor-via-else-is_floor, else-is_floor-via-then-is_floor+else-not-at}
 use Rattle.sim_path.proofs.tight.tight_step.Goals as goal
 
@@ -13,44 +13,44 @@ floor_by : (cost step to floor n all : ℕ) → SomeIff (Some cost) (step ≤ to
 floor_by cost step to floor n all (le, is) e f g = omega arith
 
 pub step-requires-clause-which_in : goal.step-requires-clause-which_in
-step-requires-clause-which_in c = c.requires.which_in
+step-requires-clause-which_in g c = c.requires.which_in
 
 pub step-requires-clause-from_on : goal.step-requires-clause-from_on
-step-requires-clause-from_on c = c.requires.at_on
+step-requires-clause-from_on g c = c.requires.at_on
 
 pub step-requires-clause-moves : goal.step-requires-clause-moves
-step-requires-clause-moves c = c.requires.moves
+step-requires-clause-moves g c = c.requires.moves
 
 pub returns-in_err-from-clause-none : goal.returns-in_err-from-clause-none
-returns-in_err-from-clause-none c = λ e p t. absurd (none-some p (sym c.in_err-from.was ∙ c.step.ensures.step ∙ t.leads))
+returns-in_err-from-clause-none g c = λ e p t. absurd (none-some p (sym c.in_err-from.was ∙ c.step.ensures.step ∙ t.leads))
 
 pub returns-in_err-from-clause-some : goal.returns-in_err-from-clause-some
-returns-in_err-from-clause-some c = λ p e. absurd (none-some p (sym c.from_residual.ensures ∙ e))
+returns-in_err-from-clause-some g c = λ p e. absurd (none-some p (sym c.from_residual.ensures ∙ e))
 
 pub returns-in_err-cost-clause-none : goal.returns-in_err-cost-clause-none
-returns-in_err-cost-clause-none c =
+returns-in_err-cost-clause-none g c =
     let low = subst (λ (o : Option ℕ). SomeIff o (c.step_cost.result ≤ c.args.at.cost) (c.args.at.cost - c.step_cost.result)) c.in_err-cost.was
     c.checked_sub.ensures in
     λ e p t. absurd (too_little c.step_cost.result c.args.at.cost _ _ _ low c.step_cost.ensures c.requires.cost t.sum)
 
 pub returns-in_err-cost-clause-some : goal.returns-in_err-cost-clause-some
-returns-in_err-cost-clause-some c = λ p e. absurd (none-some p (sym c.from_residual-in_err-cost.ensures ∙ e))
+returns-in_err-cost-clause-some g c = λ p e. absurd (none-some p (sym c.from_residual-in_err-cost.ensures ∙ e))
 
 pub returns-then-not-at-clause-none : goal.returns-then-not-at-clause-none
-returns-then-not-at-clause-none c = λ e p t. absurd (none-some _ (sym e))
+returns-then-not-at-clause-none g c = λ e p t. absurd (none-some _ (sym e))
 
 pub returns-then-not-at-clause-some : goal.returns-then-not-at-clause-some
-returns-then-not-at-clause-some c =
+returns-then-not-at-clause-some g c =
     let left = subst (λ (o : Option ℕ). SomeIff o (c.step_cost.result ≤ c.args.at.cost) (c.args.at.cost - c.step_cost.result)) c.in_ok-cost.was
     c.checked_sub.ensures in
-    λ p e. subst (λ (v : Cell). IsTightStep (field_of_grid c.args.grid.now) c.args.start (floor_of c.args.front.now c.args.start) c.args.at.cell v c.args.which)
+    λ p e. subst (λ (v : Cell). IsTightStep (field_of_grid c.args.grid.now) c.args.start (g.F.Floor.floor_of c.args.floor c.args.start) c.args.at.cell v c.args.which)
     (same_Some _ p e) (record {
       leads = sym c.step.ensures.step ∙ c.in_ok-from.was;
       sum = rest c.in_ok-cost.cost c.step_cost.result c.args.at.cost _ _ _ left c.step_cost.ensures c.requires.cost (c.is_floor.ensures.0 c.if-is_floor.true);
     })
 
 pub returns-else-is_floor-clause-none : goal.returns-else-is_floor-clause-none
-returns-else-is_floor-clause-none c =
+returns-else-is_floor-clause-none g c =
     let left = subst (λ (o : Option ℕ). SomeIff o (c.step_cost.result ≤ c.args.at.cost) (c.args.at.cost - c.step_cost.result)) c.in_ok-cost.was
     c.checked_sub.ensures in
     λ e p t.
@@ -58,9 +58,9 @@ returns-else-is_floor-clause-none c =
     let floor = floor_by c.in_ok-cost.cost c.step_cost.result c.args.at.cost _ _ _ left c.step_cost.ensures c.requires.cost t.sum in
     elim c.else-is_floor.branch [
       | else-is_floor-via-then-is_floor+else-not-at w ↦ ap (marked_in c.args.dead.now) (sym same) ∙ sym w.at.ensures ∙ w.if-not-at.false
-      | else-is_floor-via-else-is_floor w ↦ absurd (true≢false (sym (c.is_floor.ensures.1 (ap (floor_of c.args.front.now c.args.start) same ∙ floor)) ∙
+      | else-is_floor-via-else-is_floor w ↦ absurd (true≢false (sym (c.is_floor.ensures.1 (ap (g.F.Floor.floor_of c.args.floor c.args.start) same ∙ floor)) ∙
           w.if-is_floor.false))
     ]
 
 pub returns-else-is_floor-clause-some : goal.returns-else-is_floor-clause-some
-returns-else-is_floor-clause-some c = λ p e. absurd (none-some p e)
+returns-else-is_floor-clause-some g c = λ p e. absurd (none-some p e)

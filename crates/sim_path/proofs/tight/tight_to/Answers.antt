@@ -1,12 +1,12 @@
 use Rattle.sim_path.proofs.{Found.if_ok, TightTrails.tight-end}
-use Rattle.sim_path.proofs.Common.{◌≡◌, Bool, true, Option, refl, field_of_grid, floor_cost, floor_of, IsBestOf, IsTightTrail, IsTrailToEnd, Reached, subst}
+use Rattle.sim_path.proofs.Common.{◌≡◌, Bool, true, Option, refl, field_of_grid, floor_cost, IsBestOf, IsTightTrail, IsTrailToEnd, Reached, subst}
 use Rattle.sim_path.proofs.tight.tight_to.Goals as goal
 
 pub returns-in-Some : goal.returns-in-Some
-returns-in-Some c =
+returns-in-Some g c =
     let field = field_of_grid c.args.grid.now in
     let start = c.args.start in
-    let floor = floor_of c.args.front.now start in
+    let floor = g.F.Floor.floor_of c.args.floor start in
     let goal = c.args.goal in
     let end = c.in-Some.end in
     let trail = c.tight_trail.new.trail.items in
@@ -17,19 +17,19 @@ returns-in-Some c =
     let h = found e in
     record {
       end = record { cell = end.cell; cost = floor end.cell };
-      is_end = tight-end field start floor c.requires.start c.requires.front.floor goal c.args.near c.args.ends.now end c.requires.ends best.0 best.1 h.tight;
+      is_end = tight-end field start floor c.requires.start (g.met.F.Floor.is_least field start c.args.floor c.requires.floor) goal c.args.near c.args.ends.now end c.requires.ends best.0 best.1 h.tight;
       is_trail = h.is_trail;
     })
     c.tight_trail.ensures
 
 pub tight_trail-requires-clause-start : goal.tight_trail-requires-clause-start
-tight_trail-requires-clause-start c = c.requires.start
+tight_trail-requires-clause-start g c = c.requires.start
 
 pub tight_trail-requires-clause-end : goal.tight_trail-requires-clause-end
-tight_trail-requires-clause-end c = c.if-has.ensures.0 refl
+tight_trail-requires-clause-end g c = c.if-has.ensures.0 refl
 
 pub tight_trail-requires-clause-dead : goal.tight_trail-requires-clause-dead
-tight_trail-requires-clause-dead c = c.requires.dead
+tight_trail-requires-clause-dead g c = c.requires.dead
 
-pub tight_trail-requires-clause-front : goal.tight_trail-requires-clause-front
-tight_trail-requires-clause-front c = c.requires.front
+pub tight_trail-requires-clause-floor : goal.tight_trail-requires-clause-floor
+tight_trail-requires-clause-floor g c = c.requires.floor

@@ -12,8 +12,8 @@ small_more key more lt le = omega arith
 none-left : (v goal : Cell) (near : ℕ) → octile v goal ≡ near → (octile v goal - near) / 2 * 2 ≡ 0
 none-left v goal near e = omega (arith, e)
 
-pub go_back-requires-clause-front : goal.go_back-requires-clause-front
-go_back-requires-clause-front c =
+pub go_back-requires-clause-floor : goal.go_back-requires-clause-floor
+go_back-requires-clause-floor c =
     known-front (field_of_grid c.args.grid.now) _ c.in_ok-stage-2.stage.search (cell_of c.args.start.now) 0 refl (c.in_ok-stage-2.ensures.start ∙
     c.in_ok-stage.ensures.start ∙ c.cell_of-from.ensures.cell) c.in_ok-stage-2.ensures.ready
 

@@ -1,7 +1,7 @@
 use Rattle.sim_path.proofs.AwaySteps.{away-by_bit, bit-by_away, near-unknown, one-more, unknown-near}
 use Rattle.sim_path.proofs.Common.{◌≡◌, ℕ, true, arith, bit_at, Cell, field_of_grid, floor_of, IsTightStep, marked_in, shr_and_one, sym, ◌∙◌}
-use Rattle.sim_path.proofs.tight.first_unknown.Goals.{else-away-which-eq1, then-away-which-eq1+in_default}
-use Rattle.sim_path.proofs.tight.first_unknown.Goals as goal
+use Rattle.sim_path.proofs.front.first_unknown.Goals.{else-away-which-eq1, then-away-which-eq1+in_default}
+use Rattle.sim_path.proofs.front.first_unknown.Goals as goal
 
 pub returns-in-Some : goal.returns-in-Some
 returns-in-Some c =

@@ -1,6 +1,6 @@
-use Rattle.sim_path.proofs.{Common.true≢false, Common.◌∙◌, floor.is_unknown.Goals.else-is_none, floor.is_unknown.Goals.then-is_none}
+use Rattle.sim_path.proofs.{Common.true≢false, Common.◌∙◌, front.is_unknown.Goals.else-is_none, front.is_unknown.Goals.then-is_none}
 use Rattle.sim_path.proofs.Common.{◌≡◌, ℕ, ◌≤◌, Bool, true, false, not, leb, is_some, Some, None, Option, refl, arith, false≢true, le-leb, leb-true, sym}
-use Rattle.sim_path.proofs.floor.is_unknown.Goals as goal
+use Rattle.sim_path.proofs.front.is_unknown.Goals as goal
 
 none_by : (o : Option ℕ) (b : Bool) → is_some o ≡ not b → b ≡ true → o ≡ None
 none_by None b e t = refl
