@@ -20,7 +20,7 @@ pub use Rattle.sim_search.specs.{Common.place_of, Common.Size, Common.step_cost,
 pub use Rattle.sim_search.specs.{Moves.AreMoves, Moves.may_go, Moves.step_to, Queues.untaken, Queues.Waits, RegionLaws.LabelsTell, RegionLaws.NoLabelIsClosed}
 pub use Rattle.sim_search.specs.Common.{beside_open, bit_at, Cell, Field, field_of_grid, is_free, is_straight, IsCost, IsOnGround, IsStep, neighbour, octile}
 pub use Rattle.sim_search.specs.Floods.{Fills, Flooded, Floods, HasLabel, is_late, is_none_late, Marks, Spreads, unlabelled, work_left}
-pub use Rattle.sim_search.specs.Queues.{Begins, bucket_in, Drains, Empties, Expands, IsKept, IsLowered, Lowers, Progress, Ready, taken_in, takens, Takes}
+pub use Rattle.sim_search.specs.Queues.{Begins, bucket_in, Drains, Empties, Expands, IsEarly, IsKept, IsLowered, Lowers, Progress, Ready, taken_in, takens, Takes}
 pub use Rattle.sim_search.specs.Regions.{alone, AreLabels, beside, HasShoreLabel, IsJoined, IsLabel, IsOpenStep, IsReached, IsShore, itself, on}
 pub use Rattle.sim_search.specs.Tables.{AreCosts, cost_in, entry_at, has_cell, is_lower_than, known, read_entry, size_of}
 pub use Rattle.sim_search.specs.Taking.{HasCost, IsSearch}

@@ -2,7 +2,7 @@
 use Rattle.sim_search.proofs.{Cells.same_or_not, Taking.all-found, Taking.cost-least, Taking.goes-on, Taking.lowers, Taking.takes, Taking.walk-found}
 use Rattle.sim_search.proofs.{Moves.direction-of, Moves.step-of, Octile.walk-even}
 use Rattle.sim_search.proofs.Common.{IsGuide, IsKept, IsLowered, IsSearch, IsStep, Lowers, Progress, Ready, Search, set-get_or, Size, size_of, stay}
-use Rattle.sim_search.proofs.Common.{cases_Bool, cases_eq, Cell, Contains-append_left, Contains-push, cost_in, Drains, Empties, entry_at, eq-or-lt_of_le}
+use Rattle.sim_search.proofs.Common.{cases_Bool, cases_eq, cases_lt, Cell, Contains-append_left, Contains-push_cases, IsEarly, Contains-push, cost_in, Drains, Empties, entry_at, eq-or-lt_of_le}
 use Rattle.sim_search.proofs.Common.{Expands, Field, get_or-set_other, get_or-set_same, HasCost, HasStopped, inl, inr, IsComeTo, IsCost}
 use Rattle.sim_search.proofs.Common.{get_or, set, Some, None, Contains, count_by, Option, refl, ap, ap₂, AreCosts, AreCostsUpTo, arith, Begins, bucket_in}
 use Rattle.sim_search.proofs.Common.{step_cost, step_to, subst, sym, taken_in, takens, Takes, true≢false, untaken, Waits, Walk, ⊎_elim, ◌∙◌}
@@ -90,8 +90,19 @@ module _ (h : Cell → ℕ) (field : Field) (old new : Search) (u to : Cell) (d 
             near = λ c n e t. near c n e t (same_or_not c to);
             queued = λ c n e t. subst (λ (q : List (List Cell)). ((n + h c ≡ now) × Contains rest c) ⊎ Contains (get_or q ((n + h c) % 32) []) c) (sym p.queued)
                 (queued c n e t (same_or_not c to));
+            listed = λ c is_in t. stays c now (dr.listed c is_in (sym (same_taken c) ∙ t)) (same_or_not c to);
+            early = λ key c lo hi is_in t. early key c lo hi (subst (λ (q : List (List Cell)). Contains (get_or q (key % 32) []) c) p.queued is_in) t
+                (cases_eq (key % 32) b);
           }
         where
+          stays : (c : Cell) (key : ℕ) → IsEarly h old c key → (c ≡ to) ⊎ (c ≢ to) → IsEarly h new c key
+          stays c key v (inl f) = record {
+            value = d + k;
+            cost = ap (cost_in new.costs) f ∙ p.here;
+            low = omega (arith, p.higher v.value (ap (cost_in old.costs) (sym f) ∙ v.cost), v.low);
+          }
+          stays c key v (inr f) = record { value = v.value; cost = p.elsewhere c f ∙ v.cost; low = v.low }
+
           b : ℕ
           b = (d + k + h to) % 32
 
@@ -103,6 +114,26 @@ module _ (h : Cell → ℕ) (field : Field) (old new : Search) (u to : Cell) (d 
 
           same_taken : (c : Cell) → taken_in new c ≡ taken_in old c
           same_taken c = ap₂ (λ (size : Size) (xs : List Bool). entry_at false size xs c) p.size_is p.taken_is
+
+          early : (key : ℕ) (c : Cell) → now ≤ key → key < now + 32 → Contains (get_or more (key % 32) []) c → taken_in new c ≡ false
+              → (key % 32 ≡ b) ⊎ (key % 32 ≢ b) → IsEarly h new c key
+          early key c lo hi is_in t (inl e) =
+              ⊎_elim
+              (λ (q : Contains (get_or old.buckets.items b []) c).
+              stays c key (dr.early key c lo hi (subst (λ (n : ℕ). Contains (get_or old.buckets.items n []) c) (sym e) q) (sym (same_taken c) ∙ t)) (same_or_not c to))
+              (λ (q : to ≡ c). record {
+                value = d + k;
+                cost = ap (cost_in new.costs) (sym q) ∙ p.here;
+                low = subst (λ (v : Cell). d + k + h v ≤ key) q
+                    (omega (arith, e, lo, hi, dr.guide.falls.falls u to k step, dr.guide.rises u to k d (dr.search.walks u d at_u) step));
+              })
+              (Contains-push_cases (get_or old.buckets.items b []) to c
+              (subst (λ (xs : List Cell). Contains xs c) (get_or-set_same old.buckets.items b (get_or old.buckets.items b [] ++ to ∷ []) [] b_in)
+              (subst (λ (n : ℕ). Contains (get_or more n []) c) e is_in)))
+          early key c lo hi is_in t (inr e) =
+              stays c key (dr.early key c lo hi
+              (subst (λ (xs : List Cell). Contains xs c) (get_or-set_other old.buckets.items b (key % 32) (get_or old.buckets.items b [] ++ to ∷ []) [] e) is_in)
+              (sym (same_taken c) ∙ t)) (same_or_not c to)
 
           total_is : (c : Cell) (n : ℕ) → cost_in new.costs c ≡ Some n → c ≡ to → n + h c ≡ d + k + h to
           total_is c n e f = let both : Some n ≡ Some (d + k) = sym e ∙ ap (cost_in new.costs) f ∙ p.here in let equal : n ≡ d + k = cc in
@@ -221,6 +252,18 @@ contains_tail : (x c : Cell) (rest : List Cell) → c ≢ x → Contains (x ∷ 
 contains_tail x c rest e (zero, h, is) = absurd (e (sym is))
 contains_tail x c rest e (suc k, h, is) = (k, omega arith, is)
 
+contains_more : (x c : Cell) (rest : List Cell) → Contains rest c → Contains (x ∷ rest) c
+contains_more x c rest (k, h, is) = (suc k, omega arith, is)
+
+-- the first of the rest waits by this key where it was not taken
+pub waits-first : (h : Cell → ℕ) (field : Field) (s : Search) (now : ℕ) (x : Cell) (d : ℕ) (rest : List Cell) → Drains h field s now (x ∷ rest)
+    → cost_in s.costs x ≡ Some d → taken_in s x ≡ false → Waits h s now x d
+waits-first h field s now x d rest dr e t =
+    let v = dr.listed x (0, omega arith, refl) t in
+    let both : Some v.value ≡ Some d = sym v.cost ∙ e in
+    let equal : v.value ≡ d = cc in
+    record { cost = e; not_taken = t; key = omega (arith, equal, v.low, dr.search.waiting x d e t) }
+
 -- the first of the rest does not wait by this key
 pub drains_past : (h : Cell → ℕ) (field : Field) (s : Search) (now : ℕ) (x : Cell) (rest : List Cell) → ((d : ℕ) → Waits h s now x d → ⊥)
     → Drains h field s now (x ∷ rest) → Drains h field s now rest
@@ -238,6 +281,8 @@ drains_past h field s now x rest stale dr =
           inl (q.0, contains_tail x c rest other q.1))
           (λ (q : Contains (bucket_in s ((n + h c) % 32)) c). inr q)
           (dr.queued c n e t);
+      listed = λ c is_in t. dr.listed c (contains_more x c rest is_in) t;
+      early = dr.early;
     }
 
 -- the first of the rest is taken
@@ -260,6 +305,9 @@ drains_taken h field old new now x d rest t at_x key steps dr =
           (λ (q : (n + h c ≡ now) × Contains (x ∷ rest) c). inl (q.0, contains_tail x c rest (not_x c f) q.1))
           (λ (q : Contains (bucket_in old ((n + h c) % 32)) c). inr q)
           (dr.queued c n (same_cost c ∙ e) (sym (t.elsewhere c (not_x c f)) ∙ f)));
+      listed = λ c is_in f. stays c now (dr.listed c (contains_more x c rest is_in) (sym (t.elsewhere c (not_x c f)) ∙ f));
+      early = λ key c lo hi is_in f. stays c key (dr.early key c lo hi
+          (subst (λ (q : List (List Cell)). Contains (get_or q (key % 32) []) c) t.buckets_are is_in) (sym (t.elsewhere c (not_x c f)) ∙ f));
     }
   where
     not_x : (c : Cell) → taken_in new c ≡ false → c ≢ x
@@ -267,6 +315,9 @@ drains_taken h field old new now x d rest t at_x key steps dr =
 
     same_cost : (c : Cell) → cost_in old.costs c ≡ cost_in new.costs c
     same_cost c = ap (λ v. cost_in v c) (sym t.costs_are)
+
+    stays : (c : Cell) (key : ℕ) → IsEarly h old c key → IsEarly h new c key
+    stays c key v = record { value = v.value; cost = sym (same_cost c) ∙ v.cost; low = v.low }
 
 pub record Draining (h : Cell → ℕ) (field : Field) (first s : Search) (now : ℕ) (rest : List Cell) (any : Bool) : Type 0 where
   pub drains : Drains h field s now rest
@@ -312,6 +363,9 @@ draining_taken h field first s expanded new now x d rest any w ex t dr =
 
 -- ---- one bucket after another
 
+nothing_in : (c : Cell) → Contains [] c → ⊥
+nothing_in c (k, h, is) = omega arith
+
 -- a bucket is taken out
 pub drains_first : (h : Cell → ℕ) (field : Field) (old new : Search) (now idle : ℕ) → Ready h field old now idle → Empties old new (now % 32)
     → Drains h field new now (bucket_in old (now % 32))
@@ -327,6 +381,9 @@ drains_first h field old new now idle r t =
           subst (λ (q : List (List Cell)). ((n + h c ≡ now) × Contains (bucket_in old (now % 32)) c) ⊎ Contains (get_or q ((n + h c) % 32) []) c)
           (sym t.buckets_are)
           (queued c n (same_cost c ∙ e) (same_taken c ∙ f) (cases_eq ((n + h c) % 32) (now % 32)));
+      listed = λ c is_in f. stays c now (r.early now c (omega arith) (omega arith) is_in (same_taken c ∙ f));
+      early = λ key c lo hi is_in f. early key c lo hi (subst (λ (q : List (List Cell)). Contains (get_or q (key % 32) []) c) t.buckets_are is_in) f
+          (cases_eq (key % 32) (now % 32));
     }
   where
     same_cost : (c : Cell) → cost_in old.costs c ≡ cost_in new.costs c
@@ -344,8 +401,17 @@ drains_first h field old new now idle r t =
     queued c n e f (inr apart) =
         inr (subst (λ (xs : List Cell). Contains xs c) (sym (get_or-set_other old.buckets.items (now % 32) ((n + h c) % 32) [] [] apart)) (r.queued c n e f))
 
-nothing_in : (c : Cell) → Contains [] c → ⊥
-nothing_in c (k, h, is) = omega arith
+    stays : (c : Cell) (key : ℕ) → IsEarly h old c key → IsEarly h new c key
+    stays c key v = record { value = v.value; cost = sym (same_cost c) ∙ v.cost; low = v.low }
+
+    early : (key : ℕ) (c : Cell) → now ≤ key → key < now + 32 → Contains (get_or (set old.buckets.items (now % 32) []) (key % 32) []) c → taken_in new c ≡ false
+        → (key % 32 ≡ now % 32) ⊎ (key % 32 ≢ now % 32) → IsEarly h new c key
+    early key c lo hi is_in f (inl e) =
+        absurd (nothing_in c (subst (λ (xs : List Cell). Contains xs c) (get_or-set_same old.buckets.items (now % 32) [] [] (omega (arith, ring-length old)))
+        (subst (λ (n : ℕ). Contains (get_or (set old.buckets.items (now % 32) []) n []) c) e is_in)))
+    early key c lo hi is_in f (inr e) =
+        stays c key (r.early key c lo hi
+        (subst (λ (xs : List Cell). Contains xs c) (get_or-set_other old.buckets.items (now % 32) (key % 32) [] [] e) is_in) (same_taken c ∙ f))
 
 -- a bucket was gone through, and the search stays at its key
 pub ready_again : (h : Cell → ℕ) (field : Field) (s : Search) (now : ℕ) → now % 2 ≡ 0 → Drains h field s now [] → Ready h field s now 0
@@ -361,12 +427,21 @@ ready_again h field s now even d =
           (λ (q : (n + h c ≡ now) × Contains [] c). absurd (nothing_in c q.1))
           (λ (q : Contains (bucket_in s ((n + h c) % 32)) c). q)
           (d.queued c n e f);
+      early = d.early;
     }
 
 -- how many keys have had no cell to take may be forgotten
 pub ready_anew : (h : Cell → ℕ) (field : Field) (s : Search) (now idle : ℕ) → Ready h field s now idle → Ready h field s now 0
 ready_anew h field s now idle r =
-    record { even = r.even; guide = r.guide; size_is = r.size_is; search = r.search; near = λ c n e f. omega (arith, r.near c n e f); queued = r.queued }
+    record {
+      even = r.even;
+      guide = r.guide;
+      size_is = r.size_is;
+      search = r.search;
+      near = λ c n e f. omega (arith, r.near c n e f);
+      queued = r.queued;
+      early = r.early;
+    }
 
 -- a bucket had no cell to take, and the search goes on to the next even key
 pub ready_next : (h : Cell → ℕ) (field : Field) (old new : Search) (now idle : ℕ) → Ready h field old now idle
@@ -386,8 +461,17 @@ ready_next h field old new now idle r t d =
           (λ c n e f key. omega (arith, key, r.even, d.guide.even c, walk-even field new.start (d.search.walks c n e))));
       near = λ c n e f. omega (arith, r.near c n (same_cost c ∙ e) (same_taken c ∙ f));
       queued = again.queued;
+      early = λ key c lo hi is_in f. early key c lo hi is_in f (cases_lt key (now + 32));
     }
   where
+    early : (key : ℕ) (c : Cell) → now + 2 ≤ key → key < now + 2 + 32 → Contains (bucket_in new (key % 32)) c → taken_in new c ≡ false
+        → (key < now + 32) ⊎ (now + 32 ≤ key) → IsEarly h new c key
+    early key c lo hi is_in f (inl lt) = d.early key c (omega arith) lt is_in f
+    early key c lo hi is_in f (inr le) =
+        let same : key % 32 ≡ (key - 32) % 32 = omega arith in
+        let v = d.early (key - 32) c (omega arith) (omega arith) (subst (λ (n : ℕ). Contains (bucket_in new n) c) same is_in) f in
+        record { value = v.value; cost = v.cost; low = omega (arith, v.low) }
+
     two : now + 1 + 1 ≡ now + 2
     two = omega arith
 
@@ -420,6 +504,8 @@ ready_passed h field s now idle r none = ready_next h field s s now idle r
       search = r.search;
       near = λ c n e f. omega (arith, r.near c n e f);
       queued = λ c n e f. inr (r.queued c n e f);
+      listed = λ c is_in. absurd (nothing_in c is_in);
+      early = r.early;
     }
 
 -- after as many buckets with no cell to take as there are, none waits
@@ -500,6 +586,9 @@ ready_begins h size is_open start s guide b =
       queued = λ c d e f. let p = at_start c d e in
           let key : d + h c ≡ h start = omega (arith, p.1, ap h p.0) in
           subst (λ (n : ℕ). Contains (bucket_in s (n % 32)) c) (sym key) (subst (λ (x : Cell). Contains (bucket_in s (h start % 32)) x) (sym p.0) b.queued);
+      early = λ key c lo hi is_in f.
+          let is = b.only (key % 32) c (omega arith) is_in in
+          record { value = 0; cost = ap (cost_in s.costs) is ∙ b.here; low = omega (arith, lo, ap h is) };
     }
   where
     field : Field

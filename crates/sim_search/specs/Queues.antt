@@ -36,6 +36,7 @@ pub record Begins (estimate : Cell → ℕ) (size : Size) (start : Cell) (s : Se
   pub elsewhere : (c : Cell) → c ≢ start → cost_in s.costs c ≡ None
   pub none_taken : (c : Cell) → taken_in s c ≡ false
   pub queued : Contains (bucket_in s (estimate start % 32)) start
+  pub only : (b : ℕ) (c : Cell) → b < 32 → Contains (bucket_in s b) c → c ≡ start
 
 -- a cell has a cost of at most the total already, and nothing changed
 pub record IsKept (old new : Search) (to : Cell) (total : ℕ) : Type 0 where
@@ -77,6 +78,17 @@ pub record Empties (old new : Search) (b : ℕ) : Type 0 where
   pub taken_is : takens new ≡ takens old
   pub buckets_are : new.buckets.items ≡ slice_set old.buckets.items b []
 
+-- a cell has a cost, and its key is at most this one
+pub record IsEarly (estimate : Cell → ℕ) (s : Search) (c : Cell) (key : ℕ) : Type 0 where
+  pub value : ℕ
+  pub cost : cost_in s.costs c ≡ Some value
+  pub low : value + estimate c ≤ key
+
+-- Whoever stands in the bucket of a key and was not taken has that key, or has had it and has a lower one now.
+abbrev pub AreEarly : (Cell → ℕ) → Search → ℕ → Type 0
+AreEarly estimate s now = (key : ℕ) (c : Cell) → now ≤ key → key < now + 32 → Contains (bucket_in s (key % 32)) c → taken_in s c ≡ false
+    → IsEarly estimate s c key
+
 -- where a cell of this key waits: among the rest of the bucket that is gone through, or in its own bucket
 abbrev pub Queued : Search → ℕ → List Cell → ℕ → Cell → Type 0
 Queued s now rest key c = ((key ≡ now) × Contains rest c) ⊎ Contains (bucket_in s (key % 32)) c
@@ -88,6 +100,8 @@ pub record Drains (estimate : Cell → ℕ) (field : Field) (s : Search) (now : 
   pub search : IsSearch (IsStep field s.start) s.start estimate (cost_in s.costs) (taken_in s) now
   pub near : (c : Cell) (d : ℕ) → cost_in s.costs c ≡ Some d → taken_in s c ≡ false → d + estimate c < now + 32
   pub queued : (c : Cell) (d : ℕ) → cost_in s.costs c ≡ Some d → taken_in s c ≡ false → Queued s now rest (d + estimate c) c
+  pub listed : (c : Cell) → Contains rest c → taken_in s c ≡ false → IsEarly estimate s c now
+  pub early : AreEarly estimate s now
 
 -- A search before the bucket of the key now, where the buckets of that many keys before it had no cell to take. All keys are even.
 pub record Ready (estimate : Cell → ℕ) (field : Field) (s : Search) (now idle : ℕ) : Type 0 where
@@ -97,6 +111,7 @@ pub record Ready (estimate : Cell → ℕ) (field : Field) (s : Search) (now idl
   pub search : IsSearch (IsStep field s.start) s.start estimate (cost_in s.costs) (taken_in s) now
   pub near : (c : Cell) (d : ℕ) → cost_in s.costs c ≡ Some d → taken_in s c ≡ false → d + estimate c + idle < now + 32
   pub queued : (c : Cell) (d : ℕ) → cost_in s.costs c ≡ Some d → taken_in s c ≡ false → Contains (bucket_in s ((d + estimate c) % 32)) c
+  pub early : AreEarly estimate s now
 
 -- some cell was taken, or nothing changed
 pub record Progress (old new : Search) (any : Bool) : Type 0 where

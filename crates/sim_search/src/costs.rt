@@ -46,11 +46,15 @@ impl Costs {
     pub fn at(&self, cell: Cell) -> Option<u32>
         ensures { result ≡ cost_in self.now cell }
     {
-        if self.has(cell) {
-            self.read(self.items[self.place(cell)])
-        } else {
-            None
-        }
+        if self.has(cell) { self.on(cell) } else { None }
+    }
+
+    /// The cost of a cell of the ground, if the search has come to it.
+    pub(crate) fn on(&self, cell: Cell) -> Option<u32>
+        requires { IsOnGround (size_of self.now) cell }
+        ensures { result ≡ cost_in self.now cell }
+    {
+        self.read(self.items[self.place(cell)])
     }
 
     /// The cost of the cell at this place of the list.

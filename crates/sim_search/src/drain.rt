@@ -3,31 +3,47 @@
 ghost use Rattle.std.specs.Prelude.{◌≡◌, ℕ, ◌+◌, ◌^◌, ◌<◌, ◌≤◌, true, false, ◌↔◌, [], IfOk, OnOk, IsTrue, Some};
 ghost use Rattle.sim_search.specs.{Comes.IsComeTo, Comes.IsSearched, Queues.Begins, Queues.Drains, Queues.Expands, Queues.Progress, Queues.Ready};
 ghost use Rattle.sim_search.specs.{Common.Cell, Common.Field, Common.field_of_grid, Common.IsOnGround, Tables.AreCosts, Tables.cost_in, Tables.size_of};
-ghost use Rattle.sim_search.specs.Estimates.{IsGuide};
+ghost use Rattle.{sim_grid.specs.Grids.is_open_at, sim_search.specs.Estimates.IsGuide, sim_search.specs.Moves.AreMoves};
 
 use crate::aim::Nowhere;
 use crate::queue::{begun, emptied, is_empty, lower, swap_bucket, take, waiting};
-use crate::{Costs, Guide, Search, moves_from, step, step_cost};
+use crate::steps::moves_by_trial;
+use crate::{Costs, Guide, Search, step, step_cost};
 use sim_base::{Cell, Items, OutOfMemory};
 use sim_grid::Grid;
 use std::alloc::Global;
+
+// The steps that are allowed from a cell. Whether the start is open is looked at once for a bucket.
+fn moves_where(grid: &Grid, start_open: bool, start: Cell, from: Cell) -> u8
+    requires start_open { start_open ≡ is_open_at grid.now start }
+    requires from { IsOnGround grid.now.size from }
+    ensures { AreMoves (field_of_grid grid.now) start from result }
+{
+    if start_open {
+        grid.steps(from)
+    } else {
+        moves_by_trial(grid, start, from)
+    }
+}
 
 // Reckons with the steps from a cell of this cost.
 fn expand<A: Guide>(
     search: &mut Search,
     grid: &Grid,
     aim: A,
+    start_open: bool,
     from: Cell,
     cost: u32,
 ) -> Result<(), OutOfMemory>
     requires size { size_of search.old.costs ≡ grid.now.size }
     requires start_on { IsOnGround grid.now.size search.old.start }
+    requires start_open { start_open ≡ is_open_at grid.now search.old.start }
     requires from_on { IsOnGround grid.now.size from }
     requires label { cost_in search.old.costs from ≡ Some cost }
     requires small { cost < 2 ^ 31 }
     ensures { OnOk result (Expands (A.estimate_of aim) (field_of_grid grid.now) search.old search.new from cost) }
 {
-    let moves = moves_from(grid, search.start, from);
+    let moves = moves_where(grid, start_open, search.start, from);
     for which in 0..8u8 {
         if let Some(to) = step(grid, search.start, from, moves, which) {
             lower(search, aim, to, cost + step_cost(which))?;
@@ -50,11 +66,12 @@ fn drain<A: Guide>(
     ensures done { OnOk result (Drains (A.estimate_of aim) (field_of_grid grid.now) search.new now []) }
     ensures progress { IfOk result (λ any. Progress search.old search.new any) }
 {
+    let start_open = grid.open(search.start);
     let mut any = false;
     for cell in bucket {
         let cell = *cell;
-        if let Some(cost) = waiting(search, aim, cell, now) {
-            expand(search, grid, aim, cell, cost)?;
+        if let Some(cost) = waiting(search, cell) {
+            expand(search, grid, aim, start_open, cell, cost)?;
             take(search, cell);
             any = true;
         }

@@ -1,8 +1,8 @@
 //! The cells that wait, in a ring of buckets, each of which holds those of one key: the sum of cost and estimate.
 
-ghost use Rattle.std.specs.Prelude.{◌≡◌, ℕ, ◌+◌, ◌-◌, ◌*◌, ◌%◌, ◌^◌, ◌<◌, ◌≤◌, ◌↔◌, [], replicate, IfOk, OnOk, IsTrue, slice_index_or, Some, None, vec_len};
+ghost use Rattle.std.specs.Prelude.{true, false, ◌≡◌, ℕ, ◌+◌, ◌-◌, ◌*◌, ◌%◌, ◌^◌, ◌<◌, ◌≤◌, ◌↔◌, [], replicate, IfOk, OnOk, IsTrue, slice_index_or, Some, None, vec_len};
 ghost use Rattle.sim_search.specs.{Common.IsOnGround, Tables.cost_in, Tables.is_lower_than, Tables.size_of};
-ghost use Rattle.sim_search.specs.Queues.{Begins, bucket_in, Empties, IsBlank, Lowers, taken_in, Takes, Waits};
+ghost use Rattle.sim_search.specs.Queues.{Begins, bucket_in, Empties, IsBlank, IsLowered, Lowers, taken_in, Takes};
 
 use crate::entry::Entry;
 use crate::{Costs, Guide, Search};
@@ -149,19 +149,33 @@ pub fn begun<A: Guide>(
     ensures { IfOk result (λ s. Begins (A.estimate_of aim) (record { width = width; depth = depth }) start s) }
 {
     let mut search = blank(alloc, rooms, width, depth, start)?;
-    search.costs.set(start, 0);
-    search.buckets[bucket(aim.estimate(start))].push(start)?;
+    wait(&mut search, aim, start, 0)?;
     Ok(search)
 }
 
 // Whether the total is lower than the cost of a cell.
 fn is_lower(search: &Search, cell: Cell, total: u32) -> bool
+    requires { IsOnGround (size_of search.now.costs) cell }
     ensures { result ≡ is_lower_than total (cost_in search.now.costs cell) }
 {
-    match search.costs.at(cell) {
+    match search.costs.on(cell) {
         None => true,
         Some(cost) => total < cost,
     }
+}
+
+// Gives a cell the total as its cost, which is lower than before, and lets it wait there.
+fn wait<A: Guide>(search: &mut Search, aim: A, to: Cell, total: u32) -> Result<(), OutOfMemory>
+    requires to_on { IsOnGround (size_of search.old.costs) to }
+    requires small { total < 2 ^ 31 + 2 ^ 8 }
+    requires lower { is_lower_than total (cost_in search.old.costs to) ≡ true }
+    ensures { OnOk result (IsLowered (A.estimate_of aim) search.old search.new to total) }
+{
+    let key = total + aim.estimate(to);
+    let waiting = &mut search.buckets[bucket(key)];
+    waiting.push(to)?;
+    search.costs.set(to, total);
+    Ok(())
 }
 
 /// Gives a cell a cost of at most the total, and if its cost falls so, lets it wait there.
@@ -171,21 +185,19 @@ pub fn lower<A: Guide>(search: &mut Search, aim: A, to: Cell, total: u32) -> Res
     ensures { OnOk result (Lowers (A.estimate_of aim) search.old search.new to total) }
 {
     if is_lower(search, to, total) {
-        let key = total + aim.estimate(to);
-        let waiting = &mut search.buckets[bucket(key)];
-        waiting.push(to)?;
-        search.costs.set(to, total);
+        wait(search, aim, to, total)?;
     }
     Ok(())
 }
 
-/// The cost of a cell that waits by this key: None where it doesn't.
-pub fn waiting<A: Guide>(search: &Search, aim: A, cell: Cell, now: u32) -> Option<u32>
-    ensures none { result ≡ None → (d : ℕ) → Waits (A.estimate_of aim) search.now now cell d → ⊥ }
-    ensures some { (d : ℕ) → result ≡ Some d → Waits (A.estimate_of aim) search.now now cell d }
+/// The cost of a cell that was not taken: None where it has none.
+pub fn waiting(search: &Search, cell: Cell) -> Option<u32>
+    ensures none { result ≡ None → (d : ℕ) → cost_in search.now.costs cell ≡ Some d → taken_in search.now cell ≡ true }
+    ensures cost { (d : ℕ) → result ≡ Some d → cost_in search.now.costs cell ≡ Some d }
+    ensures untaken { (d : ℕ) → result ≡ Some d → taken_in search.now cell ≡ false }
 {
     let cost = search.costs.at(cell)?;
-    if is_taken(search, cell) || now.checked_sub(aim.estimate(cell)) != Some(cost) {
+    if is_taken(search, cell) {
         None
     } else {
         Some(cost)

@@ -28,10 +28,10 @@ pub fn moves_from(grid: &Grid, start: Cell, from: Cell) -> u8
     }
 }
 
-// The steps that are allowed from a cell, each looked at by itself.
+/// The same, each step looked at by itself.
 #[cold]
 #[inline(never)]
-fn moves_by_trial(grid: &Grid, start: Cell, from: Cell) -> u8
+pub(crate) fn moves_by_trial(grid: &Grid, start: Cell, from: Cell) -> u8
     requires { IsOnGround grid.now.size from }
     ensures { AreMoves (field_of_grid grid.now) start from result }
 {

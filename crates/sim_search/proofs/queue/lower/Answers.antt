@@ -1,29 +1,8 @@
-use Rattle.sim_search.proofs.Common.{get_or_default, IfOk-from_err, inr, is_lower_than, ltb-true, subst, sym, ◌∙◌}
-use Rattle.sim_search.proofs.Common.{◌≡◌, ℕ, ◌+◌, ◌%◌, true, List, [], ◌∷◌, ◌++◌, map, get_or, set, nat_eq, Some, refl, ap, arith, Cell}
+use Rattle.sim_search.proofs.Common.{IfOk-from_err, inr}
 use Rattle.sim_search.proofs.queue.lower.Goals as goal
 
-pub returns-in_ok-push : goal.returns-in_ok-push
-returns-in_ok-push g c =
-    let old = c.args.search.now in
-    let b = c.bucket.result in
-    let to = c.args.to in
-    let key : b ≡ (c.args.total + g.A.Guide.estimate_of c.args.aim to) % 32 =
-    c.bucket.ensures.is ∙ ap (λ (n : ℕ). (c.args.total + n) % 32) c.estimate.ensures.is in
-    let now = c.index_mut-waiting.result.now in
-    let had : c.index_mut-waiting.result.now ≡ get_or old.buckets.items b [] = c.index_mut-waiting.ensures.value ∙ get_or_default old.buckets.items b now []
-    (omega (arith, old.ring, old.buckets.ok.0, c.bucket.ensures.below)) in
-    let pushed : c.push.new.self ≡ get_or old.buckets.items b [] ++ to ∷ [] = c.in_ok-push.ensures.ok ∙ ap (λ (l : List Cell). l ++ to ∷ []) had in
-    inr (record {
-      higher = λ d e. let h : is_lower_than c.args.total (Some d) ≡ true = ap (is_lower_than c.args.total) (sym e) ∙ sym c.is_lower.ensures ∙
-          c.if-is_lower.true in ltb-true c.args.total d h;
-      size_is = c.set.ensures.size;
-      here = c.set.ensures.here;
-      elsewhere = c.set.ensures.elsewhere;
-      start_is = refl;
-      taken_is = ap (λ (n : ℕ). map (λ (t : ℕ). nat_eq t n) old.taken.items) c.set.ensures.stamp;
-      queued = subst (λ (n : ℕ). set old.buckets.items b c.push.new.self ≡ set old.buckets.items n (get_or old.buckets.items n [] ++ to ∷ [])) key
-          (ap (set old.buckets.items b) pushed);
-    })
+pub returns-in_ok-wait : goal.returns-in_ok-wait
+returns-in_ok-wait g c = inr c.in_ok-wait.ensures
 
-pub returns-in_err-push : goal.returns-in_err-push
-returns-in_err-push g c = IfOk-from_err _ _ c.from_residual.ensures.0
+pub returns-in_err-wait : goal.returns-in_err-wait
+returns-in_err-wait g c = IfOk-from_err _ _ c.from_residual.ensures.0
