@@ -8,21 +8,24 @@
 //! - `system`: the system.
 //! - `span`, `cover`: the cells of a rectangle; how many rectangles cover each cell, and which cells are open.
 //! - `opened`: the layers and the labels that are kept.
+//! - `drawn`, `same`: those of a ground that nobody uses now; whether two grounds are the same.
 //! - `mended`: the labels where the cells of a rectangle were closed or opened.
 //! - `free`: whether a rectangle is free.
 //! - `spot`: the open cell nearest to a point.
-//! - `rooms`, `way`: the rooms of searches, which several grounds may share; ways over the open cells.
+//! - `rooms`, `way`: the rooms of searches, which several grounds may share, with a ground that nobody uses; ways over the open cells.
 #![tactic(auto)]
 
 mod cover;
+mod drawn;
 mod free;
 mod mended;
 mod opened;
 mod rooms;
+mod same;
 mod span;
 mod spot;
 mod system;
 mod way;
 
-pub use rooms::Rooms;
+pub use rooms::{Contents, Rooms};
 pub use system::Ground;

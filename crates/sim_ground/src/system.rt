@@ -4,6 +4,7 @@ ghost use Rattle.std.specs.Prelude.{◌≡◌, [], OnOk, OnErr, MatchOption, Non
 ghost use Rattle.sim_ground.specs.{Lent.AreLayers, Lent.AreRegions, Opening.builds, Opening.IsKept};
 ghost use Rattle.sim_system.specs.{Notes.noted, Notes.NoteFits, declared.kind.Kind.TheVariants.Ground as GroundKind};
 
+use crate::drawn::{Drawn, draw};
 use crate::free::is_free;
 use crate::opened::Opened;
 use crate::rooms::{Lent, Rooms};
@@ -72,6 +73,24 @@ impl Ground {
 }
 
 impl Ground {
+    // Forgets the land and all facts. What was drawn of them goes into the rooms.
+    fn set_aside(&mut self)
+        ensures land { self.new.kept.land ≡ None }
+        ensures facts { self.new.kept.facts.items ≡ [] }
+        ensures rebuilds { self.new.kept.rebuilds ≡ self.old.kept.rebuilds }
+        ensures opened { self.new.opened ≡ None }
+    {
+        let opened = self.opened.take();
+        let land = self.kept.land.take();
+        if let (Some(land), Some(opened)) = (land, opened) {
+            let facts = std::mem::replace(&mut self.kept.facts, Vec::new(self.kept.alloc));
+            self.rooms
+                .rooms()
+                .put_drawn(Drawn::new(land, facts, opened));
+        }
+        self.kept.clear();
+    }
+
     // Takes up a note by which an obstruction comes or goes. Room for the fact is made first, so that all else may be left as
     // it was.
     fn built_on(&mut self, note: &Note) -> Result<(), OutOfMemory>
@@ -100,14 +119,14 @@ impl System for Ground {
     }
 
     fn clear(&mut self) {
-        self.kept.clear();
-        self.opened = None;
+        self.set_aside();
     }
 
     fn rebuild(&mut self, land: &Land, facts: &[Fact]) -> Result<(), OutOfMemory> {
-        self.opened = None;
+        self.set_aside();
         self.kept.rebuild(Kind::Ground, land, facts)?;
-        match Opened::of(self.kept.alloc, land, self.kept.facts.as_slice()) {
+        let facts = self.kept.facts.as_slice();
+        match draw(self.kept.alloc, self.rooms.rooms(), land, facts) {
             Ok(opened) => self.opened = Some(opened),
             Err(error) => {
                 self.kept.clear();
