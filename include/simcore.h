@@ -64,7 +64,8 @@ enum simcore_status {
     SIMCORE_FILES_REFUSED = 106  /* simcore_run: the bytes are no files; nothing is written */
 };
 /* The first of these is told: the handle is none for the call, the match is refused, a state is (the left one before the right one), there
- * is no such player, all turns were played, the commands are refused, there is no room. Memory may be refused anywhere between. */
+ * is no such player or, by IDLE, no such client of a server, all turns were played, the commands or the frame are refused, nothing happens,
+ * the client is not on, there is no room. Memory may be refused anywhere between. */
 
 /* Why a call was refused. docs/FORMATS.md says what each code means. */
 struct simcore_fault {

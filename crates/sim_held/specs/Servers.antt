@@ -17,15 +17,24 @@ pub record ServerView : Type 0 where
 abbrev pub AreSmall : List (List (PostOf (List ℕ))) → Type 0
 AreSmall said = All (All (λ post. IsSmallDown post.down)) said
 
--- there are so many clients; and all that waits, and all that is kept, has frames
+-- what waits for a client, in order
+abbrev pub waiting : List (List (PostOf (List ℕ))) → ℕ → List (DownOf (List ℕ))
+waiting said c = flat_map (told_to c) said
+
+-- a client of the match
+abbrev pub is_client : View → ℕ → Bool
+is_client v c = nat_lt 0 c && nat_le c v.rules.clients
+
+-- nothing waits for a number that is no client's
+abbrev pub WaitsForClients : View → List (List (PostOf (List ℕ))) → Type 0
+WaitsForClients v said = (d : ℕ) → is_client v d ≡ false → waiting said d ≡ []
+
+-- there are so many clients; all that waits, and all that is kept, has frames; and what waits is for clients
 pub record IsReady (clients : ℕ) (server : View) (said : List (List (PostOf (List ℕ)))) : Type 0 where
   pub count : clients ≡ server.rules.clients
   pub keeps : IsSmallServer (server_of server)
   pub waits : AreSmall said
-
--- what waits for a client, in order
-abbrev pub waiting : List (List (PostOf (List ℕ))) → ℕ → List (DownOf (List ℕ))
-waiting said c = flat_map (told_to c) said
+  pub own : WaitsForClients server said
 
 -- there is a post in a list
 abbrev pub has_some : List (PostOf (List ℕ)) → Bool
@@ -35,10 +44,6 @@ has_some (post ∷ rest) = true
 -- the frames of what waits for a client, one behind another
 abbrev pub frames_for : List (List (PostOf (List ℕ))) → ℕ → List ℕ
 frames_for said c = flat_map down_frame (waiting said c)
-
--- a client of the match
-abbrev pub is_client : View → ℕ → Bool
-is_client v c = nat_lt 0 c && nat_le c v.rules.clients
 
 -- an arrival makes of the server what it makes by the definition, and what is said of it to each client waits behind the rest
 pub record Hears (a : Arrival (List ℕ)) (old new : ServerView) : Type 0 where

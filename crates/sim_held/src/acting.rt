@@ -34,6 +34,7 @@ pub fn say(outbox: &mut Outbox, did: Did) -> Result<Went, OutOfMemory>
 /// Wishes to join.
 pub fn join(stage: &mut Stage, outbox: &mut Outbox) -> Result<Went, OutOfMemory>
     ensures goes { Goes (joins (life_at stage.old)) (life_at stage.old) outbox.old result (life_at stage.new) outbox.new }
+    ensures idle { joins (life_at stage.old) ≡ None → result ≡ Ok Went.Idle }
     ensures sound { (setup : AnySetup) → IsStage setup stage.old → IsStage setup stage.new }
 {
     let Stage::Off = stage else {

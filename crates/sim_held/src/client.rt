@@ -1,6 +1,7 @@
 //! A client that is held.
 
 ghost use Rattle.{sim_base.specs.declared.state.State.State as AnyState, sim_board.specs.BoardWords.state_in};
+ghost use Rattle.std.specs.Str.{is_utf8};
 ghost use Rattle.std.specs.Prelude.{◌≡◌, [], map, false, IfOk, IfErr, Ok, None, Some, Option, option_copied, option_map, string_bytes};
 ghost use Rattle.sim_client.specs.ClientWords.{is_joining, LoadsFrom, state_of, turn_of};
 ghost use Rattle.sim_client.specs.Lives.{hears, joins, Off, orders, plays, Told};
@@ -76,6 +77,7 @@ impl HeldClient {
     /// Wishes to join.
     pub fn join(&mut self) -> Result<Went, OutOfMemory>
         ensures steps { Steps (joins (life self.old)) (life self.old) self.old.outbox result (life self.new) self.new.outbox }
+        ensures idle { joins (life self.old) ≡ None → result ≡ Ok Went.Idle }
         ensures same { IsSame self.old self.new }
     {
         let came = join(&mut self.stage, &mut self.outbox);
@@ -87,6 +89,7 @@ impl HeldClient {
     pub fn order(&mut self, command: &[u8]) -> Result<Went, OutOfMemory>
         ensures takes { Takes (option_map (λ given. orders self.old.setup given (life self.old)) (command_in command.now)) (life self.old) self.old.outbox result
             (life self.new) self.new.outbox }
+        ensures no_text { is_utf8 command.now ≡ false → result ≡ Ok Went.Refused }
         ensures same { IsSame self.old self.new }
     {
         let came = order(
@@ -237,7 +240,8 @@ impl HeldClient {
 
     /// The bytes of its state, and their digest.
     pub fn stored(&self) -> Result<Option<Stored>, OutOfMemory>
-        ensures { IfOk result (LooksAt (state_of (life self.now)) (IsStored self.now.setup)) }
+        ensures looks { IfOk result (LooksAt (state_of (life self.now)) (IsStored self.now.setup)) }
+        ensures none { state_of (life self.now) ≡ None → result ≡ Ok None }
     {
         match &self.stage {
             Stage::Off => Ok(None),
@@ -248,7 +252,8 @@ impl HeldClient {
 
     /// The entities of its state, in their order.
     pub fn entities(&self) -> Result<Option<Vec<Entity>>, OutOfMemory>
-        ensures { IfOk result (LooksAt (state_of (life self.now)) (λ state found. found.items ≡ map entity_of state.rows)) }
+        ensures looks { IfOk result (LooksAt (state_of (life self.now)) (λ state found. found.items ≡ map entity_of state.rows)) }
+        ensures none { state_of (life self.now) ≡ None → result ≡ Ok None }
     {
         match &self.stage {
             Stage::Off => Ok(None),
@@ -259,7 +264,8 @@ impl HeldClient {
 
     /// Its state as text: a line of its clock, and one of each row.
     pub fn show(&self) -> Result<Option<String>, OutOfMemory>
-        ensures { IfOk result (LooksAt (state_of (life self.now)) (λ state text. string_bytes text ≡ show_text self.now.setup state)) }
+        ensures looks { IfOk result (LooksAt (state_of (life self.now)) (λ state text. string_bytes text ≡ show_text self.now.setup state)) }
+        ensures none { state_of (life self.now) ≡ None → result ≡ Ok None }
     {
         match &self.stage {
             Stage::Off => Ok(None),

@@ -1,7 +1,7 @@
 //! Bytes that a client is given: a command that its player gives, and a frame of the server.
 
 ghost use Rattle.{serde_json.specs.View.view, sim_base.specs.Limits.HasFewIds, sim_base.specs.Limits.IsSetup, sim_base.specs.declared.state.State.State as AnyState};
-ghost use Rattle.std.specs.Prelude.{◌≡◌, IfOk, IfSome, OnOk, Ok, Option, option_map};
+ghost use Rattle.std.specs.{Str.is_utf8, Prelude.◌≡◌, Prelude.false, Prelude.IfOk, Prelude.IfSome, Prelude.OnOk, Prelude.None, Prelude.Ok, Prelude.Option, Prelude.option_map};
 ghost use Rattle.sim_client.specs.{ClientWords.LoadsFrom, Lives.hears, Lives.orders, Lives.Told};
 ghost use Rattle.sim_held.specs.{Acting.Heeds, Clients.command_in, Clients.Goes, Clients.IsStage, Clients.life_at, Clients.Stays};
 ghost use Rattle.sim_wire.specs.Fits.{IsDownFrame};
@@ -19,6 +19,7 @@ use std::alloc::Global;
 fn command_of(alloc: Global, bytes: &[u8]) -> Result<Option<Command>, OutOfMemory>
     ensures command { IfOk result (λ found. found ≡ command_in bytes.now) }
     ensures few { IfOk result (λ found. IfSome found HasFewIds) }
+    ensures no_text { is_utf8 bytes.now ≡ false → result ≡ Ok None }
 {
     let Some(value) = value_of(alloc, bytes)? else {
         return Ok(None);
@@ -41,6 +42,7 @@ pub fn order(
     requires sound { IsStage setup.now stage.old }
     ensures heeds { Heeds (option_map (λ given. orders setup.now given (life_at stage.old)) (command_in bytes.now)) (life_at stage.old) outbox.old result
         (life_at stage.new) outbox.new }
+    ensures no_text { is_utf8 bytes.now ≡ false → result ≡ Ok Went.Refused }
     ensures sound { OnOk result (IsStage setup.now stage.new) }
 {
     match command_of(alloc, bytes)? {

@@ -1,7 +1,7 @@
 //! The turn server that is held.
 
 ghost use Rattle.{sim_held.specs.Servers.frames_for, sim_held.specs.Servers.is_client as is_client_of, sim_server.specs.Standing.server_of};
-ghost use Rattle.std.specs.Prelude.{◌≡◌, ℕ, ◌≤◌, List, [], ◌&&◌, nat_le, nat_lt, IfOk, IfErr, OnErr, Option};
+ghost use Rattle.std.specs.Prelude.{◌≡◌, ℕ, ◌≤◌, List, [], ◌&&◌, nat_le, nat_lt, false, IfOk, IfErr, OnErr, Ok, Option};
 ghost use Rattle.sim_embed.specs.{Bytes.OfMatch, Causes.IsNoMatch};
 ghost use Rattle.sim_held.specs.Servers.{Answers, CutsOff, Hears, IsServer, IsServerOf, Leaves};
 ghost use Rattle.sim_plain.specs.{Messages.Heard, declared.message.UpOf.UpOf};
@@ -109,7 +109,8 @@ impl HeldServer {
 
     // Cuts a client off, and answers so.
     fn cut_as(&mut self, client: u8, went: Went) -> Result<Went, OutOfMemory>
-        ensures { Answers (is_client_of self.old.server client) went (CutsOff client) self.old result self.new }
+        ensures cuts { Answers (is_client_of self.old.server client) went (CutsOff client) self.old result self.new }
+        ensures nobody { is_client_of self.old.server client ≡ false → result ≡ Ok Went.Idle }
     {
         if !is_client(self.clients, client) {
             return Ok(Went::Idle);
@@ -123,14 +124,16 @@ impl HeldServer {
 
     /// Sees that the connection of a client has ended. What waits for it is dropped.
     pub fn cut(&mut self, client: u8) -> Result<Went, OutOfMemory>
-        ensures { Answers (is_client_of self.old.server client) Went.Done (CutsOff client) self.old result self.new }
+        ensures cuts { Answers (is_client_of self.old.server client) Went.Done (CutsOff client) self.old result self.new }
+        ensures nobody { is_client_of self.old.server client ≡ false → result ≡ Ok Went.Idle }
     {
         self.cut_as(client, Went::Done)
     }
 
     /// The frames that wait for a client, one behind another.
     pub fn said(&self, client: u8) -> Result<Vec<u8>, OutOfMemory>
-        ensures { IfOk result (λ bytes. bytes.items ≡ frames_for self.now.said client) }
+        ensures bytes { IfOk result (λ bytes. bytes.items ≡ frames_for self.now.said client) }
+        ensures nobody { is_client_of self.now.server client ≡ false → IfOk result (λ bytes. bytes.items ≡ []) }
     {
         frames_to(self.alloc, &self.said, client)
     }
@@ -145,6 +148,7 @@ impl HeldServer {
     /// Takes the frames that wait for a client, one behind another.
     pub fn take(&mut self, client: u8) -> Result<Vec<u8>, OutOfMemory>
         ensures bytes { IfOk result (λ bytes. (bytes.items ≡ frames_for self.old.said client) × Leaves client self.old self.new) }
+        ensures nobody { is_client_of self.old.server client ≡ false → IfOk result (λ bytes. bytes.items ≡ []) }
         ensures err { OnErr result (self.new ≡ self.old) }
     {
         let bytes = frames_to(self.alloc, &self.said, client)?;

@@ -4,6 +4,7 @@
 ghost use Rattle.std.specs.{List.flat_map, Prelude.◌≡◌, Prelude.ℕ, Prelude.◌<◌, Prelude.◌≤◌, Prelude.not, Prelude.[], Prelude.◌∷◌, Prelude.◌++◌, Prelude.map};
 ghost use Rattle.std.specs.Prelude.{OnOk, IfOk, All, if◌then◌else◌, ◌==◌, filter, vec_len, vec_capacity};
 ghost use Rattle.{sim_held.specs.Servers.AreSmall, sim_held.specs.Servers.frames_for, sim_held.specs.Servers.has_some as has_some_of, sim_held.specs.Servers.waiting, sim_pipes.specs.Posts.told_to};
+ghost use Rattle.{sim_held.specs.Servers.WaitsForClients, sim_server.specs.Standing.View};
 ghost use Rattle.sim_wire.specs.{Fits.IsSmallDown, Frames.down_frame};
 
 use sim_base::{Items, OutOfMemory};
@@ -97,6 +98,7 @@ fn drop_empty(said: &mut Vec<Posts>)
 pub fn leave(alloc: Global, said: &mut Vec<Posts>, to: u8)
     ensures said { (d : ℕ) → waiting said.new.items d ≡ (if d == to then [] else waiting said.old.items d) }
     ensures small { AreSmall said.old.items → AreSmall said.new.items }
+    ensures own { (v : View) → WaitsForClients v said.old.items → WaitsForClients v said.new.items }
     ensures room { (vec_len said.new ≤ vec_len said.old) × (vec_capacity said.new ≡ vec_capacity said.old) }
 {
     keep_others(alloc, said, to);

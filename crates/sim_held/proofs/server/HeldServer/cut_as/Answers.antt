@@ -1,5 +1,5 @@
 -- What is said has frames, and waits behind the rest.
-use Rattle.sim_held.proofs.{Common.ap, Common.Ok, Common.[], Common.◌++◌, Common.if◌then◌else◌, Common.told_to, Common.subst, Common.sym, Common.◌∙◌, Serving.answered, Serving.cut_by, Serving.ready_after}
+use Rattle.sim_held.proofs.{Common.ap, Common.Ok, Common.[], Common.◌++◌, Common.if◌then◌else◌, Common.told_to, Common.refl, Common.subst, Common.sym, Common.◌∙◌, Serving.answered, Serving.cut_by, Serving.own_after, Serving.own_still, Serving.ready_after}
 use Rattle.{sim_plain.specs.Messages.Cut, sim_pipes.proofs.Answering.have_frames}
 use Rattle.std.proofs.{Common.◌==◌}
 use Rattle.std.specs.Prelude.{◌&&◌, nat_le, nat_lt}
@@ -11,6 +11,7 @@ invariant_of-self-in_err-posts c =
     let before = c.self.inside in
     ready_after before.clients before.server (Cut c.args.client) c.cut.result c.cut.new.self before.said.items _ c.self.invariant tt
     c.cut.ensures.made (subst AreSmall (sym c.in_ok-reserve.ensures.items) c.self.invariant.waits)
+    (own_still before.server c.cut.new.self before.said.items _ c.in_err-posts.ensures.made.rules c.in_ok-reserve.ensures.items c.self.invariant.own)
 
 pub invariant_of-self-2 : goal.invariant_of-self-2
 invariant_of-self-2 c =
@@ -20,9 +21,12 @@ invariant_of-self-2 c =
     ready_after before.clients before.server a (Ok c.in_ok-posts.posts) c.cut.new.self before.said.items c.keep.new.said.items c.self.invariant tt made
     (c.keep.ensures.small (c.leave.ensures.small (subst AreSmall (sym c.in_ok-reserve.ensures.items) c.self.invariant.waits))
     (have_frames before.server a (Ok c.in_ok-posts.posts) c.cut.new.self c.self.invariant.keeps tt made))
+    (own_after before.server c.cut.new.self a c.in_ok-posts.posts c.leave.new.said.items c.keep.new.said.items made
+    (c.leave.ensures.own before.server (own_still before.server before.server before.said.items _ refl c.in_ok-reserve.ensures.items c.self.invariant.own))
+    c.keep.ensures.said)
 
-pub returns : goal.returns
-returns c =
+pub returns-clause-cuts : goal.returns-clause-cuts
+returns-clause-cuts c =
     let before = c.self.inside in
     let client = c.args.client in
     let there = ap (λ n. nat_lt 0 client && nat_le client n) (sym c.self.invariant.count) ∙ sym c.is_client.ensures ∙ c.if-not-is_client.false in

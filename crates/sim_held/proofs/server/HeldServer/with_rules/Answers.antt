@@ -1,6 +1,6 @@
 -- Nothing is kept, and nothing waits.
 use Rattle.sim_held.proofs.Common.{ap, rules, subst, sym}
-use Rattle.sim_held.proofs.Common.{All-nil}
+use Rattle.{sim_held.proofs.Common.All-nil, sim_held.specs.Servers.waiting}
 use Rattle.{sim_plain.specs.declared.rules.Rules.Rules, sim_server.specs.Small.IsSmallServer}
 use Rattle.sim_held.proofs.server.HeldServer.with_rules.Goals as goal
 
@@ -9,4 +9,5 @@ invariant_of-result c = record {
   count = ap (λ (r : Rules). r.clients) (sym c.in-Ok.ensures.rules);
   keeps = subst IsSmallServer (sym c.in-Ok.ensures.stands) (λ t. tt);
   waits = search (rules, All-nil);
+  own = λ d nobody. ap (λ l. waiting l d) c.new-2.ensures.items;
 }
