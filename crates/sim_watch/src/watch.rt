@@ -67,13 +67,9 @@ impl Watch {
             self.let_go(id);
             return Ok(());
         }
-        let from = self.aimers.target(id);
-        if from == to {
-            return Ok(());
-        }
         self.aimers.make_room()?;
         make_room(&mut self.groups, self.alloc, to)?;
-        self.aimers.aim(id, to);
+        let from = self.aimers.aim(id, to);
         leave(&mut self.groups, id, from);
         join(&mut self.groups, id, to);
         Ok(())
@@ -97,8 +93,7 @@ impl Watch {
         ensures land { self.new.land ≡ self.old.land }
         ensures rebuilds { self.new.rebuilds ≡ self.old.rebuilds }
     {
-        let from = self.aimers.target(id);
-        self.aimers.leave(id);
+        let from = self.aimers.leave(id);
         leave(&mut self.groups, id, from);
         self.groups.forget(id);
     }
