@@ -70,7 +70,8 @@ impl Queue {
         self.left <= self.ids.len() / 2 && self.ids.len() < self.ids.capacity()
     }
 
-    // Makes room where there may be none.
+    // Makes room where there may be none. It is long, and so stands apart from what is looked at each time.
+    #[inline(never)]
     fn renew(&mut self) -> Result<(), OutOfMemory>
         ensures ids { queued self.new ≡ queued self.old }
         ensures few { self.new.left ≤ length (queued self.new) }
