@@ -6,11 +6,22 @@ use Rattle.std.proofs.lemmas.List.{get_or_past, Elements.All-head, Elements.All-
 use Rattle.std.specs.Prelude.{IfSome, ◌==◌, MatchOption, count_by}
 use Rattle.sim_fact_lists.proofs.{OneFact.count_after, OneFact.noted_only, OneFact.OnlyAt, OneFact.part_is, Rising.found_all, Rising.rising}
 use Rattle.sim_fact_lists.specs.{Changes.id_in, Changes.one_if, Changes.part_noted, Changes.passes, Places.Holds, Places.HoldsIfAny, Places.IsHeld}
-use Rattle.sim_system.specs.{Answers.answer, Answers.population_among, Notes.fact_with, Notes.noted, Notes.NoteFits, declared.note.Note.Note}
+use Rattle.sim_system.specs.{Answers.answer, Answers.population_among, Facts.kept_of, Facts.part_for, Notes.fact_with, Notes.noted, Notes.NoteFits, declared.note.Note.Note}
 use Rattle.sim_system.specs.declared.{ask.Answer.TheVariants.Number, ask.Ask.Ask, ask.Ask.TheVariants.Count, fact.Fact.Fact, kind.Kind.TheVariants.Census}
 
 tally : (p : Fact → Bool) (f : Fact) (facts : List Fact) → count_by p (f ∷ facts) ≡ one_if (p f) + count_by p facts
 tally p f facts = sum_by-cons (λ (g : Fact). one_if (p g)) f facts
+
+-- what is kept of entities has as many of each owner
+same_population : (facts : List Fact) (owner : ℕ) → population_among (kept_of Census facts) owner ≡ population_among facts owner
+same_population [] owner = refl
+same_population (f ∷ facts) owner =
+    tally (is_owned_by owner) (part_for Census f) (kept_of Census facts) ∙ ap (λ (n : ℕ). one_if (f.owner == owner) + n) (same_population facts owner)
+    ∙ sym (tally (is_owned_by owner) f facts)
+
+pub kept_counts : (facts after : List Fact) (counts : List ℕ) → after ≡ kept_of Census facts → AreCounts facts counts → AreCounts after counts
+kept_counts facts after counts is are owner lt =
+    are owner lt ∙ sym (same_population facts owner) ∙ ap (λ (fs : List Fact). population_among fs owner) (sym is)
 
 -- a fact that is found is of one of the nine owners
 found_owner : (l : Land) (facts : List Fact) (id : ℕ) (f : Fact) → Holds l facts → fact_with facts id ≡ Some f → f.owner < 9
@@ -101,10 +112,6 @@ looked_up l facts counts owner full h are =
       | inl lt ↦ are owner lt
       | inr le ↦ (get_or_past counts owner 0 (omega arith) ∙ sym (nobody facts owner le (owners_few l facts h.limits h.held.each)))
     ]
-
-pub owner_after : (land later : Option Land) (P : Land → Type 0) (after : List Fact) (id : ℕ) (o : Option Fact) → MatchOption land ⊥ P → later ≡ land
-    → HoldsIfAny later after → o ≡ fact_with after id → IfSome o (λ (f : Fact). f.owner < 9)
-owner_after land later P after id o fits same h e = owner_known land P after id o fits (subst (λ (m : Option Land). HoldsIfAny m after) same h) e
 
 -- so the answer is the number that is looked up
 pub answer_is : (land : Option Land) (P : Land → Type 0) (facts : List Fact) (counts : List ℕ) (ask : Ask) (owner n : ℕ) → MatchOption land ⊥ P

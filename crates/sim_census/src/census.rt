@@ -1,20 +1,26 @@
 //! The system: the owner of each entity, and the number of each owner's entities beside them.
 
-ghost use Rattle.{sim_census.specs.Counts.AreCounts, sim_system.specs.declared.kind.Kind.TheVariants.Census as CensusKind};
+ghost use Rattle.{sim_census.specs.Counts.AreCounts, sim_census.specs.Owners.facts_in, sim_fact_lists.specs.Places.HoldsIfAny};
+ghost use Rattle.sim_system.specs.declared.kind.Kind.TheVariants.{Census as CensusKind};
 ghost use Rattle.std.specs.Prelude.{◌≡◌, [], length, slice_index, None};
 
 use crate::counts::{counts_of, join, leave};
+use crate::owners::Owners;
 use sim_base::{Land, OutOfMemory};
-use sim_fact_lists::{Kept, id_of, part_after};
+use sim_fact_lists::{copy_of, id_of, part_after};
 use sim_system::{Answer, Ask, Fact, Kind, Note, System};
 use std::alloc::Global;
 
 /// Keeps the owner of each entity, and how many each owner has.
 #[derive(Drop)]
 pub struct Census {
-    kept: Kept,
+    alloc: Global,
+    land: Option<Land>,
+    owners: Owners,
     counts: [u32; 9],
-    ghost counted: { AreCounts kept.facts.items counts },
+    rebuilds: u64,
+    ghost held: { HoldsIfAny land (facts_in owners.owned.items) },
+    ghost counted: { AreCounts (facts_in owners.owned.items) counts },
 }
 
 impl Census {
@@ -23,8 +29,11 @@ impl Census {
         ensures { ⟦<Census as System>⟧.meaning result ≡ record { kind = CensusKind; land = None; facts = []; rebuilds = 0 } }
     {
         Census {
-            kept: Kept::new(alloc),
+            alloc,
+            land: None,
+            owners: Owners::new(alloc),
             counts: [0; 9],
+            rebuilds: 0,
         }
     }
 
@@ -34,31 +43,46 @@ impl Census {
     {
         &self.counts
     }
+
+    // Forgets the land and all facts.
+    fn forget(&mut self)
+        ensures land { self.new.land ≡ None }
+        ensures facts { self.new.owners.owned.items ≡ [] }
+        ensures rebuilds { self.new.rebuilds ≡ self.old.rebuilds }
+    {
+        self.land = None;
+        self.owners = Owners::new(self.alloc);
+        self.counts = [0; 9];
+    }
 }
 
 impl System for Census {
-    ghost meaning = { λ s. record { kind = CensusKind; land = s.kept.land; facts = s.kept.facts.items; rebuilds = s.kept.rebuilds } };
+    ghost meaning = { λ s. record { kind = CensusKind; land = s.land; facts = facts_in s.owners.owned.items; rebuilds = s.rebuilds } };
 
     fn kind(&self) -> Kind {
         Kind::Census
     }
 
     fn clear(&mut self) {
-        self.kept.clear();
-        self.counts = [0; 9];
+        self.forget();
     }
 
     fn rebuild(&mut self, land: &Land, facts: &[Fact]) -> Result<(), OutOfMemory> {
-        self.counts = [0; 9];
-        self.kept.rebuild(Kind::Census, land, facts)?;
-        self.counts = counts_of(self.kept.facts.as_slice());
+        self.forget();
+        self.rebuilds = self.rebuilds.saturating_add(1);
+        let copied = copy_of(land)?;
+        let owners = Owners::of(self.alloc, facts)?;
+        self.counts = counts_of(facts);
+        self.owners = owners;
+        self.land = Some(copied);
         Ok(())
     }
 
     fn on(&mut self, note: &Note) -> Result<(), OutOfMemory> {
-        let before = self.kept.find(id_of(note));
+        let id = id_of(note);
+        let before = self.owners.find(id);
         let after = part_after(Kind::Census, before, note);
-        self.kept.on(Kind::Census, note)?;
+        self.owners.put(id, &after)?;
         leave(&mut self.counts, &before);
         join(&mut self.counts, &after);
         Ok(())
@@ -74,7 +98,7 @@ impl System for Census {
     }
 
     fn rebuilds(&self) -> u64 {
-        self.kept.rebuilds
+        self.rebuilds
     }
 }
 

@@ -4,10 +4,13 @@
 //! entities, which each note changes. So to be asked costs nothing, however many there are. It stands on the lists of facts.
 //!
 //! - `census`: the system.
+//! - `owners`: the owner of each entity, by id; `owned` is one of them.
 //! - `counts`: the numbers, and how they change.
 #![tactic(auto)]
 
 mod census;
 mod counts;
+mod owned;
+mod owners;
 
 pub use census::Census;

@@ -28,6 +28,7 @@ impl Group {
     }
 
     /// Makes room for one more.
+    #[inline(always)]
     pub fn make_room(&mut self) -> Result<(), OutOfMemory>
         ensures key { self.new.key ≡ self.old.key }
         ensures ids { queued self.new.ids ≡ queued self.old.ids }

@@ -17,7 +17,7 @@ pub struct Queue {
 
 impl Queue {
     ghost use Rattle.std.specs.List.{insert as inserted, remove as removed};
-    ghost use Rattle.std.specs.Prelude.{◌≡◌, ◌<◌, ◌≤◌, [], length, OnOk};
+    ghost use Rattle.std.specs.Prelude.{◌≡◌, ◌<◌, ◌≤◌, [], length, OnOk, IsTrue};
     ghost use Rattle.sim_fact_lists.specs.Queues.{HasPlace, queued};
 
     /// It has no id, and takes no memory yet.
@@ -48,8 +48,31 @@ impl Queue {
         self.left = 0;
     }
 
-    /// Makes room for one more. No more of those that left are kept then than there are others.
+    /// Makes room for one more. No more of those that left are kept then than there are others. Mostly it is there already, and
+    /// that is looked at in the caller's place.
+    #[inline(always)]
     pub fn make_room(&mut self) -> Result<(), OutOfMemory>
+        ensures ids { queued self.new ≡ queued self.old }
+        ensures few { self.new.left ≤ length (queued self.new) }
+        ensures room { OnOk result (HasPlace self.new) }
+    {
+        if self.has_room() {
+            return Ok(());
+        }
+        self.renew()
+    }
+
+    // Whether there is room for one more, and no more of those that left are kept than there are others.
+    fn has_room(&self) -> bool
+        ensures few { IsTrue result → self.now.left ≤ length (queued self.now) }
+        ensures room { IsTrue result → HasPlace self.now }
+    {
+        self.left <= self.ids.len() / 2 && self.ids.len() < self.ids.capacity()
+    }
+
+    // Makes room where there may be none. It is long, and so stands apart from what is looked at each time.
+    #[inline(never)]
+    fn renew(&mut self) -> Result<(), OutOfMemory>
         ensures ids { queued self.new ≡ queued self.old }
         ensures few { self.new.left ≤ length (queued self.new) }
         ensures room { OnOk result (HasPlace self.new) }

@@ -1,7 +1,7 @@
 -- Who aims at whom: what is asked of the groups, and the groups after a change.
 use Rattle.{sim_base.specs.declared.setup.Land.Land, sim_system.specs.Meanings.Meaning}
 use Rattle.std.{proofs.Common.MatchOption, proofs.lemmas.Bool.eq-eqb, proofs.lemmas.Bool.ne_eqb, specs.Prelude.◌&&◌, specs.Prelude.OnOk, specs.Prelude.filter}
-use Rattle.sim_fact_lists.proofs.{Grouping.relisted, OneFact.noted_is, Rising.only_itself}
+use Rattle.sim_fact_lists.proofs.{Grouping.relisted, OneFact.noted_is}
 use Rattle.sim_fact_lists.specs.{Groups.keyed, Groups.left_by, Groups.listed, declared.group.Group.Group}
 use Rattle.sim_system.specs.{Answers.watchers_among, Notes.noted, Notes.NoteFits, declared.note.Note.Note, declared.note.Note.TheVariants.Born}
 use Rattle.sim_watch.proofs.Common.{ap, AreGroups, Ascend, Fact, fact_with, facts_in, id_of_fact, joined_by, kept, kept_id, Rising, rising, rising_kept, subst}
@@ -52,11 +52,6 @@ module _ (aimers : List Aimer) (up : Ascend (told_in aimers)) where
   gone_groups id from after old new are found is leaves =
       relisted aim_key id (part id from) None (facts_in aimers) (facts_in after) old new new facts_rise are (sym found) (λ f e. absurd (cc)) (sym is) leaves
       (λ k. refl)
-
-  -- an entity keeps its target
-  pub same_target : (id from to : ℕ) → fact_with (facts_in aimers) id ≡ part id from → from ≡ to → facts_in aimers ≡ with_only id (part id to) (facts_in aimers)
-  same_target id from to found same =
-      sym (only_itself id (facts_in aimers) facts_rise) ∙ ap (λ (o : Option Fact). with_only id o (facts_in aimers)) (found ∙ ap (part id) same)
 
   -- ---- a note
 

@@ -75,16 +75,6 @@ impl Aimers {
         place
     }
 
-    /// The target of an entity, or 0.
-    pub fn target(&self, id: u32) -> u32
-        ensures { fact_with (facts_in self.now.aimers.items) id ≡ kept WatchKind (aim_of id result) }
-    {
-        match self.place_of(id) {
-            Ok(at) => self.aimers[at].target,
-            Err(_) => 0,
-        }
-    }
-
     /// Makes room for one more.
     pub fn make_room(&mut self) -> Result<(), OutOfMemory>
         ensures same { self.new.aimers.items ≡ self.old.aimers.items }
@@ -94,15 +84,21 @@ impl Aimers {
         Ok(())
     }
 
-    /// An entity has this target, or none. The room was made before.
-    pub fn aim(&mut self, id: u32, target: u32)
+    /// An entity has this target, or none. The room was made before. Answers the target that it had, or 0.
+    pub fn aim(&mut self, id: u32, target: u32) -> u32
         requires { vec_len self.old.aimers < vec_capacity self.old.aimers }
-        ensures { facts_in self.new.aimers.items ≡ with_only id (kept WatchKind (aim_of id target)) (facts_in self.old.aimers.items) }
+        ensures target { fact_with (facts_in self.old.aimers.items) id ≡ kept WatchKind (aim_of id result) }
+        ensures facts { facts_in self.new.aimers.items ≡ with_only id (kept WatchKind (aim_of id target)) (facts_in self.old.aimers.items) }
     {
         match self.place_of(id) {
-            Ok(at) => self.aimers[at] = Aimer { id, target },
+            Ok(at) => {
+                let from = self.aimers[at].target;
+                self.aimers[at] = Aimer { id, target };
+                from
+            }
             Err(at) => {
                 let _ = self.aimers.insert(at, Aimer { id, target });
+                0
             }
         }
     }
@@ -122,13 +118,19 @@ impl Aimers {
         }
     }
 
-    /// An entity is gone, and has no place in the list any more.
-    pub fn leave(&mut self, id: u32)
+    /// An entity is gone, and has no place in the list any more. Answers the target that it had, or 0.
+    pub fn leave(&mut self, id: u32) -> u32
+        ensures target { fact_with (facts_in self.old.aimers.items) id ≡ kept WatchKind (aim_of id result) }
         ensures facts { facts_in self.new.aimers.items ≡ with_only id None (facts_in self.old.aimers.items) }
         ensures told { told_in self.new.aimers.items ≡ with_only id None (told_in self.old.aimers.items) }
     {
-        if let Ok(at) = self.place_of(id) {
-            self.aimers.remove(at);
+        match self.place_of(id) {
+            Ok(at) => {
+                let target = self.aimers[at].target;
+                self.aimers.remove(at);
+                target
+            }
+            Err(_) => 0,
         }
     }
 }

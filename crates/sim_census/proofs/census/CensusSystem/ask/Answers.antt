@@ -3,5 +3,5 @@ use Rattle.sim_census.proofs.Counting.{answer_is}
 use Rattle.sim_census.proofs.census.CensusSystem.ask.Goals as goal
 
 pub returns-clause-answer : goal.returns-clause-answer
-returns-clause-answer c = answer_is _ _ _ c.args.self.now.counts c.args.ask.now c.in-Count.owner _ c.requires c.args.self.now.kept.held c.args.self.now.counted
+returns-clause-answer c = answer_is _ _ _ c.args.self.now.counts c.args.ask.now c.in-Count.owner _ c.requires c.args.self.now.held c.args.self.now.counted
     c.number.ensures.full c.in-Count.is c.number.ensures.number

@@ -1,26 +1,68 @@
--- One fewer of the old owner, and one more of the new one, are the numbers after the note.
-use Rattle.sim_census.proofs.Counting.{few_left, is_counted, owner_after, owner_known, part_found, recounted}
+-- What is put in place of the id makes the list that the note makes. One fewer of the old owner, and one more of the new one, are the
+-- numbers after it.
+use Rattle.sim_census.proofs.{Counting.few_left, Counting.is_counted, Counting.owner_known, Counting.part_found, Counting.recounted, Owning.meant}
+use Rattle.sim_census.proofs.Owning.{part_of_owner}
+use Rattle.std.proofs.Common.{List, ap, subst, sym}
+use Rattle.sim_census.specs.Counts.{AreCounts}
+use Rattle.sim_system.specs.declared.fact.Fact.{Fact}
+use Rattle.{sim_census.specs.Owners.facts_in, std.proofs.Common.◌∙◌, sim_system.specs.declared.kind.Kind.TheVariants.Census}
+use Rattle.sim_fact_lists.proofs.Holding.{on_ok, put_is, put_named, still_held}
 use Rattle.sim_census.proofs.census.CensusSystem.on.Goals as goal
 
+pub put-requires : goal.put-requires
+put-requires c =
+    let s = c.args.self.now in
+    part_of_owner s.owners.owned.items c.args.note.now _ _ _ c.find-before.ensures c.part_after-after.ensures
+    (put_named Census (facts_in s.owners.owned.items) c.args.note.now _ _ _ c.id_of-id.ensures c.find-before.ensures c.part_after-after.ensures)
+
 pub leave-requires-clause-owner : goal.leave-requires-clause-owner
-leave-requires-clause-owner c = owner_known _ _ _ _ _ c.requires c.args.self.now.kept.held c.find-before.ensures
+leave-requires-clause-owner c = owner_known _ _ _ _ _ c.requires c.args.self.now.held c.find-before.ensures
 
 pub leave-requires-clause-counted : goal.leave-requires-clause-counted
-leave-requires-clause-counted c = is_counted _ _ _ _ _ _ c.requires c.args.self.now.kept.held c.args.self.now.counted c.find-before.ensures
+leave-requires-clause-counted c = is_counted _ _ _ _ _ _ c.requires c.args.self.now.held c.args.self.now.counted c.find-before.ensures
 
 pub join-requires-clause-owner : goal.join-requires-clause-owner
 join-requires-clause-owner c =
-    owner_after c.args.self.now.kept.land _ _ c.on.new.self.facts.items c.id_of.result _ c.requires c.in_ok-on.ensures.land c.on.new.self.held
-    (part_found _ c.args.self.now.kept.facts.items c.on.new.self.facts.items c.args.note.now c.id_of.result _ _ c.requires c.id_of.ensures c.find-before.ensures
-    c.part_after-after.ensures c.in_ok-on.ensures.facts)
+    let s = c.args.self.now in
+    let facts = facts_in s.owners.owned.items in
+    let new = c.in_ok-put.ensures.ok ∙ put_is Census s.land facts c.args.note.now _ _ _ c.requires s.held c.id_of-id.ensures c.find-before.ensures
+    c.part_after-after.ensures in
+    owner_known s.land _ _ _ _ c.requires
+    (still_held c.put.result Census s.land facts _ c.args.note.now c.requires s.held (on_ok c.put.result _ _ (λ e. new) c.put.ensures.ok) c.put.ensures.err)
+    (part_found s.land facts _ c.args.note.now _ _ _ c.requires c.id_of-id.ensures c.find-before.ensures c.part_after-after.ensures new)
 
 pub join-requires-clause-few : goal.join-requires-clause-few
-join-requires-clause-few c = few_left _ _ c.args.self.now.kept.facts.items c.args.self.now.counts _ _ c.requires c.args.self.now.kept.held
-    c.args.self.now.counted c.leave.ensures
+join-requires-clause-few c =
+    let s = c.args.self.now in
+    few_left _ _ (facts_in s.owners.owned.items) s.counts _ _ c.requires s.held s.counted c.leave.ensures
+
+pub invariant_of-self : goal.invariant_of-self
+invariant_of-self c =
+    let s = c.args.self.now in
+    let facts = facts_in s.owners.owned.items in
+    record {
+      held = still_held c.put.result Census s.land facts _ c.args.note.now c.requires s.held
+          (on_ok c.put.result _ _ (λ e. e ∙ put_is Census s.land facts c.args.note.now _ _ _ c.requires s.held c.id_of-id.ensures c.find-before.ensures
+          c.part_after-after.ensures) c.put.ensures.ok) c.put.ensures.err;
+      counted = subst (λ (kept : List Fact). AreCounts kept s.counts) (sym c.in_err-put.ensures.err) s.counted;
+    }
 
 pub invariant_of-self-2 : goal.invariant_of-self-2
-invariant_of-self-2 c = record {
-  counted = recounted _ c.args.self.now.kept.facts.items c.on.new.self.facts.items c.args.note.now c.id_of.result _ _ c.args.self.now.counts _ _ c.requires
-      c.args.self.now.kept.held
-      c.args.self.now.counted c.id_of.ensures c.find-before.ensures c.part_after-after.ensures c.in_ok-on.ensures.facts c.leave.ensures c.join.ensures;
-}
+invariant_of-self-2 c =
+    let s = c.args.self.now in
+    let facts = facts_in s.owners.owned.items in
+    let new = c.in_ok-put.ensures.ok ∙ put_is Census s.land facts c.args.note.now _ _ _ c.requires s.held c.id_of-id.ensures c.find-before.ensures
+    c.part_after-after.ensures in
+    record {
+      held = still_held c.put.result Census s.land facts _ c.args.note.now c.requires s.held (on_ok c.put.result _ _ (λ e. new) c.put.ensures.ok)
+          c.put.ensures.err;
+      counted = recounted s.land facts _ c.args.note.now _ _ _ s.counts _ _ c.requires s.held s.counted c.id_of-id.ensures c.find-before.ensures
+          c.part_after-after.ensures new c.leave.ensures c.join.ensures;
+    }
+
+pub returns-clause-ok : goal.returns-clause-ok
+returns-clause-ok c =
+    let s = c.args.self.now in
+    ap (λ (facts : List Fact). meant s.land facts s.rebuilds)
+    (c.in_ok-put.ensures.ok ∙ put_is Census s.land (facts_in s.owners.owned.items) c.args.note.now _ _ _ c.requires s.held c.id_of-id.ensures
+    c.find-before.ensures c.part_after-after.ensures)

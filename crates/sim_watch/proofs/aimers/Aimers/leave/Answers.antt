@@ -1,6 +1,6 @@
--- The entity is taken out where it stands.
+-- The entity is taken out where it stands. One that does not stand in the list has no target.
 use Rattle.sim_watch.proofs.Common.{List, Aimer, ap, Ascend, facts_in, subst, sym, told_in, ◌∙◌}
-use Rattle.sim_watch.proofs.Listing.{facts_left, left_none, left_there}
+use Rattle.sim_watch.proofs.Listing.{facts_left, left_none, left_there, no_target, target_there}
 use Rattle.sim_watch.proofs.aimers.Aimers.leave.Goals as goal
 
 pub invariant_of-self : goal.invariant_of-self
@@ -11,24 +11,32 @@ invariant_of-self c =
           (left_there s.aimers.items c.args.id 0 c.in-Ok.at s.ascend c.in-Ok.ensures).ascend;
     }
 
+pub returns-in-Ok-clause-target : goal.returns-in-Ok-clause-target
+returns-in-Ok-clause-target c =
+    let s = c.args.self.now in
+    target_there s.aimers.items c.args.id c.in-Ok.at c.index.result.now s.ascend c.in-Ok.ensures c.index.ensures
+
+pub returns-in-Err-clause-target : goal.returns-in-Err-clause-target
+returns-in-Err-clause-target c = no_target c.args.self.now.aimers.items c.args.id c.in-Err.field-0 c.args.self.now.ascend c.in-Err.ensures
+
 pub returns-in-Ok-clause-facts : goal.returns-in-Ok-clause-facts
 returns-in-Ok-clause-facts c =
     let s = c.args.self.now in
     ap facts_in c.remove.ensures.items ∙ facts_left s.aimers.items c.args.id 0 c.in-Ok.at s.ascend _
     (left_there s.aimers.items c.args.id 0 c.in-Ok.at s.ascend c.in-Ok.ensures)
 
-pub returns-in_default-clause-facts : goal.returns-in_default-clause-facts
-returns-in_default-clause-facts c =
+pub returns-in-Err-clause-facts : goal.returns-in-Err-clause-facts
+returns-in-Err-clause-facts c =
     let s = c.args.self.now in
-    facts_left s.aimers.items c.args.id 0 c.in_default.field-0 s.ascend s.aimers.items
-    (left_none s.aimers.items c.args.id 0 c.in_default.field-0 s.ascend c.in_default.ensures)
+    facts_left s.aimers.items c.args.id 0 c.in-Err.field-0 s.ascend s.aimers.items
+    (left_none s.aimers.items c.args.id 0 c.in-Err.field-0 s.ascend c.in-Err.ensures)
 
 pub returns-in-Ok-clause-told : goal.returns-in-Ok-clause-told
 returns-in-Ok-clause-told c =
     let s = c.args.self.now in
     ap told_in c.remove.ensures.items ∙ (left_there s.aimers.items c.args.id 0 c.in-Ok.at s.ascend c.in-Ok.ensures).told
 
-pub returns-in_default-clause-told : goal.returns-in_default-clause-told
-returns-in_default-clause-told c =
+pub returns-in-Err-clause-told : goal.returns-in-Err-clause-told
+returns-in-Err-clause-told c =
     let s = c.args.self.now in
-    (left_none s.aimers.items c.args.id 0 c.in_default.field-0 s.ascend c.in_default.ensures).told
+    (left_none s.aimers.items c.args.id 0 c.in-Err.field-0 s.ascend c.in-Err.ensures).told

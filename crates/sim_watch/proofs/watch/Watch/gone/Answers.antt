@@ -7,12 +7,12 @@ pub invariant_of-self : goal.invariant_of-self
 invariant_of-self c =
     let s = c.args.self.now in
     record {
-      listed = λ k. c.forget.ensures.lists k ∙ gone_groups s.aimers.aimers.items s.aimers.ascend c.args.id c.target-from.result
-          c.leave.new.self.aimers.items s.groups.groups.items c.leave-2.new.groups.groups.items s.listed c.target-from.ensures c.leave.ensures.facts
-          c.leave-2.ensures.left k;
+      listed = λ k. c.forget.ensures.lists k ∙ gone_groups s.aimers.aimers.items s.aimers.ascend c.args.id c.leave-from.result
+          c.leave-from.new.self.aimers.items s.groups.groups.items c.leave.new.groups.groups.items s.listed c.leave-from.ensures.target
+          c.leave-from.ensures.facts c.leave.ensures.left k;
     }
 
 pub returns-clause-group : goal.returns-clause-group
 returns-clause-group c none =
-    ap (group_with c.args.id) c.forget.ensures.groups ∙ gone_with_last c.leave-2.new.groups.groups.items c.args.id (sym (c.forget.ensures.lists c.args.id) ∙
+    ap (group_with c.args.id) c.forget.ensures.groups ∙ gone_with_last c.leave.new.groups.groups.items c.args.id (sym (c.forget.ensures.lists c.args.id) ∙
     none)
