@@ -498,14 +498,23 @@ fn agree_on(
     Ok(same)
 }
 
+// From four cells side by side to one goal.
+fn toward(x: u8) -> Asked {
+    let x = i32::from(x);
+    [
+        ((x, 0), (63, 62)),
+        ((x + 1, 0), (63, 62)),
+        ((x + 2, 0), (63, 62)),
+        ((x + 3, 0), (63, 62)),
+    ]
+}
+
 // Whether that is so of ways to one goal from many cells. The first of them open so many cells that distances to it are kept, off which
 // the others are read.
 fn agree_toward(alloc: Global, searcher: &mut Searcher, grid: &Grid) -> Result<bool, OutOfMemory> {
     let mut same = true;
-    for x in 2..18i32 {
-        let (from, to) = (point(middle((x, 0))), point(middle((63, 62))));
-        let found = way_on(alloc, searcher, grid, from, to)?;
-        same = same && found.is_some();
+    for x in [2u8, 6, 10, 14] {
+        same = same && agree_on(alloc, searcher, grid, &toward(x))?;
     }
     Ok(same)
 }
