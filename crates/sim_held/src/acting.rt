@@ -14,6 +14,7 @@ use crate::outbox::Outbox;
 use crate::stage::{Stage, Went};
 use sim_base::{Command, OutOfMemory, Setup};
 use sim_client::Did;
+use sim_ground::Contents;
 use sim_wire::Up;
 use std::alloc::Global;
 
@@ -84,6 +85,7 @@ pub fn play(
     stage: &mut Stage,
     outbox: &mut Outbox,
     most: u32,
+    kept: &mut Contents,
 ) -> Result<u32, OutOfMemory>
     requires limits { IsSetup setup.now }
     requires sound { IsStage setup.now stage.old }
@@ -97,7 +99,7 @@ pub fn play(
     let Stage::On { state, seat } = stage else {
         return Ok(0);
     };
-    play_seat(alloc, setup, state, seat, outbox, most)
+    play_seat(alloc, setup, state, seat, outbox, most, kept)
 }
 
 /// Cuts a client off whose call was refused memory, and passes on what the call came to.

@@ -1,5 +1,6 @@
 //! The first state, and turns, on a board that is made for the call. The boxes of the systems and of the planners are made in each
-//! body, since a function may hand out none.
+//! body, since a function may hand out none. What the rooms of the ground hold lives on in whatever is held: the ground that was drawn, and
+//! what searches have kept.
 
 ghost use Rattle.{sim_base.specs.Limits.IsSetup, sim_base.specs.Turn.first_state as first_state_of, sim_base.specs.Turn.from, sim_base.specs.Turn.own_turns};
 ghost use Rattle.{sim_base.specs.Turn.turn as turn_by, sim_base.specs.Validity.IsValid, sim_client.specs.Lives.On, sim_client.specs.StageWords.player_at};
@@ -15,12 +16,19 @@ use sim_base::{OutOfMemory, PlayerCommand, Setup, State};
 use sim_board::Board;
 use sim_census::Census;
 use sim_client::Seat;
-use sim_ground::Ground;
+use sim_ground::{Contents, Ground, Rooms};
 use sim_orders::{Handler, OrderTable, Planner};
 use sim_range::Range;
 use sim_system::{Rig, System};
 use sim_watch::Watch;
 use std::alloc::Global;
+use std::rc::Rc;
+
+// Rooms that hold what was kept. Without memory for them that is let go.
+fn rooms_of(alloc: Global, kept: &mut Contents) -> Result<Rc<Rooms>, OutOfMemory> {
+    let rooms = Rooms::of(std::mem::replace(kept, Contents::new()));
+    Ok(Rc::new(alloc, rooms)?)
+}
 
 /// The first state of a match.
 pub fn first_state(alloc: Global, setup: &Setup) -> Result<State, OutOfMemory>
@@ -54,6 +62,7 @@ pub fn after_turn(
     setup: &Setup,
     state: State,
     commands: &[PlayerCommand],
+    kept: &mut Contents,
 ) -> Result<State, OutOfMemory>
     requires limits { IsSetup setup.now }
     requires valid { IsValid setup.now state }
@@ -62,12 +71,15 @@ pub fn after_turn(
     ensures state { IfOk result (λ new. new ≡ turn_by setup.now state commands.now) }
     ensures valid { IfOk result (IsValid setup.now) }
 {
-    let ground: Box<dyn System> = Box::new(alloc, Ground::new(alloc))?;
+    let rooms = rooms_of(alloc, kept)?;
+    let ground: Box<dyn System> = Box::new(alloc, Ground::sharing(alloc, rooms.clone()?))?;
     let range: Box<dyn System> = Box::new(alloc, Range::looking(alloc))?;
     let watch: Box<dyn System> = Box::new(alloc, Watch::new(alloc))?;
     let census: Box<dyn System> = Box::new(alloc, Census::new(alloc))?;
     let rig = Rig::new(ground, range, watch, census);
-    turned(alloc, setup, state, commands, rig)
+    let came = turned(alloc, setup, state, commands, rig);
+    *kept = rooms.empty();
+    came
 }
 
 // The state behind a turn over these systems, with a handler for each kind of command.
@@ -115,7 +127,8 @@ fn taken(
     let mut board = Board::new(alloc, setup, rig);
     board.adopt(state)?;
     sim_turn::turn(alloc, &mut board, orders, commands)?;
-    let (new, _) = board.finish();
+    let (new, mut rig) = board.finish();
+    rig.clear();
     Ok(new)
 }
 
@@ -125,6 +138,7 @@ pub fn after_own(
     setup: &Setup,
     state: State,
     until: u32,
+    kept: &mut Contents,
 ) -> Result<State, OutOfMemory>
     requires limits { IsSetup setup.now }
     requires valid { IsValid setup.now state }
@@ -133,12 +147,15 @@ pub fn after_own(
     ensures state { IfOk result (λ new. new ≡ from setup.now state (own_turns setup.now state.turn (until - state.turn))) }
     ensures valid { IfOk result (IsValid setup.now) }
 {
-    let ground: Box<dyn System> = Box::new(alloc, Ground::new(alloc))?;
+    let rooms = rooms_of(alloc, kept)?;
+    let ground: Box<dyn System> = Box::new(alloc, Ground::sharing(alloc, rooms.clone()?))?;
     let range: Box<dyn System> = Box::new(alloc, Range::looking(alloc))?;
     let watch: Box<dyn System> = Box::new(alloc, Watch::new(alloc))?;
     let census: Box<dyn System> = Box::new(alloc, Census::new(alloc))?;
     let rig = Rig::new(ground, range, watch, census);
-    turned_on(alloc, setup, state, until, rig)
+    let came = turned_on(alloc, setup, state, until, rig);
+    *kept = rooms.empty();
+    came
 }
 
 // The same over these systems, with a handler for each kind of command.
@@ -186,7 +203,8 @@ fn taken_on(
     let mut board = Board::new(alloc, setup, rig);
     board.adopt(state)?;
     sim_turn::play(alloc, &mut board, orders, until)?;
-    let (new, _) = board.finish();
+    let (new, mut rig) = board.finish();
+    rig.clear();
     Ok(new)
 }
 
@@ -199,6 +217,7 @@ pub fn play_seat(
     seat: &mut Seat,
     outbox: &mut Outbox,
     most: u32,
+    kept: &mut Contents,
 ) -> Result<u32, OutOfMemory>
     requires limits { IsSetup setup.now }
     requires seated { IsSeated setup.now state.old seat.old }
@@ -206,12 +225,15 @@ pub fn play_seat(
         (On (player_at state.new seat.new)) outbox.new) }
     ensures seated { OnOk result (IsSeated setup.now state.new seat.new) }
 {
-    let ground: Box<dyn System> = Box::new(alloc, Ground::new(alloc))?;
+    let rooms = rooms_of(alloc, kept)?;
+    let ground: Box<dyn System> = Box::new(alloc, Ground::sharing(alloc, rooms.clone()?))?;
     let range: Box<dyn System> = Box::new(alloc, Range::looking(alloc))?;
     let watch: Box<dyn System> = Box::new(alloc, Watch::new(alloc))?;
     let census: Box<dyn System> = Box::new(alloc, Census::new(alloc))?;
     let rig = Rig::new(ground, range, watch, census);
-    play_over(alloc, setup, state, seat, outbox, most, rig)
+    let came = play_over(alloc, setup, state, seat, outbox, most, rig);
+    *kept = rooms.empty();
+    came
 }
 
 // The same over these systems, with a handler for each kind of command.
@@ -262,7 +284,8 @@ fn play_on(
     let old = std::mem::replace(state, no_state(alloc));
     board.adopt(old)?;
     let played = play_turns(alloc, setup, orders, &mut board, seat, outbox, most)?;
-    let (new, _) = board.finish();
+    let (new, mut rig) = board.finish();
+    rig.clear();
     *state = new;
     Ok(played)
 }

@@ -18,10 +18,12 @@ use crate::reading::{hear_frame, order};
 use crate::stage::{Stage, Went};
 use sim_base::{OutOfMemory, Setup, State};
 use sim_embed::{Entity, Refused, Stamp, Stored, entities_of, match_of, text_of};
+use sim_ground::Contents;
 use std::alloc::Global;
 use std::marker::Model;
 
-/// A client of a match for one of its players: off, waiting for a state, or on, with the bytes that wait to be sent to the server.
+/// A client of a match for one of its players: off, waiting for a state, or on, with the bytes that wait to be sent to the server, and
+/// with what the rooms of its ground held at the end of the last call that played.
 ///
 /// After want of memory in a step it is off with nothing to be sent, as after `cut`; it may join again.
 #[derive(Drop)]
@@ -31,6 +33,7 @@ pub struct HeldClient {
     number: u8,
     stage: Stage,
     outbox: Outbox,
+    kept: Contents,
 }
 
 impl Model for HeldClient {
@@ -71,6 +74,7 @@ impl HeldClient {
             number: number as u8,
             stage,
             outbox: Outbox::new(alloc),
+            kept: Contents::new(),
         }))
     }
 
@@ -142,6 +146,7 @@ impl HeldClient {
             &mut self.stage,
             &mut self.outbox,
             most,
+            &mut self.kept,
         );
         settle(&mut self.stage, &mut self.outbox, came)
     }

@@ -12,15 +12,18 @@ use sim_base::{OutOfMemory, Setup, State};
 use sim_embed::{
     Entity, Refused, Stamp, Stored, commands_of, entities_of, match_of, state_of, text_of,
 };
+use sim_ground::Contents;
 use std::alloc::Global;
 use std::marker::Model;
 
-/// A match, and the state to which it has come. After want of memory it is as it was.
+/// A match, and the state to which it has come, with what the rooms of its ground held at the end of the last call. After want of memory
+/// match and state are as they were.
 #[derive(Drop)]
 pub struct HeldMatch {
     alloc: Global,
     setup: Setup,
     state: State,
+    kept: Contents,
 }
 
 impl Model for HeldMatch {
@@ -45,6 +48,7 @@ impl HeldMatch {
             alloc,
             setup,
             state,
+            kept: Contents::new(),
         })
     }
 
@@ -59,6 +63,7 @@ impl HeldMatch {
             alloc,
             setup,
             state,
+            kept: Contents::new(),
         })
     }
 
@@ -75,7 +80,7 @@ impl HeldMatch {
         }
         let orders = commands_of(self.alloc, self.setup.players, commands)?;
         let old = copy_of(self.alloc, &self.state)?;
-        self.state = after_turn(self.alloc, &self.setup, old, &orders)?;
+        self.state = after_turn(self.alloc, &self.setup, old, &orders, &mut self.kept)?;
         Ok(())
     }
 
@@ -90,7 +95,7 @@ impl HeldMatch {
             return Ok(0);
         }
         let old = copy_of(self.alloc, &self.state)?;
-        self.state = after_own(self.alloc, &self.setup, old, first + turns)?;
+        self.state = after_own(self.alloc, &self.setup, old, first + turns, &mut self.kept)?;
         Ok(turns)
     }
 
