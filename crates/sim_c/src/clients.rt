@@ -73,7 +73,13 @@ pub extern "C" fn simcore_client_hear(alloc: Global, handle: &mut Handle, frame:
     ensures { OfClient (λ old new. Comes (λ answer. HearsFrame frame.now old answer new) (λ answer. result ≡ went_status (pos 103) answer)) (result ≡ pos 101)
         handle.old.held handle.new.held }
 {
-    with_held!(alloc, handle; Held::Client(client) => give_went(client.hear(frame), FRAME_REFUSED))
+    with_held!(alloc, handle; Held::Client(client) => hear(client, frame))
+}
+
+fn hear(client: &mut HeldClient, frame: &[u8]) -> i32
+    ensures { Comes (λ answer. HearsFrame frame.now client.old answer client.new) (λ answer. result ≡ went_status (pos 103) answer) }
+{
+    give_went(client.hear(frame), FRAME_REFUSED)
 }
 
 /// Plays the turns that are released, at most so many.
