@@ -18,7 +18,11 @@ use sim_tree::{Child, Text, Tree, TreeMark};
 use std::alloc::Global;
 
 /// The upper tree laid over the lower one, by its marks.
-pub fn overlay(alloc: Global, lower: &Tree, upper: &Tree) -> Result<Tree, OverlayFault>
+pub fn overlay<'a>(
+    alloc: Global,
+    lower: &Tree<'a>,
+    upper: &Tree<'a>,
+) -> Result<Tree<'a>, OverlayFault>
     requires lower { IsTrue (is_resolved (node_of lower.now)) }
     requires upper { IsTrue (is_layable (node_of upper.now)) }
     ensures resolved { IfOk result (λ tree. IsTrue (is_resolved (node_of tree))) }
@@ -32,7 +36,11 @@ pub fn overlay(alloc: Global, lower: &Tree, upper: &Tree) -> Result<Tree, Overla
 
 // The upper tree laid over the lower one, if there is a lower one, or nothing.
 #[cycle(laying)]
-fn lay(alloc: Global, upper: &Tree, lower: Option<&Tree>) -> Result<Option<Tree>, OverlayFault>
+fn lay<'a>(
+    alloc: Global,
+    upper: &Tree<'a>,
+    lower: Option<&Tree<'a>>,
+) -> Result<Option<Tree<'a>>, OverlayFault>
     requires { is_sound_if (node_if lower) ≡ true }
     ensures laid { MatchResult result
         (λ found. laid (node_if lower.entry) (node_of upper.now) ≡ laying_of found)
@@ -63,14 +71,18 @@ fn lay(alloc: Global, upper: &Tree, lower: Option<&Tree>) -> Result<Option<Tree>
 
 // The upper tree as if its root had no mark.
 #[cycle(laying)]
-fn unmarked(alloc: Global, upper: &Tree, lower: Option<&Tree>) -> Result<Tree, OverlayFault>
+fn unmarked<'a>(
+    alloc: Global,
+    upper: &Tree<'a>,
+    lower: Option<&Tree<'a>>,
+) -> Result<Tree<'a>, OverlayFault>
     requires { is_sound_if (node_if lower) ≡ true }
     ensures { MatchResult result
         (λ tree. laid_unmarked (node_if lower.entry) (node_of upper.now) ≡ there (node_of tree))
         (λ fault. IfBadOp fault (laid_unmarked (node_if lower.entry) (node_of upper.now) ≡ refused)) }
 {
     let children = merged(alloc, upper.children.as_slice(), children_of(lower))?;
-    let value = value_over(alloc, upper, lower)?;
+    let value = value_over(upper, lower)?;
     Ok(Tree {
         value,
         mark: None,
@@ -80,7 +92,11 @@ fn unmarked(alloc: Global, upper: &Tree, lower: Option<&Tree>) -> Result<Tree, O
 
 // Children over those of the lower tree. Both ascend by name, so each is walked once.
 #[cycle(laying)]
-fn merged(alloc: Global, upper: &[Child], lower: &[Child]) -> Result<Vec<Child>, OverlayFault>
+fn merged<'a>(
+    alloc: Global,
+    upper: &[Child<'a>],
+    lower: &[Child<'a>],
+) -> Result<Vec<Child<'a>>, OverlayFault>
     requires { are_sound (nodes_of lower.now) ≡ true }
     ensures { MatchResult result
         (λ children. laid_under (nodes_of lower.now) (nodes_of upper.now) ≡ Some (nodes_of children.items))
@@ -98,12 +114,12 @@ fn merged(alloc: Global, upper: &[Child], lower: &[Child]) -> Result<Vec<Child>,
 // Adds the lower children up to a name and what becomes of the upper child there, and answers the lower children that
 // are left.
 #[cycle(laying)]
-fn push_merged<'t>(
+fn push_merged<'t, 'a>(
     alloc: Global,
-    upper: &Child,
-    lower: &'t [Child],
-    children: &mut Vec<Child>,
-) -> Result<&'t [Child], OverlayFault>
+    upper: &Child<'a>,
+    lower: &'t [Child<'a>],
+    children: &mut Vec<Child<'a>>,
+) -> Result<&'t [Child<'a>], OverlayFault>
     requires { are_sound (nodes_of lower.now) ≡ true }
     ensures { MatchResult result
         (λ rest. IsMerged (named_of upper.now).0 (named_of upper.now).1 (nodes_of children.old.items) (nodes_of children.new.items) (nodes_of lower.now)
@@ -111,37 +127,36 @@ fn push_merged<'t>(
         (λ fault. IfBadOp fault ((more : Children) →
         laid_under (nodes_of lower.now) (child (named_of upper.now).0 (named_of upper.now).1 more) ≡ None)) }
 {
-    let name = upper.name.text();
+    let name = upper.name.as_str();
     let rest = push_before(alloc, children, lower, name)?;
     let laid = lay(alloc, &upper.tree, first_named(rest, name))?;
-    push_laid(alloc, children, &upper.name, laid)?;
+    push_laid(children, &upper.name, laid)?;
     Ok(behind(rest, name))
 }
 
 // The value of the upper tree, or that of the lower one where it has none.
-fn value_over(
-    alloc: Global,
-    upper: &Tree,
-    lower: Option<&Tree>,
-) -> Result<Option<Text>, OutOfMemory>
+fn value_over<'a>(
+    upper: &Tree<'a>,
+    lower: Option<&Tree<'a>>,
+) -> Result<Option<Text<'a>>, OutOfMemory>
     ensures { IfOk result (λ value. value ≡ value_over_value (value_of_node (node_of upper.now)) (lower_value (node_if lower.entry))) }
 {
     match &upper.value {
-        Some(text) => Ok(Some(Text::of(alloc, text.as_str())?)),
+        Some(text) => Ok(Some(text.copy()?)),
         None => match value_of(lower) {
-            Some(text) => Ok(Some(Text::of(alloc, text.as_str())?)),
+            Some(text) => Ok(Some(text.copy()?)),
             None => Ok(None),
         },
     }
 }
 
 // The lower tree with the result of an operation as its value.
-fn operated(
+fn operated<'a>(
     alloc: Global,
     operation: Operation,
-    upper: &Tree,
-    lower: Option<&Tree>,
-) -> Result<Tree, OverlayFault>
+    upper: &Tree<'a>,
+    lower: Option<&Tree<'a>>,
+) -> Result<Tree<'a>, OverlayFault>
     ensures bad { value_by (function_of operation) (lower_value (node_if lower.entry)) (value_of_node (node_of upper.now)) ≡ None
         → result ≡ Err OverlayFault.BadOp }
     ensures value { let value = value_by (function_of operation) (lower_value (node_if lower.entry)) (value_of_node (node_of upper.now)) in
@@ -158,7 +173,11 @@ fn operated(
 }
 
 // The lower tree with the words of both as its value.
-fn listed(alloc: Global, upper: &Tree, lower: Option<&Tree>) -> Result<Tree, OutOfMemory>
+fn listed<'a>(
+    alloc: Global,
+    upper: &Tree<'a>,
+    lower: Option<&Tree<'a>>,
+) -> Result<Tree<'a>, OutOfMemory>
     ensures { IfOk result (λ tree. node_of tree ≡
         node (Some (words_over_words (value_of_node (node_of upper.now)) (lower_value (node_if lower.entry)))) None (lower_children (node_if lower.entry))) }
 {

@@ -1,0 +1,26 @@
+use Rattle.sim_tree.proofs.Common.{◌≡◌, ℕ, List, ◌∷◌, drop, Some, None, ap, child_named, drop_more, node_of, rules, sym, under, value_at, ◌∙◌}
+use Rattle.sim_tree.proofs.Steps.{at_child_of, at_no_child}
+use Rattle.sim_tree.proofs.tree.Tree.+at.Goals as goal
+
+pub returns-in_err-child-in-len1-up : goal.returns-in_err-child-in-len1-up
+returns-in_err-child-in-len1-up t c =
+    let path = c.args.path.now in
+    let n = node_of c.args.self.now in
+    let name = c.name-item.result in
+    let next : path ≡ name ∷ drop 1 path = drop_more path 0 name c.in-len1-up.len_at_least ∙
+    ap (λ (x : List ℕ). x ∷ drop 1 path) (sym c.name-item.is) in
+    let lost : None ≡ child_named name (under n) = search rules in
+    let gone : value_at n path ≡ None = ap (value_at n) next ∙ at_no_child n name (drop 1 path) lost in
+    rw gone (search rules)
+
+pub returns-in_ok-child-in-len1-up : goal.returns-in_ok-child-in-len1-up
+returns-in_ok-child-in-len1-up t c =
+    let path = c.args.path.now in
+    let n = node_of c.args.self.now in
+    let m = node_of c.in_ok-child-in-len1-up.field-0.now in
+    let name = c.name-item.result in
+    let next : path ≡ name ∷ drop 1 path = drop_more path 0 name c.in-len1-up.len_at_least ∙
+    ap (λ (x : List ℕ). x ∷ drop 1 path) (sym c.name-item.is) in
+    let found : Some m ≡ child_named name (under n) = search rules in
+    let more : ℕ = c.at.ensures in
+    sym (at_child_of n m name (drop 1 path) found) ∙ ap (value_at n) (sym next)
