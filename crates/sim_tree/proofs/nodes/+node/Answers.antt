@@ -11,8 +11,8 @@ read_children-loop-key-init t c =
     let same : c.into_iter-key-iterator.result ≡ entries = search rules in
     record { fit = search rules; early = search rules; order = rw (none, same) sorted; below = rw none; made = search rules }
 
-pub read_children-loop-key-preserved-in-Continue-branch-4 : goal.read_children-loop-key-preserved-in-Continue-branch-4
-read_children-loop-key-preserved-in-Continue-branch-4 t c =
+pub read_children-loop-key-preserved-in-Continue-branch-2 : goal.read_children-loop-key-preserved-in-Continue-branch-2
+read_children-loop-key-preserved-in-Continue-branch-2 t c =
     let l = c.loop-key in
     let here = subst (λ es. ascends (map name_of (map named_of l.found.items) ++ keys_in es) ≡ true) c.in-Some.ensures.steps l.invariant.order in
     let key = string_bytes c.in-Some.key.now in

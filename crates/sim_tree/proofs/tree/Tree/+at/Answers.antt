@@ -1,4 +1,6 @@
-use Rattle.sim_tree.proofs.Common.{◌≡◌, ℕ, List, ◌∷◌, drop, Some, None, ap, child_named, drop_more, node_of, rules, sym, under, value_at, ◌∙◌}
+use Rattle.std.proofs.lemmas.List.{length-drop, take_all}
+use Rattle.std.proofs.Common.{take}
+use Rattle.sim_tree.proofs.Common.{◌≡◌, ℕ, ◌-◌, List, ◌∷◌, length, drop, arith, Some, None, ap, child_named, drop_more, node_of, rules, sym, under, value_at, ◌∙◌}
 use Rattle.sim_tree.proofs.Steps.{at_child_of, at_no_child}
 use Rattle.sim_tree.proofs.tree.Tree.+at.Goals as goal
 
@@ -22,5 +24,5 @@ returns-in_ok-child-in-len1-up t c =
     let next : path ≡ name ∷ drop 1 path = drop_more path 0 name c.in-len1-up.len_at_least ∙
     ap (λ (x : List ℕ). x ∷ drop 1 path) (sym c.name-item.is) in
     let found : Some m ≡ child_named name (under n) = search rules in
-    let more : ℕ = c.at.ensures in
-    sym (at_child_of n m name (drop 1 path) found) ∙ ap (value_at n) (sym next)
+    let all : take (length path - 1) (drop 1 path) ≡ drop 1 path = take_all (length path - 1) (drop 1 path) (omega (arith, length-drop 1 path)) in
+    c.at.ensures ∙ ap (value_at m) all ∙ sym (at_child_of n m name (drop 1 path) found) ∙ ap (value_at n) (sym next)
