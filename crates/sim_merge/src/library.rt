@@ -32,7 +32,7 @@ impl<'a> Model for Library<'a> {
 impl<'a> Library<'a> {
     // The library of these names and trees.
     pub(crate) fn of(names: IndexSet<String>, trees: Vec<Tree<'a>>) -> Library<'a>
-        requires { IsLibrary (map string_bytes names.keys) (map node_of trees.entry.items) }
+        requires { IsLibrary (map string_bytes names.keys) (map node_of trees.items) }
         ensures { result ≡ record { names = map string_bytes names.keys; roots = map node_of trees.entry.items } }
     {
         Library { names, trees }

@@ -16,8 +16,14 @@ pub fn children_of<'t, 'a>(tree: Option<&'t Tree<'a>>) -> &'t [Child<'a>]
 {
     match tree {
         Some(tree) => tree.children.as_slice(),
-        None => &[],
+        None => no_child(),
     }
+}
+
+fn no_child<'t, 'a>() -> &'t [Child<'a>]
+    ensures { result.now ≡ [] }
+{
+    &[]
 }
 
 /// The value of a tree, if there is a tree and it has one.
