@@ -3,7 +3,7 @@
 ghost use Rattle.std.specs.Prelude.{◌≡◌, true, IfOk, IfErr, IsTrue, MatchResult, Some, None, Ok, Err, Option};
 ghost use Rattle.sim_merge.specs.{Faults.IfBadOp, Libraries.is_layable, Libraries.is_resolved, Overlay.HasLaid, Overlay.IsRefused};
 ghost use Rattle.sim_merge.specs.{Operations.function_of, Values.value_by, Values.value_over as value_over_value, Values.words_over as words_over_words};
-ghost use Rattle.sim_merge.specs.Laying.{laid, laid_under, lower_children, lower_value, refused, there, with_value};
+ghost use Rattle.sim_merge.specs.Laying.{behind as nodes_behind, laid, laid_under, lower_children, lower_value, refused, there, with_value};
 ghost use Rattle.sim_merge.specs.Merging.{is_sound_if, IsMerged, IsTreeOf, laid_unmarked, laying_of, node_if};
 ghost use Rattle.sim_tree.specs.Trees.{are_sound, child, Children, is_sound, mark_of, named_of, node, node_of, nodes_of, value_of as value_of_node};
 
@@ -105,25 +105,25 @@ fn merged<'a>(
     let mut children = Vec::new(alloc);
     let mut rest = lower;
     for child in upper {
-        rest = push_merged(alloc, child, rest, &mut children)?;
+        push_merged(alloc, child, rest, &mut children)?;
+        rest = behind(rest, child.name.as_str());
     }
     push_copies(alloc, &mut children, rest)?;
     Ok(children)
 }
 
-// Adds the lower children up to a name and what becomes of the upper child there, and answers the lower children that
-// are left.
+// Adds the lower children up to a name and what becomes of the upper child there.
 #[cycle(laying)]
-fn push_merged<'t, 'a>(
+fn push_merged<'a>(
     alloc: Global,
     upper: &Child<'a>,
-    lower: &'t [Child<'a>],
+    lower: &[Child<'a>],
     children: &mut Vec<Child<'a>>,
-) -> Result<&'t [Child<'a>], OverlayFault>
+) -> Result<(), OverlayFault>
     requires { are_sound (nodes_of lower.now) ≡ true }
     ensures { MatchResult result
-        (λ rest. IsMerged (named_of upper.now).0 (named_of upper.now).1 (nodes_of children.old.items) (nodes_of children.new.items) (nodes_of lower.now)
-        (nodes_of rest.now))
+        (λ _. IsMerged (named_of upper.now).0 (named_of upper.now).1 (nodes_of children.old.items) (nodes_of children.new.items) (nodes_of lower.now)
+        (nodes_behind (named_of upper.now).0 (nodes_of lower.now)))
         (λ fault. IfBadOp fault ((more : Children) →
         laid_under (nodes_of lower.now) (child (named_of upper.now).0 (named_of upper.now).1 more) ≡ None)) }
 {
@@ -131,7 +131,7 @@ fn push_merged<'t, 'a>(
     let rest = push_before(alloc, children, lower, name)?;
     let laid = lay(alloc, &upper.tree, first_named(rest, name))?;
     push_laid(children, &upper.name, laid)?;
-    Ok(behind(rest, name))
+    Ok(())
 }
 
 // The value of the upper tree, or that of the lower one where it has none.

@@ -152,21 +152,16 @@ pub fn first_named<'t, 'a>(children: &'t [Child<'a>], name: &str) -> Option<&'t 
     }
 }
 
-/// The children without the first one, if that has the name.
+/// The children behind a name.
 pub fn behind<'t, 'a>(children: &'t [Child<'a>], name: &str) -> &'t [Child<'a>]
-    requires sound { are_sound (nodes_of children.now) ≡ true }
-    requires none_before { before name.now (nodes_of children.now) ≡ no_children }
+    requires { are_sound (nodes_of children.now) ≡ true }
     ensures rest { nodes_of result.now ≡ nodes_behind name.now (nodes_of children.now) }
     ensures sound { are_sound (nodes_of result.now) ≡ true }
 {
-    match children {
-        [child, rest @ ..] => {
-            if is_named(child, name) {
-                rest
-            } else {
-                children
-            }
+    for (i, child) in children.iter().enumerate() {
+        if name < child.name.as_str() {
+            return &children[i..];
         }
-        [] => children,
     }
+    no_child()
 }
