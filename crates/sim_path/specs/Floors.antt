@@ -30,9 +30,9 @@ pub record IsUnknown (front : Front) (start c : Cell) : Type 0 where
   pub far : octile c start ≤ left_of front c
   pub beyond : front.aim.near ≤ octile c front.aim.goal
 
--- what a walk from the start to a cell costs at least: the octile distance, and what a way to the goal leaves for it
-abbrev pub slope_of : Slope → Cell → Cell → ℕ
-slope_of s start c = max (octile c start) (s.whole - 2 * number_in s.distances.now c)
+-- what a walk to a cell costs at least: what a way to the goal leaves for it
+abbrev pub slope_of : Slope → Cell → ℕ
+slope_of s c = s.whole - 2 * number_in s.distances.now c
 
 -- the distances are those to some goal, and from an open start it takes as much as is told
 pub record IsSlope (field : Field) (start : Cell) (s : Slope) : Type 0 where

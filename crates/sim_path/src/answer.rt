@@ -12,6 +12,7 @@ use crate::atlas::Atlas;
 use crate::end::{best_of, end_of};
 use crate::floor::Descent;
 use crate::front::Front;
+use crate::live::live_to;
 use crate::marks::Marks;
 use crate::milestone::milestone;
 use crate::nearest::{is_reached, nearest, shore_of};
@@ -24,7 +25,7 @@ use crate::trail::trail_from;
 use crate::trip::{Trip, trip_of};
 use crate::unmarked::blank_marks;
 use sim_base::{Cell, Items, OutOfMemory, Point, Points, cell_of, centre_of};
-use sim_grid::Grid;
+use sim_grid::{Grid, octile};
 use sim_search::{
     Ahead, Aim, Costs, Distances, Guide, Labels, Landmarks, Search, Stage, Toward, go_on,
     least_costs, search_of, started,
@@ -295,6 +296,20 @@ impl Searcher {
         way
     }
 
+    // Whether a way may be straight: distances that are kept may tell that it is longer. This only spares a try.
+    fn may_be_straight(&self, from: Cell, to: Cell) -> bool {
+        let Some(atlas) = &self.atlas else {
+            return true;
+        };
+        match atlas.distances_to(to) {
+            Some(distances) => {
+                let cost = Toward { distances }.estimate(from);
+                cost == 0 || cost == octile(from, to)
+            }
+            None => true,
+        }
+    }
+
     // Makes the trail back from the best of these ends, with no search where the way is straight, and says whether there was one.
     fn find(
         &mut self,
@@ -313,11 +328,13 @@ impl Searcher {
     {
         let from = grid.cell_of(*start);
         let to = grid.cell_of(*goal);
-        let mut dead = blank_marks(alloc, self.marks.take(), grid.width(), grid.depth())?;
-        let straight = straight_to(grid, &mut dead, trail, near, ends, from, to)?;
-        self.marks = Some(dead);
-        if straight {
-            return Ok(false);
+        if self.may_be_straight(from, to) {
+            let mut dead = blank_marks(alloc, self.marks.take(), grid.width(), grid.depth())?;
+            let straight = straight_to(grid, &mut dead, trail, near, ends, from, to)?;
+            self.marks = Some(dead);
+            if straight {
+                return Ok(false);
+            }
         }
         self.search(alloc, grid, trail, near, ends, start, goal)?;
         Ok(true)
@@ -481,13 +498,37 @@ impl Searcher {
         ensures { OnOk result (IsTrailToEnd (field_of_grid grid.now) (cell_at start.now) (cell_at goal.now) trail.new.items) }
     {
         let from = grid.cell_of(*start);
-        let slope = Slope::of(distances, from);
-        if self.go_back(alloc, grid, slope, trail, 0, ends, start, goal)? {
+        if self.go_live(alloc, grid, distances, trail, start, goal)? {
             return Ok(no_pains());
         }
         let guide = Toward { distances };
         let stage = started(alloc, grid, self.rooms.take(), guide, from)?;
         self.finish(alloc, grid, stage, guide, trail, 0, ends, start, goal)
+    }
+
+    // Whether the way is read off these distances to the goal. If so, the trail is made of its cells. False says nothing.
+    fn go_live(
+        &mut self,
+        alloc: Global,
+        grid: &Grid,
+        distances: &Distances,
+        trail: &mut Vec<Cell>,
+        start: &Point,
+        goal: &Point,
+    ) -> Result<bool, OutOfMemory>
+        requires start { IsTrue (is_inside grid.now.size start.now) }
+        requires goal { IsTrue (is_inside grid.now.size goal.now) }
+        requires is_open { is_open_at grid.now (cell_at start.now) ≡ true }
+        requires distances { AreDistances (field_of_grid grid.now) (cell_at goal.now) (number_in distances.now) }
+        ensures { IfOk result (λ found. found ≡ true → IsTrailToEnd (field_of_grid grid.now) (cell_at start.now) (cell_at goal.now) trail.new.items) }
+    {
+        let from = grid.cell_of(*start);
+        let to = grid.cell_of(*goal);
+        let slope = Slope::of(distances, from);
+        let mut live = blank_marks(alloc, self.marks.take(), grid.width(), grid.depth())?;
+        let found = live_to(grid, &slope, &mut live, trail, from, to);
+        self.marks = Some(live);
+        found
     }
 
     // The same with these landmarks, to the goal itself.

@@ -27,6 +27,7 @@ mod end;
 mod floor;
 mod front;
 mod kept;
+mod live;
 mod marks;
 mod milestone;
 mod nearest;

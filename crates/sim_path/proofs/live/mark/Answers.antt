@@ -1,0 +1,10 @@
+use Rattle.sim_path.proofs.{Common.Cell, Common.List, Common.size_of_marks, Common.subst, Common.sym, LiveMarks.spread-one}
+use Rattle.sim_path.specs.Live.{IsSpread}
+use Rattle.sim_path.proofs.live.mark.Goals as goal
+
+pub returns-in_ok-push-clause-spread : goal.returns-in_ok-push-clause-spread
+returns-in_ok-push-clause-spread c =
+    let old = c.args.live.now in
+    let next = c.set.new.self in
+    subst (λ (l : List Cell). IsSpread (size_of_marks old) old next c.args.list.now.items l) (sym c.in_ok-push.ensures.items)
+    (spread-one old next c.args.list.now.items c.args.cell c.set.ensures c.requires.cell_on c.requires.on)

@@ -1,0 +1,214 @@
+//! Ways to a goal to which distances are known, read off with no dead ends. Going on from the start over steps along which the distance
+//! falls by just what they cost leads to the cells of all shortest ways, and these are marked as live. So a walk back from the goal
+//! over live cells comes to the start.
+
+ghost use Rattle.{sim_base.specs.Steps.IsOnGround, sim_base.specs.declared.place.Cell.Cell, sim_grid.specs.Grids.field_of_grid};
+ghost use Rattle.std.specs.Prelude.{◌≡◌, ◌*◌, ◌<◌, true, false, IfOk, OnOk, Some, None, Contains};
+ghost use Rattle.{sim_search.specs.Distances.number_in, sim_search.specs.Moves.AreMoves};
+ghost use Rattle.sim_path.specs.{Floors.IsSlope, Floors.slope_of, MarkTables.IsNoneMarked, MarkTables.marked_in, MarkTables.size_of_marks};
+ghost use Rattle.sim_path.specs.Live.{AreLive, AreLiveBut, is_dead, IsFall, IsSpread, IsSpreadFrom};
+ghost use Rattle.sim_path.specs.Straight.{IsFirstTight, IsTightStep, IsTightTrail};
+
+use crate::marks::Marks;
+use crate::reached::Reached;
+use crate::slope::Slope;
+use sim_base::{Cell, OutOfMemory};
+use sim_grid::Grid;
+use sim_search::{Distances, Guide, Toward, is_free, moves_from, step, step_cost};
+
+// As many cells as a ground has at most.
+const MOST_CELLS: u32 = 65_536;
+
+// The cell in a direction, if the distance falls by just what the step to it costs.
+#[inline(always)]
+fn falling_step(
+    grid: &Grid,
+    distances: &Distances,
+    start: Cell,
+    at: Reached,
+    moves: u8,
+    which: u8,
+) -> Option<Cell>
+    requires which_in { which < 8 }
+    requires at_on { IsOnGround grid.now.size at.cell }
+    requires moves { AreMoves (field_of_grid grid.now) start at.cell moves }
+    requires cost { at.cost ≡ 2 * number_in distances.now at.cell }
+    ensures none { result ≡ None → (b : Cell) → IsFall (field_of_grid grid.now) start (number_in distances.now) at.cell b which → ⊥ }
+    ensures some { (b : Cell) → result ≡ Some b → IsOnGround grid.now.size b }
+    ensures only { (a b : Cell) → result ≡ Some a → IsFall (field_of_grid grid.now) start (number_in distances.now) at.cell b which → a ≡ b }
+{
+    let to = step(grid, start, at.cell, moves, which)?;
+    let left = Toward { distances }.estimate(to);
+    if left + step_cost(which) == at.cost {
+        Some(to)
+    } else {
+        None
+    }
+}
+
+// Marks a cell and lists it, if it was not marked.
+#[inline(never)]
+fn mark(live: &mut Marks, list: &mut Vec<Cell>, cell: Cell) -> Result<(), OutOfMemory>
+    requires cell_on { IsOnGround (size_of_marks live.old) cell }
+    requires on { (c : Cell) → Contains list.old.items c → IsOnGround (size_of_marks live.old) c }
+    ensures spread { OnOk result (IsSpread (size_of_marks live.old) live.old live.new list.old.items list.new.items) }
+    ensures here { OnOk result (marked_in live.new cell ≡ true) }
+{
+    if !live.at(cell) {
+        live.set(cell);
+        list.push(cell)?;
+    }
+    Ok(())
+}
+
+// Marks the cells to which the distance falls from this one, and lists those that were not marked.
+fn mark_from(
+    grid: &Grid,
+    distances: &Distances,
+    live: &mut Marks,
+    list: &mut Vec<Cell>,
+    start: Cell,
+    cell: Cell,
+) -> Result<(), OutOfMemory>
+    requires start_on { IsOnGround grid.now.size start }
+    requires cell_on { IsOnGround grid.now.size cell }
+    requires size { size_of_marks live.old ≡ grid.now.size }
+    requires on { (c : Cell) → Contains list.old.items c → IsOnGround grid.now.size c }
+    ensures { OnOk result (IsSpreadFrom (field_of_grid grid.now) start (number_in distances.now) live.old live.new list.old.items list.new.items 8 cell) }
+{
+    let moves = moves_from(grid, start, cell);
+    let cost = Toward { distances }.estimate(cell);
+    let at = Reached { cell, cost };
+    for which in 0..8u8 {
+        if let Some(to) = falling_step(grid, distances, start, at, moves, which) {
+            mark(live, list, to)?;
+        }
+    }
+    Ok(())
+}
+
+// Marks the cells of all shortest ways from the start on, and says whether there are no more than a ground has.
+fn mark_all(
+    grid: &Grid,
+    distances: &Distances,
+    live: &mut Marks,
+    list: &mut Vec<Cell>,
+    start: Cell,
+) -> Result<bool, OutOfMemory>
+    requires start_on { IsOnGround grid.now.size start }
+    requires none { IsNoneMarked grid.now.size live.old }
+    ensures { IfOk result (λ all. all ≡ true → AreLive (field_of_grid grid.now) start (number_in distances.now) (marked_in live.new)) }
+{
+    list.clear();
+    live.set(start);
+    list.push(start)?;
+    for _ in 0..MOST_CELLS {
+        let Some(at) = list.pop() else {
+            return Ok(true);
+        };
+        mark_from(grid, distances, live, list, start, at)?;
+    }
+    Ok(false)
+}
+
+// The cell in a direction, if it is live and a step from there makes up what the way costs up to this one.
+#[inline(always)]
+fn live_step(
+    grid: &Grid,
+    slope: &Slope<'_>,
+    live: &Marks,
+    start: Cell,
+    at: Reached,
+    moves: u8,
+    which: u8,
+) -> Option<Cell>
+    requires which_in { which < 8 }
+    requires at_on { IsOnGround grid.now.size at.cell }
+    requires moves { AreMoves (field_of_grid grid.now) start at.cell moves }
+    requires cost { at.cost ≡ slope_of slope.now at.cell }
+    ensures none { result ≡ None → (p : Cell) → IsTightStep (field_of_grid grid.now) start (slope_of slope.now) at.cell p which → is_dead live.now p ≡ true }
+    ensures some { (p : Cell) → result ≡ Some p → IsTightStep (field_of_grid grid.now) start (slope_of slope.now) at.cell p which }
+{
+    let from = step(grid, start, at.cell, moves, which)?;
+    let cost = at.cost.checked_sub(step_cost(which))?;
+    if slope.left(from) == cost && live.at(from) {
+        Some(from)
+    } else {
+        None
+    }
+}
+
+// The first such cell in the order of the directions.
+fn first_live(grid: &Grid, slope: &Slope<'_>, live: &Marks, start: Cell, cell: Cell) -> Option<Cell>
+    requires start_on { IsOnGround grid.now.size start }
+    requires cell_on { IsOnGround grid.now.size cell }
+    ensures { IsFirstTight (field_of_grid grid.now) start (slope_of slope.now) (is_dead live.now) cell 8 result }
+{
+    let moves = moves_from(grid, start, cell);
+    let cost = slope.left(cell);
+    let at = Reached { cell, cost };
+    for which in 0..8u8 {
+        if let Some(from) = live_step(grid, slope, live, start, at, moves, which) {
+            return Some(from);
+        }
+    }
+    None
+}
+
+// Whether a walk back from the goal over live cells comes to the start. If so, the trail is made of its cells, without the start. False says
+// nothing.
+fn live_trail(
+    grid: &Grid,
+    slope: &Slope<'_>,
+    live: &Marks,
+    trail: &mut Vec<Cell>,
+    start: Cell,
+    goal: Cell,
+) -> Result<bool, OutOfMemory>
+    requires start { IsOnGround grid.now.size start }
+    requires goal { IsOnGround grid.now.size goal }
+    requires slope { IsSlope (field_of_grid grid.now) start slope.now }
+    requires live { AreLive (field_of_grid grid.now) start (number_in slope.now.distances.now) (marked_in live.now) }
+    ensures { IfOk result (λ found. found ≡ true → IsTightTrail (field_of_grid grid.now) start (slope_of slope.now) goal trail.new.items) }
+{
+    trail.clear();
+    if !is_free(grid, start, goal) {
+        return Ok(false);
+    }
+    let mut at = goal;
+    for _ in 0..MOST_CELLS {
+        if at == start {
+            return Ok(true);
+        }
+        let Some(from) = first_live(grid, slope, live, start, at) else {
+            return Ok(false);
+        };
+        trail.push(at)?;
+        at = from;
+    }
+    Ok(false)
+}
+
+/// Whether a shortest way from the start to a cell is read off the distances. If so, the trail is made of its cells, back from there. False
+/// says nothing.
+#[inline(never)]
+pub fn live_to(
+    grid: &Grid,
+    slope: &Slope<'_>,
+    live: &mut Marks,
+    trail: &mut Vec<Cell>,
+    start: Cell,
+    goal: Cell,
+) -> Result<bool, OutOfMemory>
+    requires start { IsOnGround grid.now.size start }
+    requires goal { IsOnGround grid.now.size goal }
+    requires slope { IsSlope (field_of_grid grid.now) start slope.now }
+    requires live { IsNoneMarked grid.now.size live.old }
+    ensures { IfOk result (λ found. found ≡ true → IsTightTrail (field_of_grid grid.now) start (slope_of slope.now) goal trail.new.items) }
+{
+    if mark_all(grid, slope.distances, live, trail, start)? {
+        live_trail(grid, slope, live, trail, start, goal)
+    } else {
+        Ok(false)
+    }
+}
