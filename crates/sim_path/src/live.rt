@@ -131,7 +131,7 @@ fn live_step(
 {
     let from = step(grid, start, at.cell, moves, which)?;
     let cost = at.cost.checked_sub(step_cost(which))?;
-    if slope.left(from) == cost && live.at(from) {
+    if live.at(from) && slope.left(from) == cost {
         Some(from)
     } else {
         None
