@@ -11,7 +11,7 @@ pub octile-floor : (field : Field) (start : Cell) → IsFloor field start (octil
 octile-floor field start = record { begins = octile-self start; rises = octile-rises field start }
 
 -- no walk costs less than the octile distance
-octile-far : (field : Field) (start : Cell) {c : Cell} {n : ℕ} → Walk (IsStep field start) start c n → octile c start ≤ n
+pub octile-far : (field : Field) (start : Cell) {c : Cell} {n : ℕ} → Walk (IsStep field start) start c n → octile c start ≤ n
 octile-far field start stay = omega (arith, octile-self start)
 octile-far field start (go {a = a} {b = b} {n = n} {k = k} w s) = omega (arith, octile-far field start w, octile-rises field start a b k s)
 

@@ -4,24 +4,9 @@ use Rattle.sim_path.proofs.TightTrails.{tight-end, walk-far}
 use Rattle.sim_path.proofs.Common.{◌≡◌, ℕ, ◌+◌, ◌-◌, ◌*◌, ◌<◌, ◌≤◌, Bool, true, false, not, ◌≢◌, List, [], ◌∷◌, Some, None, Contains, refl, ap, arith}
 use Rattle.sim_path.proofs.Common.{AreDead, AreEnds, Cell, Contains-push, Contains-push_cases, Field, floor_cost, go, IsBest, IsCost, IsEnd, IsFloor, IsOnGround}
 use Rattle.sim_path.proofs.Common.{IsReached, IsStep, IsTight, least_step, octile, octile-none, octile-self, Reached, stay, step_cost, subst, sym, true≢false, Walk, ◌∙◌, ⊎_elim}
-use Rattle.sim_path.specs.{Floors.IsSlope, Floors.slope_of, Live.AreLive, declared.slope.Slope.Slope}
+use Rattle.sim_path.specs.{Floors.IsSlope, Floors.slope_of, Live.AreLive, SlopeLaws.slope-floor, declared.slope.Slope.Slope}
 use Rattle.sim_search.proofs.Moves.{direction-of}
 use Rattle.sim_search.specs.Distances.{number_in}
-
-left-rises : (whole a b k : ℕ) → 2 * a ≤ k + 2 * b → whole - 2 * b ≤ whole - 2 * a + k
-left-rises whole a b k h = omega arith
-
-none-left : (whole number : ℕ) → whole ≡ 2 * number → whole - 2 * number ≡ 0
-none-left whole number e = omega (arith, e)
-
--- no walk costs less than what the distances leave for it, since they fall along a step by at most what it costs
-pub slope-floor : (field : Field) (start : Cell) (s : Slope) → IsSlope field start s → IsFloor field start (slope_of s)
-slope-floor field start s is =
-    let number = number_in s.distances.now in
-    record {
-      begins = none-left s.whole (number start) is.whole;
-      rises = λ a b k step. left-rises s.whole (number a) (number b) k (is.distances.onwards start a b k is.is_open step);
-    }
 
 falls-by : (whole a b n k : ℕ) → n + k ≤ whole - 2 * b → whole - 2 * a ≤ n → 2 * a ≤ k + 2 * b → 10 ≤ k → 2 * b + k ≡ 2 * a
 falls-by whole a b n k e f g h = omega arith

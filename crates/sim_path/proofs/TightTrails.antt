@@ -108,7 +108,7 @@ module _ (field : Field) (start : Cell) (floor : Cell → ℕ) (start_on : IsOnG
           which = which;
           neighbour_is = (move-of field start c p which t.leads).leads;
           leads = record { before = floor p; last = step_cost which; reached = own; step = step; sum = t.sum };
-          first = λ j q below e l. are_dead q (first j q below (leads-tight_step q c j l e)) (leads-tight q c l);
+          first = λ j q below e l. let own = leads-tight q c l in are_dead q (first j q below (leads-tight_step q c j l e) own) own;
         };
       }
     where
@@ -135,9 +135,10 @@ module _ (field : Field) (start : Cell) (floor : Cell → ℕ) (start_on : IsOnG
           (λ (l : (p : Cell) × LeadsTo field start p c (floor c)).
           let leads = l.1 in
           let back = neighbour-back field.size l.0 c leads.step.which (walk-on field start start_on leads.reached.walk) leads.step.leads in
+          let own = leads-tight l.0 c leads in
           let is_dead = none back.way_back l.0 (neighbour-below_eight field.size c l.0 back.way_back back.leads)
-          (leads-tight_step l.0 c back.way_back leads back.leads) in
-          are_dead l.0 is_dead (leads-tight l.0 c leads))
+          (leads-tight_step l.0 c back.way_back leads back.leads) own in
+          are_dead l.0 is_dead own)
           (last_step field start (λ v. None) start_on c (floor c) t)
 
   pub at-begins : (end : Cell) (dead : Cell → Bool) → ((c : Cell) → dead c ≡ false) → IsFree field start floor end → IsAt field start floor end [] dead end

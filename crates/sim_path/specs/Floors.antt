@@ -34,6 +34,10 @@ pub record IsUnknown (front : Front) (start c : Cell) : Type 0 where
 abbrev pub slope_of : Slope → Cell → ℕ
 slope_of s c = s.whole - 2 * number_in s.distances.now c
 
+-- the same, whatever the start
+abbrev pub slope_from : Slope → Cell → Cell → ℕ
+slope_from s start = slope_of s
+
 -- the distances are those to some goal, and from an open start it takes as much as is told
 pub record IsSlope (field : Field) (start : Cell) (s : Slope) : Type 0 where
   pub goal : Cell

@@ -497,13 +497,14 @@ impl Searcher {
         requires ends { AreEnds (field_of_grid grid.now) (cell_at start.now) (cell_at goal.now) 0 ends.now }
         ensures { OnOk result (IsTrailToEnd (field_of_grid grid.now) (cell_at start.now) (cell_at goal.now) trail.new.items) }
     {
-        let from = grid.cell_of(*start);
+        let slope = Slope::of(distances, grid.cell_of(*start));
+        if self.go_back(alloc, grid, slope, trail, 0, ends, start, goal)? {
+            return Ok(no_pains());
+        }
         if self.go_live(alloc, grid, distances, trail, start, goal)? {
             return Ok(no_pains());
         }
-        let guide = Toward { distances };
-        let stage = started(alloc, grid, self.rooms.take(), guide, from)?;
-        self.finish(alloc, grid, stage, guide, trail, 0, ends, start, goal)
+        self.search_straight(alloc, grid, trail, 0, ends, start, goal)
     }
 
     // Whether the way is read off these distances to the goal. If so, the trail is made of its cells. False says nothing.

@@ -18,7 +18,7 @@ returns-in-Some c =
       c.loop-which-test.true,
       near-unknown field start front c.requires.front at.cell c.requires.at_on c.requires.free c.requires.unknown from which
           near.leads away (omega (arith, near.far, c.requires.cost)),
-      c.loop-which.invariant,
+      λ j p lt t tight. c.loop-which.invariant j p lt t,
     )
 
 pub loop-which-preserved : goal.loop-which-preserved
@@ -45,4 +45,4 @@ loop-which-preserved c =
     λ j p lt t. all j lt p t
 
 pub returns : goal.returns
-returns c = λ j p lt t. c.loop-which.invariant j p (omega (arith, lt, c.loop-which-test.false)) t
+returns c = λ j p lt t tight. c.loop-which.invariant j p (omega (arith, lt, c.loop-which-test.false)) t

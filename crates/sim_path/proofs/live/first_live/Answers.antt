@@ -7,7 +7,7 @@ pub loop-which-init : goal.loop-which-init
 loop-which-init c = λ j p lt t. absurd (omega (arith, lt))
 
 pub returns-in-Some : goal.returns-in-Some
-returns-in-Some c = (c.loop-which.which, c.loop-which-test.true, c.live_step.ensures.some c.in-Some.from c.in-Some.is, c.loop-which.invariant)
+returns-in-Some c = (c.loop-which.which, c.loop-which-test.true, c.live_step.ensures.some c.in-Some.from c.in-Some.is, λ j p lt t tight. c.loop-which.invariant j p lt t)
 
 pub loop-which-preserved : goal.loop-which-preserved
 loop-which-preserved c =
@@ -17,4 +17,4 @@ loop-which-preserved c =
     λ j p lt t. all j lt p t
 
 pub returns : goal.returns
-returns c = λ j p lt t. c.loop-which.invariant j p (omega (arith, lt, c.loop-which-test.false)) t
+returns c = λ j p lt t tight. c.loop-which.invariant j p (omega (arith, lt, c.loop-which-test.false)) t

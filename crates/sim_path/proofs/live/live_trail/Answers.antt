@@ -1,6 +1,7 @@
 use Rattle.sim_path.proofs.Common.{rules, same_cell, same_cell-self, same_cell-true, subst, sym, true≢false, ◌∙◌}
 use Rattle.sim_path.proofs.Common.{◌≡◌, true, false, ◌≢◌, List, Option, ap, Cell, false≢true, field_of_grid, IfOk-from_err, is_free, IsFirstTight, IsFloor}
-use Rattle.sim_path.proofs.{LiveWays.live-begins, LiveWays.live-dead, LiveWays.slope-floor, TightTrails.at-further, TightTrails.chain-done, TightTrails.IsAt}
+use Rattle.sim_path.proofs.{LiveWays.live-begins, LiveWays.live-dead, TightTrails.at-further, TightTrails.chain-done, TightTrails.IsAt}
+use Rattle.sim_path.specs.SlopeLaws.{slope-floor}
 use Rattle.sim_path.specs.{Floors.slope_of, Live.is_dead, MarkTables.marked_in}
 use Rattle.sim_path.proofs.live.live_trail.Goals as goal
 

@@ -1,6 +1,7 @@
 -- The way is read off the distances to the goal, which is the end.
-use Rattle.sim_path.proofs.{Found.if_ok, LiveWays.goal-end, LiveWays.slope-floor}
+use Rattle.sim_path.proofs.{Found.if_ok, LiveWays.goal-end}
 use Rattle.sim_path.proofs.Common.{◌≡◌, ◌*◌, ap, Bool, cell_of, field_of_grid, inside-on_ground, IsOnGround, IsTightTrail, IsTrailToEnd, subst, sym, true, ◌∙◌}
+use Rattle.sim_path.specs.SlopeLaws.{slope-floor}
 use Rattle.sim_path.specs.{Floors.IsSlope, Floors.slope_of}
 use Rattle.sim_search.specs.{Distances.AreDistances, Distances.number_in, declared.distances.Distances.Distances}
 use Rattle.sim_path.proofs.answer.Searcher.go_live.Goals as goal

@@ -1,0 +1,19 @@
+-- No walk costs less than what distances to a goal leave for it, since they fall along a step by at most what it costs.
+use Rattle.sim_base.specs.{Steps.Field, Steps.IsStep, declared.place.Cell.Cell}
+use Rattle.sim_path.specs.{Floors.IsSlope, Floors.slope_of, WalkFloors.IsFloor, declared.slope.Slope.Slope}
+use Rattle.sim_search.specs.Distances.{number_in}
+use Rattle.std.proofs.Common.{◌≡◌, ℕ, ◌+◌, ◌-◌, ◌*◌, ◌≤◌, arith}
+
+left-rises : (whole a b k : ℕ) → 2 * a ≤ k + 2 * b → whole - 2 * b ≤ whole - 2 * a + k
+left-rises whole a b k h = omega arith
+
+none-left : (whole number : ℕ) → whole ≡ 2 * number → whole - 2 * number ≡ 0
+none-left whole number e = omega (arith, e)
+
+pub slope-floor : (field : Field) (start : Cell) (s : Slope) → IsSlope field start s → IsFloor field start (slope_of s)
+slope-floor field start s is =
+    let number = number_in s.distances.now in
+    record {
+      begins = none-left s.whole (number start) is.whole;
+      rises = λ a b k step. left-rises s.whole (number a) (number b) k (is.distances.onwards start a b k is.is_open step);
+    }
