@@ -36,6 +36,11 @@ no_run setup life out most none =
       adds = sym (append-nil out) ∙ ap (λ (r : Run). out ++ frames_of r.says) (sym same);
     }
 
+-- nothing is played where no turn is asked for
+pub no_turns : (setup : Setup) (life : Life) (out : List ℕ) (most : ℕ) → most ≡ 0 → RanOn (runs setup most life) out 0 life out
+no_turns setup life out most none =
+    subst (λ (n : ℕ). RanOn (runs setup n life) out 0 life out) (sym none) (record { many = refl; becomes = refl; adds = sym (append-nil out); })
+
 -- a turn that is told, or none
 pub idle_once : (act : Option Act) (old new : Life) (out : List ℕ) → Answers act old (Ok did.Idle) new → PlaysOnce act old out false new out
 idle_once None old new out h = (refl, (h, refl))

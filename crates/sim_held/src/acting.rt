@@ -78,7 +78,8 @@ fn may_play(setup: &Setup, stage: &Stage) -> bool
     }
 }
 
-/// Plays the turns that are released, at most so many, on one board, and answers how many these were. Where there is none, none is made.
+/// Plays the turns that are released, at most so many, on one board, and answers how many these were. Where there is none, or none is asked
+/// for, no board is made.
 pub fn play(
     alloc: Global,
     setup: &Setup,
@@ -92,8 +93,9 @@ pub fn play(
     ensures ran { IfOk result (λ turns. RanOn (runs setup.now most (life_at stage.old)) outbox.old turns (life_at stage.new) outbox.new) }
     ensures sound { OnOk result (IsStage setup.now stage.new) }
     ensures none { may_run setup.now (life_at stage.old) ≡ false → result ≡ Ok 0 }
+    ensures zero { most ≡ 0 → result ≡ Ok 0 }
 {
-    if !may_play(setup, stage) {
+    if most == 0 || !may_play(setup, stage) {
         return Ok(0);
     }
     let Stage::On { state, seat } = stage else {

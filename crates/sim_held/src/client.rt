@@ -138,6 +138,7 @@ impl HeldClient {
     pub fn play(&mut self, most: u32) -> Result<u32, OutOfMemory>
         ensures ran { Ran (runs self.old.setup most (life self.old)) self.old.outbox result (life self.new) self.new.outbox }
         ensures none { may_run self.old.setup (life self.old) ≡ false → result ≡ Ok 0 }
+        ensures zero { most ≡ 0 → result ≡ Ok 0 }
         ensures same { IsSame self.old self.new }
     {
         let came = play(
