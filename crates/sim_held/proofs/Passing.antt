@@ -3,7 +3,7 @@ use Rattle.sim_base.specs.declared.{setup.Setup.Setup, state.State.State}
 use Rattle.sim_client.specs.{ClientWords.Answers, ClientWords.NeedsNoMemory, declared.did.Did.Did, declared.did.Did.TheVariants.Done, declared.did.Did.TheVariants.Idle}
 use Rattle.sim_client.specs.LifeLaws.{says_of}
 use Rattle.{sim_client.specs.Lives.Told, sim_held.specs.Acting.said_by, sim_held.specs.Hearing.brings_state, sim_held.specs.Hearing.goes_by}
-use Rattle.sim_held.proofs.Common.{◌≡◌, ℕ, ◌<◌, ◌≤◌, Bool, true, false, List, [], length, Some, None, Ok, Option, if◌then◌else◌, refl, arith, subst, sym, ◌∙◌}
+use Rattle.sim_held.proofs.Common.{◌≡◌, ℕ, ◌<◌, Bool, true, false, List, [], length, Some, None, Ok, Option, if◌then◌else◌, refl, arith, subst, sym, ◌∙◌}
 use Rattle.sim_held.proofs.Common.{Act, hears, Joining, Life, Off, On}
 use Rattle.{sim_plain_session.specs.Players.Player, sim_wire.specs.Fits.IsDownFrame, sim_wire.specs.Frames.down_frame, sim_wire.specs.Memory.down_carries}
 use Rattle.std.{proofs.lemmas.Bool.false≢true, specs.Prelude.nat_eq, specs.Prelude.nat_lt, specs.Prelude.slice_index_or}

@@ -5,7 +5,7 @@ use Rattle.sim_plain.specs.{Messages.Arrival, Messages.Cut, Posts.posts, Posts.p
 use Rattle.sim_plain.specs.declared.rules.Rules.{Rules}
 use Rattle.sim_held.proofs.Common.{◌≡◌, ℕ, ◌<◌, ◌≤◌, Bool, true, false, List, [], ◌∷◌, ◌++◌, Ok, Result, if◌then◌else◌, All, All-head, All-tail, ap, arith}
 use Rattle.sim_held.proofs.Common.{cond-false, DownOf, ne_eqb, PostOf, refl, subst, sym, told_to, ◌∙◌}
-use Rattle.sim_held.specs.Servers.{AreSmall, CutsOff, Hears, is_client, IsReady, ServerView, waiting, WaitsForClients}
+use Rattle.sim_held.specs.Servers.{AreSmall, CutsOff, Hears, is_client, IsReady, waiting, WaitsForClients}
 use Rattle.std.specs.Prelude.{◌&&◌, nat_le, nat_lt}
 use Rattle.sim_server.specs.Standing.{server_of, View}
 use Rattle.std.proofs.Common.{◌==◌}

@@ -3,10 +3,10 @@
 
 ghost use Rattle.{sim_base.specs.Limits.HasFewIds, sim_base.specs.Limits.IsSetup, sim_base.specs.declared.setup.Setup.Setup as AnySetup};
 ghost use Rattle.sim_client.specs.ClientWords.{Answers};
-ghost use Rattle.std.specs.Prelude.{◌≡◌, [], ◌≤◌, false, true, All, IfOk, IfErr, IsOk, OnErr, OnOk, Ok, None, Option};
-ghost use Rattle.sim_client.specs.Lives.{Act, joins, Life, may_play as may_play_by, Off, On, orders};
+ghost use Rattle.std.specs.Prelude.{◌≡◌, [], All, IsOk, OnErr, OnOk, Ok, None, Option};
+ghost use Rattle.sim_client.specs.Lives.{Act, joins, Life, Off, On, orders};
 ghost use Rattle.sim_held.specs.Clients.{Goes, IsStage, life_at};
-ghost use Rattle.sim_held.specs.{Acting.may_run, Acting.said_by, Runs.runs, Turns.RanOn};
+ghost use Rattle.sim_held.specs.Acting.{said_by};
 ghost use Rattle.sim_wire.specs.Fits.{IsSmallUp};
 
 use crate::outbox::Outbox;
