@@ -6,4 +6,5 @@ mod Stepping
 mod SpellingWords
 mod Spelled
 mod Small
+mod Passing
 mod Serving

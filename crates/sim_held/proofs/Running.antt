@@ -4,7 +4,7 @@ use Rattle.{sim_client.specs.ClientWords.Answers}
 use Rattle.sim_held.proofs.Common.{◌≡◌, ℕ, zero, suc, ◌+◌, ◌≤◌, ◌⊎◌, Bool, true, false, List, ◌++◌, if◌then◌else◌, Some, None, Ok, Option, refl, ap, append_assoc, arith}
 use Rattle.sim_held.proofs.Common.{Act, append-nil, cases_eq, flat_map-append, frames_of, inl, inr, Life, plays, subst, sym, up_frame, ◌∙◌}
 use Rattle.{sim_client.specs.Lives.On, sim_client.specs.Lives.Off, sim_client.specs.Lives.Joining, sim_client.specs.Lives.played, sim_client.specs.Lives.told}
-use Rattle.sim_held.specs.{Acting.may_run, Runs.goes_on, Runs.Run, Runs.runs, Turns.PlaysOnce, Turns.RanOn}
+use Rattle.sim_held.specs.{Acting.may_run, Runs.goes_on, Runs.Ran, Runs.Run, Runs.runs, Turns.PlaysOnce, Turns.RanOn}
 use Rattle.std.proofs.lemmas.Bool.{false≢true}
 use Rattle.sim_client.specs.declared.did.Did.TheVariants as did
 
@@ -35,6 +35,10 @@ no_run setup life out most none =
       becomes = ap (λ (r : Run). r.life) (sym same);
       adds = sym (append-nil out) ∙ ap (λ (r : Run). out ++ frames_of r.says) (sym same);
     }
+
+-- what a run has come to, as a call answers it
+pub ran : (run : Run) (out : List ℕ) (turns : ℕ) (life : Life) (out' : List ℕ) → RanOn run out turns life out' → Ran run out (Ok turns) life out'
+ran run out turns life out' on = (on.many, on.becomes, on.adds)
 
 -- a turn that is told, or none
 pub idle_once : (act : Option Act) (old new : Life) (out : List ℕ) → Answers act old (Ok did.Idle) new → PlaysOnce act old out false new out

@@ -5,9 +5,8 @@ use Rattle.sim_plain.specs.{Messages.Arrival, Messages.Cut, Posts.posts, Posts.p
 use Rattle.sim_plain.specs.declared.rules.Rules.{Rules}
 use Rattle.sim_held.proofs.Common.{◌≡◌, ℕ, ◌<◌, ◌≤◌, Bool, true, false, List, [], ◌∷◌, ◌++◌, Ok, Result, if◌then◌else◌, All, All-head, All-tail, ap, arith}
 use Rattle.sim_held.proofs.Common.{cond-false, DownOf, ne_eqb, PostOf, refl, subst, sym, told_to, ◌∙◌}
-use Rattle.sim_held.specs.Servers.{Answers, AreSmall, CutsOff, Hears, is_client, IsReady, ServerView, waiting, WaitsForClients}
+use Rattle.sim_held.specs.Servers.{AreSmall, CutsOff, Hears, is_client, IsReady, waiting, WaitsForClients}
 use Rattle.std.specs.Prelude.{◌&&◌, nat_le, nat_lt}
-use Rattle.sim_held.specs.declared.stage.Went.{Went}
 use Rattle.sim_server.specs.Standing.{server_of, View}
 use Rattle.std.proofs.Common.{◌==◌}
 
@@ -88,8 +87,3 @@ cut_by old new c sent said said' made each = record {
       each d ∙ ap (λ l. (if d == c then [] else waiting said d) ++ l)
       (ap (told_to d) made.said ∙ told_each old.rules.clients d (posts old.rules (server_of old) (Cut c)) low high);
 }
-
--- a call of a client answers so
-pub answered : (there : Bool) (went : Went) (Changes : ServerView → ServerView → Type 0) (old new : ServerView) → there ≡ true → Changes old new
-    → Answers there went Changes old (Ok went) new
-answered there went Changes old new is changes = subst (λ (b : Bool). Answers b went Changes old (Ok went) new) (sym is) (refl, changes)

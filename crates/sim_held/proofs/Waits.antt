@@ -1,8 +1,8 @@
 -- What waits for each client of a server, as lists of posts come and go.
 use Rattle.std.proofs.{Common.◌==◌, lemmas.List.Elements.All-filter}
-use Rattle.sim_held.proofs.Common.{not, ◌≡◌, ℕ, Bool, ◌⊎◌, List, [], ◌∷◌, ◌++◌, map, if◌then◌else◌, All, ap, All-append, All-cons, All-nil}
+use Rattle.sim_held.proofs.Common.{not, ◌≡◌, ℕ, zero, suc, ◌<◌, Bool, true, false, ◌⊎◌, List, [], ◌∷◌, ◌++◌, map, if◌then◌else◌, All, ap, arith, All-append, All-cons, All-nil}
 use Rattle.sim_held.proofs.Common.{All-head, All-tail, cases_eq, cond-false, cond-true, DownOf, eq-eqb, filter, flat_map-append, flat_map-cons, inl, inr, IsSmallDown}
-use Rattle.sim_held.proofs.Common.{ne_eqb, PostOf, refl, sym, told_to, ◌∙◌}
+use Rattle.sim_held.proofs.Common.{get_or, length, ne_eqb, PostOf, refl, subst, sym, told_to, ◌∙◌}
 use Rattle.sim_held.proofs.Frames.{flat_map_one}
 use Rattle.sim_held.specs.Servers.{AreSmall, has_some, waiting}
 
@@ -80,3 +80,40 @@ pub more_small : (said : List (List Post)) (posts : List Post) → AreSmall said
     → AreSmall (said ++ posts ∷ [])
 more_small said posts small fits = All-append (All (λ (post : Post). IsSmallDown post.down)) said (posts ∷ []) small
     (All-cons (All (λ (post : Post). IsSmallDown post.down)) posts [] fits (All-nil (All (λ (post : Post). IsSmallDown post.down))))
+
+-- ---- who is told nothing
+
+-- two lists with nothing in them together
+none_before : {X : Type 0} (xs ys : List X) → xs ++ ys ≡ [] → xs ≡ []
+none_before [] ys none = refl
+none_before (x ∷ xs) ys none = absurd (cc)
+
+none_behind : {X : Type 0} (xs ys : List X) → xs ++ ys ≡ [] → ys ≡ []
+none_behind [] ys none = none
+none_behind (x ∷ xs) ys none = absurd (cc)
+
+told_cons : (c : ℕ) (x : Post) (xs : List Post) → told_to c (x ∷ xs) ≡ told_to c (x ∷ []) ++ told_to c xs
+told_cons c x xs = by (x.to == c)
+  where
+    by : (b : Bool) → (if b then x.down ∷ told_to c xs else told_to c xs) ≡ (if b then x.down ∷ [] else []) ++ told_to c xs
+    by true = refl
+    by false = refl
+
+-- not by any post of a list
+pub none_by_post : (c : ℕ) (posts : List Post) (i : ℕ) (post : Post) → i < length posts → post ≡ get_or posts i post → told_to c posts ≡ []
+    → told_to c (post ∷ []) ≡ []
+none_by_post c [] i post within is none = absurd (omega (arith, within))
+none_by_post c (x ∷ xs) zero post within is none =
+    subst (λ (p : Post). told_to c (p ∷ []) ≡ []) (sym is) (none_before (told_to c (x ∷ [])) (told_to c xs) (sym (told_cons c x xs) ∙ none))
+none_by_post c (x ∷ xs) (suc i) post within is none =
+    none_by_post c xs i post (omega (arith, within)) is (none_behind (told_to c (x ∷ [])) (told_to c xs) (sym (told_cons c x xs) ∙ none))
+
+-- not by any list of several
+pub none_by_list : (c : ℕ) (said : List (List Post)) (i : ℕ) (posts : List Post) → i < length said → posts ≡ get_or said i posts → waiting said c ≡ []
+    → told_to c posts ≡ []
+none_by_list c [] i posts within is none = absurd (omega (arith, within))
+none_by_list c (x ∷ xs) zero posts within is none =
+    subst (λ (l : List Post). told_to c l ≡ []) (sym is)
+    (none_before (told_to c x) (waiting xs c) (sym (flat_map-cons (told_to c) x xs) ∙ none))
+none_by_list c (x ∷ xs) (suc i) posts within is none =
+    none_by_list c xs i posts (omega (arith, within)) is (none_behind (told_to c x) (waiting xs c) (sym (flat_map-cons (told_to c) x xs) ∙ none))

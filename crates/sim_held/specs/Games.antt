@@ -1,5 +1,5 @@
 -- A match that is held in memory, and what a call makes of it.
-use Rattle.std.specs.Prelude.{◌≡◌, ℕ, ◌-◌, ◌<◌, ◌≤◌, min, List, Ok, Err, Result}
+use Rattle.std.specs.{Str.is_utf8, Prelude.◌≡◌, Prelude.ℕ, Prelude.◌-◌, Prelude.◌<◌, Prelude.◌≤◌, Prelude.min, Prelude.true, Prelude.List, Prelude.Ok, Prelude.Err, Prelude.Result}
 use Rattle.sim_base.specs.{Limits.IsSetup, Turn.from, Turn.own_turns, Turn.turn, Validity.IsValid, declared.command.PlayerCommand.PlayerCommand}
 use Rattle.sim_base.specs.declared.{memory.OutOfMemory.OutOfMemory, setup.Setup.Setup, state.State.State}
 use Rattle.sim_embed.specs.{Orders.orders_of, declared.refused.Refused.Refused}
@@ -26,13 +26,14 @@ pub record PlaysTurn (old : GameView) (bytes : List ℕ) (new : GameView) : Type
   pub spelled : orders_of old.setup.players bytes ≡ Ok orders
   pub state : new ≡ at_state old (turn old.setup old.state orders)
 
--- why no turn is played: the match has none behind this state, or the bytes spell no commands; memory may be refused in any case
+-- why no turn is played: the match has none behind this state, or the bytes spell no commands; memory is wanted only where there
+-- is a turn and the bytes are a text
 abbrev pub IsNoTurnOf : GameView → List ℕ → Refused → Type 0
 IsNoTurnOf old bytes (cause.Match code index) = ⊥
 IsNoTurnOf old bytes (cause.State fault place) = ⊥
 IsNoTurnOf old bytes cause.Over = old.setup.turns ≤ old.state.turn
 IsNoTurnOf old bytes (cause.Commands index) = (old.state.turn < old.setup.turns) × (orders_of old.setup.players bytes ≡ Err index)
-IsNoTurnOf old bytes cause.OutOfMemory = Unit {0}
+IsNoTurnOf old bytes cause.OutOfMemory = (old.state.turn < old.setup.turns) × (is_utf8 bytes ≡ true)
 
 -- how many of so many turns the match still has
 abbrev pub turns_left : GameView → ℕ → ℕ

@@ -3,25 +3,24 @@
 
 ghost use Rattle.{sim_base.specs.Limits.HasFewIds, sim_base.specs.Limits.IsSetup, sim_base.specs.declared.setup.Setup.Setup as AnySetup};
 ghost use Rattle.sim_client.specs.ClientWords.{Answers};
-ghost use Rattle.std.specs.Prelude.{◌≡◌, [], ◌≤◌, false, true, All, IfOk, IfErr, IsOk, OnErr, OnOk, Ok, None, Option};
-ghost use Rattle.sim_client.specs.Lives.{Act, joins, Life, may_play as may_play_by, Off, On, orders};
+ghost use Rattle.std.specs.Prelude.{◌≡◌, [], All, IsOk, OnErr, OnOk, Ok, None, Option};
+ghost use Rattle.sim_client.specs.Lives.{Act, joins, Life, Off, On, orders};
 ghost use Rattle.sim_held.specs.Clients.{Goes, IsStage, life_at};
-ghost use Rattle.sim_held.specs.{Acting.may_run, Acting.said_by, Runs.runs, Turns.RanOn};
+ghost use Rattle.sim_held.specs.Acting.{said_by};
 ghost use Rattle.sim_wire.specs.Fits.{IsSmallUp};
 
-use crate::boards::play_seat;
 use crate::outbox::Outbox;
 use crate::stage::{Stage, Went};
 use sim_base::{Command, OutOfMemory, Setup};
 use sim_client::Did;
-use sim_ground::Contents;
 use sim_wire::Up;
 use std::alloc::Global;
 
 /// What a client says goes behind all that waits.
 pub fn say(outbox: &mut Outbox, did: Did) -> Result<Went, OutOfMemory>
     requires { All IsSmallUp (said_by did) }
-    ensures { (act : Option Act) (old new : Life) → Answers act old (Ok did) new → Goes act old outbox.old result new outbox.new }
+    ensures goes { (act : Option Act) (old new : Life) → Answers act old (Ok did) new → Goes act old outbox.old result new outbox.new }
+    ensures quiet { said_by did ≡ [] → IsOk result }
 {
     match did {
         Did::Idle => Ok(Went::Idle),
@@ -65,41 +64,6 @@ pub fn give(
     };
     let did = sim_client::order(alloc, setup, seat, command)?;
     say(outbox, did)
-}
-
-// Whether a client is on, and its next turn is one of the match and known to be released.
-fn may_play(setup: &Setup, stage: &Stage) -> bool
-    ensures { result ≡ may_run setup.now (life_at stage.now) }
-{
-    match stage {
-        Stage::Off => false,
-        Stage::Joining => false,
-        Stage::On { state, seat } => state.turn < setup.turns && state.turn < seat.released,
-    }
-}
-
-/// Plays the turns that are released, at most so many, on one board, and answers how many these were. Where there is none, none is made.
-pub fn play(
-    alloc: Global,
-    setup: &Setup,
-    stage: &mut Stage,
-    outbox: &mut Outbox,
-    most: u32,
-    kept: &mut Contents,
-) -> Result<u32, OutOfMemory>
-    requires limits { IsSetup setup.now }
-    requires sound { IsStage setup.now stage.old }
-    ensures ran { IfOk result (λ turns. RanOn (runs setup.now most (life_at stage.old)) outbox.old turns (life_at stage.new) outbox.new) }
-    ensures sound { OnOk result (IsStage setup.now stage.new) }
-    ensures none { may_run setup.now (life_at stage.old) ≡ false → result ≡ Ok 0 }
-{
-    if !may_play(setup, stage) {
-        return Ok(0);
-    }
-    let Stage::On { state, seat } = stage else {
-        return Ok(0);
-    };
-    play_seat(alloc, setup, state, seat, outbox, most, kept)
 }
 
 /// Cuts a client off whose call was refused memory, and passes on what the call came to.

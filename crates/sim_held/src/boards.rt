@@ -3,19 +3,18 @@
 //! what searches have kept.
 
 ghost use Rattle.{sim_base.specs.Limits.IsSetup, sim_base.specs.Turn.first_state as first_state_of, sim_base.specs.Turn.from, sim_base.specs.Turn.own_turns};
-ghost use Rattle.{sim_base.specs.Turn.turn as turn_by, sim_base.specs.Validity.IsValid, sim_client.specs.Lives.On, sim_client.specs.StageWords.player_at};
+ghost use Rattle.{sim_base.specs.Turn.turn as turn_by, sim_base.specs.Validity.IsValid, sim_board.specs.BoardWords.setup_in, sim_board.specs.BoardWords.systems};
 ghost use Rattle.{sim_laws.specs.CommandLaws.IsOrderOf, sim_system.specs.Meanings.HaveKinds, sim_system.specs.RigWords.systems_of};
 ghost use Rattle.std.specs.Prelude.{◌≡◌, ◌-◌, ◌<◌, ◌≤◌, OnOk, IfOk, All};
-ghost use Rattle.sim_held.specs.{Clients.IsSeated, Runs.runs, Turns.RanOn};
+ghost use Rattle.sim_held.specs.{Clients.IsSeated, Playing.life_of, Runs.runs, Turns.RanOn};
 
 use crate::copying::no_state;
-use crate::outbox::Outbox;
 use crate::planning::planned;
+use crate::playing::Playing;
 use crate::turns::play_turns;
 use sim_base::{OutOfMemory, PlayerCommand, Setup, State};
 use sim_board::Board;
 use sim_census::Census;
-use sim_client::Seat;
 use sim_ground::{Contents, Ground, Rooms};
 use sim_orders::{Handler, OrderTable, Planner};
 use sim_range::Range;
@@ -104,27 +103,27 @@ fn turned(
         handlers.push(Handler { kind, run })?;
     }
     let orders = OrderTable::new(handlers);
-    taken(alloc, setup, state, commands, &orders, rig)
+    let board = Board::new(alloc, setup, rig);
+    taken(alloc, board, state, commands, &orders)
 }
 
-// The state behind a turn, on a board with these systems.
+// The state behind a turn, on a board that is not whole yet.
 fn taken(
     alloc: Global,
-    setup: &Setup,
+    board: Board<'_>,
     state: State,
     commands: &[PlayerCommand],
     orders: &OrderTable,
-    rig: Rig,
 ) -> Result<State, OutOfMemory>
-    requires limits { IsSetup setup.now }
-    requires valid { IsValid setup.now state }
-    requires below { state.turn < setup.now.turns }
-    requires players { All (IsOrderOf setup.now) commands.now }
-    requires kinds { HaveKinds (systems_of rig ⟦<dyn System as System>⟧) }
-    ensures state { IfOk result (λ new. new ≡ turn_by setup.now state commands.now) }
-    ensures valid { IfOk result (IsValid setup.now) }
+    requires limits { IsSetup (setup_in board) }
+    requires valid { IsValid (setup_in board) state }
+    requires below { state.turn < (setup_in board).turns }
+    requires players { All (IsOrderOf (setup_in board)) commands.now }
+    requires kinds { HaveKinds (systems board ⟦<dyn System as System>⟧) }
+    ensures state { IfOk result (λ new. new ≡ turn_by (setup_in board.entry) state commands.now) }
+    ensures valid { IfOk result (IsValid (setup_in board.entry)) }
 {
-    let mut board = Board::new(alloc, setup, rig);
+    let mut board = board;
     board.adopt(state)?;
     sim_turn::turn(alloc, &mut board, orders, commands)?;
     let (new, mut rig) = board.finish();
@@ -180,27 +179,27 @@ fn turned_on(
         handlers.push(Handler { kind, run })?;
     }
     let orders = OrderTable::new(handlers);
-    taken_on(alloc, setup, state, until, &orders, rig)
+    let board = Board::new(alloc, setup, rig);
+    taken_on(alloc, board, state, until, &orders)
 }
 
-// The same on a board with these systems.
+// The same on a board that is not whole yet.
 fn taken_on(
     alloc: Global,
-    setup: &Setup,
+    board: Board<'_>,
     state: State,
     until: u32,
     orders: &OrderTable,
-    rig: Rig,
 ) -> Result<State, OutOfMemory>
-    requires limits { IsSetup setup.now }
-    requires valid { IsValid setup.now state }
+    requires limits { IsSetup (setup_in board) }
+    requires valid { IsValid (setup_in board) state }
     requires ahead { state.turn ≤ until }
-    requires within { until ≤ setup.now.turns }
-    requires kinds { HaveKinds (systems_of rig ⟦<dyn System as System>⟧) }
-    ensures state { IfOk result (λ new. new ≡ from setup.now state (own_turns setup.now state.turn (until - state.turn))) }
-    ensures valid { IfOk result (IsValid setup.now) }
+    requires within { until ≤ (setup_in board).turns }
+    requires kinds { HaveKinds (systems board ⟦<dyn System as System>⟧) }
+    ensures state { let setup = setup_in board.entry in IfOk result (λ new. new ≡ from setup state (own_turns setup state.turn (until - state.turn))) }
+    ensures valid { IfOk result (IsValid (setup_in board.entry)) }
 {
-    let mut board = Board::new(alloc, setup, rig);
+    let mut board = board;
     board.adopt(state)?;
     sim_turn::play(alloc, &mut board, orders, until)?;
     let (new, mut rig) = board.finish();
@@ -213,17 +212,14 @@ fn taken_on(
 pub fn play_seat(
     alloc: Global,
     setup: &Setup,
-    state: &mut State,
-    seat: &mut Seat,
-    outbox: &mut Outbox,
+    playing: &mut Playing,
     most: u32,
     kept: &mut Contents,
 ) -> Result<u32, OutOfMemory>
     requires limits { IsSetup setup.now }
-    requires seated { IsSeated setup.now state.old seat.old }
-    ensures ran { let run = runs setup.now most (On (player_at state.old seat.old)) in IfOk result (λ turns. RanOn run outbox.old turns
-        (On (player_at state.new seat.new)) outbox.new) }
-    ensures seated { OnOk result (IsSeated setup.now state.new seat.new) }
+    requires seated { IsSeated setup.now playing.old.state playing.old.seat }
+    ensures ran { IfOk result (λ turns. RanOn (runs setup.now most (life_of playing.old)) playing.old.outbox turns (life_of playing.new) playing.new.outbox) }
+    ensures seated { OnOk result (IsSeated setup.now playing.new.state playing.new.seat) }
 {
     let rooms = rooms_of(alloc, kept)?;
     let ground: Box<dyn System> = Box::new(alloc, Ground::sharing(alloc, rooms.clone()?))?;
@@ -231,7 +227,7 @@ pub fn play_seat(
     let watch: Box<dyn System> = Box::new(alloc, Watch::new(alloc))?;
     let census: Box<dyn System> = Box::new(alloc, Census::new(alloc))?;
     let rig = Rig::new(ground, range, watch, census);
-    let came = play_over(alloc, setup, state, seat, outbox, most, rig);
+    let came = play_over(alloc, setup, playing, most, rig);
     *kept = rooms.empty();
     came
 }
@@ -240,18 +236,15 @@ pub fn play_seat(
 fn play_over(
     alloc: Global,
     setup: &Setup,
-    state: &mut State,
-    seat: &mut Seat,
-    outbox: &mut Outbox,
+    playing: &mut Playing,
     most: u32,
     rig: Rig,
 ) -> Result<u32, OutOfMemory>
     requires limits { IsSetup setup.now }
-    requires seated { IsSeated setup.now state.old seat.old }
+    requires seated { IsSeated setup.now playing.old.state playing.old.seat }
     requires kinds { HaveKinds (systems_of rig ⟦<dyn System as System>⟧) }
-    ensures ran { let run = runs setup.now most (On (player_at state.old seat.old)) in IfOk result (λ turns. RanOn run outbox.old turns
-        (On (player_at state.new seat.new)) outbox.new) }
-    ensures seated { OnOk result (IsSeated setup.now state.new seat.new) }
+    ensures ran { IfOk result (λ turns. RanOn (runs setup.now most (life_of playing.old)) playing.old.outbox turns (life_of playing.new) playing.new.outbox) }
+    ensures seated { OnOk result (IsSeated setup.now playing.new.state playing.new.seat) }
 {
     let mut handlers = Vec::with_capacity(alloc, 7)?;
     for kind in 1..8u8 {
@@ -259,33 +252,30 @@ fn play_over(
         handlers.push(Handler { kind, run })?;
     }
     let orders = OrderTable::new(handlers);
-    play_on(alloc, setup, state, seat, outbox, most, &orders, rig)
+    play_on(alloc, Board::new(alloc, setup, rig), playing, most, &orders)
 }
 
-// The same on a board with these systems.
+// The same on a board that is not whole yet. Meanwhile the board has the state.
 fn play_on(
     alloc: Global,
-    setup: &Setup,
-    state: &mut State,
-    seat: &mut Seat,
-    outbox: &mut Outbox,
+    board: Board<'_>,
+    playing: &mut Playing,
     most: u32,
     orders: &OrderTable,
-    rig: Rig,
 ) -> Result<u32, OutOfMemory>
-    requires limits { IsSetup setup.now }
-    requires seated { IsSeated setup.now state.old seat.old }
-    requires kinds { HaveKinds (systems_of rig ⟦<dyn System as System>⟧) }
-    ensures ran { let run = runs setup.now most (On (player_at state.old seat.old)) in IfOk result (λ turns. RanOn run outbox.old turns
-        (On (player_at state.new seat.new)) outbox.new) }
-    ensures seated { OnOk result (IsSeated setup.now state.new seat.new) }
+    requires limits { IsSetup (setup_in board) }
+    requires seated { IsSeated (setup_in board) playing.old.state playing.old.seat }
+    requires kinds { HaveKinds (systems board ⟦<dyn System as System>⟧) }
+    ensures ran { let run = runs (setup_in board.entry) most (life_of playing.old) in IfOk result (λ turns. RanOn run playing.old.outbox turns
+        (life_of playing.new) playing.new.outbox) }
+    ensures seated { OnOk result (IsSeated (setup_in board.entry) playing.new.state playing.new.seat) }
 {
-    let mut board = Board::new(alloc, setup, rig);
-    let old = std::mem::replace(state, no_state(alloc));
-    board.adopt(old)?;
-    let played = play_turns(alloc, setup, orders, &mut board, seat, outbox, most)?;
+    let mut board = board;
+    let state = std::mem::replace(&mut playing.state, no_state(alloc));
+    board.adopt(state)?;
+    let played = play_turns(alloc, orders, &mut board, playing, most)?;
     let (new, mut rig) = board.finish();
     rig.clear();
-    *state = new;
+    playing.state = new;
     Ok(played)
 }

@@ -2,18 +2,20 @@
 
 ghost use Rattle.{sim_base.specs.declared.state.State.State as AnyState, sim_board.specs.BoardWords.state_in};
 ghost use Rattle.std.specs.Str.{is_utf8};
-ghost use Rattle.std.specs.Prelude.{◌≡◌, [], map, false, IfOk, IfErr, Ok, None, Some, Option, option_copied, option_map, string_bytes};
-ghost use Rattle.sim_client.specs.ClientWords.{is_joining, LoadsFrom, state_of, turn_of};
+ghost use Rattle.std.specs.Prelude.{◌≡◌, [], map, false, IfOk, IfErr, IsOk, Ok, None, Some, Option, option_copied, option_map, string_bytes};
+ghost use Rattle.sim_client.specs.ClientWords.{is_joining, LoadsFrom, may_load, NeedsNoMemory, state_of, turn_of};
 ghost use Rattle.sim_client.specs.Lives.{hears, joins, Off, orders, plays, Told};
 ghost use Rattle.sim_embed.specs.{Answers.IsStamp, Answers.IsStored, Bytes.OfMatch, Causes.IsNoMatch, Facts.entity_of};
 ghost use Rattle.sim_held.specs.{Acting.may_run, Runs.Ran, Runs.runs};
 ghost use Rattle.sim_held.specs.Clients.{command_in, done_of, IsNew, IsSame, life, LooksAt, released_of, Stays, Steps, Takes};
 ghost use Rattle.sim_report.specs.Show.{show_text};
-ghost use Rattle.sim_wire.specs.Fits.{IsDownFrame};
+ghost use Rattle.sim_wire.specs.{Fits.IsDownFrame, Memory.down_carries};
 
-use crate::acting::{join, play, settle};
+use crate::acting::{join, settle};
 use crate::beginning::first_stage;
+use crate::boards::play_seat;
 use crate::outbox::Outbox;
+use crate::playing::Playing;
 use crate::reading::{hear_frame, order};
 use crate::stage::{Stage, Went};
 use sim_base::{OutOfMemory, Setup, State};
@@ -106,12 +108,16 @@ impl HeldClient {
         settle(&mut self.stage, &mut self.outbox, came)
     }
 
-    /// Hears a frame of the server. Bytes that are none are refused, and nothing changes.
+    /// Hears a frame of the server. Bytes that are none are refused, and nothing changes. A frame is read into memory only where what it
+    /// carries may matter.
     pub fn hear(&mut self, frame: &[u8]) -> Result<Went, OutOfMemory>
         ensures frame { (down : Told) → IsDownFrame frame.now down → (loaded : Option AnyState) → LoadsFrom self.old.setup down loaded
             → Steps (hears self.old.setup loaded down (life self.old)) (life self.old) self.old.outbox result (life self.new) self.new.outbox }
         ensures other { ((down : Told) → IsDownFrame frame.now down → ⊥) → (result ≡ Ok Went.Refused)
             × Stays (life self.old) self.old.outbox (life self.new) self.new.outbox }
+        ensures sure { (down : Told) → IsDownFrame frame.now down → NeedsNoMemory (life self.old) down → IsOk result }
+        ensures idle { (down : Told) → IsDownFrame frame.now down → down_carries down ≡ false → may_load (life self.old) down ≡ false
+            → hears self.old.setup None down (life self.old) ≡ None → IsOk result }
         ensures same { IsSame self.old self.new }
     {
         let came = hear_frame(
@@ -138,17 +144,19 @@ impl HeldClient {
     pub fn play(&mut self, most: u32) -> Result<u32, OutOfMemory>
         ensures ran { Ran (runs self.old.setup most (life self.old)) self.old.outbox result (life self.new) self.new.outbox }
         ensures none { may_run self.old.setup (life self.old) ≡ false → result ≡ Ok 0 }
+        ensures zero { most ≡ 0 → result ≡ Ok 0 }
         ensures same { IsSame self.old self.new }
     {
-        let came = play(
-            self.alloc,
-            &self.setup,
-            &mut self.stage,
-            &mut self.outbox,
-            most,
-            &mut self.kept,
-        );
-        settle(&mut self.stage, &mut self.outbox, came)
+        if most == 0 {
+            return Ok(0);
+        }
+        let out = Playing::take_out(self.alloc, &self.setup, &mut self.stage, &mut self.outbox);
+        let Some(mut playing) = out else {
+            return Ok(0);
+        };
+        let turns = play_seat(self.alloc, &self.setup, &mut playing, most, &mut self.kept)?;
+        playing.put_back(&mut self.stage, &mut self.outbox);
+        Ok(turns)
     }
 
     /// The frames that wait to be sent, one behind another.

@@ -2,8 +2,8 @@
 
 ghost use Rattle.{sim_base.specs.Limits.IsSetup, sim_base.specs.declared.setup.Setup.Setup as AnySetup};
 ghost use Rattle.sim_base.specs.declared.state.State.{State as AnyState};
-ghost use Rattle.std.specs.Prelude.{◌≡◌, OnOk, IfOk, Ok, Option};
-ghost use Rattle.sim_client.specs.{ClientWords.LoadsAt, ClientWords.LoadsFrom, Lives.hears, Lives.Joining, Lives.loads, Lives.refused};
+ghost use Rattle.std.specs.Prelude.{◌≡◌, false, OnOk, IfOk, IsOk, None, Ok, Option};
+ghost use Rattle.sim_client.specs.{ClientWords.LoadsAt, ClientWords.LoadsFrom, ClientWords.may_load, ClientWords.NeedsNoMemory, Lives.hears, Lives.Joining, Lives.loads, Lives.refused};
 ghost use Rattle.sim_held.specs.{Acting.GoesSilently, Acting.IsOn, Clients.Goes, Clients.IsStage, Clients.life_at};
 
 use crate::acting::say;
@@ -27,6 +27,8 @@ pub fn hear(
     requires sound { IsStage setup.now stage.old }
     ensures goes { (loaded : Option AnyState) → LoadsFrom setup.now down loaded
         → Goes (hears setup.now loaded down (life_at stage.old)) (life_at stage.old) outbox.old result (life_at stage.new) outbox.new }
+    ensures sure { NeedsNoMemory (life_at stage.old) down → IsOk result }
+    ensures idle { may_load (life_at stage.old) down ≡ false → hears setup.now None down (life_at stage.old) ≡ None → IsOk result }
     ensures sound { OnOk result (IsStage setup.now stage.new) }
 {
     match stage {
@@ -49,6 +51,8 @@ fn hear_on(
     requires on { IsOn stage.old }
     ensures goes { (loaded : Option AnyState) → Goes (hears setup.now loaded down (life_at stage.old)) (life_at stage.old) outbox.old result
         (life_at stage.new) outbox.new }
+    ensures sure { NeedsNoMemory (life_at stage.old) down → IsOk result }
+    ensures idle { hears setup.now None down (life_at stage.old) ≡ None → IsOk result }
     ensures sound { OnOk result (IsStage setup.now stage.new) }
 {
     let Stage::On { state, seat } = stage else {
@@ -69,6 +73,8 @@ fn hear_joining(
     requires joining { life_at stage.old ≡ Joining }
     ensures goes { (loaded : Option AnyState) → LoadsFrom setup.now down loaded → GoesSilently (hears setup.now loaded down Joining) Joining result
         (life_at stage.new) }
+    ensures sure { NeedsNoMemory Joining down → IsOk result }
+    ensures idle { may_load Joining down ≡ false → IsOk result }
     ensures sound { OnOk result (IsStage setup.now stage.new) }
 {
     match down {

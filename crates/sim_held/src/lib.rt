@@ -11,6 +11,7 @@
 //! - `stage`: what a client keeps, and what a call came to.
 //! - `outbox`: the frames that wait for the server.
 //! - `copying`: a state in memory of its own.
+//! - `playing`: a client that plays, apart from what is held.
 //! - `boards`: the first state, and turns on a board that is made for the call.
 //! - `turns`: the turns that a client plays on a board.
 //! - `beginning`, `acting`, `hearing`: how a client begins, its steps, and what it hears.
@@ -29,6 +30,7 @@ mod hearing;
 mod held;
 mod outbox;
 mod planning;
+mod playing;
 mod reading;
 mod server;
 mod stage;

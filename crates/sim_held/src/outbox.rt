@@ -1,6 +1,6 @@
 //! The frames of what a client says, one behind another, until they are sent.
 
-ghost use Rattle.std.specs.{List.flat_map, Prelude.◌≡◌, Prelude.[], Prelude.◌++◌, Prelude.OnOk, Prelude.All};
+ghost use Rattle.std.specs.{List.flat_map, Prelude.◌≡◌, Prelude.[], Prelude.◌++◌, Prelude.OnOk, Prelude.IsOk, Prelude.All};
 ghost use Rattle.sim_held.specs.Clients.{frames_of};
 ghost use Rattle.sim_wire.specs.{Fits.IsSmallUp, Frames.up_frame};
 
@@ -71,7 +71,8 @@ impl Outbox {
     /// Puts the frames of messages behind all that waits, in order.
     pub fn push_all(&mut self, ups: &[Up]) -> Result<(), OutOfMemory>
         requires { All IsSmallUp ups.now }
-        ensures { OnOk result (self.new ≡ self.old ++ frames_of ups.now) }
+        ensures pushed { OnOk result (self.new ≡ self.old ++ frames_of ups.now) }
+        ensures none { ups.now ≡ [] → IsOk result }
     {
         for up in ups {
             self.push(up)?;

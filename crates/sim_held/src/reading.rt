@@ -1,10 +1,10 @@
 //! Bytes that a client is given: a command that its player gives, and a frame of the server.
 
 ghost use Rattle.{serde_json.specs.View.view, sim_base.specs.Limits.HasFewIds, sim_base.specs.Limits.IsSetup, sim_base.specs.declared.state.State.State as AnyState};
-ghost use Rattle.std.specs.{Str.is_utf8, Prelude.◌≡◌, Prelude.false, Prelude.IfOk, Prelude.IfSome, Prelude.OnOk, Prelude.None, Prelude.Ok, Prelude.Option, Prelude.option_map};
-ghost use Rattle.sim_client.specs.{ClientWords.LoadsFrom, Lives.hears, Lives.orders, Lives.Told};
-ghost use Rattle.sim_held.specs.{Acting.Heeds, Clients.command_in, Clients.Goes, Clients.IsStage, Clients.life_at, Clients.Stays};
-ghost use Rattle.sim_wire.specs.Fits.{IsDownFrame};
+ghost use Rattle.std.specs.{Str.is_utf8, Prelude.◌≡◌, Prelude.true, Prelude.false, Prelude.IfOk, Prelude.IfSome, Prelude.IsErr, Prelude.IsOk, Prelude.OnOk, Prelude.None, Prelude.Ok, Prelude.Option, Prelude.option_map};
+ghost use Rattle.sim_client.specs.{ClientWords.LoadsFrom, ClientWords.may_load, ClientWords.NeedsNoMemory, Lives.hears, Lives.orders, Lives.Told};
+ghost use Rattle.sim_held.specs.{Acting.Heeds, Clients.command_in, Clients.Goes, Clients.IsStage, Clients.life_at, Clients.Stays, Hearing.brings_state as brings_state_by, Hearing.goes_by};
+ghost use Rattle.sim_wire.specs.{Fits.IsDownFrame, Memory.down_carries};
 
 use crate::acting::give;
 use crate::hearing::hear;
@@ -65,12 +65,42 @@ pub fn hear_frame(
         → Goes (hears setup.now loaded down (life_at stage.old)) (life_at stage.old) outbox.old result (life_at stage.new) outbox.new }
     ensures other { ((down : Told) → IsDownFrame bytes.now down → ⊥) → (result ≡ Ok Went.Refused)
         × Stays (life_at stage.old) outbox.old (life_at stage.new) outbox.new }
+    ensures sure { (down : Told) → IsDownFrame bytes.now down → NeedsNoMemory (life_at stage.old) down → IsOk result }
+    ensures idle { (down : Told) → IsDownFrame bytes.now down → down_carries down ≡ false → may_load (life_at stage.old) down ≡ false
+        → hears setup.now None down (life_at stage.old) ≡ None → IsOk result }
     ensures sound { OnOk result (IsStage setup.now stage.new) }
 {
     match unframe_down(alloc, bytes) {
         Ok(down) => hear(alloc, setup, stage, outbox, down),
-        Err(WireFault::OutOfMemory) => Err(OutOfMemory),
+        Err(WireFault::OutOfMemory) => pass_by(stage, bytes),
         Err(WireFault::TooLong) => Ok(Went::Refused),
         Err(WireFault::NotFrame) => Ok(Went::Refused),
+    }
+}
+
+// A frame that there is no memory to read: a state or a command. Where it changes nothing it need not be read.
+fn pass_by(stage: &Stage, bytes: &[u8]) -> Result<Went, OutOfMemory>
+    ensures passes { (down : Told) → IsDownFrame bytes.now down → goes_by (life_at stage.now) down ≡ true → result ≡ Ok Went.Idle }
+    ensures refuses { (down : Told) → IsDownFrame bytes.now down → goes_by (life_at stage.now) down ≡ false → IsErr result }
+{
+    let passes = match stage {
+        Stage::Off => true,
+        Stage::Joining => !brings_state(bytes),
+        Stage::On { .. } => brings_state(bytes),
+    };
+    if passes {
+        Ok(Went::Idle)
+    } else {
+        Err(OutOfMemory)
+    }
+}
+
+// Whether a frame brings the bytes of a state, which the tag behind its length says.
+fn brings_state(frame: &[u8]) -> bool
+    ensures { (down : Told) → IsDownFrame frame.now down → result ≡ brings_state_by down }
+{
+    match frame {
+        [_, _, _, _, tag, ..] => *tag == 2,
+        _ => false,
     }
 }

@@ -1,7 +1,7 @@
 //! The turn server that is held.
 
-ghost use Rattle.{sim_held.specs.Servers.frames_for, sim_held.specs.Servers.is_client as is_client_of, sim_server.specs.Standing.server_of};
-ghost use Rattle.std.specs.Prelude.{◌≡◌, ℕ, ◌≤◌, List, [], ◌&&◌, nat_le, nat_lt, false, IfOk, IfErr, OnErr, Ok, Option};
+ghost use Rattle.{sim_held.specs.Servers.frames_for, sim_held.specs.Servers.is_client as is_client_of, sim_held.specs.Servers.waiting, sim_server.specs.Standing.server_of};
+ghost use Rattle.std.specs.Prelude.{◌≡◌, ℕ, ◌≤◌, List, [], ◌&&◌, nat_le, nat_lt, true, false, IfOk, IfErr, IsOk, OnErr, Ok, Option};
 ghost use Rattle.sim_embed.specs.{Bytes.OfMatch, Causes.IsNoMatch};
 ghost use Rattle.sim_held.specs.Servers.{Answers, CutsOff, Hears, IsServer, IsServerOf, Leaves};
 ghost use Rattle.sim_plain.specs.{Messages.Heard, declared.message.UpOf.UpOf};
@@ -85,7 +85,11 @@ impl HeldServer {
             → Answers (is_client_of self.old.server from) Went.Done (Hears (Heard from message)) self.old result self.new }
         ensures other { ((message : UpOf (List ℕ)) → IsUpFrame frame.now message → ⊥)
             → Answers (is_client_of self.old.server from) Went.Refused (CutsOff from) self.old result self.new }
+        ensures nobody { is_client_of self.old.server from ≡ false → result ≡ Ok Went.Idle }
     {
+        if !is_client(self.clients, from) {
+            return Ok(Went::Idle);
+        }
         match unframe_up(self.alloc, frame) {
             Ok(up) => self.hear_up(from, up),
             Err(WireFault::OutOfMemory) => Err(OutOfMemory),
@@ -95,12 +99,10 @@ impl HeldServer {
 
     // Hears what a client says.
     fn hear_up(&mut self, from: u8, up: Up) -> Result<Went, OutOfMemory>
-        requires { IsSmallUp up }
-        ensures { Answers (is_client_of self.old.server from) Went.Done (Hears (Heard from up)) self.old result self.new }
+        requires small { IsSmallUp up }
+        requires client { is_client_of self.old.server from ≡ true }
+        ensures { Answers true Went.Done (Hears (Heard from up)) self.old result self.new }
     {
-        if !is_client(self.clients, from) {
-            return Ok(Went::Idle);
-        }
         self.said.reserve(1)?;
         let posts = self.server.hear(from, up)?;
         keep(&mut self.said, posts);
@@ -109,12 +111,9 @@ impl HeldServer {
 
     // Cuts a client off, and answers so.
     fn cut_as(&mut self, client: u8, went: Went) -> Result<Went, OutOfMemory>
-        ensures cuts { Answers (is_client_of self.old.server client) went (CutsOff client) self.old result self.new }
-        ensures nobody { is_client_of self.old.server client ≡ false → result ≡ Ok Went.Idle }
+        requires { is_client_of self.old.server client ≡ true }
+        ensures { Answers true went (CutsOff client) self.old result self.new }
     {
-        if !is_client(self.clients, client) {
-            return Ok(Went::Idle);
-        }
         self.said.reserve(1)?;
         let posts = self.server.cut(client)?;
         leave(self.alloc, &mut self.said, client);
@@ -127,6 +126,9 @@ impl HeldServer {
         ensures cuts { Answers (is_client_of self.old.server client) Went.Done (CutsOff client) self.old result self.new }
         ensures nobody { is_client_of self.old.server client ≡ false → result ≡ Ok Went.Idle }
     {
+        if !is_client(self.clients, client) {
+            return Ok(Went::Idle);
+        }
         self.cut_as(client, Went::Done)
     }
 
@@ -134,6 +136,8 @@ impl HeldServer {
     pub fn said(&self, client: u8) -> Result<Vec<u8>, OutOfMemory>
         ensures bytes { IfOk result (λ bytes. bytes.items ≡ frames_for self.now.said client) }
         ensures nobody { is_client_of self.now.server client ≡ false → IfOk result (λ bytes. bytes.items ≡ []) }
+        ensures none { waiting self.now.said client ≡ [] → IsOk result }
+        ensures stranger { is_client_of self.now.server client ≡ false → IsOk result }
     {
         frames_to(self.alloc, &self.said, client)
     }
@@ -149,6 +153,8 @@ impl HeldServer {
     pub fn take(&mut self, client: u8) -> Result<Vec<u8>, OutOfMemory>
         ensures bytes { IfOk result (λ bytes. (bytes.items ≡ frames_for self.old.said client) × Leaves client self.old self.new) }
         ensures nobody { is_client_of self.old.server client ≡ false → IfOk result (λ bytes. bytes.items ≡ []) }
+        ensures none { waiting self.old.said client ≡ [] → IsOk result }
+        ensures stranger { is_client_of self.old.server client ≡ false → IsOk result }
         ensures err { OnErr result (self.new ≡ self.old) }
     {
         let bytes = frames_to(self.alloc, &self.said, client)?;

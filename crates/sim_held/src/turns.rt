@@ -1,14 +1,14 @@
 //! The turns that a client plays on a board, with what it says of each in its outbox.
 
-ghost use Rattle.{sim_board.specs.BoardWords.state_in, sim_client.specs.Lives.On, sim_client.specs.StageWords.IsPlaying, sim_client.specs.StageWords.player_at};
+ghost use Rattle.{sim_board.specs.BoardWords.setup_in, sim_board.specs.BoardWords.state_in, sim_client.specs.Lives.On, sim_client.specs.StageWords.IsPlaying, sim_client.specs.StageWords.player_at};
 ghost use Rattle.std.specs.Prelude.{◌≡◌, ◌++◌, OnOk, IfOk, All};
 ghost use Rattle.sim_client.specs.Lives.{plays};
 ghost use Rattle.sim_held.specs.{Clients.frames_of, Runs.goes_on, Runs.runs, Turns.PlaysOnce, Turns.RanOn};
 
-use crate::outbox::Outbox;
+use crate::playing::Playing;
 use sim_base::{OutOfMemory, Setup};
 use sim_board::Board;
-use sim_client::{Did, Seat, play};
+use sim_client::{Did, play};
 use sim_orders::OrderTable;
 use sim_system::System;
 use std::alloc::Global;
@@ -19,40 +19,38 @@ fn play_once(
     setup: &Setup,
     orders: &OrderTable,
     board: &mut Board<'_>,
-    seat: &mut Seat,
-    outbox: &mut Outbox,
+    playing: &mut Playing,
 ) -> Result<bool, OutOfMemory>
-    requires { IsPlaying setup.now board.old seat.old ⟦<dyn System as System>⟧ }
-    ensures plays { let old = On (player_at (state_in board.old) seat.old) in IfOk result (λ there. PlaysOnce (plays setup.now old) old outbox.old there
-        (On (player_at (state_in board.new) seat.new)) outbox.new) }
-    ensures playing { OnOk result (IsPlaying setup.now board.new seat.new ⟦<dyn System as System>⟧) }
+    requires { IsPlaying setup.now board.old playing.old.seat ⟦<dyn System as System>⟧ }
+    ensures plays { let old = On (player_at (state_in board.old) playing.old.seat) in IfOk result (λ there. PlaysOnce (plays setup.now old) old
+        playing.old.outbox there (On (player_at (state_in board.new) playing.new.seat)) playing.new.outbox) }
+    ensures playing { OnOk result (IsPlaying setup.now board.new playing.new.seat ⟦<dyn System as System>⟧) }
 {
-    match play(alloc, setup, orders, board, seat)? {
+    match play(alloc, setup, orders, board, &mut playing.seat)? {
         Did::Idle => Ok(false),
         Did::Done { up } => {
-            outbox.push_all(up.as_slice())?;
+            playing.outbox.push_all(up.as_slice())?;
             Ok(true)
         }
     }
 }
 
-/// Plays the turns that are released, at most so many, and answers how many these were.
+/// Plays the turns that are released, at most so many, and answers how many these were. The state is that of the board.
 pub fn play_turns(
     alloc: Global,
-    setup: &Setup,
     orders: &OrderTable,
     board: &mut Board<'_>,
-    seat: &mut Seat,
-    outbox: &mut Outbox,
+    playing: &mut Playing,
     most: u32,
 ) -> Result<u32, OutOfMemory>
-    requires { IsPlaying setup.now board.old seat.old ⟦<dyn System as System>⟧ }
-    ensures ran { let run = runs setup.now most (On (player_at (state_in board.old) seat.old)) in IfOk result (λ turns. RanOn run outbox.old turns
-        (On (player_at (state_in board.new) seat.new)) outbox.new) }
-    ensures playing { OnOk result (IsPlaying setup.now board.new seat.new ⟦<dyn System as System>⟧) }
+    requires { IsPlaying (setup_in board.old) board.old playing.old.seat ⟦<dyn System as System>⟧ }
+    ensures ran { let run = runs (setup_in board.old) most (On (player_at (state_in board.old) playing.old.seat)) in IfOk result (λ turns. RanOn run
+        playing.old.outbox turns (On (player_at (state_in board.new) playing.new.seat)) playing.new.outbox) }
+    ensures playing { OnOk result (IsPlaying (setup_in board.old) board.new playing.new.seat ⟦<dyn System as System>⟧) }
 {
+    let setup = board.setup();
     for played in 0..most {
-        let there = play_once(alloc, setup, orders, board, seat, outbox)?;
+        let there = play_once(alloc, setup, orders, board, playing)?;
         if !there {
             return Ok(played);
         }

@@ -2,7 +2,7 @@
 //! made as they are taken.
 
 ghost use Rattle.std.specs.{List.flat_map, Prelude.◌≡◌, Prelude.ℕ, Prelude.◌<◌, Prelude.◌≤◌, Prelude.not, Prelude.[], Prelude.◌∷◌, Prelude.◌++◌, Prelude.map};
-ghost use Rattle.std.specs.Prelude.{OnOk, IfOk, All, if◌then◌else◌, ◌==◌, filter, vec_len, vec_capacity};
+ghost use Rattle.std.specs.Prelude.{OnOk, IfOk, IsOk, All, if◌then◌else◌, ◌==◌, filter, vec_len, vec_capacity};
 ghost use Rattle.{sim_held.specs.Servers.AreSmall, sim_held.specs.Servers.frames_for, sim_held.specs.Servers.has_some as has_some_of, sim_held.specs.Servers.waiting, sim_pipes.specs.Posts.told_to};
 ghost use Rattle.{sim_held.specs.Servers.WaitsForClients, sim_server.specs.Standing.View};
 ghost use Rattle.sim_wire.specs.{Fits.IsSmallDown, Frames.down_frame};
@@ -25,7 +25,8 @@ fn push_frame(alloc: Global, out: &mut Vec<u8>, down: &Down) -> Result<(), OutOf
 #[tactic(auto, using(crate::proofs::Frames::flat_map_one))]
 fn push_post(alloc: Global, out: &mut Vec<u8>, to: u8, post: &Post) -> Result<(), OutOfMemory>
     requires { IsSmallDown post.now.down }
-    ensures { OnOk result (out.new.items ≡ out.old.items ++ flat_map down_frame (told_to to (post.now ∷ []))) }
+    ensures frames { OnOk result (out.new.items ≡ out.old.items ++ flat_map down_frame (told_to to (post.now ∷ []))) }
+    ensures none { told_to to (post.now ∷ []) ≡ [] → IsOk result }
 {
     if post.to == to {
         push_frame(alloc, out, &post.down)?;
@@ -36,7 +37,8 @@ fn push_post(alloc: Global, out: &mut Vec<u8>, to: u8, post: &Post) -> Result<()
 // Appends the frames of the posts to a client.
 fn push_posts(alloc: Global, out: &mut Vec<u8>, to: u8, posts: &[Post]) -> Result<(), OutOfMemory>
     requires { All (λ post. IsSmallDown post.down) posts.now }
-    ensures { OnOk result (out.new.items ≡ out.old.items ++ flat_map down_frame (told_to to posts.now)) }
+    ensures frames { OnOk result (out.new.items ≡ out.old.items ++ flat_map down_frame (told_to to posts.now)) }
+    ensures none { told_to to posts.now ≡ [] → IsOk result }
 {
     for post in posts {
         push_post(alloc, out, to, post)?;
@@ -47,7 +49,8 @@ fn push_posts(alloc: Global, out: &mut Vec<u8>, to: u8, posts: &[Post]) -> Resul
 /// The frames of all that waits for a client, one behind another.
 pub fn frames_to(alloc: Global, said: &[Posts], to: u8) -> Result<Vec<u8>, OutOfMemory>
     requires { AreSmall said.now }
-    ensures { IfOk result (λ bytes. bytes.items ≡ frames_for said.now to) }
+    ensures frames { IfOk result (λ bytes. bytes.items ≡ frames_for said.now to) }
+    ensures none { waiting said.now to ≡ [] → IsOk result }
 {
     let mut out = Vec::new(alloc);
     for posts in said {

@@ -1,5 +1,6 @@
 -- How files are taken from bytes one by one, and put on a shelf.
-use Rattle.std.proofs.Common.{◌≡◌, ℕ, zero, suc, ◌<◌, ◌≤◌, Bool, true, false, ◌≢◌, List, [], ◌∷◌, length, if◌then◌else◌, Some, None, refl, arith, sym, ◌∙◌}
+use Rattle.std.proofs.Common.{◌≡◌, ℕ, zero, suc, ◌<◌, ◌≤◌, Bool, true, false, ◌≢◌, List, [], ◌∷◌, length, if◌then◌else◌, Some, None, refl, ap, arith, sym, ◌∙◌}
+use Rattle.std.specs.Prelude.{is_some}
 use Rattle.std.{proofs.lemmas.Bool.false≢true, proofs.lemmas.Slice.Eq.bytes_eq-Decides, specs.Str.bytes_eq}
 use Rattle.sim_packed.specs.Files.{file_at, files_from, files_in, Holds, HoldSame}
 use Rattle.sim_store.specs.{Files.File, Files.file_in, Files.FileSet, MemShelf.counts_on, MemShelf.files_on, declared.mem_shelf.MemShelf.MemShelf}
@@ -43,14 +44,47 @@ next bytes (b ∷ rest) more shelf shelf' file so found shorter put kept = by so
           holds = record { same = HoldSame-put _ _ so.done file put so.holds.same; counts = kept ∙ so.holds.counts };
         }
 
--- what is left is no file
-pub none : (bytes rest : List ℕ) (shelf : MemShelf) → IsUnpackedTo bytes rest shelf → 0 < length rest → file_at rest ≡ None → files_in bytes ≡ None
-none bytes [] shelf so some lost = absurd (omega (arith, some))
-none bytes (b ∷ rest) shelf so some lost = by so.most so.enough so.same
+-- the files so far are those of the bytes before, whatever holds them
+pub record IsReadTo (bytes rest : List ℕ) : Type 0 where
+  pub most : ℕ
+  pub done : List File
+  pub enough : length rest ≤ most
+  pub same : files_from most rest done ≡ files_in bytes
+
+-- nothing is read yet
+pub read_none : (bytes : List ℕ) → IsReadTo bytes bytes
+read_none bytes = record { most = length bytes; done = []; enough = omega arith; same = refl }
+
+-- one file more is read
+pub read_next : (bytes rest more : List ℕ) (file : File) → IsReadTo bytes rest → file_at rest ≡ Some (file, more) → length more < length rest
+    → IsReadTo bytes more
+read_next bytes [] more file so found shorter = absurd (omega (arith, shorter))
+read_next bytes (b ∷ rest) more file so found shorter = by so.most so.enough so.same
+  where
+    by : (most : ℕ) → length (b ∷ rest) ≤ most → files_from most (b ∷ rest) so.done ≡ files_in bytes → IsReadTo bytes more
+    by zero enough same = absurd (omega (arith, enough))
+    by (suc most) enough same =
+        let step : files_from most more (file ∷ so.done) ≡ files_in bytes = rw found at same in
+        record { most = most; done = file ∷ so.done; enough = omega (arith, enough, shorter); same = step }
+
+-- what is left to be read is no file
+pub read_ends : (bytes rest : List ℕ) → IsReadTo bytes rest → 0 < length rest → file_at rest ≡ None → files_in bytes ≡ None
+read_ends bytes [] so some lost = absurd (omega (arith, some))
+read_ends bytes (b ∷ rest) so some lost = by so.most so.enough so.same
   where
     by : (most : ℕ) → length (b ∷ rest) ≤ most → files_from most (b ∷ rest) so.done ≡ files_in bytes → files_in bytes ≡ None
     by zero enough same = absurd (omega (arith, enough))
     by (suc most) enough same = sym (rw lost at same)
+
+-- all is read
+pub read_all : (bytes rest : List ℕ) → IsReadTo bytes rest → length rest ≡ 0 → is_some (files_in bytes) ≡ true
+read_all bytes [] so empty = ap is_some (sym so.same)
+read_all bytes (b ∷ rest) so empty = absurd (omega (arith, empty))
+
+-- what is left is no file
+pub none : (bytes rest : List ℕ) (shelf : MemShelf) → IsUnpackedTo bytes rest shelf → 0 < length rest → file_at rest ≡ None → files_in bytes ≡ None
+none bytes rest shelf so some lost =
+    read_ends bytes rest (record { most = so.most; done = so.done; enough = so.enough; same = so.same }) some lost
 
 -- nothing is left
 pub all : (bytes rest : List ℕ) (shelf : MemShelf) → IsUnpackedTo bytes rest shelf → length rest ≡ 0

@@ -28,7 +28,7 @@ pub record IsRun (words files : List ℕ) (printed : Printed) : Type 0 where
   pub same : HoldSame held spelled
   pub ran : IsRunOn (words_in words) held printed
 
--- there is no run since the bytes spell no files, or for want of memory
+-- there is no run since the bytes spell no files, or for want of memory, which is wanted only where they do
 abbrev pub IsUnrun : List ℕ → Unrun → Type 0
 IsUnrun files causes.Files = files_in files ≡ None
-IsUnrun files causes.OutOfMemory = Unit {0}
+IsUnrun files causes.OutOfMemory = files_in files ≢ None

@@ -1,8 +1,8 @@
 //! The files that bytes spell: of each the length of its name in four bytes, the lowest first, the name, the length of its content in four
 //! bytes, and the content.
 
-ghost use Rattle.std.specs.Prelude.{◌≡◌, ◌<◌, length, IfSome, IfOk, option_map};
-ghost use Rattle.sim_packed.specs.Files.{file_at, piece_at, HoldsSpelled, unpacked_of};
+ghost use Rattle.std.specs.Prelude.{◌≡◌, ◌<◌, length, is_some, IfSome, IfOk, None, Ok, option_map};
+ghost use Rattle.sim_packed.specs.Files.{file_at, files_in, piece_at, HoldsSpelled, unpacked_of};
 
 use crate::words::text_of;
 use sim_base::OutOfMemory;
@@ -18,10 +18,14 @@ struct Unpacked<'a> {
 }
 
 /// A shelf that holds the files, of those with one name the last, and gives each file that is made the room that a file may have. None
-/// where the bytes spell no files.
+/// where the bytes spell no files, which is found without memory.
 pub fn shelf_from(alloc: Global, bytes: &[u8]) -> Result<Option<MemShelf>, OutOfMemory>
-    ensures { IfOk result (HoldsSpelled bytes.now) }
+    ensures shelf { IfOk result (HoldsSpelled bytes.now) }
+    ensures none { files_in bytes.now ≡ None → result ≡ Ok None }
 {
+    if !are_files(bytes) {
+        return Ok(None);
+    }
     let mut shelf = MemShelf::new(alloc, MAX_FILE)?;
     let mut rest = bytes;
     while !rest.is_empty() {
@@ -32,6 +36,20 @@ pub fn shelf_from(alloc: Global, bytes: &[u8]) -> Result<Option<MemShelf>, OutOf
         rest = file.rest;
     }
     Ok(Some(shelf))
+}
+
+// Whether bytes spell files.
+fn are_files(bytes: &[u8]) -> bool
+    ensures { result ≡ is_some (files_in bytes.now) }
+{
+    let mut left = bytes;
+    while !left.is_empty() {
+        let Some(file) = first_file(left) else {
+            return false;
+        };
+        left = file.rest;
+    }
+    true
 }
 
 fn first_file(bytes: &[u8]) -> Option<Unpacked<'_>>

@@ -51,10 +51,10 @@ pub fn run(alloc: Global, words: &[u8], files: &[u8]) -> Result<Printed, Unrun>
     ensures is { IfOk result (IsRun words.now files.now) }
     ensures refused { IfErr result (IsUnrun files.now) }
 {
-    let words = words_from(alloc, words)?;
     let Some(mut shelf) = shelf_from(alloc, files)? else {
         return Err(Unrun::Files);
     };
+    let words = words_from(alloc, words)?;
     Ok(run_on(alloc, &words, &mut shelf)?)
 }
 

@@ -6,7 +6,7 @@ use Rattle.sim_held.proofs.turns.play_turns.Given as goal
 abbrev pub invariant-loop-played : goal.invariant-loop-played
 invariant-loop-played g l =
     record {
-      ran : RanOn (runs l.setup l.played (On (player_at (state_in l.fn.board) l.fn.seat))) l.fn.outbox l.played (On (player_at (state_in l.board) l.seat))
-          l.outbox;
-      playing : IsPlayingBy l.setup l.board l.seat (λ i v. (goal.System-dyn g (i, v)).meaning v);
+      ran : RanOn (runs l.setup l.played (On (player_at (state_in l.fn.board) l.fn.playing.seat))) l.fn.playing.outbox l.played
+          (On (player_at (state_in l.board) l.playing.seat)) l.playing.outbox;
+      playing : IsPlayingBy l.setup l.board l.playing.seat (λ i v. (goal.System-dyn g (i, v)).meaning v);
     }

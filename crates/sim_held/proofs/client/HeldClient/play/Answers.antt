@@ -1,6 +1,16 @@
--- No turn is released, and none is played.
-use Rattle.sim_held.proofs.{Common.◌∙◌}
+-- One that may not play is as it was, and nothing is played.
+use Rattle.sim_held.proofs.{Common.life_at, Common.subst, Common.sym, Running.no_run, Running.ran}
+use Rattle.sim_held.specs.{Runs.runs, Turns.RanOn}
 use Rattle.sim_held.proofs.client.HeldClient.play.Goals as goal
 
-pub returns-clause-none : goal.returns-clause-none
-returns-clause-none c = rw (← c.self.view_is) (λ no. c.settle.ensures.same ∙ c.play-came.ensures.none no)
+pub returns-in_default-clause-ran : goal.returns-in_default-clause-ran
+returns-in_default-clause-ran c =
+    let before = c.self.inside in
+    let out = c.take_out-out.new in
+    let none = c.in_default.ensures in
+    let run = runs before.setup c.args.most (life_at before.stage) in
+    rw (← c.self.view_is)
+    (ran run before.outbox 0 (life_at out.stage) out.outbox
+    (subst (λ at. RanOn run before.outbox 0 (life_at at) out.outbox) (sym none.1)
+    (subst (λ said. RanOn run before.outbox 0 (life_at before.stage) said) (sym none.2)
+    (no_run before.setup (life_at before.stage) before.outbox c.args.most none.0))))

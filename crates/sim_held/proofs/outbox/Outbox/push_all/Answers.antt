@@ -11,6 +11,6 @@ loop-up-preserved c =
     appended_more up_frame c.args.ups.now c.loop-up.up-index c.up-item.result c.args.self.now c.loop-up.self c.push.new.self
     (omega (arith, c.loop-up-test.true)) c.up-item.is c.loop-up.invariant c.in_ok-push.ensures
 
-pub returns : goal.returns
-returns c = c.loop-up.invariant ∙
+pub returns-clause-pushed : goal.returns-clause-pushed
+returns-clause-pushed c = c.loop-up.invariant ∙
     ap (λ l. c.args.self.now ++ frames_of l) (take_all c.loop-up.up-index c.args.ups.now (omega (arith, c.loop-up-test.false)))

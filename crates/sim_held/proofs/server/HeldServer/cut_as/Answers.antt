@@ -1,9 +1,8 @@
 -- What is said has frames, and waits behind the rest.
-use Rattle.sim_held.proofs.{Common.ap, Common.Ok, Common.[], Common.◌++◌, Common.if◌then◌else◌, Common.told_to, Common.refl, Common.subst, Common.sym, Common.◌∙◌, Serving.answered, Serving.cut_by, Serving.own_after, Serving.own_still, Serving.ready_after}
+use Rattle.sim_held.proofs.{Common.ap, Common.Ok, Common.[], Common.◌++◌, Common.if◌then◌else◌, Common.told_to, Common.refl, Common.subst, Common.sym, Common.◌∙◌, Serving.cut_by, Serving.own_after, Serving.own_still, Serving.ready_after}
 use Rattle.{sim_plain.specs.Messages.Cut, sim_pipes.proofs.Answering.have_frames}
 use Rattle.std.proofs.{Common.◌==◌}
-use Rattle.std.specs.Prelude.{◌&&◌, nat_le, nat_lt}
-use Rattle.sim_held.specs.Servers.{AreSmall, CutsOff, waiting}
+use Rattle.sim_held.specs.Servers.{AreSmall, waiting}
 use Rattle.sim_held.proofs.server.HeldServer.cut_as.Goals as goal
 
 pub invariant_of-self-in_err-posts : goal.invariant_of-self-in_err-posts
@@ -25,13 +24,13 @@ invariant_of-self-2 c =
     (c.leave.ensures.own before.server (own_still before.server before.server before.said.items _ refl c.in_ok-reserve.ensures.items c.self.invariant.own))
     c.keep.ensures.said)
 
-pub returns-clause-cuts : goal.returns-clause-cuts
-returns-clause-cuts c =
+pub returns : goal.returns
+returns c =
     let before = c.self.inside in
     let client = c.args.client in
-    let there = ap (λ n. nat_lt 0 client && nat_le client n) (sym c.self.invariant.count) ∙ sym c.is_client.ensures ∙ c.if-not-is_client.false in
-    rw (← c.self.view_is)
-    (answered _ _ (CutsOff client) _ _ there
-    (cut_by before.server c.cut.new.self client c.in_ok-posts.posts before.said.items c.keep.new.said.items c.in_ok-posts.ensures.made
-    (λ d. c.keep.ensures.said d ∙ ap (λ l. l ++ told_to d c.in_ok-posts.posts)
-    (c.leave.ensures.said d ∙ ap (λ l. if d == client then [] else waiting l d) c.in_ok-reserve.ensures.items))))
+    rw (← c.self.view_is) (
+      refl,
+      cut_by before.server c.cut.new.self client c.in_ok-posts.posts before.said.items c.keep.new.said.items c.in_ok-posts.ensures.made
+          (λ d. c.keep.ensures.said d ∙ ap (λ l. l ++ told_to d c.in_ok-posts.posts)
+          (c.leave.ensures.said d ∙ ap (λ l. if d == client then [] else waiting l d) c.in_ok-reserve.ensures.items)),
+    )

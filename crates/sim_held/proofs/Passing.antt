@@ -1,0 +1,95 @@
+-- What a client hears without memory.
+use Rattle.sim_base.specs.declared.{setup.Setup.Setup, state.State.State}
+use Rattle.sim_client.specs.{ClientWords.Answers, ClientWords.NeedsNoMemory, declared.did.Did.Did, declared.did.Did.TheVariants.Done, declared.did.Did.TheVariants.Idle}
+use Rattle.sim_client.specs.LifeLaws.{says_of}
+use Rattle.{sim_client.specs.Lives.Told, sim_held.specs.Acting.said_by, sim_held.specs.Hearing.brings_state, sim_held.specs.Hearing.goes_by}
+use Rattle.sim_held.proofs.Common.{◌≡◌, ℕ, ◌<◌, Bool, true, false, List, [], length, Some, None, Ok, Option, if◌then◌else◌, refl, arith, subst, sym, ◌∙◌}
+use Rattle.sim_held.proofs.Common.{Act, hears, Joining, Life, Off, On}
+use Rattle.{sim_plain_session.specs.Players.Player, sim_wire.specs.Fits.IsDownFrame, sim_wire.specs.Frames.down_frame, sim_wire.specs.Memory.down_carries}
+use Rattle.std.{proofs.lemmas.Bool.false≢true, specs.Prelude.nat_eq, specs.Prelude.nat_lt, specs.Prelude.slice_index_or}
+use Rattle.sim_base.specs.Bytes.{u32_bytes}
+use Rattle.sim_plain.specs.declared.message.DownOf.TheVariants as down
+
+-- ---- a state or a command that a client need not read
+
+pub passed : (setup : Setup) (loaded : Option State) (said : Told) (life : Life) → down_carries said ≡ true → goes_by life said ≡ true
+    → hears setup loaded said life ≡ None
+passed setup loaded said Off carries by = refl
+passed setup loaded (down.Ask j) Joining carries by = refl
+passed setup loaded (down.State done bytes) Joining carries by = absurd (false≢true by)
+passed setup loaded (down.Command t order) Joining carries by = refl
+passed setup loaded (down.Release t) Joining carries by = refl
+passed setup loaded (down.Notice t j) Joining carries by = refl
+passed setup loaded (down.Refused code) Joining carries by = absurd (false≢true carries)
+passed setup loaded (down.Ask j) (On player) carries by = absurd (false≢true by)
+passed setup loaded (down.State done bytes) (On player) carries by = refl
+passed setup loaded (down.Command t order) (On player) carries by = absurd (false≢true by)
+passed setup loaded (down.Release t) (On player) carries by = absurd (false≢true by)
+passed setup loaded (down.Notice t j) (On player) carries by = refl
+passed setup loaded (down.Refused code) (On player) carries by = refl
+
+-- one that it has to read needs memory
+pub not_passed : (said : Told) (life : Life) → down_carries said ≡ true → goes_by life said ≡ false → NeedsNoMemory life said → ⊥
+not_passed said Off carries by none = absurd (false≢true (sym by))
+not_passed (down.Ask j) Joining carries by none = absurd (false≢true carries)
+not_passed (down.State done bytes) Joining carries by none = none
+not_passed (down.Command t order) Joining carries by none = absurd (false≢true (sym by))
+not_passed (down.Release t) Joining carries by none = absurd (false≢true carries)
+not_passed (down.Notice t j) Joining carries by none = absurd (false≢true carries)
+not_passed (down.Refused code) Joining carries by none = absurd (false≢true carries)
+not_passed (down.Ask j) (On player) carries by none = none
+not_passed (down.State done bytes) (On player) carries by none = absurd (false≢true (sym by))
+not_passed (down.Command t order) (On player) carries by none = none
+not_passed (down.Release t) (On player) carries by none = absurd (false≢true carries)
+not_passed (down.Notice t j) (On player) carries by none = absurd (false≢true carries)
+not_passed (down.Refused code) (On player) carries by none = absurd (false≢true carries)
+
+-- ---- the tag of a frame
+
+-- it stands behind four bytes
+tag_of : (said : Told) → nat_eq (slice_index_or (down_frame said) 4 0) 2 ≡ brings_state said
+unfolding u32_bytes
+tag_of (down.Ask j) = refl
+tag_of (down.State done bytes) = refl
+tag_of (down.Command t order) = refl
+tag_of (down.Release t) = refl
+tag_of (down.Notice t j) = refl
+tag_of (down.Refused code) = refl
+
+pub tag_tells : (frame : List ℕ) (said : Told) → IsDownFrame frame said → nat_eq (slice_index_or frame 4 0) 2 ≡ brings_state said
+tag_tells frame said is = subst (λ (l : List ℕ). nat_eq (slice_index_or l 4 0) 2 ≡ brings_state said) (sym is.framed) (tag_of said)
+
+-- and fewer bytes than five are no frame
+has_tag : (said : Told) → length (down_frame said) < 5 → ⊥
+unfolding u32_bytes
+has_tag (down.Ask j) few = absurd (omega (arith, few))
+has_tag (down.State done bytes) few = absurd (omega (arith, few))
+has_tag (down.Command t order) few = absurd (omega (arith, few))
+has_tag (down.Release t) few = absurd (omega (arith, few))
+has_tag (down.Notice t j) few = absurd (omega (arith, few))
+has_tag (down.Refused code) few = absurd (omega (arith, few))
+
+pub frames_have_tags : (frame : List ℕ) (said : Told) → IsDownFrame frame said → length frame < 5 → ⊥
+frames_have_tags frame said is few = has_tag said (subst (λ (l : List ℕ). length l < 5) is.framed few)
+
+-- ---- what is said
+
+-- nothing, where no memory is needed
+pub says_none : (setup : Setup) (said : Told) (player : Player) → NeedsNoMemory (On player) said → says_of (hears setup None said (On player)) ≡ []
+says_none setup (down.Ask j) player none = absurd none
+says_none setup (down.State done bytes) player none = refl
+says_none setup (down.Command t order) player none = absurd none
+says_none setup (down.Release t) player none = by (nat_lt player.released t)
+  where
+    by : (b : Bool) → says_of (if b then Some (record { life = On (record player { released = t }); says = [] }) else None) ≡ []
+    by true = refl
+    by false = refl
+says_none setup (down.Notice t j) player none = refl
+says_none setup (down.Refused code) player none = refl
+
+-- so nothing is to be sent
+pub silent_did : (act : Option Act) (old : Life) (did : Did) (new : Life) → Answers act old (Ok did) new → says_of act ≡ [] → said_by did ≡ []
+silent_did None old Idle new h none = refl
+silent_did None old (Done ups) new h none = absurd h
+silent_did (Some act) old Idle new h none = absurd h
+silent_did (Some act) old (Done ups) new h none = h.1 ∙ none
