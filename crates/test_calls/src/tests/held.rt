@@ -190,7 +190,9 @@ fn a_client_tells_where_it_stands(rt: HostRuntime) -> Result<(), Fail> {
         turn: 0,
     };
     assert_eq!(rt; one.stamp(), Some(first));
-    assert!(rt; matches!(one.stored()?, Some(stored) if stored.digest == FIRST));
+    let stored = one.stored()?.expect(&rt, "a client that is on");
+    let digest = stored.digest;
+    assert_eq!(rt; digest, FIRST);
     assert!(rt; matches!(one.entities()?, Some(rows) if rows.len() == 2));
     assert!(rt; matches!(one.show()?, Some(text) if text.as_str() == FIRST_TEXT));
     assert!(rt; matches!(one.state(), Some(state) if state.next == 4));
