@@ -1,3 +1,4 @@
 mod Address
 mod Parts
 pub mod Mapped
+pub mod Looked

@@ -1,5 +1,6 @@
 -- What a call makes of the client that a handle holds: that of the library's call of its name.
-use Rattle.std.specs.Prelude.{◌≡◌, ℕ, ◌==◌, List, [], length, ℤ, if◌then◌else◌, nat_le, false, Ok, Option, Result, option_map}
+use Rattle.std.specs.Prelude.{◌≡◌, ℕ, ◌==◌, List, [], length, ℤ, if◌then◌else◌, nat_le, false, None, Ok, Option, Result, option_map}
+use Rattle.std.specs.Str.{is_utf8}
 use Rattle.sim_base.specs.declared.{memory.OutOfMemory.OutOfMemory, state.State.State}
 use Rattle.{sim_c.specs.Gives.put_in, sim_c.specs.Gives.room_status, sim_client.specs.ClientWords.LoadsFrom, sim_c.specs.declared.standing.Standing.Standing}
 use Rattle.sim_client.specs.Lives.{hears, joins, Joining, Life, Off, On, orders, plays, Told}
@@ -12,11 +13,13 @@ use Rattle.sim_wire.specs.Fits.{IsDownFrame}
 -- it wishes to join
 pub record Joins (old : ClientView) (answer : Result Went OutOfMemory) (new : ClientView) : Type 0 where
   pub steps : Steps (joins (life old)) (life old) old.outbox answer (life new) new.outbox
+  pub idle : joins (life old) ≡ None → answer ≡ Ok went.Idle
   pub same : IsSame old new
 
 -- it gives the command that bytes spell
 pub record Orders (bytes : List ℕ) (old : ClientView) (answer : Result Went OutOfMemory) (new : ClientView) : Type 0 where
   pub takes : Takes (option_map (λ given. orders old.setup given (life old)) (command_in bytes)) (life old) old.outbox answer (life new) new.outbox
+  pub no_text : is_utf8 bytes ≡ false → answer ≡ Ok went.Refused
   pub same : IsSame old new
 
 -- it hears the frame of a message, or bytes that are none

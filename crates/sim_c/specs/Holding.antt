@@ -38,9 +38,14 @@ abbrev pub there_is : {X : Type 0} → Result X OutOfMemory → Result (Option X
 there_is (Ok x) = Ok (Some x)
 there_is (Err e) = Err e
 
+-- what a look at a client answers: this holds of it, and that there is no state is said where there is none, for which no memory is wanted
+pub record LooksAtClient {X : Type 0} (Is : Setup → State → X → Type 0) (client : ClientView) (answer : Result (Option X) OutOfMemory) : Type 0 where
+  pub looks : IfOk answer (LooksAt (state_of (life client)) (Is client.setup))
+  pub none : state_of (life client) ≡ None → answer ≡ Ok None
+
 -- a look at the state of a match, or of a client that is on: there is an answer of which this holds, and it is put so; else this is all
 abbrev pub Looks : {X : Type 0} → (Setup → State → X → Type 0) → (Result (Option X) OutOfMemory → Type 0) → Type 0 → Option Held → Type 0
-Looks Is Puts Bad (Some (held.Client c)) = Comes (λ answer. IfOk answer (LooksAt (state_of (life c)) (Is c.setup))) Puts
+Looks Is Puts Bad (Some (held.Client c)) = Comes (LooksAtClient Is c) Puts
 Looks Is Puts Bad (Some (held.Server s)) = Bad
 Looks Is Puts Bad (Some (held.Match g)) = Comes (λ answer. IfOk answer (LooksAt (Some g.state) (Is g.setup))) Puts
 Looks Is Puts Bad None = Bad

@@ -1,5 +1,5 @@
 -- What a call makes of the server that a handle holds: that of the library's call of its name.
-use Rattle.std.specs.Prelude.{◌≡◌, ℕ, List, length, ℤ, pos, if◌then◌else◌, nat_lt, Result}
+use Rattle.std.specs.Prelude.{◌≡◌, ℕ, List, length, ℤ, pos, if◌then◌else◌, nat_lt, false, Ok, Result}
 use Rattle.sim_base.specs.declared.memory.OutOfMemory.{OutOfMemory}
 use Rattle.sim_c.specs.Gives.{put_in, room_status}
 use Rattle.sim_held.specs.Servers.{Answers, CutsOff, frames_for, Hears, is_client, Leaves, ServerView}
@@ -21,10 +21,16 @@ pub record HearsFrame (from : ℕ) (bytes : List ℕ) (old : ServerView) (answer
   pub frame : (message : UpOf (List ℕ)) → IsUpFrame bytes message → Answers (is_client old.server from) went.Done (Hears (Heard from message)) old answer new
   pub other : ((message : UpOf (List ℕ)) → IsUpFrame bytes message → ⊥) → Answers (is_client old.server from) went.Refused (CutsOff from) old answer new
 
+-- its connection has ended
+pub record IsCut (client : ℕ) (old : ServerView) (answer : Result Went OutOfMemory) (new : ServerView) : Type 0 where
+  pub cuts : Answers (is_client old.server client) went.Done (CutsOff client) old answer new
+  pub nobody : is_client old.server client ≡ false → answer ≡ Ok went.Idle
+
 -- what waits for a client is put into a room, and let go where the room is large enough
 pub record Sends (client : ℕ) (status : ℤ) (room filled : List ℕ) (written : ℕ) (old new : ServerView) : Type 0 where
   pub tells : status ≡ room_status (frames_for old.said client) room
   pub puts : filled ≡ put_in (frames_for old.said client) room
   pub counts : written ≡ length (frames_for old.said client)
+  pub nobody : is_client old.server client ≡ false → written ≡ 0
   pub goes : status ≡ pos 0 → Leaves client old new
   pub stays : status ≡ pos 100 → new ≡ old

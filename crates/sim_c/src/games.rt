@@ -1,9 +1,9 @@
 //! A match that a handle holds. Each clause is that of the call of `sim_held` of the same name.
 
 ghost use Rattle.std.specs.Prelude.{◌≡◌, pos, IfOk, IfErr, option_map};
-ghost use Rattle.{sim_base.specs.Turn.first_state, sim_held.specs.Games.PlaysOwn};
+ghost use Rattle.sim_base.specs.Turn.{first_state};
 ghost use Rattle.sim_embed.specs.{Bytes.OfMatch, Bytes.OfState, Causes.IsNoMatch, Causes.IsNoStateOf};
-ghost use Rattle.sim_c.specs.{Gives.Answers, Gives.GivesValue, GivesHeld.GivesPlayed, Games.PlaysGame};
+ghost use Rattle.sim_c.specs.{Gives.Answers, Gives.GivesValue, GivesHeld.GivesPlayed, Games.PlaysGame, Games.PlaysOwnTurns};
 ghost use Rattle.sim_c.specs.Holding.{Comes, IsGame, OfGame, Opens};
 
 use crate::Fault;
@@ -93,7 +93,7 @@ pub extern "C" fn simcore_game_play_own(
     most: u32,
     played: &mut u32,
 ) -> i32
-    ensures { OfGame (λ old new. Comes (λ answer. PlaysOwn old most answer new) (GivesPlayed result played.old played.new))
+    ensures { OfGame (λ old new. Comes (λ answer. PlaysOwnTurns most old answer new) (GivesPlayed result played.old played.new))
         ((result ≡ pos 101) × (played.new ≡ played.old)) handle.old.held handle.new.held }
 {
     with_held!(alloc, handle; Held::Match(game) => give_played(game.play_own(most), played))

@@ -1,10 +1,10 @@
 //! Looks at the state to which a game, or a client that is on, has come. Nothing that is held changes.
 
 ghost use Rattle.{sim_embed.specs.Facts.entity_of, sim_report.specs.Show.show_text};
-ghost use Rattle.{sim_client.specs.ClientWords.state_of, sim_held.specs.Clients.life, sim_held.specs.Clients.LooksAt};
+ghost use Rattle.sim_held.specs.Clients.{LooksAt};
 ghost use Rattle.std.specs.Prelude.{◌≡◌, map, pos, IfOk, Some};
 ghost use Rattle.sim_c.specs.{Gives.stamp, GivesHeld.GivesLook, GivesHeld.GivesSheet, GivesHeld.GivesStamp, GivesHeld.sheet};
-ghost use Rattle.sim_c.specs.Holding.{Comes, Looks, there_is};
+ghost use Rattle.sim_c.specs.Holding.{Comes, Looks, LooksAtClient, there_is};
 ghost use Rattle.sim_embed.specs.Answers.{IsStamp, IsStored};
 
 use crate::giving_held::{give_held_stamp, give_items, give_shown, give_state};
@@ -38,9 +38,21 @@ pub extern "C" fn simcore_held_state(
 {
     with_held!(
         alloc, handle;
-        Held::Client(client) => give_state(client.stored(), state, written, digest),
+        Held::Client(client) => client_state(client, state, written, digest),
         Held::Match(game) => give_state(there(game.stored()), state, written, digest)
     )
+}
+
+fn client_state(
+    client: &HeldClient,
+    state: &mut [u8],
+    written: &mut u64,
+    digest: &mut [u8; 16],
+) -> i32
+    ensures { Comes (LooksAtClient IsStored client.now)
+        (GivesSheet result (sheet state.old written.old digest.old) (sheet state.new written.new digest.new)) }
+{
+    give_state(client.stored(), state, written, digest)
 }
 
 /// The digest of the state, and its turn.
@@ -63,7 +75,7 @@ pub extern "C" fn simcore_held_digest(
 }
 
 fn client_stamp(client: &HeldClient, digest: &mut [u8; 16], turn: &mut u32) -> i32
-    ensures { Comes (λ answer. IfOk answer (LooksAt (state_of (life client.now)) (IsStamp client.now.setup)))
+    ensures { Comes (LooksAtClient IsStamp client.now)
         (GivesStamp result (stamp digest.old turn.old) (stamp digest.new turn.new)) }
 {
     give_held_stamp(client.stamp(), digest, turn)
@@ -90,9 +102,16 @@ pub extern "C" fn simcore_held_show(
 {
     with_held!(
         alloc, handle;
-        Held::Client(client) => give_shown(client.show(), text, written),
+        Held::Client(client) => client_text(client, text, written),
         Held::Match(game) => give_shown(there(game.show()), text, written)
     )
+}
+
+fn client_text(client: &HeldClient, text: &mut [u8], written: &mut u64) -> i32
+    ensures { Comes (LooksAtClient (λ setup state shown. shown ≡ show_text setup state) client.now)
+        (GivesLook result text.old text.new written.old written.new) }
+{
+    give_shown(client.show(), text, written)
 }
 
 /// The entities of the state.
@@ -109,7 +128,14 @@ pub extern "C" fn simcore_held_entities(
 {
     with_held!(
         alloc, handle;
-        Held::Client(client) => give_items(client.entities(), rows, written),
+        Held::Client(client) => client_entities(client, rows, written),
         Held::Match(game) => give_items(there(game.entities()), rows, written)
     )
+}
+
+fn client_entities(client: &HeldClient, rows: &mut [Entity], written: &mut u64) -> i32
+    ensures { Comes (LooksAtClient (λ setup state found. found ≡ map entity_of state.rows) client.now)
+        (GivesLook result rows.old rows.new written.old written.new) }
+{
+    give_items(client.entities(), rows, written)
 }

@@ -1,8 +1,8 @@
 -- What is answered is the stamp of the client, for which no memory is wanted.
-use Rattle.std.proofs.{Common.rules, Common.subst, Common.sym, Common.w32, lemmas.Int.to_z-of_z}
+use Rattle.std.proofs.{Common.refl, Common.rules, Common.subst, Common.sym, Common.w32, lemmas.Int.to_z-of_z}
 use Rattle.std.specs.Prelude.{ℤ, Ok}
 use mir.Val.{SFits}
-use Rattle.sim_c.specs.{Gives.stamp, GivesHeld.GivesStamp}
+use Rattle.sim_c.{proofs.Looked.stamped_none, specs.Gives.stamp, specs.GivesHeld.GivesStamp}
 use Rattle.sim_c.proofs.looks.client_stamp.Goals as goal
 
 pub returns : goal.returns
@@ -12,6 +12,6 @@ returns c =
     let new = stamp c.give_held_stamp.new.digest c.give_held_stamp.new.turn in
     record {
       answer = Ok c.stamp.result;
-      is = c.stamp.ensures;
+      is = record { looks = c.stamp.ensures; none = stamped_none _ _ c.stamp.result _ refl c.stamp.ensures };
       puts = subst (λ (z : ℤ). GivesStamp z old new (Ok c.stamp.result)) (sym (to_z-of_z w32 c.give_held_stamp.result fits)) c.give_held_stamp.ensures;
     }

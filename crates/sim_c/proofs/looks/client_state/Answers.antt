@@ -1,0 +1,13 @@
+-- What is answered is the stored state of the client.
+use Rattle.std.proofs.{Common.rules, Common.w32, lemmas.Int.to_z-of_z}
+use mir.Val.{SFits}
+use Rattle.sim_c.proofs.looks.client_state.Goals as goal
+
+pub returns : goal.returns
+returns c =
+    let fits : SFits w32 c.give_state.result = search rules in
+    record {
+      answer = c.stored.result;
+      is = record { looks = c.stored.ensures.looks; none = c.stored.ensures.none };
+      puts = simp to_z-of_z c.give_state.ensures;
+    }
