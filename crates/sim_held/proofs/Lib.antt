@@ -3,7 +3,5 @@ mod Frames
 mod Waits
 mod Running
 mod Stepping
-mod SpellingWords
-mod Spelled
 mod Small
 mod Serving
