@@ -1,15 +1,13 @@
 -- What a server that is held comes to, in the words of its callers.
 use Rattle.{sim_base.specs.declared.memory.OutOfMemory.OutOfMemory, sim_server.specs.Small.IsSmallArrival, sim_server.specs.Standing.Makes}
 use Rattle.sim_pipes.proofs.{Answering.makes_rules, Answering.makes_small, Telling.clients_are_told, Telling.told_each}
-use Rattle.sim_plain.specs.{Messages.Arrival, Messages.Cut, Posts.posts, Posts.posts_of}
-use Rattle.sim_plain.specs.declared.rules.Rules.{Rules}
+use Rattle.sim_plain.specs.{declared.rules.Rules.Rules, Messages.Arrival, Messages.Cut, Posts.posts, Posts.posts_of}
 use Rattle.sim_held.proofs.Common.{◌≡◌, ℕ, ◌<◌, ◌≤◌, Bool, true, false, List, [], ◌∷◌, ◌++◌, Ok, Result, if◌then◌else◌, All, All-head, All-tail, ap, arith}
 use Rattle.sim_held.proofs.Common.{cond-false, DownOf, ne_eqb, PostOf, refl, subst, sym, told_to, ◌∙◌}
 use Rattle.sim_held.specs.Servers.{Answers, AreSmall, CutsOff, Hears, is_client, IsReady, ServerView, waiting, WaitsForClients}
-use Rattle.std.specs.Prelude.{◌&&◌, nat_le, nat_lt}
+use Rattle.std.{proofs.Common.◌==◌, specs.Prelude.nat_le, specs.Prelude.nat_lt, specs.Prelude.◌&&◌}
 use Rattle.sim_held.specs.declared.stage.Went.{Went}
 use Rattle.sim_server.specs.Standing.{server_of, View}
-use Rattle.std.proofs.Common.{◌==◌}
 
 abbrev Bytes : Type 0
 Bytes = List ℕ

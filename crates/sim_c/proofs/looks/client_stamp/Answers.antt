@@ -1,6 +1,5 @@
 -- What is answered is the stamp of the client, for which no memory is wanted.
-use Rattle.std.proofs.{Common.rules, Common.subst, Common.sym, Common.w32, lemmas.Int.to_z-of_z}
-use Rattle.std.specs.Prelude.{ℤ, Ok}
+use Rattle.std.{proofs.Common.rules, proofs.Common.subst, proofs.Common.sym, proofs.Common.w32, proofs.lemmas.Int.to_z-of_z, specs.Prelude.Ok, specs.Prelude.ℤ}
 use mir.Val.{SFits}
 use Rattle.sim_c.specs.{Gives.stamp, GivesHeld.GivesStamp}
 use Rattle.sim_c.proofs.looks.client_stamp.Goals as goal

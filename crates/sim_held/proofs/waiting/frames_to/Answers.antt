@@ -1,7 +1,6 @@
 -- The frames of one list more.
 use Rattle.sim_held.proofs.Common.{◌++◌, take, arith, ap, down_frame, flat_map, flat_map-append, sym, take_all, told_to, ◌∙◌}
-use Rattle.sim_held.proofs.Frames.{flat_map_more}
-use Rattle.sim_held.specs.Servers.{frames_for, waiting}
+use Rattle.sim_held.{proofs.Frames.flat_map_more, specs.Servers.frames_for, specs.Servers.waiting}
 use Rattle.sim_held.proofs.waiting.frames_to.Goals as goal
 
 pub loop-posts-preserved : goal.loop-posts-preserved

@@ -1,8 +1,7 @@
 -- By distances the way is read off, or they guide the search, and the goal itself is at none.
 use Rattle.sim_path.proofs.Common.{ℕ, ◌*◌, ap, ap₂, Cell, cell_of, field_of_grid, IfOk-from_err, inside-on_ground, octile-none, subst, sym, ◌∙◌}
 use Rattle.sim_path.proofs.answer.Searcher.search_toward.Goals as goal
-use Rattle.sim_search.proofs.Guiding.{distances-guide}
-use Rattle.sim_search.specs.{Distances.AreDistances, Distances.number_in, declared.distances.Distances.Distances}
+use Rattle.sim_search.{proofs.Guiding.distances-guide, specs.declared.distances.Distances.Distances, specs.Distances.AreDistances, specs.Distances.number_in}
 
 pub started-requires-clause-start : goal.started-requires-clause-start
 started-requires-clause-start c = rw c.cell_of-from.ensures.cell (inside-on_ground c.args.grid.now.size c.args.start.now c.requires.start)
