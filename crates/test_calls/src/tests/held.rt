@@ -5,6 +5,7 @@ ghost use Rattle.std.specs.Prelude.{◌≤◌, length};
 use sim_codec::StateFault;
 use sim_embed::{Refused, Stamp};
 use sim_held::{HeldClient, HeldMatch, HeldServer, Went};
+use std::alloc::Global;
 use std::test::Fail;
 
 // Two players with a walker each, a delay of 2 and 5 turns.
@@ -44,19 +45,43 @@ static LIE: &[u8] = &[
 
 static NOTICE: &[u8] = &[6, 0, 0, 0, 5, 1, 0, 0, 0, 2];
 
+// Bytes and numbers that are handed in, and what is made of the match. A proof knows nothing of them: it would else reckon with each letter of
+// the match, with its first state, and with each turn.
+fn given(bytes: &'static [u8]) -> &'static [u8] {
+    bytes
+}
+
+fn many(turns: u32) -> u32 {
+    turns
+}
+
+fn held_match(alloc: Global) -> Result<HeldMatch, Fail> {
+    Ok(HeldMatch::new(alloc, given(GAME.as_bytes()))?)
+}
+
+fn held_client(alloc: Global, number: u32, begins: bool) -> Result<HeldClient, Fail> {
+    Ok(HeldClient::new(alloc, given(GAME.as_bytes()), number, begins)?.ok_or(
+        "a player of the match",
+    )?)
+}
+
+fn held_server(alloc: Global, active: u8) -> Result<HeldServer, Fail> {
+    Ok(HeldServer::new(alloc, given(GAME.as_bytes()), active)?.ok_or("as many players as begin")?)
+}
+
 #[test]
 fn a_match_is_played_and_loaded(rt: HostRuntime) -> Result<(), Fail> {
     let alloc = rt.alloc();
-    let mut game = HeldMatch::new(alloc, GAME.as_bytes())?;
+    let mut game = held_match(alloc)?;
     assert_eq!(rt; game.setup().turns, 5);
-    assert_eq!(rt; game.play_own(2)?, 2);
-    game.play(br#"[[1,"walk",[2],"6.5","2.5"]]"#)?;
+    assert_eq!(rt; game.play_own(many(2))?, 2);
+    game.play(given(br#"[[1,"walk",[2],"6.5","2.5"]]"#))?;
     let stored = game.stored()?;
-    let mut again = HeldMatch::load(alloc, GAME.as_bytes(), &stored.bytes)?;
+    let mut again = HeldMatch::load(alloc, given(GAME.as_bytes()), &stored.bytes)?;
     assert_eq!(rt; again.state().turn, 3);
-    again.play(b"[]")?;
-    again.play(b"[]")?;
-    assert_eq!(rt; game.play_own(100)?, 2);
+    again.play(given(b"[]"))?;
+    again.play(given(b"[]"))?;
+    assert_eq!(rt; game.play_own(many(100))?, 2);
     let last = Stamp {
         digest: LAST,
         turn: 5,
@@ -64,21 +89,24 @@ fn a_match_is_played_and_loaded(rt: HostRuntime) -> Result<(), Fail> {
     assert_eq!(rt; game.stamp(), last);
     assert_eq!(rt; again.stamp(), last);
     assert_eq!(rt; again.show()?.as_str(), LAST_TEXT);
-    assert_eq!(rt; again.entities()?[0].x, 425_984);
+    let rows = again.entities()?;
+    assert_eq!(rt; rows.len(), 2);
+    assert_eq!(rt; rows[0].x, 425_984);
     Ok(())
 }
 
 #[test]
 fn a_match_has_no_more_turns_and_loads_no_state_of_another(rt: HostRuntime) -> Result<(), Fail> {
     let alloc = rt.alloc();
-    let mut game = HeldMatch::new(alloc, GAME.as_bytes())?;
-    let items = game.play(br#"[[1,"stop",[]],[3,"stop",[]]]"#);
+    let mut game = held_match(alloc)?;
+    let items = game.play(given(br#"[[1,"stop",[]],[3,"stop",[]]]"#));
     assert_eq!(rt; items, Err(Refused::Commands { index: 2 }));
-    assert_eq!(rt; game.play_own(6)?, 5);
-    assert_eq!(rt; game.play(b"[]"), Err(Refused::Over));
+    assert_eq!(rt; game.play_own(many(6))?, 5);
+    assert_eq!(rt; game.play(given(b"[]")), Err(Refused::Over));
     let mut bytes = game.stored()?.bytes;
+    assert_eq!(rt; bytes.len(), 151);
     bytes[8] ^= 1;
-    let other = HeldMatch::load(alloc, GAME.as_bytes(), &bytes);
+    let other = HeldMatch::load(alloc, given(GAME.as_bytes()), &bytes);
     let fault = StateFault::OtherMatch;
     assert!(rt; matches!(other, Err(refused) if refused == Refused::State { fault, place: 0 }));
     Ok(())
@@ -137,19 +165,21 @@ fn go_round(
     rise(server, two)?;
     fall(server, one)?;
     fall(server, two)?;
-    let _ = one.play(9)?;
-    let _ = two.play(9)?;
+    let _ = one.play(many(9))?;
+    let _ = two.play(many(9))?;
     Ok(())
 }
 
 #[test]
 fn one_joins_late_and_another_one_is_told_of_its_lie(rt: HostRuntime) -> Result<(), Fail> {
     let alloc = rt.alloc();
-    let game = GAME.as_bytes();
-    let mut server = HeldServer::new(alloc, game, 1)?.expect(&rt, "one of two players");
-    let mut one = HeldClient::new(alloc, game, 1, true)?.expect(&rt, "a player of the match");
-    let mut two = HeldClient::new(alloc, game, 2, false)?.expect(&rt, "a player of the match");
-    assert_eq!(rt; one.order(br#"["walk",[2],"6.5","2.5"]"#)?, Went::Done);
+    let mut server = held_server(alloc, 1)?;
+    let mut one = held_client(alloc, 1, true)?;
+    let mut two = held_client(alloc, 2, false)?;
+    assert_eq!(rt;
+        one.order(given(br#"["walk",[2],"6.5","2.5"]"#))?,
+        Went::Done
+    );
     assert_eq!(rt; one.said(), ORDER);
     assert_eq!(rt; two.join()?, Went::Done);
     for _ in 0..8u8 {
@@ -162,7 +192,7 @@ fn one_joins_late_and_another_one_is_told_of_its_lie(rt: HostRuntime) -> Result<
     assert_eq!(rt; one.stamp(), Some(last));
     assert_eq!(rt; two.stamp(), Some(last));
     assert_eq!(rt; server.released(), 5);
-    assert_eq!(rt; server.hear(2, LIE)?, Went::Done);
+    assert_eq!(rt; server.hear(2, given(LIE))?, Went::Done);
     assert_eq!(rt; server.take(1)?.as_slice(), NOTICE);
     assert_eq!(rt; server.said(2)?.as_slice(), NOTICE);
     server.sent(2);
@@ -175,10 +205,7 @@ fn one_joins_late_and_another_one_is_told_of_its_lie(rt: HostRuntime) -> Result<
 #[test]
 fn a_client_tells_where_it_stands(rt: HostRuntime) -> Result<(), Fail> {
     let alloc = rt.alloc();
-    let mut one = HeldClient::new(alloc, GAME.as_bytes(), 1, true)?.expect(
-        &rt,
-        "a player of the match",
-    );
+    let mut one = held_client(alloc, 1, true)?;
     assert_eq!(rt; one.setup().turns, 5);
     assert_eq!(rt; one.number(), 1);
     assert_eq!(rt;
@@ -204,21 +231,21 @@ fn a_client_tells_where_it_stands(rt: HostRuntime) -> Result<(), Fail> {
 #[test]
 fn bytes_that_stand_for_nothing_change_no_client(rt: HostRuntime) -> Result<(), Fail> {
     let alloc = rt.alloc();
-    let mut two = HeldClient::new(alloc, GAME.as_bytes(), 2, false)?.expect(
-        &rt,
-        "a player of the match",
-    );
-    assert_eq!(rt; two.order(b"[\"resign\"]")?, Went::Idle);
-    assert_eq!(rt; two.order(b"resign")?, Went::Refused);
+    let mut two = held_client(alloc, 2, false)?;
+    assert_eq!(rt; two.order(given(b"[\"resign\"]"))?, Went::Idle);
+    assert_eq!(rt; two.order(given(b"resign"))?, Went::Refused);
     assert_eq!(rt; two.join()?, Went::Done);
     assert_eq!(rt; two.take().as_slice(), [1, 0, 0, 0, 1].as_slice());
-    assert_eq!(rt; two.hear(&[6, 0, 0, 0, 2, 2, 0, 0, 0, 7])?, Went::Idle);
-    assert_eq!(rt; two.hear(&[9])?, Went::Refused);
-    assert_eq!(rt; two.play(9)?, 0);
+    assert_eq!(rt;
+        two.hear(given(&[6, 0, 0, 0, 2, 2, 0, 0, 0, 7]))?,
+        Went::Idle
+    );
+    assert_eq!(rt; two.hear(given(&[9]))?, Went::Refused);
+    assert_eq!(rt; two.play(many(9))?, 0);
     assert!(rt; two.joining());
-    assert_eq!(rt; two.hear(&[2, 0, 0, 0, 6, 4])?, Went::Done);
+    assert_eq!(rt; two.hear(given(&[2, 0, 0, 0, 6, 4]))?, Went::Done);
     assert!(rt; !two.joining());
-    assert!(rt; HeldClient::new(alloc, GAME.as_bytes(), 3, true)?.is_none());
+    assert!(rt; HeldClient::new(alloc, given(GAME.as_bytes()), 3, true)?.is_none());
     Ok(())
 }
 
@@ -228,16 +255,19 @@ fn a_server_cuts_off_whose_bytes_are_no_frame(rt: HostRuntime) -> Result<(), Fai
         &rt,
         "two clients of two",
     );
-    assert_eq!(rt; server.hear(2, &[5, 0, 0, 0, 3, 2, 0, 0, 0])?, Went::Done);
+    assert_eq!(rt;
+        server.hear(2, given(&[5, 0, 0, 0, 3, 2, 0, 0, 0]))?,
+        Went::Done
+    );
     assert_eq!(rt; server.released(), 1);
-    assert_eq!(rt; server.hear(1, &[9])?, Went::Refused);
+    assert_eq!(rt; server.hear(1, given(&[9]))?, Went::Refused);
     assert_eq!(rt; server.released(), 2);
     assert_eq!(rt; server.said(1)?.len(), 0);
     assert_eq!(rt;
         server.take(2)?.as_slice(),
         [5, 0, 0, 0, 4, 2, 0, 0, 0].as_slice()
     );
-    assert_eq!(rt; server.hear(3, &[9])?, Went::Idle);
+    assert_eq!(rt; server.hear(3, given(&[9]))?, Went::Idle);
     assert!(rt; HeldServer::with_rules(rt.alloc(), 2, 3, 1, 4).is_none());
     Ok(())
 }
