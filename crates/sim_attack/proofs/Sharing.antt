@@ -3,7 +3,7 @@ use Rattle.std.proofs.{Common.inr, Common.int_eq, Common.subst, Common.sym, Comm
 use Rattle.std.proofs.Common.{◌≡◌, ℕ, ◌<◌, Bool, true, false, cond, not, List, [], ◌∷◌, get_or, ℤ, nat_lt, Some, None, filter, Option, refl, ap, arith, inl}
 use Rattle.std.proofs.lemmas.{Bool.and_parts, Bool.eqb-true, Bool.ne_eqb, List.Elements.All-get_or, List.Elements.All-replicate}
 use Rattle.std.specs.Prelude.{◌&&◌, length, replicate, is_some, IfSome, ◌==◌, unwrap_or, option_map}
-use Rattle.sim_attack.specs.{Nearest.nearest_of, declared.finds.Find.Find}
+use Rattle.{sim_attack.specs.declared.finds.Find.Find, sim_attack.specs.Nearest.nearest_of, sim_plans.proofs.Suiting.same_point-true}
 use Rattle.sim_attack.specs.Finds.{AreFound, filled, find_places, is_shared, nearest_from, place_for, shared}
 use Rattle.sim_base.specs.{Filters.is_near, Filters.seen, Filters.within, Move.same_point, Rows.enemies_of, Rows.id_of, Rows.in_mask, Rows.row_of}
 use Rattle.sim_base.specs.{Least.least_of, Limits.IsSetup, Places.square, Validity.IsKnownRow, Validity.IsLooselyValid}
@@ -45,13 +45,6 @@ module _ (setup : Setup) (state : State) (row : Row) (limits : IsSetup setup) (v
       ap (λ (found : List ℕ). unwrap_or (least_of (λ id. unwrap_or (option_map (λ (other : Row). square other.at row.at) (row_of state id)) 0 ∷ id ∷ []) found)
       0)
       (filter_all (λ id. not (id == row.id)) ids (other_ids arms.vision))
-
-same_point-true : (p q : Point) → same_point p q ≡ true → p ≡ q
-same_point-true p q e =
-    let (x, z) = and_parts (int_eq p.x q.x) (int_eq p.z q.z) e in
-    let ex : p.x ≡ q.x = grind arith in
-    let ez : p.z ≡ q.z = grind arith in
-    λ i. record { x = ex i; z = ez i }
 
 -- what is taken from a find is what the row's owner finds from there
 pub shared_is_nearest : (setup : Setup) (state : State) (row : Row) (vision : ℤ) (o : Option Find) (target : ℕ)

@@ -1,12 +1,12 @@
 -- What all landed hits on each row take, when one more lands and when a row has fought.
-use Rattle.{sim_plans.proofs.Places.ids_rise, std.specs.List.Sorted.IsStrictlyIncreasing, std.specs.Prelude.◌==◌, std.specs.Prelude.sum_by}
+use Rattle.std.specs.{List.Sorted.IsStrictlyIncreasing, Prelude.◌==◌, Prelude.sum_by}
 use Rattle.std.proofs.Common.{ap, arith, length-set, sym, ⊎_elim, ◌∙◌}
-use Rattle.std.proofs.Common.{◌≡◌, ℕ, ◌+◌, ◌-◌, ◌<◌, ◌≤◌, Bool, true, false, cond, List, [], ◌∷◌, ◌++◌, map, length, get_or, set, Some, filter, Option, refl}
-use Rattle.std.proofs.lemmas.Bool.{cases_eq, cases_lt, cond-false, cond-true, eq-eqb, ne_eqb}
+use Rattle.std.proofs.Common.{◌≡◌, ℕ, ◌+◌, ◌-◌, ◌<◌, Bool, true, false, cond, List, [], ◌∷◌, ◌++◌, map, length, get_or, set, Some, filter, Option, refl}
+use Rattle.std.proofs.lemmas.Bool.{cases_eq, cond-false, cond-true, eq-eqb, ne_eqb}
 use Rattle.std.proofs.lemmas.List.{get_or-set_other, get_or-set_same, get_or_default, Elements.filter-append, Sums.sum_by-append}
 use Rattle.sim_attack.specs.Fights.{AreTaken, fought_on}
 use Rattle.sim_base.specs.{Filters.is_near, Hit.fights, Hit.Hit, Hit.lands, Hit.resist_of, Hit.rests, Hit.strikes, Hit.strikes_near, Hit.taken, Hit.taken_from}
-use Rattle.sim_base.specs.{Numbers.next_word, Rows.arms_of, Rows.id_of, Rows.row_of}
+use Rattle.sim_base.{proofs.RowPlaces.apart_at, specs.Numbers.next_word, specs.Rows.arms_of, specs.Rows.id_of, specs.Rows.row_of}
 use Rattle.sim_base.specs.declared.{setup.Setup.Setup, state.Aim.Aim, state.Row.Row, state.State.State, template.Arms.Arms}
 
 -- one more hit
@@ -19,13 +19,6 @@ taken_from-more id hits h =
     by : (b : Bool) → sum_by (λ (k : Hit). k.taken) (cond b (h ∷ []) []) ≡ cond b h.taken 0
     by true = omega arith
     by false = refl
-
--- ids of rows at different places differ
-pub apart_at : (rows : List Row) (i j : ℕ) (d : Row) → IsStrictlyIncreasing (map id_of rows) → i < length rows → j < length rows → (i ≡ j → ⊥)
-    → (get_or rows i d).id ≡ (get_or rows j d).id → ⊥
-apart_at rows i j d up in_i in_j differ same =
-    ⊎_elim (λ (before : i < j). let below = ids_rise rows up i j d before in_j in omega (arith, below, same))
-    (λ (after : j ≤ i). let k : j < i = omega (arith) in let below = ids_rise rows up j i d k in_i in omega (arith, below, same)) (cases_lt i j)
 
 -- a hit on the row at a place is added to the sum at that place
 pub hit_at : (rows : List Row) (hits : List Hit) (damage : List ℕ) (at : ℕ) (target : Row) (n x : ℕ) → IsStrictlyIncreasing (map id_of rows) → at < length rows

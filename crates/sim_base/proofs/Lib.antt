@@ -1,3 +1,8 @@
+pub mod Tests
+pub mod Lists
+pub mod RowPlaces
+pub mod GroundPoints
+pub mod Keyed
 pub mod RootLemmas
 pub mod NumberTextLemmas
 pub mod AppendedTexts

@@ -14,7 +14,7 @@ greatest_is test (suc bound) r within passes above_fail =
         (eq-or-lt_of_le within)
     by false e ih = ⊎_elim (λ (h : r ≡ suc bound). absurd (true≢false (sym passes ∙ ap test h ∙ e))) ih (eq-or-lt_of_le within)
 
-self_le_square : (r : ℕ) → r ≤ r * r
+pub self_le_square : (r : ℕ) → r ≤ r * r
 self_le_square zero = omega arith
 self_le_square (suc r) = omega (arith, mul-le (suc r) 1 (suc r) (suc r) (omega arith) (omega arith))
 

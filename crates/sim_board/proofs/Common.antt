@@ -3,7 +3,7 @@ pub use Rattle.{sim_laws.proofs.Members.Has, sim_system.specs.Ranges.AreInRange,
 pub use Rattle.std.{proofs.lemmas.Option.slice_get-get_or, proofs.lemmas.Option.slice_get_cases, specs.List.remove, specs.List.Sorted.IsStrictlyIncreasing}
 pub use Rattle.std.proofs.Common.{MatchOption, Some, None, fold, filter, Option, refl, ap, ap₂, arith, inl, inr, length-set, subst, sym, ⊎_elim, ◌∙◌}
 pub use Rattle.std.proofs.Common.{◌≡◌, ℕ, zero, suc, ◌+◌, ◌<◌, ◌≤◌, Bool, true, false, cond, not, List, [], ◌∷◌, map, length, get_or, take, drop, set}
-pub use Rattle.std.proofs.lemmas.Bool.{cases_eq, cases_lt, cond-false, cond-true, eq-eqb, eqb-true, ne_eqb}
+pub use Rattle.std.proofs.lemmas.Bool.{cases_eq, cond-false, cond-true, eq-eqb, eqb-true, ne_eqb}
 pub use Rattle.std.proofs.lemmas.List.{get_or-map, get_or-set_other, get_or-set_same, get_or_default, length-map, map-id, same_lists, take_all}
 pub use Rattle.std.specs.Prelude.{OnOk, IsSome, ◌==◌, slice_get, Ok, Err, find, Result, option_map}
 pub use Rattle.sim_base.specs.{Filters.watchers, Rows.id_of, Rows.row_of, Rows.target_of, Turn.first_state, Validity.IsLooselyValid, Validity.IsValid}
@@ -13,7 +13,7 @@ pub use Rattle.sim_base.specs.declared.{setup.First.First, setup.Land.Land, setu
 pub use Rattle.sim_board.specs.{BoardWords.AreKept, BoardWords.IsWholeBy, Letting.left_by, Letting.row_released, Letting.rows_released}
 pub use Rattle.sim_board.specs.Hearing.{all_told, AllMayHear}
 pub use Rattle.sim_laws.proofs.{Rows.Apart, Rows.apart, Rows.find_has, Rows.found_row, Rows.map_agree, Rows.same_row, Validity.first_state_is_valid}
-pub use Rattle.sim_plans.proofs.{Applying.fitting_keeps_loose, Bounds.found_placed, Places.ids_rise, Places.row_at}
+pub use Rattle.sim_plans.proofs.{Applying.fitting_keeps_loose, Bounds.found_placed, Places.row_at}
 pub use Rattle.sim_plans.specs.{Fits.AllFit, Fits.Fits, Fits.OfRow, Found.found}
 pub use Rattle.sim_scene.proofs.{Changing.IsTold, Parts.part-aimed_watch, Releasing.removed_is, Unheard.unheard}
 pub use Rattle.sim_scene.proofs.{FactLists.facts-unchanged, InRange.state_in_range, Noting.AreTold, Noting.change_told, Removing.watchers_are_watching}

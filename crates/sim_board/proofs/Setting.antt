@@ -1,15 +1,9 @@
 -- A write to the row with an id is a change of each row with that id.
 use Rattle.sim_board.proofs.Common.{Row, same_lists, subst, sym, ⊎_elim, ◌∙◌}
-use Rattle.sim_board.proofs.Common.{cases_eq, cases_lt, cond-false, cond-true, eq-eqb, eqb-true, find_has, found, get_or-map, get_or-set_other, get_or-set_same}
-use Rattle.sim_board.proofs.Common.{get_or_default, Has, id_of, ids_rise, inl, inr, IsStrictlyIncreasing, length-map, length-set, map-id, map_agree, ne_eqb}
-use Rattle.sim_board.proofs.Common.{◌≡◌, ℕ, ◌<◌, ◌≤◌, Bool, true, false, cond, List, [], ◌∷◌, map, length, get_or, set, ◌==◌, Some, None, refl, ap, arith}
-
--- rows at two places have two ids
-apart_at : (rows : List Row) (i j : ℕ) (d : Row) → IsStrictlyIncreasing (map id_of rows) → i < length rows → j < length rows → (i ≡ j → ⊥)
-    → (get_or rows i d).id ≡ (get_or rows j d).id → ⊥
-apart_at rows i j d up in_i in_j differ same =
-    ⊎_elim (λ (before : i < j). let below = ids_rise rows up i j d before in_j in omega (arith, below, same))
-    (λ (after : j ≤ i). let k : j < i = omega (arith) in let below = ids_rise rows up j i d k in_i in omega (arith, below, same)) (cases_lt i j)
+use Rattle.sim_board.proofs.Common.{cases_eq, cond-false, cond-true, eq-eqb, eqb-true, find_has, found, get_or-map, get_or-set_other, get_or-set_same}
+use Rattle.sim_board.proofs.Common.{get_or_default, Has, id_of, inl, inr, IsStrictlyIncreasing, length-map, length-set, map-id, map_agree, ne_eqb}
+use Rattle.sim_board.proofs.Common.{◌≡◌, ℕ, ◌<◌, Bool, true, false, cond, List, [], ◌∷◌, map, length, get_or, set, ◌==◌, Some, None, refl, ap, arith}
+use Rattle.sim_base.proofs.RowPlaces.{apart_at}
 
 -- no row has this id
 pub none_is_map : (rows : List Row) (id : ℕ) (g : Row → Row) → found rows id ≡ None → rows ≡ map (λ (row : Row). cond (row.id == id) (g row) row) rows

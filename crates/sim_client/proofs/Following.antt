@@ -1,5 +1,5 @@
 -- A client that has a state follows one that has a past, through each step and each message.
-use Rattle.{sim_base.specs.Rows.row_of, sim_laws.proofs.Turning.after_counts_turns, sim_plain.specs.Messages.carry_down}
+use Rattle.{sim_base.specs.Rows.row_of, sim_laws.proofs.Turning.after_counts_turns, sim_plain.proofs.Statuses.put_other, sim_plain.specs.Messages.carry_down}
 use Rattle.std.{proofs.Common.suc, proofs.Common.◌<◌, proofs.lemmas.Bool.ltb-false, specs.Prelude.min, specs.Prelude.max, specs.Prelude.ℤ}
 use Rattle.sim_base.specs.{Spelling.digest, Spelling.mark, Spelling.spelling, Turn.after, Turn.may_bend, Turn.Past, Turn.turns_in, declared.step.Event.Event}
 use Rattle.sim_client.proofs.Common.{arith, bent, Command, hears, is_client, Life, ltb-true, On, orders, PlayerCommand, put, Setup, State}
@@ -7,7 +7,7 @@ use Rattle.sim_client.proofs.Common.{◌≡◌, ℕ, ◌+◌, Bool, true, false,
 use Rattle.sim_client.specs.{LifeLaws.says_of, LifeLaws.shows_after, LifeLaws.StartingFollows, Lives.told, Lives.told_alone, Lives.told_with_done}
 use Rattle.sim_client.specs.LifeLaws.{BendingFollows, Follows, hearing_shown, HearingFollows, JoiningFollows, order_shown, OrderingFollows, PlayingFollows}
 use Rattle.sim_client.specs.Lives.{bends, hands_on, Joining, learns, loads, may_order, may_play, may_tell_done, Off, ordered, played, plays, refused, releases}
-use Rattle.sim_plain_session.{proofs.Functions.put_other, specs.Bytes.spelled, specs.Players.IsPlayerOf, specs.Players.Player}
+use Rattle.sim_plain_session.specs.{Bytes.spelled, Players.IsPlayerOf, Players.Player}
 use Rattle.sim_plain_session.proofs.PlayerLemmas.{beginning_stands, bending_stands, learning_stands, playing_stands, same_mark, same_turn}
 use Rattle.sim_base.specs.declared.step.Event.TheVariants as event
 use Rattle.sim_plain.specs.declared.message.DownOf.TheVariants as down

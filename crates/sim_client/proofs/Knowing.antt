@@ -1,5 +1,5 @@
 -- What is known of a turn, put there twice; and that players of the match gave it.
-use Rattle.{sim_base.specs.Limits.IsFrom, std.proofs.lemmas.Bool.leb-true, std.specs.Prelude.nat_le}
+use Rattle.{sim_base.specs.Limits.IsFrom, std.proofs.lemmas.Bool.and_parts, std.proofs.lemmas.Bool.leb-true, std.specs.Prelude.nat_le}
 use Rattle.sim_client.proofs.Common.{Known, known_in, ltb-true, PlayerCommand, put, Setup, subst, sym}
 use Rattle.sim_client.proofs.Common.{◌≡◌, ℕ, Bool, true, false, ◌&&◌, List, if◌then◌else◌, nat_lt, ◌==◌, All, refl, AreByPlayers, arith, is_client, IsOrderOf}
 
@@ -21,13 +21,9 @@ players_put setup old new n orders is all these = λ t. subst (All (IsOrderOf se
     by t true = these
     by t false = all t
 
-both : (a b : Bool) → (a && b) ≡ true → (a ≡ true) × (b ≡ true)
-both true b h = (refl, h)
-both false b h = absurd (cc)
-
 -- the second of two tests that hold is that of a player of the match
 pub player_of_test : (a : Bool) (setup : Setup) (n : ℕ) → (a && is_client setup n) ≡ true → IsFrom 1 setup.players n
 player_of_test a setup n h =
-    let tests = both (nat_lt 0 n) (nat_le n setup.players) (both a (is_client setup n) h).1 in
+    let tests = and_parts (nat_lt 0 n) (nat_le n setup.players) (and_parts a (is_client setup n) h).1 in
     let low = ltb-true 0 n tests.0 in
     (omega (arith, low), leb-true n setup.players tests.1)

@@ -1,5 +1,5 @@
 -- The words that the proofs here name again and again, passed on from one place. Declares nothing.
-pub use Rattle.std.proofs.Common.{get_or, take, drop, ℤ, pos, negsuc, ◌≤ℤ◌, Some, None, Ok, Err, All, Option, Result, refl, ap, append_assoc, arith, inl, inr}
+pub use Rattle.std.proofs.Common.{get_or, take, drop, ℤ, pos, negsuc, ◌≤ℤ◌, Some, None, Err, All, Option, Result, refl, ap, append_assoc, arith, inl, inr}
 pub use Rattle.std.proofs.Common.{length-append, rules, subst, sym, ◌∙◌}
 pub use Rattle.std.proofs.Common.{◌≡◌, ℕ, zero, suc, ◌+◌, ◌-◌, ◌*◌, ◌^◌, ◌<◌, ◌≤◌, Bool, true, false, cond, not, ltb, ◌⊎◌, List, [], ◌∷◌, ◌++◌, map, length}
 pub use Rattle.std.proofs.lemmas.{Cmp.ranked, Result.err_from_is_err_and, Slice.Eq.bytes_eq-Decides}
@@ -8,7 +8,7 @@ pub use Rattle.std.proofs.lemmas.{List.Sorted.answers_always, List.Sorted.IsNonD
 pub use Rattle.std.proofs.lemmas.Bool.{and_parts, cases_lt, eq-eqb, eqb-true, false≢true, le-ltb, ltb-false, ltb-true, ne_eqb, Decides.nat_tests}
 pub use Rattle.std.proofs.lemmas.List.{Elements.All-from_recursion, Elements.All-more, Elements.recursion_from_All, Sums.count_by-le-length, Sums.sum_by-cons}
 pub use Rattle.std.proofs.lemmas.List.{append-nil, drop-drop, drop-take, drop_at, get_or-map, get_or_default, length-drop, length-map, take_all, take_at}
-pub use Rattle.std.specs.{Int.byte_len, Int.Width, Prelude.count_by, Prelude.find, Prelude.unwrap_or, Prelude.option_map, Prelude.option_and_then}
+pub use Rattle.std.specs.{Int.byte_len, Int.Width, Prelude.count_by, Prelude.unwrap_or, Prelude.option_map, Prelude.option_and_then}
 pub use Rattle.std.specs.{List.HoldsAt, List.flat_map, List.filter_map, List.AllByRecursion, List.cons_option, List.IsAllAdjacentAnswer, Str.bytes_eq}
 pub use Rattle.std.specs.{List.Sorted.IsBinarySearchResult, List.Sorted.IsNonDecreasingBy, Ordering.nat_cmp, Ordering.ordering_index}
 pub use Rattle.std.specs.Prelude.{◌&&◌, ◌≢◌, ◌↔◌, is_some, IfSome, OnOk, IsTrue, nat_lt, ◌==◌, slice_get, int_lt, int_le, FitsSigned, MatchOption, codes}

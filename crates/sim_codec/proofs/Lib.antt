@@ -1,7 +1,6 @@
 pub mod Common
 pub mod Checked
 pub mod Halves
-pub mod Places
 pub mod Told
 pub mod Fits
 pub mod Back

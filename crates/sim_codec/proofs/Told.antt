@@ -1,11 +1,6 @@
 -- Pieces that are told one behind the other.
-use Rattle.sim_codec.proofs.Common.{ℕ, List, ◌++◌, OnOk, Ok, Err, codes, Result, ap, append_assoc, subst, Tells}
-
--- a piece before what a last call tells
-pub first : {K E : Type 0} (holds : K → List ℕ → List ℕ → Type 0) (a b c : K) (x y : List ℕ) (r : Result (Unit {0}) E) → Tells holds a b x
-    → OnOk r (Tells holds b c y) → OnOk r (Tells holds a c (x ++ y))
-first holds a b c x y (Ok done) p q = λ about told h. subst (holds c about) (append_assoc told x y) (q about (told ++ x) (p about told h))
-first holds a b c x y (Err fault) p q = tt
+use Rattle.sim_codec.proofs.Common.{ℕ, List, ◌++◌, OnOk, codes, Result, ap, append_assoc, subst, Tells}
+use Rattle.sim_sections.proofs.Ways.{first}
 
 -- the magic, the version and the id, before the clock and what a last call tells
 pub headed : {K E : Type 0} (holds : K → List ℕ → List ℕ → Type 0) (a b c d : K) (version id clock rest : List ℕ) (r : Result (Unit {0}) E)

@@ -1,6 +1,7 @@
 -- Rows that are told or counted one after the other.
 use Rattle.sim_codec.proofs.Common.{append-nil, append_assoc, arith, cons_option, subst, sym, Tells, ◌∙◌}
 use Rattle.sim_codec.proofs.Common.{◌≡◌, ℕ, ◌+◌, ◌≤◌, true, false, List, [], ◌∷◌, ◌++◌, length, is_some, Some, None, flat_map, filter_map, Option, refl, ap}
+use Rattle.sim_base.proofs.Lists.{length-cons_option}
 
 length-cons : {Y : Type 0} (o : Option Y) (ys : List Y) (n : ℕ) → length ys ≤ n → length (cons_option o ys) ≤ n + 1
 length-cons None ys n h = omega arith
@@ -10,17 +11,13 @@ pub length-filter_map : {X Y : Type 0} (h : X → Option Y) (xs : List X) → le
 length-filter_map h [] = omega arith
 length-filter_map h (x ∷ xs) = omega (arith, length-cons (h x) (filter_map h xs) (length xs) (length-filter_map h xs))
 
-length-found : {Y : Type 0} (o : Option Y) (ys : List Y) → is_some o ≡ true → length (cons_option o ys) ≡ length ys + 1
-length-found None ys h = absurd cc
-length-found (Some y) ys h = omega arith
-
 length-not : {Y : Type 0} (o : Option Y) (ys : List Y) → is_some o ≡ false → length (cons_option o ys) ≡ length ys
 length-not None ys h = refl
 length-not (Some y) ys h = absurd cc
 
 pub one_found : {X Y : Type 0} (h : X → Option Y) (x : X) (xs before : List X) (o : Option Y) → before ≡ x ∷ xs → o ≡ h x → is_some o ≡ true
     → length (filter_map h before) ≡ length (filter_map h xs) + 1
-one_found h x xs before o is o-is there = ap (λ ys. length (filter_map h ys)) is ∙ length-found (h x) (filter_map h xs) (ap is_some (sym o-is) ∙ there)
+one_found h x xs before o is o-is there = ap (λ ys. length (filter_map h ys)) is ∙ length-cons_option (h x) (filter_map h xs) (ap is_some (sym o-is) ∙ there)
 
 pub none_found : {X Y : Type 0} (h : X → Option Y) (x : X) (xs before : List X) (o : Option Y) → before ≡ x ∷ xs → o ≡ h x → is_some o ≡ false
     → length (filter_map h before) ≡ length (filter_map h xs)

@@ -9,11 +9,11 @@ pub use Rattle.sim_base.specs.{Least.is_before, Limits.IsSetup, Rows.id_of, Rows
 pub use Rattle.sim_base.specs.Spelling.{attack_bytes, attack_part, clock_bytes, entity_bytes, entity_part, health_bytes, health_part, motion_part, moving_bytes}
 pub use Rattle.sim_base.specs.Spelling.{owner_bytes, owner_part, position_bytes, position_part, rows_with, section, sections, spelling, stance_bytes}
 pub use Rattle.sim_base.specs.declared.{place.Point.Point, setup.Setup.Setup, state.Motion.TheVariants.Still, state.Row.Row, state.State.State}
-pub use Rattle.sim_codec.{proofs.Places.ids_rise, proofs.Standing.one_state, specs.Bits.bits, specs.Bits.row_bits, specs.declared.bits.Part.Part}
+pub use Rattle.sim_codec.{proofs.Standing.one_state, specs.Bits.bits, specs.Bits.row_bits, specs.declared.bits.Part.Part}
 pub use Rattle.sim_codec.specs.declared.bits.Part.TheVariants.{Attack, Clock, Entity, Health, Motion, Owner, Position, Stance}
 pub use Rattle.sim_diff.specs.{Difference.places, Merge.AreRowsOf, Merge.HaveSameFirst, Merge.next_id, Merge.rows_behind, declared.place.Place.Place}
 pub use Rattle.sim_diff.specs.Difference.{difference_in, entities, HaveSameBits, is_different, IsBefore, IsLeastDifference, key_of, number_of, parts, place_at}
 pub use Rattle.sim_laws.proofs.Members.{Has, Has-append_left, Has-append_right, Has-flat_map, Has-map, Has-of_flat_map, Has-of_map}
-pub use Rattle.sim_sections.specs.Rows.{with_id}
+pub use Rattle.{sim_base.proofs.RowPlaces.ids_rise, sim_sections.specs.Rows.with_id}
 unfoldable pub use Rattle.sim_base.specs.Bytes.{i32_bytes, u16_bytes, u32_bytes, u64_bytes}
 unfoldable pub use Rattle.sim_diff.specs.Difference.{difference_of}

@@ -5,26 +5,9 @@ use Rattle.sim_diff.proofs.Common.{is_before, is_different, IsBefore, IsLeastDif
 use Rattle.sim_diff.proofs.Common.{none-some, number_of, Owner, Part, parts, Place, place_at, places, Position, Row, row_bits, row_of, Stance, State, sym}
 use Rattle.sim_diff.proofs.Common.{refl, ap, arith, Attack, bits, cases_eq, cases_order, Clock, difference_of, entities, Entity, eq-eqb, eqb-true, Has}
 use Rattle.sim_diff.proofs.Common.{◌≡◌, ℕ, ◌<◌, Bool, true, false, cond, ◌≢◌, ◌⊎◌, List, [], ◌∷◌, map, ◌==◌, Some, None, filter, find, Option, option_and_then}
+use Rattle.sim_laws.proofs.Rows.{Has-filter, Has-of_filter}
 
 -- ---- members
-
-Has-filter : {X : Type 0} (p : X → Bool) (xs : List X) (x : X) → Has xs x → p x ≡ true → Has (filter p xs) x
-Has-filter p [] x h g = absurd h
-Has-filter p (y ∷ ys) x (inl e) g = let first : p y ≡ true = ap p e ∙ g in rw first (inl e)
-Has-filter p (y ∷ ys) x (inr h) g = by (p y) (Has-filter p ys x h g)
-  where
-    by : (b : Bool) → Has (filter p ys) x → Has (cond b (y ∷ filter p ys) (filter p ys)) x
-    by true m = inr m
-    by false m = m
-
-Has-of_filter : {X : Type 0} (p : X → Bool) (xs : List X) (x : X) → Has (filter p xs) x → Has xs x × (p x ≡ true)
-Has-of_filter p [] x h = absurd h
-Has-of_filter p (y ∷ ys) x h = by (p y) refl h (Has-of_filter p ys x)
-  where
-    by : (b : Bool) → p y ≡ b → Has (cond b (y ∷ filter p ys) (filter p ys)) x → (Has (filter p ys) x → Has ys x × (p x ≡ true)) → Has (y ∷ ys) x × (p x ≡ true)
-    by true e (inl f) rest = (inl f, ap p (sym f) ∙ e)
-    by true e (inr m) rest = (inr (rest m).0, (rest m).1)
-    by false e m rest = (inr (rest m).0, (rest m).1)
 
 Has-parts : (part : Part) → Has parts part
 Has-parts Clock = inl refl

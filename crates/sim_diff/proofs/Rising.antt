@@ -1,6 +1,6 @@
 -- Rows whose ids rise, and ids that no row has, by recursion on the rows.
-use Rattle.sim_diff.proofs.Common.{IsStrictlyIncreasing, ne_eqb, Row}
-use Rattle.sim_diff.proofs.Common.{◌≡◌, ℕ, suc, ◌<◌, ◌≤◌, List, [], ◌∷◌, map, length, get_or, ◌==◌, None, find, refl, arith, id_of, ids_rise}
+use Rattle.sim_diff.proofs.Common.{ids_rise, IsStrictlyIncreasing, ne_eqb, Row}
+use Rattle.sim_diff.proofs.Common.{◌≡◌, ℕ, suc, ◌<◌, ◌≤◌, List, [], ◌∷◌, map, length, get_or, ◌==◌, None, find, refl, arith, id_of}
 
 -- each row has an id above n
 abbrev pub Above : ℕ → List Row → Type 0

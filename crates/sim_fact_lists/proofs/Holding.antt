@@ -147,10 +147,6 @@ holds_where (Some l) facts P h p = (l, refl, h l refl, p)
 
 -- ---- a note, by what is put in place of its id
 
-pub on_ok : {E : Type 0} (r : Result (Unit {0}) E) (P Q : Type 0) → (P → Q) → OnOk r P → OnOk r Q
-on_ok (Ok u) P Q f h = f h
-on_ok (Err e) P Q f h = tt
-
 pub has_land : (land : Option Land) (P : Land → Type 0) → MatchOption land ⊥ P → IsSome land
 has_land None P h = absurd h
 has_land (Some l) P h = refl

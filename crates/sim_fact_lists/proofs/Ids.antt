@@ -16,7 +16,7 @@ Rising (x ∷ xs) = Above x xs × Rising xs
 
 -- ---- the two ways to say that ids ascend
 
-above_by : (n : ℕ) (xs : List ℕ) → ((k : ℕ) → k < length xs → n < get_or xs k 0) → Above n xs
+pub above_by : (n : ℕ) (xs : List ℕ) → ((k : ℕ) → k < length xs → n < get_or xs k 0) → Above n xs
 above_by n [] h = tt
 above_by n (x ∷ xs) h = (h zero (omega arith), above_by n xs (λ k lt. h (suc k) (omega arith)))
 
@@ -41,7 +41,7 @@ ascends xs r k lt =
     let next : suc k ≡ k + 1 = omega arith in
     subst (λ (n : ℕ). get_or xs k 0 < get_or xs n 0) next (steps_up xs r k (omega arith))
 
-above_at : (n : ℕ) (xs : List ℕ) (k : ℕ) → Above n xs → k < length xs → n < get_or xs k 0
+pub above_at : (n : ℕ) (xs : List ℕ) (k : ℕ) → Above n xs → k < length xs → n < get_or xs k 0
 above_at n [] k a lt = absurd (omega arith)
 above_at n (x ∷ xs) zero a lt = a.0
 above_at n (x ∷ xs) (suc k) a lt = above_at n xs k a.1 (omega arith)

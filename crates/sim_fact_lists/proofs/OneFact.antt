@@ -1,10 +1,11 @@
 -- A note changes what is kept of one id, and nothing else.
-use Rattle.sim_fact_lists.proofs.Common.{id_in, id_of_fact, keeps, kept, kept_of, Kind, Land, Moved, ne_eqb, Note, noted, NoteFits, one_if, Owned, part_for}
+use Rattle.sim_fact_lists.proofs.Common.{id_in, keeps, kept, kept_of, Kind, Land, Moved, ne_eqb, Note, noted, NoteFits, one_if, Owned}
 use Rattle.sim_fact_lists.proofs.Common.{option_map, refl, aim_of, Aimed, ap, arith, Born, Census, cons_option, eq-eqb, eqb-true, Fact, fact_with, Gone, Ground}
 use Rattle.sim_fact_lists.proofs.Common.{part_noted, passes, placed, Range, subst, sum_by-cons, sym, Watch, with_changed, with_kept, with_only, without, ◌∙◌}
 use Rattle.sim_fact_lists.proofs.Common.{◌≡◌, ℕ, ◌+◌, ◌<◌, Bool, true, false, cond, not, List, [], ◌∷◌, IfSome, nat_lt, ◌==◌, Some, None, count_by, Option}
 use Rattle.sim_fact_lists.proofs.Rising.{Above, Missing, missing_above, missing_found, missing_without, not_found, only_itself, Rising, rising_changed}
 use Rattle.sim_fact_lists.proofs.Rising.{rising_placed, rising_without, without_missing}
+use Rattle.sim_system.proofs.Facts.{kept_id}
 
 -- the facts before and after agree but for one id
 pub record OnlyAt (id : ℕ) (facts after : List Fact) : Type 0 where
@@ -67,19 +68,6 @@ pub replaced : (id : ℕ) (o : Option Fact) (facts : List Fact) → ((f : Fact) 
 replaced id o facts named r =
     let h = put_in id o (without id facts) named (without_missing id facts) (rising_without id facts r) in
     record { before = r; later = h.later; same = h.same ∙ without_twice id facts }
-
-pub kept_id : (kind : Kind) (fact f : Fact) → kept kind fact ≡ Some f → f.id ≡ fact.id
-kept_id kind fact f e = by (keeps kind fact) e ∙ part_id kind
-  where
-    by : (b : Bool) → cond b (Some (part_for kind fact)) None ≡ Some f → f.id ≡ (part_for kind fact).id
-    by true s = let same : f ≡ part_for kind fact = cc in ap id_of_fact same
-    by false s = absurd (cc)
-
-    part_id : (k : Kind) → (part_for k fact).id ≡ fact.id
-    part_id Ground = refl
-    part_id Range = refl
-    part_id Watch = refl
-    part_id Census = refl
 
 -- what a kind keeps of facts that rise
 pub above_kept : (kind : Kind) (n : ℕ) (facts : List Fact) → Above n facts → Above n (kept_of kind facts)

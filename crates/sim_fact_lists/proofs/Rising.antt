@@ -1,7 +1,7 @@
 -- Facts whose ids ascend, by recursion: what is found, taken out and put in place.
-use Rattle.sim_fact_lists.proofs.Common.{Fact, fact_with, id_of_fact, inl, inr, le-ltb, lt-ltb, ne_eqb, placed, subst, sym, with_changed, with_kept, with_only}
+use Rattle.sim_fact_lists.proofs.Common.{Fact, fact_with, id_of_fact, inl, inr, lt-ltb, ne_eqb, placed, subst, sym, with_changed, with_kept, with_only}
 use Rattle.sim_fact_lists.proofs.Common.{None, All, Option, refl, All-head, All-tail, AllPairs-from_increasing, ap, arith, Ascend, cases_eq, eq-eqb, eqb-true}
-use Rattle.sim_fact_lists.proofs.Common.{without, ◌∙◌}
+use Rattle.{sim_fact_lists.proofs.Common.without, sim_fact_lists.proofs.Common.◌∙◌, sim_system.proofs.Facts.placed_behind}
 use Rattle.sim_fact_lists.proofs.Common.{◌≡◌, ℕ, zero, suc, ◌+◌, ◌<◌, ◌≤◌, Bool, true, false, cond, not, List, [], ◌∷◌, map, length, get_or, nat_lt, ◌==◌, Some}
 
 -- all ids are above a number
@@ -172,9 +172,6 @@ rising_changed id h (f ∷ facts) keeps r = by (f.id == id) (rising_changed id h
 pub placed_first : (f : Fact) (facts : List Fact) → Above f.id facts → placed f facts ≡ f ∷ facts
 placed_first f [] a = refl
 placed_first f (g ∷ facts) a = let less : nat_lt f.id g.id ≡ true = lt-ltb f.id g.id a.0 in rw less refl
-
-pub placed_behind : (f g : Fact) (facts : List Fact) → g.id < f.id → placed f (g ∷ facts) ≡ g ∷ placed f facts
-placed_behind f g facts lt = let more : nat_lt f.id g.id ≡ false = le-ltb f.id g.id (omega arith) in rw more refl
 
 pub only_itself : (id : ℕ) (facts : List Fact) → Rising facts → with_only id (fact_with facts id) facts ≡ facts
 only_itself id [] r = refl

@@ -3,8 +3,8 @@ use Rattle.sim_fact_lists.proofs.Common.{Err, insert, remove, Option, Result, re
 use Rattle.sim_fact_lists.proofs.Common.{IsBinarySearchResult, IsNonDecreasingBy, IsSearchInRange, nat_cmp, nat_tests, ne_eqb, ordering_index, placed, ranked}
 use Rattle.sim_fact_lists.proofs.Common.{Stands, subst, sym, with_changed, with_only, without, ◌∙◌}
 use Rattle.sim_fact_lists.proofs.Common.{◌≡◌, ℕ, zero, suc, ◌<◌, true, false, List, [], ◌∷◌, length, get_or, set, IfSome, ◌==◌, MatchResult, Some, None, Ok}
-use Rattle.sim_fact_lists.proofs.Rising.{Above, above_at, Missing, missing_above, missing_changed, missing_found, missing_without, placed_behind, placed_first}
-use Rattle.sim_fact_lists.proofs.Rising.{Rising, rising}
+use Rattle.sim_fact_lists.proofs.Rising.{Above, above_at, Missing, missing_above, missing_changed, missing_found, missing_without, placed_first, Rising, rising}
+use Rattle.sim_system.proofs.Facts.{placed_behind}
 
 -- ---- what a search by halves answers
 

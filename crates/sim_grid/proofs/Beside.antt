@@ -8,7 +8,7 @@ use Rattle.sim_base.specs.Steps.{back, beside_open, cell_at, forward, is_straigh
 use Rattle.sim_grid.specs.Grids.{field_of_grid, is_open_at, OpenCells, place_of}
 use Rattle.sim_grid.specs.StepBits.{AreFirstSteps, AreSteps, AreStepsApart, AreStepsBefore, AreStepsFrom, HasSteps, is_open_step, is_open_to, IsNoted}
 use Rattle.sim_laws.proofs.Ground.{same_by_parts, same_cell-self, same_cell-true}
-use Rattle.sim_laws.proofs.Neighbours.{cell_at-is, cell_at-some, neighbour-back, neighbour-below_eight, neighbour-on}
+use Rattle.sim_laws.proofs.Neighbours.{cell_at-is, cell_at-some, neighbour-back, neighbour-below_eight, neighbour-on, past_eight}
 
 -- ---- two cells of a ground stand in two places
 
@@ -39,9 +39,6 @@ back_from a b e = omega (arith, ints)
 
 forward_from : (a b : ℕ) → pos a +ℤ back ≡ pos b → pos b +ℤ forward ≡ pos a
 forward_from a b e = omega (arith, ints)
-
-past_eight : (size : Size) (c b : Cell) (w : ℕ) → neighbour size c (suc (suc (suc (suc (suc (suc (suc (suc w)))))))) ≡ Some b → ⊥
-past_eight size c b w e = cc
 
 corners : (size : Size) (c b : Cell) (which : ℕ) → IsOnGround size c → is_straight which ≡ false → neighbour size c which ≡ Some b → AreCorners size c b
 corners size c b zero on h e = absurd (true≢false h)

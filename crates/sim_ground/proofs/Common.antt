@@ -13,9 +13,9 @@ pub use Rattle.std.proofs.lemmas.List.{append-nil, get_or-replicate, get_or-set_
 pub use Rattle.std.proofs.lemmas.List.Sums.{count_by-le-length, count_by_more_no, count_by_more_yes, fold-append, sum_by-cons}
 pub use Rattle.std.specs.List.{list_all, list_any, range_with_len}
 pub use Rattle.std.specs.Prelude.{◌&&◌, ◌||◌, is_some, OnOk, OnErr, IsOk, IsTrue, nat_lt, nat_le, ◌==◌, MatchOption, Ok, Err, count_by, Result, option_map}
-pub use Rattle.sim_base.specs.{Filters.rect_covers, Least.least_of, Limits.IsLand, Rows.size_of, Steps.Field, Steps.IsOnGround, Steps.IsStep, Tables.entry}
+pub use Rattle.sim_base.specs.{Filters.rect_covers, Least.least_of, Rows.size_of, Steps.Field, Steps.IsOnGround, Steps.IsStep, Tables.entry}
 pub use Rattle.sim_base.specs.{Walks.stay, Walks.Walk, declared.place.Cell.Cell, declared.place.Point.Point, declared.place.Rect.Rect, declared.setup.Land.Land}
-pub use Rattle.sim_base.specs.Places.{cells_of, centre_of, covers, is_inside, is_rect_inside, is_within, IsPlaced, same_cell, Size}
+pub use Rattle.sim_base.specs.Places.{cells_of, centre_of, covers, is_inside, is_rect_inside, IsPlaced, same_cell, Size}
 pub use Rattle.sim_fact_lists.proofs.{OneFact.count_after, OneFact.noted_only, OneFact.part_is, Rising.missing_without, Rising.not_found, Rising.rising}
 pub use Rattle.sim_fact_lists.specs.{Changes.id_in, Changes.one_if, Changes.part_noted, Changes.passes, Places.Holds, Places.HoldsIfAny}
 pub use Rattle.sim_grid.specs.Grids.{field_of_grid, is_open_at, IsGrid, OpenCells, place_of}

@@ -1,12 +1,7 @@
 -- One cell more of a row, and one row more of a ground.
 use Rattle.sim_ground.proofs.Common.{Cell, filter-append, flat_map-append, fold-append, map-append, range_with_len, row_of, rows_of, sym, ◌∙◌}
 use Rattle.sim_ground.proofs.Common.{◌≡◌, ℕ, zero, suc, ◌+◌, Bool, true, false, cond, List, [], ◌∷◌, ◌++◌, map, fold, filter, flat_map, ap, append-nil, arith}
-
-range-more : (a n : ℕ) → range_with_len a (n + 1) ≡ range_with_len a n ++ (a + n) ∷ []
-range-more a n = ap (range_with_len a) (next n) ∙ by a n
-  where
-    next : (n : ℕ) → n + 1 ≡ suc n
-    next n = omega arith
+use Rattle.sim_base.proofs.Lists.{range_with_len_more}
 
     by : (a n : ℕ) → range_with_len a (suc n) ≡ range_with_len a n ++ (a + n) ∷ []
     by a zero = ap (λ (k : ℕ). k ∷ []) (same a)
@@ -19,7 +14,7 @@ range-more a n = ap (range_with_len a) (next n) ∙ by a n
         shift a n = omega arith
 
 pub row-more : (z n : ℕ) → row_of z (n + 1) ≡ row_of z n ++ record { x = n; z = z } ∷ []
-row-more z n = ap (map (λ (x : ℕ). record { x = x; z = z })) (range-more 0 n ∙ ap (λ (k : ℕ). range_with_len 0 n ++ k ∷ []) (same n)) ∙
+row-more z n = ap (map (λ (x : ℕ). record { x = x; z = z })) (range_with_len_more 0 n ∙ ap (λ (k : ℕ). range_with_len 0 n ++ k ∷ []) (same n)) ∙
     map-append (λ (x : ℕ). record { x = x; z = z }) (range_with_len 0 n) (n ∷ [])
   where
     same : (n : ℕ) → 0 + n ≡ n
@@ -27,7 +22,7 @@ row-more z n = ap (map (λ (x : ℕ). record { x = x; z = z })) (range-more 0 n 
 
 pub rows-more : (width n : ℕ) → rows_of width (n + 1) ≡ rows_of width n ++ row_of n width
 rows-more width n =
-    ap (flat_map (λ (z : ℕ). row_of z width)) (range-more 0 n ∙ ap (λ (k : ℕ). range_with_len 0 n ++ k ∷ []) (same n)) ∙
+    ap (flat_map (λ (z : ℕ). row_of z width)) (range_with_len_more 0 n ∙ ap (λ (k : ℕ). range_with_len 0 n ++ k ∷ []) (same n)) ∙
     flat_map-append (λ (z : ℕ). row_of z width) (range_with_len 0 n) (n ∷ [])
     ∙ ap (λ (cs : List Cell). rows_of width n ++ cs) (append-nil (row_of n width))
   where

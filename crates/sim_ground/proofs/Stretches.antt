@@ -1,6 +1,8 @@
 -- Stretches of cells, one cell or one row more.
 use Rattle.sim_ground.proofs.Common.{in_row, in_rows, IsOnGround, nat_tests, Rect, same_cell, Size, ◌∙◌}
 use Rattle.sim_ground.proofs.Common.{◌≡◌, ℕ, ◌+◌, ◌<◌, ◌≤◌, Bool, true, false, ◌&&◌, ◌||◌, pos, nat_lt, nat_le, ◌==◌, int_le, refl, ap, arith, Cell, covers}
+use Rattle.std.proofs.lemmas.Bool.{and_from, and_right}
+use Rattle.sim_base.proofs.Tests.{left_true, no_number, one_more, past, right_true}
 
 -- ---- truth values
 
@@ -22,29 +24,7 @@ turned false true true = refl
 turned false true false = refl
 turned false false n = refl
 
-first_of : (a b : Bool) → (a && b) ≡ true → a ≡ true
-first_of true b e = refl
-first_of false b e = absurd (cc)
-
-second_of : (a b : Bool) → (a && b) ≡ true → b ≡ true
-second_of true b e = e
-second_of false b e = absurd (cc)
-
-both : (a b : Bool) → a ≡ true → b ≡ true → (a && b) ≡ true
-both true b e f = f
-both false b e f = absurd (cc)
-
-not_second : (a b : Bool) → b ≡ false → (a && b) ≡ false
-not_second true b e = e
-not_second false b e = refl
-
 -- ---- numbers
-
-one_more : (west x n : ℕ) → west ≤ x → (nat_le west n && nat_lt n (x + 1)) ≡ ((nat_le west n && nat_lt n x) || (n == x))
-one_more west x n le = grind (arith, nat_tests)
-
-no_number : (west n : ℕ) → (nat_le west n && nat_lt n west) ≡ false
-no_number west n = grind (arith, nat_tests)
 
 not_yet : (west x : ℕ) → (nat_le west x && nat_lt x x) ≡ false
 not_yet west x = grind (arith, nat_tests)
@@ -52,13 +32,10 @@ not_yet west x = grind (arith, nat_tests)
 has_number : (west x east : ℕ) → west ≤ x → x < east → (nat_le west x && nat_lt x east) ≡ true
 has_number west x east le lt = grind (arith, nat_tests)
 
-past : (west x n : ℕ) → (nat_le west n && nat_lt n x) ≡ true → (n == x) ≡ false
-past west x n e = grind (arith, nat_tests)
-
 -- ---- a row
 
 pub row_none : (z west : ℕ) (c : Cell) → in_row z west west c ≡ false
-row_none z west c = not_second (c.z == z) (nat_le west c.x && nat_lt c.x west) (no_number west c.x)
+row_none z west c = and_right (c.z == z) (nat_le west c.x && nat_lt c.x west) (no_number west c.x)
 
 pub row_more : (z west x : ℕ) (c : Cell) → west ≤ x → in_row z west (x + 1) c ≡ (in_row z west x c || same_cell c (record { x = x; z = z }))
 row_more z west x c le = by (c.z == z) (c.x == x) (one_more west x c.x le)
@@ -72,13 +49,13 @@ row_more z west x c le = by (c.z == z) (c.x == x) (one_more west x c.x le)
 
 -- the next cell is not among those before
 pub row_apart : (z west x : ℕ) (c : Cell) → in_row z west x c ≡ true → same_cell c (record { x = x; z = z }) ≡ false
-row_apart z west x c e = ap (λ (b : Bool). b && (c.z == z)) (past west x c.x (second_of (c.z == z) (nat_le west c.x && nat_lt c.x x) e))
+row_apart z west x c e = ap (λ (b : Bool). b && (c.z == z)) (past west x c.x (right_true (c.z == z) (nat_le west c.x && nat_lt c.x x) e))
 
 pub row_next : (z west x : ℕ) → in_row z west x (record { x = x; z = z }) ≡ false
-row_next z west x = not_second (z == z) (nat_le west x && nat_lt x x) (not_yet west x)
+row_next z west x = and_right (z == z) (nat_le west x && nat_lt x x) (not_yet west x)
 
 pub row_has : (z west x east : ℕ) → west ≤ x → x < east → in_row z west east (record { x = x; z = z }) ≡ true
-row_has z west x east le lt = both (z == z) (nat_le west x && nat_lt x east) (grind (arith, nat_tests)) (has_number west x east le lt)
+row_has z west x east le lt = and_from (z == z) (nat_le west x && nat_lt x east) (grind (arith, nat_tests)) (has_number west x east le lt)
 
 -- ---- several rows
 
@@ -92,7 +69,7 @@ rows_more south z west east c le =
 
 pub rows_apart : (south z west east : ℕ) (c : Cell) → in_rows south z west east c ≡ true → in_row z west east c ≡ false
 rows_apart south z west east c e = ap (λ (b : Bool). b && (nat_le west c.x && nat_lt c.x east))
-    (past south z c.z (first_of (nat_le south c.z && nat_lt c.z z) (nat_le west c.x && nat_lt c.x east) e))
+    (past south z c.z (left_true (nat_le south c.z && nat_lt c.z z) (nat_le west c.x && nat_lt c.x east) e))
 
 -- the cells of the next row are not among those before
 pub rows_next : (south z west east : ℕ) (c : Cell) → in_row z west east c ≡ true → in_rows south z west east c ≡ false
@@ -104,9 +81,9 @@ rows_next south z west east c e = by (in_rows south z west east c) refl
 
 pub rows_has : (south z north west east : ℕ) (c : Cell) → south ≤ z → z < north → in_row z west east c ≡ true → in_rows south north west east c ≡ true
 rows_has south z north west east c le lt e =
-    let row : (c.z == z) ≡ true = first_of (c.z == z) (nat_le west c.x && nat_lt c.x east) e in
-    both (nat_le south c.z && nat_lt c.z north) (nat_le west c.x && nat_lt c.x east) (grind (arith, nat_tests))
-    (second_of (c.z == z) (nat_le west c.x && nat_lt c.x east) e)
+    let row : (c.z == z) ≡ true = left_true (c.z == z) (nat_le west c.x && nat_lt c.x east) e in
+    and_from (nat_le south c.z && nat_lt c.z north) (nat_le west c.x && nat_lt c.x east) (grind (arith, nat_tests))
+    (right_true (c.z == z) (nat_le west c.x && nat_lt c.x east) e)
 
 -- ---- a rectangle
 

@@ -9,4 +9,4 @@ pub use Rattle.sim_plain.specs.declared.message.{DownOf.DownOf, PostOf.PostOf, U
 pub use Rattle.sim_wire.specs.{Fits.IsSmallDown, Fits.IsSmallUp, Frames.down_frame, Frames.up_frame}
 pub use Rattle.sim_pipes.specs.Posts.{told_to}
 pub use Rattle.sim_held.specs.Clients.{Acts, Goes, IsCut, IsSeated, IsSound, IsStage, life_at, Stays, Steps, Takes, frames_of}
-pub use Rattle.sim_client.specs.Lives.{Act, Joining, Life, Off, On, Said, hears, joins, orders, plays}
+pub use Rattle.sim_client.specs.Lives.{Act, Life, Off, On, Said, hears, joins, orders, plays}

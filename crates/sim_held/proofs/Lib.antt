@@ -3,8 +3,6 @@ mod Frames
 mod Waits
 mod Running
 mod Stepping
-mod SpellingWords
-mod Spelled
 mod Small
 mod Passing
 mod Serving

@@ -1,42 +1,16 @@
 -- What a client says has frames.
-use Rattle.{sim_base.specs.Limits.HasFewIds, sim_base.specs.Limits.IsSetup, sim_base.specs.Validity.IsValid}
-use Rattle.sim_base.specs.declared.{command.Command.Command, setup.Setup.Setup}
+use Rattle.sim_base.specs.{declared.command.Command.Command, declared.setup.Setup.Setup, Limits.HasFewIds, Limits.IsSetup, Spelling.spelling, Validity.IsValid}
 use Rattle.std.specs.Prelude.{◌&&◌, nat_lt}
-use Rattle.sim_client.specs.{ClientWords.Answers, declared.did.Did.Did, declared.did.Did.TheVariants.Done, declared.did.Did.TheVariants.Idle}
-use Rattle.sim_client.specs.LifeLaws.{says_of}
-use Rattle.sim_client.specs.Lives.{may_order, may_play, may_tell_done, ordered, played, report_of, Told, told, told_alone, told_with_done}
+use Rattle.sim_client.specs.{ClientWords.Answers, declared.did.Did.Did, declared.did.Did.TheVariants.Done, declared.did.Did.TheVariants.Idle, Lives.Told}
+use Rattle.sim_client.{proofs.Small.orders_small, proofs.Small.plays_small, proofs.Spelled.states_are_short, specs.LifeLaws.says_of}
 use Rattle.{sim_plain.specs.Functions.put, sim_plain_session.specs.Pasts.is_client, sim_plain_session.specs.Players.Player, sim_held.specs.Acting.said_by}
-use Rattle.sim_held.proofs.Common.{suc, Bool, true, false, [], ◌∷◌, ◌++◌, Some, None, Ok, Option, All, All-cons, All-nil, if◌then◌else◌, subst, sym}
-use Rattle.sim_held.proofs.Common.{Act, hears, IsSmallUp, Joining, Life, Off, On, orders, plays}
-use Rattle.sim_held.proofs.Spelled.{states_are_short}
-use Rattle.sim_base.specs.Spelling.{spelling}
+use Rattle.sim_held.proofs.Common.{Bool, true, false, [], ◌∷◌, ◌++◌, Some, None, Ok, Option, All, All-cons, All-nil, if◌then◌else◌, subst, sym}
+use Rattle.sim_held.proofs.Common.{Act, hears, IsSmallUp, Life, On, orders, plays}
 use Rattle.sim_plain.specs.declared.message.DownOf.TheVariants as down
 use Rattle.sim_plain.specs.declared.message.UpOf.TheVariants as up
 
 none : All IsSmallUp []
 none = All-nil IsSmallUp
-
-orders_small : (setup : Setup) (command : Command) (l : Life) → HasFewIds command → All IsSmallUp (says_of (orders setup command l))
-orders_small setup command Off few = none
-orders_small setup command Joining few = none
-orders_small setup command (On player) few = by (may_order setup player)
-  where
-    by : (b : Bool) → All IsSmallUp (says_of (if b then Some (ordered command player) else None))
-    by true = All-cons IsSmallUp (up.Command (suc player.done) command) [] few none
-    by false = none
-
-plays_small : (setup : Setup) (l : Life) → All IsSmallUp (says_of (plays setup l))
-plays_small setup Off = none
-plays_small setup Joining = none
-plays_small setup (On player) = by (may_play setup player)
-  where
-    done : (b : Bool) (p : Player) → All IsSmallUp (if b then told_with_done setup p else told_alone setup p).says
-    done true p = All-cons IsSmallUp (report_of setup p) (up.Done (suc p.done) ∷ []) tt (All-cons IsSmallUp (up.Done (suc p.done)) [] tt none)
-    done false p = All-cons IsSmallUp (report_of setup p) [] tt none
-
-    by : (b : Bool) → All IsSmallUp (says_of (if b then Some (told setup (played setup player)) else None))
-    by true = done (may_tell_done setup (played setup player)) (played setup player)
-    by false = none
 
 hears_small : (setup : Setup) (said : Told) (player : Player) → IsSetup setup → IsValid setup player.state → All IsSmallUp
     (says_of (hears setup None said (On player)))

@@ -1,5 +1,5 @@
 -- What is known where a reader answers a value: each step of it has answered one.
-use Rattle.{serde_json.specs.Data.Data, serde_json.specs.Find.get, std.proofs.lemmas.Bool.leb-true}
+use Rattle.{serde_json.specs.Data.Data, serde_json.specs.Find.get, std.proofs.lemmas.Bool.and_parts, std.proofs.lemmas.Bool.leb-true}
 use Rattle.std.proofs.Common.{◌≡◌, ℕ, ◌≤◌, Bool, true, false, ◌&&◌, List, if◌then◌else◌, nat_le, Some, None, Option, option_map, option_and_then, refl, subst}
 use Rattle.sim_json.specs.{Records.next_or, Values.if_within, Values.natural, Values.natural_at, Values.natural_in}
 
@@ -29,15 +29,11 @@ pub else_some : {X : Type 0} (b : Bool) (o : Option X) (y : X) → (if b then No
 else_some true o y e = absurd cc
 else_some false o y e = (refl, e)
 
-pub both_true : (a b : Bool) → (a && b) ≡ true → (a ≡ true) × (b ≡ true)
-both_true true b e = (refl, e)
-both_true false b e = absurd cc
-
 pub natural_in-within : (low high : ℕ) (d : Data) (n : ℕ) → natural_in low high d ≡ Some n → (low ≤ n) × (n ≤ high)
 natural_in-within low high d n e =
     let read = and_then_some (natural d) (if_within low high) n e in
     let kept = if_some (nat_le low read.0 && nat_le read.0 high) read.0 n read.2 in
-    let tests = both_true (nat_le low read.0) (nat_le read.0 high) kept.0 in
+    let tests = and_parts (nat_le low read.0) (nat_le read.0 high) kept.0 in
     subst (λ m. (low ≤ m) × (m ≤ high)) kept.1 (leb-true low read.0 tests.0, leb-true read.0 high tests.1)
 
 pub natural_at-within : (low high : ℕ) (key : List ℕ) (d : Data) (n : ℕ) → natural_at low high key d ≡ Some n → (low ≤ n) × (n ≤ high)

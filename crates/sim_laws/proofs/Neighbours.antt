@@ -1,8 +1,8 @@
 -- The eight directions: a neighbour lies on the ground, has the cell as its own neighbour, and stands in one row or one column with it just where
 -- the direction is straight.
-use Rattle.sim_base.specs.Steps.{back, cell_at, forward, level, offsets}
+use Rattle.sim_base.{proofs.GroundPoints.below, specs.Steps.back, specs.Steps.cell_at, specs.Steps.forward, specs.Steps.level, specs.Steps.offsets}
 use Rattle.sim_laws.proofs.Common.{int_le, Some, None, Option, option_and_then, refl, and_from, and_parts, ap, ap₂, arith, Cell, cond-true, cond_some, eq-eqb}
-use Rattle.sim_laws.proofs.Common.{ints, is_straight, IsOnGround, le-leb, lt-ltb, ltb-true, ne_eqb, neighbour, Size, slice_get_within, sym, true≢false, ◌∙◌}
+use Rattle.sim_laws.proofs.Common.{ints, is_straight, IsOnGround, le-leb, lt-ltb, ne_eqb, neighbour, Size, slice_get_within, sym, true≢false, ◌∙◌}
 use Rattle.sim_laws.proofs.Common.{◌≡◌, ℕ, zero, suc, ◌<◌, Bool, true, false, ◌&&◌, ◌||◌, eqb, ltb, leb, ℤ, pos, negsuc, ◌+ℤ◌, slice_get, unsigned_abs, int_lt}
 
 -- the two numbers are those of c, which lies on the ground
@@ -14,10 +14,6 @@ pub record IsPlaceOf (size : Size) (x z : ℤ) (c : Cell) : Type 0 where
 pub counts : (z : ℤ) → int_le (pos 0) z ≡ true → z ≡ pos (unsigned_abs z)
 counts (pos n) h = refl
 counts (negsuc n) h = absurd (true≢false (sym h))
-
-pub below : (z : ℤ) (n : ℕ) → int_le (pos 0) z ≡ true → int_lt z (pos n) ≡ true → unsigned_abs z < n
-below (pos m) n h g = ltb-true m n g
-below (negsuc m) n h g = absurd (true≢false (sym h))
 
 abbrev in_bounds : Size → ℤ → ℤ → Bool
 in_bounds size x z = int_le (pos 0) x && int_lt x (pos size.width) && int_le (pos 0) z && int_lt z (pos size.depth)
@@ -65,7 +61,7 @@ pub record HasBack (size : Size) (p c : Cell) (which : ℕ) : Type 0 where
   pub leads : neighbour size p way_back ≡ Some c
   pub as_straight : is_straight way_back ≡ is_straight which
 
-past_eight : (size : Size) (c p : Cell) (w : ℕ) → neighbour size c (suc (suc (suc (suc (suc (suc (suc (suc w)))))))) ≡ Some p → ⊥
+pub past_eight : (size : Size) (c p : Cell) (w : ℕ) → neighbour size c (suc (suc (suc (suc (suc (suc (suc (suc w)))))))) ≡ Some p → ⊥
 past_eight size c p w e = cc
 
 pub neighbour-back : (size : Size) (c p : Cell) (which : ℕ) → IsOnGround size c → neighbour size c which ≡ Some p → HasBack size p c which

@@ -117,7 +117,7 @@ let_go-health id row = by (target_of row == id)
 abbrev pub others : ℕ → Row → Bool
 others id row = not (row.id == id)
 
-target_of-released : (row : Row) → target_of (released row) ≡ 0
+pub target_of-released : (row : Row) → target_of (released row) ≡ 0
 target_of-released row = by row.attack
   where
     by : (a : Option Aim) → unwrap_or (option_map (λ (aim : Aim). aim.target) (option_map (λ (aim : Aim). record aim { target = 0 }) a)) 0 ≡ 0

@@ -1,7 +1,8 @@
 -- The root, which is the greatest number that passes a test, is the one number whose square is within and the next one's is not.
 use Rattle.{sim_base.proofs.RootLemmas.root_is, sim_base.specs.Numbers.greatest, std.proofs.Math.Nat.eq-or-lt_of_le, std.proofs.lemmas.Bool.leb-true}
 use Rattle.sim_laws.{proofs.Common.true≢false, proofs.Common.⊎_elim, proofs.Common.◌∙◌, specs.NumberLaws.RootIsGreatest, specs.NumberLaws.RootIsUnique}
-use Rattle.sim_laws.proofs.Common.{◌≡◌, ℕ, zero, suc, ◌+◌, ◌*◌, ◌<◌, ◌≤◌, Bool, true, false, cond, leb, refl, arith, cases_lt, le-leb, mul-le, root, sym}
+use Rattle.sim_laws.proofs.Common.{◌≡◌, ℕ, zero, suc, ◌+◌, ◌*◌, ◌<◌, ◌≤◌, Bool, true, false, cond, leb, refl, arith, cases_lt, le-leb, root, sym}
+use Rattle.sim_base.proofs.RootLemmas.{self_le_square}
 
 -- where 0 passes, the greatest passes
 greatest_passes : (test : ℕ → Bool) (bound : ℕ) → test 0 ≡ true → test (greatest test bound) ≡ true
@@ -24,10 +25,6 @@ greatest_above test (suc bound) k within passes = by (test (suc bound)) refl (λ
       where
         same : k ≡ suc bound → test k ≡ test (suc bound)
         same h = rw h refl
-
-self_le_square : (r : ℕ) → r ≤ r * r
-self_le_square zero = omega arith
-self_le_square (suc r) = omega (arith, mul-le (suc r) 1 (suc r) (suc r) (omega arith) (omega arith))
 
 pub root_is_greatest : RootIsGreatest
 unfolding root

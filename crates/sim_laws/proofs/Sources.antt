@@ -36,6 +36,9 @@ pub step_from-is : (size : Size) (free : Cell → Bool) (c p : Cell) (which : �
     → step_from size free c which ≡ Some (record { cell = p; cost = step_cost which })
 step_from-is size free c p which e f = rw e (cond-true (may_pass free p c which) (Some (record { cell = p; cost = step_cost which })) None f)
 
+pub same_cost : (v w : ℕ) → is_straight v ≡ is_straight w → step_cost v ≡ step_cost w
+same_cost v w e = ap (λ (b : Bool). cond b 10 14) e
+
 module _ (field : Field) (start : Cell) where
   -- whether a cell is free, as the table has it
   abbrev pub free : Cell → Bool
@@ -56,9 +59,6 @@ module _ (field : Field) (start : Cell) where
   same_passes : (p c : Cell) (v w : ℕ) → IsOnGround field.size p → IsOnGround field.size c → is_straight v ≡ is_straight w
       → may_pass free p c v ≡ may_pass (is_free field start) p c w
   same_passes p c v w f g e = ap₂ (λ (a b : Bool). a || b) e (beside-is p c f g)
-
-  same_cost : (v w : ℕ) → is_straight v ≡ is_straight w → step_cost v ≡ step_cost w
-  same_cost v w e = ap (λ (b : Bool). cond b 10 14) e
 
   pub IsStep-from : (c : Cell) (which : ℕ) (s : Source) → IsOnGround field.size c → is_free field start c ≡ true → IsStepFrom field.size free c which s
       → IsStep field start s.cell c s.cost

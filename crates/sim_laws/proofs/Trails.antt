@@ -10,7 +10,7 @@ use Rattle.sim_laws.proofs.Common.{◌≡◌, ℕ, zero, suc, ◌+◌, ◌-◌, 
 use Rattle.sim_laws.proofs.Rounds.{cost_by-is, cost_by-some, costs, costs-from_IsCost, IsCost-from_costs, option_map-some, same_option, steps}
 use Rattle.sim_laws.proofs.Sources.{free, free-is, free_of, IsListed-from_step, IsStep-from, step_from-is, step_from-some, steps-is}
 
-least_step : (which : ℕ) → 10 ≤ step_cost which
+pub least_step : (which : ℕ) → 10 ≤ step_cost which
 least_step which = cond_both (is_straight which) 10 14 (λ (n : ℕ). 10 ≤ n) (λ e. omega arith) (λ e. omega arith)
 
 module _ (field : Field) (start : Cell) where

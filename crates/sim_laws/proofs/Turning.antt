@@ -243,7 +243,7 @@ from_keeps_valid setup state (Bend id health ∷ past) limits of_players valid r
     bend_keeps_valid setup (from setup state past) id health
     (from_keeps_valid setup state past limits (All-tail (IsItemOf setup) (Bend id health) past of_players) valid room)
 
-first-turn : (setup : Setup) → (first_state setup).turn ≡ 0
+pub first-turn : (setup : Setup) → (first_state setup).turn ≡ 0
 first-turn setup = by setup.first (record { turn = 0; next = 2; word = setup.seed; rows = [] })
   where
     by : (firsts : List First) (state : State)

@@ -1,16 +1,11 @@
 -- The points of a way lie on the ground, and are at most 64.
 use Rattle.{sim_base.specs.Ways.Way, sim_laws.specs.WayLaws.InsideIsOnGround, sim_laws.specs.WayLaws.WayOfIsShort, sim_laws.specs.WayLaws.WayOfStaysInside}
-use Rattle.std.proofs.Common.{length-take}
-use Rattle.std.proofs.lemmas.{List.Elements.All-take, List.Sorted.All-permutation, List.Sorted.IsPermutation-reverse, Nat.div_below}
-use Rattle.sim_laws.proofs.{Common.subst, Common.sym, Common.way_between, Common.way_of, Common.waypoints, Neighbours.below, Trips.walk-on, WayIs.way_of-is_way}
+use Rattle.std.proofs.{Common.length-take, lemmas.List.Elements.All-take, lemmas.List.Sorted.All-permutation, lemmas.List.Sorted.IsPermutation-reverse}
+use Rattle.sim_laws.proofs.{Common.subst, Common.sym, Common.way_between, Common.way_of, Common.waypoints, Trips.walk-on, WayIs.way_of-is_way}
 use Rattle.sim_laws.proofs.Common.{cond_both, Field, first_points, is_inside, is_within, IsFound, IsOnGround, IsTrail, le-leb, lt-ltb, Point, same_cell, Size}
-use Rattle.sim_laws.proofs.Common.{int_lt, int_le, MatchBool, All, All-cons, All-map, All-nil, All-weaker, and_from, and_parts, arith, Cell, cell_of, centre_of}
-use Rattle.sim_laws.proofs.Common.{◌≡◌, ℕ, ◌+◌, ◌*◌, ◌/◌, ◌<◌, ◌≤◌, Bool, true, false, cond, ltb, leb, List, [], ◌∷◌, reverse, length, ℤ, pos, unsigned_abs}
-
-within-below : (raw : ℤ) (cells : ℕ) → is_within raw cells ≡ true → unsigned_abs raw / 65536 < cells
-within-below raw cells h =
-    let (low, high) = and_parts (int_le (pos 0) raw) (int_lt raw (pos (cells * 65536))) h in
-    div_below (unsigned_abs raw) 65536 cells (omega arith) (below raw (cells * 65536) low high)
+use Rattle.sim_laws.proofs.Common.{MatchBool, All, All-cons, All-map, All-nil, All-weaker, and_from, and_parts, arith, Cell, cell_of, centre_of}
+use Rattle.sim_laws.proofs.Common.{◌≡◌, ℕ, ◌+◌, ◌*◌, ◌<◌, ◌≤◌, Bool, true, false, cond, ltb, leb, List, [], ◌∷◌, reverse, length, pos}
+use Rattle.sim_base.proofs.GroundPoints.{within-below}
 
 pub inside-on_ground : InsideIsOnGround
 inside-on_ground size p h =

@@ -1,47 +1,16 @@
 -- What is seen of a client in memory is what is told of the one that has a past; so what is answered to a look is what the session shows.
-use Rattle.{sim_plain_session.proofs.PlayerLemmas.same_turn, sim_session.specs.Standing.life_of, sim_session.specs.Standing.Seen}
-use Rattle.{sim_session.specs.Standing.StandsFor}
-use Rattle.std.proofs.Common.{◌≡◌, ℕ, List, [], ◌∷◌, ◌++◌, map, Some, Option, refl, ap, arith, subst, sym, ◌∙◌}
-use Rattle.sim_base.specs.Limits.{IsFrom}
+use Rattle.sim_session.specs.Standing.{life_of, Seen, StandsFor}
+use Rattle.std.proofs.Common.{◌≡◌, ℕ, List, ◌++◌, Option, ap, arith, subst, sym, ◌∙◌}
+use Rattle.sim_base.specs.{declared.setup.Setup.Setup, declared.state.State.State, Limits.IsFrom}
 use Rattle.sim_live.specs.{Looks.IsLook, Shown.look_text, Shown.shown_as, Shown.told_as, declared.look.Look.Look}
-use Rattle.sim_pipes.specs.{Exchanges.Held, Pipes.AreFrames, Pipes.pipe_in}
-use Rattle.sim_plain.specs.Server.{Server}
-use Rattle.sim_plain_session.specs.Sessions.{Session}
-use Rattle.sim_report.specs.Downs.{released_line}
-use Rattle.sim_serve.specs.Served.{kept_lines}
-use Rattle.sim_server.specs.Standing.{server_of}
-use Rattle.sim_session_text.proofs.Seeing.{endings_same, pipes_same}
+use Rattle.{sim_pipes.specs.Exchanges.Held, sim_pipes.specs.Pipes.pipe_in, sim_plain_session.specs.Sessions.Session}
+use Rattle.{sim_client.specs.ClientWords.state_of, sim_client.specs.Lives.Life, sim_plain.specs.Server.Server, sim_serve.specs.Served.kept_lines}
+use Rattle.{sim_report.specs.Downs.released_line, sim_server.specs.Standing.server_of}
+use Rattle.sim_session_text.proofs.Seeing.{end_same, endings_same, frames_are, pipes_same, state_same}
 use Rattle.sim_session_text.specs.{Endings.end_line, Pipes.pipe_lines, Seen.ending_seen, Seen.pipes_seen, SessionText.ending_lines, declared.ending.End.End}
 use Rattle.sim_wire.specs.{Fits.IsDownFrame, Fits.IsUpFrame, Frames.down_frame, Frames.up_frame}
 use Rattle.sim_live.specs.declared.look.Look.TheVariants as look
-use Rattle.sim_base.specs.declared.{setup.Setup.Setup, state.State.State}
-use Rattle.sim_client.specs.{ClientWords.state_of, LifeLaws.Lives, Lives.Joining, Lives.Life, Lives.Off, Lives.On}
 use Rattle.sim_session_text.specs.{Endings.end_of, Pairs.state_at, Seen.end_seen}
-use Rattle.sim_plain_session.specs.Clients as plain
-
--- what it is in the end
-pub end_same : (setup : Setup) (life : Life) (phase : plain.Phase) → Lives setup life phase → end_seen setup life ≡ end_of setup phase
-end_same setup Off plain.Off lives = refl
-end_same setup Off plain.Joining lives = absurd lives
-end_same setup Off (plain.On seat) lives = absurd lives
-end_same setup Joining plain.Off lives = absurd lives
-end_same setup Joining plain.Joining lives = refl
-end_same setup Joining (plain.On seat) lives = absurd lives
-end_same setup (On player) plain.Off lives = absurd lives
-end_same setup (On player) plain.Joining lives = absurd lives
-end_same setup (On player) (plain.On seat) lives = let same = same_turn setup player seat lives in let turn = same.0 in let shown = same.1 in cc
-
--- and its state
-pub state_same : (setup : Setup) (life : Life) (phase : plain.Phase) → Lives setup life phase → state_of life ≡ state_at setup phase
-state_same setup Off plain.Off lives = refl
-state_same setup Off plain.Joining lives = absurd lives
-state_same setup Off (plain.On seat) lives = absurd lives
-state_same setup Joining plain.Off lives = absurd lives
-state_same setup Joining plain.Joining lives = refl
-state_same setup Joining (plain.On seat) lives = absurd lives
-state_same setup (On player) plain.Off lives = absurd lives
-state_same setup (On player) plain.Joining lives = absurd lives
-state_same setup (On player) (plain.On seat) lives = ap (λ (s : State). Some s) lives.state
 
 -- ---- what is answered to a look
 
@@ -90,17 +59,6 @@ state_looked setup own seen life c l old new is within life_is own_is told s sta
     ∙ ap (λ (e : End). old ++ told_as setup c e (state_of (life_of seen.lives c))) (client_end setup seen s c stands inside)
     ∙ ap (λ (x : Option State). old ++ told_as setup c (end_of setup (s.client c)) x) (client_state setup seen s c stands inside)
     ∙ ap (λ (x : Look). old ++ look_text setup s x) (sym is)
-
--- the frames of messages are those that are made of them
-frames_are : {M : Type 0} (IsFrame : List ℕ → M → Type 0) (frame_of : M → List ℕ) → ((bytes : List ℕ) (m : M) → IsFrame bytes m → bytes ≡ frame_of m)
-    → (frames : List (List ℕ)) (messages : List M) → AreFrames IsFrame frames messages → frames ≡ map frame_of messages
-frames_are IsFrame frame_of framed [] [] are = refl
-frames_are IsFrame frame_of framed [] (m ∷ ms) are = absurd are
-frames_are IsFrame frame_of framed (f ∷ fs) [] are = absurd are
-frames_are IsFrame frame_of framed (f ∷ fs) (m ∷ ms) are =
-    let first = framed f m are.0 in
-    let rest = frames_are IsFrame frame_of framed fs ms are.1 in
-    cc
 
 -- what lies in the pipes
 pub pipes_looked : (setup own : Setup) (seen : Seen) (held : Held) (l : Look) (old new : List ℕ) → l ≡ look.Pipes → held ≡ seen.held → own ≡ setup

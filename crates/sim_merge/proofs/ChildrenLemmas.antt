@@ -1,8 +1,9 @@
 -- Lists of children: one behind another, and the places of a name in a list that ascends.
 use Rattle.sim_merge.proofs.Common.{bytes_eq-Decides, child, child_named, Children, children_of, cond-false, cond-true, followed_by, is_before, is_least}
-use Rattle.sim_merge.proofs.Common.{is_sound, no_children, Node, sym, there, true≢false, with_laid, with_lower, ◌∙◌}
+use Rattle.sim_merge.proofs.Common.{is_sound, no_children, Node, sym, there, with_laid, with_lower, ◌∙◌}
 use Rattle.sim_merge.proofs.Common.{◌≡◌, ℕ, Bool, true, false, ◌&&◌, List, [], ◌∷◌, ◌++◌, Some, None, bytes_eq, Option, refl, ap, are_sound, before, behind}
 use Rattle.sim_merge.proofs.NameOrder.{bytes_eq-before, bytes_eq-behind, is_before-asym, is_before-irrefl, is_before-total, is_before-trans}
+use Rattle.{sim_base.proofs.Tests.left_true, sim_base.proofs.Tests.right_true, std.proofs.lemmas.Bool.and_from}
 
 -- ---- one behind another
 
@@ -32,41 +33,30 @@ with_lower-child name n (Some more) = refl
 
 -- ---- names in a list that ascends
 
-pub and_left : (a b : Bool) → (a && b) ≡ true → a ≡ true
-and_left true b e = refl
-and_left false b e = e
-
-pub and_right : (a b : Bool) → (a && b) ≡ true → b ≡ true
-and_right true b e = e
-and_right false b e = absurd (true≢false (sym e))
-
-pub and_both : (a b : Bool) → a ≡ true → b ≡ true → (a && b) ≡ true
-and_both a b e f = rw (e, f)
-
 pub is_least-before : (x name : List ℕ) (cs : Children) → is_before x name ≡ true → is_least name cs ≡ true → is_least x cs ≡ true
 is_least-before x name no_children e least = refl
 is_least-before x name (child other n cs) e least =
-    and_both (is_before x other) (is_least x cs) (is_before-trans x name other e (and_left (is_before name other) (is_least name cs) least))
-    (is_least-before x name cs e (and_right (is_before name other) (is_least name cs) least))
+    and_from (is_before x other) (is_least x cs) (is_before-trans x name other e (left_true (is_before name other) (is_least name cs) least))
+    (is_least-before x name cs e (right_true (is_before name other) (is_least name cs) least))
 
 -- a name before all of a list has none before it, none of its own, and all behind it
 pub before-least : (name : List ℕ) (cs : Children) → is_least name cs ≡ true → before name cs ≡ no_children
 before-least name no_children least = refl
 before-least name (child other n cs) least =
-    cond-false (is_before other name) _ _ (is_before-asym name other (and_left (is_before name other) (is_least name cs) least))
-    ∙ before-least name cs (and_right (is_before name other) (is_least name cs) least)
+    cond-false (is_before other name) _ _ (is_before-asym name other (left_true (is_before name other) (is_least name cs) least))
+    ∙ before-least name cs (right_true (is_before name other) (is_least name cs) least)
 
 pub child_named-least : (name : List ℕ) (cs : Children) → is_least name cs ≡ true → child_named name cs ≡ None
 child_named-least name no_children least = refl
 child_named-least name (child other n cs) least =
-    cond-false (bytes_eq other name) _ _ (bytes_eq-behind name other (and_left (is_before name other) (is_least name cs) least))
-    ∙ child_named-least name cs (and_right (is_before name other) (is_least name cs) least)
+    cond-false (bytes_eq other name) _ _ (bytes_eq-behind name other (left_true (is_before name other) (is_least name cs) least))
+    ∙ child_named-least name cs (right_true (is_before name other) (is_least name cs) least)
 
 pub behind-least : (name : List ℕ) (cs : Children) → is_least name cs ≡ true → behind name cs ≡ cs
 behind-least name no_children least = refl
 behind-least name (child other n cs) least =
-    cond-true (is_before name other) _ _ (and_left (is_before name other) (is_least name cs) least)
-    ∙ ap (λ ds. child other n ds) (behind-least name cs (and_right (is_before name other) (is_least name cs) least))
+    cond-true (is_before name other) _ _ (left_true (is_before name other) (is_least name cs) least)
+    ∙ ap (λ ds. child other n ds) (behind-least name cs (right_true (is_before name other) (is_least name cs) least))
 
 -- ---- the first child
 
@@ -83,13 +73,13 @@ pub behind-passed : (name other : List ℕ) (n : Node) (cs : Children) → is_be
 behind-passed name other n cs e = cond-false (is_before name other) _ _ (is_before-asym other name e)
 
 pub are_sound-rest : (other : List ℕ) (n : Node) (cs : Children) → are_sound (child other n cs) ≡ true → are_sound cs ≡ true
-are_sound-rest other n cs sound = and_right (is_sound n) (are_sound cs) (and_right (is_least other cs) (is_sound n && are_sound cs) sound)
+are_sound-rest other n cs sound = right_true (is_sound n) (are_sound cs) (right_true (is_least other cs) (is_sound n && are_sound cs) sound)
 
 pub is_sound-first : (other : List ℕ) (n : Node) (cs : Children) → are_sound (child other n cs) ≡ true → is_sound n ≡ true
-is_sound-first other n cs sound = and_left (is_sound n) (are_sound cs) (and_right (is_least other cs) (is_sound n && are_sound cs) sound)
+is_sound-first other n cs sound = left_true (is_sound n) (are_sound cs) (right_true (is_least other cs) (is_sound n && are_sound cs) sound)
 
 pub is_least-rest : (other : List ℕ) (n : Node) (cs : Children) → are_sound (child other n cs) ≡ true → is_least other cs ≡ true
-is_least-rest other n cs sound = and_left (is_least other cs) (is_sound n && are_sound cs) sound
+is_least-rest other n cs sound = left_true (is_least other cs) (is_sound n && are_sound cs) sound
 
 -- it has the name
 pub is_least-same : (name other : List ℕ) (n : Node) (cs : Children) → are_sound (child other n cs) ≡ true → bytes_eq other name ≡ true
@@ -109,7 +99,7 @@ pub is_least-stopped : (name other : List ℕ) (n : Node) (cs : Children) → ar
     is_least name (child other n cs) ≡ true
 is_least-stopped name other n cs sound e f =
     let here : is_before name other ≡ true = is_before-total other name e f in
-    and_both (is_before name other) (is_least name cs) here (is_least-before name other cs here (is_least-rest other n cs sound))
+    and_from (is_before name other) (is_least name cs) here (is_least-before name other cs here (is_least-rest other n cs sound))
 
 -- it has the name or stands behind it
 pub before-stopped : (name other : List ℕ) (n : Node) (cs : Children) → are_sound (child other n cs) ≡ true → is_before other name ≡ false →

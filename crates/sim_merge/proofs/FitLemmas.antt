@@ -1,10 +1,11 @@
 -- A sound tree laid over a resolved one is resolved: it ascends by name, has no marks, and has no more levels.
-use Rattle.sim_merge.proofs.ChildrenLemmas.{and_both, and_left, and_right, are_sound-rest, is_least-before, is_least-rest, is_sound-first}
+use Rattle.sim_merge.proofs.ChildrenLemmas.{are_sound-rest, is_least-before, is_least-rest, is_sound-first}
 use Rattle.sim_merge.proofs.Common.{Node, node, over_children, product_of, refused, Replace, sum_of, there, Tokens, under, Value, value_of, value_over}
 use Rattle.sim_merge.proofs.Common.{are_plain, are_sound, arith, bears, before, behind, child, child_named, Children, Disable, followed_by, is_before, is_least}
 use Rattle.sim_merge.proofs.Common.{is_plain, is_sound, laid, laid_under, Laying, levels, levels_under, lower_children, lower_value, Merge, Mul, no_children}
 use Rattle.sim_merge.proofs.Common.{with_laid, with_lower, with_value, words_over}
 use Rattle.sim_merge.proofs.Common.{◌≡◌, ℕ, zero, suc, ◌≤◌, Bool, true, false, ◌&&◌, List, if◌then◌else◌, Some, None, bytes_eq, Option, refl, absent, Add}
+use Rattle.{sim_base.proofs.Tests.left_true, sim_base.proofs.Tests.right_true, std.proofs.lemmas.Bool.and_from}
 
 -- ---- what a resolved tree meets, with so many levels at most
 
@@ -50,8 +51,8 @@ fit-node k value cs fit = record { sound = fit.sound; plain = fit.plain; few = o
 
 fit-under-node : (k : ℕ) (n : Node) → IsFit (suc k) n → AreFit k (under n)
 fit-under-node k (node value mark cs) fit = record {
-  sound = and_right (bears mark value cs) (are_sound cs) fit.sound;
-  plain = and_right _ (are_plain cs) fit.plain;
+  sound = right_true (bears mark value cs) (are_sound cs) fit.sound;
+  plain = right_true _ (are_plain cs) fit.plain;
   few = omega (arith, fit.few);
 }
 
@@ -62,21 +63,21 @@ fit-lower k (Some n) fit = fit-under-node k n fit
 fit-first : (k : ℕ) (name : List ℕ) (n : Node) (cs : Children) → AreFit k (child name n cs) → IsFit k n
 fit-first k name n cs fit = record {
   sound = is_sound-first name n cs fit.sound;
-  plain = and_left (is_plain n) (are_plain cs) fit.plain;
+  plain = left_true (is_plain n) (are_plain cs) fit.plain;
   few = omega (arith, fit.few);
 }
 
 fit-rest : (k : ℕ) (name : List ℕ) (n : Node) (cs : Children) → AreFit k (child name n cs) → AreFit k cs
 fit-rest k name n cs fit = record {
   sound = are_sound-rest name n cs fit.sound;
-  plain = and_right (is_plain n) (are_plain cs) fit.plain;
+  plain = right_true (is_plain n) (are_plain cs) fit.plain;
   few = omega (arith, fit.few);
 }
 
 fit-child : (k : ℕ) (name : List ℕ) (n : Node) (cs : Children) → IsFit k n → AreFit k cs → is_least name cs ≡ true → AreFit k (child name n cs)
 fit-child k name n cs fit rest least = record {
-  sound = and_both (is_least name cs) (is_sound n && are_sound cs) least (and_both (is_sound n) (are_sound cs) fit.sound rest.sound);
-  plain = and_both (is_plain n) (are_plain cs) fit.plain rest.plain;
+  sound = and_from (is_least name cs) (is_sound n && are_sound cs) least (and_from (is_sound n) (are_sound cs) fit.sound rest.sound);
+  plain = and_from (is_plain n) (are_plain cs) fit.plain rest.plain;
   few = omega (arith, fit.few, rest.few);
 }
 
@@ -90,16 +91,16 @@ if-cases P false x y first second = second refl
 is_least-before-name : (x name : List ℕ) (cs : Children) → is_least x cs ≡ true → is_least x (before name cs) ≡ true
 is_least-before-name x name no_children least = refl
 is_least-before-name x name (child other n cs) least =
-    let rest = is_least-before-name x name cs (and_right (is_before x other) (is_least x cs) least) in
+    let rest = is_least-before-name x name cs (right_true (is_before x other) (is_least x cs) least) in
     if-cases (λ ds. is_least x ds ≡ true) (is_before other name) _ _
-    (λ e. and_both (is_before x other) (is_least x (before name cs)) (and_left (is_before x other) (is_least x cs) least) rest) (λ e. rest)
+    (λ e. and_from (is_before x other) (is_least x (before name cs)) (left_true (is_before x other) (is_least x cs) least) rest) (λ e. rest)
 
 is_least-behind-name : (x name : List ℕ) (cs : Children) → is_least x cs ≡ true → is_least x (behind name cs) ≡ true
 is_least-behind-name x name no_children least = refl
 is_least-behind-name x name (child other n cs) least =
-    let rest = is_least-behind-name x name cs (and_right (is_before x other) (is_least x cs) least) in
+    let rest = is_least-behind-name x name cs (right_true (is_before x other) (is_least x cs) least) in
     if-cases (λ ds. is_least x ds ≡ true) (is_before name other) _ _
-    (λ e. and_both (is_before x other) (is_least x (behind name cs)) (and_left (is_before x other) (is_least x cs) least) rest) (λ e. rest)
+    (λ e. and_from (is_before x other) (is_least x (behind name cs)) (left_true (is_before x other) (is_least x cs) least) rest) (λ e. rest)
 
 fit-before : (k : ℕ) (name : List ℕ) (cs : Children) → AreFit k cs → AreFit k (before name cs)
 fit-before k name no_children fit = fit
@@ -122,14 +123,14 @@ all_before-before name no_children = refl
 all_before-before name (child other n cs) =
     let rest = all_before-before name cs in
     if-cases (λ ds. all_before name ds ≡ true) (is_before other name) _ _
-    (λ e. and_both (is_before other name) (all_before name (before name cs)) e rest) (λ e. rest)
+    (λ e. and_from (is_before other name) (all_before name (before name cs)) e rest) (λ e. rest)
 
 is_least-behind : (name : List ℕ) (cs : Children) → is_least name (behind name cs) ≡ true
 is_least-behind name no_children = refl
 is_least-behind name (child other n cs) =
     let rest = is_least-behind name cs in
     if-cases (λ ds. is_least name ds ≡ true) (is_before name other) _ _
-    (λ e. and_both (is_before name other) (is_least name (behind name cs)) e rest) (λ e. rest)
+    (λ e. and_from (is_before name other) (is_least name (behind name cs)) e rest) (λ e. rest)
 
 fit-named : (k : ℕ) (name : List ℕ) (cs : Children) → AreFit k cs → IfNode (IsFit k) (child_named name cs)
 fit-named k name no_children fit = tt
@@ -142,16 +143,16 @@ fit-named k name (child other n cs) fit =
 is_least-followed_by : (x : List ℕ) (xs ys : Children) → is_least x xs ≡ true → is_least x ys ≡ true → is_least x (followed_by xs ys) ≡ true
 is_least-followed_by x no_children ys e f = f
 is_least-followed_by x (child other n xs) ys e f =
-    and_both (is_before x other) (is_least x (followed_by xs ys)) (and_left (is_before x other) (is_least x xs) e)
-    (is_least-followed_by x xs ys (and_right (is_before x other) (is_least x xs) e) f)
+    and_from (is_before x other) (is_least x (followed_by xs ys)) (left_true (is_before x other) (is_least x xs) e)
+    (is_least-followed_by x xs ys (right_true (is_before x other) (is_least x xs) e) f)
 
 fit-followed_by : (k : ℕ) (name : List ℕ) (xs ys : Children) → AreFit k xs → all_before name xs ≡ true → AreFit k ys →
     ((x : List ℕ) → is_before x name ≡ true → is_least x ys ≡ true) → AreFit k (followed_by xs ys)
 fit-followed_by k name no_children ys fit less rest least = rest
 fit-followed_by k name (child other n xs) ys fit less rest least =
     fit-child k other n (followed_by xs ys) (fit-first k other n xs fit)
-    (fit-followed_by k name xs ys (fit-rest k other n xs fit) (and_right (is_before other name) (all_before name xs) less) rest least)
-    (is_least-followed_by other xs ys (is_least-rest other n xs fit.sound) (least other (and_left (is_before other name) (all_before name xs) less)))
+    (fit-followed_by k name xs ys (fit-rest k other n xs fit) (right_true (is_before other name) (all_before name xs) less) rest least)
+    (is_least-followed_by other xs ys (is_least-rest other n xs fit.sound) (least other (left_true (is_before other name) (all_before name xs) less)))
 
 -- ---- a step of an overlay
 
@@ -164,7 +165,7 @@ step k name lower os o absent (Some cs) fit ahead here rest = record {
   fit = fit-followed_by k name (before name lower) cs (fit-before k name lower fit) (all_before-before name lower) rest.fit
       (λ x e. is_least-before x name cs e (rest.least name (is_least-behind name lower) ahead));
   least = λ x e f. is_least-followed_by x (before name lower) cs (is_least-before-name x name lower e)
-      (rest.least x (is_least-behind-name x name lower e) (and_right (is_before x name) (is_least x os) f));
+      (rest.least x (is_least-behind-name x name lower e) (right_true (is_before x name) (is_least x os) f));
 }
 step k name lower os o (there n) None fit ahead here rest = tt
 step k name lower os o (there n) (Some cs) fit ahead here rest =
@@ -172,10 +173,10 @@ step k name lower os o (there n) (Some cs) fit ahead here rest =
     record {
       fit = fit-followed_by k name (before name lower) (child name n cs) (fit-before k name lower fit) (all_before-before name lower)
           (fit-child k name n cs here rest.fit least_here)
-          (λ x e. and_both (is_before x name) (is_least x cs) e (is_least-before x name cs e least_here));
+          (λ x e. and_from (is_before x name) (is_least x cs) e (is_least-before x name cs e least_here));
       least = λ x e f. is_least-followed_by x (before name lower) (child name n cs) (is_least-before-name x name lower e)
-          (and_both (is_before x name) (is_least x cs) (and_left (is_before x name) (is_least x os) f)
-          (rest.least x (is_least-behind-name x name lower e) (and_right (is_before x name) (is_least x os) f)));
+          (and_from (is_before x name) (is_least x cs) (left_true (is_before x name) (is_least x os) f)
+          (rest.least x (is_least-behind-name x name lower e) (right_true (is_before x name) (is_least x os) f)));
     }
 
 over-fit : (k : ℕ) (value : Value) (lower os : Children) (laying : Option Children) → IfLaid k lower os laying

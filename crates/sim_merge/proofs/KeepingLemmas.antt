@@ -1,5 +1,5 @@
 -- Trees that are kept while templates are resolved.
-use Rattle.sim_merge.proofs.{ChildrenLemmas.and_both, ChildrenLemmas.and_left, ChildrenLemmas.and_right, FitLemmas.IfNode, FitLemmas.IfThere}
+use Rattle.sim_merge.proofs.FitLemmas.{IfNode, IfThere}
 use Rattle.sim_merge.proofs.Common.{AreWithin, arith, bare, chain_root, cons_option, filter_map-append, get_or-map, get_or-set_other, get_or-set_same, Has}
 use Rattle.sim_merge.proofs.Common.{IfRefusal, inherited, is_endless, is_layable, is_missing, is_resolved, IsKept, IsTreeOf, KeepsAll, laid, Laying, layings}
 use Rattle.sim_merge.proofs.Common.{Origin, origin_of, origins_of, OverlayFault, parent_among, parents_in, position-Some, range_with_len, refused, root_in}
@@ -10,6 +10,7 @@ use Rattle.sim_merge.proofs.Common.{◌≡◌, ℕ, zero, suc, ◌+◌, ◌<◌,
 use Rattle.sim_merge.proofs.ResolutionLemmas.{members-first, members-parent, position-map, position-no_number, position-number}
 use Rattle.sim_merge.proofs.ResolvedLemmas.{chain_root-resolved, if-all, IsGood, there-resolved}
 use Rattle.sim_merge.specs.declared.fault.MergeFault.TheVariants as merge
+use Rattle.{sim_base.proofs.Tests.left_true, sim_base.proofs.Tests.right_true, std.proofs.lemmas.Bool.and_from}
 
 -- ---- chains
 
@@ -132,7 +133,7 @@ collected (Some tree ∷ kept) a f has are good =
       count = ap suc rest.count;
       is = ap (λ ns. node_of tree ∷ ns) rest.is ∙ ap (λ l. cons_option (root_there l) (filter_map root_there (map f (range_with_len (a + 1) (length kept)))))
           (sym here);
-      resolved = and_both (is_resolved (node_of tree)) (list_all is_resolved (map node_of (filter_map (λ s. s) kept)))
+      resolved = and_from (is_resolved (node_of tree)) (list_all is_resolved (map node_of (filter_map (λ s. s) kept)))
           (there-resolved (f a) (node_of tree) here (good a)) rest.resolved;
     }
 
@@ -207,8 +208,8 @@ AreWithin-parents_in origins = record {
 pub layable-push : (sources : List Source) (source : Source) → list_all is_layable (roots_in (origins_of sources)) ≡ true → is_layable (node_of source.tree) ≡
     true →
     list_all is_layable (roots_in (origins_of (sources ++ source ∷ []))) ≡ true
-layable-push [] source all one = and_both (is_layable (node_of source.tree)) true one refl
+layable-push [] source all one = and_from (is_layable (node_of source.tree)) true one refl
 layable-push (s ∷ sources) source all one =
-    and_both (is_layable (node_of s.tree)) (list_all is_layable (roots_in (origins_of (sources ++ source ∷ []))))
-    (and_left (is_layable (node_of s.tree)) (list_all is_layable (roots_in (origins_of sources))) all)
-    (layable-push sources source (and_right (is_layable (node_of s.tree)) (list_all is_layable (roots_in (origins_of sources))) all) one)
+    and_from (is_layable (node_of s.tree)) (list_all is_layable (roots_in (origins_of (sources ++ source ∷ []))))
+    (left_true (is_layable (node_of s.tree)) (list_all is_layable (roots_in (origins_of sources))) all)
+    (layable-push sources source (right_true (is_layable (node_of s.tree)) (list_all is_layable (roots_in (origins_of sources))) all) one)

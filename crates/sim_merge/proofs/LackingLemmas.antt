@@ -1,12 +1,9 @@
 -- A set of what a list lacks of some words, while one word after another is put behind the list.
 use Rattle.sim_merge.proofs.Common.{including, list_any, list_any-append, sym, TellsLacking, ◌∙◌}
 use Rattle.sim_merge.proofs.Common.{◌≡◌, ℕ, Bool, true, false, not, ◌&&◌, ◌||◌, List, [], ◌∷◌, ◌++◌, if◌then◌else◌, bytes_eq, refl, ap, bytes_eq-Decides}
+use Rattle.sim_base.proofs.Tests.{or_false}
 
 -- ---- whether a word is in a list
-
-or_false : (a : Bool) → (a || false) ≡ a
-or_false true = refl
-or_false false = refl
 
 or_true : (a : Bool) → (a || true) ≡ true
 or_true true = refl

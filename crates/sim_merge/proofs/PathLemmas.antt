@@ -1,13 +1,13 @@
 -- What is laid over a tree has at each path what the map from paths says.
 use Rattle.sim_merge.proofs.{Common.with_value, Common.words_over, Common.◌∙◌, NameOrder.is_before-asym, NameOrder.is_before-irrefl, NameOrder.is_before-total}
-use Rattle.sim_merge.proofs.ChildrenLemmas.{and_left, and_right, are_sound-rest, child_named-least, is_least-before, is_least-rest, is_sound-first}
+use Rattle.sim_merge.proofs.ChildrenLemmas.{are_sound-rest, child_named-least, is_least-before, is_least-rest, is_sound-first}
 use Rattle.sim_merge.proofs.Common.{Children, cond-false, cond-true, Disable, Entry, false_from_ne_true, followed_by, fun_ext, is_before, is_least, is_plain}
 use Rattle.sim_merge.proofs.Common.{ap, are_plain, are_sound, at, at_child, at_if, before, behind, below, below_if, bytes_eq-Decides, child, child_named}
 use Rattle.sim_merge.proofs.Common.{is_sound, laid, laid_under, lay, Laying, laying_at, lower_children, lower_value, Merge, Mul, no_children, Node, node}
 use Rattle.sim_merge.proofs.Common.{over_children, Path, Paths, paths_if, plain, product_of, refused, Replace, root_by, root_mark, root_value, root_with, subst}
 use Rattle.sim_merge.proofs.Common.{sum_of, sym, there, Tokens, TreeMark, true≢false, under, unmarked_below, Value, value_of, value_over, with_laid, with_lower}
 use Rattle.sim_merge.proofs.Common.{◌≡◌, ℕ, Bool, true, false, List, [], ◌∷◌, is_some, is_none, if◌then◌else◌, Some, None, bytes_eq, Option, refl, absent, Add}
-use Rattle.sim_merge.proofs.FitLemmas.{IfNode}
+use Rattle.{sim_base.proofs.Tests.left_true, sim_base.proofs.Tests.right_true, sim_merge.proofs.FitLemmas.IfNode}
 
 -- ---- options
 
@@ -233,15 +233,15 @@ IsPlainIf o = IfNode (λ n. is_plain n ≡ true) o
 
 plain-named : (name : List ℕ) (cs : Children) → are_plain cs ≡ true → IsPlainIf (child_named name cs)
 plain-named name no_children e = tt
-plain-named name (child other n cs) e = by (bytes_eq other name) (plain-named name cs (and_right (is_plain n) (are_plain cs) e))
+plain-named name (child other n cs) e = by (bytes_eq other name) (plain-named name cs (right_true (is_plain n) (are_plain cs) e))
   where
     by : (b : Bool) → IsPlainIf (child_named name cs) → IsPlainIf (if b then Some n else child_named name cs)
-    by true rest = and_left (is_plain n) (are_plain cs) e
+    by true rest = left_true (is_plain n) (are_plain cs) e
     by false rest = rest
 
 plain-children : (lower : Option Node) → IsPlainIf lower → are_plain (lower_children lower) ≡ true
 plain-children None e = refl
-plain-children (Some (node value mark cs)) e = and_right (is_none mark) (are_plain cs) e
+plain-children (Some (node value mark cs)) e = right_true (is_none mark) (are_plain cs) e
 
 pub sound-named : (name : List ℕ) (cs : Children) → are_sound cs ≡ true → IfNode (λ n. is_sound n ≡ true) (child_named name cs)
 sound-named name no_children e = tt
@@ -322,7 +322,7 @@ entry_of value mark = Some (record { value = value; mark = mark })
 
 -- another value at the root of a plain tree
 root_with-plain : (value : Value) (n : Node) → is_plain n ≡ true → plain value ≡ root_with value (Some (at n))
-root_with-plain value (node own mark cs) e = ap (entry_of value) (sym (none-mark mark (and_left (is_none mark) (are_plain cs) e)))
+root_with-plain value (node own mark cs) e = ap (entry_of value) (sym (none-mark mark (left_true (is_none mark) (are_plain cs) e)))
 
 root-law : (lower : Option Node) (upper : Node) → IsPlainIf lower → (laid lower upper ≡ refused → ⊥) →
     laying_at (laid lower upper) [] ≡ root_by (root_mark (at upper)) (root_value (Some (at upper))) (paths_if lower)

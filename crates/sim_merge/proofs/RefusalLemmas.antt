@@ -1,14 +1,14 @@
 -- What is laid over a tree is refused exactly where an operation at a met path is.
 use Rattle.sim_merge.proofs.{FitLemmas.IfNode, PathLemmas.sound-named, PathLemmas.unrefused, ResolvedLemmas.fit-is_resolved, ResolvedLemmas.is_sound-layable}
-use Rattle.sim_merge.proofs.ChildrenLemmas.{and_left, and_right, are_sound-rest, is_least-rest, is_sound-first}
+use Rattle.sim_merge.proofs.{ChildrenLemmas.are_sound-rest, ChildrenLemmas.is_least-rest, ChildrenLemmas.is_sound-first, NameOrder.bytes_eq-before}
 use Rattle.sim_merge.proofs.Common.{Tokens, true≢false, under, Value, value_of, value_over, with_laid, with_lower, with_value, ⊎_elim, ◌∙◌}
 use Rattle.sim_merge.proofs.Common.{are_sound, at, at_child, at_if, before, behind, below_if, bytes_eq-Decides, child, child_named, Children, cond-false}
 use Rattle.sim_merge.proofs.Common.{cond-true, Disable, false_from_ne_true, fun_ext, HasLaid, inl, inr, is_bad, is_before, is_layable, is_least, is_refused_at}
 use Rattle.sim_merge.proofs.Common.{is_resolved, is_sound, IsRefused, laid, laid_under, Laying, laying_at, lower_at, lower_children, lower_value, Merge, Mul}
 use Rattle.sim_merge.proofs.Common.{no_children, Node, node, over_children, Path, Paths, paths_if, product_of, refused, Replace, subst, sum_of, sym, there}
-use Rattle.sim_merge.proofs.Common.{◌≡◌, ℕ, Bool, true, false, ◌&&◌, ◌⊎◌, List, [], ◌∷◌, is_none, Some, None, bytes_eq, Option, refl, absent, Add, ap}
-use Rattle.sim_merge.proofs.NameOrder.{bytes_eq-before}
+use Rattle.sim_merge.proofs.Common.{◌≡◌, ℕ, Bool, true, false, ◌⊎◌, List, [], ◌∷◌, is_none, Some, None, bytes_eq, Option, refl, absent, Add, ap}
 use Rattle.sim_merge.proofs.PathLemmas.{at_child-named, below_if-paths_if, child_named-behind, lay-laid, merged, named-laid_under, root_value-paths_if}
+use Rattle.{sim_base.proofs.Tests.left_true, sim_base.proofs.Tests.right_true, std.proofs.lemmas.Bool.and_right}
 
 -- ---- below a name
 
@@ -20,15 +20,11 @@ into-named name path lower os o is =
     ap (λ b. is_refused_at b (λ more. at_child os name more) path) (below_if-paths_if name lower)
     ∙ ap (λ (u : Paths). is_refused_at (paths_if (child_named name (lower_children lower))) u path) upper
 
-and-false : (a b : Bool) → b ≡ false → (a && b) ≡ false
-and-false true b e = e
-and-false false b e = refl
-
 -- nothing is refused where the upper tree has no such name
 into-none : (name : List ℕ) (path : Path) (b : Option Paths) (os : Children) → child_named name os ≡ None → is_refused_at b (λ more. at_child os name more)
     path ≡ false
 into-none name path b os is =
-    and-false _ _ (ap (λ e. is_bad e (lower_at b (λ more. at_child os name more) path)) (at_child-named os name path ∙ ap (λ m. at_if (paths_if m) path) is))
+    and_right _ _ (ap (λ e. is_bad e (lower_at b (λ more. at_child os name more) path)) (at_child-named os name path ∙ ap (λ m. at_if (paths_if m) path) is))
 
 under-refused : (name : List ℕ) (lower os : Children) (o : Node) → are_sound os ≡ true → child_named name os ≡ Some o → laid (child_named name lower) o ≡
     refused → laid_under lower os ≡ None
@@ -144,10 +140,10 @@ least-named first name no_children o least is = absurd (differ is)
     differ : None ≡ Some o → ⊥
     differ e = cc
 least-named first name (child other n os) o least is =
-    by (bytes_eq other name) refl (least-named first name os o (and_right (is_before first other) (is_least first os) least))
+    by (bytes_eq other name) refl (least-named first name os o (right_true (is_before first other) (is_least first os) least))
   where
     by : (b : Bool) → bytes_eq other name ≡ b → (child_named name os ≡ Some o → is_before first name ≡ true) → is_before first name ≡ true
-    by true e rest = ap (is_before first) (sym ((bytes_eq-Decides other name).0 e)) ∙ and_left (is_before first other) (is_least first os) least
+    by true e rest = ap (is_before first) (sym ((bytes_eq-Decides other name).0 e)) ∙ left_true (is_before first other) (is_least first os) least
     by false e rest = rest (sym (cond-false (bytes_eq other name) _ _ e) ∙ is)
 
 here-refused : (first : List ℕ) (o : Node) (lower os : Children) → RefusedAt (child_named first lower) o → RefusedBelow lower (child first o os)

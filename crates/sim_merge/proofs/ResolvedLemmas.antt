@@ -1,32 +1,27 @@
 -- Trees of a library, and trees that may be laid over them.
-use Rattle.sim_merge.proofs.ChildrenLemmas.{and_both, and_left, and_right}
-use Rattle.sim_merge.proofs.Common.{arith, chain_root, inherited, is_layable, is_plain, is_resolved, is_sound, laid, laid_unmarked, Laying, levels, list_all}
-use Rattle.sim_merge.proofs.Common.{mark_of, nat_tests, Node, node, refused, subst, sym, there, TreeMark, true≢false, ◌∙◌}
+use Rattle.sim_merge.proofs.Common.{chain_root, inherited, is_layable, is_plain, is_resolved, is_sound, laid, laid_unmarked, Laying, levels, list_all}
+use Rattle.sim_merge.proofs.Common.{mark_of, Node, node, refused, subst, sym, there, TreeMark, true≢false, ◌∙◌}
 use Rattle.sim_merge.proofs.Common.{◌≡◌, ℕ, zero, suc, ◌≤◌, Bool, true, ◌&&◌, List, [], ◌∷◌, is_none, nat_le, slice_get, Some, None, Option, refl, absent}
 use Rattle.sim_merge.proofs.FitLemmas.{fit-laid, IfNode, IfThere, IsFit}
-
-le-true : (n k : ℕ) → nat_le n k ≡ true → n ≤ k
-le-true n k e = grind (arith, nat_tests)
-
-true-le : (n k : ℕ) → n ≤ k → nat_le n k ≡ true
-true-le n k e = grind (arith, nat_tests)
+use Rattle.std.proofs.lemmas.Bool.{and_from, le-leb, leb-true}
+use Rattle.sim_base.proofs.Tests.{left_true, right_true}
 
 pub fit-is_resolved : (n : Node) → is_resolved n ≡ true → IsFit 32 n
 fit-is_resolved n e =
-    let rest = and_right (is_sound n) (is_plain n && nat_le (levels n) 32) e in
+    let rest = right_true (is_sound n) (is_plain n && nat_le (levels n) 32) e in
     record {
-      sound = and_left (is_sound n) (is_plain n && nat_le (levels n) 32) e;
-      plain = and_left (is_plain n) (nat_le (levels n) 32) rest;
-      few = le-true (levels n) 32 (and_right (is_plain n) (nat_le (levels n) 32) rest);
+      sound = left_true (is_sound n) (is_plain n && nat_le (levels n) 32) e;
+      plain = left_true (is_plain n) (nat_le (levels n) 32) rest;
+      few = leb-true (levels n) 32 (right_true (is_plain n) (nat_le (levels n) 32) rest);
     }
 
 is_resolved-fit : (n : Node) → IsFit 32 n → is_resolved n ≡ true
 is_resolved-fit n fit =
-    and_both (is_sound n) (is_plain n && nat_le (levels n) 32) fit.sound
-    (and_both (is_plain n) (nat_le (levels n) 32) fit.plain (true-le (levels n) 32 fit.few))
+    and_from (is_sound n) (is_plain n && nat_le (levels n) 32) fit.sound
+    (and_from (is_plain n) (nat_le (levels n) 32) fit.plain (le-leb (levels n) 32 fit.few))
 
 pub is_sound-layable : (n : Node) → is_layable n ≡ true → is_sound n ≡ true
-is_sound-layable n e = and_left (is_sound n) (is_none (mark_of n) && nat_le (levels n) 32) e
+is_sound-layable n e = left_true (is_sound n) (is_none (mark_of n) && nat_le (levels n) 32) e
 
 none-is_none : (mark : Option TreeMark) → is_none mark ≡ true → mark ≡ None
 none-is_none None e = refl
@@ -34,11 +29,11 @@ none-is_none (Some mark) e = absurd (true≢false (sym e))
 
 pub mark_of-layable : (n : Node) → is_layable n ≡ true → mark_of n ≡ None
 mark_of-layable n e =
-    none-is_none (mark_of n) (and_left (is_none (mark_of n)) (nat_le (levels n) 32) (and_right (is_sound n) (is_none (mark_of n) && nat_le (levels n) 32) e))
+    none-is_none (mark_of n) (left_true (is_none (mark_of n)) (nat_le (levels n) 32) (right_true (is_sound n) (is_none (mark_of n) && nat_le (levels n) 32) e))
 
 levels-layable : (n : Node) → is_layable n ≡ true → levels n ≤ 32
 levels-layable n e =
-    le-true (levels n) 32 (and_right (is_none (mark_of n)) (nat_le (levels n) 32) (and_right (is_sound n) (is_none (mark_of n) && nat_le (levels n) 32) e))
+    leb-true (levels n) 32 (right_true (is_none (mark_of n)) (nat_le (levels n) 32) (right_true (is_sound n) (is_none (mark_of n) && nat_le (levels n) 32) e))
 
 abbrev pub IsGood : Node → Type 0
 IsGood n = is_resolved n ≡ true
@@ -71,8 +66,8 @@ laid-unmarked lower upper e = laid-by_mark lower upper None e refl
 
 pub if-all : (p : Node → Bool) (roots : List Node) (number : ℕ) → list_all p roots ≡ true → IfNode (λ n. p n ≡ true) (slice_get roots number)
 if-all p [] number all = tt
-if-all p (root ∷ roots) zero all = and_left (p root) (list_all p roots) all
-if-all p (root ∷ roots) (suc number) all = if-all p roots number (and_right (p root) (list_all p roots) all)
+if-all p (root ∷ roots) zero all = left_true (p root) (list_all p roots) all
+if-all p (root ∷ roots) (suc number) all = if-all p roots number (right_true (p root) (list_all p roots) all)
 
 inherited-resolved : (lower : Laying) (own : Option Node) → IfThere IsGood lower → IfNode (λ n. is_layable n ≡ true) own → IfThere IsGood (inherited lower own)
 inherited-resolved refused own good layable = tt

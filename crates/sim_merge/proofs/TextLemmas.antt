@@ -1,7 +1,8 @@
 -- Texts in a set beside the list of their bytes.
-use Rattle.sim_merge.proofs.{ChildrenLemmas.and_left, ChildrenLemmas.and_right, Common.prefix_len, Common.subst, Common.sym, Common.true≢false, Common.◌∙◌}
+use Rattle.sim_merge.proofs.Common.{prefix_len, subst, sym, true≢false, ◌∙◌}
 use Rattle.sim_merge.proofs.Common.{position, String, refl, ap, append_assoc, are_distinct, bytes_eq-Decides, false_from_ne_true, Global, insert_key, list_any}
 use Rattle.sim_merge.proofs.Common.{◌≡◌, ℕ, suc, ◌+◌, Bool, true, false, cond, not, ◌||◌, List, [], ◌∷◌, ◌++◌, map, length, string_bytes, string_eq, bytes_eq}
+use Rattle.{sim_base.proofs.Tests.left_true, sim_base.proofs.Tests.right_true, std.proofs.lemmas.Bool.not-true}
 
 -- the bytes of each text
 abbrev pub texts_of : List (String Global) → List (List ℕ)
@@ -34,10 +35,6 @@ or_right : (a b : Bool) → (a || b) ≡ false → b ≡ false
 or_right true b e = absurd (true≢false e)
 or_right false b e = e
 
-not_true : (a : Bool) → not a ≡ true → a ≡ false
-not_true true e = sym e
-not_true false e = refl
-
 differs_from : (d name : List ℕ) (done rest : List (List ℕ)) → list_any (bytes_eq d) (done ++ name ∷ rest) ≡ false → bytes_eq d name ≡ false
 differs_from d name [] rest e = or_left (bytes_eq d name) (list_any (bytes_eq d) rest) e
 differs_from d name (x ∷ done) rest e = differs_from d name done rest (or_right (bytes_eq d x) _ e)
@@ -47,8 +44,8 @@ fresh : (done : List (List ℕ)) (name : List ℕ) (rest : List (List ℕ)) → 
 fresh [] name rest e = refl
 fresh (d ∷ done) name rest e =
     let here : bytes_eq name d ≡ false =
-    differ_sym d name (differs_from d name done rest (not_true _ (and_left (not (list_any (bytes_eq d) (done ++ name ∷ rest))) _ e))) in
-    let later : list_any (bytes_eq name) done ≡ false = fresh done name rest (and_right (not (list_any (bytes_eq d) (done ++ name ∷ rest))) _ e) in
+    differ_sym d name (differs_from d name done rest (not-true _ (left_true (not (list_any (bytes_eq d) (done ++ name ∷ rest))) _ e))) in
+    let later : list_any (bytes_eq name) done ≡ false = fresh done name rest (right_true (not (list_any (bytes_eq d) (done ++ name ∷ rest))) _ e) in
     rw (here, later)
 
 list_any-texts_of : (k : String Global) (keys : List (String Global)) → list_any (string_eq k) keys ≡ list_any (bytes_eq (string_bytes k)) (texts_of keys)

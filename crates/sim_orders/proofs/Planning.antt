@@ -58,3 +58,14 @@ train_there setup state player number building row cell found_is may spot_is =
     let here : spot setup state row.at ≡ Some cell = ap (option_and_then (λ (r : Row). spot setup state r.at)) (sym found_is) ∙ spot_is in
     ap (train_changes setup state player number) found_is ∙ cond-true _ (place_changes player number (spot setup state row.at)) [] may ∙
     ap (place_changes player number) here
+
+-- what is given with a command of one kind is so with its own
+pub of_kind : (kind : ℕ) (setup : Setup) (state : State) (help : Help) (player : ℕ) (command : Command)
+    → IsGiven kind setup state help player command → IsGiven (kind_of command) setup state help player command
+of_kind kind setup state help player command given = record {
+  limits = given.limits;
+  valid = given.valid;
+  player_is = given.player_is;
+  help_is = given.help_is;
+  kind_is = refl;
+}

@@ -1,15 +1,13 @@
 -- Where a search has come to no cost of a cell yet, a step that makes up its floor comes from straight beyond it, as seen from the goal.
-use Rattle.sim_path.proofs.Common.{IsOnGround, IsStep, IsTightStep, IsUnknown, known_or, le-leb, leads_away, least_step, leb-true, left_of, level, move-of}
+use Rattle.sim_path.proofs.Common.{IsOnGround, IsStep, IsTightStep, IsUnknown, known_or, le-leb, leads_away, leb-true, left_of, level, move-of}
 use Rattle.sim_path.proofs.Common.{None, Option, refl, abs_diff, and_from, and_parts, ap, AreAway, arith, back, beside_of, bit_at, cases_lt, Cell, cell_at-some}
 use Rattle.sim_path.proofs.Common.{cost_in, estimate-falls, estimate_to, even_step, Field, floor_of, forward, Front, inl, inr, ints, is_free, IsFront}
-use Rattle.sim_path.proofs.Common.{neighbour, octile, octile-near, Size, step_back, step_cost, step_to, subst, ◌∙◌}
-use Rattle.sim_path.proofs.Common.{◌≡◌, ℕ, zero, suc, ◌+◌, ◌-◌, ◌*◌, ◌/◌, ◌%◌, ◌<◌, ◌≤◌, min, max, Bool, true, false, cond, ◌&&◌, ◌⊎◌, pos, ◌+ℤ◌, nat_le, Some}
+use Rattle.sim_path.proofs.Common.{least_step, neighbour, octile, octile-near, Size, step_back, step_cost, step_to, subst, ◌∙◌}
+use Rattle.sim_path.proofs.Common.{◌≡◌, ℕ, zero, suc, ◌+◌, ◌-◌, ◌*◌, ◌/◌, ◌%◌, ◌<◌, ◌≤◌, min, max, Bool, true, cond, ◌&&◌, ◌⊎◌, pos, ◌+ℤ◌, nat_le, Some}
+use Rattle.{sim_base.proofs.Tests.bit_is, sim_laws.proofs.Neighbours.past_eight}
 
 abbrev pub far : ℕ → ℕ → ℕ
 far x z = 14 * min x z + 10 * (max x z - min x z)
-
-past_eight : (size : Size) (c p : Cell) (w : ℕ) → neighbour size c (suc (suc (suc (suc (suc (suc (suc (suc w)))))))) ≡ Some p → ⊥
-past_eight size c p w e = cc
 
 -- ---- the octile distance rises along a step straight away from the goal, and no other, by what the step costs
 
@@ -217,12 +215,8 @@ module _ (field : Field) (start : Cell) (front : Front) (f : IsFront field start
 
 -- ---- the bits of directions
 
-away_bit : (t : Bool) (n : ℕ) → n ≡ cond t 1 0 → n ≡ 1 → t ≡ true
-away_bit true n e f = refl
-away_bit false n e f = absurd (omega (arith, e))
-
 pub away-by_bit : (at goal : Cell) (away which : ℕ) → which < 8 → AreAway at goal away → bit_at away which ≡ 1 → leads_away at goal which ≡ true
-away-by_bit at goal away which lt m set = away_bit (leads_away at goal which) (bit_at away which) (m which lt) set
+away-by_bit at goal away which lt m set = bit_is (leads_away at goal which) (bit_at away which) (m which lt) set
 
 pub bit-by_away : (at goal : Cell) (away which : ℕ) → which < 8 → AreAway at goal away → leads_away at goal which ≡ true → bit_at away which ≡ 1
 bit-by_away at goal away which lt m is = m which lt ∙ ap (λ (t : Bool). cond t 1 0) is

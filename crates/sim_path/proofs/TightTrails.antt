@@ -1,5 +1,5 @@
 -- Why the cells that are found backwards by tight steps are the trail of the definition.
-use Rattle.sim_path.proofs.{BestOf.at_least, BestOf.later, BestOf.same_first, Ends.last_step}
+use Rattle.{sim_laws.proofs.Keys.first_of_not_before, sim_path.proofs.BestOf.later, sim_path.proofs.BestOf.same_first, sim_path.proofs.Ends.last_step}
 use Rattle.sim_path.proofs.Common.{IsTightTrail, IsTrail, LeadsTo, length-append, move-of, neighbour, neighbour-back, neighbour-below_eight, neighbour-on}
 use Rattle.sim_path.proofs.Common.{append_assoc, AreDead, AreEnds, arith, back_step, cases_lt, Cell, end_key, Field, floor_cost, free-of_walk, go, inl, inr}
 use Rattle.sim_path.proofs.Common.{is_before, is_free, IsBest, IsCost, IsEnd, IsFirstTight, IsFloor, IsOnGround, IsPredecessor, IsStep, IsTight, IsTightStep}
@@ -190,7 +190,7 @@ module _ (field : Field) (start : Cell) (floor : Cell → ℕ) (start_on : IsOnG
           → is_before (end_key goal c n) (end_key goal e (floor e)) ≡ false
       tied c n h same (inl lt) =
           let first = same_first (octile c goal) (octile e goal) (floor c ∷ c.z ∷ c.x ∷ []) (best.cost ∷ e.z ∷ e.x ∷ []) same in
-          let low = at_least (floor c) best.cost (c.z ∷ c.x ∷ []) (e.z ∷ e.x ∷ [])
+          let low = first_of_not_before (floor c) best.cost (c.z ∷ c.x ∷ []) (e.z ∷ e.x ∷ [])
           (sym first ∙ b.least c (floor c) (a.all c n h.walk (same ∙ best_near)) refl) in
           same_first (octile c goal) (octile e goal) (n ∷ c.z ∷ c.x ∷ []) (floor e ∷ e.z ∷ e.x ∷ []) same ∙ later n (floor e) (c.z ∷ c.x ∷ []) (e.z ∷ e.x ∷ [])
           (omega (arith, low, cost_is))

@@ -1,21 +1,13 @@
 -- Who is heard is told of the notice that this gives.
-use Rattle.{sim_pipes.proofs.Telling.told_each, sim_pipes.proofs.Telling.told_more, sim_plain.proofs.Told.notices_are_told, std.specs.Prelude.filter}
+use Rattle.{sim_pipes.proofs.Telling.told_each, sim_pipes.proofs.Telling.told_more, sim_plain.proofs.Told.notices_are_told}
 use Rattle.std.proofs.{Common.is_none, Common.true≢false, lemmas.List.map-append, lemmas.List.Elements.filter_map-append}
 use Rattle.sim_pipes.proofs.Common.{ap, Arrival, Cut, Heard, notice_events, notice_in, PostOf, posts, Rules, sym, told_to, ◌∙◌}
-use Rattle.sim_pipes.proofs.Common.{◌≡◌, ℕ, ◌+◌, ◌<◌, ◌≤◌, Bool, true, false, List, [], ◌∷◌, ◌++◌, map, length, get_or, take, if◌then◌else◌, filter_map, refl}
-use Rattle.sim_plain.specs.{Messages.sender, Notices.noticed, Notices.Report, Posts.differs, Posts.posts_of}
+use Rattle.sim_pipes.proofs.Common.{◌≡◌, ℕ, ◌+◌, ◌<◌, ◌≤◌, Bool, true, false, List, [], ◌∷◌, ◌++◌, length, get_or, take, if◌then◌else◌, filter_map, refl}
+use Rattle.sim_plain.{proofs.Told.none_told, proofs.Told.told, specs.Messages.sender, specs.Notices.noticed, specs.Notices.Report, specs.Posts.posts_of}
 use Rattle.sim_plain.specs.Server.{command_fault, done_fault, is_in, is_out, report_fault, Server, takes_state}
 use Rattle.sim_plain.specs.declared.status.Status.{Status, TheVariants.In, TheVariants.Out, TheVariants.Waiting}
 use Rattle.sim_base.specs.declared.step.Event.TheVariants as event
 use Rattle.sim_plain.specs.declared.message.UpOf.TheVariants as up
-
--- the notices of some reports
-abbrev told : Server → List Report → List (ℕ × ℕ)
-told s reports = map (λ (r : Report). (r.0, r.1.0)) (filter (λ (r : Report). differs (s.reference r.0) r.1.1) reports)
-
-none_told : (s : Server) (accepted : Bool) → told s (if accepted then [] else []) ≡ []
-none_told s true = refl
-none_told s false = refl
 
 -- what one says that is not in gives no notice
 none_outside : {B : Type 0} (rules : Rules) (s : Server) (a : Arrival B) → is_in (s.status (sender a)) ≡ false → noticed rules s a ≡ []

@@ -1,9 +1,9 @@
 -- The words that the proofs here name again and again, passed on from one place. Declares nothing.
-pub use Rattle.std.proofs.{Common.sym, Common.true≢false, Common.◌∙◌, lemmas.List.Elements.filter_map-append, lemmas.Slice.Eq.slice_eq-Decides}
+pub use Rattle.std.proofs.{Common.sym, Common.true≢false, Common.◌∙◌, lemmas.List.Elements.filter_map-append}
 pub use Rattle.std.proofs.Common.{if◌then◌else◌, nat_lt, nat_le, ◌==◌, Some, None, filter, Option, option_map, refl, ap, append-nil, arith, inl, inr, subst}
 pub use Rattle.std.proofs.Common.{◌≡◌, ℕ, zero, suc, ◌+◌, ◌-◌, ◌<◌, ◌≤◌, min, Bool, true, false, not, ◌&&◌, ◌⊎◌, List, [], ◌∷◌, ◌++◌, map, is_some, is_none}
-pub use Rattle.std.proofs.lemmas.Bool.{and_parts, cases_eq, cases_lt, cond-false, cond-true, eq-eqb, eqb-true, ne_eqb, Decides.Decides-eqb}
-pub use Rattle.std.specs.{List.cons_option, Prelude.filter_map, Str.bytes_eq}
+pub use Rattle.std.proofs.lemmas.Bool.{and_parts, cases_eq, cases_lt, cond-false, cond-true, eq-eqb, eqb-true, ne_eqb}
+pub use Rattle.std.specs.{List.cons_option, Prelude.filter_map}
 pub use Rattle.sim_base.specs.declared.command.{Command.TheVariants.Resign, Command.TheVariants.Stop, PlayerCommand.PlayerCommand}
 pub use Rattle.sim_plain.specs.{Functions.put, Functions.up_to, declared.message.DownOf.DownOf, declared.message.PostOf.PostOf, declared.rules.Rules.Rules}
 pub use Rattle.sim_plain.specs.{History.released_by, Server.turn_fault, Server.unless, Server.waits_for, Server.with_status}

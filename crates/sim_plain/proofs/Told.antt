@@ -108,3 +108,13 @@ notices_are_told {B} rules s (Cut c) d =
   where
     s1 : Server
     s1 = with_status c Out s
+
+-- ---- the notices of reports
+
+-- as turn and client
+abbrev pub told : Server → List Report → List (ℕ × ℕ)
+told s reports = map (λ (r : Report). (r.0, r.1.0)) (filter (λ (r : Report). differs (s.reference r.0) r.1.1) reports)
+
+pub none_told : (s : Server) (accepted : Bool) → told s (if accepted then [] else []) ≡ []
+none_told s true = refl
+none_told s false = refl

@@ -3,7 +3,7 @@ pub use Rattle.{sim_laws.proofs.Turning.after_counts_turns, std.specs.Prelude.co
 pub use Rattle.std.proofs.{Common.inr, Common.subst, Common.sym, Common.◌∙◌, Math.Seq.take-append_seam, lemmas.List.length-append, lemmas.List.map-append}
 pub use Rattle.std.proofs.Common.{is_none, if◌then◌else◌, nat_lt, ◌==◌, Some, None, filter, flat_map, Option, refl, ap, append-nil, append_assoc, arith, inl}
 pub use Rattle.std.proofs.Common.{◌≡◌, ℕ, zero, suc, ◌+◌, ◌*◌, ◌%◌, ◌<◌, ◌≤◌, min, Bool, true, false, ◌⊎◌, List, [], ◌∷◌, ◌++◌, map, length, take, ℤ, pos}
-pub use Rattle.std.proofs.lemmas.Bool.{and_from, and_parts, cases_eq, cond-false, cond-true, eq-eqb, le-leb, lt-ltb, ltb-true, ne_eqb}
+pub use Rattle.std.proofs.lemmas.Bool.{and_from, and_parts, cases_eq, cond-false, cond-true, le-leb, lt-ltb, ltb-true}
 pub use Rattle.sim_base.proofs.ExampleMatches.{at_metre, barracks, first, guard, harm, mid, no_id, order, post, setup_of, walker}
 pub use Rattle.sim_base.specs.{Changes.with_row, Spelling.clock_bytes, Spelling.position_bytes, Spelling.position_part, Spelling.rows_with, Spelling.section}
 pub use Rattle.sim_base.specs.declared.{place.Point.Point, state.Row.Row, template.Template.Template}

@@ -1,5 +1,5 @@
 -- A session in bytes.
-use Rattle.sim_plain_session.proofs.{Arrived.server_is_after_arrivals, Functions.put_same}
+use Rattle.{sim_plain.proofs.Statuses.put_same, sim_plain_session.proofs.Arrived.server_is_after_arrivals}
 use Rattle.sim_plain_session.proofs.Common.{ServerHearsBytes, ServerIsAfterBytes, session, spelled, sym, Up, ◌∙◌}
 use Rattle.sim_plain_session.proofs.Common.{downs_of, heard, heard_carry, map-append, posts, posts_carry, Rules, rules_of, Server, server_after}
 use Rattle.sim_plain_session.proofs.Common.{◌≡◌, ℕ, List, [], ◌∷◌, ◌++◌, map, refl, ap, Arrival, BytesGoDown, BytesGoUp, carry_arrival, carry_down, carry_up}

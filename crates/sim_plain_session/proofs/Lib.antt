@@ -1,5 +1,4 @@
 pub mod Common
-pub mod Functions
 pub mod GoingOn
 pub mod Arrived
 pub mod Shown

@@ -1,7 +1,8 @@
 -- A client with a state goes on standing for one with a past.
-use Rattle.sim_plain_session.proofs.{Common.State, Common.subst, Common.sym, Common.turn, Common.turns_in, Common.◌∙◌, Functions.put_other, Functions.put_same}
+use Rattle.sim_plain_session.proofs.Common.{State, subst, sym, turn, turns_in, ◌∙◌}
 use Rattle.sim_plain_session.proofs.Common.{bent, cases_eq, digest, inl, inr, LearningStands, mark, PlayerCommand, PlayingStands, put, SameMark, SameTurn}
 use Rattle.sim_plain_session.proofs.Common.{◌≡◌, ℕ, suc, ◌<◌, ◌⊎◌, List, [], ◌∷◌, ◌++◌, refl, after_counts_turns, ap, arith, BeginningStands, BendingStands}
+use Rattle.sim_plain.proofs.Statuses.{put_other, put_same}
 
 pub same_turn : SameTurn
 same_turn setup player seat s =

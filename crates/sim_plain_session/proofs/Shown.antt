@@ -1,5 +1,5 @@
 -- What is printed of a state is that of the client's past.
-use Rattle.sim_plain_session.proofs.{Common.stepped_by, Common.subst, Common.turns_in, Common.Up, Common.up_to, Functions.put_same}
+use Rattle.sim_plain_session.proofs.Common.{stepped_by, subst, turns_in, Up, up_to}
 use Rattle.sim_plain_session.proofs.Common.{EventsAreShown, fall_events, falls, hears, inl, inr, is_active, is_client, IsAt, IsShown, Joining, joins, le-leb}
 use Rattle.sim_plain_session.proofs.Common.{Phase, played, plays, put, rise_events, rises, row_of, Session, Setup, start_events, StartsAreShown, state_of, Step}
 use Rattle.sim_plain_session.proofs.Common.{after, and_from, arith, begun, bends, Carries, client_of, Command, cond-true, digest, Down, Event, events_by}
@@ -8,6 +8,7 @@ use Rattle.sim_plain_session.proofs.Common.{◌≡◌, ℕ, zero, suc, ◌≤◌
 use Rattle.sim_base.specs.declared.step.Event.TheVariants as event
 use Rattle.sim_base.specs.declared.step.Step.TheVariants as step
 use Rattle.sim_plain.specs.declared.message.DownOf.TheVariants as down
+use Rattle.sim_plain.proofs.Statuses.{put_same}
 
 -- a client that is this is at a turn, and its state has this digest
 abbrev AtPhase : Setup → Phase → ℕ → List ℕ → Type 0
@@ -152,7 +153,7 @@ events_are_shown setup s x e has = by (is_client setup (client_of x)) has
 
 -- ---- the beginning
 
-carries_either : (xs ys : List Event) (e : Event) → Carries (xs ++ ys) e → Carries xs e ⊎ Carries ys e
+pub carries_either : (xs ys : List Event) (e : Event) → Carries (xs ++ ys) e → Carries xs e ⊎ Carries ys e
 carries_either [] ys e has = inr has
 carries_either (x ∷ xs) ys e (inl same) = inl (inl same)
 carries_either (x ∷ xs) ys e (inr has) = by (carries_either xs ys e has)

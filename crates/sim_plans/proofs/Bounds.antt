@@ -5,7 +5,7 @@ use Rattle.sim_laws.proofs.WayInside.{inside-on_ground, way_of-inside}
 use Rattle.sim_plans.proofs.Common.{all_at, and_parts, arith, Arms, arms_of, found_row, ints, is_inside, IsInside, IsKnownRow, IsLooselyValid, IsSetup}
 use Rattle.sim_plans.proofs.Common.{known_row, known_template, Point, Row, row_of, Setup, size_of, State, subst, Template, template_of, way_of}
 use Rattle.sim_plans.proofs.Common.{◌≡◌, ℕ, ◌*◌, ◌<◌, ◌≤◌, true, List, ℤ, pos, ◌≤ℤ◌, slice_get, Some, None, All, Option, option_and_then, refl, All-weaker}
-use Rattle.sim_plans.specs.Sizes.{IsCoordinate, IsGround}
+use Rattle.{sim_base.proofs.GroundPoints.inside_placed, sim_plans.specs.Sizes.IsCoordinate, sim_plans.specs.Sizes.IsGround}
 
 coordinate : (raw : ℤ) (cells : ℕ) → cells ≤ 256 → is_within raw cells ≡ true → IsCoordinate raw
 coordinate raw cells le h =
@@ -24,9 +24,6 @@ placed_in size p ground inside =
 pub ground : (setup : Setup) → IsSetup setup → IsGround (size_of setup.land)
 ground setup limits = record { width = limits.land.width.1; depth = limits.land.depth.1 }
 
-pub placed : (setup : Setup) (p : Point) → IsSetup setup → IsInside setup p → IsPlaced p
-placed setup p limits inside = placed_in (size_of setup.land) p (ground setup limits) inside
-
 -- the points of a way
 pub way_placed : (field : Field) (from goal : Point) → IsGround field.size → is_inside field.size from ≡ true → is_inside field.size goal ≡ true
     → All IsPlaced (way_of field from goal).points
@@ -42,7 +39,7 @@ found_inside setup state id row valid e =
     v.at
 
 pub row_placed : (setup : Setup) (rows : List Row) (row : Row) → IsSetup setup → IsKnownRow 0 setup rows row → IsPlaced row.at
-row_placed setup rows row limits known = let (t, e, v) = known_row 0 setup rows row known in placed setup row.at limits v.at
+row_placed setup rows row limits known = let (t, e, v) = known_row 0 setup rows row known in inside_placed setup row.at limits v.at
 
 pub found_placed : (setup : Setup) (state : State) (id : ℕ) (row : Row) → IsSetup setup → IsLooselyValid setup state → row_of state id ≡ Some row
     → IsPlaced row.at

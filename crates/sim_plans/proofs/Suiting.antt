@@ -69,7 +69,7 @@ stand_changes-set target hold row =
     (stance_changes-set target hold row) ∙
     halt_changes-set (with_stance hold (aimed_at target row))
 
-same_point-true : (p q : Point) → same_point p q ≡ true → p ≡ q
+pub same_point-true : (p q : Point) → same_point p q ≡ true → p ≡ q
 same_point-true p q e =
     let (x, z) = and_parts (int_eq p.x q.x) (int_eq p.z q.z) e in
     let ex : p.x ≡ q.x = grind arith in

@@ -9,7 +9,7 @@ pub use Rattle.std.proofs.lemmas.List.{flat_map_more, map-append, map-id, revers
 pub use Rattle.std.proofs.lemmas.List.FromFn.{filter_of_map_range_with_len_more, length-map-range_with_len, map-range_with_len_more}
 pub use Rattle.std.specs.Prelude.{◌||◌, IfOk, if◌then◌else◌, OnOk, Ok, Err, codes, fold, filter, Result, String}
 pub use Rattle.sim_base.specs.{Turn.Bend, Turn.turn, Turn.turns_in, declared.memory.OutOfMemory.OutOfMemory}
-pub use Rattle.sim_laws.proofs.Turning.{after_counts_turns, from_counts_turns, own_turns_are_of_players, own_turns_are_so_many}
+pub use Rattle.sim_laws.proofs.Turning.{after_counts_turns, from_counts_turns, own_turns_are_so_many}
 pub use Rattle.sim_play.specs.{Lines.past_lines, Lines.play_text, Lines.rejoin_text, Lines.turn_lines, Realms.held, Realms.held_rooted, Realms.TellsRealm}
 pub use Rattle.sim_play.specs.{Logs.digests_after, Logs.log_after, Logs.match_turns, Logs.past_of, Logs.state_after, Seen.resight_text, Seen.sight_file}
 pub use Rattle.sim_play.specs.{Paid.paid_lines, Paid.paid_state, Paid.paid_stocks, Paid.player_line, States.later_of, States.states_to}

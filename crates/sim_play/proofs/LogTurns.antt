@@ -1,5 +1,5 @@
 -- One turn of a log more, and the match's own turns as those of a log.
-use Rattle.{sim_play.proofs.PaidOnes.own_orders, std.proofs.lemmas.List.length-take-le}
+use Rattle.{sim_turn.proofs.Counting.players_at, std.proofs.lemmas.List.length-take-le}
 use Rattle.sim_play.proofs.Common.{take_more, Turn, turn, turns_in, ◌∙◌}
 use Rattle.sim_play.proofs.Common.{after, after_counts_turns, All-cons, All-nil, ap, arith, Bend, digest, digests_after, IsOfTurns, IsOrderOf, IsSetup}
 use Rattle.sim_play.proofs.Common.{last_state, length-map-range_with_len, Log, log_after, map-append, map-range_with_len_more, match_turns, orders_at}
@@ -87,7 +87,7 @@ match_players setup limits = by 1 setup.turns (omega arith)
     by zero (suc n) low = absurd (omega (arith, low))
     by (suc before) (suc n) low =
         let here : before + 1 ≡ suc before = omega arith in
-        All-cons (All (IsOrderOf setup)) _ _ (subst (λ (t : ℕ). All (IsOrderOf setup) (orders_at t setup.commands)) here (own_orders setup before limits))
+        All-cons (All (IsOrderOf setup)) _ _ (subst (λ (t : ℕ). All (IsOrderOf setup) (orders_at t setup.commands)) here (players_at setup before limits))
         (by (suc before + 1) n (omega arith))
 
 -- what is known of the digests of a board of the same match

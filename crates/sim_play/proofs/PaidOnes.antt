@@ -1,8 +1,7 @@
 -- One paid turn more of a match: its books, its number and its line.
-use Rattle.sim_play.proofs.Common.{append_assoc, AreFed, AreKept, arith, Books, books_after, books_of, digest, Economy, IsOrderOf, IsSetup, kept_past}
-use Rattle.sim_play.proofs.Common.{orders_at, own_turns_are_of_players, paid_lines, paid_state, paid_stocks, paid_turn, Setup, State, states_are_after, Stocks}
-use Rattle.sim_play.proofs.Common.{sym, Systems, Turn, turn_line, turns_in, ◌∙◌}
-use Rattle.sim_play.proofs.Common.{◌≡◌, ℕ, zero, suc, ◌+◌, List, [], ◌++◌, IfOk, Ok, Err, codes, All, Result, refl, after_counts_turns, ap, append-nil}
+use Rattle.sim_play.proofs.Common.{append_assoc, AreFed, AreKept, Books, books_after, books_of, digest, Economy, kept_past, orders_at, paid_lines, paid_state}
+use Rattle.sim_play.proofs.Common.{paid_stocks, paid_turn, Setup, State, states_are_after, Stocks, sym, Systems, turn_line, turns_in, ◌∙◌, ◌≡◌, ℕ, zero, suc}
+use Rattle.sim_play.proofs.Common.{◌+◌, List, ◌++◌, IfOk, Ok, Err, codes, Result, refl, after_counts_turns, ap, append-nil}
 
 -- systems that nothing was told yet
 pub kept_so_far : (setup : Setup) (state : State) (s : Systems) → AreFed setup state s → AreKept s s
@@ -10,10 +9,6 @@ kept_so_far setup state s fed = record {
   kinds = record { ground = fed.ground.kinds; range = fed.range.kinds; watch = fed.watch.kinds; census = fed.census.kinds };
   rebuilds = record { ground = refl; range = refl; watch = refl; census = refl };
 }
-
--- the match's own commands of a turn are given by its players
-pub own_orders : (setup : Setup) (n : ℕ) → IsSetup setup → All (IsOrderOf setup) (orders_at (n + 1) setup.commands)
-own_orders setup n limits = own_turns_are_of_players setup n 1 limits 0 (Turn []) (omega arith)
 
 module _ (setup : Setup) (economy : Economy) where
   kept_turns : (n : ℕ) → turns_in (kept_past setup economy n) ≡ n

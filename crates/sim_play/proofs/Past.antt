@@ -1,15 +1,12 @@
 -- One turn more of a match's own past: its state and its line.
 use Rattle.sim_play.proofs.Common.{after_counts_turns, ap, append-nil, append_assoc, arith, digest, first_state, from, Global, OutOfMemory, own_turns}
 use Rattle.sim_play.proofs.Common.{own_turns_are_so_many, past_lines, rejoin_text, Setup, State, sym, turn_line, ◌∙◌}
-use Rattle.sim_play.proofs.Common.{◌≡◌, ℕ, zero, suc, ◌+◌, ◌-◌, ◌≤◌, List, [], ◌++◌, IfOk, OnOk, Ok, Err, string_bytes, codes, Result, String, after}
-use Rattle.sim_play.proofs.Playing.{one_turn_more}
+use Rattle.sim_play.proofs.Common.{◌≡◌, ℕ, zero, suc, ◌+◌, ◌-◌, ◌≤◌, List, ◌++◌, IfOk, Ok, Err, string_bytes, codes, Result, String, after}
+use Rattle.{sim_laws.proofs.Turning.first-turn, sim_play.proofs.Playing.one_turn_more}
 
 -- after so many turns the state stands at that turn
 pub own_turn : (setup : Setup) (n : ℕ) → (after setup (own_turns setup 0 n)).turn ≡ n
 own_turn setup n = after_counts_turns setup (own_turns setup 0 n) ∙ own_turns_are_so_many setup 0 n
-
-first_turn : (setup : Setup) → (first_state setup).turn ≡ 0
-first_turn setup = after_counts_turns setup []
 
 -- the turn that is played next is the match's own
 pub own_more : (setup : Setup) (old new : State) (t : ℕ) → old.turn ≡ t → new ≡ from setup old (own_turns setup old.turn (t + 1 - old.turn))
@@ -17,7 +14,7 @@ pub own_more : (setup : Setup) (old new : State) (t : ℕ) → old.turn ≡ t �
     → new ≡ after setup (own_turns setup 0 (t + 1))
 own_more setup old new t at is so_far =
     let start = first_state setup in
-    let none = first_turn setup in
+    let none = first-turn setup in
     let place : t ≡ start.turn + t = omega (arith, none) in
     let more : suc t ≡ t + 1 = omega arith in
     one_turn_more setup old new t at is start t place (so_far ∙ ap (λ (k : ℕ). from setup start (own_turns setup k t)) (sym none))
@@ -66,7 +63,7 @@ past_lines-first word setup start n =
 
 -- a board that was started has no past
 pub own_start : (setup : Setup) (state : State) → state ≡ first_state setup → state ≡ after setup (own_turns setup 0 state.turn)
-own_start setup state is = is ∙ ap (λ (k : ℕ). after setup (own_turns setup 0 k)) (sym (ap (λ (s : State). s.turn) is ∙ first_turn setup))
+own_start setup state is = is ∙ ap (λ (k : ℕ). after setup (own_turns setup 0 k)) (sym (ap (λ (s : State). s.turn) is ∙ first-turn setup))
 
 -- a state after so many of the match's own turns stands at that turn
 module _ (setup : Setup) (state : State) (n : ℕ) (is : state ≡ after setup (own_turns setup 0 n)) where
@@ -104,11 +101,6 @@ ended_lines word setup same at turn until old middle new of_same is le first res
     ∙ ap (λ (k : ℕ). old ++ (past_lines word setup 0 (suc turn) ++ past_lines word setup k (until - turn))) next
     ∙ ap (λ (xs : List ℕ). old ++ xs) (past_lines-append word setup 0 (suc turn) (until - turn))
     ∙ ap (λ (k : ℕ). old ++ past_lines word setup 0 k) many
-
--- what is known of a call that was done
-pub of_done : {X E : Type 0} (r : Result X E) (P Q : Type 0) → (P → Q) → OnOk r P → OnOk r Q
-of_done (Ok x) P Q f h = f h
-of_done (Err e) P Q f h = tt
 
 -- the lines of the first client, and those of the second from the turn at which it joined
 pub joined_text : (setup : Setup) (at turn : ℕ) (first : List ℕ) (text : Result (String Global) OutOfMemory) → at ≡ turn

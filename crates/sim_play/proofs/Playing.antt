@@ -24,19 +24,6 @@ module _ (setup : Setup) (old new : State) (t : ℕ) (at : old.turn ≡ t) (is :
   next_number = ap (λ (s : State). s.turn) is ∙ ap (λ (k : ℕ). (from setup old (own_turns setup old.turn k)).turn) one ∙
       from_counts_turns setup old (own_turns setup old.turn 1) ∙ ap (λ (k : ℕ). k + 1) at
 
--- systems that were kept, and kept again
-pub kept_on : (s t u : Systems) → AreKept s t → AreKept t u → AreKept s u
-kept_on s t u first second = record {
-  kinds = second.kinds;
-  rebuilds = record {
-    ground = second.rebuilds.ground ∙ first.rebuilds.ground;
-    range = second.rebuilds.range ∙ first.rebuilds.range;
-    watch = second.rebuilds.watch ∙
-        first.rebuilds.watch;
-    census = second.rebuilds.census ∙ first.rebuilds.census;
-  };
-}
-
 -- systems of which each was built once at most, and that were kept since
 pub most_kept : (s t u : Systems) → AreBuiltOnceAtMost s t → AreKept t u → AreBuiltOnceAtMost s u
 most_kept s t u most kept = record {

@@ -2,7 +2,8 @@
 use Rattle.sim_range.proofs.{Areas.column_is, Areas.row_is, Bucketing.small_west, Common.◌∙◌, Nearing.chosen, Planning.abs_swap, Planning.none_held}
 use Rattle.sim_range.proofs.Common.{held_in, in_mask, is_near, is_seen, is_seen_by, IsClose, IsInner, Land, mul-le, Point, sees, SeesFrom, square, subst, sym}
 use Rattle.sim_range.proofs.Common.{slice_index, unsigned_abs, Some, None, All, Option, refl, ap, ArePlaced, arith, cell_of, differ, Fact, HasOnlyMoved}
-use Rattle.sim_range.proofs.Common.{◌≡◌, ℕ, ◌+◌, ◌*◌, ◌/◌, ◌%◌, ◌≤◌, Bool, true, false, not, ◌&&◌, List, [], ℤ, pos, ◌-ℤ◌, ◌≤ℤ◌, IfSome, nat_le, ◌==◌}
+use Rattle.sim_range.proofs.Common.{◌≡◌, ℕ, ◌+◌, ◌*◌, ◌/◌, ◌%◌, ◌≤◌, Bool, true, false, not, ◌&&◌, List, [], ℤ, pos, ◌-ℤ◌, ◌≤ℤ◌, IfSome, ◌==◌}
+use Rattle.std.proofs.lemmas.Bool.{le-leb}
 
 -- ---- points of a bucket
 
@@ -24,14 +25,11 @@ square_swap p q =
     ap (λ (n : ℕ). n * n + unsigned_abs (p.z -ℤ q.z) * unsigned_abs (p.z -ℤ q.z)) (abs_swap p.x q.x)
     ∙ ap (λ (n : ℕ). unsigned_abs (q.x -ℤ p.x) * unsigned_abs (q.x -ℤ p.x) + n * n) (abs_swap p.z q.z)
 
-leb : (m n : ℕ) → m ≤ n → nat_le m n ≡ true
-leb m n le = grind arith
-
 in_sight : (p q : Point) (near : ℕ) (vision : ℤ) → square p q ≤ near * near → near ≤ unsigned_abs vision → is_near p q vision ≡ true
 in_sight p q near vision close more =
     let r = unsigned_abs vision in
     let most = mul-le near near r r more more in
-    leb (square p q) (r * r) (omega (arith, close, most))
+    le-leb (square p q) (r * r) (omega (arith, close, most))
 
 -- ---- who has only moved
 

@@ -1,7 +1,7 @@
 -- The facts in a bucket when one of all facts changes.
 use Rattle.sim_range.proofs.Common.{None, Option, refl, Above, above_at, above_less, ap, arith, bucket_key, changed_at, eq-eqb, Fact, fact_with, found_above}
-use Rattle.sim_range.proofs.Common.{held_in, is_in, Missing, missing_without, ne_eqb, part_in, placed, placed_behind, placed_first, Rising, rising_without, sym}
-use Rattle.sim_range.proofs.Common.{with_only, without, ◌∙◌}
+use Rattle.sim_range.proofs.Common.{held_in, is_in, Missing, missing_without, ne_eqb, part_in, placed, placed_first, Rising, rising_without, sym}
+use Rattle.sim_range.proofs.Common.{placed_behind, with_only, without, ◌∙◌}
 use Rattle.sim_range.proofs.Common.{◌≡◌, ℕ, zero, suc, ◌+◌, ◌<◌, Bool, true, false, cond, not, ◌&&◌, List, [], ◌∷◌, length, get_or, take, nat_lt, ◌==◌, Some}
 
 -- ---- one is taken out, or put in place

@@ -4,8 +4,9 @@ use Rattle.sim_range.proofs.Common.{AreBuckets, ArePlaced, arith, Ascend, below_
 use Rattle.sim_range.proofs.Common.{IsPermutation-middle, IsPermutation-refl, IsPermutation-sym, IsPermutation-trans, IsPlaced, Land, lt-ltb, mul-add-lt}
 use Rattle.sim_range.proofs.Common.{id_of_fact, in_mask, inl, inr, is_near, IsHeld, IsNonDecreasing, IsPermutation-append_left, IsPermutation-cons}
 use Rattle.sim_range.proofs.Common.{mul-le, Point, Rising, rising, subst, sym, within_among, ◌∙◌}
-use Rattle.sim_range.proofs.Common.{nat_le, ◌==◌, unsigned_abs, All, filter, IsPermutation, refl, Above, All-filter, All-head, All-tail, and_parts, ap}
+use Rattle.sim_range.proofs.Common.{◌==◌, unsigned_abs, All, filter, IsPermutation, refl, Above, All-filter, All-head, All-tail, and_parts, ap}
 use Rattle.sim_range.proofs.Common.{◌≡◌, ℕ, suc, ◌+◌, ◌*◌, ◌<◌, ◌≤◌, Bool, true, false, cond, ◌&&◌, List, [], ◌∷◌, ◌++◌, map, length, get_or, ℤ, ◌-ℤ◌, nat_lt}
+use Rattle.std.proofs.lemmas.Bool.{leb-true}
 
 -- whether one has health and a masked owner, and is near a point
 abbrev pub near_by : Point → ℤ → ℕ → Fact → Bool
@@ -128,16 +129,13 @@ root_le a b r h =
       | inr le ↦ omega (arith, le)
     ]
 
-le_by : (m n : ℕ) → nat_le m n ≡ true → m ≤ n
-le_by m n h = grind arith
-
 pub gap_le : (p q : Point) (radius : ℤ) → is_near p q radius ≡ true → (unsigned_abs (p.x -ℤ q.x) ≤ unsigned_abs radius)
     × (unsigned_abs (p.z -ℤ q.z) ≤ unsigned_abs radius)
 gap_le p q radius near =
     let x = unsigned_abs (p.x -ℤ q.x) in
     let z = unsigned_abs (p.z -ℤ q.z) in
     let r = unsigned_abs radius in
-    let le : x * x + z * z ≤ r * r = le_by (x * x + z * z) (r * r) near in
+    let le : x * x + z * z ≤ r * r = leb-true (x * x + z * z) (r * r) near in
     (root_le x z r le, root_le z x r (omega (arith, le)))
 
 -- nobody who may be near stands in a bucket of this number

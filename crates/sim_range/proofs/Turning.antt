@@ -1,17 +1,14 @@
 -- Ascending ids when one comes or goes.
-use Rattle.{sim_fact_lists.proofs.Ids.Above, sim_range.proofs.Common.◌∙◌}
-use Rattle.sim_range.proofs.Common.{IsStrictlyIncreasing, le-ltb, lt-ltb, nat_cmp, ne_eqb, searched, subst, sym, with_behind, with_first, with_id, without_id}
+use Rattle.{sim_fact_lists.proofs.Ids.Above, sim_fact_lists.proofs.Ids.above_at, sim_fact_lists.proofs.Ids.above_by, sim_range.proofs.Common.◌∙◌}
+use Rattle.sim_range.proofs.Common.{IsStrictlyIncreasing, le-ltb, nat_cmp, ne_eqb, searched, subst, sym, with_behind, with_first, with_id, without_id}
 use Rattle.sim_range.proofs.Common.{remove, refl, AllPairs-from_increasing, ap, arith, cases_eq, cases_lt, eq-eqb, inl, inr, IsBinarySearchResult}
 use Rattle.sim_range.proofs.Common.{◌≡◌, ℕ, zero, suc, ◌+◌, ◌<◌, ◌≤◌, Bool, true, false, cond, List, [], ◌∷◌, length, get_or, nat_lt, ◌==◌, Ok, Err, insert}
+use Rattle.sim_fact_lists.proofs.Ids.{absent_there, inserted_there}
 
 -- each number is below all later ones
 abbrev pub Ups : List ℕ → Type 0
 Ups [] = Unit {0}
 Ups (x ∷ xs) = Above x xs × Ups xs
-
-above_by : (n : ℕ) (xs : List ℕ) → ((k : ℕ) → k < length xs → n < get_or xs k 0) → Above n xs
-above_by n [] h = tt
-above_by n (x ∷ xs) h = (h zero (omega arith), above_by n xs (λ k lt. h (suc k) (omega arith)))
 
 ups_by : (xs : List ℕ) → ((i j : ℕ) → i < j → j < length xs → get_or xs i 0 < get_or xs j 0) → Ups xs
 ups_by [] p = tt
@@ -41,11 +38,6 @@ rises xs up i j le lt =
       | inr same ↦ (let e : i ≡ j = omega arith in omega (arith, ap (λ (n : ℕ). get_or xs n 0) e))
     ]
 
-above_at : (n : ℕ) (xs : List ℕ) (k : ℕ) → Above n xs → k < length xs → n < get_or xs k 0
-above_at n [] k a lt = absurd (omega arith)
-above_at n (x ∷ xs) zero a lt = a.0
-above_at n (x ∷ xs) (suc k) a lt = above_at n xs k a.1 (omega arith)
-
 above_less : (m n : ℕ) (xs : List ℕ) → m ≤ n → Above n xs → Above m xs
 above_less m n [] le a = tt
 above_less m n (x ∷ xs) le a = (omega (arith, a.0), above_less m n xs le a.1)
@@ -57,15 +49,6 @@ without_above id (x ∷ xs) a =
     rw other (ap (λ (ys : List ℕ). x ∷ ys) (without_above id xs a.1))
 
 -- ---- it comes
-
-pub come_new : (xs : List ℕ) (id at : ℕ) → at ≤ length xs → ((k : ℕ) → k < at → get_or xs k 0 < id) → ((k : ℕ) → at ≤ k → k < length xs → id < get_or xs k 0)
-    → insert xs at id ≡ with_id id xs
-come_new [] id zero le low high = refl
-come_new [] id (suc at) le low high = absurd (omega arith)
-come_new (x ∷ xs) id zero le low high = let less : nat_lt id x ≡ true = lt-ltb id x (high zero (omega arith) (omega arith)) in rw less refl
-come_new (x ∷ xs) id (suc at) le low high =
-    ap (λ (ys : List ℕ). x ∷ ys) (come_new xs id at (omega arith) (λ k lt. low (suc k) (omega arith)) (λ k below lt. high (suc k) (omega arith) (omega arith)))
-    ∙ sym (with_behind id x xs (low zero (omega arith)))
 
 pub come_again : (xs : List ℕ) (id at : ℕ) → Ups xs → at < length xs → get_or xs at 0 ≡ id → xs ≡ with_id id xs
 come_again [] id at u lt is = absurd (omega arith)
@@ -88,18 +71,6 @@ go_there (x ∷ xs) id (suc at) u lt is =
     let below : x < get_or xs at 0 = above_at x xs at u.0 (omega arith) in
     let other : (x == id) ≡ false = ne_eqb x id (λ e. omega arith) in
     rw other (ap (λ (ys : List ℕ). x ∷ ys) (go_there xs id at u.1 (omega arith) is))
-
-apart : (xs : List ℕ) (id : ℕ) → ((k : ℕ) → k < length xs → get_or xs k 0 ≡ id → ⊥) → xs ≡ without_id id xs
-apart [] id h = refl
-apart (x ∷ xs) id h =
-    let other : (x == id) ≡ false = ne_eqb x id (h zero (omega arith)) in
-    rw other (ap (λ (ys : List ℕ). x ∷ ys) (apart xs id (λ k lt. h (suc k) (omega arith))))
-
-pub go_not : (xs : List ℕ) (id at : ℕ) → ((k : ℕ) → k < at → get_or xs k 0 < id) → ((k : ℕ) → at ≤ k → k < length xs → id < get_or xs k 0)
-    → xs ≡ without_id id xs
-go_not xs id at low high =
-    apart xs id (λ k lt. elim (cases_lt k at)
-    [ inl before ↦ (let h = low k before in λ e. omega (arith, h, e)) | inr behind ↦ (let h = high k (omega arith) lt in λ e. omega (arith, h, e)) ])
 
 -- ---- it goes and comes again
 
@@ -149,7 +120,7 @@ module _ (lent xs : List ℕ) (id at : ℕ) (is : lent ≡ xs) (up : IsStrictlyI
   comes_again h = let there = stands h in come_again xs id at (ups xs up) there.0 there.1
 
   pub comes_new : IsBinarySearchResult (λ (y : ℕ). nat_cmp y id) lent (Err at) → insert xs at id ≡ with_id id xs
-  comes_new h = let there = belongs h in come_new xs id at there.0 there.1 there.2
+  comes_new h = let there = belongs h in inserted_there xs id at there.0 there.1 there.2
 
   -- it is not there, so that the list grows
   pub is_new : IsBinarySearchResult (λ (y : ℕ). nat_cmp y id) lent (Err at) → with_id id xs ≡ xs → ⊥
@@ -159,7 +130,7 @@ module _ (lent xs : List ℕ) (id at : ℕ) (is : lent ≡ xs) (up : IsStrictlyI
   goes h = let there = stands h in go_there xs id at (ups xs up) there.0 there.1
 
   pub goes_not : IsBinarySearchResult (λ (y : ℕ). nat_cmp y id) lent (Err at) → xs ≡ without_id id xs
-  goes_not h = let there = belongs h in go_not xs id at there.1 there.2
+  goes_not h = let there = belongs h in absent_there xs id at there.1 there.2
 
 pub ok_ids : (a : Bool) (xs ys zs : List ℕ) → a ≡ true → zs ≡ cond a ys xs → zs ≡ ys
 ok_ids a xs ys zs ok is = is ∙ ap (λ (c : Bool). cond c ys xs) ok

@@ -2,8 +2,9 @@
 use Rattle.sim_replay.proofs.Common.{drop-append_seam, first_word, is_digit, is_name_byte, IsAscii-cons, IsAscii-nil, le-leb, leb-true, list_all}
 use Rattle.sim_replay.proofs.Common.{list_all-append, ne_eqb, not_from_false, onto_first, other_words, position_or_len, slice_split, slice_split-cons_no}
 use Rattle.sim_replay.proofs.Common.{slice_split-cons_yes, take-append_seam, ◌∙◌}
-use Rattle.sim_replay.proofs.Common.{◌==◌, Some, IsAscii, bytes_eq, refl, and_from, and_parts, ap, arith, behind, bytes_eq-Decides, cond-true, drop-append-add}
+use Rattle.sim_replay.proofs.Common.{◌==◌, Some, IsAscii, bytes_eq, refl, and_from, and_parts, ap, arith, behind, cond-true, drop-append-add}
 use Rattle.sim_replay.proofs.Common.{◌≡◌, ℕ, zero, suc, ◌+◌, ◌≤◌, Bool, true, false, not, ◌&&◌, leb, List, [], ◌∷◌, ◌++◌, length, take, drop, nat_le}
+use Rattle.sim_base.proofs.Lists.{bytes_eq-same}
 
 -- a printed byte or a space
 abbrev pub is_plain : ℕ → Bool
@@ -104,9 +105,6 @@ split_whole p q apart (c ∷ cs) all =
     slice_split-cons_no p c cs (apart c parts.0) ∙ ap (onto_first c) (split_whole p q apart cs parts.1)
 
 -- ---- fronts
-
-pub bytes_eq-same : (xs : List ℕ) → bytes_eq xs xs ≡ true
-bytes_eq-same xs = (bytes_eq-Decides xs xs).1 refl
 
 pub behind-append : (front rest : List ℕ) → behind front (front ++ rest) ≡ Some rest
 behind-append front rest =

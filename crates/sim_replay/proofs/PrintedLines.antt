@@ -6,8 +6,8 @@ use Rattle.sim_replay.proofs.Common.{decode_sized-twice, digest_front, digest_in
 use Rattle.sim_replay.proofs.Common.{ids_in, is_utf8, is_utf8-from_IsUtf8, IsDigest, IsUtf8-from_ascii, list_all, lower_digits, order_front, order_in}
 use Rattle.sim_replay.proofs.Common.{order_line, order_of, PlayerCommand, result_ok, Setup, spelled, subst, sym, text_in, ◌∙◌}
 use Rattle.sim_replay.proofs.Common.{◌≡◌, ℕ, zero, suc, ◌*◌, ◌/◌, ◌%◌, ◌^◌, ◌<◌, ◌≤◌, true, List, [], ◌∷◌, ◌++◌, length, slice_index, Some, None}
-use Rattle.sim_replay.proofs.Cuts.{all-append, all-weaker, behind-append, bytes_eq-same, is_inner, is_plain, plain_is_ascii, plain_is_inner}
-use Rattle.sim_replay.proofs.Options.{bind_some, bound, passed}
+use Rattle.sim_replay.proofs.Cuts.{all-append, all-weaker, behind-append, is_inner, is_plain, plain_is_ascii, plain_is_inner}
+use Rattle.{sim_base.proofs.Lists.bytes_eq-same, sim_replay.proofs.Options.bind_some, sim_replay.proofs.Options.bound, sim_replay.proofs.Options.passed}
 
 -- ---- the spelling
 

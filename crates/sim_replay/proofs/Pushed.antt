@@ -1,14 +1,7 @@
 -- What stands behind the old bytes once a line more is appended.
-use Rattle.std.proofs.lemmas.List.Concat.{flat_map-append}
-use Rattle.std.proofs.lemmas.List.{take_more}
-use Rattle.std.proofs.Common.{get_or}
-use Rattle.sim_replay.proofs.Common.{◌≡◌, ℕ, ◌+◌, ◌<◌, List, [], ◌∷◌, ◌++◌, map, length, take, flat_map, ap, append-nil, append_assoc, arith, digest_line, ended}
-use Rattle.sim_replay.proofs.Common.{length-append, lines_from, map-append, order_line, PlayerCommand, sym, take-append_seam, take-take, turn_lines, ◌∙◌}
-
--- what was kept before more was appended is kept
-pub kept_before : (old more mid new : List ℕ) → mid ≡ old ++ more → take (length mid) new ≡ mid → take (length old) new ≡ old
-kept_before old more mid new is kept =
-    sym (take-take (length old) (length mid) new (omega (arith, ap length is, length-append old more))) ∙ ap (take (length old)) (kept ∙ is) ∙ take-append_seam old more
+use Rattle.std.proofs.{Common.get_or, lemmas.List.Concat.flat_map-append, lemmas.List.take_more}
+use Rattle.sim_replay.proofs.Common.{◌≡◌, ℕ, ◌+◌, ◌<◌, List, [], ◌∷◌, ◌++◌, map, length, take, flat_map, ap, append-nil, append_assoc, digest_line, ended}
+use Rattle.sim_replay.proofs.Common.{lines_from, map-append, order_line, PlayerCommand, sym, turn_lines, ◌∙◌}
 
 -- the line of one command more
 pub next_order : (turn : ℕ) (orders : List PlayerCommand) (i : ℕ) (order : PlayerCommand) (old mid new : List ℕ) → i < length orders

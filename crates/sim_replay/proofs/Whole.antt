@@ -1,5 +1,5 @@
 -- Bytes that are read are the text of the log, and those that are refused are the text of none.
-use Rattle.sim_replay.proofs.{Cuts.bytes_eq-same, Cuts.inner_is_no_end, Cuts.is_inner, Cuts.split_first, Taking.spells-nothing}
+use Rattle.sim_replay.proofs.{Cuts.inner_is_no_end, Cuts.is_inner, Cuts.split_first, Taking.spells-nothing}
 use Rattle.sim_replay.proofs.{Options.bind_none, Options.bind_some, PrintedLines.inner-digest_line, PrintedLines.inner-header, PrintedLines.inner-order_line}
 use Rattle.sim_replay.proofs.Common.{All-nil, All-tail, All-weaker, ap, append-nil, append_assoc, AreOrders, arith, BeginsLog, bytes_eq-Decides, cases_lt}
 use Rattle.sim_replay.proofs.Common.{Reading, Setup, subst, sym, take-append-drop, take-append_seam, take-take, take_all, taken, text_of_log}
@@ -10,6 +10,7 @@ use Rattle.sim_replay.proofs.Common.{log_lines, log_of, log_of_parts, next_or_re
 use Rattle.sim_replay.proofs.Common.{turn_lines, whole_lines, ◌>>=◌, ◌∙◌}
 use Rattle.sim_replay.proofs.Common.{◌≡◌, ℕ, zero, suc, ◌+◌, ◌-◌, ◌^◌, ◌<◌, ◌≤◌, Bool, true, false, cond, List, [], ◌∷◌, ◌++◌, map, length, take}
 use Rattle.sim_replay.proofs.Ending.{begins-read, between, ends-log, Front, front, log-taken, log_in-log, Small, spells-all, taken_all}
+use Rattle.sim_base.proofs.Lists.{bytes_eq-same}
 
 -- ---- the parts of a text of lines
 

@@ -1,8 +1,8 @@
 -- The facts of a changed state, and that the notes of a change fit.
 use Rattle.{sim_laws.proofs.Members.Has-append_right, sim_system.specs.Notes.Agrees, sim_system.specs.Notes.NoteFits, sim_system.specs.Ranges.IsRectAt}
-use Rattle.{sim_plans.specs.Fits.most_of, std.specs.Prelude.pos, std.specs.Prelude.◌≤ℤ◌, std.specs.Prelude.IfSome}
+use Rattle.{sim_plans.specs.Fits.most_of, std.specs.Prelude.pos, std.specs.Prelude.◌≤ℤ◌, std.specs.Prelude.IfSome, sim_laws.proofs.Removing.target_of-released}
 use Rattle.sim_base.specs.{Limits.IsArms, Limits.IsFrom, Limits.IsRawFrom, Places.rect_of, declared.template.Base.Base}
-use Rattle.sim_scene.proofs.{Common.without, Common.◌∙◌, FactLists.part-id, FactLists.row_behind, Parts.part-owned_range, Parts.target_of-released}
+use Rattle.sim_scene.proofs.{Common.without, Common.◌∙◌, FactLists.part-id, FactLists.row_behind, Parts.part-owned_range}
 use Rattle.sim_scene.proofs.Common.{Census, eqb-true, Fact, fact_of, fact_with, facts_of, Fits, found_row, Gone, Ground, Has, inl, IsInRange, IsInside}
 use Rattle.sim_scene.proofs.Common.{IsKnownRow, IsLooselyValid, IsSetup, keeps, kept, Kind, known_row, known_template, Motion, Moved, Note, noted, OfRow, Owned}
 use Rattle.sim_scene.proofs.Common.{filter, Option, unwrap_or, option_map, option_and_then, refl, Aim, aim_of, Aimed, all_at, ap, apart, arith, Arms, Born}
@@ -108,7 +108,7 @@ module _ (setup : Setup) (state : State) (valid : IsLooselyValid setup state) wh
     in_range = λ row. refl;
     in_census = λ row. refl;
     id_same = λ row. refl;
-    target_is = target_of-released setup;
+    target_is = target_of-released;
   }
 
   -- ---- a change of owner

@@ -1,24 +1,10 @@
 -- The facts of a list of rows: where a row is changed, leaves or comes, and where a fact is found.
 use Rattle.{sim_system.specs.Facts.kept_of, sim_system.specs.Notes.placed, sim_system.specs.Notes.with_changed, std.proofs.Common.◌+◌, std.specs.Prelude.nat_lt}
 use Rattle.sim_laws.proofs.Members.{Has-of_filter_map, Has-of_map}
-use Rattle.sim_scene.proofs.Common.{Watch, with_kept, without, ◌∙◌}
-use Rattle.sim_scene.proofs.Common.{fact_with, Ground, Has, id_of, id_of_fact, inl, inr, keeps, kept, Kind, ne_eqb, part_for, Range, Row, Setup, subst, sym}
-use Rattle.sim_scene.proofs.Common.{option_map, option_and_then, refl, ap, Apart, arith, Census, cond_both, cons_option, eq-eqb, eqb-true, Fact, fact_of}
-use Rattle.sim_scene.proofs.Common.{◌≡◌, ℕ, ◌<◌, ◌≤◌, Bool, true, false, cond, not, List, [], ◌∷◌, ◌++◌, map, length, ◌==◌, Some, None, filter, find, Option}
-
--- what is kept of an entity has its id
-part_for-id : (kind : Kind) (fact : Fact) → (part_for kind fact).id ≡ fact.id
-part_for-id Ground fact = refl
-part_for-id Range fact = refl
-part_for-id Watch fact = refl
-part_for-id Census fact = refl
-
-pub kept-id : (kind : Kind) (fact part : Fact) → kept kind fact ≡ Some part → part.id ≡ fact.id
-kept-id kind fact part = by (keeps kind fact)
-  where
-    by : (b : Bool) → cond b (Some (part_for kind fact)) None ≡ Some part → part.id ≡ fact.id
-    by true e = let same : part_for kind fact ≡ part = cc in ap id_of_fact (sym same) ∙ part_for-id kind fact
-    by false e = absurd (cc)
+use Rattle.sim_scene.proofs.Common.{with_kept, without, ◌∙◌, fact_with, Has, id_of, inl, inr, kept, Kind, ne_eqb, Row, Setup, subst, sym, option_map}
+use Rattle.sim_scene.proofs.Common.{option_and_then, refl, ap, Apart, arith, cond_both, cons_option, eq-eqb, eqb-true, Fact, fact_of, ◌≡◌, ℕ, ◌<◌, ◌≤◌, Bool}
+use Rattle.sim_scene.proofs.Common.{true, false, cond, not, List, [], ◌∷◌, ◌++◌, map, length, ◌==◌, Some, None, filter, find, Option}
+use Rattle.sim_system.proofs.Facts.{kept_id, placed_behind}
 
 module _ (kind : Kind) (setup : Setup) where
   -- what is kept of a row, and of several
@@ -29,7 +15,7 @@ module _ (kind : Kind) (setup : Setup) where
   facts rows = kept_of kind (map (fact_of setup) rows)
 
   pub part-id : (row : Row) (f : Fact) → part row ≡ Some f → f.id ≡ row.id
-  part-id row f e = kept-id kind (fact_of setup row) f e
+  part-id row f e = kept_id kind (fact_of setup row) f e
 
   -- the row of a fact
   pub row_behind : (rows : List Row) (f : Fact) → Has (facts rows) f → (row : Row) × Has rows row × (part row ≡ Some f)
@@ -121,18 +107,12 @@ module _ (kind : Kind) (setup : Setup) where
       let less : nat_lt f.id g.id ≡ true = grind (arith, below g (inl refl)) in
       rw less refl
 
-  -- one whose id is above the first stands behind it
-  pub placed-behind : (f g : Fact) (fs : List Fact) → g.id < f.id → placed f (g ∷ fs) ≡ g ∷ placed f fs
-  placed-behind f g fs above =
-      let more : nat_lt f.id g.id ≡ false = grind (arith, above) in
-      rw more refl
-
   placed-kept : (f : Fact) (row : Row) (fs : List Fact) → row.id < f.id → placed f (cons_option (part row) fs) ≡ cons_option (part row) (placed f fs)
   placed-kept f row fs above = by (part row) refl
     where
       by : (o : Option Fact) → part row ≡ o → placed f (cons_option o fs) ≡ cons_option o (placed f fs)
       by None k = refl
-      by (Some g) k = placed-behind f g fs (omega (arith, above, part-id row g k))
+      by (Some g) k = placed_behind f g fs (omega (arith, above, part-id row g k))
 
   pub facts-appended : (new : Row) (rows : List Row) → ((row : Row) → Has rows row → row.id < new.id) → facts (rows ++ new ∷ []) ≡ with_kept (part new)
       (facts rows)

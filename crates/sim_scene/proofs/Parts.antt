@@ -2,9 +2,9 @@
 use Rattle.{sim_base.specs.Rows.template_of, sim_base.specs.Validity.IsValidMotion, sim_laws.proofs.Rows.both_same, sim_laws.proofs.Rows.same_row}
 use Rattle.std.specs.Prelude.{IsNone}
 use Rattle.sim_scene.proofs.{Common.subst, Common.sym, Common.target_of, Common.Template, Common.Watch, Common.◌∙◌, FactLists.part}
-use Rattle.sim_scene.proofs.Common.{IsSetup, keeps, kept, known_row, known_template, Motion, OfRow, part_for, Point, Range, released, Row, row_of, Setup, State}
-use Rattle.sim_scene.proofs.Common.{option_and_then, refl, Aim, aim_of, all_at, ap, apart, Fact, fact_of, found_row, Ground, Has, IsKnownRow, IsLooselyValid}
-use Rattle.sim_scene.proofs.Common.{◌≡◌, ℕ, Bool, true, false, cond, ℤ, is_some, IsSome, MatchOption, Some, None, Option, unwrap_or, option_map}
+use Rattle.sim_scene.proofs.Common.{IsSetup, keeps, kept, known_row, known_template, Motion, OfRow, part_for, Point, Range, Row, row_of, Setup, State}
+use Rattle.sim_scene.proofs.Common.{option_and_then, refl, aim_of, all_at, ap, apart, Fact, fact_of, found_row, Ground, Has, IsKnownRow, IsLooselyValid}
+use Rattle.sim_scene.proofs.Common.{◌≡◌, ℕ, Bool, true, false, cond, ℤ, is_some, IsSome, MatchOption, Some, None, Option, option_map}
 
 -- ---- the row that a change names
 
@@ -69,13 +69,6 @@ module _ (setup : Setup) where
   part-hurt_range health row has = ap (λ (b : Bool). kept Range (record (fact_of setup row) { health = b })) (sym has)
 
   -- ---- an aim
-
-  pub target_of-released : (row : Row) → target_of (released row) ≡ 0
-  target_of-released row = by row.attack
-    where
-      by : (a : Option Aim) → unwrap_or (option_map (λ (aim : Aim). aim.target) (option_map (λ (aim : Aim). record aim { target = 0 }) a)) 0 ≡ 0
-      by None = refl
-      by (Some aim) = refl
 
   pub part-aimed_watch : (id target : ℕ) (row : Row) → row.id ≡ id → target_of row ≡ target → part Watch setup row ≡ kept Watch (aim_of id target)
   part-aimed_watch id target row id_is target_is = ap (λ (i : ℕ). kept Watch (aim_of i (target_of row))) id_is ∙ ap (λ (t : ℕ). kept Watch (aim_of id t))

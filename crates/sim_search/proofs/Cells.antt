@@ -1,18 +1,8 @@
 -- Cells: two are one or not, and what a list by z, then x, has at each.
 use Rattle.sim_search.proofs.Common.{cases_Bool, Cell, cond-false, cond-true, entry_at, get_or-set_other, get_or-set_same, has_cell, inl, inr, IsOnGround}
-use Rattle.sim_search.proofs.Common.{lt-ltb, ltb-true, mul-add-lt, place_of, same_by_parts, same_cell, same_cell-self, same_cell-true, same_from_place, Size}
-use Rattle.sim_search.proofs.Common.{sym, true≢false, ◌∙◌}
-use Rattle.sim_search.proofs.Common.{◌≡◌, ◌*◌, ◌<◌, true, false, ltb, ◌≢◌, ◌⊎◌, List, length, get_or, set, Some, None, Option, and_from, and_parts, ap, arith}
-
-pub same_or_not : (c e : Cell) → (c ≡ e) ⊎ (c ≢ e)
-same_or_not c e = by (cases_Bool (same_cell c e))
-  where
-    by : (same_cell c e ≡ true) ⊎ (same_cell c e ≡ false) → (c ≡ e) ⊎ (c ≢ e)
-    by (inl h) = inl (same_cell-true c e h)
-    by (inr h) = inr (λ f. true≢false (sym (same_cell-self c) ∙ ap (same_cell c) f ∙ h))
-
-pub place-below : (size : Size) (c : Cell) → IsOnGround size c → place_of size c < size.width * size.depth
-place-below size c on = mul-add-lt c.z size.width c.x size.depth on.north on.east
+use Rattle.sim_search.proofs.Common.{lt-ltb, ltb-true, place_of, same_by_parts, same_from_place, Size, sym, ◌∙◌, ◌≡◌, ◌*◌, true, false, ltb, ◌≢◌, ◌⊎◌, List}
+use Rattle.sim_search.proofs.Common.{length, get_or, set, Some, None, Option, and_from, and_parts, arith}
+use Rattle.sim_grid.proofs.Beside.{place-below}
 
 pub has_cell-true : (size : Size) (c : Cell) → has_cell size c ≡ true → IsOnGround size c
 has_cell-true size c h = let (e, n) = and_parts (ltb c.x size.width) (ltb c.z size.depth) h in

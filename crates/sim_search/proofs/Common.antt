@@ -5,7 +5,7 @@ pub use Rattle.std.proofs.Common.{List, [], ◌∷◌, ◌++◌, map, length, ge
 pub use Rattle.std.proofs.Common.{ltb-true, ne_eqb, rules, subst, sym, true≢false, ⊎_elim, ◌∙◌}
 pub use Rattle.std.proofs.Common.{◌≡◌, ℕ, zero, suc, ◌+◌, ◌-◌, ◌*◌, ◌/◌, ◌%◌, ◌<◌, ◌≤◌, min, max, Bool, true, false, cond, not, ◌&&◌, ◌||◌, eqb, ltb, ◌≢◌, ◌⊎◌}
 pub use Rattle.std.proofs.lemmas.{Int.ints, List.Elements.Contains-push_cases, List.Sums.count_by-le-length, List.Sums.sum_by-set, Result.IfOk-from_err}
-pub use Rattle.std.proofs.lemmas.{Nat.mul-add-lt, Nat.same_from_place, Nat.Bits.shr_and_one, Option.cond_some, Option.option_and_then_some}
+pub use Rattle.std.proofs.lemmas.{Nat.same_from_place, Nat.Bits.shr_and_one, Option.cond_some, Option.option_and_then_some}
 pub use Rattle.std.proofs.lemmas.Bool.{and_from, and_parts, cases_Bool, cases_eq, cases_lt, cond-false, cond-true, cond_both, eqb-true}
 pub use Rattle.std.proofs.lemmas.List.{at_drop_more, drop_all, get_or-map, get_or-replicate, get_or-set_other, get_or-set_same, get_or_default, get_or_past}
 pub use Rattle.std.proofs.lemmas.List.{length-map, length-replicate, map-set, nil_from_length, replicate_more, set-get_or, take_all, take_more}

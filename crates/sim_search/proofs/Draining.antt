@@ -1,12 +1,14 @@
 -- What a lowered cost, a taken cell and an emptied bucket leave of a search by buckets, for every estimate that guides it.
-use Rattle.sim_search.proofs.{Cells.same_or_not, Taking.all-found, Taking.cost-least, Taking.goes-on, Taking.lowers, Taking.takes, Taking.walk-found}
+use Rattle.sim_search.proofs.Taking.{all-found, cost-least, goes-on, lowers, takes, walk-found}
 use Rattle.sim_search.proofs.{Moves.direction-of, Moves.step-of, Octile.walk-even}
 use Rattle.sim_search.proofs.Common.{IsGuide, IsKept, IsLowered, IsSearch, IsStep, Lowers, Progress, Ready, Search, set-get_or, Size, size_of, stay}
-use Rattle.sim_search.proofs.Common.{cases_Bool, cases_eq, cases_lt, Cell, Contains-append_left, Contains-push_cases, IsEarly, Contains-push, cost_in, Drains, Empties, entry_at, eq-or-lt_of_le}
+use Rattle.sim_search.proofs.Common.{cases_Bool, cases_eq, cases_lt, Cell, Contains-append_left, Contains-push_cases, IsEarly, Contains-push, cost_in, Drains}
+use Rattle.sim_search.proofs.Common.{Empties, entry_at, eq-or-lt_of_le}
 use Rattle.sim_search.proofs.Common.{Expands, Field, get_or-set_other, get_or-set_same, HasCost, HasStopped, inl, inr, IsComeTo, IsCost}
 use Rattle.sim_search.proofs.Common.{get_or, set, Some, None, Contains, count_by, Option, refl, ap, ap₂, AreCosts, AreCostsUpTo, arith, Begins, bucket_in}
 use Rattle.sim_search.proofs.Common.{step_cost, step_to, subst, sym, taken_in, takens, Takes, true≢false, untaken, Waits, Walk, ⊎_elim, ◌∙◌}
 use Rattle.sim_search.proofs.Common.{◌≡◌, ℕ, zero, suc, ◌+◌, ◌-◌, ◌*◌, ◌%◌, ◌<◌, ◌≤◌, Bool, true, false, cond, not, ◌≢◌, ◌⊎◌, List, [], ◌∷◌, ◌++◌, length}
+use Rattle.{sim_base.proofs.Lists.nothing_in, sim_grid.proofs.Beside.same_or_not}
 
 ring-length : (s : Search) → length s.buckets.items ≡ 32
 ring-length s = omega (arith, s.ring, s.buckets.ok.0)
@@ -362,9 +364,6 @@ draining_taken h field first s expanded new now x d rest any w ex t dr =
     no_less b = omega arith
 
 -- ---- one bucket after another
-
-nothing_in : (c : Cell) → Contains [] c → ⊥
-nothing_in c (k, h, is) = omega arith
 
 -- a bucket is taken out
 pub drains_first : (h : Cell → ℕ) (field : Field) (old new : Search) (now idle : ℕ) → Ready h field old now idle → Empties old new (now % 32)

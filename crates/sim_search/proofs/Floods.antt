@@ -1,10 +1,10 @@
 -- Why the flood finds the labels.
-use Rattle.sim_search.proofs.Cells.{place-below, same_or_not}
 use Rattle.sim_search.proofs.Common.{Field, Fills, Flood, Flooded, Floods, HasLabel, inl, inr, is_late, is_none_late, IsJoined, IsLabel, IsOnGround, IsOpenStep}
 use Rattle.sim_search.proofs.Common.{Marks, neighbour, neighbour-on, on, place_of, size_in, Spreads, subst, sym, true≢false, work_left, ⊎_elim, ◌∙◌}
 use Rattle.sim_search.proofs.Common.{ap, AreLabels, arith, cases_lt, Cell, Contains-append_left, Contains-push, Contains-push_cases, entry_in, eq-or-lt_of_le}
 use Rattle.sim_search.proofs.Common.{◌≡◌, ℕ, suc, ◌+◌, ◌*◌, ◌<◌, ◌≤◌, true, ◌≢◌, ◌⊎◌, List, [], ◌∷◌, ◌++◌, is_none, Some, None, Contains, Option, refl, alone}
 use Rattle.sim_search.proofs.Regions.{from-on, from-open, joined-chain, joined-on, joined-open, joined-turned, place-same}
+use Rattle.{sim_base.proofs.Lists.nothing_in, sim_grid.proofs.Beside.place-below, sim_grid.proofs.Beside.same_or_not}
 
 pub none-is : (o : Option ℕ) → is_none o ≡ true → o ≡ None
 none-is None e = refl
@@ -172,9 +172,6 @@ popped-label field old new from label t w f = ap (λ v. entry_in v from) t ∙
     f.stacked from (subst (λ (xs : List Cell). Contains xs from) (sym w) (Contains-push new.waiting.items from))
 
 -- ---- one region after another
-
-nothing_in : (c : Cell) → Contains [] c → ⊥
-nothing_in c (k, h, is) = omega arith
 
 -- where no cell waits, the region of a labelled cell is labelled
 region-has : (field : Field) (s : Flood) (n : ℕ) → Flooded field s n → {a c : Cell} → IsJoined field a c → HasLabel s.table a → HasLabel s.table c

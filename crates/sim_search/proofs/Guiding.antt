@@ -1,16 +1,12 @@
 -- Why landmarks and distances guide a search: the least costs from an open cell differ along a step by no more than it costs, and so do the
 -- rows and numbers.
 use Rattle.sim_search.proofs.Moves.{direction-of, even_step, free-of_walk, free-open, most_step, step_back}
-use Rattle.sim_search.proofs.Octile.{estimate-guides}
+use Rattle.{sim_search.proofs.Octile.estimate-guides, std.proofs.lemmas.List.length-set, std.proofs.lemmas.Option.same_Some}
 use Rattle.sim_search.proofs.Common.{◌≡◌, ℕ, zero, suc, ◌+◌, ◌*◌, ◌%◌, ◌<◌, ◌≤◌, max, true, ◌&&◌, ◌||◌, ◌⊎◌, List, length, get_or, set, replicate}
 use Rattle.sim_search.proofs.Common.{Bool, Some, None, Option, refl, abs_diff, is_some, true≢false, Aim, ap, ap₂, AreCosts, arith, cases_eq, cases_lt, Cell}
 use Rattle.sim_search.proofs.Common.{estimate_to, Field, get_or-set_other, get_or-set_same, go, HasCost, inl, inr, IsGuide}
 use Rattle.sim_search.proofs.Common.{is_free, is_straight, IsOnGround, IsStep, length-replicate, stay, subst, sym, Walk, walk-on, ◌∙◌}
-use Rattle.std.proofs.lemmas.List.{length-set}
 use Rattle.sim_search.specs.{Distances.AreDistances, Rows.alike, Rows.apart, Rows.AreLandmarks, Rows.between, Rows.half_of, Rows.number_of, Rows.row_with}
-
-some_is : {A : Type 0} {a b : A} → Some a ≡ Some b → a ≡ b
-some_is e = cc
 
 turned-near : (a b k : ℕ) → 2 * abs_diff a b ≤ k → 2 * abs_diff b a ≤ k
 turned-near a b k h = omega (arith, h)
@@ -53,7 +49,7 @@ of-rows field row x =
       back = λ start a b k opened on free s h. let (q, e) = some-of (row b) h in ap is_some (x.back start a b k q opened on free s e).is;
       near = λ start a b k p q opened s e f i.
           let n = x.onwards start a b k p opened s e in
-          let same : n.own ≡ q = some_is (sym n.is ∙ f) in
+          let same : n.own ≡ q = same_Some _ _ (sym n.is ∙ f) in
           subst (λ (xs : List ℕ). 2 * abs_diff (get_or p i 0) (get_or xs i 0) ≤ k) same (turned-near (get_or n.own i 0) (get_or p i 0) k (n.near i));
     }
 
@@ -144,7 +140,7 @@ module _ (field : Field) (mark : Cell) (cost : Cell → Option ℕ) (known : Are
       where
         full : (o : Option ℕ) (own : List ℕ) → alike o ≡ Some own → length own ≡ 8
         full None own e = let never : ⊥ = cc in absurd never
-        full (Some d) own e = let nothing_in : ℕ = 0 in ap length (sym (some_is e)) ∙ length-replicate 8 nothing_in
+        full (Some d) own e = let nothing_in : ℕ = 0 in ap length (sym (same_Some _ _ e)) ∙ length-replicate 8 nothing_in
 
         by_cost : {v : Cell} (o : Option ℕ) → cost v ≡ o → (own : List ℕ) → alike o ≡ Some own → (c : Cell) (k : ℕ)
             → ((d : ℕ) → cost v ≡ Some d → IsCostNear c k d) → IsRowNear (λ (x : Cell). alike (cost x)) c k own
@@ -154,7 +150,7 @@ module _ (field : Field) (mark : Cell) (cost : Cell → Option ℕ) (known : Are
             record {
               own = replicate 8 0;
               is = ap alike n.is;
-              near = λ i. subst (λ (xs : List ℕ). 2 * abs_diff (get_or (replicate 8 0) i 0) (get_or xs i 0) ≤ k) (some_is e) (nothing i k);
+              near = λ i. subst (λ (xs : List ℕ). 2 * abs_diff (get_or (replicate 8 0) i 0) (get_or xs i 0) ≤ k) (same_Some _ _ e) (nothing i k);
             }
 
     -- ---- numbers along a step
@@ -210,7 +206,7 @@ module _ (field : Field) (mark : Cell) (cost : Cell → Option ℕ) (known : Are
           by : (r : Option (List ℕ)) (o : Option ℕ) → row c ≡ r → cost c ≡ o → row_with which r o ≡ Some own → IsRowSet c own
           by None o f g h = let never : ⊥ = cc in absurd never
           by (Some p) None f g h = let never : ⊥ = cc in absurd never
-          by (Some p) (Some d) f g h = record { before = p; before_is = f; value = d; value_is = g; own_is = sym (some_is h) }
+          by (Some p) (Some d) f g h = record { before = p; before_is = f; value = d; value_is = g; own_is = sym (same_Some _ _ h) }
 
       near-at : (p q : List ℕ) (d e k i : ℕ) → length p ≡ 8 → length q ≡ 8 → 2 * abs_diff (half_of d) (half_of e) ≤ k
           → 2 * abs_diff (get_or p i 0) (get_or q i 0) ≤ k → (i ≡ which) ⊎ (i ≡ which → ⊥)

@@ -4,22 +4,13 @@ use Rattle.sim_search.proofs.Common.{and_from, and_parts, ap, ap₂, AreMoves, A
 use Rattle.sim_search.proofs.Common.{neighbour-below_eight, option_and_then_some, same_cell, same_cell-self, same_cell-true, stay, step_cost, step_to}
 use Rattle.sim_search.proofs.Common.{straight-in_line, sym, true≢false, Walk, ◌∙◌}
 use Rattle.sim_search.proofs.Common.{◌≡◌, ℕ, ◌%◌, ◌<◌, ◌≤◌, Bool, true, false, cond, ◌&&◌, ◌||◌, ◌≢◌, ◌⊎◌, is_some, Some, None, Option, option_and_then, refl}
+use Rattle.{sim_base.proofs.Tests.bit_is, sim_laws.proofs.Sources.same_cost}
 
 and-comm : (a b : Bool) → (a && b) ≡ (b && a)
 and-comm true true = refl
 and-comm true false = refl
 and-comm false true = refl
 and-comm false false = refl
-
-same_cost : (v w : ℕ) → is_straight v ≡ is_straight w → step_cost v ≡ step_cost w
-same_cost v w e = ap (λ (b : Bool). cond b 10 14) e
-
-pub least_step : (which : ℕ) → 10 ≤ step_cost which
-least_step which = by (is_straight which)
-  where
-    by : (b : Bool) → 10 ≤ cond b 10 14
-    by true = omega arith
-    by false = omega arith
 
 pub most_step : (which : ℕ) → step_cost which ≤ 14
 most_step which = by (is_straight which)
@@ -152,10 +143,6 @@ module _ (field : Field) (start : Cell) where
     pub open-moves : (a : Cell) (moves : ℕ) → AreStepsFrom field a moves → AreMoves field start a moves
     open-moves a moves s which lt = s which lt ∙
         ap (λ (t : Bool). cond t 1 0) (sym (allowed-is a which (neighbour field.size a which) refl ∙ go-open a which (neighbour field.size a which)))
-
-  bit_is : (t : Bool) (n : ℕ) → n ≡ cond t 1 0 → n ≡ 1 → t ≡ true
-  bit_is true n e f = refl
-  bit_is false n e f = absurd (omega (arith, e))
 
   bit_not_is : (t : Bool) (n : ℕ) → n ≡ cond t 1 0 → n ≢ 1 → t ≡ false
   bit_not_is true n e f = absurd (f e)

@@ -2,15 +2,13 @@
 use Rattle.sim_search.proofs.Common.{cell_at, cell_at-some, estimate_to, Field, forward, go, ints, IsEstimate, IsGuide, IsStep, level, neighbour, octile}
 use Rattle.sim_search.proofs.Common.{same_by_parts, Size, stay, step_cost, subst, sym, Walk}
 use Rattle.sim_search.proofs.Common.{◌≡◌, ℕ, zero, suc, ◌+◌, ◌-◌, ◌*◌, ◌/◌, ◌%◌, ◌≤◌, min, max, ℤ, pos, ◌+ℤ◌, Some, abs_diff, Aim, ap₂, arith, back, Cell}
+use Rattle.sim_laws.proofs.Neighbours.{past_eight}
 
 -- how far two cells lie apart that are beside one another
 pub data IsBeside (a b : Cell) : ℕ → Type 0 where
   in_row : a.x ≤ b.x + 1 → b.x ≤ a.x + 1 → a.z ≡ b.z → IsBeside a b 10
   in_column : a.x ≡ b.x → a.z ≤ b.z + 1 → b.z ≤ a.z + 1 → IsBeside a b 10
   across : a.x ≤ b.x + 1 → b.x ≤ a.x + 1 → a.z ≤ b.z + 1 → b.z ≤ a.z + 1 → IsBeside a b 14
-
-past_eight : (size : Size) (c p : Cell) (w : ℕ) → neighbour size c (suc (suc (suc (suc (suc (suc (suc (suc w)))))))) ≡ Some p → ⊥
-past_eight size c p w e = cc
 
 row_at : (size : Size) (a b : Cell) (x : ℤ) → (pos a.x +ℤ x ≡ pos b.x → (a.x ≤ b.x + 1) × (b.x ≤ a.x + 1)) → cell_at size (pos a.x +ℤ x) (pos a.z +ℤ level) ≡
     Some b → IsBeside a b 10

@@ -1,10 +1,10 @@
 -- Regions: cells are joined both ways, labels tell which are, and so which cells a walk reaches.
-use Rattle.sim_search.proofs.{Cells.same_or_not, Common.◌∙◌}
+use Rattle.sim_search.proofs.Common.{◌∙◌, itself, LabelsTell, level, lt-ltb, ltb-true, neighbour, neighbour-back, neighbour-on, NoLabelIsClosed, on, place_of}
 use Rattle.sim_search.proofs.Common.{HasShoreLabel, inl, inr, ints, is_free, is_straight, IsJoined, IsLabel, IsOnGround, IsOpenStep, IsReached, IsShore, IsStep}
 use Rattle.sim_search.proofs.Common.{ap, AreLabels, arith, back, beside, beside_open, cases_Bool, Cell, cell_at, cell_at-is, cell_at-some, Field, forward, go}
-use Rattle.sim_search.proofs.Common.{itself, LabelsTell, level, lt-ltb, ltb-true, neighbour, neighbour-back, neighbour-on, NoLabelIsClosed, on, place_of}
 use Rattle.sim_search.proofs.Common.{same_by_parts, same_cell, same_cell-true, same_from_place, Size, stay, step_cost, subst, sym, true≢false, Walk, walk-on}
 use Rattle.sim_search.proofs.Common.{◌≡◌, ℕ, zero, suc, ◌+◌, ◌<◌, Bool, true, false, ◌||◌, ◌≢◌, ◌⊎◌, ℤ, pos, ◌+ℤ◌, Some, None, Option, refl, alone, and_parts}
+use Rattle.{sim_grid.proofs.Beside.same_or_not, sim_laws.proofs.Neighbours.past_eight}
 
 pub place-same : (size : Size) (c e : Cell) → IsOnGround size c → IsOnGround size e → place_of size c ≡ place_of size e → c ≡ e
 place-same size c e f g h = let parts = same_from_place c.z c.x e.z e.x size.width f.east g.east h in same_by_parts c e parts.1 parts.0
@@ -80,9 +80,6 @@ corner-out : (size : Size) (a b : Cell) (x z : ℤ) → cell_at size (pos a.x +�
 corner-out size a b x z e =
     let p = cell_at-some size (pos a.x +ℤ x) (pos a.z +ℤ z) b e in
     cell_at-is size (pos a.x +ℤ x) (pos b.z +ℤ level) b (record { on = p.on; by_x = p.by_x; by_z = omega (arith, ints) })
-
-past_eight : (size : Size) (c p : Cell) (w : ℕ) → neighbour size c (suc (suc (suc (suc (suc (suc (suc (suc w)))))))) ≡ Some p → ⊥
-past_eight size c p w e = cc
 
 corner : (size : Size) (a b : Cell) (which : ℕ) → IsOnGround size a → neighbour size a which ≡ Some b → is_straight which ≡ false → IsCorner size a b
 corner size a b zero h e f = absurd (true≢false f)

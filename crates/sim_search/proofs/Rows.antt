@@ -1,9 +1,9 @@
 -- Rows by cells, as lists of them are made and changed place by place.
-use Rattle.sim_search.proofs.Cells.{entry_at-off, entry_at-on, has_cell-true, place-below}
+use Rattle.sim_search.{proofs.Cells.entry_at-off, proofs.Cells.entry_at-on, proofs.Cells.has_cell-true, specs.Rows.apart, specs.Rows.row_with}
 use Rattle.sim_search.proofs.Common.{◌≡◌, ℕ, suc, ◌+◌, ◌*◌, ◌<◌, ◌≤◌, max, true, false, ◌⊎◌, List, map, length, get_or, set, None, Option, refl}
 use Rattle.sim_search.proofs.Common.{abs_diff, ap, ap₂, arith, cases_Bool, cases_lt, Cell, entry_at, get_or-map, get_or-set_other, get_or-set_same, get_or_past}
 use Rattle.sim_search.proofs.Common.{has_cell, inl, inr, length-map, place_of, Size, subst, sym, ◌∙◌}
-use Rattle.sim_search.specs.Rows.{apart, row_with}
+use Rattle.sim_grid.proofs.Beside.{place-below}
 
 -- one number more of two rows
 pub apart-more : (n : ℕ) (a b : List ℕ) → apart (n + 1) a b ≡ max (apart n a b) (abs_diff (get_or a n 0) (get_or b n 0))

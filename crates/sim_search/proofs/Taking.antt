@@ -1,8 +1,9 @@
 -- Why a search that takes cells by ascending cost and estimate finds the least costs: for any steps, and any estimate that falls by at most
 -- what a step costs.
-use Rattle.sim_search.proofs.{Cells.same_or_not, Common.true≢false, Common.Walk, Common.⊎_elim, Common.◌∙◌}
+use Rattle.sim_search.proofs.Common.{true≢false, Walk, ⊎_elim, ◌∙◌}
 use Rattle.sim_search.proofs.Common.{inr, IsEstimate, IsLeastCost, IsSearch, LoweringKeeps, stay, subst, sym, TakenInOrder, TakenIsLeast, TakingKeeps}
 use Rattle.sim_search.proofs.Common.{◌≡◌, ℕ, ◌+◌, ◌<◌, ◌≤◌, Bool, true, false, ◌≢◌, ◌⊎◌, Some, Option, ap, arith, cases_Bool, eq-or-lt_of_le, go, HasCost, inl}
+use Rattle.{sim_grid.proofs.Beside.same_or_not, std.proofs.lemmas.Option.same_Some}
 
 module _ {X : Type 0} {Step : X → X → ℕ → Type 0} {start : X} {estimate : X → ℕ} {cost : X → Option ℕ} {taken : X → Bool} {now : ℕ}
     (same : (c e : X) → (c ≡ e) ⊎ (c ≢ e)) (good : IsEstimate Step estimate) (s : IsSearch Step start estimate cost taken now) where
@@ -119,19 +120,16 @@ module _ {X : Type 0} {Step : X → X → ℕ → Type 0} {start : X} {estimate 
         by_wait c v e h (inl f) = absurd (true≢false (sym here ∙ ap next (sym f) ∙ h))
         by_wait c v e h (inr f) = s.waiting c v e (sym (elsewhere c f) ∙ h)
 
-some_is : {A : Type 0} {a b : A} → Some a ≡ Some b → a ≡ b
-some_is e = cc
-
 pub taken-least : TakenIsLeast
 taken-least field start estimate cost taken now good s c d t e =
     let (v, is, le) = s.passed c t in
-    let equal : d ≡ v = some_is (sym e ∙ is) in
+    let equal : d ≡ v = same_Some _ _ (sym e ∙ is) in
     cost-least same_or_not good s c d e (omega arith)
 
 pub taken-before : TakenInOrder
 taken-before field start estimate cost taken now s c e d f t is w lower =
     let (v, same, le) = s.passed c t in
-    let equal : d ≡ v = some_is (sym is ∙ same) in
+    let equal : d ≡ v = same_Some _ _ (sym is ∙ same) in
     omega (arith, s.waiting e f lower w)
 
 pub lowering-keeps : LoweringKeeps

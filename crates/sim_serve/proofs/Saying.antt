@@ -1,27 +1,15 @@
 -- A client that reports is told its own notice.
-use Rattle.{sim_plain.proofs.Notices.notices_are, sim_plain.proofs.Told.notices_are_told, std.specs.Prelude.filter, std.specs.Prelude.filter_map}
-use Rattle.std.proofs.Common.{◌≡◌, ℕ, Bool, true, false, List, [], ◌∷◌, ◌++◌, map, is_none, if◌then◌else◌, refl, sym, true≢false, ◌∙◌}
+use Rattle.{sim_plain.proofs.Notices.notices_are, sim_plain.proofs.Told.notices_are_told, std.specs.Prelude.filter_map}
+use Rattle.std.proofs.Common.{◌≡◌, ℕ, Bool, true, false, List, [], ◌∷◌, ◌++◌, is_none, if◌then◌else◌, refl, sym, true≢false, ◌∙◌}
 use Rattle.sim_plain.specs.{Messages.Arrival, Messages.Cut, Messages.Heard, Messages.sender, declared.rules.Rules.Rules}
-use Rattle.sim_plain.specs.{Notices.notice_in, Notices.noticed, Notices.notices, Notices.notices_given, Notices.Report, Posts.differs, Posts.posts}
+use Rattle.sim_plain.specs.{Notices.notice_in, Notices.noticed, Notices.notices, Notices.notices_given, Notices.Report, Posts.posts}
 use Rattle.sim_plain.specs.Server.{command_fault, done_fault, is_in, is_out, report_fault, Server, server_after, takes_state}
 use Rattle.sim_plain.specs.declared.status.Status.{Status, TheVariants.In, TheVariants.Out, TheVariants.Waiting}
-use Rattle.sim_serve.specs.Laws.{told_to_senders}
+use Rattle.{sim_plain.proofs.Told.none_told, sim_plain.proofs.Told.told, sim_serve.specs.Laws.told_to_senders}
 use Rattle.sim_plain.specs.declared.message.UpOf.TheVariants as up
 
 abbrev Bytes : Type 0
 Bytes = List ℕ
-
--- a report as turn and client
-abbrev pair : Report → ℕ × ℕ
-pair r = (r.0, r.1.0)
-
--- the notices of reports
-abbrev told : Server → List Report → List (ℕ × ℕ)
-told s reports = map pair (filter (λ (r : Report). differs (s.reference r.0) r.1.1) reports)
-
-none_told : (s : Server) (accepted : Bool) → told s (if accepted then [] else []) ≡ []
-none_told s true = refl
-none_told s false = refl
 
 -- what one says that is not in gives no notice
 none_outside : (rules : Rules) (s : Server) (a : Arrival Bytes) → is_in (s.status (sender a)) ≡ false → noticed rules s a ≡ []

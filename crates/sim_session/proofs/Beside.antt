@@ -1,18 +1,18 @@
 -- A client that acts beside the exchange makes just what the definition of a session says, over plain values.
-use Rattle.sim_session.proofs.{Common.told_with_done, Common.Up, Common.◌∙◌, Stepping.rises_stay}
+use Rattle.sim_session.proofs.{Common.Up, Common.◌∙◌, Stepping.rises_stay}
 use Rattle.sim_session.proofs.Common.{AreKept, arith, bending_follows, bends, bent, carry_up, cases_eq, client_of, Command, cond-false, cond-true, Conveys, cut}
-use Rattle.sim_session.proofs.Common.{Did, Done, eq-eqb, Event, events_by, false≢true, Follows, has_happened, HasFewIds, Held, Idle, inl, inr}
-use Rattle.sim_session.proofs.Common.{On, order_shown, ordered, ordering_follows, orders, OutOfMemory, Phase, pipe_in, played, played_events, Player}
-use Rattle.sim_session.proofs.Common.{Option, Result, refl, Act, Acted, acts, All-cons, All-nil, Answers, ap, append-nil, AreBuilt, AreBuiltIf, AreFrames}
-use Rattle.sim_session.proofs.Common.{Session, Setup, shows, shows_after, spelled, StandBeside, Step, stepped_by, subst, sym, Systems, Tells, told, told_alone}
-use Rattle.sim_session.proofs.Common.{is_off, IsBuiltOnceAtMost, IsSmallUp, IsUpFrame, join_shown, Joining, joining_follows, joins}
-use Rattle.sim_session.proofs.Common.{leave_events, leaves, Life, life_after, Lives, Makes, may_bend, may_order, may_play, may_tell_done, Meaning, ne_eqb, Off}
-use Rattle.sim_session.proofs.Common.{playing_follows, plays, put, put_same, report_of, rise_events, rises, row_of, Said, said_by, said_events, says_of}
-use Rattle.sim_session.proofs.Common.{◌≡◌, ℕ, suc, Bool, true, false, ◌⊎◌, List, [], ◌∷◌, ◌++◌, map, ℤ, IfOk, if◌then◌else◌, OnOk, Some, None, Ok, Err, All}
+use Rattle.sim_session.proofs.Common.{Did, Done, eq-eqb, Event, events_by, false≢true, Follows, has_happened, HasFewIds, Held, Idle, inl, inr, On, order_shown}
+use Rattle.sim_session.proofs.Common.{ordered, ordering_follows, orders, OutOfMemory, Phase, pipe_in, played_events, Option, Result, refl, Act, Acted, acts}
+use Rattle.sim_session.proofs.Common.{All-cons, All-nil, Answers, ap, append-nil, AreBuilt, AreBuiltIf, AreFrames, Session, Setup, shows, shows_after, spelled}
+use Rattle.sim_session.proofs.Common.{StandBeside, Step, stepped_by, subst, sym, Systems, Tells, told, is_off, IsBuiltOnceAtMost, IsSmallUp, IsUpFrame}
+use Rattle.sim_session.proofs.Common.{join_shown, Joining, joining_follows, joins, put_same, leave_events, leaves, Life, life_after, Lives, Makes, may_bend}
+use Rattle.sim_session.proofs.Common.{may_order, Meaning, ne_eqb, Off, playing_follows, plays, put, rise_events, rises, row_of, Said, said_by, said_events}
+use Rattle.sim_session.proofs.Common.{says_of, ◌≡◌, ℕ, Bool, true, false, ◌⊎◌, List, [], ◌∷◌, ◌++◌, map, ℤ, IfOk, if◌then◌else◌, OnOk, Some, None, Ok, Err, All}
 use Rattle.sim_base.specs.declared.step.Event.TheVariants as event
 use Rattle.sim_base.specs.declared.step.Step.TheVariants as step
 use Rattle.sim_plain.specs.declared.message.UpOf.TheVariants as up
 use Rattle.sim_plain_session.specs.Clients as plain
+use Rattle.{sim_board.proofs.Counting.not_built, sim_client.proofs.Small.orders_small, sim_client.proofs.Small.plays_small}
 
 -- ---- answers
 
@@ -45,12 +45,8 @@ pub kept_built : (b : Bool) (s t : Systems) → AreKept s t → AreBuiltIf b s t
 kept_built true s t kept = (kept_most s t kept).most
 kept_built false s t kept = kept.rebuilds
 
--- nothing was built
-unbuilt_one : (m : Meaning) → IsBuiltOnceAtMost m m
-unbuilt_one m = once m m refl
-
 pub unbuilt : (b : Bool) (s : Systems) → AreBuiltIf b s s
-unbuilt true s = record { ground = unbuilt_one s.ground; range = unbuilt_one s.range; watch = unbuilt_one s.watch; census = unbuilt_one s.census }
+unbuilt true s = record { ground = not_built s.ground; range = not_built s.range; watch = not_built s.watch; census = not_built s.census }
 unbuilt false s = record { ground = refl; range = refl; watch = refl; census = refl }
 
 -- ---- what a client did
@@ -94,32 +90,10 @@ happened_shown setup make (Some act) old (Done ups) new h = ap (shows setup make
 
 -- ---- what a client says has frames
 
-orders_small : (setup : Setup) (command : Command) (l : Life) → HasFewIds command → All IsSmallUp (says_of (orders setup command l))
-orders_small setup command Off few = All-nil IsSmallUp
-orders_small setup command Joining few = All-nil IsSmallUp
-orders_small setup command (On player) few = by (may_order setup player)
-  where
-    by : (b : Bool) → All IsSmallUp (says_of (if b then Some (ordered command player) else None))
-    by true = All-cons IsSmallUp (up.Command (suc player.done) command) [] few (All-nil IsSmallUp)
-    by false = All-nil IsSmallUp
-
 joins_small : (l : Life) → All IsSmallUp (says_of (joins l))
 joins_small Off = All-cons IsSmallUp up.Join [] tt (All-nil IsSmallUp)
 joins_small Joining = All-nil IsSmallUp
 joins_small (On player) = All-nil IsSmallUp
-
-plays_small : (setup : Setup) (l : Life) → All IsSmallUp (says_of (plays setup l))
-plays_small setup Off = All-nil IsSmallUp
-plays_small setup Joining = All-nil IsSmallUp
-plays_small setup (On player) = by (may_play setup player)
-  where
-    done : (b : Bool) (p : Player) → All IsSmallUp (if b then told_with_done setup p else told_alone setup p).says
-    done true p = All-cons IsSmallUp (report_of setup p) (up.Done (suc p.done) ∷ []) tt (All-cons IsSmallUp (up.Done (suc p.done)) [] tt (All-nil IsSmallUp))
-    done false p = All-cons IsSmallUp (report_of setup p) [] tt (All-nil IsSmallUp)
-
-    by : (b : Bool) → All IsSmallUp (says_of (if b then Some (told setup (played setup player)) else None))
-    by true = done (may_tell_done setup (played setup player)) (played setup player)
-    by false = All-nil IsSmallUp
 
 -- what was said has frames, where what is to be said has them
 pub said_small : (act : Option Act) (old : Life) (did : Did) (new : Life) → Answers act old (Ok did) new → All IsSmallUp (says_of act)

@@ -1,6 +1,6 @@
 -- What a client of a session hears loads as the state that was meant, and what it does then is what the definition says, over
 -- plain values.
-use Rattle.sim_session.proofs.{Beside.acts_beside, Beside.done_by, Beside.kept_built, Beside.said_small, Spelled.states_are_short}
+use Rattle.sim_session.proofs.Beside.{acts_beside, done_by, kept_built, said_small}
 use Rattle.sim_session.proofs.Common.{Act, Acted, acts, after, All-cons, All-nil, Answers, ap, AreBuiltIf, AreBuiltOnceAtMost, AreKept, carry_down, carry_up}
 use Rattle.sim_session.proofs.Common.{Conveys, Did, Done, Down, Event, fall_events, Falls, falls, Follows, has_happened, has_load, HasValidStates, heard_events}
 use Rattle.sim_session.proofs.Common.{Lives, LoadsAs, LoadsFrom, Makes, may_load, none-some, Off, On, Past, Phase, put, refusal_in, said_by, says_of, Session}
@@ -12,6 +12,7 @@ use Rattle.sim_base.specs.declared.step.Step.TheVariants as step
 use Rattle.sim_plain.specs.declared.message.DownOf.TheVariants as down
 use Rattle.sim_plain.specs.declared.message.UpOf.TheVariants as up
 use Rattle.sim_plain_session.specs.Clients as plain
+use Rattle.sim_client.proofs.Spelled.{states_are_short}
 
 -- the state that a message means
 abbrev loaded_of : Setup → Down → Option State

@@ -1,9 +1,9 @@
 -- A step that is not enabled: what this says of its client and of the pipes.
 use Rattle.sim_session.proofs.{Beside.done_by, Common.told_alone, Common.told_with_done, Common.Up, Common.◌∙◌}
 use Rattle.sim_session.proofs.Common.{ap, AreFrames, arith, bending_follows, bends, bent, carry_down, carry_up, client_of, Command, Conveys, Did, Done, Down}
-use Rattle.sim_session.proofs.Common.{events_by, falls, has_happened, Held, Idle, is_off, IsClient, IsDownFrame, IsUpFrame, join_shown, Joining}
+use Rattle.sim_session.proofs.Common.{events_by, falls, has_happened, Held, Idle, is_off, IsClient, IsDownFrame, IsUpFrame, join_shown, Joining, put_same}
 use Rattle.sim_session.proofs.Common.{joining_follows, joins, leave_events, Life, Lives, may_bend, may_order, may_play, may_tell_done, Off, On, order_shown}
-use Rattle.sim_session.proofs.Common.{ordered, ordering_follows, orders, Phase, pipe_in, played, Player, playing_follows, plays, put_same, rises, row_of, Rules}
+use Rattle.sim_session.proofs.Common.{ordered, ordering_follows, orders, Phase, pipe_in, played, Player, playing_follows, plays, rises, row_of, Rules}
 use Rattle.sim_session.proofs.Common.{said_by, says_of, Session, Setup, shows, shows_after, spelled, StandBeside, Step, stepped_by, subst, sym, told}
 use Rattle.sim_session.proofs.Common.{◌≡◌, ℕ, ◌≤◌, Bool, true, false, List, [], ◌∷◌, map, length, ℤ, if◌then◌else◌, Some, None, Ok, Option, refl, Act, Answers}
 use Rattle.sim_base.specs.declared.step.Event.TheVariants as event

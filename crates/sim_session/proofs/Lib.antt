@@ -1,5 +1,4 @@
 pub mod Common
-pub mod Spelled
 pub mod Seating
 pub mod Stepping
 pub mod Beside

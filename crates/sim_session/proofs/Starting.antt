@@ -1,13 +1,11 @@
 -- Clients begin in the match, one after the other.
-use Rattle.sim_session.proofs.Common.{ChangeAt, inl, inr, IsBuiltOnceAtMost, Life, life_of, Meaning, Off, StartsOnly, subst, sym, Systems, ◌∙◌}
+use Rattle.sim_session.proofs.Common.{ChangeAt, inl, inr, Life, life_of, Off, StartsOnly, subst, sym, Systems, ◌∙◌}
 use Rattle.sim_session.proofs.Common.{◌≡◌, ℕ, ◌+◌, ◌-◌, ◌<◌, ◌≤◌, ◌⊎◌, List, map, length, get_or, set, refl, ap, AreBuilt, AreBuiltOnceAtMost, arith, cases_lt}
 use Rattle.sim_session.proofs.Seating.{put_elsewhere, put_there, was_there}
+use Rattle.sim_board.proofs.Counting.{not_built}
 
-once_same : (m : Meaning) → IsBuiltOnceAtMost m m
-once_same m = record { low = omega arith; high = omega arith }
-
-built_same : (s : Systems) → AreBuiltOnceAtMost s s
-built_same s = record { ground = once_same s.ground; range = once_same s.range; watch = once_same s.watch; census = once_same s.census }
+pub built_same : (s : Systems) → AreBuiltOnceAtMost s s
+built_same s = record { ground = not_built s.ground; range = not_built s.range; watch = not_built s.watch; census = not_built s.census }
 
 pub starts_none : (s : List Systems) → StartsOnly 0 s s
 starts_none s = record { count = refl; there = λ i d none low. absurd (omega (arith, none)); others = λ i d low. refl }

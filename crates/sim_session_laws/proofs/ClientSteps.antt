@@ -1,6 +1,6 @@
 -- The steps of one client keep what fits.
-use Rattle.sim_session_laws.proofs.Common.{Session, Setup, Status, subst, sym, turns_in, Up, Waiting, ◌∙◌}
-use Rattle.sim_session_laws.proofs.Common.{hears, idle, In, inl, inr, Joining, joins, Off, On, orders, Out, Phase, plays, put, put_other, put_same, Server}
+use Rattle.sim_session_laws.proofs.Common.{put_other, put_same, Session, Setup, Status, subst, sym, turns_in, Up, Waiting, ◌∙◌}
+use Rattle.sim_session_laws.proofs.Common.{hears, idle, In, inl, inr, Joining, joins, Off, On, orders, Out, Phase, plays, put, Server}
 use Rattle.sim_session_laws.proofs.Common.{◌≡◌, ℕ, ◌⊎◌, List, [], ◌∷◌, ◌++◌, ℤ, refl, Acted, acts, ap, append-nil, begun, bends, cases_eq, Command, Down, falls}
 use Rattle.sim_session_laws.proofs.Invariant.{Fits, Holds, Plays, Sound}
 use Rattle.sim_session_laws.proofs.PlaysLemmas.{plays_bends, plays_heard, plays_ordered, plays_plays, PlaysThen}

@@ -10,14 +10,14 @@ pub use Rattle.sim_base.specs.{Rows.row_of, Spelling.is_full_turn, Spelling.mark
 pub use Rattle.sim_base.specs.declared.{command.Command.Command, command.Command.TheVariants.Resign, command.PlayerCommand.PlayerCommand, setup.Setup.Setup}
 pub use Rattle.sim_laws.proofs.Turning.{after_counts_turns, after_is_valid}
 pub use Rattle.sim_laws.specs.{CommandLaws.IsOrderOf, TurnLaws.IsItemOf, TurnLaws.IsPastOf}
-pub use Rattle.sim_plain.specs.{Functions.put, Functions.up_to, History.is_accepted}
+pub use Rattle.sim_plain.{proofs.Statuses.put_other, proofs.Statuses.put_same, specs.Functions.put, specs.Functions.up_to, specs.History.is_accepted}
 pub use Rattle.sim_plain.specs.{Messages.Arrival, Messages.carry_down, Messages.Cut, Messages.Heard, declared.message.DownOf.DownOf, declared.rules.Rules.Rules}
 pub use Rattle.sim_plain.specs.{Notices.first_mark, Notices.Report, Notices.reports, Server.turn_fault, Server.unless, Server.waits_for, Server.with_status}
 pub use Rattle.sim_plain.specs.Posts.{asked, cut_posts, differs, kept_above, loading, nobody, Posts, posts, refusal, release, to_all, to_one}
-pub use Rattle.sim_plain.specs.Server.{command_fault, crowd_fault, done_fault, donor, entry_done, first_or, heard, is_by, is_in, is_out, keeps, least_done}
-pub use Rattle.sim_plain.specs.Server.{least_in, lesser, opening, raised, raised_to, report_fault, reported, reseated, seat, Server, server_after, takes_state}
+pub use Rattle.sim_plain.specs.Server.{command_fault, crowd_fault, done_fault, donor, entry_done, heard, is_by, is_in, is_out, keeps, least_done}
+pub use Rattle.sim_plain.specs.Server.{lesser, opening, raised, raised_to, report_fault, reported, reseated, seat, Server, server_after, takes_state}
 pub use Rattle.sim_plain.specs.declared.status.Status.{Status, TheVariants.In, TheVariants.Out, TheVariants.Waiting}
-pub use Rattle.sim_plain_session.proofs.{Examples.three, Examples.two, Functions.put_other, Functions.put_same}
+pub use Rattle.sim_plain_session.proofs.Examples.{three, two}
 pub use Rattle.sim_plain_session.proofs.{GoingOn.after_steps-append, GoingOn.session_goes_on, Hiding.full_is_digest, Hiding.others_are_quick}
 pub use Rattle.sim_plain_session.specs.{Bytes.spelled, Pasts.is_client, Pasts.is_unbent, Pasts.kept_turns, Pasts.rules_of}
 pub use Rattle.sim_plain_session.specs.{Clients.told, Clients.told_alone, Clients.told_with_done, Clients.Up, Laws.Carries, Sessions.stepped_by, Sessions.taken}

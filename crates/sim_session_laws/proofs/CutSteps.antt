@@ -1,17 +1,13 @@
 -- A client is cut.
 use Rattle.sim_session_laws.proofs.{ClientSteps.fits_as, Common.with_status, Common.◌∙◌, Invariant.Fits, Invariant.Holds, Invariant.Plays, Invariant.Sound}
-use Rattle.sim_session_laws.proofs.{ServerLemmas.told_raised, UpSteps.donor_in, UpSteps.ins_high, UpSteps.sound_raised, UpSteps.sound_status, UpSteps.waits_is}
+use Rattle.sim_session_laws.proofs.{ServerLemmas.told_raised, UpSteps.donor_in, UpSteps.ins_high, UpSteps.sound_raised, UpSteps.sound_status}
 use Rattle.sim_session_laws.proofs.Common.{ap, append-nil, append_assoc, asked, cases_eq, cond-false, cond-true, cut, cut_posts, donor, Down, eq-eqb, In, inl}
 use Rattle.sim_session_laws.proofs.Common.{inr, is_client, is_in, Joining, leaves, ne_eqb, Off, On, Out, Past, Phase, put_other, put_same, raised, release}
 use Rattle.sim_session_laws.proofs.Common.{reseated, rules_of, seat, Server, Session, Setup, Status, subst, sym, true≢false, Up, up_to, Waiting, waits_for}
 use Rattle.sim_session_laws.proofs.Common.{◌≡◌, ℕ, ◌≤◌, Bool, true, false, ◌⊎◌, List, [], ◌∷◌, ◌++◌, map, nat_lt, Some, None, filter, Option, refl, and_right}
-use Rattle.sim_session_laws.proofs.ServerLemmas.{fits_goes, fits_told, Goes, goes_one, IsQuiet, quiet_asks, quiet_none, release_is, Stay, Told, told_quiet}
+use Rattle.sim_session_laws.proofs.ServerLemmas.{fits_goes, fits_told, Goes, goes_one, IsQuiet, quiet_asks, quiet_none, release_is, Told, told_quiet}
 use Rattle.sim_plain.specs.declared.message.DownOf.TheVariants as down
-
-in_waits_not : (c : ℕ) (st : Status) → is_in st ≡ true → waits_for c st ≡ false
-in_waits_not c Out e = absurd (true≢false (sym e))
-in_waits_not c (Waiting j) e = absurd (true≢false (sym e))
-in_waits_not c (In done) e = refl
+use Rattle.sim_plain.proofs.Statuses.{in_waits_not, Stay, waits_is}
 
 -- ---- the statuses after the cut
 

@@ -1,6 +1,6 @@
 -- What is released is final.
 use Rattle.sim_session_laws.proofs.{Basics.Grows, Basics.grows_same, Invariant.Holds, Runs.holds_session, Runs.holds_stepped, TurnNumberFacts.dones_are_turns}
-use Rattle.sim_session_laws.proofs.{PlaysLemmas.keeps_final, ServerLemmas.raised_more}
+use Rattle.{sim_plain.proofs.Final.raised_more, sim_session_laws.proofs.PlaysLemmas.keeps_final}
 use Rattle.sim_session_laws.proofs.Common.{Joining, keeps, least_done, leaves, Off, On, opened, Out, Past, Phase, PlayerCommand, put, raised, ReleasedAreFinal}
 use Rattle.sim_session_laws.proofs.Common.{ReleasedOnlyRise, report_fault, reported, rises, rules_of, seat, Server, Session, session, Setup, Status, Step}
 use Rattle.sim_session_laws.proofs.Common.{count_by, Option, refl, after_steps, after_steps-append, and_parts, arith, Arrival, client_of, command_fault}

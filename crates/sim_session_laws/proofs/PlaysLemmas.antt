@@ -3,9 +3,9 @@ use Rattle.sim_session_laws.proofs.Basics.{all_players_append, all_right, client
 use Rattle.sim_session_laws.proofs.Basics.{good_ups_grows, Grows, grows_same}
 use Rattle.sim_session_laws.proofs.Common.{All-cons, All-head, AllPlayers, and_from, and_parts, ap, append-nil, append_assoc, arith, Bend, bends, bent_seat}
 use Rattle.sim_session_laws.proofs.Common.{Joining, learns, lt-ltb, ltb-true, may_bend, may_order, may_play, may_tell_done, ne_eqb, Off, On, ordered, orders}
-use Rattle.sim_session_laws.proofs.Common.{Past, Phase, played, PlayerCommand, plays, put, put_other, put_same, report_of, row_of, Seat, Setup, shows_bend}
+use Rattle.sim_session_laws.proofs.Common.{Past, Phase, played, PlayerCommand, plays, put, put_other, report_of, row_of, Seat, Setup, shows_bend}
 use Rattle.sim_session_laws.proofs.Common.{cases_eq, Command, commands_at, cond-false, cond-true, Down, eq-eqb, hears, idle, inl, inr, IsItemOf, IsOrderOf}
-use Rattle.sim_session_laws.proofs.Common.{state_of, subst, sym, told, told_alone, told_with_done, true≢false, Turn, turns_in, Up, ◌∙◌}
+use Rattle.sim_session_laws.proofs.Common.{put_same, state_of, subst, sym, told, told_alone, told_with_done, true≢false, Turn, turns_in, Up, ◌∙◌}
 use Rattle.sim_session_laws.proofs.Common.{◌≡◌, ℕ, suc, ◌+◌, ◌<◌, ◌≤◌, min, max, Bool, true, false, ◌⊎◌, List, [], ◌∷◌, ◌++◌, ℤ, if◌then◌else◌, refl, Acted}
 use Rattle.sim_session_laws.proofs.Invariant.{GoodDowns, GoodPast, GoodUps, Plays}
 use Rattle.sim_plain.specs.declared.message.DownOf.TheVariants as down

@@ -2,10 +2,9 @@
 use Rattle.sim_session_laws.proofs.Common.{All-cons, All-head, All-nil, All-tail, All-weaker, ap, append-nil, append_assoc, Arrival, bends, bent_seat, Carries}
 use Rattle.sim_session_laws.proofs.Common.{client_of, Command, Cut, Down, eqb-true, falls, Heard, hears, idle, inl, inr, is_client, Joining, joins, leaves}
 use Rattle.sim_session_laws.proofs.Common.{mark_of, may_bend, may_order, may_play, may_tell_done, Off, On, ordered, orders, Past, Phase, played, plays, put}
-use Rattle.sim_session_laws.proofs.Common.{put_same, refused, report_of, ReportsAreMarks, rises, row_of, Seat, Session, session, session_goes_on, Setup}
-use Rattle.sim_session_laws.proofs.Common.{shows_bend, state_of, Step, stepped, stepped_by, subst, sym, told, told_alone, told_with_done, turns_in, Up, WasMark}
-use Rattle.sim_session_laws.proofs.Common.{◌∙◌}
-use Rattle.sim_session_laws.proofs.Common.{◌≡◌, ℕ, suc, Bool, true, false, List, [], ◌∷◌, ◌++◌, ℤ, if◌then◌else◌, ◌==◌, All, refl, Acted, acts, All-append}
+use Rattle.sim_session_laws.proofs.Common.{refused, report_of, ReportsAreMarks, rises, row_of, Seat, Session, session, session_goes_on, Setup, shows_bend}
+use Rattle.sim_session_laws.proofs.Common.{state_of, Step, stepped, stepped_by, subst, sym, told, told_alone, told_with_done, turns_in, Up, WasMark, put_same}
+use Rattle.sim_session_laws.proofs.Common.{◌∙◌, ◌≡◌, ℕ, suc, Bool, true, false, List, [], ◌∷◌, ◌++◌, ℤ, if◌then◌else◌, ◌==◌, All, refl, Acted, acts, All-append}
 use Rattle.sim_base.specs.declared.step.Step.TheVariants as step
 use Rattle.sim_plain.specs.declared.message.DownOf.TheVariants as down
 use Rattle.sim_plain.specs.declared.message.UpOf.TheVariants as up

@@ -1,58 +1,18 @@
 -- What the server does, as each client sees it.
-use Rattle.sim_session_laws.proofs.Common.{Heard, heard, In, inl, inr, is_by, is_client, is_in, is_out, Joining, keeps, least_done, least_in, leb-true, lesser}
-use Rattle.sim_session_laws.proofs.Common.{command_fault, commands_at, cond-false, cond-true, crowd_fault, differs, donor, Down, eq-eqb, eqb-true, first_or}
-use Rattle.sim_session_laws.proofs.Common.{ltb-true, ne_eqb, nobody, Off, On, Out, Past, Phase, PlayerCommand, posts, put, put_other, put_same, raised}
+use Rattle.sim_session_laws.proofs.Common.{Heard, heard, In, inl, inr, is_by, is_client, is_in, is_out, Joining, keeps, least_done, leb-true, lesser}
+use Rattle.sim_session_laws.proofs.Common.{command_fault, commands_at, cond-false, cond-true, crowd_fault, differs, donor, Down, eq-eqb, eqb-true}
+use Rattle.sim_session_laws.proofs.Common.{ltb-true, ne_eqb, nobody, Off, On, Out, Past, Phase, PlayerCommand, posts, put, raised}
 use Rattle.sim_session_laws.proofs.Common.{nat_le, ◌==◌, Some, None, count_by, Option, refl, and_parts, ap, append-nil, arith, asked, begun, cases_eq, Command}
 use Rattle.sim_session_laws.proofs.Common.{raised_to, refusal, release, report_fault, reported, rules_of, Seat, seat, Server, Setup, Status, subst, sym, to_all}
-use Rattle.sim_session_laws.proofs.Common.{true≢false, turns_in, unless, Up, Waiting, with_status, ◌∙◌}
-use Rattle.sim_session_laws.proofs.Common.{◌≡◌, ℕ, zero, suc, ◌<◌, ◌≤◌, min, Bool, true, false, ◌&&◌, ◌⊎◌, List, [], ◌∷◌, ◌++◌, map, if◌then◌else◌, nat_lt}
+use Rattle.sim_session_laws.proofs.Common.{put_other, true≢false, turns_in, unless, Up, Waiting, with_status, ◌∙◌}
+use Rattle.sim_session_laws.proofs.Common.{◌≡◌, ℕ, zero, suc, ◌<◌, ◌≤◌, Bool, true, false, ◌&&◌, ◌⊎◌, List, [], ◌∷◌, ◌++◌, map, if◌then◌else◌, nat_lt}
 use Rattle.sim_session_laws.proofs.Invariant.{Fits, GoodDowns, Plays}
 use Rattle.sim_session_laws.proofs.PlaysLemmas.{plays_kept, plays_posted, plays_released, plays_told}
 use Rattle.sim_plain.specs.declared.message.DownOf.TheVariants as down
 use Rattle.sim_plain.specs.declared.message.UpOf.TheVariants as up
+use Rattle.sim_plain.proofs.{Final.raised_more, Statuses.least_done_le, Statuses.Stay, Statuses.stay_put}
 
 -- ---- the least
-
-in_not_out : (st : Status) (done : ℕ) → st ≡ In done → is_in st ≡ true
-in_not_out st done e = ap is_in e
-
-pub first_or_in : (status : ℕ → Status) (o : Option ℕ) (b : Bool) (d k : ℕ) → is_in (status d) ≡ b → ((c : ℕ) → o ≡ Some c → is_in (status c) ≡ true)
-    → first_or o b d ≡ Some k → is_in (status k) ≡ true
-first_or_in status (Some c) b d k e h same = h k same
-first_or_in status None true d k e h same = let n : d ≡ k = cc in subst (λ x. is_in (status x) ≡ true) n e
-first_or_in status None false d k e h same = absurd (cc)
-
-pub least_in_is : (status : ℕ → Status) (n k : ℕ) → least_in status n ≡ Some k → is_in (status k) ≡ true
-least_in_is status zero k e = absurd (cc)
-least_in_is status (suc n) k e = first_or_in status (least_in status n) (is_in (status (suc n))) (suc n) k refl (λ c. least_in_is status n c) e
-
-pub raised_more : (r : ℕ) (o : Option ℕ) → r ≤ raised_to r o
-raised_more r None = omega arith
-raised_more r (Some v) = omega arith
-
--- the least done is at most that of each In client
-abbrev pub AtMost : Option ℕ → ℕ → Type 0
-AtMost o done = (v : ℕ) × (o ≡ Some v) × (v ≤ done)
-
-lesser_here : (st : Status) (o : Option ℕ) (done : ℕ) → st ≡ In done → AtMost (lesser st o) done
-lesser_here (In x) (Some v) done e = let same : x ≡ done = cc in (min x v, refl, omega arith)
-lesser_here (In x) None done e = let same : x ≡ done = cc in (x, refl, omega arith)
-lesser_here Out o done e = absurd (cc)
-lesser_here (Waiting j) o done e = absurd (cc)
-
-lesser_there : (st : Status) (o : Option ℕ) (done : ℕ) → AtMost o done → AtMost (lesser st o) done
-lesser_there (In x) (Some v) done h = let e : v ≡ h.0 = (let f = h.1 in cc) in let le = h.2 in (min x v, refl, omega arith)
-lesser_there (In x) None done h = let f = h.1 in absurd (cc)
-lesser_there Out o done h = h
-lesser_there (Waiting j) o done h = h
-
-pub least_done_le : (status : ℕ → Status) (n d done : ℕ) → 0 < d → d ≤ n → status d ≡ In done → AtMost (least_done status n) done
-least_done_le status zero d done pos le e = absurd (omega arith)
-least_done_le status (suc n) d done pos le e = by (cases_eq d (suc n)) (λ (h : d ≤ n). least_done_le status n d done pos h e)
-  where
-    by : (d ≡ suc n) ⊎ (d ≡ suc n → ⊥) → (d ≤ n → AtMost (least_done status n) done) → AtMost (least_done status (suc n)) done
-    by (inl same) rec = lesser_here (status (suc n)) (least_done status n) done (subst (λ x. status x ≡ In done) same e)
-    by (inr apart) rec = lesser_there (status (suc n)) (least_done status n) done (rec (omega arith))
 
 pub raised_le : (status : ℕ → Status) (setup : Setup) (r d done : ℕ) → is_client setup d ≡ true → status d ≡ In done → r ≤ done
     → raised_to r (least_done status setup.players) ≤ done
@@ -108,9 +68,6 @@ fits_told setup s s' (In done) news (On o) ups downs t h = t o ups downs h
 pub record IsQuiet (setup : Setup) (news : List Down) : Type 0 where
   pub good : (r : ℕ) (k : ℕ → List PlayerCommand) (l : ℕ) → GoodDowns setup r k l news
   pub none : (t : ℕ) → commands_at t news ≡ []
-
-abbrev pub Stay : Server → Server → Type 0
-Stay s s' = (j : ℕ) → is_in (s.status j) ≡ true → is_in (s'.status j) ≡ true
 
 pub told_quiet : (setup : Setup) (s s' : Server) (st : Status) (news : List Down) → s'.released ≡ s.released → s'.kept ≡ s.kept → Stay s s'
     → IsQuiet setup news → (is_in st ≡ false → news ≡ []) → Told setup s s' st news
@@ -279,14 +236,6 @@ goes_join_again setup s c d e = by (is_out (s.status c)) e
     by false f = goes_nothing setup s d
 
 -- ---- a status that changes
-
-pub stay_put : (s : Server) (c : ℕ) (st : Status) → (is_in (s.status c) ≡ true → is_in st ≡ true) → Stay s (with_status c st s)
-stay_put s c st h j e = by (cases_eq j c)
-  where
-    by : (j ≡ c) ⊎ (j ≡ c → ⊥) → is_in (put c st s.status j) ≡ true
-    by (inl same) = subst (λ x. is_in (put c st s.status x) ≡ true) (sym same) (ap is_in (put_same c st s.status) ∙
-        h (subst (λ x. is_in (s.status x) ≡ true) same e))
-    by (inr apart) = ap is_in (put_other c st s.status j apart) ∙ e
 
 -- A state that is accepted, for a client other than the one that loads.
 pub goes_state : (setup : Setup) (s : Server) (j d entry : ℕ) (news : List Down) → (d ≡ j → ⊥)

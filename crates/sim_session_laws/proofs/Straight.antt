@@ -2,12 +2,12 @@
 use Rattle.sim_session_laws.proofs.{Basics.kept_turns_final, ClientSteps.holds_down, ClientSteps.holds_join, ClientSteps.holds_order, ClientSteps.holds_play}
 use Rattle.sim_session_laws.proofs.{Final.Grown, Final.heard_grows, Fitting.good_on, Runs.holds_opened, Runs.holds_stepped, TurnNumberFacts.dones_are_turns}
 use Rattle.sim_session_laws.proofs.Common.{All-nil, All-tail, All-weaker, ap, arith, Arrival, arrives, asked, begun, client_of, Command, command_fault, Cut}
-use Rattle.sim_session_laws.proofs.Common.{PlayerCommand, plays, Posts, posts, put, put_same, raised, refusal, refused, release, report_fault, report_of, rises}
+use Rattle.sim_session_laws.proofs.Common.{PlayerCommand, plays, Posts, posts, put, raised, refusal, refused, release, report_fault, report_of, rises}
 use Rattle.sim_session_laws.proofs.Common.{cut, differs, done_fault, donor, Down, entry_done, falls, Heard, heard, hears, idle, In, is_active, is_bend}
 use Rattle.sim_session_laws.proofs.Common.{is_client, is_in, is_out, is_unbent, Joining, joins, kept_above, kept_turns, learns, leaves, loading, mark, mark_of}
 use Rattle.sim_session_laws.proofs.Common.{may_order, may_play, may_tell_done, nobody, Off, On, opened, ordered, orders, Out, Past, Phase, played}
 use Rattle.sim_session_laws.proofs.Common.{rules_of, Seat, Server, Session, session, Setup, Status, Step, stepped, stepped_by, subst, sym, takes_state, to_all}
-use Rattle.sim_session_laws.proofs.Common.{to_one, told, told_alone, told_with_done, turns_in, Up, up_to, waits_for, with_status, ◌∙◌}
+use Rattle.sim_session_laws.proofs.Common.{put_same, to_one, told, told_alone, told_with_done, turns_in, Up, up_to, waits_for, with_status, ◌∙◌}
 use Rattle.sim_session_laws.proofs.Common.{◌==◌, Some, None, All, filter, Option, refl, Acted, acts, after, after_steps, All-append, All-cons, All-head}
 use Rattle.sim_session_laws.proofs.Common.{◌≡◌, ℕ, zero, suc, ◌+◌, ◌-◌, ◌≤◌, min, Bool, true, false, ◌&&◌, List, [], ◌∷◌, ◌++◌, map, if◌then◌else◌, nat_lt}
 use Rattle.sim_session_laws.proofs.Invariant.{Holds}

@@ -2,16 +2,17 @@
 use Rattle.sim_session_laws.proofs.{Basics.all_players_append, Basics.player_is, ClientSteps.fits_as, LoadLemmas.plays_begun}
 use Rattle.sim_session_laws.proofs.Common.{Some, None, count_by, Option, refl, AllPlayers, and_from, and_parts, ap, append-nil, arith, arrives, asked, begun}
 use Rattle.sim_session_laws.proofs.Common.{cases_eq, Command, command_fault, cond-false, cond-true, crowd_fault, done_fault, donor, Down, entry_done, eq-eqb}
-use Rattle.sim_session_laws.proofs.Common.{eqb-true, Heard, heard, In, inl, inr, is_by, is_client, is_in, is_out, IsOrderOf, Joining, keeps, kept_above, le-leb}
+use Rattle.sim_session_laws.proofs.Common.{Heard, heard, In, inl, inr, is_by, is_client, is_in, is_out, IsOrderOf, Joining, keeps, kept_above, le-leb}
 use Rattle.sim_session_laws.proofs.Common.{leb-true, loading, ne_eqb, nobody, Off, On, Out, Past, Phase, PlayerCommand, put, put_other, put_same, raised}
 use Rattle.sim_session_laws.proofs.Common.{refusal, release, report_fault, reported, rises, rules_of, Seat, seat, Server, Session, Setup, Status, subst, sym}
-use Rattle.sim_session_laws.proofs.Common.{taken, takes_state, to_one, true≢false, turn_fault, turns_in, unless, Up, Waiting, waits_for, with_status, ◌∙◌}
+use Rattle.sim_session_laws.proofs.Common.{taken, takes_state, to_one, true≢false, turn_fault, turns_in, unless, Up, Waiting, with_status, ◌∙◌}
 use Rattle.sim_session_laws.proofs.Common.{◌≡◌, ℕ, suc, ◌+◌, ◌-◌, ◌≤◌, Bool, true, false, ◌&&◌, ◌⊎◌, List, [], ◌∷◌, ◌++◌, if◌then◌else◌, nat_lt, nat_le, ◌==◌}
 use Rattle.sim_session_laws.proofs.Invariant.{Fits, GoodPast, GoodUps, Holds, Plays, Sound}
 use Rattle.sim_session_laws.proofs.ServerLemmas.{fits_goes, Goes, goes_command, goes_join_again, goes_nothing, goes_one, goes_report, goes_state, IsQuiet}
-use Rattle.sim_session_laws.proofs.ServerLemmas.{least_in_is, quiet_asks, quiet_none, raised_bound, Stay, stay_put, told_quiet, told_raised}
+use Rattle.sim_session_laws.proofs.ServerLemmas.{quiet_asks, quiet_none, raised_bound, told_quiet, told_raised}
 use Rattle.sim_plain.specs.declared.message.DownOf.TheVariants as down
 use Rattle.sim_plain.specs.declared.message.UpOf.TheVariants as up
+use Rattle.sim_plain.proofs.Statuses.{least_in_is, Stay, stay_put, waits_is}
 
 -- ---- what stays sound
 
@@ -218,11 +219,6 @@ sound_join setup s c sound client = by (is_out (s.status c))
     by false = sound
 
 -- ---- a state
-
-pub waits_is : (c : ℕ) (st : Status) → waits_for c st ≡ true → st ≡ Waiting c
-waits_is c Out e = absurd (true≢false (sym e))
-waits_is c (Waiting j) e = ap Waiting (eqb-true j c e)
-waits_is c (In done) e = absurd (true≢false (sym e))
 
 out_of : (setup : Setup) (s : Server) (j : ℕ) (b : Bool) → Sound setup s → is_client setup j ≡ b → (s.status j ≡ Out → ⊥) → is_client setup j ≡ true
 out_of setup s j true sound e apart = e

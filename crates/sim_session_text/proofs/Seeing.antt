@@ -8,7 +8,7 @@ use Rattle.sim_session_text.specs.{Pipes.down_frames, Pipes.pipe_lines, Pipes.pi
 use Rattle.sim_wire.specs.{Fits.IsDownFrame, Fits.IsUpFrame, Frames.down_frame, Frames.up_frame}
 use Rattle.sim_plain_session.specs.Clients as plain
 
-end_same : (setup : Setup) (life : Life) (phase : plain.Phase) → Lives setup life phase → end_seen setup life ≡ end_of setup phase
+pub end_same : (setup : Setup) (life : Life) (phase : plain.Phase) → Lives setup life phase → end_seen setup life ≡ end_of setup phase
 end_same setup Off plain.Off lives = refl
 end_same setup Off plain.Joining lives = absurd lives
 end_same setup Off (plain.On seat) lives = absurd lives
@@ -19,7 +19,7 @@ end_same setup (On player) plain.Off lives = absurd lives
 end_same setup (On player) plain.Joining lives = absurd lives
 end_same setup (On player) (plain.On seat) lives = let same = same_turn setup player seat lives in let turn = same.0 in let shown = same.1 in cc
 
-state_same : (setup : Setup) (life : Life) (phase : plain.Phase) → Lives setup life phase → state_of life ≡ state_at setup phase
+pub state_same : (setup : Setup) (life : Life) (phase : plain.Phase) → Lives setup life phase → state_of life ≡ state_at setup phase
 state_same setup Off plain.Off lives = refl
 state_same setup Off plain.Joining lives = absurd lives
 state_same setup Off (plain.On seat) lives = absurd lives
@@ -45,7 +45,7 @@ pairs_same setup lives s live =
     cc))
 
 -- the frames of messages are those that are made of them
-frames_are : {M : Type 0} (IsFrame : List ℕ → M → Type 0) (frame_of : M → List ℕ) → ((bytes : List ℕ) (m : M) → IsFrame bytes m → bytes ≡ frame_of m)
+pub frames_are : {M : Type 0} (IsFrame : List ℕ → M → Type 0) (frame_of : M → List ℕ) → ((bytes : List ℕ) (m : M) → IsFrame bytes m → bytes ≡ frame_of m)
     → (frames : List (List ℕ)) (messages : List M) → AreFrames IsFrame frames messages → frames ≡ map frame_of messages
 frames_are IsFrame frame_of framed [] [] are = refl
 frames_are IsFrame frame_of framed [] (m ∷ ms) are = absurd are

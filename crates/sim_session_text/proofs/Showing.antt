@@ -3,7 +3,7 @@ use Rattle.{sim_plain_session.specs.Pasts.kept_turns, sim_session_text.proofs.Co
 use Rattle.std.proofs.{Common.◌⊎◌, Common.inr, lemmas.Bool.and_from, lemmas.List.Elements.All-head}
 use Rattle.sim_base.specs.{Limits.IsFrom, Turn.Turn, declared.command.PlayerCommand.PlayerCommand}
 use Rattle.sim_lists.specs.StepLists.{IsStepList}
-use Rattle.sim_plain_session.proofs.{Enabling.steps_have_events, GoingOn.session_goes_on, Shown.events_are_shown, Shown.starts_are_shown}
+use Rattle.sim_plain_session.proofs.{Enabling.steps_have_events, GoingOn.session_goes_on, Shown.carries_either, Shown.events_are_shown, Shown.starts_are_shown}
 use Rattle.sim_plain_session.specs.{Clients.begun, Clients.digest_of, Clients.Joining, Clients.Off, Clients.On, Laws.Carries, Laws.IsAt, Laws.IsShown}
 use Rattle.sim_session_laws.proofs.{Basics.all_right, Final.released_are_final, PastFacts.unbent_are_kept, TurnNumberFacts.turns_are_released}
 use Rattle.sim_session_text.proofs.Common.{client_of, cond-true, digest, end_of, Event, events_after, holds_session, inl, is_active, is_client, IsStep, le-leb}
@@ -90,20 +90,11 @@ ComesFrom setup list e =
     Carries (start_events setup list.clients) e
     ⊎ ((before : List Step) × (x : Step) × IsStepAt list before x × Carries (step_events setup list before x) e)
 
-either : (xs ys : List Event) (e : Event) → Carries (xs ++ ys) e → Carries xs e ⊎ Carries ys e
-either [] ys e has = inr has
-either (x ∷ xs) ys e (inl same) = inl (inl same)
-either (x ∷ xs) ys e (inr has) = by (either xs ys e has)
-  where
-    by : Carries xs e ⊎ Carries ys e → Carries (x ∷ xs) e ⊎ Carries ys e
-    by (inl left) = inl (inr left)
-    by (inr right) = inr right
-
 comes_behind : (setup : Setup) (list : StepList) (before rest : List Step) (e : Event) → before ++ rest ≡ list.steps
     → Carries (events_after setup (session_at setup list before) rest) e → ComesFrom setup list e
 comes_behind setup list before [] e whole has = absurd has
 comes_behind setup list before (x ∷ rest) e whole has =
-    by (either (step_events setup list before x) (events_after setup (stepped setup (session_at setup list before) x) rest) e has)
+    by (carries_either (step_events setup list before x) (events_after setup (stepped setup (session_at setup list before) x) rest) e has)
     (comes_behind setup list (before ++ x ∷ []) rest e (append_assoc before (x ∷ []) rest ∙ whole))
   where
     by : Carries (step_events setup list before x) e ⊎ Carries (events_after setup (stepped setup (session_at setup list before) x) rest) e
@@ -114,7 +105,7 @@ comes_behind setup list before (x ∷ rest) e whole has =
         later (subst (λ (s : Session). Carries (events_after setup s rest) e) (sym one_more) behind)
 
 comes_from : (setup : Setup) (list : StepList) (e : Event) → Carries (events_of setup list) e → ComesFrom setup list e
-comes_from setup list e has = by (either (start_events setup list.clients) (events_after setup (opened setup list.clients) list.steps) e has)
+comes_from setup list e has = by (carries_either (start_events setup list.clients) (events_after setup (opened setup list.clients) list.steps) e has)
   where
     by : Carries (start_events setup list.clients) e ⊎ Carries (events_after setup (opened setup list.clients) list.steps) e → ComesFrom setup list e
     by (inl start) = inl start

@@ -4,8 +4,8 @@ pub use Rattle.{sim_setup.specs.Meets.Meets, std.specs.Str.bytes_eq}
 pub use Rattle.std.proofs.Common.{arith, eq-eqb, inl, inr, rules, subst, sym, true≢false, ◌∙◌}
 pub use Rattle.std.proofs.Common.{if◌then◌else◌, nat_lt, nat_le, ◌==◌, slice_index, Some, None, Ok, Err, codes, All, Option, Result, option_and_then, refl, ap}
 pub use Rattle.std.proofs.Common.{◌≡◌, ℕ, zero, suc, ◌+◌, ◌^◌, ◌<◌, ◌≤◌, Bool, true, false, ◌&&◌, ◌≢◌, ◌⊎◌, List, [], ◌∷◌, ◌++◌, map, length, drop}
-pub use Rattle.std.proofs.lemmas.{Bool.leb-true, List.length-map, List.length_push, List.Elements.All-cons}
-pub use Rattle.sim_json.proofs.Readers.{and_then_some, both_true, if_some, natural_in-within, next_some, then_some}
+pub use Rattle.std.proofs.lemmas.{Bool.leb-true, List.length-map, List.length_push, List.Elements.All-cons, Bool.and_parts}
+pub use Rattle.sim_json.proofs.Readers.{and_then_some, if_some, natural_in-within, next_some, then_some}
 pub use Rattle.sim_json.proofs.Reading.{is_least, numbered-All, numbered-keeps, numbered-length, numbered_from_records}
 pub use Rattle.sim_setup.specs.{Commands.crowd, Commands.falls_at, Crowds.Tallies, Ground.land_in, Ground.rect_of, Refusals.after, Sources.IsReadySource}
 pub use Rattle.sim_setup.specs.{Players.mask_from, Players.mask_of, Setups.setup_of, Templates.next_template, Templates.roots_of, Templates.templates_from}

@@ -3,12 +3,12 @@ use Rattle.{sim_setup.specs.Players.enemy_in, sim_setup.specs.Players.masks_from
 use Rattle.std.proofs.{Common.max, Common.EachIndex, Common.bit_or, Math.Dec.leb-zero, Math.Pow.pow-lt, Math.Seq.get_or-append_seam, lemmas.Bool.cases_lt}
 use Rattle.std.proofs.lemmas.{Int.ints, List.get_or_append_left, Nat.or_lt, Nat.pow_pos, Nat.Bits.bit_at-pow_other, Nat.Bits.bit_at-zero, Nat.Bits.bit_at_or}
 use Rattle.sim_base.specs.{Limits.IsClosed, Limits.IsMask, declared.place.Rect.Rect}
-use Rattle.sim_json.{proofs.Readers.else_some, specs.Values.natural}
+use Rattle.{sim_json.proofs.Readers.else_some, sim_json.specs.Values.natural, std.proofs.lemmas.Bool.and_from, std.proofs.lemmas.Option.same_Some}
 use Rattle.sim_setup.proofs.{Common.true≢false, Common.two, Common.◌∙◌, Refused.need_ok, Refused.ok_same}
 use Rattle.sim_setup.proofs.Common.{IsFrom, IsLand, Land, land_in, leb-true, length_push, list_at, list_of, mask_from, mask_of, natural_in, natural_in-within}
-use Rattle.sim_setup.proofs.Common.{Some, Ok, codes, All, option_and_then, refl, and_then_some, ap, arith, both_true, Data, eq-eqb, four, if_some, inl, inr}
+use Rattle.sim_setup.proofs.Common.{Some, Ok, codes, All, option_and_then, refl, and_then_some, ap, arith, Data, eq-eqb, four, if_some, inl, inr}
 use Rattle.sim_setup.proofs.Common.{next_some, numbered-All, numbered-keeps, numbered-length, numbered_from_records, records, rect_of, subst, sym, then_some}
-use Rattle.sim_setup.proofs.Common.{◌≡◌, ℕ, ◌+◌, ◌^◌, ◌<◌, ◌≤◌, Bool, true, ◌&&◌, ◌≢◌, ◌⊎◌, List, [], ◌∷◌, ◌++◌, length, nat_lt, nat_le, ◌==◌, slice_index}
+use Rattle.sim_setup.proofs.Common.{◌≡◌, ℕ, ◌+◌, ◌^◌, ◌<◌, ◌≤◌, ◌&&◌, ◌≢◌, ◌⊎◌, List, [], and_parts, ◌∷◌, ◌++◌, length, nat_lt, nat_le, ◌==◌, slice_index}
 use Rattle.sim_setup.specs.{Ground.closed_in, Ground.rect_from, Ground.rect_on, Ground.rects_from, Ground.size_from, Ground.size_in, declared.ground.Size.Size}
 
 -- ---- the size
@@ -30,22 +30,19 @@ size_in-limits d size e =
 abbrev land_with : Size → List Rect → List ℕ → Land
 land_with size closed masks = record { width = size.width; depth = size.depth; closed = closed; masks = masks }
 
-and_true : (a b : Bool) → a ≡ true → b ≡ true → (a && b) ≡ true
-and_true a b e f = rw (e, f)
-
 module _ (size : Size) (closed : List Rect) (masks : List ℕ) where
   rect_on-limits : (x0 z0 x1 z1 : ℕ) (r : Rect) → rect_on size x0 z0 x1 z1 ≡ Some r → IsClosed (land_with size closed masks) r
   rect_on-limits x0 z0 x1 z1 r e =
       let kept = if_some (nat_le x0 x1 && nat_lt x1 size.width && nat_le z0 z1 && nat_lt z1 size.depth) _ r e in
-      let first = both_true (nat_le x0 x1 && nat_lt x1 size.width && nat_le z0 z1) (nat_lt z1 size.depth) kept.0 in
-      let second = both_true (nat_le x0 x1 && nat_lt x1 size.width) (nat_le z0 z1) first.0 in
-      let third = both_true (nat_le x0 x1) (nat_lt x1 size.width) second.0 in
+      let first = and_parts (nat_le x0 x1 && nat_lt x1 size.width && nat_le z0 z1) (nat_lt z1 size.depth) kept.0 in
+      let second = and_parts (nat_le x0 x1 && nat_lt x1 size.width) (nat_le z0 z1) first.0 in
+      let third = and_parts (nat_le x0 x1) (nat_lt x1 size.width) second.0 in
       let in_x : x0 ≤ x1 = leb-true x0 x1 third.0 in
       let in_z : z0 ≤ z1 = leb-true z0 z1 second.1 in
       subst (λ (s : Rect). IsClosed (land_with size closed masks) s) kept.1 (record {
         ordered_x = omega (arith, ints);
         ordered_z = omega (arith, ints);
-        inside = and_true _ _ (and_true _ _ (and_true _ _ (leb-zero x0) third.1) (leb-zero z0)) first.1;
+        inside = and_from _ _ (and_from _ _ (and_from _ _ (leb-zero x0) third.1) (leb-zero z0)) first.1;
       })
 
   rect_from-limits : (p : Data × Data × Data × Data) (r : Rect) → rect_from size p ≡ Some r → IsClosed (land_with size closed masks) r
@@ -91,14 +88,11 @@ with_enemy players player mask enemy known other is = record {
       is.not_itself;
 }
 
-some_same : (m n : ℕ) → Some m ≡ Some n → m ≡ n
-some_same m n e = cc
-
 enemy_in-other : (players player : ℕ) (d : Data) (enemy : ℕ) → enemy_in players player d ≡ Some enemy → (enemy ≤ players) × (enemy ≢ player)
 enemy_in-other players player d enemy e =
     let read = and_then_some (natural_in 0 players d) _ enemy e in
     let kept = else_some (read.0 == player) (Some read.0) enemy read.2 in
-    subst (λ n. (n ≤ players) × (n ≢ player)) (some_same read.0 enemy kept.1)
+    subst (λ n. (n ≤ players) × (n ≢ player)) (same_Some read.0 enemy kept.1)
     ((natural_in-within 0 players d read.0 read.1).1, λ h. true≢false (sym (eq-eqb read.0 player h) ∙ kept.0))
 
 mask_from-limits : (players player mask : ℕ) (ds : List Data) (result : ℕ) → mask_from players player mask ds ≡ Some result → IsMask (players + 1) player mask
@@ -150,7 +144,7 @@ masks_in-limits d masks e =
     let ds = and_then_some (list_at (codes "players") d) masks_from masks e in
     let players = length ds.0 in
     let kept = then_some (nat_le 1 players && nat_le players 8) (records (mask_of players) (0 ∷ []) ds.0) masks ds.2 in
-    let within = both_true (nat_le 1 players) (nat_le players 8) kept.0 in
+    let within = and_parts (nat_le 1 players) (nat_le players 8) kept.0 in
     let read = numbered_from_records (mask_of players) (0 ∷ []) ds.0 masks kept.1 in
     let count : length masks ≡ players + 1 = omega (arith, numbered-length (mask_of players) (0 ∷ []) ds.0 masks read) in
     let all = numbered-keeps (mask_of players) (λ front done. AreMasks (players + 1) done)

@@ -5,8 +5,8 @@ use Rattle.sim_json.{proofs.Readers.natural_at-within, specs.Values.natural_at, 
 use Rattle.sim_setup.{proofs.EntityLimits.first_of-is, specs.Rules.rules_in, specs.Shape.misplaced}
 use Rattle.sim_setup.proofs.{CommandLimits.in_order-IsNonDecreasing, CommandLimits.timed_of-is, CommandLimits.timeds-not_crowded, TemplateLimits.names-differ}
 use Rattle.sim_setup.proofs.{LandLimits.land_in-limits, Refused.after_ok, Refused.coded_ok, Refused.need_ok, Refused.ok_same, Refused.unless_ok}
-use Rattle.sim_setup.proofs.Common.{Origin, roots_of, setup_of, subst, templates_from, Timed, timed_of}
-use Rattle.sim_setup.proofs.Common.{are_distinct, arith, both_true, Data, falls_at, First, first_of, if_some, IsFrom, IsLand, IsTemplate, Land, land_in}
+use Rattle.sim_setup.proofs.Common.{and_parts, Origin, roots_of, setup_of, subst, templates_from, Timed, timed_of}
+use Rattle.sim_setup.proofs.Common.{are_distinct, arith, Data, falls_at, First, first_of, if_some, IsFrom, IsLand, IsTemplate, Land, land_in}
 use Rattle.sim_setup.proofs.Common.{leb-true, length-map, list_at, Meets, name_in, names_in, next_template, Node, numbered, numbered-All, numbered-length}
 use Rattle.sim_setup.proofs.Common.{◌≡◌, ℕ, ◌^◌, ◌<◌, ◌≤◌, true, ◌&&◌, List, [], length, nat_le, Some, None, Ok, Err, codes, All, Result, after, and_then_some}
 use Rattle.sim_setup.specs.{Commands.in_order, Commands.timeds_from, Entities.entities_in, Entities.entities_within, Entities.firsts_from, Sources.sources_in}
@@ -101,7 +101,7 @@ module _ (land : Land) (rules : Rules) where
       let few = need_ok 3 7 (few_sources origins) _ lists e in
       let entities = need_ok 3 8 (entities_in d) _ lists few.2 in
       let kept = if_some (nat_le (length origins) 256 && are_distinct (names_in origins)) origins few.0 few.1 in
-      let tests = both_true (nat_le (length origins) 256) (are_distinct (names_in origins)) kept.0 in
+      let tests = and_parts (nat_le (length origins) 256) (are_distinct (names_in origins)) kept.0 in
       let es = and_then_some (list_at (codes "entities") d) entities_within entities.0 entities.1 in
       let short = if_some (nat_le (length es.0) 4096) es.0 entities.0 es.2 in
       items_in-is few.0 entities.0 d lists

@@ -1,9 +1,9 @@
 -- The table of counts, one more command at a time.
 use Rattle.std.{proofs.lemmas.Bool.cases_eq, proofs.lemmas.Bool.false_from_ne_true, proofs.lemmas.List.Sums.sum_by-append, specs.List.sum_by}
 use Rattle.std.proofs.Common.{◌*◌, cond, get_or, set, replicate, add-zero, eqb-true, get_or-set_other, get_or-set_same, length-set, lt-ltb}
-use Rattle.sim_setup.proofs.Common.{arith, Command, crowd, eq-eqb, inl, inr, is_given, subst, sym, Tallies, Timed, true≢false, ◌∙◌}
+use Rattle.sim_setup.proofs.Common.{arith, Command, crowd, eq-eqb, inl, inr, is_given, subst, sym, Tallies, Timed, ◌∙◌}
 use Rattle.sim_setup.proofs.Common.{◌≡◌, ℕ, zero, suc, ◌+◌, ◌<◌, ◌≤◌, Bool, true, false, ◌&&◌, ◌⊎◌, List, [], ◌∷◌, ◌++◌, length, ◌==◌, slice_index, refl, ap}
-use Rattle.sim_setup.specs.Crowds.{Counts, timed}
+use Rattle.{sim_setup.specs.Crowds.Counts, sim_setup.specs.Crowds.timed, std.proofs.lemmas.Bool.and_parts}
 
 one_more : (f : Timed → ℕ) (done : List Timed) (t : Timed) → sum_by f (done ++ t ∷ []) ≡ sum_by f done + f t
 one_more f done t = grind (arith, sum_by-append)
@@ -12,12 +12,8 @@ pub push_counted : (turn player : ℕ) (done : List Timed) (t : Timed) (b : Bool
     crowd turn player done + cond b 1 0
 push_counted turn player done t b e = one_more (λ (c : Timed). cond (is_given turn player c) 1 0) done t ∙ ap (λ x. crowd turn player done + cond x 1 0) e
 
-both : (a b : Bool) → (a && b) ≡ true → (a ≡ true) × (b ≡ true)
-both true b e = (refl, e)
-both false b e = absurd (true≢false (sym e))
-
 pub both_same : (a b c d : ℕ) → ((a == b) && (c == d)) ≡ true → (a ≡ b) × (c ≡ d)
-both_same a b c d e = let h = both (a == b) (c == d) e in (eqb-true a b h.0, eqb-true c d h.1)
+both_same a b c d e = let h = and_parts (a == b) (c == d) e in (eqb-true a b h.0, eqb-true c d h.1)
 
 both_eq : (a b c d : ℕ) → a ≡ b → c ≡ d → ((a == b) && (c == d)) ≡ true
 both_eq a b c d e f = rw (eq-eqb a b e, eq-eqb c d f)

@@ -1,9 +1,9 @@
 -- What holds of the templates of a match file.
 use Rattle.std.proofs.Common.{not, ◌||◌, is_some, slice_get, AllPairs, unwrap_or}
-use Rattle.std.proofs.lemmas.{List.map-append, List.Kept.AllPairs-cons, Slice.Eq.bytes_eq-Decides}
+use Rattle.std.proofs.lemmas.{List.map-append, List.Kept.AllPairs-cons, Slice.Eq.bytes_eq-Decides, Bool.not-true}
 use Rattle.std.specs.{List.list_any, Result.result_ok}
-use Rattle.sim_setup.proofs.Common.{Result, refl, All-cons, and_then_some, ap, are_distinct, arith, both_true, name_in, names_in, next_template, Node, numbered}
-use Rattle.sim_setup.proofs.Common.{numbered-keeps, Origin, subst, sym, Template, template_at, template_in, true≢false, ◌∙◌}
+use Rattle.sim_setup.proofs.Common.{Result, refl, All-cons, and_then_some, ap, are_distinct, arith, name_in, names_in, next_template, Node, numbered}
+use Rattle.sim_setup.proofs.Common.{and_parts, numbered-keeps, Origin, subst, sym, Template, template_at, template_in, true≢false, ◌∙◌}
 use Rattle.sim_setup.proofs.Common.{◌≡◌, ℕ, Bool, true, false, ◌&&◌, ◌≢◌, List, [], ◌∷◌, ◌++◌, map, length, if◌then◌else◌, Some, Ok, Err, bytes_eq, All, Option}
 use Rattle.sim_traits.specs.Parts.{after, part_of, template_of_parts, unarmoured}
 use Rattle.sim_traits.specs.Table.{attack_part, has_known_parts, health_part, motion_part, obstruct_part, resist_part, train_part}
@@ -85,10 +85,6 @@ either_false : (a b : Bool) → (a || b) ≡ false → (a ≡ false) × (b ≡ f
 either_false true b e = absurd cc
 either_false false b e = (refl, e)
 
-not_true : (a : Bool) → not a ≡ true → a ≡ false
-not_true true e = absurd cc
-not_true false e = refl
-
 differs : (text : List ℕ) (texts : List (List ℕ)) → list_any (bytes_eq text) texts ≡ false → All (λ other. text ≢ other) texts
 differs text [] e = λ k d within. absurd (omega arith)
 differs text (other ∷ texts) e =
@@ -98,8 +94,8 @@ differs text (other ∷ texts) e =
 differ : (texts : List (List ℕ)) → are_distinct texts ≡ true → AllPairs (λ a b. a ≢ b) texts
 differ [] e = λ i j d before within. absurd (omega arith)
 differ (text ∷ texts) e =
-    let parts = both_true (not (list_any (bytes_eq text) texts)) (are_distinct texts) e in
-    AllPairs-cons (λ a b. a ≢ b) text texts (differs text texts (not_true (list_any (bytes_eq text) texts) parts.0)) (differ texts parts.1)
+    let parts = and_parts (not (list_any (bytes_eq text) texts)) (are_distinct texts) e in
+    AllPairs-cons (λ a b. a ≢ b) text texts (differs text texts (not-true (list_any (bytes_eq text) texts) parts.0)) (differ texts parts.1)
 
 -- the templates of sources with different names have different names
 pub names-differ : (names : List (List ℕ)) (roots : List Node) (origins : List Origin) (templates : List Template) → are_distinct (names_in origins) ≡ true

@@ -1,13 +1,9 @@
 -- What the calls of a shelf in memory do to its files, and to what is read.
 use Rattle.std.{proofs.Common.sym, proofs.Common.◌∙◌, proofs.Math.Seq.take-append_seam, proofs.Math.Seq.take-length, specs.Str.bytes_eq}
-use Rattle.std.proofs.Common.{◌≡◌, ℕ, ◌+◌, ◌-◌, ◌≤◌, min, true, false, ◌≢◌, List, [], ◌∷◌, ◌++◌, length, take, drop, Some, refl, ap, arith, length-drop, rules}
-use Rattle.std.proofs.lemmas.{List.drop-drop, List.length-take-le, List.take-append-drop, Slice.Eq.bytes_eq-Decides}
+use Rattle.std.proofs.Common.{◌≡◌, ℕ, ◌+◌, ◌-◌, ◌≤◌, min, false, ◌≢◌, List, [], ◌∷◌, ◌++◌, length, take, drop, Some, refl, ap, arith, length-drop, rules}
+use Rattle.std.proofs.lemmas.List.{drop-drop, length-take-le, take-append-drop}
 use Rattle.sim_store.specs.{Files.File, Files.file_in, Files.FileSet, Held.AddsFirst, Held.file_of, Held.files_of, Held.first_name, declared.held.Held.Held}
-use Rattle.sim_store.specs.Shelf.{HeldGrows}
-
--- a name equals itself
-bytes_eq-same : (name : List ℕ) → bytes_eq name name ≡ true
-bytes_eq-same name = (bytes_eq-Decides name name).1 refl
+use Rattle.{sim_base.proofs.Lists.bytes_eq-same, sim_store.specs.Shelf.HeldGrows}
 
 -- two names that differ are not equal
 bytes_eq-other : (name other : List ℕ) → other ≢ name → bytes_eq name other ≡ false

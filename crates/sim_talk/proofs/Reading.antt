@@ -1,7 +1,7 @@
 -- Which bytes of a piece are read, and which are poured into a line.
 use Rattle.std.proofs.{Common.subst, Common.sym, Common.◌∙◌, Math.Seq.drop-cons, Math.Seq.take-append_seam, Math.Seq.take-length}
-use Rattle.std.proofs.Common.{◌≡◌, ℕ, suc, ◌+◌, ◌-◌, ◌<◌, ◌≤◌, List, [], ◌∷◌, ◌++◌, length, get_or, take, drop, refl, ap, arith, length-append, length-drop}
-use Rattle.std.proofs.lemmas.List.{drop-drop, get_or-take, get_or_default, length-take-le, take-append-drop}
+use Rattle.std.proofs.Common.{◌≡◌, ℕ, suc, ◌+◌, ◌-◌, ◌<◌, ◌≤◌, List, [], ◌∷◌, ◌++◌, length, get_or, take, drop, ap, arith, length-append, length-drop}
+use Rattle.std.proofs.lemmas.List.{drop-drop, get_or-take, get_or_default, length-take-le, nil_from_length, take-append-drop}
 use Rattle.std.specs.Prelude.{min}
 use Rattle.sim_talk.specs.Lines.{IsWithinLine, PoursOpen, PoursTooMuch, PoursWhole}
 
@@ -16,11 +16,6 @@ drop-read bytes into front at count fits copied =
     sym (take-append-drop count (drop at bytes)) ∙ ap (λ (l : List ℕ). l ++ drop count (drop at bytes)) (sym copied ∙ sym seam)
     ∙ ap (λ (l : List ℕ). take count (front ++ drop count into) ++ l) (sym left)
 
--- no bytes where there are none
-empty_of : (xs : List ℕ) → length xs ≡ 0 → xs ≡ []
-empty_of [] is = refl
-empty_of (x ∷ xs) is = absurd (omega (arith, is))
-
 -- where a read gives nothing though it may, nothing was left
 pub nothing_left : (bytes into front : List ℕ) (at most count : ℕ) → count ≡ min (min (length (drop at bytes)) most) (length into) → 1 ≤ most
     → length front ≡ count
@@ -30,7 +25,7 @@ nothing_left bytes into front at most count is some long none room =
     let rest : length (drop count into) ≡ length into - count = length-drop count into in
     let before : length (drop at bytes) ≡ length bytes - at = length-drop at bytes in
     let behind : length (drop (at + count) bytes) ≡ length bytes - (at + count) = length-drop (at + count) bytes in
-    empty_of (drop (at + count) bytes) (omega arith)
+    nil_from_length (drop (at + count) bytes) (omega arith)
 
 -- none of the first bytes ends a line
 pub within_front : (count : ℕ) (left : List ℕ) → count ≤ length left → ((k : ℕ) → k < count → get_or left k 0 ≡ 10 → ⊥) → IsWithinLine (take count left)
@@ -73,7 +68,7 @@ poured_open most at count at' bytes line line' all none fits was added moved =
     let fits' : count ≤ length left = omega (arith, all) in
     let within : IsWithinLine (take count left) = within_front count left fits' none in
     record {
-      taken = empty_of (drop at' bytes) none_left;
+      taken = nil_from_length (drop at' bytes) none_left;
       added = added ∙ ap (λ (l : List ℕ). line ++ l) whole;
       within = subst IsWithinLine whole within;
       few = omega (arith, ap length added, length-append line (take count left), ap length whole, all);

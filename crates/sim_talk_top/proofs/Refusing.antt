@@ -1,15 +1,13 @@
 -- Why a talk does not begin, and what was told of it.
-use Rattle.sim_base.specs.declared.setup.Setup.{Setup}
+use Rattle.{sim_base.specs.declared.setup.Setup.Setup, std.specs.Prelude.IfSome}
 use Rattle.{sim_store.specs.declared.fault.Failed.Failed, sim_talk.proofs.Talking.Extends-nothing}
 use Rattle.sim_talk.specs.Talks.{Extends, History, Tells}
 use Rattle.sim_talk_top.specs.Talked.{between, CameBetween, in_part, LiveBy, ReadsBy, Refused, silent, TalkedOver, whole}
-use Rattle.sim_talk_top.specs.declared.ending.Ending.{Ending}
+use Rattle.{sim_talk_top.specs.declared.ending.Ending.Ending, sim_top.specs.declared.status.Status.Status}
 use Rattle.sim_top.specs.{Outcome.Outcome, Stops.ended_by, Stops.status_of, Stops.stop_text, Stops.Stopped, declared.stop.Stop.Stop}
 use Rattle.std.proofs.Common.{◌≡◌, ℕ, ◌<◌, ◌≤◌, ◌⊎◌, List, [], ◌∷◌, length, Some, None, Ok, Err, Option, Result, refl, inl, inr, arith, subst, sym}
-use Rattle.std.specs.Prelude.{IfSome}
 use Rattle.sim_talk.specs.Talks as talks
 use Rattle.sim_talk_top.specs.declared.ending.Ending.TheVariants as ending
-use Rattle.sim_top.specs.declared.status.Status.{Status}
 use Rattle.sim_top.specs.declared.status.Status.TheVariants as status
 use Rattle.sim_top.specs.declared.stop.Stop.TheVariants as stop
 
@@ -17,11 +15,6 @@ use Rattle.sim_top.specs.declared.stop.Stop.TheVariants as stop
 pub where_known : {X : Type 0} {P Q : X → Type 0} (o : Option X) → ((x : X) → P x → Q x) → IfSome o P → IfSome o Q
 where_known None follows p = tt
 where_known (Some x) follows p = follows x p
-
--- what holds of anything holds of what is known
-pub where_any : {X : Type 0} (P : X → Type 0) (o : Option X) → ((x : X) → P x) → IfSome o P
-where_any P None holds = tt
-where_any P (Some x) holds = holds x
 
 -- ---- what is read
 

@@ -1,8 +1,8 @@
 -- The words that the proofs here name again and again, passed on from one place. Declares nothing.
-pub use Rattle.{sim_grid.proofs.Beside.place-below, sim_grid.proofs.Beside.places-apart, sim_grid.proofs.Beside.same_or_not, std.proofs.lemmas.Int.ints}
+pub use Rattle.sim_grid.proofs.Beside.{place-below, places-apart, same_or_not}
 pub use Rattle.std.proofs.{Common.subst, Common.sym, Common.zero-add, Common.⊎_elim, Common.◌∙◌, Math.Nat.div-lt_iff_lt-mul, Math.Nat.eq-or-lt_of_le}
 pub use Rattle.std.proofs.Common.{ap, arith, div-add-mod', inl, inr, length-append, length-take, length-take-le, lit<, mod-lt, mul-le-mul_right, mul_comm}
-pub use Rattle.std.proofs.Common.{map, length, get_or, take, drop, set, replicate, ℤ, pos, ◌≤ℤ◌, ◌<ℤ◌, int_lt, int_le, Some, None, All, Contains, Option, refl}
+pub use Rattle.std.proofs.Common.{map, length, get_or, take, drop, set, replicate, Some, None, All, Contains, Option, refl}
 pub use Rattle.std.proofs.Common.{◌≡◌, ℕ, zero, suc, ◌+◌, ◌-◌, ◌*◌, ◌/◌, ◌%◌, ◌<◌, ◌≤◌, min, max, Bool, true, false, cond, ◌≢◌, ◌⊎◌, ◌↔◌, List, [], ◌∷◌, ◌++◌}
 pub use Rattle.std.proofs.lemmas.{List.Elements.Contains-push_cases, List.Elements.filter_more, Nat.mul-add-lt, Nat.same_from_place, Option.slice_get_cases}
 pub use Rattle.std.proofs.lemmas.Bool.{and_from, and_left, and_parts, and_right, cases_Bool, cases_eq, cases_lt, cond-false, cond-true, eq-eqb, eqb-true}
@@ -13,10 +13,10 @@ pub use Rattle.std.proofs.lemmas.List.{length-drop, length-map, length-replicate
 pub use Rattle.std.proofs.lemmas.List.Elements.{All-cons, All-get_or, All-head, All-map, All-nil, All-tail, All-weaker, Contains-append_left, Contains-push}
 pub use Rattle.std.proofs.lemmas.List.FromFn.{get_or-map-range_with_len, get_or-range_with_len, length-map-range_with_len, length-range_with_len}
 pub use Rattle.std.specs.{List.flat_map, Prelude.find, Prelude.unwrap_or, Prelude.option_map, Prelude.option_and_then}
-pub use Rattle.std.specs.Prelude.{not, ◌&&◌, ◌||◌, IfSome, nat_lt, nat_le, ◌==◌, slice_get, slice_range, MatchOption, vec_len, codes, sum_by, count_by, filter}
+pub use Rattle.std.specs.Prelude.{not, ◌&&◌, ◌||◌, IfSome, nat_lt, nat_le, ◌==◌, slice_get, slice_range, vec_len, codes, sum_by, count_by, filter}
 pub use Rattle.sim_base.proofs.ExampleMatches.{hut, no_id}
-pub use Rattle.sim_base.specs.{Limits.IsFrom, Limits.IsTemplate, Rows.template_of, declared.place.Point.Point, declared.state.Row.Row}
-pub use Rattle.sim_base.specs.{Places.is_within, Places.IsPlaced, Places.same_cell, Validity.IsInside, Validity.IsKnownRow, Validity.IsValidRow}
+pub use Rattle.sim_base.specs.{Limits.IsFrom, Limits.IsTemplate, Rows.template_of, declared.state.Row.Row}
+pub use Rattle.sim_base.specs.{Places.same_cell, Validity.IsKnownRow, Validity.IsValidRow}
 pub use Rattle.sim_laws.proofs.{Ground.same_cell-self, Ground.same_cell-true, Neighbours.neighbour-on, WayInside.inside-on_ground}
 pub use Rattle.sim_territory.specs.{Floods.work_left, Influence.base_of, Influence.influence, Influence.reach_of, Influence.share, Influence.strength}
 pub use Rattle.sim_territory.specs.{Holders.has_most, Holders.holder, Holders.holder_by, Holders.IsHolder, Rooted.roots_among, Rooted.roots_of}
@@ -31,5 +31,5 @@ pub use Rattle.sim_territory.specs.Tables.{AreShifted, coming, FitShifts, FitsSh
 pub use Rattle.sim_territory.specs.Tables.{mark_in, MayMove, MaySumsMove, Moves, share_by, share_where, size_in, sum_at, sum_place, SumsMove}
 pub use Rattle.sim_territory.specs.declared.{building.Building.Building, flood.Flood.Flood, sums.Sums.Sums}
 pub use Rattle.sim_trail.proofs.{Rising.marks_ascend, Summing.sum_follows}
-pub use Rattle.sim_trail.specs.{Marks.IsAscending, Marks.IsPlacedRow, Marks.mark_of, Sums.SumFollows}
+pub use Rattle.sim_trail.specs.{Marks.IsAscending, Marks.mark_of, Sums.SumFollows}
 unfoldable pub use Rattle.sim_trail.specs.Shifts.{shifts_between}

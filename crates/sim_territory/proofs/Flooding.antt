@@ -4,6 +4,7 @@ use Rattle.sim_territory.proofs.Common.{IsStayed, IsStepped, IsWet, IsWetAt, IsW
 use Rattle.sim_territory.proofs.Common.{StepsOn, subst, sym, Waits, Wets, work_left, ⊎_elim, ◌∙◌}
 use Rattle.sim_territory.proofs.Common.{flag_at, Flood, ground_of, ground_size, HeldGround, holder_at, inl, inr, IsHeldStep, IsOnGround, IsReachedFrom}
 use Rattle.sim_territory.proofs.Common.{◌≡◌, ℕ, suc, ◌+◌, ◌<◌, ◌≤◌, Bool, true, not, ◌≢◌, ◌⊎◌, List, [], ◌∷◌, ◌++◌, length, Some, Contains, count_by, refl}
+use Rattle.sim_base.proofs.Lists.{nothing_in}
 
 -- ---- one cell
 
@@ -268,9 +269,6 @@ pub taken_less : {mid : Flood} {ground : HeldGround} (old new : Flood) (from : C
     → work_left new < work_left old
 taken_less {mid = mid} old new from s taken =
     omega (arith, s.less, ap (count_by not) taken.flags, ap length taken.waiting, length-append mid.waiting.items (from ∷ []))
-
-nothing_in : (c : Cell) → Contains [] c → ⊥
-nothing_in c (k, h, is) = omega arith
 
 -- where no cell waits, all that are reached are wet
 module _ (ground : HeldGround) (begun flood : Flood) (none : flood.waiting.items ≡ []) (f : Filling ground begun flood) where

@@ -1,45 +1,16 @@
 -- What a realm keeps, from one state to the next.
 use Rattle.sim_territory.proofs.{Bases.influence-small, Holding.holder_by-same, Moving.place-before, Moving.size-shape, SumPlaces.sum_place-below}
-use Rattle.sim_territory.proofs.{CellLists.mapped, Following.mark_later}
+use Rattle.{sim_territory.proofs.CellLists.mapped, sim_territory.proofs.Following.mark_later, sim_trail.proofs.PlacedRows.known_row}
 use Rattle.sim_territory.proofs.Common.{All-head, All-map, All-nil, All-tail, All-weaker, and_from, and_parts, ap, AreHolders, AreInfluences, AreShifted, arith}
 use Rattle.sim_territory.proofs.Common.{Born, Cell, cells_of, FitShifts, get_or-drop, get_or-replicate, get_or-take, Gone, holder, holder_at, holder_by}
-use Rattle.sim_territory.proofs.Common.{IsPlacedRow, IsSetup, IsValid, IsValidRow, le-leb, leb-true, length-drop, length-map, length-take-le, lt-ltb, ltb-true}
-use Rattle.sim_territory.proofs.Common.{Mark, mark_in, mark_of, marks_ascend, marks_of, mul-le-mul_right, place-below, place_of, Point, Row, row_limit, Setup}
-use Rattle.sim_territory.proofs.Common.{SumFollows, Sums, sym, Template, template_of, weight_born, weight_gone, ◌∙◌}
-use Rattle.sim_territory.proofs.Common.{influence, inside-on_ground, ints, is_within, IsAscending, IsInside, IsKnownRow, IsMarkIn, IsOnGround, IsPlaced}
-use Rattle.sim_territory.proofs.Common.{share, Shift, shifts_between, Size, size_in, size_of, State, subst, sum_at, sum_by-cons, sum_follows, sum_place}
-use Rattle.sim_territory.proofs.Common.{◌≡◌, ℕ, ◌+◌, ◌-◌, ◌*◌, ◌<◌, ◌≤◌, Bool, true, false, ◌&&◌, List, [], ◌∷◌, map, length, get_or, drop, replicate, ℤ, pos}
-use Rattle.sim_territory.proofs.Common.{◌≤ℤ◌, ◌<ℤ◌, nat_lt, nat_le, slice_range, int_lt, int_le, MatchOption, Some, None, All, sum_by, Option, refl, All-cons}
+use Rattle.sim_territory.proofs.Common.{IsSetup, IsValid, IsValidRow, le-leb, leb-true, length-drop, length-map, length-take-le, lt-ltb, ltb-true, Mark}
+use Rattle.sim_territory.proofs.Common.{mark_in, mark_of, marks_ascend, marks_of, mul-le-mul_right, place-below, place_of, Row, row_limit, Setup, SumFollows}
+use Rattle.sim_territory.proofs.Common.{Sums, sym, template_of, weight_born, weight_gone, ◌∙◌, influence, inside-on_ground, IsAscending, IsKnownRow, IsMarkIn}
+use Rattle.sim_territory.proofs.Common.{IsOnGround, share, Shift, shifts_between, Size, size_in, size_of, State, subst, sum_at, sum_by-cons, sum_follows}
+use Rattle.sim_territory.proofs.Common.{sum_place, ◌≡◌, ℕ, ◌+◌, ◌-◌, ◌*◌, ◌<◌, ◌≤◌, Bool, true, false, ◌&&◌, List, [], ◌∷◌, map, length, get_or, drop}
+use Rattle.sim_territory.proofs.Common.{replicate, nat_lt, nat_le, slice_range, All, sum_by, refl, All-cons}
 
 -- ---- the marks of a valid state
-
--- a raw that lies on a ground lies on the largest
-within_largest : (raw : ℤ) (cells : ℕ) → cells ≤ 256 → is_within raw cells ≡ true → (pos 0 ≤ℤ raw) × (raw <ℤ pos 16777216)
-within_largest raw cells le h =
-    let (low, high) = and_parts (int_le (pos 0) raw) (int_lt raw (pos (cells * 65536))) h in
-    let low_is : pos 0 ≤ℤ raw = grind (arith, ints) in
-    let high_is : raw <ℤ pos (cells * 65536) = grind (arith, ints) in
-    (low_is, omega (arith, ints))
-
-inside_placed : (setup : Setup) (p : Point) → IsSetup setup → IsInside setup p → IsPlaced p
-inside_placed setup p limits inside =
-    let (x, z) = and_parts (is_within p.x setup.land.width) (is_within p.z setup.land.depth) inside in
-    let by_x = within_largest p.x setup.land.width limits.land.width.1 x in
-    let by_z = within_largest p.z setup.land.depth limits.land.depth.1 z in
-    record { west = by_x.0; east = by_x.1; south = by_z.0; north = by_z.1 }
-
--- a row's template is known
-known_row : {P : Template → Type 0} (o : Option Template) → MatchOption o ⊥ P → (t : Template) × P t
-known_row None h = absurd h
-known_row (Some t) h = (t, h)
-
-row_placed : (setup : Setup) (rows : List Row) (row : Row) → IsSetup setup → IsKnownRow 1 setup rows row → IsPlacedRow row
-row_placed setup rows row limits known = let (t, valid) = known_row {P = IsValidRow 1 setup rows row} (template_of setup row) known in
-    inside_placed setup row.at limits valid.at
-
-pub rows_placed : (setup : Setup) (state : State) → IsSetup setup → IsValid setup state → All IsPlacedRow state.rows
-rows_placed setup state limits valid = All-weaker (IsKnownRow 1 setup state.rows) IsPlacedRow (λ row known. row_placed setup state.rows row limits known)
-    state.rows valid.rows
 
 module _ (setup : Setup) (sums : Sums) (size : size_in sums ≡ size_of setup.land) (players : sums.players ≡ setup.players) where
   row_in : (rows : List Row) (row : Row) → IsKnownRow 1 setup rows row → IsMarkIn sums (mark_of row)

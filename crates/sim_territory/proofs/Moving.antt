@@ -5,6 +5,7 @@ use Rattle.sim_territory.proofs.Common.{in_part, inl, inr, IsOnGround, IsPlaceIn
 use Rattle.sim_territory.proofs.Common.{same_cell-self, same_cell-true, same_or_not, share_of, share_where, Size, size_in, SpansNear, strength_of, subst}
 use Rattle.sim_territory.proofs.Common.{◌≡◌, ℕ, ◌+◌, ◌-◌, ◌*◌, ◌<◌, ◌≤◌, Bool, true, false, ◌&&◌, ◌||◌, ◌⊎◌, nat_lt, nat_le, ◌==◌, refl, abs_diff, and_from}
 use Rattle.sim_territory.proofs.Shares.{far-along, far-north, left_out, share-other, share-own, share-weak, where-false, where-split, where-true, where-weak}
+use Rattle.sim_base.proofs.Tests.{no_number, one_more, past}
 
 -- ---- one ground, and as many players
 
@@ -153,15 +154,6 @@ cell_stays more b cell sums weak = sums_none more (share_where (λ w. same_cell 
 -- the cells of a row
 abbrev pub in_line : ℕ → Cell → Bool
 in_line z c = c.z == z
-
-no_number : (west n : ℕ) → (nat_le west n && nat_lt n west) ≡ false
-no_number west n = grind (arith, nat_tests)
-
-one_more : (west x n : ℕ) → west ≤ x → (nat_le west n && nat_lt n (x + 1)) ≡ ((nat_le west n && nat_lt n x) || (n == x))
-one_more west x n le = grind (arith, nat_tests)
-
-past : (west x n : ℕ) → (nat_le west n && nat_lt n x) ≡ true → (n == x) ≡ false
-past west x n e = grind (arith, nat_tests)
 
 part_none : (z west : ℕ) (c : Cell) → in_part z west west c ≡ false
 part_none z west c = and_right (c.z == z) (nat_le west c.x && nat_lt c.x west) (no_number west c.x)

@@ -2,15 +2,15 @@
 use Rattle.{sim_top.specs.Hosting.builds_with_log, sim_top.specs.Hosting.IsRecordedBy, sim_top.specs.Hosting.OfRecord}
 use Rattle.{std.proofs.Math.ListN.drop_of_length-le, std.specs.Prelude.vec_capacity}
 use Rattle.std.proofs.lemmas.List.Elements.{All-cons, All-head, All-nil, All-tail}
-use Rattle.sim_session.specs.SessionWords.{rigs_by}
+use Rattle.sim_session.{proofs.Starting.built_same, specs.SessionWords.rigs_by}
 use Rattle.sim_session_text.specs.Rigs.{AllBuiltAtMost, AllStand, builds_of}
-use Rattle.sim_system.specs.{Meanings.AreBuiltOnceAtMost, Meanings.IsBuiltOnceAtMost, Meanings.Meaning, declared.rig.Rig.Rig}
+use Rattle.sim_system.specs.{Meanings.AreBuiltOnceAtMost, Meanings.Meaning, declared.rig.Rig.Rig}
 use Rattle.sim_top.proofs.Common.{IsHostedBy, IsMade, IsMadeAs, IsSettled, IsSetup, IsState, IsStepList, IsUnplayed, OfSession, Outcome, outcome_made}
 use Rattle.sim_top.proofs.Common.{RigsCameBackBy, session_match_in, session_of, Setup, StandForStored, State, Status, status_made, status_of, StepList}
 use Rattle.sim_top.proofs.Common.{Vec, refl, Answer, ap, AreFed, arith, Asked, bytes_in, end_from, false≢true, File, Global, HasEnded, HaveKinds, inl, inr}
 use Rattle.sim_top.proofs.Common.{steps_in, Stop, subst, sym, Systems, systems_by, to_check, to_compare, to_film, to_log, to_parts, to_play, to_realm}
 use Rattle.sim_top.proofs.Common.{to_record, to_rejoin, to_resight, to_resume, to_serve, to_session, to_show, to_sight, to_stock, to_store, to_try, used, ◌∙◌}
-use Rattle.sim_top.proofs.Common.{◌≡◌, ℕ, suc, ◌<◌, ◌≤◌, false, List, [], ◌∷◌, map, length, drop, IfSome, IfOk, OnOk, Some, None, Ok, Err, All, Option, Result}
+use Rattle.sim_top.proofs.Common.{◌≡◌, ℕ, suc, ◌<◌, ◌≤◌, List, [], ◌∷◌, map, length, drop, IfSome, IfOk, OnOk, Some, None, Ok, Err, All, Option, Result}
 use Rattle.sim_top.proofs.Ending.{ended_settled, stopped_not_ended, unplayed_settled}
 use Rattle.sim_top.specs.{Returning.AreOfSession, Rigs.AreEightBy, Rigs.clients, Rigs.HasPlayedBy, Rigs.OfFirsts, Rigs.RigStands, Rigs.SecondStands}
 use Rattle.sim_top.specs.declared.status.Status.TheVariants as status
@@ -83,12 +83,6 @@ idle_first files (Some (to_parts game)) s none = refl
 
 -- ---- systems that were left
 
-built_same : (m : Meaning) → IsBuiltOnceAtMost m m
-built_same m = record { low = omega arith; high = omega arith }
-
-all_same : (s : Systems) → AreBuiltOnceAtMost s s
-all_same s = record { ground = built_same s.ground; range = built_same s.range; watch = built_same s.watch; census = built_same s.census }
-
 told_any : {X : Type 0} (held : Option X) (P : X → Type 0) → ((x : X) → P x) → IfSome held P
 told_any None P f = tt
 told_any (Some x) P f = f x
@@ -137,7 +131,7 @@ module _ {X : Type 0} {F : X → Type 0} (meaning : (i : X) → F i → Meaning)
   Once r s = AreBuiltOnceAtMost (systems_by r meaning) (systems_by s meaning)
 
   once_same : (r : Rig X F) → Once r r
-  once_same r = all_same (systems_by r meaning)
+  once_same r = built_same (systems_by r meaning)
 
   firsts_same : (rigs : List (Rig X F)) (P : Rig X F → Rig X F → Type 0) → 0 < length rigs → ((r : Rig X F) → P r r) → OfFirsts rigs rigs P
   firsts_same [] P le each = absurd (omega (arith, le))

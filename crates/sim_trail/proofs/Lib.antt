@@ -2,3 +2,4 @@ pub mod Rising
 pub mod Merging
 pub mod Summing
 pub mod Examples
+pub mod PlacedRows

@@ -1,11 +1,11 @@
 -- Numbers of words: what a list of them has, and what one part of a text adds.
 use Rattle.std.proofs.{Math.Seq.drop-cons, lemmas.Bool.Decides.nat_tests, lemmas.List.take-append-drop, lemmas.List.Folds.list_all-append}
 use Rattle.std.proofs.Common.{filter, Option, refl, ap, append-nil, arith, inl, inr, length-append, lit≤, sym, ◌∙◌}
-use Rattle.std.proofs.Common.{◌≡◌, ℕ, suc, ◌+◌, ◌<◌, ◌≤◌, Bool, true, false, ◌&&◌, ◌⊎◌, List, [], ◌∷◌, ◌++◌, length, get_or, take, drop, is_some, Some, None}
+use Rattle.std.proofs.Common.{◌≡◌, ℕ, suc, ◌+◌, ◌<◌, ◌≤◌, Bool, true, false, ◌&&◌, ◌⊎◌, List, [], ◌∷◌, ◌++◌, length, get_or, take, drop, Some, None}
 use Rattle.std.proofs.lemmas.List.{Elements.All-cons, Elements.All-nil, Elements.filter-append, Elements.filter_map-append, Quantifiers.position-Some}
 use Rattle.std.specs.{List.filter_map, List.cons_option, List.list_all, Prelude.nat_lt, Prelude.nat_le, Prelude.All, Str.bytes_eq}
 use Rattle.sim_traits.specs.Units.{is_admitted, is_named, number_in, numbers_in}
-use Rattle.sim_tree.specs.Tokens.{is_word}
+use Rattle.{sim_base.proofs.Lists.length-cons_option, sim_tree.specs.Tokens.is_word, std.proofs.lemmas.Bool.and_parts, std.proofs.lemmas.Bool.and_right}
 
 -- so many words, each a name, and their numbers
 pub record Counted (names words : List (List ℕ)) (numbers : List ℕ) : Type 0 where
@@ -16,19 +16,10 @@ pub record Counted (names words : List (List ℕ)) (numbers : List ℕ) : Type 0
 pub counted_nothing : (names : List (List ℕ)) → Counted names [] []
 counted_nothing names = record { few = lit≤ tt; known = refl; numbers_are = refl }
 
--- each word has its number
-length-cons_option : {Y : Type 0} (o : Option Y) (ys : List Y) → is_some o ≡ true → length (cons_option o ys) ≡ length ys + 1
-length-cons_option None ys e = cc
-length-cons_option (Some y) ys e = omega arith
-
-both : (a b : Bool) → (a && b) ≡ true → (a ≡ true) × (b ≡ true)
-both false b e = cc
-both true b e = (refl, e)
-
 length-numbers : (names words : List (List ℕ)) → list_all (is_named names) words ≡ true → length (filter_map (number_in names) words) ≡ length words
 length-numbers names [] e = refl
 length-numbers names (word ∷ words) e =
-    let each = both (is_named names word) (list_all (is_named names) words) e in
+    let each = and_parts (is_named names word) (list_all (is_named names) words) e in
     let more = length-numbers names words each.1 in
     let one = length-cons_option (number_in names word) (filter_map (number_in names) words) each.0 in
     omega (arith, more, one)
@@ -57,17 +48,13 @@ pub counted_more : (names words : List (List ℕ)) (numbers part : List ℕ) →
     → Counted names (words ++ filter is_word (part ∷ [])) (numbers ++ filter_map (number_in names) (filter is_word (part ∷ [])))
 counted_more names words numbers [] counted e = rw (append-nil words, append-nil numbers) counted
 counted_more names words numbers (byte ∷ bytes) counted e =
-    let each = both (nat_lt (length numbers) 64) (is_named names (byte ∷ bytes)) e in
+    let each = and_parts (nat_lt (length numbers) 64) (is_named names (byte ∷ bytes)) e in
     counted_word names words numbers (byte ∷ bytes) counted each.0 each.1
 
 -- one word too many, or one that is no name
 not_both : (a b : Bool) → (a && b) ≡ false → (a ≡ false) ⊎ (b ≡ false)
 not_both false b e = inl refl
 not_both true b e = inr e
-
-either_false : (a b : Bool) → b ≡ false → (a && b) ≡ false
-either_false false b e = refl
-either_false true b e = e
 
 refused_word : (names words more : List (List ℕ)) (numbers word : List ℕ) → Counted names words numbers → (nat_lt (length numbers) 64 ≡ false)
     ⊎ (is_named names word ≡ false)
@@ -81,7 +68,7 @@ refused_word names words more numbers word counted (inl full) =
 refused_word names words more numbers word counted (inr unknown) =
     let some_unknown : list_all (is_named names) (words ++ word ∷ more) ≡ false =
     list_all-append (is_named names) words (word ∷ more) ∙ rw (counted.known, unknown) refl in
-    rw (either_false (nat_le (length (words ++ word ∷ more)) 64) (list_all (is_named names) (words ++ word ∷ more)) some_unknown) refl
+    rw (and_right (nat_le (length (words ++ word ∷ more)) 64) (list_all (is_named names) (words ++ word ∷ more)) some_unknown) refl
 
 -- a part that is not
 pub refused : (names words more : List (List ℕ)) (numbers part : List ℕ) → Counted names words numbers → is_admitted names (length numbers) part ≡ false

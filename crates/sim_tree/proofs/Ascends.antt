@@ -1,7 +1,8 @@
 -- Children that ascend by name, one more at a time.
 use Rattle.sim_tree.proofs.Common.{append_assoc, are_sound, children_of, Entry, Global, is_before, is_least, is_sound, IsStrictlySortedBy, keys_of, Less}
-use Rattle.sim_tree.proofs.Common.{list_all, map-append, Node, sym, true≢false, Value}
-use Rattle.sim_tree.proofs.Common.{◌≡◌, ℕ, Bool, true, false, ◌&&◌, List, [], ◌∷◌, ◌++◌, map, string_bytes, string_cmp, String, refl, AllByRecursion}
+use Rattle.sim_tree.proofs.Common.{list_all, map-append, Node, Value}
+use Rattle.sim_tree.proofs.Common.{◌≡◌, ℕ, Bool, true, ◌&&◌, List, [], ◌∷◌, ◌++◌, map, string_bytes, string_cmp, String, refl, AllByRecursion}
+use Rattle.{sim_base.proofs.Tests.left_true, sim_base.proofs.Tests.right_true, std.proofs.lemmas.Bool.and_from}
 
 abbrev pub name_of : List ℕ × Node → List ℕ
 name_of p = p.0
@@ -20,38 +21,27 @@ keys_in es = map (λ (e : String Global × Value). string_bytes e.0) es
 
 -- ---- the two parts of soundness
 
-both_true : (a b : Bool) → a ≡ true → b ≡ true → (a && b) ≡ true
-both_true a b e f = rw e f
-
-left_true : (a b : Bool) → (a && b) ≡ true → a ≡ true
-left_true true b e = refl
-left_true false b e = e
-
-right_true : (a b : Bool) → (a && b) ≡ true → b ≡ true
-right_true true b e = e
-right_true false b e = absurd (true≢false (sym e))
-
 least_of_all : (x : List ℕ) (ps : List (List ℕ × Node)) → list_all (is_before x) (map name_of ps) ≡ true → is_least x (children_of ps) ≡ true
 least_of_all x [] e = refl
 least_of_all x (p ∷ ps) e =
-    both_true _ _ (left_true (is_before x p.0) _ e) (least_of_all x ps (right_true (is_before x p.0) _ e))
+    and_from _ _ (left_true (is_before x p.0) _ e) (least_of_all x ps (right_true (is_before x p.0) _ e))
 
 -- children that ascend and of which each is sound are sound
 pub sound_children : (ps : List (List ℕ × Node)) → ascends (map name_of ps) ≡ true → all_sound ps ≡ true → are_sound (children_of ps) ≡ true
 sound_children [] e f = refl
 sound_children (p ∷ ps) e f =
-    both_true _ _ (least_of_all p.0 ps (left_true (list_all (is_before p.0) (map name_of ps)) _ e))
-    (both_true _ _ (left_true (is_sound p.1) _ f)
+    and_from _ _ (least_of_all p.0 ps (left_true (list_all (is_before p.0) (map name_of ps)) _ e))
+    (and_from _ _ (left_true (is_sound p.1) _ f)
     (sound_children ps (right_true (list_all (is_before p.0) (map name_of ps)) _ e) (right_true (is_sound p.1) _ f)))
 
 pub all_sound-push : (ps : List (List ℕ × Node)) (p : List ℕ × Node) → all_sound ps ≡ true → is_sound p.1 ≡ true → all_sound (ps ++ p ∷ []) ≡ true
-all_sound-push [] p e f = both_true _ _ f refl
-all_sound-push (q ∷ qs) p e f = both_true _ _ (left_true (is_sound q.1) _ e) (all_sound-push qs p (right_true (is_sound q.1) _ e) f)
+all_sound-push [] p e f = and_from _ _ f refl
+all_sound-push (q ∷ qs) p e f = and_from _ _ (left_true (is_sound q.1) _ e) (all_sound-push qs p (right_true (is_sound q.1) _ e) f)
 
 -- ---- the keys of a map
 
 both : (a b c d : Bool) → (a ≡ true → c ≡ true) → (b ≡ true → d ≡ true) → (a && b) ≡ true → (c && d) ≡ true
-both a b c d f g e = both_true c d (f (left_true a b e)) (g (right_true a b e))
+both a b c d f g e = and_from c d (f (left_true a b e)) (g (right_true a b e))
 
 all_skip : (x : List ℕ) (xs : List (List ℕ)) (k : List ℕ) (ys : List (List ℕ)) → list_all (is_before x) (xs ++ k ∷ ys) ≡ true
     → list_all (is_before x) (xs ++ ys) ≡ true

@@ -1,7 +1,7 @@
 -- The words that the proofs here name again and again, passed on from one place. Declares nothing.
 pub use Rattle.{serde_json.proofs.Views.Entry, sim_json.proofs.Readers.next_some, sim_tree.specs.Leaves.leaf_text, sim_tree.specs.declared.source.Source.Source}
 pub use Rattle.std.proofs.Common.{if◌then◌else◌, nat_lt, Some, None, Ok, Err, string_bytes, string_cmp, codes, filter, Option, Result, String, option_and_then}
-pub use Rattle.std.proofs.Common.{refl, ap, append-nil, append_assoc, arith, Global, Less, lit<, rules, subst, sym, true≢false, ◌∙◌}
+pub use Rattle.std.proofs.Common.{refl, ap, append-nil, append_assoc, arith, Global, Less, lit<, rules, subst, sym, ◌∙◌}
 pub use Rattle.std.proofs.Common.{◌≡◌, ℕ, zero, suc, ◌+◌, ◌-◌, ◌<◌, ◌≤◌, max, Bool, true, false, ◌&&◌, ◌||◌, List, [], ◌∷◌, ◌++◌, map, length, drop, pos, IfOk}
 pub use Rattle.std.proofs.lemmas.{Bool.Decides.nat_tests, List.drop_more, List.map-append, Slice.Eq.bytes_eq-Decides}
 pub use Rattle.std.proofs.lemmas.Iterator.{Consumers.YieldsList-at, Consumers.YieldsList-end, Splits.YieldsList-from_str_split}

@@ -4,7 +4,7 @@ use Rattle.sim_tree.proofs.Common.{next_some, no_members, Node, node, node_in, n
 use Rattle.sim_tree.proofs.Common.{option_and_then, refl, ap, are_root_members, arith, array, as_object, boolean, children_in, children_of, Data, get, height}
 use Rattle.sim_tree.proofs.Common.{root_in, Source, SourceMeets, string, subst, Tree, TreeFault, TreeMeets, value_of}
 use Rattle.sim_tree.proofs.Common.{◌≡◌, ℕ, ◌≤◌, max, Bool, true, false, List, ◌∷◌, IfOk, if◌then◌else◌, nat_lt, Some, None, Ok, Err, codes, Option, Result}
-use Rattle.sim_tree.proofs.Forms.{kind_ok}
+use Rattle.{sim_tree.proofs.Forms.kind_ok, std.proofs.lemmas.Option.same_Some}
 
 -- a child, or none
 either_way : (child : Bool) (k : List ℕ) (n : Node) (ps : List (List ℕ × Node)) (h m : ℕ) → levels n ≤ h → levels_under (children_of ps) ≤ m
@@ -42,12 +42,9 @@ pub record IsRoot (n : Node) : Type 0 where
   pub mark : mark_of n ≡ None
   pub levels : levels n ≤ 32
 
-some_same : {X : Type 0} {x y : X} → Some x ≡ Some y → x ≡ y
-some_same e = cc
-
 root_is : (fits : Bool) (name : List ℕ) (parent : Option (List ℕ)) (n : Node) (o : Origin)
     → (if fits then Some (record { name = name; parent = parent; root = n }) else None) ≡ Some o → n ≡ o.root
-root_is true name parent n o e = ap (λ (p : Origin). p.root) (some_same e)
+root_is true name parent n o e = ap (λ (p : Origin). p.root) (same_Some _ _ e)
 root_is false name parent n o e = absurd cc
 
 an_object : (d : Data) (ms : Members) → as_object d ≡ Some ms → d ≡ object ms
@@ -56,7 +53,7 @@ an_object (boolean b) ms e = absurd cc
 an_object (number x) ms e = absurd cc
 an_object (string s) ms e = absurd cc
 an_object (array ds) ms e = absurd cc
-an_object (object ns) ms e = ap object (some_same e)
+an_object (object ns) ms e = ap object (same_Some _ _ e)
 
 origin_root : (d : Data) (o : Origin) → origin_in d ≡ Some o → height d ≤ 32 → IsRoot o.root
 origin_root d o e few =

@@ -3,7 +3,7 @@ use Rattle.sim_trial.proofs.Common.{filter-append, group_size, groups_of, id_at,
 use Rattle.sim_trial.proofs.Common.{map-range_with_len_more, ne_eqb, player_of, range_with_len, slice_chunk, sym, take-map, walk_text, walks_of, ◌∙◌}
 use Rattle.sim_trial.proofs.Common.{◌==◌, decimal, filter, refl, add-one, ap, append-nil, arith, comma, commands_text, div_ceil, drop-map, eqb-false, eqb-true}
 use Rattle.sim_trial.proofs.Common.{◌≡◌, ℕ, zero, suc, ◌+◌, ◌-◌, ◌*◌, ◌/◌, ◌%◌, ◌≤◌, min, Bool, true, false, cond, ◌≢◌, List, [], ◌∷◌, ◌++◌, map, take, drop}
-use Rattle.sim_trial.proofs.Pieces.{join-append}
+use Rattle.{sim_base.proofs.Lists.range_with_len_more, sim_trial.proofs.Pieces.join-append, std.proofs.lemmas.Simd.map-map}
 
 -- how many of the soldiers are a player's
 abbrev pub owned_by : ℕ → ℕ → ℕ
@@ -17,13 +17,6 @@ player_of-is place = by (place % 2 == 0) refl
     by false e =
         let odd : place % 2 ≢ 0 = eqb-false (place % 2) 0 e in
         omega arith
-
-range_with_len_more : (a n : ℕ) → range_with_len a (n + 1) ≡ range_with_len a n ++ (a + n) ∷ []
-range_with_len_more a n = map-is _ ∙ map-range_with_len_more (λ (k : ℕ). k) a n (a + n) refl ∙ ap (λ (xs : List ℕ). xs ++ (a + n) ∷ []) (sym (map-is _))
-  where
-    map-is : (xs : List ℕ) → xs ≡ map (λ (k : ℕ). k) xs
-    map-is [] = refl
-    map-is (x ∷ xs) = ap (λ (ys : List ℕ). x ∷ ys) (map-is xs)
 
 -- his ids, one soldier more
 ids_of-more : (player units : ℕ) → ids_of player (units + 1) ≡ ids_of player units ++ cond (player_of units == player) ((units + 2) ∷ []) []
@@ -122,10 +115,6 @@ chunk-is player owned group =
 
     count : min 256 (owned - group * 256) ≡ min owned (group * 256 + 256) - group * 256
     count = omega arith
-
-map-map : {X Y Z : Type 0} (f : Y → Z) (g : X → Y) (xs : List X) → map f (map g xs) ≡ map (λ x. f (g x)) xs
-map-map f g [] = refl
-map-map f g (x ∷ xs) = ap (λ (ys : List _). f (g x) ∷ ys) (map-map f g xs)
 
 map-same : {X Y : Type 0} (f g : X → Y) → ((x : X) → f x ≡ g x) → (xs : List X) → map f xs ≡ map g xs
 map-same f g same [] = refl

@@ -1,5 +1,5 @@
 pub mod Common
-mod Counting
-mod Keeping
+pub mod Counting
+pub mod Keeping
 mod Resting
 mod Stretches

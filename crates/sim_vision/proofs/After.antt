@@ -3,16 +3,13 @@ use Rattle.sim_vision.proofs.{Common.vision_next, Common.was_visible, Common.◌
 use Rattle.sim_vision.proofs.Common.{all_counts, all_seen, all_visible, ap, arith, blind, Cell, cells_in, cells_of, explored_with, is_visible, last_of}
 use Rattle.sim_vision.proofs.Common.{length-append, length-map, length-replicate, players_of, range_with_len, Setup, size_of, State, sym, Vision, vision_after}
 use Rattle.sim_vision.proofs.Common.{◌≡◌, ℕ, zero, suc, ◌+◌, ◌*◌, Bool, true, false, ◌||◌, List, [], ◌∷◌, ◌++◌, map, length, replicate, flat_map, refl}
+use Rattle.sim_base.proofs.Tests.{or_false}
 
 -- ---- the union of lists, cell by cell
 
 or_assoc : (a b c : Bool) → ((a || b) || c) ≡ (a || (b || c))
 or_assoc true b c = refl
 or_assoc false b c = refl
-
-or_none : (b : Bool) → (b || false) ≡ b
-or_none true = refl
-or_none false = refl
 
 with_twice : (xs ys zs : List Bool) → length xs ≡ length ys → explored_with (explored_with xs ys) zs ≡ explored_with xs (explored_with ys zs)
 with_twice [] ys zs e = refl
@@ -48,7 +45,7 @@ Unset xs = (ys : List Bool) → explored_with ys xs ≡ ys
 
 unset_more : (xs : List Bool) → Unset xs → Unset (false ∷ xs)
 unset_more xs unset [] = refl
-unset_more xs unset (y ∷ ys) = λ i. or_none y i ∷ unset ys i
+unset_more xs unset (y ∷ ys) = λ i. or_false y i ∷ unset ys i
 
 unset_nil : Unset []
 unset_nil [] = refl

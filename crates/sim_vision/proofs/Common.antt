@@ -1,10 +1,10 @@
 -- The words that the proofs here name again and again, passed on from one place. Declares nothing.
 pub use Rattle.std.proofs.Common.{count_by, Option, refl, ap, append-nil, append_assoc, arith, get_or-set_other, get_or-set_same, inl, inr, length-append}
 pub use Rattle.std.proofs.Common.{length-drop, rules, subst, sym, ⊎_elim, ◌∙◌}
-pub use Rattle.std.proofs.Common.{◌∷◌, ◌++◌, map, length, get_or, take, drop, set, ℤ, pos, negsuc, ◌≤ℤ◌, ◌<ℤ◌, unsigned_abs, int_lt, int_le, Some, None, All}
+pub use Rattle.std.proofs.Common.{◌∷◌, ◌++◌, map, length, get_or, take, drop, set, ℤ, pos, ◌≤ℤ◌, ◌<ℤ◌, int_lt, int_le, Some, None, All}
 pub use Rattle.std.proofs.Common.{◌≡◌, ℕ, zero, suc, ◌+◌, ◌-◌, ◌*◌, ◌/◌, ◌%◌, ◌<◌, ◌≤◌, min, max, Bool, true, false, cond, not, eqb, ltb, leb, ◌⊎◌, List, []}
 pub use Rattle.std.proofs.Math.{Nat.div-add-mod, Nat.mod-lt, Seq.drop-append-add, Seq.take-append_seam}
-pub use Rattle.std.proofs.lemmas.{Int.ints, List.Sums.count_by-le-length, List.Sums.sum_by-cons, Nat.div_below, Nat.mul-le, Option.slice_get_within}
+pub use Rattle.std.proofs.lemmas.{Int.ints, List.Sums.count_by-le-length, List.Sums.sum_by-cons, Nat.mul-le, Option.slice_get_within}
 pub use Rattle.std.proofs.lemmas.Bool.{and_from, and_left, and_parts, and_right, cases_Bool, cases_eq, cases_lt, cases_order, eq-eqb, eqb-true, le-leb, le-ltb}
 pub use Rattle.std.proofs.lemmas.Bool.{leb-true, lt-leb, lt-ltb, ltb-true, ne_eqb, or_left, or_parts, or_right, true≢false, Decides.same_from_decides}
 pub use Rattle.std.proofs.lemmas.List.{ext_get_or, get_or-drop, get_or-map, get_or-replicate, get_or-take, get_or_past, length-map, length-replicate}

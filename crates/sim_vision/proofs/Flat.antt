@@ -1,5 +1,5 @@
 -- Lists by player, then z, then x: such a list is known by what stands in it for each cell of each player.
-use Rattle.sim_vision.proofs.{Common.◌∙◌, Places.below_area}
+use Rattle.{sim_vision.proofs.Common.◌∙◌, sim_vision.proofs.Places.below_area, std.proofs.lemmas.Simd.map-map}
 use Rattle.sim_vision.proofs.Common.{drop, flat_map, refl, ap, area_of, arith, cases_lt, Cell, cells_of, div-add-mod, explored_with, ext_get_or, Extent}
 use Rattle.sim_vision.proofs.Common.{get_or-drop, get_or-map-range_with_len, get_or-take, IsAt, IsOnGround, length-append, length-drop}
 use Rattle.sim_vision.proofs.Common.{length-map-range_with_len, length-take-le, mod-lt, mul-le, place_of, range_with_len, Size, sym, take-append-drop, ⊎_elim}
@@ -46,10 +46,6 @@ map_flat {X = X} {Y = Y} f g (k ∷ ks) = map_joined f (g k) (flat_map g ks) ∙
     map_joined f [] ys = refl
     map_joined f (x ∷ xs) ys = ap (λ (zs : List Y). f x ∷ zs) (map_joined f xs ys)
 
-pub map_twice : {X Y Z : Type 0} (f : Y → Z) (g : X → Y) (xs : List X) → map f (map g xs) ≡ map (λ x. f (g x)) xs
-map_twice f g [] = refl
-map_twice f g (x ∷ xs) = ap (λ (zs : List _). f (g x) ∷ zs) (map_twice f g xs)
-
 same_flat : {X : Type 0} (g h : ℕ → List X) (ks : List ℕ) → ((k : ℕ) → g k ≡ h k) → flat_map g ks ≡ flat_map h ks
 same_flat g h [] same = refl
 same_flat g h (k ∷ ks) same = joined_same (g k) (h k) (flat_map g ks) (flat_map h ks) (same k) (same_flat g h ks same)
@@ -61,7 +57,7 @@ module _ {X : Type 0} (d : X) (size : Size) (f : Cell → X) where
 
   rows_are : map f (cells_of size) ≡ flat_map row_of (range_with_len 0 size.depth)
   rows_are = map_flat f (λ z. map (λ x. record { x = x; z = z }) (range_with_len 0 size.width)) (range_with_len 0 size.depth)
-      ∙ same_flat _ row_of (range_with_len 0 size.depth) (λ z. map_twice f (λ x. record { x = x; z = z }) (range_with_len 0 size.width))
+      ∙ same_flat _ row_of (range_with_len 0 size.depth) (λ z. map-map f (λ x. record { x = x; z = z }) (range_with_len 0 size.width))
 
   row_long : (z : ℕ) → length (row_of z) ≡ size.width
   row_long z = length-map-range_with_len (λ x. f (record { x = x; z = z })) 0 size.width

@@ -1,11 +1,12 @@
 -- Explored cells of a file: why they are refused, and that a fog which takes them over is kept.
-use Rattle.sim_vision.proofs.{Flat.map_flat, Flat.map_twice, Flat.place_at, Places.place_below, Seeing.any_counted}
+use Rattle.sim_vision.proofs.{Flat.map_flat, Flat.place_at, Places.place_below, Seeing.any_counted}
 use Rattle.sim_vision.proofs.Common.{SightFault, size_of, subst, sym, true≢false, Unseen, visible_of, Vision, ⊎_elim, ◌∙◌}
 use Rattle.sim_vision.proofs.Common.{area_of, arith, cases_lt, cells_in, cells_of, count_at, count_in, counts_of, eq-eqb, Extent, extent_in, extent_of, Fog}
 use Rattle.sim_vision.proofs.Common.{get_or, IfOk, Some, None, Ok, Err, zip, flat_map, Option, Result, Vec, refl, all_counts, all_visible, and_parts, ap}
 use Rattle.sim_vision.proofs.Common.{get_or-map, get_or_past, Global, is_bit, is_missed, is_set, is_unseen, Keeps, leb-true, Length, length-map, list_all}
 use Rattle.sim_vision.proofs.Common.{list_any, lt-ltb, Mark, ne_eqb, NotBit, one_if, or_parts, OutOfMemory, place_of, players_of, refusal_of, Row, sees, Setup}
 use Rattle.sim_vision.proofs.Common.{◌≡◌, ℕ, zero, suc, ◌*◌, ◌<◌, ◌≤◌, Bool, true, false, cond, not, ◌&&◌, ◌||◌, eqb, ltb, leb, List, [], ◌∷◌, map, length}
+use Rattle.std.proofs.lemmas.Simd.{map-map}
 
 -- the cause by the three tests
 abbrev pub verdict : Bool → Bool → Bool → Option SightFault
@@ -71,7 +72,7 @@ visible_counts setup rows =
   where
     cells : (player : ℕ) → map (ltb 0) (counts_of setup rows player) ≡ visible_of setup rows player
     cells player =
-        map_twice (ltb 0) (count_at setup rows player) (cells_of (size_of setup.land))
+        map-map (ltb 0) (count_at setup rows player) (cells_of (size_of setup.land))
         ∙ (λ i. map (λ c. any_counted (sees setup player c) rows i) (cells_of (size_of setup.land)))
 
 pub unseen_is_missed : (setup : Setup) (rows : List Row) (bytes : List ℕ) →

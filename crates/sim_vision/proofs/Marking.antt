@@ -1,27 +1,18 @@
 -- The marks of a valid state are known, and so are those of the shifts between two such lists.
-use Rattle.{sim_base.specs.Places.is_within, sim_vision.proofs.Common.template_of, sim_vision.proofs.Common.true≢false}
-use Rattle.sim_vision.proofs.Common.{All-map, All-nil, All-tail, All-weaker, and_parts, arith, Born, born, cell_of, change_of, div_below, end_of, Extent}
-use Rattle.sim_vision.proofs.Common.{IfSome, unsigned_abs, int_lt, int_le, MatchOption, Some, None, All, flat_map, Option, refl, All-append, All-cons, All-head}
-use Rattle.sim_vision.proofs.Common.{IsSetup, IsTemplate, IsValid, IsValidRow, length-map, ltb-true, Mark, mark_at, mark_of, marks_of, Point, range_with_len}
+use Rattle.{sim_base.proofs.GroundPoints.within-below, sim_base.specs.Places.is_within, sim_vision.proofs.Common.template_of}
+use Rattle.sim_vision.proofs.Common.{All-map, All-nil, All-tail, All-weaker, and_parts, arith, Born, born, cell_of, change_of, end_of, Extent}
+use Rattle.sim_vision.proofs.Common.{IfSome, int_lt, int_le, MatchOption, Some, None, All, flat_map, Option, refl, All-append, All-cons, All-head}
+use Rattle.sim_vision.proofs.Common.{IsSetup, IsTemplate, IsValid, IsValidRow, length-map, Mark, mark_at, mark_of, marks_of, Point, range_with_len}
 use Rattle.sim_vision.proofs.Common.{extent_in, Gone, gone, HasReach, ints, is_inside, IsKnownMark, IsKnownRow, IsKnownShift, IsOnGround, IsPlaced, IsPlacedRow}
-use Rattle.sim_vision.proofs.Common.{reach_of, reaches_of, Row, same_mark, Setup, shifts_between, Size, size_of, slice_get_within, State, sym, Template}
-use Rattle.sim_vision.proofs.Common.{◌≡◌, ℕ, ◌*◌, ◌/◌, ◌<◌, ◌≤◌, max, Bool, true, false, cond, eqb, List, [], ◌∷◌, ◌++◌, length, ℤ, pos, negsuc, ◌≤ℤ◌, ◌<ℤ◌}
+use Rattle.sim_vision.proofs.Common.{reach_of, reaches_of, Row, same_mark, Setup, shifts_between, Size, size_of, slice_get_within, State, Template}
+use Rattle.sim_vision.proofs.Common.{◌≡◌, ℕ, ◌*◌, ◌<◌, ◌≤◌, max, Bool, true, false, cond, eqb, List, [], ◌∷◌, ◌++◌, length, ℤ, pos, ◌≤ℤ◌, ◌<ℤ◌}
 
 -- ---- points of a ground of at most 256 cells each way
-
-below : (raw : ℤ) (m : ℕ) → int_le (pos 0) raw ≡ true → int_lt raw (pos m) ≡ true → unsigned_abs raw < m
-below (pos n) m low high = ltb-true n m high
-below (negsuc n) m low high = absurd (true≢false (sym low))
-
-cell_below : (raw : ℤ) (cells : ℕ) → is_within raw cells ≡ true → unsigned_abs raw / 65536 < cells
-cell_below raw cells h =
-    let parts = and_parts (int_le (pos 0) raw) (int_lt raw (pos (cells * 65536))) h in
-    div_below (unsigned_abs raw) 65536 cells (omega arith) (below raw (cells * 65536) parts.0 parts.1)
 
 pub on_ground : (size : Size) (p : Point) → is_inside size p ≡ true → IsOnGround size (cell_of p)
 on_ground size p h =
     let parts = and_parts (is_within p.x size.width) (is_within p.z size.depth) h in
-    record { east = cell_below p.x size.width parts.0; north = cell_below p.z size.depth parts.1 }
+    record { east = within-below p.x size.width parts.0; north = within-below p.z size.depth parts.1 }
 
 low_end : (raw : ℤ) (cells : ℕ) → is_within raw cells ≡ true → pos 0 ≤ℤ raw
 low_end raw cells h = let parts = and_parts (int_le (pos 0) raw) (int_lt raw (pos (cells * 65536))) h in let low = parts.0 in grind (arith, ints)
@@ -59,10 +50,6 @@ row_known setup all row limits known =
       placed (size_of setup.land) row.at limits.land.width.1 limits.land.depth.1 here.1,
       record { on = on_ground (size_of setup.land) row.at here.1; template = omega (arith, here.0, length-map setup.templates reach_of); owner = here.2 },
     )
-
-pub rows_placed : (setup : Setup) (state : State) → IsSetup setup → IsValid setup state → All IsPlacedRow state.rows
-rows_placed setup state limits valid = All-weaker (IsKnownRow 1 setup state.rows) IsPlacedRow
-    (λ row known. (row_known setup state.rows row limits known).0) state.rows valid.rows
 
 pub marks_known : (setup : Setup) (state : State) → IsSetup setup → IsValid setup state →
     All (IsKnownMark (extent_in setup) (reaches_of setup)) (marks_of state)

@@ -1,11 +1,8 @@
 -- Row after row the cells of a fog are turned.
 use Rattle.sim_vision.proofs.Common.{IsTurned, IsTurnedAt, IsTurnedBelow, le-ltb, lt-ltb, ne_eqb, one_if, place_of, Span, start_of, subst, sym, ⊎_elim, ◌∙◌}
 use Rattle.sim_vision.proofs.Common.{cases_lt, cases_order, Cell, count_in, Crossing, eq-eqb, Extent, flag_in, is_in_row, is_watched, IsAt, IsRowTurned}
-use Rattle.sim_vision.proofs.Common.{◌≡◌, ℕ, ◌+◌, ◌<◌, ◌≤◌, Bool, true, false, ◌&&◌, ◌||◌, eqb, ltb, ◌⊎◌, List, refl, and_right, ap, arith, CanTurn, CanTurnAt}
-
-pub or_none : (x : Bool) → (x || false) ≡ x
-or_none true = refl
-or_none false = refl
+use Rattle.sim_vision.proofs.Common.{◌≡◌, ℕ, ◌+◌, ◌<◌, ◌≤◌, Bool, true, false, ◌&&◌, ◌||◌, eqb, ltb, ◌⊎◌, List, and_right, ap, arith, CanTurn, CanTurnAt}
+use Rattle.sim_base.proofs.Tests.{or_false}
 
 -- a row before this one, this one, and one behind it
 three : (P : Bool → Bool → Bool → Type 0) (row z : ℕ) → P true false true → P false true true → P false false false →
@@ -37,7 +34,7 @@ module _ (extent : Extent) (reaches : List ℕ) (crossing : Crossing) where
   begins first counts flags old new = record {
     counts = λ player c at. ap (λ (n : ℕ). count_in extent counts player c + n)
         (ap one_if (none player c at (old_at player c) (old player c at)) ∙ sym (ap one_if (none player c at (new_at player c) (new player c at))));
-    flags = λ player c at. sym (or_none (flag_in extent flags player c))
+    flags = λ player c at. sym (or_false (flag_in extent flags player c))
         ∙ sym (ap (λ (b : Bool). flag_in extent flags player c || b) (none player c at (new_at player c) (new player c at)));
   }
     where
@@ -60,9 +57,9 @@ module _ (extent : Extent) (reaches : List ℕ) (crossing : Crossing) where
     flags = λ player c at. three (λ l e m. flag_in extent flags' player c ≡ (flag_in extent flags player c || (l && new_at player c)) →
         flag_in extent flags'' player c ≡ (flag_in extent flags' player c || (e && new_at player c)) →
         flag_in extent flags'' player c ≡ (flag_in extent flags player c || (m && new_at player c))) c.z z
-        (λ p q. q ∙ or_none (flag_in extent flags' player c) ∙ p)
-        (λ p q. q ∙ ap (λ (b : Bool). b || new_at player c) (p ∙ or_none (flag_in extent flags player c)))
-        (λ p q. q ∙ or_none (flag_in extent flags' player c) ∙ p) (below.flags player c at) (here.flags player c at);
+        (λ p q. q ∙ or_false (flag_in extent flags' player c) ∙ p)
+        (λ p q. q ∙ ap (λ (b : Bool). b || new_at player c) (p ∙ or_false (flag_in extent flags player c)))
+        (λ p q. q ∙ or_false (flag_in extent flags' player c) ∙ p) (below.flags player c at) (here.flags player c at);
   }
 
   -- what is asked of a row still holds when it comes
@@ -73,7 +70,7 @@ module _ (extent : Extent) (reaches : List ℕ) (crossing : Crossing) where
     counted = λ player c at e h. let same = same_count player c at e in omega (arith, same, can.counted player c at h);
     room = λ player c at e h. let same = same_count player c at e in omega (arith, same, can.room player c at h);
     seen = λ player c at e h. below.flags player c at ∙ ap (λ (b : Bool). flag_in extent flags player c || (b && new_at player c))
-        (le-ltb c.z z (omega (arith, e))) ∙ or_none (flag_in extent flags player c) ∙ can.seen player c at h;
+        (le-ltb c.z z (omega (arith, e))) ∙ or_false (flag_in extent flags player c) ∙ can.seen player c at h;
   }
     where
       same_count : (player : ℕ) (c : Cell) → IsAt extent player c → c.z ≡ z → count_in extent counts' player c ≡ count_in extent counts player c

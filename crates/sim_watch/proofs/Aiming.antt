@@ -1,12 +1,12 @@
 -- Who aims at whom: what is asked of the groups, and the groups after a change.
 use Rattle.{sim_base.specs.declared.setup.Land.Land, sim_system.specs.Meanings.Meaning}
-use Rattle.std.{proofs.Common.MatchOption, proofs.lemmas.Bool.eq-eqb, proofs.lemmas.Bool.ne_eqb, specs.Prelude.◌&&◌, specs.Prelude.OnOk, specs.Prelude.filter}
+use Rattle.std.{proofs.Common.MatchOption, proofs.lemmas.Bool.eq-eqb, proofs.lemmas.Bool.ne_eqb, specs.Prelude.◌&&◌, specs.Prelude.filter}
 use Rattle.sim_fact_lists.proofs.{Grouping.relisted, OneFact.noted_is}
 use Rattle.sim_fact_lists.specs.{Groups.keyed, Groups.left_by, Groups.listed, declared.group.Group.Group}
 use Rattle.sim_system.specs.{Answers.watchers_among, Notes.noted, Notes.NoteFits, declared.note.Note.Note, declared.note.Note.TheVariants.Born}
-use Rattle.sim_watch.proofs.Common.{ap, AreGroups, Ascend, Fact, fact_with, facts_in, id_of_fact, joined_by, kept, kept_id, Rising, rising, rising_kept, subst}
-use Rattle.sim_watch.proofs.Common.{sym, told_in, Watch, with_only, ◌∙◌}
-use Rattle.sim_watch.proofs.Common.{◌≡◌, ℕ, Bool, true, false, not, List, [], ◌∷◌, map, ◌==◌, Some, None, Ok, Err, Option, Result, refl, aim_key, aim_of, Aimer}
+use Rattle.sim_watch.proofs.Common.{ap, AreGroups, Ascend, Fact, fact_with, facts_in, id_of_fact, joined_by, kept, Rising, rising, rising_kept, subst}
+use Rattle.sim_watch.proofs.Common.{kept_id, sym, told_in, Watch, with_only, ◌∙◌}
+use Rattle.sim_watch.proofs.Common.{◌≡◌, ℕ, Bool, true, false, not, List, [], ◌∷◌, map, ◌==◌, Some, None, Option, refl, aim_key, aim_of, Aimer}
 
 nobody : (facts : List Fact) → map id_of_fact (filter (λ (f : Fact). false) facts) ≡ []
 nobody [] = refl
@@ -71,7 +71,3 @@ meant land facts rebuilds = record { kind = Watch; land = land; facts = facts; r
 pub meant_by : (land later : Option Land) (facts after : List Fact) (before rebuilds : ℕ) → later ≡ land → after ≡ facts → rebuilds ≡ before
     → meant later after rebuilds ≡ meant land facts before
 meant_by land later facts after before rebuilds same is count = λ i. meant (same i) (is i) (count i)
-
-pub on_ok : {E : Type 0} (r : Result (Unit {0}) E) (P Q : Type 0) → (P → Q) → OnOk r P → OnOk r Q
-on_ok (Ok u) P Q f h = f h
-on_ok (Err e) P Q f h = tt

@@ -1,11 +1,11 @@
 -- Bytes of the form of a frame are the frame of a message.
-use Rattle.std.{proofs.lemmas.Bool.eqb-true, specs.Prelude.if◌then◌else◌}
+use Rattle.std.{proofs.lemmas.Bool.eqb-true, proofs.lemmas.List.nil_from_length, specs.Prelude.if◌then◌else◌}
 use Rattle.sim_wire.proofs.Common.{Attack, byte_at, Command, command_bytes, command_form, CommandFits, Delete, down_body, down_command_form, down_form}
 use Rattle.sim_wire.proofs.Common.{down_tag_form, DownFits, DownOf, false≢true, framed, ids_bytes, ids_form, IdsFit, IsDownFrame, IsUpFrame, kind_form}
 use Rattle.sim_wire.proofs.Common.{ltb-false, Place, read_and, Resign, state_form, state_limit, Stop, subst, sym, Train, u16_bytes, u32_bytes, up_body}
 use Rattle.sim_wire.proofs.Common.{up_command_form, up_form, up_tag_form, UpFits, UpOf, Walk, ◌∙◌}
 use Rattle.sim_wire.proofs.Common.{◌≡◌, ℕ, ◌+◌, ◌*◌, ◌≤◌, Bool, true, false, eqb, ltb, List, [], ◌∷◌, ◌++◌, length, flat_map, refl, ap, append_assoc, arith}
-use Rattle.sim_wire.proofs.Fronts.{AreBytes, ends, half, half_held, last_half, last_point, last_word, none_left, word, word_held, words}
+use Rattle.sim_wire.proofs.Fronts.{AreBytes, ends, half, half_held, last_half, last_point, last_word, word, word_held, words}
 use Rattle.sim_plain.specs.declared.message.DownOf.TheVariants as down
 use Rattle.sim_plain.specs.declared.message.UpOf.TheVariants as up
 
@@ -113,7 +113,7 @@ train_formed bytes all e =
     }
 
 resign_formed : (bytes : List ℕ) → eqb (length bytes) 0 ≡ true → OfCommand (7 ∷ bytes)
-resign_formed bytes e = record { command = Resign; fits = tt; is = ap (λ (x : List ℕ). 7 ∷ x) (none_left bytes (eqb-true (length bytes) 0 e)) }
+resign_formed bytes e = record { command = Resign; fits = tt; is = ap (λ (x : List ℕ). 7 ∷ x) (nil_from_length bytes (eqb-true (length bytes) 0 e)) }
 
 kind_formed : (kind : ℕ) (bytes : List ℕ) → AreBytes bytes → kind_form kind bytes ≡ true → OfCommand (kind ∷ bytes)
 unfolding kind_form
@@ -156,7 +156,7 @@ record OfUp (body : List ℕ) : Type 0 where
   is : body ≡ up_body message
 
 join_formed : (bytes : List ℕ) → eqb (length bytes) 0 ≡ true → OfUp (1 ∷ bytes)
-join_formed bytes e = record { message = up.Join; fits = tt; is = ap (λ (x : List ℕ). 1 ∷ x) (none_left bytes (eqb-true (length bytes) 0 e)) }
+join_formed bytes e = record { message = up.Join; fits = tt; is = ap (λ (x : List ℕ). 1 ∷ x) (nil_from_length bytes (eqb-true (length bytes) 0 e)) }
 
 up_command_formed : (bytes : List ℕ) → AreBytes bytes → up_command_form bytes ≡ true → OfUp (2 ∷ bytes)
 unfolding up_command_form
@@ -233,7 +233,7 @@ record One (bytes : List ℕ) : Type 0 where
 
 one : (bytes : List ℕ) → length bytes ≡ 1 → One bytes
 one [] e = absurd (omega arith)
-one (b ∷ bytes) e = record { byte = b; is = ap (λ (x : List ℕ). b ∷ x) (none_left bytes (omega arith)) }
+one (b ∷ bytes) e = record { byte = b; is = ap (λ (x : List ℕ). b ∷ x) (nil_from_length bytes (omega arith)) }
 
 ask_formed : (bytes : List ℕ) → eqb (length bytes) 1 ≡ true → OfDown (1 ∷ bytes)
 ask_formed bytes e =

@@ -1,6 +1,6 @@
 -- Bytes begin with the bytes of a number, where enough of them are left. All of these bytes are below 256.
 use Rattle.std.proofs.{Common.zero, Common.Fits, Math.Facts.sfits_to_z, Math.ListN.get_or, lemmas.Int.of_z-to_z, lemmas.Nat.le_bytes_2, lemmas.Nat.le_bytes_4}
-use Rattle.std.specs.Int.{cast_signed, from_le_bytes, to_le_bytes, w16, w8}
+use Rattle.std.{proofs.lemmas.List.nil_from_length, specs.Int.cast_signed, specs.Int.from_le_bytes, specs.Int.to_le_bytes, specs.Int.w16, specs.Int.w8}
 use Rattle.sim_wire.proofs.Common.{ap, append-nil, append_assoc, arith, false≢true, i32_bytes, IsPoint, ltb-false, number_at, Point, point_bytes, read_and, sym}
 use Rattle.sim_wire.proofs.Common.{u16_back, u16_bytes, u32_back, u32_bytes, w32, ◌∙◌}
 use Rattle.sim_wire.proofs.Common.{◌≡◌, ℕ, suc, ◌+◌, ◌*◌, ◌^◌, ◌<◌, ◌≤◌, Bool, true, false, ltb, List, [], ◌∷◌, ◌++◌, length, flat_map, refl, AllByRecursion}
@@ -125,12 +125,8 @@ words (suc n) bytes all le =
 
 -- ---- at the end
 
-pub none_left : (rest : List ℕ) → length rest ≡ 0 → rest ≡ []
-none_left [] e = refl
-none_left (x ∷ rest) e = absurd (omega arith)
-
 pub ends : (front rest : List ℕ) → length rest ≡ 0 → front ++ rest ≡ front
-ends front rest e = ap (λ (x : List ℕ). front ++ x) (none_left rest e) ∙ append-nil front
+ends front rest e = ap (λ (x : List ℕ). front ++ x) (nil_from_length rest e) ∙ append-nil front
 
 -- the last four bytes are a number
 pub record LastWord (bytes : List ℕ) : Type 0 where

@@ -1,5 +1,5 @@
 -- Each row is found by its id.
-use Rattle.{sim_base.specs.Rows.id_of, sim_base.specs.declared.state.Row.Row, sim_plans.proofs.Places.row_there, std.proofs.lemmas.List.get_or_default}
+use Rattle.{sim_base.specs.Rows.id_of, sim_base.specs.declared.state.Row.Row, std.proofs.lemmas.List.get_or_default, sim_base.proofs.RowPlaces.row_there}
 use Rattle.std.proofs.Common.{◌≡◌, ◌<◌, List, length, get_or, ap, arith, sym, ◌∙◌}
 use Rattle.sim_attack.proofs.aim.listed_aims.Goals as goal
 

@@ -1,11 +1,12 @@
 -- The place that was found is that of the one row with this id.
-use Rattle.sim_codec.proofs.{OfEntity.bits_absent, OfEntity.bits_there, Places.row_absent, Places.row_there}
+use Rattle.sim_codec.proofs.OfEntity.{bits_absent, bits_there}
 use Rattle.sim_codec.proofs.bits.bits_of.Goals as goal
+use Rattle.sim_base.proofs.RowPlaces.{row_missing, row_there}
 
 pub returns-in-None : goal.returns-in-None
 returns-in-None c =
     let none = rw c.as_slice-rows.ensures at c.in-None.ensures in
-    bits_absent c.args.state.now c.args.entity c.args.part c.absent.result c.if-entity-eq1.false (row_absent c.args.state.now.rows c.args.entity none)
+    bits_absent c.args.state.now c.args.entity c.args.part c.absent.result c.if-entity-eq1.false (row_missing c.args.state.now.rows c.args.entity none)
     c.absent.ensures
 
 pub returns-in-Some : goal.returns-in-Some

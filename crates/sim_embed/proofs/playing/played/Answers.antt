@@ -1,21 +1,10 @@
 -- A call through the box of a planner is a call of `planned`, which may be given a command of each kind; and each kind has a
 -- handler.
 use denote.Param.Callables.{held_fn, Sure}
-use Rattle.std.proofs.Common.{ℕ, ◌+◌, refl, arith, subst, sym}
-use Rattle.sim_base.specs.declared.{command.Command.Command, setup.Setup.Setup, state.State.State}
-use Rattle.sim_embed.proofs.{Keyed.AreKeyedBelow, Keyed.AreKeyedBelow-append, playing.played.OwnLists.own-2}
-use Rattle.sim_orders.specs.{Orders.IsGiven, Orders.kind_of, Orders.Obeys, declared.help.Help.Help}
+use Rattle.std.proofs.Common.{◌+◌, refl, arith, subst, sym}
+use Rattle.sim_base.proofs.Keyed.{AreKeyedBelow, AreKeyedBelow-append}
+use Rattle.{sim_embed.proofs.playing.played.OwnLists.own-2, sim_orders.proofs.Planning.of_kind, sim_orders.specs.Orders.Obeys}
 use Rattle.sim_embed.proofs.playing.played.Goals as goal
-
-of_kind : (kind : ℕ) (setup : Setup) (state : State) (help : Help) (player : ℕ) (command : Command)
-    → IsGiven kind setup state help player command → IsGiven (kind_of command) setup state help player command
-of_kind kind setup state help player command given = record {
-  limits = given.limits;
-  valid = given.valid;
-  player_is = given.player_is;
-  help_is = given.help_is;
-  kind_is = refl;
-}
 
 pub invariant_of-push : goal.invariant_of-push
 invariant_of-push g c =

@@ -1,9 +1,6 @@
-use Rattle.sim_path.proofs.Common.{OnOk, Ok, Err, Result, Cell, cell_of, field_of_grid, IsTrail, IsTrailToEnd, subst}
+use Rattle.sim_path.proofs.Common.{Cell, cell_of, field_of_grid, IsTrail, IsTrailToEnd, subst}
 use Rattle.sim_path.proofs.answer.trail_back.Goals as goal
-
-on_ok : {E : Type 0} (r : Result (Unit {0}) E) (P Q : Type 0) → (P → Q) → OnOk r P → OnOk r Q
-on_ok (Ok u) P Q f h = f h
-on_ok (Err e) P Q f h = tt
+use Rattle.sim_base.proofs.Lists.{on_ok}
 
 pub returns : goal.returns
 returns c =

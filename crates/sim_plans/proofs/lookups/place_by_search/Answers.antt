@@ -1,6 +1,6 @@
 -- The closure gives the id of a row, and the ids ascend.
-use Rattle.std.proofs.lemmas.List.Sorted.{answers_always}
-use Rattle.sim_plans.proofs.{Common.ranked, Common.Row, Common.rules, Common.sym, Places.no_row, Places.row_at, Places.row_missing}
+use Rattle.{sim_base.proofs.RowPlaces.row_missing, std.proofs.lemmas.List.Sorted.answers_always}
+use Rattle.sim_plans.proofs.{Common.ranked, Common.Row, Common.rules, Common.sym, Places.no_row, Places.row_at}
 use Rattle.sim_plans.proofs.lookups.place_by_search.Goals as goal
 
 pub returns-in-Ok : goal.returns-in-Ok

@@ -1,7 +1,8 @@
 -- The first state is told or not; then one turn more is played, and told or not.
-use Rattle.sim_play.proofs.{Common.told_frame, Common.◌∙◌, Past.own_at, Past.own_more, Playing.kept_on, Playing.next_number, ToldTurns.film_more}
+use Rattle.sim_play.proofs.{Common.told_frame, Common.◌∙◌, Past.own_at, Past.own_more, Playing.next_number, ToldTurns.film_more}
 use Rattle.sim_play.proofs.Common.{◌≡◌, ◌+◌, ◌-◌, ◌++◌, string_bytes, refl, after, ap, append-nil, from, IsValid, own_turns, Setup, State, subst, sym}
 use Rattle.sim_play.proofs.films.push_frames.Goals as goal
+use Rattle.sim_turn.proofs.Keeping.{kept_on}
 
 pub loop-turn-init : goal.loop-turn-init
 loop-turn-init g c =

@@ -1,7 +1,6 @@
 -- One line more stands behind the old bytes, or they are kept.
-use Rattle.std.specs.Prelude.{OnErr}
-use Rattle.sim_replay.proofs.Common.{Ok, Err, Result}
-use Rattle.sim_replay.proofs.Pushed.{kept_before, next_order}
+use Rattle.{sim_base.proofs.AppendedTexts.take-appended_more, std.specs.Prelude.OnErr}
+use Rattle.sim_replay.proofs.{Common.Err, Common.Ok, Common.Result, Pushed.next_order}
 use Rattle.sim_replay.proofs.push.append_orders.Goals as goal
 
 on_err : {T E P : Type 0} (r : Result T E) → P → OnErr r P
@@ -10,7 +9,7 @@ on_err (Err e) p = p
 
 pub returns-in_err-append_order-clause-err : goal.returns-in_err-append_order-clause-err
 returns-in_err-append_order-clause-err c = on_err c.from_residual.result
-    (kept_before c.args.out.now.items _ c.loop-order.out.items c.append_order.new.out.items c.loop-order.invariant c.in_err-append_order.ensures.err)
+    (take-appended_more c.args.out.now.items _ c.loop-order.out.items c.append_order.new.out.items c.loop-order.invariant c.in_err-append_order.ensures.err)
 
 pub loop-order-preserved : goal.loop-order-preserved
 loop-order-preserved c = next_order c.args.turn c.args.orders.now c.loop-order.order-index c.order-item.result c.args.out.now.items c.loop-order.out.items

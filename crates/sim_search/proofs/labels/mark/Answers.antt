@@ -1,4 +1,4 @@
-use Rattle.sim_search.proofs.{Cells.entry_at-on, Cells.place-below, Floods.none-is}
+use Rattle.{sim_grid.proofs.Beside.place-below, sim_search.proofs.Cells.entry_at-on, sim_search.proofs.Floods.none-is}
 use Rattle.sim_search.proofs.Common.{inr, IsOnGround, length-append, place_at, rules, Size, size_in, subst, sum_by-set, sym, ◌∙◌}
 use Rattle.sim_search.proofs.Common.{◌≡◌, ℕ, ◌*◌, ◌<◌, cond, [], ◌∷◌, length, get_or, is_none, Some, None, sum_by, Option, ap, arith, entry_in, IfOk-from_err}
 use Rattle.sim_search.proofs.labels.mark.Goals as goal

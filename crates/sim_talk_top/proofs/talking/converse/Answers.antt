@@ -1,10 +1,9 @@
 -- The match was read and the talk took place, or it says why not.
-use Rattle.{sim_talk_top.specs.Talked.OfRelay, sim_talk_top.specs.Talked.TalkedAs, std.specs.Prelude.IfSome}
-use Rattle.{sim_talk_top.specs.Talked.ShelfCauses, sim_talk_top.specs.Talked.TalksOf}
-use Rattle.{sim_top.specs.Stops.status_of, sim_top.specs.Stops.stop_text}
-use Rattle.{sim_talk_top.specs.Words.Talk, sim_talk_top.specs.Words.talk_of, sim_top.specs.Outcome.session_match_in}
+use Rattle.{sim_talk_top.specs.Talked.OfRelay, sim_talk_top.specs.Talked.TalkedAs, std.specs.Prelude.IfSome, sim_talk_top.specs.Talked.ShelfCauses}
+use Rattle.{sim_talk_top.specs.Talked.TalksOf, sim_talk_top.specs.Words.Talk, sim_talk_top.specs.Words.talk_of, sim_top.specs.Outcome.session_match_in}
+use Rattle.sim_top.{proofs.Finishing.all_told, specs.Stops.status_of, specs.Stops.stop_text}
 use Rattle.sim_talk_top.proofs.{Counting.refused_causes, Counting.refused_shelf, Counting.talked_causes, Counting.talked_shelf}
-use Rattle.sim_talk_top.proofs.Refusing.{live_refused, live_talked, where_any, where_known}
+use Rattle.sim_talk_top.proofs.Refusing.{live_refused, live_talked, where_known}
 use Rattle.std.proofs.Common.{ap, subst, sym}
 use Rattle.sim_talk_top.proofs.talking.converse.Goals as goal
 
@@ -67,5 +66,5 @@ returns-in-Relay-clause-talks g c =
     subst (λ (t : Talk). IfSome (g.S.Shelf.held c.args.shelf.now)
     (λ files. TalksOf files t c.ended.result (g.T.Talk.history c.args.talk.now) (g.T.Talk.history c.relay.new.talk)))
     (sym (ap talk_of c.in-Relay.is))
-    (where_any (λ files. TalkedAs c.in-Relay.rules c.ended.result (g.T.Talk.history c.args.talk.now) (g.T.Talk.history c.relay.new.talk))
+    (all_told (λ files. TalkedAs c.in-Relay.rules c.ended.result (g.T.Talk.history c.args.talk.now) (g.T.Talk.history c.relay.new.talk))
     (g.S.Shelf.held c.args.shelf.now) (λ files. (c.relay.result, c.ended.ensures, c.relay.ensures.relays)))

@@ -1,12 +1,10 @@
 -- What is put in place of the id makes the list that the note makes. One fewer of the old owner, and one more of the new one, are the
 -- numbers after it.
 use Rattle.sim_census.proofs.{Counting.few_left, Counting.is_counted, Counting.owner_known, Counting.part_found, Counting.recounted, Owning.meant}
-use Rattle.sim_census.proofs.Owning.{part_of_owner}
+use Rattle.{sim_census.proofs.Owning.part_of_owner, sim_census.specs.Counts.AreCounts, sim_system.specs.declared.fact.Fact.Fact}
 use Rattle.std.proofs.Common.{List, ap, subst, sym}
-use Rattle.sim_census.specs.Counts.{AreCounts}
-use Rattle.sim_system.specs.declared.fact.Fact.{Fact}
-use Rattle.{sim_census.specs.Owners.facts_in, std.proofs.Common.◌∙◌, sim_system.specs.declared.kind.Kind.TheVariants.Census}
-use Rattle.sim_fact_lists.proofs.Holding.{on_ok, put_is, put_named, still_held}
+use Rattle.{sim_census.specs.Owners.facts_in, std.proofs.Common.◌∙◌, sim_system.specs.declared.kind.Kind.TheVariants.Census, sim_base.proofs.Lists.on_ok}
+use Rattle.sim_fact_lists.proofs.Holding.{put_is, put_named, still_held}
 use Rattle.sim_census.proofs.census.CensusSystem.on.Goals as goal
 
 pub put-requires : goal.put-requires

@@ -1,11 +1,8 @@
 -- The group that stands there has the same ids as before, and a new one has none.
-use Rattle.sim_fact_lists.proofs.Common.{◌≡◌, ℕ, Bool, true, false, cond, List, OnOk, ◌==◌, Ok, Err, Result, refl, ap, HasRoom, listed, subst, sym, ◌∙◌}
+use Rattle.sim_fact_lists.proofs.Common.{◌≡◌, ℕ, Bool, true, false, cond, List, ◌==◌, refl, ap, HasRoom, listed, subst, sym, ◌∙◌}
 use Rattle.sim_fact_lists.proofs.Keyed.{added_ascend, added_listed, added_room, changed_ascend, changed_listed, room_there}
 use Rattle.sim_fact_lists.proofs.groups.Groups.make_room.Goals as goal
-
-on_ok : {V E : Type 0} (r : Result V E) (P Q : Type 0) → (P → Q) → OnOk r P → OnOk r Q
-on_ok (Ok v) P Q f h = f h
-on_ok (Err e) P Q f h = tt
+use Rattle.sim_base.proofs.Lists.{on_ok}
 
 either : (b : Bool) (ids : List ℕ) → cond b ids ids ≡ ids
 either true ids = refl

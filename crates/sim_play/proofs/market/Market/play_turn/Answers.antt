@@ -1,5 +1,5 @@
 -- The commands are those of the match's own turn.
-use Rattle.sim_play.proofs.{Common.◌∙◌, PaidOnes.own_orders}
+use Rattle.{sim_play.proofs.Common.◌∙◌, sim_turn.proofs.Counting.players_at}
 use Rattle.sim_play.proofs.Common.{◌≡◌, ℕ, List, OnOk, All, ap, books_of, IsOrderOf, orders_at, paid_turn, PlayerCommand, Setup, setup_in, state_in, subst, sym}
 use Rattle.sim_play.proofs.market.Market.play_turn.Goals as goal
 
@@ -11,7 +11,7 @@ paid_turn-requires-clause-players g c =
     ap (orders_at c.args.number) (c.as_slice.ensures ∙ ap (λ (s : Setup). s.commands) c.setup-setup.ensures) in
     subst (All (IsOrderOf setup)) (sym orders)
     (subst (λ (k : ℕ). All (IsOrderOf setup) (orders_at k setup.commands)) (sym c.requires.number)
-    (own_orders setup (state_in c.args.board.now).turn c.requires.goes_on.whole.standing.limits))
+    (players_at setup (state_in c.args.board.now).turn c.requires.goes_on.whole.standing.limits))
 
 pub returns-clause-books : goal.returns-clause-books
 returns-clause-books g c =

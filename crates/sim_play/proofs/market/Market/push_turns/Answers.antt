@@ -1,10 +1,9 @@
 -- The first state has its line, and one paid turn more is played and has its line.
-use Rattle.sim_play.proofs.Common.{paid_state, rules}
-use Rattle.sim_play.proofs.Common.{paid_lines, paid_turn, rig_in, Setup, setup_in, State, state_in, subst, sym, systems_by, turn_line, ◌∙◌}
+use Rattle.sim_play.proofs.Common.{paid_state, rules, paid_lines, paid_turn, rig_in, Setup, setup_in, State, state_in, subst, sym, systems_by, turn_line, ◌∙◌}
 use Rattle.sim_play.proofs.Common.{◌≡◌, ℕ, suc, ◌+◌, ◌++◌, string_bytes, codes, refl, ap, arith, books_after, books_of, digest, IsEconomy, IsValid, orders_at}
 use Rattle.sim_play.proofs.PaidOnes.{books_more, books_state, books_turn, first_line, kept_so_far, paid_lines_more}
-use Rattle.sim_play.proofs.Playing.{kept_on}
 use Rattle.sim_play.proofs.market.Market.push_turns.Goals as goal
+use Rattle.sim_turn.proofs.Keeping.{kept_on}
 
 pub loop-turn-init : goal.loop-turn-init
 loop-turn-init g c =

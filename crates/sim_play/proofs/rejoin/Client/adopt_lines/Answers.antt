@@ -1,7 +1,8 @@
 -- The board took the state, has its line, and is played on.
-use Rattle.sim_play.proofs.{Common.sym, Common.turn_line, Common.◌∙◌, Past.begun_lines, Past.of_done}
+use Rattle.sim_play.proofs.{Common.sym, Common.turn_line, Common.◌∙◌, Past.begun_lines}
 use Rattle.sim_play.proofs.Common.{◌≡◌, suc, ◌-◌, ◌++◌, string_bytes, after, ap, digest, own_turns, past_lines, Setup, setup_in, State, state_in, subst}
 use Rattle.sim_play.proofs.rejoin.Client.adopt_lines.Goals as goal
+use Rattle.sim_base.proofs.Lists.{on_ok}
 
 pub push_past-requires-clause-own : goal.push_past-requires-clause-own
 push_past-requires-clause-own g c =
@@ -24,7 +25,7 @@ returns-clause-text g c =
     c.in_ok-push_line.ensures ∙ ap (λ (s : Setup). old ++ turn_line word shown.turn (digest s shown)) c.setup-setup.ensures
     ∙ ap (λ (s : State). old ++ turn_line word s.turn (digest same s)) (c.scene.ensures.state ∙ taken) in
     let last : c.setup-setup.result.now ≡ setup = c.setup-setup.ensures ∙ c.in_ok-adopt.ensures.setup in
-    of_done c.push_past.result _ _
+    on_ok c.push_past.result _ _
     (λ rest. begun_lines word setup same state (setup.turns - state.turn) old middle new c.in_ok-adopt.ensures.setup c.requires.own line
     (rest ∙ ap (λ (s : State). middle ++ past_lines word same (suc s.turn) (c.setup-setup.result.now.turns - s.turn)) taken
     ∙ ap (λ (s : Setup). middle ++ past_lines word same (suc state.turn) (s.turns - state.turn)) last)) c.push_past.ensures.text

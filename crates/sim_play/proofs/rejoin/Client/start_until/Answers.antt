@@ -1,8 +1,9 @@
 -- The board was started, has its first line, and is played on.
-use Rattle.sim_play.proofs.{Past.begun_lines, Past.of_done, Past.own_start, Starting.started_turn, Starting.started_valid}
+use Rattle.sim_play.proofs.{Past.begun_lines, Past.own_start, Starting.started_turn, Starting.started_valid}
 use Rattle.sim_play.proofs.Common.{State, state_in, subst, sym, turn_line, ◌∙◌}
 use Rattle.sim_play.proofs.Common.{◌≡◌, ℕ, suc, ◌-◌, ◌++◌, string_bytes, after, ap, arith, digest, IsValid, own_turns, past_lines, Setup, setup_in}
 use Rattle.sim_play.proofs.rejoin.Client.start_until.Goals as goal
+use Rattle.sim_base.proofs.Lists.{on_ok}
 
 pub push_past-requires-clause-goes_on : goal.push_past-requires-clause-goes_on
 push_past-requires-clause-goes_on g c = record {
@@ -38,7 +39,7 @@ returns-clause-text g c =
     c.in_ok-push_line.ensures ∙ ap (λ (s : Setup). old ++ turn_line word shown.turn (digest s shown)) c.setup.ensures
     ∙ ap (λ (s : State). old ++ turn_line word s.turn (digest same s)) c.scene.ensures.state in
     let whole : c.args.turn - 0 ≡ c.args.turn = omega arith in
-    of_done c.push_past.result _ _
+    on_ok c.push_past.result _ _
     (λ rest. begun_lines word setup same state (c.args.turn - state.turn) old middle (string_bytes c.push_past.new.out) c.in_ok-start.ensures.setup
     (own_start setup state c.in_ok-start.ensures.state) line rest
     ∙ ap (λ (k : ℕ). old ++ past_lines word setup k (suc (c.args.turn - k))) zero_turn ∙ ap (λ (k : ℕ). old ++ past_lines word setup 0 (suc k)) whole)

@@ -1,10 +1,8 @@
 -- One cell more has no label.
 use Rattle.std.proofs.lemmas.List.Elements.{All-contains, All-more}
-use Rattle.sim_search.proofs.{Added.gone_through, Cells.same_or_not}
-use Rattle.sim_search.proofs.Common.{◌≡◌, ℕ, ◌≢◌, ◌⊎◌, List, All-weaker, Cell, Contains, Contains-get_or, get_or, inl, inr, None, subst}
-use Rattle.sim_search.proofs.Common.{sym, take, ⊎_elim, ◌∙◌}
+use Rattle.{sim_grid.proofs.Beside.same_or_not, sim_search.proofs.Added.gone_through, sim_search.specs.Floods.label_in}
+use Rattle.sim_search.proofs.Common.{◌≡◌, ℕ, ◌≢◌, ◌⊎◌, List, All-weaker, Cell, Contains, Contains-get_or, get_or, inl, inr, None, subst, sym, take, ⊎_elim, ◌∙◌}
 use Rattle.sim_search.proofs.labels.Labels.forget.Goals as goal
-use Rattle.sim_search.specs.Floods.{label_in}
 
 pub loop-cell-preserved : goal.loop-cell-preserved
 loop-cell-preserved c = record {

@@ -1,5 +1,5 @@
 -- Nothing was kept of an entity that is born.
-use Rattle.sim_watch.proofs.{Aiming.born_noted, Aiming.meant_by, Aiming.on_ok, Common.◌∙◌}
+use Rattle.{sim_base.proofs.Lists.on_ok, sim_watch.proofs.Aiming.born_noted, sim_watch.proofs.Aiming.meant_by, sim_watch.proofs.Common.◌∙◌}
 use Rattle.sim_watch.proofs.watch.WatchSystem.on.Goals as goal
 
 pub returns-in-Born-clause-ok : goal.returns-in-Born-clause-ok

@@ -1,11 +1,12 @@
 -- A valid state has no more bytes than any may have: 75, and 573 for each row.
-use Rattle.sim_session.proofs.Common.{All-head, All-tail, arith, attack_bytes, attack_part, clock_bytes, cons_option, entity_bytes, entity_part, flag_bytes}
-use Rattle.sim_session.proofs.Common.{HasShortWay, health_bytes, health_part, i32_bytes, IsSetup, IsShort, IsShortState, IsValid, length-append}
-use Rattle.sim_session.proofs.Common.{length-i32_bytes, length-moving_bytes, length-u16_bytes, length-u32_bytes, length-u64_bytes, Motion, motion_part}
-use Rattle.sim_session.proofs.Common.{moving_bytes, owner_bytes, owner_part, Point, point_bytes, position_bytes, position_part, Row, rows_with, section}
-use Rattle.sim_session.proofs.Common.{sections, Setup, short_ways, spelling, stance_bytes, stance_part, State, suc-mul, u16_bytes, u32_bytes, u64_bytes}
-use Rattle.sim_session.proofs.Common.{version}
-use Rattle.sim_session.proofs.Common.{◌≡◌, ℕ, suc, ◌+◌, ◌*◌, ◌≤◌, List, [], ◌∷◌, ◌++◌, length, IfSome, Some, None, codes, All, flat_map, Option, option_map}
+use Rattle.sim_client.proofs.SpellingWords.{All-head, All-tail, arith, attack_bytes, attack_part, clock_bytes, cons_option, entity_bytes, entity_part, flag_bytes}
+use Rattle.sim_client.proofs.SpellingWords.{HasShortWay, health_bytes, health_part, i32_bytes, IsSetup, IsShort, IsShortState, IsValid, length-append}
+use Rattle.sim_client.proofs.SpellingWords.{length-i32_bytes, length-moving_bytes, length-u16_bytes, length-u32_bytes, length-u64_bytes, Motion, motion_part}
+use Rattle.sim_client.proofs.SpellingWords.{moving_bytes, owner_bytes, owner_part, point_bytes, position_bytes, position_part, Row, rows_with, section}
+use Rattle.sim_client.proofs.SpellingWords.{sections, Setup, short_ways, spelling, stance_bytes, stance_part, State, suc-mul, u16_bytes, u32_bytes, u64_bytes}
+use Rattle.sim_client.proofs.SpellingWords.{version}
+use Rattle.sim_client.proofs.SpellingWords.{◌≡◌, ℕ, suc, ◌+◌, ◌*◌, ◌≤◌, List, [], ◌∷◌, ◌++◌, length, IfSome, Some, None, codes, All, flat_map, Option, option_map}
+use Rattle.sim_wire.proofs.Lengths.{length_of_point}
 
 -- the rows of a section, each of at most so many bytes
 rows_few : {X : Type 0} (most : ℕ) (spelled : ℕ × X → List ℕ) (part : Row → Option X) (rows : List Row)
@@ -30,9 +31,6 @@ moving : (id : ℕ) (o : Option Motion) → IfSome o IsShort → IfSome o (λ x.
 moving id None short = tt
 moving id (Some m) short = length-moving_bytes (id, m) short
 
-point_long : (p : Point) → length (point_bytes p) ≡ 8
-point_long p = omega (arith, length-append (i32_bytes p.x) (i32_bytes p.z), length-i32_bytes p.x, length-i32_bytes p.z)
-
 section_long : {X : Type 0} (tag : ℕ) (spelled : X → List ℕ) (rows : List X) → length (section tag spelled rows) ≡ 5 + length (flat_map spelled rows)
 section_long tag spelled rows = omega (arith, length-append (u32_bytes (length rows)) (flat_map spelled rows), length-u32_bytes (length rows))
 
@@ -48,7 +46,7 @@ sections_few rows short =
     let a = rows_few 6 entity_bytes entity_part rows
     (λ row h. omega (arith, length-append (u32_bytes row.id) (u16_bytes row.template), length-u32_bytes row.id, length-u16_bytes row.template)) short in
     let b = rows_few 12 position_bytes position_part rows
-    (λ row h. omega (arith, length-append (u32_bytes row.id) (point_bytes row.at), length-u32_bytes row.id, point_long row.at)) short in
+    (λ row h. omega (arith, length-append (u32_bytes row.id) (point_bytes row.at), length-u32_bytes row.id, length_of_point row.at)) short in
     let c = rows_few 5 owner_bytes owner_part rows (λ row h. omega (arith, length-append (u32_bytes row.id) (row.owner ∷ []), length-u32_bytes row.id)) short in
     let d = rows_few 8 health_bytes health_part rows
     (λ row h. have health_bytes 8 row.id row.health

@@ -1,0 +1,19 @@
+-- The rows of a valid state lie on the largest ground.
+use Rattle.std.proofs.{Common.MatchOption, Common.Some, Common.None, Common.All, Common.Option, Common.List, lemmas.List.Elements.All-weaker}
+use Rattle.sim_base.{proofs.GroundPoints.inside_placed, specs.Limits.IsSetup, specs.Rows.template_of, specs.Validity.IsKnownRow, specs.Validity.IsValid}
+use Rattle.sim_base.specs.{Validity.IsValidRow, declared.setup.Setup.Setup, declared.state.Row.Row, declared.state.State.State}
+use Rattle.sim_base.specs.declared.template.Template.{Template}
+use Rattle.sim_trail.specs.Marks.{IsPlacedRow}
+
+-- a row's template is known
+pub known_row : {P : Template → Type 0} (o : Option Template) → MatchOption o ⊥ P → (t : Template) × P t
+known_row None h = absurd h
+known_row (Some t) h = (t, h)
+
+pub row_placed : (setup : Setup) (rows : List Row) (row : Row) → IsSetup setup → IsKnownRow 1 setup rows row → IsPlacedRow row
+row_placed setup rows row limits known = let (t, valid) = known_row {P = IsValidRow 1 setup rows row} (template_of setup row) known in
+    inside_placed setup row.at limits valid.at
+
+pub rows_placed : (setup : Setup) (state : State) → IsSetup setup → IsValid setup state → All IsPlacedRow state.rows
+rows_placed setup state limits valid = All-weaker (IsKnownRow 1 setup state.rows) IsPlacedRow (λ row known. row_placed setup state.rows row limits known)
+    state.rows valid.rows
