@@ -1,7 +1,6 @@
 -- Where a point lies that is on a ground: its cell is one of the ground's, and it is a point of the largest ground.
 use Rattle.std.proofs.Common.{◌≡◌, ℕ, ◌*◌, ◌/◌, ◌<◌, ◌≤◌, true, ℤ, pos, negsuc, ◌≤ℤ◌, ◌<ℤ◌, IsTrue, unsigned_abs, int_lt, int_le, arith, ltb-true, sym}
-use Rattle.std.proofs.Common.{true≢false}
-use Rattle.std.proofs.lemmas.{Bool.and_parts, Int.ints, Nat.div_below}
+use Rattle.std.proofs.{Common.true≢false, lemmas.Bool.and_parts, lemmas.Int.ints, lemmas.Nat.div_below}
 use Rattle.sim_base.specs.{Limits.IsLand, Limits.IsSetup, Places.is_inside, Places.is_within, Places.IsPlaced, Rows.size_of, Validity.IsInside}
 use Rattle.sim_base.specs.declared.{place.Point.Point, setup.Land.Land, setup.Setup.Setup}
 

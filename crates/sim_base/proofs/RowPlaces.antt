@@ -1,7 +1,6 @@
 -- Among rows whose ids ascend, an id stands once: later ones are above it, and the first row of an id is the one that was found.
 use Rattle.std.proofs.Common.{◌≡◌, ℕ, zero, suc, ◌<◌, ◌≤◌, Bool, true, false, ◌≢◌, List, [], ◌∷◌, map, length, get_or, ◌==◌, Some, None, HoldsAt, All, find}
-use Rattle.std.proofs.Common.{refl, ap, arith}
-use Rattle.std.proofs.Common.{eq-eqb, ne_eqb, ⊎_elim, ◌∙◌}
+use Rattle.std.proofs.Common.{refl, ap, arith, eq-eqb, ne_eqb, ⊎_elim, ◌∙◌}
 use Rattle.std.proofs.lemmas.{Bool.cases_lt, List.get_or-map, List.length-map, List.Kept.AllPairs-from_increasing}
 use Rattle.{sim_base.specs.Rows.id_of, sim_base.specs.declared.state.Row.Row, std.specs.List.Sorted.IsStrictlyIncreasing}
 

@@ -1,8 +1,7 @@
 -- Aims by which rows keep their targets, one after another.
 use Rattle.sim_base.specs.declared.change.Change.TheVariants as change
-use Rattle.sim_board.proofs.Common.{AllFit, applied, AreFed, Change, fitting_keeps_loose, found, IsSetup, IsLooselyValid, Row, row_of, Setup}
-use Rattle.sim_board.proofs.Common.{State, Aim, subst, sym, target_of, MatchOption, ◌∙◌}
-use Rattle.sim_board.proofs.Common.{◌≡◌, ℕ, suc, ◌+◌, ◌<◌, List, ◌∷◌, length, get_or, drop, Some, None, Option, refl, ap}
+use Rattle.sim_board.proofs.Common.{AllFit, applied, AreFed, Change, fitting_keeps_loose, found, IsSetup, IsLooselyValid, Row, row_of, Setup, State, Aim, subst}
+use Rattle.sim_board.proofs.Common.{sym, target_of, MatchOption, ◌∙◌, ◌≡◌, ℕ, suc, ◌+◌, ◌<◌, List, ◌∷◌, length, get_or, drop, Some, None, Option, refl, ap}
 use Rattle.sim_board.proofs.Feeding.{all_fed_same, same_aim}
 use Rattle.std.proofs.Common.{add-one}
 use Rattle.{sim_board.specs.ChangeKinds.KeepsTarget, sim_board.specs.Leading.LeadsOn, std.proofs.Math.Seq.drop-cons, sim_system.specs.Meanings.Systems}

@@ -2,7 +2,7 @@
 --     word                      how a handle lies in the machine
 --     handle_in, handle_out     what a handle owns is what is owned at its address, and the other way
 --     either                    an address that holds nothing is null, and one that holds a value is not, and may be compared with null
-use Rattle.std.proofs.Common.{◌≡◌, ℕ, List, [], ◌∷◌, ◌++◌, refl, subst}
+use Rattle.std.proofs.{Common.[], Common.List, Common.refl, Common.subst, Common.ℕ, Common.◌++◌, Common.◌∷◌, Common.◌≡◌, GlobalToken.dealloc_token-Testable}
 use seplogic.Ra.Ura.{Ura}
 use mir.Raw.{raw as bare}
 use mir.Val.{Val, vstruct, vcons, vnil, of_list}
@@ -17,19 +17,13 @@ use denote.Memory.{lone}
 use denote.RawPtr.{Ptr, block_ptr, null_ptr, ptr_val, in_a_block, Testable}
 use denote.Param.Laws.{Laws}
 use denote.Steps.{nothing}
-use denote.Struct.Struct.{within}
-use denote.Struct.Owning.{shape}
-use Rattle.std.specs.Ptr.{points_to}
-use Rattle.std.specs.declared.alloc.Global.{Global}
-use Rattle.std.specs.declared.option.Option.{Option}
-use Rattle.std.specs.declared.option.Option.TheVariants.{None, Some}
+use denote.Struct.{Owning.shape, Struct.within}
+use Rattle.std.specs.{contracts.impls.GlobalAllocator.TheImpl.ghosts, Ptr.points_to}
+use Rattle.std.specs.declared.{alloc.Global.Global, option.Option.Option, option.Option.TheVariants.None, option.Option.TheVariants.Some}
 use Rattle.std.specs.contracts.alloc.Global as heap
-use Rattle.std.specs.contracts.impls.GlobalAllocator.TheImpl.{ghosts}
-use Rattle.std.proofs.GlobalToken.{dealloc_token-Testable}
 use Rattle.std.proofs.alloc.Global.TheLaws as heap_laws
 use Rattle.sim_c.proofs.Parts as parts
-use Rattle.sim_c.specs.Owned.{Value, handle_owns}
-use Rattle.sim_c.specs.contracts.handle.Handle.{the_row as H, the_type}
+use Rattle.sim_c.specs.{contracts.handle.Handle.the_row as H, contracts.handle.Handle.the_type, Owned.handle_owns, Owned.Value}
 pub use Rattle.sim_held.specs.contracts.held.Held.{the_row as R}
 
 abbrev pub Z : RattleType

@@ -16,15 +16,10 @@ use denote.Builtin.{RawPtr}
 use denote.Memory.{lone}
 use denote.RawPtr.{Ptr, block_ptr, null_ptr, ptr_val, in_a_block}
 use denote.Steps.{nothing}
-use denote.Param.{layout}
-use denote.Param.Laws.{Laws}
-use denote.Struct.Struct.{within}
-use denote.Struct.Owning.{shape}
-use Rattle.std.specs.declared.alloc.Allocator.{Ghosts}
-use Rattle.std.proofs.alloc.Calls.{Al, handle_tells}
-use Rattle.std.proofs.cell.Inside.{Good}
-use Rattle.std_alloc.specs.Box.Ownership.{box_owns}
-use Rattle.std_alloc.proofs.ResultValues.{and_tt}
+use denote.Param.{Laws.Laws, layout}
+use denote.Struct.{Owning.shape, Struct.within}
+use Rattle.std.{proofs.alloc.Calls.Al, proofs.alloc.Calls.handle_tells, proofs.cell.Inside.Good, specs.declared.alloc.Allocator.Ghosts}
+use Rattle.std_alloc.{proofs.ResultValues.and_tt, specs.Box.Ownership.box_owns}
 use Rattle.sim_c.specs.contracts.kept.Kept as kept
 
 abbrev pub pair : Ptr → Val → Val

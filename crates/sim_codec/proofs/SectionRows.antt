@@ -1,7 +1,6 @@
 -- What the rows have in a section is what is read there, entity by entity of the first section.
-use Rattle.sim_codec.proofs.Common.{◌≡◌, ℕ, zero, suc, true, List, take, is_some, slice_get, Some, None, Option, refl, ap}
-use Rattle.sim_codec.proofs.Common.{cons_option, filter_map, first_chunks, Parts, parts_at, Reader, Row, row_of, rows_at, rows_in, subst, sym, Template}
-use Rattle.sim_codec.proofs.Common.{Version, Walk}
+use Rattle.sim_codec.proofs.Common.{◌≡◌, ℕ, zero, suc, true, List, take, is_some, slice_get, Some, None, Option, refl, ap, cons_option, filter_map}
+use Rattle.sim_codec.proofs.Common.{first_chunks, Parts, parts_at, Reader, Row, row_of, rows_at, rows_in, subst, sym, Template, Version, Walk}
 use Rattle.sim_codec.proofs.{FirstSection.entity_is, TakenRows.can_next, TakenRows.first_of, TakenRows.must_go_on, TakenRows.next_row, TakenRows.no_more}
 use Rattle.sim_codec.specs.Taken.{next_in, parts_in}
 

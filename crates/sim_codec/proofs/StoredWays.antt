@@ -1,8 +1,7 @@
 -- A way whose points stand partly in memory and partly in bytes.
 use Rattle.std.proofs.lemmas.List.Elements.{All-append, All-map}
-use Rattle.sim_codec.proofs.Common.{arith, false≢true, length-append, length-map, sym, ◌∙◌}
-use Rattle.sim_codec.proofs.Common.{◌≡◌, ◌+◌, ◌≤◌, Bool, true, false, ◌↔◌, List, [], ◌∷◌, ◌++◌, map, length, IsTrue, All, All-from_recursion, AllByRecursion}
-use Rattle.sim_codec.proofs.Common.{recursion_from_All}
+use Rattle.sim_codec.proofs.Common.{arith, false≢true, length-append, length-map, sym, ◌∙◌, ◌≡◌, ◌+◌, ◌≤◌, Bool, true, false, ◌↔◌, List, [], ◌∷◌, ◌++◌, map}
+use Rattle.sim_codec.proofs.Common.{length, IsTrue, All, All-from_recursion, AllByRecursion, recursion_from_All}
 
 apart : {X : Type 0} (P : X → Type 0) (xs ys : List X) → AllByRecursion P (xs ++ ys) → AllByRecursion P xs × AllByRecursion P ys
 apart P [] ys h = (tt, h)

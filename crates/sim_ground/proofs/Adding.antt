@@ -2,10 +2,8 @@
 use Rattle.sim_ground.proofs.Common.{◌≡◌, ℕ, Bool, true, false, cond, not, ◌&&◌, ◌||◌, ◌⊎◌, List, [], ◌∷◌, ◌++◌, is_some, Option, refl, ap, inl, inr}
 use Rattle.sim_ground.proofs.Common.{arith, Cell, is_open_at, IsOnGround, OpenCells, same_cell, same_cell-true, subst, sym, ◌∙◌}
 use Rattle.sim_ground.specs.Mended.{AddsTurned, Closes, is_turned}
-use Rattle.sim_search.specs.Mending.{IsMore, labelled}
-use Rattle.sim_search.proofs.Mending.{over}
-use Rattle.std.proofs.Common.{Contains}
-use Rattle.std.proofs.lemmas.List.Elements.{Contains-append_left, Contains-push, Contains-push_cases}
+use Rattle.sim_search.{proofs.Mending.over, specs.Mending.IsMore, specs.Mending.labelled}
+use Rattle.std.proofs.{Common.Contains, lemmas.List.Elements.Contains-append_left, lemmas.List.Elements.Contains-push, lemmas.List.Elements.Contains-push_cases}
 
 module _ (g : OpenCells) (label : Cell → Option ℕ) where
   pub adds_nothing : (among : Cell → Bool) (xs : List Cell) → ((c : Cell) → among c ≡ false) → AddsTurned g label among xs xs

@@ -1,10 +1,9 @@
 -- Layers over cells, one cell after another.
 use Rattle.sim_ground.proofs.Common.{AreAtMost, AreOpenWhereNone, arith, Cell, count_by-le-length, count_by_more_no, count_by_more_yes, get_or-replicate}
 use Rattle.sim_ground.proofs.Common.{LayersChange, LayersRise, length-replicate, length-set, length-take, MayChange, MayStep, most_layers, mul-add-lt}
-use Rattle.sim_ground.proofs.Common.{get_or-set_other, get_or-set_same, get_or_default, in_row, in_rows, is_open_at, IsGrid, IsOnGround, layers_at}
-use Rattle.sim_ground.proofs.Common.{nat_tests, one_if, OpenCells, place_of, same_by_parts, same_cell, same_cell-true, same_from_place, Size, Steps, subst, sym}
-use Rattle.sim_ground.proofs.Common.{◌∙◌}
-use Rattle.sim_ground.proofs.Common.{◌≡◌, ℕ, ◌+◌, ◌*◌, ◌<◌, ◌≤◌, Bool, true, false, ◌||◌, List, length, get_or, take, set, replicate, ◌==◌, count_by, refl, ap}
+use Rattle.sim_ground.proofs.Common.{get_or-set_other, get_or-set_same, get_or_default, in_row, in_rows, is_open_at, IsGrid, IsOnGround, layers_at, nat_tests}
+use Rattle.sim_ground.proofs.Common.{one_if, OpenCells, place_of, same_by_parts, same_cell, same_cell-true, same_from_place, Size, Steps, subst, sym, ◌∙◌, ◌≡◌}
+use Rattle.sim_ground.proofs.Common.{ℕ, ◌+◌, ◌*◌, ◌<◌, ◌≤◌, Bool, true, false, ◌||◌, List, length, get_or, take, set, replicate, ◌==◌, count_by, refl, ap}
 use Rattle.sim_ground.proofs.Stretches.{row_apart, row_has, row_more, row_next, rows_apart, rows_has, rows_more, rows_next}
 
 -- ---- steps

@@ -1,17 +1,7 @@
 -- One cell more of a row, and one row more of a ground.
 use Rattle.sim_ground.proofs.Common.{Cell, filter-append, flat_map-append, fold-append, map-append, range_with_len, row_of, rows_of, sym, ◌∙◌}
-use Rattle.sim_ground.proofs.Common.{◌≡◌, ℕ, zero, suc, ◌+◌, Bool, true, false, cond, List, [], ◌∷◌, ◌++◌, map, fold, filter, flat_map, ap, append-nil, arith}
+use Rattle.sim_ground.proofs.Common.{◌≡◌, ℕ, ◌+◌, Bool, true, false, cond, List, [], ◌∷◌, ◌++◌, map, fold, filter, flat_map, ap, append-nil, arith}
 use Rattle.sim_base.proofs.Lists.{range_with_len_more}
-
-    by : (a n : ℕ) → range_with_len a (suc n) ≡ range_with_len a n ++ (a + n) ∷ []
-    by a zero = ap (λ (k : ℕ). k ∷ []) (same a)
-      where
-        same : (a : ℕ) → a ≡ a + 0
-        same a = omega arith
-    by a (suc n) = ap (λ (ks : List ℕ). a ∷ ks) (by (a + 1) n ∙ ap (λ (k : ℕ). range_with_len (a + 1) n ++ k ∷ []) (shift a n))
-      where
-        shift : (a n : ℕ) → a + 1 + n ≡ a + suc n
-        shift a n = omega arith
 
 pub row-more : (z n : ℕ) → row_of z (n + 1) ≡ row_of z n ++ record { x = n; z = z } ∷ []
 row-more z n = ap (map (λ (x : ℕ). record { x = x; z = z })) (range_with_len_more 0 n ∙ ap (λ (k : ℕ). range_with_len 0 n ++ k ∷ []) (same n)) ∙

@@ -9,8 +9,7 @@ use Rattle.sim_session.specs.Standing.{Seen, StandsFor, StandsForSome}
 use Rattle.sim_talk.proofs.Talking.{after_lines-more, answered_all, answered_more, ended_so, Extends-nothing, stopped_amid, stopped_first}
 use Rattle.sim_talk.proofs.Talking.{caused, conversed, unbegun, unheard_behind, unmade_answer, untold_answer}
 use Rattle.sim_talk.specs.Dialogues.{after_lines, Causes, dialogue, EndsAs, TellsText}
-use Rattle.sim_talk.specs.Talks.{Extends, heard, Hears, History, Tells, told}
-use Rattle.sim_talk.specs.declared.{fault.TalkFault.TalkFault}
+use Rattle.sim_talk.specs.{declared.fault.TalkFault.TalkFault, Talks.Extends, Talks.heard, Talks.Hears, Talks.History, Talks.Tells, Talks.told}
 use Rattle.sim_talk.specs.declared.fault.TalkFault.TheVariants as ends
 
 -- some lines were answered, and the session stands for that over their steps

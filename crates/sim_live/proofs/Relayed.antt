@@ -9,8 +9,7 @@ use Rattle.sim_live.specs.Relays.{answer, AnswersAll, end_lines, first_text, las
 use Rattle.sim_talk.proofs.Talking.{after_lines-more, answered_all, answered_more, ended_so, Extends-nothing, stopped_amid}
 use Rattle.sim_talk.proofs.Talking.{caused, conversed, stopped_first, unheard_behind, unmade_answer, untold_answer}
 use Rattle.sim_talk.specs.Dialogues.{after_lines, Causes, dialogue, EndsAs, TellsText}
-use Rattle.sim_talk.specs.Talks.{Extends, heard, Hears, History, Tells, told}
-use Rattle.sim_talk.specs.declared.{fault.TalkFault.TalkFault}
+use Rattle.sim_talk.specs.{declared.fault.TalkFault.TalkFault, Talks.Extends, Talks.heard, Talks.Hears, Talks.History, Talks.Tells, Talks.told}
 use Rattle.sim_talk.specs.declared.fault.TalkFault.TheVariants as ends
 
 -- some lines were answered, and the server stands for all that has arrived

@@ -1,7 +1,6 @@
 -- No walk costs less than the octile distance, nor than what a search knows that has come to a key.
-use Rattle.sim_path.proofs.Common.{Cell, cost_in, Costs, estimate-falls, estimate_to, Field, Front, go, HasCost, inl, inr, IsEstimate, IsFloor, IsFront}
+use Rattle.sim_path.proofs.Common.{Cell, cost_in, Costs, estimate-falls, estimate_to, Field, Front, go, HasCost, inl, inr, IsEstimate, IsFloor, IsFront, Walk}
 use Rattle.sim_path.proofs.Common.{IsSearch, IsStep, known_or, octile, octile-near, octile-self, octile_from, Ready, Search, stay, subst, sym, taken_in, turned}
-use Rattle.sim_path.proofs.Common.{Walk}
 use Rattle.sim_path.proofs.Common.{◌≡◌, ℕ, ◌+◌, ◌-◌, ◌<◌, ◌≤◌, min, max, Bool, true, false, ◌⊎◌, Some, None, Option, refl, Aim, arith, beside_of, cases_Bool}
 
 octile-rises : (field : Field) (start a b : Cell) (k : ℕ) → IsStep field start a b k → octile b start ≤ octile a start + k

@@ -1,8 +1,7 @@
 -- A board that was started stands at turn 0.
-use Rattle.sim_play.proofs.Common.{IsWholeBy, setup_in, state_in}
+use Rattle.sim_play.proofs.Common.{IsWholeBy, setup_in, state_in, own_turns, play_text, Setup, State, subst, sym, turn_lines, ◌∙◌, ◌≡◌, ℕ, suc, ◌-◌, [], after}
 use Rattle.{sim_board.specs.declared.board.Board.Board, sim_play.specs.Playing.HasBegunBy, sim_system.specs.Meanings.Meaning}
-use Rattle.sim_play.proofs.Common.{own_turns, play_text, Setup, State, subst, sym, turn_lines, ◌∙◌}
-use Rattle.sim_play.proofs.Common.{◌≡◌, ℕ, suc, ◌-◌, [], after, after_counts_turns, ap, arith, first_state, first_state_is_valid, from, IsSetup, IsValid}
+use Rattle.sim_play.proofs.Common.{after_counts_turns, ap, arith, first_state, first_state_is_valid, from, IsSetup, IsValid}
 
 module _ (setup same : Setup) (state : State) (of_same : same ≡ setup) (is : state ≡ first_state setup) where
   pub started_valid : IsSetup setup → IsValid same state

@@ -3,8 +3,7 @@ use Rattle.sim_replay.proofs.Common.{◌≡◌, ℕ, ◌+◌, ◌<◌, ◌==◌,
 use Rattle.sim_replay.proofs.Common.{header_line, length-slice_split, log_of, log_of_parts, LogFault, Meets, next_or_refused, nothing, parts_of}
 use Rattle.sim_replay.proofs.Common.{read_parts, Reading, refl, Refused, Setup, sym, taken, ◌∙◌}
 use Rattle.sim_replay.proofs.Whole.{alone, behind_header, last_of, other_header, step}
-use Rattle.sim_replay.specs.declared.fault.LogFault.TheVariants.{OutOfMemory}
-use Rattle.sim_replay.specs.{Meets.Tells, Reading.IsFirstLine}
+use Rattle.sim_replay.specs.{declared.fault.LogFault.TheVariants.OutOfMemory, Meets.Tells, Reading.IsFirstLine}
 
 -- bytes have a part at least
 some_part : (bytes : List ℕ) → 0 < length (parts_of bytes)

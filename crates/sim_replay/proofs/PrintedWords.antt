@@ -1,10 +1,9 @@
 -- Printed numbers and ids are words, and are read as themselves.
-use Rattle.sim_replay.proofs.{Common.text_of, Common.w32, Common.◌∙◌, Options.bind_some}
+use Rattle.sim_replay.proofs.{Common.slice_split, Common.sym, Common.text_of, Common.w32, Common.◌∙◌, Options.bind_some}
 use Rattle.sim_replay.proofs.Common.{and_left, and_parts, ap, append-nil, append_assoc, are_numerals, arith, below, cond-false, cond-true, decimal_nonempty}
 use Rattle.sim_replay.proofs.Common.{digits_decimal, digits_value, digits_value-decimal, div_ceil, five_digits, fraction_text, ids_of, ids_text, ints, is_digit}
 use Rattle.sim_replay.proofs.Common.{drop, ℤ, pos, negsuc, ◌==◌, int_lt, FitsSigned, Some, codes, bytes_eq, decimal, flat_map, refl, AllByRecursion, and_from}
 use Rattle.sim_replay.proofs.Common.{is_name_byte, leb-true, list_all, lt-ltb, magnitude_text, natural_of, naturals_of, ne_eqb, next_id, option_map}
-use Rattle.sim_replay.proofs.Common.{slice_split, sym}
 use Rattle.sim_replay.proofs.Common.{◌≡◌, ℕ, suc, ◌*◌, ◌/◌, ◌%◌, ◌^◌, ◌<◌, ◌≤◌, Bool, true, false, cond, eqb, ltb, leb, List, [], ◌∷◌, ◌++◌, map, length}
 use Rattle.sim_replay.proofs.Cuts.{all-append, all-drop, all-weaker, digit_is_name, digit_is_no_comma, split_first, split_whole}
 

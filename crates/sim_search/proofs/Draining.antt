@@ -1,13 +1,12 @@
 -- What a lowered cost, a taken cell and an emptied bucket leave of a search by buckets, for every estimate that guides it.
 use Rattle.sim_search.proofs.Taking.{all-found, cost-least, goes-on, lowers, takes, walk-found}
 use Rattle.sim_search.proofs.{Moves.direction-of, Moves.step-of, Octile.walk-even}
-use Rattle.sim_search.proofs.Common.{IsGuide, IsKept, IsLowered, IsSearch, IsStep, Lowers, Progress, Ready, Search, set-get_or, Size, size_of, stay}
-use Rattle.sim_search.proofs.Common.{cases_Bool, cases_eq, cases_lt, Cell, Contains-append_left, Contains-push_cases, IsEarly, Contains-push, cost_in, Drains}
-use Rattle.sim_search.proofs.Common.{Empties, entry_at, eq-or-lt_of_le}
-use Rattle.sim_search.proofs.Common.{Expands, Field, get_or-set_other, get_or-set_same, HasCost, HasStopped, inl, inr, IsComeTo, IsCost}
-use Rattle.sim_search.proofs.Common.{get_or, set, Some, None, Contains, count_by, Option, refl, ap, ap₂, AreCosts, AreCostsUpTo, arith, Begins, bucket_in}
-use Rattle.sim_search.proofs.Common.{step_cost, step_to, subst, sym, taken_in, takens, Takes, true≢false, untaken, Waits, Walk, ⊎_elim, ◌∙◌}
-use Rattle.sim_search.proofs.Common.{◌≡◌, ℕ, zero, suc, ◌+◌, ◌-◌, ◌*◌, ◌%◌, ◌<◌, ◌≤◌, Bool, true, false, cond, not, ◌≢◌, ◌⊎◌, List, [], ◌∷◌, ◌++◌, length}
+use Rattle.sim_search.proofs.Common.{IsGuide, IsKept, IsLowered, IsSearch, IsStep, Lowers, Progress, Ready, Search, set-get_or, Size, size_of, stay, cases_Bool}
+use Rattle.sim_search.proofs.Common.{cases_eq, cases_lt, Cell, Contains-append_left, Contains-push_cases, IsEarly, Contains-push, cost_in, Drains, Empties}
+use Rattle.sim_search.proofs.Common.{entry_at, eq-or-lt_of_le, Expands, Field, get_or-set_other, get_or-set_same, HasCost, HasStopped, inl, inr, IsComeTo}
+use Rattle.sim_search.proofs.Common.{IsCost, get_or, set, Some, None, Contains, count_by, Option, refl, ap, ap₂, AreCosts, AreCostsUpTo, arith, Begins}
+use Rattle.sim_search.proofs.Common.{bucket_in, step_cost, step_to, subst, sym, taken_in, takens, Takes, true≢false, untaken, Waits, Walk, ⊎_elim, ◌∙◌, ◌≡◌, ℕ}
+use Rattle.sim_search.proofs.Common.{zero, suc, ◌+◌, ◌-◌, ◌*◌, ◌%◌, ◌<◌, ◌≤◌, Bool, true, false, cond, not, ◌≢◌, ◌⊎◌, List, [], ◌∷◌, ◌++◌, length}
 use Rattle.{sim_base.proofs.Lists.nothing_in, sim_grid.proofs.Beside.same_or_not}
 
 ring-length : (s : Search) → length s.buckets.items ≡ 32

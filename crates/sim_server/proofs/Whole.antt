@@ -1,8 +1,7 @@
 -- A server stays whole, and what it was stands in what it becomes.
 use Rattle.sim_server.proofs.Common.{IsSeated, IsWhole, kept_step, least_done, least_in, Made, Makes, moved, Out, OutOfMemory, PlayerCommand, post_list, PostOf}
 use Rattle.sim_server.proofs.Common.{Ok, Err, Option, Result, refl, Ahead, ahead_after, ahead_heard, AllByRecursion, and_parts, append-nil, arith, Arrival}
-use Rattle.sim_server.proofs.Common.{View}
-use Rattle.sim_server.proofs.Common.{asked_one, command_of, Cut, done_fault, entry_done, final, Heard, heard, In, is_accepted, is_out, IsClient, IsLater}
+use Rattle.sim_server.proofs.Common.{View, asked_one, command_of, Cut, done_fault, entry_done, final, Heard, heard, In, is_accepted, is_out, IsClient, IsLater}
 use Rattle.sim_server.proofs.Common.{raised_to, release, released_rises, Rules, seat, sender, Server, server_of, Status, status_in, subst, sym, takes_state}
 use Rattle.sim_server.proofs.Common.{◌≡◌, ℕ, ◌<◌, ◌≤◌, min, Bool, true, false, ◌&&◌, List, [], ◌∷◌, map, length, set, if◌then◌else◌, nat_lt, nat_le, ◌==◌, None}
 use Rattle.sim_server.proofs.Made.{is_cut, is_done, joins, opens, seated_cut, seated_set, seated_start, takes_it, waiting_client}

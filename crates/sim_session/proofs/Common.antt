@@ -9,9 +9,8 @@ pub use Rattle.std.proofs.lemmas.Bool.{and_from, cases_eq, cases_lt, cond-false,
 pub use Rattle.std.proofs.lemmas.List.{drop-map, get_or-map, get_or-replicate, get_or_append_left, length-map, length-replicate, length-set, map-append}
 pub use Rattle.std.proofs.lemmas.List.Elements.{All-append, All-cons, All-drop, All-head, All-nil, All-set, All-tail}
 pub use Rattle.std.specs.Prelude.{IfOk, OnOk, IsOk}
-pub use Rattle.sim_base.specs.{Spelling.spelling, Validity.IsValid}
-pub use Rattle.sim_base.specs.{Limits.HasFewIds, Limits.IsSetup, declared.command.Command.Command, declared.setup.Setup.Setup}
-pub use Rattle.sim_base.specs.{Rows.row_of, Turn.after, Turn.bent, Turn.may_bend, Turn.Past}
+pub use Rattle.sim_base.specs.{Spelling.spelling, Validity.IsValid, Limits.HasFewIds, Limits.IsSetup, declared.command.Command.Command}
+pub use Rattle.sim_base.specs.{declared.setup.Setup.Setup, Rows.row_of, Turn.after, Turn.bent, Turn.may_bend, Turn.Past}
 pub use Rattle.sim_base.specs.declared.{memory.OutOfMemory.OutOfMemory, state.State.State, step.Event.Event, step.Step.Step}
 pub use Rattle.sim_client.{proofs.Standing.anyway, specs.ClientWords.Answers, specs.ClientWords.HasDigest, specs.ClientWords.LoadsFrom}
 pub use Rattle.{sim_client.specs.ClientWords.may_load, sim_client.specs.ClientWords.Tells, sim_plain_session.proofs.GoingOn.session_goes_on}

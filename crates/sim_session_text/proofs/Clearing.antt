@@ -4,9 +4,8 @@ use Rattle.std.proofs.{Math.ListN.set, lemmas.List.Elements.All-append, lemmas.L
 use Rattle.std.proofs.{Common.drop, lemmas.List.drop-map, lemmas.List.get_or-map}
 use Rattle.std.proofs.{lemmas.List.map-set, lemmas.List.take-append-drop, lemmas.List.Elements.All-drop, lemmas.List.Elements.All-set}
 use Rattle.{sim_client.specs.StageWords.AreCleared, sim_session_text.specs.Rigs.AreBuiltAtMost}
-use Rattle.sim_session_text.proofs.{Builds.all_built_so, Builds.never_built}
+use Rattle.sim_session_text.proofs.{Builds.all_built_so, Builds.never_built, Common.All, Common.AllBuiltAtMost, Common.nowhere, Common.Systems}
 use Rattle.sim_session_text.proofs.Common.{◌≡◌, ℕ, ◌+◌, ◌-◌, ◌<◌, List, [], ◌∷◌, map, length, get_or, take, refl, ap, arith, sym, subst, ◌∙◌}
-use Rattle.sim_session_text.proofs.Common.{All, AllBuiltAtMost, nowhere, Systems}
 use Rattle.sim_system.specs.Meanings.{all_cleared, HaveKinds}
 
 forgotten : (s : Systems) → AreCleared (all_cleared s)

@@ -1,6 +1,5 @@
 -- What is heard of a line, by how its bytes were poured.
-use Rattle.std.proofs.{Common.subst, Common.sym, Common.◌∙◌}
-use Rattle.std.proofs.Common.{◌≡◌, ℕ, ◌<◌, Bool, true, false, List, [], ◌++◌, length, Ok, Err, Option, Result, refl}
+use Rattle.std.proofs.Common.{subst, sym, ◌∙◌, ◌≡◌, ℕ, ◌<◌, Bool, true, false, List, [], ◌++◌, length, Ok, Err, Option, Result, refl}
 use Rattle.std.specs.{Io.KnownBytes.Consumes, Io.KnownBytes.IsAtEnd, Io.KnownBytes.Keeps, Io.KnownBytes.prepend_known, Str.IsUtf8}
 use Rattle.sim_talk.proofs.Pouring.{at_end, taken_all, taken_kept, taken_much, taken_piece, taken_whole, within_more}
 use Rattle.sim_talk.specs.{LineTalk.Ends, LineTalk.IsText, declared.fault.HearFault.HearFault}

@@ -1,6 +1,6 @@
 -- What passed, and then what passed behind it; and one line more is answered behind those that were.
 use Rattle.{sim_store.specs.Counts.raised, sim_store.specs.Counts.Rose, sim_store.specs.declared.fault.Failed.Failed}
-use Rattle.sim_talk.specs.{declared.fault.TalkFault.TalkFault, Lines.feed, Lines.ReadCounts}
+use Rattle.sim_talk.specs.{declared.fault.TalkFault.TalkFault, Lines.feed, Lines.ReadCounts, Lines.IsCause, declared.fault.HearFault.HearFault}
 use Rattle.std.{proofs.Common.◌∙◌, proofs.Math.Seq.take-length, proofs.Math.Seq.take-nil, specs.Prelude.⊤}
 use Rattle.std.specs.Io.KnownBytes.{Appends, Consumes, IsAtEnd}
 use Rattle.std.proofs.Common.{◌≡◌, ℕ, ◌-◌, ◌^◌, ◌<◌, List, [], ◌∷◌, ◌++◌, length, take, Some, None, Ok, Err, Option}
@@ -9,7 +9,6 @@ use Rattle.sim_talk.specs.Dialogues.{after_lines, AnswersLines, Causes, Converse
 use Rattle.sim_talk.specs.Dialogues.{amid_answer, answer_part, before_line, first_part, IsUntold, last_part, no_answer, no_first, no_last, no_line}
 use Rattle.sim_talk.specs.Talks.{Extends, Grows, HasLost, heard, heard_bytes, Hears, History, IsBeginning, Loses, Misses, part_of, Passed, Says}
 use Rattle.sim_talk.specs.Talks.{Tells, told, told_bytes, Writes, WritesAll}
-use Rattle.sim_talk.specs.{Lines.IsCause, declared.fault.HearFault.HearFault}
 use Rattle.sim_talk.specs.declared.fault.TalkFault.TheVariants as ends
 
 -- ---- the parts of a history

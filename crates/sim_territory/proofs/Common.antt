@@ -14,9 +14,8 @@ pub use Rattle.std.proofs.lemmas.List.Elements.{All-cons, All-get_or, All-head, 
 pub use Rattle.std.proofs.lemmas.List.FromFn.{get_or-map-range_with_len, get_or-range_with_len, length-map-range_with_len, length-range_with_len}
 pub use Rattle.std.specs.{List.flat_map, Prelude.find, Prelude.unwrap_or, Prelude.option_map, Prelude.option_and_then}
 pub use Rattle.std.specs.Prelude.{not, ◌&&◌, ◌||◌, IfSome, nat_lt, nat_le, ◌==◌, slice_get, slice_range, vec_len, codes, sum_by, count_by, filter}
-pub use Rattle.sim_base.proofs.ExampleMatches.{hut, no_id}
+pub use Rattle.sim_base.{proofs.ExampleMatches.hut, proofs.ExampleMatches.no_id, specs.Places.same_cell, specs.Validity.IsKnownRow, specs.Validity.IsValidRow}
 pub use Rattle.sim_base.specs.{Limits.IsFrom, Limits.IsTemplate, Rows.template_of, declared.state.Row.Row}
-pub use Rattle.sim_base.specs.{Places.same_cell, Validity.IsKnownRow, Validity.IsValidRow}
 pub use Rattle.sim_laws.proofs.{Ground.same_cell-self, Ground.same_cell-true, Neighbours.neighbour-on, WayInside.inside-on_ground}
 pub use Rattle.sim_territory.specs.{Floods.work_left, Influence.base_of, Influence.influence, Influence.reach_of, Influence.share, Influence.strength}
 pub use Rattle.sim_territory.specs.{Holders.has_most, Holders.holder, Holders.holder_by, Holders.IsHolder, Rooted.roots_among, Rooted.roots_of}
@@ -30,6 +29,5 @@ pub use Rattle.sim_territory.specs.Rooted.{AreRooted, first, flag_at, held_groun
 pub use Rattle.sim_territory.specs.Tables.{AreShifted, coming, FitShifts, FitsShift, HasShapeOf, in_part, IsMarkIn, IsPlaceIn, IsShifted, IsSummed, leaving}
 pub use Rattle.sim_territory.specs.Tables.{mark_in, MayMove, MaySumsMove, Moves, share_by, share_where, size_in, sum_at, sum_place, SumsMove}
 pub use Rattle.sim_territory.specs.declared.{building.Building.Building, flood.Flood.Flood, sums.Sums.Sums}
-pub use Rattle.sim_trail.proofs.{Rising.marks_ascend, Summing.sum_follows}
-pub use Rattle.sim_trail.specs.{Marks.IsAscending, Marks.mark_of, Sums.SumFollows}
+pub use Rattle.sim_trail.{proofs.Rising.marks_ascend, proofs.Summing.sum_follows, specs.Marks.IsAscending, specs.Marks.mark_of, specs.Sums.SumFollows}
 unfoldable pub use Rattle.sim_trail.specs.Shifts.{shifts_between}

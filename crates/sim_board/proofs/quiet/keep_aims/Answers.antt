@@ -1,7 +1,6 @@
 -- One more is made. At the end the rows are put back.
 use Rattle.sim_board.proofs.Common.{◌≡◌, ℕ, List, drop, refl, ap, Row, State, subst, sym, ◌+◌, ◌∙◌}
-use Rattle.sim_board.proofs.Quieting.{all_left, one_kept}
-use Rattle.sim_board.specs.Leading.{LeadsOn}
+use Rattle.sim_board.{proofs.Quieting.all_left, proofs.Quieting.one_kept, specs.Leading.LeadsOn}
 use Rattle.std.proofs.Common.{Global, Vec}
 use Rattle.sim_board.proofs.quiet.keep_aims.Goals as goal
 use Rattle.sim_board.proofs.quiet.keep_aims.Goals.{else-loop-change-test, then-loop-change-test+in_default}

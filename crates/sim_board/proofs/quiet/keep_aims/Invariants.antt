@@ -1,6 +1,5 @@
 -- Those that are made lead on to the rows as they are.
-use Rattle.sim_board.proofs.Common.{◌≡◌, drop}
-use Rattle.sim_board.specs.Leading.{LeadsOn}
+use Rattle.sim_board.{proofs.Common.drop, proofs.Common.◌≡◌, specs.Leading.LeadsOn}
 use Rattle.sim_board.proofs.quiet.keep_aims.Given as goal
 
 abbrev pub invariant-loop-change : goal.invariant-loop-change

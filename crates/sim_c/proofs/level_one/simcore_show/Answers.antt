@@ -1,7 +1,6 @@
 -- What is answered is the answer of the call below, in the words of its definition.
 use Rattle.sim_c.{proofs.Mapped.mapped_cause, proofs.Mapped.mapped_is, specs.Gives.mapped}
-use Rattle.std.proofs.{Common.rules, Common.w32, lemmas.Int.to_z-of_z}
-use Rattle.std.specs.Prelude.{string_bytes}
+use Rattle.std.{proofs.Common.rules, proofs.Common.w32, proofs.lemmas.Int.to_z-of_z, specs.Prelude.string_bytes}
 use mir.Val.{SFits}
 use Rattle.sim_c.proofs.level_one.simcore_show.Goals as goal
 

@@ -1,6 +1,5 @@
 -- What is answered is the stamp of the match, for which no memory is wanted.
-use Rattle.std.proofs.{Common.rules, Common.w32, lemmas.Int.to_z-of_z}
-use Rattle.std.specs.Prelude.{Ok, Some}
+use Rattle.std.{proofs.Common.rules, proofs.Common.w32, proofs.lemmas.Int.to_z-of_z, specs.Prelude.Ok, specs.Prelude.Some}
 use mir.Val.{SFits}
 use Rattle.sim_c.proofs.looks.game_stamp.Goals as goal
 

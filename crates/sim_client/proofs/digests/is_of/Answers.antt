@@ -1,6 +1,5 @@
 -- What is kept of an equal state of an equal match is of this one.
-use Rattle.sim_client.proofs.Common.{State, subst}
-use Rattle.sim_client.specs.Kept.{AreDigests}
+use Rattle.sim_client.{proofs.Common.State, proofs.Common.subst, specs.Kept.AreDigests}
 use Rattle.sim_client.proofs.digests.is_of.Goals as goal
 
 pub returns-then-is_of_match : goal.returns-then-is_of_match

@@ -1,6 +1,5 @@
 -- Whoever tells what is left has told all.
-use Rattle.sim_codec.proofs.Common.{length, flat_map, Tells}
-use Rattle.sim_codec.specs.Taken.{parts_in}
+use Rattle.sim_codec.{proofs.Common.flat_map, proofs.Common.length, proofs.Common.Tells, specs.Taken.parts_in}
 use Rattle.sim_codec.proofs.stored.tell_parts.Given as goal
 
 abbrev pub invariant-entities : goal.invariant-entities

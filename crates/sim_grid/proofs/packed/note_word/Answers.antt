@@ -1,6 +1,5 @@
 -- One bit is set or cleared, and the others stay.
-use Rattle.std.proofs.lemmas.List.{get_or_default}
-use Rattle.std.proofs.lemmas.Nat.Bits.{bit_at_clear_other, bit_at_clear_same, bit_at_set_other, bit_at_set_same}
+use Rattle.std.proofs.lemmas.{List.get_or_default, Nat.Bits.bit_at_clear_other, Nat.Bits.bit_at_clear_same, Nat.Bits.bit_at_set_other, Nat.Bits.bit_at_set_same}
 use Rattle.std.proofs.Common.{ℕ, ◌/◌, ◌%◌, ◌<◌, length, nat_eq, ap, arith, sym, w64, ◌∙◌}
 use Rattle.std.specs.Int.{bit_at}
 use Rattle.sim_grid.proofs.Words.{packed_with}

@@ -1,6 +1,5 @@
 -- The cells that are listed are those that were closed.
-use Rattle.sim_ground.proofs.{Adding.closed_cells}
-use Rattle.sim_ground.proofs.Common.{List, Cell, covers, field_of_grid, label_in, subst, sym}
+use Rattle.sim_ground.proofs.{Adding.closed_cells, Common.Cell, Common.covers, Common.field_of_grid, Common.label_in, Common.List, Common.subst, Common.sym}
 use Rattle.sim_ground.proofs.mended.closed.Goals as goal
 use Rattle.sim_search.specs.Mending.{IsMore, labelled}
 

@@ -1,8 +1,7 @@
 -- One cell more is added, if it was turned.
-use Rattle.sim_ground.proofs.{Adding.adds_more, Adding.adds_nothing, Stretches.row_more, Stretches.row_none}
+use Rattle.sim_ground.{proofs.Adding.adds_more, proofs.Adding.adds_nothing, proofs.Stretches.row_more, proofs.Stretches.row_none, specs.Mended.AddsTurned}
 use Rattle.sim_ground.proofs.Common.{◌≡◌, ◌+◌, arith, Cell, in_row, label_in, same_cell, subst, ℕ}
 use Rattle.sim_ground.proofs.mended.push_row.Goals as goal
-use Rattle.sim_ground.specs.Mended.{AddsTurned}
 
 pub loop-x-init : goal.loop-x-init
 loop-x-init c = record {

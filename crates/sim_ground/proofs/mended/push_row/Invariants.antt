@@ -1,6 +1,5 @@
-use Rattle.sim_ground.proofs.Common.{◌≤◌, in_row, label_in}
+use Rattle.sim_ground.{proofs.Common.in_row, proofs.Common.label_in, proofs.Common.◌≤◌, specs.Mended.AddsTurned}
 use Rattle.sim_ground.proofs.mended.push_row.Given as goal
-use Rattle.sim_ground.specs.Mended.{AddsTurned}
 
 abbrev pub invariant-loop-x : goal.invariant-loop-x
 invariant-loop-x l = record {

@@ -1,8 +1,7 @@
 -- The cells of one row more are added, if they were turned.
-use Rattle.sim_ground.proofs.{Adding.adds_more, Adding.adds_nothing, Stretches.rows_more, Stretches.rows_none}
+use Rattle.sim_ground.{proofs.Adding.adds_more, proofs.Adding.adds_nothing, proofs.Stretches.rows_more, proofs.Stretches.rows_none, specs.Mended.AddsTurned}
 use Rattle.sim_ground.proofs.Common.{◌≡◌, ◌+◌, arith, in_row, in_rows, label_in, subst, ℕ}
 use Rattle.sim_ground.proofs.mended.push_rows.Goals as goal
-use Rattle.sim_ground.specs.Mended.{AddsTurned}
 
 pub loop-z-init : goal.loop-z-init
 loop-z-init c = record {

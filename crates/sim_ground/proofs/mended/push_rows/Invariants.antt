@@ -1,6 +1,5 @@
-use Rattle.sim_ground.proofs.Common.{◌≤◌, in_rows, label_in}
+use Rattle.sim_ground.{proofs.Common.in_rows, proofs.Common.label_in, proofs.Common.◌≤◌, specs.Mended.AddsTurned}
 use Rattle.sim_ground.proofs.mended.push_rows.Given as goal
-use Rattle.sim_ground.specs.Mended.{AddsTurned}
 
 abbrev pub invariant-loop-z : goal.invariant-loop-z
 invariant-loop-z l = record {

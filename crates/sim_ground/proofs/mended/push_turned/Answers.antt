@@ -1,8 +1,7 @@
 -- The cell is added where it was turned.
-use Rattle.sim_ground.proofs.Adding.{adds_cell, adds_none}
+use Rattle.sim_ground.{proofs.Adding.adds_cell, proofs.Adding.adds_none, specs.Mended.AddsTurned}
 use Rattle.sim_ground.proofs.Common.{List, Cell, label_in, same_cell, subst, sym, ◌∙◌}
 use Rattle.sim_ground.proofs.mended.push_turned.Goals as goal
-use Rattle.sim_ground.specs.Mended.{AddsTurned}
 
 pub returns-in_ok-push : goal.returns-in_ok-push
 returns-in_ok-push c =

@@ -1,8 +1,7 @@
 -- The cells between are those of the rectangle.
-use Rattle.sim_ground.proofs.{Adding.adds_same, Stretches.rect_is}
+use Rattle.sim_ground.{proofs.Adding.adds_same, proofs.Stretches.rect_is, specs.Mended.AddsTurned}
 use Rattle.sim_ground.proofs.Common.{[], List, Cell, arith, covers, in_rows, label_in, rules, SFits, subst, to_z-of_z, w32}
 use Rattle.sim_ground.proofs.mended.turned_in.Goals as goal
-use Rattle.sim_ground.specs.Mended.{AddsTurned}
 
 pub returns : goal.returns
 returns c =

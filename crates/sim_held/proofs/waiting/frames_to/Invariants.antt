@@ -1,6 +1,5 @@
 -- The frames of the lists so far.
-use Rattle.sim_held.proofs.Common.{◌≡◌, take}
-use Rattle.sim_held.specs.Servers.{frames_for}
+use Rattle.sim_held.{proofs.Common.take, proofs.Common.◌≡◌, specs.Servers.frames_for}
 use Rattle.sim_held.proofs.waiting.frames_to.Given as goal
 
 abbrev pub invariant-loop-posts : goal.invariant-loop-posts

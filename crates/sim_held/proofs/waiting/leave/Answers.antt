@@ -1,6 +1,5 @@
 -- What waits for others is as it was, and has frames.
-use Rattle.sim_held.proofs.Common.{ap, subst, sym, ◌∙◌}
-use Rattle.sim_held.proofs.Serving.{own_left}
+use Rattle.sim_held.proofs.{Common.ap, Common.subst, Common.sym, Common.◌∙◌, Serving.own_left}
 use Rattle.sim_held.proofs.Waits.{full_small, full_waits, others_small, others_wait}
 use Rattle.sim_held.specs.Servers.{AreSmall, waiting}
 use Rattle.sim_held.proofs.waiting.leave.Goals as goal

@@ -1,9 +1,8 @@
 -- What a line asks for is read first, and then answered.
-use Rattle.{sim_live.specs.Live.answer_to, sim_live.specs.Live.steps_with, sim_live.specs.LineWords.IsLine, sim_live.specs.LineWords.line_of}
+use Rattle.sim_live.specs.{declared.line.Line.Line, LineWords.IsLine, LineWords.line_of, Live.answer_to, Live.steps_with}
 use Rattle.{sim_plain_session.specs.Sessions.session, sim_session.specs.SessionWords.seen_in, sim_session.specs.Standing.StandsFor}
 use Rattle.std.proofs.Common.{◌≡◌, ℕ, List, ◌++◌, length, ap, subst, ◌∙◌}
 use Rattle.sim_base.specs.declared.setup.Setup.{Setup}
-use Rattle.sim_live.specs.declared.line.Line.{Line}
 use Rattle.sim_live.proofs.answering.answer.Goals as goal
 
 pub push_answer-requires-clause-line : goal.push_answer-requires-clause-line

@@ -1,6 +1,5 @@
 -- The board took the state.
-use Rattle.sim_play.proofs.Playing.{came}
-use Rattle.sim_play.proofs.Common.{◌≡◌, ℕ, ◌-◌, OnOk, ap, arith, from, IsValid, later_of}
+use Rattle.sim_play.proofs.{Common.ap, Common.arith, Common.from, Common.IsValid, Common.later_of, Common.OnOk, Common.ℕ, Common.◌-◌, Common.◌≡◌, Playing.came}
 use Rattle.sim_play.proofs.Common.{own_turns, Setup, setup_in, State, state_in, subst, sym, vision_after, ◌∙◌}
 use Rattle.sim_play.proofs.following.adopt_following.Goals as goal
 

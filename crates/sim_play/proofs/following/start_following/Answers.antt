@@ -1,6 +1,5 @@
 -- The board was started, and its first state followed.
-use Rattle.sim_play.proofs.Playing.{came}
-use Rattle.sim_play.proofs.{Later.from_the_start, Starting.started_turn, Starting.started_until, Starting.started_valid}
+use Rattle.sim_play.proofs.{Later.from_the_start, Playing.came, Starting.started_turn, Starting.started_until, Starting.started_valid}
 use Rattle.sim_play.proofs.Common.{◌≡◌, ◌-◌, OnOk, ap, arith, IsValid, later_of, Setup, setup_in, state_in, subst, sym, vision_after, vision_next, ◌∙◌}
 use Rattle.sim_play.proofs.following.start_following.Goals as goal
 

@@ -1,6 +1,5 @@
 -- The cells so far are counted.
-use Rattle.std.proofs.Common.{◌≡◌, ℕ, ◌<◌, ◌==◌, get_or, take}
-use Rattle.std.specs.Prelude.{count_by}
+use Rattle.std.{proofs.Common.get_or, proofs.Common.take, proofs.Common.ℕ, proofs.Common.◌<◌, proofs.Common.◌==◌, proofs.Common.◌≡◌, specs.Prelude.count_by}
 use Rattle.sim_play.proofs.holdings.held.Given as goal
 
 abbrev pub invariant-loop-holder : goal.invariant-loop-holder

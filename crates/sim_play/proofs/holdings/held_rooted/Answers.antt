@@ -1,8 +1,6 @@
 -- A cell more is counted, if it is rooted; and all cells of both lists, side by side, are at the end.
 use Rattle.std.proofs.Common.{◌≡◌, ℕ, ◌+◌, ◌<◌, ◌≤◌, Bool, true, false, ◌==◌, ◌&&◌, List, get_or, length, take, refl, ap, arith, sym, ◌∙◌}
-use Rattle.std.proofs.lemmas.List.{take_all}
-use Rattle.std.proofs.lemmas.List.Sums.{sum_by_more}
-use Rattle.std.proofs.lemmas.Slice.Zip.{get_or-zip, length-zip}
+use Rattle.std.proofs.lemmas.{List.take_all, List.Sums.sum_by_more, Slice.Zip.get_or-zip, Slice.Zip.length-zip}
 use Rattle.std.specs.Prelude.{count_by, if◌then◌else◌, zip}
 use Rattle.sim_play.proofs.holdings.held_rooted.Goals as goal
 use Rattle.sim_play.proofs.holdings.held_rooted.Goals.{then-rooted-cell, else-rooted-cell}

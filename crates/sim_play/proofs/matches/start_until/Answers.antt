@@ -1,7 +1,5 @@
 -- The board was started.
-use Rattle.sim_play.proofs.Playing.{came}
-use Rattle.sim_play.proofs.Common.{arith}
-use Rattle.sim_play.proofs.Starting.{started_turn, started_until, started_valid}
+use Rattle.sim_play.proofs.{Common.arith, Playing.came, Starting.started_turn, Starting.started_until, Starting.started_valid}
 use Rattle.sim_play.proofs.matches.start_until.Goals as goal
 
 pub play-requires-clause-valid : goal.play-requires-clause-valid

@@ -1,6 +1,5 @@
 -- What is left differs first where the whole lists do.
-use Rattle.sim_replay.proofs.Common.{◌≡◌, ◌+◌, length, first_apart}
-use Rattle.sim_replay.proofs.Aparts.{apart_from}
+use Rattle.sim_replay.proofs.{Aparts.apart_from, Common.first_apart, Common.length, Common.◌+◌, Common.◌≡◌}
 use Rattle.sim_replay.proofs.apart.search.Given as goal
 
 abbrev pub invariant-loop-rest : goal.invariant-loop-rest

@@ -1,10 +1,8 @@
 -- The first line ends at the first line feed.
-use Rattle.std.proofs.lemmas.List.{length-drop, length-take, Splits.slice_split_first}
-use Rattle.std.specs.List.{position}
+use Rattle.std.{proofs.lemmas.List.length-drop, proofs.lemmas.List.length-take, proofs.lemmas.List.Splits.slice_split_first, specs.List.position}
 use Rattle.sim_replay.proofs.Common.{◌≡◌, ℕ, ◌+◌, ◌-◌, ◌<◌, ◌≤◌, Bool, true, false, cond, not, ltb, List, [], ◌∷◌, length, take, drop, ◌==◌, Some, None}
 use Rattle.sim_replay.proofs.Common.{ap, arith, ltb-false, ltb-true, onto_first, parts_of, position_or_len, refl, slice_split-cons_no, sym, take_all, ◌∙◌}
-use Rattle.sim_replay.proofs.Options.{passed}
-use Rattle.sim_replay.specs.Reading.{IsFirstLine}
+use Rattle.sim_replay.{proofs.Options.passed, specs.Reading.IsFirstLine}
 use Rattle.sim_replay.proofs.read.first_line.Goals as goal
 
 -- with no line feed the bytes are the one part

@@ -1,9 +1,8 @@
 -- The lines are read as their parts are.
 use Rattle.std.specs.Option.{ok_or}
-use Rattle.sim_replay.proofs.Common.{◌≡◌, ℕ, Err, Some, None, Option, Result, ap, arith, cond-false, cond-true, Log, LogFault, log_in, Meets, nothing, or_refused, parts_of, read_parts, refl, subst, sym, ◌∙◌}
-use Rattle.sim_replay.proofs.Parts.{read_line, read_rest, refused_meets}
-use Rattle.sim_replay.proofs.Whole.{last_of}
-use Rattle.sim_replay.specs.Meets.{Tells}
+use Rattle.sim_replay.proofs.Common.{◌≡◌, ℕ, Err, Some, None, Option, Result, ap, arith, cond-false, cond-true, Log, LogFault, log_in, Meets, nothing}
+use Rattle.sim_replay.proofs.Common.{or_refused, parts_of, read_parts, refl, subst, sym, ◌∙◌}
+use Rattle.sim_replay.{proofs.Parts.read_line, proofs.Parts.read_rest, proofs.Parts.refused_meets, proofs.Whole.last_of, specs.Meets.Tells}
 use Rattle.sim_replay.proofs.read.lines_of.Goals as goal
 
 log_meets : (found : Option Log) (fault : LogFault) (number : ℕ) → Tells fault number → Meets (ok_or found fault) (or_refused number found)

@@ -1,9 +1,7 @@
 -- Digits alone are read as the number that they spell, where that fits.
-use Rattle.std.proofs.{lemmas.Str.Parse.parse_digits}
-use Rattle.std.specs.{Result.OkIff, Str.Parse.ParsesUnsigned}
-use Rattle.sim_replay.proofs.Common.{natural_of, refl, result_ok, sym, ◌∙◌}
-use Rattle.sim_replay.proofs.Common.{◌≡◌, ℕ, ◌^◌, ◌<◌, Bool, true, false, cond, ◌&&◌, ltb, List, length, Ok, Err, Some, None, Result, and_from, ap}
-use Rattle.sim_replay.proofs.Common.{are_numerals, below, cond-true, digits_value, is_digit, list_all, lt-ltb, ltb-true}
+use Rattle.std.{proofs.lemmas.Str.Parse.parse_digits, specs.Result.OkIff, specs.Str.Parse.ParsesUnsigned}
+use Rattle.sim_replay.proofs.Common.{natural_of, refl, result_ok, sym, ◌∙◌, ◌≡◌, ℕ, ◌^◌, ◌<◌, Bool, true, false, cond, ◌&&◌, ltb, List, length, Ok, Err, Some}
+use Rattle.sim_replay.proofs.Common.{None, Result, and_from, ap, are_numerals, below, cond-true, digits_value, is_digit, list_all, lt-ltb, ltb-true}
 use Rattle.sim_replay.proofs.words.natural.Goals as goal
 
 parsed : {E : Type 0} (text : List ℕ) (r : Result ℕ E) → list_all is_digit text ≡ true → ParsesUnsigned 32 10 text r → result_ok r ≡ natural_of text

@@ -1,6 +1,5 @@
 -- The words that are left are read as all of them are.
-use Rattle.sim_replay.proofs.Common.{◌≡◌, map, length, naturals_of, word_text}
-use Rattle.sim_replay.proofs.Naturals.{naturals_behind}
+use Rattle.sim_replay.proofs.{Common.length, Common.map, Common.naturals_of, Common.word_text, Common.◌≡◌, Naturals.naturals_behind}
 use Rattle.sim_replay.proofs.words.naturals.Given as goal
 
 abbrev pub invariant-loop-rest : goal.invariant-loop-rest

@@ -1,6 +1,5 @@
 -- The costs from an open cell are the distances to it.
-use Rattle.sim_search.proofs.Common.{Cell, cost_in, field_of_grid}
-use Rattle.sim_search.proofs.Guiding.{numbers-distances, same-distances}
+use Rattle.sim_search.proofs.{Common.Cell, Common.cost_in, Common.field_of_grid, Guiding.numbers-distances, Guiding.same-distances}
 use Rattle.sim_search.proofs.goal.distances_to.Goals as goal
 use Rattle.sim_search.specs.{Distances.number_in, Rows.number_of}
 

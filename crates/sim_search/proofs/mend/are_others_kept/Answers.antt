@@ -1,9 +1,7 @@
 -- Without a rim there is nothing to join.
 use Rattle.std.proofs.lemmas.List.Elements.{All-contains}
-use Rattle.sim_search.proofs.Added.{none_listed}
-use Rattle.sim_search.proofs.Common.{inl, inr}
+use Rattle.sim_search.{proofs.Added.none_listed, proofs.Common.inl, proofs.Common.inr, specs.Floods.label_in, specs.Mending.IsNotFirst}
 use Rattle.sim_search.proofs.mend.are_others_kept.Goals as goal
-use Rattle.sim_search.specs.{Floods.label_in, Mending.IsNotFirst}
 
 pub returns-then-is_empty : goal.returns-then-is_empty
 returns-then-is_empty c = λ _. record {

@@ -1,9 +1,7 @@
 -- One cell more is not the first of its region, or the answer is no.
 use Rattle.std.proofs.lemmas.List.Elements.{All-more}
-use Rattle.sim_search.proofs.Added.{gone_through}
-use Rattle.sim_search.proofs.Common.{Contains-get_or, get_or}
+use Rattle.sim_search.{proofs.Added.gone_through, proofs.Common.Contains-get_or, proofs.Common.get_or, specs.Floods.label_in, specs.Mending.IsNotFirst}
 use Rattle.sim_search.proofs.mend.is_none_first.Goals as goal
-use Rattle.sim_search.specs.{Floods.label_in, Mending.IsNotFirst}
 
 pub is_first-requires : goal.is_first-requires
 is_first-requires c = c.requires (get_or c.args.cells.now c.loop-cell.cell-index (record { x = 0; z = 0 }))

@@ -1,8 +1,7 @@
 -- The labels of all other cells are still right.
-use Rattle.sim_search.proofs.{Common.is_open_at, Mending.closed-labels}
+use Rattle.sim_search.{proofs.Common.is_open_at, proofs.Mending.closed-labels, specs.Floods.label_in, specs.Mending.AreOpen, specs.Mending.AreOthersKept}
 use Rattle.sim_search.proofs.Common.{Cell, field_of_grid, is_some, List, subst, sym, true≢false}
 use Rattle.sim_search.proofs.mend.mend_closed.Goals as goal
-use Rattle.sim_search.specs.{Floods.label_in, Mending.AreOpen, Mending.AreOthersKept}
 
 pub are_others_kept-requires-clause-rim : goal.are_others_kept-requires-clause-rim
 are_others_kept-requires-clause-rim c = subst (AreOpen (field_of_grid c.args.grid.now)) (sym c.as_slice.ensures.value) c.in-Ok.ensures.are_open

@@ -1,9 +1,7 @@
 -- The label suits one cell more, or the answer is no.
 use Rattle.std.proofs.lemmas.List.Elements.{All-more}
-use Rattle.sim_search.proofs.Added.{gone_through}
-use Rattle.sim_search.proofs.Common.{Contains-get_or, get_or}
+use Rattle.sim_search.{proofs.Added.gone_through, proofs.Common.Contains-get_or, proofs.Common.get_or, specs.Mending.Suits}
 use Rattle.sim_search.proofs.mend.suits_all.Goals as goal
-use Rattle.sim_search.specs.Mending.{Suits}
 
 pub suits-requires : goal.suits-requires
 suits-requires c = c.requires (get_or c.args.cells.now c.loop-cell.cell-index (record { x = 0; z = 0 }))

@@ -1,6 +1,5 @@
-use Rattle.sim_search.proofs.Common.{All, take}
+use Rattle.sim_search.{proofs.Common.All, proofs.Common.take, specs.Mending.Suits}
 use Rattle.sim_search.proofs.mend.suits_all.Given as goal
-use Rattle.sim_search.specs.Mending.{Suits}
 
 abbrev pub invariant-loop-cell : goal.invariant-loop-cell
 invariant-loop-cell l = All (Suits l.labels l.grid.size l.label) (take l.cell-index l.cells)

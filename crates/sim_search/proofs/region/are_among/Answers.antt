@@ -1,7 +1,6 @@
 -- One cell more is found, or the answer is no.
 use Rattle.std.proofs.lemmas.List.Elements.{All-contains, All-more}
-use Rattle.sim_search.proofs.Added.{gone_through}
-use Rattle.sim_search.proofs.Common.{Contains}
+use Rattle.sim_search.proofs.{Added.gone_through, Common.Contains}
 use Rattle.sim_search.proofs.region.are_among.Goals as goal
 
 pub loop-cell-preserved : goal.loop-cell-preserved

@@ -1,7 +1,6 @@
 -- All of them are joined to the first one.
-use Rattle.sim_search.proofs.Added.{not_empty}
+use Rattle.sim_search.proofs.{Added.not_empty, Regions.joined-chain, Regions.joined-turned}
 use Rattle.sim_search.proofs.Common.{◌<◌, Cell, Contains, Contains-get_or, field_of_grid, get_or, length, List, subst}
-use Rattle.sim_search.proofs.Regions.{joined-chain, joined-turned}
 use Rattle.sim_search.proofs.region.are_joined_within.Goals as goal
 
 pub reached-requires-clause-on : goal.reached-requires-clause-on

@@ -1,8 +1,7 @@
 -- The open cells beside one cell more are added.
 use Rattle.std.proofs.lemmas.List.Elements.{All-contains, All-more}
-use Rattle.sim_search.proofs.Added.{gone_through}
+use Rattle.sim_search.proofs.{Added.gone_through, Common.field_of_grid, Common.IsOnGround, Common.IsOpenStep, Common.neighbour-on}
 use Rattle.sim_search.proofs.Common.{◌≡◌, ℕ, ◌⊎◌, true, List, All-weaker, Cell, Contains, get_or, take, arith, inl, inr}
-use Rattle.sim_search.proofs.Common.{field_of_grid, IsOnGround, IsOpenStep, neighbour-on}
 use Rattle.sim_search.proofs.region.rim_of.Goals as goal
 use Rattle.sim_search.specs.{Mending.IsInside, declared.region.Window.Window}
 

@@ -1,6 +1,5 @@
 -- One number more of both rows.
-use Rattle.sim_search.proofs.Common.{max, ap₂, sym, ◌∙◌}
-use Rattle.sim_search.proofs.Rows.{apart-more}
+use Rattle.sim_search.proofs.{Common.ap₂, Common.max, Common.sym, Common.◌∙◌, Rows.apart-more}
 use Rattle.sim_search.proofs.row.furthest.Goals as goal
 
 pub loop-i-preserved : goal.loop-i-preserved

@@ -1,6 +1,5 @@
 -- Rows that tell nothing are landmarks, and stay so as each is set.
-use Rattle.sim_search.proofs.Common.{Cell, cost_in, field_of_grid, ◌∙◌}
-use Rattle.sim_search.proofs.Guiding.{alike-landmarks, same-landmarks}
+use Rattle.sim_search.proofs.{Common.Cell, Common.cost_in, Common.field_of_grid, Common.◌∙◌, Guiding.alike-landmarks, Guiding.same-landmarks}
 use Rattle.sim_search.proofs.survey.landmarks_on.Goals as goal
 use Rattle.sim_search.specs.Rows.{alike, row_in}
 

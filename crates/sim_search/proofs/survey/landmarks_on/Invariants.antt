@@ -1,6 +1,5 @@
-use Rattle.sim_search.proofs.Common.{◌≡◌, field_of_grid}
+use Rattle.sim_search.{proofs.Common.field_of_grid, proofs.Common.◌≡◌, specs.Rows.AreLandmarks, specs.Rows.row_in, specs.Rows.size_by}
 use Rattle.sim_search.proofs.survey.landmarks_on.Given as goal
-use Rattle.sim_search.specs.Rows.{AreLandmarks, row_in, size_by}
 
 abbrev pub invariant-loop-which : goal.invariant-loop-which
 invariant-loop-which l = record {

@@ -1,6 +1,5 @@
 -- The costs from an open cell make a landmark.
-use Rattle.sim_search.proofs.Common.{Cell, cost_in, field_of_grid}
-use Rattle.sim_search.proofs.Guiding.{same-landmarks, set-landmarks}
+use Rattle.sim_search.proofs.{Common.Cell, Common.cost_in, Common.field_of_grid, Guiding.same-landmarks, Guiding.set-landmarks}
 use Rattle.sim_search.proofs.survey.set_to.Goals as goal
 use Rattle.sim_search.specs.Rows.{row_in, row_with}
 

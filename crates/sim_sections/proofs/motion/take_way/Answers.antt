@@ -1,6 +1,5 @@
 -- The bytes of the way are the points that are read of them.
-use Rattle.std.proofs.Common.{◌≡◌, ◌*◌, ◌/◌, length, ap, arith, ◌∙◌}
-use Rattle.std.proofs.lemmas.Result.{err_from_is_err_and}
+use Rattle.std.proofs.{Common.ap, Common.arith, Common.length, Common.◌*◌, Common.◌/◌, Common.◌∙◌, Common.◌≡◌, lemmas.Result.err_from_is_err_and}
 use Rattle.sim_sections.proofs.Ways.{front_read, length_chunks, no_front_read, no_points_read, points_read}
 use Rattle.sim_sections.proofs.motion.take_way.Goals as goal
 

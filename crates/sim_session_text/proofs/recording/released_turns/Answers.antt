@@ -2,8 +2,7 @@
 use Rattle.{sim_session.specs.SessionWords.rigs_by, sim_system.specs.Meanings.HaveKinds}
 use Rattle.sim_system.specs.RigWords.{systems_by}
 use Rattle.sim_session_text.proofs.{Builds.all_built_so, Builds.front_built, Clearing.cleared_back, Coming.all_back, Coming.same_count}
-use Rattle.sim_session_text.proofs.Common.{AllBuiltAtMost, ap, arith, builds_of, length-map, Setup, subst, sym, systems_by as clients_by, systems_on, ◌∙◌}
-use Rattle.sim_session_text.proofs.Common.{ℕ}
+use Rattle.sim_session_text.proofs.Common.{AllBuiltAtMost, ap, arith, builds_of, length-map, Setup, subst, sym, systems_by as clients_by, systems_on, ◌∙◌, ℕ}
 use Rattle.std.proofs.Common.{drop}
 use Rattle.sim_session_text.proofs.recording.released_turns.Goals as goal
 

@@ -17,19 +17,13 @@ use denote.Param.{layout}
 use denote.Signature.{types_at, type_at, plain}
 use denote.Steps.{nothing}
 use denote.Triple.Walked.{Stays, stay_dropped, walk_of, says, ends_at, Goes-dropped}
-use Rattle.std.specs.contracts.impls.GlobalAllocator.TheImpl.{ghosts}
-use Rattle.std.specs.declared.option.Option.TheVariants.{None, Some}
-use Rattle.std.proofs.alloc.Calls.{handle_tells}
-use Rattle.std.proofs.alloc.Shapes.{after}
-use Rattle.std.proofs.cell.Inside.{Good}
-use Rattle.std.proofs.option.Made.{Some-of, none_of}
+use Rattle.std.specs.{contracts.impls.GlobalAllocator.TheImpl.ghosts, declared.option.Option.TheVariants.None, declared.option.Option.TheVariants.Some}
+use Rattle.std.proofs.{alloc.Calls.handle_tells, alloc.Shapes.after, cell.Inside.Good, option.Made.none_of, option.Made.Some-of, raw_atomic.Walks.proved_at}
 use Rattle.std_alloc.proofs.ResultValues.{and_tt}
-use Rattle.std.proofs.raw_atomic.Walks.{proved_at}
 use Rattle.sim_c.proofs.Address.{K, Z, LZ, R, handle_out, either, word}
-use Rattle.sim_c.proofs.Parts.{pair, frees, pair_fits, parts_in}
+use Rattle.sim_c.proofs.{handle.Handle.into_kept.Statement.statement, Parts.frees, Parts.pair, Parts.pair_fits, Parts.parts_in}
 use Rattle.sim_c.specs.contracts.handle.Handle.{the_row as H}
 use Rattle.sim_c.specs.contracts.handle.Handle.into_kept as f
-use Rattle.sim_c.proofs.handle.Handle.into_kept.Statement.{statement}
 use Rattle.sim_c.proofs.handle.Handle.into_kept.Code as code
 
 abbrev stayed : Stays f.ended.signature.params f.ended.kept

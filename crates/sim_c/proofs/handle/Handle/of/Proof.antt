@@ -1,5 +1,5 @@
 -- `of` moves the address of the box into the handle.
-use Rattle.std.proofs.Common.{List, [], ◌∷◌, ◌++◌, refl, sym, subst}
+use Rattle.std.proofs.{Common.[], Common.List, Common.refl, Common.subst, Common.sym, Common.◌++◌, Common.◌∷◌, raw_atomic.Walks.proved_at}
 use mir.Val.{Val}
 use base.Logic.{SProp, ent, id⊢}
 use base.Fml.{ftrue}
@@ -15,14 +15,10 @@ use denote.RawPtr.{block_ptr}
 use denote.Signature.{types_at, plain}
 use denote.Steps.{nothing}
 use denote.Triple.Walked.{Stays, stay_dropped, walk_of, says, ends_at, Goes-dropped}
-use Rattle.std.specs.declared.alloc.Global.{Global}
-use Rattle.std.specs.declared.option.Option.TheVariants.{Some}
-use Rattle.std.proofs.raw_atomic.Walks.{proved_at}
+use Rattle.std.specs.{contracts.impls.GlobalAllocator.TheImpl.ghosts, declared.alloc.Global.Global, declared.option.Option.TheVariants.Some}
 use Rattle.sim_c.proofs.Address.{K, Z, LZ, R, boxed, handle_in, word}
-use Rattle.sim_c.proofs.Parts.{pair, pair_fits, parts_out}
-use Rattle.std.specs.contracts.impls.GlobalAllocator.TheImpl.{ghosts}
+use Rattle.sim_c.proofs.{handle.Handle.of.Statement.statement, Parts.pair, Parts.pair_fits, Parts.parts_out}
 use Rattle.sim_c.specs.contracts.handle.Handle.of as f
-use Rattle.sim_c.proofs.handle.Handle.of.Statement.{statement}
 use Rattle.sim_c.proofs.handle.Handle.of.Code as code
 
 abbrev stayed : Stays f.ended.signature.params f.ended.kept

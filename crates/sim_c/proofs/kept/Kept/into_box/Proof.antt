@@ -19,25 +19,14 @@ use denote.RattleType.{RattleType, owns}
 use denote.Signature.{types_at, plain}
 use denote.RawPtr.{block_ptr}
 use denote.Steps.{nothing, only}
-use denote.Param.{param, layout, bounded}
-use denote.Param.Laws.{param_laws}
-use denote.Triple.Clauses.{Lasts, lasts}
-use denote.Triple.Spec.{triple_of}
-use denote.Triple.Call.{calls_at_last}
-use denote.Triple.Table.{framed}
-use denote.Triple.Walked.{Stays, stay_dropped, walk_of}
-use Rattle.std.proofs.alloc.Calls.{Goes-blank}
-use Rattle.std.proofs.alloc.Shapes.{after}
-use Rattle.std.proofs.cell.Inside.{Good}
-use Rattle.std.proofs.raw_atomic.Walks.{proved_at, leaves}
+use denote.Param.{bounded, Laws.param_laws, layout, param}
+use denote.Triple.{Call.calls_at_last, Clauses.Lasts, Clauses.lasts, Spec.triple_of, Table.framed, Walked.stay_dropped, Walked.Stays, Walked.walk_of}
+use Rattle.std.proofs.{alloc.Calls.Goes-blank, alloc.Shapes.after, cell.Inside.Good, raw_atomic.Walks.leaves, raw_atomic.Walks.proved_at}
 use Rattle.std_alloc.proofs.BoxSteps.Form as box
-use Rattle.std_alloc.proofs.BoxSteps.Steps.{box_out, box_in}
+use Rattle.std_alloc.proofs.{boxed.Box.from_raw.Met.met, BoxSteps.Steps.box_in, BoxSteps.Steps.box_out}
 use Rattle.std_alloc.specs.contracts.boxed.Box.from_raw as made
-use Rattle.std_alloc.proofs.boxed.Box.from_raw.Met.{met}
-use Rattle.sim_c.proofs.Parts.{Parts, pair, pair_fits, parts_out}
-use Rattle.sim_c.specs.contracts.kept.Kept.into_box.{ended, clauses}
-use Rattle.sim_c.specs.contracts.kept.Kept.into_box.Key.{name}
-use Rattle.sim_c.proofs.kept.Kept.into_box.Statement.{statement}
+use Rattle.sim_c.proofs.{kept.Kept.into_box.Statement.statement, Parts.pair, Parts.pair_fits, Parts.Parts, Parts.parts_out}
+use Rattle.sim_c.specs.contracts.kept.Kept.into_box.{ended, clauses, Key.name}
 use Rattle.sim_c.proofs.kept.Kept.into_box.Code as code
 
 pub into_box_spec : {M : Type 1} → statement M

@@ -21,23 +21,15 @@ use denote.Signature.{types_at, plain}
 use denote.Builtin.{RawPtr}
 use denote.RawPtr.{Ptr, block_ptr, null_ptr, ptr_val, in_a_block}
 use denote.Steps.{nothing, only, heard}
-use denote.Param.{param, layout, bounded}
-use denote.Param.Laws.{param_laws}
+use denote.Param.{bounded, Laws.param_laws, layout, param}
 use denote.Struct.Tuple.{Tuple}
-use denote.Triple.Spec.{triple_of}
-use denote.Triple.Call.{calls_at}
-use denote.Triple.Table.{framed}
-use denote.Triple.Walked.{Stays, stay_dropped, walk_of}
-use Rattle.std.proofs.alloc.Calls.{Goes-blank, handle_tells}
-use Rattle.std.proofs.raw_atomic.Walks.{proved_at, leaves}
+use denote.Triple.{Call.calls_at, Spec.triple_of, Table.framed, Walked.stay_dropped, Walked.Stays, Walked.walk_of}
+use Rattle.std.proofs.{alloc.Calls.Goes-blank, alloc.Calls.handle_tells, raw_atomic.Walks.leaves, raw_atomic.Walks.proved_at}
 use Rattle.std_alloc.proofs.BoxSteps.Form as box
-use Rattle.std_alloc.proofs.BoxSteps.Steps.{box_out, box_in}
+use Rattle.std_alloc.proofs.{boxed.Box.into_raw_with_allocator.Met.met, BoxSteps.Steps.box_in, BoxSteps.Steps.box_out}
 use Rattle.std_alloc.specs.contracts.boxed.Box.into_raw_with_allocator as apart
-use Rattle.std_alloc.proofs.boxed.Box.into_raw_with_allocator.Met.{met}
-use Rattle.sim_c.proofs.Parts.{pair, boxed, frees, pair_fits, parts_in}
-use Rattle.sim_c.specs.contracts.kept.Kept.of.{ended, clauses}
-use Rattle.sim_c.specs.contracts.kept.Kept.of.Key.{name}
-use Rattle.sim_c.proofs.kept.Kept.of.Statement.{statement}
+use Rattle.sim_c.proofs.{kept.Kept.of.Statement.statement, Parts.boxed, Parts.frees, Parts.pair, Parts.pair_fits, Parts.parts_in}
+use Rattle.sim_c.specs.contracts.kept.Kept.of.{ended, clauses, Key.name}
 use Rattle.sim_c.proofs.kept.Kept.of.Code as code
 
 pub of_spec : {M : Type 1} → statement M

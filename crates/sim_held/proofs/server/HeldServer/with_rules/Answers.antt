@@ -1,7 +1,6 @@
 -- Nothing is kept, and nothing waits.
 use Rattle.sim_held.proofs.Common.{ap, rules, subst, sym}
-use Rattle.{sim_held.proofs.Common.All-nil, sim_held.specs.Servers.waiting}
-use Rattle.{sim_plain.specs.declared.rules.Rules.Rules, sim_server.specs.Small.IsSmallServer}
+use Rattle.{sim_held.proofs.Common.All-nil, sim_held.specs.Servers.waiting, sim_plain.specs.declared.rules.Rules.Rules, sim_server.specs.Small.IsSmallServer}
 use Rattle.sim_held.proofs.server.HeldServer.with_rules.Goals as goal
 
 pub invariant_of-result : goal.invariant_of-result

@@ -1,5 +1,4 @@
-use Rattle.sim_path.proofs.Common.{cell_of, field_of_grid, ◌∙◌}
-use Rattle.sim_path.proofs.Found.{first-of}
+use Rattle.sim_path.proofs.{Common.cell_of, Common.field_of_grid, Common.◌∙◌, Found.first-of}
 use Rattle.sim_path.proofs.answer.Searcher.way_to.Goals as goal
 
 pub way_by-way-requires-clause-first : goal.way_by-way-requires-clause-first

@@ -1,6 +1,5 @@
 -- Those that are kept are on the ground, the new ones too.
-use Rattle.std.proofs.lemmas.List.Elements.{All-push, All-set}
-use Rattle.std.specs.{Bool.if◌then◌else◌, Result.is_ok}
+use Rattle.std.{proofs.lemmas.List.Elements.All-push, proofs.lemmas.List.Elements.All-set, specs.Bool.if◌then◌else◌, specs.Result.is_ok}
 use Rattle.sim_search.specs.declared.distances.Distances.{Distances}
 use Rattle.sim_path.proofs.Common.{All, Bool, field_of_grid, false, List, subst, sym, true, [], ◌%◌, ◌++◌, ◌∷◌, ◌≡◌}
 use Rattle.sim_path.proofs.atlas.Atlas.keep.Goals as goal

@@ -1,6 +1,4 @@
-use Rattle.sim_path.proofs.{Remembering.stay_right, Remembering.with_right}
-use Rattle.sim_path.specs.Atlases.{ground_in}
-use Rattle.sim_path.proofs.Common.{arith}
+use Rattle.sim_path.{proofs.Common.arith, proofs.Remembering.stay_right, proofs.Remembering.with_right, specs.Atlases.ground_in}
 use Rattle.sim_path.proofs.remembered.Remembered.keep.Goals as goal
 
 pub invariant_of-self : goal.invariant_of-self

@@ -1,5 +1,4 @@
-use Rattle.sim_path.proofs.{Common.rules, Remembering.none_right}
-use Rattle.sim_path.specs.Atlases.{ground_in}
+use Rattle.sim_path.{proofs.Common.rules, proofs.Remembering.none_right, specs.Atlases.ground_in}
 use Rattle.sim_path.proofs.remembered.Remembered.of.Goals as goal
 
 pub invariant_of-result : goal.invariant_of-result

@@ -1,7 +1,6 @@
 -- The board was started, and its turns are those of the match.
-use Rattle.sim_play.proofs.Common.{paid_state}
+use Rattle.sim_play.proofs.Common.{paid_state, ◌≡◌, suc, ◌++◌, OnOk, string_bytes, ap, IsEconomy, paid_lines, Setup, setup_in, state_in, subst, sym}
 use Rattle.sim_play.proofs.{PaidOnes.ended_stocks, Playing.came, Starting.has_begun}
-use Rattle.sim_play.proofs.Common.{◌≡◌, suc, ◌++◌, OnOk, string_bytes, ap, IsEconomy, paid_lines, Setup, setup_in, state_in, subst, sym}
 use Rattle.sim_play.proofs.market.Market.start_lines.Goals as goal
 
 pub push_turns-requires-clause-begun : goal.push_turns-requires-clause-begun

@@ -1,10 +1,9 @@
 -- The rows are made one after another of the costs at the same places.
-use Rattle.sim_search.proofs.{Rows.entry_at-map}
+use Rattle.sim_search.{proofs.Rows.entry_at-map, specs.Rows.alike}
 use Rattle.std.proofs.lemmas.List.{map_more}
 use Rattle.sim_search.proofs.Common.{◌≡◌, ℕ, ◌≤◌, List, ◌∷◌, ◌++◌, [], map, length, take, None, Option, refl, ap, ap₂, arith, entry_at}
 use Rattle.sim_search.proofs.Common.{Costs, known, length-map, read_entry, size_of, sym, take_all, ◌∙◌}
 use Rattle.sim_search.proofs.landmarks.Landmarks.new.Goals as goal
-use Rattle.sim_search.specs.Rows.{alike}
 
 pub loop-place-preserved : goal.loop-place-preserved
 loop-place-preserved c =

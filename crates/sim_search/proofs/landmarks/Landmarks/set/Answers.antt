@@ -1,8 +1,7 @@
 -- One row more is set.
 use Rattle.sim_search.proofs.Common.{◌≡◌, ◌*◌, ◌<◌, ◌≤◌, length, None, refl, ap, ap₂, arith, entry_at, get_or_default, known, Size, ◌∙◌}
-use Rattle.sim_search.proofs.Rows.{entry_at-with, set-begins, set-more}
+use Rattle.sim_search.{proofs.Rows.entry_at-with, proofs.Rows.set-begins, proofs.Rows.set-more, specs.Rows.row_in, specs.Rows.row_with, specs.Rows.size_by}
 use Rattle.sim_search.proofs.landmarks.Landmarks.set.Goals as goal
-use Rattle.sim_search.specs.Rows.{row_in, row_with, size_by}
 
 pub loop-place-init : goal.loop-place-init
 loop-place-init c = record { size = refl; rows = set-begins c.args.which c.args.self.now.items.items (known c.args.costs.now) }

@@ -1,7 +1,5 @@
-use Rattle.sim_search.proofs.Common.{◌≡◌, known}
-use Rattle.sim_search.proofs.Rows.{AreSet}
+use Rattle.sim_search.{proofs.Common.known, proofs.Common.◌≡◌, proofs.Rows.AreSet, specs.Rows.size_by}
 use Rattle.sim_search.proofs.landmarks.Landmarks.set.Given as goal
-use Rattle.sim_search.specs.Rows.{size_by}
 
 abbrev pub invariant-loop-place : goal.invariant-loop-place
 invariant-loop-place l = record {

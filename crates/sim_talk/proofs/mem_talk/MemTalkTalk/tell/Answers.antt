@@ -1,8 +1,7 @@
 -- Of a text that does not fit, or for which there was no memory, a beginning was told, and that is counted.
 use Rattle.{sim_store.specs.Counts.raised, sim_store.specs.declared.fault.Failed.Failed, std.specs.Prelude.⊤}
 use Rattle.std.proofs.Common.{◌≡◌, ℕ, List, [], ◌∷◌, take, Ok, Err, Result, refl, append-nil, sym, ◌∙◌}
-use Rattle.sim_talk.specs.MemTalk.{history_of, KeepsTold}
-use Rattle.sim_talk.specs.Talks.{none_of, part_of, Passed, Tells, told, told_bytes}
+use Rattle.sim_talk.specs.{MemTalk.history_of, MemTalk.KeepsTold, Talks.none_of, Talks.part_of, Talks.Passed, Talks.Tells, Talks.told, Talks.told_bytes}
 use Rattle.sim_talk.proofs.mem_talk.MemTalkTalk.tell.Goals as goal
 
 told_in_part : (result : Result ⊤ Failed) (failed : Failed) (text : List ℕ) (count : ℕ) (xs ys : List Passed) (unread unwritten unwritten' : ℕ)

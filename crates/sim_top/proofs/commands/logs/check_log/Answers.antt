@@ -2,9 +2,8 @@
 use Rattle.{sim_base.specs.declared.memory.OutOfMemory.OutOfMemory, sim_base.specs.declared.command.PlayerCommand.PlayerCommand}
 use Rattle.{sim_laws.specs.CommandLaws.IsOrderOf, sim_top.proofs.Playing.is_made, sim_top.proofs.Playing.made_if}
 use Rattle.sim_top.proofs.Common.{◌≡◌, ℕ, List, IfOk, OnOk, Ok, Err, All, Result, ap, AreFed, arith, check_outcome, digests_after, Log, Setup}
-use Rattle.sim_top.proofs.Common.{state_after, subst, sym, systems_by, ◌∙◌}
+use Rattle.sim_top.{proofs.Common.state_after, proofs.Common.subst, proofs.Common.sym, proofs.Common.systems_by, proofs.Common.◌∙◌, specs.Outcome.check_by}
 use Rattle.sim_top.proofs.commands.logs.check_log.Goals as goal
-use Rattle.sim_top.specs.Outcome.{check_by}
 
 same_outcome : (r : Result (List (List ℕ)) OutOfMemory) (setup : Setup) (log : Log) (turns : List (List PlayerCommand)) → turns ≡ log.turns
     → IfOk r (λ played. played ≡ digests_after setup turns) → IfOk r (λ played. check_by log played ≡ check_outcome setup log)
