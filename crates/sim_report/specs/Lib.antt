@@ -1,3 +1,4 @@
+pub mod Appending
 pub mod Events
 pub mod Lines
 pub mod LogLines

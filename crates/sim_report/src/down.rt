@@ -1,6 +1,7 @@
 //! The messages of the server as text.
 
-ghost use Rattle.std.specs.Prelude.{◌≡◌, ◌++◌, length, take, OnOk, OnErr, string_bytes, codes, decimal, flat_map};
+ghost use Rattle.std.specs.Prelude.{◌++◌, codes, decimal, flat_map};
+ghost use Rattle.sim_report.specs.Appending.{Appends, AppendsInParts};
 ghost use Rattle.sim_report.specs.Downs.{command_text, down_text, ids_text, next_id, notice_text, order_text, turn_order_text};
 ghost use Rattle.sim_report.specs.Show.{point_text};
 
@@ -11,8 +12,7 @@ use sim_wire::Down;
 
 /// Appends a message of the server, without an end of its line, or leaves the text as it was.
 pub fn push_down(message: &Down, out: &mut String) -> Result<(), OutOfMemory>
-    ensures ok { OnOk result (string_bytes out.new ≡ string_bytes out.old ++ down_text message.now) }
-    ensures err { OnErr result (string_bytes out.new ≡ string_bytes out.old) }
+    ensures { Appends result out.old out.new (down_text message.now) }
 {
     let length = out.len();
     match append_down(message, out) {
@@ -30,8 +30,7 @@ pub fn push_turn_order(
     order: &PlayerCommand,
     out: &mut String,
 ) -> Result<(), OutOfMemory>
-    ensures ok { OnOk result (string_bytes out.new ≡ string_bytes out.old ++ turn_order_text turn order.now) }
-    ensures err { OnErr result (string_bytes out.new ≡ string_bytes out.old) }
+    ensures { Appends result out.old out.new (turn_order_text turn order.now) }
 {
     let length = out.len();
     match append_turn_order(turn, order, out) {
@@ -45,8 +44,7 @@ pub fn push_turn_order(
 
 /// Appends a message; after an error a part of it may stand behind the old text, here and below.
 pub fn append_down(message: &Down, out: &mut String) -> Result<(), OutOfMemory>
-    ensures ok { OnOk result (string_bytes out.new ≡ string_bytes out.old ++ down_text message.now) }
-    ensures err { OnErr result (take (length (string_bytes out.old)) (string_bytes out.new) ≡ string_bytes out.old) }
+    ensures { AppendsInParts result out.old out.new (down_text message.now) }
 {
     match message {
         Down::Ask { client } => append_number("ask ", u64::from(*client), out),
@@ -62,16 +60,14 @@ pub fn append_down(message: &Down, out: &mut String) -> Result<(), OutOfMemory>
 }
 
 fn append_turn_order(turn: u32, order: &PlayerCommand, out: &mut String) -> Result<(), OutOfMemory>
-    ensures ok { OnOk result (string_bytes out.new ≡ string_bytes out.old ++ turn_order_text turn order.now) }
-    ensures err { OnErr result (take (length (string_bytes out.old)) (string_bytes out.new) ≡ string_bytes out.old) }
+    ensures { AppendsInParts result out.old out.new (turn_order_text turn order.now) }
 {
     append_number("command turn ", u64::from(turn), out)?;
     append_order(order, out)
 }
 
 fn append_notice(turn: u32, client: u8, out: &mut String) -> Result<(), OutOfMemory>
-    ensures ok { OnOk result (string_bytes out.new ≡ string_bytes out.old ++ notice_text turn client) }
-    ensures err { OnErr result (take (length (string_bytes out.old)) (string_bytes out.new) ≡ string_bytes out.old) }
+    ensures { AppendsInParts result out.old out.new (notice_text turn client) }
 {
     append_number("notice ", u64::from(turn), out)?;
     append_number(" ", u64::from(client), out)?;
@@ -81,16 +77,14 @@ fn append_notice(turn: u32, client: u8, out: &mut String) -> Result<(), OutOfMem
 
 /// Appends a word and a number.
 pub fn append_number(word: &str, number: u64, out: &mut String) -> Result<(), OutOfMemory>
-    ensures ok { OnOk result (string_bytes out.new ≡ string_bytes out.old ++ (word.now ++ decimal number)) }
-    ensures err { OnErr result (take (length (string_bytes out.old)) (string_bytes out.new) ≡ string_bytes out.old) }
+    ensures { AppendsInParts result out.old out.new (word.now ++ decimal number) }
 {
     out.push_str(word)?;
     push_decimal(number, out)
 }
 
 fn append_order(order: &PlayerCommand, out: &mut String) -> Result<(), OutOfMemory>
-    ensures ok { OnOk result (string_bytes out.new ≡ string_bytes out.old ++ order_text order.now) }
-    ensures err { OnErr result (take (length (string_bytes out.old)) (string_bytes out.new) ≡ string_bytes out.old) }
+    ensures { AppendsInParts result out.old out.new (order_text order.now) }
 {
     append_number(" player ", u64::from(order.player), out)?;
     append_spaced(&order.command, out)
@@ -98,16 +92,14 @@ fn append_order(order: &PlayerCommand, out: &mut String) -> Result<(), OutOfMemo
 
 // A space and a command.
 fn append_spaced(command: &Command, out: &mut String) -> Result<(), OutOfMemory>
-    ensures ok { OnOk result (string_bytes out.new ≡ string_bytes out.old ++ (codes " " ++ command_text command.now)) }
-    ensures err { OnErr result (take (length (string_bytes out.old)) (string_bytes out.new) ≡ string_bytes out.old) }
+    ensures { AppendsInParts result out.old out.new (codes " " ++ command_text command.now) }
 {
     out.push_str(" ")?;
     append_command(command, out)
 }
 
 fn append_command(command: &Command, out: &mut String) -> Result<(), OutOfMemory>
-    ensures ok { OnOk result (string_bytes out.new ≡ string_bytes out.old ++ command_text command.now) }
-    ensures err { OnErr result (take (length (string_bytes out.old)) (string_bytes out.new) ≡ string_bytes out.old) }
+    ensures { AppendsInParts result out.old out.new (command_text command.now) }
 {
     match command {
         Command::Walk { ids, to } => {
@@ -137,8 +129,7 @@ fn append_command(command: &Command, out: &mut String) -> Result<(), OutOfMemory
 
 // A word and both coordinates.
 fn append_point(word: &str, point: Point, out: &mut String) -> Result<(), OutOfMemory>
-    ensures ok { OnOk result (string_bytes out.new ≡ string_bytes out.old ++ (word.now ++ point_text point)) }
-    ensures err { OnErr result (take (length (string_bytes out.old)) (string_bytes out.new) ≡ string_bytes out.old) }
+    ensures { AppendsInParts result out.old out.new (word.now ++ point_text point) }
 {
     out.push_str(word)?;
     write_point(point, out)
@@ -146,8 +137,7 @@ fn append_point(word: &str, point: Point, out: &mut String) -> Result<(), OutOfM
 
 /// A word and ids.
 pub fn append_ids(word: &str, ids: &Ids, out: &mut String) -> Result<(), OutOfMemory>
-    ensures ok { OnOk result (string_bytes out.new ≡ string_bytes out.old ++ (word.now ++ ids_text ids.now)) }
-    ensures err { OnErr result (take (length (string_bytes out.old)) (string_bytes out.new) ≡ string_bytes out.old) }
+    ensures { AppendsInParts result out.old out.new (word.now ++ ids_text ids.now) }
 {
     match ids.as_slice() {
         [] => {
@@ -164,8 +154,7 @@ pub fn append_ids(word: &str, ids: &Ids, out: &mut String) -> Result<(), OutOfMe
 
 // Each id behind a comma.
 fn append_more(ids: &[u32], out: &mut String) -> Result<(), OutOfMemory>
-    ensures ok { OnOk result (string_bytes out.new ≡ string_bytes out.old ++ flat_map next_id ids.now) }
-    ensures err { OnErr result (take (length (string_bytes out.old)) (string_bytes out.new) ≡ string_bytes out.old) }
+    ensures { AppendsInParts result out.old out.new (flat_map next_id ids.now) }
 {
     for id in ids {
         append_number(",", u64::from(*id), out)?;

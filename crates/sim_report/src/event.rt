@@ -1,6 +1,7 @@
 //! What a session prints of its steps, a line for each event.
 
-ghost use Rattle.std.specs.Prelude.{◌≡◌, ◌++◌, length, take, OnOk, OnErr, string_bytes};
+ghost use Rattle.std.specs.Prelude.{◌++◌};
+ghost use Rattle.sim_report.specs.Appending.{Appends, AppendsInParts};
 ghost use Rattle.sim_report.specs.{Events.client_text, Events.event_line, Events.notice_line, Events.number_line, Lines.turn_line};
 
 use crate::line::{append_number, append_turn, report_kind};
@@ -8,8 +9,7 @@ use sim_base::{Event, OutOfMemory};
 
 /// Appends the line of an event, or leaves the text as it was.
 pub fn push_event(event: &Event, out: &mut String) -> Result<(), OutOfMemory>
-    ensures ok { OnOk result (string_bytes out.new ≡ string_bytes out.old ++ event_line event.now) }
-    ensures err { OnErr result (string_bytes out.new ≡ string_bytes out.old) }
+    ensures { Appends result out.old out.new (event_line event.now) }
 {
     let length = out.len();
     match append_event(event, out) {
@@ -23,8 +23,7 @@ pub fn push_event(event: &Event, out: &mut String) -> Result<(), OutOfMemory>
 
 // After an error a part of the line may stand behind the old text, here and below.
 fn append_event(event: &Event, out: &mut String) -> Result<(), OutOfMemory>
-    ensures ok { OnOk result (string_bytes out.new ≡ string_bytes out.old ++ event_line event.now) }
-    ensures err { OnErr result (take (length (string_bytes out.old)) (string_bytes out.new) ≡ string_bytes out.old) }
+    ensures { AppendsInParts result out.old out.new (event_line event.now) }
 {
     match event {
         Event::Start { client, digest } => append_state(*client, "start", 0, digest, out),
@@ -61,8 +60,7 @@ fn append_state(
     digest: &[u8; 16],
     out: &mut String,
 ) -> Result<(), OutOfMemory>
-    ensures ok { OnOk result (string_bytes out.new ≡ string_bytes out.old ++ (client_text client ++ turn_line word.now turn digest.now)) }
-    ensures err { OnErr result (take (length (string_bytes out.old)) (string_bytes out.new) ≡ string_bytes out.old) }
+    ensures { AppendsInParts result out.old out.new (client_text client ++ turn_line word.now turn digest.now) }
 {
     append_client(client, out)?;
     append_turn(word, turn, digest, out)
@@ -70,8 +68,7 @@ fn append_state(
 
 // A client, a word and a number.
 fn append_counted(client: u8, word: &str, number: u32, out: &mut String) -> Result<(), OutOfMemory>
-    ensures ok { OnOk result (string_bytes out.new ≡ string_bytes out.old ++ (client_text client ++ number_line word.now number)) }
-    ensures err { OnErr result (take (length (string_bytes out.old)) (string_bytes out.new) ≡ string_bytes out.old) }
+    ensures { AppendsInParts result out.old out.new (client_text client ++ number_line word.now number) }
 {
     append_client(client, out)?;
     out.push_str(word)?;
@@ -82,8 +79,7 @@ fn append_counted(client: u8, word: &str, number: u32, out: &mut String) -> Resu
 
 // A client and a word with the end of the line.
 fn append_word(client: u8, word: &str, out: &mut String) -> Result<(), OutOfMemory>
-    ensures ok { OnOk result (string_bytes out.new ≡ string_bytes out.old ++ (client_text client ++ word.now)) }
-    ensures err { OnErr result (take (length (string_bytes out.old)) (string_bytes out.new) ≡ string_bytes out.old) }
+    ensures { AppendsInParts result out.old out.new (client_text client ++ word.now) }
 {
     append_client(client, out)?;
     out.push_str(word)?;
@@ -91,8 +87,7 @@ fn append_word(client: u8, word: &str, out: &mut String) -> Result<(), OutOfMemo
 }
 
 fn append_client(client: u8, out: &mut String) -> Result<(), OutOfMemory>
-    ensures ok { OnOk result (string_bytes out.new ≡ string_bytes out.old ++ client_text client) }
-    ensures err { OnErr result (take (length (string_bytes out.old)) (string_bytes out.new) ≡ string_bytes out.old) }
+    ensures { AppendsInParts result out.old out.new (client_text client) }
 {
     out.push_str("client")?;
     append_number(u64::from(client), out)?;
@@ -101,8 +96,7 @@ fn append_client(client: u8, out: &mut String) -> Result<(), OutOfMemory>
 }
 
 fn append_notice(turn: u32, client: u8, out: &mut String) -> Result<(), OutOfMemory>
-    ensures ok { OnOk result (string_bytes out.new ≡ string_bytes out.old ++ notice_line turn client) }
-    ensures err { OnErr result (take (length (string_bytes out.old)) (string_bytes out.new) ≡ string_bytes out.old) }
+    ensures { AppendsInParts result out.old out.new (notice_line turn client) }
 {
     out.push_str("notice")?;
     append_number(u64::from(turn), out)?;

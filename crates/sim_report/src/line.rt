@@ -1,6 +1,7 @@
 //! The texts of one piece: how the program is called, and the lines that name a turn by its digest.
 
-ghost use Rattle.std.specs.Prelude.{◌≡◌, ◌++◌, length, take, OnOk, OnErr, string_bytes};
+ghost use Rattle.std.specs.Prelude.{◌≡◌, length};
+ghost use Rattle.sim_report.specs.Appending.{Appends, AppendsInParts};
 ghost use Rattle.sim_report.specs.Lines.{line_end, report_kind as kind_of_report, saved_line, spaced_number, turn_line, usage_text};
 
 use sim_base::{OutOfMemory, push_decimal};
@@ -31,8 +32,7 @@ const USAGE: &str = "usage: simcore play MATCH
 
 /// Appends how the program is called, or leaves the text as it was.
 pub fn push_usage(out: &mut String) -> Result<(), OutOfMemory>
-    ensures ok { OnOk result (string_bytes out.new ≡ string_bytes out.old ++ usage_text) }
-    ensures err { OnErr result (string_bytes out.new ≡ string_bytes out.old) }
+    ensures { Appends result out.old out.new usage_text }
 {
     out.push_str(USAGE)?;
     Ok(())
@@ -56,8 +56,7 @@ pub fn push_turn(
     digest: &[u8; 16],
     out: &mut String,
 ) -> Result<(), OutOfMemory>
-    ensures ok { OnOk result (string_bytes out.new ≡ string_bytes out.old ++ turn_line word.now turn digest.now) }
-    ensures err { OnErr result (string_bytes out.new ≡ string_bytes out.old) }
+    ensures { Appends result out.old out.new (turn_line word.now turn digest.now) }
 {
     let length = out.len();
     match append_turn(word, turn, digest, out) {
@@ -76,8 +75,7 @@ pub fn append_turn(
     digest: &[u8; 16],
     out: &mut String,
 ) -> Result<(), OutOfMemory>
-    ensures ok { OnOk result (string_bytes out.new ≡ string_bytes out.old ++ turn_line word.now turn digest.now) }
-    ensures err { OnErr result (take (length (string_bytes out.old)) (string_bytes out.new) ≡ string_bytes out.old) }
+    ensures { AppendsInParts result out.old out.new (turn_line word.now turn digest.now) }
 {
     out.push_str(word)?;
     append_number(u64::from(turn), out)?;
@@ -86,8 +84,7 @@ pub fn append_turn(
 
 /// Appends a space and a number.
 pub fn append_number(number: u64, out: &mut String) -> Result<(), OutOfMemory>
-    ensures ok { OnOk result (string_bytes out.new ≡ string_bytes out.old ++ spaced_number number) }
-    ensures err { OnErr result (take (length (string_bytes out.old)) (string_bytes out.new) ≡ string_bytes out.old) }
+    ensures { AppendsInParts result out.old out.new (spaced_number number) }
 {
     out.push_str(" ")?;
     push_decimal(number, out)
@@ -95,8 +92,7 @@ pub fn append_number(number: u64, out: &mut String) -> Result<(), OutOfMemory>
 
 /// Appends a space, a digest, and the end of a line.
 pub fn append_digest(digest: &[u8; 16], out: &mut String) -> Result<(), OutOfMemory>
-    ensures ok { OnOk result (string_bytes out.new ≡ string_bytes out.old ++ line_end digest.now) }
-    ensures err { OnErr result (take (length (string_bytes out.old)) (string_bytes out.new) ≡ string_bytes out.old) }
+    ensures { AppendsInParts result out.old out.new (line_end digest.now) }
 {
     out.push_str(" ")?;
     push_hex(out, digest.as_slice())?;
@@ -111,8 +107,7 @@ pub fn push_saved(
     digest: &[u8; 16],
     out: &mut String,
 ) -> Result<(), OutOfMemory>
-    ensures ok { OnOk result (string_bytes out.new ≡ string_bytes out.old ++ saved_line turn length digest.now) }
-    ensures err { OnErr result (string_bytes out.new ≡ string_bytes out.old) }
+    ensures { Appends result out.old out.new (saved_line turn length digest.now) }
 {
     let before = out.len();
     match append_saved(turn, length, digest, out) {
@@ -130,8 +125,7 @@ fn append_saved(
     digest: &[u8; 16],
     out: &mut String,
 ) -> Result<(), OutOfMemory>
-    ensures ok { OnOk result (string_bytes out.new ≡ string_bytes out.old ++ saved_line turn size digest.now) }
-    ensures err { OnErr result (take (length (string_bytes out.old)) (string_bytes out.new) ≡ string_bytes out.old) }
+    ensures { AppendsInParts result out.old out.new (saved_line turn size digest.now) }
 {
     out.push_str("state")?;
     append_number(u64::from(turn), out)?;

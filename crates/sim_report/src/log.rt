@@ -1,6 +1,6 @@
 //! The lines about logs of a match.
 
-ghost use Rattle.std.specs.Prelude.{◌≡◌, ◌++◌, length, take, OnOk, OnErr, string_bytes};
+ghost use Rattle.sim_report.specs.Appending.{Appends, AppendsInParts};
 ghost use Rattle.sim_report.specs.LogLines.{agree_line, apart_line, apart_lines, logged_line, named_line};
 
 use crate::line::{append_digest, append_number};
@@ -14,8 +14,7 @@ pub fn push_logged(
     size: usize,
     out: &mut String,
 ) -> Result<(), OutOfMemory>
-    ensures ok { OnOk result (string_bytes out.new ≡ string_bytes out.old ++ logged_line word.now turns size) }
-    ensures err { OnErr result (string_bytes out.new ≡ string_bytes out.old) }
+    ensures { Appends result out.old out.new (logged_line word.now turns size) }
 {
     let before = out.len();
     match append_logged(word, turns, size, out) {
@@ -29,8 +28,7 @@ pub fn push_logged(
 
 // After an error a part of the line may stand behind the old text, here and below.
 fn append_logged(word: &str, turns: usize, size: usize, out: &mut String) -> Result<(), OutOfMemory>
-    ensures ok { OnOk result (string_bytes out.new ≡ string_bytes out.old ++ logged_line word.now turns size) }
-    ensures err { OnErr result (take (length (string_bytes out.old)) (string_bytes out.new) ≡ string_bytes out.old) }
+    ensures { AppendsInParts result out.old out.new (logged_line word.now turns size) }
 {
     out.push_str(word)?;
     append_number(turns as u64, out)?;
@@ -41,8 +39,7 @@ fn append_logged(word: &str, turns: usize, size: usize, out: &mut String) -> Res
 
 /// Appends that a log agrees up to its last turn, or leaves the text as it was.
 pub fn push_agree(turn: usize, out: &mut String) -> Result<(), OutOfMemory>
-    ensures ok { OnOk result (string_bytes out.new ≡ string_bytes out.old ++ agree_line turn) }
-    ensures err { OnErr result (string_bytes out.new ≡ string_bytes out.old) }
+    ensures { Appends result out.old out.new (agree_line turn) }
 {
     let before = out.len();
     match append_agree(turn, out) {
@@ -55,8 +52,7 @@ pub fn push_agree(turn: usize, out: &mut String) -> Result<(), OutOfMemory>
 }
 
 fn append_agree(turn: usize, out: &mut String) -> Result<(), OutOfMemory>
-    ensures ok { OnOk result (string_bytes out.new ≡ string_bytes out.old ++ agree_line turn) }
-    ensures err { OnErr result (take (length (string_bytes out.old)) (string_bytes out.new) ≡ string_bytes out.old) }
+    ensures { AppendsInParts result out.old out.new (agree_line turn) }
 {
     out.push_str("agree")?;
     append_number(turn as u64, out)?;
@@ -72,8 +68,7 @@ pub fn push_apart(
     played: &[u8; 16],
     out: &mut String,
 ) -> Result<(), OutOfMemory>
-    ensures ok { OnOk result (string_bytes out.new ≡ string_bytes out.old ++ apart_lines turn told.now played.now) }
-    ensures err { OnErr result (string_bytes out.new ≡ string_bytes out.old) }
+    ensures { Appends result out.old out.new (apart_lines turn told.now played.now) }
 {
     let before = out.len();
     match append_apart(turn, told, played, out) {
@@ -91,8 +86,7 @@ fn append_apart(
     played: &[u8; 16],
     out: &mut String,
 ) -> Result<(), OutOfMemory>
-    ensures ok { OnOk result (string_bytes out.new ≡ string_bytes out.old ++ apart_lines turn told.now played.now) }
-    ensures err { OnErr result (take (length (string_bytes out.old)) (string_bytes out.new) ≡ string_bytes out.old) }
+    ensures { AppendsInParts result out.old out.new (apart_lines turn told.now played.now) }
 {
     append_turn_line(turn, out)?;
     append_named("log", told, out)?;
@@ -100,8 +94,7 @@ fn append_apart(
 }
 
 fn append_turn_line(turn: u32, out: &mut String) -> Result<(), OutOfMemory>
-    ensures ok { OnOk result (string_bytes out.new ≡ string_bytes out.old ++ apart_line turn) }
-    ensures err { OnErr result (take (length (string_bytes out.old)) (string_bytes out.new) ≡ string_bytes out.old) }
+    ensures { AppendsInParts result out.old out.new (apart_line turn) }
 {
     out.push_str("differ turn")?;
     append_number(u64::from(turn), out)?;
@@ -111,8 +104,7 @@ fn append_turn_line(turn: u32, out: &mut String) -> Result<(), OutOfMemory>
 
 // A digest behind a word.
 fn append_named(word: &str, digest: &[u8; 16], out: &mut String) -> Result<(), OutOfMemory>
-    ensures ok { OnOk result (string_bytes out.new ≡ string_bytes out.old ++ named_line word.now digest.now) }
-    ensures err { OnErr result (take (length (string_bytes out.old)) (string_bytes out.new) ≡ string_bytes out.old) }
+    ensures { AppendsInParts result out.old out.new (named_line word.now digest.now) }
 {
     out.push_str(word)?;
     append_digest(digest, out)

@@ -1,6 +1,7 @@
 //! The templates of a match as text: a line for each, with the parts that it has.
 
-ghost use Rattle.std.specs.Prelude.{◌≡◌, ◌++◌, length, take, OnOk, OnErr, string_bytes, codes};
+ghost use Rattle.std.specs.Prelude.{◌++◌, codes};
+ghost use Rattle.sim_report.specs.Appending.{Appends, AppendsInParts};
 ghost use Rattle.sim_report.specs.{Parts.reach_text, Parts.resist_text, Parts.speed_text, Parts.template_line, Parts.train_text, Show.health_text};
 ghost use Rattle.sim_report.specs.Parts.{arms_text, attack_text, body_text, deeds_text, harm_text, heading_text, obstruct_text, pace_text, parts_text};
 
@@ -10,8 +11,7 @@ use sim_base::{Arms, Base, Fixed, Harm, Ids, OutOfMemory, Resist, Template};
 
 /// Appends a line for each of these templates, which are numbered by their places, or leaves the text as it was.
 pub fn push_parts(templates: &[Template], out: &mut String) -> Result<(), OutOfMemory>
-    ensures ok { OnOk result (string_bytes out.new ≡ string_bytes out.old ++ parts_text templates.now) }
-    ensures err { OnErr result (string_bytes out.new ≡ string_bytes out.old) }
+    ensures { Appends result out.old out.new (parts_text templates.now) }
 {
     let length = out.len();
     match append_templates(templates, out) {
@@ -25,8 +25,7 @@ pub fn push_parts(templates: &[Template], out: &mut String) -> Result<(), OutOfM
 
 // After an error some of the lines may stand behind the old text; or a part of one, here and below.
 fn append_templates(templates: &[Template], out: &mut String) -> Result<(), OutOfMemory>
-    ensures ok { OnOk result (string_bytes out.new ≡ string_bytes out.old ++ parts_text templates.now) }
-    ensures err { OnErr result (take (length (string_bytes out.old)) (string_bytes out.new) ≡ string_bytes out.old) }
+    ensures { AppendsInParts result out.old out.new (parts_text templates.now) }
 {
     for (number, template) in templates.iter().enumerate() {
         append_template(number, template, out)?;
@@ -35,8 +34,7 @@ fn append_templates(templates: &[Template], out: &mut String) -> Result<(), OutO
 }
 
 fn append_template(number: usize, template: &Template, out: &mut String) -> Result<(), OutOfMemory>
-    ensures ok { OnOk result (string_bytes out.new ≡ string_bytes out.old ++ template_line number template.now) }
-    ensures err { OnErr result (take (length (string_bytes out.old)) (string_bytes out.new) ≡ string_bytes out.old) }
+    ensures { AppendsInParts result out.old out.new (template_line number template.now) }
 {
     append_heading(number, template, out)?;
     append_body(template, out)?;
@@ -47,8 +45,7 @@ fn append_template(number: usize, template: &Template, out: &mut String) -> Resu
 
 // Its number and its name.
 fn append_heading(number: usize, template: &Template, out: &mut String) -> Result<(), OutOfMemory>
-    ensures ok { OnOk result (string_bytes out.new ≡ string_bytes out.old ++ heading_text number template.now) }
-    ensures err { OnErr result (take (length (string_bytes out.old)) (string_bytes out.new) ≡ string_bytes out.old) }
+    ensures { AppendsInParts result out.old out.new (heading_text number template.now) }
 {
     append_number("template ", number as u64, out)?;
     out.push_str(" ")?;
@@ -58,8 +55,7 @@ fn append_heading(number: usize, template: &Template, out: &mut String) -> Resul
 
 // What it is.
 fn append_body(template: &Template, out: &mut String) -> Result<(), OutOfMemory>
-    ensures ok { OnOk result (string_bytes out.new ≡ string_bytes out.old ++ body_text template.now) }
-    ensures err { OnErr result (take (length (string_bytes out.old)) (string_bytes out.new) ≡ string_bytes out.old) }
+    ensures { AppendsInParts result out.old out.new (body_text template.now) }
 {
     append_health(template.health, out)?;
     append_resist(template.resist, out)?;
@@ -69,16 +65,14 @@ fn append_body(template: &Template, out: &mut String) -> Result<(), OutOfMemory>
 
 // What it does.
 fn append_deeds(template: &Template, out: &mut String) -> Result<(), OutOfMemory>
-    ensures ok { OnOk result (string_bytes out.new ≡ string_bytes out.old ++ deeds_text template.now) }
-    ensures err { OnErr result (take (length (string_bytes out.old)) (string_bytes out.new) ≡ string_bytes out.old) }
+    ensures { AppendsInParts result out.old out.new (deeds_text template.now) }
 {
     append_attack(&template.arms, out)?;
     append_train(&template.train, out)
 }
 
 fn append_health(health: Option<Fixed>, out: &mut String) -> Result<(), OutOfMemory>
-    ensures ok { OnOk result (string_bytes out.new ≡ string_bytes out.old ++ health_text health) }
-    ensures err { OnErr result (take (length (string_bytes out.old)) (string_bytes out.new) ≡ string_bytes out.old) }
+    ensures { AppendsInParts result out.old out.new (health_text health) }
 {
     match health {
         None => Ok(()),
@@ -87,8 +81,7 @@ fn append_health(health: Option<Fixed>, out: &mut String) -> Result<(), OutOfMem
 }
 
 fn append_resist(resist: Resist, out: &mut String) -> Result<(), OutOfMemory>
-    ensures ok { OnOk result (string_bytes out.new ≡ string_bytes out.old ++ resist_text resist) }
-    ensures err { OnErr result (take (length (string_bytes out.old)) (string_bytes out.new) ≡ string_bytes out.old) }
+    ensures { AppendsInParts result out.old out.new (resist_text resist) }
 {
     append_number(" resist ", u64::from(resist.hack), out)?;
     append_number(" ", u64::from(resist.pierce), out)?;
@@ -96,8 +89,7 @@ fn append_resist(resist: Resist, out: &mut String) -> Result<(), OutOfMemory>
 }
 
 fn append_speed(speed: Option<Fixed>, out: &mut String) -> Result<(), OutOfMemory>
-    ensures ok { OnOk result (string_bytes out.new ≡ string_bytes out.old ++ speed_text speed) }
-    ensures err { OnErr result (take (length (string_bytes out.old)) (string_bytes out.new) ≡ string_bytes out.old) }
+    ensures { AppendsInParts result out.old out.new (speed_text speed) }
 {
     match speed {
         None => Ok(()),
@@ -106,8 +98,7 @@ fn append_speed(speed: Option<Fixed>, out: &mut String) -> Result<(), OutOfMemor
 }
 
 fn append_obstruct(obstruct: Option<Base>, out: &mut String) -> Result<(), OutOfMemory>
-    ensures ok { OnOk result (string_bytes out.new ≡ string_bytes out.old ++ obstruct_text obstruct) }
-    ensures err { OnErr result (take (length (string_bytes out.old)) (string_bytes out.new) ≡ string_bytes out.old) }
+    ensures { AppendsInParts result out.old out.new (obstruct_text obstruct) }
 {
     match obstruct {
         None => Ok(()),
@@ -119,8 +110,7 @@ fn append_obstruct(obstruct: Option<Base>, out: &mut String) -> Result<(), OutOf
 }
 
 fn append_attack(arms: &Option<Arms>, out: &mut String) -> Result<(), OutOfMemory>
-    ensures ok { OnOk result (string_bytes out.new ≡ string_bytes out.old ++ attack_text arms.now) }
-    ensures err { OnErr result (take (length (string_bytes out.old)) (string_bytes out.new) ≡ string_bytes out.old) }
+    ensures { AppendsInParts result out.old out.new (attack_text arms.now) }
 {
     match arms {
         None => Ok(()),
@@ -129,8 +119,7 @@ fn append_attack(arms: &Option<Arms>, out: &mut String) -> Result<(), OutOfMemor
 }
 
 fn append_arms(arms: &Arms, out: &mut String) -> Result<(), OutOfMemory>
-    ensures ok { OnOk result (string_bytes out.new ≡ string_bytes out.old ++ arms_text arms.now) }
-    ensures err { OnErr result (take (length (string_bytes out.old)) (string_bytes out.new) ≡ string_bytes out.old) }
+    ensures { AppendsInParts result out.old out.new (arms_text arms.now) }
 {
     append_harm(arms.harm, out)?;
     append_reach(arms, out)?;
@@ -138,16 +127,14 @@ fn append_arms(arms: &Arms, out: &mut String) -> Result<(), OutOfMemory>
 }
 
 fn append_reach(arms: &Arms, out: &mut String) -> Result<(), OutOfMemory>
-    ensures ok { OnOk result (string_bytes out.new ≡ string_bytes out.old ++ reach_text arms.now) }
-    ensures err { OnErr result (take (length (string_bytes out.old)) (string_bytes out.new) ≡ string_bytes out.old) }
+    ensures { AppendsInParts result out.old out.new (reach_text arms.now) }
 {
     write_fixed(" range ", arms.range, out)?;
     write_fixed(" vision ", arms.vision, out)
 }
 
 fn append_pace(arms: &Arms, out: &mut String) -> Result<(), OutOfMemory>
-    ensures ok { OnOk result (string_bytes out.new ≡ string_bytes out.old ++ pace_text arms.now) }
-    ensures err { OnErr result (take (length (string_bytes out.old)) (string_bytes out.new) ≡ string_bytes out.old) }
+    ensures { AppendsInParts result out.old out.new (pace_text arms.now) }
 {
     append_number(" repeat ", u64::from(arms.repeat), out)?;
     append_number(" accuracy ", u64::from(arms.accuracy), out)
@@ -155,8 +142,7 @@ fn append_pace(arms: &Arms, out: &mut String) -> Result<(), OutOfMemory>
 
 // The word for an attack and its damage.
 fn append_harm(harm: Harm, out: &mut String) -> Result<(), OutOfMemory>
-    ensures ok { OnOk result (string_bytes out.new ≡ string_bytes out.old ++ (codes " attack " ++ harm_text harm)) }
-    ensures err { OnErr result (take (length (string_bytes out.old)) (string_bytes out.new) ≡ string_bytes out.old) }
+    ensures { AppendsInParts result out.old out.new (codes " attack " ++ harm_text harm) }
 {
     write_fixed(" attack ", harm.hack, out)?;
     write_fixed(" ", harm.pierce, out)?;
@@ -164,8 +150,7 @@ fn append_harm(harm: Harm, out: &mut String) -> Result<(), OutOfMemory>
 }
 
 fn append_train(train: &Option<Ids>, out: &mut String) -> Result<(), OutOfMemory>
-    ensures ok { OnOk result (string_bytes out.new ≡ string_bytes out.old ++ train_text train.now) }
-    ensures err { OnErr result (take (length (string_bytes out.old)) (string_bytes out.new) ≡ string_bytes out.old) }
+    ensures { AppendsInParts result out.old out.new (train_text train.now) }
 {
     match train {
         None => Ok(()),

@@ -1,6 +1,7 @@
 //! The place at which two states differ, as text: which part of which entity, and the bytes that each state has of it.
 
-ghost use Rattle.std.specs.Prelude.{◌≡◌, ◌++◌, OnOk, OnErr, string_bytes};
+ghost use Rattle.std.specs.Prelude.{◌≡◌, ◌++◌, OnOk, string_bytes};
+ghost use Rattle.sim_report.specs.Appending.{Appends};
 ghost use Rattle.sim_report.specs.Places.{bits_line, part_name as name_of_part, place_text};
 
 use sim_base::OutOfMemory;
@@ -11,8 +12,7 @@ use sim_diff::Place;
 /// Appends a place at which two states differ, with what the left and the right one have there, or leaves the text as
 /// it was.
 pub fn push_place(place: &Place, out: &mut String) -> Result<(), OutOfMemory>
-    ensures ok { OnOk result (string_bytes out.new ≡ string_bytes out.old ++ place_text place.now) }
-    ensures err { OnErr result (string_bytes out.new ≡ string_bytes out.old) }
+    ensures { Appends result out.old out.new (place_text place.now) }
 {
     let mut lines = String::new(*out.allocator());
     write_place(place, &mut lines)?;

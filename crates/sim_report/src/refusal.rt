@@ -1,7 +1,8 @@
 //! Why something is refused, as a line of its own. The seven causes are one type, since a refused run of the program
 //! prints one of them and no more.
 
-ghost use Rattle.std.specs.Prelude.{◌≡◌, ◌++◌, OnOk, OnErr, string_bytes};
+ghost use Rattle.std.specs.Prelude.{◌≡◌, ◌++◌, OnOk, string_bytes};
+ghost use Rattle.sim_report.specs.Appending.{Appends};
 ghost use Rattle.sim_report.specs.Refusals.{refusal_text};
 
 use sim_base::OutOfMemory;
@@ -22,8 +23,7 @@ pub enum Refusal<'a> {
 
 /// Appends the line of a refusal, or leaves the text as it was.
 pub fn push_refusal(refusal: &Refusal, out: &mut String) -> Result<(), OutOfMemory>
-    ensures ok { OnOk result (string_bytes out.new ≡ string_bytes out.old ++ refusal_text refusal.now) }
-    ensures err { OnErr result (string_bytes out.new ≡ string_bytes out.old) }
+    ensures { Appends result out.old out.new (refusal_text refusal.now) }
 {
     let mut line = String::new(*out.allocator());
     write_refusal(refusal, &mut line)?;

@@ -1,6 +1,6 @@
 //! The lines of a server: what it tells whom, and what it has come to.
 
-ghost use Rattle.std.specs.Prelude.{◌≡◌, ◌++◌, length, take, OnOk, OnErr, string_bytes};
+ghost use Rattle.sim_report.specs.Appending.{Appends, AppendsInParts};
 ghost use Rattle.sim_report.specs.Downs.{kept_line, post_line, released_line};
 
 use crate::down::{append_down, append_number};
@@ -10,8 +10,7 @@ use sim_wire::Bytes;
 
 /// Appends the line of a message and of the client who gets it, or leaves the text as it was.
 pub fn push_post(post: &PostOf<Bytes>, out: &mut String) -> Result<(), OutOfMemory>
-    ensures ok { OnOk result (string_bytes out.new ≡ string_bytes out.old ++ post_line post.now) }
-    ensures err { OnErr result (string_bytes out.new ≡ string_bytes out.old) }
+    ensures { Appends result out.old out.new (post_line post.now) }
 {
     let length = out.len();
     match append_post(post, out) {
@@ -25,8 +24,7 @@ pub fn push_post(post: &PostOf<Bytes>, out: &mut String) -> Result<(), OutOfMemo
 
 // After an error a part of the line may stand behind the old text, here and below.
 fn append_post(post: &PostOf<Bytes>, out: &mut String) -> Result<(), OutOfMemory>
-    ensures ok { OnOk result (string_bytes out.new ≡ string_bytes out.old ++ post_line post.now) }
-    ensures err { OnErr result (take (length (string_bytes out.old)) (string_bytes out.new) ≡ string_bytes out.old) }
+    ensures { AppendsInParts result out.old out.new (post_line post.now) }
 {
     append_number("to ", u64::from(post.to), out)?;
     out.push_str(" ")?;
@@ -37,8 +35,7 @@ fn append_post(post: &PostOf<Bytes>, out: &mut String) -> Result<(), OutOfMemory
 
 /// Appends the line of the turns that are released, or leaves the text as it was.
 pub fn push_released(released: u32, out: &mut String) -> Result<(), OutOfMemory>
-    ensures ok { OnOk result (string_bytes out.new ≡ string_bytes out.old ++ released_line released) }
-    ensures err { OnErr result (string_bytes out.new ≡ string_bytes out.old) }
+    ensures { Appends result out.old out.new (released_line released) }
 {
     let length = out.len();
     match append_released(released, out) {
@@ -51,8 +48,7 @@ pub fn push_released(released: u32, out: &mut String) -> Result<(), OutOfMemory>
 }
 
 fn append_released(released: u32, out: &mut String) -> Result<(), OutOfMemory>
-    ensures ok { OnOk result (string_bytes out.new ≡ string_bytes out.old ++ released_line released) }
-    ensures err { OnErr result (take (length (string_bytes out.old)) (string_bytes out.new) ≡ string_bytes out.old) }
+    ensures { AppendsInParts result out.old out.new (released_line released) }
 {
     append_number("released ", u64::from(released), out)?;
     out.push_str("\n")?;
@@ -61,8 +57,7 @@ fn append_released(released: u32, out: &mut String) -> Result<(), OutOfMemory>
 
 /// Appends the line of a turn of which so many commands are kept, or leaves the text as it was.
 pub fn push_kept(turn: u32, count: usize, out: &mut String) -> Result<(), OutOfMemory>
-    ensures ok { OnOk result (string_bytes out.new ≡ string_bytes out.old ++ kept_line turn count) }
-    ensures err { OnErr result (string_bytes out.new ≡ string_bytes out.old) }
+    ensures { Appends result out.old out.new (kept_line turn count) }
 {
     let length = out.len();
     match append_kept(turn, count, out) {
@@ -75,8 +70,7 @@ pub fn push_kept(turn: u32, count: usize, out: &mut String) -> Result<(), OutOfM
 }
 
 fn append_kept(turn: u32, count: usize, out: &mut String) -> Result<(), OutOfMemory>
-    ensures ok { OnOk result (string_bytes out.new ≡ string_bytes out.old ++ kept_line turn count) }
-    ensures err { OnErr result (take (length (string_bytes out.old)) (string_bytes out.new) ≡ string_bytes out.old) }
+    ensures { AppendsInParts result out.old out.new (kept_line turn count) }
 {
     append_number("kept ", u64::from(turn), out)?;
     append_number(" ", count as u64, out)?;

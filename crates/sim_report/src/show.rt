@@ -1,6 +1,7 @@
 //! A state as text: a line of its clock, and a line of each row with the parts that the row has.
 
-ghost use Rattle.std.specs.Prelude.{◌≡◌, ◌++◌, length, take, OnOk, OnErr, string_bytes, All};
+ghost use Rattle.std.specs.Prelude.{◌≡◌, ◌++◌, OnOk, string_bytes, All};
+ghost use Rattle.sim_report.specs.Appending.{Appends, AppendsInParts};
 ghost use Rattle.sim_base.specs.NumberText.{text_of};
 ghost use Rattle.sim_report.specs.Show.{attack_text, clock_line, HasTemplate, health_text, hold_text, motion_text, point_text, row_head, row_line, show_text};
 
@@ -9,8 +10,7 @@ use sim_base::{Aim, Fixed, Motion, OutOfMemory, Point, Row, Setup, State};
 /// Appends what a match has come to, its entities ascending by id as the state has them, or leaves the text as it was.
 pub fn push_show(setup: &Setup, state: &State, out: &mut String) -> Result<(), OutOfMemory>
     requires { All (HasTemplate setup.now) state.now.rows }
-    ensures ok { OnOk result (string_bytes out.new ≡ string_bytes out.old ++ show_text setup.now state.now) }
-    ensures err { OnErr result (string_bytes out.new ≡ string_bytes out.old) }
+    ensures { Appends result out.old out.new (show_text setup.now state.now) }
 {
     let length = out.len();
     match push_lines(setup, state, out) {
@@ -25,8 +25,7 @@ pub fn push_show(setup: &Setup, state: &State, out: &mut String) -> Result<(), O
 // After an error some of the lines may stand behind the old text.
 fn push_lines(setup: &Setup, state: &State, out: &mut String) -> Result<(), OutOfMemory>
     requires { All (HasTemplate setup.now) state.now.rows }
-    ensures ok { OnOk result (string_bytes out.new ≡ string_bytes out.old ++ show_text setup.now state.now) }
-    ensures err { OnErr result (take (length (string_bytes out.old)) (string_bytes out.new) ≡ string_bytes out.old) }
+    ensures { AppendsInParts result out.old out.new (show_text setup.now state.now) }
 {
     push_clock(state, out)?;
     let mut line = String::new(*out.allocator());
@@ -37,8 +36,7 @@ fn push_lines(setup: &Setup, state: &State, out: &mut String) -> Result<(), OutO
 }
 
 fn push_clock(state: &State, out: &mut String) -> Result<(), OutOfMemory>
-    ensures ok { OnOk result (string_bytes out.new ≡ string_bytes out.old ++ clock_line state.now) }
-    ensures err { OnErr result (string_bytes out.new ≡ string_bytes out.old) }
+    ensures { Appends result out.old out.new (clock_line state.now) }
 {
     let rows = state.rows.as_slice().len();
     let mut line = String::new(*out.allocator());
@@ -59,8 +57,7 @@ fn push_row(
     out: &mut String,
 ) -> Result<(), OutOfMemory>
     requires { HasTemplate setup.now row.now }
-    ensures ok { OnOk result (string_bytes out.new ≡ string_bytes out.old ++ row_line setup.now row.now) }
-    ensures err { OnErr result (string_bytes out.new ≡ string_bytes out.old) }
+    ensures { Appends result out.old out.new (row_line setup.now row.now) }
 {
     line.clear();
     write_row(setup, row, line)?;
@@ -98,8 +95,7 @@ fn write_head(setup: &Setup, row: &Row, line: &mut String) -> Result<(), OutOfMe
 
 /// Appends both coordinates. After an error a part of them may stand behind the old text.
 pub fn write_point(point: Point, line: &mut String) -> Result<(), OutOfMemory>
-    ensures ok { OnOk result (string_bytes line.new ≡ string_bytes line.old ++ point_text point) }
-    ensures err { OnErr result (take (length (string_bytes line.old)) (string_bytes line.new) ≡ string_bytes line.old) }
+    ensures { AppendsInParts result line.old line.new (point_text point) }
 {
     write_fixed("", point.x, line)?;
     write_fixed(" ", point.z, line)
@@ -107,8 +103,7 @@ pub fn write_point(point: Point, line: &mut String) -> Result<(), OutOfMemory>
 
 /// Appends a word and a number with a fraction. After an error a part of them may stand behind the old text.
 pub fn write_fixed(word: &str, number: Fixed, line: &mut String) -> Result<(), OutOfMemory>
-    ensures ok { OnOk result (string_bytes line.new ≡ string_bytes line.old ++ (word.now ++ text_of number)) }
-    ensures err { OnErr result (take (length (string_bytes line.old)) (string_bytes line.new) ≡ string_bytes line.old) }
+    ensures { AppendsInParts result line.old line.new (word.now ++ text_of number) }
 {
     line.push_str(word)?;
     number.push_text(line)

@@ -1,7 +1,8 @@
 //! The lines of the territories of a match: what each player holds of the ground, and a digest that stands for who holds which
 //! cell.
 
-ghost use Rattle.std.specs.Prelude.{◌≡◌, ◌++◌, length, take, OnOk, OnErr, string_bytes};
+ghost use Rattle.std.specs.Prelude.{◌++◌};
+ghost use Rattle.sim_report.specs.Appending.{Appends, AppendsInParts};
 ghost use Rattle.sim_report.specs.Lines.{holding_line, map_line, spaced_number};
 
 use crate::line::{append_digest, append_number};
@@ -14,8 +15,7 @@ pub fn push_holding(
     rooted: usize,
     out: &mut String,
 ) -> Result<(), OutOfMemory>
-    ensures ok { OnOk result (string_bytes out.new ≡ string_bytes out.old ++ holding_line player held rooted) }
-    ensures err { OnErr result (string_bytes out.new ≡ string_bytes out.old) }
+    ensures { Appends result out.old out.new (holding_line player held rooted) }
 {
     let before = out.len();
     match append_holding(player, held, rooted, out) {
@@ -33,8 +33,7 @@ fn append_holding(
     rooted: usize,
     out: &mut String,
 ) -> Result<(), OutOfMemory>
-    ensures ok { OnOk result (string_bytes out.new ≡ string_bytes out.old ++ holding_line player held rooted) }
-    ensures err { OnErr result (take (length (string_bytes out.old)) (string_bytes out.new) ≡ string_bytes out.old) }
+    ensures { AppendsInParts result out.old out.new (holding_line player held rooted) }
 {
     append_count("realm", u64::from(player), out)?;
     append_count(" held", held as u64, out)?;
@@ -45,8 +44,7 @@ fn append_holding(
 
 // Appends a word, a space and a number.
 fn append_count(word: &str, number: u64, out: &mut String) -> Result<(), OutOfMemory>
-    ensures ok { OnOk result (string_bytes out.new ≡ string_bytes out.old ++ (word.now ++ spaced_number number)) }
-    ensures err { OnErr result (take (length (string_bytes out.old)) (string_bytes out.new) ≡ string_bytes out.old) }
+    ensures { AppendsInParts result out.old out.new (word.now ++ spaced_number number) }
 {
     out.push_str(word)?;
     append_number(number, out)
@@ -54,8 +52,7 @@ fn append_count(word: &str, number: u64, out: &mut String) -> Result<(), OutOfMe
 
 /// Appends the digest of the holders of all cells, or leaves the text as it was.
 pub fn push_map(digest: &[u8; 16], out: &mut String) -> Result<(), OutOfMemory>
-    ensures ok { OnOk result (string_bytes out.new ≡ string_bytes out.old ++ map_line digest.now) }
-    ensures err { OnErr result (string_bytes out.new ≡ string_bytes out.old) }
+    ensures { Appends result out.old out.new (map_line digest.now) }
 {
     let before = out.len();
     match append_map(digest, out) {
@@ -68,8 +65,7 @@ pub fn push_map(digest: &[u8; 16], out: &mut String) -> Result<(), OutOfMemory>
 }
 
 fn append_map(digest: &[u8; 16], out: &mut String) -> Result<(), OutOfMemory>
-    ensures ok { OnOk result (string_bytes out.new ≡ string_bytes out.old ++ map_line digest.now) }
-    ensures err { OnErr result (take (length (string_bytes out.old)) (string_bytes out.new) ≡ string_bytes out.old) }
+    ensures { AppendsInParts result out.old out.new (map_line digest.now) }
 {
     out.push_str("map")?;
     append_digest(digest, out)

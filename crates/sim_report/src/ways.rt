@@ -1,6 +1,7 @@
 //! The ways of the rows of a state as text: a line for each row that has waypoints ahead.
 
-ghost use Rattle.std.specs.Prelude.{◌≡◌, ◌++◌, length, take, OnOk, OnErr, string_bytes, flat_map};
+ghost use Rattle.std.specs.Prelude.{◌≡◌, flat_map};
+ghost use Rattle.sim_report.specs.Appending.{Appends, AppendsInParts};
 ghost use Rattle.sim_report.specs.Ways.{next_point, row_way, way_ahead as points_ahead, way_line, ways_text};
 
 use crate::down::append_number;
@@ -9,8 +10,7 @@ use sim_base::{Motion, OutOfMemory, Point, Row, State};
 
 /// Appends the ways of the rows of a state, ascending by id as the state has them, or leaves the text as it was.
 pub fn push_ways(state: &State, out: &mut String) -> Result<(), OutOfMemory>
-    ensures ok { OnOk result (string_bytes out.new ≡ string_bytes out.old ++ ways_text state.now) }
-    ensures err { OnErr result (string_bytes out.new ≡ string_bytes out.old) }
+    ensures { Appends result out.old out.new (ways_text state.now) }
 {
     let length = out.len();
     match append_ways(state, out) {
@@ -24,8 +24,7 @@ pub fn push_ways(state: &State, out: &mut String) -> Result<(), OutOfMemory>
 
 // After an error some of the lines may stand behind the old text; or a part of one, here and below.
 fn append_ways(state: &State, out: &mut String) -> Result<(), OutOfMemory>
-    ensures ok { OnOk result (string_bytes out.new ≡ string_bytes out.old ++ ways_text state.now) }
-    ensures err { OnErr result (take (length (string_bytes out.old)) (string_bytes out.new) ≡ string_bytes out.old) }
+    ensures { AppendsInParts result out.old out.new (ways_text state.now) }
 {
     for row in state.rows.as_slice() {
         append_row(row, out)?;
@@ -34,8 +33,7 @@ fn append_ways(state: &State, out: &mut String) -> Result<(), OutOfMemory>
 }
 
 fn append_row(row: &Row, out: &mut String) -> Result<(), OutOfMemory>
-    ensures ok { OnOk result (string_bytes out.new ≡ string_bytes out.old ++ row_way row.now) }
-    ensures err { OnErr result (take (length (string_bytes out.old)) (string_bytes out.new) ≡ string_bytes out.old) }
+    ensures { AppendsInParts result out.old out.new (row_way row.now) }
 {
     append_way(row.id, way_ahead(&row.motion), out)
 }
@@ -51,8 +49,7 @@ fn way_ahead(motion: &Option<Motion>) -> &[Point]
 }
 
 fn append_way(id: u32, way: &[Point], out: &mut String) -> Result<(), OutOfMemory>
-    ensures ok { OnOk result (string_bytes out.new ≡ string_bytes out.old ++ way_line id way.now) }
-    ensures err { OnErr result (take (length (string_bytes out.old)) (string_bytes out.new) ≡ string_bytes out.old) }
+    ensures { AppendsInParts result out.old out.new (way_line id way.now) }
 {
     if way.is_empty() {
         return Ok(());
@@ -65,8 +62,7 @@ fn append_way(id: u32, way: &[Point], out: &mut String) -> Result<(), OutOfMemor
 
 // Each waypoint behind a space.
 fn append_points(way: &[Point], out: &mut String) -> Result<(), OutOfMemory>
-    ensures ok { OnOk result (string_bytes out.new ≡ string_bytes out.old ++ flat_map next_point way.now) }
-    ensures err { OnErr result (take (length (string_bytes out.old)) (string_bytes out.new) ≡ string_bytes out.old) }
+    ensures { AppendsInParts result out.old out.new (flat_map next_point way.now) }
 {
     for point in way {
         append_point(*point, out)?;
@@ -75,8 +71,7 @@ fn append_points(way: &[Point], out: &mut String) -> Result<(), OutOfMemory>
 }
 
 fn append_point(point: Point, out: &mut String) -> Result<(), OutOfMemory>
-    ensures ok { OnOk result (string_bytes out.new ≡ string_bytes out.old ++ next_point point) }
-    ensures err { OnErr result (take (length (string_bytes out.old)) (string_bytes out.new) ≡ string_bytes out.old) }
+    ensures { AppendsInParts result out.old out.new (next_point point) }
 {
     out.push_str(" ")?;
     write_point(point, out)

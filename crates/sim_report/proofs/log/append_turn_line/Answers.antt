@@ -3,9 +3,12 @@ use Rattle.std.{proofs.Common.append_assoc, proofs.Common.◌++◌, specs.Prelud
 use Rattle.sim_report.specs.Lines.{spaced_number}
 use Rattle.sim_report.proofs.log.append_turn_line.Goals as goal
 
-pub returns-clause-ok : goal.returns-clause-ok
-returns-clause-ok c =
+pub returns : goal.returns
+returns c =
     let old = string_bytes c.args.out.now in
     let front = append_assoc old (codes "differ turn") (spaced_number c.args.turn) in
     let whole = append_assoc old (codes "differ turn" ++ spaced_number c.args.turn) (codes "\n") in
-    cc (front, whole, c.from.ensures, c.in_ok-push_str.ensures.bytes, c.in_ok-append_number.ensures.ok, c.in_ok-push_str-2.ensures.bytes)
+    record {
+      ok = cc (front, whole, c.from.ensures, c.in_ok-push_str.ensures.bytes, c.in_ok-append_number.ensures.ok, c.in_ok-push_str-2.ensures.bytes);
+      err = tt;
+    }

@@ -1,6 +1,11 @@
--- The word stands behind the old text.
-use Rattle.sim_report.proofs.Kept.{kept}
+-- The word stands behind the old text, and then the number.
+use Rattle.sim_report.proofs.Kept.{appended, kept}
 use Rattle.sim_report.proofs.show.write_fixed.Goals as goal
 
-pub returns-clause-err : goal.returns-clause-err
-returns-clause-err c = kept c.push_text.result _ _ _ _ c.in_ok-push_str.ensures.bytes c.push_text.ensures.err
+pub returns : goal.returns
+returns c =
+    let word_is = c.in_ok-push_str.ensures.bytes in
+    record {
+      ok = appended c.push_text.result _ _ _ _ _ word_is c.push_text.ensures.appended;
+      err = kept c.push_text.result _ _ _ _ word_is c.push_text.ensures.err;
+    }
