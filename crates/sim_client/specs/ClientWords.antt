@@ -1,10 +1,11 @@
 -- What a client is to its callers. A clause passes ⟦<dyn System as System>⟧ for `sys`.
-use Rattle.{sim_codec.specs.Loading.StandsFor, sim_system.specs.Meanings.Systems, sim_system.specs.declared.system.System.Ghosts}
-use Rattle.std.specs.Prelude.{◌≡◌, ℕ, Bool, true, false, List, Some, None, Ok, Err, Option, Result}
+use Rattle.{sim_board.specs.BoardWords.AreKept, sim_codec.specs.Loading.StandsFor, sim_system.specs.declared.system.System.Ghosts}
+use Rattle.std.specs.Prelude.{◌≡◌, ℕ, Bool, true, false, List, OnOk, Some, None, Ok, Err, Option, Result}
 use Rattle.sim_base.specs.{Spelling.digest, Spelling.mark, declared.memory.OutOfMemory.OutOfMemory, declared.setup.Setup.Setup, declared.state.State.State}
 use Rattle.sim_client.specs.{Lives.Act, Lives.Joining, Lives.Life, Lives.Off, Lives.On, Lives.Told, declared.client.Client.Client}
 use Rattle.sim_client.specs.declared.did.{Did.Did, Played.Played}
 use Rattle.sim_client.specs.StageWords.{IsSoundAt, life_at, systems_on}
+use Rattle.sim_system.specs.Meanings.{AreBuiltOnceAtMost, HaveKinds, Meaning, Systems}
 use Rattle.sim_client.specs.declared.did.Did.TheVariants as did
 use Rattle.sim_plain.specs.declared.message.DownOf.TheVariants as down
 
@@ -137,3 +138,37 @@ NeedsNoMemory (On player) (down.Command turn order) = ⊥
 NeedsNoMemory (On player) (down.Release turn) = Unit {0}
 NeedsNoMemory (On player) (down.Notice turn client) = Unit {0}
 NeedsNoMemory (On player) (down.Refused code) = Unit {0}
+
+-- ---- what becomes of a client, the facts of each call by name
+
+-- however a step ends, none of its systems was built since, and its match and its number are the same
+pub record KeepsBy {Y X : Type 0} {G : Y → Type 0} {F : X → Type 0} {M : _} (meaning : (i : X) → F i → Meaning) (old new : Client Y X G F M) : Type 0 where
+  pub kept : AreKept (systems_on old.board meaning) (systems_on new.board meaning)
+  pub setup : setup_in new ≡ setup_in old
+  pub number : number_in new ≡ number_in old
+
+-- A client that begins at a state, or may do so, is sound again with memory. However that ends, its systems are in their places, each was
+-- built once at most, and its match and its number are the same.
+pub record BuildsBy {Y X : Type 0} {G : Y → Type 0} {F : X → Type 0} {M : _} {A E : Type 0} (meaning : (i : X) → F i → Meaning) (result : Result A E)
+    (old new : Client Y X G F M) : Type 0 where
+  pub sound : OnOk result (IsSoundAt new.setup.now new.number new.stage new.board meaning)
+  pub kinds : HaveKinds (systems_on new.board meaning)
+  pub most : AreBuiltOnceAtMost (systems_on old.board meaning) (systems_on new.board meaning)
+  pub setup : setup_in new ≡ setup_in old
+  pub number : number_in new ≡ number_in old
+
+-- it is sound, and waits for a state
+pub record WaitsBy {Y X : Type 0} {G : Y → Type 0} {F : X → Type 0} {M : _} (meaning : (i : X) → F i → Meaning) (client : Client Y X G F M) : Type 0 where
+  pub sound : IsSoundAt client.setup.now client.number client.stage client.board meaning
+  pub joining : life client ≡ Joining
+
+-- the same, as a clause has them
+abbrev pub Keeps : {Y X : Type 0} {G : Y → Type 0} {F : X → Type 0} {M : _} → ((i : X) → Ghosts (F i)) → Client Y X G F M → Client Y X G F M → Type 0
+Keeps sys old new = KeepsBy (λ i v. (sys i).meaning v) old new
+
+abbrev pub Builds : {Y X : Type 0} {G : Y → Type 0} {F : X → Type 0} {M : _} {A E : Type 0} → ((i : X) → Ghosts (F i)) → Result A E → Client Y X G F M
+    → Client Y X G F M → Type 0
+Builds sys result old new = BuildsBy (λ i v. (sys i).meaning v) result old new
+
+abbrev pub Waits : {Y X : Type 0} {G : Y → Type 0} {F : X → Type 0} {M : _} → ((i : X) → Ghosts (F i)) → Client Y X G F M → Type 0
+Waits sys client = WaitsBy (λ i v. (sys i).meaning v) client

@@ -13,7 +13,7 @@ use crate::did::{Did, Played, Ups, one, silent};
 use crate::digests::Digests;
 use crate::known::Known;
 use crate::stage::Seat;
-use sim_base::{Command, Items, OutOfMemory, PlayerCommand, Setup, State};
+use sim_base::{Command, Items, OutOfMemory, Setup, State, Timed};
 use sim_board::Board;
 use sim_codec::{mark, spell};
 use sim_orders::OrderTable;
@@ -226,14 +226,15 @@ fn learn(
     setup: &Setup,
     state: &State,
     seat: &mut Seat,
-    turn: u32,
-    order: PlayerCommand,
+    timed: Timed,
 ) -> Result<Did, OutOfMemory>
     requires players { AreByPlayers setup.now seat.old.known }
-    ensures answers { let old = player_at state.now seat.old in Answers (learns setup.now turn order old) (On old) result (On (player_at state.now seat.new)) }
-    ensures idle { learns setup.now turn order (player_at state.now seat.old) ≡ None → IsOk result }
+    ensures answers { let old = player_at state.now seat.old in Answers (learns setup.now timed.turn timed.order old) (On old) result
+        (On (player_at state.now seat.new)) }
+    ensures idle { learns setup.now timed.turn timed.order (player_at state.now seat.old) ≡ None → IsOk result }
     ensures players { OnOk result (AreByPlayers setup.now seat.new.known) }
 {
+    let Timed { turn, order } = timed;
     if !may_learn(setup, state.turn, turn, order.player) {
         return Ok(Did::Idle);
     }
@@ -274,7 +275,7 @@ pub fn heed(
         Down::Ask { client } => Ok(Did::Done {
             up: hand_on(alloc, setup, state, client)?,
         }),
-        Down::Command { turn, order } => learn(alloc, setup, state, seat, turn, order),
+        Down::Command { turn, order } => learn(alloc, setup, state, seat, Timed { turn, order }),
         Down::Release { turn } => Ok(release(alloc, seat, turn)),
         Down::State { .. } => Ok(Did::Idle),
         Down::Notice { .. } => Ok(Did::Idle),
