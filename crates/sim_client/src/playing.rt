@@ -4,9 +4,9 @@ ghost use Rattle.{sim_client.specs.StageWords.IsPlaying, sim_client.specs.StageW
 ghost use Rattle.std.specs.Prelude.{◌≡◌, ◌+◌, ◌^◌, ◌<◌, min, false, ◌&&◌, [], ◌∷◌, IfOk, OnOk, IsOk, nat_lt, None, Ok, Option};
 ghost use Rattle.sim_base.specs.{Limits.IsSetup, Spelling.mark as mark_in, Spelling.spelling, Validity.IsValid, declared.state.State.State as AnyState};
 ghost use Rattle.sim_board.specs.BoardWords.{AreKept, state_in, systems};
-ghost use Rattle.sim_client.specs.ClientWords.{Answers, did_in, HasDigest, NeedsNoMemory};
+ghost use Rattle.sim_client.specs.ClientWords.{Answers, did_in, HasDigest, NeedsNoMemory, Plays};
 ghost use Rattle.sim_client.specs.KnownWords.{AreByPlayers, known_in};
-ghost use Rattle.sim_client.specs.Lives.{hears, learns, may_play as may_play_by, On, orders as orders_by, played, plays, releases, told};
+ghost use Rattle.sim_client.specs.Lives.{hears, learns, may_play as may_play_by, On, orders as orders_by, played, releases, told};
 ghost use Rattle.sim_plain.specs.declared.message.UpOf.TheVariants as up;
 
 use crate::did::{Did, Played, Ups, one, silent};
@@ -141,11 +141,7 @@ pub fn play(
     seat: &mut Seat,
 ) -> Result<Did, OutOfMemory>
     requires playing { IsPlaying setup.now board.old seat.old ⟦<dyn System as System>⟧ }
-    ensures answers { let old = On (player_at (state_in board.old) seat.old) in Answers (plays setup.now old) old result
-        (On (player_at (state_in board.new) seat.new)) }
-    ensures playing { OnOk result (IsPlaying setup.now board.new seat.new ⟦<dyn System as System>⟧) }
-    ensures idle { may_play_by setup.now (player_at (state_in board.old) seat.old) ≡ false → IsOk result }
-    ensures kept { AreKept (systems board.old ⟦<dyn System as System>⟧) (systems board.new ⟦<dyn System as System>⟧) }
+    ensures { Plays ⟦<dyn System as System>⟧ setup.now result board.old seat.old board.new seat.new }
 {
     if !may_play(setup, board.scene().state, seat) {
         return Ok(Did::Idle);
@@ -167,12 +163,8 @@ pub fn play_beside(
     digests: &mut Digests,
 ) -> Result<Played, OutOfMemory>
     requires playing { IsPlaying setup.now board.old seat.old ⟦<dyn System as System>⟧ }
-    ensures answers { let old = On (player_at (state_in board.old) seat.old) in Answers (plays setup.now old) old (did_in result)
-        (On (player_at (state_in board.new) seat.new)) }
+    ensures plays { Plays ⟦<dyn System as System>⟧ setup.now (did_in result) board.old seat.old board.new seat.new }
     ensures digest { IfOk result (λ played. HasDigest setup.now (On (player_at (state_in board.new) seat.new)) played.did played.digest) }
-    ensures playing { OnOk result (IsPlaying setup.now board.new seat.new ⟦<dyn System as System>⟧) }
-    ensures idle { may_play_by setup.now (player_at (state_in board.old) seat.old) ≡ false → IsOk result }
-    ensures kept { AreKept (systems board.old ⟦<dyn System as System>⟧) (systems board.new ⟦<dyn System as System>⟧) }
 {
     if !may_play(setup, board.scene().state, seat) {
         return Ok(Played {
