@@ -31,7 +31,8 @@ impl Market<'_> {
         requires begins { MayBegin (setup_in board.old) (systems board.old ⟦<dyn System as System>⟧) }
         requires economy { IsEconomy (setup_in board.old) self.now.economy.now }
         ensures text { IfOk result (λ text. string_bytes text ≡ text_of_stocks (setup_in board.old) self.now.economy.now) }
-        ensures ends { ComesTo ⟦<dyn System as System>⟧ (paid_state (setup_in board.old) self.now.economy.now (setup_in board.old).turns) result board.old board.new }
+        ensures ends { ComesTo ⟦<dyn System as System>⟧ (paid_state (setup_in board.old) self.now.economy.now (setup_in board.old).turns) result board.old
+            board.new }
     {
         let setup = board.setup();
         let mut text = String::new(self.alloc);
