@@ -1,10 +1,13 @@
 -- What a client is to its callers. A clause passes ⟦<dyn System as System>⟧ for `sys`.
-use Rattle.{sim_codec.specs.Loading.StandsFor, sim_system.specs.Meanings.Systems, sim_system.specs.declared.system.System.Ghosts}
-use Rattle.std.specs.Prelude.{◌≡◌, ℕ, Bool, true, false, List, Some, None, Ok, Err, Option, Result}
+use Rattle.{sim_board.specs.BoardWords.AreKept, sim_codec.specs.Loading.StandsFor, sim_system.specs.declared.system.System.Ghosts}
+use Rattle.std.specs.Prelude.{◌≡◌, ℕ, Bool, true, false, List, IsOk, OnOk, Some, None, Ok, Err, Option, Result}
 use Rattle.sim_base.specs.{Spelling.digest, Spelling.mark, declared.memory.OutOfMemory.OutOfMemory, declared.setup.Setup.Setup, declared.state.State.State}
-use Rattle.sim_client.specs.{Lives.Act, Lives.Joining, Lives.Life, Lives.Off, Lives.On, Lives.Told, declared.client.Client.Client}
+use Rattle.sim_client.specs.{Lives.Act, Lives.hears, Lives.Joining, Lives.Life, Lives.may_play, Lives.Off, Lives.On, Lives.plays, Lives.Told}
+use Rattle.sim_client.specs.declared.{client.Client.Client, stage.Seat.Seat}
 use Rattle.sim_client.specs.declared.did.{Did.Did, Played.Played}
-use Rattle.sim_client.specs.StageWords.{IsSoundAt, life_at, systems_on}
+use Rattle.sim_client.specs.StageWords.{IsPlayingBy, IsSoundAt, life_at, player_at, systems_on}
+use Rattle.{sim_board.specs.declared.board.Board.Board, sim_system.specs.RigWords.systems_by}
+use Rattle.sim_system.specs.Meanings.{AreBuiltOnceAtMost, HaveKinds, Meaning, Systems}
 use Rattle.sim_client.specs.declared.did.Did.TheVariants as did
 use Rattle.sim_plain.specs.declared.message.DownOf.TheVariants as down
 
@@ -137,3 +140,90 @@ NeedsNoMemory (On player) (down.Command turn order) = ⊥
 NeedsNoMemory (On player) (down.Release turn) = Unit {0}
 NeedsNoMemory (On player) (down.Notice turn client) = Unit {0}
 NeedsNoMemory (On player) (down.Refused code) = Unit {0}
+
+-- ---- what becomes of a client, the facts of each call by name
+
+-- A board that plays its next turn and tells it, if it may; where it may not, that takes no memory. With memory it may be played on again, and
+-- however that ends, none of its systems was built since.
+pub record PlaysBy {X : Type 0} {F : X → Type 0} (meaning : (i : X) → F i → Meaning) (setup : Setup) (result : Result Did OutOfMemory)
+    (old : Board X F) (seat : Seat) (new : Board X F) (now : Seat) : Type 0 where
+  pub answers : Answers (plays setup (On (player_at old.state seat))) (On (player_at old.state seat)) result (On (player_at new.state now))
+  pub playing : OnOk result (IsPlayingBy setup new now meaning)
+  pub idle : may_play setup (player_at old.state seat) ≡ false → IsOk result
+  pub kept : AreKept (systems_by old.rig meaning) (systems_by new.rig meaning)
+
+-- however a call ends, none of its systems was built since, and its match and its number are the same
+pub record KeepsBy {Y X : Type 0} {G : Y → Type 0} {F : X → Type 0} {M : _} (meaning : (i : X) → F i → Meaning) (old new : Client Y X G F M) : Type 0 where
+  pub kept : AreKept (systems_on old.board meaning) (systems_on new.board meaning)
+  pub setup : setup_in new ≡ setup_in old
+  pub number : number_in new ≡ number_in old
+
+-- A step that comes to this, or to nothing, which takes no memory. Where there was memory the client is sound again.
+pub record StepsBy {Y X : Type 0} {G : Y → Type 0} {F : X → Type 0} {M : _} (meaning : (i : X) → F i → Meaning) (act : Option Act)
+    (result : Result Did OutOfMemory)
+    (old new : Client Y X G F M) : Type 0 where
+  pub answers : Answers act (life old) result (life new)
+  pub idle : act ≡ None → IsOk result
+  pub sound : OnOk result (IsSoundAt new.setup.now new.number new.stage new.board meaning)
+  pub keeps : KeepsBy meaning old new
+
+-- A client that begins at a state, or may do so, is sound again with memory. However that ends, its systems are in their places, each was
+-- built once at most, and its match and its number are the same.
+pub record BuildsBy {Y X : Type 0} {G : Y → Type 0} {F : X → Type 0} {M : _} {A E : Type 0} (meaning : (i : X) → F i → Meaning) (result : Result A E)
+    (old new : Client Y X G F M) : Type 0 where
+  pub sound : OnOk result (IsSoundAt new.setup.now new.number new.stage new.board meaning)
+  pub kinds : HaveKinds (systems_on new.board meaning)
+  pub most : AreBuiltOnceAtMost (systems_on old.board meaning) (systems_on new.board meaning)
+  pub setup : setup_in new ≡ setup_in old
+  pub number : number_in new ≡ number_in old
+
+-- it is this, where there was memory to begin
+pub record BeginsBy {Y X : Type 0} {G : Y → Type 0} {F : X → Type 0} {M : _} {A E : Type 0} (meaning : (i : X) → F i → Meaning) (wanted : Life)
+    (result : Result A E)
+    (old new : Client Y X G F M) : Type 0 where
+  pub begins : OnOk result (life new ≡ wanted)
+  pub ends : BuildsBy meaning result old new
+
+-- it is sound, and waits for a state
+pub record WaitsBy {Y X : Type 0} {G : Y → Type 0} {F : X → Type 0} {M : _} (meaning : (i : X) → F i → Meaning) (client : Client Y X G F M) : Type 0 where
+  pub sound : IsSoundAt client.setup.now client.number client.stage client.board meaning
+  pub joining : life client ≡ Joining
+
+-- What comes of a message, for a client that was this. Nothing takes memory but to load a state, to hand one on and to know a command, and
+-- bytes of no state take none. Systems are built only where a state is loaded.
+pub record HearsBy {Y X : Type 0} {G : Y → Type 0} {F : X → Type 0} {M : _} (meaning : (i : X) → F i → Meaning) (was : Life) (said : Told)
+    (result : Result Did OutOfMemory)
+    (old new : Client Y X G F M) : Type 0 where
+  pub answers : (loaded : Option State) → LoadsFrom (setup_in old) said loaded → Answers (hears (setup_in old) loaded said was) was result (life new)
+  pub idle : may_load was said ≡ false → hears (setup_in old) None said was ≡ None → IsOk result
+  pub sure : NeedsNoMemory was said → IsOk result
+  pub stateless : HasNoState (setup_in old) said → IsOk result
+  pub kept : may_load was said ≡ false → AreKept (systems_on old.board meaning) (systems_on new.board meaning)
+  pub unloaded : is_idle result ≡ true → AreKept (systems_on old.board meaning) (systems_on new.board meaning)
+  pub ends : BuildsBy meaning result old new
+
+-- the same, as a clause has them
+abbrev pub Plays : {X : Type 0} {F : X → Type 0} → ((i : X) → Ghosts (F i)) → Setup → Result Did OutOfMemory → Board X F → Seat → Board X F → Seat → Type 0
+Plays sys setup result old seat new now = PlaysBy (λ i v. (sys i).meaning v) setup result old seat new now
+
+abbrev pub Keeps : {Y X : Type 0} {G : Y → Type 0} {F : X → Type 0} {M : _} → ((i : X) → Ghosts (F i)) → Client Y X G F M → Client Y X G F M → Type 0
+Keeps sys old new = KeepsBy (λ i v. (sys i).meaning v) old new
+
+abbrev pub Steps : {Y X : Type 0} {G : Y → Type 0} {F : X → Type 0} {M : _} → ((i : X) → Ghosts (F i)) → Option Act → Result Did OutOfMemory
+    → Client Y X G F M → Client Y X G F M → Type 0
+Steps sys act result old new = StepsBy (λ i v. (sys i).meaning v) act result old new
+
+abbrev pub Builds : {Y X : Type 0} {G : Y → Type 0} {F : X → Type 0} {M : _} {A E : Type 0} → ((i : X) → Ghosts (F i)) → Result A E → Client Y X G F M
+    → Client Y X G F M → Type 0
+Builds sys result old new = BuildsBy (λ i v. (sys i).meaning v) result old new
+
+abbrev pub Begins : {Y X : Type 0} {G : Y → Type 0} {F : X → Type 0} {M : _} {A E : Type 0} → ((i : X) → Ghosts (F i)) → Life → Result A E
+    → Client Y X G F M → Client Y X G F M → Type 0
+Begins sys wanted result old new = BeginsBy (λ i v. (sys i).meaning v) wanted result old new
+
+abbrev pub Waits : {Y X : Type 0} {G : Y → Type 0} {F : X → Type 0} {M : _} → ((i : X) → Ghosts (F i)) → Client Y X G F M → Type 0
+Waits sys client = WaitsBy (λ i v. (sys i).meaning v) client
+
+abbrev pub Hears : {Y X : Type 0} {G : Y → Type 0} {F : X → Type 0} {M : _} → ((i : X) → Ghosts (F i)) → Life → Told → Result Did OutOfMemory
+    → Client Y X G F M → Client Y X G F M → Type 0
+Hears sys was said result old new = HearsBy (λ i v. (sys i).meaning v) was said result old new

@@ -3,13 +3,13 @@
 //! Its systems are always on a board. A client that is not on has one that is not whole, and its systems are cleared. The
 //! board is taken out only to be made anew, as the client is cut off.
 
-ghost use Rattle.{sim_base.specs.Limits.HasFewIds, sim_base.specs.Limits.IsFrom, sim_base.specs.Limits.IsSetup, sim_board.specs.BoardWords.AreKept};
-ghost use Rattle.std.specs.Prelude.{◌≡◌, min, IfOk, OnOk, IsOk, None, option_copied};
-ghost use Rattle.sim_client.specs.ClientWords.{Answers, did_in, digest_of, HasDigest, is_joining, IsSound, life, mark_of};
-ghost use Rattle.sim_client.specs.ClientWords.{number_in, setup_in, state_of, systems, Tells, turn_of};
+ghost use Rattle.{sim_base.specs.Limits.HasFewIds, sim_base.specs.Limits.IsFrom, sim_base.specs.Limits.IsSetup};
+ghost use Rattle.std.specs.Prelude.{◌≡◌, min, IfOk, option_copied};
+ghost use Rattle.sim_client.specs.ClientWords.{Begins, did_in, digest_of, HasDigest, is_joining, IsSound, Keeps, life, mark_of};
+ghost use Rattle.sim_client.specs.ClientWords.{number_in, setup_in, state_of, Steps, systems, Tells, turn_of};
 ghost use Rattle.sim_client.specs.Lives.{bends, joins, Off, orders as orders_by, plays, starts};
 ghost use Rattle.sim_client.specs.StageWords.{AreCleared, AreOf};
-ghost use Rattle.sim_system.specs.{Meanings.all_cleared, Meanings.AreBuiltOnceAtMost, Meanings.HaveKinds, RigWords.systems_of};
+ghost use Rattle.sim_system.specs.{Meanings.all_cleared, Meanings.HaveKinds, RigWords.systems_of};
 
 mod hearing;
 
@@ -70,12 +70,7 @@ impl<'a> Client<'a> {
     pub fn start(&mut self) -> Result<(), OutOfMemory>
         requires sound { IsSound self.old ⟦<dyn System as System>⟧ }
         requires off { life self.old ≡ Off }
-        ensures starts { OnOk result (life self.new ≡ starts (setup_in self.old)) }
-        ensures sound { OnOk result (IsSound self.new ⟦<dyn System as System>⟧) }
-        ensures kinds { HaveKinds (systems self.new ⟦<dyn System as System>⟧) }
-        ensures most { AreBuiltOnceAtMost (systems self.old ⟦<dyn System as System>⟧) (systems self.new ⟦<dyn System as System>⟧) }
-        ensures setup { setup_in self.new ≡ setup_in self.old }
-        ensures number { number_in self.new ≡ number_in self.old }
+        ensures { Begins ⟦<dyn System as System>⟧ (starts (setup_in self.old)) result self.old self.new }
     {
         let Some(board) = &mut self.board else {
             return Ok(());
@@ -91,12 +86,7 @@ impl<'a> Client<'a> {
     /// Wishes to join.
     pub fn join(&mut self) -> Result<Did, OutOfMemory>
         requires sound { IsSound self.old ⟦<dyn System as System>⟧ }
-        ensures answers { Answers (joins (life self.old)) (life self.old) result (life self.new) }
-        ensures idle { joins (life self.old) ≡ None → IsOk result }
-        ensures sound { OnOk result (IsSound self.new ⟦<dyn System as System>⟧) }
-        ensures kept { AreKept (systems self.old ⟦<dyn System as System>⟧) (systems self.new ⟦<dyn System as System>⟧) }
-        ensures setup { setup_in self.new ≡ setup_in self.old }
-        ensures number { number_in self.new ≡ number_in self.old }
+        ensures { Steps ⟦<dyn System as System>⟧ (joins (life self.old)) result self.old self.new }
     {
         let Stage::Off = self.stage else {
             return Ok(Did::Idle);
@@ -110,12 +100,7 @@ impl<'a> Client<'a> {
     pub fn order(&mut self, command: &Command) -> Result<Did, OutOfMemory>
         requires sound { IsSound self.old ⟦<dyn System as System>⟧ }
         requires few { HasFewIds command.now }
-        ensures answers { Answers (orders_by (setup_in self.old) command.now (life self.old)) (life self.old) result (life self.new) }
-        ensures idle { orders_by (setup_in self.old) command.now (life self.old) ≡ None → IsOk result }
-        ensures sound { OnOk result (IsSound self.new ⟦<dyn System as System>⟧) }
-        ensures kept { AreKept (systems self.old ⟦<dyn System as System>⟧) (systems self.new ⟦<dyn System as System>⟧) }
-        ensures setup { setup_in self.new ≡ setup_in self.old }
-        ensures number { number_in self.new ≡ number_in self.old }
+        ensures { Steps ⟦<dyn System as System>⟧ (orders_by (setup_in self.old) command.now (life self.old)) result self.old self.new }
     {
         let Stage::On { seat } = &mut self.stage else {
             return Ok(Did::Idle);
@@ -126,12 +111,7 @@ impl<'a> Client<'a> {
     /// Plays the next turn.
     pub fn play(&mut self) -> Result<Did, OutOfMemory>
         requires sound { IsSound self.old ⟦<dyn System as System>⟧ }
-        ensures answers { Answers (plays (setup_in self.old) (life self.old)) (life self.old) result (life self.new) }
-        ensures idle { plays (setup_in self.old) (life self.old) ≡ None → IsOk result }
-        ensures sound { OnOk result (IsSound self.new ⟦<dyn System as System>⟧) }
-        ensures kept { AreKept (systems self.old ⟦<dyn System as System>⟧) (systems self.new ⟦<dyn System as System>⟧) }
-        ensures setup { setup_in self.new ≡ setup_in self.old }
-        ensures number { number_in self.new ≡ number_in self.old }
+        ensures { Steps ⟦<dyn System as System>⟧ (plays (setup_in self.old) (life self.old)) result self.old self.new }
     {
         let Stage::On { seat } = &mut self.stage else {
             return Ok(Did::Idle);
@@ -146,13 +126,8 @@ impl<'a> Client<'a> {
     /// one of theirs.
     pub fn play_beside(&mut self, digests: &mut Digests) -> Result<Played, OutOfMemory>
         requires sound { IsSound self.old ⟦<dyn System as System>⟧ }
-        ensures answers { Answers (plays (setup_in self.old) (life self.old)) (life self.old) (did_in result) (life self.new) }
+        ensures steps { Steps ⟦<dyn System as System>⟧ (plays (setup_in self.old) (life self.old)) (did_in result) self.old self.new }
         ensures digest { IfOk result (λ played. HasDigest (setup_in self.old) (life self.new) played.did played.digest) }
-        ensures idle { plays (setup_in self.old) (life self.old) ≡ None → IsOk result }
-        ensures sound { OnOk result (IsSound self.new ⟦<dyn System as System>⟧) }
-        ensures kept { AreKept (systems self.old ⟦<dyn System as System>⟧) (systems self.new ⟦<dyn System as System>⟧) }
-        ensures setup { setup_in self.new ≡ setup_in self.old }
-        ensures number { number_in self.new ≡ number_in self.old }
     {
         let Stage::On { seat } = &mut self.stage else {
             return Ok(Played {
@@ -174,9 +149,7 @@ impl<'a> Client<'a> {
         requires sound { IsSound self.old ⟦<dyn System as System>⟧ }
         ensures tells { Tells (bends (setup_in self.old) entity health (life self.old)) (life self.old) result (life self.new) }
         ensures sound { IsSound self.new ⟦<dyn System as System>⟧ }
-        ensures kept { AreKept (systems self.old ⟦<dyn System as System>⟧) (systems self.new ⟦<dyn System as System>⟧) }
-        ensures setup { setup_in self.new ≡ setup_in self.old }
-        ensures number { number_in self.new ≡ number_in self.old }
+        ensures keeps { Keeps ⟦<dyn System as System>⟧ self.old self.new }
     {
         let Stage::On { .. } = self.stage else {
             return false;

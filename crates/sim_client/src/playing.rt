@@ -4,16 +4,16 @@ ghost use Rattle.{sim_client.specs.StageWords.IsPlaying, sim_client.specs.StageW
 ghost use Rattle.std.specs.Prelude.{◌≡◌, ◌+◌, ◌^◌, ◌<◌, min, false, ◌&&◌, [], ◌∷◌, IfOk, OnOk, IsOk, nat_lt, None, Ok, Option};
 ghost use Rattle.sim_base.specs.{Limits.IsSetup, Spelling.mark as mark_in, Spelling.spelling, Validity.IsValid, declared.state.State.State as AnyState};
 ghost use Rattle.sim_board.specs.BoardWords.{AreKept, state_in, systems};
-ghost use Rattle.sim_client.specs.ClientWords.{Answers, did_in, HasDigest, NeedsNoMemory};
+ghost use Rattle.sim_client.specs.ClientWords.{Answers, did_in, HasDigest, NeedsNoMemory, Plays};
 ghost use Rattle.sim_client.specs.KnownWords.{AreByPlayers, known_in};
-ghost use Rattle.sim_client.specs.Lives.{hears, learns, may_play as may_play_by, On, orders as orders_by, played, plays, releases, told};
+ghost use Rattle.sim_client.specs.Lives.{hears, learns, may_play as may_play_by, On, orders as orders_by, played, releases, told};
 ghost use Rattle.sim_plain.specs.declared.message.UpOf.TheVariants as up;
 
 use crate::did::{Did, Played, Ups, one, silent};
 use crate::digests::Digests;
 use crate::known::Known;
 use crate::stage::Seat;
-use sim_base::{Command, Items, OutOfMemory, PlayerCommand, Setup, State};
+use sim_base::{Command, Items, OutOfMemory, Setup, State, Timed};
 use sim_board::Board;
 use sim_codec::{mark, spell};
 use sim_orders::OrderTable;
@@ -141,11 +141,7 @@ pub fn play(
     seat: &mut Seat,
 ) -> Result<Did, OutOfMemory>
     requires playing { IsPlaying setup.now board.old seat.old ⟦<dyn System as System>⟧ }
-    ensures answers { let old = On (player_at (state_in board.old) seat.old) in Answers (plays setup.now old) old result
-        (On (player_at (state_in board.new) seat.new)) }
-    ensures playing { OnOk result (IsPlaying setup.now board.new seat.new ⟦<dyn System as System>⟧) }
-    ensures idle { may_play_by setup.now (player_at (state_in board.old) seat.old) ≡ false → IsOk result }
-    ensures kept { AreKept (systems board.old ⟦<dyn System as System>⟧) (systems board.new ⟦<dyn System as System>⟧) }
+    ensures { Plays ⟦<dyn System as System>⟧ setup.now result board.old seat.old board.new seat.new }
 {
     if !may_play(setup, board.scene().state, seat) {
         return Ok(Did::Idle);
@@ -167,12 +163,8 @@ pub fn play_beside(
     digests: &mut Digests,
 ) -> Result<Played, OutOfMemory>
     requires playing { IsPlaying setup.now board.old seat.old ⟦<dyn System as System>⟧ }
-    ensures answers { let old = On (player_at (state_in board.old) seat.old) in Answers (plays setup.now old) old (did_in result)
-        (On (player_at (state_in board.new) seat.new)) }
+    ensures plays { Plays ⟦<dyn System as System>⟧ setup.now (did_in result) board.old seat.old board.new seat.new }
     ensures digest { IfOk result (λ played. HasDigest setup.now (On (player_at (state_in board.new) seat.new)) played.did played.digest) }
-    ensures playing { OnOk result (IsPlaying setup.now board.new seat.new ⟦<dyn System as System>⟧) }
-    ensures idle { may_play_by setup.now (player_at (state_in board.old) seat.old) ≡ false → IsOk result }
-    ensures kept { AreKept (systems board.old ⟦<dyn System as System>⟧) (systems board.new ⟦<dyn System as System>⟧) }
 {
     if !may_play(setup, board.scene().state, seat) {
         return Ok(Played {
@@ -226,14 +218,15 @@ fn learn(
     setup: &Setup,
     state: &State,
     seat: &mut Seat,
-    turn: u32,
-    order: PlayerCommand,
+    timed: Timed,
 ) -> Result<Did, OutOfMemory>
     requires players { AreByPlayers setup.now seat.old.known }
-    ensures answers { let old = player_at state.now seat.old in Answers (learns setup.now turn order old) (On old) result (On (player_at state.now seat.new)) }
-    ensures idle { learns setup.now turn order (player_at state.now seat.old) ≡ None → IsOk result }
+    ensures answers { let old = player_at state.now seat.old in Answers (learns setup.now timed.turn timed.order old) (On old) result
+        (On (player_at state.now seat.new)) }
+    ensures idle { learns setup.now timed.turn timed.order (player_at state.now seat.old) ≡ None → IsOk result }
     ensures players { OnOk result (AreByPlayers setup.now seat.new.known) }
 {
+    let Timed { turn, order } = timed;
     if !may_learn(setup, state.turn, turn, order.player) {
         return Ok(Did::Idle);
     }
@@ -274,7 +267,7 @@ pub fn heed(
         Down::Ask { client } => Ok(Did::Done {
             up: hand_on(alloc, setup, state, client)?,
         }),
-        Down::Command { turn, order } => learn(alloc, setup, state, seat, turn, order),
+        Down::Command { turn, order } => learn(alloc, setup, state, seat, Timed { turn, order }),
         Down::Release { turn } => Ok(release(alloc, seat, turn)),
         Down::State { .. } => Ok(Did::Idle),
         Down::Notice { .. } => Ok(Did::Idle),

@@ -1,9 +1,10 @@
 //! A film of a match: its states, so many turns apart, each with the digest, the rows and their ways. The match is played once.
 
 ghost use Rattle.std.specs.Prelude.{◌≡◌, ◌≤◌, ◌++◌, IfOk, OnOk, string_bytes};
-ghost use Rattle.sim_play.specs.Common.{AreBuiltOnceAtMost, AreFed, HaveKinds, IsSetup, IsValid, setup_in, systems, systems_of};
+ghost use Rattle.sim_play.specs.Common.{IsValid, setup_in, systems};
+ghost use Rattle.sim_play.specs.Common.{systems_of};
 ghost use Rattle.sim_play.specs.Films.{film_text as text_of_film, frame_text, is_told as is_turn_told, last_state, told_frame};
-ghost use Rattle.sim_play.specs.Playing.{ComesTo, GoesOnTo, HasBegun, MayBegin};
+ghost use Rattle.sim_play.specs.Playing.{ComesTo, GoesOnTo, HasBegun, HasPlayed, MayBegin};
 
 use crate::lines::push_line;
 use sim_base::{OutOfMemory, Setup, State};
@@ -23,13 +24,10 @@ pub fn film_text(
     rig: Rig,
     orders: &OrderTable,
 ) -> (Result<String, OutOfMemory>, Rig)
-    requires limits { IsSetup setup.now }
+    requires begins { MayBegin setup.now (systems_of rig ⟦<dyn System as System>⟧) }
     requires every { 1 ≤ every }
-    requires kinds { HaveKinds (systems_of rig ⟦<dyn System as System>⟧) }
     ensures text { IfOk result.0 (λ text. string_bytes text ≡ text_of_film setup.now every) }
-    ensures fed { OnOk result.0 (AreFed setup.now (last_state setup.now) (systems_of result.1 ⟦<dyn System as System>⟧)) }
-    ensures kinds { HaveKinds (systems_of result.1 ⟦<dyn System as System>⟧) }
-    ensures most { AreBuiltOnceAtMost (systems_of rig ⟦<dyn System as System>⟧) (systems_of result.1 ⟦<dyn System as System>⟧) }
+    ensures played { HasPlayed ⟦<dyn System as System>⟧ setup.now (last_state setup.now) result.0 rig result.1 }
 {
     let mut board = Board::new(alloc, setup, rig);
     let mut text = String::new(alloc);

@@ -2,9 +2,9 @@
 
 ghost use Rattle.std.specs.Prelude.{◌≡◌, ◌≤◌, length, IfOk, OnOk, All};
 ghost use Rattle.sim_play.specs.{Common.systems, Common.systems_of, Films.last_state};
-ghost use Rattle.sim_play.specs.Common.{AreBuiltOnceAtMost, AreFed, HaveKinds, IsOrderOf, IsSetup, setup_in};
+ghost use Rattle.sim_play.specs.Common.{IsOrderOf, setup_in};
 ghost use Rattle.sim_play.specs.Logs.{digests_after as digests_of_turns, log_after as log_of_turns, match_turns as turns_of_match, state_after};
-ghost use Rattle.sim_play.specs.Playing.{ComesTo, GoesOnTo, HasBegun, MayBegin};
+ghost use Rattle.sim_play.specs.Playing.{ComesTo, GoesOnTo, HasBegun, HasPlayed, MayBegin};
 
 use crate::own::match_turns;
 use sim_base::{OutOfMemory, Setup};
@@ -65,14 +65,11 @@ pub fn digests_after(
     rig: Rig,
     orders: &OrderTable,
 ) -> (Result<Digests, OutOfMemory>, Rig)
-    requires limits { IsSetup setup.now }
+    requires begins { MayBegin setup.now (systems_of rig ⟦<dyn System as System>⟧) }
     requires few { length turns.now ≤ setup.now.turns }
     requires players { All (All (IsOrderOf setup.now)) turns.now }
-    requires kinds { HaveKinds (systems_of rig ⟦<dyn System as System>⟧) }
     ensures digests { IfOk result.0 (λ digests. digests ≡ digests_of_turns setup.now turns.now) }
-    ensures fed { OnOk result.0 (AreFed setup.now (state_after setup.now turns.now) (systems_of result.1 ⟦<dyn System as System>⟧)) }
-    ensures kinds { HaveKinds (systems_of result.1 ⟦<dyn System as System>⟧) }
-    ensures most { AreBuiltOnceAtMost (systems_of rig ⟦<dyn System as System>⟧) (systems_of result.1 ⟦<dyn System as System>⟧) }
+    ensures played { HasPlayed ⟦<dyn System as System>⟧ setup.now (state_after setup.now turns.now) result.0 rig result.1 }
 {
     let mut board = Board::new(alloc, setup, rig);
     let played = start_turns(alloc, &mut board, orders, turns);
@@ -89,14 +86,11 @@ pub fn log_after(
     rig: Rig,
     orders: &OrderTable,
 ) -> (Result<Log, OutOfMemory>, Rig)
-    requires limits { IsSetup setup.now }
+    requires begins { MayBegin setup.now (systems_of rig ⟦<dyn System as System>⟧) }
     requires few { length turns ≤ setup.now.turns }
     requires players { All (All (IsOrderOf setup.now)) turns }
-    requires kinds { HaveKinds (systems_of rig ⟦<dyn System as System>⟧) }
     ensures log { IfOk result.0 (λ log. log ≡ log_of_turns setup.now turns) }
-    ensures fed { OnOk result.0 (AreFed setup.now (state_after setup.now turns) (systems_of result.1 ⟦<dyn System as System>⟧)) }
-    ensures kinds { HaveKinds (systems_of result.1 ⟦<dyn System as System>⟧) }
-    ensures most { AreBuiltOnceAtMost (systems_of rig ⟦<dyn System as System>⟧) (systems_of result.1 ⟦<dyn System as System>⟧) }
+    ensures played { HasPlayed ⟦<dyn System as System>⟧ setup.now (state_after setup.now turns) result.0 rig result.1 }
 {
     let (digests, rig) = digests_after(alloc, setup, turns.as_slice(), rig, orders);
     match digests {
@@ -112,12 +106,9 @@ pub fn match_log(
     rig: Rig,
     orders: &OrderTable,
 ) -> (Result<Log, OutOfMemory>, Rig)
-    requires limits { IsSetup setup.now }
-    requires kinds { HaveKinds (systems_of rig ⟦<dyn System as System>⟧) }
+    requires { MayBegin setup.now (systems_of rig ⟦<dyn System as System>⟧) }
     ensures log { IfOk result.0 (λ log. log ≡ log_of_turns setup.now (turns_of_match setup.now)) }
-    ensures fed { OnOk result.0 (AreFed setup.now (last_state setup.now) (systems_of result.1 ⟦<dyn System as System>⟧)) }
-    ensures kinds { HaveKinds (systems_of result.1 ⟦<dyn System as System>⟧) }
-    ensures most { AreBuiltOnceAtMost (systems_of rig ⟦<dyn System as System>⟧) (systems_of result.1 ⟦<dyn System as System>⟧) }
+    ensures played { HasPlayed ⟦<dyn System as System>⟧ setup.now (last_state setup.now) result.0 rig result.1 }
 {
     match match_turns(alloc, setup) {
         Ok(turns) => log_after(alloc, setup, turns, rig, orders),

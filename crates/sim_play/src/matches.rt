@@ -2,8 +2,8 @@
 
 ghost use Rattle.std.specs.Prelude.{◌≡◌, ◌≤◌, ◌++◌, IfOk, OnOk, string_bytes};
 ghost use Rattle.sim_play.specs.{Common.systems, Common.systems_of, Lines.end_from, Lines.play_text as text_of_play, Lines.resume_text as text_of_resume};
-ghost use Rattle.sim_play.specs.Common.{after, AreBuiltOnceAtMost, AreFed, first_state, HaveKinds, IsSetup, IsValid, own_turns, setup_in, state_in};
-ghost use Rattle.sim_play.specs.Playing.{ComesTo, MayBegin, MayReach, MayResume};
+ghost use Rattle.sim_play.specs.Common.{after, first_state, IsValid, own_turns, setup_in, state_in};
+ghost use Rattle.sim_play.specs.Playing.{ComesTo, HasPlayed, MayBegin, MayReach, MayResume};
 
 use crate::lines::push_turns;
 use sim_base::{OutOfMemory, Setup, State};
@@ -35,12 +35,9 @@ pub fn play_text(
     rig: Rig,
     orders: &OrderTable,
 ) -> (Result<String, OutOfMemory>, Rig)
-    requires limits { IsSetup setup.now }
-    requires kinds { HaveKinds (systems_of rig ⟦<dyn System as System>⟧) }
+    requires { MayBegin setup.now (systems_of rig ⟦<dyn System as System>⟧) }
     ensures text { IfOk result.0 (λ text. string_bytes text ≡ text_of_play setup.now) }
-    ensures fed { OnOk result.0 (AreFed setup.now (end_from setup.now (first_state setup.now)) (systems_of result.1 ⟦<dyn System as System>⟧)) }
-    ensures kinds { HaveKinds (systems_of result.1 ⟦<dyn System as System>⟧) }
-    ensures most { AreBuiltOnceAtMost (systems_of rig ⟦<dyn System as System>⟧) (systems_of result.1 ⟦<dyn System as System>⟧) }
+    ensures played { HasPlayed ⟦<dyn System as System>⟧ setup.now (end_from setup.now (first_state setup.now)) result.0 rig result.1 }
 {
     let mut board = Board::new(alloc, setup, rig);
     let mut text = String::new(alloc);
@@ -76,13 +73,9 @@ pub fn resume_text(
     rig: Rig,
     orders: &OrderTable,
 ) -> (Result<String, OutOfMemory>, Rig)
-    requires limits { IsSetup setup.now }
-    requires valid { IsValid setup.now state }
-    requires kinds { HaveKinds (systems_of rig ⟦<dyn System as System>⟧) }
+    requires { MayResume setup.now state (systems_of rig ⟦<dyn System as System>⟧) }
     ensures text { IfOk result.0 (λ text. string_bytes text ≡ text_of_resume setup.now state) }
-    ensures fed { OnOk result.0 (AreFed setup.now (end_from setup.now state) (systems_of result.1 ⟦<dyn System as System>⟧)) }
-    ensures kinds { HaveKinds (systems_of result.1 ⟦<dyn System as System>⟧) }
-    ensures most { AreBuiltOnceAtMost (systems_of rig ⟦<dyn System as System>⟧) (systems_of result.1 ⟦<dyn System as System>⟧) }
+    ensures played { HasPlayed ⟦<dyn System as System>⟧ setup.now (end_from setup.now state) result.0 rig result.1 }
 {
     let mut board = Board::new(alloc, setup, rig);
     let mut text = String::new(alloc);
@@ -117,14 +110,10 @@ pub fn state_at(
     rig: Rig,
     orders: &OrderTable,
 ) -> (Result<State, OutOfMemory>, Rig)
-    requires limits { IsSetup setup.now }
-    requires turn { turn ≤ setup.now.turns }
-    requires kinds { HaveKinds (systems_of rig ⟦<dyn System as System>⟧) }
+    requires { MayReach setup.now turn (systems_of rig ⟦<dyn System as System>⟧) }
     ensures state { IfOk result.0 (λ state. state ≡ after setup.now (own_turns setup.now 0 turn)) }
     ensures valid { IfOk result.0 (IsValid setup.now) }
-    ensures fed { OnOk result.0 (AreFed setup.now (after setup.now (own_turns setup.now 0 turn)) (systems_of result.1 ⟦<dyn System as System>⟧)) }
-    ensures kinds { HaveKinds (systems_of result.1 ⟦<dyn System as System>⟧) }
-    ensures most { AreBuiltOnceAtMost (systems_of rig ⟦<dyn System as System>⟧) (systems_of result.1 ⟦<dyn System as System>⟧) }
+    ensures played { HasPlayed ⟦<dyn System as System>⟧ setup.now (after setup.now (own_turns setup.now 0 turn)) result.0 rig result.1 }
 {
     let mut board = Board::new(alloc, setup, rig);
     let played = start_until(alloc, &mut board, orders, turn);

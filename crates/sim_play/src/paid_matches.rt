@@ -1,9 +1,9 @@
 //! A whole match with an economy. The systems of a rig play it, which is handed back.
 
 ghost use Rattle.std.specs.Prelude.{◌≡◌, IfOk, OnOk, string_bytes};
-ghost use Rattle.sim_play.specs.Common.{AreBuiltOnceAtMost, AreFed, HaveKinds, IsEconomy, IsSetup, setup_in, systems, systems_of};
+ghost use Rattle.sim_play.specs.Common.{IsEconomy, setup_in, systems, systems_of};
 ghost use Rattle.sim_play.specs.Paid.{paid_state, stock_text as text_of_stocks};
-ghost use Rattle.sim_play.specs.Playing.{ComesTo, MayBegin};
+ghost use Rattle.sim_play.specs.Playing.{ComesTo, HasPlayed, MayBegin};
 
 use crate::balances::push_stocks;
 use crate::market::Market;
@@ -15,14 +15,10 @@ impl Market<'_> {
     /// The lines of a whole match, and of what each player has in the end. The rig comes back; where there was memory, it stands
     /// for the last state.
     pub fn stock_text(&self, setup: &Setup, rig: Rig) -> (Result<String, OutOfMemory>, Rig)
-        requires limits { IsSetup setup.now }
+        requires begins { MayBegin setup.now (systems_of rig ⟦<dyn System as System>⟧) }
         requires economy { IsEconomy setup.now self.now.economy.now }
-        requires kinds { HaveKinds (systems_of rig ⟦<dyn System as System>⟧) }
         ensures text { IfOk result.0 (λ text. string_bytes text ≡ text_of_stocks setup.now self.now.economy.now) }
-        ensures fed { OnOk result.0 (AreFed setup.now (paid_state setup.now self.now.economy.now setup.now.turns)
-            (systems_of result.1 ⟦<dyn System as System>⟧)) }
-        ensures kinds { HaveKinds (systems_of result.1 ⟦<dyn System as System>⟧) }
-        ensures most { AreBuiltOnceAtMost (systems_of rig ⟦<dyn System as System>⟧) (systems_of result.1 ⟦<dyn System as System>⟧) }
+        ensures played { HasPlayed ⟦<dyn System as System>⟧ setup.now (paid_state setup.now self.now.economy.now setup.now.turns) result.0 rig result.1 }
     {
         let mut board = Board::new(self.alloc, setup, rig);
         let text = self.tell(&mut board);
@@ -35,7 +31,8 @@ impl Market<'_> {
         requires begins { MayBegin (setup_in board.old) (systems board.old ⟦<dyn System as System>⟧) }
         requires economy { IsEconomy (setup_in board.old) self.now.economy.now }
         ensures text { IfOk result (λ text. string_bytes text ≡ text_of_stocks (setup_in board.old) self.now.economy.now) }
-        ensures ends { ComesTo ⟦<dyn System as System>⟧ (paid_state (setup_in board.old) self.now.economy.now (setup_in board.old).turns) result board.old board.new }
+        ensures ends { ComesTo ⟦<dyn System as System>⟧ (paid_state (setup_in board.old) self.now.economy.now (setup_in board.old).turns) result board.old
+            board.new }
     {
         let setup = board.setup();
         let mut text = String::new(self.alloc);

@@ -2,8 +2,8 @@
 
 ghost use Rattle.std.specs.Prelude.{◌≡◌, ◌≤◌, IfOk, OnOk, string_bytes};
 ghost use Rattle.sim_play.specs.{Common.systems_of, Realms.TellsRealm};
-ghost use Rattle.sim_play.specs.Common.{after, AreBuiltOnceAtMost, AreFed, HaveKinds, IsSetup, own_turns, realm_of, setup_in, systems};
-ghost use Rattle.sim_play.specs.Playing.{ComesTo, MayReach};
+ghost use Rattle.sim_play.specs.Common.{after, own_turns, realm_of, setup_in, systems};
+ghost use Rattle.sim_play.specs.Playing.{ComesTo, HasPlayed, MayReach};
 
 use crate::holdings::told;
 use crate::matches::start_until;
@@ -23,13 +23,9 @@ pub fn realm_text(
     rig: Rig,
     orders: &OrderTable,
 ) -> (Result<String, OutOfMemory>, Rig)
-    requires limits { IsSetup setup.now }
-    requires turn { turn ≤ setup.now.turns }
-    requires kinds { HaveKinds (systems_of rig ⟦<dyn System as System>⟧) }
+    requires { MayReach setup.now turn (systems_of rig ⟦<dyn System as System>⟧) }
     ensures text { IfOk result.0 (λ text. TellsRealm (realm_of setup.now (after setup.now (own_turns setup.now 0 turn))) (string_bytes text)) }
-    ensures fed { OnOk result.0 (AreFed setup.now (after setup.now (own_turns setup.now 0 turn)) (systems_of result.1 ⟦<dyn System as System>⟧)) }
-    ensures kinds { HaveKinds (systems_of result.1 ⟦<dyn System as System>⟧) }
-    ensures most { AreBuiltOnceAtMost (systems_of rig ⟦<dyn System as System>⟧) (systems_of result.1 ⟦<dyn System as System>⟧) }
+    ensures played { HasPlayed ⟦<dyn System as System>⟧ setup.now (after setup.now (own_turns setup.now 0 turn)) result.0 rig result.1 }
 {
     let mut board = Board::new(alloc, setup, rig);
     let text = told_at(alloc, &mut board, turn, orders);

@@ -2,8 +2,7 @@
 //! loads them, and plays on with systems of its own.
 
 ghost use Rattle.std.specs.Prelude.{◌≡◌, suc, ◌-◌, ◌≤◌, ◌++◌, IfOk, OnOk, string_bytes};
-ghost use Rattle.sim_play.specs.Common.{after, AreBuiltOnceAtMost, AreFed, HaveKinds, IsSetup, IsValid};
-ghost use Rattle.sim_play.specs.Common.{own_turns, setup_in, StandsFor, State as AnyState, state_in, systems, systems_of};
+ghost use Rattle.sim_play.specs.Common.{after, HaveKinds, IsSetup, IsValid, own_turns, setup_in, StandsFor, State as AnyState, state_in, systems, systems_of};
 ghost use Rattle.sim_play.specs.Lines.{past_lines, rejoin_text as text_of_rejoin};
 ghost use Rattle.sim_play.specs.Playing.{ComesTo, GoesOnTo, HasPlayed, MayGoOn, MayReach, MayResume};
 
@@ -26,18 +25,11 @@ pub fn rejoin_text(
     second: Rig,
     orders: &OrderTable,
 ) -> (Result<String, OutOfMemory>, Rig, Rig)
-    requires limits { IsSetup setup.now }
-    requires turn { turn ≤ setup.now.turns }
-    requires first { HaveKinds (systems_of first ⟦<dyn System as System>⟧) }
+    requires first { MayReach setup.now turn (systems_of first ⟦<dyn System as System>⟧) }
     requires second { HaveKinds (systems_of second ⟦<dyn System as System>⟧) }
     ensures text { IfOk result.0 (λ text. string_bytes text ≡ text_of_rejoin setup.now turn) }
-    ensures fed { OnOk result.0 (AreFed setup.now (after setup.now (own_turns setup.now 0 setup.now.turns)) (systems_of result.1 ⟦<dyn System as System>⟧)) }
-    ensures fed_later { OnOk result.0 (AreFed setup.now (after setup.now (own_turns setup.now 0 setup.now.turns))
-        (systems_of result.2 ⟦<dyn System as System>⟧)) }
-    ensures kinds { HaveKinds (systems_of result.1 ⟦<dyn System as System>⟧) }
-    ensures kinds_later { HaveKinds (systems_of result.2 ⟦<dyn System as System>⟧) }
-    ensures most { AreBuiltOnceAtMost (systems_of first ⟦<dyn System as System>⟧) (systems_of result.1 ⟦<dyn System as System>⟧) }
-    ensures most_later { AreBuiltOnceAtMost (systems_of second ⟦<dyn System as System>⟧) (systems_of result.2 ⟦<dyn System as System>⟧) }
+    ensures played { HasPlayed ⟦<dyn System as System>⟧ setup.now (after setup.now (own_turns setup.now 0 setup.now.turns)) result.0 first result.1 }
+    ensures joined { HasPlayed ⟦<dyn System as System>⟧ setup.now (after setup.now (own_turns setup.now 0 setup.now.turns)) result.0 second result.2 }
 {
     let mut board = Board::new(alloc, setup, first);
     let mut text = String::new(alloc);

@@ -1,10 +1,10 @@
 //! What the players of a match see, and have explored, at a turn of it. The systems of a rig play it, which is handed back.
 
 ghost use Rattle.std.specs.Prelude.{◌≡◌, ℕ, ◌-◌, ◌*◌, ◌≤◌, List, length, IfOk, OnOk, string_bytes};
-ghost use Rattle.sim_play.specs.{Common.sight_text as text_of_vision, Common.systems, Common.systems_of, Common.vision_after};
-ghost use Rattle.sim_play.specs.{States.later_of, Lines.end_from, Seen.resight_text as text_of_resight, Seen.sight_file, Seen.sight_text as text_of_sight};
-ghost use Rattle.sim_play.specs.Common.{after, AreBuiltOnceAtMost, AreFed, cells_in, HaveKinds, IsSetup, IsValid, joined_at, own_turns, setup_in};
-ghost use Rattle.sim_play.specs.Playing.{ComesTo, MayReach, MayResume};
+ghost use Rattle.sim_play.specs.{Common.sight_text as text_of_vision, Common.systems, Common.systems_of, Common.vision_after, States.later_of};
+ghost use Rattle.sim_play.specs.{Lines.end_from, Seen.resight_text as text_of_resight, Seen.sight_file, Seen.sight_text as text_of_sight};
+ghost use Rattle.sim_play.specs.Common.{after, cells_in, joined_at, own_turns, setup_in};
+ghost use Rattle.sim_play.specs.Playing.{ComesTo, HasPlayed, MayReach, MayResume};
 
 use crate::following::{adopt_following, start_following};
 use sim_base::{OutOfMemory, Setup, State};
@@ -42,14 +42,10 @@ pub fn sight_at(
     rig: Rig,
     orders: &OrderTable,
 ) -> (Result<(String, Vec<u8>), OutOfMemory>, Rig)
-    requires limits { IsSetup setup.now }
-    requires turn { turn ≤ setup.now.turns }
-    requires kinds { HaveKinds (systems_of rig ⟦<dyn System as System>⟧) }
+    requires { MayReach setup.now turn (systems_of rig ⟦<dyn System as System>⟧) }
     ensures text { IfOk result.0 (λ told. string_bytes told.0 ≡ text_of_sight setup.now turn) }
     ensures file { IfOk result.0 (λ told. told.1.items ≡ sight_file setup.now turn) }
-    ensures fed { OnOk result.0 (AreFed setup.now (after setup.now (own_turns setup.now 0 turn)) (systems_of result.1 ⟦<dyn System as System>⟧)) }
-    ensures kinds { HaveKinds (systems_of result.1 ⟦<dyn System as System>⟧) }
-    ensures most { AreBuiltOnceAtMost (systems_of rig ⟦<dyn System as System>⟧) (systems_of result.1 ⟦<dyn System as System>⟧) }
+    ensures played { HasPlayed ⟦<dyn System as System>⟧ setup.now (after setup.now (own_turns setup.now 0 turn)) result.0 rig result.1 }
 {
     let mut board = Board::new(alloc, setup, rig);
     let told = tell_from_the_start(alloc, &mut board, orders, turn);
@@ -88,16 +84,12 @@ pub fn resight_text(
     rig: Rig,
     orders: &OrderTable,
 ) -> (Result<String, OutOfMemory>, Rig)
-    requires limits { IsSetup setup.now }
-    requires valid { IsValid setup.now state }
-    requires kinds { HaveKinds (systems_of rig ⟦<dyn System as System>⟧) }
+    requires resumes { MayResume setup.now state (systems_of rig ⟦<dyn System as System>⟧) }
     requires same { sight.setup ≡ setup.now }
     ensures text { IfOk result.0 (λ text. (bytes : List ℕ) → sight.entry ≡ joined_at setup.now state bytes → length bytes ≡ setup.now.players *
         cells_in setup.now →
         string_bytes text ≡ text_of_resight setup.now state bytes) }
-    ensures fed { OnOk result.0 (AreFed setup.now (end_from setup.now state) (systems_of result.1 ⟦<dyn System as System>⟧)) }
-    ensures kinds { HaveKinds (systems_of result.1 ⟦<dyn System as System>⟧) }
-    ensures most { AreBuiltOnceAtMost (systems_of rig ⟦<dyn System as System>⟧) (systems_of result.1 ⟦<dyn System as System>⟧) }
+    ensures played { HasPlayed ⟦<dyn System as System>⟧ setup.now (end_from setup.now state) result.0 rig result.1 }
 {
     let mut board = Board::new(alloc, setup, rig);
     let told = tell_from_a_state(alloc, &mut board, state, orders, sight);

@@ -1,10 +1,10 @@
 //! What a client hears.
 
 ghost use Rattle.{sim_base.specs.Validity.IsValid, sim_base.specs.declared.state.State.State as AnyState, sim_board.specs.BoardWords.AreKept};
-ghost use Rattle.std.specs.Prelude.{◌≡◌, true, false, OnOk, IsSome, IsOk, None, Ok, Option};
-ghost use Rattle.sim_client.specs.{ClientWords.state_of, ClientWords.systems, Lives.begins, Lives.hears, Lives.Joining, Lives.loads, Lives.refused};
-ghost use Rattle.sim_client.specs.ClientWords.{Answers, HasNoState, is_idle, IsSound, life, LoadsAt, LoadsFrom, may_load, NeedsNoMemory, number_in, setup_in};
-ghost use Rattle.sim_system.specs.Meanings.{AreBuiltOnceAtMost, HaveKinds};
+ghost use Rattle.std.specs.Prelude.{◌≡◌, true, OnOk, IsSome, IsOk, None, Ok, Option};
+ghost use Rattle.sim_client.specs.ClientWords.{Answers, Begins, Builds, Hears, is_idle, IsSound, Keeps, life, LoadsAt, NeedsNoMemory, setup_in};
+ghost use Rattle.sim_client.specs.{ClientWords.state_of, ClientWords.systems, ClientWords.Waits, Lives.begins, Lives.hears, Lives.Joining, Lives.loads};
+ghost use Rattle.sim_client.specs.{Lives.refused};
 
 use super::Client;
 use crate::did::{Did, silent};
@@ -19,18 +19,7 @@ impl Client<'_> {
     /// Hears what the server says. Bytes that stand for no state are found out without memory.
     pub fn hear(&mut self, down: Down) -> Result<Did, OutOfMemory>
         requires sound { IsSound self.old ⟦<dyn System as System>⟧ }
-        ensures answers { (loaded : Option AnyState) → LoadsFrom (setup_in self.old) down loaded
-            → Answers (hears (setup_in self.old) loaded down (life self.old)) (life self.old) result (life self.new) }
-        ensures idle { may_load (life self.old) down ≡ false → hears (setup_in self.old) None down (life self.old) ≡ None → IsOk result }
-        ensures sure { NeedsNoMemory (life self.old) down → IsOk result }
-        ensures stateless { HasNoState (setup_in self.old) down → IsOk result }
-        ensures sound { OnOk result (IsSound self.new ⟦<dyn System as System>⟧) }
-        ensures kept { may_load (life self.old) down ≡ false → AreKept (systems self.old ⟦<dyn System as System>⟧) (systems self.new ⟦<dyn System as System>⟧) }
-        ensures unloaded { is_idle result ≡ true → AreKept (systems self.old ⟦<dyn System as System>⟧) (systems self.new ⟦<dyn System as System>⟧) }
-        ensures kinds { HaveKinds (systems self.new ⟦<dyn System as System>⟧) }
-        ensures most { AreBuiltOnceAtMost (systems self.old ⟦<dyn System as System>⟧) (systems self.new ⟦<dyn System as System>⟧) }
-        ensures setup { setup_in self.new ≡ setup_in self.old }
-        ensures number { number_in self.new ≡ number_in self.old }
+        ensures { Hears ⟦<dyn System as System>⟧ (life self.old) down result self.old self.new }
     {
         match self.stage {
             Stage::Off => Ok(Did::Idle),
@@ -47,9 +36,7 @@ impl Client<'_> {
         ensures idle { hears (setup_in self.old) None down (life self.old) ≡ None → IsOk result }
         ensures sure { NeedsNoMemory (life self.old) down → IsOk result }
         ensures sound { OnOk result (IsSound self.new ⟦<dyn System as System>⟧) }
-        ensures kept { AreKept (systems self.old ⟦<dyn System as System>⟧) (systems self.new ⟦<dyn System as System>⟧) }
-        ensures setup { setup_in self.new ≡ setup_in self.old }
-        ensures number { number_in self.new ≡ number_in self.old }
+        ensures keeps { Keeps ⟦<dyn System as System>⟧ self.old self.new }
     {
         let Stage::On { seat } = &mut self.stage else {
             return Ok(Did::Idle);
@@ -62,19 +49,8 @@ impl Client<'_> {
 
     // One that waits for a state hears a message.
     fn hear_joining(&mut self, down: Down) -> Result<Did, OutOfMemory>
-        requires sound { IsSound self.old ⟦<dyn System as System>⟧ }
-        requires joining { life self.old ≡ Joining }
-        ensures answers { (loaded : Option AnyState) → LoadsFrom (setup_in self.old) down loaded → Answers (hears (setup_in self.old) loaded down Joining)
-            Joining result (life self.new) }
-        ensures sure { NeedsNoMemory Joining down → IsOk result }
-        ensures stateless { HasNoState (setup_in self.old) down → IsOk result }
-        ensures sound { OnOk result (IsSound self.new ⟦<dyn System as System>⟧) }
-        ensures kept { may_load Joining down ≡ false → AreKept (systems self.old ⟦<dyn System as System>⟧) (systems self.new ⟦<dyn System as System>⟧) }
-        ensures unloaded { is_idle result ≡ true → AreKept (systems self.old ⟦<dyn System as System>⟧) (systems self.new ⟦<dyn System as System>⟧) }
-        ensures kinds { HaveKinds (systems self.new ⟦<dyn System as System>⟧) }
-        ensures most { AreBuiltOnceAtMost (systems self.old ⟦<dyn System as System>⟧) (systems self.new ⟦<dyn System as System>⟧) }
-        ensures setup { setup_in self.new ≡ setup_in self.old }
-        ensures number { number_in self.new ≡ number_in self.old }
+        requires { Waits ⟦<dyn System as System>⟧ self.old }
+        ensures { Hears ⟦<dyn System as System>⟧ Joining down result self.old self.new }
     {
         match down {
             Down::State { done, bytes } => self.hear_state(done, bytes.as_slice()),
@@ -88,17 +64,12 @@ impl Client<'_> {
 
     // One that waits for a state is given the bytes of one. What does not load has no effect.
     fn hear_state(&mut self, done: u32, bytes: &[u8]) -> Result<Did, OutOfMemory>
-        requires sound { IsSound self.old ⟦<dyn System as System>⟧ }
-        requires joining { life self.old ≡ Joining }
+        requires { Waits ⟦<dyn System as System>⟧ self.old }
         ensures answers { (loaded : Option AnyState) → LoadsAt (setup_in self.old) bytes.now loaded → Answers (loads done loaded) Joining result
             (life self.new) }
         ensures stateless { LoadsAt (setup_in self.old) bytes.now None → IsOk result }
-        ensures sound { OnOk result (IsSound self.new ⟦<dyn System as System>⟧) }
         ensures unloaded { is_idle result ≡ true → AreKept (systems self.old ⟦<dyn System as System>⟧) (systems self.new ⟦<dyn System as System>⟧) }
-        ensures kinds { HaveKinds (systems self.new ⟦<dyn System as System>⟧) }
-        ensures most { AreBuiltOnceAtMost (systems self.old ⟦<dyn System as System>⟧) (systems self.new ⟦<dyn System as System>⟧) }
-        ensures setup { setup_in self.new ≡ setup_in self.old }
-        ensures number { number_in self.new ≡ number_in self.old }
+        ensures ends { Builds ⟦<dyn System as System>⟧ result self.old self.new }
     {
         match load(self.alloc, self.setup, bytes) {
             Ok(state) => {
@@ -114,15 +85,9 @@ impl Client<'_> {
 
     // It is on at a state. The released turns that it knows are those up to that state.
     fn adopt(&mut self, done: u32, state: State) -> Result<(), OutOfMemory>
-        requires sound { IsSound self.old ⟦<dyn System as System>⟧ }
-        requires joining { life self.old ≡ Joining }
+        requires waits { Waits ⟦<dyn System as System>⟧ self.old }
         requires valid { IsValid (setup_in self.old) state }
-        ensures begins { OnOk result (life self.new ≡ begins state state.turn done) }
-        ensures sound { OnOk result (IsSound self.new ⟦<dyn System as System>⟧) }
-        ensures kinds { HaveKinds (systems self.new ⟦<dyn System as System>⟧) }
-        ensures most { AreBuiltOnceAtMost (systems self.old ⟦<dyn System as System>⟧) (systems self.new ⟦<dyn System as System>⟧) }
-        ensures setup { setup_in self.new ≡ setup_in self.old }
-        ensures number { number_in self.new ≡ number_in self.old }
+        ensures { Begins ⟦<dyn System as System>⟧ (begins state state.turn done) result self.old self.new }
     {
         let Some(board) = &mut self.board else {
             return Ok(());
@@ -137,13 +102,10 @@ impl Client<'_> {
 
     // One that waits for a state hears a refusal, and is off if it is that of its wish to join.
     fn hear_refused(&mut self, code: u8) -> Did
-        requires sound { IsSound self.old ⟦<dyn System as System>⟧ }
-        requires joining { life self.old ≡ Joining }
+        requires { Waits ⟦<dyn System as System>⟧ self.old }
         ensures answers { Answers (refused code) Joining (Ok result) (life self.new) }
         ensures sound { IsSound self.new ⟦<dyn System as System>⟧ }
-        ensures kept { AreKept (systems self.old ⟦<dyn System as System>⟧) (systems self.new ⟦<dyn System as System>⟧) }
-        ensures setup { setup_in self.new ≡ setup_in self.old }
-        ensures number { number_in self.new ≡ number_in self.old }
+        ensures keeps { Keeps ⟦<dyn System as System>⟧ self.old self.new }
     {
         if code != 4 {
             return Did::Idle;

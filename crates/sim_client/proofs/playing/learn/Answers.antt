@@ -8,8 +8,8 @@ pub returns-clause-players : goal.returns-clause-players
 returns-clause-players c =
     let setup = c.args.setup.now in
     let old = c.args.seat.now.known in
-    let t = c.args.turn in
-    let order = c.args.order in
+    let t = c.args.timed.turn in
+    let order = c.args.timed.order in
     let player = player_of_test (nat_lt c.args.state.now.turn t) setup order.player (sym c.may_learn.ensures ∙ c.if-not-may_learn.false) in
     players_put setup old c.learn.new.self t (known_in old t ++ order ∷ []) c.in_ok-learn.ensures c.requires.players
     (All-append (IsOrderOf setup) (known_in old t) (order ∷ []) (c.requires.players t) (All-cons (IsOrderOf setup) order [] player (All-nil (IsOrderOf setup))))

@@ -1,4 +1,5 @@
 -- The turns are those of the match, each by its players.
+use Rattle.sim_play.specs.Playing.{HasPlayedBy}
 use Rattle.sim_play.proofs.LogTurns.{match_length, match_players, match_state}
 use Rattle.sim_play.proofs.Common.{All, AreFed, ap, arith, IsOrderOf, length, OnOk, State, state_after, subst, sym, systems_by, ◌∙◌}
 use Rattle.sim_play.proofs.logs.match_log.Goals as goal
@@ -10,8 +11,8 @@ pub log_after-requires-clause-players : goal.log_after-requires-clause-players
 log_after-requires-clause-players g c =
     subst (All (All (IsOrderOf c.args.setup.now))) (sym c.in-Ok.ensures) (match_players c.args.setup.now c.requires.limits)
 
-pub returns-in-Ok-clause-fed : goal.returns-in-Ok-clause-fed
-returns-in-Ok-clause-fed g c =
+pub returns-in-Ok-clause-played : goal.returns-in-Ok-clause-played
+returns-in-Ok-clause-played g c =
     let setup = c.args.setup.now in
-    subst (λ (state : State). OnOk c.log_after.result.0 (AreFed setup state (systems_by c.log_after.result.1 (λ i v. (goal.System-dyn g (i, v)).meaning v))))
-    (ap (state_after setup) c.in-Ok.ensures ∙ match_state setup) c.log_after.ensures.fed
+    subst (λ (state : State). HasPlayedBy (λ i v. (goal.System-dyn g (i, v)).meaning v) setup state c.log_after.result.0 c.args.rig c.log_after.result.1)
+    (ap (state_after setup) c.in-Ok.ensures ∙ match_state setup) c.log_after.ensures.played

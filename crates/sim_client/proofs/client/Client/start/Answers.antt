@@ -1,22 +1,35 @@
 -- It begins at the first state, which is valid.
 use Rattle.{sim_base.specs.Turn.first_state, sim_laws.proofs.Validity.first_state_is_valid}
-use Rattle.sim_client.proofs.{Common.ap, Common.IsValid, Common.subst, Common.sym, Common.◌∙◌, Standing.none_by_players, Standing.of_match}
+use Rattle.{sim_client.specs.StageWords.systems_on, std.specs.Prelude.Option, sim_system.specs.Meanings.AreBuiltOnceAtMost}
+use Rattle.{sim_system.specs.RigWords.systems_by}
+use Rattle.sim_client.proofs.{Common.ap, Common.IsValid, Common.refl, Common.rules, Common.subst, Common.sym, Common.◌∙◌, Standing.none_by_players}
+use Rattle.sim_client.proofs.{Standing.of_match}
 use Rattle.sim_client.proofs.client.Client.start.Goals as goal
 
-pub returns-clause-sound : goal.returns-clause-sound
-returns-clause-sound g c =
+pub returns : goal.returns
+returns g c =
     let self = c.args.self.now in
     let setup = self.setup.now in
     let limits = c.requires.sound.limits in
     let same = of_match setup (λ i v. (goal.System-dyn g (i, v)).meaning v) self.stage self.board c.in-Some.board c.in-Some.is c.requires.sound.ready in
     let started = c.in_ok-start.ensures in
     record {
-      limits = limits;
-      number_is = c.requires.sound.number_is;
-      ready = record {
-        same = started.setup ∙ same;
-        whole = started.whole;
-        valid = subst (IsValid setup) (sym (started.state ∙ ap first_state same)) (first_state_is_valid setup limits);
-        known = none_by_players setup c.begin.result.known c.begin.ensures.known;
+      begins = search rules;
+      ends = record {
+        sound = record {
+          limits = limits;
+          number_is = c.requires.sound.number_is;
+          ready = record {
+            same = started.setup ∙ same;
+            whole = started.whole;
+            valid = subst (IsValid setup) (sym (started.state ∙ ap first_state same)) (first_state_is_valid setup limits);
+            known = none_by_players setup c.begin.result.known c.begin.ensures.known;
+          };
+        };
+        kinds = started.kinds;
+        most = subst (λ (boards : Option _). AreBuiltOnceAtMost (systems_on boards (λ i v. (goal.System-dyn g (i, v)).meaning v))
+            (systems_by c.start.new.self.rig (λ i v. (goal.System-dyn g (i, v)).meaning v))) (sym c.in-Some.is) started.most;
+        setup = refl;
+        number = refl;
       };
     }

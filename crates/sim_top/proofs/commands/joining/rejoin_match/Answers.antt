@@ -14,15 +14,15 @@ returns-clause-made g c =
 pub returns-clause-played : goal.returns-clause-played
 returns-clause-played g c =
     record {
-      fed = made_if c.shown.result c.rejoin_text-text.result.0 c.shown.ensures.stops c.shown.ensures.refused _ c.rejoin_text-text.ensures.fed;
-      kinds = c.rejoin_text-text.ensures.kinds;
-      most = c.rejoin_text-text.ensures.most;
+      fed = made_if c.shown.result c.rejoin_text-text.result.0 c.shown.ensures.stops c.shown.ensures.refused _ c.rejoin_text-text.ensures.played.fed;
+      kinds = c.rejoin_text-text.ensures.played.kinds;
+      most = c.rejoin_text-text.ensures.played.most;
     }
 
 pub returns-clause-joined : goal.returns-clause-joined
 returns-clause-joined g c =
     record {
-      fed = made_if c.shown.result c.rejoin_text-text.result.0 c.shown.ensures.stops c.shown.ensures.refused _ c.rejoin_text-text.ensures.fed_later;
-      kinds = c.rejoin_text-text.ensures.kinds_later;
-      most = c.rejoin_text-text.ensures.most_later;
+      fed = made_if c.shown.result c.rejoin_text-text.result.0 c.shown.ensures.stops c.shown.ensures.refused _ c.rejoin_text-text.ensures.joined.fed;
+      kinds = c.rejoin_text-text.ensures.joined.kinds;
+      most = c.rejoin_text-text.ensures.joined.most;
     }

@@ -27,7 +27,7 @@ returns-clause-made g c =
 pub returns-clause-played : goal.returns-clause-played
 returns-clause-played g c =
     record {
-      fed = made_if c.stored_log.result c.match_log-log.result.0 c.stored_log.ensures.stops c.stored_log.ensures.refused _ c.match_log-log.ensures.fed;
-      kinds = c.match_log-log.ensures.kinds;
-      most = c.match_log-log.ensures.most;
+      fed = made_if c.stored_log.result c.match_log-log.result.0 c.stored_log.ensures.stops c.stored_log.ensures.refused _ c.match_log-log.ensures.played.fed;
+      kinds = c.match_log-log.ensures.played.kinds;
+      most = c.match_log-log.ensures.played.most;
     }

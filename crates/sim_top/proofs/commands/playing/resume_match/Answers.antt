@@ -10,7 +10,7 @@ returns-clause-made g c =
 pub returns-clause-played : goal.returns-clause-played
 returns-clause-played g c =
     record {
-      fed = made_if c.shown.result c.resume_text-text.result.0 c.shown.ensures.stops c.shown.ensures.refused _ c.resume_text-text.ensures.fed;
-      kinds = c.resume_text-text.ensures.kinds;
-      most = c.resume_text-text.ensures.most;
+      fed = made_if c.shown.result c.resume_text-text.result.0 c.shown.ensures.stops c.shown.ensures.refused _ c.resume_text-text.ensures.played.fed;
+      kinds = c.resume_text-text.ensures.played.kinds;
+      most = c.resume_text-text.ensures.played.most;
     }

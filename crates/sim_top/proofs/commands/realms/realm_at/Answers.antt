@@ -11,7 +11,7 @@ returns-clause-made g c =
 pub returns-clause-played : goal.returns-clause-played
 returns-clause-played g c =
     record {
-      fed = made_if c.shown.result c.realm_text-text.result.0 c.shown.ensures.stops c.shown.ensures.refused _ c.realm_text-text.ensures.fed;
-      kinds = c.realm_text-text.ensures.kinds;
-      most = c.realm_text-text.ensures.most;
+      fed = made_if c.shown.result c.realm_text-text.result.0 c.shown.ensures.stops c.shown.ensures.refused _ c.realm_text-text.ensures.played.fed;
+      kinds = c.realm_text-text.ensures.played.kinds;
+      most = c.realm_text-text.ensures.played.most;
     }

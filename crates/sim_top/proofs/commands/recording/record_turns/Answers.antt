@@ -15,10 +15,12 @@ of_turns : (r : Result Log OutOfMemory) (setup : Setup) (turns : List (List Play
 of_turns (Ok log) setup turns few is = log_of_turns setup turns log few is
 of_turns (Err none) setup turns few is = tt
 
-pub log_after-log-requires-clause-kinds : goal.log_after-log-requires-clause-kinds
-log_after-log-requires-clause-kinds g c =
-    kind_of_first (λ i v. (goal.System-dyn g (i, v)).meaning v) c.args.rigs.now.items c.take_first-rig.new.rigs.items c.take_first-rig.result
-    c.take_first-rig.ensures.items c.requires.eight.kinds
+pub log_after-log-requires-clause-begins : goal.log_after-log-requires-clause-begins
+log_after-log-requires-clause-begins g c = record {
+  limits = c.requires.limits;
+  kinds = kind_of_first (λ i v. (goal.System-dyn g (i, v)).meaning v) c.args.rigs.now.items c.take_first-rig.new.rigs.items c.take_first-rig.result
+      c.take_first-rig.ensures.items c.requires.eight.kinds;
+}
 
 pub put_first-requires : goal.put_first-requires
 put_first-requires g c =
@@ -44,9 +46,9 @@ returns-clause-played g c =
     (HasPlayedBy (λ i v. (goal.System-dyn g (i, v)).meaning v) c.args.setup.now (state_after c.args.setup.now c.args.turns) c.stored_log.result)
     c.take_first-rig.ensures.items c.put_first.ensures.items
     (record {
-      fed = made_if c.stored_log.result c.log_after-log.result.0 c.stored_log.ensures.stops c.stored_log.ensures.refused _ c.log_after-log.ensures.fed;
-      kinds = c.log_after-log.ensures.kinds;
-      most = c.log_after-log.ensures.most;
+      fed = made_if c.stored_log.result c.log_after-log.result.0 c.stored_log.ensures.stops c.stored_log.ensures.refused _ c.log_after-log.ensures.played.fed;
+      kinds = c.log_after-log.ensures.played.kinds;
+      most = c.log_after-log.ensures.played.most;
     })
 
 pub returns-clause-others : goal.returns-clause-others
@@ -61,7 +63,7 @@ returns-clause-eight g c =
     record {
       count = ap length c.put_first.ensures.items ∙ sym (ap length c.take_first-rig.ensures.items) ∙ c.requires.eight.count;
       kinds = kinds_with (λ i v. (goal.System-dyn g (i, v)).meaning v) c.put_first.new.rigs.items c.take_first-rig.new.rigs.items c.log_after-log.result.1
-          c.put_first.ensures.items c.log_after-log.ensures.kinds
+          c.put_first.ensures.items c.log_after-log.ensures.played.kinds
           (kinds_of_rest (λ i v. (goal.System-dyn g (i, v)).meaning v) c.args.rigs.now.items c.take_first-rig.new.rigs.items c.take_first-rig.result
           c.take_first-rig.ensures.items c.requires.eight.kinds);
     }

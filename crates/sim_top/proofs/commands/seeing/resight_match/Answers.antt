@@ -10,7 +10,7 @@ returns-clause-made g c =
 pub returns-clause-played : goal.returns-clause-played
 returns-clause-played g c =
     record {
-      fed = made_if c.shown.result c.resight_text-text.result.0 c.shown.ensures.stops c.shown.ensures.refused _ c.resight_text-text.ensures.fed;
-      kinds = c.resight_text-text.ensures.kinds;
-      most = c.resight_text-text.ensures.most;
+      fed = made_if c.shown.result c.resight_text-text.result.0 c.shown.ensures.stops c.shown.ensures.refused _ c.resight_text-text.ensures.played.fed;
+      kinds = c.resight_text-text.ensures.played.kinds;
+      most = c.resight_text-text.ensures.played.most;
     }

@@ -15,7 +15,7 @@ returns-clause-made g c =
 pub returns-clause-played : goal.returns-clause-played
 returns-clause-played g c =
     record {
-      fed = made_if c.kept_sight.result c.sight_at-told.result.0 c.kept_sight.ensures.stops c.kept_sight.ensures.refused _ c.sight_at-told.ensures.fed;
-      kinds = c.sight_at-told.ensures.kinds;
-      most = c.sight_at-told.ensures.most;
+      fed = made_if c.kept_sight.result c.sight_at-told.result.0 c.kept_sight.ensures.stops c.kept_sight.ensures.refused _ c.sight_at-told.ensures.played.fed;
+      kinds = c.sight_at-told.ensures.played.kinds;
+      most = c.sight_at-told.ensures.played.most;
     }

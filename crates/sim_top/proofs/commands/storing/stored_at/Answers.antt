@@ -13,7 +13,7 @@ returns-clause-made g c =
 pub returns-clause-played : goal.returns-clause-played
 returns-clause-played g c =
     record {
-      fed = made_if c.kept_state.result c.state_at-state.result.0 c.kept_state.ensures.stops c.kept_state.ensures.refused _ c.state_at-state.ensures.fed;
-      kinds = c.state_at-state.ensures.kinds;
-      most = c.state_at-state.ensures.most;
+      fed = made_if c.kept_state.result c.state_at-state.result.0 c.kept_state.ensures.stops c.kept_state.ensures.refused _ c.state_at-state.ensures.played.fed;
+      kinds = c.state_at-state.ensures.played.kinds;
+      most = c.state_at-state.ensures.played.most;
     }

@@ -17,7 +17,7 @@ pub returns-clause-played : goal.returns-clause-played
 returns-clause-played g c =
     record {
       fed = made_if c.shown.result c.trial_text.result c.shown.ensures.stops c.shown.ensures.refused _
-          (text_if c.trial_text.result c.state_at-state.result.0 c.trial_text.ensures.refused _ c.state_at-state.ensures.fed);
-      kinds = c.state_at-state.ensures.kinds;
-      most = c.state_at-state.ensures.most;
+          (text_if c.trial_text.result c.state_at-state.result.0 c.trial_text.ensures.refused _ c.state_at-state.ensures.played.fed);
+      kinds = c.state_at-state.ensures.played.kinds;
+      most = c.state_at-state.ensures.played.most;
     }
