@@ -11,13 +11,13 @@ use serde_json::Value;
 use sim_base::OutOfMemory;
 use std::alloc::Global;
 
-/// A text, or a whole number in decimal.
-pub fn leaf_text(alloc: Global, value: &Value) -> Result<Option<Text>, OutOfMemory>
+/// A text, which the value lends, or a whole number in decimal.
+pub fn leaf_text<'a>(alloc: Global, value: &'a Value) -> Result<Option<Text<'a>>, OutOfMemory>
     ensures text { IfOk result (λ text. text ≡ leaf_text_data (view value.now)) }
     ensures no_text { leaf_text_data (view value.now) ≡ None → result ≡ Ok None }
 {
     if let Some(text) = value.as_str() {
-        return Ok(Some(Text::of(alloc, text)?));
+        return Ok(Some(Text::lent(text)));
     }
     if let Some(n) = value.as_u64() {
         return Ok(Some(Text::of_string(format!(in alloc; "{n}")?)));
@@ -29,7 +29,7 @@ pub fn leaf_text(alloc: Global, value: &Value) -> Result<Option<Text>, OutOfMemo
 }
 
 /// The value of an object's node, which stands under `_`.
-pub fn own(alloc: Global, value: &Value) -> Result<Option<Text>, OutOfMemory>
+pub fn own<'a>(alloc: Global, value: &'a Value) -> Result<Option<Text<'a>>, OutOfMemory>
     ensures text { IfOk result (λ text. text ≡ own_in (get (codes "_") (view value.now))) }
     ensures no_text { own_in (get (codes "_") (view value.now)) ≡ None → result ≡ Ok None }
 {

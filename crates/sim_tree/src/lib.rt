@@ -5,11 +5,12 @@
 //! what is looked up at a path is what stands there. It stands on `sim_base` for names, numbers and want of memory, on
 //! `serde_json` for what is read, and on `sim_json` for a word of its definitions.
 //!
-//! - `text`: a text that contracts see as its bytes.
+//! - `text`: a text that contracts see as its bytes, lent by the JSON where it stands there.
 //! - `tokens`: the words of a text.
 //! - `tree`: the tree, its children by name, and its copy.
 //! - `paths`: what stands at a path.
 //! - `fault`: why a value is no tree.
+//! - `names`: whether a text is the name of a child.
 //! - `walks`: what is asked of all values within a value, before a tree is read of it.
 //! - `leaves`, `nodes`: a node, read from JSON, with its value, its mark and its children.
 //! - `read`: a whole tree, read from JSON.
@@ -18,6 +19,7 @@
 
 mod fault;
 mod leaves;
+mod names;
 mod nodes;
 mod paths;
 mod read;

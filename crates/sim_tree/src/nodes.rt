@@ -9,15 +9,15 @@ ghost use Rattle.sim_tree.specs.Trees.{are_sound, bears as bears_parts, is_sound
 ghost use Rattle.sim_tree.specs.declared.tree.TreeMark.TheVariants.{Add, Mul, Tokens};
 
 use crate::leaves::{is_child_key, is_mark_key, is_plain_member, leaf_text, mark_from, own};
+use crate::names::is_name;
 use crate::tree::push_child;
 use crate::{Child, Text, Tree, TreeFault, TreeMark};
 use serde_json::{Map, Value};
-use sim_base::Name;
 use std::alloc::Global;
 
 /// The node that a value is.
 #[cycle(node)]
-pub fn read_node(alloc: Global, value: &Value) -> Result<Tree, TreeFault>
+pub fn read_node<'a>(alloc: Global, value: &'a Value) -> Result<Tree<'a>, TreeFault>
     ensures tree { TreeMeets result (of_kind (is_node (view value.now)) (node_in (view value.now))) }
     ensures early { has_kind (view value.now) ≡ false → result ≡ Err TreeFault.WrongKind }
     ensures sound { IfOk result (λ tree. is_sound (node_of tree) ≡ true) }
@@ -38,7 +38,10 @@ pub fn read_node(alloc: Global, value: &Value) -> Result<Tree, TreeFault>
 
 // The children of an object.
 #[cycle(node)]
-fn read_children(alloc: Global, members: &Map<String, Value>) -> Result<Vec<Child>, TreeFault>
+fn read_children<'a>(
+    alloc: Global,
+    members: &'a Map<String, Value>,
+) -> Result<Vec<Child<'a>>, TreeFault>
     ensures children { ChildrenMeet result (of_kind (are_members (members_view members.now.entries)) (children_in (members_view members.now.entries))) }
     ensures early { begin_well (members_view members.now.entries) ≡ false → result ≡ Err TreeFault.WrongKind }
     ensures sound { IfOk result (λ children. are_sound (nodes_of children.items) ≡ true) }
@@ -46,11 +49,11 @@ fn read_children(alloc: Global, members: &Map<String, Value>) -> Result<Vec<Chil
     let mut found = Vec::new(alloc);
     for (key, value) in members.iter() {
         if is_child_key(key) {
-            let Some(name) = Name::of(alloc, key)? else {
+            if !is_name(key) {
                 return Err(TreeFault::WrongKind);
-            };
+            }
             let tree = read_node(alloc, value)?;
-            push_child(&mut found, name, tree)?;
+            push_child(&mut found, Text::lent(key), tree)?;
         } else if !is_plain_member(key, value) {
             return Err(TreeFault::WrongKind);
         }
@@ -59,7 +62,7 @@ fn read_children(alloc: Global, members: &Map<String, Value>) -> Result<Vec<Chil
 }
 
 // A node with a value alone.
-fn read_leaf(alloc: Global, value: &Value) -> Result<Tree, TreeFault>
+fn read_leaf<'a>(alloc: Global, value: &'a Value) -> Result<Tree<'a>, TreeFault>
     ensures tree { TreeMeets result (of_kind (is_some (leaf_text_data (view value.now))) (node (leaf_text_data (view value.now)) None no_children)) }
     ensures early { leaf_text_data (view value.now) ≡ None → result ≡ Err TreeFault.WrongKind }
     ensures sound { IfOk result (λ tree. is_sound (node_of tree) ≡ true) }
@@ -75,17 +78,17 @@ fn read_leaf(alloc: Global, value: &Value) -> Result<Tree, TreeFault>
 }
 
 // The node of an object with this value and these children.
-fn finished(
+fn finished<'a>(
     members: &Map<String, Value>,
-    value: Option<Text>,
-    children: Vec<Child>,
-) -> Result<Tree, TreeFault>
+    value: Option<Text<'a>>,
+    children: Vec<Child<'a>>,
+) -> Result<Tree<'a>, TreeFault>
     ensures tree { TreeMeets result (of_kind
-        (nat_le (marks_in (members_view members.now.entries)) 1 && bears_parts (mark_in_data (members_view members.now.entries)) value
-        (nodes_of children.items))
-        (node value (mark_in_data (members_view members.now.entries)) (nodes_of children.items))) }
+        (nat_le (marks_in (members_view members.now.entries)) 1 && bears_parts (mark_in_data (members_view members.now.entries)) value.entry
+        (nodes_of children.entry.items))
+        (node value.entry (mark_in_data (members_view members.now.entries)) (nodes_of children.entry.items))) }
     ensures memory { result ≢ Err TreeFault.OutOfMemory }
-    ensures sound { are_sound (nodes_of children.items) ≡ true → IfOk result (λ tree. is_sound (node_of tree) ≡ true) }
+    ensures sound { are_sound (nodes_of children.entry.items) ≡ true → IfOk result (λ tree. is_sound (node_of tree) ≡ true) }
 {
     let mark = mark_in(members);
     if has_few_marks(members) && bears(mark, &value, children.as_slice()) {
@@ -100,7 +103,7 @@ fn finished(
 }
 
 // Whether a node with an operation or a list of words has a value and no children.
-fn bears(mark: Option<TreeMark>, value: &Option<Text>, children: &[Child]) -> bool
+fn bears(mark: Option<TreeMark>, value: &Option<Text<'_>>, children: &[Child<'_>]) -> bool
     ensures { result ≡ bears_parts mark value.now (nodes_of children.now) }
 {
     match mark {
@@ -110,7 +113,7 @@ fn bears(mark: Option<TreeMark>, value: &Option<Text>, children: &[Child]) -> bo
 }
 
 // Whether there is a value and no child.
-fn stands_alone(value: &Option<Text>, children: &[Child]) -> bool
+fn stands_alone(value: &Option<Text<'_>>, children: &[Child<'_>]) -> bool
     ensures add { result ≡ bears_parts (Some Add) value.now (nodes_of children.now) }
     ensures mul { result ≡ bears_parts (Some Mul) value.now (nodes_of children.now) }
     ensures tokens { result ≡ bears_parts (Some Tokens) value.now (nodes_of children.now) }

@@ -7,16 +7,15 @@ use crate::{Names, Tree, tokens_in};
 use sim_base::{Fixed, Name, OutOfMemory};
 use std::alloc::Global;
 
-impl Tree {
+impl<'a> Tree<'a> {
     /// The value at the path, if one stands there.
     pub fn at(&self, path: &[Name]) -> Option<&str>
         ensures { option_map (λ text. text.now) result ≡ value_at (node_of self.now) path.now }
     {
-        let mut tree = self;
-        for name in path {
-            tree = tree.child(name.text())?;
+        match path {
+            [name, rest @ ..] => self.child(name.text())?.at(rest),
+            [] => self.text(),
         }
-        tree.text()
     }
 
     /// The number that the value at the path spells.
@@ -27,7 +26,7 @@ impl Tree {
     }
 
     /// The words of the value at the path, and none where no value stands there.
-    pub fn tokens(&self, alloc: Global, path: &[Name]) -> Result<Names, OutOfMemory>
+    pub fn tokens(&self, alloc: Global, path: &[Name]) -> Result<Names<'_>, OutOfMemory>
         ensures words { IfOk result (λ words. words ≡ tokens_in_value (value_at (node_of self.now) path.now)) }
         ensures none { value_at (node_of self.now) path.now ≡ None → result ≡ Ok [] }
     {

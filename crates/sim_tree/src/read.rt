@@ -10,9 +10,9 @@ use crate::{Tree, TreeFault};
 use serde_json::Value;
 use std::alloc::Global;
 
-impl Tree {
-    /// The tree that a value is, or the first refusal that applies. `docs/FORMATS.md` has the form.
-    pub fn from_json(alloc: Global, value: &Value) -> Result<Tree, TreeFault>
+impl<'a> Tree<'a> {
+    /// The tree that a value is, or the first refusal that applies. `docs/FORMATS.md` has the form. The value lends its texts.
+    pub fn from_json(alloc: Global, value: &'a Value) -> Result<Tree<'a>, TreeFault>
         ensures tree { TreeMeets result (tree_in (view value.now)) }
         ensures early { IfSome (early_tree_fault (view value.now)) (λ fault. result ≡ Err fault) }
         ensures sound { IfOk result (λ tree. is_sound (node_of tree) ≡ true) }

@@ -9,7 +9,9 @@ ghost use Rattle.sim_tree.specs.Trees.{are_sound, is_sound, levels, mark_of, nod
 
 use crate::fault::TreeFault;
 use crate::leaves::is_child_key;
+use crate::names::is_name;
 use crate::nodes::read_node;
+use crate::text::Text;
 use crate::tree::{Child, Tree, push_child};
 use crate::walks::{has_float, lies_beyond};
 use serde_json::{Map, Value};
@@ -19,16 +21,17 @@ use std::alloc::Global;
 /// A template as it is described: its name, its parent's name, if it has a parent, and the tree that is to be laid over
 /// the parent's.
 #[derive(Debug, Drop)]
-pub struct Source {
+pub struct Source<'a> {
     pub name: Name,
     pub parent: Option<Name>,
-    pub tree: Tree,
+    pub tree: Tree<'a>,
 }
 
-impl Source {
+impl<'a> Source<'a> {
     /// The source that a value is, or the first refusal that applies. Its tree's root has no mark and no value.
+    /// The value lends the texts of the tree.
     #[tactic(auto, unfolding(crate::specs::Reading::source_in))]
-    pub fn from_json(alloc: Global, value: &Value) -> Result<Source, TreeFault>
+    pub fn from_json(alloc: Global, value: &'a Value) -> Result<Source<'a>, TreeFault>
         ensures source { SourceMeets result (source_in (view value.now)) }
         ensures early { IfSome (early_source_fault (view value.now)) (λ fault. result ≡ Err fault) }
         ensures sound { IfOk result (λ source. is_sound (node_of source.tree) ≡ true) }
@@ -46,7 +49,7 @@ impl Source {
     }
 }
 
-fn read_source(alloc: Global, value: &Value) -> Result<Source, TreeFault>
+fn read_source<'a>(alloc: Global, value: &'a Value) -> Result<Source<'a>, TreeFault>
     ensures source { SourceMeets result (kind_of (origin_in (view value.now))) }
     ensures no_name { option_and_then name_in_data (get (codes "@name") (view value.now)) ≡ None → result ≡ Err TreeFault.WrongKind }
     ensures sound { IfOk result (λ source. is_sound (node_of source.tree) ≡ true) }
@@ -63,12 +66,12 @@ fn read_source(alloc: Global, value: &Value) -> Result<Source, TreeFault>
     read_root(alloc, name, parent, members)
 }
 
-fn read_root(
+fn read_root<'a>(
     alloc: Global,
     name: Name,
     parent: Option<Name>,
-    members: &Map<String, Value>,
-) -> Result<Source, TreeFault>
+    members: &'a Map<String, Value>,
+) -> Result<Source<'a>, TreeFault>
     ensures source { SourceMeets result (kind_of (root_in_members name parent (members_view members.now.entries))) }
     ensures early { begin_root (members_view members.now.entries) ≡ false → result ≡ Err TreeFault.WrongKind }
     ensures sound { IfOk result (λ source. is_sound (node_of source.tree) ≡ true) }
@@ -86,7 +89,10 @@ fn read_root(
 }
 
 // The children of a root, beside which there are its names alone.
-fn root_children(alloc: Global, members: &Map<String, Value>) -> Result<Vec<Child>, TreeFault>
+fn root_children<'a>(
+    alloc: Global,
+    members: &'a Map<String, Value>,
+) -> Result<Vec<Child<'a>>, TreeFault>
     ensures children { ChildrenMeet result (of_kind (are_root_members (members_view members.now.entries)) (children_in (members_view members.now.entries))) }
     ensures early { begin_root (members_view members.now.entries) ≡ false → result ≡ Err TreeFault.WrongKind }
     ensures sound { IfOk result (λ children. are_sound (nodes_of children.items) ≡ true) }
@@ -99,11 +105,11 @@ fn root_children(alloc: Global, members: &Map<String, Value>) -> Result<Vec<Chil
         if !is_child_key(key) {
             return Err(TreeFault::WrongKind);
         }
-        let Some(name) = Name::of(alloc, key)? else {
+        if !is_name(key) {
             return Err(TreeFault::WrongKind);
-        };
+        }
         let tree = read_node(alloc, value)?;
-        push_child(&mut found, name, tree)?;
+        push_child(&mut found, Text::lent(key), tree)?;
     }
     Ok(found)
 }

@@ -8,25 +8,25 @@ use sim_base::{Items, OutOfMemory};
 use std::alloc::Global;
 
 /// A list of texts.
-pub type Names = Items<Text>;
+pub type Names<'a> = Items<Text<'a>>;
 
-/// The parts of a text between spaces, without the empty ones.
-pub fn tokens_in(alloc: Global, text: &str) -> Result<Names, OutOfMemory>
+/// The parts of a text between spaces, without the empty ones, which the text lends.
+pub fn tokens_in<'a>(alloc: Global, text: &'a str) -> Result<Names<'a>, OutOfMemory>
     ensures { IfOk result (λ names. names ≡ tokens_of text.now) }
 {
     let mut found = Names::new(alloc);
     for part in text.split(' ') {
-        add_word(alloc, &mut found, part)?;
+        add_word(&mut found, part)?;
     }
     Ok(found)
 }
 
 // Adds a part that is not empty.
-fn add_word(alloc: Global, found: &mut Names, part: &str) -> Result<(), OutOfMemory>
+fn add_word<'a>(found: &mut Names<'a>, part: &'a str) -> Result<(), OutOfMemory>
     ensures { OnOk result (found.new ≡ found.old ++ filter is_word_of_bytes (part.now ∷ [])) }
 {
     if is_word(part) {
-        found.push(Text::of(alloc, part)?)?;
+        found.push(Text::lent(part))?;
     }
     Ok(())
 }

@@ -28,77 +28,84 @@ pub enum TreeMark {
 /// A node and all that is under it: its value, its mark, and its children, which ascend by name.
 #[cycle(tree)]
 #[derive(Debug, Drop)]
-pub struct Tree {
-    pub value: Option<Text>,
+pub struct Tree<'a> {
+    pub value: Option<Text<'a>>,
     pub mark: Option<TreeMark>,
-    pub children: Vec<Child>,
+    pub children: Vec<Child<'a>>,
 }
 
 /// A node that is under another one, with its name there.
 #[cycle(tree)]
 #[derive(Debug, Drop)]
-pub struct Child {
-    pub name: Name,
-    pub tree: Tree,
+pub struct Child<'a> {
+    pub name: Text<'a>,
+    pub tree: Tree<'a>,
 }
 
-impl Tree {
+impl<'a> Tree<'a> {
     /// The child of this name, if there is one.
-    pub fn child(&self, name: &str) -> Option<&Tree>
+    pub fn child(&self, name: &str) -> Option<&Tree<'a>>
         ensures { option_map (λ tree. node_of tree.now) result ≡ child_named name.now (under (node_of self.now)) }
     {
         child_in(self.children.as_slice(), name)
     }
 
-    /// The same tree, in memory of its own.
+    /// The same tree in memory of its own, but for texts that are lent.
     #[cycle(copy)]
-    pub fn copy(&self, alloc: Global) -> Result<Tree, OutOfMemory>
+    pub fn copy(&self, alloc: Global) -> Result<Tree<'a>, OutOfMemory>
         ensures { IfOk result (λ copied. node_of copied ≡ node_of self.now) }
     {
         Ok(Tree {
-            value: copy_value(alloc, &self.value)?,
+            value: copy_value(&self.value)?,
             mark: self.mark,
             children: copy_children(alloc, &self.children)?,
         })
     }
 }
 
-fn child_in<'t>(children: &'t [Child], name: &str) -> Option<&'t Tree>
+fn child_in<'t, 'a>(children: &'t [Child<'a>], name: &str) -> Option<&'t Tree<'a>>
     ensures { option_map (λ tree. node_of tree.now) result ≡ child_named name.now (nodes_of children.now) }
 {
     for child in children {
-        if child.name.text() == name {
+        if child.name.as_str() == name {
             return Some(&child.tree);
         }
     }
     None
 }
 
-fn copy_value(alloc: Global, value: &Option<Text>) -> Result<Option<Text>, OutOfMemory>
+fn copy_value<'a>(value: &Option<Text<'a>>) -> Result<Option<Text<'a>>, OutOfMemory>
     ensures { IfOk result (λ copied. copied ≡ value.now) }
 {
     match value {
-        Some(text) => Ok(Some(Text::of(alloc, text.as_str())?)),
+        Some(text) => Ok(Some(text.copy()?)),
         None => Ok(None),
     }
 }
 
 #[cycle(copy)]
-fn copy_children(alloc: Global, children: &Vec<Child>) -> Result<Vec<Child>, OutOfMemory>
+fn copy_children<'a>(
+    alloc: Global,
+    children: &Vec<Child<'a>>,
+) -> Result<Vec<Child<'a>>, OutOfMemory>
     ensures { IfOk result (λ copied. nodes_of copied.items ≡ nodes_of children.now.items) }
 {
     let mut copied = Vec::new(alloc);
     for child in children {
         let tree = child.tree.copy(alloc)?;
-        let name = copy_name(alloc, &child.name)?;
+        let name = child.name.copy()?;
         push_child(&mut copied, name, tree)?;
     }
     Ok(copied)
 }
 
 /// Adds a child behind the others.
-pub fn push_child(children: &mut Vec<Child>, name: Name, tree: Tree) -> Result<(), OutOfMemory>
-    ensures { OnOk result (map named_of children.new.items ≡ map named_of children.old.items ++ (name, node_of tree) ∷ []) }
+pub fn push_child<'a>(
+    children: &mut Vec<Child<'a>>,
+    name: Text<'a>,
+    tree: Tree<'a>,
+) -> Result<(), OutOfMemory>
+    ensures { OnOk result (map named_of children.new.items ≡ map named_of children.old.items ++ (name.entry, node_of tree.entry) ∷ []) }
 {
     children.push(Child { name, tree })?;
     Ok(())

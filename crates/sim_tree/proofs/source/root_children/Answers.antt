@@ -34,16 +34,16 @@ loop-key-preserved c =
     let d = view c.in-Some.value.now in
     let old = map named_of l.found.items in
     let new = map named_of c.push_child.new.children.items in
-    let named : c.in-Some-2.name ≡ key = search rules in
+    let named : c.lent.result ≡ key = search rules in
     let child : is_child_key key ≡ true = search rules in
     let read = kind_ok (is_node d) (node_in d) (node_of c.in_ok-tree.tree) c.in_ok-tree.ensures.tree in
     let added = c.in_ok-push_child.ensures in
-    let more = named-more old new c.in-Some-2.name key (node_of c.in_ok-tree.tree) d (members_view c.next.new.self) child added named read.1 in
+    let more = named-more old new c.lent.result key (node_of c.in_ok-tree.tree) d (members_view c.next.new.self) child added named read.1 in
     record {
       fit = search rules;
       early = search rules;
-      order = ascends-more old new (c.in-Some-2.name, node_of c.in_ok-tree.tree) key (keys_in c.next.new.self) added named here;
-      below = rw added (all_sound-push old (c.in-Some-2.name, node_of c.in_ok-tree.tree) l.invariant.below c.in_ok-tree.ensures.sound);
+      order = ascends-more old new (c.lent.result, node_of c.in_ok-tree.tree) key (keys_in c.next.new.self) added named here;
+      below = rw added (all_sound-push old (c.lent.result, node_of c.in_ok-tree.tree) l.invariant.below c.in_ok-tree.ensures.sound);
       made = l.invariant.made ∙ ap (λ es. old ++ named_in (members_view es)) c.in-Some.ensures.steps ∙ more;
     }
 
