@@ -22,4 +22,4 @@ returns-clause-made g c =
     then_ok c.bent.result (λ events told. bend_makes client.setup.now c.args.number c.args.entity c.args.health old_life new_life c.args.exchange.now true
     events
     (subst (λ b. Tells (bends client.setup.now c.args.entity c.args.health old_life) old_life b new_life) c.if-not-bend.false c.bend.ensures.tells)
-    (told ∙ ap (λ s. shows s (event.Bend c.args.number) new_life) c.bend.ensures.setup)) c.bent.ensures
+    (told ∙ ap (λ s. shows s (event.Bend c.args.number) new_life) c.bend.ensures.keeps.setup)) c.bent.ensures

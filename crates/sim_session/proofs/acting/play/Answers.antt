@@ -7,14 +7,15 @@ pub played-requires-clause-told : goal.played-requires-clause-told
 played-requires-clause-told g c =
     let new = c.play_beside.new.self in
     let made = c.in_ok-made.made in
-    subst (λ (s : Setup). HasDigest s (life_at new.stage new.board) made.did made.digest) (sym c.in_ok-made.ensures.setup) c.in_ok-made.ensures.digest
+    subst (λ (s : Setup). HasDigest s (life_at new.stage new.board) made.did made.digest) (sym c.in_ok-made.ensures.steps.keeps.setup)
+    c.in_ok-made.ensures.digest
 
 pub send-requires-clause-small : goal.send-requires-clause-small
 send-requires-clause-small g c =
     let client = c.args.client.now in
     let new = c.play_beside.new.self in
     subst (All IsSmallUp) (sym (c.as_slice.ensures ∙ c.ups_of-ups.ensures))
-    (play_small client.setup.now (life_at client.stage client.board) c.in_ok-made.made.did (life_at new.stage new.board) c.in_ok-made.ensures.answers)
+    (play_small client.setup.now (life_at client.stage client.board) c.in_ok-made.made.did (life_at new.stage new.board) c.in_ok-made.ensures.steps.answers)
 
 pub returns-clause-made : goal.returns-clause-made
 returns-clause-made g c =
@@ -23,6 +24,7 @@ returns-clause-made g c =
     let new_life = life_at new.stage new.board in
     play_makes client.setup.now c.args.number (life_at client.stage client.board) new_life c.args.exchange.now c.send.new.self c.in_ok-made.made.did
     c.in_ok-events.events
-    c.in_ok-made.ensures.answers
+    c.in_ok-made.ensures.steps.answers
     (λ s acted conveys is. c.in_ok-send.ensures.stands client.setup.now s acted conveys (c.as_slice.ensures ∙ c.ups_of-ups.ensures ∙ is))
-    (c.in_ok-events.ensures.events ∙ (λ i. played_events (c.in_ok-made.ensures.setup i) c.args.number new_life (has_happened c.in_ok-made.made.did)))
+    (c.in_ok-events.ensures.events ∙ (λ i. played_events (c.in_ok-made.ensures.steps.keeps.setup i) c.args.number new_life
+    (has_happened c.in_ok-made.made.did)))

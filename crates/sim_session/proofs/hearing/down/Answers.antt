@@ -34,7 +34,7 @@ returns-clause-made g c =
     let setup = client.setup.now in
     let new = c.hear.new.self in
     let new_life = life_at new.stage new.board in
-    let same = c.in_ok-did.ensures.setup in
+    let same = c.in_ok-did.ensures.ends.setup in
     let refusal = c.refusal_of-refusal.ensures in
     let state = c.is_state-is_state.ensures in
     heard_makes setup c.args.number (life_at client.stage client.board) c.in-Some.down c.in_ok-did.did new_life c.args.exchange.now c.fall.new.self
@@ -51,7 +51,7 @@ returns-clause-built g c =
     let setup = client.setup.now in
     let new = c.hear.new.self in
     let new_life = life_at new.stage new.board in
-    let same = c.in_ok-did.ensures.setup in
+    let same = c.in_ok-did.ensures.ends.setup in
     let refusal = c.refusal_of-refusal.ensures in
     let state = c.is_state-is_state.ensures in
     let some = c.requires.some in
@@ -61,7 +61,7 @@ returns-clause-built g c =
     (c.in_ok-down.ensures.stands setup s conveys))
     c.in_ok-did.ensures.answers
     (c.in_ok-events.ensures ∙ (λ i. heard_events (same i) c.args.number new_life (refusal i) (state i) (has_happened c.in_ok-did.did)))
-    some.0 _ _ some.1 some.2 c.in_ok-did.ensures.kept c.in_ok-did.ensures.most
+    some.0 _ _ some.1 some.2 c.in_ok-did.ensures.kept c.in_ok-did.ensures.ends.most
 
 -- ---- what builds systems, also where memory was refused
 
@@ -78,7 +78,7 @@ returns-in_err-did-clause-loads g c = λ s at.
     heard_loads setup c.args.number s (life_at client.stage client.board) c.in-Some.down c.args.exchange.now c.fall.new.self _ _ at
     (λ s conveys. subst (λ read. Falls setup c.fall.new.self c.args.number s (s.downs c.args.number) read) c.in-Some.is
     (c.in_ok-down.ensures.stands setup s conveys))
-    c.hear.ensures.kept c.hear.ensures.most
+    c.hear.ensures.kept c.hear.ensures.ends.most
 
 pub returns-in_err-events-clause-loads : goal.returns-in_err-events-clause-loads
 returns-in_err-events-clause-loads g c = λ s at.
@@ -87,7 +87,7 @@ returns-in_err-events-clause-loads g c = λ s at.
     heard_loads setup c.args.number s (life_at client.stage client.board) c.in-Some.down c.args.exchange.now c.fall.new.self _ _ at
     (λ s conveys. subst (λ read. Falls setup c.fall.new.self c.args.number s (s.downs c.args.number) read) c.in-Some.is
     (c.in_ok-down.ensures.stands setup s conveys))
-    c.hear.ensures.kept c.hear.ensures.most
+    c.hear.ensures.kept c.hear.ensures.ends.most
 
 pub returns-in_err-send-clause-loads : goal.returns-in_err-send-clause-loads
 returns-in_err-send-clause-loads g c = λ s at.
@@ -96,7 +96,7 @@ returns-in_err-send-clause-loads g c = λ s at.
     heard_loads setup c.args.number s (life_at client.stage client.board) c.in-Some.down c.args.exchange.now c.fall.new.self _ _ at
     (λ s conveys. subst (λ read. Falls setup c.fall.new.self c.args.number s (s.downs c.args.number) read) c.in-Some.is
     (c.in_ok-down.ensures.stands setup s conveys))
-    c.hear.ensures.kept c.hear.ensures.most
+    c.hear.ensures.kept c.hear.ensures.ends.most
 
 pub returns-clause-loads : goal.returns-clause-loads
 returns-clause-loads g c = λ s at.
@@ -105,4 +105,4 @@ returns-clause-loads g c = λ s at.
     heard_loads setup c.args.number s (life_at client.stage client.board) c.in-Some.down c.args.exchange.now c.fall.new.self _ _ at
     (λ s conveys. subst (λ read. Falls setup c.fall.new.self c.args.number s (s.downs c.args.number) read) c.in-Some.is
     (c.in_ok-down.ensures.stands setup s conveys))
-    c.hear.ensures.kept c.hear.ensures.most
+    c.hear.ensures.kept c.hear.ensures.ends.most

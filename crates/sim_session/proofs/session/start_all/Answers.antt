@@ -33,7 +33,8 @@ returns-in_err-start-clause-others g c =
 
 pub returns-in_err-start-clause-kinds : goal.returns-in_err-start-clause-kinds
 returns-in_err-start-clause-kinds g c =
-    kinds_put (λ x. systems_on x.board (λ i v. (goal.System-dyn g (i, v)).meaning v)) c.loop-i.clients.items c.loop-i.i c.start.new.self c.start.ensures.kinds
+    kinds_put (λ x. systems_on x.board (λ i v. (goal.System-dyn g (i, v)).meaning v)) c.loop-i.clients.items c.loop-i.i c.start.new.self
+    c.start.ensures.ends.kinds
     c.loop-i.invariant.kinds
 
 pub returns-in_err-start-clause-built : goal.returns-in_err-start-clause-built
@@ -52,7 +53,7 @@ returns-in_err-start-clause-built g c =
     (systems_by clients (λ i v. (goal.System-dyn g (i, v)).meaning v))
     (systems_by (set clients i new) (λ i v. (goal.System-dyn g (i, v)).meaning v)) was.built
     (changed AreBuilt (λ x. systems_on x.board (λ i v. (goal.System-dyn g (i, v)).meaning v)) clients i client new within is
-    (record { kinds = c.start.ensures.kinds; most = c.start.ensures.most })))
+    (record { kinds = c.start.ensures.ends.kinds; most = c.start.ensures.ends.most })))
 
 pub loop-i-preserved : goal.loop-i-preserved
 loop-i-preserved g c =
@@ -67,14 +68,14 @@ loop-i-preserved g c =
     record {
       count = length-set clients i new ∙ was.count;
       members = All-set (λ x. IsMemberBy c.args.setup.now x (λ i v. (goal.System-dyn g (i, v)).meaning v)) clients i new
-          (record { sound = c.in_ok-start.ensures.sound; same = c.in_ok-start.ensures.setup ∙ member.same }) was.members;
-      kinds = kinds_put (λ x. systems_on x.board (λ i v. (goal.System-dyn g (i, v)).meaning v)) clients i new c.start.ensures.kinds was.kinds;
-      begun = begun_more (λ x. life_at x.stage x.board) clients i new (starts c.args.setup.now) within (c.in_ok-start.ensures.starts ∙ ap starts member.same)
+          (record { sound = c.in_ok-start.ensures.ends.sound; same = c.in_ok-start.ensures.ends.setup ∙ member.same }) was.members;
+      kinds = kinds_put (λ x. systems_on x.board (λ i v. (goal.System-dyn g (i, v)).meaning v)) clients i new c.start.ensures.ends.kinds was.kinds;
+      begun = begun_more (λ x. life_at x.stage x.board) clients i new (starts c.args.setup.now) within (c.in_ok-start.ensures.begins ∙ ap starts member.same)
           was.begun;
       others = others_more (λ x. life_at x.stage x.board) c.args.clients.now.items clients i (i + 1) new (omega arith) was.others;
       built = (starts_on i (systems_by c.args.clients.now.items (λ i v. (goal.System-dyn g (i, v)).meaning v))
           (systems_by clients (λ i v. (goal.System-dyn g (i, v)).meaning v))
           (systems_by (set clients i new) (λ i v. (goal.System-dyn g (i, v)).meaning v)) was.built
           (changed AreBuilt (λ x. systems_on x.board (λ i v. (goal.System-dyn g (i, v)).meaning v)) clients i client new within is
-          (record { kinds = c.start.ensures.kinds; most = c.start.ensures.most })));
+          (record { kinds = c.start.ensures.ends.kinds; most = c.start.ensures.ends.most })));
     }

@@ -31,7 +31,8 @@ returns-clause-played g c =
     let last = systems_by c.digests_after-played.result.1 (λ i v. (goal.System-dyn g (i, v)).meaning v) in
     record {
       fed = subst (λ (turns : List (List PlayerCommand)). OnOk c.compared.result (AreFed setup (state_after setup turns) last)) c.as_slice.ensures
-          (made_if c.compared.result c.digests_after-played.result.0 c.compared.ensures.stops c.compared.ensures.refused _ c.digests_after-played.ensures.played.fed);
+          (made_if c.compared.result c.digests_after-played.result.0 c.compared.ensures.stops c.compared.ensures.refused _
+          c.digests_after-played.ensures.played.fed);
       kinds = c.digests_after-played.ensures.played.kinds;
       most = c.digests_after-played.ensures.played.most;
     }

@@ -1,7 +1,11 @@
 -- The line of the trial is printed, or there was no memory.
 use Rattle.sim_play.specs.Lines.{trial_line}
-use Rattle.sim_top.proofs.{Common.after, Common.own_turns, Common.State, Playing.made_if, Playing.text_if, Playing.text_made, Playing.text_of_state}
+use Rattle.sim_top.proofs.{Common.after, Common.arith, Common.own_turns, Common.State, Playing.made_if}
+use Rattle.sim_top.proofs.Playing.{text_if, text_made, text_of_state}
 use Rattle.sim_top.proofs.commands.trials.tried.Goals as goal
+
+pub state_at-state-requires : goal.state_at-state-requires
+state_at-state-requires g c = record { limits = c.requires.limits; within = omega arith; kinds = c.requires.kinds }
 
 pub returns-clause-made : goal.returns-clause-made
 returns-clause-made g c =
